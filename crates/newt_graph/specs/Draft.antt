@@ -1,0 +1,95 @@
+-- Nodes that are still being put together.
+use Rattle.std.specs.Prelude.{◌≡◌, ◌≢◌, ℕ, suc, ◌+◌, ◌*◌, ◌-◌, ◌<◌, ◌≤◌, Bool, true, false, ◌&&◌, nat_lt, nat_le, List, [], ◌∷◌, ◌++◌, length, All, AllPairs, Option, Some, None, if◌then◌else◌, slice_get, get_or, set}
+use Rattle.std.specs.List.{position_from, sum_by}
+use Rattle.std.specs.Str.{str_eq_ignore_ascii_case}
+use Rattle.newt_graph.specs.declared.node.Node.{Node}
+use Rattle.newt_graph.specs.declared.node.Node.TheVariants.{Symbol, Str, Binary, Large, Array, Frame}
+use Rattle.newt_graph.specs.declared.node.Ref.{Ref}
+use Rattle.newt_graph.specs.Graph.{IsName, IsText, IsData, IsSymbol, AreFoldedOnce, payload}
+use Rattle.newt_graph.specs.Raw.{labels_of, values_of, IsValue}
+use Rattle.newt_graph.specs.Meeting.{place, ◌>>=◌}
+
+-- the rules of a node that its own parts show
+abbrev pub IsPart : Node → Type 0
+IsPart (Symbol name) = IsName name
+IsPart (Str units) = IsText units
+IsPart (Binary class bytes) = IsData bytes
+IsPart (Large class bytes) = IsData bytes
+IsPart (Array class values) = length values ≤ 65535
+IsPart (Frame tags values) = (length tags ≤ 65535) × (length values ≡ length tags)
+
+-- what a builder holds
+pub record IsDraft (nodes : List Node) : Type 0 where
+  pub few : length nodes ≤ 131072
+  pub light : sum_by payload nodes ≤ 33554432
+  pub each : All IsPart nodes
+  pub folded_once : AreFoldedOnce nodes
+
+-- the rules of a node among others
+pub record IsJoinedNode (nodes : List Node) (node : Node) : Type 0 where
+  pub labels : All (IsSymbol nodes) (labels_of node)
+  pub distinct : AllPairs (λ a b. a ≢ b) (labels_of node)
+  pub values : All (IsValue (length nodes)) (values_of node)
+
+-- each reference leads to a node, and each class and tag to a symbol
+pub record IsJoined (nodes : List Node) (root : Ref) : Type 0 where
+  pub root_in : IsValue (length nodes) root
+  pub each : All (IsJoinedNode nodes) nodes
+
+-- a node that may be filled in, but for its size
+abbrev pub IsFilling : Node → Type 0
+IsFilling (Symbol name) = ⊥
+IsFilling (Str units) = All (λ u. u < 65536) units
+IsFilling (Binary class bytes) = All (λ b. b < 256) bytes
+IsFilling (Large class bytes) = All (λ b. b < 256) bytes
+IsFilling (Array class values) = Unit {0}
+IsFilling (Frame tags values) = length values ≡ length tags
+
+abbrev pub is_small : Node → Bool
+is_small (Symbol name) = true
+is_small (Str units) = nat_le (2 * length units + 2) 1000000
+is_small (Binary class bytes) = nat_le (length bytes) 1000000
+is_small (Large class bytes) = nat_le (length bytes) 1000000
+is_small (Array class values) = nat_le (length values) 65535
+is_small (Frame tags values) = nat_le (length tags) 65535
+
+abbrev pub is_alike : List ℕ → Node → Bool
+is_alike name (Symbol old) = str_eq_ignore_ascii_case old name
+is_alike name _ = false
+
+-- the first symbol of this name but for ASCII case
+unfoldable pub find_alike : List ℕ → List Node → Option ℕ
+find_alike name nodes = position_from (is_alike name) 0 nodes
+
+-- what a call gives: its answer and the nodes after it; none where a limit would be passed
+abbrev pub pushed : List Node → Node → Option (ℕ × List Node)
+pushed nodes node = if nat_lt (length nodes) 131072 then Some (length nodes, nodes ++ node ∷ []) else None
+
+abbrev pub known : List Node → List ℕ → Option ℕ → Option (ℕ × List Node)
+known nodes name (Some k) = Some (k, nodes)
+known nodes name None = pushed nodes (Symbol name)
+
+unfoldable pub with_symbol : List Node → List ℕ → Option (ℕ × List Node)
+with_symbol nodes name = known nodes name (find_alike name nodes)
+
+-- a node to be filled is an array of nothing
+unfoldable pub with_held : List Node → Option (ℕ × List Node)
+with_held nodes = pushed nodes (Array None [])
+
+unfoldable pub with_filled : List Node → ℕ → Node → Option (List Node)
+with_filled nodes n node = if is_small node && nat_le (sum_by payload (set nodes n node)) 33554432 then Some (set nodes n node) else None
+
+-- a value in the slot of this tag: where the slot stands, or in a new last one
+abbrev pub slot_put : List ℕ → List Ref → ℕ → Ref → Option ℕ → Option Node
+slot_put tags values tag value (Some i) = Some (Frame tags (set values i value))
+slot_put tags values tag value None = if nat_lt (length tags) 65535 then Some (Frame (tags ++ tag ∷ []) (values ++ value ∷ [])) else None
+
+unfoldable pub with_slot : List ℕ → List Ref → ℕ → Ref → Option Node
+with_slot tags values tag value = slot_put tags values tag value (place tags tag)
+
+abbrev pub frame_set : List Node → ℕ → ℕ → Ref → Option Node → Option (List Node)
+frame_set nodes n tag value (Some (Frame tags values)) = with_slot tags values tag value >>= λ node. Some (set nodes n node)
+frame_set nodes n tag value node = Some nodes
+
+unfoldable pub with_set : List Node → ℕ → ℕ → Ref → Option (List Node)
+with_set nodes n tag value = frame_set nodes n tag value (slice_get nodes n)

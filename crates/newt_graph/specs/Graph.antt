@@ -1,0 +1,140 @@
+-- Graphs of objects, in the one order in which a walk from the root first meets their nodes.
+use Rattle.std.specs.Prelude.{◌≡◌, ◌≢◌, ℕ, suc, ◌+◌, ◌*◌, ◌<◌, ◌≤◌, List, [], ◌∷◌, ◌++◌, length, map, All, AllPairs, Option, Some, None, slice_get}
+use Rattle.std.specs.List.{sum_by}
+use Rattle.std.specs.Char.{to_ascii_lowercase}
+use Rattle.std.specs.Prelude.{ℤ, ◌%◌}
+use Rattle.std.specs.Int.{w32, cast_unsigned}
+use Rattle.std.specs.Int.RustNames.{FitsSigned}
+use Rattle.newt_graph.specs.declared.node.Node.{Node}
+use Rattle.newt_graph.specs.declared.node.Node.TheVariants.{Symbol, Str, Binary, Large, Array, Frame}
+use Rattle.newt_graph.specs.declared.node.Ref.{Ref}
+use Rattle.newt_graph.specs.declared.node.Ref.TheVariants as refs
+
+-- nodes, and the value at which a walk begins
+pub record RawGraph : Type 0 where
+  pub nodes : List Node
+  pub root : Ref
+
+abbrev pub folded : List ℕ → List ℕ
+folded name = map to_ascii_lowercase name
+
+-- node k is a symbol of this name
+abbrev pub IsNamed : List Node → ℕ → List ℕ → Type 0
+IsNamed nodes k name = slice_get nodes k ≡ Some (Symbol name)
+
+abbrev pub IsSymbol : List Node → ℕ → Type 0
+IsSymbol nodes k = (name : List ℕ) × IsNamed nodes k name
+
+-- node k is a symbol that has this name but for ASCII case
+abbrev pub IsAlike : List Node → ℕ → List ℕ → Type 0
+IsAlike nodes k name = (old : List ℕ) × IsNamed nodes k old × (folded old ≡ folded name)
+
+-- 1 to 254 bytes from 32 to 126
+pub record IsName (name : List ℕ) : Type 0 where
+  pub some : 0 < length name
+  pub few : length name < 255
+  pub each : All (λ b. (32 ≤ b) × (b < 127)) name
+
+-- a word of 32 bits that stands for itself: its low two bits are not those of a pointer
+pub record IsWord (w : ℤ) : Type 0 where
+  pub fits : FitsSigned w32 w
+  pub low : cast_unsigned w32 w % 4 ≢ 1
+
+-- A walk that has met so many nodes comes to a class or a tag. The list is what it meets anew from there, in order.
+pub data WalkLabel : (met : ℕ) → ℕ → List Node → Type 0 where
+  again : {met k : ℕ} → k < met → WalkLabel met k []
+  symbol : {met : ℕ} {name : List ℕ} → WalkLabel met met (Symbol name ∷ [])
+
+pub data WalkLabels : (met : ℕ) → List ℕ → List Node → Type 0 where
+  none : {met : ℕ} → WalkLabels met [] []
+  more : {met k : ℕ} {ks : List ℕ} {first others : List Node}
+      → WalkLabel met k first
+      → WalkLabels (met + length first) ks others
+      → WalkLabels met (k ∷ ks) (first ++ others)
+
+-- The same for a value: a container comes before its tags and values, and at most room containers are open within one another.
+mutual
+  pub data Walk : (room met : ℕ) → Ref → List Node → Type 0 where
+    word : {room met : ℕ} {w : ℤ} → IsWord w → Walk room met (refs.Imm w) []
+    again : {room met k : ℕ} → k < met → Walk room met (refs.Node k) []
+    symbol : {room met : ℕ} {name : List ℕ} → Walk room met (refs.Node met) (Symbol name ∷ [])
+    string : {room met : ℕ} {units : List ℕ} → Walk room met (refs.Node met) (Str units ∷ [])
+    binary : {room met class : ℕ} {bytes : List ℕ} {new : List Node}
+        → WalkLabel (suc met) class new
+        → Walk room met (refs.Node met) (Binary class bytes ∷ new)
+    large : {room met class : ℕ} {bytes : List ℕ} {new : List Node}
+        → WalkLabel (suc met) class new
+        → Walk room met (refs.Node met) (Large class bytes ∷ new)
+    frame : {room met : ℕ} {tags : List ℕ} {values : List Ref} {tagged valued : List Node}
+        → WalkLabels (suc met) tags tagged
+        → Walks room (suc met + length tagged) values valued
+        → Walk (suc room) met (refs.Node met) (Frame tags values ∷ (tagged ++ valued))
+    plain_array : {room met : ℕ} {values : List Ref} {valued : List Node}
+        → Walks room (suc met) values valued
+        → Walk (suc room) met (refs.Node met) (Array None values ∷ valued)
+    array : {room met class : ℕ} {values : List Ref} {first valued : List Node}
+        → WalkLabel (suc met) class first
+        → Walks room (suc met + length first) values valued
+        → Walk (suc room) met (refs.Node met) (Array (Some class) values ∷ (first ++ valued))
+
+  pub data Walks : (room met : ℕ) → List Ref → List Node → Type 0 where
+    none : {room met : ℕ} → Walks room met [] []
+    more : {room met : ℕ} {value : Ref} {values : List Ref} {first others : List Node}
+        → Walk room met value first
+        → Walks room (met + length first) values others
+        → Walks room met (value ∷ values) (first ++ others)
+
+-- at most 65,535 tags, no two of them the same
+pub record AreTags (tags : List ℕ) : Type 0 where
+  pub few : length tags ≤ 65535
+  pub distinct : AllPairs (λ a b. a ≢ b) tags
+
+-- a value for each tag, and each tag is a symbol
+pub record IsFrame (nodes : List Node) (tags : List ℕ) (values : List Ref) : Type 0 where
+  pub are_tags : AreTags tags
+  pub paired : length values ≡ length tags
+  pub symbols : All (IsSymbol nodes) tags
+
+-- 16-bit units, of which two bytes each and two more are at most 1,000,000
+pub record IsText (units : List ℕ) : Type 0 where
+  pub few : 2 * length units + 2 ≤ 1000000
+  pub each : All (λ u. u < 65536) units
+
+-- at most 1,000,000 bytes
+pub record IsData (bytes : List ℕ) : Type 0 where
+  pub few : length bytes ≤ 1000000
+  pub each : All (λ b. b < 256) bytes
+
+abbrev pub IsNode : List Node → Node → Type 0
+IsNode nodes (Symbol name) = IsName name
+IsNode nodes (Frame tags values) = IsFrame nodes tags values
+IsNode nodes (Str units) = IsText units
+IsNode nodes (Binary class bytes) = IsSymbol nodes class × IsData bytes
+IsNode nodes (Array None values) = length values ≤ 65535
+IsNode nodes (Array (Some class) values) = IsSymbol nodes class × (length values ≤ 65535)
+IsNode nodes (Large class bytes) = IsSymbol nodes class × IsData bytes
+
+-- the bytes of a string, a binary or a large binary
+abbrev pub payload : Node → ℕ
+payload (Symbol name) = 0
+payload (Str units) = 2 * length units + 2
+payload (Binary class bytes) = length bytes
+payload (Large class bytes) = length bytes
+payload (Array class values) = 0
+payload (Frame tags values) = 0
+
+-- strings, binaries and large binaries have at most 16,777,216 bytes together
+abbrev pub AreLight : List Node → Type 0
+AreLight nodes = sum_by payload nodes ≤ 16777216
+
+-- no two symbols are alike
+abbrev pub AreFoldedOnce : List Node → Type 0
+AreFoldedOnce nodes = (i k : ℕ) (name : List ℕ) → IsNamed nodes i name → IsAlike nodes k name → i ≡ k
+
+-- Normal form: node i is the one that the walk from the root meets as the i-th, each node is met, no two symbols are alike, and the limits hold.
+pub record IsGraph (g : RawGraph) : Type 0 where
+  pub walk : Walk 200 0 g.root g.nodes
+  pub few : length g.nodes ≤ 65535
+  pub light : AreLight g.nodes
+  pub each : All (IsNode g.nodes) g.nodes
+  pub folded_once : AreFoldedOnce g.nodes

@@ -1,0 +1,46 @@
+-- A graph put behind other nodes.
+use Rattle.std.specs.Prelude.{◌≡◌, ℕ, ◌+◌, ◌-◌, Bool, true, false, ◌&&◌, nat_le, List, [], ◌∷◌, ◌++◌, length, map, Option, Some, None, if◌then◌else◌, get_or}
+use Rattle.std.specs.List.{sum_by}
+use Rattle.newt_graph.specs.declared.node.Node.{Node}
+use Rattle.newt_graph.specs.declared.node.Node.TheVariants.{Symbol, Str, Binary, Large, Array, Frame}
+use Rattle.newt_graph.specs.declared.node.Ref.{Ref}
+use Rattle.newt_graph.specs.Graph.{RawGraph, payload}
+use Rattle.newt_graph.specs.Raw.{renamed_ref, renamed}
+use Rattle.newt_graph.specs.Draft.{find_alike}
+
+-- the old node that stands for a symbol already
+abbrev pub known_as : List Node → Node → Option ℕ
+known_as old (Symbol name) = find_alike name old
+known_as old (Str units) = None
+known_as old (Binary class bytes) = None
+known_as old (Large class bytes) = None
+known_as old (Array class values) = None
+known_as old (Frame tags values) = None
+
+-- numbers from n on, but for symbols that old nodes stand for
+unfoldable pub numbers_from : List Node → ℕ → List Node → List ℕ
+numbers_from old n [] = []
+numbers_from old n (node ∷ nodes) = elim (known_as old node) [
+  | Some k ↦ k ∷ numbers_from old n nodes
+  | None ↦ n ∷ numbers_from old (n + 1) nodes
+]
+
+-- the nodes that no old one stands for
+unfoldable pub kept_of : List Node → List Node → List Node
+kept_of old [] = []
+kept_of old (node ∷ nodes) = elim (known_as old node) [
+  | Some k ↦ kept_of old nodes
+  | None ↦ node ∷ kept_of old nodes
+]
+
+abbrev pub looked_up : List ℕ → ℕ → ℕ
+looked_up table k = get_or table k 0
+
+abbrev pub behind : List Node → List Node → Ref → Option (Ref × List Node)
+behind old added root = if nat_le (length (old ++ added)) 131072 && nat_le (sum_by payload added) (33554432 - sum_by payload old) then Some (root, old ++ added) else None
+
+abbrev pub behind_by : List Node → RawGraph → List ℕ → Option (Ref × List Node)
+behind_by old g table = behind old (map (renamed (looked_up table)) (kept_of old g.nodes)) (renamed_ref (looked_up table) g.root)
+
+unfoldable pub with_graph : List Node → RawGraph → Option (Ref × List Node)
+with_graph old g = behind_by old g (numbers_from old (length old) g.nodes)

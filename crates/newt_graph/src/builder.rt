@@ -1,0 +1,214 @@
+//! Puts a graph together.
+ghost use Rattle.std.specs.Prelude.{◌≡◌, ◌<◌, [], length, slice_get, Some, IfOk, IsErrOf, OnErr, not, IsTrue, nat_le};
+ghost use Rattle.std.specs.List.{sum_by};
+ghost use Rattle.newt_graph.specs.Graph.{RawGraph, IsName, IsSymbol, payload};
+ghost use Rattle.newt_graph.specs.Raw.{IsNormalForm};
+ghost use Rattle.newt_graph.specs.Meeting.{Gives, place};
+ghost use Rattle.newt_graph.specs.Import.{with_graph};
+ghost use Rattle.newt_graph.specs.Draft.{IsJoined, IsFilling, is_small, is_alike, find_alike, with_symbol, with_held, with_filled, with_slot, with_set};
+
+use crate::copies::{copied_ref, copies, left, numbers};
+use crate::fault::GraphFault;
+use crate::graph::Graph;
+use crate::lists::{Bytes, Refs, Tags};
+use crate::node::{Node, Ref};
+use crate::normal::{normal, payload};
+use std::alloc::Global;
+use std::marker::Model;
+
+/// Nodes in any order. They need not be joined before `finish`.
+#[derive(Drop)]
+pub struct Builder {
+    nodes: Vec<Node>,
+    total: usize,
+}
+
+impl Model for Builder {
+    ghost use Rattle.std.specs.Prelude.{◌≡◌, List};
+    ghost use Rattle.std.specs.List.{sum_by};
+    ghost use Rattle.newt_graph.specs.declared.node.Node.{Node};
+    ghost use Rattle.newt_graph.specs.Graph.{payload};
+    ghost use Rattle.newt_graph.specs.Draft.{IsDraft};
+
+    ghost Value = { List Node };
+
+    ghost view = { λ b. b.nodes.items };
+
+    ghost invariant = { λ b. IsDraft b.nodes.items × (b.total ≡ sum_by payload b.nodes.items) };
+}
+
+impl Builder {
+    pub fn new(alloc: Global) -> Builder
+        ensures { result ≡ [] }
+    {
+        Builder {
+            nodes: Vec::new(alloc),
+            total: 0,
+        }
+    }
+
+    /// The symbol of this name but for ASCII case: the first, or a new one.
+    #[tactic(auto, unfolding(crate::specs::Draft::with_symbol))]
+    pub fn symbol(&mut self, alloc: Global, name: &[u8]) -> Result<u32, GraphFault>
+        requires { IsName name.now }
+        ensures value { Gives (λ n. (n, self.new)) result (with_symbol self.old name.now) }
+        ensures kept { OnErr result (self.new ≡ self.old) }
+    {
+        if let Some(k) = find_alike(name, &self.nodes) {
+            return Ok(k);
+        }
+        let n = self.nodes.len();
+        if n >= 131_072 {
+            return Err(GraphFault::Limit);
+        }
+        self.nodes.push(Node::Symbol(Bytes::of(Vec::from_slice(alloc, name)?)))?;
+        Ok(n as u32)
+    }
+
+    /// A node to be filled later.
+    #[tactic(auto, unfolding(crate::specs::Draft::with_held))]
+    pub fn hold(&mut self, alloc: Global) -> Result<u32, GraphFault>
+        ensures value { Gives (λ n. (n, self.new)) result (with_held self.old) }
+        ensures kept { OnErr result (self.new ≡ self.old) }
+    {
+        let n = self.nodes.len();
+        if n >= 131_072 {
+            return Err(GraphFault::Limit);
+        }
+        self.nodes.push(Node::Array(None, Refs::of(Vec::new(alloc))))?;
+        Ok(n as u32)
+    }
+
+    /// Puts a node in the place of one that was held.
+    #[tactic(auto, unfolding(crate::specs::Draft::with_filled))]
+    pub fn fill(&mut self, n: u32, node: Node) -> Result<(), GraphFault>
+        requires inside { n < length self.old }
+        requires filling { IsFilling node }
+        ensures value { Gives (λ done. self.new) result (with_filled self.old n node) }
+        ensures kept { OnErr result (self.new ≡ self.old) }
+    {
+        if !is_small(&node) {
+            return Err(GraphFault::Limit);
+        }
+        let others = self.total - payload(&self.nodes[n as usize]);
+        let payload = others + payload(&node);
+        if payload > 33_554_432 {
+            return Err(GraphFault::Limit);
+        }
+        self.nodes[n as usize] = node;
+        self.total = payload;
+        Ok(())
+    }
+
+    /// Copies a graph in. A symbol that folds alike one that is there is that one.
+    #[tactic(auto, unfolding(crate::specs::Import::with_graph))]
+    pub fn import(&mut self, alloc: Global, graph: &Graph) -> Result<Ref, GraphFault>
+        ensures value { Gives (λ root. (root, self.new)) result (with_graph self.old graph.now) }
+        ensures kept { OnErr result (self.new ≡ self.old) }
+    {
+        let table = numbers(alloc, &self.nodes, graph.nodes())?;
+        let mut added = copies(alloc, &table, &self.nodes, graph.nodes())?;
+        if self.nodes.len() + added.len() > 131_072 {
+            return Err(GraphFault::Limit);
+        }
+        let Some(left) = left(&added, 33_554_432 - self.total) else {
+            return Err(GraphFault::Limit);
+        };
+        self.nodes.append(&mut added)?;
+        self.total = 33_554_432 - left;
+        Ok(copied_ref(&table, graph.root()))
+    }
+
+    /// Gives the frame n this value in its slot of this tag, where the slot stands, or in a new last slot.
+    #[tactic(auto, unfolding(crate::specs::Draft::with_set))]
+    pub fn set(&mut self, alloc: Global, n: u32, tag: u32, value: Ref) -> Result<(), GraphFault>
+        requires { n < length self.old }
+        ensures value { Gives (λ done. self.new) result (with_set self.old n tag value) }
+        ensures kept { OnErr result (self.new ≡ self.old) }
+    {
+        let Node::Frame(tags, values) = &self.nodes[n as usize] else {
+            return Ok(());
+        };
+        let frame = with_slot(alloc, tags.list(), values.list(), tag, value)?;
+        self.nodes[n as usize] = frame;
+        Ok(())
+    }
+
+    /// What the root reaches, in the order of the walk.
+    pub fn finish(self, alloc: Global, root: Ref) -> Result<Graph, GraphFault>
+        requires { IsJoined self root }
+        ensures is_form { IfOk result (λ g. IsNormalForm (record { nodes = self; root = root }) g) }
+        ensures limit { IsErrOf result GraphFault.Limit → (g : RawGraph) → IsNormalForm (record { nodes = self; root = root }) g → ⊥ }
+    {
+        normal(alloc, self.nodes, root)
+    }
+}
+
+#[tactic(auto, unfolding(crate::specs::Draft::find_alike))]
+pub(crate) fn find_alike(name: &[u8], nodes: &[Node]) -> Option<u32>
+    requires { length nodes.now < 4294967296 }
+    ensures { result ≡ find_alike name.now nodes.now }
+{
+    for (i, node) in nodes.iter().enumerate() {
+        if is_alike(name, node) {
+            return Some(i as u32);
+        }
+    }
+    None
+}
+
+fn is_alike(name: &[u8], node: &Node) -> bool
+    ensures { result ≡ is_alike name.now node.now }
+{
+    match node {
+        Node::Symbol(old) => old.list().eq_ignore_ascii_case(name),
+        _ => false,
+    }
+}
+
+/// Whether the slots and bytes of a node are within the limits.
+fn is_small(node: &Node) -> bool
+    ensures { result ≡ is_small node.now }
+{
+    match node {
+        Node::Symbol(_) => true,
+        Node::Str(units) => 2 * units.list().len() + 2 <= 1_000_000,
+        Node::Binary(_, bytes) | Node::Large(_, bytes) => bytes.list().len() <= 1_000_000,
+        Node::Array(_, values) => values.list().len() <= 65_535,
+        Node::Frame(tags, _) => tags.list().len() <= 65_535,
+    }
+}
+
+/// Where a tag stands.
+#[tactic(auto, unfolding(crate::specs::Meeting::place))]
+fn slot_of(tags: &[u32], tag: u32) -> Option<usize>
+    ensures { result ≡ place tags.now tag }
+{
+    tags.iter().position(|t| *t == tag)
+}
+
+#[tactic(auto, unfolding(crate::specs::Draft::with_slot))]
+fn with_slot(
+    alloc: Global,
+    tags: &[u32],
+    values: &[Ref],
+    tag: u32,
+    value: Ref,
+) -> Result<Node, GraphFault>
+    requires { length values.now ≡ length tags.now }
+    ensures { Gives (λ node. node) result (with_slot tags.now values.now tag value) }
+{
+    let mut new_tags = Vec::from_slice(alloc, tags)?;
+    let mut new_values = Vec::from_slice(alloc, values)?;
+    match slot_of(tags, tag) {
+        Some(i) => new_values[i] = value,
+        None => {
+            if tags.len() >= 65_535 {
+                return Err(GraphFault::Limit);
+            }
+            new_tags.push(tag)?;
+            new_values.push(value)?;
+        }
+    }
+    Ok(Node::Frame(Tags::of(new_tags), Refs::of(new_values)))
+}

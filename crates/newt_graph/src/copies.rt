@@ -1,0 +1,144 @@
+//! Copies of nodes with other numbers.
+ghost use Rattle.std.specs.Prelude.{◌≡◌, ◌+◌, ◌<◌, ◌^◌, IfOk, map, length, Some, None, nat_le, if◌then◌else◌, ◌-◌};
+ghost use Rattle.std.specs.List.{sum_by};
+ghost use Rattle.newt_graph.specs.Graph.{payload};
+ghost use Rattle.newt_graph.specs.Raw.{renamed_ref, renamed_class, renamed};
+ghost use Rattle.newt_graph.specs.Import.{known_as, numbers_from, kept_of, looked_up};
+
+use crate::builder::find_alike;
+use crate::lists::{Refs, Tags};
+use crate::node::{Node, Ref};
+use crate::normal::payload;
+use std::alloc::{AllocError, Global};
+
+fn looked_up(table: &[u32], k: u32) -> u32
+    ensures { result ≡ looked_up table.now k }
+{
+    match table.get(k as usize) {
+        Some(n) => *n,
+        None => 0,
+    }
+}
+
+pub(crate) fn copied_ref(table: &[u32], value: Ref) -> Ref
+    ensures { result ≡ renamed_ref (looked_up table.now) value }
+{
+    match value {
+        Ref::Imm(w) => Ref::Imm(w),
+        Ref::Node(k) => Ref::Node(looked_up(table, k)),
+    }
+}
+
+fn copied_class(table: &[u32], class: Option<u32>) -> Option<u32>
+    ensures { result ≡ renamed_class (looked_up table.now) class }
+{
+    match class {
+        Some(k) => Some(looked_up(table, k)),
+        None => None,
+    }
+}
+
+fn copied_tags(alloc: Global, table: &[u32], tags: &[u32]) -> Result<Tags, AllocError>
+    ensures { IfOk result (λ t. t ≡ map (looked_up table.now) tags.now) }
+{
+    let mut numbers = Vec::new(alloc);
+    for k in tags {
+        numbers.push(looked_up(table, *k))?;
+    }
+    Ok(Tags::of(numbers))
+}
+
+fn copied_values(alloc: Global, table: &[u32], values: &[Ref]) -> Result<Refs, AllocError>
+    ensures { IfOk result (λ v. v ≡ map (renamed_ref (looked_up table.now)) values.now) }
+{
+    let mut refs = Vec::new(alloc);
+    for value in values {
+        refs.push(copied_ref(table, *value))?;
+    }
+    Ok(Refs::of(refs))
+}
+
+fn copied(alloc: Global, table: &[u32], node: &Node) -> Result<Node, AllocError>
+    ensures { IfOk result (λ n. n ≡ renamed (looked_up table.now) node.now) }
+{
+    match node {
+        Node::Symbol(name) => Ok(Node::Symbol(name.copy()?)),
+        Node::Str(units) => Ok(Node::Str(units.copy()?)),
+        Node::Binary(class, bytes) => Ok(Node::Binary(looked_up(table, *class), bytes.copy()?)),
+        Node::Large(class, bytes) => Ok(Node::Large(looked_up(table, *class), bytes.copy()?)),
+        Node::Array(class, values) => {
+            let values = copied_values(alloc, table, values.list())?;
+            Ok(Node::Array(copied_class(table, *class), values))
+        }
+        Node::Frame(tags, values) => {
+            let tags = copied_tags(alloc, table, tags.list())?;
+            let values = copied_values(alloc, table, values.list())?;
+            Ok(Node::Frame(tags, values))
+        }
+    }
+}
+
+/// The old node that stands for a symbol already.
+fn known_as(old: &[Node], node: &Node) -> Option<u32>
+    requires { length old.now < 4294967296 }
+    ensures { result ≡ known_as old.now node.now }
+{
+    match node {
+        Node::Symbol(name) => find_alike(name.list(), old),
+        Node::Str(_) | Node::Binary(_, _) | Node::Large(_, _) | Node::Array(_, _) | Node::Frame(_, _) => None,
+    }
+}
+
+/// The numbers of a graph's nodes behind old ones.
+pub(crate) fn numbers(alloc: Global, old: &[Node], new: &[Node]) -> Result<Vec<u32>, AllocError>
+    requires { length old.now + length new.now < 4294967296 }
+    ensures { IfOk result (λ v. v.items ≡ numbers_from old.now (length old.now) new.now) }
+{
+    let mut numbers = Vec::new(alloc);
+    let mut n = old.len() as u32;
+    for node in new {
+        match known_as(old, node) {
+            Some(k) => numbers.push(k)?,
+            None => {
+                numbers.push(n)?;
+                n += 1;
+            }
+        }
+    }
+    Ok(numbers)
+}
+
+/// Copies of the nodes that no old one stands for.
+pub(crate) fn copies(
+    alloc: Global,
+    table: &[u32],
+    old: &[Node],
+    new: &[Node],
+) -> Result<Vec<Node>, AllocError>
+    requires { length old.now < 4294967296 }
+    ensures { IfOk result (λ v. v.items ≡ map (renamed (looked_up table.now)) (kept_of old.now new.now)) }
+{
+    let mut out = Vec::new(alloc);
+    for node in new {
+        match known_as(old, node) {
+            Some(_) => {}
+            None => out.push(copied(alloc, table, node)?)?,
+        }
+    }
+    Ok(out)
+}
+
+/// What is left of so many bytes.
+pub(crate) fn left(nodes: &[Node], most: usize) -> Option<usize>
+    ensures { result ≡ (if nat_le (sum_by payload nodes.now) most then Some (most - sum_by payload nodes.now) else None) }
+{
+    let mut left = most;
+    for node in nodes {
+        let payload = payload(node);
+        if payload > left {
+            return None;
+        }
+        left -= payload;
+    }
+    Some(left)
+}

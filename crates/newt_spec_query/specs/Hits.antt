@@ -1,0 +1,93 @@
+-- The hits of a query: a filter of all entries, put in order.
+use Rattle.std.specs.Prelude.{ℕ, Bool, true, false, not, ◌&&◌, ◌||◌, ◌==◌, List, [], ◌∷◌, ◌++◌, map, filter, flat_map, filter_map, fold, Option, Some, None, option_map, cond}
+use Rattle.std.specs.List.{list_all, list_any}
+use Rattle.std.specs.declared.cmp.Ordering.{Ordering}
+use Rattle.std.specs.Ordering.{nat_cmp, ordering_then, is_lt, is_gt}
+use Rattle.newt_base.specs.Names.{equal_text}
+use Rattle.newt_graph.specs.declared.node.Node.{Node}
+use Rattle.newt_graph.specs.declared.node.Node.TheVariants.{Symbol, Str, Binary, Large, Array, Frame}
+use Rattle.newt_graph.specs.Graph.{RawGraph}
+use Rattle.newt_spec_store.specs.Keys.{IndexSpec, Key, key, key_cmp, same_spec, folded}
+use Rattle.newt_spec_store.specs.Store.{Entry, Soup, Store, TagTable}
+use Rattle.newt_spec_query.specs.Words.{has_text, has_word}
+use Rattle.newt_spec_query.specs.Tags.{tags_of, tags_pass}
+use Rattle.newt_spec_query.specs.Spec.{Spec, Bound, unbounded, including, excluding}
+
+pub record Query : Type 0 where
+  -- one store by its signature, or all mounted stores
+  pub scope : Option ℕ
+  pub name : List ℕ
+  pub spec : Spec
+
+pub record Hit : Type 0 where
+  pub key : Key
+  pub store : ℕ
+  pub soup : ℕ
+  pub uid : ℕ
+
+abbrev pub above : IndexSpec → Bound → Key → Bool
+above index unbounded k = true
+above index (including b) k = not (is_lt (key_cmp index k b))
+above index (excluding b) k = is_gt (key_cmp index k b)
+
+abbrev pub below : IndexSpec → Bound → Key → Bool
+below index unbounded k = true
+below index (including b) k = not (is_gt (key_cmp index k b))
+below index (excluding b) k = is_lt (key_cmp index k b)
+
+-- every string of the graph, folded
+abbrev pub strings : RawGraph → List (List ℕ)
+strings g = filter_map folded_string g.nodes
+  where
+    folded_string : Node → Option (List ℕ)
+    folded_string (Str units) = Some (folded units)
+    folded_string _ = None
+
+-- each word and each text stands in at least one string
+abbrev pub text_passes : Spec → RawGraph → Bool
+text_passes q g =
+    list_all (λ word. list_any (λ text. has_word text word q.entire) (strings g)) q.words
+    && list_all (λ part. list_any (λ text. has_text text part) (strings g)) q.texts
+
+abbrev pub passes : Spec → Option TagTable → RawGraph → Bool
+passes q table g = tags_pass q.tags (tags_of table g) && text_passes q g
+
+-- ---- the hits of one entry, one soup, all members
+
+abbrev pub hit_of : Spec → Store → Soup → Entry → Option Hit
+hit_of q s p e = option_map (λ k. record { key = k; store = s.sig; soup = p.sig; uid = e.uid })
+    (elim (key e.graph q.index) [
+      | Some k ↦ cond (above q.index q.lower k && below q.index q.upper k && passes q p.tags e.graph) (Some k) None
+      | None ↦ None
+    ])
+
+-- with no index every soup takes part
+abbrev pub carries : IndexSpec → Soup → Bool
+carries [] p = true
+carries index p = list_any (same_spec index) p.specs
+
+abbrev pub in_scope : Option ℕ → Store → Bool
+in_scope None s = true
+in_scope (Some sig) s = s.sig == sig
+
+abbrev pub soup_hits : Query → Store → Soup → List Hit
+soup_hits q s p = cond (equal_text p.name q.name && carries q.spec.index p) (filter_map (hit_of q.spec s p) p.entries) []
+
+-- ---- order
+
+abbrev pub hit_cmp : IndexSpec → Hit → Hit → Ordering
+hit_cmp index a b =
+    ordering_then (key_cmp index a.key b.key)
+    (ordering_then (nat_cmp a.store b.store) (ordering_then (nat_cmp a.soup b.soup) (nat_cmp a.uid b.uid)))
+
+abbrev pub insert_by : {X : Type 0} → (X → X → Ordering) → List X → X → List X
+insert_by cmp [] x = x ∷ []
+insert_by cmp (y ∷ ys) x = cond (is_lt (cmp x y)) (x ∷ y ∷ ys) (y ∷ insert_by cmp ys x)
+
+abbrev pub sorted_by : {X : Type 0} → (X → X → Ordering) → List X → List X
+sorted_by cmp xs = fold (insert_by cmp) [] xs
+
+-- the hits in the mounted stores
+abbrev pub hits : List Store → Query → List Hit
+hits stores q =
+    sorted_by (hit_cmp q.spec.index) (flat_map (λ s. flat_map (soup_hits q s) s.soups) (filter (in_scope q.scope) stores))

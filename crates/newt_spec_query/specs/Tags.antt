@@ -1,0 +1,53 @@
+-- An entry's tags, and what a query asks of them.
+use Rattle.std.specs.Prelude.{ℕ, Bool, true, false, not, ◌&&◌, List, [], ◌∷◌, filter, filter_map, Option, Some, None, option_and_then}
+use Rattle.std.specs.List.{list_all, list_any}
+use Rattle.newt_base.specs.Names.{same_name}
+use Rattle.newt_graph.specs.declared.node.Ref.{Ref}
+use Rattle.newt_graph.specs.declared.node.Node.{Node}
+use Rattle.newt_graph.specs.declared.node.Node.TheVariants.{Symbol, Str, Binary, Large, Array, Frame}
+use Rattle.newt_graph.specs.Graph.{RawGraph}
+use Rattle.newt_spec_graph.specs.Graph.{object}
+use Rattle.newt_spec_graph.specs.Slots.{value_at}
+use Rattle.newt_spec_store.specs.Store.{TagTable}
+
+abbrev pub symbol_name : List Node → Ref → Option (List ℕ)
+symbol_name nodes r = elim (object nodes r) [ Some (Symbol name) ↦ Some name | _ ↦ None ]
+
+-- a symbol, or the symbols in an array
+abbrev pub symbols_in : List Node → Ref → List (List ℕ)
+symbols_in nodes r = elim (object nodes r) [
+  | Some (Symbol name) ↦ name ∷ []
+  | Some (Array _ values) ↦ filter_map (symbol_name nodes) values
+  | _ ↦ []
+]
+
+abbrev pub symbols_at : RawGraph → Option Ref → List (List ℕ)
+symbols_at g None = []
+symbols_at g (Some r) = symbols_in g.nodes r
+
+abbrev pub is_among : List (List ℕ) → List ℕ → Bool
+is_among names name = list_any (same_name name) names
+
+-- the symbols of the declaration that the entry has at its path
+abbrev pub tags_of : Option TagTable → RawGraph → List (List ℕ)
+tags_of None g = []
+tags_of (Some t) g = filter (is_among (symbols_at g (value_at g t.path))) t.symbols
+
+-- lists of symbols, where they are given
+pub record TagSpec : Type 0 where
+  pub equal : Option (List (List ℕ))
+  pub all : Option (List (List ℕ))
+  pub any : Option (List (List ℕ))
+  pub none_of : Option (List (List ℕ))
+
+-- the test holds of what is given
+abbrev pub if_given : {X : Type 0} → (X → Bool) → Option X → Bool
+if_given test None = true
+if_given test (Some x) = test x
+
+abbrev pub tags_pass : TagSpec → List (List ℕ) → Bool
+tags_pass spec tags =
+    if_given (λ names. list_all (is_among tags) names && list_all (is_among names) tags) spec.equal
+    && if_given (λ names. list_all (is_among tags) names) spec.all
+    && if_given (λ names. list_any (is_among tags) names) spec.any
+    && if_given (λ names. not (list_any (is_among tags) names)) spec.none_of

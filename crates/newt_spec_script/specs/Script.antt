@@ -1,0 +1,131 @@
+-- A script: its lines, what they give, and the output.
+use Rattle.std.specs.Prelude.{◌≡◌, ◌⊎◌, ℕ, ◌+◌, ◌*◌, ◌-◌, Bool, true, false, not, ◌==◌, List, [], ◌∷◌, ◌++◌, map, flat_map, filter_map, Option, Some, None, option_map, option_and_then, Result, Ok, Err, ⊤, nat_lt, take}
+use Rattle.std.specs.List.{AllZip, prefix_len}
+use Rattle.std.specs.Char.{digit_value}
+use Rattle.newt_base.specs.declared.Refusal.{Refusal}
+use Rattle.newt_base.specs.declared.Refusal.TheVariants.{Malformed, Compressed, Literal}
+use Rattle.newt_graph.specs.Graph.{RawGraph}
+use Rattle.newt_spec_world.specs.declared.command.Command.{Command}
+use Rattle.newt_spec_world.specs.declared.command.Command.TheVariants as command
+use Rattle.newt_spec_world.specs.Reply.{Reply, reply_text}
+use Rattle.newt_spec_world.specs.World.{World}
+use Rattle.newt_spec_world.specs.Answer.{answer}
+use Rattle.newt_spec_script.specs.Line.{Parsed, ready, literal, stream, bytes, parsed}
+
+-- ---- lines
+
+-- the pieces that end at a byte 10, and what follows the last one where it is not empty
+abbrev pub lines : List ℕ → List (List ℕ)
+lines [] = []
+lines (c ∷ cs) = elim (c == 10) [ true ↦ [] ∷ lines cs | false ↦ onto c (lines cs) ]
+  where
+    onto : ℕ → List (List ℕ) → List (List ℕ)
+    onto x [] = (x ∷ []) ∷ []
+    onto x (l ∷ ls) = (x ∷ l) ∷ ls
+
+-- a byte 13 at the end is dropped
+abbrev pub without_return : List ℕ → List ℕ
+without_return [] = []
+without_return (c ∷ []) = elim (c == 13) [ true ↦ [] | false ↦ c ∷ [] ]
+without_return (c ∷ d ∷ cs) = c ∷ without_return (d ∷ cs)
+
+-- two digits for each byte, in either case
+abbrev pub hex_bytes : List ℕ → Option (List ℕ)
+hex_bytes [] = Some []
+hex_bytes (h ∷ []) = None
+hex_bytes (h ∷ l ∷ rest) = elim (nat_lt (digit_value h) 16) [
+  | false ↦ None
+  | true ↦ elim (nat_lt (digit_value l) 16) [ false ↦ None | true ↦ option_map (λ bs. (digit_value h * 16 + digit_value l) ∷ bs) (hex_bytes rest) ]
+]
+
+-- what a line gives: a command, or why it is none
+abbrev pub Item : Type 0
+Item = Result Command Refusal
+
+-- the lines that say something
+abbrev pub parsed_lines : List ℕ → List Parsed
+parsed_lines script = filter_map (λ l. parsed (without_return l)) (lines script)
+
+-- ---- the reading of a line, over the grammars of literals and of object streams
+
+module _ (Reads Spells SpellsWide : List ℕ → RawGraph → Type 0) where
+  -- no graph stands in the relation
+  abbrev pub NoGraph : (RawGraph → Type 0) → Type 0
+  NoGraph P = (g : RawGraph) → ¬ P g
+
+  abbrev pub ReadsStream : List ℕ → (RawGraph → Command) → Item → Type 0
+  ReadsStream bs f item =
+      ((g : RawGraph) × Spells bs g × (item ≡ Ok (f g)))
+      ⊎ (NoGraph (Spells bs) × ((g : RawGraph) × SpellsWide bs g) × (item ≡ Err Compressed))
+      ⊎ (NoGraph (SpellsWide bs) × (item ≡ Err Malformed))
+
+  abbrev pub ReadsHex : Option (List ℕ) → (RawGraph → Command) → Item → Type 0
+  ReadsHex None f item = item ≡ Err Malformed
+  ReadsHex (Some bs) f item = ReadsStream bs f item
+
+  abbrev pub bytes_item : Option (List ℕ) → (List ℕ → Command) → Item
+  bytes_item None f = Err Malformed
+  bytes_item (Some bs) f = Ok (f bs)
+
+  abbrev pub ReadsParsed : Parsed → Item → Type 0
+  ReadsParsed (ready r) item = item ≡ r
+  ReadsParsed (literal text f) item = ((g : RawGraph) × Reads text g × (item ≡ Ok (f g))) ⊎ (NoGraph (Reads text) × (item ≡ Err Literal))
+  ReadsParsed (stream digits f) item = ReadsHex (hex_bytes digits) f item
+  ReadsParsed (bytes digits f) item = item ≡ bytes_item (hex_bytes digits) f
+
+  -- the items of the lines, each read; lines that say nothing give none
+  abbrev pub ReadsLines : List Parsed → List Item → Type 0
+  ReadsLines = AllZip ReadsParsed
+
+  -- these are the items of the script
+  abbrev pub IsScript : List ℕ → List Item → Type 0
+  IsScript script items = ReadsLines (parsed_lines script) items
+
+  -- these are the items of the first lines of the script, up to some line
+  abbrev pub IsStart : List ℕ → List Item → Type 0
+  IsStart script items = (n : ℕ) × ReadsLines (take n (parsed_lines script)) items
+
+-- ---- the run of the items
+
+abbrev pub step : World → Item → World × Reply
+step w (Err refusal) = (w, Reply.refused refusal)
+step w (Ok c) = answer w c
+
+abbrev pub is_quit : Item → Bool
+is_quit (Ok command.Quit) = true
+is_quit _ = false
+
+-- up to and with the first `quit`
+abbrev pub up_to_quit : List Item → List Item
+up_to_quit [] = []
+up_to_quit (x ∷ xs) = elim (is_quit x) [ true ↦ x ∷ [] | false ↦ x ∷ up_to_quit xs ]
+
+abbrev pub world_after : World → List Item → World
+world_after w [] = w
+world_after w (x ∷ xs) = world_after (step w x).0 xs
+
+abbrev pub replies_to : World → List Item → List Reply
+replies_to w [] = []
+replies_to w (x ∷ xs) = let a = step w x in a.1 ∷ replies_to a.0 xs
+
+abbrev pub output : World → List Item → List ℕ
+output w items = flat_map reply_text (replies_to w (up_to_quit items))
+
+-- ---- with readers that compute
+
+pub record Readers : Type 0 where
+  pub literal_of : List ℕ → Option RawGraph
+  pub stream_of : List ℕ → Result RawGraph Refusal
+
+abbrev pub item_of : Readers → Parsed → Item
+item_of rs (ready r) = r
+item_of rs (literal text f) = elim (rs.literal_of text) [ None ↦ Err Literal | Some g ↦ Ok (f g) ]
+item_of rs (stream digits f) = elim (hex_bytes digits) [ None ↦ Err Malformed | Some bs ↦ elim (rs.stream_of bs) [ Err r ↦ Err r | Ok g ↦ Ok (f g) ] ]
+item_of rs (bytes digits f) = bytes_item (hex_bytes digits) f
+  where
+    bytes_item : Option (List ℕ) → (List ℕ → Command) → Item
+    bytes_item None f = Err Malformed
+    bytes_item (Some bs) f = Ok (f bs)
+
+abbrev pub items_of : Readers → List ℕ → List Item
+items_of rs script = map (item_of rs) (parsed_lines script)

@@ -1,0 +1,170 @@
+-- The words of a line.
+use Rattle.std.specs.Prelude.{ℕ, ◌+◌, ◌-◌, ◌*◌, ◌^◌, Bool, true, false, not, ◌&&◌, ◌||◌, ◌==◌, nat_lt, nat_le, List, [], ◌∷◌, ◌++◌, length, reverse, take, filter, fold, map, Option, Some, None, option_map, option_and_then, Result, Ok, Err, ℤ, pos, negsuc, neg_ℤ, if◌then◌else◌, codes, bytes_eq, pred, drop}
+use Rattle.std.specs.List.{list_all, prefix_len, list_any, position, before_first, after_first}
+use Rattle.std.specs.Char.{is_ascii_digit}
+use Rattle.newt_base.specs.declared.Refusal.{Refusal}
+use Rattle.newt_base.specs.declared.Refusal.TheVariants.{Line as NotTheForm}
+use Rattle.newt_base.specs.Names.{is_identifier}
+use Rattle.newt_spec_store.specs.declared.Kind.{Kind}
+use Rattle.newt_spec_store.specs.declared.Kind.TheVariants as kind
+use Rattle.newt_spec_store.specs.declared.Order.{Order}
+use Rattle.newt_spec_store.specs.declared.Order.TheVariants as order
+use Rattle.newt_spec_store.specs.Keys.{Path}
+use Rattle.newt_spec_store.specs.Valid.{is_name, valid_path, valid_symbol}
+use Rattle.newt_spec_world.specs.declared.command.PartWord.{PartWord}
+
+abbrev pub is_blank : ℕ → Bool
+is_blank c = (c == 32) || (c == 9)
+
+abbrev pub skip_blanks : List ℕ → List ℕ
+skip_blanks cs = drop (prefix_len is_blank cs) cs
+
+abbrev pub trimmed : List ℕ → List ℕ
+trimmed cs = reverse (skip_blanks (reverse (skip_blanks cs)))
+
+-- ---- readers: a value from the front of a text, and the rest, or why not
+
+abbrev pub Reader : Type 0 → Type 0
+Reader A = List ℕ → Result (A × List ℕ) Refusal
+
+abbrev pub then_read : {A B : Type 0} → Result (A × List ℕ) Refusal → (A → List ℕ → Result (B × List ℕ) Refusal) → Result (B × List ℕ) Refusal
+then_read (Err r) f = Err r
+then_read (Ok x) f = f x.0 x.1
+
+-- one to six readers in a row, and what is made of their values
+abbrev pub of1 : {A R : Type 0} → Reader A → (A → R) → Reader R
+of1 p f cs = then_read (p cs) (λ a rest. Ok (f a, rest))
+
+abbrev pub of2 : {A B R : Type 0} → Reader A → Reader B → (A → B → R) → Reader R
+of2 p q f cs = then_read (p cs) (λ a. of1 q (f a))
+
+abbrev pub of3 : {A B C R : Type 0} → Reader A → Reader B → Reader C → (A → B → C → R) → Reader R
+of3 p q r f cs = then_read (p cs) (λ a. of2 q r (f a))
+
+abbrev pub of4 : {A B C D R : Type 0} → Reader A → Reader B → Reader C → Reader D → (A → B → C → D → R) → Reader R
+of4 p q r s f cs = then_read (p cs) (λ a. of3 q r s (f a))
+
+abbrev pub of5 : {A B C D E R : Type 0} → Reader A → Reader B → Reader C → Reader D → Reader E → (A → B → C → D → E → R) → Reader R
+of5 p q r s t f cs = then_read (p cs) (λ a. of4 q r s t (f a))
+
+abbrev pub of6 : {A B C D E F R : Type 0} → Reader A → Reader B → Reader C → Reader D → Reader E → Reader F → (A → B → C → D → E → F → R) → Reader R
+of6 p q r s t u f cs = then_read (p cs) (λ a. of5 q r s t u (f a))
+
+abbrev pub or_not_the_form : {A : Type 0} → Option A → List ℕ → Result (A × List ℕ) Refusal
+or_not_the_form None rest = Err NotTheForm
+or_not_the_form (Some a) rest = Ok (a, rest)
+
+-- the next word, if it has the form
+abbrev pub word : {A : Type 0} → (List ℕ → Option A) → Reader A
+word form cs =
+    let text = skip_blanks cs in
+    let n = prefix_len (λ c. not (is_blank c)) text in
+    or_not_the_form (if n == 0 then None else form (take n text)) (drop n text)
+
+-- ---- numbers
+
+abbrev pub digits_value : List ℕ → ℕ
+digits_value = fold (λ n c. n * 10 + (c - 48)) 0
+
+-- one to ten digits with a value of at most this
+abbrev pub decimal_to : ℕ → List ℕ → Option ℕ
+decimal_to most cs =
+    if nat_le 1 (length cs) && nat_le (length cs) 10 && list_all is_ascii_digit cs && nat_le (digits_value cs) most
+    then Some (digits_value cs) else None
+
+abbrev pub negated : ℕ → ℤ
+negated n = neg_ℤ (pos n)
+
+abbrev pub signed : List ℕ → Option ℤ
+signed [] = None
+signed (c ∷ cs) = if c == 45 then option_map negated (decimal_to (2 ^ 31) cs) else option_map pos (decimal_to (2 ^ 31 - 1) (c ∷ cs))
+
+abbrev pub unit_digit : List ℕ → Option ℕ
+unit_digit (c ∷ []) = if nat_le 48 c && nat_le c 55 then Some (c - 48) else None
+unit_digit _ = None
+
+-- ---- names
+
+abbrev pub only : {A : Type 0} → (A → Bool) → A → Option A
+only test a = if test a then Some a else None
+
+abbrev pub bare_name : List ℕ → Option (List ℕ)
+bare_name = only (λ cs. is_name cs && list_all (λ c. not ((c == 32) || (c == 34) || (c == 92))) cs)
+
+-- the text up to the closing quote, and what follows it; a backslash stands before a quote or a backslash
+abbrev pub quoted : List ℕ → Option (List ℕ × List ℕ)
+quoted [] = None
+quoted (c ∷ []) = if c == 34 then Some ([], []) else None
+quoted (c ∷ d ∷ cs) = elim (c == 34) [
+  | true ↦ Some ([], d ∷ cs)
+  | false ↦ elim (c == 92) [
+    | true ↦ if (d == 34) || (d == 92) then onto d (quoted cs) else None
+    | false ↦ onto c (quoted (d ∷ cs))
+  ]
+]
+  where
+    onto : ℕ → Option (List ℕ × List ℕ) → Option (List ℕ × List ℕ)
+    onto x None = None
+    onto x (Some q) = Some (x ∷ q.0, q.1)
+
+abbrev pub ends_word : List ℕ → Bool
+ends_word [] = true
+ends_word (c ∷ cs) = is_blank c
+
+abbrev pub quoted_name : List ℕ → Result (List ℕ × List ℕ) Refusal
+quoted_name cs = elim (quoted cs) [
+  | None ↦ Err NotTheForm
+  | Some q ↦ if is_name q.0 && ends_word q.1 then Ok q else Err NotTheForm
+]
+
+abbrev pub name : Reader (List ℕ)
+name cs = elim (skip_blanks cs) [
+  | [] ↦ Err NotTheForm
+  | c ∷ rest ↦ elim (c == 34) [ true ↦ quoted_name rest | false ↦ word bare_name (c ∷ rest) ]
+]
+
+-- ---- paths and parts
+
+-- the pieces between the marks
+abbrev pub split_at : ℕ → List ℕ → List (List ℕ)
+split_at mark [] = [] ∷ []
+split_at mark (c ∷ cs) = elim (c == mark) [ true ↦ [] ∷ split_at mark cs | false ↦ onto c (split_at mark cs) ]
+  where
+    onto : ℕ → List (List ℕ) → List (List ℕ)
+    onto x [] = (x ∷ []) ∷ []
+    onto x (p ∷ ps) = (x ∷ p) ∷ ps
+
+abbrev pub path : List ℕ → Option Path
+path cs = only valid_path (split_at 46 cs)
+
+abbrev pub kind_word : List ℕ → Option (Option Kind)
+kind_word cs =
+    if bytes_eq cs (codes "string") then Some (Some kind.Text) else if bytes_eq cs (codes "int") then Some (Some kind.Int)
+    else if bytes_eq cs (codes "char") then Some (Some kind.Char) else if bytes_eq cs (codes "symbol") then Some (Some kind.Symbol)
+    else if bytes_eq cs (codes "real") then Some None else None
+
+abbrev pub order_word : List ℕ → Option Order
+order_word cs = if bytes_eq cs (codes "ascend") then Some order.Ascend else if bytes_eq cs (codes "descend") then Some order.Descend else None
+
+abbrev pub part : List ℕ → Option PartWord
+part cs = elim (split_at 58 cs) [
+  | p ∷ k ∷ d ∷ [] ↦ option_and_then (λ a. option_and_then (λ b. option_map (λ c. record { path = a; kind = b; order = c }) (order_word d)) (kind_word k)) (path p)
+  | _ ↦ None
+]
+
+-- the rest of the line as words, split at blanks
+abbrev pub words : List ℕ → List (List ℕ)
+words cs = filter (λ w. not (length w == 0)) (split_at 32 (map (λ c. if c == 9 then 32 else c) cs))
+
+abbrev pub all_words : {A : Type 0} → (List ℕ → Option A) → List (List ℕ) → Option (List A)
+all_words form [] = Some []
+all_words form (w ∷ ws) = option_and_then (λ a. option_map (λ as'. a ∷ as') (all_words form ws)) (form w)
+
+-- one or more words to the end of the line, at most so many
+abbrev pub several : {A : Type 0} → ℕ → (List ℕ → Option A) → Reader (List A)
+several most form cs =
+    let ws = words cs in
+    or_not_the_form (if nat_le 1 (length ws) && nat_le (length ws) most then all_words form ws else None) []
+
+abbrev pub symbol : List ℕ → Option (List ℕ)
+symbol = only valid_symbol

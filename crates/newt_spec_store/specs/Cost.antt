@@ -1,0 +1,68 @@
+-- What a store costs in pages.
+use Rattle.std.specs.Prelude.{ℕ, ◌+◌, ◌-◌, ◌*◌, ◌/◌, max, List, [], ◌∷◌, ◌++◌, map, length, flat_map, sum_by, sum, Option, Some, None}
+use Rattle.newt_base.specs.Text.{be16, be32}
+use Rattle.newt_graph.specs.Graph.{RawGraph}
+use Rattle.newt_spec_graph.specs.Nsof.{nsof, skeleton, large_lengths}
+use Rattle.newt_spec_store.specs.declared.Kind.{Kind}
+use Rattle.newt_spec_store.specs.declared.Kind.TheVariants as kind
+use Rattle.newt_spec_store.specs.declared.Order.{Order}
+use Rattle.newt_spec_store.specs.declared.Order.TheVariants as order
+use Rattle.newt_spec_store.specs.Keys.{IndexSpec, IndexPart, Path}
+use Rattle.newt_spec_store.specs.Store.{Entry, TagTable, Soup, Store}
+
+-- ---- the bytes of the directory
+
+-- a count in one byte, and the items
+abbrev pub counted : {X : Type 0} → (X → List ℕ) → List X → List ℕ
+counted bytes xs = length xs ∷ flat_map bytes xs
+
+abbrev pub text_bytes : List ℕ → List ℕ
+text_bytes text = length text ∷ text
+
+abbrev pub path_bytes : Path → List ℕ
+path_bytes = counted text_bytes
+
+abbrev pub kind_byte : Kind → ℕ
+kind_byte kind.Text = 0
+kind_byte kind.Int = 1
+kind_byte kind.Char = 2
+kind_byte kind.Symbol = 3
+
+abbrev pub direction_byte : Order → ℕ
+direction_byte order.Ascend = 0
+direction_byte order.Descend = 1
+
+abbrev pub part_bytes : IndexPart → List ℕ
+part_bytes p = kind_byte p.kind ∷ direction_byte p.direction ∷ path_bytes p.path
+
+abbrev pub tags_bytes : Option TagTable → List ℕ
+tags_bytes None = 0 ∷ []
+tags_bytes (Some t) = 1 ∷ path_bytes t.path ++ counted text_bytes t.symbols
+
+abbrev pub soup_bytes : Soup → List ℕ
+soup_bytes p =
+    text_bytes p.name ++ be16 p.sig ++ be32 p.next_uid ++ counted (counted part_bytes) p.specs ++ tags_bytes p.tags
+
+abbrev pub directory_bytes : Store → List ℕ
+directory_bytes s = text_bytes s.name ++ be32 s.sig ++ be16 s.next_soup ++ counted soup_bytes s.soups
+
+-- ---- pages
+
+abbrev pub pages : ℕ → ℕ
+pages n = max 1 ((n + 499) / 500)
+
+abbrev pub skeleton_length : RawGraph → ℕ
+skeleton_length g = length (nsof (skeleton g))
+
+-- an entry's share: its record, and each of its large binaries
+abbrev pub entry_pages : Entry → ℕ
+entry_pages e =
+    let larges = large_lengths e.graph in
+    pages (12 + skeleton_length e.graph + 12 * length larges) + sum (map pages larges)
+
+abbrev pub cost : Store → ℕ
+cost s = pages (length (directory_bytes s)) + sum_by (λ p. sum_by entry_pages p.entries) s.soups
+
+-- how many pages a unit of so many blocks holds
+abbrev pub cap : ℕ → ℕ
+cap blocks = (4096 * ((blocks - 3) / 2) - 16) / 525

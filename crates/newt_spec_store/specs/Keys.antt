@@ -1,0 +1,130 @@
+-- Keys of entries, and their order.
+use Rattle.std.specs.Prelude.{ℕ, ◌/◌, ◌%◌, ◌^◌, Bool, true, false, ◌&&◌, ◌==◌, nat_lt, List, [], ◌∷◌, map, take, length, zip, Option, Some, None, option_and_then, ℤ, pos, if◌then◌else◌, encode_utf8_all}
+use Rattle.std.specs.Int.{cast_unsigned, int_div_euclid, w32}
+use Rattle.std.specs.declared.cmp.Ordering.{Ordering}
+use Rattle.std.specs.declared.cmp.Ordering.TheVariants.{Less, Equal, Greater}
+use Rattle.std.specs.Ordering.{nat_cmp, int_cmp, ordering_then, ordering_reverse}
+use Rattle.std.specs.Cmp.Lexicographic.{slice_cmp}
+use Rattle.std.specs.Char.Utf16.{utf16_lossy_chars}
+use Rattle.std.specs.Str.{str_to_ascii_lowercase}
+use Rattle.std.specs.List.{list_all}
+use Rattle.caseless.specs.Caseless.{default_case_fold}
+use Rattle.newt_base.specs.Names.{same_path}
+use Rattle.newt_spec_store.specs.declared.Kind.{Kind}
+use Rattle.newt_spec_store.specs.declared.Kind.TheVariants as kind
+use Rattle.newt_spec_store.specs.declared.Order.{Order}
+use Rattle.newt_spec_store.specs.declared.Order.TheVariants as order
+use Rattle.newt_graph.specs.declared.node.Ref.{Ref}
+use Rattle.newt_graph.specs.declared.node.Ref.TheVariants.{Imm, Node as At}
+use Rattle.newt_graph.specs.declared.node.Node.{Node}
+use Rattle.newt_graph.specs.declared.node.Node.TheVariants.{Symbol, Str, Binary, Large, Array, Frame}
+use Rattle.newt_graph.specs.Graph.{RawGraph}
+use Rattle.newt_spec_graph.specs.Graph.{object}
+use Rattle.newt_spec_graph.specs.Slots.{value_at}
+
+-- a path: the names of the slots from the root down
+abbrev pub Path : Type 0
+Path = List (List ℕ)
+
+pub record IndexPart : Type 0 where
+  pub path : Path
+  pub kind : Kind
+  pub direction : Order
+
+-- an index declaration has one to four parts
+abbrev pub IndexSpec : Type 0
+IndexSpec = List IndexPart
+
+pub data Part : Type 0 where
+  missing : Part
+  words : List ℕ → Part
+  whole : ℤ → Part
+  letter : ℕ → Part
+  name : List ℕ → Part
+
+abbrev pub Key : Type 0
+Key = List Part
+
+-- ---- the value of a part
+
+-- the characters of a string, folded
+abbrev pub folded : List ℕ → List ℕ
+folded units = default_case_fold (utf16_lossy_chars units)
+
+-- a value of a kind that an object has
+abbrev pub object_part : Kind → Option Node → Part
+object_part kind.Text (Some (Str units)) = words (encode_utf8_all (folded (take 39 units)))
+object_part kind.Symbol (Some (Symbol n)) = name (str_to_ascii_lowercase n)
+object_part _ _ = missing
+
+-- a value of a kind that an immediate word has: integers end in the bits 00, and the character c is 16 * c + 6
+abbrev pub word_part : Kind → ℤ → Part
+word_part kind.Int w = if cast_unsigned w32 w % 4 == 0 then whole (int_div_euclid w (pos 4)) else missing
+word_part kind.Char w =
+    let n = cast_unsigned w32 w in
+    if (n % 16 == 6) && nat_lt n (2 ^ 20) then letter (n / 16) else missing
+word_part _ w = missing
+
+abbrev pub part_of : List Node → Kind → Option Ref → Part
+part_of nodes kind None = missing
+part_of nodes kind (Some (Imm w)) = word_part kind w
+part_of nodes kind (Some (At n)) = object_part kind (object nodes (At n))
+
+-- a key, where its first part is there
+abbrev pub if_first_is_there : Key → Option Key
+if_first_is_there (missing ∷ parts) = None
+if_first_is_there parts = Some parts
+
+-- the key of a graph; with no declaration it is empty
+abbrev pub key : RawGraph → IndexSpec → Option Key
+key g spec = if_first_is_there (map (λ p. part_of g.nodes p.kind (value_at g p.path)) spec)
+
+-- ---- the order of keys
+
+abbrev pub value_cmp : Part → Part → Ordering
+value_cmp (words a) (words b) = slice_cmp nat_cmp a b
+value_cmp (whole a) (whole b) = int_cmp a b
+value_cmp (letter a) (letter b) = nat_cmp a b
+value_cmp (name a) (name b) = slice_cmp nat_cmp a b
+value_cmp _ _ = Equal
+
+abbrev pub in_direction : Order → Ordering → Ordering
+in_direction order.Ascend o = o
+in_direction order.Descend o = ordering_reverse o
+
+-- a missing part stands before all values in both directions
+abbrev pub part_cmp : Order → Part → Part → Ordering
+part_cmp direction missing missing = Equal
+part_cmp direction missing b = Less
+part_cmp direction a missing = Greater
+part_cmp direction a b = in_direction direction (value_cmp a b)
+
+abbrev pub key_cmp : IndexSpec → Key → Key → Ordering
+key_cmp (p ∷ spec) (a ∷ as') (b ∷ bs) = ordering_then (part_cmp p.direction a b) (key_cmp spec as' bs)
+key_cmp _ _ _ = Equal
+
+-- ---- declarations that agree
+
+abbrev pub same_kind : Kind → Kind → Bool
+same_kind kind.Text kind.Text = true
+same_kind kind.Int kind.Int = true
+same_kind kind.Char kind.Char = true
+same_kind kind.Symbol kind.Symbol = true
+same_kind _ _ = false
+
+abbrev pub same_direction : Order → Order → Bool
+same_direction order.Ascend order.Ascend = true
+same_direction order.Descend order.Descend = true
+same_direction _ _ = false
+
+abbrev pub paths_of : IndexSpec → List Path
+paths_of spec = map (λ p. p.path) spec
+
+abbrev pub same_paths : List Path → List Path → Bool
+same_paths ps qs = (length ps == length qs) && list_all (λ p. same_path p.0 p.1) (zip ps qs)
+
+abbrev pub same_part : IndexPart → IndexPart → Bool
+same_part p q = same_path p.path q.path && same_kind p.kind q.kind && same_direction p.direction q.direction
+
+abbrev pub same_spec : IndexSpec → IndexSpec → Bool
+same_spec ps qs = (length ps == length qs) && list_all (λ p. same_part p.0 p.1) (zip ps qs)

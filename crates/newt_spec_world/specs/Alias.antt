@@ -1,0 +1,46 @@
+-- Aliases of entries as literals.
+use Rattle.std.specs.Prelude.{ℕ, ◌/◌, ◌%◌, Bool, true, false, ◌&&◌, ◌==◌, List, [], ◌∷◌, find, Option, Some, None, option_map, option_and_then, ℤ, pos, codes, if◌then◌else◌}
+use Rattle.newt_base.specs.Names.{same_name}
+use Rattle.newt_graph.specs.declared.node.Ref.{Ref}
+use Rattle.newt_graph.specs.declared.node.Ref.TheVariants.{Imm, Node as At}
+use Rattle.newt_graph.specs.declared.node.Node.{Node}
+use Rattle.newt_graph.specs.declared.node.Node.TheVariants.{Symbol, Str, Binary, Large, Array, Frame}
+use Rattle.newt_graph.specs.Graph.{RawGraph}
+use Rattle.newt_spec_graph.specs.Graph.{object}
+use Rattle.newt_spec_store.specs.Store.{Entry, Soup, Store, entry_of}
+use Rattle.newt_spec_query.specs.Tags.{symbol_name, if_given}
+use Rattle.newt_spec_query.specs.Spec.{every, keep}
+use Rattle.newt_spec_world.specs.World.{World, mounted}
+
+pub record Alias : Type 0 where
+  pub store : ℕ
+  pub soup : ℕ
+  pub uid : ℕ
+
+-- an integer that is not negative
+abbrev pub natural : Ref → Option ℕ
+natural (Imm (pos w)) = if w % 4 == 0 then Some (w / 4) else None
+natural _ = None
+
+-- an array of class alias with three such numbers
+abbrev pub alias_of : RawGraph → Option Alias
+alias_of g = elim (object g.nodes g.root) [
+  | Some (Array (Some class) (s ∷ p ∷ u ∷ [])) ↦
+      if if_given (same_name (codes "alias")) (symbol_name g.nodes (At class)) then
+      option_and_then (λ a. option_and_then (λ b. option_map (λ c. record { store = a; soup = b; uid = c }) (natural u)) (natural p)) (natural s)
+      else None
+  | _ ↦ None
+]
+
+-- ---- the entry that an alias names
+
+pub record Spot : Type 0 where
+  pub unit : ℕ
+  pub soup : Soup
+  pub entry : Entry
+
+abbrev pub resolved : World → Alias → Option Spot
+resolved w a =
+    option_and_then (λ m. option_and_then (λ p. option_map (λ e. record { unit = m.0; soup = p; entry = e })
+    (entry_of a.uid p)) (find (λ p. p.sig == a.soup) m.1.soups))
+    (find (λ m. m.1.sig == a.store) (mounted w))

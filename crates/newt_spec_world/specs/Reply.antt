@@ -1,0 +1,111 @@
+-- Replies, and their texts.
+use Rattle.std.specs.Prelude.{ℕ, Bool, ◌||◌, ◌==◌, List, [], ◌∷◌, ◌++◌, map, flat_map, Option, Some, None, codes, if◌then◌else◌}
+use Rattle.std.specs.List.{list_any, join_with_byte}
+use Rattle.newt_base.specs.Text.{decimal_text, hex_text}
+use Rattle.newt_base.specs.declared.Refusal.{Refusal}
+use Rattle.newt_base.specs.Refusals.{refusal_text}
+use Rattle.newt_graph.specs.Graph.{RawGraph}
+use Rattle.newt_spec_graph.specs.Nsof.{nsof}
+use Rattle.newt_spec_graph.specs.Literal.{literal, escaped}
+use Rattle.newt_spec_store.specs.declared.Kind.{Kind}
+use Rattle.newt_spec_store.specs.declared.Kind.TheVariants as kind
+use Rattle.newt_spec_store.specs.declared.Order.{Order}
+use Rattle.newt_spec_store.specs.declared.Order.TheVariants as order
+use Rattle.newt_spec_store.specs.Keys.{Path, IndexSpec, IndexPart}
+use Rattle.newt_spec_store.specs.Store.{TagTable}
+
+pub data Reply : Type 0 where
+  done : Reply
+  number : ℕ → Reply
+  added : ℕ → ℕ → Reply
+  store : ℕ → List ℕ → Reply
+  stores : List (ℕ × ℕ × List ℕ) → Reply
+  soups : List (List ℕ × ℕ × ℕ) → Reply
+  indexes : List IndexSpec → Reply
+  tags : Option TagTable → Reply
+  hex : List ℕ → Reply
+  nsof_of : RawGraph → Reply
+  literal_of : RawGraph → Reply
+  timed : ℕ → RawGraph → Reply
+  timed_nsof : ℕ → RawGraph → Reply
+  alias : ℕ → ℕ → ℕ → Reply
+  where_is : ℕ → List ℕ → ℕ → Reply
+  current : ℕ → ℕ → ℕ → RawGraph → Reply
+  deleted : Reply
+  nil : Reply
+  begin : Reply
+  «end» : Reply
+  refused : Refusal → Reply
+
+-- ---- fields
+
+-- a name in quotes where it holds a space, a quote or a backslash
+abbrev pub name_field : List ℕ → List ℕ
+name_field name =
+    if list_any (λ c. (c == 32) || (c == 34) || (c == 92)) name then codes "\"" ++ flat_map (escaped (codes "\"\\")) name ++ codes "\"" else name
+
+-- the items with a comma and a space between each two
+abbrev pub items : List (List ℕ) → List ℕ
+items [] = []
+items (x ∷ []) = x
+items (x ∷ y ∷ xs) = x ++ codes ", " ++ items (y ∷ xs)
+
+abbrev pub spaced : List (List ℕ) → List ℕ
+spaced = join_with_byte 32
+
+abbrev pub path_field : Path → List ℕ
+path_field = join_with_byte 46
+
+abbrev pub kind_word : Kind → List ℕ
+kind_word kind.Text = codes "string"
+kind_word kind.Int = codes "int"
+kind_word kind.Char = codes "char"
+kind_word kind.Symbol = codes "symbol"
+
+abbrev pub direction_word : Order → List ℕ
+direction_word order.Ascend = codes "ascend"
+direction_word order.Descend = codes "descend"
+
+abbrev pub part_field : IndexPart → List ℕ
+part_field p = path_field p.path ++ codes ":" ++ kind_word p.kind ++ codes ":" ++ direction_word p.direction
+
+abbrev pub alias_text : ℕ → ℕ → ℕ → List ℕ
+alias_text s p uid =
+    codes "[alias: " ++ items (decimal_text s ∷ decimal_text p ∷ decimal_text uid ∷ []) ++ codes "]"
+
+-- ---- texts
+
+-- an empty field is left out with its space
+abbrev pub field : List ℕ → List ℕ
+field [] = []
+field (c ∷ cs) = 32 ∷ c ∷ cs
+
+abbrev pub ok : List (List ℕ) → List ℕ
+ok fields = codes "ok" ++ flat_map field fields
+
+abbrev pub reply_line : Reply → List ℕ
+reply_line done = ok []
+reply_line (number n) = ok (decimal_text n ∷ [])
+reply_line (added u uid) = ok (decimal_text u ∷ decimal_text uid ∷ [])
+reply_line (store sig name) = ok (decimal_text sig ∷ name_field name ∷ [])
+reply_line (stores rows) = ok (items (map (λ r. spaced (decimal_text r.0 ∷ decimal_text r.1 ∷ name_field r.2 ∷ [])) rows) ∷ [])
+reply_line (soups rows) = ok (items (map (λ r. spaced (name_field r.0 ∷ decimal_text r.1 ∷ decimal_text r.2 ∷ [])) rows) ∷ [])
+reply_line (indexes specs) = ok (items (map (λ spec. spaced (map part_field spec)) specs) ∷ [])
+reply_line (tags None) = ok []
+reply_line (tags (Some t)) = ok (path_field t.path ∷ t.symbols)
+reply_line (hex bytes) = ok (hex_text bytes ∷ [])
+reply_line (nsof_of g) = ok (hex_text (nsof g) ∷ [])
+reply_line (literal_of g) = ok (literal g ∷ [])
+reply_line (timed t g) = ok (decimal_text t ∷ literal g ∷ [])
+reply_line (timed_nsof t g) = ok (decimal_text t ∷ hex_text (nsof g) ∷ [])
+reply_line (alias s p uid) = ok (alias_text s p uid ∷ [])
+reply_line (where_is u name uid) = ok (decimal_text u ∷ name_field name ∷ decimal_text uid ∷ [])
+reply_line (current u uid t g) = ok (decimal_text u ∷ decimal_text uid ∷ decimal_text t ∷ literal g ∷ [])
+reply_line deleted = ok (codes "deleted" ∷ [])
+reply_line nil = ok (codes "nil" ∷ [])
+reply_line begin = ok (codes "begin" ∷ [])
+reply_line «end» = ok (codes "end" ∷ [])
+reply_line (refused r) = codes "error " ++ refusal_text r
+
+abbrev pub reply_text : Reply → List ℕ
+reply_text r = reply_line r ++ 10 ∷ []
