@@ -1,6 +1,7 @@
 //! Names of stores and soups.
-ghost use Rattle.std.specs.Prelude.{◌≡◌, ◌↔◌, Bool, false, IfOk, IsErrOf, IsTrue};
-ghost use Rattle.newt_base.specs.Names.{is_name};
+ghost use Rattle.std.specs.Prelude.{◌≡◌, ◌↔◌, false, IfOk, IsErrOf, IsTrue};
+ghost use Rattle.std.specs.List.{list_all};
+ghost use Rattle.newt_base.specs.Names.{is_name, is_printable};
 
 use std::alloc::{AllocError, Global};
 use std::marker::Model;
@@ -84,5 +85,11 @@ impl Name {
 fn has_the_form(bytes: &[u8]) -> bool
     ensures { result ≡ is_name bytes.now }
 {
-    1 <= bytes.len() && bytes.len() <= MOST && bytes.iter().all(|b| FIRST <= *b && *b <= LAST)
+    1 <= bytes.len() && bytes.len() <= MOST && all_printable(bytes)
+}
+
+fn all_printable(bytes: &[u8]) -> bool
+    ensures { result ≡ list_all is_printable bytes.now }
+{
+    bytes.iter().all(|b| FIRST <= *b && *b <= LAST)
 }
