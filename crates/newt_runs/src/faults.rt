@@ -21,7 +21,11 @@ fn tells_which_call_failed(rt: HostRuntime) -> Result<(), AllocError> {
     ] {
         let mut host = host(alloc, SCRIPT, 100)?;
         host.fail(call)?;
-        assert_eq!(rt; run(alloc, &words(alloc, "run")?, &mut host), status, "at call {call}");
+        assert_eq!(rt;
+            run(alloc, &words(alloc, "run")?, &mut host),
+            status,
+            "at call {call}"
+        );
         assert_eq!(rt; host.output(), output, "at call {call}");
     }
     Ok(())
@@ -37,9 +41,16 @@ fn halts_at_each_call_that_fails(rt: HostRuntime) -> Result<(), AllocError> {
             let mut host = host(alloc, SCRIPT, piece)?;
             host.fail(call)?;
             let status = run(alloc, &words(alloc, "run")?, &mut host);
-            assert!(rt; matches!(status, Status::Source | Status::Sink), "at call {call}");
+            assert!(rt;
+                matches!(status, Status::Source | Status::Sink),
+                "at call {call}"
+            );
             assert!(rt; OUTPUT.starts_with(host.output()), "at call {call}");
-            assert_eq!(rt; host.calls(), call.saturating_add(1), "no call after the one that fails");
+            assert_eq!(rt;
+                host.calls(),
+                call.saturating_add(1),
+                "no call after the one that fails"
+            );
         }
     }
     Ok(())

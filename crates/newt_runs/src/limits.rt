@@ -23,12 +23,30 @@ fn padded(
 fn reads_lines_up_to_their_limit(rt: HostRuntime) -> Result<(), AllocError> {
     let alloc = rt.alloc();
     for (before, byte, length, behind, output) in [
-        (b"time 5".as_slice(), b' ', 140_000usize, b"\n".as_slice(), b"ok\n".as_slice()),
+        (
+            b"time 5".as_slice(),
+            b' ',
+            140_000usize,
+            b"\n".as_slice(),
+            b"ok\n".as_slice(),
+        ),
         (b"time 5", b' ', 140_000, b"\r\n", b"ok\n"),
         (b"time 5", b' ', 140_001, b"\n", b"error 12 longline\n"),
         (b"nsof 02", b'0', 140_001, b"", b"error 12 longline\n"),
-        (b"walk", b'x', 140_001, b"\nquit\n", b"error 12 longline\nok\n"),
-        (b"quit", b' ', 140_001, b"\nquit\n", b"error 12 longline\nok\n"),
+        (
+            b"walk",
+            b'x',
+            140_001,
+            b"\nquit\n",
+            b"error 12 longline\nok\n",
+        ),
+        (
+            b"quit",
+            b' ',
+            140_001,
+            b"\nquit\n",
+            b"error 12 longline\nok\n",
+        ),
         (b"%", b'x', 140_001, b"\nquit\n", b"ok\n"),
         (b"", b' ', 140_001, b"\nquit\n", b"ok\n"),
         (b"", b'\t', 140_001, b"quit\n", b"error 12 longline\n"),
@@ -45,14 +63,50 @@ fn reads_lines_up_to_their_limit(rt: HostRuntime) -> Result<(), AllocError> {
 fn reads_inputs_up_to_their_limit(rt: HostRuntime) -> Result<(), AllocError> {
     let alloc = rt.alloc();
     for (before, length, behind, status, output) in [
-        (b"".as_slice(), LIMIT, b"".as_slice(), Status::Ok, b"".as_slice()),
+        (
+            b"".as_slice(),
+            LIMIT,
+            b"".as_slice(),
+            Status::Ok,
+            b"".as_slice(),
+        ),
         (b"", LIMIT, b"%", Status::TooLong, b""),
         (b"quit\n", LIMIT, b"%", Status::Ok, b"ok\n"),
-        (b"quit now\n", LIMIT, b"%", Status::TooLong, b"error 11 line\n"),
-        (b"nsof 020A\n", LIMIT - 1, b"\nx", Status::TooLong, b"ok 020A\n"),
-        (b"nsof 020A\n", LIMIT - 6, b"\nquit\nx", Status::Ok, b"ok 020A\nok\n"),
-        (b"nsof 020A\n", LIMIT - 5, b"\nquit\n", Status::TooLong, b"ok 020A\n"),
-        (b"nsof 020A\n", LIMIT - 5, b"\nquit", Status::Ok, b"ok 020A\nok\n"),
+        (
+            b"quit now\n",
+            LIMIT,
+            b"%",
+            Status::TooLong,
+            b"error 11 line\n",
+        ),
+        (
+            b"nsof 020A\n",
+            LIMIT - 1,
+            b"\nx",
+            Status::TooLong,
+            b"ok 020A\n",
+        ),
+        (
+            b"nsof 020A\n",
+            LIMIT - 6,
+            b"\nquit\nx",
+            Status::Ok,
+            b"ok 020A\nok\n",
+        ),
+        (
+            b"nsof 020A\n",
+            LIMIT - 5,
+            b"\nquit\n",
+            Status::TooLong,
+            b"ok 020A\n",
+        ),
+        (
+            b"nsof 020A\n",
+            LIMIT - 5,
+            b"\nquit",
+            Status::Ok,
+            b"ok 020A\nok\n",
+        ),
     ] {
         let script = padded(alloc, before, b'%', length, behind)?;
         let mut host = host(alloc, &script, 1_000_000)?;

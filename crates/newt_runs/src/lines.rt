@@ -74,7 +74,8 @@ fn answers_a_last_line_without_its_end(rt: HostRuntime) -> Result<(), AllocError
 
 #[test]
 fn takes_any_byte_in_a_line(rt: HostRuntime) -> Result<(), AllocError> {
-    let script = b"\x00\nnsof 02\x000A\n\xFF\xFE\nnsof 020A\xFF\nnsof\x00020A\nnsof 020A\rx\nnsof 020A\r\r\n";
+    let script =
+        b"\x00\nnsof 02\x000A\n\xFF\xFE\nnsof 020A\xFF\nnsof\x00020A\nnsof 020A\rx\nnsof 020A\r\r\n";
     let output = b"error 10 command
 error 1 malformed
 error 10 command
@@ -124,7 +125,10 @@ fn ends_at_a_well_formed_quit(rt: HostRuntime) -> Result<(), AllocError> {
         ),
         (b" quit \t\r\nnsof 020A\n", b"ok\n"),
         (b"quit now\nnsof 020A\n", b"error 11 line\nok 020A\n"),
-        (b"% quit\nQuit\nquit.\n", b"error 10 command\nerror 10 command\n"),
+        (
+            b"% quit\nQuit\nquit.\n",
+            b"error 10 command\nerror 10 command\n",
+        ),
     ] {
         expect_replies(&rt, rt.alloc(), script, output)?;
     }

@@ -35,7 +35,11 @@ pub fn expect_replies(
 ) -> Result<(), AllocError> {
     for piece in [1u32, 2, 3, 7, 100_000] {
         let mut host = host(alloc, script, piece)?;
-        assert_eq!(rt; run(alloc, &words(alloc, "run")?, &mut host), Status::Ok, "in pieces of {piece}");
+        assert_eq!(rt;
+            run(alloc, &words(alloc, "run")?, &mut host),
+            Status::Ok,
+            "in pieces of {piece}"
+        );
         assert_eq!(rt; host.output(), output, "in pieces of {piece}");
     }
     Ok(())
