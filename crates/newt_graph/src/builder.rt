@@ -54,6 +54,13 @@ impl Builder {
         }
     }
 
+    /// How many nodes there are: the number of the next one.
+    pub fn len(&self) -> u32
+        ensures { result ≡ length self.now }
+    {
+        self.nodes.len() as u32
+    }
+
     /// The number of the symbol of this name but for ASCII case: the first one, which keeps its spelling, or a new one.
     #[tactic(auto, unfolding(crate::specs::Draft::with_symbol))]
     pub fn symbol(&mut self, name: &[u8]) -> Result<u32, GraphFault>
