@@ -2,7 +2,8 @@
 
 use crate::list::{Name, Parts, Path, Paths, Syms};
 use newt_graph::{Bytes, Graph};
-use newt_base::{Sig, Uid, Unit};
+use newt_base::{Sig, Uid};
+use newt_host::Unit;
 use newt_spec_store::{Kind, Order};
 
 /// A part of an index declaration as it is written. Its kind is none for a real.
