@@ -15,7 +15,8 @@ use Rattle.newt_graph.specs.declared.node.Ref.{Ref}
 use Rattle.newt_graph.specs.declared.node.Ref.TheVariants as refs
 use Rattle.newt_graph.specs.Graph.{RawGraph, IsGraph, WalkLabel, WalkLabels, Walk, Walks, payload}
 use Rattle.newt_graph.specs.Raw.{renamed_ref, renamed_class, renamed, labels_of, values_of, IsSeenBy, IsNormalForm}
-use Rattle.newt_graph.specs.Meeting.{◌>>=◌, Seen, Step, place, is_none, is_new, added, meet_label, meet_labels, meet_class, meet_each, within, enter, meet_by, meet, Once, number, moved, limited, numbered, normal_form, Gives}
+use Rattle.newt_graph.specs.Steps.{◌>>=◌}
+use Rattle.newt_graph.specs.Meeting.{Seen, Step, place, is_none, is_new, added, meet_label, meet_labels, meet_class, meet_each, within, enter, meet_by, meet, Once, number, moved, limited, numbered, normal_form, Gives}
 use Rattle.newt_graph.proofs.Place.{place_get, place_some, place_none}
 use Rattle.newt_graph.proofs.Grows.{some_is, get_seam, node_at}
 use Rattle.newt_graph.proofs.Form.{map_at, at_map, any_at, back, start, number_is}

@@ -12,7 +12,8 @@ use Rattle.newt_graph.specs.declared.node.Ref.{Ref}
 use Rattle.newt_graph.specs.declared.node.Ref.TheVariants as refs
 use Rattle.newt_graph.specs.Graph.{RawGraph, IsWord, IsNamed, IsSymbol, IsAlike, IsNode, IsFrame, AreFoldedOnce, IsGraph, Walk, payload}
 use Rattle.newt_graph.specs.Raw.{renamed_ref, renamed_class, renamed, labels_of, values_of, IsValue, IsRaw, IsSeenBy, IsNormalForm}
-use Rattle.newt_graph.specs.Meeting.{◌>>=◌, Seen, Step, place, meet, Once, number, found, moved, limited, numbered, normal_form}
+use Rattle.newt_graph.specs.Steps.{◌>>=◌}
+use Rattle.newt_graph.specs.Meeting.{Seen, Step, place, meet, Once, number, found, moved, limited, numbered, normal_form}
 use Rattle.newt_graph.proofs.Place.{place_within, place_get}
 use Rattle.newt_graph.proofs.Grows.{bind_some, some_is, Has, HasRef, Inverts, node_at, shown, ClosedNode, Closed, Grown, RawNodes, node_here, some_at, value_reads}
 

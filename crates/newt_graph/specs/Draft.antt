@@ -7,7 +7,8 @@ use Rattle.newt_graph.specs.declared.node.Node.TheVariants.{Symbol, Str, Binary,
 use Rattle.newt_graph.specs.declared.node.Ref.{Ref}
 use Rattle.newt_graph.specs.Graph.{IsName, IsText, IsData, IsSymbol, AreFoldedOnce, payload}
 use Rattle.newt_graph.specs.Raw.{labels_of, values_of, IsValue}
-use Rattle.newt_graph.specs.Meeting.{place, ◌>>=◌}
+use Rattle.newt_graph.specs.Meeting.{place}
+use Rattle.newt_graph.specs.Steps.{◌>>=◌}
 
 -- the rules of a node that its own parts show
 abbrev pub IsPart : Node → Type 0
