@@ -1,9 +1,9 @@
 //! The labels of a graph's objects.
-ghost use Rattle.std.specs.Prelude.{◌≡◌, ◌≤◌, ◌++◌, IfOk, fold, length, map};
+ghost use Rattle.std.specs.Prelude.{◌≡◌, ◌≤◌, ◌++◌, IfOk, fold, length, map, replicate, slice_index_or};
 ghost use Rattle.newt_graph.specs.Graph.{RawGraph};
 ghost use Rattle.newt_graph.specs.Raw.{labels_of, values_of};
 ghost use Rattle.newt_lit.specs.Printed as printed;
-ghost use Rattle.newt_lit_print.specs.Meetings.{met, met_by};
+ghost use Rattle.newt_lit_print.specs.Meetings.{is_more, met, met_by};
 ghost use Rattle.newt_graph.specs.declared.node.Ref.TheVariants as refs;
 
 use newt_graph::{Node, Ref};
@@ -93,6 +93,13 @@ fn count_meetings(alloc: Global, nodes: &[Node], root: Ref) -> Result<Vec<Meetin
     Ok(meetings)
 }
 
+/// Whether more than one reference leads to node n.
+fn is_met_again(meetings: &[Meetings], n: usize) -> bool
+    ensures { result ≡ is_more (slice_index_or meetings.now n Meetings.None) }
+{
+    n < meetings.len() && matches!(meetings[n], Meetings::More)
+}
+
 /// The label of each object, from 0 on, where it has one.
 pub fn labels(alloc: Global, nodes: &[Node], root: Ref) -> Result<Vec<Option<u32>>, AllocError>
     requires { length nodes.now ≤ 65535 }
@@ -101,8 +108,8 @@ pub fn labels(alloc: Global, nodes: &[Node], root: Ref) -> Result<Vec<Option<u32
     let meetings = count_meetings(alloc, nodes, root)?;
     let mut labels = Vec::new(alloc);
     let mut next = 0;
-    for (node, met) in nodes.iter().zip(&meetings) {
-        if !is_symbol(node) && matches!(met, Meetings::More) {
+    for (n, node) in nodes.iter().enumerate() {
+        if !is_symbol(node) && is_met_again(&meetings, n) {
             labels.push(Some(next))?;
             next += 1;
         } else {

@@ -1,8 +1,10 @@
 //! Names, words, strings and binaries as they are printed.
-ghost use Rattle.std.specs.Prelude.{◌≡◌, ◌++◌, OnOk, flat_map, codes};
-ghost use Rattle.newt_base.specs.Names as names;
+ghost use Rattle.std.specs.Prelude.{◌≡◌, ◌++◌, OnOk, decimal, flat_map, codes};
 ghost use Rattle.newt_base.specs.Text as text;
 ghost use Rattle.newt_lit.specs.Printed as printed;
+ghost use Rattle.newt_lit.specs.Words as words;
+ghost use Rattle.std.specs.Fmt.{signed_decimal};
+ghost use Rattle.std.specs.List.{list_all};
 
 use newt_base::hex_text;
 use std::alloc::{AllocError, Global};
@@ -14,24 +16,32 @@ const TRUE: u32 = 26;
 /// Words of characters are below this bound: the greatest character is 65,535.
 const CHARACTERS: u32 = 1 << 20;
 
-fn starts_identifier(c: u8) -> bool
-    ensures { result ≡ names.starts_identifier c }
+/// A letter, a digit or `_`.
+fn is_word(c: u8) -> bool
+    ensures { result ≡ words.is_word c }
 {
-    c.is_ascii_alphabetic() || c == b'_'
+    c.is_ascii_alphanumeric() || c == b'_'
 }
 
-fn is_identifier(name: &[u8]) -> bool
-    ensures { result ≡ names.is_identifier name.now }
+fn are_words(name: &[u8]) -> bool
+    ensures { result ≡ list_all words.is_word name.now }
+{
+    name.iter().all(|c| is_word(*c))
+}
+
+fn begins_name(name: &[u8]) -> bool
+    ensures { result ≡ words.begins_name name.now }
 {
     match name {
         [] => false,
-        [first, rest @ ..] => {
-            starts_identifier(*first)
-                && rest
-                    .iter()
-                    .all(|c| starts_identifier(*c) || c.is_ascii_digit())
-        }
+        [first, ..] => !first.is_ascii_digit(),
     }
+}
+
+fn is_identifier(name: &[u8]) -> bool
+    ensures { result ≡ words.is_identifier name.now }
+{
+    begins_name(name) && are_words(name) && name.len() < 255
 }
 
 /// A character, behind a backslash where it is one of the marks.
@@ -99,7 +109,7 @@ fn character(alloc: Global, out: &mut Vec<u8>, c: u16) -> Result<(), AllocError>
 
 /// A number in decimal.
 pub fn decimal(alloc: Global, out: &mut Vec<u8>, n: u32) -> Result<(), AllocError>
-    ensures { OnOk result (out.new.items ≡ out.old.items ++ text.decimal_text n) }
+    ensures { OnOk result (out.new.items ≡ out.old.items ++ decimal n) }
 {
     let digits = format!(in alloc; "{n}")?;
     out.extend_from_slice(digits.as_bytes())?;
@@ -108,7 +118,7 @@ pub fn decimal(alloc: Global, out: &mut Vec<u8>, n: u32) -> Result<(), AllocErro
 
 /// An integer in decimal.
 fn integer(alloc: Global, out: &mut Vec<u8>, n: i32) -> Result<(), AllocError>
-    ensures { OnOk result (out.new.items ≡ out.old.items ++ text.signed_text n) }
+    ensures { OnOk result (out.new.items ≡ out.old.items ++ signed_decimal n) }
 {
     let digits = format!(in alloc; "{n}")?;
     out.extend_from_slice(digits.as_bytes())?;
@@ -119,7 +129,7 @@ fn integer(alloc: Global, out: &mut Vec<u8>, n: i32) -> Result<(), AllocError>
 pub fn word(alloc: Global, out: &mut Vec<u8>, word: i32) -> Result<(), AllocError>
     ensures { OnOk result (out.new.items ≡ out.old.items ++ printed.word_text word) }
 {
-    let bits = word as u32;
+    let bits = word.cast_unsigned();
     if bits % 4 == 0 {
         return integer(alloc, out, word.div_euclid(4));
     }

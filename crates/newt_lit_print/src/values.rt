@@ -38,8 +38,11 @@ impl Source<'_> {
     fn symbol(&self, page: &mut Page, n: u32) -> Result<(), AllocError>
         ensures { OnOk result (page.new ≡ spelled page.old (plain (printed.symbol_text (slice_get self.now.nodes.now n)))) }
     {
-        match self.nodes.get(n as usize) {
-            Some(Node::Symbol(name)) => page.name(name.list()),
+        if n as usize >= self.nodes.len() {
+            return Ok(());
+        }
+        match self.node(n) {
+            Node::Symbol(name) => page.name(name.list()),
             _ => Ok(()),
         }
     }
