@@ -171,12 +171,30 @@ impl Source<'_> {
     ) -> Result<(), AllocError>
         ensures { OnOk result (page.new ≡ spelled page.old (printed.list_text 125 (map (printed.field_text self.now.nodes.now (printed.value_at self.now.nodes.now self.now.labels.now levels)) (zip tags.now values.now)))) }
     {
-        if let ([tag, tags @ ..], [value, values @ ..]) = (tags, values) {
+        let [tag, tags @ ..] = tags else {
+            return page.put(b"}");
+        };
+        let [value, values @ ..] = values else {
+            return page.put(b"}");
+        };
+        self.field(page, *tag, *value, levels)?;
+        self.more_fields(page, tags, values, levels)
+    }
+
+    /// The slots behind the first, and the closing brace.
+    #[cycle(value)]
+    fn more_fields(
+        &self,
+        page: &mut Page,
+        tags: &[u32],
+        values: &[Ref],
+        levels: u8,
+    ) -> Result<(), AllocError>
+        ensures { OnOk result (page.new ≡ spelled page.old (printed.more_text 125 (map (printed.field_text self.now.nodes.now (printed.value_at self.now.nodes.now self.now.labels.now levels)) (zip tags.now values.now)))) }
+    {
+        for (tag, value) in tags.iter().zip(values) {
+            page.put(b", ")?;
             self.field(page, *tag, *value, levels)?;
-            for (tag, value) in tags.iter().zip(values) {
-                page.put(b", ")?;
-                self.field(page, *tag, *value, levels)?;
-            }
         }
         page.put(b"}")
     }
