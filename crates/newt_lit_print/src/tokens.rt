@@ -11,6 +11,7 @@ use std::alloc::{AllocError, Global};
 
 /// The immediate words of nil and true.
 const NIL: u32 = 2;
+
 const TRUE: u32 = 26;
 
 /// Words of characters are below this bound: the greatest character is 65,535.

@@ -66,12 +66,7 @@ impl Source<'_> {
     }
 
     /// The class of an array and its colon, with a space where a value follows.
-    fn class(
-        &self,
-        page: &mut Page,
-        class: Option<u32>,
-        values: &[Ref],
-    ) -> Result<(), AllocError>
+    fn class(&self, page: &mut Page, class: Option<u32>, values: &[Ref]) -> Result<(), AllocError>
         ensures { OnOk result (page.new ≡ spelled page.old (plain (printed.class_text self.now.nodes.now class values.now))) }
     {
         let Some(n) = class else {

@@ -12,7 +12,7 @@ returns-then-bits-lt-CHARACTERS c =
     let bits : c.cast_unsigned-bits.result ≡ cast_unsigned w32 c.args.word = c.cast_unsigned-bits.ensures ∙ ap (cast_unsigned w32) (to_z-of_z w32 c.args.word c.ranges.word) in
     on_ok_weaker c.character.result (λ e.
     e ∙ ap (λ (text : List ℕ). c.args.out.now.items ++ text)
-        (sym (character_word c.args.word c.cast_unsigned-bits.result bits c.if-bits-eq0.false c.if-bits-eq-NIL.false c.if-bits-eq-TRUE.false c.if-bits-eq6.true c.if-bits-lt-CHARACTERS.true)))
+    (sym (character_word c.args.word c.cast_unsigned-bits.result bits c.if-bits-eq0.false c.if-bits-eq-NIL.false c.if-bits-eq-TRUE.false c.if-bits-eq6.true c.if-bits-lt-CHARACTERS.true)))
     c.character.ensures
 
 pub returns : goal.returns
