@@ -1,0 +1,26 @@
+-- The room of a journal is what the tail of the image says.
+use Rattle.std.proofs.Common.{◌≡◌, ◌≢◌, ℕ, ◌+◌, ◌-◌, ◌*◌, ◌<◌, ◌≤◌, Bool, true, false, if◌then◌else◌, List, [], ◌∷◌, ◌++◌, length, replicate, refl, sym, ◌∙◌, ap, subst, arith, length-append}
+use Rattle.newt_host.specs.Moments.{Moment, image}
+use Rattle.newt_image.specs.Records.{tail, bank_size, IsErased}
+use Rattle.newt_journal.specs.Bank.{bank_number, start_of, limit_of}
+use Rattle.newt_journal.specs.Journal.{room, written, IsHeld, IsRoom}
+use Rattle.newt_journal.specs.declared.journal.Journal.{Journal}
+use Rattle.newt_journal.proofs.Steps.{length-bank}
+use Rattle.newt_journal.proofs.Tail.{holds-tail}
+
+closed-room : (closed : Bool) (n : ℕ) → (closed ≡ false → ⊥) → (if closed then 0 else n) ≡ 0
+closed-room true n shut = refl
+closed-room false n shut = absurd (shut refl)
+
+module _ (j : Journal) (now : Moment) (held : IsHeld j now) where
+  tail_is : tail (image j.unit now) ≡ held.behind
+  tail_is = holds-tail j.blocks j.bank j.enough j.not_too_many held.payloads held.behind (image j.unit now) held.bank held.ends
+
+  long : length held.behind ≡ limit_of j.blocks j.bank - j.end
+  long = omega (arith, held.end, length-bank j.blocks j.bank j.enough j.not_too_many (written held.payloads ++ held.behind) (image j.unit now) held.bank, length-append (written held.payloads) held.behind)
+
+  pub room_is : IsRoom (room j) (tail (image j.unit now))
+  room_is = subst (λ (l : List ℕ). IsRoom (room j) l) (sym tail_is) (record {
+    erased = λ erased. ap (λ (b : Bool). if b then 0 else (limit_of j.blocks j.bank - j.end) - 5) (held.not_closed erased) ∙ ap (λ (n : ℕ). n - 5) (sym long);
+    closed = λ not_erased. closed-room j.closed ((limit_of j.blocks j.bank - j.end) - 5) (λ is_open. not_erased (held.blank is_open));
+  })

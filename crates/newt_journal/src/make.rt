@@ -1,0 +1,72 @@
+// A unit becomes a journal.
+ghost use Rattle.std.specs.Prelude.{IsTrue, ◌≡◌, ◌≤◌, OnErr, OnOk};
+ghost use Rattle.newt_host.specs.Moments.{image, IsDurable, SameOutside, Leaves};
+ghost use Rattle.newt_host.specs.Outside.{HasBlocks, Touches, Spends, Rose};
+ghost use Rattle.newt_journal.specs.Bank.{bank_number};
+ghost use Rattle.newt_image.specs.Records.{AllVoteFor};
+ghost use Rattle.newt_journal.specs.Fresh.{Anything};
+
+use crate::fresh::begin_bank;
+use crate::vote::rewrite_vote;
+use crate::{Bank, Journal};
+use newt_host::{Failed, Host, Unit};
+
+/// Makes all three blocks vote for a bank, whatever they voted for before.
+pub(crate) fn cast_votes<H: Host>(host: &mut H, unit: Unit, bank: Bank, blocks: u32) -> Result<(), Failed>
+    requires enough { 13 ≤ blocks }
+    requires few { blocks ≤ 4099 }
+    requires has { HasBlocks unit blocks (H.outside host.old) }
+    requires durable { IsTrue H.told → IsDurable unit (H.outside host.old).now }
+    ensures alike { IsTrue H.told → OnOk result (AllVoteFor (bank_number bank) (image unit (H.outside host.new).now)) }
+    ensures kept { IsTrue H.told → OnOk result (SameOutside 0 12288 (image unit (H.outside host.old).now) (image unit (H.outside host.new).now)) }
+    ensures durable { IsTrue H.told → OnOk result (IsDurable unit (H.outside host.new).now) }
+    ensures any_moment { IsTrue H.told → Leaves unit Anything (H.outside host.old).now (H.outside host.new).now }
+    ensures alone { Touches unit (H.outside host.old) (H.outside host.new) }
+    ensures costs { Spends unit 3 0 (H.outside host.old) (H.outside host.new) }
+    ensures cause { OnErr result (Rose ((H.outside host.old).dev_faults unit) ((H.outside host.new).dev_faults unit)) }
+{
+    rewrite_vote(host, unit, 0, bank, blocks)?;
+    rewrite_vote(host, unit, 1, bank, blocks)?;
+    rewrite_vote(host, unit, 2, bank, blocks)?;
+    Ok(())
+}
+
+impl Journal {
+    ghost use Rattle.std.specs.Prelude.{◌+◌, ◌-◌, ◌∷◌, [], false, length, replicate, Some, IfOk};
+    ghost use Rattle.newt_image.specs.Records.{records, tail, bank_size};
+    ghost use Rattle.newt_journal.specs.Journal.{Stands};
+    ghost use Rattle.newt_journal.specs.declared.bank.Bank.TheVariants.{First};
+
+    /// Makes a unit a journal of one record, in the first bank, whatever it held before. While it runs nothing is said of what a crash leaves on the unit.
+    pub fn format<H: Host>(host: &mut H, unit: Unit, first: &[u8]) -> Result<Journal, Failed>
+        requires enough { 13 ≤ (H.outside host.old).blocks unit }
+        requires few { (H.outside host.old).blocks unit ≤ 4099 }
+        requires fits { 21 + length first.now ≤ bank_size ((H.outside host.old).blocks unit) }
+        ensures journal { IfOk result (λ journal. Stands H.told journal (H.outside host.new) × (journal.unit ≡ unit) × (journal.bank ≡ First) × (journal.closed ≡ false)) }
+        ensures one { IsTrue H.told → OnOk result (records (image unit (H.outside host.new).now) ≡ Some (first.now ∷ [])) }
+        ensures alike { IsTrue H.told → OnOk result (AllVoteFor 0 (image unit (H.outside host.new).now)) }
+        ensures blank { IsTrue H.told → OnOk result (tail (image unit (H.outside host.new).now) ≡ replicate (bank_size ((H.outside host.old).blocks unit) - 21 - length first.now) 255) }
+        ensures durable { IsTrue H.told → OnOk result (IsDurable unit (H.outside host.new).now) }
+        // All else is as it was, whenever it is cut off.
+        ensures any_moment { IsTrue H.told → Leaves unit Anything (H.outside host.old).now (H.outside host.new).now }
+        ensures alone { Touches unit (H.outside host.old) (H.outside host.new) }
+        ensures costs { Spends unit (24 + length first.now) 0 (H.outside host.old) (H.outside host.new) }
+        ensures cause { OnErr result (Rose ((H.outside host.old).dev_faults unit) ((H.outside host.new).dev_faults unit)) }
+    {
+        let blocks = host.blocks(unit);
+        let len = first.len() as u32;
+        let start = Bank::First.start(blocks);
+        host.sync(unit)?;
+        begin_bank(host, unit, Bank::First, len, blocks)?;
+        host.program(unit, start + 21, first)?;
+        host.sync(unit)?;
+        cast_votes(host, unit, Bank::First, blocks)?;
+        Ok(Journal {
+            unit,
+            blocks,
+            bank: Bank::First,
+            end: start + 21 + len,
+            closed: false,
+        })
+    }
+}
