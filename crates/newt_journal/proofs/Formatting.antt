@@ -13,40 +13,13 @@ use Rattle.newt_journal.specs.declared.bank.Bank.{Bank}
 use Rattle.newt_journal.specs.declared.bank.Bank.TheVariants.{First, Second}
 use Rattle.newt_journal.specs.declared.journal.Journal.{Journal}
 use Rattle.newt_journal.proofs.Steps.{bank-fits, bank-low, bank-small, holds-records}
-use Rattle.newt_journal.proofs.Votes.{last_torn}
 use Rattle.newt_journal.proofs.Tail.{holds-tail}
 use Rattle.newt_journal.proofs.Finish.{Ends-blank}
-use Rattle.newt_journal.proofs.Turning.{four_k, vote_now}
+use Rattle.newt_journal.proofs.Casting.{alike-chosen}
 use Rattle.newt_journal.proofs.Repairing.{drop-behind}
 use Rattle.newt_journal.proofs.Beginning.{length-lead}
 use Rattle.newt_journal.proofs.Switches.{lead-record}
 use Rattle.newt_journal.proofs.Filling.{sync_filled, room_blank, write_leaves, write_filled}
-
--- three votes, whatever they were
-module _ (k : ℕ) (img_0 img_1 img_2 img_3 : List ℕ) (long : 12288 ≤ length img_0)
-  (is_1 : img_1 ≡ overwritten img_0 0 (k ∷ blank 4095)) (is_2 : img_2 ≡ overwritten img_1 4096 (k ∷ blank 4095)) (is_3 : img_3 ≡ overwritten img_2 8192 (k ∷ blank 4095)) where
-  voted : (at : ℕ) (a b : List ℕ) → at + 4096 ≤ length a → b ≡ overwritten a at (k ∷ blank 4095) → SameOutside at 4096 a b
-  voted at a b fits is = subst (λ (l : List ℕ). SameOutside at 4096 a l) (sym is)
-      (subst (λ (n : ℕ). SameOutside at n a (overwritten a at (k ∷ blank 4095))) (four_k k) (same-overwritten a at (k ∷ blank 4095) (omega (arith, four_k k, fits))))
-
-  s_1 : SameOutside 0 4096 img_0 img_1
-  s_1 = voted 0 img_0 img_1 (omega (arith, long)) is_1
-
-  s_2 : SameOutside 4096 4096 img_1 img_2
-  s_2 = voted 4096 img_1 img_2 (omega (arith, long, s_1.size)) is_2
-
-  s_3 : SameOutside 8192 4096 img_2 img_3
-  s_3 = voted 8192 img_2 img_3 (omega (arith, long, s_1.size, s_2.size)) is_3
-
-  pub cast_alike : AllVoteFor k img_3
-  cast_alike = record {
-    first = get_or-same s_3 0 (omega arith) ∙ get_or-same s_2 0 (omega arith) ∙ ap (λ (l : List ℕ). get_or l 0 0) is_1 ∙ vote_now img_0 0 k (blank 4095) (omega arith);
-    second = get_or-same s_3 4096 (omega arith) ∙ ap (λ (l : List ℕ). get_or l 4096 0) is_2 ∙ vote_now img_1 4096 k (blank 4095) (omega (arith, long, s_1.size));
-    third = ap (λ (l : List ℕ). get_or l 8192 0) is_3 ∙ vote_now img_2 8192 k (blank 4095) (omega (arith, long, s_1.size, s_2.size));
-  }
-
-  pub cast_kept : SameOutside 0 12288 img_0 img_3
-  cast_kept = same-trans (same-widen 0 4096 0 12288 s_1 (omega arith) (omega arith)) (same-trans (same-widen 4096 4096 0 12288 s_2 (omega arith) (omega arith)) (same-widen 8192 4096 0 12288 s_3 (omega arith) (omega arith)))
 
 pub anything : {u : ℕ} {P : List ℕ → Type 0} {a b : Moment} → Leaves u P a b → Leaves u Anything a b
 anything leaves = Leaves-weaken (λ left p. tt) leaves
@@ -56,9 +29,6 @@ no_call u m = Leaves-start (λ left may. tt)
 
 pub a_sync : {T E : Type 0} {u : ℕ} {result : Result T E} {a b c : Moment} → Leaves u Anything a b → Syncs u result b c → Leaves u Anything a c
 a_sync so_far synced = Leaves-sync so_far synced tt
-
-pub alike-chosen : (k : ℕ) (image : List ℕ) → k ≤ 1 → AllVoteFor k image → chosen_bank image ≡ Some k
-alike-chosen k image small alike = (λ i. chosen (alike.first i) (alike.second i) (alike.third i)) ∙ last_torn k k small
 
 module _ (u blocks : ℕ) (enough : 13 ≤ blocks) (few : blocks ≤ 4099) (base payload : List ℕ) (long : length base ≡ blocks * 4096) (fits : 21 + length payload ≤ bank_size blocks) (at : ℕ) (at_is : at ≡ start_of blocks First)
   (m1 : Moment) (filled : FilledBy (start_of blocks First) (bank_size blocks) base (lead (length payload)) (bank_size blocks - 21) (changes u m1)) where

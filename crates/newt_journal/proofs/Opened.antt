@@ -1,10 +1,11 @@
 -- A journal is opened.
-use Rattle.std.proofs.Common.{◌≡◌, ◌≢◌, ◌⊎◌, inl, inr, ℕ, zero, suc, ◌+◌, ◌-◌, ◌*◌, ◌/◌, ◌^◌, ◌<◌, ◌≤◌, ◌==◌, ◌&&◌, if◌then◌else◌, nat_le, Bool, true, false, List, [], ◌∷◌, ◌++◌, length, get_or, take, drop, replicate, Option, Some, None, MatchOption, not, refl, sym, ◌∙◌, ap, subst, arith, append_assoc, length-append, length-take, length-drop}
-use Rattle.std.proofs.lemmas.List.{take_at, drop-drop, replicate_more, length-replicate, get_or-drop, get_or-take, get_or-replicate}
+use Rattle.std.proofs.Common.{◌≡◌, ◌≢◌, ◌⊎◌, inl, inr, ℕ, zero, suc, ◌+◌, ◌-◌, ◌*◌, ◌/◌, ◌^◌, ◌<◌, ◌≤◌, ◌==◌, ◌&&◌, if◌then◌else◌, nat_le, Bool, true, false, List, [], ◌∷◌, ◌++◌, length, get_or, take, drop, replicate, Option, Some, None, IsSome, MatchOption, not, refl, sym, ◌∙◌, ap, subst, arith, append_assoc, length-append, length-take, length-drop}
+use Rattle.std.proofs.lemmas.List.{take_at, drop-drop, drop-take, take-take, take-replicate, drop-replicate, replicate-append-replicate, get_or-drop}
 use Rattle.std.proofs.Math.Seq.{take-add}
 use Rattle.std.proofs.lemmas.Bool.{cases_eq}
 use Rattle.std.proofs.lemmas.Bool.Decides.{nat_tests}
 use Rattle.std.specs.List.{flat_map}
+use Rattle.newt_host.specs.Outside.{Outside, HasBlocks}
 use Rattle.newt_host.specs.Moments.{Change, Moment, image, bytes_after, LeftBy}
 use Rattle.newt_image.specs.Records.{bank_size, bank_bytes, chosen_bank, header, without, payloads_after, and_then, has_banks, body, records, record_bytes, Ends}
 use Rattle.newt_journal.specs.Bank.{bank_number, start_of, limit_of}
@@ -12,18 +13,18 @@ use Rattle.newt_journal.specs.Journal.{Holds, written, HeldBy}
 use Rattle.newt_journal.specs.Scan.{Scanned, IsEnd, between}
 use Rattle.newt_journal.specs.declared.bank.Bank.{Bank}
 use Rattle.newt_journal.specs.declared.journal.Journal.{Journal}
-use Rattle.newt_journal.proofs.Steps.{bank-fits, length-written, holds-body}
+use Rattle.newt_journal.proofs.Steps.{bank-fits, length-written, holds-body, holds-records}
 use Rattle.newt_journal.proofs.Scanning.{rest_is, long_rest}
 
-pub blank_more : (image : List ℕ) (from at : ℕ) → from ≤ at → between from at image ≡ replicate (at - from) 255 → take 1 (drop at image) ≡ 255 ∷ [] → between from (at + 1) image ≡ replicate (at + 1 - from) 255
-blank_more image from at low blank next =
-    let n = at - from in
-    let one : at + 1 - from ≡ n + 1 = omega (arith, low) in
-    let there : from + n ≡ at = omega (arith, low) in
-    ap (λ (k : ℕ). take k (drop from image)) one ∙ take-add n 1 (drop from image)
-    ∙ ap (λ (l : List ℕ). l ++ take 1 (drop n (drop from image))) blank
-    ∙ ap (λ (l : List ℕ). replicate n 255 ++ take 1 l) (drop-drop n from image ∙ ap (λ (k : ℕ). drop k image) there)
-    ∙ ap (λ (l : List ℕ). replicate n 255 ++ l) next ∙ replicate_more n 255 ∙ ap (λ (k : ℕ). replicate k 255) (sym one)
+pub blank_more : (image : List ℕ) (from at n : ℕ) → from ≤ at → between from at image ≡ replicate (at - from) 255 → take n (drop at image) ≡ replicate n 255 → between from (at + n) image ≡ replicate (at + n - from) 255
+blank_more image from at n low blank next =
+    let m = at - from in
+    let all : at + n - from ≡ m + n = omega (arith, low) in
+    let there : from + m ≡ at = omega (arith, low) in
+    ap (λ (k : ℕ). take k (drop from image)) all ∙ take-add m n (drop from image)
+    ∙ ap (λ (l : List ℕ). l ++ take n (drop m (drop from image))) blank
+    ∙ ap (λ (l : List ℕ). replicate m 255 ++ take n l) (drop-drop m from image ∙ ap (λ (k : ℕ). drop k image) there)
+    ∙ ap (λ (l : List ℕ). replicate m 255 ++ l) next ∙ replicate-append-replicate m n 255 ∙ ap (λ (k : ℕ). replicate k 255) (sym all)
 
 without-cases : (front bytes : List ℕ) → length front ≤ length bytes → (without front bytes ≡ None) ⊎ (take (length front) bytes ≡ front)
 without-cases [] bytes long = inr refl
@@ -145,14 +146,34 @@ opened_later j done last same size voted headed found blank not_closed durable =
     let few = j.not_too_many in
     subst (λ (d : List Change). HeldBy j d) (sym same) (opened j done size voted headed found (omega (arith, few, bank-fits j.blocks j.bank j.enough)) blank not_closed durable)
 
-pub not_blank : (image : List ℕ) (from at to byte : ℕ) → from ≤ at → at < to → take 1 (drop at image) ≡ byte ∷ [] → byte ≢ 255 → between from to image ≢ replicate (to - from) 255
-not_blank image from at to byte low high is differ blank =
-    let k = at - from in
-    let there : from + k ≡ at = omega (arith, low) in
-    let within : k < to - from = omega (arith, low, high) in
-    differ (sym (byte_at image at byte is) ∙ ap (λ (j : ℕ). get_or image j 0) (sym there) ∙ sym (get_or-drop from image k 0) ∙ sym (get_or-take (to - from) (drop from image) k 0 within)
-      ∙ ap (λ (l : List ℕ). get_or l k 0) blank ∙ get_or-replicate (to - from) k 255 0 within)
+-- where a piece is not blank, the whole is not
+pub not_blank : (image : List ℕ) (from at n to : ℕ) → from ≤ at → at + n ≤ to → take n (drop at image) ≢ replicate n 255 → between from to image ≢ replicate (to - from) 255
+not_blank image from at n to low high differ blank =
+    let m = at - from in
+    let k = to - at in
+    let all : to - from ≡ m + k = omega (arith, low, high) in
+    let there : from + m ≡ at = omega (arith, low) in
+    let within : n ≤ k = omega (arith, high) in
+    let behind : take k (drop at image) ≡ replicate k 255 =
+      ap (λ (p : ℕ). take k (drop p image)) (sym there) ∙ ap (λ (l : List ℕ). take k l) (sym (drop-drop m from image)) ∙ sym (drop-take m k (drop from image))
+      ∙ ap (λ (p : ℕ). drop m (take p (drop from image))) (sym all) ∙ ap (λ (l : List ℕ). drop m l) blank ∙ drop-replicate m (to - from) 255
+      ∙ (let left : to - from - m ≡ k = omega (arith, all) in ap (λ (p : ℕ). replicate p 255) left) in
+    differ (sym (take-take n k (drop at image) within) ∙ ap (λ (l : List ℕ). take n l) behind ∙ take-replicate n k 255 within)
 
 pub false_from : (b : Bool) {P : Type 0} → (b ≡ false → P → ⊥) → P → not b ≡ false
 false_from true never p = refl
 false_from false never p = absurd (never refl p)
+
+is_there : {A : Type 0} (o : Option A) (n : ℕ) → (o ≡ None → n ≡ 0) → 13 ≤ n → IsSome o
+is_there None n none some = absurd (omega (arith, none refl))
+is_there (Some x) n none some = refl
+
+-- a unit with banks has a device
+pub has_blocks : (unit blocks : ℕ) (outside : Outside) → (outside.card unit ≡ None → outside.blocks unit ≡ 0) → blocks ≡ outside.blocks unit → 13 ≤ blocks → HasBlocks unit blocks outside
+has_blocks unit blocks outside none is enough = record {
+  attached = is_there (outside.card unit) blocks (λ no_card. is ∙ none no_card) enough;
+  count = sym is;
+}
+
+pub holds-some : (j : Journal) (done : List Change) → HeldBy j done → IsSome (records (bytes_after done))
+holds-some j done held = subst (λ (o : Option (List (List ℕ))). IsSome o) (sym (holds-records j.blocks j.bank j.enough j.not_too_many held.payloads held.behind (bytes_after done) held.bank held.ends)) refl

@@ -13,7 +13,7 @@ use Rattle.newt_journal.specs.declared.bank.Bank.{Bank}
 use Rattle.newt_journal.specs.declared.bank.Bank.TheVariants.{First, Second}
 use Rattle.newt_journal.proofs.Votes.{first_torn}
 use Rattle.newt_journal.proofs.Deciding.{first_if_second, first_if_third, not_both, third_torn, second_torn}
-use Rattle.newt_journal.proofs.Turning.{get_or-after, four_k, vote_now}
+use Rattle.newt_journal.proofs.Casting.{get_or-after, four_k, vote_now}
 use Rattle.newt_journal.proofs.Opened.{byte_at}
 
 module _ (u block k : ℕ) (old m1 : Moment) (durable : IsDurable u old) (same : m1 ≡ old) where

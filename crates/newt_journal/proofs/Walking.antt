@@ -1,13 +1,14 @@
 -- One record after the other.
-use Rattle.std.proofs.Common.{◌≡◌, ◌≢◌, ℕ, zero, suc, ◌+◌, ◌-◌, ◌*◌, ◌^◌, ◌<◌, ◌≤◌, List, [], ◌∷◌, ◌++◌, length, take, drop, Option, Some, None, refl, sym, ◌∙◌, ap, subst, arith, append_assoc, length-append}
+use Rattle.std.proofs.Common.{IsTrue, Bool, ◌≡◌, ◌≢◌, ℕ, zero, suc, ◌+◌, ◌-◌, ◌*◌, ◌^◌, ◌<◌, ◌≤◌, List, [], ◌∷◌, ◌++◌, length, take, drop, Option, Some, None, refl, sym, ◌∙◌, ap, subst, arith, append_assoc, length-append}
 use Rattle.std.proofs.lemmas.List.{append-nil}
 use Rattle.std.proofs.lemmas.Grind.{flat_map-append}
 use Rattle.std.specs.List.{flat_map}
 use Rattle.newt_host.specs.Moments.{Moment, image}
+use Rattle.newt_host.specs.Outside.{Outside}
 use Rattle.newt_image.specs.Records.{records, payloads_after, with_first, header, record_bytes, length_bytes, length_at, Ends, bank_size}
 use Rattle.newt_journal.specs.Bank.{bank_number, start_of, limit_of}
 use Rattle.newt_journal.specs.Scan.{between}
-use Rattle.newt_journal.specs.Journal.{Holds, written, IsHeld}
+use Rattle.newt_journal.specs.Journal.{Holds, written, IsHeld, Stands}
 use Rattle.newt_journal.specs.Places.{first_place, payloads_from, IsPlace}
 use Rattle.newt_journal.specs.declared.journal.Journal.{Journal}
 use Rattle.newt_journal.proofs.Records.{length-length_bytes, length_at-length_bytes, length-record, payloads-flat, payloads-record}
@@ -76,6 +77,13 @@ module _ (j : Journal) (now : Moment) (held : IsHeld j now) where
 pub all_from_first : (j : Journal) (now : Moment) (held : IsHeld j now) → payloads_from j (first_place j) (image j.unit now) ≡ records (image j.unit now)
 unfolding written header
 all_from_first j now held = from_is j now held [] held.payloads (read j now held) (first_place j) refl ∙ sym (read j now held)
+
+-- of each host
+pub first_told : (j : Journal) (at : ℕ) → at ≡ first_place j → (told : Bool) (outside : Outside) → Stands told j outside → IsTrue told → IsPlace j at (image j.unit outside.now)
+first_told j at is told outside stands t = subst (λ (k : ℕ). IsPlace j k (image j.unit outside.now)) (sym is) (first_is j outside.now (stands.held t))
+
+pub all_told : (j : Journal) (at : ℕ) → at ≡ first_place j → (told : Bool) (outside : Outside) → Stands told j outside → IsTrue told → payloads_from j at (image j.unit outside.now) ≡ records (image j.unit outside.now)
+all_told j at is told outside stands t = ap (λ (k : ℕ). payloads_from j k (image j.unit outside.now)) is ∙ all_from_first j outside.now (stands.held t)
 
 -- at a record
 module _ (j : Journal) (now : Moment) (held : IsHeld j now) (passed : List (List ℕ)) (payload : List ℕ) (more : List (List ℕ))

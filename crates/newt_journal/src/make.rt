@@ -2,34 +2,13 @@
 ghost use Rattle.std.specs.Prelude.{IsTrue, ◌≡◌, ◌≤◌, OnErr, OnOk};
 ghost use Rattle.newt_host.specs.Moments.{image, IsDurable, SameOutside, Leaves};
 ghost use Rattle.newt_host.specs.Outside.{HasBlocks, Touches, Spends, Rose};
-ghost use Rattle.newt_journal.specs.Bank.{bank_number};
 ghost use Rattle.newt_image.specs.Records.{AllVoteFor};
 ghost use Rattle.newt_journal.specs.Fresh.{Anything};
 
 use crate::fresh::begin_bank;
-use crate::vote::rewrite_vote;
+use crate::vote::cast_votes;
 use crate::{Bank, Journal};
 use newt_host::{Failed, Host, Unit};
-
-/// Makes all three blocks vote for a bank, whatever they voted for before.
-pub(crate) fn cast_votes<H: Host>(host: &mut H, unit: Unit, bank: Bank, blocks: u32) -> Result<(), Failed>
-    requires enough { 13 ≤ blocks }
-    requires few { blocks ≤ 4099 }
-    requires has { HasBlocks unit blocks (H.outside host.old) }
-    requires durable { IsTrue H.told → IsDurable unit (H.outside host.old).now }
-    ensures alike { IsTrue H.told → OnOk result (AllVoteFor (bank_number bank) (image unit (H.outside host.new).now)) }
-    ensures kept { IsTrue H.told → OnOk result (SameOutside 0 12288 (image unit (H.outside host.old).now) (image unit (H.outside host.new).now)) }
-    ensures durable { IsTrue H.told → OnOk result (IsDurable unit (H.outside host.new).now) }
-    ensures any_moment { IsTrue H.told → Leaves unit Anything (H.outside host.old).now (H.outside host.new).now }
-    ensures alone { Touches unit (H.outside host.old) (H.outside host.new) }
-    ensures costs { Spends unit 3 0 (H.outside host.old) (H.outside host.new) }
-    ensures cause { OnErr result (Rose ((H.outside host.old).dev_faults unit) ((H.outside host.new).dev_faults unit)) }
-{
-    rewrite_vote(host, unit, 0, bank, blocks)?;
-    rewrite_vote(host, unit, 1, bank, blocks)?;
-    rewrite_vote(host, unit, 2, bank, blocks)?;
-    Ok(())
-}
 
 impl Journal {
     ghost use Rattle.std.specs.Prelude.{◌+◌, ◌-◌, ◌∷◌, [], false, length, replicate, Some, IfOk};

@@ -4,7 +4,7 @@ ghost use Rattle.newt_image.specs.Records.{bank_size};
 
 use crate::Journal;
 use crate::fresh::begin_bank;
-use crate::turn::turn_votes;
+use crate::vote::cast_votes;
 use newt_host::{Failed, Host};
 
 /// A record that is being written alone into the other bank. It holds the journal until it is finished.
@@ -88,7 +88,7 @@ impl Switching {
         } = journal;
         let to = from.other();
         host.sync(unit)?;
-        turn_votes(host, unit, from, to, blocks)?;
+        cast_votes(host, unit, to, blocks)?;
         Ok(Journal {
             unit,
             blocks,

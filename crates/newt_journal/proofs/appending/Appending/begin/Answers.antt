@@ -1,7 +1,7 @@
 use Rattle.std.proofs.Common.{rules, ◌≡◌, refl}
 use Rattle.newt_image.specs.Records.{length_bytes}
 use Rattle.newt_host.proofs.Outside.{same_cards}
-use Rattle.newt_journal.proofs.Append.{blank, any_moment, same_records, drafted_now}
+use Rattle.newt_journal.proofs.Append.{blank, any_moment, same_records, drafted_now, rest_left}
 use Rattle.newt_journal.proofs.appending.Appending.begin.Goals as goal
 
 pub program-requires-clause-blank : goal.program-requires-clause-blank
@@ -31,3 +31,6 @@ returns-clause-same g c t = same_records c.args.journal c.args.len c.requires.so
 pub returns-clause-any_moment : goal.returns-clause-any_moment
 unfolding length_bytes
 returns-clause-any_moment g c t = any_moment c.args.journal c.args.len c.requires.some c.requires.fits _ (c.requires.stands.held t) _ c.to_be_bytes.ensures (c.program.ensures.wrote t)
+
+pub returns-clause-rest : goal.returns-clause-rest
+returns-clause-rest g c t = rest_left c.args.journal c.args.len c.requires.some c.requires.fits (g.H.Host.outside c.args.host.now).now (c.requires.stands.held t)
