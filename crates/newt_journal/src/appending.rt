@@ -3,6 +3,7 @@ ghost use Rattle.std.specs.Prelude.{IsTrue, ◌≡◌, ◌≤◌, ◌<◌, ◌+�
 ghost use Rattle.newt_journal.specs.Bank.{limit_of};
 
 use crate::Journal;
+use crate::piece::program_piece;
 use newt_host::{Failed, Host};
 
 /// A record that is being written behind the others. It holds the journal until it is finished.
@@ -36,7 +37,7 @@ impl Appending {
         ensures costs { Spends journal.unit 4 0 (H.outside host.old) (H.outside host.new) }
         ensures cause { OnErr result (Rose ((H.outside host.old).dev_faults journal.unit) ((H.outside host.new).dev_faults journal.unit)) }
     {
-        host.program(journal.unit, journal.end + 1, &len.to_be_bytes())?;
+        program_piece(host, journal.unit, journal.end + 1, &len.to_be_bytes())?;
         Ok(Appending {
             journal,
             len,
@@ -57,7 +58,7 @@ impl Appending {
         ensures costs { Spends self.old.journal.unit (length bytes.now) 0 (H.outside host.old) (H.outside host.new) }
         ensures cause { OnErr result (Rose ((H.outside host.old).dev_faults self.old.journal.unit) ((H.outside host.new).dev_faults self.old.journal.unit)) }
     {
-        host.program(self.journal.unit, self.journal.end + 5 + self.put, bytes)?;
+        program_piece(host, self.journal.unit, self.journal.end + 5 + self.put, bytes)?;
         self.put += bytes.len() as u32;
         Ok(())
     }
@@ -85,7 +86,7 @@ impl Appending {
             ..
         } = journal;
         host.sync(unit)?;
-        host.program(unit, end, &[0])?;
+        program_piece(host, unit, end, &[0])?;
         host.sync(unit)?;
         Ok(Journal {
             unit,

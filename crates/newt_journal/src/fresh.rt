@@ -8,6 +8,7 @@ ghost use Rattle.newt_journal.specs.Fresh.{lead, FilledBy};
 
 use crate::Bank;
 use crate::erase::erase_blocks;
+use crate::piece::program_piece;
 use newt_host::{Failed, Host, Unit};
 
 /// The header, and a gate that is open.
@@ -30,7 +31,7 @@ pub(crate) fn begin_bank<H: Host>(host: &mut H, unit: Unit, bank: Bank, len: u32
     let start = bank.start(blocks);
     erase_blocks(host, unit, bank.first_block(blocks), bank.size_in_blocks(blocks), blocks)?;
     host.sync(unit)?;
-    host.program(unit, start, &LEAD)?;
-    host.program(unit, start + 17, &len.to_be_bytes())?;
+    program_piece(host, unit, start, &LEAD)?;
+    program_piece(host, unit, start + 17, &len.to_be_bytes())?;
     Ok(())
 }

@@ -8,6 +8,7 @@ ghost use Rattle.newt_journal.specs.Fresh.{Anything};
 use crate::fresh::begin_bank;
 use crate::vote::cast_votes;
 use crate::{Bank, Journal};
+use crate::piece::program_piece;
 use newt_host::{Failed, Host, Unit};
 
 impl Journal {
@@ -37,7 +38,7 @@ impl Journal {
         let start = Bank::First.start(blocks);
         host.sync(unit)?;
         begin_bank(host, unit, Bank::First, len, blocks)?;
-        host.program(unit, start + 21, first)?;
+        program_piece(host, unit, start + 21, first)?;
         host.sync(unit)?;
         cast_votes(host, unit, Bank::First, blocks)?;
         Ok(Journal {

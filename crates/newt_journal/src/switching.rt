@@ -5,6 +5,7 @@ ghost use Rattle.newt_image.specs.Records.{bank_size};
 use crate::Journal;
 use crate::fresh::begin_bank;
 use crate::vote::cast_votes;
+use crate::piece::program_piece;
 use newt_host::{Failed, Host};
 
 /// A record that is being written alone into the other bank. It holds the journal until it is finished.
@@ -59,7 +60,7 @@ impl Switching {
         ensures cause { OnErr result (Rose ((H.outside host.old).dev_faults self.old.journal.unit) ((H.outside host.new).dev_faults self.old.journal.unit)) }
     {
         let start = self.journal.bank.other().start(self.journal.blocks);
-        host.program(self.journal.unit, start + 21 + self.put, bytes)?;
+        program_piece(host, self.journal.unit, start + 21 + self.put, bytes)?;
         self.put += bytes.len() as u32;
         Ok(())
     }

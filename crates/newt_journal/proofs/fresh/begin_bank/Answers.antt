@@ -10,26 +10,26 @@ returns-in_err-erase_blocks-clause-any_moment g c t = leaves_1 c.args.unit c.arg
 pub returns-in_err-sync-clause-any_moment : goal.returns-in_err-sync-clause-any_moment
 returns-in_err-sync-clause-any_moment g c t = leaves_2 c.args.unit c.args.blocks c.args.len c.args.bank c.requires.enough c.requires.fits (g.H.Host.outside c.args.host.now).now (g.met.H.Host.sized c.args.host.now c.args.unit t ∙ ap (λ (n : ℕ). n * 4096) c.requires.has.count) _ _ _ c.start-start.ensures c.first_block.ensures c.size_in_blocks.ensures (c.erase_blocks.ensures.any_moment t) (c.erase_blocks.ensures.kept t) (c.in_ok-erase_blocks.ensures.erased t) (c.sync.ensures.synced t)
 
-pub program-requires-clause-blank : goal.program-requires-clause-blank
+pub program_piece-requires-clause-blank : goal.program_piece-requires-clause-blank
 unfolding header
-program-requires-clause-blank g c t = blank_2 c.args.unit c.args.blocks c.args.len c.args.bank c.requires.enough c.requires.fits (g.H.Host.outside c.args.host.now).now (g.met.H.Host.sized c.args.host.now c.args.unit t ∙ ap (λ (n : ℕ). n * 4096) c.requires.has.count) _ _ _ c.start-start.ensures c.first_block.ensures c.size_in_blocks.ensures (c.erase_blocks.ensures.any_moment t) (c.erase_blocks.ensures.kept t) (c.in_ok-erase_blocks.ensures.erased t) (c.in_ok-sync.ensures.synced t) _ refl
+program_piece-requires-clause-blank g c t = blank_2 c.args.unit c.args.blocks c.args.len c.args.bank c.requires.enough c.requires.fits (g.H.Host.outside c.args.host.now).now (g.met.H.Host.sized c.args.host.now c.args.unit t ∙ ap (λ (n : ℕ). n * 4096) c.requires.has.count) _ _ _ c.start-start.ensures c.first_block.ensures c.size_in_blocks.ensures (c.erase_blocks.ensures.any_moment t) (c.erase_blocks.ensures.kept t) (c.in_ok-erase_blocks.ensures.erased t) (c.in_ok-sync.ensures.synced t) _ refl
 
-pub returns-in_err-program-clause-any_moment : goal.returns-in_err-program-clause-any_moment
+pub returns-in_err-program_piece-clause-any_moment : goal.returns-in_err-program_piece-clause-any_moment
 unfolding header
-returns-in_err-program-clause-any_moment g c t = leaves_3 c.args.unit c.args.blocks c.args.len c.args.bank c.requires.enough c.requires.fits (g.H.Host.outside c.args.host.now).now (g.met.H.Host.sized c.args.host.now c.args.unit t ∙ ap (λ (n : ℕ). n * 4096) c.requires.has.count) _ _ _ c.start-start.ensures c.first_block.ensures c.size_in_blocks.ensures (c.erase_blocks.ensures.any_moment t) (c.erase_blocks.ensures.kept t) (c.in_ok-erase_blocks.ensures.erased t) (c.in_ok-sync.ensures.synced t) _ refl (c.program.ensures.wrote t)
+returns-in_err-program_piece-clause-any_moment g c t = leaves_3 c.args.unit c.args.blocks c.args.len c.args.bank c.requires.enough c.requires.fits (g.H.Host.outside c.args.host.now).now (g.met.H.Host.sized c.args.host.now c.args.unit t ∙ ap (λ (n : ℕ). n * 4096) c.requires.has.count) _ _ _ c.start-start.ensures c.first_block.ensures c.size_in_blocks.ensures (c.erase_blocks.ensures.any_moment t) (c.erase_blocks.ensures.kept t) (c.in_ok-erase_blocks.ensures.erased t) (c.in_ok-sync.ensures.synced t) _ refl (c.program_piece.ensures.wrote t)
 
-pub program-requires-2-clause-blank : goal.program-requires-2-clause-blank
+pub program_piece-requires-2-clause-blank : goal.program_piece-requires-2-clause-blank
 unfolding header length_bytes
-program-requires-2-clause-blank g c t = blank_3 c.args.unit c.args.blocks c.args.len c.args.bank c.requires.enough c.requires.fits (g.H.Host.outside c.args.host.now).now (g.met.H.Host.sized c.args.host.now c.args.unit t ∙ ap (λ (n : ℕ). n * 4096) c.requires.has.count) _ _ _ c.start-start.ensures c.first_block.ensures c.size_in_blocks.ensures (c.erase_blocks.ensures.any_moment t) (c.erase_blocks.ensures.kept t) (c.in_ok-erase_blocks.ensures.erased t) (c.in_ok-sync.ensures.synced t) _ refl (c.in_ok-program.ensures.wrote t) _ c.to_be_bytes.ensures
+program_piece-requires-2-clause-blank g c t = blank_3 c.args.unit c.args.blocks c.args.len c.args.bank c.requires.enough c.requires.fits (g.H.Host.outside c.args.host.now).now (g.met.H.Host.sized c.args.host.now c.args.unit t ∙ ap (λ (n : ℕ). n * 4096) c.requires.has.count) _ _ _ c.start-start.ensures c.first_block.ensures c.size_in_blocks.ensures (c.erase_blocks.ensures.any_moment t) (c.erase_blocks.ensures.kept t) (c.in_ok-erase_blocks.ensures.erased t) (c.in_ok-sync.ensures.synced t) _ refl (c.in_ok-program_piece.ensures.wrote t) _ c.to_be_bytes.ensures
 
-pub returns-in_err-program-2-clause-any_moment : goal.returns-in_err-program-2-clause-any_moment
+pub returns-in_err-program_piece-2-clause-any_moment : goal.returns-in_err-program_piece-2-clause-any_moment
 unfolding header length_bytes
-returns-in_err-program-2-clause-any_moment g c t = leaves_4 c.args.unit c.args.blocks c.args.len c.args.bank c.requires.enough c.requires.fits (g.H.Host.outside c.args.host.now).now (g.met.H.Host.sized c.args.host.now c.args.unit t ∙ ap (λ (n : ℕ). n * 4096) c.requires.has.count) _ _ _ c.start-start.ensures c.first_block.ensures c.size_in_blocks.ensures (c.erase_blocks.ensures.any_moment t) (c.erase_blocks.ensures.kept t) (c.in_ok-erase_blocks.ensures.erased t) (c.in_ok-sync.ensures.synced t) _ refl (c.in_ok-program.ensures.wrote t) _ c.to_be_bytes.ensures (c.program-2.ensures.wrote t)
+returns-in_err-program_piece-2-clause-any_moment g c t = leaves_4 c.args.unit c.args.blocks c.args.len c.args.bank c.requires.enough c.requires.fits (g.H.Host.outside c.args.host.now).now (g.met.H.Host.sized c.args.host.now c.args.unit t ∙ ap (λ (n : ℕ). n * 4096) c.requires.has.count) _ _ _ c.start-start.ensures c.first_block.ensures c.size_in_blocks.ensures (c.erase_blocks.ensures.any_moment t) (c.erase_blocks.ensures.kept t) (c.in_ok-erase_blocks.ensures.erased t) (c.in_ok-sync.ensures.synced t) _ refl (c.in_ok-program_piece.ensures.wrote t) _ c.to_be_bytes.ensures (c.program_piece-2.ensures.wrote t)
 
 pub returns-clause-begun : goal.returns-clause-begun
 unfolding header length_bytes
-returns-clause-begun g c t = filled_4 c.args.unit c.args.blocks c.args.len c.args.bank c.requires.enough c.requires.fits (g.H.Host.outside c.args.host.now).now (g.met.H.Host.sized c.args.host.now c.args.unit t ∙ ap (λ (n : ℕ). n * 4096) c.requires.has.count) _ _ _ c.start-start.ensures c.first_block.ensures c.size_in_blocks.ensures (c.erase_blocks.ensures.any_moment t) (c.erase_blocks.ensures.kept t) (c.in_ok-erase_blocks.ensures.erased t) (c.in_ok-sync.ensures.synced t) _ refl (c.in_ok-program.ensures.wrote t) _ c.to_be_bytes.ensures (c.in_ok-program-2.ensures.wrote t)
+returns-clause-begun g c t = filled_4 c.args.unit c.args.blocks c.args.len c.args.bank c.requires.enough c.requires.fits (g.H.Host.outside c.args.host.now).now (g.met.H.Host.sized c.args.host.now c.args.unit t ∙ ap (λ (n : ℕ). n * 4096) c.requires.has.count) _ _ _ c.start-start.ensures c.first_block.ensures c.size_in_blocks.ensures (c.erase_blocks.ensures.any_moment t) (c.erase_blocks.ensures.kept t) (c.in_ok-erase_blocks.ensures.erased t) (c.in_ok-sync.ensures.synced t) _ refl (c.in_ok-program_piece.ensures.wrote t) _ c.to_be_bytes.ensures (c.in_ok-program_piece-2.ensures.wrote t)
 
 pub returns-clause-any_moment : goal.returns-clause-any_moment
 unfolding header length_bytes
-returns-clause-any_moment g c t = leaves_4 c.args.unit c.args.blocks c.args.len c.args.bank c.requires.enough c.requires.fits (g.H.Host.outside c.args.host.now).now (g.met.H.Host.sized c.args.host.now c.args.unit t ∙ ap (λ (n : ℕ). n * 4096) c.requires.has.count) _ _ _ c.start-start.ensures c.first_block.ensures c.size_in_blocks.ensures (c.erase_blocks.ensures.any_moment t) (c.erase_blocks.ensures.kept t) (c.in_ok-erase_blocks.ensures.erased t) (c.in_ok-sync.ensures.synced t) _ refl (c.in_ok-program.ensures.wrote t) _ c.to_be_bytes.ensures (c.program-2.ensures.wrote t)
+returns-clause-any_moment g c t = leaves_4 c.args.unit c.args.blocks c.args.len c.args.bank c.requires.enough c.requires.fits (g.H.Host.outside c.args.host.now).now (g.met.H.Host.sized c.args.host.now c.args.unit t ∙ ap (λ (n : ℕ). n * 4096) c.requires.has.count) _ _ _ c.start-start.ensures c.first_block.ensures c.size_in_blocks.ensures (c.erase_blocks.ensures.any_moment t) (c.erase_blocks.ensures.kept t) (c.in_ok-erase_blocks.ensures.erased t) (c.in_ok-sync.ensures.synced t) _ refl (c.in_ok-program_piece.ensures.wrote t) _ c.to_be_bytes.ensures (c.program_piece-2.ensures.wrote t)
