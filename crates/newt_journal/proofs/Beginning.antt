@@ -1,15 +1,15 @@
 -- A bank is erased, and its one record begun.
-use Rattle.std.proofs.Common.{◌≡◌, ℕ, ◌+◌, ◌-◌, ◌*◌, ◌<◌, ◌≤◌, List, [], ◌∷◌, ◌++◌, length, take, drop, replicate, Result, Ok, refl, sym, ◌∙◌, ap, subst, arith, append_assoc, length-append}
+use Rattle.std.proofs.Common.{◌≡◌, ℕ, ◌+◌, ◌-◌, ◌*◌, ◌≤◌, List, [], ◌∷◌, ◌++◌, length, Result, Ok, refl, ◌∙◌, ap, subst, arith, length-append}
 use Rattle.newt_host.specs.Moments.{Moment, image, changes, SameOutside, Leaves}
 use Rattle.newt_host.specs.Outside.{IsBlank, Writes, Syncs}
 use Rattle.newt_host.proofs.Moments.{Leaves-weaken}
 use Rattle.newt_image.specs.Records.{bank_size, bank_blocks, header, length_bytes}
-use Rattle.newt_journal.specs.Bank.{bank_number, start_of, limit_of}
+use Rattle.newt_journal.specs.Bank.{bank_number, start_of}
 use Rattle.newt_journal.specs.Fresh.{lead, FilledBy}
 use Rattle.newt_journal.specs.declared.bank.Bank.{Bank}
 use Rattle.newt_journal.proofs.Records.{length-length_bytes}
 use Rattle.newt_journal.proofs.Steps.{bank-fits}
-use Rattle.newt_journal.proofs.Filling.{Filled, Outer, erased, sync_leaves, sync_filled, room_blank, write_leaves, write_filled}
+use Rattle.newt_journal.proofs.Filling.{Filled, erased, sync_leaves, sync_filled, room_blank, write_leaves, write_filled}
 
 pub length-header : length header ≡ 16
 unfolding header
@@ -20,7 +20,7 @@ unfolding lead
 length-lead len = omega (arith, length-append (header ++ 0 ∷ []) (length_bytes len), length-append header (0 ∷ []), length-header, length-length_bytes len)
 
 module _ (u blocks len : ℕ) (bank : Bank) (enough : 13 ≤ blocks) (fits : 21 + len ≤ bank_size blocks) (old : Moment) (long : length (image u old) ≡ blocks * 4096)
-  (at first count : ℕ) (at_is : at ≡ start_of blocks bank) (first_is : first ≡ 3 + bank_number bank * bank_blocks blocks) (count_is : count ≡ bank_blocks blocks) where
+    (at first count : ℕ) (at_is : at ≡ start_of blocks bank) (first_is : first ≡ 3 + bank_number bank * bank_blocks blocks) (count_is : count ≡ bank_blocks blocks) where
   abbrev start : ℕ
   start = start_of blocks bank
 
@@ -100,5 +100,5 @@ module _ (u blocks len : ℕ) (bank : Bank) (enough : 13 ≤ blocks) (fits : 21 
               let left_over : size - length gated - length sized ≡ size - 21 = omega (arith, long_gated, four) in
               let front_is : gated ++ sized ≡ (header ++ 0 ∷ []) ++ length_bytes len = λ i. gated_is i ++ sized_is i in
               subst (λ (n : ℕ). FilledBy start size base ((header ++ 0 ∷ []) ++ length_bytes len) n (changes u m4)) left_over
-                (subst (λ (l : List ℕ). FilledBy start size base l (size - length gated - length sized) (changes u m4)) front_is
-                  (write_filled u start size base inside gated (size - length gated) m3 filled_3 sized room_3 (at + 17) there_3 last))
+              (subst (λ (l : List ℕ). FilledBy start size base l (size - length gated - length sized) (changes u m4)) front_is
+              (write_filled u start size base inside gated (size - length gated) m3 filled_3 sized room_3 (at + 17) there_3 last))

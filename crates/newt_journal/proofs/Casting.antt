@@ -1,5 +1,5 @@
 -- Three blocks are made to vote for one bank, one after the other.
-use Rattle.std.proofs.Common.{◌≡◌, ◌⊎◌, inl, inr, ℕ, ◌+◌, ◌-◌, ◌*◌, ◌<◌, ◌≤◌, List, [], ◌∷◌, ◌++◌, length, get_or, take, drop, Option, Some, refl, sym, ◌∙◌, ap, subst, arith, append_assoc, length-take}
+use Rattle.std.proofs.Common.{◌≡◌, ◌⊎◌, inl, inr, ℕ, ◌+◌, ◌-◌, ◌≤◌, List, ◌∷◌, ◌++◌, length, get_or, take, drop, Option, Some, sym, ◌∙◌, ap, subst, arith, append_assoc, length-take}
 use Rattle.std.proofs.lemmas.List.{get_or-drop, get_or_at}
 use Rattle.newt_host.specs.Moments.{SameOutside, overwritten}
 use Rattle.newt_host.specs.Outside.{blank}

@@ -1,18 +1,17 @@
 -- A unit becomes a journal of one record.
-use Rattle.std.proofs.Common.{◌≡◌, ℕ, ◌+◌, ◌-◌, ◌*◌, ◌<◌, ◌≤◌, false, List, [], ◌∷◌, ◌++◌, length, get_or, take, drop, replicate, Option, Some, Result, Ok, refl, sym, ◌∙◌, ap, subst, arith, append_assoc, length-append}
+use Rattle.std.proofs.Common.{◌≡◌, ℕ, ◌+◌, ◌-◌, ◌*◌, ◌≤◌, false, List, [], ◌∷◌, ◌++◌, length, take, replicate, Some, Result, Ok, sym, ◌∙◌, ap, subst, arith, length-append}
 use Rattle.std.proofs.lemmas.List.{length-replicate}
-use Rattle.newt_host.specs.Moments.{Moment, image, changes, bytes_after, IsDurable, SameOutside, overwritten, Leaves}
-use Rattle.newt_host.specs.Outside.{blank, IsBlank, Writes, Syncs}
-use Rattle.newt_host.proofs.Moments.{Leaves-start, Leaves-sync, Leaves-append, Leaves-weaken}
-use Rattle.newt_host.proofs.Ranges.{get_or-same, same-trans, same-widen, same-overwritten}
-use Rattle.newt_image.specs.Records.{bank_size, chosen, chosen_bank, records, tail, AllVoteFor}
-use Rattle.newt_journal.specs.Bank.{bank_number, start_of, limit_of}
+use Rattle.newt_host.specs.Moments.{Moment, image, changes, IsDurable, SameOutside, Leaves}
+use Rattle.newt_host.specs.Outside.{IsBlank, Writes, Syncs}
+use Rattle.newt_host.proofs.Moments.{Leaves-start, Leaves-sync, Leaves-weaken}
+use Rattle.newt_image.specs.Records.{bank_size, records, tail, AllVoteFor}
+use Rattle.newt_journal.specs.Bank.{bank_number, start_of}
 use Rattle.newt_journal.specs.Fresh.{lead, FilledBy, Anything}
 use Rattle.newt_journal.specs.Journal.{Holds, written, HeldBy}
 use Rattle.newt_journal.specs.declared.bank.Bank.{Bank}
-use Rattle.newt_journal.specs.declared.bank.Bank.TheVariants.{First, Second}
+use Rattle.newt_journal.specs.declared.bank.Bank.TheVariants.{First}
 use Rattle.newt_journal.specs.declared.journal.Journal.{Journal}
-use Rattle.newt_journal.proofs.Steps.{bank-fits, bank-low, bank-small, holds-records}
+use Rattle.newt_journal.proofs.Steps.{bank-fits, bank-low, holds-records}
 use Rattle.newt_journal.proofs.Tail.{holds-tail}
 use Rattle.newt_journal.proofs.Finish.{Ends-blank}
 use Rattle.newt_journal.proofs.Casting.{alike-chosen}
@@ -31,7 +30,7 @@ pub a_sync : {T E : Type 0} {u : ℕ} {result : Result T E} {a b c : Moment} →
 a_sync so_far synced = Leaves-sync so_far synced tt
 
 module _ (u blocks : ℕ) (enough : 13 ≤ blocks) (few : blocks ≤ 4099) (base payload : List ℕ) (long : length base ≡ blocks * 4096) (fits : 21 + length payload ≤ bank_size blocks) (at : ℕ) (at_is : at ≡ start_of blocks First)
-  (m1 : Moment) (filled : FilledBy (start_of blocks First) (bank_size blocks) base (lead (length payload)) (bank_size blocks - 21) (changes u m1)) where
+    (m1 : Moment) (filled : FilledBy (start_of blocks First) (bank_size blocks) base (lead (length payload)) (bank_size blocks - 21) (changes u m1)) where
   abbrev start : ℕ
   start = start_of blocks First
 
@@ -57,7 +56,7 @@ module _ (u blocks : ℕ) (enough : 13 ≤ blocks) (few : blocks ≤ 4099) (base
   format_any wrote = anything (write_leaves u start size base inside (lead (length payload)) (size - 21) m1 filled payload room (at + 21) there wrote (Leaves-start (λ left may. filled.crash left may)))
 
   module _ {T2 E2 : Type 0} {x2 : T2} {m2 : Moment} (wrote : Writes {E = E2} u (at + 21) payload (Ok x2) m1 m2) {T3 E3 : Type 0} {x3 : T3} {m3 : Moment} (synced : Syncs {E = E3} u (Ok x3) m2 m3)
-    (m4 : Moment) (alike : AllVoteFor 0 (image u m4)) (same : SameOutside 0 12288 (image u m3) (image u m4)) where
+      (m4 : Moment) (alike : AllVoteFor 0 (image u m4)) (same : SameOutside 0 12288 (image u m3) (image u m4)) where
     filled_3 : FilledBy start size base (lead (length payload) ++ payload) rest (changes u m3)
     filled_3 = sync_filled u start size base inside (write_filled u start size base inside (lead (length payload)) (size - 21) m1 filled payload room (at + 21) there wrote) synced
 
@@ -79,11 +78,11 @@ module _ (u blocks : ℕ) (enough : 13 ≤ blocks) (few : blocks ≤ 4099) (base
       payloads = payload ∷ [];
       behind = replicate rest 255;
       bank = subst (λ (b : Bank). Holds j.blocks (bank_number b) (written (payload ∷ []) ++ replicate rest 255) (image u m4)) (sym bank_is)
-        (subst (λ (n : ℕ). Holds n (bank_number First) (written (payload ∷ []) ++ replicate rest 255) (image u m4)) (sym blocks_is) format_holds);
+          (subst (λ (n : ℕ). Holds n (bank_number First) (written (payload ∷ []) ++ replicate rest 255) (image u m4)) (sym blocks_is) format_holds);
       end =
-        let sizes : length (written (payload ∷ [])) ≡ 21 + length payload = omega (arith, ap length (sym (lead-record payload)), length-append (lead (length payload)) payload, length-lead (length payload)) in
-        end_is ∙ (let place : at + 21 + length payload ≡ start + length (written (payload ∷ [])) = omega (arith, at_is, sizes) in place)
-        ∙ (λ i. start_of (sym blocks_is i) (sym bank_is i) + length (written (payload ∷ [])));
+          let sizes : length (written (payload ∷ [])) ≡ 21 + length payload = omega (arith, ap length (sym (lead-record payload)), length-append (lead (length payload)) payload, length-lead (length payload)) in
+          end_is ∙ (let place : at + 21 + length payload ≡ start + length (written (payload ∷ [])) = omega (arith, at_is, sizes) in place)
+          ∙ (λ i. start_of (sym blocks_is i) (sym bank_is i) + length (written (payload ∷ [])));
       ends = Ends-blank rest;
       blank = λ not_closed. ap (λ (n : ℕ). replicate n 255) (sym (length-replicate rest 255));
       not_closed = λ blank. open_is;

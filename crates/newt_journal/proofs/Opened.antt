@@ -1,5 +1,5 @@
 -- A journal is opened.
-use Rattle.std.proofs.Common.{◌≡◌, ◌≢◌, ◌⊎◌, inl, inr, ℕ, zero, suc, ◌+◌, ◌-◌, ◌*◌, ◌/◌, ◌^◌, ◌<◌, ◌≤◌, ◌==◌, ◌&&◌, if◌then◌else◌, nat_le, Bool, true, false, List, [], ◌∷◌, ◌++◌, length, get_or, take, drop, replicate, Option, Some, None, IsSome, MatchOption, not, refl, sym, ◌∙◌, ap, subst, arith, append_assoc, length-append, length-take, length-drop}
+use Rattle.std.proofs.Common.{◌≡◌, ◌≢◌, ◌⊎◌, inl, inr, ℕ, ◌+◌, ◌-◌, ◌*◌, ◌/◌, ◌^◌, ◌<◌, ◌≤◌, ◌==◌, if◌then◌else◌, Bool, true, false, List, [], ◌∷◌, ◌++◌, length, get_or, take, drop, replicate, Option, Some, None, IsSome, MatchOption, not, refl, sym, ◌∙◌, ap, subst, arith, append_assoc, length-append, length-take, length-drop}
 use Rattle.std.proofs.lemmas.List.{take_at, drop-drop, drop-take, take-take, take-replicate, drop-replicate, replicate-append-replicate, get_or-drop}
 use Rattle.std.proofs.Math.Seq.{take-add}
 use Rattle.std.proofs.lemmas.Bool.{cases_eq}
@@ -7,10 +7,10 @@ use Rattle.std.proofs.lemmas.Bool.Decides.{nat_tests}
 use Rattle.std.specs.List.{flat_map}
 use Rattle.newt_host.specs.Outside.{Outside, HasBlocks}
 use Rattle.newt_host.specs.Moments.{Change, Moment, image, bytes_after, LeftBy}
-use Rattle.newt_image.specs.Records.{bank_size, bank_bytes, chosen_bank, header, without, payloads_after, and_then, has_banks, body, records, record_bytes, Ends}
+use Rattle.newt_image.specs.Records.{bank_size, bank_bytes, chosen_bank, header, without, payloads_after, and_then, has_banks, body, records, record_bytes}
 use Rattle.newt_journal.specs.Bank.{bank_number, start_of, limit_of}
 use Rattle.newt_journal.specs.Journal.{Holds, written, HeldBy}
-use Rattle.newt_journal.specs.Scan.{Scanned, IsEnd, between}
+use Rattle.newt_journal.specs.Scan.{IsEnd, between}
 use Rattle.newt_journal.specs.declared.bank.Bank.{Bank}
 use Rattle.newt_journal.specs.declared.journal.Journal.{Journal}
 use Rattle.newt_journal.proofs.Steps.{bank-fits, length-written, holds-body, holds-records}
@@ -155,9 +155,9 @@ not_blank image from at n to low high differ blank =
     let there : from + m ≡ at = omega (arith, low) in
     let within : n ≤ k = omega (arith, high) in
     let behind : take k (drop at image) ≡ replicate k 255 =
-      ap (λ (p : ℕ). take k (drop p image)) (sym there) ∙ ap (λ (l : List ℕ). take k l) (sym (drop-drop m from image)) ∙ sym (drop-take m k (drop from image))
-      ∙ ap (λ (p : ℕ). drop m (take p (drop from image))) (sym all) ∙ ap (λ (l : List ℕ). drop m l) blank ∙ drop-replicate m (to - from) 255
-      ∙ (let left : to - from - m ≡ k = omega (arith, all) in ap (λ (p : ℕ). replicate p 255) left) in
+    ap (λ (p : ℕ). take k (drop p image)) (sym there) ∙ ap (λ (l : List ℕ). take k l) (sym (drop-drop m from image)) ∙ sym (drop-take m k (drop from image))
+    ∙ ap (λ (p : ℕ). drop m (take p (drop from image))) (sym all) ∙ ap (λ (l : List ℕ). drop m l) blank ∙ drop-replicate m (to - from) 255
+    ∙ (let left : to - from - m ≡ k = omega (arith, all) in ap (λ (p : ℕ). replicate p 255) left) in
     differ (sym (take-take n k (drop at image) within) ∙ ap (λ (l : List ℕ). take n l) behind ∙ take-replicate n k 255 within)
 
 pub false_from : (b : Bool) {P : Type 0} → (b ≡ false → P → ⊥) → P → not b ≡ false

@@ -1,6 +1,6 @@
 -- One write on a device, at each of its moments.
 use Rattle.std.proofs.Common.{ℕ, List, length, subst, ◌≡◌, Result}
-use Rattle.newt_host.specs.Moments.{Moment, MayLeave, SameOutside, Leaves}
+use Rattle.newt_host.specs.Moments.{Moment, SameOutside, Leaves}
 use Rattle.newt_host.specs.Outside.{Writes}
 use Rattle.newt_host.proofs.Moments.{Leaves-start, Leaves-write}
 use Rattle.newt_host.proofs.Ranges.{same-refl}

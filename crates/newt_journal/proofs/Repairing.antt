@@ -1,15 +1,15 @@
 -- Three votes are made equal.
-use Rattle.std.proofs.Common.{◌≡◌, ◌≢◌, ℕ, ◌+◌, ◌*◌, ◌<◌, ◌≤◌, ◌==◌, ◌-◌, if◌then◌else◌, List, [], ◌∷◌, ◌++◌, length, get_or, take, drop, Option, Some, refl, sym, ◌∙◌, ap, subst, arith}
+use Rattle.std.proofs.Common.{◌≡◌, ℕ, ◌+◌, ◌≤◌, ◌==◌, ◌-◌, if◌then◌else◌, List, [], ◌∷◌, ◌++◌, take, drop, Some, sym, ◌∙◌, ap, subst, arith}
 use Rattle.std.proofs.lemmas.List.{drop-drop}
-use Rattle.newt_host.specs.Moments.{Moment, image, MayLeave, IsDurable, SameOutside, changes, bytes_after, Leaves}
+use Rattle.newt_host.specs.Moments.{Moment, image, IsDurable, SameOutside, Leaves}
 use Rattle.newt_host.proofs.Moments.{Leaves-append, Leaves-weaken, Leaves-start, Leaves-same}
-use Rattle.newt_image.specs.Records.{chosen_bank, bank_bytes, bank_size, records, vote_of, AllVoteFor}
+use Rattle.newt_image.specs.Records.{chosen_bank, bank_size, records, vote_of, AllVoteFor}
 use Rattle.newt_journal.specs.Bank.{bank_number, other_bank, start_of}
 use Rattle.newt_journal.specs.Repairs.{Settling, Repairs}
-use Rattle.newt_journal.specs.Journal.{Holds, written, IsHeld, ReadsAs}
+use Rattle.newt_journal.specs.Journal.{Holds, written, IsHeld}
 use Rattle.newt_journal.specs.declared.bank.Bank.{Bank}
 use Rattle.newt_journal.specs.declared.journal.Journal.{Journal}
-use Rattle.newt_journal.proofs.Steps.{bank-small, bank-low, bank-fits, holds-records}
+use Rattle.newt_journal.proofs.Steps.{bank-small, bank-low, holds-records}
 use Rattle.newt_journal.proofs.Opened.{byte_at}
 use Rattle.newt_journal.proofs.Settle.{Order, order_of, other-differs, step_0, step_1, step_2, step_3, alike}
 

@@ -1,9 +1,9 @@
 -- The room of a journal is what the tail of the image says.
-use Rattle.std.proofs.Common.{IsTrue, ◌≡◌, ◌≢◌, ℕ, ◌+◌, ◌-◌, ◌*◌, ◌<◌, ◌≤◌, Bool, true, false, if◌then◌else◌, List, [], ◌∷◌, ◌++◌, length, replicate, refl, sym, ◌∙◌, ap, subst, arith, length-append}
+use Rattle.std.proofs.Common.{IsTrue, ◌≡◌, ℕ, ◌+◌, ◌-◌, Bool, true, false, if◌then◌else◌, List, ◌++◌, length, replicate, refl, sym, ◌∙◌, ap, subst, arith, length-append}
 use Rattle.newt_host.specs.Moments.{Moment, image}
 use Rattle.newt_host.specs.Outside.{Outside}
-use Rattle.newt_image.specs.Records.{tail, bank_size, IsErased}
-use Rattle.newt_journal.specs.Bank.{bank_number, start_of, limit_of}
+use Rattle.newt_image.specs.Records.{tail, bank_size}
+use Rattle.newt_journal.specs.Bank.{start_of, limit_of}
 use Rattle.newt_journal.specs.Journal.{room, written, IsHeld, Stands, IsRoom}
 use Rattle.newt_journal.specs.declared.bank.Bank.{Bank}
 use Rattle.newt_journal.specs.declared.journal.Journal.{Journal}

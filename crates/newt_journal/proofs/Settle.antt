@@ -1,8 +1,8 @@
 -- A vote is made equal, unless it is.
-use Rattle.std.proofs.Common.{◌≡◌, ◌≢◌, ◌⊎◌, inl, inr, ℕ, ◌+◌, ◌*◌, ◌<◌, ◌≤◌, ◌==◌, ◌-◌, if◌then◌else◌, List, [], ◌∷◌, length, get_or, take, drop, Option, Some, refl, sym, ◌∙◌, ap, subst, arith}
+use Rattle.std.proofs.Common.{◌≡◌, ◌≢◌, inl, inr, ℕ, ◌+◌, ◌*◌, ◌≤◌, ◌==◌, ◌-◌, if◌then◌else◌, List, [], ◌∷◌, length, get_or, take, drop, Some, sym, ◌∙◌, ap, subst, arith}
 use Rattle.std.proofs.lemmas.Bool.{cases_eq, cases_lt}
 use Rattle.std.proofs.lemmas.Bool.Decides.{nat_tests}
-use Rattle.newt_host.specs.Moments.{Moment, image, MayLeave, IsDurable, SameOutside, overwritten, Leaves}
+use Rattle.newt_host.specs.Moments.{Moment, image, IsDurable, SameOutside, overwritten, Leaves}
 use Rattle.newt_host.specs.Outside.{blank}
 use Rattle.newt_host.proofs.Moments.{Leaves-start, Leaves-same, Leaves-append, Leaves-weaken}
 use Rattle.newt_host.proofs.Ranges.{get_or-same, same-refl, same-trans, same-widen, same-overwritten}
@@ -13,7 +13,7 @@ use Rattle.newt_journal.specs.declared.bank.Bank.{Bank}
 use Rattle.newt_journal.specs.declared.bank.Bank.TheVariants.{First, Second}
 use Rattle.newt_journal.proofs.Votes.{first_torn}
 use Rattle.newt_journal.proofs.Deciding.{first_if_second, first_if_third, not_both, third_torn, second_torn}
-use Rattle.newt_journal.proofs.Casting.{get_or-after, four_k, vote_now}
+use Rattle.newt_journal.proofs.Casting.{get_or-after, four_k}
 use Rattle.newt_journal.proofs.Opened.{byte_at}
 
 module _ (u block k : ℕ) (old m1 : Moment) (durable : IsDurable u old) (same : m1 ≡ old) where
@@ -29,10 +29,12 @@ module _ (u block k : ℕ) (old m1 : Moment) (durable : IsDurable u old) (same :
         (Leaves-weaken (λ left torn. inr (votes_other, subst (λ (m : Moment). SameOutside (block * 4096) 4096 (image u m) left) same torn)) leaves)
 
     pub settled_now : (left : List ℕ) → left ≡ overwritten (image u m1) (block * 4096) (k ∷ blank 4095) → block * 4096 + 4096 ≤ length (image u old) → Settling block k (image u old) left
-    settled_now left is fits = inr (votes_other,
-        subst (λ (l : List ℕ). SameOutside (block * 4096) 4096 (image u old) l) (ap (λ (m : Moment). overwritten (image u m) (block * 4096) (k ∷ blank 4095)) (sym same) ∙ sym is)
+    settled_now left is fits = inr (
+      votes_other,
+      subst (λ (l : List ℕ). SameOutside (block * 4096) 4096 (image u old) l) (ap (λ (m : Moment). overwritten (image u m) (block * 4096) (k ∷ blank 4095)) (sym same) ∙ sym is)
           (subst (λ (n : ℕ). SameOutside (block * 4096) n (image u old) (overwritten (image u old) (block * 4096) (k ∷ blank 4095))) (four_k k)
-            (same-overwritten (image u old) (block * 4096) (k ∷ blank 4095) (omega (arith, four_k k, fits)))))
+          (same-overwritten (image u old) (block * 4096) (k ∷ blank 4095) (omega (arith, four_k k, fits)))),
+    )
 
 -- the order of the second and the third block
 pub data Order (third other : ℕ) : ℕ → ℕ → Type 0 where
@@ -120,7 +122,7 @@ module _ (k other : ℕ) (small : k ≤ 1) (other_small : other ≤ 1) (differ :
     both near far (second_first is) img_1 settled_1 img_2 s_2 settled_2 = (other_vote 1 2 k img_1 img_2 (omega arith) s_2 ∙ settled_1, settled_2)
 
     module _ (near far : ℕ) (order : Order (vote_of 2 img) other near far) (img_1 : List ℕ) (s_1 : Settling near k img img_1) (settled_1 : vote_of near img_1 ≡ k)
-      (img_2 : List ℕ) (s_2 : Settling far k img_1 img_2) (settled_2 : vote_of far img_2 ≡ k) where
+        (img_2 : List ℕ) (s_2 : Settling far k img_1 img_2) (settled_2 : vote_of far img_2 ≡ k) where
       votes : (vote_of 1 img_2 ≡ k) × (vote_of 2 img_2 ≡ k)
       votes = both near far order img_1 settled_1 img_2 s_2 settled_2
 

@@ -1,17 +1,16 @@
 -- A record is written alone into the other bank, and then the votes turn.
-use Rattle.std.proofs.Common.{◌≡◌, ◌≢◌, ◌⊎◌, inl, inr, ℕ, ◌+◌, ◌-◌, ◌*◌, ◌<◌, ◌≤◌, false, List, [], ◌∷◌, ◌++◌, length, get_or, take, drop, replicate, Option, Some, Result, Ok, refl, sym, ◌∙◌, ap, subst, arith, append_assoc, length-append}
+use Rattle.std.proofs.Common.{◌≡◌, inl, inr, ℕ, ◌+◌, ◌-◌, ◌≤◌, false, List, [], ◌∷◌, ◌++◌, length, take, drop, replicate, Option, Some, Result, Ok, refl, sym, ◌∙◌, ap, subst, arith, append_assoc, length-append}
 use Rattle.std.proofs.lemmas.List.{length-replicate, append-nil}
-use Rattle.newt_host.specs.Moments.{Moment, image, changes, bytes_after, MayLeave, IsDurable, SameOutside, Leaves}
+use Rattle.newt_host.specs.Moments.{Moment, image, changes, IsDurable, SameOutside, Leaves}
 use Rattle.newt_host.specs.Outside.{IsBlank, Writes, Syncs}
 use Rattle.newt_host.proofs.Moments.{Leaves-start, Leaves-sync, Leaves-append, Leaves-weaken, image-sync}
 use Rattle.newt_host.proofs.Ranges.{get_or-same, same-refl, part-reads}
-use Rattle.newt_image.specs.Records.{bank_size, bank_start, bank_bytes, chosen, chosen_bank, header, records, record_bytes, length_bytes, Ends, AllVoteFor}
-use Rattle.newt_journal.specs.Bank.{bank_number, other_bank, start_of, limit_of}
+use Rattle.newt_image.specs.Records.{bank_size, bank_bytes, chosen, chosen_bank, header, records, record_bytes, length_bytes, AllVoteFor}
+use Rattle.newt_journal.specs.Bank.{bank_number, other_bank, start_of}
 use Rattle.newt_journal.specs.Turns.{Turns}
-use Rattle.newt_journal.specs.Repairs.{Repairs}
 use Rattle.newt_journal.specs.Fresh.{lead, FilledBy}
 use Rattle.newt_journal.specs.Journal.{Holds, written, HeldBy, IsHeld, ReadsAs, ReadsAsEither}
-use Rattle.newt_journal.specs.Switch.{switch_start, switched, SwitchedBy, IsSwitching}
+use Rattle.newt_journal.specs.Switch.{switch_start, switched, IsSwitching}
 use Rattle.newt_journal.specs.declared.bank.Bank.{Bank}
 use Rattle.newt_journal.specs.declared.bank.Bank.TheVariants.{First, Second}
 use Rattle.newt_journal.specs.declared.journal.Journal.{Journal}
@@ -116,8 +115,8 @@ module _ (s : Switching) (now : Moment) (held : IsSwitching s now) where
       filled_next =
           let left_over : size - 21 - s.put - length bytes ≡ size - 21 - (s.put + length bytes) = omega arith in
           subst (λ (n : ℕ). FilledBy start size held.base (lead s.len ++ (held.so_far ++ bytes)) n (changes u next)) left_over
-            (subst (λ (l : List ℕ). FilledBy start size held.base l (size - 21 - s.put - length bytes) (changes u next)) (append_assoc (lead s.len) held.so_far bytes)
-              (write_filled u start size held.base inside (lead s.len ++ held.so_far) (size - 21 - s.put) now held.filled bytes room at there wrote))
+          (subst (λ (l : List ℕ). FilledBy start size held.base l (size - 21 - s.put - length bytes) (changes u next)) (append_assoc (lead s.len) held.so_far bytes)
+          (write_filled u start size held.base inside (lead s.len ++ held.so_far) (size - 21 - s.put) now held.filled bytes room at there wrote))
 
       pub same_records : records (image u next) ≡ records img
       same_records = reads_same (image u next) filled_next.kept
@@ -177,8 +176,8 @@ module _ (s : Switching) (now : Moment) (held : IsSwitching s now) where
         kept_from : (left : List ℕ) → chosen_bank left ≡ Some (bank_number from) → SameOutside 0 12288 (image u m1) left → records left ≡ before
         kept_from left chosen_is same =
             holds-records blocks from s.journal.enough s.journal.not_too_many held.payloads held.behind left
-              (bank-behind blocks from (written held.payloads ++ held.behind) img left (elsewhere img held.filled.kept)
-                (record { bank_is = chosen_is; same = subst (λ (l : List ℕ). SameOutside 0 12288 l left) img_1 same })) held.ends
+            (bank-behind blocks from (written held.payloads ++ held.behind) img left (elsewhere img held.filled.kept)
+            (record { bank_is = chosen_is; same = subst (λ (l : List ℕ). SameOutside 0 12288 l left) img_1 same })) held.ends
             ∙ sym reads_now
 
         pub holds_to : (left : List ℕ) → chosen_bank left ≡ Some (bank_number to_bank) → SameOutside 0 12288 (image u m1) left → Holds blocks (bank_number to) (written (held.so_far ∷ []) ++ rest) left
@@ -211,11 +210,11 @@ module _ (s : Switching) (now : Moment) (held : IsSwitching s now) where
             payloads = held.so_far ∷ [];
             behind = rest;
             bank = subst (λ (b : Bank). Holds j.blocks (bank_number b) (written (held.so_far ∷ []) ++ rest) (image u m2)) (sym bank_is)
-              (subst (λ (n : ℕ). Holds n (bank_number to) (written (held.so_far ∷ []) ++ rest) (image u m2)) (sym blocks_is) (holds_to (image u m2) turned.0 turned.1));
+                (subst (λ (n : ℕ). Holds n (bank_number to) (written (held.so_far ∷ []) ++ rest) (image u m2)) (sym blocks_is) (holds_to (image u m2) turned.0 turned.1));
             end =
-              let long : length (written (held.so_far ∷ [])) ≡ 21 + s.len = omega (arith, ap length (sym (lead-record held.so_far)), length-append (lead (length held.so_far)) held.so_far, length-lead (length held.so_far), held.put, whole) in
-              end_is ∙ (let place : start + 21 + s.len ≡ start + length (written (held.so_far ∷ [])) = omega (arith, long) in place)
-              ∙ (λ i. start_of (sym blocks_is i) (sym bank_is i) + length (written (held.so_far ∷ [])));
+                let long : length (written (held.so_far ∷ [])) ≡ 21 + s.len = omega (arith, ap length (sym (lead-record held.so_far)), length-append (lead (length held.so_far)) held.so_far, length-lead (length held.so_far), held.put, whole) in
+                end_is ∙ (let place : start + 21 + s.len ≡ start + length (written (held.so_far ∷ [])) = omega (arith, long) in place)
+                ∙ (λ i. start_of (sym blocks_is i) (sym bank_is i) + length (written (held.so_far ∷ [])));
             ends = Ends-blank (size - 21 - s.put);
             blank = λ not_closed. ap (λ (n : ℕ). replicate n 255) (sym (length-replicate (size - 21 - s.put) 255));
             not_closed = λ blank. open_is;
@@ -227,8 +226,8 @@ module _ (j : Journal) (len : ℕ) (old : Moment) (held : IsHeld j old) (to_bank
   elsewhere_first : (left : List ℕ) → SameOutside (start_of j.blocks to_bank) (bank_size j.blocks) (image j.unit old) left → records left ≡ Some held.payloads
   elsewhere_first left same =
       holds-records j.blocks j.bank j.enough j.not_too_many held.payloads held.behind left
-        (bank-elsewhere j.blocks j.bank (written held.payloads ++ held.behind) (image j.unit old) left held.bank
-          (subst (λ (b : Bank). SameOutside (start_of j.blocks b) (bank_size j.blocks) (image j.unit old) left) to_is same)) held.ends
+      (bank-elsewhere j.blocks j.bank (written held.payloads ++ held.behind) (image j.unit old) left held.bank
+      (subst (λ (b : Bank). SameOutside (start_of j.blocks b) (bank_size j.blocks) (image j.unit old) left) to_is same)) held.ends
 
   pub begin_same : (left : List ℕ) → SameOutside (start_of j.blocks to_bank) (bank_size j.blocks) (image j.unit old) left → records left ≡ records (image j.unit old)
   begin_same left same = elsewhere_first left same ∙ sym (elsewhere_first (image j.unit old) (same-refl (start_of j.blocks to_bank) (bank_size j.blocks) (image j.unit old)))
@@ -247,7 +246,7 @@ module _ (j : Journal) (len : ℕ) (old : Moment) (held : IsHeld j old) (to_bank
         ends = held.ends;
         alike = alike;
         filled = subst (λ (b : Bank). FilledBy (start_of j.blocks b) (bank_size j.blocks) (image j.unit old) (lead len ++ []) (bank_size j.blocks - 21 - 0) (changes j.unit now)) to_is
-          (subst (λ (l : List ℕ). FilledBy (start_of j.blocks to_bank) (bank_size j.blocks) (image j.unit old) l (bank_size j.blocks - 21 - 0) (changes j.unit now)) (sym (append-nil (lead len)))
+            (subst (λ (l : List ℕ). FilledBy (start_of j.blocks to_bank) (bank_size j.blocks) (image j.unit old) l (bank_size j.blocks - 21 - 0) (changes j.unit now)) (sym (append-nil (lead len)))
             (subst (λ (n : ℕ). FilledBy (start_of j.blocks to_bank) (bank_size j.blocks) (image j.unit old) (lead len) n (changes j.unit now)) none filled));
         put = refl;
       }

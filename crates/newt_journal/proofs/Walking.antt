@@ -1,18 +1,18 @@
 -- One record after the other.
-use Rattle.std.proofs.Common.{IsTrue, Bool, ◌≡◌, ◌≢◌, ℕ, zero, suc, ◌+◌, ◌-◌, ◌*◌, ◌^◌, ◌<◌, ◌≤◌, List, [], ◌∷◌, ◌++◌, length, take, drop, Option, Some, None, refl, sym, ◌∙◌, ap, subst, arith, append_assoc, length-append}
+use Rattle.std.proofs.Common.{IsTrue, Bool, ◌≡◌, ℕ, ◌+◌, ◌-◌, ◌^◌, ◌<◌, ◌≤◌, List, [], ◌∷◌, ◌++◌, length, take, drop, Option, Some, None, refl, sym, ◌∙◌, ap, subst, arith, append_assoc, length-append}
 use Rattle.std.proofs.lemmas.List.{append-nil}
 use Rattle.std.proofs.lemmas.Grind.{flat_map-append}
 use Rattle.std.specs.List.{flat_map}
 use Rattle.newt_host.specs.Moments.{Moment, image}
 use Rattle.newt_host.specs.Outside.{Outside}
-use Rattle.newt_image.specs.Records.{records, payloads_after, with_first, header, record_bytes, length_bytes, length_at, Ends, bank_size}
+use Rattle.newt_image.specs.Records.{records, payloads_after, with_first, header, record_bytes, length_bytes, length_at, bank_size}
 use Rattle.newt_journal.specs.Bank.{bank_number, start_of, limit_of}
 use Rattle.newt_journal.specs.Scan.{between}
 use Rattle.newt_journal.specs.Journal.{Holds, written, IsHeld, Stands}
 use Rattle.newt_journal.specs.Places.{first_place, payloads_from, IsPlace}
 use Rattle.newt_journal.specs.declared.journal.Journal.{Journal}
-use Rattle.newt_journal.proofs.Records.{length-length_bytes, length_at-length_bytes, length-record, payloads-flat, payloads-record}
-use Rattle.newt_journal.proofs.Steps.{length-bank, holds-reads, holds-records, length-written, written-push}
+use Rattle.newt_journal.proofs.Records.{length-length_bytes, length_at-length_bytes, length-record, payloads-flat}
+use Rattle.newt_journal.proofs.Steps.{length-bank, holds-reads, holds-records, written-push}
 
 some-inj : {A : Type 0} (d : A) {x y : A} → Some x ≡ Some y → x ≡ y
 some-inj {A = A} d is = ap (λ (o : Option A). elim o as (λ _. A) [ Some z ↦ z | None ↦ d ]) is
@@ -87,7 +87,7 @@ all_told j at is told outside stands t = ap (λ (k : ℕ). payloads_from j k (im
 
 -- at a record
 module _ (j : Journal) (now : Moment) (held : IsHeld j now) (passed : List (List ℕ)) (payload : List ℕ) (more : List (List ℕ))
-  (all : records (image j.unit now) ≡ Some (passed ++ payload ∷ more)) (at : ℕ) (place : at ≡ start_of j.blocks j.bank + length (written passed)) where
+    (all : records (image j.unit now) ≡ Some (passed ++ payload ∷ more)) (at : ℕ) (place : at ≡ start_of j.blocks j.bank + length (written passed)) where
   abbrev image_now : List ℕ
   image_now = image j.unit now
 

@@ -1,5 +1,5 @@
 -- What the draft of a switch stands for.
-use Rattle.std.specs.Prelude.{IsTrue, Bool, ◌≡◌, ℕ, ◌+◌, ◌-◌, List, [], ◌∷◌, ◌++◌, length, take, drop}
+use Rattle.std.specs.Prelude.{IsTrue, Bool, ◌≡◌, ℕ, ◌+◌, ◌-◌, List, ◌++◌, length, take, drop}
 use Rattle.newt_host.specs.Moments.{Change, Moment, changes}
 use Rattle.newt_host.specs.Outside.{Outside, HasBlocks}
 use Rattle.newt_image.specs.Records.{bank_size, Ends, AllVoteFor}

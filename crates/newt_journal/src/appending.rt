@@ -25,7 +25,11 @@ impl Appending {
     ghost use Rattle.newt_journal.specs.Appending.{IsAppendingOf, drafted};
 
     /// Begins a record of so many bytes: its length is written behind a gate that stays FF.
-    pub(crate) fn begin<H: Host>(journal: Journal, host: &mut H, len: u32) -> Result<Appending, Failed>
+    pub(crate) fn begin<H: Host>(
+        journal: Journal,
+        host: &mut H,
+        len: u32,
+    ) -> Result<Appending, Failed>
         requires some { 0 < len }
         requires fits { len ≤ room journal }
         requires stands { Stands H.told journal (H.outside host.old) }
@@ -58,7 +62,12 @@ impl Appending {
         ensures costs { Spends self.old.journal.unit (length bytes.now) 0 (H.outside host.old) (H.outside host.new) }
         ensures cause { OnErr result (Rose ((H.outside host.old).dev_faults self.old.journal.unit) ((H.outside host.new).dev_faults self.old.journal.unit)) }
     {
-        program_piece(host, self.journal.unit, self.journal.end + 5 + self.put, bytes)?;
+        program_piece(
+            host,
+            self.journal.unit,
+            self.journal.end + 5 + self.put,
+            bytes,
+        )?;
         self.put += bytes.len() as u32;
         Ok(())
     }

@@ -15,7 +15,13 @@ use newt_host::{Failed, Host, Unit};
 const LEAD: [u8; 17] = *b"NSTORE\x00\x01\x00\x00\x00\x00\x00\x00\x00\x00\x00";
 
 /// Erases a bank and begins its one record, of so many bytes.
-pub(crate) fn begin_bank<H: Host>(host: &mut H, unit: Unit, bank: Bank, len: u32, blocks: u32) -> Result<(), Failed>
+pub(crate) fn begin_bank<H: Host>(
+    host: &mut H,
+    unit: Unit,
+    bank: Bank,
+    len: u32,
+    blocks: u32,
+) -> Result<(), Failed>
     requires enough { 13 ≤ blocks }
     requires few { blocks ≤ 4099 }
     requires fits { 21 + len ≤ bank_size blocks }
@@ -29,7 +35,13 @@ pub(crate) fn begin_bank<H: Host>(host: &mut H, unit: Unit, bank: Bank, len: u32
     ensures cause { OnErr result (Rose ((H.outside host.old).dev_faults unit) ((H.outside host.new).dev_faults unit)) }
 {
     let start = bank.start(blocks);
-    erase_blocks(host, unit, bank.first_block(blocks), bank.size_in_blocks(blocks), blocks)?;
+    erase_blocks(
+        host,
+        unit,
+        bank.first_block(blocks),
+        bank.size_in_blocks(blocks),
+        blocks,
+    )?;
     host.sync(unit)?;
     program_piece(host, unit, start, &LEAD)?;
     program_piece(host, unit, start + 17, &len.to_be_bytes())?;

@@ -6,9 +6,9 @@ ghost use Rattle.newt_image.specs.Records.{AllVoteFor};
 ghost use Rattle.newt_journal.specs.Fresh.{Anything};
 
 use crate::fresh::begin_bank;
+use crate::piece::program_piece;
 use crate::vote::cast_votes;
 use crate::{Bank, Journal};
-use crate::piece::program_piece;
 use newt_host::{Failed, Host, Unit};
 
 impl Journal {

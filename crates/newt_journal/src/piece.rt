@@ -21,7 +21,12 @@ pub(crate) fn erase_block<H: Host>(host: &mut H, unit: Unit, block: u32) -> Resu
 }
 
 /// Programs some bytes that were erased.
-pub(crate) fn program_piece<H: Host>(host: &mut H, unit: Unit, at: u32, bytes: &[u8]) -> Result<(), Failed>
+pub(crate) fn program_piece<H: Host>(
+    host: &mut H,
+    unit: Unit,
+    at: u32,
+    bytes: &[u8],
+) -> Result<(), Failed>
     requires attached { IsSome ((H.outside host.old).card unit) }
     requires inside { at + length bytes.now ≤ (H.outside host.old).blocks unit * 4096 }
     requires blank { IsTrue H.told → IsBlank at (length bytes.now) (image unit (H.outside host.old).now) }

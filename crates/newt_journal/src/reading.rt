@@ -1,8 +1,8 @@
 // The records of a journal are read, one after the other.
 ghost use Rattle.std.specs.Prelude.{IsTrue, ◌≡◌};
 
-use crate::scan::read_length;
 use crate::Journal;
+use crate::scan::read_length;
 use newt_host::{Failed, Host};
 
 /// A record that was found: the place of its payload, the payload's length in bytes, and the place behind it, where the next record begins.
@@ -41,7 +41,7 @@ impl Journal {
         ensures found { IsTrue H.told → IfOk result (λ found. MatchOption found
             (payloads_from self.now at (image self.now.unit (H.outside host.old).now) ≡ Some [])
             (λ record_is. payloads_from self.now at (image self.now.unit (H.outside host.old).now)
-                ≡ with_first (take record_is.len (drop record_is.at (image self.now.unit (H.outside host.old).now))) (payloads_from self.now record_is.next (image self.now.unit (H.outside host.old).now)))) }
+            ≡ with_first (take record_is.len (drop record_is.at (image self.now.unit (H.outside host.old).now))) (payloads_from self.now record_is.next (image self.now.unit (H.outside host.old).now)))) }
         ensures next { IsTrue H.told → IfOk result (λ found. IfSome found (λ record_is. IsPlace self.now record_is.next (image self.now.unit (H.outside host.old).now))) }
         ensures end { IsTrue H.told → IfOk result (λ found. MatchOption found (at ≡ self.now.end) (λ record_is. at + 5 ≤ self.now.end)) }
         ensures inside { IfOk result (λ found. IfSome found (λ record_is. (record_is.at ≡ at + 5) × (record_is.next ≡ record_is.at + record_is.len) × (record_is.next ≤ self.now.end))) }

@@ -6,15 +6,21 @@ ghost use Rattle.newt_journal.specs.Bank.{bank_number, other_bank};
 ghost use Rattle.newt_journal.specs.Repairs.{Settling, Repairs};
 ghost use Rattle.newt_image.specs.Records.{vote_of, chosen_bank, AllVoteFor};
 
-use crate::{Bank, Journal};
 use crate::scan::read_byte;
 use crate::vote::rewrite_vote;
+use crate::{Bank, Journal};
 use newt_host::{Failed, Host, Unit};
 
 const BLOCK: u32 = 4096;
 
 /// Makes a block vote for a bank, unless it does already.
-pub(crate) fn settle_vote<H: Host>(host: &mut H, unit: Unit, block: u32, bank: Bank, blocks: u32) -> Result<(), Failed>
+pub(crate) fn settle_vote<H: Host>(
+    host: &mut H,
+    unit: Unit,
+    block: u32,
+    bank: Bank,
+    blocks: u32,
+) -> Result<(), Failed>
     requires inside { block < blocks }
     requires few { blocks ≤ 4099 }
     requires has { HasBlocks unit blocks (H.outside host.old) }
@@ -39,15 +45,16 @@ pub(crate) fn settle_vote<H: Host>(host: &mut H, unit: Unit, block: u32, bank: B
 fn first_to_settle(third: u8, bank: Bank) -> u32
     ensures { result ≡ (if third == bank_number (other_bank bank) then 2 else 1) }
 {
-    if third == bank.other().number() {
-        2
-    } else {
-        1
-    }
+    if third == bank.other().number() { 2 } else { 1 }
 }
 
 /// Makes all three blocks vote for the bank that they choose.
-pub(crate) fn settle_votes<H: Host>(host: &mut H, unit: Unit, bank: Bank, blocks: u32) -> Result<(), Failed>
+pub(crate) fn settle_votes<H: Host>(
+    host: &mut H,
+    unit: Unit,
+    bank: Bank,
+    blocks: u32,
+) -> Result<(), Failed>
     requires enough { 13 ≤ blocks }
     requires few { blocks ≤ 4099 }
     requires has { HasBlocks unit blocks (H.outside host.old) }

@@ -4,8 +4,8 @@ ghost use Rattle.newt_image.specs.Records.{bank_size};
 
 use crate::Journal;
 use crate::fresh::begin_bank;
-use crate::vote::cast_votes;
 use crate::piece::program_piece;
+use crate::vote::cast_votes;
 use newt_host::{Failed, Host};
 
 /// A record that is being written alone into the other bank. It holds the journal until it is finished.
@@ -27,7 +27,11 @@ impl Switching {
     ghost use Rattle.newt_journal.specs.Switch.{IsSwitchOf, switched};
 
     /// Begins the record that alone will stand in the other bank.
-    pub(crate) fn begin<H: Host>(journal: Journal, host: &mut H, len: u32) -> Result<Switching, Failed>
+    pub(crate) fn begin<H: Host>(
+        journal: Journal,
+        host: &mut H,
+        len: u32,
+    ) -> Result<Switching, Failed>
         requires fits { 21 + len ≤ bank_size journal.blocks }
         requires stands { Stands H.told journal (H.outside host.old) }
         requires alike { IsTrue H.told → VotesAgree journal (image journal.unit (H.outside host.old).now) }
@@ -38,7 +42,13 @@ impl Switching {
         ensures costs { Spends journal.unit 21 0 (H.outside host.old) (H.outside host.new) }
         ensures cause { OnErr result (Rose ((H.outside host.old).dev_faults journal.unit) ((H.outside host.new).dev_faults journal.unit)) }
     {
-        begin_bank(host, journal.unit, journal.bank.other(), len, journal.blocks)?;
+        begin_bank(
+            host,
+            journal.unit,
+            journal.bank.other(),
+            len,
+            journal.blocks,
+        )?;
         Ok(Switching {
             journal,
             len,

@@ -1,4 +1,4 @@
-use Rattle.std.proofs.Common.{rules, ◌≡◌, ℕ, List, [], ◌∷◌, get_or, take, drop, refl, arith, sym, ◌∙◌, ap, subst, Option, Some, None, MatchOption}
+use Rattle.std.proofs.Common.{◌≡◌, ℕ, get_or, take, drop, sym, ◌∙◌, ap, subst, Option, Some, None, MatchOption}
 use Rattle.newt_host.specs.Moments.{Moment, image}
 use Rattle.newt_image.specs.Records.{chosen, chosen_bank}
 use Rattle.newt_journal.specs.Bank.{bank_number}

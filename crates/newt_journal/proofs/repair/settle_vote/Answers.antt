@@ -1,5 +1,3 @@
-use Rattle.std.proofs.Common.{rules, ◌≡◌, ◌≤◌, ◌+◌, ◌*◌, length, refl, arith, sym, ◌∙◌, ap, inl, inr}
-use Rattle.newt_host.specs.Moments.{Moment, image}
 use Rattle.newt_journal.specs.Bank.{bank_number}
 use Rattle.newt_journal.proofs.Voting.{block_in}
 use Rattle.newt_journal.proofs.Settle.{unchanged, rewritten, settled_now}

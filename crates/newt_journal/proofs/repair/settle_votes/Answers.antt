@@ -1,5 +1,3 @@
-use Rattle.std.proofs.Common.{rules, ◌≡◌, ◌≤◌, ◌+◌, ◌*◌, length, refl, arith, sym, ◌∙◌, ap}
-use Rattle.newt_host.specs.Moments.{Moment, image}
 use Rattle.newt_journal.proofs.Repairing.{any_0, any_1, any_2, any_3, repaired, alike_now}
 use Rattle.newt_journal.proofs.repair.settle_votes.Goals as goal
 

@@ -1,5 +1,5 @@
-use Rattle.std.proofs.Common.{rules, ◌≡◌, ◌≤◌, ◌*◌, length, refl, arith, sym, ◌∙◌, ap}
-use Rattle.newt_host.specs.Moments.{Moment, image}
+use Rattle.std.proofs.Common.{◌≤◌, length, arith}
+use Rattle.newt_host.specs.Moments.{image}
 use Rattle.newt_host.proofs.Moments.{Leaves-append, Leaves-weaken}
 use Rattle.newt_journal.specs.Bank.{bank_number}
 use Rattle.newt_journal.proofs.Steps.{bank-small}

@@ -1,4 +1,4 @@
-use Rattle.std.proofs.Common.{rules, ◌≡◌, refl}
+use Rattle.std.proofs.Common.{refl}
 use Rattle.newt_image.specs.Records.{length_bytes}
 use Rattle.newt_host.proofs.Outside.{same_cards}
 use Rattle.newt_journal.proofs.Append.{blank, any_moment, same_records, drafted_now, rest_left}

@@ -1,4 +1,4 @@
-use Rattle.std.proofs.Common.{rules, ◌≡◌, ◌+◌, ℕ, refl, ap}
+use Rattle.std.proofs.Common.{◌+◌, ℕ, ap}
 use Rattle.newt_journal.proofs.Walking.{first_told, all_told}
 use Rattle.newt_journal.proofs.journal.Journal.first.Goals as goal
 

@@ -1,5 +1,5 @@
-use Rattle.std.proofs.Common.{rules, ◌≡◌, ◌≤◌, ◌+◌, ◌-◌, ◌*◌, ℕ, length, replicate, refl, arith, sym, ◌∙◌, ap, subst}
-use Rattle.newt_host.specs.Moments.{Moment, image}
+use Rattle.std.proofs.Common.{◌≤◌, ◌+◌, ◌-◌, ◌*◌, ℕ, length, replicate, refl, arith, sym, ◌∙◌, ap, subst}
+use Rattle.newt_host.specs.Moments.{image}
 use Rattle.newt_host.proofs.Moments.{Leaves-append}
 use Rattle.newt_host.proofs.Outside.{same_cards}
 use Rattle.newt_image.specs.Records.{bank_size}
@@ -66,13 +66,12 @@ pub returns-clause-journal : goal.returns-clause-journal
 returns-clause-journal g c =
     let enough : 13 ≤ c.blocks-blocks.result = omega (arith, c.blocks-blocks.ensures, c.requires.enough) in
     let few : c.blocks-blocks.result ≤ 4099 = omega (arith, c.blocks-blocks.ensures, c.requires.few) in
-    let fits : 21 + length c.args.first.now ≤ bank_size c.blocks-blocks.result = subst (λ (n : ℕ). 21 + length c.args.first.now ≤ bank_size n) (sym c.blocks-blocks.ensures) c.requires.fits in
-    (
-  record {
-    has = same_cards c.cast_votes.ensures.alone.cards (same_cards c.sync-2.ensures.alone.cards (same_cards c.program_piece.ensures.alone.cards (same_cards c.begin_bank.ensures.alone.cards (same_cards c.sync.ensures.alone.cards (has_blocks c.args.unit c.blocks-blocks.result (g.H.Host.outside c.args.host.now) (g.met.H.Host.none c.args.host.now c.args.unit) c.blocks-blocks.ensures enough)))));
-    held = λ t. format_stands c.args.unit c.blocks-blocks.result enough few (image c.args.unit (g.H.Host.outside c.sync.new.self).now) c.args.first.now (g.met.H.Host.sized c.sync.new.self c.args.unit t ∙ ap (λ (n : ℕ). n * 4096) (c.sync.ensures.alone.cards.blocks c.args.unit ∙ sym c.blocks-blocks.ensures)) fits _ c.start-start.ensures (g.H.Host.outside c.begin_bank.new.host).now (c.in_ok-begin_bank.ensures.begun t) (c.in_ok-program_piece.ensures.wrote t) (c.in_ok-sync-2.ensures.synced t) (g.H.Host.outside c.cast_votes.new.host).now (c.in_ok-cast_votes.ensures.alike t) (c.in_ok-cast_votes.ensures.kept t) _ refl refl refl refl (c.in_ok-cast_votes.ensures.durable t);
-  },
-  refl,
-  refl,
-  refl,
-)
+    let fits : 21 + length c.args.first.now ≤ bank_size c.blocks-blocks.result = subst (λ (n : ℕ). 21 + length c.args.first.now ≤ bank_size n) (sym c.blocks-blocks.ensures) c.requires.fits in (
+      record {
+        has = same_cards c.cast_votes.ensures.alone.cards (same_cards c.sync-2.ensures.alone.cards (same_cards c.program_piece.ensures.alone.cards (same_cards c.begin_bank.ensures.alone.cards (same_cards c.sync.ensures.alone.cards (has_blocks c.args.unit c.blocks-blocks.result (g.H.Host.outside c.args.host.now) (g.met.H.Host.none c.args.host.now c.args.unit) c.blocks-blocks.ensures enough)))));
+        held = λ t. format_stands c.args.unit c.blocks-blocks.result enough few (image c.args.unit (g.H.Host.outside c.sync.new.self).now) c.args.first.now (g.met.H.Host.sized c.sync.new.self c.args.unit t ∙ ap (λ (n : ℕ). n * 4096) (c.sync.ensures.alone.cards.blocks c.args.unit ∙ sym c.blocks-blocks.ensures)) fits _ c.start-start.ensures (g.H.Host.outside c.begin_bank.new.host).now (c.in_ok-begin_bank.ensures.begun t) (c.in_ok-program_piece.ensures.wrote t) (c.in_ok-sync-2.ensures.synced t) (g.H.Host.outside c.cast_votes.new.host).now (c.in_ok-cast_votes.ensures.alike t) (c.in_ok-cast_votes.ensures.kept t) _ refl refl refl refl (c.in_ok-cast_votes.ensures.durable t);
+      },
+      refl,
+      refl,
+      refl,
+    )

@@ -1,5 +1,4 @@
-use Rattle.std.proofs.Common.{rules, ◌≡◌, refl, arith, sym, ◌∙◌, ap}
-use Rattle.newt_host.specs.Moments.{Moment, image}
+use Rattle.newt_host.specs.Moments.{image}
 use Rattle.newt_host.proofs.Moments.{Leaves-weaken}
 use Rattle.newt_host.proofs.Outside.{same_cards}
 use Rattle.newt_journal.proofs.Repairing.{same_reading, still_held}

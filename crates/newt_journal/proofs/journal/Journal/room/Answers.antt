@@ -1,5 +1,4 @@
-use Rattle.std.proofs.Common.{rules, ◌≡◌, ◌-◌, Bool, if◌then◌else◌, refl, sym, ◌∙◌, ap}
-use Rattle.newt_journal.specs.Bank.{limit_of}
+use Rattle.std.proofs.Common.{rules}
 use Rattle.newt_journal.proofs.Rooms.{room_told}
 use Rattle.newt_journal.proofs.journal.Journal.room.Goals as goal
 
