@@ -7,7 +7,7 @@ use Rattle.newt_graph.specs.declared.node.Ref.TheVariants.{Imm, Node as At}
 use Rattle.newt_graph.specs.declared.node.Node.{Node}
 use Rattle.newt_graph.specs.declared.node.Node.TheVariants.{Symbol, Str, Binary, Large, Array, Frame}
 use Rattle.newt_graph.specs.Graph.{RawGraph}
-use Rattle.newt_spec_graph.specs.Graph.{nth, object}
+use Rattle.newt_spec_graph.specs.Graph.{nth, change_nth, object}
 use Rattle.newt_spec_graph.specs.Walk.{renumber, renumber_ref}
 
 abbrev pub is_named : List ℕ → Option Node → Bool
@@ -82,12 +82,7 @@ put_into g name value frame =
     let named = g.nodes ++ map (λ k. k.1) (new_nodes g.nodes (Symbol name ∷ [])) in
     let to = goes_to named value.nodes in
     let nodes = named ++ map (λ k. renumber to k.1) (new_nodes named value.nodes) in
-    let changed = option_to_list (option_map (set_slot nodes name (renumber_ref to value.root)) (nth nodes frame)) in
-    record { nodes = replace_at nodes frame changed; root = g.root }
-  where
-    replace_at : List Node → ℕ → List Node → List Node
-    replace_at nodes n [] = nodes
-    replace_at nodes n (node ∷ _) = slice_set nodes n node
+    record { nodes = change_nth frame (set_slot nodes name (renumber_ref to value.root)) nodes; root = g.root }
 
 -- none where a slot before the last is missing, or a step is not taken from a frame
 abbrev pub put : RawGraph → List (List ℕ) → RawGraph → Option RawGraph

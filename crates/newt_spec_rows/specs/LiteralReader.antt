@@ -11,7 +11,7 @@ use Rattle.newt_graph.specs.Graph.{RawGraph}
 use Rattle.newt_spec_graph.specs.Graph.{nth}
 use Rattle.newt_spec_graph.specs.Walk.{normal_form}
 use Rattle.newt_spec_graph.specs.Slots.{symbol_number}
-use Rattle.newt_spec_script.specs.Words.{digits_value}
+use Rattle.newt_base.specs.Text.{number_after}
 
 -- the nodes so far, the labels given, and the text that is left
 pub record State : Type 0 where
@@ -70,7 +70,7 @@ units (suc d) (c ∷ cs) = elim (c == 34) [
 ]
 
 abbrev pub number : List ℕ → ℕ × List ℕ
-number cs = let n = prefix_len is_ascii_digit cs in (digits_value (take n cs), drop n cs)
+number cs = let n = prefix_len is_ascii_digit cs in (number_after 0 (take n cs), drop n cs)
 
 abbrev pub label_of : List (ℕ × ℕ) → ℕ → Option ℕ
 label_of labels l = option_map (λ p. p.1) (find (λ p. p.0 == l) labels)

@@ -18,12 +18,12 @@ abbrev pub IsObject : Objects → ℕ → List ℕ → Type 0
 IsObject objects id bytes = Contains objects (id, bytes)
 
 -- the large binaries of a graph: the number of each, and its bytes
+abbrev pub large_in : ℕ × Node → List (ℕ × List ℕ)
+large_in (n, Large _ bytes) = (n, bytes) ∷ []
+large_in _ = []
+
 abbrev pub larges : RawGraph → List (ℕ × List ℕ)
 larges g = flat_map large_in (enumerate_from 0 g.nodes)
-  where
-    large_in : ℕ × Node → List (ℕ × List ℕ)
-    large_in (n, Large _ bytes) = (n, bytes) ∷ []
-    large_in _ = []
 
 -- node number, object id and length of a large binary
 abbrev pub large_row : (ℕ × List ℕ) × ℕ → List ℕ

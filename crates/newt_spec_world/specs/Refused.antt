@@ -16,7 +16,7 @@ use Rattle.newt_spec_query.specs.Cursor.{Cursor}
 use Rattle.newt_spec_world.specs.declared.command.Command.{Command}
 use Rattle.newt_spec_world.specs.declared.command.Command.TheVariants as command
 use Rattle.newt_spec_world.specs.declared.command.PartWord.{PartWord}
-use Rattle.newt_spec_world.specs.World.{Device, World, store_of, store_on_unit, device, mounted, mounted_store, mounted_stores, soup_in, entry_in, cursor, free_cursor}
+use Rattle.newt_spec_world.specs.World.{Device, World, default_unit, store_of, store_on_unit, device, mounted, mounted_store, mounted_stores, soup_in, entry_in, cursor, free_cursor}
 use Rattle.newt_spec_world.specs.Changed.{changed, large_at, large_bytes, graph_after_set, index_of, hit_for, key_from, spec_of_words, sig_of}
 use Rattle.newt_spec_world.specs.Alias.{alias_of}
 
@@ -172,7 +172,7 @@ checks w (command.Tags u s) = no_unit w u ∷ not_mounted w u ∷ no_soup w u s 
 checks w (command.SetTags u s path symbols) = no_unit w u ∷ not_mounted w u ∷ no_soup w u s ∷ (Limit, nat_lt 64 (length symbols)) ∷ full w u (command.SetTags u s path symbols) ∷ []
 checks w (command.Add u s g) = no_unit w u ∷ not_mounted w u ∷ no_soup w u s ∷ not_frame g ∷ too_large g ∷ no_more_ids w u s ∷ full w u (command.Add u s g) ∷ []
 checks w (command.Addx u s g) = no_unit w u ∷ not_mounted w u ∷ no_soup w u s ∷ not_frame g ∷ too_large g ∷ no_more_ids w u s ∷ full w u (command.Addx u s g) ∷ []
-checks w (command.Addu s g) = let u = unwrap_or w.default 8 in not_mounted w u ∷ no_soup w u s ∷ not_frame g ∷ too_large g ∷ no_more_ids w u s ∷ full w u (command.Addu s g) ∷ []
+checks w (command.Addu s g) = let u = default_unit w in not_mounted w u ∷ no_soup w u s ∷ not_frame g ∷ too_large g ∷ no_more_ids w u s ∷ full w u (command.Addu s g) ∷ []
 checks w (command.Get u s uid) = no_unit w u ∷ not_mounted w u ∷ no_soup w u s ∷ no_entry w u s uid ∷ []
 checks w (command.Getx u s uid) = no_unit w u ∷ not_mounted w u ∷ no_soup w u s ∷ no_entry w u s uid ∷ []
 checks w (command.Set u s uid path g) = no_unit w u ∷ not_mounted w u ∷ no_soup w u s ∷ no_entry w u s uid ∷ no_path w u s uid path g ∷ past_limits w u s uid path g ∷ set_too_large w u s uid path g ∷ full w u (command.Set u s uid path g) ∷ []
