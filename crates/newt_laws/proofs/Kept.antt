@@ -210,11 +210,11 @@ pub patched-good : (o : Option ℕ) (at : ℕ) (new : List ℕ) (e : Entry) → 
     → valid_entry e ≡ true → valid_entry (record e { graph = patched_at o at new e.graph }) ≡ true
 patched-good None at new e room h = h
 patched-good (Some n) at new e room h = grind (arith, h, at-object at new e.graph n room e.graph.root, at-limits at new e.graph n room,
-    ap {A = RawGraph} {B = ℕ} (λ k. length (Rattle.newt_spec_graph.specs.Nsof.nsof k)) (at-skeleton at new e.graph n room))
+    ap {A = RawGraph} {B = ℕ} (λ k. length (Rattle.newt_nsof.specs.Written.nsof k)) (at-skeleton at new e.graph n room))
 
 pub patched-pages : (o : Option ℕ) (at : ℕ) (new : List ℕ) (e : Entry) → at + length new ≤ length (bytes_of_large (option_and_then (nth e.graph.nodes) o))
     → entry_pages (record e { graph = patched_at o at new e.graph }) ≡ entry_pages e
 patched-pages None at new e room = refl
-patched-pages (Some n) at new e room = ap (λ k. pages (12 + length (Rattle.newt_spec_graph.specs.Nsof.nsof k) + 12 * length (Rattle.newt_spec_graph.specs.Nsof.large_lengths (patched_at (Some n) at new e.graph)))
-      + Rattle.std.specs.Prelude.sum (map pages (Rattle.newt_spec_graph.specs.Nsof.large_lengths (patched_at (Some n) at new e.graph)))) (at-skeleton at new e.graph n room)
+patched-pages (Some n) at new e room = ap (λ k. pages (12 + length (Rattle.newt_nsof.specs.Written.nsof k) + 12 * length (Rattle.newt_spec_store.specs.Cost.large_lengths (patched_at (Some n) at new e.graph)))
+      + Rattle.std.specs.Prelude.sum (map pages (Rattle.newt_spec_store.specs.Cost.large_lengths (patched_at (Some n) at new e.graph)))) (at-skeleton at new e.graph n room)
     ∙ ap (λ ls. pages (12 + skeleton_length e.graph + 12 * length ls) + Rattle.std.specs.Prelude.sum (map pages ls)) (at-lengths at new e.graph n room)

@@ -9,7 +9,9 @@ use Rattle.newt_graph.specs.declared.node.Node.TheVariants.{Symbol, Str, Binary,
 use Rattle.newt_graph.specs.Graph.{RawGraph}
 use Rattle.newt_spec_graph.specs.Graph.{nth, change_nth, object, is_frame, parts, parts_of}
 use Rattle.newt_spec_graph.specs.Walk.{Met, has_met, opened, walk_from, walk, depth_of, within_limits, node_within, bytes_in, slots}
-use Rattle.newt_spec_graph.specs.Nsof.{nsof, skeleton, without_bytes, large_lengths, large_length}
+use Rattle.newt_nsof.specs.Written.{nsof}
+use Rattle.newt_nsof.specs.Lengths.{skeleton, bare as bare_node}
+use Rattle.newt_spec_store.specs.Cost.{large_lengths, large_length}
 use Rattle.newt_spec_store.specs.Keys.{Path}
 use Rattle.newt_spec_store.specs.Store.{Entry}
 use Rattle.newt_spec_store.specs.Cost.{entry_pages, skeleton_length}
@@ -87,7 +89,7 @@ patch-frame : (at : ℕ) (new : List ℕ) (node : Node) → is_frame (Some (patc
 patch-frame at new (Large c old) = refl
 patch-frame at new node = refl
 
-patch-without : (at : ℕ) (new : List ℕ) (node : Node) → without_bytes (patch_node at new node) ≡ without_bytes node
+patch-without : (at : ℕ) (new : List ℕ) (node : Node) → bare_node (patch_node at new node) ≡ bare_node node
 patch-without at new (Large c old) = refl
 patch-without at new node = refl
 
@@ -111,7 +113,7 @@ module _ (at : ℕ) (new : List ℕ) (g : RawGraph) (n : ℕ) (room : at + lengt
   in-room x e = subst (λ o. at + length new ≤ length (bytes_of_large o)) e room
 
   pub at-skeleton : skeleton after ≡ skeleton g
-  at-skeleton = ap {A = List Node} {B = RawGraph} (λ ns. record { nodes = ns; root = g.root }) (nth-map without_bytes n (patch_node at new) g.nodes (λ x _. patch-without at new x))
+  at-skeleton = ap {A = List Node} {B = RawGraph} (λ ns. record { nodes = ns; root = g.root }) (nth-map bare_node n (patch_node at new) g.nodes (λ x _. patch-without at new x))
 
   pub at-lengths : large_lengths after ≡ large_lengths g
   at-lengths = nth-flat large_length n (patch_node at new) g.nodes (λ x e. patch-large at new x (in-room x e))

@@ -11,7 +11,8 @@ use Rattle.newt_graph.specs.declared.node.Node.{Node}
 use Rattle.newt_graph.specs.declared.node.Node.TheVariants.{Symbol, Str, Binary, Large, Array, Frame}
 use Rattle.newt_graph.specs.Graph.{RawGraph}
 use Rattle.newt_spec_graph.specs.Graph.{change_nth}
-use Rattle.newt_spec_graph.specs.Nsof.{nsof, skeleton, without_bytes}
+use Rattle.newt_nsof.specs.Written.{nsof}
+use Rattle.newt_nsof.specs.Lengths.{skeleton, bare as bare_node}
 use Rattle.newt_spec_store.specs.Store.{Entry}
 use Rattle.newt_spec_store.specs.Image as image
 use Rattle.newt_spec_store.specs.Image.{Objects, larges, large_in, entry_bytes}
@@ -97,7 +98,7 @@ record-back soup e ids f = reads-whole (entry_fields (length (entry_bytes soup e
 larges_from : ℕ → List Node → List (ℕ × List ℕ)
 larges_from k nodes = flat_map large_in (enumerate_from k nodes)
 
-same-numbers : (k : ℕ) (nodes : List Node) → map (λ (l : ℕ × List ℕ). l.0) (flat_map large_in (enumerate_from k (map without_bytes nodes))) ≡ map (λ (l : ℕ × List ℕ). l.0) (flat_map large_in (enumerate_from k nodes))
+same-numbers : (k : ℕ) (nodes : List Node) → map (λ (l : ℕ × List ℕ). l.0) (flat_map large_in (enumerate_from k (map bare_node nodes))) ≡ map (λ (l : ℕ × List ℕ). l.0) (flat_map large_in (enumerate_from k nodes))
 same-numbers k [] = refl
 same-numbers k (Large c bytes ∷ nodes) = ap (λ ns. k ∷ ns) (same-numbers (k + 1) nodes)
 same-numbers k (Symbol _ ∷ nodes) = same-numbers (k + 1) nodes
@@ -106,7 +107,7 @@ same-numbers k (Binary _ _ ∷ nodes) = same-numbers (k + 1) nodes
 same-numbers k (Array _ _ ∷ nodes) = same-numbers (k + 1) nodes
 same-numbers k (Frame _ _ ∷ nodes) = same-numbers (k + 1) nodes
 
-all-empty : (k : ℕ) (nodes : List Node) → list_all (λ (l : ℕ × List ℕ). length l.1 == 0) (flat_map large_in (enumerate_from k (map without_bytes nodes))) ≡ true
+all-empty : (k : ℕ) (nodes : List Node) → list_all (λ (l : ℕ × List ℕ). length l.1 == 0) (flat_map large_in (enumerate_from k (map bare_node nodes))) ≡ true
 all-empty k [] = refl
 all-empty k (Large c bytes ∷ nodes) = all-empty (k + 1) nodes
 all-empty k (Symbol _ ∷ nodes) = all-empty (k + 1) nodes
@@ -125,16 +126,16 @@ push-length pre x = length-append pre (x ∷ [])
 abbrev fill_nodes : List Node → ℕ × List ℕ → List Node
 fill_nodes ns l = change_nth l.0 (with_bytes l.1) ns
 
-other : (pre : List Node) (x : Node) (nodes : List Node) → fold fill_nodes ((pre ++ x ∷ []) ++ map without_bytes nodes) (flat_map large_in (enumerate_from (length (pre ++ x ∷ [])) nodes)) ≡ (pre ++ x ∷ []) ++ nodes
-    → fold fill_nodes (pre ++ (x ∷ map without_bytes nodes)) (flat_map large_in (enumerate_from (length pre + 1) nodes)) ≡ pre ++ (x ∷ nodes)
-other pre x nodes h = ap (λ ns. fold fill_nodes ns (flat_map large_in (enumerate_from (length pre + 1) nodes))) (sym (append_assoc pre (x ∷ []) (map without_bytes nodes)))
-    ∙ ap (λ k. fold fill_nodes ((pre ++ x ∷ []) ++ map without_bytes nodes) (flat_map large_in (enumerate_from k nodes))) (sym (push-length pre x)) ∙ h ∙ append_assoc pre (x ∷ []) nodes
+other : (pre : List Node) (x : Node) (nodes : List Node) → fold fill_nodes ((pre ++ x ∷ []) ++ map bare_node nodes) (flat_map large_in (enumerate_from (length (pre ++ x ∷ [])) nodes)) ≡ (pre ++ x ∷ []) ++ nodes
+    → fold fill_nodes (pre ++ (x ∷ map bare_node nodes)) (flat_map large_in (enumerate_from (length pre + 1) nodes)) ≡ pre ++ (x ∷ nodes)
+other pre x nodes h = ap (λ ns. fold fill_nodes ns (flat_map large_in (enumerate_from (length pre + 1) nodes))) (sym (append_assoc pre (x ∷ []) (map bare_node nodes)))
+    ∙ ap (λ k. fold fill_nodes ((pre ++ x ∷ []) ++ map bare_node nodes) (flat_map large_in (enumerate_from k nodes))) (sym (push-length pre x)) ∙ h ∙ append_assoc pre (x ∷ []) nodes
 
 -- the nodes before these are filled already
-filled : (pre nodes : List Node) → fold fill_nodes (pre ++ map without_bytes nodes) (flat_map large_in (enumerate_from (length pre) nodes)) ≡ pre ++ nodes
+filled : (pre nodes : List Node) → fold fill_nodes (pre ++ map bare_node nodes) (flat_map large_in (enumerate_from (length pre) nodes)) ≡ pre ++ nodes
 filled pre [] = refl
 filled pre (Large c bytes ∷ nodes) =
-    ap (λ ns. fold fill_nodes ns (flat_map large_in (enumerate_from (length pre + 1) nodes))) (at-length (with_bytes bytes) pre (Large c []) (map without_bytes nodes))
+    ap (λ ns. fold fill_nodes ns (flat_map large_in (enumerate_from (length pre + 1) nodes))) (at-length (with_bytes bytes) pre (Large c []) (map bare_node nodes))
     ∙ other pre (Large c bytes) nodes (filled (pre ++ Large c bytes ∷ []) nodes)
 filled pre (Symbol s ∷ nodes) = other pre (Symbol s) nodes (filled (pre ++ Symbol s ∷ []) nodes)
 filled pre (Str s ∷ nodes) = other pre (Str s) nodes (filled (pre ++ Str s ∷ []) nodes)
@@ -147,7 +148,7 @@ fold-fill root ns [] = refl
 fold-fill root ns (l ∷ ls) = fold-fill root (fill_nodes ns l) ls
 
 pub fill-back : (g : RawGraph) → fold fill (skeleton g) (larges g) ≡ g
-fill-back g = fold-fill g.root (map without_bytes g.nodes) (larges g) ∙ ap {A = List Node} {B = RawGraph} (λ ns. record { nodes = ns; root = g.root }) (filled [] g.nodes)
+fill-back g = fold-fill g.root (map bare_node g.nodes) (larges g) ∙ ap {A = List Node} {B = RawGraph} (λ ns. record { nodes = ns; root = g.root }) (filled [] g.nodes)
 
 -- ---- the objects of large binaries
 
