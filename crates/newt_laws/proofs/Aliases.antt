@@ -1,8 +1,8 @@
 -- An alias names its entry, or nothing.
 use Rattle.std.proofs.Common.{arith, ◌≡◌, refl, ap, sym, ◌∙◌, subst, ℕ, zero, suc, ◌+◌, List, [], ◌∷◌, true, false, Bool, ◌⊎◌, inl, inr, cond, Option, Some, None, option_map, option_and_then, find, ◌==◌}
+use Rattle.std.specs.Prelude.{slice_get}
 use Rattle.std.specs.List.{enumerate_from}
 use Rattle.std.proofs.lemmas.Bool.{eqb-true}
-use Rattle.newt_spec_graph.specs.Graph.{nth}
 use Rattle.newt_spec_store.specs.Store.{Store, Soup, Entry, entry_of}
 use Rattle.newt_spec_world.specs.declared.command.Command.{Command}
 use Rattle.newt_spec_world.specs.World.{World, Device, device, store_of, store_on_unit, mounted, mounted_store, on_unit, flat}
@@ -16,7 +16,7 @@ use Rattle.newt_laws.proofs.Units.{has-mounted, mapped}
 use Rattle.newt_laws.proofs.Settled.{find-passes}
 use Rattle.newt_laws.proofs.Later.{run-later, entry-gone}
 
-among-enumerate : {X : Type 0} (k : ℕ) (us : List X) (n : ℕ) (d : X) → Among (enumerate_from k us) (n, d) → (i : ℕ) × (n ≡ k + i) × (nth us i ≡ Some d)
+among-enumerate : {X : Type 0} (k : ℕ) (us : List X) (n : ℕ) (d : X) → Among (enumerate_from k us) (n, d) → (i : ℕ) × (n ≡ k + i) × (slice_get us i ≡ Some d)
 among-enumerate k [] n d m = absurd m
 among-enumerate k (x ∷ us) n d (inl e) = (0, omega (arith, ap {A = ℕ × _} {B = ℕ} (λ p. p.0) e), ap {A = ℕ × _} (λ p. Some p.1) e)
 among-enumerate k (x ∷ us) n d (inr m) = let r = among-enumerate (k + 1) us n d m in (suc r.0, omega (arith, r.1), r.2)
@@ -26,7 +26,7 @@ among-mounted-unit w u s m =
     let r = among-filter_map (λ d. option_map (λ s. (d.0, s)) (on_unit d.1)) (enumerate_from 0 w.units) (u, s) m in
     let d = mapped (λ (s : Store). (r.0.0, s)) (on_unit r.0.1) (u, s) r.2 in
     let n = among-enumerate 0 w.units r.0.0 r.0.1 r.1 in
-    ap (λ k. on_unit (flat (nth w.units k))) (sym (ap {A = ℕ × Store} {B = ℕ} (λ p. p.0) d.2) ∙ zero-plus n.0 r.0.0 n.1)
+    ap (λ k. on_unit (flat (slice_get w.units k))) (sym (ap {A = ℕ × Store} {B = ℕ} (λ p. p.0) d.2) ∙ zero-plus n.0 r.0.0 n.1)
     ∙ ap (λ o. on_unit (flat o)) n.2 ∙ d.1 ∙ ap {A = ℕ × Store} {B = Option Store} (λ p. Some p.1) d.2
   where
     zero-plus : (i n : ℕ) → n ≡ 0 + i → n ≡ i

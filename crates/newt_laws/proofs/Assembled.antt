@@ -14,7 +14,8 @@ use Rattle.newt_spec_store.specs.Cost.{directory_bytes}
 use Rattle.newt_spec_store.specs.Valid.{valid, well_formed, fits, valid_soup}
 use Rattle.newt_spec_store.specs.Image.{Objects, all_entries}
 use Rattle.newt_spec_store.specs.Reading.{whole, directory}
-use Rattle.newt_spec_store.specs.StoreOf.{EntryRow, object_bytes, every, entry_of_row, rows_of, named_once, with_entries, uid_cmp, in_a_soup, assembled, store_of}
+use Rattle.newt_spec_graph.specs.Graph.{every}
+use Rattle.newt_spec_store.specs.StoreOf.{EntryRow, object_bytes, entry_of_row, rows_of, named_once, with_entries, uid_cmp, in_a_soup, assembled, store_of}
 use Rattle.newt_laws.specs.Lists.{Each, Pairs, Among}
 use Rattle.newt_laws.specs.Laid.{ApartIds, AreEntries, Laid, record_of, row_of, IsLaid}
 use Rattle.newt_laws.proofs.Records.{record-back, entry-back}

@@ -1,5 +1,6 @@
 -- Commands that leave a settled world settled by themselves.
 use Rattle.std.proofs.Common.{arith, ◌≡◌, refl, ap, sym, ◌∙◌, subst, ℕ, zero, suc, List, [], ◌∷◌, ◌++◌, true, false, Bool, IsTrue, not, ◌&&◌, ◌||◌, ◌⊎◌, inl, inr, cond, Option, Some, None, option_map, option_and_then, unwrap_or, map, filter, filter_map, find, slice_set, ◌==◌}
+use Rattle.std.specs.Prelude.{slice_get}
 use Rattle.std.specs.Bool.{⊤}
 use Rattle.std.specs.Option.{is_none}
 use Rattle.std.specs.List.{list_any, cons_option}
@@ -7,7 +8,6 @@ use Rattle.std.proofs.lemmas.Bool.{and_parts}
 use Rattle.newt_base.specs.Names.{equal_text}
 use Rattle.newt_base.specs.Refusals.{first_of}
 use Rattle.newt_graph.specs.Graph.{RawGraph}
-use Rattle.newt_spec_graph.specs.Graph.{nth}
 use Rattle.newt_spec_store.specs.Keys.{IndexSpec, Key, Path, same_spec, same_paths, paths_of, key}
 use Rattle.newt_spec_store.specs.Store.{Store, Soup, Entry, change_first, change_soup, make_soup, drop_soup, remove_entry}
 use Rattle.newt_spec_store.specs.Valid.{well_formed, fits, valid}
@@ -31,17 +31,17 @@ use Rattle.newt_laws.proofs.Settled.{OnCursor, Shows, AllShow, Stands, shows-fro
 
 -- ---- the mounted stores, by unit
 
-pub among-mounted : (us : List (Option Device)) (s : Store) → Among (filter_map on_unit us) s → (n : ℕ) × (on_unit (flat (nth us n)) ≡ Some s)
+pub among-mounted : (us : List (Option Device)) (s : Store) → Among (filter_map on_unit us) s → (n : ℕ) × (on_unit (flat (slice_get us n)) ≡ Some s)
 among-mounted [] s m = absurd m
 among-mounted (d ∷ us) s m = go (among-mounted us s) (on_unit d) refl m
   where
-    go : (Among (filter_map on_unit us) s → (n : ℕ) × (on_unit (flat (nth us n)) ≡ Some s)) → (o : Option Store) → on_unit d ≡ o
-      → Among (cons_option o (filter_map on_unit us)) s → (n : ℕ) × (on_unit (flat (nth (d ∷ us) n)) ≡ Some s)
+    go : (Among (filter_map on_unit us) s → (n : ℕ) × (on_unit (flat (slice_get us n)) ≡ Some s)) → (o : Option Store) → on_unit d ≡ o
+      → Among (cons_option o (filter_map on_unit us)) s → (n : ℕ) × (on_unit (flat (slice_get (d ∷ us) n)) ≡ Some s)
     go more None e k = let r = more k in (suc r.0, r.1)
     go more (Some t) e (inl k) = (0, e ∙ ap Some k)
     go more (Some t) e (inr k) = let r = more k in (suc r.0, r.1)
 
-pub mounted-among : (us : List (Option Device)) (s : Store) (n : ℕ) → on_unit (flat (nth us n)) ≡ Some s → Among (filter_map on_unit us) s
+pub mounted-among : (us : List (Option Device)) (s : Store) (n : ℕ) → on_unit (flat (slice_get us n)) ≡ Some s → Among (filter_map on_unit us) s
 mounted-among [] s n h = absurd (none-some s h)
 mounted-among (d ∷ us) s zero h = subst (λ o. Among (cons_option o (filter_map on_unit us)) s) (sym h) (inl refl)
 mounted-among (d ∷ us) s (suc n) h = go (on_unit d) (mounted-among us s n h)
@@ -192,7 +192,7 @@ store-fewer w u f shrinks = change-fewer w u (λ d. record d { media = change_me
 
 -- ---- rows on cursors
 
-at-cursor : (P : Cursor → Type 0) (cs : List (Option Cursor)) (c : ℕ) (k : Cursor) → Each (OnCursor P) cs → flat (nth cs c) ≡ Some k → P k
+at-cursor : (P : Cursor → Type 0) (cs : List (Option Cursor)) (c : ℕ) (k : Cursor) → Each (OnCursor P) cs → flat (slice_get cs c) ≡ Some k → P k
 at-cursor P [] c k h e = absurd (none-some k e)
 at-cursor P (None ∷ cs) zero k h e = absurd (none-some k e)
 at-cursor P (Some x ∷ cs) zero k h e = subst P (some-same x k e) h.0

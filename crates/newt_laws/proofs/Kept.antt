@@ -1,5 +1,6 @@
 -- Each row of the table keeps stores valid.
 use Rattle.std.proofs.Common.{arith, ◌≡◌, refl, ap, sym, ◌∙◌, subst, ℕ, zero, suc, ◌+◌, ◌*◌, ◌<◌, ◌≤◌, List, [], ◌∷◌, ◌++◌, true, false, Bool, IsTrue, not, ◌&&◌, ◌||◌, ◌⊎◌, inl, inr, cond, Option, Some, None, option_map, option_and_then, unwrap_or, map, length, nat_le, nat_lt, ◌==◌}
+use Rattle.std.specs.Prelude.{slice_get}
 use Rattle.std.specs.Option.{is_none, is_some}
 use Rattle.std.specs.Bool.{⊤}
 use Rattle.std.specs.List.{list_all, list_any}
@@ -8,8 +9,10 @@ use Rattle.newt_base.specs.Names.{same_name}
 use Rattle.newt_base.specs.Refusals.{Checks, first_of}
 use Rattle.newt_base.specs.declared.Refusal.{Refusal}
 use Rattle.newt_graph.specs.Graph.{RawGraph}
-use Rattle.newt_spec_graph.specs.Graph.{is_frame, object, nth}
-use Rattle.newt_spec_graph.specs.Walk.{within_limits}
+use Rattle.newt_spec_graph.specs.Graph.{is_frame, object}
+use Rattle.newt_spec_graph.specs.Limits.{within_limits, is_within}
+use Rattle.newt_graph.specs.Meeting.{normal_form}
+use Rattle.newt_spec_graph.specs.Slots.{put}
 use Rattle.newt_spec_store.specs.Keys.{Path, IndexSpec, paths_of, same_paths}
 use Rattle.newt_spec_store.specs.Store.{Store, Soup, Entry, soup_named, entry_of, change_soup, change_entry, make_soup, drop_soup, add_entry, remove_entry}
 use Rattle.newt_spec_store.specs.Cost.{skeleton_length, cost, cap, entry_pages, pages}
@@ -30,7 +33,7 @@ use Rattle.newt_laws.proofs.Units.{change-device, change-store, units-but, devic
 use Rattle.newt_laws.proofs.Soups.{with-soup, with-index, without-index, with-tags, with-entry, with-change, without-entry, with-new-soup, without-soup, new-store, found-good, is-store, is-soup}
 use Rattle.newt_laws.proofs.Costs.{fits-without-soup, fits-without-index, fits-without-entry, fits-with-change, fits-new}
 use Rattle.newt_laws.proofs.Patch.{at-skeleton, at-lengths, at-limits, at-object}
-use Rattle.newt_laws.proofs.Frames.{set-frame}
+use Rattle.newt_laws.proofs.Frames.{set-frame, normal-frame}
 
 -- ---- checks
 
@@ -87,7 +90,7 @@ media-both P Q R blocks lost f h k = tt
 -- ---- rows that leave the units alone
 
 pub same-units : (P : ℕ → Store → Type 0) (v w : World) → v.units ≡ w.units → Every P w → Every P v
-same-units P v w e all u k d h = all u tt d (sym (ap (λ us. flat (nth us u)) e) ∙ h)
+same-units P v w e all u k d h = all u tt d (sym (ap (λ us. flat (slice_get us u)) e) ∙ h)
 
 step-units : (w : World) (c : ℕ) (step : Step) (o : Option Cursor) → (step_from w c step o).units ≡ w.units
 step-units w c step None = refl
@@ -199,20 +202,33 @@ new-entry g uid time limits frame size = grind (arith, limits, frame, size)
 entry-frame : (e : Entry) → valid_entry e ≡ true → is_frame (object e.graph.nodes e.graph.root) ≡ true
 entry-frame e h = grind arith
 
-pub set-entry : (e : Entry) (minute : ℕ) (path : Path) (g : RawGraph) → valid_entry e ≡ true → not (within_limits (graph_after_set path g e.graph)) ≡ false
+-- where the graph with the value is there, what it is follows from its normal form
+set-good : (e : Entry) (minute : ℕ) (o : Option RawGraph) → valid_entry e ≡ true → ((h : RawGraph) → o ≡ Some h → is_frame (object h.nodes h.root) ≡ true)
+    → on_some o (λ h. not (is_within (normal_form h))) ≡ false
+    → nat_lt 64_000 (skeleton_length (unwrap_or (option_and_then normal_form o) e.graph)) ≡ false
+    → valid_entry (with_graph minute (unwrap_or (option_and_then normal_form o) e.graph) e) ≡ true
+set-good e minute None h frame limits size = h
+set-good e minute (Some x) h frame limits size = go (normal_form x) refl limits size
+  where
+    go : (o : Option RawGraph) → normal_form x ≡ o → not (is_within o) ≡ false → nat_lt 64_000 (skeleton_length (unwrap_or o e.graph)) ≡ false
+      → valid_entry (with_graph minute (unwrap_or o e.graph) e) ≡ true
+    go None is l k = cc
+    go (Some y) is l k = all-three _ _ _ (normal-frame x y (frame x refl) is) (not-false _ l)
+      (le-leb (skeleton_length y) 64_000 (ltb-false 64_000 (skeleton_length y) k))
+
+pub set-entry : (e : Entry) (minute : ℕ) (path : Path) (g : RawGraph) → valid_entry e ≡ true → on_some (put e.graph path g) (λ h. not (is_within (normal_form h))) ≡ false
     → nat_lt 64_000 (skeleton_length (graph_after_set path g e.graph)) ≡ false → valid_entry (with_graph minute (graph_after_set path g e.graph) e) ≡ true
-set-entry e minute path g h limits size = all-three _ _ _ (set-frame path g e.graph (entry-frame e h)) (not-false _ limits)
-    (le-leb (skeleton_length (graph_after_set path g e.graph)) 64_000 (ltb-false 64_000 (skeleton_length (graph_after_set path g e.graph)) size))
+set-entry e minute path g h limits size = set-good e minute (put e.graph path g) h (λ x is. set-frame path g e.graph x (entry-frame e h) is) limits size
 
 -- ---- a patched graph
 
-pub patched-good : (o : Option ℕ) (at : ℕ) (new : List ℕ) (e : Entry) → at + length new ≤ length (bytes_of_large (option_and_then (nth e.graph.nodes) o))
+pub patched-good : (o : Option ℕ) (at : ℕ) (new : List ℕ) (e : Entry) → at + length new ≤ length (bytes_of_large (option_and_then (slice_get e.graph.nodes) o))
     → valid_entry e ≡ true → valid_entry (record e { graph = patched_at o at new e.graph }) ≡ true
 patched-good None at new e room h = h
 patched-good (Some n) at new e room h = grind (arith, h, at-object at new e.graph n room e.graph.root, at-limits at new e.graph n room,
     ap {A = RawGraph} {B = ℕ} (λ k. length (Rattle.newt_nsof.specs.Written.nsof k)) (at-skeleton at new e.graph n room))
 
-pub patched-pages : (o : Option ℕ) (at : ℕ) (new : List ℕ) (e : Entry) → at + length new ≤ length (bytes_of_large (option_and_then (nth e.graph.nodes) o))
+pub patched-pages : (o : Option ℕ) (at : ℕ) (new : List ℕ) (e : Entry) → at + length new ≤ length (bytes_of_large (option_and_then (slice_get e.graph.nodes) o))
     → entry_pages (record e { graph = patched_at o at new e.graph }) ≡ entry_pages e
 patched-pages None at new e room = refl
 patched-pages (Some n) at new e room = ap (λ k. pages (12 + length (Rattle.newt_nsof.specs.Written.nsof k) + 12 * length (Rattle.newt_spec_store.specs.Cost.large_lengths (patched_at (Some n) at new e.graph)))

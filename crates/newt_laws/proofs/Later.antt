@@ -1,12 +1,12 @@
 -- Ids and signatures are not given again.
 use Rattle.std.proofs.Common.{arith, ◌≡◌, refl, ap, sym, ◌∙◌, subst, ℕ, zero, suc, ◌+◌, ◌<◌, ◌≤◌, List, [], ◌∷◌, ◌++◌, true, false, Bool, IsTrue, not, ◌&&◌, ◌||◌, ◌⊎◌, inl, inr, cond, Option, Some, None, option_map, option_and_then, unwrap_or, map, filter, find, ◌==◌}
+use Rattle.std.specs.Prelude.{slice_get}
 use Rattle.std.specs.Bool.{⊤}
 use Rattle.std.specs.Option.{is_none, is_some}
 use Rattle.std.proofs.lemmas.Bool.{eqb-true}
 use Rattle.newt_base.specs.Refusals.{first_of}
 use Rattle.newt_base.specs.declared.Refusal.{Refusal}
 use Rattle.newt_graph.specs.Graph.{RawGraph}
-use Rattle.newt_spec_graph.specs.Graph.{nth}
 use Rattle.newt_spec_store.specs.Keys.{Path, IndexSpec}
 use Rattle.newt_spec_store.specs.Store.{Store, Soup, Entry, change_first, change_soup, change_entry, make_soup, drop_soup, add_entry, remove_entry, entry_of}
 use Rattle.newt_spec_world.specs.declared.command.Command.{Command}
@@ -127,7 +127,7 @@ copy-later w v t None = world-not w
 copy-later w v t (Some e) = soup-later w v t (add_entry w.minute e.graph) (later-add w.minute e.graph)
 
 units-later : (v w : World) → v.units ≡ w.units → WorldLater w v
-units-later v w e u s h = (s, ap (λ us. option_and_then (λ (d : Device). store_of d.media) (flat (nth us u))) e ∙ h, store-not s)
+units-later v w e u s h = (s, ap (λ us. option_and_then (λ (d : Device). store_of d.media) (flat (slice_get us u))) e ∙ h, store-not s)
 
 -- a soup with another declaration
 soup-same : (p q : Soup) → q.sig ≡ p.sig → q.next_uid ≡ p.next_uid → q.entries ≡ p.entries → SoupLater p q

@@ -1,11 +1,11 @@
 -- No two mounted stores come to have one signature.
 use Rattle.std.proofs.Common.{arith, ◌≡◌, refl, ap, sym, ◌∙◌, subst, ℕ, zero, suc, List, [], ◌∷◌, ◌++◌, true, false, Bool, IsTrue, not, ◌&&◌, ◌||◌, ◌⊎◌, inl, inr, cond, Option, Some, None, option_map, option_and_then, unwrap_or, map, filter_map, ◌==◌}
+use Rattle.std.specs.Prelude.{slice_get}
 use Rattle.std.specs.Bool.{⊤}
 use Rattle.std.specs.List.{list_any, cons_option}
 use Rattle.std.proofs.lemmas.Bool.{eq-eqb}
 use Rattle.newt_base.specs.Refusals.{first_of}
 use Rattle.newt_base.specs.declared.Refusal.{Refusal}
-use Rattle.newt_spec_graph.specs.Graph.{nth}
 use Rattle.newt_spec_store.specs.Store.{Store, Soup, Entry, change_soup, make_soup, drop_soup, add_entry, remove_entry}
 use Rattle.newt_spec_world.specs.declared.command.Command.{Command}
 use Rattle.newt_spec_world.specs.declared.command.Command.TheVariants as command
@@ -24,7 +24,7 @@ use Rattle.newt_laws.proofs.Fewer.{among-mounted, mounted-among}
 -- ---- by unit
 
 abbrev pub ByUnit : List (Option Device) → Type 0
-ByUnit us = (m n : ℕ) (s t : Store) → (m ≡ n → ⊥) → on_unit (flat (nth us m)) ≡ Some s → on_unit (flat (nth us n)) ≡ Some t → s.sig ≡ t.sig → ⊥
+ByUnit us = (m n : ℕ) (s t : Store) → (m ≡ n → ⊥) → on_unit (flat (slice_get us m)) ≡ Some s → on_unit (flat (slice_get us n)) ≡ Some t → s.sig ≡ t.sig → ⊥
 
 suc-same : (m n : ℕ) → suc m ≡ suc n → m ≡ n
 suc-same m n h = omega (arith, h)
@@ -119,11 +119,11 @@ mount-apart w u new h = apart-from-units (mark w u true).units (λ m n s t diffe
     there : (o : Option Device) (t : Store) → on_unit (option_map (λ (d : Device). record d { mounted = true }) o) ≡ Some t → option_and_then (λ (d : Device). store_of d.media) o ≡ Some t
     there None t k = absurd (none-some t k)
     there (Some d) t k = k
-    here : (n : ℕ) (t : Store) → n ≡ u → on_unit (flat (nth (mark w u true).units n)) ≡ Some t → store_on_unit w u ≡ Some t
-    here n t e f = there (device w u) t (ap on_unit (sym (device-same w u (λ d. record d { mounted = true }))) ∙ ap (λ k. on_unit (flat (nth (mark w u true).units k))) (sym e) ∙ f)
-    old : (n : ℕ) (t : Store) → (n ≡ u → ⊥) → on_unit (flat (nth (mark w u true).units n)) ≡ Some t → on_unit (flat (nth w.units n)) ≡ Some t
+    here : (n : ℕ) (t : Store) → n ≡ u → on_unit (flat (slice_get (mark w u true).units n)) ≡ Some t → store_on_unit w u ≡ Some t
+    here n t e f = there (device w u) t (ap on_unit (sym (device-same w u (λ d. record d { mounted = true }))) ∙ ap (λ k. on_unit (flat (slice_get (mark w u true).units k))) (sym e) ∙ f)
+    old : (n : ℕ) (t : Store) → (n ≡ u → ⊥) → on_unit (flat (slice_get (mark w u true).units n)) ≡ Some t → on_unit (flat (slice_get w.units n)) ≡ Some t
     old n t e f = ap on_unit (sym (device-other w u (λ d. record d { mounted = true }) n e)) ∙ f
-    go : (m n : ℕ) (s t : Store) → (m ≡ u) ⊎ (m ≡ u → ⊥) → (n ≡ u) ⊎ (n ≡ u → ⊥) → (m ≡ n → ⊥) → on_unit (flat (nth (mark w u true).units m)) ≡ Some s → on_unit (flat (nth (mark w u true).units n)) ≡ Some t → s.sig ≡ t.sig → ⊥
+    go : (m n : ℕ) (s t : Store) → (m ≡ u) ⊎ (m ≡ u → ⊥) → (n ≡ u) ⊎ (n ≡ u → ⊥) → (m ≡ n → ⊥) → on_unit (flat (slice_get (mark w u true).units m)) ≡ Some s → on_unit (flat (slice_get (mark w u true).units n)) ≡ Some t → s.sig ≡ t.sig → ⊥
     go m n s t (inl a) (inl b) differ e f same = differ (a ∙ sym b)
     go m n s t (inl a) (inr b) differ e f same = each-at (λ x. x.sig ≡ s.sig → ⊥) (mounted_stores w) t (new s (here m s a e)) (mounted-among w.units t n (old n t b f)) (sym same)
     go m n s t (inr a) (inl b) differ e f same = each-at (λ x. x.sig ≡ t.sig → ⊥) (mounted_stores w) s (new t (here n t b f)) (mounted-among w.units s m (old m s a e)) same

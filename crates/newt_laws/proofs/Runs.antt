@@ -1,6 +1,6 @@
 -- What holds of all worlds of a run.
 use Rattle.std.proofs.Common.{◌≡◌, refl, ap, sym, ◌∙◌, ℕ, List, [], ◌∷◌, true, false, Bool, IsTrue, cond, Option, Some, None, option_and_then, ◌⊎◌, inl, inr}
-use Rattle.newt_spec_graph.specs.Graph.{nth}
+use Rattle.std.specs.Prelude.{slice_get}
 use Rattle.newt_spec_store.specs.Store.{Store}
 use Rattle.newt_spec_world.specs.declared.command.Command.{Command}
 use Rattle.newt_spec_world.specs.World.{World, Device, first_world, flat, on_unit, store_if_mounted, store_of}
@@ -29,9 +29,9 @@ pub first-settled : (units : List (Option Device)) → IsSettled (first_world un
 first-settled units = refl
 
 -- nothing is mounted at first
-pub first-apart : (units : List (Option Device)) → ((u : ℕ) (d : Device) → flat (nth units u) ≡ Some d → d.mounted ≡ false) → MountedApart (first_world units)
-first-apart units h = apart-from-units units (λ m n s t differ e f same. go m s (flat (nth units m)) refl e)
+pub first-apart : (units : List (Option Device)) → ((u : ℕ) (d : Device) → flat (slice_get units u) ≡ Some d → d.mounted ≡ false) → MountedApart (first_world units)
+first-apart units h = apart-from-units units (λ m n s t differ e f same. go m s (flat (slice_get units m)) refl e)
   where
-    go : (m : ℕ) (s : Store) (o : Option Device) → flat (nth units m) ≡ o → option_and_then store_if_mounted o ≡ Some s → ⊥
+    go : (m : ℕ) (s : Store) (o : Option Device) → flat (slice_get units m) ≡ o → option_and_then store_if_mounted o ≡ Some s → ⊥
     go m s None e k = none-some s k
     go m s (Some d) e k = none-some s (sym (ap (λ b. cond b (store_of d.media) None) (h m d e)) ∙ k)

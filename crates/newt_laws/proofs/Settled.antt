@@ -1,12 +1,12 @@
 -- Cursors after a command: what stays settled by itself.
 use Rattle.std.proofs.Common.{arith, ◌≡◌, refl, ap, sym, ◌∙◌, subst, ℕ, zero, suc, ◌+◌, ◌<◌, ◌≤◌, List, [], ◌∷◌, ◌++◌, true, false, Bool, IsTrue, not, ◌&&◌, ◌||◌, ◌⊎◌, inl, inr, cond, Option, Some, None, option_map, option_and_then, unwrap_or, map, filter, length, find, slice_set, ◌==◌, ℤ, pos, negsuc}
+use Rattle.std.specs.Prelude.{slice_get}
 use Rattle.std.specs.Bool.{⊤}
 use Rattle.std.specs.List.{last_or}
 use Rattle.std.proofs.lemmas.Bool.{eqb-true}
 use Rattle.newt_base.specs.declared.Refusal.{Refusal}
 use Rattle.newt_base.specs.Refusals.{first_of}
 use Rattle.newt_graph.specs.Graph.{RawGraph}
-use Rattle.newt_spec_graph.specs.Graph.{nth}
 use Rattle.newt_spec_store.specs.Keys.{IndexSpec, Key}
 use Rattle.newt_spec_query.specs.Hits.{Hit, Query, hits}
 use Rattle.newt_spec_query.specs.Cursor.{Place, start, finish, on, Cursor, settled, hit_at, same_identity, first_place, last_place, next_place, previous_place, moved, repeated, place_at_key, on_or, is_after, is_before}
@@ -204,7 +204,7 @@ key-stands hs index k apart = first-stands hs _ apart (λ h m. (among-filter _ h
 -- ---- lists of cursors
 
 pub each-change-at : {X : Type 0} (P : X → Type 0) (E : Option X → Type 0) → ((x : X) → E (Some x) → P x) → ((x : X) → P x → E (Some x)) → (n : ℕ) (f : X → X) (xs : List (Option X)) → Each E xs
-    → ((x : X) → flat (nth xs n) ≡ Some x → P x → P (f x)) → Each E (change_at n f xs)
+    → ((x : X) → flat (slice_get xs n) ≡ Some x → P x → P (f x)) → Each E (change_at n f xs)
 each-change-at P E out into n f [] h k = tt
 each-change-at P E out into zero f (None ∷ xs) h k = h
 each-change-at P E out into zero f (Some x ∷ xs) h k = (into (f x) (k x refl (out x h.0)), h.1)

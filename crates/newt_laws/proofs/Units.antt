@@ -1,20 +1,20 @@
 -- What a change of one unit leaves of the others.
 use Rattle.std.proofs.Common.{arith, ◌≡◌, refl, ap, sym, ◌∙◌, subst, ℕ, zero, suc, ◌+◌, ◌<◌, ◌≤◌, List, [], ◌∷◌, true, false, Bool, IsTrue, ◌⊎◌, inl, inr, cond, Option, Some, None, option_map, option_and_then, eqb}
+use Rattle.std.specs.Prelude.{slice_get}
 use Rattle.std.specs.Option.{is_none}
 use Rattle.std.specs.Bool.{⊤}
 use Rattle.std.proofs.lemmas.Bool.{eqb-true, eqb-false}
-use Rattle.newt_spec_graph.specs.Graph.{nth}
 use Rattle.newt_spec_store.specs.Store.{Store, Soup, Entry, soup_named, entry_of, change_soup}
 use Rattle.newt_spec_world.specs.World.{World, Device, Media, blank, one, two, lost, device, store_of, store_if_mounted, mounted_store, soup_in, entry_in, flat, change_at, change_device, change_store, change_media, change_soup_in}
 use Rattle.newt_laws.specs.Worlds.{OnMedia, OnUnits}
 use Rattle.newt_laws.proofs.Lists.{some-same, none-some}
 
-pub at-same : {X : Type 0} (u : ℕ) (f : X → X) (xs : List (Option X)) → flat (nth (change_at u f xs) u) ≡ option_map f (flat (nth xs u))
+pub at-same : {X : Type 0} (u : ℕ) (f : X → X) (xs : List (Option X)) → flat (slice_get (change_at u f xs) u) ≡ option_map f (flat (slice_get xs u))
 at-same u f [] = refl
 at-same zero f (x ∷ xs) = refl
 at-same (suc u) f (x ∷ xs) = at-same u f xs
 
-pub at-other : {X : Type 0} (u n : ℕ) (f : X → X) (xs : List (Option X)) → (n ≡ u → ⊥) → flat (nth (change_at u f xs) n) ≡ flat (nth xs n)
+pub at-other : {X : Type 0} (u n : ℕ) (f : X → X) (xs : List (Option X)) → (n ≡ u → ⊥) → flat (slice_get (change_at u f xs) n) ≡ flat (slice_get xs n)
 at-other u n f [] h = refl
 at-other zero zero f (x ∷ xs) h = absurd (h refl)
 at-other zero (suc n) f (x ∷ xs) h = refl

@@ -2,6 +2,7 @@
 #![tactic(auto)]
 
 ghost use Rattle.std.specs.Prelude.{◌≡◌, List, IsTrue};
+ghost use Rattle.std.specs.Prelude.{slice_get};
 ghost use Rattle.std.specs.declared.cmp.Ordering.TheVariants.{Less};
 ghost use Rattle.std.specs.Prelude.{Option};
 ghost use Rattle.newt_graph.specs.Graph.{RawGraph};
@@ -16,7 +17,6 @@ ghost use Rattle.newt_spec_query.specs.Hits.{Query, Hit, hits, hit_cmp};
 ghost use Rattle.newt_spec_world.specs.World.{World};
 ghost use Rattle.std.specs.Prelude.{ℕ, Some};
 ghost use Rattle.newt_spec_world.specs.World.{store_on_unit, first_world, Device, flat};
-ghost use Rattle.newt_spec_graph.specs.Graph.{nth};
 ghost use Rattle.newt_spec_world.specs.Alias.{Alias as IsAlias, Spot, resolved};
 ghost use Rattle.newt_laws.specs.Later.{WorldLater, StoreLater, EntryGone, SoupGone};
 ghost use Rattle.newt_laws.specs.Named.{IsNamed};
@@ -94,7 +94,7 @@ pub fn runs_keep_all()
     ensures settled { (w : World) (cs : List IsCommand) → IsSettled w → IsSettled (after w cs) }
     ensures apart { (w : World) (cs : List IsCommand) → MountedApart w → MountedApart (after w cs) }
     ensures first_settled { (units : List (Option Device)) → IsSettled (first_world units) }
-    ensures first_apart { (units : List (Option Device)) → ((u : ℕ) (d : Device) → flat (nth units u) ≡ Some d → d.mounted ≡ false) → MountedApart (first_world units) }
+    ensures first_apart { (units : List (Option Device)) → ((u : ℕ) (d : Device) → flat (slice_get units u) ≡ Some d → d.mounted ≡ false) → MountedApart (first_world units) }
 {}
 
 /// What is removed or dropped is gone.

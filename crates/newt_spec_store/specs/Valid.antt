@@ -4,7 +4,7 @@ use Rattle.std.specs.List.{list_all, list_any}
 use Rattle.newt_base.specs.Names.{is_name, same_name, equal_text, is_identifier}
 use Rattle.newt_graph.specs.Graph.{RawGraph}
 use Rattle.newt_spec_graph.specs.Graph.{is_frame, object}
-use Rattle.newt_spec_graph.specs.Walk.{within_limits}
+use Rattle.newt_spec_graph.specs.Limits.{within_limits}
 use Rattle.newt_spec_store.specs.Keys.{IndexSpec, IndexPart, Path, paths_of, same_paths}
 use Rattle.newt_spec_store.specs.Store.{Entry, TagTable, Soup, Store}
 use Rattle.newt_spec_store.specs.Cost.{cost, cap, skeleton_length}

@@ -6,7 +6,8 @@ use Rattle.newt_base.specs.declared.Refusal.TheVariants.{Unit as NoUnit, Blocks,
 use Rattle.newt_base.specs.Refusals.{Checks}
 use Rattle.newt_graph.specs.Graph.{RawGraph}
 use Rattle.newt_spec_graph.specs.Graph.{is_frame, object}
-use Rattle.newt_spec_graph.specs.Walk.{normal_form, within_limits}
+use Rattle.newt_graph.specs.Meeting.{normal_form}
+use Rattle.newt_spec_graph.specs.Limits.{is_within}
 use Rattle.newt_spec_graph.specs.Slots.{put}
 use Rattle.newt_spec_store.specs.Keys.{Path, IndexSpec, paths_of, same_paths}
 use Rattle.newt_spec_store.specs.Store.{Entry, Soup, Store}
@@ -92,12 +93,13 @@ too_large g = (Size, nat_lt 64_000 (skeleton_length g))
 abbrev pub no_path : World → ℕ → List ℕ → ℕ → Path → RawGraph → Check
 no_path w u s uid path g = (NoPath, on_some (entry_in w u s uid) (λ e. is_none (put e.graph path g)))
 
+-- the graph that a `set` gives has no normal form within the limits of one graph
+abbrev pub past_limits : World → ℕ → List ℕ → ℕ → Path → RawGraph → Check
+past_limits w u s uid path g = (Limit, on_some (entry_in w u s uid) (λ e. on_some (put e.graph path g) (λ h. not (is_within (normal_form h)))))
+
 -- the test of the graph that a `set` would give
 abbrev pub after_set : World → ℕ → List ℕ → ℕ → Path → RawGraph → (RawGraph → Bool) → Bool
 after_set w u s uid path g test = on_some (entry_in w u s uid) (λ e. test (graph_after_set path g e.graph))
-
-abbrev pub past_limits : World → ℕ → List ℕ → ℕ → Path → RawGraph → Check
-past_limits w u s uid path g = (Limit, after_set w u s uid path g (λ h. not (within_limits h)))
 
 abbrev pub set_too_large : World → ℕ → List ℕ → ℕ → Path → RawGraph → Check
 set_too_large w u s uid path g = (Size, after_set w u s uid path g (λ h. nat_lt 64_000 (skeleton_length h)))
