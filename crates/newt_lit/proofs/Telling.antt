@@ -185,7 +185,7 @@ module _ (graph : List Node) (labels : List (Option ℕ)) (total : ℕ → ℕ) 
           Told.again lt here e l.1
 
   mutual
-    told : {room met : ℕ} {r : Ref} {new : List Node} → Walk room met r new → Placed graph total met (r ∷ []) new → (after : ℕ) → after ≡ met + length new → Told graph labels room met r after
+    pub told : {room met : ℕ} {r : Ref} {new : List Node} → Walk room met r new → Placed graph total met (r ∷ []) new → (after : ℕ) → after ≡ met + length new → Told graph labels room met r after
     told {room = room} {met = met} (Walk.word {w = w} word) p after e = subst (λ (n : ℕ). Told graph labels room met (refs.Imm w) n) (sym (e ∙ add-zero met)) (Told.word word)
     told {room = room} {met = met} (Walk.again {k = k} lt) p after e = subst (λ (n : ℕ). Told graph labels room met (refs.Node k) n) (sym (e ∙ add-zero met)) (met_again room met k lt p)
     told {room = room} {met = met} (Walk.symbol {name = name}) p after e =
