@@ -3,7 +3,7 @@ use Rattle.std.proofs.Common.{◌≡◌, ℕ, zero, suc, ◌+◌, ◌<◌, ◌�
 use Rattle.std.specs.Prelude.{slice_get, ◌||◌, ◌&&◌, nat_le}
 use Rattle.std.specs.List.{list_any, position_from, sum_by}
 use Rattle.std.specs.Str.{str_eq_ignore_ascii_case, str_to_ascii_lowercase}
-use Rattle.std.proofs.lemmas.Bool.{lt-ltb, ltb-true, ltb-false, ne_eqb, eqb-true, eqb-false, or_parts, eq-eqb}
+use Rattle.std.proofs.lemmas.Bool.{lt-ltb, le-leb, ltb-true, ltb-false, ne_eqb, eqb-true, eqb-false, or_parts, eq-eqb}
 use Rattle.std.proofs.lemmas.List.{append-nil, length_push}
 use Rattle.std.proofs.lemmas.List.Sums.{sum_by_push, sum_by-set}
 use Rattle.std.proofs.lemmas.Option.{slice_get_within}
@@ -149,3 +149,135 @@ node_of_split l q m n (x ∷ xs) e = go (λ e. node_of_split l q m n xs e) (eqb 
     go : (node_of l (xs ++ (m, n) ∷ []) ≡ Some q → (node_of l xs ≡ Some q) ⊎ (l ≡ m)) → (t : Bool) → eqb x.0 l ≡ t → (node_of l (x ∷ xs) ≡ Some q) ⊎ (l ≡ m)
     go others true is = inl (rw is (rw is at e))
     go others false is = elim (others (rw is at e)) [ inl h ↦ inl (rw is h) | inr h ↦ inr h ]
+
+pub record Opened (graph : List Node) (labels : List (Option ℕ)) (met : ℕ) (seen open_nodes : List ℕ) (b : Built) (label : Option ℕ) : Type 0 where
+  pub after : Built
+  pub is : held (marked b label) ≡ Some (length b.nodes, after)
+  pub stands : Stands graph labels (met + 1) (seen ++ met ∷ []) (met ∷ open_nodes) after
+  pub place : slice_get (seen ++ met ∷ []) (length b.nodes) ≡ Some met
+  pub weight : sum_by payload after.nodes ≡ sum_by payload b.nodes
+
+module _ (graph : List Node) (labels : List (Option ℕ)) (apart : (i j l : ℕ) → label_of labels i ≡ Some l → label_of labels j ≡ Some l → i ≡ j) where
+  -- a label that has not been given
+  pub unknown : (met : ℕ) (seen open_nodes : List ℕ) (b : Built) (l : ℕ) → Stands graph labels met seen open_nodes b → label_of labels met ≡ Some l → node_of l b.labels ≡ None
+  unknown met seen open_nodes b l s label = go (node_of l b.labels) refl
+    where
+      go : (o : Option ℕ) → node_of l b.labels ≡ o → node_of l b.labels ≡ None
+      go None e = e
+      go (Some q) e = let k = s.only l q e in absurd (omega (arith, apart k.0 met l k.1 label, k.2))
+
+  opened_stands : (met : ℕ) (x : Node) (seen open_nodes : List ℕ) (b : Built) (label : Option ℕ) → slice_get graph met ≡ Some x → is_symbol x ≡ false → label ≡ label_of labels met → Stands graph labels met seen open_nodes b
+      → Stands graph labels (met + 1) (seen ++ met ∷ []) (met ∷ open_nodes) (record { nodes = b.nodes ++ nodes.Array None [] ∷ []; labels = marked_labels b label })
+  opened_stands met x seen open_nodes b label here object label_is s =
+      let fresh : (p : ℕ) → slice_get seen p ≡ Some met → ⊥ = λ p e. elim (s.below p met e) [ inl lt ↦ omega (arith, lt) | inr named ↦ no_symbol graph met x named.0 here object named.1 ] in
+      record {
+        order = order_pushed graph seen b.nodes met (nodes.Array None []) s.order fresh (slice_get_within graph met x here) (λ name named. absurd (no_symbol graph met x name here object named)) (λ name is. absurd cc);
+        each = λ p j node e f closed.
+            let parts = or_parts (eqb j met) (list_any (eqb j) open_nodes) closed in
+            elim (split seen b.nodes met (nodes.Array None []) p j node s.order.same e f) [
+              | inl old ↦ let o = s.each p j node old.0 old.1 parts.1 in (o.0, o.1, node_keeps (met ∷ []) o.2)
+              | inr last ↦ absurd (eqb-false j met parts.0 last.0)
+            ];
+        below = λ p j e. elim (get_split seen met j p e) [
+          | inl old ↦ elim (s.below p j old) [ inl lt ↦ inl (omega (arith, lt)) | inr named ↦ inr named ]
+          | inr last ↦ inl (omega (arith, last.1))
+        ];
+        covers = λ j node lt j_here j_object. covered j node lt j_here j_object (ltb j met) refl;
+        given = λ j l node lt j_here j_object j_label. given j l node lt j_here j_object j_label (ltb j met) refl;
+        only = λ l q e. only l q label label_is e;
+      }
+    where
+      covered : (j : ℕ) (node : Node) → j < met + 1 → slice_get graph j ≡ Some node → is_symbol node ≡ false → (t : Bool) → ltb j met ≡ t → (p : ℕ) × (slice_get (seen ++ met ∷ []) p ≡ Some j)
+      covered j node lt j_here j_object true e = let c = s.covers j node (ltb-true j met e) j_here j_object in (c.0, get_left seen (met ∷ []) c.0 j c.1)
+      covered j node lt j_here j_object false e = let same : met ≡ j = omega (arith, ltb-false j met e, lt) in (length seen, get_last seen met ∙ ap (λ (n : ℕ). Some n) same)
+
+      left : (l q : ℕ) (o : Option ℕ) → node_of l b.labels ≡ Some q → node_of l (marked_labels b o) ≡ Some q
+      left l q None e = e
+      left l q (Some m) e = node_of_left l q b.labels ((m, length b.nodes) ∷ []) e
+
+      given : (j l : ℕ) (node : Node) → j < met + 1 → slice_get graph j ≡ Some node → is_symbol node ≡ false → label_of labels j ≡ Some l → (t : Bool) → ltb j met ≡ t
+          → (q : ℕ) × (node_of l (marked_labels b label) ≡ Some q) × (slice_get (seen ++ met ∷ []) q ≡ Some j)
+      given j l node lt j_here j_object j_label true e =
+          let c = s.given j l node (ltb-true j met e) j_here j_object j_label in (c.0, left l c.0 label c.1, get_left seen (met ∷ []) c.0 j c.2)
+      given j l node lt j_here j_object j_label false e =
+          let same : met ≡ j = omega (arith, ltb-false j met e, lt) in
+          let mine : label_of labels met ≡ Some l = ap (label_of labels) same ∙ j_label in
+          let last : node_of l (b.labels ++ (l, length b.nodes) ∷ []) ≡ Some (length b.nodes) = node_of_last l (length b.nodes) b.labels (unknown met seen open_nodes b l s mine) in
+          (length b.nodes, subst (λ (o : Option ℕ). node_of l (marked_labels b o) ≡ Some (length b.nodes)) (sym (label_is ∙ mine)) last, rw s.order.same (get_last seen met ∙ ap (λ (n : ℕ). Some n) same))
+
+      only : (l q : ℕ) (o : Option ℕ) → o ≡ label_of labels met → node_of l (marked_labels b o) ≡ Some q → (k : ℕ) × (label_of labels k ≡ Some l) × (k < met + 1)
+      only l q None is e = let k = s.only l q e in (k.0, k.1, omega (arith, k.2))
+      only l q (Some m) is e = elim (node_of_split l q m (length b.nodes) b.labels e) [
+        | inl old ↦ let k = s.only l q old in (k.0, k.1, omega (arith, k.2))
+        | inr same ↦ (met, sym is ∙ ap (λ (n : ℕ). Some n) (sym same), omega arith)
+      ]
+
+  -- the object that the walk meets now is opened, behind its label if it has one
+  pub opened : (met : ℕ) (x : Node) (seen open_nodes : List ℕ) (b : Built) → length graph ≤ 65535 → slice_get graph met ≡ Some x → is_symbol x ≡ false → Stands graph labels met seen open_nodes b
+      → Opened graph labels met seen open_nodes b (label_of labels met)
+  unfolding held with_held
+  opened met x seen open_nodes b limit here object s =
+      let t = opened_stands met x seen open_nodes b (label_of labels met) here object refl s in
+      let room : length b.nodes < 131072 = room_left graph seen b.nodes met (nodes.Array None []) limit t.order in
+      record {
+        after = record { nodes = b.nodes ++ nodes.Array None [] ∷ []; labels = marked_labels b (label_of labels met) };
+        is = rw (lt-ltb (length b.nodes) 131072 room) refl;
+        stands = t;
+        place = rw s.order.same (get_last seen met);
+        weight = sum_by_push payload b.nodes (nodes.Array None []) ∙ omega arith;
+      }
+
+-- ---- a node that is filled
+
+get_set_same : {X : Type 0} (xs : List X) (n : ℕ) (y x : X) → slice_get xs n ≡ Some x → slice_get (set xs n y) n ≡ Some y
+get_set_same [] n y x e = absurd cc
+get_set_same (a ∷ xs) zero y x e = refl
+get_set_same (a ∷ xs) (suc n) y x e = get_set_same xs n y x e
+
+pub record FilledIn (graph : List Node) (labels : List (Option ℕ)) (met : ℕ) (seen open_nodes : List ℕ) (b : Built) (n : ℕ) (node : Node) : Type 0 where
+  pub after : Built
+  pub is : filled b n node ≡ Some after
+  pub stands : Stands graph labels met seen open_nodes after
+  pub weight : sum_by payload after.nodes ≤ sum_by payload b.nodes + payload node
+
+filled_stands : (graph : List Node) (labels : List (Option ℕ)) (met : ℕ) (seen open_nodes : List ℕ) (b : Built) (n k : ℕ) (node x : Node) → Stands graph labels met seen (k ∷ open_nodes) b → slice_get seen n ≡ Some k
+    → slice_get graph k ≡ Some x → is_symbol x ≡ false → is_symbol node ≡ false → NodeStands seen node x → Stands graph labels met seen open_nodes (record { nodes = set b.nodes n node; labels = b.labels })
+filled_stands graph labels met seen open_nodes b n k node x s place here object no_name is = record {
+  order = order_filled graph seen b.nodes n k node s.order place (λ name named. no_symbol graph k x name here object named) (λ name same. let wrong : true ≡ false = sym (ap is_symbol same) ∙ no_name in absurd cc);
+  each = λ p j y e f closed. each p j y e f closed (eqb j k) refl;
+  below = s.below;
+  covers = s.covers;
+  given = s.given;
+  only = s.only;
+}
+  where
+    each : (p j : ℕ) (y : Node) → slice_get seen p ≡ Some j → slice_get (set b.nodes n node) p ≡ Some y → list_any (eqb j) open_nodes ≡ false → (t : Bool) → eqb j k ≡ t
+        → (z : Node) × (slice_get graph j ≡ Some z) × NodeStands seen y z
+    each p j y e f closed true t =
+        let same : j ≡ k = eqb-true j k t in
+        let here_too : p ≡ n = s.order.apart p n k (e ∙ ap (λ (m : ℕ). Some m) same) place in
+        elim (get_set b.nodes n node y p f) [
+          | inl old ↦
+              let at_n : slice_get b.nodes n ≡ Some y = ap (slice_get b.nodes) (sym here_too) ∙ old in
+              let filled_in : Some node ≡ Some y = sym (get_set_same b.nodes n node y at_n) ∙ ap (slice_get (set b.nodes n node)) (sym here_too) ∙ f in
+              (x, ap (slice_get graph) same ∙ here, let both : node ≡ y = cc in subst (λ (w : Node). NodeStands seen w x) both is)
+          | inr new ↦ (x, ap (slice_get graph) same ∙ here, subst (λ (w : Node). NodeStands seen w x) new.1 is)
+        ]
+    each p j y e f closed false t = elim (get_set b.nodes n node y p f) [
+      | inl old ↦ s.each p j y e old (rw t closed)
+      | inr new ↦ let same : Some j ≡ Some k = sym e ∙ ap (slice_get seen) new.0 ∙ place in absurd (eqb-false j k t (let both : j ≡ k = cc in both))
+    ]
+
+pub filled_in : (graph : List Node) (labels : List (Option ℕ)) (met : ℕ) (seen open_nodes : List ℕ) (b : Built) (n k : ℕ) (node x : Node) → Stands graph labels met seen (k ∷ open_nodes) b → slice_get seen n ≡ Some k
+    → slice_get graph k ≡ Some x → is_symbol x ≡ false → is_symbol node ≡ false → NodeStands seen node x → is_small node ≡ true → sum_by payload b.nodes + payload node ≤ 16777216 → FilledIn graph labels met seen open_nodes b n node
+unfolding filled with_filled
+filled_in graph labels met seen open_nodes b n k node x s place here object no_name is small light =
+    let within : n < length b.nodes = omega (arith, slice_get_within seen n k place, s.order.same) in
+    let weight : sum_by payload (set b.nodes n node) ≤ sum_by payload b.nodes + payload node = omega (arith, sum_by-set payload b.nodes n node (nodes.Array None []) within) in
+    let fits : nat_le (sum_by payload (set b.nodes n node)) 33554432 ≡ true = le-leb _ _ (omega (arith, weight, light)) in
+    record {
+      after = record { nodes = set b.nodes n node; labels = b.labels };
+      is = rw (small, fits) refl;
+      stands = filled_stands graph labels met seen open_nodes b n k node x s place here object no_name is;
+      weight = weight;
+    }
