@@ -10,6 +10,8 @@ pub enum Reply {
     Done,
     /// A graph, shown as the hexadecimal text of its object stream.
     Nsof(Graph),
+    /// A graph, shown as the literal that is printed of it.
+    Literal(Graph),
     /// It was refused.
     Refused(Refusal),
 }

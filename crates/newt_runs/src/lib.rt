@@ -4,6 +4,8 @@
 #![tactic(auto)]
 
 #[cfg(test)]
+mod conversions;
+#[cfg(test)]
 mod faults;
 #[cfg(test)]
 mod limits;

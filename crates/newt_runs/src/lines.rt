@@ -88,6 +88,39 @@ error 1 malformed
 }
 
 #[test]
+fn prints_literals(rt: HostRuntime) -> Result<(), AllocError> {
+    let script = b"lit {A: 1, B: 'a}
+lit #3={me: #3#}
+lit [\"x\",\"x\"]
+lit [#1=\"x\", #1#]
+lit -536870912
+ lit \t nil \t
+lit \"Stra\xC3\x9Fe\"
+lit 536870912
+lit #1=5
+lit \"\xC3\"
+lit
+lit\t
+lit {a 1}
+";
+    let output = b"ok {A: 1, B: 'A}
+ok #0={me: #0#}
+ok [\"x\", \"x\"]
+ok [#0=\"x\", #0#]
+ok -536870912
+ok nil
+ok \"Stra\\u00DFe\"
+error 3 literal
+error 3 literal
+error 3 literal
+error 11 line
+error 11 line
+error 3 literal
+";
+    expect_replies(&rt, rt.alloc(), script, output)
+}
+
+#[test]
 fn reads_the_minute(rt: HostRuntime) -> Result<(), AllocError> {
     let script = b"time 0
  time\t4294967295

@@ -8,6 +8,8 @@ use newt_graph::Graph;
 pub enum Command {
     /// To answer the written text of the graph that an object stream spells.
     Nsof(Graph),
+    /// To answer the printed text of the graph that a literal writes down.
+    Lit(Graph),
     /// To set the minute that later changes use.
     Time(u32),
     /// To end the script.
