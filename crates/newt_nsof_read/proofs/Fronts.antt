@@ -22,7 +22,8 @@ use Rattle.newt_nsof_read.specs.Opened.{Opened}
 use Rattle.newt_nsof_read.specs.Reading.{◌>>=◌, Fails, Reader, add, filled, count_at, label_at, many_at, all_distinct, frame_at, array_at, plain_array_at, tag_of, object_by, tagged_at, object_at, is_other}
 use Rattle.newt_nsof_read.specs.Stack.{just_opened, closed, rest_at, resumed, whole, as_front, opens, leaf_by, frame_front, plain_array_front, array_front, front_by, allowed, front_of, IsOpen, FrontIsOpen}
 use Rattle.newt_nsof_read.proofs.Fields.{IsBytes, IsBytes-rest, bind_some, unless, provided, some_is, Takes, Takes-then, count_takes}
-use Rattle.newt_nsof_read.proofs.Sound.{Added, add_adds, label_sound, many_sound, label_lists, object_sound, stays_open}
+use Rattle.newt_nsof_read.proofs.Taken.{Added, add_adds, label_sound, many_sound, label_lists, stays_open}
+use Rattle.newt_nsof_read.proofs.Sound.{object_sound}
 use Rattle.newt_nsof_read.proofs.Stacks.{bind_through, resumed_none, Stays}
 
 -- ---- containers
