@@ -1,30 +1,18 @@
 -- What is read takes its text from the front and adds its nodes: symbols, precedents, labels, and lists of them.
-use Rattle.std.proofs.Common.{◌≡◌, ◌≢◌, ℕ, zero, suc, ◌+◌, ◌*◌, ◌/◌, ◌-◌, ◌%◌, ◌<◌, ◌≤◌, Bool, true, false, cond, ltb, leb, eqb, List, [], ◌∷◌, ◌++◌, length, take, drop, All, Option, Some, None, refl, sym, ap, subst, ◌∙◌, append_assoc, arith, inl, inr, ◌⊎◌, lit≤}
-use Rattle.std.specs.Prelude.{ℤ, pos, map, slice_get, set, AllPairs, not, ◌&&◌}
-use Rattle.std.specs.List.{list_any, IsDistinct, AllByRecursion}
-use Rattle.std.specs.Int.{w32, cast_unsigned}
-use Rattle.std.proofs.lemmas.Bool.{ltb-false, ltb-true, leb-true, eqb-true, eqb-false, and_parts, or_parts, not-true}
-use Rattle.std.proofs.lemmas.Bool.Decides.{Decides-eqb}
-use Rattle.std.proofs.lemmas.List.{append-nil, length-append, length_push, length-set, length-take, take-append-drop, get_or_default, nil_from_length}
-use Rattle.std.proofs.lemmas.List.Elements.{All-nil, All-cons}
-use Rattle.std.proofs.lemmas.Map.Made.{AllPairs-from_IsDistinct}
-use Rattle.std.proofs.Math.Seq.{set-append_seam}
+use Rattle.std.proofs.Common.{◌≡◌, ℕ, zero, suc, ◌≤◌, true, cond, ltb, eqb, List, [], ◌∷◌, ◌++◌, length, Option, Some, None, refl, sym, ap, subst, ◌∙◌, append_assoc, arith, inl, inr}
+use Rattle.std.specs.Prelude.{slice_get}
+use Rattle.std.proofs.lemmas.Bool.{ltb-true, eqb-true}
+use Rattle.std.proofs.lemmas.List.{append-nil, length_push}
 use Rattle.newt_graph.specs.declared.node.Node.{Node}
-use Rattle.newt_graph.specs.declared.node.Node.TheVariants.{Symbol, Str, Binary, Large, Array, Frame}
-use Rattle.newt_graph.specs.declared.node.Ref.{Ref}
-use Rattle.newt_graph.specs.declared.node.Ref.TheVariants as refs
-use Rattle.newt_graph.specs.Graph.{RawGraph, IsText, IsData, IsName, IsSymbol, IsAlike, AreTags}
-use Rattle.newt_nsof.specs.Text.{Count, units_text, sides, corners, Interned, InternedEach, SymbolText, Again, Label, Labels, LargeText, Object, Objects, SpellsBy}
+use Rattle.newt_graph.specs.declared.node.Node.TheVariants.{Symbol}
+use Rattle.newt_nsof.specs.Text.{Interned, InternedEach, SymbolText, Again, Label, Labels}
 use Rattle.newt_nsof.proofs.Normal.{get_append, get_seam}
-use Rattle.newt_nsof.proofs.Xlongs.{xlong_fits}
 use Rattle.newt_nsof_read.specs.declared.tag.Tag.{Tag}
 use Rattle.newt_nsof_read.specs.declared.tag.Tag.TheVariants as tags
 use Rattle.newt_nsof_read.specs.Met.{Met}
-use Rattle.newt_nsof_read.specs.Reading.{◌>>=◌, Reader, xlong_at, count_at, name_at, push, add, known, numbering, intern, intern_each, rectangle_at, find_alike, numbered_at, symbol_at, symbol_only, is_symbol_at, is_other, tag_of, label_by, label_at, many_at, all_distinct, filled, frame_at, plain_array_at, array_at, unit_at, is_text_count, behind_zero, string_at, binary_at, large_data_at, large_at, within, checked_word, character_at, wide_character_at, object_by, tagged_at, object_at, are_light, ended, graph_at}
-use Rattle.newt_nsof_read.proofs.Fields.{IsBytes, IsBytes-take, IsBytes-drop, IsBytes-rest, bind_some, chosen, unless, provided, some_is, Takes, Takes-then, Takes-after, XlongTaken, xlong_takes, CountTaken, count_takes, NameTaken, name_takes}
-use Rattle.newt_nsof_read.proofs.Distinct.{all_distinct_tells}
-use Rattle.newt_nsof_read.proofs.Larges.{large_takes}
-use Rattle.newt_nsof_read.proofs.Names.{names, names-append, names-other, same_length, IsAlike-moved, IsSymbol-moved, found_is_alike, none_is_alike, is_symbol_tells}
+use Rattle.newt_nsof_read.specs.Reading.{◌>>=◌, Reader, count_at, name_at, push, add, known, numbering, intern, intern_each, find_alike, numbered_at, symbol_at, symbol_only, is_symbol_at, is_other, tag_of, label_by, label_at, many_at}
+use Rattle.newt_nsof_read.proofs.Fields.{IsBytes, IsBytes-rest, bind_some, chosen, provided, some_is, Takes, Takes-then, Takes-after, count_takes, name_takes}
+use Rattle.newt_nsof_read.proofs.Names.{names, names-append, same_length, IsAlike-moved, IsSymbol-moved, found_is_alike, none_is_alike, is_symbol_tells}
 
 -- how a text spells a value after some nodes and numbered objects: the nodes that it adds, and the numbered objects after it
 abbrev pub Spelling : Type 0 → Type 1
