@@ -140,7 +140,7 @@ string_piece u lt = go (is_printable u) refl
     go true e = rw e (plain_piece u lt (leb-true 32 u (and_parts (leb 32 u) (leb u 126) e).0))
     go false e = rw e (InString.unit (hex16_token u lt))
 
-units_pieces : (units : List ℕ) → All (λ u. u < 65536) units → Pieces InString (flat_map unit_text units) units
+pub units_pieces : (units : List ℕ) → All (λ u. u < 65536) units → Pieces InString (flat_map unit_text units) units
 units_pieces [] all = Pieces.none
 units_pieces (u ∷ units) all = Pieces.more (string_piece u (All-head (λ u. u < 65536) u units all)) (units_pieces units (All-tail (λ u. u < 65536) u units all))
 
