@@ -1,5 +1,6 @@
 -- The printed text of a graph as a literal.
 use Rattle.std.specs.Prelude.{ℕ, zero, suc, ◌+◌, ◌-◌, ◌*◌, ◌/◌, ◌%◌, ◌^◌, Bool, true, false, not, ◌&&◌, ◌||◌, ◌==◌, nat_lt, nat_le, List, [], ◌∷◌, ◌++◌, map, length, flat_map, filter, count_by, zip, Option, Some, None, if◌then◌else◌, codes, ℤ, pos, negsuc}
+use Rattle.std.specs.Prelude.{slice_get}
 use Rattle.std.specs.Int.{cast_unsigned, cast_signed, int_div_euclid, w32}
 use Rattle.std.specs.List.{list_any, position, enumerate_from}
 use Rattle.newt_base.specs.Text.{decimal_text, signed_text, hex_text, be16, be32}
@@ -9,7 +10,7 @@ use Rattle.newt_graph.specs.declared.node.Ref.TheVariants.{Imm, Node as At}
 use Rattle.newt_graph.specs.declared.node.Node.{Node}
 use Rattle.newt_graph.specs.declared.node.Node.TheVariants.{Symbol, Str, Binary, Large, Array, Frame}
 use Rattle.newt_graph.specs.Graph.{RawGraph}
-use Rattle.newt_spec_graph.specs.Graph.{nth, parts, is_symbol}
+use Rattle.newt_spec_graph.specs.Graph.{parts, is_symbol}
 use Rattle.newt_spec_graph.specs.Spelling.{Spelling, plain, ◌then◌, separated, met_or_new}
 
 -- ---- names
@@ -58,7 +59,7 @@ labelled g =
     refers_to n (At m) = n == m
 
 abbrev pub name_of : List Node → ℕ → List ℕ
-name_of nodes n = elim (nth nodes n) [ Some (Symbol name) ↦ name_text name | _ ↦ [] ]
+name_of nodes n = elim (slice_get nodes n) [ Some (Symbol name) ↦ name_text name | _ ↦ [] ]
 
 abbrev pub object_literal : List Node → (Ref → Spelling) → Node → Spelling
 object_literal nodes text (Symbol name) = plain []
@@ -85,7 +86,7 @@ ref_literal _ g labels (Imm w) = plain (word_literal w)
 ref_literal zero g labels (At n) = plain []
 ref_literal (suc levels) g labels (At n) =
     let label = position (λ k. k == n) labels in
-    elim (nth g.nodes n) [
+    elim (slice_get g.nodes n) [
       | None ↦ plain []
       | Some (Symbol name) ↦ plain (codes "'" ++ name_text name)
       | Some node ↦ met_or_new n (plain (label_text label (codes "#")))

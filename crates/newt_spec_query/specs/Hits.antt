@@ -9,6 +9,7 @@ use Rattle.newt_graph.specs.declared.node.Node.TheVariants.{Symbol, Str, Binary,
 use Rattle.newt_graph.specs.Graph.{RawGraph}
 use Rattle.newt_spec_store.specs.Keys.{IndexSpec, Key, key, key_cmp, same_spec, folded}
 use Rattle.newt_spec_store.specs.Store.{Entry, Soup, Store, TagTable}
+use Rattle.newt_spec_store.specs.Sorted.{insert_by, sorted_by}
 use Rattle.newt_spec_query.specs.Words.{has_text, has_word}
 use Rattle.newt_spec_query.specs.Tags.{tags_of, tags_pass}
 use Rattle.newt_spec_query.specs.Spec.{Spec, Bound, unbounded, including, excluding}
@@ -54,12 +55,14 @@ passes q table g = tags_pass q.tags (tags_of table g) && text_passes q g
 
 -- ---- the hits of one entry, one soup, all members
 
+-- the key, where it is in bounds and the entry passes
+abbrev pub kept : Spec → Soup → Entry → Option Key → Option Key
+kept q p e None = None
+kept q p e (Some k) = cond (above q.index q.lower k && below q.index q.upper k && passes q p.tags e.graph) (Some k) None
+
 abbrev pub hit_of : Spec → Store → Soup → Entry → Option Hit
-hit_of q s p e = option_map (λ k. record { key = k; store = s.sig; soup = p.sig; uid = e.uid })
-    (elim (key e.graph q.index) [
-      | Some k ↦ cond (above q.index q.lower k && below q.index q.upper k && passes q p.tags e.graph) (Some k) None
-      | None ↦ None
-    ])
+hit_of q s p e =
+    option_map (λ k. record { key = k; store = s.sig; soup = p.sig; uid = e.uid }) (kept q p e (key e.graph q.index))
 
 -- with no index every soup takes part
 abbrev pub carries : IndexSpec → Soup → Bool
@@ -79,13 +82,6 @@ abbrev pub hit_cmp : IndexSpec → Hit → Hit → Ordering
 hit_cmp index a b =
     ordering_then (key_cmp index a.key b.key)
     (ordering_then (nat_cmp a.store b.store) (ordering_then (nat_cmp a.soup b.soup) (nat_cmp a.uid b.uid)))
-
-abbrev pub insert_by : {X : Type 0} → (X → X → Ordering) → List X → X → List X
-insert_by cmp [] x = x ∷ []
-insert_by cmp (y ∷ ys) x = cond (is_lt (cmp x y)) (x ∷ y ∷ ys) (y ∷ insert_by cmp ys x)
-
-abbrev pub sorted_by : {X : Type 0} → (X → X → Ordering) → List X → List X
-sorted_by cmp xs = fold (insert_by cmp) [] xs
 
 -- the hits in the mounted stores
 abbrev pub hits : List Store → Query → List Hit

@@ -1,5 +1,6 @@
 -- The frame of a query, and what it says.
 use Rattle.std.specs.Prelude.{ℕ, ◌+◌, ◌-◌, Bool, true, false, not, ◌&&◌, ◌||◌, ◌==◌, nat_le, List, [], ◌∷◌, ◌++◌, map, length, replicate, zip, Option, Some, None, is_some, is_none, option_map, option_and_then, unwrap_or, ℤ, pos, codes, if◌then◌else◌}
+use Rattle.std.specs.Prelude.{slice_get}
 use Rattle.std.specs.List.{list_all, list_any}
 use Rattle.std.specs.Char.Utf16.{utf16_lossy_chars}
 use Rattle.newt_base.specs.Names.{same_name}
@@ -8,7 +9,7 @@ use Rattle.newt_graph.specs.declared.node.Ref.TheVariants.{Imm, Node as At}
 use Rattle.newt_graph.specs.declared.node.Node.{Node}
 use Rattle.newt_graph.specs.declared.node.Node.TheVariants.{Symbol, Str, Binary, Large, Array, Frame}
 use Rattle.newt_graph.specs.Graph.{RawGraph}
-use Rattle.newt_spec_graph.specs.Graph.{object, nth, is_frame}
+use Rattle.newt_spec_graph.specs.Graph.{object, every}
 use Rattle.newt_spec_graph.specs.Slots.{slot_value}
 use Rattle.newt_spec_store.specs.declared.Kind.{Kind}
 use Rattle.newt_spec_store.specs.declared.Kind.TheVariants as kind
@@ -22,12 +23,6 @@ use Rattle.newt_spec_query.specs.Tags.{symbol_name, TagSpec, if_given}
 abbrev pub is_nil : Ref → Bool
 is_nil (Imm (pos w)) = w == 2
 is_nil _ = false
-
--- each of the list, or none
-abbrev pub every : {X : Type 0} → List (Option X) → Option (List X)
-every [] = Some []
-every (None ∷ os) = None
-every (Some x ∷ os) = option_map (λ xs. x ∷ xs) (every os)
 
 -- the values of an array, of any class
 abbrev pub values_of : List Node → Ref → Option (List Ref)

@@ -4,12 +4,13 @@ use Rattle.std.specs.List.{list_all, prefix_len}
 use Rattle.newt_base.specs.declared.Refusal.{Refusal}
 use Rattle.newt_base.specs.declared.Refusal.TheVariants.{Longline, Command as NoCommand, Line as NotTheForm, Malformed, Compressed, Literal}
 use Rattle.newt_base.specs.Names.{same_name}
+use Rattle.newt_base.specs.Text.{decimal_value, signed_value}
 use Rattle.newt_graph.specs.Graph.{RawGraph}
 use Rattle.newt_spec_store.specs.Keys.{Path}
 use Rattle.newt_spec_store.specs.Valid.{all_apart}
 use Rattle.newt_spec_world.specs.declared.command.Command.{Command}
 use Rattle.newt_spec_world.specs.declared.command.Command.TheVariants as command
-use Rattle.newt_spec_script.specs.Words.{Reader, is_blank, skip_blanks, trimmed, word, of1, of2, of3, of4, of5, of6, decimal_to, signed, unit_digit, name, path, part, symbol, several, words}
+use Rattle.newt_spec_script.specs.Words.{Reader, is_blank, skip_blanks, trimmed, word, of1, of2, of3, of4, of5, of6, decimal_to, unit_digit, name, path, part, symbol, several, words}
 
 -- ---- the forms of single words
 
@@ -17,7 +18,7 @@ abbrev pub unit : Reader ℕ
 unit = word unit_digit
 
 abbrev pub number : Reader ℕ
-number = word (decimal_to (2 ^ 32 - 1))
+number = word decimal_value
 
 abbrev pub sig : Reader ℕ
 sig = word (decimal_to 536_870_911)
@@ -123,7 +124,7 @@ rows =
     ∷ (codes "prev", whole (of1 cursor command.Prev))
     ∷ (codes "reset", whole (of1 cursor command.Reset))
     ∷ (codes "end", whole (of1 cursor command.End))
-    ∷ (codes "moveby", whole (of2 cursor (word signed) command.Moveby))
+    ∷ (codes "moveby", whole (of2 cursor (word signed_value) command.Moveby))
     ∷ (codes "goto", whole (of3 cursor unit number command.Goto))
     ∷ (codes "gotokey", and_literal (of1 cursor (λ c g. command.Gotokey c g)))
     ∷ (codes "count", whole (of1 cursor command.Count))

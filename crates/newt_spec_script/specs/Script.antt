@@ -1,7 +1,7 @@
 -- A script: its lines, what they give, and the output.
 use Rattle.std.specs.Prelude.{◌≡◌, ◌⊎◌, ℕ, ◌+◌, ◌*◌, ◌-◌, Bool, true, false, not, ◌==◌, List, [], ◌∷◌, ◌++◌, map, flat_map, filter_map, Option, Some, None, option_map, option_and_then, Result, Ok, Err, ⊤, nat_lt, take}
 use Rattle.std.specs.List.{AllZip, prefix_len}
-use Rattle.std.specs.Char.{digit_value}
+use Rattle.newt_base.specs.Text.{hex_bytes}
 use Rattle.newt_base.specs.declared.Refusal.{Refusal}
 use Rattle.newt_base.specs.declared.Refusal.TheVariants.{Malformed, Compressed, Literal}
 use Rattle.newt_graph.specs.Graph.{RawGraph}
@@ -28,15 +28,6 @@ abbrev pub without_return : List ℕ → List ℕ
 without_return [] = []
 without_return (c ∷ []) = elim (c == 13) [ true ↦ [] | false ↦ c ∷ [] ]
 without_return (c ∷ d ∷ cs) = c ∷ without_return (d ∷ cs)
-
--- two digits for each byte, in either case
-abbrev pub hex_bytes : List ℕ → Option (List ℕ)
-hex_bytes [] = Some []
-hex_bytes (h ∷ []) = None
-hex_bytes (h ∷ l ∷ rest) = elim (nat_lt (digit_value h) 16) [
-  | false ↦ None
-  | true ↦ elim (nat_lt (digit_value l) 16) [ false ↦ None | true ↦ option_map (λ bs. (digit_value h * 16 + digit_value l) ∷ bs) (hex_bytes rest) ]
-]
 
 -- what a line gives: a command, or why it is none
 abbrev pub Item : Type 0

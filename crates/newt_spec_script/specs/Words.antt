@@ -4,13 +4,14 @@ use Rattle.std.specs.List.{list_all, prefix_len, list_any, position, before_firs
 use Rattle.std.specs.Char.{is_ascii_digit}
 use Rattle.newt_base.specs.declared.Refusal.{Refusal}
 use Rattle.newt_base.specs.declared.Refusal.TheVariants.{Line as NotTheForm}
-use Rattle.newt_base.specs.Names.{is_identifier}
+use Rattle.newt_base.specs.Names.{is_name}
+use Rattle.newt_base.specs.Text.{below, digits_value}
 use Rattle.newt_spec_store.specs.declared.Kind.{Kind}
 use Rattle.newt_spec_store.specs.declared.Kind.TheVariants as kind
 use Rattle.newt_spec_store.specs.declared.Order.{Order}
 use Rattle.newt_spec_store.specs.declared.Order.TheVariants as order
 use Rattle.newt_spec_store.specs.Keys.{Path}
-use Rattle.newt_spec_store.specs.Valid.{is_name, valid_path, valid_symbol}
+use Rattle.newt_spec_store.specs.Valid.{valid_path, valid_symbol}
 use Rattle.newt_spec_world.specs.declared.command.PartWord.{PartWord}
 
 abbrev pub is_blank : ℕ → Bool
@@ -63,21 +64,9 @@ word form cs =
 
 -- ---- numbers
 
-abbrev pub digits_value : List ℕ → ℕ
-digits_value = fold (λ n c. n * 10 + (c - 48)) 0
-
 -- one to ten digits with a value of at most this
 abbrev pub decimal_to : ℕ → List ℕ → Option ℕ
-decimal_to most cs =
-    if nat_le 1 (length cs) && nat_le (length cs) 10 && list_all is_ascii_digit cs && nat_le (digits_value cs) most
-    then Some (digits_value cs) else None
-
-abbrev pub negated : ℕ → ℤ
-negated n = neg_ℤ (pos n)
-
-abbrev pub signed : List ℕ → Option ℤ
-signed [] = None
-signed (c ∷ cs) = if c == 45 then option_map negated (decimal_to (2 ^ 31) cs) else option_map pos (decimal_to (2 ^ 31 - 1) (c ∷ cs))
+decimal_to most cs = below (most + 1) (digits_value cs)
 
 abbrev pub unit_digit : List ℕ → Option ℕ
 unit_digit (c ∷ []) = if nat_le 48 c && nat_le c 55 then Some (c - 48) else None

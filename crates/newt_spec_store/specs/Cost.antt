@@ -2,7 +2,10 @@
 use Rattle.std.specs.Prelude.{ℕ, ◌+◌, ◌-◌, ◌*◌, ◌/◌, max, List, [], ◌∷◌, ◌++◌, map, length, flat_map, sum_by, sum, Option, Some, None}
 use Rattle.newt_base.specs.Text.{be16, be32}
 use Rattle.newt_graph.specs.Graph.{RawGraph}
-use Rattle.newt_spec_graph.specs.Nsof.{nsof, skeleton, large_lengths}
+use Rattle.newt_graph.specs.declared.node.Node.{Node}
+use Rattle.newt_graph.specs.declared.node.Node.TheVariants.{Symbol, Str, Binary, Large, Array, Frame}
+use Rattle.newt_nsof.specs.Written.{nsof}
+use Rattle.newt_nsof.specs.Lengths.{skeleton}
 use Rattle.newt_spec_store.specs.declared.Kind.{Kind}
 use Rattle.newt_spec_store.specs.declared.Kind.TheVariants as kind
 use Rattle.newt_spec_store.specs.declared.Order.{Order}
@@ -50,6 +53,14 @@ directory_bytes s = text_bytes s.name ++ be32 s.sig ++ be16 s.next_soup ++ count
 
 abbrev pub pages : ℕ → ℕ
 pages n = max 1 ((n + 499) / 500)
+
+-- the lengths of the large binaries, in order of node number
+abbrev pub large_length : Node → List ℕ
+large_length (Large _ bytes) = length bytes ∷ []
+large_length _ = []
+
+abbrev pub large_lengths : RawGraph → List ℕ
+large_lengths g = flat_map large_length g.nodes
 
 abbrev pub skeleton_length : RawGraph → ℕ
 skeleton_length g = length (nsof (skeleton g))

@@ -5,7 +5,8 @@ use Rattle.newt_base.specs.Text.{be16, be32}
 use Rattle.newt_graph.specs.declared.node.Node.{Node}
 use Rattle.newt_graph.specs.declared.node.Node.TheVariants.{Symbol, Str, Binary, Large, Array, Frame}
 use Rattle.newt_graph.specs.Graph.{RawGraph}
-use Rattle.newt_spec_graph.specs.Nsof.{nsof, skeleton}
+use Rattle.newt_nsof.specs.Written.{nsof}
+use Rattle.newt_nsof.specs.Lengths.{skeleton}
 use Rattle.newt_spec_store.specs.Store.{Entry, Soup, Store}
 use Rattle.newt_spec_store.specs.Cost.{directory_bytes}
 use Rattle.newt_spec_store.specs.Valid.{valid}
@@ -18,12 +19,12 @@ abbrev pub IsObject : Objects → ℕ → List ℕ → Type 0
 IsObject objects id bytes = Contains objects (id, bytes)
 
 -- the large binaries of a graph: the number of each, and its bytes
+abbrev pub large_in : ℕ × Node → List (ℕ × List ℕ)
+large_in (n, Large _ bytes) = (n, bytes) ∷ []
+large_in _ = []
+
 abbrev pub larges : RawGraph → List (ℕ × List ℕ)
 larges g = flat_map large_in (enumerate_from 0 g.nodes)
-  where
-    large_in : ℕ × Node → List (ℕ × List ℕ)
-    large_in (n, Large _ bytes) = (n, bytes) ∷ []
-    large_in _ = []
 
 -- node number, object id and length of a large binary
 abbrev pub large_row : (ℕ × List ℕ) × ℕ → List ℕ

@@ -81,12 +81,20 @@ key g spec = if_first_is_there (map (λ p. part_of g.nodes p.kind (value_at g p.
 
 -- ---- the order of keys
 
+-- parts of several forms stand in this order
+abbrev pub form : Part → ℕ
+form missing = 0
+form (words _) = 1
+form (whole _) = 2
+form (letter _) = 3
+form (name _) = 4
+
 abbrev pub value_cmp : Part → Part → Ordering
 value_cmp (words a) (words b) = slice_cmp nat_cmp a b
 value_cmp (whole a) (whole b) = int_cmp a b
 value_cmp (letter a) (letter b) = nat_cmp a b
 value_cmp (name a) (name b) = slice_cmp nat_cmp a b
-value_cmp _ _ = Equal
+value_cmp a b = nat_cmp (form a) (form b)
 
 abbrev pub in_direction : Order → Ordering → Ordering
 in_direction order.Ascend o = o
@@ -99,9 +107,13 @@ part_cmp direction missing b = Less
 part_cmp direction a missing = Greater
 part_cmp direction a b = in_direction direction (value_cmp a b)
 
+-- keys of one declaration have as many parts as it has
 abbrev pub key_cmp : IndexSpec → Key → Key → Ordering
+key_cmp [] _ _ = Equal
+key_cmp (p ∷ spec) [] [] = Equal
+key_cmp (p ∷ spec) [] (b ∷ bs) = Less
+key_cmp (p ∷ spec) (a ∷ as') [] = Greater
 key_cmp (p ∷ spec) (a ∷ as') (b ∷ bs) = ordering_then (part_cmp p.direction a b) (key_cmp spec as' bs)
-key_cmp _ _ _ = Equal
 
 -- ---- declarations that agree
 

@@ -37,15 +37,16 @@ soup_named name s = find (λ p. equal_text p.name name) s.soups
 abbrev pub entry_of : ℕ → Soup → Option Entry
 entry_of uid p = find (λ e. e.uid == uid) p.entries
 
--- each that passes the test, changed
-abbrev pub change_where : {X : Type 0} → (X → Bool) → (X → X) → List X → List X
-change_where test change xs = map (λ x. cond (test x) (change x) x) xs
+-- the first that passes the test, changed
+abbrev pub change_first : {X : Type 0} → (X → Bool) → (X → X) → List X → List X
+change_first test change [] = []
+change_first test change (x ∷ xs) = cond (test x) (change x ∷ xs) (x ∷ change_first test change xs)
 
 abbrev pub change_soup : List ℕ → (Soup → Soup) → Store → Store
-change_soup name change s = record s { soups = change_where (λ p. equal_text p.name name) change s.soups }
+change_soup name change s = record s { soups = change_first (λ p. equal_text p.name name) change s.soups }
 
 abbrev pub change_entry : ℕ → (Entry → Entry) → Soup → Soup
-change_entry uid change p = record p { entries = change_where (λ e. e.uid == uid) change p.entries }
+change_entry uid change p = record p { entries = change_first (λ e. e.uid == uid) change p.entries }
 
 abbrev pub make_soup : List ℕ → Store → Store
 make_soup name s =

@@ -1,16 +1,13 @@
 -- What holds of every store.
 use Rattle.std.specs.Prelude.{ℕ, ◌+◌, Bool, true, false, not, ◌&&◌, ◌||◌, ◌==◌, nat_lt, nat_le, List, [], ◌∷◌, map, length, Option, Some, None}
 use Rattle.std.specs.List.{list_all, list_any}
-use Rattle.newt_base.specs.Names.{same_name, equal_text, is_identifier}
+use Rattle.newt_base.specs.Names.{is_name, same_name, equal_text, is_identifier}
 use Rattle.newt_graph.specs.Graph.{RawGraph}
 use Rattle.newt_spec_graph.specs.Graph.{is_frame, object}
-use Rattle.newt_spec_graph.specs.Walk.{within_limits}
+use Rattle.newt_spec_graph.specs.Limits.{within_limits}
 use Rattle.newt_spec_store.specs.Keys.{IndexSpec, IndexPart, Path, paths_of, same_paths}
 use Rattle.newt_spec_store.specs.Store.{Entry, TagTable, Soup, Store}
 use Rattle.newt_spec_store.specs.Cost.{cost, cap, skeleton_length}
-
-abbrev pub is_name : List ℕ → Bool
-is_name name = nat_le 1 (length name) && nat_le (length name) 39 && list_all (λ c. nat_le 32 c && nat_le c 126) name
 
 -- no two of the list agree
 abbrev pub all_apart : {X : Type 0} → (X → X → Bool) → List X → Bool
@@ -46,8 +43,15 @@ valid_soup p =
     && nat_le (length p.specs) 16 && list_all valid_spec p.specs && all_apart same_paths (map paths_of p.specs)
     && valid_tags p.tags && list_all valid_entry p.entries
 
-abbrev pub valid : ℕ → Store → Bool
-valid blocks s =
+-- all but the cost
+abbrev pub well_formed : Store → Bool
+well_formed s =
     is_name s.name && nat_le s.sig 536_870_911 && nat_le s.next_soup 65_535 && nat_le (length s.soups) 64
     && rises 0 s.next_soup (map (λ p. p.sig) s.soups) && all_apart equal_text (map (λ p. p.name) s.soups)
-    && list_all valid_soup s.soups && nat_le (cost s) (cap blocks)
+    && list_all valid_soup s.soups
+
+abbrev pub fits : ℕ → Store → Bool
+fits blocks s = nat_le (cost s) (cap blocks)
+
+abbrev pub valid : ℕ → Store → Bool
+valid blocks s = well_formed s && fits blocks s

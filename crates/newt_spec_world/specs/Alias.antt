@@ -9,7 +9,6 @@ use Rattle.newt_graph.specs.Graph.{RawGraph}
 use Rattle.newt_spec_graph.specs.Graph.{object}
 use Rattle.newt_spec_store.specs.Store.{Entry, Soup, Store, entry_of}
 use Rattle.newt_spec_query.specs.Tags.{symbol_name, if_given}
-use Rattle.newt_spec_query.specs.Spec.{every, keep}
 use Rattle.newt_spec_world.specs.World.{World, mounted}
 
 pub record Alias : Type 0 where

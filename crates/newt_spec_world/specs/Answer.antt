@@ -9,7 +9,7 @@ use Rattle.newt_spec_query.specs.Cursor.{Cursor, Place, start, finish, on, hit_a
 use Rattle.newt_spec_world.specs.declared.command.Command.{Command}
 use Rattle.newt_spec_world.specs.declared.command.Command.TheVariants as command
 use Rattle.newt_spec_world.specs.Reply.{Reply}
-use Rattle.newt_spec_world.specs.World.{World, mounted, mounted_store, soup_in, entry_in, cursor, free_cursor, hits_of, settle}
+use Rattle.newt_spec_world.specs.World.{World, default_unit, mounted, mounted_store, soup_in, entry_in, cursor, free_cursor, hits_of, settle}
 use Rattle.newt_spec_world.specs.Changed.{changed, large_bytes}
 use Rattle.newt_spec_world.specs.Refused.{checks}
 use Rattle.newt_spec_world.specs.Alias.{Spot, alias_of, resolved}
@@ -57,7 +57,7 @@ fields w v (command.Indexes u s) = or_nil (λ p. Reply.indexes p.specs) (soup_in
 fields w v (command.Tags u s) = or_nil (λ p. Reply.tags p.tags) (soup_in w u s)
 fields w v (command.Add u s g) = Reply.number (new_uid w u s)
 fields w v (command.Addx u s g) = Reply.number (new_uid w u s)
-fields w v (command.Addu s g) = let u = unwrap_or w.default 0 in Reply.added u (new_uid w u s)
+fields w v (command.Addu s g) = let u = default_unit w in Reply.added u (new_uid w u s)
 fields w v (command.Get u s uid) = or_nil (λ e. Reply.timed e.time e.graph) (entry_in w u s uid)
 fields w v (command.Getx u s uid) = or_nil (λ e. Reply.timed_nsof e.time e.graph) (entry_in w u s uid)
 fields w v (command.Copy _ _ _ u s) = Reply.number (new_uid w u s)
@@ -82,12 +82,14 @@ fields w v _ = Reply.done
 
 -- ---- one command, and a run of them
 
+-- refused, or changed
+abbrev pub answered : World → Command → Option Refusal → World × Reply
+answered w c (Some refusal) = (w, Reply.refused refusal)
+answered w c None = let v = settle (changed w c) in (v, fields w v c)
+
 -- the world after a command, and its reply
 unfoldable pub answer : World → Command → World × Reply
-answer w c = elim (first_of (checks w c)) [
-  | Some refusal ↦ (w, Reply.refused refusal)
-  | None ↦ let v = settle (changed w c) in (v, fields w v c)
-]
+answer w c = answered w c (first_of (checks w c))
 
 abbrev pub after : World → List Command → World
 after w [] = w

@@ -6,7 +6,8 @@ use Rattle.newt_base.specs.declared.Refusal.TheVariants.{Unit as NoUnit, Blocks,
 use Rattle.newt_base.specs.Refusals.{Checks}
 use Rattle.newt_graph.specs.Graph.{RawGraph}
 use Rattle.newt_spec_graph.specs.Graph.{is_frame, object}
-use Rattle.newt_spec_graph.specs.Walk.{normal_form, within_limits}
+use Rattle.newt_graph.specs.Meeting.{normal_form}
+use Rattle.newt_spec_graph.specs.Limits.{is_within}
 use Rattle.newt_spec_graph.specs.Slots.{put}
 use Rattle.newt_spec_store.specs.Keys.{Path, IndexSpec, paths_of, same_paths}
 use Rattle.newt_spec_store.specs.Store.{Entry, Soup, Store}
@@ -16,7 +17,7 @@ use Rattle.newt_spec_query.specs.Cursor.{Cursor}
 use Rattle.newt_spec_world.specs.declared.command.Command.{Command}
 use Rattle.newt_spec_world.specs.declared.command.Command.TheVariants as command
 use Rattle.newt_spec_world.specs.declared.command.PartWord.{PartWord}
-use Rattle.newt_spec_world.specs.World.{Device, World, store_of, store_on_unit, device, mounted, mounted_store, mounted_stores, soup_in, entry_in, cursor, free_cursor}
+use Rattle.newt_spec_world.specs.World.{Device, World, default_unit, store_of, store_on_unit, device, mounted, mounted_store, mounted_stores, soup_in, entry_in, cursor, free_cursor}
 use Rattle.newt_spec_world.specs.Changed.{changed, large_at, large_bytes, graph_after_set, index_of, hit_for, key_from, spec_of_words, sig_of}
 use Rattle.newt_spec_world.specs.Alias.{alias_of}
 
@@ -92,12 +93,13 @@ too_large g = (Size, nat_lt 64_000 (skeleton_length g))
 abbrev pub no_path : World → ℕ → List ℕ → ℕ → Path → RawGraph → Check
 no_path w u s uid path g = (NoPath, on_some (entry_in w u s uid) (λ e. is_none (put e.graph path g)))
 
+-- the graph that a `set` gives has no normal form within the limits of one graph
+abbrev pub past_limits : World → ℕ → List ℕ → ℕ → Path → RawGraph → Check
+past_limits w u s uid path g = (Limit, on_some (entry_in w u s uid) (λ e. on_some (put e.graph path g) (λ h. not (is_within (normal_form h)))))
+
 -- the test of the graph that a `set` would give
 abbrev pub after_set : World → ℕ → List ℕ → ℕ → Path → RawGraph → (RawGraph → Bool) → Bool
 after_set w u s uid path g test = on_some (entry_in w u s uid) (λ e. test (graph_after_set path g e.graph))
-
-abbrev pub past_limits : World → ℕ → List ℕ → ℕ → Path → RawGraph → Check
-past_limits w u s uid path g = (Limit, after_set w u s uid path g (λ h. not (within_limits h)))
 
 abbrev pub set_too_large : World → ℕ → List ℕ → ℕ → Path → RawGraph → Check
 set_too_large w u s uid path g = (Size, after_set w u s uid path g (λ h. nat_lt 64_000 (skeleton_length h)))
@@ -172,7 +174,7 @@ checks w (command.Tags u s) = no_unit w u ∷ not_mounted w u ∷ no_soup w u s 
 checks w (command.SetTags u s path symbols) = no_unit w u ∷ not_mounted w u ∷ no_soup w u s ∷ (Limit, nat_lt 64 (length symbols)) ∷ full w u (command.SetTags u s path symbols) ∷ []
 checks w (command.Add u s g) = no_unit w u ∷ not_mounted w u ∷ no_soup w u s ∷ not_frame g ∷ too_large g ∷ no_more_ids w u s ∷ full w u (command.Add u s g) ∷ []
 checks w (command.Addx u s g) = no_unit w u ∷ not_mounted w u ∷ no_soup w u s ∷ not_frame g ∷ too_large g ∷ no_more_ids w u s ∷ full w u (command.Addx u s g) ∷ []
-checks w (command.Addu s g) = let u = unwrap_or w.default 8 in not_mounted w u ∷ no_soup w u s ∷ not_frame g ∷ too_large g ∷ no_more_ids w u s ∷ full w u (command.Addu s g) ∷ []
+checks w (command.Addu s g) = let u = default_unit w in not_mounted w u ∷ no_soup w u s ∷ not_frame g ∷ too_large g ∷ no_more_ids w u s ∷ full w u (command.Addu s g) ∷ []
 checks w (command.Get u s uid) = no_unit w u ∷ not_mounted w u ∷ no_soup w u s ∷ no_entry w u s uid ∷ []
 checks w (command.Getx u s uid) = no_unit w u ∷ not_mounted w u ∷ no_soup w u s ∷ no_entry w u s uid ∷ []
 checks w (command.Set u s uid path g) = no_unit w u ∷ not_mounted w u ∷ no_soup w u s ∷ no_entry w u s uid ∷ no_path w u s uid path g ∷ past_limits w u s uid path g ∷ set_too_large w u s uid path g ∷ full w u (command.Set u s uid path g) ∷ []

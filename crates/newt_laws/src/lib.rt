@@ -1,0 +1,105 @@
+//! Laws of the plain world.
+#![tactic(auto)]
+
+ghost use Rattle.std.specs.Prelude.{◌≡◌, List, IsTrue};
+ghost use Rattle.std.specs.Prelude.{slice_get};
+ghost use Rattle.std.specs.declared.cmp.Ordering.TheVariants.{Less};
+ghost use Rattle.std.specs.Prelude.{Option};
+ghost use Rattle.newt_graph.specs.Graph.{RawGraph};
+ghost use Rattle.newt_spec_store.specs.Store.{Store, Entry, Soup, soup_named, change_soup, remove_entry, drop_soup};
+ghost use Rattle.newt_spec_store.specs.Cost.{directory_bytes};
+ghost use Rattle.newt_spec_store.specs.Image.{Objects, entry_bytes};
+ghost use Rattle.newt_spec_store.specs.Reading.{whole, directory};
+ghost use Rattle.newt_spec_store.specs.StoreOf.{entry_row, store_of};
+ghost use Rattle.newt_laws.specs.Laid.{bare, FitsRecord, row_of, Laid, IsLaid};
+ghost use Rattle.newt_spec_store.specs.Valid.{well_formed, valid};
+ghost use Rattle.newt_spec_query.specs.Hits.{Query, Hit, hits, hit_cmp};
+ghost use Rattle.newt_spec_world.specs.World.{World};
+ghost use Rattle.std.specs.Prelude.{ℕ, Some};
+ghost use Rattle.newt_spec_world.specs.World.{store_on_unit, first_world, Device, flat};
+ghost use Rattle.newt_spec_world.specs.Alias.{Alias as IsAlias, Spot, resolved};
+ghost use Rattle.newt_laws.specs.Later.{WorldLater, StoreLater, EntryGone, SoupGone};
+ghost use Rattle.newt_laws.specs.Named.{IsNamed};
+ghost use Rattle.newt_spec_world.specs.Answer.{answer, after};
+ghost use Rattle.newt_spec_world.specs.declared.command.Command.{Command as IsCommand};
+ghost use Rattle.std.specs.Prelude.{false};
+ghost use Rattle.newt_spec_world.specs.Changed.{changed};
+ghost use Rattle.newt_laws.specs.Settled.{IsSettled, MountedApart, moves_keys};
+ghost use Rattle.newt_laws.specs.Worlds.{AllValid, has_form};
+ghost use Rattle.newt_laws.specs.Lists.{Each, Pairs, Among};
+ghost use Rattle.newt_laws.specs.Found.{IsHit};
+
+/// The hits of a query are what it finds, and nothing else.
+pub fn hits_are_found()
+    ensures sound { (stores : List Store) (q : Query) (h : Hit) → Among (hits stores q) h → IsHit stores q h }
+    ensures complete { (stores : List Store) (q : Query) (h : Hit) → IsHit stores q h → Among (hits stores q) h }
+{}
+
+/// Each hit is before all later ones, so none is there twice.
+pub fn hits_rise()
+    ensures { (stores : List Store) (q : Query) → Pairs (λ s t. s.sig ≡ t.sig → ⊥) stores → Each (λ s. IsTrue (well_formed s)) stores
+        → Pairs (λ a b. hit_cmp q.spec.index a b ≡ Less) (hits stores q) }
+{}
+
+/// A command leaves every store valid.
+pub fn stores_stay_valid()
+    ensures { (w : World) (c : IsCommand) → AllValid w → IsTrue (has_form c) → AllValid (answer w c).0 }
+{}
+
+/// After each command the cursors show the present keys.
+pub fn worlds_stay_settled()
+    ensures { (w : World) (c : IsCommand) → IsSettled w → IsSettled (answer w c).0 }
+{}
+
+/// Most commands leave nothing to settle.
+pub fn few_commands_move_keys()
+    ensures { (w : World) (c : IsCommand) → AllValid w → MountedApart w → IsSettled w → moves_keys c ≡ false → IsSettled (changed w c) }
+{}
+
+/// No two mounted stores have one signature.
+pub fn signatures_stay_apart()
+    ensures { (w : World) (c : IsCommand) → MountedApart w → MountedApart (answer w c).0 }
+{}
+
+/// Each unit keeps its store, whose ids and signatures are never given again.
+pub fn ids_are_given_once()
+    ensures later { (w : World) (cs : List IsCommand) → WorldLater w (after w cs) }
+    ensures entries { (s t : Store) (sig uid : ℕ) → StoreLater s t → EntryGone sig uid s → EntryGone sig uid t }
+    ensures soups { (s t : Store) (sig : ℕ) → StoreLater s t → SoupGone sig s → SoupGone sig t }
+{}
+
+/// An alias names the entry of its signatures and id, and none where that entry is gone.
+pub fn aliases_name_their_entry()
+    ensures sound { (w : World) (a : IsAlias) (spot : Spot) → resolved w a ≡ Some spot → IsNamed w a spot }
+    ensures gone { (w : World) (cs : List IsCommand) (u : ℕ) (s : Store) (a : IsAlias) (spot : Spot) → store_on_unit w u ≡ Some s → EntryGone a.soup a.uid s
+        → resolved (after w cs) a ≡ Some spot → spot.unit ≡ u → ⊥ }
+{}
+
+/// A directory and a record are read as what they were written from.
+pub fn records_are_read_back()
+    ensures directory { (s : Store) → IsTrue (well_formed s) → whole directory (directory_bytes s) ≡ Some (bare s) }
+    ensures entry { (soup : ℕ) (e : Entry) (ids : List ℕ) → FitsRecord soup e ids → entry_row (entry_bytes soup e ids) ≡ Some (row_of soup e ids) }
+{}
+
+/// A valid store that objects write down is what they are read as, and only valid stores are read.
+pub fn stores_are_read_back()
+    ensures back { (graph_of : List ℕ → Option RawGraph) (objects : Objects) (blocks : ℕ) (s : Store) (laid : List Laid) → IsTrue (valid blocks s) → IsLaid graph_of objects s laid
+        → store_of graph_of objects blocks ≡ Some s }
+    ensures sound { (graph_of : List ℕ → Option RawGraph) (objects : Objects) (blocks : ℕ) (s : Store) → store_of graph_of objects blocks ≡ Some s → IsTrue (valid blocks s) }
+{}
+
+/// What holds of a first world in which nothing is mounted, and so of all worlds of a run.
+pub fn runs_keep_all()
+    ensures valid { (w : World) (cs : List IsCommand) → AllValid w → Each (λ c. IsTrue (has_form c)) cs → AllValid (after w cs) }
+    ensures settled { (w : World) (cs : List IsCommand) → IsSettled w → IsSettled (after w cs) }
+    ensures apart { (w : World) (cs : List IsCommand) → MountedApart w → MountedApart (after w cs) }
+    ensures first_settled { (units : List (Option Device)) → IsSettled (first_world units) }
+    ensures first_apart { (units : List (Option Device)) → ((u : ℕ) (d : Device) → flat (slice_get units u) ≡ Some d → d.mounted ≡ false) → MountedApart (first_world units) }
+{}
+
+/// What is removed or dropped is gone.
+pub fn removed_is_gone()
+    ensures entry { (s : Store) (name : List ℕ) (p : Soup) (e : Entry) → IsTrue (well_formed s) → soup_named name s ≡ Some p → Among p.entries e
+        → EntryGone p.sig e.uid (change_soup name (remove_entry e.uid) s) }
+    ensures soup { (s : Store) (name : List ℕ) (p : Soup) → IsTrue (well_formed s) → soup_named name s ≡ Some p → SoupGone p.sig (drop_soup name s) }
+{}
