@@ -5,10 +5,10 @@ use Rattle.newt_spec_store.specs.Store.{Store}
 use Rattle.newt_spec_world.specs.declared.command.Command.{Command}
 use Rattle.newt_spec_world.specs.World.{World, Device, first_world, flat, on_unit, store_if_mounted, store_of}
 use Rattle.newt_spec_world.specs.Answer.{answer, after}
-use Rattle.newt_laws.specs.Lists.{Each}
+use Rattle.newt_spec_graph.specs.Lists.{Each}
 use Rattle.newt_laws.specs.Worlds.{AllValid, has_form}
 use Rattle.newt_laws.specs.Settled.{IsSettled, MountedApart}
-use Rattle.newt_laws.proofs.Lists.{none-some}
+use Rattle.newt_spec_graph.proofs.Lists.{none-some}
 use Rattle.newt_laws.proofs.Fitting.{answer-valid}
 use Rattle.newt_laws.proofs.Settled.{answer-settled}
 use Rattle.newt_laws.proofs.Mounted.{answer-apart, apart-from-units}

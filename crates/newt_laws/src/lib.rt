@@ -11,7 +11,7 @@ ghost use Rattle.newt_spec_store.specs.Cost.{directory_bytes};
 ghost use Rattle.newt_spec_store.specs.Image.{Objects, entry_bytes};
 ghost use Rattle.newt_spec_store.specs.Reading.{whole, directory};
 ghost use Rattle.newt_spec_store.specs.StoreOf.{entry_row, store_of};
-ghost use Rattle.newt_laws.specs.Laid.{bare, FitsRecord, row_of, Laid, IsLaid};
+ghost use Rattle.newt_spec_store.specs.Laid.{bare, FitsRecord, row_of, Laid, IsLaid};
 ghost use Rattle.newt_spec_store.specs.Valid.{well_formed, valid};
 ghost use Rattle.newt_spec_query.specs.Hits.{Query, Hit, hits, hit_cmp};
 ghost use Rattle.newt_spec_world.specs.World.{World};
@@ -26,7 +26,7 @@ ghost use Rattle.std.specs.Prelude.{false};
 ghost use Rattle.newt_spec_world.specs.Changed.{changed};
 ghost use Rattle.newt_laws.specs.Settled.{IsSettled, MountedApart, moves_keys};
 ghost use Rattle.newt_laws.specs.Worlds.{AllValid, has_form};
-ghost use Rattle.newt_laws.specs.Lists.{Each, Pairs, Among};
+ghost use Rattle.newt_spec_graph.specs.Lists.{Each, Pairs, Among};
 ghost use Rattle.newt_laws.specs.Found.{IsHit};
 
 /// The hits of a query are what it finds, and nothing else.

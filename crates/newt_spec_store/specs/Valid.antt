@@ -3,21 +3,12 @@ use Rattle.std.specs.Prelude.{ℕ, ◌+◌, Bool, true, false, not, ◌&&◌, �
 use Rattle.std.specs.List.{list_all, list_any}
 use Rattle.newt_base.specs.Names.{is_name, same_name, equal_text, is_identifier}
 use Rattle.newt_graph.specs.Graph.{RawGraph}
+use Rattle.newt_spec_graph.specs.Lists.{all_apart, rises}
 use Rattle.newt_spec_graph.specs.Graph.{is_frame, object}
 use Rattle.newt_spec_graph.specs.Limits.{within_limits}
 use Rattle.newt_spec_store.specs.Keys.{IndexSpec, IndexPart, Path, paths_of, same_paths}
 use Rattle.newt_spec_store.specs.Store.{Entry, TagTable, Soup, Store}
 use Rattle.newt_spec_store.specs.Cost.{cost, cap, skeleton_length}
-
--- no two of the list agree
-abbrev pub all_apart : {X : Type 0} → (X → X → Bool) → List X → Bool
-all_apart same [] = true
-all_apart same (x ∷ xs) = not (list_any (same x) xs) && all_apart same xs
-
--- each number is above the one before it, and all are from low up to high
-abbrev pub rises : ℕ → ℕ → List ℕ → Bool
-rises low high [] = true
-rises low high (n ∷ ns) = nat_le low n && nat_lt n high && rises (n + 1) high ns
 
 abbrev pub valid_symbol : List ℕ → Bool
 valid_symbol name = is_identifier name && nat_le (length name) 254

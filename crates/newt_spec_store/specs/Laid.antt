@@ -7,7 +7,7 @@ use Rattle.newt_spec_store.specs.Store.{Entry, Soup, Store}
 use Rattle.newt_spec_store.specs.Cost.{directory_bytes}
 use Rattle.newt_spec_store.specs.Image.{Objects, larges, entry_bytes, all_entries}
 use Rattle.newt_spec_store.specs.StoreOf.{LargeRow, EntryRow, object_bytes, named_once}
-use Rattle.newt_laws.specs.Lists.{Each, Pairs, Among}
+use Rattle.newt_spec_graph.specs.Lists.{Each, Pairs, Among}
 
 -- the store without its entries
 abbrev pub bare : Store → Store
