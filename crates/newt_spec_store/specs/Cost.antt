@@ -71,8 +71,13 @@ entry_pages e =
     let larges = large_lengths e.graph in
     pages (12 + skeleton_length e.graph + 12 * length larges) + sum (map pages larges)
 
+-- the pages of a soup's entries
+abbrev pub soup_pages : Soup → ℕ
+soup_pages p = sum_by entry_pages p.entries
+
+-- the pages of the directory, and those of all entries
 abbrev pub cost : Store → ℕ
-cost s = pages (length (directory_bytes s)) + sum_by (λ p. sum_by entry_pages p.entries) s.soups
+cost s = pages (length (directory_bytes s)) + sum_by soup_pages s.soups
 
 -- how many pages a unit of so many blocks holds
 abbrev pub cap : ℕ → ℕ
