@@ -6,7 +6,9 @@ use Rattle.newt_base.specs.Text.{be16, be32}
 use Rattle.newt_base.specs.Names.{equal_text}
 use Rattle.newt_spec_store.specs.Keys.{Path, IndexSpec, paths_of, same_paths}
 use Rattle.newt_spec_store.specs.Store.{Store, Soup, Entry, change_first, change_soup, change_entry, drop_soup, remove_entry, entry_of, soup_named}
-use Rattle.newt_spec_store.specs.Cost.{cost, cap, pages, directory_bytes, soup_bytes, text_bytes, counted, part_bytes, tags_bytes, entry_pages, soup_pages}
+use Rattle.newt_image.specs.Pages.{cap}
+use Rattle.newt_image.specs.Objects.{pages_for}
+use Rattle.newt_spec_store.specs.Cost.{cost, directory_bytes, soup_bytes, text_bytes, counted, part_bytes, tags_bytes, entry_pages, soup_pages}
 use Rattle.newt_spec_store.specs.Valid.{fits}
 use Rattle.newt_spec_world.specs.Changed.{without_index, new_store}
 
@@ -45,7 +47,7 @@ total-first f test change (x ∷ xs) h = go (total-first f test change xs) (test
     go more true h = omega (arith, h x refl)
     go more false h = omega (arith, more h)
 
-pub pages-mono : (m n : ℕ) → m ≤ n → pages m ≤ pages n
+pub pages-mono : (m n : ℕ) → m ≤ n → pages_for m ≤ pages_for n
 pages-mono m n h = grind arith
 
 -- ---- the directory
@@ -62,8 +64,8 @@ directory-length s = grind (arith,
     length-append (text_bytes s.name) (be32 s.sig), length-append (text_bytes s.name ++ be32 s.sig) (be16 s.next_soup),
     length-append (text_bytes s.name ++ be32 s.sig ++ be16 s.next_soup) (counted soup_bytes s.soups), flat-total soup_bytes s.soups)
 
-pub cost-total : (s : Store) → cost s ≡ pages (length (directory_bytes s)) + total soup_pages s.soups
-cost-total s = ap (λ n. pages (length (directory_bytes s)) + n) (sum-total (λ p. sum_by entry_pages p.entries) s.soups)
+pub cost-total : (s : Store) → cost s ≡ pages_for (length (directory_bytes s)) + total soup_pages s.soups
+cost-total s = ap (λ n. pages_for (length (directory_bytes s)) + n) (sum-total (λ p. sum_by entry_pages p.entries) s.soups)
 
 -- a store with no more bytes in its directory and no more pages in its soups
 pub cheaper : (blocks : ℕ) (s t : Store) → length (directory_bytes t) ≤ length (directory_bytes s) → total soup_pages t.soups ≤ total soup_pages s.soups

@@ -10,7 +10,8 @@ use Rattle.newt_graph.specs.Graph.{RawGraph}
 use Rattle.newt_spec_graph.specs.Lists.{Each, Pairs, Among, all_apart, rises}
 use Rattle.newt_spec_graph.proofs.Lists.{each-at, each-from, each-more, pairs-map, pairs-more, rises-pairs, some-same, none-some, both-ways}
 use Rattle.newt_spec_store.specs.Store.{Store, Soup, Entry, change_first, change_soup, change_entry, make_soup, drop_soup, add_entry, remove_entry, entry_of, soup_named}
-use Rattle.newt_spec_store.specs.Cost.{cost, pages, directory_bytes, soup_bytes, entry_pages, soup_pages}
+use Rattle.newt_image.specs.Objects.{pages_for}
+use Rattle.newt_spec_store.specs.Cost.{cost, directory_bytes, soup_bytes, entry_pages, soup_pages}
 use Rattle.newt_spec_store.specs.Valid.{well_formed, valid_soup}
 use Rattle.newt_laws.proofs.Costs.{total, sum-total, cost-total, soup-length, directory-length}
 use Rattle.newt_laws.proofs.Soups.{IsStore, is-store, IsSoup, is-soup, found-good}
@@ -142,7 +143,7 @@ pub cost-added : (name : List ℕ) (time : ℕ) (graph : RawGraph) (s : Store) (
 cost-added name time graph s p found =
     let more = soup-changed name (add_entry time graph) s p found in
     let one = soup-added time graph p in
-    let same = ap pages (directory-kept name (add_entry time graph) s p found (soup-length (add_entry time graph p) ∙ sym (soup-length p))) in
+    let same = ap pages_for (directory-kept name (add_entry time graph) s p found (soup-length (add_entry time graph p) ∙ sym (soup-length p))) in
     let a = cost-total (change_soup name (add_entry time graph) s) in
     let b = cost-total s in
     omega (arith, more, one, same, a, b)
@@ -153,7 +154,7 @@ pub cost-replaced : (name : List ℕ) (uid : ℕ) (change : Entry → Entry) (s 
 cost-replaced name uid change s p e found there =
     let more = soup-changed name (change_entry uid change) s p found in
     let one = soup-replaced uid change p e there in
-    let same = ap pages (directory-kept name (change_entry uid change) s p found (soup-length (change_entry uid change p) ∙ sym (soup-length p))) in
+    let same = ap pages_for (directory-kept name (change_entry uid change) s p found (soup-length (change_entry uid change p) ∙ sym (soup-length p))) in
     let a = cost-total (change_soup name (change_entry uid change) s) in
     let b = cost-total s in
     omega (arith, more, one, same, a, b)
@@ -164,14 +165,14 @@ pub cost-removed : (name : List ℕ) (uid : ℕ) (s : Store) (p : Soup) (e : Ent
 cost-removed name uid s p e w found there =
     let more = soup-changed name (remove_entry uid) s p found in
     let one = soup-removed uid p e (found-good valid_soup (λ (p : Soup). equal_text p.name name) s.soups p (is-store s w).soups_fit found) there in
-    let same = ap pages (directory-kept name (remove_entry uid) s p found (soup-length (remove_entry uid p) ∙ sym (soup-length p))) in
+    let same = ap pages_for (directory-kept name (remove_entry uid) s p found (soup-length (remove_entry uid p) ∙ sym (soup-length p))) in
     let a = cost-total (change_soup name (remove_entry uid) s) in
     let b = cost-total s in
     omega (arith, more, one, same, a, b)
 
 -- another declaration in a soup
 pub cost-declared : (name : List ℕ) (change : Soup → Soup) (s : Store) (p : Soup) → soup_named name s ≡ Some p → (change p).entries ≡ p.entries
-    → cost (change_soup name change s) + pages (length (directory_bytes s)) ≡ cost s + pages (length (directory_bytes (change_soup name change s)))
+    → cost (change_soup name change s) + pages_for (length (directory_bytes s)) ≡ cost s + pages_for (length (directory_bytes (change_soup name change s)))
 cost-declared name change s p found same =
     let more = soup-changed name change s p found in
     let kept = ap (λ (es : List Entry). sum_by entry_pages es) same in
@@ -180,7 +181,7 @@ cost-declared name change s p found same =
     omega (arith, more, kept, a, b)
 
 -- a soup more
-pub cost-made : (name : List ℕ) (s : Store) → cost (make_soup name s) + pages (length (directory_bytes s)) ≡ cost s + pages (length (directory_bytes (make_soup name s)))
+pub cost-made : (name : List ℕ) (s : Store) → cost (make_soup name s) + pages_for (length (directory_bytes s)) ≡ cost s + pages_for (length (directory_bytes (make_soup name s)))
 cost-made name s =
     let none = total-push soup_pages s.soups (record { name = name; sig = s.next_soup; next_uid = 0; specs = []; tags = None; entries = [] }) in
     let a = cost-total (make_soup name s) in
@@ -189,7 +190,7 @@ cost-made name s =
 
 -- a soup less
 pub cost-dropped : (name : List ℕ) (s : Store) (p : Soup) → well_formed s ≡ true → soup_named name s ≡ Some p
-    → cost (drop_soup name s) + soup_pages p + pages (length (directory_bytes s)) ≡ cost s + pages (length (directory_bytes (drop_soup name s)))
+    → cost (drop_soup name s) + soup_pages p + pages_for (length (directory_bytes s)) ≡ cost s + pages_for (length (directory_bytes (drop_soup name s)))
 cost-dropped name s p w found =
     let less = total-without soup_pages (λ (p : Soup). equal_text p.name name) s.soups p (one-name name s w) found in
     let a = cost-total (drop_soup name s) in

@@ -15,7 +15,9 @@ use Rattle.newt_graph.specs.Meeting.{normal_form}
 use Rattle.newt_spec_graph.specs.Slots.{put}
 use Rattle.newt_spec_store.specs.Keys.{Path, IndexSpec, paths_of, same_paths}
 use Rattle.newt_spec_store.specs.Store.{Store, Soup, Entry, soup_named, entry_of, change_soup, change_entry, make_soup, drop_soup, add_entry, remove_entry}
-use Rattle.newt_spec_store.specs.Cost.{skeleton_length, cost, cap, entry_pages, pages}
+use Rattle.newt_image.specs.Pages.{cap}
+use Rattle.newt_image.specs.Objects.{pages_for}
+use Rattle.newt_spec_store.specs.Cost.{skeleton_length, cost, entry_pages}
 use Rattle.newt_base.specs.Names.{is_name}
 use Rattle.newt_spec_graph.specs.Lists.{all_apart}
 use Rattle.newt_spec_store.specs.Valid.{valid, well_formed, fits, valid_soup, valid_entry, valid_spec, valid_tags, valid_path, valid_symbol}
@@ -228,6 +230,6 @@ patched-good (Some n) at new e room h = grind (arith, h, at-object at new e.grap
 pub patched-pages : (o : Option ℕ) (at : ℕ) (new : List ℕ) (e : Entry) → at + length new ≤ length (bytes_of_large (option_and_then (slice_get e.graph.nodes) o))
     → entry_pages (record e { graph = patched_at o at new e.graph }) ≡ entry_pages e
 patched-pages None at new e room = refl
-patched-pages (Some n) at new e room = ap (λ k. pages (12 + length (Rattle.newt_nsof.specs.Written.nsof k) + 12 * length (Rattle.newt_spec_store.specs.Cost.large_lengths (patched_at (Some n) at new e.graph)))
-      + Rattle.std.specs.Prelude.sum (map pages (Rattle.newt_spec_store.specs.Cost.large_lengths (patched_at (Some n) at new e.graph)))) (at-skeleton at new e.graph n room)
-    ∙ ap (λ ls. pages (12 + skeleton_length e.graph + 12 * length ls) + Rattle.std.specs.Prelude.sum (map pages ls)) (at-lengths at new e.graph n room)
+patched-pages (Some n) at new e room = ap (λ k. pages_for (12 + length (Rattle.newt_nsof.specs.Written.nsof k) + 12 * length (Rattle.newt_spec_store.specs.Cost.large_lengths (patched_at (Some n) at new e.graph)))
+      + Rattle.std.specs.Prelude.sum (map pages_for (Rattle.newt_spec_store.specs.Cost.large_lengths (patched_at (Some n) at new e.graph)))) (at-skeleton at new e.graph n room)
+    ∙ ap (λ ls. pages_for (12 + skeleton_length e.graph + 12 * length ls) + Rattle.std.specs.Prelude.sum (map pages_for ls)) (at-lengths at new e.graph n room)

@@ -10,7 +10,9 @@ use Rattle.newt_graph.specs.Graph.{RawGraph}
 use Rattle.newt_spec_graph.specs.Limits.{within_limits}
 use Rattle.newt_spec_store.specs.Keys.{Path, IndexSpec, paths_of, same_paths}
 use Rattle.newt_spec_store.specs.Store.{Store, Soup, Entry, soup_named, entry_of, change_soup, change_entry, make_soup, drop_soup, add_entry, remove_entry}
-use Rattle.newt_spec_store.specs.Cost.{skeleton_length, cost, cap, entry_pages, pages}
+use Rattle.newt_image.specs.Pages.{cap}
+use Rattle.newt_image.specs.Objects.{pages_for}
+use Rattle.newt_spec_store.specs.Cost.{skeleton_length, cost, entry_pages}
 use Rattle.newt_base.specs.Names.{is_name}
 use Rattle.newt_spec_graph.specs.Lists.{all_apart}
 use Rattle.newt_spec_store.specs.Valid.{valid, well_formed, fits, valid_soup, valid_entry, valid_spec, valid_tags, valid_path, valid_symbol}

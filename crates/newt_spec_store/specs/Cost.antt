@@ -1,6 +1,7 @@
 -- What a store costs in pages.
 use Rattle.std.specs.Prelude.{ℕ, ◌+◌, ◌-◌, ◌*◌, ◌/◌, max, List, [], ◌∷◌, ◌++◌, map, length, flat_map, sum_by, sum, Option, Some, None}
 use Rattle.newt_base.specs.Text.{be16, be32}
+use Rattle.newt_image.specs.Objects.{pages_for}
 use Rattle.newt_graph.specs.Graph.{RawGraph}
 use Rattle.newt_graph.specs.declared.node.Node.{Node}
 use Rattle.newt_graph.specs.declared.node.Node.TheVariants.{Symbol, Str, Binary, Large, Array, Frame}
@@ -51,9 +52,6 @@ directory_bytes s = text_bytes s.name ++ be32 s.sig ++ be16 s.next_soup ++ count
 
 -- ---- pages
 
-abbrev pub pages : ℕ → ℕ
-pages n = max 1 ((n + 499) / 500)
-
 -- the lengths of the large binaries, in order of node number
 abbrev pub large_length : Node → List ℕ
 large_length (Large _ bytes) = length bytes ∷ []
@@ -69,7 +67,7 @@ skeleton_length g = length (nsof (skeleton g))
 abbrev pub entry_pages : Entry → ℕ
 entry_pages e =
     let larges = large_lengths e.graph in
-    pages (12 + skeleton_length e.graph + 12 * length larges) + sum (map pages larges)
+    pages_for (12 + skeleton_length e.graph + 12 * length larges) + sum (map pages_for larges)
 
 -- the pages of a soup's entries
 abbrev pub soup_pages : Soup → ℕ
@@ -77,8 +75,4 @@ soup_pages p = sum_by entry_pages p.entries
 
 -- the pages of the directory, and those of all entries
 abbrev pub cost : Store → ℕ
-cost s = pages (length (directory_bytes s)) + sum_by soup_pages s.soups
-
--- how many pages a unit of so many blocks holds
-abbrev pub cap : ℕ → ℕ
-cap blocks = (4096 * ((blocks - 3) / 2) - 16) / 525
+cost s = pages_for (length (directory_bytes s)) + sum_by soup_pages s.soups

@@ -8,7 +8,8 @@ use Rattle.newt_spec_graph.specs.Graph.{is_frame, object}
 use Rattle.newt_spec_graph.specs.Limits.{within_limits}
 use Rattle.newt_spec_store.specs.Keys.{IndexSpec, IndexPart, Path, paths_of, same_paths}
 use Rattle.newt_spec_store.specs.Store.{Entry, TagTable, Soup, Store}
-use Rattle.newt_spec_store.specs.Cost.{cost, cap, skeleton_length}
+use Rattle.newt_image.specs.Pages.{cap}
+use Rattle.newt_spec_store.specs.Cost.{cost, skeleton_length}
 
 abbrev pub valid_symbol : List ℕ → Bool
 valid_symbol name = is_identifier name && nat_le (length name) 254

@@ -11,7 +11,8 @@ use Rattle.newt_spec_graph.specs.Limits.{is_within}
 use Rattle.newt_spec_graph.specs.Slots.{put}
 use Rattle.newt_spec_store.specs.Keys.{Path, IndexSpec, paths_of, same_paths}
 use Rattle.newt_spec_store.specs.Store.{Entry, Soup, Store}
-use Rattle.newt_spec_store.specs.Cost.{cost, cap, skeleton_length}
+use Rattle.newt_image.specs.Pages.{cap}
+use Rattle.newt_spec_store.specs.Cost.{cost, skeleton_length}
 use Rattle.newt_spec_query.specs.Spec.{is_query, keys_fit}
 use Rattle.newt_spec_query.specs.Cursor.{Cursor}
 use Rattle.newt_spec_world.specs.declared.command.Command.{Command}
