@@ -12,13 +12,14 @@ ghost use Rattle.newt_spec_store.specs.Cost.{directory_bytes, cost, entry_pages,
 ghost use Rattle.newt_spec_store.specs.Image.{Objects, entry_bytes};
 ghost use Rattle.newt_spec_store.specs.Reading.{whole, directory};
 ghost use Rattle.newt_spec_store.specs.StoreOf.{entry_row, store_of};
-ghost use Rattle.newt_spec_store.specs.OfImage.{IsStoreOf};
+ghost use Rattle.newt_spec_store.specs.OfImage.{IsStoreOf, blocks_of};
+ghost use Rattle.newt_spec_world.specs.First.{world_of};
 ghost use Rattle.newt_spec_store.specs.Laid.{bare, FitsRecord, row_of, Laid, IsLaid};
 ghost use Rattle.newt_spec_store.specs.Valid.{well_formed, valid};
 ghost use Rattle.newt_spec_query.specs.Hits.{Query, Hit, hits, hit_cmp};
 ghost use Rattle.newt_spec_world.specs.World.{World};
 ghost use Rattle.std.specs.Prelude.{ℕ, Some};
-ghost use Rattle.newt_spec_world.specs.World.{store_on_unit, first_world, Device, flat};
+ghost use Rattle.newt_spec_world.specs.World.{store_on_unit};
 ghost use Rattle.newt_spec_world.specs.Alias.{Alias as IsAlias, Spot, resolved};
 ghost use Rattle.newt_laws.specs.Later.{WorldLater, StoreLater, EntryGone, SoupGone};
 ghost use Rattle.newt_laws.specs.Named.{IsNamed};
@@ -112,13 +113,19 @@ pub fn images_hold_one_store()
     ensures { (graph_of : List ℕ → Option RawGraph) (image : List ℕ) (s t : Store) → IsStoreOf graph_of image s → IsStoreOf graph_of image t → s ≡ t }
 {}
 
-/// What holds of a first world in which nothing is mounted, and so of all worlds of a run.
+/// What holds of a world holds of all later worlds of its run.
 pub fn runs_keep_all()
     ensures valid { (w : World) (cs : List IsCommand) → AllValid w → Each (λ c. IsTrue (has_form c)) cs → AllValid (after w cs) }
     ensures settled { (w : World) (cs : List IsCommand) → IsSettled w → IsSettled (after w cs) }
     ensures apart { (w : World) (cs : List IsCommand) → MountedApart w → MountedApart (after w cs) }
-    ensures first_settled { (units : List (Option Device)) → IsSettled (first_world units) }
-    ensures first_apart { (units : List (Option Device)) → ((u : ℕ) (d : Device) → flat (slice_get units u) ≡ Some d → d.mounted ≡ false) → MountedApart (first_world units) }
+{}
+
+/// What holds of the first world of a run.
+pub fn first_worlds_keep_all()
+    ensures valid { (store_of_image : List ℕ → Option Store) (held : List ℕ → Option (List ℕ)) (names : List (List ℕ))
+        → ((image : List ℕ) (s : Store) → store_of_image image ≡ Some s → IsTrue (valid (blocks_of image) s)) → AllValid (world_of store_of_image held names) }
+    ensures settled { (store_of_image : List ℕ → Option Store) (held : List ℕ → Option (List ℕ)) (names : List (List ℕ)) → IsSettled (world_of store_of_image held names) }
+    ensures apart { (store_of_image : List ℕ → Option Store) (held : List ℕ → Option (List ℕ)) (names : List (List ℕ)) → MountedApart (world_of store_of_image held names) }
 {}
 
 /// What is removed or dropped is gone.
