@@ -1,4 +1,4 @@
--- The printed text of a graph as a literal.
+-- The printed text of a graph as a literal (this project's own).
 use Rattle.std.specs.Prelude.{ℕ, zero, suc, ◌+◌, ◌-◌, ◌*◌, ◌/◌, ◌%◌, ◌^◌, Bool, true, false, not, ◌&&◌, ◌||◌, ◌==◌, nat_lt, nat_le, List, [], ◌∷◌, ◌++◌, map, length, flat_map, filter, count_by, zip, Option, Some, None, if◌then◌else◌, codes, ℤ, pos, negsuc}
 use Rattle.std.specs.Prelude.{slice_get}
 use Rattle.std.specs.Int.{cast_unsigned, cast_signed, int_div_euclid, w32}
@@ -19,17 +19,21 @@ use Rattle.newt_spec_graph.specs.Spelling.{Spelling, plain, ◌then◌, separate
 abbrev pub escaped : List ℕ → ℕ → List ℕ
 escaped marks c = if list_any (λ m. m == c) marks then 92 ∷ c ∷ [] else c ∷ []
 
+-- a name as it is where it is an identifier, else between bars
 abbrev pub name_text : List ℕ → List ℕ
 name_text name = if is_identifier name then name else codes "|" ++ flat_map (escaped (codes "|\\")) name ++ codes "|"
 
 -- ---- values
 
+-- the four digits of a unit
 abbrev pub hex16 : ℕ → List ℕ
 hex16 n = hex_text (be16 n)
 
+-- a character: itself where it can stand behind `$`, else its four digits
 abbrev pub char_text : ℕ → List ℕ
 char_text c = if nat_le 33 c && nat_le c 126 && not (c == 92) then 36 ∷ c ∷ [] else codes "$\\" ++ hex16 c
 
+-- an immediate in the first form that fits: an integer, nil, true, a character, or the eight digits of its word
 abbrev pub word_literal : ℤ → List ℕ
 word_literal value =
     let w = cast_unsigned w32 value in
@@ -39,6 +43,7 @@ word_literal value =
     else if (w % 16 == 6) && nat_lt w (2 ^ 20) then char_text (w / 16)
     else 38 ∷ hex_text (be32 w)
 
+-- a unit of a string: itself from 32 to 126, with a backslash before a quote or a backslash, else its four digits
 abbrev pub unit_text : ℕ → List ℕ
 unit_text u =
     if (u == 34) || (u == 92) then 92 ∷ u ∷ []
@@ -58,9 +63,11 @@ labelled g =
     refers_to n (Imm _) = false
     refers_to n (At m) = n == m
 
+-- the printed name of a symbol, by its number
 abbrev pub name_of : List Node → ℕ → List ℕ
 name_of nodes n = elim (slice_get nodes n) [ Some (Symbol name) ↦ name_text name | _ ↦ [] ]
 
+-- an object in full, with its values as they are printed
 abbrev pub object_literal : List Node → (Ref → Spelling) → Node → Spelling
 object_literal nodes text (Symbol name) = plain []
 object_literal nodes text (Str units) = plain (codes "\"" ++ flat_map unit_text units ++ codes "\"")
@@ -75,6 +82,7 @@ object_literal nodes text (Frame tags values) =
     then separated (codes ", ") (map (λ s. plain (name_of nodes s.0 ++ codes ": ") then text s.1) (zip tags values))
     then plain (codes "}")
 
+-- a label with what stands behind it, where there is one
 abbrev pub label_text : Option ℕ → List ℕ → List ℕ
 label_text None after = []
 label_text (Some label) after = codes "#" ++ decimal_text label ++ after
