@@ -1,4 +1,4 @@
--- Objects that write down a store, in any order.
+-- Objects that write down a store, with the records of its entries in any order. This project's own format.
 use Rattle.std.specs.Prelude.{◌≡◌, [], ℕ, ◌%◌, ◌<◌, Bool, true, ◌==◌, List, length, map, filter, zip, Option, Some}
 use Rattle.newt_graph.specs.Graph.{RawGraph}
 use Rattle.newt_nsof.specs.Written.{nsof}
@@ -7,7 +7,7 @@ use Rattle.newt_spec_store.specs.Store.{Entry, Soup, Store}
 use Rattle.newt_spec_store.specs.Cost.{directory_bytes}
 use Rattle.newt_spec_store.specs.Image.{Objects, larges, entry_bytes, all_entries}
 use Rattle.newt_spec_store.specs.StoreOf.{LargeRow, EntryRow, object_bytes, named_once}
-use Rattle.newt_laws.specs.Lists.{Each, Pairs, Among}
+use Rattle.newt_spec_graph.specs.Lists.{Each, Pairs, Among}
 
 -- the store without its entries
 abbrev pub bare : Store → Store
@@ -17,6 +17,7 @@ bare s = record s { soups = map (λ (p : Soup). let q : Soup = record p { entrie
 abbrev pub Named : Type 0
 Named = (ℕ × List ℕ) × ℕ
 
+-- the row of a large binary that is written
 abbrev pub row_of_large : Named → LargeRow
 row_of_large l = (l.0.0, l.1, length l.0.1)
 
@@ -58,9 +59,12 @@ pub record Laid : Type 0 where
   pub entry : Entry
   pub ids : List ℕ
 
+-- the record's object
 abbrev pub record_of : Laid → ℕ × List ℕ
 record_of x = (x.object, entry_bytes x.soup x.entry x.ids)
 
+-- The objects write down this store: the directory is object 0, the objects with odd ids are the records of these entries, their numbers fit their fields, each
+-- skeleton is read back from its text, each large binary is there and named once, and the entries are exactly the store's.
 pub record IsLaid (graph_of : List ℕ → Option RawGraph) (objects : Objects) (s : Store) (laid : List Laid) : Type 0 where
   pub written : object_bytes objects 0 ≡ Some (directory_bytes s)
   pub records : filter (λ o. o.0 % 2 == 1) objects ≡ map record_of laid

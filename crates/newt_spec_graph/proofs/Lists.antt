@@ -1,8 +1,8 @@
 -- Lemmas on elements of lists.
 use Rattle.std.proofs.Common.{arith, ◌≡◌, refl, ap, sym, ◌∙◌, subst, ℕ, zero, suc, ◌+◌, ◌<◌, ◌≤◌, List, [], ◌∷◌, ◌++◌, true, false, Bool, not, IsTrue, ◌&&◌, ◌||◌, ◌⊎◌, inl, inr, map, filter, flat_map, filter_map, find, cond, Option, Some, None, nat_le, nat_lt, ◌==◌}
 use Rattle.std.specs.List.{list_all, list_any, cons_option}
-use Rattle.newt_spec_store.specs.Valid.{rises}
-use Rattle.newt_laws.specs.Lists.{Each, Pairs, Among}
+use Rattle.newt_spec_graph.specs.Lists.{rises}
+use Rattle.newt_spec_graph.specs.Lists.{Each, Pairs, Among}
 
 -- ---- each
 

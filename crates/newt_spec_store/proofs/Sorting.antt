@@ -6,8 +6,8 @@ use Rattle.std.specs.Cmp.{IsTotalOrder}
 use Rattle.std.specs.Ordering.{is_lt, ordering_reverse}
 use Rattle.std.proofs.lemmas.Cmp.{tied_back}
 use Rattle.newt_spec_store.specs.Sorted.{insert_by, sorted_by}
-use Rattle.newt_laws.specs.Lists.{Each, Pairs, Among}
-use Rattle.newt_laws.proofs.Lists.{each-more, each-at, each-from}
+use Rattle.newt_spec_graph.specs.Lists.{Each, Pairs, Among}
+use Rattle.newt_spec_graph.proofs.Lists.{each-more, each-at, each-from}
 
 pub insert-among : {X : Type 0} (cmp : X → X → Ordering) (ys : List X) (x z : X) → (x ≡ z) ⊎ Among ys z → Among (insert_by cmp ys x) z
 insert-among cmp [] x z (inl e) = inl e
