@@ -4,7 +4,7 @@
 pub(crate) const MOST_NODES: usize = 65_535;
 
 /// How many arrays and frames are open within one another at most. A small rectangle counts as one.
-pub(crate) const MOST_OPEN: u8 = 200;
+pub(crate) const MOST_OPEN: usize = 200;
 
 /// How many slots an array or a frame has at most.
 pub(crate) const MOST_SLOTS: u32 = 65_535;
