@@ -1,7 +1,9 @@
 //! What is answered to a command.
+ghost use Rattle.std.specs.Prelude.{◌≡◌, IfOk};
 
 use newt_base::Refusal;
 use newt_graph::Graph;
+use std::alloc::AllocError;
 
 /// What is answered to a command.
 #[derive(Drop)]
@@ -14,4 +16,18 @@ pub enum Reply {
     Literal(Graph),
     /// It was refused.
     Refused(Refusal),
+}
+
+impl Reply {
+    /// An equal reply.
+    pub fn copy(&self) -> Result<Reply, AllocError>
+        ensures { IfOk result (λ copy. copy ≡ self.now) }
+    {
+        Ok(match self {
+            Reply::Done => Reply::Done,
+            Reply::Nsof(graph) => Reply::Nsof(graph.copy()?),
+            Reply::Literal(graph) => Reply::Literal(graph.copy()?),
+            Reply::Refused(refusal) => Reply::Refused(*refusal),
+        })
+    }
 }

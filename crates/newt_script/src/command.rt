@@ -1,7 +1,9 @@
 //! Commands, and why a line is none.
+ghost use Rattle.std.specs.Prelude.{◌≡◌, IfOk};
 
 use newt_base::Refusal;
 use newt_graph::Graph;
+use std::alloc::AllocError;
 
 /// What a line asks for. One variant a row of the table of commands, with the words of the row.
 #[derive(Drop)]
@@ -14,6 +16,20 @@ pub enum Command {
     Time(u32),
     /// To end the script.
     Quit,
+}
+
+impl Command {
+    /// An equal command.
+    pub fn copy(&self) -> Result<Command, AllocError>
+        ensures { IfOk result (λ copy. copy ≡ self.now) }
+    {
+        Ok(match self {
+            Command::Nsof(graph) => Command::Nsof(graph.copy()?),
+            Command::Lit(graph) => Command::Lit(graph.copy()?),
+            Command::Time(minute) => Command::Time(*minute),
+            Command::Quit => Command::Quit,
+        })
+    }
 }
 
 /// Why a line is not taken for a command.
