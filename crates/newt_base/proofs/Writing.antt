@@ -1,5 +1,5 @@
 -- A number that is written into a part of a slice.
-use Rattle.std.proofs.Common.{◌≡◌, ℕ, ◌+◌, ◌-◌, ◌/◌, ◌≤◌, List, [], ◌∷◌, ◌++◌, length, take, drop, refl, sym, ap, ◌∙◌, arith, append_assoc, length-drop}
+use Rattle.std.proofs.Common.{◌≡◌, ℕ, ◌+◌, ◌-◌, ◌/◌, ◌≤◌, List, [], ◌++◌, length, take, drop, refl, arith, append_assoc, length-drop}
 use Rattle.byteorder.specs.Endian.{big_bytes}
 use Rattle.newt_base.specs.Text.{be32}
 use Rattle.std.proofs.lemmas.List.{append-nil, drop-drop, drop_all, take_all}

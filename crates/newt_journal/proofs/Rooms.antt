@@ -1,0 +1,42 @@
+-- The room of a journal is what the tail of the image says.
+use Rattle.std.proofs.Common.{IsTrue, ◌≡◌, ℕ, ◌+◌, ◌-◌, Bool, true, false, if◌then◌else◌, List, ◌++◌, length, replicate, refl, sym, ◌∙◌, ap, subst, arith, length-append}
+use Rattle.newt_host.specs.Moments.{Moment, image}
+use Rattle.newt_host.specs.Outside.{Outside}
+use Rattle.newt_image.specs.Records.{tail, bank_size}
+use Rattle.newt_journal.specs.Bank.{start_of, limit_of}
+use Rattle.newt_journal.specs.Journal.{room, written, IsHeld, Stands, IsRoom}
+use Rattle.newt_journal.specs.declared.bank.Bank.{Bank}
+use Rattle.newt_journal.specs.declared.journal.Journal.{Journal}
+use Rattle.newt_journal.proofs.Steps.{length-bank}
+use Rattle.newt_journal.proofs.Tail.{holds-tail}
+
+closed-room : (closed : Bool) (n : ℕ) → (closed ≡ false → ⊥) → (if closed then 0 else n) ≡ 0
+closed-room true n shut = refl
+closed-room false n shut = absurd (shut refl)
+
+module _ (j : Journal) (now : Moment) (held : IsHeld j now) where
+  tail_is : tail (image j.unit now) ≡ held.behind
+  tail_is = holds-tail j.blocks j.bank j.enough j.not_too_many held.payloads held.behind (image j.unit now) held.bank held.ends
+
+  long : length held.behind ≡ limit_of j.blocks j.bank - j.end
+  long = omega (arith, held.end, length-bank j.blocks j.bank j.enough j.not_too_many (written held.payloads ++ held.behind) (image j.unit now) held.bank, length-append (written held.payloads) held.behind)
+
+  pub tail_long : length (tail (image j.unit now)) ≡ limit_of j.blocks j.bank - j.end
+  tail_long = ap length tail_is ∙ long
+
+  pub tail_blank : j.closed ≡ false → (n : ℕ) → n ≡ limit_of j.blocks j.bank - j.end → tail (image j.unit now) ≡ replicate n 255
+  tail_blank is_open n n_is = tail_is ∙ held.blank is_open ∙ ap (λ (k : ℕ). replicate k 255) (long ∙ sym n_is)
+
+  pub room_is : IsRoom (room j) (tail (image j.unit now))
+  room_is = subst (λ (l : List ℕ). IsRoom (room j) l) (sym tail_is) (record {
+    erased = λ erased. ap (λ (b : Bool). if b then 0 else (limit_of j.blocks j.bank - j.end) - 5) (held.not_closed erased) ∙ ap (λ (n : ℕ). n - 5) (sym long);
+    closed = λ not_erased. closed-room j.closed ((limit_of j.blocks j.bank - j.end) - 5) (λ is_open. not_erased (held.blank is_open));
+  })
+
+-- the room of a journal is what its unit's image says, of each host
+pub room_told : (j : Journal) (n : ℕ) → n ≡ room j → (told : Bool) (outside : Outside) → Stands told j outside → IsTrue told → IsRoom n (tail (image j.unit outside.now))
+room_told j n is told outside stands t = subst (λ (k : ℕ). IsRoom k (tail (image j.unit outside.now))) (sym is) (room_is j outside.now (stands.held t))
+
+-- what one record leaves of a bank
+pub same_rest : (blocks : ℕ) (bank : Bank) (end len : ℕ) {start : ℕ} → start ≡ start_of blocks bank → end ≡ start + 21 + len → bank_size blocks - (21 + len) ≡ limit_of blocks bank - end
+same_rest blocks bank end len start_is is = omega (arith, start_is, is)

@@ -1,0 +1,36 @@
+use Rattle.std.proofs.Common.{refl}
+use Rattle.newt_image.specs.Records.{length_bytes}
+use Rattle.newt_host.proofs.Outside.{same_cards}
+use Rattle.newt_journal.proofs.Append.{blank, any_moment, same_records, drafted_now, rest_left}
+use Rattle.newt_journal.proofs.appending.Appending.begin.Goals as goal
+
+pub program_piece-requires-clause-blank : goal.program_piece-requires-clause-blank
+unfolding length_bytes
+program_piece-requires-clause-blank g c t = blank c.args.journal c.args.len c.requires.some c.requires.fits (g.H.Host.outside c.args.host.now).now (c.requires.stands.held t) _ c.to_be_bytes.ensures
+
+pub returns-in_err-program_piece-clause-any_moment : goal.returns-in_err-program_piece-clause-any_moment
+unfolding length_bytes
+returns-in_err-program_piece-clause-any_moment g c t = any_moment c.args.journal c.args.len c.requires.some c.requires.fits _ (c.requires.stands.held t) _ c.to_be_bytes.ensures (c.program_piece.ensures.wrote t)
+
+pub returns-clause-draft : goal.returns-clause-draft
+unfolding length_bytes
+returns-clause-draft g c = (
+  record {
+    has = same_cards c.program_piece.ensures.alone.cards c.requires.stands.has;
+    held = λ t. drafted_now c.args.journal c.args.len c.requires.some c.requires.fits _ (c.requires.stands.held t) _ c.to_be_bytes.ensures (c.in_ok-program_piece.ensures.wrote t) _ _;
+  },
+  refl,
+  refl,
+  refl,
+)
+
+pub returns-clause-same : goal.returns-clause-same
+unfolding length_bytes
+returns-clause-same g c t = same_records c.args.journal c.args.len c.requires.some c.requires.fits _ (c.requires.stands.held t) _ c.to_be_bytes.ensures (c.in_ok-program_piece.ensures.wrote t)
+
+pub returns-clause-any_moment : goal.returns-clause-any_moment
+unfolding length_bytes
+returns-clause-any_moment g c t = any_moment c.args.journal c.args.len c.requires.some c.requires.fits _ (c.requires.stands.held t) _ c.to_be_bytes.ensures (c.program_piece.ensures.wrote t)
+
+pub returns-clause-rest : goal.returns-clause-rest
+returns-clause-rest g c t = rest_left c.args.journal c.args.len c.requires.some c.requires.fits (g.H.Host.outside c.args.host.now).now (c.requires.stands.held t)

@@ -1,0 +1,53 @@
+-- What the draft of a record stands for, behind the others or alone in the other bank.
+use Rattle.std.specs.Prelude.{ℕ, Bool, true, false, ◌+◌, ◌-◌, List, [], ◌∷◌, Option, Some}
+use Rattle.newt_host.specs.Outside.{Outside}
+use Rattle.newt_image.specs.Records.{bank_size}
+use Rattle.newt_journal.specs.Bank.{limit_of}
+use Rattle.newt_journal.specs.Journal.{appended}
+use Rattle.newt_journal.specs.Appending.{drafted, IsAppendingOf}
+use Rattle.newt_journal.specs.Switch.{switched, IsSwitchOf}
+use Rattle.newt_journal.specs.declared.draft.Draft.{Draft}
+use Rattle.newt_journal.specs.declared.draft.Draft.TheVariants.{Append, Switch}
+
+-- The draft stands for its unit of this host.
+abbrev pub IsDraftOf : Bool → Draft → Outside → Type 0
+IsDraftOf told (Append a) outside = IsAppendingOf told a outside
+IsDraftOf told (Switch s) outside = IsSwitchOf told s outside
+
+abbrev pub unit_of : Draft → ℕ
+unit_of (Append a) = a.journal.unit
+unit_of (Switch s) = s.journal.unit
+
+-- the length of the payload, and how much of it has been put
+abbrev pub len_of : Draft → ℕ
+len_of (Append a) = a.len
+len_of (Switch s) = s.len
+
+abbrev pub put_of : Draft → ℕ
+put_of (Append a) = a.put
+put_of (Switch s) = s.put
+
+-- what has been put so far, in this image
+abbrev pub payload_of : Draft → List ℕ → List ℕ
+payload_of (Append a) image = drafted a image
+payload_of (Switch s) image = switched s image
+
+-- the record will be the only one, in the other bank
+abbrev pub is_switch : Draft → Bool
+is_switch (Append a) = false
+is_switch (Switch s) = true
+
+-- how many bytes will be left behind the record
+abbrev pub rest_of : Draft → ℕ
+rest_of (Append a) = limit_of a.journal.blocks a.journal.bank - (a.journal.end + 5 + a.len)
+rest_of (Switch s) = bank_size s.journal.blocks - (21 + s.len)
+
+-- the payloads once it is finished: one more, or it alone
+abbrev pub outcome : Bool → Option (List (List ℕ)) → List ℕ → Option (List (List ℕ))
+outcome false before payload = appended before payload
+outcome true before payload = Some (payload ∷ [])
+
+-- the bytes that are programmed to commit it: the gate, or the votes
+abbrev pub commit_costs : Bool → ℕ
+commit_costs false = 1
+commit_costs true = 3

@@ -1,0 +1,69 @@
+// A journal is opened.
+ghost use Rattle.std.specs.Prelude.{IsTrue, ◌≡◌, ◌≤◌, None, OnErr, IfOk, MatchOption, Some};
+ghost use Rattle.newt_host.specs.Moments.{image};
+ghost use Rattle.newt_host.specs.Outside.{HasBlocks, Touches, Spends, Rose};
+ghost use Rattle.newt_image.specs.Records.{chosen_bank};
+ghost use Rattle.newt_journal.specs.Bank.{bank_number};
+
+use crate::choose::choose;
+use crate::scan::{find_end, has_header, is_blank, read_byte};
+use crate::{Bank, Journal, JournalFault};
+use newt_host::{BLOCK, Failed, Host, Unit};
+
+/// The bank that the votes of a unit choose.
+fn read_votes<H: Host>(host: &mut H, unit: Unit, blocks: u32) -> Result<Option<Bank>, Failed>
+    requires has { HasBlocks unit blocks (H.outside host.old) }
+    requires enough { 13 ≤ blocks }
+    ensures bank { IsTrue H.told → IfOk result (λ found. MatchOption found (chosen_bank (image unit (H.outside host.old).now) ≡ None) (λ bank. chosen_bank (image unit (H.outside host.old).now) ≡ Some (bank_number bank))) }
+    ensures moment { (H.outside host.new).now ≡ (H.outside host.old).now }
+    ensures alone { Touches unit (H.outside host.old) (H.outside host.new) }
+    ensures costs { Spends unit 0 3 (H.outside host.old) (H.outside host.new) }
+    ensures cause { OnErr result (Rose ((H.outside host.old).dev_faults unit) ((H.outside host.new).dev_faults unit)) }
+{
+    let first = read_byte(host, unit, 0)?;
+    let second = read_byte(host, unit, BLOCK)?;
+    let third = read_byte(host, unit, 2 * BLOCK)?;
+    Ok(choose(first, second, third))
+}
+
+impl Journal {
+    ghost use Rattle.std.specs.Prelude.{◌+◌, IsSome, IsErrOf};
+    ghost use Rattle.newt_host.specs.Moments.{IsDurable};
+    ghost use Rattle.newt_image.specs.Records.{records, bank_size};
+    ghost use Rattle.newt_journal.specs.Journal.{Stands};
+
+    /// Reads the journal of a unit on which nothing is pending: its votes may differ, and a record may be torn.
+    pub fn open<H: Host>(host: &mut H, unit: Unit) -> Result<Journal, JournalFault>
+        requires enough { 13 ≤ (H.outside host.old).blocks unit }
+        requires few { (H.outside host.old).blocks unit ≤ 4099 }
+        requires durable { IsTrue H.told → IsDurable unit (H.outside host.old).now }
+        ensures journal { IfOk result (λ journal. Stands H.told journal (H.outside host.new) × (journal.unit ≡ unit)) }
+        ensures store { IsTrue H.told → IfOk result (λ journal. IsSome (records (image unit (H.outside host.old).now))) }
+        ensures not_store { IsErrOf result JournalFault.NotStore → IsTrue H.told → records (image unit (H.outside host.old).now) ≡ None }
+        ensures device { IsErrOf result JournalFault.Device → Rose ((H.outside host.old).dev_faults unit) ((H.outside host.new).dev_faults unit) }
+        ensures moment { (H.outside host.new).now ≡ (H.outside host.old).now }
+        ensures alone { Touches unit (H.outside host.old) (H.outside host.new) }
+        ensures costs { Spends unit 0 (4 + bank_size ((H.outside host.old).blocks unit)) (H.outside host.old) (H.outside host.new) }
+    {
+        let blocks = host.blocks(unit);
+        let Some(bank) = read_votes(host, unit, blocks)? else {
+            return Err(JournalFault::NotStore);
+        };
+        let start = bank.start(blocks);
+        let limit = bank.limit(blocks);
+        if !has_header(host, unit, start)? {
+            return Err(JournalFault::NotStore);
+        }
+        let Some(end) = find_end(host, unit, start + 16, limit)? else {
+            return Err(JournalFault::NotStore);
+        };
+        let blank = is_blank(host, unit, end, limit)?;
+        Ok(Journal {
+            unit,
+            blocks,
+            bank,
+            end,
+            closed: !blank,
+        })
+    }
+}

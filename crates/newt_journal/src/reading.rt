@@ -1,0 +1,80 @@
+// The records of a journal are read, one after the other.
+ghost use Rattle.std.specs.Prelude.{IsTrue, ◌≡◌};
+
+use crate::Journal;
+use crate::scan::read_length;
+use newt_host::{Failed, Host};
+
+/// A record that was found: the place of its payload, the payload's length in bytes, and the place behind it, where the next record begins.
+#[derive(Clone, Copy, Debug, PartialEq, Eq)]
+pub struct Found {
+    pub at: u32,
+    pub len: u32,
+    pub next: u32,
+}
+
+impl Journal {
+    ghost use Rattle.std.specs.Prelude.{Bool, ◌+◌, ◌≤◌, [], length, take, drop, Some, OnErr, OnOk, IfOk, IfSome, MatchOption};
+    ghost use Rattle.newt_host.specs.Moments.{image};
+    ghost use Rattle.newt_host.specs.Outside.{Outside, Touches, Spends, Rose};
+    ghost use Rattle.newt_image.specs.Records.{records, with_first};
+    ghost use Rattle.newt_journal.specs.Places.{first_place, payloads_from, IsPlace};
+    ghost use Rattle.newt_journal.specs.Journal.{Stands};
+
+    /// The place of the first record, a byte number in the unit's image.
+    pub fn first(&self) -> u32
+        ensures place { result ≡ first_place self.now }
+        ensures before_end { result ≤ self.now.end }
+        // From it on stand all records of the image.
+        ensures is_place { (told : Bool) (outside : Outside) → Stands told self.now outside → IsTrue told → IsPlace self.now result (image self.now.unit outside.now) }
+        ensures reads_all { (told : Bool) (outside : Outside) → Stands told self.now outside → IsTrue told → payloads_from self.now result (image self.now.unit outside.now) ≡ records (image self.now.unit outside.now) }
+    {
+        self.bank.start(self.blocks) + 16
+    }
+
+    /// The record that begins at a place, or none at the end of the records. The place is the first one or one that `walk` gave.
+    pub fn walk<H: Host>(&self, host: &mut H, at: u32) -> Result<Option<Found>, Failed>
+        requires low { first_place self.now ≤ at }
+        requires high { at ≤ self.now.end }
+        requires stands { Stands H.told self.now (H.outside host.old) }
+        requires place { IsTrue H.told → IsPlace self.now at (image self.now.unit (H.outside host.old).now) }
+        ensures found { IsTrue H.told → IfOk result (λ found. MatchOption found
+            (payloads_from self.now at (image self.now.unit (H.outside host.old).now) ≡ Some [])
+            (λ record_is. payloads_from self.now at (image self.now.unit (H.outside host.old).now)
+            ≡ with_first (take record_is.len (drop record_is.at (image self.now.unit (H.outside host.old).now))) (payloads_from self.now record_is.next (image self.now.unit (H.outside host.old).now)))) }
+        ensures next { IsTrue H.told → IfOk result (λ found. IfSome found (λ record_is. IsPlace self.now record_is.next (image self.now.unit (H.outside host.old).now))) }
+        ensures end { IsTrue H.told → IfOk result (λ found. MatchOption found (at ≡ self.now.end) (λ record_is. at + 5 ≤ self.now.end)) }
+        ensures inside { IfOk result (λ found. IfSome found (λ record_is. (record_is.at ≡ at + 5) × (record_is.next ≡ record_is.at + record_is.len) × (record_is.next ≤ self.now.end))) }
+        ensures moment { (H.outside host.new).now ≡ (H.outside host.old).now }
+        ensures alone { Touches self.now.unit (H.outside host.old) (H.outside host.new) }
+        ensures costs { Spends self.now.unit 0 4 (H.outside host.old) (H.outside host.new) }
+        ensures cause { OnErr result (Rose ((H.outside host.old).dev_faults self.now.unit) ((H.outside host.new).dev_faults self.now.unit)) }
+    {
+        if self.end - at < 5 {
+            return Ok(None);
+        }
+        let len = read_length(host, self.unit, at + 1)?;
+        if len > self.end - at - 5 {
+            return Ok(None);
+        }
+        Ok(Some(Found {
+            at: at + 5,
+            len,
+            next: at + 5 + len,
+        }))
+    }
+
+    /// Fills the buffer with bytes of the committed records, from the place on.
+    pub fn read_at<H: Host>(&self, host: &mut H, at: u32, buf: &mut [u8]) -> Result<(), Failed>
+        requires low { first_place self.now ≤ at }
+        requires high { at + length buf.old ≤ self.now.end }
+        requires stands { Stands H.told self.now (H.outside host.old) }
+        ensures bytes { IsTrue H.told → OnOk result (buf.new ≡ take (length buf.old) (drop at (image self.now.unit (H.outside host.old).now))) }
+        ensures moment { (H.outside host.new).now ≡ (H.outside host.old).now }
+        ensures alone { Touches self.now.unit (H.outside host.old) (H.outside host.new) }
+        ensures costs { Spends self.now.unit 0 (length buf.old) (H.outside host.old) (H.outside host.new) }
+        ensures cause { OnErr result (Rose ((H.outside host.old).dev_faults self.now.unit) ((H.outside host.new).dev_faults self.now.unit)) }
+    {
+        host.read(self.unit, at, buf)
+    }
+}

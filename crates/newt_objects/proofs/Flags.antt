@@ -1,0 +1,48 @@
+-- Flags of page numbers that are set one after another.
+use Rattle.std.proofs.Common.{◌≡◌, ℕ, suc, zero, ◌<◌, Bool, true, false, ◌||◌, List, [], ◌∷◌, ◌++◌, length, slice_get, take, drop, replicate, Some, refl, sym, ◌∙◌, ap, arith}
+use Rattle.std.specs.List.{list_any}
+use Rattle.std.proofs.lemmas.List.{length-replicate, take_at}
+use Rattle.std.proofs.lemmas.List.Folds.{list_any-append}
+use Rattle.newt_objects.specs.Extents.{AreFlags, MarksAlso}
+
+or_false : (a : Bool) → a ≡ (a || false)
+or_false true = refl
+or_false false = refl
+
+pub or_assoc : (a b c : Bool) → ((a || b) || c) ≡ (a || (b || c))
+or_assoc true b c = refl
+or_assoc false b c = refl
+
+-- no flag is set
+pub marks-none : (test : ℕ → Bool) (flags : List Bool) → ((q : ℕ) → test q ≡ false) → MarksAlso test flags flags
+marks-none test flags none = record { size = refl; each = λ q flag e. e ∙ ap Some (or_false flag ∙ ap (λ (b : Bool). flag || b) (sym (none q))) }
+
+-- more of them are
+pub marks-more : (first second both : ℕ → Bool) (a b c : List Bool) → ((q : ℕ) → both q ≡ (first q || second q)) → MarksAlso first a b → MarksAlso second b c → MarksAlso both a c
+marks-more first second both a b c is one other = record {
+  size = other.size ∙ one.size;
+  each = λ q flag e. other.each q (flag || first q) (one.each q flag e) ∙ ap Some (or_assoc flag (first q) (second q) ∙ ap (λ (b : Bool). flag || b) (sym (is q)));
+}
+
+pub marks-same : (test other : ℕ → Bool) (a b : List Bool) → ((q : ℕ) → other q ≡ test q) → MarksAlso test a b → MarksAlso other a b
+marks-same test other a b is marks = record { size = marks.size; each = λ q flag e. marks.each q flag e ∙ ap (λ (b : Bool). Some (flag || b)) (sym (is q)) }
+
+-- one element more of a list that grows at its end
+pub any_push : {X : Type 0} (p : X → Bool) (xs : List X) (x : X) → list_any p (xs ++ x ∷ []) ≡ (list_any p xs || p x)
+any_push p xs x = list_any-append p xs (x ∷ []) ∙ ap (λ (b : Bool). list_any p xs || b) (sym (or_false (p x)))
+
+all_false : (n q : ℕ) → q < n → slice_get (replicate n false) q ≡ Some false
+all_false zero q low = absurd (omega arith)
+all_false (suc n) zero low = refl
+all_false (suc n) (suc q) low = all_false n q (omega arith)
+
+-- flags that began as false
+pub flags-marked : (test : ℕ → Bool) (flags : List Bool) → MarksAlso test (replicate 65536 false) flags → AreFlags test flags
+flags-marked test flags marks = record {
+  size = marks.size ∙ length-replicate 65536 false;
+  each = λ q low. marks.each q false (all_false 65536 q low);
+}
+
+-- what a call leaves behind a whole slice that was lent
+pub lent_whole : {X : Type 0} (old new : List X) (len : ℕ) → length new ≡ length old → len ≡ length old → take len (new ++ drop (length new) old) ≡ new
+lent_whole old new len same size = take_at new (drop (length new) old) len (same ∙ sym size)

@@ -1,0 +1,69 @@
+// The rows of the table: an object by its id, or a place kept for one.
+ghost use Rattle.std.specs.Prelude.{◌≡◌, ◌≢◌, ℕ, IsSome, Some, OnOk};
+ghost use Rattle.std.specs.BTreeMap as tree;
+ghost use Rattle.std.specs.Ordering.{nat_cmp};
+ghost use Rattle.newt_objects.specs.Headers.{held_in};
+ghost use Rattle.newt_objects.specs.Extents.{IsNextIn};
+
+use crate::extent::Extent;
+use std::alloc::AllocError;
+use std::collections::BTreeMap;
+
+/// Makes a row for an object, if there is none.
+pub(crate) fn keep_row(rows: &mut BTreeMap<u32, Option<Extent>>, id: u32) -> Result<(), AllocError>
+    ensures held { (other : ℕ) → held_in rows.new other ≡ held_in rows.old other }
+    ensures rows { (other : ℕ) → IsSome (tree.get nat_cmp rows.old other) → IsSome (tree.get nat_cmp rows.new other) }
+    ensures row { OnOk result (IsSome (tree.get nat_cmp rows.new id)) }
+{
+    if !rows.contains_key(&id) {
+        let _old = rows.insert(id, None)?;
+    }
+    Ok(())
+}
+
+// Writes an object into its row.
+fn write_row(rows: &mut BTreeMap<u32, Option<Extent>>, id: u32, extent: Extent)
+    requires { IsSome (tree.get nat_cmp rows.old id) }
+    ensures object { tree.get nat_cmp rows.new id ≡ Some (Some extent) }
+    ensures others { (q : ℕ) → q ≢ id → tree.get nat_cmp rows.new q ≡ tree.get nat_cmp rows.old q }
+{
+    if let Some(row) = rows.get_mut(&id) {
+        *row = Some(extent);
+    }
+}
+
+/// Makes of an object what was planned, in its row.
+pub(crate) fn settle(rows: &mut BTreeMap<u32, Option<Extent>>, id: u32, next: Option<Extent>)
+    requires { IsSome (tree.get nat_cmp rows.old id) }
+    ensures object { held_in rows.new id ≡ next }
+    ensures others { (q : ℕ) → q ≢ id → tree.get nat_cmp rows.new q ≡ tree.get nat_cmp rows.old q }
+{
+    match next {
+        Some(extent) => write_row(rows, id, extent),
+        None => {
+            rows.remove(&id);
+        }
+    }
+}
+
+/// Takes a row away that has no object.
+pub(crate) fn drop_vacant(rows: &mut BTreeMap<u32, Option<Extent>>, id: u32)
+    ensures held { (other : ℕ) → held_in rows.new other ≡ held_in rows.old other }
+    ensures others { (q : ℕ) → q ≢ id → tree.get nat_cmp rows.new q ≡ tree.get nat_cmp rows.old q }
+{
+    if let Some(None) = rows.get(&id) {
+        rows.remove(&id);
+    }
+}
+
+/// The least id, not below one, that has an object.
+pub(crate) fn next_row(rows: &BTreeMap<u32, Option<Extent>>, from: u32) -> Option<u32>
+    ensures { IsNextIn (held_in rows.now) from result }
+{
+    for (id, row) in rows.range(from..) {
+        if row.is_some() {
+            return Some(*id);
+        }
+    }
+    None
+}
