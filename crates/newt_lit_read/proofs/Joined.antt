@@ -89,9 +89,10 @@ symbol_made ns name m is h e = by (find_alike name ns) refl e
         let lt = ltb-true (length ns) 131072 p.0 in
         let all = ns ++ nodes.Symbol name ∷ [] in
         let draft = symbol_push ns all (sum_by payload ns) name is lt none refl (h.draft, refl) in
-        subst (λ (m : ℕ × List Node). Made ns m.1 × IsSymbol m.1 m.0) (some_is _ _ p.1)
-        (record { new = nodes.Symbol name ∷ []; is = refl; holds = held_append ns (nodes.Symbol name) draft.0 h (no_parts all (nodes.Symbol name) refl (All-nil (IsValue (length all)))) },
-        (name, get_seam ns (nodes.Symbol name) []))
+        subst (λ (m : ℕ × List Node). Made ns m.1 × IsSymbol m.1 m.0) (some_is _ _ p.1) (
+          record { new = nodes.Symbol name ∷ []; is = refl; holds = held_append ns (nodes.Symbol name) draft.0 h (no_parts all (nodes.Symbol name) refl (All-nil (IsValue (length all)))) },
+          (name, get_seam ns (nodes.Symbol name) []),
+        )
 
 -- an open node
 abbrev open_node : Node
@@ -127,15 +128,18 @@ filled_made ns n node after vacant filling joined h e =
     let q = and_parts (is_small node) (leb (sum_by payload (set ns n node)) 33554432) p.0 in
     let w = set_wider ns n node vacant in
     let all = set ns n node in
-    subst (λ (after : List Node). (after ≡ all) × IsHeld after) (some_is _ _ p.1) (refl, record {
-      draft = record {
-        few = omega (arith, h.draft.few, length-set ns n node);
-        light = leb-true _ _ q.1;
-        each = All-set IsPart ns n node (part_of_filling node filling q.0) h.draft.each;
-        folded_once = once_set ns n node filling h.draft.folded_once;
-      };
-      each = All-set (IsJoinedNode all) ns n node (node_wider ns all w node joined) (each_wider ns all w ns h.each);
-    })
+    subst (λ (after : List Node). (after ≡ all) × IsHeld after) (some_is _ _ p.1) (
+      refl,
+      record {
+        draft = record {
+          few = omega (arith, h.draft.few, length-set ns n node);
+          light = leb-true _ _ q.1;
+          each = All-set IsPart ns n node (part_of_filling node filling q.0) h.draft.each;
+          folded_once = once_set ns n node filling h.draft.folded_once;
+        };
+        each = All-set (IsJoinedNode all) ns n node (node_wider ns all w node joined) (each_wider ns all w ns h.each);
+      },
+    )
 
 -- ---- what a text has written down
 
@@ -272,7 +276,6 @@ classed_joined ns node k one is values = record {
 array_joined : (ns : List Node) (class : Option ℕ) (values : List Ref) → IsClass ns class → All (IsIn ns) values → IsJoinedNode ns (nodes.Array class values)
 array_joined ns None values is fits = no_parts ns (nodes.Array None values) refl fits
 array_joined ns (Some k) values is fits = classed_joined ns (nodes.Array (Some k) values) k refl is fits
-
 
 in_lasts : Lasts IsIn
 in_lasts a c w v is = value_wider a c w v is
