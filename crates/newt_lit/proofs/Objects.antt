@@ -94,17 +94,17 @@ module _ (graph : List Node) (labels : List (Option ℕ)) (p : IsPrinted graph l
 
   -- ---- binaries
 
-  name_of : (k : ℕ) (name : List ℕ) → IsNamed graph k name → symbol_text (slice_get graph k) ≡ name_text name
+  pub name_of : (k : ℕ) (name : List ℕ) → IsNamed graph k name → symbol_text (slice_get graph k) ≡ name_text name
   name_of k name named = ap symbol_text named
 
   -- the class of an object that has been opened
-  record ClassOf (met : ℕ) (seen open_nodes : List ℕ) (b : Built) (k : ℕ) (name : List ℕ) : Type 0 where
-    o : Opened graph labels met seen open_nodes b (label_of labels met)
-    y : SymbolIn graph labels (met + 1) (seen ++ met ∷ []) (met ∷ open_nodes) o.after k name
-    place : slice_get ((seen ++ met ∷ []) ++ y.extra) (length b.nodes) ≡ Some met
-    weight : sum_by payload y.after.nodes ≡ sum_by payload b.nodes
+  pub record ClassOf (met : ℕ) (seen open_nodes : List ℕ) (b : Built) (k : ℕ) (name : List ℕ) : Type 0 where
+    pub o : Opened graph labels met seen open_nodes b (label_of labels met)
+    pub y : SymbolIn graph labels (met + 1) (seen ++ met ∷ []) (met ∷ open_nodes) o.after k name
+    pub place : slice_get ((seen ++ met ∷ []) ++ y.extra) (length b.nodes) ≡ Some met
+    pub weight : sum_by payload y.after.nodes ≡ sum_by payload b.nodes
 
-  class_of : (met : ℕ) (x : Node) (seen open_nodes : List ℕ) (b : Built) (k : ℕ) (name : List ℕ) → slice_get graph met ≡ Some x → is_symbol x ≡ false → IsNamed graph k name → Stands graph labels met seen open_nodes b
+  pub class_of : (met : ℕ) (x : Node) (seen open_nodes : List ℕ) (b : Built) (k : ℕ) (name : List ℕ) → slice_get graph met ≡ Some x → is_symbol x ≡ false → IsNamed graph k name → Stands graph labels met seen open_nodes b
       → ClassOf met seen open_nodes b k name
   class_of met x seen open_nodes b k name here object named s =
       let o = opened graph labels p.apart met x seen open_nodes b p.limit here object s in
@@ -112,13 +112,13 @@ module _ (graph : List Node) (labels : List (Option ℕ)) (p : IsPrinted graph l
       record { o = o; y = y; place = get_left (seen ++ met ∷ []) y.extra (length b.nodes) met o.place; weight = y.weight ∙ o.weight }
 
   -- the object is filled, and the walk has met further symbols
-  record Closed (met after_met count : ℕ) (seen extra open_nodes : List ℕ) (b : Built) (n : ℕ) (node : Node) : Type 0 where
-    after : Built
-    is : filled b n node ≡ Some after
-    ready : Ready graph labels after_met count (seen ++ met ∷ extra) open_nodes after
-    place : slice_get (seen ++ met ∷ extra) n ≡ Some met
+  pub record Closed (met after_met count : ℕ) (seen extra open_nodes : List ℕ) (b : Built) (n : ℕ) (node : Node) : Type 0 where
+    pub after : Built
+    pub is : filled b n node ≡ Some after
+    pub ready : Ready graph labels after_met count (seen ++ met ∷ extra) open_nodes after
+    pub place : slice_get (seen ++ met ∷ extra) n ≡ Some met
 
-  closed : (met after_met count : ℕ) (seen extra open_nodes : List ℕ) (b : Built) (n : ℕ) (node x : Node) → slice_get graph met ≡ Some x → is_symbol x ≡ false → is_symbol node ≡ false
+  pub closed : (met after_met count : ℕ) (seen extra open_nodes : List ℕ) (b : Built) (n : ℕ) (node x : Node) → slice_get graph met ≡ Some x → is_symbol x ≡ false → is_symbol node ≡ false
       → Stands graph labels after_met ((seen ++ met ∷ []) ++ extra) (met ∷ open_nodes) b → slice_get ((seen ++ met ∷ []) ++ extra) n ≡ Some met → NodeStands ((seen ++ met ∷ []) ++ extra) node x → is_small node ≡ true
       → Between graph count after_met → sum_by payload b.nodes + payload node ≤ sum_by payload (take after_met graph) → Closed met after_met count seen extra open_nodes b n node
   closed met after_met count seen extra open_nodes b n node x here object no_name s place is small agrees light =
