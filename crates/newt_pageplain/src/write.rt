@@ -10,7 +10,7 @@ ghost use Rattle.newt_journal.specs.Journal.{room, Stands, appended, ReadsAsEith
 ghost use Rattle.newt_journal.specs.Draft.{IsDraftOf, unit_of, len_of, put_of};
 ghost use Rattle.newt_pagebook.specs.Batch.{IsBatch};
 ghost use Rattle.newt_pageplain.specs.Kept.{AreSound, is_kept, needed, all_of};
-ghost use Rattle.newt_pageplain.specs.Steps.{Keeps, WritesMore};
+ghost use Rattle.newt_pageplain.specs.Steps.{IsSteady, Keeps, WritesMore};
 
 use crate::apply::Kept;
 use newt_host::{Failed, Host};
@@ -51,7 +51,7 @@ fn write_counts<H: Host>(
 ) -> Result<(), Failed>
     requires room { put_of draft.old + 4 ≤ len_of draft.old }
     requires draft { IsDraftOf H.told draft.old (H.outside host.old) }
-    ensures ok { OnOk result (WritesMore H.told (to_be_bytes w16 puts ++ to_be_bytes w16 deletes) draft.old draft.new (H.outside host.old) (H.outside host.new)) }
+    ensures ok { OnOk result (WritesMore H.told (unit_of draft.old) (to_be_bytes w16 puts ++ to_be_bytes w16 deletes) draft.old draft.new (H.outside host.old) (H.outside host.new)) }
     ensures keeps { Keeps H.told (unit_of draft.old) 4 (H.outside host.old) (H.outside host.new) }
     ensures cause { OnErr result (Rose ((H.outside host.old).dev_faults (unit_of draft.old)) ((H.outside host.new).dev_faults (unit_of draft.old))) }
 {
@@ -69,8 +69,9 @@ fn write_put<H: Host>(
 ) -> Result<(), Failed>
     requires room { put_of draft.old + 516 ≤ len_of draft.old }
     requires draft { IsDraftOf H.told draft.old (H.outside host.old) }
-    ensures ok { OnOk result (WritesMore H.told (written_put (number, page.now)) draft.old draft.new (H.outside host.old) (H.outside host.new)) }
+    ensures ok { OnOk result (WritesMore H.told (unit_of draft.old) (written_put (number, page.now)) draft.old draft.new (H.outside host.old) (H.outside host.new)) }
     ensures keeps { Keeps H.told (unit_of draft.old) 516 (H.outside host.old) (H.outside host.new) }
+    ensures size { length page.now ≡ 512 }
     ensures cause { OnErr result (Rose ((H.outside host.old).dev_faults (unit_of draft.old)) ((H.outside host.new).dev_faults (unit_of draft.old))) }
 {
     draft.put(host, &number.to_be_bytes())?;
@@ -86,7 +87,8 @@ fn write_puts<H: Host>(
 ) -> Result<(), Failed>
     requires room { put_of draft.old + 516 * length puts.now ≤ len_of draft.old }
     requires draft { IsDraftOf H.told draft.old (H.outside host.old) }
-    ensures ok { OnOk result (WritesMore H.told (flat_map written_put puts.now) draft.old draft.new (H.outside host.old) (H.outside host.new)) }
+    requires steady { IsTrue H.told → IsSteady (unit_of draft.old) (H.outside host.old).now }
+    ensures ok { OnOk result (WritesMore H.told (unit_of draft.old) (flat_map written_put puts.now) draft.old draft.new (H.outside host.old) (H.outside host.new)) }
     ensures keeps { Keeps H.told (unit_of draft.old) (516 * length puts.now) (H.outside host.old) (H.outside host.new) }
     ensures cause { OnErr result (Rose ((H.outside host.old).dev_faults (unit_of draft.old)) ((H.outside host.new).dev_faults (unit_of draft.old))) }
 {
@@ -100,12 +102,34 @@ fn write_puts<H: Host>(
 fn write_pages<H: Host>(draft: &mut Draft, host: &mut H, pages: &Kept) -> Result<(), Failed>
     requires room { put_of draft.old + 516 * length pages.now.entries ≤ len_of draft.old }
     requires draft { IsDraftOf H.told draft.old (H.outside host.old) }
-    ensures ok { OnOk result (WritesMore H.told (flat_map written_put pages.now.entries) draft.old draft.new (H.outside host.old) (H.outside host.new)) }
+    requires steady { IsTrue H.told → IsSteady (unit_of draft.old) (H.outside host.old).now }
+    ensures ok { OnOk result (WritesMore H.told (unit_of draft.old) (flat_map written_put pages.now.entries) draft.old draft.new (H.outside host.old) (H.outside host.new)) }
     ensures keeps { Keeps H.told (unit_of draft.old) (516 * length pages.now.entries) (H.outside host.old) (H.outside host.new) }
     ensures cause { OnErr result (Rose ((H.outside host.old).dev_faults (unit_of draft.old)) ((H.outside host.new).dev_faults (unit_of draft.old))) }
 {
-    for (number, page) in pages {
+    for (number, page) in pages.iter() {
         write_put(draft, host, *number, page)?;
+    }
+    Ok(())
+}
+
+// Writes the number of a page that is deleted, if it is there.
+fn write_delete<H: Host>(
+    draft: &mut Draft,
+    host: &mut H,
+    pages: &Kept,
+    number: u32,
+) -> Result<(), Failed>
+    requires room { put_of draft.old + 4 * length (filter (is_kept pages.now.entries) (number ∷ [])) ≤ len_of draft.old }
+    requires draft { IsDraftOf H.told draft.old (H.outside host.old) }
+    requires steady { IsTrue H.told → IsSteady (unit_of draft.old) (H.outside host.old).now }
+    ensures ok { OnOk result (WritesMore H.told (unit_of draft.old) (flat_map written_delete (filter (is_kept pages.now.entries) (number ∷ []))) draft.old draft.new (H.outside host.old) (H.outside host.new)) }
+    ensures keeps { Keeps H.told (unit_of draft.old) (4 * length (filter (is_kept pages.now.entries) (number ∷ []))) (H.outside host.old) (H.outside host.new) }
+    ensures cause { OnErr result (Rose ((H.outside host.old).dev_faults (unit_of draft.old)) ((H.outside host.new).dev_faults (unit_of draft.old))) }
+{
+    if pages.contains_key(&number) {
+        draft.put(host, &number.to_be_bytes())?;
+        return Ok(());
     }
     Ok(())
 }
@@ -119,14 +143,13 @@ fn write_deletes<H: Host>(
 ) -> Result<(), Failed>
     requires room { put_of draft.old + 4 * length (filter (is_kept pages.now.entries) deletes.now) ≤ len_of draft.old }
     requires draft { IsDraftOf H.told draft.old (H.outside host.old) }
-    ensures ok { OnOk result (WritesMore H.told (flat_map written_delete (filter (is_kept pages.now.entries) deletes.now)) draft.old draft.new (H.outside host.old) (H.outside host.new)) }
+    requires steady { IsTrue H.told → IsSteady (unit_of draft.old) (H.outside host.old).now }
+    ensures ok { OnOk result (WritesMore H.told (unit_of draft.old) (flat_map written_delete (filter (is_kept pages.now.entries) deletes.now)) draft.old draft.new (H.outside host.old) (H.outside host.new)) }
     ensures keeps { Keeps H.told (unit_of draft.old) (4 * length (filter (is_kept pages.now.entries) deletes.now)) (H.outside host.old) (H.outside host.new) }
     ensures cause { OnErr result (Rose ((H.outside host.old).dev_faults (unit_of draft.old)) ((H.outside host.new).dev_faults (unit_of draft.old))) }
 {
     for number in deletes {
-        if pages.contains_key(number) {
-            draft.put(host, &number.to_be_bytes())?;
-        }
+        write_delete(draft, host, pages, *number)?;
     }
     Ok(())
 }
