@@ -1,6 +1,6 @@
 -- What a builder keeps.
-use Rattle.std.proofs.Common.{◌≡◌, ◌≢◌, ℕ, zero, suc, ◌+◌, ◌*◌, ◌-◌, ◌<◌, ◌≤◌, List, [], ◌∷◌, ◌++◌, length, map, All, get_or, Bool, true, false, Option, Some, None, refl, sym, ap, subst, ◌∙◌, arith, cond, inl, inr, ◌⊎◌}
-use Rattle.std.specs.Prelude.{slice_get, set, nat_le, nat_lt}
+use Rattle.std.proofs.Common.{◌≡◌, ℕ, zero, suc, ◌+◌, ◌-◌, ◌<◌, ◌≤◌, List, [], ◌∷◌, ◌++◌, length, get_or, Bool, true, false, Option, Some, None, refl, sym, ap, subst, ◌∙◌, arith, cond, inl, inr, ◌⊎◌}
+use Rattle.std.specs.Prelude.{slice_get, set, nat_lt}
 use Rattle.std.specs.List.{sum_by, position_from}
 use Rattle.std.specs.Str.{str_eq_ignore_ascii_case}
 use Rattle.std.proofs.lemmas.Bool.{leb-true, le-leb, ltb-true}
@@ -11,8 +11,8 @@ use Rattle.std.proofs.lemmas.List.Elements.{All-push, All-set}
 use Rattle.newt_graph.specs.declared.node.Node.{Node}
 use Rattle.newt_graph.specs.declared.node.Node.TheVariants.{Symbol, Str, Binary, Large, Array, Frame}
 use Rattle.newt_graph.specs.declared.node.Ref.{Ref}
-use Rattle.newt_graph.specs.Graph.{RawGraph, IsName, IsText, IsData, IsNamed, IsSymbol, IsAlike, IsNode, IsFrame, AreTags, AreFoldedOnce, folded, payload}
-use Rattle.newt_graph.specs.Raw.{labels_of, values_of, IsValue, IsRaw}
+use Rattle.newt_graph.specs.Graph.{IsName, IsSymbol, IsAlike, IsNode, AreFoldedOnce, folded, payload}
+use Rattle.newt_graph.specs.Raw.{IsRaw}
 use Rattle.newt_graph.specs.Draft.{IsPart, IsDraft, IsJoinedNode, IsJoined, IsFilling, is_small, is_alike, find_alike, slot_put, with_slot, with_set}
 use Rattle.newt_graph.specs.Meeting.{place}
 use Rattle.std.proofs.lemmas.Option.{slice_get_within, get_or_from_slice_get}
@@ -69,6 +69,36 @@ none_alike nodes name e k alike =
     not_both : false ≡ true → ⊥
     not_both e = absurd cc
 
+-- where the first one is that passes a test
+found_at : {X : Type 0} (t : X → Bool) (i : ℕ) (xs : List X) (q : ℕ) → position_from t i xs ≡ Some q → (p : ℕ) × (x : X) × (q ≡ i + p) × (slice_get xs p ≡ Some x) × (t x ≡ true)
+found_at t i [] q e = absurd cc
+found_at {X} t i (a ∷ xs) q e = go (λ e. found_at t (i + 1) xs q e) (t a) refl e
+  where
+    go : (position_from t (i + 1) xs ≡ Some q → (p : ℕ) × (x : X) × (q ≡ i + 1 + p) × (slice_get xs p ≡ Some x) × (t x ≡ true))
+        → (b : Bool) → t a ≡ b → cond b (Some i) (position_from t (i + 1) xs) ≡ Some q → (p : ℕ) × (x : X) × (q ≡ i + p) × (slice_get (a ∷ xs) p ≡ Some x) × (t x ≡ true)
+    go others true is e = let same : i ≡ q = cc in (0, a, omega (arith, same), refl, is)
+    go others false is e = let o = others e in (suc o.0, o.1, omega (arith, o.2), o.3, o.4)
+
+alike_symbol : (name : List ℕ) (node : Node) → is_alike name node ≡ true → (old : List ℕ) × (node ≡ Symbol old)
+alike_symbol name (Symbol old) e = (old, refl)
+alike_symbol name (Str u) e = absurd cc
+alike_symbol name (Binary c u) e = absurd cc
+alike_symbol name (Large c u) e = absurd cc
+alike_symbol name (Array c u) e = absurd cc
+alike_symbol name (Frame c u) e = absurd cc
+
+-- the node that is found is a symbol
+pub alike_found : (name : List ℕ) (nodes : List Node) (k : ℕ) → find_alike name nodes ≡ Some k → IsSymbol nodes k
+unfolding find_alike
+alike_found name nodes k e =
+    let f = found_at (is_alike name) 0 nodes k e in
+    let old = alike_symbol name f.1 f.4 in
+    let same : f.0 ≡ k = omega (arith, f.2) in
+    (old.0, subst (λ (k : ℕ). slice_get nodes k ≡ Some (Symbol old.0)) same (f.3 ∙ ap (λ (n : Node). Some n) old.1))
+
+pub alike_within : (name : List ℕ) (nodes : List Node) (k : ℕ) → find_alike name nodes ≡ Some k → k < length nodes
+alike_within name nodes k e = let f = alike_found name nodes k e in slice_get_within nodes k (Symbol f.0) f.1
+
 pub symbol_push : (nodes items : List Node) (total : ℕ) (name : List ℕ) → IsName name → length nodes < 131072 → find_alike name nodes ≡ None → items ≡ nodes ++ Symbol name ∷ [] → IsDraft nodes × (total ≡ sum_by payload nodes) → IsDraft items × (total ≡ sum_by payload items)
 symbol_push nodes items total name is few none e h =
     rw e (draft_push nodes (Symbol name) few refl is (λ other same k alike. none_alike nodes name none k (alike.0, alike.1, alike.2 ∙ ap folded (same_name other name same))) h.0, sum_push nodes (Symbol name) total refl h.1)
@@ -88,7 +118,7 @@ get_set (z ∷ xs) (suc n) y (suc i) x e = elim (get_set xs n y i x e) [ inl h �
 filling_is_no_symbol : (node : Node) (name : List ℕ) → IsFilling node → node ≡ Symbol name → ⊥
 filling_is_no_symbol node name is e = subst IsFilling e is
 
-once_set : (nodes : List Node) (n : ℕ) (node : Node) → IsFilling node → AreFoldedOnce nodes → AreFoldedOnce (set nodes n node)
+pub once_set : (nodes : List Node) (n : ℕ) (node : Node) → IsFilling node → AreFoldedOnce nodes → AreFoldedOnce (set nodes n node)
 once_set nodes n node is once i k name named alike =
     elim (get_set nodes n node i (Symbol name) named) [
       | inl h ↦ absurd (filling_is_no_symbol node name is h.1)
@@ -98,7 +128,7 @@ once_set nodes n node is once i k name named alike =
       ]
     ]
 
-part_of_filling : (node : Node) → IsFilling node → is_small node ≡ true → IsPart node
+pub part_of_filling : (node : Node) → IsFilling node → is_small node ≡ true → IsPart node
 part_of_filling (Symbol name) is small = absurd is
 part_of_filling (Str units) is small = record { few = leb-true _ _ small; each = is }
 part_of_filling (Binary class bytes) is small = record { few = leb-true _ _ small; each = is }
@@ -110,13 +140,15 @@ pub filled : (nodes : List Node) (n : ℕ) (node d : Node) (total old new : ℕ)
     → IsDraft nodes × (total ≡ sum_by payload nodes) → IsDraft (set nodes n node) × (total - old + new ≡ sum_by payload (set nodes n node))
 filled nodes n node d total old new lt is small was now light h =
     let change = sum_by-set payload nodes n node d lt in
-    let sum : total - old + new ≡ sum_by payload (set nodes n node) = omega (arith, change, was, now, h.1, sum_has nodes n d lt) in
-    (record {
-      few = omega (arith, h.0.few, length-set nodes n node);
-      light = omega (arith, sum, light);
-      each = All-set IsPart nodes n node (part_of_filling node is small) h.0.each;
-      folded_once = once_set nodes n node is h.0.folded_once;
-    }, sum)
+    let sum : total - old + new ≡ sum_by payload (set nodes n node) = omega (arith, change, was, now, h.1, sum_has nodes n d lt) in (
+      record {
+        few = omega (arith, h.0.few, length-set nodes n node);
+        light = omega (arith, sum, light);
+        each = All-set IsPart nodes n node (part_of_filling node is small) h.0.each;
+        folded_once = once_set nodes n node is h.0.folded_once;
+      },
+      sum,
+    )
   where
     sum_has : (nodes : List Node) (n : ℕ) (d : Node) → n < length nodes → payload (get_or nodes n d) ≤ sum_by payload nodes
     sum_has nodes n d lt = let none = sum_by-set payload nodes n (Array None []) d lt in omega (arith, none)
@@ -154,7 +186,7 @@ slot_frame tags values tag value None node few paired e =
     by true is e =
         let lt : length tags < 65535 = ltb-true (length tags) 65535 is in
         subst (λ (n : Node). IsFilling n × (is_small n ≡ true) × (payload n ≡ 0)) (some_is e)
-            (omega (arith, paired, length_push tags tag, length_push values value), le-leb (length (tags ++ tag ∷ [])) 65535 (omega (arith, lt, length_push tags tag)), refl)
+        (omega (arith, paired, length_push tags tag, length_push values value), le-leb (length (tags ++ tag ∷ [])) 65535 (omega (arith, lt, length_push tags tag)), refl)
 
 pub slot_kept : (nodes : List Node) (n : ℕ) (node : Node) (tags : List ℕ) (values : List Ref) (tag : ℕ) (value : Ref) (total : ℕ) → slice_get nodes n ≡ Some (Frame tags values) → with_slot tags values tag value ≡ Some node
     → IsDraft nodes × (total ≡ sum_by payload nodes) → IsDraft (set nodes n node) × (total ≡ sum_by payload (set nodes n node))
@@ -166,13 +198,15 @@ slot_kept nodes n node tags values tag value total at e h =
     let f = slot_frame tags values tag value (place tags tag) node part.0 part.1 e in
     let change = sum_by-set payload nodes n node (Frame tags values) lt in
     let none : payload (get_or nodes n (Frame tags values)) ≡ 0 = rw old refl in
-    let sum : total ≡ sum_by payload (set nodes n node) = omega (arith, change, none, f.2, h.1) in
-    (record {
-      few = omega (arith, h.0.few, length-set nodes n node);
-      light = omega (arith, sum, h.0.light, h.1);
-      each = All-set IsPart nodes n node (part_of_filling node f.0 f.1) h.0.each;
-      folded_once = once_set nodes n node f.0 h.0.folded_once;
-    }, sum)
+    let sum : total ≡ sum_by payload (set nodes n node) = omega (arith, change, none, f.2, h.1) in (
+      record {
+        few = omega (arith, h.0.few, length-set nodes n node);
+        light = omega (arith, sum, h.0.light, h.1);
+        each = All-set IsPart nodes n node (part_of_filling node f.0 f.1) h.0.each;
+        folded_once = once_set nodes n node f.0 h.0.folded_once;
+      },
+      sum,
+    )
 
 pub slot_paired : (nodes : List Node) (n : ℕ) (tags : List ℕ) (values : List Ref) → slice_get nodes n ≡ Some (Frame tags values) → IsDraft nodes → length values ≡ length tags
 slot_paired nodes n tags values at draft =

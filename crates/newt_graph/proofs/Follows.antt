@@ -1,21 +1,21 @@
 -- A normal form is found: the walk over the raw nodes meets what the walk over the normal form meets.
-use Rattle.std.proofs.Common.{◌≡◌, ◌≢◌, ℕ, zero, suc, ◌+◌, ◌*◌, ◌<◌, ◌≤◌, List, [], ◌∷◌, ◌++◌, length, map, take, All, get_or, Bool, true, false, Option, Some, None, refl, sym, ap, subst, ◌∙◌, append_assoc, arith, cond, inl, inr, ◌⊎◌, ◌&&◌, add-one, ℤ, Result, Ok, Err}
-use Rattle.std.specs.Prelude.{slice_get, AllPairs, nat_le, IsErrOf}
+use Rattle.std.proofs.Common.{◌≡◌, ◌≢◌, ℕ, zero, suc, ◌+◌, ◌<◌, ◌≤◌, List, [], ◌∷◌, ◌++◌, length, map, take, All, get_or, Bool, true, false, Option, Some, None, refl, sym, ap, subst, ◌∙◌, append_assoc, arith, inl, inr, ◌&&◌, ℤ, Result, Ok, Err}
+use Rattle.std.specs.Prelude.{slice_get, AllPairs, IsErrOf}
 use Rattle.std.specs.List.{sum_by, range_with_len}
 use Rattle.std.proofs.lemmas.List.FromFn.{get_or-range_with_len, length-range_with_len}
 use Rattle.newt_graph.specs.declared.fault.GraphFault.{GraphFault}
 use Rattle.newt_graph.specs.declared.fault.GraphFault.TheVariants.{Limit, Memory}
 use Rattle.std.proofs.lemmas.Bool.{lt-ltb, le-leb, cases_order}
 use Rattle.std.proofs.lemmas.List.{append-nil, length-append, length_push, length-map, take_more, take_all}
-use Rattle.std.proofs.lemmas.List.Elements.{All-nil, All-cons, All-head, All-tail, All-append, All-weaker}
+use Rattle.std.proofs.lemmas.List.Elements.{All-nil, All-cons, All-head, All-tail, All-append}
 use Rattle.std.proofs.lemmas.Option.{slice_get_within, get_or_from_slice_get}
 use Rattle.newt_graph.specs.declared.node.Node.{Node}
 use Rattle.newt_graph.specs.declared.node.Node.TheVariants.{Symbol, Str, Binary, Large, Array, Frame}
 use Rattle.newt_graph.specs.declared.node.Ref.{Ref}
 use Rattle.newt_graph.specs.declared.node.Ref.TheVariants as refs
 use Rattle.newt_graph.specs.Graph.{RawGraph, IsGraph, WalkLabel, WalkLabels, Walk, Walks, payload}
-use Rattle.newt_graph.specs.Raw.{renamed_ref, renamed_class, renamed, labels_of, values_of, IsSeenBy, IsNormalForm}
-use Rattle.newt_graph.specs.Meeting.{◌>>=◌, Seen, Step, place, is_none, is_new, added, meet_label, meet_labels, meet_class, meet_each, within, enter, meet_by, meet, Once, number, moved, limited, numbered, normal_form, Gives}
+use Rattle.newt_graph.specs.Raw.{renamed_ref, renamed, labels_of, values_of, IsSeenBy, IsNormalForm}
+use Rattle.newt_graph.specs.Meeting.{Seen, Step, place, is_new, added, meet_label, meet_labels, meet_class, meet_each, within, enter, meet_by, meet, Once, number, moved, limited, numbered, normal_form, Gives}
 use Rattle.newt_graph.proofs.Place.{place_get, place_some, place_none}
 use Rattle.newt_graph.proofs.Grows.{some_is, get_seam, node_at}
 use Rattle.newt_graph.proofs.Form.{map_at, at_map, any_at, back, start, number_is}
@@ -109,7 +109,7 @@ is_old nodes order m k lt le =
 is_fresh : (nodes : List Node) (order : List ℕ) (m : ℕ) → Distinct order → m < length order → back order m < length nodes → is_new (met_at nodes order m) (back order m) ≡ true
 is_fresh nodes order m distinct lt inside =
     let none : place (take m order) (back order m) ≡ None =
-        place_none (take m order) (back order m) (λ i e. let g = get_take m order i (back order m) e in omega (arith, g.0, same_place order distinct i m (back order m) g.1 (any_at order m 0 lt))) in
+    place_none (take m order) (back order m) (λ i e. let g = get_take m order i (back order m) e in omega (arith, g.0, same_place order distinct i m (back order m) g.1 (any_at order m 0 lt))) in
     rw (lt-ltb (back order m) (length nodes) inside, none) refl
 
 added_is : (nodes : List Node) (order : List ℕ) (m : ℕ) → m < length order → added (met_at nodes order m) (back order m) ≡ met_at nodes order (suc m)
@@ -140,7 +140,7 @@ unfolding meet_labels
 labels_follow (WalkLabels.none {met}) nodes shown order shows at = met_same nodes order met (met + 0) (omega arith)
 labels_follow (WalkLabels.more {met} {k} {ks} {first} {others} w ws) nodes shown order shows at =
     ap (λ (seen : Seen). meet_labels seen (map (back order) ks)) (label_follows w nodes shown order shows (at_first shown first others met at))
-        ∙ (labels_follow ws nodes shown order shows (at_rest shown first others met at) ∙ met_same nodes order (met + length first + length others) (met + length (first ++ others)) (omega (arith, length-append first others)))
+    ∙ (labels_follow ws nodes shown order shows (at_rest shown first others met at) ∙ met_same nodes order (met + length first + length others) (met + length (first ++ others)) (omega (arith, length-append first others)))
 
 -- ---- nodes
 
@@ -214,12 +214,12 @@ mutual
       let m = meet_is nodes room in
       let inside = label_follows label nodes shown order shows (at_inside shown (Binary class bytes) new met at) in
       m.1 _ _ ∙ (node_follows nodes shown order m.0 met (Binary class bytes) shows (at_here shown (Binary class bytes) new met at)
-          ∙ ((binary_follows m.0 _ (back order class) bytes).0 ∙ (ap (λ (s : Seen). Some s) inside ∙ some_met nodes order (suc met + length new) (met + suc (length new)) (omega arith))))
+      ∙ ((binary_follows m.0 _ (back order class) bytes).0 ∙ (ap (λ (s : Seen). Some s) inside ∙ some_met nodes order (suc met + length new) (met + suc (length new)) (omega arith))))
   value_follows (Walk.large {room} {met} {class} {bytes} {new} label) nodes shown order shows at =
       let m = meet_is nodes room in
       let inside = label_follows label nodes shown order shows (at_inside shown (Large class bytes) new met at) in
       m.1 _ _ ∙ (node_follows nodes shown order m.0 met (Large class bytes) shows (at_here shown (Large class bytes) new met at)
-          ∙ ((binary_follows m.0 _ (back order class) bytes).1 ∙ (ap (λ (s : Seen). Some s) inside ∙ some_met nodes order (suc met + length new) (met + suc (length new)) (omega arith))))
+      ∙ ((binary_follows m.0 _ (back order class) bytes).1 ∙ (ap (λ (s : Seen). Some s) inside ∙ some_met nodes order (suc met + length new) (met + suc (length new)) (omega arith))))
   value_follows (Walk.frame {room} {met} {tags} {values} {tagged} {valued} labels ws) nodes shown order shows at =
       let node = Frame tags values in
       let within = at_inside shown node (tagged ++ valued) met at in
@@ -227,16 +227,16 @@ mutual
       let others = values_follow ws nodes shown order shows (at_rest shown tagged valued (suc met) within) in
       let step : Step = λ seen value. meet nodes room seen value in
       room_follows nodes room _ _ ∙ (node_follows nodes shown order (Some step) met node shows (at_here shown node (tagged ++ valued) met at)
-          ∙ (frame_follows step _ (map (back order) tags) (map (renamed_ref (back order)) values)
-          ∙ (ap (λ (s : Seen). meet_each step s (map (renamed_ref (back order)) values)) first
-          ∙ (others ∙ some_met nodes order (suc met + length tagged + length valued) (met + suc (length (tagged ++ valued))) (omega (arith, length-append tagged valued))))))
+      ∙ (frame_follows step _ (map (back order) tags) (map (renamed_ref (back order)) values)
+      ∙ (ap (λ (s : Seen). meet_each step s (map (renamed_ref (back order)) values)) first
+      ∙ (others ∙ some_met nodes order (suc met + length tagged + length valued) (met + suc (length (tagged ++ valued))) (omega (arith, length-append tagged valued))))))
   value_follows (Walk.plain_array {room} {met} {values} {valued} ws) nodes shown order shows at =
       let node = Array None values in
       let others = values_follow ws nodes shown order shows (at_inside shown node valued met at) in
       let step : Step = λ seen value. meet nodes room seen value in
       room_follows nodes room _ _ ∙ (node_follows nodes shown order (Some step) met node shows (at_here shown node valued met at)
-          ∙ (array_follows step _ None (map (renamed_ref (back order)) values)
-          ∙ (others ∙ some_met nodes order (suc met + length valued) (met + suc (length valued)) (omega arith))))
+      ∙ (array_follows step _ None (map (renamed_ref (back order)) values)
+      ∙ (others ∙ some_met nodes order (suc met + length valued) (met + suc (length valued)) (omega arith))))
   value_follows (Walk.array {room} {met} {class} {values} {first} {valued} label ws) nodes shown order shows at =
       let node = Array (Some class) values in
       let within = at_inside shown node (first ++ valued) met at in
@@ -244,9 +244,9 @@ mutual
       let others = values_follow ws nodes shown order shows (at_rest shown first valued (suc met) within) in
       let step : Step = λ seen value. meet nodes room seen value in
       room_follows nodes room _ _ ∙ (node_follows nodes shown order (Some step) met node shows (at_here shown node (first ++ valued) met at)
-          ∙ (array_follows step _ (Some (back order class)) (map (renamed_ref (back order)) values)
-          ∙ (ap (λ (s : Seen). meet_each step s (map (renamed_ref (back order)) values)) front
-          ∙ (others ∙ some_met nodes order (suc met + length first + length valued) (met + suc (length (first ++ valued))) (omega (arith, length-append first valued))))))
+      ∙ (array_follows step _ (Some (back order class)) (map (renamed_ref (back order)) values)
+      ∙ (ap (λ (s : Seen). meet_each step s (map (renamed_ref (back order)) values)) front
+      ∙ (others ∙ some_met nodes order (suc met + length first + length valued) (met + suc (length (first ++ valued))) (omega (arith, length-append first valued))))))
 
   values_follow : {room met : ℕ} {values : List Ref} {new : List Node} → Walks room met values new → (nodes shown : List Node) (order : List ℕ) → Shows nodes shown order → At shown new met
       → meet_each (λ seen value. meet nodes room seen value) (met_at nodes order met) (map (renamed_ref (back order)) values) ≡ Some (met_at nodes order (met + length new))
@@ -255,7 +255,7 @@ mutual
       let one = value_follows w nodes shown order shows (at_first shown first others met at) in
       let rest = values_follow ws nodes shown order shows (at_rest shown first others met at) in
       each_more (λ seen value. meet nodes room seen value) _ _ _ _ one
-          ∙ (rest ∙ some_met nodes order (met + length first + length others) (met + length (first ++ others)) (omega (arith, length-append first others)))
+      ∙ (rest ∙ some_met nodes order (met + length first + length others) (met + length (first ++ others)) (omega (arith, length-append first others)))
 
 -- ---- all references of a normal form are in range
 
@@ -313,14 +313,14 @@ mutual
   value_below (Walk.frame {met} {tags} {values} {tagged} {valued} labels ws) n le =
       let size = length-append tagged valued in
       one_value n (refs.Node met) (Frame tags values ∷ (tagged ++ valued)) (omega (arith, le))
-          (container_below n (Frame tags values) tagged valued (labels_below labels n (omega (arith, le, size))) (values_below ws n (omega (arith, le, size))))
+      (container_below n (Frame tags values) tagged valued (labels_below labels n (omega (arith, le, size))) (values_below ws n (omega (arith, le, size))))
   value_below (Walk.plain_array {met} {values} {valued} ws) n le =
       let others = values_below ws n (omega (arith, le)) in
       one_value n (refs.Node met) (Array None values ∷ valued) (omega (arith, le)) (All-cons (NodeBelow n) (Array None values) valued (record { labels = All-nil (λ k. k < n); values = others.each }) others.nodes)
   value_below (Walk.array {met} {class} {values} {first} {valued} label ws) n le =
       let size = length-append first valued in
       one_value n (refs.Node met) (Array (Some class) values ∷ (first ++ valued)) (omega (arith, le))
-          (container_below n (Array (Some class) values) first valued (label_below label n (omega (arith, le, size))) (values_below ws n (omega (arith, le, size))))
+      (container_below n (Array (Some class) values) first valued (label_below label n (omega (arith, le, size))) (values_below ws n (omega (arith, le, size))))
 
   values_below : {room met : ℕ} {values : List Ref} {new : List Node} → Walks room met values new → (n : ℕ) → met + length new ≤ n → ValuesBelow n values new
   values_below (Walks.none {met}) n le = no_values n
@@ -374,7 +374,7 @@ shows_of g h order seen = record {
   size = sym (length-map order (slice_get g.nodes)) ∙ (sym (ap length seen.nodes) ∙ length-map h.nodes (λ node. Some (renamed (back order) node)));
   at = λ i n e.
       let there : slice_get (map (slice_get g.nodes) order) i ≡ Some (Some (renamed (back order) n)) =
-          subst (λ (xs : List (Option Node)). slice_get xs i ≡ Some (Some (renamed (back order) n))) seen.nodes (at_map (λ node. Some (renamed (back order) node)) h.nodes i n e) in
+      subst (λ (xs : List (Option Node)). slice_get xs i ≡ Some (Some (renamed (back order) n))) seen.nodes (at_map (λ node. Some (renamed (back order) node)) h.nodes i n e) in
       let m = map_at (slice_get g.nodes) order i (Some (renamed (back order) n)) there in
       subst (λ (k : ℕ). slice_get g.nodes k ≡ Some (renamed (back order) n)) (sym (get_or_from_slice_get order i m.0 0 m.1)) m.2;
   distinct = seen.once;
@@ -395,12 +395,12 @@ form_is_found g h form =
     let met = value_follows form.graph.walk g.nodes h.nodes order shows (all_at_start h.nodes) in
     let whole : take (0 + length h.nodes) order ≡ order = take_all (0 + length h.nodes) order (omega (arith, shows.size)) in
     let found : meet g.nodes 200 (start g) g.root ≡ Some (record { order = order; count = length g.nodes }) =
-        subst (λ (o : List ℕ). meet g.nodes 200 (start g) g.root ≡ Some (record { order = o; count = length g.nodes })) whole
-            (subst (λ (r : Ref). meet g.nodes 200 (start g) r ≡ Some (met_at g.nodes order (0 + length h.nodes))) form.seen.root met) in
+    subst (λ (o : List ℕ). meet g.nodes 200 (start g) g.root ≡ Some (record { order = o; count = length g.nodes })) whole
+    (subst (λ (r : Ref). meet g.nodes 200 (start g) r ≡ Some (met_at g.nodes order (0 + length h.nodes))) form.seen.root met) in
     let below = value_below form.graph.walk (length order) (omega (arith, shows.size)) in
     let nodes : moved g.nodes order order ≡ h.nodes = nodes_forth g.nodes order distinct h.nodes order below.nodes form.seen.nodes in
     let root : renamed_ref (number order) g.root ≡ h.root =
-        ap (renamed_ref (number order)) (sym form.seen.root) ∙ ref_forth order distinct h.root (All-head (RefBelow (length order)) h.root [] below.each) in
+    ap (renamed_ref (number order)) (sym form.seen.root) ∙ ref_forth order distinct h.root (All-head (RefBelow (length order)) h.root [] below.each) in
     let same : numbered g (record { order = order; count = length g.nodes }) ≡ h = rw (nodes, root) refl in
     rw found (ap limited same ∙ limited_is h form.graph.few form.graph.light)
 
@@ -450,7 +450,7 @@ nodes_same n nodes pre (node ∷ post) e below =
     let here : slice_get nodes (length pre) ≡ Some node = ap (λ (x : List Node). slice_get x (length pre)) e ∙ get_seam pre node post in
     let tail = nodes_same n nodes (pre ++ node ∷ []) post (e ∙ sym (append_assoc pre (node ∷ []) post)) (All-tail (NodeBelow n) node post below) in
     let rest : map (λ node. Some (renamed (back (counted n)) node)) post ≡ map (slice_get nodes) (range_with_len (length pre + 1) (length post)) =
-        tail ∙ ap (λ (m : ℕ). map (slice_get nodes) (range_with_len m (length post))) (length_push pre node) in
+    tail ∙ ap (λ (m : ℕ). map (slice_get nodes) (range_with_len m (length post))) (length_push pre node) in
     rw (node_same n node (All-head (NodeBelow n) node post below), here, rest) refl
 
 counted_distinct : (n : ℕ) → Distinct (counted n)

@@ -1,19 +1,19 @@
 -- The nodes that were met, with their new numbers, are the normal form.
-use Rattle.std.proofs.Common.{◌≡◌, ◌≢◌, ℕ, zero, suc, ◌+◌, ◌*◌, ◌<◌, ◌≤◌, List, [], ◌∷◌, ◌++◌, length, map, All, get_or, Bool, true, false, Option, Some, None, refl, sym, ap, subst, ◌∙◌, append_assoc, arith, cond, inl, inr, ◌⊎◌, ◌&&◌, leb}
+use Rattle.std.proofs.Common.{◌≡◌, ◌≢◌, ℕ, zero, suc, ◌<◌, ◌≤◌, List, [], ◌∷◌, ◌++◌, length, map, All, get_or, Bool, true, false, Some, None, refl, sym, ap, subst, ◌∙◌, arith, cond, ◌&&◌}
 use Rattle.std.specs.Prelude.{slice_get, AllPairs, nat_le}
 use Rattle.std.specs.List.{sum_by}
 use Rattle.std.proofs.lemmas.Bool.{and_parts, leb-true}
 use Rattle.std.proofs.lemmas.List.{append-nil, length-map, get_or-map}
-use Rattle.std.proofs.lemmas.List.Elements.{All-nil, All-cons, All-head, All-tail, All-map}
+use Rattle.std.proofs.lemmas.List.Elements.{All-head, All-tail, All-map}
 use Rattle.std.proofs.lemmas.Option.{slice_get_within, get_or_from_slice_get}
 use Rattle.newt_graph.specs.declared.node.Node.{Node}
 use Rattle.newt_graph.specs.declared.node.Node.TheVariants.{Symbol, Str, Binary, Large, Array, Frame}
 use Rattle.newt_graph.specs.declared.node.Ref.{Ref}
 use Rattle.newt_graph.specs.declared.node.Ref.TheVariants as refs
-use Rattle.newt_graph.specs.Graph.{RawGraph, IsWord, IsNamed, IsSymbol, IsAlike, IsNode, IsFrame, AreFoldedOnce, IsGraph, Walk, payload}
-use Rattle.newt_graph.specs.Raw.{renamed_ref, renamed_class, renamed, labels_of, values_of, IsValue, IsRaw, IsSeenBy, IsNormalForm}
-use Rattle.newt_graph.specs.Meeting.{◌>>=◌, Seen, Step, place, meet, Once, number, found, moved, limited, numbered, normal_form}
-use Rattle.newt_graph.proofs.Place.{place_within, place_get}
+use Rattle.newt_graph.specs.Graph.{RawGraph, IsNamed, IsSymbol, IsNode, AreFoldedOnce, Walk, payload}
+use Rattle.newt_graph.specs.Raw.{renamed_ref, renamed, IsRaw, IsNormalForm}
+use Rattle.newt_graph.specs.Meeting.{Seen, place, meet, Once, number, found, moved, limited, numbered, normal_form}
+use Rattle.newt_graph.proofs.Place.{place_get}
 use Rattle.newt_graph.proofs.Grows.{bind_some, some_is, Has, HasRef, Inverts, node_at, shown, ClosedNode, Closed, Grown, RawNodes, node_here, some_at, value_reads}
 
 pub map_at : {X Y : Type 0} (f : X → Y) (xs : List X) (i : ℕ) (y : Y) → slice_get (map f xs) i ≡ Some y → (x : X) × (slice_get xs i ≡ Some x) × (f x ≡ y)
@@ -76,8 +76,11 @@ nodes_back : (nodes : List Node) (order ks : List ℕ) → All (λ k. k < length
     → map (λ node. Some (renamed (back order) node)) (shown nodes (number order) ks) ≡ map (slice_get nodes) ks
 nodes_back nodes order [] inside closed = refl
 nodes_back nodes order (k ∷ ks) inside closed =
-    rw (node_back order (node_at nodes k) (All-head (Closed nodes order) k ks closed), some_at nodes k (All-head (λ k. k < length nodes) k ks inside),
-        nodes_back nodes order ks (All-tail (λ k. k < length nodes) k ks inside) (All-tail (Closed nodes order) k ks closed)) refl
+    rw (
+      node_back order (node_at nodes k) (All-head (Closed nodes order) k ks closed),
+      some_at nodes k (All-head (λ k. k < length nodes) k ks inside),
+      nodes_back nodes order ks (All-tail (λ k. k < length nodes) k ks inside) (All-tail (Closed nodes order) k ks closed),
+    ) refl
 
 -- ---- the rules of a graph
 
@@ -110,9 +113,11 @@ folds_once nodes order met once i k name named alike =
     some_is (sym (met.once i a.0 a.1) ∙ (ap (place order) same ∙ met.once k b.0 b.1))
 
 symbol_moves : (nodes : List Node) (order : List ℕ) (k : ℕ) → Has order k → IsSymbol nodes k → IsSymbol (moved nodes order order) (number order k)
-symbol_moves nodes order k h is =
-    (is.0, at_map (λ k. renamed (number order) (node_at nodes k)) order (number order k) k (number_at order k h)
-        ∙ ap (λ (n : Node). Some (renamed (number order) n)) (get_or_from_slice_get nodes k (Symbol is.0) (Str []) is.1))
+symbol_moves nodes order k h is = (
+  is.0,
+  at_map (λ k. renamed (number order) (node_at nodes k)) order (number order k) k (number_at order k h)
+      ∙ ap (λ (n : Node). Some (renamed (number order) n)) (get_or_from_slice_get nodes k (Symbol is.0) (Str []) is.1),
+)
 
 symbols_move : (nodes : List Node) (order tags : List ℕ) → All (Has order) tags → All (IsSymbol nodes) tags → All (IsSymbol (moved nodes order order)) (map (number order) tags)
 symbols_move nodes order tags h is = All-map (IsSymbol (moved nodes order order)) (number order) tags (λ j d lt. symbol_moves nodes order _ (h j d lt) (is j d lt))
@@ -121,7 +126,7 @@ distinct_move : (order tags : List ℕ) → All (Has order) tags → AllPairs (�
 distinct_move order tags h distinct i j d lt within =
     let most : j < length tags = omega (arith, within, length-map tags (number order)) in
     λ e. distinct i j d lt most (number_once order _ _ (h i d (omega (arith, lt, most))) (h j d most)
-        (sym (get_or-map (number order) tags i d d (omega (arith, lt, most))) ∙ (e ∙ get_or-map (number order) tags j d d most)))
+    (sym (get_or-map (number order) tags i d d (omega (arith, lt, most))) ∙ (e ∙ get_or-map (number order) tags j d d most)))
 
 node_moves : (nodes : List Node) (order : List ℕ) (node : Node) → IsNode nodes node → ClosedNode order node → IsNode (moved nodes order order) (renamed (number order) node)
 node_moves nodes order (Symbol name) is h = is
@@ -143,7 +148,7 @@ node_moves nodes order (Frame tags values) is h = record {
 nodes_move : (nodes : List Node) (order : List ℕ) → RawNodes nodes → Met nodes order → All (IsNode (moved nodes order order)) (moved nodes order order)
 nodes_move nodes order raw met =
     All-map (IsNode (moved nodes order order)) (λ k. renamed (number order) (node_at nodes k)) order
-        (λ j d lt. node_moves nodes order (node_at nodes (get_or order j d)) (node_here (IsNode nodes) nodes (get_or order j d) _ raw.each (some_at nodes _ (met.inside j d lt))) (met.closed j d lt))
+    (λ j d lt. node_moves nodes order (node_at nodes (get_or order j d)) (node_here (IsNode nodes) nodes (get_or order j d) _ raw.each (some_at nodes _ (met.inside j d lt))) (met.closed j d lt))
 
 pub order_distinct : (order : List ℕ) → Once order → AllPairs (λ a b. a ≢ b) order
 order_distinct order once i j d lt within e =
@@ -220,5 +225,5 @@ pub form_made : (g h : RawGraph) (seen : Seen) → IsRaw g → meet g.nodes 200 
 form_made g h seen raw e few nodes light root =
     let same : numbered g seen ≡ h = sym (rw (← nodes, ← root) refl) in
     subst (IsNormalForm g) same
-        (seen_is_form g seen raw e (omega (arith, few, length-map seen.order (λ k. renamed (number seen.order) (node_at g.nodes k))))
-            (leb-true _ _ (subst (λ (ns : List Node). nat_le (sum_by payload ns) 16777216 ≡ true) nodes light)))
+    (seen_is_form g seen raw e (omega (arith, few, length-map seen.order (λ k. renamed (number seen.order) (node_at g.nodes k))))
+    (leb-true _ _ (subst (λ (ns : List Node). nat_le (sum_by payload ns) 16777216 ≡ true) nodes light)))

@@ -1,5 +1,5 @@
 -- What a builder keeps when a graph is put behind its nodes.
-use Rattle.std.proofs.Common.{◌≡◌, ◌≢◌, ℕ, zero, suc, ◌+◌, ◌*◌, ◌-◌, ◌<◌, ◌≤◌, List, [], ◌∷◌, ◌++◌, length, map, All, get_or, Bool, true, false, Option, Some, None, refl, sym, ap, subst, ◌∙◌, append_assoc, arith, cond, inl, inr, ◌⊎◌}
+use Rattle.std.proofs.Common.{◌≡◌, ℕ, suc, ◌+◌, ◌-◌, ◌≤◌, List, [], ◌∷◌, ◌++◌, length, map, All, Bool, true, false, Option, Some, None, refl, sym, ap, subst, append_assoc, arith, cond, inl, inr, ◌⊎◌}
 use Rattle.std.specs.Prelude.{slice_get, nat_le, if◌then◌else◌}
 use Rattle.std.proofs.lemmas.Bool.{leb-true}
 use Rattle.std.specs.List.{sum_by}
@@ -8,10 +8,9 @@ use Rattle.std.proofs.lemmas.List.Sums.{sum_by-append}
 use Rattle.std.proofs.lemmas.List.Elements.{All-nil, All-cons, All-head, All-tail, All-append}
 use Rattle.newt_graph.specs.declared.node.Node.{Node}
 use Rattle.newt_graph.specs.declared.node.Node.TheVariants.{Symbol, Str, Binary, Large, Array, Frame}
-use Rattle.newt_graph.specs.declared.node.Ref.{Ref}
-use Rattle.newt_graph.specs.Graph.{RawGraph, IsGraph, IsNode, IsNamed, IsAlike, AreFoldedOnce, folded, payload}
+use Rattle.newt_graph.specs.Graph.{RawGraph, IsGraph, IsNode, IsAlike, AreFoldedOnce, payload}
 use Rattle.newt_graph.specs.Raw.{renamed, renamed_ref}
-use Rattle.newt_graph.specs.Draft.{IsPart, IsDraft, find_alike}
+use Rattle.newt_graph.specs.Draft.{IsPart, IsDraft}
 use Rattle.newt_graph.specs.Import.{known_as, kept_of}
 use Rattle.newt_graph.proofs.Grows.{at_push, some_is}
 use Rattle.newt_graph.proofs.Form.{symbol_only}
@@ -63,20 +62,20 @@ kept_once old to [] before once own none = subst (λ (ns : List Node). AreFolded
 kept_once old to (node ∷ nodes) before once own none =
     elim (first_kept old node nodes) [
       | inl h ↦ subst (λ (ns : List Node). AreFoldedOnce (before ++ map (renamed to) ns)) (sym h.2)
-            (kept_once old to nodes before once (once_tail node nodes own) (λ i. none (suc i)))
+          (kept_once old to nodes before once (once_tail node nodes own) (λ i. none (suc i)))
       | inr h ↦ subst (λ (ns : List Node). AreFoldedOnce (before ++ map (renamed to) ns)) (sym h.1)
-            (subst AreFoldedOnce (append_assoc before (renamed to node ∷ []) (map (renamed to) (kept_of old nodes)))
-                (kept_once old to nodes (before ++ renamed to node ∷ [])
-                    (once_push before (renamed to node) once (λ name e k alike.
-                        let is = symbol_only to node name e in
-                        none 0 name (ap (λ (n : Node). Some n) is) (subst (λ (n : Node). known_as old n ≡ None) is h.0) k alike))
-                    (once_tail node nodes own)
-                    (λ i name at known k alike. elim (at_push before (renamed to node) k (Symbol alike.0) alike.1) [
-                      | inl older ↦ none (suc i) name at known k (alike.0, older, alike.2)
-                      | inr last ↦
-                        let is = symbol_only to node alike.0 last.1 in
-                        omega (arith, own 0 (suc i) alike.0 (ap (λ (n : Node). Some n) is) (name, at, sym alike.2))
-                    ])))
+          (subst AreFoldedOnce (append_assoc before (renamed to node ∷ []) (map (renamed to) (kept_of old nodes)))
+          (kept_once old to nodes (before ++ renamed to node ∷ [])
+          (once_push before (renamed to node) once (λ name e k alike.
+          let is = symbol_only to node name e in
+          none 0 name (ap (λ (n : Node). Some n) is) (subst (λ (n : Node). known_as old n ≡ None) is h.0) k alike))
+          (once_tail node nodes own)
+          (λ i name at known k alike. elim (at_push before (renamed to node) k (Symbol alike.0) alike.1) [
+            | inl older ↦ none (suc i) name at known k (alike.0, older, alike.2)
+            | inr last ↦
+                let is = symbol_only to node alike.0 last.1 in
+                omega (arith, own 0 (suc i) alike.0 (ap (λ (n : Node). Some n) is) (name, at, sym alike.2))
+          ])))
     ]
 
 pub behind_kept : (old : List Node) (g : RawGraph) (to : ℕ → ℕ) (added items : List Node) (total left : ℕ) → IsGraph g → added ≡ map (renamed to) (kept_of old g.nodes) → items ≡ old ++ added
@@ -85,13 +84,16 @@ pub behind_kept : (old : List Node) (g : RawGraph) (to : ℕ → ℕ) (added ite
 behind_kept old g to added items total left graph is all few light rest h =
     let sums = sum_by-append payload old added in
     let sum : 33554432 - left ≡ sum_by payload (old ++ added) = omega (arith, sums, light, rest, h.1, h.0.light) in
-    rw all (record {
-      few = omega (arith, few, length-append old added);
-      light = omega (arith, sums, light, h.1, h.0.light);
-      each = All-append IsPart old added h.0.each (subst (All IsPart) (sym is) (kept_parts old g.nodes to g.nodes graph.each));
-      folded_once = subst (λ (ns : List Node). AreFoldedOnce (old ++ ns)) (sym is)
-          (kept_once old to g.nodes old h.0.folded_once graph.folded_once (λ i name at known k alike. none_alike old name known k alike));
-    }, sum)
+    rw all (
+      record {
+        few = omega (arith, few, length-append old added);
+        light = omega (arith, sums, light, h.1, h.0.light);
+        each = All-append IsPart old added h.0.each (subst (All IsPart) (sym is) (kept_parts old g.nodes to g.nodes graph.each));
+        folded_once = subst (λ (ns : List Node). AreFoldedOnce (old ++ ns)) (sym is)
+            (kept_once old to g.nodes old h.0.folded_once graph.folded_once (λ i name at known k alike. none_alike old name known k alike));
+      },
+      sum,
+    )
 
 pub left_is : (sum most left : ℕ) → (if nat_le sum most then Some (most - sum) else None) ≡ Some left → (sum ≤ most) × (left ≡ most - sum)
 left_is sum most left e = by (nat_le sum most) refl e

@@ -1,5 +1,5 @@
 -- Nodes that are still being put together.
-use Rattle.std.specs.Prelude.{◌≡◌, ◌≢◌, ℕ, suc, ◌+◌, ◌*◌, ◌-◌, ◌<◌, ◌≤◌, Bool, true, false, ◌&&◌, nat_lt, nat_le, List, [], ◌∷◌, ◌++◌, length, All, AllPairs, Option, Some, None, if◌then◌else◌, slice_get, get_or, set}
+use Rattle.std.specs.Prelude.{◌≡◌, ◌≢◌, ℕ, ◌+◌, ◌*◌, ◌<◌, ◌≤◌, Bool, true, false, ◌&&◌, nat_lt, nat_le, List, [], ◌∷◌, ◌++◌, length, All, AllPairs, Option, Some, None, if◌then◌else◌, slice_get, set}
 use Rattle.std.specs.List.{position_from, sum_by}
 use Rattle.std.specs.Str.{str_eq_ignore_ascii_case}
 use Rattle.newt_graph.specs.declared.node.Node.{Node}
@@ -7,7 +7,8 @@ use Rattle.newt_graph.specs.declared.node.Node.TheVariants.{Symbol, Str, Binary,
 use Rattle.newt_graph.specs.declared.node.Ref.{Ref}
 use Rattle.newt_graph.specs.Graph.{IsName, IsText, IsData, IsSymbol, AreFoldedOnce, payload}
 use Rattle.newt_graph.specs.Raw.{labels_of, values_of, IsValue}
-use Rattle.newt_graph.specs.Meeting.{place, ◌>>=◌}
+use Rattle.newt_graph.specs.Meeting.{place}
+use Rattle.newt_graph.specs.Steps.{◌>>=◌}
 
 -- the rules of a node that its own parts show
 abbrev pub IsPart : Node → Type 0
@@ -89,7 +90,7 @@ with_slot tags values tag value = slot_put tags values tag value (place tags tag
 
 abbrev pub frame_set : List Node → ℕ → ℕ → Ref → Option Node → Option (List Node)
 frame_set nodes n tag value (Some (Frame tags values)) = with_slot tags values tag value >>= λ node. Some (set nodes n node)
-frame_set nodes n tag value node = Some nodes
+frame_set nodes n tag value _ = Some nodes
 
 unfoldable pub with_set : List Node → ℕ → ℕ → Ref → Option (List Node)
 with_set nodes n tag value = frame_set nodes n tag value (slice_get nodes n)

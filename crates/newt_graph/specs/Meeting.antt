@@ -9,11 +9,7 @@ use Rattle.newt_graph.specs.declared.fault.GraphFault.{GraphFault}
 use Rattle.newt_graph.specs.declared.fault.GraphFault.TheVariants.{Limit, Memory}
 use Rattle.newt_graph.specs.Graph.{RawGraph, payload}
 use Rattle.newt_graph.specs.Raw.{renamed_ref, renamed}
-
-infixl 10 ◌>>=◌
-abbrev pub ◌>>=◌ : {A B : Type 0} → Option A → (A → Option B) → Option B
-(Some x) >>= f = f x
-None >>= f = None
+use Rattle.newt_graph.specs.Steps.{◌>>=◌}
 
 -- what a function returned, seen by view, unless memory ran out
 abbrev pub Fails : {Y : Type 0} → GraphFault → Option Y → Type 0

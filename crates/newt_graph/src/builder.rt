@@ -1,26 +1,31 @@
 //! Puts a graph together.
-ghost use Rattle.std.specs.Prelude.{◌≡◌, ◌<◌, [], length, slice_get, Some, IfOk, IsErrOf, OnErr, not, IsTrue, nat_le};
+ghost use Rattle.std.specs.Prelude.{◌≡◌, ◌<◌, ◌≤◌, [], length, slice_get, Some, IfOk, IsErrOf, OnOk, OnErr, not, IsTrue, nat_le};
 ghost use Rattle.std.specs.List.{sum_by};
 ghost use Rattle.newt_graph.specs.Graph.{RawGraph, IsName, IsSymbol, payload};
 ghost use Rattle.newt_graph.specs.Raw.{IsNormalForm};
-ghost use Rattle.newt_graph.specs.Meeting.{Gives, place};
+ghost use Rattle.newt_graph.specs.Meeting.{Gives, place, normal_form};
 ghost use Rattle.newt_graph.specs.Import.{with_graph};
 ghost use Rattle.newt_graph.specs.Draft.{IsJoined, IsFilling, is_small, is_alike, find_alike, with_symbol, with_held, with_filled, with_slot, with_set};
 
-use crate::copies::{copied_ref, copies, left, numbers};
+use crate::copies::{copied_ref, copies, numbers};
 use crate::fault::GraphFault;
 use crate::graph::Graph;
 use crate::lists::{Bytes, Refs, Tags};
 use crate::node::{Node, Ref};
-use crate::normal::{normal, payload};
+use crate::normal::{left, normal, payload};
 use std::alloc::Global;
 use std::marker::Model;
 
-/// Nodes in any order. They need not be joined before `finish`.
+/// Nodes in any order, at most 131,072, with at most 33,554,432 bytes in strings and binaries together. No two symbols are alike but for ASCII case.
+///
+/// `Limit` comes exactly where a limit of the builder or of a node would be passed, in `finish` one of a graph. A call that answers an error leaves
+/// the builder as it was; `finish` spends it.
 #[derive(Drop)]
 pub struct Builder {
     nodes: Vec<Node>,
+    /// The bytes of all strings, binaries and large binaries.
     total: usize,
+    alloc: Global,
 }
 
 impl Model for Builder {
@@ -38,20 +43,31 @@ impl Model for Builder {
 }
 
 impl Builder {
+    /// No nodes. It takes no memory.
     pub fn new(alloc: Global) -> Builder
         ensures { result ≡ [] }
     {
         Builder {
             nodes: Vec::new(alloc),
             total: 0,
+            alloc,
         }
     }
 
-    /// The symbol of this name but for ASCII case: the first, or a new one.
+    /// How many nodes there are: the number of the next one.
+    pub fn len(&self) -> u32
+        ensures { result ≡ length self.now }
+    {
+        self.nodes.len() as u32
+    }
+
+    /// The number of the symbol of this name but for ASCII case: the first one, which keeps its spelling, or a new one.
     #[tactic(auto, unfolding(crate::specs::Draft::with_symbol))]
-    pub fn symbol(&mut self, alloc: Global, name: &[u8]) -> Result<u32, GraphFault>
+    pub fn symbol(&mut self, name: &[u8]) -> Result<u32, GraphFault>
         requires { IsName name.now }
         ensures value { Gives (λ n. (n, self.new)) result (with_symbol self.old name.now) }
+        ensures inside { IfOk result (λ n. n < length self.new) }
+        ensures grows { OnOk result (length self.old ≤ length self.new) }
         ensures kept { OnErr result (self.new ≡ self.old) }
     {
         if let Some(k) = find_alike(name, &self.nodes) {
@@ -61,30 +77,34 @@ impl Builder {
         if n >= 131_072 {
             return Err(GraphFault::Limit);
         }
-        self.nodes.push(Node::Symbol(Bytes::of(Vec::from_slice(alloc, name)?)))?;
+        self.nodes.push(Node::Symbol(Bytes::of(Vec::from_slice(self.alloc, name)?)))?;
         Ok(n as u32)
     }
 
-    /// A node to be filled later.
+    /// The number of a new node, to be filled when its parts are known. Until then it is an empty array.
     #[tactic(auto, unfolding(crate::specs::Draft::with_held))]
-    pub fn hold(&mut self, alloc: Global) -> Result<u32, GraphFault>
+    pub fn hold(&mut self) -> Result<u32, GraphFault>
         ensures value { Gives (λ n. (n, self.new)) result (with_held self.old) }
+        ensures inside { IfOk result (λ n. n < length self.new) }
+        ensures grows { OnOk result (length self.old ≤ length self.new) }
         ensures kept { OnErr result (self.new ≡ self.old) }
     {
         let n = self.nodes.len();
         if n >= 131_072 {
             return Err(GraphFault::Limit);
         }
-        self.nodes.push(Node::Array(None, Refs::of(Vec::new(alloc))))?;
+        self.nodes
+            .push(Node::Array(None, Refs::of(Vec::new(self.alloc))))?;
         Ok(n as u32)
     }
 
-    /// Puts a node in the place of one that was held.
+    /// Puts a node in the place of one that was held. A frame has a value for each tag.
     #[tactic(auto, unfolding(crate::specs::Draft::with_filled))]
     pub fn fill(&mut self, n: u32, node: Node) -> Result<(), GraphFault>
         requires inside { n < length self.old }
         requires filling { IsFilling node }
         ensures value { Gives (λ done. self.new) result (with_filled self.old n node) }
+        ensures stays { OnOk result (length self.new ≡ length self.old) }
         ensures kept { OnErr result (self.new ≡ self.old) }
     {
         if !is_small(&node) {
@@ -100,14 +120,14 @@ impl Builder {
         Ok(())
     }
 
-    /// Copies a graph in. A symbol that folds alike one that is there is that one.
+    /// Copies a graph in, and answers its root. A symbol that folds alike one that is there becomes that one.
     #[tactic(auto, unfolding(crate::specs::Import::with_graph))]
-    pub fn import(&mut self, alloc: Global, graph: &Graph) -> Result<Ref, GraphFault>
+    pub fn import(&mut self, graph: &Graph) -> Result<Ref, GraphFault>
         ensures value { Gives (λ root. (root, self.new)) result (with_graph self.old graph.now) }
         ensures kept { OnErr result (self.new ≡ self.old) }
     {
-        let table = numbers(alloc, &self.nodes, graph.nodes())?;
-        let mut added = copies(alloc, &table, &self.nodes, graph.nodes())?;
+        let table = numbers(self.alloc, &self.nodes, graph.nodes())?;
+        let mut added = copies(self.alloc, &table, &self.nodes, graph.nodes())?;
         if self.nodes.len() + added.len() > 131_072 {
             return Err(GraphFault::Limit);
         }
@@ -119,9 +139,9 @@ impl Builder {
         Ok(copied_ref(&table, graph.root()))
     }
 
-    /// Gives the frame n this value in its slot of this tag, where the slot stands, or in a new last slot.
+    /// Gives the frame n this value in its slot of this tag, where the slot stands, or in a new last slot. Another node stays as it is.
     #[tactic(auto, unfolding(crate::specs::Draft::with_set))]
-    pub fn set(&mut self, alloc: Global, n: u32, tag: u32, value: Ref) -> Result<(), GraphFault>
+    pub fn set(&mut self, n: u32, tag: u32, value: Ref) -> Result<(), GraphFault>
         requires { n < length self.old }
         ensures value { Gives (λ done. self.new) result (with_set self.old n tag value) }
         ensures kept { OnErr result (self.new ≡ self.old) }
@@ -129,21 +149,24 @@ impl Builder {
         let Node::Frame(tags, values) = &self.nodes[n as usize] else {
             return Ok(());
         };
-        let frame = with_slot(alloc, tags.list(), values.list(), tag, value)?;
+        let frame = with_slot(self.alloc, tags.list(), values.list(), tag, value)?;
         self.nodes[n as usize] = frame;
         Ok(())
     }
 
-    /// What the root reaches, in the order of the walk.
-    pub fn finish(self, alloc: Global, root: Ref) -> Result<Graph, GraphFault>
+    /// The graph of what the root reaches, in the order of the walk. References lead to nodes, classes and tags to symbols, and the tags of a
+    /// frame are distinct.
+    pub fn finish(self, root: Ref) -> Result<Graph, GraphFault>
         requires { IsJoined self root }
         ensures is_form { IfOk result (λ g. IsNormalForm (record { nodes = self; root = root }) g) }
+        ensures value { Gives (λ g. g) result (normal_form (record { nodes = self; root = root })) }
         ensures limit { IsErrOf result GraphFault.Limit → (g : RawGraph) → IsNormalForm (record { nodes = self; root = root }) g → ⊥ }
     {
-        normal(alloc, self.nodes, root)
+        normal(self.alloc, self.nodes, root)
     }
 }
 
+/// The first symbol of this name but for ASCII case.
 #[tactic(auto, unfolding(crate::specs::Draft::find_alike))]
 pub(crate) fn find_alike(name: &[u8], nodes: &[Node]) -> Option<u32>
     requires { length nodes.now < 4294967296 }
@@ -187,6 +210,7 @@ fn slot_of(tags: &[u32], tag: u32) -> Option<usize>
     tags.iter().position(|t| *t == tag)
 }
 
+/// A frame of these slots with the value in its slot of this tag, or in a new last one.
 #[tactic(auto, unfolding(crate::specs::Draft::with_slot))]
 fn with_slot(
     alloc: Global,

@@ -1,16 +1,14 @@
 //! Copies of nodes with other numbers.
-ghost use Rattle.std.specs.Prelude.{◌≡◌, ◌+◌, ◌<◌, ◌^◌, IfOk, map, length, Some, None, nat_le, if◌then◌else◌, ◌-◌};
-ghost use Rattle.std.specs.List.{sum_by};
-ghost use Rattle.newt_graph.specs.Graph.{payload};
+ghost use Rattle.std.specs.Prelude.{◌≡◌, ◌+◌, ◌<◌, IfOk, map, length};
 ghost use Rattle.newt_graph.specs.Raw.{renamed_ref, renamed_class, renamed};
 ghost use Rattle.newt_graph.specs.Import.{known_as, numbers_from, kept_of, looked_up};
 
 use crate::builder::find_alike;
 use crate::lists::{Refs, Tags};
 use crate::node::{Node, Ref};
-use crate::normal::payload;
 use std::alloc::{AllocError, Global};
 
+/// The new number of a node.
 fn looked_up(table: &[u32], k: u32) -> u32
     ensures { result ≡ looked_up table.now k }
 {
@@ -58,6 +56,7 @@ fn copied_values(alloc: Global, table: &[u32], values: &[Ref]) -> Result<Refs, A
     Ok(Refs::of(refs))
 }
 
+/// A copy of a node with the new numbers of its parts.
 fn copied(alloc: Global, table: &[u32], node: &Node) -> Result<Node, AllocError>
     ensures { IfOk result (λ n. n ≡ renamed (looked_up table.now) node.now) }
 {
@@ -85,7 +84,11 @@ fn known_as(old: &[Node], node: &Node) -> Option<u32>
 {
     match node {
         Node::Symbol(name) => find_alike(name.list(), old),
-        Node::Str(_) | Node::Binary(_, _) | Node::Large(_, _) | Node::Array(_, _) | Node::Frame(_, _) => None,
+        Node::Str(_)
+        | Node::Binary(_, _)
+        | Node::Large(_, _)
+        | Node::Array(_, _)
+        | Node::Frame(_, _) => None,
     }
 }
 
@@ -126,19 +129,4 @@ pub(crate) fn copies(
         }
     }
     Ok(out)
-}
-
-/// What is left of so many bytes.
-pub(crate) fn left(nodes: &[Node], most: usize) -> Option<usize>
-    ensures { result ≡ (if nat_le (sum_by payload nodes.now) most then Some (most - sum_by payload nodes.now) else None) }
-{
-    let mut left = most;
-    for node in nodes {
-        let payload = payload(node);
-        if payload > left {
-            return None;
-        }
-        left -= payload;
-    }
-    Some(left)
 }

@@ -1,5 +1,5 @@
 //! The walk over nodes in any order.
-ghost use Rattle.std.specs.Prelude.{◌≡◌, ◌<◌, ◌+◌, ◌^◌, OnOk, IfOk, map, nat_le, length, All, Some, slice_get};
+ghost use Rattle.std.specs.Prelude.{◌≡◌, ◌<◌, ◌+◌, ◌^◌, OnOk, IfOk, map, ◌-◌, nat_le, length, All, Some, None, slice_get, if◌then◌else◌};
 ghost use Rattle.std.specs.List.{sum_by};
 ghost use Rattle.newt_graph.specs.Graph.{RawGraph, payload};
 ghost use Rattle.newt_graph.specs.Raw.{renamed_ref, renamed_class, renamed, IsRaw, IsNormalForm};
@@ -172,19 +172,26 @@ pub(crate) fn payload(node: &Node) -> usize
     }
 }
 
-/// Whether the bytes of all nodes together are within the limit.
-fn is_light(nodes: &[Node], most: usize) -> bool
-    ensures { result ≡ nat_le (sum_by payload nodes.now) most }
+/// How many of so many bytes the nodes leave. None where they have more.
+pub(crate) fn left(nodes: &[Node], most: usize) -> Option<usize>
+    ensures { result ≡ (if nat_le (sum_by payload nodes.now) most then Some (most - sum_by payload nodes.now) else None) }
 {
     let mut left = most;
     for node in nodes {
         let payload = payload(node);
         if payload > left {
-            return false;
+            return None;
         }
         left -= payload;
     }
-    true
+    Some(left)
+}
+
+/// Whether the nodes have at most so many bytes together.
+fn is_light(nodes: &[Node], most: usize) -> bool
+    ensures { result ≡ nat_le (sum_by payload nodes.now) most }
+{
+    left(nodes, most).is_some()
 }
 
 /// What the root reaches, in the order of the walk.

@@ -1,5 +1,6 @@
 -- A reader of literals that computes, for the examples: ASCII texts, and no binaries but large ones of zero bytes.
 use Rattle.std.specs.Prelude.{ℕ, zero, suc, ◌+◌, ◌-◌, ◌*◌, Bool, true, false, not, ◌&&◌, ◌||◌, ◌==◌, nat_eq, List, [], ◌∷◌, ◌++◌, length, take, drop, slice_set, replicate, find, Option, Some, None, option_map, option_and_then, map, ℤ, pos, neg_ℤ, codes, if◌then◌else◌, fold}
+use Rattle.std.specs.Prelude.{slice_get}
 use Rattle.std.specs.List.{starts_with, prefix_len}
 use Rattle.std.specs.Char.{is_ascii_digit, digit_value, is_ascii_alphabetic}
 use Rattle.newt_base.specs.Names.{starts_identifier}
@@ -8,10 +9,9 @@ use Rattle.newt_graph.specs.declared.node.Ref.TheVariants.{Imm, Node as At}
 use Rattle.newt_graph.specs.declared.node.Node.{Node}
 use Rattle.newt_graph.specs.declared.node.Node.TheVariants.{Symbol, Str, Binary, Large, Array, Frame}
 use Rattle.newt_graph.specs.Graph.{RawGraph}
-use Rattle.newt_spec_graph.specs.Graph.{nth}
-use Rattle.newt_spec_graph.specs.Walk.{normal_form}
+use Rattle.newt_graph.specs.Meeting.{normal_form}
 use Rattle.newt_spec_graph.specs.Slots.{symbol_number}
-use Rattle.newt_spec_script.specs.Words.{digits_value}
+use Rattle.newt_base.specs.Text.{number_after}
 
 -- the nodes so far, the labels given, and the text that is left
 pub record State : Type 0 where
@@ -70,7 +70,7 @@ units (suc d) (c ∷ cs) = elim (c == 34) [
 ]
 
 abbrev pub number : List ℕ → ℕ × List ℕ
-number cs = let n = prefix_len is_ascii_digit cs in (digits_value (take n cs), drop n cs)
+number cs = let n = prefix_len is_ascii_digit cs in (number_after 0 (take n cs), drop n cs)
 
 abbrev pub label_of : List (ℕ × ℕ) → ℕ → Option ℕ
 label_of labels l = option_map (λ p. p.1) (find (λ p. p.0 == l) labels)
@@ -137,7 +137,7 @@ zeros s = elim (name s) [
         let k = number u.rest in
         let x = new_node (Large (length u.nodes + 1) (replicate k.0 0)) (record u { rest = k.1 }) in
         let y = symbol n x.1 in
-        elim (nth y.1.nodes x.0) [ None ↦ None | Some _ ↦ option_map (λ z. (At x.0, record z { nodes = slice_set z.nodes x.0 (Large y.0 (replicate k.0 0)) })) (token (codes ">>") y.1) ]
+        elim (slice_get y.1.nodes x.0) [ None ↦ None | Some _ ↦ option_map (λ z. (At x.0, record z { nodes = slice_set z.nodes x.0 (Large y.0 (replicate k.0 0)) })) (token (codes ">>") y.1) ]
   ]
 ]
 
@@ -181,5 +181,5 @@ value (suc d) s = elim (token (codes "{") s) [
 abbrev pub read_literal : List ℕ → Option RawGraph
 read_literal text = elim (value (length text) (record { nodes = []; labels = []; rest = text })) [
   | None ↦ None
-  | Some (r, s) ↦ elim ((skip s).rest) [ [] ↦ Some (normal_form (record { nodes = s.nodes; root = r })) | _ ↦ None ]
+  | Some (r, s) ↦ elim ((skip s).rest) [ [] ↦ normal_form (record { nodes = s.nodes; root = r }) | _ ↦ None ]
 ]

@@ -1,4 +1,5 @@
 //! Stores from the objects of an image.
+#![tactic(auto, unfolding(crate::proofs::Tables::open_tables))]
 
 ghost use Rattle.std.specs.Prelude.{◌≡◌, [], ◌∷◌, codes, Some, None};
 ghost use Rattle.newt_base.specs.Text.{hex_text};

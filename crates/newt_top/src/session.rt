@@ -1,73 +1,45 @@
-//! What answers lines, and why it stops.
-ghost use Rattle.std.specs.Prelude.{◌≡◌, IfOk, OnOk};
-ghost use Rattle.newt_top.specs.World.{answer, first_world, is_quit, reply_to, world_of};
+//! The world that commands change.
+ghost use Rattle.std.specs.Prelude.{IsTrue, ◌≡◌, IfOk, IfErr, OnOk};
+ghost use Rattle.newt_top.specs.World.{answer, first_world, world_of};
+ghost use Rattle.newt_top.specs.Stream.{out_of};
 
-use crate::line::{is_silent, without_return};
-use crate::{LONGEST, command};
-use newt_base::Refusal;
-use std::alloc::{AllocError, Global};
+use crate::halt::Halt;
+use newt_host::Host;
+use newt_reply::Reply;
+use newt_script::Command;
 
-/// Whether the script goes on after a line.
-#[derive(Clone, Copy, Debug, PartialEq, Eq)]
-pub enum Flow {
-    Go,
-    Quit,
-}
-
-/// Why a run ends before its script.
-#[derive(Clone, Copy, Debug, PartialEq, Eq)]
-pub enum Stop {
-    Memory,
-    Source,
-    Sink,
-    TooLong,
-}
-
-/// The world that the lines of a script change.
+/// The world that the commands of a script change.
 #[derive(Drop)]
 pub struct Session {
     pub(crate) minute: u32,
 }
 
 impl Session {
-    /// The session before the first line.
+    /// The session before the first command.
     pub fn new() -> Self
         ensures { world_of result ≡ first_world }
     {
         Session { minute: 0 }
     }
 
-    /// The text of the reply to a line, empty for one that is no command.
+    /// Obeys a command, and gives the reply. No command touches the host yet.
     #[tactic(auto, unfolding(crate::specs::World::answer))]
-    pub fn reply(&mut self, alloc: Global, raw: &[u8]) -> Result<Vec<u8>, AllocError>
-        ensures text { IfOk result (λ text. text.items ≡ (answer (world_of self.old) raw.now).text) }
-        ensures world { OnOk result (world_of self.new ≡ (answer (world_of self.old) raw.now).world) }
+    pub fn apply<H: Host>(&mut self, host: &mut H, command: Command) -> Result<Reply, Halt>
+        ensures reply { IsTrue H.told → IfOk result (λ reply. reply ≡ (answer (world_of self.old) command).reply) }
+        ensures world { IsTrue H.told → OnOk result (world_of self.new ≡ (answer (world_of self.old) command).world) }
+        ensures cause { IfErr result (λ halt. halt ≡ Halt.Memory) }
+        ensures out { out_of (H.outside host.new) ≡ out_of (H.outside host.old) }
+        ensures left { (H.outside host.new).input ≡ (H.outside host.old).input }
+        ensures out_count { (H.outside host.new).out_faults ≡ (H.outside host.old).out_faults }
+        ensures in_count { (H.outside host.new).in_faults ≡ (H.outside host.old).in_faults }
     {
-        let line = without_return(raw);
-        if is_silent(line) {
-            return Ok(Vec::new(alloc));
-        }
-        if line.len() > LONGEST {
-            return command::refused(alloc, Refusal::Longline);
-        }
-        self.command(alloc, line)
+        Ok(match command {
+            Command::Nsof(graph) => Reply::Nsof(graph),
+            Command::Time(minute) => {
+                self.minute = minute;
+                Reply::Done
+            }
+            Command::Quit => Reply::Done,
+        })
     }
-
-    // The text of the reply to a command. None of them changes the world yet.
-    #[tactic(auto, unfolding(crate::specs::World::reply_to))]
-    fn command(&mut self, alloc: Global, line: &[u8]) -> Result<Vec<u8>, AllocError>
-        ensures text { IfOk result (λ text. text.items ≡ (reply_to (world_of self.old) line.now).text) }
-        ensures world { OnOk result (world_of self.new ≡ (reply_to (world_of self.old) line.now).world) }
-    {
-        command::reply(alloc, line)
-    }
-}
-
-/// Whether a line ends the script.
-#[tactic(auto, unfolding(crate::specs::World::is_quit))]
-pub fn quits(raw: &[u8]) -> bool
-    ensures { result ≡ is_quit raw.now }
-{
-    let line = without_return(raw);
-    line.len() <= LONGEST && command::is_quit(line)
 }

@@ -1,4 +1,4 @@
-use Rattle.std.proofs.Common.{rules, arith}
+use Rattle.std.proofs.Common.{rules}
 use Rattle.newt_graph.proofs.Drafts.{filled}
 use Rattle.newt_graph.proofs.builder.Builder.fill.Goals as goal
 

@@ -1,0 +1,197 @@
+-- Ids and signatures are not given again.
+use Rattle.std.proofs.Common.{arith, ◌≡◌, refl, ap, sym, ◌∙◌, subst, ℕ, zero, suc, ◌+◌, ◌<◌, ◌≤◌, List, [], ◌∷◌, ◌++◌, true, false, Bool, IsTrue, not, ◌&&◌, ◌||◌, ◌⊎◌, inl, inr, cond, Option, Some, None, option_map, option_and_then, unwrap_or, map, filter, find, ◌==◌}
+use Rattle.std.specs.Prelude.{slice_get}
+use Rattle.std.specs.Bool.{⊤}
+use Rattle.std.specs.Option.{is_none, is_some}
+use Rattle.std.proofs.lemmas.Bool.{eqb-true}
+use Rattle.newt_base.specs.Refusals.{first_of}
+use Rattle.newt_base.specs.declared.Refusal.{Refusal}
+use Rattle.newt_graph.specs.Graph.{RawGraph}
+use Rattle.newt_spec_store.specs.Keys.{Path, IndexSpec}
+use Rattle.newt_spec_store.specs.Store.{Store, Soup, Entry, change_first, change_soup, change_entry, make_soup, drop_soup, add_entry, remove_entry, entry_of}
+use Rattle.newt_spec_world.specs.declared.command.Command.{Command}
+use Rattle.newt_spec_world.specs.declared.command.Command.TheVariants as command
+use Rattle.newt_spec_world.specs.World.{World, Device, Media, blank, one, device, default_unit, store_of, store_on_unit, store_if_mounted, mounted, mounted_store, on_unit, entry_in, settle, flat, change_device, change_store, change_media, change_soup_in}
+use Rattle.newt_spec_world.specs.Changed.{changed, new_store, mark, copy_to, with_index, without_index, with_tags, spec_of_words, with_graph, graph_after_set, patched}
+use Rattle.newt_spec_world.specs.Refused.{checks}
+use Rattle.newt_spec_world.specs.Answer.{answer, answered, after}
+use Rattle.newt_spec_graph.specs.Lists.{Each, Pairs, Among}
+use Rattle.newt_laws.specs.Later.{SoupLater, StoreLater, WorldLater, EntryGone, SoupGone}
+use Rattle.newt_spec_graph.proofs.Lists.{among-append, among-filter, some-same, none-some}
+use Rattle.newt_laws.proofs.Units.{same-or-not, device-other, device-same}
+use Rattle.newt_laws.proofs.Kept.{AllFalse, all-false, on_units, changed-units}
+use Rattle.newt_laws.proofs.Fewer.{among-first}
+
+-- ---- soups
+
+pub soup-not : (p : Soup) → SoupLater p p
+soup-not p = record { sig_same = refl; next = omega arith; uids = λ e m. inl (e, m, refl) }
+
+pub soup-trans : (p q r : Soup) → SoupLater p q → SoupLater q r → SoupLater p r
+soup-trans p q r h k = record { sig_same = k.sig_same ∙ h.sig_same; next = omega (arith, h.next, k.next); uids = λ e m. go e (k.uids e m) }
+  where
+    before : (e d : Entry) → d.uid ≡ e.uid → ((x : Entry) × Among p.entries x × (x.uid ≡ d.uid)) ⊎ (p.next_uid ≤ d.uid) → ((x : Entry) × Among p.entries x × (x.uid ≡ e.uid)) ⊎ (p.next_uid ≤ e.uid)
+    before e d s (inl x) = inl (x.0, x.1, x.2 ∙ s)
+    before e d s (inr le) = inr (omega (arith, le, s))
+    go : (e : Entry) → ((d : Entry) × Among q.entries d × (d.uid ≡ e.uid)) ⊎ (q.next_uid ≤ e.uid) → ((x : Entry) × Among p.entries x × (x.uid ≡ e.uid)) ⊎ (p.next_uid ≤ e.uid)
+    go e (inl d) = before e d.0 d.2 (h.uids d.0 d.1)
+    go e (inr le) = inr (omega (arith, le, h.next))
+
+later-add : (time : ℕ) (g : RawGraph) (p : Soup) → SoupLater p (add_entry time g p)
+later-add time g p = record { sig_same = refl; next = omega arith; uids = λ e m. go e (among-append p.entries _ e m) }
+  where
+    go : (e : Entry) → Among p.entries e ⊎ Among (record { uid = p.next_uid; time = time; graph = g } ∷ []) e → ((d : Entry) × Among p.entries d × (d.uid ≡ e.uid)) ⊎ (p.next_uid ≤ e.uid)
+    go e (inl m) = inl (e, m, refl)
+    go e (inr (inl is)) = inr (omega (arith, ap (λ (x : Entry). x.uid) is))
+    go e (inr (inr m)) = absurd m
+
+later-change : (uid : ℕ) (f : Entry → Entry) → ((e : Entry) → (f e).uid ≡ e.uid) → (p : Soup) → SoupLater p (change_entry uid f p)
+later-change uid f same p = record { sig_same = refl; next = omega arith; uids = λ e m. go e (among-first (λ x. x.uid == uid) f p.entries e m) }
+  where
+    go : (e : Entry) → Among p.entries e ⊎ ((x : Entry) × Among p.entries x × (f x ≡ e)) → ((d : Entry) × Among p.entries d × (d.uid ≡ e.uid)) ⊎ (p.next_uid ≤ e.uid)
+    go e (inl m) = inl (e, m, refl)
+    go e (inr x) = inl (x.0, x.1, sym (same x.0) ∙ ap (λ (y : Entry). y.uid) x.2)
+
+later-remove : (uid : ℕ) (p : Soup) → SoupLater p (remove_entry uid p)
+later-remove uid p = record { sig_same = refl; next = omega arith; uids = λ e m. inl (e, (among-filter _ p.entries e m).0, refl) }
+
+-- ---- stores
+
+pub store-not : (s : Store) → StoreLater s s
+store-not s = record { sig_same = refl; next = omega arith; soups = λ q m. inl (q, m, soup-not q) }
+
+pub store-trans : (s t x : Store) → StoreLater s t → StoreLater t x → StoreLater s x
+store-trans s t x h k = record { sig_same = k.sig_same ∙ h.sig_same; next = omega (arith, h.next, k.next); soups = λ r m. go r (k.soups r m) }
+  where
+    before : (r q : Soup) → SoupLater q r → ((p : Soup) × Among s.soups p × SoupLater p q) ⊎ (s.next_soup ≤ q.sig) → ((p : Soup) × Among s.soups p × SoupLater p r) ⊎ (s.next_soup ≤ r.sig)
+    before r q l (inl p) = inl (p.0, p.1, soup-trans p.0 q r p.2 l)
+    before r q l (inr le) = inr (omega (arith, le, l.sig_same))
+    go : (r : Soup) → ((q : Soup) × Among t.soups q × SoupLater q r) ⊎ (t.next_soup ≤ r.sig) → ((p : Soup) × Among s.soups p × SoupLater p r) ⊎ (s.next_soup ≤ r.sig)
+    go r (inl q) = before r q.0 q.2 (h.soups q.0 q.1)
+    go r (inr le) = inr (omega (arith, le, h.next))
+
+later-make : (name : List ℕ) (s : Store) → StoreLater s (make_soup name s)
+later-make name s = record { sig_same = refl; next = omega arith; soups = λ q m. go q (among-append s.soups _ q m) }
+  where
+    go : (q : Soup) → Among s.soups q ⊎ Among (record { name = name; sig = s.next_soup; next_uid = 0; specs = []; tags = None; entries = [] } ∷ []) q → ((p : Soup) × Among s.soups p × SoupLater p q) ⊎ (s.next_soup ≤ q.sig)
+    go q (inl m) = inl (q, m, soup-not q)
+    go q (inr (inl is)) = inr (omega (arith, ap (λ (x : Soup). x.sig) is))
+    go q (inr (inr m)) = absurd m
+
+later-drop : (name : List ℕ) (s : Store) → StoreLater s (drop_soup name s)
+later-drop name s = record { sig_same = refl; next = omega arith; soups = λ q m. inl (q, (among-filter _ s.soups q m).0, soup-not q) }
+
+later-soup : (name : List ℕ) (f : Soup → Soup) → ((p : Soup) → SoupLater p (f p)) → (s : Store) → StoreLater s (change_soup name f s)
+later-soup name f each s = record { sig_same = refl; next = omega arith; soups = λ q m. go q (among-first _ f s.soups q m) }
+  where
+    go : (q : Soup) → Among s.soups q ⊎ ((x : Soup) × Among s.soups x × (f x ≡ q)) → ((p : Soup) × Among s.soups p × SoupLater p q) ⊎ (s.next_soup ≤ q.sig)
+    go q (inl m) = inl (q, m, soup-not q)
+    go q (inr x) = inl (x.0, x.1, subst (SoupLater x.0) x.2 (each x.0))
+
+-- ---- worlds
+
+pub world-not : (w : World) → WorldLater w w
+world-not w u s h = (s, h, store-not s)
+
+pub world-trans : (w v x : World) → WorldLater w v → WorldLater v x → WorldLater w x
+world-trans w v x h k u s e = let a = h u s e in let b = k u a.0 a.1 in (b.0, b.1, store-trans s a.0 b.0 a.2 b.2)
+
+change-later : (w : World) (u : ℕ) (f : Device → Device) → ((d : Device) (s : Store) → device w u ≡ Some d → store_of d.media ≡ Some s → (t : Store) × (store_of (f d).media ≡ Some t) × StoreLater s t) → WorldLater w (change_device w u f)
+change-later w u f keeps n s h = go (same-or-not n u)
+  where
+    here : (o : Option Device) → device w u ≡ o → option_and_then (λ (d : Device). store_of d.media) o ≡ Some s → (t : Store) × (option_and_then (λ (d : Device). store_of d.media) (option_map f o) ≡ Some t) × StoreLater s t
+    here None e k = absurd (none-some s k)
+    here (Some d) e k = keeps d s e k
+    go : (n ≡ u) ⊎ (n ≡ u → ⊥) → (t : Store) × (store_on_unit (change_device w u f) n ≡ Some t) × StoreLater s t
+    go (inl e) = let r = here (device w u) refl (ap (store_on_unit w) (sym e) ∙ h) in
+        (r.0, ap (store_on_unit (change_device w u f)) e ∙ ap (option_and_then (λ (d : Device). store_of d.media)) (device-same w u f) ∙ r.1, r.2)
+    go (inr e) = (s, ap (option_and_then (λ (d : Device). store_of d.media)) (device-other w u f n e) ∙ h, store-not s)
+
+store-later : (w : World) (u : ℕ) (f : Store → Store) → ((s : Store) → StoreLater s (f s)) → WorldLater w (change_store w u f)
+store-later w u f later = change-later w u (λ d. record d { media = change_media f d.media }) (λ d s e k. go s d.media k)
+  where
+    go : (s : Store) (m : Media) → store_of m ≡ Some s → (t : Store) × (store_of (change_media f m) ≡ Some t) × StoreLater s t
+    go s blank k = absurd (none-some s k)
+    go s (one x) k = (f x, refl, subst (λ y. StoreLater y (f x)) (some-same x s k) (later x))
+
+soup-later : (w : World) (u : ℕ) (name : List ℕ) (f : Soup → Soup) → ((p : Soup) → SoupLater p (f p)) → WorldLater w (change_soup_in w u name f)
+soup-later w u name f each = store-later w u (change_soup name f) (later-soup name f each)
+
+entry-later : (w : World) (u : ℕ) (name : List ℕ) (uid : ℕ) (f : Entry → Entry) → ((e : Entry) → (f e).uid ≡ e.uid) → WorldLater w (change_soup_in w u name (change_entry uid f))
+entry-later w u name uid f same = soup-later w u name (change_entry uid f) (later-change uid f same)
+
+copy-later : (w : World) (v : ℕ) (t : List ℕ) (o : Option Entry) → WorldLater w (copy_to w v t o)
+copy-later w v t None = world-not w
+copy-later w v t (Some e) = soup-later w v t (add_entry w.minute e.graph) (later-add w.minute e.graph)
+
+units-later : (v w : World) → v.units ≡ w.units → WorldLater w v
+units-later v w e u s h = (s, ap (λ us. option_and_then (λ (d : Device). store_of d.media) (flat (slice_get us u))) e ∙ h, store-not s)
+
+-- a soup with another declaration
+soup-same : (p q : Soup) → q.sig ≡ p.sig → q.next_uid ≡ p.next_uid → q.entries ≡ p.entries → SoupLater p q
+soup-same p q s n es = record { sig_same = s; next = omega (arith, n); uids = λ e m. inl (e, subst (λ xs. Among xs e) es m, refl) }
+
+no-store : (o : Option Store) (s : Store) → is_some o ≡ false → o ≡ Some s → ⊥
+no-store None s h e = none-some s e
+no-store (Some x) s h e = cc
+
+pub row-later : (w : World) (c : Command) → AllFalse (checks w c) → WorldLater w (changed w c)
+unfolding changed checks on_units
+row-later w (command.Format u name sig) h = change-later w u (λ d. record d { media = one (new_store name sig); mounted = false })
+    (λ d s e k. absurd (no-store (store_on_unit w u) s h.1.1.1.0 (ap (option_and_then (λ (d : Device). store_of d.media)) e ∙ k)))
+row-later w (command.Mount u) h = change-later w u (λ d. record d { mounted = true }) (λ d s e k. (s, k, store-not s))
+row-later w (command.Unmount u) h = change-later w u (λ d. record d { mounted = false }) (λ d s e k. (s, k, store-not s))
+row-later w (command.Soup u name) h = store-later w u (make_soup name) (later-make name)
+row-later w (command.Drop u s) h = store-later w u (drop_soup s) (later-drop s)
+row-later w (command.Index u s parts) h = soup-later w u s (with_index (spec_of_words parts)) (λ p. soup-same p _ refl refl refl)
+row-later w (command.Unindex u s paths) h = soup-later w u s (without_index paths) (λ p. soup-same p _ refl refl refl)
+row-later w (command.SetTags u s path symbols) h = soup-later w u s (with_tags path symbols) (λ p. soup-same p _ refl refl refl)
+row-later w (command.Add u s g) h = soup-later w u s (add_entry w.minute g) (later-add w.minute g)
+row-later w (command.Addx u s g) h = soup-later w u s (add_entry w.minute g) (later-add w.minute g)
+row-later w (command.Addu s g) h = soup-later w (default_unit w) s (add_entry w.minute g) (later-add w.minute g)
+row-later w (command.Set u s uid path g) h = entry-later w u s uid (λ e. with_graph w.minute (graph_after_set path g e.graph) e) (λ e. refl)
+row-later w (command.Change u s uid g) h = entry-later w u s uid (with_graph w.minute g) (λ e. refl)
+row-later w (command.Remove u s uid) h = soup-later w u s (remove_entry uid) (later-remove uid)
+row-later w (command.Copy u s uid v t) h = copy-later w v t (entry_in w u s uid)
+row-later w (command.Move u s uid v t) h = world-trans w (copy_to w v t (entry_in w u s uid)) (changed w (command.Move u s uid v t)) (copy-later w v t (entry_in w u s uid))
+    (soup-later (copy_to w v t (entry_in w u s uid)) u s (remove_entry uid) (later-remove uid))
+row-later w (command.Vwrite u s uid path at bytes) h = entry-later w u s uid (λ e. record e { graph = patched path at bytes e.graph }) (λ e. refl)
+row-later w c h = units-later (changed w c) w (changed-units w c refl)
+
+pub answer-later : (w : World) (c : Command) → WorldLater w (answer w c).0
+unfolding answer
+answer-later w c = go (first_of (checks w c)) refl
+  where
+    go : (o : Option Refusal) → first_of (checks w c) ≡ o → WorldLater w (answered w c o).0
+    go None e = row-later w c (all-false (checks w c) e)
+    go (Some r) e = world-not w
+
+pub run-later : (w : World) (cs : List Command) → WorldLater w (after w cs)
+run-later w [] = world-not w
+run-later w (c ∷ cs) = world-trans w (answer w c).0 (after (answer w c).0 cs) (answer-later w c) (run-later (answer w c).0 cs)
+
+-- ---- what is gone stays gone
+
+pub entry-gone : (sig uid : ℕ) (s t : Store) → StoreLater s t → EntryGone sig uid s → EntryGone sig uid t
+entry-gone sig uid s t l g = record {
+  sig_given = omega (arith, l.next, g.sig_given);
+  uid_given = λ q m is. given q is (l.soups q m);
+  not_there = λ q e m is n same. there q e is n same (l.soups q m);
+}
+  where
+    given : (q : Soup) → q.sig ≡ sig → ((p : Soup) × Among s.soups p × SoupLater p q) ⊎ (s.next_soup ≤ q.sig) → uid < q.next_uid
+    given q is (inl p) = omega (arith, g.uid_given p.0 p.1 (sym p.2.sig_same ∙ is), p.2.next)
+    given q is (inr le) = absurd (omega (arith, le, is, g.sig_given))
+    was : (p : Soup) (q : Soup) (e : Entry) → Among s.soups p → p.sig ≡ sig → e.uid ≡ uid → ((d : Entry) × Among p.entries d × (d.uid ≡ e.uid)) ⊎ (p.next_uid ≤ e.uid) → ⊥
+    was p q e m is same (inl d) = g.not_there p d.0 m is d.1 (d.2 ∙ same)
+    was p q e m is same (inr le) = omega (arith, le, same, g.uid_given p m is)
+    there : (q : Soup) (e : Entry) → q.sig ≡ sig → Among q.entries e → e.uid ≡ uid → ((p : Soup) × Among s.soups p × SoupLater p q) ⊎ (s.next_soup ≤ q.sig) → ⊥
+    there q e is n same (inl p) = was p.0 q e p.1 (sym p.2.sig_same ∙ is) same (p.2.uids e n)
+    there q e is n same (inr le) = omega (arith, le, is, g.sig_given)
+
+pub soup-gone : (sig : ℕ) (s t : Store) → StoreLater s t → SoupGone sig s → SoupGone sig t
+soup-gone sig s t l g = record { sig_given = omega (arith, l.next, g.sig_given); not_there = λ q m is. go q is (l.soups q m) }
+  where
+    go : (q : Soup) → q.sig ≡ sig → ((p : Soup) × Among s.soups p × SoupLater p q) ⊎ (s.next_soup ≤ q.sig) → ⊥
+    go q is (inl p) = g.not_there p.0 p.1 (sym p.2.sig_same ∙ is)
+    go q is (inr le) = omega (arith, le, is, g.sig_given)

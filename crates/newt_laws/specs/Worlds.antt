@@ -1,0 +1,42 @@
+-- What holds of worlds, and of the commands that they are asked.
+use Rattle.std.specs.Prelude.{◌≡◌, ℕ, Bool, true, false, ◌&&◌, nat_le, IsTrue, List, length, map, Option, Some, None, ⊤}
+use Rattle.std.specs.List.{list_all}
+use Rattle.newt_base.specs.Names.{is_name, same_name}
+use Rattle.newt_graph.specs.Graph.{RawGraph}
+use Rattle.newt_spec_graph.specs.Limits.{within_limits}
+use Rattle.newt_spec_store.specs.Store.{Store}
+use Rattle.newt_spec_graph.specs.Lists.{all_apart}
+use Rattle.newt_spec_store.specs.Valid.{valid, valid_path, valid_symbol}
+use Rattle.newt_spec_world.specs.declared.command.Command.{Command}
+use Rattle.newt_spec_world.specs.declared.command.Command.TheVariants as command
+use Rattle.newt_spec_world.specs.declared.command.PartWord.{PartWord}
+use Rattle.newt_spec_world.specs.World.{World, Device, Media, blank, one, device}
+
+-- it holds of each store that the media has, with the number of blocks
+abbrev pub OnMedia : (ℕ → Store → Type 0) → ℕ → Media → Type 0
+OnMedia P blocks blank = ⊤
+OnMedia P blocks (one s) = P blocks s
+
+-- it holds of each store of the units that are meant
+abbrev pub OnUnits : (ℕ → Type 0) → (ℕ → Store → Type 0) → World → Type 0
+OnUnits D P w = (u : ℕ) → D u → (d : Device) → device w u ≡ Some d → OnMedia P d.blocks d.media
+
+-- every store of the world is valid
+abbrev pub AllValid : World → Type 0
+AllValid w = OnUnits (λ u. ⊤) (λ blocks s. IsTrue (valid blocks s)) w
+
+-- one to four parts, each with a path
+abbrev pub parts_fit : List PartWord → Bool
+parts_fit parts = nat_le 1 (length parts) && nat_le (length parts) 4 && list_all (λ p. valid_path p.path) parts
+
+-- The words of a command have the forms of the script.
+unfoldable pub has_form : Command → Bool
+has_form (command.Format u name sig) = is_name name && nat_le sig 536_870_911
+has_form (command.Soup u name) = is_name name
+has_form (command.Index u s parts) = parts_fit parts
+has_form (command.SetTags u s path symbols) = valid_path path && list_all valid_symbol symbols && all_apart same_name symbols
+has_form (command.Add u s g) = within_limits g
+has_form (command.Addx u s g) = within_limits g
+has_form (command.Addu s g) = within_limits g
+has_form (command.Change u s uid g) = within_limits g
+has_form _ = true

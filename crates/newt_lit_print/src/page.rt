@@ -1,0 +1,98 @@
+//! The page that a graph is printed on.
+ghost use Rattle.std.specs.Prelude.{◌≡◌, ◌+◌, [], nat_lt, OnOk};
+ghost use Rattle.newt_base.specs.Text.{hex_text};
+ghost use Rattle.newt_lit.specs.Spelling.{plain, spelled};
+ghost use Rattle.newt_lit.specs.Printed as printed;
+
+use crate::tokens;
+use std::alloc::{AllocError, Global};
+use std::marker::Model;
+
+/// What is printed so far, and below which number all objects have been met.
+#[derive(Drop)]
+pub struct Page {
+    text: Vec<u8>,
+    met: usize,
+}
+
+impl Model for Page {
+    ghost use Rattle.newt_lit.specs.Spelling.{Page as Spelled};
+
+    ghost Value = { Spelled };
+
+    ghost view = { λ p. (p.text.items, p.met) };
+}
+
+impl Page {
+    pub fn new(alloc: Global) -> Page
+        ensures { result ≡ ([], 0) }
+    {
+        Page {
+            text: Vec::new(alloc),
+            met: 0,
+        }
+    }
+
+    pub fn into_text(self) -> Vec<u8>
+        ensures { result.items ≡ self.0 }
+    {
+        self.text
+    }
+
+    /// Whether object n has been met.
+    pub fn has_met(&self, n: u32) -> bool
+        ensures { result ≡ nat_lt n self.now.1 }
+    {
+        (n as usize) < self.met
+    }
+
+    /// Object n and all before it have been met.
+    pub fn meet(&mut self, n: u32)
+        ensures { self.new ≡ (self.old.0, n + 1) }
+    {
+        self.met = n as usize + 1;
+    }
+
+    pub fn put(&mut self, text: &[u8]) -> Result<(), AllocError>
+        ensures { OnOk result (self.new ≡ spelled self.old (plain text.now)) }
+    {
+        self.text.extend_from_slice(text)?;
+        Ok(())
+    }
+
+    pub fn word(&mut self, alloc: Global, word: i32) -> Result<(), AllocError>
+        ensures { OnOk result (self.new ≡ spelled self.old (plain (printed.word_text word))) }
+    {
+        tokens::word(alloc, &mut self.text, word)
+    }
+
+    pub fn name(&mut self, name: &[u8]) -> Result<(), AllocError>
+        ensures { OnOk result (self.new ≡ spelled self.old (plain (printed.name_text name.now))) }
+    {
+        tokens::name(&mut self.text, name)
+    }
+
+    pub fn string(&mut self, alloc: Global, units: &[u16]) -> Result<(), AllocError>
+        ensures { OnOk result (self.new ≡ spelled self.old (plain (printed.string_text units.now))) }
+    {
+        tokens::string(alloc, &mut self.text, units)
+    }
+
+    pub fn hex(&mut self, alloc: Global, bytes: &[u8]) -> Result<(), AllocError>
+        ensures { OnOk result (self.new ≡ spelled self.old (plain (hex_text bytes.now))) }
+    {
+        tokens::hex(alloc, &mut self.text, bytes)
+    }
+
+    /// A label and the mark behind it, or nothing.
+    pub fn label(&mut self, alloc: Global, label: Option<u32>, mark: u8) -> Result<(), AllocError>
+        ensures { OnOk result (self.new ≡ spelled self.old (plain (printed.label_text label mark))) }
+    {
+        if let Some(n) = label {
+            self.text.push(b'#')?;
+            tokens::decimal(alloc, &mut self.text, n)?;
+            self.text.push(mark)?;
+        }
+        Ok(())
+    }
+}

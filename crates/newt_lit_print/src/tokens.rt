@@ -1,0 +1,180 @@
+//! Names, words, strings and binaries as they are printed.
+ghost use Rattle.std.specs.Prelude.{◌≡◌, ◌++◌, OnOk, decimal, flat_map, codes};
+ghost use Rattle.newt_base.specs.Text as text;
+ghost use Rattle.newt_lit.specs.Printed as printed;
+ghost use Rattle.newt_lit.specs.Words as words;
+ghost use Rattle.std.specs.Fmt.{signed_decimal};
+ghost use Rattle.std.specs.List.{list_all};
+
+use newt_base::hex_text;
+use std::alloc::{AllocError, Global};
+
+/// The immediate words of nil and true.
+const NIL: u32 = 2;
+
+const TRUE: u32 = 26;
+
+/// Words of characters are below this bound: the greatest character is 65,535.
+const CHARACTERS: u32 = 1 << 20;
+
+/// A letter, a digit or `_`.
+fn is_word(c: u8) -> bool
+    ensures { result ≡ words.is_word c }
+{
+    c.is_ascii_alphanumeric() || c == b'_'
+}
+
+fn are_words(name: &[u8]) -> bool
+    ensures { result ≡ list_all words.is_word name.now }
+{
+    name.iter().all(|c| is_word(*c))
+}
+
+fn begins_name(name: &[u8]) -> bool
+    ensures { result ≡ words.begins_name name.now }
+{
+    match name {
+        [] => false,
+        [first, ..] => !first.is_ascii_digit(),
+    }
+}
+
+fn is_identifier(name: &[u8]) -> bool
+    ensures { result ≡ words.is_identifier name.now }
+{
+    begins_name(name) && are_words(name) && name.len() < 255
+}
+
+/// A character, behind a backslash where it is one of the marks.
+fn escaped(out: &mut Vec<u8>, marks: &[u8], c: u8) -> Result<(), AllocError>
+    ensures { OnOk result (out.new.items ≡ out.old.items ++ printed.escaped marks.now c) }
+{
+    if marks.contains(&c) {
+        out.push(b'\\')?;
+    }
+    out.push(c)?;
+    Ok(())
+}
+
+/// The characters of a name between bars.
+fn barred(out: &mut Vec<u8>, name: &[u8]) -> Result<(), AllocError>
+    ensures { OnOk result (out.new.items ≡ out.old.items ++ flat_map (printed.escaped (codes "|\\")) name.now) }
+{
+    for c in name {
+        escaped(out, b"|\\", *c)?;
+    }
+    Ok(())
+}
+
+/// A name as it stands where it is an identifier, else between bars.
+pub fn name(out: &mut Vec<u8>, name: &[u8]) -> Result<(), AllocError>
+    ensures { OnOk result (out.new.items ≡ out.old.items ++ printed.name_text name.now) }
+{
+    if is_identifier(name) {
+        out.extend_from_slice(name)?;
+        return Ok(());
+    }
+    out.push(b'|')?;
+    barred(out, name)?;
+    out.push(b'|')?;
+    Ok(())
+}
+
+/// Two digits for each byte.
+pub fn hex(alloc: Global, out: &mut Vec<u8>, bytes: &[u8]) -> Result<(), AllocError>
+    ensures { OnOk result (out.new.items ≡ out.old.items ++ text.hex_text bytes.now) }
+{
+    out.extend_from_slice(hex_text(alloc, bytes)?.as_slice())?;
+    Ok(())
+}
+
+/// Four digits.
+fn hex16(alloc: Global, out: &mut Vec<u8>, n: u16) -> Result<(), AllocError>
+    ensures { OnOk result (out.new.items ≡ out.old.items ++ printed.hex16 n) }
+{
+    hex(alloc, out, &n.to_be_bytes())
+}
+
+/// A character from 33 to 126 but the backslash as itself, any other by four digits.
+fn character(alloc: Global, out: &mut Vec<u8>, c: u16) -> Result<(), AllocError>
+    ensures { OnOk result (out.new.items ≡ out.old.items ++ printed.character_text c) }
+{
+    out.push(b'$')?;
+    if 33 <= c && c <= 126 && c != 92 {
+        out.push(c as u8)?;
+        return Ok(());
+    }
+    out.push(b'\\')?;
+    hex16(alloc, out, c)
+}
+
+/// A number in decimal.
+pub fn decimal(alloc: Global, out: &mut Vec<u8>, n: u32) -> Result<(), AllocError>
+    ensures { OnOk result (out.new.items ≡ out.old.items ++ decimal n) }
+{
+    let digits = format!(in alloc; "{n}")?;
+    out.extend_from_slice(digits.as_bytes())?;
+    Ok(())
+}
+
+/// An integer in decimal.
+fn integer(alloc: Global, out: &mut Vec<u8>, n: i32) -> Result<(), AllocError>
+    ensures { OnOk result (out.new.items ≡ out.old.items ++ signed_decimal n) }
+{
+    let digits = format!(in alloc; "{n}")?;
+    out.extend_from_slice(digits.as_bytes())?;
+    Ok(())
+}
+
+/// An immediate word in the first form that fits.
+pub fn word(alloc: Global, out: &mut Vec<u8>, word: i32) -> Result<(), AllocError>
+    ensures { OnOk result (out.new.items ≡ out.old.items ++ printed.word_text word) }
+{
+    let bits = word.cast_unsigned();
+    if bits % 4 == 0 {
+        return integer(alloc, out, word.div_euclid(4));
+    }
+    if bits == NIL {
+        out.extend_from_slice(b"nil")?;
+        return Ok(());
+    }
+    if bits == TRUE {
+        out.extend_from_slice(b"true")?;
+        return Ok(());
+    }
+    if bits % 16 == 6 && bits < CHARACTERS {
+        return character(alloc, out, (bits / 16) as u16);
+    }
+    out.push(b'&')?;
+    hex(alloc, out, &bits.to_be_bytes())
+}
+
+/// A unit from 32 to 126 as itself, any other by four digits.
+pub fn unit(alloc: Global, out: &mut Vec<u8>, unit: u16) -> Result<(), AllocError>
+    ensures { OnOk result (out.new.items ≡ out.old.items ++ printed.unit_text unit) }
+{
+    if 32 <= unit && unit <= 126 {
+        return escaped(out, b"\"\\", unit as u8);
+    }
+    out.extend_from_slice(b"\\u")?;
+    hex16(alloc, out, unit)
+}
+
+fn units(alloc: Global, out: &mut Vec<u8>, units: &[u16]) -> Result<(), AllocError>
+    ensures { OnOk result (out.new.items ≡ out.old.items ++ flat_map printed.unit_text units.now) }
+{
+    for u in units {
+        unit(alloc, out, *u)?;
+    }
+    Ok(())
+}
+
+/// A string between its quotes.
+pub fn string(alloc: Global, out: &mut Vec<u8>, text: &[u16]) -> Result<(), AllocError>
+    ensures { OnOk result (out.new.items ≡ out.old.items ++ printed.string_text text.now) }
+{
+    out.push(b'"')?;
+    units(alloc, out, text)?;
+    out.push(b'"')?;
+    Ok(())
+}

@@ -1,0 +1,28 @@
+-- The limits of one graph (this project's own).
+use Rattle.std.specs.Prelude.{ℕ, Bool, false, ◌&&◌, nat_le, List, length, Option, Some, None, is_some}
+use Rattle.std.specs.List.{list_all}
+use Rattle.newt_graph.specs.declared.node.Ref.{Ref}
+use Rattle.newt_graph.specs.declared.node.Node.{Node}
+use Rattle.newt_graph.specs.declared.node.Node.TheVariants.{Symbol, Str, Binary, Large, Array, Frame}
+use Rattle.newt_graph.specs.Graph.{RawGraph, payload}
+use Rattle.newt_graph.specs.Meeting.{normal_form}
+
+-- the slots of an array or a frame
+abbrev pub slots : Node → ℕ
+slots (Array _ values) = length values
+slots (Frame tags _) = length tags
+slots _ = 0
+
+-- at most 65,535 slots, and at most 1,000,000 bytes in a string, a binary or a large binary
+abbrev pub node_within : Node → Bool
+node_within node = nat_le (slots node) 65535 && nat_le (payload node) 1_000_000
+
+-- Each node is within the limits, and there is a normal form: at most 65,535 nodes, 200 arrays and frames open within one another, and
+-- 16,777,216 bytes of strings, binaries and large binaries together.
+abbrev pub within_limits : RawGraph → Bool
+within_limits g = is_some (normal_form g) && list_all node_within g.nodes
+
+-- there is a graph, and it is within the limits
+abbrev pub is_within : Option RawGraph → Bool
+is_within None = false
+is_within (Some g) = within_limits g

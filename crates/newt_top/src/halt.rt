@@ -1,0 +1,21 @@
+//! How the answering of lines goes on, and why it ends early.
+
+/// Whether the script goes on after some lines.
+#[derive(Clone, Copy, Debug, PartialEq, Eq)]
+pub enum Flow {
+    Go,
+    Quit,
+}
+
+/// Why a run ends before its script.
+#[derive(Clone, Copy, Debug, PartialEq, Eq)]
+pub enum Halt {
+    /// Memory was refused.
+    Memory,
+    /// The input failed.
+    Source,
+    /// The output failed.
+    Sink,
+    /// The input has more bytes than are read.
+    TooLong,
+}
