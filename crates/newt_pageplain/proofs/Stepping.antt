@@ -3,12 +3,12 @@ use Rattle.std.proofs.Common.{IsTrue, ◌≡◌, ℕ, ◌+◌, ◌*◌, ◌≤�
 use Rattle.newt_host.specs.Moments.{Moment, MayLeave, image, Leaves}
 use Rattle.newt_host.specs.Outside.{Outside, Touches, Spends, Rose}
 use Rattle.std.specs.List.{flat_map, filter}
-use Rattle.std.specs.Int.{to_be_bytes, w32}
+use Rattle.std.specs.Int.{to_be_bytes, w16, w32}
 use Rattle.std.proofs.lemmas.List.Elements.{filter-append}
 use Rattle.newt_host.proofs.Outside.{Touches-refl, Touches-append, Spends-refl, Spends-append, Spends-widen}
 use Rattle.newt_host.proofs.Moments.{Always-last, Leaves-append, Leaves-weaken, Leaves-start}
 use Rattle.newt_image.specs.Records.{records}
-use Rattle.newt_image.specs.Pages.{written_put, written_delete}
+use Rattle.newt_image.specs.Pages.{Change, written_put, written_delete, written_change}
 use Rattle.newt_journal.specs.Journal.{ReadsAs}
 use Rattle.newt_journal.specs.Draft.{IsDraftOf, unit_of, len_of, put_of, is_switch, payload_of, rest_of}
 use Rattle.newt_journal.specs.declared.draft.Draft.{Draft}
@@ -120,3 +120,13 @@ filter-take p ns i = omega (arith, ap (λ (l : List ℕ). length l) (ap (filter 
 
 pub one_deleted : (b : Bool) (n : ℕ) → b ≡ true → to_be_bytes w32 n ≡ flat_map written_delete (cond b (n ∷ []) [])
 one_deleted b n e = sym (append-nil (to_be_bytes w32 n)) ∙ ap (λ (c : Bool). flat_map written_delete (cond c (n ∷ []) [])) (sym e)
+
+-- the pieces of a payload
+pub written-batch : (change : Change) (puts deletes : ℕ) → puts ≡ length change.puts → deletes ≡ length change.deletes
+    → (to_be_bytes w16 puts ++ to_be_bytes w16 deletes) ++ flat_map written_put change.puts ++ flat_map written_delete change.deletes ≡ written_change change
+unfolding written_change
+written-batch change puts deletes p d = ap (λ (n : ℕ). (to_be_bytes w16 n ++ to_be_bytes w16 deletes) ++ flat_map written_put change.puts ++ flat_map written_delete change.deletes) p
+    ∙ ap (λ (n : ℕ). (to_be_bytes w16 (length change.puts) ++ to_be_bytes w16 n) ++ flat_map written_put change.puts ++ flat_map written_delete change.deletes) d
+
+pub written-all : (puts : List (ℕ × List ℕ)) (count : ℕ) → count ≡ length puts → (to_be_bytes w16 count ++ to_be_bytes w16 0) ++ flat_map written_put puts ≡ written_change (record { puts = puts; deletes = [] })
+written-all puts count is = sym (append-nil ((to_be_bytes w16 count ++ to_be_bytes w16 0) ++ flat_map written_put puts)) ∙ written-batch (record { puts = puts; deletes = [] }) count 0 is refl

@@ -21,7 +21,7 @@ loop-number-init g c =
     record {
       keeps = keeps-start g.H.Host.told (unit_of c.args.draft.now) o c.requires.steady;
       writes = writes-none g.H.Host.told c.args.draft.now o c.requires.draft c.requires.steady;
-      size = refl;
+      put = omega arith;
     }
 
 pub write_put-requires-clause-room : goal.write_put-requires-clause-room
@@ -29,7 +29,7 @@ write_put-requires-clause-room g c =
     let inv = c.loop-number.invariant in
     let start : c.into_iter-number-iterator.result ≡ c.args.pages.now.entries = c.into_iter-number-iterator.ensures.into_iter_gives ∙ c.iter-number-items.ensures.rest in
     let turn = iter_turn deref_pair c.args.pages.now.entries c.loop-number.yielded c.into_iter-number-iterator.result c.loop-number.number-iterator c.next.new.self c.next.result start c.loop-number.yielded_by (c.in-Some.number, c.in-Some.page) c.in-Some.is c.next.ensures.steps in
-    omega (arith, inv.writes.put, inv.writes.len, inv.size, c.requires.room, turn.0)
+    omega (arith, inv.put, inv.writes.len, c.requires.room, turn.0)
 
 pub returns-in_err-write_put-clause-keeps : goal.returns-in_err-write_put-clause-keeps
 returns-in_err-write_put-clause-keeps g c =
@@ -61,7 +61,7 @@ loop-number-preserved g c =
     record {
       keeps = s.keeps;
       writes = s.writes;
-      size = omega (arith, inv.size, long, ap (λ (l : List ℕ). length l) all, length-append (flat_map written_put done) (written_put p), written-size p.0 p.1 c.write_put.ensures.size);
+      put = omega (arith, inv.put, long, c.in_ok-write_put.ensures.ok.put, written-size p.0 p.1 c.write_put.ensures.size);
     }
 
 pub returns-clause-ok : goal.returns-clause-ok
@@ -80,3 +80,9 @@ returns-clause-keeps g c =
     let start : c.into_iter-number-iterator.result ≡ c.args.pages.now.entries = c.into_iter-number-iterator.ensures.into_iter_gives ∙ c.iter-number-items.ensures.rest in
     let end = iter_end deref_pair c.args.pages.now.entries c.loop-number.yielded c.into_iter-number-iterator.result c.loop-number.number-iterator c.next.new.self c.next.result start c.loop-number.yielded_by c.in-None.is c.next.ensures.steps in
     keeps-widen g.H.Host.told (unit_of c.args.draft.now) (516 * length c.loop-number.yielded) (516 * length c.args.pages.now.entries) (o c.args.host.now) (o c.loop-number.host) (omega (arith, end.1)) inv.keeps
+
+pub returns-clause-put : goal.returns-clause-put
+returns-clause-put g c =
+    let start : c.into_iter-number-iterator.result ≡ c.args.pages.now.entries = c.into_iter-number-iterator.ensures.into_iter_gives ∙ c.iter-number-items.ensures.rest in
+    let end = iter_end deref_pair c.args.pages.now.entries c.loop-number.yielded c.into_iter-number-iterator.result c.loop-number.number-iterator c.next.new.self c.next.result start c.loop-number.yielded_by c.in-None.is c.next.ensures.steps in
+    omega (arith, c.loop-number.invariant.put, end.1)

@@ -19,11 +19,11 @@ loop-put-init g c =
     record {
       keeps = keeps-start g.H.Host.told (unit_of c.args.draft.now) o c.requires.steady;
       writes = writes-none g.H.Host.told c.args.draft.now o c.requires.draft c.requires.steady;
-      size = refl;
+      put = omega arith;
     }
 
 pub write_put-requires-clause-room : goal.write_put-requires-clause-room
-write_put-requires-clause-room g c = let inv = c.loop-put.invariant in omega (arith, inv.writes.put, inv.writes.len, inv.size, c.requires.room, c.loop-put-test.true)
+write_put-requires-clause-room g c = let inv = c.loop-put.invariant in omega (arith, inv.put, inv.writes.len, c.requires.room, c.loop-put-test.true)
 
 pub returns-in_err-write_put-clause-keeps : goal.returns-in_err-write_put-clause-keeps
 returns-in_err-write_put-clause-keeps g c =
@@ -50,6 +50,5 @@ loop-put-preserved g c =
     record {
       keeps = s.keeps;
       writes = s.writes;
-      size = omega (arith, inv.size, ap (λ (l : List ℕ). length l) all, length-append (flat_map written_put (take i puts)) (written_put (get_or puts i no_put)),
-          written-size (get_or puts i no_put).0 (get_or puts i no_put).1 c.write_put.ensures.size);
+      put = omega (arith, inv.put, c.in_ok-write_put.ensures.ok.put, written-size (get_or puts i no_put).0 (get_or puts i no_put).1 c.write_put.ensures.size);
     }
