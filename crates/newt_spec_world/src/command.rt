@@ -1,8 +1,8 @@
 //! The commands of a script.
 
 use crate::list::{Parts, Path, Paths, Syms};
-use newt_graph::{Bytes, Graph};
 use newt_base::{Name, Sig, Uid};
+use newt_graph::{Bytes, Graph};
 use newt_host::Unit;
 use newt_spec_store::{Kind, Order};
 
