@@ -30,7 +30,7 @@ pub record Placed (graph : List Node) (total : ℕ → ℕ) (met : ℕ) (rs : Li
 
 -- ---- symbols
 
-symbol_is : (node : Node) → is_symbol node ≡ true → (name : List ℕ) × (node ≡ nodes.Symbol name)
+pub symbol_is : (node : Node) → is_symbol node ≡ true → (name : List ℕ) × (node ≡ nodes.Symbol name)
 symbol_is (nodes.Symbol name) e = (name, refl)
 symbol_is (nodes.Str units) e = absurd cc
 symbol_is (nodes.Binary class bytes) e = absurd cc

@@ -56,7 +56,7 @@ count k rs = count_by (leads_to k) rs
 pub count_cons : (k : ℕ) (r : Ref) (rs : List Ref) → count k (r ∷ rs) ≡ count k (r ∷ []) + count k rs
 count_cons k r rs = let one = sum_by-cons (λ x. cond (leads_to k x) 1 0) r rs in let alone = sum_by-cons (λ x. cond (leads_to k x) 1 0) r [] in omega (arith, one, alone)
 
-count_append : (k : ℕ) (xs ys : List Ref) → count k (xs ++ ys) ≡ count k xs + count k ys
+pub count_append : (k : ℕ) (xs ys : List Ref) → count k (xs ++ ys) ≡ count k xs + count k ys
 count_append k xs ys = sum_by-append (λ x. cond (leads_to k x) 1 0) xs ys
 
 pub count_same : (k : ℕ) → count k (refs.Node k ∷ []) ≡ 1

@@ -1,10 +1,10 @@
 -- What a text writes down is a draft whose references lead to nodes, and whose classes and tags are symbols.
-use Rattle.std.proofs.Common.{◌≡◌, ◌≢◌, ℕ, zero, suc, ◌+◌, ◌<◌, ◌≤◌, Bool, true, false, cond, ltb, leb, eqb, List, [], ◌∷◌, ◌++◌, length, map, set, All, get_or, Option, Some, None, refl, sym, ap, subst, ◌∙◌, append_assoc, arith, inl, inr, ◌⊎◌}
+use Rattle.std.proofs.Common.{◌≡◌, ◌≢◌, ℕ, zero, suc, ◌+◌, ◌<◌, ◌≤◌, Bool, true, false, cond, ltb, leb, eqb, List, [], ◌∷◌, ◌++◌, length, set, All, Option, Some, None, refl, sym, ap, subst, ◌∙◌, append_assoc, arith}
 use Rattle.std.specs.Prelude.{slice_get, ◌&&◌, ◌||◌, not, AllPairs}
 use Rattle.std.specs.List.{list_any, sum_by}
-use Rattle.std.proofs.lemmas.Bool.{leb-true, ltb-true, eqb-true, eqb-false, and_parts, not-true}
+use Rattle.std.proofs.lemmas.Bool.{leb-true, ltb-true, eqb-false, and_parts, not-true}
 use Rattle.std.proofs.lemmas.List.{append-nil, length-append, length_push, length-set, length-map}
-use Rattle.std.proofs.lemmas.List.Elements.{All-nil, All-cons, All-append, All-head, All-tail, All-push, All-set, All-map}
+use Rattle.std.proofs.lemmas.List.Elements.{All-nil, All-cons, All-push, All-set, All-map}
 use Rattle.std.proofs.lemmas.List.Kept.{AllPairs-cons}
 use Rattle.std.proofs.lemmas.Option.{slice_get_within}
 use Rattle.std.proofs.Math.Seq.{set-append_seam}
@@ -12,15 +12,15 @@ use Rattle.newt_graph.specs.declared.node.Node.{Node}
 use Rattle.newt_graph.specs.declared.node.Node.TheVariants as nodes
 use Rattle.newt_graph.specs.declared.node.Ref.{Ref}
 use Rattle.newt_graph.specs.declared.node.Ref.TheVariants as refs
-use Rattle.newt_graph.specs.Graph.{IsName, IsSymbol, IsWord, payload, folded}
+use Rattle.newt_graph.specs.Graph.{IsName, IsSymbol, payload}
 use Rattle.newt_graph.specs.Raw.{IsValue, labels_of}
 use Rattle.newt_graph.specs.Raw.{values_of as refs_of}
-use Rattle.newt_graph.specs.Draft.{IsPart, IsDraft, IsJoinedNode, IsJoined, IsFilling, is_small, find_alike, known, pushed, with_symbol, with_held, with_filled}
+use Rattle.newt_graph.specs.Draft.{IsPart, IsDraft, IsJoinedNode, IsJoined, IsFilling, is_small, find_alike, known, with_symbol, with_held, with_filled}
 use Rattle.newt_graph.proofs.Grows.{get_append, get_seam}
 use Rattle.newt_graph.proofs.Drafts.{held_push, symbol_push, alike_found, part_of_filling, once_set}
 use Rattle.newt_lit.specs.Built.{Built, symbol_in, held, filled, node_of, labelled, all_distinct, tags_of, values_of}
-use Rattle.newt_lit.specs.Grammar.{Mark, Pieces, InString, HexByte, LargeBytes, Name, Immediate, Label, Tag, Kind, Items, Several, Class, Field, Array, Frame, Classed, Leaf, Object, Form, Nothing, Value, Writes}
-use Rattle.newt_lit.proofs.Options.{bind_some, chosen, provided, some_is}
+use Rattle.newt_lit.specs.Grammar.{Kind, Items, Several, Class, Field, Array, Frame, Classed, Leaf, Object, Form, Nothing, Value, Writes}
+use Rattle.newt_lit.proofs.Options.{bind_some, provided, some_is}
 use Rattle.newt_lit_read.proofs.Characters.{name_is, tag_is, bytes_fit, large_bytes_fit, units_fit}
 use Rattle.newt_lit_read.proofs.Immediates.{immediate_is}
 
@@ -89,9 +89,10 @@ symbol_made ns name m is h e = by (find_alike name ns) refl e
         let lt = ltb-true (length ns) 131072 p.0 in
         let all = ns ++ nodes.Symbol name ∷ [] in
         let draft = symbol_push ns all (sum_by payload ns) name is lt none refl (h.draft, refl) in
-        subst (λ (m : ℕ × List Node). Made ns m.1 × IsSymbol m.1 m.0) (some_is _ _ p.1)
-        (record { new = nodes.Symbol name ∷ []; is = refl; holds = held_append ns (nodes.Symbol name) draft.0 h (no_parts all (nodes.Symbol name) refl (All-nil (IsValue (length all)))) },
-        (name, get_seam ns (nodes.Symbol name) []))
+        subst (λ (m : ℕ × List Node). Made ns m.1 × IsSymbol m.1 m.0) (some_is _ _ p.1) (
+          record { new = nodes.Symbol name ∷ []; is = refl; holds = held_append ns (nodes.Symbol name) draft.0 h (no_parts all (nodes.Symbol name) refl (All-nil (IsValue (length all)))) },
+          (name, get_seam ns (nodes.Symbol name) []),
+        )
 
 -- an open node
 abbrev open_node : Node
@@ -127,15 +128,18 @@ filled_made ns n node after vacant filling joined h e =
     let q = and_parts (is_small node) (leb (sum_by payload (set ns n node)) 33554432) p.0 in
     let w = set_wider ns n node vacant in
     let all = set ns n node in
-    subst (λ (after : List Node). (after ≡ all) × IsHeld after) (some_is _ _ p.1) (refl, record {
-      draft = record {
-        few = omega (arith, h.draft.few, length-set ns n node);
-        light = leb-true _ _ q.1;
-        each = All-set IsPart ns n node (part_of_filling node filling q.0) h.draft.each;
-        folded_once = once_set ns n node filling h.draft.folded_once;
-      };
-      each = All-set (IsJoinedNode all) ns n node (node_wider ns all w node joined) (each_wider ns all w ns h.each);
-    })
+    subst (λ (after : List Node). (after ≡ all) × IsHeld after) (some_is _ _ p.1) (
+      refl,
+      record {
+        draft = record {
+          few = omega (arith, h.draft.few, length-set ns n node);
+          light = leb-true _ _ q.1;
+          each = All-set IsPart ns n node (part_of_filling node filling q.0) h.draft.each;
+          folded_once = once_set ns n node filling h.draft.folded_once;
+        };
+        each = All-set (IsJoinedNode all) ns n node (node_wider ns all w node joined) (each_wider ns all w ns h.each);
+      },
+    )
 
 -- ---- what a text has written down
 
@@ -272,7 +276,6 @@ classed_joined ns node k one is values = record {
 array_joined : (ns : List Node) (class : Option ℕ) (values : List Ref) → IsClass ns class → All (IsIn ns) values → IsJoinedNode ns (nodes.Array class values)
 array_joined ns None values is fits = no_parts ns (nodes.Array None values) refl fits
 array_joined ns (Some k) values is fits = classed_joined ns (nodes.Array (Some k) values) k refl is fits
-
 
 in_lasts : Lasts IsIn
 in_lasts a c w v is = value_wider a c w v is

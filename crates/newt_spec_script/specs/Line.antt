@@ -1,16 +1,15 @@
 -- What a line says: a command, a command whose last part is still to be read, or a refusal. The commands are this project's own.
-use Rattle.std.specs.Prelude.{◌≡◌, ℕ, ◌+◌, ◌*◌, ◌^◌, ◌-◌, Bool, true, false, not, ◌&&◌, ◌||◌, ◌==◌, nat_lt, nat_le, List, [], ◌∷◌, ◌++◌, length, take, drop, fold, find, Option, Some, None, Result, Ok, Err, codes, bytes_eq, if◌then◌else◌}
-use Rattle.std.specs.List.{list_all, prefix_len}
+use Rattle.std.specs.Prelude.{ℕ, Bool, true, false, not, ◌==◌, nat_lt, List, [], ◌∷◌, length, take, drop, find, Option, Some, None, Result, Ok, Err, codes, bytes_eq, if◌then◌else◌}
+use Rattle.std.specs.List.{prefix_len}
 use Rattle.newt_base.specs.declared.Refusal.{Refusal}
-use Rattle.newt_base.specs.declared.Refusal.TheVariants.{Longline, Command as NoCommand, Line as NotTheForm, Malformed, Compressed, Literal}
+use Rattle.newt_base.specs.declared.Refusal.TheVariants.{Longline, Command as NoCommand, Line as NotTheForm}
 use Rattle.newt_base.specs.Names.{same_name}
 use Rattle.newt_base.specs.Text.{decimal_value, signed_value}
 use Rattle.newt_graph.specs.Graph.{RawGraph}
-use Rattle.newt_spec_store.specs.Keys.{Path}
 use Rattle.newt_spec_graph.specs.Lists.{all_apart}
 use Rattle.newt_spec_world.specs.declared.command.Command.{Command}
 use Rattle.newt_spec_world.specs.declared.command.Command.TheVariants as command
-use Rattle.newt_spec_script.specs.Words.{Reader, is_blank, skip_blanks, trimmed, word, of1, of2, of3, of4, of5, of6, decimal_to, unit_digit, name, path, part, symbol, several, words}
+use Rattle.newt_spec_script.specs.Words.{Reader, is_blank, skip_blanks, trimmed, word, of1, of2, of3, of4, of5, of6, decimal_to, unit_digit, name, path, part, symbol, several}
 
 -- ---- the forms of single words
 

@@ -1,6 +1,6 @@
 -- A script: its lines, what they give, and the output. All of it is this project's own.
-use Rattle.std.specs.Prelude.{◌≡◌, ◌⊎◌, ℕ, ◌+◌, ◌*◌, ◌-◌, Bool, true, false, not, ◌==◌, List, [], ◌∷◌, ◌++◌, map, flat_map, filter_map, Option, Some, None, option_map, option_and_then, Result, Ok, Err, ⊤, nat_lt, take}
-use Rattle.std.specs.List.{AllZip, prefix_len}
+use Rattle.std.specs.Prelude.{◌≡◌, ◌⊎◌, ℕ, Bool, true, false, ◌==◌, List, [], ◌∷◌, map, flat_map, filter_map, Option, Some, None, Result, Ok, Err, take}
+use Rattle.std.specs.List.{AllZip}
 use Rattle.newt_base.specs.Text.{hex_bytes}
 use Rattle.newt_base.specs.declared.Refusal.{Refusal}
 use Rattle.newt_base.specs.declared.Refusal.TheVariants.{Malformed, Compressed, Literal}

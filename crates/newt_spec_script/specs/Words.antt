@@ -1,7 +1,6 @@
 -- The words of a line, and the readers of them. The forms are this project's own.
-use Rattle.std.specs.Prelude.{ℕ, ◌+◌, ◌-◌, ◌*◌, ◌^◌, Bool, true, false, not, ◌&&◌, ◌||◌, ◌==◌, nat_lt, nat_le, List, [], ◌∷◌, ◌++◌, length, reverse, take, filter, fold, map, Option, Some, None, option_map, option_and_then, Result, Ok, Err, ℤ, pos, negsuc, neg_ℤ, if◌then◌else◌, codes, bytes_eq, pred, drop}
-use Rattle.std.specs.List.{list_all, prefix_len, list_any, position, before_first, after_first}
-use Rattle.std.specs.Char.{is_ascii_digit}
+use Rattle.std.specs.Prelude.{ℕ, ◌+◌, ◌-◌, Bool, true, false, not, ◌&&◌, ◌||◌, ◌==◌, nat_le, List, [], ◌∷◌, length, reverse, take, filter, map, Option, Some, None, option_map, option_and_then, Result, Ok, Err, if◌then◌else◌, codes, bytes_eq, drop}
+use Rattle.std.specs.List.{list_all, prefix_len}
 use Rattle.newt_base.specs.declared.Refusal.{Refusal}
 use Rattle.newt_base.specs.declared.Refusal.TheVariants.{Line as NotTheForm}
 use Rattle.newt_base.specs.Names.{is_name}
