@@ -1,5 +1,5 @@
 -- Why a run halts that answers lines.
-use Rattle.std.proofs.Common.{◌≡◌, ℕ, ◌≤◌, List, [], ◌++◌, take, Result, Ok, Err, OnErr, IfErr, sym, ◌∙◌, ap, append-nil, arith}
+use Rattle.std.proofs.Common.{◌≡◌, ℕ, ◌<◌, ◌≤◌, List, [], ◌++◌, length, take, refl, Result, Ok, Err, OnErr, IfErr, sym, ◌∙◌, ap, append-nil, arith}
 use Rattle.newt_top.specs.Stream.{WroteSome}
 use Rattle.newt_top.specs.Run.{output, Halted}
 use Rattle.newt_top.specs.Causes.{HasCause, HasReadCause, HasWriteCause}
