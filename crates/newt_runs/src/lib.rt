@@ -4,8 +4,6 @@
 #![tactic(auto)]
 
 #[cfg(test)]
-mod conversions;
-#[cfg(test)]
 mod faults;
 #[cfg(test)]
 mod limits;
