@@ -1,6 +1,5 @@
 -- What is made of an input that is taken as a whole.
-use Rattle.std.specs.Prelude.{◌≡◌, ℕ, ◌<◌, List, [], ◌++◌, length, Result, Ok, Err}
-use Rattle.newt_base.specs.declared.Refusal.{Refusal}
+use Rattle.std.specs.Prelude.{◌≡◌, ℕ, ◌<◌, List, [], length, Result, Ok, Err}
 use Rattle.newt_base.specs.declared.Refusal.TheVariants as refusals
 use Rattle.newt_graph.specs.Graph.{RawGraph}
 use Rattle.newt_lit_read.specs.declared.fault.LitFault.{LitFault}
@@ -10,7 +9,6 @@ use Rattle.newt_nsof_read.specs.Reading.{decoded}
 use Rattle.newt_nsof_read.specs.declared.fault.NsofFault.{NsofFault}
 use Rattle.newt_nsof_read.specs.declared.fault.NsofFault.TheVariants as nsof_faults
 use Rattle.newt_reply.specs.Texts.{reply_text}
-use Rattle.newt_reply.specs.declared.reply.Reply.{Reply}
 use Rattle.newt_reply.specs.declared.reply.Reply.TheVariants as replies
 use Rattle.newt_script.specs.Graphs.{literal_of}
 use Rattle.newt_top.specs.Stream.{WroteSome}
