@@ -1,5 +1,5 @@
 -- Tokens from left to right: a value and the characters after it, or none.
-use Rattle.std.specs.Prelude.{◌≡◌, ℕ, zero, suc, ◌+◌, ◌*◌, ◌%◌, Bool, true, false, not, ◌&&◌, ◌||◌, ◌==◌, nat_lt, nat_le, List, [], ◌∷◌, ◌++◌, length, take, drop, replicate, Option, Some, None, if◌then◌else◌, ℤ, pos, neg_ℤ, codes, bytes_eq}
+use Rattle.std.specs.Prelude.{ℕ, zero, suc, ◌+◌, ◌*◌, ◌%◌, ◌&&◌, ◌||◌, ◌==◌, nat_lt, nat_le, List, [], ◌∷◌, ◌++◌, length, take, drop, replicate, Option, Some, None, if◌then◌else◌, ℤ, pos, neg_ℤ, codes, bytes_eq}
 use Rattle.std.specs.Int.{w32, cast_signed}
 use Rattle.std.specs.List.{list_all}
 use Rattle.std.specs.Char.{is_ascii_hexdigit}
@@ -93,7 +93,7 @@ escaped_in_string (c ∷ rest) = if (c == 34) || (c == 92) then Some (c, rest) e
 
 unfoldable pub next_in_string : Next
 next_in_string [] = None
-next_in_string (c ∷ rest) = if c == 34 then Some (None, rest) else if c == 92 then piece (escaped_in_string rest) else if nat_lt c 32 then None else Some (Some c, rest)
+next_in_string (c ∷ rest) = if c == 34 then Some (None, rest) else if c == 92 then piece (escaped_in_string rest) else if nat_lt c 32 then None else if nat_le c 1_114_111 then Some (Some c, rest) else None
 
 unfoldable pub next_byte : Next
 next_byte [] = None

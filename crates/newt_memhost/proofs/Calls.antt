@@ -1,0 +1,20 @@
+-- What stands after one call on a card.
+use Rattle.std.proofs.Common.{◌≡◌, ℕ, ◌+◌, ◌≤◌, true, false, List, ◌∷◌, length, take, drop, Result, Ok, Err, IsOk, is_err, refl, sym, ◌∙◌, ap, subst, arith}
+use Rattle.std.proofs.lemmas.Bool.{false≢true}
+use Rattle.newt_host.specs.Moments.{Change, Wrote, Synced, On, Moment, overwritten, bytes_after, changes, IsHistory}
+use Rattle.newt_host.proofs.Moments.{changes-same}
+use Rattle.newt_host.proofs.Ranges.{same-refl, same-is-overwritten}
+
+pub not_both : {T E : Type 0} (r : Result T E) → is_err r ≡ true → IsOk r → ⊥
+not_both (Ok x) err ok = false≢true err
+not_both (Err e) err ok = false≢true ok
+
+-- a range that is written as it was
+pub overwritten-same : (a : List ℕ) (at n : ℕ) → at + n ≤ length a → overwritten a at (take n (drop at a)) ≡ a
+overwritten-same a at n fits = sym (same-is-overwritten at n a a fits (same-refl at n a))
+
+pub stands-wrote : (unit at size : ℕ) (reads held next : List ℕ) (m now : Moment) → now ≡ On unit (Wrote at reads) ∷ m → at + length reads ≤ size → overwritten held at reads ≡ next
+    → (bytes_after (changes unit m) ≡ held) × IsHistory size (changes unit m) → (bytes_after (changes unit now) ≡ next) × IsHistory size (changes unit now)
+stands-wrote unit at size reads held next m now is fits written stood =
+    let same : changes unit now ≡ Wrote at reads ∷ changes unit m = ap (λ (k : Moment). changes unit k) is ∙ changes-same unit (Wrote at reads) m in
+    (ap bytes_after same ∙ ap (λ (l : List ℕ). overwritten l at reads) stood.0 ∙ written, subst (λ (done : List Change). IsHistory size done) (sym same) (stood.1, fits))

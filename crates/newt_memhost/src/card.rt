@@ -1,0 +1,53 @@
+//! Devices, and the units that have them.
+ghost use Rattle.std.specs.Prelude.{◌≡◌, ◌*◌, ◌/◌, ◌<◌, ◌^◌, [], false, length};
+
+use std::alloc::Global;
+
+/// A device that no unit has yet: its name and its bytes, with a copy of them to be written and one for the log, so that an attach takes no memory.
+#[derive(Drop)]
+pub struct Device {
+    pub name: Vec<u8>,
+    pub first: Vec<u8>,
+    pub held: Vec<u8>,
+    pub logged: Vec<u8>,
+    ghost held_is: { held.items ≡ first.items },
+    ghost logged_is: { logged.items ≡ first.items },
+    ghost whole: { length first.items ≡ length first.items / 4096 * 4096 },
+    ghost few: { length first.items / 4096 < 2 ^ 32 },
+}
+
+/// A unit, with the bytes of its device at the attach and now, and with its counts. Without a device it has none.
+#[derive(Drop)]
+pub struct Card {
+    pub attached: bool,
+    pub name: Vec<u8>,
+    pub first: Vec<u8>,
+    pub held: Vec<u8>,
+    pub faults: u64,
+    pub programmed: u64,
+    pub fetched: u64,
+    ghost size: { length held.items ≡ length first.items },
+    ghost whole: { length first.items ≡ length first.items / 4096 * 4096 },
+    ghost few: { length first.items / 4096 < 2 ^ 32 },
+}
+
+impl Card {
+    /// No device.
+    pub fn new(alloc: Global) -> Self
+        ensures attached { result.attached ≡ false }
+        ensures first { result.first.items ≡ [] }
+        ensures faults { result.faults ≡ 0 }
+        ensures programmed { result.programmed ≡ 0 }
+        ensures fetched { result.fetched ≡ 0 }
+    {
+        Card {
+            attached: false,
+            name: Vec::new(alloc),
+            first: Vec::new(alloc),
+            held: Vec::new(alloc),
+            faults: 0,
+            programmed: 0,
+            fetched: 0,
+        }
+    }
+}

@@ -1,0 +1,98 @@
+//! The host's past, in room that can be taken beforehand.
+ghost use Rattle.std.specs.Prelude.{◌≡◌, ◌+◌, ◌-◌, ◌≤◌, ◌<◌, ◌++◌, ◌∷◌, [], length, IsTrue, vec_len, vec_capacity};
+ghost use Rattle.newt_memhost.specs.Happened.{after, bytes_of, calls_in, counts, total};
+
+use crate::happened::Happened;
+use newt_host::Unit;
+use std::alloc::Global;
+
+/// What has happened, the oldest first, and a store of the bytes that were written or printed.
+#[derive(Drop)]
+pub struct Log {
+    pub entries: Vec<Happened>,
+    pub store: Vec<u8>,
+    pub calls: u64,
+    ghost counted: { calls_in entries.items ≡ calls },
+    ghost used: { total entries.items ≡ length store.items },
+}
+
+// Adds an entry for which there is room.
+fn push(entries: &mut Vec<Happened>, entry: Happened)
+    requires { vec_len entries.old < vec_capacity entries.old }
+    ensures items { entries.new.items ≡ entries.old.items ++ entry ∷ [] }
+    ensures more { vec_capacity entries.old ≤ vec_capacity entries.new }
+{
+    let _added = entries.push(entry);
+}
+
+// Adds bytes for which there is room.
+fn extend(store: &mut Vec<u8>, bytes: &[u8])
+    requires { vec_len store.old + length bytes.now ≤ vec_capacity store.old }
+    ensures items { store.new.items ≡ store.old.items ++ bytes.now }
+    ensures more { vec_capacity store.old ≤ vec_capacity store.new }
+{
+    let _added = store.extend_from_slice(bytes);
+}
+
+impl Log {
+    ghost use Rattle.newt_host.specs.Moments.{Attached, On};
+    ghost use Rattle.newt_memhost.specs.Log.{HasRoom, now_of};
+    ghost use Rattle.newt_memhost.specs.declared.happened.Happened.TheVariants.{Attach};
+
+    /// Nothing has happened.
+    pub fn new(alloc: Global) -> Self
+        ensures entries { result.entries.items ≡ [] }
+        ensures store { result.store.items ≡ [] }
+        ensures calls { result.calls ≡ 0 }
+    {
+        Log {
+            entries: Vec::new(alloc),
+            store: Vec::new(alloc),
+            calls: 0,
+        }
+    }
+
+    /// Makes room for so many entries and bytes more, and answers whether there is that room.
+    pub fn reserve(&mut self, entries: usize, bytes: usize) -> bool
+        ensures same_entries { self.new.entries.items ≡ self.old.entries.items }
+        ensures same_store { self.new.store.items ≡ self.old.store.items }
+        ensures calls { self.new.calls ≡ self.old.calls }
+        ensures moment { now_of self.new ≡ now_of self.old }
+        ensures more_entries { vec_capacity self.old.entries ≤ vec_capacity self.new.entries }
+        ensures more_bytes { vec_capacity self.old.store ≤ vec_capacity self.new.store }
+        ensures room { IsTrue result → HasRoom entries bytes self.new }
+        ensures there { HasRoom entries bytes self.old → IsTrue result }
+    {
+        self.entries.reserve(entries).is_ok() && self.store.reserve(bytes).is_ok()
+    }
+
+    /// Adds a call with its bytes, for which there is room.
+    pub fn add(&mut self, entry: Happened, bytes: &[u8])
+        requires call { counts entry ≡ 1 }
+        requires its { bytes_of entry ≡ length bytes.now }
+        requires room { vec_len self.old.entries < vec_capacity self.old.entries }
+        requires bytes { vec_len self.old.store + length bytes.now ≤ vec_capacity self.old.store }
+        ensures entries { self.new.entries.items ≡ self.old.entries.items ++ entry ∷ [] }
+        ensures store { self.new.store.items ≡ self.old.store.items ++ bytes.now }
+        ensures calls { self.new.calls ≡ self.old.calls + 1 }
+        ensures more_entries { vec_capacity self.old.entries ≤ vec_capacity self.new.entries }
+        ensures more_bytes { vec_capacity self.old.store ≤ vec_capacity self.new.store }
+        ensures moment { now_of self.new ≡ after entry bytes.now (now_of self.old) }
+    {
+        push(&mut self.entries, entry);
+        extend(&mut self.store, bytes);
+        self.calls += 1;
+    }
+
+    /// Adds an attach, for which there is room.
+    pub fn attach(&mut self, unit: Unit, first: Vec<u8>)
+        requires { vec_len self.old.entries < vec_capacity self.old.entries }
+        ensures entries { self.new.entries.items ≡ self.old.entries.items ++ Attach unit first ∷ [] }
+        ensures store { self.new.store ≡ self.old.store }
+        ensures calls { self.new.calls ≡ self.old.calls }
+        ensures more_entries { vec_capacity self.old.entries ≤ vec_capacity self.new.entries }
+        ensures moment { now_of self.new ≡ On unit (Attached first.items) ∷ now_of self.old }
+    {
+        push(&mut self.entries, Happened::Attach(unit, first));
+    }
+}

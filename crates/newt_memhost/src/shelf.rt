@@ -1,0 +1,50 @@
+//! Devices that no unit has yet, and how a unit gets one.
+ghost use Rattle.std.specs.Prelude.{◌≡◌, ◌≤◌, ◌<◌, ◌+◌, ◌∷◌, length, None, MatchOption, vec_len, vec_capacity};
+ghost use Rattle.newt_host.specs.Moments.{Attached, On};
+ghost use Rattle.newt_memhost.specs.Cards.{free_device};
+ghost use Rattle.newt_memhost.specs.Calls.{HasMoved, IsPlaceOf};
+ghost use Rattle.newt_memhost.specs.Log.{now_of};
+
+use crate::card::{Card, Device};
+use crate::log::Log;
+use newt_host::Unit;
+
+/// The place of the first device of a name.
+pub fn find(shelf: &[Device], name: &[u8]) -> Option<usize>
+    ensures { MatchOption result (free_device name.now shelf.now ≡ None) (IsPlaceOf name.now shelf.now) }
+{
+    for (place, device) in shelf.iter().enumerate() {
+        if device.name.as_slice() == name {
+            return Some(place);
+        }
+    }
+    None
+}
+
+/// Gives a device to a unit that has none.
+pub fn give(card: &mut Card, log: &mut Log, unit: Unit, device: Device)
+    requires { vec_len log.old.entries < vec_capacity log.old.entries }
+    ensures card { HasMoved device card.old card.new }
+    ensures moment { now_of log.new ≡ On unit (Attached device.first.items) ∷ now_of log.old }
+    ensures calls { log.new.calls ≡ log.old.calls }
+    ensures entries { vec_len log.new.entries ≡ vec_len log.old.entries + 1 }
+    ensures more_entries { vec_capacity log.old.entries ≤ vec_capacity log.new.entries }
+    ensures store { log.new.store ≡ log.old.store }
+{
+    let Device {
+        name,
+        first,
+        held,
+        logged,
+    } = device;
+    log.attach(unit, logged);
+    *card = Card {
+        attached: true,
+        name,
+        first,
+        held,
+        faults: card.faults,
+        programmed: card.programmed,
+        fetched: card.fetched,
+    };
+}

@@ -1,0 +1,164 @@
+//! Calls on one unit that has a device.
+ghost use Rattle.std.specs.Prelude.{◌≡◌, ◌+◌, ◌*◌, ◌≤◌, ◌<◌, ◌⊎◌, [], true, length, take, drop, OnOk, OnErr};
+ghost use Rattle.newt_host.specs.Moments.{changes};
+ghost use Rattle.newt_host.specs.Outside.{Rose, Syncs, Writes, blank};
+ghost use Rattle.newt_memhost.specs.Calls.{Keeps, OnCard};
+ghost use Rattle.newt_memhost.specs.Cards.{StandsAs};
+ghost use Rattle.newt_memhost.specs.Happened.{after, bytes_of, counts};
+ghost use Rattle.newt_memhost.specs.Log.{HasRoom, now_of};
+
+use crate::card::Card;
+use crate::happened::Happened;
+use crate::log::Log;
+use crate::parts::count;
+use newt_host::{Failed, Unit};
+
+/// Keeps a call that writes nothing.
+pub fn keep(log: &mut Log, waiting: usize, fails: bool, entry: Happened) -> Result<(), Failed>
+    requires call { counts entry ≡ 1 }
+    requires quiet { bytes_of entry ≡ 0 }
+    requires waits { HasRoom waiting 0 log.old }
+    ensures event { (now_of log.new ≡ now_of log.old) ⊎ (now_of log.new ≡ after entry [] (now_of log.old)) }
+    ensures kept { Keeps waiting 0 fails (HasRoom (waiting + 1) 0 log.old) result log.old log.new }
+{
+    if !log.reserve(waiting + 1, 0) {
+        return Err(Failed);
+    }
+    log.add(entry, &[]);
+    if fails {
+        return Err(Failed);
+    }
+    Ok(())
+}
+
+// Puts bytes into a range of the card, or only into the log where it fails.
+fn write(
+    card: &mut Card,
+    log: &mut Log,
+    waiting: usize,
+    fails: bool,
+    unit: Unit,
+    at: usize,
+    bytes: &[u8],
+) -> Result<(), Failed>
+    requires inside { at + length bytes.now ≤ length card.old.held.items }
+    requires waits { HasRoom waiting 0 log.old }
+    ensures event { Writes unit at bytes.now result (now_of log.old) (now_of log.new) }
+    ensures stands { StandsAs true card.old (changes unit (now_of log.old)) → StandsAs true card.new (changes unit (now_of log.new)) }
+    ensures kept { Keeps waiting (length bytes.now) fails (HasRoom (waiting + 1) (length bytes.now) log.old) result log.old log.new }
+    ensures card { OnCard 0 0 card.old card.new }
+    ensures cause { OnErr result (Rose card.old.faults card.new.faults) }
+{
+    if !log.reserve(waiting + 1, bytes.len()) {
+        count(&mut card.faults);
+        return Err(Failed);
+    }
+    let end = at + bytes.len();
+    if fails {
+        log.add(Happened::Write(unit, at, bytes.len()), &card.held[at..end]);
+        count(&mut card.faults);
+        return Err(Failed);
+    }
+    log.add(Happened::Write(unit, at, bytes.len()), bytes);
+    card.held[at..end].copy_from_slice(bytes);
+    Ok(())
+}
+
+/// Programs a range, whatever it reads.
+pub fn program(
+    card: &mut Card,
+    log: &mut Log,
+    waiting: usize,
+    fails: bool,
+    unit: Unit,
+    at: usize,
+    bytes: &[u8],
+) -> Result<(), Failed>
+    requires inside { at + length bytes.now ≤ length card.old.held.items }
+    requires waits { HasRoom waiting 0 log.old }
+    ensures event { Writes unit at bytes.now result (now_of log.old) (now_of log.new) }
+    ensures stands { StandsAs true card.old (changes unit (now_of log.old)) → StandsAs true card.new (changes unit (now_of log.new)) }
+    ensures kept { Keeps waiting (length bytes.now) fails (HasRoom (waiting + 1) (length bytes.now) log.old) result log.old log.new }
+    ensures card { OnCard (length bytes.now) 0 card.old card.new }
+    ensures cause { OnErr result (Rose card.old.faults card.new.faults) }
+{
+    write(card, log, waiting, fails, unit, at, bytes)?;
+    card.programmed = card.programmed.saturating_add(bytes.len() as u64);
+    Ok(())
+}
+
+/// Erases a block.
+pub fn erase(
+    card: &mut Card,
+    log: &mut Log,
+    waiting: usize,
+    fails: bool,
+    unit: Unit,
+    block: usize,
+) -> Result<(), Failed>
+    requires inside { block * 4096 + 4096 ≤ length card.old.held.items }
+    requires waits { HasRoom waiting 0 log.old }
+    ensures event { Writes unit (block * 4096) (blank 4096) result (now_of log.old) (now_of log.new) }
+    ensures stands { StandsAs true card.old (changes unit (now_of log.old)) → StandsAs true card.new (changes unit (now_of log.new)) }
+    ensures kept { Keeps waiting 4096 fails (HasRoom (waiting + 1) 4096 log.old) result log.old log.new }
+    ensures card { OnCard 0 0 card.old card.new }
+    ensures cause { OnErr result (Rose card.old.faults card.new.faults) }
+{
+    write(card, log, waiting, fails, unit, block * 4096, &[255; 4096])
+}
+
+/// Makes sure of the unit.
+pub fn sync(
+    card: &mut Card,
+    log: &mut Log,
+    waiting: usize,
+    fails: bool,
+    unit: Unit,
+) -> Result<(), Failed>
+    requires { HasRoom waiting 0 log.old }
+    ensures event { Syncs unit result (now_of log.old) (now_of log.new) }
+    ensures stands { StandsAs true card.old (changes unit (now_of log.old)) → StandsAs true card.new (changes unit (now_of log.new)) }
+    ensures kept { Keeps waiting 0 fails (HasRoom (waiting + 1) 0 log.old) result log.old log.new }
+    ensures card { OnCard 0 0 card.old card.new }
+    ensures cause { OnErr result (Rose card.old.faults card.new.faults) }
+{
+    if !log.reserve(waiting + 1, 0) {
+        count(&mut card.faults);
+        return Err(Failed);
+    }
+    log.add(Happened::Sync(unit, !fails), &[]);
+    if fails {
+        count(&mut card.faults);
+        return Err(Failed);
+    }
+    Ok(())
+}
+
+/// Fills a buffer with what a range holds.
+pub fn read(
+    card: &mut Card,
+    log: &mut Log,
+    waiting: usize,
+    fails: bool,
+    unit: Unit,
+    at: usize,
+    buf: &mut [u8],
+) -> Result<(), Failed>
+    requires inside { at + length buf.old ≤ length card.old.held.items }
+    requires waits { HasRoom waiting 0 log.old }
+    ensures bytes { OnOk result (buf.new ≡ take (length buf.old) (drop at card.old.held.items)) }
+    ensures moment { now_of log.new ≡ now_of log.old }
+    ensures held { card.new.held.items ≡ card.old.held.items }
+    ensures kept { Keeps waiting 0 fails (HasRoom (waiting + 1) 0 log.old) result log.old log.new }
+    ensures card { OnCard 0 (length buf.old) card.old card.new }
+    ensures cause { OnErr result (Rose card.old.faults card.new.faults) }
+{
+    if keep(log, waiting, fails, Happened::Read(unit)).is_err() {
+        count(&mut card.faults);
+        return Err(Failed);
+    }
+    let end = at + buf.len();
+    buf.copy_from_slice(&card.held[at..end]);
+    card.fetched = card.fetched.saturating_add(buf.len() as u64);
+    Ok(())
+}
