@@ -2,8 +2,12 @@
 use Rattle.std.proofs.Common.{◌≡◌, ◌≢◌, ℕ, zero, suc, ◌+◌, ◌<◌, ◌≤◌, Bool, true, false, cond, eqb, List, [], ◌∷◌, ◌++◌, length, map, get_or, Option, Some, None, refl, sym, ap, ◌∙◌, subst, arith, inl, inr, ◌⊎◌, add-zero, zero-add, AllPairs}
 use Rattle.std.specs.Prelude.{slice_get, flat_map}
 use Rattle.std.specs.List.{range_with_len}
+use Rattle.std.specs.Str.{chars, IsAscii}
 use Rattle.std.proofs.lemmas.Bool.{eqb-true, eqb-false, eq-eqb, ne_eqb}
 use Rattle.std.proofs.lemmas.List.{append-nil, length-map}
+use Rattle.std.proofs.lemmas.List.Elements.{All-weaker}
+use Rattle.std.proofs.lemmas.Str.{chars-IsAscii}
+use Rattle.std.proofs.lemmas.Str.Ascii.{IsAscii-from_all}
 use Rattle.std.proofs.lemmas.Option.{slice_get_cases, slice_get_within}
 use Rattle.newt_graph.specs.declared.node.Node.{Node}
 use Rattle.newt_graph.specs.declared.node.Node.TheVariants as nodes
@@ -19,6 +23,7 @@ use Rattle.newt_lit.proofs.Labels.{graph_told, node_rules, labels_apart, label_l
 use Rattle.newt_lit.proofs.Law.{told_writes}
 use Rattle.newt_lit.proofs.Lists.{get_either}
 use Rattle.newt_lit.proofs.Objects.{IsPrinted}
+use Rattle.newt_lit.proofs.Plain.{literal_plain}
 use Rattle.newt_lit.proofs.Stands.{Stands}
 use Rattle.newt_lit.proofs.Telling.{symbol_is}
 use Rattle.newt_lit.proofs.Walked.{parts, count, count_cons, count_append, named}
@@ -294,3 +299,9 @@ module _ (g : RawGraph) (is : IsGraph g) (w : Written g) where
 -- the printed text of a graph is a literal of this graph
 pub literal_reads : (g : RawGraph) → IsGraph g → Reads (literal g) g
 literal_reads g is = reads_from g is (written g is)
+
+-- so it is read, also as the characters of its bytes
+pub text_reads : (g : RawGraph) → IsGraph g → Reads (chars (literal g)) g
+text_reads g is =
+    let ascii : IsAscii (literal g) = IsAscii-from_all (literal g) (All-weaker (λ c. (32 ≤ c) × (c < 127)) (λ c. c < 128) (λ c h. omega (arith, h.1)) (literal g) (literal_plain g is)) in
+    subst (λ (text : List ℕ). Reads text g) (sym (chars-IsAscii (literal g) ascii)) (literal_reads g is)

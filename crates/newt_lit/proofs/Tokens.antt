@@ -129,7 +129,7 @@ plain_piece u lt low = go (eqb 34 u) refl (eqb 92 u) refl
     go true e backslash f = let same : 34 ≡ u = eqb-true 34 u e in subst (λ (x : ℕ). InString (escaped (codes "\"\\") x) (x ∷ [])) same InString.quote
     go false e true f = let same : 92 ≡ u = eqb-true 92 u f in subst (λ (x : ℕ). InString (escaped (codes "\"\\") x) (x ∷ [])) same InString.backslash
     go false e false f =
-        let plain : is_quoted u ≡ true = rw (le-leb 32 u low, ne_eqb u 34 (λ same. eqb-false 34 u e (sym same)), ne_eqb u 92 (λ same. eqb-false 92 u f (sym same))) refl in
+        let plain : is_quoted u ≡ true = rw (le-leb 32 u low, le-leb u 1114111 (omega (arith, lt)), ne_eqb u 34 (λ same. eqb-false 34 u e (sym same)), ne_eqb u 92 (λ same. eqb-false 92 u f (sym same))) refl in
         let one : units_of u ≡ u ∷ [] = rw (lt-ltb u 65536 lt) refl in
         rw (e, f) (subst (λ (units : List ℕ). InString (u ∷ []) units) one (InString.plain plain))
 

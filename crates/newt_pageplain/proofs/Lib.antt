@@ -1,0 +1,4 @@
+pub mod Maps
+pub mod Counts
+pub mod Payloads
+pub mod Stepping

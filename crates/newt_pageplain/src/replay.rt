@@ -9,11 +9,11 @@ use std::alloc::{AllocError, Global};
 use std::collections::HashSet;
 
 // The number in two bytes.
-fn short(bytes: &[u8], at: usize) -> usize
+fn short(bytes: &[u8], at: usize) -> u16
     requires { at + 2 ≤ length bytes.now }
     ensures { result ≡ short_at at bytes.now }
 {
-    usize::from(u16::from_be_bytes([bytes[at], bytes[at + 1]]))
+    u16::from_be_bytes([bytes[at], bytes[at + 1]])
 }
 
 // The number in four bytes.
@@ -102,7 +102,8 @@ fn is_whole(payload: &[u8]) -> bool
     ensures { IsTrue result ↔ (length payload.now ≡ 4 + 516 * short_at 0 payload.now + 4 * short_at 2 payload.now) }
 {
     payload.len() >= 4
-        && payload.len() == 4 + 516 * short(payload, 0) + 4 * short(payload, 2)
+        && payload.len()
+            == 4 + 516 * usize::from(short(payload, 0)) + 4 * usize::from(short(payload, 2))
 }
 
 /// The change that a payload says, or none.
@@ -113,8 +114,8 @@ pub(crate) fn read_change(alloc: Global, payload: &[u8]) -> Result<Option<Batch>
     if !is_whole(payload) {
         return Ok(None);
     }
-    let puts = short(payload, 0);
-    let deletes = short(payload, 2);
+    let puts = usize::from(short(payload, 0));
+    let deletes = usize::from(short(payload, 2));
     let mut batch = Batch::new(alloc);
     let mut seen = HashSet::new(alloc);
     if !read_puts(payload, puts, &mut batch, &mut seen)? {
@@ -123,5 +124,7 @@ pub(crate) fn read_change(alloc: Global, payload: &[u8]) -> Result<Option<Batch>
     if !read_deletes(payload, puts, deletes, &mut batch, &mut seen)? {
         return Ok(None);
     }
+    // What holds of every batch holds of this one.
+    let _puts = batch.puts();
     Ok(Some(batch))
 }

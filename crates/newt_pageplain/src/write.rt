@@ -8,9 +8,9 @@ ghost use Rattle.newt_image.specs.Pages.{written_put, written_delete, written_ch
 ghost use Rattle.newt_image.specs.Records.{records, tail, bank_size};
 ghost use Rattle.newt_journal.specs.Journal.{room, Stands, appended, ReadsAsEither};
 ghost use Rattle.newt_journal.specs.Draft.{IsDraftOf, unit_of, len_of, put_of};
-ghost use Rattle.newt_pagebook.specs.Batch.{IsBatch};
+ghost use Rattle.newt_pagebook.specs.Book.{IsOpenFor};
 ghost use Rattle.newt_pageplain.specs.Kept.{AreSound, is_kept, needed, all_of};
-ghost use Rattle.newt_pageplain.specs.Steps.{Keeps, WritesMore};
+ghost use Rattle.newt_pageplain.specs.Steps.{IsSteady, Keeps, WritesMore};
 
 use crate::apply::Kept;
 use newt_host::{Failed, Host};
@@ -51,7 +51,7 @@ fn write_counts<H: Host>(
 ) -> Result<(), Failed>
     requires room { put_of draft.old + 4 ≤ len_of draft.old }
     requires draft { IsDraftOf H.told draft.old (H.outside host.old) }
-    ensures ok { OnOk result (WritesMore H.told (to_be_bytes w16 puts ++ to_be_bytes w16 deletes) draft.old draft.new (H.outside host.old) (H.outside host.new)) }
+    ensures ok { OnOk result (WritesMore H.told (unit_of draft.old) (to_be_bytes w16 puts ++ to_be_bytes w16 deletes) draft.old draft.new (H.outside host.old) (H.outside host.new)) }
     ensures keeps { Keeps H.told (unit_of draft.old) 4 (H.outside host.old) (H.outside host.new) }
     ensures cause { OnErr result (Rose ((H.outside host.old).dev_faults (unit_of draft.old)) ((H.outside host.new).dev_faults (unit_of draft.old))) }
 {
@@ -69,8 +69,9 @@ fn write_put<H: Host>(
 ) -> Result<(), Failed>
     requires room { put_of draft.old + 516 ≤ len_of draft.old }
     requires draft { IsDraftOf H.told draft.old (H.outside host.old) }
-    ensures ok { OnOk result (WritesMore H.told (written_put (number, page.now)) draft.old draft.new (H.outside host.old) (H.outside host.new)) }
+    ensures ok { OnOk result (WritesMore H.told (unit_of draft.old) (written_put (number, page.now)) draft.old draft.new (H.outside host.old) (H.outside host.new)) }
     ensures keeps { Keeps H.told (unit_of draft.old) 516 (H.outside host.old) (H.outside host.new) }
+    ensures size { length page.now ≡ 512 }
     ensures cause { OnErr result (Rose ((H.outside host.old).dev_faults (unit_of draft.old)) ((H.outside host.new).dev_faults (unit_of draft.old))) }
 {
     draft.put(host, &number.to_be_bytes())?;
@@ -86,7 +87,9 @@ fn write_puts<H: Host>(
 ) -> Result<(), Failed>
     requires room { put_of draft.old + 516 * length puts.now ≤ len_of draft.old }
     requires draft { IsDraftOf H.told draft.old (H.outside host.old) }
-    ensures ok { OnOk result (WritesMore H.told (flat_map written_put puts.now) draft.old draft.new (H.outside host.old) (H.outside host.new)) }
+    requires steady { IsTrue H.told → IsSteady (unit_of draft.old) (H.outside host.old).now }
+    ensures ok { OnOk result (WritesMore H.told (unit_of draft.old) (flat_map written_put puts.now) draft.old draft.new (H.outside host.old) (H.outside host.new)) }
+    ensures put { OnOk result (put_of draft.new ≡ put_of draft.old + 516 * length puts.now) }
     ensures keeps { Keeps H.told (unit_of draft.old) (516 * length puts.now) (H.outside host.old) (H.outside host.new) }
     ensures cause { OnErr result (Rose ((H.outside host.old).dev_faults (unit_of draft.old)) ((H.outside host.new).dev_faults (unit_of draft.old))) }
 {
@@ -100,12 +103,35 @@ fn write_puts<H: Host>(
 fn write_pages<H: Host>(draft: &mut Draft, host: &mut H, pages: &Kept) -> Result<(), Failed>
     requires room { put_of draft.old + 516 * length pages.now.entries ≤ len_of draft.old }
     requires draft { IsDraftOf H.told draft.old (H.outside host.old) }
-    ensures ok { OnOk result (WritesMore H.told (flat_map written_put pages.now.entries) draft.old draft.new (H.outside host.old) (H.outside host.new)) }
+    requires steady { IsTrue H.told → IsSteady (unit_of draft.old) (H.outside host.old).now }
+    ensures ok { OnOk result (WritesMore H.told (unit_of draft.old) (flat_map written_put pages.now.entries) draft.old draft.new (H.outside host.old) (H.outside host.new)) }
+    ensures put { OnOk result (put_of draft.new ≡ put_of draft.old + 516 * length pages.now.entries) }
     ensures keeps { Keeps H.told (unit_of draft.old) (516 * length pages.now.entries) (H.outside host.old) (H.outside host.new) }
     ensures cause { OnErr result (Rose ((H.outside host.old).dev_faults (unit_of draft.old)) ((H.outside host.new).dev_faults (unit_of draft.old))) }
 {
-    for (number, page) in pages {
+    for (number, page) in pages.iter() {
         write_put(draft, host, *number, page)?;
+    }
+    Ok(())
+}
+
+// Writes the number of a page that is deleted, if it is there.
+fn write_delete<H: Host>(
+    draft: &mut Draft,
+    host: &mut H,
+    pages: &Kept,
+    number: u32,
+) -> Result<(), Failed>
+    requires room { put_of draft.old + 4 * length (filter (is_kept pages.now.entries) (number ∷ [])) ≤ len_of draft.old }
+    requires draft { IsDraftOf H.told draft.old (H.outside host.old) }
+    requires steady { IsTrue H.told → IsSteady (unit_of draft.old) (H.outside host.old).now }
+    ensures ok { OnOk result (WritesMore H.told (unit_of draft.old) (flat_map written_delete (filter (is_kept pages.now.entries) (number ∷ []))) draft.old draft.new (H.outside host.old) (H.outside host.new)) }
+    ensures keeps { Keeps H.told (unit_of draft.old) (4 * length (filter (is_kept pages.now.entries) (number ∷ []))) (H.outside host.old) (H.outside host.new) }
+    ensures cause { OnErr result (Rose ((H.outside host.old).dev_faults (unit_of draft.old)) ((H.outside host.new).dev_faults (unit_of draft.old))) }
+{
+    if pages.contains_key(&number) {
+        draft.put(host, &number.to_be_bytes())?;
+        return Ok(());
     }
     Ok(())
 }
@@ -119,15 +145,53 @@ fn write_deletes<H: Host>(
 ) -> Result<(), Failed>
     requires room { put_of draft.old + 4 * length (filter (is_kept pages.now.entries) deletes.now) ≤ len_of draft.old }
     requires draft { IsDraftOf H.told draft.old (H.outside host.old) }
-    ensures ok { OnOk result (WritesMore H.told (flat_map written_delete (filter (is_kept pages.now.entries) deletes.now)) draft.old draft.new (H.outside host.old) (H.outside host.new)) }
+    requires steady { IsTrue H.told → IsSteady (unit_of draft.old) (H.outside host.old).now }
+    ensures ok { OnOk result (WritesMore H.told (unit_of draft.old) (flat_map written_delete (filter (is_kept pages.now.entries) deletes.now)) draft.old draft.new (H.outside host.old) (H.outside host.new)) }
     ensures keeps { Keeps H.told (unit_of draft.old) (4 * length (filter (is_kept pages.now.entries) deletes.now)) (H.outside host.old) (H.outside host.new) }
     ensures cause { OnErr result (Rose ((H.outside host.old).dev_faults (unit_of draft.old)) ((H.outside host.new).dev_faults (unit_of draft.old))) }
 {
     for number in deletes {
-        if pages.contains_key(number) {
-            draft.put(host, &number.to_be_bytes())?;
-        }
+        write_delete(draft, host, pages, *number)?;
     }
+    Ok(())
+}
+
+// Writes a batch: its puts, and the deletes of pages that are there.
+fn write_batch<H: Host>(
+    draft: &mut Draft,
+    host: &mut H,
+    pages: &Kept,
+    batch: &Batch,
+    deletes: u16,
+) -> Result<(), Failed>
+    requires few { length batch.now.puts < 65536 }
+    requires count { deletes ≡ length (filter (is_kept pages.now.entries) batch.now.deletes) }
+    requires room { put_of draft.old + (4 + 516 * length batch.now.puts + 4 * length (filter (is_kept pages.now.entries) batch.now.deletes)) ≤ len_of draft.old }
+    requires draft { IsDraftOf H.told draft.old (H.outside host.old) }
+    ensures ok { OnOk result (WritesMore H.told (unit_of draft.old) (written_change (needed pages.now.entries batch.now)) draft.old draft.new (H.outside host.old) (H.outside host.new)) }
+    ensures put { OnOk result (put_of draft.new ≡ put_of draft.old + (4 + 516 * length batch.now.puts + 4 * length (filter (is_kept pages.now.entries) batch.now.deletes))) }
+    ensures keeps { Keeps H.told (unit_of draft.old) (4 + 516 * length batch.now.puts + 4 * length (filter (is_kept pages.now.entries) batch.now.deletes)) (H.outside host.old) (H.outside host.new) }
+    ensures cause { OnErr result (Rose ((H.outside host.old).dev_faults (unit_of draft.old)) ((H.outside host.new).dev_faults (unit_of draft.old))) }
+{
+    let puts = batch.puts();
+    write_counts(draft, host, puts.len() as u16, deletes)?;
+    write_puts(draft, host, puts)?;
+    write_deletes(draft, host, pages, batch.deletes())?;
+    Ok(())
+}
+
+// Writes a batch that puts all pages.
+fn write_all<H: Host>(draft: &mut Draft, host: &mut H, pages: &Kept) -> Result<(), Failed>
+    requires few { length pages.now.entries < 65536 }
+    requires room { put_of draft.old + (4 + 516 * length pages.now.entries) ≤ len_of draft.old }
+    requires draft { IsDraftOf H.told draft.old (H.outside host.old) }
+    ensures ok { OnOk result (WritesMore H.told (unit_of draft.old) (written_change (all_of pages.now.entries)) draft.old draft.new (H.outside host.old) (H.outside host.new)) }
+    ensures put { OnOk result (put_of draft.new ≡ put_of draft.old + (4 + 516 * length pages.now.entries)) }
+    ensures keeps { Keeps H.told (unit_of draft.old) (4 + 516 * length pages.now.entries) (H.outside host.old) (H.outside host.new) }
+    ensures cause { OnErr result (Rose ((H.outside host.old).dev_faults (unit_of draft.old)) ((H.outside host.new).dev_faults (unit_of draft.old))) }
+{
+    write_counts(draft, host, pages.len() as u16, 0)?;
+    write_pages(draft, host, pages)?;
     Ok(())
 }
 
@@ -135,7 +199,10 @@ fn write_deletes<H: Host>(
 pub(crate) fn kept_of(pages: &Kept, numbers: &[u32]) -> usize
     ensures { result ≡ length (filter (is_kept pages.now.entries) numbers.now) }
 {
-    numbers.iter().filter(|number| pages.contains_key(*number)).count()
+    numbers
+        .iter()
+        .filter(|number| pages.contains_key(*number))
+        .count()
 }
 
 /// Writes a batch behind the other records: its puts, and the deletes of pages that are there.
@@ -146,27 +213,24 @@ pub(crate) fn append_batch<H: Host>(
     batch: &Batch,
 ) -> Result<Journal, Failed>
     requires stands { Stands H.told journal (H.outside host.old) }
-    requires batch { IsBatch batch.now }
     requires few_puts { length batch.now.puts < 65536 }
-    requires few_pages { length (filter (is_kept pages.now.entries) batch.now.deletes) < 65536 }
+    requires few_deletes { length (filter (is_kept pages.now.entries) batch.now.deletes) < 65536 }
     requires fits { 4 + 516 * length batch.now.puts + 4 * length (filter (is_kept pages.now.entries) batch.now.deletes) ≤ room journal }
     ensures journal { IfOk result (λ after. Stands H.told after (H.outside host.new) × (after.unit ≡ journal.unit)) }
     ensures committed { IsTrue H.told → OnOk result (records (image journal.unit (H.outside host.new).now) ≡ appended (records (image journal.unit (H.outside host.old).now)) (written_change (needed pages.now.entries batch.now))) }
-    ensures blank { IsTrue H.told → OnOk result (tail (image journal.unit (H.outside host.new).now) ≡ replicate (length (tail (image journal.unit (H.outside host.new).now))) 255) }
+    ensures blank { IsTrue H.told → OnOk result (IsOpenFor 0 (image journal.unit (H.outside host.new).now)) }
     ensures any_moment { IsTrue H.told → Leaves journal.unit (ReadsAsEither (records (image journal.unit (H.outside host.old).now))
         (appended (records (image journal.unit (H.outside host.old).now)) (written_change (needed pages.now.entries batch.now)))) (H.outside host.old).now (H.outside host.new).now }
     ensures alone { Touches journal.unit (H.outside host.old) (H.outside host.new) }
     ensures costs { Spends journal.unit (9 + 516 * length batch.now.puts + 4 * length (filter (is_kept pages.now.entries) batch.now.deletes)) 0 (H.outside host.old) (H.outside host.new) }
     ensures cause { OnErr result (Rose ((H.outside host.old).dev_faults journal.unit) ((H.outside host.new).dev_faults journal.unit)) }
 {
-    let puts = batch.puts().len();
     let deletes = kept_of(pages, batch.deletes());
-    let len = 4 + 516 * puts + 4 * deletes;
+    let len = 4 + 516 * batch.puts().len() + 4 * deletes;
     let mut draft = journal.append(host, len as u32)?;
-    write_counts(&mut draft, host, puts as u16, deletes as u16)?;
-    write_puts(&mut draft, host, batch.puts())?;
-    write_deletes(&mut draft, host, pages, batch.deletes())?;
-    draft.finish(host)
+    write_batch(&mut draft, host, pages, batch, deletes as u16)?;
+    let journal = draft.finish(host)?;
+    Ok(journal)
 }
 
 /// Writes all pages as one record into the other bank, once the votes are mended.
@@ -180,17 +244,16 @@ pub(crate) fn replace_all<H: Host>(
     requires fits { 25 + 516 * length pages.now.entries ≤ bank_size journal.blocks }
     ensures journal { IfOk result (λ after. Stands H.told after (H.outside host.new) × (after.unit ≡ journal.unit)) }
     ensures committed { IsTrue H.told → OnOk result (records (image journal.unit (H.outside host.new).now) ≡ Some (written_change (all_of pages.now.entries) ∷ [])) }
-    ensures blank { IsTrue H.told → OnOk result (tail (image journal.unit (H.outside host.new).now) ≡ replicate (length (tail (image journal.unit (H.outside host.new).now))) 255) }
+    ensures blank { IsTrue H.told → OnOk result (IsOpenFor 0 (image journal.unit (H.outside host.new).now)) }
     ensures any_moment { IsTrue H.told → Leaves journal.unit (ReadsAsEither (records (image journal.unit (H.outside host.old).now))
         (Some (written_change (all_of pages.now.entries) ∷ []))) (H.outside host.old).now (H.outside host.new).now }
     ensures alone { Touches journal.unit (H.outside host.old) (H.outside host.new) }
     ensures cause { OnErr result (Rose ((H.outside host.old).dev_faults journal.unit) ((H.outside host.new).dev_faults journal.unit)) }
 {
-    let puts = pages.len();
-    let len = 4 + 516 * puts;
+    let len = 4 + 516 * pages.len();
     journal.repair(host)?;
     let mut draft = journal.switch(host, len as u32)?;
-    write_counts(&mut draft, host, puts as u16, 0)?;
-    write_pages(&mut draft, host, pages)?;
-    draft.finish(host)
+    write_all(&mut draft, host, pages)?;
+    let journal = draft.finish(host)?;
+    Ok(journal)
 }
