@@ -11,8 +11,8 @@ use crate::erase::erase_blocks;
 use crate::piece::program_piece;
 use newt_host::{Failed, Host, Unit};
 
-/// The header, and a gate that is open.
-const LEAD: [u8; 17] = *b"NSTORE\x00\x01\x00\x00\x00\x00\x00\x00\x00\x00\x00";
+/// The header of a bank, and the open gate of its first record.
+pub(crate) const LEAD: [u8; 17] = *b"NSTORE\x00\x01\x00\x00\x00\x00\x00\x00\x00\x00\x00";
 
 /// Erases a bank and begins its one record, of so many bytes.
 pub(crate) fn begin_bank<H: Host>(
@@ -39,7 +39,7 @@ pub(crate) fn begin_bank<H: Host>(
         host,
         unit,
         bank.first_block(blocks),
-        bank.size_in_blocks(blocks),
+        Bank::size_in_blocks(blocks),
         blocks,
     )?;
     host.sync(unit)?;

@@ -8,7 +8,7 @@ ghost use Rattle.newt_journal.specs.Bank.{bank_number};
 use crate::choose::choose;
 use crate::scan::{find_end, has_header, is_blank, read_byte};
 use crate::{Bank, Journal, JournalFault};
-use newt_host::{Failed, Host, Unit};
+use newt_host::{BLOCK, Failed, Host, Unit};
 
 /// The bank that the votes of a unit choose.
 fn read_votes<H: Host>(host: &mut H, unit: Unit, blocks: u32) -> Result<Option<Bank>, Failed>
@@ -21,8 +21,8 @@ fn read_votes<H: Host>(host: &mut H, unit: Unit, blocks: u32) -> Result<Option<B
     ensures cause { OnErr result (Rose ((H.outside host.old).dev_faults unit) ((H.outside host.new).dev_faults unit)) }
 {
     let first = read_byte(host, unit, 0)?;
-    let second = read_byte(host, unit, 4096)?;
-    let third = read_byte(host, unit, 8192)?;
+    let second = read_byte(host, unit, BLOCK)?;
+    let third = read_byte(host, unit, 2 * BLOCK)?;
     Ok(choose(first, second, third))
 }
 

@@ -9,9 +9,7 @@ ghost use Rattle.newt_image.specs.Records.{vote_of, chosen_bank, AllVoteFor};
 use crate::scan::read_byte;
 use crate::vote::rewrite_vote;
 use crate::{Bank, Journal};
-use newt_host::{Failed, Host, Unit};
-
-const BLOCK: u32 = 4096;
+use newt_host::{BLOCK, Failed, Host, Unit};
 
 /// Makes a block vote for a bank, unless it does already.
 pub(crate) fn settle_vote<H: Host>(

@@ -8,10 +8,10 @@ use Rattle.newt_spec_world.specs.declared.command.Command.{Command}
 use Rattle.newt_spec_world.specs.World.{World, Device, device, store_of, store_on_unit, mounted, mounted_store, on_unit, flat}
 use Rattle.newt_spec_world.specs.Alias.{Alias, Spot, resolved}
 use Rattle.newt_spec_world.specs.Answer.{after}
-use Rattle.newt_laws.specs.Lists.{Among}
+use Rattle.newt_spec_graph.specs.Lists.{Among}
 use Rattle.newt_laws.specs.Later.{EntryGone, WorldLater}
 use Rattle.newt_laws.specs.Named.{IsNamed}
-use Rattle.newt_laws.proofs.Lists.{among-filter_map, some-same, none-some}
+use Rattle.newt_spec_graph.proofs.Lists.{among-filter_map, some-same, none-some}
 use Rattle.newt_laws.proofs.Units.{has-mounted, mapped}
 use Rattle.newt_laws.proofs.Settled.{find-passes}
 use Rattle.newt_laws.proofs.Later.{run-later, entry-gone}

@@ -16,12 +16,12 @@ use Rattle.newt_spec_store.specs.Image.{Objects, all_entries}
 use Rattle.newt_spec_store.specs.Reading.{whole, directory}
 use Rattle.newt_spec_graph.specs.Graph.{every}
 use Rattle.newt_spec_store.specs.StoreOf.{EntryRow, object_bytes, entry_of_row, rows_of, named_once, with_entries, uid_cmp, in_a_soup, assembled, store_of}
-use Rattle.newt_laws.specs.Lists.{Each, Pairs, Among}
-use Rattle.newt_laws.specs.Laid.{ApartIds, AreEntries, Laid, record_of, row_of, IsLaid}
+use Rattle.newt_spec_graph.specs.Lists.{Each, Pairs, Among}
+use Rattle.newt_spec_store.specs.Laid.{ApartIds, AreEntries, Laid, record_of, row_of, IsLaid}
 use Rattle.newt_laws.proofs.Records.{record-back, entry-back}
 use Rattle.newt_spec_store.specs.StoreOf.{entry_row}
-use Rattle.newt_laws.proofs.Lists.{each-at, each-from, each-list_all, list_all-each, among-filter, filter-among, among-flat_map, flat_map-among, pairs-filter, pairs-more, pairs-map, rises-pairs}
-use Rattle.newt_laws.proofs.Sorting.{Rise, Untied, sorted-rises, among-fold, fold-among}
+use Rattle.newt_spec_graph.proofs.Lists.{each-at, each-from, each-list_all, list_all-each, among-filter, filter-among, among-flat_map, flat_map-among, pairs-filter, pairs-more, pairs-map, rises-pairs}
+use Rattle.newt_spec_store.proofs.Sorting.{Rise, Untied, sorted-rises, among-fold, fold-among}
 use Rattle.newt_laws.proofs.Soups.{is-store, is-soup}
 use Rattle.newt_laws.proofs.Read.{bare, bare_soup, directory-back}
 
@@ -175,14 +175,14 @@ assembled-back graph_of objects blocks s rows entries v once are =
     inside : list_all (in_a_soup graph_of (bare s)) entries ≡ true
     inside = list_all-each (in_a_soup graph_of (bare s)) entries (each-from _ entries (λ x m. one x (are.sound x m)))
 
-rows-back : (laid : List Laid) → Each (λ x. Rattle.newt_laws.specs.Laid.FitsRecord x.soup x.entry x.ids) laid → every (map (λ (o : ℕ × List ℕ). entry_row o.1) (map record_of laid)) ≡ Some (map (λ x. row_of x.soup x.entry x.ids) laid)
+rows-back : (laid : List Laid) → Each (λ x. Rattle.newt_spec_store.specs.Laid.FitsRecord x.soup x.entry x.ids) laid → every (map (λ (o : ℕ × List ℕ). entry_row o.1) (map record_of laid)) ≡ Some (map (λ x. row_of x.soup x.entry x.ids) laid)
 rows-back [] h = refl
 rows-back (x ∷ laid) h = ap (λ o. every (o ∷ map (λ (o : ℕ × List ℕ). entry_row o.1) (map record_of laid))) (record-back x.soup x.entry x.ids h.0)
     ∙ ap (option_map (λ rs. row_of x.soup x.entry x.ids ∷ rs)) (rows-back laid h.1)
 
-entries-back : (graph_of : List ℕ → Option RawGraph) (objects : Objects) (laid : List Laid) → Each (λ x. Rattle.newt_laws.specs.Laid.FitsRecord x.soup x.entry x.ids) laid
+entries-back : (graph_of : List ℕ → Option RawGraph) (objects : Objects) (laid : List Laid) → Each (λ x. Rattle.newt_spec_store.specs.Laid.FitsRecord x.soup x.entry x.ids) laid
     → Each (λ x. graph_of (Rattle.newt_nsof.specs.Written.nsof (Rattle.newt_nsof.specs.Lengths.skeleton x.entry.graph)) ≡ Some (Rattle.newt_nsof.specs.Lengths.skeleton x.entry.graph)) laid
-    → Each (λ x. Each (Rattle.newt_laws.specs.Laid.IsThere objects) (Rattle.std.specs.Prelude.zip (Rattle.newt_spec_store.specs.Image.larges x.entry.graph) x.ids)) laid
+    → Each (λ x. Each (Rattle.newt_spec_store.specs.Laid.IsThere objects) (Rattle.std.specs.Prelude.zip (Rattle.newt_spec_store.specs.Image.larges x.entry.graph) x.ids)) laid
     → every (map (entry_of_row graph_of objects) (map (λ x. row_of x.soup x.entry x.ids) laid)) ≡ Some (map (λ x. (x.soup, x.entry)) laid)
 entries-back graph_of objects [] f d t = refl
 entries-back graph_of objects (x ∷ laid) f d t =
@@ -201,7 +201,7 @@ store-back graph_of objects blocks s laid v is =
 -- ---- what is read is valid
 
 checked-some : (a b : Bool) (s t : Store) → cond (a && b) (Some s) None ≡ Some t → (b ≡ true) × (s ≡ t)
-checked-some true true s t h = (refl, Rattle.newt_laws.proofs.Lists.some-same s t h)
+checked-some true true s t h = (refl, Rattle.newt_spec_graph.proofs.Lists.some-same s t h)
 checked-some true false s t h = cc
 checked-some false b s t h = cc
 

@@ -6,12 +6,14 @@ use Rattle.newt_base.specs.Text.{be16, be32}
 use Rattle.newt_base.specs.Names.{equal_text}
 use Rattle.newt_spec_store.specs.Keys.{Path, IndexSpec, paths_of, same_paths}
 use Rattle.newt_spec_store.specs.Store.{Store, Soup, Entry, change_first, change_soup, change_entry, drop_soup, remove_entry, entry_of, soup_named}
-use Rattle.newt_spec_store.specs.Cost.{cost, cap, pages, directory_bytes, soup_bytes, text_bytes, counted, part_bytes, tags_bytes, entry_pages}
+use Rattle.newt_image.specs.Pages.{cap}
+use Rattle.newt_image.specs.Objects.{pages_for}
+use Rattle.newt_spec_store.specs.Cost.{cost, directory_bytes, soup_bytes, text_bytes, counted, part_bytes, tags_bytes, entry_pages, soup_pages}
 use Rattle.newt_spec_store.specs.Valid.{fits}
 use Rattle.newt_spec_world.specs.Changed.{without_index, new_store}
 
 -- a sum, by recursion
-pub total : {X : Type 0} → (X → ℕ) → List X → ℕ
+unfoldable pub total : {X : Type 0} → (X → ℕ) → List X → ℕ
 total f [] = 0
 total f (x ∷ xs) = f x + total f xs
 
@@ -45,7 +47,7 @@ total-first f test change (x ∷ xs) h = go (total-first f test change xs) (test
     go more true h = omega (arith, h x refl)
     go more false h = omega (arith, more h)
 
-pub pages-mono : (m n : ℕ) → m ≤ n → pages m ≤ pages n
+pub pages-mono : (m n : ℕ) → m ≤ n → pages_for m ≤ pages_for n
 pages-mono m n h = grind arith
 
 -- ---- the directory
@@ -62,12 +64,8 @@ directory-length s = grind (arith,
     length-append (text_bytes s.name) (be32 s.sig), length-append (text_bytes s.name ++ be32 s.sig) (be16 s.next_soup),
     length-append (text_bytes s.name ++ be32 s.sig ++ be16 s.next_soup) (counted soup_bytes s.soups), flat-total soup_bytes s.soups)
 
-pub soup_pages : Soup → ℕ
-soup_pages p = sum_by entry_pages p.entries
-
-pub cost-total : (s : Store) → cost s ≡ pages (length (directory_bytes s)) + total soup_pages s.soups
-unfolding soup_pages
-cost-total s = ap (λ n. pages (length (directory_bytes s)) + n) (sum-total (λ p. sum_by entry_pages p.entries) s.soups)
+pub cost-total : (s : Store) → cost s ≡ pages_for (length (directory_bytes s)) + total soup_pages s.soups
+cost-total s = ap (λ n. pages_for (length (directory_bytes s)) + n) (sum-total (λ p. sum_by entry_pages p.entries) s.soups)
 
 -- a store with no more bytes in its directory and no more pages in its soups
 pub cheaper : (blocks : ℕ) (s t : Store) → length (directory_bytes t) ≤ length (directory_bytes s) → total soup_pages t.soups ≤ total soup_pages s.soups
@@ -86,13 +84,11 @@ fits-with-soup blocks name f s h k = cheaper blocks s (change_soup name f s)
     (total-first soup_pages (λ p. equal_text p.name name) f s.soups k)
 
 pub fits-without-index : (blocks : ℕ) (name : List ℕ) (paths : List Path) (s : Store) → fits blocks s ≡ true → fits blocks (change_soup name (without_index paths) s) ≡ true
-unfolding soup_pages
 fits-without-index blocks name paths s = fits-with-soup blocks name (without_index paths) s
     (λ p _. omega (arith, soup-length p, soup-length (without_index paths p), total-filter (λ spec. length (counted part_bytes spec)) (λ spec. not (same_paths (paths_of spec) paths)) p.specs))
     (λ p _. omega arith)
 
 pub fits-without-entry : (blocks : ℕ) (name : List ℕ) (uid : ℕ) (s : Store) → fits blocks s ≡ true → fits blocks (change_soup name (remove_entry uid) s) ≡ true
-unfolding soup_pages
 fits-without-entry blocks name uid s = fits-with-soup blocks name (remove_entry uid) s (λ p _. omega arith)
     (λ p _. subst (λ n. sum_by entry_pages (remove_entry uid p).entries ≤ n) (sym (sum-total entry_pages p.entries))
       (subst (λ n. n ≤ total entry_pages p.entries) (sym (sum-total entry_pages (remove_entry uid p).entries)) (total-filter entry_pages _ p.entries)))
@@ -100,7 +96,6 @@ fits-without-entry blocks name uid s = fits-with-soup blocks name (remove_entry 
 -- an entry that takes no more pages than before
 pub fits-with-change : (blocks : ℕ) (name : List ℕ) (uid : ℕ) (f : Entry → Entry) (s : Store)
     → ((p : Soup) (e : Entry) → soup_named name s ≡ Some p → entry_of uid p ≡ Some e → entry_pages (f e) ≤ entry_pages e) → fits blocks s ≡ true → fits blocks (change_soup name (change_entry uid f) s) ≡ true
-unfolding soup_pages
 fits-with-change blocks name uid f s k = fits-with-soup blocks name (change_entry uid f) s (λ p _. omega arith)
     (λ p found. subst (λ n. sum_by entry_pages (change_entry uid f p).entries ≤ n) (sym (sum-total entry_pages p.entries))
       (subst (λ n. n ≤ total entry_pages p.entries) (sym (sum-total entry_pages (change_entry uid f p).entries))

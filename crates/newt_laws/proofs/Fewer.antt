@@ -16,14 +16,14 @@ use Rattle.newt_spec_query.specs.Cursor.{Place, start, finish, on, Cursor, settl
 use Rattle.newt_spec_query.specs.Spec.{Spec}
 use Rattle.newt_spec_world.specs.declared.command.Command.{Command}
 use Rattle.newt_spec_world.specs.declared.command.Command.TheVariants as command
-use Rattle.newt_spec_world.specs.World.{World, Device, Media, blank, one, two, lost, device, store_of, store_if_mounted, on_unit, mounted_store, mounted_stores, soup_in, settle, hits_of, flat, cursor, free_cursor, change_at, change_device, change_store, change_media, set_place}
+use Rattle.newt_spec_world.specs.World.{World, Device, Media, blank, one, device, store_of, store_if_mounted, on_unit, mounted_store, mounted_stores, soup_in, settle, hits_of, flat, cursor, free_cursor, change_at, change_device, change_store, change_media, set_place}
 use Rattle.newt_spec_world.specs.Changed.{changed, new_store, mark, without_index, Step, stepped, step_from, open_cursor, open_at, opened, query_of, put_on, cloned, go_to, hit_for, hit_in, go_to_key, to_key, key_from, sig_of}
 use Rattle.newt_spec_world.specs.Refused.{checks}
-use Rattle.newt_laws.specs.Lists.{Each, Pairs, Among}
+use Rattle.newt_spec_graph.specs.Lists.{Each, Pairs, Among}
 use Rattle.newt_laws.specs.Found.{IsHit}
 use Rattle.newt_laws.specs.Worlds.{OnMedia, AllValid}
 use Rattle.newt_laws.specs.Settled.{IsSettled, MountedApart, moves_keys}
-use Rattle.newt_laws.proofs.Lists.{each-at, each-from, among-append, among-filter, some-same, none-some}
+use Rattle.newt_spec_graph.proofs.Lists.{each-at, each-from, among-append, among-filter, some-same, none-some}
 use Rattle.newt_laws.proofs.Found.{Other, Apart, hits-apart, hit-found, found-hit}
 use Rattle.newt_laws.proofs.Units.{Has, has-mounted, same-or-not, device-other, device-same, mapped}
 use Rattle.newt_laws.proofs.Kept.{Wf, Every, media-more, AllFalse, all-false}
@@ -184,8 +184,6 @@ store-fewer w u f shrinks = change-fewer w u (λ d. record d { media = change_me
     media : (t : Store) (m : Media) → store_of (change_media f m) ≡ Some t → (s : Store) × (store_of m ≡ Some s) × Shrinks t s
     media t blank k = absurd (none-some t k)
     media t (one s) k = (s, refl, subst (λ x. Shrinks x s) (some-same (f s) t k) (shrinks s))
-    media t (two a b) k = absurd (none-some t k)
-    media t lost k = absurd (none-some t k)
     go : (t : Store) (b : Bool) (m : Media) → cond b (store_of (change_media f m)) None ≡ Some t → (s : Store) × (cond b (store_of m) None ≡ Some s) × Shrinks t s
     go t true m k = media t m k
     go t false m k = absurd (none-some t k)

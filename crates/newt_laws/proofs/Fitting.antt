@@ -6,12 +6,13 @@ use Rattle.std.proofs.lemmas.Bool.{ltb-false, le-leb, leb-true, and_parts}
 use Rattle.newt_base.specs.Refusals.{first_of}
 use Rattle.newt_base.specs.declared.Refusal.{Refusal}
 use Rattle.newt_spec_store.specs.Store.{Store, Soup, Entry, soup_named, entry_of, change_soup, change_entry, make_soup, drop_soup, add_entry, remove_entry}
-use Rattle.newt_spec_store.specs.Cost.{cost, cap, entry_pages}
+use Rattle.newt_image.specs.Pages.{cap}
+use Rattle.newt_spec_store.specs.Cost.{cost, entry_pages}
 use Rattle.newt_base.specs.Names.{is_name}
 use Rattle.newt_spec_store.specs.Valid.{valid, well_formed, fits}
 use Rattle.newt_spec_world.specs.declared.command.Command.{Command}
 use Rattle.newt_spec_world.specs.declared.command.Command.TheVariants as command
-use Rattle.newt_spec_world.specs.World.{World, Device, Media, blank, one, two, lost, device, default_unit, store_of, mounted_store, soup_in, entry_in, change_device, change_store, change_media, change_soup_in, settle}
+use Rattle.newt_spec_world.specs.World.{World, Device, Media, blank, one, device, default_unit, store_of, mounted_store, soup_in, entry_in, change_device, change_store, change_media, change_soup_in, settle}
 use Rattle.newt_spec_world.specs.Changed.{changed, new_store, mark, with_index, without_index, with_tags, spec_of_words, with_graph, graph_after_set, copy_to, patched, large_at, large_bytes}
 use Rattle.newt_spec_world.specs.Refused.{checks, on_some, full}
 use Rattle.newt_spec_world.specs.Answer.{answer, answered}
@@ -32,8 +33,6 @@ full-fits v u h d e = go d.media (on-some (device v u) (λ d. on_some (store_of 
     go : (m : Media) → on_some (store_of m) (λ s. nat_lt (cap d.blocks) (cost s)) ≡ false → OnMedia Ft d.blocks m
     go blank k = tt
     go (one s) k = le-leb (cost s) (cap d.blocks) (ltb-false (cap d.blocks) (cost s) k)
-    go (two s t) k = tt
-    go lost k = tt
 
 checked-store : (w : World) (u : ℕ) (f : Store → Store) → Every Ft w → is_full (change_store w u f) u ≡ false → Every Ft (change_store w u f)
 checked-store w u f all h = units-but (λ _. ⊤) Ft (change_store w u f) w u (device-other w u (λ d. record d { media = change_media f d.media })) all (full-fits (change_store w u f) u h)

@@ -7,15 +7,16 @@ use Rattle.std.proofs.lemmas.Bool.{and_parts}
 use Rattle.newt_base.specs.Names.{equal_text}
 use Rattle.newt_spec_store.specs.Keys.{key, Key, key_cmp, IndexSpec}
 use Rattle.newt_spec_store.specs.Store.{Entry, Soup, Store}
-use Rattle.newt_spec_store.specs.Valid.{well_formed, valid_soup, rises}
+use Rattle.newt_spec_graph.specs.Lists.{rises}
+use Rattle.newt_spec_store.specs.Valid.{well_formed, valid_soup}
 use Rattle.newt_spec_query.specs.Spec.{Spec}
 use Rattle.newt_spec_query.specs.Hits.{Query, Hit, hits, hit_of, kept, soup_hits, in_scope, carries, above, below, passes, hit_cmp}
 use Rattle.newt_spec_store.specs.Sorted.{insert_by, sorted_by}
-use Rattle.newt_laws.specs.Lists.{Each, Pairs, Among}
+use Rattle.newt_spec_graph.specs.Lists.{Each, Pairs, Among}
 use Rattle.newt_laws.specs.Found.{IsHit}
-use Rattle.newt_laws.proofs.Lists.{each-at, each-from, each-list_all, among-flat_map, flat_map-among, among-filter, filter-among, among-filter_map, filter_map-among, pairs-more, pairs-map, pairs-flat_map, pairs-filter, pairs-filter_map, rises-pairs, both-ways, none-some, some-same}
-use Rattle.newt_laws.proofs.Order.{hit_total}
-use Rattle.newt_laws.proofs.Sorting.{fold-among, among-fold, fold-pairs, sorted-rises, Rise, Untied}
+use Rattle.newt_spec_graph.proofs.Lists.{each-at, each-from, each-list_all, among-flat_map, flat_map-among, among-filter, filter-among, among-filter_map, filter_map-among, pairs-more, pairs-map, pairs-flat_map, pairs-filter, pairs-filter_map, rises-pairs, both-ways, none-some, some-same}
+use Rattle.newt_spec_query.proofs.Order.{hit_total}
+use Rattle.newt_spec_store.proofs.Sorting.{fold-among, among-fold, fold-pairs, sorted-rises, Rise, Untied}
 
 -- ---- the hit of one entry
 

@@ -14,7 +14,7 @@ use Rattle.newt_graph.specs.Raw.{renamed}
 use Rattle.newt_graph.specs.Meeting.{◌>>=◌, Seen, Step, place, is_new, added, meet_label, meet_labels, meet_class, meet_each, within, enter, meet_by, meet, found, number, moved, limited, numbered, normal_form}
 use Rattle.std.proofs.Common.{if◌then◌else◌, get_or, sum_by, nat_le, ◌&&◌}
 use Rattle.std.specs.List.{position_from}
-use Rattle.newt_laws.proofs.Lists.{some-same}
+use Rattle.newt_spec_graph.proofs.Lists.{some-same}
 use Rattle.newt_spec_graph.specs.Slots.{put, put_into, set_slot, with_slot, slot_number, symbol_number, new_nodes, goes_to, frame_number, value_at, but_last}
 use Rattle.newt_spec_store.specs.Keys.{Path}
 use Rattle.newt_laws.proofs.Patch.{nth-nth}

@@ -4,9 +4,9 @@ use Rattle.std.proofs.lemmas.Bool.{eq-eqb}
 use Rattle.newt_base.specs.Names.{equal_text}
 use Rattle.newt_spec_store.specs.Store.{Store, Soup, Entry, soup_named, change_first, change_soup, remove_entry, drop_soup}
 use Rattle.newt_spec_store.specs.Valid.{well_formed, valid_soup}
-use Rattle.newt_laws.specs.Lists.{Each, Pairs, Among}
+use Rattle.newt_spec_graph.specs.Lists.{Each, Pairs, Among}
 use Rattle.newt_laws.specs.Later.{EntryGone, SoupGone}
-use Rattle.newt_laws.proofs.Lists.{each-at, each-list_all, among-filter, rises-above, rises-pairs, pairs-map, none-some, some-same, both-ways}
+use Rattle.newt_spec_graph.proofs.Lists.{each-at, each-list_all, among-filter, rises-above, rises-pairs, pairs-map, none-some, some-same, both-ways}
 use Rattle.newt_laws.proofs.Soups.{IsStore, is-store, IsSoup, is-soup, with-soup, without-entry}
 use Rattle.newt_laws.proofs.Settled.{find-passes}
 use Rattle.newt_laws.proofs.Assembled.{map-among, one-sig}

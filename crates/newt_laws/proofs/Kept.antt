@@ -15,20 +15,23 @@ use Rattle.newt_graph.specs.Meeting.{normal_form}
 use Rattle.newt_spec_graph.specs.Slots.{put}
 use Rattle.newt_spec_store.specs.Keys.{Path, IndexSpec, paths_of, same_paths}
 use Rattle.newt_spec_store.specs.Store.{Store, Soup, Entry, soup_named, entry_of, change_soup, change_entry, make_soup, drop_soup, add_entry, remove_entry}
-use Rattle.newt_spec_store.specs.Cost.{skeleton_length, cost, cap, entry_pages, pages}
+use Rattle.newt_image.specs.Pages.{cap}
+use Rattle.newt_image.specs.Objects.{pages_for}
+use Rattle.newt_spec_store.specs.Cost.{skeleton_length, cost, entry_pages}
 use Rattle.newt_base.specs.Names.{is_name}
-use Rattle.newt_spec_store.specs.Valid.{valid, well_formed, fits, valid_soup, valid_entry, valid_spec, valid_tags, valid_path, valid_symbol, all_apart}
+use Rattle.newt_spec_graph.specs.Lists.{all_apart}
+use Rattle.newt_spec_store.specs.Valid.{valid, well_formed, fits, valid_soup, valid_entry, valid_spec, valid_tags, valid_path, valid_symbol}
 use Rattle.newt_spec_query.specs.Hits.{Hit}
 use Rattle.newt_spec_query.specs.Cursor.{Place, Cursor}
 use Rattle.newt_spec_world.specs.declared.command.Command.{Command}
 use Rattle.newt_spec_world.specs.declared.command.Command.TheVariants as command
 use Rattle.newt_spec_world.specs.declared.command.PartWord.{PartWord}
-use Rattle.newt_spec_world.specs.World.{World, Device, Media, blank, one, two, lost, device, default_unit, store_of, mounted_store, soup_in, entry_in, flat, cursor, free_cursor, hits_of, change_device, change_store, change_media, change_soup_in, set_place, settle}
+use Rattle.newt_spec_world.specs.World.{World, Device, Media, blank, one, device, default_unit, store_of, mounted_store, soup_in, entry_in, flat, cursor, free_cursor, hits_of, change_device, change_store, change_media, change_soup_in, set_place, settle}
 use Rattle.newt_spec_world.specs.Changed.{changed, new_store, mark, default_without, with_index, without_index, with_tags, spec_of_words, kind_of, with_graph, graph_after_set, copy_to, patched, patched_at, large_at, large_bytes, bytes_of_large, Step, stepped, step_from, open_cursor, open_at, put_on, cloned, go_to, hit_for}
 use Rattle.newt_spec_world.specs.Refused.{checks, on_some, full}
 use Rattle.newt_spec_world.specs.Answer.{answer, fields}
 use Rattle.newt_laws.specs.Worlds.{OnMedia, OnUnits, AllValid, has_form, parts_fit}
-use Rattle.newt_laws.proofs.Lists.{some-same, none-some}
+use Rattle.newt_spec_graph.proofs.Lists.{some-same, none-some}
 use Rattle.newt_laws.proofs.Units.{change-device, change-store, units-but, device-other, device-same, Has, mounted-has, has-mounted, soup-has, entry-has, same-or-not, mapped}
 use Rattle.newt_laws.proofs.Soups.{with-soup, with-index, without-index, with-tags, with-entry, with-change, without-entry, with-new-soup, without-soup, new-store, found-good, is-store, is-soup}
 use Rattle.newt_laws.proofs.Costs.{fits-without-soup, fits-without-index, fits-without-entry, fits-with-change, fits-new}
@@ -78,14 +81,10 @@ Every P w = OnUnits (λ _. ⊤) P w
 pub media-more : (P Q : ℕ → Store → Type 0) (blocks : ℕ) (m : Media) → ((s : Store) → P blocks s → Q blocks s) → OnMedia P blocks m → OnMedia Q blocks m
 media-more P Q blocks blank f h = tt
 media-more P Q blocks (one s) f h = f s h
-media-more P Q blocks (two s t) f h = tt
-media-more P Q blocks lost f h = tt
 
 pub media-both : (P Q R : ℕ → Store → Type 0) (blocks : ℕ) (m : Media) → ((s : Store) → P blocks s → Q blocks s → R blocks s) → OnMedia P blocks m → OnMedia Q blocks m → OnMedia R blocks m
 media-both P Q R blocks blank f h k = tt
 media-both P Q R blocks (one s) f h k = f s h k
-media-both P Q R blocks (two s t) f h k = tt
-media-both P Q R blocks lost f h k = tt
 
 -- ---- rows that leave the units alone
 
@@ -231,6 +230,6 @@ patched-good (Some n) at new e room h = grind (arith, h, at-object at new e.grap
 pub patched-pages : (o : Option ℕ) (at : ℕ) (new : List ℕ) (e : Entry) → at + length new ≤ length (bytes_of_large (option_and_then (slice_get e.graph.nodes) o))
     → entry_pages (record e { graph = patched_at o at new e.graph }) ≡ entry_pages e
 patched-pages None at new e room = refl
-patched-pages (Some n) at new e room = ap (λ k. pages (12 + length (Rattle.newt_nsof.specs.Written.nsof k) + 12 * length (Rattle.newt_spec_store.specs.Cost.large_lengths (patched_at (Some n) at new e.graph)))
-      + Rattle.std.specs.Prelude.sum (map pages (Rattle.newt_spec_store.specs.Cost.large_lengths (patched_at (Some n) at new e.graph)))) (at-skeleton at new e.graph n room)
-    ∙ ap (λ ls. pages (12 + skeleton_length e.graph + 12 * length ls) + Rattle.std.specs.Prelude.sum (map pages ls)) (at-lengths at new e.graph n room)
+patched-pages (Some n) at new e room = ap (λ k. pages_for (12 + length (Rattle.newt_nsof.specs.Written.nsof k) + 12 * length (Rattle.newt_spec_store.specs.Cost.large_lengths (patched_at (Some n) at new e.graph)))
+      + Rattle.std.specs.Prelude.sum (map pages_for (Rattle.newt_spec_store.specs.Cost.large_lengths (patched_at (Some n) at new e.graph)))) (at-skeleton at new e.graph n room)
+    ∙ ap (λ ls. pages_for (12 + skeleton_length e.graph + 12 * length ls) + Rattle.std.specs.Prelude.sum (map pages_for ls)) (at-lengths at new e.graph n room)

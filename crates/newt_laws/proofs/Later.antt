@@ -11,13 +11,13 @@ use Rattle.newt_spec_store.specs.Keys.{Path, IndexSpec}
 use Rattle.newt_spec_store.specs.Store.{Store, Soup, Entry, change_first, change_soup, change_entry, make_soup, drop_soup, add_entry, remove_entry, entry_of}
 use Rattle.newt_spec_world.specs.declared.command.Command.{Command}
 use Rattle.newt_spec_world.specs.declared.command.Command.TheVariants as command
-use Rattle.newt_spec_world.specs.World.{World, Device, Media, blank, one, two, lost, device, default_unit, store_of, store_on_unit, store_if_mounted, mounted, mounted_store, on_unit, entry_in, settle, flat, change_device, change_store, change_media, change_soup_in}
+use Rattle.newt_spec_world.specs.World.{World, Device, Media, blank, one, device, default_unit, store_of, store_on_unit, store_if_mounted, mounted, mounted_store, on_unit, entry_in, settle, flat, change_device, change_store, change_media, change_soup_in}
 use Rattle.newt_spec_world.specs.Changed.{changed, new_store, mark, copy_to, with_index, without_index, with_tags, spec_of_words, with_graph, graph_after_set, patched}
 use Rattle.newt_spec_world.specs.Refused.{checks}
 use Rattle.newt_spec_world.specs.Answer.{answer, answered, after}
-use Rattle.newt_laws.specs.Lists.{Each, Pairs, Among}
+use Rattle.newt_spec_graph.specs.Lists.{Each, Pairs, Among}
 use Rattle.newt_laws.specs.Later.{SoupLater, StoreLater, WorldLater, EntryGone, SoupGone}
-use Rattle.newt_laws.proofs.Lists.{among-append, among-filter, some-same, none-some}
+use Rattle.newt_spec_graph.proofs.Lists.{among-append, among-filter, some-same, none-some}
 use Rattle.newt_laws.proofs.Units.{same-or-not, device-other, device-same}
 use Rattle.newt_laws.proofs.Kept.{AllFalse, all-false, on_units, changed-units}
 use Rattle.newt_laws.proofs.Fewer.{among-first}
@@ -113,8 +113,6 @@ store-later w u f later = change-later w u (λ d. record d { media = change_medi
     go : (s : Store) (m : Media) → store_of m ≡ Some s → (t : Store) × (store_of (change_media f m) ≡ Some t) × StoreLater s t
     go s blank k = absurd (none-some s k)
     go s (one x) k = (f x, refl, subst (λ y. StoreLater y (f x)) (some-same x s k) (later x))
-    go s (two a b) k = absurd (none-some s k)
-    go s lost k = absurd (none-some s k)
 
 soup-later : (w : World) (u : ℕ) (name : List ℕ) (f : Soup → Soup) → ((p : Soup) → SoupLater p (f p)) → WorldLater w (change_soup_in w u name f)
 soup-later w u name f each = store-later w u (change_soup name f) (later-soup name f each)

@@ -9,13 +9,13 @@ use Rattle.newt_base.specs.declared.Refusal.{Refusal}
 use Rattle.newt_spec_store.specs.Store.{Store, Soup, Entry, change_soup, make_soup, drop_soup, add_entry, remove_entry}
 use Rattle.newt_spec_world.specs.declared.command.Command.{Command}
 use Rattle.newt_spec_world.specs.declared.command.Command.TheVariants as command
-use Rattle.newt_spec_world.specs.World.{World, Device, Media, blank, one, two, lost, device, default_unit, store_of, store_if_mounted, on_unit, mounted_store, mounted_stores, store_on_unit, entry_in, settle, flat, change_device, change_store, change_media, change_soup_in}
+use Rattle.newt_spec_world.specs.World.{World, Device, Media, blank, one, device, default_unit, store_of, store_if_mounted, on_unit, mounted_store, mounted_stores, store_on_unit, entry_in, settle, flat, change_device, change_store, change_media, change_soup_in}
 use Rattle.newt_spec_world.specs.Changed.{changed, new_store, mark, copy_to}
 use Rattle.newt_spec_world.specs.Refused.{checks}
 use Rattle.newt_spec_world.specs.Answer.{answer, answered}
-use Rattle.newt_laws.specs.Lists.{Each, Pairs, Among}
+use Rattle.newt_spec_graph.specs.Lists.{Each, Pairs, Among}
 use Rattle.newt_laws.specs.Settled.{MountedApart}
-use Rattle.newt_laws.proofs.Lists.{each-at, each-from, some-same, none-some, both-ways}
+use Rattle.newt_spec_graph.proofs.Lists.{each-at, each-from, some-same, none-some, both-ways}
 use Rattle.newt_laws.proofs.Found.{Apart}
 use Rattle.newt_laws.proofs.Units.{same-or-not, device-other, device-same}
 use Rattle.newt_laws.proofs.Kept.{AllFalse, all-false, on_units, changed-units}
@@ -85,8 +85,6 @@ store-sigs w u f same = change-sigs w u (λ d. record d { media = change_media f
     media : (t : Store) (m : Media) → store_of (change_media f m) ≡ Some t → (s : Store) × (store_of m ≡ Some s) × (t.sig ≡ s.sig)
     media t blank k = absurd (none-some t k)
     media t (one s) k = (s, refl, sym (ap (λ (x : Store). x.sig) (some-same (f s) t k)) ∙ same s)
-    media t (two a b) k = absurd (none-some t k)
-    media t lost k = absurd (none-some t k)
     go : (t : Store) (b : Bool) (m : Media) → cond b (store_of (change_media f m)) None ≡ Some t → (s : Store) × (cond b (store_of m) None ≡ Some s) × (t.sig ≡ s.sig)
     go t true m k = media t m k
     go t false m k = absurd (none-some t k)

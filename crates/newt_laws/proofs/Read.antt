@@ -14,8 +14,8 @@ use Rattle.newt_spec_store.specs.Store.{TagTable, Soup, Store}
 use Rattle.newt_spec_store.specs.Cost as cost
 use Rattle.newt_spec_store.specs.Reading.{Take, ◌>>=◌, give, some_bytes, number, times, counted, whole, whole_of, text, path, kind_of, direction_of, part, tags_of, soup, directory}
 use Rattle.newt_spec_store.specs.Valid.{well_formed, valid_soup}
-use Rattle.newt_laws.specs.Lists.{Each, Among}
-use Rattle.newt_laws.proofs.Lists.{each-more, each-at, each-from, each-list_all, rises-above}
+use Rattle.newt_spec_graph.specs.Lists.{Each, Among}
+use Rattle.newt_spec_graph.proofs.Lists.{each-more, each-at, each-from, each-list_all, rises-above}
 use Rattle.newt_laws.proofs.Soups.{IsStore, is-store, IsSoup, is-soup}
 
 -- the bytes give the value, whatever follows them

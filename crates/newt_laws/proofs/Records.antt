@@ -19,8 +19,8 @@ use Rattle.newt_spec_store.specs.Image.{Objects, larges, large_in, entry_bytes}
 use Rattle.newt_spec_store.specs.Reading.{Take, ◌>>=◌, give, some_bytes, number, times, whole}
 use Rattle.newt_spec_graph.specs.Graph.{every}
 use Rattle.newt_spec_store.specs.StoreOf.{LargeRow, large_row, EntryRow, entry_fields, entry_row, object_bytes, large_object, with_bytes, fill, written, with_larges, entry_of_row}
-use Rattle.newt_laws.specs.Lists.{Each, Among}
-use Rattle.newt_laws.specs.Laid.{Named, row_of_large, FitsRow, IsThere, row_of, FitsRecord}
+use Rattle.newt_spec_graph.specs.Lists.{Each, Among}
+use Rattle.newt_spec_store.specs.Laid.{Named, row_of_large, FitsRow, IsThere, row_of, FitsRecord}
 use Rattle.newt_laws.proofs.Read.{Reads, reads-then, reads-last, reads-some, reads-be16, reads-be32, regroup, reads-whole}
 
 three : (a b c : List ℕ) → a ++ b ++ c ≡ a ++ (b ++ c)

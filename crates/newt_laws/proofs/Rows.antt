@@ -10,18 +10,21 @@ use Rattle.newt_graph.specs.Graph.{RawGraph}
 use Rattle.newt_spec_graph.specs.Limits.{within_limits}
 use Rattle.newt_spec_store.specs.Keys.{Path, IndexSpec, paths_of, same_paths}
 use Rattle.newt_spec_store.specs.Store.{Store, Soup, Entry, soup_named, entry_of, change_soup, change_entry, make_soup, drop_soup, add_entry, remove_entry}
-use Rattle.newt_spec_store.specs.Cost.{skeleton_length, cost, cap, entry_pages, pages}
+use Rattle.newt_image.specs.Pages.{cap}
+use Rattle.newt_image.specs.Objects.{pages_for}
+use Rattle.newt_spec_store.specs.Cost.{skeleton_length, cost, entry_pages}
 use Rattle.newt_base.specs.Names.{is_name}
-use Rattle.newt_spec_store.specs.Valid.{valid, well_formed, fits, valid_soup, valid_entry, valid_spec, valid_tags, valid_path, valid_symbol, all_apart}
+use Rattle.newt_spec_graph.specs.Lists.{all_apart}
+use Rattle.newt_spec_store.specs.Valid.{valid, well_formed, fits, valid_soup, valid_entry, valid_spec, valid_tags, valid_path, valid_symbol}
 use Rattle.newt_spec_world.specs.declared.command.Command.{Command}
 use Rattle.newt_spec_world.specs.declared.command.Command.TheVariants as command
 use Rattle.newt_spec_world.specs.declared.command.PartWord.{PartWord}
-use Rattle.newt_spec_world.specs.World.{World, Device, Media, blank, one, two, lost, device, default_unit, store_of, mounted_store, soup_in, entry_in, change_device, change_store, change_media, change_soup_in, settle}
+use Rattle.newt_spec_world.specs.World.{World, Device, Media, blank, one, device, default_unit, store_of, mounted_store, soup_in, entry_in, change_device, change_store, change_media, change_soup_in, settle}
 use Rattle.newt_spec_world.specs.Changed.{changed, new_store, mark, default_without, with_index, without_index, with_tags, spec_of_words, kind_of, with_graph, graph_after_set, copy_to, patched, patched_at, large_at, large_bytes, bytes_of_large}
 use Rattle.newt_spec_world.specs.Refused.{checks, on_some, full}
 use Rattle.newt_spec_world.specs.Answer.{answer, fields}
 use Rattle.newt_laws.specs.Worlds.{OnMedia, OnUnits, AllValid, has_form, parts_fit}
-use Rattle.newt_laws.proofs.Lists.{some-same, none-some}
+use Rattle.newt_spec_graph.proofs.Lists.{some-same, none-some}
 use Rattle.newt_laws.proofs.Units.{change-device, change-store, units-but, device-other, device-same, Has, mounted-has, has-mounted, soup-has, entry-has, same-or-not, mapped}
 use Rattle.newt_laws.proofs.Soups.{with-soup, with-index, without-index, with-tags, without-entry, with-new-soup, without-soup, new-store}
 use Rattle.newt_laws.proofs.Costs.{fits-without-soup, fits-without-index, fits-without-entry, fits-with-change, fits-new}

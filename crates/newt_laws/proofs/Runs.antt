@@ -1,14 +1,17 @@
 -- What holds of all worlds of a run.
-use Rattle.std.proofs.Common.{◌≡◌, refl, ap, sym, ◌∙◌, ℕ, List, [], ◌∷◌, true, false, Bool, IsTrue, cond, Option, Some, None, option_and_then, ◌⊎◌, inl, inr}
+use Rattle.std.proofs.Common.{◌≡◌, refl, ap, sym, ◌∙◌, ℕ, zero, suc, List, [], ◌∷◌, map, subst, option_map, true, false, Bool, IsTrue, cond, Option, Some, None, option_and_then, ◌⊎◌, inl, inr}
 use Rattle.std.specs.Prelude.{slice_get}
 use Rattle.newt_spec_store.specs.Store.{Store}
 use Rattle.newt_spec_world.specs.declared.command.Command.{Command}
-use Rattle.newt_spec_world.specs.World.{World, Device, first_world, flat, on_unit, store_if_mounted, store_of}
+use Rattle.newt_spec_world.specs.World.{World, Device, device, first_world, flat, on_unit, store_if_mounted, store_of}
+use Rattle.newt_spec_store.specs.OfImage.{blocks_of}
+use Rattle.newt_spec_store.specs.Valid.{valid}
+use Rattle.newt_spec_world.specs.First.{unit_numbers, media_of, device_of, unit_of, world_of}
 use Rattle.newt_spec_world.specs.Answer.{answer, after}
-use Rattle.newt_laws.specs.Lists.{Each}
-use Rattle.newt_laws.specs.Worlds.{AllValid, has_form}
+use Rattle.newt_spec_graph.specs.Lists.{Each}
+use Rattle.newt_laws.specs.Worlds.{AllValid, OnMedia, has_form}
 use Rattle.newt_laws.specs.Settled.{IsSettled, MountedApart}
-use Rattle.newt_laws.proofs.Lists.{none-some}
+use Rattle.newt_spec_graph.proofs.Lists.{none-some, some-same}
 use Rattle.newt_laws.proofs.Fitting.{answer-valid}
 use Rattle.newt_laws.proofs.Settled.{answer-settled}
 use Rattle.newt_laws.proofs.Mounted.{answer-apart, apart-from-units}
@@ -35,3 +38,31 @@ first-apart units h = apart-from-units units (λ m n s t differ e f same. go m s
     go : (m : ℕ) (s : Store) (o : Option Device) → flat (slice_get units m) ≡ o → option_and_then store_if_mounted o ≡ Some s → ⊥
     go m s None e k = none-some s k
     go m s (Some d) e k = none-some s (sym (ap (λ b. cond b (store_of d.media) None) (h m d e)) ∙ k)
+
+-- ---- the first world of a run over images
+
+mapped-at : {X : Type 0} (f : ℕ → Option X) (ns : List ℕ) (u : ℕ) (d : X) → flat (slice_get (map f ns) u) ≡ Some d → (n : ℕ) × (f n ≡ Some d)
+mapped-at f [] u d h = absurd (none-some d h)
+mapped-at f (n ∷ ns) zero d h = (n, h)
+mapped-at f (n ∷ ns) (suc u) d h = mapped-at f ns u d h
+
+module _ (store_of_image : List ℕ → Option Store) (held : List ℕ → Option (List ℕ)) where
+  made-from : (o : Option (List ℕ)) (d : Device) → option_map (device_of store_of_image held) o ≡ Some d → (image : List ℕ) × (device_of store_of_image held image ≡ d)
+  made-from None d h = absurd (none-some d h)
+  made-from (Some image) d h = (image, some-same (device_of store_of_image held image) d h)
+
+  unit-from : (names : List (List ℕ)) (u : ℕ) (d : Device) → device (world_of store_of_image held names) u ≡ Some d → (image : List ℕ) × (device_of store_of_image held image ≡ d)
+  unit-from names u d h = let at = mapped-at (unit_of store_of_image held names) unit_numbers u d h in
+      made-from (option_and_then held (slice_get names at.0)) d at.1
+
+  pub first-valid : (names : List (List ℕ)) → ((image : List ℕ) (s : Store) → store_of_image image ≡ Some s → IsTrue (valid (blocks_of image) s)) → AllValid (world_of store_of_image held names)
+  first-valid names good = λ u _ d h. let made = unit-from names u d h in
+      subst (λ (x : Device). OnMedia (λ blocks s. IsTrue (valid blocks s)) x.blocks x.media) made.1 (go made.0 (store_of_image made.0) refl)
+    where
+      go : (image : List ℕ) (o : Option Store) → store_of_image image ≡ o → OnMedia (λ blocks s. IsTrue (valid blocks s)) (blocks_of image) (media_of o)
+      go image None e = tt
+      go image (Some s) e = good image s e
+
+  pub first-unmounted : (names : List (List ℕ)) → MountedApart (world_of store_of_image held names)
+  first-unmounted names = first-apart (map (unit_of store_of_image held names) unit_numbers)
+      (λ u d h. let made = unit-from names u d h in sym (ap (λ (x : Device). x.mounted) made.1))

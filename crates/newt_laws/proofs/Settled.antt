@@ -15,9 +15,9 @@ use Rattle.newt_spec_world.specs.World.{World, settle, settle_cursor, hits_of, f
 use Rattle.newt_spec_world.specs.Changed.{changed}
 use Rattle.newt_spec_world.specs.Refused.{checks}
 use Rattle.newt_spec_world.specs.Answer.{answer, answered}
-use Rattle.newt_laws.specs.Lists.{Each, Pairs, Among}
+use Rattle.newt_spec_graph.specs.Lists.{Each, Pairs, Among}
 use Rattle.newt_laws.specs.Settled.{IsSettled}
-use Rattle.newt_laws.proofs.Lists.{each-at, among-filter, some-same, none-some}
+use Rattle.newt_spec_graph.proofs.Lists.{each-at, among-filter, some-same, none-some}
 use Rattle.newt_laws.proofs.Found.{Other}
 
 -- ---- to settle twice
@@ -129,7 +129,7 @@ find-some test (y ∷ xs) x m h = go (λ n. find-some test xs x n h) (test y) re
   where
     go : (Among xs x → (z : _) × (find test xs ≡ Some z)) → (b : Bool) → test y ≡ b → Among (y ∷ xs) x → (z : _) × (cond b (Some y) (find test xs) ≡ Some z)
     go more true e n = (y, refl)
-    go more false e (inl s) = absurd (Rattle.newt_laws.proofs.Lists.both-ways (sym e ∙ ap test s ∙ h))
+    go more false e (inl s) = absurd (Rattle.newt_spec_graph.proofs.Lists.both-ways (sym e ∙ ap test s ∙ h))
     go more false e (inr n) = more n
 
 same-self : (h : Hit) → same_identity h h ≡ true

@@ -6,10 +6,11 @@ use Rattle.newt_graph.specs.Graph.{RawGraph}
 use Rattle.newt_spec_store.specs.Keys.{Path, IndexSpec, paths_of, same_paths}
 use Rattle.newt_spec_store.specs.Store.{Store, Soup, Entry, TagTable, soup_named, entry_of, change_first, change_soup, change_entry, make_soup, drop_soup, add_entry, remove_entry}
 use Rattle.newt_base.specs.Names.{is_name}
-use Rattle.newt_spec_store.specs.Valid.{well_formed, valid_soup, valid_entry, valid_spec, valid_tags, all_apart, rises}
+use Rattle.newt_spec_graph.specs.Lists.{all_apart, rises}
+use Rattle.newt_spec_store.specs.Valid.{well_formed, valid_soup, valid_entry, valid_spec, valid_tags}
 use Rattle.newt_spec_world.specs.Changed.{with_index, without_index, with_tags, new_store}
-use Rattle.newt_laws.specs.Lists.{Each, Among}
-use Rattle.newt_laws.proofs.Lists.{each-list_all, list_all-each}
+use Rattle.newt_spec_graph.specs.Lists.{Each, Among}
+use Rattle.newt_spec_graph.proofs.Lists.{each-list_all, list_all-each}
 
 -- ---- lists
 

@@ -5,9 +5,9 @@ use Rattle.std.specs.Option.{is_none}
 use Rattle.std.specs.Bool.{⊤}
 use Rattle.std.proofs.lemmas.Bool.{eqb-true, eqb-false}
 use Rattle.newt_spec_store.specs.Store.{Store, Soup, Entry, soup_named, entry_of, change_soup}
-use Rattle.newt_spec_world.specs.World.{World, Device, Media, blank, one, two, lost, device, store_of, store_if_mounted, mounted_store, soup_in, entry_in, flat, change_at, change_device, change_store, change_media, change_soup_in}
+use Rattle.newt_spec_world.specs.World.{World, Device, Media, blank, one, device, store_of, store_if_mounted, mounted_store, soup_in, entry_in, flat, change_at, change_device, change_store, change_media, change_soup_in}
 use Rattle.newt_laws.specs.Worlds.{OnMedia, OnUnits}
-use Rattle.newt_laws.proofs.Lists.{some-same, none-some}
+use Rattle.newt_spec_graph.proofs.Lists.{some-same, none-some}
 
 pub at-same : {X : Type 0} (u : ℕ) (f : X → X) (xs : List (Option X)) → flat (slice_get (change_at u f xs) u) ≡ option_map f (flat (slice_get xs u))
 at-same u f [] = refl
@@ -59,8 +59,6 @@ pub change-media : (P : ℕ → Store → Type 0) (blocks : ℕ) (f : Store → 
     → ((s : Store) → m ≡ one s → P blocks s → P blocks (f s)) → OnMedia P blocks (change_media f m)
 change-media P blocks f blank h k = tt
 change-media P blocks f (one s) h k = k s refl h
-change-media P blocks f (two s t) h k = tt
-change-media P blocks f lost h k = tt
 
 -- the unit has a device with this one store
 pub record Has (w : World) (u blocks : ℕ) (s : Store) : Type 0 where
@@ -101,8 +99,6 @@ has-mounted w u s h = go (device w u) refl h
     media : (m : Media) → store_of m ≡ Some s → m ≡ one s
     media blank e = absurd (none-some s e)
     media (one t) e = ap one (some-same t s e)
-    media (two a b) e = absurd (none-some s e)
-    media lost e = absurd (none-some s e)
     go : (o : Option Device) → device w u ≡ o → option_and_then store_if_mounted o ≡ Some s → (blocks : ℕ) × Has w u blocks s
     go None e k = absurd (none-some s k)
     go (Some d) e k = (d.blocks, record { on = d; is = e; has = on_it d.mounted k; of = refl })

@@ -4,7 +4,7 @@ use Rattle.newt_base.specs.Names.{equal_text}
 use Rattle.newt_spec_store.specs.Keys.{key}
 use Rattle.newt_spec_store.specs.Store.{Entry, Soup, Store}
 use Rattle.newt_spec_query.specs.Hits.{Query, Hit, in_scope, carries, above, below, passes}
-use Rattle.newt_laws.specs.Lists.{Among}
+use Rattle.newt_spec_graph.specs.Lists.{Among}
 
 -- an entry of a soup of the query's name, in a store in its scope, that carries its index; the entry has a key, is in
 -- bounds and passes

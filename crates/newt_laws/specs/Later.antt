@@ -2,7 +2,7 @@
 use Rattle.std.specs.Prelude.{◌≡◌, ℕ, ◌<◌, ◌≤◌, Option, Some, ◌⊎◌}
 use Rattle.newt_spec_store.specs.Store.{Store, Soup, Entry}
 use Rattle.newt_spec_world.specs.World.{World, store_on_unit}
-use Rattle.newt_laws.specs.Lists.{Among}
+use Rattle.newt_spec_graph.specs.Lists.{Among}
 
 -- q is p, later: each id in it was there, or is new
 pub record SoupLater (p q : Soup) : Type 0 where

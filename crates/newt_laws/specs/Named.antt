@@ -3,7 +3,7 @@ use Rattle.std.specs.Prelude.{◌≡◌, ℕ, Option, Some}
 use Rattle.newt_spec_store.specs.Store.{Store, Soup, Entry}
 use Rattle.newt_spec_world.specs.World.{World, mounted_store}
 use Rattle.newt_spec_world.specs.Alias.{Alias, Spot}
-use Rattle.newt_laws.specs.Lists.{Among}
+use Rattle.newt_spec_graph.specs.Lists.{Among}
 
 -- the entry of the alias's id in the soup and the mounted store of its signatures
 pub record IsNamed (w : World) (a : Alias) (spot : Spot) : Type 0 where

@@ -4,8 +4,9 @@ use Rattle.newt_spec_store.specs.Store.{Store}
 use Rattle.newt_spec_world.specs.declared.command.Command.{Command}
 use Rattle.newt_spec_world.specs.declared.command.Command.TheVariants as command
 use Rattle.newt_spec_world.specs.World.{World, settle, mounted_stores}
-use Rattle.newt_laws.specs.Lists.{Pairs}
+use Rattle.newt_spec_graph.specs.Lists.{Pairs}
 
+-- no cursor has another key than its hit
 abbrev pub IsSettled : World → Type 0
 IsSettled w = settle w ≡ w
 

@@ -5,18 +5,17 @@ use Rattle.newt_base.specs.Names.{is_name, same_name}
 use Rattle.newt_graph.specs.Graph.{RawGraph}
 use Rattle.newt_spec_graph.specs.Limits.{within_limits}
 use Rattle.newt_spec_store.specs.Store.{Store}
-use Rattle.newt_spec_store.specs.Valid.{valid, valid_path, valid_symbol, all_apart}
+use Rattle.newt_spec_graph.specs.Lists.{all_apart}
+use Rattle.newt_spec_store.specs.Valid.{valid, valid_path, valid_symbol}
 use Rattle.newt_spec_world.specs.declared.command.Command.{Command}
 use Rattle.newt_spec_world.specs.declared.command.Command.TheVariants as command
 use Rattle.newt_spec_world.specs.declared.command.PartWord.{PartWord}
-use Rattle.newt_spec_world.specs.World.{World, Device, Media, blank, one, two, lost, device}
+use Rattle.newt_spec_world.specs.World.{World, Device, Media, blank, one, device}
 
 -- it holds of each store that the media has, with the number of blocks
 abbrev pub OnMedia : (ℕ → Store → Type 0) → ℕ → Media → Type 0
 OnMedia P blocks blank = ⊤
 OnMedia P blocks (one s) = P blocks s
-OnMedia P blocks (two s t) = ⊤
-OnMedia P blocks lost = ⊤
 
 -- it holds of each store of the units that are meant
 abbrev pub OnUnits : (ℕ → Type 0) → (ℕ → Store → Type 0) → World → Type 0

@@ -1,22 +1,25 @@
 //! Laws of the plain world.
 #![tactic(auto)]
 
-ghost use Rattle.std.specs.Prelude.{◌≡◌, List, IsTrue};
+ghost use Rattle.std.specs.Prelude.{◌≡◌, ◌+◌, List, IsTrue, length};
 ghost use Rattle.std.specs.Prelude.{slice_get};
 ghost use Rattle.std.specs.declared.cmp.Ordering.TheVariants.{Less};
 ghost use Rattle.std.specs.Prelude.{Option};
 ghost use Rattle.newt_graph.specs.Graph.{RawGraph};
-ghost use Rattle.newt_spec_store.specs.Store.{Store, Entry, Soup, soup_named, change_soup, remove_entry, drop_soup};
-ghost use Rattle.newt_spec_store.specs.Cost.{directory_bytes};
+ghost use Rattle.newt_spec_store.specs.Store.{Store, Entry, Soup, soup_named, entry_of, change_soup, change_entry, make_soup, add_entry, remove_entry, drop_soup};
+ghost use Rattle.newt_image.specs.Objects.{pages_for};
+ghost use Rattle.newt_spec_store.specs.Cost.{directory_bytes, cost, entry_pages, soup_pages};
 ghost use Rattle.newt_spec_store.specs.Image.{Objects, entry_bytes};
 ghost use Rattle.newt_spec_store.specs.Reading.{whole, directory};
 ghost use Rattle.newt_spec_store.specs.StoreOf.{entry_row, store_of};
-ghost use Rattle.newt_laws.specs.Laid.{bare, FitsRecord, row_of, Laid, IsLaid};
+ghost use Rattle.newt_spec_store.specs.OfImage.{IsStoreOf, blocks_of};
+ghost use Rattle.newt_spec_world.specs.First.{world_of};
+ghost use Rattle.newt_spec_store.specs.Laid.{bare, FitsRecord, row_of, Laid, IsLaid};
 ghost use Rattle.newt_spec_store.specs.Valid.{well_formed, valid};
 ghost use Rattle.newt_spec_query.specs.Hits.{Query, Hit, hits, hit_cmp};
 ghost use Rattle.newt_spec_world.specs.World.{World};
 ghost use Rattle.std.specs.Prelude.{ℕ, Some};
-ghost use Rattle.newt_spec_world.specs.World.{store_on_unit, first_world, Device, flat};
+ghost use Rattle.newt_spec_world.specs.World.{store_on_unit};
 ghost use Rattle.newt_spec_world.specs.Alias.{Alias as IsAlias, Spot, resolved};
 ghost use Rattle.newt_laws.specs.Later.{WorldLater, StoreLater, EntryGone, SoupGone};
 ghost use Rattle.newt_laws.specs.Named.{IsNamed};
@@ -26,8 +29,23 @@ ghost use Rattle.std.specs.Prelude.{false};
 ghost use Rattle.newt_spec_world.specs.Changed.{changed};
 ghost use Rattle.newt_laws.specs.Settled.{IsSettled, MountedApart, moves_keys};
 ghost use Rattle.newt_laws.specs.Worlds.{AllValid, has_form};
-ghost use Rattle.newt_laws.specs.Lists.{Each, Pairs, Among};
+ghost use Rattle.newt_spec_graph.specs.Lists.{Each, Pairs, Among};
 ghost use Rattle.newt_laws.specs.Found.{IsHit};
+
+/// What a store costs after a change, from what it cost before: a store that counts as it goes has the count made afresh.
+pub fn costs_add_up()
+    ensures added { (name : List ℕ) (time : ℕ) (graph : RawGraph) (s : Store) (p : Soup) → soup_named name s ≡ Some p
+        → cost (change_soup name (add_entry time graph) s) ≡ cost s + entry_pages (record { uid = p.next_uid; time = time; graph = graph }) }
+    ensures replaced { (name : List ℕ) (uid : ℕ) (change : Entry → Entry) (s : Store) (p : Soup) (e : Entry) → soup_named name s ≡ Some p → entry_of uid p ≡ Some e
+        → cost (change_soup name (change_entry uid change) s) + entry_pages e ≡ cost s + entry_pages (change e) }
+    ensures removed { (name : List ℕ) (uid : ℕ) (s : Store) (p : Soup) (e : Entry) → IsTrue (well_formed s) → soup_named name s ≡ Some p → entry_of uid p ≡ Some e
+        → cost (change_soup name (remove_entry uid) s) + entry_pages e ≡ cost s }
+    ensures declared { (name : List ℕ) (change : Soup → Soup) (s : Store) (p : Soup) → soup_named name s ≡ Some p → (change p).entries ≡ p.entries
+        → cost (change_soup name change s) + pages_for (length (directory_bytes s)) ≡ cost s + pages_for (length (directory_bytes (change_soup name change s))) }
+    ensures made { (name : List ℕ) (s : Store) → cost (make_soup name s) + pages_for (length (directory_bytes s)) ≡ cost s + pages_for (length (directory_bytes (make_soup name s))) }
+    ensures dropped { (name : List ℕ) (s : Store) (p : Soup) → IsTrue (well_formed s) → soup_named name s ≡ Some p
+        → cost (drop_soup name s) + soup_pages p + pages_for (length (directory_bytes s)) ≡ cost s + pages_for (length (directory_bytes (drop_soup name s))) }
+{}
 
 /// The hits of a query are what it finds, and nothing else.
 pub fn hits_are_found()
@@ -85,16 +103,29 @@ pub fn records_are_read_back()
 pub fn stores_are_read_back()
     ensures back { (graph_of : List ℕ → Option RawGraph) (objects : Objects) (blocks : ℕ) (s : Store) (laid : List Laid) → IsTrue (valid blocks s) → IsLaid graph_of objects s laid
         → store_of graph_of objects blocks ≡ Some s }
+    ensures at_most_one { (graph_of : List ℕ → Option RawGraph) (objects : Objects) (blocks : ℕ) (s t : Store) (laid others : List Laid) → IsTrue (valid blocks s) → IsTrue (valid blocks t)
+        → IsLaid graph_of objects s laid → IsLaid graph_of objects t others → s ≡ t }
     ensures sound { (graph_of : List ℕ → Option RawGraph) (objects : Objects) (blocks : ℕ) (s : Store) → store_of graph_of objects blocks ≡ Some s → IsTrue (valid blocks s) }
 {}
 
-/// What holds of a first world in which nothing is mounted, and so of all worlds of a run.
+/// The reading of an image gives at most one store.
+pub fn images_hold_one_store()
+    ensures { (graph_of : List ℕ → Option RawGraph) (image : List ℕ) (s t : Store) → IsStoreOf graph_of image s → IsStoreOf graph_of image t → s ≡ t }
+{}
+
+/// What holds of a world holds of all later worlds of its run.
 pub fn runs_keep_all()
     ensures valid { (w : World) (cs : List IsCommand) → AllValid w → Each (λ c. IsTrue (has_form c)) cs → AllValid (after w cs) }
     ensures settled { (w : World) (cs : List IsCommand) → IsSettled w → IsSettled (after w cs) }
     ensures apart { (w : World) (cs : List IsCommand) → MountedApart w → MountedApart (after w cs) }
-    ensures first_settled { (units : List (Option Device)) → IsSettled (first_world units) }
-    ensures first_apart { (units : List (Option Device)) → ((u : ℕ) (d : Device) → flat (slice_get units u) ≡ Some d → d.mounted ≡ false) → MountedApart (first_world units) }
+{}
+
+/// What holds of the first world of a run.
+pub fn first_worlds_keep_all()
+    ensures valid { (store_of_image : List ℕ → Option Store) (held : List ℕ → Option (List ℕ)) (names : List (List ℕ))
+        → ((image : List ℕ) (s : Store) → store_of_image image ≡ Some s → IsTrue (valid (blocks_of image) s)) → AllValid (world_of store_of_image held names) }
+    ensures settled { (store_of_image : List ℕ → Option Store) (held : List ℕ → Option (List ℕ)) (names : List (List ℕ)) → IsSettled (world_of store_of_image held names) }
+    ensures apart { (store_of_image : List ℕ → Option Store) (held : List ℕ → Option (List ℕ)) (names : List (List ℕ)) → MountedApart (world_of store_of_image held names) }
 {}
 
 /// What is removed or dropped is gone.

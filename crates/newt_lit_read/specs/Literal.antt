@@ -17,6 +17,10 @@ abbrev pub or_literal : Option RawGraph → Result RawGraph LitFault
 or_literal None = Err Literal
 or_literal (Some g) = Ok g
 
+-- the graph that a text is a literal of, or none
+abbrev pub graph_read : List ℕ → Option RawGraph
+graph_read text = draft_at text >>= graph_of
+
 -- the graph that a text is a literal of, or Literal
 unfoldable pub literal_read : List ℕ → Result RawGraph LitFault
-literal_read text = or_literal (draft_at text >>= graph_of)
+literal_read text = or_literal (graph_read text)

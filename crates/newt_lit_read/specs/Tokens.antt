@@ -93,7 +93,7 @@ escaped_in_string (c ∷ rest) = if (c == 34) || (c == 92) then Some (c, rest) e
 
 unfoldable pub next_in_string : Next
 next_in_string [] = None
-next_in_string (c ∷ rest) = if c == 34 then Some (None, rest) else if c == 92 then piece (escaped_in_string rest) else if nat_lt c 32 then None else Some (Some c, rest)
+next_in_string (c ∷ rest) = if c == 34 then Some (None, rest) else if c == 92 then piece (escaped_in_string rest) else if nat_lt c 32 then None else if nat_le c 1_114_111 then Some (Some c, rest) else None
 
 unfoldable pub next_byte : Next
 next_byte [] = None

@@ -1,5 +1,5 @@
 -- What is spelled is spelled widely: the wide grammar lets go of the flag alone.
-use Rattle.std.specs.Prelude.{ℕ, Bool, true, false, List}
+use Rattle.std.specs.Prelude.{ℕ, true, false, List}
 use Rattle.newt_graph.specs.declared.node.Node.{Node}
 use Rattle.newt_graph.specs.declared.node.Ref.{Ref}
 use Rattle.newt_graph.specs.Graph.{RawGraph}

@@ -1,5 +1,5 @@
 -- The answer to a text, by what spells it.
-use Rattle.std.proofs.Common.{◌≡◌, ◌≢◌, ℕ, ◌<◌, Bool, true, false, List, [], length, get_or, All, Option, Some, None, refl, sym, ◌∙◌, subst, inl, inr, ◌⊎◌, arith}
+use Rattle.std.proofs.Common.{◌≡◌, ◌≢◌, ℕ, true, false, List, length, Option, Some, None, refl, ◌∙◌, subst, inl, inr, arith}
 use Rattle.std.specs.Prelude.{Result, Ok, Err, ◌↔◌}
 use Rattle.std.proofs.lemmas.Bool.{cases_lt}
 use Rattle.std.proofs.lemmas.List.{get_or_past}
@@ -10,7 +10,7 @@ use Rattle.newt_nsof.proofs.Wider.{spelled_wider}
 use Rattle.newt_nsof.proofs.Spelled.{written_spells}
 use Rattle.newt_nsof_read.specs.declared.fault.NsofFault.{NsofFault}
 use Rattle.newt_nsof_read.specs.declared.fault.NsofFault.TheVariants.{Malformed, Compressed, Memory}
-use Rattle.newt_nsof_read.specs.Reading.{graph_at, answer, decoded}
+use Rattle.newt_nsof_read.specs.Reading.{graph_at, decoded}
 use Rattle.newt_nsof_read.proofs.Fields.{IsBytes}
 use Rattle.newt_nsof_read.proofs.Sound.{graph_spells}
 use Rattle.newt_nsof_read.proofs.Complete.{graph_again, refused}

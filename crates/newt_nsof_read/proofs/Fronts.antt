@@ -1,14 +1,13 @@
 -- The front of a text, and what is read behind it: together they are an object.
-use Rattle.std.proofs.Common.{◌≡◌, ℕ, zero, suc, ◌+◌, ◌-◌, ◌<◌, ◌≤◌, Bool, true, false, cond, ltb, leb, List, [], ◌∷◌, ◌++◌, length, Option, Some, None, refl, sym, ap, subst, ◌∙◌, append_assoc, arith, inl, inr, ◌⊎◌}
+use Rattle.std.proofs.Common.{◌≡◌, ℕ, zero, suc, ◌-◌, ◌<◌, Bool, true, false, cond, ltb, leb, List, [], ◌∷◌, ◌++◌, length, Option, Some, None, refl, sym, ap, subst, ◌∙◌, append_assoc, arith, inl, inr}
 use Rattle.std.specs.Prelude.{slice_get, not, ◌&&◌}
 use Rattle.std.proofs.lemmas.Bool.{cases_lt, lt-ltb, le-ltb}
 use Rattle.std.proofs.lemmas.List.{append-nil, length-append}
 use Rattle.newt_graph.specs.declared.node.Node.{Node}
 use Rattle.newt_graph.specs.declared.node.Node.TheVariants.{Array, Frame}
 use Rattle.newt_graph.specs.declared.node.Ref.{Ref}
-use Rattle.newt_graph.specs.declared.node.Ref.TheVariants as refs
 use Rattle.newt_nsof.specs.Text.{SymbolText, Again, Object}
-use Rattle.newt_nsof.proofs.Normal.{get_append, get_seam}
+use Rattle.newt_nsof.proofs.Normal.{get_append}
 use Rattle.newt_nsof_read.specs.declared.tag.Tag.{Tag}
 use Rattle.newt_nsof_read.specs.declared.tag.Tag.TheVariants as tags
 use Rattle.newt_nsof_read.specs.declared.open.Kind.{Kind}
@@ -19,10 +18,11 @@ use Rattle.newt_nsof_read.specs.declared.fault.NsofFault.{NsofFault}
 use Rattle.newt_nsof_read.specs.declared.fault.NsofFault.TheVariants.{Malformed, Compressed, Memory}
 use Rattle.newt_nsof_read.specs.Met.{Met}
 use Rattle.newt_nsof_read.specs.Opened.{Opened}
-use Rattle.newt_nsof_read.specs.Reading.{◌>>=◌, Fails, Reader, add, filled, count_at, label_at, many_at, all_distinct, frame_at, array_at, plain_array_at, tag_of, object_by, tagged_at, object_at, is_other}
-use Rattle.newt_nsof_read.specs.Stack.{just_opened, closed, rest_at, resumed, whole, as_front, opens, leaf_by, frame_front, plain_array_front, array_front, front_by, allowed, front_of, IsOpen, FrontIsOpen}
+use Rattle.newt_nsof_read.specs.Reading.{◌>>=◌, Fails, add, count_at, label_at, many_at, all_distinct, frame_at, array_at, plain_array_at, tag_of, object_by, tagged_at, object_at, is_other}
+use Rattle.newt_nsof_read.specs.Stack.{just_opened, closed, rest_at, resumed, whole, as_front, opens, leaf_by, frame_front, plain_array_front, array_front, front_by, allowed, front_of, FrontIsOpen}
 use Rattle.newt_nsof_read.proofs.Fields.{IsBytes, IsBytes-rest, bind_some, unless, provided, some_is, Takes, Takes-then, count_takes}
-use Rattle.newt_nsof_read.proofs.Sound.{Added, add_adds, label_sound, many_sound, label_lists, object_sound, stays_open}
+use Rattle.newt_nsof_read.proofs.Taken.{Added, add_adds, label_sound, many_sound, label_lists, stays_open}
+use Rattle.newt_nsof_read.proofs.Sound.{object_sound}
 use Rattle.newt_nsof_read.proofs.Stacks.{bind_through, resumed_none, Stays}
 
 -- ---- containers

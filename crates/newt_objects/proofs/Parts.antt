@@ -1,8 +1,8 @@
 -- Parts of a text, and how their pages are written.
-use Rattle.std.proofs.Common.{◌≡◌, ◌⊎◌, ℕ, zero, suc, ◌+◌, ◌-◌, ◌*◌, ◌^◌, ◌<◌, ◌≤◌, min, List, [], ◌∷◌, ◌++◌, length, take, drop, replicate, refl, sym, ◌∙◌, ap, subst, arith, ⊎_elim, length-append, length-drop, length-take, append_assoc}
+use Rattle.std.proofs.Common.{◌≡◌, ℕ, suc, ◌+◌, ◌-◌, ◌^◌, ◌<◌, ◌≤◌, min, List, [], ◌∷◌, ◌++◌, length, take, drop, replicate, refl, sym, ◌∙◌, ap, arith, ⊎_elim, length-drop, append_assoc}
 use Rattle.std.specs.Int.{to_be_bytes, from_be_bytes, w32}
 use Rattle.std.proofs.lemmas.Bool.{cases_lt}
-use Rattle.std.proofs.lemmas.List.{take_all, take_at, drop_all, drop_at, drop-drop, length-replicate, drop-replicate, append-nil}
+use Rattle.std.proofs.lemmas.List.{take_all, take_at, drop_all, drop_at, drop-drop, length-replicate, drop-replicate}
 use Rattle.std.proofs.lemmas.Nat.{from_be_bytes-to_be_bytes_4}
 use Rattle.newt_host.specs.Moments.{overwritten}
 use Rattle.newt_image.specs.Pages.{object_id, part_number, object_length, page_data, word_at}
@@ -28,7 +28,6 @@ part_slice bytes at start end s e = ⊎_elim
     ∙ drop_all start bytes (omega arith)
     ∙ sym (take_all 500 (drop at bytes) (omega (arith, length-drop at bytes)) ∙ drop_all at bytes high))
     (cases_lt at (length bytes))
-
 
 word_first : (n : ℕ) (rest : List ℕ) → n < 2 ^ 32 → word_at 0 (to_be_bytes w32 n ++ rest) ≡ n
 word_first n rest low = ap (from_be_bytes w32) (take_at (to_be_bytes w32 n) rest 4 refl) ∙ from_be_bytes-to_be_bytes_4 n low

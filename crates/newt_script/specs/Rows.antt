@@ -1,5 +1,5 @@
 -- The table of commands: the word of each row, and what is read behind it. The table is this project's own.
-use Rattle.std.specs.Prelude.{ℕ, ◌==◌, List, [], ◌∷◌, length, codes, Option, Some, None, Result, Ok, Err, if◌then◌else◌}
+use Rattle.std.specs.Prelude.{ℕ, ◌==◌, List, length, codes, Option, Some, None, Result, Ok, Err, if◌then◌else◌}
 use Rattle.std.specs.Str.{bytes_eq}
 use Rattle.newt_base.specs.Text.{decimal_value, hex_bytes}
 use Rattle.newt_base.specs.declared.Refusal.{Refusal}

@@ -1,4 +1,5 @@
--- Symbols by name, slots of frames, and paths through them.
+-- Frames by the names of their slots, and paths through them. That a path is a list of symbols is Newton's (Newton Programmer's Guide 2.0);
+-- which symbols keep their spelling, and that a path takes no step from an array, is this project's own.
 use Rattle.std.specs.Prelude.{ℕ, zero, suc, ◌+◌, Bool, true, false, not, ◌&&◌, ◌==◌, List, [], ◌∷◌, ◌++◌, map, length, Option, Some, None, is_none, option_map, option_and_then, unwrap_or, option_to_list, slice_set, filter}
 use Rattle.std.specs.Prelude.{slice_get}
 use Rattle.std.specs.List.{position, position_or_len, enumerate_from, last_or}
@@ -11,6 +12,7 @@ use Rattle.newt_graph.specs.Graph.{RawGraph}
 use Rattle.newt_spec_graph.specs.Graph.{change_nth, object}
 use Rattle.newt_graph.specs.Raw.{renamed, renamed_ref}
 
+-- there is a node, and it is a symbol of this name but for the case of its letters (Newton Formats 1.1)
 abbrev pub is_named : List ℕ → Option Node → Bool
 is_named name (Some (Symbol other)) = same_name name other
 is_named name _ = false
@@ -19,23 +21,24 @@ is_named name _ = false
 abbrev pub symbol_number : List Node → List ℕ → Option ℕ
 symbol_number nodes name = position (λ node. is_named name (Some node)) nodes
 
--- which slot has this name, by the frame's tags
+-- which slot of a frame has this name, by the frame's tags
 abbrev pub slot_number : List Node → List ℕ → List ℕ → Option ℕ
 slot_number nodes name tags = position (λ t. is_named name (slice_get nodes t)) tags
 
--- the value of the slot of this name
+-- the value of the slot of this name; none where there is no such slot or no frame
 abbrev pub slot_value : List Node → List ℕ → Option Node → Option Ref
 slot_value nodes name (Some (Frame tags values)) = option_and_then (slice_get values) (slot_number nodes name tags)
 slot_value nodes name _ = None
 
 -- ---- the value that a path reaches
 
--- none where a step is not taken from a frame, or a slot is missing
+-- the value that is reached slot by slot; none where a step is not taken from a frame, or a slot is missing
 abbrev pub value_below : List Node → Ref → List (List ℕ) → Option Ref
 value_below nodes value [] = Some value
 value_below nodes value (name ∷ path) =
     option_and_then (λ v. value_below nodes v path) (slot_value nodes name (object nodes value))
 
+-- the value that a path reaches from the root
 abbrev pub value_at : RawGraph → List (List ℕ) → Option Ref
 value_at g path = value_below g.nodes g.root path
 
@@ -61,6 +64,7 @@ abbrev pub with_slot : Option ℕ → ℕ → Ref → List ℕ → List Ref → 
 with_slot None tag value tags values = Frame (tags ++ tag ∷ []) (values ++ value ∷ [])
 with_slot (Some i) tag value tags values = Frame tags (slice_set values i value)
 
+-- a frame with this value in its slot of this name: where the slot stands, or else as a new last slot
 abbrev pub set_slot : List Node → List ℕ → Ref → Node → Node
 set_slot nodes name value (Frame tags values) =
     with_slot (slot_number nodes name tags) (unwrap_or (symbol_number nodes name) 0) value tags values
@@ -71,6 +75,7 @@ abbrev pub frame_number : List Node → Ref → Option ℕ
 frame_number nodes (Imm _) = None
 frame_number nodes (At n) = elim (slice_get nodes n) [ Some (Frame _ _) ↦ Some n | _ ↦ None ]
 
+-- a list without its last element
 abbrev pub but_last : {X : Type 0} → List X → List X
 but_last [] = []
 but_last (x ∷ []) = []

@@ -1,4 +1,5 @@
--- The hits of a query: a filter of all entries, put in order.
+-- The hits of a query: a filter of all entries, put in order. That a query finds the entries of a soup or a union soup in the order of an index is Newton's
+-- (Newton Programmer's Guide 2.0, queries and union soups); which soups take part, which entries have a key, and the order of ties are this project's own.
 use Rattle.std.specs.Prelude.{ℕ, Bool, true, false, not, ◌&&◌, ◌||◌, ◌==◌, List, [], ◌∷◌, ◌++◌, map, filter, flat_map, filter_map, fold, Option, Some, None, option_map, cond}
 use Rattle.std.specs.List.{list_all, list_any}
 use Rattle.std.specs.declared.cmp.Ordering.{Ordering}
@@ -14,29 +15,33 @@ use Rattle.newt_spec_query.specs.Words.{has_text, has_word}
 use Rattle.newt_spec_query.specs.Tags.{tags_of, tags_pass}
 use Rattle.newt_spec_query.specs.Spec.{Spec, Bound, unbounded, including, excluding}
 
+-- a query: one store by its signature or all mounted stores, the name of its soups, and what it says
 pub record Query : Type 0 where
   -- one store by its signature, or all mounted stores
   pub scope : Option ℕ
   pub name : List ℕ
   pub spec : Spec
 
+-- a hit: its key and its identity, which is the signatures of its store and soup and its entry id
 pub record Hit : Type 0 where
   pub key : Key
   pub store : ℕ
   pub soup : ℕ
   pub uid : ℕ
 
+-- the key is not below the lower end of the range
 abbrev pub above : IndexSpec → Bound → Key → Bool
 above index unbounded k = true
 above index (including b) k = not (is_lt (key_cmp index k b))
 above index (excluding b) k = is_gt (key_cmp index k b)
 
+-- the key is not above the upper end of the range
 abbrev pub below : IndexSpec → Bound → Key → Bool
 below index unbounded k = true
 below index (including b) k = not (is_gt (key_cmp index k b))
 below index (excluding b) k = is_lt (key_cmp index k b)
 
--- every string of the graph, folded
+-- every string of the graph, folded whole
 abbrev pub strings : RawGraph → List (List ℕ)
 strings g = filter_map folded_string g.nodes
   where
@@ -50,34 +55,39 @@ text_passes q g =
     list_all (λ word. list_any (λ text. has_word text word q.entire) (strings g)) q.words
     && list_all (λ part. list_any (λ text. has_text text part) (strings g)) q.texts
 
+-- the entry passes the tags, the words and the texts
 abbrev pub passes : Spec → Option TagTable → RawGraph → Bool
 passes q table g = tags_pass q.tags (tags_of table g) && text_passes q g
 
 -- ---- the hits of one entry, one soup, all members
 
--- the key, where it is in bounds and the entry passes
+-- the key of an entry, where it has one that is in the range and the entry passes
 abbrev pub kept : Spec → Soup → Entry → Option Key → Option Key
 kept q p e None = None
 kept q p e (Some k) = cond (above q.index q.lower k && below q.index q.upper k && passes q p.tags e.graph) (Some k) None
 
+-- the hit that an entry is, if it is one
 abbrev pub hit_of : Spec → Store → Soup → Entry → Option Hit
 hit_of q s p e =
     option_map (λ k. record { key = k; store = s.sig; soup = p.sig; uid = e.uid }) (kept q p e (key e.graph q.index))
 
--- with no index every soup takes part
+-- the soup has an index that agrees with this one; with no index every soup takes part
 abbrev pub carries : IndexSpec → Soup → Bool
 carries [] p = true
 carries index p = list_any (same_spec index) p.specs
 
+-- the store is in the scope of the query
 abbrev pub in_scope : Option ℕ → Store → Bool
 in_scope None s = true
 in_scope (Some sig) s = s.sig == sig
 
+-- the hits among the entries of a soup
 abbrev pub soup_hits : Query → Store → Soup → List Hit
 soup_hits q s p = cond (equal_text p.name q.name && carries q.spec.index p) (filter_map (hit_of q.spec s p) p.entries) []
 
 -- ---- order
 
+-- the order of hits: by key, then by the signature of the store, that of the soup and the entry id, each rising, whatever the direction of the index
 abbrev pub hit_cmp : IndexSpec → Hit → Hit → Ordering
 hit_cmp index a b =
     ordering_then (key_cmp index a.key b.key)

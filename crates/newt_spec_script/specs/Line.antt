@@ -1,4 +1,4 @@
--- What a line says: a command, a command whose last part is still to be read, or a refusal.
+-- What a line says: a command, a command whose last part is still to be read, or a refusal. The commands are this project's own.
 use Rattle.std.specs.Prelude.{◌≡◌, ℕ, ◌+◌, ◌*◌, ◌^◌, ◌-◌, Bool, true, false, not, ◌&&◌, ◌||◌, ◌==◌, nat_lt, nat_le, List, [], ◌∷◌, ◌++◌, length, take, drop, fold, find, Option, Some, None, Result, Ok, Err, codes, bytes_eq, if◌then◌else◌}
 use Rattle.std.specs.List.{list_all, prefix_len}
 use Rattle.newt_base.specs.declared.Refusal.{Refusal}
@@ -7,30 +7,36 @@ use Rattle.newt_base.specs.Names.{same_name}
 use Rattle.newt_base.specs.Text.{decimal_value, signed_value}
 use Rattle.newt_graph.specs.Graph.{RawGraph}
 use Rattle.newt_spec_store.specs.Keys.{Path}
-use Rattle.newt_spec_store.specs.Valid.{all_apart}
+use Rattle.newt_spec_graph.specs.Lists.{all_apart}
 use Rattle.newt_spec_world.specs.declared.command.Command.{Command}
 use Rattle.newt_spec_world.specs.declared.command.Command.TheVariants as command
 use Rattle.newt_spec_script.specs.Words.{Reader, is_blank, skip_blanks, trimmed, word, of1, of2, of3, of4, of5, of6, decimal_to, unit_digit, name, path, part, symbol, several, words}
 
 -- ---- the forms of single words
 
+-- a unit
 abbrev pub unit : Reader ℕ
 unit = word unit_digit
 
+-- a number below 2^32
 abbrev pub number : Reader ℕ
 number = word decimal_value
 
+-- the signature of a store
 abbrev pub sig : Reader ℕ
 sig = word (decimal_to 536_870_911)
 
+-- how many bytes are read, at most 60,000
 abbrev pub len : Reader ℕ
 len = word (decimal_to 60_000)
 
+-- a cursor
 abbrev pub cursor : Reader ℕ
 cursor = word (decimal_to 31)
 
 -- ---- rows
 
+-- what a line gives before its last part is read
 pub data Parsed : Type 0 where
   -- a command, or a refusal
   ready : Result Command Refusal → Parsed
@@ -41,30 +47,33 @@ pub data Parsed : Type 0 where
   -- the rest of the line is bytes in hexadecimal
   bytes : List ℕ → (List ℕ → Command) → Parsed
 
--- nothing but blanks follows
+-- a row whose words are all; nothing but blanks follows
 abbrev pub whole : Reader Command → List ℕ → Parsed
 whole reader cs = elim (reader cs) [
   | Err r ↦ ready (Err r)
   | Ok (c, rest) ↦ if length (trimmed rest) == 0 then ready (Ok c) else ready (Err NotTheForm)
 ]
 
+-- a row that ends in a literal, which is not empty
 abbrev pub and_literal : Reader (RawGraph → Command) → List ℕ → Parsed
 and_literal reader cs = elim (reader cs) [
   | Err r ↦ ready (Err r)
   | Ok (f, rest) ↦ if length (trimmed rest) == 0 then ready (Err NotTheForm) else literal (trimmed rest) f
 ]
 
+-- a row that ends in an object stream in hexadecimal
 abbrev pub and_stream : Reader (RawGraph → Command) → List ℕ → Parsed
 and_stream reader cs = elim (reader cs) [ Err r ↦ ready (Err r) | Ok (f, rest) ↦ stream (trimmed rest) f ]
 
+-- a row that ends in bytes in hexadecimal
 abbrev pub and_bytes : Reader (List ℕ → Command) → List ℕ → Parsed
 and_bytes reader cs = elim (reader cs) [ Err r ↦ ready (Err r) | Ok (f, rest) ↦ bytes (trimmed rest) f ]
 
--- a command of no words
+-- a row of no words
 abbrev pub alone : {A : Type 0} → A → Reader A
 alone a cs = Ok (a, cs)
 
--- two rows: the first where nothing follows the soup's name
+-- the two rows of `tags`: the first where nothing follows the soup's name
 abbrev pub tags_row : List ℕ → Parsed
 tags_row cs = elim (whole (of2 unit name command.Tags) cs) [ ready (Ok c) ↦ ready (Ok c) | _ ↦ whole (of4 unit name (word path) distinct command.SetTags) cs ]
   where
@@ -74,7 +83,7 @@ tags_row cs = elim (whole (of2 unit name command.Tags) cs) [ ready (Ok c) ↦ re
       | Ok (names, rest) ↦ if all_apart same_name names then Ok (names, rest) else Err NotTheForm
     ]
 
--- two rows: the first where a star stands in place of the unit
+-- the two rows of `query`: the second where a star stands in place of the unit
 abbrev pub query_row : List ℕ → Parsed
 query_row cs = elim (word star cs) [
   | Ok (_, rest) ↦ and_literal (of1 name (λ s g. command.QueryAll s g)) rest
@@ -84,9 +93,11 @@ query_row cs = elim (word star cs) [
     star : List ℕ → Option ℕ
     star w = if bytes_eq w (codes "*") then Some 0 else None
 
+-- the first word of a command, and what is read behind it
 abbrev pub Row : Type 0
 Row = List ℕ × (List ℕ → Parsed)
 
+-- the table of commands
 abbrev pub rows : List Row
 rows =
     (codes "nsof", and_stream (alone command.Nsof))
@@ -136,20 +147,22 @@ rows =
 
 -- ---- lines
 
+-- the first word of a line, and what follows it
 abbrev pub first_word : List ℕ → List ℕ × List ℕ
 first_word cs =
     let text = skip_blanks cs in
     let n = prefix_len (λ c. not (is_blank c)) text in
     (take n text, drop n text)
 
--- blanks alone, or a comment
+-- a line of blanks alone, or whose first other byte is `%`
 abbrev pub says_nothing : List ℕ → Bool
 says_nothing cs = elim (skip_blanks cs) [ [] ↦ true | c ∷ _ ↦ c == 37 ]
 
+-- what the row of a word reads
 abbrev pub row_of : List ℕ → List ℕ → Parsed
 row_of w rest = elim (find (λ (r : Row). bytes_eq r.0 w) rows) [ None ↦ ready (Err NoCommand) | Some r ↦ r.1 rest ]
 
--- none for a line that gives no command
+-- what a line says, none for a line that gives no command; a line that is too long is refused before its words are read
 abbrev pub parsed : List ℕ → Option Parsed
 parsed line = elim (says_nothing line) [
   | true ↦ None

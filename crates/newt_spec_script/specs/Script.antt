@@ -1,4 +1,4 @@
--- A script: its lines, what they give, and the output.
+-- A script: its lines, what they give, and the output. All of it is this project's own.
 use Rattle.std.specs.Prelude.{◌≡◌, ◌⊎◌, ℕ, ◌+◌, ◌*◌, ◌-◌, Bool, true, false, not, ◌==◌, List, [], ◌∷◌, ◌++◌, map, flat_map, filter_map, Option, Some, None, option_map, option_and_then, Result, Ok, Err, ⊤, nat_lt, take}
 use Rattle.std.specs.List.{AllZip, prefix_len}
 use Rattle.newt_base.specs.Text.{hex_bytes}
@@ -23,7 +23,7 @@ lines (c ∷ cs) = elim (c == 10) [ true ↦ [] ∷ lines cs | false ↦ onto c 
     onto x [] = (x ∷ []) ∷ []
     onto x (l ∷ ls) = (x ∷ l) ∷ ls
 
--- a byte 13 at the end is dropped
+-- a line without the one byte 13 at its end
 abbrev pub without_return : List ℕ → List ℕ
 without_return [] = []
 without_return (c ∷ []) = elim (c == 13) [ true ↦ [] | false ↦ c ∷ [] ]
@@ -44,27 +44,31 @@ module _ (Reads Spells SpellsWide : List ℕ → RawGraph → Type 0) where
   abbrev pub NoGraph : (RawGraph → Type 0) → Type 0
   NoGraph P = (g : RawGraph) → ¬ P g
 
+  -- a stream: the graph that is spelled, else that it is compressed or malformed
   abbrev pub ReadsStream : List ℕ → (RawGraph → Command) → Item → Type 0
   ReadsStream bs f item =
       ((g : RawGraph) × Spells bs g × (item ≡ Ok (f g)))
       ⊎ (NoGraph (Spells bs) × ((g : RawGraph) × SpellsWide bs g) × (item ≡ Err Compressed))
       ⊎ (NoGraph (SpellsWide bs) × (item ≡ Err Malformed))
 
+  -- the same of hexadecimal text
   abbrev pub ReadsHex : Option (List ℕ) → (RawGraph → Command) → Item → Type 0
   ReadsHex None f item = item ≡ Err Malformed
   ReadsHex (Some bs) f item = ReadsStream bs f item
 
+  -- a command with bytes from hexadecimal text
   abbrev pub bytes_item : Option (List ℕ) → (List ℕ → Command) → Item
   bytes_item None f = Err Malformed
   bytes_item (Some bs) f = Ok (f bs)
 
+  -- what a line gives, as a relation
   abbrev pub ReadsParsed : Parsed → Item → Type 0
   ReadsParsed (ready r) item = item ≡ r
   ReadsParsed (literal text f) item = ((g : RawGraph) × Reads text g × (item ≡ Ok (f g))) ⊎ (NoGraph (Reads text) × (item ≡ Err Literal))
   ReadsParsed (stream digits f) item = ReadsHex (hex_bytes digits) f item
   ReadsParsed (bytes digits f) item = item ≡ bytes_item (hex_bytes digits) f
 
-  -- the items of the lines, each read; lines that say nothing give none
+  -- the items of lines that say something
   abbrev pub ReadsLines : List Parsed → List Item → Type 0
   ReadsLines = AllZip ReadsParsed
 
@@ -78,36 +82,43 @@ module _ (Reads Spells SpellsWide : List ℕ → RawGraph → Type 0) where
 
 -- ---- the run of the items
 
+-- the world after an item, and its reply; a line that is refused leaves the world
 abbrev pub step : World → Item → World × Reply
 step w (Err refusal) = (w, Reply.refused refusal)
 step w (Ok c) = answer w c
 
+-- the command that ends a script
 abbrev pub is_quit : Item → Bool
 is_quit (Ok command.Quit) = true
 is_quit _ = false
 
--- up to and with the first `quit`
+-- the items up to and with the first `quit`
 abbrev pub up_to_quit : List Item → List Item
 up_to_quit [] = []
 up_to_quit (x ∷ xs) = elim (is_quit x) [ true ↦ x ∷ [] | false ↦ x ∷ up_to_quit xs ]
 
+-- the world after items one after another
 abbrev pub world_after : World → List Item → World
 world_after w [] = w
 world_after w (x ∷ xs) = world_after (step w x).0 xs
 
+-- their replies
 abbrev pub replies_to : World → List Item → List Reply
 replies_to w [] = []
 replies_to w (x ∷ xs) = let a = step w x in a.1 ∷ replies_to a.0 xs
 
+-- the output of a script in this world
 abbrev pub output : World → List Item → List ℕ
 output w items = flat_map reply_text (replies_to w (up_to_quit items))
 
 -- ---- with readers that compute
 
+-- readings of literals and of streams as functions; a stream is refused as malformed or as compressed
 pub record Readers : Type 0 where
   pub literal_of : List ℕ → Option RawGraph
   pub stream_of : List ℕ → Result RawGraph Refusal
 
+-- what a line gives, with such readings
 abbrev pub item_of : Readers → Parsed → Item
 item_of rs (ready r) = r
 item_of rs (literal text f) = elim (rs.literal_of text) [ None ↦ Err Literal | Some g ↦ Ok (f g) ]
@@ -118,5 +129,6 @@ item_of rs (bytes digits f) = bytes_item (hex_bytes digits) f
     bytes_item None f = Err Malformed
     bytes_item (Some bs) f = Ok (f bs)
 
+-- what the lines of a script give
 abbrev pub items_of : Readers → List ℕ → List Item
 items_of rs script = map (item_of rs) (parsed_lines script)

@@ -1,4 +1,4 @@
--- The words of a line.
+-- The words of a line, and the readers of them. The forms are this project's own.
 use Rattle.std.specs.Prelude.{ℕ, ◌+◌, ◌-◌, ◌*◌, ◌^◌, Bool, true, false, not, ◌&&◌, ◌||◌, ◌==◌, nat_lt, nat_le, List, [], ◌∷◌, ◌++◌, length, reverse, take, filter, fold, map, Option, Some, None, option_map, option_and_then, Result, Ok, Err, ℤ, pos, negsuc, neg_ℤ, if◌then◌else◌, codes, bytes_eq, pred, drop}
 use Rattle.std.specs.List.{list_all, prefix_len, list_any, position, before_first, after_first}
 use Rattle.std.specs.Char.{is_ascii_digit}
@@ -14,48 +14,59 @@ use Rattle.newt_spec_store.specs.Keys.{Path}
 use Rattle.newt_spec_store.specs.Valid.{valid_path, valid_symbol}
 use Rattle.newt_spec_world.specs.declared.command.PartWord.{PartWord}
 
+-- a space or a tab
 abbrev pub is_blank : ℕ → Bool
 is_blank c = (c == 32) || (c == 9)
 
+-- a text from its first byte on that is no blank
 abbrev pub skip_blanks : List ℕ → List ℕ
 skip_blanks cs = drop (prefix_len is_blank cs) cs
 
+-- a text without the blanks at its ends
 abbrev pub trimmed : List ℕ → List ℕ
 trimmed cs = reverse (skip_blanks (reverse (skip_blanks cs)))
 
 -- ---- readers: a value from the front of a text, and the rest, or why not
 
+-- reads a value from the front of a text: the value and the rest, or why not
 abbrev pub Reader : Type 0 → Type 0
 Reader A = List ℕ → Result (A × List ℕ) Refusal
 
+-- goes on with the value and the rest
 abbrev pub then_read : {A B : Type 0} → Result (A × List ℕ) Refusal → (A → List ℕ → Result (B × List ℕ) Refusal) → Result (B × List ℕ) Refusal
 then_read (Err r) f = Err r
 then_read (Ok x) f = f x.0 x.1
 
--- one to six readers in a row, and what is made of their values
+-- one reader, and what is made of its value; the words below it read more, one after another
 abbrev pub of1 : {A R : Type 0} → Reader A → (A → R) → Reader R
 of1 p f cs = then_read (p cs) (λ a rest. Ok (f a, rest))
 
+-- two readers in a row
 abbrev pub of2 : {A B R : Type 0} → Reader A → Reader B → (A → B → R) → Reader R
 of2 p q f cs = then_read (p cs) (λ a. of1 q (f a))
 
+-- three readers
 abbrev pub of3 : {A B C R : Type 0} → Reader A → Reader B → Reader C → (A → B → C → R) → Reader R
 of3 p q r f cs = then_read (p cs) (λ a. of2 q r (f a))
 
+-- four readers
 abbrev pub of4 : {A B C D R : Type 0} → Reader A → Reader B → Reader C → Reader D → (A → B → C → D → R) → Reader R
 of4 p q r s f cs = then_read (p cs) (λ a. of3 q r s (f a))
 
+-- five readers
 abbrev pub of5 : {A B C D E R : Type 0} → Reader A → Reader B → Reader C → Reader D → Reader E → (A → B → C → D → E → R) → Reader R
 of5 p q r s t f cs = then_read (p cs) (λ a. of4 q r s t (f a))
 
+-- six readers
 abbrev pub of6 : {A B C D E F R : Type 0} → Reader A → Reader B → Reader C → Reader D → Reader E → Reader F → (A → B → C → D → E → F → R) → Reader R
 of6 p q r s t u f cs = then_read (p cs) (λ a. of5 q r s t u (f a))
 
+-- the value, or that the line has not the form
 abbrev pub or_not_the_form : {A : Type 0} → Option A → List ℕ → Result (A × List ℕ) Refusal
 or_not_the_form None rest = Err NotTheForm
 or_not_the_form (Some a) rest = Ok (a, rest)
 
--- the next word, if it has the form
+-- the next word, where it has the form
 abbrev pub word : {A : Type 0} → (List ℕ → Option A) → Reader A
 word form cs =
     let text = skip_blanks cs in
@@ -68,19 +79,22 @@ word form cs =
 abbrev pub decimal_to : ℕ → List ℕ → Option ℕ
 decimal_to most cs = below (most + 1) (digits_value cs)
 
+-- a unit: one digit from 0 to 7
 abbrev pub unit_digit : List ℕ → Option ℕ
 unit_digit (c ∷ []) = if nat_le 48 c && nat_le c 55 then Some (c - 48) else None
 unit_digit _ = None
 
 -- ---- names
 
+-- the value where it passes the test
 abbrev pub only : {A : Type 0} → (A → Bool) → A → Option A
 only test a = if test a then Some a else None
 
+-- a name without quotes: no space, no quote and no backslash in it
 abbrev pub bare_name : List ℕ → Option (List ℕ)
 bare_name = only (λ cs. is_name cs && list_all (λ c. not ((c == 32) || (c == 34) || (c == 92))) cs)
 
--- the text up to the closing quote, and what follows it; a backslash stands before a quote or a backslash
+-- The text up to the closing quote, and what follows it. A backslash stands only before a quote or a backslash, and is dropped.
 abbrev pub quoted : List ℕ → Option (List ℕ × List ℕ)
 quoted [] = None
 quoted (c ∷ []) = if c == 34 then Some ([], []) else None
@@ -96,16 +110,19 @@ quoted (c ∷ d ∷ cs) = elim (c == 34) [
     onto x None = None
     onto x (Some q) = Some (x ∷ q.0, q.1)
 
+-- a blank or the end of the line
 abbrev pub ends_word : List ℕ → Bool
 ends_word [] = true
 ends_word (c ∷ cs) = is_blank c
 
+-- a name behind its opening quote
 abbrev pub quoted_name : List ℕ → Result (List ℕ × List ℕ) Refusal
 quoted_name cs = elim (quoted cs) [
   | None ↦ Err NotTheForm
   | Some q ↦ if is_name q.0 && ends_word q.1 then Ok q else Err NotTheForm
 ]
 
+-- the name of a store or a soup, bare or in quotes
 abbrev pub name : Reader (List ℕ)
 name cs = elim (skip_blanks cs) [
   | [] ↦ Err NotTheForm
@@ -123,28 +140,33 @@ split_at mark (c ∷ cs) = elim (c == mark) [ true ↦ [] ∷ split_at mark cs |
     onto x [] = (x ∷ []) ∷ []
     onto x (p ∷ ps) = (x ∷ p) ∷ ps
 
+-- a path: identifiers with points between them
 abbrev pub path : List ℕ → Option Path
 path cs = only valid_path (split_at 46 cs)
 
+-- a type; `real` gives none
 abbrev pub kind_word : List ℕ → Option (Option Kind)
 kind_word cs =
     if bytes_eq cs (codes "string") then Some (Some kind.Text) else if bytes_eq cs (codes "int") then Some (Some kind.Int)
     else if bytes_eq cs (codes "char") then Some (Some kind.Char) else if bytes_eq cs (codes "symbol") then Some (Some kind.Symbol)
     else if bytes_eq cs (codes "real") then Some None else None
 
+-- a direction
 abbrev pub order_word : List ℕ → Option Order
 order_word cs = if bytes_eq cs (codes "ascend") then Some order.Ascend else if bytes_eq cs (codes "descend") then Some order.Descend else None
 
+-- a part of an index: path, type and direction with colons between them
 abbrev pub part : List ℕ → Option PartWord
 part cs = elim (split_at 58 cs) [
   | p ∷ k ∷ d ∷ [] ↦ option_and_then (λ a. option_and_then (λ b. option_map (λ c. record { path = a; kind = b; order = c }) (order_word d)) (kind_word k)) (path p)
   | _ ↦ None
 ]
 
--- the rest of the line as words, split at blanks
+-- the rest of a line as words
 abbrev pub words : List ℕ → List (List ℕ)
 words cs = filter (λ w. not (length w == 0)) (split_at 32 (map (λ c. if c == 9 then 32 else c) cs))
 
+-- the values of words that all have the form
 abbrev pub all_words : {A : Type 0} → (List ℕ → Option A) → List (List ℕ) → Option (List A)
 all_words form [] = Some []
 all_words form (w ∷ ws) = option_and_then (λ a. option_map (λ as'. a ∷ as') (all_words form ws)) (form w)
@@ -155,5 +177,6 @@ several most form cs =
     let ws = words cs in
     or_not_the_form (if nat_le 1 (length ws) && nat_le (length ws) most then all_words form ws else None) []
 
+-- an identifier of at most 254 bytes
 abbrev pub symbol : List ℕ → Option (List ℕ)
 symbol = only valid_symbol

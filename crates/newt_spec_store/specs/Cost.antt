@@ -1,6 +1,7 @@
--- What a store costs in pages.
+-- What a store costs in pages, and the bytes of its directory. This project's own.
 use Rattle.std.specs.Prelude.{ℕ, ◌+◌, ◌-◌, ◌*◌, ◌/◌, max, List, [], ◌∷◌, ◌++◌, map, length, flat_map, sum_by, sum, Option, Some, None}
 use Rattle.newt_base.specs.Text.{be16, be32}
+use Rattle.newt_image.specs.Objects.{pages_for}
 use Rattle.newt_graph.specs.Graph.{RawGraph}
 use Rattle.newt_graph.specs.declared.node.Node.{Node}
 use Rattle.newt_graph.specs.declared.node.Node.TheVariants.{Symbol, Str, Binary, Large, Array, Frame}
@@ -19,61 +20,69 @@ use Rattle.newt_spec_store.specs.Store.{Entry, TagTable, Soup, Store}
 abbrev pub counted : {X : Type 0} → (X → List ℕ) → List X → List ℕ
 counted bytes xs = length xs ∷ flat_map bytes xs
 
+-- a count in one byte, and the bytes of a text
 abbrev pub text_bytes : List ℕ → List ℕ
 text_bytes text = length text ∷ text
 
+-- a path: its names as texts
 abbrev pub path_bytes : Path → List ℕ
 path_bytes = counted text_bytes
 
+-- the byte of a type
 abbrev pub kind_byte : Kind → ℕ
 kind_byte kind.Text = 0
 kind_byte kind.Int = 1
 kind_byte kind.Char = 2
 kind_byte kind.Symbol = 3
 
+-- the byte of a direction
 abbrev pub direction_byte : Order → ℕ
 direction_byte order.Ascend = 0
 direction_byte order.Descend = 1
 
+-- a part of an index: type, direction, path
 abbrev pub part_bytes : IndexPart → List ℕ
 part_bytes p = kind_byte p.kind ∷ direction_byte p.direction ∷ path_bytes p.path
 
+-- a tags declaration: 0 for none, or 1, its path and its symbols
 abbrev pub tags_bytes : Option TagTable → List ℕ
 tags_bytes None = 0 ∷ []
 tags_bytes (Some t) = 1 ∷ path_bytes t.path ++ counted text_bytes t.symbols
 
+-- a soup in the directory: name, signature in two bytes, next entry id in four, indexes, tags
 abbrev pub soup_bytes : Soup → List ℕ
 soup_bytes p =
     text_bytes p.name ++ be16 p.sig ++ be32 p.next_uid ++ counted (counted part_bytes) p.specs ++ tags_bytes p.tags
 
+-- the directory: the name of the store, its signature in four bytes, the next soup signature in two, and the soups
 abbrev pub directory_bytes : Store → List ℕ
 directory_bytes s = text_bytes s.name ++ be32 s.sig ++ be16 s.next_soup ++ counted soup_bytes s.soups
 
 -- ---- pages
 
-abbrev pub pages : ℕ → ℕ
-pages n = max 1 ((n + 499) / 500)
-
--- the lengths of the large binaries, in order of node number
+-- the length of a large binary, none of another node
 abbrev pub large_length : Node → List ℕ
 large_length (Large _ bytes) = length bytes ∷ []
 large_length _ = []
 
+-- the lengths of the large binaries of a graph, in order of node number
 abbrev pub large_lengths : RawGraph → List ℕ
 large_lengths g = flat_map large_length g.nodes
 
+-- the bytes of the written text of a graph without the bytes of its large binaries
 abbrev pub skeleton_length : RawGraph → ℕ
 skeleton_length g = length (nsof (skeleton g))
 
--- an entry's share: its record, and each of its large binaries
+-- The pages of an entry: those of its record, which is 12 bytes, the written skeleton and 12 bytes for each large binary; and those of each large binary.
 abbrev pub entry_pages : Entry → ℕ
 entry_pages e =
     let larges = large_lengths e.graph in
-    pages (12 + skeleton_length e.graph + 12 * length larges) + sum (map pages larges)
+    pages_for (12 + skeleton_length e.graph + 12 * length larges) + sum (map pages_for larges)
 
+-- the pages of a soup's entries
+abbrev pub soup_pages : Soup → ℕ
+soup_pages p = sum_by entry_pages p.entries
+
+-- the pages of the directory, and those of all entries
 abbrev pub cost : Store → ℕ
-cost s = pages (length (directory_bytes s)) + sum_by (λ p. sum_by entry_pages p.entries) s.soups
-
--- how many pages a unit of so many blocks holds
-abbrev pub cap : ℕ → ℕ
-cap blocks = (4096 * ((blocks - 3) / 2) - 16) / 525
+cost s = pages_for (length (directory_bytes s)) + sum_by soup_pages s.soups

@@ -1,57 +1,59 @@
--- What holds of every store.
+-- What holds of every store: the forms of its names and declarations, and the limits. The limits are this project's own, as is the form of a path
+-- as identifiers.
 use Rattle.std.specs.Prelude.{ℕ, ◌+◌, Bool, true, false, not, ◌&&◌, ◌||◌, ◌==◌, nat_lt, nat_le, List, [], ◌∷◌, map, length, Option, Some, None}
 use Rattle.std.specs.List.{list_all, list_any}
 use Rattle.newt_base.specs.Names.{is_name, same_name, equal_text, is_identifier}
 use Rattle.newt_graph.specs.Graph.{RawGraph}
+use Rattle.newt_spec_graph.specs.Lists.{all_apart, rises}
 use Rattle.newt_spec_graph.specs.Graph.{is_frame, object}
 use Rattle.newt_spec_graph.specs.Limits.{within_limits}
 use Rattle.newt_spec_store.specs.Keys.{IndexSpec, IndexPart, Path, paths_of, same_paths}
 use Rattle.newt_spec_store.specs.Store.{Entry, TagTable, Soup, Store}
-use Rattle.newt_spec_store.specs.Cost.{cost, cap, skeleton_length}
+use Rattle.newt_image.specs.Pages.{cap}
+use Rattle.newt_spec_store.specs.Cost.{cost, skeleton_length}
 
--- no two of the list agree
-abbrev pub all_apart : {X : Type 0} → (X → X → Bool) → List X → Bool
-all_apart same [] = true
-all_apart same (x ∷ xs) = not (list_any (same x) xs) && all_apart same xs
-
--- each number is above the one before it, and all are from low up to high
-abbrev pub rises : ℕ → ℕ → List ℕ → Bool
-rises low high [] = true
-rises low high (n ∷ ns) = nat_le low n && nat_lt n high && rises (n + 1) high ns
-
+-- an identifier of at most 254 bytes
 abbrev pub valid_symbol : List ℕ → Bool
 valid_symbol name = is_identifier name && nat_le (length name) 254
 
+-- one to eight such identifiers
 abbrev pub valid_path : Path → Bool
 valid_path path = nat_le 1 (length path) && nat_le (length path) 8 && list_all valid_symbol path
 
+-- one to four parts, each with such a path
 abbrev pub valid_spec : IndexSpec → Bool
 valid_spec spec = nat_le 1 (length spec) && nat_le (length spec) 4 && list_all (λ p. valid_path p.path) spec
 
+-- no tags declaration, or one of a path and at most 64 symbols, no two of which are one but for the case of letters
 abbrev pub valid_tags : Option TagTable → Bool
 valid_tags None = true
 valid_tags (Some t) =
     valid_path t.path && nat_le (length t.symbols) 64 && list_all valid_symbol t.symbols && all_apart same_name t.symbols
 
+-- the root is a frame, the graph is within the limits of one graph, and its skeleton's written text has at most 64,000 bytes
 abbrev pub valid_entry : Entry → Bool
 valid_entry e =
     is_frame (object e.graph.nodes e.graph.root) && within_limits e.graph && nat_le (skeleton_length e.graph) 64_000
 
+-- A soup: its name; ids that rise and are below the next one, which is at most 536,870,911; at most 16 indexes, no two with the same paths; its tags; its entries.
 abbrev pub valid_soup : Soup → Bool
 valid_soup p =
     is_name p.name && nat_le p.next_uid 536_870_911 && rises 0 p.next_uid (map (λ e. e.uid) p.entries)
     && nat_le (length p.specs) 16 && list_all valid_spec p.specs && all_apart same_paths (map paths_of p.specs)
     && valid_tags p.tags && list_all valid_entry p.entries
 
--- all but the cost
+-- A store but for its cost: its name; a signature of at most 536,870,911; at most 64 soups, whose signatures rise and are below the next one, which is at most
+-- 65,535, and whose names are distinct; each soup.
 abbrev pub well_formed : Store → Bool
 well_formed s =
     is_name s.name && nat_le s.sig 536_870_911 && nat_le s.next_soup 65_535 && nat_le (length s.soups) 64
     && rises 0 s.next_soup (map (λ p. p.sig) s.soups) && all_apart equal_text (map (λ p. p.name) s.soups)
     && list_all valid_soup s.soups
 
+-- the store costs no more pages than a unit of so many blocks takes
 abbrev pub fits : ℕ → Store → Bool
 fits blocks s = nat_le (cost s) (cap blocks)
 
+-- what holds of every store on a unit of so many blocks
 abbrev pub valid : ℕ → Store → Bool
 valid blocks s = well_formed s && fits blocks s

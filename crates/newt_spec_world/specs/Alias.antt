@@ -1,4 +1,5 @@
--- Aliases of entries as literals.
+-- Aliases of entries. That an alias names an entry and resolves to it or to nil is Newton's (Newton Programmer's Guide 2.0, entry aliases); its form as a literal
+-- is this project's own.
 use Rattle.std.specs.Prelude.{ℕ, ◌/◌, ◌%◌, Bool, true, false, ◌&&◌, ◌==◌, List, [], ◌∷◌, find, Option, Some, None, option_map, option_and_then, ℤ, pos, codes, if◌then◌else◌}
 use Rattle.newt_base.specs.Names.{same_name}
 use Rattle.newt_graph.specs.declared.node.Ref.{Ref}
@@ -11,6 +12,7 @@ use Rattle.newt_spec_store.specs.Store.{Entry, Soup, Store, entry_of}
 use Rattle.newt_spec_query.specs.Tags.{symbol_name, if_given}
 use Rattle.newt_spec_world.specs.World.{World, mounted}
 
+-- an alias: the signatures of a store and a soup, and an entry id
 pub record Alias : Type 0 where
   pub store : ℕ
   pub soup : ℕ
@@ -21,7 +23,7 @@ abbrev pub natural : Ref → Option ℕ
 natural (Imm (pos w)) = if w % 4 == 0 then Some (w / 4) else None
 natural _ = None
 
--- an array of class alias with three such numbers
+-- the alias that a literal writes down: an array with class `alias` and three such integers
 abbrev pub alias_of : RawGraph → Option Alias
 alias_of g = elim (object g.nodes g.root) [
   | Some (Array (Some class) (s ∷ p ∷ u ∷ [])) ↦
@@ -33,11 +35,13 @@ alias_of g = elim (object g.nodes g.root) [
 
 -- ---- the entry that an alias names
 
+-- where an entry is: its unit, its soup, itself
 pub record Spot : Type 0 where
   pub unit : ℕ
   pub soup : Soup
   pub entry : Entry
 
+-- the entry that has these in a mounted store, else none
 abbrev pub resolved : World → Alias → Option Spot
 resolved w a =
     option_and_then (λ m. option_and_then (λ p. option_map (λ e. record { unit = m.0; soup = p; entry = e })

@@ -1,4 +1,4 @@
--- What the world answers.
+-- What the world answers: the first refusal that holds, or the fields of the reply. Replies are this project's own.
 use Rattle.std.specs.Prelude.{ℕ, ◌+◌, ◌-◌, List, [], ◌∷◌, ◌++◌, map, length, take, drop, flat_map, Option, Some, None, option_map, option_and_then, unwrap_or}
 use Rattle.newt_base.specs.Refusals.{first_of}
 use Rattle.newt_base.specs.declared.Refusal.{Refusal}
@@ -21,13 +21,15 @@ abbrev pub or_nil : {X : Type 0} → (X → Reply) → Option X → Reply
 or_nil reply None = Reply.nil
 or_nil reply (Some x) = reply x
 
+-- where a hit's entry is
 abbrev pub spot_of : World → Hit → Option Spot
 spot_of w h = resolved w (record { store = h.store; soup = h.soup; uid = h.uid })
 
+-- the reply that shows an entry
 abbrev pub shown : Spot → Reply
 shown s = Reply.current s.unit s.entry.uid s.entry.time s.entry.graph
 
--- the entry that a cursor is on
+-- What a cursor shows: nil before and behind all hits, the entry where it is on a hit, and else that the entry is deleted.
 abbrev pub current : World → Cursor → Reply
 current w k = elim k.place [
   | start ↦ Reply.nil
@@ -35,17 +37,21 @@ current w k = elim k.place [
   | on _ ↦ elim (option_and_then (spot_of w) (hit_at (hits_of w k.query) k.place)) [ Some s ↦ shown s | None ↦ Reply.deleted ]
 ]
 
+-- the side of the hits on which a cursor stands
 abbrev pub side : Cursor → Reply
 side k = elim k.place [ start ↦ Reply.begin | finish ↦ Reply.«end» | on _ ↦ Reply.nil ]
 
+-- the id that the next entry of a soup gets
 abbrev pub new_uid : World → ℕ → List ℕ → ℕ
 new_uid w u name = unwrap_or (option_map (λ p. p.next_uid) (soup_in w u name)) 0
 
+-- so many bytes from a place on
 abbrev pub bytes_from : ℕ → ℕ → List ℕ → List ℕ
 bytes_from at len bytes = take len (drop at bytes)
 
 -- ---- the table: the fields of each command, from the world before it and the world after it
 
+-- the table: the reply of each command that is not refused, from the world before it and the world after it
 unfoldable pub fields : World → World → Command → Reply
 fields w v (command.Nsof g) = Reply.nsof_of g
 fields w v (command.Lit g) = Reply.literal_of g
@@ -82,7 +88,7 @@ fields w v _ = Reply.done
 
 -- ---- one command, and a run of them
 
--- refused, or changed
+-- Refused, the world stays as it is. Else it is the changed one, and its cursors are settled.
 abbrev pub answered : World → Command → Option Refusal → World × Reply
 answered w c (Some refusal) = (w, Reply.refused refusal)
 answered w c None = let v = settle (changed w c) in (v, fields w v c)
@@ -91,10 +97,12 @@ answered w c None = let v = settle (changed w c) in (v, fields w v c)
 unfoldable pub answer : World → Command → World × Reply
 answer w c = answered w c (first_of (checks w c))
 
+-- the world after commands one after another
 abbrev pub after : World → List Command → World
 after w [] = w
 after w (c ∷ cs) = after (answer w c).0 cs
 
+-- their replies
 abbrev pub replies : World → List Command → List Reply
 replies w [] = []
 replies w (c ∷ cs) = let a = answer w c in a.1 ∷ replies a.0 cs

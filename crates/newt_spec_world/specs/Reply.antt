@@ -1,4 +1,4 @@
--- Replies, and their texts.
+-- Replies, and their texts. All of it is this project's own.
 use Rattle.std.specs.Prelude.{ℕ, Bool, ◌||◌, ◌==◌, List, [], ◌∷◌, ◌++◌, map, flat_map, Option, Some, None, codes, if◌then◌else◌}
 use Rattle.std.specs.List.{list_any, join_with_byte}
 use Rattle.newt_base.specs.Text.{decimal_text, hex_text}
@@ -6,7 +6,7 @@ use Rattle.newt_base.specs.declared.Refusal.{Refusal}
 use Rattle.newt_base.specs.Refusals.{refusal_text}
 use Rattle.newt_graph.specs.Graph.{RawGraph}
 use Rattle.newt_nsof.specs.Written.{nsof}
-use Rattle.newt_spec_graph.specs.Literal.{literal, escaped}
+use Rattle.newt_lit.specs.Printed.{literal, escaped}
 use Rattle.newt_spec_store.specs.declared.Kind.{Kind}
 use Rattle.newt_spec_store.specs.declared.Kind.TheVariants as kind
 use Rattle.newt_spec_store.specs.declared.Order.{Order}
@@ -14,6 +14,7 @@ use Rattle.newt_spec_store.specs.declared.Order.TheVariants as order
 use Rattle.newt_spec_store.specs.Keys.{Path, IndexSpec, IndexPart}
 use Rattle.newt_spec_store.specs.Store.{TagTable}
 
+-- what is replied, before it is text
 pub data Reply : Type 0 where
   done : Reply
   number : ℕ → Reply
@@ -50,25 +51,31 @@ items [] = []
 items (x ∷ []) = x
 items (x ∷ y ∷ xs) = x ++ codes ", " ++ items (y ∷ xs)
 
+-- fields with a space between each two
 abbrev pub spaced : List (List ℕ) → List ℕ
 spaced = join_with_byte 32
 
+-- a path with points between its names, as it was declared
 abbrev pub path_field : Path → List ℕ
 path_field = join_with_byte 46
 
+-- the word of a type
 abbrev pub kind_word : Kind → List ℕ
 kind_word kind.Text = codes "string"
 kind_word kind.Int = codes "int"
 kind_word kind.Char = codes "char"
 kind_word kind.Symbol = codes "symbol"
 
+-- the word of a direction
 abbrev pub direction_word : Order → List ℕ
 direction_word order.Ascend = codes "ascend"
 direction_word order.Descend = codes "descend"
 
+-- a part of an index
 abbrev pub part_field : IndexPart → List ℕ
 part_field p = path_field p.path ++ codes ":" ++ kind_word p.kind ++ codes ":" ++ direction_word p.direction
 
+-- an alias as a literal
 abbrev pub alias_text : ℕ → ℕ → ℕ → List ℕ
 alias_text s p uid =
     codes "[alias: " ++ items (decimal_text s ∷ decimal_text p ∷ decimal_text uid ∷ []) ++ codes "]"
@@ -80,9 +87,11 @@ abbrev pub field : List ℕ → List ℕ
 field [] = []
 field (c ∷ cs) = 32 ∷ c ∷ cs
 
+-- a reply that is no refusal, with its fields
 abbrev pub ok : List (List ℕ) → List ℕ
 ok fields = codes "ok" ++ flat_map field fields
 
+-- the text of a reply without its line end
 abbrev pub reply_line : Reply → List ℕ
 reply_line done = ok []
 reply_line (number n) = ok (decimal_text n ∷ [])
@@ -107,5 +116,6 @@ reply_line begin = ok (codes "begin" ∷ [])
 reply_line «end» = ok (codes "end" ∷ [])
 reply_line (refused r) = codes "error " ++ refusal_text r
 
+-- a reply as it is written, with its line end
 abbrev pub reply_text : Reply → List ℕ
 reply_text r = reply_line r ++ 10 ∷ []

@@ -1,6 +1,5 @@
 -- Why a run halts that answers lines.
-use Rattle.std.proofs.Common.{◌≡◌, ℕ, ◌<◌, ◌≤◌, List, [], ◌++◌, length, take, refl, Result, Ok, Err, OnErr, IfErr, sym, ◌∙◌, ap, arith}
-use Rattle.std.proofs.lemmas.List.{append-nil}
+use Rattle.std.proofs.Common.{◌≡◌, ℕ, ◌≤◌, List, [], ◌++◌, take, Result, Ok, Err, OnErr, IfErr, sym, ◌∙◌, ap, arith}
 use Rattle.newt_top.specs.Stream.{WroteSome}
 use Rattle.newt_top.specs.Run.{output, Halted}
 use Rattle.newt_top.specs.Causes.{HasCause, HasWriteCause}
@@ -35,4 +34,3 @@ cause_last (Err halt) in_before in_now before mid now cause le = cause_writing h
 -- nothing was read, and nothing was left
 pub none_left : (n : ℕ) (buffer before now : List ℕ) → n ≡ 0 → before ≡ take n buffer ++ now → before ≡ [] → now ≡ []
 none_left n buffer before now zero split nil = sym (ap (λ m. take m buffer ++ now) zero) ∙ (sym split ∙ nil)
-

@@ -1,6 +1,5 @@
 -- Items that are answered one after another.
-use Rattle.std.proofs.Common.{◌≡◌, ℕ, Bool, true, false, cond, List, [], ◌∷◌, ◌++◌, refl, sym, ◌∙◌, ap, append-nil}
-use Rattle.newt_reply.specs.declared.reply.Reply.{Reply}
+use Rattle.std.proofs.Common.{◌≡◌, true, false, cond, List, [], ◌∷◌, ◌++◌, refl, sym, ◌∙◌, ap, append-nil}
 use Rattle.newt_top.specs.Script.{Item, is_quit, up_to_quit, quits_among, answer_to, replies, world_behind}
 use Rattle.newt_top.specs.World.{World}
 

@@ -1,5 +1,5 @@
 -- What one line gives.
-use Rattle.std.proofs.Common.{◌≡◌, ◌≢◌, ℕ, Bool, true, false, cond, List, [], ◌∷◌, ◌++◌, flat_map, Option, Some, None, Result, Ok, Err, refl, sym, ◌∙◌, ap, append-nil}
+use Rattle.std.proofs.Common.{◌≡◌, ◌≢◌, ℕ, true, false, cond, List, [], ◌∷◌, ◌++◌, flat_map, Option, Some, None, Result, Ok, Err, refl, sym, ◌∙◌, ap, append-nil}
 use Rattle.newt_base.specs.declared.Refusal.{Refusal}
 use Rattle.newt_reply.specs.declared.reply.Reply.TheVariants.{Refused as RefusedReply}
 use Rattle.newt_reply.specs.Texts.{reply_text}

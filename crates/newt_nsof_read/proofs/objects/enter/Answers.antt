@@ -1,4 +1,4 @@
-use Rattle.std.proofs.Common.{◌≡◌, ◌∙◌, sym, subst}
+use Rattle.std.proofs.Common.{◌∙◌, sym, subst}
 use Rattle.std.proofs.lemmas.Bool.{ltb-true, ltb-false}
 use Rattle.newt_nsof_read.specs.Stack.{IsOpen, FrontIsOpen}
 use Rattle.newt_nsof_read.proofs.Stacks.{AreOpen-push, stays_filled, entered_waits, entered_closes, if_ok}

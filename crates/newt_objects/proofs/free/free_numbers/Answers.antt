@@ -1,4 +1,4 @@
-use Rattle.std.proofs.Common.{◌≡◌, ℕ, ◌+◌, ◌<◌, ◌≤◌, ◌∙◌, Bool, true, false, sym, ap, subst, List, length, get_or, ◌++◌, ◌∷◌, [], take, Vec, Global, arith}
+use Rattle.std.proofs.Common.{◌≡◌, ℕ, ◌+◌, ◌∙◌, Bool, sym, subst, get_or, take, Vec, Global, arith}
 use Rattle.std.proofs.lemmas.Option.{get_or_from_slice_get}
 use Rattle.newt_objects.specs.Extents.{free_below, is_taken}
 use Rattle.newt_objects.proofs.Numbers.{free-start, keep-taken, keep-full, keep-more}
@@ -23,7 +23,7 @@ loop-number-preserved c =
           (w.in_ok-push.ensures.items ∙ keep-more rows batch number c.args.count free c.loop-number.invariant (omega (arith, w.if-len-count.true, c.len.ensures, c.loop-number.free.ok.0))
           (flag w.index.result.now w.index.ensures ∙ w.if-not-index.true))
       | else-len-count w ↦ subst goal_at (sym w.free-is) (elim w.else-len-count.branch [
-          | else-len-count-via-then-len-count+else-not-index v ↦ keep-taken rows batch number c.args.count free c.loop-number.invariant (flag v.index.result.now v.index.ensures ∙ v.if-not-index.false)
-          | else-len-count-via-else-len-count v ↦ keep-full rows batch number c.args.count free c.loop-number.invariant (omega (arith, v.if-len-count.false, c.len.ensures, c.loop-number.free.ok.0))
-        ])
+        | else-len-count-via-then-len-count+else-not-index v ↦ keep-taken rows batch number c.args.count free c.loop-number.invariant (flag v.index.result.now v.index.ensures ∙ v.if-not-index.false)
+        | else-len-count-via-else-len-count v ↦ keep-full rows batch number c.args.count free c.loop-number.invariant (omega (arith, v.if-len-count.false, c.len.ensures, c.loop-number.free.ok.0))
+      ])
     ]

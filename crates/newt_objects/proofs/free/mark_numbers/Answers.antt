@@ -1,4 +1,4 @@
-use Rattle.std.proofs.Common.{ℕ, ◌==◌, ◌+◌, take, get_or, length, arith}
+use Rattle.std.proofs.Common.{◌==◌, ◌+◌, take, get_or, arith}
 use Rattle.std.specs.List.{list_any}
 use Rattle.std.proofs.lemmas.List.Folds.{list_any_more}
 use Rattle.newt_objects.proofs.Flags.{marks-more}

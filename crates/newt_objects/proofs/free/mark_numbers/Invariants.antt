@@ -1,4 +1,4 @@
-use Rattle.std.proofs.Common.{ℕ, ◌==◌, take}
+use Rattle.std.proofs.Common.{◌==◌, take}
 use Rattle.std.specs.List.{list_any}
 use Rattle.newt_objects.specs.Extents.{MarksAlso}
 use Rattle.newt_objects.proofs.free.mark_numbers.Given as goal

@@ -1,4 +1,4 @@
-use Rattle.std.proofs.Common.{ℕ, map, ◌∙◌, ap, ◌++◌, ◌∷◌, [], List, Option}
+use Rattle.std.proofs.Common.{map, ◌∙◌, ap, ◌++◌, ◌∷◌, [], List, Option}
 use Rattle.std.specs.List.{list_any}
 use Rattle.std.specs.Map.Iter.{deref}
 use Rattle.std.proofs.lemmas.List.{map-append}

@@ -1,4 +1,4 @@
-use Rattle.std.proofs.Common.{◌≡◌, ◌∙◌, ap, List, ℕ, replicate}
+use Rattle.std.proofs.Common.{◌∙◌, ap, List, ℕ, replicate}
 use Rattle.newt_host.specs.Moments.{overwritten}
 use Rattle.newt_objects.proofs.Parts.{pieces_written}
 use Rattle.newt_objects.proofs.part.part_page.Goals as goal

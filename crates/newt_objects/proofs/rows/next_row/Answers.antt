@@ -1,4 +1,4 @@
-use Rattle.std.proofs.Common.{◌≡◌, ℕ, ◌≤◌, ◌∙◌, sym, ap, subst, List, [], ◌∷◌, ◌++◌, map, Option, Some, None, refl}
+use Rattle.std.proofs.Common.{◌≡◌, ℕ, ◌∙◌, sym, ap, subst, [], ◌∷◌, ◌++◌, map, Option, refl}
 use Rattle.std.specs.declared.ops.Bound.TheVariants.{Included, Unbounded}
 use Rattle.std.specs.Option.{option_flatten}
 use Rattle.std.specs.Ordering.{nat_cmp}
@@ -9,7 +9,6 @@ use Rattle.std.proofs.lemmas.Map.Iter.{rest_so_far, iter_end}
 use Rattle.std.proofs.lemmas.Map.Views.{All-turn}
 use Rattle.newt_image.specs.Objects.{Extent}
 use Rattle.newt_pagebook.proofs.Tests.{the_some, none_is}
-use Rattle.newt_objects.specs.Headers.{held_in}
 use Rattle.newt_objects.proofs.Nexts.{Entries, Vacant, vacant-push, next-found, next-none, not_above}
 use Rattle.newt_objects.proofs.rows.next_row.Goals as goal
 

@@ -1,6 +1,5 @@
-use Rattle.std.proofs.Common.{◌≡◌, ◌∙◌, ap}
+use Rattle.std.proofs.Common.{◌∙◌, ap}
 use Rattle.newt_objects.specs.Held.{Held, held}
-use Rattle.newt_objects.proofs.Seen.{placed-none}
 use Rattle.newt_objects.proofs.objects.Objects.forget.Goals as goal
 
 pub returns-clause-kept : goal.returns-clause-kept

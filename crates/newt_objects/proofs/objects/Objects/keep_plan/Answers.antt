@@ -1,4 +1,4 @@
-use Rattle.std.proofs.Common.{◌≡◌, sym, subst, List}
+use Rattle.std.proofs.Common.{sym, subst, List}
 use Rattle.newt_objects.specs.declared.objects.Plan.{Plan}
 use Rattle.newt_objects.specs.Plans.{ArePlaced}
 use Rattle.newt_objects.specs.Held.{Held, HasRow, IsUnplanned}

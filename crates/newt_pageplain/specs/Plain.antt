@@ -1,0 +1,45 @@
+-- A book in memory stands for the pages that it keeps.
+use Rattle.std.specs.Prelude.{IsTrue, ◌≡◌, ℕ, ◌≤◌, Bool, List, Option, Some, IsSome}
+use Rattle.std.proofs.Common.{sym, ◌∙◌, ap, subst}
+use Rattle.newt_host.specs.Moments.{Change as Event, image, changes, bytes_after, LeftBy, IsDurable}
+use Rattle.newt_host.specs.Outside.{Outside, HasBlocks}
+use Rattle.newt_image.specs.Pages.{pages}
+use Rattle.newt_journal.specs.Journal.{Stands, HeldBy}
+use Rattle.newt_journal.specs.declared.journal.Journal.{Journal}
+use Rattle.newt_pagebook.specs.Book.{PagesAre, IsSameFor}
+use Rattle.newt_pageplain.specs.Kept.{Entries, map_of, numbers_in, named_in}
+
+-- It has a journal of its unit, which stands for it, and where bytes are told the unit's image holds the pages that it keeps.
+pub record StandsWith (told : Bool) (unit : ℕ) (journal : Option Journal) (entries : Entries) (outside : Outside) : Type 0 where
+  pub its : Journal
+  pub is : journal ≡ Some its
+  pub stands : Stands told its outside
+  pub on : its.unit ≡ unit
+  pub holds : IsTrue told → pages (image unit outside.now) ≡ Some (map_of entries)
+
+pub tells_with : (told : Bool) (unit : ℕ) (journal : Option Journal) (entries : Entries) (outside : Outside) → StandsWith told unit journal entries outside → IsTrue told
+    → PagesAre (numbers_in entries) (image unit outside.now) × IsDurable unit outside.now
+tells_with told unit journal entries outside s tells = (
+  record { live = map_of entries; of_image = s.holds tells; named = λ number. named_in entries number },
+  subst (λ (u : ℕ). IsDurable u outside.now) s.on (s.stands.held tells).durable,
+)
+
+pub banks_with : (told : Bool) (unit : ℕ) (journal : Option Journal) (entries : Entries) (outside : Outside) → StandsWith told unit journal entries outside → (13 ≤ outside.blocks unit) × (outside.blocks unit ≤ 4099)
+banks_with told unit journal entries outside s =
+    let blocks : outside.blocks unit ≡ s.its.blocks = ap outside.blocks (sym s.on) ∙ s.stands.has.count in
+    subst (λ (n : ℕ). (13 ≤ n) × (n ≤ 4099)) (sym blocks) (s.its.enough, s.its.not_too_many)
+
+pub kept_with : (told : Bool) (unit : ℕ) (journal : Option Journal) (entries : Entries) (old new : Outside) → StandsWith told unit journal entries old → IsSameFor unit old new → StandsWith told unit journal entries new
+kept_with told unit journal entries old new s same =
+    let at = s.its.unit in
+    let its : IsSameFor at old new = subst (λ (u : ℕ). IsSameFor u old new) (sym s.on) same in
+    record {
+      its = s.its;
+      is = s.is;
+      stands = record {
+        has = record { attached = subst (λ (c : Option (List ℕ)). IsSome c) (sym its.card) s.stands.has.attached; count = its.blocks ∙ s.stands.has.count };
+        held = λ tells. subst (λ (done : List Event). HeldBy s.its done) (sym its.changes) (s.stands.held tells);
+      };
+      on = s.on;
+      holds = λ tells. ap (λ (done : List Event). pages (bytes_after done)) same.changes ∙ s.holds tells;
+    }

@@ -1,0 +1,128 @@
+// The book.
+ghost use Rattle.std.specs.Prelude.{◌≡◌, ◌<◌, length, Some};
+ghost use Rattle.newt_pageplain.specs.Kept.{AreSound};
+
+use crate::apply::{Kept, live_after};
+use crate::change::commit_with;
+use crate::open::replay;
+use crate::write::written;
+use newt_host::{Failed, Host, Unit};
+use newt_journal::{Journal, JournalFault};
+use newt_pagebook::{Batch, BookFault, CommitFault, Page, PageBook, Stop, cap};
+use std::alloc::{AllocError, Global};
+
+/// A book that keeps all pages of its unit in memory. It is spent once its journal is gone.
+#[derive(Drop)]
+pub struct PlainBook {
+    unit: Unit,
+    journal: Option<Journal>,
+    pages: Kept,
+    /// The number of the page at hand.
+    at: Option<u32>,
+    ghost sound: { AreSound pages.entries },
+}
+
+impl PageBook for PlainBook {
+    ghost use Rattle.std.specs.HashMap as hash;
+    ghost use Rattle.newt_pageplain.specs.Kept.{numbers_in, shown_in, small_with};
+    ghost use Rattle.newt_pageplain.specs.Plain.{StandsWith, tells_with, banks_with, kept_with};
+
+    ghost place = { λ b. b.unit };
+
+    ghost numbers = { λ b. numbers_in b.pages.entries };
+
+    ghost shown = { λ b. shown_in b.pages.entries b.at };
+
+    ghost spare = { λ b. hash.spare b.pages };
+
+    ghost stands = { λ told b o. StandsWith told b.unit b.journal b.pages.entries o };
+
+    ghost tells = { λ told b o s. tells_with told b.unit b.journal b.pages.entries o s };
+
+    ghost small = { λ told b o s. small_with b.pages.entries b.sound };
+
+    ghost has_banks = { λ told b o s. banks_with told b.unit b.journal b.pages.entries o s };
+
+    ghost kept = { λ told b old new s. kept_with told b.unit b.journal b.pages.entries old new s };
+
+    fn format<H: Host>(
+        alloc: Global,
+        host: &mut H,
+        unit: Unit,
+        batch: &Batch,
+    ) -> Result<(), Stop> {
+        let payload = written(alloc, batch)?;
+        match Journal::format(host, unit, &payload) {
+            Ok(_) => Ok(()),
+            Err(Failed) => Err(Stop::Device(unit)),
+        }
+    }
+
+    fn open<H: Host>(alloc: Global, host: &mut H, unit: Unit) -> Result<Self, BookFault> {
+        let journal = match Journal::open(host, unit) {
+            Ok(journal) => journal,
+            Err(JournalFault::NotStore) => return Err(BookFault::NotStore),
+            Err(JournalFault::Device) => return Err(BookFault::Device),
+        };
+        let pages = replay(alloc, &journal, host)?;
+        Ok(PlainBook {
+            unit,
+            journal: Some(journal),
+            pages,
+            at: None,
+        })
+    }
+
+    fn load<H: Host>(&mut self, _host: &mut H, number: u32) -> Result<(), Failed> {
+        self.at = Some(number);
+        Ok(())
+    }
+
+    fn page(&self) -> &Page {
+        match self.at {
+            Some(number) => match self.pages.get(&number) {
+                Some(page) => page,
+                None => unreachable!(),
+            },
+            None => unreachable!(),
+        }
+    }
+
+    fn next_page(&self, from: u32) -> Option<u32> {
+        for number in from..65536 {
+            if self.pages.contains_key(&number) {
+                return Some(number);
+            }
+        }
+        None
+    }
+
+    fn live(&self) -> u32 {
+        self.pages.len() as u32
+    }
+
+    fn unit(&self) -> Unit {
+        self.unit
+    }
+
+    fn reserve(&mut self, puts: u32) -> Result<(), AllocError> {
+        self.pages.reserve(puts as usize)
+    }
+
+    fn commit<H: Host>(&mut self, host: &mut H, batch: &Batch) -> Result<(), CommitFault> {
+        if live_after(&self.pages, batch) > cap(host.blocks(self.unit)) as usize {
+            return Err(CommitFault::Full);
+        }
+        match self.journal.take() {
+            Some(journal) => match commit_with(journal, host, &mut self.pages, batch) {
+                Ok(journal) => {
+                    self.journal = Some(journal);
+                    self.at = None;
+                    Ok(())
+                }
+                Err(Failed) => Err(CommitFault::Device),
+            },
+            None => unreachable!(),
+        }
+    }
+}
