@@ -1,5 +1,5 @@
 -- The commands that lines give have the forms of their words.
-use Rattle.std.proofs.Common.{arith, ◌≡◌, refl, ap, sym, ◌∙◌, subst, ℕ, suc, ◌+◌, ◌<◌, ◌≤◌, Bool, true, false, not, ◌&&◌, ◌||◌, ◌==◌, cond, List, [], ◌∷◌, length, map, filter, find, take, drop, nat_le, nat_lt, Option, Some, None, option_and_then, option_map, Result, Ok, Err, if◌then◌else◌}
+use Rattle.std.proofs.Common.{arith, ◌≡◌, refl, ap, ◌∙◌, subst, ℕ, suc, ◌+◌, Bool, true, false, not, ◌&&◌, ◌||◌, ◌==◌, List, [], ◌∷◌, length, find, take, drop, nat_le, nat_lt, Option, Some, None, option_and_then, option_map, Result, Ok, Err, if◌then◌else◌}
 use Rattle.std.specs.List.{list_all}
 use Rattle.std.specs.Prelude.{⊤, bytes_eq}
 use Rattle.std.proofs.lemmas.Bool.{and_parts}
@@ -9,7 +9,7 @@ use Rattle.newt_base.specs.Names.{is_name, same_name}
 use Rattle.newt_base.specs.Text.{below, digits_value, signed_value, hex_bytes}
 use Rattle.newt_graph.specs.Graph.{RawGraph}
 use Rattle.newt_spec_graph.specs.Limits.{within_limits}
-use Rattle.newt_spec_graph.specs.Lists.{Each, Among, all_apart}
+use Rattle.newt_spec_graph.specs.Lists.{Each, all_apart}
 use Rattle.newt_spec_graph.proofs.Lists.{each-at, none-some, some-same}
 use Rattle.newt_spec_store.specs.Keys.{Path}
 use Rattle.newt_spec_store.specs.Valid.{valid_path, valid_symbol}
@@ -18,7 +18,7 @@ use Rattle.newt_spec_world.specs.declared.command.Command.TheVariants as command
 use Rattle.newt_spec_world.specs.declared.command.PartWord.{PartWord}
 use Rattle.newt_spec_script.specs.Words.{Reader, then_read, of1, of2, of3, of4, of5, of6, or_not_the_form, word, decimal_to, only, bare_name, quoted, if_name, name_from, name, ends_word, skip_blanks, is_blank, path, part, part_of, kind_word, order_word, split_at, words, all_words, several, symbol}
 use Rattle.newt_spec_script.specs.Line.{Parsed, ready, literal, stream, bytes, ended, with_literal, with_stream, with_bytes, whole, and_literal, and_stream, and_bytes, alone, unit, number, sig, len, cursor, if_distinct, distinct, or_row, tags_row, star, query_by, query_row, Row, rows, read_row, row_of, within_length, if_said, parsed, says_nothing, first_word}
-use Rattle.newt_spec_script.specs.Script.{Item, Readers, literal_item, stream_item, hex_item, bytes_item, item_of, items_of, parsed_lines}
+use Rattle.newt_spec_script.specs.Script.{Item, Readers, literal_item, stream_item, hex_item, bytes_item, item_of}
 use Rattle.newt_laws.specs.Worlds.{has_form, parts_fit}
 use Rattle.newt_laws.proofs.Settled.{find-passes}
 
@@ -101,12 +101,16 @@ gives-word P form h cs a rest e =
   where
     text : List ℕ → List ℕ
     text cs = skip_blanks cs
+
     length_of : List ℕ → ℕ
     length_of cs = Rattle.std.specs.List.prefix_len (λ c. not (is_blank c)) (skip_blanks cs)
+
     first : List ℕ → List ℕ
     first cs = take (length_of cs) (skip_blanks cs)
+
     others : List ℕ → List ℕ
     others cs = drop (length_of cs) (skip_blanks cs)
+
     go : (b : Bool) → (if b then None else form (first cs)) ≡ Some a → P a
     go true f = absurd (none-some a f)
     go false f = h (first cs) a f
@@ -142,6 +146,7 @@ gives-name cs n rest e = from (skip_blanks cs) e
       where
         bare : Gives (λ n. is_name n ≡ true) (word bare_name)
         bare = gives-word (λ n. is_name n ≡ true) bare_name (λ cs a e. (and_parts (is_name a) (list_all (λ c. not ((c == 32) || (c == 34) || (c == 92))) a) (only-passes (λ cs. is_name cs && list_all (λ c. not ((c == 32) || (c == 34) || (c == 92))) cs) cs a e)).0)
+
         go : (b : Bool) → (if b then if_name (quoted more) else word bare_name (c ∷ more)) ≡ Ok (n, rest) → is_name n ≡ true
         go true k = named (quoted more) n rest k
         go false k = bare (c ∷ more) n rest k
@@ -154,12 +159,13 @@ all-words test form h [] xs e = subst (λ ys. (list_all test ys ≡ true) × (le
 all-words {A} test form h (w ∷ ws) xs e = go (form w) refl (all_words form ws) (all-words test form h ws) e
   where
     more : (a : A) → test a ≡ true → (p : Option (List A)) → ((ys : List A) → p ≡ Some ys → (list_all test ys ≡ true) × (length ys ≡ length ws)) → option_map (λ ys. a ∷ ys) p ≡ Some xs
-      → (list_all test xs ≡ true) × (length xs ≡ suc (length ws))
+        → (list_all test xs ≡ true) × (length xs ≡ suc (length ws))
     more a good None ih f = absurd (none-some xs f)
     more a good (Some ys) ih f = let k = ih ys refl in
-      subst (λ zs. (list_all test zs ≡ true) × (length zs ≡ suc (length ws))) (some-same (a ∷ ys) xs f) (grind (arith, good, k.0), grind (arith, k.1))
+        subst (λ zs. (list_all test zs ≡ true) × (length zs ≡ suc (length ws))) (some-same (a ∷ ys) xs f) (grind (arith, good, k.0), grind (arith, k.1))
+
     go : (o : Option A) → form w ≡ o → (p : Option (List A)) → ((ys : List A) → p ≡ Some ys → (list_all test ys ≡ true) × (length ys ≡ length ws)) → option_and_then (λ a. option_map (λ ys. a ∷ ys) p) o ≡ Some xs
-      → (list_all test xs ≡ true) × (length xs ≡ suc (length ws))
+        → (list_all test xs ≡ true) × (length xs ≡ suc (length ws))
     go None is p ih f = absurd (none-some xs f)
     go (Some a) is p ih f = more a (h w a is) p ih f
 
@@ -170,11 +176,11 @@ several-good {A} test most form h cs xs rest e =
     go (nat_le 1 (length (words cs)) && nat_le (length (words cs)) most) refl (or-form (if nat_le 1 (length (words cs)) && nat_le (length (words cs)) most then all_words form (words cs) else None) [] xs rest e)
   where
     go : (b : Bool) → (nat_le 1 (length (words cs)) && nat_le (length (words cs)) most) ≡ b → (if b then all_words form (words cs) else None) ≡ Some xs
-      → (list_all test xs ≡ true) × (nat_le 1 (length xs) ≡ true) × (nat_le (length xs) most ≡ true)
+        → (list_all test xs ≡ true) × (nat_le 1 (length xs) ≡ true) × (nat_le (length xs) most ≡ true)
     go true is f =
-      let k = all-words test form h (words cs) xs f in
-      let parts = and_parts (nat_le 1 (length (words cs))) (nat_le (length (words cs)) most) is in
-      (k.0, ap (nat_le 1) k.1 ∙ parts.0, ap (λ n. nat_le n most) k.1 ∙ parts.1)
+        let k = all-words test form h (words cs) xs f in
+        let parts = and_parts (nat_le 1 (length (words cs))) (nat_le (length (words cs)) most) is in
+        (k.0, ap (nat_le 1) k.1 ∙ parts.0, ap (λ n. nat_le n most) k.1 ∙ parts.1)
     go false is f = absurd (none-some xs f)
 
 part-good : (cs : List ℕ) (p : PartWord) → part cs ≡ Some p → valid_path p.path ≡ true
@@ -187,7 +193,7 @@ part-good cs p e = of_pieces (split_at 58 cs) e
     of_pieces (a ∷ b ∷ c ∷ []) f = go (path a) refl (kind_word b) (order_word c) f
       where
         go : (o : Option Path) → path a ≡ o → (k : Option (Option _)) (d : Option _)
-          → option_and_then (λ x. option_and_then (λ y. option_map (λ z. record { path = x; kind = y; order = z }) d) k) o ≡ Some p → valid_path p.path ≡ true
+            → option_and_then (λ x. option_and_then (λ y. option_map (λ z. record { path = x; kind = y; order = z }) d) k) o ≡ Some p → valid_path p.path ≡ true
         go None is k d g = absurd (none-some p g)
         go (Some x) is None d g = absurd (none-some p g)
         go (Some x) is (Some y) None g = absurd (none-some p g)
@@ -201,15 +207,16 @@ gives-distinct : Gives (λ names. (list_all valid_symbol names ≡ true) × (all
 gives-distinct cs names rest e = go (several 140_000 symbol cs) refl e
   where
     test : (xs more : List _) (b : Bool) → all_apart same_name xs ≡ b → ◌≡◌ {A = Result (List (List ℕ) × List ℕ) Refusal} (if b then Ok (xs, more) else Err NotTheForm) (Ok (names, rest))
-      → (xs ≡ names) × (all_apart same_name names ≡ true)
+        → (xs ≡ names) × (all_apart same_name names ≡ true)
     test xs more true is f = let same = ok-first xs names more rest f in (same, subst (λ ys. all_apart same_name ys ≡ true) same is)
     test xs more false is f = cc
+
     go : (o : Result (List (List ℕ) × List ℕ) Refusal) → several 140_000 symbol cs ≡ o → if_distinct o ≡ Ok (names, rest) → (list_all valid_symbol names ≡ true) × (all_apart same_name names ≡ true)
     go (Err r) is f = cc
     go (Ok (xs, more)) is f =
-      let k = test xs more (all_apart same_name xs) refl f in
-      let all = several-good valid_symbol 140_000 symbol (λ cs a g. only-passes valid_symbol cs a g) cs xs more is in
-      (subst (λ ys. list_all valid_symbol ys ≡ true) k.0 all.0, k.1)
+        let k = test xs more (all_apart same_name xs) refl f in
+        let all = several-good valid_symbol 140_000 symbol (λ cs a g. only-passes valid_symbol cs a g) cs xs more is in
+        (subst (λ ys. list_all valid_symbol ys ≡ true) k.0 all.0, k.1)
 
 -- ---- rows
 
@@ -287,8 +294,8 @@ unfolding has_form
 tags-good cs = or-row (whole (of2 unit name command.Tags) cs) (whole (of4 unit name (word path) distinct command.SetTags) cs)
     (row-whole (of2 unit name command.Tags) (all-2 Form unit name command.Tags (λ u s. refl)) cs)
     (row-whole (of4 unit name (word path) distinct command.SetTags)
-      (gives-4 Form (λ u. ⊤) (λ s. ⊤) (λ p. valid_path p ≡ true) (λ names. (list_all valid_symbol names ≡ true) × (all_apart same_name names ≡ true))
-        unit name (word path) distinct command.SetTags (gives-any unit) (gives-any name) gives-path gives-distinct (λ u s p names _ _ h k. tags-form u s p names h k)) cs)
+    (gives-4 Form (λ u. ⊤) (λ s. ⊤) (λ p. valid_path p ≡ true) (λ names. (list_all valid_symbol names ≡ true) × (all_apart same_name names ≡ true))
+    unit name (word path) distinct command.SetTags (gives-any unit) (gives-any name) gives-path gives-distinct (λ u s p names _ _ h k. tags-form u s p names h k)) cs)
 
 query-good : (cs : List ℕ) → Good (query_row cs)
 unfolding has_form
@@ -300,51 +307,136 @@ query-good cs = go (word star cs)
 
 rows-good : Each (λ (r : Row). (cs : List ℕ) → Good (r.1 cs)) rows
 unfolding has_form
-rows-good =
-    (row-stream (alone command.Nsof) (gives-alone FormWith command.Nsof (λ g h. refl)),
-    (row-literal (alone command.Lit) (gives-alone FormWith command.Lit (λ g h. refl)),
-    (row-whole (of1 number command.Time) (all-1 Form number command.Time (λ t. refl)),
-    (row-whole (of3 unit name sig command.Format) (gives-3 Form (λ u. ⊤) (λ n. is_name n ≡ true) (λ n. nat_le n 536_870_911 ≡ true) unit name sig command.Format (gives-any unit) gives-name gives-sig (λ u n g _ h k. format-form u n g h k)),
-    (row-whole (of1 unit command.Mount) (all-1 Form unit command.Mount (λ u. refl)),
-    (row-whole (of1 unit command.Unmount) (all-1 Form unit command.Unmount (λ u. refl)),
-    (row-whole (alone command.Stores) (gives-alone Form command.Stores refl),
-    (row-whole (of1 unit command.Default) (all-1 Form unit command.Default (λ u. refl)),
-    (row-whole (of2 unit name command.Soup) (gives-2 Form (λ u. ⊤) (λ n. is_name n ≡ true) unit name command.Soup (gives-any unit) gives-name (λ u n _ h. h)),
-    (row-whole (of1 unit command.Soups) (all-1 Form unit command.Soups (λ u. refl)),
-    (row-whole (of2 unit name command.Drop) (all-2 Form unit name command.Drop (λ u s. refl)),
-    (row-whole (of3 unit name (several 4 part) command.Index) (gives-3 Form (λ u. ⊤) (λ s. ⊤) (λ ps. parts_fit ps ≡ true) unit name (several 4 part) command.Index (gives-any unit) (gives-any name) gives-parts (λ u s ps _ _ h. h)),
-    (row-whole (of3 unit name (several 4 path) command.Unindex) (all-3 Form unit name (several 4 path) command.Unindex (λ u s ps. refl)),
-    (row-whole (of2 unit name command.Indexes) (all-2 Form unit name command.Indexes (λ u s. refl)),
-    (tags-good,
-    (row-literal (of2 unit name (λ u s g. command.Add u s g)) (all-2 FormWith unit name (λ u s g. command.Add u s g) (λ u s g h. h)),
-    (row-stream (of2 unit name (λ u s g. command.Addx u s g)) (all-2 FormWith unit name (λ u s g. command.Addx u s g) (λ u s g h. h)),
-    (row-literal (of1 name (λ s g. command.Addu s g)) (all-1 FormWith name (λ s g. command.Addu s g) (λ s g h. h)),
-    (row-whole (of3 unit name number command.Get) (all-3 Form unit name number command.Get (λ u s n. refl)),
-    (row-whole (of3 unit name number command.Getx) (all-3 Form unit name number command.Getx (λ u s n. refl)),
-    (row-literal (of4 unit name number (word path) (λ u s n p g. command.Set u s n p g)) (all-4 FormWith unit name number (word path) (λ u s n p g. command.Set u s n p g) (λ u s n p g h. refl)),
-    (row-literal (of3 unit name number (λ u s n g. command.Change u s n g)) (all-3 FormWith unit name number (λ u s n g. command.Change u s n g) (λ u s n g h. h)),
-    (row-whole (of3 unit name number command.Remove) (all-3 Form unit name number command.Remove (λ u s n. refl)),
-    (row-whole (of5 unit name number unit name command.Copy) (all-5 Form unit name number unit name command.Copy (λ u s n v t. refl)),
-    (row-whole (of5 unit name number unit name command.Move) (all-5 Form unit name number unit name command.Move (λ u s n v t. refl)),
-    (row-whole (of6 unit name number (word path) number len command.Vread) (all-6 Form unit name number (word path) number len command.Vread (λ u s n p a l. refl)),
-    (row-bytes (of5 unit name number (word path) number (λ u s n p a b. command.Vwrite u s n p a b)) (all-5 (λ f. (bs : List ℕ) → Form (f bs)) unit name number (word path) number (λ u s n p a b. command.Vwrite u s n p a b) (λ u s n p a b. refl)),
-    (row-whole (of3 unit name number command.Alias) (all-3 Form unit name number command.Alias (λ u s n. refl)),
-    (row-literal (alone command.Resolve) (gives-alone FormWith command.Resolve (λ g h. refl)),
-    (query-good,
-    (row-whole (of1 cursor command.Entry) (all-1 Form cursor command.Entry (λ c. refl)),
-    (row-whole (of1 cursor command.Next) (all-1 Form cursor command.Next (λ c. refl)),
-    (row-whole (of1 cursor command.Prev) (all-1 Form cursor command.Prev (λ c. refl)),
-    (row-whole (of1 cursor command.Reset) (all-1 Form cursor command.Reset (λ c. refl)),
-    (row-whole (of1 cursor command.End) (all-1 Form cursor command.End (λ c. refl)),
-    (row-whole (of2 cursor (word signed_value) command.Moveby) (all-2 Form cursor (word signed_value) command.Moveby (λ c k. refl)),
-    (row-whole (of3 cursor unit number command.Goto) (all-3 Form cursor unit number command.Goto (λ c u n. refl)),
-    (row-literal (of1 cursor (λ c g. command.Gotokey c g)) (all-1 FormWith cursor (λ c g. command.Gotokey c g) (λ c g h. refl)),
-    (row-whole (of1 cursor command.Count) (all-1 Form cursor command.Count (λ c. refl)),
-    (row-whole (of1 cursor command.Which) (all-1 Form cursor command.Which (λ c. refl)),
-    (row-whole (of1 cursor command.Clone) (all-1 Form cursor command.Clone (λ c. refl)),
-    (row-whole (of1 cursor command.Close) (all-1 Form cursor command.Close (λ c. refl)),
-    (row-whole (alone command.Quit) (gives-alone Form command.Quit refl),
-    tt)))))))))))))))))))))))))))))))))))))))))))
+rows-good = (
+  row-stream (alone command.Nsof) (gives-alone FormWith command.Nsof (λ g h. refl)),
+  (
+    row-literal (alone command.Lit) (gives-alone FormWith command.Lit (λ g h. refl)),
+    (
+      row-whole (of1 number command.Time) (all-1 Form number command.Time (λ t. refl)),
+      (
+        row-whole (of3 unit name sig command.Format) (gives-3 Form (λ u. ⊤) (λ n. is_name n ≡ true) (λ n. nat_le n 536_870_911 ≡ true) unit name sig command.Format (gives-any unit) gives-name gives-sig (λ u n g _ h k. format-form u n g h k)),
+        (
+          row-whole (of1 unit command.Mount) (all-1 Form unit command.Mount (λ u. refl)),
+          (
+            row-whole (of1 unit command.Unmount) (all-1 Form unit command.Unmount (λ u. refl)),
+            (
+              row-whole (alone command.Stores) (gives-alone Form command.Stores refl),
+              (
+                row-whole (of1 unit command.Default) (all-1 Form unit command.Default (λ u. refl)),
+                (
+                  row-whole (of2 unit name command.Soup) (gives-2 Form (λ u. ⊤) (λ n. is_name n ≡ true) unit name command.Soup (gives-any unit) gives-name (λ u n _ h. h)),
+                  (
+                    row-whole (of1 unit command.Soups) (all-1 Form unit command.Soups (λ u. refl)),
+                    (
+                      row-whole (of2 unit name command.Drop) (all-2 Form unit name command.Drop (λ u s. refl)),
+                      (
+                        row-whole (of3 unit name (several 4 part) command.Index) (gives-3 Form (λ u. ⊤) (λ s. ⊤) (λ ps. parts_fit ps ≡ true) unit name (several 4 part) command.Index (gives-any unit) (gives-any name) gives-parts (λ u s ps _ _ h. h)),
+                        (
+                          row-whole (of3 unit name (several 4 path) command.Unindex) (all-3 Form unit name (several 4 path) command.Unindex (λ u s ps. refl)),
+                          (
+                            row-whole (of2 unit name command.Indexes) (all-2 Form unit name command.Indexes (λ u s. refl)),
+                            (
+                              tags-good,
+                              (
+                                row-literal (of2 unit name (λ u s g. command.Add u s g)) (all-2 FormWith unit name (λ u s g. command.Add u s g) (λ u s g h. h)),
+                                (
+                                  row-stream (of2 unit name (λ u s g. command.Addx u s g)) (all-2 FormWith unit name (λ u s g. command.Addx u s g) (λ u s g h. h)),
+                                  (
+                                    row-literal (of1 name (λ s g. command.Addu s g)) (all-1 FormWith name (λ s g. command.Addu s g) (λ s g h. h)),
+                                    (
+                                      row-whole (of3 unit name number command.Get) (all-3 Form unit name number command.Get (λ u s n. refl)),
+                                      (
+                                        row-whole (of3 unit name number command.Getx) (all-3 Form unit name number command.Getx (λ u s n. refl)),
+                                        (
+                                          row-literal (of4 unit name number (word path) (λ u s n p g. command.Set u s n p g)) (all-4 FormWith unit name number (word path) (λ u s n p g. command.Set u s n p g) (λ u s n p g h. refl)),
+                                          (
+                                            row-literal (of3 unit name number (λ u s n g. command.Change u s n g)) (all-3 FormWith unit name number (λ u s n g. command.Change u s n g) (λ u s n g h. h)),
+                                            (
+                                              row-whole (of3 unit name number command.Remove) (all-3 Form unit name number command.Remove (λ u s n. refl)),
+                                              (
+                                                row-whole (of5 unit name number unit name command.Copy) (all-5 Form unit name number unit name command.Copy (λ u s n v t. refl)),
+                                                (
+                                                  row-whole (of5 unit name number unit name command.Move) (all-5 Form unit name number unit name command.Move (λ u s n v t. refl)),
+                                                  (
+                                                    row-whole (of6 unit name number (word path) number len command.Vread) (all-6 Form unit name number (word path) number len command.Vread (λ u s n p a l. refl)),
+                                                    (
+                                                      row-bytes (of5 unit name number (word path) number (λ u s n p a b. command.Vwrite u s n p a b)) (all-5 (λ f. (bs : List ℕ) → Form (f bs)) unit name number (word path) number (λ u s n p a b. command.Vwrite u s n p a b) (λ u s n p a b. refl)),
+                                                      (
+                                                        row-whole (of3 unit name number command.Alias) (all-3 Form unit name number command.Alias (λ u s n. refl)),
+                                                        (
+                                                          row-literal (alone command.Resolve) (gives-alone FormWith command.Resolve (λ g h. refl)),
+                                                          (
+                                                            query-good,
+                                                            (
+                                                              row-whole (of1 cursor command.Entry) (all-1 Form cursor command.Entry (λ c. refl)),
+                                                              (
+                                                                row-whole (of1 cursor command.Next) (all-1 Form cursor command.Next (λ c. refl)),
+                                                                (
+                                                                  row-whole (of1 cursor command.Prev) (all-1 Form cursor command.Prev (λ c. refl)),
+                                                                  (
+                                                                    row-whole (of1 cursor command.Reset) (all-1 Form cursor command.Reset (λ c. refl)),
+                                                                    (
+                                                                      row-whole (of1 cursor command.End) (all-1 Form cursor command.End (λ c. refl)),
+                                                                      (
+                                                                        row-whole (of2 cursor (word signed_value) command.Moveby) (all-2 Form cursor (word signed_value) command.Moveby (λ c k. refl)),
+                                                                        (
+                                                                          row-whole (of3 cursor unit number command.Goto) (all-3 Form cursor unit number command.Goto (λ c u n. refl)),
+                                                                          (
+                                                                            row-literal (of1 cursor (λ c g. command.Gotokey c g)) (all-1 FormWith cursor (λ c g. command.Gotokey c g) (λ c g h. refl)),
+                                                                            (
+                                                                              row-whole (of1 cursor command.Count) (all-1 Form cursor command.Count (λ c. refl)),
+                                                                              (
+                                                                                row-whole (of1 cursor command.Which) (all-1 Form cursor command.Which (λ c. refl)),
+                                                                                (
+                                                                                  row-whole (of1 cursor command.Clone) (all-1 Form cursor command.Clone (λ c. refl)),
+                                                                                  (
+                                                                                    row-whole (of1 cursor command.Close) (all-1 Form cursor command.Close (λ c. refl)),
+                                                                                    (
+                                                                                      row-whole (alone command.Quit) (gives-alone Form command.Quit refl),
+                                                                                      tt,
+                                                                                    ),
+                                                                                  ),
+                                                                                ),
+                                                                              ),
+                                                                            ),
+                                                                          ),
+                                                                        ),
+                                                                      ),
+                                                                    ),
+                                                                  ),
+                                                                ),
+                                                              ),
+                                                            ),
+                                                          ),
+                                                        ),
+                                                      ),
+                                                    ),
+                                                  ),
+                                                ),
+                                              ),
+                                            ),
+                                          ),
+                                        ),
+                                      ),
+                                    ),
+                                  ),
+                                ),
+                              ),
+                            ),
+                          ),
+                        ),
+                      ),
+                    ),
+                  ),
+                ),
+              ),
+            ),
+          ),
+        ),
+      ),
+    ),
+  ),
+)
 
 row-good : (w rest : List ℕ) → Good (row_of w rest)
 row-good w rest = go (find (λ (r : Row). bytes_eq r.0 w) rows) refl
@@ -359,6 +451,7 @@ line-good line p e = go (says_nothing line) e
     short : (b : Bool) → Good (within_length b line)
     short true = tt
     short false = row-good (first_word line).0 (first_word line).1
+
     go : (b : Bool) → if_said b line ≡ Some p → Good p
     go true f = absurd (none-some p f)
     go false f = subst Good (some-same (within_length (nat_lt 140_000 (length line)) line) p f) (short (nat_lt 140_000 (length line)))
@@ -383,6 +476,7 @@ item-form rs lit str (stream digits f) good c e = go (hex_bytes digits) e
     read : (bs : List ℕ) (o : Result RawGraph Refusal) → rs.stream_of bs ≡ o → stream_item o f ≡ Ok c → has_form c ≡ true
     read bs (Err r) is k = cc
     read bs (Ok g) is k = subst Form (same-command (f g) c k) (good g (str bs g is))
+
     go : (o : Option (List ℕ)) → hex_item rs o f ≡ Ok c → has_form c ≡ true
     go None k = cc
     go (Some bs) k = read bs (rs.stream_of bs) refl k

@@ -1,13 +1,11 @@
 -- What holds of the worlds of a script.
-use Rattle.std.proofs.Common.{◌≡◌, refl, ap, sym, ◌∙◌, ℕ, List, [], ◌∷◌, map, filter_map, IsTrue, Option, Some, None, Result, Ok, Err}
-use Rattle.newt_graph.specs.Graph.{RawGraph}
+use Rattle.std.proofs.Common.{◌≡◌, refl, ℕ, List, [], ◌∷◌, map, filter_map, Option, Some, None, Ok, Err}
 use Rattle.newt_spec_graph.specs.Lists.{Each}
-use Rattle.newt_spec_graph.proofs.Lists.{none-some, some-same}
 use Rattle.newt_spec_world.specs.World.{World}
 use Rattle.newt_spec_world.specs.Answer.{answer}
 use Rattle.newt_spec_script.specs.Line.{Parsed, parsed}
-use Rattle.newt_spec_script.specs.Script.{Item, Readers, item_of, items_of, parsed_lines, lines, without_return, step, world_after}
-use Rattle.newt_laws.specs.Worlds.{AllValid, has_form}
+use Rattle.newt_spec_script.specs.Script.{Item, Readers, item_of, items_of, parsed_lines, lines, without_return, world_after}
+use Rattle.newt_laws.specs.Worlds.{AllValid}
 use Rattle.newt_laws.specs.Settled.{IsSettled, MountedApart}
 use Rattle.newt_laws.specs.Scripts.{ReadsWithin, ItemHasForm}
 use Rattle.newt_laws.proofs.Forms.{Good, line-good, item-form}
@@ -20,7 +18,7 @@ lines-good [] = tt
 lines-good (l ∷ ls) = go (parsed (without_return l)) refl (lines-good ls)
   where
     go : (o : Option Parsed) → parsed (without_return l) ≡ o → Each Good (filter_map (λ l. parsed (without_return l)) ls)
-      → Each Good (Rattle.std.specs.List.cons_option o (filter_map (λ l. parsed (without_return l)) ls))
+        → Each Good (Rattle.std.specs.List.cons_option o (filter_map (λ l. parsed (without_return l)) ls))
     go None e more = more
     go (Some p) e more = (line-good (without_return l) p e, more)
 

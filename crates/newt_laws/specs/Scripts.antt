@@ -1,5 +1,5 @@
 -- What holds of the items of a script.
-use Rattle.std.specs.Prelude.{◌≡◌, ℕ, IsTrue, List, Some, Result, Ok, Err, ⊤}
+use Rattle.std.specs.Prelude.{◌≡◌, ℕ, IsTrue, List, Some, Ok, Err, ⊤}
 use Rattle.newt_graph.specs.Graph.{RawGraph}
 use Rattle.newt_spec_graph.specs.Limits.{within_limits}
 use Rattle.newt_spec_script.specs.Script.{Item, Readers}
