@@ -1,13 +1,13 @@
 -- A reader of literals that computes, for the examples: ASCII texts, and no binaries but large ones of zero bytes.
-use Rattle.std.specs.Prelude.{ℕ, zero, suc, ◌+◌, ◌-◌, ◌*◌, Bool, true, false, not, ◌&&◌, ◌||◌, ◌==◌, nat_eq, List, [], ◌∷◌, ◌++◌, length, take, drop, slice_set, replicate, find, Option, Some, None, option_map, option_and_then, map, ℤ, pos, neg_ℤ, codes, if◌then◌else◌, fold}
+use Rattle.std.specs.Prelude.{ℕ, zero, suc, ◌+◌, ◌*◌, Bool, true, false, ◌&&◌, ◌||◌, ◌==◌, nat_eq, List, [], ◌∷◌, ◌++◌, length, take, drop, slice_set, replicate, find, Option, Some, None, option_map, option_and_then, map, pos, neg_ℤ, codes, if◌then◌else◌, fold}
 use Rattle.std.specs.Prelude.{slice_get}
 use Rattle.std.specs.List.{starts_with, prefix_len}
-use Rattle.std.specs.Char.{is_ascii_digit, digit_value, is_ascii_alphabetic}
+use Rattle.std.specs.Char.{is_ascii_digit, digit_value}
 use Rattle.newt_base.specs.Names.{starts_identifier}
 use Rattle.newt_graph.specs.declared.node.Ref.{Ref}
 use Rattle.newt_graph.specs.declared.node.Ref.TheVariants.{Imm, Node as At}
 use Rattle.newt_graph.specs.declared.node.Node.{Node}
-use Rattle.newt_graph.specs.declared.node.Node.TheVariants.{Symbol, Str, Binary, Large, Array, Frame}
+use Rattle.newt_graph.specs.declared.node.Node.TheVariants.{Symbol, Str, Large, Array, Frame}
 use Rattle.newt_graph.specs.Graph.{RawGraph}
 use Rattle.newt_graph.specs.Meeting.{normal_form}
 use Rattle.newt_spec_graph.specs.Slots.{symbol_number}
