@@ -3,3 +3,5 @@ pub mod Counts
 pub mod Payloads
 pub mod Stepping
 pub mod Committing
+pub mod Spelling
+pub mod Changing
