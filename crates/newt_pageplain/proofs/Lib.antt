@@ -2,3 +2,4 @@ pub mod Maps
 pub mod Counts
 pub mod Payloads
 pub mod Stepping
+pub mod Committing
