@@ -1,22 +1,28 @@
 -- What the pages are once a record is committed.
-use Rattle.std.proofs.Common.{IsTrue, ◌≡◌, ◌≢◌, ◌⊎◌, inl, inr, ℕ, zero, suc, ◌+◌, ◌-◌, ◌*◌, ◌/◌, ◌<◌, ◌≤◌, ◌==◌, Bool, true, false, not, cond, ◌||◌, ◌&&◌, nat_eq, List, [], ◌∷◌, ◌++◌, map as map_list, length, slice_get, Option, Some, None, IsSome, refl, sym, ◌∙◌, ap, subst, arith, ⊎_elim, rules}
+use Rattle.std.proofs.Common.{IsTrue, ◌≡◌, ◌≢◌, ◌⊎◌, inl, inr, ℕ, zero, suc, ◌+◌, ◌-◌, ◌*◌, ◌/◌, ◌<◌, ◌≤◌, ◌==◌, Bool, true, false, not, cond, ◌||◌, ◌&&◌, nat_eq, List, [], ◌∷◌, ◌++◌, map as map_list, length, slice_get, Option, Some, None, IsSome, refl, sym, ◌∙◌, ap, subst, arith, ⊎_elim}
 use Rattle.std.specs.List.{All, list_any, filter, IsDistinct, AllByRecursion}
-use Rattle.std.proofs.lemmas.List.Elements.{All-head, All-tail, All-cons}
+use Rattle.std.proofs.lemmas.List.Elements.{All-head, All-tail, All-cons, All-nil}
 use Rattle.std.proofs.lemmas.Map.Entries.{lookup_from_place}
 use Rattle.std.specs.Map.{lookup, keys_of}
+use Rattle.std.proofs.lemmas.Bool.Decides.{nat_tests}
 use Rattle.std.specs.Option.{option_map, is_some}
 use Rattle.std.specs.Ordering.{nat_cmp}
 use Rattle.std.specs.Cmp.{nat_eq_equiv}
 use Rattle.std.specs.FinMap as map
 use Rattle.std.specs.FinSet as set
 use Rattle.std.proofs.lemmas.List.{append-nil}
+use Rattle.std.proofs.lemmas.List.Folds.{list_any-append}
 use Rattle.std.proofs.lemmas.Map.Keys.{IsDistinct-head, IsDistinct-tail}
 use Rattle.std.proofs.lemmas.Map.Steps.{length-le_from_keys}
 use Rattle.newt_host.specs.Moments.{Moment, image, Leaves}
 use Rattle.newt_host.proofs.Moments.{Leaves-weaken}
-use Rattle.newt_image.specs.Records.{and_then, records}
+use Rattle.newt_image.specs.Records.{and_then, records, bank_size}
 use Rattle.newt_image.specs.Pages.{Pages, Change, change_numbers, all_distinct, change_in, with_puts, without_numbers, after, pages, pages_after, cap, written_change}
-use Rattle.newt_journal.specs.Journal.{ReadsAs, ReadsAsEither, appended}
+use Rattle.newt_journal.specs.Journal.{ReadsAs, ReadsAsEither, appended, room}
+use Rattle.newt_journal.specs.Bank.{limit_of}
+use Rattle.newt_journal.specs.declared.journal.Journal.{Journal}
+use Rattle.newt_journal.specs.declared.bank.Bank.{Bank}
+use Rattle.newt_journal.specs.declared.bank.Bank.TheVariants.{First, Second}
 use Rattle.newt_pagebook.specs.Batch.{IsBatch}
 use Rattle.newt_pagebook.specs.Book.{Numbers, ReadsChanged, IsBeforeOrAfter, changed_numbers}
 use Rattle.newt_pagebook.proofs.Tests.{true_or_false, is_same, some_inj, the_some, none_is, neither}
@@ -24,7 +30,7 @@ use Rattle.newt_pagebook.proofs.Changes.{get_insert, get_remove}
 use Rattle.newt_pageplain.specs.Kept.{Entries, page_in, map_of, numbers_in, get_map, is_kept, needed, all_of, AreSound}
 use Rattle.newt_pageplain.proofs.Maps.{turned, same_maps}
 use Rattle.newt_pageplain.proofs.Counts.{live-is, numbers-after, any_numbers}
-use Rattle.newt_pageplain.proofs.Spelling.{written-says, fewer_deletes, is_distinct, distinct_is, back_distinct, not_put}
+use Rattle.newt_pageplain.proofs.Spelling.{written-says, fewer_deletes, is_distinct, distinct_is, back_distinct, not_put, front_small, both_true, not_true}
 
 abbrev Put : Type 0
 Put = ℕ × List ℕ
@@ -147,11 +153,11 @@ all_is_batch es s = record {
   distinct = ap all_distinct (append-nil (map_list (λ (p : Put). p.0) es)) ∙ is_distinct (keys_of es) s.unique;
 } where
   All_from : (P : Put → Type 0) (es : Entries) → ((k : ℕ) (e : Put) → slice_get es k ≡ Some e → P e) → All P es
-  All_from P [] each = search rules
+  All_from P [] each = All-nil P
   All_from P (e ∷ es) each = All-cons P e es (each zero e refl) (All_from P es (λ k d at. each (suc k) d at))
 
   All_map : (es : Entries) → ((k : ℕ) (e : Put) → slice_get es k ≡ Some e → e.0 < 65536) → All (λ n. n < 65536) (map_list (λ (p : Put). p.0) es)
-  All_map [] each = search rules
+  All_map [] each = All-nil (λ n. n < 65536)
   All_map (e ∷ es) each = All-cons (λ n. n < 65536) e.0 (map_list (λ (p : Put). p.0) es) (each zero e refl) (All_map es (λ k d at. each (suc k) d at))
 
 -- what is there after a batch was there, or is put
@@ -215,3 +221,77 @@ few_kept entries change batch =
         right : (a b : Bool) → (a && b) ≡ true → b ≡ true
         right true b h = h
         right false b h = absurd (cc)
+
+-- those of a list that pass are no more than all
+pub fewer : (p : ℕ → Bool) (ns : List ℕ) → length (filter p ns) ≤ length ns
+fewer p [] = omega arith
+fewer p (n ∷ ns) = choose (p n) (fewer p ns) where
+  choose : (b : Bool) → length (filter p ns) ≤ length ns → length (cond b (n ∷ filter p ns) (filter p ns)) ≤ suc (length ns)
+  choose true low = omega (arith, low)
+  choose false low = omega (arith, low)
+
+-- distinct numbers below some number are at most so many
+down : ℕ → Entries
+down zero = []
+down (suc m) = (m, []) ∷ down m
+
+down-length : (m : ℕ) → length (down m) ≡ m
+unfolding down
+down-length zero = refl
+down-length (suc m) = ap suc (down-length m)
+
+down-there : (m q : ℕ) → q < m → IsSome (page_in (down m) q)
+unfolding down
+down-there zero q low = absurd (omega (arith, low))
+down-there (suc m) q low = ⊎_elim
+    (λ (t : (q == m) ≡ true). subst (λ (b : Bool). IsSome (cond b (Some []) (page_in (down m) q))) (sym t) refl)
+    (λ (f : (q == m) ≡ false). subst (λ (b : Bool). IsSome (cond b (Some []) (page_in (down m) q))) (sym f) (down-there m q (grind (arith, nat_tests, low, f))))
+    (true_or_false (q == m))
+
+low_of : (m q : ℕ) (ns : List ℕ) → All (λ n. n < m) ns → list_any (λ n. q == n) ns ≡ true → q < m
+low_of m q [] all there = absurd (cc)
+low_of m q (n ∷ ns) all there = ⊎_elim
+    (λ (t : (q == n) ≡ true). subst (λ (k : ℕ). k < m) (sym (is_same q n t)) (All-head (λ n. n < m) n ns all))
+    (λ (f : (q == n) ≡ false). low_of m q ns (All-tail (λ n. n < m) n ns all) (sym (ap (λ (b : Bool). b || list_any (λ n. q == n) ns) f) ∙ there))
+    (true_or_false (q == n))
+
+pigeons : (m : ℕ) (ns : List ℕ) → IsDistinct nat_eq ns → All (λ n. n < m) ns → length ns ≤ m
+pigeons m ns distinct small = subst (λ (k : ℕ). length ns ≤ k) (down-length m) (length-le_from_keys nat_eq_equiv ns (down m) distinct (λ q there. down-there m q (low_of m q ns small there)))
+
+front_distinct : (xs ys : List ℕ) → all_distinct (xs ++ ys) ≡ true → all_distinct xs ≡ true
+front_distinct [] ys d = refl
+front_distinct (x ∷ xs) ys d =
+    let parts = both_true (not (list_any (λ m. x == m) (xs ++ ys))) (all_distinct (xs ++ ys)) d in
+    let n = neither (list_any (λ m. x == m) xs) (list_any (λ m. x == m) ys) (sym (list_any-append (λ m. x == m) xs ys) ∙ not_true (list_any (λ m. x == m) (xs ++ ys)) parts.0) in
+    ap (λ (b : Bool). not b && all_distinct xs) n.0 ∙ front_distinct xs ys parts.1
+
+put-count : (puts : List Put) → length (map_list (λ (p : Put). p.0) puts) ≡ length puts
+put-count [] = refl
+put-count (p ∷ puts) = ap suc (put-count puts)
+
+pub few_puts : (change : Change) → IsBatch change → length change.puts ≤ 65536
+few_puts change batch =
+    let numbers : List ℕ = map_list (λ (p : Put). p.0) change.puts in
+    let low : length numbers ≤ 65536 = pigeons 65536 numbers (distinct_is numbers (front_distinct numbers change.deletes batch.distinct)) (front_small numbers change.deletes batch.small) in
+    omega (arith, low, put-count change.puts)
+
+-- as many pages as a unit takes are few, and one record with them fits its bank
+pub cap-few : (blocks n : ℕ) → blocks ≤ 4099 → n ≤ cap blocks → n < 65536
+cap-few blocks n few low = omega (arith, few, low)
+
+pub cap-fits : (blocks n : ℕ) → 13 ≤ blocks → n ≤ cap blocks → 25 + 516 * n ≤ bank_size blocks
+cap-fits blocks n enough low = omega (arith, enough, low)
+
+-- a payload for which a bank has room has few puts
+pub room-few : (j : Journal) (n : ℕ) → 4 + 516 * n ≤ room j → n < 65536
+room-few j n fits =
+    let low : room j ≤ limit_of j.blocks j.bank = choose j.closed ((limit_of j.blocks j.bank - j.end) - 5) (limit_of j.blocks j.bank) (omega arith) in
+    omega (arith, fits, low, below j.blocks j.bank j.not_too_many)
+  where
+    choose : (b : Bool) (m limit : ℕ) → m ≤ limit → cond b 0 m ≤ limit
+    choose true m limit low = omega arith
+    choose false m limit low = low
+
+    below : (blocks : ℕ) (bank : Bank) → blocks ≤ 4099 → limit_of blocks bank ≤ 16789504
+    below blocks First few = omega (arith, few)
+    below blocks Second few = omega (arith, few)

@@ -1,5 +1,5 @@
 -- A payload that was written says the change that it was written for.
-use Rattle.std.proofs.Common.{◌≡◌, ◌⊎◌, ℕ, zero, suc, ◌+◌, ◌*◌, ◌^◌, ◌<◌, ◌≤◌, ◌==◌, Bool, true, false, not, cond, ◌||◌, ◌&&◌, nat_eq, List, [], ◌∷◌, ◌++◌, map as map_list, length, take, drop, slice_get, Option, Some, None, refl, sym, ◌∙◌, ap, subst, arith, ⊎_elim, append_assoc, length-append, rules}
+use Rattle.std.proofs.Common.{◌≡◌, ◌⊎◌, ℕ, zero, suc, ◌+◌, ◌*◌, ◌^◌, ◌<◌, ◌≤◌, ◌==◌, Bool, true, false, not, cond, ◌||◌, ◌&&◌, nat_eq, List, [], ◌∷◌, ◌++◌, map as map_list, length, take, drop, slice_get, Option, Some, None, refl, sym, ◌∙◌, ap, subst, arith, ⊎_elim, append_assoc, length-append}
 use Rattle.std.specs.List.{All, list_any, filter, flat_map, IsDistinct, AllByRecursion}
 use Rattle.std.specs.Map.{lookup, keys_of}
 use Rattle.std.specs.Int.{to_be_bytes, from_be_bytes, w16, w32}
@@ -7,7 +7,7 @@ use Rattle.std.specs.Cmp.{nat_eq_equiv}
 use Rattle.std.proofs.lemmas.Bool.{cases_lt}
 use Rattle.std.proofs.lemmas.List.{take_at, drop_at, append-nil}
 use Rattle.std.proofs.lemmas.List.Folds.{list_any-append}
-use Rattle.std.proofs.lemmas.List.Elements.{All-head, All-tail, All-cons}
+use Rattle.std.proofs.lemmas.List.Elements.{All-head, All-tail, All-cons, All-nil}
 use Rattle.std.proofs.lemmas.Nat.{from_be_bytes-to_be_bytes_2, from_be_bytes-to_be_bytes_4}
 use Rattle.std.proofs.lemmas.Map.Keys.{IsDistinct-head, IsDistinct-tail}
 use Rattle.newt_image.specs.Pages.{Change, change_numbers, all_distinct, short_at, word_at, puts_from, deletes_from, said_by, is_change, change_in, written_put, written_delete, written_change}
@@ -20,8 +20,8 @@ abbrev Put : Type 0
 Put = ℕ × List ℕ
 
 -- numbers of changes are below 2 ^ 32, and the pages are whole
-front_small : (xs ys : List ℕ) → All (λ n. n < 65536) (xs ++ ys) → All (λ n. n < 65536) xs
-front_small [] ys all = search rules
+pub front_small : (xs ys : List ℕ) → All (λ n. n < 65536) (xs ++ ys) → All (λ n. n < 65536) xs
+front_small [] ys all = All-nil (λ n. n < 65536)
 front_small (x ∷ xs) ys all = All-cons (λ n. n < 65536) x xs (All-head (λ n. n < 65536) x (xs ++ ys) all) (front_small xs ys (All-tail (λ n. n < 65536) x (xs ++ ys) all))
 
 back_small : (xs ys : List ℕ) → All (λ n. n < 65536) (xs ++ ys) → All (λ n. n < 65536) ys
@@ -122,12 +122,12 @@ small_filter p [] (y ∷ ys) all = choose (p y) (All-head (λ n. n < 65536) y ys
   choose false low rest = rest
 small_filter p (x ∷ xs) ys all = All-cons (λ n. n < 65536) x (xs ++ filter p ys) (All-head (λ n. n < 65536) x (xs ++ ys) all) (small_filter p xs ys (All-tail (λ n. n < 65536) x (xs ++ ys) all))
 
-both_true : (a b : Bool) → (a && b) ≡ true → (a ≡ true) × (b ≡ true)
+pub both_true : (a b : Bool) → (a && b) ≡ true → (a ≡ true) × (b ≡ true)
 both_true true true e = (refl, refl)
 both_true true false e = absurd (cc)
 both_true false b e = absurd (cc)
 
-not_true : (b : Bool) → not b ≡ true → b ≡ false
+pub not_true : (b : Bool) → not b ≡ true → b ≡ false
 not_true true e = absurd (cc)
 not_true false e = refl
 
