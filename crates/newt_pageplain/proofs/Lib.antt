@@ -5,3 +5,4 @@ pub mod Stepping
 pub mod Committing
 pub mod Spelling
 pub mod Changing
+pub mod Replaying
