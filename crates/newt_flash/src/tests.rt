@@ -1,11 +1,14 @@
 //! Journals on a card in memory.
-ghost use Rattle.std.specs.Prelude.{◌≡◌, IfOk, vec_len};
+ghost use Rattle.std.specs.Prelude.{◌≡◌, true, IfOk, vec_len};
+ghost use Rattle.newt_memhost.specs.Outside.{outside_of};
+ghost use Rattle.newt_journal.specs.Journal.{Stands};
 
-use crate::card::{CARD, host_of, records_on};
-use crate::crashes::{assert_either, assert_mended};
+use crate::card::{CARD, Records, host_of, records_on};
+use crate::crashes::{PICKS, assert_either, assert_mended};
 use crate::records::{append, payloads, replace};
 use newt_host::Host;
 use newt_journal::Journal;
+use newt_memhost::MemHost;
 use std::alloc::{AllocError, Global};
 use std::process::Abort;
 use std::test::Fail;
@@ -19,15 +22,29 @@ fn filled(alloc: Global, byte: u8, count: usize) -> Result<Vec<u8>, AllocError>
     Ok(bytes)
 }
 
+// One payload.
+fn one(alloc: Global, payload: &[u8]) -> Result<Records, Fail> {
+    let mut records = Vec::new(alloc);
+    records.push(payload.to_vec(alloc)?)?;
+    Ok(records)
+}
+
+// The same payloads again.
+fn copy(alloc: Global, records: &Records) -> Result<Records, Fail> {
+    let mut copied = Vec::new(alloc);
+    for payload in records {
+        copied.push(payload.to_vec(alloc)?)?;
+    }
+    Ok(copied)
+}
+
 // Thirteen blocks: `first` in bank 0, `second` in bank 1, and three votes for bank 1.
 fn two_banks(rt: &impl Abort, alloc: Global) -> Result<Vec<u8>, Fail> {
     let mut host = host_of(rt, alloc, &filled(alloc, 0x5A, 13 * 4096)?)?;
     assert!(rt; host.blocks(CARD) == 13);
     let journal = Journal::format(&mut host, CARD, b"first")?;
     let _journal = replace(journal, &mut host, b"second")?;
-    let mut bytes = Vec::new(alloc);
-    bytes.extend_from_slice(host.bytes(CARD))?;
-    Ok(bytes)
+    Ok(host.bytes(CARD).to_vec(alloc)?)
 }
 
 #[test]
@@ -73,37 +90,54 @@ fn records_end_at_a_gate_that_is_not_open(rt: HostRuntime) -> Result<(), Fail> {
     Ok(())
 }
 
-#[test]
-fn a_crash_leaves_the_records_before_or_after(rt: HostRuntime) -> Result<(), Fail> {
-    let alloc = rt.alloc();
-    let mut host = host_of(&rt, alloc, &filled(alloc, 0x5A, 13 * 4096)?)?;
-    assert!(rt; host.blocks(CARD) == 13);
-    let mut journal = Journal::format(&mut host, CARD, b"first")?;
-    let mut held = payloads(alloc, &journal, &mut host)?;
+// Appends until the bank is full, and checks what a crash leaves within each call.
+fn fill(
+    rt: &impl Abort,
+    alloc: Global,
+    host: &mut MemHost,
+    journal: Journal,
+    held: &mut Records,
+) -> Result<Journal, Fail>
+    requires { Stands true journal (outside_of host.old) × (journal.unit ≡ 0) }
+    ensures { IfOk result (λ after. Stands true after (outside_of host.new) × (after.unit ≡ 0)) }
+{
+    let mut journal = journal;
     for byte in 1..9u8 {
         let room = journal.room();
         if room == 0 {
             break;
         }
         let payload = filled(alloc, byte, room.min(4096) as usize)?;
+        let before = copy(alloc, held)?;
         let from = host.calls();
-        journal = append(journal, &mut host, &payload)?;
-        let next = payloads(alloc, &journal, &mut host)?;
-        assert_eq!(rt; next.last(), Some(&payload));
-        assert_eq!(rt; next.len(), held.len() + 1);
-        assert_either(&rt, alloc, &host, from, &held, &next)?;
-        held = next;
+        journal = append(journal, host, &payload)?;
+        held.push(payload)?;
+        assert_either(rt, alloc, host, from, &PICKS, &before, held)?;
+        assert_eq!(rt; &payloads(alloc, &journal, host)?, held);
     }
+    Ok(journal)
+}
+
+#[test]
+fn a_crash_leaves_the_records_before_or_after(rt: HostRuntime) -> Result<(), Fail> {
+    let alloc = rt.alloc();
+    let mut host = host_of(&rt, alloc, &filled(alloc, 0x5A, 13 * 4096)?)?;
+    assert!(rt; host.blocks(CARD) == 13);
+    let journal = Journal::format(&mut host, CARD, b"first")?;
+    let mut held = one(alloc, b"first")?;
+    let journal = fill(&rt, alloc, &mut host, journal, &mut held)?;
     // The last record ends with the bank.
     assert_eq!(rt; journal.room(), 0);
     assert_eq!(rt; held.len(), 6);
     assert_eq!(rt; records_on(&rt, alloc, host.bytes(CARD))?.as_ref(), Some(&held));
+    assert!(rt; host.blocks(CARD) == 13);
     let from = host.calls();
     let journal = replace(journal, &mut host, b"whole")?;
-    let whole = payloads(alloc, &journal, &mut host)?;
-    assert_eq!(rt; whole.len(), 1);
-    assert_either(&rt, alloc, &host, from, &held, &whole)?;
-    assert_mended(&rt, alloc, &host, from)
+    let whole = one(alloc, b"whole")?;
+    assert_either(&rt, alloc, &host, from, &PICKS, &held, &whole)?;
+    assert_mended(&rt, alloc, &host, from)?;
+    assert_eq!(rt; payloads(alloc, &journal, &mut host)?, whole);
+    Ok(())
 }
 
 #[test]
