@@ -39,7 +39,10 @@ pub(crate) fn assert_either(
         for pick in picks {
             let crash = host.images(CARD, call, *pick)?;
             let found = records_on(rt, alloc, &crash.image)?;
-            assert!(rt; found.as_ref() == Some(before) || found.as_ref() == Some(after), "{call}");
+            assert!(rt;
+                found.as_ref() == Some(before) || found.as_ref() == Some(after),
+                "{call}"
+            );
         }
     }
     Ok(())
