@@ -137,6 +137,23 @@ module _ (cards : List Card) (i unit : ℕ) (b c : Card) (same : i ≡ unit) (is
       let stood_so : StandsAs true b (changes unit old) = subst (λ (t : Bool). StandsAs t b (changes unit old)) held stood in
       told-put old now told others (subst (λ (t : Bool). StandsAs t c (changes unit now)) (sym (kept ∙ held)) (stands stood_so))
 
+  -- what a card holds is the image of its unit
+  pub image-held : (m : Moment) → IsTold cards m → b.attached ≡ true → bytes_after (changes unit m) ≡ b.held.items
+  image-held m told held =
+      let stood : Stands (Some b) (changes unit m) = subst (λ (o : Option Card). Stands o (changes unit m)) at-old (told.each unit) in
+      (subst (λ (t : Bool). StandsAs t b (changes unit m)) held stood).0
+
+  pub image-set : (m : Moment) → IsTold (slice_set cards i c) m → c.attached ≡ true → bytes_after (changes unit m) ≡ c.held.items
+  image-set m told held =
+      let stood : Stands (Some c) (changes unit m) = subst (λ (o : Option Card). Stands o (changes unit m)) at-new (told.each unit) in
+      (subst (λ (t : Bool). StandsAs t c (changes unit m)) held stood).0
+
+  -- an error leaves the image as it was
+  pub unchanged-at : {T E : Type 0} (r : Result T E) (old now : Moment) → IsTold cards old → IsTold (slice_set cards i c) now → b.attached ≡ true → c.attached ≡ b.attached → OnErr r (c.held.items ≡ b.held.items)
+      → OnErr r (bytes_after (changes unit now) ≡ bytes_after (changes unit old))
+  unchanged-at (Ok x) old now told more held kept same = tt
+  unchanged-at (Err e) old now told more held kept same = image-set now more (kept ∙ held) ∙ same ∙ sym (image-held old told held)
+
   pub told-attach : (first : List ℕ) (old now : Moment) → IsTold cards old → b.attached ≡ false → now ≡ On unit (Attached first) ∷ old → c.attached ≡ true → c.first.items ≡ first → c.held.items ≡ first
       → IsTold (slice_set cards i c) now
   told-attach first old now told free is held first_is held_is =
