@@ -1,9 +1,9 @@
 -- The printed text of a graph has characters from 32 to 126 alone.
-use Rattle.std.proofs.Common.{◌≡◌, ℕ, zero, suc, ◌+◌, ◌-◌, ◌*◌, ◌/◌, ◌%◌, ◌^◌, ◌<◌, ◌≤◌, Bool, true, false, cond, ltb, leb, eqb, List, [], ◌∷◌, ◌++◌, length, map, get_or, Option, Some, None, refl, sym, ap, ◌∙◌, subst, arith, inl, inr, ◌⊎◌, ℤ, pos, negsuc, All}
+use Rattle.std.proofs.Common.{◌≡◌, ℕ, zero, suc, ◌+◌, ◌-◌, ◌/◌, ◌%◌, ◌^◌, ◌<◌, ◌≤◌, Bool, true, false, ltb, leb, eqb, List, [], ◌∷◌, ◌++◌, map, Option, Some, None, refl, ap, ◌∙◌, subst, arith, inl, inr, ℤ, pos, negsuc, All}
 use Rattle.std.specs.Prelude.{slice_get, flat_map, codes, decimal, zip, not, ◌&&◌}
 use Rattle.std.specs.Fmt.{signed_decimal}
 use Rattle.std.specs.Int.{w32, cast_unsigned, int_div_euclid}
-use Rattle.std.proofs.lemmas.Bool.{ltb-true, ltb-false, leb-true, and_parts}
+use Rattle.std.proofs.lemmas.Bool.{ltb-true, leb-true, and_parts}
 use Rattle.std.proofs.lemmas.Fmt.{decimal_by_steps}
 use Rattle.std.proofs.lemmas.Option.{slice_get_within}
 use Rattle.std.proofs.lemmas.List.Elements.{All-nil, All-cons, All-head, All-tail, All-append}
@@ -13,11 +13,11 @@ use Rattle.newt_graph.specs.declared.node.Node.{Node}
 use Rattle.newt_graph.specs.declared.node.Node.TheVariants as nodes
 use Rattle.newt_graph.specs.declared.node.Ref.{Ref}
 use Rattle.newt_graph.specs.declared.node.Ref.TheVariants as refs
-use Rattle.newt_graph.specs.Graph.{RawGraph, IsGraph, IsName, IsWord, IsNode, IsText, IsData, WalkLabel, WalkLabels, Walk, Walks}
+use Rattle.newt_graph.specs.Graph.{RawGraph, IsGraph, IsName, IsWord, IsNode, WalkLabel, WalkLabels, Walk, Walks}
 use Rattle.newt_graph.specs.Raw.{values_of}
-use Rattle.newt_lit.specs.Spelling.{Spelling, plain, ◌then◌}
+use Rattle.newt_lit.specs.Spelling.{Spelling}
 use Rattle.newt_lit.specs.Words.{is_identifier, is_shown}
-use Rattle.newt_lit.specs.Printed.{escaped, name_text, symbol_text, hex16, character_text, word_text, unit_text, string_text, binary_text, more_text, list_text, class_text, field_text, object_text, label_text, label_of, met_or_new, is_symbol, node_text, ref_text, node_at, value_at, labels, literal}
+use Rattle.newt_lit.specs.Printed.{escaped, name_text, symbol_text, hex16, character_text, word_text, unit_text, string_text, binary_text, more_text, list_text, class_text, field_text, object_text, label_text, label_of, met_or_new, is_symbol, node_text, ref_text, node_at, labels, literal}
 use Rattle.newt_lit.proofs.Labels.{node_rules, label_le}
 use Rattle.newt_lit.proofs.Lists.{get_either}
 

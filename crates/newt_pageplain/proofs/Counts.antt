@@ -79,7 +79,7 @@ deletes_take [] rest j = ap (λ (k : ℕ). take k rest) (let e : 0 + j ≡ j = o
 deletes_take (p ∷ puts) rest j = ap (λ (k : ℕ). take k (p.0 ∷ map_list (λ (put : Put). put.0) puts ++ rest)) (let e : length (p ∷ puts) + j ≡ suc (length puts + j) = omega arith in e)
     ∙ ap (λ (l : List ℕ). p.0 ∷ l) (deletes_take puts rest j)
 
-any_numbers : (q : ℕ) (puts : List Put) → list_any (λ m. q == m) (map_list (λ (put : Put). put.0) puts) ≡ list_any (λ put. q == put.0) puts
+pub any_numbers : (q : ℕ) (puts : List Put) → list_any (λ m. q == m) (map_list (λ (put : Put). put.0) puts) ≡ list_any (λ put. q == put.0) puts
 any_numbers q [] = refl
 any_numbers q (p ∷ puts) = ap (λ (b : Bool). (q == p.0) || b) (any_numbers q puts)
 

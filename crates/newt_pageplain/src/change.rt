@@ -7,6 +7,7 @@ ghost use Rattle.newt_host.specs.Moments.{image, Leaves};
 ghost use Rattle.newt_host.specs.Outside.{Touches, Spends, Rose};
 ghost use Rattle.newt_image.specs.Pages.{pages as pages_of, after as pages_behind, cap};
 ghost use Rattle.newt_journal.specs.Journal.{room, Stands};
+ghost use Rattle.newt_pagebook.specs.Batch.{IsBatch};
 ghost use Rattle.newt_pagebook.specs.Book.{IsOpenFor, batch_bytes, changed_numbers, IsBeforeOrAfter, ReadsChanged};
 ghost use Rattle.newt_pageplain.specs.Kept.{AreSound, is_kept, map_of, numbers_in};
 
@@ -26,6 +27,7 @@ fn commit_behind<H: Host>(
     requires stands { Stands H.told journal (H.outside host.old) }
     requires holds { IsTrue H.told → pages_of (image journal.unit (H.outside host.old).now) ≡ Some (map_of pages.old.entries) }
     requires sound { AreSound pages.old.entries }
+    requires batch { IsBatch batch.now }
     requires spare { length batch.now.puts ≤ hash.spare pages.old }
     requires live { set.len (changed_numbers batch.now (numbers_in pages.old.entries)) ≤ cap journal.blocks }
     requires fits { 4 + 516 * length batch.now.puts + 4 * length (filter (is_kept pages.old.entries) batch.now.deletes) ≤ room journal }
@@ -54,6 +56,7 @@ fn commit_beside<H: Host>(
     requires stands { Stands H.told journal (H.outside host.old) }
     requires holds { IsTrue H.told → pages_of (image journal.unit (H.outside host.old).now) ≡ Some (map_of pages.old.entries) }
     requires sound { AreSound pages.old.entries }
+    requires batch { IsBatch batch.now }
     requires spare { length batch.now.puts ≤ hash.spare pages.old }
     requires live { set.len (changed_numbers batch.now (numbers_in pages.old.entries)) ≤ cap journal.blocks }
     ensures journal { IfOk result (λ after. Stands H.told after (H.outside host.new) × (after.unit ≡ journal.unit)) }
