@@ -1,6 +1,5 @@
 // What a crash leaves within the calls of a host.
-ghost use Rattle.std.specs.Prelude.{◌≤◌, IsSome};
-ghost use Rattle.newt_memhost.specs.Happened.{calls_in};
+ghost use Rattle.std.specs.Prelude.{IsSome};
 ghost use Rattle.newt_memhost.specs.Outside.{outside_of};
 
 use crate::card::{CARD, Records, host_of, opened, records_on};
