@@ -1,5 +1,5 @@
 // One card in memory, attached as unit 0.
-ghost use Rattle.std.specs.Prelude.{◌≡◌, ◌%◌, true, IfOk, IfSome, IsTrue};
+ghost use Rattle.std.specs.Prelude.{◌≡◌, true, IfOk, IfSome};
 ghost use Rattle.newt_host.specs.Moments.{IsDurable};
 ghost use Rattle.newt_memhost.specs.Outside.{outside_of};
 ghost use Rattle.newt_journal.specs.Journal.{Stands};

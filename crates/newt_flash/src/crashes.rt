@@ -1,6 +1,5 @@
 // What a crash leaves within the calls of a host.
-ghost use Rattle.std.specs.Prelude.{◌≤◌, IsSome};
-ghost use Rattle.newt_memhost.specs.Happened.{calls_in};
+ghost use Rattle.std.specs.Prelude.{IsSome};
 ghost use Rattle.newt_memhost.specs.Outside.{outside_of};
 
 use crate::card::{CARD, Records, host_of, opened, records_on};
@@ -39,7 +38,10 @@ pub(crate) fn assert_either(
         for pick in picks {
             let crash = host.images(CARD, call, *pick)?;
             let found = records_on(rt, alloc, &crash.image)?;
-            assert!(rt; found.as_ref() == Some(before) || found.as_ref() == Some(after), "{call}");
+            assert!(rt;
+                found.as_ref() == Some(before) || found.as_ref() == Some(after),
+                "{call}"
+            );
         }
     }
     Ok(())

@@ -96,26 +96,29 @@ fn fill(
     alloc: Global,
     host: &mut MemHost,
     journal: Journal,
-    held: &mut Records,
-) -> Result<Journal, Fail>
-    requires { Stands true journal (outside_of host.old) × (journal.unit ≡ 0) }
-    ensures { IfOk result (λ after. Stands true after (outside_of host.new) × (after.unit ≡ 0)) }
+    held: Records,
+) -> Result<(Journal, Records), Fail>
+    requires stands { Stands true journal (outside_of host.old) }
+    requires unit { journal.unit ≡ 0 }
+    ensures { IfOk result (λ after. Stands true after.0 (outside_of host.new) × (after.0.unit ≡ 0)) }
 {
     let mut journal = journal;
+    let mut held = held;
     for byte in 1..9u8 {
         let room = journal.room();
         if room == 0 {
             break;
         }
         let payload = filled(alloc, byte, room.min(4096) as usize)?;
-        let before = copy(alloc, held)?;
         let from = host.calls();
         journal = append(journal, host, &payload)?;
-        held.push(payload)?;
-        assert_either(rt, alloc, host, from, &PICKS, &before, held)?;
-        assert_eq!(rt; &payloads(alloc, &journal, host)?, held);
+        let mut after = copy(alloc, &held)?;
+        after.push(payload)?;
+        assert_either(rt, alloc, host, from, &PICKS, &held, &after)?;
+        assert_eq!(rt; payloads(alloc, &journal, host)?, after);
+        held = after;
     }
-    Ok(journal)
+    Ok((journal, held))
 }
 
 #[test]
@@ -124,12 +127,15 @@ fn a_crash_leaves_the_records_before_or_after(rt: HostRuntime) -> Result<(), Fai
     let mut host = host_of(&rt, alloc, &filled(alloc, 0x5A, 13 * 4096)?)?;
     assert!(rt; host.blocks(CARD) == 13);
     let journal = Journal::format(&mut host, CARD, b"first")?;
-    let mut held = one(alloc, b"first")?;
-    let journal = fill(&rt, alloc, &mut host, journal, &mut held)?;
+    let held = one(alloc, b"first")?;
+    let (journal, held) = fill(&rt, alloc, &mut host, journal, held)?;
     // The last record ends with the bank.
     assert_eq!(rt; journal.room(), 0);
     assert_eq!(rt; held.len(), 6);
-    assert_eq!(rt; records_on(&rt, alloc, host.bytes(CARD))?.as_ref(), Some(&held));
+    assert_eq!(rt;
+        records_on(&rt, alloc, host.bytes(CARD))?.as_ref(),
+        Some(&held)
+    );
     assert!(rt; host.blocks(CARD) == 13);
     let from = host.calls();
     let journal = replace(journal, &mut host, b"whole")?;
@@ -151,11 +157,17 @@ fn works_on_the_least_and_on_the_greatest_unit(rt: HostRuntime) -> Result<(), Fa
         let journal = append(journal, &mut host, b"second")?;
         let held = payloads(alloc, &journal, &mut host)?;
         assert_eq!(rt; held.len(), 2);
-        assert_eq!(rt; records_on(&rt, alloc, host.bytes(CARD))?.as_ref(), Some(&held));
+        assert_eq!(rt;
+            records_on(&rt, alloc, host.bytes(CARD))?.as_ref(),
+            Some(&held)
+        );
         let journal = replace(journal, &mut host, b"third")?;
         let held = payloads(alloc, &journal, &mut host)?;
         assert_eq!(rt; held.len(), 1);
-        assert_eq!(rt; records_on(&rt, alloc, host.bytes(CARD))?.as_ref(), Some(&held));
+        assert_eq!(rt;
+            records_on(&rt, alloc, host.bytes(CARD))?.as_ref(),
+            Some(&held)
+        );
     }
     Ok(())
 }
