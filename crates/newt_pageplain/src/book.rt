@@ -1,5 +1,6 @@
 // The book.
 ghost use Rattle.std.specs.Prelude.{◌≡◌, ◌<◌, length, Some};
+ghost use Rattle.std.proofs.Props.{props};
 ghost use Rattle.newt_pageplain.specs.Kept.{AreSound};
 
 use crate::apply::{Kept, live_after};
@@ -19,7 +20,7 @@ pub struct PlainBook {
     pages: Kept,
     /// The number of the page at hand.
     at: Option<u32>,
-    ghost sound: { AreSound pages.entries },
+    ghost sound: { AreSound pages.entries } by { Prim.hlevel props },
 }
 
 impl PageBook for PlainBook {

@@ -13,8 +13,8 @@ loop-put-init c =
     ∙ ap (λ (l : List ℕ). c.to_be_bytes.result ++ l) c.to_be_bytes-2.ensures ∙ ap (λ (l : List ℕ). l ++ to_be_bytes w16 0) c.to_be_bytes.ensures
     ∙ ap (λ (l : List (ℕ × List ℕ)). to_be_bytes w16 (length l) ++ to_be_bytes w16 0) c.puts.ensures.puts
 
-pub returns : goal.returns
-returns c =
+pub returns-clause-says : goal.returns-clause-says
+returns-clause-says c =
     let puts = c.args.batch.now.puts in
     let all : take c.loop-put.put-index puts ≡ puts = take_all c.loop-put.put-index puts (omega (arith, c.loop-put-test.false, ap (λ (l : List (ℕ × List ℕ)). length l) c.puts-put-items.ensures.puts)) in
     c.loop-put.invariant ∙ ap (λ (l : List (ℕ × List ℕ)). (to_be_bytes w16 (length puts) ++ to_be_bytes w16 0) ++ flat_map written_put l) all ∙ written-all puts (length puts) refl
