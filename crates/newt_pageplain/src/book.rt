@@ -58,12 +58,7 @@ impl PageBook for PlainBook {
 
     ghost kept = { λ told b old new s. kept_with told b.unit b.journal b.pages.entries old new s };
 
-    fn format<H: Host>(
-        alloc: Global,
-        host: &mut H,
-        unit: Unit,
-        batch: &Batch,
-    ) -> Result<(), Stop> {
+    fn format<H: Host>(alloc: Global, host: &mut H, unit: Unit, batch: &Batch) -> Result<(), Stop> {
         let payload = written(alloc, batch)?;
         match Journal::format(host, unit, &payload) {
             Ok(_) => Ok(()),

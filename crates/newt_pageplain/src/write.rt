@@ -83,11 +83,7 @@ fn write_put<H: Host>(
 }
 
 // Writes the puts of a batch.
-fn write_puts<H: Host>(
-    draft: &mut Draft,
-    host: &mut H,
-    puts: &[(u32, Page)],
-) -> Result<(), Failed>
+fn write_puts<H: Host>(draft: &mut Draft, host: &mut H, puts: &[(u32, Page)]) -> Result<(), Failed>
     requires room { put_of draft.old + 516 * length puts.now ≤ len_of draft.old }
     requires draft { IsDraftOf H.told draft.old (H.outside host.old) }
     requires steady { IsTrue H.told → IsSteady (unit_of draft.old) (H.outside host.old).now }

@@ -1,10 +1,9 @@
-use Rattle.std.proofs.Common.{◌≡◌, ℕ, ◌≤◌, ◌++◌, List, [], length, take, sym, ◌∙◌, ap, arith, refl}
+use Rattle.std.proofs.Common.{◌≡◌, ℕ, ◌++◌, List, length, take, sym, ◌∙◌, ap, arith, refl}
 use Rattle.std.specs.List.{flat_map}
 use Rattle.std.specs.Int.{to_be_bytes, w16}
-use Rattle.std.proofs.lemmas.List.{take_all, take_more}
-use Rattle.newt_image.specs.Pages.{Change, written_put, written_change}
-use Rattle.newt_pageplain.proofs.Maps.{no_put}
-use Rattle.newt_pageplain.proofs.Stepping.{written-all, flat-push}
+use Rattle.std.proofs.lemmas.List.{take_all}
+use Rattle.newt_image.specs.Pages.{written_put, written_change}
+use Rattle.newt_pageplain.proofs.Stepping.{written-all}
 use Rattle.newt_pageplain.proofs.write.written.Goals as goal
 
 pub loop-put-init : goal.loop-put-init

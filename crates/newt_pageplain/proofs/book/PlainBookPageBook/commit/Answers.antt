@@ -1,4 +1,4 @@
-use Rattle.std.proofs.Common.{IsTrue, ◌≡◌, inl, ℕ, List, Option, Some, refl, sym, ◌∙◌, ap, subst}
+use Rattle.std.proofs.Common.{◌≡◌, inl, ℕ, List, Some, refl, sym, ◌∙◌, ap, subst}
 use Rattle.std.specs.Option.{option_map}
 use Rattle.newt_host.specs.Moments.{Moment, image}
 use Rattle.newt_host.proofs.Moments.{Leaves-start}
@@ -6,7 +6,6 @@ use Rattle.newt_image.specs.Pages.{Pages, pages, after}
 use Rattle.newt_journal.specs.declared.journal.Journal.{Journal}
 use Rattle.newt_pagebook.specs.Book.{IsBeforeOrAfter}
 use Rattle.newt_pagebook.proofs.Tests.{some_inj}
-use Rattle.newt_pageplain.specs.Kept.{map_of}
 use Rattle.newt_pageplain.specs.Plain.{tells_with}
 use Rattle.newt_pageplain.proofs.Counts.{numbers-after}
 use Rattle.newt_pageplain.proofs.book.PlainBookPageBook.commit.Goals as goal

@@ -1,4 +1,4 @@
-use Rattle.std.proofs.Common.{◌≡◌, sym, ◌∙◌}
+use Rattle.std.proofs.Common.{sym, ◌∙◌}
 use Rattle.newt_pageplain.proofs.Counts.{live-is}
 use Rattle.newt_pageplain.proofs.book.PlainBookPageBook.live.Goals as goal
 

@@ -1,4 +1,4 @@
-use Rattle.std.proofs.Common.{IsTrue, ◌≡◌, ℕ, List, Option, Some, refl, sym, ◌∙◌, ap}
+use Rattle.std.proofs.Common.{sym, ◌∙◌, ap}
 use Rattle.std.specs.FinMap as map
 use Rattle.newt_image.specs.Pages.{Pages}
 use Rattle.newt_pagebook.proofs.Tests.{some_inj}

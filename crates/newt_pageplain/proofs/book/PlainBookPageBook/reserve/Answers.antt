@@ -1,7 +1,6 @@
-use Rattle.std.proofs.Common.{IsTrue, ◌≡◌, ℕ, List, Option, Some, None, Ok, Err, refl, sym, ◌∙◌, ap, arith}
-use Rattle.std.specs.Option.{option_and_then}
+use Rattle.std.proofs.Common.{◌≡◌, ℕ, Option, Some, None, refl, sym, ◌∙◌, ap, arith}
 use Rattle.newt_image.specs.Pages.{Pages}
-use Rattle.newt_pageplain.specs.Kept.{Entries, page_in, map_of, shown_in}
+use Rattle.newt_pageplain.specs.Kept.{Entries, page_in, shown_in}
 use Rattle.newt_pageplain.proofs.Maps.{same_entries, same_numbers}
 use Rattle.newt_pageplain.proofs.Replaying.{sound-reordered}
 use Rattle.newt_pageplain.proofs.book.PlainBookPageBook.reserve.Goals as goal
