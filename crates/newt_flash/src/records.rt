@@ -1,5 +1,5 @@
 // What a journal holds, read and changed by its calls.
-ghost use Rattle.std.specs.Prelude.{IsTrue, ◌≡◌, ◌+◌, ◌<◌, ◌≤◌, length, OnOk, IfOk};
+ghost use Rattle.std.specs.Prelude.{◌≡◌, ◌+◌, ◌<◌, ◌≤◌, length, IfOk};
 ghost use Rattle.newt_host.specs.Outside.{Touches};
 ghost use Rattle.newt_image.specs.Records.{bank_size};
 ghost use Rattle.newt_journal.specs.Journal.{Stands, room};

@@ -1,15 +1,15 @@
 -- An alias names its entry, or nothing.
-use Rattle.std.proofs.Common.{arith, ◌≡◌, refl, ap, sym, ◌∙◌, subst, ℕ, zero, suc, ◌+◌, List, [], ◌∷◌, true, false, Bool, ◌⊎◌, inl, inr, cond, Option, Some, None, option_map, option_and_then, find, ◌==◌}
+use Rattle.std.proofs.Common.{arith, ◌≡◌, refl, ap, sym, ◌∙◌, subst, ℕ, suc, ◌+◌, List, [], ◌∷◌, inl, inr, Option, Some, None, option_map, option_and_then, find, ◌==◌}
 use Rattle.std.specs.Prelude.{slice_get}
 use Rattle.std.specs.List.{enumerate_from}
 use Rattle.std.proofs.lemmas.Bool.{eqb-true}
 use Rattle.newt_spec_store.specs.Store.{Store, Soup, Entry, entry_of}
 use Rattle.newt_spec_world.specs.declared.command.Command.{Command}
-use Rattle.newt_spec_world.specs.World.{World, Device, device, store_of, store_on_unit, mounted, mounted_store, on_unit, flat}
+use Rattle.newt_spec_world.specs.World.{World, Device, store_of, store_on_unit, mounted, mounted_store, on_unit, flat}
 use Rattle.newt_spec_world.specs.Alias.{Alias, Spot, resolved}
 use Rattle.newt_spec_world.specs.Answer.{after}
 use Rattle.newt_spec_graph.specs.Lists.{Among}
-use Rattle.newt_laws.specs.Later.{EntryGone, WorldLater}
+use Rattle.newt_laws.specs.Later.{EntryGone}
 use Rattle.newt_laws.specs.Named.{IsNamed}
 use Rattle.newt_spec_graph.proofs.Lists.{among-filter_map, some-same, none-some}
 use Rattle.newt_laws.proofs.Units.{has-mounted, mapped}
@@ -36,19 +36,27 @@ pub named-by : (w : World) (a : Alias) (spot : Spot) → resolved w a ≡ Some s
 named-by w a spot h = in-world (find (λ m. m.1.sig == a.store) (mounted w)) refl h
   where
     with-entry : (u : ℕ) (s : Store) (p : Soup) → mounted_store w u ≡ Some s → s.sig ≡ a.store → Among s.soups p → p.sig ≡ a.soup → (e : Entry) → entry_of a.uid p ≡ Some e
-      → record { unit = u; soup = p; entry = e } ≡ spot → IsNamed w a spot
+        → record { unit = u; soup = p; entry = e } ≡ spot → IsNamed w a spot
     with-entry u s p m sig n soup e found is = subst (IsNamed w a) is (record {
-      on = s; mounted_there = m; sig_is = sig; is_soup = n; soup_is = soup; is_entry = (find-passes (λ e. e.uid == a.uid) p.entries e found).1; uid_is = eqb-true e.uid a.uid (find-passes (λ e. e.uid == a.uid) p.entries e found).0;
+      on = s;
+      mounted_there = m;
+      sig_is = sig;
+      is_soup = n;
+      soup_is = soup;
+      is_entry = (find-passes (λ e. e.uid == a.uid) p.entries e found).1;
+      uid_is = eqb-true e.uid a.uid (find-passes (λ e. e.uid == a.uid) p.entries e found).0;
     })
+
     in-store : (u : ℕ) (s : Store) → mounted_store w u ≡ Some s → s.sig ≡ a.store → (o : Option Soup) → find (λ p. p.sig == a.soup) s.soups ≡ o
-      → option_and_then (λ p. option_map (λ e. record { unit = u; soup = p; entry = e }) (entry_of a.uid p)) o ≡ Some spot → IsNamed w a spot
+        → option_and_then (λ p. option_map (λ e. record { unit = u; soup = p; entry = e }) (entry_of a.uid p)) o ≡ Some spot → IsNamed w a spot
     in-store u s m sig None f k = absurd (none-some spot k)
     in-store u s m sig (Some p) f k =
         let q = find-passes (λ p. p.sig == a.soup) s.soups p f in
         let e = mapped (λ (e : Entry). record { unit = u; soup = p; entry = e }) (entry_of a.uid p) spot k in
         with-entry u s p m sig q.1 (eqb-true p.sig a.soup q.0) e.0 e.1 e.2
+
     in-world : (o : Option (ℕ × Store)) → find (λ m. m.1.sig == a.store) (mounted w) ≡ o
-      → option_and_then (λ m. option_and_then (λ p. option_map (λ e. record { unit = m.0; soup = p; entry = e }) (entry_of a.uid p)) (find (λ p. p.sig == a.soup) m.1.soups)) o ≡ Some spot → IsNamed w a spot
+        → option_and_then (λ m. option_and_then (λ p. option_map (λ e. record { unit = m.0; soup = p; entry = e }) (entry_of a.uid p)) (find (λ p. p.sig == a.soup) m.1.soups)) o ≡ Some spot → IsNamed w a spot
     in-world None f k = absurd (none-some spot k)
     in-world (Some (u, s)) f k =
         let q = find-passes (λ m. m.1.sig == a.store) (mounted w) (u, s) f in

@@ -1,27 +1,26 @@
 -- What is written is read back: the whole store from its directory and its entries.
-use Rattle.std.proofs.Common.{arith, ◌≡◌, refl, ap, sym, ◌∙◌, subst, ℕ, zero, suc, ◌+◌, ◌<◌, ◌≤◌, List, [], ◌∷◌, ◌++◌, true, false, Bool, ◌&&◌, ◌||◌, ◌⊎◌, inl, inr, cond, Option, Some, None, option_and_then, option_map, map, filter, flat_map, fold, find, ◌==◌}
+use Rattle.std.proofs.Common.{arith, ◌≡◌, refl, ap, sym, ◌∙◌, subst, ℕ, ◌<◌, List, [], ◌∷◌, true, false, Bool, ◌&&◌, ◌||◌, ◌⊎◌, inl, inr, cond, Option, Some, None, option_and_then, option_map, map, filter, ◌==◌}
 use Rattle.std.specs.List.{list_all, list_any}
 use Rattle.std.specs.declared.cmp.Ordering.{Ordering}
-use Rattle.std.specs.declared.cmp.Ordering.TheVariants.{Less, Equal, Greater}
+use Rattle.std.specs.declared.cmp.Ordering.TheVariants.{Less, Equal}
 use Rattle.std.specs.Cmp.{IsTotalOrder}
 use Rattle.std.specs.Ordering.{nat_cmp, on}
 use Rattle.std.proofs.lemmas.Cmp.{nat_cmp_total, on_total}
 use Rattle.std.proofs.lemmas.Bool.{eq-eqb, eqb-true, and_parts}
 use Rattle.newt_graph.specs.Graph.{RawGraph}
 use Rattle.newt_spec_store.specs.Store.{Entry, Soup, Store}
-use Rattle.newt_spec_store.specs.Sorted.{insert_by, sorted_by}
-use Rattle.newt_spec_store.specs.Cost.{directory_bytes}
+use Rattle.newt_spec_store.specs.Sorted.{sorted_by}
 use Rattle.newt_spec_store.specs.Valid.{valid, well_formed, fits, valid_soup}
 use Rattle.newt_spec_store.specs.Image.{Objects, all_entries}
 use Rattle.newt_spec_store.specs.Reading.{whole, directory}
 use Rattle.newt_spec_graph.specs.Graph.{every}
-use Rattle.newt_spec_store.specs.StoreOf.{EntryRow, object_bytes, entry_of_row, rows_of, named_once, with_entries, uid_cmp, in_a_soup, assembled, store_of}
+use Rattle.newt_spec_store.specs.StoreOf.{EntryRow, object_bytes, entry_of_row, rows_of, named_once, with_entries, in_a_soup, assembled, store_of}
 use Rattle.newt_spec_graph.specs.Lists.{Each, Pairs, Among}
 use Rattle.newt_spec_store.specs.Laid.{ApartIds, AreEntries, Laid, record_of, row_of, IsLaid}
 use Rattle.newt_laws.proofs.Records.{record-back, entry-back}
 use Rattle.newt_spec_store.specs.StoreOf.{entry_row}
 use Rattle.newt_spec_graph.proofs.Lists.{each-at, each-from, each-list_all, list_all-each, among-filter, filter-among, among-flat_map, flat_map-among, pairs-filter, pairs-more, pairs-map, rises-pairs}
-use Rattle.newt_spec_store.proofs.Sorting.{Rise, Untied, sorted-rises, among-fold, fold-among}
+use Rattle.newt_spec_store.proofs.Sorting.{Untied, sorted-rises, among-fold, fold-among}
 use Rattle.newt_laws.proofs.Soups.{is-store, is-soup}
 use Rattle.newt_laws.proofs.Read.{bare, bare_soup, directory-back}
 
@@ -44,18 +43,21 @@ rising-same R irr join [] (y ∷ ys) h k f g = absurd (g y (inl refl))
 rising-same R irr join (x ∷ xs) [] h k f g = absurd (f x (inl refl))
 rising-same R irr join (x ∷ xs) (y ∷ ys) h k f g =
     ap (λ v. v ∷ xs) heads ∙ ap (λ vs. y ∷ vs) (rising-same R irr join xs ys h.1 k.1
-      (λ z m. tail-of z (f z (inr m)) (λ e. irr x (subst (R x) (sym (heads ∙ e)) (each-at (R x) xs z h.0 m))))
-      (λ z m. tail-of' z (g z (inr m)) (λ e. irr y (subst (R y) (sym (sym heads ∙ e)) (each-at (R y) ys z k.0 m)))))
+    (λ z m. tail-of z (f z (inr m)) (λ e. irr x (subst (R x) (sym (heads ∙ e)) (each-at (R x) xs z h.0 m))))
+    (λ z m. tail-of' z (g z (inr m)) (λ e. irr y (subst (R y) (sym (sym heads ∙ e)) (each-at (R y) ys z k.0 m)))))
   where
     first : Among (y ∷ ys) x → Among (x ∷ xs) y → x ≡ y
     first (inl e) n = sym e
     first (inr m) (inl e) = e
     first (inr m) (inr n) = absurd (irr x (join x y x (each-at (R x) xs y h.0 n) (each-at (R y) ys x k.0 m)))
+
     heads : x ≡ y
     heads = first (f x (inl refl)) (g y (inl refl))
+
     tail-of : (z : _) → Among (y ∷ ys) z → (y ≡ z → ⊥) → Among ys z
     tail-of z (inl e) n = absurd (n e)
     tail-of z (inr m) n = m
+
     tail-of' : (z : _) → Among (x ∷ xs) z → (x ≡ z → ⊥) → Among xs z
     tail-of' z (inl e) n = absurd (n e)
     tail-of' z (inr m) n = m
@@ -94,12 +96,13 @@ chosen sig entries = map (λ (e : ℕ × Entry). e.1) (filter (λ (e : ℕ × En
 chosen-apart : (sig : ℕ) (entries : List (ℕ × Entry)) → Pairs ApartIds entries → Pairs (λ (a b : Entry). a.uid ≡ b.uid → ⊥) (chosen sig entries)
 chosen-apart sig entries h = map-pairs (filter (λ (e : ℕ × Entry). e.0 == sig) entries)
     (pairs-more ApartIds (λ a b. a.1.uid ≡ b.1.uid → ⊥) (filter (λ (e : ℕ × Entry). e.0 == sig) entries)
-      (λ a b m n r. r (eqb-true a.0 sig (among-filter (λ (e : ℕ × Entry). e.0 == sig) entries a m).1 ∙ sym (eqb-true b.0 sig (among-filter (λ (e : ℕ × Entry). e.0 == sig) entries b n).1)))
-      (pairs-filter ApartIds (λ (e : ℕ × Entry). e.0 == sig) entries h))
+    (λ a b m n r. r (eqb-true a.0 sig (among-filter (λ (e : ℕ × Entry). e.0 == sig) entries a m).1 ∙ sym (eqb-true b.0 sig (among-filter (λ (e : ℕ × Entry). e.0 == sig) entries b n).1)))
+    (pairs-filter ApartIds (λ (e : ℕ × Entry). e.0 == sig) entries h))
   where
     map-each : (a : ℕ × Entry) (xs : List (ℕ × Entry)) → Each (λ (b : ℕ × Entry). a.1.uid ≡ b.1.uid → ⊥) xs → Each (λ (b : Entry). a.1.uid ≡ b.uid → ⊥) (map (λ (e : ℕ × Entry). e.1) xs)
     map-each a [] h = tt
     map-each a (x ∷ xs) h = (h.0, map-each a xs h.1)
+
     map-pairs : (xs : List (ℕ × Entry)) → Pairs (λ (a b : ℕ × Entry). a.1.uid ≡ b.1.uid → ⊥) xs → Pairs (λ (a b : Entry). a.uid ≡ b.uid → ⊥) (map (λ (e : ℕ × Entry). e.1) xs)
     map-pairs [] h = tt
     map-pairs (x ∷ xs) h = (map-each x xs h.0, map-pairs xs h.1)
@@ -110,23 +113,27 @@ soup-back s p entries w m are = rising-same (λ (a b : Entry). nat_cmp a.uid b.u
     (sorted_by uid_cmp_of (chosen p.sig entries)) p.entries
     (sorted-rises uid_cmp_of uid_total (chosen p.sig entries) (pairs-more (λ (a b : Entry). a.uid ≡ b.uid → ⊥) (Untied uid_cmp_of) (chosen p.sig entries) (λ a b _ _ r t. r (tied-same a.uid b.uid t)) (chosen-apart p.sig entries are.once)))
     (pairs-more (λ (a b : Entry). a.uid < b.uid) (λ (a b : Entry). nat_cmp a.uid b.uid ≡ Less) p.entries (λ a b _ _ lt. rise-less a.uid b.uid lt)
-      (pairs-map (λ m n. m < n) (λ (e : Entry). e.uid) p.entries (rises-pairs 0 p.next_uid (map (λ (e : Entry). e.uid) p.entries) good.uids)))
+    (pairs-map (λ m n. m < n) (λ (e : Entry). e.uid) p.entries (rises-pairs 0 p.next_uid (map (λ (e : Entry). e.uid) p.entries) good.uids)))
     (λ z n. out z (among-fold uid_cmp_of [] (chosen p.sig entries) z n))
     (λ z n. fold-among uid_cmp_of [] (chosen p.sig entries) z (inr (into z n)))
   where
     good : Rattle.newt_laws.proofs.Soups.IsSoup p
     good = is-soup p (each-at (λ (p : Soup). valid_soup p ≡ true) s.soups p (each-list_all valid_soup s.soups (is-store s w).soups_fit) m)
+
     sigs : Pairs (λ (a b : Soup). a.sig < b.sig) s.soups
     sigs = pairs-map (λ m n. m < n) (λ (p : Soup). p.sig) s.soups (rises-pairs 0 s.next_soup (map (λ (p : Soup). p.sig) s.soups) (is-store s w).sigs)
+
     into : (z : Entry) → Among p.entries z → Among (chosen p.sig entries) z
     into z n = map-among (λ (e : ℕ × Entry). e.1) (filter (λ (e : ℕ × Entry). e.0 == p.sig) entries) (p.sig, z)
-      (filter-among (λ (e : ℕ × Entry). e.0 == p.sig) entries (p.sig, z) (are.complete (p.sig, z) (in-store s p z m n)) (eq-eqb p.sig p.sig refl))
+        (filter-among (λ (e : ℕ × Entry). e.0 == p.sig) entries (p.sig, z) (are.complete (p.sig, z) (in-store s p z m n)) (eq-eqb p.sig p.sig refl))
+
     from : (x : ℕ × Entry) → x.0 ≡ p.sig → Among (all_entries s) x → Among p.entries x.1
     from x e k =
         let q = among-flat_map (λ (p : Soup). map (λ (e : Entry). (p.sig, e)) p.entries) s.soups x k in
         let v = among-map (λ (e : Entry). (q.0.sig, e)) q.0.entries x q.2 in
         let same = one-sig s.soups q.0 p sigs q.1 m (ap {A = ℕ × Entry} {B = ℕ} (λ y. y.0) v.2 ∙ e) in
         subst (λ (r : Soup). Among r.entries x.1) same (subst (Among q.0.entries) (ap {A = ℕ × Entry} {B = Entry} (λ y. y.1) v.2) v.1)
+
     out : (z : Entry) → Among [] z ⊎ Among (chosen p.sig entries) z → Among p.entries z
     out z (inl n) = absurd n
     out z (inr n) =
@@ -164,14 +171,17 @@ assembled-back graph_of objects blocks s rows entries v once are =
   where
     w : well_formed s ≡ true
     w = (and_parts (well_formed s) (fits blocks s) v).0
+
     soups : map (with_entries graph_of entries) (map bare_soup s.soups) ≡ s.soups
     soups = map-map (with_entries graph_of entries) bare_soup s.soups ∙ map-same (λ p. with_entries graph_of entries (bare_soup p)) s.soups
-      (each-from (λ p. with_entries graph_of entries (bare_soup p) ≡ p) s.soups (λ p m. ap {A = List Entry} {B = Soup} (λ es. record p { entries = es }) (soup-back s p entries (and_parts (well_formed s) (fits blocks s) v).0 m are)))
+        (each-from (λ p. with_entries graph_of entries (bare_soup p) ≡ p) s.soups (λ p m. ap {A = List Entry} {B = Soup} (λ es. record p { entries = es }) (soup-back s p entries (and_parts (well_formed s) (fits blocks s) v).0 m are)))
+
     one : (x : ℕ × Entry) → Among (all_entries s) x → in_a_soup graph_of (bare s) x ≡ true
     one x m =
         let q = among-flat_map (λ (p : Soup). map (λ (e : Entry). (p.sig, e)) p.entries) s.soups x m in
         let u = among-map (λ (e : Entry). (q.0.sig, e)) q.0.entries x q.2 in
         ap {A = ℕ} {B = Bool} (λ n. list_any (λ (p : Soup). p.sig == n) (map bare_soup s.soups)) (sym (ap {A = ℕ × Entry} {B = ℕ} (λ y. y.0) u.2)) ∙ any-sig s.soups q.0 q.1
+
     inside : list_all (in_a_soup graph_of (bare s)) entries ≡ true
     inside = list_all-each (in_a_soup graph_of (bare s)) entries (each-from _ entries (λ x m. one x (are.sound x m)))
 
@@ -192,9 +202,9 @@ entries-back graph_of objects (x ∷ laid) f d t =
 pub store-back : (graph_of : List ℕ → Option RawGraph) (objects : Objects) (blocks : ℕ) (s : Store) (laid : List Laid) → valid blocks s ≡ true → IsLaid graph_of objects s laid → store_of graph_of objects blocks ≡ Some s
 store-back graph_of objects blocks s laid v is =
     ap (option_and_then (λ d. option_and_then (λ rows. option_and_then (λ entries. assembled graph_of objects blocks d rows entries) (every (map (entry_of_row graph_of objects) rows))) (rows_of graph_of objects)))
-      (ap (option_and_then (whole directory)) is.written ∙ directory-back s (and_parts (well_formed s) (fits blocks s) v).0)
+    (ap (option_and_then (whole directory)) is.written ∙ directory-back s (and_parts (well_formed s) (fits blocks s) v).0)
     ∙ ap (option_and_then (λ rows. option_and_then (λ entries. assembled graph_of objects blocks (bare s) rows entries) (every (map (entry_of_row graph_of objects) rows))))
-      (ap (λ os. every (map (λ (o : ℕ × List ℕ). entry_row o.1) os)) is.records ∙ rows-back laid is.fit)
+    (ap (λ os. every (map (λ (o : ℕ × List ℕ). entry_row o.1) os)) is.records ∙ rows-back laid is.fit)
     ∙ ap (option_and_then (λ entries. assembled graph_of objects blocks (bare s) (map (λ x. row_of x.soup x.entry x.ids) laid) entries)) (entries-back graph_of objects laid is.fit is.decoded is.there)
     ∙ assembled-back graph_of objects blocks s (map (λ x. row_of x.soup x.entry x.ids) laid) (map (λ x. (x.soup, x.entry)) laid) v is.once is.entries
 
@@ -211,14 +221,17 @@ read-valid graph_of objects blocks s = from-directory (option_and_then (whole di
     built : (d : Store) (rows : List EntryRow) (entries : List (ℕ × Entry)) → assembled graph_of objects blocks d rows entries ≡ Some s → valid blocks s ≡ true
     built d rows entries h =
         let r = checked-some (named_once graph_of objects rows && list_all (in_a_soup graph_of d) entries) (valid blocks (record d { soups = map (with_entries graph_of entries) d.soups }))
-          (record d { soups = map (with_entries graph_of entries) d.soups }) s h in
+        (record d { soups = map (with_entries graph_of entries) d.soups }) s h in
         ap (valid blocks) (sym r.1) ∙ r.0
+
     from-entries : (d : Store) (rows : List EntryRow) (o : Option (List (ℕ × Entry))) → option_and_then (λ entries. assembled graph_of objects blocks d rows entries) o ≡ Some s → valid blocks s ≡ true
     from-entries d rows None h = cc
     from-entries d rows (Some es) h = built d rows es h
+
     from-rows : (d : Store) (o : Option (List EntryRow)) → option_and_then (λ rows. option_and_then (λ entries. assembled graph_of objects blocks d rows entries) (every (map (entry_of_row graph_of objects) rows))) o ≡ Some s → valid blocks s ≡ true
     from-rows d None h = cc
     from-rows d (Some rows) h = from-entries d rows (every (map (entry_of_row graph_of objects) rows)) h
+
     from-directory : (o : Option Store) → option_and_then (λ d. option_and_then (λ rows. option_and_then (λ entries. assembled graph_of objects blocks d rows entries) (every (map (entry_of_row graph_of objects) rows))) (rows_of graph_of objects)) o ≡ Some s → valid blocks s ≡ true
     from-directory None h = cc
     from-directory (Some d) h = from-rows d (rows_of graph_of objects) h

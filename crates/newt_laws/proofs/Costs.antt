@@ -1,10 +1,10 @@
 -- Changes that do not raise what a store costs.
-use Rattle.std.proofs.Common.{arith, ◌≡◌, refl, ap, sym, ◌∙◌, subst, ℕ, zero, suc, ◌+◌, ◌*◌, ◌/◌, max, ◌<◌, ◌≤◌, List, [], ◌∷◌, ◌++◌, true, false, Bool, not, cond, Option, Some, None, map, filter, flat_map, length, find, sum_by, nat_le, fold}
+use Rattle.std.proofs.Common.{arith, ◌≡◌, refl, ap, sym, ◌∙◌, subst, ℕ, ◌+◌, ◌≤◌, List, [], ◌∷◌, ◌++◌, true, false, Bool, not, cond, Some, filter, flat_map, length, find, sum_by}
 use Rattle.std.proofs.lemmas.List.Sums.{sum_by-cons}
 use lib.ListN.{length-append}
 use Rattle.newt_base.specs.Text.{be16, be32}
 use Rattle.newt_base.specs.Names.{equal_text}
-use Rattle.newt_spec_store.specs.Keys.{Path, IndexSpec, paths_of, same_paths}
+use Rattle.newt_spec_store.specs.Keys.{Path, paths_of, same_paths}
 use Rattle.newt_spec_store.specs.Store.{Store, Soup, Entry, change_first, change_soup, change_entry, drop_soup, remove_entry, entry_of, soup_named}
 use Rattle.newt_image.specs.Pages.{cap}
 use Rattle.newt_image.specs.Objects.{pages_for}
@@ -42,8 +42,8 @@ total-first f test change [] h = omega arith
 total-first f test change (x ∷ xs) h = go (total-first f test change xs) (test x) h
   where
     go : (((y : _) → find test xs ≡ Some y → f (change y) ≤ f y) → total f (change_first test change xs) ≤ total f xs)
-      → (b : Bool) → ((y : _) → cond b (Some x) (find test xs) ≡ Some y → f (change y) ≤ f y)
-      → total f (cond b (change x ∷ xs) (x ∷ change_first test change xs)) ≤ f x + total f xs
+        → (b : Bool) → ((y : _) → cond b (Some x) (find test xs) ≡ Some y → f (change y) ≤ f y)
+        → total f (cond b (change x ∷ xs) (x ∷ change_first test change xs)) ≤ f x + total f xs
     go more true h = omega (arith, h x refl)
     go more false h = omega (arith, more h)
 
@@ -53,16 +53,23 @@ pages-mono m n h = grind arith
 -- ---- the directory
 
 pub soup-length : (p : Soup) → length (soup_bytes p) ≡ (length p.name + 8) + (total (λ spec. length (counted part_bytes spec)) p.specs + length (tags_bytes p.tags))
-soup-length p = grind (arith,
-    length-append (text_bytes p.name) (be16 p.sig), length-append (text_bytes p.name ++ be16 p.sig) (be32 p.next_uid),
-    length-append (text_bytes p.name ++ be16 p.sig ++ be32 p.next_uid) (counted (counted part_bytes) p.specs),
-    length-append (text_bytes p.name ++ be16 p.sig ++ be32 p.next_uid ++ counted (counted part_bytes) p.specs) (tags_bytes p.tags),
-    flat-total (counted part_bytes) p.specs)
+soup-length p = grind (
+  arith,
+  length-append (text_bytes p.name) (be16 p.sig),
+  length-append (text_bytes p.name ++ be16 p.sig) (be32 p.next_uid),
+  length-append (text_bytes p.name ++ be16 p.sig ++ be32 p.next_uid) (counted (counted part_bytes) p.specs),
+  length-append (text_bytes p.name ++ be16 p.sig ++ be32 p.next_uid ++ counted (counted part_bytes) p.specs) (tags_bytes p.tags),
+  flat-total (counted part_bytes) p.specs,
+)
 
 pub directory-length : (s : Store) → length (directory_bytes s) ≡ (length s.name + 8) + total (λ p. length (soup_bytes p)) s.soups
-directory-length s = grind (arith,
-    length-append (text_bytes s.name) (be32 s.sig), length-append (text_bytes s.name ++ be32 s.sig) (be16 s.next_soup),
-    length-append (text_bytes s.name ++ be32 s.sig ++ be16 s.next_soup) (counted soup_bytes s.soups), flat-total soup_bytes s.soups)
+directory-length s = grind (
+  arith,
+  length-append (text_bytes s.name) (be32 s.sig),
+  length-append (text_bytes s.name ++ be32 s.sig) (be16 s.next_soup),
+  length-append (text_bytes s.name ++ be32 s.sig ++ be16 s.next_soup) (counted soup_bytes s.soups),
+  flat-total soup_bytes s.soups,
+)
 
 pub cost-total : (s : Store) → cost s ≡ pages_for (length (directory_bytes s)) + total soup_pages s.soups
 cost-total s = ap (λ n. pages_for (length (directory_bytes s)) + n) (sum-total (λ p. sum_by entry_pages p.entries) s.soups)
@@ -91,15 +98,15 @@ fits-without-index blocks name paths s = fits-with-soup blocks name (without_ind
 pub fits-without-entry : (blocks : ℕ) (name : List ℕ) (uid : ℕ) (s : Store) → fits blocks s ≡ true → fits blocks (change_soup name (remove_entry uid) s) ≡ true
 fits-without-entry blocks name uid s = fits-with-soup blocks name (remove_entry uid) s (λ p _. omega arith)
     (λ p _. subst (λ n. sum_by entry_pages (remove_entry uid p).entries ≤ n) (sym (sum-total entry_pages p.entries))
-      (subst (λ n. n ≤ total entry_pages p.entries) (sym (sum-total entry_pages (remove_entry uid p).entries)) (total-filter entry_pages _ p.entries)))
+    (subst (λ n. n ≤ total entry_pages p.entries) (sym (sum-total entry_pages (remove_entry uid p).entries)) (total-filter entry_pages _ p.entries)))
 
 -- an entry that takes no more pages than before
 pub fits-with-change : (blocks : ℕ) (name : List ℕ) (uid : ℕ) (f : Entry → Entry) (s : Store)
     → ((p : Soup) (e : Entry) → soup_named name s ≡ Some p → entry_of uid p ≡ Some e → entry_pages (f e) ≤ entry_pages e) → fits blocks s ≡ true → fits blocks (change_soup name (change_entry uid f) s) ≡ true
 fits-with-change blocks name uid f s k = fits-with-soup blocks name (change_entry uid f) s (λ p _. omega arith)
     (λ p found. subst (λ n. sum_by entry_pages (change_entry uid f p).entries ≤ n) (sym (sum-total entry_pages p.entries))
-      (subst (λ n. n ≤ total entry_pages p.entries) (sym (sum-total entry_pages (change_entry uid f p).entries))
-        (total-first entry_pages _ f p.entries (λ e l. k p e found l))))
+    (subst (λ n. n ≤ total entry_pages p.entries) (sym (sum-total entry_pages (change_entry uid f p).entries))
+    (total-first entry_pages _ f p.entries (λ e l. k p e found l))))
 
 pub fits-new : (blocks : ℕ) (name : List ℕ) (sig : ℕ) → length name ≤ 39 → 13 ≤ blocks → fits blocks (new_store name sig) ≡ true
 unfolding total

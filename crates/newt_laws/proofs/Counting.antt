@@ -1,20 +1,19 @@
 -- What a store costs after a change, from what it cost before.
-use Rattle.std.proofs.Common.{arith, ◌≡◌, refl, ap, sym, ◌∙◌, subst, ℕ, zero, suc, ◌+◌, ◌<◌, ◌≤◌, List, [], ◌∷◌, ◌++◌, true, false, Bool, not, ◌&&◌, ◌||◌, cond, Option, Some, None, map, filter, length, find, sum_by, ◌==◌}
+use Rattle.std.proofs.Common.{arith, ◌≡◌, refl, ap, sym, ◌∙◌, subst, ℕ, ◌+◌, ◌<◌, List, [], ◌∷◌, ◌++◌, true, false, Bool, not, ◌||◌, cond, Some, None, map, filter, length, find, sum_by, ◌==◌}
 use Rattle.std.specs.List.{list_any}
 use Rattle.std.proofs.lemmas.Slice.Eq.{bytes_eq-Decides}
 use Rattle.std.proofs.lemmas.Bool.{eqb-true, and_parts}
 use Rattle.std.proofs.lemmas.Cmp.{nat_list_eq_equiv}
-use lib.ListN.{length-append}
 use Rattle.newt_base.specs.Names.{equal_text}
 use Rattle.newt_graph.specs.Graph.{RawGraph}
-use Rattle.newt_spec_graph.specs.Lists.{Each, Pairs, Among, all_apart, rises}
+use Rattle.newt_spec_graph.specs.Lists.{Each, Pairs, all_apart, rises}
 use Rattle.newt_spec_graph.proofs.Lists.{each-at, each-from, each-more, pairs-map, pairs-more, rises-pairs, some-same, none-some, both-ways}
 use Rattle.newt_spec_store.specs.Store.{Store, Soup, Entry, change_first, change_soup, change_entry, make_soup, drop_soup, add_entry, remove_entry, entry_of, soup_named}
 use Rattle.newt_image.specs.Objects.{pages_for}
 use Rattle.newt_spec_store.specs.Cost.{cost, directory_bytes, soup_bytes, entry_pages, soup_pages}
 use Rattle.newt_spec_store.specs.Valid.{well_formed, valid_soup}
 use Rattle.newt_laws.proofs.Costs.{total, sum-total, cost-total, soup-length, directory-length}
-use Rattle.newt_laws.proofs.Soups.{IsStore, is-store, IsSoup, is-soup, found-good}
+use Rattle.newt_laws.proofs.Soups.{is-store, is-soup, found-good}
 
 -- ---- sums
 
@@ -26,7 +25,7 @@ total-change f test change [] x h = absurd (none-some x h)
 total-change f test change (y ∷ xs) x h = go (total-change f test change xs x) (test y) h
   where
     go : (find test xs ≡ Some x → total f (change_first test change xs) + f x ≡ total f xs + f (change x)) → (b : Bool) → cond b (Some y) (find test xs) ≡ Some x
-      → total f (cond b (change y ∷ xs) (y ∷ change_first test change xs)) + f x ≡ (f y + total f xs) + f (change x)
+        → total f (cond b (change y ∷ xs) (y ∷ change_first test change xs)) + f x ≡ (f y + total f xs) + f (change x)
     go more true e = subst (λ z. (f (change y) + total f xs) + f z ≡ (f y + total f xs) + f (change z)) (some-same y x e) (omega arith)
     go more false e = let k = more e in omega (arith, k)
 
@@ -40,7 +39,7 @@ none-passes f test [] h = refl
 none-passes f test (x ∷ xs) h = go (none-passes f test xs h.1) (test x) refl
   where
     go : total f (filter (λ x. not (test x)) xs) ≡ total f xs → (b : Bool) → test x ≡ b
-      → total f (cond (not b) (x ∷ filter (λ x. not (test x)) xs) (filter (λ x. not (test x)) xs)) ≡ f x + total f xs
+        → total f (cond (not b) (x ∷ filter (λ x. not (test x)) xs) (filter (λ x. not (test x)) xs)) ≡ f x + total f xs
     go more true e = absurd (h.0 e)
     go more false e = ap (λ n. f x + n) more
 
@@ -52,11 +51,11 @@ total-without f test [] x one h = absurd (none-some x h)
 total-without f test (y ∷ xs) x one h = go (total-without f test xs x one.1) (test y) refl h
   where
     go : (find test xs ≡ Some x → total f (filter (λ y. not (test y)) xs) + f x ≡ total f xs) → (b : Bool) → test y ≡ b → cond b (Some y) (find test xs) ≡ Some x
-      → total f (cond (not b) (y ∷ filter (λ y. not (test y)) xs) (filter (λ y. not (test y)) xs)) + f x ≡ f y + total f xs
+        → total f (cond (not b) (y ∷ filter (λ y. not (test y)) xs) (filter (λ y. not (test y)) xs)) + f x ≡ f y + total f xs
     go more true is e =
-      let rest = none-passes f test xs (each-from (λ b. test b ≡ true → ⊥) xs (λ z here. each-at (λ b. test y ≡ true → test b ≡ true → ⊥) xs z one.0 here is)) in
-      let same = ap f (some-same y x e) in
-      omega (arith, rest, same)
+        let rest = none-passes f test xs (each-from (λ b. test b ≡ true → ⊥) xs (λ z here. each-at (λ b. test y ≡ true → test b ≡ true → ⊥) xs z one.0 here is)) in
+        let same = ap f (some-same y x e) in
+        omega (arith, rest, same)
     go more false is e = let k = more e in omega (arith, k)
 
 total-push : {X : Type 0} (f : X → ℕ) (xs : List X) (x : X) → total f (xs ++ x ∷ []) ≡ total f xs + f x
@@ -118,8 +117,8 @@ none-agrees name [] h = tt
 none-agrees name (q ∷ ps) h = go (equal_text name q.name) h (none-agrees name ps)
   where
     go : (b : Bool) → not (b || list_any (equal_text name) (map (λ (p : Soup). p.name) ps)) ≡ true
-      → (not (list_any (equal_text name) (map (λ (p : Soup). p.name) ps)) ≡ true → Each (λ (q : Soup). equal_text name q.name ≡ true → ⊥) ps)
-      → (b ≡ true → ⊥) × Each (λ (q : Soup). equal_text name q.name ≡ true → ⊥) ps
+        → (not (list_any (equal_text name) (map (λ (p : Soup). p.name) ps)) ≡ true → Each (λ (q : Soup). equal_text name q.name ≡ true → ⊥) ps)
+        → (b ≡ true → ⊥) × Each (λ (q : Soup). equal_text name q.name ≡ true → ⊥) ps
     go true k more = absurd (both-ways k)
     go false k more = (both-ways, more k)
 
@@ -128,7 +127,7 @@ names-apart name [] h = tt
 names-apart name (p ∷ ps) h =
     let parts = and_parts (not (list_any (equal_text p.name) (map (λ (p : Soup). p.name) ps))) (all_apart equal_text (map (λ (p : Soup). p.name) ps)) h in (
       each-more (λ (q : Soup). equal_text p.name q.name ≡ true → ⊥) (λ (q : Soup). equal_text p.name name ≡ true → equal_text q.name name ≡ true → ⊥) ps
-        (λ q apart x y. apart (rw (text-same p.name name x, text-same q.name name y) (nat_list_eq_equiv.refl name))) (none-agrees p.name ps parts.0),
+          (λ q apart x y. apart (rw (text-same p.name name x, text-same q.name name y) (nat_list_eq_equiv.refl name))) (none-agrees p.name ps parts.0),
       names-apart name ps parts.1,
     )
 

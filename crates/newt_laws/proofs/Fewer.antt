@@ -1,32 +1,25 @@
 -- Commands that leave a settled world settled by themselves.
-use Rattle.std.proofs.Common.{arith, ◌≡◌, refl, ap, sym, ◌∙◌, subst, ℕ, zero, suc, List, [], ◌∷◌, ◌++◌, true, false, Bool, IsTrue, not, ◌&&◌, ◌||◌, ◌⊎◌, inl, inr, cond, Option, Some, None, option_map, option_and_then, unwrap_or, map, filter, filter_map, find, slice_set, ◌==◌}
+use Rattle.std.proofs.Common.{arith, ◌≡◌, refl, ap, sym, ◌∙◌, subst, ℕ, zero, suc, List, [], ◌∷◌, true, false, Bool, IsTrue, not, ◌||◌, ◌⊎◌, inl, inr, cond, Option, Some, None, option_map, option_and_then, filter, filter_map, slice_set, ◌==◌}
 use Rattle.std.specs.Prelude.{slice_get}
-use Rattle.std.specs.Bool.{⊤}
-use Rattle.std.specs.Option.{is_none}
 use Rattle.std.specs.List.{list_any, cons_option}
 use Rattle.std.proofs.lemmas.Bool.{and_parts}
 use Rattle.newt_base.specs.Names.{equal_text}
-use Rattle.newt_base.specs.Refusals.{first_of}
-use Rattle.newt_graph.specs.Graph.{RawGraph}
-use Rattle.newt_spec_store.specs.Keys.{IndexSpec, Key, Path, same_spec, same_paths, paths_of, key}
+use Rattle.newt_spec_store.specs.Keys.{IndexSpec, Key, Path, same_spec}
 use Rattle.newt_spec_store.specs.Store.{Store, Soup, Entry, change_first, change_soup, make_soup, drop_soup, remove_entry}
 use Rattle.newt_spec_store.specs.Valid.{well_formed, fits, valid}
 use Rattle.newt_spec_query.specs.Hits.{Hit, Query, hits, in_scope, carries, passes}
-use Rattle.newt_spec_query.specs.Cursor.{Place, start, finish, on, Cursor, settled, first_place, last_place, next_place, previous_place, moved, place_at_key}
-use Rattle.newt_spec_query.specs.Spec.{Spec}
+use Rattle.newt_spec_query.specs.Cursor.{Place, on, Cursor, first_place, last_place, next_place, previous_place, moved}
 use Rattle.newt_spec_world.specs.declared.command.Command.{Command}
 use Rattle.newt_spec_world.specs.declared.command.Command.TheVariants as command
-use Rattle.newt_spec_world.specs.World.{World, Device, Media, blank, one, device, store_of, store_if_mounted, on_unit, mounted_store, mounted_stores, soup_in, settle, hits_of, flat, cursor, free_cursor, change_at, change_device, change_store, change_media, set_place}
+use Rattle.newt_spec_world.specs.World.{World, Device, Media, blank, one, device, store_of, store_if_mounted, on_unit, mounted_store, mounted_stores, soup_in, hits_of, flat, cursor, free_cursor, change_device, change_store, change_media, set_place}
 use Rattle.newt_spec_world.specs.Changed.{changed, new_store, mark, without_index, Step, stepped, step_from, open_cursor, open_at, opened, query_of, put_on, cloned, go_to, hit_for, hit_in, go_to_key, to_key, key_from, sig_of}
-use Rattle.newt_spec_world.specs.Refused.{checks}
 use Rattle.newt_spec_graph.specs.Lists.{Each, Pairs, Among}
-use Rattle.newt_laws.specs.Found.{IsHit}
 use Rattle.newt_laws.specs.Worlds.{OnMedia, AllValid}
 use Rattle.newt_laws.specs.Settled.{IsSettled, MountedApart, moves_keys}
-use Rattle.newt_spec_graph.proofs.Lists.{each-at, each-from, among-append, among-filter, some-same, none-some}
-use Rattle.newt_laws.proofs.Found.{Other, Apart, hits-apart, hit-found, found-hit}
-use Rattle.newt_laws.proofs.Units.{Has, has-mounted, same-or-not, device-other, device-same, mapped}
-use Rattle.newt_laws.proofs.Kept.{Wf, Every, media-more, AllFalse, all-false}
+use Rattle.newt_spec_graph.proofs.Lists.{each-from, among-append, among-filter, some-same, none-some}
+use Rattle.newt_laws.proofs.Found.{Other, hits-apart, hit-found, found-hit}
+use Rattle.newt_laws.proofs.Units.{has-mounted, same-or-not, device-other, device-same}
+use Rattle.newt_laws.proofs.Kept.{Wf, Every, media-more}
 use Rattle.newt_laws.proofs.Settled.{OnCursor, Shows, AllShow, Stands, shows-from, settled-from, cursors-more, shows-fewer, shows-hit, next-stands, previous-stands, moved-stands, reset-stands, end-stands, key-stands, each-change-at, each-set, find-passes}
 
 -- ---- the mounted stores, by unit
@@ -36,7 +29,7 @@ among-mounted [] s m = absurd m
 among-mounted (d ∷ us) s m = go (among-mounted us s) (on_unit d) refl m
   where
     go : (Among (filter_map on_unit us) s → (n : ℕ) × (on_unit (flat (slice_get us n)) ≡ Some s)) → (o : Option Store) → on_unit d ≡ o
-      → Among (cons_option o (filter_map on_unit us)) s → (n : ℕ) × (on_unit (flat (slice_get (d ∷ us) n)) ≡ Some s)
+        → Among (cons_option o (filter_map on_unit us)) s → (n : ℕ) × (on_unit (flat (slice_get (d ∷ us) n)) ≡ Some s)
     go more None e k = let r = more k in (suc r.0, r.1)
     go more (Some t) e (inl k) = (0, e ∙ ap Some k)
     go more (Some t) e (inr k) = let r = more k in (suc r.0, r.1)
@@ -87,7 +80,7 @@ among-first test f [] z m = absurd m
 among-first test f (x ∷ xs) z m = go (among-first test f xs z) (test x) m
   where
     go : (Among (change_first test f xs) z → Among xs z ⊎ ((y : _) × Among xs y × (f y ≡ z))) → (b : Bool) → Among (cond b (f x ∷ xs) (x ∷ change_first test f xs)) z
-      → Among (x ∷ xs) z ⊎ ((y : _) × Among (x ∷ xs) y × (f y ≡ z))
+        → Among (x ∷ xs) z ⊎ ((y : _) × Among (x ∷ xs) y × (f y ≡ z))
     go more true (inl e) = inr (x, inl refl, e)
     go more true (inr m) = inl (inr m)
     go more false (inl e) = inl (inl e)
@@ -111,7 +104,11 @@ shrinks-unindex name paths s = record { sig_same = refl; each = λ p m e n. go p
     go : (p : Soup) (e : Entry) → Among p.entries e → Among s.soups p ⊎ ((x : Soup) × Among s.soups x × (without_index paths x ≡ p)) → Keeps s p e
     go p e n (inl m) = itself s p m e n
     go p e n (inr r) = record {
-      from = r.0; is_there = r.1; name_same = ap (λ (q : Soup). q.name) r.2; sig_same = ap (λ (q : Soup). q.sig) r.2; tags_same = ap (λ (q : Soup). q.tags) r.2;
+      from = r.0;
+      is_there = r.1;
+      name_same = ap (λ (q : Soup). q.name) r.2;
+      sig_same = ap (λ (q : Soup). q.sig) r.2;
+      tags_same = ap (λ (q : Soup). q.tags) r.2;
       has = subst (λ es. Among es e) (sym (ap (λ (q : Soup). q.entries) r.2)) n;
       carried = λ index h. carries-fewer index paths r.0 (ap (carries index) r.2 ∙ h);
     }
@@ -126,7 +123,11 @@ shrinks-remove name uid s = record { sig_same = refl; each = λ p m e n. go p e 
     go : (p : Soup) (e : Entry) → Among p.entries e → Among s.soups p ⊎ ((x : Soup) × Among s.soups x × (remove_entry uid x ≡ p)) → Keeps s p e
     go p e n (inl m) = itself s p m e n
     go p e n (inr r) = record {
-      from = r.0; is_there = r.1; name_same = ap (λ (q : Soup). q.name) r.2; sig_same = ap (λ (q : Soup). q.sig) r.2; tags_same = ap (λ (q : Soup). q.tags) r.2;
+      from = r.0;
+      is_there = r.1;
+      name_same = ap (λ (q : Soup). q.name) r.2;
+      sig_same = ap (λ (q : Soup). q.sig) r.2;
+      tags_same = ap (λ (q : Soup). q.tags) r.2;
       has = (among-filter (λ (x : Entry). not (x.uid == uid)) r.0.entries e (subst (λ es. Among es e) (sym (ap (λ (q : Soup). q.entries) r.2)) n)).0;
       carried = λ index h. carries-same index uid r.0 (ap (carries index) r.2 ∙ h);
     }
@@ -146,10 +147,22 @@ fewer-hits ts ss q fewer h m =
     let s = fewer r.«in» r.is_store in
     let k = s.2.each r.of r.is_soup r.entry r.is_entry in
     found-hit ss q h (record {
-      «in» = s.0; of = k.from; entry = r.entry; is_store = s.1; scoped = scope-same q.scope s.0 r.«in» s.2.sig_same r.scoped; is_soup = k.is_there;
-      named = ap (λ n. equal_text n q.name) k.name_same ∙ r.named; carried = k.carried q.spec.index r.carried; is_entry = k.has;
-      keyed = r.keyed; is_above = r.is_above; is_below = r.is_below; passed = ap (λ t. passes q.spec t r.entry.graph) k.tags_same ∙ r.passed;
-      store_is = r.store_is ∙ s.2.sig_same; soup_is = r.soup_is ∙ sym k.sig_same; uid_is = r.uid_is;
+      «in» = s.0;
+      of = k.from;
+      entry = r.entry;
+      is_store = s.1;
+      scoped = scope-same q.scope s.0 r.«in» s.2.sig_same r.scoped;
+      is_soup = k.is_there;
+      named = ap (λ n. equal_text n q.name) k.name_same ∙ r.named;
+      carried = k.carried q.spec.index r.carried;
+      is_entry = k.has;
+      keyed = r.keyed;
+      is_above = r.is_above;
+      is_below = r.is_below;
+      passed = ap (λ t. passes q.spec t r.entry.graph) k.tags_same ∙ r.passed;
+      store_is = r.store_is ∙ s.2.sig_same;
+      soup_is = r.soup_is ∙ sym k.sig_same;
+      uid_is = r.uid_is;
     })
 
 -- the hits of a world are of different entries
@@ -174,6 +187,7 @@ change-fewer w u f keeps t m = let n = among-mounted (change_device w u f).units
     here : (o : Option Device) → device w u ≡ o → option_and_then store_if_mounted (option_map f o) ≡ Some t → (s : Store) × Among (mounted_stores w) s × Shrinks t s
     here None e k = absurd (none-some t k)
     here (Some d) e k = let r = keeps d t e k in (r.0, mounted-among w.units r.0 u (ap on_unit e ∙ r.1), r.2)
+
     go : (n : ℕ) → mounted_store (change_device w u f) n ≡ Some t → (n ≡ u) ⊎ (n ≡ u → ⊥) → (s : Store) × Among (mounted_stores w) s × Shrinks t s
     go n k (inl e) = here (device w u) refl (ap (option_and_then store_if_mounted) (sym (device-same w u f)) ∙ ap (mounted_store (change_device w u f)) (sym e) ∙ k)
     go n k (inr e) = (t, mounted-among w.units t n (ap on_unit (sym (device-other w u f n e)) ∙ k), shrinks-not t)
@@ -184,6 +198,7 @@ store-fewer w u f shrinks = change-fewer w u (λ d. record d { media = change_me
     media : (t : Store) (m : Media) → store_of (change_media f m) ≡ Some t → (s : Store) × (store_of m ≡ Some s) × Shrinks t s
     media t blank k = absurd (none-some t k)
     media t (one s) k = (s, refl, subst (λ x. Shrinks x s) (some-same (f s) t k) (shrinks s))
+
     go : (t : Store) (b : Bool) (m : Media) → cond b (store_of (change_media f m)) None ≡ Some t → (s : Store) × (cond b (store_of m) None ≡ Some s) × Shrinks t s
     go t true m k = media t m k
     go t false m k = absurd (none-some t k)
@@ -214,9 +229,11 @@ goto-row w c u uid apart h = go (cursor w c) refl
     at-hit : (k : Cursor) (p : Option Soup) (x : Hit) → hit_in w u uid k p ≡ Some x → Among (hits_of w k.query) x
     at-hit k None x e = absurd (none-some x e)
     at-hit k (Some p) x e = (find-passes _ (hits_of w k.query) x e).1
+
     put-row : (k : Cursor) → cursor w c ≡ Some k → (o : Option Hit) → hit_for w u uid k ≡ o → IsSettled (put_on w c o)
     put-row k e None f = h
     put-row k e (Some x) f = placed w c (on x) k e (shows-hit (hits_of w k.query) x (apart k.query) (at-hit k (soup_in w u k.query.name) x f)) h
+
     go : (o : Option Cursor) → cursor w c ≡ o → IsSettled (put_on w c (option_and_then (hit_for w u uid) o))
     go None e = h
     go (Some k) e = put-row k e (hit_for w u uid k) refl

@@ -1,25 +1,24 @@
 -- The table of changes, row by row: stores go on to fit; and both halves together.
-use Rattle.std.proofs.Common.{arith, ◌≡◌, refl, ap, sym, ◌∙◌, subst, ℕ, zero, suc, ◌+◌, ◌*◌, ◌<◌, ◌≤◌, List, [], ◌∷◌, ◌++◌, true, false, Bool, IsTrue, not, ◌&&◌, ◌||◌, ◌⊎◌, inl, inr, cond, Option, Some, None, option_map, option_and_then, unwrap_or, map, length, nat_le, nat_lt, ◌==◌}
-use Rattle.std.specs.Option.{is_none, is_some}
+use Rattle.std.proofs.Common.{arith, ◌≡◌, refl, ap, sym, ◌∙◌, ℕ, ◌+◌, ◌≤◌, List, true, false, Bool, IsTrue, ◌&&◌, ◌||◌, ◌⊎◌, inl, inr, Option, Some, None, length, nat_lt}
 use Rattle.std.specs.Bool.{⊤}
-use Rattle.std.proofs.lemmas.Bool.{ltb-false, le-leb, leb-true, and_parts}
+use Rattle.std.proofs.lemmas.Bool.{ltb-false, le-leb, and_parts}
 use Rattle.newt_base.specs.Refusals.{first_of}
 use Rattle.newt_base.specs.declared.Refusal.{Refusal}
-use Rattle.newt_spec_store.specs.Store.{Store, Soup, Entry, soup_named, entry_of, change_soup, change_entry, make_soup, drop_soup, add_entry, remove_entry}
+use Rattle.newt_spec_store.specs.Store.{Store, Entry, change_soup, change_entry, make_soup, drop_soup, add_entry, remove_entry}
 use Rattle.newt_image.specs.Pages.{cap}
-use Rattle.newt_spec_store.specs.Cost.{cost, entry_pages}
+use Rattle.newt_spec_store.specs.Cost.{cost}
 use Rattle.newt_base.specs.Names.{is_name}
 use Rattle.newt_spec_store.specs.Valid.{valid, well_formed, fits}
 use Rattle.newt_spec_world.specs.declared.command.Command.{Command}
 use Rattle.newt_spec_world.specs.declared.command.Command.TheVariants as command
-use Rattle.newt_spec_world.specs.World.{World, Device, Media, blank, one, device, default_unit, store_of, mounted_store, soup_in, entry_in, change_device, change_store, change_media, change_soup_in, settle}
-use Rattle.newt_spec_world.specs.Changed.{changed, new_store, mark, with_index, without_index, with_tags, spec_of_words, with_graph, graph_after_set, copy_to, patched, large_at, large_bytes}
-use Rattle.newt_spec_world.specs.Refused.{checks, on_some, full}
+use Rattle.newt_spec_world.specs.World.{World, Device, Media, blank, one, device, default_unit, store_of, entry_in, change_store, change_media, change_soup_in, settle}
+use Rattle.newt_spec_world.specs.Changed.{changed, new_store, with_index, without_index, with_tags, spec_of_words, with_graph, graph_after_set, copy_to, patched, large_at, large_bytes}
+use Rattle.newt_spec_world.specs.Refused.{checks, on_some}
 use Rattle.newt_spec_world.specs.Answer.{answer, answered}
-use Rattle.newt_laws.specs.Worlds.{OnMedia, OnUnits, AllValid, has_form}
-use Rattle.newt_laws.proofs.Units.{change-device, change-store, units-but, device-other, Has, mounted-has, soup-has, entry-has, same-or-not}
+use Rattle.newt_laws.specs.Worlds.{OnMedia, AllValid, has_form}
+use Rattle.newt_laws.proofs.Units.{change-device, change-store, units-but, device-other, entry-has, same-or-not}
 use Rattle.newt_laws.proofs.Costs.{fits-without-soup, fits-without-index, fits-without-entry, fits-with-change, fits-new}
-use Rattle.newt_laws.proofs.Kept.{AllFalse, all-false, on-some, not-none, Wf, Ft, Every, media-more, media-both, same-units, on_units, changed-units, patched-pages, there}
+use Rattle.newt_laws.proofs.Kept.{AllFalse, all-false, on-some, Wf, Ft, Every, media-more, media-both, same-units, on_units, changed-units, patched-pages, there}
 use Rattle.newt_laws.proofs.Rows.{marked, mount-row, wf-row, and-left}
 
 -- ---- a check of the cost
@@ -52,13 +51,15 @@ checked-move w u s uid v t o all h n k = go (same-or-not n v) (same-or-not u v)
   where
     x : World
     x = copy_to w v t o
+
     y : World
     y = change_soup_in (copy_to w v t o) u s (remove_entry uid)
+
     go : (n ≡ v) ⊎ (n ≡ v → ⊥) → (u ≡ v) ⊎ (u ≡ v → ⊥) → (d : Device) → device (change_soup_in (copy_to w v t o) u s (remove_entry uid)) n ≡ Some d → OnMedia Ft d.blocks d.media
     go (inl e) other d f = full-fits (change_soup_in (copy_to w v t o) u s (remove_entry uid)) v h d (sym (ap (device (change_soup_in (copy_to w v t o) u s (remove_entry uid))) e) ∙ f)
     go (inr e) (inl same) d f = all n tt d (sym (copy-other w v t o n e) ∙ sym (device-other (copy_to w v t o) u (λ d. record d { media = change_media (change_soup s (remove_entry uid)) d.media }) n (λ is. e (is ∙ same))) ∙ f)
     go (inr e) (inr differ) d f = change-store (λ m. m ≡ v → ⊥) Ft (copy_to w v t o) u (change_soup s (remove_entry uid)) (λ m l d g. all m tt d (sym (copy-other w v t o m l) ∙ g)) (inl differ)
-      (λ blocks st has ok. fits-without-entry blocks s uid st ok) n e d f
+        (λ blocks st has ok. fits-without-entry blocks s uid st ok) n e d f
 
 -- ---- the rows
 
@@ -92,8 +93,8 @@ ft-row w (command.Copy u s uid v t) all form h = checked-copy w v t (entry_in w 
 ft-row w (command.Move u s uid v t) all form h = checked-move w u s uid v t (entry_in w u s uid) all h.1.1.1.1.1.0
 ft-row w (command.Vwrite u s uid path at bytes) all form h = change-store (λ _. ⊤) Ft w u (change_soup s (change_entry uid (λ e. record e { graph = patched path at bytes e.graph }))) all (inl tt)
     (λ blocks t has ok. fits-with-change blocks s uid (λ e. record e { graph = patched path at bytes e.graph }) t (λ p e found here. same-le (patched-pages (large_at e.graph path) at bytes e
-      (ltb-false (length (large_bytes e.graph path)) (at + length bytes) (on-some (entry_in w u s uid) (λ e. nat_lt (length (large_bytes e.graph path)) (at + length bytes)) e
-        (entry-has w u p s uid (there w u blocks t s p has h.1.0 found) ∙ here) h.1.1.1.1.1.0)))) ok)
+    (ltb-false (length (large_bytes e.graph path)) (at + length bytes) (on-some (entry_in w u s uid) (λ e. nat_lt (length (large_bytes e.graph path)) (at + length bytes)) e
+    (entry-has w u p s uid (there w u blocks t s p has h.1.0 found) ∙ here) h.1.1.1.1.1.0)))) ok)
   where
     same-le : {m n : ℕ} → m ≡ n → m ≤ n
     same-le e = omega (arith, e)
@@ -107,10 +108,12 @@ answer-valid w c all form = go (first_of (checks w c)) refl
   where
     and-true : (a b : Bool) → a ≡ true → b ≡ true → (a && b) ≡ true
     and-true a b h k = grind (arith, h, k)
+
     both : first_of (checks w c) ≡ None → AllValid (settle (changed w c))
     both e u k d is = media-both Wf Ft (λ blocks s. IsTrue (valid blocks s)) d.blocks d.media (λ s a b. and-true (well_formed s) (fits d.blocks s) a b)
-      (wf-row w c (λ u k d is. media-more (λ blocks s. IsTrue (valid blocks s)) Wf d.blocks d.media (λ s h. (and_parts (well_formed s) (fits d.blocks s) h).0) (all u tt d is)) form (all-false (checks w c) e) u tt d is)
-      (ft-row w c (λ u k d is. media-more (λ blocks s. IsTrue (valid blocks s)) Ft d.blocks d.media (λ s h. (and_parts (well_formed s) (fits d.blocks s) h).1) (all u tt d is)) form (all-false (checks w c) e) u tt d is)
+        (wf-row w c (λ u k d is. media-more (λ blocks s. IsTrue (valid blocks s)) Wf d.blocks d.media (λ s h. (and_parts (well_formed s) (fits d.blocks s) h).0) (all u tt d is)) form (all-false (checks w c) e) u tt d is)
+        (ft-row w c (λ u k d is. media-more (λ blocks s. IsTrue (valid blocks s)) Ft d.blocks d.media (λ s h. (and_parts (well_formed s) (fits d.blocks s) h).1) (all u tt d is)) form (all-false (checks w c) e) u tt d is)
+
     go : (o : Option Refusal) → first_of (checks w c) ≡ o → AllValid (answered w c o).0
     go None e = both e
     go (Some r) e = all

@@ -1,5 +1,5 @@
 -- The hits of a query are the entries that it finds, in rising order.
-use Rattle.std.proofs.Common.{arith, ◌≡◌, refl, ap, sym, ◌∙◌, subst, ℕ, ◌<◌, List, [], ◌∷◌, true, false, Bool, IsTrue, ◌&&◌, ◌⊎◌, inl, inr, cond, Option, Some, None, filter, flat_map, filter_map, option_map, map}
+use Rattle.std.proofs.Common.{arith, ◌≡◌, refl, ap, sym, ◌∙◌, subst, ℕ, ◌<◌, List, [], true, false, Bool, ◌&&◌, ◌⊎◌, inl, inr, cond, Option, Some, None, filter, flat_map, filter_map, option_map, map}
 use Rattle.std.specs.declared.cmp.Ordering.{Ordering}
 use Rattle.std.specs.declared.cmp.Ordering.TheVariants.{Less, Equal, Greater}
 use Rattle.std.specs.Ordering.{nat_cmp, ordering_then}
@@ -7,14 +7,12 @@ use Rattle.std.proofs.lemmas.Bool.{and_parts}
 use Rattle.newt_base.specs.Names.{equal_text}
 use Rattle.newt_spec_store.specs.Keys.{key, Key, key_cmp, IndexSpec}
 use Rattle.newt_spec_store.specs.Store.{Entry, Soup, Store}
-use Rattle.newt_spec_graph.specs.Lists.{rises}
 use Rattle.newt_spec_store.specs.Valid.{well_formed, valid_soup}
 use Rattle.newt_spec_query.specs.Spec.{Spec}
 use Rattle.newt_spec_query.specs.Hits.{Query, Hit, hits, hit_of, kept, soup_hits, in_scope, carries, above, below, passes, hit_cmp}
-use Rattle.newt_spec_store.specs.Sorted.{insert_by, sorted_by}
 use Rattle.newt_spec_graph.specs.Lists.{Each, Pairs, Among}
 use Rattle.newt_laws.specs.Found.{IsHit}
-use Rattle.newt_spec_graph.proofs.Lists.{each-at, each-from, each-list_all, among-flat_map, flat_map-among, among-filter, filter-among, among-filter_map, filter_map-among, pairs-more, pairs-map, pairs-flat_map, pairs-filter, pairs-filter_map, rises-pairs, both-ways, none-some, some-same}
+use Rattle.newt_spec_graph.proofs.Lists.{each-at, each-from, each-list_all, among-flat_map, flat_map-among, among-filter, filter-among, among-filter_map, filter_map-among, pairs-more, pairs-map, pairs-flat_map, pairs-filter, pairs-filter_map, rises-pairs, none-some, some-same}
 use Rattle.newt_spec_query.proofs.Order.{hit_total}
 use Rattle.newt_spec_store.proofs.Sorting.{fold-among, among-fold, fold-pairs, sorted-rises, Rise, Untied}
 
@@ -67,6 +65,7 @@ hit-of-is q s p e h r =
   where
     all : (above q.index q.lower h.key && below q.index q.upper h.key && passes q p.tags e.graph) ≡ true
     all = grind (arith, r.is_above, r.is_below, r.passed)
+
     same : hit_with s p e h.key ≡ h
     same = grind (arith, r.store_is, r.soup_is, r.uid_is)
 
@@ -76,17 +75,31 @@ pub hit-found : (stores : List Store) (q : Query) (h : Hit) → Among (hits stor
 hit-found stores q h m = go (among-fold _ [] _ h m)
   where
     soup-part : (s : Store) (p : Soup) → Among stores s → in_scope q.scope s ≡ true → Among s.soups p → (b : Bool)
-      → (equal_text p.name q.name && carries q.spec.index p) ≡ b → Among (cond b (filter_map (hit_of q.spec s p) p.entries) []) h → IsHit stores q h
+        → (equal_text p.name q.name && carries q.spec.index p) ≡ b → Among (cond b (filter_map (hit_of q.spec s p) p.entries) []) h → IsHit stores q h
     soup-part s p a b c false e n = absurd n
     soup-part s p a b c true e n =
         let r = among-filter_map (hit_of q.spec s p) p.entries h n in
         let f = is-hit-of q.spec s p r.0 h r.2 in
         let both = and_parts (equal_text p.name q.name) (carries q.spec.index p) e in
         record {
-          «in» = s; of = p; entry = r.0; is_store = a; scoped = b; is_soup = c; named = both.0; carried = both.1; is_entry = r.1;
-          keyed = f.keyed; is_above = f.is_above; is_below = f.is_below; passed = f.passed;
-          store_is = f.store_is; soup_is = f.soup_is; uid_is = f.uid_is;
+          «in» = s;
+          of = p;
+          entry = r.0;
+          is_store = a;
+          scoped = b;
+          is_soup = c;
+          named = both.0;
+          carried = both.1;
+          is_entry = r.1;
+          keyed = f.keyed;
+          is_above = f.is_above;
+          is_below = f.is_below;
+          passed = f.passed;
+          store_is = f.store_is;
+          soup_is = f.soup_is;
+          uid_is = f.uid_is;
         }
+
     go : Among [] h ⊎ Among (flat_map (λ s. flat_map (soup_hits q s) s.soups) (filter (in_scope q.scope) stores)) h → IsHit stores q h
     go (inl n) = absurd n
     go (inr n) =
@@ -98,12 +111,18 @@ hit-found stores q h m = go (among-fold _ [] _ h m)
 pub found-hit : (stores : List Store) (q : Query) (h : Hit) → IsHit stores q h → Among (hits stores q) h
 found-hit stores q h r =
     fold-among (hit_cmp q.spec.index) [] _ h (inr (flat_map-among (λ s. flat_map (soup_hits q s) s.soups) (filter (in_scope q.scope) stores) r.«in» h
-      (filter-among (in_scope q.scope) stores r.«in» r.is_store r.scoped)
-      (flat_map-among (soup_hits q r.«in») r.«in».soups r.of h r.is_soup
-        (subst (λ b. Among (cond b (filter_map (hit_of q.spec r.«in» r.of) r.of.entries) []) h) (sym both)
-          (filter_map-among (hit_of q.spec r.«in» r.of) r.of.entries r.entry h r.is_entry (hit-of-is q.spec r.«in» r.of r.entry h (record {
-            keyed = r.keyed; is_above = r.is_above; is_below = r.is_below; passed = r.passed; store_is = r.store_is; soup_is = r.soup_is; uid_is = r.uid_is;
-          })))))))
+    (filter-among (in_scope q.scope) stores r.«in» r.is_store r.scoped)
+    (flat_map-among (soup_hits q r.«in») r.«in».soups r.of h r.is_soup
+    (subst (λ b. Among (cond b (filter_map (hit_of q.spec r.«in» r.of) r.of.entries) []) h) (sym both)
+    (filter_map-among (hit_of q.spec r.«in» r.of) r.of.entries r.entry h r.is_entry (hit-of-is q.spec r.«in» r.of r.entry h (record {
+      keyed = r.keyed;
+      is_above = r.is_above;
+      is_below = r.is_below;
+      passed = r.passed;
+      store_is = r.store_is;
+      soup_is = r.soup_is;
+      uid_is = r.uid_is;
+    })))))))
   where
     both : (equal_text r.of.name q.name && carries q.spec.index r.of) ≡ true
     both = grind (arith, r.named, r.carried)
@@ -145,8 +164,8 @@ soup-hits-apart q s p v = go (equal_text p.name q.name && carries q.spec.index p
     go : (b : Bool) → Pairs Other (cond b (filter_map (hit_of q.spec s p) p.entries) [])
     go false = tt
     go true = pairs-filter_map Other (hit_of q.spec s p) p.entries (pairs-more _ _ p.entries
-      (λ d e _ _ lt a b f g _ _ same. absurd (omega (arith, lt, same, (is-hit-of q.spec s p d a f).uid_is, (is-hit-of q.spec s p e b g).uid_is)))
-      (pairs-map (λ m n. m < n) (λ (e : Entry). e.uid) p.entries (entries-rise p v)))
+        (λ d e _ _ lt a b f g _ _ same. absurd (omega (arith, lt, same, (is-hit-of q.spec s p d a f).uid_is, (is-hit-of q.spec s p e b g).uid_is)))
+        (pairs-map (λ m n. m < n) (λ (e : Entry). e.uid) p.entries (entries-rise p v)))
 
 -- where the hits of one soup are from
 in-soup : (q : Query) (s : Store) (p : Soup) (h : Hit) → Among (soup_hits q s p) h → (h.store ≡ s.sig) × (h.soup ≡ p.sig)
@@ -163,8 +182,8 @@ store-hits-apart : (q : Query) (s : Store) → well_formed s ≡ true → Pairs 
 store-hits-apart q s v = pairs-flat_map Other (soup_hits q s) s.soups
     (each-from _ s.soups (λ p m. soup-hits-apart q s p (each-at _ s.soups p (each-soup s v) m)))
     (pairs-more _ _ s.soups
-      (λ d e _ _ lt a b f g _ same _. absurd (omega (arith, lt, same, (in-soup q s d a f).1, (in-soup q s e b g).1)))
-      (pairs-map (λ m n. m < n) (λ (p : Soup). p.sig) s.soups (soups-rise s v)))
+    (λ d e _ _ lt a b f g _ same _. absurd (omega (arith, lt, same, (in-soup q s d a f).1, (in-soup q s e b g).1)))
+    (pairs-map (λ m n. m < n) (λ (p : Soup). p.sig) s.soups (soups-rise s v)))
 
 in-store : (q : Query) (s : Store) (h : Hit) → Among (flat_map (soup_hits q s) s.soups) h → h.store ≡ s.sig
 in-store q s h m = let r = among-flat_map (soup_hits q s) s.soups h m in (in-soup q s r.0 h r.2).0
@@ -178,8 +197,8 @@ pub found-apart : (stores : List Store) (q : Query) → Pairs Apart stores → E
 found-apart stores q apart v = pairs-flat_map Other (λ s. flat_map (soup_hits q s) s.soups) (filter (in_scope q.scope) stores)
     (each-from _ _ (λ s m. store-hits-apart q s (each-at _ stores s v (among-filter (in_scope q.scope) stores s m).0)))
     (pairs-more Apart _ (filter (in_scope q.scope) stores)
-      (λ s t _ _ differ a b f g same _ _. differ (sym (in-store q s a f) ∙ same ∙ in-store q t b g))
-      (pairs-filter Apart (in_scope q.scope) stores apart))
+    (λ s t _ _ differ a b f g same _ _. differ (sym (in-store q s a f) ∙ same ∙ in-store q t b g))
+    (pairs-filter Apart (in_scope q.scope) stores apart))
 
 pub hits-rise : (stores : List Store) (q : Query) → Pairs Apart stores → Each (λ s. well_formed s ≡ true) stores → Pairs (Rise (hit_cmp q.spec.index)) (hits stores q)
 hits-rise stores q apart v = sorted-rises (hit_cmp q.spec.index) (hit_total q.spec.index) _

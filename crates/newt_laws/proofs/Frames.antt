@@ -1,21 +1,22 @@
 -- A graph whose root is a frame has one after a value is put into it.
-use Rattle.std.proofs.Common.{arith, ◌≡◌, refl, ap, sym, ◌∙◌, subst, ℕ, zero, suc, ◌+◌, List, [], ◌∷◌, ◌++◌, true, false, Bool, cond, Option, Some, None, option_and_then, option_map, unwrap_or, map, filter_map, length, fold, eqb, ◌==◌, not}
+use Rattle.std.proofs.Common.{arith, ◌≡◌, refl, ap, sym, ◌∙◌, subst, ℕ, zero, suc, ◌+◌, List, [], ◌∷◌, ◌++◌, true, false, Bool, cond, Option, Some, None, option_and_then, option_map, unwrap_or, length, ◌==◌}
 use Rattle.std.specs.Prelude.{slice_get}
-use Rattle.std.specs.List.{position_or_len, cons_option, last_or}
+use Rattle.std.specs.List.{last_or}
 use Rattle.std.proofs.lemmas.Bool.{eq-eqb}
 use Rattle.newt_graph.specs.declared.node.Ref.{Ref}
 use Rattle.newt_graph.specs.declared.node.Ref.TheVariants.{Imm, Node as At}
 use Rattle.newt_graph.specs.declared.node.Node.{Node}
 use Rattle.newt_graph.specs.declared.node.Node.TheVariants.{Symbol, Str, Binary, Large, Array, Frame}
 use Rattle.newt_graph.specs.Graph.{RawGraph}
-use Rattle.newt_spec_graph.specs.Graph.{change_nth, object, is_frame}
+use Rattle.newt_spec_graph.specs.Graph.{object, is_frame}
 use Rattle.newt_graph.specs.Graph.{payload}
 use Rattle.newt_graph.specs.Raw.{renamed}
-use Rattle.newt_graph.specs.Meeting.{◌>>=◌, Seen, Step, place, is_new, added, meet_label, meet_labels, meet_class, meet_each, within, enter, meet_by, meet, found, number, moved, limited, numbered, normal_form}
+use Rattle.newt_graph.specs.Steps.{◌>>=◌}
+use Rattle.newt_graph.specs.Meeting.{Seen, Step, place, is_new, added, meet_label, meet_labels, meet_class, meet_each, within, enter, meet_by, meet, found, number, moved, limited, numbered, normal_form}
 use Rattle.std.proofs.Common.{if◌then◌else◌, get_or, sum_by, nat_le, ◌&&◌}
 use Rattle.std.specs.List.{position_from}
 use Rattle.newt_spec_graph.proofs.Lists.{some-same}
-use Rattle.newt_spec_graph.specs.Slots.{put, put_into, set_slot, with_slot, slot_number, symbol_number, new_nodes, goes_to, frame_number, value_at, but_last}
+use Rattle.newt_spec_graph.specs.Slots.{put, put_into, set_slot, with_slot, slot_number, symbol_number, frame_number, value_at, but_last}
 use Rattle.newt_spec_store.specs.Keys.{Path}
 use Rattle.newt_laws.proofs.Patch.{nth-nth}
 
@@ -131,15 +132,16 @@ unfolding normal_form
 normal-frame g h frame e = go g.root frame e
   where
     found-frame : (n : ℕ) → is_frame (slice_get g.nodes n) ≡ true → (o : Option Seen) → meet g.nodes 200 (record { order = []; count = length g.nodes }) (At n) ≡ o
-      → (o >>= (λ seen. limited (numbered (record { nodes = g.nodes; root = At n }) seen))) ≡ Some h → is_frame (object h.nodes h.root) ≡ true
+        → (o >>= (λ seen. limited (numbered (record { nodes = g.nodes; root = At n }) seen))) ≡ Some h → is_frame (object h.nodes h.root) ≡ true
     found-frame n f None is k = cc
     found-frame n f (Some seen) is k =
-      let b = begins-root g.nodes n f seen is in
-      let same = limited-is (numbered (record { nodes = g.nodes; root = At n }) seen) h k in
-      subst (λ (x : RawGraph). is_frame (object x.nodes x.root) ≡ true) same
+        let b = begins-root g.nodes n f seen is in
+        let same = limited-is (numbered (record { nodes = g.nodes; root = At n }) seen) h k in
+        subst (λ (x : RawGraph). is_frame (object x.nodes x.root) ≡ true) same
         (ap (λ (order : List ℕ). is_frame (slice_get (moved g.nodes order order) (number order n))) b.1 ∙ numbered-frame g.nodes n b.0 f)
+
     go : (r : Ref) → is_frame (object g.nodes r) ≡ true
-      → (meet g.nodes 200 (record { order = []; count = length g.nodes }) r >>= (λ seen. limited (numbered (record { nodes = g.nodes; root = r }) seen))) ≡ Some h → is_frame (object h.nodes h.root) ≡ true
+        → (meet g.nodes 200 (record { order = []; count = length g.nodes }) r >>= (λ seen. limited (numbered (record { nodes = g.nodes; root = r }) seen))) ≡ Some h → is_frame (object h.nodes h.root) ≡ true
     go (Imm w) f k = cc
     go (At n) f k = found-frame n f (meet g.nodes 200 (record { order = []; count = length g.nodes }) (At n)) refl k
 
@@ -172,7 +174,8 @@ set-frame path value g h frame e = last (last_or None path) e
     kept : (o : Option ℕ) (name : List ℕ) → option_map (put_into g name value) o ≡ Some h → is_frame (object h.nodes h.root) ≡ true
     kept None name f = cc
     kept (Some n) name f = subst (λ (x : RawGraph). is_frame (object x.nodes x.root) ≡ true) (some-same _ _ f) (put-frame g name value n frame)
+
     last : (o : Option (List ℕ)) → option_and_then (λ name. option_map (put_into g name value) (option_and_then (frame_number g.nodes) (value_at g (but_last path)))) o ≡ Some h
-      → is_frame (object h.nodes h.root) ≡ true
+        → is_frame (object h.nodes h.root) ≡ true
     last None f = cc
     last (Some name) f = kept (option_and_then (frame_number g.nodes) (value_at g (but_last path))) name f

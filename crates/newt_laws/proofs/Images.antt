@@ -1,13 +1,13 @@
 -- An image has at most one table of objects, and so writes down at most one store.
-use Rattle.std.proofs.Common.{arith, ◌≡◌, refl, ap, sym, ◌∙◌, subst, ℕ, ◌+◌, ◌/◌, max, ◌<◌, ◌≤◌, List, length, slice_get, get_or, Option, Some, None, option_map}
+use Rattle.std.proofs.Common.{arith, ◌≡◌, refl, ap, sym, ◌∙◌, subst, ℕ, ◌<◌, List, length, slice_get, get_or, Option, Some, None, option_map}
 use Rattle.std.proofs.lemmas.List.{ext_get_or}
-use Rattle.std.proofs.lemmas.Option.{slice_get-get_or, slice_get_within}
+use Rattle.std.proofs.lemmas.Option.{slice_get-get_or}
 use Rattle.std.specs.FinMap as map
 use Rattle.std.proofs.lemmas.Cmp.{nat_cmp_total}
 use Rattle.newt_graph.specs.Graph.{RawGraph}
-use Rattle.newt_image.specs.Pages.{Pages, pages, object_id, part_number, object_length}
-use Rattle.newt_image.specs.Objects.{Extent, Table, IsPart, IsTableOf, Objects, AreObjectsOf, joined, pages_for}
-use Rattle.newt_spec_graph.proofs.Lists.{some-same, none-some}
+use Rattle.newt_image.specs.Pages.{Pages, object_length}
+use Rattle.newt_image.specs.Objects.{Extent, Table, IsTableOf, Objects, AreObjectsOf, joined, pages_for}
+use Rattle.newt_spec_graph.proofs.Lists.{some-same}
 use Rattle.newt_spec_store.specs.Store.{Store}
 use Rattle.newt_spec_store.specs.OfImage.{IsStoreOf, blocks_of}
 use Rattle.newt_spec_store.specs.StoreOf.{store_of}
@@ -36,10 +36,10 @@ tables-agree live t u is_t is_u id x at =
     let y = first.0 in
     let long : length y.numbers ≡ length x.numbers = is_u.whole id y first.1 ∙ ap pages_for first.3 ∙ sym (is_t.whole id x at) in
     let numbers : y.numbers ≡ x.numbers = ext_get_or 0 y.numbers x.numbers long (λ i inside.
-      let k = part-carried live t u is_t is_u id i (get_or x.numbers i 0) x at (slice_get-get_or x.numbers i 0 (omega arith)) in
-      let same = some-same k.0 y (sym k.1 ∙ first.1) in
-      some-same (get_or y.numbers i 0) (get_or x.numbers i 0)
-        (sym (slice_get-get_or y.numbers i 0 inside) ∙ subst (λ (z : Extent). slice_get z.numbers i ≡ Some (get_or x.numbers i 0)) same k.2)) in
+    let k = part-carried live t u is_t is_u id i (get_or x.numbers i 0) x at (slice_get-get_or x.numbers i 0 (omega arith)) in
+    let same = some-same k.0 y (sym k.1 ∙ first.1) in
+    some-same (get_or y.numbers i 0) (get_or x.numbers i 0)
+    (sym (slice_get-get_or y.numbers i 0 inside) ∙ subst (λ (z : Extent). slice_get z.numbers i ≡ Some (get_or x.numbers i 0)) same k.2)) in
     first.1 ∙ ap Some (same-extent x y first.3 numbers)
 
 tables-same : (live : Pages) (t u : Table) → IsTableOf live t → IsTableOf live u → (id : ℕ) → t id ≡ u id

@@ -1,10 +1,10 @@
 -- Each row of the table keeps stores valid.
-use Rattle.std.proofs.Common.{arith, ◌≡◌, refl, ap, sym, ◌∙◌, subst, ℕ, zero, suc, ◌+◌, ◌*◌, ◌<◌, ◌≤◌, List, [], ◌∷◌, ◌++◌, true, false, Bool, IsTrue, not, ◌&&◌, ◌||◌, ◌⊎◌, inl, inr, cond, Option, Some, None, option_map, option_and_then, unwrap_or, map, length, nat_le, nat_lt, ◌==◌}
+use Rattle.std.proofs.Common.{arith, ◌≡◌, refl, ap, sym, ◌∙◌, subst, ℕ, ◌+◌, ◌*◌, ◌≤◌, List, [], ◌∷◌, true, false, Bool, not, ◌&&◌, ◌||◌, inl, Option, Some, None, option_and_then, unwrap_or, map, length, nat_lt, ◌==◌}
 use Rattle.std.specs.Prelude.{slice_get}
 use Rattle.std.specs.Option.{is_none, is_some}
 use Rattle.std.specs.Bool.{⊤}
 use Rattle.std.specs.List.{list_all, list_any}
-use Rattle.std.proofs.lemmas.Bool.{eqb-false, ltb-false, leb-false, and_parts, leb-true, le-leb, not-false}
+use Rattle.std.proofs.lemmas.Bool.{eqb-false, ltb-false, le-leb, not-false}
 use Rattle.newt_base.specs.Names.{same_name}
 use Rattle.newt_base.specs.Refusals.{Checks, first_of}
 use Rattle.newt_base.specs.declared.Refusal.{Refusal}
@@ -13,28 +13,23 @@ use Rattle.newt_spec_graph.specs.Graph.{is_frame, object}
 use Rattle.newt_spec_graph.specs.Limits.{within_limits, is_within}
 use Rattle.newt_graph.specs.Meeting.{normal_form}
 use Rattle.newt_spec_graph.specs.Slots.{put}
-use Rattle.newt_spec_store.specs.Keys.{Path, IndexSpec, paths_of, same_paths}
-use Rattle.newt_spec_store.specs.Store.{Store, Soup, Entry, soup_named, entry_of, change_soup, change_entry, make_soup, drop_soup, add_entry, remove_entry}
-use Rattle.newt_image.specs.Pages.{cap}
+use Rattle.newt_spec_store.specs.Keys.{Path}
+use Rattle.newt_spec_store.specs.Store.{Store, Soup, Entry, soup_named, entry_of, change_soup, change_entry, add_entry}
 use Rattle.newt_image.specs.Objects.{pages_for}
 use Rattle.newt_spec_store.specs.Cost.{skeleton_length, cost, entry_pages}
 use Rattle.newt_base.specs.Names.{is_name}
-use Rattle.newt_spec_graph.specs.Lists.{all_apart}
-use Rattle.newt_spec_store.specs.Valid.{valid, well_formed, fits, valid_soup, valid_entry, valid_spec, valid_tags, valid_path, valid_symbol}
+use Rattle.newt_spec_store.specs.Valid.{well_formed, fits, valid_soup, valid_entry}
 use Rattle.newt_spec_query.specs.Hits.{Hit}
-use Rattle.newt_spec_query.specs.Cursor.{Place, Cursor}
+use Rattle.newt_spec_query.specs.Cursor.{Cursor}
 use Rattle.newt_spec_world.specs.declared.command.Command.{Command}
 use Rattle.newt_spec_world.specs.declared.command.Command.TheVariants as command
-use Rattle.newt_spec_world.specs.declared.command.PartWord.{PartWord}
-use Rattle.newt_spec_world.specs.World.{World, Device, Media, blank, one, device, default_unit, store_of, mounted_store, soup_in, entry_in, flat, cursor, free_cursor, hits_of, change_device, change_store, change_media, change_soup_in, set_place, settle}
-use Rattle.newt_spec_world.specs.Changed.{changed, new_store, mark, default_without, with_index, without_index, with_tags, spec_of_words, kind_of, with_graph, graph_after_set, copy_to, patched, patched_at, large_at, large_bytes, bytes_of_large, Step, stepped, step_from, open_cursor, open_at, put_on, cloned, go_to, hit_for}
-use Rattle.newt_spec_world.specs.Refused.{checks, on_some, full}
-use Rattle.newt_spec_world.specs.Answer.{answer, fields}
-use Rattle.newt_laws.specs.Worlds.{OnMedia, OnUnits, AllValid, has_form, parts_fit}
-use Rattle.newt_spec_graph.proofs.Lists.{some-same, none-some}
-use Rattle.newt_laws.proofs.Units.{change-device, change-store, units-but, device-other, device-same, Has, mounted-has, has-mounted, soup-has, entry-has, same-or-not, mapped}
-use Rattle.newt_laws.proofs.Soups.{with-soup, with-index, without-index, with-tags, with-entry, with-change, without-entry, with-new-soup, without-soup, new-store, found-good, is-store, is-soup}
-use Rattle.newt_laws.proofs.Costs.{fits-without-soup, fits-without-index, fits-without-entry, fits-with-change, fits-new}
+use Rattle.newt_spec_world.specs.World.{World, Media, blank, one, mounted_store, soup_in, entry_in, flat, free_cursor, change_soup_in}
+use Rattle.newt_spec_world.specs.Changed.{changed, with_graph, graph_after_set, patched_at, bytes_of_large, Step, step_from, open_at, put_on, cloned}
+use Rattle.newt_spec_world.specs.Refused.{on_some}
+use Rattle.newt_laws.specs.Worlds.{OnMedia, OnUnits}
+use Rattle.newt_spec_graph.proofs.Lists.{none-some}
+use Rattle.newt_laws.proofs.Units.{change-store, Has, mounted-has, has-mounted, soup-has, entry-has}
+use Rattle.newt_laws.proofs.Soups.{with-soup, with-entry, with-change, found-good, is-store, is-soup}
 use Rattle.newt_laws.proofs.Patch.{at-skeleton, at-lengths, at-limits, at-object}
 use Rattle.newt_laws.proofs.Frames.{set-frame, normal-frame}
 
@@ -177,6 +172,7 @@ entry-valid w u name uid e all h = in-store (mounted_store w u) refl h
     in-soup : (s : Store) → well_formed s ≡ true → (o : Option Soup) → soup_named name s ≡ o → option_and_then (entry_of uid) o ≡ Some e → valid_entry e ≡ true
     in-soup s ok None f k = absurd (none-some e k)
     in-soup s ok (Some p) f k = found-good valid_entry (λ v. v.uid == uid) p.entries e (is-soup p (found-good valid_soup (λ v. Rattle.newt_base.specs.Names.equal_text v.name name) s.soups p (is-store s ok).soups_fit f)).entries_fit k
+
     in-store : (o : Option Store) → mounted_store w u ≡ o → option_and_then (entry_of uid) (option_and_then (soup_named name) o) ≡ Some e → valid_entry e ≡ true
     in-store None m k = absurd (none-some e k)
     in-store (Some s) m k = let d = has-mounted w u s m in
@@ -210,10 +206,10 @@ set-good e minute None h frame limits size = h
 set-good e minute (Some x) h frame limits size = go (normal_form x) refl limits size
   where
     go : (o : Option RawGraph) → normal_form x ≡ o → not (is_within o) ≡ false → nat_lt 64_000 (skeleton_length (unwrap_or o e.graph)) ≡ false
-      → valid_entry (with_graph minute (unwrap_or o e.graph) e) ≡ true
+        → valid_entry (with_graph minute (unwrap_or o e.graph) e) ≡ true
     go None is l k = cc
     go (Some y) is l k = all-three _ _ _ (normal-frame x y (frame x refl) is) (not-false _ l)
-      (le-leb (skeleton_length y) 64_000 (ltb-false 64_000 (skeleton_length y) k))
+        (le-leb (skeleton_length y) 64_000 (ltb-false 64_000 (skeleton_length y) k))
 
 pub set-entry : (e : Entry) (minute : ℕ) (path : Path) (g : RawGraph) → valid_entry e ≡ true → on_some (put e.graph path g) (λ h. not (is_within (normal_form h))) ≡ false
     → nat_lt 64_000 (skeleton_length (graph_after_set path g e.graph)) ≡ false → valid_entry (with_graph minute (graph_after_set path g e.graph) e) ≡ true
@@ -224,12 +220,17 @@ set-entry e minute path g h limits size = set-good e minute (put e.graph path g)
 pub patched-good : (o : Option ℕ) (at : ℕ) (new : List ℕ) (e : Entry) → at + length new ≤ length (bytes_of_large (option_and_then (slice_get e.graph.nodes) o))
     → valid_entry e ≡ true → valid_entry (record e { graph = patched_at o at new e.graph }) ≡ true
 patched-good None at new e room h = h
-patched-good (Some n) at new e room h = grind (arith, h, at-object at new e.graph n room e.graph.root, at-limits at new e.graph n room,
-    ap {A = RawGraph} {B = ℕ} (λ k. length (Rattle.newt_nsof.specs.Written.nsof k)) (at-skeleton at new e.graph n room))
+patched-good (Some n) at new e room h = grind (
+  arith,
+  h,
+  at-object at new e.graph n room e.graph.root,
+  at-limits at new e.graph n room,
+  ap {A = RawGraph} {B = ℕ} (λ k. length (Rattle.newt_nsof.specs.Written.nsof k)) (at-skeleton at new e.graph n room),
+)
 
 pub patched-pages : (o : Option ℕ) (at : ℕ) (new : List ℕ) (e : Entry) → at + length new ≤ length (bytes_of_large (option_and_then (slice_get e.graph.nodes) o))
     → entry_pages (record e { graph = patched_at o at new e.graph }) ≡ entry_pages e
 patched-pages None at new e room = refl
 patched-pages (Some n) at new e room = ap (λ k. pages_for (12 + length (Rattle.newt_nsof.specs.Written.nsof k) + 12 * length (Rattle.newt_spec_store.specs.Cost.large_lengths (patched_at (Some n) at new e.graph)))
-      + Rattle.std.specs.Prelude.sum (map pages_for (Rattle.newt_spec_store.specs.Cost.large_lengths (patched_at (Some n) at new e.graph)))) (at-skeleton at new e.graph n room)
+    + Rattle.std.specs.Prelude.sum (map pages_for (Rattle.newt_spec_store.specs.Cost.large_lengths (patched_at (Some n) at new e.graph)))) (at-skeleton at new e.graph n room)
     ∙ ap (λ ls. pages_for (12 + skeleton_length e.graph + 12 * length ls) + Rattle.std.specs.Prelude.sum (map pages_for ls)) (at-lengths at new e.graph n room)

@@ -1,21 +1,18 @@
 -- Ids and signatures are not given again.
-use Rattle.std.proofs.Common.{arith, ◌≡◌, refl, ap, sym, ◌∙◌, subst, ℕ, zero, suc, ◌+◌, ◌<◌, ◌≤◌, List, [], ◌∷◌, ◌++◌, true, false, Bool, IsTrue, not, ◌&&◌, ◌||◌, ◌⊎◌, inl, inr, cond, Option, Some, None, option_map, option_and_then, unwrap_or, map, filter, find, ◌==◌}
+use Rattle.std.proofs.Common.{arith, ◌≡◌, refl, ap, sym, ◌∙◌, subst, ℕ, ◌<◌, ◌≤◌, List, [], ◌∷◌, true, false, ◌⊎◌, inl, inr, Option, Some, None, option_map, option_and_then, ◌==◌}
 use Rattle.std.specs.Prelude.{slice_get}
-use Rattle.std.specs.Bool.{⊤}
-use Rattle.std.specs.Option.{is_none, is_some}
-use Rattle.std.proofs.lemmas.Bool.{eqb-true}
+use Rattle.std.specs.Option.{is_some}
 use Rattle.newt_base.specs.Refusals.{first_of}
 use Rattle.newt_base.specs.declared.Refusal.{Refusal}
 use Rattle.newt_graph.specs.Graph.{RawGraph}
-use Rattle.newt_spec_store.specs.Keys.{Path, IndexSpec}
-use Rattle.newt_spec_store.specs.Store.{Store, Soup, Entry, change_first, change_soup, change_entry, make_soup, drop_soup, add_entry, remove_entry, entry_of}
+use Rattle.newt_spec_store.specs.Store.{Store, Soup, Entry, change_soup, change_entry, make_soup, drop_soup, add_entry, remove_entry}
 use Rattle.newt_spec_world.specs.declared.command.Command.{Command}
 use Rattle.newt_spec_world.specs.declared.command.Command.TheVariants as command
-use Rattle.newt_spec_world.specs.World.{World, Device, Media, blank, one, device, default_unit, store_of, store_on_unit, store_if_mounted, mounted, mounted_store, on_unit, entry_in, settle, flat, change_device, change_store, change_media, change_soup_in}
-use Rattle.newt_spec_world.specs.Changed.{changed, new_store, mark, copy_to, with_index, without_index, with_tags, spec_of_words, with_graph, graph_after_set, patched}
+use Rattle.newt_spec_world.specs.World.{World, Device, Media, blank, one, device, default_unit, store_of, store_on_unit, entry_in, flat, change_device, change_store, change_media, change_soup_in}
+use Rattle.newt_spec_world.specs.Changed.{changed, new_store, copy_to, with_index, without_index, with_tags, spec_of_words, with_graph, graph_after_set, patched}
 use Rattle.newt_spec_world.specs.Refused.{checks}
 use Rattle.newt_spec_world.specs.Answer.{answer, answered, after}
-use Rattle.newt_spec_graph.specs.Lists.{Each, Pairs, Among}
+use Rattle.newt_spec_graph.specs.Lists.{Among}
 use Rattle.newt_laws.specs.Later.{SoupLater, StoreLater, WorldLater, EntryGone, SoupGone}
 use Rattle.newt_spec_graph.proofs.Lists.{among-append, among-filter, some-same, none-some}
 use Rattle.newt_laws.proofs.Units.{same-or-not, device-other, device-same}
@@ -33,6 +30,7 @@ soup-trans p q r h k = record { sig_same = k.sig_same ∙ h.sig_same; next = ome
     before : (e d : Entry) → d.uid ≡ e.uid → ((x : Entry) × Among p.entries x × (x.uid ≡ d.uid)) ⊎ (p.next_uid ≤ d.uid) → ((x : Entry) × Among p.entries x × (x.uid ≡ e.uid)) ⊎ (p.next_uid ≤ e.uid)
     before e d s (inl x) = inl (x.0, x.1, x.2 ∙ s)
     before e d s (inr le) = inr (omega (arith, le, s))
+
     go : (e : Entry) → ((d : Entry) × Among q.entries d × (d.uid ≡ e.uid)) ⊎ (q.next_uid ≤ e.uid) → ((x : Entry) × Among p.entries x × (x.uid ≡ e.uid)) ⊎ (p.next_uid ≤ e.uid)
     go e (inl d) = before e d.0 d.2 (h.uids d.0 d.1)
     go e (inr le) = inr (omega (arith, le, h.next))
@@ -66,6 +64,7 @@ store-trans s t x h k = record { sig_same = k.sig_same ∙ h.sig_same; next = om
     before : (r q : Soup) → SoupLater q r → ((p : Soup) × Among s.soups p × SoupLater p q) ⊎ (s.next_soup ≤ q.sig) → ((p : Soup) × Among s.soups p × SoupLater p r) ⊎ (s.next_soup ≤ r.sig)
     before r q l (inl p) = inl (p.0, p.1, soup-trans p.0 q r p.2 l)
     before r q l (inr le) = inr (omega (arith, le, l.sig_same))
+
     go : (r : Soup) → ((q : Soup) × Among t.soups q × SoupLater q r) ⊎ (t.next_soup ≤ r.sig) → ((p : Soup) × Among s.soups p × SoupLater p r) ⊎ (s.next_soup ≤ r.sig)
     go r (inl q) = before r q.0 q.2 (h.soups q.0 q.1)
     go r (inr le) = inr (omega (arith, le, h.next))
@@ -102,6 +101,7 @@ change-later w u f keeps n s h = go (same-or-not n u)
     here : (o : Option Device) → device w u ≡ o → option_and_then (λ (d : Device). store_of d.media) o ≡ Some s → (t : Store) × (option_and_then (λ (d : Device). store_of d.media) (option_map f o) ≡ Some t) × StoreLater s t
     here None e k = absurd (none-some s k)
     here (Some d) e k = keeps d s e k
+
     go : (n ≡ u) ⊎ (n ≡ u → ⊥) → (t : Store) × (store_on_unit (change_device w u f) n ≡ Some t) × StoreLater s t
     go (inl e) = let r = here (device w u) refl (ap (store_on_unit w) (sym e) ∙ h) in
         (r.0, ap (store_on_unit (change_device w u f)) e ∙ ap (option_and_then (λ (d : Device). store_of d.media)) (device-same w u f) ∙ r.1, r.2)
@@ -182,9 +182,11 @@ entry-gone sig uid s t l g = record {
     given : (q : Soup) → q.sig ≡ sig → ((p : Soup) × Among s.soups p × SoupLater p q) ⊎ (s.next_soup ≤ q.sig) → uid < q.next_uid
     given q is (inl p) = omega (arith, g.uid_given p.0 p.1 (sym p.2.sig_same ∙ is), p.2.next)
     given q is (inr le) = absurd (omega (arith, le, is, g.sig_given))
+
     was : (p : Soup) (q : Soup) (e : Entry) → Among s.soups p → p.sig ≡ sig → e.uid ≡ uid → ((d : Entry) × Among p.entries d × (d.uid ≡ e.uid)) ⊎ (p.next_uid ≤ e.uid) → ⊥
     was p q e m is same (inl d) = g.not_there p d.0 m is d.1 (d.2 ∙ same)
     was p q e m is same (inr le) = omega (arith, le, same, g.uid_given p m is)
+
     there : (q : Soup) (e : Entry) → q.sig ≡ sig → Among q.entries e → e.uid ≡ uid → ((p : Soup) × Among s.soups p × SoupLater p q) ⊎ (s.next_soup ≤ q.sig) → ⊥
     there q e is n same (inl p) = was p.0 q e p.1 (sym p.2.sig_same ∙ is) same (p.2.uids e n)
     there q e is n same (inr le) = omega (arith, le, is, g.sig_given)

@@ -1,7 +1,6 @@
 -- No two mounted stores come to have one signature.
-use Rattle.std.proofs.Common.{arith, ◌≡◌, refl, ap, sym, ◌∙◌, subst, ℕ, zero, suc, List, [], ◌∷◌, ◌++◌, true, false, Bool, IsTrue, not, ◌&&◌, ◌||◌, ◌⊎◌, inl, inr, cond, Option, Some, None, option_map, option_and_then, unwrap_or, map, filter_map, ◌==◌}
+use Rattle.std.proofs.Common.{arith, ◌≡◌, refl, ap, sym, ◌∙◌, subst, ℕ, zero, suc, List, [], ◌∷◌, true, false, Bool, ◌||◌, ◌⊎◌, inl, inr, cond, Option, Some, None, option_map, option_and_then, filter_map, ◌==◌}
 use Rattle.std.specs.Prelude.{slice_get}
-use Rattle.std.specs.Bool.{⊤}
 use Rattle.std.specs.List.{list_any, cons_option}
 use Rattle.std.proofs.lemmas.Bool.{eq-eqb}
 use Rattle.newt_base.specs.Refusals.{first_of}
@@ -9,11 +8,11 @@ use Rattle.newt_base.specs.declared.Refusal.{Refusal}
 use Rattle.newt_spec_store.specs.Store.{Store, Soup, Entry, change_soup, make_soup, drop_soup, add_entry, remove_entry}
 use Rattle.newt_spec_world.specs.declared.command.Command.{Command}
 use Rattle.newt_spec_world.specs.declared.command.Command.TheVariants as command
-use Rattle.newt_spec_world.specs.World.{World, Device, Media, blank, one, device, default_unit, store_of, store_if_mounted, on_unit, mounted_store, mounted_stores, store_on_unit, entry_in, settle, flat, change_device, change_store, change_media, change_soup_in}
+use Rattle.newt_spec_world.specs.World.{World, Device, Media, blank, one, device, default_unit, store_of, store_if_mounted, on_unit, mounted_store, mounted_stores, store_on_unit, entry_in, flat, change_device, change_store, change_media, change_soup_in}
 use Rattle.newt_spec_world.specs.Changed.{changed, new_store, mark, copy_to}
 use Rattle.newt_spec_world.specs.Refused.{checks}
 use Rattle.newt_spec_world.specs.Answer.{answer, answered}
-use Rattle.newt_spec_graph.specs.Lists.{Each, Pairs, Among}
+use Rattle.newt_spec_graph.specs.Lists.{Each, Pairs}
 use Rattle.newt_laws.specs.Settled.{MountedApart}
 use Rattle.newt_spec_graph.proofs.Lists.{each-at, each-from, some-same, none-some, both-ways}
 use Rattle.newt_laws.proofs.Found.{Apart}
@@ -75,6 +74,7 @@ change-sigs w u f keeps n t k = go (same-or-not n u)
     here : (o : Option Device) → option_and_then store_if_mounted (option_map f o) ≡ Some t → (s : Store) × (option_and_then store_if_mounted o ≡ Some s) × (t.sig ≡ s.sig)
     here None k = absurd (none-some t k)
     here (Some d) k = keeps d t k
+
     go : (n ≡ u) ⊎ (n ≡ u → ⊥) → (s : Store) × (mounted_store w n ≡ Some s) × (t.sig ≡ s.sig)
     go (inl e) = let r = here (device w u) (ap (option_and_then store_if_mounted) (sym (device-same w u f)) ∙ ap (mounted_store (change_device w u f)) (sym e) ∙ k) in (r.0, ap (mounted_store w) e ∙ r.1, r.2)
     go (inr e) = (t, ap on_unit (sym (device-other w u f n e)) ∙ k, refl)
@@ -85,6 +85,7 @@ store-sigs w u f same = change-sigs w u (λ d. record d { media = change_media f
     media : (t : Store) (m : Media) → store_of (change_media f m) ≡ Some t → (s : Store) × (store_of m ≡ Some s) × (t.sig ≡ s.sig)
     media t blank k = absurd (none-some t k)
     media t (one s) k = (s, refl, sym (ap (λ (x : Store). x.sig) (some-same (f s) t k)) ∙ same s)
+
     go : (t : Store) (b : Bool) (m : Media) → cond b (store_of (change_media f m)) None ≡ Some t → (s : Store) × (cond b (store_of m) None ≡ Some s) × (t.sig ≡ s.sig)
     go t true m k = media t m k
     go t false m k = absurd (none-some t k)
@@ -105,6 +106,7 @@ none-alike (s ∷ ss) n h = (λ e. both-ways (sym (or-first (s.sig == n) _ h) �
     or-first : (a b : Bool) → (a || b) ≡ false → a ≡ false
     or-first false b h = refl
     or-first true b h = h
+
     or-rest : (a b : Bool) → (a || b) ≡ false → b ≡ false
     or-rest false b h = h
     or-rest true b h = absurd (both-ways (sym h))
@@ -114,13 +116,17 @@ mount-apart w u new h = apart-from-units (mark w u true).units (λ m n s t diffe
   where
     F : Device → Device
     F d = record d { mounted = true }
+
     there : (o : Option Device) (t : Store) → on_unit (option_map (λ (d : Device). record d { mounted = true }) o) ≡ Some t → option_and_then (λ (d : Device). store_of d.media) o ≡ Some t
     there None t k = absurd (none-some t k)
     there (Some d) t k = k
+
     here : (n : ℕ) (t : Store) → n ≡ u → on_unit (flat (slice_get (mark w u true).units n)) ≡ Some t → store_on_unit w u ≡ Some t
     here n t e f = there (device w u) t (ap on_unit (sym (device-same w u (λ d. record d { mounted = true }))) ∙ ap (λ k. on_unit (flat (slice_get (mark w u true).units k))) (sym e) ∙ f)
+
     old : (n : ℕ) (t : Store) → (n ≡ u → ⊥) → on_unit (flat (slice_get (mark w u true).units n)) ≡ Some t → on_unit (flat (slice_get w.units n)) ≡ Some t
     old n t e f = ap on_unit (sym (device-other w u (λ d. record d { mounted = true }) n e)) ∙ f
+
     go : (m n : ℕ) (s t : Store) → (m ≡ u) ⊎ (m ≡ u → ⊥) → (n ≡ u) ⊎ (n ≡ u → ⊥) → (m ≡ n → ⊥) → on_unit (flat (slice_get (mark w u true).units m)) ≡ Some s → on_unit (flat (slice_get (mark w u true).units n)) ≡ Some t → s.sig ≡ t.sig → ⊥
     go m n s t (inl a) (inl b) differ e f same = differ (a ∙ sym b)
     go m n s t (inl a) (inr b) differ e f same = each-at (λ x. x.sig ≡ s.sig → ⊥) (mounted_stores w) t (new s (here m s a e)) (mounted-among w.units t n (old n t b f)) (sym same)

@@ -1,33 +1,34 @@
 -- Bytes written over a large binary change nothing else.
-use Rattle.std.proofs.Common.{arith, ◌≡◌, refl, ap, sym, ◌∙◌, subst, ℕ, zero, suc, ◌+◌, ◌-◌, min, ◌<◌, ◌≤◌, List, [], ◌∷◌, ◌++◌, true, false, Bool, not, ◌&&◌, cond, Option, Some, None, option_and_then, map, take, drop, flat_map, length, fold, nat_le, max, sum}
+use Rattle.std.proofs.Common.{arith, ◌≡◌, refl, ap, sym, ◌∙◌, subst, ℕ, zero, suc, ◌+◌, ◌≤◌, List, [], ◌∷◌, ◌++◌, true, false, Bool, ◌&&◌, cond, Option, Some, None, map, take, drop, flat_map, length, nat_le}
 use Rattle.std.specs.Prelude.{slice_get}
 use Rattle.std.specs.List.{list_all}
 use lib.ListN.{length-append, length-take, length-drop}
 use Rattle.newt_graph.specs.declared.node.Ref.{Ref}
 use Rattle.newt_graph.specs.declared.node.Ref.TheVariants.{Imm, Node as At}
 use Rattle.newt_graph.specs.declared.node.Node.{Node}
-use Rattle.newt_graph.specs.declared.node.Node.TheVariants.{Symbol, Str, Binary, Large, Array, Frame}
+use Rattle.newt_graph.specs.declared.node.Node.TheVariants.{Symbol, Str, Large}
 use Rattle.newt_graph.specs.Graph.{RawGraph}
 use Rattle.newt_spec_graph.specs.Graph.{change_nth, object, is_frame}
 use Rattle.newt_graph.specs.Graph.{payload}
 use Rattle.newt_graph.specs.Raw.{renamed}
-use Rattle.newt_graph.specs.Meeting.{◌>>=◌, Seen, Step, is_new, added, enter, meet_by, meet, number, moved, limited, numbered, normal_form}
+use Rattle.newt_graph.specs.Steps.{◌>>=◌}
+use Rattle.newt_graph.specs.Meeting.{Seen, Step, is_new, added, enter, meet_by, meet, number, moved, limited, numbered, normal_form}
 use Rattle.newt_spec_graph.specs.Limits.{within_limits, node_within, slots}
 use Rattle.std.proofs.Common.{is_some, get_or, sum_by, if◌then◌else◌}
 use Rattle.std.proofs.Math.Path.{fun_ext}
 use Rattle.std.proofs.lemmas.List.Sums.{sum_by-cons}
-use Rattle.newt_nsof.specs.Written.{nsof}
 use Rattle.newt_nsof.specs.Lengths.{skeleton, bare as bare_node}
 use Rattle.newt_spec_store.specs.Cost.{large_lengths, large_length}
-use Rattle.newt_spec_store.specs.Keys.{Path}
-use Rattle.newt_spec_store.specs.Store.{Entry}
-use Rattle.newt_spec_store.specs.Cost.{entry_pages, skeleton_length}
-use Rattle.newt_spec_store.specs.Valid.{valid_entry}
-use Rattle.newt_spec_world.specs.Changed.{patch_node, patched, patched_at, overwritten, large_at, large_bytes, bytes_of_large}
+use Rattle.newt_spec_world.specs.Changed.{patch_node, patched_at, overwritten, bytes_of_large}
 
 overwritten-length : (at : ℕ) (new old : List ℕ) → at + length new ≤ length old → length (overwritten at new old) ≡ length old
-overwritten-length at new old h = grind (arith,
-    length-append (take at old ++ new) (drop (at + length new) old), length-append (take at old) new, length-take at old, length-drop (at + length new) old)
+overwritten-length at new old h = grind (
+  arith,
+  length-append (take at old ++ new) (drop (at + length new) old),
+  length-append (take at old) new,
+  length-take at old,
+  length-drop (at + length new) old,
+)
 
 -- ---- a list with its n-th changed
 

@@ -1,5 +1,5 @@
 -- What is written is read back: the directory and its parts.
-use Rattle.std.proofs.Common.{arith, ◌≡◌, refl, ap, sym, ◌∙◌, subst, ℕ, zero, suc, ◌+◌, ◌*◌, ◌/◌, ◌%◌, ◌<◌, ◌≤◌, List, [], ◌∷◌, ◌++◌, true, false, Bool, cond, Option, Some, None, option_and_then, option_map, length, take, drop, flat_map, fold, map, nat_le, inl, inr}
+use Rattle.std.proofs.Common.{arith, ◌≡◌, refl, ap, sym, ◌∙◌, subst, ℕ, ◌+◌, ◌*◌, ◌/◌, ◌%◌, ◌<◌, ◌≤◌, List, [], ◌∷◌, ◌++◌, true, cond, Option, Some, None, option_and_then, length, take, drop, flat_map, fold, map, inl, inr}
 use Rattle.std.proofs.lemmas.List.{append_assoc}
 use Rattle.std.proofs.Math.Seq.{take-append_seam, drop-append_seam}
 use Rattle.std.proofs.lemmas.Bool.{le-leb, leb-true}
@@ -9,14 +9,14 @@ use Rattle.newt_spec_store.specs.declared.Kind.{Kind}
 use Rattle.newt_spec_store.specs.declared.Kind.TheVariants as kind
 use Rattle.newt_spec_store.specs.declared.Order.{Order}
 use Rattle.newt_spec_store.specs.declared.Order.TheVariants as order
-use Rattle.newt_spec_store.specs.Keys.{Path, IndexPart, IndexSpec}
+use Rattle.newt_spec_store.specs.Keys.{Path, IndexPart}
 use Rattle.newt_spec_store.specs.Store.{TagTable, Soup, Store}
 use Rattle.newt_spec_store.specs.Cost as cost
 use Rattle.newt_spec_store.specs.Reading.{Take, ◌>>=◌, give, some_bytes, number, times, counted, whole, whole_of, text, path, kind_of, direction_of, part, tags_of, soup, directory}
 use Rattle.newt_spec_store.specs.Valid.{well_formed, valid_soup}
 use Rattle.newt_spec_graph.specs.Lists.{Each, Among}
 use Rattle.newt_spec_graph.proofs.Lists.{each-more, each-at, each-from, each-list_all, rises-above}
-use Rattle.newt_laws.proofs.Soups.{IsStore, is-store, IsSoup, is-soup}
+use Rattle.newt_laws.proofs.Soups.{is-store, is-soup}
 
 -- the bytes give the value, whatever follows them
 abbrev pub Reads : {A : Type 0} → Take A → List ℕ → A → Type 0
@@ -97,15 +97,15 @@ pub reads-part : (p : IndexPart) → Reads part (cost.part_bytes p) p
 reads-part p = reads-then (number 1 >>= kind_of) (λ k. number 1 >>= direction_of >>= λ d. path >>= λ s. give (record { path = s; kind = k; direction = d }))
     (cost.kind_byte p.kind ∷ []) (cost.direction_byte p.direction ∷ cost.path_bytes p.path) p.kind p (reads-kind p.kind)
     (reads-then (number 1 >>= direction_of) (λ d. path >>= λ s. give (record { path = s; kind = p.kind; direction = d }))
-      (cost.direction_byte p.direction ∷ []) (cost.path_bytes p.path) p.direction p (reads-direction p.direction)
-      (reads-last path (λ s. record { path = s; kind = p.kind; direction = p.direction }) (cost.path_bytes p.path) p.path (reads-path p.path)))
+    (cost.direction_byte p.direction ∷ []) (cost.path_bytes p.path) p.direction p (reads-direction p.direction)
+    (reads-last path (λ s. record { path = s; kind = p.kind; direction = p.direction }) (cost.path_bytes p.path) p.path (reads-path p.path)))
 
 pub reads-tags : (t : Option TagTable) → Reads (number 1 >>= tags_of) (cost.tags_bytes t) t
 reads-tags None = reads-then (number 1) tags_of (0 ∷ []) [] 0 None (reads-byte 0) (λ rest. refl)
 reads-tags (Some t) = reads-same (number 1 >>= tags_of) (Some t) (append_assoc (1 ∷ []) (cost.path_bytes t.path) (cost.counted cost.text_bytes t.symbols))
     (reads-then (number 1) tags_of (1 ∷ []) (cost.path_bytes t.path ++ cost.counted cost.text_bytes t.symbols) 1 (Some t) (reads-byte 1)
-      (reads-then path (λ p. counted text >>= λ s. give (Some (record { path = p; symbols = s }))) (cost.path_bytes t.path) (cost.counted cost.text_bytes t.symbols) t.path (Some t) (reads-path t.path)
-        (reads-last (counted text) (λ s. Some (record { path = t.path; symbols = s })) (cost.counted cost.text_bytes t.symbols) t.symbols (reads-counted text cost.text_bytes t.symbols (each-of _ reads-text t.symbols)))))
+    (reads-then path (λ p. counted text >>= λ s. give (Some (record { path = p; symbols = s }))) (cost.path_bytes t.path) (cost.counted cost.text_bytes t.symbols) t.path (Some t) (reads-path t.path)
+    (reads-last (counted text) (λ s. Some (record { path = t.path; symbols = s })) (cost.counted cost.text_bytes t.symbols) t.symbols (reads-counted text cost.text_bytes t.symbols (each-of _ reads-text t.symbols)))))
   where
     reads-same : {A : Type 0} (p : Take A) (a : A) {xs ys : List ℕ} → xs ≡ ys → Reads p ys a → Reads p xs a
     reads-same p a e h = subst (λ zs. Reads p zs a) (sym e) h
@@ -129,7 +129,7 @@ reads-soup p h k = regroup soup (bare_soup p) (cost.soup_bytes p) _ (five (cost.
     (reads-then (number 2) _ (be16 p.sig) (be32 p.next_uid ++ (cost.counted (cost.counted cost.part_bytes) p.specs ++ cost.tags_bytes p.tags)) p.sig (bare_soup p) (reads-be16 p.sig h)
     (reads-then (number 4) _ (be32 p.next_uid) (cost.counted (cost.counted cost.part_bytes) p.specs ++ cost.tags_bytes p.tags) p.next_uid (bare_soup p) (reads-be32 p.next_uid k)
     (reads-then (counted (counted part)) _ (cost.counted (cost.counted cost.part_bytes) p.specs) (cost.tags_bytes p.tags) p.specs (bare_soup p)
-      (reads-counted (counted part) (cost.counted cost.part_bytes) p.specs (each-of _ (λ spec. reads-counted part cost.part_bytes spec (each-of _ reads-part spec)) p.specs))
+    (reads-counted (counted part) (cost.counted cost.part_bytes) p.specs (each-of _ (λ spec. reads-counted part cost.part_bytes spec (each-of _ reads-part spec)) p.specs))
     (reads-last (number 1 >>= tags_of) (λ tags. record { name = p.name; sig = p.sig; next_uid = p.next_uid; specs = p.specs; tags = tags; entries = [] }) (cost.tags_bytes p.tags) p.tags (reads-tags p.tags))))))
 
 -- items that are read back as something less
@@ -151,7 +151,7 @@ reads-directory s h k each = regroup directory (bare s) (cost.directory_bytes s)
     (reads-then (number 4) _ (be32 s.sig) (be16 s.next_soup ++ cost.counted cost.soup_bytes s.soups) s.sig (bare s) (reads-be32 s.sig h)
     (reads-then (number 2) _ (be16 s.next_soup) (cost.counted cost.soup_bytes s.soups) s.next_soup (bare s) (reads-be16 s.next_soup k)
     (reads-last (counted soup) (λ soups. record { name = s.name; sig = s.sig; next_soup = s.next_soup; soups = soups }) (cost.counted cost.soup_bytes s.soups) (map bare_soup s.soups)
-      (reads-counted-as soup cost.soup_bytes bare_soup s.soups (each-more _ _ s.soups (λ p r. reads-soup p r.0 r.1) each))))))
+    (reads-counted-as soup cost.soup_bytes bare_soup s.soups (each-more _ _ s.soups (λ p r. reads-soup p r.0 r.1) each))))))
 
 append-nil : (xs : List ℕ) → xs ++ [] ≡ xs
 append-nil [] = refl
@@ -163,11 +163,13 @@ reads-whole p bytes a h = ap whole_of (ap p (sym (append-nil bytes)) ∙ h [])
 -- a valid store's numbers fit their fields
 pub valid-fields : (s : Store) → well_formed s ≡ true → (s.sig < 4294967296) × (s.next_soup < 65536) × Each (λ p. (p.sig < 65536) × (p.next_uid < 4294967296)) s.soups
 valid-fields s h = let r = is-store s h in (
-    omega (arith, leb-true s.sig 536870911 r.sig_fits), omega (arith, r.next),
-    each-from _ s.soups (λ p m.
+  omega (arith, leb-true s.sig 536870911 r.sig_fits),
+  omega (arith, r.next),
+  each-from _ s.soups (λ p m.
       let sig = each-at (λ n. (0 ≤ n) × (n < s.next_soup)) (map (λ (p : Soup). p.sig) s.soups) p.sig (rises-above 0 s.next_soup (map (λ (p : Soup). p.sig) s.soups) r.sigs) (map-among (λ (p : Soup). p.sig) s.soups p m) in
       let q = is-soup p (each-at (λ p. valid_soup p ≡ true) s.soups p (each-list_all valid_soup s.soups r.soups_fit) m) in
-      (omega (arith, sig.1, r.next), omega (arith, q.next))))
+      (omega (arith, sig.1, r.next), omega (arith, q.next))),
+)
   where
     map-among : {X Y : Type 0} (g : X → Y) (xs : List X) (x : X) → Among xs x → Among (map g xs) (g x)
     map-among g [] x m = absurd m

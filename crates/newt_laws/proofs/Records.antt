@@ -1,5 +1,5 @@
 -- What is written is read back: the records of entries, and their large binaries.
-use Rattle.std.proofs.Common.{arith, ◌≡◌, refl, ap, sym, ◌∙◌, subst, ℕ, zero, suc, ◌+◌, ◌-◌, ◌*◌, ◌%◌, ◌<◌, ◌≤◌, List, [], ◌∷◌, ◌++◌, true, false, Bool, ◌&&◌, cond, Option, Some, None, option_and_then, option_map, length, flat_map, fold, map, zip, nat_le, nat_lt, ◌==◌}
+use Rattle.std.proofs.Common.{arith, ◌≡◌, refl, ap, sym, ◌∙◌, subst, ℕ, suc, ◌+◌, ◌-◌, ◌*◌, ◌%◌, List, [], ◌∷◌, ◌++◌, true, Bool, ◌&&◌, cond, Option, Some, None, option_and_then, option_map, length, flat_map, fold, map, zip, nat_lt, ◌==◌}
 use Rattle.std.specs.List.{enumerate_from, list_all}
 use Rattle.std.specs.Prelude.{bytes_eq}
 use Rattle.std.proofs.lemmas.List.{append_assoc}
@@ -16,10 +16,10 @@ use Rattle.newt_nsof.specs.Lengths.{skeleton, bare as bare_node}
 use Rattle.newt_spec_store.specs.Store.{Entry}
 use Rattle.newt_spec_store.specs.Image as image
 use Rattle.newt_spec_store.specs.Image.{Objects, larges, large_in, entry_bytes}
-use Rattle.newt_spec_store.specs.Reading.{Take, ◌>>=◌, give, some_bytes, number, times, whole}
+use Rattle.newt_spec_store.specs.Reading.{◌>>=◌, give, some_bytes, number, times}
 use Rattle.newt_spec_graph.specs.Graph.{every}
-use Rattle.newt_spec_store.specs.StoreOf.{LargeRow, large_row, EntryRow, entry_fields, entry_row, object_bytes, large_object, with_bytes, fill, written, with_larges, entry_of_row}
-use Rattle.newt_spec_graph.specs.Lists.{Each, Among}
+use Rattle.newt_spec_store.specs.StoreOf.{LargeRow, large_row, entry_fields, entry_row, large_object, with_bytes, fill, written, with_larges, entry_of_row}
+use Rattle.newt_spec_graph.specs.Lists.{Each}
 use Rattle.newt_spec_store.specs.Laid.{Named, row_of_large, FitsRow, IsThere, row_of, FitsRecord}
 use Rattle.newt_laws.proofs.Read.{Reads, reads-then, reads-last, reads-some, reads-be16, reads-be32, regroup, reads-whole}
 
@@ -74,18 +74,23 @@ reads-entry soup e ids size f is = regroup (entry_fields size) (row_of soup e id
     (reads-then (number 4) _ (be32 e.uid) (from_time e ids) e.uid (row_of soup e ids) (reads-be32 e.uid f.uid_fits)
     (reads-then (number 4) _ (be32 e.time) (from_text e ids) e.time (row_of soup e ids) (reads-be32 e.time f.time_fits)
     (reads-then (some_bytes (size - 12 * length ids)) _ (nsof (skeleton e.graph)) (from_larges e ids) (nsof (skeleton e.graph)) (row_of soup e ids)
-      (subst (λ n. Reads (some_bytes n) (nsof (skeleton e.graph)) (nsof (skeleton e.graph))) (sym is) (reads-some (nsof (skeleton e.graph))))
+    (subst (λ n. Reads (some_bytes n) (nsof (skeleton e.graph)) (nsof (skeleton e.graph))) (sym is) (reads-some (nsof (skeleton e.graph))))
     (reads-last (times (length ids) large_row) (λ ls. record { soup = soup; uid = e.uid; time = e.time; text = nsof (skeleton e.graph); larges = ls })
-      (flat_map image.large_row (zip (larges e.graph) ids)) (map row_of_large (zip (larges e.graph) ids))
-      (subst (λ n. Reads (times n large_row) (flat_map image.large_row (zip (larges e.graph) ids)) (map row_of_large (zip (larges e.graph) ids))) (zip-length (larges e.graph) ids f.each_named)
-        (reads-larges (zip (larges e.graph) ids) f.rows_fit))))))))
+    (flat_map image.large_row (zip (larges e.graph) ids)) (map row_of_large (zip (larges e.graph) ids))
+    (subst (λ n. Reads (times n large_row) (flat_map image.large_row (zip (larges e.graph) ids)) (map row_of_large (zip (larges e.graph) ids))) (zip-length (larges e.graph) ids f.each_named)
+    (reads-larges (zip (larges e.graph) ids) f.rows_fit))))))))
 
 entry-length : (soup : ℕ) (e : Entry) (ids : List ℕ) → length (larges e.graph) ≡ length ids → length (entry_bytes soup e ids) ≡ 12 + length (nsof (skeleton e.graph)) + 12 * length ids
-entry-length soup e ids h = grind (arith,
-    length-append (be16 soup ++ be16 (length ids) ++ be32 e.uid ++ be32 e.time ++ nsof (skeleton e.graph)) (flat_map image.large_row (zip (larges e.graph) ids)),
-    length-append (be16 soup ++ be16 (length ids) ++ be32 e.uid ++ be32 e.time) (nsof (skeleton e.graph)),
-    length-append (be16 soup ++ be16 (length ids) ++ be32 e.uid) (be32 e.time), length-append (be16 soup ++ be16 (length ids)) (be32 e.uid), length-append (be16 soup) (be16 (length ids)),
-    larges-length (zip (larges e.graph) ids), zip-length (larges e.graph) ids h)
+entry-length soup e ids h = grind (
+  arith,
+  length-append (be16 soup ++ be16 (length ids) ++ be32 e.uid ++ be32 e.time ++ nsof (skeleton e.graph)) (flat_map image.large_row (zip (larges e.graph) ids)),
+  length-append (be16 soup ++ be16 (length ids) ++ be32 e.uid ++ be32 e.time) (nsof (skeleton e.graph)),
+  length-append (be16 soup ++ be16 (length ids) ++ be32 e.uid) (be32 e.time),
+  length-append (be16 soup ++ be16 (length ids)) (be32 e.uid),
+  length-append (be16 soup) (be16 (length ids)),
+  larges-length (zip (larges e.graph) ids),
+  zip-length (larges e.graph) ids h,
+)
 
 pub record-back : (soup : ℕ) (e : Entry) (ids : List ℕ) → FitsRecord soup e ids → entry_row (entry_bytes soup e ids) ≡ Some (row_of soup e ids)
 record-back soup e ids f = reads-whole (entry_fields (length (entry_bytes soup e ids) - 12)) (entry_bytes soup e ids) (row_of soup e ids)
@@ -190,7 +195,7 @@ pub larges-back : (graph_of : List ℕ → Option RawGraph) (objects : Objects) 
     → with_larges graph_of objects (row_of soup e ids) (skeleton e.graph) ≡ Some e.graph
 larges-back graph_of objects soup e ids h there =
     ap (λ b. cond b (option_map (λ bs. fold fill (skeleton e.graph) (zip (map (λ (l : LargeRow). l.0) (map row_of_large (zip (larges e.graph) ids))) bs))
-      (every (map (large_object objects) (map row_of_large (zip (larges e.graph) ids))))) None) test
+    (every (map (large_object objects) (map row_of_large (zip (larges e.graph) ids))))) None) test
     ∙ ap (option_map (λ bs. fold fill (skeleton e.graph) (zip (map (λ (l : LargeRow). l.0) (map row_of_large (zip (larges e.graph) ids))) bs))) (every-back objects (zip (larges e.graph) ids) there)
     ∙ ap {A = List (ℕ × List ℕ)} {B = Option RawGraph} (λ ls. Some (fold fill (skeleton e.graph) ls)) all-of-them
     ∙ ap Some (fill-back e.graph)
@@ -198,8 +203,10 @@ larges-back graph_of objects soup e ids h there =
     all-of-them : zip (map (λ (l : LargeRow). l.0) (map row_of_large (zip (larges e.graph) ids))) (map (λ (l : Named). l.0.1) (zip (larges e.graph) ids)) ≡ larges e.graph
     all-of-them = ap (λ ns. zip ns (map (λ (l : Named). l.0.1) (zip (larges e.graph) ids))) (zip-numbers (larges e.graph) ids h)
         ∙ ap (λ bs. zip (map (λ (l : ℕ × List ℕ). l.0) (larges e.graph)) bs) (zip-bytes (larges e.graph) ids h) ∙ zip-back (larges e.graph)
+
     and-true : (a b : Bool) → a ≡ true → b ≡ true → (a && b) ≡ true
     and-true a b h k = grind (arith, h, k)
+
     test : (bytes_eq (map (λ (l : ℕ × List ℕ). l.0) (larges (skeleton e.graph))) (map (λ (l : LargeRow). l.0) (map row_of_large (zip (larges e.graph) ids))) && list_all (λ (l : ℕ × List ℕ). length l.1 == 0) (larges (skeleton e.graph))) ≡ true
     test = and-true _ _ (ap (bytes_eq (map (λ (l : ℕ × List ℕ). l.0) (larges (skeleton e.graph)))) (zip-numbers (larges e.graph) ids h ∙ sym (same-numbers 0 e.graph.nodes)) ∙ bytes-same (map (λ (l : ℕ × List ℕ). l.0) (larges (skeleton e.graph))))
         (all-empty 0 e.graph.nodes)

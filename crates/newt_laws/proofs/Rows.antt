@@ -1,34 +1,24 @@
 -- The table of changes, row by row: stores stay well formed, and fit.
-use Rattle.std.proofs.Common.{arith, ◌≡◌, refl, ap, sym, ◌∙◌, subst, ℕ, zero, suc, ◌+◌, ◌*◌, ◌<◌, ◌≤◌, List, [], ◌∷◌, ◌++◌, true, false, Bool, IsTrue, not, ◌&&◌, ◌||◌, ◌⊎◌, inl, inr, cond, Option, Some, None, option_map, option_and_then, unwrap_or, map, length, nat_le, nat_lt, ◌==◌}
-use Rattle.std.specs.Prelude.{slice_get}
+use Rattle.std.proofs.Common.{arith, ◌≡◌, refl, ap, sym, ◌∙◌, subst, ℕ, ◌+◌, List, [], ◌∷◌, true, false, Bool, ◌&&◌, inl, Option, Some, None, map, length, nat_le, nat_lt, ◌==◌}
 use Rattle.std.specs.Option.{is_none, is_some}
 use Rattle.std.specs.Bool.{⊤}
 use Rattle.std.specs.List.{list_all, list_any}
-use Rattle.std.proofs.lemmas.Bool.{eqb-false, ltb-false, leb-false, and_parts, leb-true, le-leb, not-false}
+use Rattle.std.proofs.lemmas.Bool.{eqb-false, ltb-false, leb-false, and_parts}
 use Rattle.newt_base.specs.Names.{same_name}
-use Rattle.newt_graph.specs.Graph.{RawGraph}
-use Rattle.newt_spec_graph.specs.Limits.{within_limits}
-use Rattle.newt_spec_store.specs.Keys.{Path, IndexSpec, paths_of, same_paths}
-use Rattle.newt_spec_store.specs.Store.{Store, Soup, Entry, soup_named, entry_of, change_soup, change_entry, make_soup, drop_soup, add_entry, remove_entry}
-use Rattle.newt_image.specs.Pages.{cap}
-use Rattle.newt_image.specs.Objects.{pages_for}
-use Rattle.newt_spec_store.specs.Cost.{skeleton_length, cost, entry_pages}
-use Rattle.newt_base.specs.Names.{is_name}
+use Rattle.newt_spec_store.specs.Keys.{Path, paths_of, same_paths}
+use Rattle.newt_spec_store.specs.Store.{Store, Soup, soup_named, change_soup, make_soup, drop_soup, remove_entry}
 use Rattle.newt_spec_graph.specs.Lists.{all_apart}
-use Rattle.newt_spec_store.specs.Valid.{valid, well_formed, fits, valid_soup, valid_entry, valid_spec, valid_tags, valid_path, valid_symbol}
+use Rattle.newt_spec_store.specs.Valid.{valid_spec, valid_tags, valid_path, valid_symbol}
 use Rattle.newt_spec_world.specs.declared.command.Command.{Command}
 use Rattle.newt_spec_world.specs.declared.command.Command.TheVariants as command
 use Rattle.newt_spec_world.specs.declared.command.PartWord.{PartWord}
-use Rattle.newt_spec_world.specs.World.{World, Device, Media, blank, one, device, default_unit, store_of, mounted_store, soup_in, entry_in, change_device, change_store, change_media, change_soup_in, settle}
-use Rattle.newt_spec_world.specs.Changed.{changed, new_store, mark, default_without, with_index, without_index, with_tags, spec_of_words, kind_of, with_graph, graph_after_set, copy_to, patched, patched_at, large_at, large_bytes, bytes_of_large}
-use Rattle.newt_spec_world.specs.Refused.{checks, on_some, full}
-use Rattle.newt_spec_world.specs.Answer.{answer, fields}
-use Rattle.newt_laws.specs.Worlds.{OnMedia, OnUnits, AllValid, has_form, parts_fit}
-use Rattle.newt_spec_graph.proofs.Lists.{some-same, none-some}
-use Rattle.newt_laws.proofs.Units.{change-device, change-store, units-but, device-other, device-same, Has, mounted-has, has-mounted, soup-has, entry-has, same-or-not, mapped}
+use Rattle.newt_spec_world.specs.World.{World, one, default_unit, mounted_store, soup_in, entry_in, change_soup_in}
+use Rattle.newt_spec_world.specs.Changed.{changed, new_store, mark, with_index, without_index, with_tags, spec_of_words, with_graph, graph_after_set, copy_to, patched, large_at, large_bytes}
+use Rattle.newt_spec_world.specs.Refused.{checks, on_some}
+use Rattle.newt_laws.specs.Worlds.{has_form, parts_fit}
+use Rattle.newt_laws.proofs.Units.{change-device, change-store, mounted-has, soup-has}
 use Rattle.newt_laws.proofs.Soups.{with-soup, with-index, without-index, with-tags, without-entry, with-new-soup, without-soup, new-store}
-use Rattle.newt_laws.proofs.Costs.{fits-without-soup, fits-without-index, fits-without-entry, fits-with-change, fits-new}
-use Rattle.newt_laws.proofs.Kept.{AllFalse, all-false, on-some, not-none, Wf, Ft, Every, media-more, media-both, same-units, on_units, changed-units, wf-soup, entry-valid, wf-entry, wf-add, new-entry, set-entry, patched-good, patched-pages, or-left, or-right, there}
+use Rattle.newt_laws.proofs.Kept.{AllFalse, on-some, not-none, Wf, Every, same-units, on_units, changed-units, wf-soup, entry-valid, wf-entry, wf-add, new-entry, set-entry, patched-good, or-right}
 
 -- ---- devices
 
@@ -84,7 +74,7 @@ wf-row w (command.Unmount u) all form h = marked Wf w u false all
 wf-row w (command.Soup u name) all form h = change-store (λ _. ⊤) Wf w u (make_soup name) all (inl tt) (λ blocks s has ok.
     let m = mounted-has w u blocks s has h.1.0 in
     with-new-soup name s ok form (no-soup s m) (leb-false 64 (length s.soups) (on-some (mounted_store w u) (λ t. nat_le 64 (length t.soups)) s m h.1.1.1.0))
-      (eqb-false s.next_soup 65535 (on-some (mounted_store w u) (λ t. t.next_soup == 65_535) s m h.1.1.1.1.0)))
+    (eqb-false s.next_soup 65535 (on-some (mounted_store w u) (λ t. t.next_soup == 65_535) s m h.1.1.1.1.0)))
   where
     no-soup : (s : Store) → mounted_store w u ≡ Some s → soup_named name s ≡ None
     no-soup s m = go (soup_named name s) (ap is_some (sym (soup-has w u s name m)) ∙ h.1.1.0)
@@ -95,7 +85,7 @@ wf-row w (command.Soup u name) all form h = change-store (λ _. ⊤) Wf w u (mak
 wf-row w (command.Drop u s) all form h = change-store (λ _. ⊤) Wf w u (drop_soup s) all (inl tt) (λ blocks t has ok. without-soup s t ok)
 wf-row w (command.Index u s parts) all form h = wf-soup w u s (with_index (spec_of_words parts)) all h.1.0 (λ p. refl) (λ p. refl) (λ p found ok.
     with-index (spec_of_words parts) p ok (spec-good parts form) (leb-false 16 (length p.specs) (on-some (soup_in w u s) (λ p. nat_le 16 (length p.specs)) p found h.1.1.1.1.1.0))
-      (ap (λ ps. list_any (λ t. same_paths (paths_of t) ps) p.specs) (parts-same parts) ∙ on-some (soup_in w u s) (λ p. list_any (λ t. same_paths (paths_of t) (map (λ (p : PartWord). p.path) parts)) p.specs) p found h.1.1.1.0))
+    (ap (λ ps. list_any (λ t. same_paths (paths_of t) ps) p.specs) (parts-same parts) ∙ on-some (soup_in w u s) (λ p. list_any (λ t. same_paths (paths_of t) (map (λ (p : PartWord). p.path) parts)) p.specs) p found h.1.1.1.0))
 wf-row w (command.Unindex u s paths) all form h = wf-soup w u s (without_index paths) all h.1.0 (λ p. refl) (λ p. refl) (λ p found ok. without-index paths p ok)
 wf-row w (command.SetTags u s path symbols) all form h = wf-soup w u s (with_tags path symbols) all h.1.0 (λ p. refl) (λ p. refl) (λ p found ok. with-tags path symbols p ok (tags-good path symbols form h.1.1.1.0))
 wf-row w (command.Add u s g) all form h = wf-add w u s w.minute g all h.1.0 h.1.1.1.1.1.0 (λ uid. new-entry g uid w.minute form h.1.1.1.0 h.1.1.1.1.0)

@@ -1,9 +1,9 @@
 -- What holds of all worlds of a run.
-use Rattle.std.proofs.Common.{◌≡◌, refl, ap, sym, ◌∙◌, ℕ, zero, suc, List, [], ◌∷◌, map, subst, option_map, true, false, Bool, IsTrue, cond, Option, Some, None, option_and_then, ◌⊎◌, inl, inr}
+use Rattle.std.proofs.Common.{◌≡◌, refl, ap, sym, ◌∙◌, ℕ, zero, suc, List, [], ◌∷◌, map, subst, option_map, false, IsTrue, cond, Option, Some, None, option_and_then}
 use Rattle.std.specs.Prelude.{slice_get}
 use Rattle.newt_spec_store.specs.Store.{Store}
 use Rattle.newt_spec_world.specs.declared.command.Command.{Command}
-use Rattle.newt_spec_world.specs.World.{World, Device, device, first_world, flat, on_unit, store_if_mounted, store_of}
+use Rattle.newt_spec_world.specs.World.{World, Device, device, first_world, flat, store_if_mounted, store_of}
 use Rattle.newt_spec_store.specs.OfImage.{blocks_of}
 use Rattle.newt_spec_store.specs.Valid.{valid}
 use Rattle.newt_spec_world.specs.First.{unit_numbers, media_of, device_of, unit_of, world_of}

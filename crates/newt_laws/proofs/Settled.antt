@@ -1,17 +1,15 @@
 -- Cursors after a command: what stays settled by itself.
-use Rattle.std.proofs.Common.{arith, ◌≡◌, refl, ap, sym, ◌∙◌, subst, ℕ, zero, suc, ◌+◌, ◌<◌, ◌≤◌, List, [], ◌∷◌, ◌++◌, true, false, Bool, IsTrue, not, ◌&&◌, ◌||◌, ◌⊎◌, inl, inr, cond, Option, Some, None, option_map, option_and_then, unwrap_or, map, filter, length, find, slice_set, ◌==◌, ℤ, pos, negsuc}
+use Rattle.std.proofs.Common.{arith, ◌≡◌, refl, ap, sym, ◌∙◌, subst, ℕ, zero, suc, List, [], ◌∷◌, true, false, Bool, ◌&&◌, inl, inr, cond, Option, Some, None, option_map, unwrap_or, map, filter, find, slice_set, ◌==◌, ℤ, pos, negsuc}
 use Rattle.std.specs.Prelude.{slice_get}
 use Rattle.std.specs.Bool.{⊤}
 use Rattle.std.specs.List.{last_or}
-use Rattle.std.proofs.lemmas.Bool.{eqb-true}
 use Rattle.newt_base.specs.declared.Refusal.{Refusal}
 use Rattle.newt_base.specs.Refusals.{first_of}
-use Rattle.newt_graph.specs.Graph.{RawGraph}
 use Rattle.newt_spec_store.specs.Keys.{IndexSpec, Key}
-use Rattle.newt_spec_query.specs.Hits.{Hit, Query, hits}
-use Rattle.newt_spec_query.specs.Cursor.{Place, start, finish, on, Cursor, settled, hit_at, same_identity, first_place, last_place, next_place, previous_place, moved, repeated, place_at_key, on_or, is_after, is_before}
+use Rattle.newt_spec_query.specs.Hits.{Hit, Query}
+use Rattle.newt_spec_query.specs.Cursor.{Place, start, finish, on, Cursor, settled, same_identity, first_place, last_place, next_place, previous_place, moved, repeated, place_at_key, on_or, is_after, is_before}
 use Rattle.newt_spec_world.specs.declared.command.Command.{Command}
-use Rattle.newt_spec_world.specs.World.{World, settle, settle_cursor, hits_of, flat, change_at, mounted_stores}
+use Rattle.newt_spec_world.specs.World.{World, settle, settle_cursor, hits_of, flat, change_at}
 use Rattle.newt_spec_world.specs.Changed.{changed}
 use Rattle.newt_spec_world.specs.Refused.{checks}
 use Rattle.newt_spec_world.specs.Answer.{answer, answered}
@@ -91,6 +89,7 @@ map-fixed f (Some k ∷ cs) h = (head-same h, map-fixed f cs (tail-same h))
   where
     tail-same : {x y : Option Cursor} {xs ys : List (Option Cursor)} → x ∷ xs ≡ y ∷ ys → xs ≡ ys
     tail-same h = cc
+
     head-same : {x y : Cursor} {xs ys : List (Option Cursor)} → Some x ∷ xs ≡ Some y ∷ ys → x ≡ y
     head-same h = cc
 

@@ -1,16 +1,14 @@
 -- Changes of soups and stores that keep them well formed.
-use Rattle.std.proofs.Common.{arith, ◌≡◌, refl, ap, sym, ◌∙◌, subst, ℕ, zero, suc, ◌+◌, ◌<◌, ◌≤◌, List, [], ◌∷◌, ◌++◌, true, false, Bool, IsTrue, not, ◌&&◌, ◌||◌, ◌⊎◌, inl, inr, cond, Option, Some, None, option_map, map, filter, length, find, nat_le, nat_lt, ◌==◌}
+use Rattle.std.proofs.Common.{arith, ◌≡◌, refl, ap, ◌∙◌, ℕ, ◌+◌, ◌<◌, ◌≤◌, List, [], ◌∷◌, ◌++◌, true, false, Bool, not, ◌||◌, cond, Some, None, map, filter, length, find, nat_le, ◌==◌}
 use Rattle.std.specs.List.{list_all, list_any}
 use Rattle.newt_base.specs.Names.{equal_text, same_name}
 use Rattle.newt_graph.specs.Graph.{RawGraph}
 use Rattle.newt_spec_store.specs.Keys.{Path, IndexSpec, paths_of, same_paths}
-use Rattle.newt_spec_store.specs.Store.{Store, Soup, Entry, TagTable, soup_named, entry_of, change_first, change_soup, change_entry, make_soup, drop_soup, add_entry, remove_entry}
+use Rattle.newt_spec_store.specs.Store.{Store, Soup, Entry, soup_named, entry_of, change_first, change_soup, change_entry, make_soup, drop_soup, add_entry, remove_entry}
 use Rattle.newt_base.specs.Names.{is_name}
 use Rattle.newt_spec_graph.specs.Lists.{all_apart, rises}
 use Rattle.newt_spec_store.specs.Valid.{well_formed, valid_soup, valid_entry, valid_spec, valid_tags}
 use Rattle.newt_spec_world.specs.Changed.{with_index, without_index, with_tags, new_store}
-use Rattle.newt_spec_graph.specs.Lists.{Each, Among}
-use Rattle.newt_spec_graph.proofs.Lists.{each-list_all, list_all-each}
 
 -- ---- lists
 
@@ -20,8 +18,8 @@ first-all good test change [] h k = refl
 first-all good test change (x ∷ xs) h k = go (first-all good test change xs) (test x) k
   where
     go : (list_all good xs ≡ true → ((y : _) → find test xs ≡ Some y → good y ≡ true → good (change y) ≡ true) → list_all good (change_first test change xs) ≡ true)
-      → (b : Bool) → ((y : _) → cond b (Some x) (find test xs) ≡ Some y → good y ≡ true → good (change y) ≡ true)
-      → list_all good (cond b (change x ∷ xs) (x ∷ change_first test change xs)) ≡ true
+        → (b : Bool) → ((y : _) → cond b (Some x) (find test xs) ≡ Some y → good y ≡ true → good (change y) ≡ true)
+        → list_all good (cond b (change x ∷ xs) (x ∷ change_first test change xs)) ≡ true
     go more true k = grind (arith, k x refl (grind arith))
     go more false k = grind (arith, more (grind arith) k)
 
@@ -70,7 +68,7 @@ filter-apart same g test [] h = refl
 filter-apart same g test (x ∷ xs) h = go (filter-apart same g test xs (grind arith)) (filter-none (same (g x)) g test xs (grind arith)) (test x)
   where
     go : all_apart same (map g (filter test xs)) ≡ true → list_any (same (g x)) (map g (filter test xs)) ≡ false → (b : Bool)
-      → all_apart same (map g (cond b (x ∷ filter test xs) (filter test xs))) ≡ true
+        → all_apart same (map g (cond b (x ∷ filter test xs) (filter test xs))) ≡ true
     go more none true = grind arith
     go more none false = more
 
@@ -85,6 +83,7 @@ filter-rises g test low high (x ∷ xs) h =
   where
     le : low ≤ g x + 1
     le = grind arith
+
     go : rises (g x + 1) high (map g (filter test xs)) ≡ true → (b : Bool) → rises low high (map g (cond b (x ∷ filter test xs) (filter test xs))) ≡ true
     go more true = grind arith
     go more false = rises-lower (g x + 1) low high (map g (filter test xs)) le more
@@ -142,7 +141,14 @@ pub record IsSoup (p : Soup) : Type 0 where
 
 pub is-soup : (p : Soup) → valid_soup p ≡ true → IsSoup p
 is-soup p h = record {
-  named = grind arith; next = grind arith; uids = grind arith; count = grind arith; specs_fit = grind arith; specs_apart = grind arith; tags_fit = grind arith; entries_fit = grind arith;
+  named = grind arith;
+  next = grind arith;
+  uids = grind arith;
+  count = grind arith;
+  specs_fit = grind arith;
+  specs_apart = grind arith;
+  tags_fit = grind arith;
+  entries_fit = grind arith;
 }
 
 pub soup-is : (p : Soup) → IsSoup p → valid_soup p ≡ true
@@ -151,39 +157,76 @@ soup-is p r = grind (arith, r.named, r.next, r.uids, r.count, r.specs_fit, r.spe
 pub with-index : (spec : IndexSpec) (p : Soup) → valid_soup p ≡ true → valid_spec spec ≡ true → length p.specs < 16
     → list_any (λ t. same_paths (paths_of t) (paths_of spec)) p.specs ≡ false → valid_soup (with_index spec p) ≡ true
 with-index spec p h fits room new = let r = is-soup p h in soup-is (with_index spec p) (record {
-  named = r.named; next = r.next; uids = r.uids; count = omega (arith, push-length p.specs spec, room); specs_fit = push-all valid_spec p.specs spec r.specs_fit fits;
-  specs_apart = push-apart same_paths paths_of p.specs spec r.specs_apart new; tags_fit = r.tags_fit; entries_fit = r.entries_fit;
+  named = r.named;
+  next = r.next;
+  uids = r.uids;
+  count = omega (arith, push-length p.specs spec, room);
+  specs_fit = push-all valid_spec p.specs spec r.specs_fit fits;
+  specs_apart = push-apart same_paths paths_of p.specs spec r.specs_apart new;
+  tags_fit = r.tags_fit;
+  entries_fit = r.entries_fit;
 })
 
 pub without-index : (paths : List Path) (p : Soup) → valid_soup p ≡ true → valid_soup (without_index paths p) ≡ true
 without-index paths p h = let r = is-soup p h in soup-is (without_index paths p) (record {
-  named = r.named; next = r.next; uids = r.uids; count = omega (arith, filter-length (λ spec. not (same_paths (paths_of spec) paths)) p.specs, r.count);
-  specs_fit = filter-all valid_spec _ p.specs r.specs_fit; specs_apart = filter-apart same_paths paths_of _ p.specs r.specs_apart; tags_fit = r.tags_fit; entries_fit = r.entries_fit;
+  named = r.named;
+  next = r.next;
+  uids = r.uids;
+  count = omega (arith, filter-length (λ spec. not (same_paths (paths_of spec) paths)) p.specs, r.count);
+  specs_fit = filter-all valid_spec _ p.specs r.specs_fit;
+  specs_apart = filter-apart same_paths paths_of _ p.specs r.specs_apart;
+  tags_fit = r.tags_fit;
+  entries_fit = r.entries_fit;
 })
 
 pub with-tags : (path : Path) (symbols : List (List ℕ)) (p : Soup) → valid_soup p ≡ true → valid_tags (Some (record { path = path; symbols = symbols })) ≡ true
     → valid_soup (with_tags path symbols p) ≡ true
 with-tags path symbols p h fits = let r = is-soup p h in soup-is (with_tags path symbols p) (record {
-  named = r.named; next = r.next; uids = r.uids; count = r.count; specs_fit = r.specs_fit; specs_apart = r.specs_apart; tags_fit = fits; entries_fit = r.entries_fit;
+  named = r.named;
+  next = r.next;
+  uids = r.uids;
+  count = r.count;
+  specs_fit = r.specs_fit;
+  specs_apart = r.specs_apart;
+  tags_fit = fits;
+  entries_fit = r.entries_fit;
 })
 
 pub with-entry : (time : ℕ) (g : RawGraph) (p : Soup) → valid_soup p ≡ true → (p.next_uid ≡ 536870911 → ⊥)
     → valid_entry (record { uid = p.next_uid; time = time; graph = g }) ≡ true → valid_soup (add_entry time g p) ≡ true
 with-entry time g p h room fits = let r = is-soup p h in soup-is (add_entry time g p) (record {
-  named = r.named; next = grind (arith, room, r.next); uids = push-rises (λ (e : Entry). e.uid) 0 p.next_uid p.entries _ (omega arith) refl r.uids; count = r.count; specs_fit = r.specs_fit; specs_apart = r.specs_apart; tags_fit = r.tags_fit;
+  named = r.named;
+  next = grind (arith, room, r.next);
+  uids = push-rises (λ (e : Entry). e.uid) 0 p.next_uid p.entries _ (omega arith) refl r.uids;
+  count = r.count;
+  specs_fit = r.specs_fit;
+  specs_apart = r.specs_apart;
+  tags_fit = r.tags_fit;
   entries_fit = push-all valid_entry p.entries _ r.entries_fit fits;
 })
 
 pub with-change : (uid : ℕ) (f : Entry → Entry) (p : Soup) → valid_soup p ≡ true → ((e : Entry) → (f e).uid ≡ e.uid)
     → ((e : Entry) → entry_of uid p ≡ Some e → valid_entry e ≡ true → valid_entry (f e) ≡ true) → valid_soup (change_entry uid f p) ≡ true
 with-change uid f p h same fits = let r = is-soup p h in soup-is (change_entry uid f p) (record {
-  named = r.named; next = r.next; uids = ap (rises 0 p.next_uid) (first-map (λ (e : Entry). e.uid) (λ e. e.uid == uid) f p.entries same) ∙ r.uids; count = r.count; specs_fit = r.specs_fit; specs_apart = r.specs_apart; tags_fit = r.tags_fit;
+  named = r.named;
+  next = r.next;
+  uids = ap (rises 0 p.next_uid) (first-map (λ (e : Entry). e.uid) (λ e. e.uid == uid) f p.entries same) ∙ r.uids;
+  count = r.count;
+  specs_fit = r.specs_fit;
+  specs_apart = r.specs_apart;
+  tags_fit = r.tags_fit;
   entries_fit = first-all valid_entry (λ e. e.uid == uid) f p.entries r.entries_fit fits;
 })
 
 pub without-entry : (uid : ℕ) (p : Soup) → valid_soup p ≡ true → valid_soup (remove_entry uid p) ≡ true
 without-entry uid p h = let r = is-soup p h in soup-is (remove_entry uid p) (record {
-  named = r.named; next = r.next; uids = filter-rises (λ (e : Entry). e.uid) _ 0 p.next_uid p.entries r.uids; count = r.count; specs_fit = r.specs_fit; specs_apart = r.specs_apart; tags_fit = r.tags_fit;
+  named = r.named;
+  next = r.next;
+  uids = filter-rises (λ (e : Entry). e.uid) _ 0 p.next_uid p.entries r.uids;
+  count = r.count;
+  specs_fit = r.specs_fit;
+  specs_apart = r.specs_apart;
+  tags_fit = r.tags_fit;
   entries_fit = filter-all valid_entry _ p.entries r.entries_fit;
 })
 
@@ -207,7 +250,10 @@ store-is s r = grind (arith, r.named, r.sig_fits, r.next, r.count, r.sigs, r.nam
 pub with-soup : (name : List ℕ) (f : Soup → Soup) (s : Store) → well_formed s ≡ true → ((p : Soup) → (f p).name ≡ p.name) → ((p : Soup) → (f p).sig ≡ p.sig)
     → ((p : Soup) → soup_named name s ≡ Some p → valid_soup p ≡ true → valid_soup (f p) ≡ true) → well_formed (change_soup name f s) ≡ true
 with-soup name f s h same_name same_sig fits = let r = is-store s h in store-is (change_soup name f s) (record {
-  named = r.named; sig_fits = r.sig_fits; next = r.next; count = omega (arith, first-length (λ p. equal_text p.name name) f s.soups, r.count);
+  named = r.named;
+  sig_fits = r.sig_fits;
+  next = r.next;
+  count = omega (arith, first-length (λ p. equal_text p.name name) f s.soups, r.count);
   sigs = ap (rises 0 s.next_soup) (first-map (λ (p : Soup). p.sig) _ f s.soups same_sig) ∙ r.sigs;
   names_apart = ap (all_apart equal_text) (first-map (λ (p : Soup). p.name) _ f s.soups same_name) ∙ r.names_apart;
   soups_fit = first-all valid_soup _ f s.soups r.soups_fit fits;
@@ -216,7 +262,10 @@ with-soup name f s h same_name same_sig fits = let r = is-store s h in store-is 
 pub with-new-soup : (name : List ℕ) (s : Store) → well_formed s ≡ true → is_name name ≡ true → soup_named name s ≡ None → length s.soups < 64 → (s.next_soup ≡ 65535 → ⊥)
     → well_formed (make_soup name s) ≡ true
 with-new-soup name s h good new room ids = let r = is-store s h in store-is (make_soup name s) (record {
-  named = r.named; sig_fits = r.sig_fits; next = grind (arith, ids, r.next); count = omega (arith, push-length s.soups (record { name = name; sig = s.next_soup; next_uid = 0; specs = []; tags = None; entries = [] }), room);
+  named = r.named;
+  sig_fits = r.sig_fits;
+  next = grind (arith, ids, r.next);
+  count = omega (arith, push-length s.soups (record { name = name; sig = s.next_soup; next_uid = 0; specs = []; tags = None; entries = [] }), room);
   sigs = push-rises (λ (p : Soup). p.sig) 0 s.next_soup s.soups _ (omega arith) refl r.sigs;
   names_apart = push-apart equal_text (λ (p : Soup). p.name) s.soups _ r.names_apart (find-none (λ p. equal_text p.name name) s.soups new);
   soups_fit = push-all valid_soup s.soups _ r.soups_fit (grind (arith, good));
@@ -224,7 +273,10 @@ with-new-soup name s h good new room ids = let r = is-store s h in store-is (mak
 
 pub without-soup : (name : List ℕ) (s : Store) → well_formed s ≡ true → well_formed (drop_soup name s) ≡ true
 without-soup name s h = let r = is-store s h in store-is (drop_soup name s) (record {
-  named = r.named; sig_fits = r.sig_fits; next = r.next; count = omega (arith, filter-length (λ p. not (equal_text p.name name)) s.soups, r.count);
+  named = r.named;
+  sig_fits = r.sig_fits;
+  next = r.next;
+  count = omega (arith, filter-length (λ p. not (equal_text p.name name)) s.soups, r.count);
   sigs = filter-rises (λ (p : Soup). p.sig) _ 0 s.next_soup s.soups r.sigs;
   names_apart = filter-apart equal_text (λ (p : Soup). p.name) _ s.soups r.names_apart;
   soups_fit = filter-all valid_soup _ s.soups r.soups_fit;

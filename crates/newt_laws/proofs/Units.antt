@@ -1,11 +1,10 @@
 -- What a change of one unit leaves of the others.
-use Rattle.std.proofs.Common.{arith, ◌≡◌, refl, ap, sym, ◌∙◌, subst, ℕ, zero, suc, ◌+◌, ◌<◌, ◌≤◌, List, [], ◌∷◌, true, false, Bool, IsTrue, ◌⊎◌, inl, inr, cond, Option, Some, None, option_map, option_and_then, eqb}
+use Rattle.std.proofs.Common.{◌≡◌, refl, ap, sym, ◌∙◌, subst, ℕ, zero, suc, List, [], ◌∷◌, true, false, Bool, ◌⊎◌, inl, inr, cond, Option, Some, None, option_map, option_and_then, eqb}
 use Rattle.std.specs.Prelude.{slice_get}
 use Rattle.std.specs.Option.{is_none}
-use Rattle.std.specs.Bool.{⊤}
 use Rattle.std.proofs.lemmas.Bool.{eqb-true, eqb-false}
-use Rattle.newt_spec_store.specs.Store.{Store, Soup, Entry, soup_named, entry_of, change_soup}
-use Rattle.newt_spec_world.specs.World.{World, Device, Media, blank, one, device, store_of, store_if_mounted, mounted_store, soup_in, entry_in, flat, change_at, change_device, change_store, change_media, change_soup_in}
+use Rattle.newt_spec_store.specs.Store.{Store, Soup, soup_named, entry_of}
+use Rattle.newt_spec_world.specs.World.{World, Device, Media, blank, one, device, store_of, store_if_mounted, mounted_store, soup_in, entry_in, flat, change_at, change_device, change_store, change_media}
 use Rattle.newt_laws.specs.Worlds.{OnMedia, OnUnits}
 use Rattle.newt_spec_graph.proofs.Lists.{some-same, none-some}
 
@@ -99,6 +98,7 @@ has-mounted w u s h = go (device w u) refl h
     media : (m : Media) → store_of m ≡ Some s → m ≡ one s
     media blank e = absurd (none-some s e)
     media (one t) e = ap one (some-same t s e)
+
     go : (o : Option Device) → device w u ≡ o → option_and_then store_if_mounted o ≡ Some s → (blocks : ℕ) × Has w u blocks s
     go None e k = absurd (none-some s k)
     go (Some d) e k = (d.blocks, record { on = d; is = e; has = on_it d.mounted k; of = refl })

@@ -1,5 +1,5 @@
 -- What a hit of a query is.
-use Rattle.std.specs.Prelude.{◌≡◌, ℕ, List, IsTrue, Some}
+use Rattle.std.specs.Prelude.{◌≡◌, List, IsTrue, Some}
 use Rattle.newt_base.specs.Names.{equal_text}
 use Rattle.newt_spec_store.specs.Keys.{key}
 use Rattle.newt_spec_store.specs.Store.{Entry, Soup, Store}

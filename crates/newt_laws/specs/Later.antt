@@ -1,5 +1,5 @@
 -- What a later world has of the stores of an earlier one.
-use Rattle.std.specs.Prelude.{◌≡◌, ℕ, ◌<◌, ◌≤◌, Option, Some, ◌⊎◌}
+use Rattle.std.specs.Prelude.{◌≡◌, ℕ, ◌<◌, ◌≤◌, Some, ◌⊎◌}
 use Rattle.newt_spec_store.specs.Store.{Store, Soup, Entry}
 use Rattle.newt_spec_world.specs.World.{World, store_on_unit}
 use Rattle.newt_spec_graph.specs.Lists.{Among}

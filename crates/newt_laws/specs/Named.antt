@@ -1,6 +1,6 @@
 -- What an alias names.
-use Rattle.std.specs.Prelude.{◌≡◌, ℕ, Option, Some}
-use Rattle.newt_spec_store.specs.Store.{Store, Soup, Entry}
+use Rattle.std.specs.Prelude.{◌≡◌, Some}
+use Rattle.newt_spec_store.specs.Store.{Store}
 use Rattle.newt_spec_world.specs.World.{World, mounted_store}
 use Rattle.newt_spec_world.specs.Alias.{Alias, Spot}
 use Rattle.newt_spec_graph.specs.Lists.{Among}

@@ -1,6 +1,5 @@
 -- Worlds whose cursors show the present keys.
 use Rattle.std.specs.Prelude.{◌≡◌, Bool, true, false}
-use Rattle.newt_spec_store.specs.Store.{Store}
 use Rattle.newt_spec_world.specs.declared.command.Command.{Command}
 use Rattle.newt_spec_world.specs.declared.command.Command.TheVariants as command
 use Rattle.newt_spec_world.specs.World.{World, settle, mounted_stores}

@@ -1,8 +1,7 @@
 -- What holds of worlds, and of the commands that they are asked.
-use Rattle.std.specs.Prelude.{◌≡◌, ℕ, Bool, true, false, ◌&&◌, nat_le, IsTrue, List, length, map, Option, Some, None, ⊤}
+use Rattle.std.specs.Prelude.{◌≡◌, ℕ, Bool, true, ◌&&◌, nat_le, IsTrue, List, length, Some, ⊤}
 use Rattle.std.specs.List.{list_all}
 use Rattle.newt_base.specs.Names.{is_name, same_name}
-use Rattle.newt_graph.specs.Graph.{RawGraph}
 use Rattle.newt_spec_graph.specs.Limits.{within_limits}
 use Rattle.newt_spec_store.specs.Store.{Store}
 use Rattle.newt_spec_graph.specs.Lists.{all_apart}

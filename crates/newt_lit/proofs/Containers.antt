@@ -1,6 +1,6 @@
 -- What a text writes down of arrays and frames, where it writes down their values.
-use Rattle.std.proofs.Common.{◌≡◌, ◌≢◌, ℕ, zero, suc, ◌+◌, ◌<◌, ◌≤◌, Bool, true, false, cond, eqb, List, [], ◌∷◌, ◌++◌, length, map, take, get_or, Option, Some, None, refl, sym, ap, ◌∙◌, subst, append_assoc, arith, inl, inr, ◌⊎◌, All, AllPairs}
-use Rattle.std.specs.Prelude.{slice_get, zip, codes, not, ◌&&◌, IsTrue}
+use Rattle.std.proofs.Common.{◌≡◌, ◌≢◌, ℕ, zero, suc, ◌+◌, ◌≤◌, Bool, true, false, eqb, List, [], ◌∷◌, ◌++◌, length, map, take, Option, Some, None, refl, sym, ap, ◌∙◌, subst, append_assoc, arith, All, AllPairs}
+use Rattle.std.specs.Prelude.{slice_get, zip, codes}
 use Rattle.std.specs.List.{sum_by, list_any}
 use Rattle.std.proofs.lemmas.Bool.{le-leb}
 use Rattle.std.proofs.lemmas.List.{append-nil}
@@ -10,19 +10,18 @@ use Rattle.newt_graph.specs.declared.node.Node.{Node}
 use Rattle.newt_graph.specs.declared.node.Node.TheVariants as nodes
 use Rattle.newt_graph.specs.declared.node.Ref.{Ref}
 use Rattle.newt_graph.specs.declared.node.Ref.TheVariants as refs
-use Rattle.newt_graph.specs.Graph.{IsNamed, IsSymbol, IsFrame, payload}
-use Rattle.newt_graph.specs.Draft.{is_small}
-use Rattle.newt_lit.specs.Built.{Built, symbol_in, held, filled, all_distinct, tags_of, values_of}
+use Rattle.newt_graph.specs.Graph.{IsSymbol, IsFrame, payload}
+use Rattle.newt_lit.specs.Built.{Built, all_distinct, tags_of, values_of}
 use Rattle.newt_lit.specs.Grammar.{Mark, Tag, Kind, Class, Field, Object, Form, Array, Frame, Value}
-use Rattle.newt_lit.specs.Spelling.{Spelling, plain, ◌then◌}
-use Rattle.newt_lit.specs.Printed.{name_text, symbol_text, class_text, field_text, list_text, value_at, is_symbol, label_of}
+use Rattle.newt_lit.specs.Spelling.{plain, ◌then◌}
+use Rattle.newt_lit.specs.Printed.{name_text, symbol_text, class_text, field_text, list_text, value_at, label_of}
 use Rattle.newt_lit.proofs.Images.{RefStands, ClassStands, Both, Leads, NodeStands, ref_keeps, class_keeps}
 use Rattle.newt_lit.proofs.Lists.{get_left}
-use Rattle.newt_lit.proofs.Objects.{IsPrinted, ObjectKind, ObjectWrote, Closed, closed, name_of, take_more, take_mono}
-use Rattle.newt_lit.proofs.Rows.{Ready, Wrote, Chain, Writer, lead, several_wrote}
+use Rattle.newt_lit.proofs.Objects.{IsPrinted, ObjectKind, ObjectWrote, closed, name_of, take_mono}
+use Rattle.newt_lit.proofs.Rows.{Ready, Chain, Writer, lead, several_wrote}
 use Rattle.newt_lit.proofs.Stands.{Stands, raise, any_at}
 use Rattle.newt_lit.proofs.Tokens.{name_token}
-use Rattle.newt_lit.proofs.Transitions.{SymbolIn, symbol_stands, marked, Opened, opened}
+use Rattle.newt_lit.proofs.Transitions.{symbol_stands, marked, opened}
 use Rattle.newt_lit.proofs.Walked.{Between}
 
 -- ---- values and fields at every level
@@ -154,10 +153,10 @@ module _ (graph : List Node) (labels : List (Option ℕ)) (p : IsPrinted graph l
       let list = list_text 93 (map (value_at graph labels (suc room)) values) (met + 1) in
       let size : length w.x ≡ length values = both_length w.back in
       let f = closed graph labels p met after_met list.1 seen (c.extra ++ w.extra) open_nodes w.after (length b.nodes) (nodes.Array c.got w.x) (nodes.Array class values) here refl refl
-          (subst (λ (l : List ℕ). Stands graph labels after_met l (met ∷ open_nodes) w.after) same w.ready.stands)
-          (get_left (seen ++ met ∷ []) (c.extra ++ w.extra) (length b.nodes) met o.place)
-          (subst (λ (l : List ℕ). NodeStands l (nodes.Array c.got w.x) (nodes.Array class values)) same (NodeStands.array (class_keeps w.extra c.back) w.back))
-          (le-leb (length w.x) 65535 (omega (arith, few, size))) w.ready.agrees (omega (arith, w.ready.light)) in
+      (subst (λ (l : List ℕ). Stands graph labels after_met l (met ∷ open_nodes) w.after) same w.ready.stands)
+      (get_left (seen ++ met ∷ []) (c.extra ++ w.extra) (length b.nodes) met o.place)
+      (subst (λ (l : List ℕ). NodeStands l (nodes.Array c.got w.x) (nodes.Array class values)) same (NodeStands.array (class_keeps w.extra c.back) w.back))
+      (le-leb (length w.x) 65535 (omega (arith, few, size))) w.ready.agrees (omega (arith, w.ready.light)) in
       let text : 91 ∷ (class_tag class ++ lead (is_some class) values list.0) ≡ (91 ∷ class_text graph class values) ++ list.0 = ap (λ (t : List ℕ). 91 ∷ t) (class_before class values list.0) in
       record {
         after = f.after;
@@ -206,17 +205,17 @@ module _ (graph : List Node) (labels : List (Option ℕ)) (p : IsPrinted graph l
       let o = opened graph labels p.apart met (nodes.Frame tags values) seen open_nodes b p.limit here refl s in
       let seen_o = seen ++ met ∷ [] in
       let w = several_wrote graph labels (ℕ × Ref) (ℕ × Ref) (FieldKind room) (field_text graph (value_at graph labels (suc room))) FieldStands (blank_field room) keeps_field 125 false
-          (fields_chain room chain tags rules.paired rules.symbols) (met + 1) seen_o (met ∷ open_nodes) o.after (record {
-            stands = raise graph labels (met + 1) mid seen_o (met ∷ open_nodes) o.after between o.stands;
-            agrees = between;
-            light = omega (arith, o.weight, light, take_mono graph met mid (omega (arith, between.le)));
-          }) in
+      (fields_chain room chain tags rules.paired rules.symbols) (met + 1) seen_o (met ∷ open_nodes) o.after (record {
+        stands = raise graph labels (met + 1) mid seen_o (met ∷ open_nodes) o.after between o.stands;
+        agrees = between;
+        light = omega (arith, o.weight, light, take_mono graph met mid (omega (arith, between.le)));
+      }) in
       let list = list_text 125 (map (field_text graph (value_at graph labels (suc room))) (zip tags values)) (met + 1) in
       let parts = both_tags (seen_o ++ w.extra) w.x tags values rules.paired w.back in
       let node = nodes.Frame (tags_of w.x) (values_of w.x) in
       let size : length (tags_of w.x) ≡ length tags = both_length parts.0 in
       let f = closed graph labels p met after_met list.1 seen w.extra open_nodes w.after (length b.nodes) node (nodes.Frame tags values) here refl refl w.ready.stands
-          (get_left seen_o w.extra (length b.nodes) met o.place) (NodeStands.frame parts.0 parts.1) (le-leb (length (tags_of w.x)) 65535 (omega (arith, size, rules.are_tags.few))) w.ready.agrees (omega (arith, w.ready.light)) in
+      (get_left seen_o w.extra (length b.nodes) met o.place) (NodeStands.frame parts.0 parts.1) (le-leb (length (tags_of w.x)) 65535 (omega (arith, size, rules.are_tags.few))) w.ready.agrees (omega (arith, w.ready.light)) in
       record {
         after = f.after;
         extra = w.extra;

@@ -1,5 +1,5 @@
 -- Graphs and their texts, computed.
-use Rattle.std.specs.Prelude.{◌≡◌, refl, ℕ, ◌+◌, ◌*◌, List, [], ◌∷◌, codes, Option, Some, None, ℤ, pos, negsuc}
+use Rattle.std.specs.Prelude.{◌≡◌, refl, ◌+◌, ◌*◌, List, [], ◌∷◌, codes, Some, None, ℤ, pos, negsuc}
 use Rattle.std.specs.Fmt.{digits}
 use Rattle.newt_graph.specs.declared.node.Node.{Node}
 use Rattle.newt_graph.specs.declared.node.Node.TheVariants.{Symbol, Str, Binary, Large, Array, Frame}

@@ -1,15 +1,15 @@
 -- The labels of a graph: which objects have one, how great it is, and that no two have the same.
-use Rattle.std.proofs.Common.{◌≡◌, ℕ, zero, suc, ◌+◌, ◌<◌, ◌≤◌, Bool, true, false, List, [], ◌∷◌, length, get_or, Option, Some, None, refl, sym, ap, ◌∙◌, subst, arith, add-zero, zero-add}
-use Rattle.std.specs.Prelude.{slice_get, flat_map, nat_lt, not, ◌&&◌}
+use Rattle.std.proofs.Common.{◌≡◌, ℕ, zero, suc, ◌+◌, ◌≤◌, Bool, true, false, List, [], ◌∷◌, length, get_or, Some, None, refl, sym, ap, ◌∙◌, subst, arith, add-zero, zero-add}
+use Rattle.std.specs.Prelude.{slice_get, flat_map, nat_lt}
 use Rattle.std.proofs.lemmas.Bool.{lt-ltb, le-ltb}
 use Rattle.std.proofs.lemmas.Option.{slice_get_within, get_or_from_slice_get}
 use Rattle.newt_graph.specs.declared.node.Node.{Node}
 use Rattle.newt_graph.specs.declared.node.Ref.{Ref}
 use Rattle.newt_graph.specs.Graph.{RawGraph, IsGraph, IsNode}
-use Rattle.newt_lit.specs.Printed.{is_symbol, is_shared, labels_from, labels, label_of, references}
+use Rattle.newt_lit.specs.Printed.{is_shared, labels_from, labels, label_of, references}
 use Rattle.newt_lit.proofs.Options.{some_is}
 use Rattle.newt_lit.proofs.Walked.{Told, parts, count, count_cons}
-use Rattle.newt_lit.proofs.Telling.{AreLabelled, Placed, told}
+use Rattle.newt_lit.proofs.Telling.{AreLabelled, told}
 
 -- a shared object has a label
 some_label : (rs : List Ref) (next n : ℕ) (nodes : List Node) (i : ℕ) (node : Node) → slice_get nodes i ≡ Some node → is_shared rs (n + i) node ≡ true → (l : ℕ) × (get_or (labels_from rs next n nodes) i None ≡ Some l)

@@ -1,24 +1,29 @@
 -- The printed text of a graph reads as that graph.
-use Rattle.std.proofs.Common.{◌≡◌, ◌≢◌, ℕ, zero, suc, ◌+◌, ◌<◌, ◌≤◌, Bool, true, false, cond, eqb, List, [], ◌∷◌, ◌++◌, length, map, get_or, Option, Some, None, refl, sym, ap, ◌∙◌, subst, arith, inl, inr, ◌⊎◌, add-zero, zero-add, AllPairs}
+use Rattle.std.proofs.Common.{◌≡◌, ℕ, zero, suc, ◌+◌, ◌<◌, ◌≤◌, Bool, true, false, cond, eqb, List, [], ◌∷◌, ◌++◌, length, map, get_or, Option, Some, refl, sym, ap, ◌∙◌, subst, arith, inl, inr, add-zero, zero-add}
 use Rattle.std.specs.Prelude.{slice_get, flat_map}
 use Rattle.std.specs.List.{range_with_len}
-use Rattle.std.proofs.lemmas.Bool.{eqb-true, eqb-false, eq-eqb, ne_eqb}
+use Rattle.std.specs.Str.{chars, IsAscii}
+use Rattle.std.proofs.lemmas.Bool.{eqb-true, eq-eqb, ne_eqb}
 use Rattle.std.proofs.lemmas.List.{append-nil, length-map}
+use Rattle.std.proofs.lemmas.List.Elements.{All-weaker}
+use Rattle.std.proofs.lemmas.Str.{chars-IsAscii}
+use Rattle.std.proofs.lemmas.Str.Ascii.{IsAscii-from_all}
 use Rattle.std.proofs.lemmas.Option.{slice_get_cases, slice_get_within}
 use Rattle.newt_graph.specs.declared.node.Node.{Node}
 use Rattle.newt_graph.specs.declared.node.Node.TheVariants as nodes
 use Rattle.newt_graph.specs.declared.node.Ref.{Ref}
 use Rattle.newt_graph.specs.declared.node.Ref.TheVariants as refs
-use Rattle.newt_graph.specs.Graph.{RawGraph, IsGraph, IsNamed}
-use Rattle.newt_graph.specs.Raw.{renamed, renamed_ref, renamed_class, IsSeenBy, IsNormalForm}
+use Rattle.newt_graph.specs.Graph.{RawGraph, IsGraph}
+use Rattle.newt_graph.specs.Raw.{renamed, renamed_ref, renamed_class, IsSeenBy}
 use Rattle.newt_lit.specs.Built.{Built}
-use Rattle.newt_lit.specs.Grammar.{Writes, Reads, Value}
-use Rattle.newt_lit.specs.Printed.{leads_to, is_symbol, labels, literal, value_at}
+use Rattle.newt_lit.specs.Grammar.{Reads, Value}
+use Rattle.newt_lit.specs.Printed.{is_symbol, labels, literal}
 use Rattle.newt_lit.proofs.Images.{RefStands, ClassStands, Both, Leads, NodeStands}
 use Rattle.newt_lit.proofs.Labels.{graph_told, node_rules, labels_apart, label_le}
 use Rattle.newt_lit.proofs.Law.{told_writes}
 use Rattle.newt_lit.proofs.Lists.{get_either}
 use Rattle.newt_lit.proofs.Objects.{IsPrinted}
+use Rattle.newt_lit.proofs.Plain.{literal_plain}
 use Rattle.newt_lit.proofs.Stands.{Stands}
 use Rattle.newt_lit.proofs.Telling.{symbol_is}
 use Rattle.newt_lit.proofs.Walked.{parts, count, count_cons, count_append, named}
@@ -264,9 +269,9 @@ module _ (g : RawGraph) (is : IsGraph g) (w : Written g) where
   seen_by = record {
     root = ref_back w.seen number back w.back;
     nodes = same_along (λ node. Some (renamed number node)) (λ k. slice_get w.after.nodes (place w.seen k)) g.nodes 0 (λ k node here.
-    let c = covered k (slice_get_within g.nodes k node here) in
-    let i = image c.0 k node c.1 here in
-    ap (λ (x : Node). Some x) (node_back w.seen number back i.2) ∙ sym i.1 ∙ ap (slice_get w.after.nodes) (sym (ap (place w.seen) (zero-add k) ∙ place_is c.0 k c.1)))
+        let c = covered k (slice_get_within g.nodes k node here) in
+        let i = image c.0 k node c.1 here in
+        ap (λ (x : Node). Some x) (node_back w.seen number back i.2) ∙ sym i.1 ∙ ap (slice_get w.after.nodes) (sym (ap (place w.seen) (zero-add k) ∙ place_is c.0 k c.1)))
         ∙ sym (map_map (slice_get w.after.nodes) (place w.seen) (range_with_len 0 (length g.nodes)));
     once = λ i j d lt within same.
         let size : length order ≡ length g.nodes = length-map (range_with_len 0 (length g.nodes)) (place w.seen) ∙ length_range 0 (length g.nodes) in
@@ -294,3 +299,9 @@ module _ (g : RawGraph) (is : IsGraph g) (w : Written g) where
 -- the printed text of a graph is a literal of this graph
 pub literal_reads : (g : RawGraph) → IsGraph g → Reads (literal g) g
 literal_reads g is = reads_from g is (written g is)
+
+-- so it is read, also as the characters of its bytes
+pub text_reads : (g : RawGraph) → IsGraph g → Reads (chars (literal g)) g
+text_reads g is =
+    let ascii : IsAscii (literal g) = IsAscii-from_all (literal g) (All-weaker (λ c. (32 ≤ c) × (c < 127)) (λ c. c < 128) (λ c h. omega (arith, h.1)) (literal g) (literal_plain g is)) in
+    subst (λ (text : List ℕ). Reads text g) (sym (chars-IsAscii (literal g) ascii)) (literal_reads g is)

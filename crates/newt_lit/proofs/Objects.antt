@@ -1,9 +1,8 @@
 -- What a text writes down of an object: strings and binaries, and what containers have around their values.
-use Rattle.std.proofs.Common.{◌≡◌, ◌≢◌, ℕ, zero, suc, ◌+◌, ◌*◌, ◌<◌, ◌≤◌, Bool, true, false, cond, ltb, eqb, leb, List, [], ◌∷◌, ◌++◌, length, map, take, get_or, Option, Some, None, refl, sym, ap, ◌∙◌, subst, append_assoc, arith, inl, inr, ◌⊎◌, AllPairs, add-one}
-use Rattle.std.specs.Prelude.{slice_get, zip, codes, not, ◌&&◌, ◌||◌}
-use Rattle.std.specs.List.{sum_by, list_any}
-use Rattle.std.proofs.lemmas.Bool.{lt-ltb, le-ltb, le-leb, ltb-true, ltb-false, ne_eqb, eqb-true, eqb-false, eq-eqb}
-use Rattle.std.proofs.lemmas.List.{append-nil}
+use Rattle.std.proofs.Common.{◌≡◌, ℕ, zero, suc, ◌+◌, ◌*◌, ◌≤◌, true, false, List, [], ◌∷◌, ◌++◌, length, take, get_or, Option, Some, refl, sym, ap, ◌∙◌, subst, append_assoc, arith, add-one}
+use Rattle.std.specs.Prelude.{slice_get, codes}
+use Rattle.std.specs.List.{sum_by}
+use Rattle.std.proofs.lemmas.Bool.{le-leb}
 use Rattle.std.proofs.lemmas.List.Sums.{sum_by-take-le, sum_by_push}
 use Rattle.std.proofs.lemmas.Option.{slice_get_within, get_or_from_slice_get}
 use Rattle.std.proofs.Math.Seq.{take-suc}
@@ -12,17 +11,17 @@ use Rattle.newt_graph.specs.declared.node.Node.{Node}
 use Rattle.newt_graph.specs.declared.node.Node.TheVariants as nodes
 use Rattle.newt_graph.specs.declared.node.Ref.{Ref}
 use Rattle.newt_graph.specs.declared.node.Ref.TheVariants as refs
-use Rattle.newt_graph.specs.Graph.{IsNamed, IsSymbol, IsName, IsText, IsData, AreFoldedOnce, payload}
+use Rattle.newt_graph.specs.Graph.{IsNamed, IsName, IsText, IsData, AreFoldedOnce, payload}
 use Rattle.newt_graph.specs.Draft.{is_small}
-use Rattle.newt_lit.specs.Built.{Built, symbol_in, held, filled, all_distinct, tags_of, values_of}
-use Rattle.newt_lit.specs.Grammar.{Mark, Name, Tag, Kind, Class, Field, Classed, LargeBytes, Leaf, Object, Form, Array, Frame, Nothing, Value}
-use Rattle.newt_lit.specs.Printed.{name_text, symbol_text, string_text, binary_text, class_text, is_symbol, label_of}
-use Rattle.newt_lit.proofs.Images.{RefStands, ClassStands, Both, Leads, NodeStands}
+use Rattle.newt_lit.specs.Built.{Built, filled}
+use Rattle.newt_lit.specs.Grammar.{Kind, Classed, LargeBytes, Leaf, Object, Array, Frame, Nothing, Value}
+use Rattle.newt_lit.specs.Printed.{name_text, symbol_text, string_text, binary_text, is_symbol, label_of}
+use Rattle.newt_lit.proofs.Images.{NodeStands}
 use Rattle.newt_lit.proofs.Lists.{get_left}
-use Rattle.newt_lit.proofs.Rows.{Ready, lead}
+use Rattle.newt_lit.proofs.Rows.{Ready}
 use Rattle.newt_lit.proofs.Stands.{Stands, raise}
 use Rattle.newt_lit.proofs.Tokens.{name_token, bytes_token, units_pieces}
-use Rattle.newt_lit.proofs.Transitions.{SymbolIn, symbol_stands, marked, Opened, opened, FilledIn, filled_in}
+use Rattle.newt_lit.proofs.Transitions.{SymbolIn, symbol_stands, marked, Opened, opened, filled_in}
 use Rattle.newt_lit.proofs.Walked.{Between}
 
 -- ---- the weight of what the walk has met
@@ -141,8 +140,8 @@ module _ (graph : List Node) (labels : List (Option ℕ)) (p : IsPrinted graph l
       let c = class_of met (nodes.Binary k bytes) seen open_nodes b k name here refl named s in
       let up = take_more graph met (nodes.Binary k bytes) here in
       let f = closed met after_met (met + 1) seen c.y.extra open_nodes c.y.after (length b.nodes) (nodes.Binary c.y.q bytes) (nodes.Binary k bytes) here refl refl
-          (raise graph labels (met + 1) after_met ((seen ++ met ∷ []) ++ c.y.extra) (met ∷ open_nodes) c.y.after between c.y.stands) c.place (NodeStands.binary c.y.back) (le-leb (length bytes) 1000000 rules.few) between
-          (omega (arith, up, c.weight, light, take_mono graph (met + 1) after_met between.le)) in
+      (raise graph labels (met + 1) after_met ((seen ++ met ∷ []) ++ c.y.extra) (met ∷ open_nodes) c.y.after between c.y.stands) c.place (NodeStands.binary c.y.back) (le-leb (length bytes) 1000000 rules.few) between
+      (omega (arith, up, c.weight, light, take_mono graph (met + 1) after_met between.le)) in
       let text : 60 ∷ ((name_text name ++ 58 ∷ []) ++ (hex_text bytes ++ 62 ∷ [])) ≡ binary_text graph (codes "<") (codes ">") k bytes =
       sym (ap (λ (n : List ℕ). 60 ∷ (n ++ (58 ∷ (hex_text bytes ++ 62 ∷ [])))) (name_of k name named) ∙ binary_after (60 ∷ []) (62 ∷ []) (name_text name) (hex_text bytes)) in
       record {
@@ -161,8 +160,8 @@ module _ (graph : List Node) (labels : List (Option ℕ)) (p : IsPrinted graph l
       let c = class_of met (nodes.Large k bytes) seen open_nodes b k name here refl named s in
       let up = take_more graph met (nodes.Large k bytes) here in
       let f = closed met after_met (met + 1) seen c.y.extra open_nodes c.y.after (length b.nodes) (nodes.Large c.y.q bytes) (nodes.Large k bytes) here refl refl
-          (raise graph labels (met + 1) after_met ((seen ++ met ∷ []) ++ c.y.extra) (met ∷ open_nodes) c.y.after between c.y.stands) c.place (NodeStands.large c.y.back) (le-leb (length bytes) 1000000 rules.few) between
-          (omega (arith, up, c.weight, light, take_mono graph (met + 1) after_met between.le)) in
+      (raise graph labels (met + 1) after_met ((seen ++ met ∷ []) ++ c.y.extra) (met ∷ open_nodes) c.y.after between c.y.stands) c.place (NodeStands.large c.y.back) (le-leb (length bytes) 1000000 rules.few) between
+      (omega (arith, up, c.weight, light, take_mono graph (met + 1) after_met between.le)) in
       let text : 60 ∷ (60 ∷ ((name_text name ++ 58 ∷ []) ++ (hex_text bytes ++ 62 ∷ 62 ∷ []))) ≡ binary_text graph (codes "<<") (codes ">>") k bytes =
       sym (ap (λ (n : List ℕ). 60 ∷ 60 ∷ (n ++ (58 ∷ (hex_text bytes ++ 62 ∷ 62 ∷ [])))) (name_of k name named) ∙ binary_after (60 ∷ 60 ∷ []) (62 ∷ 62 ∷ []) (name_text name) (hex_text bytes)) in
       record {

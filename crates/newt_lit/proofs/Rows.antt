@@ -1,13 +1,12 @@
 -- What a text writes down of things in a row.
-use Rattle.std.proofs.Common.{◌≡◌, ℕ, zero, suc, ◌+◌, ◌<◌, ◌≤◌, Bool, true, false, List, [], ◌∷◌, ◌++◌, length, map, take, Option, Some, None, refl, sym, ap, ◌∙◌, subst, append_assoc, arith, inl, inr, ◌⊎◌}
-use Rattle.std.specs.Prelude.{slice_get}
+use Rattle.std.proofs.Common.{◌≡◌, ℕ, ◌≤◌, Bool, true, false, List, [], ◌∷◌, ◌++◌, map, take, Option, sym, subst, append_assoc}
 use Rattle.std.specs.List.{sum_by}
 use Rattle.std.proofs.lemmas.List.{append-nil}
 use Rattle.newt_graph.specs.declared.node.Node.{Node}
 use Rattle.newt_graph.specs.Graph.{payload}
 use Rattle.newt_lit.specs.Built.{Built}
 use Rattle.newt_lit.specs.Grammar.{Mark, Kind, Items, Several}
-use Rattle.newt_lit.specs.Spelling.{Spelling, plain, ◌then◌}
+use Rattle.newt_lit.specs.Spelling.{Spelling, ◌then◌}
 use Rattle.newt_lit.specs.Printed.{more_text, list_text}
 use Rattle.newt_lit.proofs.Images.{Both}
 use Rattle.newt_lit.proofs.Stands.{Stands}

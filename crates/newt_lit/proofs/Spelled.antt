@@ -1,5 +1,5 @@
 -- Texts on a page, one after another.
-use Rattle.std.proofs.Common.{◌≡◌, ℕ, List, [], ◌++◌, sym, ap, append_assoc}
+use Rattle.std.proofs.Common.{◌≡◌, ℕ, List, [], ◌++◌, ap, append_assoc}
 use Rattle.std.proofs.lemmas.List.{append-nil}
 use Rattle.newt_lit.specs.Spelling.{Spelling, plain, ◌then◌, Page, spelled}
 

@@ -1,9 +1,9 @@
 -- A graph in normal form is walked so: what stands at each place, and a label for each object that is met again.
-use Rattle.std.proofs.Common.{◌≡◌, ℕ, zero, suc, ◌+◌, ◌-◌, ◌<◌, ◌≤◌, Bool, true, false, cond, eqb, ltb, List, [], ◌∷◌, ◌++◌, length, map, Option, Some, None, refl, sym, ap, ◌∙◌, subst, arith, inl, inr, ◌⊎◌, add-zero, add-one}
+use Rattle.std.proofs.Common.{◌≡◌, ℕ, zero, suc, ◌+◌, ◌-◌, ◌<◌, ◌≤◌, Bool, true, false, cond, eqb, ltb, List, [], ◌∷◌, ◌++◌, length, map, Option, Some, None, refl, sym, ap, ◌∙◌, subst, arith, inl, inr, add-zero}
 use Rattle.std.specs.Prelude.{slice_get, flat_map}
-use Rattle.std.proofs.lemmas.Bool.{lt-ltb, le-ltb, ltb-true, ltb-false, eqb-true, eqb-false, eq-eqb, ne_eqb}
+use Rattle.std.proofs.lemmas.Bool.{lt-ltb, ltb-true, ltb-false, eqb-true, eqb-false}
 use Rattle.std.proofs.lemmas.List.{length-append}
-use Rattle.std.proofs.lemmas.Option.{slice_get_cases, slice_get_within}
+use Rattle.std.proofs.lemmas.Option.{slice_get_cases}
 use Rattle.newt_graph.specs.declared.node.Node.{Node}
 use Rattle.newt_graph.specs.declared.node.Node.TheVariants as nodes
 use Rattle.newt_graph.specs.declared.node.Ref.{Ref}
@@ -156,7 +156,7 @@ row graph total room met value values first others walk p = record {
         let place : met + (length first + i) ≡ met + length first + i = omega arith in
         subst (λ (j : ℕ). slice_get graph j ≡ Some x) place (p.here (length first + i) x (get_right first others i ∙ h));
     whole = omega (arith, p.whole, length-append first others);
-    spare = λ k x there object. 
+    spare = λ k x there object.
         let more : below k (met + length first) ≤ below k met + (count k (value ∷ []) + count k (flat_map parts first)) =
         below_le k met (met + length first) (count k (value ∷ []) + count k (flat_map parts first)) (λ le lt. named k walk le lt) in
         omega (arith, more, p.spare k x there object, count_cons k value values, count_flat k first others);

@@ -1,22 +1,20 @@
 -- Names, immediates, strings and digits as they are printed are tokens of the grammar.
-use Rattle.std.proofs.Common.{◌≡◌, ◌≢◌, ℕ, zero, suc, ◌+◌, ◌-◌, ◌*◌, ◌/◌, ◌%◌, ◌^◌, ◌<◌, ◌≤◌, Bool, true, false, cond, ltb, leb, eqb, List, [], ◌∷◌, ◌++◌, length, map, Option, Some, None, refl, sym, ap, ◌∙◌, subst, append_assoc, arith, inl, inr, ◌⊎◌, ℤ, pos, negsuc, All}
-use Rattle.std.specs.Prelude.{flat_map, codes, decimal, not, ◌&&◌, ◌||◌, neg_ℤ}
+use Rattle.std.proofs.Common.{◌≡◌, ◌≢◌, ℕ, suc, ◌+◌, ◌-◌, ◌*◌, ◌/◌, ◌%◌, ◌^◌, ◌<◌, ◌≤◌, Bool, true, false, ltb, leb, eqb, List, [], ◌∷◌, length, refl, sym, ◌∙◌, subst, arith, ℤ, pos, negsuc, All}
+use Rattle.std.specs.Prelude.{flat_map, codes, decimal, neg_ℤ}
 use Rattle.std.specs.Char.{is_ascii_digit, is_ascii_hexdigit, digit_value}
-use Rattle.std.specs.Fmt.{signed_decimal}
-use Rattle.std.specs.Int.{w32, cast_signed, cast_unsigned, int_div_euclid}
-use Rattle.std.specs.List.{list_all, list_any}
-use Rattle.std.specs.Str.Parse.{digits_value}
-use Rattle.std.proofs.lemmas.Bool.{lt-ltb, le-ltb, le-leb, lt-leb, ltb-true, ltb-false, leb-true, ne_eqb, eqb-true, eqb-false, eq-eqb, and_parts}
+use Rattle.std.specs.Int.{w32}
+use Rattle.std.specs.List.{list_all}
+use Rattle.std.proofs.lemmas.Bool.{lt-ltb, le-ltb, le-leb, lt-leb, ltb-true, ltb-false, leb-true, ne_eqb, eqb-true, eqb-false, and_parts}
 use Rattle.std.proofs.lemmas.Fmt.{decimal_is_IsNumeral, decimal_by_steps, length-decimal-le, decimal_nonempty}
 use Rattle.std.proofs.lemmas.Int.{to_z_pos, to_z-of_z}
 use Rattle.std.proofs.lemmas.List.Elements.{All-head, All-tail}
 use Rattle.std.proofs.lemmas.List.Folds.{list_all-append}
 use Rattle.newt_base.specs.Names.{is_printable}
-use Rattle.newt_base.specs.Text.{hex_text, hex_digit, be16, be32}
+use Rattle.newt_base.specs.Text.{hex_text, hex_digit, be32}
 use Rattle.newt_graph.specs.Graph.{IsName, IsWord}
 use Rattle.newt_lit.specs.Grammar.{Pieces, Hex, HexByte, InName, InString, Name, Immediate, Label}
 use Rattle.newt_lit.specs.Words.{is_identifier, is_barred, is_number, number, hex_number, is_label, is_shown, is_quoted, units_of}
-use Rattle.newt_lit.specs.Printed.{escaped, name_text, hex16, character_text, word_text, unit_text, string_text}
+use Rattle.newt_lit.specs.Printed.{escaped, name_text, hex16, character_text, word_text, unit_text}
 
 -- ---- decimal digits
 
@@ -49,14 +47,12 @@ hex_digit_is d lt = go (ltb d 10) refl
   where
     go : (b : Bool) → ltb d 10 ≡ b → (digit_value (hex_digit d) ≡ d) × (is_ascii_hexdigit (hex_digit d) ≡ true)
     go true e =
-        let small : d < 10 = ltb-true d 10 e in
-        (
+        let small : d < 10 = ltb-true d 10 e in (
           rw (e, le-ltb (48 + d) 48 (omega arith), lt-ltb (48 + d) 58 (omega (arith, small))) (omega arith),
           rw (e, le-leb 48 (48 + d) (omega arith), le-leb (48 + d) 57 (omega (arith, small))) refl,
         )
     go false e =
-        let large : 10 ≤ d = ltb-false d 10 e in
-        (
+        let large : 10 ≤ d = ltb-false d 10 e in (
           rw (e, le-ltb (55 + d) 48 (omega arith), le-ltb (55 + d) 58 (omega (arith, large)), le-ltb (55 + d) 65 (omega (arith, large)), lt-ltb (55 + d) 91 (omega (arith, lt))) (omega arith),
           rw (e, le-leb 48 (55 + d) (omega arith), lt-leb (55 + d) 57 (omega (arith, large)), le-leb 65 (55 + d) (omega (arith, large)), le-leb (55 + d) 70 (omega (arith, lt))) refl,
         )
@@ -129,7 +125,7 @@ plain_piece u lt low = go (eqb 34 u) refl (eqb 92 u) refl
     go true e backslash f = let same : 34 ≡ u = eqb-true 34 u e in subst (λ (x : ℕ). InString (escaped (codes "\"\\") x) (x ∷ [])) same InString.quote
     go false e true f = let same : 92 ≡ u = eqb-true 92 u f in subst (λ (x : ℕ). InString (escaped (codes "\"\\") x) (x ∷ [])) same InString.backslash
     go false e false f =
-        let plain : is_quoted u ≡ true = rw (le-leb 32 u low, ne_eqb u 34 (λ same. eqb-false 34 u e (sym same)), ne_eqb u 92 (λ same. eqb-false 92 u f (sym same))) refl in
+        let plain : is_quoted u ≡ true = rw (le-leb 32 u low, le-leb u 1114111 (omega (arith, lt)), ne_eqb u 34 (λ same. eqb-false 34 u e (sym same)), ne_eqb u 92 (λ same. eqb-false 92 u f (sym same))) refl in
         let one : units_of u ≡ u ∷ [] = rw (lt-ltb u 65536 lt) refl in
         rw (e, f) (subst (λ (units : List ℕ). InString (u ∷ []) units) one (InString.plain plain))
 

@@ -1,22 +1,22 @@
 -- What a text writes down next: a symbol, an open node, and what fills it.
-use Rattle.std.proofs.Common.{◌≡◌, ℕ, zero, suc, ◌+◌, ◌<◌, ◌≤◌, Bool, true, false, cond, ltb, eqb, List, [], ◌∷◌, ◌++◌, length, get_or, set, Option, Some, None, refl, sym, ap, ◌∙◌, subst, append_assoc, arith, inl, inr, ◌⊎◌, zero-add}
-use Rattle.std.specs.Prelude.{slice_get, ◌||◌, ◌&&◌, nat_le}
-use Rattle.std.specs.List.{list_any, position_from, sum_by}
+use Rattle.std.proofs.Common.{◌≡◌, ℕ, zero, suc, ◌+◌, ◌<◌, ◌≤◌, Bool, true, false, ltb, eqb, List, [], ◌∷◌, ◌++◌, length, set, Option, Some, None, refl, sym, ap, ◌∙◌, subst, arith, inl, inr, ◌⊎◌}
+use Rattle.std.specs.Prelude.{slice_get, nat_le}
+use Rattle.std.specs.List.{list_any, sum_by}
 use Rattle.std.specs.Str.{str_eq_ignore_ascii_case, str_to_ascii_lowercase}
-use Rattle.std.proofs.lemmas.Bool.{lt-ltb, le-leb, ltb-true, ltb-false, ne_eqb, eqb-true, eqb-false, or_parts, eq-eqb}
-use Rattle.std.proofs.lemmas.List.{append-nil, length_push}
+use Rattle.std.proofs.lemmas.Bool.{lt-ltb, le-leb, ltb-true, ltb-false, eqb-true, eqb-false, or_parts, eq-eqb}
+use Rattle.std.proofs.lemmas.List.{append-nil}
 use Rattle.std.proofs.lemmas.List.Sums.{sum_by_push, sum_by-set}
 use Rattle.std.proofs.lemmas.Option.{slice_get_within}
 use Rattle.std.proofs.lemmas.Slice.Eq.{bytes_eq-Decides}
 use Rattle.newt_graph.specs.declared.node.Node.{Node}
 use Rattle.newt_graph.specs.declared.node.Node.TheVariants as nodes
-use Rattle.newt_graph.specs.Graph.{IsNamed, IsSymbol, AreFoldedOnce, folded, payload}
+use Rattle.newt_graph.specs.Graph.{IsNamed, AreFoldedOnce, folded, payload}
 use Rattle.newt_graph.specs.Draft.{is_alike, find_alike, known, with_symbol, with_held, with_filled, is_small}
-use Rattle.newt_lit.specs.Built.{Built, beside, symbol_in, held, filled, node_of, labelled}
+use Rattle.newt_lit.specs.Built.{Built, beside, symbol_in, held, filled, node_of}
 use Rattle.newt_lit.specs.Printed.{is_symbol, label_of}
 use Rattle.newt_lit.proofs.Lists.{get_left, get_last, get_split, get_set, found_at, found_none}
 use Rattle.newt_lit.proofs.Images.{NodeStands, node_keeps}
-use Rattle.newt_lit.proofs.Stands.{Order, Stands, no_symbol, order_pushed, order_filled, room_left}
+use Rattle.newt_lit.proofs.Stands.{Stands, no_symbol, order_pushed, order_filled, room_left}
 
 -- one more in both lists
 split : {A B : Type 0} (seen : List A) (built : List B) (k : A) (cell : B) (p : ℕ) (j : A) (node : B) → length built ≡ length seen → slice_get (seen ++ k ∷ []) p ≡ Some j → slice_get (built ++ cell ∷ []) p ≡ Some node

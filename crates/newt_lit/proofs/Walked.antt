@@ -1,20 +1,17 @@
 -- The walk of a graph with what stands at each place: each object that is met again has a label.
-use Rattle.std.proofs.Common.{◌≡◌, ℕ, zero, suc, ◌+◌, ◌<◌, ◌≤◌, Bool, true, false, cond, eqb, ltb, List, [], ◌∷◌, ◌++◌, length, map, Option, Some, None, refl, sym, ap, ◌∙◌, subst, arith, inl, inr, ◌⊎◌, ℤ, add-one, add-zero}
+use Rattle.std.proofs.Common.{◌≡◌, ℕ, suc, ◌+◌, ◌<◌, ◌≤◌, Bool, true, false, cond, eqb, ltb, List, [], ◌∷◌, ◌++◌, length, map, Option, Some, None, refl, ap, ◌∙◌, arith, ℤ}
 use Rattle.std.specs.Prelude.{slice_get, flat_map, count_by}
-use Rattle.std.proofs.lemmas.Bool.{eqb-true, lt-ltb, le-ltb, ltb-true, ltb-false, eqb-false, eq-eqb, ne_eqb}
+use Rattle.std.proofs.lemmas.Bool.{eqb-true, ltb-true, ltb-false, eqb-false, eq-eqb}
 use Rattle.std.proofs.lemmas.List.{length-append}
 use Rattle.std.proofs.lemmas.List.Sums.{sum_by-cons, sum_by-append}
 use Rattle.std.proofs.lemmas.Grind.{flat_map-append}
-use Rattle.std.proofs.lemmas.Option.{slice_get_cases}
 use Rattle.newt_graph.specs.declared.node.Node.{Node}
 use Rattle.newt_graph.specs.declared.node.Node.TheVariants as nodes
 use Rattle.newt_graph.specs.declared.node.Ref.{Ref}
 use Rattle.newt_graph.specs.declared.node.Ref.TheVariants as refs
-use Rattle.newt_graph.specs.Graph.{IsNamed, IsSymbol, IsWord, WalkLabel, WalkLabels, Walk, Walks, IsNode, IsText, IsData, IsFrame}
+use Rattle.newt_graph.specs.Graph.{IsNamed, IsSymbol, IsWord, WalkLabel, WalkLabels, Walk, Walks, IsText, IsData, IsFrame}
 use Rattle.newt_graph.specs.Raw.{labels_of, values_of}
 use Rattle.newt_lit.specs.Printed.{is_symbol, label_of, leads_to}
-use Rattle.newt_lit.proofs.Lists.{get_left, get_right}
-use Rattle.newt_lit.proofs.Options.{some_is}
 
 -- ---- what the walk meets
 

@@ -107,7 +107,7 @@ pub fn labels(alloc: Global, nodes: &[Node], root: Ref) -> Result<Vec<Option<u32
 {
     let meetings = count_meetings(alloc, nodes, root)?;
     let mut labels = Vec::new(alloc);
-    let mut next = 0;
+    let mut next = 0u32;
     for (n, node) in nodes.iter().enumerate() {
         if !is_symbol(node) && is_met_again(&meetings, n) {
             labels.push(Some(next))?;

@@ -100,69 +100,78 @@ fn units_that_are_no_plain_characters_are_escaped(rt: HostRuntime) -> Result<(),
     Ok(())
 }
 
-/// The classes of binaries and arrays.
-fn classes(a: Global) -> Result<bool, AllocError> {
-    let binary = Node::Binary(1, Bytes::of(Vec::from_slice(a, &[0xDE, 0x0A])?));
-    let large = Node::Large(1, Bytes::of(Vec::from_slice(a, &[0, 0])?));
-    let empty = array(a, Some(1), &[])?;
-    let full = array(a, Some(1), &[ONE, Ref::Node(1)])?;
-    Ok(
-        prints(a, &[binary, symbol(a, b"k")?], "<k:DE0A>")?
-            && prints(a, &[large, symbol(a, b"a b")?], "<<|a b|:0000>>")?
-            && prints(a, &[empty, symbol(a, b"k")?], "[k:]")?
-            && prints(a, &[full, symbol(a, b"k")?], "[k: 1, 'k]")?,
-    )
+/// Whether an object whose class or only tag has this name prints as this text.
+fn named(alloc: Global, node: Node, name: &str, text: &str) -> Result<bool, AllocError> {
+    let mut nodes = Vec::new(alloc);
+    nodes.push(node)?;
+    nodes.push(symbol(alloc, name.as_bytes())?)?;
+    prints(alloc, &nodes, text)
 }
 
-/// Containers without a class.
-fn plain_containers(a: Global) -> Result<bool, AllocError> {
-    let values = array(a, None, &[ONE, Ref::Node(1), ONE])?;
-    let slots = frame(a, &[1, 2], &[ONE, Ref::Node(1)])?;
-    Ok(
-        prints(a, &[array(a, None, &[])?], "[]")?
-            && prints(a, &[frame(a, &[], &[])?], "{}")?
-            && prints(a, &[values, array(a, None, &[])?], "[1, [], 1]")?
-            && prints(
-                a,
-                &[slots, symbol(a, b"A")?, symbol(a, b"b c")?],
-                "{A: 1, |b c|: 'A}",
-            )?,
-    )
+fn binary(a: Global) -> Result<bool, AllocError> {
+    let bytes = Bytes::of(Vec::from_slice(a, &[0xDE, 0x0A])?);
+    named(a, Node::Binary(1, bytes), "k", "<k:DE0A>")
 }
 
-/// Objects that are met again, in the order of first meeting, and a loop.
-fn labels(a: Global) -> Result<bool, AllocError> {
-    let outer = array(
+fn large(a: Global) -> Result<bool, AllocError> {
+    let bytes = Bytes::of(Vec::from_slice(a, &[0, 0])?);
+    named(a, Node::Large(1, bytes), "a b", "<<|a b|:0000>>")
+}
+
+fn empty_array(a: Global) -> Result<bool, AllocError> {
+    named(a, array(a, Some(1), &[])?, "k", "[k:]")
+}
+
+fn full_array(a: Global) -> Result<bool, AllocError> {
+    named(
         a,
-        None,
-        &[
-            Ref::Node(1),
-            Ref::Node(2),
-            Ref::Node(3),
-            Ref::Node(3),
-            Ref::Node(1),
-        ],
-    )?;
-    let looped = frame(a, &[1], &[Ref::Node(0)])?;
-    let nodes = [
-        outer,
-        array(a, None, &[])?,
-        string(a, &[])?,
-        frame(a, &[], &[])?,
-    ];
-    Ok(
-        prints(a, &nodes, "[#0=[], \"\", #1={}, #1#, #0#]")?
-            && prints(a, &[looped, symbol(a, b"me")?], "#0={me: #0#}")?,
+        array(a, Some(1), &[ONE, Ref::Node(1)])?,
+        "k",
+        "[k: 1, 'k]",
     )
+}
+
+fn one_slot(a: Global) -> Result<bool, AllocError> {
+    named(a, frame(a, &[1], &[ONE])?, "a b", "{|a b|: 1}")
+}
+
+fn looped(a: Global) -> Result<bool, AllocError> {
+    named(a, frame(a, &[1], &[Ref::Node(0)])?, "me", "#0={me: #0#}")
+}
+
+/// Three objects, of which the first and the last are met again.
+fn shared(a: Global) -> Result<bool, AllocError> {
+    let order = [
+        Ref::Node(1),
+        Ref::Node(2),
+        Ref::Node(3),
+        Ref::Node(3),
+        Ref::Node(1),
+    ];
+    let mut nodes = Vec::new(a);
+    nodes.push(array(a, None, &order)?)?;
+    nodes.push(array(a, None, &[])?)?;
+    nodes.push(string(a, &[])?)?;
+    nodes.push(frame(a, &[], &[])?)?;
+    prints(a, &nodes, "[#0=[], \"\", #1={}, #1#, #0#]")
 }
 
 #[test]
 fn containers_have_one_space_behind_colons_and_commas(rt: HostRuntime) {
-    assert_eq!(rt; classes(rt.alloc()), Ok(true));
-    assert_eq!(rt; plain_containers(rt.alloc()), Ok(true));
+    let a = rt.alloc();
+    for printed in [
+        binary(a),
+        large(a),
+        empty_array(a),
+        full_array(a),
+        one_slot(a),
+    ] {
+        assert_eq!(rt; printed, Ok(true));
+    }
 }
 
 #[test]
 fn objects_that_are_met_again_have_labels(rt: HostRuntime) {
-    assert_eq!(rt; labels(rt.alloc()), Ok(true));
+    assert_eq!(rt; looped(rt.alloc()), Ok(true));
+    assert_eq!(rt; shared(rt.alloc()), Ok(true));
 }

@@ -1,10 +1,10 @@
 -- What a text writes down is a draft whose references lead to nodes, and whose classes and tags are symbols.
-use Rattle.std.proofs.Common.{◌≡◌, ◌≢◌, ℕ, zero, suc, ◌+◌, ◌<◌, ◌≤◌, Bool, true, false, cond, ltb, leb, eqb, List, [], ◌∷◌, ◌++◌, length, map, set, All, get_or, Option, Some, None, refl, sym, ap, subst, ◌∙◌, append_assoc, arith, inl, inr, ◌⊎◌}
+use Rattle.std.proofs.Common.{◌≡◌, ◌≢◌, ℕ, zero, suc, ◌+◌, ◌<◌, ◌≤◌, Bool, true, false, cond, ltb, leb, eqb, List, [], ◌∷◌, ◌++◌, length, set, All, Option, Some, None, refl, sym, ap, subst, ◌∙◌, append_assoc, arith}
 use Rattle.std.specs.Prelude.{slice_get, ◌&&◌, ◌||◌, not, AllPairs}
 use Rattle.std.specs.List.{list_any, sum_by}
-use Rattle.std.proofs.lemmas.Bool.{leb-true, ltb-true, eqb-true, eqb-false, and_parts, not-true}
+use Rattle.std.proofs.lemmas.Bool.{leb-true, ltb-true, eqb-false, and_parts, not-true}
 use Rattle.std.proofs.lemmas.List.{append-nil, length-append, length_push, length-set, length-map}
-use Rattle.std.proofs.lemmas.List.Elements.{All-nil, All-cons, All-append, All-head, All-tail, All-push, All-set, All-map}
+use Rattle.std.proofs.lemmas.List.Elements.{All-nil, All-cons, All-push, All-set, All-map}
 use Rattle.std.proofs.lemmas.List.Kept.{AllPairs-cons}
 use Rattle.std.proofs.lemmas.Option.{slice_get_within}
 use Rattle.std.proofs.Math.Seq.{set-append_seam}
@@ -12,15 +12,15 @@ use Rattle.newt_graph.specs.declared.node.Node.{Node}
 use Rattle.newt_graph.specs.declared.node.Node.TheVariants as nodes
 use Rattle.newt_graph.specs.declared.node.Ref.{Ref}
 use Rattle.newt_graph.specs.declared.node.Ref.TheVariants as refs
-use Rattle.newt_graph.specs.Graph.{IsName, IsSymbol, IsWord, payload, folded}
+use Rattle.newt_graph.specs.Graph.{IsName, IsSymbol, payload}
 use Rattle.newt_graph.specs.Raw.{IsValue, labels_of}
 use Rattle.newt_graph.specs.Raw.{values_of as refs_of}
-use Rattle.newt_graph.specs.Draft.{IsPart, IsDraft, IsJoinedNode, IsJoined, IsFilling, is_small, find_alike, known, pushed, with_symbol, with_held, with_filled}
+use Rattle.newt_graph.specs.Draft.{IsPart, IsDraft, IsJoinedNode, IsJoined, IsFilling, is_small, find_alike, known, with_symbol, with_held, with_filled}
 use Rattle.newt_graph.proofs.Grows.{get_append, get_seam}
 use Rattle.newt_graph.proofs.Drafts.{held_push, symbol_push, alike_found, part_of_filling, once_set}
 use Rattle.newt_lit.specs.Built.{Built, symbol_in, held, filled, node_of, labelled, all_distinct, tags_of, values_of}
-use Rattle.newt_lit.specs.Grammar.{Mark, Pieces, InString, HexByte, LargeBytes, Name, Immediate, Label, Tag, Kind, Items, Several, Class, Field, Array, Frame, Classed, Leaf, Object, Form, Nothing, Value, Writes}
-use Rattle.newt_lit.proofs.Options.{bind_some, chosen, provided, some_is}
+use Rattle.newt_lit.specs.Grammar.{Kind, Items, Several, Class, Field, Array, Frame, Classed, Leaf, Object, Form, Nothing, Value, Writes}
+use Rattle.newt_lit.proofs.Options.{bind_some, provided, some_is}
 use Rattle.newt_lit_read.proofs.Characters.{name_is, tag_is, bytes_fit, large_bytes_fit, units_fit}
 use Rattle.newt_lit_read.proofs.Immediates.{immediate_is}
 

@@ -1,17 +1,16 @@
 -- A token that is written so is read.
-use Rattle.std.proofs.Common.{◌≡◌, ◌≢◌, ℕ, zero, suc, ◌+◌, ◌*◌, ◌<◌, ◌≤◌, Bool, true, false, cond, ltb, leb, eqb, List, [], ◌∷◌, ◌++◌, length, take, drop, Option, Some, None, refl, sym, ap, subst, ◌∙◌, append_assoc, arith, inl, inr, ◌⊎◌, codes}
-use Rattle.std.specs.Prelude.{ℤ, pos, neg_ℤ, ◌&&◌, ◌||◌, bytes_eq, not, ◌==◌, ◌%◌, replicate}
+use Rattle.std.proofs.Common.{◌≡◌, ◌≢◌, ℕ, zero, suc, ◌+◌, ◌*◌, ◌<◌, ◌≤◌, Bool, true, false, cond, ltb, leb, eqb, List, [], ◌∷◌, ◌++◌, length, Some, None, refl, sym, ap, subst, ◌∙◌, append_assoc, arith, inl, inr, ◌⊎◌, codes}
+use Rattle.std.specs.Prelude.{ℤ, pos, neg_ℤ, ◌&&◌, ◌||◌, not, ◌==◌, ◌%◌, replicate}
 use Rattle.std.specs.Int.{w32, cast_signed}
 use Rattle.std.specs.List.{list_all}
 use Rattle.std.specs.Char.{is_ascii_digit, is_ascii_hexdigit}
-use Rattle.std.proofs.lemmas.Bool.{leb-true, le-leb, ltb-true, lt-ltb, le-ltb, eqb-true, ne_eqb, and_parts, and_from, not-true}
-use Rattle.std.proofs.lemmas.List.{append-nil, take_at, drop_at, length-append}
+use Rattle.std.proofs.lemmas.Bool.{leb-true, le-leb, lt-ltb, le-ltb, eqb-true, ne_eqb, and_parts, not-true}
+use Rattle.std.proofs.lemmas.List.{take_at, drop_at, length-append}
 use Rattle.newt_graph.specs.Steps.{◌>>=◌}
-use Rattle.newt_lit_read.specs.declared.tokens.Start.{Start}
 use Rattle.newt_lit_read.specs.declared.tokens.Start.TheVariants as start
-use Rattle.newt_lit.specs.Words.{is_blank, skip, is_word, word_len, is_number, number, hex_number, is_shown, are_digits, begins_name, is_identifier, is_barred, is_quoted, is_label, is_count, units_of}
-use Rattle.newt_lit.specs.Grammar.{Mark, Pieces, Hex, HexByte, InName, InString, Name, Immediate, Label, Tag, LargeBytes}
-use Rattle.newt_lit_read.specs.Tokens.{first_of, behind_mark, mark_at, word_at, word_value, plain_at, negative_at, label_at, hex_at, code_word_at, character_at, Next, after_next, pieces_at, single, piece, escaped_in_name, next_in_name, escaped_in_string, next_in_string, next_byte, identifier_at, barred_at, name_at, if_colon, tag_at, bytes_at, zeros_at, large_bytes_at}
+use Rattle.newt_lit.specs.Words.{is_blank, skip, is_word, word_len, is_number, number, is_shown, are_digits, begins_name, is_identifier, is_label, is_count, units_of}
+use Rattle.newt_lit.specs.Grammar.{Mark, Pieces, Hex, HexByte, InName, InString, Name, Label, Tag, LargeBytes}
+use Rattle.newt_lit_read.specs.Tokens.{first_of, behind_mark, mark_at, word_at, word_value, negative_at, label_at, hex_at, code_word_at, character_at, Next, pieces_at, single, piece, next_in_name, next_in_string, next_byte, identifier_at, barred_at, name_at, tag_at, bytes_at, zeros_at, large_bytes_at}
 use Rattle.newt_lit_read.specs.Reading.{start_of}
 use Rattle.newt_lit_read.proofs.Characters.{one_of, small_units}
 

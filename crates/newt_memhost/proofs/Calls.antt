@@ -1,7 +1,7 @@
 -- What stands after one call on a card.
-use Rattle.std.proofs.Common.{◌≡◌, ℕ, ◌+◌, ◌≤◌, true, false, List, ◌∷◌, length, take, drop, Result, Ok, Err, IsOk, is_err, refl, sym, ◌∙◌, ap, subst, arith}
+use Rattle.std.proofs.Common.{◌≡◌, ℕ, ◌+◌, ◌≤◌, true, List, ◌∷◌, length, take, drop, Result, Ok, Err, IsOk, is_err, sym, ◌∙◌, ap, subst}
 use Rattle.std.proofs.lemmas.Bool.{false≢true}
-use Rattle.newt_host.specs.Moments.{Change, Wrote, Synced, On, Moment, overwritten, bytes_after, changes, IsHistory}
+use Rattle.newt_host.specs.Moments.{Change, Wrote, On, Moment, overwritten, bytes_after, changes, IsHistory}
 use Rattle.newt_host.proofs.Moments.{changes-same}
 use Rattle.newt_host.proofs.Ranges.{same-refl, same-is-overwritten}
 

@@ -1,11 +1,11 @@
 -- One card of several changes.
-use Rattle.std.proofs.Common.{◌≡◌, ◌≢◌, inl, inr, ℕ, zero, suc, ◌+◌, ◌*◌, ◌/◌, ◌<◌, ◌≤◌, ◌&&◌, Bool, true, false, cond, List, [], ◌∷◌, length, get_or, Option, Some, None, IsSome, is_some, Result, Ok, Err, OnErr, slice_get, slice_set, refl, sym, ◌∙◌, ap, subst, arith}
+use Rattle.std.proofs.Common.{◌≡◌, ◌≢◌, inl, inr, ℕ, zero, suc, ◌/◌, ◌<◌, ◌≤◌, ◌&&◌, Bool, true, false, cond, List, [], ◌∷◌, length, get_or, Option, Some, None, IsSome, is_some, Result, Ok, Err, OnErr, slice_get, slice_set, refl, sym, ◌∙◌, ap, subst, arith}
 use Rattle.std.proofs.lemmas.Bool.{cases_eq, false≢true}
 use Rattle.std.proofs.lemmas.Option.{same_Some, get_or_from_slice_get, slice_get-get_or}
 use Rattle.std.proofs.Math.ListN.{length-set}
 use Rattle.std.specs.Str.{bytes_eq}
 use Rattle.newt_host.specs.Moments.{Change, Attached, Wrote, Synced, On, Moment, bytes_after, changes, output, IsHistory}
-use Rattle.newt_host.specs.Outside.{Outside, Rose, SameCards, Touches, Spends, NeverFalls, Writes, Syncs}
+use Rattle.newt_host.specs.Outside.{Outside, Rose, Touches, Spends, NeverFalls, Writes, Syncs}
 use Rattle.newt_host.proofs.Moments.{changes-same, changes-other}
 use Rattle.newt_memhost.specs.Calls.{OnCard}
 use Rattle.newt_memhost.specs.Cards.{IsTold, Stands, StandsAs, name_of, blocks_of, faults_of, programmed_of, fetched_of, attached_device, free_device, or_else, device_of}
@@ -120,13 +120,15 @@ module _ (cards : List Card) (i unit : ℕ) (b c : Card) (same : i ≡ unit) (is
 
   -- each unit holds what has happened to it, where this one does, and nothing has happened to another
   pub told-put : (old now : Moment) → IsTold cards old → ((other : ℕ) → other ≢ unit → changes other now ≡ changes other old) → Stands (Some c) (changes unit now) → IsTold (slice_set cards i c) now
-  told-put old now told others stands = record { each = λ u. elim (cases_eq u unit) [
-    | inl here ↦ subst (λ (k : ℕ). Stands (slice_get (slice_set cards i c) k) (changes k now)) (sym here) (subst (λ (o : Option Card). Stands o (changes unit now)) (sym at-new) stands)
-    | inr other ↦
-        let stood = told.each u in
-        subst (λ (o : Option Card). Stands o (changes u now)) (sym (get-set-other cards i u c (λ e. other (e ∙ same))))
-        (subst (λ (done : List Change). Stands (slice_get cards u) done) (sym (others u other)) stood)
-  ] }
+  told-put old now told others stands = record {
+    each = λ u. elim (cases_eq u unit) [
+      | inl here ↦ subst (λ (k : ℕ). Stands (slice_get (slice_set cards i c) k) (changes k now)) (sym here) (subst (λ (o : Option Card). Stands o (changes unit now)) (sym at-new) stands)
+      | inr other ↦
+          let stood = told.each u in
+          subst (λ (o : Option Card). Stands o (changes u now)) (sym (get-set-other cards i u c (λ e. other (e ∙ same))))
+          (subst (λ (done : List Change). Stands (slice_get cards u) done) (sym (others u other)) stood)
+    ];
+  }
 
   pub told-set : (old now : Moment) → IsTold cards old → b.attached ≡ true → c.attached ≡ b.attached → ((other : ℕ) → other ≢ unit → changes other now ≡ changes other old)
       → (StandsAs true b (changes unit old) → StandsAs true c (changes unit now)) → IsTold (slice_set cards i c) now
@@ -134,6 +136,23 @@ module _ (cards : List Card) (i unit : ℕ) (b c : Card) (same : i ≡ unit) (is
       let stood : Stands (Some b) (changes unit old) = subst (λ (o : Option Card). Stands o (changes unit old)) at-old (told.each unit) in
       let stood_so : StandsAs true b (changes unit old) = subst (λ (t : Bool). StandsAs t b (changes unit old)) held stood in
       told-put old now told others (subst (λ (t : Bool). StandsAs t c (changes unit now)) (sym (kept ∙ held)) (stands stood_so))
+
+  -- what a card holds is the image of its unit
+  pub image-held : (m : Moment) → IsTold cards m → b.attached ≡ true → bytes_after (changes unit m) ≡ b.held.items
+  image-held m told held =
+      let stood : Stands (Some b) (changes unit m) = subst (λ (o : Option Card). Stands o (changes unit m)) at-old (told.each unit) in
+      (subst (λ (t : Bool). StandsAs t b (changes unit m)) held stood).0
+
+  pub image-set : (m : Moment) → IsTold (slice_set cards i c) m → c.attached ≡ true → bytes_after (changes unit m) ≡ c.held.items
+  image-set m told held =
+      let stood : Stands (Some c) (changes unit m) = subst (λ (o : Option Card). Stands o (changes unit m)) at-new (told.each unit) in
+      (subst (λ (t : Bool). StandsAs t c (changes unit m)) held stood).0
+
+  -- an error leaves the image as it was
+  pub unchanged-at : {T E : Type 0} (r : Result T E) (old now : Moment) → IsTold cards old → IsTold (slice_set cards i c) now → b.attached ≡ true → c.attached ≡ b.attached → OnErr r (c.held.items ≡ b.held.items)
+      → OnErr r (bytes_after (changes unit now) ≡ bytes_after (changes unit old))
+  unchanged-at (Ok x) old now told more held kept same = tt
+  unchanged-at (Err e) old now told more held kept same = image-set now more (kept ∙ held) ∙ same ∙ sym (image-held old told held)
 
   pub told-attach : (first : List ℕ) (old now : Moment) → IsTold cards old → b.attached ≡ false → now ≡ On unit (Attached first) ∷ old → c.attached ≡ true → c.first.items ≡ first → c.held.items ≡ first
       → IsTold (slice_set cards i c) now
@@ -155,9 +174,10 @@ module _ (cards : List Card) (i unit : ℕ) (b c : Card) (same : i ≡ unit) (is
 
   pub told-reads : {old now : Moment} → IsTold cards old → b.attached ≡ true → c.attached ≡ b.attached → c.first.items ≡ b.first.items → c.held.items ≡ b.held.items → now ≡ old → IsTold (slice_set cards i c) now
   told-reads {old = old} {now = now} told held kept first same is =
-      let stands : StandsAs true b (changes unit old) → StandsAs true c (changes unit now) = λ stood.
-          (ap (λ (m : Moment). bytes_after (changes unit m)) is ∙ stood.0 ∙ sym same,
-          subst (λ (m : Moment). IsHistory (length c.first.items) (changes unit m)) (sym is) (subst (λ (l : List ℕ). IsHistory (length l) (changes unit old)) (sym first) stood.1)) in
+      let stands : StandsAs true b (changes unit old) → StandsAs true c (changes unit now) = λ stood. (
+        ap (λ (m : Moment). bytes_after (changes unit m)) is ∙ stood.0 ∙ sym same,
+        subst (λ (m : Moment). IsHistory (length c.first.items) (changes unit m)) (sym is) (subst (λ (l : List ℕ). IsHistory (length l) (changes unit old)) (sym first) stood.1),
+      ) in
       told-set old now told held kept (λ other differ. ap (λ (m : Moment). changes other m) is) stands
 
   module _ {p f : ℕ} (on : OnCard p f b c) where
@@ -192,7 +212,6 @@ module _ (cards : List Card) (i unit : ℕ) (b c : Card) (same : i ≡ unit) (is
 
     fetched-new : fetched_of (slice_get (slice_set cards i c) unit) ≡ c.fetched
     fetched-new = ap fetched_of at-new
-
 
     module _ (old_now now : Moment) (input : List ℕ) (shelf : List Device) (in_faults out_faults : ℕ) where
       pub touches : Touches unit (told-by cards old_now input shelf in_faults out_faults) (told-by (slice_set cards i c) now input shelf in_faults out_faults)

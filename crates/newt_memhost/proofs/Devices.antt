@@ -1,5 +1,5 @@
 -- Devices by their names.
-use Rattle.std.proofs.Common.{◌≡◌, ◌≢◌, inl, inr, ℕ, zero, suc, ◌+◌, ◌<◌, ◌≤◌, ◌&&◌, Bool, true, false, cond, List, [], ◌∷◌, ◌++◌, length, get_or, take, drop, remove, Option, Some, None, is_some, slice_get, slice_set, refl, sym, ◌∙◌, ap, subst, arith}
+use Rattle.std.proofs.Common.{◌≡◌, ◌≢◌, inl, inr, ℕ, zero, suc, ◌+◌, ◌<◌, ◌&&◌, Bool, true, false, cond, List, [], ◌∷◌, ◌++◌, length, get_or, drop, remove, Option, Some, None, is_some, slice_get, slice_set, refl, sym, ◌∙◌, ap, arith}
 use Rattle.std.proofs.lemmas.Bool.{cases_Bool, false≢true}
 use Rattle.std.proofs.lemmas.List.{at_drop_more}
 use Rattle.std.proofs.lemmas.Option.{same_Some}
@@ -93,12 +93,11 @@ devices-moved name cards shelf i k b c d is free none place moved n = elim (case
 module _ (name : List ℕ) (cards : List Card) (shelf left : List Device) (i unit k : ℕ) (b c : Card) (d : Device) (same : i ≡ unit) (is : slice_get cards i ≡ Some b) (free : b.attached ≡ false)
     (once : (u : ℕ) → name_of (slice_get cards u) ≡ Some name → ⊥) (place : IsPlaceOf name shelf k) (moved : HasMoved (get_or shelf k d) b c) (rest : left ≡ remove shelf k)
     (old now : Moment) (event : now ≡ On unit (Attached (get_or shelf k d).first.items) ∷ old) (input : List ℕ) (in_faults out_faults : ℕ) where
-
-  none : attached_device name cards ≡ None
-  none = none-attached name cards once
+  unheld : attached_device name cards ≡ None
+  unheld = none-attached name cards once
 
   known_is : device_of cards shelf name ≡ Some (get_or shelf k d).first.items
-  known_is = ap (λ (o : Option (List ℕ)). or_else o (free_device name shelf)) none ∙ place.found d
+  known_is = ap (λ (o : Option (List ℕ)). or_else o (free_device name shelf)) unheld ∙ place.found d
 
   name_is : name_of (slice_get (slice_set cards i c) unit) ≡ Some name
   name_is = ap (λ (u : ℕ). name_of (slice_get (slice_set cards i c) u)) (sym same) ∙ ap name_of (get-set-same cards i b c is)
@@ -106,7 +105,7 @@ module _ (name : List ℕ) (cards : List Card) (shelf left : List Device) (i uni
 
   pub attaches : Attaches true unit name (told-by cards old input shelf in_faults out_faults) (told-by (slice_set cards i c) now input left in_faults out_faults)
   attaches = record {
-    devices = λ n. ap (λ (l : List Device). device_of (slice_set cards i c) l n) rest ∙ devices-moved name cards shelf i k b c d is free none place moved n;
+    devices = λ n. ap (λ (l : List Device). device_of (slice_set cards i c) l n) rest ∙ devices-moved name cards shelf i k b c d is free unheld place moved n;
     card = name_is;
     other_cards = λ u other. ap name_of (get-set-other cards i u c (λ e. other (e ∙ same)));
     other_blocks = λ u other. ap blocks_of (get-set-other cards i u c (λ e. other (e ∙ same)));
@@ -123,3 +122,33 @@ module _ (name : List ℕ) (cards : List Card) (shelf left : List Device) (i uni
 pub unknown : (name : List ℕ) (cards : List Card) (shelf : List Device) → ((u : ℕ) → name_of (slice_get cards u) ≡ Some name → ⊥) → free_device name shelf ≡ None → false ≡ is_some (device_of cards shelf name)
 unknown name cards shelf once none =
     sym (ap (λ (o : Option (List ℕ)). is_some (or_else o (free_device name shelf))) (none-attached name cards once) ∙ ap is_some none)
+
+neither : (a b : Option (List ℕ)) → or_else a b ≡ None → (a ≡ None) × (b ≡ None)
+neither None b none = (refl, none)
+neither (Some x) b none = absurd (false≢true (sym (ap is_some none)))
+
+push-same : (name : List ℕ) (shelf : List Device) (d : Device) → free_device name shelf ≡ None → d.name.items ≡ name → free_device name (shelf ++ d ∷ []) ≡ Some d.first.items
+push-same name [] d none named = ap (λ (t : Bool). cond t (Some d.first.items) None) ((bytes_eq-Decides d.name.items name).1 named)
+push-same name (x ∷ shelf) d none named =
+    let parts = not_both (bytes_eq x.name.items name) x.first.items (free_device name shelf) none in
+    ap (λ (t : Bool). cond t (Some x.first.items) (free_device name (shelf ++ d ∷ []))) parts.0 ∙ push-same name shelf d parts.1 named
+
+not_true : (t : Bool) → (t ≡ true → ⊥) → t ≡ false
+not_true true never = absurd (never refl)
+not_true false never = refl
+
+push-other : (name : List ℕ) (shelf : List Device) (d : Device) → bytes_eq d.name.items name ≡ false → free_device name (shelf ++ d ∷ []) ≡ free_device name shelf
+push-other name [] d other = ap (λ (t : Bool). cond t (Some d.first.items) None) other
+push-other name (x ∷ shelf) d other = ap (λ (o : Option (List ℕ)). cond (bytes_eq x.name.items name) (Some x.first.items) o) (push-other name shelf d other)
+
+-- a device more on the shelf
+module _ (name bytes : List ℕ) (cards : List Card) (shelf more : List Device) (d : Device) (is : more ≡ shelf ++ d ∷ []) (named : d.name.items ≡ name) (first : d.first.items ≡ bytes) where
+  pub device-added : device_of cards shelf name ≡ None → device_of cards more name ≡ Some bytes
+  device-added none =
+      let parts = neither (attached_device name cards) (free_device name shelf) none in
+      ap (λ (o : Option (List ℕ)). or_else o (free_device name more)) parts.0 ∙ ap (free_device name) is ∙ push-same name shelf d parts.1 named ∙ ap Some first
+
+  pub others-stay : (other : List ℕ) → other ≢ name → device_of cards more other ≡ device_of cards shelf other
+  others-stay other differ =
+      let apart : bytes_eq d.name.items other ≡ false = not_true (bytes_eq d.name.items other) (λ so. differ (sym ((bytes_eq-Decides d.name.items other).0 so) ∙ named)) in
+      ap (λ (o : Option (List ℕ)). or_else (attached_device other cards) o) (ap (free_device other) is ∙ push-other other shelf d apart)

@@ -1,7 +1,7 @@
 -- A call for which there was no room.
-use Rattle.std.proofs.Common.{◌≡◌, ℕ, ◌+◌, ◌≤◌, Bool, true, false, IsTrue, List, [], ◌++◌, length, Result, Ok, Err, refl, sym, ◌∙◌, ap, arith, append-nil, vec_len, vec_capacity}
+use Rattle.std.proofs.Common.{◌≡◌, ℕ, ◌≤◌, Bool, false, IsTrue, [], length, Err, refl, sym, ◌∙◌, ap, arith, append-nil, vec_len, vec_capacity}
 use Rattle.std.proofs.lemmas.Bool.{false≢true}
-use Rattle.newt_memhost.specs.Calls.{Grows, Keeps}
+use Rattle.newt_memhost.specs.Calls.{Keeps}
 use Rattle.newt_memhost.specs.Log.{HasRoom}
 use Rattle.newt_memhost.specs.declared.log.Log.{Log}
 

@@ -1,5 +1,5 @@
 -- The input and the output.
-use Rattle.std.proofs.Common.{◌≡◌, ℕ, ◌+◌, ◌-◌, ◌≤◌, List, ◌++◌, length, take, drop, slice_get, refl, sym, ◌∙◌, ap, subst, arith}
+use Rattle.std.proofs.Common.{◌≡◌, ℕ, ◌+◌, ◌-◌, ◌≤◌, List, ◌++◌, length, take, drop, slice_get, sym, ◌∙◌, ap, subst, arith}
 use Rattle.std.proofs.lemmas.List.{take-append-drop, take_at, drop-drop, length-take-le, length-drop}
 use Rattle.newt_host.specs.Moments.{Change, Moment, changes, output}
 use Rattle.newt_host.specs.Outside.{printed}

@@ -1,6 +1,7 @@
 -- What one call does to the log and to the card of its unit.
-use Rattle.std.specs.Prelude.{◌≡◌, ℕ, ◌+◌, ◌≤◌, ◌<◌, Some, slice_index_or, Bool, true, false, List, ◌++◌, length, Result, IsOk, IsErr, vec_len, vec_capacity}
+use Rattle.std.specs.Prelude.{◌≡◌, ℕ, ◌+◌, ◌≤◌, ◌<◌, Some, slice_index_or, Bool, true, false, List, ◌++◌, length, Result, IsOk, IsErr, vec_len, vec_capacity, OnErr, take, drop, ◌∷◌}
 use Rattle.std.proofs.Common.{Vec, Global}
+use Rattle.newt_host.specs.Moments.{Moment, On, Wrote}
 use Rattle.newt_memhost.specs.Happened.{calls_in}
 use Rattle.newt_memhost.specs.Log.{HasRoom}
 use Rattle.newt_memhost.specs.Cards.{free_device}
@@ -62,3 +63,7 @@ pub record HasMoved (device : Device) (old new : Card) : Type 0 where
 pub record HasRoomFor (entries bytes : ℕ) (output : Vec ℕ Global) (log : Log) : Type 0 where
   pub log_fits : HasRoom entries bytes log
   pub output_fits : vec_len output + bytes ≤ vec_capacity output
+
+-- A call that was to program or erase a range and failed has the range pending, as it reads; and nothing has happened where there was no room to keep that.
+abbrev pub LeavesPending : {T E : Type 0} → ℕ → ℕ → ℕ → List ℕ → Type 0 → Result T E → Moment → Moment → Type 0
+LeavesPending unit at n held room result old new = room → OnErr result (new ≡ On unit (Wrote at (take n (drop at held))) ∷ old)

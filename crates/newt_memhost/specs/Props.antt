@@ -1,5 +1,5 @@
 -- What the units stand for has one proof at most.
-use Rattle.std.specs.Prelude.{◌≡◌, ℕ, ◌≤◌, ◌+◌, Bool, true, false, List, [], ◌∷◌, length, Option, Some, None, slice_get}
+use Rattle.std.specs.Prelude.{ℕ, Bool, true, false, List, [], ◌∷◌, length, Option, Some, None, slice_get}
 use Rattle.std.specs.Coded.{Coded-set, coded_list, coded_ℕ, ×_prop, Π_prop, le_prop}
 use Rattle.std.proofs.Common.{ap}
 use Rattle.std.proofs.Math.Nat.{ℕ_set}

@@ -1,9 +1,8 @@
 -- What follows of a unit that holds what has happened to it.
-use Rattle.std.proofs.Common.{◌≡◌, ◌≢◌, ℕ, zero, suc, ◌+◌, ◌-◌, ◌*◌, ◌/◌, ◌<◌, ◌≤◌, ◌^◌, Bool, true, false, cond, List, [], ◌∷◌, length, Option, Some, None, IsSome, is_some, slice_get, refl, sym, ◌∙◌, ap, subst, lit<}
+use Rattle.std.proofs.Common.{◌≡◌, ℕ, zero, suc, ◌*◌, ◌/◌, ◌<◌, ◌≤◌, ◌^◌, Bool, true, false, cond, List, [], ◌∷◌, length, Option, Some, None, IsSome, is_some, slice_get, refl, sym, ◌∙◌, ap, subst, lit<}
 use Rattle.std.proofs.lemmas.Option.{slice_get_past}
 use Rattle.std.proofs.lemmas.Bool.{false≢true}
-use Rattle.newt_host.specs.Moments.{Change, Moment, bytes_after, changes, IsHistory}
-use Rattle.newt_host.proofs.Histories.{history-length}
+use Rattle.newt_host.specs.Moments.{Change, bytes_after, IsHistory}
 use Rattle.newt_memhost.specs.Cards.{Stands, StandsAs, name_of, blocks_of}
 use Rattle.newt_memhost.specs.declared.card.Card.{Card}
 

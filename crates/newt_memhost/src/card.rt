@@ -1,7 +1,7 @@
 //! Devices, and the units that have them.
-ghost use Rattle.std.specs.Prelude.{◌≡◌, ◌*◌, ◌/◌, ◌<◌, ◌^◌, [], false, length};
+ghost use Rattle.std.specs.Prelude.{◌≡◌, ◌*◌, ◌/◌, ◌<◌, ◌^◌, [], false, IfOk, length};
 
-use std::alloc::Global;
+use std::alloc::{AllocError, Global};
 
 /// A device that no unit has yet: its name and its bytes, with a copy of them to be written and one for the log, so that an attach takes no memory.
 #[derive(Drop)]
@@ -14,6 +14,23 @@ pub struct Device {
     ghost logged_is: { logged.items ≡ first.items },
     ghost whole: { length first.items ≡ length first.items / 4096 * 4096 },
     ghost few: { length first.items / 4096 < 2 ^ 32 },
+}
+
+impl Device {
+    /// A device of these bytes.
+    pub fn new(alloc: Global, name: &str, bytes: &[u8]) -> Result<Self, AllocError>
+        requires whole { length bytes.now ≡ length bytes.now / 4096 * 4096 }
+        requires few { length bytes.now / 4096 < 2 ^ 32 }
+        ensures name { IfOk result (λ device. device.name.items ≡ name.now) }
+        ensures first { IfOk result (λ device. device.first.items ≡ bytes.now) }
+    {
+        Ok(Device {
+            name: name.as_bytes().to_vec(alloc)?,
+            first: bytes.to_vec(alloc)?,
+            held: bytes.to_vec(alloc)?,
+            logged: bytes.to_vec(alloc)?,
+        })
+    }
 }
 
 /// A unit, with the bytes of its device at the attach and now, and with its counts. Without a device it has none.

@@ -8,8 +8,8 @@ use crate::happened::Happened;
 use crate::log::Log;
 use newt_host::Failed;
 
-// Makes room for so many entries, and for so many bytes in the log and the output, and answers whether there is that room.
-fn reserve(output: &mut Vec<u8>, log: &mut Log, entries: usize, bytes: usize) -> bool
+/// Makes room for so many entries, and for so many bytes in the log and the output, and answers whether there is that room.
+pub fn reserve(output: &mut Vec<u8>, log: &mut Log, entries: usize, bytes: usize) -> bool
     ensures same_output { output.new.items ≡ output.old.items }
     ensures same_entries { log.new.entries.items ≡ log.old.entries.items }
     ensures same_store { log.new.store.items ≡ log.old.store.items }

@@ -2,7 +2,7 @@
 ghost use Rattle.std.specs.Prelude.{◌≡◌, ◌+◌, ◌*◌, ◌≤◌, ◌<◌, ◌⊎◌, [], true, length, take, drop, OnOk, OnErr};
 ghost use Rattle.newt_host.specs.Moments.{changes};
 ghost use Rattle.newt_host.specs.Outside.{Rose, Syncs, Writes, blank};
-ghost use Rattle.newt_memhost.specs.Calls.{Keeps, OnCard};
+ghost use Rattle.newt_memhost.specs.Calls.{Keeps, LeavesPending, OnCard};
 ghost use Rattle.newt_memhost.specs.Cards.{StandsAs};
 ghost use Rattle.newt_memhost.specs.Happened.{after, bytes_of, counts};
 ghost use Rattle.newt_memhost.specs.Log.{HasRoom, now_of};
@@ -45,6 +45,8 @@ fn write(
     requires waits { HasRoom waiting 0 log.old }
     ensures event { Writes unit at bytes.now result (now_of log.old) (now_of log.new) }
     ensures stands { StandsAs true card.old (changes unit (now_of log.old)) → StandsAs true card.new (changes unit (now_of log.new)) }
+    ensures pending { LeavesPending unit at (length bytes.now) card.old.held.items (HasRoom (waiting + 1) (length bytes.now) log.old) result (now_of log.old) (now_of log.new) }
+    ensures unchanged { OnErr result (card.new.held.items ≡ card.old.held.items) }
     ensures kept { Keeps waiting (length bytes.now) fails (HasRoom (waiting + 1) (length bytes.now) log.old) result log.old log.new }
     ensures card { OnCard 0 0 card.old card.new }
     ensures cause { OnErr result (Rose card.old.faults card.new.faults) }
@@ -78,6 +80,8 @@ pub fn program(
     requires waits { HasRoom waiting 0 log.old }
     ensures event { Writes unit at bytes.now result (now_of log.old) (now_of log.new) }
     ensures stands { StandsAs true card.old (changes unit (now_of log.old)) → StandsAs true card.new (changes unit (now_of log.new)) }
+    ensures pending { LeavesPending unit at (length bytes.now) card.old.held.items (HasRoom (waiting + 1) (length bytes.now) log.old) result (now_of log.old) (now_of log.new) }
+    ensures unchanged { OnErr result (card.new.held.items ≡ card.old.held.items) }
     ensures kept { Keeps waiting (length bytes.now) fails (HasRoom (waiting + 1) (length bytes.now) log.old) result log.old log.new }
     ensures card { OnCard (length bytes.now) 0 card.old card.new }
     ensures cause { OnErr result (Rose card.old.faults card.new.faults) }
@@ -100,6 +104,8 @@ pub fn erase(
     requires waits { HasRoom waiting 0 log.old }
     ensures event { Writes unit (block * 4096) (blank 4096) result (now_of log.old) (now_of log.new) }
     ensures stands { StandsAs true card.old (changes unit (now_of log.old)) → StandsAs true card.new (changes unit (now_of log.new)) }
+    ensures pending { LeavesPending unit (block * 4096) 4096 card.old.held.items (HasRoom (waiting + 1) 4096 log.old) result (now_of log.old) (now_of log.new) }
+    ensures unchanged { OnErr result (card.new.held.items ≡ card.old.held.items) }
     ensures kept { Keeps waiting 4096 fails (HasRoom (waiting + 1) 4096 log.old) result log.old log.new }
     ensures card { OnCard 0 0 card.old card.new }
     ensures cause { OnErr result (Rose card.old.faults card.new.faults) }

@@ -3,9 +3,10 @@ use Rattle.std.specs.Prelude.{ℕ, List, [], ◌∷◌, ◌++◌, flat_map, code
 use Rattle.newt_base.specs.Text.{hex_text}
 use Rattle.newt_base.specs.Refusals.{refusal_text}
 use Rattle.newt_base.specs.declared.Refusal.{Refusal}
+use Rattle.newt_lit.specs.Printed.{literal}
 use Rattle.newt_nsof.specs.Written.{nsof}
 use Rattle.newt_reply.specs.declared.reply.Reply.{Reply}
-use Rattle.newt_reply.specs.declared.reply.Reply.TheVariants.{Done, Nsof, Refused}
+use Rattle.newt_reply.specs.declared.reply.Reply.TheVariants.{Done, Nsof, Literal, Refused}
 
 -- a field after a single space; an empty one is left out with its space
 abbrev pub spaced : List ℕ → List ℕ
@@ -24,4 +25,5 @@ error_line refusal = codes "error " ++ refusal_text refusal ++ 10 ∷ []
 unfoldable pub reply_text : Reply → List ℕ
 reply_text Done = ok_line []
 reply_text (Nsof graph) = ok_line (hex_text (nsof graph) ∷ [])
+reply_text (Literal graph) = ok_line (literal graph ∷ [])
 reply_text (Refused refusal) = error_line refusal

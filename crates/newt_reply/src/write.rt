@@ -8,6 +8,7 @@ ghost use Rattle.newt_reply.specs.Texts as spec;
 use crate::reply::Reply;
 use newt_base::{Refusal, hex_text};
 use newt_graph::Graph;
+use newt_lit_print::print_literal;
 use newt_nsof_write::encode;
 use std::alloc::{AllocError, Global};
 
@@ -57,6 +58,7 @@ pub fn write_reply(alloc: Global, reply: &Reply) -> Result<Vec<u8>, AllocError>
     match reply {
         Reply::Done => ok_line(alloc, b""),
         Reply::Nsof(graph) => ok_line(alloc, &stream_digits(alloc, graph)?),
+        Reply::Literal(graph) => ok_line(alloc, &print_literal(alloc, graph)?),
         Reply::Refused(refusal) => error_line(alloc, *refusal),
     }
 }

@@ -1,7 +1,7 @@
 //! Runs in which a call of the host fails.
 
-use crate::trial::{host, words};
-use newt_top::{Status, run};
+use crate::trial::{expect_faults, host, run_on};
+use newt_top::Status;
 use std::alloc::AllocError;
 
 const SCRIPT: &[u8] = b"nsof 020A\ntime 5\nquit now";
@@ -10,25 +10,26 @@ const OUTPUT: &[u8] = b"ok 020A\nok\nerror 11 line\n";
 
 #[test]
 fn tells_which_call_failed(rt: HostRuntime) -> Result<(), AllocError> {
-    let alloc = rt.alloc();
-    for (call, status, output) in [
+    let cases = [
         (0u64, Status::Source, b"".as_slice()),
         (1, Status::Sink, b""),
         (2, Status::Sink, b"ok 020A\n"),
         (3, Status::Source, b"ok 020A\nok\n"),
         (4, Status::Sink, b"ok 020A\nok\n"),
         (5, Status::Ok, OUTPUT),
-    ] {
-        let mut host = host(alloc, SCRIPT, 100)?;
-        host.fail(call)?;
-        assert_eq!(rt;
-            run(alloc, &words(alloc, "run")?, &mut host),
-            status,
-            "at call {call}"
-        );
-        assert_eq!(rt; host.output(), output, "at call {call}");
-    }
-    Ok(())
+    ];
+    expect_faults(&rt, rt.alloc(), "run", SCRIPT, &cases)
+}
+
+#[test]
+fn writes_nothing_of_a_whole_input_that_fails(rt: HostRuntime) -> Result<(), AllocError> {
+    let cases = [
+        (0u64, Status::Source, b"".as_slice()),
+        (1, Status::Source, b""),
+        (2, Status::Sink, b""),
+    ];
+    expect_faults(&rt, rt.alloc(), "show", b"\x02\x0A", &cases)?;
+    expect_faults(&rt, rt.alloc(), "pack", b"nil", &cases)
 }
 
 #[test]
@@ -36,13 +37,13 @@ fn halts_at_each_call_that_fails(rt: HostRuntime) -> Result<(), AllocError> {
     let alloc = rt.alloc();
     for piece in [1u32, 4, 11] {
         let mut sound = host(alloc, SCRIPT, piece)?;
-        assert_eq!(rt; run(alloc, &words(alloc, "run")?, &mut sound), Status::Ok);
+        assert_eq!(rt; run_on(alloc, "run", &mut sound)?, Status::Ok);
         for call in 0..sound.calls() {
             let mut host = host(alloc, SCRIPT, piece)?;
             host.fail(call)?;
-            let status = run(alloc, &words(alloc, "run")?, &mut host);
+            let status = run_on(alloc, "run", &mut host)?;
             assert!(rt;
-                matches!(status, Status::Source | Status::Sink),
+                status == Status::Source || status == Status::Sink,
                 "at call {call}"
             );
             assert!(rt; OUTPUT.starts_with(host.output()), "at call {call}");

@@ -6,8 +6,8 @@ use newt_top::{Status, run};
 use std::alloc::{AllocError, Global};
 use std::process::Abort;
 
-/// The words of a run, one for each word of the text.
-pub fn words(alloc: Global, text: &str) -> Result<Vec<String>, AllocError> {
+/// The words of a run.
+fn words(alloc: Global, text: &str) -> Result<Vec<String>, AllocError> {
     let mut words = Vec::new(alloc);
     for word in text.split_whitespace() {
         let word = String::from_str(alloc, word)?;
@@ -26,26 +26,45 @@ pub fn host(alloc: Global, input: &[u8], piece: u32) -> Result<MemHost, AllocErr
     Ok(host)
 }
 
-/// Runs a script in pieces of several sizes, and looks each time for this output and the status Ok.
-pub fn expect_replies(
+/// Runs these words over a host.
+pub fn run_on(alloc: Global, text: &str, host: &mut MemHost) -> Result<Status, AllocError> {
+    Ok(run(alloc, &words(alloc, text)?, host))
+}
+
+/// Runs each input in pieces of several sizes, and looks each time for its output and the status Ok.
+pub fn expect_outputs(
     rt: &impl Abort,
     alloc: Global,
-    script: &[u8],
-    output: &[u8],
+    text: &str,
+    cases: &[(&[u8], &[u8])],
 ) -> Result<(), AllocError> {
-    for piece in [1u32, 2, 3, 7, 100_000] {
-        let mut host = host(alloc, script, piece)?;
-        assert_eq!(rt;
-            run(alloc, &words(alloc, "run")?, &mut host),
-            Status::Ok,
-            "in pieces of {piece}"
-        );
-        assert_eq!(rt; host.output(), output, "in pieces of {piece}");
+    for (input, output) in cases {
+        for piece in [1u32, 2, 7, 100_000] {
+            let mut host = host(alloc, input, piece)?;
+            assert_eq!(rt; run_on(alloc, text, &mut host)?, Status::Ok);
+            assert_eq!(rt; host.output(), *output);
+        }
     }
     Ok(())
 }
 
-/// A status of each kind, and its number.
+/// Runs the input once for each call that is to fail, and looks for its status and its output.
+pub fn expect_faults(
+    rt: &impl Abort,
+    alloc: Global,
+    text: &str,
+    input: &[u8],
+    cases: &[(u64, Status, &[u8])],
+) -> Result<(), AllocError> {
+    for (call, status, output) in cases {
+        let mut host = host(alloc, input, 100)?;
+        host.fail(*call)?;
+        assert_eq!(rt; run_on(alloc, text, &mut host)?, *status, "at call {call}");
+        assert_eq!(rt; host.output(), *output, "at call {call}");
+    }
+    Ok(())
+}
+
 #[test]
 fn numbers_the_statuses(rt: HostRuntime) {
     for (status, number) in [

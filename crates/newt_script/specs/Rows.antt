@@ -1,18 +1,16 @@
 -- The table of commands: the word of each row, and what is read behind it. The table is this project's own.
 use Rattle.std.specs.Prelude.{ℕ, ◌==◌, List, length, codes, Option, Some, None, Result, Ok, Err, if◌then◌else◌}
 use Rattle.std.specs.Str.{bytes_eq}
-use Rattle.newt_base.specs.Text.{decimal_value, hex_bytes}
+use Rattle.newt_base.specs.Text.{decimal_value}
 use Rattle.newt_base.specs.declared.Refusal.{Refusal}
 use Rattle.newt_base.specs.declared.Refusal.TheVariants as refusals
 use Rattle.newt_graph.specs.Graph.{RawGraph}
-use Rattle.newt_nsof_read.specs.Reading.{decoded}
-use Rattle.newt_nsof_read.specs.declared.fault.NsofFault.{NsofFault}
-use Rattle.newt_nsof_read.specs.declared.fault.NsofFault.TheVariants as nsof_faults
+use Rattle.newt_script.specs.Graphs.{stream_word, literal_word}
 use Rattle.newt_script.specs.Words.{first_word, rest_of}
 use Rattle.newt_script.specs.declared.command.Command.{Command}
 use Rattle.newt_script.specs.declared.command.Command.TheVariants as commands
 use Rattle.newt_script.specs.declared.command.LineFault.{LineFault}
-use Rattle.newt_script.specs.declared.command.LineFault.TheVariants.{Refused, Memory}
+use Rattle.newt_script.specs.declared.command.LineFault.TheVariants.{Refused}
 use Rattle.newt_script.specs.declared.verbs.Verb.{Verb}
 use Rattle.newt_script.specs.declared.verbs.Verb.TheVariants as verbs
 
@@ -23,34 +21,29 @@ Reading = Result Command LineFault
 abbrev pub refused : Refusal → Reading
 refused refusal = Err (Refused refusal)
 
--- ---- the words of a row
+-- a command with a graph
+abbrev pub with_graph : (RawGraph → Command) → Result RawGraph LineFault → Reading
+with_graph command (Ok graph) = Ok (command graph)
+with_graph command (Err fault) = Err fault
 
--- a number of 32 bits
-abbrev pub time_of : Option ℕ → Reading
-time_of (Some minute) = Ok (commands.Time minute)
-time_of None = refused refusals.Line
-
--- an object stream
-abbrev pub graph_of : Result RawGraph NsofFault → Reading
-graph_of (Ok graph) = Ok (commands.Nsof graph)
-graph_of (Err nsof_faults.Malformed) = refused refusals.Malformed
-graph_of (Err nsof_faults.Compressed) = refused refusals.Compressed
-graph_of (Err nsof_faults.Memory) = Err Memory
-
--- an object stream in hexadecimal digits
-abbrev pub stream_of : Option (List ℕ) → Reading
-stream_of (Some bytes) = graph_of (decoded bytes)
-stream_of None = refused refusals.Malformed
+-- a command with a number of 32 bits
+abbrev pub with_number : (ℕ → Command) → Option ℕ → Reading
+with_number command (Some number) = Ok (command number)
+with_number command None = refused refusals.Line
 
 -- ---- the rows: what the words behind the first one say
 
 -- nsof HEX
 unfoldable pub nsof_row : List ℕ → Reading
-nsof_row rest = stream_of (hex_bytes rest)
+nsof_row rest = with_graph commands.Nsof (stream_word rest)
+
+-- lit LIT
+unfoldable pub lit_row : List ℕ → Reading
+lit_row rest = with_graph commands.Lit (literal_word rest)
 
 -- time T
 unfoldable pub time_row : List ℕ → Reading
-time_row rest = if length (rest_of rest) == 0 then time_of (decimal_value (first_word rest)) else refused refusals.Line
+time_row rest = if length (rest_of rest) == 0 then with_number commands.Time (decimal_value (first_word rest)) else refused refusals.Line
 
 -- quit
 unfoldable pub quit_row : List ℕ → Reading
@@ -62,12 +55,14 @@ quit_row rest = if length rest == 0 then Ok commands.Quit else refused refusals.
 unfoldable pub verb_named : List ℕ → Option Verb
 verb_named word =
     if bytes_eq word (codes "nsof") then Some verbs.Nsof
+    else if bytes_eq word (codes "lit") then Some verbs.Lit
     else if bytes_eq word (codes "time") then Some verbs.Time
     else if bytes_eq word (codes "quit") then Some verbs.Quit
     else None
 
 abbrev pub row_of : Verb → List ℕ → Reading
 row_of verbs.Nsof rest = nsof_row rest
+row_of verbs.Lit rest = lit_row rest
 row_of verbs.Time rest = time_row rest
 row_of verbs.Quit rest = quit_row rest
 

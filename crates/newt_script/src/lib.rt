@@ -1,18 +1,20 @@
 //! Lines of a script: what one line says.
 //!
-//! Stands on the numbers and refusals of `newt_base`, the graphs of `newt_graph` and the reader of
-//! object streams. It carries the promise that the reading of a line is exact: `line` answers the
+//! Stands on the numbers and refusals of `newt_base`, the graphs of `newt_graph` and the readers of
+//! object streams and literals. It carries the promise that the reading of a line is exact: `line` answers the
 //! one command that the line says or the one refusal of its reading, and nothing exactly for a
 //! blank line or a `%` line.
 #![tactic(auto)]
 
 mod command;
+mod graphs;
 mod lines;
 mod rows;
 mod verbs;
 mod words;
 
 pub use command::{Command, LineFault};
+pub use graphs::literal;
 pub use lines::line;
 
 /// The longest line that is read, in bytes without its end.

@@ -3,34 +3,26 @@ ghost use Rattle.std.specs.Prelude.{◌≡◌, ◌≢◌};
 ghost use Rattle.newt_script.specs.Rows as spec;
 
 use crate::command::{Command, LineFault};
+use crate::graphs::{literal_word, stream_word};
 use crate::verbs::{Verb, named};
 use crate::words::split_word;
-use newt_base::{HexFault, Refusal, decimal, hex_read};
-use newt_nsof_read::{NsofFault, decode};
+use newt_base::{Refusal, decimal};
 use std::alloc::Global;
-
-/// The row of an object stream.
-fn stream(alloc: Global, bytes: &[u8]) -> Result<Command, LineFault>
-    ensures { result ≢ Err LineFault.Memory → result ≡ spec.stream_of (Some bytes.now) }
-{
-    match decode(alloc, bytes) {
-        Ok(graph) => Ok(Command::Nsof(graph)),
-        Err(NsofFault::Malformed) => Err(LineFault::Refused(Refusal::Malformed)),
-        Err(NsofFault::Compressed) => Err(LineFault::Refused(Refusal::Compressed)),
-        Err(NsofFault::Memory) => Err(LineFault::Memory),
-    }
-}
 
 /// `nsof HEX`
 #[tactic(auto, unfolding(crate::specs::Rows::nsof_row))]
 fn nsof(alloc: Global, rest: &[u8]) -> Result<Command, LineFault>
     ensures { result ≢ Err LineFault.Memory → result ≡ spec.nsof_row rest.now }
 {
-    match hex_read(alloc, rest) {
-        Ok(bytes) => stream(alloc, &bytes),
-        Err(HexFault::NotHex) => Err(LineFault::Refused(Refusal::Malformed)),
-        Err(HexFault::Memory) => Err(LineFault::Memory),
-    }
+    Ok(Command::Nsof(stream_word(alloc, rest)?))
+}
+
+/// `lit LIT`
+#[tactic(auto, unfolding(crate::specs::Rows::lit_row))]
+fn lit(alloc: Global, rest: &[u8]) -> Result<Command, LineFault>
+    ensures { result ≢ Err LineFault.Memory → result ≡ spec.lit_row rest.now }
+{
+    Ok(Command::Lit(literal_word(alloc, rest)?))
 }
 
 /// `time T`
@@ -68,6 +60,7 @@ pub fn command(alloc: Global, line: &[u8]) -> Result<Command, LineFault>
     let (word, rest) = split_word(line);
     match named(word) {
         Some(Verb::Nsof) => nsof(alloc, rest),
+        Some(Verb::Lit) => lit(alloc, rest),
         Some(Verb::Time) => time(rest),
         Some(Verb::Quit) => quit(rest),
         None => Err(LineFault::Refused(Refusal::Command)),

@@ -6,6 +6,7 @@ ghost use Rattle.newt_script.specs.Rows.{verb_named};
 #[derive(Clone, Copy, PartialEq, Eq, Debug)]
 pub enum Verb {
     Nsof,
+    Lit,
     Time,
     Quit,
 }
@@ -17,6 +18,8 @@ pub fn named(word: &[u8]) -> Option<Verb>
 {
     if word == b"nsof".as_slice() {
         Some(Verb::Nsof)
+    } else if word == b"lit".as_slice() {
+        Some(Verb::Lit)
     } else if word == b"time".as_slice() {
         Some(Verb::Time)
     } else if word == b"quit".as_slice() {

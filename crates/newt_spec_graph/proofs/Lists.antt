@@ -1,6 +1,6 @@
 -- Lemmas on elements of lists.
-use Rattle.std.proofs.Common.{arith, ◌≡◌, refl, ap, sym, ◌∙◌, subst, ℕ, zero, suc, ◌+◌, ◌<◌, ◌≤◌, List, [], ◌∷◌, ◌++◌, true, false, Bool, not, IsTrue, ◌&&◌, ◌||◌, ◌⊎◌, inl, inr, map, filter, flat_map, filter_map, find, cond, Option, Some, None, nat_le, nat_lt, ◌==◌}
-use Rattle.std.specs.List.{list_all, list_any, cons_option}
+use Rattle.std.proofs.Common.{arith, ◌≡◌, refl, ap, sym, ◌∙◌, subst, ℕ, ◌+◌, ◌<◌, ◌≤◌, List, [], ◌∷◌, ◌++◌, true, false, Bool, ◌⊎◌, inl, inr, map, filter, flat_map, filter_map, cond, Option, Some, None}
+use Rattle.std.specs.List.{list_all, cons_option}
 use Rattle.newt_spec_graph.specs.Lists.{rises}
 use Rattle.newt_spec_graph.specs.Lists.{Each, Pairs, Among}
 
@@ -69,7 +69,7 @@ among-filter test [] z m = absurd m
 among-filter test (x ∷ xs) z m = go (among-filter test xs z) (test x) refl m
   where
     go : (Among (filter test xs) z → Among xs z × (test z ≡ true))
-      → (b : Bool) → test x ≡ b → Among (cond b (x ∷ filter test xs) (filter test xs)) z → Among (x ∷ xs) z × (test z ≡ true)
+        → (b : Bool) → test x ≡ b → Among (cond b (x ∷ filter test xs) (filter test xs)) z → Among (x ∷ xs) z × (test z ≡ true)
     go more true e (inl k) = (inl k, subst (λ v. test v ≡ true) k e)
     go more true e (inr k) = let r = more k in (inr r.0, r.1)
     go more false e k = let r = more k in (inr r.0, r.1)
@@ -82,7 +82,7 @@ filter-among test [] z m h = absurd m
 filter-among test (x ∷ xs) z m h = go (λ k. filter-among test xs z k h) (test x) refl m
   where
     go : (Among xs z → Among (filter test xs) z)
-      → (b : Bool) → test x ≡ b → Among (x ∷ xs) z → Among (cond b (x ∷ filter test xs) (filter test xs)) z
+        → (b : Bool) → test x ≡ b → Among (x ∷ xs) z → Among (cond b (x ∷ filter test xs) (filter test xs)) z
     go more true e (inl k) = inl k
     go more true e (inr k) = inr (more k)
     go more false e (inl k) = absurd (both-ways (sym e ∙ ap test k ∙ h))
@@ -99,7 +99,7 @@ among-filter_map f [] z m = absurd m
 among-filter_map f (x ∷ xs) z m = go (among-filter_map f xs z) (f x) refl m
   where
     go : (Among (filter_map f xs) z → (y : _) × Among xs y × (f y ≡ Some z))
-      → (o : Option _) → f x ≡ o → Among (cons_option o (filter_map f xs)) z → (y : _) × Among (x ∷ xs) y × (f y ≡ Some z)
+        → (o : Option _) → f x ≡ o → Among (cons_option o (filter_map f xs)) z → (y : _) × Among (x ∷ xs) y × (f y ≡ Some z)
     go more None e k = let r = more k in (r.0, inr r.1, r.2)
     go more (Some a) e (inl k) = (x, inl refl, e ∙ ap Some k)
     go more (Some a) e (inr k) = let r = more k in (r.0, inr r.1, r.2)
@@ -109,7 +109,7 @@ filter_map-among f [] x z m h = absurd m
 filter_map-among f (y ∷ xs) x z m h = go (λ k. filter_map-among f xs x z k h) (f y) refl m
   where
     go : (Among xs x → Among (filter_map f xs) z)
-      → (o : Option _) → f y ≡ o → Among (y ∷ xs) x → Among (cons_option o (filter_map f xs)) z
+        → (o : Option _) → f y ≡ o → Among (y ∷ xs) x → Among (cons_option o (filter_map f xs)) z
     go more None e (inl k) = absurd (none-some z (sym e ∙ ap f k ∙ h))
     go more None e (inr k) = more k
     go more (Some a) e (inl k) = inl (some-same a z (sym e ∙ ap f k ∙ h))
@@ -120,8 +120,9 @@ filter_map-among f (y ∷ xs) x z m h = go (λ k. filter_map-among f xs x z k h)
 pub pairs-more : {X : Type 0} (R S : X → X → Type 0) (xs : List X) → ((a b : X) → Among xs a → Among xs b → R a b → S a b) → Pairs R xs → Pairs S xs
 pairs-more R S [] f h = tt
 pairs-more R S (x ∷ xs) f h = (
-    each-from (S x) xs (λ z m. f x z (inl refl) (inr m) (each-at (R x) xs z h.0 m)),
-    pairs-more R S xs (λ a b m k. f a b (inr m) (inr k)) h.1)
+  each-from (S x) xs (λ z m. f x z (inl refl) (inr m) (each-at (R x) xs z h.0 m)),
+  pairs-more R S xs (λ a b m k. f a b (inr m) (inr k)) h.1,
+)
 
 pub pairs-map : {X Y : Type 0} (R : Y → Y → Type 0) (f : X → Y) (xs : List X) → Pairs R (map f xs) → Pairs (λ a b. R (f a) (f b)) xs
 pairs-map R f [] h = tt
@@ -137,7 +138,7 @@ pairs-flat_map R f [] h k = tt
 pairs-flat_map R f (x ∷ xs) h k =
     pairs-append R (f x) (flat_map f xs) h.0 (pairs-flat_map R f xs h.1 k.1)
     (each-from (λ a. Each (R a) (flat_map f xs)) (f x) (λ a m. each-from (R a) (flat_map f xs) (λ b n.
-        let r = among-flat_map f xs b n in each-at (λ y. (a b : _) → Among (f x) a → Among (f y) b → R a b) xs r.0 k.0 r.1 a b m r.2)))
+    let r = among-flat_map f xs b n in each-at (λ y. (a b : _) → Among (f x) a → Among (f y) b → R a b) xs r.0 k.0 r.1 a b m r.2)))
 
 pub pairs-filter : {X : Type 0} (R : X → X → Type 0) (test : X → Bool) (xs : List X) → Pairs R xs → Pairs R (filter test xs)
 pairs-filter R test [] h = tt
@@ -155,9 +156,10 @@ pairs-filter_map R f (x ∷ xs) h = go (pairs-filter_map R f xs h.1) (f x) refl
     go : Pairs R (filter_map f xs) → (o : Option _) → f x ≡ o → Pairs R (cons_option o (filter_map f xs))
     go more None e = more
     go more (Some a) e = (
-        each-from (R a) (filter_map f xs) (λ b m. let r = among-filter_map f xs b m in
-            each-at (λ y. (a b : _) → f x ≡ Some a → f y ≡ Some b → R a b) xs r.0 h.0 r.1 a b e r.2),
-        more)
+      each-from (R a) (filter_map f xs) (λ b m. let r = among-filter_map f xs b m in
+          each-at (λ y. (a b : _) → f x ≡ Some a → f y ≡ Some b → R a b) xs r.0 h.0 r.1 a b e r.2),
+      more,
+    )
 
 -- ---- numbers that rise
 
@@ -171,5 +173,6 @@ rises-above low high (n ∷ ns) h = (grind arith, each-more _ _ ns (λ z k. (ome
 pub rises-pairs : (low high : ℕ) (ns : List ℕ) → rises low high ns ≡ true → Pairs (λ m n. m < n) ns
 rises-pairs low high [] h = tt
 rises-pairs low high (n ∷ ns) h = (
-    each-more _ _ ns (λ z k. omega (arith, k.0)) (rises-above (n + 1) high ns (grind arith)),
-    rises-pairs (n + 1) high ns (grind arith))
+  each-more _ _ ns (λ z k. omega (arith, k.0)) (rises-above (n + 1) high ns (grind arith)),
+  rises-pairs (n + 1) high ns (grind arith),
+)

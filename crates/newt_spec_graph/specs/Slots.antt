@@ -1,13 +1,13 @@
 -- Frames by the names of their slots, and paths through them. That a path is a list of symbols is Newton's (Newton Programmer's Guide 2.0);
 -- which symbols keep their spelling, and that a path takes no step from an array, is this project's own.
-use Rattle.std.specs.Prelude.{ℕ, zero, suc, ◌+◌, Bool, true, false, not, ◌&&◌, ◌==◌, List, [], ◌∷◌, ◌++◌, map, length, Option, Some, None, is_none, option_map, option_and_then, unwrap_or, option_to_list, slice_set, filter}
+use Rattle.std.specs.Prelude.{ℕ, ◌+◌, Bool, false, ◌==◌, List, [], ◌∷◌, ◌++◌, map, length, Option, Some, None, is_none, option_map, option_and_then, unwrap_or, slice_set, filter}
 use Rattle.std.specs.Prelude.{slice_get}
 use Rattle.std.specs.List.{position, position_or_len, enumerate_from, last_or}
 use Rattle.newt_base.specs.Names.{same_name}
 use Rattle.newt_graph.specs.declared.node.Ref.{Ref}
 use Rattle.newt_graph.specs.declared.node.Ref.TheVariants.{Imm, Node as At}
 use Rattle.newt_graph.specs.declared.node.Node.{Node}
-use Rattle.newt_graph.specs.declared.node.Node.TheVariants.{Symbol, Str, Binary, Large, Array, Frame}
+use Rattle.newt_graph.specs.declared.node.Node.TheVariants.{Symbol, Frame}
 use Rattle.newt_graph.specs.Graph.{RawGraph}
 use Rattle.newt_spec_graph.specs.Graph.{change_nth, object}
 use Rattle.newt_graph.specs.Raw.{renamed, renamed_ref}

@@ -1,11 +1,11 @@
 -- The order of keys and of hits is total.
-use Rattle.std.proofs.Common.{arith, ◌≡◌, refl, ap, sym, ◌∙◌, ℕ, zero, suc, List, [], ◌∷◌, true, false, Bool, ℤ, pos}
+use Rattle.std.proofs.Common.{◌≡◌, refl, ap, sym, ◌∙◌, ℕ, List, [], ◌∷◌, ℤ, pos}
 use Rattle.std.specs.declared.cmp.Ordering.{Ordering}
 use Rattle.std.specs.declared.cmp.Ordering.TheVariants.{Less, Equal, Greater}
 use Rattle.std.specs.Cmp.{IsTotalOrder}
 use Rattle.std.specs.Cmp.Lexicographic.{slice_cmp}
-use Rattle.std.specs.Ordering.{nat_cmp, int_cmp, ordering_then, ordering_reverse, on, then_cmp, flip_args}
-use Rattle.std.proofs.lemmas.Cmp.{nat_cmp_total, int_cmp_total, nat_list_cmp_total, on_total, then_total, back_total}
+use Rattle.std.specs.Ordering.{nat_cmp, int_cmp, ordering_then, ordering_reverse, on, then_cmp}
+use Rattle.std.proofs.lemmas.Cmp.{nat_cmp_total, int_cmp_total, nat_list_cmp_total, on_total, then_total}
 use Rattle.newt_spec_store.specs.declared.Order.{Order}
 use Rattle.newt_spec_store.specs.declared.Order.TheVariants as order
 use Rattle.newt_spec_store.specs.Keys.{Part, missing, words, whole, letter, name, form, IndexPart, IndexSpec, Key, value_cmp, part_cmp, key_cmp, in_direction}
@@ -69,8 +69,9 @@ directed_total order.Descend = record {
     reversed-equal Less h = cc
     reversed-equal Equal h = refl
     reversed-equal Greater h = cc
+
     reversed-trans : (ab bc ac ba cb ca : Ordering) → ab ≡ ordering_reverse ba → bc ≡ ordering_reverse cb → ac ≡ ordering_reverse ca
-      → (ba ≡ Less → cb ≡ Less → ca ≡ Less) → ordering_reverse ab ≡ Less → ordering_reverse bc ≡ Less → ordering_reverse ac ≡ Less
+        → (ba ≡ Less → cb ≡ Less → ca ≡ Less) → ordering_reverse ab ≡ Less → ordering_reverse bc ≡ Less → ordering_reverse ac ≡ Less
     reversed-trans ab bc ac Less Less ca e f g t h k = ap ordering_reverse (g ∙ ap ordering_reverse (t refl refl))
     reversed-trans ab bc ac Less Equal ca e f g t h k = cc
     reversed-trans ab bc ac Less Greater ca e f g t h k = cc

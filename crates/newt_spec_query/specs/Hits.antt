@@ -1,16 +1,16 @@
 -- The hits of a query: a filter of all entries, put in order. That a query finds the entries of a soup or a union soup in the order of an index is Newton's
 -- (Newton Programmer's Guide 2.0, queries and union soups); which soups take part, which entries have a key, and the order of ties are this project's own.
-use Rattle.std.specs.Prelude.{ℕ, Bool, true, false, not, ◌&&◌, ◌||◌, ◌==◌, List, [], ◌∷◌, ◌++◌, map, filter, flat_map, filter_map, fold, Option, Some, None, option_map, cond}
+use Rattle.std.specs.Prelude.{ℕ, Bool, true, not, ◌&&◌, ◌==◌, List, [], filter, flat_map, filter_map, Option, Some, None, option_map, cond}
 use Rattle.std.specs.List.{list_all, list_any}
 use Rattle.std.specs.declared.cmp.Ordering.{Ordering}
 use Rattle.std.specs.Ordering.{nat_cmp, ordering_then, is_lt, is_gt}
 use Rattle.newt_base.specs.Names.{equal_text}
 use Rattle.newt_graph.specs.declared.node.Node.{Node}
-use Rattle.newt_graph.specs.declared.node.Node.TheVariants.{Symbol, Str, Binary, Large, Array, Frame}
+use Rattle.newt_graph.specs.declared.node.Node.TheVariants.{Str}
 use Rattle.newt_graph.specs.Graph.{RawGraph}
 use Rattle.newt_spec_store.specs.Keys.{IndexSpec, Key, key, key_cmp, same_spec, folded}
 use Rattle.newt_spec_store.specs.Store.{Entry, Soup, Store, TagTable}
-use Rattle.newt_spec_store.specs.Sorted.{insert_by, sorted_by}
+use Rattle.newt_spec_store.specs.Sorted.{sorted_by}
 use Rattle.newt_spec_query.specs.Words.{has_text, has_word}
 use Rattle.newt_spec_query.specs.Tags.{tags_of, tags_pass}
 use Rattle.newt_spec_query.specs.Spec.{Spec, Bound, unbounded, including, excluding}

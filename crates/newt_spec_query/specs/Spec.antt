@@ -1,21 +1,15 @@
 -- The frame of a query, and what it says. The slots are those of Newton's query specs (Newton Programmer's Guide 2.0, query specs) but for its functions.
 -- This project's own are which other slots are refused, the forms of key values, words and texts, and that nil counts as missing.
-use Rattle.std.specs.Prelude.{ℕ, ◌+◌, ◌-◌, Bool, true, false, not, ◌&&◌, ◌||◌, ◌==◌, nat_le, List, [], ◌∷◌, ◌++◌, map, length, replicate, zip, Option, Some, None, is_some, is_none, option_map, option_and_then, unwrap_or, ℤ, pos, codes, if◌then◌else◌}
-use Rattle.std.specs.Prelude.{slice_get}
+use Rattle.std.specs.Prelude.{ℕ, ◌+◌, Bool, true, false, not, ◌&&◌, ◌||◌, ◌==◌, nat_le, List, [], ◌∷◌, map, length, zip, Option, Some, None, is_some, option_map, option_and_then, unwrap_or, pos, codes, if◌then◌else◌}
 use Rattle.std.specs.List.{list_all, list_any}
-use Rattle.std.specs.Char.Utf16.{utf16_lossy_chars}
 use Rattle.newt_base.specs.Names.{same_name}
 use Rattle.newt_graph.specs.declared.node.Ref.{Ref}
 use Rattle.newt_graph.specs.declared.node.Ref.TheVariants.{Imm, Node as At}
 use Rattle.newt_graph.specs.declared.node.Node.{Node}
-use Rattle.newt_graph.specs.declared.node.Node.TheVariants.{Symbol, Str, Binary, Large, Array, Frame}
+use Rattle.newt_graph.specs.declared.node.Node.TheVariants.{Str, Array, Frame}
 use Rattle.newt_graph.specs.Graph.{RawGraph}
 use Rattle.newt_spec_graph.specs.Graph.{object, every}
 use Rattle.newt_spec_graph.specs.Slots.{slot_value}
-use Rattle.newt_spec_store.specs.declared.Kind.{Kind}
-use Rattle.newt_spec_store.specs.declared.Kind.TheVariants as kind
-use Rattle.newt_spec_store.specs.declared.Order.{Order}
-use Rattle.newt_spec_store.specs.declared.Order.TheVariants as order
 use Rattle.newt_spec_store.specs.Keys.{Path, IndexSpec, IndexPart, Part, missing, Key, part_of, folded}
 use Rattle.newt_spec_query.specs.Tags.{symbol_name, TagSpec, if_given}
 

@@ -1,11 +1,11 @@
 -- An entry's tags, and what a query asks of them. Tags and the four tests are Newton's (Newton Programmer's Guide 2.0, tags); that the declaration names a
 -- path, and that a symbol that it does not list is a tag of no entry, is this project's own.
-use Rattle.std.specs.Prelude.{ℕ, Bool, true, false, not, ◌&&◌, List, [], ◌∷◌, filter, filter_map, Option, Some, None, option_and_then}
+use Rattle.std.specs.Prelude.{ℕ, Bool, true, not, ◌&&◌, List, [], ◌∷◌, filter, filter_map, Option, Some, None}
 use Rattle.std.specs.List.{list_all, list_any}
 use Rattle.newt_base.specs.Names.{same_name}
 use Rattle.newt_graph.specs.declared.node.Ref.{Ref}
 use Rattle.newt_graph.specs.declared.node.Node.{Node}
-use Rattle.newt_graph.specs.declared.node.Node.TheVariants.{Symbol, Str, Binary, Large, Array, Frame}
+use Rattle.newt_graph.specs.declared.node.Node.TheVariants.{Symbol, Array}
 use Rattle.newt_graph.specs.Graph.{RawGraph}
 use Rattle.newt_spec_graph.specs.Graph.{object}
 use Rattle.newt_spec_graph.specs.Slots.{value_at}

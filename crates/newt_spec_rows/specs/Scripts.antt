@@ -1,18 +1,37 @@
--- Scripts as text.
-use Rattle.std.specs.Prelude.{ℕ, List, [], ◌∷◌, flat_map, map, codes, Err}
-use Rattle.newt_base.specs.declared.Refusal.TheVariants.{Malformed}
+-- Scripts as text, with literals and object streams read as their readers are proved to read them.
+use Rattle.std.specs.Prelude.{ℕ, List, map, Result, Ok, Err, Option, Some, None}
+use Rattle.newt_base.specs.declared.Refusal.{Refusal}
+use Rattle.newt_base.specs.declared.Refusal.TheVariants as refusals
 use Rattle.newt_graph.specs.Graph.{RawGraph}
+use Rattle.newt_lit_read.specs.Literal.{literal_read}
+use Rattle.newt_lit_read.specs.declared.fault.LitFault.{LitFault}
+use Rattle.newt_nsof_read.specs.Reading.{decoded}
+use Rattle.newt_nsof_read.specs.declared.fault.NsofFault.{NsofFault}
+use Rattle.newt_nsof_read.specs.declared.fault.NsofFault.TheVariants.{Malformed, Compressed, Memory}
 use Rattle.newt_spec_world.specs.World.{World}
+use Rattle.newt_spec_world.specs.Reply.{reply_text}
 use Rattle.newt_spec_script.specs.Script.{Readers, items_of, output, replies_to, up_to_quit}
 use Rattle.newt_spec_script.specs.Generator.{summary}
-use Rattle.newt_spec_world.specs.Reply.{reply_text}
-use Rattle.newt_spec_rows.specs.LiteralReader.{read_literal}
+
+-- the graph of a literal, where it is one
+abbrev pub if_read : Result RawGraph LitFault → Option RawGraph
+if_read (Ok g) = Some g
+if_read (Err fault) = None
+
+-- the graph of a stream, or its refusal
+abbrev pub or_refused : Result RawGraph NsofFault → Result RawGraph Refusal
+or_refused (Ok g) = Ok g
+or_refused (Err Malformed) = Err refusals.Malformed
+or_refused (Err Compressed) = Err refusals.Compressed
+or_refused (Err Memory) = Err refusals.Malformed
 
 abbrev pub readers : Readers
-readers = record { literal_of = read_literal; stream_of = λ _. Err Malformed }
+readers = record { literal_of = λ text. if_read (literal_read text); stream_of = λ bytes. or_refused (decoded bytes) }
 
+-- the output of a script over this world
 abbrev pub answers : World → List ℕ → List ℕ
 answers w script = output w (items_of readers script)
 
+-- the summary of its replies
 abbrev pub summary_of : World → List ℕ → List ℕ
 summary_of w script = summary (map reply_text (replies_to w (up_to_quit (items_of readers script))))

@@ -1,5 +1,5 @@
 -- The generated script, and its summary. This project's own.
-use Rattle.std.specs.Prelude.{ℕ, zero, suc, ◌+◌, ◌*◌, ◌/◌, ◌%◌, ◌^◌, Bool, ◌==◌, List, [], ◌∷◌, ◌++◌, map, flat_map, length, codes, count_by, sum_by, replicate, if◌then◌else◌}
+use Rattle.std.specs.Prelude.{ℕ, zero, suc, ◌+◌, ◌*◌, ◌/◌, ◌%◌, ◌^◌, Bool, ◌==◌, List, [], ◌∷◌, ◌++◌, flat_map, length, codes, count_by, sum_by, replicate, if◌then◌else◌}
 use Rattle.std.specs.List.{starts_with, enumerate_from}
 use Rattle.std.specs.Prelude.{nat_eq}
 use Rattle.newt_base.specs.Text.{decimal_text}

@@ -1,16 +1,15 @@
 -- What a line says: a command, a command whose last part is still to be read, or a refusal. The commands are this project's own.
-use Rattle.std.specs.Prelude.{◌≡◌, ℕ, ◌+◌, ◌*◌, ◌^◌, ◌-◌, Bool, true, false, not, ◌&&◌, ◌||◌, ◌==◌, nat_lt, nat_le, List, [], ◌∷◌, ◌++◌, length, take, drop, fold, find, Option, Some, None, Result, Ok, Err, codes, bytes_eq, if◌then◌else◌}
-use Rattle.std.specs.List.{list_all, prefix_len}
+use Rattle.std.specs.Prelude.{ℕ, Bool, true, false, not, ◌==◌, nat_lt, List, [], ◌∷◌, length, take, drop, find, Option, Some, None, Result, Ok, Err, codes, bytes_eq, if◌then◌else◌}
+use Rattle.std.specs.List.{prefix_len}
 use Rattle.newt_base.specs.declared.Refusal.{Refusal}
-use Rattle.newt_base.specs.declared.Refusal.TheVariants.{Longline, Command as NoCommand, Line as NotTheForm, Malformed, Compressed, Literal}
+use Rattle.newt_base.specs.declared.Refusal.TheVariants.{Longline, Command as NoCommand, Line as NotTheForm}
 use Rattle.newt_base.specs.Names.{same_name}
 use Rattle.newt_base.specs.Text.{decimal_value, signed_value}
 use Rattle.newt_graph.specs.Graph.{RawGraph}
-use Rattle.newt_spec_store.specs.Keys.{Path}
 use Rattle.newt_spec_graph.specs.Lists.{all_apart}
 use Rattle.newt_spec_world.specs.declared.command.Command.{Command}
 use Rattle.newt_spec_world.specs.declared.command.Command.TheVariants as command
-use Rattle.newt_spec_script.specs.Words.{Reader, is_blank, skip_blanks, trimmed, word, of1, of2, of3, of4, of5, of6, decimal_to, unit_digit, name, path, part, symbol, several, words}
+use Rattle.newt_spec_script.specs.Words.{Reader, is_blank, skip_blanks, trimmed, word, of1, of2, of3, of4, of5, of6, decimal_to, unit_digit, name, path, part, symbol, several}
 
 -- ---- the forms of single words
 
@@ -47,51 +46,76 @@ pub data Parsed : Type 0 where
   -- the rest of the line is bytes in hexadecimal
   bytes : List ℕ → (List ℕ → Command) → Parsed
 
--- a row whose words are all; nothing but blanks follows
+-- what the words give, where nothing but blanks follows them
+abbrev pub ended : Result (Command × List ℕ) Refusal → Parsed
+ended (Err r) = ready (Err r)
+ended (Ok (c, rest)) = if length (trimmed rest) == 0 then ready (Ok c) else ready (Err NotTheForm)
+
+-- what the words give, with the rest of the line as a literal, which is not empty
+abbrev pub with_literal : Result ((RawGraph → Command) × List ℕ) Refusal → Parsed
+with_literal (Err r) = ready (Err r)
+with_literal (Ok (f, rest)) = if length (trimmed rest) == 0 then ready (Err NotTheForm) else literal (trimmed rest) f
+
+-- what the words give, with the rest of the line as an object stream in hexadecimal
+abbrev pub with_stream : Result ((RawGraph → Command) × List ℕ) Refusal → Parsed
+with_stream (Err r) = ready (Err r)
+with_stream (Ok (f, rest)) = stream (trimmed rest) f
+
+-- what the words give, with the rest of the line as bytes in hexadecimal
+abbrev pub with_bytes : Result ((List ℕ → Command) × List ℕ) Refusal → Parsed
+with_bytes (Err r) = ready (Err r)
+with_bytes (Ok (f, rest)) = bytes (trimmed rest) f
+
+-- a row whose words are all
 abbrev pub whole : Reader Command → List ℕ → Parsed
-whole reader cs = elim (reader cs) [
-  | Err r ↦ ready (Err r)
-  | Ok (c, rest) ↦ if length (trimmed rest) == 0 then ready (Ok c) else ready (Err NotTheForm)
-]
+whole reader cs = ended (reader cs)
 
--- a row that ends in a literal, which is not empty
+-- a row that ends in a literal
 abbrev pub and_literal : Reader (RawGraph → Command) → List ℕ → Parsed
-and_literal reader cs = elim (reader cs) [
-  | Err r ↦ ready (Err r)
-  | Ok (f, rest) ↦ if length (trimmed rest) == 0 then ready (Err NotTheForm) else literal (trimmed rest) f
-]
+and_literal reader cs = with_literal (reader cs)
 
--- a row that ends in an object stream in hexadecimal
+-- a row that ends in an object stream
 abbrev pub and_stream : Reader (RawGraph → Command) → List ℕ → Parsed
-and_stream reader cs = elim (reader cs) [ Err r ↦ ready (Err r) | Ok (f, rest) ↦ stream (trimmed rest) f ]
+and_stream reader cs = with_stream (reader cs)
 
--- a row that ends in bytes in hexadecimal
+-- a row that ends in bytes
 abbrev pub and_bytes : Reader (List ℕ → Command) → List ℕ → Parsed
-and_bytes reader cs = elim (reader cs) [ Err r ↦ ready (Err r) | Ok (f, rest) ↦ bytes (trimmed rest) f ]
+and_bytes reader cs = with_bytes (reader cs)
 
 -- a row of no words
 abbrev pub alone : {A : Type 0} → A → Reader A
 alone a cs = Ok (a, cs)
 
+-- symbols of which no two are one
+abbrev pub if_distinct : Result (List (List ℕ) × List ℕ) Refusal → Result (List (List ℕ) × List ℕ) Refusal
+if_distinct (Err r) = Err r
+if_distinct (Ok (names, rest)) = if all_apart same_name names then Ok (names, rest) else Err NotTheForm
+
+-- the symbols of a tags declaration
+abbrev pub distinct : Reader (List (List ℕ))
+distinct cs = if_distinct (several 140_000 symbol cs)
+
+-- the first row where its words are all, else the second
+abbrev pub or_row : Parsed → Parsed → Parsed
+or_row (ready (Ok c)) other = ready (Ok c)
+or_row _ other = other
+
 -- the two rows of `tags`: the first where nothing follows the soup's name
 abbrev pub tags_row : List ℕ → Parsed
-tags_row cs = elim (whole (of2 unit name command.Tags) cs) [ ready (Ok c) ↦ ready (Ok c) | _ ↦ whole (of4 unit name (word path) distinct command.SetTags) cs ]
-  where
-    distinct : Reader (List (List ℕ))
-    distinct cs' = elim (several 140_000 symbol cs') [
-      | Err r ↦ Err r
-      | Ok (names, rest) ↦ if all_apart same_name names then Ok (names, rest) else Err NotTheForm
-    ]
+tags_row cs = or_row (whole (of2 unit name command.Tags) cs) (whole (of4 unit name (word path) distinct command.SetTags) cs)
+
+-- the word that stands for all mounted stores
+abbrev pub star : List ℕ → Option ℕ
+star w = if bytes_eq w (codes "*") then Some 0 else None
+
+-- a query of all mounted stores behind a star, else of the store on a unit
+abbrev pub query_by : Result (ℕ × List ℕ) Refusal → List ℕ → Parsed
+query_by (Ok (_, rest)) cs = and_literal (of1 name (λ s g. command.QueryAll s g)) rest
+query_by (Err _) cs = and_literal (of2 unit name (λ u s g. command.Query u s g)) cs
 
 -- the two rows of `query`: the second where a star stands in place of the unit
 abbrev pub query_row : List ℕ → Parsed
-query_row cs = elim (word star cs) [
-  | Ok (_, rest) ↦ and_literal (of1 name (λ s g. command.QueryAll s g)) rest
-  | Err _ ↦ and_literal (of2 unit name (λ u s g. command.Query u s g)) cs
-]
-  where
-    star : List ℕ → Option ℕ
-    star w = if bytes_eq w (codes "*") then Some 0 else None
+query_row cs = query_by (word star cs) cs
 
 -- the first word of a command, and what is read behind it
 abbrev pub Row : Type 0
@@ -158,16 +182,25 @@ first_word cs =
 abbrev pub says_nothing : List ℕ → Bool
 says_nothing cs = elim (skip_blanks cs) [ [] ↦ true | c ∷ _ ↦ c == 37 ]
 
+-- what a row reads; a word that has none is no command
+abbrev pub read_row : Option Row → List ℕ → Parsed
+read_row None rest = ready (Err NoCommand)
+read_row (Some r) rest = r.1 rest
+
 -- what the row of a word reads
 abbrev pub row_of : List ℕ → List ℕ → Parsed
-row_of w rest = elim (find (λ (r : Row). bytes_eq r.0 w) rows) [ None ↦ ready (Err NoCommand) | Some r ↦ r.1 rest ]
+row_of w rest = read_row (find (λ (r : Row). bytes_eq r.0 w) rows) rest
 
--- what a line says, none for a line that gives no command; a line that is too long is refused before its words are read
+-- a line that is too long is refused before its words are read
+abbrev pub within_length : Bool → List ℕ → Parsed
+within_length true line = ready (Err Longline)
+within_length false line = let w = first_word line in row_of w.0 w.1
+
+-- nothing, or what the words say
+abbrev pub if_said : Bool → List ℕ → Option Parsed
+if_said true line = None
+if_said false line = Some (within_length (nat_lt 140_000 (length line)) line)
+
+-- what a line says, none for a line that gives no command
 abbrev pub parsed : List ℕ → Option Parsed
-parsed line = elim (says_nothing line) [
-  | true ↦ None
-  | false ↦ elim (nat_lt 140_000 (length line)) [
-    | true ↦ Some (ready (Err Longline))
-    | false ↦ let w = first_word line in Some (row_of w.0 w.1)
-  ]
-]
+parsed line = if_said (says_nothing line) line

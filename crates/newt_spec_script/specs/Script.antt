@@ -1,6 +1,6 @@
 -- A script: its lines, what they give, and the output. All of it is this project's own.
-use Rattle.std.specs.Prelude.{◌≡◌, ◌⊎◌, ℕ, ◌+◌, ◌*◌, ◌-◌, Bool, true, false, not, ◌==◌, List, [], ◌∷◌, ◌++◌, map, flat_map, filter_map, Option, Some, None, option_map, option_and_then, Result, Ok, Err, ⊤, nat_lt, take}
-use Rattle.std.specs.List.{AllZip, prefix_len}
+use Rattle.std.specs.Prelude.{◌≡◌, ◌⊎◌, ℕ, Bool, true, false, ◌==◌, List, [], ◌∷◌, map, flat_map, filter_map, Option, Some, None, Result, Ok, Err, take}
+use Rattle.std.specs.List.{AllZip}
 use Rattle.newt_base.specs.Text.{hex_bytes}
 use Rattle.newt_base.specs.declared.Refusal.{Refusal}
 use Rattle.newt_base.specs.declared.Refusal.TheVariants.{Malformed, Compressed, Literal}
@@ -37,6 +37,11 @@ Item = Result Command Refusal
 abbrev pub parsed_lines : List ℕ → List Parsed
 parsed_lines script = filter_map (λ l. parsed (without_return l)) (lines script)
 
+-- a command with bytes from hexadecimal text
+abbrev pub bytes_item : Option (List ℕ) → (List ℕ → Command) → Item
+bytes_item None f = Err Malformed
+bytes_item (Some bs) f = Ok (f bs)
+
 -- ---- the reading of a line, over the grammars of literals and of object streams
 
 module _ (Reads Spells SpellsWide : List ℕ → RawGraph → Type 0) where
@@ -55,11 +60,6 @@ module _ (Reads Spells SpellsWide : List ℕ → RawGraph → Type 0) where
   abbrev pub ReadsHex : Option (List ℕ) → (RawGraph → Command) → Item → Type 0
   ReadsHex None f item = item ≡ Err Malformed
   ReadsHex (Some bs) f item = ReadsStream bs f item
-
-  -- a command with bytes from hexadecimal text
-  abbrev pub bytes_item : Option (List ℕ) → (List ℕ → Command) → Item
-  bytes_item None f = Err Malformed
-  bytes_item (Some bs) f = Ok (f bs)
 
   -- what a line gives, as a relation
   abbrev pub ReadsParsed : Parsed → Item → Type 0
@@ -118,16 +118,27 @@ pub record Readers : Type 0 where
   pub literal_of : List ℕ → Option RawGraph
   pub stream_of : List ℕ → Result RawGraph Refusal
 
+-- the command with a literal, where there is one
+abbrev pub literal_item : Option RawGraph → (RawGraph → Command) → Item
+literal_item None f = Err Literal
+literal_item (Some g) f = Ok (f g)
+
+-- the command with a graph, or why there is none
+abbrev pub stream_item : Result RawGraph Refusal → (RawGraph → Command) → Item
+stream_item (Err r) f = Err r
+stream_item (Ok g) f = Ok (f g)
+
+-- the same of the bytes of a stream, where the text is hexadecimal
+abbrev pub hex_item : Readers → Option (List ℕ) → (RawGraph → Command) → Item
+hex_item rs None f = Err Malformed
+hex_item rs (Some bs) f = stream_item (rs.stream_of bs) f
+
 -- what a line gives, with such readings
 abbrev pub item_of : Readers → Parsed → Item
 item_of rs (ready r) = r
-item_of rs (literal text f) = elim (rs.literal_of text) [ None ↦ Err Literal | Some g ↦ Ok (f g) ]
-item_of rs (stream digits f) = elim (hex_bytes digits) [ None ↦ Err Malformed | Some bs ↦ elim (rs.stream_of bs) [ Err r ↦ Err r | Ok g ↦ Ok (f g) ] ]
+item_of rs (literal text f) = literal_item (rs.literal_of text) f
+item_of rs (stream digits f) = hex_item rs (hex_bytes digits) f
 item_of rs (bytes digits f) = bytes_item (hex_bytes digits) f
-  where
-    bytes_item : Option (List ℕ) → (List ℕ → Command) → Item
-    bytes_item None f = Err Malformed
-    bytes_item (Some bs) f = Ok (f bs)
 
 -- what the lines of a script give
 abbrev pub items_of : Readers → List ℕ → List Item

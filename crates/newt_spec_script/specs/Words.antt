@@ -1,7 +1,6 @@
 -- The words of a line, and the readers of them. The forms are this project's own.
-use Rattle.std.specs.Prelude.{ℕ, ◌+◌, ◌-◌, ◌*◌, ◌^◌, Bool, true, false, not, ◌&&◌, ◌||◌, ◌==◌, nat_lt, nat_le, List, [], ◌∷◌, ◌++◌, length, reverse, take, filter, fold, map, Option, Some, None, option_map, option_and_then, Result, Ok, Err, ℤ, pos, negsuc, neg_ℤ, if◌then◌else◌, codes, bytes_eq, pred, drop}
-use Rattle.std.specs.List.{list_all, prefix_len, list_any, position, before_first, after_first}
-use Rattle.std.specs.Char.{is_ascii_digit}
+use Rattle.std.specs.Prelude.{ℕ, ◌+◌, ◌-◌, Bool, true, false, not, ◌&&◌, ◌||◌, ◌==◌, nat_le, List, [], ◌∷◌, length, reverse, take, filter, map, Option, Some, None, option_map, option_and_then, Result, Ok, Err, if◌then◌else◌, codes, bytes_eq, drop}
+use Rattle.std.specs.List.{list_all, prefix_len}
 use Rattle.newt_base.specs.declared.Refusal.{Refusal}
 use Rattle.newt_base.specs.declared.Refusal.TheVariants.{Line as NotTheForm}
 use Rattle.newt_base.specs.Names.{is_name}
@@ -115,19 +114,19 @@ abbrev pub ends_word : List ℕ → Bool
 ends_word [] = true
 ends_word (c ∷ cs) = is_blank c
 
--- a name behind its opening quote
-abbrev pub quoted_name : List ℕ → Result (List ℕ × List ℕ) Refusal
-quoted_name cs = elim (quoted cs) [
-  | None ↦ Err NotTheForm
-  | Some q ↦ if is_name q.0 && ends_word q.1 then Ok q else Err NotTheForm
-]
+-- a quoted text that is a name, where the word ends behind it
+abbrev pub if_name : Option (List ℕ × List ℕ) → Result (List ℕ × List ℕ) Refusal
+if_name None = Err NotTheForm
+if_name (Some q) = if is_name q.0 && ends_word q.1 then Ok q else Err NotTheForm
+
+-- a name from its first byte on: in quotes, or bare
+abbrev pub name_from : List ℕ → Result (List ℕ × List ℕ) Refusal
+name_from [] = Err NotTheForm
+name_from (c ∷ rest) = if c == 34 then if_name (quoted rest) else word bare_name (c ∷ rest)
 
 -- the name of a store or a soup, bare or in quotes
 abbrev pub name : Reader (List ℕ)
-name cs = elim (skip_blanks cs) [
-  | [] ↦ Err NotTheForm
-  | c ∷ rest ↦ elim (c == 34) [ true ↦ quoted_name rest | false ↦ word bare_name (c ∷ rest) ]
-]
+name cs = name_from (skip_blanks cs)
 
 -- ---- paths and parts
 
@@ -155,12 +154,14 @@ kind_word cs =
 abbrev pub order_word : List ℕ → Option Order
 order_word cs = if bytes_eq cs (codes "ascend") then Some order.Ascend else if bytes_eq cs (codes "descend") then Some order.Descend else None
 
--- a part of an index: path, type and direction with colons between them
+-- a part of an index of three pieces: path, type and direction
+abbrev pub part_of : List (List ℕ) → Option PartWord
+part_of (p ∷ k ∷ d ∷ []) = option_and_then (λ a. option_and_then (λ b. option_map (λ c. record { path = a; kind = b; order = c }) (order_word d)) (kind_word k)) (path p)
+part_of _ = None
+
+-- a part of an index: its pieces have colons between them
 abbrev pub part : List ℕ → Option PartWord
-part cs = elim (split_at 58 cs) [
-  | p ∷ k ∷ d ∷ [] ↦ option_and_then (λ a. option_and_then (λ b. option_map (λ c. record { path = a; kind = b; order = c }) (order_word d)) (kind_word k)) (path p)
-  | _ ↦ None
-]
+part cs = part_of (split_at 58 cs)
 
 -- the rest of a line as words
 abbrev pub words : List ℕ → List (List ℕ)

@@ -62,10 +62,13 @@ insert-rises cmp o (y ∷ ys) x h k = go (insert-rises cmp o ys x h.1 k.1) (cmp 
     go : Pairs (Rise cmp) (insert_by cmp ys x) → (r : Ordering) → cmp x y ≡ r → Pairs (Rise cmp) (cond (is_lt r) (x ∷ y ∷ ys) (y ∷ insert_by cmp ys x))
     go more Less e = ((e, each-more (Rise cmp y) (Rise cmp x) ys (λ z l. o.trans x y z e l) h.0), h)
     go more Equal e = absurd (k.0 e)
-    go more Greater e = (each-from (Rise cmp y) (insert_by cmp ys x) (λ z m. elim (among-insert cmp ys x z m) [
+    go more Greater e = (
+      each-from (Rise cmp y) (insert_by cmp ys x) (λ z m. elim (among-insert cmp ys x z m) [
         | inl s ↦ o.antisymm y z ∙ ap (λ v. ordering_reverse (cmp v y)) (sym s) ∙ ap ordering_reverse e
         | inr n ↦ each-at (Rise cmp y) ys z h.0 n
-      ]), more)
+      ]),
+      more,
+    )
 
 pub fold-rises : {X : Type 0} (cmp : X → X → Ordering) → IsTotalOrder cmp → (ys xs : List X) → Pairs (Rise cmp) ys → Pairs (Untied cmp) xs
     → Each (λ x. Each (Untied cmp x) ys) xs → Pairs (Rise cmp) (fold (insert_by cmp) ys xs)

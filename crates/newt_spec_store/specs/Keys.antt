@@ -1,7 +1,7 @@
 -- Keys of entries, and their order. That an index has paths, types and an order is Newton's (Newton Programmer's Guide 2.0, indexes and
 -- multiple-slot indexes). This project's own are the forms of declarations and keys, which entries have a key, where a missing part stands, that
 -- strings are folded and cut at 39 units, and that a symbol is compared by the bytes of its name.
-use Rattle.std.specs.Prelude.{ℕ, ◌/◌, ◌%◌, ◌^◌, Bool, true, false, ◌&&◌, ◌==◌, nat_lt, List, [], ◌∷◌, map, take, length, zip, Option, Some, None, option_and_then, ℤ, pos, if◌then◌else◌, encode_utf8_all}
+use Rattle.std.specs.Prelude.{ℕ, ◌/◌, ◌%◌, ◌^◌, Bool, true, false, ◌&&◌, ◌==◌, nat_lt, List, [], ◌∷◌, map, take, length, zip, Option, Some, None, ℤ, pos, if◌then◌else◌, encode_utf8_all}
 use Rattle.std.specs.Int.{cast_unsigned, int_div_euclid, w32}
 use Rattle.std.specs.declared.cmp.Ordering.{Ordering}
 use Rattle.std.specs.declared.cmp.Ordering.TheVariants.{Less, Equal, Greater}
@@ -19,7 +19,7 @@ use Rattle.newt_spec_store.specs.declared.Order.TheVariants as order
 use Rattle.newt_graph.specs.declared.node.Ref.{Ref}
 use Rattle.newt_graph.specs.declared.node.Ref.TheVariants.{Imm, Node as At}
 use Rattle.newt_graph.specs.declared.node.Node.{Node}
-use Rattle.newt_graph.specs.declared.node.Node.TheVariants.{Symbol, Str, Binary, Large, Array, Frame}
+use Rattle.newt_graph.specs.declared.node.Node.TheVariants.{Symbol, Str}
 use Rattle.newt_graph.specs.Graph.{RawGraph}
 use Rattle.newt_spec_graph.specs.Graph.{object}
 use Rattle.newt_spec_graph.specs.Slots.{value_at}

@@ -1,5 +1,5 @@
 -- Objects that write down a store, with the records of its entries in any order. This project's own format.
-use Rattle.std.specs.Prelude.{◌≡◌, [], ℕ, ◌%◌, ◌<◌, Bool, true, ◌==◌, List, length, map, filter, zip, Option, Some}
+use Rattle.std.specs.Prelude.{◌≡◌, [], ℕ, ◌%◌, ◌<◌, true, ◌==◌, List, length, map, filter, zip, Option, Some}
 use Rattle.newt_graph.specs.Graph.{RawGraph}
 use Rattle.newt_nsof.specs.Written.{nsof}
 use Rattle.newt_nsof.specs.Lengths.{skeleton}

@@ -1,7 +1,7 @@
 -- A store as a plain value, and the changes of it. Stores, soups, entries, their names and signatures are Newton's (Newton Programmer's Guide 2.0, data
 -- storage and retrieval). This project's own is that entry ids and soup signatures rise from 0 and are never used again, that an entry's id and time
 -- stand beside its frame, and that a tags declaration names a path and symbols.
-use Rattle.std.specs.Prelude.{ℕ, ◌+◌, Bool, ◌==◌, List, [], ◌∷◌, ◌++◌, map, filter, Option, Some, None, cond, not}
+use Rattle.std.specs.Prelude.{ℕ, ◌+◌, Bool, ◌==◌, List, [], ◌∷◌, ◌++◌, filter, Option, None, cond, not}
 use Rattle.std.specs.List.{find}
 use Rattle.newt_base.specs.Names.{equal_text}
 use Rattle.newt_graph.specs.Graph.{RawGraph}

@@ -1,13 +1,12 @@
 -- What holds of every store: the forms of its names and declarations, and the limits. The limits are this project's own, as is the form of a path
 -- as identifiers.
-use Rattle.std.specs.Prelude.{ℕ, ◌+◌, Bool, true, false, not, ◌&&◌, ◌||◌, ◌==◌, nat_lt, nat_le, List, [], ◌∷◌, map, length, Option, Some, None}
-use Rattle.std.specs.List.{list_all, list_any}
+use Rattle.std.specs.Prelude.{ℕ, Bool, true, ◌&&◌, nat_le, List, map, length, Option, Some, None}
+use Rattle.std.specs.List.{list_all}
 use Rattle.newt_base.specs.Names.{is_name, same_name, equal_text, is_identifier}
-use Rattle.newt_graph.specs.Graph.{RawGraph}
 use Rattle.newt_spec_graph.specs.Lists.{all_apart, rises}
 use Rattle.newt_spec_graph.specs.Graph.{is_frame, object}
 use Rattle.newt_spec_graph.specs.Limits.{within_limits}
-use Rattle.newt_spec_store.specs.Keys.{IndexSpec, IndexPart, Path, paths_of, same_paths}
+use Rattle.newt_spec_store.specs.Keys.{IndexSpec, Path, paths_of, same_paths}
 use Rattle.newt_spec_store.specs.Store.{Entry, TagTable, Soup, Store}
 use Rattle.newt_image.specs.Pages.{cap}
 use Rattle.newt_spec_store.specs.Cost.{cost, skeleton_length}

@@ -1,11 +1,9 @@
 -- What the world answers: the first refusal that holds, or the fields of the reply. Replies are this project's own.
-use Rattle.std.specs.Prelude.{ℕ, ◌+◌, ◌-◌, List, [], ◌∷◌, ◌++◌, map, length, take, drop, flat_map, Option, Some, None, option_map, option_and_then, unwrap_or}
+use Rattle.std.specs.Prelude.{ℕ, List, [], ◌∷◌, map, length, take, drop, Option, Some, None, option_map, option_and_then, unwrap_or}
 use Rattle.newt_base.specs.Refusals.{first_of}
 use Rattle.newt_base.specs.declared.Refusal.{Refusal}
-use Rattle.newt_graph.specs.Graph.{RawGraph}
-use Rattle.newt_spec_store.specs.Store.{Entry, Soup, Store}
 use Rattle.newt_spec_query.specs.Hits.{Hit}
-use Rattle.newt_spec_query.specs.Cursor.{Cursor, Place, start, finish, on, hit_at}
+use Rattle.newt_spec_query.specs.Cursor.{Cursor, start, finish, on, hit_at}
 use Rattle.newt_spec_world.specs.declared.command.Command.{Command}
 use Rattle.newt_spec_world.specs.declared.command.Command.TheVariants as command
 use Rattle.newt_spec_world.specs.Reply.{Reply}

@@ -1,6 +1,6 @@
 -- What each command is refused for: a test for each refusal, and the table of the tests in the order in which they are tried. Numbers, words and order of the
 -- refusals are this project's own.
-use Rattle.std.specs.Prelude.{ℕ, ◌+◌, Bool, true, false, not, ◌&&◌, ◌||◌, ◌==◌, nat_lt, nat_le, List, [], ◌∷◌, map, length, Option, Some, None, is_some, is_none, option_map, option_and_then, unwrap_or}
+use Rattle.std.specs.Prelude.{ℕ, ◌+◌, Bool, true, false, not, ◌||◌, ◌==◌, nat_lt, nat_le, List, [], ◌∷◌, map, length, Option, Some, None, is_some, is_none}
 use Rattle.std.specs.List.{list_any}
 use Rattle.newt_base.specs.declared.Refusal.{Refusal}
 use Rattle.newt_base.specs.declared.Refusal.TheVariants.{Unit as NoUnit, Blocks, Mounted, Notmounted, Nostore, Store as HasStore, Stores as ManyStores, Signature, Cursor as NoCursor, Soup as NoSoup, Exists, Entry as NoEntry, Notframe, Path as NoPath, Range, Spec as BadSpec, Index as BadIndex, Key as BadKey, Limit, Size, Ids, Full}
@@ -10,17 +10,15 @@ use Rattle.newt_spec_graph.specs.Graph.{is_frame, object}
 use Rattle.newt_graph.specs.Meeting.{normal_form}
 use Rattle.newt_spec_graph.specs.Limits.{is_within}
 use Rattle.newt_spec_graph.specs.Slots.{put}
-use Rattle.newt_spec_store.specs.Keys.{Path, IndexSpec, paths_of, same_paths}
-use Rattle.newt_spec_store.specs.Store.{Entry, Soup, Store}
+use Rattle.newt_spec_store.specs.Keys.{Path, paths_of, same_paths}
 use Rattle.newt_image.specs.Pages.{cap}
 use Rattle.newt_spec_store.specs.Cost.{cost, skeleton_length}
 use Rattle.newt_spec_query.specs.Spec.{is_query, keys_fit}
-use Rattle.newt_spec_query.specs.Cursor.{Cursor}
 use Rattle.newt_spec_world.specs.declared.command.Command.{Command}
 use Rattle.newt_spec_world.specs.declared.command.Command.TheVariants as command
 use Rattle.newt_spec_world.specs.declared.command.PartWord.{PartWord}
-use Rattle.newt_spec_world.specs.World.{Device, World, default_unit, store_of, store_on_unit, device, mounted, mounted_store, mounted_stores, soup_in, entry_in, cursor, free_cursor}
-use Rattle.newt_spec_world.specs.Changed.{changed, large_at, large_bytes, graph_after_set, index_of, hit_for, key_from, spec_of_words, sig_of}
+use Rattle.newt_spec_world.specs.World.{World, default_unit, store_of, store_on_unit, device, mounted, mounted_store, mounted_stores, soup_in, entry_in, cursor, free_cursor}
+use Rattle.newt_spec_world.specs.Changed.{changed, large_at, large_bytes, graph_after_set, index_of, hit_for, key_from, sig_of}
 use Rattle.newt_spec_world.specs.Alias.{alias_of}
 
 -- a refusal with its test

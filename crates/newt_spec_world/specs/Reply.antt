@@ -1,5 +1,5 @@
 -- Replies, and their texts. All of it is this project's own.
-use Rattle.std.specs.Prelude.{ℕ, Bool, ◌||◌, ◌==◌, List, [], ◌∷◌, ◌++◌, map, flat_map, Option, Some, None, codes, if◌then◌else◌}
+use Rattle.std.specs.Prelude.{ℕ, ◌||◌, ◌==◌, List, [], ◌∷◌, ◌++◌, map, flat_map, Option, Some, None, codes, if◌then◌else◌}
 use Rattle.std.specs.List.{list_any, join_with_byte}
 use Rattle.newt_base.specs.Text.{decimal_text, hex_text}
 use Rattle.newt_base.specs.declared.Refusal.{Refusal}

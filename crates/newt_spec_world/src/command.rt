@@ -1,8 +1,8 @@
 //! The commands of a script.
 
 use crate::list::{Parts, Path, Paths, Syms};
-use newt_graph::{Bytes, Graph};
 use newt_base::{Name, Sig, Uid};
+use newt_graph::{Bytes, Graph};
 use newt_host::Unit;
 use newt_spec_store::{Kind, Order};
 
@@ -14,6 +14,7 @@ pub struct PartWord {
     pub order: Order,
 }
 
+/// A command of a script: a variant for each row of the table of commands, with its words in their order. The commands are this project's own.
 #[derive(Drop)]
 pub enum Command {
     Nsof(Graph),

@@ -1,9 +1,11 @@
 -- Why a run halts that answers lines.
-use Rattle.std.proofs.Common.{◌≡◌, ℕ, ◌≤◌, List, [], ◌++◌, take, Result, Ok, Err, OnErr, IfErr, sym, ◌∙◌, ap, arith}
+use Rattle.std.proofs.Common.{◌≡◌, ℕ, ◌<◌, ◌≤◌, List, [], ◌++◌, length, take, refl, Result, Ok, Err, OnErr, IfErr, sym, ◌∙◌, ap, append-nil, arith}
 use Rattle.newt_top.specs.Stream.{WroteSome}
 use Rattle.newt_top.specs.Run.{output, Halted}
-use Rattle.newt_top.specs.Causes.{HasCause, HasWriteCause}
+use Rattle.newt_top.specs.Causes.{HasCause, HasReadCause, HasWriteCause}
+use Rattle.newt_top.specs.Whole.{converted, HaltedWhole}
 use Rattle.newt_top.specs.World.{World}
+use Rattle.newt_top.specs.declared.status.Conversion.{Conversion}
 use Rattle.newt_top.specs.declared.halt.Halt.{Halt}
 use Rattle.newt_top.specs.declared.halt.Halt.TheVariants.{Memory, Source, Sink, TooLong}
 
@@ -34,3 +36,11 @@ cause_last (Err halt) in_before in_now before mid now cause le = cause_writing h
 -- nothing was read, and nothing was left
 pub none_left : (n : ℕ) (buffer before now : List ℕ) → n ≡ 0 → before ≡ take n buffer ++ now → before ≡ [] → now ≡ []
 none_left n buffer before now zero split nil = sym (ap (λ m. take m buffer ++ now) zero) ∙ (sym split ∙ nil)
+
+-- nothing was written
+pub halted_reading : (conversion : Conversion) (limit : ℕ) (halt : Halt) (before after : ℕ) (input old now : List ℕ)
+    → HasReadCause halt before after → (halt ≡ TooLong → limit < length input) → now ≡ old → HaltedWhole conversion limit halt input old now
+halted_reading conversion limit Memory before after input old now cause long same = (converted conversion input, record { done = []; split = refl; out = same ∙ sym (append-nil old) })
+halted_reading conversion limit TooLong before after input old now cause long same = (long refl, same)
+halted_reading conversion limit Source before after input old now cause long same = same
+halted_reading conversion limit Sink before after input old now cause long same = absurd cause

@@ -18,6 +18,13 @@ HasWriteCause Sink out_before out_now = Rose out_before out_now
 HasWriteCause Source out_before out_now = ⊥
 HasWriteCause TooLong out_before out_now = ⊥
 
+-- what may halt a read: want of memory, too long an input, or the input where it has failed
+abbrev pub HasReadCause : Halt → (in_before in_now : ℕ) → Type 0
+HasReadCause Memory in_before in_now = Unit {0}
+HasReadCause TooLong in_before in_now = Unit {0}
+HasReadCause Source in_before in_now = Rose in_before in_now
+HasReadCause Sink in_before in_now = ⊥
+
 -- a fault of the input or of the output was counted where one is said to have halted the run
 abbrev pub HasCause : Halt → (in_before in_now out_before out_now : ℕ) → Type 0
 HasCause Memory in_before in_now out_before out_now = Unit {0}

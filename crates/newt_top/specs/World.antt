@@ -3,7 +3,7 @@ use Rattle.std.specs.Prelude.{ℕ}
 use Rattle.newt_reply.specs.declared.reply.Reply.{Reply}
 use Rattle.newt_reply.specs.declared.reply.Reply.TheVariants as replies
 use Rattle.newt_script.specs.declared.command.Command.{Command}
-use Rattle.newt_script.specs.declared.command.Command.TheVariants.{Nsof, Time, Quit}
+use Rattle.newt_script.specs.declared.command.Command.TheVariants.{Nsof, Lit, Time, Quit}
 use Rattle.newt_top.specs.declared.session.Session.{Session}
 
 pub record World : Type 0 where
@@ -29,5 +29,6 @@ done world = record { world = world; reply = replies.Done }
 -- The answer to a command: one row a command.
 unfoldable pub answer : World → Command → Answer
 answer world (Nsof graph) = record { world = world; reply = replies.Nsof graph }
+answer world (Lit graph) = record { world = world; reply = replies.Literal graph }
 answer world (Time minute) = done (record world { minute = minute })
 answer world Quit = done world

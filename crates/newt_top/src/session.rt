@@ -35,6 +35,7 @@ impl Session {
     {
         Ok(match command {
             Command::Nsof(graph) => Reply::Nsof(graph),
+            Command::Lit(graph) => Reply::Literal(graph),
             Command::Time(minute) => {
                 self.minute = minute;
                 Reply::Done

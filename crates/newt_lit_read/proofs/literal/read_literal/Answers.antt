@@ -1,4 +1,3 @@
-use Rattle.std.specs.Prelude.{◌≡◌}
 use Rattle.newt_lit_read.proofs.Whole as whole
 use Rattle.newt_lit_read.proofs.literal.read_literal.Goals as goal
 

@@ -1,4 +1,4 @@
-use Rattle.std.proofs.Common.{◌≡◌, ◌≤◌, length}
+use Rattle.std.proofs.Common.{◌≤◌, length}
 use Rattle.newt_lit_read.specs.Tokens.{next_byte, pieces_at, single}
 use Rattle.newt_lit_read.proofs.PieceLoop.{Going}
 use Rattle.newt_lit_read.proofs.pieces.bytes.Given as goal

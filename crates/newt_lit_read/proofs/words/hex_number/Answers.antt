@@ -1,4 +1,4 @@
-use Rattle.std.proofs.Common.{rules, arith, ◌<◌}
+use Rattle.std.proofs.Common.{arith}
 use Rattle.newt_lit_read.proofs.Numbers.{digit_more, one_more_hex, few_hex_digits}
 use Rattle.newt_lit_read.proofs.words.hex_number.Goals as goal
 

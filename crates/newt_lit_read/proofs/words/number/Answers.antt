@@ -1,4 +1,3 @@
-use Rattle.std.proofs.Common.{rules, arith}
 use Rattle.newt_lit_read.proofs.Numbers.{digit_more, one_more}
 use Rattle.newt_lit_read.proofs.words.number.Goals as goal
 

@@ -1,4 +1,4 @@
-use Rattle.std.proofs.Common.{◌≡◌, ℕ, ◌≤◌, ◌+◌, ◌-◌, List, ◌∷◌, length, take, drop, sym, ◌∙◌, ap, arith}
+use Rattle.std.proofs.Common.{◌≡◌, ℕ, ◌+◌, ◌-◌, List, ◌∷◌, length, take, drop, ◌∙◌, ap, arith}
 use Rattle.newt_host.specs.Moments.{Moment, On, Wrote, overwritten}
 use Rattle.newt_host.proofs.Ranges.{length-part}
 use Rattle.newt_memhost.proofs.Calls.{overwritten-same, stands-wrote}
@@ -15,7 +15,7 @@ returns-then-fails-clause-stands c stood =
     let card = c.args.card.now in
     let n : (c.args.at + length c.args.bytes.now) - c.args.at ≡ length c.args.bytes.now = omega arith in
     let reads : take ((c.args.at + length c.args.bytes.now) - c.args.at) (drop c.args.at c.deref.result.now) ≡ take (length c.args.bytes.now) (drop c.args.at card.held.items) =
-        ap (λ (k : ℕ). take k (drop c.args.at c.deref.result.now)) n ∙ ap (λ (l : List ℕ). take (length c.args.bytes.now) (drop c.args.at l)) c.deref.ensures.value in
+    ap (λ (k : ℕ). take k (drop c.args.at c.deref.result.now)) n ∙ ap (λ (l : List ℕ). take (length c.args.bytes.now) (drop c.args.at l)) c.deref.ensures.value in
     let long = ap length reads ∙ length-part c.args.at (length c.args.bytes.now) card.held.items c.requires.inside in
     stands-wrote c.args.unit c.args.at (length card.first.items) _ card.held.items card.held.items _ _
     (c.add.ensures.moment ∙ ap (λ (m : Moment). On c.args.unit (Wrote c.args.at (take ((c.args.at + length c.args.bytes.now) - c.args.at) (drop c.args.at c.deref.result.now))) ∷ m) c.reserve.ensures.moment)

@@ -1,7 +1,7 @@
-use Rattle.std.proofs.Common.{◌≡◌, ℕ, List, ◌∷◌, Option, None, get_or, is_some, sym, ◌∙◌, ap, subst, arith}
+use Rattle.std.proofs.Common.{◌≡◌, ℕ, List, ◌∷◌, get_or, sym, ◌∙◌, ap, subst}
 use Rattle.newt_host.specs.Moments.{Attached, On, output}
 use Rattle.newt_memhost.specs.Calls.{HasMoved, IsPlaceOf}
-use Rattle.newt_memhost.specs.Cards.{free_device, or_else}
+use Rattle.newt_memhost.specs.Cards.{free_device}
 use Rattle.newt_memhost.specs.Log.{now_of}
 use Rattle.newt_memhost.specs.declared.card.Device.{Device}
 use Rattle.newt_memhost.proofs.Cards.{eight-set, read-free, told-attach}

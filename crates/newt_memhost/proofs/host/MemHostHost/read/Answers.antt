@@ -1,5 +1,7 @@
-use Rattle.std.proofs.Common.{◌∙◌, ap}
+use Rattle.std.proofs.Common.{ℕ, List, eqb, refl, ◌∙◌, ap, arith}
+use Rattle.std.specs.List.{list_any}
 use Rattle.newt_host.specs.Moments.{output}
+use Rattle.newt_memhost.proofs.Rooms.{kept-host}
 use Rattle.newt_memhost.proofs.Cards.{eight-set, read-there, cause-at, told-reads, touches, spends, never_falls}
 use Rattle.newt_memhost.proofs.host.MemHostHost.read.Goals as goal
 
@@ -33,3 +35,11 @@ invariant_of-self-3-clause-out c = ap output c.read.ensures.moment ∙ c.args.se
 
 pub invariant_of-self-3-clause-eight : goal.invariant_of-self-3-clause-eight
 invariant_of-self-3-clause-eight c = eight-set c.args.self.now.cards _ _ c.args.self.now.eight
+
+pub returns-clause-kept : goal.returns-clause-kept
+returns-clause-kept c =
+    let calls = c.args.self.now.log.calls in
+    kept-host 0 c.len-waiting.result c.fails-fails.result _ c.read.result c.read.result c.args.self.now _ c.len-waiting.ensures
+    (c.fails-fails.ensures ∙ ap (λ (l : List ℕ). list_any (λ listed. eqb listed calls) l) c.deref.ensures.value) c.read.ensures.kept
+    (λ has. record { entries_fit = omega (arith, has.log_fits.entries_fit, c.len-waiting.ensures); bytes_fit = has.log_fits.bytes_fit }) (λ err. err) (λ ok. ok)
+    (record { shelf = refl; failing = refl; output_used = omega arith; output_left = omega arith })

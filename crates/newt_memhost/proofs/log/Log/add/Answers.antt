@@ -1,4 +1,4 @@
-use Rattle.std.proofs.Common.{◌≡◌, ℕ, ◌≤◌, ◌+◌, List, [], ◌∷◌, ◌++◌, length, ap, sym, ◌∙◌, arith, length-append}
+use Rattle.std.proofs.Common.{◌≡◌, ℕ, ◌+◌, List, [], ◌∷◌, ◌++◌, length, ap, ◌∙◌, arith, length-append}
 use Rattle.newt_memhost.proofs.Logs.{moment-push, total-push, calls-push, calls-le}
 use Rattle.newt_memhost.specs.Happened.{calls_in, total, counts, moment_of}
 use Rattle.newt_memhost.specs.declared.happened.Happened.{Happened}

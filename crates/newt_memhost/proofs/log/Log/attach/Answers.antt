@@ -1,6 +1,6 @@
-use Rattle.std.proofs.Common.{◌≡◌, ℕ, ◌≤◌, ◌+◌, List, [], ◌∷◌, ◌++◌, length, refl, append-nil, ap, sym, ◌∙◌, arith, length-append}
-use Rattle.newt_memhost.proofs.Logs.{moment-push, total-push, calls-push, calls-le}
-use Rattle.newt_memhost.specs.Happened.{calls_in, total, counts, moment_of}
+use Rattle.std.proofs.Common.{ℕ, List, [], ◌∷◌, ◌++◌, refl, append-nil, ap, sym, ◌∙◌, arith}
+use Rattle.newt_memhost.proofs.Logs.{moment-push, total-push, calls-push}
+use Rattle.newt_memhost.specs.Happened.{calls_in, total, moment_of}
 use Rattle.newt_memhost.specs.declared.happened.Happened.{Happened}
 use Rattle.newt_memhost.specs.declared.happened.Happened.TheVariants.{Attach}
 use Rattle.newt_memhost.proofs.log.Log.attach.Goals as goal

@@ -1,0 +1,8 @@
+use Rattle.newt_laws.proofs.Normal.{own-normal, graph-within}
+use Rattle.newt_laws.proofs.graphs.graphs_are_within_limits.Goals as goal
+
+pub returns-clause-own : goal.returns-clause-own
+returns-clause-own c = own-normal
+
+pub returns-clause-within : goal.returns-clause-within
+returns-clause-within c = graph-within

@@ -1,0 +1,112 @@
+//! What a crash might have left, from the log alone.
+ghost use Rattle.std.specs.Prelude.{◌≡◌, ◌≤◌, ◌<◌, ◌^◌, Some, length, take, slice_get, sum_by};
+ghost use Rattle.newt_memhost.specs.Happened.{bytes_of, counts};
+ghost use Rattle.newt_memhost.specs.Past.{before, call_at, printed_by, torn, unit_at, within};
+
+use crate::happened::Happened;
+use newt_host::Unit;
+
+/// What a crash leaves of each range that is pending: the bytes before, the bytes after, the first half after and the rest before, or one byte everywhere.
+#[derive(Clone, Copy, Debug, PartialEq, Eq)]
+pub enum Pick {
+    Old,
+    New,
+    Half,
+    Fill(u8),
+}
+
+impl Happened {
+    /// Whether it is a call that answers a Result, as a number.
+    fn counts(&self) -> u64
+        ensures { result ≡ counts self.now }
+    {
+        match self {
+            Happened::Attach(..) => 0,
+            _ => 1,
+        }
+    }
+
+    /// How many bytes of the store are its own.
+    pub fn bytes(&self) -> usize
+        ensures { result ≡ bytes_of self.now }
+    {
+        match self {
+            Happened::Print(n) | Happened::Write(_, _, n) => *n,
+            _ => 0,
+        }
+    }
+
+    // Whether a crash within it comes after it, as a number.
+    fn behind(&self) -> usize
+        ensures { result ≡ length (torn (Some self.now)) }
+    {
+        match self {
+            Happened::Attach(..) | Happened::Sync(..) => 0,
+            _ => 1,
+        }
+    }
+
+    /// How many bytes it printed.
+    pub fn printed(&self) -> usize
+        ensures { result ≡ printed_by self.now }
+    {
+        match self {
+            Happened::Print(n) => *n,
+            _ => 0,
+        }
+    }
+
+    /// The unit that a call was on.
+    pub fn unit(&self) -> Option<Unit>
+        ensures { result ≡ unit_at (Some self.now) }
+    {
+        match self {
+            Happened::Read(unit) | Happened::Write(unit, _, _) | Happened::Sync(unit, _) => {
+                Some(*unit)
+            }
+            _ => None,
+        }
+    }
+}
+
+/// The place in the log of the call of a number.
+pub fn place_of(log: &[Happened], call: u64) -> usize
+    ensures before { take result log.now ≡ before call log.now }
+    ensures there { slice_get log.now result ≡ call_at call log.now }
+    ensures inside { result ≤ length log.now }
+{
+    let mut left = call;
+    for (place, entry) in log.iter().enumerate() {
+        let one = entry.counts();
+        if left < one {
+            return place;
+        }
+        left -= one;
+    }
+    log.len()
+}
+
+/// How much of the log a crash within a call has behind it: the call itself too, but where it is a sync.
+pub fn end_of(log: &[Happened], call: u64) -> usize
+    ensures within { take result log.now ≡ within call log.now }
+    ensures inside { result ≤ length log.now }
+{
+    let place = place_of(log, call);
+    if place < log.len() {
+        place + log[place].behind()
+    } else {
+        place
+    }
+}
+
+/// How many bytes were printed.
+pub fn printed_in(log: &[Happened]) -> u64
+    requires { sum_by printed_by log.now < 2 ^ 64 }
+    ensures { result ≡ sum_by printed_by log.now }
+{
+    let mut out = 0;
+    for entry in log {
+        out += entry.printed() as u64;
+    }
+    out
+}

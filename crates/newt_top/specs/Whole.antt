@@ -1,0 +1,43 @@
+-- What is made of an input that is taken as a whole.
+use Rattle.std.specs.Prelude.{◌≡◌, ℕ, ◌<◌, List, [], length, Result, Ok, Err}
+use Rattle.newt_base.specs.declared.Refusal.TheVariants as refusals
+use Rattle.newt_graph.specs.Graph.{RawGraph}
+use Rattle.newt_lit_read.specs.declared.fault.LitFault.{LitFault}
+use Rattle.newt_lit_read.specs.declared.fault.LitFault.TheVariants as lit_faults
+use Rattle.newt_nsof.specs.Written.{nsof}
+use Rattle.newt_nsof_read.specs.Reading.{decoded}
+use Rattle.newt_nsof_read.specs.declared.fault.NsofFault.{NsofFault}
+use Rattle.newt_nsof_read.specs.declared.fault.NsofFault.TheVariants as nsof_faults
+use Rattle.newt_reply.specs.Texts.{reply_text}
+use Rattle.newt_reply.specs.declared.reply.Reply.TheVariants as replies
+use Rattle.newt_script.specs.Graphs.{literal_of}
+use Rattle.newt_top.specs.Stream.{WroteSome}
+use Rattle.newt_top.specs.declared.halt.Halt.{Halt}
+use Rattle.newt_top.specs.declared.halt.Halt.TheVariants.{Memory, Source, Sink, TooLong}
+use Rattle.newt_top.specs.declared.status.Conversion.{Conversion}
+use Rattle.newt_top.specs.declared.status.Conversion.TheVariants.{Show, Pack}
+
+-- the literal of the graph that an object stream spells, or the refusal of its reading; no reading is defined to want memory
+abbrev pub shown : Result RawGraph NsofFault → List ℕ
+shown (Ok graph) = reply_text (replies.Literal graph)
+shown (Err nsof_faults.Malformed) = reply_text (replies.Refused refusals.Malformed)
+shown (Err nsof_faults.Compressed) = reply_text (replies.Refused refusals.Compressed)
+shown (Err nsof_faults.Memory) = []
+
+-- the object stream of the graph that a literal writes down, or the refusal of its reading
+abbrev pub packed : Result RawGraph LitFault → List ℕ
+packed (Ok graph) = nsof graph
+packed (Err lit_faults.Literal) = reply_text (replies.Refused refusals.Literal)
+packed (Err lit_faults.Memory) = []
+
+-- what a conversion makes of an input
+unfoldable pub converted : Conversion → List ℕ → List ℕ
+converted Show input = shown (decoded input)
+converted Pack input = packed (literal_of input)
+
+-- what a run leaves that converts an input and is halted before
+abbrev pub HaltedWhole : Conversion → ℕ → Halt → (input old now : List ℕ) → Type 0
+HaltedWhole conversion limit Memory input old now = WroteSome (converted conversion input) old now
+HaltedWhole conversion limit Sink input old now = WroteSome (converted conversion input) old now
+HaltedWhole conversion limit Source input old now = now ≡ old
+HaltedWhole conversion limit TooLong input old now = (limit < length input) × (now ≡ old)

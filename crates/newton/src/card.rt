@@ -1,0 +1,42 @@
+//! What is kept of a unit beside its file.
+ghost use Rattle.std.specs.Prelude.{◌≡◌, ◌≤◌, ◌<◌, ◌^◌, false};
+ghost use Rattle.newt_host.specs.Outside.{Rose};
+
+use std::alloc::Global;
+
+/// A unit: the name of its file, its whole blocks, and its counts. Without a file it has no blocks.
+#[derive(Drop)]
+pub struct Card {
+    pub attached: bool,
+    pub name: Vec<u8>,
+    pub blocks: u32,
+    pub faults: u64,
+    pub programmed: u64,
+    pub fetched: u64,
+    ghost free: { attached ≡ false → blocks ≡ 0 },
+    ghost few: { blocks < 2 ^ 32 },
+}
+
+impl Card {
+    /// A unit without a file.
+    pub fn new(alloc: Global) -> Self
+        ensures { result.attached ≡ false }
+    {
+        Card {
+            attached: false,
+            name: Vec::new(alloc),
+            blocks: 0,
+            faults: 0,
+            programmed: 0,
+            fetched: 0,
+        }
+    }
+}
+
+/// Another fault. The count stays at its last value.
+pub fn count(faults: &mut u64)
+    ensures rose { Rose faults.old faults.new }
+    ensures later { faults.old ≤ faults.new }
+{
+    *faults = faults.saturating_add(1);
+}

@@ -1,0 +1,88 @@
+//! The file of a unit.
+ghost use Rattle.std.specs.Prelude.{◌≡◌, true};
+
+use crate::card::Card;
+use newt_host::Unit;
+use std::fs::{OpenFile, OpenOptions};
+use std::io::{Read, Seek, SeekFrom, Write};
+use std::rt::Files;
+
+/// Opens a file for reading and writing, and makes sure of it. With it its whole blocks; a file has not more of them than can be told.
+pub fn open<S: Files>(system: &S, name: &str) -> Option<(S::File, u32)> {
+    let file = OpenOptions::new()
+        .read(true)
+        .write(true)
+        .open(system, name)
+        .ok()?;
+    let bytes = file.metadata().ok()?.len();
+    file.sync_all().ok()?;
+    Some((file, u32::try_from(bytes / 4096).unwrap_or(u32::MAX)))
+}
+
+/// Keeps the file of a unit, and answers whether there was room.
+pub fn keep<F: Drop>(files: &mut Vec<Option<F>>, unit: Unit, file: F) -> bool {
+    let place = unit.0 as usize;
+    for _ in files.len()..place + 1 {
+        if files.push(None).is_err() {
+            return false;
+        }
+    }
+    match files.get_mut(place) {
+        Some(slot) => {
+            *slot = Some(file);
+            true
+        }
+        None => false,
+    }
+}
+
+/// Fills a buffer from a place of the file, and answers whether that was done.
+pub fn get<F: Read + Seek>(
+    files: &mut Vec<Option<F>>,
+    unit: Unit,
+    at: u64,
+    buf: &mut [u8],
+) -> bool {
+    match files.get_mut(unit.0 as usize) {
+        Some(Some(file)) => {
+            file.seek(SeekFrom::Start(at)).is_ok() && file.read_exact(buf).is_ok()
+        }
+        _ => false,
+    }
+}
+
+/// Writes all the bytes at a place of the file and no others, and answers whether that was done.
+pub fn put<F: Write + Seek>(files: &mut Vec<Option<F>>, unit: Unit, at: u64, bytes: &[u8]) -> bool {
+    match files.get_mut(unit.0 as usize) {
+        Some(Some(file)) => {
+            file.seek(SeekFrom::Start(at)).is_ok() && file.write_all(bytes).is_ok()
+        }
+        _ => false,
+    }
+}
+
+/// Makes sure of what was written, and answers whether that was done.
+pub fn sync<F: OpenFile>(files: &mut Vec<Option<F>>, unit: Unit) -> bool {
+    match files.get_mut(unit.0 as usize) {
+        Some(Some(file)) => file.sync_all().is_ok(),
+        _ => false,
+    }
+}
+
+/// A unit has this file from now on.
+pub fn attach(card: &mut Card, name: Vec<u8>, blocks: u32)
+    ensures attached { card.new.attached ≡ true }
+    ensures name { card.new.name.items ≡ name.items }
+    ensures faults { card.new.faults ≡ card.old.faults }
+    ensures programmed { card.new.programmed ≡ card.old.programmed }
+    ensures fetched { card.new.fetched ≡ card.old.fetched }
+{
+    *card = Card {
+        attached: true,
+        name,
+        blocks,
+        faults: card.faults,
+        programmed: card.programmed,
+        fetched: card.fetched,
+    };
+}
