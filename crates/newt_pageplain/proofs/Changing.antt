@@ -1,11 +1,11 @@
 -- What the pages are once a record is committed.
-use Rattle.std.proofs.Common.{IsTrue, ◌≡◌, ◌≢◌, ◌⊎◌, inl, inr, ℕ, zero, suc, ◌+◌, ◌-◌, ◌*◌, ◌/◌, ◌<◌, ◌≤◌, ◌==◌, Bool, true, false, not, cond, ◌||◌, ◌&&◌, nat_eq, List, [], ◌∷◌, ◌++◌, map as map_list, length, slice_get, Option, Some, None, IsSome, refl, sym, ◌∙◌, ap, subst, arith, ⊎_elim}
+use Rattle.std.proofs.Common.{◌≡◌, ◌⊎◌, inl, inr, ℕ, zero, suc, ◌+◌, ◌-◌, ◌*◌, ◌<◌, ◌≤◌, ◌==◌, Bool, true, false, not, cond, ◌||◌, ◌&&◌, nat_eq, List, [], ◌∷◌, ◌++◌, map as map_list, length, slice_get, Option, Some, None, IsSome, refl, sym, ◌∙◌, ap, subst, arith, ⊎_elim}
 use Rattle.std.specs.List.{All, list_any, filter, IsDistinct, AllByRecursion}
 use Rattle.std.proofs.lemmas.List.Elements.{All-head, All-tail, All-cons, All-nil}
 use Rattle.std.proofs.lemmas.Map.Entries.{lookup_from_place}
-use Rattle.std.specs.Map.{lookup, keys_of}
+use Rattle.std.specs.Map.{keys_of}
 use Rattle.std.proofs.lemmas.Bool.Decides.{nat_tests}
-use Rattle.std.specs.Option.{option_map, is_some}
+use Rattle.std.specs.Option.{is_some}
 use Rattle.std.specs.Ordering.{nat_cmp}
 use Rattle.std.specs.Cmp.{nat_eq_equiv}
 use Rattle.std.specs.FinMap as map
@@ -14,23 +14,22 @@ use Rattle.std.proofs.lemmas.List.{append-nil}
 use Rattle.std.proofs.lemmas.List.Folds.{list_any-append}
 use Rattle.std.proofs.lemmas.Map.Keys.{IsDistinct-head, IsDistinct-tail}
 use Rattle.std.proofs.lemmas.Map.Steps.{length-le_from_keys}
-use Rattle.newt_host.specs.Moments.{Moment, image, Leaves}
-use Rattle.newt_host.proofs.Moments.{Leaves-weaken}
+use Rattle.newt_host.specs.Moments.{image}
 use Rattle.newt_image.specs.Records.{and_then, records, bank_size}
-use Rattle.newt_image.specs.Pages.{Pages, Change, change_numbers, all_distinct, change_in, with_puts, without_numbers, after, pages, pages_after, cap, written_change}
-use Rattle.newt_journal.specs.Journal.{ReadsAs, ReadsAsEither, appended, room}
+use Rattle.newt_image.specs.Pages.{Pages, Change, change_numbers, all_distinct, change_in, with_puts, without_numbers, after, pages, pages_after, cap}
+use Rattle.newt_journal.specs.Journal.{appended, room}
 use Rattle.newt_journal.specs.Bank.{limit_of}
 use Rattle.newt_journal.specs.declared.journal.Journal.{Journal}
 use Rattle.newt_journal.specs.declared.bank.Bank.{Bank}
 use Rattle.newt_journal.specs.declared.bank.Bank.TheVariants.{First, Second}
 use Rattle.newt_pagebook.specs.Batch.{IsBatch}
-use Rattle.newt_pagebook.specs.Book.{Numbers, ReadsChanged, IsBeforeOrAfter, changed_numbers}
-use Rattle.newt_pagebook.proofs.Tests.{true_or_false, is_same, some_inj, the_some, none_is, neither}
+use Rattle.newt_pagebook.specs.Book.{Numbers, changed_numbers}
+use Rattle.newt_pagebook.proofs.Tests.{true_or_false, is_same, some_inj, none_is, neither}
 use Rattle.newt_pagebook.proofs.Changes.{get_insert, get_remove}
 use Rattle.newt_pageplain.specs.Kept.{Entries, page_in, map_of, numbers_in, get_map, is_kept, needed, all_of, AreSound}
 use Rattle.newt_pageplain.proofs.Maps.{turned, same_maps}
 use Rattle.newt_pageplain.proofs.Counts.{live-is, numbers-after, any_numbers}
-use Rattle.newt_pageplain.proofs.Spelling.{written-says, fewer_deletes, is_distinct, distinct_is, back_distinct, not_put, front_small, both_true, not_true}
+use Rattle.newt_pageplain.proofs.Spelling.{fewer_deletes, is_distinct, distinct_is, back_distinct, not_put, front_small, both_true, not_true}
 
 abbrev Put : Type 0
 Put = ℕ × List ℕ
@@ -138,9 +137,9 @@ put_all (e ∷ es) m q d =
 pub all-after : (es : Entries) → IsDistinct nat_eq (keys_of es) → after (all_of es) map.empty ≡ map_of es
 all-after es d = same_maps (after (all_of es) map.empty) (map_of es) (λ q. put_all es map.empty q d ∙ ap (λ (o : Option (List ℕ)). cond (is_some (page_in es q)) (page_in es q) o) (map.get-empty nat_cmp q)
     ∙ itself (page_in es q) ∙ sym (get_map es q)) where
-  itself : (o : Option (List ℕ)) → cond (is_some o) o None ≡ o
-  itself None = refl
-  itself (Some x) = refl
+      itself : (o : Option (List ℕ)) → cond (is_some o) o None ≡ o
+      itself None = refl
+      itself (Some x) = refl
 
 -- and they are a batch
 entry_kept : (es : Entries) (k : ℕ) (e : Put) → IsDistinct nat_eq (keys_of es) → slice_get es k ≡ Some e → page_in es e.0 ≡ Some e.1

@@ -1,12 +1,11 @@
 -- A record is begun, written and finished.
-use Rattle.std.proofs.Common.{IsTrue, ◌≡◌, ◌⊎◌, inl, inr, ℕ, ◌+◌, ◌≤◌, Bool, true, false, List, [], ◌∷◌, ◌++◌, length, replicate, Option, Some, refl, sym, ◌∙◌, ap, subst, arith, ⊎_elim, length-append}
+use Rattle.std.proofs.Common.{IsTrue, ◌≡◌, inl, inr, ℕ, Bool, List, [], ◌++◌, length, replicate, Option, sym, ◌∙◌, ap, subst, arith, ⊎_elim}
 use Rattle.std.proofs.lemmas.List.{length-replicate}
 use Rattle.newt_host.specs.Moments.{Moment, image, Leaves}
 use Rattle.newt_host.specs.Outside.{Outside, Touches, Spends, Rose}
 use Rattle.newt_host.proofs.Moments.{Leaves-append, Leaves-weaken}
-use Rattle.newt_host.proofs.Outside.{Touches-append, Spends-append, Spends-widen}
 use Rattle.newt_image.specs.Records.{records, tail}
-use Rattle.newt_journal.specs.Journal.{ReadsAs, ReadsAsEither, appended}
+use Rattle.newt_journal.specs.Journal.{ReadsAs, ReadsAsEither}
 use Rattle.newt_journal.specs.Draft.{unit_of, is_switch, payload_of, outcome}
 use Rattle.newt_journal.specs.declared.draft.Draft.{Draft}
 use Rattle.newt_pagebook.specs.Book.{IsOpenFor}

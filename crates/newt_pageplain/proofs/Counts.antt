@@ -1,19 +1,18 @@
 -- How many numbers there are after a batch.
-use Rattle.std.proofs.Common.{◌≡◌, ◌⊎◌, ℕ, zero, suc, ◌+◌, ◌-◌, ◌<◌, ◌≤◌, ◌==◌, Bool, true, false, cond, ◌||◌, not, ◌&&◌, List, [], ◌∷◌, ◌++◌, map as map_list, length, take, get_or, nat_eq, Option, Some, None, refl, sym, ◌∙◌, ap, subst, arith, ⊎_elim, length-append}
+use Rattle.std.proofs.Common.{◌≡◌, ℕ, zero, suc, ◌+◌, ◌-◌, ◌<◌, ◌≤◌, ◌==◌, Bool, true, false, cond, ◌||◌, not, ◌&&◌, List, [], ◌∷◌, ◌++◌, map as map_list, length, take, get_or, nat_eq, Option, Some, None, refl, sym, ◌∙◌, ap, arith, ⊎_elim, length-append}
 use Rattle.std.specs.List.{list_any, IsDistinct, AllByRecursion}
 use Rattle.std.specs.Option.{is_some}
 use Rattle.std.proofs.lemmas.Map.Keys.{IsDistinct-head, IsDistinct-tail}
 use Rattle.std.specs.Map.{keys_of}
-use Rattle.std.specs.Ordering.{nat_cmp, eq_by_cmp}
+use Rattle.std.specs.Ordering.{nat_cmp}
 use Rattle.std.specs.Cmp.{nat_cmp_total}
 use Rattle.std.specs.FinMap as map
 use Rattle.std.specs.FinSet as set
 use Rattle.std.proofs.lemmas.List.{take_more}
 use Rattle.std.proofs.lemmas.List.Folds.{list_any-append}
 use Rattle.newt_image.specs.Pages.{Pages, Change, change_numbers, all_distinct, with_puts, without_numbers, after}
-use Rattle.newt_pagebook.specs.Batch.{IsBatch}
 use Rattle.newt_pagebook.specs.Book.{Numbers, with_put_numbers, without_deleted, changed_numbers}
-use Rattle.newt_pagebook.proofs.Tests.{true_or_false, is_same, equal_true, equal_false, same_test, neither}
+use Rattle.newt_pagebook.proofs.Tests.{true_or_false, is_same, equal_true, same_test, neither}
 use Rattle.newt_pagebook.proofs.Changes.{get_insert, get_remove}
 use Rattle.newt_pageplain.specs.Kept.{Entries, map_of, numbers_in, named_in}
 use Rattle.newt_pageplain.proofs.Maps.{turned, no_put}
@@ -52,8 +51,8 @@ distinct_at (n ∷ ns) (suc k) distinct low =
     let g = get_or ns k 0 in
     neither-or (g == n) (list_any (λ m. g == m) (take k ns)) (⊎_elim
     (λ (t : (g == n) ≡ true). absurd (
-        let found : list_any (λ m. n == m) ns ≡ true = ap (λ (x : ℕ). list_any (λ m. x == m) ns) (sym (is_same g n t)) ∙ any_at ns k (omega arith) in
-        let none : list_any (λ m. n == m) ns ≡ false = not_any (list_any (λ m. n == m) ns) d.0 in cc))
+    let found : list_any (λ m. n == m) ns ≡ true = ap (λ (x : ℕ). list_any (λ m. x == m) ns) (sym (is_same g n t)) ∙ any_at ns k (omega arith) in
+    let none : list_any (λ m. n == m) ns ≡ false = not_any (list_any (λ m. n == m) ns) d.0 in cc))
     (λ (f : (g == n) ≡ false). f)
     (true_or_false (g == n))) (distinct_at ns k d.1 (omega arith))
 
@@ -178,10 +177,10 @@ module _ (change : Change) (distinct : all_distinct (change_numbers change) ≡ 
       let new : set.contains before n ≡ true = contains-deletes (take j change.deletes) put n ∙ ap (λ (b : Bool). not b && set.contains put n) other.1
       ∙ contains-puts change.puts s n ∙ ap (λ (b : Bool). b || set.contains s n) other.0 ∙ there in
       not_zero (set.len before) (λ none. absurd (let f : set.contains before n ≡ false = ap (λ (t : Numbers). set.contains t n) (set.empty_of_len before none) ∙ set.contains-empty nat_cmp n in cc))
-      where
-        not_zero : (n : ℕ) → (n ≡ 0 → ⊥) → 0 < n
-        not_zero zero h = absurd (h refl)
-        not_zero (suc n) h = omega arith
+    where
+      not_zero : (n : ℕ) → (n ≡ 0 → ⊥) → 0 < n
+      not_zero zero h = absurd (h refl)
+      not_zero (suc n) h = omega arith
 
 none_equal : (n : ℕ) (ns : List ℕ) → AllByRecursion (λ m. (n == m) ≡ false) ns → list_any (λ m. m == n) ns ≡ false
 none_equal n [] all = refl

@@ -1,20 +1,14 @@
 -- The map in memory after a batch.
-use Rattle.std.proofs.Common.{◌≡◌, ◌⊎◌, inl, inr, ℕ, ◌+◌, ◌<◌, ◌≤◌, ◌==◌, Bool, true, false, cond, if◌then◌else◌, ◌||◌, not, ◌&&◌, nat_eq, List, [], ◌∷◌, ◌++◌, map as map_list, length, take, get_or, Option, Some, None, IsSome, refl, sym, ◌∙◌, ap, subst, arith, ⊎_elim}
-use Rattle.std.specs.List.{All, list_any, filter, IsDistinct}
-use Rattle.std.specs.Map.{lookup, keys_of}
+use Rattle.std.proofs.Common.{◌≡◌, ℕ, ◌+◌, ◌<◌, ◌==◌, Bool, true, false, cond, if◌then◌else◌, nat_eq, List, [], ◌∷◌, ◌++◌, length, take, get_or, Option, Some, None, refl, sym, ◌∙◌, ap, ⊎_elim}
 use Rattle.std.specs.Option.{is_some}
-use Rattle.std.specs.Ordering.{nat_cmp}
 use Rattle.std.specs.Cmp.{nat_cmp_total}
 use Rattle.std.specs.FinMap as map
 use Rattle.std.specs.FinSet as set
 use Rattle.std.proofs.lemmas.List.{take_more}
-use Rattle.std.proofs.lemmas.List.Folds.{list_any-append}
-use Rattle.newt_image.specs.Pages.{Pages, Change, with_puts, without_numbers, after, change_numbers}
-use Rattle.newt_pagebook.specs.Batch.{IsBatch}
-use Rattle.newt_pagebook.specs.Book.{Numbers, with_put_numbers, without_deleted, changed_numbers}
-use Rattle.newt_pagebook.proofs.Tests.{true_or_false, is_same, equal_true, equal_false, same_test, neither, some_inj}
+use Rattle.newt_image.specs.Pages.{Pages, with_puts, without_numbers}
+use Rattle.newt_pagebook.proofs.Tests.{true_or_false, is_same, equal_true, equal_false}
 use Rattle.newt_pagebook.proofs.Changes.{get_insert, get_remove}
-use Rattle.newt_pageplain.specs.Kept.{Entries, page_in, map_of, numbers_in, get_map, kept_number, is_kept, AreSound, needed}
+use Rattle.newt_pageplain.specs.Kept.{Entries, page_in, map_of, numbers_in, get_map, kept_number}
 
 abbrev Put : Type 0
 Put = ℕ × List ℕ

@@ -1,8 +1,7 @@
 -- What a payload says, read number by number.
-use Rattle.std.proofs.Common.{◌≡◌, ◌⊎◌, inl, inr, ℕ, zero, suc, ◌+◌, ◌-◌, ◌*◌, ◌<◌, ◌≤◌, ◌==◌, nat_le, Bool, true, false, cond, if◌then◌else◌, ◌||◌, ◌&&◌, not, List, [], ◌∷◌, ◌++◌, map as map_list, length, take, drop, Option, Some, None, refl, sym, ◌∙◌, ap, subst, arith, ⊎_elim, append_assoc}
+use Rattle.std.proofs.Common.{◌≡◌, ◌⊎◌, inl, inr, ℕ, zero, suc, ◌+◌, ◌-◌, ◌*◌, ◌<◌, ◌≤◌, ◌==◌, nat_le, Bool, true, false, if◌then◌else◌, ◌||◌, ◌&&◌, not, List, [], ◌∷◌, ◌++◌, map as map_list, length, take, drop, Some, None, refl, sym, ◌∙◌, ap, arith, ⊎_elim, append_assoc}
 use Rattle.std.specs.List.{All, list_any, list_all}
 use Rattle.std.proofs.lemmas.List.{drop-drop, append-nil, map-append}
-use Rattle.std.proofs.lemmas.List.Folds.{list_any-append}
 use Rattle.std.proofs.lemmas.List.Elements.{All-head, All-tail}
 use Rattle.std.proofs.lemmas.Bool.Decides.{nat_tests}
 use Rattle.newt_image.specs.Pages.{Change, change_numbers, all_distinct, word_at, short_at, puts_from, deletes_from, said_by, is_change, change_in}
@@ -65,11 +64,12 @@ module _ (payload : List ℕ) where
       let more = puts_from m (drop 516 (drop (516 * i) (drop 4 payload))) in
       let ds = deletes_from deletes_in (drop (4 + 516 * puts_in) payload) in
       let split : puts_from puts_in (drop 4 payload) ≡ puts_from i (drop 4 payload) ++ put_at i ∷ more = puts_from-split i (suc m) puts_in (drop 4 payload) (omega arith)
-      ∙ ap (λ (p : Put). puts_from i (drop 4 payload) ++ p ∷ more) (put_there i) in
-      (map_list (λ (p : Put). p.0) more ++ ds,
-          ap (λ (l : List Put). map_list (λ (p : Put). p.0) l ++ ds) split
-          ∙ ap (λ (l : List ℕ). l ++ ds) (map-append (λ (p : Put). p.0) (puts_from i (drop 4 payload)) (put_at i ∷ more))
-          ∙ append_assoc (map_list (λ (p : Put). p.0) (puts_from i (drop 4 payload))) ((put_at i).0 ∷ map_list (λ (p : Put). p.0) more) ds)
+      ∙ ap (λ (p : Put). puts_from i (drop 4 payload) ++ p ∷ more) (put_there i) in (
+        map_list (λ (p : Put). p.0) more ++ ds,
+        ap (λ (l : List Put). map_list (λ (p : Put). p.0) l ++ ds) split
+            ∙ ap (λ (l : List ℕ). l ++ ds) (map-append (λ (p : Put). p.0) (puts_from i (drop 4 payload)) (put_at i ∷ more))
+            ∙ append_assoc (map_list (λ (p : Put). p.0) (puts_from i (drop 4 payload))) ((put_at i).0 ∷ map_list (λ (p : Put). p.0) more) ds,
+      )
 
   delete_numbers : (i : ℕ) → i < deletes_in → (rest : List ℕ)
       × (change_numbers (said_by payload) ≡ change_numbers (record { puts = puts_from puts_in (drop 4 payload); deletes = deletes_from i (drop (4 + 516 * puts_in) payload) }) ++ delete_at puts_in i ∷ rest)
@@ -78,9 +78,11 @@ module _ (payload : List ℕ) where
       let place = drop (4 + 516 * puts_in) payload in
       let more = deletes_from m (drop 4 (drop (4 * i) place)) in
       let split : deletes_from deletes_in place ≡ deletes_from i place ++ delete_at puts_in i ∷ more = deletes_from-split i (suc m) deletes_in place (omega arith)
-      ∙ ap (λ (n : ℕ). deletes_from i place ++ n ∷ more) (delete_there puts_in i) in
-      (more, ap (λ (l : List ℕ). map_list (λ (p : Put). p.0) (puts_from puts_in (drop 4 payload)) ++ l) split
-          ∙ sym (append_assoc (map_list (λ (p : Put). p.0) (puts_from puts_in (drop 4 payload))) (deletes_from i place) (delete_at puts_in i ∷ more)))
+      ∙ ap (λ (n : ℕ). deletes_from i place ++ n ∷ more) (delete_there puts_in i) in (
+        more,
+        ap (λ (l : List ℕ). map_list (λ (p : Put). p.0) (puts_from puts_in (drop 4 payload)) ++ l) split
+            ∙ sym (append_assoc (map_list (λ (p : Put). p.0) (puts_from puts_in (drop 4 payload))) (deletes_from i place) (delete_at puts_in i ∷ more)),
+      )
 
 and_false : (a : Bool) → (a && false) ≡ false
 and_false true = refl

@@ -1,25 +1,23 @@
 -- The records are replayed one by one.
-use Rattle.std.proofs.Common.{IsTrue, ◌≡◌, ◌⊎◌, inl, inr, ℕ, ◌+◌, ◌-◌, ◌*◌, ◌<◌, ◌≤◌, ◌==◌, Bool, true, false, cond, nat_eq, List, [], ◌∷◌, ◌++◌, map as map_list, length, take, drop, Option, Some, None, refl, sym, ◌∙◌, ap, subst, arith, ⊎_elim}
+use Rattle.std.proofs.Common.{◌≡◌, ℕ, ◌≤◌, Bool, nat_eq, List, length, Option, Some, None, refl, sym, ◌∙◌, ap, subst, arith}
 use Rattle.std.specs.Option.{MatchOption, IfSome}
 use Rattle.std.specs.List.{IsDistinct}
 use Rattle.std.specs.Map.{keys_of}
 use Rattle.std.specs.List.Sorted.{IsPermutation}
-use Rattle.std.specs.FinMap as map
 use Rattle.std.proofs.lemmas.List.Sorted.{IsPermutation-map}
 use Rattle.std.proofs.lemmas.Map.Keys.{IsDistinct-IsPermutation}
-use Rattle.newt_host.specs.Moments.{Moment, Change as Event, image, changes}
+use Rattle.newt_host.specs.Moments.{Moment, changes}
 use Rattle.newt_host.specs.Outside.{Outside, Touches}
-use Rattle.newt_image.specs.Records.{and_then, records, with_first}
+use Rattle.newt_image.specs.Records.{and_then, with_first}
 use Rattle.newt_image.specs.Pages.{Pages, Change, change_in, after, pages_after}
 use Rattle.newt_journal.specs.Journal.{Stands}
-use Rattle.newt_journal.specs.Bank.{start_of, limit_of}
-use Rattle.newt_journal.specs.Places.{first_place, payloads_from, IsPlace}
+use Rattle.newt_journal.specs.Bank.{limit_of}
 use Rattle.newt_journal.specs.declared.journal.Journal.{Journal}
 use Rattle.newt_journal.specs.declared.bank.Bank.{Bank}
 use Rattle.newt_journal.specs.declared.bank.Bank.TheVariants.{First, Second}
 use Rattle.newt_journal.proofs.Elsewhere.{stands_elsewhere}
 use Rattle.newt_pageplain.specs.Kept.{Entries, AreSound, page_in, map_of}
-use Rattle.newt_pageplain.proofs.Maps.{turned, same_entries}
+use Rattle.newt_pageplain.proofs.Maps.{turned}
 
 -- a journal stands on after what changed nothing
 pub stands-on : (told : Bool) (j : Journal) (old new : Outside) → Touches j.unit old new → new.now ≡ old.now → Stands told j old → Stands told j new

@@ -1,16 +1,13 @@
 -- A payload that was written says the change that it was written for.
-use Rattle.std.proofs.Common.{◌≡◌, ◌⊎◌, ℕ, zero, suc, ◌+◌, ◌*◌, ◌^◌, ◌<◌, ◌≤◌, ◌==◌, Bool, true, false, not, cond, ◌||◌, ◌&&◌, nat_eq, List, [], ◌∷◌, ◌++◌, map as map_list, length, take, drop, slice_get, Option, Some, None, refl, sym, ◌∙◌, ap, subst, arith, ⊎_elim, append_assoc, length-append}
+use Rattle.std.proofs.Common.{◌≡◌, ℕ, ◌+◌, ◌*◌, ◌<◌, ◌==◌, Bool, true, false, not, cond, ◌||◌, ◌&&◌, nat_eq, List, [], ◌∷◌, ◌++◌, map as map_list, length, take, drop, Some, refl, sym, ◌∙◌, ap, subst, arith, ⊎_elim, append_assoc, length-append}
 use Rattle.std.specs.List.{All, list_any, filter, flat_map, IsDistinct, AllByRecursion}
-use Rattle.std.specs.Map.{lookup, keys_of}
 use Rattle.std.specs.Int.{to_be_bytes, from_be_bytes, w16, w32}
-use Rattle.std.specs.Cmp.{nat_eq_equiv}
-use Rattle.std.proofs.lemmas.Bool.{cases_lt}
-use Rattle.std.proofs.lemmas.List.{take_at, drop_at, append-nil}
+use Rattle.std.proofs.lemmas.List.{take_at, drop_at}
 use Rattle.std.proofs.lemmas.List.Folds.{list_any-append}
 use Rattle.std.proofs.lemmas.List.Elements.{All-head, All-tail, All-cons, All-nil}
 use Rattle.std.proofs.lemmas.Nat.{from_be_bytes-to_be_bytes_2, from_be_bytes-to_be_bytes_4}
 use Rattle.std.proofs.lemmas.Map.Keys.{IsDistinct-head, IsDistinct-tail}
-use Rattle.newt_image.specs.Pages.{Change, change_numbers, all_distinct, short_at, word_at, puts_from, deletes_from, said_by, is_change, change_in, written_put, written_delete, written_change}
+use Rattle.newt_image.specs.Pages.{Change, all_distinct, short_at, word_at, puts_from, deletes_from, said_by, change_in, written_put, written_delete, written_change}
 use Rattle.newt_pagebook.specs.Batch.{IsBatch}
 use Rattle.newt_pagebook.proofs.Tests.{true_or_false, neither, is_same}
 use Rattle.newt_pageplain.proofs.Payloads.{batch_is_change, the_change_in}
@@ -96,8 +93,15 @@ module _ (change : Change) (batch : IsBatch change) (few_puts : length change.pu
       ap (λ (l : List ℕ). drop (4 + 516 * length change.puts) l) is ∙ drop_at (front ++ puts_bytes) deletes_bytes (4 + 516 * length change.puts) (omega (arith, size_of_puts, length-append front puts_bytes))
 
   pub written-length : length (written_change change) ≡ 4 + 516 * length change.puts + 4 * length change.deletes
-  written-length = omega (arith, ap (λ (l : List ℕ). length l) split, length-append (to_be_bytes w16 (length change.puts)) (to_be_bytes w16 (length change.deletes) ++ rest_bytes),
-      length-append (to_be_bytes w16 (length change.deletes)) rest_bytes, length-append puts_bytes deletes_bytes, size_of_puts, deletes-size change.deletes)
+  written-length = omega (
+    arith,
+    ap (λ (l : List ℕ). length l) split,
+    length-append (to_be_bytes w16 (length change.puts)) (to_be_bytes w16 (length change.deletes) ++ rest_bytes),
+    length-append (to_be_bytes w16 (length change.deletes)) rest_bytes,
+    length-append puts_bytes deletes_bytes,
+    size_of_puts,
+    deletes-size change.deletes,
+  )
 
   said : said_by (written_change change) ≡ change
   said =

@@ -1,8 +1,8 @@
 -- A book in memory stands for the pages that it keeps.
 use Rattle.std.specs.Prelude.{IsTrue, ◌≡◌, ℕ, ◌≤◌, Bool, List, Option, Some, IsSome}
 use Rattle.std.proofs.Common.{sym, ◌∙◌, ap, subst}
-use Rattle.newt_host.specs.Moments.{Change as Event, image, changes, bytes_after, LeftBy, IsDurable}
-use Rattle.newt_host.specs.Outside.{Outside, HasBlocks}
+use Rattle.newt_host.specs.Moments.{Change as Event, image, bytes_after, IsDurable}
+use Rattle.newt_host.specs.Outside.{Outside}
 use Rattle.newt_image.specs.Pages.{pages}
 use Rattle.newt_journal.specs.Journal.{Stands, HeldBy}
 use Rattle.newt_journal.specs.declared.journal.Journal.{Journal}

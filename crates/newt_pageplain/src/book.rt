@@ -1,5 +1,7 @@
 // The book.
-ghost use Rattle.std.specs.Prelude.{◌≡◌, ◌<◌, length, Some};
+ghost use Rattle.std.specs.Prelude.{◌≡◌, ◌≤◌, ◌⊎◌};
+ghost use Rattle.std.specs.HashMap as hash;
+ghost use Rattle.std.proofs.Props.{props};
 ghost use Rattle.newt_pageplain.specs.Kept.{AreSound};
 
 use crate::apply::{Kept, live_after};
@@ -19,11 +21,22 @@ pub struct PlainBook {
     pages: Kept,
     /// The number of the page at hand.
     at: Option<u32>,
-    ghost sound: { AreSound pages.entries },
+    /// How many puts have room.
+    room: u32,
+    ghost sound: { AreSound pages.entries } by { Prim.hlevel props },
+    ghost fits: { room ≤ hash.spare pages },
+}
+
+// The larger one of two numbers.
+fn larger(a: u32, b: u32) -> u32
+    ensures first { a ≤ result }
+    ensures second { b ≤ result }
+    ensures one { (result ≡ a) ⊎ (result ≡ b) }
+{
+    if a < b { b } else { a }
 }
 
 impl PageBook for PlainBook {
-    ghost use Rattle.std.specs.HashMap as hash;
     ghost use Rattle.newt_pageplain.specs.Kept.{numbers_in, shown_in, small_with};
     ghost use Rattle.newt_pageplain.specs.Plain.{StandsWith, tells_with, banks_with, kept_with};
 
@@ -33,7 +46,7 @@ impl PageBook for PlainBook {
 
     ghost shown = { λ b. shown_in b.pages.entries b.at };
 
-    ghost spare = { λ b. hash.spare b.pages };
+    ghost spare = { λ b. b.room };
 
     ghost stands = { λ told b o. StandsWith told b.unit b.journal b.pages.entries o };
 
@@ -45,12 +58,7 @@ impl PageBook for PlainBook {
 
     ghost kept = { λ told b old new s. kept_with told b.unit b.journal b.pages.entries old new s };
 
-    fn format<H: Host>(
-        alloc: Global,
-        host: &mut H,
-        unit: Unit,
-        batch: &Batch,
-    ) -> Result<(), Stop> {
+    fn format<H: Host>(alloc: Global, host: &mut H, unit: Unit, batch: &Batch) -> Result<(), Stop> {
         let payload = written(alloc, batch)?;
         match Journal::format(host, unit, &payload) {
             Ok(_) => Ok(()),
@@ -70,6 +78,7 @@ impl PageBook for PlainBook {
             journal: Some(journal),
             pages,
             at: None,
+            room: 0,
         })
     }
 
@@ -106,13 +115,16 @@ impl PageBook for PlainBook {
     }
 
     fn reserve(&mut self, puts: u32) -> Result<(), AllocError> {
-        self.pages.reserve(puts as usize)
+        self.pages.reserve(puts as usize)?;
+        self.room = larger(self.room, puts);
+        Ok(())
     }
 
     fn commit<H: Host>(&mut self, host: &mut H, batch: &Batch) -> Result<(), CommitFault> {
         if live_after(&self.pages, batch) > cap(host.blocks(self.unit)) as usize {
             return Err(CommitFault::Full);
         }
+        self.room = 0;
         match self.journal.take() {
             Some(journal) => match commit_with(journal, host, &mut self.pages, batch) {
                 Ok(journal) => {

@@ -8,6 +8,7 @@ ghost use Rattle.newt_image.specs.Pages.{written_put, written_delete, written_ch
 ghost use Rattle.newt_image.specs.Records.{records, tail, bank_size};
 ghost use Rattle.newt_journal.specs.Journal.{room, Stands, appended, ReadsAsEither};
 ghost use Rattle.newt_journal.specs.Draft.{IsDraftOf, unit_of, len_of, put_of};
+ghost use Rattle.newt_pagebook.specs.Batch.{IsBatch};
 ghost use Rattle.newt_pagebook.specs.Book.{IsOpenFor};
 ghost use Rattle.newt_pageplain.specs.Kept.{AreSound, is_kept, needed, all_of};
 ghost use Rattle.newt_pageplain.specs.Steps.{IsSteady, Keeps, WritesMore};
@@ -31,7 +32,9 @@ fn push_put(bytes: &mut Vec<u8>, number: u32, page: &Page) -> Result<(), AllocEr
 pub(crate) fn written(alloc: Global, batch: &Batch) -> Result<Vec<u8>, AllocError>
     requires few { length batch.now.puts < 65536 }
     requires none { batch.now.deletes ≡ [] }
-    ensures { IfOk result (λ bytes. bytes.items ≡ written_change batch.now) }
+    ensures says { IfOk result (λ bytes. bytes.items ≡ written_change batch.now) }
+    // what holds of every batch holds of this one
+    ensures sound { IsBatch batch.now }
 {
     let mut bytes = Vec::new(alloc);
     bytes.extend_from_slice(&(batch.puts().len() as u16).to_be_bytes())?;
@@ -80,11 +83,7 @@ fn write_put<H: Host>(
 }
 
 // Writes the puts of a batch.
-fn write_puts<H: Host>(
-    draft: &mut Draft,
-    host: &mut H,
-    puts: &[(u32, Page)],
-) -> Result<(), Failed>
+fn write_puts<H: Host>(draft: &mut Draft, host: &mut H, puts: &[(u32, Page)]) -> Result<(), Failed>
     requires room { put_of draft.old + 516 * length puts.now ≤ len_of draft.old }
     requires draft { IsDraftOf H.told draft.old (H.outside host.old) }
     requires steady { IsTrue H.told → IsSteady (unit_of draft.old) (H.outside host.old).now }

@@ -1,10 +1,9 @@
-use Rattle.std.proofs.Common.{◌≡◌, ℕ, ◌+◌, ◌≤◌, nat_eq, List, length, take, sym, ◌∙◌, ap, subst, arith, refl}
+use Rattle.std.proofs.Common.{◌≡◌, ℕ, ◌+◌, List, length, take, sym, ◌∙◌, ap, subst, arith}
 use Rattle.std.specs.FinMap as map
 use Rattle.std.proofs.lemmas.List.{take_all}
-use Rattle.std.specs.HashMap as hash
 use Rattle.newt_image.specs.Pages.{Pages, with_puts, without_numbers}
 use Rattle.newt_pageplain.specs.Kept.{page_in, map_of, get_map}
-use Rattle.newt_pageplain.proofs.Maps.{put-step, delete-step, map_is, no_put}
+use Rattle.newt_pageplain.proofs.Maps.{put-step, delete-step, map_is}
 use Rattle.newt_pageplain.proofs.apply.apply.Goals as goal
 
 pub loop-put-init : goal.loop-put-init

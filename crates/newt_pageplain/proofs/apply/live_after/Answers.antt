@@ -1,4 +1,4 @@
-use Rattle.std.proofs.Common.{◌≡◌, ℕ, ◌+◌, ◌-◌, ◌<◌, ◌≤◌, Bool, true, false, cond, List, length, take, get_or, sym, ◌∙◌, ap, subst, arith, refl}
+use Rattle.std.proofs.Common.{◌≡◌, ℕ, ◌+◌, ◌-◌, ◌<◌, Bool, true, cond, List, length, take, get_or, sym, ◌∙◌, ap, arith}
 use Rattle.std.specs.FinSet as set
 use Rattle.std.proofs.lemmas.List.{take_all}
 use Rattle.newt_pagebook.specs.Book.{Numbers, with_put_numbers, without_deleted}

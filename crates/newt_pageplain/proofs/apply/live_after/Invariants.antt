@@ -1,4 +1,4 @@
-use Rattle.std.proofs.Common.{◌≡◌, ℕ, ◌+◌, ◌≤◌, length, take}
+use Rattle.std.proofs.Common.{◌≡◌, ◌+◌, ◌≤◌, length, take}
 use Rattle.std.specs.FinSet as set
 use Rattle.newt_pagebook.specs.Book.{with_put_numbers, without_deleted}
 use Rattle.newt_pageplain.specs.Kept.{numbers_in}

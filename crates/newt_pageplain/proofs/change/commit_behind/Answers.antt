@@ -1,12 +1,11 @@
-use Rattle.std.proofs.Common.{IsTrue, ◌≡◌, ◌⊎◌, inl, inr, ℕ, ◌+◌, ◌*◌, ◌<◌, ◌≤◌, List, length, Option, Some, Ok, Err, refl, sym, ◌∙◌, ap, subst, arith, ⊎_elim}
+use Rattle.std.proofs.Common.{◌≡◌, inl, inr, ℕ, ◌+◌, ◌*◌, ◌<◌, List, length, Some, sym, ◌∙◌, ap, arith, ⊎_elim}
 use Rattle.std.specs.List.{filter}
 use Rattle.std.specs.Option.{option_map}
-use Rattle.newt_host.specs.Moments.{image, Leaves}
-use Rattle.newt_host.specs.Outside.{Outside, Touches, Spends, Rose}
+use Rattle.newt_host.specs.Moments.{image}
 use Rattle.newt_host.proofs.Moments.{Leaves-weaken}
 use Rattle.newt_host.proofs.Outside.{Spends-widen}
 use Rattle.newt_image.specs.Records.{records}
-use Rattle.newt_image.specs.Pages.{Pages, Change, pages, after, cap, change_in, written_change}
+use Rattle.newt_image.specs.Pages.{Pages, Change, pages, after, change_in, written_change}
 use Rattle.newt_journal.specs.Journal.{ReadsAsEither, appended}
 use Rattle.newt_pagebook.specs.Batch.{IsBatch}
 use Rattle.newt_pagebook.specs.Book.{IsBeforeOrAfter, ReadsChanged, batch_bytes}

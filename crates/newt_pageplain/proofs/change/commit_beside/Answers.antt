@@ -1,12 +1,10 @@
-use Rattle.std.proofs.Common.{IsTrue, ◌≡◌, ◌⊎◌, inl, inr, ℕ, ◌+◌, ◌*◌, ◌<◌, ◌≤◌, List, [], ◌∷◌, length, Option, Some, Ok, Err, refl, sym, ◌∙◌, ap, subst, arith, ⊎_elim}
-use Rattle.std.specs.List.{filter, IsDistinct}
+use Rattle.std.proofs.Common.{◌≡◌, inl, inr, ℕ, ◌≤◌, List, [], ◌∷◌, length, Some, sym, ◌∙◌, ap, arith, ⊎_elim}
+use Rattle.std.specs.List.{IsDistinct}
 use Rattle.std.specs.Map.{keys_of}
 use Rattle.std.specs.Option.{option_map}
 use Rattle.std.specs.FinSet as set
-use Rattle.std.specs.FinMap as map
 use Rattle.std.proofs.Common.{nat_eq}
-use Rattle.newt_host.specs.Moments.{image, Leaves}
-use Rattle.newt_host.specs.Outside.{Outside, Touches, Spends, Rose}
+use Rattle.newt_host.specs.Moments.{image}
 use Rattle.newt_host.proofs.Moments.{Leaves-weaken}
 use Rattle.newt_image.specs.Records.{records}
 use Rattle.newt_image.specs.Pages.{Pages, Change, pages, after, cap, change_in, written_change}

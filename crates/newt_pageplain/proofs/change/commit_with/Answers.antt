@@ -1,24 +1,31 @@
-use Rattle.std.proofs.Common.{IsTrue, ◌≡◌, ℕ, ◌+◌, ◌*◌, ◌-◌, ◌<◌, ◌≤◌, List, length, refl, sym, ◌∙◌, ap, subst, arith}
+use Rattle.std.proofs.Common.{ℕ, List, length, ap, arith}
 use Rattle.std.specs.List.{filter}
 use Rattle.newt_host.specs.Moments.{image}
-use Rattle.newt_host.specs.Outside.{Outside, Spends}
-use Rattle.newt_image.specs.Pages.{Change}
-use Rattle.newt_image.specs.Records.{tail}
-use Rattle.newt_pagebook.specs.Batch.{IsBatch}
-use Rattle.newt_pagebook.specs.Book.{IsOpenFor, batch_bytes}
 use Rattle.newt_pageplain.specs.Kept.{is_kept}
 use Rattle.newt_pageplain.proofs.Changing.{few_kept, few_puts, fewer}
 use Rattle.newt_pageplain.proofs.change.commit_with.Goals as goal
 
 pub overflow_mul-len-2 : goal.overflow_mul-len-2
 overflow_mul-len-2 g c =
-    omega (arith, c.kept_of-deletes.ensures, ap (λ (l : List ℕ). length (filter (is_kept c.args.pages.now.entries) l)) c.deletes.ensures.deletes,
-        few_kept c.args.pages.now.entries c.args.batch.now c.puts.ensures.sound, c.requires.sound.few)
+    omega (
+      arith,
+      c.kept_of-deletes.ensures,
+      ap (λ (l : List ℕ). length (filter (is_kept c.args.pages.now.entries) l)) c.deletes.ensures.deletes,
+      few_kept c.args.pages.now.entries c.args.batch.now c.puts.ensures.sound,
+      c.requires.sound.few,
+    )
 
 pub overflow_add-len-2 : goal.overflow_add-len-2
 overflow_add-len-2 g c =
-    omega (arith, few_puts c.args.batch.now c.puts.ensures.sound, ap (λ (l : List (ℕ × List ℕ)). length l) c.puts.ensures.puts, c.kept_of-deletes.ensures,
-        ap (λ (l : List ℕ). length (filter (is_kept c.args.pages.now.entries) l)) c.deletes.ensures.deletes, few_kept c.args.pages.now.entries c.args.batch.now c.puts.ensures.sound, c.requires.sound.few)
+    omega (
+      arith,
+      few_puts c.args.batch.now c.puts.ensures.sound,
+      ap (λ (l : List (ℕ × List ℕ)). length l) c.puts.ensures.puts,
+      c.kept_of-deletes.ensures,
+      ap (λ (l : List ℕ). length (filter (is_kept c.args.pages.now.entries) l)) c.deletes.ensures.deletes,
+      few_kept c.args.pages.now.entries c.args.batch.now c.puts.ensures.sound,
+      c.requires.sound.few,
+    )
 
 pub returns-else-len-room-clause-bound : goal.returns-else-len-room-clause-bound
 returns-else-len-room-clause-bound g c =
@@ -26,5 +33,13 @@ returns-else-len-room-clause-bound g c =
     let old = image c.args.journal.unit (o c.args.host.now).now in
     λ tells free. absurd (
     let room = (c.room.ensures.by_tail g.H.Host.told (o c.args.host.now) c.requires.stands tells).erased free.blank in
-    omega (arith, room, free.room, c.if-len-room.false, c.kept_of-deletes.ensures, ap (λ (l : List (ℕ × List ℕ)). length l) c.puts.ensures.puts,
-        ap (λ (l : List ℕ). length (filter (is_kept c.args.pages.now.entries) l)) c.deletes.ensures.deletes, fewer (is_kept c.args.pages.now.entries) c.args.batch.now.deletes))
+    omega (
+      arith,
+      room,
+      free.room,
+      c.if-len-room.false,
+      c.kept_of-deletes.ensures,
+      ap (λ (l : List (ℕ × List ℕ)). length l) c.puts.ensures.puts,
+      ap (λ (l : List ℕ). length (filter (is_kept c.args.pages.now.entries) l)) c.deletes.ensures.deletes,
+      fewer (is_kept c.args.pages.now.entries) c.args.batch.now.deletes,
+    ))

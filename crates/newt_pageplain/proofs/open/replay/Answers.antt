@@ -1,12 +1,10 @@
-use Rattle.std.proofs.Common.{IsTrue, ◌≡◌, ℕ, ◌+◌, ◌*◌, ◌<◌, ◌≤◌, List, [], ◌∷◌, length, take, drop, Option, Some, None, refl, sym, ◌∙◌, ap, subst, arith}
-use Rattle.std.specs.FinMap as map
+use Rattle.std.proofs.Common.{◌≡◌, ℕ, ◌+◌, ◌*◌, ◌<◌, ◌≤◌, List, length, take, drop, ◌∙◌, ap, subst, arith}
 use Rattle.newt_host.specs.Moments.{Moment, image}
-use Rattle.newt_host.specs.Outside.{Outside, Touches}
+use Rattle.newt_host.specs.Outside.{Touches}
 use Rattle.newt_host.proofs.Outside.{Touches-append}
-use Rattle.newt_image.specs.Records.{records, and_then, with_first}
-use Rattle.newt_image.specs.Pages.{Pages, Change, change_in, pages, pages_after}
+use Rattle.newt_image.specs.Records.{with_first}
+use Rattle.newt_image.specs.Pages.{Change, pages}
 use Rattle.newt_journal.specs.Places.{payloads_from, IsPlace}
-use Rattle.newt_pageplain.specs.Kept.{AreSound, map_of}
 use Rattle.newt_pageplain.proofs.Maps.{same_entries}
 use Rattle.newt_pageplain.proofs.Changing.{sound-after}
 use Rattle.newt_pageplain.proofs.Replaying.{stands-on, sound-reordered, near, read-step, read-bad, at_some, at_none, if_some}

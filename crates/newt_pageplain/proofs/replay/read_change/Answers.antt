@@ -1,7 +1,7 @@
-use Rattle.std.proofs.Common.{◌≡◌, ℕ, ◌+◌, ◌*◌, ◌≤◌, true, false, List, length, drop, Some, None, refl, sym, ◌∙◌, ap, subst, arith}
-use Rattle.newt_image.specs.Pages.{Change, short_at, said_by, change_in, puts_from}
+use Rattle.std.proofs.Common.{◌≡◌, ◌+◌, ◌*◌, length, drop, Some, sym, ◌∙◌, ap, subst, arith}
+use Rattle.newt_image.specs.Pages.{Change, short_at, said_by}
 use Rattle.newt_pagebook.specs.Batch.{IsBatch}
-use Rattle.newt_pageplain.proofs.Payloads.{batch_is_change, not_whole, no_change_in, the_change_in, puts-length}
+use Rattle.newt_pageplain.proofs.Payloads.{batch_is_change, the_change_in, puts-length}
 use Rattle.newt_pageplain.proofs.replay.read_change.Goals as goal
 
 pub returns-clause-change : goal.returns-clause-change

@@ -1,6 +1,6 @@
-use Rattle.std.proofs.Common.{◌≡◌, ℕ, ◌+◌, ◌*◌, ◌<◌, nat_eq, Bool, true, false, List, [], ◌∷◌, ◌++◌, take, drop, refl, sym, ◌∙◌, ap, subst, arith}
+use Rattle.std.proofs.Common.{◌≡◌, ℕ, ◌+◌, ◌*◌, ◌<◌, nat_eq, List, drop, sym, ◌∙◌, ap, subst, arith}
 use Rattle.std.specs.HashSet.{contains}
-use Rattle.newt_image.specs.Pages.{Change, short_at, word_at, puts_from, deletes_from}
+use Rattle.newt_image.specs.Pages.{Change, short_at, puts_from, deletes_from}
 use Rattle.newt_pagebook.specs.Batch.{deletes_one}
 use Rattle.newt_pageplain.specs.Replay.{IsSeen, IsRefused}
 use Rattle.newt_pageplain.proofs.Payloads.{delete_refused, deletes-push, seen-delete, delete_at}

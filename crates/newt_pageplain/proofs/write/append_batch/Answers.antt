@@ -1,15 +1,13 @@
-use Rattle.std.proofs.Common.{IsTrue, ◌≡◌, ℕ, ◌+◌, ◌*◌, ◌<◌, ◌≤◌, Bool, true, false, List, [], ◌∷◌, ◌++◌, length, Ok, Err, refl, sym, ◌∙◌, ap, subst, arith}
+use Rattle.std.proofs.Common.{ℕ, false, List, length, ap, arith}
 use Rattle.std.specs.List.{filter}
 use Rattle.newt_host.specs.Moments.{image}
-use Rattle.newt_host.specs.Outside.{Outside, Touches, Spends, Rose}
-use Rattle.newt_host.proofs.Outside.{Touches-append, Spends-append, Spends-widen}
+use Rattle.newt_host.proofs.Outside.{Touches-append}
 use Rattle.newt_image.specs.Records.{records}
 use Rattle.newt_image.specs.Pages.{written_change}
 use Rattle.newt_journal.specs.Journal.{appended}
 use Rattle.newt_journal.specs.Draft.{unit_of}
-use Rattle.newt_pageplain.specs.Kept.{is_kept, needed, all_of}
-use Rattle.newt_pageplain.specs.Steps.{Keeps, WritesMore}
-use Rattle.newt_pageplain.proofs.Committing.{Written, two-leaves, written-draft, first-either, finish-leaves, finish-records, finish-open, touches-on, spends-on, rose-at-last}
+use Rattle.newt_pageplain.specs.Kept.{is_kept, needed}
+use Rattle.newt_pageplain.proofs.Committing.{two-leaves, written-draft, first-either, finish-leaves, finish-open, touches-on}
 use Rattle.newt_pageplain.proofs.write.append_batch.Goals as goal
 
 pub returns-in_err-draft-clause-any_moment : goal.returns-in_err-draft-clause-any_moment
@@ -54,8 +52,16 @@ returns-clause-any_moment g c =
 pub finish-requires-clause-whole : goal.finish-requires-clause-whole
 finish-requires-clause-whole g c =
     let dr = c.in_ok-draft.ensures.draft in
-    omega (arith, c.in_ok-write_batch.ensures.put, c.in_ok-write_batch.ensures.ok.len, dr.2, dr.3, ap (λ (l : List (ℕ × List ℕ)). length l) c.puts.ensures.puts, c.kept_of-deletes.ensures,
-        ap (λ (l : List ℕ). length (filter (is_kept c.args.pages.now.entries) l)) c.deletes.ensures.deletes)
+    omega (
+      arith,
+      c.in_ok-write_batch.ensures.put,
+      c.in_ok-write_batch.ensures.ok.len,
+      dr.2,
+      dr.3,
+      ap (λ (l : List (ℕ × List ℕ)). length l) c.puts.ensures.puts,
+      c.kept_of-deletes.ensures,
+      ap (λ (l : List ℕ). length (filter (is_kept c.args.pages.now.entries) l)) c.deletes.ensures.deletes,
+    )
 
 pub returns-clause-blank : goal.returns-clause-blank
 returns-clause-blank g c =

@@ -1,15 +1,11 @@
-use Rattle.std.proofs.Common.{IsTrue, ◌≡◌, ℕ, ◌+◌, ◌*◌, ◌<◌, ◌≤◌, Bool, true, false, List, [], ◌∷◌, ◌++◌, length, Ok, Err, refl, sym, ◌∙◌, ap, subst, arith}
-use Rattle.std.specs.List.{filter}
+use Rattle.std.proofs.Common.{IsTrue, ◌≡◌, ℕ, true, List, [], ◌∷◌, ◌∙◌, ap, subst}
 use Rattle.newt_host.specs.Moments.{image}
-use Rattle.newt_host.specs.Outside.{Outside, Touches, Spends, Rose}
-use Rattle.newt_host.proofs.Outside.{Touches-append, Spends-append, Spends-widen}
+use Rattle.newt_host.proofs.Outside.{Touches-append}
 use Rattle.newt_image.specs.Records.{records}
 use Rattle.newt_image.specs.Pages.{written_change}
-use Rattle.newt_journal.specs.Journal.{appended}
 use Rattle.newt_journal.specs.Draft.{unit_of}
-use Rattle.newt_pageplain.specs.Kept.{is_kept, needed, all_of}
-use Rattle.newt_pageplain.specs.Steps.{Keeps, WritesMore}
-use Rattle.newt_pageplain.proofs.Committing.{Written, two-leaves, written-draft, first-either, finish-leaves, finish-records, finish-open, touches-on, spends-on, rose-at-last}
+use Rattle.newt_pageplain.specs.Kept.{all_of}
+use Rattle.newt_pageplain.proofs.Committing.{two-leaves, written-draft, first-either, finish-leaves, finish-records, finish-open, touches-on}
 use Rattle.newt_journal.specs.declared.journal.Journal.{Journal}
 use Rattle.std.proofs.Common.{Some}
 use Rattle.newt_pageplain.proofs.Stepping.{put-keeps}

@@ -1,14 +1,10 @@
-use Rattle.std.proofs.Common.{IsTrue, ◌≡◌, ℕ, ◌+◌, ◌*◌, ◌<◌, ◌≤◌, List, [], ◌∷◌, ◌++◌, length, refl, sym, ◌∙◌, ap, subst, arith, append_assoc, append-nil}
+use Rattle.std.proofs.Common.{ℕ, ◌+◌, ◌*◌, List, ◌++◌, length, sym, arith}
 use Rattle.std.specs.Int.{to_be_bytes, w16}
-use Rattle.std.specs.List.{flat_map, filter}
-use Rattle.newt_host.specs.Moments.{image}
-use Rattle.newt_host.specs.Outside.{Outside, Rose}
-use Rattle.newt_image.specs.Records.{records}
-use Rattle.newt_image.specs.Pages.{written_put, written_delete, written_change}
+use Rattle.std.specs.List.{flat_map}
+use Rattle.newt_image.specs.Pages.{written_put, written_change}
 use Rattle.newt_journal.specs.Draft.{unit_of}
-use Rattle.newt_pageplain.specs.Kept.{is_kept, needed, all_of}
-use Rattle.newt_pageplain.specs.Steps.{Keeps, WritesMore, IsSteady}
-use Rattle.newt_pageplain.proofs.Stepping.{Stepped, step, keeps-two, keeps-widen, keeps-on, written-batch, written-all}
+use Rattle.newt_pageplain.specs.Kept.{all_of}
+use Rattle.newt_pageplain.proofs.Stepping.{step, keeps-two, keeps-widen, keeps-on, written-all}
 use Rattle.newt_pageplain.proofs.write.write_all.Goals as goal
 
 pub returns-in_err-write_counts-clause-keeps : goal.returns-in_err-write_counts-clause-keeps

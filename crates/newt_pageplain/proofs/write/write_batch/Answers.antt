@@ -1,14 +1,10 @@
-use Rattle.std.proofs.Common.{IsTrue, ◌≡◌, ℕ, ◌+◌, ◌*◌, ◌<◌, ◌≤◌, List, [], ◌∷◌, ◌++◌, length, refl, sym, ◌∙◌, ap, subst, arith, append_assoc, append-nil}
+use Rattle.std.proofs.Common.{◌≡◌, ℕ, ◌+◌, ◌*◌, List, ◌++◌, length, refl, sym, ◌∙◌, ap, arith}
 use Rattle.std.specs.Int.{to_be_bytes, w16}
 use Rattle.std.specs.List.{flat_map, filter}
-use Rattle.newt_host.specs.Moments.{image}
-use Rattle.newt_host.specs.Outside.{Outside, Rose}
-use Rattle.newt_image.specs.Records.{records}
 use Rattle.newt_image.specs.Pages.{written_put, written_delete, written_change}
 use Rattle.newt_journal.specs.Draft.{unit_of}
-use Rattle.newt_pageplain.specs.Kept.{is_kept, needed, all_of}
-use Rattle.newt_pageplain.specs.Steps.{Keeps, WritesMore, IsSteady}
-use Rattle.newt_pageplain.proofs.Stepping.{Stepped, step, keeps-two, keeps-widen, keeps-on, written-batch, written-all, deletes-size}
+use Rattle.newt_pageplain.specs.Kept.{is_kept, needed}
+use Rattle.newt_pageplain.proofs.Stepping.{step, keeps-two, keeps-widen, keeps-on, written-batch, deletes-size}
 use Rattle.newt_pageplain.proofs.write.write_batch.Goals as goal
 
 pub returns-in_err-write_counts-clause-keeps : goal.returns-in_err-write_counts-clause-keeps
@@ -99,5 +95,12 @@ returns-clause-put g c =
     let x = c.in_ok-write_counts.ensures.ok in
     let y = c.in_ok-write_puts.ensures in
     let z = c.in_ok-write_deletes.ensures.ok in
-    omega (arith, x.put, y.put, z.put, deletes-size (filter (is_kept c.args.pages.now.entries) c.deletes.result.now), ap (λ (l : List (ℕ × List ℕ)). length l) c.puts-puts.ensures.puts,
-        ap (λ (l : List ℕ). length (filter (is_kept c.args.pages.now.entries) l)) c.deletes.ensures.deletes)
+    omega (
+      arith,
+      x.put,
+      y.put,
+      z.put,
+      deletes-size (filter (is_kept c.args.pages.now.entries) c.deletes.result.now),
+      ap (λ (l : List (ℕ × List ℕ)). length l) c.puts-puts.ensures.puts,
+      ap (λ (l : List ℕ). length (filter (is_kept c.args.pages.now.entries) l)) c.deletes.ensures.deletes,
+    )

@@ -1,10 +1,8 @@
-use Rattle.std.proofs.Common.{IsTrue, ◌≡◌, ℕ, ◌+◌, ◌≤◌, List, ◌++◌, length, refl, sym, ◌∙◌, ap, subst, arith}
-use Rattle.std.specs.Int.{to_be_bytes, w16, w32}
-use Rattle.newt_host.specs.Outside.{Outside, Touches, Spends}
+use Rattle.std.proofs.Common.{IsTrue, ◌≡◌, ℕ, ◌+◌, List, ◌++◌, length, ◌∙◌, ap, arith}
+use Rattle.std.specs.Int.{to_be_bytes, w16}
 use Rattle.newt_host.specs.Moments.{image}
 use Rattle.newt_image.specs.Records.{records}
 use Rattle.newt_journal.specs.Draft.{unit_of}
-use Rattle.newt_pageplain.specs.Steps.{Keeps, WritesMore}
 use Rattle.newt_pageplain.proofs.Stepping.{keeps-two, keeps-widen, keeps-on, put-keeps, put-writes, writes-two, writes-same}
 use Rattle.newt_pageplain.proofs.write.write_counts.Goals as goal
 

@@ -1,16 +1,9 @@
-use Rattle.std.proofs.Common.{IsTrue, ◌≡◌, ℕ, ◌+◌, ◌*◌, ◌^◌, ◌<◌, ◌≤◌, min, List, [], ◌∷◌, ◌++◌, map, length, take, get_or, refl, sym, ◌∙◌, ap, subst, arith, length-append, Bool, true, false, cond}
+use Rattle.std.proofs.Common.{◌≡◌, ◌*◌, [], ◌∷◌, length, sym, ◌∙◌, arith, true}
 use Rattle.std.specs.List.{flat_map, filter}
-use Rattle.std.proofs.lemmas.List.{take_more, map-append}
-use Rattle.std.specs.Map.Iter.{deref_pair}
-use Rattle.newt_host.specs.Moments.{image}
-use Rattle.newt_host.specs.Outside.{Outside, Rose}
-use Rattle.newt_image.specs.Records.{records}
-use Rattle.newt_image.specs.Pages.{written_put, written_delete}
+use Rattle.newt_image.specs.Pages.{written_delete}
 use Rattle.newt_journal.specs.Draft.{unit_of}
 use Rattle.newt_pageplain.specs.Kept.{is_kept}
-use Rattle.newt_pageplain.specs.Steps.{Keeps, WritesMore}
-use Rattle.newt_pageplain.proofs.Stepping.{keeps-start, keeps-two, keeps-widen, keeps-on, put-keeps, put-writes, writes-none, writes-two, writes-same, flat-push, step, written-size, deletes-size, filter-take, one_deleted}
-use Rattle.newt_pageplain.proofs.Maps.{no_put}
+use Rattle.newt_pageplain.proofs.Stepping.{keeps-start, keeps-widen, put-writes, writes-same, one_deleted}
 use Rattle.newt_pageplain.proofs.write.write_delete.Goals as goal
 
 pub returns-then-contains_key-clause-ok : goal.returns-then-contains_key-clause-ok

@@ -1,16 +1,10 @@
-use Rattle.std.proofs.Common.{IsTrue, ◌≡◌, ℕ, ◌+◌, ◌*◌, ◌^◌, ◌<◌, ◌≤◌, min, List, [], ◌∷◌, ◌++◌, map, length, take, get_or, refl, sym, ◌∙◌, ap, subst, arith, length-append, Bool, true, false, cond}
+use Rattle.std.proofs.Common.{◌≡◌, ℕ, ◌+◌, ◌*◌, ◌<◌, ◌≤◌, List, [], ◌∷◌, ◌++◌, length, take, get_or, ◌∙◌, ap, arith, length-append, Bool}
 use Rattle.std.specs.List.{flat_map, filter}
-use Rattle.std.proofs.lemmas.List.{take_more, map-append}
-use Rattle.std.specs.Map.Iter.{deref_pair}
-use Rattle.newt_host.specs.Moments.{image}
-use Rattle.newt_host.specs.Outside.{Outside, Rose}
-use Rattle.newt_image.specs.Records.{records}
-use Rattle.newt_image.specs.Pages.{written_put, written_delete}
+use Rattle.std.proofs.lemmas.List.{take_more}
+use Rattle.newt_image.specs.Pages.{written_delete}
 use Rattle.newt_journal.specs.Draft.{unit_of}
 use Rattle.newt_pageplain.specs.Kept.{is_kept}
-use Rattle.newt_pageplain.specs.Steps.{Keeps, WritesMore}
-use Rattle.newt_pageplain.proofs.Stepping.{keeps-start, keeps-two, keeps-widen, keeps-on, put-keeps, put-writes, writes-none, writes-two, writes-same, flat-push, step, written-size, deletes-size, filter-take, one_deleted}
-use Rattle.newt_pageplain.proofs.Maps.{no_put}
+use Rattle.newt_pageplain.proofs.Stepping.{keeps-start, keeps-two, keeps-widen, keeps-on, writes-none, step, deletes-size, filter-take}
 use Rattle.std.proofs.lemmas.List.Elements.{filter-append}
 use Rattle.std.proofs.lemmas.Grind.{flat_map-append}
 use Rattle.newt_pageplain.proofs.write.write_deletes.Goals as goal

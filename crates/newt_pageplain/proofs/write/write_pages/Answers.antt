@@ -1,16 +1,10 @@
-use Rattle.std.proofs.Common.{IsTrue, ◌≡◌, ℕ, ◌+◌, ◌*◌, ◌^◌, ◌<◌, ◌≤◌, min, List, [], ◌∷◌, ◌++◌, map, length, take, get_or, refl, sym, ◌∙◌, ap, subst, arith, length-append, Bool, true, false, cond}
-use Rattle.std.specs.List.{flat_map, filter}
-use Rattle.std.proofs.lemmas.List.{take_more, map-append}
+use Rattle.std.proofs.Common.{◌≡◌, ℕ, ◌+◌, ◌*◌, List, [], ◌∷◌, ◌++◌, map, length, ◌∙◌, ap, arith, length-append}
+use Rattle.std.specs.List.{flat_map}
+use Rattle.std.proofs.lemmas.List.{map-append}
 use Rattle.std.specs.Map.Iter.{deref_pair}
-use Rattle.newt_host.specs.Moments.{image}
-use Rattle.newt_host.specs.Outside.{Outside, Rose}
-use Rattle.newt_image.specs.Records.{records}
-use Rattle.newt_image.specs.Pages.{written_put, written_delete}
+use Rattle.newt_image.specs.Pages.{written_put}
 use Rattle.newt_journal.specs.Draft.{unit_of}
-use Rattle.newt_pageplain.specs.Kept.{is_kept}
-use Rattle.newt_pageplain.specs.Steps.{Keeps, WritesMore}
-use Rattle.newt_pageplain.proofs.Stepping.{keeps-start, keeps-two, keeps-widen, keeps-on, put-keeps, put-writes, writes-none, writes-two, writes-same, flat-push, step, written-size, deletes-size, filter-take, one_deleted}
-use Rattle.newt_pageplain.proofs.Maps.{no_put}
+use Rattle.newt_pageplain.proofs.Stepping.{keeps-start, keeps-two, keeps-widen, keeps-on, writes-none, writes-same, flat-push, step, written-size}
 use Rattle.std.proofs.lemmas.Map.Iter.{iter_turn, iter_end}
 use Rattle.newt_pageplain.specs.Kept.{Entries}
 use Rattle.newt_pageplain.proofs.write.write_pages.Goals as goal

@@ -1,15 +1,9 @@
-use Rattle.std.proofs.Common.{IsTrue, ◌≡◌, ℕ, ◌+◌, ◌*◌, ◌^◌, ◌<◌, ◌≤◌, min, List, [], ◌∷◌, ◌++◌, map, length, take, get_or, refl, sym, ◌∙◌, ap, subst, arith, length-append}
-use Rattle.std.specs.List.{flat_map, filter}
-use Rattle.std.proofs.lemmas.List.{take_more, map-append}
-use Rattle.std.specs.Map.Iter.{deref_pair}
-use Rattle.newt_host.specs.Moments.{image}
-use Rattle.newt_host.specs.Outside.{Outside, Rose}
-use Rattle.newt_image.specs.Records.{records}
-use Rattle.newt_image.specs.Pages.{written_put, written_delete}
+use Rattle.std.proofs.Common.{◌≡◌, ◌+◌, ◌*◌, [], ◌∷◌, ◌++◌, length, take, get_or, ◌∙◌, ap, arith}
+use Rattle.std.specs.List.{flat_map}
+use Rattle.std.proofs.lemmas.List.{take_more}
+use Rattle.newt_image.specs.Pages.{written_put}
 use Rattle.newt_journal.specs.Draft.{unit_of}
-use Rattle.newt_pageplain.specs.Kept.{is_kept}
-use Rattle.newt_pageplain.specs.Steps.{Keeps, WritesMore}
-use Rattle.newt_pageplain.proofs.Stepping.{keeps-start, keeps-two, keeps-widen, keeps-on, put-keeps, put-writes, writes-none, writes-two, writes-same, flat-push, step, written-size}
+use Rattle.newt_pageplain.proofs.Stepping.{keeps-start, keeps-two, keeps-widen, keeps-on, writes-none, flat-push, step, written-size}
 use Rattle.newt_pageplain.proofs.Maps.{no_put}
 use Rattle.newt_pageplain.proofs.write.write_puts.Goals as goal
 
