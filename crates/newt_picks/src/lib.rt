@@ -1,0 +1,9 @@
+//! What a crash may leave of a small run over the host in memory, against a table that was written by hand.
+//!
+//! It stands on `newt_memhost`, and carries no promise of its own.
+#![tactic(auto)]
+
+#[cfg(test)]
+mod steps;
+#[cfg(test)]
+mod tests;

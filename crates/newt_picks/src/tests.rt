@@ -1,0 +1,116 @@
+//! Each pick at each call of one run, the calls that are to fail, and the unit and the output of each call.
+ghost use Rattle.std.specs.Prelude.{IfOk, IsSome};
+ghost use Rattle.newt_memhost.specs.Outside.{outside_of};
+
+use crate::steps::{CARD, erase, host_of, print, read, sync, take};
+use newt_host::{Failed, Host, Unit};
+use newt_memhost::{MemHost, Pick};
+use std::alloc::Global;
+use std::process::Abort;
+use std::test::Fail;
+
+const PICKS: [Pick; 4] = [Pick::Old, Pick::New, Pick::Half, Pick::Fill(9)];
+
+// What is told of one call: its unit, the length of the output at its begin and at its crash, and what each pick leaves.
+#[derive(Clone, Copy)]
+struct Row {
+    unit: Option<Unit>,
+    before: u64,
+    out: u64,
+    images: [[u8; 4]; 4],
+}
+
+// A card of two blocks, and an input of two bytes; the calls 3 and 7 are to fail.
+fn prepared(rt: &impl Abort, alloc: Global) -> Result<MemHost, Fail>
+    ensures { IfOk result (λ host. IsSome ((outside_of host).card 0)) }
+{
+    let mut bytes = Vec::new(alloc);
+    bytes.resize(8192, 7)?;
+    let mut host = host_of(rt, alloc, &bytes)?;
+    assert!(rt; host.blocks(CARD) == 2);
+    host.input(b"ab")?;
+    host.fail(3)?;
+    host.fail(7)?;
+    Ok(host)
+}
+
+// The first block is erased and made sure of, the second is to be erased.
+fn first_calls(rt: &impl Abort, host: &mut MemHost)
+    requires { IsSome ((outside_of host.old).card 0) }
+    ensures { IsSome ((outside_of host.new).card 0) }
+{
+    assert_eq!(rt; take(host), Ok(2));
+    assert_eq!(rt; erase(rt, host, 0), Ok(()));
+    assert_eq!(rt; print(host, b"x"), Ok(1));
+    assert_eq!(rt; erase(rt, host, 1), Err(Failed));
+    assert_eq!(rt; sync(host), Ok(()));
+}
+
+// The second block is erased, and is to be made sure of.
+fn later_calls(rt: &impl Abort, host: &mut MemHost)
+    requires { IsSome ((outside_of host.old).card 0) }
+    ensures { IsSome ((outside_of host.new).card 0) }
+{
+    assert_eq!(rt; read(rt, host, 8000), Ok(()));
+    assert_eq!(rt; erase(rt, host, 1), Ok(()));
+    assert_eq!(rt; sync(host), Err(Failed));
+    assert_eq!(rt; print(host, b"yz"), Ok(2));
+}
+
+// The bytes at the beginnings of both blocks and in the middle of each.
+fn shown(rt: &impl Abort, image: &[u8]) -> [u8; 4] {
+    assert!(rt; image.len() == 8192);
+    [image[0], image[2048], image[4096], image[6144]]
+}
+
+// One call is told as its row says.
+fn assert_row(rt: &impl Abort, host: &MemHost, call: u64, row: &Row) -> Result<(), Fail>
+    requires { IsSome ((outside_of host.now).card 0) }
+{
+    assert!(rt; call < host.calls());
+    assert_eq!(rt; host.unit_of(call), row.unit, "at {call}");
+    assert_eq!(rt; host.out_before(call), row.before, "at {call}");
+    for (pick, image) in PICKS.iter().zip(row.images) {
+        let crash = host.images(CARD, call, *pick)?;
+        assert_eq!(rt; shown(rt, &crash.image), image, "at {call} {pick:?}");
+        assert_eq!(rt; crash.out, row.out, "at {call}");
+    }
+    Ok(())
+}
+
+// A row for a call on the card, or on the input or the output.
+fn told(unit: Option<Unit>, before: u64, out: u64, images: [[u8; 4]; 4]) -> Row {
+    Row {
+        unit,
+        before,
+        out,
+        images,
+    }
+}
+
+#[test]
+fn each_pick_at_each_call(rt: HostRuntime) -> Result<(), Fail> {
+    let mut host = prepared(&rt, rt.alloc())?;
+    first_calls(&rt, &mut host);
+    later_calls(&rt, &mut host);
+    assert_eq!(rt; host.calls(), 9);
+    let none = [[7, 7, 7, 7]; 4];
+    let first = [[7, 7, 7, 7], [255, 255, 7, 7], [255, 7, 7, 7], [9, 9, 7, 7]];
+    let both = [[7, 7, 7, 7], [255, 255, 7, 7], [255, 7, 7, 7], [9, 9, 9, 9]];
+    let sure = [[255, 255, 7, 7]; 4];
+    let second = [
+        [255, 255, 7, 7],
+        [255, 255, 255, 255],
+        [255, 255, 255, 7],
+        [255, 255, 9, 9],
+    ];
+    assert_row(&rt, &host, 0, &told(None, 0, 0, none))?;
+    assert_row(&rt, &host, 1, &told(Some(CARD), 0, 0, first))?;
+    assert_row(&rt, &host, 2, &told(None, 0, 1, first))?;
+    assert_row(&rt, &host, 3, &told(Some(CARD), 1, 1, both))?;
+    assert_row(&rt, &host, 4, &told(Some(CARD), 1, 1, both))?;
+    assert_row(&rt, &host, 5, &told(Some(CARD), 1, 1, sure))?;
+    assert_row(&rt, &host, 6, &told(Some(CARD), 1, 1, second))?;
+    assert_row(&rt, &host, 7, &told(Some(CARD), 1, 1, second))?;
+    assert_row(&rt, &host, 8, &told(None, 1, 3, second))
+}
