@@ -1,4 +1,4 @@
-//! The host over real files.
+//! The host over real files, which lie in the folder that the tests run in, and which each test removes.
 ghost use Rattle.std.specs.Prelude.{◌≡◌, ℕ, IsFalse, IsSome, None};
 
 use crate::files::FileHost;
@@ -97,6 +97,7 @@ fn keeps_what_was_written_and_leaves_the_rest(rt: HostRuntime) -> Result<(), Fai
     let mut other = FileHost::new(rt.alloc(), &rt, rt.stdin(), rt.stdout());
     read_again(&rt, &mut other);
     let after = fs::read(&rt, "card")?;
+    fs::remove_file(&rt, "card")?;
     assert_eq!(rt; after.len(), 53_253);
     for (place, byte) in after.iter().enumerate() {
         assert_eq!(rt; *byte, wanted(place), "at {place}");
@@ -124,7 +125,9 @@ fn attached(rt: &HostRuntime, name: &str) -> Option<u32> {
 #[test]
 fn attaches_no_folder_and_no_missing_file(rt: HostRuntime) -> Result<(), Fail> {
     fs::create_dir(&rt, "folder")?;
-    assert_eq!(rt; attached(&rt, "folder"), None);
+    let folder = attached(&rt, "folder");
+    fs::remove_dir(&rt, "folder")?;
+    assert_eq!(rt; folder, None);
     assert_eq!(rt; attached(&rt, "missing"), None);
     Ok(())
 }
@@ -132,7 +135,9 @@ fn attaches_no_folder_and_no_missing_file(rt: HostRuntime) -> Result<(), Fail> {
 #[test]
 fn attaches_a_file_shorter_than_a_block_with_no_blocks(rt: HostRuntime) -> Result<(), Fail> {
     fs::write(&rt, "short", b"less than a block".as_slice())?;
-    assert_eq!(rt; attached(&rt, "short"), Some(0));
+    let short = attached(&rt, "short");
+    fs::remove_file(&rt, "short")?;
+    assert_eq!(rt; short, Some(0));
     Ok(())
 }
 
@@ -145,6 +150,8 @@ fn attaches_only_what_can_be_written(rt: HostRuntime) -> Result<(), Fail> {
         .write(true)
         .open(&rt, "locked")
         .is_err();
-    assert_eq!(rt; attached(&rt, "locked").is_none(), refused);
+    let locked = attached(&rt, "locked");
+    fs::remove_file(&rt, "locked")?;
+    assert_eq!(rt; locked.is_none(), refused);
     Ok(())
 }
