@@ -57,9 +57,13 @@ fn later_calls(rt: &impl Abort, host: &mut MemHost)
     assert_eq!(rt; print(host, b"yz"), Ok(2));
 }
 
-// The bytes at the beginnings of both blocks and in the middle of each.
+// The byte of each half of both blocks, which is the same at both of its ends.
 fn shown(rt: &impl Abort, image: &[u8]) -> [u8; 4] {
     assert!(rt; image.len() == 8192);
+    assert_eq!(rt; image[0], image[2047]);
+    assert_eq!(rt; image[2048], image[4095]);
+    assert_eq!(rt; image[4096], image[6143]);
+    assert_eq!(rt; image[6144], image[8191]);
     [image[0], image[2048], image[4096], image[6144]]
 }
 
