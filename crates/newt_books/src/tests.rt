@@ -61,7 +61,7 @@ fn refuse<P: PageBook>(
     let from = host.calls();
     match book.commit(host, batch) {
         Err(CommitFault::Full) => {}
-        _ => return Err(Fail::from(CommitFault::Device)),
+        _ => panic!(rt; "the batch is not refused"),
     }
     assert_eq!(rt; host.calls(), from);
     assert_eq!(rt; pages_in(alloc, host, book)?, before);

@@ -1,4 +1,4 @@
-use Rattle.std.proofs.Common.{◌≡◌, ℕ, ◌==◌, ◌||◌, Bool, false, ◌∙◌, ap, length, arith}
+use Rattle.std.proofs.Common.{◌==◌, ◌||◌, Bool, ◌∙◌, ap, length, arith}
 use Rattle.newt_image.specs.Pages.{Change}
 use Rattle.newt_pagebook.specs.Batch.{names}
 use Rattle.newt_pagebook.proofs.Changes.{names_delete}

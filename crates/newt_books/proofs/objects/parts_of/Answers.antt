@@ -1,4 +1,4 @@
-use Rattle.std.proofs.Common.{◌≡◌, ℕ, ◌≤◌, length, arith}
+use Rattle.std.proofs.Common.{arith}
 use Rattle.newt_books.proofs.Named.{none-above, one-more}
 use Rattle.newt_books.proofs.objects.parts_of.Goals as goal
 
