@@ -1,0 +1,6 @@
+pub mod Stream
+pub mod Lines
+pub mod Script
+pub mod Causes
+pub mod Run
+pub mod Moments
