@@ -1,16 +1,17 @@
 -- One line of a piece after another.
 use Rattle.std.proofs.Common.{◌≡◌, ℕ, Bool, true, false, List, [], ◌∷◌, ◌++◌, refl, sym, ◌∙◌, ap, subst, append_assoc, append-nil}
+use Rattle.newt_spec_script.specs.Script.{Item}
 use Rattle.newt_spec_world.specs.World.{World}
 use Rattle.newt_session.specs.Stream.{Wrote, WroteSome}
 use Rattle.newt_session.specs.Lines.{BeginsWith, HasNoEnd, ended_lines, unended}
 use Rattle.newt_session.specs.Run.{AnsweredLines, HaltedIn}
-use Rattle.newt_session.specs.Script.{Answers, has_quit, world_after, output_of}
+use Rattle.newt_session.specs.Script.{Answers, has_quit, commands_of, world_after, output_of}
 use Rattle.newt_session.specs.Causes.{flow_of}
 use Rattle.newt_session.specs.declared.halt.Flow.TheVariants.{Go, Quit}
 use Rattle.newt_session.specs.declared.halt.Halt.{Halt}
 use Rattle.newt_session.specs.declared.halt.Halt.TheVariants.{Memory, Device, Source, Sink, TooLong}
 use Rattle.newt_session.proofs.Cutting.{cut_at, left_at, cut_none}
-use Rattle.newt_session.proofs.Replying.{output_none, quit_none, world_none, output_go, output_stop, output_some, quit_go, quit_stop, after_append}
+use Rattle.newt_session.proofs.Replying.{output_none, quit_none, world_none, commands_go, commands_some, output_go, output_stop, output_some, quit_go, quit_stop, after_append}
 use Rattle.newt_session.proofs.Writing.{wrote_part, wrote_some, wrote_all}
 
 pub go_is : (b : Bool) → Go ≡ flow_of b → b ≡ false
@@ -41,6 +42,19 @@ left_line begun rest ended more cleared b clear = ap (λ t. unended t more) clea
 
 pub has_last : (begun rest ended more line : List ℕ) → BeginsWith rest ended more → line ≡ begun ++ ended → has_quit (line ∷ []) ≡ true → has_quit (ended_lines begun rest) ≡ true
 has_last begun rest ended more line b e stop = ap has_quit (first_cut begun rest ended more line b e) ∙ quit_stop (line ∷ []) (ended_lines [] more) stop
+
+-- the commands of what is left, where a line of it comes next
+pub line_then_some : (begun rest ended more line : List ℕ) → BeginsWith rest ended more → line ≡ begun ++ ended
+    → (later : List Item) × (commands_of (ended_lines begun rest) ≡ commands_of (line ∷ []) ++ later)
+line_then_some begun rest ended more line b e =
+    let some = commands_some (line ∷ []) (ended_lines [] more) in
+    (some.0, ap commands_of (first_cut begun rest ended more line b e) ∙ some.1)
+
+pub line_then_more : (begun rest ended more line cleared : List ℕ) → BeginsWith rest ended more → line ≡ begun ++ ended → cleared ≡ [] → has_quit (line ∷ []) ≡ false
+    → commands_of (ended_lines begun rest) ≡ commands_of (line ∷ []) ++ commands_of (ended_lines cleared more)
+line_then_more begun rest ended more line cleared b e clear go =
+    ap commands_of (first_cut begun rest ended more line b e)
+    ∙ (commands_go (line ∷ []) (ended_lines [] more) go ∙ ap (λ t. commands_of (line ∷ []) ++ commands_of (ended_lines t more)) (sym clear))
 
 pub quit_no_more : (begun rest : List ℕ) → HasNoEnd rest → has_quit (ended_lines begun rest) ≡ false
 quit_no_more begun rest none = ap has_quit (cut_none begun rest none) ∙ quit_none

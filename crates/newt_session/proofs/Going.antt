@@ -2,15 +2,16 @@
 use Rattle.std.proofs.Common.{◌≡◌, inl, inr, ℕ, Result, Ok, Err, IfErr, ◌+◌, ◌-◌, ◌<◌, ◌≤◌, true, false, List, [], ◌++◌, length, take, refl, sym, ◌∙◌, ap, subst, append_assoc, arith}
 use Rattle.std.proofs.lemmas.List.{append-nil, take_at, length-append}
 use Rattle.std.proofs.Math.Seq.{take-append-add}
+use Rattle.newt_spec_script.specs.Script.{Item}
 use Rattle.newt_spec_world.specs.World.{World}
 use Rattle.newt_session.specs.Stream.{Wrote, WroteSome}
 use Rattle.newt_session.specs.Lines.{ended_lines, unended, last_line, lines_of}
-use Rattle.newt_session.specs.Script.{Answers, has_quit, world_after, output_of}
+use Rattle.newt_session.specs.Script.{Answers, has_quit, commands_of, world_after, output_of}
 use Rattle.newt_session.specs.Run.{output, output_of_ended, quits, IsTooLong, IsReadThrough, AnsweredTaken, Halted, HaltedIn}
 use Rattle.newt_session.specs.declared.halt.Halt.{Halt}
 use Rattle.newt_session.specs.declared.halt.Halt.TheVariants.{Memory, Device, Source, Sink, TooLong}
 use Rattle.newt_session.proofs.Cutting.{cut_append, left_append}
-use Rattle.newt_session.proofs.Replying.{output_none, quit_none, world_none, output_go, output_stop, quit_go, quit_stop, after_append}
+use Rattle.newt_session.proofs.Replying.{output_none, quit_none, world_none, commands_go, commands_some, output_go, output_stop, quit_go, quit_stop, after_append}
 use Rattle.newt_session.proofs.Writing.{wrote_part, wrote_all}
 use Rattle.newt_session.proofs.Feeding.{Answered, answered_rest, halted_later}
 
@@ -39,6 +40,22 @@ lines_piece line left piece rest e = ap (lines_from line) e ∙ lines_append lin
 pub lines_end : (line left : List ℕ) → left ≡ [] → lines_from line left ≡ last_line line ++ []
 unfolding ended_lines unended
 lines_end line left e = ap (lines_from line) e ∙ sym (append-nil (last_line line))
+
+-- the commands of what is left
+pub piece_then_some : (line left piece rest : List ℕ) → left ≡ piece ++ rest → (later : List Item) × (commands_of (lines_from line left) ≡ commands_of (ended_lines line piece) ++ later)
+piece_then_some line left piece rest e =
+    let some = commands_some (ended_lines line piece) (lines_from (unended line piece) rest) in
+    (some.0, ap commands_of (lines_piece line left piece rest e) ∙ some.1)
+
+pub piece_then_more : (line left piece rest begun : List ℕ) → left ≡ piece ++ rest → begun ≡ unended line piece → has_quit (ended_lines line piece) ≡ false
+    → commands_of (lines_from line left) ≡ commands_of (ended_lines line piece) ++ commands_of (lines_from begun rest)
+piece_then_more line left piece rest begun e is go =
+    ap commands_of (lines_piece line left piece rest e)
+    ∙ (commands_go (ended_lines line piece) (lines_from (unended line piece) rest) go ∙ ap (λ l. commands_of (ended_lines line piece) ++ commands_of (lines_from l rest)) (sym is))
+
+pub last_commands : (line left lent : List ℕ) → left ≡ [] → lent ≡ line → commands_of (lines_from line left) ≡ commands_of (last_line lent) ++ []
+last_commands line left lent e is =
+    ap commands_of (lines_end line left e ∙ append-nil (last_line line)) ∙ (ap (λ l. commands_of (last_line l)) (sym is) ∙ sym (append-nil (commands_of (last_line lent))))
 
 taken_lines : (taken piece line : List ℕ) → line ≡ unended [] taken → ended_lines [] (taken ++ piece) ≡ ended_lines [] taken ++ ended_lines line piece
 taken_lines taken piece line e = cut_append [] taken piece ∙ ap (λ l. ended_lines [] taken ++ ended_lines l piece) (sym e)

@@ -8,3 +8,4 @@ pub mod Feeding
 pub mod Going
 pub mod Ending
 pub mod Halting
+pub mod Crashing

@@ -92,3 +92,8 @@ module _ (answer : Answers) where
           },
         )
       ] refl
+
+  -- the output of lines is that of their commands
+  pub output_commands : (world : World) (lines : List (List ℕ)) → output_of answer world lines ≡ texts answer world (commands_of lines)
+  unfolding output_of
+  output_commands world lines = refl

@@ -30,7 +30,7 @@ module _ (answer : Answers) where
   abbrev pub replies_begun : World → List Item → ℕ → ℕ
   replies_begun world items shown = begun (map reply_text (replies answer world items)) shown
 
-module _ (answer : Answers) (store_of_image : List ℕ → Option Store) (start : Moment) where
+module _ (store_of_image : List ℕ → Option Store) (start : Moment) where
   -- So a crash leaves a unit between two worlds: with a store in the first, it reads as that store or as its store in the second; without one in both,
   -- it is what a crash might have left at the start.
   abbrev pub BeforeOrAfter : World → World → ℕ → List ℕ → Type 0
@@ -38,20 +38,21 @@ module _ (answer : Answers) (store_of_image : List ℕ → Option Store) (start 
       (store_on_unit next unit ≡ None → MayLeave unit start left)
       (λ store. (store_of_image left ≡ Some store) ⊎ (store_of_image left ≡ store_on_unit next unit))
 
-  -- At this moment, while that was the output: of the items a number m has replies that have begun, and a crash leaves each unit between the worlds
-  -- after m items and after one more. Behind the last item both are one.
+module _ (answer : Answers) (store_of_image : List ℕ → Option Store) (start : Moment) where
+  -- A crash at this moment: where the output has grown by so much, of the items a number m has replies that have begun, and the crash leaves each unit
+  -- between the worlds after m items and after one more. Behind the last item both are one.
   abbrev pub CrashAt : World → List Item → List ℕ → Moment → Type 0
   CrashAt world items old now = (shown : List ℕ) (unit : ℕ) (left : List ℕ) → printed now ≡ old ++ shown → MayLeave unit now left
       → let m = replies_begun answer world items (length shown) in
-      BeforeOrAfter (world_at answer world items m) (world_at answer world items (m + 1)) unit left
+      BeforeOrAfter store_of_image start (world_at answer world items m) (world_at answer world items (m + 1)) unit left
 
-  -- The same by recursion on the items.
+  -- the same by recursion on the items, where so many bytes are out
   unfoldable pub Leaves : World → List Item → ℕ → ℕ → List ℕ → Type 0
-  Leaves world [] shown unit left = BeforeOrAfter world world unit left
-  Leaves world (item ∷ items) zero unit left = BeforeOrAfter world (step answer world item).0 unit left
+  Leaves world [] shown unit left = BeforeOrAfter store_of_image start world world unit left
+  Leaves world (item ∷ items) zero unit left = BeforeOrAfter store_of_image start world (step answer world item).0 unit left
   Leaves world (item ∷ items) (suc n) unit left = Leaves (step answer world item).0 items (suc n - length (reply_text (step answer world item).1)) unit left
 
-  -- At this moment a crash leaves what may be left, whatever items follow these.
+  -- A crash at this moment leaves what it may, whatever items follow these.
   pub record SafeAt (world : World) (items : List Item) (old : List ℕ) (now : Moment) : Type 0 where
     pub shown : List ℕ
     pub out : printed now ≡ old ++ shown

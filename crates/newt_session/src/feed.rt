@@ -1,9 +1,11 @@
 //! The lines that end in one piece of a script.
 ghost use Rattle.std.specs.Prelude.{IsTrue, ◌≡◌, ◌≤◌, ◌++◌, IfOk, OnOk, OnErr, IfErr, MatchOption};
+ghost use Rattle.newt_host.specs.Moments.{Always, Moment};
+ghost use Rattle.newt_session.specs.Moments.{SafeAt, Untouched};
 ghost use Rattle.newt_session.specs.Stream.{out_of};
 ghost use Rattle.newt_session.specs.Lines.{BeginsWith, HasNoEnd, ended_lines, unended};
 ghost use Rattle.newt_session.specs.Run.{HaltedIn};
-ghost use Rattle.newt_session.specs.Script.{has_quit, output_of, world_after};
+ghost use Rattle.newt_session.specs.Script.{commands_of, has_quit, output_of, world_after};
 ghost use Rattle.newt_session.specs.Causes.{flow_of, HasWriteCause, NeverLess};
 ghost use Rattle.newt_session.specs.declared.halt.Flow.TheVariants.{Go};
 
@@ -41,6 +43,11 @@ pub fn feed<H: Host, I: Interpreter>(
         IsTrue H.told → OnOk result (out_of (H.outside host.new) ≡ out_of (H.outside host.old) ++ output_of I.answer (I.world interpreter.old (H.outside host.old)) lines) }
     ensures halted { let lines = ended_lines line.old.items piece.now in
         IsTrue H.told → IfErr result (λ halt. HaltedIn I.answer halt (I.world interpreter.old (H.outside host.old)) lines (out_of (H.outside host.old)) (out_of (H.outside host.new))) }
+    ensures untouched { IsTrue H.told → (start : Moment) → Untouched start (I.world interpreter.old (H.outside host.old)) (H.outside host.old).now
+        → IfOk result (λ flow. flow ≡ Go → Untouched start (I.world interpreter.new (H.outside host.new)) (H.outside host.new).now) }
+    ensures moments { let commands = commands_of (ended_lines line.old.items piece.now) in
+        IsTrue H.told → (start : Moment) → Untouched start (I.world interpreter.old (H.outside host.old)) (H.outside host.old).now
+        → Always (SafeAt I.answer I.store_of_image start (I.world interpreter.old (H.outside host.old)) commands (out_of (H.outside host.old))) (H.outside host.old).now (H.outside host.new).now }
     ensures cause { IfErr result (λ halt. HasWriteCause halt (H.outside host.old) (H.outside host.new)) }
     ensures left { (H.outside host.new).input ≡ (H.outside host.old).input }
     ensures counts { NeverLess (H.outside host.old) (H.outside host.new) }

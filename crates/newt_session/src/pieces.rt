@@ -1,10 +1,12 @@
 //! A script from the input to the output.
 ghost use Rattle.std.specs.Prelude.{IsTrue, true, ◌≡◌, ℕ, ◌<◌, ◌≤◌, ◌++◌, [], take, length, IfOk, OnOk, OnErr, IfErr, vec_len};
 ghost use Rattle.newt_host.specs.Outside.{Rose};
+ghost use Rattle.newt_host.specs.Moments.{Always, Moment};
+ghost use Rattle.newt_session.specs.Moments.{CrashAt, SafeAt, Untouched};
 ghost use Rattle.newt_session.specs.Stream.{out_of, WroteSome};
-ghost use Rattle.newt_session.specs.Lines.{last_line};
+ghost use Rattle.newt_session.specs.Lines.{last_line, lines_of};
 ghost use Rattle.newt_session.specs.Run.{output, IsReadThrough, Halted, HaltedIn};
-ghost use Rattle.newt_session.specs.Script.{output_of};
+ghost use Rattle.newt_session.specs.Script.{commands_of, output_of};
 ghost use Rattle.newt_session.specs.Causes.{HasCause, HasWriteCause, NeverLess, SameDevices};
 
 use crate::feed::feed;
@@ -49,6 +51,8 @@ fn finish<H: Host, I: Interpreter>(
     ensures put { IsTrue H.told → OnOk result (out_of (H.outside host.new) ≡ out_of (H.outside host.old) ++ output_of I.answer (I.world interpreter.old (H.outside host.old)) (last_line line.now)) }
     ensures halted { IsTrue H.told → IfErr result (λ halt.
         HaltedIn I.answer halt (I.world interpreter.old (H.outside host.old)) (last_line line.now) (out_of (H.outside host.old)) (out_of (H.outside host.new))) }
+    ensures moments { IsTrue H.told → (start : Moment) → Untouched start (I.world interpreter.old (H.outside host.old)) (H.outside host.old).now
+        → Always (SafeAt I.answer I.store_of_image start (I.world interpreter.old (H.outside host.old)) (commands_of (last_line line.now)) (out_of (H.outside host.old))) (H.outside host.old).now (H.outside host.new).now }
     ensures cause { IfErr result (λ halt. HasWriteCause halt (H.outside host.old) (H.outside host.new)) }
     ensures left { (H.outside host.new).input ≡ (H.outside host.old).input }
     ensures counts { NeverLess (H.outside host.old) (H.outside host.new) }
@@ -76,6 +80,9 @@ fn answer_pieces<H: Host, I: Interpreter>(
     ensures read { IsTrue H.told → OnOk result (IsReadThrough limit (H.outside host.old).input (H.outside host.new).input) }
     ensures halted { IsTrue H.told → IfErr result (λ halt.
         Halted I.answer limit halt (I.world interpreter.old (H.outside host.old)) (H.outside host.old).input (H.outside host.new).input (out_of (H.outside host.old)) (out_of (H.outside host.new))) }
+    // at each moment a crash leaves each unit as it is after some first commands, every command among them whose reply has begun
+    ensures crash { IsTrue H.told → Always (CrashAt I.answer I.store_of_image (H.outside host.old).now (I.world interpreter.old (H.outside host.old)) (commands_of (lines_of (H.outside host.old).input)) (out_of (H.outside host.old)))
+        (H.outside host.old).now (H.outside host.new).now }
     ensures cause { IfErr result (λ halt. HasCause halt (H.outside host.old) (H.outside host.new)) }
     ensures counts { NeverLess (H.outside host.old) (H.outside host.new) }
 {
@@ -117,6 +124,9 @@ pub fn run_script<H: Host, I: Interpreter>(
     ensures read { IsTrue H.told → OnOk result (IsReadThrough limit (H.outside host.old).input (H.outside host.new).input) }
     ensures halted { IsTrue H.told → IfErr result (λ halt.
         Halted I.answer limit halt (I.world interpreter.old (H.outside host.old)) (H.outside host.old).input (H.outside host.new).input (out_of (H.outside host.old)) (out_of (H.outside host.new))) }
+    // at each moment a crash leaves each unit as it is after some first commands, every command among them whose reply has begun
+    ensures crash { IsTrue H.told → Always (CrashAt I.answer I.store_of_image (H.outside host.old).now (I.world interpreter.old (H.outside host.old)) (commands_of (lines_of (H.outside host.old).input)) (out_of (H.outside host.old)))
+        (H.outside host.old).now (H.outside host.new).now }
     ensures cause { IfErr result (λ halt. HasCause halt (H.outside host.old) (H.outside host.new)) }
     ensures counts { NeverLess (H.outside host.old) (H.outside host.new) }
 {

@@ -1,10 +1,11 @@
 //! One line of a script.
 ghost use Rattle.std.specs.Prelude.{IsTrue, ◌≡◌, ◌++◌, [], ◌∷◌, Ok, IfOk, OnOk, OnErr, IfErr};
-ghost use Rattle.newt_host.specs.Moments.{Always};
+ghost use Rattle.newt_host.specs.Moments.{Always, Moment};
 ghost use Rattle.newt_host.specs.Outside.{PrintsSome};
 ghost use Rattle.newt_reply.specs.Said.{said};
 ghost use Rattle.newt_session.specs.Causes.{flow_of, HasSinkCause, HasWriteCause, NeverLess, SameDevices};
-ghost use Rattle.newt_session.specs.Script.{has_quit, output_of, world_after};
+ghost use Rattle.newt_session.specs.Moments.{SafeAt, Untouched};
+ghost use Rattle.newt_session.specs.Script.{commands_of, has_quit, output_of, world_after};
 ghost use Rattle.newt_session.specs.Stream.{out_of, WroteSome};
 ghost use Rattle.newt_session.specs.Run.{HaltedIn, HaltedReply};
 ghost use Rattle.newt_spec_script.specs.Script.{is_quit};
@@ -63,6 +64,10 @@ fn obey<H: Host, I: Interpreter>(
     ensures put { IsTrue H.told → OnOk result (out_of (H.outside host.new) ≡ out_of (H.outside host.old) ++ reply_text (I.answer (I.world interpreter.old (H.outside host.old)) command).1) }
     ensures halted { IsTrue H.told → IfErr result (λ halt.
         HaltedReply halt (reply_text (I.answer (I.world interpreter.old (H.outside host.old)) command).1) (out_of (H.outside host.old)) (out_of (H.outside host.new))) }
+    ensures untouched { IsTrue H.told → (start : Moment) → Untouched start (I.world interpreter.old (H.outside host.old)) (H.outside host.old).now
+        → OnOk result (Untouched start (I.world interpreter.new (H.outside host.new)) (H.outside host.new).now) }
+    ensures moments { IsTrue H.told → (start : Moment) → Untouched start (I.world interpreter.old (H.outside host.old)) (H.outside host.old).now
+        → Always (SafeAt I.answer I.store_of_image start (I.world interpreter.old (H.outside host.old)) (Ok command ∷ []) (out_of (H.outside host.old))) (H.outside host.old).now (H.outside host.new).now }
     ensures cause { IfErr result (λ halt. HasWriteCause halt (H.outside host.old) (H.outside host.new)) }
     ensures left { (H.outside host.new).input ≡ (H.outside host.old).input }
     ensures counts { NeverLess (H.outside host.old) (H.outside host.new) }
@@ -107,6 +112,10 @@ pub fn turn<H: Host, I: Interpreter>(
     ensures put { IsTrue H.told → OnOk result (out_of (H.outside host.new) ≡ out_of (H.outside host.old) ++ output_of I.answer (I.world interpreter.old (H.outside host.old)) (bytes.now ∷ [])) }
     ensures halted { IsTrue H.told → IfErr result (λ halt.
         HaltedIn I.answer halt (I.world interpreter.old (H.outside host.old)) (bytes.now ∷ []) (out_of (H.outside host.old)) (out_of (H.outside host.new))) }
+    ensures untouched { IsTrue H.told → (start : Moment) → Untouched start (I.world interpreter.old (H.outside host.old)) (H.outside host.old).now
+        → OnOk result (Untouched start (I.world interpreter.new (H.outside host.new)) (H.outside host.new).now) }
+    ensures moments { IsTrue H.told → (start : Moment) → Untouched start (I.world interpreter.old (H.outside host.old)) (H.outside host.old).now
+        → Always (SafeAt I.answer I.store_of_image start (I.world interpreter.old (H.outside host.old)) (commands_of (bytes.now ∷ [])) (out_of (H.outside host.old))) (H.outside host.old).now (H.outside host.new).now }
     ensures cause { IfErr result (λ halt. HasWriteCause halt (H.outside host.old) (H.outside host.new)) }
     ensures left { (H.outside host.new).input ≡ (H.outside host.old).input }
     ensures counts { NeverLess (H.outside host.old) (H.outside host.new) }

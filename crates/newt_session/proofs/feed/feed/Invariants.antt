@@ -1,8 +1,11 @@
 use Rattle.std.proofs.Common.{IsTrue, ◌≡◌, length}
+use Rattle.newt_host.specs.Moments.{Moment}
 use Rattle.newt_session.specs.Stream.{out_of}
 use Rattle.newt_session.specs.Lines.{ended_lines, unended}
-use Rattle.newt_session.specs.Script.{has_quit}
+use Rattle.newt_session.specs.Script.{commands_of, has_quit}
+use Rattle.newt_session.specs.Moments.{Untouched}
 use Rattle.newt_session.specs.Causes.{NeverLess}
+use Rattle.newt_session.proofs.Crashing.{Kept}
 use Rattle.newt_session.proofs.Feeding.{Answered}
 use Rattle.newt_session.proofs.feed.feed.Given as goal
 
@@ -16,6 +19,9 @@ invariant-loop-ended g l =
     record {
       stands : it.stands host.told l.interpreter (host.outside l.host);
       answered : IsTrue host.told → Answered it.answer (it.world l.fn.interpreter (host.outside l.fn.host)) all rest (out_of (host.outside l.fn.host)) (out_of (host.outside l.host)) (it.world l.interpreter (host.outside l.host));
+      kept : IsTrue host.told → (start : Moment) → Untouched start (it.world l.fn.interpreter (host.outside l.fn.host)) (host.outside l.fn.host).now
+          → Kept it.answer it.store_of_image start (it.world l.fn.interpreter (host.outside l.fn.host)) (commands_of all) (host.outside l.fn.host).now
+              (it.world l.interpreter (host.outside l.host)) (commands_of rest) (host.outside l.host).now;
       flow : has_quit rest ≡ has_quit all;
       line : unended l.line.items l.rest ≡ unended l.fn.line.items l.fn.piece;
       left : (host.outside l.host).input ≡ (host.outside l.fn.host).input;

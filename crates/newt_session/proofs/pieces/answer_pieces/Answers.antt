@@ -5,13 +5,16 @@ use Rattle.newt_spec_world.specs.World.{World}
 use Rattle.newt_session.specs.Causes.{SameDevices}
 use Rattle.newt_session.specs.Stream.{out_of}
 use Rattle.newt_session.specs.Run.{IsReadThrough}
-use Rattle.newt_session.specs.Script.{has_quit, output_of}
-use Rattle.newt_session.specs.Lines.{ended_lines, last_line}
+use Rattle.newt_session.specs.Script.{commands_of, has_quit, output_of}
+use Rattle.newt_session.specs.Lines.{ended_lines, last_line, lines_of}
+use Rattle.newt_session.specs.Moments.{Untouched}
 use Rattle.newt_host.specs.Moments.{output as output_at}
 use Rattle.newt_session.proofs.Counting.{never-refl, never-trans}
+use Rattle.newt_session.proofs.Crashing.{Kept, its_now, kept_start, kept_part, kept_after, kept_moved, crash_always}
 use Rattle.newt_session.proofs.Feeding.{go_is, quit_is}
-use Rattle.newt_session.proofs.Going.{Going, going_start, going_same, going_more, going_quit, going_halted, going_end, ends_halted, going_too_long, through_end, through_quit, answered_taken}
+use Rattle.newt_session.proofs.Going.{Going, lines_from, piece_then_some, piece_then_more, last_commands, going_start, going_same, going_more, going_quit, going_halted, going_end, ends_halted, going_too_long, through_end, through_quit, answered_taken}
 use Rattle.newt_session.proofs.Halting.{cause_of_write, cause_of_writes, none_left}
+use Rattle.newt_session.proofs.Replying.{output_commands, world_commands}
 use Rattle.newt_session.proofs.pieces.answer_pieces.Goals as goal
 
 pub pieces-init : goal.pieces-init
@@ -22,6 +25,16 @@ pieces-init g c =
     record {
       stands = c.requires.stands;
       going = λ told. ([], refl, subst P (sym c.requires.empty) (going_start g.I.Interpreter.answer w (g.H.Host.outside c.args.host.now).input (out_of (g.H.Host.outside c.args.host.now))));
+      kept = λ told.
+          let it = g.I.Interpreter in
+          let before = g.H.Host.outside c.args.host.now in
+          let w = it.world c.args.interpreter.now before in
+          let untouched : Untouched before.now w before.now = λ unit none. refl in
+          let start = before.now in
+          let stands = subst (λ (t : Bool). it.stands t c.args.interpreter.now before) told c.requires.stands in
+          let its = its_now it.store_of_image start w before.now untouched (λ unit store left e may. g.met.I.Interpreter.leaves c.args.interpreter.now before stands unit store left e may) in
+          let K : List ℕ → Type 0 = λ line. Kept it.answer it.store_of_image start w (commands_of (lines_of before.input)) before.now w (commands_of (lines_from line before.input)) before.now in
+          subst K (sym c.requires.empty) (kept_start it.answer it.store_of_image start w (commands_of (lines_of before.input)) before.now untouched its);
       within = omega arith;
       counts = never-refl _;
     }
@@ -122,6 +135,24 @@ pieces-preserved g c =
                 (c.in_ok-feed.ensures.put told)
                 (c.in_ok-feed.ensures.world told c.in-Go.is) (c.in_ok-feed.ensures.line c.in-Go.is)),
           );
+      kept = λ told.
+          let it = g.I.Interpreter in
+          let before = g.H.Host.outside c.args.host.now in
+          let w = it.world c.args.interpreter.now before in
+          let mid = g.H.Host.outside c.read_piece.new.host in
+          let later = it.world c.pieces.interpreter mid in
+          let items = commands_of (lines_of before.input) in
+          let same_is = g.met.I.Interpreter.same_world c.pieces.interpreter (g.H.Host.outside c.pieces.host) mid (subst (λ (t : Bool). SameDevices t (g.H.Host.outside c.pieces.host) mid) told c.read_piece.ensures.devices) in
+          let k = kept_moved it.answer it.store_of_image before.now w items before.now _ later _ _ mid.now c.read_piece.ensures.moment same_is (c.pieces.invariant.kept told) in
+          let last = it.world c.feed.new.interpreter (g.H.Host.outside c.feed.new.host) in
+          let K : List ℕ → Type 0 = λ left. Kept it.answer it.store_of_image before.now w items before.now last (commands_of (lines_from c.feed.new.line.items left)) (g.H.Host.outside c.feed.new.host).now in
+          subst K (sym c.feed.ensures.left)
+          (kept_after it.answer it.store_of_image before.now w items before.now later _ mid.now (commands_of lines) _ _ last k
+          (piece_then_more c.pieces.line.items (g.H.Host.outside c.pieces.host).input piece mid.input c.feed.new.line.items (c.in_ok-moved.ensures.took told) (c.in_ok-feed.ensures.line c.in-Go.is) go)
+          (c.feed.ensures.moments told before.now k.untouched)
+          (c.in_ok-feed.ensures.put told ∙ ap (λ text. out_of mid ++ text) (output_commands it.answer later lines))
+          (c.in_ok-feed.ensures.world told c.in-Go.is ∙ world_commands it.answer later lines go)
+          (c.in_ok-feed.ensures.untouched told before.now k.untouched c.in-Go.is));
       within = omega arith;
       counts = never-trans (never-trans c.pieces.invariant.counts c.read_piece.ensures.counts) c.feed.ensures.counts;
     }
@@ -157,3 +188,74 @@ returns-clause-halted g c = λ told.
 
 pub returns-clause-cause : goal.returns-clause-cause
 returns-clause-cause g c = cause_of_writes c.finish.result _ _ _ c.finish.ensures.cause (never-trans c.pieces.invariant.counts c.read_piece.ensures.counts)
+
+-- ---- moments
+
+pub returns-in_err-moved-clause-crash : goal.returns-in_err-moved-clause-crash
+returns-in_err-moved-clause-crash g c = λ told.
+    let it = g.I.Interpreter in
+    let before = g.H.Host.outside c.args.host.now in
+    let w = it.world c.args.interpreter.now before in
+    let mid = g.H.Host.outside c.read_piece.new.host in
+    let later = it.world c.pieces.interpreter mid in
+    let items = commands_of (lines_of before.input) in
+    let same_is = g.met.I.Interpreter.same_world c.pieces.interpreter (g.H.Host.outside c.pieces.host) mid (subst (λ (t : Bool). SameDevices t (g.H.Host.outside c.pieces.host) mid) told c.read_piece.ensures.devices) in
+    let k = kept_moved it.answer it.store_of_image before.now w items before.now _ later _ _ mid.now c.read_piece.ensures.moment same_is (c.pieces.invariant.kept told) in
+    crash_always it.answer it.store_of_image before.now w items before.now mid.now k.always
+
+pub returns-then-taken-limit-clause-crash : goal.returns-then-taken-limit-clause-crash
+returns-then-taken-limit-clause-crash g c = λ told.
+    let it = g.I.Interpreter in
+    let before = g.H.Host.outside c.args.host.now in
+    let w = it.world c.args.interpreter.now before in
+    let mid = g.H.Host.outside c.read_piece.new.host in
+    let later = it.world c.pieces.interpreter mid in
+    let items = commands_of (lines_of before.input) in
+    let same_is = g.met.I.Interpreter.same_world c.pieces.interpreter (g.H.Host.outside c.pieces.host) mid (subst (λ (t : Bool). SameDevices t (g.H.Host.outside c.pieces.host) mid) told c.read_piece.ensures.devices) in
+    let k = kept_moved it.answer it.store_of_image before.now w items before.now _ later _ _ mid.now c.read_piece.ensures.moment same_is (c.pieces.invariant.kept told) in
+    crash_always it.answer it.store_of_image before.now w items before.now mid.now k.always
+
+pub returns-in_err-feed-clause-crash : goal.returns-in_err-feed-clause-crash
+returns-in_err-feed-clause-crash g c = λ told.
+    let it = g.I.Interpreter in
+    let before = g.H.Host.outside c.args.host.now in
+    let w = it.world c.args.interpreter.now before in
+    let mid = g.H.Host.outside c.read_piece.new.host in
+    let later = it.world c.pieces.interpreter mid in
+    let items = commands_of (lines_of before.input) in
+    let same_is = g.met.I.Interpreter.same_world c.pieces.interpreter (g.H.Host.outside c.pieces.host) mid (subst (λ (t : Bool). SameDevices t (g.H.Host.outside c.pieces.host) mid) told c.read_piece.ensures.devices) in
+    let k = kept_moved it.answer it.store_of_image before.now w items before.now _ later _ _ mid.now c.read_piece.ensures.moment same_is (c.pieces.invariant.kept told) in
+    let piece = take c.in_ok-moved.moved c.read_piece.new.buffer in
+    let some = piece_then_some c.pieces.line.items (g.H.Host.outside c.pieces.host).input piece mid.input (c.in_ok-moved.ensures.took told) in
+    crash_always it.answer it.store_of_image before.now w items before.now (g.H.Host.outside c.feed.new.host).now
+    (kept_part it.answer it.store_of_image before.now w items before.now later _ mid.now (commands_of (ended_lines c.pieces.line.items piece)) some.0 _ k some.1 (c.feed.ensures.moments told before.now k.untouched))
+
+pub returns-in-Quit-clause-crash : goal.returns-in-Quit-clause-crash
+returns-in-Quit-clause-crash g c = λ told.
+    let it = g.I.Interpreter in
+    let before = g.H.Host.outside c.args.host.now in
+    let w = it.world c.args.interpreter.now before in
+    let mid = g.H.Host.outside c.read_piece.new.host in
+    let later = it.world c.pieces.interpreter mid in
+    let items = commands_of (lines_of before.input) in
+    let same_is = g.met.I.Interpreter.same_world c.pieces.interpreter (g.H.Host.outside c.pieces.host) mid (subst (λ (t : Bool). SameDevices t (g.H.Host.outside c.pieces.host) mid) told c.read_piece.ensures.devices) in
+    let k = kept_moved it.answer it.store_of_image before.now w items before.now _ later _ _ mid.now c.read_piece.ensures.moment same_is (c.pieces.invariant.kept told) in
+    let piece = take c.in_ok-moved.moved c.read_piece.new.buffer in
+    let some = piece_then_some c.pieces.line.items (g.H.Host.outside c.pieces.host).input piece mid.input (c.in_ok-moved.ensures.took told) in
+    crash_always it.answer it.store_of_image before.now w items before.now (g.H.Host.outside c.feed.new.host).now
+    (kept_part it.answer it.store_of_image before.now w items before.now later _ mid.now (commands_of (ended_lines c.pieces.line.items piece)) some.0 _ k some.1 (c.feed.ensures.moments told before.now k.untouched))
+
+pub returns-clause-crash : goal.returns-clause-crash
+returns-clause-crash g c = λ told.
+    let it = g.I.Interpreter in
+    let before = g.H.Host.outside c.args.host.now in
+    let w = it.world c.args.interpreter.now before in
+    let mid = g.H.Host.outside c.read_piece.new.host in
+    let later = it.world c.pieces.interpreter mid in
+    let items = commands_of (lines_of before.input) in
+    let same_is = g.met.I.Interpreter.same_world c.pieces.interpreter (g.H.Host.outside c.pieces.host) mid (subst (λ (t : Bool). SameDevices t (g.H.Host.outside c.pieces.host) mid) told c.read_piece.ensures.devices) in
+    let k = kept_moved it.answer it.store_of_image before.now w items before.now _ later _ _ mid.now c.read_piece.ensures.moment same_is (c.pieces.invariant.kept told) in
+    let end : (g.H.Host.outside c.pieces.host).input ≡ [] = c.in_ok-moved.ensures.end told (omega arith) (omega arith) in
+    crash_always it.answer it.store_of_image before.now w items before.now (g.H.Host.outside c.finish.new.host).now
+    (kept_part it.answer it.store_of_image before.now w items before.now later _ mid.now (commands_of (last_line c.deref.result.now)) [] _ k
+    (last_commands c.pieces.line.items (g.H.Host.outside c.pieces.host).input c.deref.result.now end c.deref.ensures.value) (c.finish.ensures.moments told before.now k.untouched))
