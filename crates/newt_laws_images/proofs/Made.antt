@@ -29,7 +29,7 @@ use Rattle.newt_laws_images.specs.Found.{HasGiven, IsRecord, IsFound}
 use Rattle.newt_laws_images.proofs.Assembled.{among-map, map-among, one-sig, chosen, chosen-apart, uid_cmp_of, uid_total, tied-same, less-rise}
 use Rattle.newt_laws_images.proofs.Finite.{entries-rising, entry-get, get-entry}
 use Rattle.newt_laws_images.proofs.Placed.{soups-rise}
-use Rattle.newt_laws_images.proofs.Plain.{ReadAs, read-as, read-same, bytes-are, only-parts}
+use Rattle.newt_laws_images.proofs.Plain.{ReadAs, read-as, read-plain, read-same, bytes-are, only-parts}
 use Rattle.newt_laws_images.proofs.Read.{bare_soup, directory-back}
 use Rattle.newt_laws_images.proofs.Spelt.{Small, directory-spelt}
 use Rattle.newt_laws_images.proofs.Stores.{IsStore, is-store, store-is, IsSoup, is-soup, soup-is}
@@ -119,6 +119,23 @@ pub record Gathered (graph_of : List ℕ → Option RawGraph) (objects : Texts) 
   pub both : Both (IsEntryOf graph_of place d) (odds objects) es
   pub places : (sig uid id : ℕ) → place sig uid ≡ Some id → (e : Entry) × Among es (sig, e) × (e.uid ≡ uid)
 
+-- ---- the entries of one soup
+
+pub sorted-in : (es : List (ℕ × Entry)) (sig : ℕ) (e : Entry) → Among (sorted_by uid_cmp_of (chosen sig es)) e → Among es (sig, e)
+sorted-in es sig e m = go (among-fold uid_cmp_of [] (chosen sig es) e m)
+  where
+    go : Among [] e ⊎ Among (chosen sig es) e → Among es (sig, e)
+    go (inl n) = absurd n
+    go (inr n) =
+        let x = among-map (λ (y : ℕ × Entry). y.1) (filter (λ (y : ℕ × Entry). y.0 == sig) es) e n in
+        let f = among-filter (λ (y : ℕ × Entry). y.0 == sig) es x.0 x.1 in
+        let same : x.0.0 ≡ sig = eqb-true x.0.0 sig f.1 in
+        subst (Among es) (λ i. (same i, x.2 i)) f.0
+
+pub in-sorted : (es : List (ℕ × Entry)) (sig : ℕ) (e : Entry) → Among es (sig, e) → Among (sorted_by uid_cmp_of (chosen sig es)) e
+in-sorted es sig e m = fold-among uid_cmp_of [] (chosen sig es) e (inr (map-among (λ (y : ℕ × Entry). y.1) (filter (λ (y : ℕ × Entry). y.0 == sig) es) (sig, e)
+    (filter-among (λ (y : ℕ × Entry). y.0 == sig) es (sig, e) m (eq-eqb sig sig refl))))
+
 -- the directory with the entries
 abbrev pub built : (List ℕ → Option RawGraph) → Store → List (ℕ × Entry) → Store
 built graph_of d es = record d { soups = map (with_entries graph_of es) d.soups }
@@ -127,26 +144,11 @@ module _ (graph_of : List ℕ → Option RawGraph) (reads : ReadsGraphs graph_of
   of-entry : (x : ℕ × Entry) → Among es x → (o : ℕ × List ℕ) × Among (odds objects) o × IsEntryOf graph_of place d o x
   of-entry x m = both-right (IsEntryOf graph_of place d) (odds objects) es x g.both m
 
-  sorted-in : (sig : ℕ) (e : Entry) → Among (sorted_by uid_cmp_of (chosen sig es)) e → Among es (sig, e)
-  sorted-in sig e m = go (among-fold uid_cmp_of [] (chosen sig es) e m)
-    where
-      go : Among [] e ⊎ Among (chosen sig es) e → Among es (sig, e)
-      go (inl n) = absurd n
-      go (inr n) =
-          let x = among-map (λ (y : ℕ × Entry). y.1) (filter (λ (y : ℕ × Entry). y.0 == sig) es) e n in
-          let f = among-filter (λ (y : ℕ × Entry). y.0 == sig) es x.0 x.1 in
-          let same : x.0.0 ≡ sig = eqb-true x.0.0 sig f.1 in
-          subst (Among es) (λ i. (same i, x.2 i)) f.0
-
-  in-sorted : (sig : ℕ) (e : Entry) → Among es (sig, e) → Among (sorted_by uid_cmp_of (chosen sig es)) e
-  in-sorted sig e m = fold-among uid_cmp_of [] (chosen sig es) e (inr (map-among (λ (y : ℕ × Entry). y.1) (filter (λ (y : ℕ × Entry). y.0 == sig) es) (sig, e)
-      (filter-among (λ (y : ℕ × Entry). y.0 == sig) es (sig, e) m (eq-eqb sig sig refl))))
-
   in-es : (sig : ℕ) (e : Entry) → IsIn (built graph_of d es) sig e → Among es (sig, e)
   in-es sig e is =
       let v = among-map (with_entries graph_of es) d.soups is.soup is.is_soup in
       let same : v.0.sig ≡ sig = ap (λ (p : Soup). p.sig) v.2 ∙ is.of_sig in
-      subst (λ n. Among es (n, e)) same (sorted-in v.0.sig e (subst (λ (p : Soup). Among p.entries e) (sym v.2) is.is_entry))
+      subst (λ n. Among es (n, e)) same (sorted-in es v.0.sig e (subst (λ (p : Soup). Among p.entries e) (sym v.2) is.is_entry))
 
   is-in : (x : ℕ × Entry) → Among es x → IsIn (built graph_of d es) x.0 x.1
   is-in x m =
@@ -156,7 +158,7 @@ module _ (graph_of : List ℕ → Option RawGraph) (reads : ReadsGraphs graph_of
         soup = with_entries graph_of es h.soup;
         is_soup = map-among (with_entries graph_of es) d.soups h.soup h.is_soup;
         of_sig = h.of_sig;
-        is_entry = in-sorted h.soup.sig x.1 (subst (λ n. Among es (n, x.1)) (sym h.of_sig) m);
+        is_entry = in-sorted es h.soup.sig x.1 (subst (λ n. Among es (n, x.1)) (sym h.of_sig) m);
       }
 
   once : Pairs ApartIds es
@@ -166,7 +168,7 @@ module _ (graph_of : List ℕ → Option RawGraph) (reads : ReadsGraphs graph_of
 
   below : (p : Soup) → Among d.soups p → (e : Entry) → Among (sorted_by uid_cmp_of (chosen p.sig es)) e → e.uid < p.next_uid
   below p m e n =
-      let h = (of-entry (p.sig, e) (sorted-in p.sig e n)).2.given in
+      let h = (of-entry (p.sig, e) (sorted-in es p.sig e n)).2.given in
       let same : h.soup ≡ p = one-sig d.soups h.soup p (soups-rise d g.good) h.is_soup m h.of_sig in
       subst (λ (q : Soup). e.uid < q.next_uid) same h.below
 
@@ -187,7 +189,7 @@ module _ (graph_of : List ℕ → Option RawGraph) (reads : ReadsGraphs graph_of
     specs_fit = r.specs_fit;
     specs_apart = r.specs_apart;
     tags_fit = r.tags_fit;
-    entries_fit = list_all-each valid_entry (sorted_by uid_cmp_of (chosen p.sig es)) (each-from _ (sorted_by uid_cmp_of (chosen p.sig es)) (λ e n. (of-entry (p.sig, e) (sorted-in p.sig e n)).2.read.is_valid));
+    entries_fit = list_all-each valid_entry (sorted_by uid_cmp_of (chosen p.sig es)) (each-from _ (sorted_by uid_cmp_of (chosen p.sig es)) (λ e n. (of-entry (p.sig, e) (sorted-in es p.sig e n)).2.read.is_valid));
   })
 
   pub made-good : well_formed (built graph_of d es) ≡ true
@@ -203,7 +205,7 @@ module _ (graph_of : List ℕ → Option RawGraph) (reads : ReadsGraphs graph_of
 
   pub made-plain : has_no_large (built graph_of d es) ≡ true
   made-plain = all-map (λ (p : Soup). list_all (λ (e : Entry). graph_has_no_large e.graph) p.entries) (with_entries graph_of es) d.soups (λ p m.
-      list_all-each (λ (e : Entry). graph_has_no_large e.graph) (sorted_by uid_cmp_of (chosen p.sig es)) (each-from _ (sorted_by uid_cmp_of (chosen p.sig es)) (λ e n. (of-entry (p.sig, e) (sorted-in p.sig e n)).2.no_large)))
+      list_all-each (λ (e : Entry). graph_has_no_large e.graph) (sorted_by uid_cmp_of (chosen p.sig es)) (each-from _ (sorted_by uid_cmp_of (chosen p.sig es)) (λ e n. (of-entry (p.sig, e) (sorted-in es p.sig e n)).2.no_large)))
 
   pub made-bare : bare (built graph_of d es) ≡ bare d
   made-bare = ap {A = List Soup} {B = Store} (λ ps. record d { soups = ps }) (map-kept bare_soup (with_entries graph_of es) (λ p. refl) d.soups)
@@ -240,7 +242,7 @@ module _ (graph_of : List ℕ → Option RawGraph) (objects : Texts) (place : Pl
       let k = among-filter (λ (o : ℕ × List ℕ). o.0 % 2 == 1) (map.entries objects) o m in
       let odd : o.0 % 2 ≡ 1 = eqb-true (o.0 % 2) 1 k.1 in
       let r = f.records o.0 o.1 (entry-get objects o.0 o.1 k.0) (λ (z : o.0 ≡ 0). absurd (omega (arith, odd, z))) in
-      ((r.0, r.1), record { odd = odd; small = small-of o.1 r.3.are_bytes; read = read-as graph_of o.1 r.0 r.1 r.3.read r.3.no_large; no_large = r.3.no_large; given = r.3.given; at = r.4 })
+      ((r.0, r.1), record { odd = odd; small = small-of o.1 r.3.are_bytes; read = read-as graph_of o.1 r.0 r.1 r.3.read; no_large = read-plain graph_of o.1 r.0 r.1 r.3.read; given = r.3.given; at = r.4 })
 
   gathered : (es : List (ℕ × Entry)) × Gathered graph_of objects place d es
   gathered =
@@ -257,7 +259,7 @@ module _ (graph_of : List ℕ → Option RawGraph) (objects : Texts) (place : Pl
               let odd : id % 2 ≡ 1 = (f.records id p.0 p.2 p.3).2 in
               let m = filter-among (λ (o : ℕ × List ℕ). o.0 % 2 == 1) (map.entries objects) (id, p.0) (get-entry objects id p.0 p.2) (eq-eqb (id % 2) 1 odd) in
               let r = both-left (IsEntryOf graph_of place d) (odds objects) b.0 (id, p.0) b.1 m in
-              (p.1, subst (Among b.0) (read-same graph_of p.0 r.0.0 sig r.0.1 p.1 r.2.read (read-as graph_of p.0 sig p.1 p.4.read p.4.no_large)) r.1, p.5);
+              (p.1, subst (Among b.0) (read-same graph_of p.0 r.0.0 sig r.0.1 p.1 r.2.read (read-as graph_of p.0 sig p.1 p.4.read)) r.1, p.5);
         },
       )
 

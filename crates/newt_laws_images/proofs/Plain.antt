@@ -209,12 +209,70 @@ only-parts {X} test (Some y) x h = go (test y) refl h
     go true e k = (k, ap test (sym (some-same y x k)) ∙ e)
     go false e k = absurd (none-some x k)
 
-pub read-as : (graph_of : List ℕ → Option RawGraph) (bytes : List ℕ) (sig : ℕ) (e : Entry) → entry_read graph_of bytes ≡ Some (sig, e) → graph_has_no_large e.graph ≡ true → ReadAs graph_of bytes sig e
-read-as graph_of bytes sig e h plain = go (entry_row bytes) refl (only-parts {X = ℕ × Entry} (λ x. valid_entry x.1) _ (sig, e) h)
+count-larges : (k : ℕ) (nodes : List Node) → length (flat_map large_in (enumerate_from k nodes)) ≡ length (flat_map large_length nodes)
+count-larges k [] = refl
+count-larges k (Large c bytes ∷ nodes) = ap suc (count-larges (k + 1) nodes)
+count-larges k (Symbol _ ∷ nodes) = count-larges (k + 1) nodes
+count-larges k (Str _ ∷ nodes) = count-larges (k + 1) nodes
+count-larges k (Binary _ _ ∷ nodes) = count-larges (k + 1) nodes
+count-larges k (Array _ _ ∷ nodes) = count-larges (k + 1) nodes
+count-larges k (Frame _ _ ∷ nodes) = count-larges (k + 1) nodes
+
+no-larges-back : (g : RawGraph) → [] ≡ map (λ (l : ℕ × List ℕ). l.0) (larges g) → graph_has_no_large g ≡ true
+no-larges-back g h = eq-eqb (length (large_lengths g)) 0 (sym (count-larges 0 g.nodes) ∙ none (larges g) h)
+  where
+    none : (ls : List (ℕ × List ℕ)) → [] ≡ map (λ (l : ℕ × List ℕ). l.0) ls → length ls ≡ 0
+    none [] e = refl
+    none (l ∷ ls) e = cc
+
+-- without other objects no large binary is read
+alone-plain : (graph_of : List ℕ → Option RawGraph) (row : EntryRow) (g k : RawGraph) → with_larges graph_of [] row g ≡ Some k → graph_has_no_large k ≡ true
+alone-plain graph_of row g k h = test row.larges (bytes_eq (map (λ (l : ℕ × List ℕ). l.0) (larges g)) (map (λ (l : LargeRow). l.0) row.larges) && list_all (λ (l : ℕ × List ℕ). length l.1 == 0) (larges g)) refl h
+  where
+    same : (ls : List LargeRow) → bytes_eq (map (λ (l : ℕ × List ℕ). l.0) (larges g)) (map (λ (l : LargeRow). l.0) ls) ≡ true
+        → option_map (λ bs. fold fill g (zip (map (λ (l : LargeRow). l.0) ls) bs)) (every (map (large_object []) ls)) ≡ Some k → graph_has_no_large k ≡ true
+    same [] t e = ap graph_has_no_large (sym (some-same g k e)) ∙ no-larges-back g (sym (text-same (map (λ (l : ℕ × List ℕ). l.0) (larges g)) [] t))
+    same (l ∷ ls) t e = absurd (none-some k e)
+
+    test : (ls : List LargeRow) (b : Bool) → (bytes_eq (map (λ (l : ℕ × List ℕ). l.0) (larges g)) (map (λ (l : LargeRow). l.0) ls) && list_all (λ (l : ℕ × List ℕ). length l.1 == 0) (larges g)) ≡ b
+        → cond b (option_map (λ bs. fold fill g (zip (map (λ (l : LargeRow). l.0) ls) bs)) (every (map (large_object []) ls))) None ≡ Some k → graph_has_no_large k ≡ true
+    test ls true t e = same ls (and_parts _ _ t).0 e
+    test ls false t e = absurd (none-some k e)
+
+row-alone : (graph_of : List ℕ → Option RawGraph) (row : EntryRow) (sig : ℕ) (e : Entry) → entry_of_row graph_of [] row ≡ Some (sig, e) → graph_has_no_large e.graph ≡ true
+row-alone graph_of row sig e h = text (written graph_of row.text) h
+  where
+    filled : (g : RawGraph) (o : Option RawGraph) → with_larges graph_of [] row g ≡ o
+        → ◌≡◌ {A = Option (ℕ × Entry)} (option_map (λ k. (row.soup, record { uid = row.uid; time = row.time; graph = k })) o) (Some (sig, e)) → graph_has_no_large e.graph ≡ true
+    filled g None w s = absurd (none-some {X = ℕ × Entry} (sig, e) s)
+    filled g (Some k) w s = ap (λ (v : Entry). graph_has_no_large v.graph) (sym (pair-parts row.soup sig (record { uid = row.uid; time = row.time; graph = k }) e s).1) ∙ alone-plain graph_of row g k w
+
+    text : (o : Option RawGraph) → ◌≡◌ {A = Option (ℕ × Entry)} (option_map (λ k. (row.soup, record { uid = row.uid; time = row.time; graph = k })) (option_and_then (with_larges graph_of [] row) o)) (Some (sig, e))
+        → graph_has_no_large e.graph ≡ true
+    text None s = absurd (none-some {X = ℕ × Entry} (sig, e) s)
+    text (Some g) s = filled g (with_larges graph_of [] row g) refl s
+
+pub read-as : (graph_of : List ℕ → Option RawGraph) (bytes : List ℕ) (sig : ℕ) (e : Entry) → entry_read graph_of bytes ≡ Some (sig, e) → ReadAs graph_of bytes sig e
+read-as graph_of bytes sig e h = go (entry_row bytes) refl (only-parts {X = ℕ × Entry} (λ x. valid_entry x.1) _ (sig, e) h)
   where
     go : (o : Option EntryRow) → entry_row bytes ≡ o → (option_and_then (entry_of_row graph_of []) o ≡ Some (sig, e)) × (valid_entry e ≡ true) → ReadAs graph_of bytes sig e
     go None is k = absurd (none-some {X = ℕ × Entry} (sig, e) k.0)
-    go (Some row) is k = record { row = row; is_row = is; plain = plain-row graph_of [] row sig e k.0 plain; is_valid = k.1 }
+    go (Some row) is k = record { row = row; is_row = is; plain = plain-row graph_of [] row sig e k.0 (row-alone graph_of row sig e k.0); is_valid = k.1 }
+
+-- an entry that is read alone has no large binaries
+pub read-plain : (graph_of : List ℕ → Option RawGraph) (bytes : List ℕ) (sig : ℕ) (e : Entry) → entry_read graph_of bytes ≡ Some (sig, e) → graph_has_no_large e.graph ≡ true
+read-plain graph_of bytes sig e h = go (entry_row bytes) (only-parts {X = ℕ × Entry} (λ x. valid_entry x.1) _ (sig, e) h).0
+  where
+    go : (o : Option EntryRow) → option_and_then (entry_of_row graph_of []) o ≡ Some (sig, e) → graph_has_no_large e.graph ≡ true
+    go None k = absurd (none-some {X = ℕ × Entry} (sig, e) k)
+    go (Some row) k = row-alone graph_of row sig e k
+
+-- a record that is read so, by the reader of one record
+pub as-read : (graph_of : List ℕ → Option RawGraph) (bytes : List ℕ) (sig : ℕ) (e : Entry) → ReadAs graph_of bytes sig e → graph_has_no_large e.graph ≡ true → entry_read graph_of bytes ≡ Some (sig, e)
+as-read graph_of bytes sig e r plain =
+    ap (λ o. only (λ (x : ℕ × Entry). valid_entry x.1) (option_and_then (entry_of_row graph_of []) o)) r.is_row
+    ∙ ap (only (λ (x : ℕ × Entry). valid_entry x.1)) (row-plain graph_of [] r.row sig e r.plain plain)
+    ∙ ap {A = Bool} {B = Option (ℕ × Entry)} (λ b. cond b (Some (sig, e)) None) r.is_valid
 
 -- the bytes of a row that names large binaries, and of the record that does
 abbrev named : ℕ → Entry → List (ℕ × List ℕ) → List ℕ
