@@ -1,23 +1,22 @@
 -- A store without large binaries that is read lies in the objects, each in its place.
-use Rattle.std.proofs.Common.{arith, ◌≡◌, refl, ap, sym, ◌∙◌, subst, ℕ, ◌%◌, ◌<◌, List, [], ◌∷◌, true, false, Bool, ◌&&◌, cond, inl, inr, ◌⊎◌, Option, Some, None, option_map, map, filter, find, length, sum_by, ◌==◌}
+use Rattle.std.proofs.Common.{arith, ◌≡◌, refl, ap, sym, ◌∙◌, subst, ℕ, ◌%◌, ◌<◌, List, [], ◌∷◌, true, false, Bool, ◌&&◌, cond, inl, inr, Option, Some, None, option_map, find, length, sum_by, ◌==◌}
 use Rattle.std.specs.FinMap as map
 use Rattle.std.proofs.lemmas.Bool.{eqb-true, eq-eqb, and_parts, and_from, leb-true}
 use Rattle.newt_graph.specs.Graph.{RawGraph}
 use Rattle.newt_image.specs.Objects.{Objects as Texts, pages_for}
 use Rattle.newt_image.specs.Pages.{cap}
 use Rattle.newt_nsof.specs.Text.{AreBytes}
-use Rattle.newt_spec_graph.specs.Lists.{Each, Pairs, Among}
-use Rattle.newt_spec_graph.proofs.Lists.{each-at, some-same, none-some, among-filter, filter-among, pairs-more}
-use Rattle.newt_spec_store.specs.Laid.{bare}
+use Rattle.newt_spec_graph.specs.Lists.{Pairs, Among}
+use Rattle.newt_spec_graph.proofs.Lists.{each-at, some-same, none-some, among-filter, pairs-more}
 use Rattle.newt_spec_store.specs.Lies.{LiesIn, Places, ReadsGraphs, has_no_large}
 use Rattle.newt_spec_store.specs.Store.{Entry, Store}
 use Rattle.newt_spec_store.specs.StoreOf.{EntryRow, entry_row, store_of}
-use Rattle.newt_spec_store.specs.Valid.{valid, well_formed, fits}
-use Rattle.newt_laws_images.proofs.Finite.{get-entry, entry-get}
+use Rattle.newt_spec_store.specs.Valid.{well_formed, fits}
+use Rattle.newt_laws_images.proofs.Finite.{entry-get}
 use Rattle.newt_laws_images.proofs.Known.{IsEntryIn, all-read, read-directory, read-good, read-bare, all-odd, records-differ, Differ, bare-good}
-use Rattle.newt_laws_images.proofs.Made.{Both, both-left, both-right, built, odds, IsEntryOf, Gathered, made-lies, small-of}
+use Rattle.newt_laws_images.proofs.Made.{both-left, odds, IsEntryOf, Gathered, made-lies, small-of}
 use Rattle.newt_laws_images.proofs.Parts.{IsReading, reading, both-more}
-use Rattle.newt_laws_images.proofs.Plain.{ReadAs, IsPlain}
+use Rattle.newt_laws_images.proofs.Plain.{ReadAs}
 use Rattle.newt_laws_images.proofs.Spelt.{Small, directory-spelt}
 use Rattle.newt_laws_images.proofs.Totals.{lies-total}
 
@@ -33,7 +32,7 @@ names sig uid o = row_names sig uid (entry_row o.1)
 abbrev pub place_in : Texts → Places
 place_in objects sig uid = option_map (λ (o : ℕ × List ℕ). o.0) (find (names sig uid) (odds objects))
 
-found-test : {X : Type 0} (test : X → Bool) (xs : List X) (x : X) → find test xs ≡ Some x → Among xs x × (test x ≡ true)
+pub found-test : {X : Type 0} (test : X → Bool) (xs : List X) (x : X) → find test xs ≡ Some x → Among xs x × (test x ≡ true)
 found-test test [] x h = absurd (none-some x h)
 found-test {X} test (y ∷ xs) x h = go (found-test test xs x) (test y) refl h
   where

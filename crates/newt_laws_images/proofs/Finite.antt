@@ -1,6 +1,6 @@
 -- Objects by their ids: what is found, what is listed, and that no id is listed twice.
-use Rattle.std.proofs.Common.{arith, ◌≡◌, refl, ap, sym, ◌∙◌, subst, ℕ, ◌<◌, List, [], ◌∷◌, true, false, Bool, ◌&&◌, inl, inr, cond, Option, Some, None, option_map, find, map, filter, ◌==◌}
-use Rattle.std.specs.Ordering.{nat_cmp, eq_by_cmp, is_eq, is_lt}
+use Rattle.std.proofs.Common.{arith, ◌≡◌, refl, ap, sym, ◌∙◌, subst, ℕ, ◌<◌, List, [], ◌∷◌, true, false, Bool, inl, inr, cond, Some, option_map, find, ◌==◌}
+use Rattle.std.specs.Ordering.{nat_cmp, eq_by_cmp, is_lt}
 use Rattle.std.specs.FinMap as map
 use Rattle.std.proofs.lemmas.Bool.{and_parts}
 use lib.Dec.{T}
@@ -8,7 +8,7 @@ use Rattle.newt_image.specs.Objects.{Objects as Texts}
 use Rattle.newt_spec_store.specs.Image.{Objects}
 use Rattle.newt_spec_store.specs.StoreOf.{object_bytes}
 use Rattle.newt_spec_graph.specs.Lists.{Each, Pairs, Among}
-use Rattle.newt_spec_graph.proofs.Lists.{each-more, each-at, some-same, none-some}
+use Rattle.newt_spec_graph.proofs.Lists.{each-at, some-same, none-some}
 
 same-key : (k q : ℕ) → (k == q) ≡ eq_by_cmp nat_cmp q k
 same-key k q = grind arith

@@ -1,28 +1,27 @@
 -- A store without large binaries that was read: its directory, and one record for each of its entries.
-use Rattle.std.proofs.Common.{arith, ◌≡◌, refl, ap, sym, ◌∙◌, subst, ℕ, zero, suc, ◌%◌, ◌<◌, ◌≤◌, List, [], ◌∷◌, ◌++◌, true, false, Bool, ◌&&◌, ◌||◌, ◌⊎◌, inl, inr, cond, Option, Some, None, option_and_then, map, filter, flat_map, length, ◌==◌}
+use Rattle.std.proofs.Common.{arith, ◌≡◌, refl, ap, sym, ◌∙◌, subst, ℕ, zero, suc, ◌%◌, ◌<◌, List, [], ◌∷◌, ◌++◌, true, false, Bool, ◌&&◌, ◌||◌, ◌⊎◌, inl, inr, cond, Option, Some, None, option_and_then, map, filter, flat_map, ◌==◌}
 use Rattle.std.specs.List.{list_all, list_any}
 use Rattle.std.specs.FinMap as map
 use Rattle.std.proofs.lemmas.Bool.{eqb-true, eq-eqb, and_parts, or_cases}
 use Rattle.newt_base.specs.Names.{equal_text}
 use Rattle.newt_graph.specs.Graph.{RawGraph}
 use Rattle.newt_image.specs.Objects.{Objects as Texts}
-use Rattle.newt_spec_graph.specs.Graph.{every}
 use Rattle.newt_spec_graph.specs.Lists.{Each, Pairs, Among, rises, all_apart}
-use Rattle.newt_spec_graph.proofs.Lists.{each-at, each-from, each-more, each-list_all, list_all-each, some-same, none-some, pairs-more, pairs-map, among-filter, filter-among, rises-pairs}
+use Rattle.newt_spec_graph.proofs.Lists.{each-at, each-from, each-list_all, some-same, none-some, pairs-more, pairs-map, among-filter, filter-among, rises-pairs}
 use Rattle.newt_spec_store.specs.Laid.{ApartIds, bare}
-use Rattle.newt_spec_store.specs.Lies.{IsIn, graph_has_no_large, has_no_large, directory_read, entry_read, only}
+use Rattle.newt_spec_store.specs.Lies.{IsIn, graph_has_no_large, has_no_large, directory_read, only}
 use Rattle.newt_spec_store.specs.Reading.{Take, ◌>>=◌, give, text, number, counted, part, tags_of, times, soup, whole, directory}
 use Rattle.newt_spec_store.specs.Sorted.{sorted_by}
 use Rattle.newt_spec_store.specs.Store.{Entry, Soup, Store}
-use Rattle.newt_spec_store.specs.StoreOf.{EntryRow, LargeRow, entry_row, entry_of_row, rows_of, named_once, with_entries, in_a_soup}
-use Rattle.newt_spec_store.specs.Valid.{valid, well_formed, fits, valid_soup, valid_entry}
+use Rattle.newt_spec_store.specs.StoreOf.{EntryRow, LargeRow, entry_row, entry_of_row, with_entries, in_a_soup}
+use Rattle.newt_spec_store.specs.Valid.{well_formed, fits, valid_soup, valid_entry}
 use Rattle.newt_laws_images.specs.Found.{HasGiven}
 use Rattle.newt_laws_images.proofs.Assembled.{map-among, among-map, chosen, uid_cmp_of}
 use Rattle.newt_laws_images.proofs.Finite.{object-get, get-entry}
-use Rattle.newt_laws_images.proofs.Made.{Both, both-left, both-right, both-pairs, built, in-sorted, odds, all-map, map-length, map-kept}
+use Rattle.newt_laws_images.proofs.Made.{Both, both-left, both-pairs, built, in-sorted, odds, all-map, map-length, map-kept}
 use Rattle.newt_laws_images.proofs.Parts.{every-both, both-flip, both-join, both-more, apart-from, sort-back, IsReading}
 use Rattle.newt_laws_images.proofs.Placed.{its-id, its-plain, its-soup}
-use Rattle.newt_laws_images.proofs.Plain.{IsPlain, plain-row, ReadAs, as-read, read-same}
+use Rattle.newt_laws_images.proofs.Plain.{plain-row, ReadAs, read-same}
 use Rattle.newt_laws_images.proofs.Read.{bare_soup}
 use Rattle.newt_laws_images.proofs.Spelt.{whole-parts}
 use Rattle.newt_laws_images.proofs.Stores.{is-store, store-is, is-soup, soup-is}
@@ -182,7 +181,7 @@ module _ (graph_of : List ℕ → Option RawGraph) (objects : Texts) (blocks : �
       let sorted = its-soup (built graph_of r.d r.es) v.0.0 v.0.1 built-good (in-built v.0 f.0) in
       let rising = pairs-map (λ m n. m < n) (λ (e : Entry). e.uid) (sorted_by uid_cmp_of (chosen p.0.sig r.es)) (rises-pairs 0 p.0.next_uid (map (λ (e : Entry). e.uid) (sorted_by uid_cmp_of (chosen p.0.sig r.es))) sorted.uids) in
       let apart = sort-back (λ (a b : Entry). a.uid ≡ b.uid → ⊥) uid_cmp_of (λ a b h k. h (sym k)) (chosen p.0.sig r.es)
-          (pairs-more (λ (a b : Entry). a.uid < b.uid) (λ (a b : Entry). a.uid ≡ b.uid → ⊥) (sorted_by uid_cmp_of (chosen p.0.sig r.es)) (λ a b _ _ less eq. absurd (omega (arith, less, eq))) rising) in
+      (pairs-more (λ (a b : Entry). a.uid < b.uid) (λ (a b : Entry). a.uid ≡ b.uid → ⊥) (sorted_by uid_cmp_of (chosen p.0.sig r.es)) (λ a b _ _ less eq. absurd (omega (arith, less, eq))) rising) in
       subst (λ (zs : List Entry). Pairs (λ (a b : Entry). a.uid ≡ b.uid → ⊥) zs) (ap (λ n. chosen n r.es) (p.2 ∙ same) ∙ e) apart
 
   pub read-apart : Pairs ApartIds r.es
@@ -222,7 +221,7 @@ module _ (graph_of : List ℕ → Option RawGraph) (objects : Texts) (blocks : �
     pub all-odd : (id : ℕ) (bytes : List ℕ) → map.get objects id ≡ Some bytes → (id ≡ 0 → ⊥) → id % 2 ≡ 1
     all-odd id bytes there n =
         let named : (all_apart (λ a b. a == b) (flat_map (λ (r : EntryRow). map (λ (l : LargeRow). l.1) r.larges) r.rows)
-                    && list_all (λ (o : ℕ × List ℕ). (o.0 % 2 == 1) || (o.0 == 0) || list_any (λ n. n == o.0) (flat_map (λ (r : EntryRow). map (λ (l : LargeRow). l.1) r.larges) r.rows)) (map.entries objects)) ≡ true = r.named in
+        && list_all (λ (o : ℕ × List ℕ). (o.0 % 2 == 1) || (o.0 == 0) || list_any (λ n. n == o.0) (flat_map (λ (r : EntryRow). map (λ (l : LargeRow). l.1) r.larges) r.rows)) (map.entries objects)) ≡ true = r.named in
         let all = (and_parts true _ (subst (λ ns. (all_apart (λ a b. a == b) ns && list_all (λ (o : ℕ × List ℕ). (o.0 % 2 == 1) || (o.0 == 0) || list_any (λ n. n == o.0) ns) (map.entries objects)) ≡ true) (none-flat r.rows no-names) named)).1 in
         odd-of id n (each-at (λ (o : ℕ × List ℕ). ((o.0 % 2 == 1) || (o.0 == 0) || false) ≡ true) (map.entries objects) (id, bytes) (each-list_all _ (map.entries objects) all) (get-entry objects id bytes there))
       where

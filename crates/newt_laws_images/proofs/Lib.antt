@@ -14,3 +14,4 @@ pub mod Parts
 pub mod Known
 pub mod Refused
 pub mod Again
+pub mod Gathering

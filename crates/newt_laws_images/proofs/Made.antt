@@ -1,10 +1,9 @@
 -- A directory and records of entries of its soups make a store, which lies in their objects.
-use Rattle.std.proofs.Common.{arith, ◌≡◌, refl, ap, sym, ◌∙◌, subst, ℕ, ◌+◌, ◌%◌, ◌<◌, ◌≤◌, List, [], ◌∷◌, ◌++◌, true, false, Bool, ◌⊎◌, inl, inr, Option, Some, map, filter, flat_map, length, ◌==◌}
+use Rattle.std.proofs.Common.{arith, ◌≡◌, refl, ap, sym, ◌∙◌, subst, ℕ, ◌+◌, ◌%◌, ◌<◌, ◌≤◌, List, [], ◌∷◌, ◌++◌, true, Bool, ◌⊎◌, inl, inr, Option, Some, map, filter, flat_map, length, ◌==◌}
 use Rattle.std.specs.List.{list_all}
-use Rattle.std.specs.Prelude.{All}
 use Rattle.std.specs.FinMap as map
 use Rattle.std.specs.Ordering.{nat_cmp}
-use Rattle.std.specs.declared.cmp.Ordering.TheVariants.{Less, Equal}
+use Rattle.std.specs.declared.cmp.Ordering.TheVariants.{Less}
 use Rattle.std.proofs.lemmas.Bool.{eqb-true, eq-eqb}
 use Rattle.std.proofs.lemmas.List.Elements.{All-head, All-tail}
 use Rattle.newt_base.specs.Text.{be16, be32}
@@ -14,25 +13,24 @@ use Rattle.newt_image.specs.Objects.{Objects as Texts}
 use Rattle.newt_nsof.specs.Text.{AreBytes}
 use Rattle.newt_nsof.specs.Written.{nsof}
 use Rattle.newt_spec_graph.specs.Lists.{Each, Pairs, Among, rises, all_apart}
-use Rattle.newt_spec_graph.proofs.Lists.{each-at, each-from, each-more, each-list_all, list_all-each, among-filter, filter-among, some-same, pairs-more, pairs-filter}
-use Rattle.newt_spec_store.proofs.Sorting.{Untied, Rise, sorted-rises, among-fold, fold-among}
+use Rattle.newt_spec_graph.proofs.Lists.{each-at, each-from, each-list_all, list_all-each, among-filter, filter-among, some-same, pairs-more, pairs-filter}
+use Rattle.newt_spec_store.proofs.Sorting.{Untied, sorted-rises, among-fold, fold-among}
 use Rattle.newt_spec_store.specs.Cost.{directory_bytes, soup_bytes, text_bytes}
-use Rattle.newt_spec_store.specs.Image.{entry_bytes}
 use Rattle.newt_spec_store.specs.Laid.{ApartIds, bare}
-use Rattle.newt_spec_store.specs.Lies.{LiesIn, Places, IsIn, ReadsGraphs, directory_read, entry_read, graph_has_no_large, has_no_large}
+use Rattle.newt_spec_store.specs.Lies.{LiesIn, Places, IsIn, ReadsGraphs, directory_read, graph_has_no_large, has_no_large}
 use Rattle.newt_spec_store.specs.Reading.{whole, directory}
 use Rattle.newt_spec_store.specs.Sorted.{sorted_by}
 use Rattle.newt_spec_store.specs.Store.{Entry, Soup, Store}
 use Rattle.newt_spec_store.specs.StoreOf.{with_entries}
 use Rattle.newt_spec_store.specs.Valid.{well_formed, valid_soup, valid_entry}
-use Rattle.newt_laws_images.specs.Found.{HasGiven, IsRecord, IsFound}
+use Rattle.newt_laws_images.specs.Found.{HasGiven, IsFound}
 use Rattle.newt_laws_images.proofs.Assembled.{among-map, map-among, one-sig, chosen, chosen-apart, uid_cmp_of, uid_total, tied-same, less-rise}
 use Rattle.newt_laws_images.proofs.Finite.{entries-rising, entry-get, get-entry}
 use Rattle.newt_laws_images.proofs.Placed.{soups-rise}
 use Rattle.newt_laws_images.proofs.Plain.{ReadAs, read-as, read-plain, read-same, bytes-are, only-parts}
 use Rattle.newt_laws_images.proofs.Read.{bare_soup, directory-back}
 use Rattle.newt_laws_images.proofs.Spelt.{Small, directory-spelt}
-use Rattle.newt_laws_images.proofs.Stores.{IsStore, is-store, store-is, IsSoup, is-soup, soup-is}
+use Rattle.newt_laws_images.proofs.Stores.{is-store, store-is, is-soup, soup-is}
 
 -- ---- lists
 
@@ -90,8 +88,13 @@ all-map test f xs h = list_all-each test (map f xs) (each-from (λ y. test y ≡
 
 rises-from : (low high : ℕ) (ns : List ℕ) → Each (λ n. (low ≤ n) × (n < high)) ns → Pairs (λ m n. m < n) ns → rises low high ns ≡ true
 rises-from low high [] h k = refl
-rises-from low high (n ∷ ns) h k = grind (arith, h.0.0, h.0.1, rises-from (n + 1) high ns
-    (each-from (λ m. (n + 1 ≤ m) × (m < high)) ns (λ m at. (omega (arith, each-at (λ m. n < m) ns m k.0 at), (each-at (λ m. (low ≤ m) × (m < high)) ns m h.1 at).1))) k.1)
+rises-from low high (n ∷ ns) h k = grind (
+  arith,
+  h.0.0,
+  h.0.1,
+  rises-from (n + 1) high ns
+      (each-from (λ m. (n + 1 ≤ m) × (m < high)) ns (λ m at. (omega (arith, each-at (λ m. n < m) ns m k.0 at), (each-at (λ m. (low ≤ m) × (m < high)) ns m h.1 at).1))) k.1,
+)
 
 pub small-of : (bytes : List ℕ) → AreBytes bytes → Small bytes
 small-of [] h = tt
@@ -224,7 +227,7 @@ module _ (graph_of : List ℕ → Option RawGraph) (reads : ReadsGraphs graph_of
     );
     only_these = λ id bytes there n.
         let r = both-left (IsEntryOf graph_of place d) (odds objects) es (id, bytes) g.both
-            (filter-among (λ (o : ℕ × List ℕ). o.0 % 2 == 1) (map.entries objects) (id, bytes) (get-entry objects id bytes there) (eq-eqb (id % 2) 1 (g.others id bytes there n))) in
+        (filter-among (λ (o : ℕ × List ℕ). o.0 % 2 == 1) (map.entries objects) (id, bytes) (get-entry objects id bytes there) (eq-eqb (id % 2) 1 (g.others id bytes there n))) in
         (r.0.0, r.0.1, is-in r.0 r.1, r.2.at);
     places = λ sig uid id h. let r = g.places sig uid id h in (r.0, is-in (sig, r.0) r.1, r.2);
     graphs = λ sig e is. let r = of-entry (sig, e) (in-es sig e is) in reads.graphs (nsof e.graph) e.graph r.2.read.plain.reads;

@@ -24,7 +24,7 @@ part-carried live t u is_t is_u id part number x at here =
     let page = some-same back.0 one.0 (sym back.1 ∙ one.1) in
     (other.0, same_id, same_part, sym back.2.of_size ∙ ap object_length page ∙ one.2.of_size)
 
-first-part : (live : Pages) (t : Table) → IsTableOf live t → (id : ℕ) (x : Extent) → t id ≡ Some x → 0 < length x.numbers
+pub first-part : (live : Pages) (t : Table) → IsTableOf live t → (id : ℕ) (x : Extent) → t id ≡ Some x → 0 < length x.numbers
 first-part live t is_t id x at = let n = is_t.whole id x at in grind (arith, n)
 
 same-extent : (x y : Extent) → y.length ≡ x.length → y.numbers ≡ x.numbers → y ≡ x

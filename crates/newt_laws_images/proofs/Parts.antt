@@ -1,31 +1,23 @@
 -- What holds of objects that are read as a store: the directory, the rows and the entries that were read.
-use Rattle.std.proofs.Common.{arith, ◌≡◌, refl, ap, sym, ◌∙◌, subst, ℕ, zero, suc, ◌+◌, ◌%◌, ◌<◌, ◌≤◌, List, [], ◌∷◌, ◌++◌, true, false, Bool, ◌&&◌, ◌||◌, ◌⊎◌, inl, inr, cond, Option, Some, None, option_and_then, option_map, map, filter, find, fold, flat_map, length, ◌==◌}
-use Rattle.std.specs.List.{list_all, list_any}
-use Rattle.std.specs.FinMap as map
+use Rattle.std.proofs.Common.{◌≡◌, refl, ap, sym, ◌∙◌, subst, ℕ, List, [], ◌∷◌, true, false, Bool, ◌&&◌, inl, inr, cond, Option, Some, None, option_and_then, option_map, map, filter, fold, ◌==◌}
+use Rattle.std.specs.List.{list_all}
 use Rattle.std.specs.declared.cmp.Ordering.{Ordering}
 use Rattle.std.specs.Ordering.{is_lt}
-use Rattle.std.proofs.lemmas.Bool.{eqb-true, eq-eqb, and_parts, cases_eq, or_cases}
+use Rattle.std.proofs.lemmas.Bool.{eq-eqb}
 use Rattle.newt_graph.specs.Graph.{RawGraph}
-use Rattle.newt_image.specs.Objects.{Objects as Texts}
 use Rattle.newt_spec_graph.specs.Graph.{every}
 use Rattle.newt_spec_graph.specs.Lists.{Each, Pairs, Among}
-use Rattle.newt_spec_graph.proofs.Lists.{each-at, each-from, each-more, each-list_all, some-same, none-some, pairs-more, pairs-map, pairs-filter, among-filter, filter-among, rises-pairs}
+use Rattle.newt_spec_graph.proofs.Lists.{each-at, each-from, some-same, none-some, filter-among}
 use Rattle.newt_spec_store.proofs.Sorting.{insert-among}
 use Rattle.newt_spec_store.specs.Image.{Objects}
 use Rattle.newt_spec_store.specs.Laid.{ApartIds}
-use Rattle.newt_spec_store.specs.Lies.{IsIn, graph_has_no_large, has_no_large}
-use Rattle.newt_spec_store.specs.Reading.{Take, ◌>>=◌, give, text, number, counted, part, tags_of, times, soup, whole, directory}
+use Rattle.newt_spec_store.specs.Reading.{whole, directory}
 use Rattle.newt_spec_store.specs.Sorted.{insert_by, sorted_by}
-use Rattle.newt_spec_store.specs.Store.{Entry, Soup, Store}
-use Rattle.newt_spec_store.specs.StoreOf.{EntryRow, LargeRow, entry_row, object_bytes, entry_of_row, rows_of, named_once, with_entries, in_a_soup, assembled, store_of}
-use Rattle.newt_spec_store.specs.Valid.{valid, well_formed, fits, valid_soup, valid_entry}
-use Rattle.newt_laws_images.specs.Found.{HasGiven}
-use Rattle.newt_laws_images.proofs.Assembled.{among-map, map-among, chosen, uid_cmp_of}
-use Rattle.newt_laws_images.proofs.Finite.{object-get, get-entry, entries-rising}
-use Rattle.newt_laws_images.proofs.Made.{Both, both-left, both-right, both-pairs, built, in-sorted, odds}
-use Rattle.newt_laws_images.proofs.Placed.{its-id, its-plain}
-use Rattle.newt_laws_images.proofs.Plain.{IsPlain, plain-row, ReadAs}
-use Rattle.newt_laws_images.proofs.Stores.{is-store, is-soup}
+use Rattle.newt_spec_store.specs.Store.{Entry, Store}
+use Rattle.newt_spec_store.specs.StoreOf.{EntryRow, object_bytes, entry_of_row, rows_of, named_once, in_a_soup, assembled, store_of}
+use Rattle.newt_spec_store.specs.Valid.{valid}
+use Rattle.newt_laws_images.proofs.Assembled.{map-among, chosen}
+use Rattle.newt_laws_images.proofs.Made.{Both, built}
 
 -- ---- lists
 

@@ -1,7 +1,6 @@
 -- A store that lies in objects: its entries and its records are the same in number and in kind.
-use Rattle.std.proofs.Common.{arith, ◌≡◌, refl, ap, sym, ◌∙◌, subst, ℕ, ◌%◌, ◌<◌, ◌≤◌, List, [], ◌∷◌, true, Bool, inl, inr, Option, Some, map, filter, ◌==◌}
+use Rattle.std.proofs.Common.{arith, ◌≡◌, refl, ap, sym, ◌∙◌, subst, ℕ, ◌%◌, ◌<◌, ◌≤◌, List, [], ◌∷◌, true, Bool, inl, inr, Some, map, filter, ◌==◌}
 use Rattle.std.specs.List.{list_all}
-use Rattle.std.specs.Prelude.{◌≢◌}
 use Rattle.std.specs.FinMap as map
 use Rattle.std.proofs.lemmas.Bool.{eqb-true, eq-eqb}
 use Rattle.newt_image.specs.Objects.{Objects as Texts}
@@ -18,7 +17,7 @@ use Rattle.newt_laws_images.proofs.Finite.{Rising, entries-rising, entry-get, ge
 use Rattle.newt_laws_images.proofs.Plain.{fits-record}
 use Rattle.newt_laws_images.proofs.Read.{valid-fields}
 use Rattle.newt_laws_images.proofs.Records.{record-back}
-use Rattle.newt_laws_images.proofs.Stores.{IsStore, is-store, IsSoup, is-soup}
+use Rattle.newt_laws_images.proofs.Stores.{is-store, IsSoup, is-soup}
 
 -- ---- entries of a store
 
@@ -132,7 +131,7 @@ layout objects place s lies w none = record { laid = all.0; records = all.1; pla
         let p = each-at (IsPlaced place s) all.0 v.0 all.2 v.1 in
         let bytes : entry_bytes v.0.soup v.0.entry [] ≡ entry_bytes y.0 y.1 [] = subst (λ (ids : List ℕ). entry_bytes v.0.soup v.0.entry ids ≡ entry_bytes y.0 y.1 []) p.alone (ap {A = ℕ × List ℕ} {B = List ℕ} (λ o. o.1) v.2) in
         let rows = row-same (row_of v.0.soup v.0.entry []) (row_of y.0 y.1 [])
-            (sym (record-back v.0.soup v.0.entry [] (entry-fits objects place s v.0.soup v.0.entry lies w none p.is_in)) ∙ ap entry_row bytes ∙ record-back y.0 y.1 [] (entry-fits objects place s y.0 y.1 lies w none is)) in
+        (sym (record-back v.0.soup v.0.entry [] (entry-fits objects place s v.0.soup v.0.entry lies w none p.is_in)) ∙ ap entry_row bytes ∙ record-back y.0 y.1 [] (entry-fits objects place s y.0 y.1 lies w none is)) in
         let there = subst (λ n. IsIn s n v.0.entry) rows.0 p.is_in in
         let same : v.0.entry ≡ y.1 = one-entry s y.0 v.0.entry y.1 w there is rows.1 in
         subst (Among (map (λ (x : Laid). (x.soup, x.entry)) all.0)) (λ i. (rows.0 i, same i)) (map-among (λ (x : Laid). (x.soup, x.entry)) all.0 v.0 v.1)

@@ -3,7 +3,6 @@ use Rattle.std.proofs.Common.{arith, ◌≡◌, refl, ap, sym, ◌∙◌, subst,
 use Rattle.std.specs.List.{enumerate_from, list_all}
 use Rattle.std.specs.Prelude.{bytes_eq}
 use Rattle.std.proofs.lemmas.Bool.{eqb-true, eq-eqb, and_parts}
-use Rattle.std.proofs.lemmas.Cmp.{nat_list_eq_equiv}
 use Rattle.std.proofs.lemmas.Slice.Eq.{bytes_eq-Decides}
 use Rattle.newt_base.specs.Text.{be16, be32}
 use Rattle.newt_graph.specs.declared.node.Node.{Node}
@@ -14,7 +13,7 @@ use Rattle.newt_nsof.specs.Written.{nsof}
 use Rattle.newt_nsof.specs.Lengths.{skeleton, bare as bare_node}
 use Rattle.newt_spec_graph.proofs.Lists.{some-same, none-some}
 use Rattle.newt_spec_store.specs.Store.{Entry}
-use Rattle.newt_spec_store.specs.Cost.{large_length, large_lengths, entry_pages}
+use Rattle.newt_spec_store.specs.Cost.{large_length, large_lengths}
 use Rattle.newt_spec_store.specs.Image as image
 use Rattle.newt_spec_store.specs.Image.{Objects, larges, large_in, entry_bytes}
 use Rattle.newt_spec_store.specs.StoreOf.{LargeRow, EntryRow, large_object, with_bytes, fill, written, with_larges, entry_row, entry_of_row}
@@ -22,7 +21,7 @@ use Rattle.newt_spec_store.specs.Laid.{row_of_large, row_of, FitsRecord, IsThere
 use Rattle.newt_spec_store.specs.Lies.{graph_has_no_large, entry_read, only}
 use Rattle.newt_spec_store.specs.Valid.{valid_entry}
 use Rattle.newt_spec_graph.specs.Lists.{Each}
-use Rattle.newt_laws_images.proofs.Records.{record-back, entry-back}
+use Rattle.newt_laws_images.proofs.Records.{entry-back}
 use Rattle.newt_laws_images.proofs.Spelt.{Small, row_bytes, large_bytes, record-spelt}
 
 -- ---- graphs

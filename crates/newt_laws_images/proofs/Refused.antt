@@ -1,10 +1,9 @@
 -- Objects that are no store without large binaries.
-use Rattle.std.proofs.Common.{arith, ◌≡◌, refl, ap, sym, ◌∙◌, subst, ℕ, ◌%◌, ◌<◌, List, inl, inr, ◌⊎◌, true, Option, Some, None, map, filter, length, sum_by, ◌==◌}
+use Rattle.std.proofs.Common.{◌≡◌, refl, ap, sym, ◌∙◌, subst, ℕ, ◌%◌, List, inl, inr, ◌⊎◌, true, Option, Some, None, ◌==◌}
 use Rattle.std.specs.FinMap as map
-use Rattle.std.proofs.lemmas.Bool.{eq-eqb, and_parts, leb-true}
+use Rattle.std.proofs.lemmas.Bool.{eq-eqb}
 use Rattle.newt_graph.specs.Graph.{RawGraph}
-use Rattle.newt_image.specs.Objects.{Objects as Texts, pages_for}
-use Rattle.newt_image.specs.Pages.{cap}
+use Rattle.newt_image.specs.Objects.{Objects as Texts}
 use Rattle.newt_spec_graph.specs.Lists.{Among}
 use Rattle.newt_spec_graph.proofs.Lists.{some-same, none-some, filter-among}
 use Rattle.newt_spec_store.specs.Laid.{bare}
@@ -13,7 +12,7 @@ use Rattle.newt_spec_store.specs.Store.{Entry, Store}
 use Rattle.newt_spec_store.specs.StoreOf.{store_of}
 use Rattle.newt_laws_images.specs.Found.{HasGiven}
 use Rattle.newt_laws_images.proofs.Finite.{get-entry}
-use Rattle.newt_laws_images.proofs.Known.{IsEntryIn, read-directory, read-whole, read-bare, all-odd, of-object, read-in, records-differ, Differ, pairs-two}
+use Rattle.newt_laws_images.proofs.Known.{read-directory, read-whole, read-bare, of-object, read-in, records-differ, Differ, pairs-two}
 use Rattle.newt_laws_images.proofs.Made.{odds}
 use Rattle.newt_laws_images.proofs.Parts.{IsReading, reading}
 use Rattle.newt_laws_images.proofs.Plain.{as-read, read-as}

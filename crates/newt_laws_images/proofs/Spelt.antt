@@ -1,16 +1,13 @@
 -- What is read is written so: bytes that give a value are the bytes of the value, where each is below 256.
 use Rattle.std.proofs.Common.{arith, ◌≡◌, refl, ap, sym, ◌∙◌, subst, ℕ, zero, suc, ◌+◌, ◌-◌, ◌*◌, ◌/◌, ◌%◌, ◌<◌, ◌≤◌, List, [], ◌∷◌, ◌++◌, true, false, Bool, cond, Option, Some, None, option_and_then, length, take, drop, flat_map, fold, nat_le}
 use Rattle.std.proofs.lemmas.List.{append_assoc}
-use Rattle.std.proofs.lemmas.Bool.{le-leb, lt-leb, leb-true}
+use Rattle.std.proofs.lemmas.Bool.{leb-true}
 use Rattle.newt_base.specs.Text.{be16, be32}
 use Rattle.newt_spec_graph.specs.Lists.{Each}
 use Rattle.newt_spec_graph.proofs.Lists.{some-same, none-some}
-use Rattle.newt_spec_store.specs.declared.Kind.{Kind}
 use Rattle.newt_spec_store.specs.declared.Kind.TheVariants as kind
-use Rattle.newt_spec_store.specs.declared.Order.{Order}
 use Rattle.newt_spec_store.specs.declared.Order.TheVariants as order
-use Rattle.newt_spec_store.specs.Keys.{Path, IndexPart}
-use Rattle.newt_spec_store.specs.Store.{TagTable, Soup, Store}
+use Rattle.newt_spec_store.specs.Store.{Store}
 use Rattle.newt_spec_store.specs.Cost as cost
 use Rattle.newt_spec_store.specs.StoreOf.{LargeRow, EntryRow, large_row, entry_fields, entry_row}
 use Rattle.newt_spec_store.specs.Reading.{Take, ◌>>=◌, give, refuse, some_bytes, number, times, counted, whole, whole_of, text, path, kind_of, direction_of, part, tags_of, soup, directory}

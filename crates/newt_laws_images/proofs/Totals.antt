@@ -1,9 +1,8 @@
 -- What a store costs is what its objects take in pages.
-use Rattle.std.proofs.Common.{arith, ◌≡◌, refl, ap, sym, ◌∙◌, subst, ℕ, ◌+◌, ◌*◌, ◌%◌, ◌<◌, List, [], ◌∷◌, ◌++◌, true, false, Bool, not, ◌⊎◌, inl, inr, cond, Some, map, filter, flat_map, length, sum, sum_by, ◌==◌}
-use Rattle.std.proofs.lemmas.Bool.{eqb-true, eq-eqb}
+use Rattle.std.proofs.Common.{arith, ◌≡◌, refl, ap, sym, ◌∙◌, subst, ℕ, ◌+◌, ◌*◌, ◌%◌, ◌<◌, List, [], ◌∷◌, ◌++◌, true, false, Bool, not, ◌⊎◌, inl, inr, cond, map, filter, flat_map, length, sum, sum_by, ◌==◌}
+use Rattle.std.proofs.lemmas.Bool.{eq-eqb}
 use Rattle.std.proofs.lemmas.List.Sums.{sum_by-cons}
 use Rattle.std.specs.FinMap as map
-use Rattle.newt_graph.specs.Graph.{RawGraph}
 use Rattle.newt_image.specs.Objects.{Objects as Texts, pages_for}
 use Rattle.newt_nsof.specs.Written.{nsof}
 use Rattle.newt_nsof.specs.Lengths.{skeleton}
@@ -12,10 +11,10 @@ use Rattle.newt_spec_graph.proofs.Lists.{each-at, each-from, each-more, among-fi
 use Rattle.newt_spec_store.specs.Store.{Entry, Soup, Store}
 use Rattle.newt_spec_store.specs.Cost.{cost, directory_bytes, entry_pages, soup_pages, large_lengths, skeleton_length}
 use Rattle.newt_spec_store.specs.Image.{entry_bytes, all_entries}
-use Rattle.newt_spec_store.specs.Laid.{ApartIds, AreEntries, Laid, record_of}
+use Rattle.newt_spec_store.specs.Laid.{ApartIds, Laid, record_of}
 use Rattle.newt_spec_store.specs.Lies.{LiesIn, Places, has_no_large, graph_has_no_large}
 use Rattle.newt_spec_store.specs.Valid.{well_formed, valid_soup}
-use Rattle.newt_laws_images.proofs.Assembled.{among-map, map-among}
+use Rattle.newt_laws_images.proofs.Assembled.{among-map}
 use Rattle.newt_laws_images.proofs.Finite.{entries-rising, entry-get, get-entry}
 use Rattle.newt_laws_images.proofs.Placed.{IsPlaced, Layout, layout, soups-rise, pairs-map-from, its-plain}
 use Rattle.newt_laws_images.proofs.Plain.{no-lengths, no-larges}

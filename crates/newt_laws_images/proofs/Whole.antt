@@ -1,5 +1,5 @@
 -- A store without large binaries that lies in objects is what they are read as.
-use Rattle.std.proofs.Common.{arith, ◌≡◌, refl, ap, sym, ◌∙◌, subst, ℕ, ◌%◌, ◌<◌, List, [], ◌∷◌, ◌++◌, true, false, Bool, ◌&&◌, ◌||◌, ◌⊎◌, inl, inr, Option, Some, map, zip, flat_map, length, ◌==◌}
+use Rattle.std.proofs.Common.{◌≡◌, refl, ap, sym, ◌∙◌, subst, ℕ, ◌%◌, List, [], ◌∷◌, ◌++◌, true, false, Bool, ◌&&◌, ◌||◌, ◌⊎◌, inl, inr, Option, Some, map, zip, flat_map, ◌==◌}
 use Rattle.std.specs.List.{list_all, list_any}
 use Rattle.std.specs.FinMap as map
 use Rattle.std.proofs.lemmas.Bool.{eq-eqb, and_parts, cases_eq}
@@ -8,10 +8,10 @@ use Rattle.newt_image.specs.Objects.{Objects as Texts}
 use Rattle.newt_nsof.specs.Written.{nsof}
 use Rattle.newt_nsof.specs.Lengths.{skeleton}
 use Rattle.newt_spec_graph.specs.Lists.{Each, Among, all_apart}
-use Rattle.newt_spec_graph.proofs.Lists.{each-at, each-from, each-more, list_all-each, some-same}
+use Rattle.newt_spec_graph.proofs.Lists.{each-from, each-more, list_all-each, some-same}
 use Rattle.newt_spec_store.specs.Store.{Store}
 use Rattle.newt_spec_store.specs.Image.{Objects, larges}
-use Rattle.newt_spec_store.specs.Laid.{Laid, IsLaid, FitsRecord, IsThere, Named, row_of, row_of_large}
+use Rattle.newt_spec_store.specs.Laid.{Laid, IsLaid, FitsRecord, IsThere, row_of, row_of_large}
 use Rattle.newt_spec_store.specs.Lies.{LiesIn, Places, ReadsGraphs, has_no_large, graph_has_no_large}
 use Rattle.newt_spec_store.specs.StoreOf.{EntryRow, LargeRow, named_once, store_of}
 use Rattle.newt_spec_store.specs.Valid.{well_formed, valid, fits}
@@ -54,18 +54,21 @@ zero-or-odd objects place s lies o m = go (cases_eq o.0 0)
 
 pub lies-laid : (graph_of : List ℕ → Option RawGraph) (objects : Texts) (place : Places) (s : Store) → ReadsGraphs graph_of → LiesIn objects place s → well_formed s ≡ true → has_no_large s ≡ true
     → (laid : List Laid) × IsLaid graph_of (map.entries objects) s laid
-lies-laid graph_of objects place s reads lies w none = (l.laid, record {
-  written = object-get objects 0 ∙ lies.directory;
-  records = l.records;
-  fit = each (λ x. FitsRecord x.soup x.entry x.ids) (λ x p. subst (FitsRecord x.soup x.entry) (sym p.alone) (entry-fits objects place s x.soup x.entry lies w none p.is_in));
-  decoded = each (λ x. graph_of (nsof (skeleton x.entry.graph)) ≡ Some (skeleton x.entry.graph)) (λ x p.
-      subst (λ (g : RawGraph). graph_of (nsof g) ≡ Some g) (sym (own-skeleton x.entry.graph (plain x p))) (reads.back x.entry.graph (lies.graphs x.soup x.entry p.is_in)));
-  there = each (λ x. Each (IsThere (map.entries objects)) (zip (larges x.entry.graph) x.ids)) (λ x p.
-      subst (λ (ls : List (ℕ × List ℕ)). Each (IsThere (map.entries objects)) (zip ls x.ids)) (sym (no-larges x.entry.graph (plain x p))) tt);
-  once = named-none graph_of (map.entries objects) (map (λ (x : Laid). row_of x.soup x.entry x.ids) l.laid) (none-named l.laid (each (λ x. larges x.entry.graph ≡ []) (λ x p. no-larges x.entry.graph (plain x p))))
-      (each-from _ (map.entries objects) (zero-or-odd objects place s lies));
-  entries = l.are;
-})
+lies-laid graph_of objects place s reads lies w none = (
+  l.laid,
+  record {
+    written = object-get objects 0 ∙ lies.directory;
+    records = l.records;
+    fit = each (λ x. FitsRecord x.soup x.entry x.ids) (λ x p. subst (FitsRecord x.soup x.entry) (sym p.alone) (entry-fits objects place s x.soup x.entry lies w none p.is_in));
+    decoded = each (λ x. graph_of (nsof (skeleton x.entry.graph)) ≡ Some (skeleton x.entry.graph)) (λ x p.
+        subst (λ (g : RawGraph). graph_of (nsof g) ≡ Some g) (sym (own-skeleton x.entry.graph (plain x p))) (reads.back x.entry.graph (lies.graphs x.soup x.entry p.is_in)));
+    there = each (λ x. Each (IsThere (map.entries objects)) (zip (larges x.entry.graph) x.ids)) (λ x p.
+        subst (λ (ls : List (ℕ × List ℕ)). Each (IsThere (map.entries objects)) (zip ls x.ids)) (sym (no-larges x.entry.graph (plain x p))) tt);
+    once = named-none graph_of (map.entries objects) (map (λ (x : Laid). row_of x.soup x.entry x.ids) l.laid) (none-named l.laid (each (λ x. larges x.entry.graph ≡ []) (λ x p. no-larges x.entry.graph (plain x p))))
+        (each-from _ (map.entries objects) (zero-or-odd objects place s lies));
+    entries = l.are;
+  },
+)
   where
     l : Layout objects place s
     l = layout objects place s lies w none
