@@ -9,7 +9,7 @@ use Rattle.newt_laws.specs.Later.{EntryGone, SoupGone}
 use Rattle.newt_spec_graph.proofs.Lists.{each-at, each-list_all, among-filter, rises-above, rises-pairs, pairs-map, none-some, some-same, both-ways}
 use Rattle.newt_laws.proofs.Soups.{is-store, IsSoup, is-soup, with-soup, without-entry}
 use Rattle.newt_laws.proofs.Settled.{find-passes}
-use Rattle.newt_laws.proofs.Assembled.{map-among, one-sig}
+use Rattle.newt_laws_images.proofs.Assembled.{map-among, one-sig}
 
 first-among : {X : Type 0} (test : X → Bool) (f : X → X) (xs : List X) (x : X) → find test xs ≡ Some x → Among (change_first test f xs) (f x)
 first-among test f [] x h = absurd (none-some x h)

@@ -1,7 +1,7 @@
 use Rattle.std.proofs.Common.{sym, ◌∙◌}
 use Rattle.newt_spec_graph.proofs.Lists.{some-same}
-use Rattle.newt_laws.proofs.Assembled.{store-back, read-valid}
-use Rattle.newt_laws.proofs.stores.stores_are_read_back.Goals as goal
+use Rattle.newt_laws_images.proofs.Assembled.{store-back, read-valid}
+use Rattle.newt_laws_images.proofs.readings.stores_are_read_back.Goals as goal
 
 pub returns-clause-back : goal.returns-clause-back
 returns-clause-back c = store-back

@@ -16,7 +16,7 @@ use Rattle.newt_spec_store.specs.Reading.{Take, ◌>>=◌, give, some_bytes, num
 use Rattle.newt_spec_store.specs.Valid.{well_formed, valid_soup}
 use Rattle.newt_spec_graph.specs.Lists.{Each, Among}
 use Rattle.newt_spec_graph.proofs.Lists.{each-more, each-at, each-from, each-list_all, rises-above}
-use Rattle.newt_laws.proofs.Soups.{is-store, is-soup}
+use Rattle.newt_laws_images.proofs.Stores.{is-store, is-soup}
 
 -- the bytes give the value, whatever follows them
 abbrev pub Reads : {A : Type 0} → Take A → List ℕ → A → Type 0

@@ -21,7 +21,7 @@ use Rattle.newt_spec_graph.specs.Graph.{every}
 use Rattle.newt_spec_store.specs.StoreOf.{LargeRow, large_row, entry_fields, entry_row, large_object, with_bytes, fill, written, with_larges, entry_of_row}
 use Rattle.newt_spec_graph.specs.Lists.{Each}
 use Rattle.newt_spec_store.specs.Laid.{Named, row_of_large, FitsRow, IsThere, row_of, FitsRecord}
-use Rattle.newt_laws.proofs.Read.{Reads, reads-then, reads-last, reads-some, reads-be16, reads-be32, regroup, reads-whole}
+use Rattle.newt_laws_images.proofs.Read.{Reads, reads-then, reads-last, reads-some, reads-be16, reads-be32, regroup, reads-whole}
 
 three : (a b c : List ℕ) → a ++ b ++ c ≡ a ++ (b ++ c)
 three a b c = append_assoc a b c

@@ -17,12 +17,12 @@ use Rattle.newt_spec_graph.specs.Graph.{every}
 use Rattle.newt_spec_store.specs.StoreOf.{EntryRow, object_bytes, entry_of_row, rows_of, named_once, with_entries, in_a_soup, assembled, store_of}
 use Rattle.newt_spec_graph.specs.Lists.{Each, Pairs, Among}
 use Rattle.newt_spec_store.specs.Laid.{ApartIds, AreEntries, Laid, record_of, row_of, IsLaid}
-use Rattle.newt_laws.proofs.Records.{record-back, entry-back}
+use Rattle.newt_laws_images.proofs.Records.{record-back, entry-back}
 use Rattle.newt_spec_store.specs.StoreOf.{entry_row}
 use Rattle.newt_spec_graph.proofs.Lists.{each-at, each-from, each-list_all, list_all-each, among-filter, filter-among, among-flat_map, flat_map-among, pairs-filter, pairs-more, pairs-map, rises-pairs}
 use Rattle.newt_spec_store.proofs.Sorting.{Untied, sorted-rises, among-fold, fold-among}
-use Rattle.newt_laws.proofs.Soups.{is-store, is-soup}
-use Rattle.newt_laws.proofs.Read.{bare, bare_soup, directory-back}
+use Rattle.newt_laws_images.proofs.Stores.{is-store, is-soup}
+use Rattle.newt_laws_images.proofs.Read.{bare, bare_soup, directory-back}
 
 -- ---- two rising lists with the same elements are one
 
@@ -117,7 +117,7 @@ soup-back s p entries w m are = rising-same (λ (a b : Entry). nat_cmp a.uid b.u
     (λ z n. out z (among-fold uid_cmp_of [] (chosen p.sig entries) z n))
     (λ z n. fold-among uid_cmp_of [] (chosen p.sig entries) z (inr (into z n)))
   where
-    good : Rattle.newt_laws.proofs.Soups.IsSoup p
+    good : Rattle.newt_laws_images.proofs.Stores.IsSoup p
     good = is-soup p (each-at (λ (p : Soup). valid_soup p ≡ true) s.soups p (each-list_all valid_soup s.soups (is-store s w).soups_fit) m)
 
     sigs : Pairs (λ (a b : Soup). a.sig < b.sig) s.soups

@@ -1,0 +1,5 @@
+pub mod Stores
+pub mod Read
+pub mod Records
+pub mod Assembled
+pub mod OneStore
