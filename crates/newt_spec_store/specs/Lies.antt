@@ -1,5 +1,5 @@
 -- How a store without large binaries lies in objects, and what one object is read as. All of it is this project's own.
-use Rattle.std.specs.Prelude.{◌≡◌, ◌≢◌, ◌==◌, [], ℕ, ◌%◌, Bool, List, length, flat_map, Option, Some, None, if◌then◌else◌, option_and_then}
+use Rattle.std.specs.Prelude.{◌≡◌, ◌≢◌, ◌==◌, [], ℕ, ◌%◌, ◌<◌, Bool, List, length, flat_map, Option, Some, None, if◌then◌else◌, option_and_then}
 use Rattle.std.specs.List.{list_all}
 use Rattle.std.specs.FinMap as map
 use Rattle.newt_graph.specs.Graph.{RawGraph, IsGraph}
@@ -54,10 +54,11 @@ pub record IsIn (s : Store) (sig : ℕ) (e : Entry) : Type 0 where
   pub is_entry : Among soup.entries e
 
 -- How a store without large binaries lies in objects: the directory is object 0, each entry's record is the object of its place, which has an odd id,
--- and there are no other objects and no other places. (this project's own)
+-- and there are no other objects and no other places. A minute fits in four bytes. (this project's own)
 pub record LiesIn (objects : Objects) (place : Places) (s : Store) : Type 0 where
   pub directory : map.get objects 0 ≡ Some (directory_bytes s)
   pub records : (sig : ℕ) (e : Entry) → IsIn s sig e → (id : ℕ) × (place sig e.uid ≡ Some id) × (id % 2 ≡ 1) × (map.get objects id ≡ Some (entry_bytes sig e []))
   pub only_these : (id : ℕ) (bytes : List ℕ) → map.get objects id ≡ Some bytes → id ≢ 0 → (sig : ℕ) × (e : Entry) × IsIn s sig e × (place sig e.uid ≡ Some id)
   pub places : (sig uid id : ℕ) → place sig uid ≡ Some id → (e : Entry) × IsIn s sig e × (e.uid ≡ uid)
   pub graphs : (sig : ℕ) (e : Entry) → IsIn s sig e → IsGraph e.graph
+  pub times : (sig : ℕ) (e : Entry) → IsIn s sig e → e.time < 4294967296

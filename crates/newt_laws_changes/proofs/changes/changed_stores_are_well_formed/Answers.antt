@@ -1,0 +1,14 @@
+use Rattle.newt_laws_changes.proofs.Formed.{made_formed, dropped_formed, added_formed, removed_formed}
+use Rattle.newt_laws_changes.proofs.changes.changed_stores_are_well_formed.Goals as goal
+
+pub returns-clause-made : goal.returns-clause-made
+returns-clause-made c = made_formed
+
+pub returns-clause-dropped : goal.returns-clause-dropped
+returns-clause-dropped c = dropped_formed
+
+pub returns-clause-added : goal.returns-clause-added
+returns-clause-added c sig now g s p w found room fits = added_formed sig s p now g w found room fits
+
+pub returns-clause-removed : goal.returns-clause-removed
+returns-clause-removed c = removed_formed
