@@ -1,12 +1,12 @@
 -- A new store, and what is known of an entry that is in a store.
-use Rattle.std.proofs.Common.{arith, ◌≡◌, ◌≢◌, refl, ap, sym, ◌∙◌, subst, ℕ, ◌≤◌, ◌<◌, List, [], IsTrue, true, Some, None}
+use Rattle.std.proofs.Common.{arith, ◌≡◌, ◌≢◌, sym, ◌∙◌, subst, ℕ, ◌≤◌, ◌<◌, List, [], IsTrue, true, Some, None}
 use Rattle.std.specs.FinMap as map
 use Rattle.newt_base.specs.Names.{is_name}
 use Rattle.newt_image.specs.Objects.{Objects}
 use Rattle.newt_spec_graph.specs.Lists.{Among}
 use Rattle.newt_spec_graph.proofs.Lists.{each-at, each-list_all, none-some}
 use Rattle.newt_spec_store.specs.Cost.{directory_bytes}
-use Rattle.newt_spec_store.specs.Lies.{Places, IsIn, LiesIn}
+use Rattle.newt_spec_store.specs.Lies.{IsIn, LiesIn}
 use Rattle.newt_spec_store.specs.Store.{Store, Soup, Entry, change_soup, add_entry, remove_entry}
 use Rattle.newt_spec_store.specs.Valid.{well_formed, valid_entry}
 use Rattle.newt_laws_changes.specs.Signatures.{soup_of}

@@ -1,19 +1,19 @@
 -- An entry replaced by another of its id, and a soup with other declarations, in the changed objects.
-use Rattle.std.proofs.Common.{◌≡◌, ◌≢◌, refl, ap, sym, ◌∙◌, subst, ℕ, ◌<◌, ◌%◌, List, [], ◌∷◌, true, IsTrue, Some, ◌⊎◌, inl, inr, ◌==◌}
+use Rattle.std.proofs.Common.{◌≡◌, ◌≢◌, refl, ap, sym, ◌∙◌, subst, ℕ, ◌<◌, ◌%◌, List, [], true, IsTrue, Some, ◌⊎◌, inl, inr, ◌==◌}
 use Rattle.std.specs.FinMap as map
 use Rattle.std.proofs.lemmas.Bool.{eqb-true, eq-eqb}
 use Rattle.newt_graph.specs.Graph.{IsGraph}
 use Rattle.newt_image.specs.Objects.{Objects}
 use Rattle.newt_spec_graph.specs.Lists.{Among}
-use Rattle.newt_spec_graph.proofs.Lists.{none-some, some-same}
-use Rattle.newt_spec_store.specs.Cost.{directory_bytes, soup_bytes}
+use Rattle.newt_spec_graph.proofs.Lists.{some-same}
+use Rattle.newt_spec_store.specs.Cost.{directory_bytes}
 use Rattle.newt_spec_store.specs.Image.{entry_bytes}
 use Rattle.newt_spec_store.specs.Lies.{Places, IsIn, LiesIn}
 use Rattle.newt_spec_store.specs.Store.{Store, Soup, Entry, entry_of, change_soup, change_entry}
 use Rattle.newt_spec_store.specs.Valid.{well_formed}
 use Rattle.newt_laws_changes.specs.Signatures.{soup_of}
 use Rattle.newt_laws_changes.proofs.Bytes.{same-directory}
-use Rattle.newt_laws_changes.proofs.Chosen.{find-passes, first-among, first-others, first-parts, one-uid, only-one, soup-there, soup-good, there-entry}
+use Rattle.newt_laws_changes.proofs.Chosen.{find-passes, first-among, first-others, first-parts, one-uid, soup-there, soup-good}
 use Rattle.newt_laws_changes.proofs.Lying.{place-there, odd-is-not, Recorded, kept}
 use Rattle.newt_laws_changes.proofs.Members.{same-or-not, in-one, one-in, changed-in, in-changed, others-in}
 

@@ -64,19 +64,19 @@ rising-same R irr join (x ∷ xs) (y ∷ ys) h k f g =
 
 -- ---- the entries of one soup
 
-abbrev uid_cmp_of : Entry → Entry → Ordering
+abbrev pub uid_cmp_of : Entry → Entry → Ordering
 uid_cmp_of a b = nat_cmp a.uid b.uid
 
-uid_total : IsTotalOrder uid_cmp_of
+pub uid_total : IsTotalOrder uid_cmp_of
 uid_total = on_total (λ (e : Entry). e.uid) nat_cmp_total
 
 rise-less : (a b : ℕ) → a < b → nat_cmp a b ≡ Less
 rise-less a b h = grind arith
 
-less-rise : (a b : ℕ) → nat_cmp a b ≡ Less → a < b
+pub less-rise : (a b : ℕ) → nat_cmp a b ≡ Less → a < b
 less-rise a b h = grind arith
 
-tied-same : (a b : ℕ) → nat_cmp a b ≡ Equal → a ≡ b
+pub tied-same : (a b : ℕ) → nat_cmp a b ≡ Equal → a ≡ b
 tied-same a b h = grind arith
 
 in-store : (s : Store) (p : Soup) (e : Entry) → Among s.soups p → Among p.entries e → Among (all_entries s) (p.sig, e)
@@ -90,10 +90,10 @@ one-sig (x ∷ ps) p q h (inl a) (inr n) e = absurd (omega (arith, each-at (λ (
 one-sig (x ∷ ps) p q h (inr m) (inl b) e = absurd (omega (arith, each-at (λ (b : Soup). x.sig < b.sig) ps p h.0 m, ap (λ (v : Soup). v.sig) b, e))
 one-sig (x ∷ ps) p q h (inr m) (inr n) e = one-sig ps p q h.1 m n e
 
-abbrev chosen : ℕ → List (ℕ × Entry) → List Entry
+abbrev pub chosen : ℕ → List (ℕ × Entry) → List Entry
 chosen sig entries = map (λ (e : ℕ × Entry). e.1) (filter (λ (e : ℕ × Entry). e.0 == sig) entries)
 
-chosen-apart : (sig : ℕ) (entries : List (ℕ × Entry)) → Pairs ApartIds entries → Pairs (λ (a b : Entry). a.uid ≡ b.uid → ⊥) (chosen sig entries)
+pub chosen-apart : (sig : ℕ) (entries : List (ℕ × Entry)) → Pairs ApartIds entries → Pairs (λ (a b : Entry). a.uid ≡ b.uid → ⊥) (chosen sig entries)
 chosen-apart sig entries h = map-pairs (filter (λ (e : ℕ × Entry). e.0 == sig) entries)
     (pairs-more ApartIds (λ a b. a.1.uid ≡ b.1.uid → ⊥) (filter (λ (e : ℕ × Entry). e.0 == sig) entries)
     (λ a b m n r. r (eqb-true a.0 sig (among-filter (λ (e : ℕ × Entry). e.0 == sig) entries a m).1 ∙ sym (eqb-true b.0 sig (among-filter (λ (e : ℕ × Entry). e.0 == sig) entries b n).1)))

@@ -3,3 +3,10 @@ pub mod Read
 pub mod Records
 pub mod Assembled
 pub mod OneStore
+pub mod Finite
+pub mod Spelt
+pub mod Plain
+pub mod Placed
+pub mod Whole
+pub mod Totals
+pub mod Made

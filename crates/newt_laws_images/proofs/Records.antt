@@ -80,7 +80,7 @@ reads-entry soup e ids size f is = regroup (entry_fields size) (row_of soup e id
     (subst (λ n. Reads (times n large_row) (flat_map image.large_row (zip (larges e.graph) ids)) (map row_of_large (zip (larges e.graph) ids))) (zip-length (larges e.graph) ids f.each_named)
     (reads-larges (zip (larges e.graph) ids) f.rows_fit))))))))
 
-entry-length : (soup : ℕ) (e : Entry) (ids : List ℕ) → length (larges e.graph) ≡ length ids → length (entry_bytes soup e ids) ≡ 12 + length (nsof (skeleton e.graph)) + 12 * length ids
+pub entry-length : (soup : ℕ) (e : Entry) (ids : List ℕ) → length (larges e.graph) ≡ length ids → length (entry_bytes soup e ids) ≡ 12 + length (nsof (skeleton e.graph)) + 12 * length ids
 entry-length soup e ids h = grind (
   arith,
   length-append (be16 soup ++ be16 (length ids) ++ be32 e.uid ++ be32 e.time ++ nsof (skeleton e.graph)) (flat_map image.large_row (zip (larges e.graph) ids)),

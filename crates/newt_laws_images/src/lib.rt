@@ -5,6 +5,8 @@
 //! one store.
 #![tactic(auto)]
 
+mod lying;
 mod readings;
 
+pub use lying::{lying_stores_are_read, stores_are_made_of_records};
 pub use readings::{images_hold_one_store, records_are_read_back, stores_are_read_back};

@@ -1,0 +1,9 @@
+use Rattle.newt_laws_images.proofs.Totals.{lies-total}
+use Rattle.newt_laws_images.proofs.Whole.{lies-read}
+use Rattle.newt_laws_images.proofs.lying.lying_stores_are_read.Goals as goal
+
+pub returns-clause-back : goal.returns-clause-back
+returns-clause-back c = lies-read
+
+pub returns-clause-total : goal.returns-clause-total
+returns-clause-total c = lies-total
