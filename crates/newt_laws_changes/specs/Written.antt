@@ -7,6 +7,11 @@ use Rattle.newt_spec_store.specs.Image.{entry_bytes}
 use Rattle.newt_spec_store.specs.Lies.{Places}
 use Rattle.newt_spec_store.specs.Store.{Entry}
 
+-- Object 0 is these bytes, and there is no other object. (this project's own)
+pub record HeadAlone (head : List ℕ) (objects : Objects) : Type 0 where
+  pub head_is : map.get objects 0 ≡ Some head
+  pub no_others : (id : ℕ) → id ≢ 0 → map.get objects id ≡ None
+
 -- Object 0 is these bytes now, and every other object is as it was. (this project's own)
 pub record HeadWritten (head : List ℕ) (objects objects' : Objects) : Type 0 where
   pub head_is : map.get objects' 0 ≡ Some head
@@ -21,6 +26,12 @@ pub record EntryWritten (sig : ℕ) (e : Entry) (id : ℕ) (head : List ℕ) (ob
   pub others : (o : ℕ) → o ≢ 0 → o ≢ id → map.get objects' o ≡ map.get objects o
   pub placed : place' sig e.uid ≡ Some id
   pub other_places : (t u : ℕ) → (t ≡ sig → u ≡ e.uid → ⊥) → place' t u ≡ place t u
+
+-- The object of an entry's place is the record of another entry of its id; all else is as it was. (this project's own)
+pub record EntryRewritten (sig uid : ℕ) (e : Entry) (id : ℕ) (objects objects' : Objects) (place : Places) : Type 0 where
+  pub is_placed : place sig uid ≡ Some id
+  pub record_is : map.get objects' id ≡ Some (entry_bytes sig e [])
+  pub others : (o : ℕ) → o ≢ id → map.get objects' o ≡ map.get objects o
 
 -- The object of an entry's place is gone, and the place; all else is as it was. (this project's own)
 pub record EntryErased (sig uid id : ℕ) (objects objects' : Objects) (place place' : Places) : Type 0 where

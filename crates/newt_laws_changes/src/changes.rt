@@ -1,19 +1,20 @@
 //! Laws of the changes of one store.
-ghost use Rattle.std.specs.Prelude.{ℕ, ◌≡◌, ◌<◌, List, IsTrue, length, Some, None};
+ghost use Rattle.std.specs.Prelude.{ℕ, ◌≡◌, ◌<◌, ◌≤◌, List, [], IsTrue, length, Some, None};
 ghost use Rattle.newt_base.specs.Names.{is_name};
 ghost use Rattle.newt_graph.specs.Graph.{RawGraph, IsGraph};
 ghost use Rattle.newt_image.specs.Objects.{Objects};
 ghost use Rattle.newt_spec_store.specs.Cost.{directory_bytes};
 ghost use Rattle.newt_spec_store.specs.Laid.{bare};
 ghost use Rattle.newt_spec_store.specs.Lies.{Places, IsIn, LiesIn, graph_has_no_large, has_no_large};
-ghost use Rattle.newt_spec_store.specs.Store.{Store, Soup, Entry, soup_named, entry_of, change_soup, make_soup, add_entry, remove_entry, drop_soup};
+ghost use Rattle.newt_spec_store.specs.Store.{Store, Soup, Entry, soup_named, entry_of, change_soup, change_entry, make_soup, add_entry, remove_entry, drop_soup};
 ghost use Rattle.newt_spec_store.specs.Valid.{well_formed, valid_entry};
 ghost use Rattle.newt_laws_changes.specs.Signatures.{soup_of, without_soup, take_uid_of, is_early};
 ghost use Rattle.newt_laws_changes.specs.Later.{StoreLater};
-ghost use Rattle.newt_laws_changes.specs.Written.{HeadWritten, EntryWritten, EntryErased, SoupErased, EntryMoved};
+ghost use Rattle.newt_laws_changes.specs.Written.{HeadAlone, HeadWritten, EntryWritten, EntryRewritten, EntryErased, SoupErased, EntryMoved};
 
 /// A store without large binaries that is changed lies in the objects that the change writes.
 pub fn changed_stores_lie_in_changed_objects()
+    ensures fresh { (objects : Objects) (s : Store) → s.soups ≡ [] → HeadAlone (directory_bytes s) objects → LiesIn objects (λ sig uid. None) s }
     ensures made { (name : List ℕ) (objects objects' : Objects) (place : Places) (s : Store) → LiesIn objects place s
         → HeadWritten (directory_bytes (make_soup name s)) objects objects' → LiesIn objects' place (make_soup name s) }
     ensures dropped { (sig : ℕ) (objects objects' : Objects) (place place' : Places) (s : Store) (p : Soup) → LiesIn objects place s → IsTrue (well_formed s) → IsTrue (has_no_large s)
@@ -22,6 +23,11 @@ pub fn changed_stores_lie_in_changed_objects()
         → soup_of sig s ≡ Some p → IsGraph g → now < 4294967296
         → EntryWritten sig (record { uid = p.next_uid; time = now; graph = g }) id (directory_bytes (change_soup p.name (add_entry now g) s)) objects objects' place place'
         → LiesIn objects' place' (change_soup p.name (add_entry now g) s) }
+    ensures declared { (sig : ℕ) (change : Soup → Soup) (objects objects' : Objects) (place : Places) (s : Store) (p : Soup) → LiesIn objects place s → IsTrue (well_formed s) → soup_of sig s ≡ Some p
+        → (change p).sig ≡ p.sig → (change p).entries ≡ p.entries → HeadWritten (directory_bytes (change_soup p.name change s)) objects objects' → LiesIn objects' place (change_soup p.name change s) }
+    ensures replaced { (sig uid id : ℕ) (change : Entry → Entry) (objects objects' : Objects) (place : Places) (s : Store) (p : Soup) (e : Entry) → LiesIn objects place s → IsTrue (well_formed s)
+        → IsTrue (has_no_large s) → soup_of sig s ≡ Some p → entry_of uid p ≡ Some e → (change e).uid ≡ e.uid → IsGraph (change e).graph → (change e).time < 4294967296
+        → EntryRewritten sig uid (change e) id objects objects' place → LiesIn objects' place (change_soup p.name (change_entry uid change) s) }
     ensures removed { (sig uid id : ℕ) (objects objects' : Objects) (place place' : Places) (s : Store) (p : Soup) → LiesIn objects place s → IsTrue (well_formed s) → IsTrue (has_no_large s)
         → soup_of sig s ≡ Some p → EntryErased sig uid id objects objects' place place' → LiesIn objects' place' (change_soup p.name (remove_entry uid) s) }
     ensures moved { (sig uid old to id now : ℕ) (g : RawGraph) (objects objects' : Objects) (place place' : Places) (s : Store) (p q : Soup) → LiesIn objects place s → IsTrue (well_formed s)
@@ -34,12 +40,15 @@ pub fn changed_stores_lie_in_changed_objects()
 
 /// A changed store is well formed where the refusals of the change do not hold.
 pub fn changed_stores_are_well_formed()
+    ensures fresh { (name : List ℕ) (sig : ℕ) → IsTrue (is_name name) → sig ≤ 536870911 → IsTrue (well_formed (record { name = name; sig = sig; next_soup = 0; soups = [] })) }
     ensures made { (name : List ℕ) (s : Store) → IsTrue (well_formed s) → IsTrue (is_name name) → soup_named name s ≡ None → length s.soups < 64 → s.next_soup < 65535
         → IsTrue (well_formed (make_soup name s)) }
     ensures dropped { (name : List ℕ) (s : Store) → IsTrue (well_formed s) → IsTrue (well_formed (drop_soup name s)) }
     ensures added { (sig now : ℕ) (g : RawGraph) (s : Store) (p : Soup) → IsTrue (well_formed s) → soup_of sig s ≡ Some p → p.next_uid < 536870911
         → IsTrue (valid_entry (record { uid = p.next_uid; time = now; graph = g })) → IsTrue (well_formed (change_soup p.name (add_entry now g) s)) }
     ensures removed { (name : List ℕ) (uid : ℕ) (s : Store) → IsTrue (well_formed s) → IsTrue (well_formed (change_soup name (remove_entry uid) s)) }
+    ensures moved { (sig uid to now : ℕ) (s : Store) (p q : Soup) (e : Entry) → IsTrue (well_formed s) → soup_of to s ≡ Some q → q.next_uid < 536870911 → IsIn s sig e
+        → IsTrue (well_formed (change_soup p.name (remove_entry uid) (change_soup q.name (add_entry now e.graph) s))) }
 {}
 
 /// A changed store stays without large binaries, and without indexes and tags.
