@@ -10,3 +10,7 @@ pub mod Placed
 pub mod Whole
 pub mod Totals
 pub mod Made
+pub mod Parts
+pub mod Known
+pub mod Refused
+pub mod Again

@@ -73,11 +73,11 @@ both-pairs R S T f (x ∷ xs) (y ∷ ys) h k = (
   both-pairs R S T f xs ys h.1 k.1,
 )
 
-map-length : {X Y : Type 0} (f : X → Y) (xs : List X) → length (map f xs) ≡ length xs
+pub map-length : {X Y : Type 0} (f : X → Y) (xs : List X) → length (map f xs) ≡ length xs
 map-length f [] = refl
 map-length f (x ∷ xs) = grind (arith, map-length f xs)
 
-map-kept : {X Y : Type 0} (g : X → Y) (f : X → X) → ((x : X) → g (f x) ≡ g x) → (xs : List X) → map g (map f xs) ≡ map g xs
+pub map-kept : {X Y : Type 0} (g : X → Y) (f : X → X) → ((x : X) → g (f x) ≡ g x) → (xs : List X) → map g (map f xs) ≡ map g xs
 map-kept g f h [] = refl
 map-kept g f h (x ∷ xs) = λ i. h x i ∷ map-kept g f h xs i
 
@@ -85,7 +85,7 @@ flat-kept : {X : Type 0} (g : X → List ℕ) (f : X → X) → ((x : X) → g (
 flat-kept g f h [] = refl
 flat-kept g f h (x ∷ xs) = λ i. h x i ++ flat-kept g f h xs i
 
-all-map : {X : Type 0} (test : X → Bool) (f : X → X) (xs : List X) → ((x : X) → Among xs x → test (f x) ≡ true) → list_all test (map f xs) ≡ true
+pub all-map : {X : Type 0} (test : X → Bool) (f : X → X) (xs : List X) → ((x : X) → Among xs x → test (f x) ≡ true) → list_all test (map f xs) ≡ true
 all-map test f xs h = list_all-each test (map f xs) (each-from (λ y. test y ≡ true) (map f xs) (λ y m. let v = among-map f xs y m in ap test (sym v.2) ∙ h v.0 v.1))
 
 rises-from : (low high : ℕ) (ns : List ℕ) → Each (λ n. (low ≤ n) × (n < high)) ns → Pairs (λ m n. m < n) ns → rises low high ns ≡ true

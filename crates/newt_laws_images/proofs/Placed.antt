@@ -32,7 +32,7 @@ all-in s y m =
     let v = among-map (λ (e : Entry). (q.0.sig, e)) q.0.entries y q.2 in
     record { soup = q.0; is_soup = q.1; of_sig = ap {A = ℕ × Entry} {B = ℕ} (λ p. p.0) v.2; is_entry = subst (Among q.0.entries) (ap {A = ℕ × Entry} {B = Entry} (λ p. p.1) v.2) v.1 }
 
-its-soup : (s : Store) (sig : ℕ) (e : Entry) → well_formed s ≡ true → (is : IsIn s sig e) → IsSoup is.soup
+pub its-soup : (s : Store) (sig : ℕ) (e : Entry) → well_formed s ≡ true → (is : IsIn s sig e) → IsSoup is.soup
 its-soup s sig e w is = is-soup is.soup (each-at (λ (p : Soup). valid_soup p ≡ true) s.soups is.soup (each-list_all valid_soup s.soups (is-store s w).soups_fit) is.is_soup)
 
 pub its-id : (s : Store) (sig : ℕ) (e : Entry) → well_formed s ≡ true → (is : IsIn s sig e) → e.uid < is.soup.next_uid

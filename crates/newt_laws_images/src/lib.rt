@@ -7,6 +7,11 @@
 
 mod lying;
 mod readings;
+mod refusals;
 
 pub use lying::{lying_stores_are_read, stores_are_made_of_records};
 pub use readings::{images_hold_one_store, records_are_read_back, stores_are_read_back};
+pub use refusals::{
+    bad_directories_are_refused, bad_records_are_refused, large_stores_are_refused,
+    read_stores_have_their_parts,
+};
