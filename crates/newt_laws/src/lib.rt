@@ -9,14 +9,12 @@ mod graphs;
 mod identities;
 mod queries;
 mod scripts;
-mod stores;
 mod worlds;
 
 pub use graphs::graphs_are_within_limits;
 pub use identities::{aliases_name_their_entry, ids_are_given_once, removed_is_gone};
 pub use queries::{hits_are_found, hits_rise};
 pub use scripts::{commands_have_their_forms, scripts_keep_all};
-pub use stores::costs_add_up;
 pub use worlds::{
     few_commands_move_keys, first_worlds_keep_all, runs_keep_all, signatures_stay_apart,
     stores_stay_valid, worlds_stay_settled,

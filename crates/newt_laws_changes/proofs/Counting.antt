@@ -1,19 +1,17 @@
 -- What a store costs after a change, from what it cost before.
-use Rattle.std.proofs.Common.{arith, ◌≡◌, refl, ap, sym, ◌∙◌, subst, ℕ, ◌+◌, ◌<◌, List, [], ◌∷◌, ◌++◌, true, false, Bool, not, ◌||◌, cond, Some, None, map, filter, length, find, sum_by, ◌==◌}
-use Rattle.std.specs.List.{list_any}
-use Rattle.std.proofs.lemmas.Slice.Eq.{bytes_eq-Decides}
-use Rattle.std.proofs.lemmas.Bool.{eqb-true, and_parts}
-use Rattle.std.proofs.lemmas.Cmp.{nat_list_eq_equiv}
+use Rattle.std.proofs.Common.{arith, ◌≡◌, refl, ap, sym, ◌∙◌, subst, ℕ, ◌+◌, List, [], ◌∷◌, ◌++◌, true, false, Bool, not, cond, Some, None, filter, length, find, sum_by, ◌==◌}
 use Rattle.newt_base.specs.Names.{equal_text}
 use Rattle.newt_graph.specs.Graph.{RawGraph}
-use Rattle.newt_spec_graph.specs.Lists.{Each, Pairs, all_apart, rises}
-use Rattle.newt_spec_graph.proofs.Lists.{each-at, each-from, each-more, pairs-map, pairs-more, rises-pairs, some-same, none-some, both-ways}
+use Rattle.newt_spec_graph.specs.Lists.{Each}
+use Rattle.newt_spec_graph.proofs.Lists.{each-at, each-from, some-same, none-some}
 use Rattle.newt_spec_store.specs.Store.{Store, Soup, Entry, change_first, change_soup, change_entry, make_soup, drop_soup, add_entry, remove_entry, entry_of, soup_named}
 use Rattle.newt_image.specs.Objects.{pages_for}
 use Rattle.newt_spec_store.specs.Cost.{cost, directory_bytes, soup_bytes, entry_pages, soup_pages}
 use Rattle.newt_spec_store.specs.Valid.{well_formed, valid_soup}
-use Rattle.newt_laws.proofs.Costs.{total, sum-total, cost-total, soup-length, directory-length}
-use Rattle.newt_laws.proofs.Soups.{is-store, is-soup, found-good}
+use Rattle.newt_laws_images.proofs.Stores.{is-store, is-soup}
+use Rattle.newt_laws_changes.proofs.Chosen.{OnePasses, one-uid, one-name}
+use Rattle.newt_laws_changes.proofs.Costs.{total, sum-total, cost-total, soup-length, directory-length}
+use Rattle.newt_laws_changes.proofs.Soups.{found-good}
 
 -- ---- sums
 
@@ -28,10 +26,6 @@ total-change f test change (y ∷ xs) x h = go (total-change f test change xs x)
         → total f (cond b (change y ∷ xs) (y ∷ change_first test change xs)) + f x ≡ (f y + total f xs) + f (change x)
     go more true e = subst (λ z. (f (change y) + total f xs) + f z ≡ (f y + total f xs) + f (change z)) (some-same y x e) (omega arith)
     go more false e = let k = more e in omega (arith, k)
-
--- two that both pass do not stand in the list
-abbrev OnePasses : {X : Type 0} → (X → Bool) → List X → Type 0
-OnePasses test xs = Pairs (λ a b. test a ≡ true → test b ≡ true → ⊥) xs
 
 none-passes : {X : Type 0} (f : X → ℕ) (test : X → Bool) (xs : List X) → Each (λ b. test b ≡ true → ⊥) xs → total f (filter (λ x. not (test x)) xs) ≡ total f xs
 unfolding total
@@ -81,12 +75,6 @@ soup-replaced uid change p e found =
     let b = pages-total p in
     omega (arith, k, a, b)
 
-one-uid : (uid : ℕ) (p : Soup) → rises 0 p.next_uid (map (λ (e : Entry). e.uid) p.entries) ≡ true → OnePasses (λ (e : Entry). e.uid == uid) p.entries
-one-uid uid p rising =
-    pairs-more (λ (a b : Entry). a.uid < b.uid) (λ (a b : Entry). (a.uid == uid) ≡ true → (b.uid == uid) ≡ true → ⊥) p.entries
-    (λ a b _ _ less x y. let k = eqb-true a.uid uid x in let l = eqb-true b.uid uid y in omega (arith, k, l))
-    (pairs-map (λ m n. m < n) (λ (e : Entry). e.uid) p.entries (rises-pairs 0 p.next_uid (map (λ (e : Entry). e.uid) p.entries) rising))
-
 pub soup-removed : (uid : ℕ) (p : Soup) (e : Entry) → valid_soup p ≡ true → entry_of uid p ≡ Some e → soup_pages (remove_entry uid p) + entry_pages e ≡ soup_pages p
 soup-removed uid p e good found =
     let k = total-without entry_pages (λ (e : Entry). e.uid == uid) p.entries e (one-uid uid p (is-soup p good).uids) found in
@@ -108,31 +96,6 @@ directory-kept name change s p found same =
     let a = directory-length (change_soup name change s) in
     let b = directory-length s in
     omega (arith, k, a, b, same)
-
-text-same : (a b : List ℕ) → equal_text a b ≡ true → a ≡ b
-text-same a b h = (bytes_eq-Decides a b).0 h
-
-none-agrees : (name : List ℕ) (ps : List Soup) → not (list_any (equal_text name) (map (λ (p : Soup). p.name) ps)) ≡ true → Each (λ (q : Soup). equal_text name q.name ≡ true → ⊥) ps
-none-agrees name [] h = tt
-none-agrees name (q ∷ ps) h = go (equal_text name q.name) h (none-agrees name ps)
-  where
-    go : (b : Bool) → not (b || list_any (equal_text name) (map (λ (p : Soup). p.name) ps)) ≡ true
-        → (not (list_any (equal_text name) (map (λ (p : Soup). p.name) ps)) ≡ true → Each (λ (q : Soup). equal_text name q.name ≡ true → ⊥) ps)
-        → (b ≡ true → ⊥) × Each (λ (q : Soup). equal_text name q.name ≡ true → ⊥) ps
-    go true k more = absurd (both-ways k)
-    go false k more = (both-ways, more k)
-
-names-apart : (name : List ℕ) (ps : List Soup) → all_apart equal_text (map (λ (p : Soup). p.name) ps) ≡ true → OnePasses (λ (p : Soup). equal_text p.name name) ps
-names-apart name [] h = tt
-names-apart name (p ∷ ps) h =
-    let parts = and_parts (not (list_any (equal_text p.name) (map (λ (p : Soup). p.name) ps))) (all_apart equal_text (map (λ (p : Soup). p.name) ps)) h in (
-      each-more (λ (q : Soup). equal_text p.name q.name ≡ true → ⊥) (λ (q : Soup). equal_text p.name name ≡ true → equal_text q.name name ≡ true → ⊥) ps
-          (λ q apart x y. apart (rw (text-same p.name name x, text-same q.name name y) (nat_list_eq_equiv.refl name))) (none-agrees p.name ps parts.0),
-      names-apart name ps parts.1,
-    )
-
-one-name : (name : List ℕ) (s : Store) → well_formed s ≡ true → OnePasses (λ (p : Soup). equal_text p.name name) s.soups
-one-name name s w = names-apart name s.soups (is-store s w).names_apart
 
 -- ---- what a store costs
 

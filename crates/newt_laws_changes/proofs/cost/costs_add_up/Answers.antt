@@ -1,5 +1,5 @@
-use Rattle.newt_laws.proofs.Counting.{cost-added, cost-replaced, cost-removed, cost-declared, cost-made, cost-dropped}
-use Rattle.newt_laws.proofs.stores.costs_add_up.Goals as goal
+use Rattle.newt_laws_changes.proofs.Counting.{cost-added, cost-replaced, cost-removed, cost-declared, cost-made, cost-dropped}
+use Rattle.newt_laws_changes.proofs.cost.costs_add_up.Goals as goal
 
 pub returns-clause-added : goal.returns-clause-added
 returns-clause-added c = cost-added
