@@ -1,0 +1,22 @@
+-- The way of a change: planned, committed, taken over.
+use Rattle.std.specs.Prelude.{◌≡◌, ℕ, List, Some}
+use Rattle.newt_image.specs.Pages.{Pages, Change, pages}
+use Rattle.newt_image.specs.Objects.{Extent, IsTableOf, AreObjectsOf}
+use Rattle.newt_objects.specs.Extents.{IsUnnamed}
+use Rattle.newt_objects.specs.Held.{Held, held, Texts, WouldHold, IsUnplanned}
+
+-- The image holds pages, and these are their objects.
+pub record HoldsObjects (image : List ℕ) (texts : Texts) : Type 0 where
+  pub live : Pages
+  pub of_image : pages image ≡ Some live
+  pub are : AreObjectsOf live texts
+
+-- no page of an object that has no plan is named
+abbrev pub NamesPlanned : Held → Change → Type 0
+NamesPlanned objects change = (id : ℕ) (x : Extent) → held objects id ≡ Some x → IsUnplanned objects id → IsUnnamed x change
+
+-- What is planned so far: once it is committed and taken over, the live pages hold these objects; until then they hold those that the table says.
+pub record IsUnderWay (objects : Held) (change : Change) (live : Pages) (texts : Texts) : Type 0 where
+  pub is_table : IsTableOf live (held objects)
+  pub would : WouldHold objects change live texts
+  pub apart : NamesPlanned objects change
