@@ -24,6 +24,7 @@ use Rattle.newt_objects.specs.Changing.{HoldsObjects, IsUnderWay}
 use Rattle.newt_objects.proofs.Numbers.{free-not_held}
 use Rattle.newt_objects.proofs.Plans.{lookup-push, slice_get-among, one_part}
 use Rattle.newt_objects.proofs.Same.{texts_by, table_kept}
+use Rattle.newt_objects.proofs.TextsOf.{texts_of}
 
 -- Before anything is planned.
 planned-none : (objects : Held) → objects.plans ≡ [] → (id : ℕ) → planned objects id ≡ held objects id
@@ -82,6 +83,10 @@ still_unnamed old new more gone q puts deletes none other apart =
 pub numbers_written : (part id : ℕ) (bytes ns : List ℕ) → map_list (λ (put : ℕ × List ℕ). put.0) (written_parts part id bytes ns) ≡ ns
 numbers_written part id bytes [] = refl
 numbers_written part id bytes (n ∷ ns) = ap (λ (l : List ℕ). n ∷ l) (numbers_written (suc part) id bytes ns)
+
+pub written_count : (part id : ℕ) (bytes ns : List ℕ) → length (written_parts part id bytes ns) ≡ length ns
+written_count part id bytes [] = refl
+written_count part id bytes (n ∷ ns) = ap suc (written_count (suc part) id bytes ns)
 
 -- a page of one object is none of another's
 not_its : (live : Pages) (table : Table) → IsTableOf live table → (id other k number : ℕ) (x : Extent) → (other ≡ id → ⊥) → table other ≡ Some x → slice_get x.numbers k ≡ Some number
@@ -204,3 +209,16 @@ told_table told table numbers unit outside live are t is = subst (λ (live : Pag
 -- the bytes that `read` gives are the object's
 pub read_text : (objects : Held) (live : Pages) (texts : Texts) (id : ℕ) (bytes : List ℕ) → IsTableOf live (held objects) → AreObjectsOf live texts → Some bytes ≡ option_map (joined live) (held objects id) → map.get texts id ≡ Some bytes
 read_text objects live texts id bytes is are read = texts_by live (held objects) texts are is id ∙ sym read
+
+-- What `scan` finds on a told host: the image holds these objects.
+pub told_holds : (told : Bool) (table : Table) (numbers : Numbers) (unit : ℕ) (outside : Outside) → AreOf told table numbers unit outside → IsTrue told → (texts : Texts) × HoldsObjects (image unit outside.now) texts
+told_holds told table numbers unit outside are t =
+    let w = texts_of are.live table are.is_table in
+    (w.0, record { live = are.live; of_image = are.are.of_image t; are = w.1 })
+
+-- Nothing is planned yet, on a told host or not.
+pub begin_under_way : (told : Bool) (objects : Held) (numbers : Numbers) (unit : ℕ) (outside : Outside) → objects.plans ≡ [] → (are : AreOf told (held objects) numbers unit outside)
+    → (texts : Texts) × AreObjectsOf are.live texts × IsUnderWay objects no_change are.live texts
+begin_under_way told objects numbers unit outside none are =
+    let w = texts_of are.live (held objects) are.is_table in
+    (w.0, w.1, start_under_way objects are.live w.0 none are.is_table w.1)
