@@ -132,7 +132,7 @@ module _ (old new : Held) (change change' : Change) (id : ℕ) (live : Pages) (t
 contains_insert : (s : Numbers) (n q : ℕ) → set.contains (set.insert s n) q ≡ ((q == n) || set.contains s q)
 contains_insert s n q = set.contains-insert nat_cmp_total s n q ∙ ap (λ (b : Bool). b || set.contains s q) (same_test q n)
 
-contains_remove : (s : Numbers) (n q : ℕ) → set.contains (set.remove s n) q ≡ (not (q == n) && set.contains s q)
+pub contains_remove : (s : Numbers) (n q : ℕ) → set.contains (set.remove s n) q ≡ (not (q == n) && set.contains s q)
 contains_remove s n q = set.contains-remove nat_cmp_total s n q ∙ ap (λ (b : Bool). not b && set.contains s q) (same_test q n)
 
 put_named : (puts : List (ℕ × List ℕ)) (m : Pages) (s : Numbers) → ((q : ℕ) → map.contains_key m q ≡ set.contains s q) → (q : ℕ) → map.contains_key (with_puts puts m) q ≡ set.contains (with_put_numbers puts s) q
@@ -143,7 +143,7 @@ put_named (p ∷ puts) m s same q = put_named puts (map.insert m p.0 p.1) (set.i
       some_cond true x o = refl
       some_cond false x o = refl
 
-gone_named : (ns : List ℕ) (m : Pages) (s : Numbers) → ((q : ℕ) → map.contains_key m q ≡ set.contains s q) → (q : ℕ) → map.contains_key (without_numbers ns m) q ≡ set.contains (without_deleted ns s) q
+pub gone_named : (ns : List ℕ) (m : Pages) (s : Numbers) → ((q : ℕ) → map.contains_key m q ≡ set.contains s q) → (q : ℕ) → map.contains_key (without_numbers ns m) q ≡ set.contains (without_deleted ns s) q
 gone_named [] m s same q = same q
 gone_named (n ∷ ns) m s same q = gone_named ns (map.remove m n) (set.remove s n)
     (λ k. ap is_some (get_remove m n k) ∙ none_cond (k == n) (map.get m k) ∙ ap (λ (b : Bool). not (k == n) && b) (same k) ∙ sym (contains_remove s n k)) q where

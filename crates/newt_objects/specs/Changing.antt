@@ -1,7 +1,8 @@
 -- The way of a change: planned, committed, taken over.
-use Rattle.std.specs.Prelude.{◌≡◌, ℕ, List, Some}
+use Rattle.std.specs.Prelude.{◌≡◌, ℕ, List, length, sum_by, Some}
+use Rattle.std.specs.FinMap as map
 use Rattle.newt_image.specs.Pages.{Pages, Change, pages}
-use Rattle.newt_image.specs.Objects.{Extent, IsTableOf, AreObjectsOf}
+use Rattle.newt_image.specs.Objects.{Extent, IsTableOf, AreObjectsOf, pages_for}
 use Rattle.newt_objects.specs.Extents.{IsUnnamed}
 use Rattle.newt_objects.specs.Held.{Held, held, Texts, WouldHold, IsUnplanned}
 
@@ -20,3 +21,11 @@ pub record IsUnderWay (objects : Held) (change : Change) (live : Pages) (texts :
   pub is_table : IsTableOf live (held objects)
   pub would : WouldHold objects change live texts
   pub apart : NamesPlanned objects change
+
+-- each page has 512 bytes
+abbrev pub AreWhole : Pages → Type 0
+AreWhole live = (number : ℕ) (page : List ℕ) → map.get live number ≡ Some page → length page ≡ 512
+
+-- how many pages the objects have, all together
+abbrev pub total_pages : Texts → ℕ
+total_pages texts = sum_by (λ e. pages_for (length e.1)) (map.entries texts)
