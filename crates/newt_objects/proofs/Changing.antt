@@ -1,5 +1,5 @@
 -- The way of a change: planned, committed, taken over; and what a crash leaves meanwhile.
-use Rattle.std.proofs.Common.{IsTrue, ◌≡◌, ◌⊎◌, inl, inr, ℕ, zero, suc, ◌==◌, Bool, true, false, cond, not, ◌&&◌, ◌||◌, List, [], ◌∷◌, ◌++◌, length, take, map as map_list, slice_get, Option, Some, None, refl, sym, ◌∙◌, ap, subst, ⊎_elim}
+use Rattle.std.proofs.Common.{IsTrue, ◌≡◌, ◌⊎◌, inl, inr, ℕ, suc, ◌==◌, Bool, true, false, cond, not, ◌&&◌, ◌||◌, List, [], ◌∷◌, ◌++◌, length, take, map as map_list, slice_get, Option, Some, None, refl, sym, ◌∙◌, ap, subst, ⊎_elim}
 use Rattle.std.specs.List.{list_any}
 use Rattle.std.specs.Map.{lookup}
 use Rattle.std.specs.Cmp.{nat_cmp_total}
@@ -17,7 +17,7 @@ use Rattle.newt_pagebook.specs.Batch.{names, no_change}
 use Rattle.newt_pagebook.specs.Book.{Numbers, with_put_numbers, without_deleted, changed_numbers, ReadsChanged, IsBeforeOrAfter}
 use Rattle.newt_pagebook.proofs.Tests.{some_inj, true_or_false, neither, same_test, equal_true, equal_false}
 use Rattle.newt_pagebook.proofs.Changes.{names_parts, get_insert, get_remove}
-use Rattle.newt_objects.specs.Extents.{IsUnnamed, numbers_of}
+use Rattle.newt_objects.specs.Extents.{numbers_of}
 use Rattle.newt_objects.specs.Headers.{ArePages}
 use Rattle.newt_objects.specs.Held.{Held, held, planned, after_plan, free_numbers, new_extent, AreOf, Texts, WouldHold, IsUnplanned}
 use Rattle.newt_objects.specs.Changing.{HoldsObjects, IsUnderWay}

@@ -1,15 +1,15 @@
 -- As many pages are live as their objects have.
-use Rattle.std.proofs.Common.{◌≡◌, ◌⊎◌, ℕ, zero, suc, ◌+◌, ◌-◌, ◌*◌, ◌<◌, ◌≤◌, ◌==◌, ◌&&◌, ◌||◌, Bool, true, false, cond, not, List, [], ◌∷◌, ◌++◌, length, take, drop, slice_get, Option, Some, None, IsSome, refl, sym, ◌∙◌, ap, subst, arith, ⊎_elim, length-take, length-drop, length-append}
+use Rattle.std.proofs.Common.{◌≡◌, ℕ, zero, suc, ◌+◌, ◌-◌, ◌*◌, ◌≤◌, ◌==◌, ◌&&◌, ◌||◌, Bool, true, false, cond, not, List, [], ◌∷◌, length, drop, slice_get, Option, Some, None, refl, sym, ◌∙◌, ap, subst, arith, ⊎_elim, length-take, length-drop, length-append}
 use Rattle.std.specs.List.{list_any, flat_map, sum_by}
 use Rattle.std.specs.Prelude.{T}
-use Rattle.std.specs.Ordering.{nat_cmp, eq_by_cmp, is_lt, is_eq}
+use Rattle.std.specs.Ordering.{nat_cmp, is_lt}
 use Rattle.std.specs.Cmp.{nat_cmp_total, tied_itself}
 use Rattle.std.specs.FinMap as map
 use Rattle.std.specs.FinMap.Entries.{below_all}
 use Rattle.std.specs.FinSet as set
 use Rattle.std.specs.Option.{option_map, unwrap_or, is_some}
 use Rattle.std.proofs.lemmas.List.Sums.{sum_by-cons}
-use Rattle.newt_image.specs.Pages.{Pages, Change, without_numbers, after, page_data, object_id}
+use Rattle.newt_image.specs.Pages.{Pages, Change, without_numbers, after, object_id}
 use Rattle.newt_image.specs.Objects.{Extent, Table, IsTableOf, AreObjectsOf, pages_for, joined, data_at}
 use Rattle.newt_pagebook.specs.Batch.{IsBatch}
 use Rattle.newt_pagebook.specs.Book.{Numbers, without_deleted, changed_numbers}
@@ -30,9 +30,9 @@ len_without (n ∷ ns) s there once =
     let some : 1 ≤ set.len s = not_empty s n here in
     let less : set.len (set.remove s n) ≡ set.len s - 1 = set.len-remove nat_cmp_total s n ∙ ap (λ (b : Bool). cond b (set.len s - 1) (set.len s)) here in
     let rest = len_without ns (set.remove s n)
-        (λ k m e. contains_remove s n m ∙ ap (λ (b : Bool). not b && set.contains s m) (equal_false m n (λ same.
-        absurd (let twice : suc k ≡ zero = once (suc k) zero m e (ap Some (sym same)) in omega (arith, twice)))) ∙ there (suc k) m e)
-        (λ k l m e f. (let next : suc k ≡ suc l = once (suc k) (suc l) m e f in omega (arith, next))) in
+    (λ k m e. contains_remove s n m ∙ ap (λ (b : Bool). not b && set.contains s m) (equal_false m n (λ same.
+    absurd (let twice : suc k ≡ zero = once (suc k) zero m e (ap Some (sym same)) in omega (arith, twice)))) ∙ there (suc k) m e)
+    (λ k l m e f. (let next : suc k ≡ suc l = once (suc k) (suc l) m e f in omega (arith, next))) in
     omega (arith, rest, less, some) where
       not_empty : (s : Numbers) (n : ℕ) → set.contains s n ≡ true → 1 ≤ set.len s
       not_empty s n here = cases (set.len s) refl where
@@ -62,9 +62,9 @@ not_again : (id : ℕ) (es : List (ℕ × List ℕ)) → T (below_all nat_cmp id
 not_again id [] h = refl
 not_again id (e ∷ es) h = ⊎_elim
     (λ (t : (id == e.0) ≡ true). absurd (
-      let low : T (is_lt (nat_cmp id e.0)) = first_of _ _ h in
-      let tied : nat_cmp id e.0 ≡ nat_cmp id id = ap (nat_cmp id) (sym (is_same id e.0 t)) in
-      subst T (ap is_lt (tied ∙ tied_itself nat_cmp_total id)) low))
+    let low : T (is_lt (nat_cmp id e.0)) = first_of _ _ h in
+    let tied : nat_cmp id e.0 ≡ nat_cmp id id = ap (nat_cmp id) (sym (is_same id e.0 t)) in
+    subst T (ap is_lt (tied ∙ tied_itself nat_cmp_total id)) low))
     (λ (f : (id == e.0) ≡ false). ap (λ (b : Bool). cond b (Some e.1) (map.find nat_cmp id es)) (same_test id e.0 ∙ f) ∙ not_again id es (second_of _ _ h))
     (true_or_false (id == e.0))
 
@@ -120,9 +120,9 @@ le_pages n = omega arith
 pub joined_size : (live : Pages) (table : Table) (id : ℕ) (x : Extent) → AreWhole live → IsTableOf live table → table id ≡ Some x → length (joined live x) ≡ x.length
 joined_size live table id x whole is there =
     let size = data_size live x.numbers (λ k n at.
-        let p = is.parts id k n x there at in
-        let part : data_at live n ≡ drop 12 p.0 = ap (λ (o : Option (List ℕ)). drop 12 (unwrap_or o [])) p.1 in
-        omega (arith, ap (λ (l : List ℕ). length l) part, length-drop 12 p.0, whole n p.0 p.1)) in
+    let p = is.parts id k n x there at in
+    let part : data_at live n ≡ drop 12 p.0 = ap (λ (o : Option (List ℕ)). drop 12 (unwrap_or o [])) p.1 in
+    omega (arith, ap (λ (l : List ℕ). length l) part, length-drop 12 p.0, whole n p.0 p.1)) in
     omega (arith, length-take x.length (flat_map (data_at live) x.numbers), size, is.whole id x there, le_pages x.length)
 
 -- As many pages are live as the objects have.

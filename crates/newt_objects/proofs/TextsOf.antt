@@ -1,5 +1,5 @@
 -- Pages that have a table have a map of objects.
-use Rattle.std.proofs.Common.{◌≡◌, ◌⊎◌, ℕ, zero, suc, ◌≤◌, ◌==◌, Bool, true, false, cond, ◌||◌, List, [], ◌∷◌, length, map as map_list, slice_get, get_or, Option, Some, None, refl, sym, ◌∙◌, ap, subst, arith, ⊎_elim}
+use Rattle.std.proofs.Common.{◌≡◌, ℕ, ◌≤◌, ◌==◌, Bool, true, false, cond, ◌||◌, List, [], ◌∷◌, length, map as map_list, get_or, Option, Some, None, refl, sym, ◌∙◌, ap, arith, ⊎_elim}
 use Rattle.std.specs.List.{list_any}
 use Rattle.std.specs.Ordering.{nat_cmp, eq_by_cmp}
 use Rattle.std.specs.Cmp.{nat_cmp_total}
@@ -8,7 +8,7 @@ use Rattle.std.specs.Option.{option_map, unwrap_or, is_some}
 use Rattle.std.proofs.lemmas.Option.{slice_get-get_or}
 use Rattle.newt_image.specs.Pages.{Pages, object_id}
 use Rattle.newt_image.specs.Objects.{Extent, Table, IsTableOf, AreObjectsOf, pages_for, joined}
-use Rattle.newt_pagebook.proofs.Tests.{some_inj, true_or_false, the_some, is_same, equal_true, same_test}
+use Rattle.newt_pagebook.proofs.Tests.{true_or_false, the_some, is_same, equal_true, same_test}
 use Rattle.newt_objects.specs.Held.{Texts}
 
 abbrev page_of : Pages → ℕ → List ℕ
