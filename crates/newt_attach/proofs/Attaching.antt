@@ -1,5 +1,5 @@
 -- One name after another.
-use Rattle.std.proofs.Common.{◌≡◌, ◌≢◌, ◌⊎◌, inl, inr, ℕ, zero, suc, ◌+◌, ◌<◌, ◌≤◌, Bool, true, false, IsTrue, IsFalse, List, [], ◌∷◌, ◌++◌, length, map, Option, Some, None, refl, sym, ◌∙◌, ap, subst, get_or, set, arith}
+use Rattle.std.proofs.Common.{◌≡◌, ◌≢◌, ◌⊎◌, inl, inr, ℕ, zero, suc, ◌+◌, ◌<◌, ◌≤◌, Bool, true, false, IsTrue, IsFalse, List, [], ◌∷◌, ◌++◌, length, map, Option, Some, None, refl, sym, ◌∙◌, ap, subst, get_or, set, replicate, arith}
 use Rattle.std.specs.Prelude.{slice_get, is_some, option_map}
 use Rattle.std.proofs.lemmas.Bool.{cases_lt}
 use Rattle.std.proofs.lemmas.List.{get_or-set_same, get_or-set_other}
@@ -7,7 +7,7 @@ use Rattle.std.proofs.lemmas.Option.{slice_get_past, slice_get-map, slice_get_re
 use Rattle.newt_host.specs.Meanings.{known}
 use Rattle.newt_host.specs.Moments.{Attached, On, Moment, Change, Extends, changes, output}
 use Rattle.newt_host.specs.Outside.{Outside, Attaches, SameCards, SameCounts}
-use Rattle.newt_host.proofs.Extending.{extends-refl, extends-one, extends-trans}
+use Rattle.newt_host.proofs.Extending.{extends-refl, extends-trans}
 use Rattle.newt_host.proofs.Moments.{changes-same, changes-other}
 use Rattle.newt_attach.specs.Named.{AreDistinct, AreAttached, if_known}
 
@@ -73,14 +73,14 @@ module _ (told : Bool) (names : List (List ℕ)) (done : ℕ) (old mid now : Out
 
   -- there is a device of the next name
   attaching_yes : (IsTrue told → changes done mid.now ≡ []) → Attaches told done name mid now → Attaching told names (done + 1) old now
-  attaching_yes fresh yes = record {
-    devices = λ n. yes.devices n ∙ a.devices n;
-    later = λ unit le. yes.other_cards unit (λ e. absurd (omega (arith, le, e))) ∙ a.later unit (omega (arith, le));
+  attaching_yes fresh fits = record {
+    devices = λ n. fits.devices n ∙ a.devices n;
+    later = λ unit le. fits.other_cards unit (λ e. absurd (omega (arith, le, e))) ∙ a.later unit (omega (arith, le));
     own = λ unit other is. own unit other is (equal_or_not unit done);
     cards = λ tells unit less. cards tells unit less (equal_or_not unit done);
     begins = λ tells unit other is. begins tells unit other is (equal_or_not unit done);
-    extends = λ tells. extends-trans (a.extends tells) (subst (λ (m : Moment). Extends mid.now m) (sym (yes.moment tells).2) (extends-one (On done (Attached (yes.moment tells).0)) mid.now));
-    quiet = λ tells. ap output (yes.moment tells).2 ∙ a.quiet tells;
+    extends = λ tells. extends-trans (a.extends tells) (record { more = On done (Attached (fits.moment tells).0) ∷ []; is = (fits.moment tells).2 });
+    quiet = λ tells. ap output (fits.moment tells).2 ∙ a.quiet tells;
     input = input ∙ a.input;
     in_faults = in_faults ∙ a.in_faults;
     out_faults = out_faults ∙ a.out_faults;
@@ -88,29 +88,29 @@ module _ (told : Bool) (names : List (List ℕ)) (done : ℕ) (old mid now : Out
   }
     where
       named : (unit : ℕ) (other : List ℕ) → now.card unit ≡ Some other → unit ≡ done → name ≡ other
-      named unit other is e = let there : Some name ≡ Some other = sym yes.card ∙ (ap (λ (u : ℕ). now.card u) (sym e) ∙ is) in cc
+      named unit other is e = let there : Some name ≡ Some other = sym fits.card ∙ (ap (λ (u : ℕ). now.card u) (sym e) ∙ is) in cc
 
       own : (unit : ℕ) (other : List ℕ) → now.card unit ≡ Some other → (unit ≡ done) ⊎ (unit ≢ done) → slice_get names unit ≡ Some other
       own unit other is (inl e) = ap (λ (u : ℕ). slice_get names u) e ∙ (at ∙ ap Some (named unit other is e))
-      own unit other is (inr differ) = a.own unit other (sym (yes.other_cards unit differ) ∙ is)
+      own unit other is (inr differ) = a.own unit other (sym (fits.other_cards unit differ) ∙ is)
 
       cards : IsTrue told → (unit : ℕ) → unit < done + 1 → (unit ≡ done) ⊎ (unit ≢ done) → now.card unit ≡ if_known old (slice_get names unit)
       cards tells unit less (inl e) =
-          ap (λ (u : ℕ). now.card u) e ∙ (yes.card ∙ sym (ap (λ (u : ℕ). if_known old (slice_get names u)) e ∙ (ap (if_known old) at ∙ ap (option_map (λ (bytes : List ℕ). name)) (sym (a.devices name) ∙ (yes.moment tells).1))))
-      cards tells unit less (inr differ) = yes.other_cards unit differ ∙ a.cards tells unit (omega (arith, less, differ))
+          ap (λ (u : ℕ). now.card u) e ∙ (fits.card ∙ sym (ap (λ (u : ℕ). if_known old (slice_get names u)) e ∙ (ap (if_known old) at ∙ ap (option_map (λ (bytes : List ℕ). name)) (sym (a.devices name) ∙ (fits.moment tells).1))))
+      cards tells unit less (inr differ) = fits.other_cards unit differ ∙ a.cards tells unit (omega (arith, less, differ))
 
       begins : IsTrue told → (unit : ℕ) (other : List ℕ) → now.card unit ≡ Some other → (unit ≡ done) ⊎ (unit ≢ done)
           → (bytes : List ℕ) × (old.devices other ≡ Some bytes) × (changes unit now.now ≡ Attached bytes ∷ [])
       begins tells unit other is (inl e) =
-          let there = yes.moment tells in (
+          let there = fits.moment tells in (
             there.0,
             ap old.devices (sym (named unit other is e)) ∙ (sym (a.devices name) ∙ there.1),
             ap (λ (m : Moment). changes unit m) there.2 ∙ (ap (λ (u : ℕ). changes u (On done (Attached there.0) ∷ mid.now)) e
             ∙ (changes-same done (Attached there.0) mid.now ∙ ap (λ (cs : List Change). Attached there.0 ∷ cs) (fresh tells))),
           )
       begins tells unit other is (inr differ) =
-          let was = a.begins tells unit other (sym (yes.other_cards unit differ) ∙ is) in
-          let there = yes.moment tells in
+          let was = a.begins tells unit other (sym (fits.other_cards unit differ) ∙ is) in
+          let there = fits.moment tells in
           (was.0, was.1, ap (λ (m : Moment). changes unit m) there.2 ∙ (changes-other done unit (Attached there.0) mid.now differ ∙ was.2))
 
   -- there is none
@@ -138,25 +138,25 @@ module _ (told : Bool) (names : List (List ℕ)) (done : ℕ) (old mid now : Out
   -- whether there is one or not
   pub attaching_next : (answer : Bool) → (IsTrue told → changes done mid.now ≡ []) → (IsTrue told → answer ≡ known mid name) → (IsTrue answer → Attaches told done name mid now)
       → (IsFalse answer → SameCards mid now × (IsTrue told → now.now ≡ mid.now)) → Attaching told names (done + 1) old now
-  attaching_next true fresh is yes no = attaching_yes fresh (yes refl)
-  attaching_next false fresh is yes no = let none = no refl in attaching_no (λ tells. sym (is tells)) none.0 none.1
+  attaching_next true fresh is fits lacks = attaching_yes fresh (fits refl)
+  attaching_next false fresh is fits lacks = let none = lacks refl in attaching_no (λ tells. sym (is tells)) none.0 none.1
 
   -- which units have a device
   pub flags_next : (answer : Bool) (flags : List Bool) → (IsTrue answer → Attaches told done name mid now) → (IsFalse answer → SameCards mid now × (IsTrue told → now.now ≡ mid.now))
       → done < length flags → ((unit : ℕ) → get_or flags unit false ≡ is_some (mid.card unit)) → (unit : ℕ) → get_or (set flags done answer) unit false ≡ is_some (now.card unit)
-  flags_next answer flags yes no within before unit = go (equal_or_not unit done)
+  flags_next answer flags fits lacks within before unit = go (equal_or_not unit done)
     where
       here : (b : Bool) → (IsTrue b → Attaches told done name mid now) → (IsFalse b → SameCards mid now × (IsTrue told → now.now ≡ mid.now)) → b ≡ is_some (now.card done)
-      here true yes no = sym (ap is_some (yes refl).card)
-      here false yes no = sym (ap is_some ((no refl).0.card done ∙ a.later done (omega arith)))
+      here true fits lacks = sym (ap is_some (fits refl).card)
+      here false fits lacks = sym (ap is_some ((lacks refl).0.card done ∙ a.later done (omega arith)))
 
       there : (b : Bool) → (IsTrue b → Attaches told done name mid now) → (IsFalse b → SameCards mid now × (IsTrue told → now.now ≡ mid.now)) → unit ≢ done → now.card unit ≡ mid.card unit
-      there true yes no differ = (yes refl).other_cards unit differ
-      there false yes no differ = (no refl).0.card unit
+      there true fits lacks differ = (fits refl).other_cards unit differ
+      there false fits lacks differ = (lacks refl).0.card unit
 
       go : (unit ≡ done) ⊎ (unit ≢ done) → get_or (set flags done answer) unit false ≡ is_some (now.card unit)
-      go (inl e) = ap (λ (u : ℕ). get_or (set flags done answer) u false) e ∙ (get_or-set_same flags done answer false within ∙ (here answer yes no ∙ ap (λ (u : ℕ). is_some (now.card u)) (sym e)))
-      go (inr differ) = get_or-set_other flags done unit answer false differ ∙ (before unit ∙ ap is_some (sym (there answer yes no differ)))
+      go (inl e) = ap (λ (u : ℕ). get_or (set flags done answer) u false) e ∙ (get_or-set_same flags done answer false within ∙ (here answer fits lacks ∙ ap (λ (u : ℕ). is_some (now.card u)) (sym e)))
+      go (inr differ) = get_or-set_other flags done unit answer false differ ∙ (before unit ∙ ap is_some (sym (there answer fits lacks differ)))
 
 -- all of them have been attached
 pub attaching_all : (told : Bool) (names : List (List ℕ)) (old now : Outside) → Attaching told names (length names) old now → AreAttached told names old now
@@ -174,17 +174,14 @@ attaching_all told names old now a = record {
   counts = a.counts;
 }
 
-false_first : (flags : List Bool) → ((unit : ℕ) → get_or flags unit false ≡ false) → (unit : ℕ) → get_or (false ∷ flags) unit false ≡ false
-false_first flags rest zero = refl
-false_first flags rest (suc unit) = rest unit
-
-false_none : (unit : ℕ) → get_or [] unit false ≡ false
-false_none unit = refl
+all_false : (n unit : ℕ) → get_or (replicate n false) unit false ≡ false
+all_false zero unit = refl
+all_false (suc n) zero = refl
+all_false (suc n) (suc unit) = all_false n unit
 
 -- no unit has a device yet
 pub flags_start : (old : Outside) → ((unit : ℕ) → old.card unit ≡ None) → (unit : ℕ) → get_or (false ∷ false ∷ false ∷ false ∷ false ∷ false ∷ false ∷ false ∷ []) unit false ≡ is_some (old.card unit)
-flags_start old free unit =
-    false_first _ (false_first _ (false_first _ (false_first _ (false_first _ (false_first _ (false_first _ (false_first _ false_none))))))) unit ∙ sym (ap is_some (free unit))
+flags_start old free unit = all_false 8 unit ∙ sym (ap is_some (free unit))
 
 -- the name at a place
 pub name_at : {A : Type 0} (view : A → List ℕ) (names : List A) (number : ℕ) (name : A) (text : List ℕ) → number < length names → name ≡ get_or names number name → text ≡ view name
