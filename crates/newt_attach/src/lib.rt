@@ -5,5 +5,7 @@
 #![tactic(auto)]
 
 mod attach;
+mod laws;
 
 pub use attach::attach_names;
+pub use laws::nothing_happens_before;
