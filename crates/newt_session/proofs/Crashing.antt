@@ -1,7 +1,6 @@
 -- From what a crash leaves in one command to what it leaves in a script.
 use Rattle.std.proofs.Common.{◌≡◌, ◌⊎◌, inl, inr, ℕ, zero, suc, ◌+◌, ◌-◌, ◌<◌, ◌≤◌, List, [], ◌∷◌, ◌++◌, length, map, take, Option, Some, None, MatchOption, refl, sym, ◌∙◌, ap, subst, append_assoc, append-nil, arith}
-use Rattle.std.proofs.lemmas.List.{append_cancel_left, length-append}
-use Rattle.std.proofs.Math.Numerals.{add-one}
+use Rattle.std.proofs.lemmas.List.{length-append}
 use Rattle.newt_host.specs.Moments.{Moment, Change, LeftBy, MayLeave, Always, here, changes, output as printed}
 use Rattle.newt_host.specs.Outside.{PrintsSome}
 use Rattle.newt_host.proofs.Moments.{Always-append, Always-map}
@@ -214,11 +213,12 @@ module _ (answer : Answers) (reads : List ℕ → Option Store) (start : Moment)
       subst P (sym e) (counted next items (suc n - length (reply_text (step answer world item).1)) unit left l)
 
   pub crash_at : (world : World) (items : List Item) (old : List ℕ) (now : Moment) → SafeAt answer reads start world items old now → CrashAt answer reads start world items old now
-  crash_at world items old now s = λ shown unit left out may.
-      let same : s.shown ≡ shown = append_cancel_left old s.shown shown (sym s.out ∙ out) in
-      counted world items (length shown) unit left
-      (subst (λ (o : List ℕ). Leaves answer reads start world items (length o) unit left) same
-      (subst (λ (is : List Item). Leaves answer reads start world is (length s.shown) unit left) (append-nil items) (s.safe [] unit left may)))
+  crash_at world items old now s = record {
+    shown = s.shown;
+    out = s.out;
+    leaves = λ unit left may. counted world items (length s.shown) unit left
+        (subst (λ (is : List Item). Leaves answer reads start world is (length s.shown) unit left) (append-nil items) (s.safe [] unit left may));
+  }
 
   pub crash_always : (world : World) (items : List Item) (old now : Moment) → Always (SafeAt answer reads start world items (printed old)) old now
       → Always (CrashAt answer reads start world items (printed old)) old now

@@ -9,3 +9,4 @@ pub mod Going
 pub mod Ending
 pub mod Halting
 pub mod Crashing
+pub mod Beginning

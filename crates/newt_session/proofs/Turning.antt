@@ -96,5 +96,4 @@ module _ (answer : Answers) where
 
 -- what a refusal says
 pub said_refused : (refusal : Refusal) → said (replies.Refused refusal) ≡ reply.Reply.refused refusal
-unfolding said
 said_refused refusal = refl

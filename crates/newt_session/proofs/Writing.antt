@@ -6,7 +6,7 @@ use Rattle.newt_host.specs.Outside.{Outside, PrintsSome, SameCards, SameCounts, 
 use Rattle.newt_host.proofs.Extending.{Always-prints_some}
 use Rattle.newt_host.proofs.Moments.{Always-append, Always-map}
 use Rattle.newt_host.proofs.Printing.{changes-printed, output-printed, printed-append}
-use Rattle.newt_session.specs.Causes.{NeverLess, SameDevices}
+use Rattle.newt_session.specs.Causes.{GoesOn, SameDevices}
 use Rattle.newt_session.specs.Stream.{Wrote, WroteSome}
 
 pub nothing_wrote : (text out : List ℕ) → Wrote text text out out
@@ -67,9 +67,10 @@ prints_devices told bytes old new cards prints = record {
   changes = λ tells unit. let some = prints tells in ap (λ (m : Moment). changes unit m) some.moment ∙ changes-printed unit some.done old.now;
 }
 
--- no count has fallen
-pub prints_counts : (old new : Outside) → SameCounts old new → new.in_faults ≡ old.in_faults → old.out_faults ≤ new.out_faults → NeverLess old new
-prints_counts old new same inputs outputs = record {
+-- no count has fallen, and no other device is attached
+pub prints_counts : (old new : Outside) → SameCards old new → SameCounts old new → new.in_faults ≡ old.in_faults → old.out_faults ≤ new.out_faults → GoesOn old new
+prints_counts old new cards same inputs outputs = record {
+  cards = cards;
   in_faults = omega (arith, inputs);
   out_faults = outputs;
   dev_faults = λ unit. omega (arith, same.dev_faults unit);

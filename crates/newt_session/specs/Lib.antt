@@ -4,3 +4,4 @@ pub mod Script
 pub mod Causes
 pub mod Run
 pub mod Moments
+pub mod First

@@ -39,12 +39,13 @@ module _ (store_of_image : List ℕ → Option Store) (start : Moment) where
       (λ store. (store_of_image left ≡ Some store) ⊎ (store_of_image left ≡ store_on_unit next unit))
 
 module _ (answer : Answers) (store_of_image : List ℕ → Option Store) (start : Moment) where
-  -- A crash at this moment: where the output has grown by so much, of the items a number m has replies that have begun, and the crash leaves each unit
+  -- A crash at this moment: the output has grown by so much, so of the items a number m has replies that have begun, and the crash leaves each unit
   -- between the worlds after m items and after one more. Behind the last item both are one.
-  abbrev pub CrashAt : World → List Item → List ℕ → Moment → Type 0
-  CrashAt world items old now = (shown : List ℕ) (unit : ℕ) (left : List ℕ) → printed now ≡ old ++ shown → MayLeave unit now left
-      → let m = replies_begun answer world items (length shown) in
-      BeforeOrAfter store_of_image start (world_at answer world items m) (world_at answer world items (m + 1)) unit left
+  pub record CrashAt (world : World) (items : List Item) (old : List ℕ) (now : Moment) : Type 0 where
+    pub shown : List ℕ
+    pub out : printed now ≡ old ++ shown
+    pub leaves : (unit : ℕ) (left : List ℕ) → MayLeave unit now left → let m = replies_begun answer world items (length shown) in
+        BeforeOrAfter store_of_image start (world_at answer world items m) (world_at answer world items (m + 1)) unit left
 
   -- the same by recursion on the items, where so many bytes are out
   unfoldable pub Leaves : World → List Item → ℕ → ℕ → List ℕ → Type 0
@@ -61,3 +62,15 @@ module _ (answer : Answers) (store_of_image : List ℕ → Option Store) (start 
 -- what has happened to a unit without a store is what had at the start
 abbrev pub Untouched : Moment → World → Moment → Type 0
 Untouched start world now = (unit : ℕ) → store_on_unit world unit ≡ None → changes unit now ≡ changes unit start
+
+-- What a crash has left on a unit whose device was held like this before the run, while that was the output: of the items a number m has replies of which
+-- a byte was out, and the unit's store is that after m items or after one more. A unit without a store in both of these worlds is as its device was held;
+-- only a format that is not refused gives a unit a store, and nothing takes it away.
+pub record HasLeft (answer : Answers) (store_of_image : List ℕ → Option Store) (world : World) (items : List Item) (held : Option (List ℕ)) (old out : List ℕ) (unit : ℕ) (left : List ℕ) : Type 0 where
+  pub shown : List ℕ
+  pub grown : out ≡ old ++ shown
+  pub leaves : let m = replies_begun answer world items (length shown) in
+      let next = store_on_unit (world_at answer world items (m + 1)) unit in
+      MatchOption (store_on_unit (world_at answer world items m) unit)
+      (next ≡ None → held ≡ Some left)
+      (λ store. (store_of_image left ≡ Some store) ⊎ (store_of_image left ≡ next))

@@ -1,9 +1,10 @@
 //! What an engine promises for one command.
-ghost use Rattle.std.specs.Prelude.{◌≡◌, ℕ, List, Bool, true, Option, Some, None, IsTrue, IfOk, IfErr, OnOk};
-ghost use Rattle.newt_host.specs.Moments.{Always, MayLeave, output};
+ghost use Rattle.std.specs.Prelude.{◌≡◌, ℕ, List, Bool, true, false, Option, Some, None, IsSome, IsTrue, IfOk, IfErr, OnOk, is_some, slice_index_or};
+ghost use Rattle.newt_host.specs.Moments.{Always, IsDurable, MayLeave};
 ghost use Rattle.newt_host.specs.Outside.{Outside};
 ghost use Rattle.newt_reply.specs.Said.{said};
 ghost use Rattle.newt_session.specs.Causes.{HasStopCause, OnDevices, SameDevices};
+ghost use Rattle.newt_session.specs.First.{unmounted};
 ghost use Rattle.newt_session.specs.Moments.{Answering};
 ghost use Rattle.newt_session.specs.Script.{Answers};
 ghost use Rattle.newt_spec_store.specs.Store.{Store};
@@ -14,9 +15,10 @@ use newt_host::Host;
 use newt_pagebook::Stop;
 use newt_reply::Reply;
 use newt_script::Command;
+use std::alloc::{AllocError, Global};
 
 /// What answers commands over the devices of a host. It stands for a world, which it and the devices determine.
-pub trait Interpreter {
+pub trait Interpreter: Sized + Drop {
     /// The store that an image is read as.
     ghost store_of_image: { List ℕ → Option Store };
 
@@ -28,6 +30,13 @@ pub trait Interpreter {
 
     /// The world that it stands for.
     ghost world: { Self → Outside → World };
+
+    /// Begins with the devices that are attached, of which nothing is mounted.
+    fn start<H: Host>(alloc: Global, host: &H, attached: [bool; 8]) -> Result<Self, AllocError>
+        requires attached { (unit : ℕ) → slice_index_or attached unit false ≡ is_some ((H.outside host.now).card unit) }
+        requires at_rest { IsTrue H.told → (unit : ℕ) → IsSome ((H.outside host.now).card unit) → IsDurable unit (H.outside host.now).now }
+        ensures stands { IfOk result (λ it. stands H.told it (H.outside host.now)) }
+        ensures world { IsTrue H.told → IfOk result (λ it. world it (H.outside host.now) ≡ unmounted store_of_image (H.outside host.now)) };
 
     /// Answers one command. After an error it is spent.
     fn apply<H: Host>(&mut self, host: &mut H, command: Command) -> Result<Reply, Stop>

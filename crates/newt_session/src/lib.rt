@@ -9,11 +9,13 @@
 mod feed;
 mod halt;
 mod interpreter;
+mod named;
 mod pieces;
 mod turn;
 mod write;
 
 pub use halt::Halt;
 pub use interpreter::Interpreter;
-pub use pieces::{piece_buffer, read_piece, run_script};
+pub use named::run_named;
+pub use pieces::{piece_buffer, read_piece};
 pub use write::write_all;

@@ -1,4 +1,4 @@
-use Rattle.std.proofs.Common.{◌≡◌, Bool, Ok, ap, subst, ◌∙◌}
+use Rattle.std.proofs.Common.{◌≡◌, ◌++◌, Bool, Ok, ap, subst, ◌∙◌}
 use Rattle.newt_host.specs.Moments.{Always}
 use Rattle.newt_host.specs.Outside.{PrintsSome}
 use Rattle.std.proofs.lemmas.Result.{err_from_is_err_and}
@@ -77,3 +77,9 @@ returns-in_ok-put_reply-in-Ok-clause-untouched g c = λ told start untouched.
     let after = g.H.Host.outside c.put_reply.new.host in
     let same = g.met.I.Interpreter.same_world c.apply.new.self mid after (subst (λ (t : Bool). SameDevices t mid after) told c.put_reply.ensures.devices) in
     untouched_world start next _ after.now (same ∙ c.in-Ok.ensures.world told) (untouched_same start next mid.now after.now (c.put_reply.ensures.devices.changes told) later)
+
+pub returns-in_ok-put_reply-in-Ok-clause-put : goal.returns-in_ok-put_reply-in-Ok-clause-put
+returns-in_ok-put_reply-in-Ok-clause-put g c = λ told.
+    let before = out_of (g.H.Host.outside c.args.host.now) in
+    c.in_ok-put_reply-in-Ok.ensures.put told
+    ∙ (ap (λ o. o ++ reply_text (said c.in-Ok.reply)) (Always-last (c.apply.ensures.moments told)).quiet ∙ ap (λ r. before ++ reply_text r) (c.in-Ok.ensures.reply told))
