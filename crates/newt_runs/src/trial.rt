@@ -1,4 +1,6 @@
 //! One run over a host in memory.
+ghost use Rattle.std.specs.Prelude.{◌≡◌, ℕ, None, IfOk};
+ghost use Rattle.newt_memhost.specs.Outside.{outside_of};
 
 use newt_host::Unit;
 use newt_memhost::MemHost;
@@ -19,7 +21,9 @@ fn words(alloc: Global, text: &str) -> Result<Vec<String>, AllocError> {
 }
 
 /// A host with this input, no call of which moves more bytes than the piece.
-pub fn host(alloc: Global, input: &[u8], piece: u32) -> Result<MemHost, AllocError> {
+pub fn host(alloc: Global, input: &[u8], piece: u32) -> Result<MemHost, AllocError>
+    ensures { IfOk result (λ host. (unit : ℕ) → (outside_of host).card unit ≡ None) }
+{
     let mut host = MemHost::new(alloc);
     host.input(input)?;
     host.piece(piece.max(1));
@@ -27,7 +31,9 @@ pub fn host(alloc: Global, input: &[u8], piece: u32) -> Result<MemHost, AllocErr
 }
 
 /// Runs these words over a host.
-pub fn run_on(alloc: Global, text: &str, host: &mut MemHost) -> Result<Status, AllocError> {
+pub fn run_on(alloc: Global, text: &str, host: &mut MemHost) -> Result<Status, AllocError>
+    requires { (unit : ℕ) → (outside_of host.old).card unit ≡ None }
+{
     Ok(run(alloc, &words(alloc, text)?, host))
 }
 
