@@ -2,7 +2,7 @@
 use Rattle.std.specs.Prelude.{◌≡◌, ℕ, Bool, ◌==◌, List, Option, Some, None, Result, Ok, Err}
 use Rattle.newt_base.specs.Names.{is_name}
 use Rattle.newt_spec_store.specs.Lies.{only}
-use Rattle.newt_spec_store.specs.Reading.{Take, ◌>>=◌, give, number, times, whole, text}
+use Rattle.newt_spec_store.specs.Reading.{Take, ◌>>=◌, give, number, some_bytes, times, whole}
 use Rattle.newt_spec_store.specs.Valid.{well_formed}
 use Rattle.newt_soupdir.specs.declared.fault.DirFault.{DirFault}
 use Rattle.newt_soupdir.specs.declared.fault.DirFault.TheVariants.{Bad, Memory}
@@ -34,7 +34,7 @@ unfoldable pub number32_at : Take ℕ
 number32_at = number 4
 
 unfoldable pub text_at : Take (List ℕ)
-text_at = text
+text_at = byte_at >>= some_bytes
 
 unfoldable pub name_at : Take (List ℕ)
 name_at = passing is_name text_at
@@ -52,12 +52,8 @@ soup_at = do
   tags ← zero_at
   give (record { name = name; sig = sig; next_uid = next })
 
--- so many soups
-unfoldable pub some_soups_at : ℕ → Take (List SoupRow)
-some_soups_at count = times count soup_at
-
 unfoldable pub soups_at : Take (List SoupRow)
-soups_at = byte_at >>= some_soups_at
+soups_at = byte_at >>= λ n. times n soup_at
 
 unfoldable pub rows_at : Take Directory
 rows_at = do

@@ -1,8 +1,9 @@
 //! To find soups in a directory, and to change it.
-ghost use Rattle.std.specs.Prelude.{◌≡◌, ◌≤◌, length, nat_le, option_map, OnErr, IfOk, IfSome};
-ghost use Rattle.newt_spec_store.specs.Store.{soup_named, make_soup};
+ghost use Rattle.std.specs.Prelude.{◌≡◌, ◌+◌, ◌<◌, ◌≤◌, filter, length, map, not, ◌==◌, nat_le, option_map, OnErr, OnOk, IfOk, IfSome};
+ghost use Rattle.std.specs.List.{find, position_from};
+ghost use Rattle.newt_spec_store.specs.Store.{soup_named, make_soup, change_first};
 ghost use Rattle.newt_soupdir.specs.Bare.{bare_soup, bare_store};
-ghost use Rattle.newt_soupdir.specs.Changes.{soup_of, without_soup, take_uid_of};
+ghost use Rattle.newt_soupdir.specs.Changes.{soup_of, without_soup, uid_taken, take_uid_of};
 
 use crate::form::MOST_SOUPS;
 use crate::rows::{Directory, SoupRow};
@@ -67,7 +68,7 @@ impl Directory {
     pub fn drop_soup(&mut self, sig: Sig)
         ensures { bare_store self.new ≡ without_soup sig (bare_store self.old) }
     {
-        self.soups.items.retain(|row| row.sig != sig);
+        drop_from(&mut self.soups.items, sig);
     }
 
     /// Takes the next entry id of the soup of this signature; none where there is no such soup.
@@ -76,12 +77,51 @@ impl Directory {
         ensures uid { result ≡ option_map (λ p. p.next_uid) (soup_of sig (bare_store self.old)) }
         ensures taken { bare_store self.new ≡ take_uid_of sig (bare_store self.old) }
     {
-        let at = self.soups.items.iter().position(|row| row.sig == sig)?;
-        let row = &mut self.soups.items[at];
-        let uid = Uid(row.next_uid);
-        row.next_uid += 1;
-        Some(uid)
+        take_uid_in(self.soups.items.as_mut_slice(), sig)
     }
 }
 
-ghost use Rattle.std.specs.Prelude.{OnOk};
+/// The rows of this signature are gone.
+fn drop_from(rows: &mut Vec<SoupRow>, sig: Sig)
+    ensures { map bare_soup rows.new.items ≡ filter (λ p. not (p.sig == sig)) (map bare_soup rows.old.items) }
+{
+    rows.retain(|row| row.sig != sig);
+}
+
+/// The place of the first row of this signature.
+fn place_of(rows: &[SoupRow], sig: Sig) -> Option<usize>
+    ensures place { result ≡ position_from (λ row. row.sig == sig) 0 rows.now }
+    ensures within { IfSome result (λ at. at < length rows.now) }
+{
+    let mut at = 0;
+    let mut left = rows;
+    while let [row, rest @ ..] = left {
+        if row.sig == sig {
+            return Some(at);
+        }
+        at += 1;
+        left = rest;
+    }
+    None
+}
+
+/// Takes the next entry id of a row.
+fn take_next(row: &mut SoupRow) -> Uid
+    requires { row.old.next_uid ≤ 536_870_911 }
+    ensures uid { result ≡ row.old.next_uid }
+    ensures taken { row.new ≡ record row.old { next_uid = row.old.next_uid + 1 } }
+{
+    let next = row.next_uid;
+    row.next_uid = next + 1;
+    Uid(next)
+}
+
+/// Takes the next entry id of the first row of this signature.
+fn take_uid_in(rows: &mut [SoupRow], sig: Sig) -> Option<Uid>
+    requires { IfSome (find (λ p. p.sig == sig) (map bare_soup rows.old)) (λ p. p.next_uid ≤ 536_870_911) }
+    ensures uid { result ≡ option_map (λ p. p.next_uid) (find (λ p. p.sig == sig) (map bare_soup rows.old)) }
+    ensures taken { map bare_soup rows.new ≡ change_first (λ p. p.sig == sig) uid_taken (map bare_soup rows.old) }
+{
+    let at = place_of(rows, sig)?;
+    Some(take_next(&mut rows[at]))
+}

@@ -3,36 +3,40 @@ ghost use Rattle.std.specs.Prelude.{◌≡◌};
 ghost use Rattle.newt_soupdir.specs.Reading.{Gives, byte_at, number16_at, number32_at, text_at, name_at, zero_at};
 
 use crate::fault::DirFault;
-use newt_base::{Name, NameFault};
+use newt_base::{Name, NameFault, be16, be32};
 use std::alloc::Global;
 
+#[tactic(auto, using(crate::proofs::Numbers::byte_is, crate::proofs::Numbers::byte_none))]
 pub(crate) fn byte(bytes: &[u8]) -> Result<(u8, &[u8]), DirFault>
     ensures { Gives (λ x. (x.0, x.1.now)) result (byte_at bytes.now) }
 {
-    match bytes {
-        [b, rest @ ..] => Ok((*b, rest)),
-        [] => Err(DirFault::Bad),
+    if bytes.is_empty() {
+        return Err(DirFault::Bad);
     }
+    Ok((bytes[0], &bytes[1..]))
 }
 
+#[tactic(auto, using(crate::proofs::Numbers::number16_is, crate::proofs::Numbers::number16_none))]
 pub(crate) fn number16(bytes: &[u8]) -> Result<(u16, &[u8]), DirFault>
     ensures { Gives (λ x. (x.0, x.1.now)) result (number16_at bytes.now) }
 {
-    match bytes {
-        [a, b, rest @ ..] => Ok((u16::from_be_bytes([*a, *b]), rest)),
-        _ => Err(DirFault::Bad),
+    if bytes.len() < 2 {
+        return Err(DirFault::Bad);
     }
+    Ok((be16(bytes, 0), &bytes[2..]))
 }
 
+#[tactic(auto, using(crate::proofs::Numbers::number32_is, crate::proofs::Numbers::number32_none))]
 pub(crate) fn number32(bytes: &[u8]) -> Result<(u32, &[u8]), DirFault>
     ensures { Gives (λ x. (x.0, x.1.now)) result (number32_at bytes.now) }
 {
-    match bytes {
-        [a, b, c, d, rest @ ..] => Ok((u32::from_be_bytes([*a, *b, *c, *d]), rest)),
-        _ => Err(DirFault::Bad),
+    if bytes.len() < 4 {
+        return Err(DirFault::Bad);
     }
+    Ok((be32(bytes, 0), &bytes[4..]))
 }
 
+#[tactic(auto, unfolding(crate::specs::Reading::text_at))]
 fn text(bytes: &[u8]) -> Result<(&[u8], &[u8]), DirFault>
     ensures { Gives (λ x. (x.0.now, x.1.now)) result (text_at bytes.now) }
 {

@@ -1,7 +1,8 @@
 //! Reading a directory.
 ghost use Rattle.std.specs.Prelude.{◌≡◌, Some, None, IfOk, IsErrOf};
+ghost use Rattle.newt_spec_store.specs.Reading.{times};
 ghost use Rattle.newt_soupdir.specs.Bare.{bare_store, directory_now};
-ghost use Rattle.newt_soupdir.specs.Reading.{Gives, soup_at, some_soups_at, soups_at, rows_at, directory_at};
+ghost use Rattle.newt_soupdir.specs.Reading.{Gives, soup_at, soups_at, rows_at, directory_at};
 
 use crate::fault::DirFault;
 use crate::fields::{byte, name, number16, number32, zero};
@@ -30,7 +31,7 @@ fn soup(alloc: Global, bytes: &[u8]) -> Result<(SoupRow, &[u8]), DirFault>
 }
 
 fn some_soups(alloc: Global, count: u8, bytes: &[u8]) -> Result<(Vec<SoupRow>, &[u8]), DirFault>
-    ensures { Gives (λ x. (x.0.items, x.1.now)) result (some_soups_at count bytes.now) }
+    ensures { Gives (λ x. (x.0.items, x.1.now)) result (times count soup_at bytes.now) }
 {
     let mut soups = Vec::new(alloc);
     let mut rest = bytes;

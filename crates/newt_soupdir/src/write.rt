@@ -55,6 +55,7 @@ fn put_soups(out: &mut Vec<u8>, soups: &[SoupRow]) -> Result<(), AllocError>
 }
 
 /// The bytes of a directory.
+#[tactic(auto, using(crate::proofs::Lists::sigs_fit))]
 pub fn write_directory(alloc: Global, directory: &Directory) -> Result<Vec<u8>, AllocError>
     requires { IsTrue (well_formed (bare_store directory.now)) }
     ensures { IfOk result (λ v. v.items ≡ directory_bytes (bare_store directory.now)) }
