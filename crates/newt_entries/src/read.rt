@@ -3,7 +3,7 @@ ghost use Rattle.std.specs.Prelude.{◌≡◌, Some, None, IfOk, IsErrOf};
 ghost use Rattle.newt_spec_graph.specs.Graph as words;
 ghost use Rattle.newt_spec_store.specs.Lies.{entry_read};
 ghost use Rattle.newt_spec_store.specs.StoreOf.{written};
-ghost use Rattle.newt_entries.specs.Entry.{stream_graph, said};
+ghost use Rattle.newt_entries.specs.Entry.{stream_graph, fits, said};
 
 use crate::fault::EntryFault;
 use crate::large::has_large;
@@ -11,14 +11,14 @@ use crate::row::EntryRow;
 use newt_base::{Sig, Uid, be16, be32};
 use newt_graph::{Graph, Node, Ref};
 use newt_nsof_read::{NsofFault, decode};
-use newt_nsof_write::encode;
+use newt_nsof_write::{encode, skeleton_len};
 use std::alloc::Global;
 
 /// The bytes before an entry's text: soup signature, number of large binaries, id and time.
 const HEAD: usize = 12;
 
 /// The most bytes of an entry's text.
-const MOST_TEXT: usize = 64_000;
+const MOST_TEXT: u64 = 64_000;
 
 /// The graph whose written text this is.
 fn graph_of(alloc: Global, text: &[u8]) -> Result<Graph, EntryFault>
@@ -48,17 +48,26 @@ fn is_frame(graph: &Graph) -> bool
     }
 }
 
+/// Whether a graph may be an entry's, in this stage without large binaries.
+fn is_fit(graph: &Graph) -> bool
+    ensures { result ≡ fits graph.now }
+{
+    !has_large(graph) && is_frame(graph) && skeleton_len(graph) <= MOST_TEXT
+}
+
 /// The record that all of the bytes are read as.
 pub fn read_entry(alloc: Global, bytes: &[u8]) -> Result<EntryRow, EntryFault>
     ensures found { IfOk result (λ row. entry_read stream_graph bytes.now ≡ Some (said row)) }
     ensures bad { IsErrOf result EntryFault.Bad → entry_read stream_graph bytes.now ≡ None }
 {
-    if bytes.len() < HEAD || be16(bytes, 2) != 0 {
+    if bytes.len() < HEAD {
         return Err(EntryFault::Bad);
     }
-    let text = &bytes[HEAD..];
-    let skeleton = graph_of(alloc, text)?;
-    if MOST_TEXT < text.len() || has_large(&skeleton) || !is_frame(&skeleton) {
+    if be16(bytes, 2) != 0 {
+        return Err(EntryFault::Bad);
+    }
+    let skeleton = graph_of(alloc, &bytes[HEAD..])?;
+    if !is_fit(&skeleton) {
         return Err(EntryFault::Bad);
     }
     Ok(EntryRow {
