@@ -1,16 +1,14 @@
 -- The graph of an alias.
-use Rattle.std.proofs.Common.{◌≡◌, ◌≢◌, ℕ, zero, suc, ◌+◌, ◌*◌, ◌/◌, ◌%◌, ◌<◌, ◌≤◌, ◌==◌, true, List, [], ◌∷◌, ◌++◌, length, get_or, Option, Some, None, All, refl, sym, ap, ◌∙◌, append_assoc, arith, pos}
+use Rattle.std.proofs.Common.{◌≡◌, ℕ, zero, suc, ◌*◌, ◌/◌, ◌%◌, ◌<◌, ◌≤◌, ◌==◌, true, List, [], ◌∷◌, ◌++◌, length, get_or, Some, None, refl, sym, ap, ◌∙◌, append_assoc, arith, pos}
 use Rattle.std.specs.Prelude.{codes, decimal, slice_get}
-use Rattle.std.specs.List.{AllByRecursion}
 use Rattle.std.specs.Int.{w32, cast_unsigned}
-use Rattle.std.specs.Int.RustNames.{FitsSigned}
 use Rattle.std.proofs.lemmas.Bool.{eq-eqb}
 use Rattle.std.proofs.lemmas.List.Elements.{All-from_recursion}
 use Rattle.newt_graph.specs.declared.node.Node.{Node}
 use Rattle.newt_graph.specs.declared.node.Node.TheVariants.{Symbol, Str, Binary, Large, Array, Frame}
 use Rattle.newt_graph.specs.declared.node.Ref.{Ref}
 use Rattle.newt_graph.specs.declared.node.Ref.TheVariants as refs
-use Rattle.newt_graph.specs.Graph.{RawGraph, IsWord, WalkLabel, WalkLabels, Walk, Walks, IsName, IsNode, IsNamed, IsAlike, AreFoldedOnce, IsGraph}
+use Rattle.newt_graph.specs.Graph.{RawGraph, IsWord, WalkLabel, Walk, Walks, IsName, IsNode, AreFoldedOnce, IsGraph}
 use Rattle.newt_base.specs.Text.{decimal_text, decimal_text-decimal}
 use Rattle.newt_lit.specs.Printed.{word_text, literal}
 use Rattle.newt_spec_graph.specs.Graph.{object}

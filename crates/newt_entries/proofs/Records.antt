@@ -1,18 +1,17 @@
 -- An entry's record, and what it is read as.
-use Rattle.std.proofs.Common.{◌≡◌, ◌≢◌, ℕ, ◌<◌, ◌≤◌, Bool, true, false, cond, ◌&&◌, ◌==◌, leb, List, [], ◌∷◌, ◌-◌, length, map, take, drop, Option, Some, None, option_map, option_and_then, refl, sym, ap, ◌∙◌, arith}
+use Rattle.std.proofs.Common.{◌≡◌, ℕ, ◌<◌, ◌≤◌, Bool, true, false, cond, ◌&&◌, ◌==◌, leb, List, [], ◌∷◌, ◌-◌, length, map, take, drop, Option, Some, None, option_map, option_and_then, refl, sym, ap, ◌∙◌, arith}
 use Rattle.std.specs.Prelude.{bytes_eq}
 use Rattle.std.specs.List.{list_all}
 use Rattle.std.proofs.lemmas.Bool.{and_parts}
 use Rattle.std.proofs.lemmas.List.{take_all, length-drop}
 use Rattle.newt_base.specs.Text.{be16_at, be32_at}
 use Rattle.newt_graph.specs.Graph.{RawGraph, IsGraph}
-use Rattle.newt_spec_graph.specs.Graph.{is_frame, object, every}
-use Rattle.newt_spec_graph.specs.Limits.{within_limits}
+use Rattle.newt_spec_graph.specs.Graph.{is_frame, object}
 use Rattle.newt_spec_store.specs.Store.{Entry}
 use Rattle.newt_spec_store.specs.Cost.{skeleton_length}
 use Rattle.newt_spec_store.specs.Image.{larges}
 use Rattle.newt_spec_store.specs.Lies.{only, entry_read, graph_has_no_large}
-use Rattle.newt_spec_store.specs.StoreOf.{LargeRow, EntryRow, entry_row, entry_of_row, large_object, written, with_larges}
+use Rattle.newt_spec_store.specs.StoreOf.{LargeRow, EntryRow, entry_row, entry_of_row, written, with_larges}
 use Rattle.newt_spec_store.specs.Valid.{valid_entry}
 use Rattle.newt_entries.specs.Entry.{stream_graph, fits}
 use Rattle.newt_entries.proofs.Streams.{written_graph}

@@ -1,12 +1,10 @@
 -- The fields of an entry's record, read from the front of bytes.
-use Rattle.std.proofs.Common.{◌≡◌, ℕ, zero, suc, ◌+◌, ◌-◌, ◌*◌, ◌^◌, ◌<◌, ◌≤◌, cond, List, [], ◌∷◌, length, get_or, take, drop, fold, Option, Some, None, option_and_then, refl, ap, sym, subst, ◌∙◌, arith}
-use Rattle.std.specs.Prelude.{slice_index}
-use Rattle.std.proofs.lemmas.Bool.{le-leb, lt-leb}
+use Rattle.std.proofs.Common.{◌≡◌, ℕ, zero, suc, ◌+◌, ◌-◌, ◌*◌, ◌^◌, ◌<◌, ◌≤◌, List, [], ◌∷◌, length, get_or, take, drop, fold, Option, Some, None, option_and_then, refl, ap, sym, subst, ◌∙◌, arith}
+use Rattle.std.proofs.lemmas.Bool.{le-leb}
 use Rattle.std.proofs.lemmas.List.{take_all, drop_all, length-drop, drop-drop, get_or-drop}
 use Rattle.newt_base.specs.Text.{be16_at, be32_at}
-use Rattle.newt_graph.specs.Graph.{RawGraph}
-use Rattle.newt_spec_store.specs.Reading.{Take, ◌>>=◌, give, number, some_bytes, times, whole, whole_of}
-use Rattle.newt_spec_store.specs.StoreOf.{LargeRow, large_row, EntryRow, entry_fields, entry_row, entry_of_row}
+use Rattle.newt_spec_store.specs.Reading.{Take, ◌>>=◌, give, number, some_bytes, times, whole_of}
+use Rattle.newt_spec_store.specs.StoreOf.{LargeRow, large_row, EntryRow, entry_fields, entry_row}
 
 -- the number in the first bytes
 abbrev value : ℕ → List ℕ → ℕ
@@ -129,7 +127,7 @@ larges_read size soup (suc n) uid time bytes h =
     all_then (λ x. Unit {0}) (λ (row : EntryRow). HasRows row.larges) (some_bytes (size - 12 * suc n) bytes)
     (λ (t : List ℕ × List ℕ). (times (suc n) large_row >>= λ ls. give (record { soup = soup; uid = uid; time = time; text = t.0; larges = ls })) t.1) (anything (some_bytes (size - 12 * suc n) bytes))
     (λ t any. all_then HasRows (λ (row : EntryRow). HasRows row.larges) (times (suc n) large_row t.1) (λ (ls : List LargeRow × List ℕ). Some (record { soup = soup; uid = uid; time = time; text = t.0; larges = ls.0 }, ls.1))
-      (some_rows n t.1) (λ ls rows. rows))
+    (some_rows n t.1) (λ ls rows. rows))
 
 none_some : {X : Type 0} (x : X) → Option.None ≡ Some x → ⊥
 none_some x e = cc

@@ -1,6 +1,6 @@
 -- The written text of a graph is a list of bytes.
-use Rattle.std.proofs.Common.{◌≡◌, ℕ, zero, suc, ◌+◌, ◌*◌, ◌/◌, ◌%◌, ◌^◌, ◌<◌, ◌≤◌, Bool, true, false, cond, ◌&&◌, ltb, eqb, List, [], ◌∷◌, ◌++◌, length, get_or, Option, Some, None, All, refl, sym, ap, subst, ◌∙◌, arith, ℤ, pos, negsuc}
-use Rattle.std.specs.List.{list_all, slice_get}
+use Rattle.std.proofs.Common.{◌≡◌, ℕ, zero, suc, ◌+◌, ◌*◌, ◌/◌, ◌%◌, ◌^◌, ◌<◌, ◌≤◌, Bool, true, false, cond, ◌&&◌, ltb, eqb, List, [], ◌∷◌, ◌++◌, length, get_or, Option, Some, None, All, refl, subst, ◌∙◌, arith, ℤ, pos, negsuc}
+use Rattle.std.specs.List.{slice_get}
 use Rattle.std.specs.Int.{w32, to_be_bytes, cast_unsigned}
 use Rattle.std.proofs.lemmas.Bool.{lt-ltb, ltb-true, and_parts}
 use Rattle.std.proofs.lemmas.List.Folds.{list_all-append}
@@ -10,7 +10,7 @@ use Rattle.newt_graph.specs.declared.node.Ref.{Ref}
 use Rattle.newt_graph.specs.declared.node.Ref.TheVariants as refs
 use Rattle.newt_graph.specs.Graph.{RawGraph, IsGraph, IsNode, IsName, IsText, IsData}
 use Rattle.newt_nsof.specs.Text.{units_text, number_text, large_text}
-use Rattle.newt_nsof.specs.Written.{is_short, short_text, xlong_text, count_text, character_text, word_text, again_text, symbol_text, Text, each_text, new_label, label_text, frame_text, string_text, binary_text, plain_large_text, plain_array_text, array_text, any_array_text, new_node, text_at, value_text, nsof}
+use Rattle.newt_nsof.specs.Written.{xlong_text, count_text, character_text, word_text, again_text, symbol_text, Text, each_text, new_label, label_text, frame_text, string_text, binary_text, plain_large_text, plain_array_text, array_text, any_array_text, new_node, text_at, value_text, nsof}
 use Rattle.newt_entries.specs.Entry.{are_bytes}
 
 abbrev Fit : List ℕ → Type 0

@@ -1,5 +1,5 @@
 -- Words on the rows of a directory.
-use Rattle.std.proofs.Common.{◌≡◌, ℕ, ◌+◌, ◌<◌, ◌≤◌, Bool, true, false, cond, not, ◌&&◌, ◌==◌, leb, ltb, List, [], ◌∷◌, ◌++◌, length, take, get_or, map, filter, suc, Option, Some, None, refl, ap, sym, subst, ◌∙◌, All, arith}
+use Rattle.std.proofs.Common.{◌≡◌, ℕ, ◌+◌, ◌<◌, ◌≤◌, Bool, true, false, cond, ◌&&◌, ◌==◌, leb, ltb, List, [], ◌∷◌, ◌++◌, length, take, get_or, map, filter, suc, Option, Some, None, refl, ap, sym, subst, ◌∙◌, All, arith}
 use Rattle.std.specs.Prelude.{IsTrue, IfSome, nat_le, slice_set}
 use Rattle.std.specs.List.{flat_map, AllByRecursion, list_all, find, position_from}
 use Rattle.std.proofs.lemmas.Bool.{and_parts, leb-true, ltb-true}
@@ -130,3 +130,25 @@ nowhere sig (row ∷ rows) k h = go (nowhere sig rows (k + 1)) (row.sig == sig) 
 -- the bound of a soup that was found
 pub within_bound : (o : Option Soup) (p : Soup) → o ≡ Some p → IfSome o (λ p. p.next_uid ≤ 536_870_911) → p.next_uid ≤ 536_870_911
 within_bound o p e h = subst (λ (o : Option Soup). IfSome o (λ p. p.next_uid ≤ 536_870_911)) e h
+
+second_of_eight : (a b c d e f g k : Bool) → (a && b && c && d && e && f && g && k) ≡ true → b ≡ true
+second_of_eight a true c d e f g k h = refl
+second_of_eight true false c d e f g k h = h
+second_of_eight false false c d e f g k h = h
+
+soup_bound : (p : Soup) → valid_soup p ≡ true → p.next_uid ≤ 536_870_911
+soup_bound p h =
+    leb-true p.next_uid 536_870_911 (second_of_eight (is_name p.name) (nat_le p.next_uid 536_870_911) (rises 0 p.next_uid (map (λ e. e.uid) p.entries))
+    (nat_le (length p.specs) 16) (list_all valid_spec p.specs) (all_apart same_paths (map paths_of p.specs)) (valid_tags p.tags) (list_all valid_entry p.entries) h)
+
+-- the next entry id of a soup that is found may be taken
+pub next_uid_fits : (sig : ℕ) (d : Directory) → IsTrue (well_formed (bare_store d)) → IfSome (find (λ p. p.sig == sig) (map bare_soup d.soups)) (λ p. p.next_uid ≤ 536_870_911)
+next_uid_fits sig d h = go (map bare_soup d.soups) (well_formed_parts (bare_store d) h).3
+  where
+    here : (p : Soup) (rest : Option Soup) (b : Bool) → p.next_uid ≤ 536_870_911 → IfSome rest (λ p. p.next_uid ≤ 536_870_911) → IfSome (cond b (Some p) rest) (λ p. p.next_uid ≤ 536_870_911)
+    here p rest true h k = h
+    here p rest false h k = k
+
+    go : (ps : List Soup) → list_all valid_soup ps ≡ true → IfSome (find (λ p. p.sig == sig) ps) (λ p. p.next_uid ≤ 536_870_911)
+    go [] h = tt
+    go (p ∷ ps) h = let v = and_parts (valid_soup p) (list_all valid_soup ps) h in here p (find (λ p. p.sig == sig) ps) (p.sig == sig) (soup_bound p v.0) (go ps v.1)

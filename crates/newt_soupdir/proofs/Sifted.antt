@@ -1,13 +1,13 @@
 -- A program's reader gives what the store's reader gives, in another form, where that passes a test, and else nothing.
 use Rattle.std.proofs.Common.{◌≡◌, ℕ, zero, suc, ◌==◌, Bool, true, false, cond, not, ◌&&◌, List, [], ◌∷◌, length, map, Option, Some, None, option_and_then, option_map, is_some, Result, Ok, Err, refl, sym, ap, subst, ◌∙◌, arith}
-use Rattle.std.specs.Prelude.{IfOk, IsErrOf, nat_le}
+use Rattle.std.specs.Prelude.{IfOk, IsErrOf}
 use Rattle.std.specs.List.{list_all}
 use Rattle.std.proofs.lemmas.Bool.{and_parts, eqb-true, false_from_ne_true}
 use Rattle.newt_base.specs.Names.{is_name}
 use Rattle.newt_spec_store.specs.Store.{TagTable, Soup, Store}
 use Rattle.newt_spec_store.specs.Keys.{IndexPart, Path}
-use Rattle.newt_spec_store.specs.Lies.{only, directory_read}
-use Rattle.newt_spec_store.specs.Reading.{Take, ◌>>=◌, give, number, some_bytes, times, counted, whole, whole_of, text, path, part, tags_of, soup, directory}
+use Rattle.newt_spec_store.specs.Lies.{only}
+use Rattle.newt_spec_store.specs.Reading.{Take, ◌>>=◌, give, number, times, counted, whole, whole_of, text, path, part, tags_of, soup, directory}
 use Rattle.newt_spec_store.specs.Valid.{well_formed, valid_soup}
 use Rattle.newt_soupdir.specs.declared.fault.DirFault.{DirFault}
 use Rattle.newt_soupdir.specs.declared.fault.DirFault.TheVariants.{Bad, Memory}
@@ -15,7 +15,7 @@ use Rattle.newt_soupdir.specs.declared.rows.SoupRow.{SoupRow}
 use Rattle.newt_soupdir.specs.declared.rows.Directory.{Directory}
 use Rattle.newt_soupdir.specs.Bare.{bare_soup, bare_store, is_early, is_early_soup, directory_now}
 use Rattle.newt_soupdir.proofs.Lists.{well_formed_parts, soup_named}
-use Rattle.newt_soupdir.specs.Reading.{Gives, passing, byte_at, number16_at, number32_at, text_at, name_at, zero_at, soup_at, soups_at, rows_at, directory_at}
+use Rattle.newt_soupdir.specs.Reading.{Gives, byte_at, number16_at, number32_at, text_at, name_at, zero_at, soup_at, soups_at, rows_at, directory_at}
 
 -- what was read, in another form
 abbrev pub formed : {A B : Type 0} → (A → B) → Option (A × List ℕ) → Option (B × List ℕ)
@@ -79,7 +79,7 @@ times-sifts form test mine theirs h zero bytes = refl
 times-sifts {A} {B} form test mine theirs h (suc n) bytes =
     bind form test (map form) (list_all test) (mine bytes) (theirs bytes) (λ a. (times n mine >>= λ as'. give (a.0 ∷ as')) a.1) (λ b. (times n theirs >>= λ bs. give (b.0 ∷ bs)) b.1) (h bytes)
     (λ a passes. bind (map form) (list_all test) (map form) (list_all test) (times n mine a.1) (times n theirs a.1) (λ (as' : List A × List ℕ). Some (a.0 ∷ as'.0, as'.1)) (λ (bs : List B × List ℕ). Some (form a.0 ∷ bs.0, bs.1)) (times-sifts form test mine theirs h n a.1)
-      (λ as' all. rw (passes, all) refl) (λ bs none. rw (passes, none) refl))
+    (λ as' all. rw (passes, all) refl) (λ bs none. rw (passes, none) refl))
     (λ b none. never (list_all test) (times n theirs b.1) (λ (bs : List B × List ℕ). Some (b.0 ∷ bs.0, bs.1)) (λ bs. rw none refl))
 
 -- ---- the fields
@@ -185,15 +185,15 @@ unfolding soup_at number16_at number32_at
 soup-sifts bytes =
     bind (λ (t : List ℕ). t) is_name bare_soup sound_soup (name_at bytes) (text bytes) (λ t. mine_sig t.0 t.1) (λ t. theirs_sig t.0 t.1) (name-sifts bytes)
     (λ t named. next bare_soup sound_soup (number 2 t.1) (λ s. mine_next t.0 s.0 s.1) (λ s. theirs_next t.0 s.0 s.1)
-      (λ s. next bare_soup sound_soup (number 4 s.1) (λ u. mine_specs t.0 s.0 u.0 u.1) (λ u. theirs_specs t.0 s.0 u.0 u.1)
-        (λ u. bind as_no_specs no_specs bare_soup sound_soup (zero_at u.1) (counted (counted part) u.1) (λ z. mine_tags t.0 s.0 u.0 z.1) (λ ss. theirs_tags t.0 s.0 u.0 ss.0 ss.1) (no_specs-sifts u.1)
-          (λ z none. bind as_no_tags no_tags bare_soup sound_soup (zero_at z.1) ((number 1 >>= tags_of) z.1) (λ w. Some (mine_row t.0 s.0 u.0, w.1)) (λ g. Some (theirs_soup t.0 s.0 u.0 [] g.0, g.1)) (no_tags-sifts z.1)
-            (λ w untagged. rw named refl) (λ g tagged. rw (named, tagged) refl))
-          (λ ss some_are. never sound_soup ((number 1 >>= tags_of) ss.1) (λ g. Some (theirs_soup t.0 s.0 u.0 ss.0 g.0, g.1)) (λ g. rw (named, some_are) refl)))))
+    (λ s. next bare_soup sound_soup (number 4 s.1) (λ u. mine_specs t.0 s.0 u.0 u.1) (λ u. theirs_specs t.0 s.0 u.0 u.1)
+    (λ u. bind as_no_specs no_specs bare_soup sound_soup (zero_at u.1) (counted (counted part) u.1) (λ z. mine_tags t.0 s.0 u.0 z.1) (λ ss. theirs_tags t.0 s.0 u.0 ss.0 ss.1) (no_specs-sifts u.1)
+    (λ z none. bind as_no_tags no_tags bare_soup sound_soup (zero_at z.1) ((number 1 >>= tags_of) z.1) (λ w. Some (mine_row t.0 s.0 u.0, w.1)) (λ g. Some (theirs_soup t.0 s.0 u.0 [] g.0, g.1)) (no_tags-sifts z.1)
+    (λ w untagged. rw named refl) (λ g tagged. rw (named, tagged) refl))
+    (λ ss some_are. never sound_soup ((number 1 >>= tags_of) ss.1) (λ g. Some (theirs_soup t.0 s.0 u.0 ss.0 g.0, g.1)) (λ g. rw (named, some_are) refl)))))
     (λ t unnamed. never sound_soup (number 2 t.1) (λ s. theirs_next t.0 s.0 s.1)
-      (λ s. never sound_soup (number 4 s.1) (λ u. theirs_specs t.0 s.0 u.0 u.1)
-        (λ u. never sound_soup (counted (counted part) u.1) (λ ss. theirs_tags t.0 s.0 u.0 ss.0 ss.1)
-          (λ ss. never sound_soup ((number 1 >>= tags_of) ss.1) (λ g. Some (theirs_soup t.0 s.0 u.0 ss.0 g.0, g.1)) (λ g. rw unnamed refl)))))
+    (λ s. never sound_soup (number 4 s.1) (λ u. theirs_specs t.0 s.0 u.0 u.1)
+    (λ u. never sound_soup (counted (counted part) u.1) (λ ss. theirs_tags t.0 s.0 u.0 ss.0 ss.1)
+    (λ ss. never sound_soup ((number 1 >>= tags_of) ss.1) (λ g. Some (theirs_soup t.0 s.0 u.0 ss.0 g.0, g.1)) (λ g. rw unnamed refl)))))
 
 -- ---- the directory
 
@@ -237,12 +237,12 @@ unfolding rows_at number16_at number32_at
 rows-sifts bytes =
     bind (λ (t : List ℕ). t) is_name bare_store sound_rows (name_at bytes) (text bytes) (λ t. mine_store_sig t.0 t.1) (λ t. theirs_store_sig t.0 t.1) (name-sifts bytes)
     (λ t named. next bare_store sound_rows (number 4 t.1) (λ s. mine_next_soup t.0 s.0 s.1) (λ s. theirs_next_soup t.0 s.0 s.1)
-      (λ s. next bare_store sound_rows (number 2 s.1) (λ u. mine_soups t.0 s.0 u.0 u.1) (λ u. theirs_soups t.0 s.0 u.0 u.1)
-        (λ u. bind (map bare_soup) sound_soups bare_store sound_rows (soups_at u.1) (counted soup u.1) (λ ps. Some (mine_directory t.0 s.0 u.0 ps.0, ps.1)) (λ ps. Some (theirs_store t.0 s.0 u.0 ps.0, ps.1)) (soups-sifts u.1)
-          (λ ps sound. rw (named, sound) refl) (λ ps unsound. rw (named, unsound) refl))))
+    (λ s. next bare_store sound_rows (number 2 s.1) (λ u. mine_soups t.0 s.0 u.0 u.1) (λ u. theirs_soups t.0 s.0 u.0 u.1)
+    (λ u. bind (map bare_soup) sound_soups bare_store sound_rows (soups_at u.1) (counted soup u.1) (λ ps. Some (mine_directory t.0 s.0 u.0 ps.0, ps.1)) (λ ps. Some (theirs_store t.0 s.0 u.0 ps.0, ps.1)) (soups-sifts u.1)
+    (λ ps sound. rw (named, sound) refl) (λ ps unsound. rw (named, unsound) refl))))
     (λ t unnamed. never sound_rows (number 4 t.1) (λ s. theirs_next_soup t.0 s.0 s.1)
-      (λ s. never sound_rows (number 2 s.1) (λ u. theirs_soups t.0 s.0 u.0 u.1)
-        (λ u. never sound_rows (counted soup u.1) (λ ps. Some (theirs_store t.0 s.0 u.0 ps.0, ps.1)) (λ ps. rw unnamed refl))))
+    (λ s. never sound_rows (number 2 s.1) (λ u. theirs_soups t.0 s.0 u.0 u.1)
+    (λ u. never sound_rows (counted soup u.1) (λ ps. Some (theirs_store t.0 s.0 u.0 ps.0, ps.1)) (λ ps. rw unnamed refl))))
 
 -- where all bytes are read
 whole-sifts : {A B : Type 0} (form : A → B) (test : B → Bool) (m : Option (A × List ℕ)) (t : Option (B × List ℕ)) → Sifts form test m t → option_map form (whole_of m) ≡ only test (whole_of t)

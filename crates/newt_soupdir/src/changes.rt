@@ -1,7 +1,8 @@
 //! To find soups in a directory, and to change it.
-ghost use Rattle.std.specs.Prelude.{◌≡◌, ◌+◌, ◌<◌, ◌≤◌, filter, length, map, not, ◌==◌, nat_le, option_map, OnErr, OnOk, IfOk, IfSome};
+ghost use Rattle.std.specs.Prelude.{◌≡◌, ◌+◌, ◌<◌, ◌≤◌, filter, length, map, not, ◌==◌, nat_le, option_map, OnErr, OnOk, IfOk, IfSome, IsTrue};
 ghost use Rattle.std.specs.List.{find, position_from};
 ghost use Rattle.newt_spec_store.specs.Store.{soup_named, make_soup, change_first};
+ghost use Rattle.newt_spec_store.specs.Valid.{well_formed};
 ghost use Rattle.newt_soupdir.specs.Bare.{bare_soup, bare_store};
 ghost use Rattle.newt_soupdir.specs.Changes.{soup_of, without_soup, uid_taken, take_uid_of};
 
@@ -47,8 +48,9 @@ impl Directory {
     }
 
     /// A new soup at the end, with the next signature, which is the answer.
+    #[tactic(auto, using(crate::proofs::Lists::next_fits))]
     pub fn make_soup(&mut self, name: Name) -> Result<Sig, AllocError>
-        requires { self.old.next_soup ≤ 65_535 }
+        requires { IsTrue (well_formed (bare_store self.old)) }
         ensures made { OnOk result (bare_store self.new ≡ make_soup name (bare_store self.old)) }
         ensures sig { IfOk result (λ sig. sig ≡ self.old.next_soup) }
         ensures err { OnErr result (self.new ≡ self.old) }
@@ -71,8 +73,18 @@ impl Directory {
         drop_from(&mut self.soups.items, sig);
     }
 
-    /// Takes the next entry id of the soup of this signature; none where there is no such soup.
+    /// Takes the next entry id of the soup of this signature, which is the answer; none where there is no such soup.
+    #[tactic(auto, using(crate::proofs::Lists::next_uid_fits))]
     pub fn take_uid(&mut self, sig: Sig) -> Option<Uid>
+        requires { IsTrue (well_formed (bare_store self.old)) }
+        ensures uid { result ≡ option_map (λ p. p.next_uid) (soup_of sig (bare_store self.old)) }
+        ensures taken { bare_store self.new ≡ take_uid_of sig (bare_store self.old) }
+    {
+        self.take_small_uid(sig)
+    }
+
+    /// The same, where the id is small enough.
+    fn take_small_uid(&mut self, sig: Sig) -> Option<Uid>
         requires { IfSome (soup_of sig (bare_store self.old)) (λ p. p.next_uid ≤ 536_870_911) }
         ensures uid { result ≡ option_map (λ p. p.next_uid) (soup_of sig (bare_store self.old)) }
         ensures taken { bare_store self.new ≡ take_uid_of sig (bare_store self.old) }

@@ -41,7 +41,9 @@ impl Directory {
         ensures { result ≡ is_name self.now.name && nat_le self.now.sig 536_870_911 && nat_le self.now.next_soup 65_535 && nat_le (length (map bare_soup self.now.soups)) 64 }
     {
         let _name = self.name.list();
-        self.sig.0 <= LARGEST_ID && self.next_soup <= LARGEST_NEXT_SOUP && self.soups.list().len() <= MOST_SOUPS
+        self.sig.0 <= LARGEST_ID
+            && self.next_soup <= LARGEST_NEXT_SOUP
+            && self.soups.list().len() <= MOST_SOUPS
     }
 }
 

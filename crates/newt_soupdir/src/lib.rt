@@ -17,3 +17,6 @@ pub use fault::DirFault;
 pub use read::read_directory;
 pub use rows::{Directory, SoupRow, Soups};
 pub use write::write_directory;
+
+#[cfg(test)]
+mod tests;

@@ -1,4 +1,4 @@
-use Rattle.std.proofs.Common.{sym, ap, ◌∙◌, arith}
+use Rattle.std.proofs.Common.{sym, ◌∙◌, arith}
 use Rattle.newt_entries.proofs.Records.{fit, unfit, counted}
 use Rattle.newt_entries.proofs.read.read_entry.Goals as goal
 

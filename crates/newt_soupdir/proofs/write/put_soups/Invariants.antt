@@ -1,4 +1,4 @@
-use Rattle.std.proofs.Common.{◌≡◌, ◌++◌, ◌∷◌, [], length, take, map}
+use Rattle.std.proofs.Common.{◌≡◌, ◌++◌, ◌∷◌, length, take}
 use Rattle.std.specs.List.{flat_map}
 use Rattle.newt_spec_store.specs.Cost.{soup_bytes}
 use Rattle.newt_soupdir.specs.Bare.{bare_soup}

@@ -1,9 +1,9 @@
-use Rattle.std.proofs.Common.{◌≡◌, ◌∙◌, List, ap, sym, subst}
+use Rattle.std.proofs.Common.{◌∙◌, List, ap, sym, subst}
 use Rattle.newt_graph.specs.declared.node.Node.{Node}
 use Rattle.newt_graph.specs.declared.node.Ref.TheVariants as refs
 use Rattle.newt_graph.specs.Graph.{RawGraph, IsGraph}
 use Rattle.newt_spec_world.specs.Alias as plain
-use Rattle.newt_alias.specs.Alias.{alias_graph, IsPrinted}
+use Rattle.newt_alias.specs.Alias.{IsPrinted}
 use Rattle.newt_alias.proofs.Graphs.{graph_is, alias_is, printed_is}
 use Rattle.newt_alias.proofs.alias.Alias.graph.Goals as goal
 
