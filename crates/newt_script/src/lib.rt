@@ -6,16 +6,20 @@
 //! blank line or a `%` line.
 #![tactic(auto)]
 
-mod command;
+mod entry_rows;
+mod fault;
 mod graphs;
 mod lines;
-mod rows;
+mod names;
+mod store_rows;
+mod table;
 mod verbs;
 mod words;
 
-pub use command::{Command, LineFault};
+pub use fault::LineFault;
 pub use graphs::literal;
 pub use lines::line;
+pub use newt_spec_world::Command;
 
 /// The longest line that is read, in bytes without its end.
 pub const LONGEST: usize = 140_000;
