@@ -8,8 +8,12 @@ mod batches;
 #[cfg(test)]
 mod card;
 #[cfg(test)]
+mod changes;
+#[cfg(test)]
 mod crashes;
 #[cfg(test)]
 mod objects;
+#[cfg(test)]
+mod plans;
 #[cfg(test)]
 mod tests;
