@@ -155,7 +155,10 @@ pub(crate) fn assert_held<P: PageBook>(
         let id = *id;
         assert_eq!(rt; objects.next(from), Some(u32::from(id)));
         assert_eq!(rt; objects.length(u32::from(id)), Some(*size));
-        assert!(rt; bytes_of(rt, host, book, objects, u32::from(id))? == text_from(alloc, id, *size)?, "{id}");
+        assert!(rt;
+            bytes_of(rt, host, book, objects, u32::from(id))? == text_from(alloc, id, *size)?,
+            "{id}"
+        );
         from = u32::from(id) + 1;
     }
     assert_eq!(rt; objects.next(from), None);

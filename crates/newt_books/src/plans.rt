@@ -53,13 +53,7 @@ fn keeps<P: PageBook>(
 
 #[test]
 fn objects_are_put_and_found_again(rt: HostRuntime) -> Result<(), Fail> {
-    let all = [
-        (3u8, 0u32),
-        (5, 1),
-        (6, 500),
-        (8, 501),
-        (9, 1_000_000),
-    ];
+    let all = [(3u8, 0u32), (5, 1), (6, 500), (8, 501), (9, 1_000_000)];
     keeps::<PlainBook>(&rt, rt.alloc(), 520, &all, 2005)
 }
 
@@ -68,11 +62,24 @@ fn shortens<P: PageBook>(rt: &impl Abort, alloc: Global) -> Result<(), Fail> {
     let mut host = fresh::<P>(rt, alloc, 13)?;
     let mut book: P = opened(rt, alloc, &mut host)?;
     let mut objects = scanned(alloc, &mut host, &mut book)?;
-    put_each(alloc, &mut host, &mut book, &mut objects, &[(7, 1_200), (8, 501)])?;
+    put_each(
+        alloc,
+        &mut host,
+        &mut book,
+        &mut objects,
+        &[(7, 1_200), (8, 501)],
+    )?;
     assert_eq!(rt; book.live(), 5);
     put_each(alloc, &mut host, &mut book, &mut objects, &[(7, 400)])?;
     assert_eq!(rt; book.live(), 3);
-    assert_kept(rt, alloc, &mut host, &mut book, &objects, &[(7, 400), (8, 501)])
+    assert_kept(
+        rt,
+        alloc,
+        &mut host,
+        &mut book,
+        &objects,
+        &[(7, 400), (8, 501)],
+    )
 }
 
 #[test]
@@ -85,13 +92,26 @@ fn deletes<P: PageBook>(rt: &impl Abort, alloc: Global) -> Result<(), Fail> {
     let mut host = fresh::<P>(rt, alloc, 13)?;
     let mut book: P = opened(rt, alloc, &mut host)?;
     let mut objects = scanned(alloc, &mut host, &mut book)?;
-    put_each(alloc, &mut host, &mut book, &mut objects, &[(7, 1_200), (8, 501)])?;
+    put_each(
+        alloc,
+        &mut host,
+        &mut book,
+        &mut objects,
+        &[(7, 1_200), (8, 501)],
+    )?;
     delete(rt, alloc, &mut host, &mut book, &mut objects, 7)?;
     assert_eq!(rt; book.next_page(0), Some(3));
     assert_kept(rt, alloc, &mut host, &mut book, &objects, &[(8, 501)])?;
     put_each(alloc, &mut host, &mut book, &mut objects, &[(9, 501)])?;
     assert_eq!(rt; book.next_page(2), Some(3));
-    assert_kept(rt, alloc, &mut host, &mut book, &objects, &[(8, 501), (9, 501)])
+    assert_kept(
+        rt,
+        alloc,
+        &mut host,
+        &mut book,
+        &objects,
+        &[(8, 501), (9, 501)],
+    )
 }
 
 #[test]
@@ -120,11 +140,31 @@ fn forgets<P: PageBook>(rt: &impl Abort, alloc: Global) -> Result<(), Fail> {
     let mut host = fresh::<P>(rt, alloc, 13)?;
     let mut book: P = opened(rt, alloc, &mut host)?;
     let mut objects = scanned(alloc, &mut host, &mut book)?;
-    put_each(alloc, &mut host, &mut book, &mut objects, &[(7, 1_200), (8, 501)])?;
+    put_each(
+        alloc,
+        &mut host,
+        &mut book,
+        &mut objects,
+        &[(7, 1_200), (8, 501)],
+    )?;
     plan_and_forget(rt, alloc, &mut objects)?;
-    assert_kept(rt, alloc, &mut host, &mut book, &objects, &[(7, 1_200), (8, 501)])?;
+    assert_kept(
+        rt,
+        alloc,
+        &mut host,
+        &mut book,
+        &objects,
+        &[(7, 1_200), (8, 501)],
+    )?;
     put_each(alloc, &mut host, &mut book, &mut objects, &[(9, 400)])?;
-    assert_kept(rt, alloc, &mut host, &mut book, &objects, &[(7, 1_200), (8, 501), (9, 400)])
+    assert_kept(
+        rt,
+        alloc,
+        &mut host,
+        &mut book,
+        &objects,
+        &[(7, 1_200), (8, 501), (9, 400)],
+    )
 }
 
 #[test]
@@ -163,7 +203,10 @@ fn every_page_number_is_given(rt: HostRuntime) -> Result<(), Fail> {
     let Some(few) = numbers_for(alloc, 5_000)? else {
         panic!(&rt; "the object is not planned");
     };
-    assert_eq!(&rt; few.as_slice(), [5, 0, 1, 2, 3, 4, 6, 7, 8, 10, 11].as_slice());
+    assert_eq!(&rt;
+        few.as_slice(),
+        [5, 0, 1, 2, 3, 4, 6, 7, 8, 10, 11].as_slice()
+    );
     let Some(all) = numbers_for(alloc, 65_534 * 500)? else {
         panic!(&rt; "the object is not planned");
     };
