@@ -7,3 +7,6 @@
 mod alias;
 
 pub use alias::Alias;
+
+#[cfg(test)]
+mod tests;

@@ -18,3 +18,6 @@ pub use laws::streams_are_read;
 pub use read::read_entry;
 pub use row::EntryRow;
 pub use write::write_entry;
+
+#[cfg(test)]
+mod tests;
