@@ -2,11 +2,11 @@
 use Rattle.std.proofs.Common.{◌≡◌, ◌≢◌, ℕ, true, false, cond, List, [], ◌∷◌, ◌++◌, flat_map, Option, Some, None, Result, Ok, Err, refl, sym, ◌∙◌, ap, append-nil}
 use Rattle.newt_base.specs.declared.Refusal.{Refusal}
 use Rattle.newt_reply.specs.declared.reply.Reply.TheVariants.{Refused as RefusedReply}
-use Rattle.newt_reply.specs.Texts.{reply_text}
+use Rattle.newt_top.specs.Texts.{reply_text}
 use Rattle.newt_script.specs.Lines.{line_command}
-use Rattle.newt_script.specs.declared.command.Command.{Command}
-use Rattle.newt_script.specs.declared.command.LineFault.{LineFault}
-use Rattle.newt_script.specs.declared.command.LineFault.TheVariants.{Refused, Memory}
+use Rattle.newt_spec_world.specs.declared.command.Command.{Command}
+use Rattle.newt_script.specs.declared.fault.LineFault.{LineFault}
+use Rattle.newt_script.specs.declared.fault.LineFault.TheVariants.{Refused, Memory}
 use Rattle.newt_top.specs.Script.{Item, given, items_of, is_quit, up_to_quit, quits_among, answer_to, replies, world_behind, has_quit, world_after, output_of}
 use Rattle.newt_top.specs.World.{World, answer}
 

@@ -8,7 +8,7 @@ use Rattle.newt_nsof.specs.Written.{nsof}
 use Rattle.newt_nsof_read.specs.Reading.{decoded}
 use Rattle.newt_nsof_read.specs.declared.fault.NsofFault.{NsofFault}
 use Rattle.newt_nsof_read.specs.declared.fault.NsofFault.TheVariants as nsof_faults
-use Rattle.newt_reply.specs.Texts.{reply_text}
+use Rattle.newt_top.specs.Texts.{reply_text}
 use Rattle.newt_reply.specs.declared.reply.Reply.TheVariants as replies
 use Rattle.newt_script.specs.Graphs.{literal_of}
 use Rattle.newt_top.specs.Stream.{WroteSome}

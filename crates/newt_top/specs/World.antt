@@ -1,9 +1,10 @@
 -- The world of a script, and what it answers to a command.
 use Rattle.std.specs.Prelude.{ℕ}
+use Rattle.newt_base.specs.declared.Refusal.TheVariants.{Command as NoCommand}
 use Rattle.newt_reply.specs.declared.reply.Reply.{Reply}
 use Rattle.newt_reply.specs.declared.reply.Reply.TheVariants as replies
-use Rattle.newt_script.specs.declared.command.Command.{Command}
-use Rattle.newt_script.specs.declared.command.Command.TheVariants.{Nsof, Lit, Time, Quit}
+use Rattle.newt_spec_world.specs.declared.command.Command.{Command}
+use Rattle.newt_spec_world.specs.declared.command.Command.TheVariants.{Nsof, Lit, Time, Quit}
 use Rattle.newt_top.specs.declared.session.Session.{Session}
 
 pub record World : Type 0 where
@@ -32,3 +33,5 @@ answer world (Nsof graph) = record { world = world; reply = replies.Nsof graph }
 answer world (Lit graph) = record { world = world; reply = replies.Literal graph }
 answer world (Time minute) = done (record world { minute = minute })
 answer world Quit = done world
+-- the commands on units are read, and not obeyed yet
+answer world _ = record { world = world; reply = replies.Refused NoCommand }

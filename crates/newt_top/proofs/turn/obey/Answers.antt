@@ -1,6 +1,6 @@
 use Rattle.std.proofs.Common.{ℕ, List, sym, subst}
 use Rattle.std.proofs.lemmas.Result.{err_from_is_err_and}
-use Rattle.newt_reply.specs.Texts.{reply_text}
+use Rattle.newt_top.specs.Texts.{reply_text}
 use Rattle.newt_top.specs.Stream.{out_of, WroteSome}
 use Rattle.newt_top.specs.World.{answer, world_of}
 use Rattle.newt_top.proofs.Writing.{wrote_nothing}

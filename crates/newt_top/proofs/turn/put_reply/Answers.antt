@@ -1,4 +1,4 @@
-use Rattle.newt_reply.specs.Texts.{reply_text}
+use Rattle.newt_top.specs.Texts.{reply_text}
 use Rattle.newt_top.specs.Stream.{out_of}
 use Rattle.newt_top.proofs.Writing.{wrote_nothing}
 use Rattle.newt_top.proofs.turn.put_reply.Goals as goal
