@@ -9,7 +9,7 @@ use Rattle.newt_spec_world.specs.World.{World, Device, store_of, store_on_unit, 
 use Rattle.newt_spec_world.specs.Alias.{Alias, Spot, resolved}
 use Rattle.newt_spec_world.specs.Answer.{after}
 use Rattle.newt_spec_graph.specs.Lists.{Among}
-use Rattle.newt_laws.specs.Later.{EntryGone}
+use Rattle.newt_laws_changes.specs.Later.{EntryGone}
 use Rattle.newt_laws.specs.Named.{IsNamed}
 use Rattle.newt_spec_graph.proofs.Lists.{among-filter_map, some-same, none-some}
 use Rattle.newt_laws.proofs.Units.{has-mounted, mapped}

@@ -5,7 +5,7 @@ use Rattle.std.specs.List.{list_any, cons_option}
 use Rattle.std.proofs.lemmas.Bool.{and_parts}
 use Rattle.newt_base.specs.Names.{equal_text}
 use Rattle.newt_spec_store.specs.Keys.{IndexSpec, Key, Path, same_spec}
-use Rattle.newt_spec_store.specs.Store.{Store, Soup, Entry, change_first, change_soup, make_soup, drop_soup, remove_entry}
+use Rattle.newt_spec_store.specs.Store.{Store, Soup, Entry, change_soup, make_soup, drop_soup, remove_entry}
 use Rattle.newt_spec_store.specs.Valid.{well_formed, fits, valid}
 use Rattle.newt_spec_query.specs.Hits.{Hit, Query, hits, in_scope, carries, passes}
 use Rattle.newt_spec_query.specs.Cursor.{Place, on, Cursor, first_place, last_place, next_place, previous_place, moved}
@@ -17,6 +17,7 @@ use Rattle.newt_spec_graph.specs.Lists.{Each, Pairs, Among}
 use Rattle.newt_laws.specs.Worlds.{OnMedia, AllValid}
 use Rattle.newt_laws.specs.Settled.{IsSettled, MountedApart, moves_keys}
 use Rattle.newt_spec_graph.proofs.Lists.{each-from, among-append, among-filter, some-same, none-some}
+use Rattle.newt_laws_changes.proofs.Chosen.{among-first}
 use Rattle.newt_laws.proofs.Found.{Other, hits-apart, hit-found, found-hit}
 use Rattle.newt_laws.proofs.Units.{has-mounted, same-or-not, device-other, device-same}
 use Rattle.newt_laws.proofs.Kept.{Wf, Every, media-more}
@@ -74,17 +75,6 @@ shrinks-make name s = record { sig_same = refl; each = λ p m e n. go p e n (amo
 
 shrinks-drop : (name : List ℕ) (s : Store) → Shrinks (drop_soup name s) s
 shrinks-drop name s = record { sig_same = refl; each = λ p m e n. itself s p (among-filter _ s.soups p m).0 e n }
-
-pub among-first : {X : Type 0} (test : X → Bool) (f : X → X) (xs : List X) (z : X) → Among (change_first test f xs) z → Among xs z ⊎ ((x : X) × Among xs x × (f x ≡ z))
-among-first test f [] z m = absurd m
-among-first test f (x ∷ xs) z m = go (among-first test f xs z) (test x) m
-  where
-    go : (Among (change_first test f xs) z → Among xs z ⊎ ((y : _) × Among xs y × (f y ≡ z))) → (b : Bool) → Among (cond b (f x ∷ xs) (x ∷ change_first test f xs)) z
-        → Among (x ∷ xs) z ⊎ ((y : _) × Among (x ∷ xs) y × (f y ≡ z))
-    go more true (inl e) = inr (x, inl refl, e)
-    go more true (inr m) = inl (inr m)
-    go more false (inl e) = inl (inl e)
-    go more false (inr m) = elim (more m) [ inl k ↦ inl (inr k) | inr r ↦ inr (r.0, inr r.1, r.2) ]
 
 any-filter : {X : Type 0} (test keep : X → Bool) (xs : List X) → list_any test (filter keep xs) ≡ true → list_any test xs ≡ true
 any-filter test keep [] h = h

@@ -1,23 +1,15 @@
 -- What is removed is gone.
-use Rattle.std.proofs.Common.{◌≡◌, refl, ap, sym, ◌∙◌, subst, ℕ, ◌<◌, ◌≤◌, List, [], ◌∷◌, true, false, Bool, not, cond, Some, find, map, inl, inr, ◌==◌}
+use Rattle.std.proofs.Common.{◌≡◌, refl, ap, sym, ◌∙◌, subst, ℕ, ◌<◌, ◌≤◌, List, true, false, Bool, not, Some, map, ◌==◌}
 use Rattle.std.proofs.lemmas.Bool.{eq-eqb}
 use Rattle.newt_base.specs.Names.{equal_text}
-use Rattle.newt_spec_store.specs.Store.{Store, Soup, Entry, soup_named, change_first, change_soup, remove_entry, drop_soup}
+use Rattle.newt_spec_store.specs.Store.{Store, Soup, Entry, soup_named, change_soup, remove_entry, drop_soup}
 use Rattle.newt_spec_store.specs.Valid.{well_formed, valid_soup}
 use Rattle.newt_spec_graph.specs.Lists.{Pairs, Among}
-use Rattle.newt_laws.specs.Later.{EntryGone, SoupGone}
-use Rattle.newt_spec_graph.proofs.Lists.{each-at, each-list_all, among-filter, rises-above, rises-pairs, pairs-map, none-some, some-same, both-ways}
+use Rattle.newt_laws_changes.specs.Later.{EntryGone, SoupGone}
+use Rattle.newt_laws_changes.proofs.Chosen.{find-passes, first-among}
+use Rattle.newt_spec_graph.proofs.Lists.{each-at, each-list_all, among-filter, rises-above, rises-pairs, pairs-map, both-ways}
 use Rattle.newt_laws.proofs.Soups.{is-store, IsSoup, is-soup, with-soup, without-entry}
-use Rattle.newt_laws.proofs.Settled.{find-passes}
-use Rattle.newt_laws.proofs.Assembled.{map-among, one-sig}
-
-first-among : {X : Type 0} (test : X → Bool) (f : X → X) (xs : List X) (x : X) → find test xs ≡ Some x → Among (change_first test f xs) (f x)
-first-among test f [] x h = absurd (none-some x h)
-first-among test f (y ∷ xs) x h = go (first-among test f xs x) (test y) h
-  where
-    go : (find test xs ≡ Some x → Among (change_first test f xs) (f x)) → (b : Bool) → cond b (Some y) (find test xs) ≡ Some x → Among (cond b (f y ∷ xs) (y ∷ change_first test f xs)) (f x)
-    go more true e = inl (ap f (some-same y x e))
-    go more false e = inr (more e)
+use Rattle.newt_laws_images.proofs.Assembled.{map-among, one-sig}
 
 sigs-rise : (s : Store) → well_formed s ≡ true → Pairs (λ (a b : Soup). a.sig < b.sig) s.soups
 sigs-rise s w = pairs-map (λ m n. m < n) (λ (p : Soup). p.sig) s.soups (rises-pairs 0 s.next_soup (map (λ (p : Soup). p.sig) s.soups) (is-store s w).sigs)

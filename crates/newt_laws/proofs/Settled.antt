@@ -17,19 +17,12 @@ use Rattle.newt_spec_graph.specs.Lists.{Each, Pairs, Among}
 use Rattle.newt_laws.specs.Settled.{IsSettled}
 use Rattle.newt_spec_graph.proofs.Lists.{each-at, among-filter, some-same, none-some}
 use Rattle.newt_laws.proofs.Found.{Other}
+pub use Rattle.newt_laws_changes.proofs.Chosen.{find-passes}
 
 -- ---- to settle twice
 
 three-equal : (a b : Hit) → same_identity a b ≡ true → (a.store ≡ b.store) × (a.soup ≡ b.soup) × (a.uid ≡ b.uid)
 three-equal a b h = (grind arith, grind arith, grind arith)
-
-pub find-passes : {X : Type 0} (test : X → Bool) (xs : List X) (x : X) → find test xs ≡ Some x → (test x ≡ true) × Among xs x
-find-passes test [] x h = cc
-find-passes test (y ∷ xs) x h = go (find-passes test xs x) (test y) refl h
-  where
-    go : (find test xs ≡ Some x → (test x ≡ true) × Among xs x) → (b : Bool) → test y ≡ b → cond b (Some y) (find test xs) ≡ Some x → (test x ≡ true) × Among (y ∷ xs) x
-    go more true e k = (ap test (sym (some-same y x k)) ∙ e, inl (some-same y x k))
-    go more false e k = let r = more k in (r.0, inr r.1)
 
 by_identity : ℕ → ℕ → ℕ → Hit → Bool
 by_identity s p u h = (s == h.store) && (p == h.soup) && (u == h.uid)

@@ -1,32 +1,9 @@
 -- What a later world has of the stores of an earlier one.
-use Rattle.std.specs.Prelude.{◌≡◌, ℕ, ◌<◌, ◌≤◌, Some, ◌⊎◌}
-use Rattle.newt_spec_store.specs.Store.{Store, Soup, Entry}
+use Rattle.std.specs.Prelude.{◌≡◌, ℕ, Some}
+use Rattle.newt_spec_store.specs.Store.{Store}
 use Rattle.newt_spec_world.specs.World.{World, store_on_unit}
-use Rattle.newt_spec_graph.specs.Lists.{Among}
-
--- q is p, later: each id in it was there, or is new
-pub record SoupLater (p q : Soup) : Type 0 where
-  pub sig_same : q.sig ≡ p.sig
-  pub next : p.next_uid ≤ q.next_uid
-  pub uids : (e : Entry) → Among q.entries e → ((d : Entry) × Among p.entries d × (d.uid ≡ e.uid)) ⊎ (p.next_uid ≤ e.uid)
-
--- t is s, later: each soup in it was there, or is new
-pub record StoreLater (s t : Store) : Type 0 where
-  pub sig_same : t.sig ≡ s.sig
-  pub next : s.next_soup ≤ t.next_soup
-  pub soups : (q : Soup) → Among t.soups q → ((p : Soup) × Among s.soups p × SoupLater p q) ⊎ (s.next_soup ≤ q.sig)
+use Rattle.newt_laws_changes.specs.Later.{StoreLater}
 
 -- each unit with a store has that store, later
 abbrev pub WorldLater : World → World → Type 0
 WorldLater w v = (u : ℕ) (s : Store) → store_on_unit w u ≡ Some s → (t : Store) × (store_on_unit v u ≡ Some t) × StoreLater s t
-
--- No soup of this signature has an entry of this id, though both have been given.
-pub record EntryGone (sig uid : ℕ) (s : Store) : Type 0 where
-  pub sig_given : sig < s.next_soup
-  pub uid_given : (p : Soup) → Among s.soups p → p.sig ≡ sig → uid < p.next_uid
-  pub not_there : (p : Soup) (e : Entry) → Among s.soups p → p.sig ≡ sig → Among p.entries e → e.uid ≡ uid → ⊥
-
--- No soup has this signature, though it has been given.
-pub record SoupGone (sig : ℕ) (s : Store) : Type 0 where
-  pub sig_given : sig < s.next_soup
-  pub not_there : (p : Soup) → Among s.soups p → p.sig ≡ sig → ⊥

@@ -4,7 +4,8 @@ ghost use Rattle.newt_spec_store.specs.Store.{Store, Entry, Soup, soup_named, ch
 ghost use Rattle.newt_spec_store.specs.Valid.{well_formed};
 ghost use Rattle.newt_spec_world.specs.World.{World, store_on_unit};
 ghost use Rattle.newt_spec_world.specs.Alias.{Alias as IsAlias, Spot, resolved};
-ghost use Rattle.newt_laws.specs.Later.{WorldLater, StoreLater, EntryGone, SoupGone};
+ghost use Rattle.newt_laws_changes.specs.Later.{StoreLater, EntryGone, SoupGone};
+ghost use Rattle.newt_laws.specs.Later.{WorldLater};
 ghost use Rattle.newt_laws.specs.Named.{IsNamed};
 ghost use Rattle.newt_spec_world.specs.Answer.{after};
 ghost use Rattle.newt_spec_world.specs.declared.command.Command.{Command as IsCommand};

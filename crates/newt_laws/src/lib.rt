@@ -1,24 +1,20 @@
 //! Laws of the plain world: what holds of its definitions, each as the contract of a function without a body.
 //!
 //! It stands on the crates of definitions (`newt_spec_graph`, `newt_spec_store`, `newt_spec_query`, `newt_spec_world`). A store that is valid
-//! stays valid under each command, a world whose cursors show the present keys stays so, an id or signature is given once, a store
-//! that counts its cost as it goes has the cost made afresh, and an image holds at most one store.
+//! stays valid under each command, a world whose cursors show the present keys stays so, an id or signature is given once, and a store
+//! that counts its cost as it goes has the cost made afresh. What images are read as is in `newt_laws_images`.
 #![tactic(auto)]
 
 mod graphs;
 mod identities;
 mod queries;
 mod scripts;
-mod stores;
 mod worlds;
 
 pub use graphs::graphs_are_within_limits;
 pub use identities::{aliases_name_their_entry, ids_are_given_once, removed_is_gone};
 pub use queries::{hits_are_found, hits_rise};
 pub use scripts::{commands_have_their_forms, scripts_keep_all};
-pub use stores::{
-    costs_add_up, images_hold_one_store, records_are_read_back, stores_are_read_back,
-};
 pub use worlds::{
     few_commands_move_keys, first_worlds_keep_all, runs_keep_all, signatures_stay_apart,
     stores_stay_valid, worlds_stay_settled,

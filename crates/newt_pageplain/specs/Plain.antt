@@ -29,17 +29,17 @@ banks_with told unit journal entries outside s =
     let blocks : outside.blocks unit ≡ s.its.blocks = ap outside.blocks (sym s.on) ∙ s.stands.has.count in
     subst (λ (n : ℕ). (13 ≤ n) × (n ≤ 4099)) (sym blocks) (s.its.enough, s.its.not_too_many)
 
-pub kept_with : (told : Bool) (unit : ℕ) (journal : Option Journal) (entries : Entries) (old new : Outside) → StandsWith told unit journal entries old → IsSameFor unit old new → StandsWith told unit journal entries new
+pub kept_with : (told : Bool) (unit : ℕ) (journal : Option Journal) (entries : Entries) (old new : Outside) → StandsWith told unit journal entries old → IsSameFor told unit old new → StandsWith told unit journal entries new
 kept_with told unit journal entries old new s same =
     let at = s.its.unit in
-    let its : IsSameFor at old new = subst (λ (u : ℕ). IsSameFor u old new) (sym s.on) same in
+    let its : IsSameFor told at old new = subst (λ (u : ℕ). IsSameFor told u old new) (sym s.on) same in
     record {
       its = s.its;
       is = s.is;
       stands = record {
         has = record { attached = subst (λ (c : Option (List ℕ)). IsSome c) (sym its.card) s.stands.has.attached; count = its.blocks ∙ s.stands.has.count };
-        held = λ tells. subst (λ (done : List Event). HeldBy s.its done) (sym its.changes) (s.stands.held tells);
+        held = λ tells. subst (λ (done : List Event). HeldBy s.its done) (sym (its.changes tells)) (s.stands.held tells);
       };
       on = s.on;
-      holds = λ tells. ap (λ (done : List Event). pages (bytes_after done)) same.changes ∙ s.holds tells;
+      holds = λ tells. ap (λ (done : List Event). pages (bytes_after done)) (same.changes tells) ∙ s.holds tells;
     }

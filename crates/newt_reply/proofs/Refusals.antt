@@ -3,14 +3,16 @@ use Rattle.std.proofs.Common.{◌≡◌, ℕ, List, [], ◌∷◌, ◌++◌, cod
 use Rattle.newt_base.specs.declared.Refusal.{Refusal}
 use Rattle.newt_base.specs.Refusals.{refusal_number, refusal_word}
 use Rattle.newt_base.specs.Text.{decimal_text, decimal_text-decimal}
-use Rattle.newt_reply.specs.Texts.{error_line}
+use Rattle.newt_spec_world.specs.Reply.{refused}
+use Rattle.newt_reply.specs.Fields.{written}
 
 regrouped : (front number word : List ℕ) → front ++ (number ++ 32 ∷ (word ++ 10 ∷ [])) ≡ (front ++ (number ++ 32 ∷ word)) ++ 10 ∷ []
 regrouped front number word =
     ap (λ text. front ++ text) (sym (append_assoc number (32 ∷ word) (10 ∷ []))) ∙ sym (append_assoc front (number ++ 32 ∷ word) (10 ∷ []))
 
 pub error_text : (number : ℕ) (word : List ℕ) (refusal : Refusal) → number ≡ refusal_number refusal → word ≡ refusal_word refusal
-    → codes "error " ++ (decimal number ++ 32 ∷ (word ++ 10 ∷ [])) ≡ error_line refusal
+    → codes "error " ++ (decimal number ++ 32 ∷ (word ++ 10 ∷ [])) ≡ written (refused refusal)
+unfolding written
 error_text number word refusal number_is word_is =
     ap (λ n. codes "error " ++ (decimal n ++ 32 ∷ (word ++ 10 ∷ []))) number_is
     ∙ (ap (λ w. codes "error " ++ (decimal (refusal_number refusal) ++ 32 ∷ (w ++ 10 ∷ []))) word_is

@@ -1,33 +1,47 @@
 //! What is answered to a command.
-ghost use Rattle.std.specs.Prelude.{◌≡◌, IfOk};
 
-use newt_base::Refusal;
+use crate::rows::{SoupRows, StoreRows};
+use newt_base::{Name, Refusal, Sig, Uid};
 use newt_graph::Graph;
-use std::alloc::AllocError;
+use newt_host::Unit;
+
+/// What names an entry for as long as it is there: the signatures of its store and soup, and its id.
+#[derive(Clone, Copy, PartialEq, Eq, Debug)]
+pub struct Alias {
+    pub store: Sig,
+    pub soup: Sig,
+    pub uid: Uid,
+}
 
 /// What is answered to a command.
 #[derive(Drop)]
 pub enum Reply {
     /// It was done, and there is nothing to show.
     Done,
+    /// The id of an entry that was added, or the signature of a soup that was made.
+    Number(u32),
+    /// The unit and the id of an entry that was added to the default store.
+    Added(Unit, Uid),
+    /// The signature and the name of a store.
+    Store(Sig, Name),
+    /// The mounted stores.
+    Stores(StoreRows),
+    /// The soups of a store.
+    Soups(SoupRows),
     /// A graph, shown as the hexadecimal text of its object stream.
     Nsof(Graph),
     /// A graph, shown as the literal that is printed of it.
     Literal(Graph),
+    /// The minute and the graph of an entry, the graph as a literal.
+    Timed(u32, Graph),
+    /// The minute and the graph of an entry, the graph as hexadecimal text.
+    TimedNsof(u32, Graph),
+    /// An alias, shown as a literal.
+    Alias(Alias),
+    /// The unit, soup and id of an entry.
+    Where(Unit, Name, Uid),
+    /// There is no such entry.
+    Nil,
     /// It was refused.
     Refused(Refusal),
-}
-
-impl Reply {
-    /// An equal reply.
-    pub fn copy(&self) -> Result<Reply, AllocError>
-        ensures { IfOk result (λ copy. copy ≡ self.now) }
-    {
-        Ok(match self {
-            Reply::Done => Reply::Done,
-            Reply::Nsof(graph) => Reply::Nsof(graph.copy()?),
-            Reply::Literal(graph) => Reply::Literal(graph.copy()?),
-            Reply::Refused(refusal) => Reply::Refused(*refusal),
-        })
-    }
 }

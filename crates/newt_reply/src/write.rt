@@ -1,64 +1,113 @@
 //! The text of a reply.
-ghost use Rattle.std.specs.Prelude.{◌≡◌, ◌++◌, ◌∷◌, [], IfOk, OnOk, codes};
-ghost use Rattle.newt_base.specs.Refusals.{refusal_text};
-ghost use Rattle.newt_nsof.specs.Written.{nsof};
-ghost use Rattle.newt_base.specs.Text as text_of;
-ghost use Rattle.newt_reply.specs.Texts as spec;
+ghost use Rattle.std.specs.Prelude.{◌≡◌, ◌∷◌, [], ◌++◌, IfOk};
+ghost use Rattle.newt_spec_world.specs.Reply as spec;
+ghost use Rattle.newt_reply.specs.Fields.{ok_text, written};
+ghost use Rattle.newt_reply.specs.Said.{said};
 
+use crate::fields::{alias_literal, name_text, number_text, stream_text};
+use crate::items::{soups_text, stores_text};
+use crate::line::ok_line;
 use crate::reply::Reply;
-use newt_base::{Refusal, hex_text};
+use newt_base::{Name, Refusal, Sig, Uid};
 use newt_graph::Graph;
+use newt_host::Unit;
 use newt_lit_print::print_literal;
-use newt_nsof_write::encode;
 use std::alloc::{AllocError, Global};
-
-/// A field after a space. One that is empty is left out with its space.
-fn push_field(line: &mut Vec<u8>, field: &[u8]) -> Result<(), AllocError>
-    ensures { OnOk result (line.new.items ≡ line.old.items ++ spec.spaced field.now) }
-{
-    if !field.is_empty() {
-        line.push(b' ')?;
-        line.extend_from_slice(field)?;
-    }
-    Ok(())
-}
-
-/// The hexadecimal digits of a graph's object stream.
-fn stream_digits(alloc: Global, graph: &Graph) -> Result<Vec<u8>, AllocError>
-    ensures { IfOk result (λ digits. digits.items ≡ text_of.hex_text (nsof graph.now)) }
-{
-    let stream = encode(alloc, graph)?;
-    hex_text(alloc, &stream)
-}
-
-/// `ok` and one field.
-fn ok_line(alloc: Global, field: &[u8]) -> Result<Vec<u8>, AllocError>
-    ensures { IfOk result (λ line. line.items ≡ spec.ok_line (field.now ∷ [])) }
-{
-    let mut line = Vec::from_slice(alloc, b"ok")?;
-    push_field(&mut line, field)?;
-    line.push(b'\n')?;
-    Ok(line)
-}
 
 /// `error`, the number and the word of a refusal.
 fn error_line(alloc: Global, refusal: Refusal) -> Result<Vec<u8>, AllocError>
-    ensures { IfOk result (λ line. line.items ≡ spec.error_line refusal) }
+    ensures { IfOk result (λ line. line.items ≡ written (spec.refused refusal)) }
 {
     let number = refusal.number();
     let word = refusal.word();
     Ok(format!(in alloc; "error {number} {word}\n")?.into_bytes())
 }
 
-/// The line of a reply, with the byte 10 at its end. The texts of replies are this project's own.
-#[tactic(auto, unfolding(crate::specs::Texts::reply_text))]
-pub fn write_reply(alloc: Global, reply: &Reply) -> Result<Vec<u8>, AllocError>
-    ensures { IfOk result (λ line. line.items ≡ spec.reply_text reply.now) }
+/// A unit and the id of an entry.
+#[tactic(auto, using(crate::proofs::Written::added_text))]
+fn added_line(alloc: Global, unit: Unit, uid: Uid) -> Result<Vec<u8>, AllocError>
+    ensures { IfOk result (λ line. line.items ≡ written (spec.added unit uid)) }
+{
+    let unit = number_text(alloc, u32::from(unit.0))?;
+    let uid = number_text(alloc, uid.0)?;
+    ok_line(alloc, &[unit.as_slice(), uid.as_slice()])
+}
+
+/// The signature and the name of a store.
+#[tactic(auto, using(crate::proofs::Written::store_text))]
+fn store_line(alloc: Global, sig: Sig, name: &Name) -> Result<Vec<u8>, AllocError>
+    ensures { IfOk result (λ line. line.items ≡ written (spec.store sig name.now)) }
+{
+    let sig = number_text(alloc, sig.0)?;
+    let name = name_text(alloc, name)?;
+    ok_line(alloc, &[sig.as_slice(), name.as_slice()])
+}
+
+/// The minute of an entry, and its graph as a literal.
+#[tactic(auto, using(crate::proofs::Written::timed_text))]
+fn timed_line(alloc: Global, time: u32, graph: &Graph) -> Result<Vec<u8>, AllocError>
+    ensures { IfOk result (λ line. line.items ≡ written (spec.timed time graph.now)) }
+{
+    let time = number_text(alloc, time)?;
+    let literal = print_literal(alloc, graph)?;
+    ok_line(alloc, &[time.as_slice(), literal.as_slice()])
+}
+
+/// The minute of an entry, and the hexadecimal digits of its graph.
+#[tactic(auto, using(crate::proofs::Written::timed_nsof_text))]
+fn timed_stream_line(alloc: Global, time: u32, graph: &Graph) -> Result<Vec<u8>, AllocError>
+    ensures { IfOk result (λ line. line.items ≡ written (spec.timed_nsof time graph.now)) }
+{
+    let time = number_text(alloc, time)?;
+    let digits = stream_text(alloc, graph)?;
+    ok_line(alloc, &[time.as_slice(), digits.as_slice()])
+}
+
+/// The unit, soup and id of an entry.
+#[tactic(auto, using(crate::proofs::Written::where_text))]
+fn where_line(alloc: Global, unit: Unit, name: &Name, uid: Uid) -> Result<Vec<u8>, AllocError>
+    ensures { IfOk result (λ line. line.items ≡ written (spec.where_is unit name.now uid)) }
+{
+    let unit = number_text(alloc, u32::from(unit.0))?;
+    let name = name_text(alloc, name)?;
+    let uid = number_text(alloc, uid.0)?;
+    ok_line(alloc, &[unit.as_slice(), name.as_slice(), uid.as_slice()])
+}
+
+/// `ok` and one field.
+fn one_field(alloc: Global, field: &[u8]) -> Result<Vec<u8>, AllocError>
+    ensures { IfOk result (λ line. line.items ≡ ok_text (field.now ∷ [])) }
+{
+    ok_line(alloc, &[field])
+}
+
+/// The line of a reply.
+#[tactic(auto, using(crate::proofs::Written::done_text, crate::proofs::Written::nil_text, crate::proofs::Written::number_text, crate::proofs::Written::stores_text, crate::proofs::Written::soups_text, crate::proofs::Written::nsof_text, crate::proofs::Written::literal_text, crate::proofs::Written::alias_text))]
+fn line_of(alloc: Global, reply: &Reply) -> Result<Vec<u8>, AllocError>
+    ensures { IfOk result (λ line. line.items ≡ written (said reply.now)) }
 {
     match reply {
-        Reply::Done => ok_line(alloc, b""),
-        Reply::Nsof(graph) => ok_line(alloc, &stream_digits(alloc, graph)?),
-        Reply::Literal(graph) => ok_line(alloc, &print_literal(alloc, graph)?),
+        Reply::Done => one_field(alloc, b""),
+        Reply::Number(number) => one_field(alloc, &number_text(alloc, *number)?),
+        Reply::Added(unit, uid) => added_line(alloc, *unit, *uid),
+        Reply::Store(sig, name) => store_line(alloc, *sig, name),
+        Reply::Stores(lines) => one_field(alloc, &stores_text(alloc, lines.list())?),
+        Reply::Soups(lines) => one_field(alloc, &soups_text(alloc, lines.list())?),
+        Reply::Nsof(graph) => one_field(alloc, &stream_text(alloc, graph)?),
+        Reply::Literal(graph) => one_field(alloc, &print_literal(alloc, graph)?),
+        Reply::Timed(time, graph) => timed_line(alloc, *time, graph),
+        Reply::TimedNsof(time, graph) => timed_stream_line(alloc, *time, graph),
+        Reply::Alias(alias) => one_field(alloc, &alias_literal(alloc, *alias)?),
+        Reply::Where(unit, name, uid) => where_line(alloc, *unit, name, *uid),
+        Reply::Nil => one_field(alloc, b"nil"),
         Reply::Refused(refusal) => error_line(alloc, *refusal),
     }
+}
+
+/// The line of a reply, with the byte 10 at its end. The texts of replies are this project's own.
+#[tactic(auto, unfolding(crate::specs::Fields::written))]
+pub fn write_reply(alloc: Global, reply: &Reply) -> Result<Vec<u8>, AllocError>
+    ensures { IfOk result (λ line. line.items ≡ spec.reply_text (said reply.now)) }
+{
+    line_of(alloc, reply)
 }

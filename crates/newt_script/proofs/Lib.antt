@@ -1,2 +1,7 @@
 pub mod Blanks
 pub mod Literals
+pub mod Quotes
+pub mod Forms
+pub mod RowTable
+pub mod Returns
+pub mod Spoken

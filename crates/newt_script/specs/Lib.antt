@@ -1,4 +1,6 @@
-pub mod Words
-pub mod Lines
 pub mod Graphs
-pub mod Rows
+pub mod Stage
+pub mod Verbs
+pub mod Names
+pub mod Readers
+pub mod Lines

@@ -2,7 +2,7 @@
 ghost use Rattle.std.specs.Prelude.{◌≡◌, ◌≢◌, Some};
 ghost use Rattle.newt_script.specs.Graphs as spec;
 
-use crate::command::LineFault;
+use crate::fault::LineFault;
 use newt_base::{HexFault, Refusal, hex_read};
 use newt_graph::Graph;
 use newt_lit_read::{LitFault, read_literal};
@@ -11,6 +11,7 @@ use std::alloc::Global;
 use std::str;
 
 /// The graph of an object stream.
+#[tactic(auto, unfolding(crate::specs::Graphs::stream_of))]
 fn stream(alloc: Global, bytes: &[u8]) -> Result<Graph, LineFault>
     ensures { result ≢ Err LineFault.Memory → result ≡ spec.digits_answer (Some bytes.now) }
 {
@@ -46,12 +47,12 @@ pub fn literal(alloc: Global, bytes: &[u8]) -> Result<Graph, LitFault>
 }
 
 /// The graph of the literal that is the rest of a line.
-#[tactic(auto, unfolding(crate::specs::Graphs::literal_word))]
+#[tactic(auto, unfolding(crate::specs::Graphs::literal_word, crate::specs::Graphs::literal_in))]
 pub fn literal_word(alloc: Global, text: &[u8]) -> Result<Graph, LineFault>
     ensures { result ≢ Err LineFault.Memory → result ≡ spec.literal_word text.now }
 {
     if text.is_empty() {
-        return Err(LineFault::Refused(Refusal::Line));
+        return Err(LineFault::FORM);
     }
     match literal(alloc, text) {
         Ok(graph) => Ok(graph),

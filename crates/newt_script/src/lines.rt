@@ -1,17 +1,22 @@
 //! Whole lines.
 ghost use Rattle.std.specs.Prelude.{◌≡◌, ◌≢◌};
-ghost use Rattle.newt_script.specs.Lines as spec;
+ghost use Rattle.newt_spec_script.specs.Line.{says_nothing};
+ghost use Rattle.newt_spec_script.specs.Script as script;
+ghost use Rattle.newt_script.specs.Lines.{line_command, spoken};
 
 use crate::LONGEST;
-use crate::command::{Command, LineFault};
-use crate::rows::command;
-use crate::words::skip_blanks;
+use crate::fault::LineFault;
+use crate::table::row;
+use crate::verbs::named;
+use crate::words::{Words, skip_blanks};
 use newt_base::Refusal;
+use newt_spec_world::Command;
 use std::alloc::Global;
 
 /// A line without the byte 13 at its end.
+#[tactic(auto, using(crate::proofs::Returns::cut, crate::proofs::Returns::uncut, crate::proofs::Returns::empty))]
 fn without_return(line: &[u8]) -> &[u8]
-    ensures { result.now ≡ spec.without_return line.now }
+    ensures { result.now ≡ script.without_return line.now }
 {
     if !line.is_empty() && line[line.len() - 1] == b'\r' {
         &line[..line.len() - 1]
@@ -22,7 +27,7 @@ fn without_return(line: &[u8]) -> &[u8]
 
 /// Whether a line is blank or a `%` line.
 fn is_silent(line: &[u8]) -> bool
-    ensures { result ≡ spec.is_silent line.now }
+    ensures { result ≡ says_nothing line.now }
 {
     match skip_blanks(line) {
         [] => true,
@@ -31,21 +36,26 @@ fn is_silent(line: &[u8]) -> bool
 }
 
 /// The command of a line that is neither blank nor a `%` line.
+#[tactic(auto, using(crate::proofs::Spoken::not_built))]
 fn spoken(alloc: Global, line: &[u8]) -> Result<Command, LineFault>
-    ensures { result ≢ Err LineFault.Memory → result ≡ spec.spoken line.now }
+    ensures { result ≢ Err LineFault.Memory → result ≡ spoken line.now }
 {
     if line.len() > LONGEST {
         return Err(LineFault::Refused(Refusal::Longline));
     }
-    command(alloc, line)
+    let mut words = Words::new(line);
+    let word = words.word();
+    match named(word) {
+        Some(verb) => row(alloc, verb, &mut words),
+        None => Err(LineFault::Refused(Refusal::Command)),
+    }
 }
 
 /// What a line says, without the byte 10 at its end: a command, or nothing where it is blank or a
 /// `%` line. The first refusal of its reading that holds is answered in the order 12, 10, 11, 1, 2,
 /// 3. One byte 13 at the end of the line is dropped. The language of lines is this project's own.
-#[tactic(auto, unfolding(crate::specs::Lines::line_command))]
 pub fn line(alloc: Global, bytes: &[u8]) -> Result<Option<Command>, LineFault>
-    ensures reading { result ≢ Err LineFault.Memory → result ≡ spec.line_command bytes.now }
+    ensures reading { result ≢ Err LineFault.Memory → result ≡ line_command bytes.now }
 {
     let line = without_return(bytes);
     if is_silent(line) {

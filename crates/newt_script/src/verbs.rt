@@ -1,6 +1,7 @@
 //! The first words of commands.
-ghost use Rattle.std.specs.Prelude.{◌≡◌};
-ghost use Rattle.newt_script.specs.Rows.{verb_named};
+ghost use Rattle.std.specs.Prelude.{◌≡◌, MatchOption, false};
+ghost use Rattle.newt_script.specs.Stage.{is_built, is_entry_word};
+ghost use Rattle.newt_script.specs.Verbs.{word_of};
 
 /// The first word of a command.
 #[derive(Clone, Copy, PartialEq, Eq, Debug)]
@@ -9,12 +10,29 @@ pub enum Verb {
     Lit,
     Time,
     Quit,
+    Format,
+    Mount,
+    Unmount,
+    Stores,
+    Default,
+    Soup,
+    Soups,
+    Drop,
+    Add,
+    Addx,
+    Addu,
+    Get,
+    Getx,
+    Remove,
+    Copy,
+    Move,
+    Alias,
+    Resolve,
 }
 
 /// The command that a word names.
-#[tactic(auto, unfolding(crate::specs::Rows::verb_named))]
 pub fn named(word: &[u8]) -> Option<Verb>
-    ensures { result ≡ verb_named word.now }
+    ensures { MatchOption result (is_built word.now ≡ false) (λ verb. word.now ≡ word_of verb) }
 {
     if word == b"nsof".as_slice() {
         Some(Verb::Nsof)
@@ -24,6 +42,51 @@ pub fn named(word: &[u8]) -> Option<Verb>
         Some(Verb::Time)
     } else if word == b"quit".as_slice() {
         Some(Verb::Quit)
+    } else if word == b"format".as_slice() {
+        Some(Verb::Format)
+    } else if word == b"mount".as_slice() {
+        Some(Verb::Mount)
+    } else if word == b"unmount".as_slice() {
+        Some(Verb::Unmount)
+    } else if word == b"stores".as_slice() {
+        Some(Verb::Stores)
+    } else if word == b"default".as_slice() {
+        Some(Verb::Default)
+    } else if word == b"soup".as_slice() {
+        Some(Verb::Soup)
+    } else if word == b"soups".as_slice() {
+        Some(Verb::Soups)
+    } else if word == b"drop".as_slice() {
+        Some(Verb::Drop)
+    } else {
+        named_entry(word)
+    }
+}
+
+/// The same of the commands on entries.
+fn named_entry(word: &[u8]) -> Option<Verb>
+    ensures { MatchOption result (is_entry_word word.now ≡ false) (λ verb. word.now ≡ word_of verb) }
+{
+    if word == b"add".as_slice() {
+        Some(Verb::Add)
+    } else if word == b"addx".as_slice() {
+        Some(Verb::Addx)
+    } else if word == b"addu".as_slice() {
+        Some(Verb::Addu)
+    } else if word == b"get".as_slice() {
+        Some(Verb::Get)
+    } else if word == b"getx".as_slice() {
+        Some(Verb::Getx)
+    } else if word == b"remove".as_slice() {
+        Some(Verb::Remove)
+    } else if word == b"copy".as_slice() {
+        Some(Verb::Copy)
+    } else if word == b"move".as_slice() {
+        Some(Verb::Move)
+    } else if word == b"alias".as_slice() {
+        Some(Verb::Alias)
+    } else if word == b"resolve".as_slice() {
+        Some(Verb::Resolve)
     } else {
         None
     }

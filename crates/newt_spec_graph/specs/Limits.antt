@@ -6,22 +6,22 @@ use Rattle.newt_graph.specs.declared.node.Node.TheVariants.{Array, Frame}
 use Rattle.newt_graph.specs.Graph.{RawGraph, payload}
 use Rattle.newt_graph.specs.Meeting.{normal_form}
 
--- the slots of an array or a frame
+-- the slots of an array or a frame (a word of these definitions)
 abbrev pub slots : Node → ℕ
 slots (Array _ values) = length values
 slots (Frame tags _) = length tags
 slots _ = 0
 
--- at most 65,535 slots, and at most 1,000,000 bytes in a string, a binary or a large binary
+-- at most 65,535 slots, and at most 1,000,000 bytes in a string, a binary or a large binary (this project's own)
 abbrev pub node_within : Node → Bool
 node_within node = nat_le (slots node) 65535 && nat_le (payload node) 1_000_000
 
 -- Each node is within the limits, and there is a normal form: at most 65,535 nodes, 200 arrays and frames open within one another, and
--- 16,777,216 bytes of strings, binaries and large binaries together.
+-- 16,777,216 bytes of strings, binaries and large binaries together. (this project's own)
 abbrev pub within_limits : RawGraph → Bool
 within_limits g = is_some (normal_form g) && list_all node_within g.nodes
 
--- there is a graph, and it is within the limits
+-- there is a graph, and it is within the limits (this project's own)
 abbrev pub is_within : Option RawGraph → Bool
 is_within None = false
 is_within (Some g) = within_limits g

@@ -1,5 +1,5 @@
 -- Scripts as text, with literals and object streams read as their readers are proved to read them.
-use Rattle.std.specs.Prelude.{ℕ, List, map, Result, Ok, Err, Option, Some, None}
+use Rattle.std.specs.Prelude.{ℕ, List, map, Result, Ok, Err, Option, Some, None, replicate}
 use Rattle.newt_base.specs.declared.Refusal.{Refusal}
 use Rattle.newt_base.specs.declared.Refusal.TheVariants as refusals
 use Rattle.newt_graph.specs.Graph.{RawGraph}
@@ -25,6 +25,7 @@ or_refused (Err Malformed) = Err refusals.Malformed
 or_refused (Err Compressed) = Err refusals.Compressed
 or_refused (Err Memory) = Err refusals.Malformed
 
+-- the two readings
 abbrev pub readers : Readers
 readers = record { literal_of = λ text. if_read (literal_read text); stream_of = λ bytes. or_refused (decoded bytes) }
 
@@ -35,3 +36,7 @@ answers w script = output w (items_of readers script)
 -- the summary of its replies
 abbrev pub summary_of : World → List ℕ → List ℕ
 summary_of w script = summary (map reply_text (replies_to w (up_to_quit (items_of readers script))))
+
+-- a line of so many letters x; it is not written out
+unfoldable pub line_of_x : ℕ → List ℕ
+line_of_x n = replicate n 120

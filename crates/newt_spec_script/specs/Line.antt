@@ -13,29 +13,29 @@ use Rattle.newt_spec_script.specs.Words.{Reader, is_blank, skip_blanks, trimmed,
 
 -- ---- the forms of single words
 
--- a unit
+-- a unit (this project's own)
 abbrev pub unit : Reader ℕ
 unit = word unit_digit
 
--- a number below 2^32
+-- a number below 2^32 (this project's own)
 abbrev pub number : Reader ℕ
 number = word decimal_value
 
--- the signature of a store
+-- the signature of a store (this project's own)
 abbrev pub sig : Reader ℕ
 sig = word (decimal_to 536_870_911)
 
--- how many bytes are read, at most 60,000
+-- how many bytes are read, at most 60,000 (this project's own)
 abbrev pub len : Reader ℕ
 len = word (decimal_to 60_000)
 
--- a cursor
+-- a cursor (this project's own)
 abbrev pub cursor : Reader ℕ
 cursor = word (decimal_to 31)
 
 -- ---- rows
 
--- what a line gives before its last part is read
+-- what a line gives before its last part is read (this project's own)
 pub data Parsed : Type 0 where
   -- a command, or a refusal
   ready : Result Command Refusal → Parsed
@@ -46,82 +46,82 @@ pub data Parsed : Type 0 where
   -- the rest of the line is bytes in hexadecimal
   bytes : List ℕ → (List ℕ → Command) → Parsed
 
--- what the words give, where nothing but blanks follows them
+-- what the words give, where nothing but blanks follows them (this project's own)
 abbrev pub ended : Result (Command × List ℕ) Refusal → Parsed
 ended (Err r) = ready (Err r)
 ended (Ok (c, rest)) = if length (trimmed rest) == 0 then ready (Ok c) else ready (Err NotTheForm)
 
--- what the words give, with the rest of the line as a literal, which is not empty
+-- what the words give, with the rest of the line as a literal, which is not empty (this project's own)
 abbrev pub with_literal : Result ((RawGraph → Command) × List ℕ) Refusal → Parsed
 with_literal (Err r) = ready (Err r)
 with_literal (Ok (f, rest)) = if length (trimmed rest) == 0 then ready (Err NotTheForm) else literal (trimmed rest) f
 
--- what the words give, with the rest of the line as an object stream in hexadecimal
+-- what the words give, with the rest of the line as an object stream in hexadecimal (this project's own)
 abbrev pub with_stream : Result ((RawGraph → Command) × List ℕ) Refusal → Parsed
 with_stream (Err r) = ready (Err r)
 with_stream (Ok (f, rest)) = stream (trimmed rest) f
 
--- what the words give, with the rest of the line as bytes in hexadecimal
+-- what the words give, with the rest of the line as bytes in hexadecimal (this project's own)
 abbrev pub with_bytes : Result ((List ℕ → Command) × List ℕ) Refusal → Parsed
 with_bytes (Err r) = ready (Err r)
 with_bytes (Ok (f, rest)) = bytes (trimmed rest) f
 
--- a row whose words are all
+-- a row whose words are all (this project's own)
 abbrev pub whole : Reader Command → List ℕ → Parsed
 whole reader cs = ended (reader cs)
 
--- a row that ends in a literal
+-- a row that ends in a literal (this project's own)
 abbrev pub and_literal : Reader (RawGraph → Command) → List ℕ → Parsed
 and_literal reader cs = with_literal (reader cs)
 
--- a row that ends in an object stream
+-- a row that ends in an object stream (this project's own)
 abbrev pub and_stream : Reader (RawGraph → Command) → List ℕ → Parsed
 and_stream reader cs = with_stream (reader cs)
 
--- a row that ends in bytes
+-- a row that ends in bytes (this project's own)
 abbrev pub and_bytes : Reader (List ℕ → Command) → List ℕ → Parsed
 and_bytes reader cs = with_bytes (reader cs)
 
--- a row of no words
+-- a row of no words (a word of these definitions)
 abbrev pub alone : {A : Type 0} → A → Reader A
 alone a cs = Ok (a, cs)
 
--- symbols of which no two are one
+-- symbols of which no two are one (this project's own)
 abbrev pub if_distinct : Result (List (List ℕ) × List ℕ) Refusal → Result (List (List ℕ) × List ℕ) Refusal
 if_distinct (Err r) = Err r
 if_distinct (Ok (names, rest)) = if all_apart same_name names then Ok (names, rest) else Err NotTheForm
 
--- the symbols of a tags declaration
+-- the symbols of a tags declaration (this project's own)
 abbrev pub distinct : Reader (List (List ℕ))
 distinct cs = if_distinct (several 140_000 symbol cs)
 
--- the first row where its words are all, else the second
+-- the first row where its words are all, else the second (this project's own)
 abbrev pub or_row : Parsed → Parsed → Parsed
 or_row (ready (Ok c)) other = ready (Ok c)
 or_row _ other = other
 
--- the two rows of `tags`: the first where nothing follows the soup's name
+-- the two rows of `tags`: the first where nothing follows the soup's name (this project's own)
 abbrev pub tags_row : List ℕ → Parsed
 tags_row cs = or_row (whole (of2 unit name command.Tags) cs) (whole (of4 unit name (word path) distinct command.SetTags) cs)
 
--- the word that stands for all mounted stores
+-- the word that stands for all mounted stores (this project's own)
 abbrev pub star : List ℕ → Option ℕ
 star w = if bytes_eq w (codes "*") then Some 0 else None
 
--- a query of all mounted stores behind a star, else of the store on a unit
+-- a query of all mounted stores behind a star, else of the store on a unit (this project's own)
 abbrev pub query_by : Result (ℕ × List ℕ) Refusal → List ℕ → Parsed
 query_by (Ok (_, rest)) cs = and_literal (of1 name (λ s g. command.QueryAll s g)) rest
 query_by (Err _) cs = and_literal (of2 unit name (λ u s g. command.Query u s g)) cs
 
--- the two rows of `query`: the second where a star stands in place of the unit
+-- the two rows of `query`: the second where a star stands in place of the unit (this project's own)
 abbrev pub query_row : List ℕ → Parsed
 query_row cs = query_by (word star cs) cs
 
--- the first word of a command, and what is read behind it
+-- the first word of a command, and what is read behind it (this project's own)
 abbrev pub Row : Type 0
 Row = List ℕ × (List ℕ → Parsed)
 
--- the table of commands
+-- the table of commands (this project's own)
 abbrev pub rows : List Row
 rows =
     (codes "nsof", and_stream (alone command.Nsof))
@@ -171,36 +171,36 @@ rows =
 
 -- ---- lines
 
--- the first word of a line, and what follows it
+-- the first word of a line, and what follows it (this project's own)
 abbrev pub first_word : List ℕ → List ℕ × List ℕ
 first_word cs =
     let text = skip_blanks cs in
     let n = prefix_len (λ c. not (is_blank c)) text in
     (take n text, drop n text)
 
--- a line of blanks alone, or whose first other byte is `%`
+-- a line of blanks alone, or whose first other byte is `%` (this project's own)
 abbrev pub says_nothing : List ℕ → Bool
 says_nothing cs = elim (skip_blanks cs) [ [] ↦ true | c ∷ _ ↦ c == 37 ]
 
--- what a row reads; a word that has none is no command
+-- what a row reads; a word that has none is no command (this project's own)
 abbrev pub read_row : Option Row → List ℕ → Parsed
 read_row None rest = ready (Err NoCommand)
 read_row (Some r) rest = r.1 rest
 
--- what the row of a word reads
+-- what the row of a word reads (this project's own)
 abbrev pub row_of : List ℕ → List ℕ → Parsed
 row_of w rest = read_row (find (λ (r : Row). bytes_eq r.0 w) rows) rest
 
--- a line that is too long is refused before its words are read
+-- a line that is too long is refused before its words are read (this project's own)
 abbrev pub within_length : Bool → List ℕ → Parsed
 within_length true line = ready (Err Longline)
 within_length false line = let w = first_word line in row_of w.0 w.1
 
--- nothing, or what the words say
+-- nothing, or what the words say (this project's own)
 abbrev pub if_said : Bool → List ℕ → Option Parsed
 if_said true line = None
 if_said false line = Some (within_length (nat_lt 140_000 (length line)) line)
 
--- what a line says, none for a line that gives no command
+-- what a line says, none for a line that gives no command (this project's own)
 abbrev pub parsed : List ℕ → Option Parsed
 parsed line = if_said (says_nothing line) line

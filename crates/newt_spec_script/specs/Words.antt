@@ -13,59 +13,59 @@ use Rattle.newt_spec_store.specs.Keys.{Path}
 use Rattle.newt_spec_store.specs.Valid.{valid_path, valid_symbol}
 use Rattle.newt_spec_world.specs.declared.command.PartWord.{PartWord}
 
--- a space or a tab
+-- a space or a tab (this project's own)
 abbrev pub is_blank : ℕ → Bool
 is_blank c = (c == 32) || (c == 9)
 
--- a text from its first byte on that is no blank
+-- a text from its first byte on that is no blank (a word of these definitions)
 abbrev pub skip_blanks : List ℕ → List ℕ
 skip_blanks cs = drop (prefix_len is_blank cs) cs
 
--- a text without the blanks at its ends
+-- a text without the blanks at its ends (a word of these definitions)
 abbrev pub trimmed : List ℕ → List ℕ
 trimmed cs = reverse (skip_blanks (reverse (skip_blanks cs)))
 
 -- ---- readers: a value from the front of a text, and the rest, or why not
 
--- reads a value from the front of a text: the value and the rest, or why not
+-- reads a value from the front of a text: the value and the rest, or why not (a word of these definitions)
 abbrev pub Reader : Type 0 → Type 0
 Reader A = List ℕ → Result (A × List ℕ) Refusal
 
--- goes on with the value and the rest
+-- goes on with the value and the rest (a word of these definitions)
 abbrev pub then_read : {A B : Type 0} → Result (A × List ℕ) Refusal → (A → List ℕ → Result (B × List ℕ) Refusal) → Result (B × List ℕ) Refusal
 then_read (Err r) f = Err r
 then_read (Ok x) f = f x.0 x.1
 
--- one reader, and what is made of its value; the words below it read more, one after another
+-- one reader, and what is made of its value; the words below it read more, one after another (a word of these definitions)
 abbrev pub of1 : {A R : Type 0} → Reader A → (A → R) → Reader R
 of1 p f cs = then_read (p cs) (λ a rest. Ok (f a, rest))
 
--- two readers in a row
+-- two readers in a row (a word of these definitions)
 abbrev pub of2 : {A B R : Type 0} → Reader A → Reader B → (A → B → R) → Reader R
 of2 p q f cs = then_read (p cs) (λ a. of1 q (f a))
 
--- three readers
+-- three readers (a word of these definitions)
 abbrev pub of3 : {A B C R : Type 0} → Reader A → Reader B → Reader C → (A → B → C → R) → Reader R
 of3 p q r f cs = then_read (p cs) (λ a. of2 q r (f a))
 
--- four readers
+-- four readers (a word of these definitions)
 abbrev pub of4 : {A B C D R : Type 0} → Reader A → Reader B → Reader C → Reader D → (A → B → C → D → R) → Reader R
 of4 p q r s f cs = then_read (p cs) (λ a. of3 q r s (f a))
 
--- five readers
+-- five readers (a word of these definitions)
 abbrev pub of5 : {A B C D E R : Type 0} → Reader A → Reader B → Reader C → Reader D → Reader E → (A → B → C → D → E → R) → Reader R
 of5 p q r s t f cs = then_read (p cs) (λ a. of4 q r s t (f a))
 
--- six readers
+-- six readers (a word of these definitions)
 abbrev pub of6 : {A B C D E F R : Type 0} → Reader A → Reader B → Reader C → Reader D → Reader E → Reader F → (A → B → C → D → E → F → R) → Reader R
 of6 p q r s t u f cs = then_read (p cs) (λ a. of5 q r s t u (f a))
 
--- the value, or that the line has not the form
+-- the value, or that the line has not the form (a word of these definitions)
 abbrev pub or_not_the_form : {A : Type 0} → Option A → List ℕ → Result (A × List ℕ) Refusal
 or_not_the_form None rest = Err NotTheForm
 or_not_the_form (Some a) rest = Ok (a, rest)
 
--- the next word, where it has the form
+-- the next word, where it has the form (this project's own)
 abbrev pub word : {A : Type 0} → (List ℕ → Option A) → Reader A
 word form cs =
     let text = skip_blanks cs in
@@ -74,26 +74,26 @@ word form cs =
 
 -- ---- numbers
 
--- one to ten digits with a value of at most this
+-- one to ten digits with a value of at most this (this project's own)
 abbrev pub decimal_to : ℕ → List ℕ → Option ℕ
 decimal_to most cs = below (most + 1) (digits_value cs)
 
--- a unit: one digit from 0 to 7
+-- a unit: one digit from 0 to 7 (this project's own)
 abbrev pub unit_digit : List ℕ → Option ℕ
 unit_digit (c ∷ []) = if nat_le 48 c && nat_le c 55 then Some (c - 48) else None
 unit_digit _ = None
 
 -- ---- names
 
--- the value where it passes the test
+-- the value where it passes the test (a word of these definitions)
 abbrev pub only : {A : Type 0} → (A → Bool) → A → Option A
 only test a = if test a then Some a else None
 
--- a name without quotes: no space, no quote and no backslash in it
+-- a name without quotes: no space, no quote and no backslash in it (this project's own)
 abbrev pub bare_name : List ℕ → Option (List ℕ)
 bare_name = only (λ cs. is_name cs && list_all (λ c. not ((c == 32) || (c == 34) || (c == 92))) cs)
 
--- The text up to the closing quote, and what follows it. A backslash stands only before a quote or a backslash, and is dropped.
+-- The text up to the closing quote, and what follows it. A backslash stands only before a quote or a backslash, and is dropped. (this project's own)
 abbrev pub quoted : List ℕ → Option (List ℕ × List ℕ)
 quoted [] = None
 quoted (c ∷ []) = if c == 34 then Some ([], []) else None
@@ -109,28 +109,28 @@ quoted (c ∷ d ∷ cs) = elim (c == 34) [
     onto x None = None
     onto x (Some q) = Some (x ∷ q.0, q.1)
 
--- a blank or the end of the line
+-- a blank or the end of the line (this project's own)
 abbrev pub ends_word : List ℕ → Bool
 ends_word [] = true
 ends_word (c ∷ cs) = is_blank c
 
--- a quoted text that is a name, where the word ends behind it
+-- a quoted text that is a name, where the word ends behind it (this project's own)
 abbrev pub if_name : Option (List ℕ × List ℕ) → Result (List ℕ × List ℕ) Refusal
 if_name None = Err NotTheForm
 if_name (Some q) = if is_name q.0 && ends_word q.1 then Ok q else Err NotTheForm
 
--- a name from its first byte on: in quotes, or bare
+-- a name from its first byte on: in quotes, or bare (this project's own)
 abbrev pub name_from : List ℕ → Result (List ℕ × List ℕ) Refusal
 name_from [] = Err NotTheForm
 name_from (c ∷ rest) = if c == 34 then if_name (quoted rest) else word bare_name (c ∷ rest)
 
--- the name of a store or a soup, bare or in quotes
+-- the name of a store or a soup, bare or in quotes (this project's own)
 abbrev pub name : Reader (List ℕ)
 name cs = name_from (skip_blanks cs)
 
 -- ---- paths and parts
 
--- the pieces between the marks
+-- the pieces between the marks (a word of these definitions)
 abbrev pub split_at : ℕ → List ℕ → List (List ℕ)
 split_at mark [] = [] ∷ []
 split_at mark (c ∷ cs) = elim (c == mark) [ true ↦ [] ∷ split_at mark cs | false ↦ onto c (split_at mark cs) ]
@@ -139,45 +139,45 @@ split_at mark (c ∷ cs) = elim (c == mark) [ true ↦ [] ∷ split_at mark cs |
     onto x [] = (x ∷ []) ∷ []
     onto x (p ∷ ps) = (x ∷ p) ∷ ps
 
--- a path: identifiers with points between them
+-- a path: identifiers with points between them (this project's own)
 abbrev pub path : List ℕ → Option Path
 path cs = only valid_path (split_at 46 cs)
 
--- a type; `real` gives none
+-- a type; `real` gives none (this project's own)
 abbrev pub kind_word : List ℕ → Option (Option Kind)
 kind_word cs =
     if bytes_eq cs (codes "string") then Some (Some kind.Text) else if bytes_eq cs (codes "int") then Some (Some kind.Int)
     else if bytes_eq cs (codes "char") then Some (Some kind.Char) else if bytes_eq cs (codes "symbol") then Some (Some kind.Symbol)
     else if bytes_eq cs (codes "real") then Some None else None
 
--- a direction
+-- a direction (this project's own)
 abbrev pub order_word : List ℕ → Option Order
 order_word cs = if bytes_eq cs (codes "ascend") then Some order.Ascend else if bytes_eq cs (codes "descend") then Some order.Descend else None
 
--- a part of an index of three pieces: path, type and direction
+-- a part of an index of three pieces: path, type and direction (this project's own)
 abbrev pub part_of : List (List ℕ) → Option PartWord
 part_of (p ∷ k ∷ d ∷ []) = option_and_then (λ a. option_and_then (λ b. option_map (λ c. record { path = a; kind = b; order = c }) (order_word d)) (kind_word k)) (path p)
 part_of _ = None
 
--- a part of an index: its pieces have colons between them
+-- a part of an index: its pieces have colons between them (this project's own)
 abbrev pub part : List ℕ → Option PartWord
 part cs = part_of (split_at 58 cs)
 
--- the rest of a line as words
+-- the rest of a line as words (this project's own)
 abbrev pub words : List ℕ → List (List ℕ)
 words cs = filter (λ w. not (length w == 0)) (split_at 32 (map (λ c. if c == 9 then 32 else c) cs))
 
--- the values of words that all have the form
+-- the values of words that all have the form (a word of these definitions)
 abbrev pub all_words : {A : Type 0} → (List ℕ → Option A) → List (List ℕ) → Option (List A)
 all_words form [] = Some []
 all_words form (w ∷ ws) = option_and_then (λ a. option_map (λ as'. a ∷ as') (all_words form ws)) (form w)
 
--- one or more words to the end of the line, at most so many
+-- one or more words to the end of the line, at most so many (this project's own)
 abbrev pub several : {A : Type 0} → ℕ → (List ℕ → Option A) → Reader (List A)
 several most form cs =
     let ws = words cs in
     or_not_the_form (if nat_le 1 (length ws) && nat_le (length ws) most then all_words form ws else None) []
 
--- an identifier of at most 254 bytes
+-- an identifier of at most 254 bytes (this project's own)
 abbrev pub symbol : List ℕ → Option (List ℕ)
 symbol = only valid_symbol

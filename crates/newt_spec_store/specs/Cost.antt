@@ -16,73 +16,74 @@ use Rattle.newt_spec_store.specs.Store.{Entry, TagTable, Soup, Store}
 
 -- ---- the bytes of the directory
 
--- a count in one byte, and the items
+-- a count in one byte, and the items (this project's own)
 abbrev pub counted : {X : Type 0} → (X → List ℕ) → List X → List ℕ
 counted bytes xs = length xs ∷ flat_map bytes xs
 
--- a count in one byte, and the bytes of a text
+-- a count in one byte, and the bytes of a text (this project's own)
 abbrev pub text_bytes : List ℕ → List ℕ
 text_bytes text = length text ∷ text
 
--- a path: its names as texts
+-- a path: its names as texts (this project's own)
 abbrev pub path_bytes : Path → List ℕ
 path_bytes = counted text_bytes
 
--- the byte of a type
+-- the byte of a type (this project's own)
 abbrev pub kind_byte : Kind → ℕ
 kind_byte kind.Text = 0
 kind_byte kind.Int = 1
 kind_byte kind.Char = 2
 kind_byte kind.Symbol = 3
 
--- the byte of a direction
+-- the byte of a direction (this project's own)
 abbrev pub direction_byte : Order → ℕ
 direction_byte order.Ascend = 0
 direction_byte order.Descend = 1
 
--- a part of an index: type, direction, path
+-- a part of an index: type, direction, path (this project's own)
 abbrev pub part_bytes : IndexPart → List ℕ
 part_bytes p = kind_byte p.kind ∷ direction_byte p.direction ∷ path_bytes p.path
 
--- a tags declaration: 0 for none, or 1, its path and its symbols
+-- a tags declaration: 0 for none, or 1, its path and its symbols (this project's own)
 abbrev pub tags_bytes : Option TagTable → List ℕ
 tags_bytes None = 0 ∷ []
 tags_bytes (Some t) = 1 ∷ path_bytes t.path ++ counted text_bytes t.symbols
 
--- a soup in the directory: name, signature in two bytes, next entry id in four, indexes, tags
+-- a soup in the directory: name, signature in two bytes, next entry id in four, indexes, tags (this project's own)
 abbrev pub soup_bytes : Soup → List ℕ
 soup_bytes p =
     text_bytes p.name ++ be16 p.sig ++ be32 p.next_uid ++ counted (counted part_bytes) p.specs ++ tags_bytes p.tags
 
--- the directory: the name of the store, its signature in four bytes, the next soup signature in two, and the soups
+-- the directory: the name of the store, its signature in four bytes, the next soup signature in two, and the soups (this project's own)
 abbrev pub directory_bytes : Store → List ℕ
 directory_bytes s = text_bytes s.name ++ be32 s.sig ++ be16 s.next_soup ++ counted soup_bytes s.soups
 
 -- ---- pages
 
--- the length of a large binary, none of another node
+-- the length of a large binary, none of another node (a word of these definitions)
 abbrev pub large_length : Node → List ℕ
 large_length (Large _ bytes) = length bytes ∷ []
 large_length _ = []
 
--- the lengths of the large binaries of a graph, in order of node number
+-- the lengths of the large binaries of a graph, in order of node number (a word of these definitions)
 abbrev pub large_lengths : RawGraph → List ℕ
 large_lengths g = flat_map large_length g.nodes
 
--- the bytes of the written text of a graph without the bytes of its large binaries
+-- the bytes of the written text of a graph without the bytes of its large binaries (this project's own)
 abbrev pub skeleton_length : RawGraph → ℕ
 skeleton_length g = length (nsof (skeleton g))
 
 -- The pages of an entry: those of its record, which is 12 bytes, the written skeleton and 12 bytes for each large binary; and those of each large binary.
+-- (this project's own)
 abbrev pub entry_pages : Entry → ℕ
 entry_pages e =
     let larges = large_lengths e.graph in
     pages_for (12 + skeleton_length e.graph + 12 * length larges) + sum (map pages_for larges)
 
--- the pages of a soup's entries
+-- the pages of a soup's entries (this project's own)
 abbrev pub soup_pages : Soup → ℕ
 soup_pages p = sum_by entry_pages p.entries
 
--- the pages of the directory, and those of all entries
+-- the pages of the directory, and those of all entries (this project's own)
 abbrev pub cost : Store → ℕ
 cost s = pages_for (length (directory_bytes s)) + sum_by soup_pages s.soups

@@ -9,30 +9,30 @@ use Rattle.newt_nsof.specs.Written.{nsof}
 use Rattle.newt_nsof.specs.Lengths.{skeleton}
 use Rattle.newt_spec_store.specs.Store.{Entry, Store}
 
--- the objects of an image: the id of each, and its bytes
+-- the objects of an image: the id of each, and its bytes (this project's own)
 abbrev pub Objects : Type 0
 Objects = List (ℕ × List ℕ)
 
--- the number and the bytes of a large binary, none of another node
+-- the number and the bytes of a large binary, none of another node (a word of these definitions)
 abbrev pub large_in : ℕ × Node → List (ℕ × List ℕ)
 large_in (n, Large _ bytes) = (n, bytes) ∷ []
 large_in _ = []
 
--- the large binaries of a graph, in order of node number: the number of each, and its bytes
+-- the large binaries of a graph, in order of node number: the number of each, and its bytes (a word of these definitions)
 abbrev pub larges : RawGraph → List (ℕ × List ℕ)
 larges g = flat_map large_in (enumerate_from 0 g.nodes)
 
--- a large binary in a record: node number, object id and length, in four bytes each
+-- a large binary in a record: node number, object id and length, in four bytes each (this project's own)
 abbrev pub large_row : (ℕ × List ℕ) × ℕ → List ℕ
 large_row (l, id) = be32 l.0 ++ be32 id ++ be32 (length l.1)
 
 -- An entry's record, where its large binaries have these object ids: soup signature and number of large binaries in two bytes each, id and time in four, the
--- written text of the skeleton, and the rows of the large binaries.
+-- written text of the skeleton, and the rows of the large binaries. (this project's own)
 abbrev pub entry_bytes : ℕ → Entry → List ℕ → List ℕ
 entry_bytes soup e ids =
     be16 soup ++ be16 (length ids) ++ be32 e.uid ++ be32 e.time ++ nsof (skeleton e.graph)
     ++ flat_map large_row (zip (larges e.graph) ids)
 
--- all entries of a store, each with its soup's signature
+-- all entries of a store, each with its soup's signature (a word of these definitions)
 abbrev pub all_entries : Store → List (ℕ × Entry)
 all_entries s = flat_map (λ p. map (λ e. (p.sig, e)) p.entries) s.soups

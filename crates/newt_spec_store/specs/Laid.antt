@@ -9,31 +9,31 @@ use Rattle.newt_spec_store.specs.Image.{Objects, larges, entry_bytes, all_entrie
 use Rattle.newt_spec_store.specs.StoreOf.{LargeRow, EntryRow, object_bytes, named_once}
 use Rattle.newt_spec_graph.specs.Lists.{Each, Pairs, Among}
 
--- the store without its entries
+-- the store without its entries (a word of these definitions)
 abbrev pub bare : Store → Store
 bare s = record s { soups = map (λ (p : Soup). let q : Soup = record p { entries = [] } in q) s.soups }
 
--- a large binary, and the number of its object
+-- a large binary, and the number of its object (a word of these definitions)
 abbrev pub Named : Type 0
 Named = (ℕ × List ℕ) × ℕ
 
--- the row of a large binary that is written
+-- the row of a large binary that is written (this project's own)
 abbrev pub row_of_large : Named → LargeRow
 row_of_large l = (l.0.0, l.1, length l.0.1)
 
--- numbers that fit in four bytes
+-- numbers that fit in four bytes (this project's own)
 abbrev pub FitsRow : Named → Type 0
 FitsRow l = (l.0.0 < 4294967296) × (l.1 < 4294967296) × (length l.0.1 < 4294967296)
 
--- the object of a large binary is there
+-- the object of a large binary is there (this project's own)
 abbrev pub IsThere : Objects → Named → Type 0
 IsThere objects l = (l.1 % 2 ≡ 0) × (0 < l.1) × (object_bytes objects l.1 ≡ Some l.0.1)
 
--- the row that an entry's record gives
+-- the row that an entry's record gives (this project's own)
 abbrev pub row_of : ℕ → Entry → List ℕ → EntryRow
 row_of soup e ids = record { soup = soup; uid = e.uid; time = e.time; text = nsof (skeleton e.graph); larges = map row_of_large (zip (larges e.graph) ids) }
 
--- the numbers of an entry's record fit their fields
+-- the numbers of an entry's record fit their fields (this project's own)
 pub record FitsRecord (soup : ℕ) (e : Entry) (ids : List ℕ) : Type 0 where
   pub soup_fits : soup < 65536
   pub count_fits : length ids < 65536
@@ -42,29 +42,29 @@ pub record FitsRecord (soup : ℕ) (e : Entry) (ids : List ℕ) : Type 0 where
   pub each_named : length (larges e.graph) ≡ length ids
   pub rows_fit : Each FitsRow (zip (larges e.graph) ids)
 
--- entries of which no two have one id in one soup
+-- entries of which no two have one id in one soup (a word of these definitions)
 abbrev pub ApartIds : ℕ × Entry → ℕ × Entry → Type 0
 ApartIds a b = a.0 ≡ b.0 → a.1.uid ≡ b.1.uid → ⊥
 
--- exactly the store's entries, each once, in any order
+-- exactly the store's entries, each once, in any order (a word of these definitions)
 pub record AreEntries (s : Store) (entries : List (ℕ × Entry)) : Type 0 where
   pub sound : (x : ℕ × Entry) → Among entries x → Among (all_entries s) x
   pub complete : (x : ℕ × Entry) → Among (all_entries s) x → Among entries x
   pub once : Pairs ApartIds entries
 
--- an entry's record: the number of its object, its soup, the entry, and the objects of its large binaries
+-- an entry's record: the number of its object, its soup, the entry, and the objects of its large binaries (this project's own)
 pub record Laid : Type 0 where
   pub object : ℕ
   pub soup : ℕ
   pub entry : Entry
   pub ids : List ℕ
 
--- the record's object
+-- the record's object (this project's own)
 abbrev pub record_of : Laid → ℕ × List ℕ
 record_of x = (x.object, entry_bytes x.soup x.entry x.ids)
 
 -- The objects write down this store: the directory is object 0, the objects with odd ids are the records of these entries, their numbers fit their fields, each
--- skeleton is read back from its text, each large binary is there and named once, and the entries are exactly the store's.
+-- skeleton is read back from its text, each large binary is there and named once, and the entries are exactly the store's. (this project's own)
 pub record IsLaid (graph_of : List ℕ → Option RawGraph) (objects : Objects) (s : Store) (laid : List Laid) : Type 0 where
   pub written : object_bytes objects 0 ≡ Some (directory_bytes s)
   pub records : filter (λ o. o.0 % 2 == 1) objects ≡ map record_of laid

@@ -8,11 +8,11 @@ use Rattle.newt_image.specs.Objects.{Objects, AreObjectsOf}
 use Rattle.newt_spec_store.specs.Store.{Store}
 use Rattle.newt_spec_store.specs.StoreOf.{store_of}
 
--- the whole blocks of an image
+-- the whole blocks of an image (this project's own)
 abbrev pub blocks_of : List ℕ → ℕ
 blocks_of image = length image / 4096
 
--- The image is a readable store, and it is this one, where `graph_of` reads the texts of entries.
+-- The image is a readable store, and it is this one, where `graph_of` reads the texts of entries. (this project's own)
 pub record IsStoreOf (graph_of : List ℕ → Option RawGraph) (image : List ℕ) (s : Store) : Type 0 where
   pub live : Pages
   pub has_pages : pages image ≡ Some live

@@ -8,17 +8,19 @@ use Rattle.newt_graph.specs.Graph.{RawGraph}
 use Rattle.newt_spec_store.specs.Keys.{IndexSpec, Path}
 
 -- an entry: its id, the minute of its last change, and its frame. Minutes are counted from midnight of 1 January 1904.
+-- (Newton Programmer's Guide 2.0, entries; that id and time stand beside the frame is this project's own)
 pub record Entry : Type 0 where
   pub uid : ℕ
   pub time : ℕ
   pub graph : RawGraph
 
--- a tags declaration: which symbols at which path are an entry's tags
+-- a tags declaration: which symbols at which path are an entry's tags (this project's own)
 pub record TagTable : Type 0 where
   pub path : Path
   pub symbols : List (List ℕ)
 
 -- a soup: its name, its signature, the id of the next entry, its indexes and tags declaration, and its entries in order of making
+-- (Newton Programmer's Guide 2.0, soups; its signature and next id are this project's own)
 pub record Soup : Type 0 where
   pub name : List ℕ
   pub sig : ℕ
@@ -28,6 +30,7 @@ pub record Soup : Type 0 where
   pub entries : List Entry
 
 -- a store: its name, its signature, the signature of the next soup, and its soups in order of making
+-- (Newton Programmer's Guide 2.0, stores; the signatures are this project's own)
 pub record Store : Type 0 where
   pub name : List ℕ
   pub sig : ℕ
@@ -36,43 +39,44 @@ pub record Store : Type 0 where
 
 -- ---- to find and to change
 
--- the soup of this name
+-- the soup of this name (Newton Programmer's Guide 2.0, soups)
 abbrev pub soup_named : List ℕ → Store → Option Soup
 soup_named name s = find (λ p. equal_text p.name name) s.soups
 
--- the entry of this id
+-- the entry of this id (Newton Programmer's Guide 2.0, entries)
 abbrev pub entry_of : ℕ → Soup → Option Entry
 entry_of uid p = find (λ e. e.uid == uid) p.entries
 
--- the first element that passes the test, changed
+-- the first element that passes the test, changed (a word of these definitions)
 abbrev pub change_first : {X : Type 0} → (X → Bool) → (X → X) → List X → List X
 change_first test change [] = []
 change_first test change (x ∷ xs) = cond (test x) (change x ∷ xs) (x ∷ change_first test change xs)
 
--- the soup of this name, changed
+-- the soup of this name, changed (a word of these definitions)
 abbrev pub change_soup : List ℕ → (Soup → Soup) → Store → Store
 change_soup name change s = record s { soups = change_first (λ p. equal_text p.name name) change s.soups }
 
--- the entry of this id, changed
+-- the entry of this id, changed (a word of these definitions)
 abbrev pub change_entry : ℕ → (Entry → Entry) → Soup → Soup
 change_entry uid change p = record p { entries = change_first (λ e. e.uid == uid) change p.entries }
 
 -- a new soup at the end, with the next signature, no indexes, no tags and no entries
+-- (Newton Programmer's Guide 2.0, soups; the signature that it gets is this project's own)
 abbrev pub make_soup : List ℕ → Store → Store
 make_soup name s =
     let soup : Soup = record { name = name; sig = s.next_soup; next_uid = 0; specs = []; tags = None; entries = [] } in
     record s { next_soup = s.next_soup + 1; soups = s.soups ++ soup ∷ [] }
 
--- the soup of this name is gone with its entries
+-- the soup of this name is gone with its entries (Newton Programmer's Guide 2.0, soups)
 abbrev pub drop_soup : List ℕ → Store → Store
 drop_soup name s = record s { soups = filter (λ p. not (equal_text p.name name)) s.soups }
 
--- a new entry at the end, with the next id
+-- a new entry at the end, with the next id (Newton Programmer's Guide 2.0, entries; the id that it gets is this project's own)
 abbrev pub add_entry : ℕ → RawGraph → Soup → Soup
 add_entry time graph p =
     let entry : Entry = record { uid = p.next_uid; time = time; graph = graph } in
     record p { next_uid = p.next_uid + 1; entries = p.entries ++ entry ∷ [] }
 
--- the entry of this id is gone
+-- the entry of this id is gone (Newton Programmer's Guide 2.0, entries)
 abbrev pub remove_entry : ℕ → Soup → Soup
 remove_entry uid p = record p { entries = filter (λ e. not (e.uid == uid)) p.entries }

@@ -11,30 +11,31 @@ use Rattle.newt_spec_store.specs.Store.{Entry, TagTable, Soup, Store}
 use Rattle.newt_image.specs.Pages.{cap}
 use Rattle.newt_spec_store.specs.Cost.{cost, skeleton_length}
 
--- an identifier of at most 254 bytes
+-- an identifier of at most 254 bytes (this project's own)
 abbrev pub valid_symbol : List ℕ → Bool
 valid_symbol name = is_identifier name && nat_le (length name) 254
 
--- one to eight such identifiers
+-- one to eight such identifiers (this project's own)
 abbrev pub valid_path : Path → Bool
 valid_path path = nat_le 1 (length path) && nat_le (length path) 8 && list_all valid_symbol path
 
--- one to four parts, each with such a path
+-- one to four parts, each with such a path (this project's own)
 abbrev pub valid_spec : IndexSpec → Bool
 valid_spec spec = nat_le 1 (length spec) && nat_le (length spec) 4 && list_all (λ p. valid_path p.path) spec
 
--- no tags declaration, or one of a path and at most 64 symbols, no two of which are one but for the case of letters
+-- no tags declaration, or one of a path and at most 64 symbols, no two of which are one but for the case of letters (this project's own)
 abbrev pub valid_tags : Option TagTable → Bool
 valid_tags None = true
 valid_tags (Some t) =
     valid_path t.path && nat_le (length t.symbols) 64 && list_all valid_symbol t.symbols && all_apart same_name t.symbols
 
--- the root is a frame, the graph is within the limits of one graph, and its skeleton's written text has at most 64,000 bytes
+-- the root is a frame, the graph is within the limits of one graph, and its skeleton's written text has at most 64,000 bytes (this project's own)
 abbrev pub valid_entry : Entry → Bool
 valid_entry e =
     is_frame (object e.graph.nodes e.graph.root) && within_limits e.graph && nat_le (skeleton_length e.graph) 64_000
 
 -- A soup: its name; ids that rise and are below the next one, which is at most 536,870,911; at most 16 indexes, no two with the same paths; its tags; its entries.
+-- (this project's own)
 abbrev pub valid_soup : Soup → Bool
 valid_soup p =
     is_name p.name && nat_le p.next_uid 536_870_911 && rises 0 p.next_uid (map (λ e. e.uid) p.entries)
@@ -42,17 +43,17 @@ valid_soup p =
     && valid_tags p.tags && list_all valid_entry p.entries
 
 -- A store but for its cost: its name; a signature of at most 536,870,911; at most 64 soups, whose signatures rise and are below the next one, which is at most
--- 65,535, and whose names are distinct; each soup.
+-- 65,535, and whose names are distinct; each soup. (this project's own)
 abbrev pub well_formed : Store → Bool
 well_formed s =
     is_name s.name && nat_le s.sig 536_870_911 && nat_le s.next_soup 65_535 && nat_le (length s.soups) 64
     && rises 0 s.next_soup (map (λ p. p.sig) s.soups) && all_apart equal_text (map (λ p. p.name) s.soups)
     && list_all valid_soup s.soups
 
--- the store costs no more pages than a unit of so many blocks takes
+-- the store costs no more pages than a unit of so many blocks takes (this project's own)
 abbrev pub fits : ℕ → Store → Bool
 fits blocks s = nat_le (cost s) (cap blocks)
 
--- what holds of every store on a unit of so many blocks
+-- what holds of every store on a unit of so many blocks (this project's own)
 abbrev pub valid : ℕ → Store → Bool
 valid blocks s = well_formed s && fits blocks s

@@ -11,18 +11,18 @@ use Rattle.newt_spec_store.specs.Store.{Entry, Soup, entry_of}
 use Rattle.newt_spec_query.specs.Tags.{symbol_name, if_given}
 use Rattle.newt_spec_world.specs.World.{World, mounted}
 
--- an alias: the signatures of a store and a soup, and an entry id
+-- an alias: the signatures of a store and a soup, and an entry id (this project's own)
 pub record Alias : Type 0 where
   pub store : ℕ
   pub soup : ℕ
   pub uid : ℕ
 
--- an integer that is not negative
+-- an integer that is not negative (Newton Formats 1.1, immediates)
 abbrev pub natural : Ref → Option ℕ
 natural (Imm (pos w)) = if w % 4 == 0 then Some (w / 4) else None
 natural _ = None
 
--- the alias that a literal writes down: an array with class `alias` and three such integers
+-- the alias that a literal writes down: an array with class `alias` and three such integers (this project's own)
 abbrev pub alias_of : RawGraph → Option Alias
 alias_of g = elim (object g.nodes g.root) [
   | Some (Array (Some class) (s ∷ p ∷ u ∷ [])) ↦
@@ -34,13 +34,13 @@ alias_of g = elim (object g.nodes g.root) [
 
 -- ---- the entry that an alias names
 
--- where an entry is: its unit, its soup, itself
+-- where an entry is: its unit, its soup, itself (a word of these definitions)
 pub record Spot : Type 0 where
   pub unit : ℕ
   pub soup : Soup
   pub entry : Entry
 
--- the entry that has these in a mounted store, else none
+-- the entry that has these in a mounted store, else none (Newton Programmer's Guide 2.0, entry aliases)
 abbrev pub resolved : World → Alias → Option Spot
 resolved w a =
     option_and_then (λ m. option_and_then (λ p. option_map (λ e. record { unit = m.0; soup = p; entry = e })

@@ -14,20 +14,21 @@ use Rattle.newt_spec_world.specs.Alias.{Spot, alias_of, resolved}
 
 -- ---- what a reply shows
 
--- the reply for what is there, else nil
+-- the reply for what is there, else nil (a word of these definitions)
 abbrev pub or_nil : {X : Type 0} → (X → Reply) → Option X → Reply
 or_nil reply None = Reply.nil
 or_nil reply (Some x) = reply x
 
--- where a hit's entry is
+-- where a hit's entry is (a word of these definitions)
 abbrev pub spot_of : World → Hit → Option Spot
 spot_of w h = resolved w (record { store = h.store; soup = h.soup; uid = h.uid })
 
--- the reply that shows an entry
+-- the reply that shows an entry (this project's own)
 abbrev pub shown : Spot → Reply
 shown s = Reply.current s.unit s.entry.uid s.entry.time s.entry.graph
 
 -- What a cursor shows: nil before and behind all hits, the entry where it is on a hit, and else that the entry is deleted.
+-- (Newton Programmer's Guide 2.0, cursors; the forms of the replies are this project's own)
 abbrev pub current : World → Cursor → Reply
 current w k = elim k.place [
   | start ↦ Reply.nil
@@ -35,21 +36,21 @@ current w k = elim k.place [
   | on _ ↦ elim (option_and_then (spot_of w) (hit_at (hits_of w k.query) k.place)) [ Some s ↦ shown s | None ↦ Reply.deleted ]
 ]
 
--- the side of the hits on which a cursor stands
+-- the side of the hits on which a cursor stands (this project's own)
 abbrev pub side : Cursor → Reply
 side k = elim k.place [ start ↦ Reply.begin | finish ↦ Reply.«end» | on _ ↦ Reply.nil ]
 
--- the id that the next entry of a soup gets
+-- the id that the next entry of a soup gets (a word of these definitions)
 abbrev pub new_uid : World → ℕ → List ℕ → ℕ
 new_uid w u name = unwrap_or (option_map (λ p. p.next_uid) (soup_in w u name)) 0
 
--- so many bytes from a place on
+-- so many bytes from a place on (a word of these definitions)
 abbrev pub bytes_from : ℕ → ℕ → List ℕ → List ℕ
 bytes_from at len bytes = take len (drop at bytes)
 
 -- ---- the table: the fields of each command, from the world before it and the world after it
 
--- the table: the reply of each command that is not refused, from the world before it and the world after it
+-- the table: the reply of each command that is not refused, from the world before it and the world after it (this project's own)
 unfoldable pub fields : World → World → Command → Reply
 fields w v (command.Nsof g) = Reply.nsof_of g
 fields w v (command.Lit g) = Reply.literal_of g
@@ -86,21 +87,21 @@ fields w v _ = Reply.done
 
 -- ---- one command, and a run of them
 
--- Refused, the world stays as it is. Else it is the changed one, and its cursors are settled.
+-- Refused, the world stays as it is. Else it is the changed one, and its cursors are settled. (this project's own)
 abbrev pub answered : World → Command → Option Refusal → World × Reply
 answered w c (Some refusal) = (w, Reply.refused refusal)
 answered w c None = let v = settle (changed w c) in (v, fields w v c)
 
--- the world after a command, and its reply
+-- the world after a command, and its reply (this project's own)
 unfoldable pub answer : World → Command → World × Reply
 answer w c = answered w c (first_of (checks w c))
 
--- the world after commands one after another
+-- the world after commands one after another (a word of these definitions)
 abbrev pub after : World → List Command → World
 after w [] = w
 after w (c ∷ cs) = after (answer w c).0 cs
 
--- their replies
+-- their replies (a word of these definitions)
 abbrev pub replies : World → List Command → List Reply
 replies w [] = []
 replies w (c ∷ cs) = let a = answer w c in a.1 ∷ replies a.0 cs

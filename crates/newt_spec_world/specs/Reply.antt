@@ -14,7 +14,7 @@ use Rattle.newt_spec_store.specs.declared.Order.TheVariants as order
 use Rattle.newt_spec_store.specs.Keys.{Path, IndexSpec, IndexPart}
 use Rattle.newt_spec_store.specs.Store.{TagTable}
 
--- what is replied, before it is text
+-- what is replied, before it is text (this project's own)
 pub data Reply : Type 0 where
   done : Reply
   number : ℕ → Reply
@@ -40,58 +40,58 @@ pub data Reply : Type 0 where
 
 -- ---- fields
 
--- a name in quotes where it holds a space, a quote or a backslash
+-- a name in quotes where it holds a space, a quote or a backslash (this project's own)
 abbrev pub name_field : List ℕ → List ℕ
 name_field name =
     if list_any (λ c. (c == 32) || (c == 34) || (c == 92)) name then codes "\"" ++ flat_map (escaped (codes "\"\\")) name ++ codes "\"" else name
 
--- the items with a comma and a space between each two
+-- the items with a comma and a space between each two (a word of these definitions)
 abbrev pub items : List (List ℕ) → List ℕ
 items [] = []
 items (x ∷ []) = x
 items (x ∷ y ∷ xs) = x ++ codes ", " ++ items (y ∷ xs)
 
--- fields with a space between each two
+-- fields with a space between each two (a word of these definitions)
 abbrev pub spaced : List (List ℕ) → List ℕ
 spaced = join_with_byte 32
 
--- a path with points between its names, as it was declared
+-- a path with points between its names, as it was declared (this project's own)
 abbrev pub path_field : Path → List ℕ
 path_field = join_with_byte 46
 
--- the word of a type
+-- the word of a type (this project's own)
 abbrev pub kind_word : Kind → List ℕ
 kind_word kind.Text = codes "string"
 kind_word kind.Int = codes "int"
 kind_word kind.Char = codes "char"
 kind_word kind.Symbol = codes "symbol"
 
--- the word of a direction
+-- the word of a direction (this project's own)
 abbrev pub direction_word : Order → List ℕ
 direction_word order.Ascend = codes "ascend"
 direction_word order.Descend = codes "descend"
 
--- a part of an index
+-- a part of an index (this project's own)
 abbrev pub part_field : IndexPart → List ℕ
 part_field p = path_field p.path ++ codes ":" ++ kind_word p.kind ++ codes ":" ++ direction_word p.direction
 
--- an alias as a literal
+-- an alias as a literal (this project's own)
 abbrev pub alias_text : ℕ → ℕ → ℕ → List ℕ
 alias_text s p uid =
     codes "[alias: " ++ items (decimal_text s ∷ decimal_text p ∷ decimal_text uid ∷ []) ++ codes "]"
 
 -- ---- texts
 
--- an empty field is left out with its space
+-- an empty field is left out with its space (this project's own)
 abbrev pub field : List ℕ → List ℕ
 field [] = []
 field (c ∷ cs) = 32 ∷ c ∷ cs
 
--- a reply that is no refusal, with its fields
+-- a reply that is no refusal, with its fields (this project's own)
 abbrev pub ok : List (List ℕ) → List ℕ
 ok fields = codes "ok" ++ flat_map field fields
 
--- the text of a reply without its line end
+-- the text of a reply without its line end (this project's own)
 abbrev pub reply_line : Reply → List ℕ
 reply_line done = ok []
 reply_line (number n) = ok (decimal_text n ∷ [])
@@ -116,6 +116,6 @@ reply_line begin = ok (codes "begin" ∷ [])
 reply_line «end» = ok (codes "end" ∷ [])
 reply_line (refused r) = codes "error " ++ refusal_text r
 
--- a reply as it is written, with its line end
+-- a reply as it is written, with its line end (this project's own)
 abbrev pub reply_text : Reply → List ℕ
 reply_text r = reply_line r ++ 10 ∷ []

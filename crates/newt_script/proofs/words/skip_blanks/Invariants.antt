@@ -1,5 +1,5 @@
 use Rattle.std.proofs.Common.{◌≡◌, length}
-use Rattle.newt_script.specs.Words.{skip_blanks}
+use Rattle.newt_spec_script.specs.Words.{skip_blanks}
 use Rattle.newt_script.proofs.words.skip_blanks.Given as goal
 
 abbrev pub invariant-loop-rest : goal.invariant-loop-rest

@@ -1,10 +1,11 @@
-use Rattle.std.proofs.Common.{◌≡◌, ◌+◌, length}
-use Rattle.newt_script.specs.Words.{word_len}
+use Rattle.std.proofs.Common.{◌≡◌, ◌+◌, length, not}
+use Rattle.std.specs.List.{prefix_len}
+use Rattle.newt_spec_script.specs.Words.{is_blank}
 use Rattle.newt_script.proofs.words.word_len.Given as goal
 
 abbrev pub invariant-loop-rest : goal.invariant-loop-rest
 invariant-loop-rest l = record {
-  counted : l.len + word_len l.rest ≡ word_len l.text;
+  counted : l.len + prefix_len (λ byte. not (is_blank byte)) l.rest ≡ prefix_len (λ byte. not (is_blank byte)) l.text;
   within : l.len + length l.rest ≡ length l.text;
 }
 

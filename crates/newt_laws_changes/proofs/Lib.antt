@@ -1,0 +1,14 @@
+pub mod Chosen
+pub mod Soups
+pub mod Costs
+pub mod Counting
+pub mod Members
+pub mod Bytes
+pub mod Lying
+pub mod Formed
+pub mod Bare
+pub mod Places
+pub mod Moved
+pub mod Later
+pub mod Fresh
+pub mod Replaced

@@ -1,0 +1,253 @@
+-- A store without large binaries that was read: its directory, and one record for each of its entries.
+use Rattle.std.proofs.Common.{arith, ◌≡◌, refl, ap, sym, ◌∙◌, subst, ℕ, zero, suc, ◌%◌, ◌<◌, List, [], ◌∷◌, ◌++◌, true, false, Bool, ◌&&◌, ◌||◌, ◌⊎◌, inl, inr, cond, Option, Some, None, option_and_then, map, filter, flat_map, ◌==◌}
+use Rattle.std.specs.List.{list_all, list_any}
+use Rattle.std.specs.FinMap as map
+use Rattle.std.proofs.lemmas.Bool.{eqb-true, eq-eqb, and_parts, or_cases}
+use Rattle.newt_base.specs.Names.{equal_text}
+use Rattle.newt_graph.specs.Graph.{RawGraph}
+use Rattle.newt_image.specs.Objects.{Objects as Texts}
+use Rattle.newt_spec_graph.specs.Lists.{Each, Pairs, Among, rises, all_apart}
+use Rattle.newt_spec_graph.proofs.Lists.{each-at, each-from, each-list_all, some-same, none-some, pairs-more, pairs-map, among-filter, filter-among, rises-pairs}
+use Rattle.newt_spec_store.specs.Laid.{ApartIds, bare}
+use Rattle.newt_spec_store.specs.Lies.{IsIn, graph_has_no_large, has_no_large, directory_read, only}
+use Rattle.newt_spec_store.specs.Reading.{Take, ◌>>=◌, give, text, number, counted, part, tags_of, times, soup, whole, directory}
+use Rattle.newt_spec_store.specs.Sorted.{sorted_by}
+use Rattle.newt_spec_store.specs.Store.{Entry, Soup, Store}
+use Rattle.newt_spec_store.specs.StoreOf.{EntryRow, LargeRow, entry_row, entry_of_row, with_entries, in_a_soup}
+use Rattle.newt_spec_store.specs.Valid.{well_formed, fits, valid_soup, valid_entry}
+use Rattle.newt_laws_images.specs.Found.{HasGiven}
+use Rattle.newt_laws_images.proofs.Assembled.{map-among, among-map, chosen, uid_cmp_of}
+use Rattle.newt_laws_images.proofs.Finite.{object-get, get-entry}
+use Rattle.newt_laws_images.proofs.Made.{Both, both-left, both-pairs, built, in-sorted, odds, all-map, map-length, map-kept}
+use Rattle.newt_laws_images.proofs.Parts.{every-both, both-flip, both-join, both-more, apart-from, sort-back, IsReading}
+use Rattle.newt_laws_images.proofs.Placed.{its-id, its-plain, its-soup}
+use Rattle.newt_laws_images.proofs.Plain.{plain-row, ReadAs, read-same}
+use Rattle.newt_laws_images.proofs.Read.{bare_soup}
+use Rattle.newt_laws_images.proofs.Spelt.{whole-parts}
+use Rattle.newt_laws_images.proofs.Stores.{is-store, store-is, is-soup, soup-is}
+
+-- ---- a directory that is read has no entries
+
+abbrev Gives : {A : Type 0} → Take A → (A → Type 0) → Type 0
+Gives {A} p Q = (bytes rest : List ℕ) (a : A) → p bytes ≡ Some (a, rest) → Q a
+
+gives-then : {A B : Type 0} (p : Take A) (Q : A → Type 0) (f : A → Take B) (S : B → Type 0) → Gives p Q → ((a : A) → Q a → Gives (f a) S) → Gives (p >>= f) S
+gives-then {A} {B} p Q f S one more bytes rest b h = go (p bytes) refl h
+  where
+    go : (o : Option (A × List ℕ)) → p bytes ≡ o → option_and_then (λ r. f r.0 r.1) o ≡ Some (b, rest) → S b
+    go None e k = absurd (none-some {X = B × List ℕ} (b, rest) k)
+    go (Some (a, r)) e k = more a (one bytes r a e) r rest b k
+
+gives-give : {A : Type 0} (a : A) (Q : A → Type 0) → Q a → Gives (give a) Q
+gives-give {A} a Q q bytes rest b h = subst Q (ap {A = A × List ℕ} (λ p. p.0) (some-same {X = A × List ℕ} (a, bytes) (b, rest) h)) q
+
+abbrev Whatever : {A : Type 0} → A → Type 0
+Whatever a = Unit {0}
+
+gives-any : {A : Type 0} (p : Take A) → Gives p Whatever
+gives-any p bytes rest a h = tt
+
+gives-times : {A : Type 0} (item : Take A) (Q : A → Type 0) → Gives item Q → (n : ℕ) → Gives (times n item) (Each Q)
+gives-times item Q one zero = gives-give [] (Each Q) tt
+gives-times item Q one (suc n) = gives-then item Q (λ a. times n item >>= λ as'. give (a ∷ as')) (Each Q) one
+    (λ a q. gives-then (times n item) (Each Q) (λ as'. give (a ∷ as')) (Each Q) (gives-times item Q one n) (λ as' k. gives-give (a ∷ as') (Each Q) (q, k)))
+
+abbrev Empty : Soup → Type 0
+Empty p = p.entries ≡ []
+
+gives-soup : Gives soup Empty
+gives-soup = gives-then text Whatever _ Empty (gives-any text) (λ name _.
+    gives-then (number 2) Whatever _ Empty (gives-any (number 2)) (λ sig _.
+    gives-then (number 4) Whatever _ Empty (gives-any (number 4)) (λ next _.
+    gives-then (counted (counted part)) Whatever _ Empty (gives-any (counted (counted part))) (λ specs _.
+    gives-then (number 1 >>= tags_of) Whatever _ Empty (gives-any (number 1 >>= tags_of)) (λ tags _.
+    gives-give (record { name = name; sig = sig; next_uid = next; specs = specs; tags = tags; entries = [] }) Empty refl)))))
+
+abbrev AllEmpty : Store → Type 0
+AllEmpty s = Each Empty s.soups
+
+gives-directory : Gives directory AllEmpty
+gives-directory = gives-then text Whatever _ AllEmpty (gives-any text) (λ name _.
+    gives-then (number 4) Whatever _ AllEmpty (gives-any (number 4)) (λ sig _.
+    gives-then (number 2) Whatever _ AllEmpty (gives-any (number 2)) (λ next _.
+    gives-then (counted soup) (Each Empty) _ AllEmpty (gives-then (number 1) Whatever (λ n. times n soup) (Each Empty) (gives-any (number 1)) (λ n _. gives-times soup Empty gives-soup n)) (λ soups k.
+    gives-give (record { name = name; sig = sig; next_soup = next; soups = soups }) AllEmpty k))))
+
+bare-soups : (ps : List Soup) → Each Empty ps → map bare_soup ps ≡ ps
+bare-soups [] h = refl
+bare-soups (p ∷ ps) h = λ i. record p { entries = sym h.0 i } ∷ bare-soups ps h.1 i
+
+pub directory-bare : (bytes : List ℕ) (d : Store) → whole directory bytes ≡ Some d → bare d ≡ d
+directory-bare bytes d h = ap {A = List Soup} {B = Store} (λ ps. record d { soups = ps }) (bare-soups d.soups (gives-directory bytes [] d (whole-parts directory bytes d h)))
+
+pub bare-good : (s : Store) → well_formed s ≡ true → well_formed (bare s) ≡ true
+bare-good s w = let r = is-store s w in store-is (bare s) (record {
+  named = r.named;
+  sig_fits = r.sig_fits;
+  next = r.next;
+  count = omega (arith, map-length bare_soup s.soups, r.count);
+  sigs = ap (rises 0 s.next_soup) (map-kept (λ (p : Soup). p.sig) bare_soup (λ p. refl) s.soups) ∙ r.sigs;
+  names_apart = ap (all_apart equal_text) (map-kept (λ (p : Soup). p.name) bare_soup (λ p. refl) s.soups) ∙ r.names_apart;
+  soups_fit = all-map valid_soup bare_soup s.soups (λ p m. let q = is-soup p (each-at (λ (p : Soup). valid_soup p ≡ true) s.soups p (each-list_all valid_soup s.soups r.soups_fit) m) in soup-is (bare_soup p) (record {
+    named = q.named;
+    next = q.next;
+    uids = refl;
+    count = q.count;
+    specs_fit = q.specs_fit;
+    specs_apart = q.specs_apart;
+    tags_fit = q.tags_fit;
+    entries_fit = refl;
+  }));
+})
+
+-- ---- lists
+
+any-among : {X : Type 0} (test : X → Bool) (xs : List X) → list_any test xs ≡ true → (x : X) × Among xs x × (test x ≡ true)
+any-among test [] h = cc
+any-among test (x ∷ xs) h = go (any-among test xs) (or_cases (test x) (list_any test xs) h)
+  where
+    go : (list_any test xs ≡ true → (y : _) × Among xs y × (test y ≡ true)) → (test x ≡ true) ⊎ (list_any test xs ≡ true) → (y : _) × Among (x ∷ xs) y × (test y ≡ true)
+    go more (inl e) = (x, inl refl, e)
+    go more (inr e) = let r = more e in (r.0, inr r.1, r.2)
+
+pub pairs-two : {X : Type 0} (R : X → X → Type 0) (xs : List X) (a b : X) → Pairs R xs → Among xs a → Among xs b → (a ≡ b → ⊥) → R a b ⊎ R b a
+pairs-two R [] a b h m n k = absurd m
+pairs-two R (x ∷ xs) a b h (inl e) (inl f) k = absurd (k (sym e ∙ f))
+pairs-two R (x ∷ xs) a b h (inl e) (inr n) k = inl (subst (λ v. R v b) e (each-at (R x) xs b h.0 n))
+pairs-two R (x ∷ xs) a b h (inr m) (inl f) k = inr (subst (λ v. R v a) f (each-at (R x) xs a h.0 m))
+pairs-two R (x ∷ xs) a b h (inr m) (inr n) k = pairs-two R xs a b h.1 m n k
+
+none-flat : (rows : List EntryRow) → Each (λ (r : EntryRow). r.larges ≡ []) rows → flat_map (λ (r : EntryRow). map (λ (l : LargeRow). l.1) r.larges) rows ≡ []
+none-flat [] h = refl
+none-flat (r ∷ rows) h = ap {A = List LargeRow} {B = List ℕ} (λ ls. map (λ (l : LargeRow). l.1) ls ++ flat_map (λ (r : EntryRow). map (λ (l : LargeRow). l.1) r.larges) rows) h.0 ∙ none-flat rows h.1
+
+-- ---- the parts of a reading
+
+-- the object is the record of this entry, which is of a soup that is there
+pub record IsEntryIn (graph_of : List ℕ → Option RawGraph) (d : Store) (o : ℕ × List ℕ) (x : ℕ × Entry) : Type 0 where
+  pub odd : o.0 % 2 ≡ 1
+  pub read : ReadAs graph_of o.1 x.0 x.1
+  pub no_large : graph_has_no_large x.1.graph ≡ true
+  pub given : HasGiven d x.0 x.1.uid
+
+module _ (graph_of : List ℕ → Option RawGraph) (objects : Texts) (blocks : ℕ) (s : Store) (r : IsReading graph_of (map.entries objects) blocks s) where
+  pub read-good : well_formed s ≡ true
+  read-good = (and_parts (well_formed s) (fits blocks s) r.good).0
+
+  pub read-directory : map.get objects 0 ≡ Some r.bytes
+  read-directory = sym (object-get objects 0) ∙ r.at_zero
+
+  pub read-bare : r.d ≡ bare s
+  read-bare = sym (directory-bare r.bytes r.d r.is_directory) ∙ sym (ap {A = List Soup} {B = Store} (λ ps. record r.d { soups = ps }) (map-kept bare_soup (with_entries graph_of r.es) (λ p. refl) r.d.soups)) ∙ ap bare r.is
+
+  pub read-whole : directory_read r.bytes ≡ Some (bare s)
+  read-whole = ap (only well_formed) (r.is_directory ∙ ap Some read-bare) ∙ ap (λ b. cond b (Some (bare s)) None) (bare-good s read-good)
+
+  built-good : well_formed (built graph_of r.d r.es) ≡ true
+  built-good = ap well_formed r.is ∙ read-good
+
+  soup-of : (x : ℕ × Entry) → Among r.es x → (p : Soup) × Among r.d.soups p × (p.sig ≡ x.0)
+  soup-of x m =
+      let k = any-among (λ (p : Soup). p.sig == x.0) r.d.soups (each-at (λ x. in_a_soup graph_of r.d x ≡ true) r.es x (each-list_all (in_a_soup graph_of r.d) r.es r.inside) m) in
+      (k.0, k.1, eqb-true k.0.sig x.0 k.2)
+
+  in-built : (x : ℕ × Entry) → (m : Among r.es x) → IsIn (built graph_of r.d r.es) x.0 x.1
+  in-built x m = record {
+    soup = with_entries graph_of r.es (soup-of x m).0;
+    is_soup = map-among (with_entries graph_of r.es) r.d.soups (soup-of x m).0 (soup-of x m).1;
+    of_sig = (soup-of x m).2;
+    is_entry = in-sorted r.es (soup-of x m).0.sig x.1 (subst (λ n. Among r.es (n, x.1)) (sym (soup-of x m).2) m);
+  }
+
+  pub read-in : (x : ℕ × Entry) → Among r.es x → IsIn s x.0 x.1
+  read-in x m = subst (λ (t : Store). IsIn t x.0 x.1) r.is (in-built x m)
+
+  pub entry-good : (x : ℕ × Entry) → Among r.es x → valid_entry x.1 ≡ true
+  entry-good x m = let is = in-built x m in
+      each-at (λ (e : Entry). valid_entry e ≡ true) is.soup.entries x.1 (each-list_all valid_entry is.soup.entries (its-soup (built graph_of r.d r.es) x.0 x.1 built-good is).entries_fit) is.is_entry
+
+  read-given : (x : ℕ × Entry) → Among r.es x → HasGiven r.d x.0 x.1.uid
+  unfolding in-built
+  read-given x m = record { soup = (soup-of x m).0; is_soup = (soup-of x m).1; of_sig = (soup-of x m).2; below = its-id (built graph_of r.d r.es) x.0 x.1 built-good (in-built x m) }
+
+  soup-apart : (sig : ℕ) (es : List Entry) → chosen sig r.es ≡ es → Pairs (λ (a b : Entry). a.uid ≡ b.uid → ⊥) es
+  unfolding in-built
+  soup-apart sig [] e = tt
+  soup-apart sig (k ∷ es) e =
+      let v = among-map (λ (y : ℕ × Entry). y.1) (filter (λ (y : ℕ × Entry). y.0 == sig) r.es) k (subst (λ (zs : List Entry). Among zs k) (sym e) (inl refl)) in
+      let f = among-filter (λ (y : ℕ × Entry). y.0 == sig) r.es v.0 v.1 in
+      let same : v.0.0 ≡ sig = eqb-true v.0.0 sig f.1 in
+      let p = soup-of v.0 f.0 in
+      let sorted = its-soup (built graph_of r.d r.es) v.0.0 v.0.1 built-good (in-built v.0 f.0) in
+      let rising = pairs-map (λ m n. m < n) (λ (e : Entry). e.uid) (sorted_by uid_cmp_of (chosen p.0.sig r.es)) (rises-pairs 0 p.0.next_uid (map (λ (e : Entry). e.uid) (sorted_by uid_cmp_of (chosen p.0.sig r.es))) sorted.uids) in
+      let apart = sort-back (λ (a b : Entry). a.uid ≡ b.uid → ⊥) uid_cmp_of (λ a b h k. h (sym k)) (chosen p.0.sig r.es)
+      (pairs-more (λ (a b : Entry). a.uid < b.uid) (λ (a b : Entry). a.uid ≡ b.uid → ⊥) (sorted_by uid_cmp_of (chosen p.0.sig r.es)) (λ a b _ _ less eq. absurd (omega (arith, less, eq))) rising) in
+      subst (λ (zs : List Entry). Pairs (λ (a b : Entry). a.uid ≡ b.uid → ⊥) zs) (ap (λ n. chosen n r.es) (p.2 ∙ same) ∙ e) apart
+
+  pub read-apart : Pairs ApartIds r.es
+  read-apart = apart-from r.es (λ sig. soup-apart sig (chosen sig r.es) refl)
+
+  module _ (none : has_no_large s ≡ true) where
+    read-plain-entry : (x : ℕ × Entry) → Among r.es x → graph_has_no_large x.1.graph ≡ true
+    read-plain-entry x m = its-plain s x.0 x.1 none (read-in x m)
+
+    abbrev RowOf : ℕ × List ℕ → EntryRow → Type 0
+    RowOf o row = entry_row o.1 ≡ Some row
+
+    abbrev EntryOf : EntryRow → ℕ × Entry → Type 0
+    EntryOf row x = entry_of_row graph_of (map.entries objects) row ≡ Some x
+
+    rows-read : Both RowOf (odds objects) r.rows
+    rows-read = every-both (λ (o : ℕ × List ℕ). entry_row o.1) (odds objects) r.rows r.are_rows
+
+    entries-read : Both EntryOf r.rows r.es
+    entries-read = every-both (entry_of_row graph_of (map.entries objects)) r.rows r.es r.are_entries
+
+    pub all-read : Both (IsEntryIn graph_of r.d) (odds objects) r.es
+    all-read = both-more (λ (o : ℕ × List ℕ) (x : ℕ × Entry). (row : EntryRow) × RowOf o row × EntryOf row x) (IsEntryIn graph_of r.d) (odds objects) r.es
+        (λ o x m n k. record {
+          odd = eqb-true (o.0 % 2) 1 (among-filter (λ (o : ℕ × List ℕ). o.0 % 2 == 1) (map.entries objects) o m).1;
+          read = record { row = k.0; is_row = k.1; plain = plain-row graph_of (map.entries objects) k.0 x.0 x.1 k.2 (read-plain-entry x n); is_valid = entry-good x n };
+          no_large = read-plain-entry x n;
+          given = read-given x n;
+        })
+        (both-join RowOf EntryOf (λ o x. (row : EntryRow) × RowOf o row × EntryOf row x) (λ o row x a b. (row, a, b)) (odds objects) r.rows r.es rows-read entries-read)
+
+    no-names : Each (λ (row : EntryRow). row.larges ≡ []) r.rows
+    no-names = each-from (λ (row : EntryRow). row.larges ≡ []) r.rows (λ row m.
+        let k = both-left EntryOf r.rows r.es row entries-read m in
+        (plain-row graph_of (map.entries objects) row k.0.0 k.0.1 k.2 (read-plain-entry k.0 k.1)).none)
+
+    pub all-odd : (id : ℕ) (bytes : List ℕ) → map.get objects id ≡ Some bytes → (id ≡ 0 → ⊥) → id % 2 ≡ 1
+    all-odd id bytes there n =
+        let named : (all_apart (λ a b. a == b) (flat_map (λ (r : EntryRow). map (λ (l : LargeRow). l.1) r.larges) r.rows)
+        && list_all (λ (o : ℕ × List ℕ). (o.0 % 2 == 1) || (o.0 == 0) || list_any (λ n. n == o.0) (flat_map (λ (r : EntryRow). map (λ (l : LargeRow). l.1) r.larges) r.rows)) (map.entries objects)) ≡ true = r.named in
+        let all = (and_parts true _ (subst (λ ns. (all_apart (λ a b. a == b) ns && list_all (λ (o : ℕ × List ℕ). (o.0 % 2 == 1) || (o.0 == 0) || list_any (λ n. n == o.0) ns) (map.entries objects)) ≡ true) (none-flat r.rows no-names) named)).1 in
+        odd-of id n (each-at (λ (o : ℕ × List ℕ). ((o.0 % 2 == 1) || (o.0 == 0) || false) ≡ true) (map.entries objects) (id, bytes) (each-list_all _ (map.entries objects) all) (get-entry objects id bytes there))
+      where
+        odd-of : (id : ℕ) → (id ≡ 0 → ⊥) → ((id % 2 == 1) || (id == 0) || false) ≡ true → id % 2 ≡ 1
+        odd-of id n h = go (or_cases ((id % 2 == 1) || (id == 0)) false h)
+          where
+            last : (id % 2 == 1) ≡ true ⊎ (id == 0) ≡ true → id % 2 ≡ 1
+            last (inl e) = eqb-true (id % 2) 1 e
+            last (inr e) = absurd (n (eqb-true id 0 e))
+
+            go : (((id % 2 == 1) || (id == 0)) ≡ true) ⊎ (false ≡ true) → id % 2 ≡ 1
+            go (inl e) = last (or_cases (id % 2 == 1) (id == 0) e)
+            go (inr e) = cc
+
+    -- the entry of an object
+    pub of-object : (id : ℕ) (bytes : List ℕ) → map.get objects id ≡ Some bytes → (id ≡ 0 → ⊥) → (x : ℕ × Entry) × Among r.es x × IsEntryIn graph_of r.d (id, bytes) x
+    of-object id bytes there n = both-left (IsEntryIn graph_of r.d) (odds objects) r.es (id, bytes) all-read
+        (filter-among (λ (o : ℕ × List ℕ). o.0 % 2 == 1) (map.entries objects) (id, bytes) (get-entry objects id bytes there) (eq-eqb (id % 2) 1 (all-odd id bytes there n)))
+
+    -- two records are of two entries
+    abbrev pub Differ : ℕ × List ℕ → ℕ × List ℕ → Type 0
+    Differ a b = (x y : ℕ × Entry) → ReadAs graph_of a.1 x.0 x.1 → ReadAs graph_of b.1 y.0 y.1 → ApartIds x y
+
+    pub records-differ : Pairs Differ (odds objects)
+    records-differ = both-pairs (λ (x : ℕ × Entry) (o : ℕ × List ℕ). IsEntryIn graph_of r.d o x) ApartIds Differ
+        (λ x y a b p q apart v u h k soup uid. apart
+        (ap {A = ℕ × Entry} {B = ℕ} (λ z. z.0) (read-same graph_of a.1 x.0 v.0 x.1 v.1 p.read h) ∙ soup ∙ ap {A = ℕ × Entry} {B = ℕ} (λ z. z.0) (sym (read-same graph_of b.1 y.0 u.0 y.1 u.1 q.read k)))
+        (ap {A = ℕ × Entry} {B = ℕ} (λ z. z.1.uid) (read-same graph_of a.1 x.0 v.0 x.1 v.1 p.read h) ∙ uid ∙ ap {A = ℕ × Entry} {B = ℕ} (λ z. z.1.uid) (sym (read-same graph_of b.1 y.0 u.0 y.1 u.1 q.read k))))
+        r.es (odds objects) (both-flip (IsEntryIn graph_of r.d) (odds objects) r.es all-read) read-apart

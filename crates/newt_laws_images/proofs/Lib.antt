@@ -1,0 +1,17 @@
+pub mod Stores
+pub mod Read
+pub mod Records
+pub mod Assembled
+pub mod OneStore
+pub mod Finite
+pub mod Spelt
+pub mod Plain
+pub mod Placed
+pub mod Whole
+pub mod Totals
+pub mod Made
+pub mod Parts
+pub mod Known
+pub mod Refused
+pub mod Again
+pub mod Gathering

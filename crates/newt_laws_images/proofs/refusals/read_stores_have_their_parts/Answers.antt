@@ -1,0 +1,8 @@
+use Rattle.newt_laws_images.proofs.Refused.{has-directory, has-record}
+use Rattle.newt_laws_images.proofs.refusals.read_stores_have_their_parts.Goals as goal
+
+pub returns-clause-directory : goal.returns-clause-directory
+returns-clause-directory c = has-directory
+
+pub returns-clause-record : goal.returns-clause-record
+returns-clause-record c = has-record

@@ -1,0 +1,34 @@
+-- Parts of the texts of replies, with std's decimals. The text of a whole reply stays closed in proofs.
+use Rattle.std.specs.Prelude.{ℕ, Bool, ◌||◌, ◌==◌, List, [], ◌∷◌, ◌++◌, flat_map, codes, decimal}
+use Rattle.newt_lit.specs.Printed.{escaped}
+use Rattle.newt_spec_world.specs.Reply.{Reply, reply_text, ok, items, spaced, name_field}
+use Rattle.newt_reply.specs.declared.rows.StoreLine.{StoreLine}
+use Rattle.newt_reply.specs.declared.rows.SoupLine.{SoupLine}
+
+-- the text of a reply
+unfoldable pub written : Reply → List ℕ
+written = reply_text
+
+-- the line of a reply that is no refusal, with its end
+unfoldable pub ok_text : List (List ℕ) → List ℕ
+ok_text fields = ok fields ++ 10 ∷ []
+
+-- a byte for which a name stands in quotes
+abbrev pub is_quotable : ℕ → Bool
+is_quotable c = (c == 32) || (c == 34) || (c == 92)
+
+-- a name in quotes
+abbrev pub quoted : List ℕ → List ℕ
+quoted name = codes "\"" ++ flat_map (escaped (codes "\"\\")) name ++ codes "\""
+
+-- a mounted store in a list: its unit, its signature and its name
+unfoldable pub store_item : StoreLine → List ℕ
+store_item line = spaced (decimal line.unit ∷ decimal line.sig ∷ name_field line.name ∷ [])
+
+-- a soup in a list: its name, its signature and how many entries it has
+unfoldable pub soup_item : SoupLine → List ℕ
+soup_item line = spaced (name_field line.name ∷ decimal line.sig ∷ decimal line.count ∷ [])
+
+-- an alias as a literal
+unfoldable pub alias_item : ℕ → ℕ → ℕ → List ℕ
+alias_item store soup uid = codes "[alias: " ++ items (decimal store ∷ decimal soup ∷ decimal uid ∷ []) ++ codes "]"

@@ -1,0 +1,80 @@
+//! What is told of stores and soups, one line each.
+ghost use Rattle.std.specs.Prelude.{◌≡◌};
+
+use newt_base::{Name, Sig};
+use newt_host::Unit;
+use std::marker::Model;
+
+/// A mounted store.
+#[derive(Drop)]
+pub struct StoreLine {
+    pub unit: Unit,
+    pub sig: Sig,
+    pub name: Name,
+}
+
+/// A soup, and how many entries it has.
+#[derive(Drop)]
+pub struct SoupLine {
+    pub name: Name,
+    pub sig: Sig,
+    pub count: u32,
+}
+
+/// The mounted stores, by unit.
+#[derive(Drop)]
+pub struct StoreRows {
+    items: Vec<StoreLine>,
+}
+
+impl Model for StoreRows {
+    ghost use Rattle.std.specs.Prelude.{List};
+    ghost use Rattle.newt_reply.specs.declared.rows.StoreLine.{StoreLine};
+
+    ghost Value = { List StoreLine };
+
+    ghost view = { λ rows. rows.items.items };
+}
+
+impl StoreRows {
+    pub fn of(items: Vec<StoreLine>) -> Self
+        ensures { result ≡ items.items }
+    {
+        StoreRows { items }
+    }
+
+    pub fn list(&self) -> &[StoreLine]
+        ensures { result.now ≡ self.now }
+    {
+        self.items.as_slice()
+    }
+}
+
+/// The soups of a store, in order of making.
+#[derive(Drop)]
+pub struct SoupRows {
+    items: Vec<SoupLine>,
+}
+
+impl Model for SoupRows {
+    ghost use Rattle.std.specs.Prelude.{List};
+    ghost use Rattle.newt_reply.specs.declared.rows.SoupLine.{SoupLine};
+
+    ghost Value = { List SoupLine };
+
+    ghost view = { λ rows. rows.items.items };
+}
+
+impl SoupRows {
+    pub fn of(items: Vec<SoupLine>) -> Self
+        ensures { result ≡ items.items }
+    {
+        SoupRows { items }
+    }
+
+    pub fn list(&self) -> &[SoupLine]
+        ensures { result.now ≡ self.now }
+    {
+        self.items.as_slice()
+    }
+}

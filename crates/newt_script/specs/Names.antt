@@ -1,0 +1,17 @@
+-- Names in quotes, byte by byte.
+use Rattle.std.specs.Prelude.{ℕ, Bool, ◌||◌, ◌==◌, List, [], ◌∷◌, ◌++◌, Option, Some, None}
+use Rattle.newt_spec_script.specs.Words.{quoted}
+
+-- a byte for which a name stands in quotes
+abbrev pub needs_quotes : ℕ → Bool
+needs_quotes c = (c == 32) || (c == 34) || (c == 92)
+
+-- what is read behind some bytes of a quoted text
+abbrev pub behind : List ℕ → Option (List ℕ × List ℕ) → Option (List ℕ × List ℕ)
+behind front None = None
+behind front (Some q) = Some (front ++ q.0, q.1)
+
+-- what a quoted text gives that begins with a byte, or with the closing quote
+abbrev pub goes_on : Option ℕ → List ℕ → Option (List ℕ × List ℕ)
+goes_on None rest = Some ([], rest)
+goes_on (Some byte) rest = behind (byte ∷ []) (quoted rest)

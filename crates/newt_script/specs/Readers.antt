@@ -1,0 +1,57 @@
+-- What the functions behind `line` read: the readers and rows of the definition, under names that stay closed in proofs.
+use Rattle.std.specs.Prelude.{ℕ, Bool, ◌==◌, List, length, Result, Ok, Err}
+use Rattle.newt_spec_world.specs.declared.command.Command.{Command}
+use Rattle.newt_spec_script.specs.Words.{Reader, of2, of3, name, trimmed}
+use Rattle.newt_spec_script.specs.Line.{Parsed, unit, number, sig, row_of}
+use Rattle.newt_spec_script.specs.Script.{Item, item_of}
+use Rattle.newt_script.specs.Graphs.{readers}
+use Rattle.newt_script.specs.declared.fault.LineFault.{LineFault}
+use Rattle.newt_script.specs.declared.fault.LineFault.TheVariants.{Refused}
+
+-- U
+unfoldable pub unit_of : Reader ℕ
+unit_of = unit
+
+-- UID and T
+unfoldable pub number_of : Reader ℕ
+number_of = number
+
+-- SIG
+unfoldable pub sig_of : Reader ℕ
+sig_of = sig
+
+-- S and NAME
+unfoldable pub name_of : Reader (List ℕ)
+name_of = name
+
+-- U S
+unfoldable pub soup_of : Reader (ℕ × List ℕ)
+soup_of = of2 unit_of name_of (λ u s. (u, s))
+
+-- U S UID
+unfoldable pub entry_of : Reader (ℕ × List ℕ × ℕ)
+entry_of = of3 unit_of name_of number_of (λ u s uid. (u, s, uid))
+
+-- the rest of a line, without the blanks at its ends
+unfoldable pub rest_of : List ℕ → List ℕ
+rest_of = trimmed
+
+-- nothing but blanks is left
+unfoldable pub is_ended : List ℕ → Bool
+is_ended rest = length (rest_of rest) == 0
+
+-- a command, or why there is none
+abbrev pub Reading : Type 0
+Reading = Result Command LineFault
+
+abbrev pub as_read : Item → Reading
+as_read (Ok command) = Ok command
+as_read (Err refusal) = Err (Refused refusal)
+
+-- what is read of a line's words
+abbrev pub reading : Parsed → Reading
+reading p = as_read (item_of readers p)
+
+-- what the row of a word reads
+unfoldable pub row_reading : List ℕ → List ℕ → Reading
+row_reading word rest = reading (row_of word rest)

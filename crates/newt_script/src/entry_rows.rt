@@ -1,0 +1,105 @@
+//! The rows of the table of commands that speak of entries.
+ghost use Rattle.std.specs.Prelude.{◌≡◌, ◌≢◌, codes};
+ghost use Rattle.newt_script.specs.Readers.{row_reading};
+
+use crate::fault::LineFault;
+use crate::words::Words;
+use newt_spec_world::Command;
+use std::alloc::Global;
+
+/// `add U S LIT`
+#[tactic(auto, using(crate::proofs::RowTable::row_add))]
+pub fn add(alloc: Global, words: &mut Words) -> Result<Command, LineFault>
+    ensures { result ≢ Err LineFault.Memory → result ≡ row_reading (codes "add") words.old }
+{
+    let (unit, name) = words.soup(alloc)?;
+    Ok(Command::Add(unit, name, words.literal(alloc)?))
+}
+
+/// `addx U S HEX`
+#[tactic(auto, using(crate::proofs::RowTable::row_addx))]
+pub fn addx(alloc: Global, words: &mut Words) -> Result<Command, LineFault>
+    ensures { result ≢ Err LineFault.Memory → result ≡ row_reading (codes "addx") words.old }
+{
+    let (unit, name) = words.soup(alloc)?;
+    Ok(Command::Addx(unit, name, words.stream(alloc)?))
+}
+
+/// `addu S LIT`
+#[tactic(auto, using(crate::proofs::RowTable::row_addu))]
+pub fn addu(alloc: Global, words: &mut Words) -> Result<Command, LineFault>
+    ensures { result ≢ Err LineFault.Memory → result ≡ row_reading (codes "addu") words.old }
+{
+    let name = words.name(alloc)?;
+    Ok(Command::Addu(name, words.literal(alloc)?))
+}
+
+/// `get U S UID`
+#[tactic(auto, using(crate::proofs::RowTable::row_get))]
+pub fn get(alloc: Global, words: &mut Words) -> Result<Command, LineFault>
+    ensures { result ≢ Err LineFault.Memory → result ≡ row_reading (codes "get") words.old }
+{
+    let (unit, name, uid) = words.entry(alloc)?;
+    words.end()?;
+    Ok(Command::Get(unit, name, uid))
+}
+
+/// `getx U S UID`
+#[tactic(auto, using(crate::proofs::RowTable::row_getx))]
+pub fn getx(alloc: Global, words: &mut Words) -> Result<Command, LineFault>
+    ensures { result ≢ Err LineFault.Memory → result ≡ row_reading (codes "getx") words.old }
+{
+    let (unit, name, uid) = words.entry(alloc)?;
+    words.end()?;
+    Ok(Command::Getx(unit, name, uid))
+}
+
+/// `remove U S UID`
+#[tactic(auto, using(crate::proofs::RowTable::row_remove))]
+pub fn remove(alloc: Global, words: &mut Words) -> Result<Command, LineFault>
+    ensures { result ≢ Err LineFault.Memory → result ≡ row_reading (codes "remove") words.old }
+{
+    let (unit, name, uid) = words.entry(alloc)?;
+    words.end()?;
+    Ok(Command::Remove(unit, name, uid))
+}
+
+/// `copy U S UID U S`
+#[tactic(auto, using(crate::proofs::RowTable::row_copy))]
+pub fn copy(alloc: Global, words: &mut Words) -> Result<Command, LineFault>
+    ensures { result ≢ Err LineFault.Memory → result ≡ row_reading (codes "copy") words.old }
+{
+    let (unit, name, uid) = words.entry(alloc)?;
+    let (to, soup) = words.soup(alloc)?;
+    words.end()?;
+    Ok(Command::Copy(unit, name, uid, to, soup))
+}
+
+/// `move U S UID U S`
+#[tactic(auto, using(crate::proofs::RowTable::row_move))]
+pub fn move_(alloc: Global, words: &mut Words) -> Result<Command, LineFault>
+    ensures { result ≢ Err LineFault.Memory → result ≡ row_reading (codes "move") words.old }
+{
+    let (unit, name, uid) = words.entry(alloc)?;
+    let (to, soup) = words.soup(alloc)?;
+    words.end()?;
+    Ok(Command::Move(unit, name, uid, to, soup))
+}
+
+/// `alias U S UID`
+#[tactic(auto, using(crate::proofs::RowTable::row_alias))]
+pub fn alias(alloc: Global, words: &mut Words) -> Result<Command, LineFault>
+    ensures { result ≢ Err LineFault.Memory → result ≡ row_reading (codes "alias") words.old }
+{
+    let (unit, name, uid) = words.entry(alloc)?;
+    words.end()?;
+    Ok(Command::Alias(unit, name, uid))
+}
+
+/// `resolve LIT`
+#[tactic(auto, using(crate::proofs::RowTable::row_resolve))]
+pub fn resolve(alloc: Global, words: &mut Words) -> Result<Command, LineFault>
+    ensures { result ≢ Err LineFault.Memory → result ≡ row_reading (codes "resolve") words.old }
+{
+    Ok(Command::Resolve(words.literal(alloc)?))
+}

@@ -1,0 +1,41 @@
+//! The table of commands: what is read behind the first word of a line.
+ghost use Rattle.std.specs.Prelude.{◌≡◌, ◌≢◌};
+ghost use Rattle.newt_script.specs.Readers.{row_reading};
+ghost use Rattle.newt_script.specs.Verbs.{word_of};
+
+use crate::fault::LineFault;
+use crate::verbs::Verb;
+use crate::words::Words;
+use crate::{entry_rows, store_rows};
+use newt_spec_world::Command;
+use std::alloc::Global;
+
+/// The command of the words behind the first one.
+pub fn row(alloc: Global, verb: Verb, words: &mut Words) -> Result<Command, LineFault>
+    ensures { result ≢ Err LineFault.Memory → result ≡ row_reading (word_of verb) words.old }
+{
+    match verb {
+        Verb::Nsof => store_rows::nsof(alloc, words),
+        Verb::Lit => store_rows::lit(alloc, words),
+        Verb::Time => store_rows::time(words),
+        Verb::Quit => store_rows::quit(words),
+        Verb::Format => store_rows::format(alloc, words),
+        Verb::Mount => store_rows::mount(words),
+        Verb::Unmount => store_rows::unmount(words),
+        Verb::Stores => store_rows::stores(words),
+        Verb::Default => store_rows::default(words),
+        Verb::Soup => store_rows::soup(alloc, words),
+        Verb::Soups => store_rows::soups(words),
+        Verb::Drop => store_rows::drop(alloc, words),
+        Verb::Add => entry_rows::add(alloc, words),
+        Verb::Addx => entry_rows::addx(alloc, words),
+        Verb::Addu => entry_rows::addu(alloc, words),
+        Verb::Get => entry_rows::get(alloc, words),
+        Verb::Getx => entry_rows::getx(alloc, words),
+        Verb::Remove => entry_rows::remove(alloc, words),
+        Verb::Copy => entry_rows::copy(alloc, words),
+        Verb::Move => entry_rows::move_(alloc, words),
+        Verb::Alias => entry_rows::alias(alloc, words),
+        Verb::Resolve => entry_rows::resolve(alloc, words),
+    }
+}
