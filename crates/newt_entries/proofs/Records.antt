@@ -88,11 +88,6 @@ record_of bytes h none = ap (λ (o : Option EntryRow). only (λ x. valid_entry x
 text_of : (bytes : List ℕ) → take (length bytes - 12) (drop 12 bytes) ≡ drop 12 bytes
 text_of bytes = take_all (length bytes - 12) (drop 12 bytes) (omega (arith, length-drop 12 bytes))
 
-pub unwritten : (bytes : List ℕ) → 12 ≤ length bytes → be16_at bytes 2 ≡ 0 → written stream_graph (take (length bytes - 12) (drop 12 bytes)) ≡ None → entry_read stream_graph bytes ≡ None
-unwritten bytes h none e =
-    record_of bytes h none ∙ ap (λ (o : Option RawGraph). only (λ x. valid_entry x.1) (option_map (the_entry (be16_at bytes 0) (be32_at bytes 4) (be32_at bytes 8)) (option_and_then (with_larges stream_graph [] (plain_row (be16_at bytes 0) (be32_at bytes 4) (be32_at bytes 8) (drop 12 bytes))) o)))
-    (sym (ap (written stream_graph) (text_of bytes)) ∙ e)
-
 pub fit : (bytes : List ℕ) (g : RawGraph) → 12 ≤ length bytes → be16_at bytes 2 ≡ 0 → written stream_graph (take (length bytes - 12) (drop 12 bytes)) ≡ Some g → fits g ≡ true
     → entry_read stream_graph bytes ≡ Some (the_entry (be16_at bytes 0) (be32_at bytes 4) (be32_at bytes 8) g)
 fit bytes g h none e fits =
