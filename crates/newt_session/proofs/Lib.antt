@@ -1,0 +1,12 @@
+pub mod Counting
+pub mod Writing
+pub mod Cutting
+pub mod Items
+pub mod Replying
+pub mod Turning
+pub mod Feeding
+pub mod Going
+pub mod Ending
+pub mod Halting
+pub mod Crashing
+pub mod Beginning
