@@ -1,8 +1,8 @@
 -- Statuses, their numbers and their causes.
 use Rattle.std.specs.Prelude.{ℕ}
-use Rattle.newt_host.specs.Outside.{Rose}
-use Rattle.newt_top.specs.declared.halt.Halt.{Halt}
-use Rattle.newt_top.specs.declared.halt.Halt.TheVariants.{Memory as NoMemory, Source as BadSource, Sink as BadSink, TooLong as LongInput}
+use Rattle.newt_host.specs.Outside.{Outside, Rose}
+use Rattle.newt_session.specs.declared.halt.Halt.{Halt}
+use Rattle.newt_session.specs.declared.halt.Halt.TheVariants.{Memory as NoMemory, Device as BadDevice, Source as BadSource, Sink as BadSink, TooLong as LongInput}
 use Rattle.newt_top.specs.declared.status.Status.{Status}
 use Rattle.newt_top.specs.declared.status.Status.TheVariants.{Ok, Usage, Memory, Device, Source, Sink, TooLong}
 
@@ -19,19 +19,20 @@ exit_of TooLong = 7
 -- the status of a run that was halted
 abbrev pub status_of : Halt → Status
 status_of NoMemory = Memory
+status_of (BadDevice unit) = Device unit
 status_of BadSource = Source
 status_of BadSink = Sink
 status_of LongInput = TooLong
 
--- A fault was counted where one is told. No run touches a device yet.
-abbrev pub HasStatusCause : Status → (in_before in_now out_before out_now : ℕ) → Type 0
-HasStatusCause Ok in_before in_now out_before out_now = Unit {0}
-HasStatusCause Usage in_before in_now out_before out_now = Unit {0}
-HasStatusCause Memory in_before in_now out_before out_now = Unit {0}
-HasStatusCause TooLong in_before in_now out_before out_now = Unit {0}
-HasStatusCause (Device unit) in_before in_now out_before out_now = ⊥
-HasStatusCause Source in_before in_now out_before out_now = Rose in_before in_now
-HasStatusCause Sink in_before in_now out_before out_now = Rose out_before out_now
+-- a fault was counted where one is told
+abbrev pub HasStatusCause : Status → (old new : Outside) → Type 0
+HasStatusCause Ok old new = Unit {0}
+HasStatusCause Usage old new = Unit {0}
+HasStatusCause Memory old new = Unit {0}
+HasStatusCause TooLong old new = Unit {0}
+HasStatusCause (Device unit) old new = Rose (old.dev_faults unit) (new.dev_faults unit)
+HasStatusCause Source old new = Rose old.in_faults new.in_faults
+HasStatusCause Sink old new = Rose old.out_faults new.out_faults
 
 -- a status that tells of no fault
 abbrev pub IsFaultless : Status → Type 0

@@ -8,26 +8,26 @@ use Rattle.newt_nsof.specs.Written.{nsof}
 use Rattle.newt_nsof_read.specs.Reading.{decoded}
 use Rattle.newt_nsof_read.specs.declared.fault.NsofFault.{NsofFault}
 use Rattle.newt_nsof_read.specs.declared.fault.NsofFault.TheVariants as nsof_faults
-use Rattle.newt_top.specs.Texts.{reply_text}
-use Rattle.newt_reply.specs.declared.reply.Reply.TheVariants as replies
+use Rattle.newt_spec_world.specs.Reply as replies
 use Rattle.newt_script.specs.Graphs.{literal_of}
-use Rattle.newt_top.specs.Stream.{WroteSome}
-use Rattle.newt_top.specs.declared.halt.Halt.{Halt}
-use Rattle.newt_top.specs.declared.halt.Halt.TheVariants.{Memory, Source, Sink, TooLong}
+use Rattle.newt_host.specs.Outside.{Outside, Rose}
+use Rattle.newt_session.specs.Stream.{WroteSome}
+use Rattle.newt_session.specs.declared.halt.Halt.{Halt}
+use Rattle.newt_session.specs.declared.halt.Halt.TheVariants.{Memory, Device, Source, Sink, TooLong}
 use Rattle.newt_top.specs.declared.status.Conversion.{Conversion}
 use Rattle.newt_top.specs.declared.status.Conversion.TheVariants.{Show, Pack}
 
 -- the literal of the graph that an object stream spells, or the refusal of its reading; no reading is defined to want memory
 abbrev pub shown : Result RawGraph NsofFault → List ℕ
-shown (Ok graph) = reply_text (replies.Literal graph)
-shown (Err nsof_faults.Malformed) = reply_text (replies.Refused refusals.Malformed)
-shown (Err nsof_faults.Compressed) = reply_text (replies.Refused refusals.Compressed)
+shown (Ok graph) = replies.reply_text (replies.Reply.literal_of graph)
+shown (Err nsof_faults.Malformed) = replies.reply_text (replies.Reply.refused refusals.Malformed)
+shown (Err nsof_faults.Compressed) = replies.reply_text (replies.Reply.refused refusals.Compressed)
 shown (Err nsof_faults.Memory) = []
 
 -- the object stream of the graph that a literal writes down, or the refusal of its reading
 abbrev pub packed : Result RawGraph LitFault → List ℕ
 packed (Ok graph) = nsof graph
-packed (Err lit_faults.Literal) = reply_text (replies.Refused refusals.Literal)
+packed (Err lit_faults.Literal) = replies.reply_text (replies.Reply.refused refusals.Literal)
 packed (Err lit_faults.Memory) = []
 
 -- what a conversion makes of an input
@@ -39,5 +39,14 @@ converted Pack input = packed (literal_of input)
 abbrev pub HaltedWhole : Conversion → ℕ → Halt → (input old now : List ℕ) → Type 0
 HaltedWhole conversion limit Memory input old now = WroteSome (converted conversion input) old now
 HaltedWhole conversion limit Sink input old now = WroteSome (converted conversion input) old now
+HaltedWhole conversion limit (Device unit) input old now = ⊥
 HaltedWhole conversion limit Source input old now = now ≡ old
 HaltedWhole conversion limit TooLong input old now = (limit < length input) × (now ≡ old)
+
+-- what may halt the reading of all the input: want of memory, too long an input, or the input where it has failed
+abbrev pub HasReadCause : Halt → (old new : Outside) → Type 0
+HasReadCause Memory old new = Unit {0}
+HasReadCause TooLong old new = Unit {0}
+HasReadCause Source old new = Rose old.in_faults new.in_faults
+HasReadCause Sink old new = ⊥
+HasReadCause (Device unit) old new = ⊥
