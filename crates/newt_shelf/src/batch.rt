@@ -22,7 +22,12 @@ pub struct NewEntry {
 }
 
 // Plans the bytes of an object. Bytes that an object cannot have are no bytes that memory has.
-fn plan_object(objects: &mut Objects, id: u32, bytes: &[u8], batch: &mut Batch) -> Result<(), AllocError>
+fn plan_object(
+    objects: &mut Objects,
+    id: u32,
+    bytes: &[u8],
+    batch: &mut Batch,
+) -> Result<(), AllocError>
     requires no_plan { IsUnplanned objects.old id }
     requires way { (live : Pages) × (texts : Texts) × IsUnderWay objects.old batch.old live texts }
     ensures way { OnOk result ((live : Pages) (texts : Texts) → IsUnderWay objects.old batch.old live texts → (after : Texts) × IsUnderWay objects.new batch.new live after × HasPut id bytes.now texts after) }
@@ -37,7 +42,11 @@ fn plan_object(objects: &mut Objects, id: u32, bytes: &[u8], batch: &mut Batch) 
 }
 
 // Plans the record of the new entry, if there is one.
-fn plan_entry(objects: &mut Objects, entry: &Option<NewEntry>, batch: &mut Batch) -> Result<(), AllocError>
+fn plan_entry(
+    objects: &mut Objects,
+    entry: &Option<NewEntry>,
+    batch: &mut Batch,
+) -> Result<(), AllocError>
     requires no_plan { (e : NewOne) → entry.now ≡ Some e → IsUnplanned objects.old e.id }
     requires way { (live : Pages) × (texts : Texts) × IsUnderWay objects.old batch.old live texts }
     ensures way { OnOk result ((live : Pages) (texts : Texts) → IsUnderWay objects.old batch.old live texts → (after : Texts) × IsUnderWay objects.new batch.new live after × ((e : NewOne) → entry.now ≡ Some e → HasPut e.id e.bytes.items texts after) × (entry.now ≡ None → after ≡ texts)) }

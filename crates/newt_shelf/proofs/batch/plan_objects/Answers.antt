@@ -43,8 +43,7 @@ pub returns-clause-way : goal.returns-clause-way
 returns-clause-way c = λ live texts w.
     let x = c.in_ok-plan_object.ensures.way live texts w in
     let y = c.in_ok-plan_entry.ensures.way live x.0 x.1 in
-    let z = c.in_ok-plan_gone.ensures.way live y.0 y.1 in
-    (
+    let z = c.in_ok-plan_gone.ensures.way live y.0 y.1 in (
       z.0,
       z.1,
       written c.args.directory.now c.args.entry.now c.args.gone.now texts x.0 y.0 z.0 x.2 y.2 y.3 z.2

@@ -55,8 +55,7 @@ returns-in-Ok-commit-clause-holds g c = λ tells before after p.
     let blocks : ℕ = (o c.args.host.now).blocks u in
     let count : set.len (changed_numbers batch (g.P.PageBook.numbers c.reserve.new.self)) ≡ set.len (changed_numbers batch numbers) = ap (λ (n : Numbers). set.len (changed_numbers batch n)) same.1 in
     let room : cap ((o c.args.host.now).blocks (g.P.PageBook.place c.reserve.new.self)) ≡ cap blocks = ap (λ (v : ℕ). cap ((o c.args.host.now).blocks v)) same.0 in
-    let low : set.len (changed_numbers batch numbers) ≤ cap blocks = not-more _ _ _ _ count room (λ more. absurd (let no = e.fits more in cc)) in
-    (
+    let low : set.len (changed_numbers batch numbers) ≤ cap blocks = not-more _ _ _ _ count room (λ more. absurd (let no = e.fits more in cc)) in (
       holds-after g.H.Host.told c.args.objects.now batch numbers (image u old) before after tells c.puts.ensures.sound p (image u new)
           (subst (λ (v : ℕ). ReadsChanged batch (image v old) (image v new)) same.0 (e.committed tells)),
       planned-fits g.H.Host.told c.args.objects.now batch numbers (image u old) before after tells c.puts.ensures.sound p blocks (g.met.H.Host.sized c.args.host.now u tells) low,
@@ -143,8 +142,7 @@ returns-in-Err-Full-clause-refused g c = λ is.
     let u : ℕ = g.P.PageBook.place c.args.book.now in
     let same = c.in_ok-reserve.ensures.same in
     let un = c.commit.ensures.unchanged (the-full c.in-Err-Full.is c.in-Err-Full.field-0-is) in
-    let p = c.requires.planned in
-    (
+    let p = c.requires.planned in (
       un.0,
       record {
         none = c.forget.ensures.no_plans;
