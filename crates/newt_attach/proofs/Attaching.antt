@@ -70,7 +70,6 @@ not_known name (Some bytes) e = absurd (cc)
 
 module _ (told : Bool) (names : List (List ℕ)) (done : ℕ) (old mid now : Outside) (name : List ℕ) (at : slice_get names done ≡ Some name) (a : Attaching told names done old mid)
     (input : now.input ≡ mid.input) (in_faults : now.in_faults ≡ mid.in_faults) (out_faults : now.out_faults ≡ mid.out_faults) (counts : SameCounts mid now) where
-
   -- there is a device of the next name
   attaching_yes : (IsTrue told → changes done mid.now ≡ []) → Attaches told done name mid now → Attaching told names (done + 1) old now
   attaching_yes fresh fits = record {
@@ -106,7 +105,7 @@ module _ (told : Bool) (names : List (List ℕ)) (done : ℕ) (old mid now : Out
             there.0,
             ap old.devices (sym (named unit other is e)) ∙ (sym (a.devices name) ∙ there.1),
             ap (λ (m : Moment). changes unit m) there.2 ∙ (ap (λ (u : ℕ). changes u (On done (Attached there.0) ∷ mid.now)) e
-            ∙ (changes-same done (Attached there.0) mid.now ∙ ap (λ (cs : List Change). Attached there.0 ∷ cs) (fresh tells))),
+                ∙ (changes-same done (Attached there.0) mid.now ∙ ap (λ (cs : List Change). Attached there.0 ∷ cs) (fresh tells))),
           )
       begins tells unit other is (inr differ) =
           let was = a.begins tells unit other (sym (fits.other_cards unit differ) ∙ is) in

@@ -124,9 +124,8 @@ since_attached unit t k size bytes old mid new none first quiet only second hist
     let there = attached_once unit size t second.more mid some (subst P second.is history) (ap (λ (m : Moment). attached_at unit m) (sym second.is) ∙ at) in
     let low = attached_after unit t first.more old none (ap (λ (m : Moment). attached_at unit m) (sym first.is) ∙ there) in
     let stays = moment-stays k second to in
-    let size_is : length mid ≡ length (first.more ++ old) = ap length first.is in
-    (
+    let size_is : length mid ≡ length (first.more ++ old) = ap length first.is in (
       ap (λ (m : Moment). changes unit m) stays ∙ only_attached unit t k bytes mid only there from to,
       ap output stays ∙ (ap (λ (m : Moment). output (moment_at k m)) first.is
-      ∙ (quiet_at k first.more old (ap output (sym first.is) ∙ quiet) (omega (arith, low, from)) (omega (arith, to, size_is)) ∙ sym quiet)),
+          ∙ (quiet_at k first.more old (ap output (sym first.is) ∙ quiet) (omega (arith, low, from)) (omega (arith, to, size_is)) ∙ sym quiet)),
     )

@@ -1,5 +1,5 @@
 // Objects, their pages spelt by hand.
-ghost use Rattle.std.specs.Prelude.{◌≡◌, ◌≤◌, length, IfOk};
+ghost use Rattle.std.specs.Prelude.{◌≡◌, ◌≤◌, length, vec_len, IfOk};
 
 use crate::card::{CARD, fresh, has_card, host_of, opened};
 use newt_objects::{Objects, ScanFault};
@@ -8,11 +8,20 @@ use std::alloc::{AllocError, Global};
 use std::process::Abort;
 use std::test::Fail;
 
-/// The bytes of an object.
-pub(crate) fn text(alloc: Global, size: u32) -> Result<Vec<u8>, AllocError> {
+/// The bytes of an object, from 0 on in a circle of 251.
+pub(crate) fn text(alloc: Global, size: u32) -> Result<Vec<u8>, AllocError>
+    ensures { IfOk result (λ bytes. vec_len bytes ≡ size) }
+{
+    text_from(alloc, 0, size)
+}
+
+/// The bytes of an object, from one on in a circle of 251.
+pub(crate) fn text_from(alloc: Global, first: u8, size: u32) -> Result<Vec<u8>, AllocError>
+    ensures { IfOk result (λ bytes. vec_len bytes ≡ size) }
+{
     let mut bytes = Vec::new(alloc);
     for place in 0..size {
-        bytes.push((place % 251) as u8)?;
+        bytes.push(((place % 251 + u32::from(first)) % 251) as u8)?;
     }
     Ok(bytes)
 }

@@ -1,12 +1,13 @@
 -- The next row that has an object.
-use Rattle.std.proofs.Common.{◌≡◌, ℕ, ◌<◌, ◌≤◌, Bool, true, false, ◌&&◌, cond, List, [], ◌∷◌, ◌++◌, Option, Some, None, IsSome, Ordering, refl, sym, ◌∙◌, ap, subst, arith, ⊎_elim}
+use Rattle.std.proofs.Common.{◌≡◌, ℕ, ◌+◌, ◌<◌, ◌≤◌, Bool, true, false, ◌&&◌, cond, List, [], ◌∷◌, ◌++◌, Option, Some, None, IsSome, Ordering, refl, sym, ◌∙◌, ap, subst, arith, ⊎_elim}
 use Rattle.std.specs.declared.cmp.Ordering.TheVariants.{Less, Equal, Greater}
-use Rattle.std.specs.declared.ops.Bound.TheVariants.{Included, Unbounded}
+use Rattle.std.specs.declared.ops.Bound.{Bound}
+use Rattle.std.specs.declared.ops.Bound.TheVariants.{Included, Excluded, Unbounded}
 use Rattle.std.specs.List.{filter, AllByRecursion}
 use Rattle.std.specs.List.Sorted.{IsStrictlySortedBy}
 use Rattle.std.specs.Map.{lookup, keys_of}
 use Rattle.std.specs.Option.{option_flatten, is_some}
-use Rattle.std.specs.Ordering.{nat_cmp, is_eq, is_gt, is_le}
+use Rattle.std.specs.Ordering.{nat_cmp, is_eq, is_gt, is_le, is_lt}
 use Rattle.std.specs.BTreeMap as tree
 use Rattle.std.specs.BTreeMap.{is_at}
 use Rattle.std.specs.BTreeMap.Range.{range_contains, entries_between}
@@ -38,18 +39,19 @@ below_is a b low = sym (nat_cmp_is a b Less low)
 above_is : (a b : ℕ) → b < a → nat_cmp a b ≡ Greater
 above_is a b low = sym (nat_cmp_is a b Greater low)
 
+not_less : (a b : ℕ) → b ≤ a → nat_cmp a b ≡ Less → ⊥
+not_less a b high e = ⊎_elim
+    (λ (low : b < a). let g : Greater ≡ Less = sym (above_is a b low) ∙ e in absurd (cc))
+    (λ (same : a ≤ b). let eq : a ≡ b = omega arith in let t : Equal ≡ Less = nat_cmp_is a b Equal eq ∙ e in absurd (cc))
+    (cases_lt b a)
+
 -- a key above the query is not found
 past : (id q : ℕ) (es : Entries) → AllByRecursion (λ k. nat_cmp id k ≡ Less) (keys_of es) → q < id → lookup (is_at (nat_cmp q)) es ≡ None
 past id q [] all low = refl
 past id q (e ∷ es) all low = ⊎_elim
     (λ (above : id < e.0). ap (λ (r : Ordering). cond (is_eq r) (Some e.1) (lookup (is_at (nat_cmp q)) es)) (below_is q e.0 (omega arith)) ∙ past id q es all.1 low)
     (λ (not : e.0 ≤ id). absurd (not_less id e.0 not all.0))
-    (cases_lt id e.0) where
-      not_less : (a b : ℕ) → b ≤ a → nat_cmp a b ≡ Less → ⊥
-      not_less a b high e = ⊎_elim
-          (λ (low : b < a). let g : Greater ≡ Less = sym (above_is a b low) ∙ e in absurd (cc))
-          (λ (same : a ≤ b). let eq : a ≡ b = omega arith in let t : Equal ≡ Less = nat_cmp_is a b Equal eq ∙ e in absurd (cc))
-          (cases_lt b a)
+    (cases_lt id e.0)
 
 -- below the first object none is found
 before : (done t : Entries) (id q : ℕ) (row : Option Extent) → IsStrictlySortedBy nat_cmp (keys_of (done ++ (id, row) ∷ t)) → Vacant done → q < id → option_flatten (lookup (is_at (nat_cmp q)) (done ++ (id, row) ∷ t)) ≡ None
@@ -77,24 +79,31 @@ keys-filter p (e ∷ es) = ⊎_elim
     ∙ sym (ap (λ (b : Bool). cond b (e.0 ∷ filter p (keys_of es)) (filter p (keys_of es))) f))
     (true_or_false (p e.0))
 
-in_range : (from q : ℕ) → from ≤ q → range_contains nat_cmp (Included from) Unbounded q ≡ true
-in_range from q later = ⊎_elim
+-- a bound that lets a number and all above it in
+abbrev pub Begins : Bound ℕ → ℕ → Type 0
+Begins bound from = (q : ℕ) → from ≤ q → range_contains nat_cmp bound Unbounded q ≡ true
+
+pub at_least : (from : ℕ) → Begins (Included from) from
+at_least from q later = ⊎_elim
     (λ (low : from < q). ap (λ (r : Ordering). is_le r && true) (below_is from q low))
     (λ (high : q ≤ from). let same : from ≡ q = omega arith in ap (λ (r : Ordering). is_le r && true) (sym (nat_cmp_is from q Equal same)))
     (cases_lt from q)
 
-module _ (rows : Rows) (from : ℕ) (sorted : tree.IsOrdered nat_cmp rows) where
+pub above_it : (id : ℕ) → Begins (Excluded id) (id + 1)
+above_it id q later = let low : id < q = omega arith in ap (λ (r : Ordering). is_lt r && true) (below_is id q low)
+
+module _ (rows : Rows) (bound : Bound ℕ) (from : ℕ) (begins : Begins bound from) (sorted : tree.IsOrdered nat_cmp rows) where
   abbrev part : Entries
-  part = entries_between nat_cmp (Included from) Unbounded rows.entries
+  part = entries_between nat_cmp bound Unbounded rows.entries
 
   part_sorted : IsStrictlySortedBy nat_cmp (keys_of part)
-  part_sorted = subst (IsStrictlySortedBy nat_cmp) (sym (keys-filter (range_contains nat_cmp (Included from) Unbounded) rows.entries))
-      (IsStrictlySortedBy-filter nat_cmp (range_contains nat_cmp (Included from) Unbounded) (keys_of rows.entries) sorted)
+  part_sorted = subst (IsStrictlySortedBy nat_cmp) (sym (keys-filter (range_contains nat_cmp bound Unbounded) rows.entries))
+      (IsStrictlySortedBy-filter nat_cmp (range_contains nat_cmp bound Unbounded) (keys_of rows.entries) sorted)
 
   -- what is looked up from a number on is found in the part
   in_part : (q : ℕ) → from ≤ q → lookup (is_at (nat_cmp q)) part ≡ lookup (is_at (nat_cmp q)) rows.entries
-  in_part q later = lookup-filter-keys (is_at (nat_cmp q)) (range_contains nat_cmp (Included from) Unbounded) true
-      (λ k same. ap (range_contains nat_cmp (Included from) Unbounded) (sym (is_same q k (sym (same_test q k) ∙ same))) ∙ in_range from q later) rows.entries
+  in_part q later = lookup-filter-keys (is_at (nat_cmp q)) (range_contains nat_cmp bound Unbounded) true
+      (λ k same. ap (range_contains nat_cmp bound Unbounded) (sym (is_same q k (sym (same_test q k) ∙ same))) ∙ begins q later) rows.entries
 
   pub next-found : (done t : Entries) (id : ℕ) (x : Extent) → part ≡ done ++ (id, Some x) ∷ t → Vacant done → from ≤ id → held_in rows id ≡ Some x → IsNextIn (held_in rows) from (Some id)
   next-found done t id x is v later there = record {
@@ -125,3 +134,9 @@ not_above from id e = ⊎_elim
     (λ (high : id < from). absurd (let g : is_gt Greater ≡ false = ap is_gt (sym (above_is from id high)) ∙ e in cc))
     (λ (low : from ≤ id). low)
     (cases_lt id from)
+
+pub above : (id q : ℕ) → nat_cmp id q ≡ Less → id + 1 ≤ q
+above id q e = ⊎_elim
+    (λ (low : id < q). omega arith)
+    (λ (high : q ≤ id). absurd (not_less id q high e))
+    (cases_lt id q)

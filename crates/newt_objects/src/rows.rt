@@ -1,5 +1,5 @@
 // The rows of the table: an object by its id, or a place kept for one.
-ghost use Rattle.std.specs.Prelude.{◌≡◌, ◌≢◌, ℕ, IsSome, Some, OnOk};
+ghost use Rattle.std.specs.Prelude.{◌≡◌, ◌≢◌, ℕ, ◌+◌, IsSome, Some, OnOk};
 ghost use Rattle.std.specs.BTreeMap as tree;
 ghost use Rattle.std.specs.Ordering.{nat_cmp};
 ghost use Rattle.newt_objects.specs.Headers.{held_in};
@@ -8,6 +8,7 @@ ghost use Rattle.newt_objects.specs.Extents.{IsNextIn};
 use crate::extent::Extent;
 use std::alloc::AllocError;
 use std::collections::BTreeMap;
+use std::ops::Bound;
 
 /// Makes a row for an object, if there is none.
 pub(crate) fn keep_row(rows: &mut BTreeMap<u32, Option<Extent>>, id: u32) -> Result<(), AllocError>
@@ -61,6 +62,18 @@ pub(crate) fn next_row(rows: &BTreeMap<u32, Option<Extent>>, from: u32) -> Optio
     ensures { IsNextIn (held_in rows.now) from result }
 {
     for (id, row) in rows.range(from..) {
+        if row.is_some() {
+            return Some(*id);
+        }
+    }
+    None
+}
+
+/// The least id above one that has an object.
+pub(crate) fn row_after(rows: &BTreeMap<u32, Option<Extent>>, above: u32) -> Option<u32>
+    ensures { IsNextIn (held_in rows.now) (above + 1) result }
+{
+    for (id, row) in rows.range((Bound::Excluded(above), Bound::Unbounded)) {
         if row.is_some() {
             return Some(*id);
         }

@@ -1,9 +1,11 @@
 //! Lines of a script: what one line says.
 //!
-//! Stands on the numbers and refusals of `newt_base`, the graphs of `newt_graph` and the readers of
-//! object streams and literals. It carries the promise that the reading of a line is exact: `line` answers the
-//! one command that the line says or the one refusal of its reading, and nothing exactly for a
-//! blank line or a `%` line.
+//! Stands on the numbers and refusals of `newt_base`, the graphs of `newt_graph`, the readers of
+//! object streams and literals, and the definitions of commands and lines in `newt_spec_world` and
+//! `newt_spec_script`. It carries the promise that the reading of a line is exact: `line` answers
+//! the one command that the definition gives the line, or the one refusal of its reading, and
+//! nothing exactly for a blank line or a `%` line. A command of the definition that is not built yet
+//! is no command: `specs/Stage` lists the words of those that are.
 #![tactic(auto)]
 
 mod entry_rows;

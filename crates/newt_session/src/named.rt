@@ -36,7 +36,7 @@ pub fn run_named<H: Host, I: Interpreter>(
     ensures crash { let first = world_of I.store_of_image (held (H.outside host.old)) (map string_bytes names.now) in
         IsTrue H.told → (unit t : ℕ) (left shown : List ℕ) → since (H.outside host.new) unit ≡ Some t → left_since (H.outside host.new) t unit left shown
         → HasLeft I.answer I.store_of_image first (commands_of (lines_of (H.outside host.old).input))
-            (option_and_then (held (H.outside host.old)) (slice_get (map string_bytes names.now) unit)) (out_of (H.outside host.old)) shown unit left }
+        (option_and_then (held (H.outside host.old)) (slice_get (map string_bytes names.now) unit)) (out_of (H.outside host.old)) shown unit left }
     ensures cause { IfErr result (λ halt. HasCause halt (H.outside host.old) (H.outside host.new)) }
     ensures counts { NeverLess (H.outside host.old) (H.outside host.new) }
 {

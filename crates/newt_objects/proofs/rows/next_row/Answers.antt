@@ -9,7 +9,7 @@ use Rattle.std.proofs.lemmas.Map.Iter.{rest_so_far, iter_end}
 use Rattle.std.proofs.lemmas.Map.Views.{All-turn}
 use Rattle.newt_image.specs.Objects.{Extent}
 use Rattle.newt_pagebook.proofs.Tests.{the_some, none_is}
-use Rattle.newt_objects.proofs.Nexts.{Entries, Vacant, vacant-push, next-found, next-none, not_above}
+use Rattle.newt_objects.proofs.Nexts.{Entries, Vacant, vacant-push, at_least, next-found, next-none, not_above}
 use Rattle.newt_objects.proofs.rows.next_row.Goals as goal
 
 pub returns-then-is_some : goal.returns-then-is_some
@@ -25,7 +25,7 @@ returns-then-is_some c =
     let it = the_some row (sym c.is_some.ensures ∙ c.if-is_some.true) in
     let here = All-turn deref_pair (IsEntryInRange nat_cmp (Included c.args.from) Unbounded rows) c.range-id-items.result c.loop-id.yielded s c.loop-id.id-iterator c.next.new.self c.next.result (c.in-Some.id, c.in-Some.row)
     (r.in_range tt).0 c.into_iter-id-iterator.ensures.into_iter_gives c.loop-id.yielded_by c.in-Some.is c.next.ensures.steps in
-    next-found rows c.args.from r.ordered (map deref_pair c.loop-id.yielded) c.next.new.self id it.0
+    next-found rows (Included c.args.from) c.args.from (at_least c.args.from) r.ordered (map deref_pair c.loop-id.yielded) c.next.new.self id it.0
     (sym start ∙ so_far ∙ ap (λ (o : Option Extent). map deref_pair c.loop-id.yielded ++ (id, o) ∷ c.next.new.self) it.1)
     c.loop-id.invariant (not_above c.args.from id here.0.0) (ap option_flatten here.1 ∙ it.1)
 
@@ -35,7 +35,7 @@ returns c =
     let s : Entries = c.into_iter-id-iterator.result in
     let start : s ≡ entries_between nat_cmp (Included c.args.from) Unbounded c.args.rows.now.entries = c.into_iter-id-iterator.ensures.into_iter_gives ∙ r.between tt in
     let end : map deref_pair c.loop-id.yielded ≡ s = (iter_end deref_pair s c.loop-id.yielded s c.loop-id.id-iterator c.next.new.self c.next.result refl c.loop-id.yielded_by c.in-None.is c.next.ensures.steps).0 in
-    next-none c.args.rows.now c.args.from r.ordered (subst Vacant (end ∙ start) c.loop-id.invariant)
+    next-none c.args.rows.now (Included c.args.from) c.args.from (at_least c.args.from) r.ordered (subst Vacant (end ∙ start) c.loop-id.invariant)
 
 pub loop-id-preserved : goal.loop-id-preserved
 loop-id-preserved c =

@@ -18,17 +18,17 @@ loop-ended-init g c =
     let before = g.H.Host.outside c.args.host.now in
     let w = it.world c.args.interpreter.now before in
     record {
-  stands = c.requires;
-  answered = λ told. answered_start g.I.Interpreter.answer (g.I.Interpreter.world c.args.interpreter.now (g.H.Host.outside c.args.host.now)) (ended_lines c.args.line.now.items c.args.piece.now) (out_of (g.H.Host.outside c.args.host.now));
-  kept = λ told start untouched.
-    let stands = subst (λ (t : Bool). it.stands t c.args.interpreter.now before) told c.requires in
-    let its = its_now it.store_of_image start w before.now untouched (λ unit store left e may. g.met.I.Interpreter.leaves c.args.interpreter.now before stands unit store left e may) in
-    kept_start it.answer it.store_of_image start w (commands_of (ended_lines c.args.line.now.items c.args.piece.now)) before.now untouched its;
-  flow = refl;
-  line = refl;
-  left = refl;
-  goes_on = goes-refl _;
-}
+      stands = c.requires;
+      answered = λ told. answered_start g.I.Interpreter.answer (g.I.Interpreter.world c.args.interpreter.now (g.H.Host.outside c.args.host.now)) (ended_lines c.args.line.now.items c.args.piece.now) (out_of (g.H.Host.outside c.args.host.now));
+      kept = λ told start untouched.
+          let stands = subst (λ (t : Bool). it.stands t c.args.interpreter.now before) told c.requires in
+          let its = its_now it.store_of_image start w before.now untouched (λ unit store left e may. g.met.I.Interpreter.leaves c.args.interpreter.now before stands unit store left e may) in
+          kept_start it.answer it.store_of_image start w (commands_of (ended_lines c.args.line.now.items c.args.piece.now)) before.now untouched its;
+      flow = refl;
+      line = refl;
+      left = refl;
+      goes_on = goes-refl _;
+    }
 
 pub returns-then-is_err-clause-halted : goal.returns-then-is_err-clause-halted
 returns-then-is_err-clause-halted g c = λ told. answered_part g.I.Interpreter.answer _ _ _ _ _ _ (c.loop-ended.invariant.answered told)

@@ -21,7 +21,7 @@ invariant-loop-ended g l =
       answered : IsTrue host.told → Answered it.answer (it.world l.fn.interpreter (host.outside l.fn.host)) all rest (out_of (host.outside l.fn.host)) (out_of (host.outside l.host)) (it.world l.interpreter (host.outside l.host));
       kept : IsTrue host.told → (start : Moment) → Untouched start (it.world l.fn.interpreter (host.outside l.fn.host)) (host.outside l.fn.host).now
           → Kept it.answer it.store_of_image start (it.world l.fn.interpreter (host.outside l.fn.host)) (commands_of all) (host.outside l.fn.host).now
-              (it.world l.interpreter (host.outside l.host)) (commands_of rest) (host.outside l.host).now;
+          (it.world l.interpreter (host.outside l.host)) (commands_of rest) (host.outside l.host).now;
       flow : has_quit rest ≡ has_quit all;
       line : unended l.line.items l.rest ≡ unended l.fn.line.items l.fn.piece;
       left : (host.outside l.host).input ≡ (host.outside l.fn.host).input;

@@ -39,7 +39,6 @@ pieces-init g c =
       goes_on = goes-refl _;
     }
 
-
 pub feed-requires : goal.feed-requires
 feed-requires g c = g.met.I.Interpreter.kept g.H.Host.told c.pieces.interpreter (g.H.Host.outside c.pieces.host) (g.H.Host.outside c.read_piece.new.host) c.read_piece.ensures.devices c.pieces.invariant.stands
 
@@ -124,8 +123,7 @@ pieces-preserved g c =
           let v = c.pieces.invariant.going told in
           let same = g.met.I.Interpreter.same_world c.pieces.interpreter (g.H.Host.outside c.pieces.host) (g.H.Host.outside c.read_piece.new.host)
           (subst (λ (t : Bool). SameDevices t (g.H.Host.outside c.pieces.host) (g.H.Host.outside c.read_piece.new.host)) told c.read_piece.ensures.devices) in
-          let going = going_same g.I.Interpreter.answer _ _ _ v.0 _ _ _ _ _ _ v.2 (ap output_at c.read_piece.ensures.moment) same in
-          (
+          let going = going_same g.I.Interpreter.answer _ _ _ v.0 _ _ _ _ _ _ v.2 (ap output_at c.read_piece.ensures.moment) same in (
             v.0 ++ piece,
             (length-append v.0 piece ∙ (ap (λ n. n + length piece) v.1 ∙ ap (λ n. c.pieces.taken + n) size)),
             let P : List ℕ → Type 0 = λ left. Going g.I.Interpreter.answer (g.I.Interpreter.world c.args.interpreter.now (g.H.Host.outside c.args.host.now)) (g.H.Host.outside c.args.host.now).input (out_of (g.H.Host.outside c.args.host.now)) (v.0 ++ piece)

@@ -15,7 +15,7 @@ invariant-pieces g l =
       stands : it.stands host.told l.interpreter (host.outside l.host);
       going : IsTrue host.told → (taken : List ℕ) × (length taken ≡ l.taken)
           × Going it.answer (it.world l.fn.interpreter (host.outside l.fn.host)) (host.outside l.fn.host).input (out_of (host.outside l.fn.host)) taken
-              (host.outside l.host).input (out_of (host.outside l.host)) (it.world l.interpreter (host.outside l.host)) l.line.items;
+          (host.outside l.host).input (out_of (host.outside l.host)) (it.world l.interpreter (host.outside l.host)) l.line.items;
       kept : IsTrue host.told → Kept it.answer it.store_of_image (host.outside l.fn.host).now (it.world l.fn.interpreter (host.outside l.fn.host)) (commands_of (lines_of (host.outside l.fn.host).input)) (host.outside l.fn.host).now
           (it.world l.interpreter (host.outside l.host)) (commands_of (lines_from l.line.items (host.outside l.host).input)) (host.outside l.host).now;
       within : l.taken ≤ l.limit;

@@ -1,0 +1,6 @@
+pub mod Spelled
+pub mod Streams
+pub mod Larges
+pub mod Within
+pub mod Rows
+pub mod Records

@@ -1,0 +1,58 @@
+//! Records in bytes that were spelt by hand, with ample memory.
+use crate::{EntryFault, has_large, read_entry, write_entry};
+use newt_base::{Sig, Uid};
+use newt_nsof_read::decode;
+use std::alloc::Global;
+use std::test::*;
+
+/// The entry 9 of the soup 3, of minute 258: a frame with slot `a` and value 1.
+const RECORD: &[u8] =
+    b"\x00\x03\x00\x00\x00\x00\x00\x09\x00\x00\x01\x02\x02\x06\x01\x07\x01\x61\x00\x04";
+
+fn is_bad(alloc: Global, bytes: &[u8]) -> bool {
+    matches!(read_entry(alloc, bytes), Err(EntryFault::Bad))
+}
+
+/// Whether a record is read, and its row is written as the same record.
+fn is_whole(alloc: Global, bytes: &[u8]) -> Option<(u32, u32, u32)> {
+    let read = read_entry(alloc, bytes).ok()?;
+    let row = read.copy().ok()?;
+    if has_large(&row.skeleton) || row.soup.0 > 65_535 {
+        return None;
+    }
+    let written = write_entry(alloc, row.soup, row.uid, row.time, &row.skeleton).ok()?;
+    if written.as_slice() != bytes {
+        return None;
+    }
+    Some((row.soup.0, row.uid.0, row.time))
+}
+
+#[test]
+fn a_record_is_read_and_written(rt: HostRuntime) -> Result<(), Fail> {
+    assert_eq!(rt; is_whole(rt.alloc(), RECORD), Some((3, 9, 258)));
+    Ok(())
+}
+
+#[test]
+fn a_large_binary_is_seen(rt: HostRuntime) -> Result<(), Fail> {
+    let text =
+        b"\x02\x0C\x07\x01b\x00\x00\x00\x00\x01\x00\x00\x00\x00\x00\x00\x00\x00\x00\x00\x00\x00\x05";
+    let graph = decode(rt.alloc(), text).ok().ok_or("a large binary")?;
+    assert!(rt; has_large(&graph));
+    Ok(())
+}
+
+#[test]
+fn bad_records_are_refused(rt: HostRuntime) -> Result<(), Fail> {
+    let alloc = rt.alloc();
+    for bytes in [
+        b"".as_slice(),
+        b"\x00\x03\x00\x00\x00\x00\x00\x09\x00\x00\x01\x02",
+        b"\x00\x03\x00\x00\x00\x00\x00\x09\x00\x00\x01\x02\x02\x0A",
+        b"\x00\x03\x00\x01\x00\x00\x00\x09\x00\x00\x01\x02\x02\x06\x01\x07\x01\x61\x00\x04",
+        b"\x00\x03\x00\x00\x00\x00\x00\x09\x00\x00\x01\x02\x02\x06\x01\x07\x01\x61\x00\xFF\x00\x00\x00\x04",
+    ] {
+        assert!(rt; is_bad(alloc, bytes));
+    }
+    Ok(())
+}

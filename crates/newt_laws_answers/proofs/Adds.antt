@@ -1,0 +1,113 @@
+-- Entries that are added.
+use Rattle.std.proofs.Common.{◌≡◌, refl, ap, sym, ◌∙◌, ℕ, List, [], ◌∷◌, Bool, Option, Some, None, option_map, unwrap_or, replicate, ◌||◌, not, nat_lt, ◌==◌, drop}
+use Rattle.std.specs.Option.{is_none}
+use Rattle.newt_base.specs.Refusals.{Checks, first_of}
+use Rattle.newt_base.specs.declared.Refusal.{Refusal}
+use Rattle.newt_base.specs.declared.Refusal.TheVariants.{Notmounted, Notframe, Size, Ids, Full}
+use Rattle.newt_graph.specs.Graph.{RawGraph}
+use Rattle.newt_image.specs.Pages.{cap}
+use Rattle.newt_spec_graph.specs.Graph.{is_frame, object}
+use Rattle.newt_spec_store.specs.Cost.{cost, skeleton_length}
+use Rattle.newt_spec_store.specs.Lies.{graph_has_no_large}
+use Rattle.newt_spec_store.specs.Store.{Store, Soup, soup_named}
+use Rattle.newt_spec_world.specs.declared.command.Command.{Command}
+use Rattle.newt_spec_world.specs.declared.command.Command.TheVariants as command
+use Rattle.newt_spec_world.specs.World.{World, device, store_of, default_unit, mounted_store, soup_in}
+use Rattle.newt_spec_world.specs.Reply.{Reply}
+use Rattle.newt_spec_world.specs.Changed.{changed}
+use Rattle.newt_spec_world.specs.Refused.{checks, on_some, not_mounted, no_soup, no_more_ids, full}
+use Rattle.newt_spec_world.specs.Answer.{fields, new_uid}
+use Rattle.newt_laws_answers.specs.Tests.{add_tests, room_tests, soup_checks, with_added}
+use Rattle.newt_laws_answers.specs.Stage.{checks_now, answer_now}
+use Rattle.newt_laws_answers.proofs.Firsts.{first-true}
+use Rattle.newt_laws_answers.specs.There.{OnUnit}
+use Rattle.newt_laws_answers.proofs.Units.{on-changed, soup-named}
+use Rattle.newt_laws_answers.proofs.Answers.{done, refused, refused-early, all-pass, unit-passes, soup-passes, mounted-passes, full-is}
+
+-- the tests of a graph, and more
+abbrev graph-tests : RawGraph → Checks → Checks
+graph-tests g more = (Notframe, not (is_frame (object g.nodes g.root))) ∷ (Size, not (graph_has_no_large g) || nat_lt 64_000 (skeleton_length g)) ∷ more
+
+module _ (w : World) (u blocks : ℕ) (s : Store) (name : List ℕ) (p : Soup) (g : RawGraph) (h : OnUnit w u blocks s) (f : soup_named name s ≡ Some p) where
+  pub ids-is : on_some (soup_in w u name) (λ q. q.next_uid == 536_870_911) ≡ (p.next_uid == 536_870_911)
+  ids-is = ap (λ o. on_some o (λ (q : Soup). q.next_uid == 536_870_911)) (soup-named w u blocks s name h ∙ f)
+
+  pub room-is : (c : Command) → changed w c ≡ with_added w u name g → no_more_ids w u name ∷ full w u c ∷ [] ≡ room_tests blocks w.minute name g s p
+  room-is c e = ap {A = Bool} {B = Checks} (λ b. (Ids, b) ∷ full w u c ∷ []) ids-is
+      ∙ ap {A = Bool} {B = Checks} (λ b. (Ids, p.next_uid == 536_870_911) ∷ (Full, b) ∷ [])
+      (ap {A = World} (λ v. on_some (device v u) (λ d. on_some (store_of d.media) (λ s. nat_lt (cap d.blocks) (cost s)))) e
+      ∙ full-is (with_added w u name g) u blocks _ (on-changed w u blocks s _ h))
+
+  tests-are : (c : Command) → changed w c ≡ with_added w u name g → first_of (graph-tests g (no_more_ids w u name ∷ full w u c ∷ [])) ≡ first_of (add_tests blocks w.minute name g s p)
+  tests-are c e = ap {A = Checks} (λ xs. first_of ((Notframe, not (is_frame (object g.nodes g.root))) ∷ (Size, not (graph_has_no_large g) || nat_lt 64_000 (skeleton_length g)) ∷ xs)) (room-is c e)
+
+  pub uid-is : new_uid w u name ≡ p.next_uid
+  uid-is = ap (λ (o : Option Soup). unwrap_or (option_map (λ p. p.next_uid) o) 0) (soup-named w u blocks s name h ∙ f)
+
+  add-checks : first_of (checks_now w (command.Add u name g)) ≡ first_of (add_tests blocks w.minute name g s p)
+  unfolding checks changed
+  add-checks = all-pass w u blocks s name p (graph-tests g (no_more_ids w u name ∷ full w u (command.Add u name g) ∷ [])) h f ∙ tests-are (command.Add u name g) refl
+
+  addx-checks : first_of (checks_now w (command.Addx u name g)) ≡ first_of (add_tests blocks w.minute name g s p)
+  unfolding checks changed
+  addx-checks = all-pass w u blocks s name p (graph-tests g (no_more_ids w u name ∷ full w u (command.Addx u name g) ∷ [])) h f ∙ tests-are (command.Addx u name g) refl
+
+  -- ---- add
+
+  pub add-refused : (r : Refusal) → first_of (add_tests blocks w.minute name g s p) ≡ Some r → answer_now w (command.Add u name g) ≡ (w, Reply.refused r)
+  add-refused r k = refused w (command.Add u name g) r (add-checks ∙ k)
+
+  pub add-done : first_of (add_tests blocks w.minute name g s p) ≡ None → w.cursors ≡ replicate 32 None → answer_now w (command.Add u name g) ≡ (with_added w u name g, Reply.number p.next_uid)
+  unfolding changed fields
+  add-done k none = done w (command.Add u name g) (add-checks ∙ k) none ∙ ap {B = World × Reply} (λ n. (with_added w u name g, Reply.number n)) uid-is
+
+  pub addx-refused : (r : Refusal) → first_of (add_tests blocks w.minute name g s p) ≡ Some r → answer_now w (command.Addx u name g) ≡ (w, Reply.refused r)
+  addx-refused r k = refused w (command.Addx u name g) r (addx-checks ∙ k)
+
+  pub addx-done : first_of (add_tests blocks w.minute name g s p) ≡ None → w.cursors ≡ replicate 32 None → answer_now w (command.Addx u name g) ≡ (with_added w u name g, Reply.number p.next_uid)
+  unfolding changed fields
+  addx-done k none = done w (command.Addx u name g) (addx-checks ∙ k) none ∙ ap {B = World × Reply} (λ n. (with_added w u name g, Reply.number n)) uid-is
+
+-- ---- to the default store
+
+module _ (w : World) (u blocks : ℕ) (s : Store) (name : List ℕ) (p : Soup) (g : RawGraph) (d : default_unit w ≡ u) (h : OnUnit w u blocks s) (f : soup_named name s ≡ Some p) where
+  addu-checks : first_of (checks_now w (command.Addu name g)) ≡ first_of (add_tests blocks w.minute name g s p)
+  unfolding checks changed
+  addu-checks =
+      ap (λ v. first_of (not_mounted w v ∷ no_soup w v name ∷ graph-tests g (no_more_ids w v name ∷ full w v (command.Addu name g) ∷ []))) d
+      ∙ mounted-passes w u blocks s (no_soup w u name ∷ graph-tests g (no_more_ids w u name ∷ full w u (command.Addu name g) ∷ [])) h
+      ∙ soup-passes w u blocks s name p (graph-tests g (no_more_ids w u name ∷ full w u (command.Addu name g) ∷ [])) h f
+      ∙ tests-are w u blocks s name p g h f (command.Addu name g) (ap (λ v. with_added w v name g) d)
+
+  pub addu-refused : (r : Refusal) → first_of (add_tests blocks w.minute name g s p) ≡ Some r → answer_now w (command.Addu name g) ≡ (w, Reply.refused r)
+  addu-refused r k = refused w (command.Addu name g) r (addu-checks ∙ k)
+
+  pub addu-done : first_of (add_tests blocks w.minute name g s p) ≡ None → w.cursors ≡ replicate 32 None → answer_now w (command.Addu name g) ≡ (with_added w u name g, Reply.added u p.next_uid)
+  unfolding changed fields
+  addu-done k none = done w (command.Addu name g) (addu-checks ∙ k) none
+      ∙ ap {B = World × Reply} (λ v. (with_added w v name g, Reply.added v (new_uid w v name))) d
+      ∙ ap {B = World × Reply} (λ n. (with_added w u name g, Reply.added u n)) (uid-is w u blocks s name p g h f)
+
+-- ---- refused before
+
+module _ (w : World) (u : ℕ) (name : List ℕ) (g : RawGraph) (r : Refusal) (h : first_of (soup_checks w u name) ≡ Some r) where
+  pub add-not-found : answer_now w (command.Add u name g) ≡ (w, Reply.refused r)
+  unfolding checks
+  add-not-found = refused-early w (command.Add u name g) (soup_checks w u name) (drop 3 (checks_now w (command.Add u name g))) r refl h
+
+  pub addx-not-found : answer_now w (command.Addx u name g) ≡ (w, Reply.refused r)
+  unfolding checks
+  addx-not-found = refused-early w (command.Addx u name g) (soup_checks w u name) (drop 3 (checks_now w (command.Addx u name g))) r refl h
+
+-- no store is the default
+pub addu-no-default : (w : World) (name : List ℕ) (g : RawGraph) → mounted_store w (default_unit w) ≡ None → answer_now w (command.Addu name g) ≡ (w, Reply.refused Notmounted)
+unfolding checks
+addu-no-default w name g h = refused w (command.Addu name g) Notmounted (first-true Notmounted _ (drop 1 (checks_now w (command.Addu name g))) (ap is_none h))
+
+-- the default store has no such soup
+pub addu-not-found : (w : World) (u blocks : ℕ) (s : Store) (name : List ℕ) (g : RawGraph) (r : Refusal) → default_unit w ≡ u → OnUnit w u blocks s → first_of (soup_checks w u name) ≡ Some r
+    → answer_now w (command.Addu name g) ≡ (w, Reply.refused r)
+unfolding checks
+addu-not-found w u blocks s name g r d h k =
+    refused-early w (command.Addu name g) (not_mounted w (default_unit w) ∷ no_soup w (default_unit w) name ∷ []) (drop 2 (checks_now w (command.Addu name g))) r refl
+    (ap (λ v. first_of (not_mounted w v ∷ no_soup w v name ∷ [])) d ∙ mounted-passes w u blocks s (no_soup w u name ∷ []) h ∙ sym (unit-passes w u blocks s (no_soup w u name ∷ []) h) ∙ k)

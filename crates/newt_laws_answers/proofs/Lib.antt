@@ -1,0 +1,12 @@
+pub mod Worlds
+pub mod Firsts
+pub mod Sigs
+pub mod Units
+pub mod Answers
+pub mod Adds
+pub mod Soups
+pub mod Entries
+pub mod Copies
+pub mod Stores
+pub mod Resolves
+pub mod Faces

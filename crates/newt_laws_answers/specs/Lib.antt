@@ -1,0 +1,6 @@
+pub mod Stage
+pub mod WorldAt
+pub mod Answering
+pub mod Faces
+pub mod Tests
+pub mod There

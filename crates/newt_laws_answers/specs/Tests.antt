@@ -1,0 +1,70 @@
+-- The tests of commands, gathered by what they need to be there. Numbers, words and order of the refusals are this project's own.
+use Rattle.std.specs.Prelude.{ℕ, false, not, ◌||◌, ◌==◌, nat_lt, nat_le, List, [], ◌∷◌, length, is_some}
+use Rattle.newt_base.specs.Refusals.{Checks}
+use Rattle.newt_base.specs.declared.Refusal.TheVariants.{Exists, Notframe, Limit, Size, Ids, Full}
+use Rattle.newt_graph.specs.Graph.{RawGraph}
+use Rattle.newt_image.specs.Pages.{cap}
+use Rattle.newt_spec_graph.specs.Graph.{is_frame, object}
+use Rattle.newt_spec_store.specs.Cost.{cost, skeleton_length}
+use Rattle.newt_spec_store.specs.Lies.{graph_has_no_large}
+use Rattle.newt_spec_store.specs.Store.{Store, Soup, soup_named, change_soup, make_soup, add_entry, remove_entry}
+use Rattle.newt_spec_world.specs.World.{World, one, change_device, change_store}
+use Rattle.newt_spec_world.specs.Changed.{new_store}
+use Rattle.newt_spec_world.specs.Refused.{either, no_unit, bad_blocks, is_mounted, not_mounted, no_soup, no_entry}
+
+-- ---- whether things are there
+
+-- a unit with a mounted store
+abbrev pub unit_checks : World → ℕ → Checks
+unit_checks w u = no_unit w u ∷ not_mounted w u ∷ []
+
+-- a soup of a mounted store
+abbrev pub soup_checks : World → ℕ → List ℕ → Checks
+soup_checks w u name = no_unit w u ∷ not_mounted w u ∷ no_soup w u name ∷ []
+
+-- an entry of such a soup
+abbrev pub entry_checks : World → ℕ → List ℕ → ℕ → Checks
+entry_checks w u name uid = no_unit w u ∷ not_mounted w u ∷ no_soup w u name ∷ no_entry w u name uid ∷ []
+
+-- two soups
+abbrev pub both_checks : World → ℕ → List ℕ → ℕ → List ℕ → Checks
+both_checks w u name v target =
+    either (no_unit w u) (no_unit w v) ∷ either (not_mounted w u) (not_mounted w v) ∷ either (no_soup w u name) (no_soup w v target) ∷ []
+
+-- a unit with banks that is not mounted
+abbrev pub ready_checks : World → ℕ → Checks
+ready_checks w u = no_unit w u ∷ bad_blocks w u ∷ is_mounted w u ∷ []
+
+-- ---- whether there is room for what is new
+
+-- what is tested of a store where a soup is to be made
+abbrev pub make_tests : (blocks : ℕ) → List ℕ → Store → Checks
+make_tests blocks name s =
+    (Exists, is_some (soup_named name s)) ∷ (Limit, nat_le 64 (length s.soups)) ∷ (Ids, s.next_soup == 65_535) ∷ (Full, nat_lt (cap blocks) (cost (make_soup name s))) ∷ []
+
+-- what is tested of the soup and the store where an entry is to be added
+abbrev pub room_tests : (blocks now : ℕ) → List ℕ → RawGraph → Store → Soup → Checks
+room_tests blocks now name g s p = (Ids, p.next_uid == 536_870_911) ∷ (Full, nat_lt (cap blocks) (cost (change_soup name (add_entry now g) s))) ∷ []
+
+-- what is tested of a graph before
+abbrev pub add_tests : (blocks now : ℕ) → List ℕ → RawGraph → Store → Soup → Checks
+add_tests blocks now name g s p =
+    (Notframe, not (is_frame (object g.nodes g.root))) ∷ (Size, not (graph_has_no_large g) || nat_lt 64_000 (skeleton_length g)) ∷ room_tests blocks now name g s p
+
+-- the store after a move within it
+abbrev pub moved_within : ℕ → List ℕ → ℕ → List ℕ → RawGraph → Store → Store
+moved_within now name uid target g s = change_soup name (remove_entry uid) (change_soup target (add_entry now g) s)
+
+-- what is tested of the target and the store
+abbrev pub move_tests : (blocks now : ℕ) → List ℕ → ℕ → List ℕ → RawGraph → Store → Soup → Checks
+move_tests blocks now name uid target g s q = (Ids, q.next_uid == 536_870_911) ∷ (Full, nat_lt (cap blocks) (cost (moved_within now name uid target g s))) ∷ []
+
+-- ---- worlds
+
+-- the world with the entry
+abbrev pub with_added : World → ℕ → List ℕ → RawGraph → World
+with_added w u name g = change_store w u (change_soup name (add_entry w.minute g))
+
+-- the world after a format
+abbrev pub formatted : World → ℕ → List ℕ → ℕ → World
+formatted w u name sig = change_device w u (λ d. record d { media = one (new_store name sig); mounted = false })

@@ -1,0 +1,159 @@
+//! Lines, and the commands or refusals that the table of commands gives them.
+
+use crate::told::told;
+use std::alloc::{AllocError, Global};
+use std::process::Abort;
+
+fn expect_each(rt: &impl Abort, alloc: Global, cases: &[(&[u8], &str)]) -> Result<(), AllocError> {
+    for (line, wanted) in cases {
+        let answer = told(alloc, line)?;
+        assert_eq!(rt; answer.as_str(), *wanted);
+    }
+    Ok(())
+}
+
+#[test]
+fn reads_each_row_on_stores(rt: HostRuntime) -> Result<(), AllocError> {
+    let cases: [(&[u8], &str); 12] = [
+        (b"nsof 0206010701610004", "nsof {a: 1}"),
+        (b"lit {A: 1, B: 'a}", "lit {A: 1, B: 'A}"),
+        (b"time 4294967295", "time 4294967295"),
+        (b"quit", "quit"),
+        (
+            b"format 7 Internal 536870911",
+            "format 7 <Internal> 536870911",
+        ),
+        (b"mount 0", "mount 0"),
+        (b"unmount 1", "unmount 1"),
+        (b"stores", "stores"),
+        (b"default 2", "default 2"),
+        (b"soup 3 Names", "soup 3 <Names>"),
+        (b"soups 4", "soups 4"),
+        (b"drop 5 Names", "drop 5 <Names>"),
+    ];
+    expect_each(&rt, rt.alloc(), &cases)
+}
+
+#[test]
+fn reads_each_row_on_entries(rt: HostRuntime) -> Result<(), AllocError> {
+    let cases: [(&[u8], &str); 10] = [
+        (b"add 0 Names {n: 1}", "add 0 <Names> {n: 1}"),
+        (b"addx 1 Names 02060107016E0004", "addx 1 <Names> {n: 1}"),
+        (b"addu Names 5", "Names 5"),
+        (b"get 0 Names 0", "get 0 <Names> 0"),
+        (b"getx 0 Names 4294967295", "getx 0 <Names> 4294967295"),
+        (b"remove 6 Names 12", "remove 6 <Names> 12"),
+        (b"copy 0 A 1 2 B", "copy 0 <A> 1 to 2 <B>"),
+        (b"move 2 B 1 0 A", "move 2 <B> 1 to 0 <A>"),
+        (b"alias 0 A 1", "alias 0 <A> 1"),
+        (b"resolve [alias: 7, 0, 1]", "resolve [alias: 7, 0, 1]"),
+    ];
+    expect_each(&rt, rt.alloc(), &cases)
+}
+
+#[test]
+fn reads_names_bare_and_in_quotes(rt: HostRuntime) -> Result<(), AllocError> {
+    let cases: [(&[u8], &str); 15] = [
+        (b"soup 0 \"To Do List\"", "soup 0 <To Do List>"),
+        (b"soup 0 \"a\\\"b\\\\c\"", "soup 0 <a\"b\\c>"),
+        (b"soup 0 \"Names\"\t", "soup 0 <Names>"),
+        (b"soup 0 ~!'{}%", "soup 0 <~!'{}%>"),
+        (b"addu \"x y\" 1", "x y 1"),
+        (
+            b"soup 0 abcdefghijabcdefghijabcdefghijabcdefghi",
+            "soup 0 <abcdefghijabcdefghijabcdefghijabcdefghi>",
+        ),
+        (
+            b"soup 0 abcdefghijabcdefghijabcdefghijabcdefghij",
+            "11 line",
+        ),
+        (b"soup 0 \"\"", "11 line"),
+        (b"soup 0 \"a\"b", "11 line"),
+        (b"soup 0 \"a", "11 line"),
+        (b"soup 0 \"a\\n\"", "11 line"),
+        (b"soup 0 \"a\tb\"", "11 line"),
+        (b"soup 0 a\"b", "11 line"),
+        (b"soup 0 a\\b", "11 line"),
+        (b"soup 0 Stra\xC3\x9Fe", "11 line"),
+    ];
+    expect_each(&rt, rt.alloc(), &cases)
+}
+
+#[test]
+fn reads_numbers_up_to_their_limits(rt: HostRuntime) -> Result<(), AllocError> {
+    let cases: [(&[u8], &str); 12] = [
+        (b"mount 7", "mount 7"),
+        (b"mount 8", "11 line"),
+        (b"mount 00", "11 line"),
+        (b"mount -1", "11 line"),
+        (b"mount one", "11 line"),
+        (b"format 0 A 0536870911", "format 0 <A> 536870911"),
+        (b"format 0 A 536870912", "11 line"),
+        (b"format 0 A 00000000007", "11 line"),
+        (b"get 0 A 0000000005", "get 0 <A> 5"),
+        (b"get 0 A 4294967296", "11 line"),
+        (b"get 0 A 00000000005", "11 line"),
+        (b"get 0 A 5x", "11 line"),
+    ];
+    expect_each(&rt, rt.alloc(), &cases)
+}
+
+#[test]
+fn wants_exactly_the_words_of_a_row(rt: HostRuntime) -> Result<(), AllocError> {
+    let cases: [(&[u8], &str); 14] = [
+        (b"mount", "11 line"),
+        (b"mount 0 1", "11 line"),
+        (b"stores now", "11 line"),
+        (b"quit now", "11 line"),
+        (b"soup 0", "11 line"),
+        (b"drop 0 A B", "11 line"),
+        (b"format 0 A", "11 line"),
+        (b"get 0 A", "11 line"),
+        (b"get 0 A 1 2", "11 line"),
+        (b"copy 0 A 1 2", "11 line"),
+        (b"move 0 A 1 2 B C", "11 line"),
+        (b"add 0 A", "11 line"),
+        (b"addu A", "11 line"),
+        (b"resolve", "11 line"),
+    ];
+    expect_each(&rt, rt.alloc(), &cases)
+}
+
+#[test]
+fn answers_the_first_refusal(rt: HostRuntime) -> Result<(), AllocError> {
+    let cases: [(&[u8], &str); 12] = [
+        (b"add 0 A {", "3 literal"),
+        (b"add 8 A {", "11 line"),
+        (b"addu A {a 1}", "3 literal"),
+        (b"resolve 1 2", "3 literal"),
+        (b"addx 0 A", "1 malformed"),
+        (b"addx 0 A 0", "1 malformed"),
+        (b"addx 0 A 02 0A", "1 malformed"),
+        (
+            b"addx 0 A 020C0703666F6F010000000100000000000000000000000041",
+            "2 compressed",
+        ),
+        (b"Mount 0", "10 command"),
+        (b"mount0", "10 command"),
+        (b"index 0 A k:int:ascend", "10 command"),
+        (b"query 0 A {}", "10 command"),
+    ];
+    expect_each(&rt, rt.alloc(), &cases)
+}
+
+#[test]
+fn takes_blanks_between_words(rt: HostRuntime) -> Result<(), AllocError> {
+    let cases: [(&[u8], &str); 10] = [
+        (b"\t mount \t 0 \t\r", "mount 0"),
+        (b"mount 0\r\r", "11 line"),
+        (b"get\t0  A\t\t1 ", "get 0 <A> 1"),
+        (b"add 0 A  [1,\t2]  ", "add 0 <A> [1, 2]"),
+        (b"", "none"),
+        (b"\r", "none"),
+        (b" \t ", "none"),
+        (b"% mount 0", "none"),
+        (b" \t%", "none"),
+        (b"mount% 0", "10 command"),
+    ];
+    expect_each(&rt, rt.alloc(), &cases)
+}

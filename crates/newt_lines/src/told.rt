@@ -1,0 +1,114 @@
+//! What a line gives, told in words.
+
+use newt_base::{Name, Uid};
+use newt_graph::Graph;
+use newt_host::Unit;
+use newt_lit_print::print_literal;
+use newt_script::{Command, LineFault, line};
+use std::alloc::{AllocError, Global};
+use std::str;
+
+/// The text of a name.
+fn text(name: &Name) -> &str {
+    str::from_utf8(name.list()).unwrap_or("")
+}
+
+fn unit_words(alloc: Global, word: &str, unit: Unit) -> Result<String, AllocError> {
+    let unit = unit.0;
+    format!(in alloc; "{word} {unit}")
+}
+
+fn soup_words(alloc: Global, word: &str, unit: Unit, name: &Name) -> Result<String, AllocError> {
+    let unit = unit.0;
+    let name = text(name);
+    format!(in alloc; "{word} {unit} <{name}>")
+}
+
+fn entry_words(
+    alloc: Global,
+    word: &str,
+    unit: Unit,
+    name: &Name,
+    uid: Uid,
+) -> Result<String, AllocError> {
+    let front = soup_words(alloc, word, unit, name)?;
+    let uid = uid.0;
+    format!(in alloc; "{front} {uid}")
+}
+
+fn two_soups(alloc: Global, front: &str, unit: Unit, name: &Name) -> Result<String, AllocError> {
+    let back = soup_words(alloc, "to", unit, name)?;
+    format!(in alloc; "{front} {back}")
+}
+
+fn with_graph(alloc: Global, front: &str, graph: &Graph) -> Result<String, AllocError> {
+    let bytes = print_literal(alloc, graph)?;
+    let printed = str::from_utf8(&bytes).unwrap_or("");
+    format!(in alloc; "{front} {printed}")
+}
+
+/// A command on stores and soups, or on none.
+fn told_of_stores(alloc: Global, command: &Command) -> Result<String, AllocError> {
+    match command {
+        Command::Nsof(graph) => with_graph(alloc, "nsof", graph),
+        Command::Lit(graph) => with_graph(alloc, "lit", graph),
+        Command::Time(minute) => format!(in alloc; "time {minute}"),
+        Command::Quit => String::from_str(alloc, "quit"),
+        Command::Format(unit, name, sig) => {
+            let front = soup_words(alloc, "format", *unit, name)?;
+            let sig = sig.0;
+            format!(in alloc; "{front} {sig}")
+        }
+        Command::Mount(unit) => unit_words(alloc, "mount", *unit),
+        Command::Unmount(unit) => unit_words(alloc, "unmount", *unit),
+        Command::Stores => String::from_str(alloc, "stores"),
+        Command::Default(unit) => unit_words(alloc, "default", *unit),
+        Command::Soup(unit, name) => soup_words(alloc, "soup", *unit, name),
+        Command::Soups(unit) => unit_words(alloc, "soups", *unit),
+        Command::Drop(unit, name) => soup_words(alloc, "drop", *unit, name),
+        _ => told_of_entries(alloc, command),
+    }
+}
+
+/// A command on entries.
+fn told_of_entries(alloc: Global, command: &Command) -> Result<String, AllocError> {
+    match command {
+        Command::Add(unit, name, graph) => {
+            let front = soup_words(alloc, "add", *unit, name)?;
+            with_graph(alloc, front.as_str(), graph)
+        }
+        Command::Addx(unit, name, graph) => {
+            let front = soup_words(alloc, "addx", *unit, name)?;
+            with_graph(alloc, front.as_str(), graph)
+        }
+        Command::Addu(name, graph) => with_graph(alloc, text(name), graph),
+        Command::Get(unit, name, uid) => entry_words(alloc, "get", *unit, name, *uid),
+        Command::Getx(unit, name, uid) => entry_words(alloc, "getx", *unit, name, *uid),
+        Command::Remove(unit, name, uid) => entry_words(alloc, "remove", *unit, name, *uid),
+        Command::Copy(unit, name, uid, to, soup) => {
+            let front = entry_words(alloc, "copy", *unit, name, *uid)?;
+            two_soups(alloc, front.as_str(), *to, soup)
+        }
+        Command::Move(unit, name, uid, to, soup) => {
+            let front = entry_words(alloc, "move", *unit, name, *uid)?;
+            two_soups(alloc, front.as_str(), *to, soup)
+        }
+        Command::Alias(unit, name, uid) => entry_words(alloc, "alias", *unit, name, *uid),
+        Command::Resolve(graph) => with_graph(alloc, "resolve", graph),
+        _ => String::from_str(alloc, "a command that is not built"),
+    }
+}
+
+/// The command of a line, or its refusal, or that it gives none.
+pub fn told(alloc: Global, bytes: &[u8]) -> Result<String, AllocError> {
+    match line(alloc, bytes) {
+        Ok(None) => String::from_str(alloc, "none"),
+        Ok(Some(command)) => told_of_stores(alloc, &command),
+        Err(LineFault::Refused(refusal)) => {
+            let number = refusal.number();
+            let word = refusal.word();
+            format!(in alloc; "{number} {word}")
+        }
+        Err(LineFault::Memory) => Err(AllocError),
+    }
+}

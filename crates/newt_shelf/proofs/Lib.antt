@@ -1,0 +1,4 @@
+pub mod Committing
+pub mod Lengths
+pub mod Planning
+pub mod Placing

@@ -1,0 +1,12 @@
+use Rattle.std.proofs.Common.{◌≡◌, ◌<◌, ℕ, Some, slice_get}
+use Rattle.newt_objects.specs.Held.{held, IsUnplanned}
+use Rattle.newt_shelf.specs.Batch.{IsAmong}
+use Rattle.newt_shelf.proofs.Planning.{GoesOn}
+use Rattle.newt_shelf.proofs.batch.plan_gone.Given as goal
+
+abbrev pub invariant-loop-id : goal.invariant-loop-id
+invariant-loop-id l = record {
+  way : GoesOn l.fn.objects l.objects l.fn.batch l.batch l.id-index l.gone;
+  held_same : (other : ℕ) → held l.objects other ≡ held l.fn.objects other;
+  unplanned : (other : ℕ) → IsUnplanned l.fn.objects other → (IsAmong l.id-index l.gone other → ⊥) → IsUnplanned l.objects other;
+}

@@ -1,0 +1,15 @@
+use Rattle.std.specs.FinMap as map
+use Rattle.newt_image.specs.Objects.{Extent}
+use Rattle.std.proofs.Common.{Some}
+use Rattle.newt_objects.specs.Held.{new_extent, free_numbers}
+use Rattle.std.proofs.Common.{length}
+use Rattle.newt_objects.proofs.Changing.{still_unplanned}
+use Rattle.newt_shelf.proofs.Planning.{put-has}
+use Rattle.newt_shelf.proofs.batch.plan_object.Goals as goal
+
+pub returns-clause-way : goal.returns-clause-way
+returns-clause-way c = λ live texts w. (map.insert texts c.args.id c.args.bytes.now, c.in_ok-plan_put.ensures.under_way live texts w, put-has c.args.id c.args.bytes.now texts)
+
+pub returns-clause-others : goal.returns-clause-others
+returns-clause-others c = λ other ne free.
+    still_unplanned c.args.objects.now c.plan_put.new.self c.args.id other (Some (new_extent (length c.args.bytes.now) (free_numbers c.args.objects.now c.args.batch.now))) c.in_ok-plan_put.ensures.plan c.requires.no_plan ne free

@@ -1,0 +1,52 @@
+use Rattle.std.proofs.Common.{◌≡◌, ◌≢◌, ◌%◌, ℕ, Option, Some, None, IsSome, slice_get, refl, sym, ◌∙◌, ap, subst, arith, length}
+use Rattle.newt_image.specs.Objects.{Extent}
+use Rattle.newt_objects.specs.Held.{held, IsUnplanned}
+use Rattle.newt_objects.proofs.Changing.{start_unplanned}
+use Rattle.newt_shelf.specs.declared.batch.NewEntry.{NewEntry}
+use Rattle.newt_shelf.proofs.Planning.{written}
+use Rattle.newt_shelf.proofs.batch.plan_objects.Goals as goal
+
+not_zero : (n : ℕ) → n % 2 ≡ 1 → n ≢ 0
+not_zero n odd same = absurd (let no : 0 % 2 ≡ 1 = ap (λ (k : ℕ). k % 2) (sym same) ∙ odd in omega (arith, no))
+
+-- what is there is not what is free
+not_free : (o : Option Extent) → o ≡ None → IsSome o → ⊥
+not_free None none some = absurd (let no = some in cc)
+not_free (Some x) none some = absurd (cc)
+
+pub plan_object-requires-clause-no_plan : goal.plan_object-requires-clause-no_plan
+plan_object-requires-clause-no_plan c = start_unplanned c.args.objects.now 0 c.requires.none
+
+pub plan_entry-requires-clause-no_plan : goal.plan_entry-requires-clause-no_plan
+plan_entry-requires-clause-no_plan c = λ e is. c.in_ok-plan_object.ensures.others e.id (not_zero e.id (c.requires.odd e is)) (start_unplanned c.args.objects.now e.id c.requires.none)
+
+pub plan_entry-requires-clause-way : goal.plan_entry-requires-clause-way
+plan_entry-requires-clause-way c = let w = c.requires.way in let a = c.in_ok-plan_object.ensures.way w.0 w.1 w.2 in (w.0, a.0, a.1)
+
+pub plan_gone-requires-clause-there : goal.plan_gone-requires-clause-there
+plan_gone-requires-clause-there c = λ k id at. subst (λ (o : Option Extent). IsSome o) (sym (c.plan_entry.ensures.held id ∙ c.plan_object.ensures.held id)) (c.requires.there k id at)
+
+pub plan_gone-requires-clause-no_plan : goal.plan_gone-requires-clause-no_plan
+plan_gone-requires-clause-no_plan c = λ k id at.
+    c.in_ok-plan_entry.ensures.others id
+    (λ e is same. not_free (held c.args.objects.now id) (ap (held c.args.objects.now) same ∙ c.requires.free e is) (c.requires.there k id at))
+    (c.in_ok-plan_object.ensures.others id (not_zero id (c.requires.gone_odd k id at)) (start_unplanned c.args.objects.now id c.requires.none))
+
+pub plan_gone-requires-clause-way : goal.plan_gone-requires-clause-way
+plan_gone-requires-clause-way c =
+    let w = c.requires.way in
+    let a = c.in_ok-plan_object.ensures.way w.0 w.1 w.2 in
+    let b = c.in_ok-plan_entry.ensures.way w.0 a.0 a.1 in
+    (w.0, b.0, b.1)
+
+pub returns-clause-way : goal.returns-clause-way
+returns-clause-way c = λ live texts w.
+    let x = c.in_ok-plan_object.ensures.way live texts w in
+    let y = c.in_ok-plan_entry.ensures.way live x.0 x.1 in
+    let z = c.in_ok-plan_gone.ensures.way live y.0 y.1 in (
+      z.0,
+      z.1,
+      written c.args.directory.now c.args.entry.now c.args.gone.now texts x.0 y.0 z.0 x.2 y.2 y.3 z.2
+          (λ e is. not_zero e.id (c.requires.odd e is)) (λ k id at. not_zero id (c.requires.gone_odd k id at))
+          (λ e k is at. not_free (held c.args.objects.now e.id) (c.requires.free e is) (c.requires.there k e.id at)),
+    )

@@ -1,0 +1,30 @@
+-- Objects as a change plans them.
+use Rattle.std.specs.Prelude.{◌≡◌, ◌≢◌, ℕ, ◌<◌, List, slice_get, Option, Some, None}
+use Rattle.std.specs.FinMap as map
+use Rattle.newt_objects.specs.Held.{Texts}
+use Rattle.newt_shelf.specs.declared.batch.NewEntry.{NewEntry}
+
+-- the object has these bytes, and all others are as they were
+pub record HasPut (id : ℕ) (bytes : List ℕ) (old new : Texts) : Type 0 where
+  pub object : map.get new id ≡ Some bytes
+  pub others : (q : ℕ) → q ≢ id → map.get new q ≡ map.get old q
+
+-- the id is one of the first so many
+abbrev pub IsAmong : ℕ → List ℕ → ℕ → Type 0
+IsAmong count ids id = (k : ℕ) × (k < count) × (slice_get ids k ≡ Some id)
+
+-- none of the first so many is an object, and all others are as they were
+pub record HasNone (count : ℕ) (ids : List ℕ) (old new : Texts) : Type 0 where
+  pub gone : (id : ℕ) → IsAmong count ids id → map.get new id ≡ None
+  pub others : (id : ℕ) → (IsAmong count ids id → ⊥) → map.get new id ≡ map.get old id
+
+-- no id stands twice
+abbrev pub AreOnce : List ℕ → Type 0
+AreOnce ids = (k l id : ℕ) → slice_get ids k ≡ Some id → slice_get ids l ≡ Some id → k ≡ l
+
+-- The directory and the new entry's record were put, and these are no objects any more.
+pub record AreWritten (directory : List ℕ) (entry : Option NewEntry) (gone : List ℕ) (old new : Texts) : Type 0 where
+  pub directory_is : map.get new 0 ≡ Some directory
+  pub entry_is : (e : NewEntry) → entry ≡ Some e → map.get new e.id ≡ Some e.bytes.items
+  pub gone_are : (k id : ℕ) → slice_get gone k ≡ Some id → map.get new id ≡ None
+  pub others : (id : ℕ) → id ≢ 0 → ((e : NewEntry) → entry ≡ Some e → e.id ≢ id) → ((k : ℕ) → slice_get gone k ≡ Some id → ⊥) → map.get new id ≡ map.get old id

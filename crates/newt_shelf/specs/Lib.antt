@@ -1,0 +1,4 @@
+pub mod Commit
+pub mod Faults
+pub mod Batch
+pub mod Places

@@ -1,0 +1,100 @@
+// The objects of a change, planned into one batch.
+ghost use Rattle.std.specs.Prelude.{◌≡◌, ◌≢◌, ◌%◌, ◌<◌, ◌≤◌, ℕ, List, [], length, slice_get, Some, None, IsSome, OnOk};
+ghost use Rattle.newt_image.specs.Pages.{Pages};
+ghost use Rattle.newt_objects.specs.Held.{held, Texts, IsUnplanned};
+ghost use Rattle.newt_objects.specs.Changing.{IsUnderWay};
+ghost use Rattle.newt_pagebook.specs.Batch.{no_change};
+ghost use Rattle.newt_shelf.specs.declared.batch.NewEntry.{NewEntry as NewOne};
+ghost use Rattle.newt_shelf.specs.Batch.{AreWritten, HasPut, HasNone, IsAmong, AreOnce};
+
+use newt_base::{Sig, Uid};
+use newt_objects::Objects;
+use newt_pagebook::Batch;
+use std::alloc::{AllocError, Global};
+
+/// A new entry: its soup, its id, the object that gets its record, and the record.
+#[derive(Drop)]
+pub struct NewEntry {
+    pub sig: Sig,
+    pub uid: Uid,
+    pub id: u32,
+    pub bytes: Vec<u8>,
+}
+
+// Plans the bytes of an object. Bytes that an object cannot have are no bytes that memory has.
+fn plan_object(
+    objects: &mut Objects,
+    id: u32,
+    bytes: &[u8],
+    batch: &mut Batch,
+) -> Result<(), AllocError>
+    requires no_plan { IsUnplanned objects.old id }
+    requires way { (live : Pages) × (texts : Texts) × IsUnderWay objects.old batch.old live texts }
+    ensures way { OnOk result ((live : Pages) (texts : Texts) → IsUnderWay objects.old batch.old live texts → (after : Texts) × IsUnderWay objects.new batch.new live after × HasPut id bytes.now texts after) }
+    ensures held { (other : ℕ) → held objects.new other ≡ held objects.old other }
+    ensures others { OnOk result ((other : ℕ) → other ≢ id → IsUnplanned objects.old other → IsUnplanned objects.new other) }
+{
+    if u32::try_from(bytes.len()).is_err() {
+        return Err(AllocError);
+    }
+    objects.plan_put(id, bytes, batch)?;
+    Ok(())
+}
+
+// Plans the record of the new entry, if there is one.
+fn plan_entry(
+    objects: &mut Objects,
+    entry: &Option<NewEntry>,
+    batch: &mut Batch,
+) -> Result<(), AllocError>
+    requires no_plan { (e : NewOne) → entry.now ≡ Some e → IsUnplanned objects.old e.id }
+    requires way { (live : Pages) × (texts : Texts) × IsUnderWay objects.old batch.old live texts }
+    ensures way { OnOk result ((live : Pages) (texts : Texts) → IsUnderWay objects.old batch.old live texts → (after : Texts) × IsUnderWay objects.new batch.new live after × ((e : NewOne) → entry.now ≡ Some e → HasPut e.id e.bytes.items texts after) × (entry.now ≡ None → after ≡ texts)) }
+    ensures held { (other : ℕ) → held objects.new other ≡ held objects.old other }
+    ensures others { OnOk result ((other : ℕ) → ((e : NewOne) → entry.now ≡ Some e → other ≢ e.id) → IsUnplanned objects.old other → IsUnplanned objects.new other) }
+{
+    let Some(e) = entry else {
+        return Ok(());
+    };
+    plan_object(objects, e.id, &e.bytes, batch)?;
+    Ok(())
+}
+
+// Plans that objects go.
+fn plan_gone(objects: &mut Objects, gone: &[u32], batch: &mut Batch) -> Result<(), AllocError>
+    requires there { (k id : ℕ) → slice_get gone.now k ≡ Some id → IsSome (held objects.old id) }
+    requires no_plan { (k id : ℕ) → slice_get gone.now k ≡ Some id → IsUnplanned objects.old id }
+    requires once { AreOnce gone.now }
+    requires way { (live : Pages) × (texts : Texts) × IsUnderWay objects.old batch.old live texts }
+    ensures way { OnOk result ((live : Pages) (texts : Texts) → IsUnderWay objects.old batch.old live texts → (after : Texts) × IsUnderWay objects.new batch.new live after × HasNone (length gone.now) gone.now texts after) }
+    ensures held { (other : ℕ) → held objects.new other ≡ held objects.old other }
+{
+    for id in gone {
+        objects.plan_delete(*id, batch)?;
+    }
+    Ok(())
+}
+
+/// Plans all objects of a change: the directory, the record of the new entry, and the records that go.
+pub fn plan_objects(
+    objects: &mut Objects,
+    directory: &[u8],
+    entry: &Option<NewEntry>,
+    gone: &[u32],
+    batch: &mut Batch,
+) -> Result<(), AllocError>
+    requires none { objects.old.plans ≡ [] }
+    requires way { (live : Pages) × (texts : Texts) × IsUnderWay objects.old batch.old live texts }
+    requires odd { (e : NewOne) → entry.now ≡ Some e → e.id % 2 ≡ 1 }
+    requires free { (e : NewOne) → entry.now ≡ Some e → held objects.old e.id ≡ None }
+    requires there { (k id : ℕ) → slice_get gone.now k ≡ Some id → IsSome (held objects.old id) }
+    requires gone_odd { (k id : ℕ) → slice_get gone.now k ≡ Some id → id % 2 ≡ 1 }
+    requires once { AreOnce gone.now }
+    ensures way { OnOk result ((live : Pages) (texts : Texts) → IsUnderWay objects.old batch.old live texts → (after : Texts) × IsUnderWay objects.new batch.new live after × AreWritten directory.now entry.now gone.now texts after) }
+    ensures held { (other : ℕ) → held objects.new other ≡ held objects.old other }
+{
+    plan_object(objects, 0, directory, batch)?;
+    plan_entry(objects, entry, batch)?;
+    plan_gone(objects, gone, batch)?;
+    Ok(())
+}

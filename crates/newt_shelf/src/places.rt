@@ -1,0 +1,93 @@
+// Where the records of entries are.
+ghost use Rattle.std.specs.Prelude.{◌≡◌, ◌≢◌, ◌++◌, ◌∷◌, [], ℕ, slice_get, Some, None, OnOk, OnErr, IfOk};
+ghost use Rattle.std.specs.BTreeMap as tree;
+ghost use Rattle.newt_objects.specs.Headers.{part_cmp};
+ghost use Rattle.newt_shelf.specs.Batch.{AreOnce};
+ghost use Rattle.newt_shelf.specs.Places.{place_of, picked};
+
+use newt_base::{Sig, Uid};
+use std::alloc::{AllocError, Global};
+use std::collections::BTreeMap;
+
+// Appends the object of a row, if it is one of the soup.
+fn pick_one(key: &(u32, u32), id: &u32, sig: u32, ids: &mut Vec<u32>) -> Result<(), AllocError>
+    ensures { OnOk result (ids.new.items ≡ ids.old.items ++ picked sig ((key.now, id.now) ∷ [])) }
+{
+    if key.0 == sig {
+        ids.push(*id)?;
+    }
+    Ok(())
+}
+
+// Appends the objects of the rows of a soup.
+fn pick(rows: &BTreeMap<(u32, u32), u32>, sig: u32, ids: &mut Vec<u32>) -> Result<(), AllocError>
+    ensures picked { OnOk result (ids.new.items ≡ ids.old.items ++ picked sig rows.now.entries) }
+    ensures ordered { tree.IsOrdered part_cmp rows.now }
+{
+    for (key, id) in rows.iter() {
+        pick_one(key, id, sig, ids)?;
+    }
+    Ok(())
+}
+
+/// The object of each entry's record, by soup signature and entry id.
+#[derive(Drop)]
+pub struct PlaceTable {
+    pub rows: BTreeMap<(u32, u32), u32>,
+}
+
+impl PlaceTable {
+    /// No places. It takes no memory.
+    pub fn new(alloc: Global) -> PlaceTable
+        ensures { (sig uid : ℕ) → place_of result sig uid ≡ None }
+    {
+        PlaceTable {
+            rows: BTreeMap::new(alloc),
+        }
+    }
+
+    /// The object of an entry's record.
+    pub fn get(&self, sig: Sig, uid: Uid) -> Option<u32>
+        ensures { result ≡ place_of self.now sig uid }
+    {
+        self.rows.get(&(sig.0, uid.0)).copied()
+    }
+
+    /// Keeps the object of an entry's record. After an error the table is as it was.
+    pub fn insert(&mut self, sig: Sig, uid: Uid, id: u32) -> Result<(), AllocError>
+        ensures kept { OnOk result (place_of self.new sig uid ≡ Some id) }
+        ensures others { OnOk result ((s u : ℕ) → ((s ≡ sig) → (u ≡ uid) → ⊥) → place_of self.new s u ≡ place_of self.old s u) }
+        ensures err { OnErr result ((s u : ℕ) → place_of self.new s u ≡ place_of self.old s u) }
+    {
+        let _old = self.rows.insert((sig.0, uid.0), id)?;
+        Ok(())
+    }
+
+    /// Forgets the place of an entry.
+    pub fn remove(&mut self, sig: Sig, uid: Uid)
+        ensures gone { place_of self.new sig uid ≡ None }
+        ensures others { (s u : ℕ) → ((s ≡ sig) → (u ≡ uid) → ⊥) → place_of self.new s u ≡ place_of self.old s u }
+    {
+        self.rows.remove(&(sig.0, uid.0));
+    }
+
+    /// The objects of the records of a soup's entries.
+    pub fn objects_of(&self, alloc: Global, sig: Sig) -> Result<Vec<u32>, AllocError>
+        requires { (u v id : ℕ) → place_of self.now sig u ≡ Some id → place_of self.now sig v ≡ Some id → u ≡ v }
+        ensures real { IfOk result (λ ids. (k id : ℕ) → slice_get ids.items k ≡ Some id → (uid : ℕ) × (place_of self.now sig uid ≡ Some id)) }
+        ensures all { IfOk result (λ ids. (uid id : ℕ) → place_of self.now sig uid ≡ Some id → (k : ℕ) × (slice_get ids.items k ≡ Some id)) }
+        ensures once { IfOk result (λ ids. AreOnce ids.items) }
+    {
+        let mut ids = Vec::new(alloc);
+        pick(&self.rows, sig.0, &mut ids)?;
+        Ok(ids)
+    }
+
+    /// Forgets the places of a soup's entries.
+    pub fn remove_soup(&mut self, sig: Sig)
+        ensures gone { (uid : ℕ) → place_of self.new sig uid ≡ None }
+        ensures others { (s u : ℕ) → s ≢ sig → place_of self.new s u ≡ place_of self.old s u }
+    {
+        self.rows.retain(|key, _| key.0 != sig.0);
+    }
+}

@@ -1,0 +1,11 @@
+use Rattle.std.proofs.Common.{◌≡◌, length, map}
+use Rattle.std.specs.List.{list_all}
+use Rattle.newt_spec_store.specs.Valid.{valid_soup}
+use Rattle.newt_soupdir.specs.Bare.{bare_soup}
+use Rattle.newt_soupdir.proofs.form.are_valid.Given as goal
+
+abbrev pub invariant-loop-left : goal.invariant-loop-left
+invariant-loop-left l = list_all valid_soup (map bare_soup l.left) ≡ list_all valid_soup (map bare_soup l.soups)
+
+abbrev pub decreases-loop-left : goal.decreases-loop-left
+decreases-loop-left l = length l.left

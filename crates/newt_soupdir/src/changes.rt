@@ -1,0 +1,139 @@
+//! To find soups in a directory, and to change it.
+ghost use Rattle.std.specs.Prelude.{◌≡◌, ◌+◌, ◌<◌, ◌≤◌, filter, length, map, not, ◌==◌, nat_le, option_map, OnErr, OnOk, IfOk, IfSome, IsTrue};
+ghost use Rattle.std.specs.List.{find, position_from};
+ghost use Rattle.newt_spec_store.specs.Store.{soup_named, make_soup, change_first};
+ghost use Rattle.newt_spec_store.specs.Valid.{well_formed};
+ghost use Rattle.newt_soupdir.specs.Bare.{bare_soup, bare_store};
+ghost use Rattle.newt_soupdir.specs.Changes.{soup_of, without_soup, uid_taken, take_uid_of};
+
+use crate::form::MOST_SOUPS;
+use crate::rows::{Directory, SoupRow};
+use newt_base::{Name, Sig, Uid};
+use std::alloc::AllocError;
+
+impl Directory {
+    /// The soup of this name.
+    pub fn soup_named(&self, name: &[u8]) -> Option<&SoupRow>
+        ensures { option_map (λ row. bare_soup row.now) result ≡ soup_named name.now (bare_store self.now) }
+    {
+        let mut left = self.soups.list();
+        while let [row, rest @ ..] = left {
+            if row.name.list() == name {
+                return Some(row);
+            }
+            left = rest;
+        }
+        None
+    }
+
+    /// The soup of this signature.
+    pub fn soup_of(&self, sig: Sig) -> Option<&SoupRow>
+        ensures { option_map (λ row. bare_soup row.now) result ≡ soup_of sig (bare_store self.now) }
+    {
+        let mut left = self.soups.list();
+        while let [row, rest @ ..] = left {
+            if row.sig == sig {
+                return Some(row);
+            }
+            left = rest;
+        }
+        None
+    }
+
+    /// Whether no further soup may be made: 64 are there.
+    pub fn is_full(&self) -> bool
+        ensures { result ≡ nat_le 64 (length self.now.soups) }
+    {
+        MOST_SOUPS <= self.soups.list().len()
+    }
+
+    /// A new soup at the end, with the next signature, which is the answer.
+    #[tactic(auto, using(crate::proofs::Lists::next_fits))]
+    pub fn make_soup(&mut self, name: Name) -> Result<Sig, AllocError>
+        requires { IsTrue (well_formed (bare_store self.old)) }
+        ensures made { OnOk result (bare_store self.new ≡ make_soup name (bare_store self.old)) }
+        ensures sig { IfOk result (λ sig. sig ≡ self.old.next_soup) }
+        ensures err { OnErr result (self.new ≡ self.old) }
+    {
+        let sig = Sig(self.next_soup);
+        let row = SoupRow {
+            name,
+            sig,
+            next_uid: 0,
+        };
+        self.soups.items.push(row)?;
+        self.next_soup += 1;
+        Ok(sig)
+    }
+
+    /// The soup of this signature is gone.
+    pub fn drop_soup(&mut self, sig: Sig)
+        ensures { bare_store self.new ≡ without_soup sig (bare_store self.old) }
+    {
+        drop_from(&mut self.soups.items, sig);
+    }
+
+    /// Takes the next entry id of the soup of this signature, which is the answer; none where there is no such soup.
+    #[tactic(auto, using(crate::proofs::Lists::next_uid_fits))]
+    pub fn take_uid(&mut self, sig: Sig) -> Option<Uid>
+        requires { IsTrue (well_formed (bare_store self.old)) }
+        ensures uid { result ≡ option_map (λ p. p.next_uid) (soup_of sig (bare_store self.old)) }
+        ensures taken { bare_store self.new ≡ take_uid_of sig (bare_store self.old) }
+    {
+        self.take_small_uid(sig)
+    }
+
+    /// The same, where the id is small enough.
+    fn take_small_uid(&mut self, sig: Sig) -> Option<Uid>
+        requires { IfSome (soup_of sig (bare_store self.old)) (λ p. p.next_uid ≤ 536_870_911) }
+        ensures uid { result ≡ option_map (λ p. p.next_uid) (soup_of sig (bare_store self.old)) }
+        ensures taken { bare_store self.new ≡ take_uid_of sig (bare_store self.old) }
+    {
+        take_uid_in(self.soups.items.as_mut_slice(), sig)
+    }
+}
+
+/// The rows of this signature are gone.
+fn drop_from(rows: &mut Vec<SoupRow>, sig: Sig)
+    ensures { map bare_soup rows.new.items ≡ filter (λ p. not (p.sig == sig)) (map bare_soup rows.old.items) }
+{
+    rows.retain(|row| row.sig != sig);
+}
+
+/// The place of the first row of this signature.
+fn place_of(rows: &[SoupRow], sig: Sig) -> Option<usize>
+    ensures place { result ≡ position_from (λ row. row.sig == sig) 0 rows.now }
+    ensures within { IfSome result (λ at. at < length rows.now) }
+{
+    let mut at = 0;
+    let mut left = rows;
+    while let [row, rest @ ..] = left {
+        if row.sig == sig {
+            return Some(at);
+        }
+        at += 1;
+        left = rest;
+    }
+    None
+}
+
+/// Takes the next entry id of a row.
+fn take_next(row: &mut SoupRow) -> Uid
+    requires { row.old.next_uid ≤ 536_870_911 }
+    ensures uid { result ≡ row.old.next_uid }
+    ensures taken { row.new ≡ record row.old { next_uid = row.old.next_uid + 1 } }
+{
+    let next = row.next_uid;
+    row.next_uid = next + 1;
+    Uid(next)
+}
+
+/// Takes the next entry id of the first row of this signature.
+fn take_uid_in(rows: &mut [SoupRow], sig: Sig) -> Option<Uid>
+    requires { IfSome (find (λ p. p.sig == sig) (map bare_soup rows.old)) (λ p. p.next_uid ≤ 536_870_911) }
+    ensures uid { result ≡ option_map (λ p. p.next_uid) (find (λ p. p.sig == sig) (map bare_soup rows.old)) }
+    ensures taken { map bare_soup rows.new ≡ change_first (λ p. p.sig == sig) uid_taken (map bare_soup rows.old) }
+{
+    let at = place_of(rows, sig)?;
+    Some(take_next(&mut rows[at]))
+}

@@ -1,0 +1,73 @@
+//! Numbers, texts and names, read from the front.
+ghost use Rattle.std.specs.Prelude.{◌≡◌};
+ghost use Rattle.newt_soupdir.specs.Reading.{Gives, byte_at, number16_at, number32_at, text_at, name_at, zero_at};
+
+use crate::fault::DirFault;
+use newt_base::{Name, NameFault, be16, be32};
+use std::alloc::Global;
+
+#[tactic(auto, using(crate::proofs::Numbers::byte_is, crate::proofs::Numbers::byte_none))]
+pub(crate) fn byte(bytes: &[u8]) -> Result<(u8, &[u8]), DirFault>
+    ensures { Gives (λ x. (x.0, x.1.now)) result (byte_at bytes.now) }
+{
+    if bytes.is_empty() {
+        return Err(DirFault::Bad);
+    }
+    Ok((bytes[0], &bytes[1..]))
+}
+
+#[tactic(auto, using(crate::proofs::Numbers::number16_is, crate::proofs::Numbers::number16_none))]
+pub(crate) fn number16(bytes: &[u8]) -> Result<(u16, &[u8]), DirFault>
+    ensures { Gives (λ x. (x.0, x.1.now)) result (number16_at bytes.now) }
+{
+    if bytes.len() < 2 {
+        return Err(DirFault::Bad);
+    }
+    Ok((be16(bytes, 0), &bytes[2..]))
+}
+
+#[tactic(auto, using(crate::proofs::Numbers::number32_is, crate::proofs::Numbers::number32_none))]
+pub(crate) fn number32(bytes: &[u8]) -> Result<(u32, &[u8]), DirFault>
+    ensures { Gives (λ x. (x.0, x.1.now)) result (number32_at bytes.now) }
+{
+    if bytes.len() < 4 {
+        return Err(DirFault::Bad);
+    }
+    Ok((be32(bytes, 0), &bytes[4..]))
+}
+
+#[tactic(auto, unfolding(crate::specs::Reading::text_at))]
+fn text(bytes: &[u8]) -> Result<(&[u8], &[u8]), DirFault>
+    ensures { Gives (λ x. (x.0.now, x.1.now)) result (text_at bytes.now) }
+{
+    let (len, rest) = byte(bytes)?;
+    let len = len as usize;
+    if rest.len() < len {
+        return Err(DirFault::Bad);
+    }
+    Ok(rest.split_at(len))
+}
+
+#[tactic(auto, unfolding(crate::specs::Reading::name_at))]
+pub(crate) fn name(alloc: Global, bytes: &[u8]) -> Result<(Name, &[u8]), DirFault>
+    ensures { Gives (λ x. (x.0, x.1.now)) result (name_at bytes.now) }
+{
+    let (text, rest) = text(bytes)?;
+    match Name::read(alloc, text) {
+        Ok(name) => Ok((name, rest)),
+        Err(NameFault::Name) => Err(DirFault::Bad),
+        Err(NameFault::Memory) => Err(DirFault::Memory),
+    }
+}
+
+/// A byte that is 0.
+#[tactic(auto, unfolding(crate::specs::Reading::zero_at))]
+pub(crate) fn zero(bytes: &[u8]) -> Result<(u8, &[u8]), DirFault>
+    ensures { Gives (λ x. (x.0, x.1.now)) result (zero_at bytes.now) }
+{
+    let (b, rest) = byte(bytes)?;
+    if b != 0 {
+        return Err(DirFault::Bad);
+    }
+    Ok((b, rest))
+}

@@ -1,0 +1,109 @@
+//! Whether rows make a well formed store.
+ghost use Rattle.std.specs.Prelude.{◌≡◌, ◌&&◌, length, map, nat_le};
+ghost use Rattle.std.specs.List.{list_all, list_any};
+ghost use Rattle.newt_base.specs.Names.{equal_text, is_name};
+ghost use Rattle.newt_spec_graph.specs.Lists.{all_apart, rises};
+ghost use Rattle.newt_spec_store.specs.Valid.{well_formed, valid_soup};
+ghost use Rattle.newt_soupdir.specs.Bare.{bare_soup, bare_store};
+
+use crate::rows::{Directory, SoupRow};
+
+/// The largest signature of a store and next entry id.
+const LARGEST_ID: u32 = 536_870_911;
+
+/// The largest next soup signature.
+const LARGEST_NEXT_SOUP: u32 = 65_535;
+
+/// The most soups of a store.
+pub(crate) const MOST_SOUPS: usize = 64;
+
+impl Directory {
+    /// Whether the rows make a well formed store: names of their form and distinct, soup signatures that rise below the next one, and all limits.
+    pub fn is_well_formed(&self) -> bool
+        ensures { result ≡ well_formed (bare_store self.now) }
+    {
+        let soups = self.soups.list();
+        if !self.is_within_limits() {
+            return false;
+        }
+        if !rise(self.next_soup, soups) {
+            return false;
+        }
+        if !are_apart(soups) {
+            return false;
+        }
+        are_valid(soups)
+    }
+
+    /// The name and the limits of the store itself.
+    #[tactic(auto, using(crate::proofs::Lists::length_rows))]
+    fn is_within_limits(&self) -> bool
+        ensures { result ≡ is_name self.now.name && nat_le self.now.sig 536_870_911 && nat_le self.now.next_soup 65_535 && nat_le (length (map bare_soup self.now.soups)) 64 }
+    {
+        let _name = self.name.list();
+        self.sig.0 <= LARGEST_ID
+            && self.next_soup <= LARGEST_NEXT_SOUP
+            && self.soups.list().len() <= MOST_SOUPS
+    }
+}
+
+fn rise(next: u32, soups: &[SoupRow]) -> bool
+    ensures { result ≡ rises 0 next (map (λ p. p.sig) (map bare_soup soups.now)) }
+{
+    let mut low = 0;
+    let mut left = soups;
+    while let [row, rest @ ..] = left {
+        if row.sig.0 < low || next <= row.sig.0 {
+            return false;
+        }
+        low = row.sig.0 + 1;
+        left = rest;
+    }
+    true
+}
+
+fn has_name(name: &[u8], soups: &[SoupRow]) -> bool
+    ensures { result ≡ list_any (equal_text name.now) (map (λ p. p.name) (map bare_soup soups.now)) }
+{
+    let mut left = soups;
+    while let [row, rest @ ..] = left {
+        if name == row.name.list() {
+            return true;
+        }
+        left = rest;
+    }
+    false
+}
+
+fn are_apart(soups: &[SoupRow]) -> bool
+    ensures { result ≡ all_apart equal_text (map (λ p. p.name) (map bare_soup soups.now)) }
+{
+    let mut left = soups;
+    while let [row, rest @ ..] = left {
+        if has_name(row.name.list(), rest) {
+            return false;
+        }
+        left = rest;
+    }
+    true
+}
+
+fn is_valid(row: &SoupRow) -> bool
+    ensures { result ≡ valid_soup (bare_soup row.now) }
+{
+    let _name = row.name.list();
+    row.next_uid <= LARGEST_ID
+}
+
+fn are_valid(soups: &[SoupRow]) -> bool
+    ensures { result ≡ list_all valid_soup (map bare_soup soups.now) }
+{
+    let mut left = soups;
+    while let [row, rest @ ..] = left {
+        if !is_valid(row) {
+            return false;
+        }
+        left = rest;
+    }
+    true
+}

@@ -1,0 +1,22 @@
+//! The directory of a store, as bytes and as rows: the store's name and signature, and of each soup its name, signature and next entry id.
+//!
+//! It stands on `newt_base` and on the definitions of `newt_spec_store`. It carries this promise: a directory is read from exactly the bytes that
+//! have one by the store's reading, and is written as the store's definition says; each change of rows is that change of the plain store. In this
+//! stage a directory with indexes or tags is not read.
+#![tactic(auto)]
+
+mod changes;
+mod fault;
+mod fields;
+mod form;
+mod read;
+mod rows;
+mod write;
+
+pub use fault::DirFault;
+pub use read::read_directory;
+pub use rows::{Directory, SoupRow, Soups};
+pub use write::write_directory;
+
+#[cfg(test)]
+mod tests;

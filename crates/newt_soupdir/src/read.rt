@@ -1,0 +1,92 @@
+//! Reading a directory.
+ghost use Rattle.std.specs.Prelude.{◌≡◌, Some, None, IfOk, IsErrOf};
+ghost use Rattle.newt_spec_store.specs.Reading.{times};
+ghost use Rattle.newt_soupdir.specs.Bare.{bare_store, directory_now};
+ghost use Rattle.newt_soupdir.specs.Reading.{Gives, soup_at, soups_at, rows_at, directory_at};
+
+use crate::fault::DirFault;
+use crate::fields::{byte, name, number16, number32, zero};
+use crate::rows::{Directory, SoupRow, Soups};
+use newt_base::Sig;
+use std::alloc::Global;
+
+#[tactic(auto, unfolding(crate::specs::Reading::soup_at))]
+fn soup(alloc: Global, bytes: &[u8]) -> Result<(SoupRow, &[u8]), DirFault>
+    ensures { Gives (λ x. (x.0, x.1.now)) result (soup_at bytes.now) }
+{
+    let (name, rest) = name(alloc, bytes)?;
+    let (sig, rest) = number16(rest)?;
+    let (next_uid, rest) = number32(rest)?;
+    let (_specs, rest) = zero(rest)?;
+    let (_tags, rest) = zero(rest)?;
+    let sig = Sig(u32::from(sig));
+    Ok((
+        SoupRow {
+            name,
+            sig,
+            next_uid,
+        },
+        rest,
+    ))
+}
+
+fn some_soups(alloc: Global, count: u8, bytes: &[u8]) -> Result<(Vec<SoupRow>, &[u8]), DirFault>
+    ensures { Gives (λ x. (x.0.items, x.1.now)) result (times count soup_at bytes.now) }
+{
+    let mut soups = Vec::new(alloc);
+    let mut rest = bytes;
+    for _ in 0..count {
+        let (one, after) = soup(alloc, rest)?;
+        soups.push(one)?;
+        rest = after;
+    }
+    Ok((soups, rest))
+}
+
+#[tactic(auto, unfolding(crate::specs::Reading::soups_at))]
+fn soups(alloc: Global, bytes: &[u8]) -> Result<(Soups, &[u8]), DirFault>
+    ensures { Gives (λ x. (x.0, x.1.now)) result (soups_at bytes.now) }
+{
+    let (count, rest) = byte(bytes)?;
+    let (soups, rest) = some_soups(alloc, count, rest)?;
+    Ok((Soups::of(soups), rest))
+}
+
+#[tactic(auto, unfolding(crate::specs::Reading::rows_at))]
+fn rows(alloc: Global, bytes: &[u8]) -> Result<(Directory, &[u8]), DirFault>
+    ensures { Gives (λ x. (x.0, x.1.now)) result (rows_at bytes.now) }
+{
+    let (name, rest) = name(alloc, bytes)?;
+    let (sig, rest) = number32(rest)?;
+    let (next_soup, rest) = number16(rest)?;
+    let (soups, rest) = soups(alloc, rest)?;
+    let next_soup = u32::from(next_soup);
+    Ok((
+        Directory {
+            name,
+            sig: Sig(sig),
+            next_soup,
+            soups,
+        },
+        rest,
+    ))
+}
+
+#[tactic(auto, unfolding(crate::specs::Reading::directory_at))]
+fn whole(alloc: Global, bytes: &[u8]) -> Result<Directory, DirFault>
+    ensures { Gives (λ d. d) result (directory_at bytes.now) }
+{
+    let (directory, rest) = rows(alloc, bytes)?;
+    if !rest.is_empty() || !directory.is_well_formed() {
+        return Err(DirFault::Bad);
+    }
+    Ok(directory)
+}
+
+/// The directory that all of the bytes are read as.
+pub fn read_directory(alloc: Global, bytes: &[u8]) -> Result<Directory, DirFault>
+    ensures found { IfOk result (λ d. directory_now bytes.now ≡ Some (bare_store d)) }
+    ensures bad { IsErrOf result DirFault.Bad → directory_now bytes.now ≡ None }
+{
+    whole(alloc, bytes)
+}

@@ -1,0 +1,96 @@
+//! What a directory has.
+ghost use Rattle.std.specs.Prelude.{◌≡◌, IfOk};
+
+use newt_base::{Name, Sig};
+use std::alloc::AllocError;
+use std::marker::Model;
+
+/// A soup: its name, its signature, and the id of its next entry.
+#[derive(Drop)]
+pub struct SoupRow {
+    pub name: Name,
+    pub sig: Sig,
+    pub next_uid: u32,
+}
+
+impl SoupRow {
+    /// An equal row.
+    pub fn copy(&self) -> Result<SoupRow, AllocError>
+        ensures { IfOk result (λ copy. copy ≡ self.now) }
+    {
+        Ok(SoupRow {
+            name: self.name.copy()?,
+            sig: self.sig,
+            next_uid: self.next_uid,
+        })
+    }
+}
+
+/// The soups of a store, in order of making.
+#[derive(Drop)]
+pub struct Soups {
+    pub(crate) items: Vec<SoupRow>,
+}
+
+impl Model for Soups {
+    ghost use Rattle.std.specs.Prelude.{List};
+    ghost use Rattle.newt_soupdir.specs.declared.rows.SoupRow.{SoupRow};
+
+    ghost Value = { List SoupRow };
+
+    ghost view = { λ s. s.items.items };
+}
+
+impl Soups {
+    pub fn of(items: Vec<SoupRow>) -> Self
+        ensures { result ≡ items.items }
+    {
+        Soups { items }
+    }
+
+    pub fn list(&self) -> &[SoupRow]
+        ensures { result.now ≡ self.now }
+    {
+        self.items.as_slice()
+    }
+
+    pub fn into_vec(self) -> Vec<SoupRow>
+        ensures { result.items ≡ self }
+    {
+        self.items
+    }
+
+    /// An equal list.
+    pub fn copy(&self) -> Result<Soups, AllocError>
+        ensures { IfOk result (λ copy. copy ≡ self.now) }
+    {
+        let mut items = Vec::new(*self.items.allocator());
+        for row in &self.items {
+            items.push(row.copy()?)?;
+        }
+        Ok(Soups { items })
+    }
+}
+
+/// The directory of a store: its name, its signature, the signature of the next soup, and the soups.
+#[derive(Drop)]
+pub struct Directory {
+    pub name: Name,
+    pub sig: Sig,
+    pub next_soup: u32,
+    pub soups: Soups,
+}
+
+impl Directory {
+    /// An equal directory.
+    pub fn copy(&self) -> Result<Directory, AllocError>
+        ensures { IfOk result (λ copy. copy ≡ self.now) }
+    {
+        Ok(Directory {
+            name: self.name.copy()?,
+            sig: self.sig,
+            next_soup: self.next_soup,
+            soups: self.soups.copy()?,
+        })
+    }
+}

@@ -1,0 +1,6 @@
+pub mod Faults
+pub mod Cards
+pub mod Stands
+pub mod Answers
+pub mod Looks
+pub mod Found

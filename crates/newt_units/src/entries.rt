@@ -1,0 +1,102 @@
+//! Entries: added, shown, removed, and their aliases.
+ghost use Rattle.std.specs.Prelude.{◌≡◌, true, IsTrue, Some, IfErr};
+ghost use Rattle.newt_host.specs.Moments.{Always};
+ghost use Rattle.newt_host.specs.Outside.{Outside};
+ghost use Rattle.newt_spec_world.specs.Reply.{Reply};
+ghost use Rattle.newt_spec_world.specs.declared.command.Command.{Command};
+ghost use Rattle.newt_laws_answers.specs.Answering.{Answering};
+ghost use Rattle.newt_laws_answers.specs.Stage.{answer_now};
+ghost use Rattle.newt_units.specs.Answers.{Answers};
+ghost use Rattle.newt_units.specs.Faults.{GoesOn, HasFaultCause, IsRefusal, OnDevices};
+ghost use Rattle.newt_units.specs.Stands.{Eight, Stands, world_of};
+
+use crate::card::{Card, Entry};
+use crate::fault::Fault;
+use crate::units::Units;
+use newt_base::{Name, Refusal, Sig, Uid};
+use newt_graph::Graph;
+use newt_host::{Host, Unit};
+
+impl<C: Card> Units<C> {
+    /// Adds an entry to a soup, at the present minute, and answers its id.
+    pub fn add<H: Host>(
+        &mut self,
+        host: &mut H,
+        unit: Unit,
+        name: &Name,
+        graph: Graph,
+    ) -> Result<u32, Fault>
+        requires { Stands C.place C.stands H.told self.old (H.outside host.old) }
+        ensures stands { GoesOn result → Stands C.place C.stands H.told self.new (H.outside host.new) }
+        ensures answered { IsTrue H.told → Answers (world_of C.reads self.old (H.outside host.old)) (world_of C.reads self.new (H.outside host.new)) (Command.Add unit name.now graph) (λ n. Reply.number n) result }
+        ensures moments { IsTrue H.told → let w = world_of C.reads self.old (H.outside host.old) in
+            Always (Answering C.reads w (answer_now w (Command.Add unit name.now graph)).0 (H.outside host.old).now) (H.outside host.old).now (H.outside host.new).now }
+        ensures answered_as_stream { IsTrue H.told → Answers (world_of C.reads self.old (H.outside host.old)) (world_of C.reads self.new (H.outside host.new)) (Command.Addx unit name.now graph) (λ n. Reply.number n) result }
+        ensures moments_as_stream { IsTrue H.told → let w = world_of C.reads self.old (H.outside host.old) in
+            Always (Answering C.reads w (answer_now w (Command.Addx unit name.now graph)).0 (H.outside host.old).now) (H.outside host.old).now (H.outside host.new).now }
+        ensures answered_to_default { IsTrue H.told → self.old.default ≡ Some unit → Answers (world_of C.reads self.old (H.outside host.old)) (world_of C.reads self.new (H.outside host.new)) (Command.Addu name.now graph) (λ n. Reply.added unit n) result }
+        ensures moments_to_default { IsTrue H.told → self.old.default ≡ Some unit → let w = world_of C.reads self.old (H.outside host.old) in
+            Always (Answering C.reads w (answer_now w (Command.Addu name.now graph)).0 (H.outside host.old).now) (H.outside host.old).now (H.outside host.new).now }
+        ensures alone { OnDevices (H.outside host.old) (H.outside host.new) }
+        ensures cause { IfErr result (λ fault. HasFaultCause fault (H.outside host.old) (H.outside host.new)) }
+    {
+        let soup = self.find_soup(unit, name)?;
+        self.add_to(host, unit, soup, graph)
+    }
+
+    /// Reads an entry.
+    pub fn get<H: Host>(
+        &mut self,
+        host: &mut H,
+        unit: Unit,
+        name: &Name,
+        uid: Uid,
+    ) -> Result<Entry, Fault>
+        requires { Stands C.place C.stands H.told self.old (H.outside host.old) }
+        ensures stands { GoesOn result → Stands C.place C.stands H.told self.new (H.outside host.new) }
+        ensures answered { IsTrue H.told → Answers (world_of C.reads self.old (H.outside host.old)) (world_of C.reads self.new (H.outside host.new)) (Command.Get unit name.now uid) (λ e. Reply.timed e.time e.graph) result }
+        ensures moments { IsTrue H.told → let w = world_of C.reads self.old (H.outside host.old) in
+            Always (Answering C.reads w (answer_now w (Command.Get unit name.now uid)).0 (H.outside host.old).now) (H.outside host.old).now (H.outside host.new).now }
+        ensures answered_as_stream { IsTrue H.told → Answers (world_of C.reads self.old (H.outside host.old)) (world_of C.reads self.new (H.outside host.new)) (Command.Getx unit name.now uid) (λ e. Reply.timed_nsof e.time e.graph) result }
+        ensures moments_as_stream { IsTrue H.told → let w = world_of C.reads self.old (H.outside host.old) in
+            Always (Answering C.reads w (answer_now w (Command.Getx unit name.now uid)).0 (H.outside host.old).now) (H.outside host.old).now (H.outside host.new).now }
+        ensures alone { OnDevices (H.outside host.old) (H.outside host.new) }
+        ensures cause { IfErr result (λ fault. HasFaultCause fault (H.outside host.old) (H.outside host.new)) }
+    {
+        let soup = self.find_soup(unit, name)?;
+        self.read_entry(host, unit, soup, uid)
+    }
+
+    /// Removes an entry.
+    pub fn remove<H: Host>(
+        &mut self,
+        host: &mut H,
+        unit: Unit,
+        name: &Name,
+        uid: Uid,
+    ) -> Result<(), Fault>
+        requires { Stands C.place C.stands H.told self.old (H.outside host.old) }
+        ensures stands { GoesOn result → Stands C.place C.stands H.told self.new (H.outside host.new) }
+        ensures answered { IsTrue H.told → Answers (world_of C.reads self.old (H.outside host.old)) (world_of C.reads self.new (H.outside host.new)) (Command.Remove unit name.now uid) (λ _. Reply.done) result }
+        ensures moments { IsTrue H.told → let w = world_of C.reads self.old (H.outside host.old) in
+            Always (Answering C.reads w (answer_now w (Command.Remove unit name.now uid)).0 (H.outside host.old).now) (H.outside host.old).now (H.outside host.new).now }
+        ensures alone { OnDevices (H.outside host.old) (H.outside host.new) }
+        ensures cause { IfErr result (λ fault. HasFaultCause fault (H.outside host.old) (H.outside host.new)) }
+    {
+        let soup = self.find_entry(unit, name, uid)?;
+        self.remove_from(host, unit, soup, uid)
+    }
+
+    /// The signatures of the store and the soup of an entry, which with its id are its alias.
+    pub fn alias(&self, unit: Unit, name: &Name, uid: Uid) -> Result<(Sig, Sig), Fault>
+        ensures answered { (outside : Outside) → Eight outside → Stands C.place C.stands true self.now outside →
+            Answers (world_of C.reads self.now outside) (world_of C.reads self.now outside) (Command.Alias unit name.now uid) (λ x. Reply.alias x.0 x.1 uid) result }
+        ensures only { IfErr result (λ fault. IsRefusal fault) }
+    {
+        let soup = self.find_entry(unit, name, uid)?;
+        match self.card(unit) {
+            Some(card) => Ok((card.sig(), soup)),
+            None => Err(Fault::Refused(Refusal::Notmounted)),
+        }
+    }
+}

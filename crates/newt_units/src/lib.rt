@@ -1,0 +1,21 @@
+//! The eight units, and the commands over the stores that are mounted on them.
+//!
+//! It stands on the host, and on whichever store is kept on one unit: `Card` says what is asked of that. The promise that it carries upwards: units and
+//! devices stand for one world, and each of these commands is answered as that world answers it, leaves units that stand for the world after it, and
+//! at every moment a crash leaves each store as it was or as it is then: format, default, time, soup, drop, add, addx, get, getx, remove, copy, alias.
+#![tactic(auto)]
+
+mod card;
+mod changes;
+mod copies;
+mod entries;
+mod fault;
+mod look;
+mod session;
+mod soups;
+mod stores;
+mod units;
+
+pub use card::{Card, Entry};
+pub use fault::Fault;
+pub use units::Units;
