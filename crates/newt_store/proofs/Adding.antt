@@ -1,0 +1,228 @@
+-- Changes that add an entry.
+use Rattle.std.proofs.Common.{IsTrue, ◌≡◌, ◌≢◌, ◌⊎◌, inl, inr, ℕ, ◌+◌, ◌%◌, ◌<◌, ◌≤◌, ◌==◌, ◌||◌, ◌&&◌, Bool, true, false, not, nat_le, nat_lt, List, [], ◌∷◌, map as map_list, length, Option, Some, None, refl, sym, ◌∙◌, ap, subst, arith, ⊎_elim}
+use Rattle.std.specs.FinMap as map
+use Rattle.std.specs.Option.{is_some, is_none, option_map}
+use Rattle.std.proofs.lemmas.Bool.{cases_eq}
+use Rattle.std.proofs.lemmas.Bool.Decides.{nat_tests}
+use Rattle.newt_base.specs.Refusals.{Checks, first_of}
+use Rattle.newt_base.specs.declared.Refusal.TheVariants.{Soup as NoSoup, Entry as NoEntry, Notframe, Size, Ids}
+use Rattle.newt_graph.specs.Graph.{RawGraph, IsGraph}
+use Rattle.newt_image.specs.Objects.{Objects, Extent, Table}
+use Rattle.newt_pagebook.proofs.Tests.{the_some, some_inj}
+use Rattle.newt_objects.specs.Held.{held}
+use Rattle.newt_spec_graph.specs.Graph.{is_frame, object}
+use Rattle.newt_spec_graph.specs.Limits.{within_limits}
+use Rattle.newt_spec_graph.specs.Lists.{Among, rises}
+use Rattle.newt_entries.proofs.Within.{graph-within}
+use Rattle.newt_soupdir.specs.declared.rows.SoupRow.{SoupRow}
+use Rattle.newt_store.proofs.Writing.{not-free}
+use Rattle.newt_spec_store.specs.Store.{Soup, Store, Entry, add_entry, change_soup}
+use Rattle.newt_spec_store.specs.Cost.{skeleton_length, directory_bytes}
+use Rattle.newt_spec_store.specs.Laid.{bare}
+use Rattle.newt_spec_store.specs.Lies.{Places, graph_has_no_large, has_no_large}
+use Rattle.newt_spec_store.specs.Valid.{well_formed, valid_entry}
+use Rattle.newt_soupdir.specs.Bare.{bare_soup, bare_store, is_early}
+use Rattle.newt_soupdir.specs.Changes.{soup_of, take_uid_of}
+use Rattle.newt_soupdir.specs.declared.rows.Directory.{Directory}
+use Rattle.newt_laws_images.proofs.Known.{bare-good}
+use Rattle.newt_laws_images.proofs.Stores.{is-store, is-soup}
+use Rattle.newt_laws_changes.proofs.Bare.{added_bare}
+use Rattle.newt_laws_changes.proofs.Formed.{added_formed, added_plain}
+use Rattle.newt_laws_changes.proofs.Lying.{added_lies, odd-is-not, place-there}
+use Rattle.newt_laws_changes.proofs.Members.{in-below}
+use Rattle.newt_laws_changes.proofs.Chosen.{soup-there, soup-good}
+use Rattle.newt_shelf.specs.declared.batch.NewEntry.{NewEntry}
+use Rattle.newt_shelf.specs.Places.{place_of, AreSoundPlaces}
+use Rattle.newt_store.specs.declared.catalog.Catalog.{Catalog}
+use Rattle.newt_store.specs.declared.change.Change.TheVariants.{Add}
+use Rattle.newt_store.specs.declared.next.Next.{Next}
+use Rattle.newt_store.specs.declared.next.Gone.{Gone}
+use Rattle.newt_store.specs.declared.next.Gone.TheVariants.{Nothing, OneEntry}
+use Rattle.newt_store.specs.Change.{first_checks, is_too_large, has_no_ids, next_uid_of, changed_soup}
+use Rattle.newt_store.specs.Next.{Goes, IsNew, AreNext, ArePlacesNext, Turns, IsAdding, IsPlanOf, IsNextOf}
+use Rattle.newt_store.specs.Stands.{Describes}
+use Rattle.newt_store.proofs.Reading.{both, join}
+use Rattle.newt_store.proofs.Found.{soup-same, soup-some, emptied, emptied-some}
+use Rattle.newt_store.proofs.Turning.{bytes-of}
+use Rattle.newt_store.proofs.Planned.{first-holds, first-not, bare-bare, none-some}
+
+-- the directory after an id was taken is well formed
+pub formed-taken : (d e : Directory) (p : Soup) (sig now : ℕ) (g : RawGraph) → well_formed (bare_store d) ≡ true → soup_of sig (bare_store d) ≡ Some p → p.next_uid < 536870911
+    → IsTrue (valid_entry (record { uid = p.next_uid; time = now; graph = g })) → bare_store e ≡ take_uid_of sig (bare_store d) → well_formed (bare_store e) ≡ true
+formed-taken d e p sig now g formed found room valid is =
+    ap well_formed (is ∙ ap (take_uid_of sig) (sym (bare-bare d)) ∙ sym (added_bare (bare_store d) sig p formed found now g))
+    ∙ bare-good (change_soup p.name (add_entry now g) (bare_store d)) (added_formed sig (bare_store d) p now g formed found room valid)
+
+-- numbers that rise are below the last
+below-high : (low high : ℕ) (ps : List Soup) (p : Soup) → rises low high (map_list (λ (q : Soup). q.sig) ps) ≡ true → Among ps p → p.sig < high
+below-high low high [] p h m = absurd m
+below-high low high (q ∷ ps) p h (inl e) =
+    let parts = both (nat_le low q.sig && nat_lt q.sig high) (rises (q.sig + 1) high (map_list (λ (q : Soup). q.sig) ps)) h in
+    let less = both (nat_le low q.sig) (nat_lt q.sig high) parts.0 in
+    subst (λ (x : Soup). x.sig < high) e (under q.sig high less.1) where
+      under : (a b : ℕ) → nat_lt a b ≡ true → a < b
+      under a b e = grind (arith, nat_tests, e)
+below-high low high (q ∷ ps) p h (inr m) =
+    let parts = both (nat_le low q.sig && nat_lt q.sig high) (rises (q.sig + 1) high (map_list (λ (q : Soup). q.sig) ps)) h in
+    below-high (q.sig + 1) high ps p parts.1 m
+
+-- a soup's signature fits in two bytes
+pub soup-small : (d : Directory) (p : Soup) (sig : ℕ) → well_formed (bare_store d) ≡ true → soup_of sig (bare_store d) ≡ Some p → sig < 65536
+soup-small d p sig formed found =
+    let there = soup-there sig (bare_store d) p found in
+    let r = is-store (bare_store d) formed in
+    let low : p.sig < d.next_soup = below-high 0 d.next_soup (bare_store d).soups p r.sigs there.1 in
+    omega (arith, low, r.next, there.0)
+
+is-none : {A : Type 0} (o : Option A) → ((x : A) → o ≡ Some x → ⊥) → o ≡ None
+is-none None nothing = refl
+is-none (Some x) nothing = absurd (nothing x refl)
+
+module _ (catalog : Catalog) (s : Store) (sound : AreSoundPlaces (held catalog.objects) (place_of catalog.places)) where
+  abbrev pub place-now : Places
+  place-now = place_of catalog.places
+
+  -- an id that no object has is that of no object that a store lies in
+  pub free-in : (old : Objects) (id : ℕ) → Describes catalog.directory place-now old s → id % 2 ≡ 1 → held catalog.objects id ≡ None → map.get old id ≡ None
+  free-in old id d odd free = is-none (map.get old id) (λ bytes at.
+      let w = d.lies.only_these id bytes at (odd-is-not id odd) in
+      not-free (held catalog.objects id) free (sound.there w.0 w.1.uid id w.3))
+
+  module _ (sig : ℕ) (p : Soup) (found : soup_of sig s ≡ Some p) where
+    -- the next id has no place yet
+    pub not-yet : (texts : Objects) → Describes catalog.directory place-now texts s → place-now sig p.next_uid ≡ None
+    not-yet texts d = is-none (place-now sig p.next_uid) (λ id at.
+        let w = place-there texts place-now s sig p.next_uid id d.lies at in
+        let low : w.0.uid < p.next_uid = in-below s sig p d.formed found w.0 w.1 in
+        absurd (omega (arith, low, w.2)))
+
+    module _ (now : ℕ) (g : RawGraph) (graph : IsGraph g) (time : now < 4294967296) (room : p.next_uid < 536870911) (valid : IsTrue (valid_entry (record { uid = p.next_uid; time = now; graph = g }))) (plain : IsTrue (graph_has_no_large g))
+        (next : Next) (adds : IsAdding catalog sig p.next_uid now g Nothing next) where
+      goes-not : (t u : ℕ) → Goes next.gone t u → ⊥
+      goes-not t u goes = subst (λ (gone : Gone). Goes gone t u) adds.of_gone goes
+
+      new-is : (t u : ℕ) → IsNew next.entry t u → (t ≡ sig) × (u ≡ p.next_uid)
+      new-is t u is = let w = subst (λ (o : Option NewEntry). IsNew o t u) adds.is_entry is in (sym w.0 ∙ adds.of_sig, sym w.1 ∙ adds.of_uid)
+
+      pub turns-added : Turns catalog next s (change_soup p.name (add_entry now g) s)
+      turns-added = record {
+        described = λ old new place d are places.
+            let t : Store = change_soup p.name (add_entry now g) s in
+            let is : bare t ≡ bare_store next.directory = added_bare s sig p d.formed found now g ∙ ap (take_uid_of sig) d.bare_is ∙ sym adds.directory in
+            let parts = both (is_early s) (has_no_large s) d.simple in
+            let kept = added_plain p.name now g s parts.0 parts.1 plain in
+            record {
+              lies = added_lies old new place-now place s sig p d.formed found d.lies adds.entry.id now g graph time adds.odd (free-in old adds.entry.id d adds.odd adds.free)
+                  (are.directory ∙ ap Some (bytes-of next.directory t is)) (are.entry adds.entry adds.is_entry ∙ ap Some adds.bytes)
+                  (λ o ne other. are.others o ne (λ e at same. other (sym same ∙ ap (λ (x : NewEntry). x.id) (some_inj e adds.entry (sym at ∙ adds.is_entry)))) (λ t u goes at. goes-not t u goes))
+                  (ap (λ (n : ℕ). place n p.next_uid) (sym adds.of_sig) ∙ ap (place adds.entry.sig) (sym adds.of_uid) ∙ places.entry adds.entry adds.is_entry)
+                  (λ t u apart. places.others t u (λ isnew. (let w = new-is t u isnew in apart w.0 w.1)) (λ goes. goes-not t u goes));
+              formed = added_formed sig s p now g d.formed found room valid;
+              simple = join (is_early t) (has_no_large t) kept.0 kept.1;
+              bare_is = is;
+            };
+        fresh = λ texts d e is.
+            let same : e ≡ adds.entry = some_inj e adds.entry (sym is ∙ adds.is_entry) in
+            ap (λ (x : NewEntry). place-now x.sig x.uid) same ∙ ap (λ (n : ℕ). place-now n adds.entry.uid) adds.of_sig ∙ ap (place-now sig) adds.of_uid ∙ not-yet texts d;
+        stays = λ texts d e is goes. goes-not e.sig e.uid goes;
+      }
+
+-- ---- an entry more
+
+module _ (catalog : Catalog) (texts : Objects) (s : Store) (d : Describes catalog.directory (place_of catalog.places) texts s) (sig : ℕ) (g : RawGraph) where
+  abbrev rest-of : Checks
+  rest-of = (Notframe, not (is_frame (object g.nodes g.root))) ∷ (Size, is_too_large g) ∷ (Ids, has_no_ids (soup_of sig s)) ∷ []
+
+  pub add-no-soup : is_some (soup_of sig (bare_store catalog.directory)) ≡ false → first_of (first_checks (Add sig g) s) ≡ Some NoSoup
+  add-no-soup none = first-holds NoSoup (is_none (soup_of sig s)) rest-of (ap not (soup-some catalog.directory (place_of catalog.places) texts s d sig ∙ none))
+
+  module _ (some : is_some (soup_of sig (bare_store catalog.directory)) ≡ true) where
+    with-soup : first_of (first_checks (Add sig g) s) ≡ first_of rest-of
+    with-soup = first-not NoSoup (is_none (soup_of sig s)) rest-of (ap not (soup-some catalog.directory (place_of catalog.places) texts s d sig ∙ some))
+
+    pub add-no-frame : is_frame (object g.nodes g.root) ≡ false → first_of (first_checks (Add sig g) s) ≡ Some Notframe
+    add-no-frame isnt = with-soup ∙ first-holds Notframe (not (is_frame (object g.nodes g.root))) ((Size, is_too_large g) ∷ (Ids, has_no_ids (soup_of sig s)) ∷ []) (ap not isnt)
+
+    module _ (frame : is_frame (object g.nodes g.root) ≡ true) where
+      with-frame : first_of (first_checks (Add sig g) s) ≡ first_of ((Size, is_too_large g) ∷ (Ids, has_no_ids (soup_of sig s)) ∷ [])
+      with-frame = with-soup ∙ first-not Notframe (not (is_frame (object g.nodes g.root))) ((Size, is_too_large g) ∷ (Ids, has_no_ids (soup_of sig s)) ∷ []) (ap not frame)
+
+      pub add-size : is_too_large g ≡ true → first_of (first_checks (Add sig g) s) ≡ Some Size
+      add-size large = with-frame ∙ first-holds Size (is_too_large g) ((Ids, has_no_ids (soup_of sig s)) ∷ []) large
+
+      pub add-ids : is_too_large g ≡ false → has_no_ids (soup_of sig s) ≡ true → first_of (first_checks (Add sig g) s) ≡ Some Ids
+      add-ids small last = with-frame ∙ first-not Size (is_too_large g) ((Ids, has_no_ids (soup_of sig s)) ∷ []) small ∙ first-holds Ids (has_no_ids (soup_of sig s)) [] last
+
+      pub add-accepted : is_too_large g ≡ false → has_no_ids (soup_of sig s) ≡ false → first_of (first_checks (Add sig g) s) ≡ None
+      add-accepted small more = with-frame ∙ first-not Size (is_too_large g) ((Ids, has_no_ids (soup_of sig s)) ∷ []) small ∙ first-not Ids (has_no_ids (soup_of sig s)) [] more
+
+-- the row of a soup is the plain soup's
+pub row-soup : (catalog : Catalog) (texts : Objects) (s : Store) (sig : ℕ) (row : SoupRow) → Describes catalog.directory (place_of catalog.places) texts s → soup_of sig (bare_store catalog.directory) ≡ Some (bare_soup row)
+    → (p : Soup) × (soup_of sig s ≡ Some p) × (p.next_uid ≡ row.next_uid)
+row-soup catalog texts s sig row d is =
+    let w = emptied-some (soup_of sig s) (bare_soup row) (sym (soup-same catalog.directory (place_of catalog.places) texts s d sig) ∙ is) in
+    (w.0, w.1, ap (λ (q : Soup). q.next_uid) w.2)
+
+not-last : (n : ℕ) → n ≢ 536870911 → (n == 536_870_911) ≡ false
+not-last n e = grind (arith, nat_tests, e)
+
+small-graph : (g : RawGraph) → graph_has_no_large g ≡ true → skeleton_length g ≤ 64000 → is_too_large g ≡ false
+small-graph g plain short = ap (λ (b : Bool). not b || nat_lt 64_000 (skeleton_length g)) plain ∙ few (skeleton_length g) short where
+  few : (n : ℕ) → n ≤ 64000 → nat_lt 64_000 n ≡ false
+  few n low = grind (arith, nat_tests, low)
+
+pub large-graph : (g : RawGraph) → graph_has_no_large g ≡ false → is_too_large g ≡ true
+large-graph g large = ap (λ (b : Bool). not b || nat_lt 64_000 (skeleton_length g)) large
+
+pub long-graph : (g : RawGraph) → graph_has_no_large g ≡ true → 64000 < skeleton_length g → is_too_large g ≡ true
+long-graph g plain long = ap (λ (b : Bool). not b || nat_lt 64_000 (skeleton_length g)) plain ∙ many (skeleton_length g) long where
+  many : (n : ℕ) → 64000 < n → nat_lt 64_000 n ≡ true
+  many n high = grind (arith, nat_tests, high)
+
+pub is-valid-graph : (uid now : ℕ) (g : RawGraph) → IsGraph g → is_frame (object g.nodes g.root) ≡ true → skeleton_length g ≤ 64000 → valid_entry (record { uid = uid; time = now; graph = g }) ≡ true
+is-valid-graph uid now g graph frame short =
+    join (is_frame (object g.nodes g.root) && within_limits g) (nat_le (skeleton_length g) 64_000) (join (is_frame (object g.nodes g.root)) (within_limits g) frame (graph-within g graph)) (few (skeleton_length g) short) where
+      few : (n : ℕ) → n ≤ 64000 → nat_le n 64_000 ≡ true
+      few n low = grind (arith, nat_tests, low)
+
+pub add-planned : (catalog : Catalog) (texts : Objects) (s : Store) (sig now : ℕ) (g : RawGraph) (row : SoupRow) (next : Next) → AreSoundPlaces (held catalog.objects) (place_of catalog.places) → Describes catalog.directory (place_of catalog.places) texts s
+    → soup_of sig (bare_store catalog.directory) ≡ Some (bare_soup row) → row.sig ≡ sig → IsGraph g → now < 4294967296 → is_frame (object g.nodes g.root) ≡ true → graph_has_no_large g ≡ true → skeleton_length g ≤ 64000 → row.next_uid ≢ 536870911 → row.next_uid < 536870911
+    → IsAdding catalog row.sig row.next_uid now g Nothing next → IsPlanOf catalog (Add sig g) now s next
+add-planned catalog texts s sig now g row next sound d is of_sig graph time frame plain short last room adds =
+    let p = row-soup catalog texts s sig row d is in
+    let some : is_some (soup_of sig (bare_store catalog.directory)) ≡ true = ap is_some is in
+    let more : has_no_ids (soup_of sig s) ≡ false = ap has_no_ids p.1 ∙ ap (λ (n : ℕ). n == 536_870_911) p.2 ∙ not-last row.next_uid last in
+    let adds' : IsAdding catalog sig p.0.next_uid now g Nothing next = subst (λ (n : ℕ). IsAdding catalog sig n now g Nothing next) (sym p.2) (subst (λ (n : ℕ). IsAdding catalog n row.next_uid now g Nothing next) of_sig adds) in
+    let room' : p.0.next_uid < 536870911 = omega (arith, room, p.2) in
+    record {
+      accepted = add-accepted catalog texts s d sig g some frame (small-graph g plain short) more;
+      answer = adds.answer ∙ sym (ap next_uid_of p.1 ∙ p.2);
+      turns = subst (λ (t : Store). Turns catalog next s t) (ap (λ (o : Option Soup). changed_soup o (add_entry now g) s) (sym p.1))
+          (turns-added catalog s sound sig p.0 p.1 now g graph time room' (is-valid-graph p.0.next_uid now g graph frame short) plain next adds');
+    }
+
+pub row-is : (b : Store) (sig : ℕ) (row : SoupRow) → soup_of sig b ≡ Some (bare_soup row) → (row.sig ≡ sig) × (soup_of row.sig b ≡ Some (bare_soup row))
+row-is b sig row found = let same : row.sig ≡ sig = (soup-there sig b (bare_soup row) found).0 in (same, ap (λ (n : ℕ). soup_of n b) same ∙ found)
+
+pub row-room : (b : Store) (sig : ℕ) (p : Soup) → well_formed b ≡ true → soup_of sig b ≡ Some p → p.next_uid ≢ 536870911 → p.next_uid < 536870911
+row-room b sig p formed found last =
+    let there = soup-there sig b p found in
+    let r = soup-good b p formed there.1 in
+    omega (arith, r.next, last)
+
+plain-or : (a b : Bool) → (not a || b) ≡ false → (a ≡ true) × (b ≡ false)
+plain-or true b e = (refl, e)
+plain-or false b e = absurd (cc)
+
+pub small-is : (g : RawGraph) → is_too_large g ≡ false → (graph_has_no_large g ≡ true) × (skeleton_length g ≤ 64000)
+small-is g e = let w = plain-or (graph_has_no_large g) (nat_lt 64_000 (skeleton_length g)) e in (w.0, few (skeleton_length g) w.1) where
+  few : (n : ℕ) → nat_lt 64_000 n ≡ false → n ≤ 64000
+  few n low = grind (arith, nat_tests, low)
+
+pub last-ids : (catalog : Catalog) (texts : Objects) (s : Store) (sig : ℕ) (row : SoupRow) → Describes catalog.directory (place_of catalog.places) texts s → soup_of sig (bare_store catalog.directory) ≡ Some (bare_soup row) → row.next_uid ≡ 536870911
+    → has_no_ids (soup_of sig s) ≡ true
+last-ids catalog texts s sig row d is last = let p = row-soup catalog texts s sig row d is in ap has_no_ids p.1 ∙ ap (λ (n : ℕ). n == 536_870_911) (p.2 ∙ last)
+
+pub more-ids : (catalog : Catalog) (texts : Objects) (s : Store) (sig : ℕ) (row : SoupRow) → Describes catalog.directory (place_of catalog.places) texts s → soup_of sig (bare_store catalog.directory) ≡ Some (bare_soup row) → row.next_uid ≢ 536870911
+    → has_no_ids (soup_of sig s) ≡ false
+more-ids catalog texts s sig row d is last = let p = row-soup catalog texts s sig row d is in ap has_no_ids p.1 ∙ ap (λ (n : ℕ). n == 536_870_911) p.2 ∙ not-last row.next_uid last

@@ -1,0 +1,142 @@
+-- What a change of a store answers.
+use Rattle.std.proofs.Common.{IsTrue, ◌≡◌, ◌⊎◌, inl, inr, ℕ, ◌<◌, ◌≤◌, Bool, true, false, nat_lt, List, [], ◌∷◌, ◌++◌, Option, Some, None, Result, Ok, Err, IfErr, IsErrAnd, refl, sym, ◌∙◌, ap, subst, arith, ⊎_elim}
+use Rattle.std.proofs.lemmas.Bool.Decides.{nat_tests}
+use Rattle.newt_base.specs.Refusals.{Checks, first_of}
+use Rattle.newt_base.specs.declared.Refusal.{Refusal}
+use Rattle.newt_base.specs.declared.Refusal.TheVariants.{Full}
+use Rattle.newt_host.specs.Moments.{Moment, image, changes, IsDurable, Leaves}
+use Rattle.newt_host.specs.Outside.{Outside, Rose, Touches}
+use Rattle.newt_host.proofs.Outside.{Touches-append}
+use Rattle.newt_pagebook.specs.declared.book.Stop.TheVariants.{Memory, Device}
+use Rattle.newt_host.proofs.Moments.{Leaves-start, Leaves-weaken}
+use Rattle.newt_image.specs.Pages.{cap}
+use Rattle.newt_pagebook.specs.Book.{Numbers}
+use Rattle.newt_spec_store.specs.Store.{Soup, Store, change_soup, drop_soup, remove_entry}
+use Rattle.newt_spec_store.specs.Cost.{cost}
+use Rattle.newt_spec_store.specs.OfImage.{blocks_of}
+use Rattle.newt_soupdir.specs.Changes.{soup_of}
+use Rattle.newt_laws_changes.proofs.Costs.{dropped_cost, removed_cost}
+use Rattle.newt_shelf.specs.declared.fault.StoreFault.{StoreFault}
+use Rattle.newt_shelf.specs.declared.fault.StoreFault.TheVariants.{Refused, Stop}
+use Rattle.newt_shelf.specs.Faults.{RefusesOnly, FaultsAt}
+use Rattle.newt_shelf.specs.Places.{place_of}
+use Rattle.newt_store.specs.declared.catalog.Catalog.{Catalog}
+use Rattle.newt_store.specs.declared.change.Change.{Change}
+use Rattle.newt_store.specs.declared.change.Change.TheVariants.{MakeSoup, DropSoup, Add, Remove, Move}
+use Rattle.newt_store.specs.Change.{changed_by, first_checks, full_check, refusals, refusal_of, dropped_soup, changed_soup}
+use Rattle.newt_store.specs.Next.{IsEitherStore}
+use Rattle.newt_store.specs.Stage.{readable}
+use Rattle.newt_store.specs.Stands.{StandsFor, IsSound, GoesOn, IsRefused, RefusesWith, IsBeforeOrChanged}
+use Rattle.newt_store.proofs.Writing.{kept-over, failed}
+use Rattle.newt_store.proofs.Reading.{read-back}
+use Rattle.newt_store.proofs.Planned.{first-not, first-holds}
+
+-- ---- the first of checks in two parts
+
+chosen : (t : Bool) (r : Refusal) (later : Option Refusal) → Option Refusal
+chosen t r later = elim t [ true ↦ Some r | false ↦ later ]
+
+first-here : (a b : Checks) (r : Refusal) → first_of a ≡ Some r → first_of (a ++ b) ≡ Some r
+first-here [] b r e = absurd (let isnt : None ≡ Some r = e in cc)
+first-here (check ∷ a) b r e = by check.1 check.0 (λ later. first-here a b r later) e where
+  by : (t : Bool) (c : Refusal) → (first_of a ≡ Some r → first_of (a ++ b) ≡ Some r) → first_of ((c, t) ∷ a) ≡ Some r → first_of ((c, t) ∷ (a ++ b)) ≡ Some r
+  by true c more e = e
+  by false c more e = more e
+
+first-later : (a b : Checks) → first_of a ≡ None → first_of (a ++ b) ≡ first_of b
+first-later [] b e = refl
+first-later (check ∷ a) b e = by check.1 check.0 (λ later. first-later a b later) e where
+  by : (t : Bool) (c : Refusal) → (first_of a ≡ None → first_of (a ++ b) ≡ first_of b) → first_of ((c, t) ∷ a) ≡ None → first_of ((c, t) ∷ (a ++ b)) ≡ first_of b
+  by true c more e = absurd (let isnt : Some c ≡ None = e in cc)
+  by false c more e = more e
+
+pub first-due : (change : Change) (blocks now : ℕ) (s : Store) (r : Refusal) → first_of (first_checks change s) ≡ Some r → refusal_of change blocks now s ≡ Some r
+first-due change blocks now s r e = first-here (first_checks change s) (full_check change blocks now s) r e
+
+not-more : (a b : ℕ) → b ≤ a → nat_lt a b ≡ false
+not-more a b low = grind (arith, nat_tests, low)
+
+more-than : (a b : ℕ) → a < b → nat_lt a b ≡ true
+more-than a b high = grind (arith, nat_tests, high)
+
+fits-check : (change : Change) (blocks now : ℕ) (s : Store) → cost (changed_by change now s) ≤ cap blocks → first_of (full_check change blocks now s) ≡ None
+fits-check (DropSoup sig) blocks now s low = refl
+fits-check (Remove sig uid) blocks now s low = refl
+fits-check (MakeSoup name) blocks now s low = first-not Full (nat_lt (cap blocks) (cost (changed_by (MakeSoup name) now s))) [] (not-more _ _ low)
+fits-check (Add sig g) blocks now s low = first-not Full (nat_lt (cap blocks) (cost (changed_by (Add sig g) now s))) [] (not-more _ _ low)
+fits-check (Move a u b) blocks now s low = first-not Full (nat_lt (cap blocks) (cost (changed_by (Move a u b) now s))) [] (not-more _ _ low)
+
+pub none-due : (change : Change) (blocks now : ℕ) (s : Store) → first_of (first_checks change s) ≡ None → cost (changed_by change now s) ≤ cap blocks → refusal_of change blocks now s ≡ None
+none-due change blocks now s first low = first-later (first_checks change s) (full_check change blocks now s) first ∙ fits-check change blocks now s low
+
+dropped-less : (o : Option Soup) (s : Store) → cost (dropped_soup o s) ≤ cost s
+dropped-less None s = omega arith
+dropped-less (Some p) s = dropped_cost p.name s
+
+removed-less : (o : Option Soup) (uid : ℕ) (s : Store) → cost (changed_soup o (remove_entry uid) s) ≤ cost s
+removed-less None uid s = omega arith
+removed-less (Some p) uid s = removed_cost p.name uid s
+
+full-check : (change : Change) (blocks now : ℕ) (s : Store) → cost s ≤ cap blocks → cap blocks < cost (changed_by change now s) → first_of (full_check change blocks now s) ≡ Some Full
+full-check (DropSoup sig) blocks now s low more = absurd (omega (arith, low, more, dropped-less (soup_of sig s) s))
+full-check (Remove sig uid) blocks now s low more = absurd (omega (arith, low, more, removed-less (soup_of sig s) uid s))
+full-check (MakeSoup name) blocks now s low more = first-holds Full (nat_lt (cap blocks) (cost (changed_by (MakeSoup name) now s))) [] (more-than _ _ more)
+full-check (Add sig g) blocks now s low more = first-holds Full (nat_lt (cap blocks) (cost (changed_by (Add sig g) now s))) [] (more-than _ _ more)
+full-check (Move a u b) blocks now s low more = first-holds Full (nat_lt (cap blocks) (cost (changed_by (Move a u b) now s))) [] (more-than _ _ more)
+
+pub full-due : (change : Change) (blocks now : ℕ) (s : Store) → first_of (first_checks change s) ≡ None → cost s ≤ cap blocks → cap blocks < cost (changed_by change now s) → refusal_of change blocks now s ≡ Some Full
+full-due change blocks now s first low more = first-later (first_checks change s) (full_check change blocks now s) first ∙ full-check change blocks now s low more
+
+-- a refusal of the carrying out is the one that is due
+pub refuses-full : {due : Option Refusal} (fault : StoreFault) → RefusesOnly Full fault → (IsRefused (failed fault) → due ≡ Some Full) → RefusesWith due fault
+refuses-full (Refused refusal) only due = due tt ∙ ap (λ (r : Refusal). Some r) (sym only)
+refuses-full (Stop stop) only due = tt
+
+-- a refusal of the plan is due
+pub refuses-first : (change : Change) (blocks now : ℕ) (s : Store) (fault : StoreFault) → RefusesWith (first_of (first_checks change s)) fault → RefusesWith (refusal_of change blocks now s) fault
+refuses-first change blocks now s (Refused refusal) due = first-due change blocks now s refusal due
+refuses-first change blocks now s (Stop stop) due = tt
+
+-- an error that is handed on
+pub from-err : (Q : StoreFault → Type 0) (r : Result ℕ StoreFault) (fault : StoreFault) → IsErrAnd r (λ f. f ≡ fault) → Q fault → IfErr r Q
+from-err Q (Ok n) fault is q = absurd is
+from-err Q (Err f) fault is q = subst Q (sym is) q
+
+-- ---- over calls that read
+
+pub sound-over : (told : Bool) (catalog : Catalog) (numbers numbers' : Numbers) (unit unit' : ℕ) (old new : Outside) → unit' ≡ unit → numbers' ≡ numbers → new.now ≡ old.now → IsSound told catalog numbers unit old → IsSound told catalog numbers' unit' new
+sound-over told catalog numbers numbers' unit unit' old new place same now sound = record {
+  kept = kept-over told catalog.objects numbers numbers' unit unit' old new place same now sound.kept;
+  places = sound.places;
+  formed = sound.formed;
+}
+
+pub same-image : (unit unit' : ℕ) (old new : Moment) → unit' ≡ unit → new ≡ old → image unit' new ≡ image unit old
+same-image unit unit' old new place now = ap (λ (u : ℕ). image u new) place ∙ ap (λ (m : Moment). image unit m) now
+
+-- ---- at every moment
+
+pub before-or-changed : (change : Change) (now : ℕ) (s : Store) (img left : List ℕ) → first_of (first_checks change s) ≡ None → IsEitherStore img s (changed_by change now s) left → IsBeforeOrChanged change (blocks_of img) now s left
+before-or-changed change now s img left first either = ⊎_elim (λ was. inl was) (λ is. inr (none-due change (blocks_of img) now s first is.0, is.1)) either
+
+pub leaves-changed : (change : Change) (now : ℕ) (s : Store) (unit : ℕ) (img : List ℕ) (old new : Moment) → first_of (first_checks change s) ≡ None → Leaves unit (IsEitherStore img s (changed_by change now s)) old new
+    → Leaves unit (IsBeforeOrChanged change (blocks_of img) now s) old new
+leaves-changed change now s unit img old new first leaves = Leaves-weaken (λ left either. before-or-changed change now s img left first either) leaves
+
+pub leaves-before : (catalog : Catalog) (change : Change) (now blocks : ℕ) (s : Store) (unit : ℕ) (old new : Moment) → new ≡ old → StandsFor catalog s (image unit old) → IsDurable unit old → Leaves unit (IsBeforeOrChanged change blocks now s) old new
+leaves-before catalog change now blocks s unit old new same stands durable = subst (λ (m : Moment). Leaves unit (IsBeforeOrChanged change blocks now s) old m) (sym same) (Leaves-start (λ left may.
+    inl (ap readable (durable left may) ∙ read-back catalog.directory (place_of catalog.places) stands.texts s (image unit old) stands.holds stands.describes stands.fits)))
+
+-- ---- one call after another
+
+rose-before : (old mid new : ℕ) → old ≤ mid → Rose mid new → Rose old new
+rose-before old mid new low rose = omega (arith, low, rose)
+
+pub faults-over : (fault : StoreFault) (unit unit' : ℕ) (old mid new : Outside) → unit' ≡ unit → Touches unit old mid → FaultsAt unit' mid new fault → FaultsAt unit old new fault
+faults-over (Refused refusal) unit unit' old mid new place touches faults = tt
+faults-over (Stop Memory) unit unit' old mid new place touches faults = tt
+faults-over (Stop (Device at)) unit unit' old mid new place touches faults =
+    (faults.0 ∙ place, rose-before (old.dev_faults unit) (mid.dev_faults unit) (new.dev_faults unit) touches.faults_later (subst (λ (u : ℕ). Rose (mid.dev_faults u) (new.dev_faults u)) place faults.1))
+
+pub touches-over : (unit unit' : ℕ) (old mid new : Outside) → unit' ≡ unit → Touches unit old mid → Touches unit' mid new → Touches unit old new
+touches-over unit unit' old mid new place first second = Touches-append first (subst (λ (u : ℕ). Touches u mid new) place second)

@@ -1,0 +1,82 @@
+-- A fresh store.
+use Rattle.std.proofs.Common.{IsTrue, ◌≡◌, ◌≢◌, ℕ, ◌+◌, ◌≤◌, ◌/◌, Bool, true, false, nat_le, List, [], ◌∷◌, length, slice_get, Option, Some, None, refl, sym, ◌∙◌, ap, subst, arith}
+use Rattle.std.specs.FinMap as map
+use Rattle.std.proofs.lemmas.Bool.Decides.{nat_tests}
+use Rattle.std.specs.Ordering.{nat_cmp}
+use Rattle.std.specs.Option.{option_map}
+use Rattle.newt_base.specs.Names.{is_name}
+use Rattle.newt_image.specs.Records.{records, and_then}
+use Rattle.newt_image.specs.Pages.{Pages, Change, pages, pages_after, after, change_in, cap}
+use Rattle.newt_image.specs.Objects.{Extent, IsTableOf, AreObjectsOf, Objects, joined, pages_for}
+use Rattle.newt_pagebook.specs.Batch.{no_change}
+use Rattle.newt_pagebook.specs.Book.{IsFormatted}
+use Rattle.newt_objects.specs.Held.{Held, held, Texts}
+use Rattle.newt_objects.specs.Changing.{HoldsObjects, IsUnderWay}
+use Rattle.newt_objects.proofs.Changing.{start_under_way, would_be_objects}
+use Rattle.newt_spec_store.specs.Store.{Store}
+use Rattle.newt_spec_store.specs.Cost.{cost, directory_bytes}
+use Rattle.newt_spec_store.specs.OfImage.{blocks_of}
+use Rattle.newt_spec_store.specs.Valid.{well_formed}
+use Rattle.newt_spec_store.specs.ImageStore.{store_of_image}
+use Rattle.newt_laws_images.proofs.Gathering.{image-by-objects}
+use Rattle.newt_laws_images.proofs.Whole.{lies-read}
+use Rattle.newt_laws_changes.proofs.Fresh.{fresh_lies, fresh_formed}
+use Rattle.newt_laws_changes.proofs.Moved.{inserted-at, inserted-other}
+use Rattle.newt_laws_changes.proofs.Costs.{directory-length, total}
+use Rattle.newt_entries.specs.Entry.{stream_graph}
+use Rattle.newt_entries.proofs.Streams.{reads_graphs}
+use Rattle.newt_store.specs.Change.{new_store}
+use Rattle.newt_store.proofs.Reading.{is-valid}
+
+empty_pages : Pages
+empty_pages = map.empty
+
+empty_texts : Texts
+empty_texts = map.empty
+
+-- no objects are the objects of no pages
+pub start-empty : (objects : Held) → ((id : ℕ) → held objects id ≡ None) → objects.plans ≡ [] → IsUnderWay objects no_change map.empty map.empty
+start-empty objects none plans = start_under_way objects map.empty map.empty plans table (record { table = held objects; is_table = table; each = λ id. map.get-empty nat_cmp id ∙ sym (ap (option_map (joined map.empty)) (none id)) }) where
+  table : IsTableOf map.empty (held objects)
+  table = record {
+    whole = λ id x there. absurd (let e : None ≡ Some x = sym (none id) ∙ there in cc);
+    parts = λ id part number x there at. absurd (let e : None ≡ Some x = sym (none id) ∙ there in cc);
+    pages = λ number page at. absurd (let e : None ≡ Some page = sym (map.get-empty nat_cmp number) ∙ at in cc);
+  }
+
+-- a formatted image holds what the batch makes of nothing
+pub formatted-holds : (objects : Held) (batch : Change) (texts : Texts) (image : List ℕ) → IsUnderWay objects batch map.empty texts → IsFormatted batch image → HoldsObjects image texts
+formatted-holds objects batch texts image way is = record {
+  live = after batch map.empty;
+  of_image = ap (λ (o : Option (List (List ℕ))). and_then o (λ payloads. pages_after payloads map.empty)) is.one.1
+      ∙ ap (λ (o : Option Change). and_then o (λ change. pages_after [] (after change map.empty))) is.one.2;
+  are = would_be_objects objects batch map.empty texts way.would;
+}
+
+one-page : (n : ℕ) → n ≤ 39 → pages_for (n + 8) ≡ 1
+one-page n low = omega (arith, low)
+
+enough-cap : (blocks : ℕ) → 13 ≤ blocks → 1 ≤ cap blocks
+enough-cap blocks many = omega (arith, many)
+
+pub fresh-bytes : (name : List ℕ) (sig : ℕ) → length (directory_bytes (new_store name sig)) ≡ length name + 8
+unfolding total
+fresh-bytes name sig = directory-length (new_store name sig) ∙ omega arith
+
+pub fresh-cost : (name : List ℕ) (sig blocks : ℕ) → length name ≤ 39 → 13 ≤ blocks → cost (new_store name sig) ≤ cap blocks
+fresh-cost name sig blocks short many =
+    let one : pages_for (length (directory_bytes (new_store name sig))) ≡ 1 = ap pages_for (fresh-bytes name sig) ∙ one-page (length name) short in
+    omega (arith, one, enough-cap blocks many)
+
+-- and is read as the fresh store
+pub fresh-read : (name : List ℕ) (sig : ℕ) (bytes image : List ℕ) → is_name name ≡ true → length name ≤ 39 → sig ≤ 536870911 → 13 ≤ blocks_of image → bytes ≡ directory_bytes (new_store name sig)
+    → HoldsObjects image (map.insert map.empty 0 bytes) → store_of_image stream_graph image ≡ Some (new_store name sig)
+fresh-read name sig bytes image good short few many is holds =
+    let texts : Texts = map.insert map.empty 0 bytes in
+    let s : Store = new_store name sig in
+    let lies = fresh_lies texts s refl (inserted-at map.empty 0 bytes ∙ ap Some is) (λ id ne. inserted-other map.empty 0 bytes id ne ∙ map.get-empty nat_cmp id) in
+    image-by-objects stream_graph image holds.live texts holds.of_image holds.are
+    ∙ lies-read stream_graph texts (λ t u. None) (blocks_of image) s reads_graphs lies (is-valid (blocks_of image) s (fresh_formed name sig good few) (fresh-cost name sig (blocks_of image) short many)) refl
+
+pub short-name : (name : List ℕ) → is_name name ≡ true → length name ≤ 39
+short-name name good = grind (arith, nat_tests, good)

@@ -1,0 +1,14 @@
+pub mod Writing
+pub mod Reading
+pub mod Carrying
+pub mod Rows
+pub mod Fresh
+pub mod Found
+pub mod Turning
+pub mod Planned
+pub mod Adding
+pub mod Moving
+pub mod Entries
+pub mod Applying
+pub mod Opening
+pub mod OpeningPlaces

@@ -1,0 +1,58 @@
+-- What an image is read as, where a store lies in its objects.
+use Rattle.std.proofs.Common.{IsTrue, ◌≡◌, ◌⊎◌, inl, inr, ℕ, ◌≤◌, ◌<◌, ◌/◌, ◌&&◌, Bool, true, false, cond, nat_le, List, length, Option, Some, None, refl, sym, ◌∙◌, ap, subst, arith, ⊎_elim}
+use Rattle.std.proofs.lemmas.Bool.Decides.{nat_tests}
+use Rattle.std.specs.FinMap as map
+use Rattle.newt_image.specs.Objects.{Objects}
+use Rattle.newt_image.specs.Pages.{cap}
+use Rattle.newt_objects.specs.Changing.{HoldsObjects, total_pages}
+use Rattle.newt_spec_store.specs.Store.{Store}
+use Rattle.newt_spec_store.specs.Cost.{cost}
+use Rattle.newt_spec_store.specs.Lies.{Places, only, has_no_large}
+use Rattle.newt_spec_store.specs.OfImage.{blocks_of}
+use Rattle.newt_spec_store.specs.Valid.{valid, fits, well_formed}
+use Rattle.newt_spec_store.specs.ImageStore.{store_of_image}
+use Rattle.newt_laws_images.proofs.Gathering.{image-by-objects}
+use Rattle.newt_laws_images.proofs.Whole.{lies-read}
+use Rattle.newt_laws_images.proofs.Totals.{lies-total}
+use Rattle.newt_soupdir.specs.Bare.{is_early}
+use Rattle.newt_soupdir.specs.declared.rows.Directory.{Directory}
+use Rattle.newt_entries.specs.Entry.{stream_graph}
+use Rattle.newt_entries.proofs.Streams.{reads_graphs}
+use Rattle.newt_store.specs.Stage.{is_simple, readable}
+use Rattle.newt_store.specs.Stands.{Describes}
+
+pub both : (a b : Bool) → (a && b) ≡ true → (a ≡ true) × (b ≡ true)
+both true b e = (refl, e)
+both false b e = absurd (cc)
+
+pub join : (a b : Bool) → a ≡ true → b ≡ true → (a && b) ≡ true
+join a b p q = ap (λ (x : Bool). x && b) p ∙ q
+
+fits-test : (blocks : ℕ) (s : Store) → cost s ≤ cap blocks → fits blocks s ≡ true
+fits-test blocks s low = grind (arith, nat_tests)
+
+pub is-valid : (blocks : ℕ) (s : Store) → well_formed s ≡ true → cost s ≤ cap blocks → valid blocks s ≡ true
+is-valid blocks s formed low = join (well_formed s) (fits blocks s) formed (fits-test blocks s low)
+
+only-kept : (s : Store) → is_simple s ≡ true → only is_simple (Some s) ≡ Some s
+only-kept s simple = kept (is_simple s) simple where
+  kept : (b : Bool) → b ≡ true → cond b (Some s) None ≡ Some s
+  kept true e = refl
+  kept false e = absurd (cc)
+
+-- an image that holds objects which write down a store that fits is read as this store
+pub read-back : (directory : Directory) (place : Places) (texts : Objects) (s : Store) (left : List ℕ) → HoldsObjects left texts → Describes directory place texts s → cost s ≤ cap (blocks_of left) → readable left ≡ Some s
+read-back directory place texts s left holds describes low =
+    let parts = both (is_early s) (has_no_large s) describes.simple in
+    let stored : store_of_image stream_graph left ≡ Some s =
+    image-by-objects stream_graph left holds.live texts holds.of_image holds.are
+    ∙ lies-read stream_graph texts place (blocks_of left) s reads_graphs describes.lies (is-valid (blocks_of left) s describes.formed low) parts.1 in
+    ap (only is_simple) stored ∙ only-kept s describes.simple
+
+-- as many pages as the store costs
+pub total-cost : (directory : Directory) (place : Places) (texts : Objects) (s : Store) → Describes directory place texts s → total_pages texts ≡ cost s
+total-cost directory place texts s describes = lies-total texts place s describes.lies describes.formed (both (is_early s) (has_no_large s) describes.simple).1
+
+-- an image with as many bytes
+pub same-cap : (now left : List ℕ) (n : ℕ) → length left ≡ length now → n ≤ cap (blocks_of now) → n ≤ cap (blocks_of left)
+same-cap now left n size low = subst (λ (k : ℕ). n ≤ cap (k / 4096)) (sym size) low

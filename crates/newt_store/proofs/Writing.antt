@@ -1,0 +1,121 @@
+-- What a change writes, from what is planned of it.
+use Rattle.std.proofs.Common.{IsTrue, ◌≡◌, ◌≢◌, ◌⊎◌, inl, inr, ℕ, ◌≤◌, Bool, true, false, List, length, slice_get, Option, Some, None, IsSome, Result, Ok, Err, refl, sym, ◌∙◌, ap, subst, arith, ⊎_elim}
+use Rattle.std.specs.FinMap as map
+use Rattle.std.specs.Option.{option_map}
+use Rattle.std.proofs.lemmas.Bool.{cases_eq}
+use Rattle.newt_base.specs.declared.Refusal.{Refusal}
+use Rattle.newt_base.specs.declared.Refusal.TheVariants.{Full}
+use Rattle.newt_host.specs.Moments.{Moment, image, changes, IsDurable, Leaves}
+use Rattle.newt_host.specs.Outside.{Outside}
+use Rattle.newt_host.proofs.Moments.{Leaves-start, Leaves-weaken}
+use Rattle.newt_image.specs.Pages.{Pages, Change, pages}
+use Rattle.newt_image.specs.Objects.{Extent, AreObjectsOf, joined}
+use Rattle.newt_pagebook.specs.Batch.{no_change}
+use Rattle.newt_pagebook.specs.Book.{Numbers}
+use Rattle.newt_pagebook.proofs.Tests.{some_inj}
+use Rattle.newt_objects.specs.Held.{Held, held, planned, AreOf, Texts}
+use Rattle.newt_objects.specs.Changing.{HoldsObjects, IsUnderWay}
+use Rattle.newt_objects.proofs.Changing.{start_under_way, are_still}
+use Rattle.newt_objects.proofs.Same.{texts_by}
+use Rattle.newt_shelf.specs.declared.batch.NewEntry.{NewEntry}
+use Rattle.newt_shelf.specs.declared.fault.StoreFault.{StoreFault}
+use Rattle.newt_shelf.specs.declared.fault.StoreFault.TheVariants.{Refused, Stop}
+use Rattle.newt_shelf.specs.Batch.{AreWritten}
+use Rattle.newt_shelf.specs.Commit.{AreKept, IsPlanned, IsEither, Fit}
+use Rattle.newt_shelf.specs.Faults.{RefusesOnly}
+use Rattle.newt_store.specs.declared.next.Next.{Next}
+use Rattle.newt_store.specs.Next.{WritesNext, HoldsEither}
+use Rattle.newt_store.specs.Stands.{GoesOn, IsRefused}
+
+-- ---- answers
+
+abbrev pub failed : StoreFault → Result (Unit {0}) StoreFault
+failed fault = Err fault
+
+pub full-goes-on : (fault : StoreFault) → RefusesOnly Full fault → GoesOn (failed fault) → fault ≡ Refused Full
+full-goes-on (Refused refusal) only goes = ap (λ (r : Refusal). Refused r) only
+full-goes-on (Stop stop) only goes = absurd goes
+
+pub full-refused : (fault : StoreFault) → RefusesOnly Full fault → IsRefused (failed fault) → fault ≡ Refused Full
+full-refused (Refused refusal) only goes = ap (λ (r : Refusal). Refused r) only
+full-refused (Stop stop) only goes = absurd goes
+
+pub the-fault : {fault : StoreFault} → fault ≡ Refused Full → failed fault ≡ failed (Refused Full)
+the-fault is = ap failed is
+
+pub goes-refused : (fault : StoreFault) → GoesOn (failed fault) → IsRefused (failed fault)
+goes-refused (Refused refusal) goes = tt
+goes-refused (Stop stop) goes = absurd goes
+
+-- ---- what is kept
+
+pub kept-over : (told : Bool) (objects : Held) (numbers numbers' : Numbers) (unit unit' : ℕ) (old new : Outside) → unit' ≡ unit → numbers' ≡ numbers → new.now ≡ old.now → AreKept told objects numbers unit old → AreKept told objects numbers' unit' new
+kept-over told objects numbers numbers' unit unit' old new place same now kept = subst (λ (u : ℕ). AreKept told objects numbers' u new) (sym place) (record {
+  none = kept.none;
+  are = are_still told (held objects) (held objects) numbers numbers' unit old new (λ id. refl) same (ap (λ (m : Moment). changes unit m) now) kept.are;
+})
+
+-- ---- what is planned
+
+module _ (told : Bool) (objects : Held) (numbers : Numbers) (unit : ℕ) (outside : Outside) (kept : AreKept told objects numbers unit outside) where
+  abbrev live : Pages
+  live = kept.are.live
+
+  -- objects that the image holds are those of the live pages
+  pub held-are : (before : Texts) → IsTrue told → HoldsObjects (image unit outside.now) before → AreObjectsOf live before
+  held-are before tells holds = subst (λ (m : Pages). AreObjectsOf m before) (some_inj _ _ (sym holds.of_image ∙ kept.are.are.of_image tells)) holds.are
+
+  pub start-way : (before : Texts) → AreObjectsOf live before → IsUnderWay objects no_change live before
+  start-way before are = start_under_way objects live before kept.none kept.are.is_table are
+
+  pub planned-made : (now : Held) (batch : Change) (before after : Texts) → AreObjectsOf live before → IsUnderWay now batch live after → IsPlanned told now batch numbers (image unit outside.now) before after
+  planned-made now batch before after are way = record { live = live; are = kept.are.are; were = are; way = way }
+
+some-map : {A B : Type 0} (f : A → B) (o : Option A) → IsSome o → IsSome (option_map f o)
+some-map f None some = some
+some-map f (Some x) some = refl
+
+map-some : {A B : Type 0} (f : A → B) (o : Option A) → IsSome (option_map f o) → IsSome o
+map-some f None some = some
+map-some f (Some x) some = refl
+
+is-some : {A : Type 0} (o : Option A) (x : A) → o ≡ Some x → IsSome o
+is-some o x is = subst (λ (o : Option _). IsSome o) (sym is) refl
+
+pub not-free : (o : Option Extent) → o ≡ None → IsSome o → ⊥
+not-free None none some = absurd (let no = some in cc)
+not-free (Some x) none some = absurd (cc)
+
+-- what lies where, once the plans are taken over
+module _ (objects now : Held) (batch : Change) (live : Pages) (before after : Texts) (directory : List ℕ) (entry : Option NewEntry) (gone : List ℕ)
+    (start : IsUnderWay objects no_change live before) (were : AreObjectsOf live before) (way : IsUnderWay now batch live after) (wrote : AreWritten directory entry gone before after) where
+  in-after : (id : ℕ) → IsSome (map.get after id) → IsSome (planned now id)
+  in-after id some = map-some (joined _) (planned now id) (subst (λ (o : Option (List ℕ)). IsSome o) (way.would.each id) some)
+
+  pub planned-new : (e : NewEntry) → entry ≡ Some e → IsSome (planned now e.id)
+  planned-new e is = in-after e.id (is-some (map.get after e.id) e.bytes.items (wrote.entry_is e is))
+
+  pub planned-there : ((e : NewEntry) → entry ≡ Some e → held objects e.id ≡ None) → (id : ℕ) → IsSome (held objects id) → ((k : ℕ) → slice_get gone k ≡ Some id → ⊥) → IsSome (planned now id)
+  planned-there free id there stays = in-after id (⊎_elim
+      (λ (zero : id ≡ 0). is-some (map.get after id) directory (ap (map.get after) zero ∙ wrote.directory_is))
+      (λ (other : id ≢ 0). subst (λ (o : Option (List ℕ)). IsSome o)
+      (sym (wrote.others id other (λ e is same. not-free (held objects id) (ap (held objects) (sym same) ∙ free e is) there) stays ∙ texts_by live (held objects) before were start.is_table id))
+      (some-map (joined live) (held objects id) there))
+      (cases_eq id 0))
+
+-- ---- at every moment
+
+pub either-next : (now : List ℕ) (next : Next) (gone : List ℕ) (before after : Texts) (left : List ℕ) → WritesNext next gone before after → IsEither now before after left → HoldsEither now next gone before left
+either-next now next gone before after left wrote e = record {
+  size = e.size;
+  holds = ⊎_elim (λ was. inl was) (λ is. inr (after, is.0, wrote, is.1)) e.holds;
+}
+
+pub leaves-next : (unit : ℕ) (now : List ℕ) (next : Next) (gone : List ℕ) (before after : Texts) (old new : Moment) → WritesNext next gone before after → Leaves unit (IsEither now before after) old new → Leaves unit (HoldsEither now next gone before) old new
+leaves-next unit now next gone before after old new wrote leaves = Leaves-weaken (λ left e. either-next now next gone before after left wrote e) leaves
+
+-- nothing was written yet
+pub leaves-none : (unit : ℕ) (next : Next) (gone : List ℕ) (before : Texts) (old : Moment) → HoldsObjects (image unit old) before → IsDurable unit old → Leaves unit (HoldsEither (image unit old) next gone before) old old
+leaves-none unit next gone before old holds durable = Leaves-start (λ left may.
+    let same : left ≡ image unit old = durable left may in
+    record { size = ap (λ (l : List ℕ). length l) same; holds = inl (subst (λ (l : List ℕ). HoldsObjects l before) (sym same) holds) })

@@ -1,0 +1,140 @@
+use Rattle.std.proofs.Common.{IsTrue, ◌≡◌, ℕ, List, Some, IsSome, refl, sym, ◌∙◌, ap, subst, Option}
+use Rattle.newt_host.specs.Moments.{Moment, image, IsDurable}
+use Rattle.newt_image.specs.Objects.{Extent}
+use Rattle.newt_image.specs.Pages.{Pages, Change}
+use Rattle.newt_objects.specs.Held.{Texts, held}
+use Rattle.newt_objects.specs.Changing.{HoldsObjects, IsUnderWay}
+use Rattle.newt_objects.proofs.TextsOf.{texts_of}
+use Rattle.newt_pagebook.specs.Batch.{no_change}
+use Rattle.newt_soupdir.specs.Bare.{bare_store}
+use Rattle.newt_spec_store.specs.Cost.{directory_bytes}
+use Rattle.newt_shelf.specs.Batch.{AreWritten}
+use Rattle.newt_shelf.specs.Commit.{AreKept}
+use Rattle.newt_store.specs.Next.{WritesNext}
+use Rattle.newt_store.proofs.Writing.{full-goes-on, the-fault, held-are, start-way, planned-made, planned-new, planned-there, leaves-next, leaves-none}
+use Rattle.newt_store.proofs.carry.write_next.Goals as goal
+
+pub returns-in_err-bytes-clause-any_moment : goal.returns-in_err-bytes-clause-any_moment
+returns-in_err-bytes-clause-any_moment g c = λ tells before holds.
+    let u : ℕ = g.P.PageBook.place c.args.book.now in
+    let old : Moment = (g.H.Host.outside c.args.host.now).now in
+    let durable : IsDurable u old = (g.met.P.PageBook.tells g.H.Host.told c.args.book.now (g.H.Host.outside c.args.host.now) c.requires.stands tells).1 in
+    leaves-none u c.args.next.now c.args.gone.now before old holds durable
+
+pub returns-in_err-plan_objects-clause-any_moment : goal.returns-in_err-plan_objects-clause-any_moment
+returns-in_err-plan_objects-clause-any_moment g c = λ tells before holds.
+    let u : ℕ = g.P.PageBook.place c.args.book.now in
+    let old : Moment = (g.H.Host.outside c.args.host.now).now in
+    let durable : IsDurable u old = (g.met.P.PageBook.tells g.H.Host.told c.args.book.now (g.H.Host.outside c.args.host.now) c.requires.stands tells).1 in
+    leaves-none u c.args.next.now c.args.gone.now before old holds durable
+
+pub plan_objects-requires-clause-none : goal.plan_objects-requires-clause-none
+plan_objects-requires-clause-none g c = c.requires.kept.none
+
+pub plan_objects-requires-clause-way : goal.plan_objects-requires-clause-way
+plan_objects-requires-clause-way g c =
+    let k = c.requires.kept in
+    let u : ℕ = g.P.PageBook.place c.args.book.now in
+    let texts = texts_of k.are.live (held c.args.objects.now) k.are.is_table in
+    let way = start-way g.H.Host.told c.args.objects.now (g.P.PageBook.numbers c.args.book.now) u (g.H.Host.outside c.args.host.now) k texts.0 texts.1 in
+    (k.are.live, texts.0, subst (λ (b : Change). IsUnderWay c.args.objects.now b k.are.live texts.0) (sym c.new-batch.ensures) way)
+
+pub commit_plans-requires-clause-planned : goal.commit_plans-requires-clause-planned
+commit_plans-requires-clause-planned g c =
+    let k = c.requires.kept in
+    let o = g.H.Host.outside c.args.host.now in
+    let u : ℕ = g.P.PageBook.place c.args.book.now in
+    let n = g.P.PageBook.numbers c.args.book.now in
+    let texts = texts_of k.are.live (held c.args.objects.now) k.are.is_table in
+    let way = subst (λ (b : Change). IsUnderWay c.args.objects.now b k.are.live texts.0) (sym c.new-batch.ensures) (start-way g.H.Host.told c.args.objects.now n u o k texts.0 texts.1) in
+    let made = c.in_ok-plan_objects.ensures.way k.are.live texts.0 way in
+    (texts.0, made.0, planned-made g.H.Host.told c.args.objects.now n u o k c.plan_objects.new.objects c.plan_objects.new.batch texts.0 made.0 texts.1 made.1)
+
+pub returns-in-Ok-clause-kept : goal.returns-in-Ok-clause-kept
+returns-in-Ok-clause-kept g c = λ goes.
+    let o = g.H.Host.outside c.commit_plans.new.host in
+    let u : ℕ = g.P.PageBook.place c.args.book.now in
+    subst (λ (v : ℕ). AreKept g.H.Host.told c.commit_plans.new.objects (g.P.PageBook.numbers c.commit_plans.new.book) v o) (sym c.commit_plans.ensures.place) c.in-Ok.ensures.kept
+
+pub returns-clause-kept : goal.returns-clause-kept
+returns-clause-kept g c = λ goes.
+    let o = g.H.Host.outside c.commit_plans.new.host in
+    subst (λ (v : ℕ). AreKept g.H.Host.told c.commit_plans.new.objects (g.P.PageBook.numbers c.commit_plans.new.book) v o) (sym c.commit_plans.ensures.place)
+    (c.in-Err.ensures.refused (the-fault (full-goes-on c.in-Err.fault c.in-Err.ensures.only goes))).1
+
+pub returns-in-Ok-clause-new : goal.returns-in-Ok-clause-new
+returns-in-Ok-clause-new g c = λ e is.
+    let k = c.requires.kept in
+    let o = g.H.Host.outside c.args.host.now in
+    let u : ℕ = g.P.PageBook.place c.args.book.now in
+    let n = g.P.PageBook.numbers c.args.book.now in
+    let texts = texts_of k.are.live (held c.args.objects.now) k.are.is_table in
+    let start = start-way g.H.Host.told c.args.objects.now n u o k texts.0 texts.1 in
+    let made = c.in_ok-plan_objects.ensures.way k.are.live texts.0 (subst (λ (b : Change). IsUnderWay c.args.objects.now b k.are.live texts.0) (sym c.new-batch.ensures) start) in
+    subst (λ (x : Option Extent). IsSome x) (sym (c.in-Ok.ensures.held e.id))
+    (planned-new c.args.objects.now c.plan_objects.new.objects c.plan_objects.new.batch k.are.live texts.0 made.0 _ c.args.next.now.entry c.args.gone.now start texts.1 made.1 made.2 e is)
+
+pub returns-in-Ok-clause-there : goal.returns-in-Ok-clause-there
+returns-in-Ok-clause-there g c = λ id there stays.
+    let k = c.requires.kept in
+    let o = g.H.Host.outside c.args.host.now in
+    let u : ℕ = g.P.PageBook.place c.args.book.now in
+    let n = g.P.PageBook.numbers c.args.book.now in
+    let texts = texts_of k.are.live (held c.args.objects.now) k.are.is_table in
+    let start = start-way g.H.Host.told c.args.objects.now n u o k texts.0 texts.1 in
+    let made = c.in_ok-plan_objects.ensures.way k.are.live texts.0 (subst (λ (b : Change). IsUnderWay c.args.objects.now b k.are.live texts.0) (sym c.new-batch.ensures) start) in
+    subst (λ (x : Option Extent). IsSome x) (sym (c.in-Ok.ensures.held id))
+    (planned-there c.args.objects.now c.plan_objects.new.objects c.plan_objects.new.batch k.are.live texts.0 made.0 _ c.args.next.now.entry c.args.gone.now start texts.1 made.1 made.2 c.requires.next.free id there stays)
+
+pub returns-in-Ok-clause-holds : goal.returns-in-Ok-clause-holds
+returns-in-Ok-clause-holds g c = λ tells before holds.
+    let k = c.requires.kept in
+    let o = g.H.Host.outside c.args.host.now in
+    let u : ℕ = g.P.PageBook.place c.args.book.now in
+    let n = g.P.PageBook.numbers c.args.book.now in
+    let are = held-are g.H.Host.told c.args.objects.now n u o k before tells holds in
+    let start = start-way g.H.Host.told c.args.objects.now n u o k before are in
+    let made = c.in_ok-plan_objects.ensures.way k.are.live before (subst (λ (b : Change). IsUnderWay c.args.objects.now b k.are.live before) (sym c.new-batch.ensures) start) in
+    let p = planned-made g.H.Host.told c.args.objects.now n u o k c.plan_objects.new.objects c.plan_objects.new.batch before made.0 are made.1 in
+    let done = c.in-Ok.ensures.holds tells before made.0 p in
+    let wrote : WritesNext c.args.next.now c.args.gone.now before made.0 = subst (λ (l : List ℕ). AreWritten l c.args.next.now.entry c.args.gone.now before made.0) (c.deref.ensures.value ∙ c.in_ok-bytes.ensures) made.2 in
+    (made.0, done.0, wrote, done.1)
+
+pub returns-clause-full : goal.returns-clause-full
+returns-clause-full g c = λ is tells before holds.
+    let k = c.requires.kept in
+    let o = g.H.Host.outside c.args.host.now in
+    let u : ℕ = g.P.PageBook.place c.args.book.now in
+    let n = g.P.PageBook.numbers c.args.book.now in
+    let are = held-are g.H.Host.told c.args.objects.now n u o k before tells holds in
+    let start = start-way g.H.Host.told c.args.objects.now n u o k before are in
+    let made = c.in_ok-plan_objects.ensures.way k.are.live before (subst (λ (b : Change). IsUnderWay c.args.objects.now b k.are.live before) (sym c.new-batch.ensures) start) in
+    let p = planned-made g.H.Host.told c.args.objects.now n u o k c.plan_objects.new.objects c.plan_objects.new.batch before made.0 are made.1 in
+    let wrote : WritesNext c.args.next.now c.args.gone.now before made.0 = subst (λ (l : List ℕ). AreWritten l c.args.next.now.entry c.args.gone.now before made.0) (c.deref.ensures.value ∙ c.in_ok-bytes.ensures) made.2 in
+    (made.0, wrote, c.in-Err.ensures.full is tells before made.0 p)
+
+pub returns-in-Ok-clause-any_moment : goal.returns-in-Ok-clause-any_moment
+returns-in-Ok-clause-any_moment g c = λ tells before holds.
+    let k = c.requires.kept in
+    let o = g.H.Host.outside c.args.host.now in
+    let u : ℕ = g.P.PageBook.place c.args.book.now in
+    let n = g.P.PageBook.numbers c.args.book.now in
+    let are = held-are g.H.Host.told c.args.objects.now n u o k before tells holds in
+    let start = start-way g.H.Host.told c.args.objects.now n u o k before are in
+    let made = c.in_ok-plan_objects.ensures.way k.are.live before (subst (λ (b : Change). IsUnderWay c.args.objects.now b k.are.live before) (sym c.new-batch.ensures) start) in
+    let p = planned-made g.H.Host.told c.args.objects.now n u o k c.plan_objects.new.objects c.plan_objects.new.batch before made.0 are made.1 in
+    let wrote : WritesNext c.args.next.now c.args.gone.now before made.0 = subst (λ (l : List ℕ). AreWritten l c.args.next.now.entry c.args.gone.now before made.0) (c.deref.ensures.value ∙ c.in_ok-bytes.ensures) made.2 in
+    leaves-next u (image u o.now) c.args.next.now c.args.gone.now before made.0 o.now (g.H.Host.outside c.commit_plans.new.host).now wrote (c.commit_plans.ensures.any_moment tells before made.0 p)
+
+pub returns-clause-any_moment : goal.returns-clause-any_moment
+returns-clause-any_moment g c = λ tells before holds.
+    let k = c.requires.kept in
+    let o = g.H.Host.outside c.args.host.now in
+    let u : ℕ = g.P.PageBook.place c.args.book.now in
+    let n = g.P.PageBook.numbers c.args.book.now in
+    let are = held-are g.H.Host.told c.args.objects.now n u o k before tells holds in
+    let start = start-way g.H.Host.told c.args.objects.now n u o k before are in
+    let made = c.in_ok-plan_objects.ensures.way k.are.live before (subst (λ (b : Change). IsUnderWay c.args.objects.now b k.are.live before) (sym c.new-batch.ensures) start) in
+    let p = planned-made g.H.Host.told c.args.objects.now n u o k c.plan_objects.new.objects c.plan_objects.new.batch before made.0 are made.1 in
+    let wrote : WritesNext c.args.next.now c.args.gone.now before made.0 = subst (λ (l : List ℕ). AreWritten l c.args.next.now.entry c.args.gone.now before made.0) (c.deref.ensures.value ∙ c.in_ok-bytes.ensures) made.2 in
+    leaves-next u (image u o.now) c.args.next.now c.args.gone.now before made.0 o.now (g.H.Host.outside c.commit_plans.new.host).now wrote (c.commit_plans.ensures.any_moment tells before made.0 p)

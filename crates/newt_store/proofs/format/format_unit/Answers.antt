@@ -1,0 +1,34 @@
+use Rattle.std.proofs.Common.{◌≡◌, ◌*◌, ◌≤◌, ℕ, List, length, refl, sym, ◌∙◌, ap, subst, arith}
+use Rattle.std.specs.FinMap as map
+use Rattle.newt_host.specs.Moments.{image}
+use Rattle.newt_image.specs.Pages.{Change}
+use Rattle.newt_pagebook.specs.Book.{Anything}
+use Rattle.newt_host.proofs.Moments.{Leaves-start}
+use Rattle.newt_objects.specs.Changing.{IsUnderWay, HoldsObjects}
+use Rattle.newt_spec_store.specs.Cost.{directory_bytes}
+use Rattle.newt_spec_store.specs.OfImage.{blocks_of}
+use Rattle.newt_spec_store.specs.Store.{Store}
+use Rattle.newt_store.specs.Change.{new_store}
+use Rattle.newt_shelf.proofs.Committing.{blocks-are}
+use Rattle.newt_store.proofs.Fresh.{start-empty, formatted-holds, fresh-read, short-name}
+use Rattle.newt_store.proofs.format.format_unit.Goals as goal
+
+pub returns-in_err-directory-clause-any_moment : goal.returns-in_err-directory-clause-any_moment
+returns-in_err-directory-clause-any_moment g c = λ tells. Leaves-start {P = Anything} (λ left may. tt)
+
+pub returns-in_err-bytes-clause-any_moment : goal.returns-in_err-bytes-clause-any_moment
+returns-in_err-bytes-clause-any_moment g c = λ tells. Leaves-start {P = Anything} (λ left may. tt)
+
+pub returns-in_err-plan_put-clause-any_moment : goal.returns-in_err-plan_put-clause-any_moment
+returns-in_err-plan_put-clause-any_moment g c = λ tells. Leaves-start {P = Anything} (λ left may. tt)
+
+pub returns-in-Ok-clause-formatted : goal.returns-in-Ok-clause-formatted
+returns-in-Ok-clause-formatted g c = λ tells.
+    let img : List ℕ = image c.args.unit (g.H.Host.outside c.format.new.host).now in
+    let start : IsUnderWay c.empty-objects.result c.new-batch.result map.empty map.empty = subst (λ (b : Change). IsUnderWay c.empty-objects.result b map.empty map.empty) (sym c.new-batch.ensures) (start-empty c.empty-objects.result c.empty-objects.ensures.none c.empty-objects.ensures.no_plans) in
+    let way = c.in_ok-plan_put.ensures.under_way map.empty map.empty start in
+    let holds : HoldsObjects img (map.insert map.empty 0 c.deref.result.now) = formatted-holds c.plan_put.new.self c.plan_put.new.batch (map.insert map.empty 0 c.deref.result.now) img way (c.in-Ok.ensures.formatted tells).0 in
+    let bytes : c.deref.result.now ≡ directory_bytes (new_store c.args.name.now c.args.sig) = c.deref.ensures.value ∙ c.in_ok-bytes.ensures ∙ ap (λ (s : Store). directory_bytes s) c.in_ok-directory.ensures.made in
+    let blocks : blocks_of img ≡ (g.H.Host.outside c.args.host.now).blocks c.args.unit = blocks-are img ((g.H.Host.outside c.format.new.host).blocks c.args.unit) (g.met.H.Host.sized c.format.new.host c.args.unit tells) ∙ c.format.ensures.alone.cards.blocks c.args.unit in
+    let many : 13 ≤ blocks_of img = omega (arith, blocks, c.requires.enough) in
+    fresh-read c.args.name.now c.args.sig c.deref.result.now img c.new_directory.ensures.named (short-name c.args.name.now c.new_directory.ensures.named) c.requires.few many bytes holds

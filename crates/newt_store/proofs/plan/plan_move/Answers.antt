@@ -1,0 +1,53 @@
+use Rattle.std.proofs.Common.{IsTrue, ◌≡◌, ℕ, ◌<◌, Bool, true, false, not, List, [], Option, Some, None, refl, sym, ◌∙◌, ap, subst, arith}
+use Rattle.std.specs.Option.{is_some}
+use Rattle.newt_graph.specs.Graph.{RawGraph}
+use Rattle.newt_spec_store.specs.Store.{Entry}
+use Rattle.newt_spec_store.specs.Image.{entry_bytes}
+use Rattle.newt_soupdir.specs.Bare.{bare_soup, bare_store}
+use Rattle.newt_soupdir.specs.Changes.{soup_of}
+use Rattle.newt_entries.specs.Entry.{said}
+use Rattle.newt_shelf.specs.Places.{place_of}
+use Rattle.newt_store.specs.declared.next.Gone.TheVariants.{OneEntry}
+use Rattle.newt_store.specs.Next.{IsAdding}
+use Rattle.newt_store.proofs.Planned.{seen-some}
+use Rattle.newt_store.proofs.Adding.{row-is, row-room, last-ids}
+use Rattle.newt_store.proofs.Moving.{move-no-source, move-no-target, move-no-entry, move-ids, move-planned}
+use Rattle.newt_store.proofs.Entries.{found-at, read-same}
+use Rattle.newt_store.proofs.plan.plan_move.Goals as goal
+
+pub returns-then-is_none-clause-refused : goal.returns-then-is_none-clause-refused
+returns-then-is_none-clause-refused g c = λ tells s stands.
+    move-no-source c.args.catalog.now stands.texts s stands.describes c.args.source c.args.uid c.args.target (seen-some _ c.soup_of.result (soup_of c.args.source (bare_store c.args.catalog.now.directory)) c.soup_of.ensures ∙ c.is_none.ensures ∙ ap not c.if-is_none.true)
+
+pub returns-in_default-clause-refused : goal.returns-in_default-clause-refused
+returns-in_default-clause-refused g c = λ tells s stands.
+    move-no-target c.args.catalog.now stands.texts s stands.describes c.args.source c.args.uid c.args.target (seen-some _ c.soup_of-2.result (soup_of c.args.target (bare_store c.args.catalog.now.directory)) c.soup_of-2.ensures ∙ ap is_some c.in_default.is)
+
+pub returns-in_default-get-clause-refused : goal.returns-in_default-get-clause-refused
+returns-in_default-get-clause-refused g c = λ tells s stands.
+    move-no-entry c.args.catalog.now stands.texts s stands.describes c.args.source c.args.uid c.args.target (seen-some _ c.soup_of.result (soup_of c.args.source (bare_store c.args.catalog.now.directory)) c.soup_of.ensures ∙ c.is_none.ensures ∙ ap not c.if-is_none.false) (ap is_some (sym c.in-Some.ensures)) (ap is_some (sym c.get.ensures ∙ c.in_default-get.is))
+
+pub returns-then-row-eq-LAST_ID-clause-refused : goal.returns-then-row-eq-LAST_ID-clause-refused
+returns-then-row-eq-LAST_ID-clause-refused g c = λ tells s stands.
+    move-ids c.args.catalog.now stands.texts s stands.describes c.args.source c.args.uid c.args.target (seen-some _ c.soup_of.result (soup_of c.args.source (bare_store c.args.catalog.now.directory)) c.soup_of.ensures ∙ c.is_none.ensures ∙ ap not c.if-is_none.false) (ap is_some (sym c.in-Some.ensures)) (ap is_some (sym c.get.ensures ∙ c.in-Some-get.is))
+    (last-ids c.args.catalog.now stands.texts s c.args.target c.in-Some.row.now stands.describes (sym c.in-Some.ensures) c.if-row-eq-LAST_ID.true)
+
+pub next_with-requires-clause-row : goal.next_with-requires-clause-row
+next_with-requires-clause-row g c = (row-is (bare_store c.args.catalog.now.directory) c.args.target c.in-Some.row.now (sym c.in-Some.ensures)).1
+
+pub next_with-requires-clause-room : goal.next_with-requires-clause-room
+next_with-requires-clause-room g c = row-room (bare_store c.args.catalog.now.directory) c.args.target (bare_soup c.in-Some.row.now) c.requires.sound.formed (sym c.in-Some.ensures) c.if-row-eq-LAST_ID.false
+
+pub returns-clause-planned : goal.returns-clause-planned
+returns-clause-planned g c = λ tells s stands.
+    let cat = c.args.catalog.now in
+    let row = c.in-Some.row.now in
+    let at : place_of cat.places c.args.source c.args.uid ≡ Some c.in-Some-get.id = sym c.get.ensures ∙ c.in-Some-get.is in
+    let time : c.args.now < 4294967296 = omega (arith, c.ranges.now.fits) in
+    let f = found-at cat.directory (place_of cat.places) stands.texts s stands.describes c.args.source c.args.uid c.in-Some-get.id at in
+    let same = read-same cat.directory (place_of cat.places) stands.texts s stands.describes c.args.source c.args.uid c.in-Some-get.id f (said c.in_ok-entry.entry)
+    (c.in_ok-entry.ensures.row tells stands.texts (entry_bytes c.args.source f.entry []) stands.holds f.text) in
+    let graph : c.in_ok-entry.entry.skeleton ≡ f.entry.graph = ap (λ (x : ℕ × Entry). x.1.graph) same in
+    move-planned cat stands.texts s c.args.source c.args.uid c.args.target c.in-Some-get.id c.args.now f.entry row c.in_ok-next.next c.requires.sound.places stands.describes (seen-some _ c.soup_of.result (soup_of c.args.source (bare_store c.args.catalog.now.directory)) c.soup_of.ensures ∙ c.is_none.ensures ∙ ap not c.if-is_none.false) (sym c.in-Some.ensures)
+    (row-is (bare_store c.args.catalog.now.directory) c.args.target row (sym c.in-Some.ensures)).0 at f.found f.is_in f.of_uid time f.plain c.if-row-eq-LAST_ID.false (row-room (bare_store c.args.catalog.now.directory) c.args.target (bare_soup row) c.requires.sound.formed (sym c.in-Some.ensures) c.if-row-eq-LAST_ID.false)
+    (subst (λ (x : RawGraph). IsAdding cat row.sig row.next_uid c.args.now x (OneEntry c.args.source c.args.uid) c.in_ok-next.next) graph c.in_ok-next.ensures.adds)

@@ -1,0 +1,126 @@
+use Rattle.std.proofs.Common.{IsTrue, ◌≡◌, ◌≤◌, ◌<◌, ℕ, List, Some, None, refl, sym, ◌∙◌, ap, subst, IfErr}
+use Rattle.newt_host.specs.Moments.{Moment, image, IsDurable, Leaves}
+use Rattle.newt_image.specs.Pages.{cap}
+use Rattle.newt_base.specs.Refusals.{first_of}
+use Rattle.newt_spec_store.specs.Cost.{cost}
+use Rattle.newt_spec_store.specs.Store.{Store as PlainStore}
+use Rattle.newt_spec_store.specs.OfImage.{blocks_of}
+use Rattle.newt_store.specs.Change.{changed_by, first_checks, refusal_of}
+use Rattle.newt_store.specs.Next.{IsEitherStore}
+use Rattle.newt_store.specs.Stands.{StandsFor, IsSound, IsBeforeOrChanged, RefusesWith}
+use Rattle.newt_store.proofs.Applying.{none-due, full-due, refuses-full, refuses-first, from-err, sound-over, same-image, leaves-changed, leaves-before}
+use Rattle.newt_store.proofs.store.Store.apply.Goals as goal
+
+pub returns-in_err-next-clause-sound : goal.returns-in_err-next-clause-sound
+returns-in_err-next-clause-sound g c = λ goes.
+    let o = g.H.Host.outside in
+    sound-over g.H.Host.told c.args.self.now.catalog (g.P.PageBook.numbers c.args.self.now.book) (g.P.PageBook.numbers c.plan_change.new.book) (g.P.PageBook.place c.args.self.now.book) (g.P.PageBook.place c.plan_change.new.book)
+    (o c.args.host.now) (o c.plan_change.new.host) c.plan_change.ensures.same.0 c.plan_change.ensures.same.1 c.plan_change.ensures.moment c.requires.sound
+
+pub returns-in_err-next-clause-refused : goal.returns-in_err-next-clause-refused
+returns-in_err-next-clause-refused g c = λ tells s stands. from-err (RefusesWith (refusal_of c.args.change (blocks_of (image (g.P.PageBook.place c.args.self.now.book) (g.H.Host.outside c.args.host.now).now)) c.args.now s)) c.from_residual.result c.in_err-next.field-0.0 c.from_residual.ensures.1
+    (refuses-first c.args.change (blocks_of (image (g.P.PageBook.place c.args.self.now.book) (g.H.Host.outside c.args.host.now).now)) c.args.now s c.in_err-next.field-0.0 (c.in_err-next.ensures.refused tells s stands))
+
+pub returns-in_err-next-clause-any_moment : goal.returns-in_err-next-clause-any_moment
+returns-in_err-next-clause-any_moment g c = λ tells s stands.
+    let o = g.H.Host.outside in
+    let u : ℕ = g.P.PageBook.place c.args.self.now.book in
+    leaves-before c.args.self.now.catalog c.args.change c.args.now (blocks_of (image u (o c.args.host.now).now)) s u (o c.args.host.now).now (o c.plan_change.new.host).now c.plan_change.ensures.moment stands
+    (g.met.P.PageBook.tells g.H.Host.told c.args.self.now.book (o c.args.host.now) c.requires.stands tells).1
+
+pub carry_out-requires-clause-sound : goal.carry_out-requires-clause-sound
+carry_out-requires-clause-sound g c =
+    let o = g.H.Host.outside in
+    sound-over g.H.Host.told c.args.self.now.catalog (g.P.PageBook.numbers c.args.self.now.book) (g.P.PageBook.numbers c.plan_change.new.book) (g.P.PageBook.place c.args.self.now.book) (g.P.PageBook.place c.plan_change.new.book)
+    (o c.args.host.now) (o c.plan_change.new.host) c.plan_change.ensures.same.0 c.plan_change.ensures.same.1 c.plan_change.ensures.moment c.requires.sound
+
+pub returns-in-Ok-clause-accepted : goal.returns-in-Ok-clause-accepted
+returns-in-Ok-clause-accepted g c = λ tells s stands.
+    let o = g.H.Host.outside in
+    let u : ℕ = g.P.PageBook.place c.args.self.now.book in
+    let u' : ℕ = g.P.PageBook.place c.plan_change.new.book in
+    let m : Moment = (o c.args.host.now).now in
+    let m' : Moment = (o c.plan_change.new.host).now in
+    let e : image u' m' ≡ image u m = same-image u u' m m' c.plan_change.ensures.same.0 c.plan_change.ensures.moment in
+    let cat = c.args.self.now.catalog in
+    let stands' : StandsFor cat s (image u' m') = subst (λ (b : List ℕ). StandsFor cat s b) (sym e) stands in
+    let t : PlainStore = changed_by c.args.change c.args.now s in
+    let plan = c.in_ok-next.ensures.planned tells s stands in
+    none-due c.args.change (blocks_of (image u m)) c.args.now s plan.accepted (subst (λ (b : List ℕ). cost t ≤ cap (blocks_of b)) e (c.in-Ok.ensures.fits tells s t stands' plan.turns))
+
+pub returns-in-Ok-clause-changed : goal.returns-in-Ok-clause-changed
+returns-in-Ok-clause-changed g c = λ tells s stands.
+    let o = g.H.Host.outside in
+    let u : ℕ = g.P.PageBook.place c.args.self.now.book in
+    let u' : ℕ = g.P.PageBook.place c.plan_change.new.book in
+    let m : Moment = (o c.args.host.now).now in
+    let m' : Moment = (o c.plan_change.new.host).now in
+    let e : image u' m' ≡ image u m = same-image u u' m m' c.plan_change.ensures.same.0 c.plan_change.ensures.moment in
+    let cat = c.args.self.now.catalog in
+    let stands' : StandsFor cat s (image u' m') = subst (λ (b : List ℕ). StandsFor cat s b) (sym e) stands in
+    let t : PlainStore = changed_by c.args.change c.args.now s in
+    let plan = c.in_ok-next.ensures.planned tells s stands in
+    subst (λ (v : ℕ). StandsFor c.carry_out.new.catalog t (image v (o c.carry_out.new.host).now)) c.plan_change.ensures.same.0 (c.in-Ok.ensures.changed tells s t stands' plan.turns)
+
+pub returns-in-Ok-clause-any_moment : goal.returns-in-Ok-clause-any_moment
+returns-in-Ok-clause-any_moment g c = λ tells s stands.
+    let o = g.H.Host.outside in
+    let u : ℕ = g.P.PageBook.place c.args.self.now.book in
+    let u' : ℕ = g.P.PageBook.place c.plan_change.new.book in
+    let m : Moment = (o c.args.host.now).now in
+    let m' : Moment = (o c.plan_change.new.host).now in
+    let e : image u' m' ≡ image u m = same-image u u' m m' c.plan_change.ensures.same.0 c.plan_change.ensures.moment in
+    let cat = c.args.self.now.catalog in
+    let stands' : StandsFor cat s (image u' m') = subst (λ (b : List ℕ). StandsFor cat s b) (sym e) stands in
+    let t : PlainStore = changed_by c.args.change c.args.now s in
+    let plan = c.in_ok-next.ensures.planned tells s stands in
+    leaves-changed c.args.change c.args.now s u (image u m) m (o c.carry_out.new.host).now plan.accepted
+    (subst (λ (k : Moment). Leaves u (IsEitherStore (image u m) s t) k (o c.carry_out.new.host).now) c.plan_change.ensures.moment
+    (subst (λ (v : ℕ). Leaves v (IsEitherStore (image u m) s t) m' (o c.carry_out.new.host).now) c.plan_change.ensures.same.0
+    (subst (λ (b : List ℕ). Leaves u' (IsEitherStore b s t) m' (o c.carry_out.new.host).now) e (c.carry_out.ensures.any_moment tells s t stands' plan.turns))))
+
+pub returns-in-Err-clause-any_moment : goal.returns-in-Err-clause-any_moment
+returns-in-Err-clause-any_moment g c = λ tells s stands.
+    let o = g.H.Host.outside in
+    let u : ℕ = g.P.PageBook.place c.args.self.now.book in
+    let u' : ℕ = g.P.PageBook.place c.plan_change.new.book in
+    let m : Moment = (o c.args.host.now).now in
+    let m' : Moment = (o c.plan_change.new.host).now in
+    let e : image u' m' ≡ image u m = same-image u u' m m' c.plan_change.ensures.same.0 c.plan_change.ensures.moment in
+    let cat = c.args.self.now.catalog in
+    let stands' : StandsFor cat s (image u' m') = subst (λ (b : List ℕ). StandsFor cat s b) (sym e) stands in
+    let t : PlainStore = changed_by c.args.change c.args.now s in
+    let plan = c.in_ok-next.ensures.planned tells s stands in
+    leaves-changed c.args.change c.args.now s u (image u m) m (o c.carry_out.new.host).now plan.accepted
+    (subst (λ (k : Moment). Leaves u (IsEitherStore (image u m) s t) k (o c.carry_out.new.host).now) c.plan_change.ensures.moment
+    (subst (λ (v : ℕ). Leaves v (IsEitherStore (image u m) s t) m' (o c.carry_out.new.host).now) c.plan_change.ensures.same.0
+    (subst (λ (b : List ℕ). Leaves u' (IsEitherStore b s t) m' (o c.carry_out.new.host).now) e (c.carry_out.ensures.any_moment tells s t stands' plan.turns))))
+
+pub returns-in-Err-clause-refused : goal.returns-in-Err-clause-refused
+returns-in-Err-clause-refused g c = λ tells s stands.
+    let o = g.H.Host.outside in
+    let u : ℕ = g.P.PageBook.place c.args.self.now.book in
+    let u' : ℕ = g.P.PageBook.place c.plan_change.new.book in
+    let m : Moment = (o c.args.host.now).now in
+    let m' : Moment = (o c.plan_change.new.host).now in
+    let e : image u' m' ≡ image u m = same-image u u' m m' c.plan_change.ensures.same.0 c.plan_change.ensures.moment in
+    let cat = c.args.self.now.catalog in
+    let stands' : StandsFor cat s (image u' m') = subst (λ (b : List ℕ). StandsFor cat s b) (sym e) stands in
+    let t : PlainStore = changed_by c.args.change c.args.now s in
+    let plan = c.in_ok-next.ensures.planned tells s stands in
+    refuses-full c.in-Err.fault c.in-Err.ensures.only (λ is. full-due c.args.change (blocks_of (image u m)) c.args.now s plan.accepted stands.fits
+    (subst (λ (b : List ℕ). cap (blocks_of b) < cost t) e (c.in-Err.ensures.full is tells s t stands' plan.turns)))
+
+pub returns-in-Err-clause-still : goal.returns-in-Err-clause-still
+returns-in-Err-clause-still g c = λ tells s stands is.
+    let o = g.H.Host.outside in
+    let u : ℕ = g.P.PageBook.place c.args.self.now.book in
+    let u' : ℕ = g.P.PageBook.place c.plan_change.new.book in
+    let m : Moment = (o c.args.host.now).now in
+    let m' : Moment = (o c.plan_change.new.host).now in
+    let e : image u' m' ≡ image u m = same-image u u' m m' c.plan_change.ensures.same.0 c.plan_change.ensures.moment in
+    let cat = c.args.self.now.catalog in
+    let stands' : StandsFor cat s (image u' m') = subst (λ (b : List ℕ). StandsFor cat s b) (sym e) stands in
+    let t : PlainStore = changed_by c.args.change c.args.now s in
+    let plan = c.in_ok-next.ensures.planned tells s stands in
+    subst (λ (b : List ℕ). StandsFor c.carry_out.new.catalog s b) e (c.in-Err.ensures.still is tells s t stands' plan.turns)

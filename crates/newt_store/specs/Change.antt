@@ -1,0 +1,101 @@
+-- What each change does to a plain store, and what it is refused for. Soups are named by their signatures. What the changes do to stores, soups and entries
+-- is Newton's (Newton Programmer's Guide 2.0); the refusals and their order are this project's own.
+use Rattle.std.specs.Prelude.{ℕ, ◌+◌, ◌*◌, Bool, true, false, not, ◌==◌, ◌||◌, nat_lt, nat_le, List, [], ◌∷◌, ◌++◌, length, Option, Some, None, is_some, is_none, option_map, option_and_then, unwrap_or}
+use Rattle.newt_base.specs.declared.Refusal.{Refusal}
+use Rattle.newt_base.specs.declared.Refusal.TheVariants.{Soup as NoSoup, Exists, Entry as NoEntry, Notframe, Limit, Size, Ids, Full}
+use Rattle.newt_base.specs.Refusals.{Checks, first_of}
+use Rattle.newt_image.specs.Pages.{cap}
+use Rattle.newt_image.specs.Objects.{pages_for}
+use Rattle.newt_graph.specs.Graph.{RawGraph}
+use Rattle.newt_spec_graph.specs.Graph.{is_frame, object}
+use Rattle.newt_spec_store.specs.Store.{Entry, Soup, Store, soup_named, entry_of, change_soup, make_soup, drop_soup, add_entry, remove_entry}
+use Rattle.newt_spec_store.specs.Cost.{cost, skeleton_length, entry_pages, directory_bytes}
+use Rattle.newt_spec_store.specs.Lies.{graph_has_no_large}
+use Rattle.newt_soupdir.specs.Changes.{soup_of}
+use Rattle.newt_store.specs.declared.change.Change.{Change}
+use Rattle.newt_store.specs.declared.change.Change.TheVariants.{MakeSoup, DropSoup, Add, Remove, Move}
+
+-- the entry of this id in the soup of this signature
+abbrev pub entry_in : ℕ → ℕ → Store → Option Entry
+entry_in sig uid s = option_and_then (entry_of uid) (soup_of sig s)
+
+-- the soup of this signature, changed
+abbrev pub changed_soup : Option Soup → (Soup → Soup) → Store → Store
+changed_soup None change s = s
+changed_soup (Some p) change s = change_soup p.name change s
+
+-- the soup is gone with its entries
+abbrev pub dropped_soup : Option Soup → Store → Store
+dropped_soup None s = s
+dropped_soup (Some p) s = drop_soup p.name s
+
+-- the entry added to one soup, and then gone from another
+abbrev pub moved_entry : Option Entry → Option Soup → Option Soup → ℕ → Store → Store
+moved_entry None source target now s = s
+moved_entry (Some e) source target now s = changed_soup source (remove_entry e.uid) (changed_soup target (add_entry now e.graph) s)
+
+-- ---- the table: the store after a change at a minute, where it is not refused
+
+abbrev pub changed_by : Change → ℕ → Store → Store
+changed_by (MakeSoup name) now s = make_soup name s
+changed_by (DropSoup sig) now s = dropped_soup (soup_of sig s) s
+changed_by (Add sig graph) now s = changed_soup (soup_of sig s) (add_entry now graph) s
+changed_by (Remove sig uid) now s = changed_soup (soup_of sig s) (remove_entry uid) s
+changed_by (Move source uid target) now s = moved_entry (entry_in source uid s) (soup_of source s) (soup_of target s) now s
+
+-- the id that the next entry of a soup gets
+abbrev pub next_uid_of : Option Soup → ℕ
+next_uid_of None = 0
+next_uid_of (Some p) = p.next_uid
+
+-- what a change answers: the signature of a new soup, the id of a new entry, else 0
+abbrev pub answer_of : Change → Store → ℕ
+answer_of (MakeSoup name) s = s.next_soup
+answer_of (DropSoup sig) s = 0
+answer_of (Add sig graph) s = next_uid_of (soup_of sig s)
+answer_of (Remove sig uid) s = 0
+answer_of (Move source uid target) s = next_uid_of (soup_of target s)
+
+-- ---- the table: what a change is refused for, in the order in which it is tried
+
+-- the soup's next entry id is the last
+abbrev pub has_no_ids : Option Soup → Bool
+has_no_ids p = next_uid_of p == 536_870_911
+
+-- The skeleton's written text has more than 64,000 bytes. In this stage that is answered for a graph with large binaries too.
+abbrev pub is_too_large : RawGraph → Bool
+is_too_large g = not (graph_has_no_large g) || nat_lt 64_000 (skeleton_length g)
+
+-- all refusals but the last one, that the unit is full
+abbrev pub first_checks : Change → Store → Checks
+first_checks (MakeSoup name) s = (Exists, is_some (soup_named name s)) ∷ (Limit, nat_le 64 (length s.soups)) ∷ (Ids, s.next_soup == 65_535) ∷ []
+first_checks (DropSoup sig) s = (NoSoup, is_none (soup_of sig s)) ∷ []
+first_checks (Add sig graph) s =
+    (NoSoup, is_none (soup_of sig s)) ∷ (Notframe, not (is_frame (object graph.nodes graph.root))) ∷ (Size, is_too_large graph) ∷ (Ids, has_no_ids (soup_of sig s)) ∷ []
+first_checks (Remove sig uid) s = (NoSoup, is_none (soup_of sig s)) ∷ (NoEntry, is_none (entry_in sig uid s)) ∷ []
+first_checks (Move source uid target) s =
+    (NoSoup, is_none (soup_of source s) || is_none (soup_of target s)) ∷ (NoEntry, is_none (entry_in source uid s)) ∷ (Ids, has_no_ids (soup_of target s)) ∷ []
+
+-- the store after the change would cost more pages than a unit of so many blocks takes; what goes is never refused so
+abbrev pub full_check : Change → ℕ → ℕ → Store → Checks
+full_check (DropSoup sig) blocks now s = []
+full_check (Remove sig uid) blocks now s = []
+full_check change blocks now s = (Full, nat_lt (cap blocks) (cost (changed_by change now s))) ∷ []
+
+-- the refusals of a change, and the first that holds
+abbrev pub refusals : Change → ℕ → ℕ → Store → Checks
+refusals change blocks now s = first_checks change s ++ full_check change blocks now s
+
+abbrev pub refusal_of : Change → ℕ → ℕ → Store → Option Refusal
+refusal_of change blocks now s = first_of (refusals change blocks now s)
+
+-- ---- stores and pages
+
+-- a store of this name and signature, without soups
+abbrev pub new_store : List ℕ → ℕ → Store
+new_store name sig = record { name = name; sig = sig; next_soup = 0; soups = [] }
+
+-- the pages of an entry, if there is one
+abbrev pub pages_of_entry : Option Entry → ℕ
+pages_of_entry None = 0
+pages_of_entry (Some e) = entry_pages e

@@ -1,0 +1,109 @@
+-- What a change makes of a store, before it is written.
+use Rattle.std.specs.Prelude.{◌≡◌, ◌≢◌, ◌⊎◌, ℕ, ◌%◌, ◌≤◌, IsTrue, List, [], length, Option, Some, None}
+use Rattle.std.specs.FinMap as map
+use Rattle.newt_image.specs.Objects.{Table, Objects}
+use Rattle.newt_spec_store.specs.Store.{Store}
+use Rattle.newt_image.specs.Pages.{cap}
+use Rattle.newt_spec_store.specs.Cost.{cost, directory_bytes}
+use Rattle.newt_spec_store.specs.OfImage.{blocks_of}
+use Rattle.newt_spec_store.specs.Lies.{Places}
+use Rattle.newt_spec_store.specs.Valid.{well_formed}
+use Rattle.newt_graph.specs.Graph.{RawGraph}
+use Rattle.newt_spec_store.specs.Image.{entry_bytes}
+use Rattle.newt_objects.specs.Held.{held}
+use Rattle.newt_soupdir.specs.Changes.{take_uid_of}
+use Rattle.newt_soupdir.specs.Bare.{bare_store}
+use Rattle.newt_soupdir.specs.declared.rows.Directory.{Directory}
+use Rattle.newt_objects.specs.Changing.{HoldsObjects}
+use Rattle.newt_base.specs.Refusals.{first_of}
+use Rattle.newt_pagebook.specs.declared.book.Stop.TheVariants.{Memory, Device}
+use Rattle.newt_shelf.specs.declared.fault.StoreFault.{StoreFault}
+use Rattle.newt_shelf.specs.declared.fault.StoreFault.TheVariants.{Refused, Stop}
+use Rattle.newt_store.specs.declared.change.Change.{Change}
+use Rattle.newt_store.specs.Change.{changed_by, answer_of, first_checks}
+use Rattle.newt_shelf.specs.Commit.{Fit}
+use Rattle.newt_shelf.specs.Batch.{AreWritten}
+use Rattle.newt_store.specs.Stage.{readable}
+use Rattle.newt_store.specs.declared.catalog.Catalog.{Catalog}
+use Rattle.newt_store.specs.declared.next.Next.{Next}
+use Rattle.newt_shelf.specs.declared.batch.NewEntry.{NewEntry}
+use Rattle.newt_store.specs.declared.next.Gone.{Gone}
+use Rattle.newt_store.specs.declared.next.Gone.TheVariants.{Nothing, OneEntry, AllOf}
+use Rattle.newt_shelf.specs.Places.{place_of}
+use Rattle.newt_store.specs.Stands.{Describes}
+
+-- the entry goes
+abbrev pub Goes : Gone → ℕ → ℕ → Type 0
+Goes Nothing sig uid = ⊥
+Goes (OneEntry s u) sig uid = (s ≡ sig) × (u ≡ uid)
+Goes (AllOf s) sig uid = s ≡ sig
+
+-- the new entry is this one
+abbrev pub IsNew : Option NewEntry → ℕ → ℕ → Type 0
+IsNew None sig uid = ⊥
+IsNew (Some e) sig uid = (e.sig ≡ sig) × (e.uid ≡ uid)
+
+-- The objects after a change: the new directory, the record of the new entry, none of an entry that goes, and all others as they were.
+pub record AreNext (next : Next) (place : Places) (old new : Objects) : Type 0 where
+  pub directory : map.get new 0 ≡ Some (directory_bytes (bare_store next.directory))
+  pub entry : (e : NewEntry) → next.entry ≡ Some e → map.get new e.id ≡ Some e.bytes.items
+  pub gone : (sig uid id : ℕ) → Goes next.gone sig uid → place sig uid ≡ Some id → map.get new id ≡ None
+  pub others : (id : ℕ) → id ≢ 0 → ((e : NewEntry) → next.entry ≡ Some e → e.id ≢ id) → ((sig uid : ℕ) → Goes next.gone sig uid → place sig uid ≡ Some id → ⊥) → map.get new id ≡ map.get old id
+
+-- The places after a change: the new entry's, none of an entry that goes, and all others as they were.
+pub record ArePlacesNext (next : Next) (old new : Places) : Type 0 where
+  pub entry : (e : NewEntry) → next.entry ≡ Some e → new e.sig e.uid ≡ Some e.id
+  pub gone : (sig uid : ℕ) → Goes next.gone sig uid → new sig uid ≡ None
+  pub others : (sig uid : ℕ) → (IsNew next.entry sig uid → ⊥) → (Goes next.gone sig uid → ⊥) → new sig uid ≡ old sig uid
+
+-- What holds of what a change makes: the directory is one, and the new entry has an odd id that no object has.
+pub record IsNextOf (table : Table) (next : Next) : Type 0 where
+  pub formed : IsTrue (well_formed (bare_store next.directory))
+  pub odd : (e : NewEntry) → next.entry ≡ Some e → e.id % 2 ≡ 1
+  pub free : (e : NewEntry) → next.entry ≡ Some e → table e.id ≡ None
+
+-- How what a change makes leads from one store to another: whatever objects and places are so changed, where they wrote down the store before, they write down
+-- the one after; and the new entry has no place yet, and does not go.
+pub record Turns (catalog : Catalog) (next : Next) (s t : Store) : Type 0 where
+  pub described : (old new : Objects) (place : Places) → Describes catalog.directory (place_of catalog.places) old s → AreNext next (place_of catalog.places) old new
+      → ArePlacesNext next (place_of catalog.places) place → Describes next.directory place new t
+  pub fresh : (texts : Objects) → Describes catalog.directory (place_of catalog.places) texts s → (e : NewEntry) → next.entry ≡ Some e → place_of catalog.places e.sig e.uid ≡ None
+  pub stays : (texts : Objects) → Describes catalog.directory (place_of catalog.places) texts s → (e : NewEntry) → next.entry ≡ Some e → Goes next.gone e.sig e.uid → ⊥
+
+-- What a change makes of a store: it is not refused but perhaps for a full unit, it has the change's answer, and it leads to the changed store.
+pub record IsPlanOf (catalog : Catalog) (change : Change) (now : ℕ) (s : Store) (next : Next) : Type 0 where
+  pub accepted : first_of (first_checks change s) ≡ None
+  pub answer : next.answer ≡ answer_of change s
+  pub turns : Turns catalog next s (changed_by change now s)
+
+-- what a change writes: its directory, its new entry, and none of these objects
+abbrev pub WritesNext : Next → List ℕ → Objects → Objects → Type 0
+WritesNext next gone old new = AreWritten (directory_bytes (bare_store next.directory)) next.entry gone old new
+
+-- What a crash may leave of an image: as many bytes, which hold the objects before a change, or those after it where they fit.
+pub record HoldsEither (now : List ℕ) (next : Next) (gone : List ℕ) (before : Objects) (left : List ℕ) : Type 0 where
+  pub size : length left ≡ length now
+  pub holds : HoldsObjects left before ⊎ ((after : Objects) × HoldsObjects left after × WritesNext next gone before after × Fit after now)
+
+-- an image is read as one store, or as the other, which then fits
+abbrev pub IsEitherStore : List ℕ → Store → Store → List ℕ → Type 0
+IsEitherStore now s t left = (readable left ≡ Some s) ⊎ ((cost t ≤ cap (blocks_of now)) × (readable left ≡ Some t))
+
+-- What a new entry makes of a store: the soup's next id is taken, the entry's record has an object that none had, and the answer is the id.
+pub record IsAdding (catalog : Catalog) (sig uid now : ℕ) (graph : RawGraph) (gone : Gone) (next : Next) : Type 0 where
+  pub entry : NewEntry
+  pub is_entry : next.entry ≡ Some entry
+  pub of_sig : entry.sig ≡ sig
+  pub of_uid : entry.uid ≡ uid
+  pub bytes : entry.bytes.items ≡ entry_bytes sig (record { uid = uid; time = now; graph = graph }) []
+  pub odd : entry.id % 2 ≡ 1
+  pub free : held catalog.objects entry.id ≡ None
+  pub directory : bare_store next.directory ≡ take_uid_of sig (bare_store catalog.directory)
+  pub of_gone : next.gone ≡ gone
+  pub answer : next.answer ≡ uid
+
+-- a fault that no device has
+abbrev pub IsNoDevice : StoreFault → Type 0
+IsNoDevice (Refused refusal) = Unit {0}
+IsNoDevice (Stop Memory) = Unit {0}
+IsNoDevice (Stop (Device unit)) = ⊥

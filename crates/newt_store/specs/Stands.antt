@@ -1,0 +1,73 @@
+-- What a store on a unit stands for.
+use Rattle.std.specs.Prelude.{◌≡◌, ◌⊎◌, ℕ, ◌≤◌, Bool, IsTrue, List, Option, Some, None, Result, Ok, Err}
+use Rattle.newt_base.specs.declared.Refusal.{Refusal}
+use Rattle.newt_host.specs.Outside.{Outside}
+use Rattle.newt_image.specs.Pages.{cap}
+use Rattle.newt_image.specs.Objects.{Objects}
+use Rattle.newt_pagebook.specs.Book.{Numbers}
+use Rattle.newt_objects.specs.Held.{held}
+use Rattle.newt_objects.specs.Changing.{HoldsObjects}
+use Rattle.newt_spec_store.specs.Store.{Store, Entry as PlainEntry}
+use Rattle.newt_store.specs.declared.entry.Entry.{Entry}
+use Rattle.newt_spec_store.specs.Cost.{cost}
+use Rattle.newt_spec_store.specs.Laid.{bare}
+use Rattle.newt_spec_store.specs.Lies.{LiesIn, Places}
+use Rattle.newt_spec_store.specs.OfImage.{blocks_of}
+use Rattle.newt_spec_store.specs.Valid.{well_formed}
+use Rattle.newt_soupdir.specs.Bare.{bare_store}
+use Rattle.newt_soupdir.specs.declared.rows.Directory.{Directory}
+use Rattle.newt_shelf.specs.Places.{place_of, AreSoundPlaces}
+use Rattle.newt_store.specs.declared.catalog.Catalog.{Catalog}
+use Rattle.newt_shelf.specs.declared.fault.StoreFault.{StoreFault}
+use Rattle.newt_shelf.specs.declared.fault.StoreFault.TheVariants.{Refused, Stop}
+use Rattle.newt_shelf.specs.Commit.{AreKept}
+use Rattle.newt_store.specs.Stage.{is_simple, readable}
+use Rattle.newt_store.specs.Change.{changed_by, refusal_of}
+use Rattle.newt_store.specs.declared.change.Change.{Change}
+
+-- The objects and the places write down this store, and this is its directory.
+pub record Describes (directory : Directory) (place : Places) (texts : Objects) (s : Store) : Type 0 where
+  pub lies : LiesIn texts place s
+  pub formed : IsTrue (well_formed s)
+  pub simple : IsTrue (is_simple s)
+  pub bare_is : bare s ≡ bare_store directory
+
+-- What is kept in memory, and the image of the unit, stand for this store.
+pub record StandsFor (catalog : Catalog) (s : Store) (now : List ℕ) : Type 0 where
+  pub texts : Objects
+  pub holds : HoldsObjects now texts
+  pub describes : Describes catalog.directory (place_of catalog.places) texts s
+  pub fits : cost s ≤ cap (blocks_of now)
+
+-- What holds of the memory of a store over every host: its table is that of the live pages, its places are sound, and its directory is one.
+pub record IsSound (told : Bool) (catalog : Catalog) (numbers : Numbers) (unit : ℕ) (outside : Outside) : Type 0 where
+  pub kept : AreKept told catalog.objects numbers unit outside
+  pub places : AreSoundPlaces (held catalog.objects) (place_of catalog.places)
+  pub formed : IsTrue (well_formed (bare_store catalog.directory))
+
+-- ---- answers
+
+-- an entry that was read, as the plain store has it
+abbrev pub plain_entry : Entry → PlainEntry
+plain_entry e = record { uid = e.uid; time = e.time; graph = e.graph }
+
+-- the answer is no stop, after which the store is spent
+abbrev pub GoesOn : {T : Type 0} → Result T StoreFault → Type 0
+GoesOn (Ok value) = Unit {0}
+GoesOn (Err (Refused refusal)) = Unit {0}
+GoesOn (Err (Stop stop)) = ⊥
+
+-- the answer is a refusal
+abbrev pub IsRefused : {T : Type 0} → Result T StoreFault → Type 0
+IsRefused (Ok value) = ⊥
+IsRefused (Err (Refused refusal)) = Unit {0}
+IsRefused (Err (Stop stop)) = ⊥
+
+-- a refusal is the one that is due
+abbrev pub RefusesWith : Option Refusal → StoreFault → Type 0
+RefusesWith due (Refused refusal) = due ≡ Some refusal
+RefusesWith due (Stop stop) = Unit {0}
+
+-- an image is read as the store before a change, or, where the change is not refused, as the store after it
+abbrev pub IsBeforeOrChanged : Change → ℕ → ℕ → Store → List ℕ → Type 0
+IsBeforeOrChanged change blocks now s left = (readable left ≡ Some s) ⊎ ((refusal_of change blocks now s ≡ None) × (readable left ≡ Some (changed_by change now s)))

@@ -1,0 +1,169 @@
+// A change is written, and the memory follows.
+ghost use Rattle.std.specs.Prelude.{IsTrue, ◌≡◌, ◌%◌, ◌<◌, ◌≤◌, ℕ, slice_get, Some, None, IsSome, OnOk, IfOk, IfErr, IsErrOf};
+ghost use Rattle.newt_base.specs.declared.Refusal.TheVariants.{Full};
+ghost use Rattle.newt_host.specs.Moments.{image, Leaves};
+ghost use Rattle.newt_host.specs.Outside.{Touches};
+ghost use Rattle.newt_image.specs.Pages.{cap};
+ghost use Rattle.newt_objects.specs.Held.{held, Texts};
+ghost use Rattle.newt_objects.specs.Changing.{HoldsObjects, total_pages};
+ghost use Rattle.newt_spec_store.specs.Store.{Store as PlainStore};
+ghost use Rattle.newt_spec_store.specs.Cost.{cost};
+ghost use Rattle.newt_spec_store.specs.OfImage.{blocks_of};
+ghost use Rattle.newt_shelf.specs.declared.batch.NewEntry.{NewEntry as NewOne};
+ghost use Rattle.newt_shelf.specs.Batch.{AreOnce};
+ghost use Rattle.newt_shelf.specs.Commit.{AreKept, Fit};
+ghost use Rattle.newt_shelf.specs.Faults.{FaultsAt, RefusesOnly};
+ghost use Rattle.newt_store.specs.Next.{Goes, IsNew, IsNextOf, WritesNext, Turns, HoldsEither, IsEitherStore};
+ghost use Rattle.newt_store.specs.Stands.{StandsFor, IsSound, GoesOn, IsRefused};
+ghost use Rattle.newt_shelf.specs.Places.{place_of};
+
+use crate::catalog::Catalog;
+use crate::next::{Gone, Next};
+use newt_base::Refusal;
+use newt_host::Host;
+use newt_objects::Objects;
+use newt_pagebook::{Batch, PageBook};
+use newt_shelf::{NewEntry, PlaceTable, StoreFault, commit_plans, plan_objects};
+use newt_soupdir::write_directory;
+use std::alloc::{AllocError, Global};
+
+// The one object, or none.
+fn one_object(alloc: Global, found: Option<u32>) -> Result<Vec<u32>, AllocError>
+    ensures real { IfOk result (λ ids. (k id : ℕ) → slice_get ids.items k ≡ Some id → (found ≡ Some id) × (k ≡ 0)) }
+    ensures all { IfOk result (λ ids. (id : ℕ) → found ≡ Some id → slice_get ids.items 0 ≡ Some id) }
+{
+    let mut ids = Vec::new(alloc);
+    if let Some(id) = found {
+        ids.push(id)?;
+    }
+    Ok(ids)
+}
+
+// The objects of the entries that go.
+fn gone_objects(alloc: Global, places: &PlaceTable, gone: Gone) -> Result<Vec<u32>, AllocError>
+    requires { (sig uid other_sig other_uid id : ℕ) → place_of places.now sig uid ≡ Some id → place_of places.now other_sig other_uid ≡ Some id → (sig ≡ other_sig) × (uid ≡ other_uid) }
+    ensures real { IfOk result (λ ids. (k id : ℕ) → slice_get ids.items k ≡ Some id → (sig : ℕ) × (uid : ℕ) × Goes gone sig uid × (place_of places.now sig uid ≡ Some id)) }
+    ensures all { IfOk result (λ ids. (sig uid id : ℕ) → Goes gone sig uid → place_of places.now sig uid ≡ Some id → (k : ℕ) × (slice_get ids.items k ≡ Some id)) }
+    ensures once { IfOk result (λ ids. AreOnce ids.items) }
+{
+    match gone {
+        Gone::Nothing => Ok(Vec::new(alloc)),
+        Gone::OneEntry(sig, uid) => one_object(alloc, places.get(sig, uid)),
+        Gone::AllOf(sig) => {
+            let ids = places.objects_of(alloc, sig)?;
+            Ok(ids)
+        }
+    }
+}
+
+// Forgets the places of the entries that go.
+fn forget_gone(places: &mut PlaceTable, gone: Gone)
+    ensures gone { (sig uid : ℕ) → Goes gone sig uid → place_of places.new sig uid ≡ None }
+    ensures others { (sig uid : ℕ) → (Goes gone sig uid → ⊥) → place_of places.new sig uid ≡ place_of places.old sig uid }
+{
+    match gone {
+        Gone::Nothing => {}
+        Gone::OneEntry(sig, uid) => places.remove(sig, uid),
+        Gone::AllOf(sig) => places.remove_soup(sig),
+    }
+}
+
+// Keeps the place of the new entry, if there is one.
+fn keep_new(places: &mut PlaceTable, entry: &Option<NewEntry>) -> Result<(), AllocError>
+    ensures kept { OnOk result ((e : NewOne) → entry.now ≡ Some e → place_of places.new e.sig e.uid ≡ Some e.id) }
+    ensures others { OnOk result ((sig uid : ℕ) → (IsNew entry.now sig uid → ⊥) → place_of places.new sig uid ≡ place_of places.old sig uid) }
+{
+    match entry {
+        Some(e) => places.insert(e.sig, e.uid, e.id),
+        None => Ok(()),
+    }
+}
+
+// Forgets the place of the new entry, if there is one.
+fn forget_new(places: &mut PlaceTable, entry: &Option<NewEntry>)
+    ensures gone { (sig uid : ℕ) → IsNew entry.now sig uid → place_of places.new sig uid ≡ None }
+    ensures others { (sig uid : ℕ) → (IsNew entry.now sig uid → ⊥) → place_of places.new sig uid ≡ place_of places.old sig uid }
+{
+    if let Some(e) = entry {
+        places.remove(e.sig, e.uid);
+    }
+}
+
+// Writes what a change makes, as one batch: the directory, the new entry's record, and no record of an entry that goes.
+fn write_next<P: PageBook, H: Host>(
+    alloc: Global,
+    host: &mut H,
+    book: &mut P,
+    objects: &mut Objects,
+    next: &Next,
+    gone: &[u32],
+) -> Result<(), StoreFault>
+    requires stands { P.stands H.told book.old (H.outside host.old) }
+    requires kept { AreKept H.told objects.old (P.numbers book.old) (P.place book.old) (H.outside host.old) }
+    requires next { IsNextOf (held objects.old) next.now }
+    requires there { (k id : ℕ) → slice_get gone.now k ≡ Some id → IsSome (held objects.old id) }
+    requires odd { (k id : ℕ) → slice_get gone.now k ≡ Some id → id % 2 ≡ 1 }
+    requires once { AreOnce gone.now }
+    ensures stands { GoesOn result → P.stands H.told book.new (H.outside host.new) }
+    ensures kept { GoesOn result → AreKept H.told objects.new (P.numbers book.new) (P.place book.new) (H.outside host.new) }
+    ensures place { P.place book.new ≡ P.place book.old }
+    ensures new { OnOk result ((e : NewOne) → next.now.entry ≡ Some e → IsSome (held objects.new e.id)) }
+    ensures there { OnOk result ((id : ℕ) → IsSome (held objects.old id) → ((k : ℕ) → slice_get gone.now k ≡ Some id → ⊥) → IsSome (held objects.new id)) }
+    ensures holds { IsTrue H.told → (before : Texts) → HoldsObjects (image (P.place book.old) (H.outside host.old).now) before → OnOk result ((after : Texts) × HoldsObjects (image (P.place book.old) (H.outside host.new).now) after × WritesNext next.now gone.now before after × Fit after (image (P.place book.old) (H.outside host.old).now)) }
+    ensures full { IsErrOf result (StoreFault.Refused Refusal.Full) → IsTrue H.told → (before : Texts) → HoldsObjects (image (P.place book.old) (H.outside host.old).now) before → (after : Texts) × WritesNext next.now gone.now before after × (cap (blocks_of (image (P.place book.old) (H.outside host.old).now)) < total_pages after) }
+    ensures only { IfErr result (RefusesOnly Full) }
+    ensures still { IsRefused result → (id : ℕ) → held objects.new id ≡ held objects.old id }
+    ensures nothing_done { IsRefused result → (H.outside host.new).now ≡ (H.outside host.old).now }
+    ensures any_moment { IsTrue H.told → (before : Texts) → HoldsObjects (image (P.place book.old) (H.outside host.old).now) before → Leaves (P.place book.old) (HoldsEither (image (P.place book.old) (H.outside host.old).now) next.now gone.now before) (H.outside host.old).now (H.outside host.new).now }
+    ensures alone { Touches (P.place book.old) (H.outside host.old) (H.outside host.new) }
+    ensures cause { IfErr result (FaultsAt (P.place book.old) (H.outside host.old) (H.outside host.new)) }
+{
+    let bytes = write_directory(alloc, &next.directory)?;
+    let mut batch = Batch::new(alloc);
+    plan_objects(objects, &bytes, &next.entry, gone, &mut batch)?;
+    match commit_plans(host, book, objects, &batch) {
+        Ok(()) => Ok(()),
+        Err(fault) => Err(fault),
+    }
+}
+
+/// Makes of a store what was planned, and answers the change's answer. Full where it would cost more pages than the unit has. All memory is taken before
+/// anything is written.
+pub(crate) fn carry_out<P: PageBook, H: Host>(
+    alloc: Global,
+    host: &mut H,
+    book: &mut P,
+    catalog: &mut Catalog,
+    next: Next,
+) -> Result<u32, StoreFault>
+    requires stands { P.stands H.told book.old (H.outside host.old) }
+    requires sound { IsSound H.told catalog.old (P.numbers book.old) (P.place book.old) (H.outside host.old) }
+    requires next { IsNextOf (held catalog.old.objects) next }
+    ensures stands { GoesOn result → P.stands H.told book.new (H.outside host.new) }
+    ensures sound { GoesOn result → IsSound H.told catalog.new (P.numbers book.new) (P.place book.new) (H.outside host.new) }
+    ensures place { P.place book.new ≡ P.place book.old }
+    ensures answer { IfOk result (λ n. n ≡ next.answer) }
+    ensures changed { IsTrue H.told → (s t : PlainStore) → StandsFor catalog.old s (image (P.place book.old) (H.outside host.old).now) → Turns catalog.old next s t → OnOk result (StandsFor catalog.new t (image (P.place book.old) (H.outside host.new).now)) }
+    ensures fits { IsTrue H.told → (s t : PlainStore) → StandsFor catalog.old s (image (P.place book.old) (H.outside host.old).now) → Turns catalog.old next s t → OnOk result (cost t ≤ cap (blocks_of (image (P.place book.old) (H.outside host.old).now))) }
+    ensures full { IsRefused result → IsTrue H.told → (s t : PlainStore) → StandsFor catalog.old s (image (P.place book.old) (H.outside host.old).now) → Turns catalog.old next s t → cap (blocks_of (image (P.place book.old) (H.outside host.old).now)) < cost t }
+    ensures only { IfErr result (RefusesOnly Full) }
+    ensures still { IsRefused result → IsTrue H.told → (s t : PlainStore) → StandsFor catalog.old s (image (P.place book.old) (H.outside host.old).now) → Turns catalog.old next s t → StandsFor catalog.new s (image (P.place book.old) (H.outside host.old).now) }
+    ensures nothing_done { IsRefused result → (H.outside host.new).now ≡ (H.outside host.old).now }
+    ensures any_moment { IsTrue H.told → (s t : PlainStore) → StandsFor catalog.old s (image (P.place book.old) (H.outside host.old).now) → Turns catalog.old next s t → Leaves (P.place book.old) (IsEitherStore (image (P.place book.old) (H.outside host.old).now) s t) (H.outside host.old).now (H.outside host.new).now }
+    ensures alone { Touches (P.place book.old) (H.outside host.old) (H.outside host.new) }
+    ensures cause { IfErr result (FaultsAt (P.place book.old) (H.outside host.old) (H.outside host.new)) }
+{
+    let gone = gone_objects(alloc, &catalog.places, next.gone)?;
+    keep_new(&mut catalog.places, &next.entry)?;
+    match write_next(alloc, host, book, &mut catalog.objects, &next, &gone) {
+        Ok(()) => {
+            forget_gone(&mut catalog.places, next.gone);
+            catalog.directory = next.directory;
+            Ok(next.answer)
+        }
+        Err(fault) => {
+            forget_new(&mut catalog.places, &next.entry);
+            Err(fault)
+        }
+    }
+}

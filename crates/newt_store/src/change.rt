@@ -1,0 +1,18 @@
+// What is changed in a store.
+use newt_base::{Name, Sig, Uid};
+use newt_graph::Graph;
+
+/// A change of a store. Soups are named by their signatures.
+#[derive(Drop)]
+pub enum Change {
+    /// A new soup of this name.
+    MakeSoup(Name),
+    /// The soup goes with its entries.
+    DropSoup(Sig),
+    /// A new entry in the soup, with this graph.
+    Add(Sig, Graph),
+    /// The entry goes.
+    Remove(Sig, Uid),
+    /// The entry's graph is added to the second soup, and the entry goes from the first.
+    Move(Sig, Uid, Sig),
+}

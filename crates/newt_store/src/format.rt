@@ -1,0 +1,61 @@
+// A fresh store.
+ghost use Rattle.std.specs.Prelude.{IsTrue, ◌≡◌, ◌≤◌, Some, OnOk, IfOk, IfErr, IsErrOf};
+ghost use Rattle.newt_base.specs.Names.{is_name};
+ghost use Rattle.newt_host.specs.Moments.{image, Leaves};
+ghost use Rattle.newt_host.specs.Outside.{Touches};
+ghost use Rattle.newt_pagebook.specs.Stops.{StopsAt};
+ghost use Rattle.newt_pagebook.specs.Book.{Anything, IsDurable};
+ghost use Rattle.newt_entries.specs.Entry.{stream_graph};
+ghost use Rattle.newt_soupdir.specs.Bare.{bare_store};
+ghost use Rattle.newt_store.specs.Change.{new_store};
+ghost use Rattle.newt_spec_store.specs.ImageStore.{store_of_image};
+
+use newt_base::{Name, Sig};
+use newt_host::{Host, Unit};
+use newt_objects::Objects;
+use newt_pagebook::{Batch, PageBook, Stop};
+use newt_soupdir::{Directory, Soups, write_directory};
+use std::alloc::{AllocError, Global};
+
+/// The directory of a store without soups.
+fn new_directory(alloc: Global, name: &Name, sig: Sig) -> Result<Directory, AllocError>
+    ensures made { IfOk result (λ d. bare_store d ≡ new_store name.now sig) }
+    ensures named { IsTrue (is_name name.now) }
+{
+    let _text = name.list();
+    Ok(Directory {
+        name: name.copy()?,
+        sig,
+        next_soup: 0,
+        soups: Soups::of(Vec::new(alloc)),
+    })
+}
+
+/// Makes a unit's image that of a store without soups.
+pub(crate) fn format_unit<P: PageBook, H: Host>(
+    alloc: Global,
+    host: &mut H,
+    unit: Unit,
+    name: &Name,
+    sig: Sig,
+) -> Result<(), Stop>
+    requires enough { 13 ≤ (H.outside host.old).blocks unit }
+    requires not_too_many { (H.outside host.old).blocks unit ≤ 4099 }
+    requires few { sig ≤ 536_870_911 }
+    ensures formatted { IsTrue H.told → OnOk result (store_of_image stream_graph (image unit (H.outside host.new).now) ≡ Some (new_store name.now sig)) }
+    ensures durable { IsTrue H.told → OnOk result (IsDurable unit (H.outside host.new).now) }
+    ensures unchanged { IsErrOf result Stop.Memory → (H.outside host.new).now ≡ (H.outside host.old).now }
+    ensures any_moment { IsTrue H.told → Leaves unit Anything (H.outside host.old).now (H.outside host.new).now }
+    ensures alone { Touches unit (H.outside host.old) (H.outside host.new) }
+    ensures cause { IfErr result (StopsAt unit (H.outside host.old) (H.outside host.new)) }
+{
+    let directory = new_directory(alloc, name, sig)?;
+    let bytes = write_directory(alloc, &directory)?;
+    let mut objects = Objects::empty(alloc);
+    let mut batch = Batch::new(alloc);
+    objects.plan_put(0, &bytes, &mut batch)?;
+    match P::format(alloc, host, unit, &batch) {
+        Ok(()) => Ok(()),
+        Err(stop) => Err(stop),
+    }
+}

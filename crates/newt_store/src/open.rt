@@ -1,0 +1,294 @@
+// The store of an image is found.
+ghost use Rattle.std.specs.Prelude.{IsTrue, ◌≡◌, ◌+◌, ◌%◌, ◌<◌, ◌≤◌, ℕ, true, false, IsSome, Some, None, OnOk, IfOk, IsErrOf};
+ghost use Rattle.newt_host.specs.Moments.{image};
+ghost use Rattle.newt_host.specs.Outside.{Touches, Rose};
+ghost use Rattle.newt_nsof.specs.Text.{AreBytes};
+ghost use Rattle.newt_pagebook.specs.Book.{IsDurable};
+ghost use Rattle.newt_objects.specs.Extents.{IsNextIn};
+ghost use Rattle.newt_objects.specs.Held.{held};
+ghost use Rattle.newt_laws_images.specs.Found.{HasGiven, IsFound};
+ghost use Rattle.newt_spec_store.specs.Store.{Store as PlainStore};
+ghost use Rattle.newt_spec_store.specs.Lies.{entry_read};
+ghost use Rattle.newt_spec_store.specs.Valid.{well_formed};
+ghost use Rattle.newt_soupdir.specs.Bare.{bare_store, directory_now};
+ghost use Rattle.newt_entries.specs.Entry.{stream_graph, said};
+ghost use Rattle.newt_shelf.specs.Commit.{AreKept};
+ghost use Rattle.newt_shelf.specs.Places.{AreSoundPlaces, place_of};
+ghost use Rattle.newt_store.specs.Stage.{readable};
+ghost use Rattle.newt_store.specs.Stands.{StandsFor, IsSound};
+ghost use Rattle.newt_store.specs.Opening.{OfObjects, HasObject, IsRoot, IsRow, AreSoundTo, AreFoundTo};
+
+use crate::catalog::Catalog;
+use newt_entries::{EntryFault, EntryRow, read_entry};
+use newt_host::{Host, Unit};
+use newt_objects::{Objects, ScanFault};
+use newt_pagebook::{BookFault, PageBook, Stop, cap};
+use newt_shelf::PlaceTable;
+use newt_soupdir::{DirFault, Directory, read_directory};
+use std::alloc::Global;
+
+/// Finds where the objects lie.
+fn scan_objects<P: PageBook, H: Host>(
+    alloc: Global,
+    host: &mut H,
+    book: &mut P,
+) -> Result<Objects, BookFault>
+    requires stands { P.stands H.told book.old (H.outside host.old) }
+    ensures kept { IfOk result (λ objects. AreKept H.told objects (P.numbers book.new) (P.place book.new) (H.outside host.new)) }
+    ensures not_store { IsErrOf result BookFault.NotStore → IsTrue H.told → readable (image (P.place book.old) (H.outside host.old).now) ≡ None }
+    ensures stands { P.stands H.told book.new (H.outside host.new) }
+    ensures same { (P.place book.new ≡ P.place book.old) × (P.numbers book.new ≡ P.numbers book.old) }
+    ensures moment { (H.outside host.new).now ≡ (H.outside host.old).now }
+    ensures alone { Touches (P.place book.old) (H.outside host.old) (H.outside host.new) }
+    ensures cause { IsErrOf result BookFault.Device → Rose ((H.outside host.old).dev_faults (P.place book.old)) ((H.outside host.new).dev_faults (P.place book.old)) }
+{
+    match Objects::scan(alloc, host, book) {
+        Ok(objects) => Ok(objects),
+        Err(ScanFault::Bad) => Err(BookFault::NotStore),
+        Err(ScanFault::Memory) => Err(BookFault::Memory),
+        Err(ScanFault::Device) => Err(BookFault::Device),
+    }
+}
+
+/// Reads the bytes of an object that is there.
+fn read_object<P: PageBook, H: Host>(
+    host: &mut H,
+    book: &mut P,
+    objects: &Objects,
+    id: u32,
+) -> Result<Vec<u8>, BookFault>
+    requires stands { P.stands H.told book.old (H.outside host.old) }
+    requires kept { AreKept H.told objects.now (P.numbers book.old) (P.place book.old) (H.outside host.old) }
+    requires there { IsSome (held objects.now id) }
+    ensures bytes { IfOk result (λ bytes. OfObjects H.told (image (P.place book.old) (H.outside host.old).now) (HasObject id bytes.items)) }
+    ensures some { IsErrOf result BookFault.NotStore → ⊥ }
+    ensures stands { P.stands H.told book.new (H.outside host.new) }
+    ensures kept { AreKept H.told objects.now (P.numbers book.new) (P.place book.new) (H.outside host.new) }
+    ensures same { (P.place book.new ≡ P.place book.old) × (P.numbers book.new ≡ P.numbers book.old) }
+    ensures moment { (H.outside host.new).now ≡ (H.outside host.old).now }
+    ensures alone { Touches (P.place book.old) (H.outside host.old) (H.outside host.new) }
+    ensures cause { IsErrOf result BookFault.Device → Rose ((H.outside host.old).dev_faults (P.place book.old)) ((H.outside host.new).dev_faults (P.place book.old)) }
+{
+    match objects.read(host, book, id) {
+        Ok(bytes) => Ok(bytes),
+        Err(Stop::Memory) => Err(BookFault::Memory),
+        Err(Stop::Device(_)) => Err(BookFault::Device),
+    }
+}
+
+/// The directory that an object's bytes are read as.
+fn root_of(alloc: Global, bytes: &[u8]) -> Result<Directory, BookFault>
+    ensures read { IfOk result (λ directory. directory_now bytes.now ≡ Some (bare_store directory)) }
+    ensures are_bytes { OnOk result (AreBytes bytes.now) }
+    ensures bad { IsErrOf result BookFault.NotStore → directory_now bytes.now ≡ None }
+    ensures no_device { IsErrOf result BookFault.Device → ⊥ }
+{
+    match read_directory(alloc, bytes) {
+        Ok(directory) => Ok(directory),
+        Err(DirFault::Bad) => Err(BookFault::NotStore),
+        Err(DirFault::Memory) => Err(BookFault::Memory),
+    }
+}
+
+/// Reads the directory.
+fn read_root<P: PageBook, H: Host>(
+    alloc: Global,
+    host: &mut H,
+    book: &mut P,
+    objects: &Objects,
+) -> Result<Directory, BookFault>
+    requires stands { P.stands H.told book.old (H.outside host.old) }
+    requires kept { AreKept H.told objects.now (P.numbers book.old) (P.place book.old) (H.outside host.old) }
+    ensures root { IfOk result (λ directory. OfObjects H.told (image (P.place book.old) (H.outside host.old).now) (IsRoot directory)) }
+    ensures formed { IfOk result (λ directory. IsTrue (well_formed (bare_store directory))) }
+    ensures not_store { IsErrOf result BookFault.NotStore → IsTrue H.told → readable (image (P.place book.old) (H.outside host.old).now) ≡ None }
+    ensures stands { P.stands H.told book.new (H.outside host.new) }
+    ensures kept { AreKept H.told objects.now (P.numbers book.new) (P.place book.new) (H.outside host.new) }
+    ensures same { (P.place book.new ≡ P.place book.old) × (P.numbers book.new ≡ P.numbers book.old) }
+    ensures moment { (H.outside host.new).now ≡ (H.outside host.old).now }
+    ensures alone { Touches (P.place book.old) (H.outside host.old) (H.outside host.new) }
+    ensures cause { IsErrOf result BookFault.Device → Rose ((H.outside host.old).dev_faults (P.place book.old)) ((H.outside host.new).dev_faults (P.place book.old)) }
+{
+    if objects.length(0).is_none() {
+        return Err(BookFault::NotStore);
+    }
+    let bytes = read_object(host, book, objects, 0)?;
+    root_of(alloc, &bytes)
+}
+
+/// The record that an object's bytes are read as.
+fn record_of(alloc: Global, bytes: &[u8]) -> Result<EntryRow, BookFault>
+    ensures read { IfOk result (λ row. entry_read stream_graph bytes.now ≡ Some (said row)) }
+    ensures are_bytes { OnOk result (AreBytes bytes.now) }
+    ensures bad { IsErrOf result BookFault.NotStore → entry_read stream_graph bytes.now ≡ None }
+    ensures no_device { IsErrOf result BookFault.Device → ⊥ }
+{
+    match read_entry(alloc, bytes) {
+        Ok(row) => Ok(row),
+        Err(EntryFault::Bad) => Err(BookFault::NotStore),
+        Err(EntryFault::Memory) => Err(BookFault::Memory),
+    }
+}
+
+/// Reads the record of an object that is there.
+fn read_record<P: PageBook, H: Host>(
+    alloc: Global,
+    host: &mut H,
+    book: &mut P,
+    objects: &Objects,
+    id: u32,
+) -> Result<EntryRow, BookFault>
+    requires stands { P.stands H.told book.old (H.outside host.old) }
+    requires kept { AreKept H.told objects.now (P.numbers book.old) (P.place book.old) (H.outside host.old) }
+    requires there { IsSome (held objects.now id) }
+    requires behind { 0 < id }
+    ensures odd { OnOk result (id % 2 ≡ 1) }
+    ensures row { IfOk result (λ row. OfObjects H.told (image (P.place book.old) (H.outside host.old).now) (IsRow id row)) }
+    ensures not_store { IsErrOf result BookFault.NotStore → IsTrue H.told → readable (image (P.place book.old) (H.outside host.old).now) ≡ None }
+    ensures stands { P.stands H.told book.new (H.outside host.new) }
+    ensures kept { AreKept H.told objects.now (P.numbers book.new) (P.place book.new) (H.outside host.new) }
+    ensures same { (P.place book.new ≡ P.place book.old) × (P.numbers book.new ≡ P.numbers book.old) }
+    ensures moment { (H.outside host.new).now ≡ (H.outside host.old).now }
+    ensures alone { Touches (P.place book.old) (H.outside host.old) (H.outside host.new) }
+    ensures cause { IsErrOf result BookFault.Device → Rose ((H.outside host.old).dev_faults (P.place book.old)) ((H.outside host.new).dev_faults (P.place book.old)) }
+{
+    if id % 2 == 0 {
+        return Err(BookFault::NotStore);
+    }
+    let bytes = read_object(host, book, objects, id)?;
+    record_of(alloc, &bytes)
+}
+
+/// Whether a soup of the directory has given this id.
+fn has_given(directory: &Directory, row: &EntryRow) -> bool
+    requires { IsTrue (well_formed (bare_store directory.now)) }
+    ensures given { result ≡ true → HasGiven (bare_store directory.now) row.now.soup row.now.uid }
+    ensures not_given { result ≡ false → HasGiven (bare_store directory.now) row.now.soup row.now.uid → ⊥ }
+{
+    match directory.soup_of(row.soup) {
+        Some(soup) => row.uid.0 < soup.next_uid,
+        None => false,
+    }
+}
+
+/// Keeps the place of the next object, which must be a record of an entry that has none yet.
+fn find_place<P: PageBook, H: Host>(
+    alloc: Global,
+    host: &mut H,
+    book: &mut P,
+    objects: &Objects,
+    directory: &Directory,
+    places: &mut PlaceTable,
+    last: u32,
+    id: u32,
+) -> Result<(), BookFault>
+    requires stands { P.stands H.told book.old (H.outside host.old) }
+    requires kept { AreKept H.told objects.now (P.numbers book.old) (P.place book.old) (H.outside host.old) }
+    requires root { OfObjects H.told (image (P.place book.old) (H.outside host.old).now) (IsRoot directory.now) }
+    requires formed { IsTrue (well_formed (bare_store directory.now)) }
+    requires next { IsNextIn (held objects.now) (last + 1) (Some id) }
+    requires sound { AreSoundTo last (held objects.now) (place_of places.old) }
+    requires found { OfObjects H.told (image (P.place book.old) (H.outside host.old).now) (AreFoundTo last (place_of places.old) (bare_store directory.now)) }
+    ensures sound { OnOk result (AreSoundTo id (held objects.now) (place_of places.new)) }
+    ensures found { OnOk result (OfObjects H.told (image (P.place book.old) (H.outside host.old).now) (AreFoundTo id (place_of places.new) (bare_store directory.now))) }
+    ensures not_store { IsErrOf result BookFault.NotStore → IsTrue H.told → readable (image (P.place book.old) (H.outside host.old).now) ≡ None }
+    ensures stands { P.stands H.told book.new (H.outside host.new) }
+    ensures kept { AreKept H.told objects.now (P.numbers book.new) (P.place book.new) (H.outside host.new) }
+    ensures same { (P.place book.new ≡ P.place book.old) × (P.numbers book.new ≡ P.numbers book.old) }
+    ensures moment { (H.outside host.new).now ≡ (H.outside host.old).now }
+    ensures alone { Touches (P.place book.old) (H.outside host.old) (H.outside host.new) }
+    ensures cause { IsErrOf result BookFault.Device → Rose ((H.outside host.old).dev_faults (P.place book.old)) ((H.outside host.new).dev_faults (P.place book.old)) }
+{
+    let row = read_record(alloc, host, book, objects, id)?;
+    if !has_given(directory, &row) {
+        return Err(BookFault::NotStore);
+    }
+    if places.get(row.soup, row.uid).is_some() {
+        return Err(BookFault::NotStore);
+    }
+    Ok(places.insert(row.soup, row.uid, id)?)
+}
+
+/// Finds the objects of all records of entries.
+fn find_places<P: PageBook, H: Host>(
+    alloc: Global,
+    host: &mut H,
+    book: &mut P,
+    objects: &Objects,
+    directory: &Directory,
+) -> Result<PlaceTable, BookFault>
+    requires stands { P.stands H.told book.old (H.outside host.old) }
+    requires kept { AreKept H.told objects.now (P.numbers book.old) (P.place book.old) (H.outside host.old) }
+    requires root { OfObjects H.told (image (P.place book.old) (H.outside host.old).now) (IsRoot directory.now) }
+    requires formed { IsTrue (well_formed (bare_store directory.now)) }
+    ensures sound { IfOk result (λ places. AreSoundPlaces (held objects.now) (place_of places)) }
+    ensures found { IfOk result (λ places. OfObjects H.told (image (P.place book.old) (H.outside host.old).now) (λ texts. IsFound stream_graph texts (place_of places) (bare_store directory.now))) }
+    ensures not_store { IsErrOf result BookFault.NotStore → IsTrue H.told → readable (image (P.place book.old) (H.outside host.old).now) ≡ None }
+    ensures stands { P.stands H.told book.new (H.outside host.new) }
+    ensures kept { AreKept H.told objects.now (P.numbers book.new) (P.place book.new) (H.outside host.new) }
+    ensures same { (P.place book.new ≡ P.place book.old) × (P.numbers book.new ≡ P.numbers book.old) }
+    ensures moment { (H.outside host.new).now ≡ (H.outside host.old).now }
+    ensures alone { Touches (P.place book.old) (H.outside host.old) (H.outside host.new) }
+    ensures cause { IsErrOf result BookFault.Device → Rose ((H.outside host.old).dev_faults (P.place book.old)) ((H.outside host.new).dev_faults (P.place book.old)) }
+{
+    let mut places = PlaceTable::new(alloc);
+    let mut last = 0;
+    while let Some(id) = objects.next_after(last) {
+        find_place(alloc, host, book, objects, directory, &mut places, last, id)?;
+        last = id;
+    }
+    Ok(places)
+}
+
+/// Finds the store that the objects of an open book write down.
+fn find_catalog<P: PageBook, H: Host>(
+    alloc: Global,
+    host: &mut H,
+    book: &mut P,
+) -> Result<Catalog, BookFault>
+    requires stands { P.stands H.told book.old (H.outside host.old) }
+    ensures sound { IfOk result (λ catalog. IsSound H.told catalog (P.numbers book.new) (P.place book.new) (H.outside host.new)) }
+    ensures found { IsTrue H.told → IfOk result (λ catalog. (s : PlainStore) × (readable (image (P.place book.old) (H.outside host.old).now) ≡ Some s) × StandsFor catalog s (image (P.place book.old) (H.outside host.old).now)) }
+    ensures not_store { IsErrOf result BookFault.NotStore → IsTrue H.told → readable (image (P.place book.old) (H.outside host.old).now) ≡ None }
+    ensures stands { P.stands H.told book.new (H.outside host.new) }
+    ensures same { P.place book.new ≡ P.place book.old }
+    ensures moment { (H.outside host.new).now ≡ (H.outside host.old).now }
+    ensures alone { Touches (P.place book.old) (H.outside host.old) (H.outside host.new) }
+    ensures cause { IsErrOf result BookFault.Device → Rose ((H.outside host.old).dev_faults (P.place book.old)) ((H.outside host.new).dev_faults (P.place book.old)) }
+{
+    let objects = scan_objects(alloc, host, book)?;
+    let directory = read_root(alloc, host, book, &objects)?;
+    let places = find_places(alloc, host, book, &objects, &directory)?;
+    if cap(host.blocks(book.unit())) < book.live() {
+        return Err(BookFault::NotStore);
+    }
+    Ok(Catalog {
+        objects,
+        directory,
+        places,
+        hint: 0,
+    })
+}
+
+/// Opens the book of a unit, and finds the store that its objects write down.
+pub(crate) fn open_catalog<P: PageBook, H: Host>(
+    alloc: Global,
+    host: &mut H,
+    unit: Unit,
+) -> Result<(P, Catalog), BookFault>
+    requires enough { 13 ≤ (H.outside host.old).blocks unit }
+    requires not_too_many { (H.outside host.old).blocks unit ≤ 4099 }
+    requires at_rest { IsTrue H.told → IsDurable unit (H.outside host.old).now }
+    ensures stands { IfOk result (λ found. P.stands H.told found.0 (H.outside host.new)) }
+    ensures place { IfOk result (λ found. P.place found.0 ≡ unit) }
+    ensures sound { IfOk result (λ found. IsSound H.told found.1 (P.numbers found.0) unit (H.outside host.new)) }
+    ensures found { IsTrue H.told → IfOk result (λ found. (s : PlainStore) × (readable (image unit (H.outside host.old).now) ≡ Some s) × StandsFor found.1 s (image unit (H.outside host.old).now)) }
+    ensures not_store { IsErrOf result BookFault.NotStore → IsTrue H.told → readable (image unit (H.outside host.old).now) ≡ None }
+    ensures moment { (H.outside host.new).now ≡ (H.outside host.old).now }
+    ensures alone { Touches unit (H.outside host.old) (H.outside host.new) }
+    ensures cause { IsErrOf result BookFault.Device → Rose ((H.outside host.old).dev_faults unit) ((H.outside host.new).dev_faults unit) }
+{
+    let mut book: P = P::open(alloc, host, unit)?;
+    let catalog = find_catalog(alloc, host, &mut book)?;
+    Ok((book, catalog))
+}

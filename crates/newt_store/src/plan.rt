@@ -1,0 +1,301 @@
+// What each change makes of a store, or why it is refused.
+ghost use Rattle.std.specs.Prelude.{IsTrue, ◌≡◌, ◌%◌, ◌<◌, ℕ, Some, None, IsSome, OnOk, IfOk, IfErr, IfSome};
+ghost use Rattle.newt_base.specs.Refusals.{first_of};
+ghost use Rattle.newt_graph.specs.Graph.{IsGraph};
+ghost use Rattle.newt_host.specs.Moments.{image};
+ghost use Rattle.newt_host.specs.Outside.{Touches};
+ghost use Rattle.newt_image.specs.Objects.{Objects as Texts};
+ghost use Rattle.newt_objects.specs.Held.{held};
+ghost use Rattle.newt_spec_graph.specs.Graph as words;
+ghost use Rattle.newt_spec_store.specs.Lies.{graph_has_no_large};
+ghost use Rattle.newt_spec_store.specs.Store.{Store as PlainStore};
+ghost use Rattle.newt_spec_store.specs.Valid.{well_formed, valid_entry};
+ghost use Rattle.newt_soupdir.specs.Bare.{bare_soup, bare_store};
+ghost use Rattle.newt_soupdir.specs.Changes.{soup_of};
+ghost use Rattle.newt_store.specs.Change.{first_checks, is_too_large as too_large};
+ghost use Rattle.newt_shelf.specs.Faults.{FaultsAt};
+ghost use Rattle.newt_store.specs.Next.{IsNextOf, IsPlanOf, IsAdding, IsNoDevice};
+ghost use Rattle.newt_store.specs.Stands.{Describes, StandsFor, IsSound, RefusesWith};
+ghost use Rattle.newt_shelf.specs.Places.{place_of, AreSoundPlaces};
+
+use crate::catalog::Catalog;
+use crate::change::Change;
+use crate::next::{Gone, Next};
+use crate::read::read_row;
+use newt_base::{Name, Refusal, Sig, Uid};
+use newt_entries::{has_large, write_entry};
+use newt_graph::{Graph, Node, Ref};
+use newt_host::Host;
+use newt_nsof_write::skeleton_len;
+use newt_objects::Objects;
+use newt_pagebook::{PageBook, Stop};
+use newt_shelf::{NewEntry, StoreFault};
+use newt_soupdir::SoupRow;
+use std::alloc::Global;
+
+/// The last next entry id: the soup has no further id to give.
+const LAST_ID: u32 = 536_870_911;
+
+/// The last next soup signature: the store has no further signature to give.
+const LAST_SIGNATURE: u32 = 65_535;
+
+/// The most bytes of an entry's text.
+const MOST_TEXT: u64 = 64_000;
+
+/// How many odd ids there are.
+const ODD_IDS: u32 = 2_147_483_648;
+
+// An odd id that no object has, the least from a place on.
+fn free_from(objects: &Objects, from: u32) -> Option<u32>
+    ensures free { IfSome result (λ id. held objects.now id ≡ None) }
+    ensures odd { IfSome result (λ id. id % 2 ≡ 1) }
+{
+    for half in from..ODD_IDS {
+        let id = 2 * half + 1;
+        if objects.length(id).is_none() {
+            return Some(id);
+        }
+    }
+    None
+}
+
+// An odd id that no object has.
+fn free_id(objects: &Objects, hint: u32) -> Option<u32>
+    ensures free { IfSome result (λ id. held objects.now id ≡ None) }
+    ensures odd { IfSome result (λ id. id % 2 ≡ 1) }
+{
+    match free_from(objects, hint) {
+        Some(id) => Some(id),
+        None => free_from(objects, 0),
+    }
+}
+
+// Whether the root of a graph is a frame.
+fn is_frame(graph: &Graph) -> bool
+    ensures frame { result ≡ words.is_frame (words.object graph.now.nodes graph.now.root) }
+    ensures graph { IsGraph graph.now }
+{
+    match graph.root() {
+        Ref::Node(n) => matches!(graph.nodes().get(n as usize), Some(Node::Frame(_, _))),
+        Ref::Imm(_) => false,
+    }
+}
+
+// Whether an entry's text would be too long, or has large binaries, which this stage does not keep.
+fn is_too_large(graph: &Graph) -> bool
+    ensures { result ≡ too_large graph.now }
+{
+    has_large(graph) || MOST_TEXT < skeleton_len(graph)
+}
+
+fn plan_make(alloc: Global, catalog: &Catalog, name: &Name) -> Result<Next, StoreFault>
+    requires { IsTrue (well_formed (bare_store catalog.now.directory)) }
+    ensures next { IfOk result (IsNextOf (held catalog.now.objects)) }
+    ensures planned { (now : ℕ) (texts : Texts) (s : PlainStore) → Describes catalog.now.directory (place_of catalog.now.places) texts s → IfOk result (IsPlanOf catalog.now (Change.MakeSoup name.now) now s) }
+    ensures refused { (texts : Texts) (s : PlainStore) → Describes catalog.now.directory (place_of catalog.now.places) texts s → IfErr result (RefusesWith (first_of (first_checks (Change.MakeSoup name.now) s))) }
+    ensures cause { IfErr result IsNoDevice }
+{
+    if catalog.directory.soup_named(name.list()).is_some() {
+        return Err(StoreFault::Refused(Refusal::Exists));
+    }
+    if catalog.directory.is_full() {
+        return Err(StoreFault::Refused(Refusal::Limit));
+    }
+    if catalog.directory.next_soup == LAST_SIGNATURE {
+        return Err(StoreFault::Refused(Refusal::Ids));
+    }
+    let mut directory = catalog.directory.copy()?;
+    let sig = directory.make_soup(name.copy()?)?;
+    Ok(Next {
+        directory,
+        entry: None,
+        gone: Gone::Nothing,
+        answer: sig.0,
+    })
+}
+
+fn plan_drop(catalog: &Catalog, sig: Sig) -> Result<Next, StoreFault>
+    requires { IsTrue (well_formed (bare_store catalog.now.directory)) }
+    ensures next { IfOk result (IsNextOf (held catalog.now.objects)) }
+    ensures planned { (now : ℕ) (texts : Texts) (s : PlainStore) → Describes catalog.now.directory (place_of catalog.now.places) texts s → IfOk result (IsPlanOf catalog.now (Change.DropSoup sig) now s) }
+    ensures refused { (texts : Texts) (s : PlainStore) → Describes catalog.now.directory (place_of catalog.now.places) texts s → IfErr result (RefusesWith (first_of (first_checks (Change.DropSoup sig) s))) }
+    ensures cause { IfErr result IsNoDevice }
+{
+    if catalog.directory.soup_of(sig).is_none() {
+        return Err(StoreFault::Refused(Refusal::Soup));
+    }
+    let mut directory = catalog.directory.copy()?;
+    directory.drop_soup(sig);
+    Ok(Next {
+        directory,
+        entry: None,
+        gone: Gone::AllOf(sig),
+        answer: 0,
+    })
+}
+
+// A new entry in a soup, of which nothing is to be refused.
+fn next_with(
+    alloc: Global,
+    catalog: &Catalog,
+    row: &SoupRow,
+    graph: &Graph,
+    now: u32,
+    gone: Gone,
+) -> Result<Next, StoreFault>
+    requires formed { IsTrue (well_formed (bare_store catalog.now.directory)) }
+    requires row { soup_of row.now.sig (bare_store catalog.now.directory) ≡ Some (bare_soup row.now) }
+    requires room { row.now.next_uid < 536_870_911 }
+    requires plain { IsTrue (graph_has_no_large graph.now) }
+    requires valid { IsTrue (valid_entry (record { uid = row.now.next_uid; time = now; graph = graph.now })) }
+    ensures next { IfOk result (IsNextOf (held catalog.now.objects)) }
+    ensures adds { IfOk result (IsAdding catalog.now row.now.sig row.now.next_uid now graph.now gone) }
+    ensures only { IfErr result (λ fault. fault ≡ StoreFault.Stop Stop.Memory) }
+{
+    let Some(id) = free_id(&catalog.objects, catalog.hint) else {
+        return Err(StoreFault::Stop(Stop::Memory));
+    };
+    let uid = Uid(row.next_uid);
+    let bytes = write_entry(alloc, row.sig, uid, now, graph)?;
+    let mut directory = catalog.directory.copy()?;
+    directory.take_uid(row.sig);
+    let entry = NewEntry {
+        sig: row.sig,
+        uid,
+        id,
+        bytes,
+    };
+    Ok(Next {
+        directory,
+        entry: Some(entry),
+        gone,
+        answer: uid.0,
+    })
+}
+
+fn plan_add(
+    alloc: Global,
+    catalog: &Catalog,
+    sig: Sig,
+    graph: &Graph,
+    now: u32,
+) -> Result<Next, StoreFault>
+    requires formed { IsTrue (well_formed (bare_store catalog.now.directory)) }
+    requires places { AreSoundPlaces (held catalog.now.objects) (place_of catalog.now.places) }
+    ensures next { IfOk result (IsNextOf (held catalog.now.objects)) }
+    ensures planned { (texts : Texts) (s : PlainStore) → Describes catalog.now.directory (place_of catalog.now.places) texts s → IfOk result (IsPlanOf catalog.now (Change.Add sig graph.now) now s) }
+    ensures refused { (texts : Texts) (s : PlainStore) → Describes catalog.now.directory (place_of catalog.now.places) texts s → IfErr result (RefusesWith (first_of (first_checks (Change.Add sig graph.now) s))) }
+    ensures cause { IfErr result IsNoDevice }
+{
+    let Some(row) = catalog.directory.soup_of(sig) else {
+        return Err(StoreFault::Refused(Refusal::Soup));
+    };
+    if !is_frame(graph) {
+        return Err(StoreFault::Refused(Refusal::Notframe));
+    }
+    if is_too_large(graph) {
+        return Err(StoreFault::Refused(Refusal::Size));
+    }
+    if row.next_uid == LAST_ID {
+        return Err(StoreFault::Refused(Refusal::Ids));
+    }
+    let next = next_with(alloc, catalog, row, graph, now, Gone::Nothing)?;
+    Ok(next)
+}
+
+fn plan_remove(catalog: &Catalog, sig: Sig, uid: Uid) -> Result<Next, StoreFault>
+    requires { IsTrue (well_formed (bare_store catalog.now.directory)) }
+    ensures next { IfOk result (IsNextOf (held catalog.now.objects)) }
+    ensures planned { (now : ℕ) (texts : Texts) (s : PlainStore) → Describes catalog.now.directory (place_of catalog.now.places) texts s → IfOk result (IsPlanOf catalog.now (Change.Remove sig uid) now s) }
+    ensures refused { (texts : Texts) (s : PlainStore) → Describes catalog.now.directory (place_of catalog.now.places) texts s → IfErr result (RefusesWith (first_of (first_checks (Change.Remove sig uid) s))) }
+    ensures cause { IfErr result IsNoDevice }
+{
+    if catalog.directory.soup_of(sig).is_none() {
+        return Err(StoreFault::Refused(Refusal::Soup));
+    }
+    if catalog.places.get(sig, uid).is_none() {
+        return Err(StoreFault::Refused(Refusal::Entry));
+    }
+    Ok(Next {
+        directory: catalog.directory.copy()?,
+        entry: None,
+        gone: Gone::OneEntry(sig, uid),
+        answer: 0,
+    })
+}
+
+fn plan_move<P: PageBook, H: Host>(
+    alloc: Global,
+    host: &mut H,
+    book: &mut P,
+    catalog: &Catalog,
+    source: Sig,
+    uid: Uid,
+    target: Sig,
+    now: u32,
+) -> Result<Next, StoreFault>
+    requires stands { P.stands H.told book.old (H.outside host.old) }
+    requires sound { IsSound H.told catalog.now (P.numbers book.old) (P.place book.old) (H.outside host.old) }
+    ensures stands { P.stands H.told book.new (H.outside host.new) }
+    ensures same { (P.place book.new ≡ P.place book.old) × (P.numbers book.new ≡ P.numbers book.old) }
+    ensures moment { (H.outside host.new).now ≡ (H.outside host.old).now }
+    ensures next { IfOk result (IsNextOf (held catalog.now.objects)) }
+    ensures planned { IsTrue H.told → (s : PlainStore) → StandsFor catalog.now s (image (P.place book.old) (H.outside host.old).now) → IfOk result (IsPlanOf catalog.now (Change.Move source uid target) now s) }
+    ensures refused { IsTrue H.told → (s : PlainStore) → StandsFor catalog.now s (image (P.place book.old) (H.outside host.old).now) → IfErr result (RefusesWith (first_of (first_checks (Change.Move source uid target) s))) }
+    ensures alone { Touches (P.place book.old) (H.outside host.old) (H.outside host.new) }
+    ensures cause { IfErr result (FaultsAt (P.place book.old) (H.outside host.old) (H.outside host.new)) }
+{
+    if catalog.directory.soup_of(source).is_none() {
+        return Err(StoreFault::Refused(Refusal::Soup));
+    }
+    let Some(row) = catalog.directory.soup_of(target) else {
+        return Err(StoreFault::Refused(Refusal::Soup));
+    };
+    let Some(id) = catalog.places.get(source, uid) else {
+        return Err(StoreFault::Refused(Refusal::Entry));
+    };
+    if row.next_uid == LAST_ID {
+        return Err(StoreFault::Refused(Refusal::Ids));
+    }
+    let entry = read_row(alloc, host, book, &catalog.objects, id)?;
+    let next = next_with(
+        alloc,
+        catalog,
+        row,
+        &entry.skeleton,
+        now,
+        Gone::OneEntry(source, uid),
+    )?;
+    Ok(next)
+}
+
+/// What a change makes of a store, or its first refusal but that the unit is full.
+pub(crate) fn plan_change<P: PageBook, H: Host>(
+    alloc: Global,
+    host: &mut H,
+    book: &mut P,
+    catalog: &Catalog,
+    change: Change,
+    now: u32,
+) -> Result<Next, StoreFault>
+    requires stands { P.stands H.told book.old (H.outside host.old) }
+    requires sound { IsSound H.told catalog.now (P.numbers book.old) (P.place book.old) (H.outside host.old) }
+    ensures stands { P.stands H.told book.new (H.outside host.new) }
+    ensures same { (P.place book.new ≡ P.place book.old) × (P.numbers book.new ≡ P.numbers book.old) }
+    ensures moment { (H.outside host.new).now ≡ (H.outside host.old).now }
+    ensures next { IfOk result (IsNextOf (held catalog.now.objects)) }
+    ensures planned { IsTrue H.told → (s : PlainStore) → StandsFor catalog.now s (image (P.place book.old) (H.outside host.old).now) → IfOk result (IsPlanOf catalog.now change now s) }
+    ensures refused { IsTrue H.told → (s : PlainStore) → StandsFor catalog.now s (image (P.place book.old) (H.outside host.old).now) → IfErr result (RefusesWith (first_of (first_checks change s))) }
+    ensures alone { Touches (P.place book.old) (H.outside host.old) (H.outside host.new) }
+    ensures cause { IfErr result (FaultsAt (P.place book.old) (H.outside host.old) (H.outside host.new)) }
+{
+    match change {
+        Change::MakeSoup(name) => plan_make(alloc, catalog, &name),
+        Change::DropSoup(sig) => plan_drop(catalog, sig),
+        Change::Add(sig, graph) => plan_add(alloc, catalog, sig, &graph, now),
+        Change::Remove(sig, uid) => plan_remove(catalog, sig, uid),
+        Change::Move(source, uid, target) => {
+            plan_move(alloc, host, book, catalog, source, uid, target, now)
+        }
+    }
+}

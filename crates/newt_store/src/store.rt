@@ -1,0 +1,167 @@
+// A store on one unit.
+ghost use Rattle.std.specs.Prelude.{IsTrue, ◌≡◌, ◌≤◌, ◌*◌, ℕ, Some, None, OnOk, IfOk, IfErr, IsErrOf, is_some, List};
+ghost use Rattle.std.specs.Option.{option_map};
+ghost use Rattle.newt_host.specs.Moments.{image, Leaves};
+ghost use Rattle.newt_host.specs.Outside.{Touches, Spends, Rose};
+ghost use Rattle.newt_pagebook.specs.Stops.{StopsAt};
+ghost use Rattle.newt_pagebook.specs.Book.{Anything, IsDurable};
+ghost use Rattle.newt_spec_store.specs.Store.{Store as PlainStore, Entry as PlainEntry};
+ghost use Rattle.newt_spec_store.specs.OfImage.{blocks_of};
+ghost use Rattle.newt_entries.specs.Entry.{stream_graph};
+ghost use Rattle.newt_spec_store.specs.ImageStore.{store_of_image};
+ghost use Rattle.newt_store.specs.Stage.{readable};
+ghost use Rattle.newt_store.specs.Change.{changed_by, answer_of, refusal_of, entry_in, pages_of_entry, new_store};
+ghost use Rattle.newt_store.specs.Stands.{StandsFor, IsSound, GoesOn, IsRefused, RefusesWith, IsBeforeOrChanged, plain_entry};
+ghost use Rattle.newt_shelf.specs.Faults.{FaultsAt};
+
+use crate::carry::carry_out;
+use crate::catalog::Catalog;
+use crate::change::Change;
+use crate::entry::Entry;
+use crate::format::format_unit;
+use crate::open::open_catalog;
+use crate::plan::plan_change;
+use crate::read::read_row;
+use newt_base::{Name, Sig, Uid};
+use newt_host::{Host, Unit};
+use newt_pagebook::{BookFault, PageBook, Stop};
+use newt_shelf::StoreFault;
+use newt_soupdir::Directory;
+use std::alloc::Global;
+
+/// A store on one unit. It stands for one plain store, which its unit's image is read as, until a call stops.
+#[derive(Drop)]
+pub struct Store<P: PageBook> {
+    alloc: Global,
+    book: P,
+    catalog: Catalog,
+}
+
+impl<P: PageBook> Store<P> {
+    /// Makes a unit's image that of a store of this name and signature, without soups. After want of memory nothing has happened; after a fault of the
+    /// device nothing is said of the unit.
+    pub fn format<H: Host>(
+        alloc: Global,
+        host: &mut H,
+        unit: Unit,
+        name: &Name,
+        sig: Sig,
+    ) -> Result<(), Stop>
+        requires enough { 13 ≤ (H.outside host.old).blocks unit }
+        requires not_too_many { (H.outside host.old).blocks unit ≤ 4099 }
+        requires few { sig ≤ 536_870_911 }
+        ensures formatted { IsTrue H.told → OnOk result (store_of_image stream_graph (image unit (H.outside host.new).now) ≡ Some (new_store name.now sig)) }
+        ensures durable { IsTrue H.told → OnOk result (IsDurable unit (H.outside host.new).now) }
+        ensures unchanged { IsErrOf result Stop.Memory → (H.outside host.new).now ≡ (H.outside host.old).now }
+        ensures any_moment { IsTrue H.told → Leaves unit Anything (H.outside host.old).now (H.outside host.new).now }
+        ensures alone { Touches unit (H.outside host.old) (H.outside host.new) }
+        ensures cause { IfErr result (StopsAt unit (H.outside host.old) (H.outside host.new)) }
+    {
+        format_unit::<P, H>(alloc, host, unit, name, sig)
+    }
+
+    /// Opens the store of a unit on which nothing is pending.
+    pub fn open<H: Host>(alloc: Global, host: &mut H, unit: Unit) -> Result<Store<P>, BookFault>
+        requires enough { 13 ≤ (H.outside host.old).blocks unit }
+        requires not_too_many { (H.outside host.old).blocks unit ≤ 4099 }
+        requires at_rest { IsTrue H.told → IsDurable unit (H.outside host.old).now }
+        ensures stands { IfOk result (λ store. P.stands H.told store.book (H.outside host.new)) }
+        ensures place { IfOk result (λ store. P.place store.book ≡ unit) }
+        ensures sound { IfOk result (λ store. IsSound H.told store.catalog (P.numbers store.book) unit (H.outside host.new)) }
+        ensures found { IsTrue H.told → IfOk result (λ store. (s : PlainStore) × (readable (image unit (H.outside host.old).now) ≡ Some s) × StandsFor store.catalog s (image unit (H.outside host.old).now)) }
+        ensures not_store { IsErrOf result BookFault.NotStore → IsTrue H.told → readable (image unit (H.outside host.old).now) ≡ None }
+        ensures moment { (H.outside host.new).now ≡ (H.outside host.old).now }
+        ensures alone { Touches unit (H.outside host.old) (H.outside host.new) }
+        ensures cause { IsErrOf result BookFault.Device → Rose ((H.outside host.old).dev_faults unit) ((H.outside host.new).dev_faults unit) }
+    {
+        let (book, catalog) = open_catalog::<P, H>(alloc, host, unit)?;
+        Ok(Store {
+            alloc,
+            book,
+            catalog,
+        })
+    }
+
+    /// Makes a change at a minute, and answers the new id or soup signature, else 0. After a refusal the store is as it was; after a stop it is spent.
+    pub fn apply<H: Host>(
+        &mut self,
+        host: &mut H,
+        change: Change,
+        now: u32,
+    ) -> Result<u32, StoreFault>
+        requires stands { P.stands H.told self.old.book (H.outside host.old) }
+        requires sound { IsSound H.told self.old.catalog (P.numbers self.old.book) (P.place self.old.book) (H.outside host.old) }
+        ensures stands { GoesOn result → P.stands H.told self.new.book (H.outside host.new) }
+        ensures sound { GoesOn result → IsSound H.told self.new.catalog (P.numbers self.new.book) (P.place self.new.book) (H.outside host.new) }
+        ensures place { P.place self.new.book ≡ P.place self.old.book }
+        // the plain store's change, or the first of its refusals
+        ensures accepted { IsTrue H.told → (s : PlainStore) → StandsFor self.old.catalog s (image (P.place self.old.book) (H.outside host.old).now) → OnOk result (refusal_of change (blocks_of (image (P.place self.old.book) (H.outside host.old).now)) now s ≡ None) }
+        ensures answer { IsTrue H.told → (s : PlainStore) → StandsFor self.old.catalog s (image (P.place self.old.book) (H.outside host.old).now) → IfOk result (λ n. n ≡ answer_of change s) }
+        ensures changed { IsTrue H.told → (s : PlainStore) → StandsFor self.old.catalog s (image (P.place self.old.book) (H.outside host.old).now) → OnOk result (StandsFor self.new.catalog (changed_by change now s) (image (P.place self.old.book) (H.outside host.new).now)) }
+        ensures refused { IsTrue H.told → (s : PlainStore) → StandsFor self.old.catalog s (image (P.place self.old.book) (H.outside host.old).now) → IfErr result (RefusesWith (refusal_of change (blocks_of (image (P.place self.old.book) (H.outside host.old).now)) now s)) }
+        ensures still { IsTrue H.told → (s : PlainStore) → StandsFor self.old.catalog s (image (P.place self.old.book) (H.outside host.old).now) → IsRefused result → StandsFor self.new.catalog s (image (P.place self.old.book) (H.outside host.old).now) }
+        ensures nothing_done { IsRefused result → (H.outside host.new).now ≡ (H.outside host.old).now }
+        // at each moment a crash leaves the store before the change, or, where the change is not refused, the one after it
+        ensures any_moment { IsTrue H.told → (s : PlainStore) → StandsFor self.old.catalog s (image (P.place self.old.book) (H.outside host.old).now) → Leaves (P.place self.old.book) (IsBeforeOrChanged change (blocks_of (image (P.place self.old.book) (H.outside host.old).now)) now s) (H.outside host.old).now (H.outside host.new).now }
+        ensures alone { Touches (P.place self.old.book) (H.outside host.old) (H.outside host.new) }
+        ensures cause { IfErr result (FaultsAt (P.place self.old.book) (H.outside host.old) (H.outside host.new)) }
+    {
+        let next = plan_change(self.alloc, host, &mut self.book, &self.catalog, change, now)?;
+        match carry_out(self.alloc, host, &mut self.book, &mut self.catalog, next) {
+            Ok(answer) => Ok(answer),
+            Err(fault) => Err(fault),
+        }
+    }
+
+    /// Reads an entry. None where there is no such soup, or it has no such entry.
+    pub fn entry<H: Host>(
+        &mut self,
+        host: &mut H,
+        soup: Sig,
+        uid: Uid,
+    ) -> Result<Option<Entry>, Stop>
+        requires stands { P.stands H.told self.old.book (H.outside host.old) }
+        requires sound { IsSound H.told self.old.catalog (P.numbers self.old.book) (P.place self.old.book) (H.outside host.old) }
+        ensures entry { IsTrue H.told → (s : PlainStore) → StandsFor self.old.catalog s (image (P.place self.old.book) (H.outside host.old).now) → IfOk result (λ found. option_map plain_entry found ≡ entry_in soup uid s) }
+        ensures stands { P.stands H.told self.new.book (H.outside host.new) }
+        ensures sound { IsSound H.told self.new.catalog (P.numbers self.new.book) (P.place self.new.book) (H.outside host.new) }
+        ensures same { (P.place self.new.book ≡ P.place self.old.book) × (P.numbers self.new.book ≡ P.numbers self.old.book) × (self.new.catalog ≡ self.old.catalog) }
+        ensures moment { (H.outside host.new).now ≡ (H.outside host.old).now }
+        ensures alone { Touches (P.place self.old.book) (H.outside host.old) (H.outside host.new) }
+        ensures costs { IsTrue H.told → (s : PlainStore) → StandsFor self.old.catalog s (image (P.place self.old.book) (H.outside host.old).now) → Spends (P.place self.old.book) 0 (512 * pages_of_entry (entry_in soup uid s)) (H.outside host.old) (H.outside host.new) }
+        ensures cause { IfErr result (StopsAt (P.place self.old.book) (H.outside host.old) (H.outside host.new)) }
+    {
+        match self.catalog.places.get(soup, uid) {
+            Some(id) => {
+                let row = read_row(self.alloc, host, &mut self.book, &self.catalog.objects, id)?;
+                Ok(Some(Entry {
+                    uid: row.uid,
+                    time: row.time,
+                    graph: row.skeleton,
+                }))
+            }
+            None => Ok(None),
+        }
+    }
+
+    /// The directory: name and signature of the store, and its soups.
+    pub fn directory(&self) -> &Directory
+        ensures { result.now ≡ self.now.catalog.directory }
+    {
+        &self.catalog.directory
+    }
+
+    /// Whether the soup has the entry.
+    pub fn has(&self, soup: Sig, uid: Uid) -> bool
+        ensures { (now : List ℕ) (s : PlainStore) → StandsFor self.now.catalog s now → result ≡ is_some (entry_in soup uid s) }
+    {
+        self.catalog.places.get(soup, uid).is_some()
+    }
+
+    /// The unit that it is on.
+    pub fn unit(&self) -> Unit
+        ensures { result ≡ P.place self.now.book }
+    {
+        self.book.unit()
+    }
+}
