@@ -17,4 +17,6 @@ mod objects;
 #[cfg(test)]
 mod plans;
 #[cfg(test)]
+mod rooms;
+#[cfg(test)]
 mod tests;
