@@ -94,6 +94,11 @@ refusal_of change blocks now s = first_of (refusals change blocks now s)
 abbrev pub new_store : List ℕ → ℕ → Store
 new_store name sig = record { name = name; sig = sig; next_soup = 0; soups = [] }
 
+-- how many entries a soup has, none where there is no soup
+abbrev pub count_in : Option Soup → ℕ
+count_in None = 0
+count_in (Some p) = length p.entries
+
 -- the pages of an entry, if there is one
 abbrev pub pages_of_entry : Option Entry → ℕ
 pages_of_entry None = 0
