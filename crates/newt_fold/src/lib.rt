@@ -1,0 +1,108 @@
+//! Folding of texts, and search in folded texts.
+//!
+//! It stands on `caseless` for the tables of folding, on `memchr` for the search, and on the definition of words. It carries this promise: units
+//! are read as UTF-16 with each lone surrogate as U+FFFD, case is folded by Unicode's default table, and a word or a part is found exactly where
+//! the definition has it, character by character.
+#![tactic(auto)]
+
+ghost use Rattle.std.specs.Prelude.{◌≡◌, ◌∷◌, [], IfOk, IfSome, MatchOption, not, ◌&&◌, chars, string_bytes, encode_utf8_all};
+ghost use Rattle.std.specs.Str.{IsUtf8};
+ghost use Rattle.std.specs.Char.Utf16.{utf16_lossy_chars};
+ghost use Rattle.caseless.specs.Caseless.{default_case_fold};
+ghost use Rattle.newt_spec_query.specs.Words as spec;
+
+use caseless::default_case_fold_str;
+use memchr::memmem;
+use std::alloc::{AllocError, Global};
+
+#[cfg(test)]
+mod tests;
+
+/// The text of UTF-16 units, in which a surrogate without its partner is U+FFFD.
+pub fn units_to_text(alloc: Global, units: &[u16]) -> Result<String, AllocError>
+    ensures bytes { IfOk result (λ text. string_bytes text ≡ encode_utf8_all (utf16_lossy_chars units.now)) }
+    ensures chars { IfOk result (λ text. chars (string_bytes text) ≡ utf16_lossy_chars units.now) }
+{
+    let text = String::from_utf16_lossy(alloc, units)?;
+    Ok(text)
+}
+
+/// The text with its case folded by Unicode's default table.
+pub fn folded(alloc: Global, text: &str) -> Result<String, AllocError>
+    ensures bytes { IfOk result (λ folded. string_bytes folded ≡ encode_utf8_all (default_case_fold (chars text.now))) }
+    ensures chars { IfOk result (λ folded. chars (string_bytes folded) ≡ default_case_fold (chars text.now)) }
+{
+    let folded = default_case_fold_str(alloc, text)?;
+    Ok(folded)
+}
+
+/// Whether the part stands anywhere in the text. Both are folded.
+pub fn has_text(folded_text: &str, folded_part: &str) -> bool
+    ensures { result ≡ spec.has_text (chars folded_text.now) (chars folded_part.now) }
+{
+    memmem::find(folded_text.as_bytes(), folded_part.as_bytes()).is_some()
+}
+
+/// Whether a word of the text begins with the given one or, where that is entire, is it. Both are folded.
+pub fn has_word(folded_text: &str, folded_word: &str, entire: bool) -> bool
+    ensures { result ≡ spec.has_word (chars folded_text.now) (chars folded_word.now) entire }
+{
+    let mut before = false;
+    let mut rest = folded_text;
+    while let Some((first, behind)) = split_first(rest) {
+        if word_begins(rest, folded_word, before, entire) {
+            return true;
+        }
+        before = is_word_char(first);
+        rest = behind;
+    }
+    false
+}
+
+/// The first character of a text, and what follows it.
+fn split_first(text: &str) -> Option<(char, &str)>
+    ensures parts { MatchOption result (chars text.now ≡ []) (λ x. chars text.now ≡ x.0 ∷ chars x.1.now) }
+    ensures text { IfSome result (λ x. IsUtf8 x.1.now) }
+{
+    let mut left = text.chars();
+    match left.next() {
+        Some(first) => Some((first, left.as_str())),
+        None => None,
+    }
+}
+
+/// Whether the word begins where the text does. `before`: a word character stands directly before.
+fn word_begins(text: &str, word: &str, before: bool, entire: bool) -> bool
+    ensures { result ≡ spec.word_at (chars word.now) entire (before, chars text.now) }
+{
+    if before || !begins_with_word_char(word) {
+        return false;
+    }
+    match text.strip_prefix(word) {
+        Some(behind) => may_end(behind, entire),
+        None => false,
+    }
+}
+
+/// Whether a word may end before this text.
+fn may_end(behind: &str, entire: bool) -> bool
+    ensures { result ≡ not (entire && spec.begins_with_word_char (chars behind.now)) }
+{
+    !entire || !begins_with_word_char(behind)
+}
+
+fn begins_with_word_char(text: &str) -> bool
+    ensures { result ≡ spec.begins_with_word_char (chars text.now) }
+{
+    match split_first(text) {
+        Some((first, _)) => is_word_char(first),
+        None => false,
+    }
+}
+
+/// An ASCII letter or digit, or a character above 127.
+fn is_word_char(c: char) -> bool
+    ensures { result ≡ spec.is_word_char c }
+{
+    c.is_ascii_alphanumeric() || c as u32 > 127
+}
