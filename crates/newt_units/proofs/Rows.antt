@@ -1,8 +1,11 @@
 -- The soups of a store, in order.
-use Rattle.std.proofs.Common.{◌≡◌, refl, ap, sym, ◌∙◌, ℕ, zero, suc, ◌+◌, ◌<◌, ◌≤◌, List, [], ◌∷◌, ◌++◌, inl, inr, true, take, map, find, length, Option, Some, None, option_map, replicate, arith, ◌==◌}
+use Rattle.std.proofs.Common.{◌≡◌, refl, ap, sym, ◌∙◌, ℕ, zero, suc, ◌+◌, ◌<◌, ◌≤◌, List, [], ◌∷◌, ◌++◌, inl, inr, true, take, map, find, length, Option, Some, None, option_map, replicate, arith, add-one, ◌==◌}
 use Rattle.std.specs.Prelude.{slice_get}
 use Rattle.std.proofs.lemmas.Bool.{eq-eqb, eqb-true}
+use Rattle.std.proofs.lemmas.List.{map-append}
 use Rattle.std.proofs.lemmas.Option.{slice_get-map}
+use Rattle.newt_reply.specs.Said.{soup_row}
+use Rattle.newt_reply.specs.declared.rows.SoupLine.{SoupLine}
 use Rattle.newt_spec_graph.specs.Lists.{Pairs, Among}
 use Rattle.newt_spec_graph.proofs.Lists.{rises-pairs, pairs-map, some-same, none-some}
 use Rattle.newt_spec_store.specs.Laid.{bare}
@@ -59,38 +62,51 @@ by-sig : (s : Store) (at : ℕ) (p : Soup) → well_formed s ≡ true → slice_
 by-sig s at p ok h =
     let among : Among s.soups p = among-at s.soups at p h in
     let rise : Pairs (λ (a b : Soup). a.sig < b.sig) s.soups =
-        pairs-map (λ m n. m < n) (λ (p : Soup). p.sig) s.soups (rises-pairs 0 s.next_soup (map (λ (p : Soup). p.sig) s.soups) (is-store s ok).sigs) in
+    pairs-map (λ m n. m < n) (λ (p : Soup). p.sig) s.soups (rises-pairs 0 s.next_soup (map (λ (p : Soup). p.sig) s.soups) (is-store s ok).sigs) in
     let r = find-some (λ (q : Soup). q.sig == p.sig) s.soups p among (eq-eqb p.sig p.sig refl) in
     let f = find-passes (λ (q : Soup). q.sig == p.sig) s.soups r.0 r.1 in
     r.1 ∙ ap Some (one-sig s.soups r.0 p rise f.1 among (eqb-true r.0.sig p.sig f.0))
 
-module _ (s : Store) (ok : well_formed s ≡ true) (t : Store) (known : bare s ≡ t) (at : ℕ) where
-  bare-at : slice_get t.soups at ≡ option_map bare_soup (slice_get s.soups at)
-  bare-at = ap (λ (t : Store). slice_get t.soups at) (sym known) ∙ slice_get-map bare_soup s.soups at
+abbrev pair : Soup → List ℕ × ℕ
+pair p = (p.name, p.sig)
 
-  -- the rows so far, and that of a soup that is there
-  pub row-next : (name : List ℕ) (sig count : ℕ) → Some (name, sig) ≡ option_map (λ p. (p.name, p.sig)) (slice_get t.soups at) → count ≡ count_in (soup_of sig s)
-      → take (suc at) (soup_rows s) ≡ take at (soup_rows s) ++ (name, sig, count) ∷ []
-  row-next name sig count here counted = go (slice_get s.soups at) refl
+module _ (s : Store) (ok : well_formed s ≡ true) (t : Store) (known : bare s ≡ t) (at : ℕ) where
+  bare-at : option_map pair (slice_get t.soups at) ≡ option_map pair (slice_get s.soups at)
+  bare-at = ap (λ (t : Store). option_map pair (slice_get t.soups at)) (sym known) ∙ ap (option_map pair) (slice_get-map bare_soup s.soups at) ∙ go (slice_get s.soups at)
     where
-      go : (o : Option Soup) → slice_get s.soups at ≡ o → take (suc at) (soup_rows s) ≡ take at (soup_rows s) ++ (name, sig, count) ∷ []
-      go None e = absurd (none-some (name, sig) (sym (here ∙ ap (option_map (λ (p : Soup). (p.name, p.sig))) (bare-at ∙ ap (option_map bare_soup) e))))
+      go : (o : Option Soup) → option_map pair (option_map bare_soup o) ≡ option_map pair o
+      go None = refl
+      go (Some p) = refl
+
+  row-at : (o : Option Soup) → slice_get s.soups at ≡ o → slice_get (soup_rows s) at ≡ option_map row o
+  row-at o e = slice_get-map row s.soups at ∙ ap (option_map row) e
+
+  -- the lines so far, and that of a soup that is there
+  pub row-next : (lines more : List SoupLine) (line : SoupLine) → more ≡ lines ++ line ∷ [] → map soup_row lines ≡ take at (soup_rows s)
+      → ◌≡◌ {A = Option (List ℕ × ℕ)} (Some (line.name, line.sig)) (option_map pair (slice_get t.soups at)) → line.count ≡ count_in (soup_of line.sig s)
+      → map soup_row more ≡ take (at + 1) (soup_rows s)
+  row-next lines more line pushed so_far here counted =
+      ap (map soup_row) pushed ∙ map-append soup_row lines (line ∷ []) ∙ ap {A = List (List ℕ × ℕ × ℕ)} (λ xs. xs ++ soup_row line ∷ []) so_far
+      ∙ sym (ap (λ n. take n (soup_rows s)) (add-one at) ∙ take-next (soup_rows s) at (soup_row line) (go (slice_get s.soups at) refl))
+    where
+      go : (o : Option Soup) → slice_get s.soups at ≡ o → slice_get (soup_rows s) at ≡ Some (soup_row line)
+      go None e = absurd (none-some (line.name, line.sig) (sym (here ∙ bare-at ∙ ap (option_map pair) e)))
       go (Some p) e =
-          let same : (name, sig) ≡ (p.name, p.sig) = some-same _ _ (here ∙ ap (option_map (λ (p : Soup). (p.name, p.sig))) (bare-at ∙ ap (option_map bare_soup) e)) in
-          let n : p.name ≡ name = ap (λ (x : List ℕ × ℕ). x.0) (sym same) in
-          let g : p.sig ≡ sig = ap (λ (x : List ℕ × ℕ). x.1) (sym same) in
-          let c : length p.entries ≡ count = ap count_in (sym (ap (λ k. soup_of k s) (sym g) ∙ by-sig s at p ok e)) ∙ sym counted in
-          take-next (soup_rows s) at (row p) (slice_get-map row s.soups at ∙ ap (option_map row) e)
-          ∙ ap {A = List ℕ × ℕ × ℕ} {B = List (List ℕ × ℕ × ℕ)} (λ x. take at (soup_rows s) ++ x ∷ [])
-          (ap {B = List ℕ × ℕ × ℕ} (λ m. (m, p.sig, length p.entries)) n ∙ ap {B = List ℕ × ℕ × ℕ} (λ m. (name, m, length p.entries)) g ∙ ap {B = List ℕ × ℕ × ℕ} (λ m. (name, sig, m)) c)
+          let same : ◌≡◌ {A = List ℕ × ℕ} (line.name, line.sig) (pair p) = some-same (line.name, line.sig) (pair p) (here ∙ bare-at ∙ ap (option_map pair) e) in
+          let n : p.name ≡ line.name = ap (λ (x : List ℕ × ℕ). x.0) (sym same) in
+          let g : p.sig ≡ line.sig = ap (λ (x : List ℕ × ℕ). x.1) (sym same) in
+          let c : length p.entries ≡ line.count = ap count_in (sym (ap (λ k. soup_of k s) (sym g) ∙ by-sig s at p ok e)) ∙ sym counted in
+          row-at (Some p) e
+          ∙ ap {A = List ℕ × ℕ × ℕ} Some (ap {B = List ℕ × ℕ × ℕ} (λ m. (m, p.sig, length p.entries)) n ∙ ap {B = List ℕ × ℕ × ℕ} (λ m. (line.name, m, length p.entries)) g
+          ∙ ap {B = List ℕ × ℕ × ℕ} (λ m. (line.name, line.sig, m)) c)
 
   -- and where none is there
-  pub row-past : None ≡ option_map (λ p. (p.name, p.sig)) (slice_get t.soups at) → take (suc at) (soup_rows s) ≡ take at (soup_rows s)
-  row-past gone = go (slice_get s.soups at) refl
+  pub row-past : (lines : List SoupLine) → map soup_row lines ≡ take at (soup_rows s) → ◌≡◌ {A = Option (List ℕ × ℕ)} None (option_map pair (slice_get t.soups at)) → map soup_row lines ≡ take (at + 1) (soup_rows s)
+  row-past lines so_far gone = so_far ∙ sym (ap (λ n. take n (soup_rows s)) (add-one at) ∙ take-past (soup_rows s) at (go (slice_get s.soups at) refl))
     where
-      go : (o : Option Soup) → slice_get s.soups at ≡ o → take (suc at) (soup_rows s) ≡ take at (soup_rows s)
-      go None e = take-past (soup_rows s) at (slice_get-map row s.soups at ∙ ap (option_map row) e)
-      go (Some p) e = absurd (none-some (p.name, p.sig) (gone ∙ ap (option_map (λ (p : Soup). (p.name, p.sig))) (bare-at ∙ ap (option_map bare_soup) e)))
+      go : (o : Option Soup) → slice_get s.soups at ≡ o → slice_get (soup_rows s) at ≡ None
+      go None e = row-at None e
+      go (Some p) e = absurd (none-some (pair p) (gone ∙ bare-at ∙ ap (option_map pair) e))
 
 length-rows : (ps : List Soup) → length (map row ps) ≡ length ps
 length-rows [] = refl

@@ -1,8 +1,12 @@
 -- What all the stores that are mounted show.
 use Rattle.std.proofs.Common.{arith, ◌≡◌, refl, ap, sym, ◌∙◌, ℕ, zero, suc, ◌+◌, ◌<◌, List, [], ◌∷◌, ◌++◌, Bool, true, false, ◌||◌, cond, drop, map, append_assoc, Option, Some, None, option_map, option_and_then, ◌==◌}
-use Rattle.std.specs.Prelude.{is_some}
+use Rattle.std.specs.Prelude.{is_some, Result, Ok, Err, IfOk}
+use Rattle.std.specs.declared.alloc.AllocError.{AllocError}
+use Rattle.std.proofs.lemmas.List.{map-append}
 use Rattle.std.specs.List.{list_any, position_from, cons_option}
 use Rattle.newt_host.specs.Outside.{Outside}
+use Rattle.newt_reply.specs.Said.{store_row}
+use Rattle.newt_reply.specs.declared.rows.StoreLine.{StoreLine}
 use Rattle.newt_spec_graph.proofs.Lists.{some-same, none-some}
 use Rattle.newt_spec_store.specs.Store.{Store}
 use Rattle.newt_spec_world.specs.First.{unit_numbers}
@@ -57,6 +61,12 @@ stores-answers {reads = reads} l units o e s rows h =
     stores-done (world_of reads units o) refl
     ∙ ap {A = List (ℕ × ℕ × List ℕ)} {B = World × Reply} (λ x. (world_of reads units o, Reply.stores x)) (rows-is (world_of reads units o) ∙ ap (face_rows 0) (faces-known l units o e s) ∙ sym h)
 
+pub stores-if-ok : {C : Type 0} {reads : List ℕ → Option Store} {place : C → ℕ} {soups : C → Store} {stands : Bool → C → Outside → Type 0} → Laws reads place soups stands → (units : Units C) (o : Outside) → Eight o
+    → Stands place stands true units o → (result : Result (List StoreLine) AllocError) → IfOk result (λ rows. map store_row rows ≡ face_rows 0 (card_faces soups units.slots.items))
+    → IfOk result (λ rows. answer_now (world_of reads units o) command.Stores ≡ (world_of reads units o, Reply.stores (map store_row rows)))
+stores-if-ok l units o e s (Ok rows) h = stores-answers l units o e s (map store_row rows) h
+stores-if-ok l units o e s (Err error) h = h
+
 -- ---- one unit after another
 
 -- the next of the eight
@@ -98,9 +108,24 @@ module _ {C : Type 0} (soups : C → Store) where
     count-step b is = ap shown_count (drop-step (λ u. card_face soups (card_at slots u)) n h)
         ∙ ap (λ b. cond b (1 + shown_count (rest (n + 1))) (shown_count (rest (n + 1)))) (face-some (card_at slots n) ∙ is)
 
-    pub rows-step : (card : Option C) → card_at slots n ≡ card → face_rows n (rest n) ≡ cons_option (option_map (λ (x : ℕ × List ℕ). (n, x.0, x.1)) (card_face soups card)) (face_rows (n + 1) (rest (n + 1)))
+    rows-step : (card : Option C) → card_at slots n ≡ card → face_rows n (rest n) ≡ cons_option (option_map (λ (x : ℕ × List ℕ). (n, x.0, x.1)) (card_face soups card)) (face_rows (n + 1) (rest (n + 1)))
     rows-step card is = ap (face_rows n) (drop-step (λ u. card_face soups (card_at slots u)) n h)
         ∙ ap (λ c. cons_option (option_map (λ (x : ℕ × List ℕ). (n, x.0, x.1)) (card_face soups c)) (face_rows (n + 1) (rest (n + 1)))) is
+
+    -- the lines so far, and that of a unit that has a card
+    pub line-next : (lines more : List StoreLine) (line : StoreLine) (total : List (ℕ × ℕ × List ℕ)) (card : C) → more ≡ lines ++ line ∷ [] → map store_row lines ++ face_rows n (rest n) ≡ total → card_at slots n ≡ Some card
+        → ◌≡◌ {A = ℕ × ℕ × List ℕ} (store_row line) (n, (soups card).sig, (soups card).name) → map store_row more ++ face_rows (n + 1) (rest (n + 1)) ≡ total
+    line-next lines more line total card pushed so_far there is =
+        ap (λ xs. map store_row xs ++ face_rows (n + 1) (rest (n + 1))) pushed
+        ∙ ap (λ xs. xs ++ face_rows (n + 1) (rest (n + 1))) (map-append store_row lines (line ∷ []))
+        ∙ append_assoc (map store_row lines) (store_row line ∷ []) (face_rows (n + 1) (rest (n + 1)))
+        ∙ ap {A = ℕ × ℕ × List ℕ} {B = List (ℕ × ℕ × List ℕ)} (λ x. map store_row lines ++ x ∷ face_rows (n + 1) (rest (n + 1))) is
+        ∙ ap {A = List (ℕ × ℕ × List ℕ)} (λ xs. map store_row lines ++ xs) (sym (rows-step (Some card) there))
+        ∙ so_far
+
+    -- and of one that has none
+    pub line-past : (lines : List StoreLine) (total : List (ℕ × ℕ × List ℕ)) → map store_row lines ++ face_rows n (rest n) ≡ total → card_at slots n ≡ None → map store_row lines ++ face_rows (n + 1) (rest (n + 1)) ≡ total
+    line-past lines total so_far none = ap {A = List (ℕ × ℕ × List ℕ)} (λ xs. map store_row lines ++ xs) (sym (rows-step None none)) ∙ so_far
 
 -- whether there is one, and the first
 pub any-first : (sig k : ℕ) (fs : List Face) → list_any (shows sig) fs ≡ is_some (position_from (shows sig) k fs)

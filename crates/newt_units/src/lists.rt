@@ -8,14 +8,14 @@ ghost use Rattle.newt_spec_world.specs.declared.command.Command.{Command};
 ghost use Rattle.newt_laws_answers.specs.Stage.{answer_now};
 ghost use Rattle.newt_reply.specs.Said.{store_row, soup_row};
 ghost use Rattle.newt_units.specs.Answers.{Answers};
-ghost use Rattle.newt_units.specs.Cards.{soup_rows};
+ghost use Rattle.newt_units.specs.Cards.{count_in, soup_of, soup_rows};
 ghost use Rattle.newt_units.specs.Faults.{NoDevice};
 ghost use Rattle.newt_units.specs.Stands.{Eight, Stands, world_of};
 
 use crate::card::Card;
 use crate::fault::Fault;
 use crate::units::Units;
-use newt_base::Refusal;
+use newt_base::{Name, Refusal, Sig};
 use newt_host::Unit;
 use newt_reply::{SoupLine, SoupRows, StoreRows};
 use std::alloc::AllocError;
@@ -51,15 +51,24 @@ impl<C: Card> Units<C> {
     {
         let mut lines = Vec::new(self.alloc);
         for at in 0..MOST_SOUPS {
-            let Some((name, sig)) = card.soup_at(at) else {
+            let Some(soup) = card.soup_at(at) else {
                 continue;
             };
-            lines.push(SoupLine {
-                name: name.copy()?,
-                sig,
-                count: card.count(sig),
-            })?;
+            lines.push(soup_line(card, soup)?)?;
         }
         Ok(SoupRows::of(lines))
     }
+}
+
+/// The line of a soup of a card, by its name and signature.
+fn soup_line<C: Card>(card: &C, soup: (&Name, Sig)) -> Result<SoupLine, AllocError>
+    ensures name { IfOk result (λ line. line.name ≡ soup.entry.0.now) }
+    ensures sig { IfOk result (λ line. line.sig ≡ soup.entry.1) }
+    ensures count { (outside : Outside) (s : Store) → C.stands true card.now outside → C.reads (image (C.place card.now) outside.now) ≡ Some s → IfOk result (λ line. line.count ≡ count_in (soup_of soup.entry.1 s)) }
+{
+    Ok(SoupLine {
+        name: soup.0.copy()?,
+        sig: soup.1,
+        count: card.count(soup.1),
+    })
 }

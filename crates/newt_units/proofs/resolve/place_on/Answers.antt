@@ -10,12 +10,12 @@ pub returns-then-not-has : goal.returns-then-not-has
 returns-then-not-has g c outside s stands reads =
     sym (spot-gone c.args.unit c.args.soup c.args.uid s (sym (c.has.ensures outside s stands reads) ∙ c.if-not-has.true))
 
-pub returns-in-Some : goal.returns-in-Some
-returns-in-Some g c outside s stands reads =
+pub returns-in_ok-copy-in-Some : goal.returns-in_ok-copy-in-Some
+returns-in_ok-copy-in-Some g c outside s stands reads =
     let p = g.met.C.Card.plain c.args.card.now outside stands in
     let known = ap bare (sym (some-same p.0 s (sym p.1 ∙ reads))) ∙ p.2 in
     let named = sym (name-known c.args.soup s (g.C.Card.soups c.args.card.now) known) ∙ sym c.in-Some.ensures in
-    ap {B = Reply} (λ n. Reply.where_is c.args.unit n c.args.uid) c.in_ok-copy.ensures ∙ sym (spot-there c.args.unit c.args.soup c.args.uid s _ named (sym (c.has.ensures outside s stands reads) ∙ c.if-not-has.false))
+    ap {B = Reply} (λ n. Reply.where_is c.args.unit n c.args.uid) c.in_ok-copy-in-Some.ensures ∙ sym (spot-there c.args.unit c.args.soup c.args.uid s _ named (sym (c.has.ensures outside s stands reads) ∙ c.if-not-has.false))
 
 pub returns-in-None : goal.returns-in-None
 returns-in-None g c outside s stands reads =

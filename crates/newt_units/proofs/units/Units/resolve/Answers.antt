@@ -7,10 +7,10 @@ use Rattle.newt_laws_answers.proofs.Resolves.{resolve-bad, resolve-done}
 use Rattle.newt_units.specs.Stands.{world_of}
 use Rattle.newt_units.proofs.units.Units.resolve.Goals as goal
 
-pub returns-in-Some-clause-answered : goal.returns-in-Some-clause-answered
-returns-in-Some-clause-answered g c outside eight stand =
+pub returns-in_ok-find_alias-in-Some-clause-answered : goal.returns-in_ok-find_alias-in-Some-clause-answered
+returns-in_ok-find_alias-in-Some-clause-answered g c outside eight stand =
     let w = world_of g.C.Card.reads c.args.self.now outside in
-    resolve-done w c.args.graph.now (alias_said c.in-Some.alias) (sym c.in-Some.ensures) refl ∙ ap {B = World × Reply} (λ r. (w, r)) (sym (c.in_ok-find_alias.ensures outside eight stand))
+    resolve-done w c.args.graph.now (alias_said c.in-Some.alias) (sym c.in-Some.ensures) refl ∙ ap {B = World × Reply} (λ r. (w, r)) (sym (c.in_ok-find_alias-in-Some.ensures outside eight stand))
 
 pub returns-in-None-clause-answered : goal.returns-in-None-clause-answered
 returns-in-None-clause-answered g c outside eight stand =

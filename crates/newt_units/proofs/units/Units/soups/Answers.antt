@@ -16,8 +16,8 @@ returns-in_err-find_unit-clause-answered g c outside eight stand =
     } in
     unit-refused at refl c.args.unit _ _ (soups-refused (world_of g.C.Card.reads c.args.self.now outside) c.args.unit) _ c.in_err-find_unit.ensures _ (err_from_is_err_and c.from_residual.result c.from_residual.ensures.1)
 
-pub returns-in-Some-clause-answered : goal.returns-in-Some-clause-answered
-returns-in-Some-clause-answered g c outside eight stand =
+pub returns-in_ok-soup_lines-in-Some-clause-answered : goal.returns-in_ok-soup_lines-in-Some-clause-answered
+returns-in_ok-soup_lines-in-Some-clause-answered g c outside eight stand =
     let at : Setting g.C.Card.reads g.C.Card.place g.C.Card.soups g.C.Card.stands true c.args.self.now outside = record {
       laws = record { formed = g.met.C.Card.formed; plain = g.met.C.Card.plain; durable = g.met.C.Card.durable; banks = g.met.C.Card.banks; kept = g.met.C.Card.kept };
       eight = eight;
@@ -25,7 +25,7 @@ returns-in-Some-clause-answered g c outside eight stand =
     } in
     let p = (unit-there at refl c.args.unit c.in_ok-find_unit.ensures).1 in
     let k = card-reads at refl c.args.unit _ p.store p.on c.in-Some.card.now c.in-Some.ensures in
-    soups-answers (world_of g.C.Card.reads c.args.self.now outside) c.args.unit _ p.store p.on refl _ (c.in_ok-soup_lines.ensures outside p.store k.0 k.1)
+    soups-answers (world_of g.C.Card.reads c.args.self.now outside) c.args.unit _ p.store p.on refl _ (c.in_ok-soup_lines-in-Some.ensures outside p.store k.0 k.1)
 
 pub returns-in-None-clause-answered : goal.returns-in-None-clause-answered
 returns-in-None-clause-answered g c outside eight stand =
