@@ -4,3 +4,8 @@ pub mod Turns
 pub mod Calls
 pub mod Commands
 pub mod Settings
+pub mod Shown
+pub mod Mounts
+pub mod Moves
+pub mod Rows
+pub mod Resolving

@@ -1,5 +1,5 @@
 -- What a store on a card stands for.
-use Rattle.std.specs.Prelude.{◌≡◌, ◌⊎◌, ℕ, ◌==◌, Bool, IsTrue, List, length, Option, Some, None, option_map, option_and_then, Result, Ok, Err}
+use Rattle.std.specs.Prelude.{◌≡◌, ◌⊎◌, ℕ, ◌==◌, Bool, IsTrue, List, length, map, Option, Some, None, option_map, option_and_then, Result, Ok, Err}
 use Rattle.std.specs.List.{find}
 use Rattle.newt_base.specs.Refusals.{Checks, first_of}
 use Rattle.newt_host.specs.Moments.{Moment, changes}
@@ -47,3 +47,7 @@ count_in (Some p) = length p.entries
 -- no other unit is other than it was
 abbrev pub OthersSame : ℕ → Moment → Moment → Type 0
 OthersSame unit old new = (u : ℕ) → (u ≡ unit → ⊥) → changes u new ≡ changes u old
+
+-- the lines of the soups of a store
+abbrev pub soup_rows : Store → List (List ℕ × ℕ × ℕ)
+soup_rows s = map (λ p. (p.name, p.sig, length p.entries)) s.soups

@@ -57,3 +57,9 @@ IsRefusal (Ends stop) = ⊥
 abbrev pub IsEnd : Fault → Type 0
 IsEnd (Refused refusal) = ⊥
 IsEnd (Ends stop) = Unit {0}
+
+-- no device is at fault: a refusal, or want of memory
+abbrev pub NoDevice : Fault → Type 0
+NoDevice (Refused refusal) = Unit {0}
+NoDevice (Ends stops.Memory) = Unit {0}
+NoDevice (Ends (stops.Device unit)) = ⊥

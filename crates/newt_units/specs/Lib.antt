@@ -4,3 +4,5 @@ pub mod Stands
 pub mod Answers
 pub mod Looks
 pub mod Found
+pub mod Faces
+pub mod Spots

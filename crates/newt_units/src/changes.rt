@@ -84,6 +84,7 @@ impl<C: Card> Units<C> {
         ensures moments { IsTrue H.told → let w = world_of C.reads self.old (H.outside host.old) in (blocks : ℕ) (s : Plain) (p : Soup) → OnUnit w unit blocks s → soup_of soup s ≡ Some p →
             (v : World) → (first_of (add_tests blocks w.minute p.name graph s p) ≡ None → store_on_unit v unit ≡ Some (change_soup p.name (add_entry w.minute graph) s)) →
             Always (Answering C.reads w v (H.outside host.old).now) (H.outside host.old).now (H.outside host.new).now }
+        ensures marks { (u : ℕ) → mounted_in self.new.slots.items u ≡ mounted_in self.old.slots.items u }
         ensures alone { OnDevices (H.outside host.old) (H.outside host.new) }
         ensures cause { IfErr result (λ fault. HasFaultCause fault (H.outside host.old) (H.outside host.new)) }
     {

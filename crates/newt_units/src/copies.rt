@@ -1,5 +1,5 @@
 //! Entries: copied and moved.
-ghost use Rattle.std.specs.Prelude.{◌≡◌, IsTrue, IfErr};
+ghost use Rattle.std.specs.Prelude.{◌≡◌, ◌≢◌, ℕ, List, true, IsTrue, IfErr};
 ghost use Rattle.newt_host.specs.Moments.{Always};
 ghost use Rattle.newt_spec_world.specs.Reply.{Reply};
 ghost use Rattle.newt_spec_world.specs.declared.command.Command.{Command};
@@ -7,12 +7,13 @@ ghost use Rattle.newt_laws_answers.specs.Answering.{Answering};
 ghost use Rattle.newt_laws_answers.specs.Stage.{answer_now};
 ghost use Rattle.newt_units.specs.Answers.{Answers};
 ghost use Rattle.newt_units.specs.Faults.{GoesOn, HasFaultCause, OnDevices};
-ghost use Rattle.newt_units.specs.Stands.{Stands, world_of};
+ghost use Rattle.newt_units.specs.Found.{HasSoup};
+ghost use Rattle.newt_units.specs.Stands.{Stands, mounted_in, world_of};
 
 use crate::card::{Card, Entry};
 use crate::fault::Fault;
 use crate::units::Units;
-use newt_base::{Name, Uid};
+use newt_base::{Name, Refusal, Sig, Uid};
 use newt_host::{Host, Unit};
 
 impl<C: Card> Units<C> {
@@ -37,5 +38,85 @@ impl<C: Card> Units<C> {
         let (soup, into) = self.find_both(unit, name, to, target)?;
         let Entry { graph, .. } = self.read_entry(host, unit, soup, uid)?;
         self.add_to(host, to, into, graph)
+    }
+
+    /// Adds the graph of an entry to another soup, at the present minute, removes it from its own, and answers the new id.
+    pub fn move_entry<H: Host>(
+        &mut self,
+        host: &mut H,
+        unit: Unit,
+        name: &Name,
+        uid: Uid,
+        to: Unit,
+        target: &Name,
+    ) -> Result<u32, Fault>
+        requires { Stands C.place C.stands H.told self.old (H.outside host.old) }
+        ensures stands { GoesOn result → Stands C.place C.stands H.told self.new (H.outside host.new) }
+        ensures answered { IsTrue H.told → Answers (world_of C.reads self.old (H.outside host.old)) (world_of C.reads self.new (H.outside host.new)) (Command.Move unit name.now uid to target.now) (λ n. Reply.number n) result }
+        ensures moments { IsTrue H.told → let w = world_of C.reads self.old (H.outside host.old) in
+            Always (Answering C.reads w (answer_now w (Command.Move unit name.now uid to target.now)).0 (H.outside host.old).now) (H.outside host.old).now (H.outside host.new).now }
+        ensures alone { OnDevices (H.outside host.old) (H.outside host.new) }
+        ensures cause { IfErr result (λ fault. HasFaultCause fault (H.outside host.old) (H.outside host.new)) }
+    {
+        let (soup, into) = self.find_both(unit, name, to, target)?;
+        if unit == to {
+            self.move_inside(host, unit, soup, uid, into)
+        } else {
+            self.move_between(host, unit, soup, uid, to, into)
+        }
+    }
+
+    /// Moves an entry to another soup of its store, as one change.
+    fn move_inside<H: Host>(
+        &mut self,
+        host: &mut H,
+        unit: Unit,
+        soup: Sig,
+        uid: Uid,
+        into: Sig,
+    ) -> Result<u32, Fault>
+        requires stands { Stands C.place C.stands H.told self.old (H.outside host.old) }
+        requires mounted { mounted_in self.old.slots.items unit ≡ true }
+        ensures stands { GoesOn result → Stands C.place C.stands H.told self.new (H.outside host.new) }
+        ensures answered { IsTrue H.told → let w = world_of C.reads self.old (H.outside host.old) in (name target : List ℕ) → HasSoup w unit name soup → HasSoup w unit target into →
+            Answers w (world_of C.reads self.new (H.outside host.new)) (Command.Move unit name uid unit target) (λ n. Reply.number n) result }
+        ensures moments { IsTrue H.told → let w = world_of C.reads self.old (H.outside host.old) in (name target : List ℕ) → HasSoup w unit name soup → HasSoup w unit target into →
+            Always (Answering C.reads w (answer_now w (Command.Move unit name uid unit target)).0 (H.outside host.old).now) (H.outside host.old).now (H.outside host.new).now }
+        ensures alone { OnDevices (H.outside host.old) (H.outside host.new) }
+        ensures cause { IfErr result (λ fault. HasFaultCause fault (H.outside host.old) (H.outside host.new)) }
+    {
+        if self.has_entry(unit, soup, uid) {
+            self.move_within(host, unit, soup, uid, into)
+        } else {
+            Err(Fault::Refused(Refusal::Entry))
+        }
+    }
+
+    /// Adds the graph of an entry to a soup of another store, and then removes it from its own.
+    fn move_between<H: Host>(
+        &mut self,
+        host: &mut H,
+        unit: Unit,
+        soup: Sig,
+        uid: Uid,
+        to: Unit,
+        into: Sig,
+    ) -> Result<u32, Fault>
+        requires stands { Stands C.place C.stands H.told self.old (H.outside host.old) }
+        requires mounted { mounted_in self.old.slots.items unit ≡ true }
+        requires target { mounted_in self.old.slots.items to ≡ true }
+        requires apart { to ≢ unit }
+        ensures stands { GoesOn result → Stands C.place C.stands H.told self.new (H.outside host.new) }
+        ensures answered { IsTrue H.told → let w = world_of C.reads self.old (H.outside host.old) in (name target : List ℕ) → HasSoup w unit name soup → HasSoup w to target into →
+            Answers w (world_of C.reads self.new (H.outside host.new)) (Command.Move unit name uid to target) (λ n. Reply.number n) result }
+        ensures moments { IsTrue H.told → let w = world_of C.reads self.old (H.outside host.old) in (name target : List ℕ) → HasSoup w unit name soup → HasSoup w to target into →
+            Always (Answering C.reads w (answer_now w (Command.Move unit name uid to target)).0 (H.outside host.old).now) (H.outside host.old).now (H.outside host.new).now }
+        ensures alone { OnDevices (H.outside host.old) (H.outside host.new) }
+        ensures cause { IfErr result (λ fault. HasFaultCause fault (H.outside host.old) (H.outside host.new)) }
+    {
+        let Entry { graph, .. } = self.read_entry(host, unit, soup, uid)?;
+        let added = self.add_to(host, to, into, graph)?;
+        self.remove_from(host, unit, soup, uid)?;
+        Ok(added)
     }
 }

@@ -44,6 +44,30 @@ impl<C: Card> Units<C> {
         self.add_to(host, unit, soup, graph)
     }
 
+    /// Adds an entry to a soup of the default store, at the present minute, and answers its unit and its id.
+    pub fn add_to_default<H: Host>(
+        &mut self,
+        host: &mut H,
+        name: &Name,
+        graph: Graph,
+    ) -> Result<(Unit, u32), Fault>
+        requires { Stands C.place C.stands H.told self.old (H.outside host.old) }
+        ensures stands { GoesOn result → Stands C.place C.stands H.told self.new (H.outside host.new) }
+        ensures answered { IsTrue H.told → Answers (world_of C.reads self.old (H.outside host.old)) (world_of C.reads self.new (H.outside host.new)) (Command.Addu name.now graph) (λ x. Reply.added x.0 x.1) result }
+        ensures moments { IsTrue H.told → let w = world_of C.reads self.old (H.outside host.old) in
+            Always (Answering C.reads w (answer_now w (Command.Addu name.now graph)).0 (H.outside host.old).now) (H.outside host.old).now (H.outside host.new).now }
+        ensures alone { OnDevices (H.outside host.old) (H.outside host.new) }
+        ensures cause { IfErr result (λ fault. HasFaultCause fault (H.outside host.old) (H.outside host.new)) }
+    {
+        match self.default {
+            Some(unit) => match self.add(host, unit, name, graph) {
+                Ok(uid) => Ok((unit, uid)),
+                Err(fault) => Err(fault),
+            },
+            None => Err(Fault::Refused(Refusal::Notmounted)),
+        }
+    }
+
     /// Reads an entry.
     pub fn get<H: Host>(
         &mut self,

@@ -4,7 +4,7 @@ ghost use Rattle.newt_spec_store.specs.Store.{Store as Plain};
 ghost use Rattle.newt_laws_answers.specs.There.{OnUnit};
 ghost use Rattle.newt_units.specs.Cards.{entry_at};
 ghost use Rattle.newt_host.specs.Outside.{Outside};
-ghost use Rattle.newt_units.specs.Stands.{card_at, Stands, Eight, world_of};
+ghost use Rattle.newt_units.specs.Stands.{card_at, mounted_in, Stands, Eight, world_of};
 ghost use Rattle.newt_units.specs.Faults.{IsRefusal};
 ghost use Rattle.newt_units.specs.Found.{FindsEntry};
 ghost use Rattle.newt_units.specs.Looks.{attached_in, known_soup, FindsUnit, LooksUp, LooksUpBoth};
@@ -34,6 +34,13 @@ impl<C: Card> Units<C> {
             Some(slot) => slot.card.as_ref(),
             None => None,
         }
+    }
+
+    /// Whether a store is mounted on a unit.
+    pub(crate) fn is_mounted(&self, unit: Unit) -> bool
+        ensures { result ≡ mounted_in self.now.slots.items unit }
+    {
+        self.card(unit).is_some()
     }
 
     /// The signature of a soup of the store that is mounted on a unit.
@@ -76,7 +83,7 @@ impl<C: Card> Units<C> {
     }
 
     /// Whether a soup of the store that is mounted on a unit has an entry.
-    fn has_entry(&self, unit: Unit, soup: Sig, uid: Uid) -> bool
+    pub(crate) fn has_entry(&self, unit: Unit, soup: Sig, uid: Uid) -> bool
         ensures { (outside : Outside) → Eight outside → Stands C.place C.stands true self.now outside → (blocks : ℕ) (s : Plain) → OnUnit (world_of C.reads self.now outside) unit blocks s →
             result ≡ is_some (entry_at soup uid s) }
     {

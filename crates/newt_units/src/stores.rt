@@ -1,4 +1,4 @@
-//! Stores: made, mounted and unmounted.
+//! Stores: made, and opened.
 ghost use Rattle.std.specs.Prelude.{◌≡◌, ◌≤◌, ℕ, IsTrue, None, Some, is_some, IfOk, OnOk, IfErr, MatchOption};
 ghost use Rattle.newt_host.specs.Moments.{Always, image};
 ghost use Rattle.newt_spec_world.specs.Changed.{new_store};
@@ -25,7 +25,7 @@ const MOST_SIG: u32 = 536_870_911;
 
 impl<C: Card> Units<C> {
     /// Whether the unit has a device with banks and is not mounted, or why not.
-    fn find_ready<H: Host>(&self, host: &H, unit: Unit) -> Result<(), Fault>
+    pub(crate) fn find_ready<H: Host>(&self, host: &H, unit: Unit) -> Result<(), Fault>
         ensures { FindsReady self.now.slots.items ((H.outside host.now).blocks unit) unit result }
     {
         if !self.is_attached(unit) {
@@ -42,7 +42,7 @@ impl<C: Card> Units<C> {
     }
 
     /// Opens the store of a unit, if it has a readable one.
-    fn open<H: Host>(&self, host: &mut H, unit: Unit) -> Result<Option<C>, Fault>
+    pub(crate) fn open<H: Host>(&self, host: &mut H, unit: Unit) -> Result<Option<C>, Fault>
         requires stands { Stands C.place C.stands H.told self.now (H.outside host.old) }
         requires free { IsFree self.now.slots.items ((H.outside host.old).blocks unit) unit }
         ensures stands { Stands C.place C.stands H.told self.now (H.outside host.new) }
