@@ -1,0 +1,34 @@
+-- The units do it.
+use Rattle.std.proofs.Common.{◌≡◌, ℕ, List, ap, sym, subst, ◌∙◌, true, false}
+use Rattle.std.proofs.lemmas.Result.{err_from_is_err_and}
+use Rattle.newt_spec_world.specs.Reply.{Reply as plain}
+use Rattle.newt_engine.specs.Laws.{laws_of}
+use Rattle.newt_engine.proofs.Groups.{no_device_used}
+use Rattle.newt_engine.proofs.Handed.{handed, has_cause, quiet, told_stands}
+use Rattle.newt_units.specs.Stands.{Eight}
+use Rattle.newt_engine.proofs.Handed.{still_devices}
+use Rattle.newt_engine.proofs.world.World.obey_on_store.Goals as goal
+
+pub returns-in_err-format-in-Format-clause-answered : goal.returns-in_err-format-in-Format-clause-answered
+returns-in_err-format-in-Format-clause-answered g c t = handed {T = Unit {0}} _ _ c.args.command.now _ (λ _. plain.done) _ c.in-Format.is (c.in_err-format-in-Format.ensures.answered t) _ (err_from_is_err_and c.from_residual.result c.from_residual.ensures.1)
+
+pub returns-in_err-sig-in-Mount-clause-answered : goal.returns-in_err-sig-in-Mount-clause-answered
+returns-in_err-sig-in-Mount-clause-answered g c t = handed {T = ℕ × List ℕ} _ _ c.args.command.now _ (λ x. plain.store x.0 x.1) _ c.in-Mount.is (c.in_err-sig-in-Mount.ensures.answered t) _ (err_from_is_err_and c.from_residual-in_err-sig-in-Mount.result c.from_residual-in_err-sig-in-Mount.ensures.1)
+
+pub returns-in_err-soup-in-Soup-clause-answered : goal.returns-in_err-soup-in-Soup-clause-answered
+returns-in_err-soup-in-Soup-clause-answered g c t = handed {T = ℕ} _ _ c.args.command.now _ (λ n. plain.number n) _ c.in-Soup.is (c.in_err-soup-in-Soup.ensures.answered t) _ (err_from_is_err_and c.from_residual-in_err-soup-in-Soup.result c.from_residual-in_err-soup-in-Soup.ensures.1)
+
+pub returns-in_err-drop_soup-in-Drop-clause-answered : goal.returns-in_err-drop_soup-in-Drop-clause-answered
+returns-in_err-drop_soup-in-Drop-clause-answered g c t = handed {T = Unit {0}} _ _ c.args.command.now _ (λ _. plain.done) _ c.in-Drop.is (c.in_err-drop_soup-in-Drop.ensures.answered t) _ (err_from_is_err_and c.from_residual-in_err-drop_soup-in-Drop.result c.from_residual-in_err-drop_soup-in-Drop.ensures.1)
+
+pub returns-in_default : goal.returns-in_default
+returns-in_default g c =
+    let eight : Eight (g.H.Host.outside c.args.host.now) = record { eight = g.met.H.Host.eight c.args.host.now; none = g.met.H.Host.none c.args.host.now } in record {
+      stands = λ goes. c.obey_in_memory.ensures.stands g.H.Host.told (g.H.Host.outside c.args.host.now) c.requires.stands;
+      answered = λ t. c.obey_in_memory.ensures.answered (g.H.Host.outside c.args.host.now) eight (told_stands g.H.Host.told c.args.self.now.units (g.H.Host.outside c.args.host.now) c.requires.stands t);
+      moments = λ t. quiet (laws_of g.met.C.Card.formed g.met.C.Card.plain g.met.C.Card.durable g.met.C.Card.banks g.met.C.Card.kept) g.H.Host.told c.args.self.now.units (g.H.Host.outside c.args.host.now) eight c.requires.stands t _;
+      alone = still_devices (g.H.Host.outside c.args.host.now);
+      cause = has_cause _ _ _ c.obey_in_memory.ensures.device;
+      ends = c.obey_in_memory.ensures.ends;
+      device = λ uses_none. c.obey_in_memory.ensures.device;
+    }

@@ -1,0 +1,27 @@
+-- Which commands may end the run. This project's own.
+use Rattle.std.specs.Prelude.{Bool, true, false}
+use Rattle.newt_spec_world.specs.declared.command.Command.{Command}
+use Rattle.newt_spec_world.specs.declared.command.Command.TheVariants as command
+
+-- a device is read or written
+abbrev pub uses_device : Command → Bool
+uses_device (command.Format _ _ _) = true
+uses_device (command.Mount _) = true
+uses_device (command.Soup _ _) = true
+uses_device (command.Drop _ _) = true
+uses_device (command.Add _ _ _) = true
+uses_device (command.Addx _ _ _) = true
+uses_device (command.Addu _ _) = true
+uses_device (command.Get _ _ _) = true
+uses_device (command.Getx _ _ _) = true
+uses_device (command.Remove _ _ _) = true
+uses_device (command.Copy _ _ _ _ _) = true
+uses_device (command.Move _ _ _ _ _) = true
+uses_device _ = false
+
+-- memory is taken; whatever uses a device takes some
+abbrev pub takes_memory : Command → Bool
+takes_memory command.Stores = true
+takes_memory (command.Soups _) = true
+takes_memory (command.Resolve _) = true
+takes_memory c = uses_device c

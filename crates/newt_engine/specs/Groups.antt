@@ -1,0 +1,22 @@
+-- The commands, by what they work on. This project's own.
+use Rattle.std.specs.Prelude.{Bool, true, false}
+use Rattle.newt_spec_world.specs.declared.command.Command.{Command}
+use Rattle.newt_spec_world.specs.declared.command.Command.TheVariants as command
+
+-- a graph is shown or becomes an entry
+abbrev pub on_graph : Command → Bool
+on_graph (command.Nsof _) = true
+on_graph (command.Lit _) = true
+on_graph (command.Add _ _ _) = true
+on_graph (command.Addx _ _ _) = true
+on_graph (command.Addu _ _) = true
+on_graph _ = false
+
+-- an entry is read, removed or copied
+abbrev pub on_entry : Command → Bool
+on_entry (command.Get _ _ _) = true
+on_entry (command.Getx _ _ _) = true
+on_entry (command.Remove _ _ _) = true
+on_entry (command.Copy _ _ _ _ _) = true
+on_entry (command.Move _ _ _ _ _) = true
+on_entry _ = false

@@ -1,0 +1,4 @@
+pub mod Groups
+pub mod Ends
+pub mod Standing
+pub mod Laws

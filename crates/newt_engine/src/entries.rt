@@ -1,0 +1,55 @@
+//! Commands that read, remove or copy an entry.
+ghost use Rattle.std.specs.Prelude.{◌≡◌, true, false, IsTrue, IfErr};
+ghost use Rattle.newt_host.specs.Moments.{Always};
+ghost use Rattle.newt_reply.specs.Said.{said};
+ghost use Rattle.newt_laws_answers.specs.Answering.{Answering};
+ghost use Rattle.newt_laws_answers.specs.Stage.{answer_now};
+ghost use Rattle.newt_units.specs.Answers.{Answers};
+ghost use Rattle.newt_units.specs.Faults.{GoesOn, HasFaultCause, IsRefusal, NoDevice, OnDevices};
+ghost use Rattle.newt_units.specs.Stands.{Stands, world_of};
+ghost use Rattle.newt_engine.specs.Ends.{takes_memory, uses_device};
+ghost use Rattle.newt_engine.specs.Groups.{on_graph};
+
+use crate::world::World;
+use newt_host::Host;
+use newt_reply::Reply;
+use newt_script::Command;
+use newt_units::{Card, Entry, Fault};
+
+impl<C: Card> World<C> {
+    /// Obeys a command that takes no graph.
+    pub(crate) fn obey_on_entry<H: Host>(&mut self, host: &mut H, command: &Command) -> Result<Reply, Fault>
+        requires stands { Stands C.place C.stands H.told self.old.units (H.outside host.old) }
+        requires no_graph { on_graph command.now ≡ false }
+        ensures stands { GoesOn result → Stands C.place C.stands H.told self.new.units (H.outside host.new) }
+        ensures answered { IsTrue H.told → Answers (world_of C.reads self.old.units (H.outside host.old)) (world_of C.reads self.new.units (H.outside host.new)) command.now said result }
+        ensures moments { IsTrue H.told → let w = world_of C.reads self.old.units (H.outside host.old) in
+            Always (Answering C.reads w (answer_now w command.now).0 (H.outside host.old).now) (H.outside host.old).now (H.outside host.new).now }
+        ensures alone { OnDevices (H.outside host.old) (H.outside host.new) }
+        ensures cause { IfErr result (λ fault. HasFaultCause fault (H.outside host.old) (H.outside host.new)) }
+        ensures ends { takes_memory command.now ≡ false → IfErr result (λ fault. IsRefusal fault) }
+        ensures device { uses_device command.now ≡ false → IfErr result (λ fault. NoDevice fault) }
+    {
+        match command {
+            Command::Get(unit, name, uid) => {
+                let Entry { time, graph, .. } = self.units.get(host, *unit, name, *uid)?;
+                Ok(Reply::Timed(time, graph))
+            }
+            Command::Getx(unit, name, uid) => {
+                let Entry { time, graph, .. } = self.units.get(host, *unit, name, *uid)?;
+                Ok(Reply::TimedNsof(time, graph))
+            }
+            Command::Remove(unit, name, uid) => {
+                self.units.remove(host, *unit, name, *uid)?;
+                Ok(Reply::Done)
+            }
+            Command::Copy(unit, name, uid, to, target) => Ok(Reply::Number(
+                self.units.copy(host, *unit, name, *uid, *to, target)?,
+            )),
+            Command::Move(unit, name, uid, to, target) => Ok(Reply::Number(
+                self.units.move_entry(host, *unit, name, *uid, *to, target)?,
+            )),
+            _ => self.obey_on_store(host, command),
+        }
+    }
+}

@@ -1,0 +1,48 @@
+//! Commands that show a graph, or make an entry of one.
+ghost use Rattle.std.specs.Prelude.{◌≡◌, true, false, IsTrue, IfErr};
+ghost use Rattle.newt_host.specs.Moments.{Always};
+ghost use Rattle.newt_reply.specs.Said.{said};
+ghost use Rattle.newt_laws_answers.specs.Answering.{Answering};
+ghost use Rattle.newt_laws_answers.specs.Stage.{answer_now};
+ghost use Rattle.newt_units.specs.Answers.{Answers};
+ghost use Rattle.newt_units.specs.Faults.{GoesOn, HasFaultCause, IsRefusal, NoDevice, OnDevices};
+ghost use Rattle.newt_units.specs.Stands.{Stands, world_of};
+ghost use Rattle.newt_engine.specs.Ends.{takes_memory, uses_device};
+
+use crate::world::World;
+use newt_base::Uid;
+use newt_host::Host;
+use newt_reply::Reply;
+use newt_script::Command;
+use newt_units::{Card, Fault};
+
+impl<C: Card> World<C> {
+    /// Obeys a command. A fault is its refusal, or the end of the run.
+    pub(crate) fn obey<H: Host>(&mut self, host: &mut H, command: Command) -> Result<Reply, Fault>
+        requires stands { Stands C.place C.stands H.told self.old.units (H.outside host.old) }
+        ensures stands { GoesOn result → Stands C.place C.stands H.told self.new.units (H.outside host.new) }
+        ensures answered { IsTrue H.told → Answers (world_of C.reads self.old.units (H.outside host.old)) (world_of C.reads self.new.units (H.outside host.new)) command said result }
+        ensures moments { IsTrue H.told → let w = world_of C.reads self.old.units (H.outside host.old) in
+            Always (Answering C.reads w (answer_now w command).0 (H.outside host.old).now) (H.outside host.old).now (H.outside host.new).now }
+        ensures alone { OnDevices (H.outside host.old) (H.outside host.new) }
+        ensures cause { IfErr result (λ fault. HasFaultCause fault (H.outside host.old) (H.outside host.new)) }
+        ensures ends { takes_memory command ≡ false → IfErr result (λ fault. IsRefusal fault) }
+        ensures device { uses_device command ≡ false → IfErr result (λ fault. NoDevice fault) }
+    {
+        match command {
+            Command::Nsof(graph) => Ok(Reply::Nsof(graph)),
+            Command::Lit(graph) => Ok(Reply::Literal(graph)),
+            Command::Add(unit, name, graph) => {
+                Ok(Reply::Number(self.units.add(host, unit, &name, graph)?))
+            }
+            Command::Addx(unit, name, graph) => {
+                Ok(Reply::Number(self.units.add(host, unit, &name, graph)?))
+            }
+            Command::Addu(name, graph) => {
+                let (unit, uid) = self.units.add_to_default(host, &name, graph)?;
+                Ok(Reply::Added(unit, Uid(uid)))
+            }
+            other => self.obey_on_entry(host, &other),
+        }
+    }
+}

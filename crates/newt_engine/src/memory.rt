@@ -1,0 +1,56 @@
+//! Commands that use no device.
+ghost use Rattle.std.specs.Prelude.{◌≡◌, Bool, true, false, IfErr};
+ghost use Rattle.newt_host.specs.Outside.{Outside};
+ghost use Rattle.newt_reply.specs.Said.{said};
+ghost use Rattle.newt_units.specs.Answers.{Answers};
+ghost use Rattle.newt_units.specs.Faults.{IsRefusal, NoDevice};
+ghost use Rattle.newt_units.specs.Stands.{Eight, Stands, world_of};
+ghost use Rattle.newt_engine.specs.Ends.{takes_memory, uses_device};
+ghost use Rattle.newt_engine.specs.Groups.{on_graph};
+
+use crate::world::World;
+use newt_base::Refusal;
+use newt_reply::{Alias, Reply};
+use newt_script::Command;
+use newt_units::{Card, Fault};
+
+impl<C: Card> World<C> {
+    /// Obeys a command that uses no device and takes no graph. One that is not built is refused.
+    pub(crate) fn obey_in_memory(&mut self, command: &Command) -> Result<Reply, Fault>
+        requires no_graph { on_graph command.now ≡ false }
+        requires no_device { uses_device command.now ≡ false }
+        ensures stands { (told : Bool) (outside : Outside) → Stands C.place C.stands told self.old.units outside → Stands C.place C.stands told self.new.units outside }
+        ensures answered { (outside : Outside) → Eight outside → Stands C.place C.stands true self.old.units outside →
+            Answers (world_of C.reads self.old.units outside) (world_of C.reads self.new.units outside) command.now said result }
+        ensures device { IfErr result (λ fault. NoDevice fault) }
+        ensures ends { takes_memory command.now ≡ false → IfErr result (λ fault. IsRefusal fault) }
+    {
+        match command {
+            Command::Time(minute) => {
+                self.units.set_minute(*minute);
+                Ok(Reply::Done)
+            }
+            Command::Quit => Ok(Reply::Done),
+            Command::Unmount(unit) => {
+                self.units.unmount(*unit)?;
+                Ok(Reply::Done)
+            }
+            Command::Stores => Ok(Reply::Stores(self.units.stores()?)),
+            Command::Default(unit) => {
+                self.units.set_default(*unit)?;
+                Ok(Reply::Done)
+            }
+            Command::Soups(unit) => Ok(Reply::Soups(self.units.soups(*unit)?)),
+            Command::Alias(unit, name, uid) => {
+                let (store, soup) = self.units.alias(*unit, name, *uid)?;
+                let uid = *uid;
+                Ok(Reply::Alias(Alias { store, soup, uid }))
+            }
+            Command::Resolve(graph) => match self.units.resolve(graph)? {
+                Some((unit, soup, uid)) => Ok(Reply::Where(unit, soup, uid)),
+                None => Ok(Reply::Nil),
+            },
+            _ => Err(Fault::Refused(Refusal::Command)),
+        }
+    }
+}

@@ -1,0 +1,75 @@
+//! The world over the cards of a host.
+ghost use Rattle.std.specs.Prelude.{◌≡◌, false, Ok, IsTrue, IsOk, IfOk, OnOk, IfErr};
+ghost use Rattle.newt_base.specs.declared.Refusal.{Refusal};
+ghost use Rattle.newt_host.specs.Moments.{Always};
+ghost use Rattle.newt_reply.specs.Said.{said};
+ghost use Rattle.newt_laws_answers.specs.Answering.{Answering};
+ghost use Rattle.newt_laws_answers.specs.Stage.{answer_now};
+ghost use Rattle.newt_units.specs.Faults.{HasStopCause, OnDevices};
+ghost use Rattle.newt_units.specs.Stands.{world_of};
+ghost use Rattle.newt_engine.specs.Ends.{takes_memory, uses_device};
+ghost use Rattle.newt_engine.specs.Standing.{Standing};
+ghost use Rattle.newt_engine.specs.Laws.{laws_of, still_stands, same_world, leaves_store, stays_there};
+
+use newt_host::Host;
+use newt_pagebook::Stop;
+use newt_reply::Reply;
+use newt_script::Command;
+use newt_session::Interpreter;
+use newt_units::{Card, Fault, Units};
+use std::alloc::{AllocError, Global};
+
+/// The eight units with their cards, which with the devices of a host stand for one world.
+#[derive(Drop)]
+pub struct World<C: Card> {
+    pub(crate) units: Units<C>,
+}
+
+impl<C: Card> World<C> {
+    /// Answers a command. A refusal is a reply, and leaves the world as it was; after an error the world is spent.
+    pub fn apply<H: Host>(&mut self, host: &mut H, command: Command) -> Result<Reply, Stop>
+        requires { Standing C.place C.stands H.told self.old.units (H.outside host.old) }
+        ensures stands { OnOk result (Standing C.place C.stands H.told self.new.units (H.outside host.new)) }
+        ensures answered { IsTrue H.told → IfOk result (λ reply. answer_now (world_of C.reads self.old.units (H.outside host.old)) command ≡ (world_of C.reads self.new.units (H.outside host.new), said reply)) }
+        ensures moments { IsTrue H.told → let w = world_of C.reads self.old.units (H.outside host.old) in
+            Always (Answering C.reads w (answer_now w command).0 (H.outside host.old).now) (H.outside host.old).now (H.outside host.new).now }
+        ensures alone { OnDevices (H.outside host.old) (H.outside host.new) }
+        ensures cause { IfErr result (λ stop. HasStopCause stop (H.outside host.old) (H.outside host.new)) }
+        ensures refused { IsTrue H.told → (refusal : Refusal) → result ≡ Ok (Reply.Refused refusal) → world_of C.reads self.new.units (H.outside host.new) ≡ world_of C.reads self.old.units (H.outside host.old) }
+        ensures never_memory { takes_memory command ≡ false → IsOk result }
+        ensures never_device { uses_device command ≡ false → IfErr result (λ stop. stop ≡ Stop.Memory) }
+    {
+        match self.obey(host, command) {
+            Ok(reply) => Ok(reply),
+            Err(Fault::Refused(refusal)) => Ok(Reply::Refused(refusal)),
+            Err(Fault::Stop(stop)) => Err(stop),
+        }
+    }
+}
+
+impl<C: Card> Interpreter for World<C> {
+    ghost store_of_image = { C.reads };
+
+    ghost answer = { answer_now };
+
+    ghost stands = { λ told it outside. Standing C.place C.stands told it.units outside };
+
+    ghost world = { λ it outside. world_of C.reads it.units outside };
+
+    ghost kept = { λ told it old new same stands. still_stands C.kept C.durable told it.units old new same stands };
+
+    ghost same_world = { λ it old new same. same_world C.reads it.units old new same };
+
+    ghost leaves = { λ it outside stands unit store left is may. leaves_store (laws_of C.formed C.plain C.durable C.banks C.kept) it.units outside stands unit store left is may };
+
+    ghost stays = { stays_there };
+
+    fn start<H: Host>(alloc: Global, host: &H, attached: [bool; 8]) -> Result<Self, AllocError> {
+        let _host = host;
+        Ok(World { units: Units::of(alloc, attached)? })
+    }
+
+    fn apply<H: Host>(&mut self, host: &mut H, command: Command) -> Result<Reply, Stop> {
+        World::apply(self, host, command)
+    }
+}
