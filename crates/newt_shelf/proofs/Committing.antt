@@ -1,16 +1,14 @@
 -- What the clauses of a commit say together.
-use Rattle.std.proofs.Common.{IsTrue, ◌≡◌, ◌⊎◌, inl, inr, ℕ, ◌*◌, ◌/◌, ◌<◌, ◌≤◌, Bool, List, length, Option, Some, None, IsSome, refl, sym, ◌∙◌, ap, subst, arith, ⊎_elim}
+use Rattle.std.proofs.Common.{IsTrue, ◌≡◌, inl, inr, ℕ, ◌*◌, ◌/◌, ◌<◌, ◌≤◌, Bool, List, length, Option, Some, None, IsSome, refl, sym, ◌∙◌, ap, arith, ⊎_elim}
 use Rattle.std.specs.FinSet as set
-use Rattle.std.specs.Option.{option_map}
-use Rattle.newt_host.specs.Moments.{Moment, image, changes, MayLeave, IsDurable, IsHistory, Leaves}
+use Rattle.newt_host.specs.Moments.{Moment, image, changes, IsDurable, IsHistory, Leaves}
 use Rattle.newt_host.specs.Outside.{Outside}
 use Rattle.newt_host.proofs.Moments.{Leaves-weaken, Leaves-start}
-use Rattle.newt_image.specs.Pages.{Pages, Change, pages, after, cap}
-use Rattle.newt_image.specs.Objects.{AreObjectsOf}
+use Rattle.newt_image.specs.Pages.{Change, pages, after, cap}
 use Rattle.newt_pagebook.specs.Batch.{IsBatch}
 use Rattle.newt_pagebook.specs.Book.{Numbers, changed_numbers, ReadsChanged, IsBeforeOrAfter}
 use Rattle.newt_objects.specs.Held.{Held, held, planned, Texts, AreOf}
-use Rattle.newt_objects.specs.Changing.{HoldsObjects, IsUnderWay, total_pages}
+use Rattle.newt_objects.specs.Changing.{HoldsObjects, total_pages}
 use Rattle.newt_objects.proofs.Changing.{adopted_are, are_still, changed_holds, left_holds}
 use Rattle.newt_objects.proofs.Counting.{would_count}
 use Rattle.newt_objects.proofs.Whole.{image_whole}

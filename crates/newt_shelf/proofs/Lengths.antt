@@ -1,7 +1,7 @@
 -- What a crash leaves of a device has as many bytes as the device.
-use Rattle.std.proofs.Common.{◌≡◌, ◌≢◌, inl, inr, ℕ, ◌+◌, ◌*◌, ◌≤◌, Bool, true, false, cond, eqb, List, [], ◌∷◌, length, refl, sym, ◌∙◌, ap, subst, arith}
-use Rattle.newt_host.specs.Moments.{Change, Attached, Wrote, Synced, On, Printed, Event, Moment, bytes_after, LeftBy, changes, image, MayLeave, IsHistory, Always, here, later, AtMoment, Leaves}
-use Rattle.newt_host.proofs.Moments.{Always-map, Always-last}
+use Rattle.std.proofs.Common.{◌≡◌, ℕ, ◌≤◌, Bool, true, false, cond, eqb, List, [], ◌∷◌, length, ◌∙◌, ap, arith}
+use Rattle.newt_host.specs.Moments.{Change, Attached, Wrote, Synced, On, Printed, Moment, LeftBy, changes, image, IsHistory, Always, here, later, Leaves}
+use Rattle.newt_host.proofs.Moments.{Always-map}
 use Rattle.newt_host.proofs.Histories.{history-length}
 
 left-length : (size : ℕ) (done : List Change) (left : List ℕ) → IsHistory size done → LeftBy done left → length left ≡ size

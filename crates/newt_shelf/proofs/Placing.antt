@@ -1,14 +1,13 @@
 -- Places of the entries of one soup among all places.
-use Rattle.std.proofs.Common.{◌≡◌, ◌≢◌, ℕ, zero, suc, ◌==◌, ◌+◌, ◌<◌, ◌≤◌, Bool, true, false, cond, List, [], ◌∷◌, ◌++◌, map as map_list, slice_get, Option, Some, None, refl, sym, ◌∙◌, ap, subst, arith, ⊎_elim}
+use Rattle.std.proofs.Common.{◌≡◌, ℕ, zero, suc, ◌==◌, Bool, true, false, cond, List, [], ◌∷◌, ◌++◌, map as map_list, slice_get, Some, None, refl, sym, ◌∙◌, ap, subst, arith, ⊎_elim}
 use Rattle.std.specs.List.{filter, AllByRecursion}
 use Rattle.std.specs.List.Sorted.{IsStrictlySortedBy}
 use Rattle.std.specs.declared.cmp.Ordering.TheVariants.{Less}
 use Rattle.std.specs.BTreeMap as tree
 use Rattle.std.specs.BTreeMap.{BTreeMap}
 use Rattle.std.specs.Ordering.{is_eq}
-use Rattle.std.specs.Map.{lookup}
 use Rattle.std.proofs.lemmas.Map.Entries.{place_from_lookup, btree_map_get_place}
-use Rattle.newt_pagebook.proofs.Tests.{some_inj, true_or_false, is_same, equal_true, equal_false}
+use Rattle.newt_pagebook.proofs.Tests.{some_inj, true_or_false, is_same, equal_true}
 use Rattle.newt_objects.specs.Headers.{part_cmp}
 use Rattle.newt_objects.proofs.Indexing.{parts_total, same_part, itself}
 use Rattle.newt_shelf.specs.Batch.{AreOnce}

@@ -1,5 +1,5 @@
 -- Objects as they are planned, one after the other.
-use Rattle.std.proofs.Common.{◌≡◌, ◌≢◌, ◌⊎◌, inl, inr, ℕ, ◌+◌, ◌<◌, ◌≤◌, ◌==◌, Bool, true, false, cond, List, length, slice_get, Option, Some, None, refl, sym, ◌∙◌, ap, subst, arith, ⊎_elim}
+use Rattle.std.proofs.Common.{◌≡◌, ◌≢◌, ℕ, ◌+◌, ◌<◌, Bool, cond, List, length, slice_get, Option, Some, None, refl, sym, ◌∙◌, ap, arith, ⊎_elim}
 use Rattle.std.specs.FinMap as map
 use Rattle.std.proofs.lemmas.Bool.{cases_eq}
 use Rattle.std.proofs.lemmas.Option.{slice_get_within}
@@ -9,7 +9,7 @@ use Rattle.newt_pagebook.proofs.Changes.{get_insert, get_remove}
 use Rattle.newt_objects.specs.Held.{Held, Texts}
 use Rattle.newt_objects.specs.Changing.{IsUnderWay}
 use Rattle.newt_shelf.specs.declared.batch.NewEntry.{NewEntry}
-use Rattle.newt_shelf.specs.Batch.{HasPut, HasNone, IsAmong, AreOnce, AreWritten}
+use Rattle.newt_shelf.specs.Batch.{HasPut, HasNone, IsAmong, AreWritten}
 
 pub put-has : (id : ℕ) (bytes : List ℕ) (texts : Texts) → HasPut id bytes texts (map.insert texts id bytes)
 put-has id bytes texts = record {

@@ -1,6 +1,5 @@
 -- Objects of a unit as they are planned, committed and kept. This project's own.
 use Rattle.std.specs.Prelude.{◌≡◌, ◌⊎◌, ℕ, ◌≤◌, Bool, List, [], length}
-use Rattle.newt_host.specs.Moments.{image}
 use Rattle.newt_host.specs.Outside.{Outside}
 use Rattle.newt_image.specs.Pages.{Pages, Change, cap}
 use Rattle.newt_image.specs.Objects.{AreObjectsOf}

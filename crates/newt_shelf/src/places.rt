@@ -1,5 +1,7 @@
 // Where the records of entries are.
-ghost use Rattle.std.specs.Prelude.{◌≡◌, ◌≢◌, ◌++◌, ◌∷◌, [], ℕ, slice_get, Some, None, OnOk, OnErr, IfOk};
+ghost use Rattle.std.specs.Prelude.{◌≡◌, ◌≢◌, ◌==◌, ◌++◌, ◌∷◌, [], ℕ, List, filter, length, slice_get, Some, None, is_some, OnOk, OnErr, IfOk};
+ghost use Rattle.std.specs.List.{IsDistinct};
+ghost use Rattle.std.specs.Set.{is_member};
 ghost use Rattle.std.specs.BTreeMap as tree;
 ghost use Rattle.newt_objects.specs.Headers.{part_cmp};
 ghost use Rattle.newt_shelf.specs.Batch.{AreOnce};
@@ -28,6 +30,14 @@ fn pick(rows: &BTreeMap<(u32, u32), u32>, sig: u32, ids: &mut Vec<u32>) -> Resul
         pick_one(key, id, sig, ids)?;
     }
     Ok(())
+}
+
+// How many rows are a soup's.
+fn count_rows(rows: &BTreeMap<(u32, u32), u32>, sig: u32) -> usize
+    ensures counted { result ≡ length (filter (λ k. k.0 == sig) (tree.keys rows.now)) }
+    ensures ordered { tree.IsOrdered part_cmp rows.now }
+{
+    rows.keys().filter(|key| key.0 == sig).count()
 }
 
 /// The object of each entry's record, by soup signature and entry id.
@@ -81,6 +91,13 @@ impl PlaceTable {
         let mut ids = Vec::new(alloc);
         pick(&self.rows, sig.0, &mut ids)?;
         Ok(ids)
+    }
+
+    /// How many entries of a soup have a place.
+    pub fn count(&self, sig: Sig) -> usize
+        ensures { (uids : List ℕ) → IsDistinct (λ a b. a == b) uids → ((uid : ℕ) → is_some (place_of self.now sig uid) ≡ is_member (λ a b. a == b) uids uid) → result ≡ length uids }
+    {
+        count_rows(&self.rows, sig.0)
     }
 
     /// Forgets the places of a soup's entries.

@@ -1,14 +1,13 @@
 -- Changes that add an entry.
-use Rattle.std.proofs.Common.{IsTrue, ◌≡◌, ◌≢◌, ◌⊎◌, inl, inr, ℕ, ◌+◌, ◌%◌, ◌<◌, ◌≤◌, ◌==◌, ◌||◌, ◌&&◌, Bool, true, false, not, nat_le, nat_lt, List, [], ◌∷◌, map as map_list, length, Option, Some, None, refl, sym, ◌∙◌, ap, subst, arith, ⊎_elim}
+use Rattle.std.proofs.Common.{IsTrue, ◌≡◌, ◌≢◌, inl, inr, ℕ, ◌+◌, ◌%◌, ◌<◌, ◌≤◌, ◌==◌, ◌||◌, ◌&&◌, Bool, true, false, not, nat_le, nat_lt, List, [], ◌∷◌, map as map_list, Option, Some, None, refl, sym, ◌∙◌, ap, subst, arith}
 use Rattle.std.specs.FinMap as map
-use Rattle.std.specs.Option.{is_some, is_none, option_map}
-use Rattle.std.proofs.lemmas.Bool.{cases_eq}
+use Rattle.std.specs.Option.{is_some, is_none}
 use Rattle.std.proofs.lemmas.Bool.Decides.{nat_tests}
 use Rattle.newt_base.specs.Refusals.{Checks, first_of}
-use Rattle.newt_base.specs.declared.Refusal.TheVariants.{Soup as NoSoup, Entry as NoEntry, Notframe, Size, Ids}
+use Rattle.newt_base.specs.declared.Refusal.TheVariants.{Soup as NoSoup, Notframe, Size, Ids}
 use Rattle.newt_graph.specs.Graph.{RawGraph, IsGraph}
-use Rattle.newt_image.specs.Objects.{Objects, Extent, Table}
-use Rattle.newt_pagebook.proofs.Tests.{the_some, some_inj}
+use Rattle.newt_image.specs.Objects.{Objects}
+use Rattle.newt_pagebook.proofs.Tests.{some_inj}
 use Rattle.newt_objects.specs.Held.{held}
 use Rattle.newt_spec_graph.specs.Graph.{is_frame, object}
 use Rattle.newt_spec_graph.specs.Limits.{within_limits}
@@ -16,8 +15,8 @@ use Rattle.newt_spec_graph.specs.Lists.{Among, rises}
 use Rattle.newt_entries.proofs.Within.{graph-within}
 use Rattle.newt_soupdir.specs.declared.rows.SoupRow.{SoupRow}
 use Rattle.newt_store.proofs.Writing.{not-free}
-use Rattle.newt_spec_store.specs.Store.{Soup, Store, Entry, add_entry, change_soup}
-use Rattle.newt_spec_store.specs.Cost.{skeleton_length, directory_bytes}
+use Rattle.newt_spec_store.specs.Store.{Soup, Store, add_entry, change_soup}
+use Rattle.newt_spec_store.specs.Cost.{skeleton_length}
 use Rattle.newt_spec_store.specs.Laid.{bare}
 use Rattle.newt_spec_store.specs.Lies.{Places, graph_has_no_large, has_no_large}
 use Rattle.newt_spec_store.specs.Valid.{well_formed, valid_entry}
@@ -25,7 +24,7 @@ use Rattle.newt_soupdir.specs.Bare.{bare_soup, bare_store, is_early}
 use Rattle.newt_soupdir.specs.Changes.{soup_of, take_uid_of}
 use Rattle.newt_soupdir.specs.declared.rows.Directory.{Directory}
 use Rattle.newt_laws_images.proofs.Known.{bare-good}
-use Rattle.newt_laws_images.proofs.Stores.{is-store, is-soup}
+use Rattle.newt_laws_images.proofs.Stores.{is-store}
 use Rattle.newt_laws_changes.proofs.Bare.{added_bare}
 use Rattle.newt_laws_changes.proofs.Formed.{added_formed, added_plain}
 use Rattle.newt_laws_changes.proofs.Lying.{added_lies, odd-is-not, place-there}
@@ -37,14 +36,14 @@ use Rattle.newt_store.specs.declared.catalog.Catalog.{Catalog}
 use Rattle.newt_store.specs.declared.change.Change.TheVariants.{Add}
 use Rattle.newt_store.specs.declared.next.Next.{Next}
 use Rattle.newt_store.specs.declared.next.Gone.{Gone}
-use Rattle.newt_store.specs.declared.next.Gone.TheVariants.{Nothing, OneEntry}
+use Rattle.newt_store.specs.declared.next.Gone.TheVariants.{Nothing}
 use Rattle.newt_store.specs.Change.{first_checks, is_too_large, has_no_ids, next_uid_of, changed_soup}
-use Rattle.newt_store.specs.Next.{Goes, IsNew, AreNext, ArePlacesNext, Turns, IsAdding, IsPlanOf, IsNextOf}
+use Rattle.newt_store.specs.Next.{Goes, IsNew, Turns, IsAdding, IsPlanOf}
 use Rattle.newt_store.specs.Stands.{Describes}
 use Rattle.newt_store.proofs.Reading.{both, join}
-use Rattle.newt_store.proofs.Found.{soup-same, soup-some, emptied, emptied-some}
+use Rattle.newt_store.proofs.Found.{soup-same, soup-some, emptied-some}
 use Rattle.newt_store.proofs.Turning.{bytes-of}
-use Rattle.newt_store.proofs.Planned.{first-holds, first-not, bare-bare, none-some}
+use Rattle.newt_store.proofs.Planned.{first-holds, first-not, bare-bare}
 
 -- the directory after an id was taken is well formed
 pub formed-taken : (d e : Directory) (p : Soup) (sig now : ℕ) (g : RawGraph) → well_formed (bare_store d) ≡ true → soup_of sig (bare_store d) ≡ Some p → p.next_uid < 536870911

@@ -1,17 +1,17 @@
 -- What a change of a store answers.
-use Rattle.std.proofs.Common.{IsTrue, ◌≡◌, ◌⊎◌, inl, inr, ℕ, ◌<◌, ◌≤◌, Bool, true, false, nat_lt, List, [], ◌∷◌, ◌++◌, Option, Some, None, Result, Ok, Err, IfErr, IsErrAnd, refl, sym, ◌∙◌, ap, subst, arith, ⊎_elim}
+use Rattle.std.proofs.Common.{◌≡◌, inl, inr, ℕ, ◌<◌, ◌≤◌, Bool, true, false, nat_lt, List, [], ◌∷◌, ◌++◌, Option, Some, None, Result, Ok, Err, IfErr, IsErrAnd, refl, sym, ◌∙◌, ap, subst, arith, ⊎_elim}
 use Rattle.std.proofs.lemmas.Bool.Decides.{nat_tests}
 use Rattle.newt_base.specs.Refusals.{Checks, first_of}
 use Rattle.newt_base.specs.declared.Refusal.{Refusal}
 use Rattle.newt_base.specs.declared.Refusal.TheVariants.{Full}
-use Rattle.newt_host.specs.Moments.{Moment, image, changes, IsDurable, Leaves}
+use Rattle.newt_host.specs.Moments.{Moment, image, IsDurable, Leaves}
 use Rattle.newt_host.specs.Outside.{Outside, Rose, Touches}
 use Rattle.newt_host.proofs.Outside.{Touches-append}
 use Rattle.newt_pagebook.specs.declared.book.Stop.TheVariants.{Memory, Device}
 use Rattle.newt_host.proofs.Moments.{Leaves-start, Leaves-weaken}
 use Rattle.newt_image.specs.Pages.{cap}
 use Rattle.newt_pagebook.specs.Book.{Numbers}
-use Rattle.newt_spec_store.specs.Store.{Soup, Store, change_soup, drop_soup, remove_entry}
+use Rattle.newt_spec_store.specs.Store.{Soup, Store, remove_entry}
 use Rattle.newt_spec_store.specs.Cost.{cost}
 use Rattle.newt_spec_store.specs.OfImage.{blocks_of}
 use Rattle.newt_soupdir.specs.Changes.{soup_of}
@@ -23,10 +23,10 @@ use Rattle.newt_shelf.specs.Places.{place_of}
 use Rattle.newt_store.specs.declared.catalog.Catalog.{Catalog}
 use Rattle.newt_store.specs.declared.change.Change.{Change}
 use Rattle.newt_store.specs.declared.change.Change.TheVariants.{MakeSoup, DropSoup, Add, Remove, Move}
-use Rattle.newt_store.specs.Change.{changed_by, first_checks, full_check, refusals, refusal_of, dropped_soup, changed_soup}
+use Rattle.newt_store.specs.Change.{changed_by, first_checks, full_check, refusal_of, dropped_soup, changed_soup}
 use Rattle.newt_store.specs.Next.{IsEitherStore}
 use Rattle.newt_store.specs.Stage.{readable}
-use Rattle.newt_store.specs.Stands.{StandsFor, IsSound, GoesOn, IsRefused, RefusesWith, IsBeforeOrChanged}
+use Rattle.newt_store.specs.Stands.{StandsFor, IsSound, IsRefused, RefusesWith, IsBeforeOrChanged}
 use Rattle.newt_store.proofs.Writing.{kept-over, failed}
 use Rattle.newt_store.proofs.Reading.{read-back}
 use Rattle.newt_store.proofs.Planned.{first-not, first-holds}

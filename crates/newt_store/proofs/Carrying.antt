@@ -1,28 +1,23 @@
 -- A change that was written, and the memory that follows it.
-use Rattle.std.proofs.Common.{IsTrue, ◌≡◌, ◌≢◌, ◌⊎◌, inl, inr, ℕ, ◌%◌, ◌≤◌, ◌<◌, Bool, true, false, List, length, slice_get, Option, Some, None, IsSome, Result, Ok, Err, refl, sym, ◌∙◌, ap, subst, arith, ⊎_elim}
-use Rattle.std.specs.FinMap as map
+use Rattle.std.proofs.Common.{◌≡◌, ◌≢◌, ◌⊎◌, inl, inr, ℕ, ◌%◌, ◌≤◌, List, slice_get, Option, Some, None, IsSome, refl, sym, ◌∙◌, ap, subst, ⊎_elim}
 use Rattle.std.proofs.lemmas.Bool.{cases_eq}
 use Rattle.newt_pagebook.proofs.Tests.{some_inj}
-use Rattle.newt_host.specs.Moments.{Moment, image, MayLeave, IsDurable, Leaves}
+use Rattle.newt_host.specs.Moments.{Moment, image, IsDurable, Leaves}
 use Rattle.newt_host.proofs.Moments.{Leaves-start, Leaves-weaken}
 use Rattle.newt_image.specs.Objects.{Extent, Table, Objects}
 use Rattle.newt_image.specs.Pages.{cap}
 use Rattle.newt_objects.specs.Changing.{HoldsObjects, total_pages}
 use Rattle.newt_spec_store.specs.Store.{Store}
-use Rattle.newt_spec_store.specs.Cost.{cost, directory_bytes}
+use Rattle.newt_spec_store.specs.Cost.{cost}
 use Rattle.newt_spec_store.specs.Lies.{Places}
 use Rattle.newt_spec_store.specs.OfImage.{blocks_of}
-use Rattle.newt_soupdir.specs.Bare.{bare_store}
-use Rattle.newt_soupdir.specs.declared.rows.Directory.{Directory}
 use Rattle.newt_shelf.specs.declared.batch.NewEntry.{NewEntry}
-use Rattle.newt_shelf.specs.Batch.{AreWritten}
-use Rattle.newt_shelf.specs.Commit.{Fit}
 use Rattle.newt_shelf.specs.Places.{place_of, AreSoundPlaces}
 use Rattle.newt_store.specs.declared.catalog.Catalog.{Catalog}
 use Rattle.newt_store.specs.declared.next.Gone.{Gone}
 use Rattle.newt_store.specs.declared.next.Gone.TheVariants.{Nothing, OneEntry, AllOf}
 use Rattle.newt_store.specs.declared.next.Next.{Next}
-use Rattle.newt_store.specs.Next.{Goes, IsNew, IsNextOf, AreNext, ArePlacesNext, Turns, WritesNext, HoldsEither, IsEitherStore}
+use Rattle.newt_store.specs.Next.{Goes, IsNew, AreNext, ArePlacesNext, Turns, WritesNext, HoldsEither, IsEitherStore}
 use Rattle.newt_store.specs.Stage.{readable}
 use Rattle.newt_store.specs.Stands.{Describes, StandsFor}
 use Rattle.newt_store.proofs.Reading.{read-back, total-cost, same-cap}

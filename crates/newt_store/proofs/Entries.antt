@@ -1,16 +1,14 @@
 -- Entries as their records are read.
-use Rattle.std.proofs.Common.{IsTrue, ◌≡◌, ℕ, Bool, true, List, [], zip, map as map_list, length, Option, Some, None, refl, sym, ◌∙◌, ap, subst}
+use Rattle.std.proofs.Common.{◌≡◌, ℕ, true, List, [], zip, map as map_list, Option, Some, None, refl, sym, ◌∙◌, ap}
 use Rattle.std.specs.FinMap as map
-use Rattle.newt_graph.specs.Graph.{RawGraph}
 use Rattle.newt_image.specs.Objects.{Objects}
 use Rattle.newt_nsof.specs.Written.{nsof}
 use Rattle.newt_pagebook.proofs.Tests.{some_inj}
 use Rattle.newt_spec_store.specs.Store.{Soup, Store, Entry, entry_of}
 use Rattle.newt_spec_store.specs.Image.{entry_bytes}
 use Rattle.newt_spec_store.specs.Laid.{row_of, row_of_large}
-use Rattle.newt_spec_store.specs.Lies.{Places, LiesIn, IsIn, entry_read, has_no_large, graph_has_no_large}
-use Rattle.newt_spec_store.specs.Valid.{well_formed, valid_entry}
-use Rattle.newt_laws_images.proofs.Plain.{IsPlain, ReadAs, as-read, no-larges, own-skeleton}
+use Rattle.newt_spec_store.specs.Lies.{Places, IsIn, entry_read, has_no_large, graph_has_no_large}
+use Rattle.newt_laws_images.proofs.Plain.{as-read, no-larges, own-skeleton}
 use Rattle.newt_laws_images.proofs.Placed.{entry-fits, its-plain}
 use Rattle.newt_laws_images.proofs.Records.{record-back}
 use Rattle.newt_laws_changes.proofs.Fresh.{in_valid}

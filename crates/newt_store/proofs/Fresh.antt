@@ -1,13 +1,13 @@
 -- A fresh store.
-use Rattle.std.proofs.Common.{IsTrue, ◌≡◌, ◌≢◌, ℕ, ◌+◌, ◌≤◌, ◌/◌, Bool, true, false, nat_le, List, [], ◌∷◌, length, slice_get, Option, Some, None, refl, sym, ◌∙◌, ap, subst, arith}
+use Rattle.std.proofs.Common.{◌≡◌, ℕ, ◌+◌, ◌≤◌, true, List, [], length, Option, Some, None, refl, sym, ◌∙◌, ap, arith}
 use Rattle.std.specs.FinMap as map
 use Rattle.std.proofs.lemmas.Bool.Decides.{nat_tests}
 use Rattle.std.specs.Ordering.{nat_cmp}
 use Rattle.std.specs.Option.{option_map}
 use Rattle.newt_base.specs.Names.{is_name}
-use Rattle.newt_image.specs.Records.{records, and_then}
-use Rattle.newt_image.specs.Pages.{Pages, Change, pages, pages_after, after, change_in, cap}
-use Rattle.newt_image.specs.Objects.{Extent, IsTableOf, AreObjectsOf, Objects, joined, pages_for}
+use Rattle.newt_image.specs.Records.{and_then}
+use Rattle.newt_image.specs.Pages.{Pages, Change, pages_after, after, cap}
+use Rattle.newt_image.specs.Objects.{IsTableOf, joined, pages_for}
 use Rattle.newt_pagebook.specs.Batch.{no_change}
 use Rattle.newt_pagebook.specs.Book.{IsFormatted}
 use Rattle.newt_objects.specs.Held.{Held, held, Texts}
@@ -16,7 +16,6 @@ use Rattle.newt_objects.proofs.Changing.{start_under_way, would_be_objects}
 use Rattle.newt_spec_store.specs.Store.{Store}
 use Rattle.newt_spec_store.specs.Cost.{cost, directory_bytes}
 use Rattle.newt_spec_store.specs.OfImage.{blocks_of}
-use Rattle.newt_spec_store.specs.Valid.{well_formed}
 use Rattle.newt_spec_store.specs.ImageStore.{store_of_image}
 use Rattle.newt_laws_images.proofs.Gathering.{image-by-objects}
 use Rattle.newt_laws_images.proofs.Whole.{lies-read}

@@ -12,3 +12,4 @@ pub mod Entries
 pub mod Applying
 pub mod Opening
 pub mod OpeningPlaces
+pub mod Counting

@@ -1,17 +1,14 @@
 -- An entry that is moved.
-use Rattle.std.proofs.Common.{IsTrue, ◌≡◌, ◌≢◌, ℕ, ◌%◌, ◌<◌, ◌≤◌, ◌==◌, ◌||◌, Bool, true, false, not, List, [], ◌∷◌, Option, Some, None, refl, sym, ◌∙◌, ap, subst, arith}
-use Rattle.std.specs.FinMap as map
+use Rattle.std.proofs.Common.{IsTrue, ◌≡◌, ◌≢◌, ℕ, ◌<◌, ◌||◌, Bool, true, false, not, [], ◌∷◌, Option, Some, None, refl, sym, ◌∙◌, ap, subst, arith}
 use Rattle.std.specs.Option.{is_some, is_none}
 use Rattle.newt_base.specs.Refusals.{Checks, first_of}
 use Rattle.newt_base.specs.declared.Refusal.TheVariants.{Soup as NoSoup, Entry as NoEntry, Ids}
-use Rattle.newt_graph.specs.Graph.{RawGraph, IsGraph}
 use Rattle.newt_image.specs.Objects.{Objects}
 use Rattle.newt_pagebook.proofs.Tests.{some_inj, the_some}
 use Rattle.newt_objects.specs.Held.{held}
 use Rattle.newt_spec_store.specs.Store.{Soup, Store, Entry, add_entry, remove_entry, change_soup}
 use Rattle.newt_spec_store.specs.Laid.{bare}
 use Rattle.newt_spec_store.specs.Lies.{Places, IsIn, graph_has_no_large, has_no_large}
-use Rattle.newt_spec_store.specs.Valid.{valid_entry}
 use Rattle.newt_soupdir.specs.Bare.{bare_soup, bare_store, is_early}
 use Rattle.newt_soupdir.specs.Changes.{soup_of, take_uid_of}
 use Rattle.newt_soupdir.specs.declared.rows.SoupRow.{SoupRow}
@@ -29,10 +26,10 @@ use Rattle.newt_store.specs.declared.next.Next.{Next}
 use Rattle.newt_store.specs.declared.next.Gone.{Gone}
 use Rattle.newt_store.specs.declared.next.Gone.TheVariants.{OneEntry}
 use Rattle.newt_store.specs.Change.{first_checks, entry_in, has_no_ids, next_uid_of, moved_entry}
-use Rattle.newt_store.specs.Next.{Goes, IsNew, AreNext, ArePlacesNext, Turns, IsAdding, IsPlanOf}
+use Rattle.newt_store.specs.Next.{Goes, IsNew, Turns, IsAdding, IsPlanOf}
 use Rattle.newt_store.specs.Stands.{Describes}
 use Rattle.newt_store.proofs.Reading.{both, join}
-use Rattle.newt_store.proofs.Found.{soup-some, placed-entry, entry-placed}
+use Rattle.newt_store.proofs.Found.{soup-some}
 use Rattle.newt_store.proofs.Turning.{bytes-of}
 use Rattle.newt_store.proofs.Planned.{first-holds, first-not, no-entry, an-entry}
 use Rattle.newt_store.proofs.Adding.{free-in, not-yet, row-soup, more-ids}

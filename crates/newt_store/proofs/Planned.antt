@@ -1,14 +1,14 @@
 -- Changes as they are planned: refused, or leading to the changed store.
-use Rattle.std.proofs.Common.{IsTrue, ◌≡◌, ◌≢◌, ℕ, ◌%◌, ◌<◌, ◌≤◌, ◌==◌, ◌||◌, Bool, true, false, not, nat_le, List, [], ◌∷◌, map, length, Option, Some, None, refl, sym, ◌∙◌, ap, subst, arith}
-use Rattle.std.specs.Option.{is_some, is_none, option_map, option_and_then}
+use Rattle.std.proofs.Common.{IsTrue, ◌≡◌, ◌≢◌, ℕ, ◌<◌, ◌==◌, Bool, true, false, not, nat_le, List, [], ◌∷◌, map, length, Option, Some, None, refl, sym, ◌∙◌, ap, subst, arith}
+use Rattle.std.specs.Option.{is_some, is_none, option_map}
 use Rattle.std.proofs.lemmas.Bool.Decides.{nat_tests}
 use Rattle.newt_base.specs.Names.{is_name}
 use Rattle.newt_base.specs.Refusals.{Checks, first_of}
 use Rattle.newt_base.specs.declared.Refusal.{Refusal}
 use Rattle.newt_base.specs.declared.Refusal.TheVariants.{Soup as NoSoup, Exists, Entry as NoEntry, Limit, Ids}
-use Rattle.newt_image.specs.Objects.{Objects, Table}
-use Rattle.newt_pagebook.proofs.Tests.{the_some, some_inj}
-use Rattle.newt_spec_store.specs.Store.{Soup, Store, Entry, soup_named, make_soup, drop_soup, change_soup, remove_entry}
+use Rattle.newt_image.specs.Objects.{Objects}
+use Rattle.newt_pagebook.proofs.Tests.{the_some}
+use Rattle.newt_spec_store.specs.Store.{Soup, Store, Entry, soup_named, make_soup, drop_soup, remove_entry}
 use Rattle.newt_spec_store.specs.Laid.{bare}
 use Rattle.newt_spec_store.specs.Valid.{well_formed}
 use Rattle.newt_soupdir.specs.Bare.{bare_soup, bare_store}
@@ -20,17 +20,16 @@ use Rattle.newt_laws_images.proofs.Stores.{is-store}
 use Rattle.newt_laws_images.proofs.Made.{map-length}
 use Rattle.newt_spec_store.specs.Lies.{Places}
 use Rattle.newt_store.specs.declared.next.Gone.TheVariants.{Nothing, OneEntry, AllOf}
-use Rattle.newt_laws_changes.proofs.Bare.{dropped_bare, made_bare}
+use Rattle.newt_laws_changes.proofs.Bare.{dropped_bare}
 use Rattle.newt_laws_changes.proofs.Formed.{dropped_formed, made_formed}
 use Rattle.newt_shelf.specs.Places.{place_of}
 use Rattle.newt_store.specs.declared.catalog.Catalog.{Catalog}
-use Rattle.newt_store.specs.declared.change.Change.{Change}
 use Rattle.newt_store.specs.declared.change.Change.TheVariants.{MakeSoup, DropSoup, Remove}
 use Rattle.newt_store.specs.Change.{first_checks, entry_in, dropped_soup, changed_soup}
 use Rattle.newt_store.specs.Next.{IsPlanOf, Turns}
 use Rattle.newt_store.specs.Stands.{Describes}
-use Rattle.newt_store.proofs.Found.{named-same, soup-same, named-some, soup-some, as-many, next-same, placed-entry, entry-placed, emptied-some}
-use Rattle.newt_store.proofs.Turning.{turns-made, turns-dropped, turns-removed, next-made, next-dropped, next-removed}
+use Rattle.newt_store.proofs.Found.{named-some, soup-some, as-many, next-same, placed-entry, entry-placed}
+use Rattle.newt_store.proofs.Turning.{turns-made, turns-dropped, turns-removed, next-dropped, next-removed}
 
 pub first-holds : (r : Refusal) (b : Bool) (rest : Checks) → b ≡ true → first_of ((r, b) ∷ rest) ≡ Some r
 first-holds r b rest e = ap (λ (x : Bool). first_of ((r, x) ∷ rest)) e

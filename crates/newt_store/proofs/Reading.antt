@@ -1,7 +1,6 @@
 -- What an image is read as, where a store lies in its objects.
-use Rattle.std.proofs.Common.{IsTrue, ◌≡◌, ◌⊎◌, inl, inr, ℕ, ◌≤◌, ◌<◌, ◌/◌, ◌&&◌, Bool, true, false, cond, nat_le, List, length, Option, Some, None, refl, sym, ◌∙◌, ap, subst, arith, ⊎_elim}
+use Rattle.std.proofs.Common.{◌≡◌, ℕ, ◌≤◌, ◌/◌, ◌&&◌, Bool, true, false, cond, List, length, Some, None, refl, sym, ◌∙◌, ap, subst, arith}
 use Rattle.std.proofs.lemmas.Bool.Decides.{nat_tests}
-use Rattle.std.specs.FinMap as map
 use Rattle.newt_image.specs.Objects.{Objects}
 use Rattle.newt_image.specs.Pages.{cap}
 use Rattle.newt_objects.specs.Changing.{HoldsObjects, total_pages}

@@ -1,37 +1,29 @@
 -- How each change leads from one store to another.
-use Rattle.std.proofs.Common.{IsTrue, ◌≡◌, ◌≢◌, ◌⊎◌, inl, inr, ℕ, zero, suc, ◌+◌, ◌%◌, ◌<◌, ◌≤◌, Bool, true, false, List, [], ◌∷◌, ◌++◌, map as map_list, length, Option, Some, None, refl, sym, ◌∙◌, ap, subst, arith, ⊎_elim}
+use Rattle.std.proofs.Common.{IsTrue, ◌≡◌, ◌≢◌, ℕ, ◌<◌, List, [], ◌∷◌, ◌++◌, map as map_list, length, Some, None, refl, sym, ◌∙◌, ap, subst, ⊎_elim}
 use Rattle.std.specs.List.{flat_map}
 use Rattle.std.specs.FinMap as map
-use Rattle.std.specs.Option.{option_map}
 use Rattle.std.proofs.lemmas.Bool.{cases_eq}
 use Rattle.newt_base.specs.Names.{is_name}
 use Rattle.newt_base.specs.Text.{be16, be32}
 use Rattle.newt_pagebook.proofs.Tests.{some_inj}
-use Rattle.newt_graph.specs.Graph.{RawGraph, IsGraph}
 use Rattle.newt_image.specs.Objects.{Objects}
-use Rattle.newt_spec_store.specs.Store.{Soup, Store, Entry, soup_named, entry_of, change_soup, make_soup, drop_soup, add_entry, remove_entry}
+use Rattle.newt_spec_store.specs.Store.{Soup, Store, soup_named, change_soup, make_soup, drop_soup, remove_entry}
 use Rattle.newt_spec_store.specs.Cost.{directory_bytes, soup_bytes, text_bytes}
-use Rattle.newt_spec_store.specs.Image.{entry_bytes}
 use Rattle.newt_spec_store.specs.Laid.{bare}
-use Rattle.newt_spec_store.specs.Lies.{Places, LiesIn, IsIn, has_no_large, graph_has_no_large}
-use Rattle.newt_spec_store.specs.Valid.{well_formed, valid_entry}
+use Rattle.newt_spec_store.specs.Lies.{Places, LiesIn, has_no_large}
 use Rattle.newt_soupdir.specs.Bare.{bare_store, is_early}
-use Rattle.newt_soupdir.specs.Changes.{soup_of, without_soup, take_uid_of}
+use Rattle.newt_soupdir.specs.Changes.{soup_of, without_soup}
 use Rattle.newt_soupdir.specs.declared.rows.Directory.{Directory}
-use Rattle.newt_laws_changes.proofs.Lying.{made_lies, dropped_lies, removed_lies, added_lies, odd-is-not, place-there}
-use Rattle.newt_laws_changes.proofs.Formed.{made_formed, dropped_formed, removed_formed, added_formed, made_plain, dropped_plain, removed_plain, added_plain}
-use Rattle.newt_laws_changes.proofs.Bare.{made_bare, dropped_bare, removed_bare, added_bare}
-use Rattle.newt_laws_changes.proofs.Members.{in-below}
+use Rattle.newt_laws_changes.proofs.Lying.{made_lies, dropped_lies, removed_lies}
+use Rattle.newt_laws_changes.proofs.Formed.{made_formed, dropped_formed, removed_formed, made_plain, dropped_plain, removed_plain}
+use Rattle.newt_laws_changes.proofs.Bare.{made_bare, dropped_bare, removed_bare}
 use Rattle.newt_laws_changes.proofs.Places.{places_apart}
 use Rattle.newt_laws_images.proofs.Made.{map-length}
-use Rattle.newt_shelf.specs.declared.batch.NewEntry.{NewEntry}
 use Rattle.newt_shelf.specs.Places.{place_of}
 use Rattle.newt_store.specs.declared.catalog.Catalog.{Catalog}
-use Rattle.newt_store.specs.declared.next.Gone.{Gone}
 use Rattle.newt_store.specs.declared.next.Gone.TheVariants.{Nothing, OneEntry, AllOf}
 use Rattle.newt_store.specs.declared.next.Next.{Next}
-use Rattle.newt_store.specs.Next.{Goes, IsNew, AreNext, ArePlacesNext, Turns}
-use Rattle.newt_store.specs.Stands.{Describes}
+use Rattle.newt_store.specs.Next.{AreNext, Turns}
 use Rattle.newt_store.proofs.Reading.{both, join}
 
 -- the bytes of a directory are those of the store without its entries

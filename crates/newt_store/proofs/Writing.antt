@@ -1,5 +1,5 @@
 -- What a change writes, from what is planned of it.
-use Rattle.std.proofs.Common.{IsTrue, ◌≡◌, ◌≢◌, ◌⊎◌, inl, inr, ℕ, ◌≤◌, Bool, true, false, List, length, slice_get, Option, Some, None, IsSome, Result, Ok, Err, refl, sym, ◌∙◌, ap, subst, arith, ⊎_elim}
+use Rattle.std.proofs.Common.{IsTrue, ◌≡◌, ◌≢◌, inl, inr, ℕ, Bool, List, length, slice_get, Option, Some, None, IsSome, Result, Err, refl, sym, ◌∙◌, ap, subst, ⊎_elim}
 use Rattle.std.specs.FinMap as map
 use Rattle.std.specs.Option.{option_map}
 use Rattle.std.proofs.lemmas.Bool.{cases_eq}
@@ -8,12 +8,12 @@ use Rattle.newt_base.specs.declared.Refusal.TheVariants.{Full}
 use Rattle.newt_host.specs.Moments.{Moment, image, changes, IsDurable, Leaves}
 use Rattle.newt_host.specs.Outside.{Outside}
 use Rattle.newt_host.proofs.Moments.{Leaves-start, Leaves-weaken}
-use Rattle.newt_image.specs.Pages.{Pages, Change, pages}
+use Rattle.newt_image.specs.Pages.{Pages, Change}
 use Rattle.newt_image.specs.Objects.{Extent, AreObjectsOf, joined}
 use Rattle.newt_pagebook.specs.Batch.{no_change}
 use Rattle.newt_pagebook.specs.Book.{Numbers}
 use Rattle.newt_pagebook.proofs.Tests.{some_inj}
-use Rattle.newt_objects.specs.Held.{Held, held, planned, AreOf, Texts}
+use Rattle.newt_objects.specs.Held.{Held, held, planned, Texts}
 use Rattle.newt_objects.specs.Changing.{HoldsObjects, IsUnderWay}
 use Rattle.newt_objects.proofs.Changing.{start_under_way, are_still}
 use Rattle.newt_objects.proofs.Same.{texts_by}
@@ -21,7 +21,7 @@ use Rattle.newt_shelf.specs.declared.batch.NewEntry.{NewEntry}
 use Rattle.newt_shelf.specs.declared.fault.StoreFault.{StoreFault}
 use Rattle.newt_shelf.specs.declared.fault.StoreFault.TheVariants.{Refused, Stop}
 use Rattle.newt_shelf.specs.Batch.{AreWritten}
-use Rattle.newt_shelf.specs.Commit.{AreKept, IsPlanned, IsEither, Fit}
+use Rattle.newt_shelf.specs.Commit.{AreKept, IsPlanned, IsEither}
 use Rattle.newt_shelf.specs.Faults.{RefusesOnly}
 use Rattle.newt_store.specs.declared.next.Next.{Next}
 use Rattle.newt_store.specs.Next.{WritesNext, HoldsEither}

@@ -1,15 +1,14 @@
 -- What each change does to a plain store, and what it is refused for. Soups are named by their signatures. What the changes do to stores, soups and entries
 -- is Newton's (Newton Programmer's Guide 2.0); the refusals and their order are this project's own.
-use Rattle.std.specs.Prelude.{ℕ, ◌+◌, ◌*◌, Bool, true, false, not, ◌==◌, ◌||◌, nat_lt, nat_le, List, [], ◌∷◌, ◌++◌, length, Option, Some, None, is_some, is_none, option_map, option_and_then, unwrap_or}
+use Rattle.std.specs.Prelude.{ℕ, Bool, not, ◌==◌, ◌||◌, nat_lt, nat_le, List, [], ◌∷◌, ◌++◌, length, Option, Some, None, is_some, is_none, option_and_then}
 use Rattle.newt_base.specs.declared.Refusal.{Refusal}
 use Rattle.newt_base.specs.declared.Refusal.TheVariants.{Soup as NoSoup, Exists, Entry as NoEntry, Notframe, Limit, Size, Ids, Full}
 use Rattle.newt_base.specs.Refusals.{Checks, first_of}
 use Rattle.newt_image.specs.Pages.{cap}
-use Rattle.newt_image.specs.Objects.{pages_for}
 use Rattle.newt_graph.specs.Graph.{RawGraph}
 use Rattle.newt_spec_graph.specs.Graph.{is_frame, object}
 use Rattle.newt_spec_store.specs.Store.{Entry, Soup, Store, soup_named, entry_of, change_soup, make_soup, drop_soup, add_entry, remove_entry}
-use Rattle.newt_spec_store.specs.Cost.{cost, skeleton_length, entry_pages, directory_bytes}
+use Rattle.newt_spec_store.specs.Cost.{cost, skeleton_length, entry_pages}
 use Rattle.newt_spec_store.specs.Lies.{graph_has_no_large}
 use Rattle.newt_soupdir.specs.Changes.{soup_of}
 use Rattle.newt_store.specs.declared.change.Change.{Change}
@@ -94,6 +93,11 @@ refusal_of change blocks now s = first_of (refusals change blocks now s)
 -- a store of this name and signature, without soups
 abbrev pub new_store : List ℕ → ℕ → Store
 new_store name sig = record { name = name; sig = sig; next_soup = 0; soups = [] }
+
+-- how many entries a soup has, none where there is no soup
+abbrev pub count_in : Option Soup → ℕ
+count_in None = 0
+count_in (Some p) = length p.entries
 
 -- the pages of an entry, if there is one
 abbrev pub pages_of_entry : Option Entry → ℕ

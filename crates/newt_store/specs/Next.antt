@@ -13,7 +13,6 @@ use Rattle.newt_spec_store.specs.Image.{entry_bytes}
 use Rattle.newt_objects.specs.Held.{held}
 use Rattle.newt_soupdir.specs.Changes.{take_uid_of}
 use Rattle.newt_soupdir.specs.Bare.{bare_store}
-use Rattle.newt_soupdir.specs.declared.rows.Directory.{Directory}
 use Rattle.newt_objects.specs.Changing.{HoldsObjects}
 use Rattle.newt_base.specs.Refusals.{first_of}
 use Rattle.newt_pagebook.specs.declared.book.Stop.TheVariants.{Memory, Device}

@@ -89,6 +89,14 @@ fn forget_new(places: &mut PlaceTable, entry: &Option<NewEntry>)
     }
 }
 
+// Where the search for a free object id goes on.
+fn hint_after(entry: &Option<NewEntry>, hint: u32) -> u32 {
+    match entry {
+        Some(e) => e.id / 2 + 1,
+        None => hint,
+    }
+}
+
 // Writes what a change makes, as one batch: the directory, the new entry's record, and no record of an entry that goes.
 fn write_next<P: PageBook, H: Host>(
     alloc: Global,
@@ -158,6 +166,7 @@ pub(crate) fn carry_out<P: PageBook, H: Host>(
     match write_next(alloc, host, book, &mut catalog.objects, &next, &gone) {
         Ok(()) => {
             forget_gone(&mut catalog.places, next.gone);
+            catalog.hint = hint_after(&next.entry, catalog.hint);
             catalog.directory = next.directory;
             Ok(next.answer)
         }

@@ -7,10 +7,11 @@ ghost use Rattle.newt_pagebook.specs.Stops.{StopsAt};
 ghost use Rattle.newt_pagebook.specs.Book.{Anything, IsDurable};
 ghost use Rattle.newt_spec_store.specs.Store.{Store as PlainStore, Entry as PlainEntry};
 ghost use Rattle.newt_spec_store.specs.OfImage.{blocks_of};
+ghost use Rattle.newt_soupdir.specs.Changes.{soup_of};
 ghost use Rattle.newt_entries.specs.Entry.{stream_graph};
 ghost use Rattle.newt_spec_store.specs.ImageStore.{store_of_image};
 ghost use Rattle.newt_store.specs.Stage.{readable};
-ghost use Rattle.newt_store.specs.Change.{changed_by, answer_of, refusal_of, entry_in, pages_of_entry, new_store};
+ghost use Rattle.newt_store.specs.Change.{changed_by, answer_of, refusal_of, entry_in, count_in, pages_of_entry, new_store};
 ghost use Rattle.newt_store.specs.Stands.{StandsFor, IsSound, GoesOn, IsRefused, RefusesWith, IsBeforeOrChanged, plain_entry};
 ghost use Rattle.newt_shelf.specs.Faults.{FaultsAt};
 
@@ -156,6 +157,14 @@ impl<P: PageBook> Store<P> {
         ensures { (now : List ℕ) (s : PlainStore) → StandsFor self.now.catalog s now → result ≡ is_some (entry_in soup uid s) }
     {
         self.catalog.places.get(soup, uid).is_some()
+    }
+
+    /// How many entries the soup has, 0 where there is no such soup.
+    pub fn count(&self, soup: Sig) -> u32
+        ensures { (now : List ℕ) (s : PlainStore) → StandsFor self.now.catalog s now → result ≡ count_in (soup_of soup s) }
+    {
+        let count = self.catalog.places.count(soup);
+        u32::try_from(count).unwrap_or(u32::MAX)
     }
 
     /// The unit that it is on.

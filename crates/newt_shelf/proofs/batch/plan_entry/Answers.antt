@@ -1,6 +1,5 @@
-use Rattle.std.proofs.Common.{refl, sym, subst, ◌∙◌, List, ℕ, Some}
+use Rattle.std.proofs.Common.{refl, sym, subst, ◌∙◌, List, ℕ}
 use Rattle.newt_pagebook.proofs.Tests.{some_inj}
-use Rattle.newt_objects.specs.Held.{Texts}
 use Rattle.newt_shelf.specs.declared.batch.NewEntry.{NewEntry}
 use Rattle.newt_shelf.specs.Batch.{HasPut}
 use Rattle.newt_shelf.proofs.batch.plan_entry.Goals as goal

@@ -1,8 +1,8 @@
-use Rattle.std.proofs.Common.{◌≡◌, ◌+◌, ◌<◌, ℕ, List, get_or, Option, Some, None, IsSome, slice_get, refl, sym, ◌∙◌, ap, subst, arith, length}
-use Rattle.std.proofs.lemmas.Option.{slice_get-get_or, slice_get_within}
+use Rattle.std.proofs.Common.{◌≡◌, ℕ, List, get_or, Option, Some, None, IsSome, slice_get, refl, sym, ◌∙◌, ap, subst, arith}
+use Rattle.std.proofs.lemmas.Option.{slice_get-get_or}
 use Rattle.std.specs.FinMap as map
 use Rattle.newt_image.specs.Objects.{Extent}
-use Rattle.newt_objects.specs.Held.{held, IsUnplanned}
+use Rattle.newt_objects.specs.Held.{IsUnplanned}
 use Rattle.newt_objects.proofs.Changing.{still_unplanned}
 use Rattle.newt_shelf.specs.Batch.{IsAmong, HasNone, AreOnce}
 use Rattle.newt_shelf.proofs.Planning.{none-first, none-more}

@@ -1,4 +1,4 @@
-use Rattle.std.proofs.Common.{◌≡◌, ◌<◌, ℕ, Some, slice_get}
+use Rattle.std.proofs.Common.{◌≡◌, ℕ}
 use Rattle.newt_objects.specs.Held.{held, IsUnplanned}
 use Rattle.newt_shelf.specs.Batch.{IsAmong}
 use Rattle.newt_shelf.proofs.Planning.{GoesOn}

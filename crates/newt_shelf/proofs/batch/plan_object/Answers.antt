@@ -1,5 +1,4 @@
 use Rattle.std.specs.FinMap as map
-use Rattle.newt_image.specs.Objects.{Extent}
 use Rattle.std.proofs.Common.{Some}
 use Rattle.newt_objects.specs.Held.{new_extent, free_numbers}
 use Rattle.std.proofs.Common.{length}

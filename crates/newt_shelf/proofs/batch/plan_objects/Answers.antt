@@ -1,8 +1,7 @@
-use Rattle.std.proofs.Common.{◌≡◌, ◌≢◌, ◌%◌, ℕ, Option, Some, None, IsSome, slice_get, refl, sym, ◌∙◌, ap, subst, arith, length}
+use Rattle.std.proofs.Common.{◌≡◌, ◌≢◌, ◌%◌, ℕ, Option, Some, None, IsSome, sym, ◌∙◌, ap, subst, arith}
 use Rattle.newt_image.specs.Objects.{Extent}
-use Rattle.newt_objects.specs.Held.{held, IsUnplanned}
+use Rattle.newt_objects.specs.Held.{held}
 use Rattle.newt_objects.proofs.Changing.{start_unplanned}
-use Rattle.newt_shelf.specs.declared.batch.NewEntry.{NewEntry}
 use Rattle.newt_shelf.proofs.Planning.{written}
 use Rattle.newt_shelf.proofs.batch.plan_objects.Goals as goal
 

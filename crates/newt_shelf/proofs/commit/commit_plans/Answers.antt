@@ -1,4 +1,4 @@
-use Rattle.std.proofs.Common.{IsTrue, ◌≡◌, ◌*◌, ◌<◌, ◌≤◌, ℕ, List, length, Option, None, Some, IsSome, sym, ◌∙◌, ap, subst, arith, refl}
+use Rattle.std.proofs.Common.{◌≡◌, ◌*◌, ◌<◌, ◌≤◌, ℕ, List, length, Option, IsSome, sym, ◌∙◌, ap, subst, arith, refl}
 use Rattle.std.proofs.Common.{Result, Err}
 use Rattle.std.specs.FinSet as set
 use Rattle.newt_pagebook.specs.declared.book.CommitFault.{CommitFault}
@@ -6,8 +6,7 @@ use Rattle.newt_pagebook.specs.declared.book.CommitFault.TheVariants.{Full}
 use Rattle.newt_host.specs.Moments.{Moment, image, changes, IsHistory, IsDurable, Leaves}
 use Rattle.newt_image.specs.Pages.{cap}
 use Rattle.newt_pagebook.specs.Book.{Numbers, changed_numbers, ReadsChanged, IsBeforeOrAfter}
-use Rattle.newt_objects.specs.Held.{Texts}
-use Rattle.newt_shelf.specs.Commit.{IsPlanned, IsEither, Fit}
+use Rattle.newt_shelf.specs.Commit.{IsEither}
 use Rattle.newt_shelf.proofs.Committing.{planned-fits, planned-full, leaves-either, leaves-nothing, holds-after, kept-after, kept-still, some-card}
 use Rattle.newt_shelf.proofs.commit.commit_plans.Goals as goal
 

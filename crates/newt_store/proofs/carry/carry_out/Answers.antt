@@ -1,5 +1,5 @@
-use Rattle.std.proofs.Common.{IsTrue, ◌≡◌, ◌*◌, ◌≤◌, ◌<◌, ℕ, List, length, slice_get, Some, IsSome, refl, sym, ◌∙◌, ap, subst, arith, Option}
-use Rattle.newt_host.specs.Moments.{Moment, image, IsDurable}
+use Rattle.std.proofs.Common.{◌≡◌, ◌*◌, ◌≤◌, ◌<◌, ℕ, List, length, slice_get, IsSome, sym, ◌∙◌, ap, subst, Option}
+use Rattle.newt_host.specs.Moments.{image}
 use Rattle.newt_image.specs.Pages.{cap}
 use Rattle.newt_objects.specs.Held.{held}
 use Rattle.newt_spec_store.specs.Cost.{cost}
@@ -8,7 +8,7 @@ use Rattle.newt_spec_store.specs.OfImage.{blocks_of}
 use Rattle.newt_shelf.specs.Places.{place_of}
 use Rattle.newt_shelf.specs.Batch.{AreOnce}
 use Rattle.newt_image.specs.Objects.{Extent}
-use Rattle.newt_store.specs.Stands.{Describes, StandsFor}
+use Rattle.newt_store.specs.Stands.{Describes}
 use Rattle.newt_store.proofs.Writing.{full-refused, goes-refused, the-fault}
 use Rattle.newt_store.proofs.Reading.{same-cap}
 use Rattle.newt_store.proofs.Carrying.{AreGone, table-next, sound-next, sound-fewer, fewer-back, same-back, described-by, cost-after, leaves-store, leaves-same}

@@ -1,13 +1,10 @@
-use Rattle.std.proofs.Common.{IsTrue, ◌≡◌, ℕ, List, Some, IsSome, refl, sym, ◌∙◌, ap, subst, Option}
+use Rattle.std.proofs.Common.{ℕ, List, IsSome, sym, ◌∙◌, subst, Option}
 use Rattle.newt_host.specs.Moments.{Moment, image, IsDurable}
 use Rattle.newt_image.specs.Objects.{Extent}
-use Rattle.newt_image.specs.Pages.{Pages, Change}
-use Rattle.newt_objects.specs.Held.{Texts, held}
-use Rattle.newt_objects.specs.Changing.{HoldsObjects, IsUnderWay}
+use Rattle.newt_image.specs.Pages.{Change}
+use Rattle.newt_objects.specs.Held.{held}
+use Rattle.newt_objects.specs.Changing.{IsUnderWay}
 use Rattle.newt_objects.proofs.TextsOf.{texts_of}
-use Rattle.newt_pagebook.specs.Batch.{no_change}
-use Rattle.newt_soupdir.specs.Bare.{bare_store}
-use Rattle.newt_spec_store.specs.Cost.{directory_bytes}
 use Rattle.newt_shelf.specs.Batch.{AreWritten}
 use Rattle.newt_shelf.specs.Commit.{AreKept}
 use Rattle.newt_store.specs.Next.{WritesNext}

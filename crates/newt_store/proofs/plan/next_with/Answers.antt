@@ -1,8 +1,8 @@
-use Rattle.std.proofs.Common.{◌≡◌, ◌%◌, ℕ, List, Option, Some, None, refl, sym, ◌∙◌, ap, subst}
+use Rattle.std.proofs.Common.{◌≡◌, ◌%◌, None, refl, ◌∙◌, ap, subst}
 use Rattle.newt_pagebook.proofs.Tests.{some_inj}
 use Rattle.newt_objects.specs.Held.{held}
 use Rattle.newt_soupdir.specs.Bare.{bare_soup, bare_store}
-use Rattle.newt_soupdir.specs.Changes.{soup_of, take_uid_of}
+use Rattle.newt_soupdir.specs.Changes.{take_uid_of}
 use Rattle.newt_soupdir.specs.declared.rows.Directory.{Directory}
 use Rattle.newt_shelf.specs.declared.batch.NewEntry.{NewEntry}
 use Rattle.newt_store.proofs.Adding.{formed-taken, soup-small}

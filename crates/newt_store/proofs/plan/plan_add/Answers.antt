@@ -1,6 +1,5 @@
-use Rattle.std.proofs.Common.{◌≡◌, ℕ, ◌<◌, Bool, true, false, not, Option, Some, None, refl, sym, ◌∙◌, ap, subst, arith}
+use Rattle.std.proofs.Common.{◌<◌, sym, ◌∙◌, ap, arith}
 use Rattle.std.specs.Option.{is_some}
-use Rattle.newt_spec_graph.specs.Graph as words
 use Rattle.newt_soupdir.specs.Bare.{bare_soup, bare_store}
 use Rattle.newt_soupdir.specs.Changes.{soup_of}
 use Rattle.newt_store.proofs.Planned.{seen-some}

@@ -1,7 +1,6 @@
-use Rattle.std.proofs.Common.{◌≡◌, ◌≢◌, ℕ, Bool, true, false, not, List, Option, Some, None, refl, sym, ◌∙◌, ap, subst}
+use Rattle.std.proofs.Common.{◌≡◌, ℕ, false, List, sym, ◌∙◌, ap}
 use Rattle.std.specs.Option.{is_some}
-use Rattle.newt_base.specs.Names.{is_name}
-use Rattle.newt_spec_store.specs.Store.{soup_named, make_soup}
+use Rattle.newt_spec_store.specs.Store.{soup_named}
 use Rattle.newt_soupdir.specs.Bare.{bare_store}
 use Rattle.newt_soupdir.specs.declared.rows.Directory.{Directory}
 use Rattle.newt_store.proofs.Planned.{seen-some, make-exists, make-limit, make-ids, make-planned, formed-made, none-some, made-is}

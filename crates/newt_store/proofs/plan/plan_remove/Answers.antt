@@ -1,11 +1,8 @@
-use Rattle.std.proofs.Common.{◌≡◌, ℕ, Bool, true, false, not, Option, Some, None, refl, sym, ◌∙◌, ap}
+use Rattle.std.proofs.Common.{not, sym, ◌∙◌, ap}
 use Rattle.std.specs.Option.{is_some}
-use Rattle.newt_spec_store.specs.Valid.{well_formed}
 use Rattle.newt_soupdir.specs.Bare.{bare_store}
 use Rattle.newt_soupdir.specs.Changes.{soup_of}
-use Rattle.newt_soupdir.specs.declared.rows.Directory.{Directory}
-use Rattle.newt_shelf.specs.Places.{place_of}
-use Rattle.newt_store.proofs.Planned.{seen-some, remove-no-soup, remove-no-entry, remove-planned, none-some}
+use Rattle.newt_store.proofs.Planned.{seen-some, remove-no-soup, remove-no-entry, remove-planned}
 use Rattle.newt_store.proofs.plan.plan_remove.Goals as goal
 
 pub returns-then-is_none-clause-refused : goal.returns-then-is_none-clause-refused

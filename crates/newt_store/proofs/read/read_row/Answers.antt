@@ -1,4 +1,4 @@
-use Rattle.std.proofs.Common.{IsTrue, ◌≡◌, ℕ, List, [], Some, refl, sym, ◌∙◌, ap, subst}
+use Rattle.std.proofs.Common.{◌≡◌, ℕ, [], sym, ◌∙◌, ap}
 use Rattle.newt_spec_store.specs.Lies.{entry_read}
 use Rattle.newt_entries.specs.Entry.{stream_graph, said}
 use Rattle.newt_spec_store.specs.Store.{Entry}

@@ -1,4 +1,4 @@
-use Rattle.std.proofs.Common.{◌≡◌, ℕ, List, ◌++◌, Some, slice_get, sym, ◌∙◌, ap, subst}
+use Rattle.std.proofs.Common.{◌≡◌, ℕ, List, ◌++◌, slice_get, sym, ◌∙◌, ap, subst}
 use Rattle.newt_shelf.specs.Batch.{AreOnce}
 use Rattle.newt_shelf.specs.Places.{picked}
 use Rattle.newt_shelf.proofs.Placing.{picked-places, places-picked, places-once}

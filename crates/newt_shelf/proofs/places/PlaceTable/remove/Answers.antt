@@ -1,4 +1,4 @@
-use Rattle.std.proofs.Common.{◌∙◌, sym}
+use Rattle.std.proofs.Common.{◌∙◌}
 use Rattle.newt_shelf.proofs.Placing.{other-key}
 use Rattle.newt_shelf.proofs.places.PlaceTable.remove.Goals as goal
 

@@ -1,5 +1,4 @@
-use Rattle.std.proofs.Common.{◌≡◌, ◌==◌, ℕ, Bool, not, true, false, List, Some, None, sym, ◌∙◌, ap, rules}
-use Rattle.std.specs.List.{filter}
+use Rattle.std.proofs.Common.{◌≡◌, ◌==◌, ℕ, Bool, not, true, false, List, sym, ◌∙◌, ap, rules}
 use Rattle.std.specs.Map.{lookup}
 use Rattle.std.specs.Ordering.{is_eq}
 use Rattle.std.proofs.lemmas.Map.Made.{filter_same_pairs}

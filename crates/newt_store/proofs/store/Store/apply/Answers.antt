@@ -1,13 +1,12 @@
-use Rattle.std.proofs.Common.{IsTrue, ◌≡◌, ◌≤◌, ◌<◌, ℕ, List, Some, None, refl, sym, ◌∙◌, ap, subst, IfErr}
-use Rattle.newt_host.specs.Moments.{Moment, image, IsDurable, Leaves}
+use Rattle.std.proofs.Common.{◌≡◌, ◌≤◌, ◌<◌, ℕ, List, sym, subst}
+use Rattle.newt_host.specs.Moments.{Moment, image, Leaves}
 use Rattle.newt_image.specs.Pages.{cap}
-use Rattle.newt_base.specs.Refusals.{first_of}
 use Rattle.newt_spec_store.specs.Cost.{cost}
 use Rattle.newt_spec_store.specs.Store.{Store as PlainStore}
 use Rattle.newt_spec_store.specs.OfImage.{blocks_of}
-use Rattle.newt_store.specs.Change.{changed_by, first_checks, refusal_of}
+use Rattle.newt_store.specs.Change.{changed_by, refusal_of}
 use Rattle.newt_store.specs.Next.{IsEitherStore}
-use Rattle.newt_store.specs.Stands.{StandsFor, IsSound, IsBeforeOrChanged, RefusesWith}
+use Rattle.newt_store.specs.Stands.{StandsFor, RefusesWith}
 use Rattle.newt_store.proofs.Applying.{none-due, full-due, refuses-full, refuses-first, from-err, sound-over, same-image, leaves-changed, leaves-before}
 use Rattle.newt_store.proofs.store.Store.apply.Goals as goal
 

@@ -1,13 +1,11 @@
-use Rattle.std.proofs.Common.{IsTrue, ◌≡◌, ◌*◌, ℕ, List, [], Option, Some, None, refl, sym, ◌∙◌, ap, subst}
-use Rattle.std.specs.Option.{is_some, option_map}
-use Rattle.newt_image.specs.Objects.{pages_for}
+use Rattle.std.proofs.Common.{◌≡◌, ◌*◌, ℕ, [], Some, sym, ◌∙◌, ap, subst}
 use Rattle.newt_host.specs.Outside.{Spends}
 use Rattle.newt_spec_store.specs.Store.{Entry as PlainEntry}
 use Rattle.newt_spec_store.specs.Image.{entry_bytes}
 use Rattle.newt_laws_images.proofs.Totals.{record-pages}
 use Rattle.newt_entries.specs.Entry.{said}
 use Rattle.newt_shelf.specs.Places.{place_of}
-use Rattle.newt_store.specs.Change.{entry_in, pages_of_entry}
+use Rattle.newt_store.specs.Change.{pages_of_entry}
 use Rattle.newt_store.proofs.Entries.{found-at, read-same, no-entry-at}
 use Rattle.newt_store.proofs.store.Store.entry.Goals as goal
 

@@ -1,4 +1,4 @@
-use Rattle.std.proofs.Common.{◌≡◌, Bool, true, false, Option, ℕ, refl, sym, ◌∙◌, ap}
+use Rattle.std.proofs.Common.{◌∙◌, ap}
 use Rattle.std.specs.Option.{is_some}
 use Rattle.newt_shelf.specs.Places.{place_of}
 use Rattle.newt_store.proofs.Entries.{has-entry}

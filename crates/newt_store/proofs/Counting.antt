@@ -1,0 +1,88 @@
+-- How many entries a soup has, by their places.
+use Rattle.std.proofs.Common.{◌≡◌, ℕ, suc, ◌+◌, ◌==◌, ◌||◌, ◌<◌, ◌≤◌, Bool, true, false, cond, List, [], ◌∷◌, map as map_list, length, Option, Some, None, is_some, refl, sym, ◌∙◌, ap, arith, ⊎_elim}
+use Rattle.std.specs.List.{find, IsDistinct, AllByRecursion}
+use Rattle.std.specs.Option.{option_and_then}
+use Rattle.std.specs.Set.{is_member}
+use Rattle.newt_image.specs.Objects.{Objects}
+use Rattle.newt_pagebook.proofs.Tests.{true_or_false, is_same, equal_true, equal_false}
+use Rattle.newt_spec_graph.specs.Lists.{Each, Pairs, rises}
+use Rattle.newt_spec_graph.proofs.Lists.{rises-pairs}
+use Rattle.newt_spec_store.specs.Store.{Entry, Soup, Store, entry_of}
+use Rattle.newt_spec_store.specs.Lies.{Places}
+use Rattle.newt_spec_store.specs.Valid.{valid_soup}
+use Rattle.newt_laws_images.proofs.Made.{map-length}
+use Rattle.newt_laws_images.proofs.Stores.{IsSoup, is-store, is-soup}
+use Rattle.newt_laws_changes.proofs.Soups.{found-good}
+use Rattle.newt_soupdir.specs.Changes.{soup_of}
+use Rattle.newt_soupdir.specs.declared.rows.Directory.{Directory}
+use Rattle.newt_store.specs.Change.{entry_in, count_in}
+use Rattle.newt_store.specs.Stands.{Describes}
+use Rattle.newt_store.proofs.Entries.{has-entry}
+
+abbrev same_number : ℕ → ℕ → Bool
+same_number a b = a == b
+
+-- the ids of a soup's entries
+abbrev pub uids_in : Option Soup → List ℕ
+uids_in None = []
+uids_in (Some p) = map_list (λ (e : Entry). e.uid) p.entries
+
+other-way : (a b : ℕ) → (a == b) ≡ (b == a)
+other-way a b = ⊎_elim
+    (λ (e : (a == b) ≡ true). e ∙ sym (equal_true b a (sym (is_same a b e))))
+    (λ (e : (a == b) ≡ false). e ∙ sym (equal_false b a (λ is. absurd (let yes : (a == b) ≡ true = equal_true a b (sym is) in cc))))
+    (true_or_false (a == b))
+
+found-member : (uid : ℕ) (es : List Entry) → is_some (find (λ e. e.uid == uid) es) ≡ is_member same_number (map_list (λ (e : Entry). e.uid) es) uid
+found-member uid [] = refl
+found-member uid (e ∷ es) = by (e.uid == uid) (found-member uid es) ∙ ap (λ b. b || is_member same_number (map_list (λ (e : Entry). e.uid) es) uid) (other-way e.uid uid) where
+  by : (b : Bool) → is_some (find (λ e. e.uid == uid) es) ≡ is_member same_number (map_list (λ (e : Entry). e.uid) es) uid
+      → is_some (cond b (Some e) (find (λ e. e.uid == uid) es)) ≡ (b || is_member same_number (map_list (λ (e : Entry). e.uid) es) uid)
+  by true more = refl
+  by false more = more
+
+later-other : (n : ℕ) (ns : List ℕ) → Each (λ m. n < m) ns → AllByRecursion (λ m. same_number n m ≡ false) ns
+later-other n [] h = tt
+later-other n (m ∷ ns) h = (equal_false n m (λ is. absurd (omega (arith, is, h.0))), later-other n ns h.1)
+
+rising-distinct : (ns : List ℕ) → Pairs (λ m n. m < n) ns → IsDistinct same_number ns
+unfolding IsDistinct
+rising-distinct [] h = tt
+rising-distinct (n ∷ ns) h = (later-other n ns h.0, rising-distinct ns h.1)
+
+rising-length : (low high : ℕ) (ns : List ℕ) → low ≤ high → rises low high ns ≡ true → low + length ns ≤ high
+rising-length low high [] fits h = omega arith
+rising-length low high (n ∷ ns) fits h = let more = rising-length (n + 1) high ns (grind arith) (grind arith) in let first : low ≤ n = grind arith in omega (arith, more, first)
+
+module _ (directory : Directory) (place : Places) (texts : Objects) (s : Store) (d : Describes directory place texts s) where
+  soup-good : (sig : ℕ) (p : Soup) → soup_of sig s ≡ Some p → IsSoup p
+  soup-good sig p found = is-soup p (found-good valid_soup (λ (p : Soup). p.sig == sig) s.soups p (is-store s d.formed).soups_fit found)
+
+  pub uids-once : (sig : ℕ) → IsDistinct same_number (uids_in (soup_of sig s))
+  uids-once sig = cases (soup_of sig s) refl where
+    cases : (o : Option Soup) → soup_of sig s ≡ o → IsDistinct same_number (uids_in o)
+    unfolding IsDistinct
+    cases None e = tt
+    cases (Some p) e = rising-distinct (uids_in (Some p)) (rises-pairs 0 p.next_uid (uids_in (Some p)) (soup-good sig p e).uids)
+
+  pub uids-placed : (sig uid : ℕ) → is_some (place sig uid) ≡ is_member same_number (uids_in (soup_of sig s)) uid
+  uids-placed sig uid = has-entry directory place texts s d sig uid ∙ cases (soup_of sig s) where
+    cases : (o : Option Soup) → is_some (option_and_then (entry_of uid) o) ≡ is_member same_number (uids_in o) uid
+    cases None = refl
+    cases (Some p) = found-member uid p.entries
+
+  pub as-many-uids : (sig : ℕ) → length (uids_in (soup_of sig s)) ≡ count_in (soup_of sig s)
+  as-many-uids sig = cases (soup_of sig s) where
+    cases : (o : Option Soup) → length (uids_in o) ≡ count_in o
+    cases None = refl
+    cases (Some p) = map-length (λ (e : Entry). e.uid) p.entries
+
+  pub few-uids : (sig : ℕ) → count_in (soup_of sig s) ≤ 536_870_911
+  few-uids sig = cases (soup_of sig s) refl where
+    cases : (o : Option Soup) → soup_of sig s ≡ o → count_in o ≤ 536_870_911
+    cases None e = omega arith
+    cases (Some p) e =
+        let many = rising-length 0 p.next_uid (uids_in (Some p)) (omega arith) (soup-good sig p e).uids in
+        let same = map-length (λ (e : Entry). e.uid) p.entries in
+        let next = (soup-good sig p e).next in
+        omega (arith, many, same, next)
