@@ -144,7 +144,7 @@ impl<P: PageBook> Card for Kept<P> {
     }
 
     fn count(&self, soup: Sig) -> u32 {
-        0
+        self.store.count(soup)
     }
 
     fn has(&self, soup: Sig, uid: Uid) -> bool {
