@@ -1,5 +1,6 @@
 -- Each change of a store does what the units ask of a card.
-use Rattle.std.proofs.Common.{◌≡◌, inl, ℕ, List, [], Option, Some, Result, ⊤, ◌∙◌, ap, subst}
+use Rattle.std.proofs.Common.{◌≡◌, inl, ℕ, List, [], Option, Some, Result, ◌∙◌, ap, subst}
+use Rattle.std.specs.Prelude.{⊤}
 use Rattle.newt_graph.specs.Graph.{RawGraph}
 use Rattle.newt_host.specs.Moments.{Moment, image, IsDurable, Leaves}
 use Rattle.newt_host.proofs.Moments.{Leaves-start}

@@ -67,7 +67,7 @@ module _ {B : Type 0} (place : B → ℕ) (numbers : B → Numbers) (stands : Bo
   -- its unit is read as a store, whose soups are known
   pub plain_read : (store : Store B) (outside : Outside) → StandsOn place numbers stands true store outside
       → (s : Plain) × (readable (image (place store.book) outside.now) ≡ Some s) × (bare s ≡ bare_store store.catalog.directory)
-  plain_read store outside on = read_as store.catalog (image (place store.book) outside.now) (on.plain tt)
+  plain_read store outside on = read_as store.catalog (image (place store.book) outside.now) (on.plain refl)
 
   -- a call on another unit, on the input or on the output keeps it, where it keeps the book
   pub kept_on : ((told : Bool) (book : B) (old new : Outside) → stands told book old → IsSameFor told (place book) old new → stands told book new)

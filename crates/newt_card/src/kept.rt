@@ -17,6 +17,7 @@ pub struct Kept<P: PageBook> {
 }
 
 impl<P: PageBook> Card for Kept<P> {
+    ghost use Rattle.std.specs.Prelude.{true, refl};
     ghost use Rattle.newt_soupdir.specs.Bare.{bare_store};
     ghost use Rattle.newt_store.specs.Stage.{readable};
     ghost use Rattle.newt_card.specs.Stands.{StandsOn};
@@ -34,7 +35,7 @@ impl<P: PageBook> Card for Kept<P> {
 
     ghost plain = { λ card outside stands. plain_read P.place P.numbers P.stands card.store outside stands };
 
-    ghost durable = { λ card outside stands. (P.tells true card.store.book outside stands.book tt).1 };
+    ghost durable = { λ card outside stands. (P.tells true card.store.book outside stands.book refl).1 };
 
     ghost banks = { λ told card outside stands. (P.has_banks told card.store.book outside stands.book).0 };
 

@@ -8,6 +8,7 @@ use Rattle.newt_store.specs.Change.{changed_by}
 use Rattle.newt_store.specs.Stage.{readable}
 use Rattle.newt_store.specs.Stands.{StandsFor}
 use Rattle.newt_store.specs.declared.catalog.Catalog.{Catalog}
+use Rattle.newt_card.specs.Stands.{StandsOn}
 use Rattle.newt_card.proofs.Turns.{reads-it, stands-for, by-blocks, leaves-either}
 use Rattle.newt_card.proofs.change.change_store.Goals as goal
 
@@ -58,22 +59,23 @@ returns-in-Err-Refused g c =
     let blocks : ℕ = (o c.args.host.now).blocks u in
     let size : IsTrue told → blocks_of img ≡ blocks = λ tells. blocks-are img blocks (g.met.H.Host.sized c.args.host.now u tells) in
     let at : IsTrue told → (s : Plain) → readable img ≡ Some s → StandsFor catalog s img = λ tells s reads. stands-for catalog s img (c.requires.plain tells) reads in
-    let same : new ≡ old = c.in-Err-Refused.ensures.nothing_done tt in
+    let e = rw c.in-Err-Refused.field-0-is at c.in-Err-Refused.ensures in
+    let same : new ≡ old = e.nothing_done tt in
     record {
       stands = λ goes. record {
-        book = c.in-Err-Refused.ensures.stands tt;
-        sound = c.in-Err-Refused.ensures.sound tt;
+        book = e.stands tt;
+        sound = e.sound tt;
         plain = λ tells.
             let one = c.requires.plain tells in
             record {
               plain = one.plain;
               stands = subst (λ (v : ℕ). StandsFor later one.plain (image v new)) (sym c.apply.ensures.place)
-                  (subst (λ (m : Moment). StandsFor later one.plain (image u m)) (sym same) (c.in-Err-Refused.ensures.still tells one.plain one.stands tt));
+                  (subst (λ (m : Moment). StandsFor later one.plain (image u m)) (sym same) (e.still tells one.plain one.stands tt));
             };
       };
       place = c.apply.ensures.place;
       made = λ tells s reads. (
-        by-blocks c.args.change blocks c.args.now s img (Some c.in-Err-Refused.refusal) (size tells) (c.in-Err-Refused.ensures.refused tells s (at tells s reads)),
+        by-blocks c.args.change blocks c.args.now s img (Some c.in-Err-Refused.refusal) (size tells) (e.refused tells s (at tells s reads)),
         ap (λ (m : Moment). readable (image u m)) same ∙ reads,
       );
       others = λ tells. let one = c.requires.plain tells in Leaves-others (c.apply.ensures.any_moment tells one.plain one.stands);
@@ -94,12 +96,13 @@ returns-in-Err-Stop g c =
     let blocks : ℕ = (o c.args.host.now).blocks u in
     let size : IsTrue told → blocks_of img ≡ blocks = λ tells. blocks-are img blocks (g.met.H.Host.sized c.args.host.now u tells) in
     let at : IsTrue told → (s : Plain) → readable img ≡ Some s → StandsFor catalog s img = λ tells s reads. stands-for catalog s img (c.requires.plain tells) reads in
+    let e = rw c.in-Err-Stop.field-0-is at c.in-Err-Stop.ensures in
     record {
-      stands = λ goes. absurd goes;
+      stands = λ goes. absurd {A = StandsOn g.P.PageBook.place g.P.PageBook.numbers g.P.PageBook.stands told c.apply.new.self (o c.apply.new.host)} goes;
       place = c.apply.ensures.place;
       made = λ tells s reads. tt;
       others = λ tells. let one = c.requires.plain tells in Leaves-others (c.apply.ensures.any_moment tells one.plain one.stands);
       any_moment = λ tells s reads. leaves-either u c.args.change blocks c.args.now s img old new (size tells) (c.apply.ensures.any_moment tells s (at tells s reads));
       alone = c.apply.ensures.alone;
-      cause = c.in-Err-Stop.ensures.cause;
+      cause = e.cause;
     }

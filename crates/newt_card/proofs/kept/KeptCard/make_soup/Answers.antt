@@ -2,6 +2,7 @@ use Rattle.std.proofs.Common.{ℕ, refl}
 use Rattle.newt_host.specs.Moments.{image}
 use Rattle.newt_host.proofs.Outside.{Touches-refl}
 use Rattle.newt_store.specs.Stage.{readable}
+use Rattle.newt_card.specs.Stands.{StandsOn}
 use Rattle.newt_card.proofs.Commands.{make-does, make-leaves, leaves-nothing}
 use Rattle.newt_card.proofs.kept.KeptCard.make_soup.Goals as goal
 
@@ -27,7 +28,7 @@ returns-in-Err g c =
     let u : ℕ = g.P.PageBook.place c.args.self.now.store.book in
     let blocks : ℕ = (o c.args.host.now).blocks u in
     record {
-      stands = λ goes. absurd goes;
+      stands = λ goes. absurd {A = StandsOn g.P.PageBook.place g.P.PageBook.numbers g.P.PageBook.stands g.H.Host.told c.args.self.now.store (o c.args.host.now)} goes;
       place = refl;
       made = λ tells s reads. tt;
       others = λ tells v not. refl;
