@@ -1,18 +1,16 @@
 -- The refusals of a change, where what it names is there, are the tests of a command.
-use Rattle.std.proofs.Common.{Bool, ◌≡◌, ◌==◌, ◌||◌, ◌∷◌, [], ℕ, not, nat_lt, List, Option, Some, None, refl, sym, ◌∙◌, ap}
+use Rattle.std.proofs.Common.{Bool, ◌≡◌, ◌==◌, ◌||◌, ◌∷◌, [], ℕ, not, nat_lt, Option, Some, ◌∙◌, ap}
 use Rattle.std.specs.Option.{is_none, option_and_then}
 use Rattle.newt_base.specs.Refusals.{Checks, first_of}
-use Rattle.newt_base.specs.declared.Refusal.{Refusal}
 use Rattle.newt_base.specs.declared.Refusal.TheVariants.{Soup as NoSoup, Entry as NoEntry, Notframe, Size, Ids, Full}
 use Rattle.newt_graph.specs.Graph.{RawGraph}
 use Rattle.newt_image.specs.Pages.{cap}
 use Rattle.newt_laws_changes.proofs.Members.{entry_is_in}
-use Rattle.newt_laws_answers.specs.Tests.{make_tests, add_tests, move_tests, moved_within}
+use Rattle.newt_laws_answers.specs.Tests.{add_tests, move_tests, moved_within}
 use Rattle.newt_spec_graph.specs.Graph.{is_frame, object}
 use Rattle.newt_spec_store.specs.Cost.{cost}
 use Rattle.newt_spec_store.specs.Store.{Store as Plain, Soup, Entry, entry_of, change_soup, drop_soup, add_entry, remove_entry}
 use Rattle.newt_store.specs.Change.{changed_by, answer_of, refusals, entry_in, changed_soup, dropped_soup, moved_entry, next_uid_of, has_no_ids, is_too_large}
-use Rattle.newt_store.specs.declared.change.Change.{Change}
 use Rattle.newt_store.specs.declared.change.Change.TheVariants as change
 use Rattle.newt_units.specs.Cards.{soup_of}
 

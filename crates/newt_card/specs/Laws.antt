@@ -1,5 +1,5 @@
 -- What the units ask of a card, of a store that stands for its unit. This project's own.
-use Rattle.std.specs.Prelude.{◌≡◌, ℕ, Bool, true, IsTrue, List, Option, Some}
+use Rattle.std.specs.Prelude.{◌≡◌, ℕ, Bool, true, IsTrue, List, Some}
 use Rattle.std.proofs.Common.{ap, subst, refl, sym, ◌∙◌}
 use Rattle.newt_host.specs.Moments.{Change as Event, image, bytes_after}
 use Rattle.newt_host.specs.Outside.{Outside}

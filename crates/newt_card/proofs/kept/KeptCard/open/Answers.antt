@@ -9,7 +9,7 @@ returns-in-Ok-clause-stands g c =
     let e = c.in-Ok.ensures in
     let store = c.in-Ok.store in
     let same : image (g.P.PageBook.place store.book) (o c.open.new.host).now ≡ image c.args.unit (o c.args.host.now).now =
-        ap (λ (u : ℕ). image u (o c.open.new.host).now) e.place ∙ ap (λ (m : Moment). image c.args.unit m) c.open.ensures.moment in
+    ap (λ (u : ℕ). image u (o c.open.new.host).now) e.place ∙ ap (λ (m : Moment). image c.args.unit m) c.open.ensures.moment in
     record {
       book = e.stands;
       sound = subst (λ (u : ℕ). IsSound g.H.Host.told store.catalog (g.P.PageBook.numbers store.book) u (o c.open.new.host)) (sym e.place) e.sound;
