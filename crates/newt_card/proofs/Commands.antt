@@ -1,0 +1,91 @@
+-- Each change of a store does what the units ask of a card.
+use Rattle.std.proofs.Common.{◌≡◌, inl, ℕ, List, [], Option, Some, Result, ◌∙◌, ap, subst}
+use Rattle.std.specs.Prelude.{⊤}
+use Rattle.newt_graph.specs.Graph.{RawGraph}
+use Rattle.newt_host.specs.Moments.{Moment, image, IsDurable, Leaves}
+use Rattle.newt_host.proofs.Moments.{Leaves-start}
+use Rattle.newt_laws_answers.specs.Tests.{make_tests, add_tests, move_tests, moved_within}
+use Rattle.newt_spec_store.specs.Store.{Store as Plain, Soup, Entry, entry_of, change_soup, make_soup, drop_soup, add_entry, remove_entry}
+use Rattle.newt_store.specs.Change.{changed_by, answer_of, refusals}
+use Rattle.newt_store.specs.Stage.{readable}
+use Rattle.newt_store.specs.declared.change.Change.{Change}
+use Rattle.newt_store.specs.declared.change.Change.TheVariants as change
+use Rattle.newt_units.specs.Cards.{soup_of, LeavesEither}
+use Rattle.newt_units.specs.Faults.{Does}
+use Rattle.newt_units.specs.declared.fault.Fault.{Fault}
+use Rattle.newt_card.proofs.Turns.{does-as, does-done, done, leaves-as}
+use Rattle.newt_card.proofs.Tests.{drop-tests, dropped, add-tests, added, added-uid, remove-tests, removed, move-tests, moved, moved-uid}
+
+some : {A : Type 0} {a b : A} → a ≡ b → Some a ≡ Some b
+some is = ap Some is
+
+-- what a change does, and what a crash leaves of it
+abbrev pub Changes : Change → ℕ → ℕ → Plain → Option Plain → Result ℕ Fault → Type 0
+Changes change blocks now s later result = Does (refusals change blocks now s) (λ n. n ≡ answer_of change s) (Some s) (Some (changed_by change now s)) later result
+
+abbrev pub LeavesChange : ℕ → Change → ℕ → ℕ → Plain → Moment → Moment → Type 0
+LeavesChange unit change blocks now s old new = Leaves unit (LeavesEither readable (refusals change blocks now s) s (changed_by change now s)) old new
+
+-- a name that is copied is the same
+pub make-does : (blocks : ℕ) (name copy : List ℕ) (s : Plain) (later : Option Plain) (result : Result ℕ Fault) → copy ≡ name → Changes (change.MakeSoup copy) blocks 0 s later result
+    → Does (make_tests blocks name s) (λ n. n ≡ s.next_soup) (Some s) (Some (make_soup name s)) later result
+make-does blocks name copy s later result is d = subst (λ (m : List ℕ). Does (make_tests blocks m s) (λ n. n ≡ s.next_soup) (Some s) (Some (make_soup m s)) later result) is d
+
+pub make-leaves : (blocks : ℕ) (name copy : List ℕ) (s : Plain) (unit : ℕ) (old new : Moment) → copy ≡ name → LeavesChange unit (change.MakeSoup copy) blocks 0 s old new
+    → Leaves unit (LeavesEither readable (make_tests blocks name s) s (make_soup name s)) old new
+make-leaves blocks name copy s unit old new is leaves = subst (λ (m : List ℕ). Leaves unit (LeavesEither readable (make_tests blocks m s) s (make_soup m s)) old new) is leaves
+
+-- nothing has happened
+pub leaves-nothing : (blocks : ℕ) (name : List ℕ) (s : Plain) (unit : ℕ) (now : Moment) → IsDurable unit now → readable (image unit now) ≡ Some s
+    → Leaves unit (LeavesEither readable (make_tests blocks name s) s (make_soup name s)) now now
+leaves-nothing blocks name s unit now durable reads = Leaves-start (λ left may. inl (ap readable (durable left may) ∙ reads))
+
+module _ (blocks now sig : ℕ) (s : Plain) (p : Soup) (found : soup_of sig s ≡ Some p) where
+  pub drop-does : (later : Option Plain) (result : Result ℕ Fault) → Changes (change.DropSoup sig) blocks now s later result → Does [] (λ _. ⊤) (Some s) (Some (drop_soup p.name s)) later (done result)
+  drop-does later result d = does-done [] (λ _. ⊤) (Some s) (Some (drop_soup p.name s)) later result
+      (does-as (refusals (change.DropSoup sig) blocks now s) [] (λ n. n ≡ answer_of (change.DropSoup sig) s) (λ _. ⊤) (Some s) (Some (changed_by (change.DropSoup sig) now s)) (Some (drop_soup p.name s)) later
+      (drop-tests blocks now sig s p found) (λ n good. tt) (some (dropped blocks now sig s p found)) result d)
+
+  pub drop-leaves : (unit : ℕ) (old new : Moment) → LeavesChange unit (change.DropSoup sig) blocks now s old new → Leaves unit (LeavesEither readable [] s (drop_soup p.name s)) old new
+  drop-leaves unit old new leaves = leaves-as unit readable (refusals (change.DropSoup sig) blocks now s) [] s (changed_by (change.DropSoup sig) now s) (drop_soup p.name s) old new
+      (drop-tests blocks now sig s p found) (dropped blocks now sig s p found) leaves
+
+  module _ (g : RawGraph) where
+    pub add-does : (later : Option Plain) (result : Result ℕ Fault) → Changes (change.Add sig g) blocks now s later result
+        → Does (add_tests blocks now p.name g s p) (λ n. n ≡ p.next_uid) (Some s) (Some (change_soup p.name (add_entry now g) s)) later result
+    add-does later result d = does-as (refusals (change.Add sig g) blocks now s) (add_tests blocks now p.name g s p) (λ n. n ≡ answer_of (change.Add sig g) s) (λ n. n ≡ p.next_uid)
+        (Some s) (Some (changed_by (change.Add sig g) now s)) (Some (change_soup p.name (add_entry now g) s)) later
+        (add-tests blocks now sig s p found g) (λ n good. good ∙ added-uid blocks now sig s p found g) (some (added blocks now sig s p found g)) result d
+
+    pub add-leaves : (unit : ℕ) (old new : Moment) → LeavesChange unit (change.Add sig g) blocks now s old new
+        → Leaves unit (LeavesEither readable (add_tests blocks now p.name g s p) s (change_soup p.name (add_entry now g) s)) old new
+    add-leaves unit old new leaves = leaves-as unit readable (refusals (change.Add sig g) blocks now s) (add_tests blocks now p.name g s p) s (changed_by (change.Add sig g) now s)
+        (change_soup p.name (add_entry now g) s) old new (add-tests blocks now sig s p found g) (added blocks now sig s p found g) leaves
+
+  module _ (uid : ℕ) (e : Entry) (here : entry_of uid p ≡ Some e) where
+    pub remove-does : (later : Option Plain) (result : Result ℕ Fault) → Changes (change.Remove sig uid) blocks now s later result
+        → Does [] (λ _. ⊤) (Some s) (Some (change_soup p.name (remove_entry uid) s)) later (done result)
+    remove-does later result d = does-done [] (λ _. ⊤) (Some s) (Some (change_soup p.name (remove_entry uid) s)) later result
+        (does-as (refusals (change.Remove sig uid) blocks now s) [] (λ n. n ≡ answer_of (change.Remove sig uid) s) (λ _. ⊤)
+        (Some s) (Some (changed_by (change.Remove sig uid) now s)) (Some (change_soup p.name (remove_entry uid) s)) later
+        (remove-tests blocks now sig s p found uid e here) (λ n good. tt) (some (removed blocks now sig s p found uid e here)) result d)
+
+    pub remove-leaves : (unit : ℕ) (old new : Moment) → LeavesChange unit (change.Remove sig uid) blocks now s old new
+        → Leaves unit (LeavesEither readable [] s (change_soup p.name (remove_entry uid) s)) old new
+    remove-leaves unit old new leaves = leaves-as unit readable (refusals (change.Remove sig uid) blocks now s) [] s (changed_by (change.Remove sig uid) now s)
+        (change_soup p.name (remove_entry uid) s) old new (remove-tests blocks now sig s p found uid e here) (removed blocks now sig s p found uid e here) leaves
+
+    module _ (target : ℕ) (q : Soup) (into : soup_of target s ≡ Some q) where
+      pub move-does : (later : Option Plain) (result : Result ℕ Fault) → Changes (change.Move sig uid target) blocks now s later result
+          → Does (move_tests blocks now p.name uid q.name e.graph s q) (λ n. n ≡ q.next_uid) (Some s) (Some (moved_within now p.name uid q.name e.graph s)) later result
+      move-does later result d = does-as (refusals (change.Move sig uid target) blocks now s) (move_tests blocks now p.name uid q.name e.graph s q)
+          (λ n. n ≡ answer_of (change.Move sig uid target) s) (λ n. n ≡ q.next_uid)
+          (Some s) (Some (changed_by (change.Move sig uid target) now s)) (Some (moved_within now p.name uid q.name e.graph s)) later
+          (move-tests blocks now sig s p found uid e here target q into) (λ n good. good ∙ moved-uid blocks now sig s p found uid e here target q into)
+          (some (moved blocks now sig s p found uid e here target q into)) result d
+
+      pub move-leaves : (unit : ℕ) (old new : Moment) → LeavesChange unit (change.Move sig uid target) blocks now s old new
+          → Leaves unit (LeavesEither readable (move_tests blocks now p.name uid q.name e.graph s q) s (moved_within now p.name uid q.name e.graph s)) old new
+      move-leaves unit old new leaves = leaves-as unit readable (refusals (change.Move sig uid target) blocks now s) (move_tests blocks now p.name uid q.name e.graph s q) s
+          (changed_by (change.Move sig uid target) now s) (moved_within now p.name uid q.name e.graph s) old new
+          (move-tests blocks now sig s p found uid e here target q into) (moved blocks now sig s p found uid e here target q into) leaves

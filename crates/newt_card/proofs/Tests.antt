@@ -1,0 +1,67 @@
+-- The refusals of a change, where what it names is there, are the tests of a command.
+use Rattle.std.proofs.Common.{Bool, ◌≡◌, ◌==◌, ◌||◌, ◌∷◌, [], ℕ, not, nat_lt, Option, Some, ◌∙◌, ap}
+use Rattle.std.specs.Option.{is_none, option_and_then}
+use Rattle.newt_base.specs.Refusals.{Checks, first_of}
+use Rattle.newt_base.specs.declared.Refusal.TheVariants.{Soup as NoSoup, Entry as NoEntry, Notframe, Size, Ids, Full}
+use Rattle.newt_graph.specs.Graph.{RawGraph}
+use Rattle.newt_image.specs.Pages.{cap}
+use Rattle.newt_laws_changes.proofs.Members.{entry_is_in}
+use Rattle.newt_laws_answers.specs.Tests.{add_tests, move_tests, moved_within}
+use Rattle.newt_spec_graph.specs.Graph.{is_frame, object}
+use Rattle.newt_spec_store.specs.Cost.{cost}
+use Rattle.newt_spec_store.specs.Store.{Store as Plain, Soup, Entry, entry_of, change_soup, drop_soup, add_entry, remove_entry}
+use Rattle.newt_store.specs.Change.{changed_by, answer_of, refusals, entry_in, changed_soup, dropped_soup, moved_entry, next_uid_of, has_no_ids, is_too_large}
+use Rattle.newt_store.specs.declared.change.Change.TheVariants as change
+use Rattle.newt_units.specs.Cards.{soup_of}
+
+-- the entry of a soup that is there
+pub entry-there : (sig uid : ℕ) (s : Plain) (p : Soup) (e : Entry) → soup_of sig s ≡ Some p → entry_of uid p ≡ Some e → entry_in sig uid s ≡ Some e
+entry-there sig uid s p e found here = ap (option_and_then (entry_of uid)) found ∙ here
+
+module _ (blocks now sig : ℕ) (s : Plain) (p : Soup) (found : soup_of sig s ≡ Some p) where
+  pub drop-tests : first_of (refusals (change.DropSoup sig) blocks now s) ≡ first_of []
+  drop-tests = ap (λ (o : Option Soup). first_of ((NoSoup, is_none o) ∷ [])) found
+
+  pub dropped : changed_by (change.DropSoup sig) now s ≡ drop_soup p.name s
+  dropped = ap (λ (o : Option Soup). dropped_soup o s) found
+
+  module _ (g : RawGraph) where
+    pub add-tests : first_of (refusals (change.Add sig g) blocks now s) ≡ first_of (add_tests blocks now p.name g s p)
+    add-tests = ap (λ (o : Option Soup). first_of ((NoSoup, is_none o) ∷ (Notframe, not (is_frame (object g.nodes g.root))) ∷ (Size, is_too_large g) ∷ (Ids, has_no_ids o)
+        ∷ (Full, nat_lt (cap blocks) (cost (changed_soup o (add_entry now g) s))) ∷ [])) found
+
+    pub added : changed_by (change.Add sig g) now s ≡ change_soup p.name (add_entry now g) s
+    added = ap (λ (o : Option Soup). changed_soup o (add_entry now g) s) found
+
+    pub added-uid : answer_of (change.Add sig g) s ≡ p.next_uid
+    added-uid = ap next_uid_of found
+
+  module _ (uid : ℕ) (e : Entry) (here : entry_of uid p ≡ Some e) where
+    pub remove-tests : first_of (refusals (change.Remove sig uid) blocks now s) ≡ first_of []
+    remove-tests = ap (λ (o : Option Soup). first_of ((NoSoup, is_none o) ∷ (NoEntry, is_none (entry_in sig uid s)) ∷ [])) found
+        ∙ ap (λ (o : Option Entry). first_of ((NoEntry, is_none o) ∷ [])) (entry-there sig uid s p e found here)
+
+    pub removed : changed_by (change.Remove sig uid) now s ≡ change_soup p.name (remove_entry uid) s
+    removed = ap (λ (o : Option Soup). changed_soup o (remove_entry uid) s) found
+
+    module _ (target : ℕ) (q : Soup) (into : soup_of target s ≡ Some q) where
+      moved-with : (a b : Option Soup) (o : Option Entry) → soup_of sig s ≡ a → soup_of target s ≡ b → entry_in sig uid s ≡ o → changed_by (change.Move sig uid target) now s ≡ moved_entry o a b now s
+      moved-with a b o x y z = ap (λ (v : Option Entry). moved_entry v (soup_of sig s) (soup_of target s) now s) z ∙ ap (λ (v : Option Soup). moved_entry o v (soup_of target s) now s) x
+          ∙ ap (λ (v : Option Soup). moved_entry o a v now s) y
+
+      pub moved : changed_by (change.Move sig uid target) now s ≡ moved_within now p.name uid q.name e.graph s
+      moved = moved-with (Some p) (Some q) (Some e) found into (entry-there sig uid s p e found here)
+          ∙ ap (λ (u : ℕ). moved_within now p.name u q.name e.graph s) (entry_is_in sig uid s p e found here).1
+
+      pub move-tests : first_of (refusals (change.Move sig uid target) blocks now s) ≡ first_of (move_tests blocks now p.name uid q.name e.graph s q)
+      move-tests =
+          ap (λ (o : Option Soup). first_of ((NoSoup, is_none o || is_none (soup_of target s)) ∷ later (is_none (entry_in sig uid s)) (soup_of target s) (changed_by (change.Move sig uid target) now s))) found
+          ∙ ap (λ (o : Option Soup). first_of ((NoSoup, is_none o) ∷ later (is_none (entry_in sig uid s)) o (changed_by (change.Move sig uid target) now s))) into
+          ∙ ap (λ (o : Option Entry). first_of (later (is_none o) (Some q) (changed_by (change.Move sig uid target) now s))) (entry-there sig uid s p e found here)
+          ∙ ap (λ (t : Plain). first_of ((Ids, q.next_uid == 536_870_911) ∷ (Full, nat_lt (cap blocks) (cost t)) ∷ [])) moved
+        where
+          later : Bool → Option Soup → Plain → Checks
+          later none o t = (NoEntry, none) ∷ (Ids, has_no_ids o) ∷ (Full, nat_lt (cap blocks) (cost t)) ∷ []
+
+      pub moved-uid : answer_of (change.Move sig uid target) s ≡ q.next_uid
+      moved-uid = ap next_uid_of into

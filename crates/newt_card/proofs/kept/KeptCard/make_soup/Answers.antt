@@ -1,0 +1,38 @@
+use Rattle.std.proofs.Common.{ℕ, refl}
+use Rattle.newt_host.specs.Moments.{image}
+use Rattle.newt_host.proofs.Outside.{Touches-refl}
+use Rattle.newt_store.specs.Stage.{readable}
+use Rattle.newt_card.specs.Stands.{StandsOn}
+use Rattle.newt_card.proofs.Commands.{make-does, make-leaves, leaves-nothing}
+use Rattle.newt_card.proofs.kept.KeptCard.make_soup.Goals as goal
+
+pub returns-in-Ok : goal.returns-in-Ok
+returns-in-Ok g c =
+    let o = g.H.Host.outside in
+    let u : ℕ = g.P.PageBook.place c.args.self.now.store.book in
+    let blocks : ℕ = (o c.args.host.now).blocks u in
+    let e = c.change_store.ensures in
+    record {
+      stands = e.stands;
+      place = e.place;
+      made = λ tells s reads. make-does blocks c.args.name.now c.in-Ok.name s (readable (image u (o c.change_store.new.host).now)) c.change_store.result c.in-Ok.ensures (e.made tells s reads);
+      others = e.others;
+      any_moment = λ tells s reads. make-leaves blocks c.args.name.now c.in-Ok.name s u (o c.args.host.now).now (o c.change_store.new.host).now c.in-Ok.ensures (e.any_moment tells s reads);
+      alone = e.alone;
+      cause = e.cause;
+    }
+
+pub returns-in-Err : goal.returns-in-Err
+returns-in-Err g c =
+    let o = g.H.Host.outside in
+    let u : ℕ = g.P.PageBook.place c.args.self.now.store.book in
+    let blocks : ℕ = (o c.args.host.now).blocks u in
+    record {
+      stands = λ goes. absurd {A = StandsOn g.P.PageBook.place g.P.PageBook.numbers g.P.PageBook.stands g.H.Host.told c.args.self.now.store (o c.args.host.now)} goes;
+      place = refl;
+      made = λ tells s reads. tt;
+      others = λ tells v not. refl;
+      any_moment = λ tells s reads. leaves-nothing blocks c.args.name.now s u (o c.args.host.now).now (g.met.P.PageBook.tells g.H.Host.told c.args.self.now.store.book (o c.args.host.now) c.requires.book tells).1 reads;
+      alone = Touches-refl u (o c.args.host.now);
+      cause = tt;
+    }
