@@ -1,5 +1,5 @@
 -- What a call on the units says of a command.
-use Rattle.std.proofs.Common.{arith, ◌≡◌, refl, sym, ◌∙◌, ap, subst, ℕ, List, Bool, true, false, IsTrue, Option}
+use Rattle.std.proofs.Common.{arith, ◌≡◌, refl, sym, ◌∙◌, ap, subst, ℕ, List, Bool, true, IsTrue, Option}
 use Rattle.std.specs.Prelude.{Result, Ok, Err, IfErr}
 use Rattle.newt_host.specs.Moments.{Moment, Always}
 use Rattle.newt_host.specs.Outside.{Outside}
@@ -16,7 +16,7 @@ use Rattle.newt_units.specs.declared.fault.Fault.{Fault}
 use Rattle.newt_units.specs.declared.fault.Fault.TheVariants.{Refused, Stop}
 use Rattle.newt_units.specs.declared.units.Units.{Units}
 use Rattle.newt_units.specs.Answers.{Answers}
-use Rattle.newt_units.specs.Faults.{HasFaultCause, IsRefusal, NoDevice, OnDevices}
+use Rattle.newt_units.specs.Faults.{HasFaultCause, NoDevice, OnDevices}
 use Rattle.newt_units.specs.Stands.{Eight, Stands, world_of}
 use Rattle.newt_units.proofs.Known.{Laws}
 use Rattle.newt_units.proofs.Turns.{still-moments}
@@ -50,10 +50,6 @@ pub told_stands : {C : Type 0} {place : C → ℕ} {stands : Bool → C → Outs
 told_stands {C} {place} {stands} told units o s t = subst (λ b. Stands place stands b units o) t s
 
 -- ---- causes
-
-pub no_device : (fault : Fault) → IsRefusal fault → NoDevice fault
-no_device (Refused r) h = tt
-no_device (Stop stop) h = absurd h
 
 pub has_cause : {T : Type 0} (o p : Outside) (result : Result T Fault) → IfErr result (λ fault. NoDevice fault) → IfErr result (λ fault. HasFaultCause fault o p)
 has_cause o p (Ok x) h = tt

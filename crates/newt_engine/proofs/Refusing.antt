@@ -1,5 +1,5 @@
 -- A command that is refused leaves the world.
-use Rattle.std.proofs.Common.{◌≡◌, refl, sym, ◌∙◌, ap, ℕ, List, Bool, true, false, cond, map, length, ◌∷◌, [], Some, None, Option, option_and_then, IfOk}
+use Rattle.std.proofs.Common.{◌≡◌, refl, sym, ◌∙◌, ap, Bool, true, false, cond, map, length, ◌∷◌, [], Some, None, Option, option_and_then, IfOk}
 use Rattle.std.specs.Prelude.{Result, Ok}
 use Rattle.newt_base.specs.Refusals.{first_of}
 use Rattle.newt_base.specs.declared.Refusal.{Refusal}

@@ -1,6 +1,6 @@
 -- What stands between commands, and what no command takes away.
 use Rattle.std.proofs.Common.{◌≡◌, refl, ap, sym, ◌∙◌, ℕ, zero, suc, ◌≤◌, List, [], ◌∷◌, Bool, true, false, not, ◌||◌, IsTrue, Option, Some, None, map, cond}
-use Rattle.std.specs.Prelude.{is_some, slice_index_or, slice_get, IsSome}
+use Rattle.std.specs.Prelude.{is_some, slice_index_or, slice_get}
 use Rattle.newt_base.specs.Refusals.{Checks, first_of}
 use Rattle.newt_base.specs.declared.Refusal.{Refusal}
 use Rattle.newt_base.specs.declared.Refusal.TheVariants.{Size, Command as NoCommand}
@@ -23,7 +23,7 @@ use Rattle.newt_laws.proofs.Later.{row-later, world-not}
 use Rattle.newt_laws_answers.specs.Stage.{answer_now, checks_now, is_built, new_graph, staged}
 use Rattle.newt_units.specs.declared.units.Units.{Units}
 use Rattle.newt_units.specs.Cards.{IsSame}
-use Rattle.newt_units.specs.Stands.{Stands, Eight, world_of}
+use Rattle.newt_units.specs.Stands.{Eight, world_of}
 use Rattle.newt_units.proofs.Known.{Laws}
 use Rattle.newt_units.proofs.Slots.{stands-still}
 use Rattle.newt_units.proofs.Turns.{world-still, left-alone}

@@ -18,7 +18,11 @@ use newt_units::{Card, Entry, Fault};
 
 impl<C: Card> World<C> {
     /// Obeys a command that takes no graph.
-    pub(crate) fn obey_on_entry<H: Host>(&mut self, host: &mut H, command: &Command) -> Result<Reply, Fault>
+    pub(crate) fn obey_on_entry<H: Host>(
+        &mut self,
+        host: &mut H,
+        command: &Command,
+    ) -> Result<Reply, Fault>
         requires stands { Stands C.place C.stands H.told self.old.units (H.outside host.old) }
         requires no_graph { on_graph command.now ≡ false }
         ensures stands { GoesOn result → Stands C.place C.stands H.told self.new.units (H.outside host.new) }

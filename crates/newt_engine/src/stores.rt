@@ -18,7 +18,11 @@ use newt_units::{Card, Fault};
 
 impl<C: Card> World<C> {
     /// Obeys a command that is on no entry of a device.
-    pub(crate) fn obey_on_store<H: Host>(&mut self, host: &mut H, command: &Command) -> Result<Reply, Fault>
+    pub(crate) fn obey_on_store<H: Host>(
+        &mut self,
+        host: &mut H,
+        command: &Command,
+    ) -> Result<Reply, Fault>
         requires stands { Stands C.place C.stands H.told self.old.units (H.outside host.old) }
         requires no_graph { on_graph command.now ≡ false }
         requires no_entry { on_entry command.now ≡ false }

@@ -66,7 +66,9 @@ impl<C: Card> Interpreter for World<C> {
 
     fn start<H: Host>(alloc: Global, host: &H, attached: [bool; 8]) -> Result<Self, AllocError> {
         let _host = host;
-        Ok(World { units: Units::of(alloc, attached)? })
+        Ok(World {
+            units: Units::of(alloc, attached)?,
+        })
     }
 
     fn apply<H: Host>(&mut self, host: &mut H, command: Command) -> Result<Reply, Stop> {

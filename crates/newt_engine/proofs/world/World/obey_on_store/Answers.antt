@@ -1,9 +1,8 @@
 -- The units do it.
-use Rattle.std.proofs.Common.{◌≡◌, ℕ, List, ap, sym, subst, ◌∙◌, true, false}
+use Rattle.std.proofs.Common.{ℕ, List}
 use Rattle.std.proofs.lemmas.Result.{err_from_is_err_and}
 use Rattle.newt_spec_world.specs.Reply.{Reply as plain}
 use Rattle.newt_engine.specs.Laws.{laws_of}
-use Rattle.newt_engine.proofs.Groups.{no_device_used}
 use Rattle.newt_engine.proofs.Handed.{handed, has_cause, quiet, told_stands}
 use Rattle.newt_units.specs.Stands.{Eight}
 use Rattle.newt_engine.proofs.Handed.{still_devices}

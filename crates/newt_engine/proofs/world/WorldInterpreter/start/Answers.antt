@@ -1,5 +1,4 @@
--- Nothing is mounted.
-use Rattle.std.proofs.Common.{refl}
+-- Nothing is mounted yet.
 use Rattle.newt_engine.specs.Laws.{known_attached}
 use Rattle.newt_engine.proofs.world.WorldInterpreter.start.Goals as goal
 
