@@ -1,28 +1,17 @@
 -- What stands between two commands.
-use Rattle.std.specs.Prelude.{◌≡◌, ℕ, ◌⊎◌, Bool, true, false, not, ◌||◌, cond, IsTrue, IsSome, List, [], ◌∷◌, map, Option, Some, None, option_map, refl}
+use Rattle.std.specs.Prelude.{◌≡◌, ℕ, ◌⊎◌, Bool, true, false, IsTrue, IsSome, List, [], ◌∷◌, map, Option, Some, None, option_map, refl}
 use Rattle.std.proofs.Common.{sym, ◌∙◌, ap, subst, inl}
-use Rattle.newt_base.specs.Refusals.{Checks, first_of}
-use Rattle.newt_base.specs.declared.Refusal.{Refusal}
-use Rattle.newt_base.specs.declared.Refusal.TheVariants.{Size, Command as NoCommand}
-use Rattle.newt_graph.specs.Graph.{RawGraph}
 use Rattle.newt_host.specs.Moments.{Always, here, Change, IsDurable, LeftBy, MayLeave, bytes_after, changes, image}
 use Rattle.newt_host.specs.Outside.{Outside}
 use Rattle.newt_session.specs.Causes.{SameDevices}
 use Rattle.newt_session.specs.First.{device_now, unmounted}
 use Rattle.newt_session.specs.Moments.{Answering}
 use Rattle.newt_session.proofs.Beginning.{unmounted_leaves}
-use Rattle.newt_spec_graph.proofs.Lists.{none-some, both-ways}
-use Rattle.newt_spec_store.specs.Lies.{graph_has_no_large}
 use Rattle.newt_spec_store.specs.Store.{Store}
 use Rattle.newt_spec_world.specs.declared.command.Command.{Command}
-use Rattle.newt_spec_world.specs.Answer.{answered}
 use Rattle.newt_spec_world.specs.First.{media_of, unit_numbers}
-use Rattle.newt_spec_world.specs.Refused.{Check, checks}
 use Rattle.newt_spec_world.specs.World.{World, Device, first_world, store_on_unit}
-use Rattle.newt_laws.specs.Later.{WorldLater}
-use Rattle.newt_laws.proofs.Kept.{AllFalse, all-false}
-use Rattle.newt_laws.proofs.Later.{row-later, world-not}
-use Rattle.newt_laws_answers.specs.Stage.{answer_now, checks_now, is_built, new_graph, staged}
+use Rattle.newt_laws_answers.specs.Stage.{answer_now}
 
 -- nothing is pending on a unit
 abbrev pub AtRest : Bool → Outside → Type 0
@@ -59,38 +48,3 @@ module _ (reads : List ℕ → Option Store) where
     stores = λ unit store left is may. inl (leaves_there outside rest unit store left is may);
     others = λ unit none next. refl;
   })
-
--- ---- no command takes a unit's store away
-
-or-rest : (a b : Bool) → (a || b) ≡ false → b ≡ false
-or-rest false b x = x
-or-rest true b x = absurd (both-ways (sym x))
-
--- a test that is passed today is passed
-passed : (g : Option RawGraph) (ks : Checks) → AllFalse (map (staged g) ks) → AllFalse ks
-passed g [] h = tt
-passed g (k ∷ ks) h = (one g k h.0, passed g ks h.1)
-  where
-    one : (g : Option RawGraph) (k : Check) → (staged g k).1 ≡ false → k.1 ≡ false
-    one None k x = x
-    one (Some g) (Size, test) x = or-rest (not (graph_has_no_large g)) test x
-    one (Some g) (r, test) x = x
-
-pub now_later : (w : World) (c : Command) → WorldLater w (answer_now w c).0
-unfolding answer_now
-now_later w c = go (first_of (checks_now w c)) refl
-  where
-    built : (b : Bool) → first_of (cond b (map (staged (new_graph c)) (checks w c)) ((NoCommand, true) ∷ [])) ≡ None → AllFalse (checks w c)
-    built true h = passed (new_graph c) (checks w c) (all-false (map (staged (new_graph c)) (checks w c)) h)
-    built false h = absurd (cc)
-
-    go : (o : Option Refusal) → first_of (checks_now w c) ≡ o → WorldLater w (answered w c o).0
-    go None e = row-later w c (built (is_built c) e)
-    go (Some r) e = world-not w
-
-pub stays_there : (w : World) (c : Command) (unit : ℕ) → store_on_unit (answer_now w c).0 unit ≡ None → store_on_unit w unit ≡ None
-stays_there w c unit none = go (store_on_unit w unit) refl
-  where
-    go : (o : Option Store) → store_on_unit w unit ≡ o → store_on_unit w unit ≡ None
-    go None e = e
-    go (Some s) e = let k = now_later w c unit s e in absurd (none-some k.0 (sym none ∙ k.1))

@@ -2,7 +2,8 @@
 ghost use Rattle.std.specs.Prelude.{◌≡◌, IsTrue};
 ghost use Rattle.newt_laws_answers.specs.Stage.{answer_now};
 ghost use Rattle.newt_session.specs.First.{unmounted};
-ghost use Rattle.newt_engine.specs.Rest.{AtRest, still_at_rest, world_same, leaves_there, stays_there};
+ghost use Rattle.newt_engine.specs.Rest.{AtRest, still_at_rest, world_same, leaves_there};
+ghost use Rattle.newt_engine.proofs.Laws.{stays_there};
 
 use newt_host::Host;
 use newt_pagebook::Stop;
