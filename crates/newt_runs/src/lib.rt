@@ -4,6 +4,10 @@
 #![tactic(auto)]
 
 #[cfg(test)]
+mod crashes;
+#[cfg(test)]
+mod every;
+#[cfg(test)]
 mod faults;
 #[cfg(test)]
 mod limits;
@@ -12,4 +16,8 @@ mod lines;
 #[cfg(test)]
 mod modes;
 #[cfg(test)]
+mod sessions;
+#[cfg(test)]
 mod trial;
+#[cfg(test)]
+mod units;

@@ -8,12 +8,30 @@ use std::alloc::AllocError;
 fn refuses_other_words(rt: HostRuntime) -> Result<(), AllocError> {
     let alloc = rt.alloc();
     for text in [
-        "", "walk", "Run", "run a a", "run card", "run run", "show x", "pack x", "--help",
+        "",
+        "walk",
+        "Run",
+        "run a a",
+        "run a b c d e f g h i",
+        "show x",
+        "pack x",
+        "--help",
     ] {
         let mut host = host(alloc, b"nsof 020A\n", 100)?;
         assert_eq!(rt; run_on(alloc, text, &mut host)?, Status::Usage, "{text}");
         assert_eq!(rt; host.output(), b"".as_slice());
         assert_eq!(rt; host.calls(), 0, "nothing is read");
+    }
+    Ok(())
+}
+
+#[test]
+fn takes_names_that_differ(rt: HostRuntime) -> Result<(), AllocError> {
+    let alloc = rt.alloc();
+    for text in ["run", "run card", "run run", "run a b c d e f g h"] {
+        let mut host = host(alloc, b"nsof 020A\n", 100)?;
+        assert_eq!(rt; run_on(alloc, text, &mut host)?, Status::Ok, "{text}");
+        assert_eq!(rt; host.output(), b"ok 020A\n".as_slice());
     }
     Ok(())
 }

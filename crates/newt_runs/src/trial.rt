@@ -1,12 +1,15 @@
 //! One run over a host in memory.
-ghost use Rattle.std.specs.Prelude.{◌≡◌, ℕ, None, IfOk};
+ghost use Rattle.std.specs.Prelude.{◌≡◌, ◌*◌, ℕ, List, None, IfOk, IsSome, IsTrue, vec_len};
+ghost use Rattle.newt_host.specs.Outside.{Outside};
 ghost use Rattle.newt_memhost.specs.Outside.{outside_of};
+ghost use Rattle.newt_runs.specs.Free.{IsFree, HasNone};
 
-use newt_host::Unit;
+use newt_host::{Host, Unit};
 use newt_memhost::MemHost;
 use newt_top::{Status, run};
 use std::alloc::{AllocError, Global};
 use std::process::Abort;
+use std::test::Fail;
 
 /// The words of a run.
 fn words(alloc: Global, text: &str) -> Result<Vec<String>, AllocError> {
@@ -20,9 +23,10 @@ fn words(alloc: Global, text: &str) -> Result<Vec<String>, AllocError> {
     Ok(words)
 }
 
-/// A host with this input, no call of which moves more bytes than the piece.
+/// A host with this input and no devices, no call of which moves more bytes than the piece.
 pub fn host(alloc: Global, input: &[u8], piece: u32) -> Result<MemHost, AllocError>
-    ensures { IfOk result (λ host. (unit : ℕ) → (outside_of host).card unit ≡ None) }
+    ensures free { IfOk result (λ host. IsFree (outside_of host)) }
+    ensures none { IfOk result (λ host. HasNone (outside_of host)) }
 {
     let mut host = MemHost::new(alloc);
     host.input(input)?;
@@ -30,9 +34,58 @@ pub fn host(alloc: Global, input: &[u8], piece: u32) -> Result<MemHost, AllocErr
     Ok(host)
 }
 
+/// So many blocks of zero bytes.
+pub fn blocks(alloc: Global, count: u32) -> Result<Vec<u8>, AllocError>
+    ensures { IfOk result (λ bytes. vec_len bytes ≡ count * 4096) }
+{
+    let mut bytes = Vec::new(alloc);
+    bytes.resize(count as usize * 4096, 0)?;
+    Ok(bytes)
+}
+
+/// A host with this input and the device `card`.
+pub fn with_card(
+    rt: &impl Abort,
+    alloc: Global,
+    input: &[u8],
+    card: &[u8],
+) -> Result<MemHost, AllocError>
+    ensures { IfOk result (λ host. IsFree (outside_of host)) }
+{
+    assert!(rt; card.len() % 4096 == 0);
+    let mut host = host(alloc, input, 100_000)?;
+    host.device("card", card)?;
+    Ok(host)
+}
+
+/// A host with this input and the devices `internal` and `card`.
+pub fn with_both(
+    rt: &impl Abort,
+    alloc: Global,
+    input: &[u8],
+    internal: &[u8],
+    card: &[u8],
+) -> Result<MemHost, AllocError>
+    ensures { IfOk result (λ host. IsFree (outside_of host)) }
+{
+    assert!(rt; internal.len() % 4096 == 0);
+    assert!(rt; card.len() % 4096 == 0);
+    let mut host = host(alloc, input, 100_000)?;
+    host.device("internal", internal)?;
+    host.device("card", card)?;
+    Ok(host)
+}
+
+/// Whether the unit has a device.
+pub fn has_device(host: &MemHost, unit: Unit) -> bool
+    ensures { IsTrue result → IsSome ((outside_of host.now).card unit) }
+{
+    host.blocks(unit) > 0
+}
+
 /// Runs these words over a host.
 pub fn run_on(alloc: Global, text: &str, host: &mut MemHost) -> Result<Status, AllocError>
-    requires { (unit : ℕ) → (outside_of host.old).card unit ≡ None }
+    requires { IsFree (outside_of host.old) }
 {
     Ok(run(alloc, &words(alloc, text)?, host))
 }

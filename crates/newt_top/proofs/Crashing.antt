@@ -1,0 +1,149 @@
+-- A crash of a script, in the words of the top call.
+use Rattle.std.proofs.Common.{◌≡◌, refl, ap, sym, ◌∙◌, subst, ℕ, zero, suc, ◌+◌, ◌⊎◌, inl, inr, Bool, true, false, ◌&&◌, List, [], ◌∷◌, ◌++◌, length, take, eqb, Option, Some, None, MatchOption, option_map, option_and_then, Ok, Err}
+use Rattle.std.specs.Prelude.{slice_get}
+use Rattle.std.specs.Option.{is_none}
+use Rattle.std.proofs.lemmas.Bool.{eqb-true}
+use Rattle.newt_base.specs.Refusals.{first_of}
+use Rattle.newt_base.specs.declared.Refusal.{Refusal}
+use Rattle.newt_engine.proofs.Laws.{stays_there}
+use Rattle.newt_laws.proofs.Kept.{changed-units}
+use Rattle.newt_laws.proofs.Units.{same-or-not, device-other, device-same}
+use Rattle.newt_laws_answers.specs.Stage.{answer_now, checks_now}
+use Rattle.newt_session.specs.Moments.{HasLeft, replies_begun, world_at}
+use Rattle.newt_session.specs.Script.{step, world_behind}
+use Rattle.newt_spec_graph.proofs.Lists.{none-some}
+use Rattle.newt_spec_script.specs.Script.{Item}
+use Rattle.newt_spec_store.specs.Store.{Store}
+use Rattle.newt_spec_world.specs.declared.command.Command.{Command}
+use Rattle.newt_spec_world.specs.declared.command.Command.TheVariants as command
+use Rattle.newt_spec_world.specs.Answer.{answered}
+use Rattle.newt_spec_world.specs.Changed.{changed, copy_to}
+use Rattle.newt_spec_world.specs.World.{World, Device, Media, blank, one, device, default_unit, entry_in, store_of, store_on_unit, change_device, change_store, change_media}
+use Rattle.newt_spec_store.specs.Store as plain
+use Rattle.newt_store.specs.Stage.{readable}
+use Rattle.newt_top.specs.Crash.{formats, formats_next, IsOneOf, IsLeft}
+
+-- ---- only a format gives a unit a store
+
+on_device : Option Device → Option Store
+on_device o = option_and_then (λ (d : Device). store_of d.media) o
+
+none_on : (w : World) (v u : ℕ) (f : Device → Device) → ((d : Device) → store_of d.media ≡ None → store_of (f d).media ≡ None) → store_on_unit w u ≡ None → store_on_unit (change_device w v f) u ≡ None
+none_on w v u f keeps none = go (same-or-not u v)
+  where
+    here : (o : Option Device) → option_and_then (λ (d : Device). store_of d.media) o ≡ None → option_and_then (λ (d : Device). store_of d.media) (option_map f o) ≡ None
+    here None e = refl
+    here (Some d) e = keeps d e
+
+    go : (u ≡ v) ⊎ (u ≡ v → ⊥) → store_on_unit (change_device w v f) u ≡ None
+    go (inl e) = ap (store_on_unit (change_device w v f)) e ∙ (ap (option_and_then (λ (d : Device). store_of d.media)) (device-same w v f) ∙ here (device w v) (ap (store_on_unit w) (sym e) ∙ none))
+    go (inr e) = ap (option_and_then (λ (d : Device). store_of d.media)) (device-other w v f u e) ∙ none
+
+none_in : (w : World) (v u : ℕ) (f : Store → Store) → store_on_unit w u ≡ None → store_on_unit (change_store w v f) u ≡ None
+none_in w v u f none = none_on w v u (λ d. record d { media = change_media f d.media }) (λ d e. blank_stays d.media e) none
+  where
+    blank_stays : (m : Media) → store_of m ≡ None → store_of (change_media f m) ≡ None
+    blank_stays blank e = refl
+    blank_stays (one s) e = absurd (none-some s (sym e))
+
+none_copied : (w : World) (v u : ℕ) (t : List ℕ) (o : Option plain.Entry) → store_on_unit w u ≡ None → store_on_unit (copy_to w v t o) u ≡ None
+none_copied w v u t None none = none
+none_copied w v u t (Some e) none = none_in w v u _ none
+
+pub row_none : (w : World) (c : Command) (u : ℕ) → store_on_unit w u ≡ None → ((name : List ℕ) (sig : ℕ) → c ≡ command.Format u name sig → ⊥) → store_on_unit (changed w c) u ≡ None
+unfolding changed
+row_none w (command.Format v name sig) u none other = ap (option_and_then (λ (d : Device). store_of d.media)) (device-other w v _ u (λ e. other name sig (ap (λ (n : ℕ). command.Format n name sig) (sym e)))) ∙ none
+row_none w (command.Mount v) u none other = none_on w v u (λ d. record d { mounted = true }) (λ d e. e) none
+row_none w (command.Unmount v) u none other = none_on w v u (λ d. record d { mounted = false }) (λ d e. e) none
+row_none w (command.Soup v name) u none other = none_in w v u _ none
+row_none w (command.Drop v s) u none other = none_in w v u _ none
+row_none w (command.Index v s parts) u none other = none_in w v u _ none
+row_none w (command.Unindex v s paths) u none other = none_in w v u _ none
+row_none w (command.SetTags v s path symbols) u none other = none_in w v u _ none
+row_none w (command.Add v s g) u none other = none_in w v u _ none
+row_none w (command.Addx v s g) u none other = none_in w v u _ none
+row_none w (command.Addu s g) u none other = none_in w (default_unit w) u _ none
+row_none w (command.Set v s uid path g) u none other = none_in w v u _ none
+row_none w (command.Change v s uid g) u none other = none_in w v u _ none
+row_none w (command.Remove v s uid) u none other = none_in w v u _ none
+row_none w (command.Copy v s uid t q) u none other = none_copied w t u q (entry_in w v s uid) none
+row_none w (command.Move v s uid t q) u none other = none_in (copy_to w t q (entry_in w v s uid)) v u _ (none_copied w t u q (entry_in w v s uid) none)
+row_none w (command.Vwrite v s uid path at bytes) u none other = none_in w v u _ none
+row_none w c u none other = ap (λ (us : List (Option Device)). store_on_unit (record w { units = us }) u) (changed-units w c refl) ∙ none
+
+both_true : (a b : Bool) → a ≡ true → b ≡ true → (a && b) ≡ true
+both_true true b e k = k
+both_true false b e k = e
+
+-- an item that is no format of the unit, or one that is refused, leaves it without a store
+pub none_stepped : (w : World) (item : Item) (u : ℕ) → store_on_unit w u ≡ None → formats w u item ≡ false → store_on_unit (step answer_now w item).0 u ≡ None
+unfolding answer_now
+none_stepped w (Err refusal) u none not = none
+none_stepped w (Ok c) u none not = go (first_of (checks_now w c)) refl
+  where
+    other : first_of (checks_now w c) ≡ None → (name : List ℕ) (sig : ℕ) → c ≡ command.Format u name sig → ⊥
+    other passes name sig e =
+        let is : formats w u (Ok (command.Format u name sig)) ≡ false = subst (λ (x : Command). formats w u (Ok x) ≡ false) e not in
+        let passed : is_none (first_of (checks_now w (command.Format u name sig))) ≡ true = ap is_none (subst (λ (x : Command). first_of (checks_now w x) ≡ None) e passes) in
+        let yes : formats w u (Ok (command.Format u name sig)) ≡ true = both_true (eqb u u) _ (cc) passed in
+        absurd (cc)
+
+    go : (o : Option Refusal) → first_of (checks_now w c) ≡ o → store_on_unit (answered w c o).0 u ≡ None
+    go None e = row_none w c u none (other e)
+    go (Some r) e = none
+
+-- ---- the next world
+
+-- the world behind m + 1 items is the one that the next item makes of the world behind m
+pub next_world : (w : World) (items : List Item) (m : ℕ) (P : World → World → Option Item → Type 0)
+    → ((v : World) → P v v None) → ((v : World) (item : Item) → P v (step answer_now v item).0 (Some item)) → P (world_at answer_now w items m) (world_at answer_now w items (m + 1)) (slice_get items m)
+unfolding world_behind
+next_world w [] zero P same stepped = same w
+next_world w [] (suc m) P same stepped = same w
+next_world w (item ∷ items) zero P same stepped = stepped w item
+next_world w (item ∷ items) (suc m) P same stepped = next_world (step answer_now w item).0 items m P same stepped
+
+stays_stepped : (v : World) (item : Item) (u : ℕ) → store_on_unit (step answer_now v item).0 u ≡ None → store_on_unit v u ≡ None
+stays_stepped v (Ok c) u none = stays_there v c u none
+stays_stepped v (Err refusal) u none = none
+
+module _ (w : World) (items : List Item) (m u : ℕ) where
+  before : Option Store
+  before = store_on_unit (world_at answer_now w items m) u
+
+  after : Option Store
+  after = store_on_unit (world_at answer_now w items (m + 1)) u
+
+  pub still_there : store_on_unit (world_at answer_now w items (m + 1)) u ≡ None → store_on_unit (world_at answer_now w items m) u ≡ None
+  still_there = next_world w items m (λ v x item. store_on_unit x u ≡ None → store_on_unit v u ≡ None) (λ v e. e) (λ v item e. stays_stepped v item u e)
+
+  pub still_none : store_on_unit (world_at answer_now w items m) u ≡ None → formats_next w items m u ≡ false → store_on_unit (world_at answer_now w items (m + 1)) u ≡ None
+  still_none = next_world w items m (λ v x found. store_on_unit v u ≡ None → elim found [ None ↦ false | Some item ↦ formats v u item ] ≡ false → store_on_unit x u ≡ None)
+      (λ v e k. e) (λ v item e k. none_stepped v item u e k)
+
+-- ---- what is left
+
+pub is_left : (w : World) (items : List Item) (held : Option (List ℕ)) (old out : List ℕ) (u : ℕ) (left : List ℕ) → HasLeft answer_now readable w items held old out u left → IsLeft w items held old out u left
+is_left w items held old out u left h = record {
+  shown = h.shown;
+  grown = h.grown;
+  formatted = λ store is. stored store is (subst (λ (o : Option Store). Found o) is h.leaves);
+  untouched = λ none no. subst (λ (o : Option Store). Found o) none h.leaves (still_none w items m u none no);
+}
+  where
+    m : ℕ
+    m = replies_begun answer_now w items (length h.shown)
+
+    next : Option Store
+    next = store_on_unit (world_at answer_now w items (m + 1)) u
+
+    Found : Option Store → Type 0
+    Found o = MatchOption o (next ≡ None → held ≡ Some left) (λ store. (readable left ≡ Some store) ⊎ (readable left ≡ next))
+
+    stored : (store : Store) → store_on_unit (world_at answer_now w items m) u ≡ Some store → (readable left ≡ Some store) ⊎ (readable left ≡ next) → IsOneOf left store next
+    stored store is (inl e) = record { found = store; read = e; one = inl refl }
+    stored store is (inr e) = go next refl
+      where
+        go : (o : Option Store) → next ≡ o → IsOneOf left store next
+        go None k = absurd (none-some store (sym (still_there w items m u k) ∙ is))
+        go (Some s) k = record { found = s; read = e ∙ k; one = inr k }

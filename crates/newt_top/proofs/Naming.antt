@@ -1,0 +1,82 @@
+-- Names of devices.
+use Rattle.std.proofs.Common.{◌≡◌, inl, inr, ℕ, zero, suc, ◌≤◌, Bool, true, false, not, ◌&&◌, ◌||◌, cond, List, [], ◌∷◌, length, codes, nat_le, Option, Some, None, refl, sym, ◌∙◌, ap, subst, arith}
+use Rattle.std.specs.Prelude.{slice_get}
+use Rattle.std.specs.Bool.{Decides}
+use Rattle.std.specs.List.{list_any}
+use Rattle.std.specs.Str.{bytes_eq}
+use Rattle.std.proofs.lemmas.Slice.Eq.{bytes_eq-Decides}
+use Rattle.std.proofs.lemmas.Bool.{false≢true}
+use Rattle.newt_attach.specs.Named.{AreDistinct}
+use Rattle.newt_spec_graph.specs.Lists.{all_apart}
+use Rattle.newt_top.specs.Words.{are_names, script_over, conversion_named, alone, mode_of, names_of}
+use Rattle.newt_top.specs.declared.status.Mode.{Mode}
+use Rattle.newt_top.specs.declared.status.Mode.TheVariants.{Run, Convert}
+use Rattle.newt_top.specs.declared.status.Conversion.TheVariants.{Show, Pack}
+
+-- a name equals itself
+same_bytes : (x : List ℕ) → bytes_eq x x ≡ true
+same_bytes x = go (bytes_eq x x) (bytes_eq-Decides x x)
+  where
+    go : (b : Bool) → Decides b (x ≡ x) → b ≡ true
+    go true d = refl
+    go false d = d.1 refl
+
+any_at : (p : List ℕ → Bool) (xs : List (List ℕ)) (j : ℕ) (y : List ℕ) → slice_get xs j ≡ Some y → p y ≡ true → list_any p xs ≡ true
+any_at p [] j y at holds = absurd (cc)
+any_at p (x ∷ xs) zero y at holds = let same : x ≡ y = cc in ap (λ (b : Bool). b || list_any p xs) (ap p same ∙ holds)
+any_at p (x ∷ xs) (suc j) y at holds = last (p x) (list_any p xs) (any_at p xs j y at holds)
+  where
+    last : (a b : Bool) → b ≡ true → (a || b) ≡ true
+    last true b e = refl
+    last false b e = e
+
+both : (a b : Bool) → (a && b) ≡ true → (a ≡ true) × (b ≡ true)
+both true b e = (refl, e)
+both false b e = absurd (false≢true e)
+
+not_any : (b : Bool) → not b ≡ true → b ≡ true → ⊥
+not_any true n y = false≢true n
+not_any false n y = false≢true y
+
+pub apart_distinct : (names : List (List ℕ)) → all_apart bytes_eq names ≡ true → AreDistinct names
+apart_distinct [] apart zero j name at there = absurd (cc)
+apart_distinct [] apart (suc i) j name at there = absurd (cc)
+apart_distinct (x ∷ xs) apart zero zero name at there = refl
+apart_distinct (x ∷ xs) apart zero (suc j) name at there =
+    let same : x ≡ name = cc in
+    absurd (not_any (list_any (bytes_eq x) xs) (both (not (list_any (bytes_eq x) xs)) (all_apart bytes_eq xs) apart).0
+    (any_at (bytes_eq x) xs j name there (ap (bytes_eq x) (sym same) ∙ same_bytes x)))
+apart_distinct (x ∷ xs) apart (suc i) zero name at there =
+    let same : x ≡ name = cc in
+    absurd (not_any (list_any (bytes_eq x) xs) (both (not (list_any (bytes_eq x) xs)) (all_apart bytes_eq xs) apart).0
+    (any_at (bytes_eq x) xs i name at (ap (bytes_eq x) (sym same) ∙ same_bytes x)))
+apart_distinct (x ∷ xs) apart (suc i) (suc j) name at there = ap suc (apart_distinct xs (both (not (list_any (bytes_eq x) xs)) (all_apart bytes_eq xs) apart).1 i j name at there)
+
+-- the names of a script
+script_names : (b : Bool) (names : List (List ℕ)) → b ≡ are_names names → ◌≡◌ {A = Option Mode} (cond b (Some Run) None) (Some Run) → are_names names ≡ true
+script_names true names e is = sym e
+script_names false names e is = absurd (cc)
+
+alone_runs : (word : List ℕ) (names : List (List ℕ)) → alone names (conversion_named word) ≡ Some Run → ⊥
+unfolding conversion_named
+alone_runs word [] is = converts (bytes_eq word (codes "show")) (bytes_eq word (codes "pack")) is
+  where
+    converts : (a b : Bool) → ◌≡◌ {A = Option Mode} (cond a (Some (Convert Show)) (cond b (Some (Convert Pack)) None)) (Some Run) → ⊥
+    converts true b e = cc
+    converts false true e = cc
+    converts false false e = cc
+alone_runs word (name ∷ names) is = cc
+
+pub run_names : (words : List (List ℕ)) → mode_of words ≡ Some Run → are_names (names_of words) ≡ true
+run_names [] is = absurd (cc)
+run_names (word ∷ names) is = go (bytes_eq word (codes "run")) is
+  where
+    go : (b : Bool) → ◌≡◌ {A = Option Mode} (cond b (script_over names) (alone names (conversion_named word))) (Some Run) → are_names names ≡ true
+    go true e = script_names (are_names names) names refl e
+    go false e = absurd (alone_runs word names e)
+
+pub few_names : (names : List (List ℕ)) → are_names names ≡ true → length names ≤ 8
+few_names names are = grind (arith, (both (nat_le (length names) 8) (all_apart bytes_eq names) are).0)
+
+pub distinct_names : (names : List (List ℕ)) → are_names names ≡ true → AreDistinct names
+distinct_names names are = apart_distinct names (both (nat_le (length names) 8) (all_apart bytes_eq names) are).1

@@ -1,0 +1,12 @@
+use Rattle.std.proofs.Common.{◌≡◌, ◌≤◌, length, map, Global, string_bytes, arith}
+use Rattle.std.proofs.lemmas.List.{length-map}
+use Rattle.newt_top.proofs.Naming.{few_names, distinct_names}
+use Rattle.newt_top.proofs.top.run_script.Goals as goal
+
+pub run_named-requires-clause-few : goal.run_named-requires-clause-few
+run_named-requires-clause-few g c =
+    let few = few_names (map (string_bytes {Z = Global}) c.args.names.now) c.requires.names in
+    omega (arith, few, length-map c.args.names.now (string_bytes {Z = Global}))
+
+pub run_named-requires-clause-distinct : goal.run_named-requires-clause-distinct
+run_named-requires-clause-distinct g c = distinct_names (map (string_bytes {Z = Global}) c.args.names.now) c.requires.names

@@ -1,0 +1,89 @@
+//! Runs over real files, which lie in the folder that the tests run in, and which each test removes.
+
+use crate::files::FileHost;
+use newt_top::{Status, run};
+use std::alloc::{AllocError, Global};
+use std::fs::{self, File};
+use std::process::Abort;
+use std::test::Fail;
+
+fn words(alloc: Global, texts: &[&str]) -> Result<Vec<String>, AllocError> {
+    let mut words = Vec::new(alloc);
+    for text in texts {
+        words.push(String::from_str(alloc, text)?)?;
+    }
+    Ok(words)
+}
+
+// A run of a script over the files `internal` and `card`, whose replies are looked for.
+fn expect_session(rt: &HostRuntime, script: &[u8], replies: &[u8]) -> Result<(), Fail> {
+    fs::write(rt, "script", script)?;
+    let (input, output) = (File::open(rt, "script")?, File::create(rt, "replies")?);
+    let mut host = FileHost::new(rt.alloc(), rt, input, output);
+    let status = run(rt.alloc(), &words(rt.alloc(), &["run", "internal", "card"])?, &mut host);
+    let written = fs::read(rt, "replies")?;
+    fs::remove_file(rt, "script")?;
+    fs::remove_file(rt, "replies")?;
+    assert_eq!(rt; status, Status::Ok);
+    assert_eq!(rt; written.as_slice(), replies);
+    Ok(())
+}
+
+const FIRST: &[u8] = b"format 0 Internal 7
+format 1 Card 9
+mount 0
+mount 1
+time 100
+soup 0 Notes
+soup 1 Notes
+add 0 Notes {title: \"Milk\"}
+add 0 Notes {title: \"Bread\"}
+move 0 Notes 1 1 Notes
+alias 1 Notes 0
+";
+
+const FIRST_REPLIES: &[u8] = b"ok
+ok
+ok 7 Internal
+ok 9 Card
+ok
+ok 0
+ok 0
+ok 0
+ok 1
+ok 0
+ok [alias: 9, 0, 0]
+";
+
+const SECOND: &[u8] = b"mount 1
+mount 0
+stores
+resolve [alias: 9, 0, 0]
+get 1 Notes 0
+soups 0
+add 0 Notes {}
+quit
+";
+
+const SECOND_REPLIES: &[u8] = b"ok 9 Card
+ok 7 Internal
+ok 0 7 Internal, 1 9 Card
+ok 1 Notes 0
+ok 100 {title: \"Bread\"}
+ok Notes 0 1
+ok 2
+ok
+";
+
+#[test]
+fn goes_on_with_the_stores_of_the_run_before(rt: HostRuntime) -> Result<(), Fail> {
+    let mut bytes = Vec::new(rt.alloc());
+    bytes.resize(53_248, 0)?;
+    fs::write(&rt, "internal", bytes.as_slice())?;
+    fs::write(&rt, "card", bytes.as_slice())?;
+    expect_session(&rt, FIRST, FIRST_REPLIES)?;
+    expect_session(&rt, SECOND, SECOND_REPLIES)?;
+    fs::remove_file(&rt, "internal")?;
+    fs::remove_file(&rt, "card")?;
+    Ok(())
+}
