@@ -56,18 +56,20 @@ now-is w c = go (first_of (checks_now w c)) refl
 
 -- ---- a script
 
+-- behind one command more
+one-more : (w : World) (c : Command) (items : List Item) → (cs : List Command) × (world_behind answer_now (answer_now w c).0 items ≡ after (answer_now w c).0 cs)
+    → (cs : List Command) × (world_behind answer_now (answer_now w c).0 items ≡ after w cs)
+one-more w c items more = go (now-is w c)
+  where
+    go : (answer_now w c ≡ answer w c) ⊎ ((r : Refusal) × (answer_now w c ≡ (w, Reply.refused r))) → (cs : List Command) × (world_behind answer_now (answer_now w c).0 items ≡ after w cs)
+    go (inl e) = (c ∷ more.0, more.1 ∙ ap (λ (a : World × Reply). after a.0 more.0) e)
+    go (inr (r, e)) = (more.0, more.1 ∙ ap (λ (a : World × Reply). after a.0 more.0) e)
+
 pub script-run : (w : World) (items : List Item) → (cs : List Command) × (world_behind answer_now w items ≡ after w cs)
 unfolding world_behind
 script-run w [] = ([], refl)
 script-run w (Err r ∷ items) = script-run w items
-script-run w (Ok c ∷ items) = go (now-is w c)
-  where
-    more : (cs : List Command) × (world_behind answer_now (answer_now w c).0 items ≡ after (answer_now w c).0 cs)
-    more = script-run (answer_now w c).0 items
-
-    go : (answer_now w c ≡ answer w c) ⊎ ((r : Refusal) × (answer_now w c ≡ (w, Reply.refused r))) → (cs : List Command) × (world_behind answer_now (answer_now w c).0 items ≡ after w cs)
-    go (inl e) = (c ∷ more.0, more.1 ∙ ap (λ (a : World × Reply). after a.0 more.0) e)
-    go (inr (r, e)) = (more.0, more.1 ∙ ap (λ (a : World × Reply). after a.0 more.0) e)
+script-run w (Ok c ∷ items) = one-more w c items (script-run (answer_now w c).0 items)
 
 pub script-later : (w : World) (items : List Item) → WorldLater w (world_behind answer_now w items)
 script-later w items = let r = script-run w items in subst (WorldLater w) (sym r.1) (run-later w r.0)

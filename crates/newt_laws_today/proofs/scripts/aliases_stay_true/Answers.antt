@@ -1,5 +1,5 @@
 use Rattle.newt_laws_today.proofs.Runs.{script-gone}
 use Rattle.newt_laws_today.proofs.scripts.aliases_stay_true.Goals as goal
 
-pub returns-clause : goal.returns-clause
-returns-clause c = script-gone
+pub returns : goal.returns
+returns c = script-gone
