@@ -5,7 +5,7 @@ use Rattle.std.specs.Option.{is_none}
 use Rattle.std.proofs.lemmas.Bool.{eqb-true}
 use Rattle.newt_base.specs.Refusals.{first_of}
 use Rattle.newt_base.specs.declared.Refusal.{Refusal}
-use Rattle.newt_engine.proofs.Laws.{stays_there}
+use Rattle.newt_engine.specs.Laws.{stays_there}
 use Rattle.newt_laws.proofs.Kept.{changed-units}
 use Rattle.newt_laws.proofs.Units.{same-or-not, device-other, device-same}
 use Rattle.newt_laws_answers.specs.Stage.{answer_now, checks_now}
