@@ -163,10 +163,10 @@ pub spends-both : (catalog : Catalog) (change : Change) (now : ℕ) (s : Store) 
     → (IsOpenFor (turn_bytes next s (changed_by change now s)) img → Spends unit (turn_bytes next s (changed_by change now s)) 0 mid new)
     → (cap (blocks_of img) < cost (changed_by change now s) → Spends unit 0 0 mid new)
     → IsOpenFor (most_bytes change (blocks_of img) now s) img → Spends unit (most_bytes change (blocks_of img) now s) fetches old new
-spends-both catalog change now s next img unit fetches old mid new plan first bound none open = ⊎_elim
+spends-both catalog change now s next img unit fetches old mid new plan first bound none room = ⊎_elim
     (λ (low : cost (changed_by change now s) ≤ cap (blocks_of img)).
     let same = planned-bytes catalog change (blocks_of img) now s next plan (none-due change (blocks_of img) now s plan.accepted low) in
-    joined (subst (λ (n : ℕ). Spends unit n 0 mid new) same (bound (subst (λ (n : ℕ). IsOpenFor n img) (sym same) open))))
+    joined (subst (λ (n : ℕ). Spends unit n 0 mid new) same (bound (subst (λ (n : ℕ). IsOpenFor n img) (sym same) room))))
     (λ (more : cap (blocks_of img) < cost (changed_by change now s)). joined (Spends-widen 0 0 (most_bytes change (blocks_of img) now s) 0 (omega arith) (omega arith) (none more)))
     (either (cost (changed_by change now s)) (cap (blocks_of img))) where
       joined : Spends unit (most_bytes change (blocks_of img) now s) 0 mid new → Spends unit (most_bytes change (blocks_of img) now s) fetches old new

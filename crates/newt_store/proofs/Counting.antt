@@ -51,9 +51,9 @@ module _ (directory : Directory) (place : Places) (texts : Objects) (s : Store) 
   soup-good sig p found = is-soup p (found-good valid_soup (λ (p : Soup). p.sig == sig) s.soups p (is-store s d.formed).soups_fit found)
 
   pub uids-once : (sig : ℕ) → IsDistinct same_number (uids_in (soup_of sig s))
+  unfolding IsDistinct
   uids-once sig = cases (soup_of sig s) refl where
     cases : (o : Option Soup) → soup_of sig s ≡ o → IsDistinct same_number (uids_in o)
-    unfolding IsDistinct
     cases None e = tt
     cases (Some p) e = rising-distinct (uids_in (Some p)) (rises-pairs 0 p.next_uid (uids_in (Some p)) (soup-good sig p e).uids)
 

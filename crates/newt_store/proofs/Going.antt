@@ -38,6 +38,9 @@ use Rattle.newt_store.proofs.Rows.{pages-are}
 use Rattle.newt_store.proofs.Sums.{same_number, member-at, at-member, once-distinct, sums-agree}
 use Rattle.newt_store.proofs.Turning.{bytes-of}
 
+no-more : (n : ℕ) → n + 0 ≡ n
+no-more n = omega arith
+
 -- ---- objects and entries, by their places
 
 module _ (place : Places) (weigh : ℕ → ℕ) (sig : ℕ) (apart : (u v id : ℕ) → place sig u ≡ Some id → place sig v ≡ Some id → u ≡ v) where
@@ -87,10 +90,10 @@ module _ (place : Places) (weigh : ℕ → ℕ) (sig : ℕ) (apart : (u v id : �
 
   have-ids : (es : List Entry) (q : ℕ) → is_member same_number (ids_of es) q ≡ true → (e : Entry) × Among es e × (id_of e ≡ q)
   have-ids [] q is = absurd (cc)
-  have-ids (f ∷ es) q is = by (same_number q (id_of f)) refl is where
-    by : (b : Bool) → same_number q (id_of f) ≡ b → (b || is_member same_number (ids_of es) q) ≡ true → (e : Entry) × Among (f ∷ es) e × (id_of e ≡ q)
-    by true e h = (f, inl refl, sym (is_same q (id_of f) e))
-    by false e h = let w = have-ids es q h in (w.0, inr w.1, w.2)
+  have-ids (f ∷ es) q is = by (same_number q (id_of f)) refl is (λ more. have-ids es q more) where
+    by : (b : Bool) → same_number q (id_of f) ≡ b → (b || is_member same_number (ids_of es) q) ≡ true → (is_member same_number (ids_of es) q ≡ true → (e : Entry) × Among es e × (id_of e ≡ q)) → (e : Entry) × Among (f ∷ es) e × (id_of e ≡ q)
+    by true e h later = (f, inl refl, sym (is_same q (id_of f) e))
+    by false e h later = let w = later h in (w.0, inr w.1, w.2)
 
   as-true : (a b : Bool) → (a ≡ true → b ≡ true) → (b ≡ true → a ≡ true) → a ≡ b
   as-true true true f g = refl
@@ -164,7 +167,7 @@ module _ (told : Bool) (catalog : Catalog) (numbers : Numbers) (unit : ℕ) (out
           only x f (inr m) = absurd m
 
           alone : (x : Entry) → sum_by entry_pages (x ∷ []) ≡ entry_pages x
-          alone x = refl
+          alone x = sum_by-cons entry_pages x [] ∙ no-more (entry_pages x)
   gone-pages (AllOf sig) ids once are = cases (soup_of sig s) refl where
     found : (uid id : ℕ) → place-now sig uid ≡ Some id → (e : Entry) × (entry_in sig uid s ≡ Some e) × IsIn s sig e × (e.uid ≡ uid)
     found uid id at = placed-entry catalog.directory place-now stands.texts s stands.describes sig uid id at

@@ -27,10 +27,10 @@ member-at (x ∷ xs) (suc k) q at = or-later (same_number q x) (member-at xs k q
 
 pub at-member : (xs : List ℕ) (q : ℕ) → is_member same_number xs q ≡ true → (k : ℕ) × (slice_get xs k ≡ Some q)
 at-member [] q is = absurd (cc)
-at-member (x ∷ xs) q is = by (same_number q x) refl is where
-  by : (b : Bool) → same_number q x ≡ b → (b || is_member same_number xs q) ≡ true → (k : ℕ) × (slice_get (x ∷ xs) k ≡ Some q)
-  by true e h = (zero, ap Some (sym (is_same q x e)))
-  by false e h = let w = at-member xs q h in (suc w.0, w.1)
+at-member (x ∷ xs) q is = by (same_number q x) refl is (λ more. at-member xs q more) where
+  by : (b : Bool) → same_number q x ≡ b → (b || is_member same_number xs q) ≡ true → (is_member same_number xs q ≡ true → (k : ℕ) × (slice_get xs k ≡ Some q)) → (k : ℕ) × (slice_get (x ∷ xs) k ≡ Some q)
+  by true e h later = (zero, ap Some (sym (is_same q x e)))
+  by false e h later = let w = later h in (suc w.0, w.1)
 
 all-at : (x : ℕ) (xs : List ℕ) → ((k y : ℕ) → slice_get xs k ≡ Some y → same_number x y ≡ false) → AllByRecursion (λ y. same_number x y ≡ false) xs
 all-at x [] each = tt
@@ -66,7 +66,6 @@ module _ (x : ℕ) where
   distinct-others [] h = tt
   distinct-others (y ∷ ys) h = by (not (same_number x y)) (distinct-others ys h.1) where
     by : (b : Bool) → IsDistinct same_number (others ys) → IsDistinct same_number (cond b (y ∷ others ys) (others ys))
-    unfolding IsDistinct
     by true more = (all-others y ys h.0, more)
     by false more = more
 

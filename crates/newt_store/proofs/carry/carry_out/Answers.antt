@@ -148,19 +148,19 @@ returns-in-Err-clause-any_moment g c = λ tells s t stands turns.
     leaves-store c.args.catalog.now c.args.next ids gone s t now stands turns (turns.stays stands.texts stands.describes) u (o c.args.host.now).now (o c.write_next.new.host).now (c.write_next.ensures.any_moment tells stands.texts stands.holds)
 
 pub returns-in_err-gone-clause-bound : goal.returns-in_err-gone-clause-bound
-returns-in_err-gone-clause-bound g c = λ tells s t stands turns open. spends-nothing (g.P.PageBook.place c.args.book.now) (turn_bytes c.args.next s t) 0 (g.H.Host.outside c.args.host.now)
+returns-in_err-gone-clause-bound g c = λ tells s t stands turns room. spends-nothing (g.P.PageBook.place c.args.book.now) (turn_bytes c.args.next s t) 0 (g.H.Host.outside c.args.host.now)
 
 pub returns-in_err-gone-clause-too_many : goal.returns-in_err-gone-clause-too_many
 returns-in_err-gone-clause-too_many g c = λ tells s t stands turns more. spends-nothing (g.P.PageBook.place c.args.book.now) 0 0 (g.H.Host.outside c.args.host.now)
 
 pub returns-in_err-keep_new-clause-bound : goal.returns-in_err-keep_new-clause-bound
-returns-in_err-keep_new-clause-bound g c = λ tells s t stands turns open. spends-nothing (g.P.PageBook.place c.args.book.now) (turn_bytes c.args.next s t) 0 (g.H.Host.outside c.args.host.now)
+returns-in_err-keep_new-clause-bound g c = λ tells s t stands turns room. spends-nothing (g.P.PageBook.place c.args.book.now) (turn_bytes c.args.next s t) 0 (g.H.Host.outside c.args.host.now)
 
 pub returns-in_err-keep_new-clause-too_many : goal.returns-in_err-keep_new-clause-too_many
 returns-in_err-keep_new-clause-too_many g c = λ tells s t stands turns more. spends-nothing (g.P.PageBook.place c.args.book.now) 0 0 (g.H.Host.outside c.args.host.now)
 
 pub returns-in-Ok-clause-bound : goal.returns-in-Ok-clause-bound
-returns-in-Ok-clause-bound g c = λ tells s t stands turns open.
+returns-in-Ok-clause-bound g c = λ tells s t stands turns room.
     let cat = c.args.catalog.now in
     let old : Places = place_of cat.places in
     let ids : List ℕ = c.deref.result.now in
@@ -170,7 +170,7 @@ returns-in-Ok-clause-bound g c = λ tells s t stands turns open.
     let u : ℕ = g.P.PageBook.place c.args.book.now in
     let size : next_bytes c.args.next cat.objects ids ≡ turn_bytes c.args.next s t =
     bytes-turn g.H.Host.told cat (g.P.PageBook.numbers c.args.book.now) u (o c.args.host.now) c.requires.sound.kept c.requires.sound.places tells s stands c.args.next ids t once gone turns in
-    subst (λ (n : ℕ). Spends u n 0 (o c.args.host.now) (o c.write_next.new.host)) size (c.write_next.ensures.bound tells (subst (λ (n : ℕ). IsOpenFor n (image u (o c.args.host.now).now)) (sym size) open))
+    subst (λ (n : ℕ). Spends u n 0 (o c.args.host.now) (o c.write_next.new.host)) size (c.write_next.ensures.bound tells (subst (λ (n : ℕ). IsOpenFor n (image u (o c.args.host.now).now)) (sym size) room))
 
 pub returns-in-Ok-clause-too_many : goal.returns-in-Ok-clause-too_many
 returns-in-Ok-clause-too_many g c = λ tells s t stands turns more.
@@ -182,7 +182,7 @@ returns-in-Ok-clause-too_many g c = λ tells s t stands turns more.
     subst (λ (n : ℕ). cap (blocks_of now) < n) (sym (cost-after c.args.catalog.now c.args.next ids gone s t now stands turns (turns.stays stands.texts stands.describes) after wrote)) more)
 
 pub returns-in-Err-clause-bound : goal.returns-in-Err-clause-bound
-returns-in-Err-clause-bound g c = λ tells s t stands turns open.
+returns-in-Err-clause-bound g c = λ tells s t stands turns room.
     let cat = c.args.catalog.now in
     let old : Places = place_of cat.places in
     let ids : List ℕ = c.deref.result.now in
@@ -192,7 +192,7 @@ returns-in-Err-clause-bound g c = λ tells s t stands turns open.
     let u : ℕ = g.P.PageBook.place c.args.book.now in
     let size : next_bytes c.args.next cat.objects ids ≡ turn_bytes c.args.next s t =
     bytes-turn g.H.Host.told cat (g.P.PageBook.numbers c.args.book.now) u (o c.args.host.now) c.requires.sound.kept c.requires.sound.places tells s stands c.args.next ids t once gone turns in
-    subst (λ (n : ℕ). Spends u n 0 (o c.args.host.now) (o c.write_next.new.host)) size (c.write_next.ensures.bound tells (subst (λ (n : ℕ). IsOpenFor n (image u (o c.args.host.now).now)) (sym size) open))
+    subst (λ (n : ℕ). Spends u n 0 (o c.args.host.now) (o c.write_next.new.host)) size (c.write_next.ensures.bound tells (subst (λ (n : ℕ). IsOpenFor n (image u (o c.args.host.now).now)) (sym size) room))
 
 pub returns-in-Err-clause-too_many : goal.returns-in-Err-clause-too_many
 returns-in-Err-clause-too_many g c = λ tells s t stands turns more.

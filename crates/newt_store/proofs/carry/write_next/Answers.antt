@@ -139,24 +139,24 @@ returns-clause-any_moment g c = λ tells before holds.
     leaves-next u (image u o.now) c.args.next.now c.args.gone.now before made.0 o.now (g.H.Host.outside c.commit_plans.new.host).now wrote (c.commit_plans.ensures.any_moment tells before made.0 p)
 
 pub returns-in_err-bytes-clause-bound : goal.returns-in_err-bytes-clause-bound
-returns-in_err-bytes-clause-bound g c = λ tells open. spends-nothing (g.P.PageBook.place c.args.book.now) (next_bytes c.args.next.now c.args.objects.now c.args.gone.now) 0 (g.H.Host.outside c.args.host.now)
+returns-in_err-bytes-clause-bound g c = λ tells room. spends-nothing (g.P.PageBook.place c.args.book.now) (next_bytes c.args.next.now c.args.objects.now c.args.gone.now) 0 (g.H.Host.outside c.args.host.now)
 
 pub returns-in_err-bytes-clause-too_many : goal.returns-in_err-bytes-clause-too_many
 returns-in_err-bytes-clause-too_many g c = λ tells before holds each. spends-nothing (g.P.PageBook.place c.args.book.now) 0 0 (g.H.Host.outside c.args.host.now)
 
 pub returns-in_err-plan_objects-clause-bound : goal.returns-in_err-plan_objects-clause-bound
-returns-in_err-plan_objects-clause-bound g c = λ tells open. spends-nothing (g.P.PageBook.place c.args.book.now) (next_bytes c.args.next.now c.args.objects.now c.args.gone.now) 0 (g.H.Host.outside c.args.host.now)
+returns-in_err-plan_objects-clause-bound g c = λ tells room. spends-nothing (g.P.PageBook.place c.args.book.now) (next_bytes c.args.next.now c.args.objects.now c.args.gone.now) 0 (g.H.Host.outside c.args.host.now)
 
 pub returns-in_err-plan_objects-clause-too_many : goal.returns-in_err-plan_objects-clause-too_many
 returns-in_err-plan_objects-clause-too_many g c = λ tells before holds each. spends-nothing (g.P.PageBook.place c.args.book.now) 0 0 (g.H.Host.outside c.args.host.now)
 
 pub returns-in-Ok-clause-bound : goal.returns-in-Ok-clause-bound
-returns-in-Ok-clause-bound g c = λ tells open.
+returns-in-Ok-clause-bound g c = λ tells room.
     let o = g.H.Host.outside in
     let u : ℕ = g.P.PageBook.place c.args.book.now in
     let size : batch_bytes c.plan_objects.new.batch ≡ next_bytes c.args.next.now c.args.objects.now c.args.gone.now =
     bytes-planned c.args.next.now c.args.objects.now c.args.gone.now c.deref.result.now c.new-batch.result c.plan_objects.new.batch c.new-batch.ensures (c.deref.ensures.value ∙ c.in_ok-bytes.ensures) c.in_ok-plan_objects.ensures.pages in
-    subst (λ (n : ℕ). Spends u n 0 (o c.args.host.now) (o c.commit_plans.new.host)) size (c.commit_plans.ensures.bound tells (subst (λ (n : ℕ). IsOpenFor n (image u (o c.args.host.now).now)) (sym size) open))
+    subst (λ (n : ℕ). Spends u n 0 (o c.args.host.now) (o c.commit_plans.new.host)) size (c.commit_plans.ensures.bound tells (subst (λ (n : ℕ). IsOpenFor n (image u (o c.args.host.now).now)) (sym size) room))
 
 pub returns-in-Ok-clause-too_many : goal.returns-in-Ok-clause-too_many
 returns-in-Ok-clause-too_many g c = λ tells before holds each.
@@ -172,12 +172,12 @@ returns-in-Ok-clause-too_many g c = λ tells before holds each.
     c.commit_plans.ensures.too_many tells before made.0 p (each made.0 wrote)
 
 pub returns-clause-bound : goal.returns-clause-bound
-returns-clause-bound g c = λ tells open.
+returns-clause-bound g c = λ tells room.
     let o = g.H.Host.outside in
     let u : ℕ = g.P.PageBook.place c.args.book.now in
     let size : batch_bytes c.plan_objects.new.batch ≡ next_bytes c.args.next.now c.args.objects.now c.args.gone.now =
     bytes-planned c.args.next.now c.args.objects.now c.args.gone.now c.deref.result.now c.new-batch.result c.plan_objects.new.batch c.new-batch.ensures (c.deref.ensures.value ∙ c.in_ok-bytes.ensures) c.in_ok-plan_objects.ensures.pages in
-    subst (λ (n : ℕ). Spends u n 0 (o c.args.host.now) (o c.commit_plans.new.host)) size (c.commit_plans.ensures.bound tells (subst (λ (n : ℕ). IsOpenFor n (image u (o c.args.host.now).now)) (sym size) open))
+    subst (λ (n : ℕ). Spends u n 0 (o c.args.host.now) (o c.commit_plans.new.host)) size (c.commit_plans.ensures.bound tells (subst (λ (n : ℕ). IsOpenFor n (image u (o c.args.host.now).now)) (sym size) room))
 
 pub returns-clause-too_many : goal.returns-clause-too_many
 returns-clause-too_many g c = λ tells before holds each.

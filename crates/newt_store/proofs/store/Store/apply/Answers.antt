@@ -129,13 +129,13 @@ returns-in-Err-clause-still g c = λ tells s stands is.
     subst (λ (b : List ℕ). StandsFor c.carry_out.new.catalog s b) e (c.in-Err.ensures.still is tells s t stands' plan.turns)
 
 pub returns-in_err-next-clause-costs : goal.returns-in_err-next-clause-costs
-returns-in_err-next-clause-costs g c = λ tells s stands open.
+returns-in_err-next-clause-costs g c = λ tells s stands room.
     let o = g.H.Host.outside in
     let u : ℕ = g.P.PageBook.place c.args.self.now.book in
     spends-more u (most_bytes c.args.change (blocks_of (image u (o c.args.host.now).now)) c.args.now s) (512 * pages_of_entry (entry_moved c.args.change s)) (o c.args.host.now) (o c.plan_change.new.host) (c.plan_change.ensures.costs tells s stands)
 
 pub returns-in-Ok-clause-costs : goal.returns-in-Ok-clause-costs
-returns-in-Ok-clause-costs g c = λ tells s stands open.
+returns-in-Ok-clause-costs g c = λ tells s stands room.
     let o = g.H.Host.outside in
     let u : ℕ = g.P.PageBook.place c.args.self.now.book in
     let u' : ℕ = g.P.PageBook.place c.plan_change.new.book in
@@ -147,14 +147,14 @@ returns-in-Ok-clause-costs g c = λ tells s stands open.
     let t : PlainStore = changed_by c.args.change c.args.now s in
     let plan = c.in_ok-next.ensures.planned tells s stands in
     spends-both cat c.args.change c.args.now s c.in_ok-next.next (image u m) u (512 * pages_of_entry (entry_moved c.args.change s)) (o c.args.host.now) (o c.plan_change.new.host) (o c.carry_out.new.host) plan (c.plan_change.ensures.costs tells s stands)
-    (λ room. subst (λ (v : ℕ). Spends v (turn_bytes c.in_ok-next.next s t) 0 (o c.plan_change.new.host) (o c.carry_out.new.host)) c.plan_change.ensures.same.0
-    (c.carry_out.ensures.bound tells s t stands' plan.turns (subst (λ (b : List ℕ). IsOpenFor (turn_bytes c.in_ok-next.next s t) b) (sym e) room)))
+    (λ room-for. subst (λ (v : ℕ). Spends v (turn_bytes c.in_ok-next.next s t) 0 (o c.plan_change.new.host) (o c.carry_out.new.host)) c.plan_change.ensures.same.0
+    (c.carry_out.ensures.bound tells s t stands' plan.turns (subst (λ (b : List ℕ). IsOpenFor (turn_bytes c.in_ok-next.next s t) b) (sym e) room-for)))
     (λ more. subst (λ (v : ℕ). Spends v 0 0 (o c.plan_change.new.host) (o c.carry_out.new.host)) c.plan_change.ensures.same.0
     (c.carry_out.ensures.too_many tells s t stands' plan.turns (subst (λ (b : List ℕ). cap (blocks_of b) < cost t) (sym e) more)))
-    open
+    room
 
 pub returns-in-Err-clause-costs : goal.returns-in-Err-clause-costs
-returns-in-Err-clause-costs g c = λ tells s stands open.
+returns-in-Err-clause-costs g c = λ tells s stands room.
     let o = g.H.Host.outside in
     let u : ℕ = g.P.PageBook.place c.args.self.now.book in
     let u' : ℕ = g.P.PageBook.place c.plan_change.new.book in
@@ -166,11 +166,11 @@ returns-in-Err-clause-costs g c = λ tells s stands open.
     let t : PlainStore = changed_by c.args.change c.args.now s in
     let plan = c.in_ok-next.ensures.planned tells s stands in
     spends-both cat c.args.change c.args.now s c.in_ok-next.next (image u m) u (512 * pages_of_entry (entry_moved c.args.change s)) (o c.args.host.now) (o c.plan_change.new.host) (o c.carry_out.new.host) plan (c.plan_change.ensures.costs tells s stands)
-    (λ room. subst (λ (v : ℕ). Spends v (turn_bytes c.in_ok-next.next s t) 0 (o c.plan_change.new.host) (o c.carry_out.new.host)) c.plan_change.ensures.same.0
-    (c.carry_out.ensures.bound tells s t stands' plan.turns (subst (λ (b : List ℕ). IsOpenFor (turn_bytes c.in_ok-next.next s t) b) (sym e) room)))
+    (λ room-for. subst (λ (v : ℕ). Spends v (turn_bytes c.in_ok-next.next s t) 0 (o c.plan_change.new.host) (o c.carry_out.new.host)) c.plan_change.ensures.same.0
+    (c.carry_out.ensures.bound tells s t stands' plan.turns (subst (λ (b : List ℕ). IsOpenFor (turn_bytes c.in_ok-next.next s t) b) (sym e) room-for)))
     (λ more. subst (λ (v : ℕ). Spends v 0 0 (o c.plan_change.new.host) (o c.carry_out.new.host)) c.plan_change.ensures.same.0
     (c.carry_out.ensures.too_many tells s t stands' plan.turns (subst (λ (b : List ℕ). cap (blocks_of b) < cost t) (sym e) more)))
-    open
+    room
 
 pub returns-in-Ok-clause-open_after : goal.returns-in-Ok-clause-open_after
 returns-in-Ok-clause-open_after g c = λ tells. subst (λ (v : ℕ). IsOpenFor 0 (image v (g.H.Host.outside c.carry_out.new.host).now)) c.plan_change.ensures.same.0 (c.in-Ok.ensures.open_after tells)
