@@ -9,7 +9,7 @@ use Rattle.newt_pagebook.proofs.Changes.{get_insert, get_remove}
 use Rattle.newt_objects.specs.Held.{Held, Texts}
 use Rattle.newt_objects.specs.Changing.{IsUnderWay}
 use Rattle.newt_shelf.specs.declared.batch.NewEntry.{NewEntry}
-use Rattle.newt_shelf.specs.Batch.{HasPut, HasNone, IsAmong, AreWritten}
+use Rattle.newt_shelf.specs.Batch.{HasPut, HasNone, IsAmong, AreWritten, AddsPages}
 
 pub put-has : (id : ℕ) (bytes : List ℕ) (texts : Texts) → HasPut id bytes texts (map.insert texts id bytes)
 put-has id bytes texts = record {
@@ -63,3 +63,17 @@ written directory entry gone a b c d first second none third not_first not_gone 
 
   within : (k id : ℕ) → slice_get gone k ≡ Some id → k < length gone
   within k id at = slice_get_within gone k id at
+
+-- ---- how many pages
+
+pub adds-none : (puts : ℕ) (batch : Change) → puts ≡ 0 → AddsPages puts 0 batch batch
+adds-none puts batch none = record { more_puts = (omega (arith, none)); more_deletes = (omega arith) }
+
+pub adds-as : (p q d e : ℕ) (old new : Change) → p ≡ q → d ≡ e → AddsPages p d old new → AddsPages q e old new
+adds-as p q d e old new puts deletes adds = record { more_puts = (omega (arith, puts, adds.more_puts)); more_deletes = (omega (arith, deletes, adds.more_deletes)) }
+
+pub adds-also : (p q d e : ℕ) (old mid new : Change) → AddsPages p d old mid → AddsPages q e mid new → AddsPages (p + q) (d + e) old new
+adds-also p q d e old mid new first second = record {
+  more_puts = (omega (arith, first.more_puts, second.more_puts));
+  more_deletes = (omega (arith, first.more_deletes, second.more_deletes));
+}

@@ -1,7 +1,10 @@
 -- Objects as a change plans them.
-use Rattle.std.specs.Prelude.{◌≡◌, ◌≢◌, ℕ, ◌<◌, List, slice_get, Option, Some, None}
+use Rattle.std.specs.Prelude.{◌≡◌, ◌≢◌, ℕ, ◌+◌, ◌<◌, List, length, slice_get, sum_by, Option, Some, None}
 use Rattle.std.specs.FinMap as map
-use Rattle.newt_objects.specs.Held.{Texts}
+use Rattle.newt_image.specs.Pages.{Change}
+use Rattle.newt_image.specs.Objects.{pages_for}
+use Rattle.newt_objects.specs.Extents.{numbers_of}
+use Rattle.newt_objects.specs.Held.{Held, held, Texts}
 use Rattle.newt_shelf.specs.declared.batch.NewEntry.{NewEntry}
 
 -- the object has these bytes, and all others are as they were
@@ -28,3 +31,21 @@ pub record AreWritten (directory : List ℕ) (entry : Option NewEntry) (gone : L
   pub entry_is : (e : NewEntry) → entry ≡ Some e → map.get new e.id ≡ Some e.bytes.items
   pub gone_are : (k id : ℕ) → slice_get gone k ≡ Some id → map.get new id ≡ None
   pub others : (id : ℕ) → id ≢ 0 → ((e : NewEntry) → entry ≡ Some e → e.id ≢ id) → ((k : ℕ) → slice_get gone k ≡ Some id → ⊥) → map.get new id ≡ map.get old id
+
+-- how many pages an object has, none where there is none
+abbrev pub pages_held : Held → ℕ → ℕ
+pages_held objects id = length (numbers_of (held objects id))
+
+-- how many pages these objects have, all together
+abbrev pub all_pages_held : Held → List ℕ → ℕ
+all_pages_held objects ids = sum_by (pages_held objects) ids
+
+-- how many pages the record of the new entry has, none where there is none
+abbrev pub new_pages : Option NewEntry → ℕ
+new_pages None = 0
+new_pages (Some e) = pages_for (length e.bytes.items)
+
+-- so many pages more are put, and so many more are deleted
+pub record AddsPages (puts deletes : ℕ) (old new : Change) : Type 0 where
+  pub more_puts : length new.puts ≡ length old.puts + puts
+  pub more_deletes : length new.deletes ≡ length old.deletes + deletes

@@ -1,11 +1,12 @@
 // The objects of a change, planned into one batch.
-ghost use Rattle.std.specs.Prelude.{◌≡◌, ◌≢◌, ◌%◌, ◌<◌, ◌≤◌, ℕ, List, [], length, slice_get, Some, None, IsSome, OnOk};
+ghost use Rattle.std.specs.Prelude.{◌≡◌, ◌≢◌, ◌+◌, ◌%◌, ◌<◌, ◌≤◌, ℕ, List, [], length, slice_get, Some, None, IsSome, OnOk};
 ghost use Rattle.newt_image.specs.Pages.{Pages};
+ghost use Rattle.newt_image.specs.Objects.{pages_for};
 ghost use Rattle.newt_objects.specs.Held.{held, Texts, IsUnplanned};
 ghost use Rattle.newt_objects.specs.Changing.{IsUnderWay};
 ghost use Rattle.newt_pagebook.specs.Batch.{no_change};
 ghost use Rattle.newt_shelf.specs.declared.batch.NewEntry.{NewEntry as NewOne};
-ghost use Rattle.newt_shelf.specs.Batch.{AreWritten, HasPut, HasNone, IsAmong, AreOnce};
+ghost use Rattle.newt_shelf.specs.Batch.{AreWritten, HasPut, HasNone, IsAmong, AreOnce, AddsPages, pages_held, all_pages_held, new_pages};
 
 use newt_base::{Sig, Uid};
 use newt_objects::Objects;
@@ -33,6 +34,7 @@ fn plan_object(
     ensures way { OnOk result ((live : Pages) (texts : Texts) → IsUnderWay objects.old batch.old live texts → (after : Texts) × IsUnderWay objects.new batch.new live after × HasPut id bytes.now texts after) }
     ensures held { (other : ℕ) → held objects.new other ≡ held objects.old other }
     ensures others { OnOk result ((other : ℕ) → other ≢ id → IsUnplanned objects.old other → IsUnplanned objects.new other) }
+    ensures pages { OnOk result (AddsPages (pages_for (length bytes.now)) (pages_held objects.old id) batch.old batch.new) }
 {
     if u32::try_from(bytes.len()).is_err() {
         return Err(AllocError);
@@ -48,10 +50,12 @@ fn plan_entry(
     batch: &mut Batch,
 ) -> Result<(), AllocError>
     requires no_plan { (e : NewOne) → entry.now ≡ Some e → IsUnplanned objects.old e.id }
+    requires free { (e : NewOne) → entry.now ≡ Some e → held objects.old e.id ≡ None }
     requires way { (live : Pages) × (texts : Texts) × IsUnderWay objects.old batch.old live texts }
     ensures way { OnOk result ((live : Pages) (texts : Texts) → IsUnderWay objects.old batch.old live texts → (after : Texts) × IsUnderWay objects.new batch.new live after × ((e : NewOne) → entry.now ≡ Some e → HasPut e.id e.bytes.items texts after) × (entry.now ≡ None → after ≡ texts)) }
     ensures held { (other : ℕ) → held objects.new other ≡ held objects.old other }
     ensures others { OnOk result ((other : ℕ) → ((e : NewOne) → entry.now ≡ Some e → other ≢ e.id) → IsUnplanned objects.old other → IsUnplanned objects.new other) }
+    ensures pages { OnOk result (AddsPages (new_pages entry.now) 0 batch.old batch.new) }
 {
     let Some(e) = entry else {
         return Ok(());
@@ -68,6 +72,7 @@ fn plan_gone(objects: &mut Objects, gone: &[u32], batch: &mut Batch) -> Result<(
     requires way { (live : Pages) × (texts : Texts) × IsUnderWay objects.old batch.old live texts }
     ensures way { OnOk result ((live : Pages) (texts : Texts) → IsUnderWay objects.old batch.old live texts → (after : Texts) × IsUnderWay objects.new batch.new live after × HasNone (length gone.now) gone.now texts after) }
     ensures held { (other : ℕ) → held objects.new other ≡ held objects.old other }
+    ensures pages { OnOk result (AddsPages 0 (all_pages_held objects.old gone.now) batch.old batch.new) }
 {
     for id in gone {
         objects.plan_delete(*id, batch)?;
@@ -92,6 +97,7 @@ pub fn plan_objects(
     requires once { AreOnce gone.now }
     ensures way { OnOk result ((live : Pages) (texts : Texts) → IsUnderWay objects.old batch.old live texts → (after : Texts) × IsUnderWay objects.new batch.new live after × AreWritten directory.now entry.now gone.now texts after) }
     ensures held { (other : ℕ) → held objects.new other ≡ held objects.old other }
+    ensures pages { OnOk result (AddsPages (pages_for (length directory.now) + new_pages entry.now) (pages_held objects.old 0 + all_pages_held objects.old gone.now) batch.old batch.new) }
 {
     plan_object(objects, 0, directory, batch)?;
     plan_entry(objects, entry, batch)?;

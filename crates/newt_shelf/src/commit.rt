@@ -37,7 +37,10 @@ pub fn commit_plans<P: PageBook, H: Host>(
     ensures refused { IsErrOf result (StoreFault.Refused Refusal.Full) → P.stands H.told book.new (H.outside host.new) × AreKept H.told objects.new (P.numbers book.new) (P.place book.old) (H.outside host.new) × ((id : ℕ) → held objects.new id ≡ held objects.old id) }
     ensures nothing_done { IsErrOf result (StoreFault.Refused Refusal.Full) → (H.outside host.new).now ≡ (H.outside host.old).now }
     ensures any_moment { IsTrue H.told → (before after : Texts) → IsPlanned H.told objects.old batch.now (P.numbers book.old) (image (P.place book.old) (H.outside host.old).now) before after → Leaves (P.place book.old) (IsEither (image (P.place book.old) (H.outside host.old).now) before after) (H.outside host.old).now (H.outside host.new).now }
+    // it programs no more than the batch and its record have, and fetches nothing, where the bank has room for them; and nothing where the objects do not fit
     ensures bound { IsTrue H.told → IsOpenFor (batch_bytes batch.now) (image (P.place book.old) (H.outside host.old).now) → Spends (P.place book.old) (batch_bytes batch.now) 0 (H.outside host.old) (H.outside host.new) }
+    ensures too_many { IsTrue H.told → (before after : Texts) → IsPlanned H.told objects.old batch.now (P.numbers book.old) (image (P.place book.old) (H.outside host.old).now) before after → cap (blocks_of (image (P.place book.old) (H.outside host.old).now)) < total_pages after → Spends (P.place book.old) 0 0 (H.outside host.old) (H.outside host.new) }
+    ensures open_after { IsTrue H.told → OnOk result (IsOpenFor 0 (image (P.place book.old) (H.outside host.new).now)) }
     ensures alone { Touches (P.place book.old) (H.outside host.old) (H.outside host.new) }
     ensures cause { IfErr result (FaultsAt (P.place book.old) (H.outside host.old) (H.outside host.new)) }
 {

@@ -1,12 +1,12 @@
 -- Changes that add an entry.
-use Rattle.std.proofs.Common.{IsTrue, ◌≡◌, ◌≢◌, inl, inr, ℕ, ◌+◌, ◌%◌, ◌<◌, ◌≤◌, ◌==◌, ◌||◌, ◌&&◌, Bool, true, false, not, nat_le, nat_lt, List, [], ◌∷◌, map as map_list, Option, Some, None, refl, sym, ◌∙◌, ap, subst, arith}
+use Rattle.std.proofs.Common.{IsTrue, ◌≡◌, ◌≢◌, inl, inr, ℕ, ◌+◌, ◌%◌, ◌<◌, ◌≤◌, ◌==◌, ◌||◌, ◌&&◌, Bool, true, false, not, nat_le, nat_lt, List, [], ◌∷◌, length, map as map_list, Option, Some, None, refl, sym, ◌∙◌, ap, subst, arith}
 use Rattle.std.specs.FinMap as map
 use Rattle.std.specs.Option.{is_some, is_none}
 use Rattle.std.proofs.lemmas.Bool.Decides.{nat_tests}
 use Rattle.newt_base.specs.Refusals.{Checks, first_of}
 use Rattle.newt_base.specs.declared.Refusal.TheVariants.{Soup as NoSoup, Notframe, Size, Ids}
 use Rattle.newt_graph.specs.Graph.{RawGraph, IsGraph}
-use Rattle.newt_image.specs.Objects.{Objects}
+use Rattle.newt_image.specs.Objects.{Objects, pages_for}
 use Rattle.newt_pagebook.proofs.Tests.{some_inj}
 use Rattle.newt_objects.specs.Held.{held}
 use Rattle.newt_spec_graph.specs.Graph.{is_frame, object}
@@ -30,6 +30,8 @@ use Rattle.newt_laws_changes.proofs.Formed.{added_formed, added_plain}
 use Rattle.newt_laws_changes.proofs.Lying.{added_lies, odd-is-not, place-there}
 use Rattle.newt_laws_changes.proofs.Members.{in-below}
 use Rattle.newt_laws_changes.proofs.Chosen.{soup-there, soup-good}
+use Rattle.newt_laws_images.proofs.Totals.{record-pages}
+use Rattle.newt_shelf.specs.Batch.{new_pages}
 use Rattle.newt_shelf.specs.declared.batch.NewEntry.{NewEntry}
 use Rattle.newt_shelf.specs.Places.{place_of, AreSoundPlaces}
 use Rattle.newt_store.specs.declared.catalog.Catalog.{Catalog}
@@ -37,8 +39,8 @@ use Rattle.newt_store.specs.declared.change.Change.TheVariants.{Add}
 use Rattle.newt_store.specs.declared.next.Next.{Next}
 use Rattle.newt_store.specs.declared.next.Gone.{Gone}
 use Rattle.newt_store.specs.declared.next.Gone.TheVariants.{Nothing}
-use Rattle.newt_store.specs.Change.{first_checks, is_too_large, has_no_ids, next_uid_of, changed_soup}
-use Rattle.newt_store.specs.Next.{Goes, IsNew, Turns, IsAdding, IsPlanOf}
+use Rattle.newt_store.specs.Change.{first_checks, is_too_large, has_no_ids, next_uid_of, changed_soup, pages_of_entry}
+use Rattle.newt_store.specs.Next.{Goes, IsNew, Turns, IsAdding, IsPlanOf, goes_pages}
 use Rattle.newt_store.specs.Stands.{Describes}
 use Rattle.newt_store.proofs.Reading.{both, join}
 use Rattle.newt_store.proofs.Found.{soup-same, soup-some, emptied-some}
@@ -124,6 +126,7 @@ module _ (catalog : Catalog) (s : Store) (sound : AreSoundPlaces (held catalog.o
             let same : e ≡ adds.entry = some_inj e adds.entry (sym is ∙ adds.is_entry) in
             ap (λ (x : NewEntry). place-now x.sig x.uid) same ∙ ap (λ (n : ℕ). place-now n adds.entry.uid) adds.of_sig ∙ ap (place-now sig) adds.of_uid ∙ not-yet texts d;
         stays = λ texts d e is goes. goes-not e.sig e.uid goes;
+        bare_is = λ texts d. added_bare s sig p d.formed found now g ∙ ap (take_uid_of sig) d.bare_is ∙ sym adds.directory;
       }
 
 -- ---- an entry more
@@ -184,6 +187,12 @@ is-valid-graph uid now g graph frame short =
       few : (n : ℕ) → n ≤ 64000 → nat_le n 64_000 ≡ true
       few n low = grind (arith, nat_tests, low)
 
+-- the pages of the new entry's record are the entry's
+pub new-entry-pages : (catalog : Catalog) (sig uid now : ℕ) (g : RawGraph) (gone : Gone) (next : Next) → IsAdding catalog sig uid now g gone next → graph_has_no_large g ≡ true
+    → new_pages next.entry ≡ pages_of_entry (Some (record { uid = uid; time = now; graph = g }))
+new-entry-pages catalog sig uid now g gone next adds plain =
+    ap new_pages adds.is_entry ∙ ap (λ (l : List ℕ). pages_for (length l)) adds.bytes ∙ record-pages sig (record { uid = uid; time = now; graph = g }) plain
+
 pub add-planned : (catalog : Catalog) (texts : Objects) (s : Store) (sig now : ℕ) (g : RawGraph) (row : SoupRow) (next : Next) → AreSoundPlaces (held catalog.objects) (place_of catalog.places) → Describes catalog.directory (place_of catalog.places) texts s
     → soup_of sig (bare_store catalog.directory) ≡ Some (bare_soup row) → row.sig ≡ sig → IsGraph g → now < 4294967296 → is_frame (object g.nodes g.root) ≡ true → graph_has_no_large g ≡ true → skeleton_length g ≤ 64000 → row.next_uid ≢ 536870911 → row.next_uid < 536870911
     → IsAdding catalog row.sig row.next_uid now g Nothing next → IsPlanOf catalog (Add sig g) now s next
@@ -198,6 +207,8 @@ add-planned catalog texts s sig now g row next sound d is of_sig graph time fram
       answer = adds.answer ∙ sym (ap next_uid_of p.1 ∙ p.2);
       turns = subst (λ (t : Store). Turns catalog next s t) (ap (λ (o : Option Soup). changed_soup o (add_entry now g) s) (sym p.1))
           (turns-added catalog s sound sig p.0 p.1 now g graph time room' (is-valid-graph p.0.next_uid now g graph frame short) plain next adds');
+      added = new-entry-pages catalog row.sig row.next_uid now g Nothing next adds plain;
+      removed = ap (λ (gone : Gone). goes_pages gone s) adds.of_gone;
     }
 
 pub row-is : (b : Store) (sig : ℕ) (row : SoupRow) → soup_of sig b ≡ Some (bare_soup row) → (row.sig ≡ sig) × (soup_of row.sig b ≡ Some (bare_soup row))

@@ -1,16 +1,17 @@
 -- What a change of a store answers.
-use Rattle.std.proofs.Common.{◌≡◌, inl, inr, ℕ, ◌<◌, ◌≤◌, Bool, true, false, nat_lt, List, [], ◌∷◌, ◌++◌, Option, Some, None, Result, Ok, Err, IfErr, IsErrAnd, refl, sym, ◌∙◌, ap, subst, arith, ⊎_elim}
+use Rattle.std.proofs.Common.{◌≡◌, inl, inr, ℕ, ◌<◌, ◌≤◌, Bool, true, false, nat_lt, List, [], ◌∷◌, ◌++◌, Option, Some, None, Result, Ok, Err, IfErr, IsErrAnd, refl, sym, ◌∙◌, ap, subst, arith, ⊎_elim, ◌+◌, ◌*◌, ◌⊎◌, cond, is_some}
+use Rattle.std.proofs.lemmas.Bool.{cases_lt}
 use Rattle.std.proofs.lemmas.Bool.Decides.{nat_tests}
 use Rattle.newt_base.specs.Refusals.{Checks, first_of}
 use Rattle.newt_base.specs.declared.Refusal.{Refusal}
 use Rattle.newt_base.specs.declared.Refusal.TheVariants.{Full}
 use Rattle.newt_host.specs.Moments.{Moment, image, IsDurable, Leaves}
-use Rattle.newt_host.specs.Outside.{Outside, Rose, Touches}
-use Rattle.newt_host.proofs.Outside.{Touches-append}
+use Rattle.newt_host.specs.Outside.{Outside, Rose, Touches, Spends}
+use Rattle.newt_host.proofs.Outside.{Touches-append, Spends-append, Spends-widen}
 use Rattle.newt_pagebook.specs.declared.book.Stop.TheVariants.{Memory, Device}
 use Rattle.newt_host.proofs.Moments.{Leaves-start, Leaves-weaken}
 use Rattle.newt_image.specs.Pages.{cap}
-use Rattle.newt_pagebook.specs.Book.{Numbers}
+use Rattle.newt_pagebook.specs.Book.{Numbers, IsOpenFor}
 use Rattle.newt_spec_store.specs.Store.{Soup, Store, remove_entry}
 use Rattle.newt_spec_store.specs.Cost.{cost}
 use Rattle.newt_spec_store.specs.OfImage.{blocks_of}
@@ -23,8 +24,9 @@ use Rattle.newt_shelf.specs.Places.{place_of}
 use Rattle.newt_store.specs.declared.catalog.Catalog.{Catalog}
 use Rattle.newt_store.specs.declared.change.Change.{Change}
 use Rattle.newt_store.specs.declared.change.Change.TheVariants.{MakeSoup, DropSoup, Add, Remove, Move}
-use Rattle.newt_store.specs.Change.{changed_by, first_checks, full_check, refusal_of, dropped_soup, changed_soup}
-use Rattle.newt_store.specs.Next.{IsEitherStore}
+use Rattle.newt_store.specs.Change.{changed_by, first_checks, full_check, refusal_of, dropped_soup, changed_soup, pages_put, pages_gone, directory_pages, most_bytes}
+use Rattle.newt_store.specs.declared.next.Next.{Next}
+use Rattle.newt_store.specs.Next.{IsEitherStore, IsPlanOf, turn_bytes}
 use Rattle.newt_store.specs.Stage.{readable}
 use Rattle.newt_store.specs.Stands.{StandsFor, IsSound, IsRefused, RefusesWith, IsBeforeOrChanged}
 use Rattle.newt_store.proofs.Writing.{kept-over, failed}
@@ -140,3 +142,36 @@ faults-over (Stop (Device at)) unit unit' old mid new place touches faults =
 
 pub touches-over : (unit unit' : ℕ) (old mid new : Outside) → unit' ≡ unit → Touches unit old mid → Touches unit' mid new → Touches unit old new
 touches-over unit unit' old mid new place first second = Touches-append first (subst (λ (u : ℕ). Touches u mid new) place second)
+
+-- ---- how many bytes
+
+-- the bytes of what is planned are those of the change, where it is not refused
+planned-bytes : (catalog : Catalog) (change : Change) (blocks now : ℕ) (s : Store) (next : Next) → IsPlanOf catalog change now s next → refusal_of change blocks now s ≡ None → turn_bytes next s (changed_by change now s) ≡ most_bytes change blocks now s
+unfolding most_bytes turn_bytes
+planned-bytes catalog change blocks now s next plan none =
+    (λ i. 9 + 516 * (directory_pages (changed_by change now s) + plan.added i) + 4 * (directory_pages s + plan.removed i))
+    ∙ turned (pages_put change now s) (pages_gone change s)
+    ∙ sym (ap (λ (o : Option Refusal). cond (is_some o) 0 (516 * pages_put change now s + 4 * pages_gone change s + 9)) none) where
+      turned : (p q : ℕ) → 9 + 516 * p + 4 * q ≡ 516 * p + 4 * q + 9
+      turned p q = omega arith
+
+pub spends-more : (unit most fetches : ℕ) (old new : Outside) → Spends unit 0 fetches old new → Spends unit most fetches old new
+spends-more unit most fetches old new spends = Spends-widen 0 fetches most fetches (omega arith) (omega arith) spends
+
+-- first the change is planned, then what is planned is carried out
+pub spends-both : (catalog : Catalog) (change : Change) (now : ℕ) (s : Store) (next : Next) (img : List ℕ) (unit fetches : ℕ) (old mid new : Outside) → IsPlanOf catalog change now s next → Spends unit 0 fetches old mid
+    → (IsOpenFor (turn_bytes next s (changed_by change now s)) img → Spends unit (turn_bytes next s (changed_by change now s)) 0 mid new)
+    → (cap (blocks_of img) < cost (changed_by change now s) → Spends unit 0 0 mid new)
+    → IsOpenFor (most_bytes change (blocks_of img) now s) img → Spends unit (most_bytes change (blocks_of img) now s) fetches old new
+spends-both catalog change now s next img unit fetches old mid new plan first bound none room = ⊎_elim
+    (λ (low : cost (changed_by change now s) ≤ cap (blocks_of img)).
+    let same = planned-bytes catalog change (blocks_of img) now s next plan (none-due change (blocks_of img) now s plan.accepted low) in
+    joined (subst (λ (n : ℕ). Spends unit n 0 mid new) same (bound (subst (λ (n : ℕ). IsOpenFor n img) (sym same) room))))
+    (λ (more : cap (blocks_of img) < cost (changed_by change now s)). joined (Spends-widen 0 0 (most_bytes change (blocks_of img) now s) 0 (omega arith) (omega arith) (none more)))
+    (either (cost (changed_by change now s)) (cap (blocks_of img))) where
+      joined : Spends unit (most_bytes change (blocks_of img) now s) 0 mid new → Spends unit (most_bytes change (blocks_of img) now s) fetches old new
+      joined second = Spends-widen (0 + most_bytes change (blocks_of img) now s) (fetches + 0) (most_bytes change (blocks_of img) now s) fetches (omega arith) (omega arith)
+          (Spends-append 0 fetches (most_bytes change (blocks_of img) now s) 0 first second)
+
+      either : (a b : ℕ) → (a ≤ b) ⊎ (b < a)
+      either a b = ⊎_elim (λ (less : b < a). inr less) (λ (low : a ≤ b). inl low) (cases_lt b a)

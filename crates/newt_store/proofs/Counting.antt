@@ -18,20 +18,12 @@ use Rattle.newt_soupdir.specs.declared.rows.Directory.{Directory}
 use Rattle.newt_store.specs.Change.{entry_in, count_in}
 use Rattle.newt_store.specs.Stands.{Describes}
 use Rattle.newt_store.proofs.Entries.{has-entry}
-
-abbrev same_number : ℕ → ℕ → Bool
-same_number a b = a == b
+use Rattle.newt_store.proofs.Sums.{same_number, other-way}
 
 -- the ids of a soup's entries
 abbrev pub uids_in : Option Soup → List ℕ
 uids_in None = []
 uids_in (Some p) = map_list (λ (e : Entry). e.uid) p.entries
-
-other-way : (a b : ℕ) → (a == b) ≡ (b == a)
-other-way a b = ⊎_elim
-    (λ (e : (a == b) ≡ true). e ∙ sym (equal_true b a (sym (is_same a b e))))
-    (λ (e : (a == b) ≡ false). e ∙ sym (equal_false b a (λ is. absurd (let yes : (a == b) ≡ true = equal_true a b (sym is) in cc))))
-    (true_or_false (a == b))
 
 found-member : (uid : ℕ) (es : List Entry) → is_some (find (λ e. e.uid == uid) es) ≡ is_member same_number (map_list (λ (e : Entry). e.uid) es) uid
 found-member uid [] = refl

@@ -25,7 +25,7 @@ use Rattle.newt_store.proofs.Found.{placed-entry, entry-placed}
 use Rattle.std.specs.Option.{is_some, option_and_then}
 
 module _ (directory : Directory) (place : Places) (texts : Objects) (s : Store) (d : Describes directory place texts s) where
-  plain-in : (sig : ℕ) (e : Entry) → IsIn s sig e → graph_has_no_large e.graph ≡ true
+  pub plain-in : (sig : ℕ) (e : Entry) → IsIn s sig e → graph_has_no_large e.graph ≡ true
   plain-in sig e is = its-plain s sig e (both (is_early s) (has_no_large s) d.simple).1 is
 
   -- the record of an entry is read as the entry

@@ -12,4 +12,6 @@ pub mod Entries
 pub mod Applying
 pub mod Opening
 pub mod OpeningPlaces
+pub mod Sums
+pub mod Going
 pub mod Counting

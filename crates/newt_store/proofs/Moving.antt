@@ -1,6 +1,6 @@
 -- An entry that is moved.
 use Rattle.std.proofs.Common.{IsTrue, ◌≡◌, ◌≢◌, ℕ, ◌<◌, ◌||◌, Bool, true, false, not, [], ◌∷◌, Option, Some, None, refl, sym, ◌∙◌, ap, subst, arith}
-use Rattle.std.specs.Option.{is_some, is_none}
+use Rattle.std.specs.Option.{is_some, is_none, option_map}
 use Rattle.newt_base.specs.Refusals.{Checks, first_of}
 use Rattle.newt_base.specs.declared.Refusal.TheVariants.{Soup as NoSoup, Entry as NoEntry, Ids}
 use Rattle.newt_image.specs.Objects.{Objects}
@@ -25,14 +25,14 @@ use Rattle.newt_store.specs.declared.change.Change.TheVariants.{Move}
 use Rattle.newt_store.specs.declared.next.Next.{Next}
 use Rattle.newt_store.specs.declared.next.Gone.{Gone}
 use Rattle.newt_store.specs.declared.next.Gone.TheVariants.{OneEntry}
-use Rattle.newt_store.specs.Change.{first_checks, entry_in, has_no_ids, next_uid_of, moved_entry}
-use Rattle.newt_store.specs.Next.{Goes, IsNew, Turns, IsAdding, IsPlanOf}
+use Rattle.newt_store.specs.Change.{first_checks, entry_in, has_no_ids, next_uid_of, moved_entry, pages_of_entry}
+use Rattle.newt_store.specs.Next.{Goes, IsNew, Turns, IsAdding, IsPlanOf, goes_pages}
 use Rattle.newt_store.specs.Stands.{Describes}
 use Rattle.newt_store.proofs.Reading.{both, join}
 use Rattle.newt_store.proofs.Found.{soup-some}
 use Rattle.newt_store.proofs.Turning.{bytes-of}
 use Rattle.newt_store.proofs.Planned.{first-holds, first-not, no-entry, an-entry}
-use Rattle.newt_store.proofs.Adding.{free-in, not-yet, row-soup, more-ids}
+use Rattle.newt_store.proofs.Adding.{free-in, not-yet, row-soup, more-ids, new-entry-pages}
 
 module _ (catalog : Catalog) (s : Store) (sound : AreSoundPlaces (held catalog.objects) (place_of catalog.places)) (source uid target : ℕ) (p q : Soup) (found : soup_of source s ≡ Some p) (goal : soup_of target s ≡ Some q)
     (e : Entry) (is_in : IsIn s source e) (of_uid : e.uid ≡ uid) (old-id : ℕ) (at : place_of catalog.places source uid ≡ Some old-id)
@@ -86,6 +86,7 @@ module _ (catalog : Catalog) (s : Store) (sound : AreSoundPlaces (held catalog.o
         let here : uid ≡ q.next_uid = w.1 ∙ ap (λ (y : NewEntry). y.uid) same ∙ adds.of_uid in
         let low : e.uid < q.next_uid = in-below s target q d.formed goal e (subst (λ (n : ℕ). IsIn s n e) there is_in) in
         absurd (omega (arith, low, of_uid, here));
+    bare_is = λ texts d. removed_bare p.name uid (change_soup q.name (add_entry now e.graph) s) ∙ added_bare s target q d.formed goal now e.graph ∙ ap (take_uid_of target) d.bare_is ∙ sym adds.directory;
   }
 
 -- ---- refused, or planned
@@ -146,4 +147,7 @@ move-planned catalog texts s source uid target old-id now e row next sound d som
           (sym (ap (λ (o : Option Entry). moved_entry o (soup_of source s) (soup_of target s) now s) there ∙ ap (λ (o : Option Soup). moved_entry (Some e) o (soup_of target s) now s) p.1 ∙ ap (λ (o : Option Soup). moved_entry (Some e) (Some p.0) o now s) q.1
           ∙ ap (λ (n : ℕ). change_soup p.0.name (remove_entry n) (change_soup q.0.name (add_entry now e.graph) s)) of_uid))
           (turns-moved catalog s sound source uid target p.0 q.0 p.1 q.1 e is_in of_uid old-id at now time room' plain next adds');
+      added = new-entry-pages catalog row.sig row.next_uid now e.graph (OneEntry source uid) next adds plain
+          ∙ sym (ap (λ (o : Option Entry). pages_of_entry (option_map (λ (e : Entry). let x : Entry = record { uid = next_uid_of (soup_of target s); time = now; graph = e.graph } in x) o)) there);
+      removed = ap (λ (gone : Gone). goes_pages gone s) adds.of_gone;
     }

@@ -69,6 +69,8 @@ drop-planned catalog texts s sig now dir d some dropped =
       accepted = first-not NoSoup (is_none (soup_of sig s)) [] (ap not is);
       answer = refl;
       turns = subst (λ (t : Store). Turns catalog (next-dropped catalog s sig w.0 w.1 dir 0 dropped) s t) (ap (λ (o : Option Soup). dropped_soup o s) (sym w.1)) (turns-dropped catalog s sig w.0 w.1 dir 0 dropped);
+      added = refl;
+      removed = refl;
     }
 
 -- ---- an entry less
@@ -107,6 +109,8 @@ remove-planned catalog texts s sig uid now dir d some placed same =
           ∙ first-not NoEntry (is_none (entry_in sig uid s)) [] (ap not (an-entry catalog.directory (place_of catalog.places) texts s sig uid d placed));
       answer = refl;
       turns = subst (λ (t : Store). Turns catalog (next-removed catalog s sig w.0 w.1 uid at.0 dir 0 same at.1) s t) (ap (λ (o : Option Soup). changed_soup o (remove_entry uid) s) (sym w.1)) (turns-removed catalog s sig w.0 w.1 uid at.0 dir 0 same at.1);
+      added = refl;
+      removed = refl;
     }
 
 -- ---- a soup more
@@ -155,6 +159,8 @@ make-planned catalog texts s name now a dir d good none few last made answer =
           ∙ first-not Ids (s.next_soup == 65_535) [] (not-last s.next_soup next);
       answer = answer ∙ sym (next-same catalog.directory p texts s d);
       turns = turns-made catalog s name dir a made good new room (below-last s d.formed next);
+      added = refl;
+      removed = refl;
     }
 
 pub formed-made : (d e : Directory) (name : List ℕ) → well_formed (bare_store d) ≡ true → IsTrue (is_name name) → is_some (soup_named name (bare_store d)) ≡ false → nat_le 64 (length d.soups) ≡ false → d.next_soup ≢ 65535

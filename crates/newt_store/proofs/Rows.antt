@@ -8,12 +8,14 @@ use Rattle.newt_image.specs.Pages.{Pages, pages}
 use Rattle.newt_image.specs.Objects.{Extent, AreObjectsOf, joined, pages_for}
 use Rattle.newt_pagebook.specs.Book.{Numbers}
 use Rattle.newt_pagebook.proofs.Tests.{some_inj}
+use Rattle.newt_objects.specs.Extents.{numbers_of}
 use Rattle.newt_objects.specs.Held.{Held, held, Texts}
 use Rattle.newt_objects.specs.Changing.{HoldsObjects}
 use Rattle.newt_objects.proofs.Same.{texts_by}
 use Rattle.newt_objects.proofs.Changing.{read_text}
 use Rattle.newt_objects.proofs.Counting.{joined_size}
 use Rattle.newt_objects.proofs.Whole.{image_whole}
+use Rattle.newt_shelf.specs.Batch.{pages_held}
 use Rattle.newt_shelf.specs.Commit.{AreKept}
 use Rattle.newt_store.proofs.Writing.{held-are}
 
@@ -25,6 +27,19 @@ module _ (told : Bool) (objects : Held) (numbers : Numbers) (unit : ℕ) (outsid
   -- the bytes that a read gives are the object's
   pub read-is : (got : List ℕ) → ((live : Pages) → pages (image unit outside.now) ≡ Some live → Some got ≡ option_map (joined live) (held objects id)) → bytes ≡ got
   read-is got read = some_inj bytes got (sym at ∙ read_text objects kept.are.live texts id got kept.are.is_table are (read kept.are.live (kept.are.are.of_image tells)))
+
+  -- it has the pages of these bytes
+  pub pages-are : pages_held objects id ≡ pages_for (length bytes)
+  pages-are = cases (held objects id) refl where
+    text : option_map (joined kept.are.live) (held objects id) ≡ Some bytes
+    text = sym (texts_by kept.are.live (held objects) texts are kept.are.is_table id) ∙ at
+
+    cases : (o : Option Extent) → held objects id ≡ o → pages_held objects id ≡ pages_for (length bytes)
+    cases None e = absurd (let none : None ≡ Some bytes = sym (ap (option_map (joined kept.are.live)) e) ∙ text in cc)
+    cases (Some x) e =
+        let same : joined kept.are.live x ≡ bytes = some_inj _ _ (sym (ap (option_map (joined kept.are.live)) e) ∙ text) in
+        let size : length bytes ≡ x.length = ap (λ (l : List ℕ). length l) (sym same) ∙ joined_size kept.are.live (held objects) id x (image_whole (image unit outside.now) kept.are.live (kept.are.are.of_image tells)) kept.are.is_table e in
+        ap (λ (o : Option Extent). length (numbers_of o)) e ∙ kept.are.is_table.whole id x e ∙ ap pages_for (sym size)
 
   -- it costs the pages of these bytes
   pub read-costs : (old new : Outside) → IfSome (held objects id) (λ x. Spends unit 0 (512 * length x.numbers) old new) → Spends unit 0 (512 * pages_for (length bytes)) old new

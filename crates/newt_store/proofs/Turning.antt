@@ -67,6 +67,7 @@ module _ (catalog : Catalog) (s : Store) where
           };
       fresh = λ texts d e isnt. absurd (none-some isnt);
       stays = λ texts d e isnt. absurd (none-some isnt);
+      bare_is = λ texts d. made_bare name s ∙ ap (make_soup name) d.bare_is ∙ sym made;
     }
 
   module _ (sig : ℕ) (p : Soup) (found : soup_of sig s ≡ Some p) where
@@ -94,6 +95,7 @@ module _ (catalog : Catalog) (s : Store) where
             };
         fresh = λ texts d e isnt. absurd (none-some isnt);
         stays = λ texts d e isnt. absurd (none-some isnt);
+        bare_is = λ texts d. dropped_bare s sig p d.formed found ∙ ap (without_soup sig) d.bare_is ∙ sym dropped;
       }
 
     -- ---- an entry less
@@ -121,6 +123,7 @@ module _ (catalog : Catalog) (s : Store) where
             };
         fresh = λ texts d e isnt. absurd (none-some isnt);
         stays = λ texts d e isnt. absurd (none-some isnt);
+        bare_is = λ texts d. removed_bare p.name uid s ∙ d.bare_is ∙ sym same;
       } where
         others : (old now : Objects) → AreNext next-removed old-place old now → map.get now 0 ≡ map.get old 0 → (o : ℕ) → o ≢ id → map.get now o ≡ map.get old o
         others old now are head o ne = ⊎_elim

@@ -1,17 +1,20 @@
 -- What a change writes, from what is planned of it.
-use Rattle.std.proofs.Common.{IsTrue, ◌≡◌, ◌≢◌, inl, inr, ℕ, Bool, List, length, slice_get, Option, Some, None, IsSome, Result, Err, refl, sym, ◌∙◌, ap, subst, ⊎_elim}
+use Rattle.std.proofs.Common.{IsTrue, ◌≡◌, ◌≢◌, inl, inr, ℕ, ◌+◌, ◌*◌, ◌≤◌, Bool, List, length, slice_get, Option, Some, None, IsSome, Result, Err, refl, sym, ◌∙◌, ap, subst, arith, ⊎_elim}
 use Rattle.std.specs.FinMap as map
 use Rattle.std.specs.Option.{option_map}
 use Rattle.std.proofs.lemmas.Bool.{cases_eq}
 use Rattle.newt_base.specs.declared.Refusal.{Refusal}
 use Rattle.newt_base.specs.declared.Refusal.TheVariants.{Full}
 use Rattle.newt_host.specs.Moments.{Moment, image, changes, IsDurable, Leaves}
-use Rattle.newt_host.specs.Outside.{Outside}
+use Rattle.newt_host.specs.Outside.{Outside, Spends}
+use Rattle.newt_host.proofs.Outside.{Spends-refl, Spends-widen}
+use Rattle.newt_spec_store.specs.Cost.{directory_bytes}
+use Rattle.newt_soupdir.specs.Bare.{bare_store}
 use Rattle.newt_host.proofs.Moments.{Leaves-start, Leaves-weaken}
 use Rattle.newt_image.specs.Pages.{Pages, Change}
-use Rattle.newt_image.specs.Objects.{Extent, AreObjectsOf, joined}
+use Rattle.newt_image.specs.Objects.{Extent, AreObjectsOf, joined, pages_for}
 use Rattle.newt_pagebook.specs.Batch.{no_change}
-use Rattle.newt_pagebook.specs.Book.{Numbers}
+use Rattle.newt_pagebook.specs.Book.{Numbers, batch_bytes}
 use Rattle.newt_pagebook.proofs.Tests.{some_inj}
 use Rattle.newt_objects.specs.Held.{Held, held, planned, Texts}
 use Rattle.newt_objects.specs.Changing.{HoldsObjects, IsUnderWay}
@@ -20,11 +23,11 @@ use Rattle.newt_objects.proofs.Same.{texts_by}
 use Rattle.newt_shelf.specs.declared.batch.NewEntry.{NewEntry}
 use Rattle.newt_shelf.specs.declared.fault.StoreFault.{StoreFault}
 use Rattle.newt_shelf.specs.declared.fault.StoreFault.TheVariants.{Refused, Stop}
-use Rattle.newt_shelf.specs.Batch.{AreWritten}
+use Rattle.newt_shelf.specs.Batch.{AreWritten, AddsPages, new_pages, pages_held, all_pages_held}
 use Rattle.newt_shelf.specs.Commit.{AreKept, IsPlanned, IsEither}
 use Rattle.newt_shelf.specs.Faults.{RefusesOnly}
 use Rattle.newt_store.specs.declared.next.Next.{Next}
-use Rattle.newt_store.specs.Next.{WritesNext, HoldsEither}
+use Rattle.newt_store.specs.Next.{WritesNext, HoldsEither, next_bytes}
 use Rattle.newt_store.specs.Stands.{GoesOn, IsRefused}
 
 -- ---- answers
@@ -119,3 +122,23 @@ pub leaves-none : (unit : ℕ) (next : Next) (gone : List ℕ) (before : Texts) 
 leaves-none unit next gone before old holds durable = Leaves-start (λ left may.
     let same : left ≡ image unit old = durable left may in
     record { size = ap (λ (l : List ℕ). length l) same; holds = inl (subst (λ (l : List ℕ). HoldsObjects l before) (sym same) holds) })
+
+-- ---- how many bytes
+
+-- nothing was programmed or fetched
+pub spends-nothing : (unit programs fetches : ℕ) (outside : Outside) → Spends unit programs fetches outside outside
+spends-nothing unit programs fetches outside = Spends-widen 0 0 programs fetches (omega arith) (omega arith) (Spends-refl unit outside)
+
+in-all : (x first a d p e : ℕ) → x ≡ first + (a + p) → first ≡ 0 → a ≡ d → p ≡ e → x ≡ d + e
+in-all x first a d p e is none same also = omega (arith, is, none, same, also)
+
+-- the batch has the bytes that are said
+pub bytes-planned : (next : Next) (objects : Held) (gone bytes : List ℕ) (first batch : Change) → first ≡ no_change → bytes ≡ directory_bytes (bare_store next.directory)
+    → AddsPages (pages_for (length bytes) + new_pages next.entry) (pages_held objects 0 + all_pages_held objects gone) first batch → batch_bytes batch ≡ next_bytes next objects gone
+unfolding next_bytes
+bytes-planned next objects gone bytes first batch none is adds =
+    let a : length first.puts ≡ 0 = ap (λ (c : Change). length c.puts) none in
+    let b : length first.deletes ≡ 0 = ap (λ (c : Change). length c.deletes) none in
+    let p : length batch.puts ≡ pages_for (length (directory_bytes (bare_store next.directory))) + new_pages next.entry = in-all _ _ _ _ _ _ adds.more_puts a (ap (λ (l : List ℕ). pages_for (length l)) is) refl in
+    let q : length batch.deletes ≡ pages_held objects 0 + all_pages_held objects gone = in-all _ _ _ _ _ _ adds.more_deletes b refl refl in
+    λ i. 9 + 516 * p i + 4 * q i

@@ -1,14 +1,15 @@
 -- What each change does to a plain store, and what it is refused for. Soups are named by their signatures. What the changes do to stores, soups and entries
 -- is Newton's (Newton Programmer's Guide 2.0); the refusals and their order are this project's own.
-use Rattle.std.specs.Prelude.{ℕ, Bool, not, ◌==◌, ◌||◌, nat_lt, nat_le, List, [], ◌∷◌, ◌++◌, length, Option, Some, None, is_some, is_none, option_and_then}
+use Rattle.std.specs.Prelude.{ℕ, ◌+◌, ◌*◌, Bool, cond, not, ◌==◌, ◌||◌, nat_lt, nat_le, List, [], ◌∷◌, ◌++◌, length, Option, Some, None, is_some, is_none, option_map, option_and_then}
 use Rattle.newt_base.specs.declared.Refusal.{Refusal}
 use Rattle.newt_base.specs.declared.Refusal.TheVariants.{Soup as NoSoup, Exists, Entry as NoEntry, Notframe, Limit, Size, Ids, Full}
 use Rattle.newt_base.specs.Refusals.{Checks, first_of}
 use Rattle.newt_image.specs.Pages.{cap}
+use Rattle.newt_image.specs.Objects.{pages_for}
 use Rattle.newt_graph.specs.Graph.{RawGraph}
 use Rattle.newt_spec_graph.specs.Graph.{is_frame, object}
 use Rattle.newt_spec_store.specs.Store.{Entry, Soup, Store, soup_named, entry_of, change_soup, make_soup, drop_soup, add_entry, remove_entry}
-use Rattle.newt_spec_store.specs.Cost.{cost, skeleton_length, entry_pages}
+use Rattle.newt_spec_store.specs.Cost.{cost, directory_bytes, skeleton_length, entry_pages, soup_pages}
 use Rattle.newt_spec_store.specs.Lies.{graph_has_no_large}
 use Rattle.newt_soupdir.specs.Changes.{soup_of}
 use Rattle.newt_store.specs.declared.change.Change.{Change}
@@ -103,3 +104,44 @@ count_in (Some p) = length p.entries
 abbrev pub pages_of_entry : Option Entry → ℕ
 pages_of_entry None = 0
 pages_of_entry (Some e) = entry_pages e
+
+-- the pages of a soup's entries, none where there is no soup
+abbrev pub pages_of_soup : Option Soup → ℕ
+pages_of_soup None = 0
+pages_of_soup (Some p) = soup_pages p
+
+-- the pages of the directory
+abbrev pub directory_pages : Store → ℕ
+directory_pages s = pages_for (length (directory_bytes s))
+
+-- ---- what a change costs. This project's own.
+
+-- the entry that a change reads: the one that is moved
+abbrev pub entry_moved : Change → Store → Option Entry
+entry_moved (Move source uid target) s = entry_in source uid s
+entry_moved change s = None
+
+-- the entry that a change appends
+abbrev pub entry_added : Change → ℕ → Store → Option Entry
+entry_added (Add sig graph) now s = Some (record { uid = next_uid_of (soup_of sig s); time = now; graph = graph })
+entry_added (Move source uid target) now s = option_map (λ e. record { uid = next_uid_of (soup_of target s); time = now; graph = e.graph }) (entry_in source uid s)
+entry_added change now s = None
+
+-- the pages of the entries that a change removes
+abbrev pub pages_removed : Change → Store → ℕ
+pages_removed (DropSoup sig) s = pages_of_soup (soup_of sig s)
+pages_removed (Remove sig uid) s = pages_of_entry (entry_in sig uid s)
+pages_removed (Move source uid target) s = pages_of_entry (entry_in source uid s)
+pages_removed change s = 0
+
+-- the pages that a change writes: those of the directory after it, and of the entry that it appends
+abbrev pub pages_put : Change → ℕ → Store → ℕ
+pages_put change now s = directory_pages (changed_by change now s) + pages_of_entry (entry_added change now s)
+
+-- the pages that a change lets go: those of the directory before it, and of the entries that it removes
+abbrev pub pages_gone : Change → Store → ℕ
+pages_gone change s = directory_pages s + pages_removed change s
+
+-- The most bytes that a change programs: none where it is refused, else 516 for each page that it writes, 4 for each that it lets go, and 9 beside them.
+unfoldable pub most_bytes : Change → ℕ → ℕ → Store → ℕ
+most_bytes change blocks now s = cond (is_some (refusal_of change blocks now s)) 0 (516 * pages_put change now s + 4 * pages_gone change s + 9)

@@ -1,16 +1,17 @@
 -- What a change makes of a store, before it is written.
-use Rattle.std.specs.Prelude.{◌≡◌, ◌≢◌, ◌⊎◌, ℕ, ◌%◌, ◌≤◌, IsTrue, List, [], length, Option, Some, None}
+use Rattle.std.specs.Prelude.{◌≡◌, ◌≢◌, ◌⊎◌, ℕ, ◌+◌, ◌*◌, ◌%◌, ◌≤◌, IsTrue, List, [], length, Option, Some, None}
 use Rattle.std.specs.FinMap as map
-use Rattle.newt_image.specs.Objects.{Table, Objects}
+use Rattle.newt_image.specs.Objects.{Table, Objects, pages_for}
 use Rattle.newt_spec_store.specs.Store.{Store}
 use Rattle.newt_image.specs.Pages.{cap}
 use Rattle.newt_spec_store.specs.Cost.{cost, directory_bytes}
+use Rattle.newt_spec_store.specs.Laid.{bare}
 use Rattle.newt_spec_store.specs.OfImage.{blocks_of}
 use Rattle.newt_spec_store.specs.Lies.{Places}
 use Rattle.newt_spec_store.specs.Valid.{well_formed}
 use Rattle.newt_graph.specs.Graph.{RawGraph}
 use Rattle.newt_spec_store.specs.Image.{entry_bytes}
-use Rattle.newt_objects.specs.Held.{held}
+use Rattle.newt_objects.specs.Held.{Held, held}
 use Rattle.newt_soupdir.specs.Changes.{take_uid_of}
 use Rattle.newt_soupdir.specs.Bare.{bare_store}
 use Rattle.newt_objects.specs.Changing.{HoldsObjects}
@@ -19,9 +20,10 @@ use Rattle.newt_pagebook.specs.declared.book.Stop.TheVariants.{Memory, Device}
 use Rattle.newt_shelf.specs.declared.fault.StoreFault.{StoreFault}
 use Rattle.newt_shelf.specs.declared.fault.StoreFault.TheVariants.{Refused, Stop}
 use Rattle.newt_store.specs.declared.change.Change.{Change}
-use Rattle.newt_store.specs.Change.{changed_by, answer_of, first_checks}
+use Rattle.newt_store.specs.Change.{changed_by, answer_of, first_checks, entry_in, entry_added, pages_of_entry, pages_of_soup, pages_removed, directory_pages}
+use Rattle.newt_soupdir.specs.Changes.{soup_of}
 use Rattle.newt_shelf.specs.Commit.{Fit}
-use Rattle.newt_shelf.specs.Batch.{AreWritten}
+use Rattle.newt_shelf.specs.Batch.{AreWritten, new_pages, pages_held, all_pages_held}
 use Rattle.newt_store.specs.Stage.{readable}
 use Rattle.newt_store.specs.declared.catalog.Catalog.{Catalog}
 use Rattle.newt_store.specs.declared.next.Next.{Next}
@@ -68,12 +70,31 @@ pub record Turns (catalog : Catalog) (next : Next) (s t : Store) : Type 0 where
       → ArePlacesNext next (place_of catalog.places) place → Describes next.directory place new t
   pub fresh : (texts : Objects) → Describes catalog.directory (place_of catalog.places) texts s → (e : NewEntry) → next.entry ≡ Some e → place_of catalog.places e.sig e.uid ≡ None
   pub stays : (texts : Objects) → Describes catalog.directory (place_of catalog.places) texts s → (e : NewEntry) → next.entry ≡ Some e → Goes next.gone e.sig e.uid → ⊥
+  pub bare_is : (texts : Objects) → Describes catalog.directory (place_of catalog.places) texts s → bare t ≡ bare_store next.directory
 
--- What a change makes of a store: it is not refused but perhaps for a full unit, it has the change's answer, and it leads to the changed store.
+-- the pages of the entries that go
+abbrev pub goes_pages : Gone → Store → ℕ
+goes_pages Nothing s = 0
+goes_pages (OneEntry sig uid) s = pages_of_entry (entry_in sig uid s)
+goes_pages (AllOf sig) s = pages_of_soup (soup_of sig s)
+
+-- the bytes of the batch that is written, and its record: 516 for each page of the directory and of the new entry's record, 4 for each page of the
+-- directory before and of the objects that go
+unfoldable pub next_bytes : Next → Held → List ℕ → ℕ
+next_bytes next objects gone = 9 + 516 * (pages_for (length (directory_bytes (bare_store next.directory))) + new_pages next.entry) + 4 * (pages_held objects 0 + all_pages_held objects gone)
+
+-- the same, where one store becomes another
+unfoldable pub turn_bytes : Next → Store → Store → ℕ
+turn_bytes next s t = 9 + 516 * (directory_pages t + new_pages next.entry) + 4 * (directory_pages s + goes_pages next.gone s)
+
+-- What a change makes of a store: it is not refused but perhaps for a full unit, it has the change's answer, it leads to the
+-- changed store, and as many pages come and go.
 pub record IsPlanOf (catalog : Catalog) (change : Change) (now : ℕ) (s : Store) (next : Next) : Type 0 where
   pub accepted : first_of (first_checks change s) ≡ None
   pub answer : next.answer ≡ answer_of change s
   pub turns : Turns catalog next s (changed_by change now s)
+  pub added : new_pages next.entry ≡ pages_of_entry (entry_added change now s)
+  pub removed : goes_pages next.gone s ≡ pages_removed change s
 
 -- what a change writes: its directory, its new entry, and none of these objects
 abbrev pub WritesNext : Next → List ℕ → Objects → Objects → Type 0

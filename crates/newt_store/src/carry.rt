@@ -2,8 +2,9 @@
 ghost use Rattle.std.specs.Prelude.{IsTrue, ◌≡◌, ◌%◌, ◌<◌, ◌≤◌, ℕ, slice_get, Some, None, IsSome, OnOk, IfOk, IfErr, IsErrOf};
 ghost use Rattle.newt_base.specs.declared.Refusal.TheVariants.{Full};
 ghost use Rattle.newt_host.specs.Moments.{image, Leaves};
-ghost use Rattle.newt_host.specs.Outside.{Touches};
+ghost use Rattle.newt_host.specs.Outside.{Touches, Spends};
 ghost use Rattle.newt_image.specs.Pages.{cap};
+ghost use Rattle.newt_pagebook.specs.Book.{IsOpenFor};
 ghost use Rattle.newt_objects.specs.Held.{held, Texts};
 ghost use Rattle.newt_objects.specs.Changing.{HoldsObjects, total_pages};
 ghost use Rattle.newt_spec_store.specs.Store.{Store as PlainStore};
@@ -13,7 +14,7 @@ ghost use Rattle.newt_shelf.specs.declared.batch.NewEntry.{NewEntry as NewOne};
 ghost use Rattle.newt_shelf.specs.Batch.{AreOnce};
 ghost use Rattle.newt_shelf.specs.Commit.{AreKept, Fit};
 ghost use Rattle.newt_shelf.specs.Faults.{FaultsAt, RefusesOnly};
-ghost use Rattle.newt_store.specs.Next.{Goes, IsNew, IsNextOf, WritesNext, Turns, HoldsEither, IsEitherStore};
+ghost use Rattle.newt_store.specs.Next.{Goes, IsNew, IsNextOf, WritesNext, Turns, HoldsEither, IsEitherStore, next_bytes, turn_bytes};
 ghost use Rattle.newt_store.specs.Stands.{StandsFor, IsSound, GoesOn, IsRefused};
 ghost use Rattle.newt_shelf.specs.Places.{place_of};
 
@@ -123,6 +124,9 @@ fn write_next<P: PageBook, H: Host>(
     ensures still { IsRefused result → (id : ℕ) → held objects.new id ≡ held objects.old id }
     ensures nothing_done { IsRefused result → (H.outside host.new).now ≡ (H.outside host.old).now }
     ensures any_moment { IsTrue H.told → (before : Texts) → HoldsObjects (image (P.place book.old) (H.outside host.old).now) before → Leaves (P.place book.old) (HoldsEither (image (P.place book.old) (H.outside host.old).now) next.now gone.now before) (H.outside host.old).now (H.outside host.new).now }
+    ensures bound { IsTrue H.told → IsOpenFor (next_bytes next.now objects.old gone.now) (image (P.place book.old) (H.outside host.old).now) → Spends (P.place book.old) (next_bytes next.now objects.old gone.now) 0 (H.outside host.old) (H.outside host.new) }
+    ensures too_many { IsTrue H.told → (before : Texts) → HoldsObjects (image (P.place book.old) (H.outside host.old).now) before → ((after : Texts) → WritesNext next.now gone.now before after → cap (blocks_of (image (P.place book.old) (H.outside host.old).now)) < total_pages after) → Spends (P.place book.old) 0 0 (H.outside host.old) (H.outside host.new) }
+    ensures open_after { IsTrue H.told → OnOk result (IsOpenFor 0 (image (P.place book.old) (H.outside host.new).now)) }
     ensures alone { Touches (P.place book.old) (H.outside host.old) (H.outside host.new) }
     ensures cause { IfErr result (FaultsAt (P.place book.old) (H.outside host.old) (H.outside host.new)) }
 {
@@ -158,6 +162,9 @@ pub(crate) fn carry_out<P: PageBook, H: Host>(
     ensures still { IsRefused result → IsTrue H.told → (s t : PlainStore) → StandsFor catalog.old s (image (P.place book.old) (H.outside host.old).now) → Turns catalog.old next s t → StandsFor catalog.new s (image (P.place book.old) (H.outside host.old).now) }
     ensures nothing_done { IsRefused result → (H.outside host.new).now ≡ (H.outside host.old).now }
     ensures any_moment { IsTrue H.told → (s t : PlainStore) → StandsFor catalog.old s (image (P.place book.old) (H.outside host.old).now) → Turns catalog.old next s t → Leaves (P.place book.old) (IsEitherStore (image (P.place book.old) (H.outside host.old).now) s t) (H.outside host.old).now (H.outside host.new).now }
+    ensures bound { IsTrue H.told → (s t : PlainStore) → StandsFor catalog.old s (image (P.place book.old) (H.outside host.old).now) → Turns catalog.old next s t → IsOpenFor (turn_bytes next s t) (image (P.place book.old) (H.outside host.old).now) → Spends (P.place book.old) (turn_bytes next s t) 0 (H.outside host.old) (H.outside host.new) }
+    ensures too_many { IsTrue H.told → (s t : PlainStore) → StandsFor catalog.old s (image (P.place book.old) (H.outside host.old).now) → Turns catalog.old next s t → cap (blocks_of (image (P.place book.old) (H.outside host.old).now)) < cost t → Spends (P.place book.old) 0 0 (H.outside host.old) (H.outside host.new) }
+    ensures open_after { IsTrue H.told → OnOk result (IsOpenFor 0 (image (P.place book.old) (H.outside host.new).now)) }
     ensures alone { Touches (P.place book.old) (H.outside host.old) (H.outside host.new) }
     ensures cause { IfErr result (FaultsAt (P.place book.old) (H.outside host.old) (H.outside host.new)) }
 {

@@ -4,7 +4,7 @@ ghost use Rattle.newt_base.specs.Names.{is_name};
 ghost use Rattle.newt_host.specs.Moments.{image, Leaves};
 ghost use Rattle.newt_host.specs.Outside.{Touches};
 ghost use Rattle.newt_pagebook.specs.Stops.{StopsAt};
-ghost use Rattle.newt_pagebook.specs.Book.{Anything, IsDurable};
+ghost use Rattle.newt_pagebook.specs.Book.{Anything, IsDurable, IsOpenFor};
 ghost use Rattle.newt_entries.specs.Entry.{stream_graph};
 ghost use Rattle.newt_soupdir.specs.Bare.{bare_store};
 ghost use Rattle.newt_store.specs.Change.{new_store};
@@ -44,6 +44,7 @@ pub(crate) fn format_unit<P: PageBook, H: Host>(
     requires few { sig ≤ 536_870_911 }
     ensures formatted { IsTrue H.told → OnOk result (store_of_image stream_graph (image unit (H.outside host.new).now) ≡ Some (new_store name.now sig)) }
     ensures durable { IsTrue H.told → OnOk result (IsDurable unit (H.outside host.new).now) }
+    ensures open_after { IsTrue H.told → OnOk result (IsOpenFor 0 (image unit (H.outside host.new).now)) }
     ensures unchanged { IsErrOf result Stop.Memory → (H.outside host.new).now ≡ (H.outside host.old).now }
     ensures any_moment { IsTrue H.told → Leaves unit Anything (H.outside host.old).now (H.outside host.new).now }
     ensures alone { Touches unit (H.outside host.old) (H.outside host.new) }

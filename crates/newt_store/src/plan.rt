@@ -1,9 +1,9 @@
 // What each change makes of a store, or why it is refused.
-ghost use Rattle.std.specs.Prelude.{IsTrue, ◌≡◌, ◌%◌, ◌<◌, ℕ, Some, None, IsSome, OnOk, IfOk, IfErr, IfSome};
+ghost use Rattle.std.specs.Prelude.{IsTrue, ◌≡◌, ◌*◌, ◌%◌, ◌<◌, ℕ, Some, None, IsSome, OnOk, IfOk, IfErr, IfSome};
 ghost use Rattle.newt_base.specs.Refusals.{first_of};
 ghost use Rattle.newt_graph.specs.Graph.{IsGraph};
 ghost use Rattle.newt_host.specs.Moments.{image};
-ghost use Rattle.newt_host.specs.Outside.{Touches};
+ghost use Rattle.newt_host.specs.Outside.{Touches, Spends};
 ghost use Rattle.newt_image.specs.Objects.{Objects as Texts};
 ghost use Rattle.newt_objects.specs.Held.{held};
 ghost use Rattle.newt_spec_graph.specs.Graph as words;
@@ -12,7 +12,7 @@ ghost use Rattle.newt_spec_store.specs.Store.{Store as PlainStore};
 ghost use Rattle.newt_spec_store.specs.Valid.{well_formed, valid_entry};
 ghost use Rattle.newt_soupdir.specs.Bare.{bare_soup, bare_store};
 ghost use Rattle.newt_soupdir.specs.Changes.{soup_of};
-ghost use Rattle.newt_store.specs.Change.{first_checks, is_too_large as too_large};
+ghost use Rattle.newt_store.specs.Change.{first_checks, entry_in, entry_moved, pages_of_entry, is_too_large as too_large};
 ghost use Rattle.newt_shelf.specs.Faults.{FaultsAt};
 ghost use Rattle.newt_store.specs.Next.{IsNextOf, IsPlanOf, IsAdding, IsNoDevice};
 ghost use Rattle.newt_store.specs.Stands.{Describes, StandsFor, IsSound, RefusesWith};
@@ -242,6 +242,7 @@ fn plan_move<P: PageBook, H: Host>(
     ensures next { IfOk result (IsNextOf (held catalog.now.objects)) }
     ensures planned { IsTrue H.told → (s : PlainStore) → StandsFor catalog.now s (image (P.place book.old) (H.outside host.old).now) → IfOk result (IsPlanOf catalog.now (Change.Move source uid target) now s) }
     ensures refused { IsTrue H.told → (s : PlainStore) → StandsFor catalog.now s (image (P.place book.old) (H.outside host.old).now) → IfErr result (RefusesWith (first_of (first_checks (Change.Move source uid target) s))) }
+    ensures costs { IsTrue H.told → (s : PlainStore) → StandsFor catalog.now s (image (P.place book.old) (H.outside host.old).now) → Spends (P.place book.old) 0 (512 * pages_of_entry (entry_in source uid s)) (H.outside host.old) (H.outside host.new) }
     ensures alone { Touches (P.place book.old) (H.outside host.old) (H.outside host.new) }
     ensures cause { IfErr result (FaultsAt (P.place book.old) (H.outside host.old) (H.outside host.new)) }
 {
@@ -286,6 +287,7 @@ pub(crate) fn plan_change<P: PageBook, H: Host>(
     ensures next { IfOk result (IsNextOf (held catalog.now.objects)) }
     ensures planned { IsTrue H.told → (s : PlainStore) → StandsFor catalog.now s (image (P.place book.old) (H.outside host.old).now) → IfOk result (IsPlanOf catalog.now change now s) }
     ensures refused { IsTrue H.told → (s : PlainStore) → StandsFor catalog.now s (image (P.place book.old) (H.outside host.old).now) → IfErr result (RefusesWith (first_of (first_checks change s))) }
+    ensures costs { IsTrue H.told → (s : PlainStore) → StandsFor catalog.now s (image (P.place book.old) (H.outside host.old).now) → Spends (P.place book.old) 0 (512 * pages_of_entry (entry_moved change s)) (H.outside host.old) (H.outside host.new) }
     ensures alone { Touches (P.place book.old) (H.outside host.old) (H.outside host.new) }
     ensures cause { IfErr result (FaultsAt (P.place book.old) (H.outside host.old) (H.outside host.new)) }
 {

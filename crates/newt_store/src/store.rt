@@ -4,14 +4,14 @@ ghost use Rattle.std.specs.Option.{option_map};
 ghost use Rattle.newt_host.specs.Moments.{image, Leaves};
 ghost use Rattle.newt_host.specs.Outside.{Touches, Spends, Rose};
 ghost use Rattle.newt_pagebook.specs.Stops.{StopsAt};
-ghost use Rattle.newt_pagebook.specs.Book.{Anything, IsDurable};
+ghost use Rattle.newt_pagebook.specs.Book.{Anything, IsDurable, IsOpenFor};
 ghost use Rattle.newt_spec_store.specs.Store.{Store as PlainStore, Entry as PlainEntry};
 ghost use Rattle.newt_spec_store.specs.OfImage.{blocks_of};
 ghost use Rattle.newt_soupdir.specs.Changes.{soup_of};
 ghost use Rattle.newt_entries.specs.Entry.{stream_graph};
 ghost use Rattle.newt_spec_store.specs.ImageStore.{store_of_image};
 ghost use Rattle.newt_store.specs.Stage.{readable};
-ghost use Rattle.newt_store.specs.Change.{changed_by, answer_of, refusal_of, entry_in, count_in, pages_of_entry, new_store};
+ghost use Rattle.newt_store.specs.Change.{changed_by, answer_of, refusal_of, entry_in, count_in, entry_moved, pages_of_entry, most_bytes, new_store};
 ghost use Rattle.newt_store.specs.Stands.{StandsFor, IsSound, GoesOn, IsRefused, RefusesWith, IsBeforeOrChanged, plain_entry};
 ghost use Rattle.newt_shelf.specs.Faults.{FaultsAt};
 
@@ -53,6 +53,7 @@ impl<P: PageBook> Store<P> {
         requires few { sig ≤ 536_870_911 }
         ensures formatted { IsTrue H.told → OnOk result (store_of_image stream_graph (image unit (H.outside host.new).now) ≡ Some (new_store name.now sig)) }
         ensures durable { IsTrue H.told → OnOk result (IsDurable unit (H.outside host.new).now) }
+        ensures open_after { IsTrue H.told → OnOk result (IsOpenFor 0 (image unit (H.outside host.new).now)) }
         ensures unchanged { IsErrOf result Stop.Memory → (H.outside host.new).now ≡ (H.outside host.old).now }
         ensures any_moment { IsTrue H.told → Leaves unit Anything (H.outside host.old).now (H.outside host.new).now }
         ensures alone { Touches unit (H.outside host.old) (H.outside host.new) }
@@ -104,6 +105,10 @@ impl<P: PageBook> Store<P> {
         ensures nothing_done { IsRefused result → (H.outside host.new).now ≡ (H.outside host.old).now }
         // at each moment a crash leaves the store before the change, or, where the change is not refused, the one after it
         ensures any_moment { IsTrue H.told → (s : PlainStore) → StandsFor self.old.catalog s (image (P.place self.old.book) (H.outside host.old).now) → Leaves (P.place self.old.book) (IsBeforeOrChanged change (blocks_of (image (P.place self.old.book) (H.outside host.old).now)) now s) (H.outside host.old).now (H.outside host.new).now }
+        // what it programs and fetches, whatever the answer, while the bank is not closed and has room for that
+        ensures costs { IsTrue H.told → (s : PlainStore) → StandsFor self.old.catalog s (image (P.place self.old.book) (H.outside host.old).now) → IsOpenFor (most_bytes change (blocks_of (image (P.place self.old.book) (H.outside host.old).now)) now s) (image (P.place self.old.book) (H.outside host.old).now) → Spends (P.place self.old.book) (most_bytes change (blocks_of (image (P.place self.old.book) (H.outside host.old).now)) now s) (512 * pages_of_entry (entry_moved change s)) (H.outside host.old) (H.outside host.new) }
+        // after a change the bank is not closed
+        ensures open_after { IsTrue H.told → OnOk result (IsOpenFor 0 (image (P.place self.old.book) (H.outside host.new).now)) }
         ensures alone { Touches (P.place self.old.book) (H.outside host.old) (H.outside host.new) }
         ensures cause { IfErr result (FaultsAt (P.place self.old.book) (H.outside host.old) (H.outside host.new)) }
     {

@@ -1,8 +1,11 @@
-use Rattle.std.proofs.Common.{◌≡◌, ◌≢◌, ◌%◌, ℕ, Option, Some, None, IsSome, sym, ◌∙◌, ap, subst, arith}
+use Rattle.std.proofs.Common.{◌≡◌, ◌≢◌, ◌+◌, ◌%◌, ℕ, List, length, sum_by, refl, Option, Some, None, IsSome, sym, ◌∙◌, ap, subst, arith}
 use Rattle.newt_image.specs.Objects.{Extent}
-use Rattle.newt_objects.specs.Held.{held}
+use Rattle.newt_objects.specs.Held.{Held, held}
 use Rattle.newt_objects.proofs.Changing.{start_unplanned}
-use Rattle.newt_shelf.proofs.Planning.{written}
+use Rattle.newt_objects.specs.Extents.{numbers_of}
+use Rattle.newt_image.specs.Objects.{pages_for}
+use Rattle.newt_shelf.specs.Batch.{pages_held, all_pages_held, new_pages}
+use Rattle.newt_shelf.proofs.Planning.{written, adds-also, adds-as}
 use Rattle.newt_shelf.proofs.batch.plan_objects.Goals as goal
 
 not_zero : (n : ℕ) → n % 2 ≡ 1 → n ≢ 0
@@ -12,6 +15,10 @@ not_zero n odd same = absurd (let no : 0 % 2 ≡ 1 = ap (λ (k : ℕ). k % 2) (s
 not_free : (o : Option Extent) → o ≡ None → IsSome o → ⊥
 not_free None none some = absurd (let no = some in cc)
 not_free (Some x) none some = absurd (cc)
+
+-- the same objects have as many pages
+as-held : (old new : Held) (ids : List ℕ) → ((id : ℕ) → held new id ≡ held old id) → all_pages_held new ids ≡ all_pages_held old ids
+as-held old new ids same = λ i. sum_by (λ id. length (numbers_of (same id i))) ids
 
 pub plan_object-requires-clause-no_plan : goal.plan_object-requires-clause-no_plan
 plan_object-requires-clause-no_plan c = start_unplanned c.args.objects.now 0 c.requires.none
@@ -49,3 +56,18 @@ returns-clause-way c = λ live texts w.
           (λ e is. not_zero e.id (c.requires.odd e is)) (λ k id at. not_zero id (c.requires.gone_odd k id at))
           (λ e k is at. not_free (held c.args.objects.now e.id) (c.requires.free e is) (c.requires.there k e.id at)),
     )
+
+pub plan_entry-requires-clause-free : goal.plan_entry-requires-clause-free
+plan_entry-requires-clause-free c = λ e is. c.plan_object.ensures.held e.id ∙ c.requires.free e is
+
+pub returns-clause-pages : goal.returns-clause-pages
+returns-clause-pages c =
+    let there : all_pages_held c.plan_entry.new.objects c.args.gone.now ≡ all_pages_held c.args.objects.now c.args.gone.now = as-held c.args.objects.now c.plan_entry.new.objects c.args.gone.now (λ id. c.plan_entry.ensures.held id ∙ c.plan_object.ensures.held id) in
+    let first = adds-also _ _ _ _ _ _ _ c.in_ok-plan_object.ensures.pages c.in_ok-plan_entry.ensures.pages in
+    let all = adds-also _ _ _ _ _ _ _ first c.in_ok-plan_gone.ensures.pages in
+    adds-as _ _ _ _ _ _ (none (pages_for (length c.args.directory.now)) (new_pages c.args.entry.now)) (some (pages_held c.args.objects.now 0) _ _ there) all where
+      none : (a b : ℕ) → a + b + 0 ≡ a + b
+      none a b = omega arith
+
+      some : (a b d : ℕ) → b ≡ d → a + 0 + b ≡ a + d
+      some a b d same = omega (arith, same)

@@ -3,9 +3,10 @@ use Rattle.std.proofs.Common.{Result, Err}
 use Rattle.std.specs.FinSet as set
 use Rattle.newt_pagebook.specs.declared.book.CommitFault.{CommitFault}
 use Rattle.newt_pagebook.specs.declared.book.CommitFault.TheVariants.{Full}
+use Rattle.newt_host.specs.Outside.{Spends}
 use Rattle.newt_host.specs.Moments.{Moment, image, changes, IsHistory, IsDurable, Leaves}
 use Rattle.newt_image.specs.Pages.{cap}
-use Rattle.newt_pagebook.specs.Book.{Numbers, changed_numbers, ReadsChanged, IsBeforeOrAfter}
+use Rattle.newt_pagebook.specs.Book.{Numbers, changed_numbers, ReadsChanged, IsBeforeOrAfter, IsOpenFor}
 use Rattle.newt_shelf.specs.Commit.{IsEither}
 use Rattle.newt_shelf.proofs.Committing.{planned-fits, planned-full, leaves-either, leaves-nothing, holds-after, kept-after, kept-still, some-card}
 use Rattle.newt_shelf.proofs.commit.commit_plans.Goals as goal
@@ -67,6 +68,9 @@ the-full is full = is ∙ ap (λ (f : CommitFault). let r : Result (Unit {0}) Co
 
 not-above : (a b x y : ℕ) → a ≡ b → x ≡ y → (x < a → ⊥) → b ≤ y
 not-above a b x y e f none = omega (arith, e, f, none)
+
+both-ways : (a b : ℕ) → a ≤ b → b < a → ⊥
+both-ways a b low more = absurd (omega (arith, low, more))
 
 is-above : (a b x y : ℕ) → a ≡ b → x ≡ y → x < a → y < b
 is-above a b x y e f more = omega (arith, e, f, more)
@@ -159,3 +163,40 @@ returns-in-Err-Full-clause-any_moment g c = λ tells before after p.
     let durable : IsDurable u old = (g.met.P.PageBook.tells g.H.Host.told c.args.book.now (g.H.Host.outside c.args.host.now) c.requires.stands tells).1 in
     subst (λ (m : Moment). Leaves u (IsEither (image u old) before after) old m) (sym (c.commit.ensures.nothing_done (the-full c.in-Err-Full.is c.in-Err-Full.field-0-is)).0)
     (leaves-nothing g.H.Host.told c.args.objects.now c.args.batch.now (g.P.PageBook.numbers c.args.book.now) (image u old) before after tells c.puts.ensures.sound p u old refl durable)
+
+pub returns-in-Ok-commit-clause-too_many : goal.returns-in-Ok-commit-clause-too_many
+returns-in-Ok-commit-clause-too_many g c = λ tells before after p more.
+    let o = g.H.Host.outside in
+    let u : ℕ = g.P.PageBook.place c.args.book.now in
+    let batch = c.args.batch.now in
+    let same = c.in_ok-reserve.ensures.same in
+    let e = c.in-Ok-commit.ensures in
+    let numbers : Numbers = g.P.PageBook.numbers c.args.book.now in
+    let blocks : ℕ = (o c.args.host.now).blocks u in
+    let count : set.len (changed_numbers batch (g.P.PageBook.numbers c.reserve.new.self)) ≡ set.len (changed_numbers batch numbers) = ap (λ (n : Numbers). set.len (changed_numbers batch n)) same.1 in
+    let room : cap ((o c.args.host.now).blocks (g.P.PageBook.place c.reserve.new.self)) ≡ cap blocks = ap (λ (v : ℕ). cap ((o c.args.host.now).blocks v)) same.0 in
+    let low : set.len (changed_numbers batch numbers) ≤ cap blocks = not-above _ _ _ _ count room (λ more. absurd (let no = e.fits more in cc)) in
+    absurd (both-ways _ _ (planned-fits g.H.Host.told c.args.objects.now batch numbers (image u (o c.args.host.now).now) before after tells c.puts.ensures.sound p blocks (g.met.H.Host.sized c.args.host.now u tells) low) more)
+
+pub returns-in-Err-Device-clause-too_many : goal.returns-in-Err-Device-clause-too_many
+returns-in-Err-Device-clause-too_many g c = λ tells before after p more.
+    let o = g.H.Host.outside in
+    let u : ℕ = g.P.PageBook.place c.args.book.now in
+    let batch = c.args.batch.now in
+    let same = c.in_ok-reserve.ensures.same in
+    let e = c.in-Err-Device.ensures in
+    let numbers : Numbers = g.P.PageBook.numbers c.args.book.now in
+    let blocks : ℕ = (o c.args.host.now).blocks u in
+    let count : set.len (changed_numbers batch (g.P.PageBook.numbers c.reserve.new.self)) ≡ set.len (changed_numbers batch numbers) = ap (λ (n : Numbers). set.len (changed_numbers batch n)) same.1 in
+    let room : cap ((o c.args.host.now).blocks (g.P.PageBook.place c.reserve.new.self)) ≡ cap blocks = ap (λ (v : ℕ). cap ((o c.args.host.now).blocks v)) same.0 in
+    let low : set.len (changed_numbers batch numbers) ≤ cap blocks = not-above _ _ _ _ count room (λ more. absurd (let no = e.fits more in cc)) in
+    absurd (both-ways _ _ (planned-fits g.H.Host.told c.args.objects.now batch numbers (image u (o c.args.host.now).now) before after tells c.puts.ensures.sound p blocks (g.met.H.Host.sized c.args.host.now u tells) low) more)
+
+pub returns-in-Err-Full-clause-too_many : goal.returns-in-Err-Full-clause-too_many
+returns-in-Err-Full-clause-too_many g c = λ tells before after p more.
+    let o = g.H.Host.outside in
+    subst (λ (v : ℕ). Spends v 0 0 (o c.args.host.now) (o c.commit.new.host)) c.in_ok-reserve.ensures.same.0 (c.commit.ensures.nothing_done (the-full c.in-Err-Full.is c.in-Err-Full.field-0-is)).1
+
+pub returns-in-Ok-commit-clause-open_after : goal.returns-in-Ok-commit-clause-open_after
+returns-in-Ok-commit-clause-open_after g c = λ tells.
+    subst (λ (v : ℕ). IsOpenFor 0 (image v (g.H.Host.outside c.commit.new.host).now)) c.in_ok-reserve.ensures.same.0 (c.in-Ok-commit.ensures.open_after tells)

@@ -1,5 +1,7 @@
 use Rattle.std.proofs.Common.{◌≡◌, ◌*◌, ◌≤◌, ◌<◌, ℕ, List, length, slice_get, IsSome, sym, ◌∙◌, ap, subst, Option}
 use Rattle.newt_host.specs.Moments.{image}
+use Rattle.newt_host.specs.Outside.{Spends}
+use Rattle.newt_pagebook.specs.Book.{IsOpenFor}
 use Rattle.newt_image.specs.Pages.{cap}
 use Rattle.newt_objects.specs.Held.{held}
 use Rattle.newt_spec_store.specs.Cost.{cost}
@@ -9,7 +11,9 @@ use Rattle.newt_shelf.specs.Places.{place_of}
 use Rattle.newt_shelf.specs.Batch.{AreOnce}
 use Rattle.newt_image.specs.Objects.{Extent}
 use Rattle.newt_store.specs.Stands.{Describes}
-use Rattle.newt_store.proofs.Writing.{full-refused, goes-refused, the-fault}
+use Rattle.newt_store.specs.Next.{next_bytes, turn_bytes}
+use Rattle.newt_store.proofs.Going.{bytes-turn}
+use Rattle.newt_store.proofs.Writing.{spends-nothing, full-refused, goes-refused, the-fault}
 use Rattle.newt_store.proofs.Reading.{same-cap}
 use Rattle.newt_store.proofs.Carrying.{AreGone, table-next, sound-next, sound-fewer, fewer-back, same-back, described-by, cost-after, leaves-store, leaves-same}
 use Rattle.newt_store.proofs.carry.carry_out.Goals as goal
@@ -142,3 +146,59 @@ returns-in-Err-clause-any_moment g c = λ tells s t stands turns.
     let u : ℕ = g.P.PageBook.place c.args.book.now in
     let now : List ℕ = image u (o c.args.host.now).now in
     leaves-store c.args.catalog.now c.args.next ids gone s t now stands turns (turns.stays stands.texts stands.describes) u (o c.args.host.now).now (o c.write_next.new.host).now (c.write_next.ensures.any_moment tells stands.texts stands.holds)
+
+pub returns-in_err-gone-clause-bound : goal.returns-in_err-gone-clause-bound
+returns-in_err-gone-clause-bound g c = λ tells s t stands turns room. spends-nothing (g.P.PageBook.place c.args.book.now) (turn_bytes c.args.next s t) 0 (g.H.Host.outside c.args.host.now)
+
+pub returns-in_err-gone-clause-too_many : goal.returns-in_err-gone-clause-too_many
+returns-in_err-gone-clause-too_many g c = λ tells s t stands turns more. spends-nothing (g.P.PageBook.place c.args.book.now) 0 0 (g.H.Host.outside c.args.host.now)
+
+pub returns-in_err-keep_new-clause-bound : goal.returns-in_err-keep_new-clause-bound
+returns-in_err-keep_new-clause-bound g c = λ tells s t stands turns room. spends-nothing (g.P.PageBook.place c.args.book.now) (turn_bytes c.args.next s t) 0 (g.H.Host.outside c.args.host.now)
+
+pub returns-in_err-keep_new-clause-too_many : goal.returns-in_err-keep_new-clause-too_many
+returns-in_err-keep_new-clause-too_many g c = λ tells s t stands turns more. spends-nothing (g.P.PageBook.place c.args.book.now) 0 0 (g.H.Host.outside c.args.host.now)
+
+pub returns-in-Ok-clause-bound : goal.returns-in-Ok-clause-bound
+returns-in-Ok-clause-bound g c = λ tells s t stands turns room.
+    let cat = c.args.catalog.now in
+    let old : Places = place_of cat.places in
+    let ids : List ℕ = c.deref.result.now in
+    let gone : AreGone old c.args.next.gone ids = subst (λ (l : List ℕ). AreGone old c.args.next.gone l) (sym c.deref.ensures.value) (record { real = c.in_ok-gone.ensures.real; all = c.in_ok-gone.ensures.all }) in
+    let once : AreOnce ids = subst (λ (l : List ℕ). AreOnce l) (sym c.deref.ensures.value) c.in_ok-gone.ensures.once in
+    let o = g.H.Host.outside in
+    let u : ℕ = g.P.PageBook.place c.args.book.now in
+    let size : next_bytes c.args.next cat.objects ids ≡ turn_bytes c.args.next s t =
+    bytes-turn g.H.Host.told cat (g.P.PageBook.numbers c.args.book.now) u (o c.args.host.now) c.requires.sound.kept c.requires.sound.places tells s stands c.args.next ids t once gone turns in
+    subst (λ (n : ℕ). Spends u n 0 (o c.args.host.now) (o c.write_next.new.host)) size (c.write_next.ensures.bound tells (subst (λ (n : ℕ). IsOpenFor n (image u (o c.args.host.now).now)) (sym size) room))
+
+pub returns-in-Ok-clause-too_many : goal.returns-in-Ok-clause-too_many
+returns-in-Ok-clause-too_many g c = λ tells s t stands turns more.
+    let old : Places = place_of c.args.catalog.now.places in
+    let ids : List ℕ = c.deref.result.now in
+    let gone : AreGone old c.args.next.gone ids = subst (λ (l : List ℕ). AreGone old c.args.next.gone l) (sym c.deref.ensures.value) (record { real = c.in_ok-gone.ensures.real; all = c.in_ok-gone.ensures.all }) in
+    let now : List ℕ = image (g.P.PageBook.place c.args.book.now) (g.H.Host.outside c.args.host.now).now in
+    c.write_next.ensures.too_many tells stands.texts stands.holds (λ after wrote.
+    subst (λ (n : ℕ). cap (blocks_of now) < n) (sym (cost-after c.args.catalog.now c.args.next ids gone s t now stands turns (turns.stays stands.texts stands.describes) after wrote)) more)
+
+pub returns-in-Err-clause-bound : goal.returns-in-Err-clause-bound
+returns-in-Err-clause-bound g c = λ tells s t stands turns room.
+    let cat = c.args.catalog.now in
+    let old : Places = place_of cat.places in
+    let ids : List ℕ = c.deref.result.now in
+    let gone : AreGone old c.args.next.gone ids = subst (λ (l : List ℕ). AreGone old c.args.next.gone l) (sym c.deref.ensures.value) (record { real = c.in_ok-gone.ensures.real; all = c.in_ok-gone.ensures.all }) in
+    let once : AreOnce ids = subst (λ (l : List ℕ). AreOnce l) (sym c.deref.ensures.value) c.in_ok-gone.ensures.once in
+    let o = g.H.Host.outside in
+    let u : ℕ = g.P.PageBook.place c.args.book.now in
+    let size : next_bytes c.args.next cat.objects ids ≡ turn_bytes c.args.next s t =
+    bytes-turn g.H.Host.told cat (g.P.PageBook.numbers c.args.book.now) u (o c.args.host.now) c.requires.sound.kept c.requires.sound.places tells s stands c.args.next ids t once gone turns in
+    subst (λ (n : ℕ). Spends u n 0 (o c.args.host.now) (o c.write_next.new.host)) size (c.write_next.ensures.bound tells (subst (λ (n : ℕ). IsOpenFor n (image u (o c.args.host.now).now)) (sym size) room))
+
+pub returns-in-Err-clause-too_many : goal.returns-in-Err-clause-too_many
+returns-in-Err-clause-too_many g c = λ tells s t stands turns more.
+    let old : Places = place_of c.args.catalog.now.places in
+    let ids : List ℕ = c.deref.result.now in
+    let gone : AreGone old c.args.next.gone ids = subst (λ (l : List ℕ). AreGone old c.args.next.gone l) (sym c.deref.ensures.value) (record { real = c.in_ok-gone.ensures.real; all = c.in_ok-gone.ensures.all }) in
+    let now : List ℕ = image (g.P.PageBook.place c.args.book.now) (g.H.Host.outside c.args.host.now).now in
+    c.write_next.ensures.too_many tells stands.texts stands.holds (λ after wrote.
+    subst (λ (n : ℕ). cap (blocks_of now) < n) (sym (cost-after c.args.catalog.now c.args.next ids gone s t now stands turns (turns.stays stands.texts stands.describes) after wrote)) more)

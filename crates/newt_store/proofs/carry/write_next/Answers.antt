@@ -1,5 +1,7 @@
-use Rattle.std.proofs.Common.{ℕ, List, IsSome, sym, ◌∙◌, subst, Option}
+use Rattle.std.proofs.Common.{◌≡◌, ℕ, List, IsSome, sym, ◌∙◌, subst, Option}
 use Rattle.newt_host.specs.Moments.{Moment, image, IsDurable}
+use Rattle.newt_host.specs.Outside.{Spends}
+use Rattle.newt_pagebook.specs.Book.{IsOpenFor, batch_bytes}
 use Rattle.newt_image.specs.Objects.{Extent}
 use Rattle.newt_image.specs.Pages.{Change}
 use Rattle.newt_objects.specs.Held.{held}
@@ -7,8 +9,8 @@ use Rattle.newt_objects.specs.Changing.{IsUnderWay}
 use Rattle.newt_objects.proofs.TextsOf.{texts_of}
 use Rattle.newt_shelf.specs.Batch.{AreWritten}
 use Rattle.newt_shelf.specs.Commit.{AreKept}
-use Rattle.newt_store.specs.Next.{WritesNext}
-use Rattle.newt_store.proofs.Writing.{full-goes-on, the-fault, held-are, start-way, planned-made, planned-new, planned-there, leaves-next, leaves-none}
+use Rattle.newt_store.specs.Next.{WritesNext, next_bytes}
+use Rattle.newt_store.proofs.Writing.{spends-nothing, bytes-planned, full-goes-on, the-fault, held-are, start-way, planned-made, planned-new, planned-there, leaves-next, leaves-none}
 use Rattle.newt_store.proofs.carry.write_next.Goals as goal
 
 pub returns-in_err-bytes-clause-any_moment : goal.returns-in_err-bytes-clause-any_moment
@@ -135,3 +137,57 @@ returns-clause-any_moment g c = λ tells before holds.
     let p = planned-made g.H.Host.told c.args.objects.now n u o k c.plan_objects.new.objects c.plan_objects.new.batch before made.0 are made.1 in
     let wrote : WritesNext c.args.next.now c.args.gone.now before made.0 = subst (λ (l : List ℕ). AreWritten l c.args.next.now.entry c.args.gone.now before made.0) (c.deref.ensures.value ∙ c.in_ok-bytes.ensures) made.2 in
     leaves-next u (image u o.now) c.args.next.now c.args.gone.now before made.0 o.now (g.H.Host.outside c.commit_plans.new.host).now wrote (c.commit_plans.ensures.any_moment tells before made.0 p)
+
+pub returns-in_err-bytes-clause-bound : goal.returns-in_err-bytes-clause-bound
+returns-in_err-bytes-clause-bound g c = λ tells room. spends-nothing (g.P.PageBook.place c.args.book.now) (next_bytes c.args.next.now c.args.objects.now c.args.gone.now) 0 (g.H.Host.outside c.args.host.now)
+
+pub returns-in_err-bytes-clause-too_many : goal.returns-in_err-bytes-clause-too_many
+returns-in_err-bytes-clause-too_many g c = λ tells before holds each. spends-nothing (g.P.PageBook.place c.args.book.now) 0 0 (g.H.Host.outside c.args.host.now)
+
+pub returns-in_err-plan_objects-clause-bound : goal.returns-in_err-plan_objects-clause-bound
+returns-in_err-plan_objects-clause-bound g c = λ tells room. spends-nothing (g.P.PageBook.place c.args.book.now) (next_bytes c.args.next.now c.args.objects.now c.args.gone.now) 0 (g.H.Host.outside c.args.host.now)
+
+pub returns-in_err-plan_objects-clause-too_many : goal.returns-in_err-plan_objects-clause-too_many
+returns-in_err-plan_objects-clause-too_many g c = λ tells before holds each. spends-nothing (g.P.PageBook.place c.args.book.now) 0 0 (g.H.Host.outside c.args.host.now)
+
+pub returns-in-Ok-clause-bound : goal.returns-in-Ok-clause-bound
+returns-in-Ok-clause-bound g c = λ tells room.
+    let o = g.H.Host.outside in
+    let u : ℕ = g.P.PageBook.place c.args.book.now in
+    let size : batch_bytes c.plan_objects.new.batch ≡ next_bytes c.args.next.now c.args.objects.now c.args.gone.now =
+    bytes-planned c.args.next.now c.args.objects.now c.args.gone.now c.deref.result.now c.new-batch.result c.plan_objects.new.batch c.new-batch.ensures (c.deref.ensures.value ∙ c.in_ok-bytes.ensures) c.in_ok-plan_objects.ensures.pages in
+    subst (λ (n : ℕ). Spends u n 0 (o c.args.host.now) (o c.commit_plans.new.host)) size (c.commit_plans.ensures.bound tells (subst (λ (n : ℕ). IsOpenFor n (image u (o c.args.host.now).now)) (sym size) room))
+
+pub returns-in-Ok-clause-too_many : goal.returns-in-Ok-clause-too_many
+returns-in-Ok-clause-too_many g c = λ tells before holds each.
+    let k = c.requires.kept in
+    let o = g.H.Host.outside c.args.host.now in
+    let u : ℕ = g.P.PageBook.place c.args.book.now in
+    let n = g.P.PageBook.numbers c.args.book.now in
+    let are = held-are g.H.Host.told c.args.objects.now n u o k before tells holds in
+    let start = start-way g.H.Host.told c.args.objects.now n u o k before are in
+    let made = c.in_ok-plan_objects.ensures.way k.are.live before (subst (λ (b : Change). IsUnderWay c.args.objects.now b k.are.live before) (sym c.new-batch.ensures) start) in
+    let p = planned-made g.H.Host.told c.args.objects.now n u o k c.plan_objects.new.objects c.plan_objects.new.batch before made.0 are made.1 in
+    let wrote : WritesNext c.args.next.now c.args.gone.now before made.0 = subst (λ (l : List ℕ). AreWritten l c.args.next.now.entry c.args.gone.now before made.0) (c.deref.ensures.value ∙ c.in_ok-bytes.ensures) made.2 in
+    c.commit_plans.ensures.too_many tells before made.0 p (each made.0 wrote)
+
+pub returns-clause-bound : goal.returns-clause-bound
+returns-clause-bound g c = λ tells room.
+    let o = g.H.Host.outside in
+    let u : ℕ = g.P.PageBook.place c.args.book.now in
+    let size : batch_bytes c.plan_objects.new.batch ≡ next_bytes c.args.next.now c.args.objects.now c.args.gone.now =
+    bytes-planned c.args.next.now c.args.objects.now c.args.gone.now c.deref.result.now c.new-batch.result c.plan_objects.new.batch c.new-batch.ensures (c.deref.ensures.value ∙ c.in_ok-bytes.ensures) c.in_ok-plan_objects.ensures.pages in
+    subst (λ (n : ℕ). Spends u n 0 (o c.args.host.now) (o c.commit_plans.new.host)) size (c.commit_plans.ensures.bound tells (subst (λ (n : ℕ). IsOpenFor n (image u (o c.args.host.now).now)) (sym size) room))
+
+pub returns-clause-too_many : goal.returns-clause-too_many
+returns-clause-too_many g c = λ tells before holds each.
+    let k = c.requires.kept in
+    let o = g.H.Host.outside c.args.host.now in
+    let u : ℕ = g.P.PageBook.place c.args.book.now in
+    let n = g.P.PageBook.numbers c.args.book.now in
+    let are = held-are g.H.Host.told c.args.objects.now n u o k before tells holds in
+    let start = start-way g.H.Host.told c.args.objects.now n u o k before are in
+    let made = c.in_ok-plan_objects.ensures.way k.are.live before (subst (λ (b : Change). IsUnderWay c.args.objects.now b k.are.live before) (sym c.new-batch.ensures) start) in
+    let p = planned-made g.H.Host.told c.args.objects.now n u o k c.plan_objects.new.objects c.plan_objects.new.batch before made.0 are made.1 in
+    let wrote : WritesNext c.args.next.now c.args.gone.now before made.0 = subst (λ (l : List ℕ). AreWritten l c.args.next.now.entry c.args.gone.now before made.0) (c.deref.ensures.value ∙ c.in_ok-bytes.ensures) made.2 in
+    c.commit_plans.ensures.too_many tells before made.0 p (each made.0 wrote)

@@ -32,3 +32,6 @@ returns-in-Ok-clause-formatted g c = λ tells.
     let blocks : blocks_of img ≡ (g.H.Host.outside c.args.host.now).blocks c.args.unit = blocks-are img ((g.H.Host.outside c.format.new.host).blocks c.args.unit) (g.met.H.Host.sized c.format.new.host c.args.unit tells) ∙ c.format.ensures.alone.cards.blocks c.args.unit in
     let many : 13 ≤ blocks_of img = omega (arith, blocks, c.requires.enough) in
     fresh-read c.args.name.now c.args.sig c.deref.result.now img c.new_directory.ensures.named (short-name c.args.name.now c.new_directory.ensures.named) c.requires.few many bytes holds
+
+pub returns-in-Ok-clause-open_after : goal.returns-in-Ok-clause-open_after
+returns-in-Ok-clause-open_after g c = λ tells. (c.in-Ok.ensures.formatted tells).0.blank

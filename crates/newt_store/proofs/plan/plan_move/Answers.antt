@@ -1,5 +1,9 @@
-use Rattle.std.proofs.Common.{◌≡◌, ℕ, ◌<◌, not, [], Some, sym, ◌∙◌, ap, subst, arith}
+use Rattle.std.proofs.Common.{◌≡◌, ℕ, ◌*◌, ◌<◌, not, [], Some, sym, ◌∙◌, ap, subst, arith}
 use Rattle.std.specs.Option.{is_some}
+use Rattle.newt_host.specs.Outside.{Spends}
+use Rattle.newt_laws_images.proofs.Totals.{record-pages}
+use Rattle.newt_store.specs.Change.{entry_in, pages_of_entry}
+use Rattle.newt_store.proofs.Writing.{spends-nothing}
 use Rattle.newt_graph.specs.Graph.{RawGraph}
 use Rattle.newt_spec_store.specs.Store.{Entry}
 use Rattle.newt_spec_store.specs.Image.{entry_bytes}
@@ -51,3 +55,42 @@ returns-clause-planned g c = λ tells s stands.
     move-planned cat stands.texts s c.args.source c.args.uid c.args.target c.in-Some-get.id c.args.now f.entry row c.in_ok-next.next c.requires.sound.places stands.describes (seen-some _ c.soup_of.result (soup_of c.args.source (bare_store c.args.catalog.now.directory)) c.soup_of.ensures ∙ c.is_none.ensures ∙ ap not c.if-is_none.false) (sym c.in-Some.ensures)
     (row-is (bare_store c.args.catalog.now.directory) c.args.target row (sym c.in-Some.ensures)).0 at f.found f.is_in f.of_uid time f.plain c.if-row-eq-LAST_ID.false (row-room (bare_store c.args.catalog.now.directory) c.args.target (bare_soup row) c.requires.sound.formed (sym c.in-Some.ensures) c.if-row-eq-LAST_ID.false)
     (subst (λ (x : RawGraph). IsAdding cat row.sig row.next_uid c.args.now x (OneEntry c.args.source c.args.uid) c.in_ok-next.next) graph c.in_ok-next.ensures.adds)
+
+pub returns-then-is_none-clause-costs : goal.returns-then-is_none-clause-costs
+returns-then-is_none-clause-costs g c = λ tells s stands. spends-nothing (g.P.PageBook.place c.args.book.now) 0 (512 * pages_of_entry (entry_in c.args.source c.args.uid s)) (g.H.Host.outside c.args.host.now)
+
+pub returns-in_default-clause-costs : goal.returns-in_default-clause-costs
+returns-in_default-clause-costs g c = λ tells s stands. spends-nothing (g.P.PageBook.place c.args.book.now) 0 (512 * pages_of_entry (entry_in c.args.source c.args.uid s)) (g.H.Host.outside c.args.host.now)
+
+pub returns-in_default-get-clause-costs : goal.returns-in_default-get-clause-costs
+returns-in_default-get-clause-costs g c = λ tells s stands. spends-nothing (g.P.PageBook.place c.args.book.now) 0 (512 * pages_of_entry (entry_in c.args.source c.args.uid s)) (g.H.Host.outside c.args.host.now)
+
+pub returns-then-row-eq-LAST_ID-clause-costs : goal.returns-then-row-eq-LAST_ID-clause-costs
+returns-then-row-eq-LAST_ID-clause-costs g c = λ tells s stands. spends-nothing (g.P.PageBook.place c.args.book.now) 0 (512 * pages_of_entry (entry_in c.args.source c.args.uid s)) (g.H.Host.outside c.args.host.now)
+
+pub returns-in_err-entry-clause-costs : goal.returns-in_err-entry-clause-costs
+returns-in_err-entry-clause-costs g c = λ tells s stands.
+    let o = g.H.Host.outside in
+    let cat = c.args.catalog.now in
+    let at : place_of cat.places c.args.source c.args.uid ≡ Some c.in-Some-get.id = sym c.get.ensures ∙ c.in-Some-get.is in
+    let f = found-at cat.directory (place_of cat.places) stands.texts s stands.describes c.args.source c.args.uid c.in-Some-get.id at in
+    subst (λ (n : ℕ). Spends (g.P.PageBook.place c.args.book.now) 0 (512 * n) (o c.args.host.now) (o c.read_row.new.host)) (record-pages c.args.source f.entry f.plain ∙ sym (ap pages_of_entry f.found))
+    (c.read_row.ensures.costs tells stands.texts (entry_bytes c.args.source f.entry []) stands.holds f.text)
+
+pub returns-in_err-next-clause-costs : goal.returns-in_err-next-clause-costs
+returns-in_err-next-clause-costs g c = λ tells s stands.
+    let o = g.H.Host.outside in
+    let cat = c.args.catalog.now in
+    let at : place_of cat.places c.args.source c.args.uid ≡ Some c.in-Some-get.id = sym c.get.ensures ∙ c.in-Some-get.is in
+    let f = found-at cat.directory (place_of cat.places) stands.texts s stands.describes c.args.source c.args.uid c.in-Some-get.id at in
+    subst (λ (n : ℕ). Spends (g.P.PageBook.place c.args.book.now) 0 (512 * n) (o c.args.host.now) (o c.read_row.new.host)) (record-pages c.args.source f.entry f.plain ∙ sym (ap pages_of_entry f.found))
+    (c.read_row.ensures.costs tells stands.texts (entry_bytes c.args.source f.entry []) stands.holds f.text)
+
+pub returns-clause-costs : goal.returns-clause-costs
+returns-clause-costs g c = λ tells s stands.
+    let o = g.H.Host.outside in
+    let cat = c.args.catalog.now in
+    let at : place_of cat.places c.args.source c.args.uid ≡ Some c.in-Some-get.id = sym c.get.ensures ∙ c.in-Some-get.is in
+    let f = found-at cat.directory (place_of cat.places) stands.texts s stands.describes c.args.source c.args.uid c.in-Some-get.id at in
+    subst (λ (n : ℕ). Spends (g.P.PageBook.place c.args.book.now) 0 (512 * n) (o c.args.host.now) (o c.read_row.new.host)) (record-pages c.args.source f.entry f.plain ∙ sym (ap pages_of_entry f.found))
+    (c.read_row.ensures.costs tells stands.texts (entry_bytes c.args.source f.entry []) stands.holds f.text)

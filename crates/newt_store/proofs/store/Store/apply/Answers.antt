@@ -1,4 +1,4 @@
-use Rattle.std.proofs.Common.{◌≡◌, ◌≤◌, ◌<◌, ℕ, List, sym, subst}
+use Rattle.std.proofs.Common.{◌≡◌, ◌*◌, ◌≤◌, ◌<◌, ℕ, List, sym, subst}
 use Rattle.newt_host.specs.Moments.{Moment, image, Leaves}
 use Rattle.newt_image.specs.Pages.{cap}
 use Rattle.newt_spec_store.specs.Cost.{cost}
@@ -7,7 +7,11 @@ use Rattle.newt_spec_store.specs.OfImage.{blocks_of}
 use Rattle.newt_store.specs.Change.{changed_by, refusal_of}
 use Rattle.newt_store.specs.Next.{IsEitherStore}
 use Rattle.newt_store.specs.Stands.{StandsFor, RefusesWith}
-use Rattle.newt_store.proofs.Applying.{none-due, full-due, refuses-full, refuses-first, from-err, sound-over, same-image, leaves-changed, leaves-before}
+use Rattle.newt_host.specs.Outside.{Spends}
+use Rattle.newt_pagebook.specs.Book.{IsOpenFor}
+use Rattle.newt_store.specs.Change.{entry_moved, pages_of_entry, most_bytes}
+use Rattle.newt_store.specs.Next.{turn_bytes}
+use Rattle.newt_store.proofs.Applying.{spends-more, spends-both, none-due, full-due, refuses-full, refuses-first, from-err, sound-over, same-image, leaves-changed, leaves-before}
 use Rattle.newt_store.proofs.store.Store.apply.Goals as goal
 
 pub returns-in_err-next-clause-sound : goal.returns-in_err-next-clause-sound
@@ -123,3 +127,50 @@ returns-in-Err-clause-still g c = λ tells s stands is.
     let t : PlainStore = changed_by c.args.change c.args.now s in
     let plan = c.in_ok-next.ensures.planned tells s stands in
     subst (λ (b : List ℕ). StandsFor c.carry_out.new.catalog s b) e (c.in-Err.ensures.still is tells s t stands' plan.turns)
+
+pub returns-in_err-next-clause-costs : goal.returns-in_err-next-clause-costs
+returns-in_err-next-clause-costs g c = λ tells s stands room.
+    let o = g.H.Host.outside in
+    let u : ℕ = g.P.PageBook.place c.args.self.now.book in
+    spends-more u (most_bytes c.args.change (blocks_of (image u (o c.args.host.now).now)) c.args.now s) (512 * pages_of_entry (entry_moved c.args.change s)) (o c.args.host.now) (o c.plan_change.new.host) (c.plan_change.ensures.costs tells s stands)
+
+pub returns-in-Ok-clause-costs : goal.returns-in-Ok-clause-costs
+returns-in-Ok-clause-costs g c = λ tells s stands room.
+    let o = g.H.Host.outside in
+    let u : ℕ = g.P.PageBook.place c.args.self.now.book in
+    let u' : ℕ = g.P.PageBook.place c.plan_change.new.book in
+    let m : Moment = (o c.args.host.now).now in
+    let m' : Moment = (o c.plan_change.new.host).now in
+    let e : image u' m' ≡ image u m = same-image u u' m m' c.plan_change.ensures.same.0 c.plan_change.ensures.moment in
+    let cat = c.args.self.now.catalog in
+    let stands' : StandsFor cat s (image u' m') = subst (λ (b : List ℕ). StandsFor cat s b) (sym e) stands in
+    let t : PlainStore = changed_by c.args.change c.args.now s in
+    let plan = c.in_ok-next.ensures.planned tells s stands in
+    spends-both cat c.args.change c.args.now s c.in_ok-next.next (image u m) u (512 * pages_of_entry (entry_moved c.args.change s)) (o c.args.host.now) (o c.plan_change.new.host) (o c.carry_out.new.host) plan (c.plan_change.ensures.costs tells s stands)
+    (λ room-for. subst (λ (v : ℕ). Spends v (turn_bytes c.in_ok-next.next s t) 0 (o c.plan_change.new.host) (o c.carry_out.new.host)) c.plan_change.ensures.same.0
+    (c.carry_out.ensures.bound tells s t stands' plan.turns (subst (λ (b : List ℕ). IsOpenFor (turn_bytes c.in_ok-next.next s t) b) (sym e) room-for)))
+    (λ more. subst (λ (v : ℕ). Spends v 0 0 (o c.plan_change.new.host) (o c.carry_out.new.host)) c.plan_change.ensures.same.0
+    (c.carry_out.ensures.too_many tells s t stands' plan.turns (subst (λ (b : List ℕ). cap (blocks_of b) < cost t) (sym e) more)))
+    room
+
+pub returns-in-Err-clause-costs : goal.returns-in-Err-clause-costs
+returns-in-Err-clause-costs g c = λ tells s stands room.
+    let o = g.H.Host.outside in
+    let u : ℕ = g.P.PageBook.place c.args.self.now.book in
+    let u' : ℕ = g.P.PageBook.place c.plan_change.new.book in
+    let m : Moment = (o c.args.host.now).now in
+    let m' : Moment = (o c.plan_change.new.host).now in
+    let e : image u' m' ≡ image u m = same-image u u' m m' c.plan_change.ensures.same.0 c.plan_change.ensures.moment in
+    let cat = c.args.self.now.catalog in
+    let stands' : StandsFor cat s (image u' m') = subst (λ (b : List ℕ). StandsFor cat s b) (sym e) stands in
+    let t : PlainStore = changed_by c.args.change c.args.now s in
+    let plan = c.in_ok-next.ensures.planned tells s stands in
+    spends-both cat c.args.change c.args.now s c.in_ok-next.next (image u m) u (512 * pages_of_entry (entry_moved c.args.change s)) (o c.args.host.now) (o c.plan_change.new.host) (o c.carry_out.new.host) plan (c.plan_change.ensures.costs tells s stands)
+    (λ room-for. subst (λ (v : ℕ). Spends v (turn_bytes c.in_ok-next.next s t) 0 (o c.plan_change.new.host) (o c.carry_out.new.host)) c.plan_change.ensures.same.0
+    (c.carry_out.ensures.bound tells s t stands' plan.turns (subst (λ (b : List ℕ). IsOpenFor (turn_bytes c.in_ok-next.next s t) b) (sym e) room-for)))
+    (λ more. subst (λ (v : ℕ). Spends v 0 0 (o c.plan_change.new.host) (o c.carry_out.new.host)) c.plan_change.ensures.same.0
+    (c.carry_out.ensures.too_many tells s t stands' plan.turns (subst (λ (b : List ℕ). cap (blocks_of b) < cost t) (sym e) more)))
+    room
+
+pub returns-in-Ok-clause-open_after : goal.returns-in-Ok-clause-open_after
+returns-in-Ok-clause-open_after g c = λ tells. subst (λ (v : ℕ). IsOpenFor 0 (image v (g.H.Host.outside c.carry_out.new.host).now)) c.plan_change.ensures.same.0 (c.in-Ok.ensures.open_after tells)

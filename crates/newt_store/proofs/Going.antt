@@ -1,0 +1,200 @@
+-- How many pages the objects have that go.
+use Rattle.std.proofs.Common.{IsTrue, ◌≡◌, inl, inr, ℕ, ◌+◌, ◌*◌, ◌<◌, ◌||◌, Bool, true, false, List, [], ◌∷◌, map as map_list, length, slice_get, sum_by, Option, Some, None, refl, sym, ◌∙◌, ap, arith}
+use Rattle.std.specs.List.{IsDistinct, AllByRecursion}
+use Rattle.std.specs.Option.{option_and_then, unwrap_or}
+use Rattle.std.specs.Set.{is_member}
+use Rattle.std.proofs.lemmas.List.Sums.{sum_by-cons}
+use Rattle.newt_host.specs.Moments.{image}
+use Rattle.newt_host.specs.Outside.{Outside}
+use Rattle.newt_image.specs.Objects.{pages_for}
+use Rattle.newt_pagebook.specs.Book.{Numbers}
+use Rattle.newt_pagebook.proofs.Tests.{is_same, equal_true, equal_false}
+use Rattle.newt_objects.specs.Held.{held}
+use Rattle.newt_spec_graph.specs.Lists.{Each, Pairs, Among}
+use Rattle.newt_spec_graph.proofs.Lists.{each-at, each-from, rises-pairs, pairs-map}
+use Rattle.newt_spec_store.specs.Cost.{directory_bytes, entry_pages}
+use Rattle.newt_spec_store.specs.Image.{entry_bytes}
+use Rattle.newt_spec_store.specs.Lies.{Places, IsIn}
+use Rattle.newt_spec_store.specs.Store.{Entry, Soup, Store, entry_of}
+use Rattle.newt_laws_images.proofs.Totals.{record-pages}
+use Rattle.newt_laws_changes.proofs.Chosen.{soup-there, soup-good}
+use Rattle.newt_laws_changes.proofs.Members.{in-one, one-in}
+use Rattle.newt_soupdir.specs.Bare.{bare_store}
+use Rattle.newt_soupdir.specs.Changes.{soup_of}
+use Rattle.newt_shelf.specs.Batch.{AreOnce, pages_held, all_pages_held, new_pages}
+use Rattle.newt_shelf.specs.Commit.{AreKept}
+use Rattle.newt_shelf.specs.Places.{place_of, AreSoundPlaces}
+use Rattle.newt_store.specs.declared.catalog.Catalog.{Catalog}
+use Rattle.newt_store.specs.declared.next.Gone.{Gone}
+use Rattle.newt_store.specs.declared.next.Gone.TheVariants.{Nothing, OneEntry, AllOf}
+use Rattle.newt_store.specs.declared.next.Next.{Next}
+use Rattle.newt_store.specs.Change.{entry_in, pages_of_entry, pages_of_soup, directory_pages}
+use Rattle.newt_store.specs.Next.{Goes, Turns, goes_pages, next_bytes, turn_bytes}
+use Rattle.newt_store.specs.Stands.{StandsFor}
+use Rattle.newt_store.proofs.Carrying.{AreGone}
+use Rattle.newt_store.proofs.Entries.{plain-in}
+use Rattle.newt_store.proofs.Found.{placed-entry, entry-placed}
+use Rattle.newt_store.proofs.Rows.{pages-are}
+use Rattle.newt_store.proofs.Sums.{same_number, member-at, at-member, once-distinct, sums-agree}
+use Rattle.newt_store.proofs.Turning.{bytes-of}
+
+no-more : (n : ℕ) → n + 0 ≡ n
+no-more n = omega arith
+
+-- ---- objects and entries, by their places
+
+module _ (place : Places) (weigh : ℕ → ℕ) (sig : ℕ) (apart : (u v id : ℕ) → place sig u ≡ Some id → place sig v ≡ Some id → u ≡ v) where
+  -- the entry has a place, and the object there has as many pages
+  pub record IsWeighed (e : Entry) : Type 0 where
+    pub id : ℕ
+    pub at : place sig e.uid ≡ Some id
+    pub pages : weigh id ≡ entry_pages e
+
+  abbrev id_of : Entry → ℕ
+  id_of e = unwrap_or (place sig e.uid) 0
+
+  abbrev ids_of : List Entry → List ℕ
+  ids_of es = map_list id_of es
+
+  the-id : (e : Entry) (id : ℕ) → place sig e.uid ≡ Some id → id_of e ≡ id
+  the-id e id at = ap (λ (o : Option ℕ). unwrap_or o 0) at
+
+  weighed : (es : List Entry) → Each IsWeighed es → sum_by weigh (ids_of es) ≡ sum_by entry_pages es
+  weighed [] each = refl
+  weighed (e ∷ es) each =
+      sum_by-cons weigh (id_of e) (ids_of es) ∙ ap (λ (n : ℕ). weigh n + sum_by weigh (ids_of es)) (the-id e each.0.id each.0.at) ∙ ap (λ (n : ℕ). n + sum_by weigh (ids_of es)) each.0.pages
+      ∙ ap (λ (n : ℕ). entry_pages e + n) (weighed es each.1) ∙ sym (sum_by-cons entry_pages e es)
+
+  later-ids : (e : Entry) (es : List Entry) → IsWeighed e → Each IsWeighed es → Each (λ (f : Entry). e.uid < f.uid) es → AllByRecursion (λ i. same_number (id_of e) i ≡ false) (ids_of es)
+  later-ids e [] one each less = tt
+  later-ids e (f ∷ es) one each less = (
+    equal_false (id_of e) (id_of f) (λ same. absurd (
+    let is : one.id ≡ each.0.id = sym (the-id e one.id one.at) ∙ same ∙ the-id f each.0.id each.0.at in
+    let uids : e.uid ≡ f.uid = apart e.uid f.uid one.id one.at (each.0.at ∙ ap Some (sym is)) in
+    omega (arith, uids, less.0))),
+    later-ids e es one each.1 less.1,
+  )
+
+  ids-distinct : (es : List Entry) → Each IsWeighed es → Pairs (λ (e f : Entry). e.uid < f.uid) es → IsDistinct same_number (ids_of es)
+  unfolding IsDistinct
+  ids-distinct [] each rising = tt
+  ids-distinct (e ∷ es) each rising = (later-ids e es each.0 each.1 rising.0, ids-distinct es each.1 rising.1)
+
+  ids-have : (es : List Entry) (e : Entry) → Among es e → is_member same_number (ids_of es) (id_of e) ≡ true
+  ids-have [] e m = absurd m
+  ids-have (f ∷ es) e (inl is) = ap (λ (b : Bool). b || is_member same_number (ids_of es) (id_of e)) (equal_true (id_of e) (id_of f) (ap id_of (sym is)))
+  ids-have (f ∷ es) e (inr m) = or-later (same_number (id_of e) (id_of f)) (ids-have es e m) where
+    or-later : (b : Bool) → is_member same_number (ids_of es) (id_of e) ≡ true → (b || is_member same_number (ids_of es) (id_of e)) ≡ true
+    or-later true more = refl
+    or-later false more = more
+
+  have-ids : (es : List Entry) (q : ℕ) → is_member same_number (ids_of es) q ≡ true → (e : Entry) × Among es e × (id_of e ≡ q)
+  have-ids [] q is = absurd (cc)
+  have-ids (f ∷ es) q is = by (same_number q (id_of f)) refl is (λ more. have-ids es q more) where
+    by : (b : Bool) → same_number q (id_of f) ≡ b → (b || is_member same_number (ids_of es) q) ≡ true → (is_member same_number (ids_of es) q ≡ true → (e : Entry) × Among es e × (id_of e ≡ q)) → (e : Entry) × Among (f ∷ es) e × (id_of e ≡ q)
+    by true e h later = (f, inl refl, sym (is_same q (id_of f) e))
+    by false e h later = let w = later h in (w.0, inr w.1, w.2)
+
+  as-true : (a b : Bool) → (a ≡ true → b ≡ true) → (b ≡ true → a ≡ true) → a ≡ b
+  as-true true true f g = refl
+  as-true true false f g = sym (f refl)
+  as-true false true f g = g refl
+  as-true false false f g = refl
+
+  -- objects that are those of entries have as many pages as the entries, all together
+  pub as-many-pages : (ids : List ℕ) (es : List Entry) → AreOnce ids → Each IsWeighed es → Pairs (λ (e f : Entry). e.uid < f.uid) es
+      → ((k id : ℕ) → slice_get ids k ≡ Some id → (e : Entry) × Among es e × (place sig e.uid ≡ Some id))
+      → ((e : Entry) (id : ℕ) → Among es e → place sig e.uid ≡ Some id → (k : ℕ) × (slice_get ids k ≡ Some id)) → sum_by weigh ids ≡ sum_by entry_pages es
+  as-many-pages ids es once each rising real all =
+      sums-agree weigh ids (ids_of es) (once-distinct ids once) (ids-distinct es each rising) (λ q. as-true _ _
+      (λ is. (
+      let k = at-member ids q is in
+      let w = real k.0 q k.1 in
+      ap (is_member same_number (ids_of es)) (sym (the-id w.0 q w.2)) ∙ ids-have es w.0 w.1))
+      (λ is. (
+      let w = have-ids es q is in
+      let one = each-at IsWeighed es w.0 each w.1 in
+      let k = all w.0 one.id w.1 one.at in
+      member-at ids k.0 q (k.1 ∙ ap Some (sym (the-id w.0 one.id one.at) ∙ w.2)))))
+      ∙ weighed es each
+
+-- ---- what goes
+
+module _ (told : Bool) (catalog : Catalog) (numbers : Numbers) (unit : ℕ) (outside : Outside) (kept : AreKept told catalog.objects numbers unit outside) (sound : AreSoundPlaces (held catalog.objects) (place_of catalog.places)) (tells : IsTrue told)
+    (s : Store) (stands : StandsFor catalog s (image unit outside.now)) where
+  abbrev place-now : Places
+  place-now = place_of catalog.places
+
+  apart-in : (sig u v id : ℕ) → place-now sig u ≡ Some id → place-now sig v ≡ Some id → u ≡ v
+  apart-in sig u v id at other = (sound.once sig u sig v id at other).1
+
+  weighed-in : (sig : ℕ) (e : Entry) → IsIn s sig e → IsWeighed place-now (pages_held catalog.objects) sig (apart-in sig) e
+  weighed-in sig e is =
+      let r = stands.describes.lies.records sig e is in
+      record {
+        id = r.0;
+        at = r.1;
+        pages = pages-are told catalog.objects numbers unit outside kept tells stands.texts stands.holds r.0 (entry_bytes sig e []) r.3
+            ∙ record-pages sig e (plain-in catalog.directory place-now stands.texts s stands.describes sig e is);
+      }
+
+  module _ (gone : Gone) (ids : List ℕ) (once : AreOnce ids) where
+    none-goes : AreGone place-now gone ids → ((sig uid id : ℕ) → Goes gone sig uid → place-now sig uid ≡ Some id → ⊥) → all_pages_held catalog.objects ids ≡ 0
+    none-goes are none = as-many-pages place-now (pages_held catalog.objects) 0 (apart-in 0) ids [] once tt tt (λ k id at. (let w = are.real k id at in absurd (none w.0 w.1 id w.2 w.3))) (λ e id m at. absurd m)
+
+  pub gone-pages : (gone : Gone) (ids : List ℕ) → AreOnce ids → AreGone place-now gone ids → all_pages_held catalog.objects ids ≡ goes_pages gone s
+  gone-pages Nothing ids once are = none-goes Nothing ids once are (λ sig uid id isnt at. isnt)
+  gone-pages (OneEntry sig uid) ids once are = cases (entry_in sig uid s) refl where
+    found : (id : ℕ) → place-now sig uid ≡ Some id → (e : Entry) × (entry_in sig uid s ≡ Some e) × IsIn s sig e × (e.uid ≡ uid)
+    found id at = placed-entry catalog.directory place-now stands.texts s stands.describes sig uid id at
+
+    cases : (o : Option Entry) → entry_in sig uid s ≡ o → all_pages_held catalog.objects ids ≡ pages_of_entry (entry_in sig uid s)
+    cases None e = none-goes (OneEntry sig uid) ids once are (λ t u id goes at. (
+        let w = found id (ap (λ (n : ℕ). place-now n uid) goes.0 ∙ ap (place-now t) goes.1 ∙ at) in
+        absurd (let no : None ≡ Some w.0 = sym e ∙ w.1 in cc)))
+        ∙ sym (ap pages_of_entry e)
+    cases (Some x) e =
+        let w = entry-placed catalog.directory place-now stands.texts s stands.describes sig uid x e in
+        as-many-pages place-now (pages_held catalog.objects) sig (apart-in sig) ids (x ∷ []) once (weighed-in sig x w.3, tt) (tt, tt)
+        (λ k id at. (
+        let v = are.real k id at in
+        let here : place-now sig uid ≡ Some id = ap (λ (n : ℕ). place-now n uid) v.2.0 ∙ ap (place-now v.0) v.2.1 ∙ v.3 in
+        (x, inl refl, ap (place-now sig) w.4 ∙ here)))
+        (λ f id m at. (let same : x ≡ f = only x f m in are.all sig uid id (refl, refl) (ap (place-now sig) (sym w.4 ∙ ap (λ (y : Entry). y.uid) same) ∙ at)))
+        ∙ alone x ∙ sym (ap pages_of_entry e) where
+          only : (x f : Entry) → Among (x ∷ []) f → x ≡ f
+          only x f (inl is) = is
+          only x f (inr m) = absurd m
+
+          alone : (x : Entry) → sum_by entry_pages (x ∷ []) ≡ entry_pages x
+          alone x = sum_by-cons entry_pages x [] ∙ no-more (entry_pages x)
+  gone-pages (AllOf sig) ids once are = cases (soup_of sig s) refl where
+    found : (uid id : ℕ) → place-now sig uid ≡ Some id → (e : Entry) × (entry_in sig uid s ≡ Some e) × IsIn s sig e × (e.uid ≡ uid)
+    found uid id at = placed-entry catalog.directory place-now stands.texts s stands.describes sig uid id at
+
+    cases : (o : Option Soup) → soup_of sig s ≡ o → all_pages_held catalog.objects ids ≡ pages_of_soup (soup_of sig s)
+    cases None e = none-goes (AllOf sig) ids once are (λ t u id goes at. (
+        let w = found u id (ap (λ (n : ℕ). place-now n u) goes ∙ at) in
+        absurd (let no : None ≡ Some w.0 = sym (ap (λ (o : Option Soup). option_and_then (entry_of u) o) e) ∙ w.1 in cc)))
+        ∙ sym (ap pages_of_soup e)
+    cases (Some p) e =
+        let formed = stands.describes.formed in
+        let rising : Pairs (λ (a b : Entry). a.uid < b.uid) p.entries = pairs-map (λ m n. m < n) (λ (x : Entry). x.uid) p.entries (rises-pairs 0 p.next_uid (map_list (λ (x : Entry). x.uid) p.entries) (soup-good s p formed (soup-there sig s p e).1).uids) in
+        as-many-pages place-now (pages_held catalog.objects) sig (apart-in sig) ids p.entries once
+        (each-from _ p.entries (λ x m. weighed-in sig x (one-in s sig p formed e x m))) rising
+        (λ k id at. (
+        let v = are.real k id at in
+        let here : place-now sig v.1 ≡ Some id = ap (λ (n : ℕ). place-now n v.1) v.2 ∙ v.3 in
+        let w = found v.1 id here in
+        (w.0, in-one s sig p formed e w.0 w.2, ap (place-now sig) w.3 ∙ here)))
+        (λ x id m at. are.all sig x.uid id refl at)
+        ∙ sym (ap pages_of_soup e)
+
+  -- the bytes of the batch
+  pub bytes-turn : (next : Next) (ids : List ℕ) (t : Store) → AreOnce ids → AreGone place-now next.gone ids → Turns catalog next s t → next_bytes next catalog.objects ids ≡ turn_bytes next s t
+  unfolding next_bytes turn_bytes
+  bytes-turn next ids t once are turns =
+      let dir : pages_for (length (directory_bytes (bare_store next.directory))) ≡ directory_pages t = ap (λ (l : List ℕ). pages_for (length l)) (bytes-of next.directory t (turns.bare_is stands.texts stands.describes)) in
+      let zero-pages : pages_held catalog.objects 0 ≡ directory_pages s = pages-are told catalog.objects numbers unit outside kept tells stands.texts stands.holds 0 (directory_bytes s) stands.describes.lies.directory in
+      let rest : all_pages_held catalog.objects ids ≡ goes_pages next.gone s = gone-pages next.gone ids once are in
+      λ i. 9 + 516 * (dir i + new_pages next.entry) + 4 * (zero-pages i + rest i)
