@@ -1,17 +1,22 @@
 -- One plan in a batch of its own, carried out.
-use Rattle.std.proofs.Common.{◌≡◌, ℕ, [], refl, sym, ◌∙◌, ap, subst, true}
-use Rattle.newt_host.specs.Moments.{changes, image}
+use Rattle.std.proofs.Common.{◌≡◌, ℕ, List, [], Some, IsSome, refl, sym, ◌∙◌, ap, subst, true}
+use Rattle.std.specs.FinMap as map
+use Rattle.std.specs.Option.{option_map}
+use Rattle.newt_host.specs.Moments.{Moment, changes, image, overwritten}
 use Rattle.newt_host.specs.Outside.{Outside}
-use Rattle.newt_image.specs.Pages.{Pages, Change}
-use Rattle.newt_image.specs.Objects.{Extent, IsTableOf}
+use Rattle.newt_image.specs.Pages.{Pages, Change, pages}
+use Rattle.newt_image.specs.Objects.{Extent, IsTableOf, joined}
 use Rattle.newt_pagebook.specs.Batch.{names, no_change}
 use Rattle.newt_pagebook.specs.Book.{Numbers, changed_numbers, ReadsChanged}
+use Rattle.newt_pagebook.proofs.Tests.{the_some}
 use Rattle.newt_objects.specs.Extents.{IsUnnamed}
 use Rattle.newt_objects.specs.Held.{Held, held, planned, AreOf, Texts}
 use Rattle.newt_objects.specs.Changing.{IsUnderWay}
-use Rattle.newt_objects.proofs.Same.{table_kept}
+use Rattle.newt_objects.proofs.Same.{table_kept, texts_by}
 use Rattle.newt_objects.proofs.TextsOf.{texts_of}
-use Rattle.newt_objects.proofs.Changing.{start_under_way, adopted_are, are_still}
+use Rattle.newt_objects.proofs.Changing.{start_under_way, adopted_are, are_still, told_table}
+use Rattle.newt_vbo.specs.Patches.{WouldPatch}
+use Rattle.newt_vbo.proofs.Committing.{patch_would, patched_are}
 use Rattle.newt_books.specs.Changes.{AreAtRest, IsPlanned}
 
 -- the first plan of a batch
@@ -47,3 +52,24 @@ at_rest objects numbers numbers' unit outside at same are none = record {
 
 pub at_place : (objects : Held) (numbers : Numbers) (unit : ℕ) (outside : Outside) → unit ≡ 0 → AreAtRest objects numbers 0 outside → AreOf true (held objects) numbers unit outside
 at_place objects numbers unit outside at rest = subst (λ (u : ℕ). AreOf true (held objects) numbers u outside) (sym at) rest.table
+
+-- a patch in a batch of its own, carried out
+pub patched_out : (objects : Held) (id at : ℕ) (bytes : List ℕ) (begun change : Change) (numbers spared numbers' : Numbers) (first unit : ℕ) (old mid new : Outside) → begun ≡ no_change → IsSome (held objects id) → first ≡ 0 → unit ≡ 0
+    → spared ≡ numbers → mid.now ≡ old.now → AreAtRest objects numbers 0 old → ((live : Pages) → pages (image first old.now) ≡ Some live → WouldPatch objects id at bytes begun change live)
+    → changed_numbers change numbers ≡ changed_numbers begun numbers → numbers' ≡ changed_numbers change spared → ReadsChanged change (image unit mid.now) (image unit new.now) → AreAtRest objects numbers' 0 new
+patched_out objects id at bytes begun change numbers spared numbers' first unit old mid new is_begun there is_first is_unit spare now rest patched counted changed committed =
+    let done : ReadsChanged change (image 0 old.now) (image 0 new.now) =
+    subst (λ (u : ℕ). ReadsChanged change (image u old.now) (image u new.now)) is_unit (subst (λ (m : Moment). ReadsChanged change (image unit m) (image unit new.now)) now committed) in
+    let x = the_some (held objects id) there in
+    record {
+      table = patched_are true objects change numbers numbers' 0 old new rest.none rest.table (changed ∙ ap (changed_numbers change) spare)
+          (counted ∙ ap (λ (change : Change). changed_numbers change numbers) is_begun) (λ t. done)
+          (λ t live is.
+          let table : IsTableOf live (held objects) = told_table true (held objects) numbers 0 old live rest.table t is in
+          let w = texts_of live (held objects) table in
+          let text : map.get w.0 id ≡ Some (joined live x.0) = texts_by live (held objects) w.0 w.1 table id ∙ ap (option_map (joined live)) x.1 in
+          let patch : WouldPatch objects id at bytes no_change change live = subst (λ (c : Change). WouldPatch objects id at bytes c change live) is_begun
+          (patched live (ap (λ (u : ℕ). pages (image u old.now)) is_first ∙ is)) in
+          (map.insert w.0 id (overwritten (joined live x.0) at bytes), patch_would objects id at bytes (joined live x.0) change live w.0 rest.none table w.1 text patch));
+      none = rest.none;
+    }

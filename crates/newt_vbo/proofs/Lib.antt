@@ -1,0 +1,6 @@
+pub mod Lists
+pub mod Counts
+pub mod Parts
+pub mod Patching
+pub mod Putting
+pub mod Committing

@@ -1,0 +1,24 @@
+use Rattle.std.proofs.Common.{IsTrue, ◌≡◌, ◌+◌, ◌-◌, ◌*◌, ◌/◌, Some, length}
+use Rattle.newt_host.specs.Moments.{image}
+use Rattle.newt_host.specs.Outside.{Touches, Spends}
+use Rattle.newt_image.specs.Pages.{Pages, pages}
+use Rattle.newt_image.specs.Objects.{Extent, joined}
+use Rattle.newt_objects.specs.Held.{held}
+use Rattle.newt_vbo.specs.Ranges.{range_of, before_part}
+use Rattle.newt_vbo.proofs.read.read_range.Given as goal
+
+abbrev pub invariant-loop-part : goal.invariant-loop-part
+invariant-loop-part g l =
+    let outside = g.H.Host.outside in let place = g.P.PageBook.place in
+    record {
+      stands : g.P.PageBook.stands g.H.Host.told l.book (outside l.host);
+      same_place : place l.book ≡ place l.fn.book;
+      same_numbers : g.P.PageBook.numbers l.book ≡ g.P.PageBook.numbers l.fn.book;
+      same_spare : g.P.PageBook.spare l.book ≡ g.P.PageBook.spare l.fn.book;
+      moment : (outside l.host).now ≡ (outside l.fn.host).now;
+      alone : Touches (place l.fn.book) (outside l.fn.host) (outside l.host);
+      size : length l.bytes.items ≡ before_part l.part l.at (l.at + l.len);
+      costs : Spends (place l.fn.book) 0 (512 * (l.part - l.at / 500)) (outside l.fn.host) (outside l.host);
+      so_far : IsTrue g.H.Host.told → (live : Pages) → pages (image (place l.fn.book) (outside l.fn.host).now) ≡ Some live → (x : Extent) → held l.objects l.id ≡ Some x
+          → l.bytes.items ≡ range_of l.at (before_part l.part l.at (l.at + l.len)) (joined live x);
+    }
