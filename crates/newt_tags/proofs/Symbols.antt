@@ -2,6 +2,7 @@
 use Rattle.std.proofs.Common.{◌≡◌, ℕ, ◌+◌, ◌<◌, ◌≤◌, List, [], ◌∷◌, ◌++◌, length, map, get_or, drop, Bool, true, false, Option, Some, None, refl, sym, ap, subst, ◌∙◌, append_assoc, ◌&&◌, ◌||◌}
 use Rattle.std.specs.Prelude.{is_some, option_map, filter_map, slice_get}
 use Rattle.std.specs.List.{list_any, list_all, cons_option}
+use Rattle.std.proofs.lemmas.List.{at_drop_more, at_drop_all, append-nil}
 use Rattle.newt_base.specs.Names.{same_name}
 use Rattle.newt_graph.specs.declared.node.Node.{Node}
 use Rattle.newt_graph.specs.declared.node.Node.TheVariants.{Symbol, Str, Binary, Large, Array, Frame}
@@ -44,9 +45,32 @@ every_is_some f (x ∷ xs) = by (f x) (every_is_some f xs)
 
 -- ---- read one after another
 
-pub every_push : {Y : Type 0} (ys : List Y) (y : Y) (os : List (Option Y)) → option_map (λ zs. (ys ++ y ∷ []) ++ zs) (every os) ≡ option_map (λ zs. ys ++ zs) (every (Some y ∷ os))
-every_push ys y os = by (every os)
+-- the names so far before those of what is left
+abbrev pub before : List (List ℕ) → Option (List (List ℕ)) → Option (List (List ℕ))
+before items o = option_map (λ names. items ++ names) o
+
+before_push : (items : List (List ℕ)) (name : List ℕ) (os : List (Option (List ℕ))) → before (items ++ name ∷ []) (every os) ≡ before items (every (Some name ∷ os))
+before_push items name os = by (every os)
   where
-    by : (o : Option (List Y)) → option_map (λ zs. (ys ++ y ∷ []) ++ zs) o ≡ option_map (λ zs. ys ++ zs) (option_map (λ xs. y ∷ xs) o)
+    by : (o : Option (List (List ℕ))) → before (items ++ name ∷ []) o ≡ before items (option_map (λ xs. name ∷ xs) o)
     by None = refl
-    by (Some zs) = ap (λ ws. Some ws) (append_assoc ys (y ∷ []) zs)
+    by (Some zs) = ap (λ (ws : List (List ℕ)). Some ws) (append_assoc items (name ∷ []) zs)
+
+pub every_on : (f : Ref → Option (List ℕ)) (values : List Ref) (items next : List (List ℕ)) (name : List ℕ) (i : ℕ) (d : Ref) (total : Option (List (List ℕ))) → i < length values → f (get_or values i d) ≡ Some name → next ≡ items ++ name ∷ []
+    → before items (every (map f (drop i values))) ≡ total → before next (every (map f (drop (i + 1) values))) ≡ total
+every_on f values items next name i d total lt here more so_far =
+    ap (λ (ns : List (List ℕ)). before ns (every (map f (drop (i + 1) values)))) more
+    ∙ (before_push items name (map f (drop (i + 1) values))
+    ∙ (sym (ap (λ (o : Option (List ℕ)). before items (every (o ∷ map f (drop (i + 1) values)))) here)
+    ∙ (sym (at_drop_more (λ xs. before items (every (map f xs))) values i d lt) ∙ so_far)))
+
+pub every_ends : (f : Ref → Option (List ℕ)) (values : List Ref) (items : List (List ℕ)) (i : ℕ) (d : Ref) (total : Option (List (List ℕ))) → i < length values → f (get_or values i d) ≡ None
+    → before items (every (map f (drop i values))) ≡ total → None ≡ total
+every_ends f values items i d total lt none so_far =
+    sym (ap (λ (o : Option (List ℕ)). before items (every (o ∷ map f (drop (i + 1) values)))) none)
+    ∙ (sym (at_drop_more (λ xs. before items (every (map f xs))) values i d lt) ∙ so_far)
+
+pub every_done : (f : Ref → Option (List ℕ)) (values : List Ref) (items : List (List ℕ)) (i : ℕ) (total : Option (List (List ℕ))) → length values ≤ i
+    → before items (every (map f (drop i values))) ≡ total → Some items ≡ total
+every_done f values items i total le so_far =
+    ap (λ (ns : List (List ℕ)). Some ns) (sym (append-nil items)) ∙ (sym (at_drop_all (λ xs. before items (every (map f xs))) values i le) ∙ so_far)

@@ -1,6 +1,7 @@
 //! What a query asks of an entry's tags.
-ghost use Rattle.std.specs.Prelude.{◌≡◌, ◌&&◌, Some, None, drop, not, option_map};
+ghost use Rattle.std.specs.Prelude.{◌≡◌, ◌&&◌, ◌==◌, ◌%◌, Some, None, not, option_map};
 ghost use Rattle.std.specs.List.{list_all, list_any};
+ghost use Rattle.newt_base.specs.Names.{same_name};
 ghost use Rattle.newt_spec_query.specs.Tags.{is_among, if_given, tags_pass};
 ghost use Rattle.newt_tags.specs.Masks.{selected, tags_by};
 
@@ -120,7 +121,7 @@ fn has(symbols: &[Bytes], mask: u64, name: &[u8]) -> bool
 {
     let mut rest = mask;
     for symbol in symbols {
-        if rest % 2 == 1 && name.eq_ignore_ascii_case(symbol.list()) {
+        if is_hit(rest, symbol.list(), name) {
             return true;
         }
         rest /= 2;
@@ -134,10 +135,24 @@ fn are_among(symbols: &[Bytes], mask: u64, names: &[Bytes]) -> bool
 {
     let mut rest = mask;
     for symbol in symbols {
-        if rest % 2 == 1 && !is_among(names, symbol.list()) {
+        if is_miss(rest, symbol.list(), names) {
             return false;
         }
         rest /= 2;
     }
     true
+}
+
+/// Whether the lowest bit is set, and the symbol has this name.
+fn is_hit(mask: u64, symbol: &[u8], name: &[u8]) -> bool
+    ensures { result ≡ (mask % 2 == 1 && same_name name.now symbol.now) }
+{
+    mask % 2 == 1 && name.eq_ignore_ascii_case(symbol)
+}
+
+/// Whether the lowest bit is set, and the symbol has none of these names.
+fn is_miss(mask: u64, symbol: &[u8], names: &[Bytes]) -> bool
+    ensures { result ≡ (mask % 2 == 1 && not (is_among names.now symbol.now)) }
+{
+    mask % 2 == 1 && !is_among(names, symbol)
 }

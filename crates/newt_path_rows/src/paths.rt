@@ -1,7 +1,9 @@
-use newt_graph::{Graph, Ref};
+//! What paths reach in literals, and what a value put at one leaves.
+use newt_graph::Ref;
 use newt_lit_print::print_literal;
 use newt_lit_read::read_literal;
 use newt_path::{Path, SetFault, set_at, value_at};
+use std::alloc::Global;
 use std::test::*;
 
 /// What a value put at a path of a graph leaves, printed, or that it is not put there.
