@@ -1,0 +1,9 @@
+mod Below
+mod Numbers
+mod Named
+mod Reached
+mod Joins
+mod Puts
+mod Trail
+mod Reading
+mod Ends

@@ -1,0 +1,18 @@
+//! Paths through the frames of a graph: reading one, the value that one reaches, and a change at one.
+//! It stands on `newt_base`, `newt_graph` and `newt_spec_graph`. The promise that it carries: `value_at` is the value that the path reaches by the
+//! definition, and `set_at` gives the normal form of the graph with the value put in its place, exactly where there is one.
+#![tactic(auto)]
+
+mod fault;
+mod names;
+mod path;
+mod set;
+mod value;
+
+pub use fault::{PathFault, SetFault};
+pub use path::Path;
+pub use set::set_at;
+pub use value::{slot_value, value_at};
+
+#[cfg(test)]
+mod tests;
