@@ -1,12 +1,16 @@
 -- A crash of a script, in the words of the top call.
-use Rattle.std.proofs.Common.{◌≡◌, refl, ap, sym, ◌∙◌, subst, ℕ, zero, suc, ◌+◌, ◌⊎◌, inl, inr, Bool, true, false, ◌&&◌, List, [], ◌∷◌, ◌++◌, length, take, eqb, Option, Some, None, MatchOption, option_map, option_and_then, Ok, Err}
+use Rattle.std.proofs.Common.{◌≡◌, refl, ap, sym, ◌∙◌, subst, ℕ, zero, suc, ◌+◌, ◌⊎◌, inl, inr, Bool, true, false, ◌&&◌, List, [], ◌∷◌, ◌++◌, length, take, eqb, Option, Some, None, MatchOption, option_map, option_and_then, Ok, Err, arith}
 use Rattle.std.specs.Prelude.{slice_get}
 use Rattle.std.specs.Option.{is_none}
-use Rattle.std.proofs.lemmas.Bool.{eqb-true}
+use Rattle.std.proofs.lemmas.Bool.{eqb-false}
 use Rattle.newt_base.specs.Refusals.{first_of}
 use Rattle.newt_base.specs.declared.Refusal.{Refusal}
+<<<<<<< HEAD
 use Rattle.newt_engine.specs.Laws.{stays_there}
 use Rattle.newt_laws.proofs.Kept.{changed-units}
+=======
+use Rattle.newt_laws.proofs.Kept.{changed-units, on_units}
+>>>>>>> d319bbb45b7bac132dae86c99d59b1aadffd21bc
 use Rattle.newt_laws.proofs.Units.{same-or-not, device-other, device-same}
 use Rattle.newt_laws_answers.specs.Stage.{answer_now, checks_now}
 use Rattle.newt_session.specs.Moments.{HasLeft, replies_begun, world_at}
@@ -21,12 +25,10 @@ use Rattle.newt_spec_world.specs.Changed.{changed, copy_to}
 use Rattle.newt_spec_world.specs.World.{World, Device, Media, blank, one, device, default_unit, entry_in, store_of, store_on_unit, change_device, change_store, change_media}
 use Rattle.newt_spec_store.specs.Store as plain
 use Rattle.newt_store.specs.Stage.{readable}
+use Rattle.newt_top.proofs.Keeping.{stays_there}
 use Rattle.newt_top.specs.Crash.{formats, formats_next, IsOneOf, IsLeft}
 
 -- ---- only a format gives a unit a store
-
-on_device : Option Device → Option Store
-on_device o = option_and_then (λ (d : Device). store_of d.media) o
 
 none_on : (w : World) (v u : ℕ) (f : Device → Device) → ((d : Device) → store_of d.media ≡ None → store_of (f d).media ≡ None) → store_on_unit w u ≡ None → store_on_unit (change_device w v f) u ≡ None
 none_on w v u f keeps none = go (same-or-not u v)
@@ -51,7 +53,7 @@ none_copied w v u t None none = none
 none_copied w v u t (Some e) none = none_in w v u _ none
 
 pub row_none : (w : World) (c : Command) (u : ℕ) → store_on_unit w u ≡ None → ((name : List ℕ) (sig : ℕ) → c ≡ command.Format u name sig → ⊥) → store_on_unit (changed w c) u ≡ None
-unfolding changed
+unfolding changed on_units
 row_none w (command.Format v name sig) u none other = ap (option_and_then (λ (d : Device). store_of d.media)) (device-other w v _ u (λ e. other name sig (ap (λ (n : ℕ). command.Format n name sig) (sym e)))) ∙ none
 row_none w (command.Mount v) u none other = none_on w v u (λ d. record d { mounted = true }) (λ d e. e) none
 row_none w (command.Unmount v) u none other = none_on w v u (λ d. record d { mounted = false }) (λ d e. e) none
@@ -71,6 +73,13 @@ row_none w (command.Move v s uid t q) u none other = none_in (copy_to w t q (ent
 row_none w (command.Vwrite v s uid path at bytes) u none other = none_in w v u _ none
 row_none w c u none other = ap (λ (us : List (Option Device)). store_on_unit (record w { units = us }) u) (changed-units w c refl) ∙ none
 
+same_number : (u : ℕ) → eqb u u ≡ true
+same_number u = go (eqb u u) refl
+  where
+    go : (b : Bool) → eqb u u ≡ b → eqb u u ≡ true
+    go true e = e
+    go false e = absurd (eqb-false u u e refl)
+
 both_true : (a b : Bool) → a ≡ true → b ≡ true → (a && b) ≡ true
 both_true true b e k = k
 both_true false b e k = e
@@ -85,7 +94,7 @@ none_stepped w (Ok c) u none not = go (first_of (checks_now w c)) refl
     other passes name sig e =
         let is : formats w u (Ok (command.Format u name sig)) ≡ false = subst (λ (x : Command). formats w u (Ok x) ≡ false) e not in
         let passed : is_none (first_of (checks_now w (command.Format u name sig))) ≡ true = ap is_none (subst (λ (x : Command). first_of (checks_now w x) ≡ None) e passes) in
-        let yes : formats w u (Ok (command.Format u name sig)) ≡ true = both_true (eqb u u) _ (cc) passed in
+        let yes : formats w u (Ok (command.Format u name sig)) ≡ true = both_true (eqb u u) _ (same_number u) passed in
         absurd (cc)
 
     go : (o : Option Refusal) → first_of (checks_now w c) ≡ o → store_on_unit (answered w c o).0 u ≡ None
@@ -94,32 +103,32 @@ none_stepped w (Ok c) u none not = go (first_of (checks_now w c)) refl
 
 -- ---- the next world
 
--- the world behind m + 1 items is the one that the next item makes of the world behind m
-pub next_world : (w : World) (items : List Item) (m : ℕ) (P : World → World → Option Item → Type 0)
-    → ((v : World) → P v v None) → ((v : World) (item : Item) → P v (step answer_now v item).0 (Some item)) → P (world_at answer_now w items m) (world_at answer_now w items (m + 1)) (slice_get items m)
-unfolding world_behind
-next_world w [] zero P same stepped = same w
-next_world w [] (suc m) P same stepped = same w
-next_world w (item ∷ items) zero P same stepped = stepped w item
-next_world w (item ∷ items) (suc m) P same stepped = next_world (step answer_now w item).0 items m P same stepped
+module _ (P : World → World → Option Item → Type 0) (same : (v : World) → P v v None) (stepped : (v : World) (item : Item) → P v (step answer_now v item).0 (Some item)) where
+  next_suc : (w : World) (items : List Item) (m : ℕ) → P (world_at answer_now w items m) (world_at answer_now w items (suc m)) (slice_get items m)
+  unfolding world_behind
+  next_suc w [] zero = same w
+  next_suc w [] (suc m) = same w
+  next_suc w (item ∷ items) zero = stepped w item
+  next_suc w (item ∷ items) (suc m) = next_suc (step answer_now w item).0 items m
 
+  -- the world behind m + 1 items is the one that the next item makes of the world behind m
+  pub next_world : (w : World) (items : List Item) (m : ℕ) → P (world_at answer_now w items m) (world_at answer_now w items (m + 1)) (slice_get items m)
+  next_world w items m =
+      let one_more : suc m ≡ m + 1 = omega arith in
+      subst (λ (n : ℕ). P (world_at answer_now w items m) (world_at answer_now w items n) (slice_get items m)) one_more (next_suc w items m)
+
+-- no item takes a unit's store away
 stays_stepped : (v : World) (item : Item) (u : ℕ) → store_on_unit (step answer_now v item).0 u ≡ None → store_on_unit v u ≡ None
 stays_stepped v (Ok c) u none = stays_there v c u none
 stays_stepped v (Err refusal) u none = none
 
 module _ (w : World) (items : List Item) (m u : ℕ) where
-  before : Option Store
-  before = store_on_unit (world_at answer_now w items m) u
-
-  after : Option Store
-  after = store_on_unit (world_at answer_now w items (m + 1)) u
-
   pub still_there : store_on_unit (world_at answer_now w items (m + 1)) u ≡ None → store_on_unit (world_at answer_now w items m) u ≡ None
-  still_there = next_world w items m (λ v x item. store_on_unit x u ≡ None → store_on_unit v u ≡ None) (λ v e. e) (λ v item e. stays_stepped v item u e)
+  still_there = next_world (λ v x item. store_on_unit x u ≡ None → store_on_unit v u ≡ None) (λ v e. e) (λ v item e. stays_stepped v item u e) w items m
 
   pub still_none : store_on_unit (world_at answer_now w items m) u ≡ None → formats_next w items m u ≡ false → store_on_unit (world_at answer_now w items (m + 1)) u ≡ None
-  still_none = next_world w items m (λ v x found. store_on_unit v u ≡ None → elim found [ None ↦ false | Some item ↦ formats v u item ] ≡ false → store_on_unit x u ≡ None)
-      (λ v e k. e) (λ v item e k. none_stepped v item u e k)
+  still_none = next_world (λ v x found. store_on_unit v u ≡ None → elim found [ None ↦ false | Some item ↦ formats v u item ] ≡ false → store_on_unit x u ≡ None)
+      (λ v e k. e) (λ v item e k. none_stepped v item u e k) w items m
 
 -- ---- what is left
 

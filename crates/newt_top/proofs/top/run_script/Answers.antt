@@ -1,5 +1,6 @@
 use Rattle.std.proofs.Common.{◌≡◌, ◌≤◌, length, map, Global, string_bytes, arith}
 use Rattle.std.proofs.lemmas.List.{length-map}
+use Rattle.newt_top.proofs.Crashing.{is_left}
 use Rattle.newt_top.proofs.Naming.{few_names, distinct_names}
 use Rattle.newt_top.proofs.top.run_script.Goals as goal
 
@@ -10,3 +11,9 @@ run_named-requires-clause-few g c =
 
 pub run_named-requires-clause-distinct : goal.run_named-requires-clause-distinct
 run_named-requires-clause-distinct g c = distinct_names (map (string_bytes {Z = Global}) c.args.names.now) c.requires.names
+
+pub returns-in-Ok-clause-leaves : goal.returns-in-Ok-clause-leaves
+returns-in-Ok-clause-leaves g c = λ told unit t left out at some. is_left _ _ _ _ _ unit left (c.run_named.ensures.crash told unit t left out at some)
+
+pub returns-in-Err-clause-leaves : goal.returns-in-Err-clause-leaves
+returns-in-Err-clause-leaves g c = λ told unit t left out at some. is_left _ _ _ _ _ unit left (c.run_named.ensures.crash told unit t left out at some)
