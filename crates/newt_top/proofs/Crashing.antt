@@ -5,12 +5,7 @@ use Rattle.std.specs.Option.{is_none}
 use Rattle.std.proofs.lemmas.Bool.{eqb-false}
 use Rattle.newt_base.specs.Refusals.{first_of}
 use Rattle.newt_base.specs.declared.Refusal.{Refusal}
-<<<<<<< HEAD
-use Rattle.newt_engine.specs.Laws.{stays_there}
-use Rattle.newt_laws.proofs.Kept.{changed-units}
-=======
 use Rattle.newt_laws.proofs.Kept.{changed-units, on_units}
->>>>>>> d319bbb45b7bac132dae86c99d59b1aadffd21bc
 use Rattle.newt_laws.proofs.Units.{same-or-not, device-other, device-same}
 use Rattle.newt_laws_answers.specs.Stage.{answer_now, checks_now}
 use Rattle.newt_session.specs.Moments.{HasLeft, replies_begun, world_at}
