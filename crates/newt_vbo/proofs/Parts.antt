@@ -1,6 +1,5 @@
 -- The pages of an object's parts, and the bytes that they join to.
-use Rattle.std.proofs.Common.{IsTrue, ◌≡◌, ℕ, zero, suc, ◌+◌, ◌-◌, ◌*◌, ◌<◌, ◌≤◌, Bool, true, List, [], ◌∷◌, ◌++◌, length, take, drop, get_or, slice_get, Option, Some, None, IsSome, IfSome, refl, sym, ◌∙◌, ap, subst, arith, length-drop, length-take, length-append}
-use Rattle.std.specs.FinMap as map
+use Rattle.std.proofs.Common.{◌≡◌, ℕ, zero, suc, ◌+◌, ◌-◌, ◌*◌, ◌<◌, ◌≤◌, Bool, true, List, [], ◌∷◌, ◌++◌, length, drop, get_or, slice_get, Option, Some, None, IfSome, refl, sym, ◌∙◌, ap, subst, arith, length-drop, length-take, length-append}
 use Rattle.std.specs.FinSet as set
 use Rattle.std.specs.List.{flat_map}
 use Rattle.std.specs.Option.{option_and_then, unwrap_or, is_some}

@@ -1,5 +1,5 @@
 -- One page of an object is put again, with bytes of its part replaced.
-use Rattle.std.proofs.Common.{◌≡◌, ◌⊎◌, ℕ, zero, suc, ◌+◌, ◌*◌, ◌<◌, ◌≤◌, ◌==◌, Bool, true, false, cond, List, [], ◌∷◌, ◌++◌, length, take, drop, get_or, slice_get, Option, Some, None, refl, sym, ◌∙◌, ap, subst, arith, ⊎_elim, length-take, length-drop, take-append-drop}
+use Rattle.std.proofs.Common.{◌≡◌, ℕ, zero, suc, ◌+◌, ◌*◌, ◌≤◌, Bool, false, cond, List, [], ◌∷◌, ◌++◌, length, take, drop, get_or, slice_get, Option, Some, None, refl, sym, ◌∙◌, ap, subst, arith, ⊎_elim, length-take, length-drop, take-append-drop}
 use Rattle.std.specs.Int.{from_be_bytes, w32}
 use Rattle.std.specs.List.{flat_map}
 use Rattle.std.specs.FinMap as map
@@ -9,7 +9,7 @@ use Rattle.std.proofs.lemmas.List.{drop_at, take-append-le, drop-append-le}
 use Rattle.std.proofs.lemmas.Option.{slice_get-get_or}
 use Rattle.newt_host.specs.Moments.{overwritten}
 use Rattle.newt_image.specs.Pages.{Pages, Change, after, object_id, part_number, object_length, page_data, word_at}
-use Rattle.newt_image.specs.Objects.{Extent, Table, IsPart, IsTableOf, pages_for, joined, data_at}
+use Rattle.newt_image.specs.Objects.{Extent, IsPart, IsTableOf, pages_for, joined, data_at}
 use Rattle.newt_pagebook.specs.Batch.{names, puts_one}
 use Rattle.newt_pagebook.proofs.Tests.{some_inj, equal_true, equal_false}
 use Rattle.newt_pagebook.proofs.Changes.{after_put, unnamed, get_insert}
@@ -148,8 +148,7 @@ module _ (change : Change) (live : Pages) (number s : ℕ) (page new : List ℕ)
       pages = λ n q e. ⊎_elim
           (λ (same : n ≡ number).
           let is : put ≡ q = some_inj _ _ (sym (here n same) ∙ e) in
-          let w = would.is_table.pages number page was in
-          (
+          let w = would.is_table.pages number page was in (
             w.0,
             ap (planned objects) (ap object_id (sym is) ∙ patched_object page new s size) ∙ w.1,
             ap (slice_get w.0.numbers) (ap part_number (sym is) ∙ patched_part page new s size) ∙ w.2 ∙ ap Some (sym same),

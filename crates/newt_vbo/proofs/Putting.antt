@@ -1,18 +1,18 @@
 -- Pages of an object are put one after another.
-use Rattle.std.proofs.Common.{◌≡◌, ℕ, zero, suc, ◌+◌, ◌*◌, ◌<◌, ◌≤◌, ◌==◌, ◌||◌, Bool, true, false, cond, List, [], ◌∷◌, ◌++◌, length, take, drop, map as map_list, get_or, slice_get, Option, Some, None, refl, sym, ◌∙◌, ap, subst, arith, ⊎_elim, length-take, length-drop, append_assoc}
+use Rattle.std.proofs.Common.{◌≡◌, ℕ, ◌+◌, ◌*◌, ◌<◌, ◌≤◌, ◌==◌, ◌||◌, Bool, true, false, cond, List, [], ◌∷◌, ◌++◌, length, take, drop, get_or, slice_get, Option, Some, refl, sym, ◌∙◌, ap, subst, arith, ⊎_elim, length-take, length-drop, append_assoc}
 use Rattle.std.specs.Cmp.{nat_cmp_total}
 use Rattle.std.specs.FinMap as map
 use Rattle.std.specs.FinSet as set
 use Rattle.std.specs.Option.{option_map}
 use Rattle.std.proofs.lemmas.Option.{slice_get_within, slice_get-get_or}
-use Rattle.std.proofs.lemmas.List.{append-nil, map-append, take_more, get_or-drop}
+use Rattle.std.proofs.lemmas.List.{map-append, take_more, get_or-drop}
 use Rattle.std.proofs.Math.Seq.{take-add}
 use Rattle.newt_host.specs.Moments.{overwritten}
 use Rattle.newt_image.specs.Pages.{Pages, Change, after}
 use Rattle.newt_image.specs.Objects.{Extent, IsTableOf, joined}
 use Rattle.newt_pagebook.specs.Batch.{names, puts_one}
 use Rattle.newt_pagebook.specs.Book.{Numbers, with_put_numbers, without_deleted, changed_numbers}
-use Rattle.newt_pagebook.proofs.Tests.{some_inj, neither, equal_true, equal_false, same_test, is_same, true_or_false}
+use Rattle.newt_pagebook.proofs.Tests.{some_inj, equal_true, equal_false, same_test, is_same, true_or_false}
 use Rattle.newt_pagebook.proofs.Changes.{get_insert, names_put}
 use Rattle.newt_objects.specs.Extents.{IsUnnamed}
 use Rattle.newt_objects.specs.Held.{Held, held, planned, Texts, WouldHold}
@@ -27,9 +27,9 @@ use Rattle.newt_vbo.proofs.Patching.{still_planned, put_holds}
 insert_twice : (texts : Texts) (id : ℕ) (a b : List ℕ) → map.insert (map.insert texts id a) id b ≡ map.insert texts id b
 insert_twice texts id a b = map.same_map nat_cmp_total map.nat_cmp-IsAntisymmetric _ _ (λ q.
     get_insert (map.insert texts id a) id b q ∙ ap (cond (q == id) (Some b)) (get_insert texts id a q) ∙ twice (q == id) (Some b) (Some a) (map.get texts q) ∙ sym (get_insert texts id b q)) where
-  twice : (b : Bool) (u v w : Option (List ℕ)) → cond b u (cond b v w) ≡ cond b u w
-  twice true u v w = refl
-  twice false u v w = refl
+      twice : (b : Bool) (u v w : Option (List ℕ)) → cond b u (cond b v w) ≡ cond b u w
+      twice true u v w = refl
+      twice false u v w = refl
 
 insert_same : (texts : Texts) (id : ℕ) (a : List ℕ) → map.get texts id ≡ Some a → map.insert texts id a ≡ texts
 insert_same texts id a there = map.same_map nat_cmp_total map.nat_cmp-IsAntisymmetric _ _ (λ q. get_insert texts id a q ∙ ⊎_elim

@@ -1,5 +1,5 @@
 -- Ranges of an object's bytes, and the parts that they lie in. This project's own.
-use Rattle.std.specs.Prelude.{◌≡◌, ℕ, zero, suc, ◌+◌, ◌-◌, ◌*◌, ◌/◌, ◌≤◌, min, List, length, take, drop}
+use Rattle.std.specs.Prelude.{◌≡◌, ℕ, zero, suc, ◌+◌, ◌-◌, ◌*◌, ◌/◌, ◌≤◌, min, List, take, drop}
 use Rattle.newt_image.specs.Objects.{Extent}
 use Rattle.newt_vbo.specs.declared.range.Piece.{Piece}
 

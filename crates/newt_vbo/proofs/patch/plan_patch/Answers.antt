@@ -6,12 +6,11 @@ use Rattle.newt_host.specs.Moments.{Moment, image, overwritten}
 use Rattle.newt_host.specs.Outside.{Touches, Spends}
 use Rattle.newt_host.proofs.Outside.{Touches-refl, Touches-append, Spends-refl, Spends-widen}
 use Rattle.newt_image.specs.Pages.{Change, pages, after}
-use Rattle.newt_image.specs.Objects.{Extent, IsTableOf, pages_for}
+use Rattle.newt_image.specs.Objects.{Extent, IsTableOf}
 use Rattle.newt_pagebook.specs.Batch.{names, puts_one}
 use Rattle.newt_pagebook.specs.Book.{changed_numbers}
 use Rattle.newt_pagebook.proofs.Tests.{the_some}
 use Rattle.newt_objects.specs.Held.{held}
-use Rattle.newt_objects.specs.Changing.{AreWhole}
 use Rattle.newt_objects.proofs.Changing.{told_table}
 use Rattle.newt_objects.proofs.Whole.{image_whole}
 use Rattle.newt_vbo.specs.Ranges.{parts_met, before_part, numbers_met}

@@ -1,4 +1,4 @@
-use Rattle.std.proofs.Common.{◌+◌, List, ℕ, sym, ◌∙◌, ap}
+use Rattle.std.proofs.Common.{List, ℕ, sym, ◌∙◌, ap}
 use Rattle.newt_pagebook.specs.Batch.{puts_one}
 use Rattle.newt_vbo.proofs.patch.put_patched.Goals as goal
 
