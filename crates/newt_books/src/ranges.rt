@@ -90,7 +90,11 @@ fn patch_all<P: PageBook>(
     for (at, count, pages) in PATCHES {
         assert!(rt; at as usize + count as usize <= want.len() && count < 10_000);
         let bytes = text_from(alloc, (at % 241) as u8, count)?;
-        assert_eq!(rt; patch(alloc, host, book, objects, at, &bytes)?, pages, "{at}");
+        assert_eq!(rt;
+            patch(alloc, host, book, objects, at, &bytes)?,
+            pages,
+            "{at}"
+        );
         want[at as usize..at as usize + count as usize].copy_from_slice(&bytes);
     }
     Ok(())
@@ -187,7 +191,10 @@ fn patches<P: PageBook>(rt: &impl Abort, alloc: Global) -> Result<(), Fail> {
     assert!(rt; has_card(&host));
     let bytes = host.bytes(CARD);
     assert_eq!(rt; object_on::<P>(rt, alloc, bytes, 7)?, want);
-    assert_eq!(rt; object_on::<P>(rt, alloc, bytes, 8)?, text_from(alloc, 8, 1_200)?);
+    assert_eq!(rt;
+        object_on::<P>(rt, alloc, bytes, 8)?,
+        text_from(alloc, 8, 1_200)?
+    );
     assert_ranges::<P>(rt, alloc, bytes, &want)
 }
 

@@ -14,11 +14,7 @@ use std::process::Abort;
 use std::test::Fail;
 
 // Brings the first page of a book to hand.
-fn first_page<P: PageBook>(
-    rt: &impl Abort,
-    host: &mut MemHost,
-    book: &mut P,
-) -> Result<Page, Fail>
+fn first_page<P: PageBook>(rt: &impl Abort, host: &mut MemHost, book: &mut P) -> Result<Page, Fail>
     requires book { P.stands true book.old (outside_of host.old) × (P.place book.old ≡ 0) }
     ensures book { P.stands true book.new (outside_of host.new) × (P.place book.new ≡ 0) }
     ensures room { P.spare book.new ≡ P.spare book.old }

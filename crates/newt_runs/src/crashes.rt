@@ -33,13 +33,7 @@ fn started(
     failing: Option<u64>,
 ) -> Result<(MemHost, Status), Fail> {
     let script = script(alloc, lines)?;
-    let mut host = with_both(
-        rt,
-        alloc,
-        &script,
-        &blocks(alloc, 13)?,
-        &blocks(alloc, 13)?,
-    )?;
+    let mut host = with_both(rt, alloc, &script, &blocks(alloc, 13)?, &blocks(alloc, 13)?)?;
     match failing {
         Some(call) => host.fail(call)?,
         None => {}
@@ -56,12 +50,7 @@ fn ran(rt: &impl Abort, alloc: Global, lines: &[Answered]) -> Result<MemHost, Fa
 }
 
 /// What a next run answers after each number of first lines.
-fn looks(
-    rt: &impl Abort,
-    alloc: Global,
-    lines: &[Answered],
-    unit: Unit,
-) -> Result<Looks, Fail> {
+fn looks(rt: &impl Abort, alloc: Global, lines: &[Answered], unit: Unit) -> Result<Looks, Fail> {
     let mut all = Vec::new(alloc);
     for count in 0..lines.len() + 1 {
         let host = ran(rt, alloc, &lines[..count])?;
@@ -86,7 +75,10 @@ fn expect_found(rt: &impl Abort, output: &[u8], left: &[u8], found: &[u8], looks
     assert!(rt; first < looks.len());
     let next = first.saturating_add(1).min(looks.len() - 1);
     let (before, after, none) = (&looks[first], &looks[next], &looks[0]);
-    assert!(rt; found == before.as_slice() || found == after.as_slice(), "after {first} replies");
+    assert!(rt;
+        found == before.as_slice() || found == after.as_slice(),
+        "after {first} replies"
+    );
     if before == none && after == none {
         assert!(rt; left.iter().all(|byte| *byte == 0), "after {first} replies");
     }
@@ -181,7 +173,10 @@ fn expect_halted(
     match sound.unit_of(call) {
         Some(unit) => {
             assert_eq!(rt; status, Status::Device(unit), "at call {call}");
-            assert!(rt; matches!(host.output().last(), Some(b'\n') | None), "at call {call}");
+            assert!(rt;
+                matches!(host.output().last(), Some(b'\n') | None),
+                "at call {call}"
+            );
         }
         None => assert!(rt;
             status == Status::Source || status == Status::Sink,
@@ -189,7 +184,11 @@ fn expect_halted(
         ),
     }
     assert!(rt; sound.output().starts_with(host.output()), "at call {call}");
-    assert_eq!(rt; host.calls(), call.saturating_add(1), "no call after the one that fails");
+    assert_eq!(rt;
+        host.calls(),
+        call.saturating_add(1),
+        "no call after the one that fails"
+    );
     assert!(rt; call < host.calls());
     assert!(rt; has_device(&host, Unit(0)));
     let Crash { image, .. } = host.images(Unit(0), call, Pick::Half)?;

@@ -69,9 +69,9 @@ module _ (place : Places) (weigh : ℕ → ℕ) (sig : ℕ) (apart : (u v id : �
   later-ids e [] one each less = tt
   later-ids e (f ∷ es) one each less = (
     equal_false (id_of e) (id_of f) (λ same. absurd (
-    let is : one.id ≡ each.0.id = sym (the-id e one.id one.at) ∙ same ∙ the-id f each.0.id each.0.at in
-    let uids : e.uid ≡ f.uid = apart e.uid f.uid one.id one.at (each.0.at ∙ ap Some (sym is)) in
-    omega (arith, uids, less.0))),
+        let is : one.id ≡ each.0.id = sym (the-id e one.id one.at) ∙ same ∙ the-id f each.0.id each.0.at in
+        let uids : e.uid ≡ f.uid = apart e.uid f.uid one.id one.at (each.0.at ∙ ap Some (sym is)) in
+        omega (arith, uids, less.0))),
     later-ids e es one each.1 less.1,
   )
 

@@ -20,7 +20,11 @@ fn expect_session(rt: &HostRuntime, script: &[u8], replies: &[u8]) -> Result<(),
     fs::write(rt, "script", script)?;
     let (input, output) = (File::open(rt, "script")?, File::create(rt, "replies")?);
     let mut host = FileHost::new(rt.alloc(), rt, input, output);
-    let status = run(rt.alloc(), &words(rt.alloc(), &["run", "internal", "card"])?, &mut host);
+    let status = run(
+        rt.alloc(),
+        &words(rt.alloc(), &["run", "internal", "card"])?,
+        &mut host,
+    );
     let written = fs::read(rt, "replies")?;
     fs::remove_file(rt, "script")?;
     fs::remove_file(rt, "replies")?;
