@@ -1,6 +1,6 @@
 //! What a next run finds where the power failed.
 
-use crate::every::LOOK;
+use crate::every::{EVERY, LOOK};
 use crate::sessions::{Answered, replies, script};
 use crate::trial::{blocks, has_device, run_on, with_both, with_card};
 use newt_host::Unit;
@@ -10,7 +10,10 @@ use std::alloc::Global;
 use std::process::Abort;
 use std::test::Fail;
 
-const PICKS: [Pick; 3] = [Pick::Old, Pick::New, Pick::Half];
+/// The devices of the runs, in order of their units.
+const UNITS: [Unit; 2] = [Unit(0), Unit(1)];
+
+const PICKS: [Pick; 2] = [Pick::New, Pick::Half];
 
 /// What next runs answer over one device, after each number of first lines of a run.
 type Looks = Vec<Vec<u8>>;
@@ -106,38 +109,22 @@ fn expect_safe(
     Ok(())
 }
 
-/// The same for a device, and for each pick of what a crash leaves.
-fn expect_all_safe(
-    rt: &impl Abort,
-    alloc: Global,
-    lines: &[Answered],
-    unit: Unit,
-    picks: &[Pick],
-) -> Result<(), Fail> {
+/// The same for each device, and for each pick of what a crash leaves.
+fn expect_all_safe(rt: &impl Abort, alloc: Global, lines: &[Answered]) -> Result<(), Fail> {
     let host = ran(rt, alloc, lines)?;
     assert_eq!(rt; host.output(), replies(alloc, lines)?.as_slice());
-    let looks = looks(rt, alloc, lines, unit)?;
-    for pick in picks {
-        expect_safe(rt, alloc, &host, unit, *pick, &looks)?;
+    for unit in UNITS {
+        let looks = looks(rt, alloc, lines, unit)?;
+        for pick in PICKS {
+            expect_safe(rt, alloc, &host, unit, pick, &looks)?;
+        }
     }
     Ok(())
 }
 
-/// A script that makes each kind of change on one device, and none on the other.
-const CHANGES: &[Answered] = &[
-    ("format 1 Card 9", "ok"),
-    ("mount 1", "ok 9 Card"),
-    ("soup 1 Notes", "ok 0"),
-    ("add 1 Notes {n: 0}", "ok 0"),
-    ("move 1 Notes 0 1 Notes", "ok 1"),
-    ("remove 1 Notes 1", "ok"),
-    ("drop 1 Notes", "ok"),
-];
-
 #[test]
 fn leaves_each_store_before_or_after_each_command(rt: HostRuntime) -> Result<(), Fail> {
-    expect_all_safe(&rt, rt.alloc(), CHANGES, Unit(0), &PICKS)?;
-    expect_all_safe(&rt, rt.alloc(), CHANGES, Unit(1), &PICKS)
+    expect_all_safe(&rt, rt.alloc(), EVERY)
 }
 
 /// A script that fills the first bank of a card and goes on in the other one.
@@ -170,8 +157,18 @@ const ADDS: &[Answered] = &[
 
 #[test]
 fn leaves_each_store_while_banks_change(rt: HostRuntime) -> Result<(), Fail> {
-    expect_all_safe(&rt, rt.alloc(), ADDS, Unit(1), &[Pick::Half])
+    expect_all_safe(&rt, rt.alloc(), ADDS)
 }
+
+/// A script of which each call is to fail once.
+const SHORT: &[Answered] = &[
+    ("format 0 Internal 7", "ok"),
+    ("mount 0", "ok 7 Internal"),
+    ("soup 0 Notes", "ok 0"),
+    ("add 0 Notes {n: 0}", "ok 0"),
+    ("get 0 Notes 0", "ok 0 {n: 0}"),
+    ("remove 0 Notes 0", "ok"),
+];
 
 /// Where the call of a number fails the run ends there, behind whole replies where it was on a device, and a crash leaves what it may.
 fn expect_halted(
@@ -181,7 +178,7 @@ fn expect_halted(
     call: u64,
     looks: &Looks,
 ) -> Result<(), Fail> {
-    let (host, status) = started(rt, alloc, CHANGES, Some(call))?;
+    let (host, status) = started(rt, alloc, SHORT, Some(call))?;
     assert!(rt; call < sound.calls());
     match sound.unit_of(call) {
         Some(unit) => {
@@ -203,8 +200,8 @@ fn expect_halted(
         "no call after the one that fails"
     );
     assert!(rt; call < host.calls());
-    assert!(rt; has_device(&host, Unit(1)));
-    let Crash { image, .. } = host.images(Unit(1), call, Pick::Half)?;
+    assert!(rt; has_device(&host, Unit(0)));
+    let Crash { image, .. } = host.images(Unit(0), call, Pick::Half)?;
     let found = look(rt, alloc, &image)?;
     expect_found(rt, host.output(), &image, &found, looks);
     Ok(())
@@ -213,8 +210,8 @@ fn expect_halted(
 #[test]
 fn halts_at_each_call_that_fails(rt: HostRuntime) -> Result<(), Fail> {
     let alloc = rt.alloc();
-    let sound = ran(&rt, alloc, CHANGES)?;
-    let looks = looks(&rt, alloc, CHANGES, Unit(1))?;
+    let sound = ran(&rt, alloc, SHORT)?;
+    let looks = looks(&rt, alloc, SHORT, Unit(0))?;
     for call in 0..sound.calls() {
         expect_halted(&rt, alloc, &sound, call, &looks)?;
     }

@@ -1,8 +1,6 @@
 //! A script that uses every command, on two units, with its replies.
 
-use crate::sessions::{Answered, expect_on_both};
-use crate::trial::blocks;
-use std::test::Fail;
+use crate::sessions::Answered;
 
 /// Every command, over the devices `internal` and `card` of zero bytes.
 pub const EVERY: &[Answered] = &[
@@ -41,13 +39,6 @@ pub const EVERY: &[Answered] = &[
     ("stores", "ok 0 7 Internal"),
     ("quit", "ok"),
 ];
-
-#[test]
-fn answers_every_command(rt: HostRuntime) -> Result<(), Fail> {
-    let alloc = rt.alloc();
-    expect_on_both(&rt, alloc, &blocks(alloc, 13)?, &blocks(alloc, 13)?, EVERY)?;
-    Ok(())
-}
 
 /// What a next run is asked over one of the devices, and told to go on with.
 pub const LOOK: &[u8] = b"mount 0
