@@ -13,7 +13,7 @@ use std::test::Fail;
 /// The devices of the runs, in order of their units.
 const UNITS: [Unit; 2] = [Unit(0), Unit(1)];
 
-const PICKS: [Pick; 4] = [Pick::Old, Pick::New, Pick::Half, Pick::Fill(0x5A)];
+const PICKS: [Pick; 2] = [Pick::New, Pick::Half];
 
 /// What next runs answer over one device, after each number of first lines of a run.
 type Looks = Vec<Vec<u8>>;
@@ -33,13 +33,7 @@ fn started(
     failing: Option<u64>,
 ) -> Result<(MemHost, Status), Fail> {
     let script = script(alloc, lines)?;
-    let mut host = with_both(
-        rt,
-        alloc,
-        &script,
-        &blocks(alloc, 13)?,
-        &blocks(alloc, 13)?,
-    )?;
+    let mut host = with_both(rt, alloc, &script, &blocks(alloc, 13)?, &blocks(alloc, 13)?)?;
     match failing {
         Some(call) => host.fail(call)?,
         None => {}
@@ -56,12 +50,7 @@ fn ran(rt: &impl Abort, alloc: Global, lines: &[Answered]) -> Result<MemHost, Fa
 }
 
 /// What a next run answers after each number of first lines.
-fn looks(
-    rt: &impl Abort,
-    alloc: Global,
-    lines: &[Answered],
-    unit: Unit,
-) -> Result<Looks, Fail> {
+fn looks(rt: &impl Abort, alloc: Global, lines: &[Answered], unit: Unit) -> Result<Looks, Fail> {
     let mut all = Vec::new(alloc);
     for count in 0..lines.len() + 1 {
         let host = ran(rt, alloc, &lines[..count])?;
@@ -86,7 +75,10 @@ fn expect_found(rt: &impl Abort, output: &[u8], left: &[u8], found: &[u8], looks
     assert!(rt; first < looks.len());
     let next = first.saturating_add(1).min(looks.len() - 1);
     let (before, after, none) = (&looks[first], &looks[next], &looks[0]);
-    assert!(rt; found == before.as_slice() || found == after.as_slice(), "after {first} replies");
+    assert!(rt;
+        found == before.as_slice() || found == after.as_slice(),
+        "after {first} replies"
+    );
     if before == none && after == none {
         assert!(rt; left.iter().all(|byte| *byte == 0), "after {first} replies");
     }
@@ -168,6 +160,16 @@ fn leaves_each_store_while_banks_change(rt: HostRuntime) -> Result<(), Fail> {
     expect_all_safe(&rt, rt.alloc(), ADDS)
 }
 
+/// A script of which each call is to fail once.
+const SHORT: &[Answered] = &[
+    ("format 0 Internal 7", "ok"),
+    ("mount 0", "ok 7 Internal"),
+    ("soup 0 Notes", "ok 0"),
+    ("add 0 Notes {n: 0}", "ok 0"),
+    ("get 0 Notes 0", "ok 0 {n: 0}"),
+    ("remove 0 Notes 0", "ok"),
+];
+
 /// Where the call of a number fails the run ends there, behind whole replies where it was on a device, and a crash leaves what it may.
 fn expect_halted(
     rt: &impl Abort,
@@ -176,12 +178,15 @@ fn expect_halted(
     call: u64,
     looks: &Looks,
 ) -> Result<(), Fail> {
-    let (host, status) = started(rt, alloc, EVERY, Some(call))?;
+    let (host, status) = started(rt, alloc, SHORT, Some(call))?;
     assert!(rt; call < sound.calls());
     match sound.unit_of(call) {
         Some(unit) => {
             assert_eq!(rt; status, Status::Device(unit), "at call {call}");
-            assert!(rt; matches!(host.output().last(), Some(b'\n') | None), "at call {call}");
+            assert!(rt;
+                matches!(host.output().last(), Some(b'\n') | None),
+                "at call {call}"
+            );
         }
         None => assert!(rt;
             status == Status::Source || status == Status::Sink,
@@ -189,7 +194,11 @@ fn expect_halted(
         ),
     }
     assert!(rt; sound.output().starts_with(host.output()), "at call {call}");
-    assert_eq!(rt; host.calls(), call.saturating_add(1), "no call after the one that fails");
+    assert_eq!(rt;
+        host.calls(),
+        call.saturating_add(1),
+        "no call after the one that fails"
+    );
     assert!(rt; call < host.calls());
     assert!(rt; has_device(&host, Unit(0)));
     let Crash { image, .. } = host.images(Unit(0), call, Pick::Half)?;
@@ -201,8 +210,8 @@ fn expect_halted(
 #[test]
 fn halts_at_each_call_that_fails(rt: HostRuntime) -> Result<(), Fail> {
     let alloc = rt.alloc();
-    let sound = ran(&rt, alloc, EVERY)?;
-    let looks = looks(&rt, alloc, EVERY, Unit(0))?;
+    let sound = ran(&rt, alloc, SHORT)?;
+    let looks = looks(&rt, alloc, SHORT, Unit(0))?;
     for call in 0..sound.calls() {
         expect_halted(&rt, alloc, &sound, call, &looks)?;
     }

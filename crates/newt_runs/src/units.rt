@@ -25,12 +25,18 @@ fn formats_and_mounts_a_unit(rt: HostRuntime) -> Result<(), Fail> {
 }
 
 // The first record of a bank: a store of this name and signature without soups.
-const FIRST_RECORD: &[u8] = b"NSTORE\x00\x01\x00\x00\x00\x00\x00\x00\x00\x00\x00\x00\x00\x02\x08\x00\x01\x00\x00\x00\x00\x00\x00\x00\x00\x00\x00\x00\x00\x00\x00\x00\x10\x08Internal\x00\x00\x00\x07\x00\x00\x00";
+const FIRST_RECORD: &[u8] =
+    b"NSTORE\x00\x01\x00\x00\x00\x00\x00\x00\x00\x00\x00\x00\x00\x02\x08\x00\x01\x00\x00\x00\x00\x00\x00\x00\x00\x00\x00\x00\x00\x00\x00\x00\x10\x08Internal\x00\x00\x00\x07\x00\x00\x00";
 
 #[test]
 fn writes_a_store_where_the_formats_say(rt: HostRuntime) -> Result<(), Fail> {
     let alloc = rt.alloc();
-    let host = expect_on_card(&rt, alloc, &blocks(alloc, 13)?, &[("format 0 Internal 7", "ok")])?;
+    let host = expect_on_card(
+        &rt,
+        alloc,
+        &blocks(alloc, 13)?,
+        &[("format 0 Internal 7", "ok")],
+    )?;
     assert!(rt; has_device(&host, Unit(0)));
     let image = host.bytes(Unit(0));
     assert!(rt; image.len() == 53_248);
@@ -103,7 +109,10 @@ fn tells_which_device_failed(rt: HostRuntime) -> Result<(), Fail> {
     let mut host = with_card(&rt, alloc, script, &blocks(alloc, 13)?)?;
     // The first call takes the input, the second writes a reply, and the third is the first one on the device.
     host.fail(2)?;
-    assert_eq!(rt; run_on(alloc, "run card", &mut host)?, Status::Device(Unit(0)));
+    assert_eq!(rt;
+        run_on(alloc, "run card", &mut host)?,
+        Status::Device(Unit(0))
+    );
     assert_eq!(rt; host.output(), b"ok 020A\n".as_slice());
     Ok(())
 }
@@ -112,10 +121,12 @@ fn tells_which_device_failed(rt: HostRuntime) -> Result<(), Fail> {
 fn attaches_only_devices_that_are_there(rt: HostRuntime) -> Result<(), Fail> {
     let alloc = rt.alloc();
     let script: &[u8] = b"mount 0\nmount 1\nmount 2\nformat 1 Card 3\nmount 1\n";
-    let output: &[u8] =
-        b"error 20 unit\nerror 22 nostore\nerror 20 unit\nok\nok 3 Card\n";
+    let output: &[u8] = b"error 20 unit\nerror 22 nostore\nerror 20 unit\nok\nok 3 Card\n";
     let mut host = with_card(&rt, alloc, script, &blocks(alloc, 13)?)?;
-    assert_eq!(rt; run_on(alloc, "run other card third", &mut host)?, Status::Ok);
+    assert_eq!(rt;
+        run_on(alloc, "run other card third", &mut host)?,
+        Status::Ok
+    );
     assert_eq!(rt; host.output(), output);
     Ok(())
 }
