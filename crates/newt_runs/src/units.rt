@@ -26,7 +26,7 @@ fn formats_and_mounts_a_unit(rt: HostRuntime) -> Result<(), Fail> {
 
 // The first record of a bank: a store of this name and signature without soups.
 const FIRST_RECORD: &[u8] =
-    b"NSTORE\x00\x01\x00\x00\x00\x00\x00\x00\x00\x00\x00\x00\x00\x02\x08\x00\x01\x00\x00\x00\x00\x00\x00\x00\x00\x00\x00\x00\x00\x00\x00\x00\x10\x08Internal\x00\x00\x00\x07\x00\x00\x00";
+    b"NSTORE\x00\x01\x00\x00\x00\x00\x00\x00\x00\x00\x00\x00\x00\x02\x08\x00\x01\x00\x00\x00\x00\x00\x00\x00\x00\x00\x00\x00\x00\x00\x00\x00\x00\x00\x10\x08Internal\x00\x00\x00\x07\x00\x00\x00";
 
 #[test]
 fn writes_a_store_where_the_formats_say(rt: HostRuntime) -> Result<(), Fail> {
@@ -45,11 +45,9 @@ fn writes_a_store_where_the_formats_say(rt: HostRuntime) -> Result<(), Fail> {
     }
     let bank = &image[12_288..];
     assert!(rt; bank.len() == 40_960);
-    assert_eq!(rt; &bank[..FIRST_RECORD.len()], FIRST_RECORD);
-    let rest = &bank[FIRST_RECORD.len()..];
-    assert!(rt; rest.len() > 20_000);
-    assert!(rt; rest[..484].iter().all(|byte| *byte == 0));
-    assert!(rt; rest[484..20_000].iter().all(|byte| *byte == 0xFF));
+    assert!(rt; bank.starts_with(FIRST_RECORD));
+    assert!(rt; bank[57..541].iter().all(|byte| *byte == 0));
+    assert!(rt; bank[541..20_480].iter().all(|byte| *byte == 0xFF));
     Ok(())
 }
 
