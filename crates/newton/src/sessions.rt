@@ -4,7 +4,6 @@ use crate::files::FileHost;
 use newt_top::{Status, run};
 use std::alloc::{AllocError, Global};
 use std::fs::{self, File};
-use std::process::Abort;
 use std::test::Fail;
 
 fn words(alloc: Global, texts: &[&str]) -> Result<Vec<String>, AllocError> {
@@ -15,22 +14,17 @@ fn words(alloc: Global, texts: &[&str]) -> Result<Vec<String>, AllocError> {
     Ok(words)
 }
 
-// A run of a script over the files `internal` and `card`, whose replies are looked for.
-fn expect_session(rt: &HostRuntime, script: &[u8], replies: &[u8]) -> Result<(), Fail> {
+// How a run of a script over the files `internal` and `card` ended, and what it wrote.
+fn session(rt: &HostRuntime, script: &[u8]) -> Result<(Status, Vec<u8>), Fail> {
     fs::write(rt, "script", script)?;
     let (input, output) = (File::open(rt, "script")?, File::create(rt, "replies")?);
     let mut host = FileHost::new(rt.alloc(), rt, input, output);
-    let status = run(
-        rt.alloc(),
-        &words(rt.alloc(), &["run", "internal", "card"])?,
-        &mut host,
-    );
+    let words = words(rt.alloc(), &["run", "internal", "card"])?;
+    let status = run(rt.alloc(), &words, &mut host);
     let written = fs::read(rt, "replies")?;
     fs::remove_file(rt, "script")?;
     fs::remove_file(rt, "replies")?;
-    assert_eq!(rt; status, Status::Ok);
-    assert_eq!(rt; written.as_slice(), replies);
-    Ok(())
+    Ok((status, written))
 }
 
 const FIRST: &[u8] = b"format 0 Internal 7
@@ -85,9 +79,13 @@ fn goes_on_with_the_stores_of_the_run_before(rt: HostRuntime) -> Result<(), Fail
     bytes.resize(53_248, 0)?;
     fs::write(&rt, "internal", bytes.as_slice())?;
     fs::write(&rt, "card", bytes.as_slice())?;
-    expect_session(&rt, FIRST, FIRST_REPLIES)?;
-    expect_session(&rt, SECOND, SECOND_REPLIES)?;
+    let first = session(&rt, FIRST)?;
+    let second = session(&rt, SECOND)?;
     fs::remove_file(&rt, "internal")?;
     fs::remove_file(&rt, "card")?;
+    assert_eq!(rt; first.0, Status::Ok);
+    assert_eq!(rt; first.1.as_slice(), FIRST_REPLIES);
+    assert_eq!(rt; second.0, Status::Ok);
+    assert_eq!(rt; second.1.as_slice(), SECOND_REPLIES);
     Ok(())
 }
