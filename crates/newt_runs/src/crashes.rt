@@ -157,7 +157,15 @@ const ADDS: &[Answered] = &[
 
 #[test]
 fn leaves_each_store_while_banks_change(rt: HostRuntime) -> Result<(), Fail> {
-    expect_all_safe(&rt, rt.alloc(), ADDS)
+    let alloc = rt.alloc();
+    let host = ran(&rt, alloc, ADDS)?;
+    assert!(rt; has_device(&host, Unit(1)));
+    assert_eq!(rt;
+        host.bytes(Unit(1)).first(),
+        Some(&1),
+        "a vote for the second bank"
+    );
+    expect_all_safe(&rt, alloc, ADDS)
 }
 
 /// A script of which each call is to fail once.
