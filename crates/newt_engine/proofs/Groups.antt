@@ -17,7 +17,7 @@ pub not_built : (w : World) (c : Command) → on_graph c ≡ false → uses_devi
     → ((u : _) → c ≡ command.Default u → ⊥) → ((u : _) → c ≡ command.Soups u → ⊥) → ((u s i : _) → c ≡ command.Alias u s i → ⊥) → ((g : _) → c ≡ command.Resolve g → ⊥)
     → answer_now w c ≡ (w, Reply.refused NoCommand)
 not_built w c g d time quit unmount stores default soups alias resolve =
-    refused w c NoCommand (ap (λ b. first_of (cond b (map (staged (new_graph c)) (checks w c)) ((NoCommand, true) ∷ []))) (go c g d time quit unmount stores default soups alias resolve))
+    refused w c NoCommand (ap (λ b. first_of (cond b (map (staged (new_graph w c)) (checks w c)) ((NoCommand, true) ∷ []))) (go c g d time quit unmount stores default soups alias resolve))
   where
     go : (c : Command) → on_graph c ≡ false → uses_device c ≡ false → ((t : _) → c ≡ command.Time t → ⊥) → (c ≡ command.Quit → ⊥) → ((u : _) → c ≡ command.Unmount u → ⊥) → (c ≡ command.Stores → ⊥)
         → ((u : _) → c ≡ command.Default u → ⊥) → ((u : _) → c ≡ command.Soups u → ⊥) → ((u s i : _) → c ≡ command.Alias u s i → ⊥) → ((g : _) → c ≡ command.Resolve g → ⊥) → is_built c ≡ false
@@ -34,6 +34,8 @@ not_built w c g d time quit unmount stores default soups alias resolve =
     go (command.Add u s x) g d time quit unmount stores default soups alias resolve = absurd (both-ways (sym g))
     go (command.Addx u s x) g d time quit unmount stores default soups alias resolve = absurd (both-ways (sym g))
     go (command.Addu s x) g d time quit unmount stores default soups alias resolve = absurd (both-ways (sym g))
+    go (command.Set u s i p x) g d time quit unmount stores default soups alias resolve = absurd (both-ways (sym g))
+    go (command.Change u s i x) g d time quit unmount stores default soups alias resolve = absurd (both-ways (sym g))
     go (command.Format u n s) g d time quit unmount stores default soups alias resolve = absurd (both-ways (sym d))
     go (command.Mount u) g d time quit unmount stores default soups alias resolve = absurd (both-ways (sym d))
     go (command.Soup u s) g d time quit unmount stores default soups alias resolve = absurd (both-ways (sym d))

@@ -43,6 +43,8 @@ fields_not w v (command.Addx u s g) r b h = cc
 fields_not w v (command.Addu s g) r b h = cc
 fields_not w v (command.Get u s uid) r b h = nil_not {X = Entry} (λ e. plain.Reply.timed e.time e.graph) (entry_in w u s uid) r (λ x k. cc) h
 fields_not w v (command.Getx u s uid) r b h = nil_not {X = Entry} (λ e. plain.Reply.timed_nsof e.time e.graph) (entry_in w u s uid) r (λ x k. cc) h
+fields_not w v (command.Set u s uid path g) r b h = cc
+fields_not w v (command.Change u s uid g) r b h = cc
 fields_not w v (command.Remove u s uid) r b h = cc
 fields_not w v (command.Copy u s uid t p) r b h = cc
 fields_not w v (command.Move u s uid t p) r b h = cc
@@ -55,7 +57,7 @@ unfolding answer_now
 refused_stays w c r h = go (first_of (checks_now w c)) refl h
   where
     tests : Bool → Option Refusal
-    tests b = first_of (cond b (map (staged (new_graph c)) (checks w c)) ((NoCommand, true) ∷ []))
+    tests b = first_of (cond b (map (staged (new_graph w c)) (checks w c)) ((NoCommand, true) ∷ []))
 
     built : (b : Bool) → is_built c ≡ b → first_of (checks_now w c) ≡ None → is_built c ≡ true
     built true e k = e

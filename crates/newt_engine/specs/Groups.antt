@@ -3,13 +3,15 @@ use Rattle.std.specs.Prelude.{Bool, true, false}
 use Rattle.newt_spec_world.specs.declared.command.Command.{Command}
 use Rattle.newt_spec_world.specs.declared.command.Command.TheVariants as command
 
--- a graph is shown or becomes an entry
+-- a graph is shown, or becomes an entry or a part of one
 abbrev pub on_graph : Command → Bool
 on_graph (command.Nsof _) = true
 on_graph (command.Lit _) = true
 on_graph (command.Add _ _ _) = true
 on_graph (command.Addx _ _ _) = true
 on_graph (command.Addu _ _) = true
+on_graph (command.Set _ _ _ _ _) = true
+on_graph (command.Change _ _ _ _) = true
 on_graph _ = false
 
 -- an entry is read, removed or copied

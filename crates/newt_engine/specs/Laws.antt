@@ -1,5 +1,5 @@
 -- What stands between commands, and what no command takes away.
-use Rattle.std.proofs.Common.{◌≡◌, refl, ap, sym, ◌∙◌, ℕ, zero, suc, ◌≤◌, List, [], ◌∷◌, Bool, true, false, not, ◌||◌, IsTrue, Option, Some, None, map, cond}
+use Rattle.std.proofs.Common.{◌≡◌, refl, ap, sym, ◌∙◌, ℕ, zero, suc, ◌≤◌, List, [], ◌∷◌, Bool, true, false, ◌||◌, IsTrue, Option, Some, None, map, cond}
 use Rattle.std.specs.Prelude.{is_some, slice_index_or, slice_get}
 use Rattle.newt_base.specs.Refusals.{Checks, first_of}
 use Rattle.newt_base.specs.declared.Refusal.{Refusal}
@@ -10,7 +10,7 @@ use Rattle.newt_host.specs.Outside.{Outside}
 use Rattle.newt_session.specs.Causes.{SameDevices}
 use Rattle.newt_spec_graph.proofs.Lists.{none-some, some-same, both-ways}
 use Rattle.newt_spec_store.specs.Laid.{bare}
-use Rattle.newt_spec_store.specs.Lies.{has_no_large, graph_has_no_large}
+use Rattle.newt_spec_store.specs.Lies.{has_no_large}
 use Rattle.newt_spec_store.specs.Store.{Store}
 use Rattle.newt_spec_store.specs.Valid.{well_formed}
 use Rattle.newt_spec_world.specs.declared.command.Command.{Command}
@@ -20,7 +20,7 @@ use Rattle.newt_spec_world.specs.Refused.{Check, checks}
 use Rattle.newt_laws.specs.Later.{WorldLater}
 use Rattle.newt_laws.proofs.Kept.{AllFalse, all-false}
 use Rattle.newt_laws.proofs.Later.{row-later, world-not}
-use Rattle.newt_laws_answers.specs.Stage.{answer_now, checks_now, is_built, new_graph, staged}
+use Rattle.newt_laws_answers.specs.Stage.{answer_now, checks_now, is_built, new_graph, has_large, staged}
 use Rattle.newt_units.specs.declared.units.Units.{Units}
 use Rattle.newt_units.specs.Cards.{IsSame}
 use Rattle.newt_units.specs.Stands.{Eight, world_of}
@@ -76,19 +76,18 @@ passed g (k ∷ ks) h = (one g k h.0, passed g ks h.1)
     or-rest true b x = absurd (both-ways (sym x))
 
     one : (g : Option RawGraph) (k : Check) → (staged g k).1 ≡ false → k.1 ≡ false
-    one None k x = x
-    one (Some g) (Size, test) x = or-rest (not (graph_has_no_large g)) test x
-    one (Some g) (r, test) x = x
+    one g (Size, test) x = or-rest (has_large g) test x
+    one g (r, test) x = x
 
 pub now_later : (w : World) (c : Command) → WorldLater w (answer_now w c).0
 unfolding answer_now
 now_later w c = go (first_of (checks_now w c)) refl
   where
     tests : Bool → Option Refusal
-    tests b = first_of (cond b (map (staged (new_graph c)) (checks w c)) ((NoCommand, true) ∷ []))
+    tests b = first_of (cond b (map (staged (new_graph w c)) (checks w c)) ((NoCommand, true) ∷ []))
 
     built : (b : Bool) → is_built c ≡ b → first_of (checks_now w c) ≡ None → AllFalse (checks w c)
-    built true e h = passed (new_graph c) (checks w c) (all-false (map (staged (new_graph c)) (checks w c)) (sym (ap tests e) ∙ h))
+    built true e h = passed (new_graph w c) (checks w c) (all-false (map (staged (new_graph w c)) (checks w c)) (sym (ap tests e) ∙ h))
     built false e h = absurd (none-some NoCommand (sym (sym (ap tests e) ∙ h)))
 
     go : (o : Option Refusal) → first_of (checks_now w c) ≡ o → WorldLater w (answered w c o).0

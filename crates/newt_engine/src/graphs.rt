@@ -1,4 +1,4 @@
-//! Commands that show a graph, or make an entry of one.
+//! Commands that show a graph, or make an entry or a part of one of it.
 ghost use Rattle.std.specs.Prelude.{◌≡◌, true, false, IsTrue, IfErr};
 ghost use Rattle.newt_host.specs.Moments.{Always};
 ghost use Rattle.newt_reply.specs.Said.{said};
@@ -41,6 +41,14 @@ impl<C: Card> World<C> {
             Command::Addu(name, graph) => {
                 let (unit, uid) = self.units.add_to_default(host, &name, graph)?;
                 Ok(Reply::Added(unit, Uid(uid)))
+            }
+            Command::Set(unit, name, uid, path, value) => {
+                self.units.set(host, unit, &name, uid, &path, &value)?;
+                Ok(Reply::Done)
+            }
+            Command::Change(unit, name, uid, graph) => {
+                self.units.change(host, unit, &name, uid, graph)?;
+                Ok(Reply::Done)
             }
             other => self.obey_on_entry(host, &other),
         }

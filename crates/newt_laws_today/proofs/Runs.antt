@@ -1,5 +1,5 @@
 -- The worlds of a script are worlds of a run.
-use Rattle.std.proofs.Common.{ℕ, ◌≡◌, refl, ap, sym, ◌∙◌, subst, List, [], ◌∷◌, map, ◌⊎◌, inl, inr, Bool, true, false, ◌||◌, not, cond, Option, Some, None, Ok, Err}
+use Rattle.std.proofs.Common.{ℕ, ◌≡◌, refl, ap, sym, ◌∙◌, subst, List, [], ◌∷◌, map, ◌⊎◌, inl, inr, Bool, true, false, ◌||◌, cond, Option, Some, None, Ok, Err}
 use Rattle.newt_base.specs.Refusals.{Checks, first_of}
 use Rattle.newt_base.specs.declared.Refusal.{Refusal}
 use Rattle.newt_base.specs.declared.Refusal.TheVariants.{Size, Command as NoCommand}
@@ -9,12 +9,11 @@ use Rattle.newt_laws.proofs.Later.{run-later}
 use Rattle.newt_laws.proofs.Aliases.{gone-for-good}
 use Rattle.newt_laws_answers.proofs.Answers.{refused}
 use Rattle.newt_laws_answers.proofs.Firsts.{first-false}
-use Rattle.newt_laws_answers.specs.Stage.{staged, new_graph, is_built, checks_now, answer_now}
+use Rattle.newt_laws_answers.specs.Stage.{staged, new_graph, has_large, is_built, checks_now, answer_now}
 use Rattle.newt_laws_changes.specs.Later.{EntryGone}
 use Rattle.newt_session.specs.Script.{world_behind}
 use Rattle.newt_spec_graph.proofs.Lists.{none-some}
 use Rattle.newt_spec_script.specs.Script.{Item}
-use Rattle.newt_spec_store.specs.Lies.{graph_has_no_large}
 use Rattle.newt_spec_store.specs.Store.{Store}
 use Rattle.newt_spec_world.specs.Alias.{Alias, Spot, resolved}
 use Rattle.newt_spec_world.specs.Answer.{answer, answered, after}
@@ -31,7 +30,7 @@ or-second false b h = h
 
 -- where no test of the stage holds, none of the world's does
 staged-test : (o : Option RawGraph) (r : Refusal) (b : Bool) → (staged o (r, b)).1 ≡ false → b ≡ false
-staged-test (Some g) Size b h = or-second (not (graph_has_no_large g)) b h
+staged-test o Size b h = or-second (has_large o) b h
 staged-test o r b h = h
 
 none-parts : (x : Check) (xs : Checks) → first_of (x ∷ xs) ≡ None → (x.1 ≡ false) × (first_of xs ≡ None)
@@ -52,7 +51,7 @@ now-is w c = go (first_of (checks_now w c)) refl
   where
     go : (o : Option Refusal) → first_of (checks_now w c) ≡ o → (answer_now w c ≡ answer w c) ⊎ ((r : Refusal) × (answer_now w c ≡ (w, Reply.refused r)))
     go (Some r) e = inr (r, refused w c r e)
-    go None e = inl (ap {B = World × Reply} (answered w c) (e ∙ sym (built-none (is_built c) (new_graph c) (checks w c) e)))
+    go None e = inl (ap {B = World × Reply} (answered w c) (e ∙ sym (built-none (is_built c) (new_graph w c) (checks w c) e)))
 
 -- ---- a script
 

@@ -1,4 +1,4 @@
--- A graph is shown, or becomes an entry.
+-- A graph is shown, or becomes an entry or a part of one.
 use Rattle.std.proofs.Common.{◌≡◌, ℕ, refl, sym, subst}
 use Rattle.std.proofs.lemmas.Result.{err_from_is_err_and}
 use Rattle.newt_reply.specs.Said.{said}
@@ -43,3 +43,9 @@ returns-in_ok-add-in-Add-clause-moments g c t = moments_same g.C.Card.reads _ _ 
 
 pub returns-in_ok-add-in-Addx-clause-moments : goal.returns-in_ok-add-in-Addx-clause-moments
 returns-in_ok-add-in-Addx-clause-moments g c t = moments_same g.C.Card.reads _ _ _ c.args.command _ c.in-Addx.is (c.add-in-Addx.ensures.moments_as_stream t)
+
+pub returns-in_err-set-in-Set-clause-answered : goal.returns-in_err-set-in-Set-clause-answered
+returns-in_err-set-in-Set-clause-answered g c t = handed {T = Unit {0}} _ _ c.args.command _ (λ _. plain.done) _ c.in-Set.is (c.in_err-set-in-Set.ensures.answered t) _ (err_from_is_err_and c.from_residual-in_err-set-in-Set.result c.from_residual-in_err-set-in-Set.ensures.1)
+
+pub returns-in_err-change-in-Change-clause-answered : goal.returns-in_err-change-in-Change-clause-answered
+returns-in_err-change-in-Change-clause-answered g c t = handed {T = Unit {0}} _ _ c.args.command _ (λ _. plain.done) _ c.in-Change.is (c.in_err-change-in-Change.ensures.answered t) _ (err_from_is_err_and c.from_residual-in_err-change-in-Change.result c.from_residual-in_err-change-in-Change.ensures.1)
