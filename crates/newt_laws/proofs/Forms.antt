@@ -1,6 +1,6 @@
 -- The commands that lines give have the forms of their words.
 use Rattle.std.proofs.Common.{arith, ◌≡◌, refl, ap, ◌∙◌, subst, ℕ, suc, ◌+◌, Bool, true, false, not, ◌&&◌, ◌||◌, ◌==◌, List, [], ◌∷◌, length, find, take, drop, nat_le, nat_lt, Option, Some, None, option_and_then, option_map, Result, Ok, Err, if◌then◌else◌}
-use Rattle.std.specs.List.{list_all}
+use Rattle.std.specs.List.{list_all, slice_split}
 use Rattle.std.specs.Prelude.{⊤, bytes_eq}
 use Rattle.std.proofs.lemmas.Bool.{and_parts}
 use Rattle.newt_base.specs.declared.Refusal.{Refusal}
@@ -11,12 +11,13 @@ use Rattle.newt_graph.specs.Graph.{RawGraph}
 use Rattle.newt_spec_graph.specs.Limits.{within_limits}
 use Rattle.newt_spec_graph.specs.Lists.{Each, all_apart}
 use Rattle.newt_spec_graph.proofs.Lists.{each-at, none-some, some-same}
+use Rattle.newt_path.specs.Names.{path_of}
 use Rattle.newt_spec_store.specs.Keys.{Path}
 use Rattle.newt_spec_store.specs.Valid.{valid_path, valid_symbol}
 use Rattle.newt_spec_world.specs.declared.command.Command.{Command}
 use Rattle.newt_spec_world.specs.declared.command.Command.TheVariants as command
 use Rattle.newt_spec_world.specs.declared.command.PartWord.{PartWord}
-use Rattle.newt_spec_script.specs.Words.{Reader, then_read, of1, of2, of3, of4, of5, of6, or_not_the_form, word, decimal_to, only, bare_name, quoted, if_name, name_from, name, ends_word, skip_blanks, is_blank, path, part, part_of, kind_word, order_word, split_at, words, all_words, several, symbol}
+use Rattle.newt_spec_script.specs.Words.{Reader, then_read, of1, of2, of3, of4, of5, of6, or_not_the_form, word, decimal_to, only, bare_name, quoted, if_name, name_from, name, ends_word, skip_blanks, is_blank, part, part_of, kind_word, order_word, split_at, words, all_words, several, symbol}
 use Rattle.newt_spec_script.specs.Line.{Parsed, ready, literal, stream, bytes, ended, with_literal, with_stream, with_bytes, whole, and_literal, and_stream, and_bytes, alone, unit, number, sig, len, cursor, if_distinct, distinct, or_row, tags_row, star, query_by, query_row, Row, rows, read_row, row_of, within_length, if_said, parsed, says_nothing, first_word}
 use Rattle.newt_spec_script.specs.Script.{Item, Readers, literal_item, stream_item, hex_item, bytes_item, item_of}
 use Rattle.newt_laws.specs.Worlds.{has_form, parts_fit}
@@ -126,8 +127,12 @@ gives-sig = gives-word (λ n. nat_le n 536_870_911 ≡ true) (decimal_to 536_870
         test true is f = let same = some-same n a f in grind arith
         test false is f = absurd (none-some a f)
 
-gives-path : Gives (λ p. valid_path p ≡ true) (word path)
-gives-path = gives-word (λ p. valid_path p ≡ true) path (λ cs p e. only-passes valid_path (split_at 46 cs) p e)
+path-good : (cs : List ℕ) (p : Path) → path_of cs ≡ Some p → valid_path p ≡ true
+unfolding path_of
+path-good cs p e = only-passes valid_path (slice_split (λ c. c == 46) cs) p e
+
+gives-path : Gives (λ p. valid_path p ≡ true) (word path_of)
+gives-path = gives-word (λ p. valid_path p ≡ true) path_of path-good
 
 named : (q : Option (List ℕ × List ℕ)) (n rest : List ℕ) → if_name q ≡ Ok (n, rest) → is_name n ≡ true
 named None n rest e = cc
@@ -190,14 +195,14 @@ part-good cs p e = of_pieces (split_at 58 cs) e
     of_pieces [] f = absurd (none-some p f)
     of_pieces (a ∷ []) f = absurd (none-some p f)
     of_pieces (a ∷ b ∷ []) f = absurd (none-some p f)
-    of_pieces (a ∷ b ∷ c ∷ []) f = go (path a) refl (kind_word b) (order_word c) f
+    of_pieces (a ∷ b ∷ c ∷ []) f = go (path_of a) refl (kind_word b) (order_word c) f
       where
-        go : (o : Option Path) → path a ≡ o → (k : Option (Option _)) (d : Option _)
+        go : (o : Option Path) → path_of a ≡ o → (k : Option (Option _)) (d : Option _)
             → option_and_then (λ x. option_and_then (λ y. option_map (λ z. record { path = x; kind = y; order = z }) d) k) o ≡ Some p → valid_path p.path ≡ true
         go None is k d g = absurd (none-some p g)
         go (Some x) is None d g = absurd (none-some p g)
         go (Some x) is (Some y) None g = absurd (none-some p g)
-        go (Some x) is (Some y) (Some z) g = subst (λ (q : PartWord). valid_path q.path ≡ true) (some-same _ p g) (only-passes valid_path (split_at 46 a) x is)
+        go (Some x) is (Some y) (Some z) g = subst (λ (q : PartWord). valid_path q.path ≡ true) (some-same _ p g) (path-good a x is)
     of_pieces (a ∷ b ∷ c ∷ d ∷ ws) f = absurd (none-some p f)
 
 gives-parts : Gives (λ ps. parts_fit ps ≡ true) (several 4 part)
@@ -291,11 +296,11 @@ format-form u n g h k = grind (arith, h, k)
 
 tags-good : (cs : List ℕ) → Good (tags_row cs)
 unfolding has_form
-tags-good cs = or-row (whole (of2 unit name command.Tags) cs) (whole (of4 unit name (word path) distinct command.SetTags) cs)
+tags-good cs = or-row (whole (of2 unit name command.Tags) cs) (whole (of4 unit name (word path_of) distinct command.SetTags) cs)
     (row-whole (of2 unit name command.Tags) (all-2 Form unit name command.Tags (λ u s. refl)) cs)
-    (row-whole (of4 unit name (word path) distinct command.SetTags)
+    (row-whole (of4 unit name (word path_of) distinct command.SetTags)
     (gives-4 Form (λ u. ⊤) (λ s. ⊤) (λ p. valid_path p ≡ true) (λ names. (list_all valid_symbol names ≡ true) × (all_apart same_name names ≡ true))
-    unit name (word path) distinct command.SetTags (gives-any unit) (gives-any name) gives-path gives-distinct (λ u s p names _ _ h k. tags-form u s p names h k)) cs)
+    unit name (word path_of) distinct command.SetTags (gives-any unit) (gives-any name) gives-path gives-distinct (λ u s p names _ _ h k. tags-form u s p names h k)) cs)
 
 query-good : (cs : List ℕ) → Good (query_row cs)
 unfolding has_form
@@ -332,7 +337,7 @@ rows-good = (
                       (
                         row-whole (of3 unit name (several 4 part) command.Index) (gives-3 Form (λ u. ⊤) (λ s. ⊤) (λ ps. parts_fit ps ≡ true) unit name (several 4 part) command.Index (gives-any unit) (gives-any name) gives-parts (λ u s ps _ _ h. h)),
                         (
-                          row-whole (of3 unit name (several 4 path) command.Unindex) (all-3 Form unit name (several 4 path) command.Unindex (λ u s ps. refl)),
+                          row-whole (of3 unit name (several 4 path_of) command.Unindex) (all-3 Form unit name (several 4 path_of) command.Unindex (λ u s ps. refl)),
                           (
                             row-whole (of2 unit name command.Indexes) (all-2 Form unit name command.Indexes (λ u s. refl)),
                             (
@@ -348,7 +353,7 @@ rows-good = (
                                       (
                                         row-whole (of3 unit name number command.Getx) (all-3 Form unit name number command.Getx (λ u s n. refl)),
                                         (
-                                          row-literal (of4 unit name number (word path) (λ u s n p g. command.Set u s n p g)) (all-4 FormWith unit name number (word path) (λ u s n p g. command.Set u s n p g) (λ u s n p g h. refl)),
+                                          row-literal (of4 unit name number (word path_of) (λ u s n p g. command.Set u s n p g)) (all-4 FormWith unit name number (word path_of) (λ u s n p g. command.Set u s n p g) (λ u s n p g h. refl)),
                                           (
                                             row-literal (of3 unit name number (λ u s n g. command.Change u s n g)) (all-3 FormWith unit name number (λ u s n g. command.Change u s n g) (λ u s n g h. h)),
                                             (
@@ -358,9 +363,9 @@ rows-good = (
                                                 (
                                                   row-whole (of5 unit name number unit name command.Move) (all-5 Form unit name number unit name command.Move (λ u s n v t. refl)),
                                                   (
-                                                    row-whole (of6 unit name number (word path) number len command.Vread) (all-6 Form unit name number (word path) number len command.Vread (λ u s n p a l. refl)),
+                                                    row-whole (of6 unit name number (word path_of) number len command.Vread) (all-6 Form unit name number (word path_of) number len command.Vread (λ u s n p a l. refl)),
                                                     (
-                                                      row-bytes (of5 unit name number (word path) number (λ u s n p a b. command.Vwrite u s n p a b)) (all-5 (λ f. (bs : List ℕ) → Form (f bs)) unit name number (word path) number (λ u s n p a b. command.Vwrite u s n p a b) (λ u s n p a b. refl)),
+                                                      row-bytes (of5 unit name number (word path_of) number (λ u s n p a b. command.Vwrite u s n p a b)) (all-5 (λ f. (bs : List ℕ) → Form (f bs)) unit name number (word path_of) number (λ u s n p a b. command.Vwrite u s n p a b) (λ u s n p a b. refl)),
                                                       (
                                                         row-whole (of3 unit name number command.Alias) (all-3 Form unit name number command.Alias (λ u s n. refl)),
                                                         (

@@ -7,6 +7,7 @@ pub mod Adds
 pub mod Soups
 pub mod Entries
 pub mod Copies
+pub mod Replaces
 pub mod Stores
 pub mod Resolves
 pub mod Faces

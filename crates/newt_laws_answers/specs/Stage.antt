@@ -1,27 +1,35 @@
 -- What the world answers today: until large binaries are built, a graph that has one is too large for an entry, and the commands of later stages are none. All of it is this project's own.
-use Rattle.std.specs.Prelude.{nat_le, Bool, true, false, ◌||◌, not, cond, [], ◌∷◌, map, Option, Some, None}
+use Rattle.std.specs.Prelude.{nat_le, Bool, true, false, ◌||◌, not, cond, [], ◌∷◌, map, Option, Some, None, option_map}
 use Rattle.newt_base.specs.Refusals.{Checks, first_of}
 use Rattle.newt_base.specs.declared.Refusal.TheVariants.{Size, Command as NoCommand}
 use Rattle.newt_graph.specs.Graph.{RawGraph}
 use Rattle.newt_spec_store.specs.Lies.{graph_has_no_large}
 use Rattle.newt_spec_world.specs.declared.command.Command.{Command}
 use Rattle.newt_spec_world.specs.declared.command.Command.TheVariants as command
-use Rattle.newt_spec_world.specs.World.{World}
+use Rattle.newt_spec_world.specs.World.{World, entry_in}
+use Rattle.newt_spec_world.specs.Changed.{graph_after_set}
 use Rattle.newt_spec_world.specs.Reply.{Reply}
 use Rattle.newt_spec_world.specs.Refused.{Check, checks}
 use Rattle.newt_spec_world.specs.Answer.{answered}
 
--- the graph that a command makes an entry of
-abbrev pub new_graph : Command → Option RawGraph
-new_graph (command.Add u s g) = Some g
-new_graph (command.Addx u s g) = Some g
-new_graph (command.Addu s g) = Some g
-new_graph _ = None
+-- the graph that a command makes an entry of, or puts in the place of an entry's
+abbrev pub new_graph : World → Command → Option RawGraph
+new_graph w (command.Add u s g) = Some g
+new_graph w (command.Addx u s g) = Some g
+new_graph w (command.Addu s g) = Some g
+new_graph w (command.Set u s uid path g) = option_map (λ e. graph_after_set path g e.graph) (entry_in w u s uid)
+new_graph w (command.Change u s uid g) = Some g
+new_graph w _ = None
+
+-- there is a new graph, and it has a large binary
+abbrev pub has_large : Option RawGraph → Bool
+has_large None = false
+has_large (Some g) = not (graph_has_no_large g)
 
 -- the test of the size also holds where the new graph has a large binary
 abbrev pub staged : Option RawGraph → Check → Check
-staged (Some g) (Size, test) = (Size, not (graph_has_no_large g) || test)
-staged _ check = check
+staged new (Size, test) = (Size, has_large new || test)
+staged new check = check
 
 -- the commands that are built; no line gives a signature above the largest
 abbrev pub is_built : Command → Bool
@@ -42,6 +50,8 @@ is_built (command.Addx _ _ _) = true
 is_built (command.Addu _ _) = true
 is_built (command.Get _ _ _) = true
 is_built (command.Getx _ _ _) = true
+is_built (command.Set _ _ _ _ _) = true
+is_built (command.Change _ _ _ _) = true
 is_built (command.Remove _ _ _) = true
 is_built (command.Copy _ _ _ _ _) = true
 is_built (command.Move _ _ _ _ _) = true
@@ -51,7 +61,7 @@ is_built _ = false
 
 -- The tests of a command, in the order in which they are tried. One that is not built is refused as no command.
 abbrev pub checks_now : World → Command → Checks
-checks_now w c = cond (is_built c) (map (staged (new_graph c)) (checks w c)) ((NoCommand, true) ∷ [])
+checks_now w c = cond (is_built c) (map (staged (new_graph w c)) (checks w c)) ((NoCommand, true) ∷ [])
 
 -- the world after a command, and its reply
 unfoldable pub answer_now : World → Command → World × Reply

@@ -7,9 +7,9 @@ use Rattle.newt_image.specs.Pages.{cap}
 use Rattle.newt_spec_graph.specs.Graph.{is_frame, object}
 use Rattle.newt_spec_store.specs.Cost.{cost, skeleton_length}
 use Rattle.newt_spec_store.specs.Lies.{graph_has_no_large}
-use Rattle.newt_spec_store.specs.Store.{Store, Soup, soup_named, change_soup, make_soup, add_entry, remove_entry}
+use Rattle.newt_spec_store.specs.Store.{Store, Soup, soup_named, change_soup, make_soup, change_entry, add_entry, remove_entry}
 use Rattle.newt_spec_world.specs.World.{World, one, change_device, change_store}
-use Rattle.newt_spec_world.specs.Changed.{new_store}
+use Rattle.newt_spec_world.specs.Changed.{new_store, with_graph}
 use Rattle.newt_spec_world.specs.Refused.{either, no_unit, bad_blocks, is_mounted, not_mounted, no_soup, no_entry}
 
 -- ---- whether things are there
@@ -58,6 +58,15 @@ moved_within now name uid target g s = change_soup name (remove_entry uid) (chan
 -- what is tested of the target and the store
 abbrev pub move_tests : (blocks now : ℕ) → List ℕ → ℕ → List ℕ → RawGraph → Store → Soup → Checks
 move_tests blocks now name uid target g s q = (Ids, q.next_uid == 536_870_911) ∷ (Full, nat_lt (cap blocks) (cost (moved_within now name uid target g s))) ∷ []
+
+-- the store with another graph in an entry's place
+abbrev pub replaced : ℕ → List ℕ → ℕ → RawGraph → Store → Store
+replaced now name uid g s = change_soup name (change_entry uid (with_graph now g)) s
+
+-- what is tested of a graph and the store where it is to take the place of an entry's
+abbrev pub replace_tests : (blocks now : ℕ) → List ℕ → ℕ → RawGraph → Store → Checks
+replace_tests blocks now name uid g s =
+    (Notframe, not (is_frame (object g.nodes g.root))) ∷ (Size, not (graph_has_no_large g) || nat_lt 64_000 (skeleton_length g)) ∷ (Full, nat_lt (cap blocks) (cost (replaced now name uid g s))) ∷ []
 
 -- ---- worlds
 

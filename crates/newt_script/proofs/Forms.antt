@@ -6,6 +6,8 @@ use Rattle.std.specs.Option.{ok_or}
 use Rattle.newt_base.specs.declared.Refusal.TheVariants.{Line as NotTheForm}
 use Rattle.newt_spec_script.specs.Words.{word, or_not_the_form, is_blank, skip_blanks}
 use Rattle.newt_spec_script.specs.Line.{first_word}
+use Rattle.newt_path.specs.Names.{path_of}
+use Rattle.newt_script.specs.Readers.{path_word}
 use Rattle.newt_script.specs.declared.fault.LineFault.{LineFault}
 use Rattle.newt_script.specs.declared.fault.LineFault.TheVariants.{Refused}
 
@@ -38,3 +40,21 @@ pub refuses_word : {A : Type 0} (form : List ℕ → Option A) (cs w : List ℕ)
 refuses_word form cs w None r empty word_ok is given =
     rw given (refl, word_is form cs empty ∙ (ap (λ v. or_not_the_form (form v) (first_word cs).1) (sym word_ok) ∙ ap (λ v. or_not_the_form v (first_word cs).1) (sym is)))
 refuses_word form cs w (Some a) r empty word_ok is given = rw given tt
+
+-- ---- a path
+
+no_path_of_nothing : path_of [] ≡ None
+unfolding path_of
+no_path_of_nothing = refl
+
+pub reads_path : (cs w rest : List ℕ) (p : List (List ℕ)) → w ≡ (first_word cs).0 → rest ≡ (first_word cs).1 → path_of w ≡ Some p → path_word cs ≡ Ok (p, rest)
+unfolding path_word
+reads_path cs w rest p word_ok rest_ok is =
+    word_is path_of cs no_path_of_nothing
+    ∙ (ap (λ v. or_not_the_form (path_of v) (first_word cs).1) (sym word_ok) ∙ (ap (λ v. or_not_the_form v (first_word cs).1) is ∙ ap (λ v. Ok (p, v)) (sym rest_ok)))
+
+pub refuses_path : (cs w : List ℕ) → w ≡ (first_word cs).0 → path_of w ≡ None → path_word cs ≡ Err NotTheForm
+unfolding path_word
+refuses_path cs w word_ok is =
+    word_is path_of cs no_path_of_nothing
+    ∙ (ap (λ v. or_not_the_form (path_of v) (first_word cs).1) (sym word_ok) ∙ ap (λ v. or_not_the_form v (first_word cs).1) is)

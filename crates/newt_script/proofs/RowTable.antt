@@ -4,12 +4,13 @@ use Rattle.newt_base.specs.Text.{hex_bytes}
 use Rattle.newt_base.specs.declared.Refusal.{Refusal}
 use Rattle.newt_base.specs.declared.Refusal.TheVariants.{Line as NotTheForm}
 use Rattle.newt_graph.specs.Graph.{RawGraph}
+use Rattle.newt_path.specs.Names.{path_of}
 use Rattle.newt_spec_world.specs.declared.command.Command.{Command}
 use Rattle.newt_spec_world.specs.declared.command.Command.TheVariants as command
-use Rattle.newt_spec_script.specs.Words.{Reader, then_read, trimmed, of1, of2, of3, of5, name}
+use Rattle.newt_spec_script.specs.Words.{Reader, then_read, trimmed, of1, of2, of3, of5, word, name}
 use Rattle.newt_spec_script.specs.Line.{unit, number, sig, ended, with_literal, with_stream, whole}
 use Rattle.newt_script.specs.Graphs.{literal_in, stream_of, stream_word, literal_word}
-use Rattle.newt_script.specs.Readers.{unit_of, number_of, sig_of, name_of, soup_of, entry_of, rest_of, is_ended, Reading, reading, row_reading}
+use Rattle.newt_script.specs.Readers.{unit_of, number_of, sig_of, name_of, soup_of, entry_of, path_word, rest_of, is_ended, Reading, reading, row_reading}
 use Rattle.newt_script.specs.declared.fault.LineFault.{LineFault}
 use Rattle.newt_script.specs.declared.fault.LineFault.TheVariants.{Refused}
 
@@ -268,6 +269,39 @@ row_get cs = three_words unit name number command.Get cs
 pub row_getx : (cs : List ℕ) → row_reading (codes "getx") cs ≡ after (entry_of cs) (λ x rest. finished rest (command.Getx x.0 x.1 x.2))
 unfolding row_reading entry_of unit_of name_of number_of
 row_getx cs = three_words unit name number command.Getx cs
+
+-- rows of an entry that end in a literal
+literal_value : {A : Type 0} (f : A → RawGraph → Command) (r : Result (A × List ℕ) Refusal)
+    → reading (with_literal (then_read r (λ a rest. Ok (f a, rest)))) ≡ after r (λ a rest. with_graph (literal_word (rest_of rest)) (f a))
+literal_value f (Err r) = refl
+literal_value f (Ok (a, rest)) = ends_in_literal (f a) rest
+
+then_literal : {A : Type 0} (k : A → List ℕ → Result ((RawGraph → Command) × List ℕ) Refusal) (r : Result (A × List ℕ) Refusal)
+    → reading (with_literal (then_read r k)) ≡ after r (λ a rest. reading (with_literal (k a rest)))
+then_literal k (Err r) = refl
+then_literal k (Ok (a, rest)) = refl
+
+one_literal : {A : Type 0} (p : Reader A) (f : A → RawGraph → Command) (cs : List ℕ)
+    → reading (with_literal (of1 p f cs)) ≡ after (p cs) (λ a rest. with_graph (literal_word (rest_of rest)) (f a))
+one_literal p f cs = ap (λ r. reading (with_literal r)) (one p p f cs) ∙ literal_after f (p cs)
+
+pub row_change : (cs : List ℕ)
+    → row_reading (codes "change") cs ≡ after (entry_of cs) (λ x rest. with_graph (literal_word (rest_of rest)) (command.Change x.0 x.1 x.2))
+unfolding row_reading entry_of unit_of name_of number_of
+row_change cs =
+    ap (λ r. reading (with_literal r)) (three_then unit name number (λ u s n rest. Ok ((λ g. command.Change u s n g), rest)) cs)
+    ∙ literal_value (λ (x : ℕ × List ℕ × ℕ) g. command.Change x.0 x.1 x.2 g) (of3 unit name number (λ a b c. (a, b, c)) cs)
+
+pub row_set : (cs : List ℕ)
+    → row_reading (codes "set") cs
+    ≡ after (entry_of cs) (λ x rest. after (path_word rest) (λ p rest. with_graph (literal_word (rest_of rest)) (command.Set x.0 x.1 x.2 p)))
+unfolding row_reading entry_of unit_of name_of number_of path_word
+row_set cs =
+    ap (λ r. reading (with_literal r)) (three_then unit name number (λ u s n. of1 (word path_of) (λ p g. command.Set u s n p g)) cs)
+    ∙ (then_literal (λ (x : ℕ × List ℕ × ℕ). of1 (word path_of) (λ p g. command.Set x.0 x.1 x.2 p g)) (of3 unit name number (λ a b c. (a, b, c)) cs)
+    ∙ after_same (λ (x : ℕ × List ℕ × ℕ) rest. reading (with_literal (of1 (word path_of) (λ p g. command.Set x.0 x.1 x.2 p g) rest)))
+    (λ (x : ℕ × List ℕ × ℕ) rest. after (word path_of rest) (λ p rest. with_graph (literal_word (rest_of rest)) (command.Set x.0 x.1 x.2 p)))
+    (λ x rest. one_literal (word path_of) (λ p g. command.Set x.0 x.1 x.2 p g) rest) (of3 unit name number (λ a b c. (a, b, c)) cs))
 
 pub row_remove : (cs : List ℕ) → row_reading (codes "remove") cs ≡ after (entry_of cs) (λ x rest. finished rest (command.Remove x.0 x.1 x.2))
 unfolding row_reading entry_of unit_of name_of number_of

@@ -1,7 +1,8 @@
 -- What the functions behind `line` read: the readers and rows of the definition, under names that stay closed in proofs.
 use Rattle.std.specs.Prelude.{ℕ, Bool, ◌==◌, List, length, Result, Ok, Err}
+use Rattle.newt_path.specs.Names.{path_of}
 use Rattle.newt_spec_world.specs.declared.command.Command.{Command}
-use Rattle.newt_spec_script.specs.Words.{Reader, of2, of3, name, trimmed}
+use Rattle.newt_spec_script.specs.Words.{Reader, of2, of3, word, name, trimmed}
 use Rattle.newt_spec_script.specs.Line.{Parsed, unit, number, sig, row_of}
 use Rattle.newt_spec_script.specs.Script.{Item, item_of}
 use Rattle.newt_script.specs.Graphs.{readers}
@@ -19,6 +20,10 @@ number_of = number
 -- SIG
 unfoldable pub sig_of : Reader ℕ
 sig_of = sig
+
+-- PATH
+unfoldable pub path_word : Reader (List (List ℕ))
+path_word = word path_of
 
 -- S and NAME
 unfoldable pub name_of : Reader (List ℕ)

@@ -13,8 +13,8 @@ store_words =
 -- and those on entries
 abbrev pub entry_words : List (List ℕ)
 entry_words =
-    codes "add" ∷ codes "addx" ∷ codes "addu" ∷ codes "get" ∷ codes "getx" ∷ codes "remove" ∷ codes "copy" ∷ codes "move" ∷ codes "alias"
-    ∷ codes "resolve" ∷ []
+    codes "add" ∷ codes "addx" ∷ codes "addu" ∷ codes "get" ∷ codes "getx" ∷ codes "set" ∷ codes "change" ∷ codes "remove" ∷ codes "copy"
+    ∷ codes "move" ∷ codes "alias" ∷ codes "resolve" ∷ []
 
 abbrev pub is_entry_word : List ℕ → Bool
 is_entry_word word = list_any (λ built. bytes_eq word built) entry_words

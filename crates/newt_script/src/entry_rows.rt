@@ -54,6 +54,25 @@ pub fn getx(alloc: Global, words: &mut Words) -> Result<Command, LineFault>
     Ok(Command::Getx(unit, name, uid))
 }
 
+/// `set U S UID PATH LIT`
+#[tactic(auto, using(crate::proofs::RowTable::row_set))]
+pub fn set(alloc: Global, words: &mut Words) -> Result<Command, LineFault>
+    ensures { result ≢ Err LineFault.Memory → result ≡ row_reading (codes "set") words.old }
+{
+    let (unit, name, uid) = words.entry(alloc)?;
+    let path = words.path(alloc)?;
+    Ok(Command::Set(unit, name, uid, path, words.literal(alloc)?))
+}
+
+/// `change U S UID LIT`
+#[tactic(auto, using(crate::proofs::RowTable::row_change))]
+pub fn change(alloc: Global, words: &mut Words) -> Result<Command, LineFault>
+    ensures { result ≢ Err LineFault.Memory → result ≡ row_reading (codes "change") words.old }
+{
+    let (unit, name, uid) = words.entry(alloc)?;
+    Ok(Command::Change(unit, name, uid, words.literal(alloc)?))
+}
+
 /// `remove U S UID`
 #[tactic(auto, using(crate::proofs::RowTable::row_remove))]
 pub fn remove(alloc: Global, words: &mut Words) -> Result<Command, LineFault>

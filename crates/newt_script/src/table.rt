@@ -32,6 +32,8 @@ pub fn row(alloc: Global, verb: Verb, words: &mut Words) -> Result<Command, Line
         Verb::Addu => entry_rows::addu(alloc, words),
         Verb::Get => entry_rows::get(alloc, words),
         Verb::Getx => entry_rows::getx(alloc, words),
+        Verb::Set => entry_rows::set(alloc, words),
+        Verb::Change => entry_rows::change(alloc, words),
         Verb::Remove => entry_rows::remove(alloc, words),
         Verb::Copy => entry_rows::copy(alloc, words),
         Verb::Move => entry_rows::move_(alloc, words),

@@ -23,6 +23,8 @@ pub enum Verb {
     Addu,
     Get,
     Getx,
+    Set,
+    Change,
     Remove,
     Copy,
     Move,
@@ -77,6 +79,10 @@ fn named_entry(word: &[u8]) -> Option<Verb>
         Some(Verb::Get)
     } else if word == b"getx".as_slice() {
         Some(Verb::Getx)
+    } else if word == b"set".as_slice() {
+        Some(Verb::Set)
+    } else if word == b"change".as_slice() {
+        Some(Verb::Change)
     } else if word == b"remove".as_slice() {
         Some(Verb::Remove)
     } else if word == b"copy".as_slice() {

@@ -4,7 +4,7 @@ ghost use Rattle.std.specs.List.{prefix_len};
 ghost use Rattle.newt_base.specs.declared.Refusal.TheVariants.{Line as NotTheForm};
 ghost use Rattle.newt_spec_script.specs.Words as spec;
 ghost use Rattle.newt_spec_script.specs.Line.{first_word};
-ghost use Rattle.newt_script.specs.Readers.{unit_of, number_of, sig_of, name_of, soup_of, entry_of, rest_of, is_ended};
+ghost use Rattle.newt_script.specs.Readers.{unit_of, number_of, sig_of, name_of, soup_of, entry_of, path_word, rest_of, is_ended};
 ghost use Rattle.newt_script.specs.Graphs.{literal_word, stream_word};
 
 use crate::fault::LineFault;
@@ -13,6 +13,7 @@ use crate::names::name_from;
 use newt_base::{Name, Sig, Uid, decimal};
 use newt_graph::Graph;
 use newt_host::Unit;
+use newt_path::{Path, PathFault};
 use std::alloc::Global;
 use std::marker::Model;
 
@@ -214,6 +215,18 @@ impl<'a> Words<'a> {
         let name = self.name(alloc)?;
         let uid = self.number()?;
         Ok((unit, name, Uid(uid)))
+    }
+
+    /// PATH: the names of slots from the root down.
+    pub fn path(&mut self, alloc: Global) -> Result<Path, LineFault>
+        ensures read { IfOk result (λ path. path_word self.old ≡ Ok (path, self.new)) }
+        ensures refused { result ≢ Err LineFault.Memory → IfErr result (λ fault. (fault ≡ LineFault.Refused NotTheForm) × (path_word self.old ≡ Err NotTheForm)) }
+    {
+        match Path::read(alloc, self.word()) {
+            Ok(path) => Ok(path),
+            Err(PathFault::Path) => Err(LineFault::FORM),
+            Err(PathFault::Memory) => Err(LineFault::Memory),
+        }
     }
 
     /// LIT: the graph of the literal that is left.

@@ -1,15 +1,15 @@
 -- How many entries of one soup have places.
 use Rattle.std.proofs.Common.{◌≡◌, ℕ, suc, ◌==◌, ◌&&◌, ◌||◌, Bool, true, false, List, [], ◌∷◌, map as map_list, length, is_some, refl, sym, ◌∙◌, ap, ⊎_elim}
-use Rattle.std.specs.List.{filter, list_any, IsDistinct, AllByRecursion}
+use Rattle.std.specs.List.{filter, IsDistinct, AllByRecursion}
 use Rattle.std.specs.Set.{is_member}
 use Rattle.std.specs.BTreeMap as tree
 use Rattle.std.specs.BTreeMap.{BTreeMap}
-use Rattle.std.specs.Ordering.{is_eq, eq_by_cmp}
+use Rattle.std.specs.Ordering.{eq_by_cmp}
 use Rattle.std.proofs.lemmas.Cmp.{eq_by_cmp_equiv}
 use Rattle.std.proofs.lemmas.List.Kept.{IsStrictlySortedBy-filter}
 use Rattle.std.proofs.lemmas.Map.Keys.{IsDistinct-from_sorted}
 use Rattle.std.proofs.lemmas.Map.Made.{length-from_same_keys, is_member-filter, is_some-lookup}
-use Rattle.newt_pagebook.proofs.Tests.{true_or_false, is_same, equal_true, equal_false}
+use Rattle.newt_pagebook.proofs.Tests.{true_or_false, is_same, equal_true}
 use Rattle.newt_objects.specs.Headers.{part_cmp}
 use Rattle.newt_objects.proofs.Indexing.{parts_total, same_part, itself}
 

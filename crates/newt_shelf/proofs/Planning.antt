@@ -66,8 +66,8 @@ written directory entry gone a b c d first second none third not_first not_gone 
 
 -- ---- how many pages
 
-pub adds-none : (puts : ℕ) (batch : Change) → puts ≡ 0 → AddsPages puts 0 batch batch
-adds-none puts batch none = record { more_puts = (omega (arith, none)); more_deletes = (omega arith) }
+pub adds-none : (puts deletes : ℕ) (batch : Change) → puts ≡ 0 → deletes ≡ 0 → AddsPages puts deletes batch batch
+adds-none puts deletes batch first second = record { more_puts = (omega (arith, first)); more_deletes = (omega (arith, second)) }
 
 pub adds-as : (p q d e : ℕ) (old new : Change) → p ≡ q → d ≡ e → AddsPages p d old new → AddsPages q e old new
 adds-as p q d e old new puts deletes adds = record { more_puts = (omega (arith, puts, adds.more_puts)); more_deletes = (omega (arith, deletes, adds.more_deletes)) }

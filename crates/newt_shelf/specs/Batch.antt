@@ -45,6 +45,15 @@ abbrev pub new_pages : Option NewEntry → ℕ
 new_pages None = 0
 new_pages (Some e) = pages_for (length e.bytes.items)
 
+-- how many pages the object has that the record of the new entry is put over, none where there is none
+abbrev pub over_pages : Held → Option NewEntry → ℕ
+over_pages objects None = 0
+over_pages objects (Some e) = pages_held objects e.id
+
+-- the new entry's object is none of these
+abbrev pub IsApart : Option NewEntry → List ℕ → Type 0
+IsApart entry gone = (e : NewEntry) (k : ℕ) → entry ≡ Some e → slice_get gone k ≡ Some e.id → ⊥
+
 -- so many pages more are put, and so many more are deleted
 pub record AddsPages (puts deletes : ℕ) (old new : Change) : Type 0 where
   pub more_puts : length new.puts ≡ length old.puts + puts

@@ -6,14 +6,14 @@ ghost use Rattle.newt_objects.specs.Held.{held, Texts, IsUnplanned};
 ghost use Rattle.newt_objects.specs.Changing.{IsUnderWay};
 ghost use Rattle.newt_pagebook.specs.Batch.{no_change};
 ghost use Rattle.newt_shelf.specs.declared.batch.NewEntry.{NewEntry as NewOne};
-ghost use Rattle.newt_shelf.specs.Batch.{AreWritten, HasPut, HasNone, IsAmong, AreOnce, AddsPages, pages_held, all_pages_held, new_pages};
+ghost use Rattle.newt_shelf.specs.Batch.{AreWritten, HasPut, HasNone, IsAmong, IsApart, AreOnce, AddsPages, pages_held, all_pages_held, new_pages, over_pages};
 
 use newt_base::{Sig, Uid};
 use newt_objects::Objects;
 use newt_pagebook::Batch;
 use std::alloc::{AllocError, Global};
 
-/// A new entry: its soup, its id, the object that gets its record, and the record.
+/// A new entry: its soup, its id, the object that gets its record, and the record. The object may be one that is there: then the record is put over it.
 #[derive(Drop)]
 pub struct NewEntry {
     pub sig: Sig,
@@ -50,12 +50,11 @@ fn plan_entry(
     batch: &mut Batch,
 ) -> Result<(), AllocError>
     requires no_plan { (e : NewOne) → entry.now ≡ Some e → IsUnplanned objects.old e.id }
-    requires free { (e : NewOne) → entry.now ≡ Some e → held objects.old e.id ≡ None }
     requires way { (live : Pages) × (texts : Texts) × IsUnderWay objects.old batch.old live texts }
     ensures way { OnOk result ((live : Pages) (texts : Texts) → IsUnderWay objects.old batch.old live texts → (after : Texts) × IsUnderWay objects.new batch.new live after × ((e : NewOne) → entry.now ≡ Some e → HasPut e.id e.bytes.items texts after) × (entry.now ≡ None → after ≡ texts)) }
     ensures held { (other : ℕ) → held objects.new other ≡ held objects.old other }
     ensures others { OnOk result ((other : ℕ) → ((e : NewOne) → entry.now ≡ Some e → other ≢ e.id) → IsUnplanned objects.old other → IsUnplanned objects.new other) }
-    ensures pages { OnOk result (AddsPages (new_pages entry.now) 0 batch.old batch.new) }
+    ensures pages { OnOk result (AddsPages (new_pages entry.now) (over_pages objects.old entry.now) batch.old batch.new) }
 {
     let Some(e) = entry else {
         return Ok(());
@@ -91,13 +90,13 @@ pub fn plan_objects(
     requires none { objects.old.plans ≡ [] }
     requires way { (live : Pages) × (texts : Texts) × IsUnderWay objects.old batch.old live texts }
     requires odd { (e : NewOne) → entry.now ≡ Some e → e.id % 2 ≡ 1 }
-    requires free { (e : NewOne) → entry.now ≡ Some e → held objects.old e.id ≡ None }
+    requires apart { IsApart entry.now gone.now }
     requires there { (k id : ℕ) → slice_get gone.now k ≡ Some id → IsSome (held objects.old id) }
     requires gone_odd { (k id : ℕ) → slice_get gone.now k ≡ Some id → id % 2 ≡ 1 }
     requires once { AreOnce gone.now }
     ensures way { OnOk result ((live : Pages) (texts : Texts) → IsUnderWay objects.old batch.old live texts → (after : Texts) × IsUnderWay objects.new batch.new live after × AreWritten directory.now entry.now gone.now texts after) }
     ensures held { (other : ℕ) → held objects.new other ≡ held objects.old other }
-    ensures pages { OnOk result (AddsPages (pages_for (length directory.now) + new_pages entry.now) (pages_held objects.old 0 + all_pages_held objects.old gone.now) batch.old batch.new) }
+    ensures pages { OnOk result (AddsPages (pages_for (length directory.now) + new_pages entry.now) (pages_held objects.old 0 + over_pages objects.old entry.now + all_pages_held objects.old gone.now) batch.old batch.new) }
 {
     plan_object(objects, 0, directory, batch)?;
     plan_entry(objects, entry, batch)?;

@@ -7,9 +7,10 @@ use Rattle.newt_base.specs.Names.{same_name}
 use Rattle.newt_base.specs.Text.{decimal_value, signed_value}
 use Rattle.newt_graph.specs.Graph.{RawGraph}
 use Rattle.newt_spec_graph.specs.Lists.{all_apart}
+use Rattle.newt_path.specs.Names.{path_of}
 use Rattle.newt_spec_world.specs.declared.command.Command.{Command}
 use Rattle.newt_spec_world.specs.declared.command.Command.TheVariants as command
-use Rattle.newt_spec_script.specs.Words.{Reader, is_blank, skip_blanks, trimmed, word, of1, of2, of3, of4, of5, of6, decimal_to, unit_digit, name, path, part, symbol, several}
+use Rattle.newt_spec_script.specs.Words.{Reader, is_blank, skip_blanks, trimmed, word, of1, of2, of3, of4, of5, of6, decimal_to, unit_digit, name, part, symbol, several}
 
 -- ---- the forms of single words
 
@@ -102,7 +103,7 @@ or_row _ other = other
 
 -- the two rows of `tags`: the first where nothing follows the soup's name (this project's own)
 abbrev pub tags_row : List ℕ → Parsed
-tags_row cs = or_row (whole (of2 unit name command.Tags) cs) (whole (of4 unit name (word path) distinct command.SetTags) cs)
+tags_row cs = or_row (whole (of2 unit name command.Tags) cs) (whole (of4 unit name (word path_of) distinct command.SetTags) cs)
 
 -- the word that stands for all mounted stores (this project's own)
 abbrev pub star : List ℕ → Option ℕ
@@ -136,7 +137,7 @@ rows =
     ∷ (codes "soups", whole (of1 unit command.Soups))
     ∷ (codes "drop", whole (of2 unit name command.Drop))
     ∷ (codes "index", whole (of3 unit name (several 4 part) command.Index))
-    ∷ (codes "unindex", whole (of3 unit name (several 4 path) command.Unindex))
+    ∷ (codes "unindex", whole (of3 unit name (several 4 path_of) command.Unindex))
     ∷ (codes "indexes", whole (of2 unit name command.Indexes))
     ∷ (codes "tags", tags_row)
     ∷ (codes "add", and_literal (of2 unit name (λ u s g. command.Add u s g)))
@@ -144,13 +145,13 @@ rows =
     ∷ (codes "addu", and_literal (of1 name (λ s g. command.Addu s g)))
     ∷ (codes "get", whole (of3 unit name number command.Get))
     ∷ (codes "getx", whole (of3 unit name number command.Getx))
-    ∷ (codes "set", and_literal (of4 unit name number (word path) (λ u s n p g. command.Set u s n p g)))
+    ∷ (codes "set", and_literal (of4 unit name number (word path_of) (λ u s n p g. command.Set u s n p g)))
     ∷ (codes "change", and_literal (of3 unit name number (λ u s n g. command.Change u s n g)))
     ∷ (codes "remove", whole (of3 unit name number command.Remove))
     ∷ (codes "copy", whole (of5 unit name number unit name command.Copy))
     ∷ (codes "move", whole (of5 unit name number unit name command.Move))
-    ∷ (codes "vread", whole (of6 unit name number (word path) number len command.Vread))
-    ∷ (codes "vwrite", and_bytes (of5 unit name number (word path) number (λ u s n p a b. command.Vwrite u s n p a b)))
+    ∷ (codes "vread", whole (of6 unit name number (word path_of) number len command.Vread))
+    ∷ (codes "vwrite", and_bytes (of5 unit name number (word path_of) number (λ u s n p a b. command.Vwrite u s n p a b)))
     ∷ (codes "alias", whole (of3 unit name number command.Alias))
     ∷ (codes "resolve", and_literal (alone command.Resolve))
     ∷ (codes "query", query_row)

@@ -9,8 +9,8 @@ use Rattle.newt_spec_store.specs.declared.Kind.{Kind}
 use Rattle.newt_spec_store.specs.declared.Kind.TheVariants as kind
 use Rattle.newt_spec_store.specs.declared.Order.{Order}
 use Rattle.newt_spec_store.specs.declared.Order.TheVariants as order
-use Rattle.newt_spec_store.specs.Keys.{Path}
-use Rattle.newt_spec_store.specs.Valid.{valid_path, valid_symbol}
+use Rattle.newt_path.specs.Names.{path_of}
+use Rattle.newt_spec_store.specs.Valid.{valid_symbol}
 use Rattle.newt_spec_world.specs.declared.command.PartWord.{PartWord}
 
 -- a space or a tab (this project's own)
@@ -139,10 +139,6 @@ split_at mark (c ∷ cs) = elim (c == mark) [ true ↦ [] ∷ split_at mark cs |
     onto x [] = (x ∷ []) ∷ []
     onto x (p ∷ ps) = (x ∷ p) ∷ ps
 
--- a path: identifiers with points between them (this project's own)
-abbrev pub path : List ℕ → Option Path
-path cs = only valid_path (split_at 46 cs)
-
 -- a type; `real` gives none (this project's own)
 abbrev pub kind_word : List ℕ → Option (Option Kind)
 kind_word cs =
@@ -156,7 +152,7 @@ order_word cs = if bytes_eq cs (codes "ascend") then Some order.Ascend else if b
 
 -- a part of an index of three pieces: path, type and direction (this project's own)
 abbrev pub part_of : List (List ℕ) → Option PartWord
-part_of (p ∷ k ∷ d ∷ []) = option_and_then (λ a. option_and_then (λ b. option_map (λ c. record { path = a; kind = b; order = c }) (order_word d)) (kind_word k)) (path p)
+part_of (p ∷ k ∷ d ∷ []) = option_and_then (λ a. option_and_then (λ b. option_map (λ c. record { path = a; kind = b; order = c }) (order_word d)) (kind_word k)) (path_of p)
 part_of _ = None
 
 -- a part of an index: its pieces have colons between them (this project's own)

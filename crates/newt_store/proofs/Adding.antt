@@ -39,13 +39,14 @@ use Rattle.newt_store.specs.declared.change.Change.TheVariants.{Add}
 use Rattle.newt_store.specs.declared.next.Next.{Next}
 use Rattle.newt_store.specs.declared.next.Gone.{Gone}
 use Rattle.newt_store.specs.declared.next.Gone.TheVariants.{Nothing}
-use Rattle.newt_store.specs.Change.{first_checks, is_too_large, has_no_ids, next_uid_of, changed_soup, pages_of_entry}
-use Rattle.newt_store.specs.Next.{Goes, IsNew, Turns, IsAdding, IsPlanOf, goes_pages}
+use Rattle.newt_store.specs.Change.{first_checks, is_too_large, has_no_ids, next_uid_of, changed_soup, entry_in, pages_of_entry}
+use Rattle.newt_store.specs.Next.{Goes, IsNew, Turns, IsAdding, IsPlanOf, goes_pages, replaced_pages}
 use Rattle.newt_store.specs.Stands.{Describes}
 use Rattle.newt_store.proofs.Reading.{both, join}
 use Rattle.newt_store.proofs.Found.{soup-same, soup-some, emptied-some}
 use Rattle.newt_store.proofs.Turning.{bytes-of}
-use Rattle.newt_store.proofs.Planned.{first-holds, first-not, bare-bare}
+use Rattle.newt_store.proofs.Planned.{first-holds, first-not, bare-bare, none-over}
+use Rattle.newt_store.proofs.Entries.{no-entry-at}
 
 -- the directory after an id was taken is well formed
 pub formed-taken : (d e : Directory) (p : Soup) (sig now : ℕ) (g : RawGraph) → well_formed (bare_store d) ≡ true → soup_of sig (bare_store d) ≡ Some p → p.next_uid < 536870911
@@ -124,7 +125,7 @@ module _ (catalog : Catalog) (s : Store) (sound : AreSoundPlaces (held catalog.o
             };
         fresh = λ texts d e is.
             let same : e ≡ adds.entry = some_inj e adds.entry (sym is ∙ adds.is_entry) in
-            ap (λ (x : NewEntry). place-now x.sig x.uid) same ∙ ap (λ (n : ℕ). place-now n adds.entry.uid) adds.of_sig ∙ ap (place-now sig) adds.of_uid ∙ not-yet texts d;
+            inl (ap (λ (x : NewEntry). place-now x.sig x.uid) same ∙ ap (λ (n : ℕ). place-now n adds.entry.uid) adds.of_sig ∙ ap (place-now sig) adds.of_uid ∙ not-yet texts d);
         stays = λ texts d e is goes. goes-not e.sig e.uid goes;
         bare_is = λ texts d. added_bare s sig p d.formed found now g ∙ ap (take_uid_of sig) d.bare_is ∙ sym adds.directory;
       }
@@ -193,6 +194,13 @@ pub new-entry-pages : (catalog : Catalog) (sig uid now : ℕ) (g : RawGraph) (go
 new-entry-pages catalog sig uid now g gone next adds plain =
     ap new_pages adds.is_entry ∙ ap (λ (l : List ℕ). pages_for (length l)) adds.bytes ∙ record-pages sig (record { uid = uid; time = now; graph = g }) plain
 
+-- it stands where no entry stood
+pub none-replaced : (catalog : Catalog) (texts : Objects) (s : Store) (sig uid now : ℕ) (g : RawGraph) (gone : Gone) (next : Next) → Describes catalog.directory (place_of catalog.places) texts s → IsAdding catalog sig uid now g gone next
+    → place_of catalog.places sig uid ≡ None → replaced_pages next.entry s ≡ 0
+none-replaced catalog texts s sig uid now g gone next d adds none =
+    ap (λ (o : Option NewEntry). replaced_pages o s) adds.is_entry ∙ ap (λ (n : ℕ). pages_of_entry (entry_in n adds.entry.uid s)) adds.of_sig ∙ ap (λ (n : ℕ). pages_of_entry (entry_in sig n s)) adds.of_uid
+    ∙ ap pages_of_entry (no-entry-at catalog.directory (place_of catalog.places) texts s d sig uid none)
+
 pub add-planned : (catalog : Catalog) (texts : Objects) (s : Store) (sig now : ℕ) (g : RawGraph) (row : SoupRow) (next : Next) → AreSoundPlaces (held catalog.objects) (place_of catalog.places) → Describes catalog.directory (place_of catalog.places) texts s
     → soup_of sig (bare_store catalog.directory) ≡ Some (bare_soup row) → row.sig ≡ sig → IsGraph g → now < 4294967296 → is_frame (object g.nodes g.root) ≡ true → graph_has_no_large g ≡ true → skeleton_length g ≤ 64000 → row.next_uid ≢ 536870911 → row.next_uid < 536870911
     → IsAdding catalog row.sig row.next_uid now g Nothing next → IsPlanOf catalog (Add sig g) now s next
@@ -208,7 +216,8 @@ add-planned catalog texts s sig now g row next sound d is of_sig graph time fram
       turns = subst (λ (t : Store). Turns catalog next s t) (ap (λ (o : Option Soup). changed_soup o (add_entry now g) s) (sym p.1))
           (turns-added catalog s sound sig p.0 p.1 now g graph time room' (is-valid-graph p.0.next_uid now g graph frame short) plain next adds');
       added = new-entry-pages catalog row.sig row.next_uid now g Nothing next adds plain;
-      removed = ap (λ (gone : Gone). goes_pages gone s) adds.of_gone;
+      removed = ap (λ (n : ℕ). n + goes_pages next.gone s) (none-replaced catalog texts s sig p.0.next_uid now g Nothing next d adds' (not-yet catalog s sound sig p.0 p.1 texts d))
+          ∙ none-over (goes_pages next.gone s) ∙ ap (λ (gone : Gone). goes_pages gone s) adds.of_gone;
     }
 
 pub row-is : (b : Store) (sig : ℕ) (row : SoupRow) → soup_of sig b ≡ Some (bare_soup row) → (row.sig ≡ sig) × (soup_of row.sig b ≡ Some (bare_soup row))

@@ -20,13 +20,14 @@ use Rattle.newt_laws_changes.proofs.Costs.{dropped_cost, removed_cost}
 use Rattle.newt_shelf.specs.declared.fault.StoreFault.{StoreFault}
 use Rattle.newt_shelf.specs.declared.fault.StoreFault.TheVariants.{Refused, Stop}
 use Rattle.newt_shelf.specs.Faults.{RefusesOnly, FaultsAt}
+use Rattle.newt_shelf.specs.Batch.{new_pages}
 use Rattle.newt_shelf.specs.Places.{place_of}
 use Rattle.newt_store.specs.declared.catalog.Catalog.{Catalog}
 use Rattle.newt_store.specs.declared.change.Change.{Change}
-use Rattle.newt_store.specs.declared.change.Change.TheVariants.{MakeSoup, DropSoup, Add, Remove, Move}
+use Rattle.newt_store.specs.declared.change.Change.TheVariants.{MakeSoup, DropSoup, Add, Remove, Move, Replace}
 use Rattle.newt_store.specs.Change.{changed_by, first_checks, full_check, refusal_of, dropped_soup, changed_soup, pages_put, pages_gone, directory_pages, most_bytes}
 use Rattle.newt_store.specs.declared.next.Next.{Next}
-use Rattle.newt_store.specs.Next.{IsEitherStore, IsPlanOf, turn_bytes}
+use Rattle.newt_store.specs.Next.{IsEitherStore, IsPlanOf, goes_pages, replaced_pages, turn_bytes}
 use Rattle.newt_store.specs.Stage.{readable}
 use Rattle.newt_store.specs.Stands.{StandsFor, IsSound, IsRefused, RefusesWith, IsBeforeOrChanged}
 use Rattle.newt_store.proofs.Writing.{kept-over, failed}
@@ -67,6 +68,7 @@ fits-check (Remove sig uid) blocks now s low = refl
 fits-check (MakeSoup name) blocks now s low = first-not Full (nat_lt (cap blocks) (cost (changed_by (MakeSoup name) now s))) [] (not-more _ _ low)
 fits-check (Add sig g) blocks now s low = first-not Full (nat_lt (cap blocks) (cost (changed_by (Add sig g) now s))) [] (not-more _ _ low)
 fits-check (Move a u b) blocks now s low = first-not Full (nat_lt (cap blocks) (cost (changed_by (Move a u b) now s))) [] (not-more _ _ low)
+fits-check (Replace a u g) blocks now s low = first-not Full (nat_lt (cap blocks) (cost (changed_by (Replace a u g) now s))) [] (not-more _ _ low)
 
 pub none-due : (change : Change) (blocks now : ℕ) (s : Store) → first_of (first_checks change s) ≡ None → cost (changed_by change now s) ≤ cap blocks → refusal_of change blocks now s ≡ None
 none-due change blocks now s first low = first-later (first_checks change s) (full_check change blocks now s) first ∙ fits-check change blocks now s low
@@ -85,6 +87,7 @@ full-check (Remove sig uid) blocks now s low more = absurd (omega (arith, low, m
 full-check (MakeSoup name) blocks now s low more = first-holds Full (nat_lt (cap blocks) (cost (changed_by (MakeSoup name) now s))) [] (more-than _ _ more)
 full-check (Add sig g) blocks now s low more = first-holds Full (nat_lt (cap blocks) (cost (changed_by (Add sig g) now s))) [] (more-than _ _ more)
 full-check (Move a u b) blocks now s low more = first-holds Full (nat_lt (cap blocks) (cost (changed_by (Move a u b) now s))) [] (more-than _ _ more)
+full-check (Replace a u g) blocks now s low more = first-holds Full (nat_lt (cap blocks) (cost (changed_by (Replace a u g) now s))) [] (more-than _ _ more)
 
 pub full-due : (change : Change) (blocks now : ℕ) (s : Store) → first_of (first_checks change s) ≡ None → cost s ≤ cap blocks → cap blocks < cost (changed_by change now s) → refusal_of change blocks now s ≡ Some Full
 full-due change blocks now s first low more = first-later (first_checks change s) (full_check change blocks now s) first ∙ full-check change blocks now s low more
@@ -149,9 +152,13 @@ touches-over unit unit' old mid new place first second = Touches-append first (s
 planned-bytes : (catalog : Catalog) (change : Change) (blocks now : ℕ) (s : Store) (next : Next) → IsPlanOf catalog change now s next → refusal_of change blocks now s ≡ None → turn_bytes next s (changed_by change now s) ≡ most_bytes change blocks now s
 unfolding most_bytes turn_bytes
 planned-bytes catalog change blocks now s next plan none =
-    (λ i. 9 + 516 * (directory_pages (changed_by change now s) + plan.added i) + 4 * (directory_pages s + plan.removed i))
+    ap (λ (n : ℕ). 9 + 516 * (directory_pages (changed_by change now s) + new_pages next.entry) + 4 * n) (three (directory_pages s) (replaced_pages next.entry s) (goes_pages next.gone s))
+    ∙ (λ i. 9 + 516 * (directory_pages (changed_by change now s) + plan.added i) + 4 * (directory_pages s + plan.removed i))
     ∙ turned (pages_put change now s) (pages_gone change s)
     ∙ sym (ap (λ (o : Option Refusal). cond (is_some o) 0 (516 * pages_put change now s + 4 * pages_gone change s + 9)) none) where
+      three : (a b c : ℕ) → a + b + c ≡ a + (b + c)
+      three a b c = omega arith
+
       turned : (p q : ℕ) → 9 + 516 * p + 4 * q ≡ 516 * p + 4 * q + 9
       turned p q = omega arith
 

@@ -1,23 +1,25 @@
 -- A change that was written, and the memory that follows it.
-use Rattle.std.proofs.Common.{◌≡◌, ◌≢◌, ◌⊎◌, inl, inr, ℕ, ◌%◌, ◌≤◌, List, slice_get, Option, Some, None, IsSome, refl, sym, ◌∙◌, ap, subst, ⊎_elim}
+use Rattle.std.proofs.Common.{◌≡◌, ◌≢◌, ◌⊎◌, inl, inr, ℕ, ◌%◌, ◌≤◌, Bool, true, false, List, slice_get, Option, Some, None, IsSome, refl, sym, ◌∙◌, ap, subst, ⊎_elim}
 use Rattle.std.proofs.lemmas.Bool.{cases_eq}
-use Rattle.newt_pagebook.proofs.Tests.{some_inj}
+use Rattle.newt_pagebook.proofs.Tests.{some_inj, true_or_false}
 use Rattle.newt_host.specs.Moments.{Moment, image, IsDurable, Leaves}
 use Rattle.newt_host.proofs.Moments.{Leaves-start, Leaves-weaken}
 use Rattle.newt_image.specs.Objects.{Extent, Table, Objects}
 use Rattle.newt_image.specs.Pages.{cap}
+use Rattle.newt_objects.specs.Held.{held}
 use Rattle.newt_objects.specs.Changing.{HoldsObjects, total_pages}
 use Rattle.newt_spec_store.specs.Store.{Store}
 use Rattle.newt_spec_store.specs.Cost.{cost}
 use Rattle.newt_spec_store.specs.Lies.{Places}
 use Rattle.newt_spec_store.specs.OfImage.{blocks_of}
+use Rattle.newt_shelf.specs.Batch.{IsApart}
 use Rattle.newt_shelf.specs.declared.batch.NewEntry.{NewEntry}
 use Rattle.newt_shelf.specs.Places.{place_of, AreSoundPlaces}
 use Rattle.newt_store.specs.declared.catalog.Catalog.{Catalog}
 use Rattle.newt_store.specs.declared.next.Gone.{Gone}
 use Rattle.newt_store.specs.declared.next.Gone.TheVariants.{Nothing, OneEntry, AllOf}
 use Rattle.newt_store.specs.declared.next.Next.{Next}
-use Rattle.newt_store.specs.Next.{Goes, IsNew, AreNext, ArePlacesNext, Turns, WritesNext, HoldsEither, IsEitherStore}
+use Rattle.newt_store.specs.Next.{Goes, IsNew, IsNextOf, AreNext, ArePlacesNext, Turns, WritesNext, HoldsEither, IsEitherStore}
 use Rattle.newt_store.specs.Stage.{readable}
 use Rattle.newt_store.specs.Stands.{Describes, StandsFor}
 use Rattle.newt_store.proofs.Reading.{read-back, total-cost, same-cap}
@@ -123,9 +125,9 @@ placed-next next old stays = record {
 
 -- ---- the table of places, as the code changes it
 
--- a place is the new entry's, or it was there and does not go
+-- a place is the new entry's, or it is another that was there and does not go
 abbrev Which : Next → Places → ℕ → ℕ → ℕ → Type 0
-Which next old sig uid id = ((e : NewEntry) × (next.entry ≡ Some e) × (e.sig ≡ sig) × (e.uid ≡ uid) × (e.id ≡ id)) ⊎ ((old sig uid ≡ Some id) × (Goes next.gone sig uid → ⊥))
+Which next old sig uid id = ((e : NewEntry) × (next.entry ≡ Some e) × (e.sig ≡ sig) × (e.uid ≡ uid) × (e.id ≡ id)) ⊎ ((old sig uid ≡ Some id) × (Goes next.gone sig uid → ⊥) × (IsNew next.entry sig uid → ⊥))
 
 module _ (next : Next) (old mid new : Places)
     (kept : (e : NewEntry) → next.entry ≡ Some e → mid e.sig e.uid ≡ Some e.id) (mid-others : (sig uid : ℕ) → (IsNew next.entry sig uid → ⊥) → mid sig uid ≡ old sig uid)
@@ -146,10 +148,11 @@ module _ (next : Next) (old mid new : Places)
       let w = new-is next.entry sig uid is in
       let same : mid w.0.sig w.0.uid ≡ Some id = ap (λ (s : ℕ). mid s w.0.uid) w.2 ∙ ap (mid sig) w.3 ∙ was in
       inl (w.0, w.1, w.2, w.3, some_inj w.0.id id (sym (kept w.0 w.1) ∙ same)))
-      (λ (isnt : IsNew next.entry sig uid → ⊥). inr (sym (mid-others sig uid isnt) ∙ was, there))
+      (λ (isnt : IsNew next.entry sig uid → ⊥). inr (sym (mid-others sig uid isnt) ∙ was, there, isnt))
       (decide-new next.entry sig uid)
 
-  module _ (ids : List ℕ) (are : AreGone old next.gone ids) (table table' : Table) (sound : AreSoundPlaces table old) (free : (e : NewEntry) → next.entry ≡ Some e → table e.id ≡ None)
+  module _ (ids : List ℕ) (are : AreGone old next.gone ids) (table table' : Table) (sound : AreSoundPlaces table old)
+      (free : (e : NewEntry) → next.entry ≡ Some e → (table e.id ≡ None) ⊎ ((old e.sig e.uid ≡ Some e.id) × (Goes next.gone e.sig e.uid → ⊥)))
       (odd : (e : NewEntry) → next.entry ≡ Some e → e.id % 2 ≡ 1) (held-new : (e : NewEntry) → next.entry ≡ Some e → IsSome (table' e.id))
       (held-there : (id : ℕ) → IsSome (table id) → ((k : ℕ) → slice_get ids k ≡ Some id → ⊥) → IsSome (table' id)) where
     pub sound-next : AreSoundPlaces table' new
@@ -164,33 +167,70 @@ module _ (next : Next) (old mid new : Places)
       odd = λ sig uid id at. ⊎_elim (λ w. subst (λ (n : ℕ). n % 2 ≡ 1) w.4 (odd w.0 w.1)) (λ w. sound.odd sig uid id w.0) (which sig uid id at);
       once = λ sig uid s u id at other. pairs sig uid s u id (which sig uid id at) (which s u id other);
     } where
-      clash : (e : NewEntry) (s u id : ℕ) → next.entry ≡ Some e → e.id ≡ id → old s u ≡ Some id → ⊥
-      clash e s u id is same at = no-object (table e.id) (free e is) (subst (λ (n : ℕ). IsSome (table n)) (sym same) (sound.there s u id at))
+      clash : (e : NewEntry) (s u id : ℕ) → next.entry ≡ Some e → e.id ≡ id → old s u ≡ Some id → (IsNew next.entry s u → ⊥) → ⊥
+      clash e s u id is same at isnt = ⊎_elim
+          (λ none. no-object (table e.id) none (subst (λ (n : ℕ). IsSome (table n)) (sym same) (sound.there s u id at)))
+          (λ its. isnt (subst (λ (o : Option NewEntry). IsNew o s u) (sym is) (sound.once e.sig e.uid s u id (its.0 ∙ ap Some same) at)))
+          (free e is)
 
       pairs : (sig uid s u id : ℕ) → Which next old sig uid id → Which next old s u id → (sig ≡ s) × (uid ≡ u)
       pairs sig uid s u id (inl w) (inl v) =
           let e : w.0 ≡ v.0 = some_inj w.0 v.0 (sym w.1 ∙ v.1) in
           (sym w.2 ∙ ap (λ (x : NewEntry). x.sig) e ∙ v.2, sym w.3 ∙ ap (λ (x : NewEntry). x.uid) e ∙ v.3)
-      pairs sig uid s u id (inl w) (inr v) = absurd (clash w.0 s u id w.1 w.4 v.0)
-      pairs sig uid s u id (inr w) (inl v) = absurd (clash v.0 sig uid id v.1 v.4 w.0)
+      pairs sig uid s u id (inl w) (inr v) = absurd (clash w.0 s u id w.1 w.4 v.0 v.2)
+      pairs sig uid s u id (inr w) (inl v) = absurd (clash v.0 sig uid id v.1 v.4 w.0 w.2)
       pairs sig uid s u id (inr w) (inr v) = sound.once sig uid s u id w.0 v.0
 
+-- the new entry's object is none of those that go
+pub new-apart : (catalog : Catalog) (next : Next) (ids : List ℕ) → AreSoundPlaces (held catalog.objects) (place_of catalog.places) → IsNextOf catalog next
+    → ((k id : ℕ) → slice_get ids k ≡ Some id → (sig : ℕ) × (uid : ℕ) × Goes next.gone sig uid × (place_of catalog.places sig uid ≡ Some id)) → IsApart next.entry ids
+new-apart catalog next ids sound are real e k is at =
+    let w = real k e.id at in
+    ⊎_elim
+    (λ none. no-object (held catalog.objects e.id) none (sound.there w.0 w.1 e.id w.3))
+    (λ its.
+    let same = sound.once w.0 w.1 e.sig e.uid e.id w.3 its.0 in
+    its.1 (subst (λ (s : ℕ). Goes next.gone s e.uid) same.0 (subst (λ (u : ℕ). Goes next.gone w.0 u) same.1 w.2)))
+    (are.free e is)
+
 -- where nothing was written, the places are those that were there
-module _ (next : Next) (old mid new : Places) (mid-others : (sig uid : ℕ) → (IsNew next.entry sig uid → ⊥) → mid sig uid ≡ old sig uid)
-    (forgot : (sig uid : ℕ) → IsNew next.entry sig uid → new sig uid ≡ None) (new-others : (sig uid : ℕ) → (IsNew next.entry sig uid → ⊥) → new sig uid ≡ mid sig uid) where
+module _ (next : Next) (old mid new : Places) (was : Bool) (kept : (e : NewEntry) → next.entry ≡ Some e → mid e.sig e.uid ≡ Some e.id) (mid-others : (sig uid : ℕ) → (IsNew next.entry sig uid → ⊥) → mid sig uid ≡ old sig uid)
+    (placed : was ≡ true → (e : NewEntry) → next.entry ≡ Some e → old e.sig e.uid ≡ Some e.id)
+    (forgot : was ≡ false → (sig uid : ℕ) → IsNew next.entry sig uid → new sig uid ≡ None) (stayed : was ≡ true → (sig uid : ℕ) → new sig uid ≡ mid sig uid)
+    (new-others : (sig uid : ℕ) → (IsNew next.entry sig uid → ⊥) → new sig uid ≡ mid sig uid) where
+  -- a new entry that had its place has it again
+  back-placed : was ≡ true → (sig uid : ℕ) → IsNew next.entry sig uid → new sig uid ≡ old sig uid
+  back-placed had sig uid is =
+      let w = new-is next.entry sig uid is in
+      stayed had sig uid ∙ ap (λ (s : ℕ). mid s uid) (sym w.2) ∙ ap (mid w.0.sig) (sym w.3) ∙ kept w.0 w.1
+      ∙ sym (placed had w.0 w.1) ∙ ap (old w.0.sig) w.3 ∙ ap (λ (s : ℕ). old s uid) w.2
+
   pub fewer-back : (sig uid id : ℕ) → new sig uid ≡ Some id → old sig uid ≡ Some id
   fewer-back sig uid id at = ⊎_elim
-      (λ (is : IsNew next.entry sig uid). absurd (none-some (sym (forgot sig uid is) ∙ at)))
+      (λ (is : IsNew next.entry sig uid). ⊎_elim
+      (λ (had : was ≡ true). sym (back-placed had sig uid is) ∙ at)
+      (λ (hadnt : was ≡ false). absurd (none-some (sym (forgot hadnt sig uid is) ∙ at)))
+      (true_or_false was))
       (λ (isnt : IsNew next.entry sig uid → ⊥). sym (new-others sig uid isnt ∙ mid-others sig uid isnt) ∙ at)
       (decide-new next.entry sig uid)
 
-  pub same-back : ((e : NewEntry) → next.entry ≡ Some e → old e.sig e.uid ≡ None) → new ≡ old
-  same-back fresh = λ i sig uid. each sig uid i where
+  pub same-back : (was ≡ false → (e : NewEntry) → next.entry ≡ Some e → old e.sig e.uid ≢ Some e.id)
+      → ((e : NewEntry) → next.entry ≡ Some e → (old e.sig e.uid ≡ None) ⊎ (old e.sig e.uid ≡ Some e.id)) → new ≡ old
+  same-back not-placed fresh = λ i sig uid. each sig uid i where
+    none-before : was ≡ false → (sig uid : ℕ) → IsNew next.entry sig uid → old sig uid ≡ None
+    none-before hadnt sig uid is =
+        let w = new-is next.entry sig uid is in
+        ⊎_elim
+        (λ none. ap (λ (s : ℕ). old s uid) (sym w.2) ∙ ap (old w.0.sig) (sym w.3) ∙ none)
+        (λ its. absurd (not-placed hadnt w.0 w.1 its))
+        (fresh w.0 w.1)
+
     each : (sig uid : ℕ) → new sig uid ≡ old sig uid
     each sig uid = ⊎_elim
-        (λ (is : IsNew next.entry sig uid).
-        let w = new-is next.entry sig uid is in
-        forgot sig uid is ∙ sym (ap (λ (s : ℕ). old s uid) (sym w.2) ∙ ap (old w.0.sig) (sym w.3) ∙ fresh w.0 w.1))
+        (λ (is : IsNew next.entry sig uid). ⊎_elim
+        (λ (had : was ≡ true). back-placed had sig uid is)
+        (λ (hadnt : was ≡ false). forgot hadnt sig uid is ∙ sym (none-before hadnt sig uid is))
+        (true_or_false was))
         (λ (isnt : IsNew next.entry sig uid → ⊥). new-others sig uid isnt ∙ mid-others sig uid isnt)
         (decide-new next.entry sig uid)
 

@@ -1,10 +1,10 @@
 -- How many entries a soup has, by their places.
-use Rattle.std.proofs.Common.{◌≡◌, ℕ, suc, ◌+◌, ◌==◌, ◌||◌, ◌<◌, ◌≤◌, Bool, true, false, cond, List, [], ◌∷◌, map as map_list, length, Option, Some, None, is_some, refl, sym, ◌∙◌, ap, arith, ⊎_elim}
+use Rattle.std.proofs.Common.{◌≡◌, ℕ, ◌+◌, ◌==◌, ◌||◌, ◌<◌, ◌≤◌, Bool, true, false, cond, List, [], ◌∷◌, map as map_list, length, Option, Some, None, is_some, refl, ◌∙◌, ap, arith}
 use Rattle.std.specs.List.{find, IsDistinct, AllByRecursion}
 use Rattle.std.specs.Option.{option_and_then}
 use Rattle.std.specs.Set.{is_member}
 use Rattle.newt_image.specs.Objects.{Objects}
-use Rattle.newt_pagebook.proofs.Tests.{true_or_false, is_same, equal_true, equal_false}
+use Rattle.newt_pagebook.proofs.Tests.{equal_false}
 use Rattle.newt_spec_graph.specs.Lists.{Each, Pairs, rises}
 use Rattle.newt_spec_graph.proofs.Lists.{rises-pairs}
 use Rattle.newt_spec_store.specs.Store.{Entry, Soup, Store, entry_of}
@@ -15,7 +15,7 @@ use Rattle.newt_laws_images.proofs.Stores.{IsSoup, is-store, is-soup}
 use Rattle.newt_laws_changes.proofs.Soups.{found-good}
 use Rattle.newt_soupdir.specs.Changes.{soup_of}
 use Rattle.newt_soupdir.specs.declared.rows.Directory.{Directory}
-use Rattle.newt_store.specs.Change.{entry_in, count_in}
+use Rattle.newt_store.specs.Change.{count_in}
 use Rattle.newt_store.specs.Stands.{Describes}
 use Rattle.newt_store.proofs.Entries.{has-entry}
 use Rattle.newt_store.proofs.Sums.{same_number, other-way}

@@ -1,14 +1,15 @@
 -- How many pages the objects have that go.
-use Rattle.std.proofs.Common.{IsTrue, ◌≡◌, inl, inr, ℕ, ◌+◌, ◌*◌, ◌<◌, ◌||◌, Bool, true, false, List, [], ◌∷◌, map as map_list, length, slice_get, sum_by, Option, Some, None, refl, sym, ◌∙◌, ap, arith}
+use Rattle.std.proofs.Common.{IsTrue, ◌≡◌, inl, inr, ℕ, ◌+◌, ◌*◌, ◌<◌, ◌||◌, Bool, true, false, List, [], ◌∷◌, map as map_list, length, slice_get, sum_by, Option, Some, None, refl, sym, ◌∙◌, ap, arith, ⊎_elim}
 use Rattle.std.specs.List.{IsDistinct, AllByRecursion}
 use Rattle.std.specs.Option.{option_and_then, unwrap_or}
 use Rattle.std.specs.Set.{is_member}
 use Rattle.std.proofs.lemmas.List.Sums.{sum_by-cons}
 use Rattle.newt_host.specs.Moments.{image}
 use Rattle.newt_host.specs.Outside.{Outside}
-use Rattle.newt_image.specs.Objects.{pages_for}
+use Rattle.newt_image.specs.Objects.{Extent, pages_for}
 use Rattle.newt_pagebook.specs.Book.{Numbers}
 use Rattle.newt_pagebook.proofs.Tests.{is_same, equal_true, equal_false}
+use Rattle.newt_objects.specs.Extents.{numbers_of}
 use Rattle.newt_objects.specs.Held.{held}
 use Rattle.newt_spec_graph.specs.Lists.{Each, Pairs, Among}
 use Rattle.newt_spec_graph.proofs.Lists.{each-at, each-from, rises-pairs, pairs-map}
@@ -21,18 +22,19 @@ use Rattle.newt_laws_changes.proofs.Chosen.{soup-there, soup-good}
 use Rattle.newt_laws_changes.proofs.Members.{in-one, one-in}
 use Rattle.newt_soupdir.specs.Bare.{bare_store}
 use Rattle.newt_soupdir.specs.Changes.{soup_of}
-use Rattle.newt_shelf.specs.Batch.{AreOnce, pages_held, all_pages_held, new_pages}
+use Rattle.newt_shelf.specs.Batch.{AreOnce, pages_held, all_pages_held, new_pages, over_pages}
 use Rattle.newt_shelf.specs.Commit.{AreKept}
+use Rattle.newt_shelf.specs.declared.batch.NewEntry.{NewEntry}
 use Rattle.newt_shelf.specs.Places.{place_of, AreSoundPlaces}
 use Rattle.newt_store.specs.declared.catalog.Catalog.{Catalog}
 use Rattle.newt_store.specs.declared.next.Gone.{Gone}
 use Rattle.newt_store.specs.declared.next.Gone.TheVariants.{Nothing, OneEntry, AllOf}
 use Rattle.newt_store.specs.declared.next.Next.{Next}
 use Rattle.newt_store.specs.Change.{entry_in, pages_of_entry, pages_of_soup, directory_pages}
-use Rattle.newt_store.specs.Next.{Goes, Turns, goes_pages, next_bytes, turn_bytes}
+use Rattle.newt_store.specs.Next.{Goes, IsFree, IsNextOf, Turns, goes_pages, replaced_pages, next_bytes, turn_bytes}
 use Rattle.newt_store.specs.Stands.{StandsFor}
 use Rattle.newt_store.proofs.Carrying.{AreGone}
-use Rattle.newt_store.proofs.Entries.{plain-in}
+use Rattle.newt_store.proofs.Entries.{plain-in, found-at, no-entry-at}
 use Rattle.newt_store.proofs.Found.{placed-entry, entry-placed}
 use Rattle.newt_store.proofs.Rows.{pages-are}
 use Rattle.newt_store.proofs.Sums.{same_number, member-at, at-member, once-distinct, sums-agree}
@@ -190,11 +192,33 @@ module _ (told : Bool) (catalog : Catalog) (numbers : Numbers) (unit : ℕ) (out
         (λ x id m at. are.all sig x.uid id refl at)
         ∙ sym (ap pages_of_soup e)
 
+  -- ---- what the new record is put over
+
+  over-one : (x : NewEntry) → place-now x.sig x.uid ≡ Some x.id → pages_held catalog.objects x.id ≡ pages_of_entry (entry_in x.sig x.uid s)
+  over-one x at =
+      let f = found-at catalog.directory place-now stands.texts s stands.describes x.sig x.uid x.id at in
+      pages-are told catalog.objects numbers unit outside kept tells stands.texts stands.holds x.id (entry_bytes x.sig f.entry []) f.text
+      ∙ record-pages x.sig f.entry f.plain ∙ sym (ap pages_of_entry f.found)
+
+  over-none : (x : NewEntry) (gone : Gone) → place-now x.sig x.uid ≡ None → IsFree catalog gone x → pages_held catalog.objects x.id ≡ pages_of_entry (entry_in x.sig x.uid s)
+  over-none x gone none free = ⊎_elim
+      (λ (absent : held catalog.objects x.id ≡ None). ap (λ (o : Option Extent). length (numbers_of o)) absent)
+      (λ its. absurd (let isnt : None ≡ Some x.id = sym none ∙ its.0 in cc))
+      free
+      ∙ sym (ap pages_of_entry (no-entry-at catalog.directory place-now stands.texts s stands.describes x.sig x.uid none))
+
+  over-replaced : (next : Next) (t : Store) → IsNextOf catalog next → Turns catalog next s t → over_pages catalog.objects next.entry ≡ replaced_pages next.entry s
+  over-replaced next t is turns = cases next.entry refl where
+    cases : (o : Option NewEntry) → next.entry ≡ o → over_pages catalog.objects o ≡ replaced_pages o s
+    cases None e = refl
+    cases (Some x) e = ⊎_elim (λ none. over-none x next.gone none (is.free x e)) (λ at. over-one x at) (turns.fresh stands.texts stands.describes x e)
+
   -- the bytes of the batch
-  pub bytes-turn : (next : Next) (ids : List ℕ) (t : Store) → AreOnce ids → AreGone place-now next.gone ids → Turns catalog next s t → next_bytes next catalog.objects ids ≡ turn_bytes next s t
+  pub bytes-turn : (next : Next) (ids : List ℕ) (t : Store) → AreOnce ids → AreGone place-now next.gone ids → IsNextOf catalog next → Turns catalog next s t → next_bytes next catalog.objects ids ≡ turn_bytes next s t
   unfolding next_bytes turn_bytes
-  bytes-turn next ids t once are turns =
+  bytes-turn next ids t once are is turns =
       let dir : pages_for (length (directory_bytes (bare_store next.directory))) ≡ directory_pages t = ap (λ (l : List ℕ). pages_for (length l)) (bytes-of next.directory t (turns.bare_is stands.texts stands.describes)) in
       let zero-pages : pages_held catalog.objects 0 ≡ directory_pages s = pages-are told catalog.objects numbers unit outside kept tells stands.texts stands.holds 0 (directory_bytes s) stands.describes.lies.directory in
       let rest : all_pages_held catalog.objects ids ≡ goes_pages next.gone s = gone-pages next.gone ids once are in
-      λ i. 9 + 516 * (dir i + new_pages next.entry) + 4 * (zero-pages i + rest i)
+      let over : over_pages catalog.objects next.entry ≡ replaced_pages next.entry s = over-replaced next t is turns in
+      λ i. 9 + 516 * (dir i + new_pages next.entry) + 4 * (zero-pages i + over i + rest i)

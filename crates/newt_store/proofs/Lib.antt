@@ -8,6 +8,7 @@ pub mod Turning
 pub mod Planned
 pub mod Adding
 pub mod Moving
+pub mod Replacing
 pub mod Entries
 pub mod Applying
 pub mod Opening

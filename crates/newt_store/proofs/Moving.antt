@@ -1,5 +1,5 @@
 -- An entry that is moved.
-use Rattle.std.proofs.Common.{IsTrue, ◌≡◌, ◌≢◌, ℕ, ◌<◌, ◌||◌, Bool, true, false, not, [], ◌∷◌, Option, Some, None, refl, sym, ◌∙◌, ap, subst, arith}
+use Rattle.std.proofs.Common.{IsTrue, ◌≡◌, ◌≢◌, inl, ℕ, ◌+◌, ◌<◌, ◌||◌, Bool, true, false, not, [], ◌∷◌, Option, Some, None, refl, sym, ◌∙◌, ap, subst, arith}
 use Rattle.std.specs.Option.{is_some, is_none, option_map}
 use Rattle.newt_base.specs.Refusals.{Checks, first_of}
 use Rattle.newt_base.specs.declared.Refusal.TheVariants.{Soup as NoSoup, Entry as NoEntry, Ids}
@@ -31,8 +31,8 @@ use Rattle.newt_store.specs.Stands.{Describes}
 use Rattle.newt_store.proofs.Reading.{both, join}
 use Rattle.newt_store.proofs.Found.{soup-some}
 use Rattle.newt_store.proofs.Turning.{bytes-of}
-use Rattle.newt_store.proofs.Planned.{first-holds, first-not, no-entry, an-entry}
-use Rattle.newt_store.proofs.Adding.{free-in, not-yet, row-soup, more-ids, new-entry-pages}
+use Rattle.newt_store.proofs.Planned.{first-holds, first-not, no-entry, an-entry, none-over}
+use Rattle.newt_store.proofs.Adding.{free-in, not-yet, row-soup, more-ids, new-entry-pages, none-replaced}
 
 module _ (catalog : Catalog) (s : Store) (sound : AreSoundPlaces (held catalog.objects) (place_of catalog.places)) (source uid target : ℕ) (p q : Soup) (found : soup_of source s ≡ Some p) (goal : soup_of target s ≡ Some q)
     (e : Entry) (is_in : IsIn s source e) (of_uid : e.uid ≡ uid) (old-id : ℕ) (at : place_of catalog.places source uid ≡ Some old-id)
@@ -78,7 +78,7 @@ module _ (catalog : Catalog) (s : Store) (sound : AreSoundPlaces (held catalog.o
         };
     fresh = λ texts d x is.
         let same : x ≡ adds.entry = same-entry x is in
-        ap (λ (y : NewEntry). place-now y.sig y.uid) same ∙ ap (λ (n : ℕ). place-now n adds.entry.uid) adds.of_sig ∙ ap (place-now target) adds.of_uid ∙ not-yet catalog s sound target q goal texts d;
+        inl (ap (λ (y : NewEntry). place-now y.sig y.uid) same ∙ ap (λ (n : ℕ). place-now n adds.entry.uid) adds.of_sig ∙ ap (place-now target) adds.of_uid ∙ not-yet catalog s sound target q goal texts d);
     stays = λ texts d x is goes.
         let same : x ≡ adds.entry = same-entry x is in
         let w = goes-only x.sig x.uid goes in
@@ -149,5 +149,6 @@ move-planned catalog texts s source uid target old-id now e row next sound d som
           (turns-moved catalog s sound source uid target p.0 q.0 p.1 q.1 e is_in of_uid old-id at now time room' plain next adds');
       added = new-entry-pages catalog row.sig row.next_uid now e.graph (OneEntry source uid) next adds plain
           ∙ sym (ap (λ (o : Option Entry). pages_of_entry (option_map (λ (e : Entry). let x : Entry = record { uid = next_uid_of (soup_of target s); time = now; graph = e.graph } in x) o)) there);
-      removed = ap (λ (gone : Gone). goes_pages gone s) adds.of_gone;
+      removed = ap (λ (n : ℕ). n + goes_pages next.gone s) (none-replaced catalog texts s target q.0.next_uid now e.graph (OneEntry source uid) next d adds' (not-yet catalog s sound target q.0 q.1 texts d))
+          ∙ none-over (goes_pages next.gone s) ∙ ap (λ (gone : Gone). goes_pages gone s) adds.of_gone;
     }

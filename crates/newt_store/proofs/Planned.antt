@@ -1,5 +1,5 @@
 -- Changes as they are planned: refused, or leading to the changed store.
-use Rattle.std.proofs.Common.{IsTrue, ◌≡◌, ◌≢◌, ℕ, ◌<◌, ◌==◌, Bool, true, false, not, nat_le, List, [], ◌∷◌, map, length, Option, Some, None, refl, sym, ◌∙◌, ap, subst, arith}
+use Rattle.std.proofs.Common.{IsTrue, ◌≡◌, ◌≢◌, ℕ, ◌+◌, ◌<◌, ◌==◌, Bool, true, false, not, nat_le, List, [], ◌∷◌, map, length, Option, Some, None, refl, sym, ◌∙◌, ap, subst, arith}
 use Rattle.std.specs.Option.{is_some, is_none, option_map}
 use Rattle.std.proofs.lemmas.Bool.Decides.{nat_tests}
 use Rattle.newt_base.specs.Names.{is_name}
@@ -30,6 +30,10 @@ use Rattle.newt_store.specs.Next.{IsPlanOf, Turns}
 use Rattle.newt_store.specs.Stands.{Describes}
 use Rattle.newt_store.proofs.Found.{named-some, soup-some, as-many, next-same, placed-entry, entry-placed}
 use Rattle.newt_store.proofs.Turning.{turns-made, turns-dropped, turns-removed, next-dropped, next-removed}
+
+-- nothing is written over
+pub none-over : (n : ℕ) → 0 + n ≡ n
+none-over n = omega arith
 
 pub first-holds : (r : Refusal) (b : Bool) (rest : Checks) → b ≡ true → first_of ((r, b) ∷ rest) ≡ Some r
 first-holds r b rest e = ap (λ (x : Bool). first_of ((r, x) ∷ rest)) e
@@ -70,7 +74,7 @@ drop-planned catalog texts s sig now dir d some dropped =
       answer = refl;
       turns = subst (λ (t : Store). Turns catalog (next-dropped catalog s sig w.0 w.1 dir 0 dropped) s t) (ap (λ (o : Option Soup). dropped_soup o s) (sym w.1)) (turns-dropped catalog s sig w.0 w.1 dir 0 dropped);
       added = refl;
-      removed = refl;
+      removed = none-over _;
     }
 
 -- ---- an entry less
@@ -110,7 +114,7 @@ remove-planned catalog texts s sig uid now dir d some placed same =
       answer = refl;
       turns = subst (λ (t : Store). Turns catalog (next-removed catalog s sig w.0 w.1 uid at.0 dir 0 same at.1) s t) (ap (λ (o : Option Soup). changed_soup o (remove_entry uid) s) (sym w.1)) (turns-removed catalog s sig w.0 w.1 uid at.0 dir 0 same at.1);
       added = refl;
-      removed = refl;
+      removed = none-over _;
     }
 
 -- ---- a soup more
@@ -160,7 +164,7 @@ make-planned catalog texts s name now a dir d good none few last made answer =
       answer = answer ∙ sym (next-same catalog.directory p texts s d);
       turns = turns-made catalog s name dir a made good new room (below-last s d.formed next);
       added = refl;
-      removed = refl;
+      removed = none-over _;
     }
 
 pub formed-made : (d e : Directory) (name : List ℕ) → well_formed (bare_store d) ≡ true → IsTrue (is_name name) → is_some (soup_named name (bare_store d)) ≡ false → nat_le 64 (length d.soups) ≡ false → d.next_soup ≢ 65535

@@ -1,5 +1,5 @@
 -- What a change writes, from what is planned of it.
-use Rattle.std.proofs.Common.{IsTrue, ◌≡◌, ◌≢◌, inl, inr, ℕ, ◌+◌, ◌*◌, ◌≤◌, Bool, List, length, slice_get, Option, Some, None, IsSome, Result, Err, refl, sym, ◌∙◌, ap, subst, arith, ⊎_elim}
+use Rattle.std.proofs.Common.{IsTrue, ◌≡◌, ◌≢◌, inl, inr, ℕ, ◌+◌, ◌*◌, Bool, List, length, slice_get, Option, Some, None, IsSome, Result, Err, refl, sym, ◌∙◌, ap, subst, arith, ⊎_elim}
 use Rattle.std.specs.FinMap as map
 use Rattle.std.specs.Option.{option_map}
 use Rattle.std.proofs.lemmas.Bool.{cases_eq}
@@ -23,7 +23,7 @@ use Rattle.newt_objects.proofs.Same.{texts_by}
 use Rattle.newt_shelf.specs.declared.batch.NewEntry.{NewEntry}
 use Rattle.newt_shelf.specs.declared.fault.StoreFault.{StoreFault}
 use Rattle.newt_shelf.specs.declared.fault.StoreFault.TheVariants.{Refused, Stop}
-use Rattle.newt_shelf.specs.Batch.{AreWritten, AddsPages, new_pages, pages_held, all_pages_held}
+use Rattle.newt_shelf.specs.Batch.{AreWritten, AddsPages, new_pages, over_pages, pages_held, all_pages_held}
 use Rattle.newt_shelf.specs.Commit.{AreKept, IsPlanned, IsEither}
 use Rattle.newt_shelf.specs.Faults.{RefusesOnly}
 use Rattle.newt_store.specs.declared.next.Next.{Next}
@@ -98,13 +98,21 @@ module _ (objects now : Held) (batch : Change) (live : Pages) (before after : Te
   pub planned-new : (e : NewEntry) → entry ≡ Some e → IsSome (planned now e.id)
   planned-new e is = in-after e.id (is-some (map.get after e.id) e.bytes.items (wrote.entry_is e is))
 
-  pub planned-there : ((e : NewEntry) → entry ≡ Some e → held objects e.id ≡ None) → (id : ℕ) → IsSome (held objects id) → ((k : ℕ) → slice_get gone k ≡ Some id → ⊥) → IsSome (planned now id)
-  planned-there free id there stays = in-after id (⊎_elim
-      (λ (zero : id ≡ 0). is-some (map.get after id) directory (ap (map.get after) zero ∙ wrote.directory_is))
-      (λ (other : id ≢ 0). subst (λ (o : Option (List ℕ)). IsSome o)
-      (sym (wrote.others id other (λ e is same. not-free (held objects id) (ap (held objects) (sym same) ∙ free e is) there) stays ∙ texts_by live (held objects) before were start.is_table id))
-      (some-map (joined live) (held objects id) there))
-      (cases_eq id 0))
+  pub planned-there : (id : ℕ) → IsSome (held objects id) → ((k : ℕ) → slice_get gone k ≡ Some id → ⊥) → IsSome (planned now id)
+  planned-there id there stays = ⊎_elim
+      (λ (zero : id ≡ 0). in-after id (is-some (map.get after id) directory (ap (map.get after) zero ∙ wrote.directory_is)))
+      (λ (other : id ≢ 0). with-entry other entry refl)
+      (cases_eq id 0) where
+        untouched : id ≢ 0 → ((e : NewEntry) → entry ≡ Some e → e.id ≢ id) → IsSome (planned now id)
+        untouched other new = in-after id (subst (λ (o : Option (List ℕ)). IsSome o)
+            (sym (wrote.others id other new stays ∙ texts_by live (held objects) before were start.is_table id)) (some-map (joined live) (held objects id) there))
+
+        with-entry : id ≢ 0 → (o : Option NewEntry) → entry ≡ o → IsSome (planned now id)
+        with-entry other None e = untouched other (λ x is same. absurd (let no : None ≡ Some x = sym e ∙ is in cc))
+        with-entry other (Some x) e = ⊎_elim
+            (λ (same : x.id ≡ id). subst (λ (n : ℕ). IsSome (planned now n)) same (planned-new x e))
+            (λ (ne : x.id ≢ id). untouched other (λ y is same. ne (ap (λ (z : NewEntry). z.id) (some_inj x y (sym e ∙ is)) ∙ same)))
+            (cases_eq x.id id)
 
 -- ---- at every moment
 
@@ -134,11 +142,11 @@ in-all x first a d p e is none same also = omega (arith, is, none, same, also)
 
 -- the batch has the bytes that are said
 pub bytes-planned : (next : Next) (objects : Held) (gone bytes : List ℕ) (first batch : Change) → first ≡ no_change → bytes ≡ directory_bytes (bare_store next.directory)
-    → AddsPages (pages_for (length bytes) + new_pages next.entry) (pages_held objects 0 + all_pages_held objects gone) first batch → batch_bytes batch ≡ next_bytes next objects gone
+    → AddsPages (pages_for (length bytes) + new_pages next.entry) (pages_held objects 0 + over_pages objects next.entry + all_pages_held objects gone) first batch → batch_bytes batch ≡ next_bytes next objects gone
 unfolding next_bytes
 bytes-planned next objects gone bytes first batch none is adds =
     let a : length first.puts ≡ 0 = ap (λ (c : Change). length c.puts) none in
     let b : length first.deletes ≡ 0 = ap (λ (c : Change). length c.deletes) none in
     let p : length batch.puts ≡ pages_for (length (directory_bytes (bare_store next.directory))) + new_pages next.entry = in-all _ _ _ _ _ _ adds.more_puts a (ap (λ (l : List ℕ). pages_for (length l)) is) refl in
-    let q : length batch.deletes ≡ pages_held objects 0 + all_pages_held objects gone = in-all _ _ _ _ _ _ adds.more_deletes b refl refl in
+    let q : length batch.deletes ≡ pages_held objects 0 + over_pages objects next.entry + all_pages_held objects gone = in-all _ _ _ _ _ _ adds.more_deletes b refl refl in
     λ i. 9 + 516 * p i + 4 * q i

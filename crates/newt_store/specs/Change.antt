@@ -8,12 +8,12 @@ use Rattle.newt_image.specs.Pages.{cap}
 use Rattle.newt_image.specs.Objects.{pages_for}
 use Rattle.newt_graph.specs.Graph.{RawGraph}
 use Rattle.newt_spec_graph.specs.Graph.{is_frame, object}
-use Rattle.newt_spec_store.specs.Store.{Entry, Soup, Store, soup_named, entry_of, change_soup, make_soup, drop_soup, add_entry, remove_entry}
+use Rattle.newt_spec_store.specs.Store.{Entry, Soup, Store, soup_named, entry_of, change_soup, change_entry, make_soup, drop_soup, add_entry, remove_entry}
 use Rattle.newt_spec_store.specs.Cost.{cost, directory_bytes, skeleton_length, entry_pages, soup_pages}
 use Rattle.newt_spec_store.specs.Lies.{graph_has_no_large}
 use Rattle.newt_soupdir.specs.Changes.{soup_of}
 use Rattle.newt_store.specs.declared.change.Change.{Change}
-use Rattle.newt_store.specs.declared.change.Change.TheVariants.{MakeSoup, DropSoup, Add, Remove, Move}
+use Rattle.newt_store.specs.declared.change.Change.TheVariants.{MakeSoup, DropSoup, Add, Remove, Move, Replace}
 
 -- the entry of this id in the soup of this signature
 abbrev pub entry_in : ℕ → ℕ → Store → Option Entry
@@ -34,6 +34,10 @@ abbrev pub moved_entry : Option Entry → Option Soup → Option Soup → ℕ �
 moved_entry None source target now s = s
 moved_entry (Some e) source target now s = changed_soup source (remove_entry e.uid) (changed_soup target (add_entry now e.graph) s)
 
+-- the entry at a minute, with another graph; it keeps its id
+abbrev pub with_graph : ℕ → RawGraph → Entry → Entry
+with_graph now graph e = record e { time = now; graph = graph }
+
 -- ---- the table: the store after a change at a minute, where it is not refused
 
 abbrev pub changed_by : Change → ℕ → Store → Store
@@ -42,6 +46,7 @@ changed_by (DropSoup sig) now s = dropped_soup (soup_of sig s) s
 changed_by (Add sig graph) now s = changed_soup (soup_of sig s) (add_entry now graph) s
 changed_by (Remove sig uid) now s = changed_soup (soup_of sig s) (remove_entry uid) s
 changed_by (Move source uid target) now s = moved_entry (entry_in source uid s) (soup_of source s) (soup_of target s) now s
+changed_by (Replace sig uid graph) now s = changed_soup (soup_of sig s) (change_entry uid (with_graph now graph)) s
 
 -- the id that the next entry of a soup gets
 abbrev pub next_uid_of : Option Soup → ℕ
@@ -55,6 +60,7 @@ answer_of (DropSoup sig) s = 0
 answer_of (Add sig graph) s = next_uid_of (soup_of sig s)
 answer_of (Remove sig uid) s = 0
 answer_of (Move source uid target) s = next_uid_of (soup_of target s)
+answer_of (Replace sig uid graph) s = 0
 
 -- ---- the table: what a change is refused for, in the order in which it is tried
 
@@ -75,6 +81,8 @@ first_checks (Add sig graph) s =
 first_checks (Remove sig uid) s = (NoSoup, is_none (soup_of sig s)) ∷ (NoEntry, is_none (entry_in sig uid s)) ∷ []
 first_checks (Move source uid target) s =
     (NoSoup, is_none (soup_of source s) || is_none (soup_of target s)) ∷ (NoEntry, is_none (entry_in source uid s)) ∷ (Ids, has_no_ids (soup_of target s)) ∷ []
+first_checks (Replace sig uid graph) s =
+    (NoSoup, is_none (soup_of sig s)) ∷ (NoEntry, is_none (entry_in sig uid s)) ∷ (Notframe, not (is_frame (object graph.nodes graph.root))) ∷ (Size, is_too_large graph) ∷ []
 
 -- the store after the change would cost more pages than a unit of so many blocks takes; what goes is never refused so
 abbrev pub full_check : Change → ℕ → ℕ → Store → Checks
@@ -121,24 +129,26 @@ abbrev pub entry_moved : Change → Store → Option Entry
 entry_moved (Move source uid target) s = entry_in source uid s
 entry_moved change s = None
 
--- the entry that a change appends
+-- the entry whose record a change writes: one that it appends, or one that it puts in the place of the one of its id
 abbrev pub entry_added : Change → ℕ → Store → Option Entry
 entry_added (Add sig graph) now s = Some (record { uid = next_uid_of (soup_of sig s); time = now; graph = graph })
 entry_added (Move source uid target) now s = option_map (λ e. record { uid = next_uid_of (soup_of target s); time = now; graph = e.graph }) (entry_in source uid s)
+entry_added (Replace sig uid graph) now s = option_map (with_graph now graph) (entry_in sig uid s)
 entry_added change now s = None
 
--- the pages of the entries that a change removes
+-- the pages of the entries that a change removes, or puts another in the place of
 abbrev pub pages_removed : Change → Store → ℕ
 pages_removed (DropSoup sig) s = pages_of_soup (soup_of sig s)
 pages_removed (Remove sig uid) s = pages_of_entry (entry_in sig uid s)
 pages_removed (Move source uid target) s = pages_of_entry (entry_in source uid s)
+pages_removed (Replace sig uid graph) s = pages_of_entry (entry_in sig uid s)
 pages_removed change s = 0
 
--- the pages that a change writes: those of the directory after it, and of the entry that it appends
+-- the pages that a change writes: those of the directory after it, and of the entry whose record it writes
 abbrev pub pages_put : Change → ℕ → Store → ℕ
 pages_put change now s = directory_pages (changed_by change now s) + pages_of_entry (entry_added change now s)
 
--- the pages that a change lets go: those of the directory before it, and of the entries that it removes
+-- the pages that a change lets go: those of the directory before it, and of the entries that it removes or puts another in the place of
 abbrev pub pages_gone : Change → Store → ℕ
 pages_gone change s = directory_pages s + pages_removed change s
 

@@ -1,7 +1,7 @@
 -- What a change makes of a store, before it is written.
 use Rattle.std.specs.Prelude.{◌≡◌, ◌≢◌, ◌⊎◌, ℕ, ◌+◌, ◌*◌, ◌%◌, ◌≤◌, IsTrue, List, [], length, Option, Some, None}
 use Rattle.std.specs.FinMap as map
-use Rattle.newt_image.specs.Objects.{Table, Objects, pages_for}
+use Rattle.newt_image.specs.Objects.{Objects, pages_for}
 use Rattle.newt_spec_store.specs.Store.{Store}
 use Rattle.newt_image.specs.Pages.{cap}
 use Rattle.newt_spec_store.specs.Cost.{cost, directory_bytes}
@@ -23,7 +23,7 @@ use Rattle.newt_store.specs.declared.change.Change.{Change}
 use Rattle.newt_store.specs.Change.{changed_by, answer_of, first_checks, entry_in, entry_added, pages_of_entry, pages_of_soup, pages_removed, directory_pages}
 use Rattle.newt_soupdir.specs.Changes.{soup_of}
 use Rattle.newt_shelf.specs.Commit.{Fit}
-use Rattle.newt_shelf.specs.Batch.{AreWritten, new_pages, pages_held, all_pages_held}
+use Rattle.newt_shelf.specs.Batch.{AreWritten, new_pages, over_pages, pages_held, all_pages_held}
 use Rattle.newt_store.specs.Stage.{readable}
 use Rattle.newt_store.specs.declared.catalog.Catalog.{Catalog}
 use Rattle.newt_store.specs.declared.next.Next.{Next}
@@ -57,18 +57,23 @@ pub record ArePlacesNext (next : Next) (old new : Places) : Type 0 where
   pub gone : (sig uid : ℕ) → Goes next.gone sig uid → new sig uid ≡ None
   pub others : (sig uid : ℕ) → (IsNew next.entry sig uid → ⊥) → (Goes next.gone sig uid → ⊥) → new sig uid ≡ old sig uid
 
--- What holds of what a change makes: the directory is one, and the new entry has an odd id that no object has.
-pub record IsNextOf (table : Table) (next : Next) : Type 0 where
+-- No object has the new entry's id, or the entry has that place already, and does not go.
+abbrev pub IsFree : Catalog → Gone → NewEntry → Type 0
+IsFree catalog gone e = (held catalog.objects e.id ≡ None) ⊎ ((place_of catalog.places e.sig e.uid ≡ Some e.id) × (Goes gone e.sig e.uid → ⊥))
+
+-- What holds of what a change makes: the directory is one, and the new entry's object has an odd id that no other object has.
+pub record IsNextOf (catalog : Catalog) (next : Next) : Type 0 where
   pub formed : IsTrue (well_formed (bare_store next.directory))
   pub odd : (e : NewEntry) → next.entry ≡ Some e → e.id % 2 ≡ 1
-  pub free : (e : NewEntry) → next.entry ≡ Some e → table e.id ≡ None
+  pub free : (e : NewEntry) → next.entry ≡ Some e → IsFree catalog next.gone e
 
 -- How what a change makes leads from one store to another: whatever objects and places are so changed, where they wrote down the store before, they write down
--- the one after; and the new entry has no place yet, and does not go.
+-- the one after; and the new entry has no place yet, or it has its own, and it does not go.
 pub record Turns (catalog : Catalog) (next : Next) (s t : Store) : Type 0 where
   pub described : (old new : Objects) (place : Places) → Describes catalog.directory (place_of catalog.places) old s → AreNext next (place_of catalog.places) old new
       → ArePlacesNext next (place_of catalog.places) place → Describes next.directory place new t
-  pub fresh : (texts : Objects) → Describes catalog.directory (place_of catalog.places) texts s → (e : NewEntry) → next.entry ≡ Some e → place_of catalog.places e.sig e.uid ≡ None
+  pub fresh : (texts : Objects) → Describes catalog.directory (place_of catalog.places) texts s → (e : NewEntry) → next.entry ≡ Some e
+      → (place_of catalog.places e.sig e.uid ≡ None) ⊎ (place_of catalog.places e.sig e.uid ≡ Some e.id)
   pub stays : (texts : Objects) → Describes catalog.directory (place_of catalog.places) texts s → (e : NewEntry) → next.entry ≡ Some e → Goes next.gone e.sig e.uid → ⊥
   pub bare_is : (texts : Objects) → Describes catalog.directory (place_of catalog.places) texts s → bare t ≡ bare_store next.directory
 
@@ -78,14 +83,19 @@ goes_pages Nothing s = 0
 goes_pages (OneEntry sig uid) s = pages_of_entry (entry_in sig uid s)
 goes_pages (AllOf sig) s = pages_of_soup (soup_of sig s)
 
+-- the pages of the entry that stands where the new one comes, none where there is none
+abbrev pub replaced_pages : Option NewEntry → Store → ℕ
+replaced_pages None s = 0
+replaced_pages (Some e) s = pages_of_entry (entry_in e.sig e.uid s)
+
 -- the bytes of the batch that is written, and its record: 516 for each page of the directory and of the new entry's record, 4 for each page of the
--- directory before and of the objects that go
+-- directory before, of the object that the record is put over, and of the objects that go
 unfoldable pub next_bytes : Next → Held → List ℕ → ℕ
-next_bytes next objects gone = 9 + 516 * (pages_for (length (directory_bytes (bare_store next.directory))) + new_pages next.entry) + 4 * (pages_held objects 0 + all_pages_held objects gone)
+next_bytes next objects gone = 9 + 516 * (pages_for (length (directory_bytes (bare_store next.directory))) + new_pages next.entry) + 4 * (pages_held objects 0 + over_pages objects next.entry + all_pages_held objects gone)
 
 -- the same, where one store becomes another
 unfoldable pub turn_bytes : Next → Store → Store → ℕ
-turn_bytes next s t = 9 + 516 * (directory_pages t + new_pages next.entry) + 4 * (directory_pages s + goes_pages next.gone s)
+turn_bytes next s t = 9 + 516 * (directory_pages t + new_pages next.entry) + 4 * (directory_pages s + replaced_pages next.entry s + goes_pages next.gone s)
 
 -- What a change makes of a store: it is not refused but perhaps for a full unit, it has the change's answer, it leads to the
 -- changed store, and as many pages come and go.
@@ -94,7 +104,7 @@ pub record IsPlanOf (catalog : Catalog) (change : Change) (now : ℕ) (s : Store
   pub answer : next.answer ≡ answer_of change s
   pub turns : Turns catalog next s (changed_by change now s)
   pub added : new_pages next.entry ≡ pages_of_entry (entry_added change now s)
-  pub removed : goes_pages next.gone s ≡ pages_removed change s
+  pub removed : replaced_pages next.entry s + goes_pages next.gone s ≡ pages_removed change s
 
 -- what a change writes: its directory, its new entry, and none of these objects
 abbrev pub WritesNext : Next → List ℕ → Objects → Objects → Type 0

@@ -1,5 +1,5 @@
 // A change is written, and the memory follows.
-ghost use Rattle.std.specs.Prelude.{IsTrue, ◌≡◌, ◌%◌, ◌<◌, ◌≤◌, ℕ, slice_get, Some, None, IsSome, OnOk, IfOk, IfErr, IsErrOf};
+ghost use Rattle.std.specs.Prelude.{IsTrue, ◌≡◌, ◌≢◌, ◌%◌, ◌<◌, ◌≤◌, ℕ, true, false, slice_get, Some, None, IsSome, OnOk, IfOk, IfErr, IsErrOf};
 ghost use Rattle.newt_base.specs.declared.Refusal.TheVariants.{Full};
 ghost use Rattle.newt_host.specs.Moments.{image, Leaves};
 ghost use Rattle.newt_host.specs.Outside.{Touches, Spends};
@@ -10,8 +10,10 @@ ghost use Rattle.newt_objects.specs.Changing.{HoldsObjects, total_pages};
 ghost use Rattle.newt_spec_store.specs.Store.{Store as PlainStore};
 ghost use Rattle.newt_spec_store.specs.Cost.{cost};
 ghost use Rattle.newt_spec_store.specs.OfImage.{blocks_of};
+ghost use Rattle.newt_spec_store.specs.Valid.{well_formed};
+ghost use Rattle.newt_soupdir.specs.Bare.{bare_store};
 ghost use Rattle.newt_shelf.specs.declared.batch.NewEntry.{NewEntry as NewOne};
-ghost use Rattle.newt_shelf.specs.Batch.{AreOnce};
+ghost use Rattle.newt_shelf.specs.Batch.{AreOnce, IsApart};
 ghost use Rattle.newt_shelf.specs.Commit.{AreKept, Fit};
 ghost use Rattle.newt_shelf.specs.Faults.{FaultsAt, RefusesOnly};
 ghost use Rattle.newt_store.specs.Next.{Goes, IsNew, IsNextOf, WritesNext, Turns, HoldsEither, IsEitherStore, next_bytes, turn_bytes};
@@ -80,21 +82,36 @@ fn keep_new(places: &mut PlaceTable, entry: &Option<NewEntry>) -> Result<(), All
     }
 }
 
-// Forgets the place of the new entry, if there is one.
-fn forget_new(places: &mut PlaceTable, entry: &Option<NewEntry>)
-    ensures gone { (sig uid : ℕ) → IsNew entry.now sig uid → place_of places.new sig uid ≡ None }
+// Whether the new entry has its place already, since it is put in the place of another.
+fn is_placed(places: &PlaceTable, entry: &Option<NewEntry>) -> bool
+    ensures placed { result ≡ true → (e : NewOne) → entry.now ≡ Some e → place_of places.now e.sig e.uid ≡ Some e.id }
+    ensures not_placed { result ≡ false → (e : NewOne) → entry.now ≡ Some e → place_of places.now e.sig e.uid ≢ Some e.id }
+{
+    match entry {
+        Some(e) => places.get(e.sig, e.uid) == Some(e.id),
+        None => false,
+    }
+}
+
+// Forgets the place of the new entry, if there is one that had no place before.
+fn forget_new(places: &mut PlaceTable, entry: &Option<NewEntry>, was_placed: bool)
+    ensures gone { was_placed ≡ false → (sig uid : ℕ) → IsNew entry.now sig uid → place_of places.new sig uid ≡ None }
+    ensures stays { was_placed ≡ true → (sig uid : ℕ) → place_of places.new sig uid ≡ place_of places.old sig uid }
     ensures others { (sig uid : ℕ) → (IsNew entry.now sig uid → ⊥) → place_of places.new sig uid ≡ place_of places.old sig uid }
 {
+    if was_placed {
+        return;
+    }
     if let Some(e) = entry {
         places.remove(e.sig, e.uid);
     }
 }
 
 // Where the search for a free object id goes on.
-fn hint_after(entry: &Option<NewEntry>, hint: u32) -> u32 {
+fn hint_after(entry: &Option<NewEntry>, was_placed: bool, hint: u32) -> u32 {
     match entry {
-        Some(e) => e.id / 2 + 1,
-        None => hint,
+        Some(e) if !was_placed => e.id / 2 + 1,
+        _ => hint,
     }
 }
 
@@ -109,7 +126,9 @@ fn write_next<P: PageBook, H: Host>(
 ) -> Result<(), StoreFault>
     requires stands { P.stands H.told book.old (H.outside host.old) }
     requires kept { AreKept H.told objects.old (P.numbers book.old) (P.place book.old) (H.outside host.old) }
-    requires next { IsNextOf (held objects.old) next.now }
+    requires formed { IsTrue (well_formed (bare_store next.now.directory)) }
+    requires new_odd { (e : NewOne) → next.now.entry ≡ Some e → e.id % 2 ≡ 1 }
+    requires apart { IsApart next.now.entry gone.now }
     requires there { (k id : ℕ) → slice_get gone.now k ≡ Some id → IsSome (held objects.old id) }
     requires odd { (k id : ℕ) → slice_get gone.now k ≡ Some id → id % 2 ≡ 1 }
     requires once { AreOnce gone.now }
@@ -150,7 +169,7 @@ pub(crate) fn carry_out<P: PageBook, H: Host>(
 ) -> Result<u32, StoreFault>
     requires stands { P.stands H.told book.old (H.outside host.old) }
     requires sound { IsSound H.told catalog.old (P.numbers book.old) (P.place book.old) (H.outside host.old) }
-    requires next { IsNextOf (held catalog.old.objects) next }
+    requires next { IsNextOf catalog.old next }
     ensures stands { GoesOn result → P.stands H.told book.new (H.outside host.new) }
     ensures sound { GoesOn result → IsSound H.told catalog.new (P.numbers book.new) (P.place book.new) (H.outside host.new) }
     ensures place { P.place book.new ≡ P.place book.old }
@@ -169,16 +188,17 @@ pub(crate) fn carry_out<P: PageBook, H: Host>(
     ensures cause { IfErr result (FaultsAt (P.place book.old) (H.outside host.old) (H.outside host.new)) }
 {
     let gone = gone_objects(alloc, &catalog.places, next.gone)?;
+    let was_placed = is_placed(&catalog.places, &next.entry);
     keep_new(&mut catalog.places, &next.entry)?;
     match write_next(alloc, host, book, &mut catalog.objects, &next, &gone) {
         Ok(()) => {
             forget_gone(&mut catalog.places, next.gone);
-            catalog.hint = hint_after(&next.entry, catalog.hint);
+            catalog.hint = hint_after(&next.entry, was_placed, catalog.hint);
             catalog.directory = next.directory;
             Ok(next.answer)
         }
         Err(fault) => {
-            forget_new(&mut catalog.places, &next.entry);
+            forget_new(&mut catalog.places, &next.entry, was_placed);
             Err(fault)
         }
     }

@@ -15,4 +15,6 @@ pub enum Change {
     Remove(Sig, Uid),
     /// The entry's graph is added to the second soup, and the entry goes from the first.
     Move(Sig, Uid, Sig),
+    /// The entry gets this graph in place of its own, and keeps its id.
+    Replace(Sig, Uid, Graph),
 }

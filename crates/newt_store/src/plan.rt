@@ -90,7 +90,7 @@ fn is_too_large(graph: &Graph) -> bool
 
 fn plan_make(alloc: Global, catalog: &Catalog, name: &Name) -> Result<Next, StoreFault>
     requires { IsTrue (well_formed (bare_store catalog.now.directory)) }
-    ensures next { IfOk result (IsNextOf (held catalog.now.objects)) }
+    ensures next { IfOk result (IsNextOf catalog.now) }
     ensures planned { (now : ℕ) (texts : Texts) (s : PlainStore) → Describes catalog.now.directory (place_of catalog.now.places) texts s → IfOk result (IsPlanOf catalog.now (Change.MakeSoup name.now) now s) }
     ensures refused { (texts : Texts) (s : PlainStore) → Describes catalog.now.directory (place_of catalog.now.places) texts s → IfErr result (RefusesWith (first_of (first_checks (Change.MakeSoup name.now) s))) }
     ensures cause { IfErr result IsNoDevice }
@@ -116,7 +116,7 @@ fn plan_make(alloc: Global, catalog: &Catalog, name: &Name) -> Result<Next, Stor
 
 fn plan_drop(catalog: &Catalog, sig: Sig) -> Result<Next, StoreFault>
     requires { IsTrue (well_formed (bare_store catalog.now.directory)) }
-    ensures next { IfOk result (IsNextOf (held catalog.now.objects)) }
+    ensures next { IfOk result (IsNextOf catalog.now) }
     ensures planned { (now : ℕ) (texts : Texts) (s : PlainStore) → Describes catalog.now.directory (place_of catalog.now.places) texts s → IfOk result (IsPlanOf catalog.now (Change.DropSoup sig) now s) }
     ensures refused { (texts : Texts) (s : PlainStore) → Describes catalog.now.directory (place_of catalog.now.places) texts s → IfErr result (RefusesWith (first_of (first_checks (Change.DropSoup sig) s))) }
     ensures cause { IfErr result IsNoDevice }
@@ -148,7 +148,7 @@ fn next_with(
     requires room { row.now.next_uid < 536_870_911 }
     requires plain { IsTrue (graph_has_no_large graph.now) }
     requires valid { IsTrue (valid_entry (record { uid = row.now.next_uid; time = now; graph = graph.now })) }
-    ensures next { IfOk result (IsNextOf (held catalog.now.objects)) }
+    ensures next { IfOk result (IsNextOf catalog.now) }
     ensures adds { IfOk result (IsAdding catalog.now row.now.sig row.now.next_uid now graph.now gone) }
     ensures only { IfErr result (λ fault. fault ≡ StoreFault.Stop Stop.Memory) }
 {
@@ -182,7 +182,7 @@ fn plan_add(
 ) -> Result<Next, StoreFault>
     requires formed { IsTrue (well_formed (bare_store catalog.now.directory)) }
     requires places { AreSoundPlaces (held catalog.now.objects) (place_of catalog.now.places) }
-    ensures next { IfOk result (IsNextOf (held catalog.now.objects)) }
+    ensures next { IfOk result (IsNextOf catalog.now) }
     ensures planned { (texts : Texts) (s : PlainStore) → Describes catalog.now.directory (place_of catalog.now.places) texts s → IfOk result (IsPlanOf catalog.now (Change.Add sig graph.now) now s) }
     ensures refused { (texts : Texts) (s : PlainStore) → Describes catalog.now.directory (place_of catalog.now.places) texts s → IfErr result (RefusesWith (first_of (first_checks (Change.Add sig graph.now) s))) }
     ensures cause { IfErr result IsNoDevice }
@@ -205,7 +205,7 @@ fn plan_add(
 
 fn plan_remove(catalog: &Catalog, sig: Sig, uid: Uid) -> Result<Next, StoreFault>
     requires { IsTrue (well_formed (bare_store catalog.now.directory)) }
-    ensures next { IfOk result (IsNextOf (held catalog.now.objects)) }
+    ensures next { IfOk result (IsNextOf catalog.now) }
     ensures planned { (now : ℕ) (texts : Texts) (s : PlainStore) → Describes catalog.now.directory (place_of catalog.now.places) texts s → IfOk result (IsPlanOf catalog.now (Change.Remove sig uid) now s) }
     ensures refused { (texts : Texts) (s : PlainStore) → Describes catalog.now.directory (place_of catalog.now.places) texts s → IfErr result (RefusesWith (first_of (first_checks (Change.Remove sig uid) s))) }
     ensures cause { IfErr result IsNoDevice }
@@ -239,7 +239,7 @@ fn plan_move<P: PageBook, H: Host>(
     ensures stands { P.stands H.told book.new (H.outside host.new) }
     ensures same { (P.place book.new ≡ P.place book.old) × (P.numbers book.new ≡ P.numbers book.old) }
     ensures moment { (H.outside host.new).now ≡ (H.outside host.old).now }
-    ensures next { IfOk result (IsNextOf (held catalog.now.objects)) }
+    ensures next { IfOk result (IsNextOf catalog.now) }
     ensures planned { IsTrue H.told → (s : PlainStore) → StandsFor catalog.now s (image (P.place book.old) (H.outside host.old).now) → IfOk result (IsPlanOf catalog.now (Change.Move source uid target) now s) }
     ensures refused { IsTrue H.told → (s : PlainStore) → StandsFor catalog.now s (image (P.place book.old) (H.outside host.old).now) → IfErr result (RefusesWith (first_of (first_checks (Change.Move source uid target) s))) }
     ensures costs { IsTrue H.told → (s : PlainStore) → StandsFor catalog.now s (image (P.place book.old) (H.outside host.old).now) → Spends (P.place book.old) 0 (512 * pages_of_entry (entry_in source uid s)) (H.outside host.old) (H.outside host.new) }
@@ -270,6 +270,48 @@ fn plan_move<P: PageBook, H: Host>(
     Ok(next)
 }
 
+fn plan_replace(
+    alloc: Global,
+    catalog: &Catalog,
+    sig: Sig,
+    uid: Uid,
+    graph: &Graph,
+    now: u32,
+) -> Result<Next, StoreFault>
+    requires formed { IsTrue (well_formed (bare_store catalog.now.directory)) }
+    requires places { AreSoundPlaces (held catalog.now.objects) (place_of catalog.now.places) }
+    ensures next { IfOk result (IsNextOf catalog.now) }
+    ensures planned { (texts : Texts) (s : PlainStore) → Describes catalog.now.directory (place_of catalog.now.places) texts s → IfOk result (IsPlanOf catalog.now (Change.Replace sig uid graph.now) now s) }
+    ensures refused { (texts : Texts) (s : PlainStore) → Describes catalog.now.directory (place_of catalog.now.places) texts s → IfErr result (RefusesWith (first_of (first_checks (Change.Replace sig uid graph.now) s))) }
+    ensures cause { IfErr result IsNoDevice }
+{
+    if catalog.directory.soup_of(sig).is_none() {
+        return Err(StoreFault::Refused(Refusal::Soup));
+    }
+    let Some(id) = catalog.places.get(sig, uid) else {
+        return Err(StoreFault::Refused(Refusal::Entry));
+    };
+    if !is_frame(graph) {
+        return Err(StoreFault::Refused(Refusal::Notframe));
+    }
+    if is_too_large(graph) {
+        return Err(StoreFault::Refused(Refusal::Size));
+    }
+    let bytes = write_entry(alloc, sig, uid, now, graph)?;
+    let entry = NewEntry {
+        sig,
+        uid,
+        id,
+        bytes,
+    };
+    Ok(Next {
+        directory: catalog.directory.copy()?,
+        entry: Some(entry),
+        gone: Gone::Nothing,
+        answer: 0,
+    })
+}
+
 /// What a change makes of a store, or its first refusal but that the unit is full.
 pub(crate) fn plan_change<P: PageBook, H: Host>(
     alloc: Global,
@@ -284,7 +326,7 @@ pub(crate) fn plan_change<P: PageBook, H: Host>(
     ensures stands { P.stands H.told book.new (H.outside host.new) }
     ensures same { (P.place book.new ≡ P.place book.old) × (P.numbers book.new ≡ P.numbers book.old) }
     ensures moment { (H.outside host.new).now ≡ (H.outside host.old).now }
-    ensures next { IfOk result (IsNextOf (held catalog.now.objects)) }
+    ensures next { IfOk result (IsNextOf catalog.now) }
     ensures planned { IsTrue H.told → (s : PlainStore) → StandsFor catalog.now s (image (P.place book.old) (H.outside host.old).now) → IfOk result (IsPlanOf catalog.now change now s) }
     ensures refused { IsTrue H.told → (s : PlainStore) → StandsFor catalog.now s (image (P.place book.old) (H.outside host.old).now) → IfErr result (RefusesWith (first_of (first_checks change s))) }
     ensures costs { IsTrue H.told → (s : PlainStore) → StandsFor catalog.now s (image (P.place book.old) (H.outside host.old).now) → Spends (P.place book.old) 0 (512 * pages_of_entry (entry_moved change s)) (H.outside host.old) (H.outside host.new) }
@@ -299,5 +341,6 @@ pub(crate) fn plan_change<P: PageBook, H: Host>(
         Change::Move(source, uid, target) => {
             plan_move(alloc, host, book, catalog, source, uid, target, now)
         }
+        Change::Replace(sig, uid, graph) => plan_replace(alloc, catalog, sig, uid, &graph, now),
     }
 }

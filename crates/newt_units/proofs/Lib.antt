@@ -3,6 +3,7 @@ pub mod Known
 pub mod Turns
 pub mod Calls
 pub mod Commands
+pub mod Replacing
 pub mod Settings
 pub mod Shown
 pub mod Mounts

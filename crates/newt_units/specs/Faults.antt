@@ -2,6 +2,9 @@
 use Rattle.std.specs.Prelude.{◌≡◌, ℕ, ◌≤◌, Result, Ok, Err, Some, None}
 use Rattle.newt_host.specs.Outside.{Outside, Rose, SameCards}
 use Rattle.newt_base.specs.Refusals.{Checks, first_of}
+use Rattle.newt_base.specs.declared.Refusal.TheVariants.{Path as NoPath, Limit}
+use Rattle.newt_path.specs.declared.fault.SetFault.{SetFault}
+use Rattle.newt_path.specs.declared.fault.SetFault.TheVariants as put
 use Rattle.newt_pagebook.specs.Stops.{StopsAt}
 use Rattle.newt_pagebook.specs.declared.book.Stop.{Stop}
 use Rattle.newt_pagebook.specs.declared.book.Stop.TheVariants as stops
@@ -63,3 +66,9 @@ abbrev pub NoDevice : Fault → Type 0
 NoDevice (Refused refusal) = Unit {0}
 NoDevice (Ends stops.Memory) = Unit {0}
 NoDevice (Ends (stops.Device unit)) = ⊥
+
+-- why a value is not put at a path: a refusal, or want of memory
+abbrev pub set_fault : SetFault → Fault
+set_fault put.NoPath = Refused NoPath
+set_fault put.Limit = Refused Limit
+set_fault put.Memory = Ends stops.Memory

@@ -9,7 +9,7 @@ ghost use Rattle.newt_spec_store.specs.Lies.{has_no_large};
 ghost use Rattle.newt_spec_store.specs.Store.{Store as Plain, Soup, Entry as PlainEntry, soup_named, change_soup, make_soup, drop_soup, add_entry, remove_entry, entry_of};
 ghost use Rattle.newt_spec_store.specs.Valid.{well_formed};
 ghost use Rattle.newt_spec_world.specs.Changed.{new_store};
-ghost use Rattle.newt_laws_answers.specs.Tests.{make_tests, add_tests, move_tests, moved_within};
+ghost use Rattle.newt_laws_answers.specs.Tests.{make_tests, add_tests, move_tests, moved_within, replace_tests, replaced};
 ghost use Rattle.newt_units.specs.Cards.{soup_of, entry_at, entry_said, count_in, LeavesEither, IsSame, OthersSame};
 ghost use Rattle.newt_units.specs.Faults.{Does, GoesOn, FaultsAt};
 
@@ -129,6 +129,28 @@ pub trait Card: Sized + Drop {
         ensures others { IsTrue H.told → OthersSame (place self.old) (H.outside host.old).now (H.outside host.new).now }
         ensures any_moment { IsTrue H.told → (s : Plain) (p : Soup) (e : PlainEntry) → reads (image (place self.old) (H.outside host.old).now) ≡ Some s → soup_of soup s ≡ Some p → entry_of uid p ≡ Some e →
             Leaves (place self.old) (LeavesEither reads [] s (change_soup p.name (remove_entry uid) s)) (H.outside host.old).now (H.outside host.new).now }
+        ensures alone { Touches (place self.old) (H.outside host.old) (H.outside host.new) }
+        ensures cause { IfErr result (FaultsAt (place self.old) (H.outside host.old) (H.outside host.new)) };
+
+    /// Puts another graph in the place of an entry's that is there.
+    fn replace<H: Host>(
+        &mut self,
+        host: &mut H,
+        soup: Sig,
+        uid: Uid,
+        graph: Graph,
+        now: u32,
+    ) -> Result<(), Fault>
+        requires { stands H.told self.old (H.outside host.old) }
+        ensures stands { GoesOn result → stands H.told self.new (H.outside host.new) }
+        ensures place { place self.new ≡ place self.old }
+        ensures made { IsTrue H.told → (s : Plain) (p : Soup) (e : PlainEntry) → reads (image (place self.old) (H.outside host.old).now) ≡ Some s → soup_of soup s ≡ Some p → entry_of uid p ≡ Some e →
+            Does (replace_tests ((H.outside host.old).blocks (place self.old)) now p.name uid graph s) (λ _. ⊤)
+            (Some s) (Some (replaced now p.name uid graph s)) (reads (image (place self.old) (H.outside host.new).now)) result }
+        ensures others { IsTrue H.told → OthersSame (place self.old) (H.outside host.old).now (H.outside host.new).now }
+        ensures any_moment { IsTrue H.told → (s : Plain) (p : Soup) (e : PlainEntry) → reads (image (place self.old) (H.outside host.old).now) ≡ Some s → soup_of soup s ≡ Some p → entry_of uid p ≡ Some e →
+            Leaves (place self.old) (LeavesEither reads (replace_tests ((H.outside host.old).blocks (place self.old)) now p.name uid graph s) s (replaced now p.name uid graph s))
+            (H.outside host.old).now (H.outside host.new).now }
         ensures alone { Touches (place self.old) (H.outside host.old) (H.outside host.new) }
         ensures cause { IfErr result (FaultsAt (place self.old) (H.outside host.old) (H.outside host.new)) };
 

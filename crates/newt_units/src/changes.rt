@@ -5,7 +5,7 @@ ghost use Rattle.newt_host.specs.Moments.{Always};
 ghost use Rattle.newt_spec_store.specs.Store.{Store as Plain, Soup, Entry as PlainEntry, entry_of, change_soup, make_soup, drop_soup, add_entry, remove_entry};
 ghost use Rattle.newt_spec_world.specs.World.{World, store_on_unit, change_store};
 ghost use Rattle.newt_laws_answers.specs.Answering.{Answering};
-ghost use Rattle.newt_laws_answers.specs.Tests.{make_tests, add_tests, move_tests, moved_within, with_added};
+ghost use Rattle.newt_laws_answers.specs.Tests.{make_tests, add_tests, replace_tests, replaced, move_tests, moved_within, with_added};
 ghost use Rattle.newt_laws_answers.specs.There.{OnUnit};
 ghost use Rattle.newt_units.specs.Cards.{soup_of, entry_at, entry_said, ReadsEntry};
 ghost use Rattle.newt_units.specs.Faults.{Does, GoesOn, HasFaultCause, HasStopCause, OnDevices};
@@ -91,6 +91,33 @@ impl<C: Card> Units<C> {
         let minute = self.minute;
         match &mut self.slots[unit.0 as usize].card {
             Some(card) => card.add(host, soup, graph, minute),
+            None => Err(Fault::Refused(Refusal::Notmounted)),
+        }
+    }
+
+    /// Puts another graph in the place of an entry's that is there.
+    pub(crate) fn replace_in<H: Host>(
+        &mut self,
+        host: &mut H,
+        unit: Unit,
+        soup: Sig,
+        uid: Uid,
+        graph: Graph,
+    ) -> Result<(), Fault>
+        requires stands { Stands C.place C.stands H.told self.old (H.outside host.old) }
+        requires mounted { mounted_in self.old.slots.items unit ≡ true }
+        ensures stands { GoesOn result → Stands C.place C.stands H.told self.new (H.outside host.new) }
+        ensures made { IsTrue H.told → let w = world_of C.reads self.old (H.outside host.old) in (blocks : ℕ) (s : Plain) (p : Soup) (e : PlainEntry) → OnUnit w unit blocks s → soup_of soup s ≡ Some p → entry_of uid p ≡ Some e →
+            Does (replace_tests blocks w.minute p.name uid graph s) (λ _. ⊤) w (change_store w unit (replaced w.minute p.name uid graph)) (world_of C.reads self.new (H.outside host.new)) result }
+        ensures moments { IsTrue H.told → let w = world_of C.reads self.old (H.outside host.old) in (blocks : ℕ) (s : Plain) (p : Soup) (e : PlainEntry) → OnUnit w unit blocks s → soup_of soup s ≡ Some p → entry_of uid p ≡ Some e →
+            (v : World) → (first_of (replace_tests blocks w.minute p.name uid graph s) ≡ None → store_on_unit v unit ≡ Some (replaced w.minute p.name uid graph s)) →
+            Always (Answering C.reads w v (H.outside host.old).now) (H.outside host.old).now (H.outside host.new).now }
+        ensures alone { OnDevices (H.outside host.old) (H.outside host.new) }
+        ensures cause { IfErr result (λ fault. HasFaultCause fault (H.outside host.old) (H.outside host.new)) }
+    {
+        let minute = self.minute;
+        match &mut self.slots[unit.0 as usize].card {
+            Some(card) => card.replace(host, soup, uid, graph, minute),
             None => Err(Fault::Refused(Refusal::Notmounted)),
         }
     }

@@ -1,6 +1,7 @@
 //! Why a command is not done.
 use newt_base::Refusal;
 use newt_pagebook::Stop;
+use newt_path::SetFault;
 use std::alloc::AllocError;
 
 /// Why a command is not done: it is refused, and the world is as it was; or the run ends, and the units are spent.
@@ -30,5 +31,20 @@ impl From<AllocError> for Fault {
 
     fn from(_: AllocError) -> Self {
         Fault::Stop(Stop::Memory)
+    }
+}
+
+impl From<SetFault> for Fault {
+    ghost use Rattle.std.specs.Prelude.{◌≡◌};
+    ghost use Rattle.newt_units.specs.Faults.{set_fault};
+
+    ghost from_gives = { λ error fault. fault ≡ set_fault error };
+
+    fn from(error: SetFault) -> Self {
+        match error {
+            SetFault::NoPath => Fault::Refused(Refusal::Path),
+            SetFault::Limit => Fault::Refused(Refusal::Limit),
+            SetFault::Memory => Fault::Stop(Stop::Memory),
+        }
     }
 }

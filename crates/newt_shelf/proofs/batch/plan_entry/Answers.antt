@@ -1,9 +1,8 @@
-use Rattle.std.proofs.Common.{◌≡◌, refl, sym, ap, subst, ◌∙◌, List, length, Option, ℕ}
-use Rattle.newt_image.specs.Objects.{Extent, pages_for}
-use Rattle.newt_objects.specs.Extents.{numbers_of}
+use Rattle.std.proofs.Common.{◌≡◌, refl, sym, ap, subst, ◌∙◌, List, length, ℕ}
+use Rattle.newt_image.specs.Objects.{pages_for}
 use Rattle.newt_pagebook.proofs.Tests.{some_inj}
 use Rattle.newt_shelf.specs.declared.batch.NewEntry.{NewEntry}
-use Rattle.newt_shelf.specs.Batch.{HasPut, new_pages, pages_held}
+use Rattle.newt_shelf.specs.Batch.{HasPut, new_pages, pages_held, over_pages}
 use Rattle.newt_shelf.proofs.Planning.{adds-none, adds-as}
 use Rattle.newt_shelf.proofs.batch.plan_entry.Goals as goal
 
@@ -20,8 +19,8 @@ pub returns-clause-pages : goal.returns-clause-pages
 returns-clause-pages c =
     let e = c.in-Some.e in
     let size : pages_for (length c.deref.result.now) ≡ new_pages c.args.entry.now = ap (λ (l : List ℕ). pages_for (length l)) c.deref.ensures.value ∙ ap new_pages (sym c.in-Some.is) in
-    let none : pages_held c.args.objects.now e.id ≡ 0 = ap (λ (o : Option Extent). length (numbers_of o)) (c.requires.free e c.in-Some.is) in
-    adds-as _ _ _ _ _ _ size none c.in_ok-plan_object.ensures.pages
+    let over : pages_held c.args.objects.now e.id ≡ over_pages c.args.objects.now c.args.entry.now = ap (over_pages c.args.objects.now) (sym c.in-Some.is) in
+    adds-as _ _ _ _ _ _ size over c.in_ok-plan_object.ensures.pages
 
 pub returns-in_default-clause-pages : goal.returns-in_default-clause-pages
-returns-in_default-clause-pages c = adds-none (new_pages c.args.entry.now) _ (ap new_pages c.in_default.is)
+returns-in_default-clause-pages c = adds-none (new_pages c.args.entry.now) (over_pages c.args.objects.now c.args.entry.now) _ (ap new_pages c.in_default.is) (ap (over_pages c.args.objects.now) c.in_default.is)

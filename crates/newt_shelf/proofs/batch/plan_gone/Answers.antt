@@ -30,7 +30,7 @@ loop-id-init c = record {
   way = λ live texts w. (texts, w, none-first c.args.gone.now texts);
   held_same = λ other. refl;
   unplanned = λ other free none. free;
-  pages = adds-none 0 _ refl;
+  pages = adds-none 0 0 _ refl refl;
 }
 
 pub plan_delete-requires-clause-there : goal.plan_delete-requires-clause-there

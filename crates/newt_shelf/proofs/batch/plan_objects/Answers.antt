@@ -4,21 +4,21 @@ use Rattle.newt_objects.specs.Held.{Held, held}
 use Rattle.newt_objects.proofs.Changing.{start_unplanned}
 use Rattle.newt_objects.specs.Extents.{numbers_of}
 use Rattle.newt_image.specs.Objects.{pages_for}
-use Rattle.newt_shelf.specs.Batch.{pages_held, all_pages_held, new_pages}
+use Rattle.newt_shelf.specs.declared.batch.NewEntry.{NewEntry}
+use Rattle.newt_shelf.specs.Batch.{pages_held, all_pages_held, new_pages, over_pages}
 use Rattle.newt_shelf.proofs.Planning.{written, adds-also, adds-as}
 use Rattle.newt_shelf.proofs.batch.plan_objects.Goals as goal
 
 not_zero : (n : ℕ) → n % 2 ≡ 1 → n ≢ 0
 not_zero n odd same = absurd (let no : 0 % 2 ≡ 1 = ap (λ (k : ℕ). k % 2) (sym same) ∙ odd in omega (arith, no))
 
--- what is there is not what is free
-not_free : (o : Option Extent) → o ≡ None → IsSome o → ⊥
-not_free None none some = absurd (let no = some in cc)
-not_free (Some x) none some = absurd (cc)
-
 -- the same objects have as many pages
 as-held : (old new : Held) (ids : List ℕ) → ((id : ℕ) → held new id ≡ held old id) → all_pages_held new ids ≡ all_pages_held old ids
 as-held old new ids same = λ i. sum_by (λ id. length (numbers_of (same id i))) ids
+
+as-over : (old new : Held) (entry : Option NewEntry) → ((id : ℕ) → held new id ≡ held old id) → over_pages new entry ≡ over_pages old entry
+as-over old new None same = refl
+as-over old new (Some e) same = ap (λ (o : Option Extent). length (numbers_of o)) (same e.id)
 
 pub plan_object-requires-clause-no_plan : goal.plan_object-requires-clause-no_plan
 plan_object-requires-clause-no_plan c = start_unplanned c.args.objects.now 0 c.requires.none
@@ -35,7 +35,7 @@ plan_gone-requires-clause-there c = λ k id at. subst (λ (o : Option Extent). I
 pub plan_gone-requires-clause-no_plan : goal.plan_gone-requires-clause-no_plan
 plan_gone-requires-clause-no_plan c = λ k id at.
     c.in_ok-plan_entry.ensures.others id
-    (λ e is same. not_free (held c.args.objects.now id) (ap (held c.args.objects.now) same ∙ c.requires.free e is) (c.requires.there k id at))
+    (λ e is same. c.requires.apart e k is (at ∙ ap Some same))
     (c.in_ok-plan_object.ensures.others id (not_zero id (c.requires.gone_odd k id at)) (start_unplanned c.args.objects.now id c.requires.none))
 
 pub plan_gone-requires-clause-way : goal.plan_gone-requires-clause-way
@@ -54,20 +54,18 @@ returns-clause-way c = λ live texts w.
       z.1,
       written c.args.directory.now c.args.entry.now c.args.gone.now texts x.0 y.0 z.0 x.2 y.2 y.3 z.2
           (λ e is. not_zero e.id (c.requires.odd e is)) (λ k id at. not_zero id (c.requires.gone_odd k id at))
-          (λ e k is at. not_free (held c.args.objects.now e.id) (c.requires.free e is) (c.requires.there k e.id at)),
+          c.requires.apart,
     )
-
-pub plan_entry-requires-clause-free : goal.plan_entry-requires-clause-free
-plan_entry-requires-clause-free c = λ e is. c.plan_object.ensures.held e.id ∙ c.requires.free e is
 
 pub returns-clause-pages : goal.returns-clause-pages
 returns-clause-pages c =
     let there : all_pages_held c.plan_entry.new.objects c.args.gone.now ≡ all_pages_held c.args.objects.now c.args.gone.now = as-held c.args.objects.now c.plan_entry.new.objects c.args.gone.now (λ id. c.plan_entry.ensures.held id ∙ c.plan_object.ensures.held id) in
+    let over : over_pages c.plan_object.new.objects c.args.entry.now ≡ over_pages c.args.objects.now c.args.entry.now = as-over c.args.objects.now c.plan_object.new.objects c.args.entry.now c.plan_object.ensures.held in
     let first = adds-also _ _ _ _ _ _ _ c.in_ok-plan_object.ensures.pages c.in_ok-plan_entry.ensures.pages in
     let all = adds-also _ _ _ _ _ _ _ first c.in_ok-plan_gone.ensures.pages in
-    adds-as _ _ _ _ _ _ (none (pages_for (length c.args.directory.now)) (new_pages c.args.entry.now)) (some (pages_held c.args.objects.now 0) _ _ there) all where
+    adds-as _ _ _ _ _ _ (none (pages_for (length c.args.directory.now)) (new_pages c.args.entry.now)) (some (pages_held c.args.objects.now 0) _ _ _ _ over there) all where
       none : (a b : ℕ) → a + b + 0 ≡ a + b
       none a b = omega arith
 
-      some : (a b d : ℕ) → b ≡ d → a + 0 + b ≡ a + d
-      some a b d same = omega (arith, same)
+      some : (a b c d e : ℕ) → b ≡ c → d ≡ e → a + b + d ≡ a + c + e
+      some a b c d e same also = omega (arith, same, also)

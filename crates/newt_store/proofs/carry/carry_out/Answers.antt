@@ -15,7 +15,7 @@ use Rattle.newt_store.specs.Next.{next_bytes, turn_bytes}
 use Rattle.newt_store.proofs.Going.{bytes-turn}
 use Rattle.newt_store.proofs.Writing.{spends-nothing, full-refused, goes-refused, the-fault}
 use Rattle.newt_store.proofs.Reading.{same-cap}
-use Rattle.newt_store.proofs.Carrying.{AreGone, table-next, sound-next, sound-fewer, fewer-back, same-back, described-by, cost-after, leaves-store, leaves-same}
+use Rattle.newt_store.proofs.Carrying.{AreGone, table-next, sound-next, sound-fewer, new-apart, fewer-back, same-back, described-by, cost-after, leaves-store, leaves-same}
 use Rattle.newt_store.proofs.carry.carry_out.Goals as goal
 
 pub returns-in_err-gone-clause-any_moment : goal.returns-in_err-gone-clause-any_moment
@@ -42,6 +42,10 @@ write_next-requires-clause-odd g c = λ k id at.
 
 pub write_next-requires-clause-once : goal.write_next-requires-clause-once
 write_next-requires-clause-once g c = subst (λ (l : List ℕ). AreOnce l) (sym c.deref.ensures.value) c.in_ok-gone.ensures.once
+
+pub write_next-requires-clause-apart : goal.write_next-requires-clause-apart
+write_next-requires-clause-apart g c = new-apart c.args.catalog.now c.args.next c.deref.result.now c.requires.sound.places c.requires.next
+    (λ k id at. c.in_ok-gone.ensures.real k id (sym (ap (λ (l : List ℕ). slice_get l k) c.deref.ensures.value) ∙ at))
 
 pub returns-in-Ok-clause-sound : goal.returns-in-Ok-clause-sound
 returns-in-Ok-clause-sound g c = λ goes.
@@ -109,7 +113,7 @@ returns-in-Err-clause-sound g c = λ goes.
       kept = c.in-Err.ensures.kept goes;
       places = sound-fewer (held c.args.catalog.now.objects) (held c.write_next.new.objects) old new
           (λ id some. subst (λ (x : Option Extent). IsSome x) (sym (c.in-Err.ensures.still (goes-refused c.in-Err.fault goes) id)) some)
-          (fewer-back c.args.next old mid new c.in_ok-keep_new.ensures.others c.forget_new.ensures.gone c.forget_new.ensures.others) c.requires.sound.places;
+          (fewer-back c.args.next old mid new c.is_placed-was_placed.result c.in_ok-keep_new.ensures.kept c.in_ok-keep_new.ensures.others c.is_placed-was_placed.ensures.placed c.forget_new.ensures.gone c.forget_new.ensures.stays c.forget_new.ensures.others) c.requires.sound.places;
       formed = c.requires.sound.formed;
     }
 
@@ -129,7 +133,8 @@ returns-in-Err-clause-still g c = λ is tells s t stands turns.
     let old : Places = place_of c.args.catalog.now.places in
     let mid : Places = place_of c.keep_new.new.places in
     let new : Places = place_of c.forget_new.new.places in
-    let same : new ≡ old = same-back c.args.next old mid new c.in_ok-keep_new.ensures.others c.forget_new.ensures.gone c.forget_new.ensures.others (turns.fresh stands.texts stands.describes) in
+    let same : new ≡ old = same-back c.args.next old mid new c.is_placed-was_placed.result c.in_ok-keep_new.ensures.kept c.in_ok-keep_new.ensures.others c.is_placed-was_placed.ensures.placed c.forget_new.ensures.gone c.forget_new.ensures.stays c.forget_new.ensures.others
+    c.is_placed-was_placed.ensures.not_placed (turns.fresh stands.texts stands.describes) in
     record {
       texts = stands.texts;
       holds = stands.holds;
@@ -169,7 +174,7 @@ returns-in-Ok-clause-bound g c = λ tells s t stands turns room.
     let o = g.H.Host.outside in
     let u : ℕ = g.P.PageBook.place c.args.book.now in
     let size : next_bytes c.args.next cat.objects ids ≡ turn_bytes c.args.next s t =
-    bytes-turn g.H.Host.told cat (g.P.PageBook.numbers c.args.book.now) u (o c.args.host.now) c.requires.sound.kept c.requires.sound.places tells s stands c.args.next ids t once gone turns in
+    bytes-turn g.H.Host.told cat (g.P.PageBook.numbers c.args.book.now) u (o c.args.host.now) c.requires.sound.kept c.requires.sound.places tells s stands c.args.next ids t once gone c.requires.next turns in
     subst (λ (n : ℕ). Spends u n 0 (o c.args.host.now) (o c.write_next.new.host)) size (c.write_next.ensures.bound tells (subst (λ (n : ℕ). IsOpenFor n (image u (o c.args.host.now).now)) (sym size) room))
 
 pub returns-in-Ok-clause-too_many : goal.returns-in-Ok-clause-too_many
@@ -191,7 +196,7 @@ returns-in-Err-clause-bound g c = λ tells s t stands turns room.
     let o = g.H.Host.outside in
     let u : ℕ = g.P.PageBook.place c.args.book.now in
     let size : next_bytes c.args.next cat.objects ids ≡ turn_bytes c.args.next s t =
-    bytes-turn g.H.Host.told cat (g.P.PageBook.numbers c.args.book.now) u (o c.args.host.now) c.requires.sound.kept c.requires.sound.places tells s stands c.args.next ids t once gone turns in
+    bytes-turn g.H.Host.told cat (g.P.PageBook.numbers c.args.book.now) u (o c.args.host.now) c.requires.sound.kept c.requires.sound.places tells s stands c.args.next ids t once gone c.requires.next turns in
     subst (λ (n : ℕ). Spends u n 0 (o c.args.host.now) (o c.write_next.new.host)) size (c.write_next.ensures.bound tells (subst (λ (n : ℕ). IsOpenFor n (image u (o c.args.host.now).now)) (sym size) room))
 
 pub returns-in-Err-clause-too_many : goal.returns-in-Err-clause-too_many

@@ -83,7 +83,7 @@ returns-in-Ok-clause-there g c = λ id there stays.
     let start = start-way g.H.Host.told c.args.objects.now n u o k texts.0 texts.1 in
     let made = c.in_ok-plan_objects.ensures.way k.are.live texts.0 (subst (λ (b : Change). IsUnderWay c.args.objects.now b k.are.live texts.0) (sym c.new-batch.ensures) start) in
     subst (λ (x : Option Extent). IsSome x) (sym (c.in-Ok.ensures.held id))
-    (planned-there c.args.objects.now c.plan_objects.new.objects c.plan_objects.new.batch k.are.live texts.0 made.0 _ c.args.next.now.entry c.args.gone.now start texts.1 made.1 made.2 c.requires.next.free id there stays)
+    (planned-there c.args.objects.now c.plan_objects.new.objects c.plan_objects.new.batch k.are.live texts.0 made.0 _ c.args.next.now.entry c.args.gone.now start texts.1 made.1 made.2 id there stays)
 
 pub returns-in-Ok-clause-holds : goal.returns-in-Ok-clause-holds
 returns-in-Ok-clause-holds g c = λ tells before holds.

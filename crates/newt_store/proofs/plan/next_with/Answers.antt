@@ -1,4 +1,4 @@
-use Rattle.std.proofs.Common.{◌≡◌, ◌%◌, None, refl, ◌∙◌, ap, subst}
+use Rattle.std.proofs.Common.{◌≡◌, inl, ◌%◌, None, refl, ◌∙◌, ap, subst}
 use Rattle.newt_pagebook.proofs.Tests.{some_inj}
 use Rattle.newt_objects.specs.Held.{held}
 use Rattle.newt_soupdir.specs.Bare.{bare_soup, bare_store}
@@ -17,7 +17,7 @@ returns-clause-next c =
     record {
       formed = formed-taken c.args.catalog.now.directory c.take_uid.new.self (bare_soup c.args.row.now) c.args.row.now.sig c.args.now c.args.graph.now c.requires.formed c.requires.row c.requires.room c.requires.valid taken;
       odd = λ e is. subst (λ (x : NewEntry). x.id % 2 ≡ 1) (some_inj _ e is) c.in-Some.ensures.odd;
-      free = λ e is. subst (λ (x : NewEntry). held c.args.catalog.now.objects x.id ≡ None) (some_inj _ e is) c.in-Some.ensures.free;
+      free = λ e is. inl (subst (λ (x : NewEntry). held c.args.catalog.now.objects x.id ≡ None) (some_inj _ e is) c.in-Some.ensures.free);
     }
 
 pub returns-clause-adds : goal.returns-clause-adds

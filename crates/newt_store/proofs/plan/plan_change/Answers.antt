@@ -1,4 +1,4 @@
-use Rattle.std.proofs.Common.{ℕ, ◌*◌, sym, subst, IfErr}
+use Rattle.std.proofs.Common.{◌*◌, sym, subst, IfErr}
 use Rattle.newt_host.specs.Outside.{Spends}
 use Rattle.newt_base.specs.Refusals.{first_of}
 use Rattle.newt_store.specs.declared.change.Change.{Change}
@@ -21,6 +21,9 @@ returns-in-Add-clause-costs g c = λ tells s stands. spends-nothing (g.P.PageBoo
 
 pub returns-in-Remove-clause-costs : goal.returns-in-Remove-clause-costs
 returns-in-Remove-clause-costs g c = λ tells s stands. spends-nothing (g.P.PageBook.place c.args.book.now) 0 (512 * pages_of_entry (entry_moved c.args.change s)) (g.H.Host.outside c.args.host.now)
+
+pub returns-in-Replace-clause-costs : goal.returns-in-Replace-clause-costs
+returns-in-Replace-clause-costs g c = λ tells s stands. spends-nothing (g.P.PageBook.place c.args.book.now) 0 (512 * pages_of_entry (entry_moved c.args.change s)) (g.H.Host.outside c.args.host.now)
 
 pub returns-in-Move-clause-costs : goal.returns-in-Move-clause-costs
 returns-in-Move-clause-costs g c = λ tells s stands.

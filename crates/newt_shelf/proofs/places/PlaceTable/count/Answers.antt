@@ -1,4 +1,4 @@
-use Rattle.std.proofs.Common.{◌≡◌, ◌==◌, ℕ, List, filter, length, sym, ◌∙◌, ap}
+use Rattle.std.proofs.Common.{◌==◌, ℕ, filter, length, ◌∙◌, ap}
 use Rattle.std.specs.BTreeMap as tree
 use Rattle.newt_shelf.proofs.Counting.{counted}
 use Rattle.newt_shelf.proofs.places.PlaceTable.count.Goals as goal

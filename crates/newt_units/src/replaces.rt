@@ -1,0 +1,65 @@
+//! Entries: their graphs replaced.
+ghost use Rattle.std.specs.Prelude.{IsTrue, IfErr};
+ghost use Rattle.newt_host.specs.Moments.{Always};
+ghost use Rattle.newt_spec_world.specs.Reply.{Reply};
+ghost use Rattle.newt_spec_world.specs.declared.command.Command.{Command};
+ghost use Rattle.newt_laws_answers.specs.Answering.{Answering};
+ghost use Rattle.newt_laws_answers.specs.Stage.{answer_now};
+ghost use Rattle.newt_units.specs.Answers.{Answers};
+ghost use Rattle.newt_units.specs.Faults.{GoesOn, HasFaultCause, OnDevices};
+ghost use Rattle.newt_units.specs.Stands.{Stands, world_of};
+
+use crate::card::{Card, Entry};
+use crate::fault::Fault;
+use crate::units::Units;
+use newt_base::{Name, Uid};
+use newt_graph::Graph;
+use newt_host::{Host, Unit};
+use newt_path::{Path, set_at};
+
+impl<C: Card> Units<C> {
+    /// Puts a value at a path of an entry's graph, at the present minute. The frame that the path reaches is changed where it stands.
+    pub fn set<H: Host>(
+        &mut self,
+        host: &mut H,
+        unit: Unit,
+        name: &Name,
+        uid: Uid,
+        path: &Path,
+        value: &Graph,
+    ) -> Result<(), Fault>
+        requires { Stands C.place C.stands H.told self.old (H.outside host.old) }
+        ensures stands { GoesOn result → Stands C.place C.stands H.told self.new (H.outside host.new) }
+        ensures answered { IsTrue H.told → Answers (world_of C.reads self.old (H.outside host.old)) (world_of C.reads self.new (H.outside host.new)) (Command.Set unit name.now uid path.now value.now) (λ _. Reply.done) result }
+        ensures moments { IsTrue H.told → let w = world_of C.reads self.old (H.outside host.old) in
+            Always (Answering C.reads w (answer_now w (Command.Set unit name.now uid path.now value.now)).0 (H.outside host.old).now) (H.outside host.old).now (H.outside host.new).now }
+        ensures alone { OnDevices (H.outside host.old) (H.outside host.new) }
+        ensures cause { IfErr result (λ fault. HasFaultCause fault (H.outside host.old) (H.outside host.new)) }
+    {
+        let soup = self.find_soup(unit, name)?;
+        let Entry { graph, .. } = self.read_entry(host, unit, soup, uid)?;
+        let made = set_at(self.alloc, &graph, path, value)?;
+        self.replace_in(host, unit, soup, uid, made)
+    }
+
+    /// Puts another graph in the place of an entry's, at the present minute.
+    pub fn change<H: Host>(
+        &mut self,
+        host: &mut H,
+        unit: Unit,
+        name: &Name,
+        uid: Uid,
+        graph: Graph,
+    ) -> Result<(), Fault>
+        requires { Stands C.place C.stands H.told self.old (H.outside host.old) }
+        ensures stands { GoesOn result → Stands C.place C.stands H.told self.new (H.outside host.new) }
+        ensures answered { IsTrue H.told → Answers (world_of C.reads self.old (H.outside host.old)) (world_of C.reads self.new (H.outside host.new)) (Command.Change unit name.now uid graph) (λ _. Reply.done) result }
+        ensures moments { IsTrue H.told → let w = world_of C.reads self.old (H.outside host.old) in
+            Always (Answering C.reads w (answer_now w (Command.Change unit name.now uid graph)).0 (H.outside host.old).now) (H.outside host.old).now (H.outside host.new).now }
+        ensures alone { OnDevices (H.outside host.old) (H.outside host.new) }
+        ensures cause { IfErr result (λ fault. HasFaultCause fault (H.outside host.old) (H.outside host.new)) }
+    {
+        let soup = self.find_entry(unit, name, uid)?;
+        self.replace_in(host, unit, soup, uid, graph)
+    }
+}
