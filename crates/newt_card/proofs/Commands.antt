@@ -4,7 +4,7 @@ use Rattle.std.specs.Prelude.{⊤}
 use Rattle.newt_graph.specs.Graph.{RawGraph}
 use Rattle.newt_host.specs.Moments.{Moment, image, IsDurable, Leaves}
 use Rattle.newt_host.proofs.Moments.{Leaves-start}
-use Rattle.newt_laws_answers.specs.Tests.{make_tests, add_tests, move_tests, moved_within}
+use Rattle.newt_laws_answers.specs.Tests.{make_tests, add_tests, move_tests, moved_within, replace_tests, replaced}
 use Rattle.newt_spec_store.specs.Store.{Store as Plain, Soup, Entry, entry_of, change_soup, make_soup, drop_soup, add_entry, remove_entry}
 use Rattle.newt_store.specs.Change.{changed_by, answer_of, refusals}
 use Rattle.newt_store.specs.Stage.{readable}
@@ -14,7 +14,7 @@ use Rattle.newt_units.specs.Cards.{soup_of, LeavesEither}
 use Rattle.newt_units.specs.Faults.{Does}
 use Rattle.newt_units.specs.declared.fault.Fault.{Fault}
 use Rattle.newt_card.proofs.Turns.{does-as, does-done, done, leaves-as}
-use Rattle.newt_card.proofs.Tests.{drop-tests, dropped, add-tests, added, added-uid, remove-tests, removed, move-tests, moved, moved-uid}
+use Rattle.newt_card.proofs.Tests.{drop-tests, dropped, add-tests, added, added-uid, remove-tests, removed, replace-tests, replaced-as, move-tests, moved, moved-uid}
 
 some : {A : Type 0} {a b : A} → a ≡ b → Some a ≡ Some b
 some is = ap Some is
@@ -74,6 +74,20 @@ module _ (blocks now sig : ℕ) (s : Plain) (p : Soup) (found : soup_of sig s �
         → Leaves unit (LeavesEither readable [] s (change_soup p.name (remove_entry uid) s)) old new
     remove-leaves unit old new leaves = leaves-as unit readable (refusals (change.Remove sig uid) blocks now s) [] s (changed_by (change.Remove sig uid) now s)
         (change_soup p.name (remove_entry uid) s) old new (remove-tests blocks now sig s p found uid e here) (removed blocks now sig s p found uid e here) leaves
+
+    module _ (g : RawGraph) where
+      pub replace-does : (later : Option Plain) (result : Result ℕ Fault) → Changes (change.Replace sig uid g) blocks now s later result
+          → Does (replace_tests blocks now p.name uid g s) (λ _. ⊤) (Some s) (Some (replaced now p.name uid g s)) later (done result)
+      replace-does later result d = does-done (replace_tests blocks now p.name uid g s) (λ _. ⊤) (Some s) (Some (replaced now p.name uid g s)) later result
+          (does-as (refusals (change.Replace sig uid g) blocks now s) (replace_tests blocks now p.name uid g s) (λ n. n ≡ answer_of (change.Replace sig uid g) s) (λ _. ⊤)
+          (Some s) (Some (changed_by (change.Replace sig uid g) now s)) (Some (replaced now p.name uid g s)) later
+          (replace-tests blocks now sig s p found uid e here g) (λ n good. tt) (some (replaced-as blocks now sig s p found uid e here g)) result d)
+
+      pub replace-leaves : (unit : ℕ) (old new : Moment) → LeavesChange unit (change.Replace sig uid g) blocks now s old new
+          → Leaves unit (LeavesEither readable (replace_tests blocks now p.name uid g s) s (replaced now p.name uid g s)) old new
+      replace-leaves unit old new leaves = leaves-as unit readable (refusals (change.Replace sig uid g) blocks now s) (replace_tests blocks now p.name uid g s) s
+          (changed_by (change.Replace sig uid g) now s) (replaced now p.name uid g s) old new
+          (replace-tests blocks now sig s p found uid e here g) (replaced-as blocks now sig s p found uid e here g) leaves
 
     module _ (target : ℕ) (q : Soup) (into : soup_of target s ≡ Some q) where
       pub move-does : (later : Option Plain) (result : Result ℕ Fault) → Changes (change.Move sig uid target) blocks now s later result

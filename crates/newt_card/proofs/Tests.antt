@@ -6,11 +6,11 @@ use Rattle.newt_base.specs.declared.Refusal.TheVariants.{Soup as NoSoup, Entry a
 use Rattle.newt_graph.specs.Graph.{RawGraph}
 use Rattle.newt_image.specs.Pages.{cap}
 use Rattle.newt_laws_changes.proofs.Members.{entry_is_in}
-use Rattle.newt_laws_answers.specs.Tests.{add_tests, move_tests, moved_within}
+use Rattle.newt_laws_answers.specs.Tests.{add_tests, move_tests, moved_within, replace_tests, replaced}
 use Rattle.newt_spec_graph.specs.Graph.{is_frame, object}
 use Rattle.newt_spec_store.specs.Cost.{cost}
-use Rattle.newt_spec_store.specs.Store.{Store as Plain, Soup, Entry, entry_of, change_soup, drop_soup, add_entry, remove_entry}
-use Rattle.newt_store.specs.Change.{changed_by, answer_of, refusals, entry_in, changed_soup, dropped_soup, moved_entry, next_uid_of, has_no_ids, is_too_large}
+use Rattle.newt_spec_store.specs.Store.{Store as Plain, Soup, Entry, entry_of, change_soup, change_entry, drop_soup, add_entry, remove_entry}
+use Rattle.newt_store.specs.Change.{changed_by, answer_of, refusals, entry_in, changed_soup, dropped_soup, moved_entry, with_graph, next_uid_of, has_no_ids, is_too_large}
 use Rattle.newt_store.specs.declared.change.Change.TheVariants as change
 use Rattle.newt_units.specs.Cards.{soup_of}
 
@@ -43,6 +43,18 @@ module _ (blocks now sig : ℕ) (s : Plain) (p : Soup) (found : soup_of sig s �
 
     pub removed : changed_by (change.Remove sig uid) now s ≡ change_soup p.name (remove_entry uid) s
     removed = ap (λ (o : Option Soup). changed_soup o (remove_entry uid) s) found
+
+    module _ (g : RawGraph) where
+      pub replaced-as : changed_by (change.Replace sig uid g) now s ≡ replaced now p.name uid g s
+      replaced-as = ap (λ (o : Option Soup). changed_soup o (change_entry uid (with_graph now g)) s) found
+
+      pub replace-tests : first_of (refusals (change.Replace sig uid g) blocks now s) ≡ first_of (replace_tests blocks now p.name uid g s)
+      replace-tests =
+          ap (λ (o : Option Soup). first_of ((NoSoup, is_none o) ∷ later (is_none (entry_in sig uid s)) (changed_soup o (change_entry uid (with_graph now g)) s))) found
+          ∙ ap (λ (o : Option Entry). first_of (later (is_none o) (replaced now p.name uid g s))) (entry-there sig uid s p e found here)
+        where
+          later : Bool → Plain → Checks
+          later none t = (NoEntry, none) ∷ (Notframe, not (is_frame (object g.nodes g.root))) ∷ (Size, is_too_large g) ∷ (Full, nat_lt (cap blocks) (cost t)) ∷ []
 
     module _ (target : ℕ) (q : Soup) (into : soup_of target s ≡ Some q) where
       moved-with : (a b : Option Soup) (o : Option Entry) → soup_of sig s ≡ a → soup_of target s ≡ b → entry_in sig uid s ≡ o → changed_by (change.Move sig uid target) now s ≡ moved_entry o a b now s

@@ -92,6 +92,21 @@ impl<P: PageBook> Card for Kept<P> {
         }
     }
 
+    fn replace<H: Host>(
+        &mut self,
+        host: &mut H,
+        soup: Sig,
+        uid: Uid,
+        graph: Graph,
+        now: u32,
+    ) -> Result<(), Fault> {
+        let change = Change::Replace(soup, uid, graph);
+        match change_store(&mut self.store, host, change, now) {
+            Ok(_) => Ok(()),
+            Err(fault) => Err(fault),
+        }
+    }
+
     fn move_entry<H: Host>(
         &mut self,
         host: &mut H,
