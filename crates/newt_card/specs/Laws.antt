@@ -15,7 +15,7 @@ use Rattle.newt_laws_images.proofs.Assembled.{read-valid}
 use Rattle.newt_laws_images.proofs.Gathering.{image-sound}
 use Rattle.newt_laws_images.proofs.Plain.{only-parts}
 use Rattle.std.specs.FinMap as map
-use Rattle.newt_soupdir.specs.Bare.{bare_store, is_early}
+use Rattle.newt_soupdir.specs.Bare.{bare_store}
 use Rattle.newt_entries.specs.Entry.{stream_graph}
 use Rattle.newt_shelf.specs.Places.{place_of}
 use Rattle.newt_store.proofs.Reading.{both, read-back}
@@ -32,7 +32,7 @@ formed_read bytes s h =
     let parts = only-parts is_simple (store_of_image stream_graph bytes) s h in
     let is = image-sound stream_graph bytes s parts.0 in
     let valid = read-valid stream_graph (map.entries is.objects) (blocks_of bytes) s is.reads in
-    ((both (well_formed s) (fits (blocks_of bytes) s) valid).0, (both (is_early s) (has_no_large s) parts.1).1)
+    ((both (well_formed s) (fits (blocks_of bytes) s) valid).0, parts.1)
 
 -- where memory and image stand for a store, the image is read as one whose soups are known
 pub read_as : (catalog : Catalog) (now : List ℕ) → StandsForOne catalog now → (s : Plain) × (readable now ≡ Some s) × (bare s ≡ bare_store catalog.directory)

@@ -1,4 +1,9 @@
 pub mod Numbers
+pub mod Paths
+pub mod Named
+pub mod Spelled
 pub mod Lists
 pub mod Loop
+pub mod Sifting
+pub mod Declared
 pub mod Sifted

@@ -1,9 +1,16 @@
--- The rows of a directory, read from the front of bytes as a program reads them: names are tested as they are met, and counts of indexes and tags bytes are 0.
-use Rattle.std.specs.Prelude.{◌≡◌, ℕ, Bool, ◌==◌, List, Option, Some, None, Result, Ok, Err}
-use Rattle.newt_base.specs.Names.{is_name}
+-- The rows of a directory, read from the front of bytes as a program reads them: names, symbols and counts are tested as they are met.
+use Rattle.std.specs.Prelude.{◌≡◌, ℕ, zero, suc, Bool, ◌&&◌, nat_le, List, length, Option, Some, None, Result, Ok, Err}
+use Rattle.newt_base.specs.Names.{is_name, same_name}
+use Rattle.newt_spec_graph.specs.Lists.{all_apart}
+use Rattle.newt_spec_store.specs.declared.Kind.{Kind}
+use Rattle.newt_spec_store.specs.declared.Order.{Order}
+use Rattle.newt_spec_store.specs.Keys.{IndexSpec, Path}
+use Rattle.newt_spec_store.specs.Store.{TagTable}
 use Rattle.newt_spec_store.specs.Lies.{only}
-use Rattle.newt_spec_store.specs.Reading.{Take, ◌>>=◌, give, number, some_bytes, times, whole}
-use Rattle.newt_spec_store.specs.Valid.{well_formed}
+use Rattle.newt_spec_store.specs.Reading.{Take, ◌>>=◌, give, refuse, number, some_bytes, times, whole, kind_of, direction_of}
+use Rattle.newt_spec_store.specs.Valid.{well_formed, valid_symbol}
+use Rattle.newt_keys.specs.Seen.{declared_all}
+use Rattle.newt_keys.specs.declared.types.IndexPart.{IndexPart}
 use Rattle.newt_soupdir.specs.declared.fault.DirFault.{DirFault}
 use Rattle.newt_soupdir.specs.declared.fault.DirFault.TheVariants.{Bad, Memory}
 use Rattle.newt_soupdir.specs.declared.rows.SoupRow.{SoupRow}
@@ -24,6 +31,12 @@ Gives view (Err e) read = Fails e read
 abbrev pub passing : {A : Type 0} → (A → Bool) → Take A → Take A
 passing test item bytes = only (λ r. test r.0) (item bytes)
 
+-- as many elements as are allowed
+abbrev pub is_count : {A : Type 0} → ℕ → ℕ → List A → Bool
+is_count least most xs = nat_le least (length xs) && nat_le (length xs) most
+
+-- ---- numbers and names
+
 unfoldable pub byte_at : Take ℕ
 byte_at = number 1
 
@@ -39,18 +52,62 @@ text_at = byte_at >>= some_bytes
 unfoldable pub name_at : Take (List ℕ)
 name_at = passing is_name text_at
 
--- a byte that is 0
-unfoldable pub zero_at : Take ℕ
-zero_at = passing (λ b. b == 0) byte_at
+-- ---- indexes and tags
+
+unfoldable pub symbol_at : Take (List ℕ)
+symbol_at = passing valid_symbol text_at
+
+unfoldable pub path_at : Take Path
+path_at = passing (is_count 1 8) (byte_at >>= λ n. times n symbol_at)
+
+unfoldable pub kind_at : Take Kind
+kind_at = byte_at >>= kind_of
+
+unfoldable pub order_at : Take Order
+order_at = byte_at >>= direction_of
+
+unfoldable pub part_at : Take IndexPart
+part_at = do
+  kind ← kind_at
+  order ← order_at
+  path ← path_at
+  give (record { path = path; kind = kind; order = order })
+
+unfoldable pub spec_at : Take IndexSpec
+spec_at = passing (is_count 1 4) (byte_at >>= λ n. times n part_at >>= λ parts. give (declared_all parts))
+
+unfoldable pub specs_at : Take (List IndexSpec)
+specs_at = byte_at >>= λ n. times n spec_at
+
+-- symbols, no two of which are one but for the case of letters
+unfoldable pub tag_symbols_at : Take (List (List ℕ))
+tag_symbols_at = passing (λ symbols. nat_le (length symbols) 64 && all_apart same_name symbols) (byte_at >>= λ n. times n symbol_at)
+
+unfoldable pub table_at : Take TagTable
+table_at = do
+  path ← path_at
+  symbols ← tag_symbols_at
+  give (record { path = path; symbols = symbols })
+
+-- a tags declaration, by its first byte
+abbrev pub tags_from : ℕ → Take (Option TagTable)
+tags_from zero = give None
+tags_from (suc zero) = table_at >>= λ table. give (Some table)
+tags_from _ = refuse
+
+unfoldable pub tags_at : Take (Option TagTable)
+tags_at = byte_at >>= tags_from
+
+-- ---- the directory
 
 unfoldable pub soup_at : Take SoupRow
 soup_at = do
   name ← name_at
   sig ← number16_at
   next ← number32_at
-  specs ← zero_at
-  tags ← zero_at
-  give (record { name = name; sig = sig; next_uid = next })
+  specs ← specs_at
+  tags ← tags_at
+  give (record { name = name; sig = sig; next_uid = next; specs = specs; tags = tags })
 
 unfoldable pub soups_at : Take (List SoupRow)
 soups_at = byte_at >>= λ n. times n soup_at

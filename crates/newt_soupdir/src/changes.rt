@@ -1,14 +1,19 @@
 //! To find soups in a directory, and to change it.
-ghost use Rattle.std.specs.Prelude.{◌≡◌, ◌+◌, ◌<◌, ◌≤◌, filter, length, map, not, ◌==◌, nat_le, option_map, OnErr, OnOk, IfOk, IfSome, IsTrue};
+ghost use Rattle.std.specs.Prelude.{◌≡◌, ◌+◌, ◌<◌, ◌≤◌, filter, length, map, not, ◌==◌, nat_le, option_map, option_and_then, OnErr, OnOk, IfOk, IfSome, IsTrue};
 ghost use Rattle.std.specs.List.{find, position_from};
 ghost use Rattle.newt_spec_store.specs.Store.{soup_named, make_soup, change_first};
 ghost use Rattle.newt_spec_store.specs.Valid.{well_formed};
 ghost use Rattle.newt_soupdir.specs.Bare.{bare_soup, bare_store};
-ghost use Rattle.newt_soupdir.specs.Changes.{soup_of, without_soup, uid_taken, take_uid_of};
+ghost use Rattle.newt_spec_store.specs.Keys.{paths_of, same_paths, same_spec};
+ghost use Rattle.newt_soupdir.specs.Changes.{soup_of, without_soup, uid_taken, take_uid_of, with_index, without_index, with_tags, change_soup_of};
 
 use crate::form::MOST_SOUPS;
+use crate::indexes::Specs;
 use crate::rows::{Directory, SoupRow};
 use newt_base::{Name, Sig, Uid};
+use newt_keys::IndexSpec;
+use newt_path::Path;
+use newt_tags::TagTable;
 use std::alloc::AllocError;
 
 impl Directory {
@@ -60,6 +65,8 @@ impl Directory {
             name,
             sig,
             next_uid: 0,
+            specs: Specs::none(*self.soups.items.allocator()),
+            tags: None,
         };
         self.soups.items.push(row)?;
         self.next_soup += 1;
@@ -71,6 +78,43 @@ impl Directory {
         ensures { bare_store self.new ≡ without_soup sig (bare_store self.old) }
     {
         drop_from(&mut self.soups.items, sig);
+    }
+
+    /// The place, among the indexes of the soup of this signature, of the one that agrees with this declaration in its paths, but for ASCII case, and in
+    /// its types and orders.
+    pub fn index_of(&self, sig: Sig, spec: &IndexSpec) -> Option<usize>
+        ensures { result ≡ option_and_then (λ p. position_from (λ other. same_spec other spec.now) 0 p.specs) (soup_of sig (bare_store self.now)) }
+    {
+        self.soup_of(sig)?.specs.place_of(spec)
+    }
+
+    /// The place, among the indexes of the soup of this signature, of the one with these paths, in this order and but for ASCII case.
+    pub fn index_with_paths(&self, sig: Sig, paths: &[Path]) -> Option<usize>
+        ensures { result ≡ option_and_then (λ p. position_from (λ other. same_paths (paths_of other) paths.now) 0 p.specs) (soup_of sig (bare_store self.now)) }
+    {
+        self.soup_of(sig)?.specs.place_with_paths(paths)
+    }
+
+    /// The soup of this signature has one index more, behind the others. Without such a soup nothing changes.
+    pub fn add_spec(&mut self, sig: Sig, spec: IndexSpec) -> Result<(), AllocError>
+        ensures added { OnOk result (bare_store self.new ≡ change_soup_of sig (with_index spec) (bare_store self.old)) }
+        ensures err { OnErr result (self.new ≡ self.old) }
+    {
+        add_spec_in(self.soups.items.as_mut_slice(), sig, spec)
+    }
+
+    /// The soup of this signature has no longer the index with these paths, in this order and but for ASCII case. Without such a soup nothing changes.
+    pub fn drop_spec(&mut self, sig: Sig, paths: &[Path])
+        ensures { bare_store self.new ≡ change_soup_of sig (without_index paths.now) (bare_store self.old) }
+    {
+        drop_spec_in(self.soups.items.as_mut_slice(), sig, paths);
+    }
+
+    /// The tags declaration of the soup of this signature is this one, or none. Without such a soup nothing changes.
+    pub fn set_tags(&mut self, sig: Sig, tags: Option<TagTable>)
+        ensures { bare_store self.new ≡ change_soup_of sig (with_tags tags) (bare_store self.old) }
+    {
+        set_tags_in(self.soups.items.as_mut_slice(), sig, tags);
     }
 
     /// Takes the next entry id of the soup of this signature, which is the answer; none where there is no such soup.
@@ -136,4 +180,52 @@ fn take_uid_in(rows: &mut [SoupRow], sig: Sig) -> Option<Uid>
 {
     let at = place_of(rows, sig)?;
     Some(take_next(&mut rows[at]))
+}
+
+fn add_to(row: &mut SoupRow, spec: IndexSpec) -> Result<(), AllocError>
+    ensures added { OnOk result (bare_soup row.new ≡ with_index spec (bare_soup row.old)) }
+    ensures err { OnErr result (row.new ≡ row.old) }
+{
+    row.specs.add(spec)
+}
+
+/// One index more in the first row of this signature.
+fn add_spec_in(rows: &mut [SoupRow], sig: Sig, spec: IndexSpec) -> Result<(), AllocError>
+    ensures added { OnOk result (map bare_soup rows.new ≡ change_first (λ p. p.sig == sig) (with_index spec) (map bare_soup rows.old)) }
+    ensures err { OnErr result (rows.new ≡ rows.old) }
+{
+    match place_of(rows, sig) {
+        Some(at) => add_to(&mut rows[at], spec),
+        None => Ok(()),
+    }
+}
+
+fn drop_of(row: &mut SoupRow, paths: &[Path])
+    ensures { bare_soup row.new ≡ without_index paths.now (bare_soup row.old) }
+{
+    row.specs.remove(paths);
+}
+
+/// The index with these paths is gone from the first row of this signature.
+fn drop_spec_in(rows: &mut [SoupRow], sig: Sig, paths: &[Path])
+    ensures { map bare_soup rows.new ≡ change_first (λ p. p.sig == sig) (without_index paths.now) (map bare_soup rows.old) }
+{
+    if let Some(at) = place_of(rows, sig) {
+        drop_of(&mut rows[at], paths);
+    }
+}
+
+fn set_tags_of(row: &mut SoupRow, tags: Option<TagTable>)
+    ensures { bare_soup row.new ≡ with_tags tags (bare_soup row.old) }
+{
+    row.tags = tags;
+}
+
+/// The tags declaration of the first row of this signature is this one.
+fn set_tags_in(rows: &mut [SoupRow], sig: Sig, tags: Option<TagTable>)
+    ensures { map bare_soup rows.new ≡ change_first (λ p. p.sig == sig) (with_tags tags) (map bare_soup rows.old) }
+{
+    if let Some(at) = place_of(rows, sig) {
+        set_tags_of(&mut rows[at], tags);
+    }
 }

@@ -7,7 +7,7 @@ use std::alloc::{AllocError, AllocFailed};
 /// Why bytes were not read as a directory.
 #[derive(Clone, Copy, Debug, PartialEq, Eq)]
 pub enum DirFault {
-    /// The bytes are no directory, or one with indexes or tags.
+    /// The bytes are no directory.
     Bad,
     /// Memory was refused.
     Memory,

@@ -1,6 +1,6 @@
 //! Numbers, texts and names, read from the front.
 ghost use Rattle.std.specs.Prelude.{◌≡◌};
-ghost use Rattle.newt_soupdir.specs.Reading.{Gives, byte_at, number16_at, number32_at, text_at, name_at, zero_at};
+ghost use Rattle.newt_soupdir.specs.Reading.{Gives, byte_at, number16_at, number32_at, text_at, name_at};
 
 use crate::fault::DirFault;
 use newt_base::{Name, NameFault, be16, be32};
@@ -37,7 +37,7 @@ pub(crate) fn number32(bytes: &[u8]) -> Result<(u32, &[u8]), DirFault>
 }
 
 #[tactic(auto, unfolding(crate::specs::Reading::text_at))]
-fn text(bytes: &[u8]) -> Result<(&[u8], &[u8]), DirFault>
+pub(crate) fn text(bytes: &[u8]) -> Result<(&[u8], &[u8]), DirFault>
     ensures { Gives (λ x. (x.0.now, x.1.now)) result (text_at bytes.now) }
 {
     let (len, rest) = byte(bytes)?;
@@ -58,16 +58,4 @@ pub(crate) fn name(alloc: Global, bytes: &[u8]) -> Result<(Name, &[u8]), DirFaul
         Err(NameFault::Name) => Err(DirFault::Bad),
         Err(NameFault::Memory) => Err(DirFault::Memory),
     }
-}
-
-/// A byte that is 0.
-#[tactic(auto, unfolding(crate::specs::Reading::zero_at))]
-pub(crate) fn zero(bytes: &[u8]) -> Result<(u8, &[u8]), DirFault>
-    ensures { Gives (λ x. (x.0, x.1.now)) result (zero_at bytes.now) }
-{
-    let (b, rest) = byte(bytes)?;
-    if b != 0 {
-        return Err(DirFault::Bad);
-    }
-    Ok((b, rest))
 }

@@ -3,10 +3,13 @@ ghost use Rattle.std.specs.Prelude.{◌≡◌, ◌&&◌, length, map, nat_le};
 ghost use Rattle.std.specs.List.{list_all, list_any};
 ghost use Rattle.newt_base.specs.Names.{equal_text, is_name};
 ghost use Rattle.newt_spec_graph.specs.Lists.{all_apart, rises};
-ghost use Rattle.newt_spec_store.specs.Valid.{well_formed, valid_soup};
+ghost use Rattle.newt_spec_store.specs.Keys.{paths_of, same_paths};
+ghost use Rattle.newt_spec_store.specs.Valid.{well_formed, valid_soup, valid_spec, valid_tags};
 ghost use Rattle.newt_soupdir.specs.Bare.{bare_soup, bare_store};
 
 use crate::rows::{Directory, SoupRow};
+use newt_keys::IndexSpec;
+use newt_tags::TagTable;
 
 /// The largest signature of a store and next entry id.
 const LARGEST_ID: u32 = 536_870_911;
@@ -16,6 +19,15 @@ const LARGEST_NEXT_SOUP: u32 = 65_535;
 
 /// The most soups of a store.
 pub(crate) const MOST_SOUPS: usize = 64;
+
+/// The most indexes of a soup.
+pub(crate) const MOST_SPECS: usize = 16;
+
+/// The most parts of an index.
+pub(crate) const MOST_PARTS: usize = 4;
+
+/// The most symbols of a tags declaration.
+pub(crate) const MOST_TAGS: usize = 64;
 
 impl Directory {
     /// Whether the rows make a well formed store: names of their form and distinct, soup signatures that rise below the next one, and all limits.
@@ -36,7 +48,7 @@ impl Directory {
     }
 
     /// The name and the limits of the store itself.
-    #[tactic(auto, using(crate::proofs::Lists::length_rows))]
+    #[tactic(auto, using(crate::proofs::Spelled::length_rows))]
     fn is_within_limits(&self) -> bool
         ensures { result ≡ is_name self.now.name && nat_le self.now.sig 536_870_911 && nat_le self.now.next_soup 65_535 && nat_le (length (map bare_soup self.now.soups)) 64 }
     {
@@ -92,7 +104,63 @@ fn is_valid(row: &SoupRow) -> bool
     ensures { result ≡ valid_soup (bare_soup row.now) }
 {
     let _name = row.name.list();
-    row.next_uid <= LARGEST_ID
+    row.next_uid <= LARGEST_ID && are_valid_specs(row.specs.list()) && is_valid_tags(&row.tags)
+}
+
+/// At most 16 indexes, no two with the same paths.
+fn are_valid_specs(specs: &[IndexSpec]) -> bool
+    ensures { result ≡ (nat_le (length specs.now) 16 && list_all valid_spec specs.now && all_apart same_paths (map paths_of specs.now)) }
+{
+    specs.len() <= MOST_SPECS && are_few_parts(specs) && have_paths_apart(specs)
+}
+
+fn are_few_parts(specs: &[IndexSpec]) -> bool
+    ensures { result ≡ list_all valid_spec specs.now }
+{
+    specs.iter().all(is_few_parts)
+}
+
+/// The rest of the form of a declaration is kept by its type.
+fn is_few_parts(spec: &IndexSpec) -> bool
+    ensures { result ≡ valid_spec spec.now }
+{
+    spec.list().len() <= MOST_PARTS
+}
+
+fn have_paths_apart(specs: &[IndexSpec]) -> bool
+    ensures { result ≡ all_apart same_paths (map paths_of specs.now) }
+{
+    let mut left = specs;
+    while let [spec, rest @ ..] = left {
+        if has_paths_of(spec, rest) {
+            return false;
+        }
+        left = rest;
+    }
+    true
+}
+
+fn has_paths_of(spec: &IndexSpec, specs: &[IndexSpec]) -> bool
+    ensures { result ≡ list_any (same_paths (paths_of spec.now)) (map paths_of specs.now) }
+{
+    let mut left = specs;
+    while let [other, rest @ ..] = left {
+        if spec.same_paths(other) {
+            return true;
+        }
+        left = rest;
+    }
+    false
+}
+
+/// The rest of the form of a declaration is kept by its type.
+fn is_valid_tags(tags: &Option<TagTable>) -> bool
+    ensures { result ≡ valid_tags tags.now }
+{
+    match tags {
+        Some(tags) => tags.symbols().len() <= MOST_TAGS,
+        None => true,
+    }
 }
 
 fn are_valid(soups: &[SoupRow]) -> bool

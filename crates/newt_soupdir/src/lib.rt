@@ -1,19 +1,24 @@
-//! The directory of a store, as bytes and as rows: the store's name and signature, and of each soup its name, signature and next entry id.
+//! The directory of a store, as bytes and as rows: the store's name and signature, and of each soup its name, signature, next entry id, indexes and
+//! tags declaration.
 //!
-//! It stands on `newt_base` and on the definitions of `newt_spec_store`. It carries this promise: a directory is read from exactly the bytes that
-//! have one by the store's reading, and is written as the store's definition says; each change of rows is that change of the plain store. In this
-//! stage a directory with indexes or tags is not read.
+//! It stands on `newt_base`, on `newt_keys` and `newt_tags` for the declarations, and on the definitions of `newt_spec_store`. It carries this promise:
+//! a directory is read from exactly the bytes that have one by the store's reading, and is written as the store's definition says; each change of rows
+//! is that change of the plain store.
 #![tactic(auto)]
 
 mod changes;
+mod declarations;
 mod fault;
 mod fields;
 mod form;
+mod identifiers;
+mod indexes;
 mod read;
 mod rows;
 mod write;
 
 pub use fault::DirFault;
+pub use indexes::Specs;
 pub use read::read_directory;
 pub use rows::{Directory, SoupRow, Soups};
 pub use write::write_directory;

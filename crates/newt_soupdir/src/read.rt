@@ -1,11 +1,13 @@
 //! Reading a directory.
 ghost use Rattle.std.specs.Prelude.{◌≡◌, Some, None, IfOk, IsErrOf};
 ghost use Rattle.newt_spec_store.specs.Reading.{times};
-ghost use Rattle.newt_soupdir.specs.Bare.{bare_store, directory_now};
+ghost use Rattle.newt_spec_store.specs.Lies.{directory_read};
+ghost use Rattle.newt_soupdir.specs.Bare.{bare_store};
 ghost use Rattle.newt_soupdir.specs.Reading.{Gives, soup_at, soups_at, rows_at, directory_at};
 
+use crate::declarations::{specs, tags};
 use crate::fault::DirFault;
-use crate::fields::{byte, name, number16, number32, zero};
+use crate::fields::{byte, name, number16, number32};
 use crate::rows::{Directory, SoupRow, Soups};
 use newt_base::Sig;
 use std::alloc::Global;
@@ -17,14 +19,16 @@ fn soup(alloc: Global, bytes: &[u8]) -> Result<(SoupRow, &[u8]), DirFault>
     let (name, rest) = name(alloc, bytes)?;
     let (sig, rest) = number16(rest)?;
     let (next_uid, rest) = number32(rest)?;
-    let (_specs, rest) = zero(rest)?;
-    let (_tags, rest) = zero(rest)?;
+    let (specs, rest) = specs(alloc, rest)?;
+    let (tags, rest) = tags(alloc, rest)?;
     let sig = Sig(u32::from(sig));
     Ok((
         SoupRow {
             name,
             sig,
             next_uid,
+            specs,
+            tags,
         },
         rest,
     ))
@@ -85,8 +89,8 @@ fn whole(alloc: Global, bytes: &[u8]) -> Result<Directory, DirFault>
 
 /// The directory that all of the bytes are read as.
 pub fn read_directory(alloc: Global, bytes: &[u8]) -> Result<Directory, DirFault>
-    ensures found { IfOk result (λ d. directory_now bytes.now ≡ Some (bare_store d)) }
-    ensures bad { IsErrOf result DirFault.Bad → directory_now bytes.now ≡ None }
+    ensures found { IfOk result (λ d. directory_read bytes.now ≡ Some (bare_store d)) }
+    ensures bad { IsErrOf result DirFault.Bad → directory_read bytes.now ≡ None }
 {
     whole(alloc, bytes)
 }

@@ -1,16 +1,20 @@
 //! What a directory has.
 ghost use Rattle.std.specs.Prelude.{◌≡◌, IfOk};
 
+use crate::indexes::Specs;
 use newt_base::{Name, Sig};
+use newt_tags::TagTable;
 use std::alloc::AllocError;
 use std::marker::Model;
 
-/// A soup: its name, its signature, and the id of its next entry.
+/// A soup: its name, its signature, the id of its next entry, its indexes, and its tags declaration.
 #[derive(Drop)]
 pub struct SoupRow {
     pub name: Name,
     pub sig: Sig,
     pub next_uid: u32,
+    pub specs: Specs,
+    pub tags: Option<TagTable>,
 }
 
 impl SoupRow {
@@ -22,7 +26,19 @@ impl SoupRow {
             name: self.name.copy()?,
             sig: self.sig,
             next_uid: self.next_uid,
+            specs: self.specs.copy()?,
+            tags: copied_tags(&self.tags)?,
         })
+    }
+}
+
+/// An equal tags declaration, or none.
+fn copied_tags(tags: &Option<TagTable>) -> Result<Option<TagTable>, AllocError>
+    ensures { IfOk result (λ copy. copy ≡ tags.now) }
+{
+    match tags {
+        Some(tags) => Ok(Some(tags.copy()?)),
+        None => Ok(None),
     }
 }
 

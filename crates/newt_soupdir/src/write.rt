@@ -1,11 +1,16 @@
 //! Writing a directory.
-ghost use Rattle.std.specs.Prelude.{◌≡◌, ◌<◌, ◌^◌, ◌++◌, ◌∷◌, length, flat_map, map, All, OnOk, IfOk, IsTrue};
+ghost use Rattle.std.specs.Prelude.{◌≡◌, ◌<◌, ◌^◌, ◌++◌, ◌∷◌, length, flat_map, map, All, OnOk, IfOk, IsTrue, Some};
 ghost use Rattle.newt_base.specs.Text.{be16, be32};
-ghost use Rattle.newt_spec_store.specs.Cost.{text_bytes, soup_bytes, directory_bytes, counted};
+ghost use Rattle.newt_spec_store.specs.Cost.{text_bytes, path_bytes, kind_byte, direction_byte, part_bytes, tags_bytes, soup_bytes, directory_bytes, counted};
 ghost use Rattle.newt_spec_store.specs.Valid.{well_formed};
+ghost use Rattle.newt_keys.specs.Seen.{declared};
 ghost use Rattle.newt_soupdir.specs.Bare.{bare_soup, bare_store};
 
 use crate::rows::{Directory, SoupRow};
+use newt_graph::Bytes;
+use newt_keys::{IndexPart, IndexSpec, Kind, Order};
+use newt_path::Path;
+use newt_tags::TagTable;
 use std::alloc::{AllocError, Global};
 
 fn put_16(out: &mut Vec<u8>, number: u16) -> Result<(), AllocError>
@@ -29,22 +34,110 @@ fn put_text(out: &mut Vec<u8>, text: &[u8]) -> Result<(), AllocError>
     Ok(())
 }
 
-/// A soup without indexes and tags.
+fn put_texts(out: &mut Vec<u8>, texts: &[Bytes]) -> Result<(), AllocError>
+    requires few { length texts.now < 256 }
+    requires short { All (λ text. length text < 256) texts.now }
+    ensures { OnOk result (out.new.items ≡ out.old.items ++ counted text_bytes texts.now) }
+{
+    out.push(texts.len() as u8)?;
+    for text in texts {
+        put_text(out, text.list())?;
+    }
+    Ok(())
+}
+
+fn put_path(out: &mut Vec<u8>, path: &Path) -> Result<(), AllocError>
+    ensures { OnOk result (out.new.items ≡ out.old.items ++ path_bytes path.now) }
+{
+    put_texts(out, path.list())
+}
+
+fn kind_byte(kind: Kind) -> u8
+    ensures { result ≡ kind_byte kind }
+{
+    match kind {
+        Kind::Text => 0,
+        Kind::Int => 1,
+        Kind::Char => 2,
+        Kind::Symbol => 3,
+    }
+}
+
+fn order_byte(order: Order) -> u8
+    ensures { result ≡ direction_byte order }
+{
+    match order {
+        Order::Ascend => 0,
+        Order::Descend => 1,
+    }
+}
+
+fn put_part(out: &mut Vec<u8>, part: &IndexPart) -> Result<(), AllocError>
+    ensures { OnOk result (out.new.items ≡ out.old.items ++ part_bytes (declared part.now)) }
+{
+    out.push(kind_byte(part.kind))?;
+    out.push(order_byte(part.order))?;
+    put_path(out, &part.path)
+}
+
+#[tactic(auto, using(crate::proofs::Spelled::parts_few))]
+fn put_spec(out: &mut Vec<u8>, spec: &IndexSpec) -> Result<(), AllocError>
+    ensures { OnOk result (out.new.items ≡ out.old.items ++ counted part_bytes spec.now) }
+{
+    let parts = spec.list();
+    out.push(parts.len() as u8)?;
+    for part in parts {
+        put_part(out, part)?;
+    }
+    Ok(())
+}
+
+fn put_specs(out: &mut Vec<u8>, specs: &[IndexSpec]) -> Result<(), AllocError>
+    requires { length specs.now < 256 }
+    ensures { OnOk result (out.new.items ≡ out.old.items ++ counted (counted part_bytes) specs.now) }
+{
+    out.push(specs.len() as u8)?;
+    for spec in specs {
+        put_spec(out, spec)?;
+    }
+    Ok(())
+}
+
+fn put_table(out: &mut Vec<u8>, table: &TagTable) -> Result<(), AllocError>
+    ensures { OnOk result (out.new.items ≡ out.old.items ++ tags_bytes (Some table.now)) }
+{
+    out.push(1)?;
+    put_path(out, table.path())?;
+    put_texts(out, table.symbols())
+}
+
+fn put_tags(out: &mut Vec<u8>, tags: &Option<TagTable>) -> Result<(), AllocError>
+    ensures { OnOk result (out.new.items ≡ out.old.items ++ tags_bytes tags.now) }
+{
+    match tags {
+        Some(table) => put_table(out, table),
+        None => {
+            out.push(0)?;
+            Ok(())
+        }
+    }
+}
+
 fn put_soup(out: &mut Vec<u8>, row: &SoupRow) -> Result<(), AllocError>
-    requires { row.now.sig < 2 ^ 16 }
+    requires sig { row.now.sig < 2 ^ 16 }
+    requires few { length row.now.specs < 256 }
     ensures { OnOk result (out.new.items ≡ out.old.items ++ soup_bytes (bare_soup row.now)) }
 {
     put_text(out, row.name.list())?;
     put_16(out, row.sig.0 as u16)?;
     put_32(out, row.next_uid)?;
-    out.push(0)?;
-    out.push(0)?;
-    Ok(())
+    put_specs(out, row.specs.list())?;
+    put_tags(out, &row.tags)
 }
 
 fn put_soups(out: &mut Vec<u8>, soups: &[SoupRow]) -> Result<(), AllocError>
     requires few { length soups.now < 256 }
-    requires sigs { All (λ row. row.sig < 2 ^ 16) soups.now }
+    requires fit { All (λ row. (row.sig < 2 ^ 16) × (length row.specs < 256)) soups.now }
     ensures { OnOk result (out.new.items ≡ out.old.items ++ counted soup_bytes (map bare_soup soups.now)) }
 {
     out.push(soups.len() as u8)?;
@@ -55,7 +148,7 @@ fn put_soups(out: &mut Vec<u8>, soups: &[SoupRow]) -> Result<(), AllocError>
 }
 
 /// The bytes of a directory.
-#[tactic(auto, using(crate::proofs::Lists::sigs_fit))]
+#[tactic(auto, using(crate::proofs::Lists::rows_fit))]
 pub fn write_directory(alloc: Global, directory: &Directory) -> Result<Vec<u8>, AllocError>
     requires { IsTrue (well_formed (bare_store directory.now)) }
     ensures { IfOk result (λ v. v.items ≡ directory_bytes (bare_store directory.now)) }

@@ -20,13 +20,13 @@ use Rattle.newt_spec_store.specs.Cost.{skeleton_length}
 use Rattle.newt_spec_store.specs.Laid.{bare}
 use Rattle.newt_spec_store.specs.Lies.{Places, graph_has_no_large, has_no_large}
 use Rattle.newt_spec_store.specs.Valid.{well_formed, valid_entry}
-use Rattle.newt_soupdir.specs.Bare.{bare_soup, bare_store, is_early}
+use Rattle.newt_soupdir.specs.Bare.{bare_soup, bare_store}
 use Rattle.newt_soupdir.specs.Changes.{soup_of, take_uid_of}
 use Rattle.newt_soupdir.specs.declared.rows.Directory.{Directory}
 use Rattle.newt_laws_images.proofs.Known.{bare-good}
 use Rattle.newt_laws_images.proofs.Stores.{is-store}
 use Rattle.newt_laws_changes.proofs.Bare.{added_bare}
-use Rattle.newt_laws_changes.proofs.Formed.{added_formed, added_plain}
+use Rattle.newt_laws_changes.proofs.Formed.{added_formed}
 use Rattle.newt_laws_changes.proofs.Lying.{added_lies, odd-is-not, place-there}
 use Rattle.newt_laws_changes.proofs.Members.{in-below}
 use Rattle.newt_laws_changes.proofs.Chosen.{soup-there, soup-good}
@@ -42,6 +42,7 @@ use Rattle.newt_store.specs.declared.next.Gone.TheVariants.{Nothing}
 use Rattle.newt_store.specs.Change.{first_checks, is_too_large, has_no_ids, next_uid_of, changed_soup, entry_in, pages_of_entry}
 use Rattle.newt_store.specs.Next.{Goes, IsNew, Turns, IsAdding, IsPlanOf, goes_pages, replaced_pages}
 use Rattle.newt_store.specs.Stands.{Describes}
+use Rattle.newt_store.proofs.Simple.{added_simple}
 use Rattle.newt_store.proofs.Reading.{both, join}
 use Rattle.newt_store.proofs.Found.{soup-same, soup-some, emptied-some}
 use Rattle.newt_store.proofs.Turning.{bytes-of}
@@ -111,8 +112,7 @@ module _ (catalog : Catalog) (s : Store) (sound : AreSoundPlaces (held catalog.o
         described = λ old new place d are places.
             let t : Store = change_soup p.name (add_entry now g) s in
             let is : bare t ≡ bare_store next.directory = added_bare s sig p d.formed found now g ∙ ap (take_uid_of sig) d.bare_is ∙ sym adds.directory in
-            let parts = both (is_early s) (has_no_large s) d.simple in
-            let kept = added_plain p.name now g s parts.0 parts.1 plain in
+            let kept = added_simple p.name now g s d.simple plain in
             record {
               lies = added_lies old new place-now place s sig p d.formed found d.lies adds.entry.id now g graph time adds.odd (free-in old adds.entry.id d adds.odd adds.free)
                   (are.directory ∙ ap Some (bytes-of next.directory t is)) (are.entry adds.entry adds.is_entry ∙ ap Some adds.bytes)
@@ -120,7 +120,7 @@ module _ (catalog : Catalog) (s : Store) (sound : AreSoundPlaces (held catalog.o
                   (ap (λ (n : ℕ). place n p.next_uid) (sym adds.of_sig) ∙ ap (place adds.entry.sig) (sym adds.of_uid) ∙ places.entry adds.entry adds.is_entry)
                   (λ t u apart. places.others t u (λ isnew. (let w = new-is t u isnew in apart w.0 w.1)) (λ goes. goes-not t u goes));
               formed = added_formed sig s p now g d.formed found room valid;
-              simple = join (is_early t) (has_no_large t) kept.0 kept.1;
+              simple = kept;
               bare_is = is;
             };
         fresh = λ texts d e is.

@@ -14,19 +14,17 @@ use Rattle.newt_laws_images.proofs.Records.{record-back}
 use Rattle.newt_laws_changes.proofs.Fresh.{in_valid}
 use Rattle.newt_laws_changes.proofs.Lying.{place-there}
 use Rattle.newt_laws_changes.proofs.Members.{is_in_found}
-use Rattle.newt_soupdir.specs.Bare.{is_early}
 use Rattle.newt_soupdir.specs.declared.rows.Directory.{Directory}
 use Rattle.newt_entries.specs.Entry.{stream_graph}
 use Rattle.newt_entries.proofs.Streams.{reads_graphs}
 use Rattle.newt_store.specs.Change.{entry_in}
 use Rattle.newt_store.specs.Stands.{Describes}
-use Rattle.newt_store.proofs.Reading.{both}
 use Rattle.newt_store.proofs.Found.{placed-entry, entry-placed}
 use Rattle.std.specs.Option.{is_some, option_and_then}
 
 module _ (directory : Directory) (place : Places) (texts : Objects) (s : Store) (d : Describes directory place texts s) where
   pub plain-in : (sig : ℕ) (e : Entry) → IsIn s sig e → graph_has_no_large e.graph ≡ true
-  plain-in sig e is = its-plain s sig e (both (is_early s) (has_no_large s) d.simple).1 is
+  plain-in sig e is = its-plain s sig e d.simple is
 
   -- the record of an entry is read as the entry
   pub record-read : (sig : ℕ) (e : Entry) → IsIn s sig e → entry_read stream_graph (entry_bytes sig e []) ≡ Some (sig, e)
@@ -34,7 +32,7 @@ module _ (directory : Directory) (place : Places) (texts : Objects) (s : Store) 
       let plain = plain-in sig e is in
       as-read stream_graph (entry_bytes sig e []) sig e (record {
         row = row_of sig e [];
-        is_row = record-back sig e [] (entry-fits texts place s sig e d.lies d.formed (both (is_early s) (has_no_large s) d.simple).1 is);
+        is_row = record-back sig e [] (entry-fits texts place s sig e d.lies d.formed d.simple is);
         plain = record {
           of_soup = refl;
           of_uid = refl;

@@ -1,4 +1,5 @@
 pub mod Writing
+pub mod Simple
 pub mod Reading
 pub mod Carrying
 pub mod Rows

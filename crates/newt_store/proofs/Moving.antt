@@ -9,11 +9,10 @@ use Rattle.newt_objects.specs.Held.{held}
 use Rattle.newt_spec_store.specs.Store.{Soup, Store, Entry, add_entry, remove_entry, change_soup}
 use Rattle.newt_spec_store.specs.Laid.{bare}
 use Rattle.newt_spec_store.specs.Lies.{Places, IsIn, graph_has_no_large, has_no_large}
-use Rattle.newt_soupdir.specs.Bare.{bare_soup, bare_store, is_early}
+use Rattle.newt_soupdir.specs.Bare.{bare_soup, bare_store}
 use Rattle.newt_soupdir.specs.Changes.{soup_of, take_uid_of}
 use Rattle.newt_soupdir.specs.declared.rows.SoupRow.{SoupRow}
 use Rattle.newt_laws_changes.proofs.Bare.{added_bare, removed_bare}
-use Rattle.newt_laws_changes.proofs.Formed.{added_plain, removed_plain}
 use Rattle.newt_laws_changes.proofs.Fresh.{moved_formed, in_valid}
 use Rattle.newt_laws_changes.proofs.Members.{in-below}
 use Rattle.newt_laws_changes.proofs.Moved.{moved_lies}
@@ -28,7 +27,7 @@ use Rattle.newt_store.specs.declared.next.Gone.TheVariants.{OneEntry}
 use Rattle.newt_store.specs.Change.{first_checks, entry_in, has_no_ids, next_uid_of, moved_entry, pages_of_entry}
 use Rattle.newt_store.specs.Next.{Goes, IsNew, Turns, IsAdding, IsPlanOf, goes_pages}
 use Rattle.newt_store.specs.Stands.{Describes}
-use Rattle.newt_store.proofs.Reading.{both, join}
+use Rattle.newt_store.proofs.Simple.{added_simple, removed_simple}
 use Rattle.newt_store.proofs.Found.{soup-some}
 use Rattle.newt_store.proofs.Turning.{bytes-of}
 use Rattle.newt_store.proofs.Planned.{first-holds, first-not, no-entry, an-entry, none-over}
@@ -59,13 +58,12 @@ module _ (catalog : Catalog) (s : Store) (sound : AreSoundPlaces (held catalog.o
   turns-moved = record {
     described = λ old new place d are places.
         let is : bare moved ≡ bare_store next.directory = removed_bare p.name uid (change_soup q.name (add_entry now e.graph) s) ∙ added_bare s target q d.formed goal now e.graph ∙ ap (take_uid_of target) d.bare_is ∙ sym adds.directory in
-        let parts = both (is_early s) (has_no_large s) d.simple in
-        let added = added_plain q.name now e.graph s parts.0 parts.1 plain in
-        let kept = removed_plain p.name uid (change_soup q.name (add_entry now e.graph) s) added.0 added.1 in
+        let added = added_simple q.name now e.graph s d.simple plain in
+        let kept = removed_simple p.name uid (change_soup q.name (add_entry now e.graph) s) added in
         record {
           lies = moved_lies old new place-now place s source target p q d.formed found goal d.lies uid old-id adds.entry.id now e.graph (d.lies.graphs source e is_in) time room
               (in_valid s source e d.formed is_in q.next_uid now) adds.odd (free-in catalog s sound old adds.entry.id d adds.odd adds.free) at
-              (λ t u other. places_apart old place-now s d.lies d.formed parts.1 t u source uid old-id other at)
+              (λ t u other. places_apart old place-now s d.lies d.formed d.simple t u source uid old-id other at)
               (are.directory ∙ ap Some (bytes-of next.directory moved is)) (are.entry adds.entry adds.is_entry ∙ ap Some adds.bytes) (are.gone source uid old-id goes-so at)
               (λ o ne other gone. are.others o ne (λ x there same. other (sym same ∙ ap (λ (y : NewEntry). y.id) (same-entry x there)))
               (λ t u goes there. (let w = goes-only t u goes in gone (some_inj o old-id (sym there ∙ ap (λ (n : ℕ). place-now n u) (sym w.0) ∙ ap (place-now source) (sym w.1) ∙ at)))))
@@ -73,7 +71,7 @@ module _ (catalog : Catalog) (s : Store) (sound : AreSoundPlaces (held catalog.o
               (places.gone source uid goes-so)
               (λ t u apart away. places.others t u (λ isnew. (let w = new-is t u isnew in apart w.0 w.1)) (λ goes. (let w = goes-only t u goes in away (sym w.0) (sym w.1))));
           formed = moved_formed source target uid s p q e now d.formed goal room is_in;
-          simple = join (is_early moved) (has_no_large moved) kept.0 kept.1;
+          simple = kept;
           bare_is = is;
         };
     fresh = λ texts d x is.

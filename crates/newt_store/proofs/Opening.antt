@@ -29,7 +29,7 @@ use Rattle.newt_spec_store.specs.Valid.{valid_soup, well_formed}
 use Rattle.newt_laws_images.specs.Found.{HasGiven}
 use Rattle.newt_laws_images.proofs.Gathering.{image-by-objects, image-no-pages, image-no-table}
 use Rattle.newt_laws_images.proofs.Refused.{no-directory, has-directory, even-id, bad-record, not-given, stands-twice}
-use Rattle.newt_soupdir.specs.Bare.{bare_store, directory_now, is_early, is_early_soup}
+use Rattle.newt_soupdir.specs.Bare.{bare_store}
 use Rattle.newt_soupdir.specs.Changes.{soup_of}
 use Rattle.newt_soupdir.specs.declared.rows.Directory.{Directory}
 use Rattle.newt_entries.specs.Entry.{stream_graph, said}
@@ -72,9 +72,9 @@ only-none (Some s) fails = go (is_simple s) refl
 
 -- an image that holds objects which are no store
 pub not-readable : (now : List ℕ) (texts : Objects) → HoldsObjects now texts
-    → ((s : Store) → store_of stream_graph (map.entries texts) (blocks_of now) ≡ Some s → is_early s ≡ true → has_no_large s ≡ true → ⊥) → readable now ≡ None
+    → ((s : Store) → store_of stream_graph (map.entries texts) (blocks_of now) ≡ Some s → has_no_large s ≡ true → ⊥) → readable now ≡ None
 not-readable now texts h fails = only-none (store_of_image stream_graph now)
-    (λ s is simple. let both = and_parts (is_early s) (has_no_large s) simple in fails s (sym (image-by-objects stream_graph now h.live texts h.of_image h.are) ∙ is) both.0 both.1)
+    (λ s is simple. fails s (sym (image-by-objects stream_graph now h.live texts h.of_image h.are) ∙ is) simple)
 
 -- an image whose pages are no objects
 pub no-objects : (now : List ℕ) → ((live : Pages) (table : Table) → pages now ≡ Some live → IsTableOf live table → ⊥) → readable now ≡ None
@@ -119,18 +119,8 @@ only-some {X} test (Some y) x e = go (test y) refl e
     go true t k = (k, let same : y ≡ x = cc in ap test (sym same) ∙ t)
     go false t k = absurd (none-some x k)
 
-early-bare : (ps : List Soup) → list_all is_early_soup (map_list (λ (p : Soup). let q : Soup = record p { entries = [] } in q) ps) ≡ list_all is_early_soup ps
-early-bare [] = refl
-early-bare (p ∷ ps) = ap (λ (b : Bool). is_early_soup p && b) (early-bare ps)
-
-pub bare-early : (s : Store) → is_early (bare s) ≡ is_early s
-bare-early s = early-bare s.soups
-
-pub now-read : (bytes : List ℕ) (d : Store) → directory_now bytes ≡ Some d → (directory_read bytes ≡ Some d) × (is_early d ≡ true)
-now-read bytes d e = only-some is_early (directory_read bytes) d e
-
-pub now-formed : (bytes : List ℕ) (d : Store) → directory_now bytes ≡ Some d → IsTrue (well_formed d)
-now-formed bytes d e = (only-some well_formed (whole directory bytes) d (now-read bytes d e).0).1
+pub now-formed : (bytes : List ℕ) (d : Store) → directory_read bytes ≡ Some d → IsTrue (well_formed d)
+now-formed bytes d e = (only-some well_formed (whole directory bytes) d e).1
 
 module _ (told : Bool) (objects : Held) (numbers : Numbers) (unit : ℕ) (outside : Outside) (kept : AreKept told objects numbers unit outside) (tells : IsTrue told) where
   abbrev now : List ℕ
@@ -141,19 +131,19 @@ module _ (told : Bool) (objects : Held) (numbers : Numbers) (unit : ℕ) (outsid
 
   -- the directory is not there
   pub root-missing : held objects 0 ≡ None → readable now ≡ None
-  root-missing none = not-readable now the.0 the.1 (λ s is early plain. no-directory stream_graph the.0 (blocks_of now) s is (kept-none told objects numbers unit outside kept tells the.0 the.1 0 none))
+  root-missing none = not-readable now the.0 the.1 (λ s is plain. no-directory stream_graph the.0 (blocks_of now) s is (kept-none told objects numbers unit outside kept tells the.0 the.1 0 none))
 
   -- the directory cannot be read
-  pub root-bad : (bytes : List ℕ) → OfObjects told now (HasObject 0 bytes) → directory_now bytes ≡ None → readable now ≡ None
-  root-bad bytes has bad = not-readable now the.0 the.1 (λ s is early plain.
+  pub root-bad : (bytes : List ℕ) → OfObjects told now (HasObject 0 bytes) → directory_read bytes ≡ None → readable now ≡ None
+  root-bad bytes has bad = not-readable now the.0 the.1 (λ s is plain.
       let r = has-directory stream_graph the.0 (blocks_of now) s is in
       let same : r.0 ≡ bytes = some-is _ _ (sym r.1 ∙ has tells the.0 the.1) in
       let read : directory_read bytes ≡ Some (bare s) = ap directory_read (sym same) ∙ r.2 in
-      none-some (bare s) (sym bad ∙ ap (only is_early) read ∙ ap (λ (b : Bool). cond b (Some (bare s)) None) (bare-early s ∙ early)))
+      none-some (bare s) (sym bad ∙ read))
 
   -- an even id
   pub record-even : (id : ℕ) → IsSome (held objects id) → 0 < id → id % 2 ≡ 0 → readable now ≡ None
-  record-even id there low even = not-readable now the.0 the.1 (λ s is early plain.
+  record-even id there low even = not-readable now the.0 the.1 (λ s is plain.
       let b = kept-some told objects numbers unit outside kept tells the.0 the.1 id there in
       even-id stream_graph the.0 (blocks_of now) s is plain id b.0 b.1 (λ zero. omega (arith, zero, low)) (λ odd. two (sym even ∙ odd))) where
         two : ◌≡◌ {A = ℕ} 0 1 → ⊥
@@ -161,21 +151,21 @@ module _ (told : Bool) (objects : Held) (numbers : Numbers) (unit : ℕ) (outsid
 
   -- a record that cannot be read
   pub record-bad : (id : ℕ) (bytes : List ℕ) → OfObjects told now (HasObject id bytes) → 0 < id → entry_read stream_graph bytes ≡ None → readable now ≡ None
-  record-bad id bytes has low bad = not-readable now the.0 the.1 (λ s is early plain.
+  record-bad id bytes has low bad = not-readable now the.0 the.1 (λ s is plain.
       bad-record stream_graph the.0 (blocks_of now) s is plain id bytes (has tells the.0 the.1) (λ zero. omega (arith, zero, low)) bad)
 
   module _ (directory : Directory) (root : OfObjects told now (IsRoot directory)) (id : ℕ) (row : EntryRow) (is_row : OfObjects told now (IsRow id row)) where
     -- a record of an entry that was not given its id
     pub record-not-given : 0 < id → (HasGiven (bare_store directory) row.soup row.uid → ⊥) → readable now ≡ None
-    record-not-given low none = not-readable now the.0 the.1 (λ s is early plain.
+    record-not-given low none = not-readable now the.0 the.1 (λ s is plain.
         let d = root tells the.0 the.1 in
         let r = is_row tells the.0 the.1 in
-        not-given stream_graph the.0 (blocks_of now) s is plain id d.bytes r.bytes (bare_store directory) row.soup (said row).1 d.object (now-read d.bytes (bare_store directory) d.read).0 r.object (λ zero. omega (arith, zero, low))
+        not-given stream_graph the.0 (blocks_of now) s is plain id d.bytes r.bytes (bare_store directory) row.soup (said row).1 d.object d.read r.object (λ zero. omega (arith, zero, low))
         r.read none)
 
     -- a second record of one entry
     pub record-twice : (last : ℕ) (place : Places) → AreSoundTo last (held objects) place → OfObjects told now (AreFoundTo last place (bare_store directory)) → last + 1 ≤ id → (other : ℕ) → place row.soup row.uid ≡ Some other → readable now ≡ None
-    record-twice last place sound found low other at = not-readable now the.0 the.1 (λ s is early plain.
+    record-twice last place sound found low other at = not-readable now the.0 the.1 (λ s is plain.
         let r = is_row tells the.0 the.1 in
         let f = (found tells the.0 the.1).places row.soup row.uid other at in
         let below : other < last + 1 = sound.below row.soup row.uid other at in
@@ -253,7 +243,7 @@ pub is-none : {X : Type 0} (o : Option X) → is_some o ≡ false → o ≡ None
 is-none None e = refl
 is-none (Some x) e = absurd (not_true true refl e)
 
-pub formed-by : (bytes : List ℕ) (r : Result Directory BookFault) → IfOk r (λ d. directory_now bytes ≡ Some (bare_store d)) → IfOk r (λ d. IsTrue (well_formed (bare_store d)))
+pub formed-by : (bytes : List ℕ) (r : Result Directory BookFault) → IfOk r (λ d. directory_read bytes ≡ Some (bare_store d)) → IfOk r (λ d. IsTrue (well_formed (bare_store d)))
 formed-by bytes (Ok d) h = now-formed bytes (bare_store d) h
 formed-by bytes (Err e) h = tt
 

@@ -26,7 +26,7 @@ use Rattle.newt_laws_images.proofs.Gathering.{image-by-objects}
 use Rattle.newt_laws_images.proofs.Made.{found-lies}
 use Rattle.newt_laws_images.proofs.Totals.{lies-total}
 use Rattle.newt_laws_images.proofs.Whole.{lies-read}
-use Rattle.newt_soupdir.specs.Bare.{bare_store, is_early}
+use Rattle.newt_soupdir.specs.Bare.{bare_store}
 use Rattle.newt_soupdir.specs.declared.rows.Directory.{Directory}
 use Rattle.newt_entries.specs.Entry.{stream_graph, said}
 use Rattle.newt_entries.specs.declared.row.EntryRow.{EntryRow}
@@ -38,7 +38,7 @@ use Rattle.newt_store.specs.Stage.{readable, is_simple}
 use Rattle.newt_store.specs.Stands.{StandsFor}
 use Rattle.newt_store.specs.Opening.{OfObjects, IsRoot, IsRow, AreSoundTo, AreFoundTo}
 use Rattle.newt_store.specs.declared.catalog.Catalog.{Catalog}
-use Rattle.newt_store.proofs.Opening.{none-some, some-is, not_true, not-readable, now-read, bare-early, kept-none, kept-holds}
+use Rattle.newt_store.proofs.Opening.{none-some, some-is, not_true, not-readable, kept-none, kept-holds}
 
 same-key : (a b s u : ℕ) → ((a ≡ s) × (b ≡ u)) ⊎ ((a ≡ s) → (b ≡ u) → ⊥)
 same-key a b s u = go (a == s) refl (b == u) refl
@@ -165,7 +165,7 @@ found-none texts d place none = record {
 pub found-all : (texts : Objects) (directory : Directory) (last : ℕ) (place : Places) → IsRoot directory texts → AreFoundTo last place (bare_store directory) texts
     → ((q : ℕ) → last + 1 ≤ q → map.get texts q ≡ None) → IsFound stream_graph texts place (bare_store directory)
 found-all texts directory last place root f none = record {
-  directory = (root.bytes, root.object, (now-read root.bytes (bare_store directory) root.read).0, root.are_bytes);
+  directory = (root.bytes, root.object, root.read, root.are_bytes);
   records = λ i b at n. ⊎_elim
       (λ (before : i < last + 1). f.records i b at n before)
       (λ (from : last + 1 ≤ i). absurd (none-some b (sym (none i from) ∙ at)))
@@ -194,26 +194,25 @@ module _ (now : List ℕ) (texts : Objects) (h : HoldsObjects now texts) (place 
 
   -- the objects take more pages than the unit has
   pub too-large : cap (blocks_of now) < total_pages texts → readable now ≡ None
-  too-large more = not-readable now texts h (λ s is early plain. over stream_graph texts (blocks_of now) s reads_graphs all-bytes is plain more)
+  too-large more = not-readable now texts h (λ s is plain. over stream_graph texts (blocks_of now) s reads_graphs all-bytes is plain more)
 
-  pub opened : is_early (bare_store directory) ≡ true → total_pages texts ≤ cap (blocks_of now) → (catalog : Catalog) → catalog.directory ≡ directory → place_of catalog.places ≡ place
+  pub opened : total_pages texts ≤ cap (blocks_of now) → (catalog : Catalog) → catalog.directory ≡ directory → place_of catalog.places ≡ place
       → (s : Store) × (readable now ≡ Some s) × StandsFor catalog s now
-  opened early few catalog same_directory same_places =
+  opened few catalog same_directory same_places =
       let m = found-lies stream_graph texts place (bare_store directory) found reads_graphs in
       let total : total_pages texts ≡ cost m.0 = lies-total texts place m.0 m.1 m.2 m.3 in
       let fits : cost m.0 ≤ cap (blocks_of now) = omega (arith, total, few) in
       let good : valid (blocks_of now) m.0 ≡ true = and_from (well_formed m.0) (nat_le (cost m.0) (cap (blocks_of now))) m.2 (le-leb (cost m.0) (cap (blocks_of now)) fits) in
-      let simple : is_simple m.0 ≡ true = and_from (is_early m.0) (has_no_large m.0) (sym (bare-early m.0) ∙ ap is_early m.4 ∙ early) m.3 in
       let read : store_of_image stream_graph now ≡ Some m.0 = image-by-objects stream_graph now h.live texts h.of_image h.are ∙ lies-read stream_graph texts place (blocks_of now) m.0 reads_graphs m.1 good m.3 in (
         m.0,
-        ap (only is_simple) read ∙ ap (λ (b : Bool). cond b (Some m.0) None) simple,
+        ap (only is_simple) read ∙ ap (λ (b : Bool). cond b (Some m.0) None) m.3,
         record {
           texts = texts;
           holds = h;
           describes = record {
             lies = subst (λ (p : Places). LiesIn texts p m.0) (sym same_places) m.1;
             formed = m.2;
-            simple = simple;
+            simple = m.3;
             bare_is = m.4 ∙ ap bare_store (sym same_directory);
           };
           fits = fits;
@@ -241,5 +240,4 @@ module _ (told : Bool) (objects : Held) (numbers : Numbers) (unit : ℕ) (outsid
 
   pub live-opened : set.len numbers ≤ cap blocks → (catalog : Catalog) → catalog.directory ≡ directory → place_of catalog.places ≡ place → (s : Store) × (readable now ≡ Some s) × StandsFor catalog s now
   live-opened few catalog same_directory same_places =
-      let r = root tells texts_there there_hold in
-      opened now texts_there there_hold place directory (found tells texts_there there_hold) (now-read r.bytes (bare_store directory) r.read).1 (omega (arith, there_cap, there_count, few)) catalog same_directory same_places
+      opened now texts_there there_hold place directory (found tells texts_there there_hold) (omega (arith, there_cap, there_count, few)) catalog same_directory same_places

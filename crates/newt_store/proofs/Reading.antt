@@ -13,7 +13,6 @@ use Rattle.newt_spec_store.specs.ImageStore.{store_of_image}
 use Rattle.newt_laws_images.proofs.Gathering.{image-by-objects}
 use Rattle.newt_laws_images.proofs.Whole.{lies-read}
 use Rattle.newt_laws_images.proofs.Totals.{lies-total}
-use Rattle.newt_soupdir.specs.Bare.{is_early}
 use Rattle.newt_soupdir.specs.declared.rows.Directory.{Directory}
 use Rattle.newt_entries.specs.Entry.{stream_graph}
 use Rattle.newt_entries.proofs.Streams.{reads_graphs}
@@ -42,15 +41,14 @@ only-kept s simple = kept (is_simple s) simple where
 -- an image that holds objects which write down a store that fits is read as this store
 pub read-back : (directory : Directory) (place : Places) (texts : Objects) (s : Store) (left : List ℕ) → HoldsObjects left texts → Describes directory place texts s → cost s ≤ cap (blocks_of left) → readable left ≡ Some s
 read-back directory place texts s left holds describes low =
-    let parts = both (is_early s) (has_no_large s) describes.simple in
     let stored : store_of_image stream_graph left ≡ Some s =
     image-by-objects stream_graph left holds.live texts holds.of_image holds.are
-    ∙ lies-read stream_graph texts place (blocks_of left) s reads_graphs describes.lies (is-valid (blocks_of left) s describes.formed low) parts.1 in
+    ∙ lies-read stream_graph texts place (blocks_of left) s reads_graphs describes.lies (is-valid (blocks_of left) s describes.formed low) describes.simple in
     ap (only is_simple) stored ∙ only-kept s describes.simple
 
 -- as many pages as the store costs
 pub total-cost : (directory : Directory) (place : Places) (texts : Objects) (s : Store) → Describes directory place texts s → total_pages texts ≡ cost s
-total-cost directory place texts s describes = lies-total texts place s describes.lies describes.formed (both (is_early s) (has_no_large s) describes.simple).1
+total-cost directory place texts s describes = lies-total texts place s describes.lies describes.formed describes.simple
 
 -- an image with as many bytes
 pub same-cap : (now left : List ℕ) (n : ℕ) → length left ≡ length now → n ≤ cap (blocks_of now) → n ≤ cap (blocks_of left)

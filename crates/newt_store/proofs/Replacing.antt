@@ -17,11 +17,10 @@ use Rattle.newt_spec_store.specs.Laid.{bare}
 use Rattle.newt_spec_store.specs.Lies.{Places, LiesIn, graph_has_no_large, has_no_large}
 use Rattle.newt_spec_store.specs.Store.{Soup, Store, Entry, entry_of, change_soup, change_entry}
 use Rattle.newt_spec_store.specs.Valid.{well_formed, valid_entry}
-use Rattle.newt_soupdir.specs.Bare.{bare_store, is_early}
+use Rattle.newt_soupdir.specs.Bare.{bare_store}
 use Rattle.newt_soupdir.specs.Changes.{soup_of}
 use Rattle.newt_soupdir.specs.declared.rows.Directory.{Directory}
 use Rattle.newt_laws_images.proofs.Totals.{record-pages}
-use Rattle.newt_laws_changes.specs.Signatures.{is_early_soup}
 use Rattle.newt_laws_changes.proofs.Members.{entry_is_in}
 use Rattle.newt_laws_changes.proofs.Places.{places_apart}
 use Rattle.newt_laws_changes.proofs.Replaced.{replaced_lies}
@@ -39,7 +38,6 @@ use Rattle.newt_store.proofs.Adding.{is-valid-graph, small-is}
 use Rattle.newt_store.proofs.Carrying.{decide-new}
 use Rattle.newt_store.proofs.Found.{soup-some, placed-entry, entry-placed}
 use Rattle.newt_store.proofs.Planned.{first-holds, first-not, no-entry, an-entry}
-use Rattle.newt_store.proofs.Reading.{both, join}
 use Rattle.newt_store.proofs.Turning.{bytes-of}
 
 -- ---- the store with another graph in the entry's place
@@ -58,13 +56,11 @@ replaced-formed : (name : List ℕ) (uid now : ℕ) (g : RawGraph) (s : Store) �
 replaced-formed name uid now g s formed valid = with-soup name (change_entry uid (with_graph now g)) s formed (λ p. refl) (λ p. refl)
     (λ p is ok. with-change uid (with_graph now g) p ok (λ e. refl) (λ e here was. valid))
 
-replaced-plain : (name : List ℕ) (uid now : ℕ) (g : RawGraph) (s : Store) → is_early s ≡ true → has_no_large s ≡ true → graph_has_no_large g ≡ true
-    → (is_early (replaced name uid now g s) ≡ true) × (has_no_large (replaced name uid now g s) ≡ true)
-replaced-plain name uid now g s early plain none = (
-  first-all is_early_soup (λ p. equal_text p.name name) (change_entry uid (with_graph now g)) s.soups early (λ p is ok. ok),
-  first-all (λ p. list_all (λ e. graph_has_no_large e.graph) p.entries) (λ p. equal_text p.name name) (change_entry uid (with_graph now g)) s.soups plain
-      (λ p is ok. first-all (λ (e : Entry). graph_has_no_large e.graph) (λ e. e.uid == uid) (with_graph now g) p.entries ok (λ e here was. none)),
-)
+replaced-plain : (name : List ℕ) (uid now : ℕ) (g : RawGraph) (s : Store) → has_no_large s ≡ true → graph_has_no_large g ≡ true
+    → has_no_large (replaced name uid now g s) ≡ true
+replaced-plain name uid now g s plain none =
+    first-all (λ p. list_all (λ e. graph_has_no_large e.graph) p.entries) (λ p. equal_text p.name name) (change_entry uid (with_graph now g)) s.soups plain
+    (λ p is ok. first-all (λ (e : Entry). graph_has_no_large e.graph) (λ e. e.uid == uid) (with_graph now g) p.entries ok (λ e here was. none))
 
 module _ (catalog : Catalog) (s : Store) (sig uid : ℕ) (p : Soup) (found : soup_of sig s ≡ Some p) (old : Entry) (here : entry_of uid p ≡ Some old) (id : ℕ) (at : place_of catalog.places sig uid ≡ Some id)
     (now : ℕ) (g : RawGraph) (graph : IsGraph g) (time : now < 4294967296) (valid : valid_entry (record { uid = uid; time = now; graph = g }) ≡ true) (plain : graph_has_no_large g ≡ true)
@@ -106,16 +102,15 @@ module _ (catalog : Catalog) (s : Store) (sig uid : ℕ) (p : Soup) (found : sou
   turns-replaced = record {
     described = λ before after place d are places.
         let is : bare then ≡ bare_store dir = replaced-bare p.name uid now g s ∙ d.bare_is ∙ sym same in
-        let parts = both (is_early s) (has_no_large s) d.simple in
-        let kept = replaced-plain p.name uid now g s parts.0 parts.1 plain in
-        let one : (t u : ℕ) → place-now t u ≡ Some id → (t ≡ sig) × (u ≡ uid) = λ t u other. places_apart before place-now s d.lies d.formed parts.1 t u sig uid id other at in
+        let kept = replaced-plain p.name uid now g s d.simple plain in
+        let one : (t u : ℕ) → place-now t u ≡ Some id → (t ≡ sig) × (u ≡ uid) = λ t u other. places_apart before place-now s d.lies d.formed d.simple t u sig uid id other at in
         let head : map.get after 0 ≡ map.get before 0 = are.directory ∙ ap Some (bytes-of dir s (d.bare_is ∙ sym same)) ∙ sym d.lies.directory in
         record {
           lies = subst (λ (pl : Places). LiesIn after pl then) (sym (same-places place places))
               (replaced_lies s sig p d.formed found uid old here (with_graph now g) refl before after place-now id d.lies graph time at one
               (ap (map.get after) (sym of_id) ∙ are.entry e refl ∙ ap Some (bytes ∙ text-of)) (λ o ne. others before after are head o ne));
           formed = replaced-formed p.name uid now g s d.formed valid;
-          simple = join (is_early then) (has_no_large then) kept.0 kept.1;
+          simple = kept;
           bare_is = is;
         };
     fresh = λ texts d x is. inr (subst (λ (y : NewEntry). place-now y.sig y.uid ≡ Some y.id) (some_inj e x is) its-place);

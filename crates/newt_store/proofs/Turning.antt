@@ -11,11 +11,11 @@ use Rattle.newt_spec_store.specs.Store.{Soup, Store, soup_named, change_soup, ma
 use Rattle.newt_spec_store.specs.Cost.{directory_bytes, soup_bytes, text_bytes}
 use Rattle.newt_spec_store.specs.Laid.{bare}
 use Rattle.newt_spec_store.specs.Lies.{Places, LiesIn, has_no_large}
-use Rattle.newt_soupdir.specs.Bare.{bare_store, is_early}
+use Rattle.newt_soupdir.specs.Bare.{bare_store}
 use Rattle.newt_soupdir.specs.Changes.{soup_of, without_soup}
 use Rattle.newt_soupdir.specs.declared.rows.Directory.{Directory}
 use Rattle.newt_laws_changes.proofs.Lying.{made_lies, dropped_lies, removed_lies}
-use Rattle.newt_laws_changes.proofs.Formed.{made_formed, dropped_formed, removed_formed, made_plain, dropped_plain, removed_plain}
+use Rattle.newt_laws_changes.proofs.Formed.{made_formed, dropped_formed, removed_formed}
 use Rattle.newt_laws_changes.proofs.Bare.{made_bare, dropped_bare, removed_bare}
 use Rattle.newt_laws_changes.proofs.Places.{places_apart}
 use Rattle.newt_laws_images.proofs.Made.{map-length}
@@ -24,7 +24,7 @@ use Rattle.newt_store.specs.declared.catalog.Catalog.{Catalog}
 use Rattle.newt_store.specs.declared.next.Gone.TheVariants.{Nothing, OneEntry, AllOf}
 use Rattle.newt_store.specs.declared.next.Next.{Next}
 use Rattle.newt_store.specs.Next.{AreNext, Turns}
-use Rattle.newt_store.proofs.Reading.{both, join}
+use Rattle.newt_store.proofs.Simple.{made_simple, dropped_simple, removed_simple}
 
 -- the bytes of a directory are those of the store without its entries
 each-soup : (soups : List Soup) → flat_map soup_bytes (map_list (λ (p : Soup). let q : Soup = record p { entries = [] } in q) soups) ≡ flat_map soup_bytes soups
@@ -56,13 +56,12 @@ module _ (catalog : Catalog) (s : Store) where
       described = λ old now place d are places.
           let is : bare (make_soup name s) ≡ bare_store dir = made_bare name s ∙ ap (make_soup name) d.bare_is ∙ sym made in
           let same : place ≡ old-place = λ i t u. places.others t u (λ isnt. isnt) (λ isnt. isnt) i in
-          let parts = both (is_early s) (has_no_large s) d.simple in
-          let plain = made_plain name s parts.0 parts.1 in
+          let plain = made_simple name s d.simple in
           record {
             lies = subst (λ (pl : Places). LiesIn now pl (make_soup name s)) (sym same)
                 (made_lies old now old-place name s d.lies (are.directory ∙ ap Some (bytes-of dir (make_soup name s) is)) (λ id ne. are.others id ne (λ e isnt. absurd (none-some isnt)) (λ t u isnt at. isnt)));
             formed = made_formed name s d.formed good new room ids;
-            simple = join (is_early (make_soup name s)) (has_no_large (make_soup name s)) plain.0 plain.1;
+            simple = plain;
             bare_is = is;
           };
       fresh = λ texts d e isnt. absurd (none-some isnt);
@@ -82,15 +81,14 @@ module _ (catalog : Catalog) (s : Store) where
         described = λ old now place d are places.
             let t : Store = drop_soup p.name s in
             let is : bare t ≡ bare_store dir = dropped_bare s sig p d.formed found ∙ ap (without_soup sig) d.bare_is ∙ sym dropped in
-            let parts = both (is_early s) (has_no_large s) d.simple in
-            let plain = dropped_plain p.name s parts.0 parts.1 in
+            let plain = dropped_simple p.name s d.simple in
             record {
               lies = dropped_lies old now old-place place s sig p d.formed found d.lies (are.directory ∙ ap Some (bytes-of dir t is)) (λ u id at. are.gone sig u id refl at)
                   (λ id ne stays. are.others id ne (λ e isnt. absurd (none-some isnt)) (λ t u goes at. stays u (ap (λ (n : ℕ). old-place n u) goes ∙ at)))
                   (λ u. places.gone sig u refl) (λ t u ne. places.others t u (λ isnt. isnt) (λ goes. ne (sym goes)))
-                  (λ t u v id at other. (places_apart old old-place s d.lies d.formed parts.1 t u sig v id at other).0);
+                  (λ t u v id at other. (places_apart old old-place s d.lies d.formed d.simple t u sig v id at other).0);
               formed = dropped_formed p.name s d.formed;
-              simple = join (is_early t) (has_no_large t) plain.0 plain.1;
+              simple = plain;
               bare_is = is;
             };
         fresh = λ texts d e isnt. absurd (none-some isnt);
@@ -109,16 +107,15 @@ module _ (catalog : Catalog) (s : Store) where
         described = λ old now place d are places.
             let t : Store = change_soup p.name (remove_entry uid) s in
             let is : bare t ≡ bare_store dir = removed_bare p.name uid s ∙ d.bare_is ∙ sym same in
-            let parts = both (is_early s) (has_no_large s) d.simple in
-            let plain = removed_plain p.name uid s parts.0 parts.1 in
-            let one : (t u : ℕ) → old-place t u ≡ Some id → (t ≡ sig) × (u ≡ uid) = λ t u other. places_apart old old-place s d.lies d.formed parts.1 t u sig uid id other at in
+            let plain = removed_simple p.name uid s d.simple in
+            let one : (t u : ℕ) → old-place t u ≡ Some id → (t ≡ sig) × (u ≡ uid) = λ t u other. places_apart old old-place s d.lies d.formed d.simple t u sig uid id other at in
             let head : map.get now 0 ≡ map.get old 0 = are.directory ∙ ap Some (bytes-of dir s (d.bare_is ∙ sym same)) ∙ sym d.lies.directory in
             record {
               lies = removed_lies old now old-place place s sig p d.formed found d.lies uid id at one (are.gone sig uid id (refl, refl) at)
                   (λ o ne. others old now are head o ne)
                   (places.gone sig uid (refl, refl)) (λ t u apart. places.others t u (λ isnt. isnt) (λ goes. apart (sym goes.0) (sym goes.1)));
               formed = removed_formed p.name uid s d.formed;
-              simple = join (is_early t) (has_no_large t) plain.0 plain.1;
+              simple = plain;
               bare_is = is;
             };
         fresh = λ texts d e isnt. absurd (none-some isnt);

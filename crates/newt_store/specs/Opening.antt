@@ -5,9 +5,9 @@ use Rattle.newt_image.specs.Objects.{Table, Objects}
 use Rattle.newt_nsof.specs.Text.{AreBytes}
 use Rattle.newt_objects.specs.Changing.{HoldsObjects}
 use Rattle.newt_spec_store.specs.Store.{Store, Entry}
-use Rattle.newt_spec_store.specs.Lies.{Places, entry_read}
+use Rattle.newt_spec_store.specs.Lies.{Places, entry_read, directory_read}
 use Rattle.newt_laws_images.specs.Found.{IsRecord}
-use Rattle.newt_soupdir.specs.Bare.{bare_store, directory_now}
+use Rattle.newt_soupdir.specs.Bare.{bare_store}
 use Rattle.newt_soupdir.specs.declared.rows.Directory.{Directory}
 use Rattle.newt_entries.specs.Entry.{stream_graph, said}
 use Rattle.newt_entries.specs.declared.row.EntryRow.{EntryRow}
@@ -21,7 +21,7 @@ OfObjects told now P = IsTrue told → (texts : Objects) → HoldsObjects now te
 pub record IsRoot (directory : Directory) (texts : Objects) : Type 0 where
   pub bytes : List ℕ
   pub object : map.get texts 0 ≡ Some bytes
-  pub read : directory_now bytes ≡ Some (bare_store directory)
+  pub read : directory_read bytes ≡ Some (bare_store directory)
   pub are_bytes : AreBytes bytes
 
 -- the object of this id is read as this record

@@ -8,9 +8,9 @@ ghost use Rattle.newt_objects.specs.Extents.{IsNextIn};
 ghost use Rattle.newt_objects.specs.Held.{held};
 ghost use Rattle.newt_laws_images.specs.Found.{HasGiven, IsFound};
 ghost use Rattle.newt_spec_store.specs.Store.{Store as PlainStore};
-ghost use Rattle.newt_spec_store.specs.Lies.{entry_read};
+ghost use Rattle.newt_spec_store.specs.Lies.{directory_read, entry_read};
 ghost use Rattle.newt_spec_store.specs.Valid.{well_formed};
-ghost use Rattle.newt_soupdir.specs.Bare.{bare_store, directory_now};
+ghost use Rattle.newt_soupdir.specs.Bare.{bare_store};
 ghost use Rattle.newt_entries.specs.Entry.{stream_graph, said};
 ghost use Rattle.newt_shelf.specs.Commit.{AreKept};
 ghost use Rattle.newt_shelf.specs.Places.{AreSoundPlaces, place_of};
@@ -78,9 +78,9 @@ fn read_object<P: PageBook, H: Host>(
 
 /// The directory that an object's bytes are read as.
 fn root_of(alloc: Global, bytes: &[u8]) -> Result<Directory, BookFault>
-    ensures read { IfOk result (λ directory. directory_now bytes.now ≡ Some (bare_store directory)) }
+    ensures read { IfOk result (λ directory. directory_read bytes.now ≡ Some (bare_store directory)) }
     ensures are_bytes { OnOk result (AreBytes bytes.now) }
-    ensures bad { IsErrOf result BookFault.NotStore → directory_now bytes.now ≡ None }
+    ensures bad { IsErrOf result BookFault.NotStore → directory_read bytes.now ≡ None }
     ensures no_device { IsErrOf result BookFault.Device → ⊥ }
 {
     match read_directory(alloc, bytes) {

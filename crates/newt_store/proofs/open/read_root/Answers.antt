@@ -1,5 +1,5 @@
 use Rattle.std.proofs.Common.{sym, ◌∙◌, ap}
-use Rattle.newt_soupdir.specs.Bare.{directory_now}
+use Rattle.newt_spec_store.specs.Lies.{directory_read}
 use Rattle.newt_objects.specs.Held.{held}
 use Rattle.newt_store.proofs.Opening.{root-missing, root-bad, mapped-none, is-none, formed-by}
 use Rattle.newt_store.proofs.open.read_root.Goals as goal
@@ -12,7 +12,7 @@ returns-then-is_none-clause-not_store g c = λ is tells.
 pub returns-clause-not_store : goal.returns-clause-not_store
 returns-clause-not_store g c = λ is tells.
     root-bad g.H.Host.told c.args.objects.now (g.P.PageBook.numbers c.args.book.now) (g.P.PageBook.place c.args.book.now) (g.H.Host.outside c.args.host.now) c.requires.kept tells
-    c.in_ok-bytes.bytes.items c.in_ok-bytes.ensures.bytes (ap directory_now (sym c.deref.ensures.value) ∙ c.root_of.ensures.bad is)
+    c.in_ok-bytes.bytes.items c.in_ok-bytes.ensures.bytes (ap directory_read (sym c.deref.ensures.value) ∙ c.root_of.ensures.bad is)
 
 pub returns-clause-formed : goal.returns-clause-formed
 returns-clause-formed g c = formed-by c.deref.result.now c.root_of.result c.root_of.ensures.read

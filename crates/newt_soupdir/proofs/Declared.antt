@@ -1,0 +1,178 @@
+-- Declarations of indexes and tags: the program's readers give what the store's give, where that is valid.
+use Rattle.std.proofs.Common.{◌≡◌, ℕ, ◌≤◌, zero, suc, Bool, true, false, cond, ◌&&◌, List, [], ◌∷◌, length, map, Option, Some, None, option_and_then, refl, sym, ap, ◌∙◌, arith}
+use Rattle.std.specs.Prelude.{IsTrue, nat_le}
+use Rattle.std.specs.List.{list_all}
+use Rattle.std.proofs.lemmas.Bool.{and_from, le-leb}
+use Rattle.newt_base.specs.Names.{same_name}
+use Rattle.newt_path.specs.Names.{IsPath}
+use Rattle.newt_spec_graph.specs.Lists.{all_apart}
+use Rattle.newt_spec_store.specs.declared.Kind.{Kind}
+use Rattle.newt_spec_store.specs.declared.Order.{Order}
+use Rattle.newt_spec_store.specs.Keys as keys
+use Rattle.newt_spec_store.specs.Keys.{IndexSpec, Path}
+use Rattle.newt_spec_store.specs.Store.{TagTable}
+use Rattle.newt_spec_store.specs.Reading.{Take, ◌>>=◌, give, number, times, counted, text, path, kind_of, direction_of, part, tags_of}
+use Rattle.newt_spec_store.specs.Valid.{valid_symbol, valid_path, valid_spec, valid_tags}
+use Rattle.newt_keys.specs.Seen.{declared, declared_all}
+use Rattle.newt_keys.specs.declared.types.IndexPart.{IndexPart}
+use Rattle.newt_soupdir.specs.Reading.{is_count, byte_at, text_at, symbol_at, path_at, kind_at, order_at, part_at, spec_at, specs_at, tag_symbols_at, table_at, tags_from, tags_at}
+use Rattle.newt_soupdir.proofs.Named.{names_are_path}
+use Rattle.newt_soupdir.proofs.Spelled.{length_rows}
+use Rattle.newt_soupdir.proofs.Sifting.{Sifts, formed, sieved, next, bind, never, times-sifts, passed, tested, narrowed, same_test, as_given, plain}
+
+and_swapped : (a b : Bool) → (a && b) ≡ (b && a)
+and_swapped true true = refl
+and_swapped true false = refl
+and_swapped false true = refl
+and_swapped false false = refl
+
+-- ---- symbols and paths
+
+symbol-sifts : (bytes : List ℕ) → Sifts (λ (t : List ℕ). t) valid_symbol (symbol_at bytes) (text bytes)
+unfolding symbol_at text_at byte_at
+symbol-sifts bytes = tested valid_symbol (text bytes)
+
+pub symbols-sifts : (n : ℕ) (bytes : List ℕ) → Sifts (λ (ss : List (List ℕ)). ss) (list_all valid_symbol) (times n symbol_at bytes) (times n text bytes)
+symbols-sifts n bytes = plain (list_all valid_symbol) (times n symbol_at bytes) (times n text bytes) (times-sifts (λ (t : List ℕ). t) valid_symbol symbol_at text symbol-sifts n bytes)
+
+counted-symbols : (bytes : List ℕ) → Sifts (λ (ss : List (List ℕ)). ss) (list_all valid_symbol) ((byte_at >>= λ n. times n symbol_at) bytes) (counted text bytes)
+unfolding byte_at
+counted-symbols bytes = next (λ (ss : List (List ℕ)). ss) (list_all valid_symbol) (number 1 bytes) (λ n. times n.0 symbol_at n.1) (λ n. times n.0 text n.1) (λ n. symbols-sifts n.0 n.1)
+
+pub path-sifts : (bytes : List ℕ) → Sifts (λ (p : Path). p) valid_path (path_at bytes) (path bytes)
+unfolding path_at
+path-sifts bytes =
+    same_test (λ (p : Path). p) (λ p. list_all valid_symbol p && is_count 1 8 p) valid_path (path_at bytes) (path bytes) (λ p. and_swapped (list_all valid_symbol p) (is_count 1 8 p))
+    (narrowed (λ (p : Path). p) (list_all valid_symbol) (is_count 1 8) ((byte_at >>= λ n. times n symbol_at) bytes) (counted text bytes) (counted-symbols bytes))
+
+-- ---- indexes
+
+abbrev pub valid_part : keys.IndexPart → Bool
+valid_part p = valid_path p.path
+
+abbrev mine_part : Kind → Order → Path → IndexPart
+mine_part kind order path = record { path = path; kind = kind; order = order }
+
+abbrev theirs_part : Kind → Order → Path → keys.IndexPart
+theirs_part kind order path = record { path = path; kind = kind; direction = order }
+
+-- the two readers from each field on
+abbrev mine_path : Kind → Order → Take IndexPart
+mine_path kind order = path_at >>= λ path. give (mine_part kind order path)
+
+abbrev theirs_path : Kind → Order → Take keys.IndexPart
+theirs_path kind order = path >>= λ slots. give (theirs_part kind order slots)
+
+abbrev mine_order : Kind → Take IndexPart
+mine_order kind = number 1 >>= direction_of >>= mine_path kind
+
+abbrev theirs_order : Kind → Take keys.IndexPart
+theirs_order kind = number 1 >>= direction_of >>= theirs_path kind
+
+part-sifts : (bytes : List ℕ) → Sifts declared valid_part (part_at bytes) (part bytes)
+unfolding part_at kind_at order_at byte_at
+part-sifts bytes =
+    next declared valid_part ((number 1 >>= kind_of) bytes) (λ k. mine_order k.0 k.1) (λ k. theirs_order k.0 k.1)
+    (λ k. next declared valid_part ((number 1 >>= direction_of) k.1) (λ d. mine_path k.0 d.0 d.1) (λ d. theirs_path k.0 d.0 d.1)
+    (λ d. bind (λ (p : Path). p) valid_path declared valid_part (path_at d.1) (path d.1) (λ p. Some (mine_part k.0 d.0 p.0, p.1)) (λ p. Some (theirs_part k.0 d.0 p.0, p.1)) (path-sifts d.1)
+    (λ p good. ap (λ v. cond v (Some (theirs_part k.0 d.0 p.0, p.1)) None) (sym good))
+    (λ p bad. ap (λ v. cond v (Some (theirs_part k.0 d.0 p.0, p.1)) None) bad)))
+
+pub parts-sifts : (n : ℕ) (bytes : List ℕ) → Sifts declared_all (list_all valid_part) (times n part_at bytes) (times n part bytes)
+parts-sifts n bytes = times-sifts declared valid_part part_at part part-sifts n bytes
+
+abbrev as_spec : List IndexPart × List ℕ → Option (IndexSpec × List ℕ)
+as_spec parts = Some (declared_all parts.0, parts.1)
+
+spec-sifts : (bytes : List ℕ) → Sifts (λ (s : IndexSpec). s) valid_spec (spec_at bytes) (counted part bytes)
+unfolding spec_at byte_at
+spec-sifts bytes =
+    same_test (λ (s : IndexSpec). s) (λ s. list_all valid_part s && is_count 1 4 s) valid_spec (spec_at bytes) (counted part bytes) (λ s. and_swapped (list_all valid_part s) (is_count 1 4 s))
+    (narrowed (λ (s : IndexSpec). s) (list_all valid_part) (is_count 1 4) (option_and_then (λ (n : ℕ × List ℕ). option_and_then as_spec (times n.0 part_at n.1)) (number 1 bytes)) (counted part bytes)
+    (next (λ (s : IndexSpec). s) (list_all valid_part) (number 1 bytes) (λ n. option_and_then as_spec (times n.0 part_at n.1)) (λ n. times n.0 part n.1)
+    (λ n. as_given declared_all (list_all valid_part) (times n.0 part_at n.1) (times n.0 part n.1) (parts-sifts n.0 n.1))))
+
+pub specs-sifts : (bytes : List ℕ) → Sifts (λ (ss : List IndexSpec). ss) (list_all valid_spec) (specs_at bytes) (counted (counted part) bytes)
+unfolding specs_at byte_at
+specs-sifts bytes =
+    next (λ (ss : List IndexSpec). ss) (list_all valid_spec) (number 1 bytes) (λ n. times n.0 spec_at n.1) (λ n. times n.0 (counted part) n.1)
+    (λ n. plain (list_all valid_spec) (times n.0 spec_at n.1) (times n.0 (counted part) n.1) (times-sifts (λ (s : IndexSpec). s) valid_spec spec_at (counted part) spec-sifts n.0 n.1))
+
+-- ---- tags
+
+abbrev few_apart : List (List ℕ) → Bool
+few_apart symbols = nat_le (length symbols) 64 && all_apart same_name symbols
+
+abbrev valid_symbols : List (List ℕ) → Bool
+valid_symbols symbols = list_all valid_symbol symbols && few_apart symbols
+
+tag_symbols-sifts : (bytes : List ℕ) → Sifts (λ (ss : List (List ℕ)). ss) valid_symbols (tag_symbols_at bytes) (counted text bytes)
+unfolding tag_symbols_at
+tag_symbols-sifts bytes = narrowed (λ (ss : List (List ℕ)). ss) (list_all valid_symbol) few_apart ((byte_at >>= λ n. times n symbol_at) bytes) (counted text bytes) (counted-symbols bytes)
+
+regrouped : (a b c d : Bool) → (a && b && c && d) ≡ (a && (c && (b && d)))
+regrouped false b c d = refl
+regrouped true true true d = refl
+regrouped true true false d = refl
+regrouped true false true d = refl
+regrouped true false false d = refl
+
+abbrev table : Path → List (List ℕ) → TagTable
+table path symbols = record { path = path; symbols = symbols }
+
+valid_table : (path : Path) (symbols : List (List ℕ)) → valid_tags (Some (table path symbols)) ≡ (valid_path path && valid_symbols symbols)
+valid_table path symbols = regrouped (valid_path path) (nat_le (length symbols) 64) (list_all valid_symbol symbols) (all_apart same_name symbols)
+
+abbrev some_table : TagTable → Option TagTable
+some_table t = Some t
+
+-- what a table's test answers
+kept : (path : Path) (symbols : List (List ℕ)) (rest : List ℕ) (b : Bool) → (valid_path path && valid_symbols symbols) ≡ b
+    → sieved valid_tags (Some (some_table (table path symbols), rest)) ≡ cond b (Some (some_table (table path symbols), rest)) None
+kept path symbols rest b e = ap (λ v. cond v (Some (some_table (table path symbols), rest)) None) (valid_table path symbols ∙ e)
+
+table-sifts : (bytes : List ℕ) → Sifts some_table valid_tags (table_at bytes) (tags_of (suc zero) bytes)
+unfolding table_at
+table-sifts bytes =
+    bind (λ (p : Path). p) valid_path some_table valid_tags (path_at bytes) (path bytes) (λ p. (tag_symbols_at >>= λ symbols. give (table p.0 symbols)) p.1)
+    (λ p. (counted text >>= λ symbols. give (some_table (table p.0 symbols))) p.1) (path-sifts bytes)
+    (λ p good. bind (λ (ss : List (List ℕ)). ss) valid_symbols some_table valid_tags (tag_symbols_at p.1) (counted text p.1) (λ ss. Some (table p.0 ss.0, ss.1))
+    (λ ss. Some (some_table (table p.0 ss.0), ss.1)) (tag_symbols-sifts p.1)
+    (λ ss fine. sym (kept p.0 ss.0 ss.1 true (and_from (valid_path p.0) (valid_symbols ss.0) good fine)))
+    (λ ss bad. kept p.0 ss.0 ss.1 false (ap (λ v. v && valid_symbols ss.0) good ∙ bad)))
+    (λ p bad. never valid_tags (counted text p.1) (λ (ss : List (List ℕ) × List ℕ). Some (some_table (table p.0 ss.0), ss.1))
+    (λ ss. kept p.0 ss.0 ss.1 false (ap (λ v. v && valid_symbols ss.0) bad)))
+
+pub tags-sifts : (bytes : List ℕ) → Sifts (λ (t : Option TagTable). t) valid_tags (tags_at bytes) ((number 1 >>= tags_of) bytes)
+unfolding tags_at byte_at
+tags-sifts bytes = go (number 1 bytes)
+  where
+    go : (o : Option (ℕ × List ℕ)) → formed (λ (t : Option TagTable). t) (option_and_then (λ (r : ℕ × List ℕ). tags_from r.0 r.1) o) ≡ sieved valid_tags (option_and_then (λ (r : ℕ × List ℕ). tags_of r.0 r.1) o)
+    go None = refl
+    go (Some (zero, rest)) = refl
+    go (Some (suc zero, rest)) = as_given some_table valid_tags (table_at rest) (tags_of (suc zero) rest) (table-sifts rest)
+    go (Some (suc (suc n), rest)) = refl
+
+-- ---- what is read is valid
+
+is_between : {A : Type 0} (least most : ℕ) (xs : List A) → least ≤ length xs → length xs ≤ most → is_count least most xs ≡ true
+is_between least most xs low high = and_from (nat_le least (length xs)) (nat_le (length xs) most) (le-leb least (length xs) low) (le-leb (length xs) most high)
+
+pub path_is : (count : ℕ) (bytes rest : List ℕ) (names : List (List ℕ)) → times count symbol_at bytes ≡ Some (names, rest) → 1 ≤ length names → length names ≤ 8 → IsPath names
+path_is count bytes rest names e low high =
+    names_are_path names (and_from (is_count 1 8 names) (list_all valid_symbol names) (is_between 1 8 names low high)
+    (passed (λ (ss : List (List ℕ)). ss) (list_all valid_symbol) (times count symbol_at bytes) (times count text bytes) (names, rest) (symbols-sifts count bytes) e))
+
+pub spec_is : (count : ℕ) (bytes rest : List ℕ) (parts : List IndexPart) → times count part_at bytes ≡ Some (parts, rest) → 1 ≤ length parts → length parts ≤ 4
+    → IsTrue (valid_spec (declared_all parts))
+spec_is count bytes rest parts e low high =
+    let as_many : length (declared_all parts) ≡ length parts = length_rows declared parts in
+    and_from (is_count 1 4 (declared_all parts)) (list_all valid_part (declared_all parts)) (is_between 1 4 (declared_all parts) (omega (arith, as_many, low)) (omega (arith, as_many, high)))
+    (passed declared_all (list_all valid_part) (times count part_at bytes) (times count part bytes) (parts, rest) (parts-sifts count bytes) e)
+
+pub table_is : (bytes later rest : List ℕ) (path : Path) (symbols : List (List ℕ)) → path_at bytes ≡ Some (path, later) → tag_symbols_at later ≡ Some (symbols, rest)
+    → IsTrue (valid_tags (Some (table path symbols)))
+table_is bytes later rest slots symbols p s =
+    valid_table slots symbols ∙ and_from (valid_path slots) (valid_symbols symbols)
+    (passed (λ (p : Path). p) valid_path (path_at bytes) (path bytes) (slots, later) (path-sifts bytes) p)
+    (passed (λ (ss : List (List ℕ)). ss) valid_symbols (tag_symbols_at later) (counted text later) (symbols, rest) (tag_symbols-sifts later) s)

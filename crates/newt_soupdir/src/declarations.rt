@@ -1,0 +1,175 @@
+//! Declarations of indexes and tags, read from the front.
+ghost use Rattle.std.specs.Prelude.{◌≡◌};
+ghost use Rattle.newt_spec_store.specs.Reading.{times};
+ghost use Rattle.newt_soupdir.specs.Reading.{Gives, symbol_at, path_at, kind_at, order_at, part_at, spec_at, specs_at, tag_symbols_at, table_at, tags_at};
+
+use crate::fault::DirFault;
+use crate::fields::{byte, text};
+use crate::form::{MOST_PARTS, MOST_TAGS};
+use crate::identifiers::{are_symbols_apart, is_symbol};
+use crate::indexes::Specs;
+use newt_graph::Bytes;
+use newt_keys::{IndexPart, IndexSpec, Kind, Order};
+use newt_path::Path;
+use newt_tags::TagTable;
+use std::alloc::Global;
+
+/// The most names of a path.
+const MOST_NAMES: usize = 8;
+
+#[tactic(auto, unfolding(crate::specs::Reading::symbol_at))]
+fn symbol(alloc: Global, bytes: &[u8]) -> Result<(Bytes, &[u8]), DirFault>
+    ensures { Gives (λ x. (x.0, x.1.now)) result (symbol_at bytes.now) }
+{
+    let (text, rest) = text(bytes)?;
+    if !is_symbol(text) {
+        return Err(DirFault::Bad);
+    }
+    Ok((Bytes::of(Vec::from_slice(alloc, text)?), rest))
+}
+
+fn symbols(alloc: Global, count: u8, bytes: &[u8]) -> Result<(Vec<Bytes>, &[u8]), DirFault>
+    ensures { Gives (λ x. (x.0.items, x.1.now)) result (times count symbol_at bytes.now) }
+{
+    let mut symbols = Vec::new(alloc);
+    let mut rest = bytes;
+    for _ in 0..count {
+        let (one, after) = symbol(alloc, rest)?;
+        symbols.push(one)?;
+        rest = after;
+    }
+    Ok((symbols, rest))
+}
+
+#[tactic(auto, unfolding(crate::specs::Reading::path_at))]
+fn path(alloc: Global, bytes: &[u8]) -> Result<(Path, &[u8]), DirFault>
+    ensures { Gives (λ x. (x.0, x.1.now)) result (path_at bytes.now) }
+{
+    let (count, rest) = byte(bytes)?;
+    let (names, rest) = symbols(alloc, count, rest)?;
+    if names.is_empty() || names.len() > MOST_NAMES {
+        return Err(DirFault::Bad);
+    }
+    Ok((Path::of(names), rest))
+}
+
+#[tactic(auto, unfolding(crate::specs::Reading::kind_at))]
+fn kind(bytes: &[u8]) -> Result<(Kind, &[u8]), DirFault>
+    ensures { Gives (λ x. (x.0, x.1.now)) result (kind_at bytes.now) }
+{
+    let (kind, rest) = byte(bytes)?;
+    match kind {
+        0 => Ok((Kind::Text, rest)),
+        1 => Ok((Kind::Int, rest)),
+        2 => Ok((Kind::Char, rest)),
+        3 => Ok((Kind::Symbol, rest)),
+        _ => Err(DirFault::Bad),
+    }
+}
+
+#[tactic(auto, unfolding(crate::specs::Reading::order_at))]
+fn order(bytes: &[u8]) -> Result<(Order, &[u8]), DirFault>
+    ensures { Gives (λ x. (x.0, x.1.now)) result (order_at bytes.now) }
+{
+    let (order, rest) = byte(bytes)?;
+    match order {
+        0 => Ok((Order::Ascend, rest)),
+        1 => Ok((Order::Descend, rest)),
+        _ => Err(DirFault::Bad),
+    }
+}
+
+#[tactic(auto, unfolding(crate::specs::Reading::part_at))]
+fn part(alloc: Global, bytes: &[u8]) -> Result<(IndexPart, &[u8]), DirFault>
+    ensures { Gives (λ x. (x.0, x.1.now)) result (part_at bytes.now) }
+{
+    let (kind, rest) = kind(bytes)?;
+    let (order, rest) = order(rest)?;
+    let (path, rest) = path(alloc, rest)?;
+    Ok((IndexPart { path, kind, order }, rest))
+}
+
+fn parts(alloc: Global, count: u8, bytes: &[u8]) -> Result<(Vec<IndexPart>, &[u8]), DirFault>
+    ensures { Gives (λ x. (x.0.items, x.1.now)) result (times count part_at bytes.now) }
+{
+    let mut parts = Vec::new(alloc);
+    let mut rest = bytes;
+    for _ in 0..count {
+        let (one, after) = part(alloc, rest)?;
+        parts.push(one)?;
+        rest = after;
+    }
+    Ok((parts, rest))
+}
+
+#[tactic(auto, unfolding(crate::specs::Reading::spec_at))]
+fn spec(alloc: Global, bytes: &[u8]) -> Result<(IndexSpec, &[u8]), DirFault>
+    ensures { Gives (λ x. (x.0, x.1.now)) result (spec_at bytes.now) }
+{
+    let (count, rest) = byte(bytes)?;
+    let (parts, rest) = parts(alloc, count, rest)?;
+    if parts.is_empty() || parts.len() > MOST_PARTS {
+        return Err(DirFault::Bad);
+    }
+    Ok((IndexSpec::new(parts), rest))
+}
+
+fn some_specs(alloc: Global, count: u8, bytes: &[u8]) -> Result<(Vec<IndexSpec>, &[u8]), DirFault>
+    ensures { Gives (λ x. (x.0.items, x.1.now)) result (times count spec_at bytes.now) }
+{
+    let mut specs = Vec::new(alloc);
+    let mut rest = bytes;
+    for _ in 0..count {
+        let (one, after) = spec(alloc, rest)?;
+        specs.push(one)?;
+        rest = after;
+    }
+    Ok((specs, rest))
+}
+
+/// The indexes of a soup.
+#[tactic(auto, unfolding(crate::specs::Reading::specs_at))]
+pub(crate) fn specs(alloc: Global, bytes: &[u8]) -> Result<(Specs, &[u8]), DirFault>
+    ensures { Gives (λ x. (x.0, x.1.now)) result (specs_at bytes.now) }
+{
+    let (count, rest) = byte(bytes)?;
+    let (specs, rest) = some_specs(alloc, count, rest)?;
+    Ok((Specs::of(specs), rest))
+}
+
+#[tactic(auto, unfolding(crate::specs::Reading::tag_symbols_at))]
+fn tag_symbols(alloc: Global, bytes: &[u8]) -> Result<(Vec<Bytes>, &[u8]), DirFault>
+    ensures { Gives (λ x. (x.0.items, x.1.now)) result (tag_symbols_at bytes.now) }
+{
+    let (count, rest) = byte(bytes)?;
+    let (symbols, rest) = symbols(alloc, count, rest)?;
+    if symbols.len() > MOST_TAGS || !are_symbols_apart(&symbols) {
+        return Err(DirFault::Bad);
+    }
+    Ok((symbols, rest))
+}
+
+#[tactic(auto, unfolding(crate::specs::Reading::table_at))]
+fn table(alloc: Global, bytes: &[u8]) -> Result<(TagTable, &[u8]), DirFault>
+    ensures { Gives (λ x. (x.0, x.1.now)) result (table_at bytes.now) }
+{
+    let (path, rest) = path(alloc, bytes)?;
+    let (symbols, rest) = tag_symbols(alloc, rest)?;
+    Ok((TagTable::new(path, symbols), rest))
+}
+
+/// The tags declaration of a soup.
+#[tactic(auto, unfolding(crate::specs::Reading::tags_at))]
+pub(crate) fn tags(alloc: Global, bytes: &[u8]) -> Result<(Option<TagTable>, &[u8]), DirFault>
+    ensures { Gives (λ x. (x.0, x.1.now)) result (tags_at bytes.now) }
+{
+    let (flag, rest) = byte(bytes)?;
+    match flag {
+        0 => Ok((None, rest)),
+        1 => {
+            let (table, rest) = table(alloc, rest)?;
+            Ok((Some(table), rest))
+        }
+        _ => Err(DirFault::Bad),
+    }
+}

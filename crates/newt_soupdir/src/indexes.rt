@@ -1,0 +1,150 @@
+//! The indexes of a soup.
+ghost use Rattle.std.specs.Prelude.{◌≡◌, ◌++◌, ◌∷◌, [], filter, not, IfOk, OnOk, OnErr, zip};
+ghost use Rattle.std.specs.List.{list_all, position_from};
+ghost use Rattle.newt_base.specs.Names.{same_path};
+ghost use Rattle.newt_spec_store.specs.Keys.{paths_of, same_paths, same_spec};
+
+use newt_keys::{IndexPart, IndexSpec};
+use newt_path::Path;
+use std::alloc::{AllocError, Global};
+use std::marker::Model;
+
+/// The indexes of a soup, in the order in which they were declared.
+#[derive(Drop)]
+pub struct Specs {
+    pub(crate) items: Vec<IndexSpec>,
+}
+
+impl Model for Specs {
+    ghost use Rattle.std.specs.Prelude.{List};
+    ghost use Rattle.newt_spec_store.specs.Keys.{IndexSpec};
+
+    ghost Value = { List IndexSpec };
+
+    ghost view = { λ s. s.items.items };
+}
+
+impl Specs {
+    /// No indexes. It takes no memory.
+    pub fn none(alloc: Global) -> Self
+        ensures { result ≡ [] }
+    {
+        Specs {
+            items: Vec::new(alloc),
+        }
+    }
+
+    pub fn of(items: Vec<IndexSpec>) -> Self
+        ensures { result ≡ items.items }
+    {
+        Specs { items }
+    }
+
+    pub fn list(&self) -> &[IndexSpec]
+        ensures { result.now ≡ self.now }
+    {
+        self.items.as_slice()
+    }
+
+    pub fn into_vec(self) -> Vec<IndexSpec>
+        ensures { result.items ≡ self }
+    {
+        self.items
+    }
+
+    /// An equal list.
+    pub fn copy(&self) -> Result<Specs, AllocError>
+        ensures { IfOk result (λ copy. copy ≡ self.now) }
+    {
+        let mut items = Vec::new(*self.items.allocator());
+        for spec in &self.items {
+            items.push(spec.copy()?)?;
+        }
+        Ok(Specs { items })
+    }
+
+    /// One index more, behind the others.
+    pub fn add(&mut self, spec: IndexSpec) -> Result<(), AllocError>
+        ensures added { OnOk result (self.new ≡ self.old ++ spec ∷ []) }
+        ensures err { OnErr result (self.new ≡ self.old) }
+    {
+        self.items.push(spec)?;
+        Ok(())
+    }
+
+    /// The index with these paths, in this order and but for ASCII case, is gone.
+    pub fn remove(&mut self, paths: &[Path])
+        ensures { self.new ≡ filter (λ spec. not (same_paths (paths_of spec) paths.now)) self.old }
+    {
+        remove_from(&mut self.items, paths);
+    }
+
+    /// The place of the index that agrees with this declaration in its paths, but for ASCII case, and in its types and orders.
+    pub fn place_of(&self, spec: &IndexSpec) -> Option<usize>
+        ensures { result ≡ position_from (λ other. same_spec other spec.now) 0 self.now }
+    {
+        place_of(self.items.as_slice(), spec)
+    }
+
+    /// The place of the index with these paths, in this order and but for ASCII case.
+    pub fn place_with_paths(&self, paths: &[Path]) -> Option<usize>
+        ensures { result ≡ position_from (λ other. same_paths (paths_of other) paths.now) 0 self.now }
+    {
+        place_with_paths(self.items.as_slice(), paths)
+    }
+}
+
+fn remove_from(specs: &mut Vec<IndexSpec>, paths: &[Path])
+    ensures { specs.new.items ≡ filter (λ spec. not (same_paths (paths_of spec) paths.now)) specs.old.items }
+{
+    specs.retain(|spec| !has_paths(spec, paths));
+}
+
+fn place_of(specs: &[IndexSpec], spec: &IndexSpec) -> Option<usize>
+    ensures { result ≡ position_from (λ other. same_spec other spec.now) 0 specs.now }
+{
+    let mut at = 0;
+    let mut left = specs;
+    while let [other, rest @ ..] = left {
+        if other.same(spec) {
+            return Some(at);
+        }
+        at += 1;
+        left = rest;
+    }
+    None
+}
+
+fn place_with_paths(specs: &[IndexSpec], paths: &[Path]) -> Option<usize>
+    ensures { result ≡ position_from (λ other. same_paths (paths_of other) paths.now) 0 specs.now }
+{
+    let mut at = 0;
+    let mut left = specs;
+    while let [other, rest @ ..] = left {
+        if has_paths(other, paths) {
+            return Some(at);
+        }
+        at += 1;
+        left = rest;
+    }
+    None
+}
+
+/// Whether a declaration has these paths, in this order and but for ASCII case.
+#[tactic(auto, using(crate::proofs::Paths::same_as_paths))]
+fn has_paths(spec: &IndexSpec, paths: &[Path]) -> bool
+    ensures { result ≡ same_paths (paths_of spec.now) paths.now }
+{
+    let parts = spec.list();
+    parts.len() == paths.len() && have_paths(parts, paths)
+}
+
+/// Whether parts have these paths one by one, as far as the shorter list goes.
+fn have_paths(parts: &[IndexPart], paths: &[Path]) -> bool
+    ensures { result ≡ list_all (λ p. same_path p.0.path p.1) (zip parts.now paths.now) }
+{
+    parts
+        .iter()
+        .zip(paths)
+        .all(|(part, path)| part.path.same(path))
+}
