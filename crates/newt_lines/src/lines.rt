@@ -36,12 +36,19 @@ fn reads_each_row_on_stores(rt: HostRuntime) -> Result<(), AllocError> {
 
 #[test]
 fn reads_each_row_on_entries(rt: HostRuntime) -> Result<(), AllocError> {
-    let cases: [(&[u8], &str); 10] = [
+    let cases: [(&[u8], &str); 14] = [
         (b"add 0 Names {n: 1}", "add 0 <Names> {n: 1}"),
         (b"addx 1 Names 02060107016E0004", "addx 1 <Names> {n: 1}"),
         (b"addu Names 5", "Names 5"),
         (b"get 0 Names 0", "get 0 <Names> 0"),
         (b"getx 0 Names 4294967295", "getx 0 <Names> 4294967295"),
+        (b"set 0 A 1 a 2", "set 0 <A> 1 .a 2"),
+        (b"set 0 A 1 a.B.c {d: 2}", "set 0 <A> 1 .a.B.c {d: 2}"),
+        (
+            b"set 0 A 1 _.a1.a.b.c.d.e.f 2",
+            "set 0 <A> 1 ._.a1.a.b.c.d.e.f 2",
+        ),
+        (b"change 0 A 1 [2, 3]", "change 0 <A> 1 [2, 3]"),
         (b"remove 6 Names 12", "remove 6 <Names> 12"),
         (b"copy 0 A 1 2 B", "copy 0 <A> 1 to 2 <B>"),
         (b"move 2 B 1 0 A", "move 2 <B> 1 to 0 <A>"),
@@ -100,7 +107,7 @@ fn reads_numbers_up_to_their_limits(rt: HostRuntime) -> Result<(), AllocError> {
 
 #[test]
 fn wants_exactly_the_words_of_a_row(rt: HostRuntime) -> Result<(), AllocError> {
-    let cases: [(&[u8], &str); 14] = [
+    let cases: [(&[u8], &str); 21] = [
         (b"mount", "11 line"),
         (b"mount 0 1", "11 line"),
         (b"stores now", "11 line"),
@@ -112,6 +119,13 @@ fn wants_exactly_the_words_of_a_row(rt: HostRuntime) -> Result<(), AllocError> {
         (b"get 0 A 1 2", "11 line"),
         (b"copy 0 A 1 2", "11 line"),
         (b"move 0 A 1 2 B C", "11 line"),
+        (b"set 0 A 1 2", "11 line"),
+        (b"set 0 A 1 a", "11 line"),
+        (b"set 0 A 1 a..b 2", "11 line"),
+        (b"set 0 A 1 a. 2", "11 line"),
+        (b"set 0 A 1 |a| 2", "11 line"),
+        (b"set 0 A 1 a.b.c.d.e.f.g.h.i 2", "11 line"),
+        (b"change 0 A 1", "11 line"),
         (b"add 0 A", "11 line"),
         (b"addu A", "11 line"),
         (b"resolve", "11 line"),
@@ -121,8 +135,11 @@ fn wants_exactly_the_words_of_a_row(rt: HostRuntime) -> Result<(), AllocError> {
 
 #[test]
 fn answers_the_first_refusal(rt: HostRuntime) -> Result<(), AllocError> {
-    let cases: [(&[u8], &str); 12] = [
+    let cases: [(&[u8], &str); 15] = [
         (b"add 0 A {", "3 literal"),
+        (b"set 0 A 1 a {", "3 literal"),
+        (b"set 0 A 1 1a {", "11 line"),
+        (b"change 0 A x {", "11 line"),
         (b"add 8 A {", "11 line"),
         (b"addu A {a 1}", "3 literal"),
         (b"resolve 1 2", "3 literal"),

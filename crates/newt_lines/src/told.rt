@@ -4,6 +4,7 @@ use newt_base::{Name, Uid};
 use newt_graph::Graph;
 use newt_host::Unit;
 use newt_lit_print::print_literal;
+use newt_path::Path;
 use newt_script::{Command, LineFault, line};
 use std::alloc::{AllocError, Global};
 use std::str;
@@ -39,6 +40,16 @@ fn entry_words(
 fn two_soups(alloc: Global, front: &str, unit: Unit, name: &Name) -> Result<String, AllocError> {
     let back = soup_words(alloc, "to", unit, name)?;
     format!(in alloc; "{front} {back}")
+}
+
+/// The names of a path, with a point before each.
+fn points(alloc: Global, path: &Path) -> Result<String, AllocError> {
+    let mut text = String::new(alloc);
+    for name in path.list() {
+        let name = str::from_utf8(name.list()).unwrap_or("");
+        text = format!(in alloc; "{text}.{name}")?;
+    }
+    Ok(text)
 }
 
 fn with_graph(alloc: Global, front: &str, graph: &Graph) -> Result<String, AllocError> {
@@ -84,6 +95,23 @@ fn told_of_entries(alloc: Global, command: &Command) -> Result<String, AllocErro
         Command::Addu(name, graph) => with_graph(alloc, text(name), graph),
         Command::Get(unit, name, uid) => entry_words(alloc, "get", *unit, name, *uid),
         Command::Getx(unit, name, uid) => entry_words(alloc, "getx", *unit, name, *uid),
+        Command::Set(unit, name, uid, path, graph) => {
+            let front = entry_words(alloc, "set", *unit, name, *uid)?;
+            let points = points(alloc, path)?;
+            let front = format!(in alloc; "{front} {points}")?;
+            with_graph(alloc, front.as_str(), graph)
+        }
+        Command::Change(unit, name, uid, graph) => {
+            let front = entry_words(alloc, "change", *unit, name, *uid)?;
+            with_graph(alloc, front.as_str(), graph)
+        }
+        _ => told_of_places(alloc, command),
+    }
+}
+
+/// A command that takes an entry away, or tells where it is.
+fn told_of_places(alloc: Global, command: &Command) -> Result<String, AllocError> {
+    match command {
         Command::Remove(unit, name, uid) => entry_words(alloc, "remove", *unit, name, *uid),
         Command::Copy(unit, name, uid, to, soup) => {
             let front = entry_words(alloc, "copy", *unit, name, *uid)?;

@@ -18,6 +18,8 @@ mod many;
 #[cfg(test)]
 mod modes;
 #[cfg(test)]
+mod replaces;
+#[cfg(test)]
 mod sessions;
 #[cfg(test)]
 mod trial;

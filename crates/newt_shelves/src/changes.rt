@@ -37,6 +37,11 @@ pub(crate) fn move_to(soup: u32, uid: u32, target: u32) -> Change {
     Change::Move(Sig(soup), Uid(uid), Sig(target))
 }
 
+/// An entry gets another text.
+pub(crate) fn replace(alloc: Global, soup: u32, uid: u32, text: &[u8]) -> Result<Change, Fail> {
+    Ok(Change::Replace(Sig(soup), Uid(uid), decode(alloc, text)?))
+}
+
 /// Makes a change, which is not refused.
 pub(crate) fn accept<P: PageBook>(
     host: &mut MemHost,

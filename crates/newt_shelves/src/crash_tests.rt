@@ -28,8 +28,8 @@ fn used(bank: &[u8]) -> usize {
     used
 }
 
-// How many bytes of bank 0 are used.
-fn used_of(rt: &impl Abort, host: &MemHost) -> usize {
+/// How many bytes of bank 0 are used.
+pub(crate) fn used_of(rt: &impl Abort, host: &MemHost) -> usize {
     assert!(rt; has_card(host));
     let bytes = host.bytes(CARD);
     assert!(rt; bytes.len() == 13 * 4096);

@@ -20,6 +20,8 @@ mod flips;
 #[cfg(test)]
 mod image_tests;
 #[cfg(test)]
+mod replace_tests;
+#[cfg(test)]
 mod spelt;
 #[cfg(test)]
 mod tests;
