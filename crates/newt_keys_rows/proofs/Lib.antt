@@ -1,0 +1,1 @@
+-- No lemma: the walks stand on those of newt_index.
