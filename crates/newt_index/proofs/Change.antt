@@ -16,7 +16,7 @@ use Rattle.newt_spec_store.specs.Keys.{Key, IndexSpec, key_cmp}
 use Rattle.newt_keys.proofs.OrderLaws.{equal_keys, tied}
 use Rattle.newt_keys.specs.KeyForm.{IsKeyOf, key_bytes}
 use Rattle.newt_index.specs.declared.search.Slot.{Slot}
-use Rattle.newt_index.specs.Pairs.{Pair, Sorted, parts_of, pair_cmp, added, removed, IsPair, IsAbsent, IsSorted}
+use Rattle.newt_index.specs.Pairs.{Pair, Sorted, parts_of, pair_cmp, added, with_pair, removed, IsPair, IsAbsent, IsSorted}
 use Rattle.newt_index.specs.Kept.{pair_of, IsKept, AreKept, IsProbeOf, slot_cmp}
 use Rattle.newt_index.proofs.Walk.{kept_cmp}
 
@@ -71,6 +71,33 @@ module _ (spec : Option IndexSpec) (slot : Slot) (key : Key) (probe : IsProbeOf 
           (ap (λ xs. pair_of e ∷ xs) rest.0, All-cons (IsKept spec) e (remove_entry (is_at (slot_cmp slot)) es) (All-head (IsKept spec) e es kept) rest.1)
       by s t h rest = absurd (cc)
 
+module _ (spec : Option IndexSpec) (slot : Slot) (key : Key) (probe : IsProbeOf spec key slot.bytes.items) (fits : slot.uid < 2 ^ 32) where
+  abbrev Put : Slot × Key → List (Slot × Key) → Ordering → Ordering → Type 0
+  Put e es o p = (map pair_of (match_ordering o ((slot, key) ∷ e ∷ es) ((e.0, key) ∷ es) (e ∷ insert_entry slot_cmp es slot key))
+      ≡ match_ordering p ((key, slot.uid) ∷ pair_of e ∷ map pair_of es) (pair_of e ∷ map pair_of es) (pair_of e ∷ with_pair (parts_of spec) (map pair_of es) (key, slot.uid)))
+      × AreKept spec (match_ordering o ((slot, key) ∷ e ∷ es) ((e.0, key) ∷ es) (e ∷ insert_entry slot_cmp es slot key))
+
+  put_in : (es : List (Slot × Key)) → AreKept spec es
+      → (map pair_of (insert_entry slot_cmp es slot key) ≡ with_pair (parts_of spec) (map pair_of es) (key, slot.uid)) × AreKept spec (insert_entry slot_cmp es slot key)
+  put_in [] kept =
+      (refl, All-cons (IsKept spec) (slot, key) [] (record { is_key = probe.is_key; bytes = probe.same; uid = fits }) (All-nil (IsKept spec)))
+  put_in (e ∷ es) kept =
+      let he = All-head (IsKept spec) e es kept in
+      by (slot_cmp slot e.0) (pair_cmp (parts_of spec) (key, slot.uid) (pair_of e)) (kept_cmp spec slot key e probe he)
+      (λ h. ap (λ (p : Pair). p.0) (tied_pairs spec (key, slot.uid) (pair_of e) probe.is_key he.is_key h))
+      (put_in es (All-tail (IsKept spec) e es kept))
+    where
+      by : (o p : Ordering) → o ≡ p → (p ≡ Equal → key ≡ e.1)
+          → (map pair_of (insert_entry slot_cmp es slot key) ≡ with_pair (parts_of spec) (map pair_of es) (key, slot.uid)) × AreKept spec (insert_entry slot_cmp es slot key)
+          → Put e es o p
+      by Less Less h same rest = (refl, All-cons (IsKept spec) (slot, key) (e ∷ es) (record { is_key = probe.is_key; bytes = probe.same; uid = fits }) kept)
+      by Greater Greater h same rest =
+          (ap (λ xs. pair_of e ∷ xs) rest.0, All-cons (IsKept spec) e (insert_entry slot_cmp es slot key) (All-head (IsKept spec) e es kept) rest.1)
+      by Equal Equal h same rest =
+          let K : Key → Type 0 = λ k. AreKept spec ((e.0, k) ∷ es) in
+          (ap (λ (k : Key). let p : Pair = (k, e.0.uid) in p ∷ map pair_of es) (same refl), subst K (sym (same refl)) kept)
+      by o p h same rest = absurd (cc)
+
 -- the same over the value that a caller sees
 
 abbrev probe_from : (spec : Option IndexSpec) (slot : Slot) (key : Key) → IsKeyOf (parts_of spec) key → slot.bytes.items ≡ key_bytes (parts_of spec) key → IsProbeOf spec key slot.bytes.items
@@ -89,6 +116,19 @@ added_seen v spec es new slot key uid seen kept k b u small absent n =
     subst R u (λ a. subst Q seen (λ k a.
     let h = inserted spec slot key (probe_from spec slot key k b) small es kept a in
     ((λ i. record { spec = spec; pairs = (ap (map pair_of) n ∙ h.0) i }), (let S : List (Slot × Key) → Type 0 = λ xs. AreKept spec xs in subst S (sym n) h.1))) k a) absent
+
+pub put_seen : (v : Sorted) (spec : Option IndexSpec) (es new : List (Slot × Key)) (slot : Slot) (key : Key) (uid : ℕ)
+    → record { spec = spec; pairs = map pair_of es } ≡ v → AreKept spec es → IsKeyOf (parts_of v.spec) key
+    → slot.bytes.items ≡ key_bytes (parts_of spec) key → slot.uid ≡ uid → slot.uid < 2 ^ 32
+    → new ≡ insert_entry slot_cmp es slot key
+    → (record { spec = spec; pairs = map pair_of new } ≡ record v { pairs = with_pair (parts_of v.spec) v.pairs (key, uid) }) × AreKept spec new
+put_seen v spec es new slot key uid seen kept k b u small n =
+    let Q : Sorted → Type 0 = λ w. IsKeyOf (parts_of w.spec) key
+    → (record { spec = spec; pairs = map pair_of new } ≡ record w { pairs = with_pair (parts_of w.spec) w.pairs (key, slot.uid) }) × AreKept spec new in
+    let R : ℕ → Type 0 = λ m. (record { spec = spec; pairs = map pair_of new } ≡ record v { pairs = with_pair (parts_of v.spec) v.pairs (key, m) }) × AreKept spec new in
+    subst R u (subst Q seen (λ k.
+    let h = put_in spec slot key (probe_from spec slot key k b) small es kept in
+    ((λ i. record { spec = spec; pairs = (ap (map pair_of) n ∙ h.0) i }), (let S : List (Slot × Key) → Type 0 = λ xs. AreKept spec xs in subst S (sym n) h.1))) k)
 
 pub removed_seen : (v : Sorted) (spec : Option IndexSpec) (es new : List (Slot × Key)) (slot : Slot) (key : Key) (uid : ℕ)
     → record { spec = spec; pairs = map pair_of es } ≡ v → AreKept spec es → IsKeyOf (parts_of v.spec) key

@@ -2,7 +2,7 @@
 use Rattle.std.specs.Prelude.{◌≡◌, ◌<◌, ◌^◌, ℕ, Bool, not, ◌==◌, List, [], ◌∷◌, filter, Option, Some, None, cond, All}
 use Rattle.std.specs.declared.cmp.Ordering.{Ordering}
 use Rattle.std.specs.declared.cmp.Ordering.TheVariants.{Less}
-use Rattle.std.specs.Ordering.{nat_cmp, ordering_then, is_lt, is_eq, is_gt}
+use Rattle.std.specs.Ordering.{nat_cmp, ordering_then, match_ordering, is_lt, is_eq, is_gt}
 use Rattle.newt_spec_graph.specs.Lists.{Among, Pairs}
 use Rattle.newt_spec_store.specs.Keys.{Key, IndexSpec, key_cmp}
 use Rattle.newt_spec_store.specs.Sorted.{insert_by}
@@ -26,6 +26,11 @@ pair_cmp spec a b = ordering_then (key_cmp spec a.0 b.0) (nat_cmp a.1 b.1)
 -- with a pair at its place (a word of these definitions)
 abbrev pub added : IndexSpec → List Pair → Pair → List Pair
 added spec pairs p = insert_by (pair_cmp spec) pairs p
+
+-- with a pair at its place, where it is not there yet (a word of these definitions)
+abbrev pub with_pair : IndexSpec → List Pair → Pair → List Pair
+with_pair spec [] p = p ∷ []
+with_pair spec (q ∷ qs) p = match_ordering (pair_cmp spec p q) (p ∷ q ∷ qs) (q ∷ qs) (q ∷ with_pair spec qs p)
 
 -- without the first that is the pair (a word of these definitions)
 abbrev pub removed : IndexSpec → List Pair → Pair → List Pair

@@ -2,7 +2,7 @@
 ghost use Rattle.std.specs.Prelude.{◌≡◌, ◌==◌, [], not, filter, IfOk, IfErr, IfSome, length, option_map};
 ghost use Rattle.newt_keys.specs.KeyForm.{IsKeyOf};
 ghost use Rattle.newt_spec_store.specs.Keys as keys;
-ghost use Rattle.newt_index.specs.Pairs.{Sorted, parts_of, IsAbsent, added, removed, first, last, key_at, IsSorted};
+ghost use Rattle.newt_index.specs.Pairs.{Sorted, parts_of, IsAbsent, added, with_pair, removed, first, last, key_at, IsSorted};
 ghost use Rattle.newt_index.specs.Pairs as pairs;
 ghost use Rattle.newt_index.specs.Kept.{IsProbeOf, shown, lent};
 
@@ -64,6 +64,17 @@ impl Index {
         requires key { IsKeyOf (parts_of self.old.spec) key }
         requires absent { IsAbsent self.old (key, uid) }
         ensures ok { IfOk result (λ _. self.new ≡ record self.old { pairs = added (parts_of self.old.spec) self.old.pairs (key, uid) }) }
+        ensures err { IfErr result (λ _. self.new ≡ self.old) }
+    {
+        let slot = slot_of(self.alloc, &self.spec, &key, uid)?;
+        self.entries.insert(slot, key)?;
+        Ok(())
+    }
+
+    /// Adds a pair. Where it is there nothing changes.
+    pub fn put(&mut self, key: Key, uid: Uid) -> Result<(), AllocError>
+        requires { IsKeyOf (parts_of self.old.spec) key }
+        ensures ok { IfOk result (λ _. self.new ≡ record self.old { pairs = with_pair (parts_of self.old.spec) self.old.pairs (key, uid) }) }
         ensures err { IfErr result (λ _. self.new ≡ self.old) }
     {
         let slot = slot_of(self.alloc, &self.spec, &key, uid)?;
