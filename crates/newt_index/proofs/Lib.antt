@@ -1,0 +1,6 @@
+pub mod Walk
+pub mod Change
+pub mod Sorting
+pub mod Ranges
+pub mod Found
+pub mod Fresh

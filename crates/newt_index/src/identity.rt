@@ -1,0 +1,29 @@
+//! An entry's place among all entries.
+ghost use Rattle.std.specs.Prelude.{◌≡◌, IfOk};
+
+use newt_base::{Sig, Uid};
+use newt_keys::Key;
+use std::alloc::AllocError;
+
+/// The identity of an entry with its key: the signatures of its store and soup, and its id.
+#[derive(Drop)]
+pub struct Spot {
+    pub key: Key,
+    pub store: Sig,
+    pub soup: Sig,
+    pub uid: Uid,
+}
+
+impl Spot {
+    /// An equal spot.
+    pub fn copy(&self) -> Result<Spot, AllocError>
+        ensures { IfOk result (λ copy. copy ≡ self.now) }
+    {
+        Ok(Spot {
+            key: self.key.copy()?,
+            store: self.store,
+            soup: self.soup,
+            uid: self.uid,
+        })
+    }
+}

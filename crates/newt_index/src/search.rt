@@ -1,0 +1,75 @@
+//! The bytes of a key with an id, by which an index is kept and searched.
+ghost use Rattle.std.specs.Prelude.{◌≡◌, ◌<◌, ◌^◌, [], IfOk, Some, None};
+ghost use Rattle.newt_keys.specs.KeyForm.{IsKeyOf, key_bytes};
+ghost use Rattle.newt_index.specs.Pairs.{parts_of};
+ghost use Rattle.newt_index.specs.Kept.{IsProbeOf};
+
+use newt_base::Uid;
+use newt_keys::{IndexSpec, Key, key_bytes as bytes_of_key};
+use std::alloc::{AllocError, Global};
+use std::marker::Model;
+
+/// The place of a pair in an index: the bytes of its key, and its id. The derived order is that of the pairs.
+#[derive(PartialEq, Eq, PartialOrd, Ord, Drop)]
+pub(crate) struct Slot {
+    pub(crate) bytes: Vec<u8>,
+    pub(crate) uid: u32,
+}
+
+/// The bytes of a key at hand for searches, which then take no memory.
+#[derive(Drop)]
+pub struct Probe {
+    pub(crate) slot: Slot,
+}
+
+impl Model for Probe {
+    ghost use Rattle.std.specs.Prelude.{List, ℕ};
+
+    ghost Value = { List ℕ };
+
+    ghost view = { λ p. p.slot.bytes.items };
+}
+
+impl Probe {
+    /// The probe of a key of a declaration.
+    pub fn new(alloc: Global, key: &Key, spec: &IndexSpec) -> Result<Probe, AllocError>
+        requires { IsKeyOf spec.now key.now }
+        ensures { IfOk result (λ probe. IsProbeOf (Some spec.now) key.now probe) }
+    {
+        let bytes = bytes_of_key(alloc, key, spec)?;
+        Ok(Probe {
+            slot: Slot { bytes, uid: 0 },
+        })
+    }
+
+    /// The probe of the empty key, for an index without a declaration. It takes no memory.
+    pub fn empty(alloc: Global) -> Probe
+        ensures { IsProbeOf None [] result }
+    {
+        Probe {
+            slot: Slot {
+                bytes: Vec::new(alloc),
+                uid: 0,
+            },
+        }
+    }
+}
+
+/// The place of a pair.
+pub(crate) fn slot_of(
+    alloc: Global,
+    spec: &Option<IndexSpec>,
+    key: &Key,
+    uid: Uid,
+) -> Result<Slot, AllocError>
+    requires { IsKeyOf (parts_of spec.now) key.now }
+    ensures bytes { IfOk result (λ slot. slot.bytes.items ≡ key_bytes (parts_of spec.now) key.now) }
+    ensures uid { IfOk result (λ slot. slot.uid ≡ uid) }
+    ensures fits { IfOk result (λ slot. slot.uid < 2 ^ 32) }
+{
+    let bytes = match spec {
+        Some(spec) => bytes_of_key(alloc, key, spec)?,
+        None => Vec::new(alloc),
+    };
+    Ok(Slot { bytes, uid: uid.0 })
+}

@@ -1,0 +1,23 @@
+//! Keys of entries: declarations of indexes, the key that a graph has by one, the order of keys, and bytes that order as the keys do.
+//!
+//! It stands on `newt_path` for the values at paths, on `newt_fold` for the folding of strings, and on the definition of keys. It carries this
+//! promise: the key of a graph, the key that a value writes down and the order of keys are the definition's, and the bytes of two keys of one
+//! declaration order as the keys, where neither's begin those of another key.
+#![tactic(auto)]
+
+mod bytes;
+mod compared;
+mod given;
+mod read;
+mod types;
+mod values;
+
+pub use bytes::key_bytes;
+pub use compared::compare;
+pub use given::key_from;
+pub use newt_spec_store::{Kind, Order};
+pub use read::key_of;
+pub use types::{IndexPart, IndexSpec, Key, Part};
+
+#[cfg(test)]
+mod tests;
