@@ -1,0 +1,5 @@
+pub mod Given
+pub mod TextForms
+pub mod PathForms
+pub mod Form
+pub mod Passing
