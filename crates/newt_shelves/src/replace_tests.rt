@@ -235,11 +235,12 @@ fn cut<P: PageBook>(
 {
     let from = host.calls();
     let long = long_text(alloc)?;
-    for (text, now) in [(long.as_slice(), 6u32), (ONE, 7)] {
-        let change = replace(alloc, 0, 0, text)?;
-        let none = accept_through_crashes(rt, alloc, host, store, change, now)?;
-        assert_eq!(rt; none, 0);
-    }
+    let change = replace(alloc, 0, 0, &long)?;
+    let none = accept_through_crashes(rt, alloc, host, store, change, 6)?;
+    assert_eq!(rt; none, 0);
+    let change = replace(alloc, 0, 0, ONE)?;
+    let none = accept_through_crashes(rt, alloc, host, store, change, 7)?;
+    assert_eq!(rt; none, 0);
     assert_goes_on::<P>(rt, alloc, host, from)
 }
 
