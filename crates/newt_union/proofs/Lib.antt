@@ -1,0 +1,4 @@
+pub mod Best
+pub mod Orders
+pub mod Union
+pub mod View

@@ -1,0 +1,185 @@
+//! A member of a union, and what it has to offer to a search.
+ghost use Rattle.std.specs.Prelude.{◌≡◌, IfOk, option_map};
+ghost use Rattle.newt_spec_store.specs.Keys.{key_cmp};
+ghost use Rattle.newt_spec_query.specs.Hits.{hit_cmp};
+ghost use Rattle.newt_keys.specs.KeyForm.{IsKeyOf};
+ghost use Rattle.newt_index.specs.Pairs.{parts_of};
+ghost use Rattle.newt_index.specs.Kept.{IsProbeOf};
+ghost use Rattle.newt_index.specs.Kept as kept;
+ghost use Rattle.newt_union.specs.Merged as merged;
+ghost use Rattle.newt_union.specs.Candidates.{side, first_in, last_in, after_in, before_in, at_or_after_in, lesser, greater};
+ghost use Rattle.newt_union.specs.Candidates as candidates;
+ghost use Rattle.newt_union.specs.Seen.{shown, seen, spot_hit};
+
+use crate::hit::Hit;
+use newt_base::{Sig, Uid};
+use newt_index::{Index, Probe, Spot};
+use newt_keys::{Key, compare};
+use std::alloc::{AllocError, Global};
+use std::cmp::Ordering;
+
+/// A soup that takes part, with its range.
+#[derive(Clone, Copy)]
+pub(crate) struct Member<'a> {
+    pub(crate) store: u32,
+    pub(crate) soup: u32,
+    pub(crate) index: &'a Index,
+}
+
+impl<'a> Member<'a> {
+    /// The hit that a pair of the range is.
+    fn hit(&self, found: &Option<(&'a Key, Uid)>) -> Option<Hit<'a>>
+        ensures { option_map shown result ≡ option_map (merged.hit (seen self.now)) (option_map kept.shown found.now) }
+    {
+        match found {
+            Some((key, uid)) => Some(Hit {
+                key: *key,
+                store: Sig(self.store),
+                soup: Sig(self.soup),
+                uid: *uid,
+            }),
+            None => None,
+        }
+    }
+
+    /// The bytes of a key at hand.
+    fn probe(&self, alloc: Global, key: &Key) -> Result<Probe, AllocError>
+        requires { IsKeyOf (parts_of self.now.index.now.spec) key.now }
+        ensures { IfOk result (λ probe. IsProbeOf self.now.index.now.spec key.now probe) }
+    {
+        match self.index.spec() {
+            Some(spec) => Probe::new(alloc, key, spec),
+            None => Ok(Probe::empty(alloc)),
+        }
+    }
+
+    /// How the store and the soup of a spot stand to its own.
+    fn side(&self, spot: &Spot) -> Ordering
+        ensures { result ≡ side (spot_hit spot.now) (seen self.now) }
+    {
+        let store = spot.store.0.cmp(&self.store);
+        store.then(spot.soup.0.cmp(&self.soup))
+    }
+
+    /// Its first hit.
+    pub(crate) fn first(&self) -> Option<Hit<'a>>
+        ensures { option_map shown result ≡ first_in (seen self.now) }
+    {
+        self.hit(&self.index.first())
+    }
+
+    /// Its last hit.
+    pub(crate) fn last(&self) -> Option<Hit<'a>>
+        ensures { option_map shown result ≡ last_in (seen self.now) }
+    {
+        self.hit(&self.index.last())
+    }
+
+    /// Its least hit after a spot.
+    pub(crate) fn after(&self, alloc: Global, spot: &Spot) -> Result<Option<Hit<'a>>, AllocError>
+        requires { IsKeyOf (parts_of self.now.index.now.spec) spot.now.key }
+        ensures { IfOk result (λ found. option_map shown found ≡ after_in (spot_hit spot.now) (seen self.now)) }
+    {
+        let mut probe = self.probe(alloc, &spot.key)?;
+        Ok(self.hit(&self.pair_after(&mut probe, spot)))
+    }
+
+    fn pair_after(&self, probe: &mut Probe, spot: &Spot) -> Option<(&'a Key, Uid)>
+        requires { IsProbeOf self.now.index.now.spec spot.now.key probe.old }
+        ensures { option_map kept.shown result ≡ candidates.pair_after (spot_hit spot.now) (seen self.now) }
+    {
+        match self.side(spot) {
+            Ordering::Less => self.index.at_or_after(probe),
+            Ordering::Equal => self.index.after(probe, spot.uid),
+            Ordering::Greater => self.index.after(probe, Uid(u32::MAX)),
+        }
+    }
+
+    /// Its greatest hit before a spot.
+    pub(crate) fn before(&self, alloc: Global, spot: &Spot) -> Result<Option<Hit<'a>>, AllocError>
+        requires { IsKeyOf (parts_of self.now.index.now.spec) spot.now.key }
+        ensures { IfOk result (λ found. option_map shown found ≡ before_in (spot_hit spot.now) (seen self.now)) }
+    {
+        let mut probe = self.probe(alloc, &spot.key)?;
+        Ok(self.hit(&self.pair_before(&mut probe, spot)))
+    }
+
+    fn pair_before(&self, probe: &mut Probe, spot: &Spot) -> Option<(&'a Key, Uid)>
+        requires { IsProbeOf self.now.index.now.spec spot.now.key probe.old }
+        ensures { option_map kept.shown result ≡ candidates.pair_before (spot_hit spot.now) (seen self.now) }
+    {
+        match self.side(spot) {
+            Ordering::Less => self.index.before(probe, Uid(0)),
+            Ordering::Equal => self.index.before(probe, spot.uid),
+            Ordering::Greater => self.index.at_or_before(probe),
+        }
+    }
+
+    /// Its first hit whose key is not before the given one.
+    pub(crate) fn at_or_after(
+        &self,
+        alloc: Global,
+        key: &Key,
+    ) -> Result<Option<Hit<'a>>, AllocError>
+        requires { IsKeyOf (parts_of self.now.index.now.spec) key.now }
+        ensures { IfOk result (λ found. option_map shown found ≡ at_or_after_in key.now (seen self.now)) }
+    {
+        let mut probe = self.probe(alloc, key)?;
+        Ok(self.hit(&self.index.at_or_after(&mut probe)))
+    }
+
+    /// Compares two keys by its declaration.
+    fn compare_keys(&self, a: &Key, b: &Key) -> Ordering
+        ensures { result ≡ key_cmp (parts_of self.now.index.now.spec) a.now b.now }
+    {
+        match self.index.spec() {
+            Some(spec) => compare(a, b, spec),
+            None => Ordering::Equal,
+        }
+    }
+
+    /// Compares two hits by its declaration.
+    fn compare(&self, a: &Hit<'a>, b: &Hit<'a>) -> Ordering
+        ensures { result ≡ hit_cmp (parts_of self.now.index.now.spec) (shown a.now) (shown b.now) }
+    {
+        let keys = self.compare_keys(a.key, b.key);
+        let stores = a.store.0.cmp(&b.store.0);
+        let soups = a.soup.0.cmp(&b.soup.0);
+        let uids = a.uid.0.cmp(&b.uid.0);
+        keys.then(stores.then(soups.then(uids)))
+    }
+
+    /// The lesser of two hits, the first where they tie.
+    pub(crate) fn lesser(&self, a: &Option<Hit<'a>>, b: &Option<Hit<'a>>) -> Option<Hit<'a>>
+        ensures { option_map shown result ≡ lesser (hit_cmp (parts_of self.now.index.now.spec)) (option_map shown a.now) (option_map shown b.now) }
+    {
+        match (a, b) {
+            (Some(a), Some(b)) => {
+                if self.compare(b, a) == Ordering::Less {
+                    Some(b.copy())
+                } else {
+                    Some(a.copy())
+                }
+            }
+            (Some(found), None) | (None, Some(found)) => Some(found.copy()),
+            (None, None) => None,
+        }
+    }
+
+    /// The greater of two hits, the first where they tie.
+    pub(crate) fn greater(&self, a: &Option<Hit<'a>>, b: &Option<Hit<'a>>) -> Option<Hit<'a>>
+        ensures { option_map shown result ≡ greater (hit_cmp (parts_of self.now.index.now.spec)) (option_map shown a.now) (option_map shown b.now) }
+    {
+        match (a, b) {
+            (Some(a), Some(b)) => {
+                if self.compare(a, b) == Ordering::Less {
+                    Some(b.copy())
+                } else {
+                    Some(a.copy())
+                }
+            }
+            (Some(found), None) | (None, Some(found)) => Some(found.copy()),
+            (None, None) => None,
+        }
+    }
+}
