@@ -4,8 +4,10 @@ use Rattle.std.specs.Prelude.{⊤}
 use Rattle.newt_graph.specs.Graph.{RawGraph}
 use Rattle.newt_host.specs.Moments.{Moment, image, IsDurable, Leaves}
 use Rattle.newt_host.proofs.Moments.{Leaves-start}
-use Rattle.newt_laws_answers.specs.Tests.{make_tests, add_tests, move_tests, moved_within, replace_tests, replaced}
-use Rattle.newt_spec_store.specs.Store.{Store as Plain, Soup, Entry, entry_of, change_soup, make_soup, drop_soup, add_entry, remove_entry}
+use Rattle.newt_laws_answers.specs.Tests.{make_tests, add_tests, move_tests, moved_within, replace_tests, replaced, index_tests, tags_tests, tagged}
+use Rattle.newt_spec_store.specs.Keys.{IndexSpec, Path}
+use Rattle.newt_spec_world.specs.Changed.{with_index, without_index}
+use Rattle.newt_spec_store.specs.Store.{Store as Plain, Soup, Entry, TagTable, entry_of, change_soup, make_soup, drop_soup, add_entry, remove_entry}
 use Rattle.newt_store.specs.Change.{changed_by, answer_of, refusals}
 use Rattle.newt_store.specs.Stage.{readable}
 use Rattle.newt_store.specs.declared.change.Change.{Change}
@@ -14,7 +16,7 @@ use Rattle.newt_units.specs.Cards.{soup_of, LeavesEither}
 use Rattle.newt_units.specs.Faults.{Does}
 use Rattle.newt_units.specs.declared.fault.Fault.{Fault}
 use Rattle.newt_card.proofs.Turns.{does-as, does-done, done, leaves-as}
-use Rattle.newt_card.proofs.Tests.{drop-tests, dropped, add-tests, added, added-uid, remove-tests, removed, replace-tests, replaced-as, move-tests, moved, moved-uid}
+use Rattle.newt_card.proofs.Tests.{index-tests, indexed, unindex-tests, unindexed, tags-tests, tagged-as, drop-tests, dropped, add-tests, added, added-uid, remove-tests, removed, replace-tests, replaced-as, move-tests, moved, moved-uid}
 
 some : {A : Type 0} {a b : A} → a ≡ b → Some a ≡ Some b
 some is = ap Some is
@@ -40,6 +42,20 @@ pub leaves-nothing : (blocks : ℕ) (name : List ℕ) (s : Plain) (unit : ℕ) (
     → Leaves unit (LeavesEither readable (make_tests blocks name s) s (make_soup name s)) now now
 leaves-nothing blocks name s unit now durable reads = Leaves-start (λ left may. inl (ap readable (durable left may) ∙ reads))
 
+-- an index is dropped with paths that were copied
+pub copied-does : (name : List ℕ) (paths copy : List Path) (s : Plain) (later : Option Plain) (result : Result (Unit {0}) Fault) → copy ≡ paths
+    → Does [] (λ _. ⊤) (Some s) (Some (change_soup name (without_index copy) s)) later result → Does [] (λ _. ⊤) (Some s) (Some (change_soup name (without_index paths) s)) later result
+copied-does name paths copy s later result is d = subst (λ (x : List Path). Does [] (λ _. ⊤) (Some s) (Some (change_soup name (without_index x) s)) later result) is d
+
+pub copied-leaves : (name : List ℕ) (paths copy : List Path) (s : Plain) (unit : ℕ) (old new : Moment) → copy ≡ paths
+    → Leaves unit (LeavesEither readable [] s (change_soup name (without_index copy) s)) old new → Leaves unit (LeavesEither readable [] s (change_soup name (without_index paths) s)) old new
+copied-leaves name paths copy s unit old new is leaves = subst (λ (x : List Path). Leaves unit (LeavesEither readable [] s (change_soup name (without_index x) s)) old new) is leaves
+
+-- nothing has happened where they are not copied
+pub leaves-index : (name : List ℕ) (paths : List Path) (s : Plain) (unit : ℕ) (now : Moment) → IsDurable unit now → readable (image unit now) ≡ Some s
+    → Leaves unit (LeavesEither readable [] s (change_soup name (without_index paths) s)) now now
+leaves-index name paths s unit now durable reads = Leaves-start (λ left may. inl (ap readable (durable left may) ∙ reads))
+
 module _ (blocks now sig : ℕ) (s : Plain) (p : Soup) (found : soup_of sig s ≡ Some p) where
   pub drop-does : (later : Option Plain) (result : Result ℕ Fault) → Changes (change.DropSoup sig) blocks now s later result → Does [] (λ _. ⊤) (Some s) (Some (drop_soup p.name s)) later (done result)
   drop-does later result d = does-done [] (λ _. ⊤) (Some s) (Some (drop_soup p.name s)) later result
@@ -49,6 +65,33 @@ module _ (blocks now sig : ℕ) (s : Plain) (p : Soup) (found : soup_of sig s �
   pub drop-leaves : (unit : ℕ) (old new : Moment) → LeavesChange unit (change.DropSoup sig) blocks now s old new → Leaves unit (LeavesEither readable [] s (drop_soup p.name s)) old new
   drop-leaves unit old new leaves = leaves-as unit readable (refusals (change.DropSoup sig) blocks now s) [] s (changed_by (change.DropSoup sig) now s) (drop_soup p.name s) old new
       (drop-tests blocks now sig s p found) (dropped blocks now sig s p found) leaves
+
+  pub index-does : (spec : IndexSpec) (later : Option Plain) (result : Result ℕ Fault) → Changes (change.AddIndex sig spec) blocks now s later result → Does (index_tests blocks p.name spec s p) (λ _. ⊤) (Some s) (Some (change_soup p.name (with_index spec) s)) later (done result)
+  index-does spec later result d = does-done (index_tests blocks p.name spec s p) (λ _. ⊤) (Some s) (Some (change_soup p.name (with_index spec) s)) later result
+      (does-as (refusals (change.AddIndex sig spec) blocks now s) (index_tests blocks p.name spec s p) (λ n. n ≡ answer_of (change.AddIndex sig spec) s) (λ _. ⊤) (Some s) (Some (changed_by (change.AddIndex sig spec) now s)) (Some (change_soup p.name (with_index spec) s)) later
+      (index-tests blocks now sig s p found spec) (λ n good. tt) (some (indexed blocks now sig s p found spec)) result d)
+
+  pub index-leaves : (spec : IndexSpec) (unit : ℕ) (old new : Moment) → LeavesChange unit (change.AddIndex sig spec) blocks now s old new → Leaves unit (LeavesEither readable (index_tests blocks p.name spec s p) s (change_soup p.name (with_index spec) s)) old new
+  index-leaves spec unit old new leaves = leaves-as unit readable (refusals (change.AddIndex sig spec) blocks now s) (index_tests blocks p.name spec s p) s (changed_by (change.AddIndex sig spec) now s) (change_soup p.name (with_index spec) s) old new
+      (index-tests blocks now sig s p found spec) (indexed blocks now sig s p found spec) leaves
+
+  pub unindex-does : (paths : List Path) (later : Option Plain) (result : Result ℕ Fault) → Changes (change.DropIndex sig paths) blocks now s later result → Does ([]) (λ _. ⊤) (Some s) (Some (change_soup p.name (without_index paths) s)) later (done result)
+  unindex-does paths later result d = does-done ([]) (λ _. ⊤) (Some s) (Some (change_soup p.name (without_index paths) s)) later result
+      (does-as (refusals (change.DropIndex sig paths) blocks now s) ([]) (λ n. n ≡ answer_of (change.DropIndex sig paths) s) (λ _. ⊤) (Some s) (Some (changed_by (change.DropIndex sig paths) now s)) (Some (change_soup p.name (without_index paths) s)) later
+      (unindex-tests blocks now sig s p found paths) (λ n good. tt) (some (unindexed blocks now sig s p found paths)) result d)
+
+  pub unindex-leaves : (paths : List Path) (unit : ℕ) (old new : Moment) → LeavesChange unit (change.DropIndex sig paths) blocks now s old new → Leaves unit (LeavesEither readable ([]) s (change_soup p.name (without_index paths) s)) old new
+  unindex-leaves paths unit old new leaves = leaves-as unit readable (refusals (change.DropIndex sig paths) blocks now s) ([]) s (changed_by (change.DropIndex sig paths) now s) (change_soup p.name (without_index paths) s) old new
+      (unindex-tests blocks now sig s p found paths) (unindexed blocks now sig s p found paths) leaves
+
+  pub tags-does : (table : TagTable) (later : Option Plain) (result : Result ℕ Fault) → Changes (change.SetTags sig table) blocks now s later result → Does (tags_tests blocks p.name table s) (λ _. ⊤) (Some s) (Some (tagged p.name table s)) later (done result)
+  tags-does table later result d = does-done (tags_tests blocks p.name table s) (λ _. ⊤) (Some s) (Some (tagged p.name table s)) later result
+      (does-as (refusals (change.SetTags sig table) blocks now s) (tags_tests blocks p.name table s) (λ n. n ≡ answer_of (change.SetTags sig table) s) (λ _. ⊤) (Some s) (Some (changed_by (change.SetTags sig table) now s)) (Some (tagged p.name table s)) later
+      (tags-tests blocks now sig s p found table) (λ n good. tt) (some (tagged-as blocks now sig s p found table)) result d)
+
+  pub tags-leaves : (table : TagTable) (unit : ℕ) (old new : Moment) → LeavesChange unit (change.SetTags sig table) blocks now s old new → Leaves unit (LeavesEither readable (tags_tests blocks p.name table s) s (tagged p.name table s)) old new
+  tags-leaves table unit old new leaves = leaves-as unit readable (refusals (change.SetTags sig table) blocks now s) (tags_tests blocks p.name table s) s (changed_by (change.SetTags sig table) now s) (tagged p.name table s) old new
+      (tags-tests blocks now sig s p found table) (tagged-as blocks now sig s p found table) leaves
 
   module _ (g : RawGraph) where
     pub add-does : (later : Option Plain) (result : Result ℕ Fault) → Changes (change.Add sig g) blocks now s later result

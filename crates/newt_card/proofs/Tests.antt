@@ -1,16 +1,19 @@
 -- The refusals of a change, where what it names is there, are the tests of a command.
-use Rattle.std.proofs.Common.{Bool, ◌≡◌, ◌==◌, ◌||◌, ◌∷◌, [], ℕ, not, nat_lt, Option, Some, ◌∙◌, ap}
+use Rattle.std.proofs.Common.{Bool, ◌≡◌, ◌==◌, ◌||◌, ◌∷◌, [], ℕ, List, not, nat_lt, nat_le, length, Option, Some, ◌∙◌, ap}
 use Rattle.std.specs.Option.{is_none, option_and_then}
 use Rattle.newt_base.specs.Refusals.{Checks, first_of}
-use Rattle.newt_base.specs.declared.Refusal.TheVariants.{Soup as NoSoup, Entry as NoEntry, Notframe, Size, Ids, Full}
+use Rattle.newt_base.specs.declared.Refusal.TheVariants.{Soup as NoSoup, Entry as NoEntry, Notframe, Size, Ids, Full, Limit, Index as BadIndex}
 use Rattle.newt_graph.specs.Graph.{RawGraph}
 use Rattle.newt_image.specs.Pages.{cap}
 use Rattle.newt_laws_changes.proofs.Members.{entry_is_in}
-use Rattle.newt_laws_answers.specs.Tests.{add_tests, move_tests, moved_within, replace_tests, replaced}
+use Rattle.newt_laws_answers.specs.Tests.{add_tests, move_tests, moved_within, replace_tests, replaced, index_tests, tags_tests, tagged}
 use Rattle.newt_spec_graph.specs.Graph.{is_frame, object}
 use Rattle.newt_spec_store.specs.Cost.{cost}
-use Rattle.newt_spec_store.specs.Store.{Store as Plain, Soup, Entry, entry_of, change_soup, change_entry, drop_soup, add_entry, remove_entry}
-use Rattle.newt_store.specs.Change.{changed_by, answer_of, refusals, entry_in, changed_soup, dropped_soup, moved_entry, with_graph, next_uid_of, has_no_ids, is_too_large}
+use Rattle.newt_spec_store.specs.Keys.{IndexSpec, Path, paths_of}
+use Rattle.newt_spec_world.specs.Changed.{with_index, without_index}
+use Rattle.newt_spec_store.specs.Store.{Store as Plain, Soup, Entry, TagTable, entry_of, change_soup, change_entry, drop_soup, add_entry, remove_entry}
+use Rattle.newt_soupdir.specs.Changes.{with_tags}
+use Rattle.newt_store.specs.Change.{changed_by, answer_of, refusals, entry_in, changed_soup, dropped_soup, moved_entry, with_graph, next_uid_of, has_no_ids, is_too_large, has_paths, specs_of}
 use Rattle.newt_store.specs.declared.change.Change.TheVariants as change
 use Rattle.newt_units.specs.Cards.{soup_of}
 
@@ -24,6 +27,25 @@ module _ (blocks now sig : ℕ) (s : Plain) (p : Soup) (found : soup_of sig s �
 
   pub dropped : changed_by (change.DropSoup sig) now s ≡ drop_soup p.name s
   dropped = ap (λ (o : Option Soup). dropped_soup o s) found
+
+  pub indexed : (spec : IndexSpec) → changed_by (change.AddIndex sig spec) now s ≡ change_soup p.name (with_index spec) s
+  indexed spec = ap (λ (o : Option Soup). changed_soup o (with_index spec) s) found
+
+  pub index-tests : (spec : IndexSpec) → first_of (refusals (change.AddIndex sig spec) blocks now s) ≡ first_of (index_tests blocks p.name spec s p)
+  index-tests spec = ap (λ (o : Option Soup). first_of ((NoSoup, is_none o) ∷ (BadIndex, has_paths (paths_of spec) (specs_of o)) ∷ (Limit, nat_le 16 (length (specs_of o)))
+      ∷ (Full, nat_lt (cap blocks) (cost (changed_soup o (with_index spec) s))) ∷ [])) found
+
+  pub unindexed : (paths : List Path) → changed_by (change.DropIndex sig paths) now s ≡ change_soup p.name (without_index paths) s
+  unindexed paths = ap (λ (o : Option Soup). changed_soup o (without_index paths) s) found
+
+  pub unindex-tests : (paths : List Path) → first_of (refusals (change.DropIndex sig paths) blocks now s) ≡ first_of []
+  unindex-tests paths = ap (λ (o : Option Soup). first_of ((NoSoup, is_none o) ∷ [])) found
+
+  pub tagged-as : (table : TagTable) → changed_by (change.SetTags sig table) now s ≡ tagged p.name table s
+  tagged-as table = ap (λ (o : Option Soup). changed_soup o (with_tags (Some table)) s) found
+
+  pub tags-tests : (table : TagTable) → first_of (refusals (change.SetTags sig table) blocks now s) ≡ first_of (tags_tests blocks p.name table s)
+  tags-tests table = ap (λ (o : Option Soup). first_of ((NoSoup, is_none o) ∷ (Full, nat_lt (cap blocks) (cost (changed_soup o (with_tags (Some table)) s))) ∷ [])) found
 
   module _ (g : RawGraph) where
     pub add-tests : first_of (refusals (change.Add sig g) blocks now s) ≡ first_of (add_tests blocks now p.name g s p)

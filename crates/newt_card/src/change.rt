@@ -1,17 +1,19 @@
 //! A change of the store that is kept.
-ghost use Rattle.std.specs.Prelude.{◌≡◌, ℕ, IsTrue, Some, IfErr};
+ghost use Rattle.std.specs.Prelude.{◌≡◌, ℕ, [], IsTrue, Some, IfErr, ⊤};
 ghost use Rattle.newt_host.specs.Moments.{image, Leaves};
 ghost use Rattle.newt_host.specs.Outside.{Touches};
-ghost use Rattle.newt_spec_store.specs.Store.{Store as Plain};
+ghost use Rattle.newt_spec_store.specs.Store.{Store as Plain, Soup, change_soup};
+ghost use Rattle.newt_spec_world.specs.Changed.{without_index};
 ghost use Rattle.newt_store.specs.Change.{changed_by, answer_of, refusals};
 ghost use Rattle.newt_store.specs.Stage.{readable};
-ghost use Rattle.newt_units.specs.Cards.{LeavesEither, OthersSame};
+ghost use Rattle.newt_units.specs.Cards.{soup_of, LeavesEither, OthersSame};
 ghost use Rattle.newt_units.specs.Faults.{Does, GoesOn, FaultsAt};
 ghost use Rattle.newt_card.specs.Stands.{StandsOn};
 
+use newt_base::Sig;
 use newt_host::Host;
 use newt_pagebook::PageBook;
-use newt_store::{Change, Store, StoreFault};
+use newt_store::{Change, Paths, Store, StoreFault};
 use newt_units::Fault;
 
 /// Makes a change at a minute, and answers the new id or soup signature, else 0.
@@ -37,5 +39,29 @@ pub(crate) fn change_store<P: PageBook, H: Host>(
         Ok(answer) => Ok(answer),
         Err(StoreFault::Refused(refusal)) => Err(Fault::Refused(refusal)),
         Err(StoreFault::Stop(stop)) => Err(Fault::Stop(stop)),
+    }
+}
+
+/// Removes the index of these paths from a soup that is there.
+pub(crate) fn drop_paths<P: PageBook, H: Host>(
+    store: &mut Store<P>,
+    host: &mut H,
+    soup: Sig,
+    paths: Paths,
+) -> Result<(), Fault>
+    requires { StandsOn P.place P.numbers P.stands H.told store.old (H.outside host.old) }
+    ensures stands { GoesOn result → StandsOn P.place P.numbers P.stands H.told store.new (H.outside host.new) }
+    ensures place { P.place store.new.book ≡ P.place store.old.book }
+    ensures made { IsTrue H.told → (s : Plain) (p : Soup) → readable (image (P.place store.old.book) (H.outside host.old).now) ≡ Some s → soup_of soup s ≡ Some p →
+        Does [] (λ _. ⊤) (Some s) (Some (change_soup p.name (without_index paths) s)) (readable (image (P.place store.old.book) (H.outside host.new).now)) result }
+    ensures others { IsTrue H.told → OthersSame (P.place store.old.book) (H.outside host.old).now (H.outside host.new).now }
+    ensures any_moment { IsTrue H.told → (s : Plain) (p : Soup) → readable (image (P.place store.old.book) (H.outside host.old).now) ≡ Some s → soup_of soup s ≡ Some p →
+        Leaves (P.place store.old.book) (LeavesEither readable [] s (change_soup p.name (without_index paths) s)) (H.outside host.old).now (H.outside host.new).now }
+    ensures alone { Touches (P.place store.old.book) (H.outside host.old) (H.outside host.new) }
+    ensures cause { IfErr result (FaultsAt (P.place store.old.book) (H.outside host.old) (H.outside host.new)) }
+{
+    match change_store(store, host, Change::DropIndex(soup, paths), 0) {
+        Ok(_) => Ok(()),
+        Err(fault) => Err(fault),
     }
 }

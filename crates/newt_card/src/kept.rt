@@ -1,12 +1,15 @@
 //! A store on the card of one unit.
 ghost use Rattle.std.specs.Prelude.{◌≡◌};
 
-use crate::change::change_store;
+use crate::change::{change_store, drop_paths};
 use newt_base::{Name, Sig, Uid};
 use newt_graph::Graph;
 use newt_host::{Host, Unit};
+use newt_keys::IndexSpec;
 use newt_pagebook::{BookFault, PageBook, Stop};
-use newt_store::{Change, Store};
+use newt_path::Path;
+use newt_store::{Change, Paths, Store};
+use newt_tags::TagTable;
 use newt_units::{Card, Entry, Fault};
 use std::alloc::Global;
 
@@ -118,6 +121,37 @@ impl<P: PageBook> Card for Kept<P> {
         change_store(&mut self.store, host, Change::Move(soup, uid, target), now)
     }
 
+    fn add_index<H: Host>(
+        &mut self,
+        host: &mut H,
+        soup: Sig,
+        spec: IndexSpec,
+    ) -> Result<(), Fault> {
+        match change_store(&mut self.store, host, Change::AddIndex(soup, spec), 0) {
+            Ok(_) => Ok(()),
+            Err(fault) => Err(fault),
+        }
+    }
+
+    fn drop_index<H: Host>(
+        &mut self,
+        host: &mut H,
+        soup: Sig,
+        paths: &[Path],
+    ) -> Result<(), Fault> {
+        match Paths::copied(self.store.alloc(), paths) {
+            Ok(paths) => drop_paths(&mut self.store, host, soup, paths),
+            Err(_) => Err(Fault::Stop(Stop::Memory)),
+        }
+    }
+
+    fn set_tags<H: Host>(&mut self, host: &mut H, soup: Sig, table: TagTable) -> Result<(), Fault> {
+        match change_store(&mut self.store, host, Change::SetTags(soup, table), 0) {
+            Ok(_) => Ok(()),
+            Err(fault) => Err(fault),
+        }
+    }
+
     fn entry<H: Host>(&mut self, host: &mut H, soup: Sig, uid: Uid) -> Result<Option<Entry>, Stop> {
         match self.store.entry(host, soup, uid) {
             Ok(Some(found)) => Ok(Some(Entry {
@@ -155,6 +189,20 @@ impl<P: PageBook> Card for Kept<P> {
     fn soup_at(&self, at: usize) -> Option<(&Name, Sig)> {
         match self.store.directory().soups.list().get(at) {
             Some(row) => Some((&row.name, row.sig)),
+            None => None,
+        }
+    }
+
+    fn specs(&self, soup: Sig) -> Option<&[IndexSpec]> {
+        match self.store.directory().soup_of(soup) {
+            Some(row) => Some(row.specs.list()),
+            None => None,
+        }
+    }
+
+    fn tags(&self, soup: Sig) -> Option<&TagTable> {
+        match self.store.directory().soup_of(soup) {
+            Some(row) => row.tags.as_ref(),
             None => None,
         }
     }

@@ -9,6 +9,9 @@ uses_device (command.Format _ _ _) = true
 uses_device (command.Mount _) = true
 uses_device (command.Soup _ _) = true
 uses_device (command.Drop _ _) = true
+uses_device (command.Index _ _ _) = true
+uses_device (command.Unindex _ _ _) = true
+uses_device (command.SetTags _ _ _ _) = true
 uses_device (command.Add _ _ _) = true
 uses_device (command.Addx _ _ _) = true
 uses_device (command.Addu _ _) = true
@@ -25,5 +28,7 @@ uses_device _ = false
 abbrev pub takes_memory : Command → Bool
 takes_memory command.Stores = true
 takes_memory (command.Soups _) = true
+takes_memory (command.Indexes _ _) = true
+takes_memory (command.Tags _ _) = true
 takes_memory (command.Resolve _) = true
 takes_memory c = uses_device c

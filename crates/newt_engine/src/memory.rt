@@ -10,7 +10,7 @@ ghost use Rattle.newt_engine.specs.Groups.{on_graph};
 
 use crate::world::World;
 use newt_base::Refusal;
-use newt_reply::{Alias, Reply};
+use newt_reply::{Alias, Reply, TagRow};
 use newt_script::Command;
 use newt_units::{Card, Fault};
 
@@ -41,6 +41,11 @@ impl<C: Card> World<C> {
                 Ok(Reply::Done)
             }
             Command::Soups(unit) => Ok(Reply::Soups(self.units.soups(*unit)?)),
+            Command::Indexes(unit, name) => Ok(Reply::Indexes(self.units.indexes(*unit, name)?)),
+            Command::Tags(unit, name) => {
+                let table = self.units.tags(*unit, name)?;
+                Ok(Reply::Tags(TagRow { table }))
+            }
             Command::Alias(unit, name, uid) => {
                 let (store, soup) = self.units.alias(*unit, name, *uid)?;
                 let uid = *uid;

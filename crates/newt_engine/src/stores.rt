@@ -1,4 +1,4 @@
-//! Commands that make or open a store, or change its soups.
+//! Commands that make or open a store, or change its soups or what these declare.
 ghost use Rattle.std.specs.Prelude.{◌≡◌, true, false, IsTrue, IfErr};
 ghost use Rattle.newt_host.specs.Moments.{Always};
 ghost use Rattle.newt_reply.specs.Said.{said};
@@ -47,6 +47,18 @@ impl<C: Card> World<C> {
             Command::Soup(unit, name) => Ok(Reply::Number(self.units.soup(host, *unit, name)?)),
             Command::Drop(unit, name) => {
                 self.units.drop_soup(host, *unit, name)?;
+                Ok(Reply::Done)
+            }
+            Command::Index(unit, name, parts) => {
+                self.units.index(host, *unit, name, parts)?;
+                Ok(Reply::Done)
+            }
+            Command::Unindex(unit, name, paths) => {
+                self.units.unindex(host, *unit, name, paths)?;
+                Ok(Reply::Done)
+            }
+            Command::SetTags(unit, name, path, symbols) => {
+                self.units.set_tags(host, *unit, name, path, symbols)?;
                 Ok(Reply::Done)
             }
             _ => self.obey_in_memory(command),

@@ -8,6 +8,7 @@ pub mod Soups
 pub mod Entries
 pub mod Copies
 pub mod Replaces
+pub mod Declares
 pub mod Stores
 pub mod Resolves
 pub mod Faces

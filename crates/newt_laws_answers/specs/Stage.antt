@@ -1,9 +1,14 @@
 -- What the world answers today: until large binaries are built, a graph that has one is too large for an entry, and the commands of later stages are none. All of it is this project's own.
-use Rattle.std.specs.Prelude.{nat_le, Bool, true, false, ◌||◌, not, cond, [], ◌∷◌, map, Option, Some, None, option_map}
+use Rattle.std.specs.Prelude.{ℕ, nat_le, Bool, true, false, ◌||◌, ◌&&◌, not, cond, List, [], ◌∷◌, map, Option, Some, None, option_map}
+use Rattle.std.specs.List.{list_all}
+use Rattle.newt_base.specs.Names.{same_name}
 use Rattle.newt_base.specs.Refusals.{Checks, first_of}
 use Rattle.newt_base.specs.declared.Refusal.TheVariants.{Size, Command as NoCommand}
 use Rattle.newt_graph.specs.Graph.{RawGraph}
+use Rattle.newt_spec_graph.specs.Lists.{all_apart}
+use Rattle.newt_spec_store.specs.Keys.{Path}
 use Rattle.newt_spec_store.specs.Lies.{graph_has_no_large}
+use Rattle.newt_spec_store.specs.Valid.{valid_path, valid_symbol}
 use Rattle.newt_spec_world.specs.declared.command.Command.{Command}
 use Rattle.newt_spec_world.specs.declared.command.Command.TheVariants as command
 use Rattle.newt_spec_world.specs.World.{World, entry_in}
@@ -11,6 +16,7 @@ use Rattle.newt_spec_world.specs.Changed.{graph_after_set}
 use Rattle.newt_spec_world.specs.Reply.{Reply}
 use Rattle.newt_spec_world.specs.Refused.{Check, checks}
 use Rattle.newt_spec_world.specs.Answer.{answered}
+use Rattle.newt_laws.specs.Worlds.{parts_fit}
 
 -- the graph that a command makes an entry of, or puts in the place of an entry's
 abbrev pub new_graph : World → Command → Option RawGraph
@@ -31,7 +37,11 @@ abbrev pub staged : Option RawGraph → Check → Check
 staged new (Size, test) = (Size, has_large new || test)
 staged new check = check
 
--- the commands that are built; no line gives a signature above the largest
+-- the path and the symbols of a tags declaration are such as a line gives
+abbrev pub tags_fit : Path → List (List ℕ) → Bool
+tags_fit path symbols = valid_path path && list_all valid_symbol symbols && all_apart same_name symbols
+
+-- the commands that are built; no line gives a signature above the largest, or parts or tags of another form
 abbrev pub is_built : Command → Bool
 is_built (command.Nsof _) = true
 is_built (command.Lit _) = true
@@ -57,6 +67,11 @@ is_built (command.Copy _ _ _ _ _) = true
 is_built (command.Move _ _ _ _ _) = true
 is_built (command.Alias _ _ _) = true
 is_built (command.Resolve _) = true
+is_built (command.Index _ _ parts) = parts_fit parts
+is_built (command.Unindex _ _ _) = true
+is_built (command.Indexes _ _) = true
+is_built (command.Tags _ _) = true
+is_built (command.SetTags _ _ path symbols) = tags_fit path symbols
 is_built _ = false
 
 -- The tests of a command, in the order in which they are tried. One that is not built is refused as no command.

@@ -1,15 +1,17 @@
 -- The tests of commands, gathered by what they need to be there. Numbers, words and order of the refusals are this project's own.
-use Rattle.std.specs.Prelude.{ℕ, false, not, ◌||◌, ◌==◌, nat_lt, nat_le, List, [], ◌∷◌, length, is_some}
+use Rattle.std.specs.Prelude.{ℕ, Bool, false, not, ◌||◌, ◌==◌, nat_lt, nat_le, List, [], ◌∷◌, length, is_some}
+use Rattle.std.specs.List.{list_any}
 use Rattle.newt_base.specs.Refusals.{Checks}
-use Rattle.newt_base.specs.declared.Refusal.TheVariants.{Exists, Notframe, Limit, Size, Ids, Full}
+use Rattle.newt_base.specs.declared.Refusal.TheVariants.{Exists, Notframe, Limit, Size, Ids, Full, Index as BadIndex}
 use Rattle.newt_graph.specs.Graph.{RawGraph}
 use Rattle.newt_image.specs.Pages.{cap}
 use Rattle.newt_spec_graph.specs.Graph.{is_frame, object}
 use Rattle.newt_spec_store.specs.Cost.{cost, skeleton_length}
 use Rattle.newt_spec_store.specs.Lies.{graph_has_no_large}
-use Rattle.newt_spec_store.specs.Store.{Store, Soup, soup_named, change_soup, make_soup, change_entry, add_entry, remove_entry}
+use Rattle.newt_spec_store.specs.Keys.{IndexSpec, Path, paths_of, same_paths}
+use Rattle.newt_spec_store.specs.Store.{Store, Soup, TagTable, soup_named, change_soup, make_soup, change_entry, add_entry, remove_entry}
 use Rattle.newt_spec_world.specs.World.{World, one, change_device, change_store}
-use Rattle.newt_spec_world.specs.Changed.{new_store, with_graph}
+use Rattle.newt_spec_world.specs.Changed.{new_store, with_graph, with_index, with_tags}
 use Rattle.newt_spec_world.specs.Refused.{either, no_unit, bad_blocks, is_mounted, not_mounted, no_soup, no_entry}
 
 -- ---- whether things are there
@@ -67,6 +69,23 @@ replaced now name uid g s = change_soup name (change_entry uid (with_graph now g
 abbrev pub replace_tests : (blocks now : ℕ) → List ℕ → ℕ → RawGraph → Store → Checks
 replace_tests blocks now name uid g s =
     (Notframe, not (is_frame (object g.nodes g.root))) ∷ (Size, not (graph_has_no_large g) || nat_lt 64_000 (skeleton_length g)) ∷ (Full, nat_lt (cap blocks) (cost (replaced now name uid g s))) ∷ []
+
+-- the soup has an index of these paths
+abbrev pub has_paths : List Path → Soup → Bool
+has_paths paths p = list_any (λ spec. same_paths (paths_of spec) paths) p.specs
+
+-- what is tested of the soup and the store where an index is to be declared
+abbrev pub index_tests : (blocks : ℕ) → List ℕ → IndexSpec → Store → Soup → Checks
+index_tests blocks name spec s p =
+    (BadIndex, has_paths (paths_of spec) p) ∷ (Limit, nat_le 16 (length p.specs)) ∷ (Full, nat_lt (cap blocks) (cost (change_soup name (with_index spec) s))) ∷ []
+
+-- the store with this tags declaration of a soup
+abbrev pub tagged : List ℕ → TagTable → Store → Store
+tagged name table s = change_soup name (with_tags table.path table.symbols) s
+
+-- what is tested of the store where tags are to be declared
+abbrev pub tags_tests : (blocks : ℕ) → List ℕ → TagTable → Store → Checks
+tags_tests blocks name table s = (Full, nat_lt (cap blocks) (cost (tagged name table s))) ∷ []
 
 -- ---- worlds
 

@@ -59,6 +59,84 @@ fn reads_each_row_on_entries(rt: HostRuntime) -> Result<(), AllocError> {
 }
 
 #[test]
+fn reads_each_row_on_declarations(rt: HostRuntime) -> Result<(), AllocError> {
+    let cases: [(&[u8], &str); 11] = [
+        (
+            b"index 0 Names name.last:string:ascend",
+            "index 0 <Names> .name.last string up",
+        ),
+        (
+            b"index 7 \"To Do\" a:int:descend b:char:ascend\t c:symbol:descend d:real:ascend ",
+            "index 7 <To Do> .a int down .b char up .c symbol down .d real up",
+        ),
+        (b"unindex 0 Names name.last", "unindex 0 <Names> .name.last"),
+        (
+            b"unindex 1 A a b.C c _.d1 ",
+            "unindex 1 <A> .a .b.C .c ._.d1",
+        ),
+        (b"indexes 2 Names", "indexes 2 <Names>"),
+        (b"tags 3 Names", "tags 3 <Names>"),
+        (b"tags 3 Names\t ", "tags 3 <Names>"),
+        (
+            b"tags 0 Names labels business personal",
+            "tags 0 <Names> .labels business personal",
+        ),
+        (b"tags 0 A b.c Tag", "tags 0 <A> .b.c Tag"),
+        (b"tags 0 A b\tx  y\t\tz ", "tags 0 <A> .b x y z"),
+        (b"tags 0 A b b", "tags 0 <A> .b b"),
+    ];
+    expect_each(&rt, rt.alloc(), &cases)
+}
+
+#[test]
+fn wants_the_forms_of_parts(rt: HostRuntime) -> Result<(), AllocError> {
+    let cases: [(&[u8], &str); 16] = [
+        (b"index 0 A", "11 line"),
+        (b"index 0 A k", "11 line"),
+        (b"index 0 A k:int", "11 line"),
+        (b"index 0 A k:int:ascend:", "11 line"),
+        (b"index 0 A k:int:ascend:ascend", "11 line"),
+        (b"index 0 A k::ascend", "11 line"),
+        (b"index 0 A :int:ascend", "11 line"),
+        (b"index 0 A k:Int:ascend", "11 line"),
+        (b"index 0 A k:text:ascend", "11 line"),
+        (b"index 0 A k:int:Ascend", "11 line"),
+        (b"index 0 A k:int:up", "11 line"),
+        (b"index 0 A k :int:ascend", "11 line"),
+        (b"index 0 A 1k:int:ascend", "11 line"),
+        (b"index 0 A a..b:int:ascend", "11 line"),
+        (b"index 0 A a.b.c.d.e.f.g.h.i:int:ascend", "11 line"),
+        (
+            b"index 0 A a:int:ascend b:int:ascend c:int:ascend d:int:ascend e:int:ascend",
+            "11 line",
+        ),
+    ];
+    expect_each(&rt, rt.alloc(), &cases)
+}
+
+#[test]
+fn wants_the_forms_of_paths_and_symbols(rt: HostRuntime) -> Result<(), AllocError> {
+    let cases: [(&[u8], &str); 15] = [
+        (b"unindex 0 A", "11 line"),
+        (b"unindex 0 A a b c d e", "11 line"),
+        (b"unindex 0 A a, b", "11 line"),
+        (b"unindex 0 A a:int:ascend", "11 line"),
+        (b"unindex 8 A a", "11 line"),
+        (b"indexes 0", "11 line"),
+        (b"indexes 0 A B", "11 line"),
+        (b"tags 0", "11 line"),
+        (b"tags 0 A b", "11 line"),
+        (b"tags 0 A b. x", "11 line"),
+        (b"tags 0 A b 1x", "11 line"),
+        (b"tags 0 A b x.y", "11 line"),
+        (b"tags 0 A b x X", "11 line"),
+        (b"tags 0 A b x y x", "11 line"),
+        (b"tags 0 A b |x|", "11 line"),
+    ];
+    expect_each(&rt, rt.alloc(), &cases)
+}
+
+#[test]
 fn reads_names_bare_and_in_quotes(rt: HostRuntime) -> Result<(), AllocError> {
     let cases: [(&[u8], &str); 15] = [
         (b"soup 0 \"To Do List\"", "soup 0 <To Do List>"),
@@ -152,7 +230,7 @@ fn answers_the_first_refusal(rt: HostRuntime) -> Result<(), AllocError> {
         ),
         (b"Mount 0", "10 command"),
         (b"mount0", "10 command"),
-        (b"index 0 A k:int:ascend", "10 command"),
+        (b"Index 0 A k:int:ascend", "10 command"),
         (b"query 0 A {}", "10 command"),
     ];
     expect_each(&rt, rt.alloc(), &cases)

@@ -1,10 +1,17 @@
 //! Replies, and their lines.
+ghost use Rattle.std.specs.Prelude.{◌≡◌, ◌∷◌, [], IfOk};
 
 use newt_base::{Name, NameFault, Refusal, Sig, Uid};
-use newt_graph::Graph;
+use newt_graph::{Bytes, Graph};
 use newt_host::Unit;
+use newt_keys::{IndexPart, IndexSpec};
 use newt_lit_read::{LitFault, read_literal};
-use newt_reply::{Alias, Reply, SoupLine, SoupRows, StoreLine, StoreRows, write_reply};
+use newt_path::Path;
+use newt_reply::{
+    Alias, Reply, SoupLine, SoupRows, SpecRows, StoreLine, StoreRows, TagRow, write_reply,
+};
+use newt_spec_store::{Kind, Order};
+use newt_tags::TagTable;
 use std::alloc::{AllocError, Global};
 use std::process::Abort;
 
@@ -174,4 +181,67 @@ fn writes_soups(rt: HostRuntime) -> Result<(), AllocError> {
         Reply::Soups(three),
         b"ok Names 0 2, \"To Do\" 1 0, Cards 64 10\n",
     )
+}
+
+/// The path `a.B`.
+fn path(alloc: Global) -> Result<Path, AllocError>
+    ensures { IfOk result (λ path. path ≡ (97 ∷ []) ∷ (66 ∷ []) ∷ []) }
+{
+    let first = Bytes::of(vec![in alloc; b'a']?);
+    let second = Bytes::of(vec![in alloc; b'B']?);
+    Ok(Path::of(vec![in alloc; first, second]?))
+}
+
+/// A part of an index at the path `a.B`.
+fn part(alloc: Global, kind: Kind, order: Order) -> Result<IndexPart, AllocError>
+    ensures { IfOk result (λ part. part ≡ record { path = (97 ∷ []) ∷ (66 ∷ []) ∷ []; kind = kind; order = order }) }
+{
+    let path = path(alloc)?;
+    Ok(IndexPart { path, kind, order })
+}
+
+/// An index of one part.
+fn one_part(alloc: Global) -> Result<IndexSpec, AllocError> {
+    let text = part(alloc, Kind::Text, Order::Ascend)?;
+    Ok(IndexSpec::new(vec![in alloc; text]?))
+}
+
+/// An index of three parts.
+fn three_parts(alloc: Global) -> Result<IndexSpec, AllocError> {
+    let number = part(alloc, Kind::Int, Order::Descend)?;
+    let character = part(alloc, Kind::Char, Order::Ascend)?;
+    let symbol = part(alloc, Kind::Symbol, Order::Descend)?;
+    Ok(IndexSpec::new(vec![in alloc; number, character, symbol]?))
+}
+
+#[test]
+fn writes_indexes(rt: HostRuntime) -> Result<(), AllocError> {
+    let alloc = rt.alloc();
+    let none = SpecRows::of(Vec::new(alloc));
+    expect(&rt, alloc, Reply::Indexes(none), b"ok\n")?;
+    let two = SpecRows::of(vec![in alloc; one_part(alloc)?, three_parts(alloc)?]?);
+    expect(
+        &rt,
+        alloc,
+        Reply::Indexes(two),
+        b"ok a.B:string:ascend, a.B:int:descend a.B:char:ascend a.B:symbol:descend\n",
+    )
+}
+
+/// The tags `x` and `Y` at the path `a.B`.
+fn two_tags(alloc: Global) -> Result<TagTable, AllocError> {
+    let path = path(alloc)?;
+    let first = Bytes::of(vec![in alloc; b'x']?);
+    let second = Bytes::of(vec![in alloc; b'Y']?);
+    Ok(TagTable::new(path, vec![in alloc; first, second]?))
+}
+
+#[test]
+fn writes_tags(rt: HostRuntime) -> Result<(), AllocError> {
+    let alloc = rt.alloc();
+    let none = TagRow { table: None };
+    expect(&rt, alloc, Reply::Tags(none), b"ok\n")?;
+    let table = two_tags(alloc)?;
+    let two = TagRow { table: Some(table) };
+    expect(&rt, alloc, Reply::Tags(two), b"ok a.B x Y\n")
 }

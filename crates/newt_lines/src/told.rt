@@ -6,6 +6,8 @@ use newt_host::Unit;
 use newt_lit_print::print_literal;
 use newt_path::Path;
 use newt_script::{Command, LineFault, line};
+use newt_spec_store::{Kind, Order};
+use newt_spec_world::{PartWord, Syms};
 use std::alloc::{AllocError, Global};
 use std::str;
 
@@ -123,6 +125,78 @@ fn told_of_places(alloc: Global, command: &Command) -> Result<String, AllocError
         }
         Command::Alias(unit, name, uid) => entry_words(alloc, "alias", *unit, name, *uid),
         Command::Resolve(graph) => with_graph(alloc, "resolve", graph),
+        _ => told_of_declarations(alloc, command),
+    }
+}
+
+fn kind_text(kind: Option<Kind>) -> &'static str {
+    match kind {
+        None => "real",
+        Some(Kind::Text) => "string",
+        Some(Kind::Int) => "int",
+        Some(Kind::Char) => "char",
+        Some(Kind::Symbol) => "symbol",
+    }
+}
+
+fn order_text(order: Order) -> &'static str {
+    match order {
+        Order::Ascend => "up",
+        Order::Descend => "down",
+    }
+}
+
+/// Parts of an index, with a space before each.
+fn with_parts(alloc: Global, front: &str, parts: &[PartWord]) -> Result<String, AllocError> {
+    let mut text = String::from_str(alloc, front)?;
+    for part in parts {
+        let points = points(alloc, &part.path)?;
+        let kind = kind_text(part.kind);
+        let order = order_text(part.order);
+        text = format!(in alloc; "{text} {points} {kind} {order}")?;
+    }
+    Ok(text)
+}
+
+/// Paths, with a space before each.
+fn with_paths(alloc: Global, front: &str, paths: &[Path]) -> Result<String, AllocError> {
+    let mut text = String::from_str(alloc, front)?;
+    for path in paths {
+        let points = points(alloc, path)?;
+        text = format!(in alloc; "{text} {points}")?;
+    }
+    Ok(text)
+}
+
+/// Symbols, with a space before each.
+fn with_symbols(alloc: Global, front: &str, symbols: &Syms) -> Result<String, AllocError> {
+    let mut text = String::from_str(alloc, front)?;
+    for symbol in symbols.list() {
+        let symbol = str::from_utf8(symbol.list()).unwrap_or("");
+        text = format!(in alloc; "{text} {symbol}")?;
+    }
+    Ok(text)
+}
+
+/// A command on the indexes and tags of a soup.
+fn told_of_declarations(alloc: Global, command: &Command) -> Result<String, AllocError> {
+    match command {
+        Command::Index(unit, name, parts) => {
+            let front = soup_words(alloc, "index", *unit, name)?;
+            with_parts(alloc, front.as_str(), parts.list())
+        }
+        Command::Unindex(unit, name, paths) => {
+            let front = soup_words(alloc, "unindex", *unit, name)?;
+            with_paths(alloc, front.as_str(), paths.list())
+        }
+        Command::Indexes(unit, name) => soup_words(alloc, "indexes", *unit, name),
+        Command::Tags(unit, name) => soup_words(alloc, "tags", *unit, name),
+        Command::SetTags(unit, name, path, symbols) => {
+            let front = soup_words(alloc, "tags", *unit, name)?;
+            let points = points(alloc, path)?;
+            let front = format!(in alloc; "{front} {points}")?;
+            with_symbols(alloc, front.as_str(), symbols)
+        }
         _ => String::from_str(alloc, "a command that is not built"),
     }
 }

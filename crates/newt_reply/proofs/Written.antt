@@ -1,12 +1,14 @@
 -- The texts of replies, from their fields.
-use Rattle.std.proofs.Common.{◌≡◌, ℕ, List, [], ◌∷◌, ◌++◌, map, codes, decimal, refl, ap, ◌∙◌}
+use Rattle.std.proofs.Common.{◌≡◌, ℕ, List, [], ◌∷◌, ◌++◌, map, Some, None, codes, decimal, refl, ap, ◌∙◌}
 use Rattle.newt_base.specs.Text.{decimal_text, decimal_text-decimal, hex_text}
 use Rattle.newt_graph.specs.Graph.{RawGraph}
 use Rattle.newt_lit.specs.Printed as printed
 use Rattle.newt_nsof.specs.Written.{nsof}
+use Rattle.newt_spec_store.specs.Keys.{IndexSpec}
+use Rattle.newt_spec_store.specs.Store.{TagTable}
 use Rattle.newt_spec_world.specs.Reply as world
-use Rattle.newt_spec_world.specs.Reply.{items, spaced, name_field}
-use Rattle.newt_reply.specs.Fields.{written, ok_text, store_item, soup_item, alias_item}
+use Rattle.newt_spec_world.specs.Reply.{items, spaced, name_field, path_field}
+use Rattle.newt_reply.specs.Fields.{written, ok_text, store_item, soup_item, part_item, spec_item, alias_item}
 use Rattle.newt_reply.specs.Said.{store_row, soup_row}
 use Rattle.newt_reply.specs.declared.rows.StoreLine.{StoreLine}
 use Rattle.newt_reply.specs.declared.rows.SoupLine.{SoupLine}
@@ -63,6 +65,18 @@ unfolding written ok_text
 soups_text lines =
     ap (λ rows. ok_text (items rows ∷ []))
     (same_items (λ (r : List ℕ × ℕ × ℕ). spaced (name_field r.0 ∷ decimal_text r.1 ∷ decimal_text r.2 ∷ [])) soup_row soup_item soup_item_is lines)
+
+pub specs_text : (specs : List IndexSpec) → written (world.indexes specs) ≡ ok_text (items (map spec_item specs) ∷ [])
+unfolding written ok_text spec_item part_item
+specs_text specs = refl
+
+pub no_tags_text : written (world.tags None) ≡ ok_text ([] ∷ [])
+unfolding written ok_text
+no_tags_text = refl
+
+pub tags_text : (table : TagTable) → written (world.tags (Some table)) ≡ ok_text (path_field table.path ∷ table.symbols)
+unfolding written ok_text
+tags_text table = refl
 
 pub nsof_text : (g : RawGraph) → written (world.nsof_of g) ≡ ok_text (hex_text (nsof g) ∷ [])
 unfolding written ok_text

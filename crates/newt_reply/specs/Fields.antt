@@ -1,7 +1,8 @@
 -- Parts of the texts of replies, with std's decimals. The text of a whole reply stays closed in proofs.
-use Rattle.std.specs.Prelude.{ℕ, Bool, ◌||◌, ◌==◌, List, [], ◌∷◌, ◌++◌, flat_map, codes, decimal}
+use Rattle.std.specs.Prelude.{ℕ, Bool, ◌||◌, ◌==◌, List, [], ◌∷◌, ◌++◌, map, flat_map, codes, decimal}
 use Rattle.newt_lit.specs.Printed.{escaped}
-use Rattle.newt_spec_world.specs.Reply.{Reply, reply_text, ok, items, spaced, name_field}
+use Rattle.newt_spec_store.specs.Keys.{IndexSpec, IndexPart}
+use Rattle.newt_spec_world.specs.Reply.{Reply, reply_text, ok, items, spaced, name_field, part_field}
 use Rattle.newt_reply.specs.declared.rows.StoreLine.{StoreLine}
 use Rattle.newt_reply.specs.declared.rows.SoupLine.{SoupLine}
 
@@ -28,6 +29,14 @@ store_item line = spaced (decimal line.unit ∷ decimal line.sig ∷ name_field 
 -- a soup in a list: its name, its signature and how many entries it has
 unfoldable pub soup_item : SoupLine → List ℕ
 soup_item line = spaced (name_field line.name ∷ decimal line.sig ∷ decimal line.count ∷ [])
+
+-- a part of an index
+unfoldable pub part_item : IndexPart → List ℕ
+part_item = part_field
+
+-- an index in a list: its parts
+unfoldable pub spec_item : IndexSpec → List ℕ
+spec_item parts = spaced (map part_item parts)
 
 -- an alias as a literal
 unfoldable pub alias_item : ℕ → ℕ → ℕ → List ℕ

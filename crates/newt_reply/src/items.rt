@@ -1,10 +1,12 @@
-//! Lists in replies: the mounted stores, and the soups of a store.
+//! Lists in replies: the mounted stores, the soups of a store, and the indexes of a soup.
 ghost use Rattle.std.specs.Prelude.{◌≡◌, ◌∷◌, [], ◌++◌, IfOk, OnOk, codes, map, if◌then◌else◌};
 ghost use Rattle.newt_spec_world.specs.Reply.{items, spaced};
-ghost use Rattle.newt_reply.specs.Fields.{store_item, soup_item};
+ghost use Rattle.newt_reply.specs.Fields.{store_item, soup_item, spec_item};
 
+use crate::declared::spec_text;
 use crate::fields::{name_text, number_text};
 use crate::rows::{SoupLine, StoreLine};
+use newt_keys::IndexSpec;
 use std::alloc::{AllocError, Global};
 
 /// An item behind a comma and a space, unless it is the first.
@@ -80,6 +82,18 @@ fn push_soup(
     push_item(text, first, &soup_text(alloc, line)?)
 }
 
+/// An index behind the ones before it.
+fn push_spec(
+    alloc: Global,
+    text: &mut Vec<u8>,
+    first: bool,
+    spec: &IndexSpec,
+) -> Result<(), AllocError>
+    ensures { OnOk result (text.new.items ≡ (if first then text.old.items ++ spec_item spec.now else text.old.items ++ codes ", " ++ spec_item spec.now)) }
+{
+    push_item(text, first, &spec_text(alloc, spec)?)
+}
+
 /// The mounted stores.
 pub fn stores_text(alloc: Global, lines: &[StoreLine]) -> Result<Vec<u8>, AllocError>
     ensures { IfOk result (λ text. text.items ≡ items (map store_item lines.now)) }
@@ -98,6 +112,17 @@ pub fn soups_text(alloc: Global, lines: &[SoupLine]) -> Result<Vec<u8>, AllocErr
     let mut text = Vec::new(alloc);
     for (index, line) in lines.iter().enumerate() {
         push_soup(alloc, &mut text, index == 0, line)?;
+    }
+    Ok(text)
+}
+
+/// The indexes of a soup.
+pub fn specs_text(alloc: Global, specs: &[IndexSpec]) -> Result<Vec<u8>, AllocError>
+    ensures { IfOk result (λ text. text.items ≡ items (map spec_item specs.now)) }
+{
+    let mut text = Vec::new(alloc);
+    for (index, spec) in specs.iter().enumerate() {
+        push_spec(alloc, &mut text, index == 0, spec)?;
     }
     Ok(text)
 }

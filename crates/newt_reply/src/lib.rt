@@ -1,11 +1,12 @@
 //! Replies of the program, and their lines of text.
 //!
 //! Stands on the refusals and the texts of numbers of `newt_base`, the graphs of `newt_graph`, the
-//! writers of object streams and literals, and the definition of replies in `newt_spec_world`. It
-//! carries the promise that the text of a reply is exact: `write_reply` gives the one line that is
-//! defined of it.
+//! declarations of `newt_keys` and `newt_tags`, the writers of object streams and literals, and the
+//! definition of replies in `newt_spec_world`. It carries the promise that the text of a reply is
+//! exact: `write_reply` gives the one line that is defined of it.
 #![tactic(auto)]
 
+mod declared;
 mod fields;
 mod items;
 mod line;
@@ -14,5 +15,5 @@ mod rows;
 mod write;
 
 pub use reply::{Alias, Reply};
-pub use rows::{SoupLine, SoupRows, StoreLine, StoreRows};
+pub use rows::{SoupLine, SoupRows, SpecRows, StoreLine, StoreRows, TagRow};
 pub use write::write_reply;

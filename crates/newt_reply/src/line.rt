@@ -6,7 +6,7 @@ ghost use Rattle.newt_reply.specs.Fields.{ok_text};
 use std::alloc::{AllocError, Global};
 
 /// A field after a space. One that is empty is left out with its space.
-fn push_field(line: &mut Vec<u8>, field: &[u8]) -> Result<(), AllocError>
+pub fn push_field(line: &mut Vec<u8>, field: &[u8]) -> Result<(), AllocError>
     ensures { OnOk result (line.new.items ≡ line.old.items ++ spec.field field.now) }
 {
     if !field.is_empty() {
@@ -17,7 +17,6 @@ fn push_field(line: &mut Vec<u8>, field: &[u8]) -> Result<(), AllocError>
 }
 
 /// `ok` and the fields, with the end of the line.
-
 pub fn ok_line(alloc: Global, fields: &[&[u8]]) -> Result<Vec<u8>, AllocError>
     ensures { IfOk result (λ line. line.items ≡ ok_text (map (λ part. part.now) fields.now)) }
 {

@@ -1,6 +1,6 @@
 //! What is answered to a command.
 
-use crate::rows::{SoupRows, StoreRows};
+use crate::rows::{SoupRows, SpecRows, StoreRows, TagRow};
 use newt_base::{Name, Refusal, Sig, Uid};
 use newt_graph::Graph;
 use newt_host::Unit;
@@ -28,6 +28,10 @@ pub enum Reply {
     Stores(StoreRows),
     /// The soups of a store.
     Soups(SoupRows),
+    /// The indexes of a soup.
+    Indexes(SpecRows),
+    /// The tags declaration of a soup, with nothing to show where there is none.
+    Tags(TagRow),
     /// A graph, shown as the hexadecimal text of its object stream.
     Nsof(Graph),
     /// A graph, shown as the literal that is printed of it.

@@ -1,8 +1,10 @@
-//! What is told of stores and soups, one line each.
+//! What is told of stores and soups, of the indexes of a soup, and of its tags.
 ghost use Rattle.std.specs.Prelude.{◌≡◌};
 
 use newt_base::{Name, Sig};
 use newt_host::Unit;
+use newt_keys::IndexSpec;
+use newt_tags::TagTable;
 use std::marker::Model;
 
 /// A mounted store.
@@ -77,4 +79,39 @@ impl SoupRows {
     {
         self.items.as_slice()
     }
+}
+
+/// The indexes of a soup, in order of making.
+#[derive(Drop)]
+pub struct SpecRows {
+    items: Vec<IndexSpec>,
+}
+
+impl Model for SpecRows {
+    ghost use Rattle.std.specs.Prelude.{List};
+    ghost use Rattle.newt_spec_store.specs.Keys.{IndexSpec};
+
+    ghost Value = { List IndexSpec };
+
+    ghost view = { λ rows. rows.items.items };
+}
+
+impl SpecRows {
+    pub fn of(items: Vec<IndexSpec>) -> Self
+        ensures { result ≡ items.items }
+    {
+        SpecRows { items }
+    }
+
+    pub fn list(&self) -> &[IndexSpec]
+        ensures { result.now ≡ self.now }
+    {
+        self.items.as_slice()
+    }
+}
+
+/// The tags declaration of a soup, where it has one.
+#[derive(Drop)]
+pub struct TagRow {
+    pub table: Option<TagTable>,
 }

@@ -1,17 +1,20 @@
 //! The text of a reply.
-ghost use Rattle.std.specs.Prelude.{◌≡◌, ◌∷◌, [], ◌++◌, IfOk};
+ghost use Rattle.std.specs.Prelude.{◌≡◌, ◌∷◌, [], ◌++◌, Some, IfOk};
 ghost use Rattle.newt_spec_world.specs.Reply as spec;
 ghost use Rattle.newt_reply.specs.Fields.{ok_text, written};
 ghost use Rattle.newt_reply.specs.Said.{said};
 
+use crate::declared::{names_line, path_text};
 use crate::fields::{alias_literal, name_text, number_text, stream_text};
-use crate::items::{soups_text, stores_text};
+use crate::items::{soups_text, specs_text, stores_text};
 use crate::line::ok_line;
 use crate::reply::Reply;
+use crate::rows::TagRow;
 use newt_base::{Name, Refusal, Sig, Uid};
 use newt_graph::Graph;
 use newt_host::Unit;
 use newt_lit_print::print_literal;
+use newt_tags::TagTable;
 use std::alloc::{AllocError, Global};
 
 /// `error`, the number and the word of a refusal.
@@ -81,8 +84,28 @@ fn one_field(alloc: Global, field: &[u8]) -> Result<Vec<u8>, AllocError>
     ok_line(alloc, &[field])
 }
 
+/// The path and the symbols of a tags declaration.
+#[tactic(auto, using(crate::proofs::Written::tags_text))]
+fn table_line(alloc: Global, table: &TagTable) -> Result<Vec<u8>, AllocError>
+    ensures { IfOk result (λ line. line.items ≡ written (spec.tags (Some table.now))) }
+{
+    let path = path_text(alloc, table.path())?;
+    names_line(alloc, &path, table.symbols())
+}
+
+/// The tags declaration of a soup, with no fields where there is none.
+#[tactic(auto, using(crate::proofs::Written::no_tags_text))]
+fn tags_line(alloc: Global, row: &TagRow) -> Result<Vec<u8>, AllocError>
+    ensures { IfOk result (λ line. line.items ≡ written (spec.tags row.now.table)) }
+{
+    match &row.table {
+        Some(table) => table_line(alloc, table),
+        None => one_field(alloc, b""),
+    }
+}
+
 /// The line of a reply.
-#[tactic(auto, using(crate::proofs::Written::done_text, crate::proofs::Written::nil_text, crate::proofs::Written::number_text, crate::proofs::Written::stores_text, crate::proofs::Written::soups_text, crate::proofs::Written::nsof_text, crate::proofs::Written::literal_text, crate::proofs::Written::alias_text))]
+#[tactic(auto, using(crate::proofs::Written::done_text, crate::proofs::Written::nil_text, crate::proofs::Written::number_text, crate::proofs::Written::stores_text, crate::proofs::Written::soups_text, crate::proofs::Written::specs_text, crate::proofs::Written::nsof_text, crate::proofs::Written::literal_text, crate::proofs::Written::alias_text))]
 fn line_of(alloc: Global, reply: &Reply) -> Result<Vec<u8>, AllocError>
     ensures { IfOk result (λ line. line.items ≡ written (said reply.now)) }
 {
@@ -93,6 +116,8 @@ fn line_of(alloc: Global, reply: &Reply) -> Result<Vec<u8>, AllocError>
         Reply::Store(sig, name) => store_line(alloc, *sig, name),
         Reply::Stores(lines) => one_field(alloc, &stores_text(alloc, lines.list())?),
         Reply::Soups(lines) => one_field(alloc, &soups_text(alloc, lines.list())?),
+        Reply::Indexes(specs) => one_field(alloc, &specs_text(alloc, specs.list())?),
+        Reply::Tags(row) => tags_line(alloc, row),
         Reply::Nsof(graph) => one_field(alloc, &stream_text(alloc, graph)?),
         Reply::Literal(graph) => one_field(alloc, &print_literal(alloc, graph)?),
         Reply::Timed(time, graph) => timed_line(alloc, *time, graph),

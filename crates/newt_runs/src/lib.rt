@@ -6,6 +6,8 @@
 #[cfg(test)]
 mod crashes;
 #[cfg(test)]
+mod declared;
+#[cfg(test)]
 mod every;
 #[cfg(test)]
 mod faults;

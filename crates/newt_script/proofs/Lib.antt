@@ -5,3 +5,6 @@ pub mod Forms
 pub mod RowTable
 pub mod Returns
 pub mod Spoken
+pub mod WordLists
+pub mod Pieces
+pub mod ListedRows

@@ -65,7 +65,7 @@ ends_in_stream f rest = go (hex_bytes (trimmed rest)) refl
 
 -- ---- words that are read one after another
 
-abbrev mapped : {A B : Type 0} → (A → B) → Result (A × List ℕ) Refusal → Result (B × List ℕ) Refusal
+abbrev pub mapped : {A B : Type 0} → (A → B) → Result (A × List ℕ) Refusal → Result (B × List ℕ) Refusal
 mapped f (Err r) = Err r
 mapped f (Ok (a, rest)) = Ok (f a, rest)
 
@@ -83,7 +83,7 @@ stream_after : {A : Type 0} (f : A → RawGraph → Command) (r : Result (A × L
 stream_after f (Err r) = refl
 stream_after f (Ok (a, rest)) = ends_in_stream (f a) rest
 
-then_after : {A : Type 0} (k : A → List ℕ → Result (Command × List ℕ) Refusal) (r : Result (A × List ℕ) Refusal)
+pub then_after : {A : Type 0} (k : A → List ℕ → Result (Command × List ℕ) Refusal) (r : Result (A × List ℕ) Refusal)
     → reading (ended (then_read r k)) ≡ after r (λ a rest. reading (ended (k a rest)))
 then_after k (Err r) = refl
 then_after k (Ok (a, rest)) = refl
@@ -96,7 +96,7 @@ module _ {A B R : Type 0} (p : Reader A) (q : Reader B) where
       go (Err r) = refl
       go (Ok (a, rest)) = refl
 
-  two : (f : A → B → R) (cs : List ℕ) → of2 p q f cs ≡ mapped (λ (x : A × B). f x.0 x.1) (of2 p q (λ a b. (a, b)) cs)
+  pub two : (f : A → B → R) (cs : List ℕ) → of2 p q f cs ≡ mapped (λ (x : A × B). f x.0 x.1) (of2 p q (λ a b. (a, b)) cs)
   two f cs = go (p cs)
     where
       inner : (a : A) (r : Result (B × List ℕ) Refusal)
@@ -110,7 +110,7 @@ module _ {A B R : Type 0} (p : Reader A) (q : Reader B) where
       go (Ok (a, rest)) = inner a (q rest)
 
   -- the first two, and what follows
-  two_then : (k : A → B → Reader R) (cs : List ℕ) → then_read (p cs) (λ a rest. then_read (q rest) (k a)) ≡ then_read (of2 p q (λ a b. (a, b)) cs) (λ (x : A × B). k x.0 x.1)
+  pub two_then : (k : A → B → Reader R) (cs : List ℕ) → then_read (p cs) (λ a rest. then_read (q rest) (k a)) ≡ then_read (of2 p q (λ a b. (a, b)) cs) (λ (x : A × B). k x.0 x.1)
   two_then k cs = go (p cs)
     where
       inner : (a : A) (r : Result (B × List ℕ) Refusal)
@@ -170,7 +170,7 @@ unfolding row_reading
 row_resolve cs = ends_in_literal command.Resolve cs
 
 -- rows of one word
-one_word : {A : Type 0} (p : Reader A) (f : A → Command) (cs : List ℕ) → reading (whole (of1 p f) cs) ≡ after (p cs) (λ a rest. finished rest (f a))
+pub one_word : {A : Type 0} (p : Reader A) (f : A → Command) (cs : List ℕ) → reading (whole (of1 p f) cs) ≡ after (p cs) (λ a rest. finished rest (f a))
 one_word p f cs = ap (λ r. reading (ended r)) (one p p f cs) ∙ whole_after f (p cs)
 
 pub row_time : (cs : List ℕ) → row_reading (codes "time") cs ≡ after (number_of cs) (λ a rest. finished rest (command.Time a))
@@ -198,7 +198,7 @@ unfolding row_reading name_of
 row_addu cs = ap (λ r. reading (with_literal r)) (one name name (λ s g. command.Addu s g) cs) ∙ literal_after (λ s g. command.Addu s g) (name cs)
 
 -- rows that begin with a soup
-two_words : {A B : Type 0} (p : Reader A) (q : Reader B) (f : A → B → Command) (cs : List ℕ)
+pub two_words : {A B : Type 0} (p : Reader A) (q : Reader B) (f : A → B → Command) (cs : List ℕ)
     → reading (whole (of2 p q f) cs) ≡ after (of2 p q (λ a b. (a, b)) cs) (λ (x : A × B) rest. finished rest (f x.0 x.1))
 two_words {A} {B} p q f cs = ap (λ r. reading (ended r)) (two p q f cs) ∙ whole_after (λ (x : A × B). f x.0 x.1) (of2 p q (λ a b. (a, b)) cs)
 
@@ -223,12 +223,12 @@ row_addx cs =
     ∙ stream_after (λ (x : ℕ × List ℕ) g. command.Addx x.0 x.1 g) (of2 unit name (λ u s. (u, s)) cs)
 
 -- the same, pointwise
-after_same : {A : Type 0} (f g : A → List ℕ → Reading) → ((a : A) (rest : List ℕ) → f a rest ≡ g a rest) → (r : Result (A × List ℕ) Refusal) → after r f ≡ after r g
+pub after_same : {A : Type 0} (f g : A → List ℕ → Reading) → ((a : A) (rest : List ℕ) → f a rest ≡ g a rest) → (r : Result (A × List ℕ) Refusal) → after r f ≡ after r g
 after_same f g same (Err r) = refl
 after_same f g same (Ok (a, rest)) = same a rest
 
 -- a soup, and one word more
-soup_and_word : {A B C : Type 0} (p : Reader A) (q : Reader B) (r : Reader C) (f : A → B → C → Command) (cs : List ℕ)
+pub soup_and_word : {A B C : Type 0} (p : Reader A) (q : Reader B) (r : Reader C) (f : A → B → C → Command) (cs : List ℕ)
     → reading (whole (of3 p q r f) cs) ≡ after (of2 p q (λ a b. (a, b)) cs) (λ (x : A × B) rest. after (r rest) (λ c rest. finished rest (f x.0 x.1 c)))
 soup_and_word {A} {B} p q r f cs =
     ap (λ o. reading (ended o)) (two_then p q (λ a b. of1 r (f a b)) cs)

@@ -58,6 +58,10 @@ word_is_built verb.Copy = refl
 word_is_built verb.Move = refl
 word_is_built verb.Alias = refl
 word_is_built verb.Resolve = refl
+word_is_built verb.Index = refl
+word_is_built verb.Unindex = refl
+word_is_built verb.Indexes = refl
+word_is_built verb.Tags = refl
 
 row_of_word : (word rest : List ℕ) → reading (row_of word rest) ≡ row_reading word rest
 unfolding row_reading

@@ -2,5 +2,6 @@ pub mod Graphs
 pub mod Stage
 pub mod Verbs
 pub mod Names
+pub mod Listed
 pub mod Readers
 pub mod Lines

@@ -16,12 +16,19 @@ entry_words =
     codes "add" ∷ codes "addx" ∷ codes "addu" ∷ codes "get" ∷ codes "getx" ∷ codes "set" ∷ codes "change" ∷ codes "remove" ∷ codes "copy"
     ∷ codes "move" ∷ codes "alias" ∷ codes "resolve" ∷ []
 
+-- and those on the indexes and tags of a soup
+abbrev pub declaring_words : List (List ℕ)
+declaring_words = codes "index" ∷ codes "unindex" ∷ codes "indexes" ∷ codes "tags" ∷ []
+
 abbrev pub is_entry_word : List ℕ → Bool
 is_entry_word word = list_any (λ built. bytes_eq word built) entry_words
 
+abbrev pub is_declaring_word : List ℕ → Bool
+is_declaring_word word = list_any (λ built. bytes_eq word built) declaring_words
+
 -- the word of a command that is built
 abbrev pub is_built : List ℕ → Bool
-is_built word = list_any (λ built. bytes_eq word built) store_words || is_entry_word word
+is_built word = list_any (λ built. bytes_eq word built) store_words || is_entry_word word || is_declaring_word word
 
 -- what a line says while not all commands are built: as the table has it, but a word that is not built is no command; a line that is too long is
 -- refused as such before

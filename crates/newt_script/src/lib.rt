@@ -8,12 +8,16 @@
 //! is no command: `specs/Stage` lists the words of those that are.
 #![tactic(auto)]
 
+mod declaring_rows;
 mod entry_rows;
 mod fault;
 mod graphs;
 mod lines;
+mod listed;
 mod names;
+mod parts;
 mod store_rows;
+mod symbols;
 mod table;
 mod verbs;
 mod words;

@@ -1,6 +1,6 @@
 //! The first words of commands.
 ghost use Rattle.std.specs.Prelude.{◌≡◌, MatchOption, false};
-ghost use Rattle.newt_script.specs.Stage.{is_built, is_entry_word};
+ghost use Rattle.newt_script.specs.Stage.{is_built, is_entry_word, is_declaring_word};
 ghost use Rattle.newt_script.specs.Verbs.{word_of};
 
 /// The first word of a command.
@@ -30,6 +30,10 @@ pub enum Verb {
     Move,
     Alias,
     Resolve,
+    Index,
+    Unindex,
+    Indexes,
+    Tags,
 }
 
 /// The command that a word names.
@@ -61,7 +65,10 @@ pub fn named(word: &[u8]) -> Option<Verb>
     } else if word == b"drop".as_slice() {
         Some(Verb::Drop)
     } else {
-        named_entry(word)
+        match named_entry(word) {
+            Some(verb) => Some(verb),
+            None => named_declaring(word),
+        }
     }
 }
 
@@ -93,6 +100,23 @@ fn named_entry(word: &[u8]) -> Option<Verb>
         Some(Verb::Alias)
     } else if word == b"resolve".as_slice() {
         Some(Verb::Resolve)
+    } else {
+        None
+    }
+}
+
+/// The same of the commands on the indexes and tags of a soup.
+fn named_declaring(word: &[u8]) -> Option<Verb>
+    ensures { MatchOption result (is_declaring_word word.now ≡ false) (λ verb. word.now ≡ word_of verb) }
+{
+    if word == b"index".as_slice() {
+        Some(Verb::Index)
+    } else if word == b"unindex".as_slice() {
+        Some(Verb::Unindex)
+    } else if word == b"indexes".as_slice() {
+        Some(Verb::Indexes)
+    } else if word == b"tags".as_slice() {
+        Some(Verb::Tags)
     } else {
         None
     }

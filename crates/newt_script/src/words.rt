@@ -6,14 +6,17 @@ ghost use Rattle.newt_spec_script.specs.Words as spec;
 ghost use Rattle.newt_spec_script.specs.Line.{first_word};
 ghost use Rattle.newt_script.specs.Readers.{unit_of, number_of, sig_of, name_of, soup_of, entry_of, path_word, rest_of, is_ended};
 ghost use Rattle.newt_script.specs.Graphs.{literal_word, stream_word};
+ghost use Rattle.newt_script.specs.Listed.{parts_in, paths_in, symbols_in};
 
 use crate::fault::LineFault;
 use crate::graphs::{literal_word, stream_word};
+use crate::listed::{parts_in, paths_in, symbols_in};
 use crate::names::name_from;
 use newt_base::{Name, Sig, Uid, decimal};
 use newt_graph::Graph;
 use newt_host::Unit;
 use newt_path::{Path, PathFault};
+use newt_spec_world::{Parts, Paths, Syms};
 use std::alloc::Global;
 use std::marker::Model;
 
@@ -137,12 +140,19 @@ impl<'a> Words<'a> {
         trimmed(self.rest)
     }
 
-    /// Ok where nothing but blanks is left.
+    /// Whether nothing but blanks is left.
     #[tactic(auto, unfolding(crate::specs::Readers::is_ended))]
+    pub fn is_ended(&self) -> bool
+        ensures { result ≡ is_ended self.now }
+    {
+        self.rest().is_empty()
+    }
+
+    /// Ok where nothing but blanks is left.
     pub fn end(&self) -> Result<(), LineFault>
         ensures { MatchResult result (λ _. is_ended self.now ≡ true) (λ fault. (fault ≡ LineFault.Refused NotTheForm) × (is_ended self.now ≡ false)) }
     {
-        if self.rest().is_empty() {
+        if self.is_ended() {
             Ok(())
         } else {
             Err(LineFault::FORM)
@@ -227,6 +237,27 @@ impl<'a> Words<'a> {
             Err(PathFault::Path) => Err(LineFault::FORM),
             Err(PathFault::Memory) => Err(LineFault::Memory),
         }
+    }
+
+    /// PART..: the parts of an index that are left, 1 to 4.
+    pub fn parts(&self, alloc: Global) -> Result<Parts, LineFault>
+        ensures { result ≢ Err LineFault.Memory → result ≡ parts_in self.now }
+    {
+        parts_in(alloc, self.rest)
+    }
+
+    /// PATH..: the paths that are left, 1 to 4.
+    pub fn paths(&self, alloc: Global) -> Result<Paths, LineFault>
+        ensures { result ≢ Err LineFault.Memory → result ≡ paths_in self.now }
+    {
+        paths_in(alloc, self.rest)
+    }
+
+    /// SYM..: the symbols that are left, one or more, no two of them one but for ASCII case.
+    pub fn symbols(&self, alloc: Global) -> Result<Syms, LineFault>
+        ensures { result ≢ Err LineFault.Memory → result ≡ symbols_in self.now }
+    {
+        symbols_in(alloc, self.rest)
     }
 
     /// LIT: the graph of the literal that is left.

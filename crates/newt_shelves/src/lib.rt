@@ -14,6 +14,8 @@ mod crash_tests;
 #[cfg(test)]
 mod crashes;
 #[cfg(test)]
+mod declare_tests;
+#[cfg(test)]
 mod filling;
 #[cfg(test)]
 mod flips;

@@ -15,7 +15,8 @@ use Rattle.newt_pagebook.specs.Book.{Numbers, IsOpenFor}
 use Rattle.newt_spec_store.specs.Store.{Soup, Store, remove_entry}
 use Rattle.newt_spec_store.specs.Cost.{cost}
 use Rattle.newt_spec_store.specs.OfImage.{blocks_of}
-use Rattle.newt_soupdir.specs.Changes.{soup_of}
+use Rattle.newt_spec_store.specs.Keys.{Path}
+use Rattle.newt_soupdir.specs.Changes.{soup_of, without_index}
 use Rattle.newt_laws_changes.proofs.Costs.{dropped_cost, removed_cost}
 use Rattle.newt_shelf.specs.declared.fault.StoreFault.{StoreFault}
 use Rattle.newt_shelf.specs.declared.fault.StoreFault.TheVariants.{Refused, Stop}
@@ -24,7 +25,7 @@ use Rattle.newt_shelf.specs.Batch.{new_pages}
 use Rattle.newt_shelf.specs.Places.{place_of}
 use Rattle.newt_store.specs.declared.catalog.Catalog.{Catalog}
 use Rattle.newt_store.specs.declared.change.Change.{Change}
-use Rattle.newt_store.specs.declared.change.Change.TheVariants.{MakeSoup, DropSoup, Add, Remove, Move, Replace}
+use Rattle.newt_store.specs.declared.change.Change.TheVariants.{MakeSoup, DropSoup, Add, Remove, Move, Replace, AddIndex, DropIndex, SetTags}
 use Rattle.newt_store.specs.Change.{changed_by, first_checks, full_check, refusal_of, dropped_soup, changed_soup, pages_put, pages_gone, directory_pages, most_bytes}
 use Rattle.newt_store.specs.declared.next.Next.{Next}
 use Rattle.newt_store.specs.Next.{IsEitherStore, IsPlanOf, goes_pages, replaced_pages, turn_bytes}
@@ -33,6 +34,7 @@ use Rattle.newt_store.specs.Stands.{StandsFor, IsSound, IsRefused, RefusesWith, 
 use Rattle.newt_store.proofs.Writing.{kept-over, failed}
 use Rattle.newt_store.proofs.Reading.{read-back}
 use Rattle.newt_store.proofs.Planned.{first-not, first-holds}
+use Rattle.newt_store.proofs.Declaring.{undeclared-cost}
 
 -- ---- the first of checks in two parts
 
@@ -65,6 +67,9 @@ more-than a b high = grind (arith, nat_tests, high)
 fits-check : (change : Change) (blocks now : ℕ) (s : Store) → cost (changed_by change now s) ≤ cap blocks → first_of (full_check change blocks now s) ≡ None
 fits-check (DropSoup sig) blocks now s low = refl
 fits-check (Remove sig uid) blocks now s low = refl
+fits-check (DropIndex sig paths) blocks now s low = refl
+fits-check (AddIndex sig spec) blocks now s low = first-not Full (nat_lt (cap blocks) (cost (changed_by (AddIndex sig spec) now s))) [] (not-more _ _ low)
+fits-check (SetTags sig table) blocks now s low = first-not Full (nat_lt (cap blocks) (cost (changed_by (SetTags sig table) now s))) [] (not-more _ _ low)
 fits-check (MakeSoup name) blocks now s low = first-not Full (nat_lt (cap blocks) (cost (changed_by (MakeSoup name) now s))) [] (not-more _ _ low)
 fits-check (Add sig g) blocks now s low = first-not Full (nat_lt (cap blocks) (cost (changed_by (Add sig g) now s))) [] (not-more _ _ low)
 fits-check (Move a u b) blocks now s low = first-not Full (nat_lt (cap blocks) (cost (changed_by (Move a u b) now s))) [] (not-more _ _ low)
@@ -81,9 +86,16 @@ removed-less : (o : Option Soup) (uid : ℕ) (s : Store) → cost (changed_soup 
 removed-less None uid s = omega arith
 removed-less (Some p) uid s = removed_cost p.name uid s
 
+undeclared-less : (o : Option Soup) (paths : List Path) (s : Store) → cost (changed_soup o (without_index paths) s) ≤ cost s
+undeclared-less None paths s = omega arith
+undeclared-less (Some p) paths s = undeclared-cost p.name paths s
+
 full-check : (change : Change) (blocks now : ℕ) (s : Store) → cost s ≤ cap blocks → cap blocks < cost (changed_by change now s) → first_of (full_check change blocks now s) ≡ Some Full
 full-check (DropSoup sig) blocks now s low more = absurd (omega (arith, low, more, dropped-less (soup_of sig s) s))
 full-check (Remove sig uid) blocks now s low more = absurd (omega (arith, low, more, removed-less (soup_of sig s) uid s))
+full-check (DropIndex sig paths) blocks now s low more = absurd (omega (arith, low, more, undeclared-less (soup_of sig s) paths s))
+full-check (AddIndex sig spec) blocks now s low more = first-holds Full (nat_lt (cap blocks) (cost (changed_by (AddIndex sig spec) now s))) [] (more-than _ _ more)
+full-check (SetTags sig table) blocks now s low more = first-holds Full (nat_lt (cap blocks) (cost (changed_by (SetTags sig table) now s))) [] (more-than _ _ more)
 full-check (MakeSoup name) blocks now s low more = first-holds Full (nat_lt (cap blocks) (cost (changed_by (MakeSoup name) now s))) [] (more-than _ _ more)
 full-check (Add sig g) blocks now s low more = first-holds Full (nat_lt (cap blocks) (cost (changed_by (Add sig g) now s))) [] (more-than _ _ more)
 full-check (Move a u b) blocks now s low more = first-holds Full (nat_lt (cap blocks) (cost (changed_by (Move a u b) now s))) [] (more-than _ _ more)

@@ -10,6 +10,7 @@ pub mod Planned
 pub mod Adding
 pub mod Moving
 pub mod Replacing
+pub mod Declaring
 pub mod Entries
 pub mod Applying
 pub mod Opening

@@ -1,8 +1,9 @@
 -- What each change does to a plain store, and what it is refused for. Soups are named by their signatures. What the changes do to stores, soups and entries
 -- is Newton's (Newton Programmer's Guide 2.0); the refusals and their order are this project's own.
 use Rattle.std.specs.Prelude.{ℕ, ◌+◌, ◌*◌, Bool, cond, not, ◌==◌, ◌||◌, nat_lt, nat_le, List, [], ◌∷◌, ◌++◌, length, Option, Some, None, is_some, is_none, option_map, option_and_then}
+use Rattle.std.specs.List.{list_any}
 use Rattle.newt_base.specs.declared.Refusal.{Refusal}
-use Rattle.newt_base.specs.declared.Refusal.TheVariants.{Soup as NoSoup, Exists, Entry as NoEntry, Notframe, Limit, Size, Ids, Full}
+use Rattle.newt_base.specs.declared.Refusal.TheVariants.{Soup as NoSoup, Exists, Entry as NoEntry, Notframe, Limit, Size, Ids, Full, Index as BadIndex}
 use Rattle.newt_base.specs.Refusals.{Checks, first_of}
 use Rattle.newt_image.specs.Pages.{cap}
 use Rattle.newt_image.specs.Objects.{pages_for}
@@ -11,9 +12,10 @@ use Rattle.newt_spec_graph.specs.Graph.{is_frame, object}
 use Rattle.newt_spec_store.specs.Store.{Entry, Soup, Store, soup_named, entry_of, change_soup, change_entry, make_soup, drop_soup, add_entry, remove_entry}
 use Rattle.newt_spec_store.specs.Cost.{cost, directory_bytes, skeleton_length, entry_pages, soup_pages}
 use Rattle.newt_spec_store.specs.Lies.{graph_has_no_large}
-use Rattle.newt_soupdir.specs.Changes.{soup_of}
+use Rattle.newt_spec_store.specs.Keys.{IndexSpec, Path, paths_of, same_paths}
+use Rattle.newt_soupdir.specs.Changes.{soup_of, with_index, without_index, with_tags}
 use Rattle.newt_store.specs.declared.change.Change.{Change}
-use Rattle.newt_store.specs.declared.change.Change.TheVariants.{MakeSoup, DropSoup, Add, Remove, Move, Replace}
+use Rattle.newt_store.specs.declared.change.Change.TheVariants.{MakeSoup, DropSoup, Add, Remove, Move, Replace, AddIndex, DropIndex, SetTags}
 
 -- the entry of this id in the soup of this signature
 abbrev pub entry_in : ℕ → ℕ → Store → Option Entry
@@ -47,6 +49,9 @@ changed_by (Add sig graph) now s = changed_soup (soup_of sig s) (add_entry now g
 changed_by (Remove sig uid) now s = changed_soup (soup_of sig s) (remove_entry uid) s
 changed_by (Move source uid target) now s = moved_entry (entry_in source uid s) (soup_of source s) (soup_of target s) now s
 changed_by (Replace sig uid graph) now s = changed_soup (soup_of sig s) (change_entry uid (with_graph now graph)) s
+changed_by (AddIndex sig spec) now s = changed_soup (soup_of sig s) (with_index spec) s
+changed_by (DropIndex sig paths) now s = changed_soup (soup_of sig s) (without_index paths) s
+changed_by (SetTags sig table) now s = changed_soup (soup_of sig s) (with_tags (Some table)) s
 
 -- the id that the next entry of a soup gets
 abbrev pub next_uid_of : Option Soup → ℕ
@@ -61,6 +66,9 @@ answer_of (Add sig graph) s = next_uid_of (soup_of sig s)
 answer_of (Remove sig uid) s = 0
 answer_of (Move source uid target) s = next_uid_of (soup_of target s)
 answer_of (Replace sig uid graph) s = 0
+answer_of (AddIndex sig spec) s = 0
+answer_of (DropIndex sig paths) s = 0
+answer_of (SetTags sig table) s = 0
 
 -- ---- the table: what a change is refused for, in the order in which it is tried
 
@@ -71,6 +79,15 @@ has_no_ids p = next_uid_of p == 536_870_911
 -- The skeleton's written text has more than 64,000 bytes. In this stage that is answered for a graph with large binaries too.
 abbrev pub is_too_large : RawGraph → Bool
 is_too_large g = not (graph_has_no_large g) || nat_lt 64_000 (skeleton_length g)
+
+-- the indexes of a soup, none where there is no soup
+abbrev pub specs_of : Option Soup → List IndexSpec
+specs_of None = []
+specs_of (Some p) = p.specs
+
+-- one of the indexes has these paths
+abbrev pub has_paths : List Path → List IndexSpec → Bool
+has_paths paths specs = list_any (λ spec. same_paths (paths_of spec) paths) specs
 
 -- all refusals but the last one, that the unit is full
 abbrev pub first_checks : Change → Store → Checks
@@ -83,11 +100,16 @@ first_checks (Move source uid target) s =
     (NoSoup, is_none (soup_of source s) || is_none (soup_of target s)) ∷ (NoEntry, is_none (entry_in source uid s)) ∷ (Ids, has_no_ids (soup_of target s)) ∷ []
 first_checks (Replace sig uid graph) s =
     (NoSoup, is_none (soup_of sig s)) ∷ (NoEntry, is_none (entry_in sig uid s)) ∷ (Notframe, not (is_frame (object graph.nodes graph.root))) ∷ (Size, is_too_large graph) ∷ []
+first_checks (AddIndex sig spec) s =
+    (NoSoup, is_none (soup_of sig s)) ∷ (BadIndex, has_paths (paths_of spec) (specs_of (soup_of sig s))) ∷ (Limit, nat_le 16 (length (specs_of (soup_of sig s)))) ∷ []
+first_checks (DropIndex sig paths) s = (NoSoup, is_none (soup_of sig s)) ∷ []
+first_checks (SetTags sig table) s = (NoSoup, is_none (soup_of sig s)) ∷ []
 
 -- the store after the change would cost more pages than a unit of so many blocks takes; what goes is never refused so
 abbrev pub full_check : Change → ℕ → ℕ → Store → Checks
 full_check (DropSoup sig) blocks now s = []
 full_check (Remove sig uid) blocks now s = []
+full_check (DropIndex sig paths) blocks now s = []
 full_check change blocks now s = (Full, nat_lt (cap blocks) (cost (changed_by change now s))) ∷ []
 
 -- the refusals of a change, and the first that holds

@@ -1,6 +1,9 @@
 // What is changed in a store.
+use crate::paths::Paths;
 use newt_base::{Name, Sig, Uid};
 use newt_graph::Graph;
+use newt_keys::IndexSpec;
+use newt_tags::TagTable;
 
 /// A change of a store. Soups are named by their signatures.
 #[derive(Drop)]
@@ -17,4 +20,10 @@ pub enum Change {
     Move(Sig, Uid, Sig),
     /// The entry gets this graph in place of its own, and keeps its id.
     Replace(Sig, Uid, Graph),
+    /// The soup gets an index, behind its others.
+    AddIndex(Sig, IndexSpec),
+    /// The soup's index with these paths goes, if there is one.
+    DropIndex(Sig, Paths),
+    /// The soup gets this tags declaration in place of its own.
+    SetTags(Sig, TagTable),
 }

@@ -8,10 +8,12 @@
 mod carry;
 mod catalog;
 mod change;
+mod declare;
 mod entry;
 mod format;
 mod next;
 mod open;
+mod paths;
 mod plan;
 mod read;
 mod store;
@@ -20,4 +22,5 @@ pub use catalog::Catalog;
 pub use change::Change;
 pub use entry::Entry;
 pub use newt_shelf::{PlaceTable, StoreFault};
+pub use paths::Paths;
 pub use store::Store;

@@ -20,6 +20,7 @@ ghost use Rattle.newt_shelf.specs.Places.{place_of, AreSoundPlaces};
 
 use crate::catalog::Catalog;
 use crate::change::Change;
+use crate::declare::{plan_add_index, plan_drop_index, plan_set_tags};
 use crate::next::{Gone, Next};
 use crate::read::read_row;
 use newt_base::{Name, Refusal, Sig, Uid};
@@ -342,5 +343,8 @@ pub(crate) fn plan_change<P: PageBook, H: Host>(
             plan_move(alloc, host, book, catalog, source, uid, target, now)
         }
         Change::Replace(sig, uid, graph) => plan_replace(alloc, catalog, sig, uid, &graph, now),
+        Change::AddIndex(sig, spec) => plan_add_index(catalog, sig, spec),
+        Change::DropIndex(sig, paths) => plan_drop_index(catalog, sig, &paths),
+        Change::SetTags(sig, table) => plan_set_tags(catalog, sig, table),
     }
 }

@@ -119,6 +119,11 @@ impl<P: PageBook> Store<P> {
         }
     }
 
+    /// Where its memory is from.
+    pub fn alloc(&self) -> Global {
+        self.alloc
+    }
+
     /// Reads an entry. None where there is no such soup, or it has no such entry.
     pub fn entry<H: Host>(
         &mut self,

@@ -1,3 +1,4 @@
+pub mod Agree
 pub mod Slots
 pub mod Known
 pub mod Turns
@@ -5,6 +6,7 @@ pub mod Calls
 pub mod Commands
 pub mod Replacing
 pub mod Settings
+pub mod Declaring
 pub mod Shown
 pub mod Mounts
 pub mod Moves

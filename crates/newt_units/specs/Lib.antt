@@ -6,3 +6,4 @@ pub mod Looks
 pub mod Found
 pub mod Faces
 pub mod Spots
+pub mod Declares

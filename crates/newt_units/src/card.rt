@@ -1,5 +1,5 @@
 //! What is asked of a store on the card of one unit.
-ghost use Rattle.std.specs.Prelude.{◌≡◌, ℕ, ◌≤◌, [], List, Bool, IsTrue, Option, Some, None, is_some, option_map, slice_get, OnOk, IfOk, IfErr, IsErrOf, true, ⊤};
+ghost use Rattle.std.specs.Prelude.{◌≡◌, ℕ, ◌≤◌, [], List, Bool, IsTrue, Option, Some, None, is_some, option_map, option_and_then, slice_get, OnOk, IfOk, IfErr, IsErrOf, true, ⊤};
 ghost use Rattle.newt_host.specs.Moments.{image, Leaves};
 ghost use Rattle.newt_host.specs.Outside.{Outside, Rose, Touches};
 ghost use Rattle.newt_pagebook.specs.Book.{IsDurable, Anything};
@@ -8,8 +8,8 @@ ghost use Rattle.newt_spec_store.specs.Laid.{bare};
 ghost use Rattle.newt_spec_store.specs.Lies.{has_no_large};
 ghost use Rattle.newt_spec_store.specs.Store.{Store as Plain, Soup, Entry as PlainEntry, soup_named, change_soup, make_soup, drop_soup, add_entry, remove_entry, entry_of};
 ghost use Rattle.newt_spec_store.specs.Valid.{well_formed};
-ghost use Rattle.newt_spec_world.specs.Changed.{new_store};
-ghost use Rattle.newt_laws_answers.specs.Tests.{make_tests, add_tests, move_tests, moved_within, replace_tests, replaced};
+ghost use Rattle.newt_spec_world.specs.Changed.{new_store, with_index, without_index};
+ghost use Rattle.newt_laws_answers.specs.Tests.{make_tests, add_tests, move_tests, moved_within, replace_tests, replaced, index_tests, tags_tests, tagged};
 ghost use Rattle.newt_units.specs.Cards.{soup_of, entry_at, entry_said, count_in, LeavesEither, IsSame, OthersSame};
 ghost use Rattle.newt_units.specs.Faults.{Does, GoesOn, FaultsAt};
 
@@ -17,7 +17,10 @@ use crate::fault::Fault;
 use newt_base::{Name, Sig, Uid};
 use newt_graph::Graph;
 use newt_host::{Host, Unit};
+use newt_keys::IndexSpec;
 use newt_pagebook::{BookFault, Stop};
+use newt_path::Path;
+use newt_tags::TagTable;
 use std::alloc::Global;
 
 /// An entry: its id, the minute of its last change, and its graph.
@@ -178,6 +181,45 @@ pub trait Card: Sized + Drop {
         ensures alone { Touches (place self.old) (H.outside host.old) (H.outside host.new) }
         ensures cause { IfErr result (FaultsAt (place self.old) (H.outside host.old) (H.outside host.new)) };
 
+    /// Appends the declaration of an index to a soup that is there.
+    fn add_index<H: Host>(&mut self, host: &mut H, soup: Sig, spec: IndexSpec) -> Result<(), Fault>
+        requires { stands H.told self.old (H.outside host.old) }
+        ensures stands { GoesOn result → stands H.told self.new (H.outside host.new) }
+        ensures place { place self.new ≡ place self.old }
+        ensures made { IsTrue H.told → (s : Plain) (p : Soup) → reads (image (place self.old) (H.outside host.old).now) ≡ Some s → soup_of soup s ≡ Some p →
+            Does (index_tests ((H.outside host.old).blocks (place self.old)) p.name spec s p) (λ _. ⊤) (Some s) (Some (change_soup p.name (with_index spec) s)) (reads (image (place self.old) (H.outside host.new).now)) result }
+        ensures others { IsTrue H.told → OthersSame (place self.old) (H.outside host.old).now (H.outside host.new).now }
+        ensures any_moment { IsTrue H.told → (s : Plain) (p : Soup) → reads (image (place self.old) (H.outside host.old).now) ≡ Some s → soup_of soup s ≡ Some p →
+            Leaves (place self.old) (LeavesEither reads (index_tests ((H.outside host.old).blocks (place self.old)) p.name spec s p) s (change_soup p.name (with_index spec) s)) (H.outside host.old).now (H.outside host.new).now }
+        ensures alone { Touches (place self.old) (H.outside host.old) (H.outside host.new) }
+        ensures cause { IfErr result (FaultsAt (place self.old) (H.outside host.old) (H.outside host.new)) };
+
+    /// Removes the index of these paths from a soup that is there.
+    fn drop_index<H: Host>(&mut self, host: &mut H, soup: Sig, paths: &[Path]) -> Result<(), Fault>
+        requires { stands H.told self.old (H.outside host.old) }
+        ensures stands { GoesOn result → stands H.told self.new (H.outside host.new) }
+        ensures place { place self.new ≡ place self.old }
+        ensures made { IsTrue H.told → (s : Plain) (p : Soup) → reads (image (place self.old) (H.outside host.old).now) ≡ Some s → soup_of soup s ≡ Some p →
+            Does [] (λ _. ⊤) (Some s) (Some (change_soup p.name (without_index paths.now) s)) (reads (image (place self.old) (H.outside host.new).now)) result }
+        ensures others { IsTrue H.told → OthersSame (place self.old) (H.outside host.old).now (H.outside host.new).now }
+        ensures any_moment { IsTrue H.told → (s : Plain) (p : Soup) → reads (image (place self.old) (H.outside host.old).now) ≡ Some s → soup_of soup s ≡ Some p →
+            Leaves (place self.old) (LeavesEither reads [] s (change_soup p.name (without_index paths.now) s)) (H.outside host.old).now (H.outside host.new).now }
+        ensures alone { Touches (place self.old) (H.outside host.old) (H.outside host.new) }
+        ensures cause { IfErr result (FaultsAt (place self.old) (H.outside host.old) (H.outside host.new)) };
+
+    /// Gives a soup that is there this tags declaration.
+    fn set_tags<H: Host>(&mut self, host: &mut H, soup: Sig, table: TagTable) -> Result<(), Fault>
+        requires { stands H.told self.old (H.outside host.old) }
+        ensures stands { GoesOn result → stands H.told self.new (H.outside host.new) }
+        ensures place { place self.new ≡ place self.old }
+        ensures made { IsTrue H.told → (s : Plain) (p : Soup) → reads (image (place self.old) (H.outside host.old).now) ≡ Some s → soup_of soup s ≡ Some p →
+            Does (tags_tests ((H.outside host.old).blocks (place self.old)) p.name table s) (λ _. ⊤) (Some s) (Some (tagged p.name table s)) (reads (image (place self.old) (H.outside host.new).now)) result }
+        ensures others { IsTrue H.told → OthersSame (place self.old) (H.outside host.old).now (H.outside host.new).now }
+        ensures any_moment { IsTrue H.told → (s : Plain) (p : Soup) → reads (image (place self.old) (H.outside host.old).now) ≡ Some s → soup_of soup s ≡ Some p →
+            Leaves (place self.old) (LeavesEither reads (tags_tests ((H.outside host.old).blocks (place self.old)) p.name table s) s (tagged p.name table s)) (H.outside host.old).now (H.outside host.new).now }
+        ensures alone { Touches (place self.old) (H.outside host.old) (H.outside host.new) }
+        ensures cause { IfErr result (FaultsAt (place self.old) (H.outside host.old) (H.outside host.new)) };
+
     /// Reads an entry; none where it is not there.
     fn entry<H: Host>(&mut self, host: &mut H, soup: Sig, uid: Uid) -> Result<Option<Entry>, Stop>
         requires { stands H.told self.old (H.outside host.old) }
@@ -207,6 +249,14 @@ pub trait Card: Sized + Drop {
     /// The soup at a place, in order of making.
     fn soup_at(&self, at: usize) -> Option<(&Name, Sig)>
         ensures { option_map {U = List ℕ × ℕ} (λ found. (found.0.now, found.1)) result ≡ option_map (λ p. (p.name, p.sig)) (slice_get (soups self.now).soups at) };
+
+    /// The indexes of a soup, in order of declaration.
+    fn specs(&self, soup: Sig) -> Option<&[IndexSpec]>
+        ensures { option_map (λ specs. specs.now) result ≡ option_map (λ p. p.specs) (soup_of soup (soups self.now)) };
+
+    /// The tags declaration of a soup, if it has one.
+    fn tags(&self, soup: Sig) -> Option<&TagTable>
+        ensures { option_map (λ tags. tags.now) result ≡ option_and_then (λ p. p.tags) (soup_of soup (soups self.now)) };
 
     /// How many entries a soup has.
     fn count(&self, soup: Sig) -> u32

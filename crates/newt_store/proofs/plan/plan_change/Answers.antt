@@ -29,3 +29,12 @@ pub returns-in-Move-clause-costs : goal.returns-in-Move-clause-costs
 returns-in-Move-clause-costs g c = λ tells s stands.
     let o = g.H.Host.outside in
     subst (λ (ch : Change). Spends (g.P.PageBook.place c.args.book.now) 0 (512 * pages_of_entry (entry_moved ch s)) (o c.args.host.now) (o c.plan_move.new.host)) (sym c.in-Move.is) (c.plan_move.ensures.costs tells s stands)
+
+pub returns-in-AddIndex-clause-costs : goal.returns-in-AddIndex-clause-costs
+returns-in-AddIndex-clause-costs g c = λ tells s stands. spends-nothing (g.P.PageBook.place c.args.book.now) 0 (512 * pages_of_entry (entry_moved c.args.change s)) (g.H.Host.outside c.args.host.now)
+
+pub returns-in-DropIndex-clause-costs : goal.returns-in-DropIndex-clause-costs
+returns-in-DropIndex-clause-costs g c = λ tells s stands. spends-nothing (g.P.PageBook.place c.args.book.now) 0 (512 * pages_of_entry (entry_moved c.args.change s)) (g.H.Host.outside c.args.host.now)
+
+pub returns-in-SetTags-clause-costs : goal.returns-in-SetTags-clause-costs
+returns-in-SetTags-clause-costs g c = λ tells s stands. spends-nothing (g.P.PageBook.place c.args.book.now) 0 (512 * pages_of_entry (entry_moved c.args.change s)) (g.H.Host.outside c.args.host.now)

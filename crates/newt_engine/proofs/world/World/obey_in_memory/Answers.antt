@@ -3,6 +3,8 @@ use Rattle.std.proofs.Common.{◌≡◌, ℕ, List, Option, map, refl, sym, subs
 use Rattle.std.proofs.lemmas.Result.{err_from_is_err_and}
 use Rattle.newt_reply.specs.Said.{soup_row}
 use Rattle.newt_reply.specs.declared.rows.SoupLine.{SoupLine}
+use Rattle.newt_spec_store.specs.Keys.{IndexSpec}
+use Rattle.newt_spec_store.specs.Store.{TagTable}
 use Rattle.newt_spec_world.specs.Answer.{or_nil}
 use Rattle.newt_spec_world.specs.Reply.{Reply as plain}
 use Rattle.newt_laws_answers.specs.Stage.{answer_now}
@@ -21,6 +23,12 @@ returns-in_err-set_default-in-Default-clause-answered g c outside eight stand = 
 
 pub returns-in_err-soups-in-Soups-clause-answered : goal.returns-in_err-soups-in-Soups-clause-answered
 returns-in_err-soups-in-Soups-clause-answered g c outside eight stand = handed {T = List SoupLine} _ _ c.args.command.now _ (λ rows. plain.soups (map soup_row rows)) _ c.in-Soups.is (c.in_err-soups-in-Soups.ensures.answered outside eight stand) _ (err_from_is_err_and c.from_residual-in_err-soups-in-Soups.result c.from_residual-in_err-soups-in-Soups.ensures.1)
+
+pub returns-in_err-indexes-in-Indexes-clause-answered : goal.returns-in_err-indexes-in-Indexes-clause-answered
+returns-in_err-indexes-in-Indexes-clause-answered g c outside eight stand = handed {T = List IndexSpec} _ _ c.args.command.now _ (λ specs. plain.indexes specs) _ c.in-Indexes.is (c.in_err-indexes-in-Indexes.ensures.answered outside eight stand) _ (err_from_is_err_and c.from_residual-in_err-indexes-in-Indexes.result c.from_residual-in_err-indexes-in-Indexes.ensures.1)
+
+pub returns-in_err-table-in-Tags-clause-answered : goal.returns-in_err-table-in-Tags-clause-answered
+returns-in_err-table-in-Tags-clause-answered g c outside eight stand = handed {T = Option TagTable} _ _ c.args.command.now _ (λ table. plain.tags table) _ c.in-Tags.is (c.in_err-table-in-Tags.ensures.answered outside eight stand) _ (err_from_is_err_and c.from_residual-in_err-table-in-Tags.result c.from_residual-in_err-table-in-Tags.ensures.1)
 
 pub returns-in_err-store-in-Alias-clause-answered : goal.returns-in_err-store-in-Alias-clause-answered
 returns-in_err-store-in-Alias-clause-answered g c outside eight stand = handed {T = ℕ × ℕ} _ _ c.args.command.now _ (λ x. plain.alias x.0 x.1 c.in-Alias.uid) _ c.in-Alias.is (c.in_err-store-in-Alias.ensures.answered outside eight stand) _ (err_from_is_err_and c.from_residual-in_err-store-in-Alias.result c.from_residual-in_err-store-in-Alias.ensures.1)
@@ -46,7 +54,7 @@ pub returns-in_default : goal.returns-in_default
 returns-in_default g c = record {
   stands = λ told outside stand. stand;
   answered = λ outside eight stand. let d = c.in_default in
-      not_built (world_of g.C.Card.reads c.args.self.now.units outside) c.args.command.now c.requires.no_graph c.requires.no_device d.not-Time d.not-Quit d.not-Unmount d.not-Stores d.not-Default d.not-Soups d.not-Alias d.not-Resolve;
+      not_built (world_of g.C.Card.reads c.args.self.now.units outside) c.args.command.now c.requires.no_graph c.requires.no_device d.not-Time d.not-Quit d.not-Unmount d.not-Stores d.not-Default d.not-Soups d.not-Indexes d.not-Tags d.not-Alias d.not-Resolve;
   device = tt;
   ends = λ takes_none. tt;
 }

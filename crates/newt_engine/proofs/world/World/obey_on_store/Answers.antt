@@ -20,6 +20,15 @@ returns-in_err-soup-in-Soup-clause-answered g c t = handed {T = ℕ} _ _ c.args.
 pub returns-in_err-drop_soup-in-Drop-clause-answered : goal.returns-in_err-drop_soup-in-Drop-clause-answered
 returns-in_err-drop_soup-in-Drop-clause-answered g c t = handed {T = Unit {0}} _ _ c.args.command.now _ (λ _. plain.done) _ c.in-Drop.is (c.in_err-drop_soup-in-Drop.ensures.answered t) _ (err_from_is_err_and c.from_residual-in_err-drop_soup-in-Drop.result c.from_residual-in_err-drop_soup-in-Drop.ensures.1)
 
+pub returns-in_err-index-in-Index-clause-answered : goal.returns-in_err-index-in-Index-clause-answered
+returns-in_err-index-in-Index-clause-answered g c t = handed {T = Unit {0}} _ _ c.args.command.now _ (λ _. plain.done) _ c.in-Index.is (c.in_err-index-in-Index.ensures.answered t) _ (err_from_is_err_and c.from_residual-in_err-index-in-Index.result c.from_residual-in_err-index-in-Index.ensures.1)
+
+pub returns-in_err-unindex-in-Unindex-clause-answered : goal.returns-in_err-unindex-in-Unindex-clause-answered
+returns-in_err-unindex-in-Unindex-clause-answered g c t = handed {T = Unit {0}} _ _ c.args.command.now _ (λ _. plain.done) _ c.in-Unindex.is (c.in_err-unindex-in-Unindex.ensures.answered t) _ (err_from_is_err_and c.from_residual-in_err-unindex-in-Unindex.result c.from_residual-in_err-unindex-in-Unindex.ensures.1)
+
+pub returns-in_err-set_tags-in-SetTags-clause-answered : goal.returns-in_err-set_tags-in-SetTags-clause-answered
+returns-in_err-set_tags-in-SetTags-clause-answered g c t = handed {T = Unit {0}} _ _ c.args.command.now _ (λ _. plain.done) _ c.in-SetTags.is (c.in_err-set_tags-in-SetTags.ensures.answered t) _ (err_from_is_err_and c.from_residual-in_err-set_tags-in-SetTags.result c.from_residual-in_err-set_tags-in-SetTags.ensures.1)
+
 pub returns-in_default : goal.returns-in_default
 returns-in_default g c =
     let eight : Eight (g.H.Host.outside c.args.host.now) = record { eight = g.met.H.Host.eight c.args.host.now; none = g.met.H.Host.none c.args.host.now } in record {

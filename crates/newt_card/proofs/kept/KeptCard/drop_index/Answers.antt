@@ -1,0 +1,36 @@
+use Rattle.std.proofs.Common.{ℕ, refl}
+use Rattle.newt_host.specs.Moments.{image}
+use Rattle.newt_host.proofs.Outside.{Touches-refl}
+use Rattle.newt_store.specs.Stage.{readable}
+use Rattle.newt_card.specs.Stands.{StandsOn}
+use Rattle.newt_card.proofs.Commands.{copied-does, copied-leaves, leaves-index}
+use Rattle.newt_card.proofs.kept.KeptCard.drop_index.Goals as goal
+
+pub returns-in-Ok : goal.returns-in-Ok
+returns-in-Ok g c =
+    let o = g.H.Host.outside in
+    let u : ℕ = g.P.PageBook.place c.args.self.now.store.book in
+    let e = c.drop_paths.ensures in
+    record {
+      stands = e.stands;
+      place = e.place;
+      made = λ tells s p reads found. copied-does p.name c.args.paths.now c.in-Ok.paths s (readable (image u (o c.drop_paths.new.host).now)) c.drop_paths.result c.in-Ok.ensures (e.made tells s p reads found);
+      others = e.others;
+      any_moment = λ tells s p reads found. copied-leaves p.name c.args.paths.now c.in-Ok.paths s u (o c.args.host.now).now (o c.drop_paths.new.host).now c.in-Ok.ensures (e.any_moment tells s p reads found);
+      alone = e.alone;
+      cause = e.cause;
+    }
+
+pub returns-in-Err : goal.returns-in-Err
+returns-in-Err g c =
+    let o = g.H.Host.outside in
+    let u : ℕ = g.P.PageBook.place c.args.self.now.store.book in
+    record {
+      stands = λ goes. absurd {A = StandsOn g.P.PageBook.place g.P.PageBook.numbers g.P.PageBook.stands g.H.Host.told c.args.self.now.store (o c.args.host.now)} goes;
+      place = refl;
+      made = λ tells s p reads found. tt;
+      others = λ tells v not. refl;
+      any_moment = λ tells s p reads found. leaves-index p.name c.args.paths.now s u (o c.args.host.now).now (g.met.P.PageBook.tells g.H.Host.told c.args.self.now.store.book (o c.args.host.now) c.requires.book tells).1 reads;
+      alone = Touches-refl u (o c.args.host.now);
+      cause = tt;
+    }

@@ -1,0 +1,70 @@
+-- The pieces of a part of an index between its colons.
+use Rattle.std.proofs.Common.{◌≡◌, ℕ, suc, ◌+◌, ◌<◌, ◌≤◌, Bool, true, false, not, ◌==◌, List, [], ◌∷◌, length, take, drop, Option, Some, None, refl, sym, ◌∙◌, ap, arith}
+use Rattle.std.specs.Prelude.{nat_lt}
+use Rattle.std.specs.List.{position_or_len}
+use Rattle.std.proofs.lemmas.Bool.{ltb-true, ltb-false}
+use Rattle.newt_spec_world.specs.declared.command.PartWord.{PartWord}
+use Rattle.newt_spec_script.specs.Words.{split_at, part_of, part}
+
+abbrev is_colon : ℕ → Bool
+is_colon c = c == 58
+
+abbrev place : List ℕ → ℕ
+place = position_or_len is_colon
+
+add-one : (n : ℕ) → 1 + n ≡ suc n
+add-one n = omega arith
+
+suc-one : (n : ℕ) → suc n + 1 ≡ suc (n + 1)
+suc-one n = omega arith
+
+-- at the first colon
+pub cut : (text : List ℕ) → place text < length text → split_at 58 text ≡ take (place text) text ∷ split_at 58 (drop (place text + 1) text)
+cut [] within = absurd (omega (arith, within))
+cut (c ∷ cs) within = go (cut cs) (is_colon c) refl
+  where
+    go : (place cs < length cs → split_at 58 cs ≡ take (place cs) cs ∷ split_at 58 (drop (place cs + 1) cs)) → (b : Bool) → is_colon c ≡ b
+        → split_at 58 (c ∷ cs) ≡ take (place (c ∷ cs)) (c ∷ cs) ∷ split_at 58 (drop (place (c ∷ cs) + 1) (c ∷ cs))
+    go rest true is = rw (is, split_at) refl
+    go rest false is =
+        let is_at : place (c ∷ cs) ≡ suc (place cs) = rw is (add-one (place cs)) in
+        rw (is_at, is, split_at, suc-one (place cs), rest (omega (arith, is_at, within))) refl
+
+-- where there is none
+pub uncut : (text : List ℕ) → length text ≤ place text → split_at 58 text ≡ text ∷ []
+uncut [] none = refl
+uncut (c ∷ cs) none = go (uncut cs) (is_colon c) refl
+  where
+    zero_at : is_colon c ≡ true → place (c ∷ cs) ≡ 0
+    zero_at e = rw e refl
+
+    go : (length cs ≤ place cs → split_at 58 cs ≡ cs ∷ []) → (b : Bool) → is_colon c ≡ b → split_at 58 (c ∷ cs) ≡ (c ∷ cs) ∷ []
+    go rest true is = absurd (omega (arith, zero_at is, none))
+    go rest false is =
+        let is_at : place (c ∷ cs) ≡ suc (place cs) = rw is (add-one (place cs)) in
+        rw (is, split_at, rest (omega (arith, is_at, none))) refl
+
+-- ---- parts
+
+pub one_piece : (text : List ℕ) → split_at 58 text ≡ text ∷ [] → part text ≡ None
+one_piece text is = ap part_of is
+
+pub two_pieces : (text a rest : List ℕ) → split_at 58 text ≡ a ∷ split_at 58 rest → split_at 58 rest ≡ rest ∷ [] → part text ≡ None
+two_pieces text a rest is last = ap part_of (is ∙ ap (λ ps. a ∷ ps) last)
+
+pub three : (text a rest b c : List ℕ) → split_at 58 text ≡ a ∷ split_at 58 rest → split_at 58 rest ≡ b ∷ split_at 58 c → split_at 58 c ≡ c ∷ [] → split_at 58 text ≡ a ∷ b ∷ c ∷ []
+three text a rest b c is more last = is ∙ ap (λ ps. a ∷ ps) (more ∙ ap (λ ps. b ∷ ps) last)
+
+four : (a b c rest : List ℕ) → part_of (a ∷ b ∷ c ∷ split_at 58 rest) ≡ None
+four a b c rest = go (nat_lt (place rest) (length rest)) refl
+  where
+    go : (l : Bool) → nat_lt (place rest) (length rest) ≡ l → part_of (a ∷ b ∷ c ∷ split_at 58 rest) ≡ None
+    go true is = ap (λ ps. part_of (a ∷ b ∷ c ∷ ps)) (cut rest (ltb-true (place rest) (length rest) is))
+    go false is = ap (λ ps. part_of (a ∷ b ∷ c ∷ ps)) (uncut rest (ltb-false (place rest) (length rest) is))
+
+pub too_many : (text a rest b rest' c more : List ℕ) → split_at 58 text ≡ a ∷ split_at 58 rest → split_at 58 rest ≡ b ∷ split_at 58 rest' → split_at 58 rest' ≡ c ∷ split_at 58 more → part text ≡ None
+too_many text a rest b rest' c more is next last = ap part_of (is ∙ ap (λ ps. a ∷ ps) (next ∙ ap (λ ps. b ∷ ps) last)) ∙ four a b c more
+
+-- a part of three pieces
+pub part_is : (text a b c : List ℕ) → split_at 58 text ≡ a ∷ b ∷ c ∷ [] → part text ≡ part_of (a ∷ b ∷ c ∷ [])
+part_is text a b c is = ap part_of is

@@ -1,0 +1,49 @@
+//! The rows of the table of commands that speak of the indexes and tags of a soup.
+ghost use Rattle.std.specs.Prelude.{◌≡◌, ◌≢◌, codes};
+ghost use Rattle.newt_script.specs.Readers.{row_reading};
+
+use crate::fault::LineFault;
+use crate::words::Words;
+use newt_spec_world::Command;
+use std::alloc::Global;
+
+/// `index U S PART..`
+#[tactic(auto, using(crate::proofs::ListedRows::row_index))]
+pub fn index(alloc: Global, words: &mut Words) -> Result<Command, LineFault>
+    ensures { result ≢ Err LineFault.Memory → result ≡ row_reading (codes "index") words.old }
+{
+    let (unit, name) = words.soup(alloc)?;
+    Ok(Command::Index(unit, name, words.parts(alloc)?))
+}
+
+/// `unindex U S PATH..`
+#[tactic(auto, using(crate::proofs::ListedRows::row_unindex))]
+pub fn unindex(alloc: Global, words: &mut Words) -> Result<Command, LineFault>
+    ensures { result ≢ Err LineFault.Memory → result ≡ row_reading (codes "unindex") words.old }
+{
+    let (unit, name) = words.soup(alloc)?;
+    Ok(Command::Unindex(unit, name, words.paths(alloc)?))
+}
+
+/// `indexes U S`
+#[tactic(auto, using(crate::proofs::ListedRows::row_indexes))]
+pub fn indexes(alloc: Global, words: &mut Words) -> Result<Command, LineFault>
+    ensures { result ≢ Err LineFault.Memory → result ≡ row_reading (codes "indexes") words.old }
+{
+    let (unit, name) = words.soup(alloc)?;
+    words.end()?;
+    Ok(Command::Indexes(unit, name))
+}
+
+/// `tags U S` and `tags U S PATH SYM..`
+#[tactic(auto, using(crate::proofs::ListedRows::row_tags))]
+pub fn tags(alloc: Global, words: &mut Words) -> Result<Command, LineFault>
+    ensures { result ≢ Err LineFault.Memory → result ≡ row_reading (codes "tags") words.old }
+{
+    let (unit, name) = words.soup(alloc)?;
+    if words.is_ended() {
+        return Ok(Command::Tags(unit, name));
+    }
+    let path = words.path(alloc)?;
+    Ok(Command::SetTags(unit, name, path, words.symbols(alloc)?))
+}

@@ -1,0 +1,274 @@
+-- A soup whose declarations change: its indexes and its tags.
+use Rattle.std.proofs.Common.{◌≡◌, ◌≢◌, ℕ, ◌<◌, ◌≤◌, ◌==◌, Bool, IsTrue, true, false, not, nat_le, List, [], ◌∷◌, length, Option, Some, None, refl, sym, ◌∙◌, ap, subst, arith, map, cond}
+use Rattle.std.specs.List.{list_all, list_any}
+use Rattle.std.specs.Option.{is_some, is_none, option_map}
+use Rattle.std.proofs.lemmas.Bool.{eq-eqb, eqb-true}
+use Rattle.std.proofs.lemmas.Bool.Decides.{nat_tests}
+use Rattle.newt_base.specs.Names.{equal_text}
+use Rattle.newt_base.specs.Refusals.{Checks, first_of}
+use Rattle.newt_base.specs.declared.Refusal.TheVariants.{Soup as NoSoup, Limit, Index as BadIndex}
+use Rattle.newt_image.specs.Objects.{Objects}
+use Rattle.newt_pagebook.proofs.Tests.{some_inj, the_some}
+use Rattle.newt_spec_graph.specs.Lists.{Each}
+use Rattle.newt_spec_graph.proofs.Lists.{each-from, both-ways}
+use Rattle.newt_spec_store.specs.Cost.{cost, counted, part_bytes, soup_bytes, soup_pages}
+use Rattle.newt_spec_store.specs.Keys.{IndexSpec, Path, paths_of, same_paths}
+use Rattle.newt_spec_store.specs.Laid.{bare}
+use Rattle.newt_spec_store.specs.Lies.{Places, LiesIn, graph_has_no_large, has_no_large}
+use Rattle.newt_spec_store.specs.Store.{Soup, Store, Entry, TagTable, change_first, change_soup}
+use Rattle.newt_spec_store.specs.Valid.{well_formed, valid_soup, valid_spec, valid_tags}
+use Rattle.newt_soupdir.specs.Bare.{bare_store}
+use Rattle.newt_soupdir.specs.Changes.{soup_of, change_soup_of, with_index, without_index, with_tags}
+use Rattle.newt_soupdir.specs.declared.rows.Directory.{Directory}
+use Rattle.newt_laws_images.proofs.Known.{bare-good}
+use Rattle.newt_laws_images.proofs.Stores.{is-soup, soup-is}
+use Rattle.newt_laws_changes.proofs.Chosen.{same-text, soup-there, found_by_name}
+use Rattle.newt_laws_changes.proofs.Costs.{costs-less, directory-length, soup-length, total-filter, total-first}
+use Rattle.newt_laws_changes.proofs.Members.{same-sig, same-name}
+use Rattle.newt_laws_changes.proofs.Replaced.{declared_lies}
+use Rattle.newt_laws_changes.proofs.Soups.{first-all, filter-all, filter-apart, filter-length, push-all, push-apart, push-length, with-soup}
+use Rattle.newt_shelf.specs.Places.{place_of}
+use Rattle.newt_store.specs.declared.catalog.Catalog.{Catalog}
+use Rattle.newt_store.specs.declared.change.Change.TheVariants.{AddIndex, DropIndex, SetTags}
+use Rattle.newt_store.specs.declared.next.Gone.TheVariants.{Nothing}
+use Rattle.newt_store.specs.declared.next.Next.{Next}
+use Rattle.newt_store.specs.Change.{first_checks, changed_soup, has_paths, specs_of}
+use Rattle.newt_store.specs.Next.{Turns, IsPlanOf}
+use Rattle.newt_store.specs.Stands.{Describes}
+use Rattle.newt_store.proofs.Found.{emptied, emptied-some, soup-same, soup-some}
+use Rattle.newt_store.proofs.Planned.{first-holds, first-not, none-over, none-some, bare-bare}
+use Rattle.newt_store.proofs.Turning.{bytes-of}
+
+-- ---- a change of declarations alone
+
+-- the change keeps a soup but for its indexes and its tags, and does the same to it without its entries
+pub record Declares (f : Soup → Soup) : Type 0 where
+  pub name : (q : Soup) → (f q).name ≡ q.name
+  pub sig : (q : Soup) → (f q).sig ≡ q.sig
+  pub entries : (q : Soup) → (f q).entries ≡ q.entries
+  pub bare : (q : Soup) → emptied (f q) ≡ f (emptied q)
+
+pub adds-index : (spec : IndexSpec) → Declares (with_index spec)
+adds-index spec = record { name = λ q. refl; sig = λ q. refl; entries = λ q. refl; bare = λ q. refl }
+
+pub drops-index : (paths : List Path) → Declares (without_index paths)
+drops-index paths = record { name = λ q. refl; sig = λ q. refl; entries = λ q. refl; bare = λ q. refl }
+
+pub sets-tags : (tags : Option TagTable) → Declares (with_tags tags)
+sets-tags tags = record { name = λ q. refl; sig = λ q. refl; entries = λ q. refl; bare = λ q. refl }
+
+-- ---- the soups stay valid
+
+pub valid-index : (spec : IndexSpec) (p : Soup) → valid_spec spec ≡ true → nat_le 16 (length p.specs) ≡ false → has_paths (paths_of spec) p.specs ≡ false → valid_soup p ≡ true → valid_soup (with_index spec p) ≡ true
+valid-index spec p fits few new h = let r = is-soup p h in soup-is (with_index spec p) (record {
+  named = r.named;
+  next = r.next;
+  uids = r.uids;
+  count = omega (arith, push-length p.specs spec, room (length p.specs) few);
+  specs_fit = push-all valid_spec p.specs spec r.specs_fit fits;
+  specs_apart = push-apart same_paths paths_of p.specs spec r.specs_apart new;
+  tags_fit = r.tags_fit;
+  entries_fit = r.entries_fit;
+}) where
+  room : (n : ℕ) → nat_le 16 n ≡ false → n < 16
+  room n e = grind (arith, nat_tests, e)
+
+pub valid-dropped : (paths : List Path) (p : Soup) → valid_soup p ≡ true → valid_soup (without_index paths p) ≡ true
+valid-dropped paths p h = let r = is-soup p h in soup-is (without_index paths p) (record {
+  named = r.named;
+  next = r.next;
+  uids = r.uids;
+  count = omega (arith, filter-length (λ spec. not (same_paths (paths_of spec) paths)) p.specs, r.count);
+  specs_fit = filter-all valid_spec _ p.specs r.specs_fit;
+  specs_apart = filter-apart same_paths paths_of _ p.specs r.specs_apart;
+  tags_fit = r.tags_fit;
+  entries_fit = r.entries_fit;
+})
+
+pub valid-tagged : (tags : Option TagTable) (p : Soup) → valid_tags tags ≡ true → valid_soup p ≡ true → valid_soup (with_tags tags p) ≡ true
+valid-tagged tags p fits h = let r = is-soup p h in soup-is (with_tags tags p) (record {
+  named = r.named;
+  next = r.next;
+  uids = r.uids;
+  count = r.count;
+  specs_fit = r.specs_fit;
+  specs_apart = r.specs_apart;
+  tags_fit = fits;
+  entries_fit = r.entries_fit;
+})
+
+-- ---- the store without its entries
+
+bool-same : (a b : Bool) → (a ≡ true → b ≡ true) → (b ≡ true → a ≡ true) → a ≡ b
+bool-same true b h k = sym (h refl)
+bool-same false true h k = k refl
+bool-same false false h k = refl
+
+-- the first that passes, changed, by tests that agree
+change-map : {X Y : Type 0} (f : X → Y) (test : X → Bool) (other : Y → Bool) (change : X → X) (changed : Y → Y) (xs : List X) → Each (λ x. test x ≡ other (f x)) xs
+    → ((x : X) → f (change x) ≡ changed (f x)) → map f (change_first test change xs) ≡ change_first other changed (map f xs)
+change-map f test other change changed [] h k = refl
+change-map f test other change changed (x ∷ xs) h k = go (test x) (other (f x)) h.0 (change-map f test other change changed xs h.1 k)
+  where
+    go : (a b : Bool) → a ≡ b → map f (change_first test change xs) ≡ change_first other changed (map f xs)
+        → map f (cond a (change x ∷ xs) (x ∷ change_first test change xs)) ≡ cond b (changed (f x) ∷ map f xs) (f x ∷ change_first other changed (map f xs))
+    go true true e more = ap (λ y. y ∷ map f xs) (k x)
+    go true false e more = absurd (both-ways (sym e))
+    go false true e more = absurd (both-ways e)
+    go false false e more = ap (λ ys. f x ∷ ys) more
+
+abbrev with-soups : Store → List Soup → Store
+with-soups s soups = record { name = s.name; sig = s.sig; next_soup = s.next_soup; soups = soups }
+
+module _ (s : Store) (sig : ℕ) (p : Soup) (w : IsTrue (well_formed s)) (found : soup_of sig s ≡ Some p) (f : Soup → Soup) (is : Declares f) where
+  tests-same : Each (λ (q : Soup). equal_text q.name p.name ≡ ((emptied q).sig == sig)) s.soups
+  tests-same = each-from (λ (q : Soup). equal_text q.name p.name ≡ (q.sig == sig)) s.soups (λ q m. bool-same (equal_text q.name p.name) (q.sig == sig)
+      (λ h. eq-eqb q.sig sig (ap (λ (r : Soup). r.sig) (same-name s sig p w found q m h) ∙ (soup-there sig s p found).0))
+      (λ h. ap (λ (r : Soup). equal_text r.name p.name) (same-sig s sig p w found q m (eqb-true q.sig sig h)) ∙ same-text p.name))
+
+  pub declared-bare : bare (change_soup p.name f s) ≡ change_soup_of sig f (bare s)
+  declared-bare = ap (with-soups s) (change-map emptied (λ q. equal_text q.name p.name) (λ q. q.sig == sig) f f s.soups tests-same is.bare)
+
+  pub declared-formed : (valid_soup p ≡ true → valid_soup (f p) ≡ true) → well_formed (change_soup p.name f s) ≡ true
+  declared-formed good = with-soup p.name f s w is.name is.sig
+      (λ q here ok. let same : p ≡ q = some_inj p q (sym (found_by_name sig s p w found) ∙ here) in
+      subst (λ (r : Soup). valid_soup (f r) ≡ true) same (good (subst (λ (r : Soup). valid_soup r ≡ true) (sym same) ok)))
+
+declared-plain : (name : List ℕ) (f : Soup → Soup) (s : Store) → Declares f → has_no_large s ≡ true → has_no_large (change_soup name f s) ≡ true
+declared-plain name f s is plain = first-all (λ p. list_all (λ e. graph_has_no_large e.graph) p.entries) (λ p. equal_text p.name name) f s.soups plain
+    (λ p _ ok. ap (list_all (λ (e : Entry). graph_has_no_large e.graph)) (is.entries p) ∙ ok)
+
+-- an index less, and the store costs no more
+pub undeclared-cost : (name : List ℕ) (paths : List Path) (s : Store) → cost (change_soup name (without_index paths) s) ≤ cost s
+undeclared-cost name paths s = costs-less s (change_soup name (without_index paths) s)
+    (omega (
+      arith,
+      directory-length s,
+      directory-length (change_soup name (without_index paths) s),
+      total-first (λ p. length (soup_bytes p)) (λ p. equal_text p.name name) (without_index paths) s.soups
+          (λ p _. omega (arith, soup-length p, soup-length (without_index paths p), total-filter (λ spec. length (counted part_bytes spec)) (λ spec. not (same_paths (paths_of spec) paths)) p.specs)),
+    ))
+    (total-first soup_pages (λ p. equal_text p.name name) (without_index paths) s.soups (λ p _. omega arith))
+
+-- the directory stays well formed
+pub formed-declared : (d e : Directory) (sig : ℕ) (p : Soup) (f : Soup → Soup) → Declares f → well_formed (bare_store d) ≡ true → soup_of sig (bare_store d) ≡ Some p → (valid_soup p ≡ true → valid_soup (f p) ≡ true)
+    → bare_store e ≡ change_soup_of sig f (bare_store d) → well_formed (bare_store e) ≡ true
+formed-declared d e sig p f is formed found good made =
+    ap well_formed (made ∙ ap (change_soup_of sig f) (sym (bare-bare d)) ∙ sym (declared-bare (bare_store d) sig p formed found f is))
+    ∙ bare-good (change_soup p.name f (bare_store d)) (declared-formed (bare_store d) sig p formed found f is good)
+
+-- ---- from one store to another
+
+module _ (catalog : Catalog) (s : Store) (sig : ℕ) (p : Soup) (found : soup_of sig s ≡ Some p) (f : Soup → Soup) (declares : Declares f) (good : valid_soup p ≡ true → valid_soup (f p) ≡ true)
+    (dir : Directory) (made : bare_store dir ≡ change_soup_of sig f (bare_store catalog.directory)) where
+  abbrev pub next-declared : Next
+  next-declared = record { directory = dir; entry = None; gone = Nothing; answer = 0 }
+
+  abbrev then : Store
+  then = change_soup p.name f s
+
+  then-bare : (texts : Objects) → Describes catalog.directory (place_of catalog.places) texts s → bare then ≡ bare_store dir
+  then-bare texts d = declared-bare s sig p d.formed found f declares ∙ ap (change_soup_of sig f) d.bare_is ∙ sym made
+
+  pub turns-declared : Turns catalog next-declared s then
+  turns-declared = record {
+    described = λ before after place d are places.
+        let is : bare then ≡ bare_store dir = then-bare before d in
+        let same : place ≡ place_of catalog.places = λ i t u. places.others t u (λ isnt. isnt) (λ isnt. isnt) i in
+        record {
+          lies = subst (λ (pl : Places). LiesIn after pl then) (sym same)
+              (declared_lies s sig p d.formed found f (declares.sig p) (declares.entries p) before after (place_of catalog.places) d.lies (are.directory ∙ ap Some (bytes-of dir then is))
+              (λ id ne. are.others id ne (λ e isnt. absurd (none-some isnt)) (λ t u isnt at. isnt)));
+          formed = declared-formed s sig p d.formed found f declares good;
+          simple = declared-plain p.name f s declares d.simple;
+          bare_is = is;
+        };
+    fresh = λ texts d e isnt. absurd (none-some isnt);
+    stays = λ texts d e isnt. absurd (none-some isnt);
+    bare_is = λ texts d. then-bare texts d;
+  }
+
+-- ---- refused, or planned
+
+module _ (catalog : Catalog) (texts : Objects) (s : Store) (d : Describes catalog.directory (place_of catalog.places) texts s) (sig : ℕ) where
+  some-as : is_some (soup_of sig s) ≡ is_some (soup_of sig (bare_store catalog.directory))
+  some-as = soup-some catalog.directory (place_of catalog.places) texts s d sig
+
+  -- an index less
+
+  pub unindex-no-soup : (paths : List Path) → is_some (soup_of sig (bare_store catalog.directory)) ≡ false → first_of (first_checks (DropIndex sig paths) s) ≡ Some NoSoup
+  unindex-no-soup paths none = first-holds NoSoup (is_none (soup_of sig s)) [] (ap not (some-as ∙ none))
+
+  pub unindex-planned : (paths : List Path) (now : ℕ) (dir : Directory) → is_some (soup_of sig (bare_store catalog.directory)) ≡ true → bare_store dir ≡ change_soup_of sig (without_index paths) (bare_store catalog.directory)
+      → IsPlanOf catalog (DropIndex sig paths) now s (record { directory = dir; entry = None; gone = Nothing; answer = 0 })
+  unindex-planned paths now dir some made =
+      let w = the_some (soup_of sig s) (some-as ∙ some) in
+      record {
+        accepted = first-not NoSoup (is_none (soup_of sig s)) [] (ap not (some-as ∙ some));
+        answer = refl;
+        turns = subst (λ (t : Store). Turns catalog (record { directory = dir; entry = None; gone = Nothing; answer = 0 }) s t) (ap (λ (o : Option Soup). changed_soup o (without_index paths) s) (sym w.1))
+            (turns-declared catalog s sig w.0 w.1 (without_index paths) (drops-index paths) (valid-dropped paths w.0) dir made);
+        added = refl;
+        removed = none-over _;
+      }
+
+  -- other tags
+
+  pub tags-no-soup : (table : TagTable) → is_some (soup_of sig (bare_store catalog.directory)) ≡ false → first_of (first_checks (SetTags sig table) s) ≡ Some NoSoup
+  tags-no-soup table none = first-holds NoSoup (is_none (soup_of sig s)) [] (ap not (some-as ∙ none))
+
+  pub tags-planned : (table : TagTable) (now : ℕ) (dir : Directory) → valid_tags (Some table) ≡ true → is_some (soup_of sig (bare_store catalog.directory)) ≡ true
+      → bare_store dir ≡ change_soup_of sig (with_tags (Some table)) (bare_store catalog.directory) → IsPlanOf catalog (SetTags sig table) now s (record { directory = dir; entry = None; gone = Nothing; answer = 0 })
+  tags-planned table now dir fits some made =
+      let w = the_some (soup_of sig s) (some-as ∙ some) in
+      record {
+        accepted = first-not NoSoup (is_none (soup_of sig s)) [] (ap not (some-as ∙ some));
+        answer = refl;
+        turns = subst (λ (t : Store). Turns catalog (record { directory = dir; entry = None; gone = Nothing; answer = 0 }) s t) (ap (λ (o : Option Soup). changed_soup o (with_tags (Some table)) s) (sym w.1))
+            (turns-declared catalog s sig w.0 w.1 (with_tags (Some table)) (sets-tags (Some table)) (valid-tagged (Some table) w.0 fits) dir made);
+        added = refl;
+        removed = none-over _;
+      }
+
+  -- an index more
+
+  module _ (spec : IndexSpec) where
+    abbrev of-indexes : List IndexSpec → Checks
+    of-indexes specs = (BadIndex, has_paths (paths_of spec) specs) ∷ (Limit, nat_le 16 (length specs)) ∷ []
+
+    pub index-no-soup : is_some (soup_of sig (bare_store catalog.directory)) ≡ false → first_of (first_checks (AddIndex sig spec) s) ≡ Some NoSoup
+    index-no-soup none = first-holds NoSoup (is_none (soup_of sig s)) (of-indexes (specs_of (soup_of sig s))) (ap not (some-as ∙ none))
+
+    module _ (row : Soup) (there : soup_of sig (bare_store catalog.directory) ≡ Some row) where
+      the-soup : (p : Soup) × (soup_of sig s ≡ Some p) × (emptied p ≡ row)
+      the-soup = emptied-some (soup_of sig s) row (sym (soup-same catalog.directory (place_of catalog.places) texts s d sig) ∙ there)
+
+      same-specs : the-soup.0.specs ≡ row.specs
+      same-specs = ap (λ (q : Soup). q.specs) the-soup.2
+
+      with-a-soup : first_of (first_checks (AddIndex sig spec) s) ≡ first_of (of-indexes row.specs)
+      with-a-soup = ap (λ (o : Option Soup). first_of ((NoSoup, is_none o) ∷ of-indexes (specs_of o))) the-soup.1 ∙ ap (λ (specs : List IndexSpec). first_of (of-indexes specs)) same-specs
+
+      pub index-there : has_paths (paths_of spec) row.specs ≡ true → first_of (first_checks (AddIndex sig spec) s) ≡ Some BadIndex
+      index-there has = with-a-soup ∙ first-holds BadIndex (has_paths (paths_of spec) row.specs) ((Limit, nat_le 16 (length row.specs)) ∷ []) has
+
+      module _ (new : has_paths (paths_of spec) row.specs ≡ false) where
+        pub index-limit : nat_le 16 (length row.specs) ≡ true → first_of (first_checks (AddIndex sig spec) s) ≡ Some Limit
+        index-limit many = with-a-soup ∙ first-not BadIndex (has_paths (paths_of spec) row.specs) ((Limit, nat_le 16 (length row.specs)) ∷ []) new
+            ∙ first-holds Limit (nat_le 16 (length row.specs)) [] many
+
+        pub index-planned : (now : ℕ) (dir : Directory) → nat_le 16 (length row.specs) ≡ false → valid_spec spec ≡ true → bare_store dir ≡ change_soup_of sig (with_index spec) (bare_store catalog.directory)
+            → IsPlanOf catalog (AddIndex sig spec) now s (record { directory = dir; entry = None; gone = Nothing; answer = 0 })
+        index-planned now dir few fits made =
+            let p = the-soup.0 in
+            let good : valid_soup p ≡ true → valid_soup (with_index spec p) ≡ true = valid-index spec p fits
+            (ap (λ (specs : List IndexSpec). nat_le 16 (length specs)) same-specs ∙ few) (ap (has_paths (paths_of spec)) same-specs ∙ new) in
+            record {
+              accepted = with-a-soup ∙ first-not BadIndex (has_paths (paths_of spec) row.specs) ((Limit, nat_le 16 (length row.specs)) ∷ []) new
+                  ∙ first-not Limit (nat_le 16 (length row.specs)) [] few;
+              answer = refl;
+              turns = subst (λ (t : Store). Turns catalog (record { directory = dir; entry = None; gone = Nothing; answer = 0 }) s t) (ap (λ (o : Option Soup). changed_soup o (with_index spec) s) (sym the-soup.1))
+                  (turns-declared catalog s sig p the-soup.1 (with_index spec) (adds-index spec) good dir made);
+              added = refl;
+              removed = none-over _;
+            }

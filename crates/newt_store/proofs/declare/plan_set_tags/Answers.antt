@@ -1,0 +1,32 @@
+use Rattle.std.proofs.Common.{◌≡◌, Some, true, not, ◌∙◌, ap}
+use Rattle.std.specs.Option.{is_some}
+use Rattle.newt_pagebook.proofs.Tests.{the_some}
+use Rattle.newt_soupdir.specs.Bare.{bare_store}
+use Rattle.newt_soupdir.specs.Changes.{soup_of, change_soup_of, with_tags}
+use Rattle.newt_soupdir.specs.declared.rows.Directory.{Directory}
+use Rattle.newt_store.proofs.Declaring.{sets-tags, valid-tagged, formed-declared, tags-no-soup, tags-planned}
+use Rattle.newt_store.proofs.Planned.{seen-some, none-some}
+use Rattle.newt_store.proofs.declare.plan_set_tags.Goals as goal
+
+pub returns-then-is_none-clause-refused : goal.returns-then-is_none-clause-refused
+returns-then-is_none-clause-refused c = λ texts s d.
+    tags-no-soup c.args.catalog.now texts s d c.args.sig c.args.table (seen-some _ c.soup_of.result (soup_of c.args.sig (bare_store c.args.catalog.now.directory)) c.soup_of.ensures ∙ c.is_none.ensures ∙ ap not c.if-is_none.true)
+
+pub returns-clause-next : goal.returns-clause-next
+returns-clause-next c =
+    let some : is_some (soup_of c.args.sig (bare_store c.args.catalog.now.directory)) ≡ true = seen-some _ c.soup_of.result (soup_of c.args.sig (bare_store c.args.catalog.now.directory)) c.soup_of.ensures ∙ c.is_none.ensures ∙ ap not c.if-is_none.false in
+    let is : bare_store c.set_tags.new.self ≡ change_soup_of c.args.sig (with_tags (Some c.args.table)) (bare_store c.args.catalog.now.directory) =
+    c.set_tags.ensures ∙ ap (λ (x : Directory). change_soup_of c.args.sig (with_tags (Some c.args.table)) (bare_store x)) c.in_ok-directory.ensures in
+    let p = the_some (soup_of c.args.sig (bare_store c.args.catalog.now.directory)) some in
+    record {
+      formed = formed-declared c.args.catalog.now.directory c.set_tags.new.self c.args.sig p.0 (with_tags (Some c.args.table)) (sets-tags (Some c.args.table)) c.requires p.1 (valid-tagged (Some c.args.table) p.0 c.symbols.ensures.valid) is;
+      odd = λ e isnt. absurd (none-some isnt);
+      free = λ e isnt. absurd (none-some isnt);
+    }
+
+pub returns-clause-planned : goal.returns-clause-planned
+returns-clause-planned c = λ now texts s d.
+    let some : is_some (soup_of c.args.sig (bare_store c.args.catalog.now.directory)) ≡ true = seen-some _ c.soup_of.result (soup_of c.args.sig (bare_store c.args.catalog.now.directory)) c.soup_of.ensures ∙ c.is_none.ensures ∙ ap not c.if-is_none.false in
+    let is : bare_store c.set_tags.new.self ≡ change_soup_of c.args.sig (with_tags (Some c.args.table)) (bare_store c.args.catalog.now.directory) =
+    c.set_tags.ensures ∙ ap (λ (x : Directory). change_soup_of c.args.sig (with_tags (Some c.args.table)) (bare_store x)) c.in_ok-directory.ensures in
+    tags-planned c.args.catalog.now texts s d c.args.sig c.args.table now c.set_tags.new.self c.symbols.ensures.valid some is

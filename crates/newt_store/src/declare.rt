@@ -1,0 +1,120 @@
+// What each change of a soup's declarations makes of a store, or why it is refused.
+ghost use Rattle.std.specs.Prelude.{IsTrue, ◌≡◌, ℕ, Some, nat_le, length, IfOk, IfErr};
+ghost use Rattle.std.specs.List.{list_any};
+ghost use Rattle.newt_base.specs.Refusals.{first_of};
+ghost use Rattle.newt_image.specs.Objects.{Objects as Texts};
+ghost use Rattle.newt_shelf.specs.Places.{place_of};
+ghost use Rattle.newt_soupdir.specs.Bare.{bare_store};
+ghost use Rattle.newt_spec_store.specs.Keys.{paths_of, same_paths};
+ghost use Rattle.newt_spec_store.specs.Store.{Store as PlainStore};
+ghost use Rattle.newt_spec_store.specs.Valid.{well_formed, valid_spec};
+ghost use Rattle.newt_store.specs.Change.{first_checks};
+ghost use Rattle.newt_store.specs.Next.{IsNextOf, IsPlanOf, IsNoDevice};
+ghost use Rattle.newt_store.specs.Stands.{Describes, RefusesWith};
+
+use crate::catalog::Catalog;
+use crate::change::Change;
+use crate::next::{Gone, Next};
+use crate::paths::Paths;
+use newt_base::{Refusal, Sig};
+use newt_keys::IndexSpec;
+use newt_shelf::StoreFault;
+use newt_tags::TagTable;
+
+/// The most indexes of a soup.
+const MOST_INDEXES: usize = 16;
+
+// Whether one of the indexes has the paths of the declaration, in this order and but for ASCII case.
+fn has_paths_of(specs: &[IndexSpec], spec: &IndexSpec) -> bool
+    ensures has { result ≡ list_any (λ other. same_paths (paths_of other) (paths_of spec.now)) specs.now }
+    ensures valid { IsTrue (valid_spec spec.now) }
+{
+    let _parts = spec.list();
+    specs.iter().any(|other| other.same_paths(spec))
+}
+
+fn are_all(specs: &[IndexSpec]) -> bool
+    ensures { result ≡ nat_le 16 (length specs.now) }
+{
+    MOST_INDEXES <= specs.len()
+}
+
+pub(crate) fn plan_add_index(
+    catalog: &Catalog,
+    sig: Sig,
+    spec: IndexSpec,
+) -> Result<Next, StoreFault>
+    requires { IsTrue (well_formed (bare_store catalog.now.directory)) }
+    ensures next { IfOk result (IsNextOf catalog.now) }
+    ensures planned { (now : ℕ) (texts : Texts) (s : PlainStore) → Describes catalog.now.directory (place_of catalog.now.places) texts s → IfOk result (IsPlanOf catalog.now (Change.AddIndex sig spec) now s) }
+    ensures refused { (texts : Texts) (s : PlainStore) → Describes catalog.now.directory (place_of catalog.now.places) texts s → IfErr result (RefusesWith (first_of (first_checks (Change.AddIndex sig spec) s))) }
+    ensures cause { IfErr result IsNoDevice }
+{
+    let Some(row) = catalog.directory.soup_of(sig) else {
+        return Err(StoreFault::Refused(Refusal::Soup));
+    };
+    let specs = row.specs.list();
+    if has_paths_of(specs, &spec) {
+        return Err(StoreFault::Refused(Refusal::Index));
+    }
+    if are_all(specs) {
+        return Err(StoreFault::Refused(Refusal::Limit));
+    }
+    let mut directory = catalog.directory.copy()?;
+    directory.add_spec(sig, spec)?;
+    Ok(Next {
+        directory,
+        entry: None,
+        gone: Gone::Nothing,
+        answer: 0,
+    })
+}
+
+pub(crate) fn plan_drop_index(
+    catalog: &Catalog,
+    sig: Sig,
+    paths: &Paths,
+) -> Result<Next, StoreFault>
+    requires { IsTrue (well_formed (bare_store catalog.now.directory)) }
+    ensures next { IfOk result (IsNextOf catalog.now) }
+    ensures planned { (now : ℕ) (texts : Texts) (s : PlainStore) → Describes catalog.now.directory (place_of catalog.now.places) texts s → IfOk result (IsPlanOf catalog.now (Change.DropIndex sig paths.now) now s) }
+    ensures refused { (texts : Texts) (s : PlainStore) → Describes catalog.now.directory (place_of catalog.now.places) texts s → IfErr result (RefusesWith (first_of (first_checks (Change.DropIndex sig paths.now) s))) }
+    ensures cause { IfErr result IsNoDevice }
+{
+    if catalog.directory.soup_of(sig).is_none() {
+        return Err(StoreFault::Refused(Refusal::Soup));
+    }
+    let mut directory = catalog.directory.copy()?;
+    directory.drop_spec(sig, paths.list());
+    Ok(Next {
+        directory,
+        entry: None,
+        gone: Gone::Nothing,
+        answer: 0,
+    })
+}
+
+pub(crate) fn plan_set_tags(
+    catalog: &Catalog,
+    sig: Sig,
+    table: TagTable,
+) -> Result<Next, StoreFault>
+    requires { IsTrue (well_formed (bare_store catalog.now.directory)) }
+    ensures next { IfOk result (IsNextOf catalog.now) }
+    ensures planned { (now : ℕ) (texts : Texts) (s : PlainStore) → Describes catalog.now.directory (place_of catalog.now.places) texts s → IfOk result (IsPlanOf catalog.now (Change.SetTags sig table) now s) }
+    ensures refused { (texts : Texts) (s : PlainStore) → Describes catalog.now.directory (place_of catalog.now.places) texts s → IfErr result (RefusesWith (first_of (first_checks (Change.SetTags sig table) s))) }
+    ensures cause { IfErr result IsNoDevice }
+{
+    if catalog.directory.soup_of(sig).is_none() {
+        return Err(StoreFault::Refused(Refusal::Soup));
+    }
+    let _valid = table.symbols();
+    let mut directory = catalog.directory.copy()?;
+    directory.set_tags(sig, Some(table));
+    Ok(Next {
+        directory,
+        entry: None,
+        gone: Gone::Nothing,
+        answer: 0,
+    })
+}

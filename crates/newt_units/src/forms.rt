@@ -1,0 +1,109 @@
+//! The forms of the words that a declaration is made of.
+ghost use Rattle.std.specs.Prelude.{◌≡◌, ◌||◌, is_none};
+ghost use Rattle.std.specs.Char.{is_ascii_digit};
+ghost use Rattle.std.specs.List.{list_all, list_any};
+ghost use Rattle.newt_base.specs.Names.{is_identifier, starts_identifier, same_name};
+ghost use Rattle.newt_laws.specs.Worlds.{parts_fit};
+ghost use Rattle.newt_laws_answers.specs.Stage.{tags_fit};
+ghost use Rattle.newt_spec_graph.specs.Lists.{all_apart};
+ghost use Rattle.newt_spec_store.specs.Valid.{valid_path, valid_symbol};
+
+use newt_graph::Bytes;
+use newt_path::Path;
+use newt_spec_world::PartWord;
+
+/// The most bytes of a symbol.
+const MOST_BYTES: usize = 254;
+
+/// The most names of a path.
+const MOST_NAMES: usize = 8;
+
+/// The most parts of an index.
+const MOST_PARTS: usize = 4;
+
+/// Whether there are 1 to 4 parts, each with a path.
+pub(crate) fn are_parts(parts: &[PartWord]) -> bool
+    ensures { result ≡ parts_fit parts.now }
+{
+    !parts.is_empty() && parts.len() <= MOST_PARTS && parts.iter().all(|part| is_path(&part.path))
+}
+
+/// Whether a part has no type that an index can have.
+pub(crate) fn has_real(parts: &[PartWord]) -> bool
+    ensures { result ≡ list_any (λ p. is_none p.kind) parts.now }
+{
+    parts.iter().any(|part| part.kind.is_none())
+}
+
+/// Whether this is a path, and these are symbols, no two of which are one but for ASCII case.
+pub(crate) fn are_tags(path: &Path, symbols: &[Bytes]) -> bool
+    ensures { result ≡ tags_fit path.now symbols.now }
+{
+    is_path(path) && all_symbols(symbols) && are_symbols_apart(symbols)
+}
+
+/// Whether a path has 1 to 8 names, each an identifier of at most 254 bytes.
+fn is_path(path: &Path) -> bool
+    ensures { result ≡ valid_path path.now }
+{
+    let names = path.list();
+    !names.is_empty() && names.len() <= MOST_NAMES && all_symbols(names)
+}
+
+fn all_symbols(names: &[Bytes]) -> bool
+    ensures { result ≡ list_all valid_symbol names.now }
+{
+    names.iter().all(|name| is_symbol(name.list()))
+}
+
+/// Whether a text is an identifier of at most 254 bytes.
+fn is_symbol(text: &[u8]) -> bool
+    ensures { result ≡ valid_symbol text.now }
+{
+    is_identifier(text) && text.len() <= MOST_BYTES
+}
+
+fn is_identifier(text: &[u8]) -> bool
+    ensures { result ≡ is_identifier text.now }
+{
+    match text {
+        [] => false,
+        [first, rest @ ..] => starts_identifier(*first) && all_continue(rest),
+    }
+}
+
+fn starts_identifier(byte: u8) -> bool
+    ensures { result ≡ starts_identifier byte }
+{
+    byte.is_ascii_alphabetic() || byte == b'_'
+}
+
+fn all_continue(bytes: &[u8]) -> bool
+    ensures { result ≡ list_all (λ b. starts_identifier b || is_ascii_digit b) bytes.now }
+{
+    bytes
+        .iter()
+        .all(|b| starts_identifier(*b) || b.is_ascii_digit())
+}
+
+/// Whether no two symbols are one but for ASCII case.
+fn are_symbols_apart(symbols: &[Bytes]) -> bool
+    ensures { result ≡ all_apart same_name symbols.now }
+{
+    let mut left = symbols;
+    while let [symbol, rest @ ..] = left {
+        if is_among(symbol.list(), rest) {
+            return false;
+        }
+        left = rest;
+    }
+    true
+}
+
+fn is_among(symbol: &[u8], symbols: &[Bytes]) -> bool
+    ensures { result ≡ list_any (same_name symbol.now) symbols.now }
+{
+    symbols
+        .iter()
+        .any(|other| symbol.eq_ignore_ascii_case(other.list()))
+}
