@@ -1,9 +1,11 @@
 //! What is asked of a store on the card of one unit.
-ghost use Rattle.std.specs.Prelude.{◌≡◌, ℕ, ◌≤◌, [], List, Bool, IsTrue, Option, Some, None, is_some, option_map, option_and_then, slice_get, OnOk, IfOk, IfErr, IsErrOf, true, ⊤};
+ghost use Rattle.std.specs.Prelude.{◌≡◌, ℕ, ◌≤◌, [], List, Bool, IsTrue, Option, Some, None, is_some, option_map, option_and_then, slice_get, OnOk, IfSome, IfOk, IfErr, IsErrOf, true, ⊤};
 ghost use Rattle.newt_host.specs.Moments.{image, Leaves};
 ghost use Rattle.newt_host.specs.Outside.{Outside, Rose, Touches};
 ghost use Rattle.newt_pagebook.specs.Book.{IsDurable, Anything};
 ghost use Rattle.newt_pagebook.specs.Stops.{StopsAt};
+ghost use Rattle.newt_index.specs.Pairs.{IsSorted};
+ghost use Rattle.newt_ranges.specs.Range.{range_in};
 ghost use Rattle.newt_spec_store.specs.Laid.{bare};
 ghost use Rattle.newt_spec_store.specs.Lies.{has_no_large};
 ghost use Rattle.newt_spec_store.specs.Store.{Store as Plain, Soup, Entry as PlainEntry, soup_named, change_soup, make_soup, drop_soup, add_entry, remove_entry, entry_of};
@@ -17,6 +19,7 @@ use crate::fault::Fault;
 use newt_base::{Name, Sig, Uid};
 use newt_graph::Graph;
 use newt_host::{Host, Unit};
+use newt_index::Index;
 use newt_keys::IndexSpec;
 use newt_pagebook::{BookFault, Stop};
 use newt_path::Path;
@@ -257,6 +260,13 @@ pub trait Card: Sized + Drop {
     /// The tags declaration of a soup, if it has one.
     fn tags(&self, soup: Sig) -> Option<&TagTable>
         ensures { option_map (λ tags. tags.now) result ≡ option_and_then (λ p. p.tags) (soup_of soup (soups self.now)) };
+
+    /// The sorted list of exactly the entries of a soup that have a key: by its declaration that agrees with this one, or with none of all entries by
+    /// id. None exactly where the soup is not there or does not carry the declaration. It takes no memory.
+    fn range(&self, soup: Sig, spec: Option<&IndexSpec>) -> Option<&Index>
+        ensures sorted { IfSome result (λ v. IsSorted v.now) }
+        ensures stands { (outside : Outside) (s : Plain) → stands true self.now outside → reads (image (place self.now) outside.now) ≡ Some s →
+            option_map (λ v. v.now) result ≡ range_in soup (option_map (λ s. s.now) spec.entry) s };
 
     /// How many entries a soup has.
     fn count(&self, soup: Sig) -> u32
