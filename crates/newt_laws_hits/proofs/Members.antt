@@ -1,16 +1,15 @@
 -- The hits of an index alone are the merge of its members' ranges.
-use Rattle.std.proofs.Common.{arith, ◌≡◌, refl, ap, sym, ◌∙◌, subst, ℕ, ◌<◌, Bool, true, false, ◌&&◌, ◌==◌, ◌⊎◌, inl, inr, List, [], ◌∷◌, find, filter, filter_map, flat_map, map, Option, Some, None, option_map, option_and_then, cond}
+use Rattle.std.proofs.Common.{arith, ◌≡◌, refl, ap, sym, ◌∙◌, subst, ℕ, ◌<◌, true, ◌&&◌, ◌==◌, inl, inr, List, [], ◌∷◌, find, filter, flat_map, map, Option, Some, None, option_map, option_and_then, cond}
 use Rattle.std.specs.List.{All}
 use Rattle.std.proofs.lemmas.Bool.{and_parts}
 use Rattle.std.proofs.lemmas.List.Elements.{All-nil, All-cons}
 use Rattle.newt_base.specs.Names.{equal_text}
 use Rattle.newt_spec_graph.specs.Lists.{Each, Pairs, Among}
-use Rattle.newt_spec_graph.proofs.Lists.{each-at, each-from, among-flat_map, flat_map-among, among-filter, filter-among, among-filter_map, filter_map-among, pairs-more, pairs-map, pairs-filter, pairs-filter_map, pairs-flat_map, rises-pairs, each-more, none-some, some-same}
+use Rattle.newt_spec_graph.proofs.Lists.{each-at, each-from, among-flat_map, flat_map-among, among-filter, filter-among, among-filter_map, filter_map-among, pairs-more, pairs-map, pairs-filter, pairs-filter_map, pairs-flat_map, rises-pairs, none-some, some-same}
 use Rattle.newt_spec_store.specs.Keys.{IndexSpec, Key, key}
 use Rattle.newt_spec_store.specs.Store.{Entry, Soup, Store, soup_named}
 use Rattle.newt_spec_store.specs.Valid.{well_formed}
-use Rattle.newt_spec_store.specs.Sorted.{sorted_by}
-use Rattle.newt_spec_store.proofs.Sorting.{among-fold, fold-among, fold-pairs, sorted-rises, Rise, Untied}
+use Rattle.newt_spec_store.proofs.Sorting.{among-fold, fold-among, fold-pairs, sorted-rises, Untied}
 use Rattle.newt_spec_query.specs.Hits.{Query, Hit, hits, hit_cmp, hit_of, kept, in_scope, carries}
 use Rattle.newt_spec_query.proofs.Order.{hit_total}
 use Rattle.newt_laws_images.proofs.Assembled.{map-among, among-map}
@@ -20,10 +19,9 @@ use Rattle.newt_index.specs.Pairs.{Pair, Sorted, parts_of, pair_cmp}
 use Rattle.newt_index.specs.Range.{entry_pair, entry_pairs, range_of}
 use Rattle.newt_ranges.specs.Range.{range_of_soup, range_in}
 use Rattle.newt_union.specs.Merged.{Member, hit, hits_of, merged, Agree, AllAgree}
-use Rattle.newt_laws_hits.specs.Located.{Located, takes_part, hit_for}
 use Rattle.newt_laws_hits.specs.Stripped.{stripped}
 use Rattle.newt_laws_hits.specs.Taking.{declared, member_of, members_of}
-use Rattle.newt_laws_hits.proofs.Origins.{Origin, origin, among-hits, taken}
+use Rattle.newt_laws_hits.proofs.Origins.{origin, among-hits, taken}
 use Rattle.newt_laws_hits.proofs.Passing.{same-rising}
 use Rattle.newt_laws_hits.proofs.Agreeing.{IsRangeFor, carried-range, range-carried}
 
@@ -119,6 +117,16 @@ some-of-map : {X Y : Type 0} (f : X → Y) (o : Option X) (y : Y) → option_map
 some-of-map f None y h = absurd (none-some y h)
 some-of-map f (Some x) y h = (x, refl, some-same (f x) y h)
 
+-- the hit of an entry is among those of a range of its soup
+member-hit : (q : Query) (s : Store) (p : Soup) (e : Entry) (r : Sorted) → (f : IsRangeFor q.spec.index p r) → (h : Hit) → Among p.entries e → hit_of (stripped q).spec s p e ≡ Some h
+    → Among (hits_of (with_range s p r)) h
+member-hit q s p e r f h m t =
+    let spec = parts_of f.declared_by in
+    let is = some-of-map (hit (with_range s p r)) (entry_pair spec e) h (sym (hit-pair q s p e spec r (f.keys e.graph)) ∙ t) in
+    subst (Among (hits_of (with_range s p r))) is.2 (map-among (hit (with_range s p r)) r.pairs is.0
+    (subst (λ (v : Sorted). Among v.pairs is.0) (sym f.range_is)
+    (fold-among (pair_cmp spec) [] (entry_pairs spec p.entries) is.0 (inr (filter_map-among (entry_pair spec) p.entries e is.0 m is.1)))))
+
 -- ---- all of them
 
 module _ (stores : List Store) (q : Query) (apart : Pairs Apart stores) (formed : Each (λ s. well_formed s ≡ true) stores) where
@@ -141,19 +149,13 @@ module _ (stores : List Store) (q : Query) (apart : Pairs Apart stores) (formed 
       let d = and_parts (equal_text p.name q.name) (carries q.spec.index p) b.1 in
       let r = carried-range q.spec.index p d.1 in
       let f = (range-carried q.spec.index p r.0 r.1).1 in
-      let is = some-of-map (hit (with_range s p r.0)) (entry_pair (parts_of f.declared_by) e) h
-          (sym (hit-pair q s p e (parts_of f.declared_by) r.0 (f.keys e.graph)) ∙ t.1) in
-      let pair : Among r.0.pairs is.0 =
-          subst (λ (v : Sorted). Among v.pairs is.0) (sym f.range_is)
-          (fold-among (pair_cmp (parts_of f.declared_by)) [] (entry_pairs (parts_of f.declared_by) p.entries) is.0
-          (inr (filter_map-among (entry_pair (parts_of f.declared_by)) p.entries e is.0 o.is_entry is.1))) in
       let found : option_and_then (member_of q s) (soup_named q.name s) ≡ Some (with_range s p r.0) =
-          ap (option_and_then (member_of q s)) (find-one (λ (x : Soup). equal_text x.name q.name) s.soups p (one-name q.name s (good s o.is_store)) o.is_soup d.0)
-          ∙ ap (option_map (with_range s p)) (in-soup s p o.is_store o.is_soup ∙ r.1) in
+      ap (option_and_then (member_of q s)) (find-one (λ (x : Soup). equal_text x.name q.name) s.soups p (one-name q.name s (good s o.is_store)) o.is_soup d.0)
+      ∙ ap (option_map (with_range s p)) (in-soup s p o.is_store o.is_soup ∙ r.1) in
       fold-among (hit_cmp q.spec.index) [] (flat_map hits_of (members_of stores q)) h (inr (flat_map-among hits_of (members_of stores q) (with_range s p r.0) h
       (filter_map-among (λ s. option_and_then (member_of q s) (soup_named q.name s)) (filter (in_scope q.scope) stores) s (with_range s p r.0)
       (filter-among (in_scope q.scope) stores s o.is_store b.0) found)
-      (subst (Among (hits_of (with_range s p r.0))) is.2 (map-among (hit (with_range s p r.0)) r.0.pairs is.0 pair))))
+      (member-hit q s p e r.0 f h o.is_entry t.1)))
 
   -- what a member is, with its range
   carried : (m : Member) → (i : IsMember stores q m) → (carries q.spec.index i.p ≡ true) × IsRangeFor q.spec.index i.p i.r
@@ -219,7 +221,7 @@ module _ (stores : List Store) (q : Query) (apart : Pairs Apart stores) (formed 
       (pairs-filter_map (λ x y. (a b : Hit) → Among (hits_of x) a → Among (hits_of y) b → Other a b) (λ s. option_and_then (member_of q s) (soup_named q.name s))
       (filter (in_scope q.scope) stores)
       (pairs-more Apart (λ s t. (x y : Member) → option_and_then (member_of q s) (soup_named q.name s) ≡ Some x → option_and_then (member_of q t) (soup_named q.name t) ≡ Some y
-          → (a b : Hit) → Among (hits_of x) a → Among (hits_of y) b → Other a b)
+      → (a b : Hit) → Among (hits_of x) a → Among (hits_of y) b → Other a b)
       (filter (in_scope q.scope) stores)
       (λ s t _ _ differ x y e f a b m n same _ _.
       differ (sym (hit-store x a m ∙ member-store s x e) ∙ same ∙ hit-store y b n ∙ member-store t y f))
