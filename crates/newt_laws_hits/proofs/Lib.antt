@@ -5,3 +5,4 @@ pub mod Passing
 pub mod Agreeing
 pub mod Members
 pub mod Searches
+pub mod Numbers

@@ -27,25 +27,25 @@ use Rattle.newt_laws_hits.proofs.Agreeing.{IsRangeFor, carried-range, range-carr
 
 -- ---- the members
 
-abbrev with_range : Store → Soup → Sorted → Member
+abbrev pub with_range : Store → Soup → Sorted → Member
 with_range s p r = record { store = s.sig; soup = p.sig; range = r }
 
 -- a member is of a soup of the query's name, which carries its index
-record IsMember (stores : List Store) (q : Query) (m : Member) : Type 0 where
-  s : Store
-  p : Soup
-  r : Sorted
-  is_store : Among stores s
-  scoped : in_scope q.scope s ≡ true
-  is_soup : Among s.soups p
-  named : equal_text p.name q.name ≡ true
-  range_is : range_in p.sig (declared q.spec.index) s ≡ Some r
-  is : with_range s p r ≡ m
+pub record IsMember (stores : List Store) (q : Query) (m : Member) : Type 0 where
+  pub store : Store
+  pub soup : Soup
+  pub range : Sorted
+  pub is_store : Among stores store
+  pub scoped : in_scope q.scope store ≡ true
+  pub is_soup : Among store.soups soup
+  pub named : equal_text soup.name q.name ≡ true
+  pub range_is : range_in soup.sig (declared q.spec.index) store ≡ Some range
+  pub is : with_range store soup range ≡ m
 
 member-same : (a b : Member) → Some a ≡ Some b → a ≡ b
 member-same a b h = cc
 
-is-member : (stores : List Store) (q : Query) (m : Member) → Among (members_of stores q) m → IsMember stores q m
+pub is-member : (stores : List Store) (q : Query) (m : Member) → Among (members_of stores q) m → IsMember stores q m
 is-member stores q m n =
     let f = among-filter_map (λ s. option_and_then (member_of q s) (soup_named q.name s)) (filter (in_scope q.scope) stores) m n in
     let b = among-filter (in_scope q.scope) stores f.0 f.1 in
@@ -55,9 +55,9 @@ is-member stores q m n =
         → range_in p.sig (declared q.spec.index) s ≡ o → option_map (with_range s p) o ≡ Some m → IsMember stores q m
     on_range s b p c None e i = absurd (none-some m i)
     on_range s b p c (Some r) e i = record {
-      s = s;
-      p = p;
-      r = r;
+      store = s;
+      soup = p;
+      range = r;
       is_store = b.0;
       scoped = b.1;
       is_soup = c.1;
@@ -158,8 +158,8 @@ module _ (stores : List Store) (q : Query) (apart : Pairs Apart stores) (formed 
       (member-hit q s p e r.0 f h o.is_entry t.1)))
 
   -- what a member is, with its range
-  carried : (m : Member) → (i : IsMember stores q m) → (carries q.spec.index i.p ≡ true) × IsRangeFor q.spec.index i.p i.r
-  carried m i = range-carried q.spec.index i.p i.r (sym (in-soup i.s i.p i.is_store i.is_soup) ∙ i.range_is)
+  pub carried : (m : Member) → (i : IsMember stores q m) → (carries q.spec.index i.soup ≡ true) × IsRangeFor q.spec.index i.soup i.range
+  carried m i = range-carried q.spec.index i.soup i.range (sym (in-soup i.store i.soup i.is_store i.is_soup) ∙ i.range_is)
 
   -- a hit of a member is one of the index alone
   back : (h : Hit) → Among (merged q.spec.index (members_of stores q)) h → Among (hits stores (stripped q)) h
@@ -171,10 +171,10 @@ module _ (stores : List Store) (q : Query) (apart : Pairs Apart stores) (formed 
           let i = is-member stores q a.0 a.1 in
           let c = carried a.0 i in
           let f = c.1 in
-          let m = among-map (hit (with_range i.s i.p i.r)) i.r.pairs h (subst (λ (x : Member). Among (hits_of x) h) (sym i.is) a.2) in
+          let m = among-map (hit (with_range i.store i.soup i.range)) i.range.pairs h (subst (λ (x : Member). Among (hits_of x) h) (sym i.is) a.2) in
           let n = subst (λ (v : Sorted). Among v.pairs m.0) f.range_is m.1 in
-          pair_hit i.s i.p i.r i.is_store i.scoped i.is_soup i.named c.0 f m.0 m.2
-          (elim (among-fold (pair_cmp (parts_of f.declared_by)) [] (entry_pairs (parts_of f.declared_by) i.p.entries) m.0 n) [ inl x ↦ absurd x | inr x ↦ x ])
+          pair_hit i.store i.soup i.range i.is_store i.scoped i.is_soup i.named c.0 f m.0 m.2
+          (elim (among-fold (pair_cmp (parts_of f.declared_by)) [] (entry_pairs (parts_of f.declared_by) i.soup.entries) m.0 n) [ inl x ↦ absurd x | inr x ↦ x ])
         where
           pair_hit : (s : Store) (p : Soup) (r : Sorted) → Among stores s → in_scope q.scope s ≡ true → Among s.soups p → equal_text p.name q.name ≡ true → carries q.spec.index p ≡ true
               → (f : IsRangeFor q.spec.index p r) → (v : Pair) → hit (with_range s p r) v ≡ h → Among (entry_pairs (parts_of f.declared_by) p.entries) v → Among (hits stores (stripped q)) h
@@ -197,9 +197,9 @@ module _ (stores : List Store) (q : Query) (apart : Pairs Apart stores) (formed 
       let i = is-member stores q m n in
       let f = (carried m i).1 in
       subst (λ (x : Member). Pairs Other (hits_of x)) i.is
-      (pairs-of-map Other (hit (with_range i.s i.p i.r)) i.r.pairs
-      (pairs-more Differ (λ a b. Other (hit (with_range i.s i.p i.r) a) (hit (with_range i.s i.p i.r) b)) i.r.pairs (λ a b _ _ d _ _ same. d same)
-      (subst (λ (v : Sorted). Pairs Differ v.pairs) (sym f.range_is) (range-differs f.declared_by i.s i.p (good i.s i.is_store) i.is_soup))))
+      (pairs-of-map Other (hit (with_range i.store i.soup i.range)) i.range.pairs
+      (pairs-more Differ (λ a b. Other (hit (with_range i.store i.soup i.range) a) (hit (with_range i.store i.soup i.range) b)) i.range.pairs (λ a b _ _ d _ _ same. d same)
+      (subst (λ (v : Sorted). Pairs Differ v.pairs) (sym f.range_is) (range-differs f.declared_by i.store i.soup (good i.store i.is_store) i.is_soup))))
 
   member-store : (s : Store) (m : Member) → option_and_then (member_of q s) (soup_named q.name s) ≡ Some m → m.store ≡ s.sig
   member-store s m = go (soup_named q.name s)
@@ -243,7 +243,7 @@ each-all P (x ∷ xs) h = All-cons P x xs (h x (inl refl)) (each-all P xs (λ y 
 pub members-agree : (stores : List Store) (q : Query) → AllAgree q.spec.index (members_of stores q)
 members-agree stores q = each-all (λ (m : Member). Agree q.spec.index (parts_of m.range.spec)) (members_of stores q) (λ m n.
     let i = is-member stores q m n in
-    subst (λ (x : Member). Agree q.spec.index (parts_of x.range.spec)) i.is (agree_of i.p.sig i.s i.r i.range_is))
+    subst (λ (x : Member). Agree q.spec.index (parts_of x.range.spec)) i.is (agree_of i.soup.sig i.store i.range i.range_is))
   where
     agree_of : (sig : ℕ) (s : Store) (r : Sorted) → range_in sig (declared q.spec.index) s ≡ Some r → Agree q.spec.index (parts_of r.spec)
     agree_of sig s r = go (find (λ p. p.sig == sig) s.soups)

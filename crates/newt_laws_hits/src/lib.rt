@@ -11,7 +11,7 @@ mod identity;
 mod steps;
 mod walks;
 
-pub use hits::{hits_are_filtered, hits_are_merged};
+pub use hits::{hits_are_few, hits_are_filtered, hits_are_merged};
 pub use identity::{entries_are_located, hits_are_looked_up, settling_twice_is_settling};
 pub use steps::{searches_count, searches_end, steps_are_searches};
 pub use walks::{
