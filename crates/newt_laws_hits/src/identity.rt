@@ -23,10 +23,13 @@ pub fn hits_are_looked_up()
 /// An entry is located where its store and its soup are known, and what a cursor shows is where its hit is.
 pub fn entries_are_located()
     ensures known { (stores : List Store) (s : Store) (p : Soup) (uid : ℕ) → Pairs (λ s t. s.sig ≡ t.sig → ⊥) stores → Each (λ s. IsTrue (well_formed s)) stores
-        → Among stores s → Among s.soups p → located stores s.sig p.sig uid ≡ option_map (λ e. record { store = s; soup = p; entry = e }) (entry_of uid p) }
-    ensures shown { (w : World) (q : Query) (at : Hit) → Pairs (λ s t. s.sig ≡ t.sig → ⊥) (mounted_stores w) → Each (λ s. IsTrue (well_formed s)) (mounted_stores w)
+        → Among stores s → Among s.soups p → located stores s.sig p.sig uid
+        ≡ option_map (λ e. record { store = s; soup = p; entry = e }) (entry_of uid p) }
+    ensures shown { (w : World) (q : Query) (at : Hit) → Pairs (λ s t. s.sig ≡ t.sig → ⊥) (mounted_stores w)
+        → Each (λ s. IsTrue (well_formed s)) (mounted_stores w)
         → option_and_then (spot_of w) (hit_at (hits_of w q) (on at))
-        ≡ option_and_then (λ (h : Hit). resolved w (record { store = at.store; soup = at.soup; uid = at.uid })) (looked_up (mounted_stores w) q at.store at.soup at.uid) }
+        ≡ option_and_then (λ (h : Hit). resolved w (record { store = at.store; soup = at.soup; uid = at.uid }))
+        (looked_up (mounted_stores w) q at.store at.soup at.uid) }
 {}
 
 /// What is settled stays.
