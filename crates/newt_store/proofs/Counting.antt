@@ -15,15 +15,10 @@ use Rattle.newt_laws_images.proofs.Stores.{IsSoup, is-store, is-soup}
 use Rattle.newt_laws_changes.proofs.Soups.{found-good}
 use Rattle.newt_soupdir.specs.Changes.{soup_of}
 use Rattle.newt_soupdir.specs.declared.rows.Directory.{Directory}
-use Rattle.newt_store.specs.Change.{count_in}
+use Rattle.newt_store.specs.Change.{count_in, uids_in}
 use Rattle.newt_store.specs.Stands.{Describes}
 use Rattle.newt_store.proofs.Entries.{has-entry}
 use Rattle.newt_store.proofs.Sums.{same_number, other-way}
-
--- the ids of a soup's entries
-abbrev pub uids_in : Option Soup → List ℕ
-uids_in None = []
-uids_in (Some p) = map_list (λ (e : Entry). e.uid) p.entries
 
 found-member : (uid : ℕ) (es : List Entry) → is_some (find (λ e. e.uid == uid) es) ≡ is_member same_number (map_list (λ (e : Entry). e.uid) es) uid
 found-member uid [] = refl
