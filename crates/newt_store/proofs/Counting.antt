@@ -105,11 +105,11 @@ same-rising : (xs ys : List ℕ) → Pairs (λ m n. m < n) xs → Pairs (λ m n.
 same-rising [] [] rx ry same = refl
 same-rising [] (y ∷ ys) rx ry same = absurd (let no : false ≡ true = same y ∙ ap (λ b. b || is_member same_number ys y) (equal_true y y refl) in cc)
 same-rising (x ∷ xs) [] rx ry same = absurd (let no : true ≡ false = sym (ap (λ b. b || is_member same_number xs x) (equal_true x x refl)) ∙ same x in cc)
-same-rising (x ∷ xs) (y ∷ ys) rx ry same = by (cases_lt x y) (cases_lt y x) where
-  by : (x < y) ⊎ (y ≤ x) → (y < x) ⊎ (x ≤ y) → x ∷ xs ≡ y ∷ ys
-  by (inl l) more = absurd (not-first x y xs ys ry same l)
-  by (inr g) (inl l) = absurd (not-first y x ys xs rx (λ q. sym (same q)) l)
-  by (inr g) (inr l) = (λ i. is i ∷ same-rising xs ys rx.1 ry.1 rest i) where
+same-rising (x ∷ xs) (y ∷ ys) rx ry same = by (cases_lt x y) (cases_lt y x) (λ rest. same-rising xs ys rx.1 ry.1 rest) where
+  by : (x < y) ⊎ (y ≤ x) → (y < x) ⊎ (x ≤ y) → (((q : ℕ) → is_member same_number xs q ≡ is_member same_number ys q) → xs ≡ ys) → x ∷ xs ≡ y ∷ ys
+  by (inl l) more tails = absurd (not-first x y xs ys ry same l)
+  by (inr g) (inl l) tails = absurd (not-first y x ys xs rx (λ q. sym (same q)) l)
+  by (inr g) (inr l) tails = (λ i. is i ∷ tails rest i) where
     is : x ≡ y
     is = omega (arith, g, l)
 
