@@ -3,7 +3,7 @@ ghost use Rattle.std.specs.Prelude.{true, OnOk};
 ghost use Rattle.newt_memhost.specs.Outside.{outside_of};
 ghost use Rattle.newt_store.specs.Stands.{IsSound};
 
-use crate::contents::contents;
+use crate::rows::contents;
 use newt_base::{Name, Refusal, Sig, Uid};
 use newt_memhost::MemHost;
 use newt_nsof_read::decode;
