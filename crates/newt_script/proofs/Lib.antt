@@ -9,3 +9,4 @@ pub mod WordLists
 pub mod Pieces
 pub mod ListedRows
 pub mod Apart
+pub mod CursorRows
