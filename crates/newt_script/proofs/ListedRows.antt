@@ -68,7 +68,7 @@ row_indexes cs = two_words unit name command.Indexes cs
 -- ---- the two rows of `tags`
 
 -- what follows a soup that is not all
-declaration : ℕ → List ℕ → List ℕ → Reading
+abbrev declaration : ℕ → List ℕ → List ℕ → Reading
 declaration u s rest = after (word path_of rest) (λ p rest. with_list (apart (values 140_000 symbol (words rest))) (command.SetTags u s p))
 
 second_row : (u : ℕ) (s rest : List ℕ) → reading (ended (of2 (word path_of) distinct (command.SetTags u s) rest)) ≡ declaration u s rest

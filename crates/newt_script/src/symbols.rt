@@ -1,6 +1,7 @@
 //! Symbols of a tags declaration.
 ghost use Rattle.std.specs.Prelude.{◌≡◌, ◌≢◌, ◌||◌, bytes_eq, map, IfOk};
 ghost use Rattle.std.specs.Char.{is_ascii_digit};
+ghost use Rattle.std.specs.HashSet.{IsFromIterResult};
 ghost use Rattle.std.specs.List.{list_all};
 ghost use Rattle.std.specs.Str.{str_to_ascii_lowercase};
 ghost use Rattle.newt_base.specs.Names.{is_identifier, starts_identifier, same_name};
@@ -70,8 +71,15 @@ fn are_different(alloc: Global, texts: Vec<Vec<u8>>) -> Result<bool, AllocError>
     ensures { IfOk result (λ different. different ≡ all_apart bytes_eq (map (λ text. text.items) texts.items)) }
 {
     let number = texts.len();
-    let set: HashSet<Vec<u8>> = texts.into_iter().collect(alloc)?;
+    let set = set_of(alloc, texts)?;
     Ok(set.len() == number)
+}
+
+/// Each text once.
+fn set_of(alloc: Global, texts: Vec<Vec<u8>>) -> Result<HashSet<Vec<u8>>, AllocError>
+    ensures { IfOk result (λ set. IsFromIterResult (λ a b. bytes_eq a.items b.items) texts.items set) }
+{
+    texts.into_iter().collect(alloc)
 }
 
 /// Texts in ASCII lower case.
