@@ -62,11 +62,12 @@ refuses_path cs w word_ok is =
 
 -- ---- a star
 
-pub passes_star : (cs w rest : List ℕ) → w ≡ (first_word cs).0 → rest ≡ (first_word cs).1 → w ≡ codes "*" → star_of cs ≡ Ok (0, rest)
+pub passes_star : (cs w rest : List ℕ) → w ≡ (first_word cs).0 → rest ≡ (first_word cs).1 → bytes_eq w (codes "*") ≡ true → star_of cs ≡ Ok (0, rest)
 unfolding star_of
 passes_star cs w rest word_ok rest_ok is =
     word_is star cs refl
-    ∙ (ap (λ v. or_not_the_form (star v) (first_word cs).1) (sym word_ok ∙ is) ∙ ap (λ v. Ok (0, v)) (sym rest_ok))
+    ∙ (ap (λ v. or_not_the_form (star v) (first_word cs).1) (sym word_ok)
+    ∙ (ap (λ (b : Bool). or_not_the_form (if b then Some 0 else None) (first_word cs).1) is ∙ ap (λ v. Ok (0, v)) (sym rest_ok)))
 
 pub stays_at_no_star : (cs w : List ℕ) → w ≡ (first_word cs).0 → bytes_eq w (codes "*") ≡ false → star_of cs ≡ Err NotTheForm
 unfolding star_of
