@@ -1,7 +1,16 @@
-use Rattle.std.proofs.Common.{[]}
+use Rattle.std.proofs.Common.{◌≡◌, [], Err, rules, ap, ◌∙◌}
 use Rattle.newt_spec_script.specs.Words.{part}
+use Rattle.newt_script.specs.declared.fault.LineFault.TheVariants.{Memory}
 use Rattle.newt_script.proofs.WordLists.{one_more, refused}
 use Rattle.newt_script.proofs.listed.all_parts.Goals as goal
+
+pub returns-in_err-part : goal.returns-in_err-part
+returns-in_err-part c apart =
+    let fault = c.in_err-part.field-0.0 in
+    let is : c.from_residual.result ≡ Err fault = search rules in
+    is
+    ∙ refused part c.args.words.now c.loop-word.word-index (record { ref_ptr = (0, 0); now = [] }) fault c.loop-word-test.true
+    (c.in_err-part.ensures (λ e. let memory : fault ≡ Memory = cc in apart (is ∙ ap Err memory)))
 
 pub loop-word-preserved : goal.loop-word-preserved
 loop-word-preserved c =
