@@ -1,10 +1,9 @@
 -- The pieces of a part of an index between its colons.
-use Rattle.std.proofs.Common.{◌≡◌, ℕ, suc, ◌+◌, ◌-◌, ◌<◌, ◌≤◌, Bool, true, false, not, ◌==◌, List, [], ◌∷◌, length, take, drop, Option, Some, None, cond, refl, sym, ◌∙◌, ap, arith}
+use Rattle.std.proofs.Common.{◌≡◌, ℕ, suc, ◌+◌, ◌-◌, ◌<◌, ◌≤◌, Bool, true, false, ◌==◌, List, [], ◌∷◌, length, take, drop, Option, Some, None, cond, refl, sym, ◌∙◌, ap, arith}
 use Rattle.std.specs.Prelude.{nat_lt}
 use Rattle.std.specs.List.{position_or_len, position}
 use Rattle.std.proofs.lemmas.Bool.{ltb-true, ltb-false}
 use Rattle.std.proofs.lemmas.List.{take_all, length-drop}
-use Rattle.newt_spec_world.specs.declared.command.PartWord.{PartWord}
 use Rattle.newt_spec_script.specs.Words.{split_at, part_of, part}
 
 abbrev pub is_colon : ℕ → Bool
@@ -62,7 +61,7 @@ pub cut_at : (text : List ℕ) (at : ℕ) → Some at ≡ position is_colon text
 cut_at text at is =
     let f = found text at is in
     let rest : drop (at + 1) text ≡ take (length text - (at + 1)) (drop (at + 1) text) =
-        sym (take_all (length text - (at + 1)) (drop (at + 1) text) (omega (arith, length-drop (at + 1) text))) in
+    sym (take_all (length text - (at + 1)) (drop (at + 1) text) (omega (arith, length-drop (at + 1) text))) in
     cut text f.0 ∙ (ap (λ n. take n text ∷ split_at 58 (drop (n + 1) text)) (sym f.1) ∙ ap (λ r. take at text ∷ split_at 58 r) rest)
 
 pub no_cut : (text : List ℕ) → None ≡ position is_colon text → split_at 58 text ≡ text ∷ []

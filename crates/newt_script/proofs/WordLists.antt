@@ -1,9 +1,9 @@
 -- The words of a text one after another, and their values.
-use Rattle.std.proofs.Common.{◌≡◌, ℕ, zero, suc, ◌+◌, ◌-◌, ◌<◌, ◌≤◌, Bool, true, false, not, ◌||◌, ◌==◌, List, [], ◌∷◌, ◌++◌, length, take, drop, filter, map, get_or, Option, Some, None, Result, Ok, Err, Bor, option_map, option_and_then, if◌then◌else◌, refl, sym, ◌∙◌, ap, subst, append_assoc, arith}
+use Rattle.std.proofs.Common.{◌≡◌, ℕ, zero, suc, ◌+◌, ◌<◌, ◌≤◌, Bool, true, false, not, ◌||◌, ◌==◌, List, [], ◌∷◌, ◌++◌, length, take, drop, filter, map, get_or, Option, Some, None, Result, Ok, Err, Bor, option_map, option_and_then, if◌then◌else◌, refl, sym, ◌∙◌, ap, subst, append_assoc, arith}
 use Rattle.std.proofs.lemmas.List.{take_more, take_all, length-drop, map-append}
 use Rattle.std.proofs.lemmas.Bool.{ne_eqb}
 use Rattle.std.specs.List.{prefix_len}
-use Rattle.newt_spec_script.specs.Words.{is_blank, skip_blanks, split_at, words, all_words}
+use Rattle.newt_spec_script.specs.Words.{is_blank, split_at, words, all_words}
 use Rattle.newt_spec_script.specs.Line.{first_word}
 use Rattle.newt_base.specs.declared.Refusal.TheVariants.{Line as NotTheForm}
 use Rattle.newt_script.specs.Listed.{of_form}

@@ -1,6 +1,6 @@
 use Rattle.std.proofs.Common.{[]}
 use Rattle.newt_path.specs.Names.{path_of}
-use Rattle.newt_script.proofs.WordLists.{one_more, refused}
+use Rattle.newt_script.proofs.WordLists.{one_more}
 use Rattle.newt_script.proofs.listed.all_paths.Goals as goal
 
 pub loop-word-preserved : goal.loop-word-preserved
