@@ -64,7 +64,7 @@ returns-in_err-spec-clause-answered g c t =
     let fit : parts_fit c.args.parts.now ≡ true = ap parts_fit (sym c.list-words.ensures) ∙ sym c.are_parts.ensures ∙ c.if-not-are_parts.false in
     let h = has-soup at t c.args.unit c.args.name.now c.in_ok-soup.soup c.in_ok-soup.ensures in
     index-fails w w c.args.unit h.blocks h.store h.on refl c.args.name.now h.soup h.named h.name_is c.args.parts.now fit IndexSpec _
-    (subst (λ x. MayDeclare {T = IndexSpec} x h.soup (Err c.in_err-spec.error)) c.list-words.ensures (c.in_err-spec.ensures.may (g.H.Host.outside c.args.host.now) at.eight (stand-told at t) h.blocks h.store h.soup h.on h.by_sig)) _
+    (subst (λ x. MayDeclare {T = IndexSpec} x h.soup (Err c.in_err-spec.field-0.0)) c.list-words.ensures (c.in_err-spec.ensures.may (g.H.Host.outside c.args.host.now) at.eight (stand-told at t) h.blocks h.store h.soup h.on h.by_sig)) _
     (is-err _ _ (err_from_is_err_and c.from_residual-in_err-spec.result c.from_residual-in_err-spec.ensures.1))
 
 pub returns-in_err-spec-clause-moments : goal.returns-in_err-spec-clause-moments
