@@ -46,4 +46,9 @@ impl<C: Card> Units<C> {
             minute: 0,
         })
     }
+
+    /// Where the units take their memory from.
+    pub fn alloc(&self) -> Global {
+        self.alloc
+    }
 }
