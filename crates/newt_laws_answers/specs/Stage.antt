@@ -72,6 +72,20 @@ is_built (command.Unindex _ _ _) = true
 is_built (command.Indexes _ _) = true
 is_built (command.Tags _ _) = true
 is_built (command.SetTags _ _ path symbols) = tags_fit path symbols
+is_built (command.Query _ _ _) = true
+is_built (command.QueryAll _ _) = true
+is_built (command.Entry _) = true
+is_built (command.Next _) = true
+is_built (command.Prev _) = true
+is_built (command.Reset _) = true
+is_built (command.End _) = true
+is_built (command.Moveby _ _) = true
+is_built (command.Goto _ _ _) = true
+is_built (command.Gotokey _ _) = true
+is_built (command.Count _) = true
+is_built (command.Which _) = true
+is_built (command.Clone _) = true
+is_built (command.Close _) = true
 is_built _ = false
 
 -- The tests of a command, in the order in which they are tried. One that is not built is refused as no command.
