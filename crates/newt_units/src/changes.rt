@@ -175,7 +175,7 @@ impl<C: Card> Units<C> {
     }
 
     /// Reads an entry of a store that is mounted; none where it is not there.
-    fn entry_on<H: Host>(
+    pub fn entry_on<H: Host>(
         &mut self,
         host: &mut H,
         unit: Unit,

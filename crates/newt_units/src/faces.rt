@@ -52,7 +52,7 @@ impl<C: Card> Units<C> {
     }
 
     /// The unit with the mounted store of this signature.
-    pub(crate) fn unit_of(&self, store: Sig) -> Option<Unit>
+    pub fn unit_of(&self, store: Sig) -> Option<Unit>
         ensures { result ≡ first_showing store (card_faces C.soups self.now.slots.items) }
     {
         for number in 0..UNITS {

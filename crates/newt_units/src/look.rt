@@ -27,7 +27,7 @@ impl<C: Card> Units<C> {
     }
 
     /// The card that is mounted on a unit.
-    pub(crate) fn card(&self, unit: Unit) -> Option<&C>
+    pub fn card(&self, unit: Unit) -> Option<&C>
         ensures { option_map (λ card. card.now) result ≡ card_at self.now.slots.items unit }
     {
         match self.slots.get(unit.0 as usize) {
@@ -44,7 +44,7 @@ impl<C: Card> Units<C> {
     }
 
     /// The signature of a soup of the store that is mounted on a unit.
-    pub(crate) fn soup_sig(&self, unit: Unit, name: &Name) -> Option<Sig>
+    pub fn soup_sig(&self, unit: Unit, name: &Name) -> Option<Sig>
         ensures { result ≡ known_soup C.soups self.now.slots.items unit name.now }
     {
         match self.card(unit) {
@@ -54,7 +54,7 @@ impl<C: Card> Units<C> {
     }
 
     /// Whether a store is mounted on the unit, or why there is none: it has no device, or no store is mounted there.
-    pub(crate) fn find_unit(&self, unit: Unit) -> Result<(), Fault>
+    pub fn find_unit(&self, unit: Unit) -> Result<(), Fault>
         ensures { FindsUnit self.now.slots.items unit result }
     {
         if !self.is_attached(unit) {
@@ -67,7 +67,7 @@ impl<C: Card> Units<C> {
     }
 
     /// The signature of a soup, or why there is none: the unit has no device, no store is mounted there, or it has no such soup.
-    pub(crate) fn find_soup(&self, unit: Unit, name: &Name) -> Result<Sig, Fault>
+    pub fn find_soup(&self, unit: Unit, name: &Name) -> Result<Sig, Fault>
         ensures { LooksUp C.soups self.now.slots.items unit name.now result }
     {
         if !self.is_attached(unit) {

@@ -46,4 +46,9 @@ impl<C: Card> Units<C> {
             minute: 0,
         })
     }
+
+    /// Where memory is taken from.
+    pub fn alloc(&self) -> Global {
+        self.alloc
+    }
 }

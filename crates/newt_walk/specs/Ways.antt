@@ -1,0 +1,39 @@
+-- The two ways along the hits of a query. All of it is this project's own.
+use Rattle.std.specs.Prelude.{Bool, List, Option}
+use Rattle.newt_spec_store.specs.Keys.{IndexSpec}
+use Rattle.newt_spec_query.specs.Hits.{Hit}
+use Rattle.newt_spec_query.specs.Cursor.{Place, start, finish, is_after, is_before, first_place, last_place, next_place, previous_place}
+use Rattle.newt_spec_world.specs.Changed.{Step}
+use Rattle.newt_index.specs.Pairs.{first, last}
+use Rattle.newt_walk.specs.declared.ways.Way.{Way}
+use Rattle.newt_walk.specs.declared.ways.Way.TheVariants.{On, Back}
+
+-- the hit that the way meets first (a word of these definitions)
+abbrev pub met : Way → List Hit → Option Hit
+met On hs = first hs
+met Back hs = last hs
+
+-- the way meets the hit after the place (a word of these definitions)
+abbrev pub is_beyond : Way → IndexSpec → Place → Hit → Bool
+is_beyond On index place h = is_after index place h
+is_beyond Back index place h = is_before index place h
+
+-- where the way begins (a word of these definitions)
+abbrev pub outset : Way → Place
+outset On = start
+outset Back = finish
+
+-- where the way ends (a word of these definitions)
+abbrev pub edge : Way → Place
+edge On = finish
+edge Back = start
+
+-- on the hit that the way meets first, else where it ends (a word of these definitions)
+abbrev pub outermost : Way → List Hit → Place
+outermost On hs = first_place hs
+outermost Back hs = last_place hs
+
+-- one step on the way (a word of these definitions)
+abbrev pub stepping : Way → Step
+stepping On hs index place = next_place hs index place
+stepping Back hs index place = previous_place hs index place
