@@ -1,0 +1,11 @@
+use Rattle.newt_laws_cursors.proofs.Rows.{answered-apart, answered-closed, closed-settled}
+use Rattle.newt_laws_cursors.proofs.cursors.other_commands_are_answered_without_cursors.Goals as goal
+
+pub returns-clause-any : goal.returns-clause-any
+returns-clause-any c = answered-apart
+
+pub returns-clause-closed : goal.returns-clause-closed
+returns-clause-closed c = answered-closed
+
+pub returns-clause-settled : goal.returns-clause-settled
+returns-clause-settled c = closed-settled

@@ -1,0 +1,4 @@
+pub mod Cuts
+pub mod Steps
+pub mod Origins
+pub mod Passing
