@@ -4,4 +4,5 @@ pub mod World
 pub mod Fits
 pub mod Present
 pub mod Ways
+pub mod Searched
 pub mod Replies

@@ -1,5 +1,5 @@
 -- The two ways along the hits of a query. All of it is this project's own.
-use Rattle.std.specs.Prelude.{Bool, List, Option}
+use Rattle.std.specs.Prelude.{Bool, true, false, List, Option}
 use Rattle.newt_spec_store.specs.Keys.{IndexSpec}
 use Rattle.newt_spec_query.specs.Hits.{Hit}
 use Rattle.newt_spec_query.specs.Cursor.{Place, start, finish, is_after, is_before, first_place, last_place, next_place, previous_place}
@@ -37,3 +37,9 @@ outermost Back hs = last_place hs
 abbrev pub stepping : Way → Step
 stepping On hs index place = next_place hs index place
 stepping Back hs index place = previous_place hs index place
+
+-- the place is where the way ends (a word of these definitions)
+abbrev pub is_at_edge : Way → Place → Bool
+is_at_edge On finish = true
+is_at_edge Back start = true
+is_at_edge _ _ = false

@@ -1,5 +1,6 @@
 //! Entries that are hits of a query, by their identity.
-ghost use Rattle.std.specs.Prelude.{◌≡◌, true, IsTrue, Some, option_map, option_and_then, IfOk, IfErr, IfSome};
+ghost use Rattle.std.specs.Prelude.{◌≡◌, ℕ, true, IsTrue, Some, option_map, option_and_then, IfOk, IfErr, IfSome};
+ghost use Rattle.newt_host.specs.Moments.{image};
 ghost use Rattle.newt_host.specs.Outside.{Outside};
 ghost use Rattle.newt_keys.specs.KeyForm.{IsKeyOf};
 ghost use Rattle.newt_cursor.specs.Seen.{query_of, scope_of};
@@ -12,7 +13,8 @@ ghost use Rattle.newt_laws_hits.specs.Taking.{declared};
 ghost use Rattle.newt_units.specs.Cards.{soup_of};
 ghost use Rattle.newt_units.specs.Faults.{HasStopCause};
 ghost use Rattle.newt_units.specs.Stands.{Eight, Stands, world_of};
-ghost use Rattle.newt_walk.specs.Present.{identity, present_in, present_of};
+ghost use Rattle.newt_pass.specs.Kept.{kept_key};
+ghost use Rattle.newt_walk.specs.Present.{entry_of, identity, present_in, present_of};
 ghost use Rattle.newt_walk.specs.World.{AreRead};
 
 use newt_base::{Sig, Uid};
@@ -23,6 +25,7 @@ use newt_pagebook::Stop;
 use newt_pass::kept_key;
 use newt_tags::TagTable;
 use newt_units::{Card, Entry, Units};
+use std::alloc::AllocError;
 
 /// A hit with its entry: its unit, the key that it has, and the entry.
 #[derive(Drop)]
@@ -72,7 +75,10 @@ fn takes_part<C: Card>(units: &Units<C>, unit: Unit, query: &Query, soup: Sig) -
 }
 
 /// Whether a soup of the store of a card is one that a query looks into.
-fn card_takes_part<C: Card>(card: &C, query: &Query, soup: Sig) -> bool {
+fn card_takes_part<C: Card>(card: &C, query: &Query, soup: Sig) -> bool
+    ensures { (outside : Outside) (s : Store) (p : Soup) → C.stands true card.now outside → C.reads (image (C.place card.now) outside.now) ≡ Some s → soup_of soup s ≡ Some p →
+        result ≡ takes_part (query_of query.now) s p }
+{
     let Some(name) = card.soup_name(soup) else {
         return false;
     };
@@ -112,5 +118,25 @@ pub(crate) fn table_on<C: Card>(units: &Units<C>, unit: Unit, soup: Sig) -> Opti
     match units.card(unit) {
         Some(card) => card.tags(soup),
         None => None,
+    }
+}
+
+/// The hit that an entry of a unit is, if its query keeps it.
+fn kept<C: Card>(
+    units: &Units<C>,
+    unit: Unit,
+    query: &Query,
+    soup: Sig,
+    entry: Entry,
+) -> Result<Option<Present>, AllocError>
+    ensures key { IfOk result (λ found. IfSome found (λ p. IsKeyOf query.now.spec.index p.key)) }
+    ensures found { (outside : Outside) → Eight outside → Stands C.place C.stands true units.now outside → (blocks : ℕ) (s : Store) → OnUnit (world_of C.reads units.now outside) unit blocks s →
+        IfOk result (λ found. option_map present_of found ≡ option_map (λ k. record { unit = unit; key = k; entry = entry_of entry }) (kept_key query.now.spec (option_and_then (λ p. p.tags) (soup_of soup s)) entry.graph)) }
+{
+    let table = table_on(units, unit, soup);
+    let found = kept_key(units.alloc(), &query.spec, table, &entry.graph)?;
+    match found {
+        Some(key) => Ok(Some(Present { unit, key, entry })),
+        None => Ok(None),
     }
 }
