@@ -90,24 +90,124 @@ pub record IsLocated (stores : List Store) (store soup uid : ℕ) (f : Located) 
   pub is_store : Among stores f.store
   pub is_soup : Among f.store.soups f.soup
   pub is_entry : Among f.soup.entries f.entry
+  pub store_is : f.store.sig ≡ store
+  pub soup_is : f.soup.sig ≡ soup
+  pub uid_is : f.entry.uid ≡ uid
 
 pub is-located : (stores : List Store) (store soup uid : ℕ) (f : Located) → located stores store soup uid ≡ Some f → IsLocated stores store soup uid f
 is-located stores store soup uid f = on_store (find (λ s. s.sig == store) stores) refl
   where
-    on_entry : (s : Store) (p : Soup) → Among stores s → Among s.soups p → (o : Option Entry) → entry_of uid p ≡ o
-        → option_map (λ e. record { store = s; soup = p; entry = e }) o ≡ Some f → IsLocated stores store soup uid f
-    on_entry s p m n None i e = absurd (none-some f e)
-    on_entry s p m n (Some x) i e =
-        subst (IsLocated stores store soup uid) (some-same (record { store = s; soup = p; entry = x }) f e)
-        (record { is_store = m; is_soup = n; is_entry = (find-passes (λ (d : Entry). d.uid == uid) p.entries x i).1 })
+    -- a store, a soup and an entry that were found
+    made : (s : Store) (p : Soup) (x : Entry) → ((s.sig == store) ≡ true) × Among stores s → ((p.sig == soup) ≡ true) × Among s.soups p → ((x.uid == uid) ≡ true) × Among p.entries x
+        → IsLocated stores store soup uid (record { store = s; soup = p; entry = x })
+    made s p x a b c = record {
+      is_store = a.1;
+      is_soup = b.1;
+      is_entry = c.1;
+      store_is = eqb-true s.sig store a.0;
+      soup_is = eqb-true p.sig soup b.0;
+      uid_is = eqb-true x.uid uid c.0;
+    }
 
-    on_soup : (s : Store) → Among stores s → (o : Option Soup) → soup_of soup s ≡ o
+    on_entry : (s : Store) (p : Soup) → ((s.sig == store) ≡ true) × Among stores s → ((p.sig == soup) ≡ true) × Among s.soups p → (o : Option Entry) → entry_of uid p ≡ o
+        → option_map (λ e. record { store = s; soup = p; entry = e }) o ≡ Some f → IsLocated stores store soup uid f
+    on_entry s p a b None i e = absurd (none-some f e)
+    on_entry s p a b (Some x) i e =
+        subst (IsLocated stores store soup uid) (some-same (record { store = s; soup = p; entry = x }) f e) (made s p x a b (find-passes (λ (d : Entry). d.uid == uid) p.entries x i))
+
+    on_soup : (s : Store) → ((s.sig == store) ≡ true) × Among stores s → (o : Option Soup) → soup_of soup s ≡ o
         → option_and_then (λ p. option_map (λ e. record { store = s; soup = p; entry = e }) (entry_of uid p)) o ≡ Some f → IsLocated stores store soup uid f
-    on_soup s m None i e = absurd (none-some f e)
-    on_soup s m (Some p) i e = on_entry s p m (find-passes (λ (p : Soup). p.sig == soup) s.soups p i).1 (entry_of uid p) refl e
+    on_soup s a None i e = absurd (none-some f e)
+    on_soup s a (Some p) i e = on_entry s p a (find-passes (λ (p : Soup). p.sig == soup) s.soups p i) (entry_of uid p) refl e
 
     on_store : (o : Option Store) → find (λ s. s.sig == store) stores ≡ o
         → option_and_then (λ s. option_and_then (λ p. option_map (λ e. record { store = s; soup = p; entry = e }) (entry_of uid p)) (soup_of soup s)) o ≡ Some f
         → IsLocated stores store soup uid f
     on_store None i e = absurd (none-some f e)
-    on_store (Some s) i e = on_soup s (find-passes (λ (s : Store). s.sig == store) stores s i).1 (soup_of soup s) refl e
+    on_store (Some s) i e = on_soup s (find-passes (λ (s : Store). s.sig == store) stores s i) (soup_of soup s) refl e
+
+-- a hit that is looked up is one, and has the identity
+pub looked-up-is : (stores : List Store) (q : Query) (store soup uid : ℕ) (h : Hit) → looked_up stores q store soup uid ≡ Some h → Origin stores q h × HasIdentity h store soup uid
+looked-up-is stores q store soup uid h = go (located stores store soup uid) refl
+  where
+    go : (o : Option Located) → located stores store soup uid ≡ o → option_and_then (hit_for q) o ≡ Some h → Origin stores q h × HasIdentity h store soup uid
+    go None e i = absurd (none-some h i)
+    go (Some f) e i =
+        let l = is-located stores store soup uid f e in
+        let d = identity q.spec f.store f.soup f.entry h (taken q f h i).1 in (
+          record { at = f; is_store = l.is_store; is_soup = l.is_soup; is_entry = l.is_entry; is_hit = i },
+          record { store_is = d.store_is ∙ l.store_is; soup_is = d.soup_is ∙ l.soup_is; uid_is = d.uid_is ∙ l.uid_is },
+        )
+
+module _ (stores : List Store) (apart : Pairs Apart stores) (formed : Each (λ s. well_formed s ≡ true) stores) where
+  -- what is there is located
+  there-located : (f : Located) → Among stores f.store → Among f.store.soups f.soup → Among f.soup.entries f.entry → located stores f.store.sig f.soup.sig f.entry.uid ≡ Some f
+  there-located f a b c =
+      ap (option_and_then (λ s. option_and_then (λ p. option_map (λ e. record { store = s; soup = p; entry = e }) (entry_of f.entry.uid p)) (soup_of f.soup.sig s)))
+      (find-one (λ (s : Store). s.sig == f.store.sig) stores f.store one a (eq-eqb f.store.sig f.store.sig refl))
+      ∙ ap (option_and_then (λ p. option_map (λ e. record { store = f.store; soup = p; entry = e }) (entry_of f.entry.uid p))) (there-soup f.store f.soup wf b)
+      ∙ ap (option_map (λ e. record { store = f.store; soup = f.soup; entry = e })) (there-entry f.soup f.entry (soup-good f.store f.soup wf b) c)
+    where
+      wf : well_formed f.store ≡ true
+      wf = each-at (λ s. well_formed s ≡ true) stores f.store formed a
+
+      one : OnePasses (λ (s : Store). s.sig == f.store.sig) stores
+      one = pairs-more Apart (λ s t. (s.sig == f.store.sig) ≡ true → (t.sig == f.store.sig) ≡ true → ⊥) stores
+          (λ s t _ _ differ x y. differ (eqb-true s.sig f.store.sig x ∙ sym (eqb-true t.sig f.store.sig y))) apart
+
+  pub hit-located : (q : Query) (h : Hit) → (r : Origin stores q h) → located stores h.store h.soup h.uid ≡ Some r.at
+  hit-located q h r =
+      let d = identity q.spec r.at.store r.at.soup r.at.entry h (taken q r.at h r.is_hit).1 in
+      (λ i. located stores (d.store_is i) (d.soup_is i) (d.uid_is i)) ∙ there-located r.at r.is_store r.is_soup r.is_entry
+
+  -- ---- the hit that is found is the one that is looked up
+
+  module _ (q : Query) (store soup uid : ℕ) (test : Hit → Bool) (tells : (h : Hit) → test h ≡ true → HasIdentity h store soup uid)
+    (told : (h : Hit) → HasIdentity h store soup uid → test h ≡ true) where
+    one-passes : OnePasses test (hits stores q)
+    one-passes = pairs-more Other (λ a b. test a ≡ true → test b ≡ true → ⊥) (hits stores q)
+        (λ a b _ _ other s t. let d = tells a s in let e = tells b t in other (d.store_is ∙ sym e.store_is) (d.soup_is ∙ sym e.soup_is) (d.uid_is ∙ sym e.uid_is))
+        (hits-apart stores q apart formed)
+
+    none-found : looked_up stores q store soup uid ≡ None → (o : Option Hit) → find test (hits stores q) ≡ o → o ≡ None
+    none-found e None f = refl
+    none-found e (Some h) f =
+        let p = find-passes test (hits stores q) h f in
+        let d = tells h p.0 in
+        let r = origin stores q h p.1 in
+        absurd (none-some h (sym e ∙ (λ i. looked_up stores q (sym d.store_is i) (sym d.soup_is i) (sym d.uid_is i)) ∙ ap (option_and_then (hit_for q)) (hit-located q h r) ∙ r.is_hit))
+
+    pub found-looked-up : find test (hits stores q) ≡ looked_up stores q store soup uid
+    found-looked-up = go (looked_up stores q store soup uid) refl
+      where
+        go : (o : Option Hit) → looked_up stores q store soup uid ≡ o → find test (hits stores q) ≡ o
+        go None e = none-found e (find test (hits stores q)) refl
+        go (Some h) e = let r = looked-up-is stores q store soup uid h e in find-one test (hits stores q) h one-passes (among-hits stores q h r.0) (told h r.1)
+
+  pub same-looked-up : (q : Query) (at : Hit) → find (same_identity at) (hits stores q) ≡ looked_up stores q at.store at.soup at.uid
+  same-looked-up q at = found-looked-up q at.store at.soup at.uid (same_identity at) tells told
+    where
+      tells : (h : Hit) → same_identity at h ≡ true → HasIdentity h at.store at.soup at.uid
+      tells h e =
+          let p = and_parts ((at.store == h.store) && (at.soup == h.soup)) (at.uid == h.uid) e in
+          let r = and_parts (at.store == h.store) (at.soup == h.soup) p.0 in
+          record { store_is = sym (eqb-true at.store h.store r.0); soup_is = sym (eqb-true at.soup h.soup r.1); uid_is = sym (eqb-true at.uid h.uid p.1) }
+
+      told : (h : Hit) → HasIdentity h at.store at.soup at.uid → same_identity at h ≡ true
+      told h d = λ i. eq-eqb at.store h.store (sym d.store_is) i && eq-eqb at.soup h.soup (sym d.soup_is) i && eq-eqb at.uid h.uid (sym d.uid_is) i
+
+  pub named-looked-up : (q : Query) (store soup uid : ℕ)
+      → find (λ (h : Hit). (h.store == store) && (h.soup == soup) && (h.uid == uid)) (hits stores q) ≡ looked_up stores q store soup uid
+  named-looked-up q store soup uid = found-looked-up q store soup uid (λ h. (h.store == store) && (h.soup == soup) && (h.uid == uid)) tells told
+    where
+      tells : (h : Hit) → ((h.store == store) && (h.soup == soup) && (h.uid == uid)) ≡ true → HasIdentity h store soup uid
+      tells h e =
+          let p = and_parts ((h.store == store) && (h.soup == soup)) (h.uid == uid) e in
+          let r = and_parts (h.store == store) (h.soup == soup) p.0 in
+          record { store_is = eqb-true h.store store r.0; soup_is = eqb-true h.soup soup r.1; uid_is = eqb-true h.uid uid p.1 }
+
+      told : (h : Hit) → HasIdentity h store soup uid → ((h.store == store) && (h.soup == soup) && (h.uid == uid)) ≡ true
+      told h d = λ i. eq-eqb h.store store d.store_is i && eq-eqb h.soup soup d.soup_is i && eq-eqb h.uid uid d.uid_is i
+
+  pub settled-looked-up : (q : Query) (at : Hit) → settled (hits stores q) (on at) ≡ unwrap_or (option_map on (looked_up stores q at.store at.soup at.uid)) (on at)
+  settled-looked-up q at = ap (λ o. unwrap_or (option_map on o) (on at)) (same-looked-up q at)

@@ -19,7 +19,7 @@ located stores store soup uid =
 
 -- the soup is one that the query looks into (this project's own)
 abbrev pub takes_part : Query → Store → Soup → Bool
-takes_part q s p = in_scope q.scope s && equal_text p.name q.name && carries q.spec.index p
+takes_part q s p = in_scope q.scope s && (equal_text p.name q.name && carries q.spec.index p)
 
 -- the hit that a located entry is, if it is one (this project's own)
 abbrev pub hit_for : Query → Located → Option Hit

@@ -20,5 +20,5 @@ pub fn hits_are_looked_up()
 
 /// What is settled stays.
 pub fn settling_twice_is_settling()
-    ensures world { (w : World) → settle (settle w) ≡ settle w }
+    ensures { (w : World) → settle (settle w) ≡ settle w }
 {}

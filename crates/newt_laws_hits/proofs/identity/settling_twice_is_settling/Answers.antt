@@ -1,0 +1,5 @@
+use Rattle.newt_laws.proofs.Settled.{settle-settles}
+use Rattle.newt_laws_hits.proofs.identity.settling_twice_is_settling.Goals as goal
+
+pub returns : goal.returns
+returns c = settle-settles
