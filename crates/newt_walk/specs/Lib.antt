@@ -6,3 +6,4 @@ pub mod Present
 pub mod Ways
 pub mod Searched
 pub mod Replies
+pub mod Keyed

@@ -5,20 +5,14 @@
 //! as that world answers it, and leaves what stands for the world after it; and nothing happens to a device but reading.
 #![tactic(auto)]
 
-mod commands;
 mod keep;
-mod opening;
 mod places;
 mod present;
 mod search;
-mod settle;
+mod settling;
 mod show;
 mod walk;
 mod ways;
 
-pub use commands::{
-    clone_of, close, count, end, entry, go_to, go_to_key, moveby, next, prev, reset, which,
-};
-pub use opening::{query, query_all};
-pub use settle::settle;
-pub use show::Shown;
+pub use settling::settle;
+pub use show::{Shown, Side};

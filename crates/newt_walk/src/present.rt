@@ -36,7 +36,7 @@ pub(crate) struct Present {
 }
 
 /// The hit of a query that has this identity, with its entry, which is read. None where the entry is no hit.
-pub(crate) fn present<C: Card, H: Host>(
+pub(crate) fn find_hit<C: Card, H: Host>(
     units: &mut Units<C>,
     host: &mut H,
     query: &Query,

@@ -8,7 +8,7 @@ ghost use Rattle.newt_units.specs.Stands.{Stands};
 ghost use Rattle.newt_walk.specs.Replies.{shown_reply};
 ghost use Rattle.newt_walk.specs.World.{AreRead, world_with};
 
-use crate::present::present;
+use crate::present::find_hit;
 use newt_cursor::{Desk, Place};
 use newt_host::{Host, Unit};
 use newt_pagebook::Stop;
@@ -52,7 +52,7 @@ pub(crate) fn show<C: Card, H: Host>(
     let (Some(query), Some(Place::On(spot))) = (desk.query(cursor), desk.place(cursor)) else {
         return Ok(Shown::Nil);
     };
-    match present(units, host, query, spot.store, spot.soup, spot.uid)? {
+    match find_hit(units, host, query, spot.store, spot.soup, spot.uid)? {
         Some(present) => Ok(Shown::Entry(present.unit, present.entry)),
         None => Ok(Shown::Deleted),
     }

@@ -1,15 +1,17 @@
 //! The cursors take the present keys of their entries.
-ghost use Rattle.std.specs.Prelude.{◌≡◌, ◌<◌, IsTrue, IfErr, OnOk, option_map};
-ghost use Rattle.newt_spec_world.specs.World.{change_at, settle, settle_cursor};
+ghost use Rattle.std.specs.Prelude.{◌≡◌, IsTrue, Some, IfOk, IfErr, IfSome, OnOk, option_and_then, slice_get};
+ghost use Rattle.newt_keys.specs.KeyForm.{IsKeyOf};
+ghost use Rattle.newt_spec_query.specs.Cursor.{Cursor};
+ghost use Rattle.newt_spec_world.specs.World.{change_at, flat, settle, settle_cursor};
 ghost use Rattle.newt_laws.specs.Settled.{MountedApart};
 ghost use Rattle.newt_units.specs.Faults.{HasStopCause};
 ghost use Rattle.newt_units.specs.Stands.{Stands, world_of};
 ghost use Rattle.newt_walk.specs.Fits.{DeskFits};
+ghost use Rattle.newt_walk.specs.Keyed.{key_now};
 ghost use Rattle.newt_walk.specs.World.{AreRead, world_with};
 
-use crate::present::present;
-use newt_base::{Sig, Uid};
-use newt_cursor::{Desk, Place, Query};
+use crate::present::find_hit;
+use newt_cursor::{Desk, Place};
 use newt_host::Host;
 use newt_keys::Key;
 use newt_pagebook::Stop;
@@ -68,15 +70,15 @@ fn present_key<C: Card, H: Host>(
 ) -> Result<Option<Key>, Stop>
     requires { Stands C.place C.stands H.told units.old (H.outside host.old) }
     ensures read { AreRead C.reads C.place C.stands H.told units.old units.new (H.outside host.old) (H.outside host.new) }
-    ensures key { IfOk result (λ found. KeyFitsAt found (cursor_at desk.now cursor)) }
+    ensures key { (k : Cursor) → flat (slice_get desk.now cursor) ≡ Some k → IfOk result (λ found. IfSome found (IsKeyOf k.query.spec.index)) }
     ensures found { IsTrue H.told → let w = world_of C.reads units.old (H.outside host.old) in MountedApart w →
-        IfOk result (λ found. found ≡ option_and_then (present_key w) (cursor_at desk.now cursor)) }
+        IfOk result (λ found. found ≡ option_and_then (key_now w) (flat (slice_get desk.now cursor))) }
     ensures cause { IfErr result (λ stop. HasStopCause stop (H.outside host.old) (H.outside host.new)) }
 {
     let (Some(query), Some(Place::On(spot))) = (desk.query(cursor), desk.place(cursor)) else {
         return Ok(None);
     };
-    match present(units, host, query, spot.store, spot.soup, spot.uid)? {
+    match find_hit(units, host, query, spot.store, spot.soup, spot.uid)? {
         Some(present) => Ok(Some(present.key)),
         None => Ok(None),
     }
