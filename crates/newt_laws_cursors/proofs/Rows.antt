@@ -2,7 +2,8 @@
 use Rattle.std.proofs.Common.{◌≡◌, refl, ap, sym, ◌∙◌, ℕ, List, [], ◌∷◌, true, false, IsTrue, Option, Some, None, option_map, map, nat_lt}
 use Rattle.std.specs.Prelude.{is_none}
 use Rattle.std.specs.List.{list_all}
-use Rattle.newt_base.specs.Refusals.{Checks}
+use Rattle.newt_base.specs.Refusals.{Checks, first_of}
+use Rattle.newt_base.specs.declared.Refusal.{Refusal}
 use Rattle.newt_base.specs.declared.Refusal.TheVariants.{Full}
 use Rattle.newt_image.specs.Pages.{cap}
 use Rattle.newt_spec_store.specs.Cost.{cost}
@@ -10,10 +11,11 @@ use Rattle.newt_spec_store.specs.Store.{Entry, remove_entry}
 use Rattle.newt_spec_query.specs.Cursor.{Cursor}
 use Rattle.newt_spec_world.specs.declared.command.Command.{Command}
 use Rattle.newt_spec_world.specs.declared.command.Command.TheVariants as command
+use Rattle.newt_spec_world.specs.Reply.{Reply}
 use Rattle.newt_spec_world.specs.World.{World, settle, settle_cursor, entry_in, change_soup_in, device, store_of}
 use Rattle.newt_spec_world.specs.Changed.{changed, copy_to}
 use Rattle.newt_spec_world.specs.Refused.{checks, either, no_unit, not_mounted, no_soup, no_entry, no_more_ids, on_some}
-use Rattle.newt_spec_world.specs.Answer.{answered, fields}
+use Rattle.newt_spec_world.specs.Answer.{answer, answered, fields}
 use Rattle.newt_laws_cursors.specs.Cursors.{with_cursors, all_closed, uses_cursors}
 
 copied : (ks : List (Option Cursor)) (w : World) (u : ℕ) (name : List ℕ) (o : Option Entry) → copy_to (with_cursors ks w) u name o ≡ with_cursors ks (copy_to w u name o)
@@ -106,3 +108,15 @@ answered-apart ks w c h = λ i. (settle (changed-apart ks w c h i), same i)
 
 pub answered-closed : (w : World) (c : Command) → uses_cursors c ≡ false → IsTrue (all_closed w) → answered w c None ≡ (changed w c, fields w (changed w c) c)
 answered-closed w c h k = ap (λ (v : World). (v, fields w v c)) (closed-settled (changed w c) (ap (list_all is_none) (kept-apart w c h) ∙ k))
+
+-- refused or not
+pub answer-apart : (ks : List (Option Cursor)) (w : World) (c : Command) → uses_cursors c ≡ false → IsTrue (all_closed w) → settle (with_cursors ks w) ≡ with_cursors ks w
+    → answer (with_cursors ks w) c ≡ (settle (with_cursors ks (answer w c).0), (answer w c).1)
+unfolding answer
+answer-apart ks w c h k settled = ap (λ t. answered (with_cursors ks w) c (first_of t)) (checks-apart ks w c h) ∙ go (first_of (checks w c))
+  where
+    go : (o : Option Refusal) → answered (with_cursors ks w) c o ≡ (settle (with_cursors ks (answered w c o).0), (answered w c o).1)
+    go (Some r) = λ i. (sym settled i, Reply.refused r)
+    go None =
+        answered-apart ks w c h
+        ∙ (λ i. (settle (with_cursors ks (sym (closed-settled (changed w c) (ap (list_all is_none) (kept-apart w c h) ∙ k)) i)), (answered w c None).1))

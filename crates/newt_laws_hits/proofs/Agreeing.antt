@@ -11,17 +11,17 @@ use Rattle.newt_graph.specs.declared.node.Node.{Node}
 use Rattle.newt_graph.specs.declared.node.Node.TheVariants.{Symbol, Frame}
 use Rattle.newt_graph.specs.Graph.{RawGraph}
 use Rattle.newt_spec_graph.specs.Graph.{object}
-use Rattle.newt_spec_graph.specs.Slots.{is_named, slot_number, slot_value, value_below, value_at}
+use Rattle.newt_spec_graph.specs.Slots.{is_named, slot_value, value_below, value_at}
 use Rattle.newt_spec_graph.proofs.Lists.{none-some}
 use Rattle.newt_spec_store.specs.declared.Kind.{Kind}
 use Rattle.newt_spec_store.specs.declared.Kind.TheVariants as kind
 use Rattle.newt_spec_store.specs.declared.Order.{Order}
 use Rattle.newt_spec_store.specs.declared.Order.TheVariants as order
-use Rattle.newt_spec_store.specs.Keys.{IndexPart, IndexSpec, Path, Part, Key, key, part_of, if_first_is_there, same_kind, same_direction, same_part, same_spec}
+use Rattle.newt_spec_store.specs.Keys.{IndexPart, IndexSpec, Path, Part, key, part_of, if_first_is_there, same_kind, same_direction, same_part, same_spec}
 use Rattle.newt_spec_store.specs.Store.{Soup}
 use Rattle.newt_spec_query.specs.Hits.{carries}
 use Rattle.newt_laws_changes.proofs.Chosen.{find-passes}
-use Rattle.newt_index.specs.Pairs.{Sorted, parts_of, pair_cmp}
+use Rattle.newt_index.specs.Pairs.{Sorted, parts_of}
 use Rattle.newt_index.specs.Range.{range_of}
 use Rattle.newt_ranges.specs.Range.{range_of_soup}
 use Rattle.newt_union.specs.Merged.{Agree}

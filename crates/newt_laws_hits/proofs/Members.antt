@@ -1,16 +1,15 @@
 -- The hits of an index alone are the merge of its members' ranges.
-use Rattle.std.proofs.Common.{arith, ◌≡◌, refl, ap, sym, ◌∙◌, subst, ℕ, ◌<◌, Bool, true, false, ◌&&◌, ◌==◌, ◌⊎◌, inl, inr, List, [], ◌∷◌, find, filter, filter_map, flat_map, map, Option, Some, None, option_map, option_and_then, cond}
+use Rattle.std.proofs.Common.{arith, ◌≡◌, refl, ap, sym, ◌∙◌, subst, ℕ, ◌<◌, true, ◌&&◌, ◌==◌, inl, inr, List, [], ◌∷◌, find, filter, flat_map, map, Option, Some, None, option_map, option_and_then, cond}
 use Rattle.std.specs.List.{All}
 use Rattle.std.proofs.lemmas.Bool.{and_parts}
 use Rattle.std.proofs.lemmas.List.Elements.{All-nil, All-cons}
 use Rattle.newt_base.specs.Names.{equal_text}
 use Rattle.newt_spec_graph.specs.Lists.{Each, Pairs, Among}
-use Rattle.newt_spec_graph.proofs.Lists.{each-at, each-from, among-flat_map, flat_map-among, among-filter, filter-among, among-filter_map, filter_map-among, pairs-more, pairs-map, pairs-filter, pairs-filter_map, pairs-flat_map, rises-pairs, each-more, none-some, some-same}
+use Rattle.newt_spec_graph.proofs.Lists.{each-at, each-from, among-flat_map, flat_map-among, among-filter, filter-among, among-filter_map, filter_map-among, pairs-more, pairs-map, pairs-filter, pairs-filter_map, pairs-flat_map, rises-pairs, none-some, some-same}
 use Rattle.newt_spec_store.specs.Keys.{IndexSpec, Key, key}
 use Rattle.newt_spec_store.specs.Store.{Entry, Soup, Store, soup_named}
 use Rattle.newt_spec_store.specs.Valid.{well_formed}
-use Rattle.newt_spec_store.specs.Sorted.{sorted_by}
-use Rattle.newt_spec_store.proofs.Sorting.{among-fold, fold-among, fold-pairs, sorted-rises, Rise, Untied}
+use Rattle.newt_spec_store.proofs.Sorting.{among-fold, fold-among, fold-pairs, sorted-rises, Untied}
 use Rattle.newt_spec_query.specs.Hits.{Query, Hit, hits, hit_cmp, hit_of, kept, in_scope, carries}
 use Rattle.newt_spec_query.proofs.Order.{hit_total}
 use Rattle.newt_laws_images.proofs.Assembled.{map-among, among-map}
@@ -20,34 +19,33 @@ use Rattle.newt_index.specs.Pairs.{Pair, Sorted, parts_of, pair_cmp}
 use Rattle.newt_index.specs.Range.{entry_pair, entry_pairs, range_of}
 use Rattle.newt_ranges.specs.Range.{range_of_soup, range_in}
 use Rattle.newt_union.specs.Merged.{Member, hit, hits_of, merged, Agree, AllAgree}
-use Rattle.newt_laws_hits.specs.Located.{Located, takes_part, hit_for}
 use Rattle.newt_laws_hits.specs.Stripped.{stripped}
 use Rattle.newt_laws_hits.specs.Taking.{declared, member_of, members_of}
-use Rattle.newt_laws_hits.proofs.Origins.{Origin, origin, among-hits, taken}
+use Rattle.newt_laws_hits.proofs.Origins.{origin, among-hits, taken}
 use Rattle.newt_laws_hits.proofs.Passing.{same-rising}
 use Rattle.newt_laws_hits.proofs.Agreeing.{IsRangeFor, carried-range, range-carried}
 
 -- ---- the members
 
-abbrev with_range : Store → Soup → Sorted → Member
+abbrev pub with_range : Store → Soup → Sorted → Member
 with_range s p r = record { store = s.sig; soup = p.sig; range = r }
 
 -- a member is of a soup of the query's name, which carries its index
-record IsMember (stores : List Store) (q : Query) (m : Member) : Type 0 where
-  s : Store
-  p : Soup
-  r : Sorted
-  is_store : Among stores s
-  scoped : in_scope q.scope s ≡ true
-  is_soup : Among s.soups p
-  named : equal_text p.name q.name ≡ true
-  range_is : range_in p.sig (declared q.spec.index) s ≡ Some r
-  is : with_range s p r ≡ m
+pub record IsMember (stores : List Store) (q : Query) (m : Member) : Type 0 where
+  pub store : Store
+  pub soup : Soup
+  pub range : Sorted
+  pub is_store : Among stores store
+  pub scoped : in_scope q.scope store ≡ true
+  pub is_soup : Among store.soups soup
+  pub named : equal_text soup.name q.name ≡ true
+  pub range_is : range_in soup.sig (declared q.spec.index) store ≡ Some range
+  pub is : with_range store soup range ≡ m
 
 member-same : (a b : Member) → Some a ≡ Some b → a ≡ b
 member-same a b h = cc
 
-is-member : (stores : List Store) (q : Query) (m : Member) → Among (members_of stores q) m → IsMember stores q m
+pub is-member : (stores : List Store) (q : Query) (m : Member) → Among (members_of stores q) m → IsMember stores q m
 is-member stores q m n =
     let f = among-filter_map (λ s. option_and_then (member_of q s) (soup_named q.name s)) (filter (in_scope q.scope) stores) m n in
     let b = among-filter (in_scope q.scope) stores f.0 f.1 in
@@ -57,9 +55,9 @@ is-member stores q m n =
         → range_in p.sig (declared q.spec.index) s ≡ o → option_map (with_range s p) o ≡ Some m → IsMember stores q m
     on_range s b p c None e i = absurd (none-some m i)
     on_range s b p c (Some r) e i = record {
-      s = s;
-      p = p;
-      r = r;
+      store = s;
+      soup = p;
+      range = r;
       is_store = b.0;
       scoped = b.1;
       is_soup = c.1;
@@ -119,6 +117,16 @@ some-of-map : {X Y : Type 0} (f : X → Y) (o : Option X) (y : Y) → option_map
 some-of-map f None y h = absurd (none-some y h)
 some-of-map f (Some x) y h = (x, refl, some-same (f x) y h)
 
+-- the hit of an entry is among those of a range of its soup
+member-hit : (q : Query) (s : Store) (p : Soup) (e : Entry) (r : Sorted) → (f : IsRangeFor q.spec.index p r) → (h : Hit) → Among p.entries e → hit_of (stripped q).spec s p e ≡ Some h
+    → Among (hits_of (with_range s p r)) h
+member-hit q s p e r f h m t =
+    let spec = parts_of f.declared_by in
+    let is = some-of-map (hit (with_range s p r)) (entry_pair spec e) h (sym (hit-pair q s p e spec r (f.keys e.graph)) ∙ t) in
+    subst (Among (hits_of (with_range s p r))) is.2 (map-among (hit (with_range s p r)) r.pairs is.0
+    (subst (λ (v : Sorted). Among v.pairs is.0) (sym f.range_is)
+    (fold-among (pair_cmp spec) [] (entry_pairs spec p.entries) is.0 (inr (filter_map-among (entry_pair spec) p.entries e is.0 m is.1)))))
+
 -- ---- all of them
 
 module _ (stores : List Store) (q : Query) (apart : Pairs Apart stores) (formed : Each (λ s. well_formed s ≡ true) stores) where
@@ -141,23 +149,17 @@ module _ (stores : List Store) (q : Query) (apart : Pairs Apart stores) (formed 
       let d = and_parts (equal_text p.name q.name) (carries q.spec.index p) b.1 in
       let r = carried-range q.spec.index p d.1 in
       let f = (range-carried q.spec.index p r.0 r.1).1 in
-      let is = some-of-map (hit (with_range s p r.0)) (entry_pair (parts_of f.declared_by) e) h
-          (sym (hit-pair q s p e (parts_of f.declared_by) r.0 (f.keys e.graph)) ∙ t.1) in
-      let pair : Among r.0.pairs is.0 =
-          subst (λ (v : Sorted). Among v.pairs is.0) (sym f.range_is)
-          (fold-among (pair_cmp (parts_of f.declared_by)) [] (entry_pairs (parts_of f.declared_by) p.entries) is.0
-          (inr (filter_map-among (entry_pair (parts_of f.declared_by)) p.entries e is.0 o.is_entry is.1))) in
       let found : option_and_then (member_of q s) (soup_named q.name s) ≡ Some (with_range s p r.0) =
-          ap (option_and_then (member_of q s)) (find-one (λ (x : Soup). equal_text x.name q.name) s.soups p (one-name q.name s (good s o.is_store)) o.is_soup d.0)
-          ∙ ap (option_map (with_range s p)) (in-soup s p o.is_store o.is_soup ∙ r.1) in
+      ap (option_and_then (member_of q s)) (find-one (λ (x : Soup). equal_text x.name q.name) s.soups p (one-name q.name s (good s o.is_store)) o.is_soup d.0)
+      ∙ ap (option_map (with_range s p)) (in-soup s p o.is_store o.is_soup ∙ r.1) in
       fold-among (hit_cmp q.spec.index) [] (flat_map hits_of (members_of stores q)) h (inr (flat_map-among hits_of (members_of stores q) (with_range s p r.0) h
       (filter_map-among (λ s. option_and_then (member_of q s) (soup_named q.name s)) (filter (in_scope q.scope) stores) s (with_range s p r.0)
       (filter-among (in_scope q.scope) stores s o.is_store b.0) found)
-      (subst (Among (hits_of (with_range s p r.0))) is.2 (map-among (hit (with_range s p r.0)) r.0.pairs is.0 pair))))
+      (member-hit q s p e r.0 f h o.is_entry t.1)))
 
   -- what a member is, with its range
-  carried : (m : Member) → (i : IsMember stores q m) → (carries q.spec.index i.p ≡ true) × IsRangeFor q.spec.index i.p i.r
-  carried m i = range-carried q.spec.index i.p i.r (sym (in-soup i.s i.p i.is_store i.is_soup) ∙ i.range_is)
+  pub carried : (m : Member) → (i : IsMember stores q m) → (carries q.spec.index i.soup ≡ true) × IsRangeFor q.spec.index i.soup i.range
+  carried m i = range-carried q.spec.index i.soup i.range (sym (in-soup i.store i.soup i.is_store i.is_soup) ∙ i.range_is)
 
   -- a hit of a member is one of the index alone
   back : (h : Hit) → Among (merged q.spec.index (members_of stores q)) h → Among (hits stores (stripped q)) h
@@ -169,10 +171,10 @@ module _ (stores : List Store) (q : Query) (apart : Pairs Apart stores) (formed 
           let i = is-member stores q a.0 a.1 in
           let c = carried a.0 i in
           let f = c.1 in
-          let m = among-map (hit (with_range i.s i.p i.r)) i.r.pairs h (subst (λ (x : Member). Among (hits_of x) h) (sym i.is) a.2) in
+          let m = among-map (hit (with_range i.store i.soup i.range)) i.range.pairs h (subst (λ (x : Member). Among (hits_of x) h) (sym i.is) a.2) in
           let n = subst (λ (v : Sorted). Among v.pairs m.0) f.range_is m.1 in
-          pair_hit i.s i.p i.r i.is_store i.scoped i.is_soup i.named c.0 f m.0 m.2
-          (elim (among-fold (pair_cmp (parts_of f.declared_by)) [] (entry_pairs (parts_of f.declared_by) i.p.entries) m.0 n) [ inl x ↦ absurd x | inr x ↦ x ])
+          pair_hit i.store i.soup i.range i.is_store i.scoped i.is_soup i.named c.0 f m.0 m.2
+          (elim (among-fold (pair_cmp (parts_of f.declared_by)) [] (entry_pairs (parts_of f.declared_by) i.soup.entries) m.0 n) [ inl x ↦ absurd x | inr x ↦ x ])
         where
           pair_hit : (s : Store) (p : Soup) (r : Sorted) → Among stores s → in_scope q.scope s ≡ true → Among s.soups p → equal_text p.name q.name ≡ true → carries q.spec.index p ≡ true
               → (f : IsRangeFor q.spec.index p r) → (v : Pair) → hit (with_range s p r) v ≡ h → Among (entry_pairs (parts_of f.declared_by) p.entries) v → Among (hits stores (stripped q)) h
@@ -195,9 +197,9 @@ module _ (stores : List Store) (q : Query) (apart : Pairs Apart stores) (formed 
       let i = is-member stores q m n in
       let f = (carried m i).1 in
       subst (λ (x : Member). Pairs Other (hits_of x)) i.is
-      (pairs-of-map Other (hit (with_range i.s i.p i.r)) i.r.pairs
-      (pairs-more Differ (λ a b. Other (hit (with_range i.s i.p i.r) a) (hit (with_range i.s i.p i.r) b)) i.r.pairs (λ a b _ _ d _ _ same. d same)
-      (subst (λ (v : Sorted). Pairs Differ v.pairs) (sym f.range_is) (range-differs f.declared_by i.s i.p (good i.s i.is_store) i.is_soup))))
+      (pairs-of-map Other (hit (with_range i.store i.soup i.range)) i.range.pairs
+      (pairs-more Differ (λ a b. Other (hit (with_range i.store i.soup i.range) a) (hit (with_range i.store i.soup i.range) b)) i.range.pairs (λ a b _ _ d _ _ same. d same)
+      (subst (λ (v : Sorted). Pairs Differ v.pairs) (sym f.range_is) (range-differs f.declared_by i.store i.soup (good i.store i.is_store) i.is_soup))))
 
   member-store : (s : Store) (m : Member) → option_and_then (member_of q s) (soup_named q.name s) ≡ Some m → m.store ≡ s.sig
   member-store s m = go (soup_named q.name s)
@@ -219,7 +221,7 @@ module _ (stores : List Store) (q : Query) (apart : Pairs Apart stores) (formed 
       (pairs-filter_map (λ x y. (a b : Hit) → Among (hits_of x) a → Among (hits_of y) b → Other a b) (λ s. option_and_then (member_of q s) (soup_named q.name s))
       (filter (in_scope q.scope) stores)
       (pairs-more Apart (λ s t. (x y : Member) → option_and_then (member_of q s) (soup_named q.name s) ≡ Some x → option_and_then (member_of q t) (soup_named q.name t) ≡ Some y
-          → (a b : Hit) → Among (hits_of x) a → Among (hits_of y) b → Other a b)
+      → (a b : Hit) → Among (hits_of x) a → Among (hits_of y) b → Other a b)
       (filter (in_scope q.scope) stores)
       (λ s t _ _ differ x y e f a b m n same _ _.
       differ (sym (hit-store x a m ∙ member-store s x e) ∙ same ∙ hit-store y b n ∙ member-store t y f))
@@ -241,7 +243,7 @@ each-all P (x ∷ xs) h = All-cons P x xs (h x (inl refl)) (each-all P xs (λ y 
 pub members-agree : (stores : List Store) (q : Query) → AllAgree q.spec.index (members_of stores q)
 members-agree stores q = each-all (λ (m : Member). Agree q.spec.index (parts_of m.range.spec)) (members_of stores q) (λ m n.
     let i = is-member stores q m n in
-    subst (λ (x : Member). Agree q.spec.index (parts_of x.range.spec)) i.is (agree_of i.p.sig i.s i.r i.range_is))
+    subst (λ (x : Member). Agree q.spec.index (parts_of x.range.spec)) i.is (agree_of i.soup.sig i.store i.range i.range_is))
   where
     agree_of : (sig : ℕ) (s : Store) (r : Sorted) → range_in sig (declared q.spec.index) s ≡ Some r → Agree q.spec.index (parts_of r.spec)
     agree_of sig s r = go (find (λ p. p.sig == sig) s.soups)

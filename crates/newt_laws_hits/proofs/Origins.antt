@@ -1,5 +1,5 @@
 -- The entry that a hit is of.
-use Rattle.std.proofs.Common.{arith, ◌≡◌, refl, ap, sym, ◌∙◌, subst, ℕ, Bool, true, false, ◌&&◌, ◌==◌, ◌⊎◌, inl, inr, IsTrue, List, [], find, filter, filter_map, flat_map, Option, Some, None, option_map, option_and_then, cond, unwrap_or}
+use Rattle.std.proofs.Common.{◌≡◌, refl, ap, sym, ◌∙◌, subst, ℕ, Bool, true, false, ◌&&◌, ◌==◌, ◌⊎◌, inl, inr, List, [], find, filter, filter_map, flat_map, Option, Some, None, option_map, option_and_then, cond, unwrap_or}
 use Rattle.std.proofs.lemmas.Bool.{and_parts, eqb-true, eq-eqb}
 use Rattle.newt_base.specs.Names.{equal_text}
 use Rattle.newt_spec_graph.specs.Lists.{Each, Pairs, Among}
@@ -10,7 +10,10 @@ use Rattle.newt_spec_store.specs.Valid.{well_formed}
 use Rattle.newt_spec_store.proofs.Sorting.{among-fold, fold-among}
 use Rattle.newt_spec_query.specs.Spec.{Spec}
 use Rattle.newt_spec_query.specs.Hits.{Query, Hit, hits, hit_cmp, hit_of, kept, soup_hits, in_scope, carries}
-use Rattle.newt_spec_query.specs.Cursor.{on, same_identity, settled}
+use Rattle.newt_spec_query.specs.Cursor.{on, same_identity, hit_at, settled}
+use Rattle.newt_spec_world.specs.World.{World, hits_of, mounted_stores}
+use Rattle.newt_spec_world.specs.Alias.{resolved}
+use Rattle.newt_spec_world.specs.Answer.{spot_of}
 use Rattle.newt_laws_changes.specs.Signatures.{soup_of}
 use Rattle.newt_laws_changes.proofs.Chosen.{OnePasses, find-passes, find-one, there-soup, there-entry, soup-good}
 use Rattle.newt_laws.proofs.Found.{Apart, Other, hits-apart}
@@ -140,30 +143,31 @@ looked-up-is stores q store soup uid h = go (located stores store soup uid) refl
         )
 
 module _ (stores : List Store) (apart : Pairs Apart stores) (formed : Each (λ s. well_formed s ≡ true) stores) where
-  -- what is there is located
-  there-located : (f : Located) → Among stores f.store → Among f.store.soups f.soup → Among f.soup.entries f.entry → located stores f.store.sig f.soup.sig f.entry.uid ≡ Some f
-  there-located f a b c =
-      ap (option_and_then (λ s. option_and_then (λ p. option_map (λ e. record { store = s; soup = p; entry = e }) (entry_of f.entry.uid p)) (soup_of f.soup.sig s)))
-      (find-one (λ (s : Store). s.sig == f.store.sig) stores f.store one a (eq-eqb f.store.sig f.store.sig refl))
-      ∙ ap (option_and_then (λ p. option_map (λ e. record { store = f.store; soup = p; entry = e }) (entry_of f.entry.uid p))) (there-soup f.store f.soup wf b)
-      ∙ ap (option_map (λ e. record { store = f.store; soup = f.soup; entry = e })) (there-entry f.soup f.entry (soup-good f.store f.soup wf b) c)
+  -- where the store and the soup are known
+  pub known-located : (s : Store) (p : Soup) (uid : ℕ) → Among stores s → Among s.soups p
+      → located stores s.sig p.sig uid ≡ option_map (λ e. record { store = s; soup = p; entry = e }) (entry_of uid p)
+  known-located s p uid a b =
+      let sig = p.sig in
+      ap (option_and_then (λ s. option_and_then (λ p. option_map (λ e. record { store = s; soup = p; entry = e }) (entry_of uid p)) (soup_of sig s)))
+      (find-one (λ (t : Store). t.sig == s.sig) stores s one a (eq-eqb s.sig s.sig refl))
+      ∙ ap (option_and_then (λ p. option_map (λ e. record { store = s; soup = p; entry = e }) (entry_of uid p))) (there-soup s p (each-at (λ s. well_formed s ≡ true) stores s formed a) b)
     where
-      wf : well_formed f.store ≡ true
-      wf = each-at (λ s. well_formed s ≡ true) stores f.store formed a
-
-      one : OnePasses (λ (s : Store). s.sig == f.store.sig) stores
-      one = pairs-more Apart (λ s t. (s.sig == f.store.sig) ≡ true → (t.sig == f.store.sig) ≡ true → ⊥) stores
-          (λ s t _ _ differ x y. differ (eqb-true s.sig f.store.sig x ∙ sym (eqb-true t.sig f.store.sig y))) apart
+      one : OnePasses (λ (t : Store). t.sig == s.sig) stores
+      one = pairs-more Apart (λ x y. (x.sig == s.sig) ≡ true → (y.sig == s.sig) ≡ true → ⊥) stores
+          (λ x y _ _ differ e f. differ (eqb-true x.sig s.sig e ∙ sym (eqb-true y.sig s.sig f))) apart
 
   pub hit-located : (q : Query) (h : Hit) → (r : Origin stores q h) → located stores h.store h.soup h.uid ≡ Some r.at
   hit-located q h r =
       let d = identity q.spec r.at.store r.at.soup r.at.entry h (taken q r.at h r.is_hit).1 in
-      (λ i. located stores (d.store_is i) (d.soup_is i) (d.uid_is i)) ∙ there-located r.at r.is_store r.is_soup r.is_entry
+      (λ i. located stores (d.store_is i) (d.soup_is i) (d.uid_is i))
+      ∙ known-located r.at.store r.at.soup r.at.entry.uid r.is_store r.is_soup
+      ∙ ap (option_map (λ e. record { store = r.at.store; soup = r.at.soup; entry = e }))
+      (there-entry r.at.soup r.at.entry (soup-good r.at.store r.at.soup (each-at (λ s. well_formed s ≡ true) stores r.at.store formed r.is_store) r.is_soup) r.is_entry)
 
   -- ---- the hit that is found is the one that is looked up
 
   module _ (q : Query) (store soup uid : ℕ) (test : Hit → Bool) (tells : (h : Hit) → test h ≡ true → HasIdentity h store soup uid)
-    (told : (h : Hit) → HasIdentity h store soup uid → test h ≡ true) where
+      (told : (h : Hit) → HasIdentity h store soup uid → test h ≡ true) where
     one-passes : OnePasses test (hits stores q)
     one-passes = pairs-more Other (λ a b. test a ≡ true → test b ≡ true → ⊥) (hits stores q)
         (λ a b _ _ other s t. let d = tells a s in let e = tells b t in other (d.store_is ∙ sym e.store_is) (d.soup_is ∙ sym e.soup_is) (d.uid_is ∙ sym e.uid_is))
@@ -211,3 +215,18 @@ module _ (stores : List Store) (apart : Pairs Apart stores) (formed : Each (λ s
 
   pub settled-looked-up : (q : Query) (at : Hit) → settled (hits stores q) (on at) ≡ unwrap_or (option_map on (looked_up stores q at.store at.soup at.uid)) (on at)
   settled-looked-up q at = ap (λ o. unwrap_or (option_map on o) (on at)) (same-looked-up q at)
+
+-- ---- what a cursor shows
+
+pub shown-looked-up : (w : World) (q : Query) (at : Hit) → Pairs Apart (mounted_stores w) → Each (λ s. well_formed s ≡ true) (mounted_stores w)
+    → option_and_then (spot_of w) (hit_at (hits_of w q) (on at))
+    ≡ option_and_then (λ (h : Hit). resolved w (record { store = at.store; soup = at.soup; uid = at.uid })) (looked_up (mounted_stores w) q at.store at.soup at.uid)
+shown-looked-up w q at apart formed =
+    ap (option_and_then (spot_of w)) (same-looked-up (mounted_stores w) apart formed q at) ∙ go (looked_up (mounted_stores w) q at.store at.soup at.uid) refl
+  where
+    go : (o : Option Hit) → looked_up (mounted_stores w) q at.store at.soup at.uid ≡ o
+        → option_and_then (spot_of w) o ≡ option_and_then (λ (h : Hit). resolved w (record { store = at.store; soup = at.soup; uid = at.uid })) o
+    go None e = refl
+    go (Some h) e =
+        let d = (looked-up-is (mounted_stores w) q at.store at.soup at.uid h e).1 in
+        λ i. resolved w (record { store = d.store_is i; soup = d.soup_is i; uid = d.uid_is i })

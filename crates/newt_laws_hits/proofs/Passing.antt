@@ -1,5 +1,5 @@
 -- The hits of a query and those of its index alone.
-use Rattle.std.proofs.Common.{◌≡◌, refl, ap, sym, ◌∙◌, subst, Bool, true, false, ◌&&◌, inl, inr, List, [], ◌∷◌, filter, Option, Some, None, option_map, cond}
+use Rattle.std.proofs.Common.{◌≡◌, refl, ap, sym, ◌∙◌, Bool, true, false, ◌&&◌, List, filter, Option, Some, None, option_map, cond}
 use Rattle.std.specs.declared.cmp.Ordering.{Ordering}
 use Rattle.std.specs.declared.cmp.Ordering.TheVariants.{Less, Equal}
 use Rattle.std.specs.Cmp.{IsTotalOrder}
@@ -14,9 +14,9 @@ use Rattle.newt_spec_query.specs.Hits.{Query, Hit, hits, hit_cmp, hit_of, kept, 
 use Rattle.newt_spec_query.proofs.Order.{hit_total}
 use Rattle.newt_laws_images.proofs.Assembled.{rising-same}
 use Rattle.newt_laws.proofs.Found.{Apart, hits-rise}
-use Rattle.newt_laws_hits.specs.Located.{Located, located, takes_part, hit_for}
+use Rattle.newt_laws_hits.specs.Located.{Located}
 use Rattle.newt_laws_hits.specs.Stripped.{stripped, entry_passes, passing}
-use Rattle.newt_laws_hits.proofs.Origins.{Origin, origin, among-hits, taken, hit-located}
+use Rattle.newt_laws_hits.proofs.Origins.{origin, among-hits, taken, hit-located}
 
 -- ---- two lists that rise and have the same elements are one
 

@@ -1,4 +1,4 @@
-use Rattle.newt_laws_cursors.proofs.Rows.{answered-apart, answered-closed, closed-settled}
+use Rattle.newt_laws_cursors.proofs.Rows.{answered-apart, answered-closed, answer-apart, closed-settled}
 use Rattle.newt_laws_cursors.proofs.cursors.other_commands_are_answered_without_cursors.Goals as goal
 
 pub returns-clause-any : goal.returns-clause-any
@@ -9,3 +9,6 @@ returns-clause-closed c = answered-closed
 
 pub returns-clause-settled : goal.returns-clause-settled
 returns-clause-settled c = closed-settled
+
+pub returns-clause-whole : goal.returns-clause-whole
+returns-clause-whole c = answer-apart

@@ -1,4 +1,4 @@
-use Rattle.newt_laws_hits.proofs.Steps.{fewer-after, fewer-before}
+use Rattle.newt_laws_hits.proofs.Stepping.{fewer-after, fewer-before}
 use Rattle.newt_laws_hits.proofs.walks.walks_end.Goals as goal
 
 pub returns-clause-next : goal.returns-clause-next

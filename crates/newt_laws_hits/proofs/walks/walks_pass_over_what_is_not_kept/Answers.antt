@@ -1,4 +1,4 @@
-use Rattle.newt_laws_hits.proofs.Steps.{next-walked, previous-walked, first-is, last-is, at_key-walked, after-is, before-is}
+use Rattle.newt_laws_hits.proofs.Stepping.{next-walked, previous-walked, first-is, last-is, at_key-walked, after-is, before-is}
 use Rattle.newt_laws_hits.proofs.walks.walks_pass_over_what_is_not_kept.Goals as goal
 
 pub returns-clause-next : goal.returns-clause-next
