@@ -47,7 +47,7 @@ impl<C: Card> Units<C> {
         })
     }
 
-    /// Where memory is taken from.
+    /// Where the units take their memory from.
     pub fn alloc(&self) -> Global {
         self.alloc
     }
