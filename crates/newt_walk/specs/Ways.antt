@@ -2,9 +2,10 @@
 use Rattle.std.specs.Prelude.{Bool, true, false, List, Option}
 use Rattle.newt_spec_store.specs.Keys.{IndexSpec}
 use Rattle.newt_spec_query.specs.Hits.{Hit}
-use Rattle.newt_spec_query.specs.Cursor.{Place, start, finish, is_after, is_before, first_place, last_place, next_place, previous_place}
+use Rattle.newt_spec_query.specs.Cursor.{Place, start, finish, first_place, last_place, next_place, previous_place}
 use Rattle.newt_spec_world.specs.Changed.{Step}
 use Rattle.newt_index.specs.Pairs.{first, last}
+use Rattle.newt_union.specs.Merged.{Member, after, before}
 use Rattle.newt_walk.specs.declared.ways.Way.{Way}
 use Rattle.newt_walk.specs.declared.ways.Way.TheVariants.{On, Back}
 
@@ -13,10 +14,10 @@ abbrev pub met : Way → List Hit → Option Hit
 met On hs = first hs
 met Back hs = last hs
 
--- the way meets the hit after the place (a word of these definitions)
-abbrev pub is_beyond : Way → IndexSpec → Place → Hit → Bool
-is_beyond On index place h = is_after index place h
-is_beyond Back index place h = is_before index place h
+-- the hit of some soups that the way meets next after another (a word of these definitions)
+abbrev pub beyond : Way → IndexSpec → List Member → Hit → Option Hit
+beyond On index ms at = after index ms at
+beyond Back index ms at = before index ms at
 
 -- where the way begins (a word of these definitions)
 abbrev pub outset : Way → Place

@@ -1,21 +1,16 @@
 //! Searches of the hits of an index alone: of the merge of the ranges of the soups that take part.
-ghost use Rattle.std.specs.Prelude.{◌≡◌, not, true, Some, option_map, option_and_then, filter, cond, None, IfOk, IfSome};
-ghost use Rattle.std.specs.Ordering.{is_lt};
+ghost use Rattle.std.specs.Prelude.{◌≡◌, true, option_map, option_and_then, IfOk, IfSome};
 ghost use Rattle.newt_host.specs.Outside.{Outside};
 ghost use Rattle.newt_keys.specs.KeyForm.{IsKeyOf};
-ghost use Rattle.newt_index.specs.Pairs.{IsSorted, first, parts_of};
+ghost use Rattle.newt_index.specs.Pairs.{IsSorted, parts_of};
 ghost use Rattle.newt_cursor.specs.Seen.{query_of, hit_of};
-ghost use Rattle.newt_spec_store.specs.Keys.{key_cmp};
-ghost use Rattle.newt_spec_query.specs.Cursor.{on};
-ghost use Rattle.newt_spec_world.specs.World.{hits_of, mounted_store, mounted_stores};
-ghost use Rattle.newt_union.specs.Merged.{Agree};
+ghost use Rattle.newt_spec_world.specs.World.{mounted_store, mounted_stores};
+ghost use Rattle.newt_union.specs.Merged.{Agree, merged, at_or_after};
 ghost use Rattle.newt_union.specs.Seen.{shown};
-ghost use Rattle.newt_laws.specs.Settled.{MountedApart};
-ghost use Rattle.newt_laws_hits.specs.Stripped.{stripped};
 ghost use Rattle.newt_laws_hits.specs.Taking.{members_of};
 ghost use Rattle.newt_units.specs.Stands.{Eight, Stands, world_of};
 ghost use Rattle.newt_walk.specs.Searched.{AreMembers, agrees, member_in, seen_member};
-ghost use Rattle.newt_walk.specs.Ways.{met, is_beyond};
+ghost use Rattle.newt_walk.specs.Ways.{met, beyond};
 
 use crate::present::{in_scope, index_of};
 use crate::ways::Way;
@@ -38,8 +33,8 @@ pub(crate) fn outermost<C: Card>(
     way: Way,
 ) -> Result<Option<Spot>, AllocError>
     ensures key { IfOk result (λ found. IfSome found (λ spot. IsKeyOf query.now.spec.index spot.key)) }
-    ensures found { (outside : Outside) → Eight outside → Stands C.place C.stands true units.now outside → let w = world_of C.reads units.now outside in MountedApart w →
-        IfOk result (λ found. option_map hit_of found ≡ met way (hits_of w (stripped (query_of query.now)))) }
+    ensures found { (outside : Outside) → Eight outside → Stands C.place C.stands true units.now outside → let q = query_of query.now in
+        IfOk result (λ found. option_map hit_of found ≡ met way (merged q.spec.index (members_of (mounted_stores (world_of C.reads units.now outside)) q))) }
 {
     let members = members(units, query)?;
     match way {
@@ -57,13 +52,19 @@ pub(crate) fn beyond<C: Card>(
 ) -> Result<Option<Spot>, AllocError>
     requires { IsKeyOf query.now.spec.index spot.now.key }
     ensures key { IfOk result (λ found. IfSome found (λ spot. IsKeyOf query.now.spec.index spot.key)) }
-    ensures found { (outside : Outside) → Eight outside → Stands C.place C.stands true units.now outside → let w = world_of C.reads units.now outside in MountedApart w →
-        IfOk result (λ found. option_map hit_of found ≡ met way (filter (is_beyond way query.now.spec.index (on (hit_of spot.now))) (hits_of w (stripped (query_of query.now))))) }
+    ensures found { (outside : Outside) → Eight outside → Stands C.place C.stands true units.now outside → let q = query_of query.now in
+        IfOk result (λ found. option_map hit_of found ≡ beyond way q.spec.index (members_of (mounted_stores (world_of C.reads units.now outside)) q) (hit_of spot.now)) }
 {
     let members = members(units, query)?;
     match way {
-        Way::On => owned(&members.after(spot)?),
-        Way::Back => owned(&members.before(spot)?),
+        Way::On => match members.after(spot) {
+            Ok(found) => owned(&found),
+            Err(error) => Err(error),
+        },
+        Way::Back => match members.before(spot) {
+            Ok(found) => owned(&found),
+            Err(error) => Err(error),
+        },
     }
 }
 
@@ -75,11 +76,14 @@ pub(crate) fn at_or_after<C: Card>(
 ) -> Result<Option<Spot>, AllocError>
     requires { IsKeyOf query.now.spec.index key.now }
     ensures key { IfOk result (λ found. IfSome found (λ spot. IsKeyOf query.now.spec.index spot.key)) }
-    ensures found { (outside : Outside) → Eight outside → Stands C.place C.stands true units.now outside → let w = world_of C.reads units.now outside in MountedApart w →
-        IfOk result (λ found. option_map hit_of found ≡ first (filter (λ h. not (is_lt (key_cmp query.now.spec.index h.key key.now))) (hits_of w (stripped (query_of query.now))))) }
+    ensures found { (outside : Outside) → Eight outside → Stands C.place C.stands true units.now outside → let q = query_of query.now in
+        IfOk result (λ found. option_map hit_of found ≡ at_or_after q.spec.index (members_of (mounted_stores (world_of C.reads units.now outside)) q) key.now) }
 {
     let members = members(units, query)?;
-    owned(&members.at_or_after(key)?)
+    match members.at_or_after(key) {
+        Ok(found) => owned(&found),
+        Err(error) => Err(error),
+    }
 }
 
 /// The soups that take part in a query, with their ranges, in order of the units.
