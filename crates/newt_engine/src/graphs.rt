@@ -24,6 +24,7 @@ impl<C: Card> World<C> {
         ensures answered { IsTrue H.told → Answers (world_of C.reads self.old.units (H.outside host.old)) (world_of C.reads self.new.units (H.outside host.new)) command said result }
         ensures moments { IsTrue H.told → let w = world_of C.reads self.old.units (H.outside host.old) in
             Always (Answering C.reads w (answer_now w command).0 (H.outside host.old).now) (H.outside host.old).now (H.outside host.new).now }
+        ensures desk { self.new.desk ≡ self.old.desk }
         ensures alone { OnDevices (H.outside host.old) (H.outside host.new) }
         ensures cause { IfErr result (λ fault. HasFaultCause fault (H.outside host.old) (H.outside host.new)) }
         ensures ends { takes_memory command ≡ false → IfErr result (λ fault. IsRefusal fault) }

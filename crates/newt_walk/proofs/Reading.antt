@@ -1,0 +1,48 @@
+-- Units and devices that are read alone, call after call.
+use Rattle.std.proofs.Common.{arith, ◌≡◌, refl, sym, ◌∙◌, ap, subst, ℕ, ◌≤◌, Bool, true, IsTrue, List, Option}
+use Rattle.std.specs.Prelude.{Result, Ok, Err, IfErr}
+use Rattle.newt_host.specs.Outside.{Outside}
+use Rattle.newt_pagebook.specs.declared.book.Stop.{Stop}
+use Rattle.newt_pagebook.specs.declared.book.Stop.TheVariants.{Memory, Device}
+use Rattle.newt_spec_store.specs.Store.{Store}
+use Rattle.newt_units.specs.declared.units.Units.{Units}
+use Rattle.newt_units.specs.Faults.{HasStopCause, OnDevices}
+use Rattle.newt_units.specs.Stands.{Stands, world_of}
+use Rattle.newt_walk.specs.World.{AreRead}
+
+pub devices-not : (o : Outside) → OnDevices o o
+devices-not o = record {
+  input = refl;
+  cards = record { devices = λ name. refl; card = λ u. refl; blocks = λ u. refl };
+  in_faults = refl;
+  out_faults = refl;
+  dev_faults = λ u. omega arith;
+}
+
+pub devices-then : {o p q : Outside} → OnDevices o p → OnDevices p q → OnDevices o q
+devices-then {o} {p} {q} a b = record {
+  input = b.input ∙ a.input;
+  cards = record {
+    devices = λ name. b.cards.devices name ∙ a.cards.devices name;
+    card = λ u. b.cards.card u ∙ a.cards.card u;
+    blocks = λ u. b.cards.blocks u ∙ a.cards.blocks u;
+  };
+  in_faults = b.in_faults ∙ a.in_faults;
+  out_faults = b.out_faults ∙ a.out_faults;
+  dev_faults = λ u. let x = a.dev_faults u in let y = b.dev_faults u in omega arith;
+}
+
+-- what has failed since has failed since an earlier moment
+pub cause-since : {o p q : Outside} (stop : Stop) → OnDevices o p → HasStopCause stop p q → HasStopCause stop o q
+cause-since Memory a h = tt
+cause-since {o} {p} {q} (Device u) a h = let x = a.dev_faults u in omega (arith, h)
+
+module _ {C : Type 0} {reads : List ℕ → Option Store} {place : C → ℕ} {stands : Bool → C → Outside → Type 0} {told : Bool} where
+  -- nothing was read
+  pub not-read : {units : Units C} {o : Outside} → Stands place stands told units o → AreRead reads place stands told units units o o
+  not-read {units} {o} s = record { stands = s; world = λ t. refl; moment = refl; alone = devices-not o }
+
+  -- one call after another
+  pub read-then : {units mid later : Units C} {o p q : Outside} → AreRead reads place stands told units mid o p → AreRead reads place stands told mid later p q
+      → AreRead reads place stands told units later o q
+  read-then a b = record { stands = b.stands; world = λ t. b.world t ∙ a.world t; moment = b.moment ∙ a.moment; alone = devices-then a.alone b.alone }

@@ -1,0 +1,18 @@
+//! The commands of cursors over the mounted stores.
+//!
+//! It stands on `newt_units` for the stores, on `newt_cursor` for the 32 places of cursors, on `newt_union` for searches of the merged ranges, and on
+//! `newt_pass` for what a query keeps. The promise that it carries: units, cursors and devices stand for one world; each command of cursors is answered
+//! as that world answers it, and leaves what stands for the world after it; and nothing happens to a device but reading.
+#![tactic(auto)]
+
+mod keep;
+mod places;
+mod present;
+mod search;
+mod settling;
+mod show;
+mod walk;
+mod ways;
+
+pub use settling::settle;
+pub use show::{Shown, Side};
