@@ -1,0 +1,7 @@
+pub mod Checks
+pub mod Following
+pub mod Told
+pub mod Filled
+pub mod Listed
+pub mod Reading
+pub mod Changing
