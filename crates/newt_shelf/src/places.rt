@@ -2,7 +2,7 @@
 ghost use Rattle.std.specs.Prelude.{◌≡◌, ◌≢◌, ◌==◌, ◌++◌, ◌∷◌, [], ℕ, List, filter, length, slice_get, Some, None, is_some, OnOk, OnErr, IfOk};
 ghost use Rattle.std.specs.List.{IsDistinct};
 ghost use Rattle.std.specs.List.Sorted.{IsStrictlySortedBy};
-ghost use Rattle.std.specs.Cmp.{nat_cmp};
+ghost use Rattle.std.specs.Ordering.{nat_cmp};
 ghost use Rattle.std.specs.Set.{is_member};
 ghost use Rattle.std.specs.BTreeMap as tree;
 ghost use Rattle.newt_objects.specs.Headers.{part_cmp};
@@ -35,12 +35,7 @@ fn pick(rows: &BTreeMap<(u32, u32), u32>, sig: u32, ids: &mut Vec<u32>) -> Resul
 }
 
 // Appends the id of the entry of a row, if it is one of the soup.
-fn list_one(
-    key: &(u32, u32),
-    id: &u32,
-    sig: u32,
-    uids: &mut Vec<Uid>,
-) -> Result<(), AllocError>
+fn list_one(key: &(u32, u32), id: &u32, sig: u32, uids: &mut Vec<Uid>) -> Result<(), AllocError>
     ensures { OnOk result (uids.new.items ≡ uids.old.items ++ uids_at sig ((key.now, id.now) ∷ [])) }
 {
     if key.0 == sig {

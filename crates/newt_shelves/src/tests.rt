@@ -246,6 +246,8 @@ fn make_small<P: PageBook>(
     assert_eq!(rt; accept(host, store, make(alloc, b"T")?, 0)?, 1);
     add_small(rt, alloc, host, store)?;
     assert_eq!(rt; contents(rt, alloc, host, store)?, small_contents(alloc)?);
+    assert_eq!(rt; store.uids(Sig(0))?.as_slice(), [Uid(0), Uid(2)]);
+    assert!(rt; store.uids(Sig(2))?.is_empty());
     assert!(rt; has_card(host));
     let found = contents_on::<P>(rt, alloc, host.bytes(CARD))?;
     assert_eq!(rt; found, Some(small_contents(alloc)?));
