@@ -1,5 +1,5 @@
 -- What stands where a change is not refused.
-use Rattle.std.proofs.Common.{◌≡◌, ◌||◌, Bool, true, false, ◌∷◌, Option, Some, None, refl}
+use Rattle.std.proofs.Common.{◌≡◌, ◌||◌, Bool, true, false, [], ◌∷◌, Option, Some, None, refl}
 use Rattle.std.specs.Option.{is_none}
 use Rattle.newt_base.specs.Refusals.{Checks, first_of}
 use Rattle.newt_base.specs.declared.Refusal.{Refusal}
@@ -22,3 +22,8 @@ neither false b h = (refl, h)
 -- two checks that do not hold
 pub none-two : (r q : Refusal) (b c : Bool) (rest : Checks) → first_of ((r, b) ∷ (q, c) ∷ rest) ≡ None → (b ≡ false) × (c ≡ false) × (first_of rest ≡ None)
 none-two r q b c rest h = let one = none-first r b ((q, c) ∷ rest) h in let two = none-first q c rest one.1 in (one.0, two.0, two.1)
+
+-- all checks but the first
+abbrev pub later-checks : Checks → Checks
+later-checks [] = []
+later-checks (check ∷ checks) = checks

@@ -112,31 +112,32 @@ bare-sigs ps rows same = of_rows rows ∙ ap (λ (qs : List Soup). map (λ (p : 
     of_soups [] = refl
     of_soups (p ∷ ps) = ap (λ ns. p.sig ∷ ns) (of_soups ps)
 
+-- the signatures of a directory, and its ranges without entries
+abbrev pub sigs-of : Directory → List ℕ
+sigs-of d = map (λ (row : SoupRow). row.sig) d.soups
+
+abbrev pub empty-rows : Directory → List SoupRanges
+empty-rows d = map (λ (row : SoupRow). no_ranges row.sig row.specs) d.soups
+
 -- the ranges of a store, its soups listed from its directory and its entries read
 pub all-listed : (s : Store) (d : Directory) → well_formed s ≡ true → bare s ≡ bare_store d
-    → AreRangesOf s (rows_of_soups s (map (λ (row : SoupRow). row.sig) d.soups) (map (λ (row : SoupRow). no_ranges row.sig row.specs) d.soups))
+    → AreRangesOf s (rows_of_soups s (sigs-of d) (empty-rows d))
 all-listed s d formed is =
-    opened s (rows_of_soups s sigs rows) (told_soups s sigs nothing) (λ p m w. known p m w)
-    (subst (λ (ps : List Soup). Stand (told_soups s sigs nothing) ps (rows_of_soups s sigs rows)) (sym same)
-    (listed-soups s (map bare_soup d.soups) one sigs nothing rows formed rise (each-from (λ sig. (w : ℕ) → nothing sig w ≡ None) sigs (λ z m w. refl)) (none-listed d.soups)))
+    opened s (rows_of_soups s (sigs-of d) (empty-rows d)) (told_soups s (sigs-of d) nothing) (λ p m w. known p m w)
+    (subst (λ (ps : List Soup). Stand (told_soups s (sigs-of d) nothing) ps (rows_of_soups s (sigs-of d) (empty-rows d))) (sym same)
+    (listed-soups s (map bare_soup d.soups) one (sigs-of d) nothing (empty-rows d) formed rise (each-from (λ sig. (w : ℕ) → nothing sig w ≡ None) (sigs-of d) (λ z m w. refl)) (none-listed d.soups)))
   where
-    abbrev sigs : List ℕ
-    sigs = map (λ (row : SoupRow). row.sig) d.soups
-
-    abbrev rows : List SoupRanges
-    rows = map (λ (row : SoupRow). no_ranges row.sig row.specs) d.soups
-
     same : (bare s).soups ≡ map bare_soup d.soups
     same = ap (λ (t : Store). t.soups) is
 
-    sigs-are : sigs ≡ map (λ (p : Soup). p.sig) s.soups
+    sigs-are : sigs-of d ≡ map (λ (p : Soup). p.sig) s.soups
     sigs-are = bare-sigs s.soups d.soups same
 
-    rising : Rattle.newt_spec_graph.specs.Lists.rises 0 s.next_soup sigs ≡ true
+    rising : Rattle.newt_spec_graph.specs.Lists.rises 0 s.next_soup (sigs-of d) ≡ true
     rising = ap (Rattle.newt_spec_graph.specs.Lists.rises 0 s.next_soup) sigs-are ∙ (is-store s formed).sigs
 
-    rise : Pairs (λ m n. m < n) sigs
-    rise = rises-pairs 0 s.next_soup sigs rising
+    rise : Pairs (λ m n. m < n) (sigs-of d)
+    rise = rises-pairs 0 s.next_soup (sigs-of d) rising
 
     of_rows : (rows : List SoupRow) → map (λ (p : Soup). p.sig) (map bare_soup rows) ≡ map (λ (row : SoupRow). row.sig) rows
     of_rows [] = refl
@@ -145,8 +146,15 @@ all-listed s d formed is =
     one : (sig : ℕ) → OnePasses (of_sig sig) (map bare_soup d.soups)
     one sig = one-sig-of sig s.next_soup (map bare_soup d.soups) (ap (Rattle.newt_spec_graph.specs.Lists.rises 0 s.next_soup) (of_rows d.soups) ∙ rising)
 
-    known : (p : Soup) → Among s.soups p → (w : ℕ) → told_soups s sigs nothing p.sig w ≡ graphs_of p w
+    known : (p : Soup) → Among s.soups p → (w : ℕ) → told_soups s (sigs-of d) nothing p.sig w ≡ graphs_of p w
     known p m w =
-        soups-told s sigs nothing p.sig w rise (each-from (λ sig. (w : ℕ) → nothing sig w ≡ None) sigs (λ z m w. refl))
+        soups-told s (sigs-of d) nothing p.sig w rise (each-from (λ sig. (w : ℕ) → nothing sig w ≡ None) (sigs-of d) (λ z m w. refl))
         (subst (λ (ns : List ℕ). Among ns p.sig) (sym sigs-are) (map-among (λ (p : Soup). p.sig) s.soups p m))
         ∙ ap (λ (o : Option Soup). graph_in (option_and_then (entry_of w) o)) (there-soup s p formed m)
+
+-- in other words
+pub listed-as : (s : Store) (d : Directory) → well_formed s ≡ true → bare s ≡ bare_store d → (sigs : List ℕ) (rows later : List SoupRanges) → sigs ≡ sigs-of d
+    → rows ≡ empty-rows d → later ≡ rows_of_soups s sigs rows → AreRangesOf s later
+listed-as s d formed is sigs rows later e f h =
+    subst (λ (x : List SoupRanges). AreRangesOf s x) (sym (h ∙ ap (λ (ns : List ℕ). rows_of_soups s ns rows) e ∙ ap (λ (rs : List SoupRanges). rows_of_soups s (sigs-of d) rs) f))
+    (all-listed s d formed is)

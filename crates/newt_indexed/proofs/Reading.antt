@@ -57,6 +57,6 @@ module _ {B : Type 0} (place : B → ℕ) (numbers : B → Numbers) (stands : Bo
       Spends-widen (0 + 0) (512 * m + 512 * n) 0 (512 * (m + n)) (omega arith) (omega arith)
       (Spends-append 0 (512 * m) 0 (512 * n) one (subst (λ (u : ℕ). Spends u 0 (512 * n) between after) x.same_place two))
 
-  -- the first is all that is fetched, of more that there would be
-  pub spends-first : (a b : Store B) (before between : Outside) (m n : ℕ) → Spends (place a.book) 0 (512 * m) before between → Spends (place a.book) 0 (512 * (m + n)) before between
-  spends-first a b before between m n one = Spends-widen 0 (512 * m) 0 (512 * (m + n)) (omega arith) (omega arith) one
+-- a bound in pages that is higher
+pub fetches-more : (unit m n : ℕ) (before after : Outside) → m ≤ n → Spends unit 0 (512 * m) before after → Spends unit 0 (512 * n) before after
+fetches-more unit m n before after low one = Spends-widen 0 (512 * m) 0 (512 * n) (omega arith) (omega (arith, low)) one
