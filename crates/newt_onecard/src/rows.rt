@@ -11,19 +11,13 @@ use newt_pagebook::PageBook;
 use newt_soupdir::Directory;
 use newt_store::Store;
 use std::alloc::{AllocError, Global};
-use std::process::Abort;
 use std::test::Fail;
 
 /// A row for the store, one for each soup, and one for each entry with an id below 64.
-pub(crate) type Contents = Vec<Vec<u8>>;
+pub type Contents = Vec<Vec<u8>>;
 
 /// The row of a store or a soup: its name, its signature, and the next number that it gives.
-pub(crate) fn named_row(
-    alloc: Global,
-    name: &[u8],
-    sig: u32,
-    next: u32,
-) -> Result<Vec<u8>, AllocError> {
+pub fn named_row(alloc: Global, name: &[u8], sig: u32, next: u32) -> Result<Vec<u8>, AllocError> {
     let mut row = name.to_vec(alloc)?;
     row.extend_from_slice(&sig.to_be_bytes())?;
     row.extend_from_slice(&next.to_be_bytes())?;
@@ -31,7 +25,7 @@ pub(crate) fn named_row(
 }
 
 /// The row of an entry: the signature of its soup, its id, its minute and its text.
-pub(crate) fn entry_row(
+pub fn entry_row(
     alloc: Global,
     sig: u32,
     uid: u32,
@@ -72,7 +66,6 @@ fn soups_of(alloc: Global, directory: &Directory) -> Result<Vec<(Sig, u32)>, All
 
 // Adds the row of an entry that is there.
 fn push_entry<P: PageBook>(
-    rt: &impl Abort,
     alloc: Global,
     host: &mut MemHost,
     store: &mut Store<P>,
@@ -87,9 +80,13 @@ fn push_entry<P: PageBook>(
 {
     let is_there = store.has(soup, Uid(uid));
     let entry = store.entry(host, soup, Uid(uid))?;
-    assert_eq!(rt; entry.is_some(), is_there);
+    if entry.is_some() != is_there {
+        return Err(Fail::new("an entry is there and not there"));
+    }
     if let Some(entry) = entry {
-        assert_eq!(rt; entry.uid, Uid(uid));
+        if entry.uid != Uid(uid) {
+            return Err(Fail::new("an entry of another id"));
+        }
         let text = encode(alloc, &entry.graph)?;
         rows.push(entry_row(alloc, soup.0, uid, entry.time, &text)?)?;
     }
@@ -98,7 +95,6 @@ fn push_entry<P: PageBook>(
 
 // Adds the rows of the entries of a soup.
 fn push_entries<P: PageBook>(
-    rt: &impl Abort,
     alloc: Global,
     host: &mut MemHost,
     store: &mut Store<P>,
@@ -111,14 +107,13 @@ fn push_entries<P: PageBook>(
     ensures sound { IsSound true store.new.catalog (P.numbers store.new.book) (P.place store.new.book) (outside_of host.new) }
 {
     for uid in 0..soup.1.min(64) {
-        push_entry(rt, alloc, host, store, soup.0, uid, rows)?;
+        push_entry(alloc, host, store, soup.0, uid, rows)?;
     }
     Ok(())
 }
 
 /// What a store has.
-pub(crate) fn contents<P: PageBook>(
-    rt: &impl Abort,
+pub fn contents<P: PageBook>(
     alloc: Global,
     host: &mut MemHost,
     store: &mut Store<P>,
@@ -130,23 +125,19 @@ pub(crate) fn contents<P: PageBook>(
 {
     let mut rows = directory_rows(alloc, store.directory())?;
     for soup in soups_of(alloc, store.directory())? {
-        push_entries(rt, alloc, host, store, soup, &mut rows)?;
+        push_entries(alloc, host, store, soup, &mut rows)?;
     }
     Ok(rows)
 }
 
 /// What the store on these bytes has, or none where they are no store.
-pub(crate) fn contents_on<P: PageBook>(
-    rt: &impl Abort,
-    alloc: Global,
-    bytes: &[u8],
-) -> Result<Option<Contents>, Fail> {
-    let mut host = host_of(rt, alloc, bytes)?;
-    let store: Option<Store<P>> = found(rt, alloc, &mut host);
+pub fn contents_on<P: PageBook>(alloc: Global, bytes: &[u8]) -> Result<Option<Contents>, Fail> {
+    let mut host = host_of(alloc, bytes)?;
+    let store: Option<Store<P>> = found(alloc, &mut host)?;
     match store {
         Some(store) => {
             let mut store = store;
-            Ok(Some(contents(rt, alloc, &mut host, &mut store)?))
+            Ok(Some(contents(alloc, &mut host, &mut store)?))
         }
         None => Ok(None),
     }

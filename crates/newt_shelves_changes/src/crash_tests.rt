@@ -3,13 +3,13 @@ ghost use Rattle.std.specs.Prelude.{true, OnOk};
 ghost use Rattle.newt_memhost.specs.Outside.{outside_of};
 ghost use Rattle.newt_store.specs.Stands.{IsSound};
 
-use crate::card::{CARD, formatted, has_card, opened};
-use crate::changes::{EMPTY, accept, accept_through_crashes, add, make, move_to, remove};
-use crate::contents::{Contents, contents, entry_row, named_row};
-use crate::crashes::assert_goes_on;
-use crate::filling::{come_and_go, two_soups};
+use crate::crashes::{accept_through_crashes, assert_goes_on};
 use newt_base::Sig;
 use newt_memhost::MemHost;
+use newt_onecard::{
+    CARD, Contents, EMPTY, accept_as, add, come_and_go, contents, entry_row, formatted, has_card,
+    make, move_to, named_row, opened, remove, two_soups,
+};
 use newt_pagebook::PageBook;
 use newt_pageplain::PlainBook;
 use newt_store::{Change, Store};
@@ -57,18 +57,18 @@ fn move_one<P: PageBook>(
     requires stands { P.stands true store.old.book (outside_of host.old) }
     requires sound { IsSound true store.old.catalog (P.numbers store.old.book) (P.place store.old.book) (outside_of host.old) }
 {
-    assert_eq!(rt; accept(host, store, add(alloc, 1, EMPTY)?, 6)?, 0);
+    accept_as(host, store, add(alloc, 1, EMPTY)?, 6, 0)?;
     let before = used_of(rt, host);
-    assert_eq!(rt; accept(host, store, move_to(0, 0, 1), 7)?, 1);
+    accept_as(host, store, move_to(0, 0, 1), 7, 1)?;
     let record = 5 + 4 + 2 * 516 + 2 * 4;
     assert_eq!(rt; used_of(rt, host), before.saturating_add(record));
-    assert_eq!(rt; contents(rt, alloc, host, store)?, moved(alloc)?);
+    assert_eq!(rt; contents(alloc, host, store)?, moved(alloc)?);
     Ok(())
 }
 
 fn moves<P: PageBook>(rt: &impl Abort, alloc: Global) -> Result<(), Fail> {
-    let mut host = formatted::<P>(rt, alloc, 13)?;
-    let mut store: Store<P> = two_soups(rt, alloc, &mut host)?;
+    let mut host = formatted::<P>(alloc, 13)?;
+    let mut store: Store<P> = two_soups(alloc, &mut host)?;
     move_one(rt, alloc, &mut host, &mut store)
 }
 
@@ -122,8 +122,8 @@ fn go<P: PageBook>(
 }
 
 fn crashes<P: PageBook>(rt: &impl Abort, alloc: Global) -> Result<(), Fail> {
-    let mut host = formatted::<P>(rt, alloc, 13)?;
-    let mut store: Store<P> = opened(rt, alloc, &mut host);
+    let mut host = formatted::<P>(alloc, 13)?;
+    let mut store: Store<P> = opened(alloc, &mut host)?;
     come(rt, alloc, &mut host, &mut store)?;
     go(rt, alloc, &mut host, &mut store)
 }
@@ -151,8 +151,8 @@ fn switch<P: PageBook>(
     requires stands { P.stands true store.old.book (outside_of host.old) }
     requires sound { IsSound true store.old.catalog (P.numbers store.old.book) (P.place store.old.book) (outside_of host.old) }
 {
-    assert_eq!(rt; accept(host, store, make(alloc, b"S")?, 0)?, 0);
-    come_and_go(rt, alloc, host, store, 0, 12)?;
+    accept_as(host, store, make(alloc, b"S")?, 0, 0)?;
+    come_and_go(alloc, host, store, 0, 12)?;
     assert_eq!(rt; vote_of(rt, host), 0);
     let entry = add(alloc, 0, EMPTY)?;
     let from = host.calls();
@@ -163,8 +163,8 @@ fn switch<P: PageBook>(
 }
 
 fn switches<P: PageBook>(rt: &impl Abort, alloc: Global) -> Result<(), Fail> {
-    let mut host = formatted::<P>(rt, alloc, 13)?;
-    let mut store: Store<P> = opened(rt, alloc, &mut host);
+    let mut host = formatted::<P>(alloc, 13)?;
+    let mut store: Store<P> = opened(alloc, &mut host)?;
     switch(rt, alloc, &mut host, &mut store)
 }
 

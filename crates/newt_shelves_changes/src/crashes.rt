@@ -1,14 +1,14 @@
 // What a crash leaves within the calls of a host.
-ghost use Rattle.std.specs.Prelude.{true};
+ghost use Rattle.std.specs.Prelude.{true, OnOk};
 ghost use Rattle.newt_memhost.specs.Outside.{outside_of};
 ghost use Rattle.newt_store.specs.Stands.{IsSound};
 
-use crate::card::{CARD, has_card, host_of, opened};
-use crate::changes::{EMPTY, accept, add};
-use crate::contents::{Contents, contents, contents_on};
 use newt_memhost::{MemHost, Pick};
+use newt_onecard::{
+    CARD, Contents, EMPTY, accept, add, contents, contents_on, has_card, host_of, opened,
+};
 use newt_pagebook::PageBook;
-use newt_store::Store;
+use newt_store::{Change, Store};
 use std::alloc::Global;
 use std::process::Abort;
 use std::test::Fail;
@@ -38,7 +38,7 @@ pub(crate) fn assert_either<P: PageBook>(
     for call in from..host.calls() {
         for pick in PICKS {
             let crash = host.images(CARD, call, pick)?;
-            let found = contents_on::<P>(rt, alloc, &crash.image)?;
+            let found = contents_on::<P>(alloc, &crash.image)?;
             assert!(rt;
                 found.as_ref() == Some(before) || found.as_ref() == Some(after),
                 "{call}"
@@ -58,20 +58,20 @@ fn take_one<P: PageBook>(
     requires stands { P.stands true store.old.book (outside_of host.old) }
     requires sound { IsSound true store.old.catalog (P.numbers store.old.book) (P.place store.old.book) (outside_of host.old) }
 {
-    let before = contents(rt, alloc, host, store)?;
+    let before = contents(alloc, host, store)?;
     let _uid = accept(host, store, add(alloc, 0, EMPTY)?, 99)?;
-    let after = contents(rt, alloc, host, store)?;
+    let after = contents(alloc, host, store)?;
     assert!(rt; before.len() < after.len());
     assert!(rt; has_card(host));
-    let found = contents_on::<P>(rt, alloc, host.bytes(CARD))?;
+    let found = contents_on::<P>(alloc, host.bytes(CARD))?;
     assert_eq!(rt; found, Some(after));
     Ok(())
 }
 
 // The store on these bytes takes an entry.
 fn goes_on<P: PageBook>(rt: &impl Abort, alloc: Global, bytes: &[u8]) -> Result<(), Fail> {
-    let mut host = host_of(rt, alloc, bytes)?;
-    let mut store: Store<P> = opened(rt, alloc, &mut host);
+    let mut host = host_of(alloc, bytes)?;
+    let mut store: Store<P> = opened(alloc, &mut host)?;
     take_one(rt, alloc, &mut host, &mut store)
 }
 
@@ -90,4 +90,27 @@ pub(crate) fn assert_goes_on<P: PageBook>(
         }
     }
     Ok(())
+}
+
+/// Makes a change, and checks what a crash leaves within each of its calls.
+pub(crate) fn accept_through_crashes<P: PageBook>(
+    rt: &impl Abort,
+    alloc: Global,
+    host: &mut MemHost,
+    store: &mut Store<P>,
+    change: Change,
+    now: u32,
+) -> Result<u32, Fail>
+    requires stands { P.stands true store.old.book (outside_of host.old) }
+    requires sound { IsSound true store.old.catalog (P.numbers store.old.book) (P.place store.old.book) (outside_of host.old) }
+    ensures stands { OnOk result (P.stands true store.new.book (outside_of host.new)) }
+    ensures sound { OnOk result (IsSound true store.new.catalog (P.numbers store.new.book) (P.place store.new.book) (outside_of host.new)) }
+{
+    let before = contents(alloc, host, store)?;
+    let from = host.calls();
+    let answer = accept(host, store, change, now)?;
+    let after = contents(alloc, host, store)?;
+    assert!(rt; after != before);
+    assert_either::<P>(rt, alloc, host, from, &before, &after)?;
+    Ok(answer)
 }

@@ -3,11 +3,11 @@ ghost use Rattle.std.specs.Prelude.{true, OnOk};
 ghost use Rattle.newt_memhost.specs.Outside.{outside_of};
 ghost use Rattle.newt_store.specs.Stands.{IsSound};
 
-use crate::card::{CARD, filled, formatted, has_card, host_of, opened};
-use crate::changes::{accept, make, refuse};
-use crate::filling::fill;
 use newt_base::{Refusal, Sig};
 use newt_memhost::MemHost;
+use newt_onecard::{
+    CARD, accept_as, fill, filled, formatted, has_card, host_of, make, opened, refuse,
+};
 use newt_pagebook::PageBook;
 use newt_pageplain::PlainBook;
 use newt_soupdir::{Directory, read_directory};
@@ -93,15 +93,14 @@ fn assert_kept<P: PageBook>(
     bytes: &[u8],
     want: (usize, usize),
 ) -> Result<(), Fail> {
-    let mut host = host_of(rt, alloc, bytes)?;
-    let store: Store<P> = opened(rt, alloc, &mut host);
+    let mut host = host_of(alloc, bytes)?;
+    let store: Store<P> = opened(alloc, &mut host)?;
     assert_eq!(rt; count(store.directory()), want);
     Ok(())
 }
 
 // The indexes of the letters, one after another.
 fn declare_all<P: PageBook>(
-    rt: &impl Abort,
     alloc: Global,
     host: &mut MemHost,
     store: &mut Store<P>,
@@ -113,14 +112,13 @@ fn declare_all<P: PageBook>(
 {
     for letter in LETTERS {
         let index = add_index(&of_letter(alloc, *letter)?)?;
-        assert_eq!(rt; accept(host, store, index, 0)?, 0);
+        accept_as(host, store, index, 0, 0)?;
     }
     Ok(())
 }
 
 // A path that is there, but for ASCII case, and then one too many.
 fn refuse_more<P: PageBook>(
-    rt: &impl Abort,
     alloc: Global,
     host: &mut MemHost,
     store: &mut Store<P>,
@@ -131,9 +129,9 @@ fn refuse_more<P: PageBook>(
     ensures sound { OnOk result (IsSound true store.new.catalog (P.numbers store.new.book) (P.place store.new.book) (outside_of host.new)) }
 {
     let again = add_index(&of_letter(alloc, b'C')?)?;
-    refuse(rt, alloc, host, store, again, Refusal::Index)?;
+    refuse(alloc, host, store, again, Refusal::Index)?;
     let more = add_index(&of_letter(alloc, b'q')?)?;
-    refuse(rt, alloc, host, store, more, Refusal::Limit)
+    refuse(alloc, host, store, more, Refusal::Limit)
 }
 
 // An index goes, once; then there is room for another, and for tags.
@@ -147,26 +145,26 @@ fn change<P: PageBook>(
     requires sound { IsSound true store.old.catalog (P.numbers store.old.book) (P.place store.old.book) (outside_of host.old) }
 {
     let third = of_letter(alloc, b'c')?;
-    assert_eq!(rt; accept(host, store, drop_index(alloc, &third)?, 0)?, 0);
+    accept_as(host, store, drop_index(alloc, &third)?, 0, 0)?;
     assert_eq!(rt; count(store.directory()), (15, 0));
-    assert_eq!(rt; accept(host, store, drop_index(alloc, &third)?, 0)?, 0);
+    accept_as(host, store, drop_index(alloc, &third)?, 0, 0)?;
     assert_eq!(rt; count(store.directory()), (15, 0));
     let another = of_letter(alloc, b'q')?;
-    assert_eq!(rt; accept(host, store, add_index(&another)?, 0)?, 0);
-    assert_eq!(rt; accept(host, store, set_tags(&another)?, 0)?, 0);
+    accept_as(host, store, add_index(&another)?, 0, 0)?;
+    accept_as(host, store, set_tags(&another)?, 0, 0)?;
     assert_eq!(rt; count(store.directory()), (16, 2));
     assert!(rt; has_card(host));
     assert_kept::<P>(rt, alloc, host.bytes(CARD), (16, 2))
 }
 
 fn declares<P: PageBook>(rt: &impl Abort, alloc: Global) -> Result<(), Fail> {
-    let mut host = formatted::<P>(rt, alloc, 13)?;
-    let mut store: Store<P> = opened(rt, alloc, &mut host);
+    let mut host = formatted::<P>(alloc, 13)?;
+    let mut store: Store<P> = opened(alloc, &mut host)?;
     let early = add_index(&of_letter(alloc, b'a')?)?;
-    refuse(rt, alloc, &mut host, &mut store, early, Refusal::Soup)?;
-    assert_eq!(rt; accept(&mut host, &mut store, make(alloc, b"S")?, 0)?, 0);
-    declare_all(rt, alloc, &mut host, &mut store)?;
-    refuse_more(rt, alloc, &mut host, &mut store)?;
+    refuse(alloc, &mut host, &mut store, early, Refusal::Soup)?;
+    accept_as(&mut host, &mut store, make(alloc, b"S")?, 0, 0)?;
+    declare_all(alloc, &mut host, &mut store)?;
+    refuse_more(alloc, &mut host, &mut store)?;
     change(rt, alloc, &mut host, &mut store)
 }
 
@@ -177,13 +175,12 @@ fn indexes_and_tags_are_declared(rt: HostRuntime) -> Result<(), Fail> {
 
 // Thirteen blocks take 38 pages: the directory and 37 entries, so the directory cannot grow to two pages.
 fn fills<P: PageBook>(rt: &impl Abort, alloc: Global) -> Result<(), Fail> {
-    let mut host = formatted::<P>(rt, alloc, 13)?;
-    let mut store: Store<P> = opened(rt, alloc, &mut host);
-    assert_eq!(rt; accept(&mut host, &mut store, make(alloc, b"S")?, 0)?, 0);
-    fill(rt, alloc, &mut host, &mut store, 0, 37)?;
+    let mut host = formatted::<P>(alloc, 13)?;
+    let mut store: Store<P> = opened(alloc, &mut host)?;
+    accept_as(&mut host, &mut store, make(alloc, b"S")?, 0, 0)?;
+    fill(alloc, &mut host, &mut store, 0, 37)?;
     let long = of_long_path(alloc)?;
     refuse(
-        rt,
         alloc,
         &mut host,
         &mut store,
@@ -191,11 +188,8 @@ fn fills<P: PageBook>(rt: &impl Abort, alloc: Global) -> Result<(), Fail> {
         Refusal::Full,
     )?;
     let short = of_letter(alloc, b'a')?;
-    assert_eq!(rt; accept(&mut host, &mut store, add_index(&short)?, 0)?, 0);
-    assert_eq!(rt;
-        accept(&mut host, &mut store, drop_index(alloc, &short)?, 0)?,
-        0
-    );
+    accept_as(&mut host, &mut store, add_index(&short)?, 0, 0)?;
+    accept_as(&mut host, &mut store, drop_index(alloc, &short)?, 0, 0)?;
     assert_eq!(rt; count(store.directory()), (0, 0));
     Ok(())
 }

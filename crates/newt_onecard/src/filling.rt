@@ -5,17 +5,15 @@ ghost use Rattle.newt_memhost.specs.Outside.{outside_of};
 ghost use Rattle.newt_store.specs.Stands.{IsSound};
 
 use crate::card::opened;
-use crate::changes::{EMPTY, accept, add, make, remove};
+use crate::changes::{EMPTY, accept_as, add, make, remove};
 use newt_memhost::MemHost;
 use newt_pagebook::PageBook;
 use newt_store::Store;
 use std::alloc::Global;
-use std::process::Abort;
 use std::test::Fail;
 
 /// Adds so many empty frames to a soup without entries.
-pub(crate) fn fill<P: PageBook>(
-    rt: &impl Abort,
+pub fn fill<P: PageBook>(
     alloc: Global,
     host: &mut MemHost,
     store: &mut Store<P>,
@@ -28,14 +26,13 @@ pub(crate) fn fill<P: PageBook>(
     ensures sound { OnOk result (IsSound true store.new.catalog (P.numbers store.new.book) (P.place store.new.book) (outside_of host.new)) }
 {
     for uid in 0..count {
-        assert_eq!(rt; accept(host, store, add(alloc, soup, EMPTY)?, 0)?, uid);
+        accept_as(host, store, add(alloc, soup, EMPTY)?, 0, uid)?;
     }
     Ok(())
 }
 
 /// Adds so many empty frames to a soup without entries, and removes each before the next.
-pub(crate) fn come_and_go<P: PageBook>(
-    rt: &impl Abort,
+pub fn come_and_go<P: PageBook>(
     alloc: Global,
     host: &mut MemHost,
     store: &mut Store<P>,
@@ -48,25 +45,21 @@ pub(crate) fn come_and_go<P: PageBook>(
     ensures sound { OnOk result (IsSound true store.new.catalog (P.numbers store.new.book) (P.place store.new.book) (outside_of host.new)) }
 {
     for uid in 0..count {
-        assert_eq!(rt; accept(host, store, add(alloc, soup, EMPTY)?, 0)?, uid);
-        assert_eq!(rt; accept(host, store, remove(soup, uid), 0)?, 0);
+        accept_as(host, store, add(alloc, soup, EMPTY)?, 0, uid)?;
+        accept_as(host, store, remove(soup, uid), 0, 0)?;
     }
     Ok(())
 }
 
 /// A store with the soups `S` and `T`, and an entry in the first.
-pub(crate) fn two_soups<P: PageBook>(
-    rt: &impl Abort,
-    alloc: Global,
-    host: &mut MemHost,
-) -> Result<Store<P>, Fail>
+pub fn two_soups<P: PageBook>(alloc: Global, host: &mut MemHost) -> Result<Store<P>, Fail>
     requires { IsDurable 0 (outside_of host.old).now }
     ensures stands { IfOk result (λ store. P.stands true store.book (outside_of host.new)) }
     ensures sound { IfOk result (λ store. IsSound true store.catalog (P.numbers store.book) (P.place store.book) (outside_of host.new)) }
 {
-    let mut store: Store<P> = opened(rt, alloc, host);
-    assert_eq!(rt; accept(host, &mut store, make(alloc, b"S")?, 0)?, 0);
-    assert_eq!(rt; accept(host, &mut store, make(alloc, b"T")?, 0)?, 1);
-    assert_eq!(rt; accept(host, &mut store, add(alloc, 0, EMPTY)?, 5)?, 0);
+    let mut store: Store<P> = opened(alloc, host)?;
+    accept_as(host, &mut store, make(alloc, b"S")?, 0, 0)?;
+    accept_as(host, &mut store, make(alloc, b"T")?, 0, 1)?;
+    accept_as(host, &mut store, add(alloc, 0, EMPTY)?, 5, 0)?;
     Ok(store)
 }

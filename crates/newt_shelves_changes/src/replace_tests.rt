@@ -3,14 +3,14 @@ ghost use Rattle.std.specs.Prelude.{true, OnOk};
 ghost use Rattle.newt_memhost.specs.Outside.{outside_of};
 ghost use Rattle.newt_store.specs.Stands.{IsSound};
 
-use crate::card::{CARD, formatted, has_card, host_of, opened};
-use crate::changes::{EMPTY, accept, accept_through_crashes, make, refuse, remove, replace};
-use crate::contents::{Contents, contents, contents_on, entry_row, named_row};
 use crate::crash_tests::used_of;
-use crate::crashes::assert_goes_on;
-use crate::filling::{fill, two_soups};
+use crate::crashes::{accept_through_crashes, assert_goes_on};
 use newt_base::Refusal;
 use newt_memhost::MemHost;
+use newt_onecard::{
+    CARD, Contents, EMPTY, accept, accept_as, contents, contents_on, entry_row, fill, formatted,
+    has_card, host_of, make, named_row, opened, refuse, remove, replace, two_soups,
+};
 use newt_pagebook::PageBook;
 use newt_pageplain::PlainBook;
 use newt_store::Store;
@@ -79,13 +79,13 @@ fn replace_one<P: PageBook>(
     ensures sound { OnOk result (IsSound true store.new.catalog (P.numbers store.new.book) (P.place store.new.book) (outside_of host.new)) }
 {
     let before = used_of(rt, host);
-    assert_eq!(rt; accept(host, store, replace(alloc, 0, 0, text)?, now)?, 0);
+    accept_as(host, store, replace(alloc, 0, 0, text)?, now, 0)?;
     assert_eq!(rt; used_of(rt, host), before.saturating_add(record));
     assert_eq!(rt; second_object(rt, host, before), [0, 0, 0, 1]);
-    let rows = contents(rt, alloc, host, store)?;
+    let rows = contents(alloc, host, store)?;
     assert_eq!(rt; rows, with_entry(alloc, now, text)?);
     assert!(rt; has_card(host));
-    let found = contents_on::<P>(rt, alloc, host.bytes(CARD))?;
+    let found = contents_on::<P>(alloc, host.bytes(CARD))?;
     assert_eq!(rt; found, Some(rows));
     Ok(())
 }
@@ -112,15 +112,15 @@ fn grow<P: PageBook>(
 
 // Another run goes on with these bytes: a record of one page.
 fn shrink<P: PageBook>(rt: &impl Abort, alloc: Global, bytes: &[u8]) -> Result<(), Fail> {
-    let mut host = host_of(rt, alloc, bytes)?;
-    let mut store: Store<P> = opened(rt, alloc, &mut host);
+    let mut host = host_of(alloc, bytes)?;
+    let mut store: Store<P> = opened(alloc, &mut host)?;
     let record = HEAD + 2 * PUT + 4 * LET_GO;
     replace_one(rt, alloc, &mut host, &mut store, EMPTY, 14, record)
 }
 
 fn replaces<P: PageBook>(rt: &impl Abort, alloc: Global) -> Result<(), Fail> {
-    let mut host = formatted::<P>(rt, alloc, 13)?;
-    let mut store: Store<P> = two_soups(rt, alloc, &mut host)?;
+    let mut host = formatted::<P>(alloc, 13)?;
+    let mut store: Store<P> = two_soups(alloc, &mut host)?;
     grow(rt, alloc, &mut host, &mut store)?;
     assert!(rt; has_card(&host));
     shrink::<P>(rt, alloc, host.bytes(CARD))
@@ -133,7 +133,6 @@ fn an_entry_is_replaced_over_its_own_object(rt: HostRuntime) -> Result<(), Fail>
 
 // Thirteen blocks take 38 pages: the directory and 37 entries, so an entry cannot grow, but it can change.
 fn fill_up<P: PageBook>(
-    rt: &impl Abort,
     alloc: Global,
     host: &mut MemHost,
     store: &mut Store<P>,
@@ -144,11 +143,11 @@ fn fill_up<P: PageBook>(
     ensures stands { OnOk result (P.stands true store.new.book (outside_of host.new)) }
     ensures sound { OnOk result (IsSound true store.new.catalog (P.numbers store.new.book) (P.place store.new.book) (outside_of host.new)) }
 {
-    assert_eq!(rt; accept(host, store, make(alloc, b"S")?, 0)?, 0);
-    fill(rt, alloc, host, store, 0, 37)?;
+    accept_as(host, store, make(alloc, b"S")?, 0, 0)?;
+    fill(alloc, host, store, 0, 37)?;
     let longer = replace(alloc, 0, 0, long)?;
-    refuse(rt, alloc, host, store, longer, Refusal::Full)?;
-    assert_eq!(rt; accept(host, store, replace(alloc, 0, 0, ONE)?, 9)?, 0);
+    refuse(alloc, host, store, longer, Refusal::Full)?;
+    accept_as(host, store, replace(alloc, 0, 0, ONE)?, 9, 0)?;
     Ok(())
 }
 
@@ -163,25 +162,25 @@ fn make_room<P: PageBook>(
     requires stands { P.stands true store.old.book (outside_of host.old) }
     requires sound { IsSound true store.old.catalog (P.numbers store.old.book) (P.place store.old.book) (outside_of host.old) }
 {
-    assert_eq!(rt; accept(host, store, remove(0, 36), 0)?, 0);
+    accept_as(host, store, remove(0, 36), 0, 0)?;
     let longer = replace(alloc, 0, 0, long)?;
-    refuse(rt, alloc, host, store, longer, Refusal::Full)?;
-    assert_eq!(rt; accept(host, store, remove(0, 35), 0)?, 0);
-    assert_eq!(rt; accept(host, store, replace(alloc, 0, 0, long)?, 9)?, 0);
+    refuse(alloc, host, store, longer, Refusal::Full)?;
+    accept_as(host, store, remove(0, 35), 0, 0)?;
+    accept_as(host, store, replace(alloc, 0, 0, long)?, 9, 0)?;
     let longer = replace(alloc, 0, 1, long)?;
-    refuse(rt, alloc, host, store, longer, Refusal::Full)?;
-    let rows = contents(rt, alloc, host, store)?;
+    refuse(alloc, host, store, longer, Refusal::Full)?;
+    let rows = contents(alloc, host, store)?;
     assert!(rt; has_card(host));
-    let found = contents_on::<P>(rt, alloc, host.bytes(CARD))?;
+    let found = contents_on::<P>(alloc, host.bytes(CARD))?;
     assert_eq!(rt; found, Some(rows));
     Ok(())
 }
 
 fn fills<P: PageBook>(rt: &impl Abort, alloc: Global) -> Result<(), Fail> {
-    let mut host = formatted::<P>(rt, alloc, 13)?;
-    let mut store: Store<P> = opened(rt, alloc, &mut host);
+    let mut host = formatted::<P>(alloc, 13)?;
+    let mut store: Store<P> = opened(alloc, &mut host)?;
     let long = long_text(alloc)?;
-    fill_up(rt, alloc, &mut host, &mut store, &long)?;
+    fill_up(alloc, &mut host, &mut store, &long)?;
     make_room(rt, alloc, &mut host, &mut store, &long)
 }
 
@@ -192,7 +191,6 @@ fn an_entry_grows_only_where_its_pages_fit(rt: HostRuntime) -> Result<(), Fail> 
 
 // What is not there, and what is no entry's graph, in the order of the refusals.
 fn refuse_all<P: PageBook>(
-    rt: &impl Abort,
     alloc: Global,
     host: &mut MemHost,
     store: &mut Store<P>,
@@ -201,26 +199,26 @@ fn refuse_all<P: PageBook>(
     requires sound { IsSound true store.old.catalog (P.numbers store.old.book) (P.place store.old.book) (outside_of host.old) }
 {
     let change = replace(alloc, 2, 0, NUMBER)?;
-    refuse(rt, alloc, host, store, change, Refusal::Soup)?;
+    refuse(alloc, host, store, change, Refusal::Soup)?;
     let change = replace(alloc, 0, 1, NUMBER)?;
-    refuse(rt, alloc, host, store, change, Refusal::Entry)?;
+    refuse(alloc, host, store, change, Refusal::Entry)?;
     let change = replace(alloc, 1, 0, NUMBER)?;
-    refuse(rt, alloc, host, store, change, Refusal::Entry)?;
+    refuse(alloc, host, store, change, Refusal::Entry)?;
     let change = replace(alloc, 0, 0, NUMBER)?;
-    refuse(rt, alloc, host, store, change, Refusal::Notframe)?;
+    refuse(alloc, host, store, change, Refusal::Notframe)?;
     let change = replace(alloc, 0, 0, LARGE)?;
-    refuse(rt, alloc, host, store, change, Refusal::Size)
+    refuse(alloc, host, store, change, Refusal::Size)
 }
 
-fn refuses<P: PageBook>(rt: &impl Abort, alloc: Global) -> Result<(), Fail> {
-    let mut host = formatted::<P>(rt, alloc, 13)?;
-    let mut store: Store<P> = two_soups(rt, alloc, &mut host)?;
-    refuse_all(rt, alloc, &mut host, &mut store)
+fn refuses<P: PageBook>(alloc: Global) -> Result<(), Fail> {
+    let mut host = formatted::<P>(alloc, 13)?;
+    let mut store: Store<P> = two_soups(alloc, &mut host)?;
+    refuse_all(alloc, &mut host, &mut store)
 }
 
 #[test]
 fn what_cannot_be_replaced_is_refused(rt: HostRuntime) -> Result<(), Fail> {
-    refuses::<PlainBook>(&rt, rt.alloc())
+    refuses::<PlainBook>(rt.alloc())
 }
 
 // The entry grows to three pages, and is one page again, cut by a crash within each call.
@@ -245,8 +243,8 @@ fn cut<P: PageBook>(
 }
 
 fn crashes<P: PageBook>(rt: &impl Abort, alloc: Global) -> Result<(), Fail> {
-    let mut host = formatted::<P>(rt, alloc, 13)?;
-    let mut store: Store<P> = two_soups(rt, alloc, &mut host)?;
+    let mut host = formatted::<P>(alloc, 13)?;
+    let mut store: Store<P> = two_soups(alloc, &mut host)?;
     cut(rt, alloc, &mut host, &mut store)
 }
 
