@@ -136,6 +136,29 @@ fn wants_the_forms_of_paths_and_symbols(rt: HostRuntime) -> Result<(), AllocErro
     expect_each(&rt, rt.alloc(), &cases)
 }
 
+/// A tags declaration of the symbols a0, a1 and so on, and a last one behind them.
+fn many_tags(alloc: Global, last: &str) -> Result<String, AllocError> {
+    let mut line = String::from_str(alloc, "tags 0 A b")?;
+    for number in 0..15_000_u32 {
+        let symbol = format!(in alloc; " a{number}")?;
+        line.push_str(symbol.as_str())?;
+    }
+    line.push_str(last)?;
+    Ok(line)
+}
+
+#[test]
+fn tells_many_symbols_apart(rt: HostRuntime) -> Result<(), AllocError> {
+    let alloc = rt.alloc();
+    let other = many_tags(alloc, " a15000")?;
+    let answer = told(alloc, other.as_bytes())?;
+    assert_eq!(rt; answer.len(), other.len() + 3);
+    let same = many_tags(alloc, " A7")?;
+    let answer = told(alloc, same.as_bytes())?;
+    assert_eq!(rt; answer.as_str(), "11 line");
+    Ok(())
+}
+
 #[test]
 fn reads_names_bare_and_in_quotes(rt: HostRuntime) -> Result<(), AllocError> {
     let cases: [(&[u8], &str); 15] = [

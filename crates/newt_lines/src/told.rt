@@ -172,8 +172,8 @@ fn with_paths(alloc: Global, front: &str, paths: &[Path]) -> Result<String, Allo
 fn with_symbols(alloc: Global, front: &str, symbols: &Syms) -> Result<String, AllocError> {
     let mut text = String::from_str(alloc, front)?;
     for symbol in symbols.list() {
-        let symbol = str::from_utf8(symbol.list()).unwrap_or("");
-        text = format!(in alloc; "{text} {symbol}")?;
+        text.push_str(" ")?;
+        text.push_str(str::from_utf8(symbol.list()).unwrap_or(""))?;
     }
     Ok(text)
 }

@@ -8,3 +8,4 @@ pub mod Spoken
 pub mod WordLists
 pub mod Pieces
 pub mod ListedRows
+pub mod Apart

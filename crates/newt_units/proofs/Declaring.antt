@@ -71,8 +71,8 @@ module _ {C : Type 0} {reads : List ℕ → Option Store} {place : C → ℕ} {s
 module _ (w v : World) (u blocks : ℕ) (s : Store) (on : OnUnit w u blocks s) (none : w.cursors ≡ replicate 32 None) (name : List ℕ) (p : Soup) (named : soup_named name s ≡ Some p) (is : p.name ≡ name) where
   module _ (parts : List PartWord) (fit : parts_fit parts ≡ true) where
     -- the parts may not be declared
-    pub index-fails : {T : Type 0} (fault : Fault) → MayDeclare {T = T} parts p (Err fault) → (result : Result (Unit {0}) Fault) → result ≡ Err fault → Answers w w (command.Index u name parts) (λ _. Reply.done) result
-    index-fails {T} fault h result err = subst (λ r. Answers w w (command.Index u name parts) (λ _. Reply.done) r) (sym err) (go fault h)
+    pub index-fails : (T : Type 0) (fault : Fault) → MayDeclare {T = T} parts p (Err fault) → (result : Result (Unit {0}) Fault) → result ≡ Err fault → Answers w w (command.Index u name parts) (λ _. Reply.done) result
+    index-fails T fault h result err = subst (λ r. Answers w w (command.Index u name parts) (λ _. Reply.done) r) (sym err) (go fault h)
       where
         first : (a b : Bool) (r : Refusal) → has_parts parts p ≡ a → has_real parts ≡ b → first_of ((BadIndex, a) ∷ (BadKey, b) ∷ []) ≡ Some r → answer_now w (command.Index u name parts) ≡ (w, Reply.refused r)
         first true b r x y k = index-exists w u blocks s name p on named parts fit x ∙ ap {B = World × Reply} (λ q. (w, Reply.refused q)) (some-same BadIndex r k)

@@ -101,14 +101,16 @@ pub(crate) fn has_paths_of(specs: &[IndexSpec], parts: &[PartWord]) -> bool
 fn are_paths_of(spec: &IndexSpec, paths: &[Path]) -> bool
     ensures { result ≡ same_paths (paths_of spec.now) paths.now }
 {
-    spec.list().len() == paths.len() && all_same_paths(spec.list(), paths)
+    let seen = spec.list();
+    seen.len() == paths.len() && all_same_paths(seen, paths)
 }
 
 #[tactic(auto, using(crate::proofs::Agree::parts_seen))]
 fn are_parts_of(spec: &IndexSpec, parts: &[PartWord]) -> bool
     ensures { result ≡ same_paths (paths_of spec.now) (map (λ p. p.path) parts.now) }
 {
-    spec.list().len() == parts.len() && all_same_parts(spec.list(), parts)
+    let seen = spec.list();
+    seen.len() == parts.len() && all_same_parts(seen, parts)
 }
 
 /// Whether the paths agree one by one, as far as the shorter list goes.

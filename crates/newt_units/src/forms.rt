@@ -25,7 +25,13 @@ const MOST_PARTS: usize = 4;
 pub(crate) fn are_parts(parts: &[PartWord]) -> bool
     ensures { result ≡ parts_fit parts.now }
 {
-    !parts.is_empty() && parts.len() <= MOST_PARTS && parts.iter().all(|part| is_path(&part.path))
+    !parts.is_empty() && parts.len() <= MOST_PARTS && all_paths(parts)
+}
+
+fn all_paths(parts: &[PartWord]) -> bool
+    ensures { result ≡ list_all (λ p. valid_path p.path) parts.now }
+{
+    parts.iter().all(|part| is_path(&part.path))
 }
 
 /// Whether a part has no type that an index can have.

@@ -20,7 +20,7 @@ returns-then-not-are_parts-clause-answered g c t =
       stand = c.requires;
     } in
     let w = world_of g.C.Card.reads c.args.self.now (g.H.Host.outside c.args.host.now) in
-    index-unbuilt w c.args.unit c.args.name.now c.args.parts.now (ap parts_fit (sym c.list.ensures) ∙ sym c.are_parts.ensures ∙ c.if-not-are_parts.true)
+    index-unbuilt w c.args.unit c.args.name.now c.args.parts.now (ap parts_fit (sym c.list-words.ensures) ∙ sym c.are_parts.ensures ∙ c.if-not-are_parts.true)
 
 pub returns-then-not-are_parts-clause-moments : goal.returns-then-not-are_parts-clause-moments
 returns-then-not-are_parts-clause-moments g c t =
@@ -40,7 +40,7 @@ returns-in_err-soup-clause-answered g c t =
       stand = c.requires;
     } in
     let w = world_of g.C.Card.reads c.args.self.now (g.H.Host.outside c.args.host.now) in
-    let fit : parts_fit c.args.parts.now ≡ true = ap parts_fit (sym c.list.ensures) ∙ sym c.are_parts.ensures ∙ c.if-not-are_parts.false in
+    let fit : parts_fit c.args.parts.now ≡ true = ap parts_fit (sym c.list-words.ensures) ∙ sym c.are_parts.ensures ∙ c.if-not-are_parts.false in
     soup-refused at t c.args.unit c.args.name.now _ _ (index-not-found w c.args.unit c.args.name.now c.args.parts.now fit) _ c.in_err-soup.ensures _ (err_from_is_err_and c.from_residual.result c.from_residual.ensures.1)
 
 pub returns-in_err-soup-clause-moments : goal.returns-in_err-soup-clause-moments
@@ -61,10 +61,10 @@ returns-in_err-spec-clause-answered g c t =
       stand = c.requires;
     } in
     let w = world_of g.C.Card.reads c.args.self.now (g.H.Host.outside c.args.host.now) in
-    let fit : parts_fit c.args.parts.now ≡ true = ap parts_fit (sym c.list.ensures) ∙ sym c.are_parts.ensures ∙ c.if-not-are_parts.false in
+    let fit : parts_fit c.args.parts.now ≡ true = ap parts_fit (sym c.list-words.ensures) ∙ sym c.are_parts.ensures ∙ c.if-not-are_parts.false in
     let h = has-soup at t c.args.unit c.args.name.now c.in_ok-soup.soup c.in_ok-soup.ensures in
-    index-fails w w c.args.unit h.blocks h.store h.on refl c.args.name.now h.soup h.named h.name_is c.args.parts.now fit {T = IndexSpec} _
-    (subst (λ x. MayDeclare {T = IndexSpec} x h.soup (Err c.in_err-spec.error)) c.list.ensures (c.in_err-spec.ensures.may (g.H.Host.outside c.args.host.now) at.eight (stand-told at t) h.blocks h.store h.soup h.on h.by_sig)) _
+    index-fails w w c.args.unit h.blocks h.store h.on refl c.args.name.now h.soup h.named h.name_is c.args.parts.now fit IndexSpec _
+    (subst (λ x. MayDeclare {T = IndexSpec} x h.soup (Err c.in_err-spec.field-0.0)) c.list-words.ensures (c.in_err-spec.ensures.may (g.H.Host.outside c.args.host.now) at.eight (stand-told at t) h.blocks h.store h.soup h.on h.by_sig)) _
     (is-err _ _ (err_from_is_err_and c.from_residual-in_err-spec.result c.from_residual-in_err-spec.ensures.1))
 
 pub returns-in_err-spec-clause-moments : goal.returns-in_err-spec-clause-moments
@@ -85,11 +85,11 @@ returns-clause-answered g c t =
       stand = c.requires;
     } in
     let w = world_of g.C.Card.reads c.args.self.now (g.H.Host.outside c.args.host.now) in
-    let fit : parts_fit c.args.parts.now ≡ true = ap parts_fit (sym c.list.ensures) ∙ sym c.are_parts.ensures ∙ c.if-not-are_parts.false in
+    let fit : parts_fit c.args.parts.now ≡ true = ap parts_fit (sym c.list-words.ensures) ∙ sym c.are_parts.ensures ∙ c.if-not-are_parts.false in
     let h = has-soup at t c.args.unit c.args.name.now c.in_ok-soup.soup c.in_ok-soup.ensures in
-    let may : MayDeclare {T = IndexSpec} c.args.parts.now h.soup (Ok c.in_ok-spec.spec) = subst (λ x. MayDeclare {T = IndexSpec} x h.soup (Ok c.in_ok-spec.spec)) c.list.ensures
+    let may : MayDeclare {T = IndexSpec} c.args.parts.now h.soup (Ok c.in_ok-spec.spec) = subst (λ x. MayDeclare {T = IndexSpec} x h.soup (Ok c.in_ok-spec.spec)) c.list-words.ensures
     (c.in_ok-spec.ensures.may (g.H.Host.outside c.args.host.now) at.eight (stand-told at t) h.blocks h.store h.soup h.on h.by_sig) in
-    let words : c.in_ok-spec.spec ≡ spec_of_words c.args.parts.now = c.in_ok-spec.ensures.made ∙ ap spec_of_words c.list.ensures in
+    let words : c.in_ok-spec.spec ≡ spec_of_words c.args.parts.now = c.in_ok-spec.ensures.made ∙ ap spec_of_words c.list-words.ensures in
     index-answers w _ c.args.unit h.blocks h.store h.on refl c.args.name.now h.soup h.named h.name_is c.args.parts.now fit c.in_ok-spec.spec words may.0 may.1 _
     (c.add_index_to.ensures.made t h.blocks h.store h.soup h.on h.by_sig)
 
@@ -101,10 +101,10 @@ returns-clause-moments g c t =
       stand = c.requires;
     } in
     let w = world_of g.C.Card.reads c.args.self.now (g.H.Host.outside c.args.host.now) in
-    let fit : parts_fit c.args.parts.now ≡ true = ap parts_fit (sym c.list.ensures) ∙ sym c.are_parts.ensures ∙ c.if-not-are_parts.false in
+    let fit : parts_fit c.args.parts.now ≡ true = ap parts_fit (sym c.list-words.ensures) ∙ sym c.are_parts.ensures ∙ c.if-not-are_parts.false in
     let h = has-soup at t c.args.unit c.args.name.now c.in_ok-soup.soup c.in_ok-soup.ensures in
-    let may : MayDeclare {T = IndexSpec} c.args.parts.now h.soup (Ok c.in_ok-spec.spec) = subst (λ x. MayDeclare {T = IndexSpec} x h.soup (Ok c.in_ok-spec.spec)) c.list.ensures
+    let may : MayDeclare {T = IndexSpec} c.args.parts.now h.soup (Ok c.in_ok-spec.spec) = subst (λ x. MayDeclare {T = IndexSpec} x h.soup (Ok c.in_ok-spec.spec)) c.list-words.ensures
     (c.in_ok-spec.ensures.may (g.H.Host.outside c.args.host.now) at.eight (stand-told at t) h.blocks h.store h.soup h.on h.by_sig) in
-    let words : c.in_ok-spec.spec ≡ spec_of_words c.args.parts.now = c.in_ok-spec.ensures.made ∙ ap spec_of_words c.list.ensures in
+    let words : c.in_ok-spec.spec ≡ spec_of_words c.args.parts.now = c.in_ok-spec.ensures.made ∙ ap spec_of_words c.list-words.ensures in
     c.add_index_to.ensures.moments t h.blocks h.store h.soup h.on h.by_sig _
     (index-makes w w c.args.unit h.blocks h.store h.on refl c.args.name.now h.soup h.named h.name_is c.args.parts.now fit c.in_ok-spec.spec words may.0 may.1)

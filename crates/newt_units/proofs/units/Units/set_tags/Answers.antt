@@ -18,7 +18,7 @@ returns-then-not-are_tags-clause-answered g c t =
       stand = c.requires;
     } in
     let w = world_of g.C.Card.reads c.args.self.now (g.H.Host.outside c.args.host.now) in
-    set-tags-unbuilt w c.args.unit c.args.name.now c.args.path.now c.args.symbols.now (ap (tags_fit c.args.path.now) (sym c.list.ensures) ∙ sym c.are_tags.ensures ∙ c.if-not-are_tags.true)
+    set-tags-unbuilt w c.args.unit c.args.name.now c.args.path.now c.args.symbols.now (ap (tags_fit c.args.path.now) (sym c.list-names.ensures) ∙ sym c.are_tags.ensures ∙ c.if-not-are_tags.true)
 
 pub returns-then-not-are_tags-clause-moments : goal.returns-then-not-are_tags-clause-moments
 returns-then-not-are_tags-clause-moments g c t =
@@ -38,7 +38,7 @@ returns-in_err-soup-clause-answered g c t =
       stand = c.requires;
     } in
     let w = world_of g.C.Card.reads c.args.self.now (g.H.Host.outside c.args.host.now) in
-    let fit : tags_fit c.args.path.now c.args.symbols.now ≡ true = ap (tags_fit c.args.path.now) (sym c.list.ensures) ∙ sym c.are_tags.ensures ∙ c.if-not-are_tags.false in
+    let fit : tags_fit c.args.path.now c.args.symbols.now ≡ true = ap (tags_fit c.args.path.now) (sym c.list-names.ensures) ∙ sym c.are_tags.ensures ∙ c.if-not-are_tags.false in
     soup-refused at t c.args.unit c.args.name.now _ _ (set-tags-not-found w c.args.unit c.args.name.now c.args.path.now c.args.symbols.now fit) _ c.in_err-soup.ensures _ (err_from_is_err_and c.from_residual.result c.from_residual.ensures.1)
 
 pub returns-in_err-soup-clause-moments : goal.returns-in_err-soup-clause-moments
@@ -59,10 +59,10 @@ returns-then-names-gt-MOST_TAGS-clause-answered g c t =
       stand = c.requires;
     } in
     let w = world_of g.C.Card.reads c.args.self.now (g.H.Host.outside c.args.host.now) in
-    let fit : tags_fit c.args.path.now c.args.symbols.now ≡ true = ap (tags_fit c.args.path.now) (sym c.list.ensures) ∙ sym c.are_tags.ensures ∙ c.if-not-are_tags.false in
+    let fit : tags_fit c.args.path.now c.args.symbols.now ≡ true = ap (tags_fit c.args.path.now) (sym c.list-names.ensures) ∙ sym c.are_tags.ensures ∙ c.if-not-are_tags.false in
     let h = has-soup at t c.args.unit c.args.name.now c.in_ok-soup.soup c.in_ok-soup.ensures in
     set-tags-many w c.args.unit c.args.name.now c.args.path.now c.args.symbols.now fit h.blocks h.store h.soup h.on h.named
-    (lt-ltb 64 (length c.args.symbols.now) (subst (λ n. 64 < n) (ap (λ xs. length xs) c.list.ensures) c.if-names-gt-MOST_TAGS.true))
+    (lt-ltb 64 (length c.args.symbols.now) (subst (λ n. 64 < n) (ap (λ xs. length xs) c.list-names.ensures) c.if-names-gt-MOST_TAGS.true))
 
 pub returns-then-names-gt-MOST_TAGS-clause-moments : goal.returns-then-names-gt-MOST_TAGS-clause-moments
 returns-then-names-gt-MOST_TAGS-clause-moments g c t =
@@ -92,10 +92,10 @@ returns-clause-answered g c t =
       stand = c.requires;
     } in
     let w = world_of g.C.Card.reads c.args.self.now (g.H.Host.outside c.args.host.now) in
-    let fit : tags_fit c.args.path.now c.args.symbols.now ≡ true = ap (tags_fit c.args.path.now) (sym c.list.ensures) ∙ sym c.are_tags.ensures ∙ c.if-not-are_tags.false in
+    let fit : tags_fit c.args.path.now c.args.symbols.now ≡ true = ap (tags_fit c.args.path.now) (sym c.list-names.ensures) ∙ sym c.are_tags.ensures ∙ c.if-not-are_tags.false in
     let h = has-soup at t c.args.unit c.args.name.now c.in_ok-soup.soup c.in_ok-soup.ensures in
-    let few : nat_lt 64 (length c.args.symbols.now) ≡ false = le-ltb 64 (length c.args.symbols.now) (subst (λ n. n ≤ 64) (ap (λ xs. length xs) c.list.ensures) c.if-names-gt-MOST_TAGS.false) in
-    let words : c.in_ok-table.table ≡ record { path = c.args.path.now; symbols = c.args.symbols.now } = c.in_ok-table.ensures ∙ ap {B = TagTable} (λ xs. record { path = c.args.path.now; symbols = xs }) c.list.ensures in
+    let few : nat_lt 64 (length c.args.symbols.now) ≡ false = le-ltb 64 (length c.args.symbols.now) (subst (λ n. n ≤ 64) (ap (λ xs. length xs) c.list-names.ensures) c.if-names-gt-MOST_TAGS.false) in
+    let words : c.in_ok-table.table ≡ record { path = c.args.path.now; symbols = c.args.symbols.now } = c.in_ok-table.ensures ∙ ap {B = TagTable} (λ xs. record { path = c.args.path.now; symbols = xs }) c.list-names.ensures in
     tags-answers w _ c.args.unit h.blocks h.store h.on refl c.args.name.now h.soup h.named h.name_is c.args.path.now c.args.symbols.now fit few c.in_ok-table.table words _
     (c.tag_soup.ensures.made t h.blocks h.store h.soup h.on h.by_sig)
 
@@ -107,9 +107,9 @@ returns-clause-moments g c t =
       stand = c.requires;
     } in
     let w = world_of g.C.Card.reads c.args.self.now (g.H.Host.outside c.args.host.now) in
-    let fit : tags_fit c.args.path.now c.args.symbols.now ≡ true = ap (tags_fit c.args.path.now) (sym c.list.ensures) ∙ sym c.are_tags.ensures ∙ c.if-not-are_tags.false in
+    let fit : tags_fit c.args.path.now c.args.symbols.now ≡ true = ap (tags_fit c.args.path.now) (sym c.list-names.ensures) ∙ sym c.are_tags.ensures ∙ c.if-not-are_tags.false in
     let h = has-soup at t c.args.unit c.args.name.now c.in_ok-soup.soup c.in_ok-soup.ensures in
-    let few : nat_lt 64 (length c.args.symbols.now) ≡ false = le-ltb 64 (length c.args.symbols.now) (subst (λ n. n ≤ 64) (ap (λ xs. length xs) c.list.ensures) c.if-names-gt-MOST_TAGS.false) in
-    let words : c.in_ok-table.table ≡ record { path = c.args.path.now; symbols = c.args.symbols.now } = c.in_ok-table.ensures ∙ ap {B = TagTable} (λ xs. record { path = c.args.path.now; symbols = xs }) c.list.ensures in
+    let few : nat_lt 64 (length c.args.symbols.now) ≡ false = le-ltb 64 (length c.args.symbols.now) (subst (λ n. n ≤ 64) (ap (λ xs. length xs) c.list-names.ensures) c.if-names-gt-MOST_TAGS.false) in
+    let words : c.in_ok-table.table ≡ record { path = c.args.path.now; symbols = c.args.symbols.now } = c.in_ok-table.ensures ∙ ap {B = TagTable} (λ xs. record { path = c.args.path.now; symbols = xs }) c.list-names.ensures in
     c.tag_soup.ensures.moments t h.blocks h.store h.soup h.on h.by_sig _
     (tags-makes w w c.args.unit h.blocks h.store h.on refl c.args.name.now h.soup h.named h.name_is c.args.path.now c.args.symbols.now fit few c.in_ok-table.table words)

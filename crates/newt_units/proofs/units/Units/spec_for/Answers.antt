@@ -14,6 +14,6 @@ returns-then-has_real-clause-may g c outside eight stand blocks s p on by =
     first-false BadIndex _ ((BadKey, has_real c.args.parts.now) ∷ []) (sym (c.has_index_of.ensures outside eight stand blocks s p on by) ∙ c.if-has_index_of.false)
     ∙ first-true BadKey _ [] (sym c.has_real.ensures ∙ c.if-has_real.true)
 
-pub returns-in_ok-new_spec-clause-may : goal.returns-in_ok-new_spec-clause-may
-returns-in_ok-new_spec-clause-may g c outside eight stand blocks s p on by =
+pub returns-clause-may : goal.returns-clause-may
+returns-clause-may g c outside eight stand blocks s p on by =
     (sym (c.has_index_of.ensures outside eight stand blocks s p on by) ∙ c.if-has_index_of.false, sym c.has_real.ensures ∙ c.if-has_real.false)
