@@ -30,7 +30,7 @@ returns-in-Err g c =
       place = refl;
       made = λ tells s p reads found. tt;
       others = λ tells v not. refl;
-      any_moment = λ tells s p reads found. leaves-index p.name c.args.paths.now s u (o c.args.host.now).now (g.met.P.PageBook.tells g.H.Host.told c.args.self.now.store.store.book (o c.args.host.now) c.requires.book tells).1 reads;
+      any_moment = λ tells s p reads found. leaves-index p.name c.args.paths.now s u (o c.args.host.now).now (g.met.P.PageBook.tells g.H.Host.told c.args.self.now.store.store.book (o c.args.host.now) c.requires.is_open.book tells).1 reads;
       alone = Touches-refl u (o c.args.host.now);
       cause = tt;
     }
