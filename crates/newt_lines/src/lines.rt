@@ -140,7 +140,10 @@ fn wants_the_forms_of_paths_and_symbols(rt: HostRuntime) -> Result<(), AllocErro
 fn reads_each_row_on_cursors(rt: HostRuntime) -> Result<(), AllocError> {
     let cases: [(&[u8], &str); 20] = [
         (b"query 0 Names {}", "query 0 <Names> {}"),
-        (b"query 7 \"To Do\" {words: \"a\"} ", "query 7 <To Do> {words: \"a\"}"),
+        (
+            b"query 7 \"To Do\" {words: \"a\"} ",
+            "query 7 <To Do> {words: \"a\"}",
+        ),
         (b"query * Names {}", "query all <Names> {}"),
         (b"query\t* \"*\"\t{}", "query all <*> {}"),
         (b"query 1 * {}", "query 1 <*> {}"),
