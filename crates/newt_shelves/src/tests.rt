@@ -239,7 +239,7 @@ fn make_small<P: PageBook>(
     accept_as(host, store, make(alloc, b"T")?, 0, 1)?;
     add_small(alloc, host, store)?;
     assert_eq!(rt; contents(alloc, host, store)?, small_contents(alloc)?);
-    assert_eq!(rt; store.uids(Sig(0))?.as_slice(), [Uid(0), Uid(2)]);
+    assert_eq!(rt; store.uids(Sig(0))?.as_slice(), [Uid(0), Uid(2)].as_slice());
     assert!(rt; store.uids(Sig(2))?.is_empty());
     assert!(rt; has_card(host));
     let found = contents_on::<P>(alloc, host.bytes(CARD))?;
