@@ -55,7 +55,11 @@ fn change_some<P: PageBook>(
 {
     for third in 0..67 {
         let uid = third * 3;
-        accept(host, store, Change::Replace(Sig(0), id(uid), graph(alloc, uid, true)?))?;
+        accept(
+            host,
+            store,
+            Change::Replace(Sig(0), id(uid), graph(alloc, uid, true)?),
+        )?;
     }
     Ok(())
 }
