@@ -1,5 +1,5 @@
 -- A change after calls that read.
-use Rattle.std.proofs.Common.{◌≡◌, ℕ, ◌+◌, ◌*◌, Bool, IsTrue, List, Some, None, inl, refl, sym, ◌∙◌, ap, subst, arith}
+use Rattle.std.proofs.Common.{◌≡◌, ℕ, ◌+◌, ◌*◌, Bool, IsTrue, List, None, inl, sym, ◌∙◌, ap, subst, arith}
 use Rattle.std.specs.Prelude.{Result, Ok, Err, OnOk, IfOk, IfErr}
 use Rattle.newt_host.specs.Moments.{Moment, image, IsDurable, Leaves}
 use Rattle.newt_host.proofs.Moments.{Leaves-start}
@@ -15,14 +15,14 @@ use Rattle.newt_shelf.specs.declared.fault.StoreFault.{StoreFault}
 use Rattle.newt_shelf.specs.declared.fault.StoreFault.TheVariants.{Refused, Stop}
 use Rattle.newt_spec_store.specs.OfImage.{blocks_of}
 use Rattle.newt_spec_store.specs.Store.{Store as PlainStore}
-use Rattle.newt_store.specs.Change.{changed_by, refusal_of, most_bytes}
+use Rattle.newt_store.specs.Change.{changed_by, refusal_of}
 use Rattle.newt_store.specs.Stands.{StandsFor, IsRefused, RefusesWith, IsBeforeOrChanged}
 use Rattle.newt_store.specs.declared.catalog.Catalog.{Catalog}
 use Rattle.newt_store.specs.declared.change.Change.{Change}
 use Rattle.newt_store.specs.Stage.{readable}
 use Rattle.newt_store.proofs.Reading.{read-back}
 use Rattle.newt_store.specs.declared.store.Store.{Store}
-use Rattle.newt_indexed.specs.Calls.{Shows, IsOpen, Reads, Changes}
+use Rattle.newt_indexed.specs.Calls.{Shows, Reads, Changes}
 use Rattle.newt_indexed.proofs.Reading.{same-image, shows-on, stops-over}
 
 faults-over : (result : Result ℕ StoreFault) (unit unit' : ℕ) (old mid new : Outside) → unit' ≡ unit → Touches unit old mid → IfErr result (FaultsAt unit' mid new) → IfErr result (FaultsAt unit old new)

@@ -1,15 +1,11 @@
 -- The step of a change that is not refused is the change of the ranges.
-use Rattle.std.proofs.Common.{◌≡◌, ◌≢◌, ℕ, ◌==◌, ◌||◌, ◌+◌, ◌<◌, cond, Bool, true, false, [], ◌∷◌, List, Option, Some, None, refl, sym, ◌∙◌, ap, subst, arith, find, IsTrue, nat_lt, nat_le, not, length}
-use Rattle.std.specs.Option.{is_none, is_some, option_and_then}
+use Rattle.std.proofs.Common.{◌≡◌, ℕ, ◌==◌, ◌||◌, ◌+◌, ◌<◌, cond, Bool, true, false, [], ◌∷◌, List, Option, Some, None, refl, sym, ◌∙◌, ap, subst, arith}
+use Rattle.std.specs.Option.{is_none, option_and_then}
 use Rattle.std.proofs.lemmas.Bool.{eqb-true, eqb-false}
-use Rattle.newt_base.specs.Refusals.{Checks, first_of}
-use Rattle.newt_base.specs.declared.Refusal.TheVariants.{Soup as NoSoup, Entry as NoEntry, Notframe, Size, Ids, Full, Limit, Index as BadIndex}
+use Rattle.newt_base.specs.Refusals.{Checks}
+use Rattle.newt_base.specs.declared.Refusal.TheVariants.{Soup as NoSoup, Entry as NoEntry, Ids}
 use Rattle.newt_graph.specs.Graph.{RawGraph}
-use Rattle.newt_image.specs.Pages.{cap}
-use Rattle.newt_spec_graph.specs.Graph.{is_frame, object}
-use Rattle.newt_spec_graph.specs.Lists.{Among}
-use Rattle.newt_spec_store.specs.Cost.{cost}
-use Rattle.newt_spec_store.specs.Keys.{IndexSpec, Path, paths_of}
+use Rattle.newt_spec_store.specs.Keys.{IndexSpec, Path}
 use Rattle.newt_spec_store.specs.Store.{Entry, Soup, Store, TagTable, entry_of, change_soup, change_entry, add_entry, remove_entry}
 use Rattle.newt_spec_store.specs.Valid.{well_formed}
 use Rattle.newt_laws_images.proofs.Stores.{IsSoup}
@@ -21,10 +17,10 @@ use Rattle.newt_laws_changes.proofs.Moved.{soup_after_add}
 use Rattle.newt_soupdir.specs.Changes.{soup_of, with_index, without_index, with_tags}
 use Rattle.newt_ranges.specs.declared.rows.SoupRanges.{SoupRanges}
 use Rattle.newt_ranges.specs.Rows.{with_entry, without_entry, each_range, with_range, change_ranges}
-use Rattle.newt_ranges.specs.Stands.{AreRangesOf, IsRangesOf, graphs_of}
+use Rattle.newt_ranges.specs.Stands.{AreRangesOf, graphs_of}
 use Rattle.newt_ranges.proofs.Laws as laws
-use Rattle.newt_ranges.proofs.Standing.{of_sig, none_changed}
-use Rattle.newt_store.specs.Change.{changed_by, answer_of, refusals, refusal_of, full_check, entry_in, changed_soup, dropped_soup, moved_entry, with_graph, next_uid_of, has_no_ids, is_too_large, has_paths, specs_of}
+use Rattle.newt_ranges.proofs.Standing.{none_changed}
+use Rattle.newt_store.specs.Change.{changed_by, answer_of, refusals, refusal_of, full_check, entry_in, changed_soup, dropped_soup, moved_entry, with_graph, next_uid_of, has_no_ids}
 use Rattle.newt_store.specs.declared.change.Change.{Change}
 use Rattle.newt_store.specs.declared.change.Change.TheVariants as change
 use Rattle.newt_indexed.specs.Steps.{IsStepOf, IsDeclaring, rows_after}

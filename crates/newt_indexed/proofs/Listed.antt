@@ -1,10 +1,9 @@
 -- The ranges of a store whose entries were read are the store's.
-use Rattle.std.proofs.Common.{◌≡◌, ℕ, ◌==◌, ◌<◌, Bool, true, false, cond, List, [], ◌∷◌, ◌++◌, map, Option, Some, None, refl, sym, ◌∙◌, ap, subst, inl, inr, ◌⊎◌, arith}
+use Rattle.std.proofs.Common.{◌≡◌, ℕ, ◌==◌, ◌<◌, Bool, true, cond, List, [], ◌∷◌, map, Option, Some, None, refl, sym, ◌∙◌, ap, subst, inl, inr, ◌⊎◌, arith}
 use Rattle.std.specs.Option.{option_and_then}
-use Rattle.std.proofs.lemmas.Bool.{eqb-true, eq-eqb}
-use Rattle.newt_graph.specs.Graph.{RawGraph}
+use Rattle.std.proofs.lemmas.Bool.{eq-eqb}
 use Rattle.newt_spec_graph.specs.Lists.{Each, Pairs, Among}
-use Rattle.newt_spec_graph.proofs.Lists.{each-from, rises-pairs, both-ways}
+use Rattle.newt_spec_graph.proofs.Lists.{each-from, rises-pairs}
 use Rattle.newt_spec_store.specs.Laid.{bare}
 use Rattle.newt_spec_store.specs.Store.{Entry, Soup, Store, entry_of}
 use Rattle.newt_spec_store.specs.Valid.{well_formed}
@@ -16,13 +15,13 @@ use Rattle.newt_soupdir.specs.Changes.{soup_of}
 use Rattle.newt_soupdir.specs.declared.rows.Directory.{Directory}
 use Rattle.newt_soupdir.specs.declared.rows.SoupRow.{SoupRow}
 use Rattle.newt_ranges.specs.declared.rows.SoupRanges.{SoupRanges}
-use Rattle.newt_ranges.specs.Rows.{no_ranges, with_entry, each_range, change_ranges}
-use Rattle.newt_ranges.specs.Stands.{Graphs, graphs_of, IsRangesOf, AreIndexes, AreRanges, AreRangesOf}
+use Rattle.newt_ranges.specs.Rows.{no_ranges}
+use Rattle.newt_ranges.specs.Stands.{graphs_of, IsRangesOf, AreRanges, AreRangesOf}
 use Rattle.newt_ranges.proofs.Laws.{soup_listed, entry_listed, opened}
 use Rattle.newt_ranges.proofs.Standing.{of_sig}
 use Rattle.newt_store.specs.Change.{entry_in, uids_in}
 use Rattle.newt_indexed.specs.Filling.{rows_with, rows_with_all, rows_of_soups}
-use Rattle.newt_indexed.proofs.Told.{Told, graph_in, nothing, told_one, told_all, told_soups, at_sig, other_sig, other_soup, still_none, soup-told, ids-rise, ids-there, IsThere}
+use Rattle.newt_indexed.proofs.Told.{Told, graph_in, nothing, told_one, told_all, told_soups, other_sig, other_soup, still_none, soup-told, ids-rise, ids-there, IsThere}
 
 -- the ranges of soups whose graphs are told
 abbrev Stand : Told → List Soup → List SoupRanges → Type 0

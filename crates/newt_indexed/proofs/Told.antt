@@ -1,17 +1,16 @@
 -- The graphs that are known while entries are read one after another.
-use Rattle.std.proofs.Common.{◌≡◌, ℕ, ◌==◌, ◌<◌, Bool, true, false, cond, List, [], ◌∷◌, map, find, Option, Some, None, option_map, refl, sym, ◌∙◌, ap, subst, inl, inr, ◌⊎◌, arith}
+use Rattle.std.proofs.Common.{◌≡◌, ℕ, ◌==◌, ◌<◌, Bool, true, false, cond, List, [], ◌∷◌, map, Option, Some, None, option_map, refl, sym, ◌∙◌, ap, subst, inl, inr, ◌⊎◌, arith}
 use Rattle.std.specs.Option.{option_and_then}
 use Rattle.std.proofs.lemmas.Bool.{eqb-true, eq-eqb}
 use Rattle.newt_graph.specs.Graph.{RawGraph}
 use Rattle.newt_spec_graph.specs.Lists.{Each, Pairs, Among}
-use Rattle.newt_spec_graph.proofs.Lists.{each-more, each-from, each-at, both-ways, rises-pairs, pairs-more}
+use Rattle.newt_spec_graph.proofs.Lists.{both-ways, rises-pairs}
 use Rattle.newt_spec_store.specs.Store.{Entry, Soup, Store, entry_of}
 use Rattle.newt_spec_store.specs.Valid.{well_formed}
 use Rattle.newt_laws_images.proofs.Assembled.{map-among}
-use Rattle.newt_laws_images.proofs.Stores.{IsSoup}
 use Rattle.newt_laws_changes.proofs.Chosen.{soup-there, soup-good, there-entry, find-passes}
 use Rattle.newt_soupdir.specs.Changes.{soup_of}
-use Rattle.newt_ranges.specs.Stands.{Graphs, graphs_of}
+use Rattle.newt_ranges.specs.Stands.{Graphs}
 use Rattle.newt_store.specs.Change.{entry_in, uids_in}
 
 -- the graphs that are told, by signature and id

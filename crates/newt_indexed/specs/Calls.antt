@@ -1,5 +1,5 @@
 -- What calls on a store with ranges promise. All of it is this project's own.
-use Rattle.std.specs.Prelude.{◌≡◌, ℕ, Bool, IsTrue, List, Option, Some, None, Result, OnOk, IfOk, IfErr}
+use Rattle.std.specs.Prelude.{◌≡◌, ℕ, Bool, IsTrue, None, Result, OnOk, IfOk, IfErr}
 use Rattle.newt_host.specs.Moments.{image, Leaves}
 use Rattle.newt_host.specs.Outside.{Outside, Touches}
 use Rattle.newt_pagebook.specs.Book.{Numbers, IsOpenFor}

@@ -3,12 +3,13 @@ ghost use Rattle.std.specs.Prelude.{true, OnOk};
 ghost use Rattle.newt_memhost.specs.Outside.{outside_of};
 ghost use Rattle.newt_indexed.specs.Calls.{IsOpen};
 
-use crate::card::{accept, formatted, opened};
+use crate::card::{accept, opened};
 use crate::entries::{Left, by_name, by_number, graph, id};
 use crate::walks::has_lists;
 use newt_base::{Name, Sig};
 use newt_indexed::{Change, IndexedStore};
 use newt_memhost::MemHost;
+use newt_onecard::{CARD, formatted, host_of};
 use newt_pagebook::PageBook;
 use newt_pageplain::PlainBook;
 use std::alloc::Global;
@@ -54,7 +55,11 @@ fn change_some<P: PageBook>(
 {
     for third in 0..67 {
         let uid = third * 3;
-        accept(host, store, Change::Replace(Sig(0), id(uid), graph(alloc, uid, true)?))?;
+        accept(
+            host,
+            store,
+            Change::Replace(Sig(0), id(uid), graph(alloc, uid, true)?),
+        )?;
     }
     Ok(())
 }
@@ -86,17 +91,24 @@ fn two_hundred<P: PageBook>(
     add_some(alloc, host, store, 100, 200)
 }
 
+/// Whether the store that is opened from the bytes of the card has these ranges.
+fn has_lists_again(alloc: Global, host: &MemHost, left: Left) -> Result<bool, Fail> {
+    let mut again = host_of(alloc, host.bytes(CARD))?;
+    let store: IndexedStore<PlainBook> = opened(alloc, &mut again)?;
+    has_lists(alloc, &store, 0, left)
+}
+
 #[test]
 fn ranges_follow_the_store(rt: HostRuntime) -> Result<(), Fail> {
     let alloc = rt.alloc();
-    let mut host = formatted::<PlainBook>(&rt, alloc, 200)?;
-    let mut store: IndexedStore<PlainBook> = opened(&rt, alloc, &mut host)?;
+    let mut host = formatted::<PlainBook>(alloc, 200)?;
+    let mut store: IndexedStore<PlainBook> = opened(alloc, &mut host)?;
     two_hundred(alloc, &mut host, &mut store)?;
     assert!(rt; has_lists(alloc, &store, 0, ALL)?);
+    assert!(rt; has_lists_again(alloc, &host, ALL)?);
     change_some(alloc, &mut host, &mut store)?;
     remove_some(&mut host, &mut store)?;
     assert!(rt; has_lists(alloc, &store, 0, SOME)?);
-    let again: IndexedStore<PlainBook> = opened(&rt, alloc, &mut host)?;
-    assert!(rt; has_lists(alloc, &again, 0, SOME)?);
+    assert!(rt; has_lists_again(alloc, &host, SOME)?);
     Ok(())
 }

@@ -47,8 +47,7 @@ loop-left-preserved g c =
       costs = λ tells s shows.
           let i = c.loop-left.invariant.costs tells s shows in
           let total : ℕ = pages_listed c.args.soup s c.args.uids.now in
-          let k : ℕ = pages_of_entry (entry_in c.args.soup c.uid-item.result s) in
-          (
+          let k : ℕ = pages_of_entry (entry_in c.args.soup c.uid-item.result s) in (
             i.0 + k,
             sum-next i.0 (pages_listed c.args.soup s left) total k (pages_listed c.args.soup s (behind left)) i.1 (pages-first c.args.soup s left c.uid-item.result c.in-len1-up.len_at_least c.uid-item.is),
             spends-on place g.P.PageBook.numbers g.P.PageBook.stands g.H.Host.told c.args.store.now c.loop-left.store (o c.args.host.now) (o c.loop-left.host) (o c.fill_entry.new.host) i.0 k reads i.2

@@ -1,4 +1,4 @@
-use Rattle.std.proofs.Common.{◌≡◌, ◌+◌, ◌*◌, ℕ, List, IsTrue, length}
+use Rattle.std.proofs.Common.{◌≡◌, ◌+◌, ◌*◌, ℕ, IsTrue, length}
 use Rattle.newt_host.specs.Outside.{Spends}
 use Rattle.newt_spec_store.specs.Store.{Store as PlainStore}
 use Rattle.newt_indexed.specs.Calls.{Shows, Reads}

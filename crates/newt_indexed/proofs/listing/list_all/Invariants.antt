@@ -1,4 +1,4 @@
-use Rattle.std.proofs.Common.{◌≡◌, List, IsTrue, length}
+use Rattle.std.proofs.Common.{◌≡◌, IsTrue, length}
 use Rattle.newt_spec_store.specs.Store.{Store as PlainStore}
 use Rattle.newt_indexed.specs.Calls.{Shows, Reads}
 use Rattle.newt_indexed.specs.Filling.{rows_with_all}

@@ -1,11 +1,8 @@
-use Rattle.std.proofs.Common.{◌≡◌, ◌∙◌, ℕ, List, map, ap, subst}
+use Rattle.std.proofs.Common.{◌≡◌, ◌∙◌, List, map, ap}
 use Rattle.newt_soupdir.specs.declared.rows.Directory.{Directory}
 use Rattle.newt_soupdir.specs.declared.rows.SoupRow.{SoupRow}
-use Rattle.newt_ranges.specs.declared.rows.SoupRanges.{SoupRanges}
 use Rattle.newt_ranges.specs.Rows.{no_ranges}
-use Rattle.newt_ranges.specs.Stands.{AreRangesOf}
-use Rattle.newt_indexed.specs.Filling.{rows_of_soups}
-use Rattle.newt_indexed.proofs.Listed.{all-listed, listed-as}
+use Rattle.newt_indexed.proofs.Listed.{listed-as}
 use Rattle.newt_indexed.proofs.listing.ranges_of.Goals as goal
 
 pub returns-clause-listed : goal.returns-clause-listed

@@ -1,4 +1,4 @@
-use Rattle.std.proofs.Common.{ℕ, ◌*◌, sym, subst}
+use Rattle.std.proofs.Common.{◌*◌, sym, subst}
 use Rattle.std.specs.Prelude.{IfOk}
 use Rattle.newt_host.specs.Outside.{Spends}
 use Rattle.newt_store.specs.declared.change.Change.{Change}

@@ -1,4 +1,4 @@
-use Rattle.std.proofs.Common.{ℕ, ◌≡◌, List, refl}
+use Rattle.std.proofs.Common.{ℕ, List}
 use Rattle.newt_host.specs.Moments.{image}
 use Rattle.newt_spec_store.specs.OfImage.{blocks_of}
 use Rattle.newt_store.specs.Change.{most_bytes, entry_moved, pages_of_entry}
