@@ -1,5 +1,5 @@
 -- What is written of a list of lines, and what is left of them.
-use Rattle.std.proofs.Common.{◌≡◌, refl, ap, sym, ◌∙◌, ℕ, suc, ◌+◌, ◌-◌, ◌/◌, ◌%◌, ◌==◌, codes, if◌then◌else◌, ◌<◌, List, [], ◌∷◌, ◌++◌, arith, append_assoc, decimal}
+use Rattle.std.proofs.Common.{◌≡◌, ap, sym, ◌∙◌, ℕ, suc, ◌+◌, ◌-◌, ◌/◌, ◌%◌, ◌==◌, codes, if◌then◌else◌, ◌<◌, List, [], ◌∷◌, ◌++◌, arith, append_assoc, decimal}
 use Rattle.std.specs.Prelude.{flat_map, replicate}
 use Rattle.std.specs.List.{enumerate_from}
 use Rattle.newt_base.specs.Text.{decimal_text, decimal_text-decimal}
@@ -8,7 +8,7 @@ use Rattle.newt_spec_script.specs.Generator.{add_line, drawn, next_state}
 -- the first of the lines left is written
 pub entry_written : (text : List ℕ) (i count state : ℕ) → i < count
     → (text ++ add_line (i, next_state state / 65_536)) ++ flat_map add_line (enumerate_from (i + 1) (drawn (count - (i + 1)) (next_state state)))
-      ≡ text ++ flat_map add_line (enumerate_from i (drawn (count - i) state))
+    ≡ text ++ flat_map add_line (enumerate_from i (drawn (count - i) state))
 entry_written text i count state early =
     let k : count - i ≡ suc (count - (i + 1)) = omega (arith, early) in
     append_assoc text (add_line (i, next_state state / 65_536)) (flat_map add_line (enumerate_from (i + 1) (drawn (count - (i + 1)) (next_state state))))
@@ -32,24 +32,24 @@ joined old p m q n w o r i e =
     let nl : List ℕ = 10 ∷ [] in
     let end : List ℕ = e ++ nl in
     let left : (((((old ++ (p ++ m)) ++ (q ++ n)) ++ w) ++ o) ++ (r ++ i)) ++ end ≡ old ++ (p ++ (m ++ (q ++ (n ++ (w ++ (o ++ (r ++ (i ++ end)))))))) =
-        append_assoc ((((old ++ (p ++ m)) ++ (q ++ n)) ++ w) ++ o) (r ++ i) end
-        ∙ ap (λ (x : List ℕ). ((((old ++ (p ++ m)) ++ (q ++ n)) ++ w) ++ o) ++ x) (append_assoc r i end)
-        ∙ append_assoc (((old ++ (p ++ m)) ++ (q ++ n)) ++ w) o (r ++ (i ++ end))
-        ∙ append_assoc ((old ++ (p ++ m)) ++ (q ++ n)) w (o ++ (r ++ (i ++ end)))
-        ∙ append_assoc (old ++ (p ++ m)) (q ++ n) (w ++ (o ++ (r ++ (i ++ end))))
-        ∙ ap (λ (x : List ℕ). (old ++ (p ++ m)) ++ x) (append_assoc q n (w ++ (o ++ (r ++ (i ++ end)))))
-        ∙ append_assoc old (p ++ m) (q ++ (n ++ (w ++ (o ++ (r ++ (i ++ end))))))
-        ∙ ap (λ (x : List ℕ). old ++ x) (append_assoc p m (q ++ (n ++ (w ++ (o ++ (r ++ (i ++ end)))))))
+    append_assoc ((((old ++ (p ++ m)) ++ (q ++ n)) ++ w) ++ o) (r ++ i) end
+    ∙ ap (λ (x : List ℕ). ((((old ++ (p ++ m)) ++ (q ++ n)) ++ w) ++ o) ++ x) (append_assoc r i end)
+    ∙ append_assoc (((old ++ (p ++ m)) ++ (q ++ n)) ++ w) o (r ++ (i ++ end))
+    ∙ append_assoc ((old ++ (p ++ m)) ++ (q ++ n)) w (o ++ (r ++ (i ++ end)))
+    ∙ append_assoc (old ++ (p ++ m)) (q ++ n) (w ++ (o ++ (r ++ (i ++ end))))
+    ∙ ap (λ (x : List ℕ). (old ++ (p ++ m)) ++ x) (append_assoc q n (w ++ (o ++ (r ++ (i ++ end)))))
+    ∙ append_assoc old (p ++ m) (q ++ (n ++ (w ++ (o ++ (r ++ (i ++ end))))))
+    ∙ ap (λ (x : List ℕ). old ++ x) (append_assoc p m (q ++ (n ++ (w ++ (o ++ (r ++ (i ++ end)))))))
     in
     let right : ((((((((p ++ m) ++ q) ++ n) ++ w) ++ o) ++ r) ++ i) ++ e) ++ nl ≡ p ++ (m ++ (q ++ (n ++ (w ++ (o ++ (r ++ (i ++ end))))))) =
-        append_assoc (((((((p ++ m) ++ q) ++ n) ++ w) ++ o) ++ r) ++ i) e nl
-        ∙ append_assoc ((((((p ++ m) ++ q) ++ n) ++ w) ++ o) ++ r) i end
-        ∙ append_assoc (((((p ++ m) ++ q) ++ n) ++ w) ++ o) r (i ++ end)
-        ∙ append_assoc ((((p ++ m) ++ q) ++ n) ++ w) o (r ++ (i ++ end))
-        ∙ append_assoc (((p ++ m) ++ q) ++ n) w (o ++ (r ++ (i ++ end)))
-        ∙ append_assoc ((p ++ m) ++ q) n (w ++ (o ++ (r ++ (i ++ end))))
-        ∙ append_assoc (p ++ m) q (n ++ (w ++ (o ++ (r ++ (i ++ end)))))
-        ∙ append_assoc p m (q ++ (n ++ (w ++ (o ++ (r ++ (i ++ end))))))
+    append_assoc (((((((p ++ m) ++ q) ++ n) ++ w) ++ o) ++ r) ++ i) e nl
+    ∙ append_assoc ((((((p ++ m) ++ q) ++ n) ++ w) ++ o) ++ r) i end
+    ∙ append_assoc (((((p ++ m) ++ q) ++ n) ++ w) ++ o) r (i ++ end)
+    ∙ append_assoc ((((p ++ m) ++ q) ++ n) ++ w) o (r ++ (i ++ end))
+    ∙ append_assoc (((p ++ m) ++ q) ++ n) w (o ++ (r ++ (i ++ end)))
+    ∙ append_assoc ((p ++ m) ++ q) n (w ++ (o ++ (r ++ (i ++ end))))
+    ∙ append_assoc (p ++ m) q (n ++ (w ++ (o ++ (r ++ (i ++ end)))))
+    ∙ append_assoc p m (q ++ (n ++ (w ++ (o ++ (r ++ (i ++ end))))))
     in
     left ∙ ap (λ (x : List ℕ). old ++ x) (sym right)
 
@@ -60,6 +60,6 @@ label_of q = if q % 2 == 0 then codes "business" else codes "personal"
 -- the pieces of the line of an entry
 pub entry_joined : (old : List ℕ) (i q : ℕ)
     → (((((old ++ (codes "add 0 Names {name: {first: \"F" ++ decimal_text (q % 90))) ++ (codes "\", last: \"L" ++ decimal_text (q % 1000))) ++ codes "\"}, labels: '") ++ label_of q)
-        ++ (codes ", n: " ++ decimal_text i)) ++ codes "}\n" ≡ old ++ add_line (i, q)
+    ++ (codes ", n: " ++ decimal_text i)) ++ codes "}\n" ≡ old ++ add_line (i, q)
 entry_joined old i q =
     joined old (codes "add 0 Names {name: {first: \"F") (decimal_text (q % 90)) (codes "\", last: \"L") (decimal_text (q % 1000)) (codes "\"}, labels: '") (label_of q) (codes ", n: ") (decimal_text i) (codes "}")

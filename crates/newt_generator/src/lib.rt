@@ -6,3 +6,6 @@
 mod script;
 
 pub use script::gen_script;
+
+#[cfg(test)]
+mod tests;

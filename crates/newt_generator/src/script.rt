@@ -7,7 +7,8 @@ ghost use Rattle.newt_spec_script.specs.Generator.{add_line, drawn, gen_script, 
 use std::alloc::{AllocError, Global};
 
 /// The lines that make the store and its soup.
-const START: &[u8] = b"format 0 Gen 1\nmount 0\nsoup 0 Names\nindex 0 Names name.last:string:ascend\ntags 0 Names labels business personal\n";
+const START: &[u8] =
+    b"format 0 Gen 1\nmount 0\nsoup 0 Names\nindex 0 Names name.last:string:ascend\ntags 0 Names labels business personal\n";
 
 /// The line that opens a cursor.
 const QUERY: &[u8] = b"query 0 Names {indexPath: [pathExpr: 'name, 'last]}\n";
@@ -31,12 +32,7 @@ pub fn gen_script(alloc: Global, seed: u32, count: u32) -> Result<Vec<u8>, Alloc
 }
 
 /// A line for each name, from a state of the generator.
-fn push_entries(
-    alloc: Global,
-    text: &mut Vec<u8>,
-    state: u32,
-    count: u32,
-) -> Result<(), AllocError>
+fn push_entries(alloc: Global, text: &mut Vec<u8>, state: u32, count: u32) -> Result<(), AllocError>
     ensures { OnOk result (text.new.items ≡ text.old.items ++ flat_map add_line (enumerate_from 0 (drawn count state))) }
 {
     let mut state = state;

@@ -1,7 +1,7 @@
-use Rattle.std.proofs.Common.{◌≡◌, ◌∙◌, ap, List, ℕ, ◌++◌, ◌+◌, ◌-◌, ◌/◌}
+use Rattle.std.proofs.Common.{◌∙◌, ap, List, ℕ, ◌++◌, ◌+◌, ◌-◌, ◌/◌}
 use Rattle.std.specs.Prelude.{flat_map}
 use Rattle.std.specs.List.{enumerate_from}
-use Rattle.newt_spec_script.specs.Generator.{add_line, drawn, next_state}
+use Rattle.newt_spec_script.specs.Generator.{add_line, drawn}
 use Rattle.newt_generator.proofs.Left.{entry_written}
 use Rattle.newt_generator.proofs.script.push_entries.Goals as goal
 

@@ -1,4 +1,4 @@
-use Rattle.std.proofs.Common.{◌≡◌, ◌∙◌, ap, List, ℕ, ◌++◌, ◌%◌, ◌==◌, ◌∷◌, [], codes, if◌then◌else◌}
+use Rattle.std.proofs.Common.{◌≡◌, ◌∙◌, ap, List, ℕ, ◌++◌, ◌%◌, codes}
 use Rattle.newt_base.specs.Text.{decimal_text}
 use Rattle.newt_spec_script.specs.Generator.{add_line}
 use Rattle.newt_generator.proofs.Left.{label_of, entry_joined}
@@ -17,10 +17,10 @@ returns c =
     let end : c.extend_from_slice-3.new.self.items ≡ c.push_field-3.new.text.items ++ codes "}\n" = c.in_ok-extend_from_slice-3.ensures.items in
     let all : c.extend_from_slice-3.new.self.items ≡ old ++ add_line (c.args.i, d) = end
     ∙ ap (λ (t : List ℕ). t ++ codes "}\n") (number
-        ∙ ap (λ (t : List ℕ). t ++ (codes ", n: " ++ decimal_text c.args.i)) (shown
-            ∙ ap (λ (w : List ℕ). c.extend_from_slice.new.self.items ++ w) word
-            ∙ ap (λ (t : List ℕ). t ++ label_of d) (labels
-                ∙ ap (λ (t : List ℕ). t ++ codes "\"}, labels: '") (last
-                    ∙ ap (λ (t : List ℕ). t ++ (codes "\", last: \"L" ++ decimal_text (d % 1000))) first))))
+    ∙ ap (λ (t : List ℕ). t ++ (codes ", n: " ++ decimal_text c.args.i)) (shown
+    ∙ ap (λ (w : List ℕ). c.extend_from_slice.new.self.items ++ w) word
+    ∙ ap (λ (t : List ℕ). t ++ label_of d) (labels
+    ∙ ap (λ (t : List ℕ). t ++ codes "\"}, labels: '") (last
+    ∙ ap (λ (t : List ℕ). t ++ (codes "\", last: \"L" ++ decimal_text (d % 1000))) first))))
     ∙ entry_joined old c.args.i d in
     all

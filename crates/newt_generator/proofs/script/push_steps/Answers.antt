@@ -1,4 +1,4 @@
-use Rattle.std.proofs.Common.{◌≡◌, ◌∙◌, ap, List, ℕ, ◌++◌, ◌+◌, ◌-◌}
+use Rattle.std.proofs.Common.{◌∙◌, ap, List, ℕ, ◌++◌, ◌+◌, ◌-◌}
 use Rattle.std.specs.Prelude.{flat_map, replicate, codes}
 use Rattle.newt_spec_script.specs.Generator.{line}
 use Rattle.newt_generator.proofs.Left.{line_written}
