@@ -9,7 +9,7 @@ use crate::walks::has_lists;
 use newt_base::{Name, Sig};
 use newt_indexed::{Change, IndexedStore};
 use newt_memhost::MemHost;
-use newt_onecard::{CARD, formatted, host_of};
+use newt_onecard::{CARD, formatted, has_card, host_of};
 use newt_pagebook::PageBook;
 use newt_pageplain::PlainBook;
 use std::alloc::Global;
@@ -93,6 +93,9 @@ fn two_hundred<P: PageBook>(
 
 /// Whether the store that is opened from the bytes of the card has these ranges.
 fn has_lists_again(alloc: Global, host: &MemHost, left: Left) -> Result<bool, Fail> {
+    if !has_card(host) {
+        return Err(Fail::new("no card"));
+    }
     let mut again = host_of(alloc, host.bytes(CARD))?;
     let store: IndexedStore<PlainBook> = opened(alloc, &mut again)?;
     has_lists(alloc, &store, 0, left)
