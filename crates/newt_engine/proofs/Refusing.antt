@@ -64,6 +64,11 @@ fields_not w v (command.Drop u s) r b h = cc
 fields_not w v (command.Add u s g) r b h = cc
 fields_not w v (command.Addx u s g) r b h = cc
 fields_not w v (command.Addu s g) r b h = cc
+fields_not w v (command.Index u s parts) r b h = cc
+fields_not w v (command.Unindex u s paths) r b h = cc
+fields_not w v (command.Indexes u s) r b h = nil_not {X = Soup} (λ p. plain.Reply.indexes p.specs) (soup_in w u s) r (λ x k. cc) h
+fields_not w v (command.Tags u s) r b h = nil_not {X = Soup} (λ p. plain.Reply.tags p.tags) (soup_in w u s) r (λ x k. cc) h
+fields_not w v (command.SetTags u s path symbols) r b h = cc
 fields_not w v (command.Get u s uid) r b h = nil_not {X = Entry} (λ e. plain.Reply.timed e.time e.graph) (entry_in w u s uid) r (λ x k. cc) h
 fields_not w v (command.Getx u s uid) r b h = nil_not {X = Entry} (λ e. plain.Reply.timed_nsof e.time e.graph) (entry_in w u s uid) r (λ x k. cc) h
 fields_not w v (command.Set u s uid path g) r b h = cc

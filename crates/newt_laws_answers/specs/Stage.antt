@@ -1,4 +1,4 @@
--- What the world answers today: until large binaries are built, a graph that has one is too large for an entry, and the commands of later stages are none. All of it is this project's own.
+-- What the world answers today: until large binaries are built, a graph that has one is too large for an entry, and the two commands on their bytes are none. All of it is this project's own.
 use Rattle.std.specs.Prelude.{ℕ, nat_le, Bool, true, false, ◌||◌, ◌&&◌, not, cond, List, [], ◌∷◌, map, Option, Some, None, option_map}
 use Rattle.std.specs.List.{list_all}
 use Rattle.newt_base.specs.Names.{same_name}

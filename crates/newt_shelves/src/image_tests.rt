@@ -1,9 +1,8 @@
 //! Images of stores, spelt by hand.
-use crate::card::{CARD, filled, formatted, has_card};
-use crate::contents::{Contents, contents_on};
 use crate::flips::{Outcome, TABLE, check_bytes, check_patch, check_places};
 use crate::spelt::{small_before, small_contents, small_image, spelt};
 use newt_host::Host;
+use newt_onecard::{CARD, Contents, contents_on, filled, formatted, has_card};
 use newt_pagebook::PageBook;
 use newt_pageplain::PlainBook;
 use std::alloc::Global;
