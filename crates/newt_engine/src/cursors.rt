@@ -66,10 +66,10 @@ impl<C: Card> World<C> {
                 shown(newt_walk::moveby(units, desk, host, *cursor, *by))
             }
             Command::Goto(cursor, unit, uid) => {
-                shown(newt_walk::goto(units, desk, host, *cursor, *unit, *uid))
+                shown(newt_walk::go_to(units, desk, host, *cursor, *unit, *uid))
             }
             Command::Gotokey(cursor, graph) => {
-                shown(newt_walk::gotokey(units, desk, host, *cursor, graph))
+                shown(newt_walk::go_to_key(units, desk, host, *cursor, graph))
             }
             _ => self.change_places(host, command),
         }
