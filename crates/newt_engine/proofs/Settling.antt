@@ -40,6 +40,7 @@ use Rattle.newt_walk.specs.World.{world_with}
 use Rattle.newt_engine.specs.Ends.{takes_memory, uses_device}
 use Rattle.newt_engine.specs.Groups.{on_cursor, settles}
 use Rattle.newt_engine.specs.Standing.{Standing}
+use Rattle.newt_engine.proofs.Handed.{quiet}
 use Rattle.newt_engine.proofs.Refusing.{refused_stays}
 
 -- ---- the groups
@@ -156,3 +157,10 @@ stands_after {T} {C} {reads} told units later ks ls o p s stand eight desk c mad
   apart = λ t. goes_apart (world_with reads units ks o) (world_with reads later ls p) c made result (s.apart t) (answers t) goes;
   settled = λ t. goes_settled (world_with reads units ks o) (world_with reads later ls p) c made result (s.settled t) (answers t) goes;
 }
+
+-- where devices are read alone, nothing happens to them
+pub quiet_with : {C : Type 0} {reads : List ℕ → Option Store} {place : C → ℕ} {soups : C → Store} {stands : Bool → C → Outside → Type 0} → Laws reads place soups stands
+    → (told : Bool) (units : Units C) (ks : List (Option Cursor)) (o p : Outside) → Standing reads place stands told units ks o → IsTrue told → p.now ≡ o.now → (v : World)
+    → Always (Answering reads (world_with reads units ks o) v o.now) o.now p.now
+quiet_with {reads} l told units ks o p s t same v = subst (λ m. Always (Answering reads (world_with reads units ks o) v o.now) o.now m) (sym same)
+    (Always-map (λ m a. record { quiet = a.quiet; stores = a.stores; others = a.others }) (quiet l told units o s.eight s.stand t v))
