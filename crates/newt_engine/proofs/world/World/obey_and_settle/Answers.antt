@@ -1,5 +1,5 @@
 -- The cursors are settled where keys may have changed.
-use Rattle.std.proofs.Common.{◌≡◌, sym, subst}
+use Rattle.std.proofs.Common.{◌≡◌, sym, ◌∙◌, subst, Ok, Err}
 use Rattle.newt_host.specs.Moments.{Always}
 use Rattle.newt_reply.specs.Said.{said}
 use Rattle.newt_laws_answers.specs.Answering.{Answering}
@@ -22,16 +22,16 @@ returns-then-settles-clause-stands g c goes = stands_after g.H.Host.told c.args.
     (c.settled.ensures.settled t (apart_after (laws_of g.met.C.Card.formed g.met.C.Card.plain g.met.C.Card.durable g.met.C.Card.banks g.met.C.Card.kept) g.H.Host.told c.args.self.now.units c.args.self.now.desk (g.H.Host.outside c.args.host.now) c.requires.stands t c.args.command c.requires.no_cursor (world_of g.C.Card.reads c.obey.new.self.units (g.H.Host.outside c.obey.new.host)) (said c.in-Ok.reply) (c.in-Ok.ensures.answered t))) c.settled.ensures.same c.settled.ensures.ends) goes
 
 pub returns-then-settles-clause-moments : goal.returns-then-settles-clause-moments
-returns-then-settles-clause-moments g c t = subst (λ m. Always (Answering g.C.Card.reads (world_with g.C.Card.reads c.args.self.now.units c.args.self.now.desk (g.H.Host.outside c.args.host.now)) _ (g.H.Host.outside c.args.host.now).now) (g.H.Host.outside c.args.host.now).now m)
+returns-then-settles-clause-moments g c t = subst (λ m. Always (Answering g.C.Card.reads (world_with g.C.Card.reads c.args.self.now.units c.args.self.now.desk (g.H.Host.outside c.args.host.now)) (answer_now (world_with g.C.Card.reads c.args.self.now.units c.args.self.now.desk (g.H.Host.outside c.args.host.now)) c.args.command).0 (g.H.Host.outside c.args.host.now).now) (g.H.Host.outside c.args.host.now).now m)
     (sym c.settled.ensures.read.moment) (moments_with (laws_of g.met.C.Card.formed g.met.C.Card.plain g.met.C.Card.durable g.met.C.Card.banks g.met.C.Card.kept) g.H.Host.told c.args.self.now.units c.args.self.now.desk (g.H.Host.outside c.args.host.now) c.requires.stands t c.args.command c.requires.no_cursor (g.H.Host.outside c.obey.new.host).now (c.obey.ensures.moments t))
 
 pub returns-else-settles-clause-answered : goal.returns-else-settles-clause-answered
-returns-else-settles-clause-answered g c t = done_answers (laws_of g.met.C.Card.formed g.met.C.Card.plain g.met.C.Card.durable g.met.C.Card.banks g.met.C.Card.kept) g.H.Host.told c.args.self.now.units c.args.self.now.desk (g.H.Host.outside c.args.host.now) c.requires.stands t c.args.command c.requires.no_cursor (world_of g.C.Card.reads c.obey.new.self.units (g.H.Host.outside c.obey.new.host)) c.in-Ok.reply c.else-settles.is (c.in-Ok.ensures.answered t) c.obey.new.self.desk c.obey.ensures.desk
+returns-else-settles-clause-answered g c t = done_answers (laws_of g.met.C.Card.formed g.met.C.Card.plain g.met.C.Card.durable g.met.C.Card.banks g.met.C.Card.kept) g.H.Host.told c.args.self.now.units c.args.self.now.desk (g.H.Host.outside c.args.host.now) c.requires.stands t c.args.command c.requires.no_cursor (world_of g.C.Card.reads c.obey.new.self.units (g.H.Host.outside c.obey.new.host)) c.in-Ok.reply (sym c.settles-settles.ensures ∙ c.if-settles.false) (c.in-Ok.ensures.answered t) c.obey.new.self.desk c.obey.ensures.desk
 
 pub returns-else-settles-clause-stands : goal.returns-else-settles-clause-stands
 returns-else-settles-clause-stands g c goes = stands_after g.H.Host.told c.args.self.now.units c.obey.new.self.units c.args.self.now.desk c.obey.new.self.desk
     (g.H.Host.outside c.args.host.now) (g.H.Host.outside c.obey.new.host) c.requires.stands (c.in-Ok.ensures.stands tt)
-    (record { eight = g.met.H.Host.eight c.obey.new.host; none = g.met.H.Host.none c.obey.new.host }) (subst DeskFits (sym c.obey.ensures.desk) c.requires.stands.desk) c.args.command said _ (λ t. done_answers (laws_of g.met.C.Card.formed g.met.C.Card.plain g.met.C.Card.durable g.met.C.Card.banks g.met.C.Card.kept) g.H.Host.told c.args.self.now.units c.args.self.now.desk (g.H.Host.outside c.args.host.now) c.requires.stands t c.args.command c.requires.no_cursor (world_of g.C.Card.reads c.obey.new.self.units (g.H.Host.outside c.obey.new.host)) c.in-Ok.reply c.else-settles.is (c.in-Ok.ensures.answered t) c.obey.new.self.desk c.obey.ensures.desk) goes
+    (record { eight = g.met.H.Host.eight c.obey.new.host; none = g.met.H.Host.none c.obey.new.host }) (subst DeskFits (sym c.obey.ensures.desk) c.requires.stands.desk) c.args.command said (Ok c.in-Ok.reply) (λ t. done_answers (laws_of g.met.C.Card.formed g.met.C.Card.plain g.met.C.Card.durable g.met.C.Card.banks g.met.C.Card.kept) g.H.Host.told c.args.self.now.units c.args.self.now.desk (g.H.Host.outside c.args.host.now) c.requires.stands t c.args.command c.requires.no_cursor (world_of g.C.Card.reads c.obey.new.self.units (g.H.Host.outside c.obey.new.host)) c.in-Ok.reply (sym c.settles-settles.ensures ∙ c.if-settles.false) (c.in-Ok.ensures.answered t) c.obey.new.self.desk c.obey.ensures.desk) goes
 
 pub returns-else-settles-clause-moments : goal.returns-else-settles-clause-moments
 returns-else-settles-clause-moments g c t = moments_with (laws_of g.met.C.Card.formed g.met.C.Card.plain g.met.C.Card.durable g.met.C.Card.banks g.met.C.Card.kept) g.H.Host.told c.args.self.now.units c.args.self.now.desk (g.H.Host.outside c.args.host.now) c.requires.stands t c.args.command c.requires.no_cursor (g.H.Host.outside c.obey.new.host).now (c.obey.ensures.moments t)
@@ -42,7 +42,7 @@ returns-in-Err-clause-answered g c t = fault_answers (laws_of g.met.C.Card.forme
 pub returns-in-Err-clause-stands : goal.returns-in-Err-clause-stands
 returns-in-Err-clause-stands g c goes = stands_after g.H.Host.told c.args.self.now.units c.obey.new.self.units c.args.self.now.desk c.obey.new.self.desk
     (g.H.Host.outside c.args.host.now) (g.H.Host.outside c.obey.new.host) c.requires.stands (c.in-Err.ensures.stands goes)
-    (record { eight = g.met.H.Host.eight c.obey.new.host; none = g.met.H.Host.none c.obey.new.host }) (subst DeskFits (sym c.obey.ensures.desk) c.requires.stands.desk) c.args.command said _ (λ t. fault_answers (laws_of g.met.C.Card.formed g.met.C.Card.plain g.met.C.Card.durable g.met.C.Card.banks g.met.C.Card.kept) g.H.Host.told c.args.self.now.units c.args.self.now.desk (g.H.Host.outside c.args.host.now) c.requires.stands t c.args.command c.requires.no_cursor (world_of g.C.Card.reads c.obey.new.self.units (g.H.Host.outside c.obey.new.host)) c.in-Err.fault (c.in-Err.ensures.answered t) c.obey.new.self.desk c.obey.ensures.desk) goes
+    (record { eight = g.met.H.Host.eight c.obey.new.host; none = g.met.H.Host.none c.obey.new.host }) (subst DeskFits (sym c.obey.ensures.desk) c.requires.stands.desk) c.args.command said (Err c.in-Err.fault) (λ t. fault_answers (laws_of g.met.C.Card.formed g.met.C.Card.plain g.met.C.Card.durable g.met.C.Card.banks g.met.C.Card.kept) g.H.Host.told c.args.self.now.units c.args.self.now.desk (g.H.Host.outside c.args.host.now) c.requires.stands t c.args.command c.requires.no_cursor (world_of g.C.Card.reads c.obey.new.self.units (g.H.Host.outside c.obey.new.host)) c.in-Err.fault (c.in-Err.ensures.answered t) c.obey.new.self.desk c.obey.ensures.desk) goes
 
 pub returns-in-Err-clause-moments : goal.returns-in-Err-clause-moments
 returns-in-Err-clause-moments g c t = moments_with (laws_of g.met.C.Card.formed g.met.C.Card.plain g.met.C.Card.durable g.met.C.Card.banks g.met.C.Card.kept) g.H.Host.told c.args.self.now.units c.args.self.now.desk (g.H.Host.outside c.args.host.now) c.requires.stands t c.args.command c.requires.no_cursor (g.H.Host.outside c.obey.new.host).now (c.obey.ensures.moments t)

@@ -1,4 +1,7 @@
 -- A cursor is moved or shown.
+use Rattle.std.proofs.Common.{rules, ap, sym, ◌∙◌, ℤ, w32, SFits}
+use Rattle.std.proofs.lemmas.Int.{to_z-of_z}
+use Rattle.newt_spec_world.specs.declared.command.Command.TheVariants as command
 use Rattle.newt_engine.proofs.Settling.{walked_as}
 use Rattle.newt_reply.specs.Said.{said}
 use Rattle.newt_engine.proofs.world.World.walk.Goals as goal
@@ -19,7 +22,10 @@ pub returns-in-End-clause-answered : goal.returns-in-End-clause-answered
 returns-in-End-clause-answered g c t apart = walked_as _ _ c.args.command.now _ said _ c.in-End.is (c.shown-in-End.ensures.answered _ _ _ (c.end.ensures.answered t apart))
 
 pub returns-in-Moveby-clause-answered : goal.returns-in-Moveby-clause-answered
-returns-in-Moveby-clause-answered g c t apart = walked_as _ _ c.args.command.now _ said _ c.in-Moveby.is (c.shown-in-Moveby.ensures.answered _ _ _ (c.moveby.ensures.answered t apart))
+returns-in-Moveby-clause-answered g c t apart =
+    let fits : SFits w32 c.in-Moveby.by = search rules in
+    walked_as _ _ c.args.command.now _ said _ (c.in-Moveby.is ∙ ap {A = ℤ} (λ z. command.Moveby c.in-Moveby.cursor z) (sym (to_z-of_z w32 c.in-Moveby.by fits)))
+    (c.shown-in-Moveby.ensures.answered _ _ _ (c.moveby.ensures.answered t apart))
 
 pub returns-in-Goto-clause-answered : goal.returns-in-Goto-clause-answered
 returns-in-Goto-clause-answered g c t apart = walked_as _ _ c.args.command.now _ said _ c.in-Goto.is (c.shown-in-Goto.ensures.answered _ _ _ (c.go_to.ensures.answered t apart))
