@@ -1,5 +1,5 @@
 -- Commands of a world without cursors, and the cursors settled after them.
-use Rattle.std.proofs.Common.{◌≡◌, refl, ap, sym, ◌∙◌, subst, ℕ, List, [], ◌∷◌, map, Bool, true, false, ◌⊎◌, inl, inr, IsTrue, Option, Some, None, option_map, cond}
+use Rattle.std.proofs.Common.{◌≡◌, refl, ap, sym, ◌∙◌, subst, ℕ, List, [], ◌∷◌, map, Bool, true, false, ◌⊎◌, inl, inr, IsTrue, Option, Some, None, cond}
 use Rattle.std.specs.Prelude.{Result, Ok, Err, IfErr, IfOk, OnOk}
 use Rattle.newt_base.specs.Refusals.{first_of}
 use Rattle.newt_base.specs.declared.Refusal.{Refusal}
@@ -7,7 +7,6 @@ use Rattle.newt_base.specs.declared.Refusal.TheVariants.{Command as NoCommand}
 use Rattle.newt_host.specs.Moments.{Moment, Always, image}
 use Rattle.newt_host.specs.Outside.{Outside}
 use Rattle.newt_host.proofs.Moments.{Always-map}
-use Rattle.newt_pagebook.specs.declared.book.Stop.{Stop}
 use Rattle.newt_reply.specs.Said.{said}
 use Rattle.newt_reply.specs.declared.reply.Reply.{Reply}
 use Rattle.newt_spec_graph.proofs.Lists.{some-same, none-some}
@@ -18,7 +17,7 @@ use Rattle.newt_spec_world.specs.declared.command.Command.TheVariants as command
 use Rattle.newt_spec_world.specs.First.{media_of}
 use Rattle.newt_spec_world.specs.Reply as plain
 use Rattle.newt_spec_world.specs.Refused.{checks}
-use Rattle.newt_spec_world.specs.World.{World, Device, device, settle}
+use Rattle.newt_spec_world.specs.World.{World, Device, settle}
 use Rattle.newt_laws.specs.Settled.{IsSettled, MountedApart, moves_keys}
 use Rattle.newt_laws.specs.Worlds.{OnMedia}
 use Rattle.newt_laws.proofs.Kept.{Every, Wf}

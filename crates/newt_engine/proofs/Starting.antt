@@ -7,7 +7,7 @@ use Rattle.newt_spec_graph.proofs.Lists.{none-some, some-same}
 use Rattle.newt_spec_query.specs.Cursor.{Cursor}
 use Rattle.newt_spec_store.specs.Store.{Store}
 use Rattle.newt_spec_world.specs.First.{unit_numbers}
-use Rattle.newt_spec_world.specs.World.{World, Device, flat}
+use Rattle.newt_spec_world.specs.World.{Device, flat}
 use Rattle.newt_laws.specs.Settled.{IsSettled, MountedApart}
 use Rattle.newt_laws.proofs.Runs.{first-apart, first-settled}
 use Rattle.newt_laws_answers.specs.WorldAt.{world_at}

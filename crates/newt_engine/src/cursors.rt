@@ -76,11 +76,7 @@ impl<C: Card> World<C> {
     }
 
     /// Opens, counts, clones or closes a cursor, or tells its side.
-    fn change_places<H: Host>(
-        &mut self,
-        host: &mut H,
-        command: &Command,
-    ) -> Result<Reply, Fault>
+    fn change_places<H: Host>(&mut self, host: &mut H, command: &Command) -> Result<Reply, Fault>
         requires desk { DeskFits self.old.desk }
         requires stands { Stands C.place C.stands H.told self.old.units (H.outside host.old) }
         requires on_place { on_place command.now ≡ true }

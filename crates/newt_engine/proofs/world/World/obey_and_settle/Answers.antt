@@ -1,5 +1,5 @@
 -- The cursors are settled where keys may have changed.
-use Rattle.std.proofs.Common.{◌≡◌, sym, ◌∙◌, subst, Ok, Err}
+use Rattle.std.proofs.Common.{sym, ◌∙◌, subst, Ok, Err}
 use Rattle.newt_host.specs.Moments.{Always}
 use Rattle.newt_reply.specs.Said.{said}
 use Rattle.newt_laws_answers.specs.Answering.{Answering}

@@ -1,6 +1,5 @@
 -- Devices are read alone, and the world of all commands answers.
 use Rattle.newt_reply.specs.Said.{said}
-use Rattle.newt_walk.specs.World.{world_with}
 use Rattle.newt_engine.specs.Laws.{laws_of}
 use Rattle.newt_engine.proofs.Settling.{quiet_with, stands_after, walked_answers}
 use Rattle.newt_engine.proofs.world.World.obey_on_cursor.Goals as goal
