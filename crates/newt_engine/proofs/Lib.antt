@@ -2,3 +2,4 @@ pub mod Groups
 pub mod Handed
 pub mod Refusing
 pub mod Settling
+pub mod Starting

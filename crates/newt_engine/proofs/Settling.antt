@@ -1,13 +1,12 @@
 -- Commands of a world without cursors, and the cursors settled after them.
-use Rattle.std.proofs.Common.{◌≡◌, refl, ap, sym, ◌∙◌, subst, ℕ, List, [], ◌∷◌, map, Bool, true, false, ◌⊎◌, inl, inr, IsTrue, Option, Some, None, option_map, cond}
-use Rattle.std.specs.Prelude.{Result, Ok, Err, IfErr}
+use Rattle.std.proofs.Common.{◌≡◌, refl, ap, sym, ◌∙◌, subst, ℕ, List, [], ◌∷◌, map, Bool, true, false, ◌⊎◌, inl, inr, IsTrue, Option, Some, None, cond}
+use Rattle.std.specs.Prelude.{Result, Ok, Err, IfErr, IfOk, OnOk}
 use Rattle.newt_base.specs.Refusals.{first_of}
 use Rattle.newt_base.specs.declared.Refusal.{Refusal}
 use Rattle.newt_base.specs.declared.Refusal.TheVariants.{Command as NoCommand}
 use Rattle.newt_host.specs.Moments.{Moment, Always, image}
 use Rattle.newt_host.specs.Outside.{Outside}
 use Rattle.newt_host.proofs.Moments.{Always-map}
-use Rattle.newt_pagebook.specs.declared.book.Stop.{Stop}
 use Rattle.newt_reply.specs.Said.{said}
 use Rattle.newt_reply.specs.declared.reply.Reply.{Reply}
 use Rattle.newt_spec_graph.proofs.Lists.{some-same, none-some}
@@ -18,7 +17,7 @@ use Rattle.newt_spec_world.specs.declared.command.Command.TheVariants as command
 use Rattle.newt_spec_world.specs.First.{media_of}
 use Rattle.newt_spec_world.specs.Reply as plain
 use Rattle.newt_spec_world.specs.Refused.{checks}
-use Rattle.newt_spec_world.specs.World.{World, Device, device, settle}
+use Rattle.newt_spec_world.specs.World.{World, Device, settle}
 use Rattle.newt_laws.specs.Settled.{IsSettled, MountedApart, moves_keys}
 use Rattle.newt_laws.specs.Worlds.{OnMedia}
 use Rattle.newt_laws.proofs.Kept.{Every, Wf}
@@ -31,7 +30,7 @@ use Rattle.newt_units.specs.declared.fault.Fault.{Fault}
 use Rattle.newt_units.specs.declared.fault.Fault.TheVariants.{Refused, Stop as Ends}
 use Rattle.newt_units.specs.declared.units.Units.{Units}
 use Rattle.newt_units.specs.Answers.{Answers}
-use Rattle.newt_units.specs.Faults.{GoesOn}
+use Rattle.newt_units.specs.Faults.{GoesOn, IsEnd}
 use Rattle.newt_units.specs.Stands.{Eight, Stands, world_of}
 use Rattle.newt_units.proofs.Known.{Laws, at-card, at-none}
 use Rattle.newt_walk.specs.Fits.{DeskFits}
@@ -40,6 +39,7 @@ use Rattle.newt_walk.specs.World.{world_with}
 use Rattle.newt_engine.specs.Ends.{takes_memory, uses_device}
 use Rattle.newt_engine.specs.Groups.{on_cursor, settles}
 use Rattle.newt_engine.specs.Standing.{Standing}
+use Rattle.newt_engine.proofs.Handed.{quiet}
 use Rattle.newt_engine.proofs.Refusing.{refused_stays}
 
 -- ---- the groups
@@ -91,6 +91,10 @@ goes_settled w v c made (Ok x) h a goes = subst IsSettled (ap (λ (a : World × 
 goes_settled w v c made (Err (Refused r)) h a goes = subst IsSettled (ap (λ (a : World × plain.Reply). a.0) a) (now-settled w c h)
 goes_settled w v c made (Err (Ends s)) h a goes = absurd goes
 
+-- what is answered to a command is answered to an equal one
+pub walked_as : {T : Type 0} (w v : World) (c d : Command) (made : T → plain.Reply) (result : Result T Fault) → c ≡ d → walk.Answers w v d made result → walk.Answers w v c made result
+walked_as w v c d made result same h = subst (λ x. walk.Answers w v x made result) (sym same) h
+
 -- the commands of cursors are answered by the world of all commands
 pub walked_answers : {T : Type 0} (w v : World) (c : Command) (made : T → plain.Reply) (result : Result T Fault) → on_cursor c ≡ true → walk.Answers w v c made result → Answers w v c made result
 walked_answers w v c made (Ok x) h a = now-on-cursors w c (uses_one c h) ∙ a
@@ -131,12 +135,27 @@ module _ {C : Type 0} {reads : List ℕ → Option Store} {place : C → ℕ} {s
 
   -- a refusal leaves the cursors
   pub refuses : (v : World) (r : Refusal) → answer_now w c ≡ (v, plain.Reply.refused r) → answer_now (with_cursors ks w) c ≡ (with_cursors ks v, plain.Reply.refused r)
-  refuses v r no = whole ∙ ap {A = World} (λ x. (x, (answer_now w c).1)) (subst (λ v. IsSettled (with_cursors ks v)) (sym (refused_stays w c r (ap (λ (a : World × plain.Reply). a.1) no))) (s.settled t))
-      ∙ ap (λ (a : World × plain.Reply). (with_cursors ks a.0, a.1)) no
+  refuses v r refusing = whole ∙ ap {A = World} (λ x. (x, (answer_now w c).1)) (subst (λ v. IsSettled (with_cursors ks v)) (sym (refused_stays w c r (ap (λ (a : World × plain.Reply). a.1) refusing))) (s.settled t))
+      ∙ ap (λ (a : World × plain.Reply). (with_cursors ks a.0, a.1)) refusing
 
   -- and else they are settled
   pub settled_after : (v later : World) (r : plain.Reply) → answer_now w c ≡ (v, r) → later ≡ settle (with_cursors ks v) → answer_now (with_cursors ks w) c ≡ (later, r)
   settled_after v later r done is = whole ∙ ap (λ (a : World × plain.Reply). (settle (with_cursors ks a.0), a.1)) done ∙ ap {A = World} (λ x. (x, r)) (sym is)
+
+  -- the same of what is answered
+  pub done_answers : (v : World) (reply : Reply) → settles c ≡ false → answer_now w c ≡ (v, said reply) → (ls : List (Option Cursor)) → ls ≡ ks → Answers (with_cursors ks w) (with_cursors ls v) c said (Ok reply)
+  done_answers v reply few done ls same = still v (said reply) few done ∙ ap (λ xs. (with_cursors xs v, said reply)) (sym same)
+
+  pub fault_answers : (v : World) (fault : Fault) → Answers w v c said (Err fault) → (ls : List (Option Cursor)) → ls ≡ ks → Answers (with_cursors ks w) (with_cursors ls v) c said (Err fault)
+  fault_answers v (Refused r) h ls same = refuses v r h ∙ ap (λ xs. (with_cursors xs v, plain.Reply.refused r)) (sym same)
+  fault_answers v (Ends stop) h ls same = tt
+
+  pub settled_answers : (v later : World) (reply : Reply) (result : Result Reply Fault) → answer_now w c ≡ (v, said reply) → (ls : List (Option Cursor)) → ls ≡ ks → OnOk result (later ≡ settle (with_cursors ls v))
+      → IfOk result (λ same. same ≡ reply) → IfErr result (λ fault. IsEnd fault) → Answers (with_cursors ks w) later c said result
+  settled_answers v later reply (Ok x) done ls desk on same ends =
+      settled_after v later (said x) (done ∙ ap (λ r. (v, said r)) (sym same)) (on ∙ ap (λ xs. settle (with_cursors xs v)) desk)
+  settled_answers v later reply (Err (Refused r)) done ls desk on same ends = absurd ends
+  settled_answers v later reply (Err (Ends stop)) done ls desk on same ends = tt
 
   pub apart_after : (v : World) (r : plain.Reply) → answer_now w c ≡ (v, r) → MountedApart v
   apart_after v r done = subst MountedApart (ap (λ (a : World × plain.Reply). a.0) done) (now-mounted-apart w c (s.apart t))
@@ -156,3 +175,10 @@ stands_after {T} {C} {reads} told units later ks ls o p s stand eight desk c mad
   apart = λ t. goes_apart (world_with reads units ks o) (world_with reads later ls p) c made result (s.apart t) (answers t) goes;
   settled = λ t. goes_settled (world_with reads units ks o) (world_with reads later ls p) c made result (s.settled t) (answers t) goes;
 }
+
+-- where devices are read alone, nothing happens to them
+pub quiet_with : {C : Type 0} {reads : List ℕ → Option Store} {place : C → ℕ} {soups : C → Store} {stands : Bool → C → Outside → Type 0} → Laws reads place soups stands
+    → (told : Bool) (units : Units C) (ks : List (Option Cursor)) (o p : Outside) → Standing reads place stands told units ks o → IsTrue told → p.now ≡ o.now → (v : World)
+    → Always (Answering reads (world_with reads units ks o) v o.now) o.now p.now
+quiet_with {reads} l told units ks o p s t same v = subst (λ m. Always (Answering reads (world_with reads units ks o) v o.now) o.now m) (sym same)
+    (Always-map (λ m a. record { quiet = a.quiet; stores = a.stores; others = a.others }) (quiet l told units o s.eight s.stand t v))

@@ -66,21 +66,17 @@ impl<C: Card> World<C> {
                 shown(newt_walk::moveby(units, desk, host, *cursor, *by))
             }
             Command::Goto(cursor, unit, uid) => {
-                shown(newt_walk::goto(units, desk, host, *cursor, *unit, *uid))
+                shown(newt_walk::go_to(units, desk, host, *cursor, *unit, *uid))
             }
             Command::Gotokey(cursor, graph) => {
-                shown(newt_walk::gotokey(units, desk, host, *cursor, graph))
+                shown(newt_walk::go_to_key(units, desk, host, *cursor, graph))
             }
             _ => self.change_places(host, command),
         }
     }
 
     /// Opens, counts, clones or closes a cursor, or tells its side.
-    fn change_places<H: Host>(
-        &mut self,
-        host: &mut H,
-        command: &Command,
-    ) -> Result<Reply, Fault>
+    fn change_places<H: Host>(&mut self, host: &mut H, command: &Command) -> Result<Reply, Fault>
         requires desk { DeskFits self.old.desk }
         requires stands { Stands C.place C.stands H.told self.old.units (H.outside host.old) }
         requires on_place { on_place command.now ≡ true }

@@ -8,6 +8,7 @@ ghost use Rattle.newt_units.specs.Answers.{Answers};
 ghost use Rattle.newt_units.specs.Faults.{GoesOn, HasFaultCause, IsRefusal, NoDevice, OnDevices};
 ghost use Rattle.newt_units.specs.Stands.{Stands, world_of};
 ghost use Rattle.newt_engine.specs.Ends.{takes_memory, uses_device};
+ghost use Rattle.newt_engine.specs.Groups.{on_cursor};
 
 use crate::world::World;
 use newt_base::Uid;
@@ -20,6 +21,7 @@ impl<C: Card> World<C> {
     /// Obeys a command. A fault is its refusal, or the end of the run.
     pub(crate) fn obey<H: Host>(&mut self, host: &mut H, command: Command) -> Result<Reply, Fault>
         requires stands { Stands C.place C.stands H.told self.old.units (H.outside host.old) }
+        requires no_cursor { on_cursor command ≡ false }
         ensures stands { GoesOn result → Stands C.place C.stands H.told self.new.units (H.outside host.new) }
         ensures answered { IsTrue H.told → Answers (world_of C.reads self.old.units (H.outside host.old)) (world_of C.reads self.new.units (H.outside host.new)) command said result }
         ensures moments { IsTrue H.told → let w = world_of C.reads self.old.units (H.outside host.old) in

@@ -1,5 +1,5 @@
 //! What the commands of cursors answer, as replies.
-ghost use Rattle.std.specs.Prelude.{IfErr};
+ghost use Rattle.std.specs.Prelude.{◌≡◌, IfErr};
 ghost use Rattle.newt_host.specs.Outside.{Outside};
 ghost use Rattle.newt_reply.specs.Said.{said};
 ghost use Rattle.newt_spec_world.specs.declared.command.Command.{Command as IsCommand};
@@ -9,7 +9,7 @@ ghost use Rattle.newt_units.specs.Faults.{HasFaultCause};
 ghost use Rattle.newt_walk.specs.Replies.{Answers, shown_reply, side_reply};
 
 use newt_reply::Reply;
-use newt_units::{Entry, Fault};
+use newt_units::Fault;
 use newt_walk::{Shown, Side};
 
 /// What a cursor shows.
@@ -18,13 +18,19 @@ pub(crate) fn shown(found: Result<Shown, Fault>) -> Result<Reply, Fault>
     ensures cause { (old new : Outside) → IfErr found (λ fault. HasFaultCause fault old new) → IfErr result (λ fault. HasFaultCause fault old new) }
 {
     match found {
-        Ok(Shown::Nil) => Ok(Reply::Nil),
-        Ok(Shown::Deleted) => Ok(Reply::Deleted),
-        Ok(Shown::Entry(unit, entry)) => {
-            let Entry { uid, time, graph } = entry;
-            Ok(Reply::Current(unit, uid, time, graph))
-        }
+        Ok(shown) => Ok(shown_reply(shown)),
         Err(fault) => Err(fault),
+    }
+}
+
+/// The reply that shows where a cursor stands.
+fn shown_reply(shown: Shown) -> Reply
+    ensures { said result ≡ shown_reply shown }
+{
+    match shown {
+        Shown::Nil => Reply::Nil,
+        Shown::Deleted => Reply::Deleted,
+        Shown::Entry(unit, entry) => Reply::Current(unit, entry.uid, entry.time, entry.graph),
     }
 }
 

@@ -42,9 +42,12 @@ chosen-few f (x ∷ xs) = go (f x) (chosen-few f xs)
     go None h = omega (arith, h)
     go (Some y) h = omega (arith, h)
 
-chosen-map : {X Y Z : Type 0} (f : Y → Option Z) (g : X → Y) (xs : List X) → filter_map f (map g xs) ≡ filter_map (λ x. f (g x)) xs
+pub chosen-map : {X Y Z : Type 0} (f : Y → Option Z) (g : X → Y) (xs : List X) → filter_map f (map g xs) ≡ filter_map (λ x. f (g x)) xs
 chosen-map f g [] = refl
 chosen-map f g (x ∷ xs) = ap (cons_option (f (g x))) (chosen-map f g xs)
+
+abbrev rest_from : ℕ → List (Option Device) → List (ℕ × Store)
+rest_from n ds = filter_map (λ d. option_map (λ s. (d.0, s)) (on_unit d.1)) (enumerate_from (n + 1) ds)
 
 -- the store of a signature, with its unit and without
 find-store : (sig n : ℕ) (ds : List (Option Device))
@@ -52,19 +55,13 @@ find-store : (sig n : ℕ) (ds : List (Option Device))
 find-store sig n [] = refl
 find-store sig n (d ∷ ds) = go (on_unit d) (find-store sig (n + 1) ds)
   where
-    abbrev paired : ℕ × Option Device → Option (ℕ × Store)
-    paired d = option_map (λ s. (d.0, s)) (on_unit d.1)
-
-    abbrev rest : List (ℕ × Store)
-    rest = filter_map paired (enumerate_from (n + 1) ds)
-
-    at : (t : Store) (b : Bool) → find (λ t. t.sig == sig) (filter_map on_unit ds) ≡ option_map (λ m. m.1) (find (λ m. m.1.sig == sig) rest)
-        → cond b (Some t) (find (λ t. t.sig == sig) (filter_map on_unit ds)) ≡ option_map (λ m. m.1) (cond b (Some (n, t)) (find (λ m. m.1.sig == sig) rest))
+    at : (t : Store) (b : Bool) → find (λ t. t.sig == sig) (filter_map on_unit ds) ≡ option_map (λ m. m.1) (find (λ m. m.1.sig == sig) (rest_from n ds))
+        → cond b (Some t) (find (λ t. t.sig == sig) (filter_map on_unit ds)) ≡ option_map (λ m. m.1) (cond b (Some (n, t)) (find (λ m. m.1.sig == sig) (rest_from n ds)))
     at t true h = refl
     at t false h = h
 
-    go : (o : Option Store) → find (λ t. t.sig == sig) (filter_map on_unit ds) ≡ option_map (λ m. m.1) (find (λ m. m.1.sig == sig) rest)
-        → find (λ t. t.sig == sig) (cons_option o (filter_map on_unit ds)) ≡ option_map (λ m. m.1) (find (λ m. m.1.sig == sig) (cons_option (option_map (λ s. (n, s)) o) rest))
+    go : (o : Option Store) → find (λ t. t.sig == sig) (filter_map on_unit ds) ≡ option_map (λ m. m.1) (find (λ m. m.1.sig == sig) (rest_from n ds))
+        → find (λ t. t.sig == sig) (cons_option o (filter_map on_unit ds)) ≡ option_map (λ m. m.1) (find (λ m. m.1.sig == sig) (cons_option (option_map (λ s. (n, s)) o) (rest_from n ds)))
     go None h = h
     go (Some t) h = at t (t.sig == sig) h
 

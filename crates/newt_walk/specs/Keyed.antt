@@ -1,8 +1,21 @@
--- The key that a cursor takes.
-use Rattle.std.specs.Prelude.{Option, option_map}
+-- Where a cursor stands, and the key that it takes.
+use Rattle.std.specs.Prelude.{Option, Some, None, option_map, find}
+use Rattle.std.specs.Borrow.{Bor}
 use Rattle.newt_spec_store.specs.Keys.{Key}
-use Rattle.newt_spec_query.specs.Cursor.{Cursor, hit_at}
+use Rattle.newt_spec_query.specs.Hits.{Query, Hit}
+use Rattle.newt_spec_query.specs.Cursor.{Cursor, start, finish, on, hit_at}
 use Rattle.newt_spec_world.specs.World.{World, hits_of}
+use Rattle.newt_cursor.specs.Seen.{query_of, place_of}
+use Rattle.newt_cursor.specs.declared.query.Query as code
+use Rattle.newt_cursor.specs.declared.place.Place as codes
+
+-- a query and a place that are lent, as a cursor (a word of these definitions)
+abbrev pub seen_cursor : Bor code.Query × Bor codes.Place → Cursor
+seen_cursor x = record { query = query_of x.0.now; place = place_of x.1.now }
+
+-- the query and the hit of a cursor that stands on one (a word of these definitions)
+abbrev pub stands_on : Cursor → Option (Query × Hit)
+stands_on k = elim k.place [ start ↦ None | finish ↦ None | on h ↦ Some (k.query, h) ]
 
 -- the present key of the entry on which a cursor stands; none where it is on no entry, or its entry is no hit (this project's own)
 abbrev pub key_now : World → Cursor → Option Key

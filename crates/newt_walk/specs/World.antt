@@ -15,7 +15,7 @@ world_with reads units cursors outside = with_cursors cursors (world_of reads un
 
 -- Units and devices were read alone: they stand for the same world as before, and nothing has happened. (this project's own)
 pub record AreRead {C : Type 0} (reads : List ℕ → Option Store) (place : C → ℕ) (stands : Bool → C → Outside → Type 0) (told : Bool) (units later : Units C) (old new : Outside) : Type 0 where
-  pub stands : Stands place stands told later new
+  pub stand : Stands place stands told later new
   pub world : IsTrue told → world_of reads later new ≡ world_of reads units old
   pub moment : new.now ≡ old.now
   pub alone : OnDevices old new

@@ -5,6 +5,7 @@
 //! as that world answers it, and leaves what stands for the world after it; and nothing happens to a device but reading.
 #![tactic(auto)]
 
+mod desks;
 mod keep;
 mod places;
 mod present;

@@ -10,8 +10,9 @@ ghost use Rattle.newt_walk.specs.Fits.{DeskFits};
 ghost use Rattle.newt_walk.specs.Keyed.{key_now};
 ghost use Rattle.newt_walk.specs.World.{AreRead, world_with};
 
+use crate::desks::standing;
 use crate::present::find_hit;
-use newt_cursor::{Desk, Place};
+use newt_cursor::Desk;
 use newt_host::Host;
 use newt_keys::Key;
 use newt_pagebook::Stop;
@@ -75,7 +76,7 @@ fn present_key<C: Card, H: Host>(
         IfOk result (λ found. found ≡ option_and_then (key_now w) (flat (slice_get desk.now cursor))) }
     ensures cause { IfErr result (λ stop. HasStopCause stop (H.outside host.old) (H.outside host.new)) }
 {
-    let (Some(query), Some(Place::On(spot))) = (desk.query(cursor), desk.place(cursor)) else {
+    let Some((query, spot)) = standing(desk, cursor) else {
         return Ok(None);
     };
     match find_hit(units, host, query, spot.store, spot.soup, spot.uid)? {

@@ -1,15 +1,16 @@
 //! What a cursor shows.
-ghost use Rattle.std.specs.Prelude.{◌≡◌, IsTrue, IfErr, IfOk};
+ghost use Rattle.std.specs.Prelude.{◌≡◌, IsTrue, IfErr, IfOk, slice_get};
 ghost use Rattle.newt_spec_world.specs.Answer.{current, or_nil};
-ghost use Rattle.newt_spec_world.specs.World.{cursor};
+ghost use Rattle.newt_spec_world.specs.World.{flat};
 ghost use Rattle.newt_laws.specs.Settled.{MountedApart};
 ghost use Rattle.newt_units.specs.Faults.{HasStopCause};
 ghost use Rattle.newt_units.specs.Stands.{Stands};
 ghost use Rattle.newt_walk.specs.Replies.{shown_reply};
 ghost use Rattle.newt_walk.specs.World.{AreRead, world_with};
 
+use crate::desks::standing;
 use crate::present::find_hit;
-use newt_cursor::{Desk, Place};
+use newt_cursor::Desk;
 use newt_host::{Host, Unit};
 use newt_pagebook::Stop;
 use newt_units::{Card, Entry, Units};
@@ -46,10 +47,10 @@ pub(crate) fn show<C: Card, H: Host>(
     requires { Stands C.place C.stands H.told units.old (H.outside host.old) }
     ensures read { AreRead C.reads C.place C.stands H.told units.old units.new (H.outside host.old) (H.outside host.new) }
     ensures shown { IsTrue H.told → let w = world_with C.reads units.old desk.now (H.outside host.old) in MountedApart w →
-        IfOk result (λ shown. shown_reply shown ≡ or_nil (current w) (cursor w cursor)) }
+        IfOk result (λ shown. shown_reply shown ≡ or_nil (current w) (flat (slice_get desk.now cursor))) }
     ensures cause { IfErr result (λ stop. HasStopCause stop (H.outside host.old) (H.outside host.new)) }
 {
-    let (Some(query), Some(Place::On(spot))) = (desk.query(cursor), desk.place(cursor)) else {
+    let Some((query, spot)) = standing(desk, cursor) else {
         return Ok(Shown::Nil);
     };
     match find_hit(units, host, query, spot.store, spot.soup, spot.uid)? {
