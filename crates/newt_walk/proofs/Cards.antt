@@ -16,7 +16,10 @@ use Rattle.newt_index.specs.Range.{range_of}
 use Rattle.newt_laws_hits.specs.Located.{takes_part}
 use Rattle.newt_laws_hits.specs.Taking.{declared}
 use Rattle.newt_units.specs.Cards.{soup_of}
-use Rattle.newt_units.proofs.Known.{Laws}
+use Rattle.newt_laws_answers.specs.There.{OnUnit}
+use Rattle.newt_units.specs.declared.units.Units.{Units}
+use Rattle.newt_units.specs.Stands.{Stands, Eight, card_at, world_of}
+use Rattle.newt_units.proofs.Known.{Laws, on-known}
 
 -- a soup without its entries
 abbrev bare_soup : Soup → Soup
@@ -77,3 +80,17 @@ no-name soup s t p known at e =
     mapped : (o : Option Soup) → option_map (λ p. p.name) o ≡ option_and_then (λ p. Some p.name) o
     mapped None = refl
     mapped (Some p) = refl
+
+-- ---- the card of a unit
+
+module _ {C : Type 0} {reads : List ℕ → Option Store} {place : C → ℕ} {soups : C → Store} {stands : Bool → C → Outside → Type 0} (l : Laws reads place soups stands)
+    (units : Units C) (o : Outside) (e : Eight o) (s : Stands place stands true units o) (u blocks : ℕ) (t : Store) (on : OnUnit (world_of reads units o) u blocks t) where
+  pub on-card : (card : C) → Some card ≡ card_at units.slots.items u → stands true card o × (reads (image (place card) o.now) ≡ Some t) × (bare t ≡ soups card)
+  on-card card is =
+      let k = on-known l units o e s u blocks t on in
+      let c = s.cards u card (sym is) in
+      let r = ap (λ n. reads (image n o.now)) c.1 ∙ k.3 in
+      (c.0, r, card-bare l card o t c.0 r)
+
+  pub no-card : None ≡ card_at units.slots.items u → ⊥
+  no-card is = let k = on-known l units o e s u blocks t on in none-some k.0 (is ∙ k.1)

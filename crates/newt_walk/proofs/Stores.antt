@@ -50,7 +50,7 @@ abbrev rest_from : ℕ → List (Option Device) → List (ℕ × Store)
 rest_from n ds = filter_map (λ d. option_map (λ s. (d.0, s)) (on_unit d.1)) (enumerate_from (n + 1) ds)
 
 -- the store of a signature, with its unit and without
-find-store : (sig n : ℕ) (ds : List (Option Device))
+pub find-store : (sig n : ℕ) (ds : List (Option Device))
     → find (λ t. t.sig == sig) (filter_map on_unit ds) ≡ option_map (λ m. m.1) (find (λ m. m.1.sig == sig) (filter_map (λ d. option_map (λ s. (d.0, s)) (on_unit d.1)) (enumerate_from n ds)))
 find-store sig n [] = refl
 find-store sig n (d ∷ ds) = go (on_unit d) (find-store sig (n + 1) ds)
