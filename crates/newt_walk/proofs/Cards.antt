@@ -62,6 +62,10 @@ range-some (i ∷ index) p = go p.specs
     go [] = refl
     go (d ∷ ds) = by d ds (same_spec (i ∷ index) d) (go ds)
 
+pub some-map : {X Y : Type 0} (f : X → Y) (o : Option X) → is_some o ≡ is_some (option_map f o)
+some-map f None = refl
+some-map f (Some x) = refl
+
 pub carried : (soup : ℕ) (index : IndexSpec) (s : Store) (p : Soup) → soup_of soup s ≡ Some p → is_some (range_in soup (declared index) s) ≡ carries index p
 carried soup index s p at = ap (λ (o : Option Soup). is_some (option_and_then (range_of_soup (declared index)) o)) at ∙ range-some index p
 

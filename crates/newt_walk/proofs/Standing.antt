@@ -36,11 +36,11 @@ spot-there w h f e = go (find (λ m. m.1.sig == h.store) (mounted w)) refl (sym 
     soup u s None k = absurd (none-some f k)
     soup u s (Some p) k = entry u s p (entry_of h.uid p) k
 
-    go : (o : Option (ℕ × Store)) → find (λ m. m.1.sig == h.store) (mounted w) ≡ o → option_and_then (λ s. located_in s h.soup h.uid) (option_map (λ m. m.1) (find (λ m. m.1.sig == h.store) (mounted w))) ≡ Some f
+    go : (o : Option (ℕ × Store)) → find (λ m. m.1.sig == h.store) (mounted w) ≡ o → option_and_then (λ s. located_in s h.soup h.uid) (option_map (λ (m : ℕ × Store). m.1) (find (λ m. m.1.sig == h.store) (mounted w))) ≡ Some f
         → (s : Spot) × (spot_of w h ≡ Some s)
-    go None i k = absurd (none-some f (sym (ap (λ (o : Option (ℕ × Store)). option_and_then (λ s. located_in s h.soup h.uid) (option_map (λ m. m.1) o)) i) ∙ k))
+    go None i k = absurd (none-some f (sym (ap (λ (o : Option (ℕ × Store)). option_and_then (λ s. located_in s h.soup h.uid) (option_map (λ (m : ℕ × Store). m.1) o)) i) ∙ k))
     go (Some (u, s)) i k =
-        let r = soup u s (soup_of h.soup s) (sym (ap (λ (o : Option (ℕ × Store)). option_and_then (λ s. located_in s h.soup h.uid) (option_map (λ m. m.1) o)) i) ∙ k) in
+        let r = soup u s (soup_of h.soup s) (sym (ap (λ (o : Option (ℕ × Store)). option_and_then (λ s. located_in s h.soup h.uid) (option_map (λ (m : ℕ × Store). m.1) o)) i) ∙ k) in
         (r.0, ap (λ (o : Option (ℕ × Store)). option_and_then {U = Spot} (λ m. option_and_then (λ p. option_map (λ e. record { unit = m.0; soup = p; entry = e }) (entry_of h.uid p)) (soup_of h.soup m.1)) o) i ∙ r.1)
 
 module _ (w : World) (apart : MountedApart w) (formed : Each (λ s. IsTrue (well_formed s)) (mounted_stores w)) where

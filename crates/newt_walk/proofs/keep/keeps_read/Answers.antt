@@ -1,5 +1,5 @@
 -- What was read decides.
-use Rattle.std.proofs.Common.{◌≡◌, ◌∙◌, ap, sym, subst, ◌&&◌, Option}
+use Rattle.std.proofs.Common.{◌≡◌, ◌∙◌, ap, sym, subst, ◌&&◌, Option, true}
 use Rattle.newt_cursor.specs.Seen.{query_of, hit_of}
 use Rattle.newt_query.specs.Filter.{in_range}
 use Rattle.newt_spec_store.specs.Store.{TagTable}

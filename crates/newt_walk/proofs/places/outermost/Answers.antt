@@ -1,5 +1,5 @@
 -- The first that is found, and on from there.
-use Rattle.std.proofs.Common.{◌≡◌, ◌∙◌, ap, sym, subst, option_map}
+use Rattle.std.proofs.Common.{◌≡◌, ◌∙◌, ap, sym, subst, option_map, true}
 use Rattle.std.proofs.lemmas.Result.{IfOk-weaker}
 use Rattle.newt_cursor.specs.Seen.{query_of, place_of, hit_of}
 use Rattle.newt_cursor.specs.declared.place.Place.{Place}

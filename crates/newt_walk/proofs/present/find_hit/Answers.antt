@@ -1,5 +1,5 @@
 -- The store, the soup and the entry are looked up.
-use Rattle.std.proofs.Common.{◌≡◌, ◌∙◌, ap, sym, subst}
+use Rattle.std.proofs.Common.{◌≡◌, ◌∙◌, ap, sym, subst, true}
 use Rattle.std.specs.Prelude.{is_some}
 use Rattle.newt_cursor.specs.Seen.{query_of}
 use Rattle.newt_spec_world.specs.World.{World}
