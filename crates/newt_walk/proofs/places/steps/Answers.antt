@@ -15,7 +15,11 @@ pub steps-init : goal.steps-init
 steps-init g c = record {
   read = not-read c.requires.stands;
   fits = c.requires.fits;
-  left = λ t apart. refl;
+  left = λ t apart.
+      let w = world_of g.C.Card.reads c.args.units.now (g.H.Host.outside c.args.host.now) in
+      let q = query_of c.args.query.now in
+      let none : c.args.count ≡ c.args.count - 0 = omega arith in
+      ap (λ n. repeated n (stepping c.args.way (hits_of w q) q.spec.index) (place_of c.args.from)) none;
 }
 
 pub returns-then-is_at_edge-clause-read : goal.returns-then-is_at_edge-clause-read

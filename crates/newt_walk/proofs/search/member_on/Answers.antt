@@ -63,7 +63,7 @@ returns-then-agrees-clause-found g c outside eight stands =
     let r = on-card laws c.args.units.now outside eight stands c.args.unit (outside.blocks c.args.unit) k.store k.on c.in_ok-card.card.now c.in_ok-card.ensures in
     let found = c.in_ok-range.ensures.stands outside k.store r.0 r.1 ∙ ap (λ i. range_in c.in_ok-soup.soup i k.store) c.index_of.ensures in
     let q = query_of c.args.query.now in
-    (λ i. Some (record { store = (c.sig-2.ensures ∙ sym (ap (λ (t : Store). t.sig) k.known)) i; soup = c.in_ok-soup.soup; range = c.in_ok-range.range.now }))
+    (λ i. Some (record { store = (c.sig-then-agrees.ensures ∙ sym (ap (λ (t : Store). t.sig) k.known)) i; soup = c.in_ok-soup.soup; range = c.in_ok-range.range.now }))
     ∙ ap (option_map {U = Member} (λ (v : Sorted). record { store = k.store.sig; soup = c.in_ok-soup.soup; range = v })) found
     ∙ sym (unit-soup q w c.args.unit k.store (is-mounted w c.args.unit (outside.blocks c.args.unit) k.store k.on)
     (c.if-not-in_scope.ensures k.store (ap (λ (t : Store). t.sig) k.known ∙ sym c.sig.ensures)) c.in_ok-soup.soup
