@@ -94,8 +94,8 @@ fn members<'a, C: Card>(units: &'a Units<C>, query: &Query) -> Result<Members<'a
 {
     let mut members = Members::new(units.alloc());
     for number in 0..UNITS {
-        if let Some((store, soup, range)) = member_on(units, Unit(number), query) {
-            members.add(store, soup, range)?;
+        if let Some(member) = member_on(units, Unit(number), query) {
+            members.add(member.0, member.1, member.2)?;
         }
     }
     Ok(members)

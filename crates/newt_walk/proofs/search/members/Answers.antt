@@ -21,9 +21,8 @@ loop-number-init g c = record {
 pub loop-number-preserved : goal.loop-number-preserved
 loop-number-preserved g c = elim c.match-member_on.branch [
   | in-Some+in_ok-add w ↦
-      let m : Member = record { store = w.in-Some.store; soup = w.in-Some.soup; range = w.in-Some.range.now } in
-      let is = w.members-is ∙ w.in_ok-add.ensures.ok
-          ∙ (λ i. c.loop-number.members ++ record { store = w.in-Some.store-is i; soup = w.in-Some.soup-is i; range = (w.in-Some.range-is i).now } ∷ []) in
+      let m : Member = seen_member w.in-Some.member in
+      let is = w.members-is ∙ w.in_ok-add.ensures.ok in
       record {
         are = subst (AreMembers c.args.query.now.spec.index) (sym is)
             (one-member c.args.query.now.spec.index c.loop-number.members m c.loop-number.invariant.are w.in-Some.ensures.sorted.1 w.in-Some.ensures.sorted.0);
