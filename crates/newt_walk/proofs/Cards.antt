@@ -1,19 +1,16 @@
 -- What a card that is mounted knows of its store.
-use Rattle.std.proofs.Common.{◌≡◌, refl, ap, sym, ◌∙◌, subst, ℕ, List, [], ◌∷◌, Bool, true, false, ◌&&◌, ◌||◌, cond, map, find, Option, Some, None, option_map, option_and_then, ◌==◌}
+use Rattle.std.proofs.Common.{◌≡◌, refl, ap, sym, ◌∙◌, subst, ℕ, List, [], ◌∷◌, Bool, true, false, ◌||◌, cond, map, find, Option, Some, None, option_map, option_and_then, ◌==◌}
 use Rattle.std.specs.Prelude.{is_some}
 use Rattle.std.specs.List.{list_any}
-use Rattle.newt_base.specs.Names.{equal_text}
 use Rattle.newt_host.specs.Moments.{image}
 use Rattle.newt_host.specs.Outside.{Outside}
 use Rattle.newt_spec_graph.proofs.Lists.{some-same, none-some}
 use Rattle.newt_spec_store.specs.Keys.{IndexSpec, same_spec}
 use Rattle.newt_spec_store.specs.Laid.{bare}
-use Rattle.newt_spec_store.specs.Store.{Store, Soup, soup_named}
-use Rattle.newt_spec_query.specs.Hits.{Query, in_scope, carries}
+use Rattle.newt_spec_store.specs.Store.{Store, Soup}
+use Rattle.newt_spec_query.specs.Hits.{carries}
 use Rattle.newt_ranges.specs.Range.{range_in, range_of_soup}
-use Rattle.newt_index.specs.Pairs.{Sorted}
 use Rattle.newt_index.specs.Range.{range_of}
-use Rattle.newt_laws_hits.specs.Located.{takes_part}
 use Rattle.newt_laws_hits.specs.Taking.{declared}
 use Rattle.newt_units.specs.Cards.{soup_of}
 use Rattle.newt_laws_answers.specs.There.{OnUnit}

@@ -1,13 +1,13 @@
 -- Units and devices that are read alone, call after call.
-use Rattle.std.proofs.Common.{arith, ◌≡◌, refl, sym, ◌∙◌, ap, subst, ℕ, ◌≤◌, Bool, true, IsTrue, List, Option}
-use Rattle.std.specs.Prelude.{Result, Ok, Err, IfErr}
+use Rattle.std.proofs.Common.{arith, ◌≡◌, refl, sym, ◌∙◌, ap, subst, ℕ, Bool, List, Option}
+use Rattle.std.specs.Prelude.{Result, Err, IfErr}
 use Rattle.newt_host.specs.Outside.{Outside}
 use Rattle.newt_pagebook.specs.declared.book.Stop.{Stop}
 use Rattle.newt_pagebook.specs.declared.book.Stop.TheVariants.{Memory, Device}
 use Rattle.newt_spec_store.specs.Store.{Store}
 use Rattle.newt_units.specs.declared.units.Units.{Units}
 use Rattle.newt_units.specs.Faults.{HasStopCause, OnDevices}
-use Rattle.newt_units.specs.Stands.{Stands, world_of}
+use Rattle.newt_units.specs.Stands.{Stands}
 use Rattle.newt_walk.specs.World.{AreRead}
 
 pub devices-not : (o : Outside) → OnDevices o o

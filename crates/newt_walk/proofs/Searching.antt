@@ -12,7 +12,7 @@ use Rattle.newt_spec_store.specs.declared.Kind.{Kind}
 use Rattle.newt_spec_store.specs.declared.Kind.TheVariants as kind
 use Rattle.newt_spec_store.specs.declared.Order.{Order}
 use Rattle.newt_spec_store.specs.declared.Order.TheVariants as order
-use Rattle.newt_spec_store.specs.Keys.{IndexPart, IndexSpec, Key, same_kind, same_direction, same_part, same_spec}
+use Rattle.newt_spec_store.specs.Keys.{IndexSpec, Key, same_kind, same_direction, same_part, same_spec}
 use Rattle.newt_spec_store.specs.Store.{Store, Soup, soup_named}
 use Rattle.newt_spec_store.proofs.Sorting.{among-fold}
 use Rattle.newt_spec_query.specs.Hits.{Query, Hit, hit_cmp, in_scope}
@@ -23,10 +23,10 @@ use Rattle.newt_index.specs.declared.identity.Spot.{Spot}
 use Rattle.newt_cursor.specs.Seen.{hit_of}
 use Rattle.newt_keys.specs.KeyForm.{IsKeyOf}
 use Rattle.newt_laws_changes.proofs.Chosen.{find-passes}
-use Rattle.newt_index.specs.Pairs.{Pair, IsPair, IsSorted, Sorted, parts_of, first, last}
+use Rattle.newt_index.specs.Pairs.{Pair, IsPair, IsSorted, Sorted, parts_of}
 use Rattle.newt_index.specs.Range.{range_of}
 use Rattle.newt_ranges.specs.Range.{range_in, range_of_soup}
-use Rattle.newt_union.specs.Merged.{Member, hit, hits_of, merged, Agree, AllAgree, IsKeyIn, after, before, at_or_after}
+use Rattle.newt_union.specs.Merged.{Member, hit, hits_of, merged, Agree, AllAgree, IsKeyIn, at_or_after}
 use Rattle.newt_union.specs.Seen.{AreSorted}
 use Rattle.newt_union.proofs.Orders.{same_keys}
 use Rattle.newt_laws_answers.specs.WorldAt.{device_at}
@@ -242,7 +242,7 @@ module _ {C : Type 0} {reads : List ℕ → Option Store} {place : C → ℕ} {s
   unit-members q =
       (λ i. filter_map (λ u. option_and_then (member_in q) (on_unit (at-device l units o e s u i))) unit_numbers)
       ∙ sym (ap (filter_map (member_in q)) (chosen-map on_unit (device_at reads (mounted_in units.slots.items) o) unit_numbers)
-        ∙ chosen-twice (member_in q) (λ u. on_unit (device_at reads (mounted_in units.slots.items) o u)) unit_numbers)
+      ∙ chosen-twice (member_in q) (λ u. on_unit (device_at reads (mounted_in units.slots.items) o u)) unit_numbers)
       ∙ sym (chosen-kept (λ (s : Store). option_and_then (member_of q s) (soup_named q.name s)) (in_scope q.scope) (mounted_stores (world_of reads units o)))
 
 -- a unit more

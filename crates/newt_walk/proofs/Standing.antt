@@ -1,8 +1,7 @@
 -- A cursor that stands on a hit.
-use Rattle.std.proofs.Common.{◌≡◌, refl, ap, sym, ◌∙◌, subst, ℕ, List, Bool, true, find, Option, Some, None, option_map, option_and_then, ◌==◌, IsTrue}
+use Rattle.std.proofs.Common.{◌≡◌, refl, ap, sym, ◌∙◌, ℕ, find, Option, Some, None, option_map, option_and_then, ◌==◌, IsTrue}
 use Rattle.newt_spec_graph.specs.Lists.{Each}
 use Rattle.newt_spec_graph.proofs.Lists.{some-same, none-some}
-use Rattle.newt_spec_store.specs.Keys.{Key}
 use Rattle.newt_spec_store.specs.Store.{Store, Soup, Entry, entry_of}
 use Rattle.newt_spec_store.specs.Valid.{well_formed}
 use Rattle.newt_spec_query.specs.Hits.{Query, Hit}

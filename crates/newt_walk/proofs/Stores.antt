@@ -1,26 +1,26 @@
 -- The stores that are mounted, as the units know them.
-use Rattle.std.proofs.Common.{arith, ◌≡◌, refl, ap, sym, ◌∙◌, subst, ℕ, zero, suc, ◌+◌, ◌<◌, ◌≤◌, List, [], ◌∷◌, Bool, true, false, cond, map, find, length, Option, Some, None, option_map, option_and_then, IsTrue, ◌==◌}
+use Rattle.std.proofs.Common.{arith, ◌≡◌, refl, ap, sym, ◌∙◌, subst, ℕ, ◌+◌, ◌≤◌, List, [], ◌∷◌, Bool, true, false, cond, map, find, length, Option, Some, None, option_map, IsTrue, ◌==◌}
 use Rattle.std.specs.Prelude.{filter_map}
 use Rattle.std.specs.List.{enumerate_from, cons_option}
 use Rattle.std.proofs.lemmas.Bool.{eqb-true}
 use Rattle.newt_host.specs.Moments.{image}
 use Rattle.newt_host.specs.Outside.{Outside}
-use Rattle.newt_spec_graph.specs.Lists.{Each, Among}
+use Rattle.newt_spec_graph.specs.Lists.{Each}
 use Rattle.newt_spec_graph.proofs.Lists.{some-same, none-some}
 use Rattle.newt_spec_store.specs.Store.{Store}
 use Rattle.newt_spec_store.specs.Valid.{well_formed}
 use Rattle.newt_spec_world.specs.First.{media_of, unit_numbers}
-use Rattle.newt_spec_world.specs.World.{World, Device, on_unit, mounted, mounted_store, mounted_stores, store_of}
+use Rattle.newt_spec_world.specs.World.{World, Device, on_unit, mounted, mounted_stores, store_of}
 use Rattle.newt_laws_changes.proofs.Chosen.{find-passes}
-use Rattle.newt_laws_answers.specs.Faces.{faces, first_showing}
+use Rattle.newt_laws_answers.specs.Faces.{first_showing}
 use Rattle.newt_laws_answers.specs.There.{OnUnit}
 use Rattle.newt_laws_answers.specs.WorldAt.{device_at}
 use Rattle.newt_laws_answers.proofs.Faces.{find-none, find-found}
 use Rattle.newt_laws_answers.proofs.Units.{is-mounted}
 use Rattle.newt_units.specs.declared.units.Units.{Units}
 use Rattle.newt_units.specs.Faces.{card_faces}
-use Rattle.newt_units.specs.Stands.{Stands, Eight, card_at, mounted_in, world_of}
-use Rattle.newt_units.proofs.Known.{Laws, Plain, card-known}
+use Rattle.newt_units.specs.Stands.{Stands, Eight, mounted_in, world_of}
+use Rattle.newt_units.proofs.Known.{Laws, card-known}
 use Rattle.newt_units.proofs.Resolving.{showing-card}
 use Rattle.newt_units.proofs.Shown.{faces-known}
 
@@ -110,7 +110,7 @@ module _ {C : Type 0} {reads : List ℕ → Option Store} {place : C → ℕ} {s
       let c = showing-card soups units.slots.items sig u h in
       let k = card-known l units o e s u c.0 c.1 in
       let with : find (λ m. m.1.sig == sig) (mounted w) ≡ Some (u, k.store) =
-          find-found w sig u k.store (ap (first_showing sig) (faces-known l units o e s) ∙ h) (is-mounted w u (o.blocks u) k.store k.on) in
+      find-found w sig u k.store (ap (first_showing sig) (faces-known l units o e s) ∙ h) (is-mounted w u (o.blocks u) k.store k.on) in
       let only : find (λ t. t.sig == sig) (mounted_stores w) ≡ Some k.store = find-store sig 0 w.units ∙ ap (option_map (λ (m : ℕ × Store). m.1)) with in
       record {
         store = k.store;

@@ -1,21 +1,20 @@
 -- Walks among the hits of the merge.
-use Rattle.std.proofs.Common.{arith, ◌≡◌, refl, ap, sym, ◌∙◌, subst, ℕ, zero, suc, ◌+◌, ◌<◌, ◌≤◌, ◌^◌, List, [], ◌∷◌, Bool, true, false, cond, filter, length, Option, Some, None, IsTrue, ℤ, pos, negsuc, to_z, of_z}
+use Rattle.std.proofs.Common.{arith, ◌≡◌, refl, ap, sym, ◌∙◌, ℕ, zero, suc, ◌+◌, ◌<◌, ◌≤◌, ◌^◌, List, [], ◌∷◌, true, false, cond, filter, length, Option, Some, None, IsTrue, ℤ, pos, negsuc, to_z, of_z}
 use Rattle.std.specs.Prelude.{FitsSigned}
 use Rattle.std.specs.Int.{w32}
 use Rattle.std.specs.Int.Signed.{lt_z}
 use Rattle.std.proofs.Math.IntN.{nat_abs}
 use Rattle.std.proofs.lemmas.Int.{to_z-of_z}
 use Rattle.newt_spec_graph.specs.Lists.{Each}
-use Rattle.newt_spec_graph.proofs.Lists.{some-same, none-some}
 use Rattle.newt_spec_store.specs.Keys.{IndexSpec, Key}
 use Rattle.newt_spec_store.specs.Store.{Store}
 use Rattle.newt_spec_store.specs.Valid.{well_formed}
-use Rattle.newt_spec_query.specs.Hits.{Query, Hit, hits}
-use Rattle.newt_spec_query.specs.Cursor.{Place, start, finish, on, is_after, is_before, first_place, last_place, next_place, previous_place, place_at_key, repeated, moved}
+use Rattle.newt_spec_query.specs.Hits.{Query, Hit}
+use Rattle.newt_spec_query.specs.Cursor.{Place, start, finish, on, is_after, is_before, first_place, last_place, next_place, place_at_key, repeated, moved}
 use Rattle.newt_spec_world.specs.World.{World, mounted_stores, hits_of}
 use Rattle.newt_laws.specs.Settled.{MountedApart}
 use Rattle.newt_laws_changes.proofs.Soups.{filter-length}
-use Rattle.newt_union.specs.Merged.{Member, merged, after, before, at_or_after}
+use Rattle.newt_union.specs.Merged.{merged, at_or_after}
 use Rattle.newt_laws_hits.specs.Stripped.{passing, stripped}
 use Rattle.newt_laws_hits.specs.Taking.{members_of}
 use Rattle.newt_laws_hits.specs.Walk.{walked, count_after, count_before}

@@ -1,5 +1,5 @@
 -- What was read decides.
-use Rattle.std.proofs.Common.{◌≡◌, ◌∙◌, ap, sym, subst, ◌&&◌, Option, true}
+use Rattle.std.proofs.Common.{◌∙◌, ap, sym, subst, ◌&&◌, Option, true}
 use Rattle.newt_cursor.specs.Seen.{query_of, hit_of}
 use Rattle.newt_query.specs.Filter.{in_range}
 use Rattle.newt_spec_store.specs.Store.{TagTable}
@@ -7,7 +7,7 @@ use Rattle.newt_spec_query.specs.Hits.{passes}
 use Rattle.newt_spec_world.specs.World.{World}
 use Rattle.newt_laws_answers.specs.There.{OnUnit}
 use Rattle.newt_units.specs.Cards.{entry_said}
-use Rattle.newt_units.specs.Stands.{Stands, Eight, world_of}
+use Rattle.newt_units.specs.Stands.{Stands, Eight}
 use Rattle.newt_walk.specs.Present.{entry_of}
 use Rattle.newt_walk.proofs.Keeping.{there-kept, gone-not-kept}
 use Rattle.newt_walk.proofs.keep.keeps_read.Goals as goal

@@ -1,5 +1,5 @@
 -- A number that is not below zero is so many steps on.
-use Rattle.std.proofs.Common.{◌≡◌, ◌∙◌, sym}
+use Rattle.std.proofs.Common.{◌≡◌, ◌∙◌}
 use Rattle.std.proofs.lemmas.Result.{IfOk-weaker}
 use Rattle.newt_cursor.specs.Seen.{query_of, place_of}
 use Rattle.newt_cursor.specs.declared.place.Place.{Place}

@@ -1,12 +1,12 @@
 -- One step after another.
-use Rattle.std.proofs.Common.{arith, ◌≡◌, ◌∙◌, refl, ap, sym, subst, ℕ, suc, ◌+◌, ◌-◌}
+use Rattle.std.proofs.Common.{arith, ◌≡◌, ◌∙◌, ap, sym, subst, suc, ◌+◌, ◌-◌}
 use Rattle.std.proofs.lemmas.Result.{err_from_is_err_and}
 use Rattle.newt_cursor.specs.Seen.{query_of, place_of}
-use Rattle.newt_spec_query.specs.Cursor.{Place, repeated}
+use Rattle.newt_spec_query.specs.Cursor.{repeated}
 use Rattle.newt_spec_world.specs.World.{World, hits_of}
 use Rattle.newt_laws.specs.Settled.{MountedApart}
 use Rattle.newt_units.specs.Stands.{world_of}
-use Rattle.newt_walk.specs.Ways.{stepping, edge}
+use Rattle.newt_walk.specs.Ways.{stepping}
 use Rattle.newt_walk.proofs.Reading.{not-read, read-then, cause-since, handed}
 use Rattle.newt_walk.proofs.Walking.{repeated-edge, at-edge}
 use Rattle.newt_walk.proofs.places.steps.Goals as goal
@@ -55,7 +55,7 @@ steps-preserved g c = record {
       let q = query_of c.args.query.now in
       let same = c.steps.invariant.read.world t in
       let step = c.in_ok-place.ensures.place t (subst MountedApart (sym same) apart)
-          ∙ ap (λ (v : World). stepping c.args.way (hits_of v q) q.spec.index (place_of c.steps.place)) same in
+      ∙ ap (λ (v : World). stepping c.args.way (hits_of v q) q.spec.index (place_of c.steps.place)) same in
       let test = c.steps-test.true in
       let more : c.args.count - c.steps._step ≡ suc (c.args.count - (c.steps._step + 1)) = omega (arith, test) in
       c.steps.invariant.left t apart

@@ -1,5 +1,5 @@
 -- The three tests are those of the definition.
-use Rattle.std.proofs.Common.{◌≡◌, ◌∙◌, ap, sym, ◌&&◌, Bool, option_map}
+use Rattle.std.proofs.Common.{◌∙◌, ap, sym, ◌&&◌}
 use Rattle.std.specs.Prelude.{is_some}
 use Rattle.newt_base.specs.Names.{equal_text}
 use Rattle.newt_spec_store.specs.Store.{Store}
@@ -20,5 +20,5 @@ returns g c outside s p stands is at =
     let scoped = c.in_scope-scoped.ensures s (ap (λ (t : Store). t.sig) known ∙ sym c.sig.ensures) in
     let named = c.is_text-named.ensures ∙ (λ i. equal_text ((c.list.ensures.bytes ∙ name-known c.args.soup s _ p c.in-Some.name.now known at c.in-Some.ensures) i) (c.list-2.ensures.bytes i)) in
     let has = c.is_some-carried.ensures ∙ some-map _ c.range.result ∙ ap is_some (c.range.ensures.stands outside s stands is ∙ ap (λ i. range_in c.args.soup i s) c.index_of.ensures)
-        ∙ carried c.args.soup c.args.query.now.spec.index s p at in
+    ∙ carried c.args.soup c.args.query.now.spec.index s p at in
     c.all_three.ensures ∙ (λ i. scoped i && (named i && has i))

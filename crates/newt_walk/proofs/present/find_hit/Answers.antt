@@ -1,5 +1,5 @@
 -- The store, the soup and the entry are looked up.
-use Rattle.std.proofs.Common.{◌≡◌, ◌∙◌, ap, sym, subst, true}
+use Rattle.std.proofs.Common.{◌∙◌, ap, sym, subst, true}
 use Rattle.std.specs.Prelude.{is_some}
 use Rattle.newt_cursor.specs.Seen.{query_of}
 use Rattle.newt_spec_world.specs.World.{World}
@@ -51,8 +51,8 @@ returns-in_ok-kept-in-Some-2-clause-found g c t apart =
     let on2 = subst (λ (v : World). OnUnit v c.in-Some.unit k.blocks k.store) (sym (c.in_ok-entry.ensures.world t)) k.on in
     c.in_ok-kept-in-Some-2.ensures.found p eight2 stand2 k.blocks k.store on2
     ∙ there-present w (query_of c.args.query.now) c.args.store c.args.soup c.args.uid apart (stores-formed laws c.args.units.now o eight stand) c.in-Some.unit k.store k.found k.found_with k.sig_is
-      (λ p at. sym (c.if-not-takes_part.ensures o eight stand k.blocks k.store p k.on at)) (entry_of c.in-Some-2.entry)
-      (sym (ap entry_said c.in-Some-2.is) ∙ c.in_ok-entry.ensures.read t k.blocks k.store k.on)
+    (λ p at. sym (c.if-not-takes_part.ensures o eight stand k.blocks k.store p k.on at)) (entry_of c.in-Some-2.entry)
+    (sym (ap entry_said c.in-Some-2.is) ∙ c.in_ok-entry.ensures.read t k.blocks k.store k.on)
 
 pub returns-in-None-clause-found : goal.returns-in-None-clause-found
 returns-in-None-clause-found g c t apart =

@@ -1,5 +1,5 @@
 -- The key is that with which the query keeps the entry.
-use Rattle.std.proofs.Common.{◌≡◌, ◌∙◌, ap, sym, Option, option_map}
+use Rattle.std.proofs.Common.{◌∙◌, ap, sym, Option, option_map}
 use Rattle.newt_spec_store.specs.Store.{TagTable}
 use Rattle.newt_pass.specs.Kept.{kept_key}
 use Rattle.newt_walk.specs.Present.{Present, entry_of}

@@ -1,8 +1,7 @@
 -- The card of the unit decides.
-use Rattle.std.proofs.Common.{◌≡◌, ◌∙◌, ap, sym, Option, option_map, Some, true, false}
+use Rattle.std.proofs.Common.{◌≡◌, ◌∙◌, ap, sym, option_map, Some, true, false}
 use Rattle.newt_cursor.specs.Seen.{query_of}
 use Rattle.newt_spec_store.specs.Store.{Store, Soup, soup_named}
-use Rattle.newt_spec_world.specs.World.{World, mounted_store}
 use Rattle.newt_index.specs.Pairs.{Sorted}
 use Rattle.newt_laws_answers.proofs.Units.{is-mounted}
 use Rattle.newt_union.specs.Merged.{Member}
@@ -50,10 +49,11 @@ returns-in_err-range-clause-found g c outside eight stands =
     (c.in_ok-soup.ensures ∙ ap (λ (t : Store). option_map (λ (p : Soup). p.sig) (soup_named c.args.query.now.name t)) (sym k.known) ∙ bare-sig c.args.query.now.name k.store)))
 
 pub returns-then-agrees-clause-sorted : goal.returns-then-agrees-clause-sorted
-returns-then-agrees-clause-sorted g c =
-    (c.if-agrees.ensures.sorted,
-     agrees-agree c.in_ok-range.range.now.spec c.args.query.now.spec.index
-     (sym (c.if-agrees.ensures.same ∙ ap (agrees c.in_ok-range.range.now.spec) c.index_of-2.ensures)))
+returns-then-agrees-clause-sorted g c = (
+  c.if-agrees.ensures.sorted,
+  agrees-agree c.in_ok-range.range.now.spec c.args.query.now.spec.index
+      (sym (c.if-agrees.ensures.same ∙ ap (agrees c.in_ok-range.range.now.spec) c.index_of-2.ensures)),
+)
 
 pub returns-then-agrees-clause-found : goal.returns-then-agrees-clause-found
 returns-then-agrees-clause-found g c outside eight stands =

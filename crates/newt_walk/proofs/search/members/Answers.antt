@@ -1,5 +1,5 @@
 -- One unit after another.
-use Rattle.std.proofs.Common.{arith, ◌≡◌, ◌∙◌, ap, sym, subst, List, [], ◌∷◌, ◌++◌, ◌+◌, drop}
+use Rattle.std.proofs.Common.{arith, ◌∙◌, ap, sym, subst, List, ◌++◌, ◌+◌, drop}
 use Rattle.std.specs.Prelude.{filter_map}
 use Rattle.newt_cursor.specs.Seen.{query_of}
 use Rattle.newt_spec_world.specs.First.{unit_numbers}
@@ -30,16 +30,16 @@ loop-number-preserved g c = elim c.match-member_on.branch [
             let f = unit_member (query_of c.args.query.now) (world_of g.C.Card.reads c.args.units.now outside) in
             ap (λ (ms : List Member). ms ++ filter_map f (drop (c.loop-number.number + 1) unit_numbers)) is
             ∙ member-more f c.loop-number.members m c.loop-number.number c.loop-number-test.true (c.loop-number.invariant.all outside eight stands)
-              (sym (w.in-Some.ensures.found outside eight stands));
+            (sym (w.in-Some.ensures.found outside eight stands));
       }
   | in_default w ↦ record {
-      are = subst (AreMembers c.args.query.now.spec.index) (sym w.members-is) c.loop-number.invariant.are;
-      all = λ outside eight stands.
-          let f = unit_member (query_of c.args.query.now) (world_of g.C.Card.reads c.args.units.now outside) in
-          ap (λ (ms : List Member). ms ++ filter_map f (drop (c.loop-number.number + 1) unit_numbers)) w.members-is
-          ∙ member-none f c.loop-number.members c.loop-number.number c.loop-number-test.true (c.loop-number.invariant.all outside eight stands)
-            (sym (w.in_default.ensures.found outside eight stands));
-    }
+    are = subst (AreMembers c.args.query.now.spec.index) (sym w.members-is) c.loop-number.invariant.are;
+    all = λ outside eight stands.
+        let f = unit_member (query_of c.args.query.now) (world_of g.C.Card.reads c.args.units.now outside) in
+        ap (λ (ms : List Member). ms ++ filter_map f (drop (c.loop-number.number + 1) unit_numbers)) w.members-is
+        ∙ member-none f c.loop-number.members c.loop-number.number c.loop-number-test.true (c.loop-number.invariant.all outside eight stands)
+        (sym (w.in_default.ensures.found outside eight stands));
+  }
 ]
 
 pub returns-clause-are : goal.returns-clause-are

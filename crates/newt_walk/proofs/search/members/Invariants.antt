@@ -1,5 +1,5 @@
 -- The members of the units so far.
-use Rattle.std.proofs.Common.{◌≡◌, ℕ, true, ◌++◌, drop}
+use Rattle.std.proofs.Common.{◌≡◌, true, ◌++◌, drop}
 use Rattle.std.specs.Prelude.{filter_map}
 use Rattle.newt_host.specs.Outside.{Outside}
 use Rattle.newt_cursor.specs.Seen.{query_of}
@@ -14,5 +14,5 @@ invariant-loop-number g l = record {
   are : AreMembers l.query.spec.index l.members;
   all : (outside : Outside) → Eight outside → Stands g.C.Card.place g.C.Card.stands true l.units outside
       → l.members ++ filter_map (unit_member (query_of l.query) (world_of g.C.Card.reads l.units outside)) (drop l.number unit_numbers)
-        ≡ filter_map (unit_member (query_of l.query) (world_of g.C.Card.reads l.units outside)) unit_numbers;
+      ≡ filter_map (unit_member (query_of l.query) (world_of g.C.Card.reads l.units outside)) unit_numbers;
 }

@@ -1,5 +1,5 @@
 -- The key of the hit.
-use Rattle.std.proofs.Common.{◌≡◌, ◌∙◌, ap, sym, subst, option_map, true}
+use Rattle.std.proofs.Common.{◌∙◌, ap, sym, subst, option_map, true}
 use Rattle.newt_cursor.specs.Seen.{query_of, hit_of}
 use Rattle.newt_units.specs.Stands.{Stands, Eight, world_of}
 use Rattle.newt_units.proofs.Known.{Laws}

@@ -1,12 +1,12 @@
 -- One place after another.
-use Rattle.std.proofs.Common.{arith, ◌≡◌, ◌∙◌, ap, sym, subst, List, Option, ◌≤◌, length}
+use Rattle.std.proofs.Common.{arith, ◌∙◌, ap, sym, subst, List, Option, ◌≤◌, length}
 use Rattle.std.proofs.lemmas.Result.{err_from_is_err_and}
 use Rattle.newt_spec_query.specs.Cursor.{Cursor}
 use Rattle.newt_spec_world.specs.World.{World, change_at, settle_cursor}
 use Rattle.newt_laws.specs.Settled.{MountedApart}
 use Rattle.newt_laws_cursors.specs.Cursors.{with_cursors}
 use Rattle.newt_units.specs.Stands.{world_of}
-use Rattle.newt_walk.proofs.Cursors.{below, below-none, below-more, below-all}
+use Rattle.newt_walk.proofs.Cursors.{below-none, below-more, below-all}
 use Rattle.newt_walk.proofs.Reading.{not-read, read-then, cause-since, handed}
 use Rattle.newt_walk.proofs.settling.settle.Goals as goal
 

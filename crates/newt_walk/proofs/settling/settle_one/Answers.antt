@@ -1,9 +1,8 @@
 -- The cursor takes its present key, if it has one.
-use Rattle.std.proofs.Common.{◌≡◌, ◌∙◌, ap, sym, subst, List, Option, Some, None, option_and_then}
+use Rattle.std.proofs.Common.{◌∙◌, ap, sym, subst, Option, option_and_then}
 use Rattle.std.specs.Prelude.{IfSome}
 use Rattle.newt_keys.specs.KeyForm.{IsKeyOf}
 use Rattle.newt_spec_store.specs.Keys.{Key}
-use Rattle.newt_spec_query.specs.Cursor.{Cursor}
 use Rattle.newt_spec_world.specs.World.{settle_cursor}
 use Rattle.newt_cursor.specs.Desk.{keyed}
 use Rattle.newt_units.specs.Stands.{world_of}

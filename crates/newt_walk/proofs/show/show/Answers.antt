@@ -1,5 +1,5 @@
 -- The entry, or that it is no longer a hit.
-use Rattle.std.proofs.Common.{◌≡◌, ◌∙◌, ap, sym, option_map}
+use Rattle.std.proofs.Common.{◌∙◌, ap, sym, option_map}
 use Rattle.newt_cursor.specs.Seen.{query_of, hit_of}
 use Rattle.newt_walk.specs.Present.{present_of}
 use Rattle.newt_walk.specs.World.{world_with}

@@ -5,7 +5,6 @@ use Rattle.std.proofs.lemmas.Result.{err_from_is_err_and}
 use Rattle.newt_cursor.specs.Seen.{query_of, hit_of}
 use Rattle.newt_index.specs.declared.identity.Spot.{Spot}
 use Rattle.newt_keys.specs.KeyForm.{IsKeyOf}
-use Rattle.newt_spec_query.specs.Hits.{Hit}
 use Rattle.newt_spec_world.specs.World.{World, mounted_stores}
 use Rattle.newt_laws_hits.specs.Stripped.{passing}
 use Rattle.newt_laws_hits.specs.Taking.{members_of}
@@ -115,7 +114,7 @@ steps-preserved g c = record {
         let stand2 : Stands g.C.Card.place g.C.Card.stands true c.keeps.new.units p = subst (λ b. Stands g.C.Card.place g.C.Card.stands b c.keeps.new.units p) t c.keeps.ensures.read.stand in
         c.in_ok-found.ensures.found p eight2 stand2
         ∙ ap (λ (v : World). beyond c.args.way c.args.query.now.spec.index (members_of (mounted_stores v) (query_of c.args.query.now)) (hit_of c.in-Some.spot))
-          (c.keeps.ensures.read.world t ∙ c.steps.invariant.read.world t)
+        (c.keeps.ensures.read.world t ∙ c.steps.invariant.read.world t)
 
 pub returns-clause-read : goal.returns-clause-read
 returns-clause-read g c = c.steps.invariant.read
