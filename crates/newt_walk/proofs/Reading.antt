@@ -46,3 +46,7 @@ module _ {C : Type 0} {reads : List ℕ → Option Store} {place : C → ℕ} {s
   pub read-then : {units mid later : Units C} {o p q : Outside} → AreRead reads place stands told units mid o p → AreRead reads place stands told mid later p q
       → AreRead reads place stands told units later o q
   read-then a b = record { stand = b.stand; world = λ t. b.world t ∙ a.world t; moment = b.moment ∙ a.moment; alone = devices-then a.alone b.alone }
+
+-- an error that was handed on has its cause
+pub handed : {T : Type 0} (o q : Outside) (stop : Stop) → HasStopCause stop o q → (r : Result T Stop) → (e : Stop) × (r ≡ Err e) × (e ≡ stop) → IfErr r (λ stop. HasStopCause stop o q)
+handed {T} o q stop h r p = subst (λ (r : Result T Stop). IfErr r (λ stop. HasStopCause stop o q)) (sym (p.1 ∙ ap {B = Result T Stop} (λ e. Err e) p.2)) h

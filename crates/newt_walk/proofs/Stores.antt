@@ -28,11 +28,11 @@ use Rattle.newt_units.proofs.Shown.{faces-known}
 
 chosen-each : {X Y : Type 0} (P : Y → Type 0) (f : X → Option Y) (xs : List X) → ((x : X) (y : Y) → f x ≡ Some y → P y) → Each P (filter_map f xs)
 chosen-each P f [] h = tt
-chosen-each P f (x ∷ xs) h = go (f x) refl
+chosen-each P f (x ∷ xs) h = go (f x) refl (chosen-each P f xs h)
   where
-    go : (o : Option _) → f x ≡ o → Each P (cons_option o (filter_map f xs))
-    go None e = chosen-each P f xs h
-    go (Some y) e = (h x y e, chosen-each P f xs h)
+    go : (o : Option _) → f x ≡ o → Each P (filter_map f xs) → Each P (cons_option o (filter_map f xs))
+    go None e more = more
+    go (Some y) e more = (h x y e, more)
 
 chosen-few : {X Y : Type 0} (f : X → Option Y) (xs : List X) → length (filter_map f xs) ≤ length xs
 chosen-few f [] = omega arith
@@ -50,18 +50,18 @@ abbrev rest_from : ℕ → List (Option Device) → List (ℕ × Store)
 rest_from n ds = filter_map (λ d. option_map (λ s. (d.0, s)) (on_unit d.1)) (enumerate_from (n + 1) ds)
 
 -- the store of a signature, with its unit and without
-find-store : (sig n : ℕ) (ds : List (Option Device))
-    → find (λ t. t.sig == sig) (filter_map on_unit ds) ≡ option_map (λ m. m.1) (find (λ m. m.1.sig == sig) (filter_map (λ d. option_map (λ s. (d.0, s)) (on_unit d.1)) (enumerate_from n ds)))
+pub find-store : (sig n : ℕ) (ds : List (Option Device))
+    → find (λ t. t.sig == sig) (filter_map on_unit ds) ≡ option_map (λ (m : ℕ × Store). m.1) (find (λ m. m.1.sig == sig) (filter_map (λ d. option_map (λ s. (d.0, s)) (on_unit d.1)) (enumerate_from n ds)))
 find-store sig n [] = refl
 find-store sig n (d ∷ ds) = go (on_unit d) (find-store sig (n + 1) ds)
   where
-    at : (t : Store) (b : Bool) → find (λ t. t.sig == sig) (filter_map on_unit ds) ≡ option_map (λ m. m.1) (find (λ m. m.1.sig == sig) (rest_from n ds))
-        → cond b (Some t) (find (λ t. t.sig == sig) (filter_map on_unit ds)) ≡ option_map (λ m. m.1) (cond b (Some (n, t)) (find (λ m. m.1.sig == sig) (rest_from n ds)))
+    at : (t : Store) (b : Bool) → find (λ t. t.sig == sig) (filter_map on_unit ds) ≡ option_map (λ (m : ℕ × Store). m.1) (find (λ m. m.1.sig == sig) (rest_from n ds))
+        → cond b (Some t) (find (λ t. t.sig == sig) (filter_map on_unit ds)) ≡ option_map (λ (m : ℕ × Store). m.1) (cond b (Some (n, t)) (find (λ m. m.1.sig == sig) (rest_from n ds)))
     at t true h = refl
     at t false h = h
 
-    go : (o : Option Store) → find (λ t. t.sig == sig) (filter_map on_unit ds) ≡ option_map (λ m. m.1) (find (λ m. m.1.sig == sig) (rest_from n ds))
-        → find (λ t. t.sig == sig) (cons_option o (filter_map on_unit ds)) ≡ option_map (λ m. m.1) (find (λ m. m.1.sig == sig) (cons_option (option_map (λ s. (n, s)) o) (rest_from n ds)))
+    go : (o : Option Store) → find (λ t. t.sig == sig) (filter_map on_unit ds) ≡ option_map (λ (m : ℕ × Store). m.1) (find (λ m. m.1.sig == sig) (rest_from n ds))
+        → find (λ t. t.sig == sig) (cons_option o (filter_map on_unit ds)) ≡ option_map (λ (m : ℕ × Store). m.1) (find (λ m. m.1.sig == sig) (cons_option (option_map (λ s. (n, s)) o) (rest_from n ds)))
     go None h = h
     go (Some t) h = at t (t.sig == sig) h
 

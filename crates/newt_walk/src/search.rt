@@ -117,7 +117,11 @@ fn member_on<'a, C: Card>(
     }
     let soup = card.soup_named(&query.name)?;
     let range = card.range(soup, index_of(query))?;
-    agrees(range, index_of(query)).then_some((card.sig(), soup, range))
+    if agrees(range, index_of(query)) {
+        Some((card.sig(), soup, range))
+    } else {
+        None
+    }
 }
 
 /// Whether a range is by a declaration that agrees with the given one. Each range that is found for a declaration is.
