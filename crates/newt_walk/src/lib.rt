@@ -8,6 +8,7 @@
 mod commands;
 mod counting;
 mod desks;
+mod indexes;
 mod keep;
 mod places;
 mod present;
