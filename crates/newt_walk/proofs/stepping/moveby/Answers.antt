@@ -1,0 +1,8 @@
+-- The command steps so.
+use Rattle.newt_walk.specs.Motions.{step_of}
+use Rattle.newt_walk.specs.World.{world_with}
+use Rattle.newt_walk.proofs.Answering.{steered-answers, moveby-steps}
+use Rattle.newt_walk.proofs.stepping.moveby.Goals as goal
+
+pub returns-clause-answered : goal.returns-clause-answered
+returns-clause-answered g c t apart = steered-answers _ _ _ _ _ (moveby-steps c.args.cursor c.args.by) c.steer.result (c.steer.ensures.steered t apart)
