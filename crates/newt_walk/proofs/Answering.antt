@@ -54,15 +54,15 @@ pub end-steps : (n : ℕ) → IsStepping (command.End n) n (step_of (motion.Leap
 unfolding checks changed fields
 end-steps n = record { tests = λ w. refl; does = λ w. refl; shows = λ w v. refl }
 
-pub moveby-steps : (n : ℕ) (by : ℤ) → IsStepping (command.Moveby n by) n (step_of (motion.By by))
+moveby-steps : (n : ℕ) (by : ℤ) → IsStepping (command.Moveby n by) n (step_of (motion.By by))
 unfolding checks changed fields
 moveby-steps n by = record { tests = λ w. refl; does = λ w. refl; shows = λ w v. refl }
 
 -- no cursor is open, or one is
-no-cursor : (w : World) (n : ℕ) (more : Checks) → is_none (cursor w n) ≡ true → first_of (no_cursor w n ∷ more) ≡ Some NoCursor
+pub no-cursor : (w : World) (n : ℕ) (more : Checks) → is_none (cursor w n) ≡ true → first_of (no_cursor w n ∷ more) ≡ Some NoCursor
 no-cursor w n more e = ap (λ b. first_of ((NoCursor, b) ∷ more)) e
 
-one-cursor : (w : World) (n : ℕ) (more : Checks) → is_none (cursor w n) ≡ false → first_of (no_cursor w n ∷ more) ≡ first_of more
+pub one-cursor : (w : World) (n : ℕ) (more : Checks) → is_none (cursor w n) ≡ false → first_of (no_cursor w n ∷ more) ≡ first_of more
 one-cursor w n more e = ap (λ b. first_of ((NoCursor, b) ∷ more)) e
 
 pub steered-answers : (w v : World) (c : Command) (n : ℕ) (step : Step) → IsStepping c n step → (r : Result Shown Fault) → Steers w v n step r → Answers w v c shown_reply r
@@ -72,6 +72,10 @@ steered-answers w v c n step s (Err (Refused r)) d =
     refused-answer w c NoCursor (ap first_of (s.tests w) ∙ no-cursor w n [] d.0)
     ∙ ap {A = World} {B = World × Reply} (λ v. (v, Reply.refused NoCursor)) (sym d.2) ∙ ap {A = Refusal} {B = World × Reply} (λ r. (v, Reply.refused r)) (sym d.1)
 steered-answers w v c n step s (Err (Stop stop)) d = tt
+
+pub moveby-answers : (w v : World) (n : ℕ) (by z : ℤ) → z ≡ by → (r : Result Shown Fault) → Steers w v n (step_of (motion.By z)) r → Answers w v (command.Moveby n by) shown_reply r
+moveby-answers w v n by z e r d =
+    steered-answers w v (command.Moveby n by) n (step_of (motion.By by)) (moveby-steps n by) r (subst (λ (z : ℤ). Steers w v n (step_of (motion.By z)) r) e d)
 
 -- ---- to a key
 

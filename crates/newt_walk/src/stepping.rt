@@ -1,8 +1,9 @@
 //! The commands that move a cursor.
-ghost use Rattle.std.specs.Prelude.{◌≡◌, IsTrue, Some, IfErr, IfOk, IfSome, OnOk, option_map, slice_get};
+ghost use Rattle.std.specs.Prelude.{◌≡◌, true, IsTrue, Some, IfErr, IfOk, IfSome, OnOk, option_map, slice_get};
 ghost use Rattle.newt_host.specs.Outside.{Outside};
 ghost use Rattle.newt_keys.specs.KeyForm.{IsKeyOf};
 ghost use Rattle.newt_cursor.specs.Seen.{hit_of, place_of, query_of};
+ghost use Rattle.newt_spec_store.specs.Store.{soup_named};
 ghost use Rattle.newt_spec_query.specs.Cursor.{Cursor};
 ghost use Rattle.newt_spec_world.specs.Answer.{current, or_nil};
 ghost use Rattle.newt_spec_world.specs.Changed.{hit_for, key_from, sig_of};
@@ -308,7 +309,18 @@ fn soup_on<C: Card>(units: &Units<C>, unit: Unit, name: &Name) -> Option<(Sig, S
     ensures { (outside : Outside) → Eight outside → Stands C.place C.stands true units.now outside → let w = world_of C.reads units.now outside in
         result ≡ option_map (λ p. (sig_of w unit, p.sig)) (soup_in w unit name.now) }
 {
-    let card = units.card(unit)?;
-    let soup = card.soup_named(name)?;
-    Some((card.sig(), soup))
+    match units.card(unit) {
+        Some(card) => soup_of_card(card, name),
+        None => None,
+    }
+}
+
+/// The signatures of the store of a card and of its soup of a name.
+fn soup_of_card<C: Card>(card: &C, name: &Name) -> Option<(Sig, Sig)>
+    ensures { result ≡ option_map (λ n. ((C.soups card.now).sig, n)) (option_map (λ p. p.sig) (soup_named name.now (C.soups card.now))) }
+{
+    match card.soup_named(name) {
+        Some(soup) => Some((card.sig(), soup)),
+        None => None,
+    }
 }

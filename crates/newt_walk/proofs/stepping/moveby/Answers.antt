@@ -1,8 +1,8 @@
 -- The command steps so.
-use Rattle.newt_walk.specs.Motions.{step_of}
-use Rattle.newt_walk.specs.World.{world_with}
-use Rattle.newt_walk.proofs.Answering.{steered-answers, moveby-steps}
+use Rattle.std.specs.Int.{w32}
+use Rattle.std.proofs.lemmas.Int.{to_z-of_z}
+use Rattle.newt_walk.proofs.Answering.{moveby-answers}
 use Rattle.newt_walk.proofs.stepping.moveby.Goals as goal
 
 pub returns-clause-answered : goal.returns-clause-answered
-returns-clause-answered g c t apart = steered-answers _ _ _ _ _ (moveby-steps c.args.cursor c.args.by) c.steer.result (c.steer.ensures.steered t apart)
+returns-clause-answered g c t apart = moveby-answers _ _ c.args.cursor c.args.by _ (to_z-of_z w32 c.args.by c.ranges.by) c.steer.result (c.steer.ensures.steered t apart)
