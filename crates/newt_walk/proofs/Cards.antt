@@ -1,22 +1,22 @@
 -- What a card that is mounted knows of its store.
-use Rattle.std.proofs.Common.{◌≡◌, refl, ap, sym, ◌∙◌, subst, ℕ, List, [], ◌∷◌, Bool, true, false, ◌&&◌, ◌||◌, cond, map, find, Option, Some, None, option_map, option_and_then, ◌==◌}
+use Rattle.std.proofs.Common.{◌≡◌, refl, ap, sym, ◌∙◌, subst, ℕ, List, [], ◌∷◌, Bool, true, false, ◌||◌, cond, map, find, Option, Some, None, option_map, option_and_then, ◌==◌}
 use Rattle.std.specs.Prelude.{is_some}
 use Rattle.std.specs.List.{list_any}
-use Rattle.newt_base.specs.Names.{equal_text}
 use Rattle.newt_host.specs.Moments.{image}
 use Rattle.newt_host.specs.Outside.{Outside}
 use Rattle.newt_spec_graph.proofs.Lists.{some-same, none-some}
 use Rattle.newt_spec_store.specs.Keys.{IndexSpec, same_spec}
 use Rattle.newt_spec_store.specs.Laid.{bare}
-use Rattle.newt_spec_store.specs.Store.{Store, Soup, soup_named}
-use Rattle.newt_spec_query.specs.Hits.{Query, in_scope, carries}
+use Rattle.newt_spec_store.specs.Store.{Store, Soup}
+use Rattle.newt_spec_query.specs.Hits.{carries}
 use Rattle.newt_ranges.specs.Range.{range_in, range_of_soup}
-use Rattle.newt_index.specs.Pairs.{Sorted}
 use Rattle.newt_index.specs.Range.{range_of}
-use Rattle.newt_laws_hits.specs.Located.{takes_part}
 use Rattle.newt_laws_hits.specs.Taking.{declared}
 use Rattle.newt_units.specs.Cards.{soup_of}
-use Rattle.newt_units.proofs.Known.{Laws}
+use Rattle.newt_laws_answers.specs.There.{OnUnit}
+use Rattle.newt_units.specs.declared.units.Units.{Units}
+use Rattle.newt_units.specs.Stands.{Stands, Eight, card_at, world_of}
+use Rattle.newt_units.proofs.Known.{Laws, on-known}
 
 -- a soup without its entries
 abbrev bare_soup : Soup → Soup
@@ -59,6 +59,10 @@ range-some (i ∷ index) p = go p.specs
     go [] = refl
     go (d ∷ ds) = by d ds (same_spec (i ∷ index) d) (go ds)
 
+pub some-map : {X Y : Type 0} (f : X → Y) (o : Option X) → is_some o ≡ is_some (option_map f o)
+some-map f None = refl
+some-map f (Some x) = refl
+
 pub carried : (soup : ℕ) (index : IndexSpec) (s : Store) (p : Soup) → soup_of soup s ≡ Some p → is_some (range_in soup (declared index) s) ≡ carries index p
 carried soup index s p at = ap (λ (o : Option Soup). is_some (option_and_then (range_of_soup (declared index)) o)) at ∙ range-some index p
 
@@ -77,3 +81,17 @@ no-name soup s t p known at e =
     mapped : (o : Option Soup) → option_map (λ p. p.name) o ≡ option_and_then (λ p. Some p.name) o
     mapped None = refl
     mapped (Some p) = refl
+
+-- ---- the card of a unit
+
+module _ {C : Type 0} {reads : List ℕ → Option Store} {place : C → ℕ} {soups : C → Store} {stands : Bool → C → Outside → Type 0} (l : Laws reads place soups stands)
+    (units : Units C) (o : Outside) (e : Eight o) (s : Stands place stands true units o) (u blocks : ℕ) (t : Store) (on : OnUnit (world_of reads units o) u blocks t) where
+  pub on-card : (card : C) → Some card ≡ card_at units.slots.items u → stands true card o × (reads (image (place card) o.now) ≡ Some t) × (bare t ≡ soups card)
+  on-card card is =
+      let k = on-known l units o e s u blocks t on in
+      let c = s.cards u card (sym is) in
+      let r = ap (λ n. reads (image n o.now)) c.1 ∙ k.3 in
+      (c.0, r, card-bare l card o t c.0 r)
+
+  pub no-card : None ≡ card_at units.slots.items u → ⊥
+  no-card is = let k = on-known l units o e s u blocks t on in none-some k.0 (is ∙ k.1)

@@ -1,18 +1,17 @@
 -- The hit of an identity, in the store of one unit.
-use Rattle.std.proofs.Common.{◌≡◌, refl, ap, sym, ◌∙◌, subst, ℕ, List, Bool, true, false, cond, find, Option, Some, None, option_map, option_and_then, ◌==◌, IsTrue}
+use Rattle.std.proofs.Common.{◌≡◌, refl, ap, sym, ◌∙◌, ℕ, true, false, cond, find, Option, Some, None, option_map, option_and_then, ◌==◌, IsTrue}
 use Rattle.std.proofs.lemmas.Bool.{eqb-true}
-use Rattle.newt_spec_graph.specs.Lists.{Each, Pairs}
-use Rattle.newt_spec_graph.proofs.Lists.{some-same, none-some, both-ways}
+use Rattle.newt_spec_graph.specs.Lists.{Each}
+use Rattle.newt_spec_graph.proofs.Lists.{some-same, none-some}
 use Rattle.newt_spec_store.specs.Keys.{Key, key}
-use Rattle.newt_spec_store.specs.Store.{Store, Soup, Entry, TagTable, entry_of}
+use Rattle.newt_spec_store.specs.Store.{Store, Soup, Entry, entry_of}
 use Rattle.newt_spec_store.specs.Valid.{well_formed}
-use Rattle.newt_spec_query.specs.Hits.{Query, Hit, kept, hit_of}
-use Rattle.newt_spec_query.specs.Cursor.{same_identity}
-use Rattle.newt_spec_world.specs.World.{World, mounted, mounted_stores, hits_of}
+use Rattle.newt_spec_query.specs.Hits.{Query, kept, hit_of}
+use Rattle.newt_spec_world.specs.World.{World, mounted, mounted_stores}
 use Rattle.newt_spec_world.specs.Alias.{Spot, resolved}
 use Rattle.newt_laws.specs.Settled.{MountedApart}
 use Rattle.newt_laws_changes.proofs.Chosen.{find-passes}
-use Rattle.newt_laws_hits.specs.Located.{Located, located, looked_up, hit_for, takes_part}
+use Rattle.newt_laws_hits.specs.Located.{Located, looked_up, hit_for, takes_part}
 use Rattle.newt_laws_hits.proofs.Origins.{same-looked-up}
 use Rattle.newt_pass.specs.Kept.{kept_key}
 use Rattle.newt_pass.proofs.Keeping.{kept-is}
@@ -61,7 +60,7 @@ module _ (w : World) (q : Query) (store soup uid : ℕ) (apart : MountedApart w)
     -- the entry is there, in a soup that takes part
     pub there-present : ((p : Soup) → soup_of soup s ≡ Some p → takes_part q s p ≡ true) → (x : Entry) → Some x ≡ entry_at soup uid s
         → option_map {U = Present} (λ k. record { unit = u; key = k; entry = x }) (kept_key q.spec (option_and_then (λ p. p.tags) (soup_of soup s)) x.graph)
-          ≡ present_in w q (identity store soup uid)
+        ≡ present_in w q (identity store soup uid)
     there-present takes x e = sym (in-store ∙ go (soup_of soup s) refl (sym e))
       where
         spot : (p : Soup) (y : Entry) → soup_of soup s ≡ Some p → entry_of uid p ≡ Some y
@@ -78,13 +77,13 @@ module _ (w : World) (q : Query) (store soup uid : ℕ) (apart : MountedApart w)
 
         keyed : (p : Soup) (y : Entry) (o : Option Key) → soup_of soup s ≡ Some p → entry_of uid p ≡ Some y
             → option_and_then (with_entry w) (option_map (λ k. record { key = k; store = s.sig; soup = p.sig; uid = y.uid }) o)
-              ≡ option_map {U = Present} (λ k. record { unit = u; key = k; entry = y }) o
+            ≡ option_map {U = Present} (λ k. record { unit = u; key = k; entry = y }) o
         keyed p y None at is = refl
         keyed p y (Some k) at is = ap (option_map {U = Present} (λ (z : Spot). record { unit = z.unit; key = k; entry = z.entry })) (spot p y at is)
 
         entry : (p : Soup) (o : Option Entry) → soup_of soup s ≡ Some p → entry_of uid p ≡ o → o ≡ Some x
             → option_and_then (with_entry w) (option_and_then (hit_for q) (option_map {U = Located} (λ e. record { store = s; soup = p; entry = e }) o))
-              ≡ option_map {U = Present} (λ k. record { unit = u; key = k; entry = x }) (kept_key q.spec p.tags x.graph)
+            ≡ option_map {U = Present} (λ k. record { unit = u; key = k; entry = x }) (kept_key q.spec p.tags x.graph)
         entry p None at is e = absurd (none-some x e)
         entry p (Some y) at is e =
             ap (λ b. option_and_then (with_entry w) (cond b (hit_of q.spec s p y) None)) (takes p at)
@@ -94,6 +93,6 @@ module _ (w : World) (q : Query) (store soup uid : ℕ) (apart : MountedApart w)
 
         go : (o : Option Soup) → soup_of soup s ≡ o → option_and_then (entry_of uid) o ≡ Some x
             → option_and_then (with_entry w) (option_and_then (hit_for q) (option_and_then {U = Located} (λ p. option_map (λ e. record { store = s; soup = p; entry = e }) (entry_of uid p)) o))
-              ≡ option_map {U = Present} (λ k. record { unit = u; key = k; entry = x }) (kept_key q.spec (option_and_then (λ p. p.tags) o) x.graph)
+            ≡ option_map {U = Present} (λ k. record { unit = u; key = k; entry = x }) (kept_key q.spec (option_and_then (λ p. p.tags) o) x.graph)
         go None at e = absurd (none-some x e)
         go (Some p) at e = entry p (entry_of uid p) at refl e

@@ -1,13 +1,13 @@
 -- Units and devices that are read alone, call after call.
-use Rattle.std.proofs.Common.{arith, ◌≡◌, refl, sym, ◌∙◌, ap, subst, ℕ, ◌≤◌, Bool, true, IsTrue, List, Option}
-use Rattle.std.specs.Prelude.{Result, Ok, Err, IfErr}
+use Rattle.std.proofs.Common.{arith, ◌≡◌, refl, sym, ◌∙◌, ap, subst, ℕ, Bool, List, Option}
+use Rattle.std.specs.Prelude.{Result, Err, IfErr}
 use Rattle.newt_host.specs.Outside.{Outside}
 use Rattle.newt_pagebook.specs.declared.book.Stop.{Stop}
 use Rattle.newt_pagebook.specs.declared.book.Stop.TheVariants.{Memory, Device}
 use Rattle.newt_spec_store.specs.Store.{Store}
 use Rattle.newt_units.specs.declared.units.Units.{Units}
 use Rattle.newt_units.specs.Faults.{HasStopCause, OnDevices}
-use Rattle.newt_units.specs.Stands.{Stands, world_of}
+use Rattle.newt_units.specs.Stands.{Stands}
 use Rattle.newt_walk.specs.World.{AreRead}
 
 pub devices-not : (o : Outside) → OnDevices o o
@@ -46,3 +46,7 @@ module _ {C : Type 0} {reads : List ℕ → Option Store} {place : C → ℕ} {s
   pub read-then : {units mid later : Units C} {o p q : Outside} → AreRead reads place stands told units mid o p → AreRead reads place stands told mid later p q
       → AreRead reads place stands told units later o q
   read-then a b = record { stand = b.stand; world = λ t. b.world t ∙ a.world t; moment = b.moment ∙ a.moment; alone = devices-then a.alone b.alone }
+
+-- an error that was handed on has its cause
+pub handed : {T : Type 0} (o q : Outside) (stop : Stop) → HasStopCause stop o q → (r : Result T Stop) → (e : Stop) × (r ≡ Err e) × (e ≡ stop) → IfErr r (λ stop. HasStopCause stop o q)
+handed {T} o q stop h r p = subst (λ (r : Result T Stop). IfErr r (λ stop. HasStopCause stop o q)) (sym (p.1 ∙ ap {B = Result T Stop} (λ e. Err e) p.2)) h

@@ -12,7 +12,7 @@ use Rattle.newt_spec_store.specs.declared.Kind.{Kind}
 use Rattle.newt_spec_store.specs.declared.Kind.TheVariants as kind
 use Rattle.newt_spec_store.specs.declared.Order.{Order}
 use Rattle.newt_spec_store.specs.declared.Order.TheVariants as order
-use Rattle.newt_spec_store.specs.Keys.{IndexPart, IndexSpec, Key, same_kind, same_direction, same_part, same_spec}
+use Rattle.newt_spec_store.specs.Keys.{IndexSpec, Key, same_kind, same_direction, same_part, same_spec}
 use Rattle.newt_spec_store.specs.Store.{Store, Soup, soup_named}
 use Rattle.newt_spec_store.proofs.Sorting.{among-fold}
 use Rattle.newt_spec_query.specs.Hits.{Query, Hit, hit_cmp, in_scope}
@@ -23,10 +23,10 @@ use Rattle.newt_index.specs.declared.identity.Spot.{Spot}
 use Rattle.newt_cursor.specs.Seen.{hit_of}
 use Rattle.newt_keys.specs.KeyForm.{IsKeyOf}
 use Rattle.newt_laws_changes.proofs.Chosen.{find-passes}
-use Rattle.newt_index.specs.Pairs.{Pair, IsPair, IsSorted, Sorted, parts_of, first, last}
+use Rattle.newt_index.specs.Pairs.{Pair, IsPair, IsSorted, Sorted, parts_of}
 use Rattle.newt_index.specs.Range.{range_of}
 use Rattle.newt_ranges.specs.Range.{range_in, range_of_soup}
-use Rattle.newt_union.specs.Merged.{Member, hit, hits_of, merged, Agree, AllAgree, IsKeyIn, after, before, at_or_after}
+use Rattle.newt_union.specs.Merged.{Member, hit, hits_of, merged, Agree, AllAgree, IsKeyIn, at_or_after}
 use Rattle.newt_union.specs.Seen.{AreSorted}
 use Rattle.newt_union.proofs.Orders.{same_keys}
 use Rattle.newt_laws_answers.specs.WorldAt.{device_at}
@@ -204,6 +204,37 @@ chosen-twice f g (x ∷ xs) = go (g x) (chosen-twice f g xs)
 abbrev pub unit_member : Query → World → ℕ → Option Member
 unit_member q w u = option_and_then (member_in q) (mounted_store w u)
 
+-- what the member of a unit is
+module _ (q : Query) (w : World) (u : ℕ) where
+  pub unit-none : mounted_store w u ≡ None → None ≡ unit_member q w u
+  unit-none m = sym (ap (option_and_then (member_in q)) m)
+
+  module _ (s : Store) (m : mounted_store w u ≡ Some s) where
+    in-unit : unit_member q w u ≡ member_in q s
+    in-unit = ap (option_and_then (member_in q)) m
+
+    pub unit-out : false ≡ in_scope q.scope s → None ≡ unit_member q w u
+    unit-out e = sym (in-unit ∙ ap (λ b. cond b (option_and_then (member_of q s) (soup_named q.name s)) None) (sym e))
+
+    scoped : true ≡ in_scope q.scope s → unit_member q w u ≡ option_and_then (member_of q s) (soup_named q.name s)
+    scoped e = in-unit ∙ ap (λ b. cond b (option_and_then (member_of q s) (soup_named q.name s)) None) (sym e)
+
+    pub unit-no-soup : true ≡ in_scope q.scope s → None ≡ option_map (λ p. p.sig) (soup_named q.name s) → None ≡ unit_member q w u
+    unit-no-soup e n = sym (scoped e ∙ go (soup_named q.name s) n)
+      where
+        go : (o : Option Soup) → None ≡ option_map (λ p. p.sig) o → option_and_then (member_of q s) o ≡ None
+        go None n = refl
+        go (Some p) n = absurd (none-some p.sig n)
+
+    pub unit-soup : true ≡ in_scope q.scope s → (sig : ℕ) → Some sig ≡ option_map (λ p. p.sig) (soup_named q.name s)
+        → unit_member q w u ≡ option_map (λ r. record { store = s.sig; soup = sig; range = r }) (range_in sig (declared q.spec.index) s)
+    unit-soup e sig n = scoped e ∙ go (soup_named q.name s) n
+      where
+        go : (o : Option Soup) → Some sig ≡ option_map (λ p. p.sig) o
+            → option_and_then (member_of q s) o ≡ option_map (λ r. record { store = s.sig; soup = sig; range = r }) (range_in sig (declared q.spec.index) s)
+        go None n = absurd (none-some sig (sym n))
+        go (Some p) n = ap (λ (k : ℕ). option_map {U = Member} (λ r. record { store = s.sig; soup = k; range = r }) (range_in k (declared q.spec.index) s)) (sym (some-same sig p.sig n))
+
 module _ {C : Type 0} {reads : List ℕ → Option Store} {place : C → ℕ} {soups : C → Store} {stands : Bool → C → Outside → Type 0} (l : Laws reads place soups stands)
     (units : Units C) (o : Outside) (e : Eight o) (s : Stands place stands true units o) where
   -- the members of all units are those of the mounted stores
@@ -211,7 +242,7 @@ module _ {C : Type 0} {reads : List ℕ → Option Store} {place : C → ℕ} {s
   unit-members q =
       (λ i. filter_map (λ u. option_and_then (member_in q) (on_unit (at-device l units o e s u i))) unit_numbers)
       ∙ sym (ap (filter_map (member_in q)) (chosen-map on_unit (device_at reads (mounted_in units.slots.items) o) unit_numbers)
-        ∙ chosen-twice (member_in q) (λ u. on_unit (device_at reads (mounted_in units.slots.items) o u)) unit_numbers)
+      ∙ chosen-twice (member_in q) (λ u. on_unit (device_at reads (mounted_in units.slots.items) o u)) unit_numbers)
       ∙ sym (chosen-kept (λ (s : Store). option_and_then (member_of q s) (soup_named q.name s)) (in_scope q.scope) (mounted_stores (world_of reads units o)))
 
 -- a unit more

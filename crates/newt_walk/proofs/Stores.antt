@@ -1,26 +1,26 @@
 -- The stores that are mounted, as the units know them.
-use Rattle.std.proofs.Common.{arith, ◌≡◌, refl, ap, sym, ◌∙◌, subst, ℕ, zero, suc, ◌+◌, ◌<◌, ◌≤◌, List, [], ◌∷◌, Bool, true, false, cond, map, find, length, Option, Some, None, option_map, option_and_then, IsTrue, ◌==◌}
+use Rattle.std.proofs.Common.{arith, ◌≡◌, refl, ap, sym, ◌∙◌, subst, ℕ, ◌+◌, ◌≤◌, List, [], ◌∷◌, Bool, true, false, cond, map, find, length, Option, Some, None, option_map, IsTrue, ◌==◌}
 use Rattle.std.specs.Prelude.{filter_map}
 use Rattle.std.specs.List.{enumerate_from, cons_option}
 use Rattle.std.proofs.lemmas.Bool.{eqb-true}
 use Rattle.newt_host.specs.Moments.{image}
 use Rattle.newt_host.specs.Outside.{Outside}
-use Rattle.newt_spec_graph.specs.Lists.{Each, Among}
+use Rattle.newt_spec_graph.specs.Lists.{Each}
 use Rattle.newt_spec_graph.proofs.Lists.{some-same, none-some}
 use Rattle.newt_spec_store.specs.Store.{Store}
 use Rattle.newt_spec_store.specs.Valid.{well_formed}
 use Rattle.newt_spec_world.specs.First.{media_of, unit_numbers}
-use Rattle.newt_spec_world.specs.World.{World, Device, on_unit, mounted, mounted_store, mounted_stores, store_of}
+use Rattle.newt_spec_world.specs.World.{World, Device, on_unit, mounted, mounted_stores, store_of}
 use Rattle.newt_laws_changes.proofs.Chosen.{find-passes}
-use Rattle.newt_laws_answers.specs.Faces.{faces, first_showing}
+use Rattle.newt_laws_answers.specs.Faces.{first_showing}
 use Rattle.newt_laws_answers.specs.There.{OnUnit}
 use Rattle.newt_laws_answers.specs.WorldAt.{device_at}
 use Rattle.newt_laws_answers.proofs.Faces.{find-none, find-found}
 use Rattle.newt_laws_answers.proofs.Units.{is-mounted}
 use Rattle.newt_units.specs.declared.units.Units.{Units}
 use Rattle.newt_units.specs.Faces.{card_faces}
-use Rattle.newt_units.specs.Stands.{Stands, Eight, card_at, mounted_in, world_of}
-use Rattle.newt_units.proofs.Known.{Laws, Plain, card-known}
+use Rattle.newt_units.specs.Stands.{Stands, Eight, mounted_in, world_of}
+use Rattle.newt_units.proofs.Known.{Laws, card-known}
 use Rattle.newt_units.proofs.Resolving.{showing-card}
 use Rattle.newt_units.proofs.Shown.{faces-known}
 
@@ -28,11 +28,11 @@ use Rattle.newt_units.proofs.Shown.{faces-known}
 
 chosen-each : {X Y : Type 0} (P : Y → Type 0) (f : X → Option Y) (xs : List X) → ((x : X) (y : Y) → f x ≡ Some y → P y) → Each P (filter_map f xs)
 chosen-each P f [] h = tt
-chosen-each P f (x ∷ xs) h = go (f x) refl
+chosen-each P f (x ∷ xs) h = go (f x) refl (chosen-each P f xs h)
   where
-    go : (o : Option _) → f x ≡ o → Each P (cons_option o (filter_map f xs))
-    go None e = chosen-each P f xs h
-    go (Some y) e = (h x y e, chosen-each P f xs h)
+    go : (o : Option _) → f x ≡ o → Each P (filter_map f xs) → Each P (cons_option o (filter_map f xs))
+    go None e more = more
+    go (Some y) e more = (h x y e, more)
 
 chosen-few : {X Y : Type 0} (f : X → Option Y) (xs : List X) → length (filter_map f xs) ≤ length xs
 chosen-few f [] = omega arith
@@ -50,18 +50,18 @@ abbrev rest_from : ℕ → List (Option Device) → List (ℕ × Store)
 rest_from n ds = filter_map (λ d. option_map (λ s. (d.0, s)) (on_unit d.1)) (enumerate_from (n + 1) ds)
 
 -- the store of a signature, with its unit and without
-find-store : (sig n : ℕ) (ds : List (Option Device))
-    → find (λ t. t.sig == sig) (filter_map on_unit ds) ≡ option_map (λ m. m.1) (find (λ m. m.1.sig == sig) (filter_map (λ d. option_map (λ s. (d.0, s)) (on_unit d.1)) (enumerate_from n ds)))
+pub find-store : (sig n : ℕ) (ds : List (Option Device))
+    → find (λ t. t.sig == sig) (filter_map on_unit ds) ≡ option_map (λ (m : ℕ × Store). m.1) (find (λ m. m.1.sig == sig) (filter_map (λ d. option_map (λ s. (d.0, s)) (on_unit d.1)) (enumerate_from n ds)))
 find-store sig n [] = refl
 find-store sig n (d ∷ ds) = go (on_unit d) (find-store sig (n + 1) ds)
   where
-    at : (t : Store) (b : Bool) → find (λ t. t.sig == sig) (filter_map on_unit ds) ≡ option_map (λ m. m.1) (find (λ m. m.1.sig == sig) (rest_from n ds))
-        → cond b (Some t) (find (λ t. t.sig == sig) (filter_map on_unit ds)) ≡ option_map (λ m. m.1) (cond b (Some (n, t)) (find (λ m. m.1.sig == sig) (rest_from n ds)))
+    at : (t : Store) (b : Bool) → find (λ t. t.sig == sig) (filter_map on_unit ds) ≡ option_map (λ (m : ℕ × Store). m.1) (find (λ m. m.1.sig == sig) (rest_from n ds))
+        → cond b (Some t) (find (λ t. t.sig == sig) (filter_map on_unit ds)) ≡ option_map (λ (m : ℕ × Store). m.1) (cond b (Some (n, t)) (find (λ m. m.1.sig == sig) (rest_from n ds)))
     at t true h = refl
     at t false h = h
 
-    go : (o : Option Store) → find (λ t. t.sig == sig) (filter_map on_unit ds) ≡ option_map (λ m. m.1) (find (λ m. m.1.sig == sig) (rest_from n ds))
-        → find (λ t. t.sig == sig) (cons_option o (filter_map on_unit ds)) ≡ option_map (λ m. m.1) (find (λ m. m.1.sig == sig) (cons_option (option_map (λ s. (n, s)) o) (rest_from n ds)))
+    go : (o : Option Store) → find (λ t. t.sig == sig) (filter_map on_unit ds) ≡ option_map (λ (m : ℕ × Store). m.1) (find (λ m. m.1.sig == sig) (rest_from n ds))
+        → find (λ t. t.sig == sig) (cons_option o (filter_map on_unit ds)) ≡ option_map (λ (m : ℕ × Store). m.1) (find (λ m. m.1.sig == sig) (cons_option (option_map (λ s. (n, s)) o) (rest_from n ds)))
     go None h = h
     go (Some t) h = at t (t.sig == sig) h
 
@@ -110,7 +110,7 @@ module _ {C : Type 0} {reads : List ℕ → Option Store} {place : C → ℕ} {s
       let c = showing-card soups units.slots.items sig u h in
       let k = card-known l units o e s u c.0 c.1 in
       let with : find (λ m. m.1.sig == sig) (mounted w) ≡ Some (u, k.store) =
-          find-found w sig u k.store (ap (first_showing sig) (faces-known l units o e s) ∙ h) (is-mounted w u (o.blocks u) k.store k.on) in
+      find-found w sig u k.store (ap (first_showing sig) (faces-known l units o e s) ∙ h) (is-mounted w u (o.blocks u) k.store k.on) in
       let only : find (λ t. t.sig == sig) (mounted_stores w) ≡ Some k.store = find-store sig 0 w.units ∙ ap (option_map (λ (m : ℕ × Store). m.1)) with in
       record {
         store = k.store;

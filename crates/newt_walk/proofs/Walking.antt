@@ -1,16 +1,20 @@
 -- Walks among the hits of the merge.
-use Rattle.std.proofs.Common.{arith, ◌≡◌, refl, ap, sym, ◌∙◌, subst, ℕ, zero, suc, ◌+◌, ◌<◌, ◌≤◌, ◌^◌, List, [], ◌∷◌, Bool, true, false, cond, filter, length, Option, Some, None, IsTrue}
+use Rattle.std.proofs.Common.{arith, ◌≡◌, refl, ap, sym, ◌∙◌, ℕ, zero, suc, ◌+◌, ◌<◌, ◌≤◌, ◌^◌, List, [], ◌∷◌, true, false, cond, filter, length, Option, Some, None, IsTrue, ℤ, pos, negsuc, to_z, of_z}
+use Rattle.std.specs.Prelude.{FitsSigned}
+use Rattle.std.specs.Int.{w32}
+use Rattle.std.specs.Int.Signed.{lt_z}
+use Rattle.std.proofs.Math.IntN.{nat_abs}
+use Rattle.std.proofs.lemmas.Int.{to_z-of_z}
 use Rattle.newt_spec_graph.specs.Lists.{Each}
-use Rattle.newt_spec_graph.proofs.Lists.{some-same, none-some}
 use Rattle.newt_spec_store.specs.Keys.{IndexSpec, Key}
 use Rattle.newt_spec_store.specs.Store.{Store}
 use Rattle.newt_spec_store.specs.Valid.{well_formed}
-use Rattle.newt_spec_query.specs.Hits.{Query, Hit, hits}
-use Rattle.newt_spec_query.specs.Cursor.{Place, start, finish, on, is_after, is_before, first_place, last_place, next_place, previous_place, place_at_key, repeated}
+use Rattle.newt_spec_query.specs.Hits.{Query, Hit}
+use Rattle.newt_spec_query.specs.Cursor.{Place, start, finish, on, is_after, is_before, first_place, last_place, next_place, place_at_key, repeated, moved}
 use Rattle.newt_spec_world.specs.World.{World, mounted_stores, hits_of}
 use Rattle.newt_laws.specs.Settled.{MountedApart}
 use Rattle.newt_laws_changes.proofs.Soups.{filter-length}
-use Rattle.newt_union.specs.Merged.{Member, merged, after, before, at_or_after}
+use Rattle.newt_union.specs.Merged.{merged, at_or_after}
 use Rattle.newt_laws_hits.specs.Stripped.{passing, stripped}
 use Rattle.newt_laws_hits.specs.Taking.{members_of}
 use Rattle.newt_laws_hits.specs.Walk.{walked, count_after, count_before}
@@ -37,6 +41,10 @@ pub ahead-one : (way : Way) (index : IndexSpec) (hs : List Hit) (h : Hit) → 0 
 ahead-one On index hs h = omega arith
 ahead-one Back index hs h = omega arith
 
+-- where a walk comes to
+abbrev pub comes_to : World → Query → Way → Option Hit → Place
+comes_to w q way o = walked (passing (mounted_stores w) q) (edge way) (stepping way (hits_of w q) q.spec.index) o
+
 module _ (w : World) (q : Query) (apart : MountedApart w) (formed : Each (λ s. IsTrue (well_formed s)) (mounted_stores w)) where
   abbrev stores : List Store
   stores = mounted_stores w
@@ -44,26 +52,22 @@ module _ (w : World) (q : Query) (apart : MountedApart w) (formed : Each (λ s. 
   abbrev all_hits : List Hit
   all_hits = merged q.spec.index (members_of stores q)
 
-  -- where a walk comes to
-  abbrev pub goal : Way → Option Hit → Place
-  goal way o = walked (passing stores q) (edge way) (stepping way (hits_of w q) q.spec.index) o
-
-  pub outermost-goal : (way : Way) → outermost way (hits_of w q) ≡ goal way (met way all_hits)
+  pub outermost-goal : (way : Way) → outermost way (hits_of w q) ≡ comes_to w q way (met way all_hits)
   outermost-goal On = first-search stores q apart formed
   outermost-goal Back = last-search stores q apart formed
 
-  pub step-goal : (way : Way) (h : Hit) → stepping way (hits_of w q) q.spec.index (on h) ≡ goal way (beyond way q.spec.index (members_of stores q) h)
+  pub step-goal : (way : Way) (h : Hit) → stepping way (hits_of w q) q.spec.index (on h) ≡ comes_to w q way (beyond way q.spec.index (members_of stores q) h)
   step-goal On h = next-search stores q apart formed h
   step-goal Back h = previous-search stores q apart formed h
 
-  pub key-goal : (k : Key) → place_at_key (hits_of w q) q.spec.index k ≡ goal On (at_or_after q.spec.index (members_of stores q) k)
+  pub key-goal : (k : Key) → place_at_key (hits_of w q) q.spec.index k ≡ comes_to w q On (at_or_after q.spec.index (members_of stores q) k)
   key-goal k = at_key-search stores q apart formed k
 
   -- a hit that passes, and one that does not
-  pub passed-goal : (way : Way) (h : Hit) → true ≡ passing stores q h → goal way (Some h) ≡ on h
+  pub passed-goal : (way : Way) (h : Hit) → true ≡ passing stores q h → comes_to w q way (Some h) ≡ on h
   passed-goal way h e = ap (λ b. cond b (on h) (stepping way (hits_of w q) q.spec.index (on h))) (sym e)
 
-  pub over-goal : (way : Way) (h : Hit) → false ≡ passing stores q h → goal way (Some h) ≡ goal way (beyond way q.spec.index (members_of stores q) h)
+  pub over-goal : (way : Way) (h : Hit) → false ≡ passing stores q h → comes_to w q way (Some h) ≡ comes_to w q way (beyond way q.spec.index (members_of stores q) h)
   over-goal way h e = ap (λ b. cond b (on h) (stepping way (hits_of w q) q.spec.index (on h))) (sym e) ∙ step-goal way h
 
   -- fewer and fewer hits are ahead
@@ -114,3 +118,12 @@ at-edge On (on h) e = cc
 at-edge Back start e = refl
 at-edge Back finish e = cc
 at-edge Back (on h) e = cc
+
+-- a number that is not below zero
+pub moved-on : (by : ℤ) (n : ℕ) → FitsSigned w32 by → lt_z (to_z w32 (of_z w32 by)) (pos 0) ≡ false → n ≡ nat_abs (to_z w32 (of_z w32 by))
+    → (hs : List Hit) (index : IndexSpec) (place : Place) → repeated n (next_place hs index) place ≡ moved by hs index place
+moved-on by n fits least is hs index place = go by (sym (ap (λ z. lt_z z (pos 0)) (to_z-of_z w32 by fits)) ∙ least) (is ∙ ap nat_abs (to_z-of_z w32 by fits))
+  where
+    go : (by : ℤ) → lt_z by (pos 0) ≡ false → n ≡ nat_abs by → repeated n (next_place hs index) place ≡ moved by hs index place
+    go (pos m) l e = ap (λ k. repeated k (next_place hs index) place) e
+    go (negsuc m) l e = cc

@@ -2,7 +2,7 @@
 use Rattle.std.specs.Prelude.{ℕ, Bool, true, false, ◌&&◌, List, Option, Some, None, option_map, option_and_then, cond}
 use Rattle.std.specs.Borrow.{Bor}
 use Rattle.newt_spec_store.specs.Keys.{IndexSpec, same_spec}
-use Rattle.newt_spec_store.specs.Store.{Store, Soup, entry_of, soup_named}
+use Rattle.newt_spec_store.specs.Store.{Store, entry_of, soup_named}
 use Rattle.newt_spec_query.specs.Hits.{Query, Hit, above, below, in_scope}
 use Rattle.newt_index.specs.Pairs.{Sorted}
 use Rattle.newt_union.specs.Merged.{Member, AllAgree}

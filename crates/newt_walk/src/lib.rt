@@ -5,6 +5,8 @@
 //! as that world answers it, and leaves what stands for the world after it; and nothing happens to a device but reading.
 #![tactic(auto)]
 
+mod commands;
+mod counting;
 mod desks;
 mod keep;
 mod places;
@@ -15,5 +17,6 @@ mod show;
 mod walk;
 mod ways;
 
+pub use commands::{clone_of, close, count, entry, which};
 pub use settling::settle;
 pub use show::{Shown, Side};

@@ -54,13 +54,19 @@ pub(crate) fn step<C: Card, H: Host>(
         IfOk result (λ next. place_of next ≡ stepping way (hits_of w q) q.spec.index (place_of place.now)) }
     ensures cause { IfErr result (λ stop. HasStopCause stop (H.outside host.old) (H.outside host.new)) }
 {
-    match (place, way) {
-        (Place::On(spot), _) => {
+    match place {
+        Place::On(spot) => {
             let found = search::beyond(units, query, way, spot)?;
             walk(units, host, query, way, found)
         }
-        (Place::Start, Way::On) | (Place::Finish, Way::Back) => outermost(units, host, query, way),
-        (Place::Start, Way::Back) | (Place::Finish, Way::On) => Ok(edge(way)),
+        Place::Start => match way {
+            Way::On => outermost(units, host, query, way),
+            Way::Back => Ok(Place::Start),
+        },
+        Place::Finish => match way {
+            Way::On => Ok(Place::Finish),
+            Way::Back => outermost(units, host, query, way),
+        },
     }
 }
 

@@ -1,5 +1,6 @@
 //! Entries that are hits of a query, by their identity.
-ghost use Rattle.std.specs.Prelude.{◌≡◌, ℕ, true, IsTrue, Some, option_map, option_and_then, IfOk, IfErr, IfSome};
+ghost use Rattle.std.specs.Prelude.{◌≡◌, ◌&&◌, ℕ, true, IsTrue, Some, option_map, option_and_then, IfOk, IfErr, IfSome};
+ghost use Rattle.newt_base.specs.Names.{equal_text};
 ghost use Rattle.newt_host.specs.Moments.{image};
 ghost use Rattle.newt_host.specs.Outside.{Outside};
 ghost use Rattle.newt_keys.specs.KeyForm.{IsKeyOf};
@@ -82,9 +83,22 @@ fn card_takes_part<C: Card>(card: &C, query: &Query, soup: Sig) -> bool
     let Some(name) = card.soup_name(soup) else {
         return false;
     };
-    in_scope(query.scope, card.sig())
-        && name.list() == query.name.list()
-        && card.range(soup, index_of(query)).is_some()
+    let scoped = in_scope(query.scope, card.sig());
+    let named = is_text(name.list(), query.name.list());
+    let carried = card.range(soup, index_of(query)).is_some();
+    all_three(scoped, named, carried)
+}
+
+fn is_text(a: &[u8], b: &[u8]) -> bool
+    ensures { result ≡ equal_text a.now b.now }
+{
+    a == b
+}
+
+fn all_three(a: bool, b: bool, c: bool) -> bool
+    ensures { result ≡ (a && (b && c)) }
+{
+    a && b && c
 }
 
 /// Whether the store of a signature is in a scope.

@@ -94,8 +94,8 @@ fn members<'a, C: Card>(units: &'a Units<C>, query: &Query) -> Result<Members<'a
 {
     let mut members = Members::new(units.alloc());
     for number in 0..UNITS {
-        if let Some((store, soup, range)) = member_on(units, Unit(number), query) {
-            members.add(store, soup, range)?;
+        if let Some(member) = member_on(units, Unit(number), query) {
+            members.add(member.0, member.1, member.2)?;
         }
     }
     Ok(members)
@@ -117,7 +117,11 @@ fn member_on<'a, C: Card>(
     }
     let soup = card.soup_named(&query.name)?;
     let range = card.range(soup, index_of(query))?;
-    agrees(range, index_of(query)).then_some((card.sig(), soup, range))
+    if agrees(range, index_of(query)) {
+        Some((card.sig(), soup, range))
+    } else {
+        None
+    }
 }
 
 /// Whether a range is by a declaration that agrees with the given one. Each range that is found for a declaration is.

@@ -39,7 +39,7 @@ pub(crate) fn walk<C: Card, H: Host>(
     ensures cause { IfErr result (λ stop. HasStopCause stop (H.outside host.old) (H.outside host.new)) }
 {
     let mut found = start;
-    'steps: for _step in 0..u32::MAX {
+    'steps: for _step in 0..u64::MAX {
         let Some(spot) = found else {
             return Ok(edge(way));
         };
