@@ -7,3 +7,4 @@ pub mod Ways
 pub mod Searched
 pub mod Replies
 pub mod Keyed
+pub mod Motions
