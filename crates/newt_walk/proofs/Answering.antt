@@ -1,22 +1,19 @@
 -- What the world answers to the commands that move a cursor.
-use Rattle.std.proofs.Common.{◌≡◌, refl, ap, sym, ◌∙◌, subst, ℕ, List, [], ◌∷◌, Bool, true, false, Option, Some, None, option_map, option_and_then, ℤ}
+use Rattle.std.proofs.Common.{◌≡◌, refl, ap, sym, ◌∙◌, subst, ℕ, [], ◌∷◌, Bool, true, false, Option, Some, None, ℤ}
 use Rattle.std.specs.Prelude.{Result, Ok, Err, is_none}
 use Rattle.newt_base.specs.Refusals.{Checks, first_of}
 use Rattle.newt_base.specs.declared.Refusal.{Refusal}
-use Rattle.newt_base.specs.declared.Refusal.TheVariants.{Cursor as NoCursor, Key as BadKey, Entry as NoEntry}
+use Rattle.newt_base.specs.declared.Refusal.TheVariants.{Cursor as NoCursor, Key as BadKey}
 use Rattle.newt_graph.specs.Graph.{RawGraph}
-use Rattle.newt_spec_graph.proofs.Lists.{some-same, none-some}
 use Rattle.newt_spec_store.specs.Keys.{Key}
-use Rattle.newt_spec_query.specs.Hits.{Hit}
-use Rattle.newt_spec_query.specs.Cursor.{Cursor, Place, on, first_place, last_place, next_place, previous_place, moved, place_at_key}
+use Rattle.newt_spec_query.specs.Cursor.{Cursor}
 use Rattle.newt_spec_world.specs.declared.command.Command.{Command}
 use Rattle.newt_spec_world.specs.declared.command.Command.TheVariants as command
 use Rattle.newt_spec_world.specs.Reply.{Reply}
 use Rattle.newt_spec_world.specs.World.{World, cursor, hits_of, set_place, settle}
-use Rattle.newt_spec_world.specs.Changed.{Step, changed, step_from, stepped, go_to_key, to_key, key_from, hit_for, put_on}
-use Rattle.newt_spec_world.specs.Refused.{checks, no_cursor, bad_key, not_a_hit, no_unit, not_mounted, on_some}
+use Rattle.newt_spec_world.specs.Changed.{Step, changed, step_from, stepped, go_to_key, to_key, key_from}
+use Rattle.newt_spec_world.specs.Refused.{checks, no_cursor, bad_key, on_some}
 use Rattle.newt_spec_world.specs.Answer.{answer, current, fields, or_nil}
-use Rattle.newt_laws_answers.specs.Tests.{unit_checks}
 use Rattle.newt_units.specs.declared.fault.Fault.{Fault}
 use Rattle.newt_units.specs.declared.fault.Fault.TheVariants.{Refused, Stop}
 use Rattle.newt_walk.specs.Motions.{Steers, step_of}

@@ -1,6 +1,6 @@
 -- Going to the hit of an entry.
 use Rattle.std.proofs.Common.{◌≡◌, refl, ap, sym, ◌∙◌, subst, ℕ, List, [], ◌∷◌, Bool, true, false, ◌&&◌, ◌==◌, find, Option, Some, None, option_map, option_and_then, IsTrue}
-use Rattle.std.specs.Prelude.{Result, Ok, Err, is_none}
+use Rattle.std.specs.Prelude.{Result, Err, is_none}
 use Rattle.newt_base.specs.Refusals.{Checks, first_of}
 use Rattle.newt_base.specs.declared.Refusal.{Refusal}
 use Rattle.newt_base.specs.declared.Refusal.TheVariants.{Cursor as NoCursor, Entry as NoEntry}
@@ -13,11 +13,11 @@ use Rattle.newt_spec_query.specs.Hits.{Query, Hit}
 use Rattle.newt_spec_query.specs.Cursor.{Cursor, on}
 use Rattle.newt_spec_world.specs.declared.command.Command.TheVariants as command
 use Rattle.newt_spec_world.specs.Reply.{Reply}
-use Rattle.newt_spec_world.specs.World.{World, cursor, hits_of, mounted, mounted_store, mounted_stores, set_place, settle, soup_in}
+use Rattle.newt_spec_world.specs.World.{World, cursor, hits_of, mounted, mounted_stores, set_place, settle, soup_in}
 use Rattle.newt_spec_world.specs.Changed.{changed, hit_for, hit_in, put_on, sig_of}
 use Rattle.newt_spec_world.specs.Refused.{checks, no_cursor, not_a_hit, no_unit, not_mounted, on_some}
 use Rattle.newt_spec_world.specs.Alias.{Spot, resolved}
-use Rattle.newt_spec_world.specs.Answer.{answer, current, fields, or_nil, spot_of}
+use Rattle.newt_spec_world.specs.Answer.{answer, current, fields, or_nil}
 use Rattle.newt_laws.specs.Settled.{MountedApart}
 use Rattle.newt_laws_answers.specs.Tests.{unit_checks}
 use Rattle.newt_laws_answers.specs.There.{OnUnit}

@@ -1,6 +1,4 @@
 -- The command steps so.
-use Rattle.newt_walk.specs.Motions.{step_of}
-use Rattle.newt_walk.specs.World.{world_with}
 use Rattle.newt_walk.proofs.Answering.{steered-answers, end-steps}
 use Rattle.newt_walk.proofs.stepping.end.Goals as goal
 

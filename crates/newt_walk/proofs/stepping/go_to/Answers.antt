@@ -1,5 +1,5 @@
 -- The unit is looked up, the cursor is open, and the hit is there.
-use Rattle.std.proofs.Common.{◌≡◌, ◌∙◌, refl, ap, sym, subst, true, option_map}
+use Rattle.std.proofs.Common.{◌∙◌, refl, ap, sym, subst, true, option_map}
 use Rattle.std.specs.Prelude.{is_none, slice_get}
 use Rattle.std.proofs.lemmas.Result.{err_from_is_err_and}
 use Rattle.newt_base.specs.declared.Refusal.TheVariants.{Entry as NoEntry}
@@ -12,7 +12,7 @@ use Rattle.newt_laws.specs.Settled.{MountedApart}
 use Rattle.newt_laws_answers.specs.There.{OnUnit}
 use Rattle.newt_laws_cursors.specs.Cursors.{with_cursors}
 use Rattle.newt_units.specs.Looks.{known_unit}
-use Rattle.newt_units.specs.Stands.{Stands, Eight, world_of}
+use Rattle.newt_units.specs.Stands.{Stands, Eight}
 use Rattle.newt_units.proofs.Known.{Laws, card-known, mounted-known, unit-checks-are}
 use Rattle.newt_units.proofs.Settings.{is-err}
 use Rattle.newt_walk.specs.Keyed.{seen_cursor}

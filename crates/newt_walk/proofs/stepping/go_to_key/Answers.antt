@@ -1,8 +1,7 @@
 -- The cursor is open, the literal is a key of its index, and it steps there.
-use Rattle.std.proofs.Common.{◌≡◌, ◌∙◌, ap, sym}
+use Rattle.std.proofs.Common.{◌∙◌, ap, sym}
 use Rattle.std.specs.Prelude.{is_none}
 use Rattle.newt_walk.specs.Keyed.{seen_cursor}
-use Rattle.newt_walk.specs.World.{world_with}
 use Rattle.newt_walk.proofs.Answering.{no-cursor-key, bad-key, key-answers}
 use Rattle.newt_walk.proofs.stepping.go_to_key.Goals as goal
 

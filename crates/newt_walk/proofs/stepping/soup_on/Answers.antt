@@ -1,5 +1,5 @@
 -- The card knows the store and its soups.
-use Rattle.std.proofs.Common.{◌≡◌, ◌∙◌, sym}
+use Rattle.std.proofs.Common.{◌∙◌, sym}
 use Rattle.newt_units.proofs.Known.{Laws}
 use Rattle.newt_walk.proofs.Going.{no-soup-on, soup-on}
 use Rattle.newt_walk.proofs.stepping.soup_on.Goals as goal

@@ -1,5 +1,5 @@
 -- The soup and the hit are looked up.
-use Rattle.std.proofs.Common.{◌≡◌, ◌∙◌, ap, sym, subst, true, option_map}
+use Rattle.std.proofs.Common.{◌∙◌, ap, sym, subst, true, option_map}
 use Rattle.newt_cursor.specs.Seen.{query_of}
 use Rattle.newt_units.specs.Stands.{Stands, Eight, world_of}
 use Rattle.newt_units.proofs.Known.{Laws}
