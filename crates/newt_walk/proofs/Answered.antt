@@ -1,15 +1,16 @@
 -- What the world answers to a command whose tests are known, and to those that show, count, clone and close a cursor.
-use Rattle.std.proofs.Common.{◌≡◌, refl, ap, sym, ◌∙◌, subst, ℕ, List, [], ◌∷◌, Bool, true, false, Option, Some, None, option_map}
+use Rattle.std.proofs.Common.{◌≡◌, refl, ap, sym, ◌∙◌, subst, ℕ, List, [], ◌∷◌, Bool, true, false, Option, Some, None, option_map, length}
 use Rattle.std.specs.Prelude.{is_none, is_some, not, slice_set}
 use Rattle.newt_base.specs.Refusals.{Checks, first_of}
 use Rattle.newt_base.specs.declared.Refusal.{Refusal}
 use Rattle.newt_base.specs.declared.Refusal.TheVariants.{Cursor as NoCursor, Limit}
 use Rattle.newt_spec_graph.proofs.Lists.{some-same, none-some}
+use Rattle.newt_spec_query.specs.Hits.{Query}
 use Rattle.newt_spec_query.specs.Cursor.{Cursor, Place}
 use Rattle.newt_spec_world.specs.declared.command.Command.{Command}
 use Rattle.newt_spec_world.specs.declared.command.Command.TheVariants as command
 use Rattle.newt_spec_world.specs.Reply.{Reply}
-use Rattle.newt_spec_world.specs.World.{World, cursor, free_cursor, settle}
+use Rattle.newt_spec_world.specs.World.{World, cursor, free_cursor, hits_of, settle}
 use Rattle.newt_spec_world.specs.Changed.{changed, cloned, open_cursor, open_at}
 use Rattle.newt_spec_world.specs.Refused.{checks, no_cursor, no_free_cursor}
 use Rattle.newt_spec_world.specs.Answer.{answer, answered, current, fields, or_nil, side}
@@ -70,9 +71,14 @@ pub entry-open : (w v : World) (n : ℕ) (reply : Reply) → is_none (cursor w n
 unfolding checks changed fields
 entry-open w v n reply e after said = done-goal w w v (command.Entry n) reply (open-cursor w n [] e) refl after said
 
-pub count-open : (w v : World) (n : ℕ) (reply : Reply) → is_none (cursor w n) ≡ false → v ≡ settle w → reply ≡ fields w (settle w) (command.Count n) → answer w (command.Count n) ≡ (v, reply)
-unfolding checks changed
+pub count-open : (w v : World) (n : ℕ) (reply : Reply) → is_none (cursor w n) ≡ false → v ≡ settle w → reply ≡ or_nil (λ k. Reply.number (length (hits_of w k.query))) (cursor w n) → answer w (command.Count n) ≡ (v, reply)
+unfolding checks changed fields
 count-open w v n reply e after said = done-goal w w v (command.Count n) reply (open-cursor w n [] e) refl after said
+
+pub count-said : (w : World) (o : Option Cursor) (q : Query) (n : ℕ) → Some q ≡ option_map (λ k. k.query) o → n ≡ length (hits_of w q)
+    → Reply.number n ≡ or_nil (λ k. Reply.number (length (hits_of w k.query))) o
+count-said w None q n e h = absurd (none-some q (sym e))
+count-said w (Some k) q n e h = ap Reply.number (h ∙ ap (λ q. length (hits_of w q)) (some-same q k.query e))
 
 which-side : (o : Option Cursor) (p : Place) → Some p ≡ option_map (λ k. k.place) o → side_at p ≡ or_nil side o
 which-side None p e = absurd (none-some p (sym e))

@@ -8,3 +8,5 @@ pub mod Searched
 pub mod Replies
 pub mod Keyed
 pub mod Queried
+pub mod Opening
+pub mod Motions

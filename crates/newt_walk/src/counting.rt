@@ -1,5 +1,5 @@
 //! The number of the hits of a query.
-ghost use Rattle.std.specs.Prelude.{◌≡◌, IsTrue, IfOk, IfErr, length};
+ghost use Rattle.std.specs.Prelude.{◌≡◌, ◌+◌, ◌^◌, ◌<◌, IsTrue, IfOk, IfErr, cond, length};
 ghost use Rattle.newt_cursor.specs.Seen.{query_of};
 ghost use Rattle.newt_spec_world.specs.World.{hits_of};
 ghost use Rattle.newt_laws.specs.Settled.{MountedApart};
@@ -33,10 +33,16 @@ pub(crate) fn count_hits<C: Card, H: Host>(
         let Some(spot) = found else {
             return Ok(count);
         };
-        if keeps(units, host, query, &spot)? {
-            count = count.saturating_add(1);
-        }
+        let kept = keeps(units, host, query, &spot)?;
+        count = one_more(count, kept);
         found = beyond(units, query, Way::On, &spot)?;
     }
     Ok(count)
+}
+
+/// A count and one more where a hit is kept.
+fn one_more(count: u32, kept: bool) -> u32
+    ensures { count + cond kept 1 0 < 2 ^ 32 → result ≡ count + cond kept 1 0 }
+{
+    if kept { count.saturating_add(1) } else { count }
 }

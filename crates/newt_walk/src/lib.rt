@@ -15,9 +15,11 @@ mod present;
 mod search;
 mod settling;
 mod show;
+mod stepping;
 mod walk;
 mod ways;
 
 pub use commands::{clone_of, close, count, entry, which};
 pub use settling::settle;
 pub use show::{Shown, Side};
+pub use stepping::{end, go_to, go_to_key, moveby, next, prev, reset};
