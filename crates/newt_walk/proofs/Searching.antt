@@ -182,7 +182,7 @@ all-push P (y ∷ xs) x a p = All-cons P y (xs ++ x ∷ []) (All-head P y xs a) 
 pub one-member : (index : IndexSpec) (ms : List Member) (m : Member) → AreMembers index ms → Agree index (parts_of m.range.spec) → IsSorted m.range → AreMembers index (ms ++ m ∷ [])
 one-member index ms m are a s = record { agree = all-push (OneAgrees index) ms m are.agree a; sorted = all-push OneSorted ms m are.sorted s }
 
-chosen-kept : {X Y : Type 0} (f : X → Option Y) (test : X → Bool) (xs : List X) → filter_map f (filter test xs) ≡ filter_map (λ x. cond (test x) (f x) None) xs
+pub chosen-kept : {X Y : Type 0} (f : X → Option Y) (test : X → Bool) (xs : List X) → filter_map f (filter test xs) ≡ filter_map (λ x. cond (test x) (f x) None) xs
 chosen-kept f test [] = refl
 chosen-kept f test (x ∷ xs) = go (test x) (chosen-kept f test xs)
   where
@@ -191,7 +191,7 @@ chosen-kept f test (x ∷ xs) = go (test x) (chosen-kept f test xs)
     go true h = ap (cons_option (f x)) h
     go false h = h
 
-chosen-twice : {X Y Z : Type 0} (f : Y → Option Z) (g : X → Option Y) (xs : List X) → filter_map f (filter_map g xs) ≡ filter_map (λ x. option_and_then f (g x)) xs
+pub chosen-twice : {X Y Z : Type 0} (f : Y → Option Z) (g : X → Option Y) (xs : List X) → filter_map f (filter_map g xs) ≡ filter_map (λ x. option_and_then f (g x)) xs
 chosen-twice f g [] = refl
 chosen-twice f g (x ∷ xs) = go (g x) (chosen-twice f g xs)
   where

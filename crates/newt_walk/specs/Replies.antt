@@ -4,6 +4,7 @@ use Rattle.newt_spec_world.specs.declared.command.Command.{Command}
 use Rattle.newt_spec_world.specs.Reply.{Reply}
 use Rattle.newt_spec_world.specs.World.{World}
 use Rattle.newt_spec_world.specs.Answer.{answer}
+use Rattle.newt_spec_query.specs.Cursor.{Place, start, finish, on}
 use Rattle.newt_units.specs.declared.fault.Fault.{Fault}
 use Rattle.newt_units.specs.declared.fault.Fault.TheVariants.{Refused, Stop}
 use Rattle.newt_walk.specs.declared.show.Shown.{Shown}
@@ -29,3 +30,7 @@ abbrev pub side_reply : Side → Reply
 side_reply at.Begin = Reply.begin
 side_reply at.End = Reply.«end»
 side_reply at.Nil = Reply.nil
+
+-- the reply that names the side on which a place is (this project's own)
+abbrev pub side_at : Place → Reply
+side_at p = elim p [ start ↦ Reply.begin | finish ↦ Reply.«end» | on _ ↦ Reply.nil ]

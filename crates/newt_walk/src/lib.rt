@@ -5,15 +5,21 @@
 //! as that world answers it, and leaves what stands for the world after it; and nothing happens to a device but reading.
 #![tactic(auto)]
 
+mod commands;
+mod counting;
 mod desks;
+mod indexes;
 mod keep;
 mod places;
 mod present;
 mod search;
 mod settling;
 mod show;
+mod stepping;
 mod walk;
 mod ways;
 
+pub use commands::{clone_of, close, count, entry, which};
 pub use settling::settle;
 pub use show::{Shown, Side};
+pub use stepping::{end, go_to, go_to_key, moveby, next, prev, reset};
