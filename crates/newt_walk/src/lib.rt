@@ -10,6 +10,7 @@ mod counting;
 mod desks;
 mod indexes;
 mod keep;
+mod opening;
 mod places;
 mod present;
 mod search;
@@ -20,6 +21,7 @@ mod walk;
 mod ways;
 
 pub use commands::{clone_of, close, count, entry, which};
+pub use opening::query;
 pub use settling::settle;
 pub use show::{Shown, Side};
 pub use stepping::{end, go_to, go_to_key, moveby, next, prev, reset};

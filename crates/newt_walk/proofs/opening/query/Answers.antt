@@ -1,0 +1,22 @@
+use Rattle.std.proofs.Common.{rules, ◌≡◌, true, is_none, IsTrue, Some, IfErr, IfOk, OnErr, slice_set, ℕ, ◌+◌, ◌-◌, ◌*◌, ◌<◌, ◌≤◌, length, ◌/◌, ◌%◌, Bool, false, nat_eq, nat_lt, List, [], ◌∷◌, ◌++◌, slice_index_or, bit_and, bit_or, Fits, w8, w32, w64, Bor, MutBor}
+use Rattle.std.specs.List.{position}
+use Rattle.newt_host.specs.Outside.{Outside}
+use Rattle.newt_cursor.specs.Seen.{place_of, query_of, scope_of}
+use Rattle.newt_spec_world.specs.Reply.{Reply}
+use Rattle.newt_spec_world.specs.declared.command.Command.{Command}
+use Rattle.newt_laws.specs.Settled.{MountedApart}
+use Rattle.newt_units.specs.Faults.{HasFaultCause, NoDevice}
+use Rattle.newt_units.specs.Stands.{Eight, Stands, world_of}
+use Rattle.newt_walk.specs.Fits.{DeskFits}
+use Rattle.newt_walk.specs.Opening.{Binds, Indexes, LimitsBy, Opens, Shapes}
+use Rattle.newt_walk.specs.Replies.{Answers}
+use Rattle.newt_walk.specs.World.{AreRead, world_with}
+use Rattle.newt_walk.proofs.opening.query.Goals as goal
+
+-- src/opening.rt:48:9
+pub returns-in-Err-clause-answered : goal.returns-in-Err-clause-answered
+returns-in-Err-clause-answered g c = ?
+
+-- src/opening.rt:31:1
+pub returns-clause-answered : goal.returns-clause-answered
+returns-clause-answered g c = ?
