@@ -7,6 +7,5 @@ pub mod Ways
 pub mod Searched
 pub mod Replies
 pub mod Keyed
-pub mod Queried
 pub mod Opening
 pub mod Motions

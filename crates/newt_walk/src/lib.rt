@@ -5,11 +5,13 @@
 //! as that world answers it, and leaves what stands for the world after it; and nothing happens to a device but reading.
 #![tactic(auto)]
 
+mod asking;
 mod commands;
 mod counting;
+mod declared;
 mod desks;
-mod indexes;
 mod keep;
+mod opening;
 mod places;
 mod present;
 mod search;
@@ -20,6 +22,7 @@ mod walk;
 mod ways;
 
 pub use commands::{clone_of, close, count, entry, which};
+pub use opening::{query, query_all};
 pub use settling::settle;
 pub use show::{Shown, Side};
 pub use stepping::{end, go_to, go_to_key, moveby, next, prev, reset};
