@@ -80,7 +80,7 @@ module _ {C : Type 0} {reads : List ℕ → Option Store} {place : C → ℕ} {s
   unit-indexes scope name paths = ap first_of_list (
       (λ i. filter_map (λ u. option_and_then (index_in scope name paths) (on_unit (at-device l units o e s u i))) unit_numbers)
       ∙ sym (ap (filter_map (index_in scope name paths)) (chosen-map on_unit (device_at reads (mounted_in units.slots.items) o) unit_numbers)
-        ∙ chosen-twice (index_in scope name paths) (λ u. on_unit (device_at reads (mounted_in units.slots.items) o u)) unit_numbers)
+      ∙ chosen-twice (index_in scope name paths) (λ u. on_unit (device_at reads (mounted_in units.slots.items) o u)) unit_numbers)
       ∙ sym (chosen-kept (λ (s : Store). index_in_soup paths (soup_named name s)) (in_scope scope) (mounted_stores (world_of reads units o))))
 
 -- a unit more

@@ -225,7 +225,10 @@ pub const REFUSED: &[Answered] = &[
     ("soup 0 S", "ok 0"),
     ("query 0 T {x: 1}", "error 30 soup"),
     ("query 0 S {x: 1}", "error 41 spec"),
-    ("query 0 S {indexPath: 'k, beginKey: \"a\"}", "error 40 index"),
+    (
+        "query 0 S {indexPath: 'k, beginKey: \"a\"}",
+        "error 40 index",
+    ),
     ("index 0 S k:int:ascend", "ok"),
     ("query 0 S {indexPath: 'k, beginKey: \"a\"}", "error 43 key"),
     ("query 0 S {beginKey: 1}", "error 41 spec"),

@@ -61,7 +61,11 @@ fn expect(rt: &impl Abort, alloc: Global, name: &str, lines: &[Answered]) -> Res
     let mut host = host(alloc, &text(alloc, lines, false)?)?;
     let words = words(alloc)?;
     assert_eq!(rt; run(alloc, &words, &mut host), Status::Ok, "{name}");
-    assert_eq!(rt; host.output(), text(alloc, lines, true)?.as_slice(), "{name}");
+    assert_eq!(rt;
+        host.output(),
+        text(alloc, lines, true)?.as_slice(),
+        "{name}"
+    );
     Ok(())
 }
 

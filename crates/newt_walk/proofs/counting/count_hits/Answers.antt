@@ -86,4 +86,4 @@ hits-preserved g c = record {
         let stand2 : Stands g.C.Card.place g.C.Card.stands true c.keeps.new.units p = subst (λ b. Stands g.C.Card.place g.C.Card.stands b c.keeps.new.units p) t c.keeps.ensures.read.stand in
         c.in_ok-found-2.ensures.found p eight2 stand2
         ∙ ap (λ (v : World). beyond On c.args.query.now.spec.index (members_of (mounted_stores v) (query_of c.args.query.now)) (hit_of c.in-Some.spot))
-          (c.keeps.ensures.read.world t ∙ c.hits.invariant.read.world t)
+        (c.keeps.ensures.read.world t ∙ c.hits.invariant.read.world t)
