@@ -32,21 +32,21 @@ returns-then-in_scope g c outside eight stands =
     let laws : Laws g.C.Card.reads g.C.Card.place g.C.Card.soups g.C.Card.stands = record { formed = g.met.C.Card.formed; plain = g.met.C.Card.plain; durable = g.met.C.Card.durable; banks = g.met.C.Card.banks; kept = g.met.C.Card.kept } in
     let w = world_of g.C.Card.reads c.args.units.now outside in
     let f = soup-found laws c.args.units.now outside eight stands c.args.unit c.args.name.now c.in_ok-soup.soup
-        (ap (option_and_then (λ card. option_map (λ (p : Soup). p.sig) (soup_named c.args.name.now (g.C.Card.soups card)))) (sym c.in_ok-card.ensures) ∙ sym c.in_ok-soup.ensures) in
+    (ap (option_and_then (λ card. option_map (λ (p : Soup). p.sig) (soup_named c.args.name.now (g.C.Card.soups card)))) (sym c.in_ok-card.ensures) ∙ sym c.in_ok-soup.ensures) in
     let r = on-card laws c.args.units.now outside eight stands c.args.unit (outside.blocks c.args.unit) f.store f.on c.in_ok-card.card.now c.in_ok-card.ensures in
     c.index_of_soup.ensures
     ∙ bare-has (λ (p : Soup). find (λ spec. same_paths (paths_of spec) c.args.paths.now) p.specs) (λ p. refl) c.in_ok-soup.soup f.store (g.C.Card.soups c.in_ok-card.card.now) r.2
     ∙ ap (option_and_then (λ (p : Soup). find (λ spec. same_paths (paths_of spec) c.args.paths.now) p.specs)) f.by_sig
     ∙ sym (scoped-index (scope_of c.args.scope.now) c.args.name.now c.args.paths.now f.store true (c.if-in_scope.ensures f.store (ap (λ (t : Store). t.sig) r.2 ∙ sym c.sig.ensures))
-      (mounted_store w c.args.unit) (is-mounted w c.args.unit (outside.blocks c.args.unit) f.store f.on)
-      ∙ ap (index_in_soup c.args.paths.now) f.named)
+    (mounted_store w c.args.unit) (is-mounted w c.args.unit (outside.blocks c.args.unit) f.store f.on)
+    ∙ ap (index_in_soup c.args.paths.now) f.named)
 
 pub returns-else-in_scope : goal.returns-else-in_scope
 returns-else-in_scope g c outside eight stands =
     let laws : Laws g.C.Card.reads g.C.Card.place g.C.Card.soups g.C.Card.stands = record { formed = g.met.C.Card.formed; plain = g.met.C.Card.plain; durable = g.met.C.Card.durable; banks = g.met.C.Card.banks; kept = g.met.C.Card.kept } in
     let w = world_of g.C.Card.reads c.args.units.now outside in
     let f = soup-found laws c.args.units.now outside eight stands c.args.unit c.args.name.now c.in_ok-soup.soup
-        (ap (option_and_then (λ card. option_map (λ (p : Soup). p.sig) (soup_named c.args.name.now (g.C.Card.soups card)))) (sym c.in_ok-card.ensures) ∙ sym c.in_ok-soup.ensures) in
+    (ap (option_and_then (λ card. option_map (λ (p : Soup). p.sig) (soup_named c.args.name.now (g.C.Card.soups card)))) (sym c.in_ok-card.ensures) ∙ sym c.in_ok-soup.ensures) in
     let r = on-card laws c.args.units.now outside eight stands c.args.unit (outside.blocks c.args.unit) f.store f.on c.in_ok-card.card.now c.in_ok-card.ensures in
     sym (scoped-index (scope_of c.args.scope.now) c.args.name.now c.args.paths.now f.store false (c.if-in_scope.ensures f.store (ap (λ (t : Store). t.sig) r.2 ∙ sym c.sig.ensures))
-      (mounted_store w c.args.unit) (is-mounted w c.args.unit (outside.blocks c.args.unit) f.store f.on))
+    (mounted_store w c.args.unit) (is-mounted w c.args.unit (outside.blocks c.args.unit) f.store f.on))
