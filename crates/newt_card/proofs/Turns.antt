@@ -9,6 +9,8 @@ use Rattle.newt_pagebook.proofs.Tests.{some_inj}
 use Rattle.newt_shelf.specs.Places.{place_of}
 use Rattle.newt_spec_store.specs.OfImage.{blocks_of}
 use Rattle.newt_spec_store.specs.Store.{Store as Plain}
+use Rattle.newt_ranges.specs.Stands.{AreRangesOf}
+use Rattle.newt_ranges.specs.declared.rows.SoupRanges.{SoupRanges}
 use Rattle.newt_store.proofs.Reading.{read-back}
 use Rattle.newt_store.specs.Change.{changed_by, refusals, refusal_of}
 use Rattle.newt_store.specs.Stage.{readable}
@@ -54,13 +56,22 @@ pub reads-it : (catalog : Catalog) (s : Plain) (now : List ℕ) → StandsFor ca
 reads-it catalog s now stands = read-back catalog.directory (place_of catalog.places) stands.texts s now stands.holds stands.describes stands.fits
 
 -- a store that is read is the one that it stands for
-pub stands-for : (catalog : Catalog) (s : Plain) (now : List ℕ) → StandsForOne catalog now → readable now ≡ Some s → StandsFor catalog s now
-stands-for catalog s now one reads = subst (λ (t : Plain). StandsFor catalog t now) (some_inj one.plain s (sym (reads-it catalog one.plain now one.stands) ∙ reads)) one.stands
+pub is-plain : (catalog : Catalog) (rows : List SoupRanges) (s : Plain) (now : List ℕ) (one : StandsForOne catalog rows now) → readable now ≡ Some s → one.plain ≡ s
+is-plain catalog rows s now one reads = some_inj one.plain s (sym (reads-it catalog one.plain now one.stands) ∙ reads)
+
+pub stands-for : (catalog : Catalog) (rows : List SoupRanges) (s : Plain) (now : List ℕ) → StandsForOne catalog rows now → readable now ≡ Some s → StandsFor catalog s now
+stands-for catalog rows s now one reads = subst (λ (t : Plain). StandsFor catalog t now) (is-plain catalog rows s now one reads) one.stands
+
+-- and the ranges are those of that store
+pub ranges-for : (catalog : Catalog) (rows : List SoupRanges) (s : Plain) (now : List ℕ) → StandsForOne catalog rows now → readable now ≡ Some s → AreRangesOf s rows
+ranges-for catalog rows s now one reads = subst (λ (t : Plain). AreRangesOf t rows) (is-plain catalog rows s now one reads) one.ranges
 
 -- after a call that reads it still stands
-pub one-over : (catalog catalog' : Catalog) (unit unit' : ℕ) (old new : Moment) → catalog' ≡ catalog → unit' ≡ unit → new ≡ old → StandsForOne catalog (image unit old) → StandsForOne catalog' (image unit' new)
-one-over catalog catalog' unit unit' old new same place now one = subst (λ (c : Catalog). StandsForOne c (image unit' new)) (sym same)
-    (subst (λ (u : ℕ). StandsForOne catalog (image u new)) (sym place) (subst (λ (m : Moment). StandsForOne catalog (image unit m)) (sym now) one))
+pub one-over : (catalog catalog' : Catalog) (rows rows' : List SoupRanges) (unit unit' : ℕ) (old new : Moment) → catalog' ≡ catalog → rows' ≡ rows → unit' ≡ unit → new ≡ old
+    → StandsForOne catalog rows (image unit old) → StandsForOne catalog' rows' (image unit' new)
+one-over catalog catalog' rows rows' unit unit' old new same ranges place now one = subst (λ (c : Catalog). StandsForOne c rows' (image unit' new)) (sym same)
+    (subst (λ (r : List SoupRanges). StandsForOne catalog r (image unit' new)) (sym ranges)
+    (subst (λ (u : ℕ). StandsForOne catalog rows (image u new)) (sym place) (subst (λ (m : Moment). StandsForOne catalog rows (image unit m)) (sym now) one)))
 
 -- the tests by the blocks of the unit
 pub by-blocks : (change : Change) (blocks now : ℕ) (s : Plain) (img : List ℕ) (due : Option Refusal) → blocks_of img ≡ blocks → refusal_of change (blocks_of img) now s ≡ due → first_of (refusals change blocks now s) ≡ due

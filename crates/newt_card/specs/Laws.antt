@@ -22,7 +22,8 @@ use Rattle.newt_store.proofs.Reading.{both, read-back}
 use Rattle.newt_store.specs.Stage.{is_simple, readable}
 use Rattle.newt_store.specs.Stands.{IsSound}
 use Rattle.newt_store.specs.declared.catalog.Catalog.{Catalog}
-use Rattle.newt_store.specs.declared.store.Store.{Store}
+use Rattle.newt_ranges.specs.declared.rows.SoupRanges.{SoupRanges}
+use Rattle.newt_indexed.specs.declared.store.IndexedStore.{IndexedStore}
 use Rattle.newt_units.specs.Cards.{IsSame}
 use Rattle.newt_card.specs.Stands.{StandsForOne, StandsOn}
 
@@ -35,8 +36,8 @@ formed_read bytes s h =
     ((both (well_formed s) (fits (blocks_of bytes) s) valid).0, parts.1)
 
 -- where memory and image stand for a store, the image is read as one whose soups are known
-pub read_as : (catalog : Catalog) (now : List ℕ) → StandsForOne catalog now → (s : Plain) × (readable now ≡ Some s) × (bare s ≡ bare_store catalog.directory)
-read_as catalog now one = (
+pub read_as : (catalog : Catalog) (rows : List SoupRanges) (now : List ℕ) → StandsForOne catalog rows now → (s : Plain) × (readable now ≡ Some s) × (bare s ≡ bare_store catalog.directory)
+read_as catalog rows now one = (
   one.plain,
   read-back catalog.directory (place_of catalog.places) one.stands.texts one.plain now one.stands.holds one.stands.describes one.stands.fits,
   one.stands.describes.bare_is,
@@ -60,20 +61,22 @@ sound_kept told catalog numbers unit old new same sound =
     }
 
 -- and the image stands for the same
-pub one_kept : (told : Bool) (catalog : Catalog) (unit : ℕ) (old new : Outside) → IsSame told unit old new → (IsTrue told → StandsForOne catalog (image unit old.now)) → IsTrue told → StandsForOne catalog (image unit new.now)
-one_kept told catalog unit old new same one tells = subst (λ (c : List Event). StandsForOne catalog (bytes_after c)) (sym (same.changes tells)) (one tells)
+pub one_kept : (told : Bool) (catalog : Catalog) (rows : List SoupRanges) (unit : ℕ) (old new : Outside) → IsSame told unit old new → (IsTrue told → StandsForOne catalog rows (image unit old.now)) → IsTrue told → StandsForOne catalog rows (image unit new.now)
+one_kept told catalog rows unit old new same one tells = subst (λ (c : List Event). StandsForOne catalog rows (bytes_after c)) (sym (same.changes tells)) (one tells)
 
 module _ {B : Type 0} (place : B → ℕ) (numbers : B → Numbers) (stands : Bool → B → Outside → Type 0) where
   -- its unit is read as a store, whose soups are known
-  pub plain_read : (store : Store B) (outside : Outside) → StandsOn place numbers stands true store outside
-      → (s : Plain) × (readable (image (place store.book) outside.now) ≡ Some s) × (bare s ≡ bare_store store.catalog.directory)
-  plain_read store outside on = read_as store.catalog (image (place store.book) outside.now) (on.plain refl)
+  pub plain_read : (store : IndexedStore B) (outside : Outside) → StandsOn place numbers stands true store outside
+      → (s : Plain) × (readable (image (place store.store.book) outside.now) ≡ Some s) × (bare s ≡ bare_store store.store.catalog.directory)
+  plain_read store outside on = read_as store.store.catalog store.ranges (image (place store.store.book) outside.now) (on.plain refl)
 
   -- a call on another unit, on the input or on the output keeps it, where it keeps the book
   pub kept_on : ((told : Bool) (book : B) (old new : Outside) → stands told book old → IsSameFor told (place book) old new → stands told book new)
-      → (told : Bool) (store : Store B) (old new : Outside) → StandsOn place numbers stands told store old → IsSame told (place store.book) old new → StandsOn place numbers stands told store new
+      → (told : Bool) (store : IndexedStore B) (old new : Outside) → StandsOn place numbers stands told store old → IsSame told (place store.store.book) old new → StandsOn place numbers stands told store new
   kept_on book_kept told store old new on same = record {
-    book = book_kept told store.book old new on.book (record { card = same.card; blocks = same.blocks; changes = same.changes });
-    sound = sound_kept told store.catalog (numbers store.book) (place store.book) old new same on.sound;
-    plain = one_kept told store.catalog (place store.book) old new same on.plain;
+    is_open = record {
+      book = book_kept told store.store.book old new on.is_open.book (record { card = same.card; blocks = same.blocks; changes = same.changes });
+      sound = sound_kept told store.store.catalog (numbers store.store.book) (place store.store.book) old new same on.is_open.sound;
+    };
+    plain = one_kept told store.store.catalog store.ranges (place store.store.book) old new same on.plain;
   }

@@ -12,28 +12,28 @@ ghost use Rattle.newt_card.specs.Stands.{StandsOn};
 
 use newt_base::Sig;
 use newt_host::Host;
+use newt_indexed::{Change, IndexedStore, Paths, StoreFault};
 use newt_pagebook::PageBook;
-use newt_store::{Change, Paths, Store, StoreFault};
 use newt_units::Fault;
 
 /// Makes a change at a minute, and answers the new id or soup signature, else 0.
 pub(crate) fn change_store<P: PageBook, H: Host>(
-    store: &mut Store<P>,
+    store: &mut IndexedStore<P>,
     host: &mut H,
     change: Change,
     now: u32,
 ) -> Result<u32, Fault>
     requires { StandsOn P.place P.numbers P.stands H.told store.old (H.outside host.old) }
     ensures stands { GoesOn result → StandsOn P.place P.numbers P.stands H.told store.new (H.outside host.new) }
-    ensures place { P.place store.new.book ≡ P.place store.old.book }
-    ensures made { IsTrue H.told → (s : Plain) → readable (image (P.place store.old.book) (H.outside host.old).now) ≡ Some s →
-        Does (refusals change ((H.outside host.old).blocks (P.place store.old.book)) now s) (λ n. n ≡ answer_of change s)
-        (Some s) (Some (changed_by change now s)) (readable (image (P.place store.old.book) (H.outside host.new).now)) result }
-    ensures others { IsTrue H.told → OthersSame (P.place store.old.book) (H.outside host.old).now (H.outside host.new).now }
-    ensures any_moment { IsTrue H.told → (s : Plain) → readable (image (P.place store.old.book) (H.outside host.old).now) ≡ Some s →
-        Leaves (P.place store.old.book) (LeavesEither readable (refusals change ((H.outside host.old).blocks (P.place store.old.book)) now s) s (changed_by change now s)) (H.outside host.old).now (H.outside host.new).now }
-    ensures alone { Touches (P.place store.old.book) (H.outside host.old) (H.outside host.new) }
-    ensures cause { IfErr result (FaultsAt (P.place store.old.book) (H.outside host.old) (H.outside host.new)) }
+    ensures place { P.place store.new.store.book ≡ P.place store.old.store.book }
+    ensures made { IsTrue H.told → (s : Plain) → readable (image (P.place store.old.store.book) (H.outside host.old).now) ≡ Some s →
+        Does (refusals change ((H.outside host.old).blocks (P.place store.old.store.book)) now s) (λ n. n ≡ answer_of change s)
+        (Some s) (Some (changed_by change now s)) (readable (image (P.place store.old.store.book) (H.outside host.new).now)) result }
+    ensures others { IsTrue H.told → OthersSame (P.place store.old.store.book) (H.outside host.old).now (H.outside host.new).now }
+    ensures any_moment { IsTrue H.told → (s : Plain) → readable (image (P.place store.old.store.book) (H.outside host.old).now) ≡ Some s →
+        Leaves (P.place store.old.store.book) (LeavesEither readable (refusals change ((H.outside host.old).blocks (P.place store.old.store.book)) now s) s (changed_by change now s)) (H.outside host.old).now (H.outside host.new).now }
+    ensures alone { Touches (P.place store.old.store.book) (H.outside host.old) (H.outside host.new) }
+    ensures cause { IfErr result (FaultsAt (P.place store.old.store.book) (H.outside host.old) (H.outside host.new)) }
 {
     match store.apply(host, change, now) {
         Ok(answer) => Ok(answer),
@@ -44,21 +44,21 @@ pub(crate) fn change_store<P: PageBook, H: Host>(
 
 /// Removes the index of these paths from a soup that is there.
 pub(crate) fn drop_paths<P: PageBook, H: Host>(
-    store: &mut Store<P>,
+    store: &mut IndexedStore<P>,
     host: &mut H,
     soup: Sig,
     paths: Paths,
 ) -> Result<(), Fault>
     requires { StandsOn P.place P.numbers P.stands H.told store.old (H.outside host.old) }
     ensures stands { GoesOn result → StandsOn P.place P.numbers P.stands H.told store.new (H.outside host.new) }
-    ensures place { P.place store.new.book ≡ P.place store.old.book }
-    ensures made { IsTrue H.told → (s : Plain) (p : Soup) → readable (image (P.place store.old.book) (H.outside host.old).now) ≡ Some s → soup_of soup s ≡ Some p →
-        Does [] (λ _. ⊤) (Some s) (Some (change_soup p.name (without_index paths) s)) (readable (image (P.place store.old.book) (H.outside host.new).now)) result }
-    ensures others { IsTrue H.told → OthersSame (P.place store.old.book) (H.outside host.old).now (H.outside host.new).now }
-    ensures any_moment { IsTrue H.told → (s : Plain) (p : Soup) → readable (image (P.place store.old.book) (H.outside host.old).now) ≡ Some s → soup_of soup s ≡ Some p →
-        Leaves (P.place store.old.book) (LeavesEither readable [] s (change_soup p.name (without_index paths) s)) (H.outside host.old).now (H.outside host.new).now }
-    ensures alone { Touches (P.place store.old.book) (H.outside host.old) (H.outside host.new) }
-    ensures cause { IfErr result (FaultsAt (P.place store.old.book) (H.outside host.old) (H.outside host.new)) }
+    ensures place { P.place store.new.store.book ≡ P.place store.old.store.book }
+    ensures made { IsTrue H.told → (s : Plain) (p : Soup) → readable (image (P.place store.old.store.book) (H.outside host.old).now) ≡ Some s → soup_of soup s ≡ Some p →
+        Does [] (λ _. ⊤) (Some s) (Some (change_soup p.name (without_index paths) s)) (readable (image (P.place store.old.store.book) (H.outside host.new).now)) result }
+    ensures others { IsTrue H.told → OthersSame (P.place store.old.store.book) (H.outside host.old).now (H.outside host.new).now }
+    ensures any_moment { IsTrue H.told → (s : Plain) (p : Soup) → readable (image (P.place store.old.store.book) (H.outside host.old).now) ≡ Some s → soup_of soup s ≡ Some p →
+        Leaves (P.place store.old.store.book) (LeavesEither readable [] s (change_soup p.name (without_index paths) s)) (H.outside host.old).now (H.outside host.new).now }
+    ensures alone { Touches (P.place store.old.store.book) (H.outside host.old) (H.outside host.new) }
+    ensures cause { IfErr result (FaultsAt (P.place store.old.store.book) (H.outside host.old) (H.outside host.new)) }
 {
     match change_store(store, host, Change::DropIndex(soup, paths), 0) {
         Ok(_) => Ok(()),

@@ -5,10 +5,12 @@ use crate::change::{change_store, drop_paths};
 use newt_base::{Name, Sig, Uid};
 use newt_graph::Graph;
 use newt_host::{Host, Unit};
+use newt_index::Index;
+use newt_indexed::{Change, IndexedStore, Paths};
 use newt_keys::IndexSpec;
 use newt_pagebook::{BookFault, PageBook, Stop};
 use newt_path::Path;
-use newt_store::{Change, Paths, Store};
+use newt_store::Store;
 use newt_tags::TagTable;
 use newt_units::{Card, Entry, Fault};
 use std::alloc::Global;
@@ -16,7 +18,7 @@ use std::alloc::Global;
 /// A store on the card of one unit, kept on a book of pages. After a fault that ends the run it is spent.
 #[derive(Drop)]
 pub struct Kept<P: PageBook> {
-    store: Store<P>,
+    store: IndexedStore<P>,
 }
 
 impl<P: PageBook> Card for Kept<P> {
@@ -28,9 +30,9 @@ impl<P: PageBook> Card for Kept<P> {
 
     ghost reads = { readable };
 
-    ghost place = { λ card. P.place card.store.book };
+    ghost place = { λ card. P.place card.store.store.book };
 
-    ghost soups = { λ card. bare_store card.store.catalog.directory };
+    ghost soups = { λ card. bare_store card.store.store.catalog.directory };
 
     ghost stands = { λ told card outside. StandsOn P.place P.numbers P.stands told card.store outside };
 
@@ -38,9 +40,9 @@ impl<P: PageBook> Card for Kept<P> {
 
     ghost plain = { λ card outside stands. plain_read P.place P.numbers P.stands card.store outside stands };
 
-    ghost durable = { λ card outside stands. (P.tells true card.store.book outside stands.book refl).1 };
+    ghost durable = { λ card outside stands. (P.tells true card.store.store.book outside stands.is_open.book refl).1 };
 
-    ghost banks = { λ told card outside stands. (P.has_banks told card.store.book outside stands.book).0 };
+    ghost banks = { λ told card outside stands. (P.has_banks told card.store.store.book outside stands.is_open.book).0 };
 
     ghost kept = { λ told card old new stands same. kept_on P.place P.numbers P.stands P.kept told card.store old new stands same };
 
@@ -58,7 +60,7 @@ impl<P: PageBook> Card for Kept<P> {
     }
 
     fn open<H: Host>(alloc: Global, host: &mut H, unit: Unit) -> Result<Self, BookFault> {
-        match Store::<P>::open(alloc, host, unit) {
+        match IndexedStore::<P>::open(alloc, host, unit) {
             Ok(store) => Ok(Kept { store }),
             Err(fault) => Err(fault),
         }
@@ -205,6 +207,10 @@ impl<P: PageBook> Card for Kept<P> {
             Some(row) => row.tags.as_ref(),
             None => None,
         }
+    }
+
+    fn range(&self, soup: Sig, spec: Option<&IndexSpec>) -> Option<&Index> {
+        self.store.range_of(soup, spec)
     }
 
     fn count(&self, soup: Sig) -> u32 {

@@ -1,3 +1,5 @@
 pub mod Groups
 pub mod Handed
 pub mod Refusing
+pub mod Settling
+pub mod Starting

@@ -1,5 +1,5 @@
 -- A command that is refused leaves the world.
-use Rattle.std.proofs.Common.{◌≡◌, refl, sym, ◌∙◌, ap, Bool, true, false, cond, map, length, ◌∷◌, [], Some, None, Option, option_and_then, IfOk}
+use Rattle.std.proofs.Common.{◌≡◌, refl, sym, ◌∙◌, ap, ℕ, Bool, true, false, cond, map, length, ◌∷◌, [], Some, None, Option, option_and_then, IfOk}
 use Rattle.std.specs.Prelude.{Result, Ok}
 use Rattle.newt_base.specs.Refusals.{first_of}
 use Rattle.newt_base.specs.declared.Refusal.{Refusal}
@@ -13,15 +13,38 @@ use Rattle.newt_spec_world.specs.declared.command.Command.{Command}
 use Rattle.newt_spec_world.specs.declared.command.Command.TheVariants as command
 use Rattle.newt_spec_world.specs.Reply as plain
 use Rattle.newt_spec_store.specs.Store.{Store, Soup, Entry}
+use Rattle.newt_spec_query.specs.Cursor.{Cursor, Place, start, finish, on, hit_at}
 use Rattle.newt_spec_world.specs.Alias.{Spot, alias_of, resolved}
-use Rattle.newt_spec_world.specs.World.{World, mounted_store, soup_in, entry_in}
-use Rattle.newt_spec_world.specs.Answer.{answered, fields, or_nil}
+use Rattle.newt_spec_world.specs.World.{World, mounted_store, soup_in, entry_in, cursor, free_cursor, hits_of}
+use Rattle.newt_spec_world.specs.Answer.{answered, current, fields, or_nil, shown, side, spot_of}
 use Rattle.newt_spec_world.specs.Refused.{checks}
 use Rattle.newt_laws_answers.specs.Stage.{answer_now, checks_now, is_built, new_graph, staged}
 
 nil_not : {X : Type 0} (shown : X → plain.Reply) (o : Option X) (r : Refusal) → ((x : X) → shown x ≡ plain.Reply.refused r → ⊥) → or_nil shown o ≡ plain.Reply.refused r → ⊥
 nil_not shown None r never h = cc
 nil_not shown (Some x) r never h = never x h
+
+-- what a cursor shows is no refusal
+current_not : (v : World) (r : Refusal) (k : Cursor) → current v k ≡ plain.Reply.refused r → ⊥
+current_not v r k h = go k.place h
+  where
+    spot : (o : Option Spot) → elim o [ Some s ↦ shown s | None ↦ plain.Reply.deleted ] ≡ plain.Reply.refused r → ⊥
+    spot (Some s) e = cc
+    spot None e = cc
+
+    go : (place : Place) → current v (record { query = k.query; place = place }) ≡ plain.Reply.refused r → ⊥
+    go start e = cc
+    go finish e = cc
+    go (on at) e = spot (option_and_then (spot_of v) (hit_at (hits_of v k.query) (on at))) e
+
+-- nor is a side
+side_not : (r : Refusal) (k : Cursor) → side k ≡ plain.Reply.refused r → ⊥
+side_not r k h = go k.place h
+  where
+    go : (place : Place) → elim place [ start ↦ plain.Reply.begin | finish ↦ plain.Reply.«end» | on _ ↦ plain.Reply.nil ] ≡ plain.Reply.refused r → ⊥
+    go start e = cc
+    go finish e = cc
+    go (on at) e = cc
 
 -- the reply to a command that is done is no refusal
 fields_not : (w v : World) (c : Command) (r : Refusal) → is_built c ≡ true → fields w v c ≡ plain.Reply.refused r → ⊥
@@ -41,6 +64,11 @@ fields_not w v (command.Drop u s) r b h = cc
 fields_not w v (command.Add u s g) r b h = cc
 fields_not w v (command.Addx u s g) r b h = cc
 fields_not w v (command.Addu s g) r b h = cc
+fields_not w v (command.Index u s parts) r b h = cc
+fields_not w v (command.Unindex u s paths) r b h = cc
+fields_not w v (command.Indexes u s) r b h = nil_not {X = Soup} (λ p. plain.Reply.indexes p.specs) (soup_in w u s) r (λ x k. cc) h
+fields_not w v (command.Tags u s) r b h = nil_not {X = Soup} (λ p. plain.Reply.tags p.tags) (soup_in w u s) r (λ x k. cc) h
+fields_not w v (command.SetTags u s path symbols) r b h = cc
 fields_not w v (command.Get u s uid) r b h = nil_not {X = Entry} (λ e. plain.Reply.timed e.time e.graph) (entry_in w u s uid) r (λ x k. cc) h
 fields_not w v (command.Getx u s uid) r b h = nil_not {X = Entry} (λ e. plain.Reply.timed_nsof e.time e.graph) (entry_in w u s uid) r (λ x k. cc) h
 fields_not w v (command.Set u s uid path g) r b h = cc
@@ -50,6 +78,20 @@ fields_not w v (command.Copy u s uid t p) r b h = cc
 fields_not w v (command.Move u s uid t p) r b h = cc
 fields_not w v (command.Alias u s uid) r b h = nil_not {X = Store} (λ t. or_nil (λ p. plain.Reply.alias t.sig p.sig uid) (soup_in w u s)) (mounted_store w u) r (λ t k. nil_not {X = Soup} (λ p. plain.Reply.alias t.sig p.sig uid) (soup_in w u s) r (λ p l. cc) k) h
 fields_not w v (command.Resolve g) r b h = nil_not {X = Spot} (λ s. plain.Reply.where_is s.unit s.soup.name s.entry.uid) (option_and_then (resolved w) (alias_of g)) r (λ x k. cc) h
+fields_not w v (command.Query u s g) r b h = nil_not {X = ℕ} (λ n. plain.Reply.number n) (free_cursor w) r (λ x k. cc) h
+fields_not w v (command.QueryAll s g) r b h = nil_not {X = ℕ} (λ n. plain.Reply.number n) (free_cursor w) r (λ x k. cc) h
+fields_not w v (command.Entry c) r b h = nil_not {X = Cursor} (current v) (cursor v c) r (current_not v r) h
+fields_not w v (command.Next c) r b h = nil_not {X = Cursor} (current v) (cursor v c) r (current_not v r) h
+fields_not w v (command.Prev c) r b h = nil_not {X = Cursor} (current v) (cursor v c) r (current_not v r) h
+fields_not w v (command.Reset c) r b h = nil_not {X = Cursor} (current v) (cursor v c) r (current_not v r) h
+fields_not w v (command.End c) r b h = nil_not {X = Cursor} (current v) (cursor v c) r (current_not v r) h
+fields_not w v (command.Moveby c n) r b h = nil_not {X = Cursor} (current v) (cursor v c) r (current_not v r) h
+fields_not w v (command.Goto c u uid) r b h = nil_not {X = Cursor} (current v) (cursor v c) r (current_not v r) h
+fields_not w v (command.Gotokey c g) r b h = nil_not {X = Cursor} (current v) (cursor v c) r (current_not v r) h
+fields_not w v (command.Count c) r b h = nil_not {X = Cursor} (λ k. plain.Reply.number (length (hits_of w k.query))) (cursor w c) r (λ x k. cc) h
+fields_not w v (command.Which c) r b h = nil_not {X = Cursor} side (cursor w c) r (side_not r) h
+fields_not w v (command.Clone c) r b h = nil_not {X = ℕ} (λ n. plain.Reply.number n) (free_cursor w) r (λ x k. cc) h
+fields_not w v (command.Close c) r b h = cc
 fields_not w v _ r b h = both-ways b
 
 pub refused_stays : (w : World) (c : Command) (r : Refusal) → (answer_now w c).1 ≡ plain.Reply.refused r → (answer_now w c).0 ≡ w

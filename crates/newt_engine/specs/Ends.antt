@@ -1,9 +1,10 @@
 -- Which commands may end the run. This project's own.
-use Rattle.std.specs.Prelude.{Bool, true, false}
+use Rattle.std.specs.Prelude.{Bool, true}
 use Rattle.newt_spec_world.specs.declared.command.Command.{Command}
 use Rattle.newt_spec_world.specs.declared.command.Command.TheVariants as command
+use Rattle.newt_engine.specs.Groups.{on_cursor}
 
--- a device is read or written
+-- a device is read or written; a command of cursors settles them all, so it may read their entries
 abbrev pub uses_device : Command → Bool
 uses_device (command.Format _ _ _) = true
 uses_device (command.Mount _) = true
@@ -22,7 +23,7 @@ uses_device (command.Change _ _ _ _) = true
 uses_device (command.Remove _ _ _) = true
 uses_device (command.Copy _ _ _ _ _) = true
 uses_device (command.Move _ _ _ _ _) = true
-uses_device _ = false
+uses_device c = on_cursor c
 
 -- memory is taken; whatever uses a device takes some
 abbrev pub takes_memory : Command → Bool

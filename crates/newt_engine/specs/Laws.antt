@@ -1,5 +1,5 @@
 -- What stands between commands, and what no command takes away.
-use Rattle.std.proofs.Common.{◌≡◌, refl, ap, sym, ◌∙◌, ℕ, zero, suc, ◌≤◌, List, [], ◌∷◌, Bool, true, false, ◌||◌, IsTrue, Option, Some, None, map, cond}
+use Rattle.std.proofs.Common.{◌≡◌, refl, ap, sym, ◌∙◌, subst, ℕ, zero, suc, ◌≤◌, List, [], ◌∷◌, Bool, true, false, ◌||◌, IsTrue, Option, Some, None, map, cond}
 use Rattle.std.specs.Prelude.{is_some, slice_index_or, slice_get}
 use Rattle.newt_base.specs.Refusals.{Checks, first_of}
 use Rattle.newt_base.specs.declared.Refusal.{Refusal}
@@ -9,6 +9,7 @@ use Rattle.newt_host.specs.Moments.{IsDurable, MayLeave, image}
 use Rattle.newt_host.specs.Outside.{Outside}
 use Rattle.newt_session.specs.Causes.{SameDevices}
 use Rattle.newt_spec_graph.proofs.Lists.{none-some, some-same, both-ways}
+use Rattle.newt_spec_query.specs.Cursor.{Cursor}
 use Rattle.newt_spec_store.specs.Laid.{bare}
 use Rattle.newt_spec_store.specs.Lies.{has_no_large}
 use Rattle.newt_spec_store.specs.Store.{Store}
@@ -18,15 +19,18 @@ use Rattle.newt_spec_world.specs.World.{World, store_on_unit}
 use Rattle.newt_spec_world.specs.Answer.{answered}
 use Rattle.newt_spec_world.specs.Refused.{Check, checks}
 use Rattle.newt_laws.specs.Later.{WorldLater}
+use Rattle.newt_laws.specs.Settled.{IsSettled, MountedApart}
 use Rattle.newt_laws.proofs.Kept.{AllFalse, all-false}
 use Rattle.newt_laws.proofs.Later.{row-later, world-not}
+use Rattle.newt_laws_cursors.specs.Cursors.{with_cursors}
 use Rattle.newt_laws_answers.specs.Stage.{answer_now, checks_now, is_built, new_graph, has_large, staged}
 use Rattle.newt_units.specs.declared.units.Units.{Units}
 use Rattle.newt_units.specs.Cards.{IsSame}
-use Rattle.newt_units.specs.Stands.{Eight, world_of}
+use Rattle.newt_units.specs.Stands.{Eight}
 use Rattle.newt_units.proofs.Known.{Laws}
 use Rattle.newt_units.proofs.Slots.{stands-still}
 use Rattle.newt_units.proofs.Turns.{world-still, left-alone}
+use Rattle.newt_walk.specs.World.{world_with}
 use Rattle.newt_engine.specs.Standing.{Standing}
 
 -- ---- between commands
@@ -47,22 +51,29 @@ pub laws_of : {C : Type 0} {reads : List ℕ → Option Store} {place : C → �
     → Laws reads place soups stands
 laws_of formed plain durable banks kept = record { formed = formed; plain = plain; durable = durable; banks = banks; kept = kept }
 
-pub still_stands : {C : Type 0} {place : C → ℕ} {stands : Bool → C → Outside → Type 0}
+pub still_stands : {C : Type 0} {reads : List ℕ → Option Store} {place : C → ℕ} {stands : Bool → C → Outside → Type 0}
     → ((told : Bool) (card : C) (old new : Outside) → stands told card old → IsSame told (place card) old new → stands told card new)
     → ((card : C) (outside : Outside) → stands true card outside → IsDurable (place card) outside.now)
-    → (told : Bool) (units : Units C) (old new : Outside) → SameDevices told old new → Standing place stands told units old → Standing place stands told units new
-still_stands {C} {place} {stands} kept durable told units old new same s = record {
+    → (told : Bool) (units : Units C) (cursors : List (Option Cursor)) (old new : Outside) → SameDevices told old new → Standing reads place stands told units cursors old → Standing reads place stands told units cursors new
+still_stands {C} {reads} {place} {stands} kept durable told units cursors old new same s = record {
   stand = stands-still place stands kept durable told units old new same.cards same.changes s.stand;
   eight = eight_same told old new same s.eight;
+  desk = s.desk;
+  apart = λ t. subst MountedApart (sym (still t)) (s.apart t);
+  settled = λ t. subst IsSettled (sym (still t)) (s.settled t);
 }
+  where
+    still : IsTrue told → world_with reads units cursors new ≡ world_with reads units cursors old
+    still t = ap (with_cursors cursors) (world-still reads units old new same.cards (same.changes t))
 
-pub same_world : {C : Type 0} (reads : List ℕ → Option Store) (units : Units C) (old new : Outside) → SameDevices true old new → world_of reads units new ≡ world_of reads units old
-same_world reads units old new same = world-still reads units old new same.cards (same.changes refl)
+pub same_world : {C : Type 0} (reads : List ℕ → Option Store) (units : Units C) (cursors : List (Option Cursor)) (old new : Outside) → SameDevices true old new
+    → world_with reads units cursors new ≡ world_with reads units cursors old
+same_world reads units cursors old new same = ap (with_cursors cursors) (world-still reads units old new same.cards (same.changes refl))
 
 pub leaves_store : {C : Type 0} {reads : List ℕ → Option Store} {place : C → ℕ} {soups : C → Store} {stands : Bool → C → Outside → Type 0} → Laws reads place soups stands
-    → (units : Units C) (outside : Outside) → Standing place stands true units outside → (unit : ℕ) (store : Store) (left : List ℕ)
-    → store_on_unit (world_of reads units outside) unit ≡ Some store → MayLeave unit outside.now left → reads left ≡ Some store
-leaves_store laws units outside s unit store left is may = left-alone laws units outside s.eight s.stand unit store outside.now left is refl may
+    → (units : Units C) (cursors : List (Option Cursor)) (outside : Outside) → Standing reads place stands true units cursors outside → (unit : ℕ) (store : Store) (left : List ℕ)
+    → store_on_unit (world_with reads units cursors outside) unit ≡ Some store → MayLeave unit outside.now left → reads left ≡ Some store
+leaves_store laws units cursors outside s unit store left is may = left-alone laws units outside s.eight s.stand unit store outside.now left is refl may
 
 -- ---- no command takes a unit's store away
 

@@ -1,11 +1,20 @@
 -- What it is to stand for a host.
-use Rattle.std.specs.Prelude.{ℕ, Bool}
+use Rattle.std.specs.Prelude.{ℕ, Bool, IsTrue, List, Option}
 use Rattle.newt_host.specs.Outside.{Outside}
+use Rattle.newt_laws.specs.Settled.{IsSettled, MountedApart}
+use Rattle.newt_spec_query.specs.Cursor.{Cursor}
+use Rattle.newt_spec_store.specs.Store.{Store}
 use Rattle.newt_units.specs.declared.units.Units.{Units}
 use Rattle.newt_units.specs.Stands.{Eight, Stands}
+use Rattle.newt_walk.specs.Fits.{DeskFits}
+use Rattle.newt_walk.specs.World.{world_with}
 
-module _ {C : Type 0} (place : C → ℕ) (stands : Bool → C → Outside → Type 0) where
-  -- The units stand for a host of eight units.
-  pub record Standing (told : Bool) (units : Units C) (outside : Outside) : Type 0 where
+module _ {C : Type 0} (reads : List ℕ → Option Store) (place : C → ℕ) (stands : Bool → C → Outside → Type 0) where
+  -- The units stand for a host of eight units, and the cursors with them for a world of its devices: no two mounted stores have one signature, and no cursor
+  -- has another key than its entry.
+  pub record Standing (told : Bool) (units : Units C) (cursors : List (Option Cursor)) (outside : Outside) : Type 0 where
     pub stand : Stands place stands told units outside
     pub eight : Eight outside
+    pub desk : DeskFits cursors
+    pub apart : IsTrue told → MountedApart (world_with reads units cursors outside)
+    pub settled : IsTrue told → IsSettled (world_with reads units cursors outside)

@@ -8,7 +8,7 @@ ghost use Rattle.newt_units.specs.Answers.{Answers};
 ghost use Rattle.newt_units.specs.Faults.{GoesOn, HasFaultCause, IsRefusal, NoDevice, OnDevices};
 ghost use Rattle.newt_units.specs.Stands.{Stands, world_of};
 ghost use Rattle.newt_engine.specs.Ends.{takes_memory, uses_device};
-ghost use Rattle.newt_engine.specs.Groups.{on_graph};
+ghost use Rattle.newt_engine.specs.Groups.{on_cursor, on_graph};
 
 use crate::world::World;
 use newt_host::Host;
@@ -24,11 +24,13 @@ impl<C: Card> World<C> {
         command: &Command,
     ) -> Result<Reply, Fault>
         requires stands { Stands C.place C.stands H.told self.old.units (H.outside host.old) }
+        requires no_cursor { on_cursor command.now ≡ false }
         requires no_graph { on_graph command.now ≡ false }
         ensures stands { GoesOn result → Stands C.place C.stands H.told self.new.units (H.outside host.new) }
         ensures answered { IsTrue H.told → Answers (world_of C.reads self.old.units (H.outside host.old)) (world_of C.reads self.new.units (H.outside host.new)) command.now said result }
         ensures moments { IsTrue H.told → let w = world_of C.reads self.old.units (H.outside host.old) in
             Always (Answering C.reads w (answer_now w command.now).0 (H.outside host.old).now) (H.outside host.old).now (H.outside host.new).now }
+        ensures desk { self.new.desk ≡ self.old.desk }
         ensures alone { OnDevices (H.outside host.old) (H.outside host.new) }
         ensures cause { IfErr result (λ fault. HasFaultCause fault (H.outside host.old) (H.outside host.new)) }
         ensures ends { takes_memory command.now ≡ false → IfErr result (λ fault. IsRefusal fault) }

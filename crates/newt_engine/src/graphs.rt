@@ -8,6 +8,7 @@ ghost use Rattle.newt_units.specs.Answers.{Answers};
 ghost use Rattle.newt_units.specs.Faults.{GoesOn, HasFaultCause, IsRefusal, NoDevice, OnDevices};
 ghost use Rattle.newt_units.specs.Stands.{Stands, world_of};
 ghost use Rattle.newt_engine.specs.Ends.{takes_memory, uses_device};
+ghost use Rattle.newt_engine.specs.Groups.{on_cursor};
 
 use crate::world::World;
 use newt_base::Uid;
@@ -20,10 +21,12 @@ impl<C: Card> World<C> {
     /// Obeys a command. A fault is its refusal, or the end of the run.
     pub(crate) fn obey<H: Host>(&mut self, host: &mut H, command: Command) -> Result<Reply, Fault>
         requires stands { Stands C.place C.stands H.told self.old.units (H.outside host.old) }
+        requires no_cursor { on_cursor command ≡ false }
         ensures stands { GoesOn result → Stands C.place C.stands H.told self.new.units (H.outside host.new) }
         ensures answered { IsTrue H.told → Answers (world_of C.reads self.old.units (H.outside host.old)) (world_of C.reads self.new.units (H.outside host.new)) command said result }
         ensures moments { IsTrue H.told → let w = world_of C.reads self.old.units (H.outside host.old) in
             Always (Answering C.reads w (answer_now w command).0 (H.outside host.old).now) (H.outside host.old).now (H.outside host.new).now }
+        ensures desk { self.new.desk ≡ self.old.desk }
         ensures alone { OnDevices (H.outside host.old) (H.outside host.new) }
         ensures cause { IfErr result (λ fault. HasFaultCause fault (H.outside host.old) (H.outside host.new)) }
         ensures ends { takes_memory command ≡ false → IfErr result (λ fault. IsRefusal fault) }

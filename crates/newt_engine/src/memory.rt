@@ -22,6 +22,7 @@ impl<C: Card> World<C> {
         ensures stands { (told : Bool) (outside : Outside) → Stands C.place C.stands told self.old.units outside → Stands C.place C.stands told self.new.units outside }
         ensures answered { (outside : Outside) → Eight outside → Stands C.place C.stands true self.old.units outside →
             Answers (world_of C.reads self.old.units outside) (world_of C.reads self.new.units outside) command.now said result }
+        ensures desk { self.new.desk ≡ self.old.desk }
         ensures device { IfErr result (λ fault. NoDevice fault) }
         ensures ends { takes_memory command.now ≡ false → IfErr result (λ fault. IsRefusal fault) }
     {

@@ -6,11 +6,12 @@ ghost use Rattle.newt_reply.specs.Said.{said};
 ghost use Rattle.newt_laws_answers.specs.Answering.{Answering};
 ghost use Rattle.newt_laws_answers.specs.Stage.{answer_now};
 ghost use Rattle.newt_units.specs.Faults.{HasStopCause, OnDevices};
-ghost use Rattle.newt_units.specs.Stands.{world_of};
+ghost use Rattle.newt_walk.specs.World.{world_with};
 ghost use Rattle.newt_engine.specs.Ends.{takes_memory, uses_device};
 ghost use Rattle.newt_engine.specs.Standing.{Standing};
 ghost use Rattle.newt_engine.specs.Laws.{laws_of, still_stands, same_world, leaves_store, stays_there};
 
+use newt_cursor::Desk;
 use newt_host::Host;
 use newt_pagebook::Stop;
 use newt_reply::Reply;
@@ -19,27 +20,28 @@ use newt_session::Interpreter;
 use newt_units::{Card, Fault, Units};
 use std::alloc::{AllocError, Global};
 
-/// The eight units with their cards, which with the devices of a host stand for one world.
+/// The eight units with their cards and the 32 places for cursors, which with the devices of a host stand for one world.
 #[derive(Drop)]
 pub struct World<C: Card> {
     pub(crate) units: Units<C>,
+    pub(crate) desk: Desk,
 }
 
 impl<C: Card> World<C> {
     /// Answers a command. A refusal is a reply, and leaves the world as it was; after an error the world is spent.
     pub fn apply<H: Host>(&mut self, host: &mut H, command: Command) -> Result<Reply, Stop>
-        requires { Standing C.place C.stands H.told self.old.units (H.outside host.old) }
-        ensures stands { OnOk result (Standing C.place C.stands H.told self.new.units (H.outside host.new)) }
-        ensures answered { IsTrue H.told → IfOk result (λ reply. answer_now (world_of C.reads self.old.units (H.outside host.old)) command ≡ (world_of C.reads self.new.units (H.outside host.new), said reply)) }
-        ensures moments { IsTrue H.told → let w = world_of C.reads self.old.units (H.outside host.old) in
+        requires { Standing C.reads C.place C.stands H.told self.old.units self.old.desk (H.outside host.old) }
+        ensures stands { OnOk result (Standing C.reads C.place C.stands H.told self.new.units self.new.desk (H.outside host.new)) }
+        ensures answered { IsTrue H.told → IfOk result (λ reply. answer_now (world_with C.reads self.old.units self.old.desk (H.outside host.old)) command ≡ (world_with C.reads self.new.units self.new.desk (H.outside host.new), said reply)) }
+        ensures moments { IsTrue H.told → let w = world_with C.reads self.old.units self.old.desk (H.outside host.old) in
             Always (Answering C.reads w (answer_now w command).0 (H.outside host.old).now) (H.outside host.old).now (H.outside host.new).now }
         ensures alone { OnDevices (H.outside host.old) (H.outside host.new) }
         ensures cause { IfErr result (λ stop. HasStopCause stop (H.outside host.old) (H.outside host.new)) }
-        ensures refused { IsTrue H.told → (refusal : Refusal) → result ≡ Ok (Reply.Refused refusal) → world_of C.reads self.new.units (H.outside host.new) ≡ world_of C.reads self.old.units (H.outside host.old) }
+        ensures refused { IsTrue H.told → (refusal : Refusal) → result ≡ Ok (Reply.Refused refusal) → world_with C.reads self.new.units self.new.desk (H.outside host.new) ≡ world_with C.reads self.old.units self.old.desk (H.outside host.old) }
         ensures never_memory { takes_memory command ≡ false → IsOk result }
         ensures never_device { uses_device command ≡ false → IfErr result (λ stop. stop ≡ Stop.Memory) }
     {
-        match self.obey(host, command) {
+        match self.serve(host, command) {
             Ok(reply) => Ok(reply),
             Err(Fault::Refused(refusal)) => Ok(Reply::Refused(refusal)),
             Err(Fault::Stop(stop)) => Err(stop),
@@ -52,15 +54,15 @@ impl<C: Card> Interpreter for World<C> {
 
     ghost answer = { answer_now };
 
-    ghost stands = { λ told it outside. Standing C.place C.stands told it.units outside };
+    ghost stands = { λ told it outside. Standing C.reads C.place C.stands told it.units it.desk outside };
 
-    ghost world = { λ it outside. world_of C.reads it.units outside };
+    ghost world = { λ it outside. world_with C.reads it.units it.desk outside };
 
-    ghost kept = { λ told it old new same stands. still_stands C.kept C.durable told it.units old new same stands };
+    ghost kept = { λ told it old new same stands. still_stands C.kept C.durable told it.units it.desk old new same stands };
 
-    ghost same_world = { λ it old new same. same_world C.reads it.units old new same };
+    ghost same_world = { λ it old new same. same_world C.reads it.units it.desk old new same };
 
-    ghost leaves = { λ it outside stands unit store left is may. leaves_store (laws_of C.formed C.plain C.durable C.banks C.kept) it.units outside stands unit store left is may };
+    ghost leaves = { λ it outside stands unit store left is may. leaves_store (laws_of C.formed C.plain C.durable C.banks C.kept) it.units it.desk outside stands unit store left is may };
 
     ghost stays = { stays_there };
 
@@ -68,6 +70,7 @@ impl<C: Card> Interpreter for World<C> {
         let _host = host;
         Ok(World {
             units: Units::of(alloc, attached)?,
+            desk: Desk::new(alloc)?,
         })
     }
 

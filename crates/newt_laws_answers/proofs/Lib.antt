@@ -12,3 +12,4 @@ pub mod Declares
 pub mod Stores
 pub mod Resolves
 pub mod Faces
+pub mod Staged

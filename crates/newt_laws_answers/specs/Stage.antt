@@ -1,4 +1,4 @@
--- What the world answers today: until large binaries are built, a graph that has one is too large for an entry, and the commands of later stages are none. All of it is this project's own.
+-- What the world answers today: until large binaries are built, a graph that has one is too large for an entry, and the two commands on their bytes are none. All of it is this project's own.
 use Rattle.std.specs.Prelude.{ℕ, nat_le, Bool, true, false, ◌||◌, ◌&&◌, not, cond, List, [], ◌∷◌, map, Option, Some, None, option_map}
 use Rattle.std.specs.List.{list_all}
 use Rattle.newt_base.specs.Names.{same_name}
@@ -72,6 +72,20 @@ is_built (command.Unindex _ _ _) = true
 is_built (command.Indexes _ _) = true
 is_built (command.Tags _ _) = true
 is_built (command.SetTags _ _ path symbols) = tags_fit path symbols
+is_built (command.Query _ _ _) = true
+is_built (command.QueryAll _ _) = true
+is_built (command.Entry _) = true
+is_built (command.Next _) = true
+is_built (command.Prev _) = true
+is_built (command.Reset _) = true
+is_built (command.End _) = true
+is_built (command.Moveby _ _) = true
+is_built (command.Goto _ _ _) = true
+is_built (command.Gotokey _ _) = true
+is_built (command.Count _) = true
+is_built (command.Which _) = true
+is_built (command.Clone _) = true
+is_built (command.Close _) = true
 is_built _ = false
 
 -- The tests of a command, in the order in which they are tried. One that is not built is refused as no command.

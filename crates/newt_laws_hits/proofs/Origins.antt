@@ -17,7 +17,7 @@ use Rattle.newt_spec_world.specs.Answer.{spot_of}
 use Rattle.newt_laws_changes.specs.Signatures.{soup_of}
 use Rattle.newt_laws_changes.proofs.Chosen.{OnePasses, find-passes, find-one, there-soup, there-entry, soup-good}
 use Rattle.newt_laws.proofs.Found.{Apart, Other, hits-apart}
-use Rattle.newt_laws_hits.specs.Located.{Located, located, takes_part, hit_for, looked_up}
+use Rattle.newt_laws_hits.specs.Located.{Located, located, takes_part, located_hit, looked_up}
 
 -- a located entry of the stores that is a hit
 pub record Origin (stores : List Store) (q : Query) (h : Hit) : Type 0 where
@@ -25,7 +25,7 @@ pub record Origin (stores : List Store) (q : Query) (h : Hit) : Type 0 where
   pub is_store : Among stores at.store
   pub is_soup : Among at.store.soups at.soup
   pub is_entry : Among at.soup.entries at.entry
-  pub is_hit : hit_for q at ≡ Some h
+  pub is_hit : located_hit q at ≡ Some h
 
 pub origin : (stores : List Store) (q : Query) (h : Hit) → Among (hits stores q) h → Origin stores q h
 origin stores q h m = go (among-fold (hit_cmp q.spec.index) [] _ h m)
@@ -52,7 +52,7 @@ origin stores q h m = go (among-fold (hit_cmp q.spec.index) [] _ h m)
         part a.0 c.0 b.0 b.1 c.1 _ refl c.2
 
 -- an entry that is a hit takes part
-pub taken : (q : Query) (f : Located) (h : Hit) → hit_for q f ≡ Some h → (takes_part q f.store f.soup ≡ true) × (hit_of q.spec f.store f.soup f.entry ≡ Some h)
+pub taken : (q : Query) (f : Located) (h : Hit) → located_hit q f ≡ Some h → (takes_part q f.store f.soup ≡ true) × (hit_of q.spec f.store f.soup f.entry ≡ Some h)
 taken q f h = go (takes_part q f.store f.soup) refl
   where
     go : (b : Bool) → takes_part q f.store f.soup ≡ b → cond b (hit_of q.spec f.store f.soup f.entry) None ≡ Some h
@@ -133,7 +133,7 @@ is-located stores store soup uid f = on_store (find (λ s. s.sig == store) store
 pub looked-up-is : (stores : List Store) (q : Query) (store soup uid : ℕ) (h : Hit) → looked_up stores q store soup uid ≡ Some h → Origin stores q h × HasIdentity h store soup uid
 looked-up-is stores q store soup uid h = go (located stores store soup uid) refl
   where
-    go : (o : Option Located) → located stores store soup uid ≡ o → option_and_then (hit_for q) o ≡ Some h → Origin stores q h × HasIdentity h store soup uid
+    go : (o : Option Located) → located stores store soup uid ≡ o → option_and_then (located_hit q) o ≡ Some h → Origin stores q h × HasIdentity h store soup uid
     go None e i = absurd (none-some h i)
     go (Some f) e i =
         let l = is-located stores store soup uid f e in
@@ -179,7 +179,7 @@ module _ (stores : List Store) (apart : Pairs Apart stores) (formed : Each (λ s
         let p = find-passes test (hits stores q) h f in
         let d = tells h p.0 in
         let r = origin stores q h p.1 in
-        absurd (none-some h (sym e ∙ (λ i. looked_up stores q (sym d.store_is i) (sym d.soup_is i) (sym d.uid_is i)) ∙ ap (option_and_then (hit_for q)) (hit-located q h r) ∙ r.is_hit))
+        absurd (none-some h (sym e ∙ (λ i. looked_up stores q (sym d.store_is i) (sym d.soup_is i) (sym d.uid_is i)) ∙ ap (option_and_then (located_hit q)) (hit-located q h r) ∙ r.is_hit))
 
     pub found-looked-up : find test (hits stores q) ≡ looked_up stores q store soup uid
     found-looked-up = go (looked_up stores q store soup uid) refl

@@ -22,9 +22,9 @@ abbrev pub takes_part : Query → Store → Soup → Bool
 takes_part q s p = in_scope q.scope s && (equal_text p.name q.name && carries q.spec.index p)
 
 -- the hit that a located entry is, if it is one (this project's own)
-abbrev pub hit_for : Query → Located → Option Hit
-hit_for q f = cond (takes_part q f.store f.soup) (hit_of q.spec f.store f.soup f.entry) None
+abbrev pub located_hit : Query → Located → Option Hit
+located_hit q f = cond (takes_part q f.store f.soup) (hit_of q.spec f.store f.soup f.entry) None
 
 -- the hit of this identity, looked up (this project's own)
 abbrev pub looked_up : List Store → Query → ℕ → ℕ → ℕ → Option Hit
-looked_up stores q store soup uid = option_and_then (hit_for q) (located stores store soup uid)
+looked_up stores q store soup uid = option_and_then (located_hit q) (located stores store soup uid)

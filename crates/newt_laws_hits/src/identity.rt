@@ -1,5 +1,5 @@
 //! Laws of hits by their identity.
-ghost use Rattle.std.specs.Prelude.{◌≡◌, ◌&&◌, ◌==◌, ℕ, List, IsTrue, find, option_map, option_and_then, unwrap_or};
+ghost use Rattle.std.specs.Prelude.{◌≡◌, ◌&&◌, ◌==◌, ℕ, List, IsTrue, find, option_map, option_and_then, unwrap_or, None, false};
 ghost use Rattle.newt_spec_graph.specs.Lists.{Among, Each, Pairs};
 ghost use Rattle.newt_spec_store.specs.Store.{Store, Soup, entry_of};
 ghost use Rattle.newt_spec_store.specs.Valid.{well_formed};
@@ -7,7 +7,11 @@ ghost use Rattle.newt_spec_query.specs.Hits.{Query, Hit, hits};
 ghost use Rattle.newt_spec_query.specs.Cursor.{Place, on, same_identity, hit_at, settled};
 ghost use Rattle.newt_spec_world.specs.World.{World, hits_of, mounted_stores, settle};
 ghost use Rattle.newt_spec_world.specs.Alias.{resolved};
-ghost use Rattle.newt_spec_world.specs.Answer.{spot_of};
+ghost use Rattle.newt_spec_world.specs.Answer.{answered, fields, spot_of};
+ghost use Rattle.newt_spec_world.specs.Changed.{changed};
+ghost use Rattle.newt_spec_world.specs.declared.command.Command.{Command as IsCommand};
+ghost use Rattle.newt_laws.specs.Settled.{IsSettled, MountedApart, moves_keys};
+ghost use Rattle.newt_laws.specs.Worlds.{AllValid};
 ghost use Rattle.newt_laws_hits.specs.Located.{located, looked_up};
 
 /// A hit is found by looking up its store, its soup and its entry; none is found where one of them is missing or takes no part.
@@ -23,10 +27,19 @@ pub fn hits_are_looked_up()
 /// An entry is located where its store and its soup are known, and what a cursor shows is where its hit is.
 pub fn entries_are_located()
     ensures known { (stores : List Store) (s : Store) (p : Soup) (uid : ℕ) → Pairs (λ s t. s.sig ≡ t.sig → ⊥) stores → Each (λ s. IsTrue (well_formed s)) stores
-        → Among stores s → Among s.soups p → located stores s.sig p.sig uid ≡ option_map (λ e. record { store = s; soup = p; entry = e }) (entry_of uid p) }
-    ensures shown { (w : World) (q : Query) (at : Hit) → Pairs (λ s t. s.sig ≡ t.sig → ⊥) (mounted_stores w) → Each (λ s. IsTrue (well_formed s)) (mounted_stores w)
+        → Among stores s → Among s.soups p → located stores s.sig p.sig uid
+        ≡ option_map (λ e. record { store = s; soup = p; entry = e }) (entry_of uid p) }
+    ensures shown { (w : World) (q : Query) (at : Hit) → Pairs (λ s t. s.sig ≡ t.sig → ⊥) (mounted_stores w)
+        → Each (λ s. IsTrue (well_formed s)) (mounted_stores w)
         → option_and_then (spot_of w) (hit_at (hits_of w q) (on at))
-        ≡ option_and_then (λ (h : Hit). resolved w (record { store = at.store; soup = at.soup; uid = at.uid })) (looked_up (mounted_stores w) q at.store at.soup at.uid) }
+        ≡ option_and_then (λ (h : Hit). resolved w (record { store = at.store; soup = at.soup; uid = at.uid }))
+        (looked_up (mounted_stores w) q at.store at.soup at.uid) }
+{}
+
+/// Most commands leave nothing to settle, those on cursors among them.
+pub fn few_commands_settle()
+    ensures { (w : World) (c : IsCommand) → AllValid w → MountedApart w → IsSettled w → moves_keys c ≡ false
+        → answered w c None ≡ (changed w c, fields w (changed w c) c) }
 {}
 
 /// What is settled stays.

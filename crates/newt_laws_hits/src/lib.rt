@@ -12,7 +12,9 @@ mod steps;
 mod walks;
 
 pub use hits::{hits_are_few, hits_are_filtered, hits_are_merged};
-pub use identity::{entries_are_located, hits_are_looked_up, settling_twice_is_settling};
+pub use identity::{
+    entries_are_located, few_commands_settle, hits_are_looked_up, settling_twice_is_settling,
+};
 pub use steps::{searches_count, searches_end, steps_are_searches};
 pub use walks::{
     walks_begin_at_the_ends, walks_count, walks_end, walks_pass_over_what_is_not_kept,

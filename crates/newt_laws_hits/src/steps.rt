@@ -15,9 +15,11 @@ ghost use Rattle.newt_laws_hits.specs.Walk.{walked, counted, count_after, count_
 /// Each step of a cursor among the hits of a query is a search of the union, and goes on as long as what is found does not pass.
 pub fn steps_are_searches()
     ensures first { (stores : List Store) (q : Query) → Pairs (λ s t. s.sig ≡ t.sig → ⊥) stores → Each (λ s. IsTrue (well_formed s)) stores
-        → first_place (hits stores q) ≡ walked (passing stores q) finish (next_place (hits stores q) q.spec.index) (first (merged q.spec.index (members_of stores q))) }
+        → first_place (hits stores q)
+        ≡ walked (passing stores q) finish (next_place (hits stores q) q.spec.index) (first (merged q.spec.index (members_of stores q))) }
     ensures last { (stores : List Store) (q : Query) → Pairs (λ s t. s.sig ≡ t.sig → ⊥) stores → Each (λ s. IsTrue (well_formed s)) stores
-        → last_place (hits stores q) ≡ walked (passing stores q) start (previous_place (hits stores q) q.spec.index) (last (merged q.spec.index (members_of stores q))) }
+        → last_place (hits stores q)
+        ≡ walked (passing stores q) start (previous_place (hits stores q) q.spec.index) (last (merged q.spec.index (members_of stores q))) }
     ensures next { (stores : List Store) (q : Query) (at : Hit) → Pairs (λ s t. s.sig ≡ t.sig → ⊥) stores → Each (λ s. IsTrue (well_formed s)) stores
         → next_place (hits stores q) q.spec.index (on at)
         ≡ walked (passing stores q) finish (next_place (hits stores q) q.spec.index) (after q.spec.index (members_of stores q) at) }
@@ -32,7 +34,8 @@ pub fn steps_are_searches()
 /// The hits of a query are counted by the searches of the union.
 pub fn searches_count()
     ensures first { (stores : List Store) (q : Query) → Pairs (λ s t. s.sig ≡ t.sig → ⊥) stores → Each (λ s. IsTrue (well_formed s)) stores
-        → length (hits stores q) ≡ counted (passing stores q) (count_after q.spec.index (hits stores q)) (first (merged q.spec.index (members_of stores q))) }
+        → length (hits stores q)
+        ≡ counted (passing stores q) (count_after q.spec.index (hits stores q)) (first (merged q.spec.index (members_of stores q))) }
     ensures next { (stores : List Store) (q : Query) (at : Hit) → Pairs (λ s t. s.sig ≡ t.sig → ⊥) stores → Each (λ s. IsTrue (well_formed s)) stores
         → count_after q.spec.index (hits stores q) (on at)
         ≡ counted (passing stores q) (count_after q.spec.index (hits stores q)) (after q.spec.index (members_of stores q) at) }
@@ -42,8 +45,10 @@ pub fn searches_count()
 pub fn searches_end()
     ensures next { (stores : List Store) (q : Query) (at h : Hit) → Pairs (λ s t. s.sig ≡ t.sig → ⊥) stores → Each (λ s. IsTrue (well_formed s)) stores
         → after q.spec.index (members_of stores q) at ≡ Some h
-        → count_after q.spec.index (merged q.spec.index (members_of stores q)) (on h) < count_after q.spec.index (merged q.spec.index (members_of stores q)) (on at) }
+        → count_after q.spec.index (merged q.spec.index (members_of stores q)) (on h)
+        < count_after q.spec.index (merged q.spec.index (members_of stores q)) (on at) }
     ensures previous { (stores : List Store) (q : Query) (at h : Hit) → Pairs (λ s t. s.sig ≡ t.sig → ⊥) stores → Each (λ s. IsTrue (well_formed s)) stores
         → before q.spec.index (members_of stores q) at ≡ Some h
-        → count_before q.spec.index (merged q.spec.index (members_of stores q)) (on h) < count_before q.spec.index (merged q.spec.index (members_of stores q)) (on at) }
+        → count_before q.spec.index (merged q.spec.index (members_of stores q)) (on h)
+        < count_before q.spec.index (merged q.spec.index (members_of stores q)) (on at) }
 {}

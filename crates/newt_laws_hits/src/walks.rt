@@ -44,8 +44,8 @@ pub fn walks_begin_at_the_ends()
 
 /// Each step of a walk leaves fewer hits before it.
 pub fn walks_end()
-    ensures next { (index : IndexSpec) (hs : List Hit) (place : Place) (h : Hit) → Pairs (λ a b. hit_cmp index a b ≡ Less) hs → first (filter (is_after index place) hs) ≡ Some h
-        → count_after index hs (on h) < count_after index hs place }
-    ensures previous { (index : IndexSpec) (hs : List Hit) (place : Place) (h : Hit) → Pairs (λ a b. hit_cmp index a b ≡ Less) hs → last (filter (is_before index place) hs) ≡ Some h
-        → count_before index hs (on h) < count_before index hs place }
+    ensures next { (index : IndexSpec) (hs : List Hit) (place : Place) (h : Hit) → Pairs (λ a b. hit_cmp index a b ≡ Less) hs
+        → first (filter (is_after index place) hs) ≡ Some h → count_after index hs (on h) < count_after index hs place }
+    ensures previous { (index : IndexSpec) (hs : List Hit) (place : Place) (h : Hit) → Pairs (λ a b. hit_cmp index a b ≡ Less) hs
+        → last (filter (is_before index place) hs) ≡ Some h → count_before index hs (on h) < count_before index hs place }
 {}

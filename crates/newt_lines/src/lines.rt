@@ -137,6 +137,86 @@ fn wants_the_forms_of_paths_and_symbols(rt: HostRuntime) -> Result<(), AllocErro
 }
 
 #[test]
+fn reads_each_row_on_cursors(rt: HostRuntime) -> Result<(), AllocError> {
+    let cases: [(&[u8], &str); 20] = [
+        (b"query 0 Names {}", "query 0 <Names> {}"),
+        (
+            b"query 7 \"To Do\" {words: \"a\"} ",
+            "query 7 <To Do> {words: \"a\"}",
+        ),
+        (b"query * Names {}", "query all <Names> {}"),
+        (b"query\t* \"*\"\t{}", "query all <*> {}"),
+        (b"query 1 * {}", "query 1 <*> {}"),
+        (b"entry 0", "entry 0"),
+        (b"next 31", "next 31"),
+        (b"prev 1", "prev 1"),
+        (b"reset 0000000002", "reset 2"),
+        (b"end 3\t", "end 3"),
+        (b"moveby 4 2147483647", "moveby 4 by 2147483647"),
+        (b"moveby 4 -2147483648", "moveby 4 by -2147483648"),
+        (b"moveby 4 -0", "moveby 4 by 0"),
+        (b"goto 5 7 4294967295", "goto 5 at 7 4294967295"),
+        (b"gotokey 6 \"x\"", "gotokey 6 \"x\""),
+        (b"gotokey 6 [1, nil]", "gotokey 6 [1, nil]"),
+        (b"count 7", "count 7"),
+        (b"which 8", "which 8"),
+        (b"clone 9", "clone 9"),
+        (b"close 10", "close 10"),
+    ];
+    expect_each(&rt, rt.alloc(), &cases)
+}
+
+#[test]
+fn wants_the_forms_of_rows_on_cursors(rt: HostRuntime) -> Result<(), AllocError> {
+    let cases: [(&[u8], &str); 20] = [
+        (b"query 0 Names", "11 line"),
+        (b"query * Names", "11 line"),
+        (b"query * {}", "11 line"),
+        (b"query ** Names {}", "11 line"),
+        (b"query 8 Names {}", "11 line"),
+        (b"query *Names {}", "11 line"),
+        (b"entry", "11 line"),
+        (b"entry 32", "11 line"),
+        (b"entry -1", "11 line"),
+        (b"next 0 1", "11 line"),
+        (b"reset *", "11 line"),
+        (b"moveby 4", "11 line"),
+        (b"moveby 4 2147483648", "11 line"),
+        (b"moveby 4 -2147483649", "11 line"),
+        (b"moveby 4 +1", "11 line"),
+        (b"moveby 4 - 1", "11 line"),
+        (b"goto 5 7", "11 line"),
+        (b"goto 5 8 0", "11 line"),
+        (b"gotokey 6", "11 line"),
+        (b"close 1 x", "11 line"),
+    ];
+    expect_each(&rt, rt.alloc(), &cases)
+}
+
+/// A tags declaration of the symbols a0, a1 and so on, and a last one behind them.
+fn many_tags(alloc: Global, last: &str) -> Result<String, AllocError> {
+    let mut line = String::from_str(alloc, "tags 0 A b")?;
+    for number in 0..15_000_u32 {
+        let symbol = format!(in alloc; " a{number}")?;
+        line.push_str(symbol.as_str())?;
+    }
+    line.push_str(last)?;
+    Ok(line)
+}
+
+#[test]
+fn tells_many_symbols_apart(rt: HostRuntime) -> Result<(), AllocError> {
+    let alloc = rt.alloc();
+    let other = many_tags(alloc, " a15000")?;
+    let answer = told(alloc, other.as_bytes())?;
+    assert_eq!(rt; answer.len(), other.len() + 3);
+    let same = many_tags(alloc, " A7")?;
+    let answer = told(alloc, same.as_bytes())?;
+    assert_eq!(rt; answer.as_str(), "11 line");
+    Ok(())
+}
+
+#[test]
 fn reads_names_bare_and_in_quotes(rt: HostRuntime) -> Result<(), AllocError> {
     let cases: [(&[u8], &str); 15] = [
         (b"soup 0 \"To Do List\"", "soup 0 <To Do List>"),
@@ -213,7 +293,7 @@ fn wants_exactly_the_words_of_a_row(rt: HostRuntime) -> Result<(), AllocError> {
 
 #[test]
 fn answers_the_first_refusal(rt: HostRuntime) -> Result<(), AllocError> {
-    let cases: [(&[u8], &str); 15] = [
+    let cases: [(&[u8], &str); 18] = [
         (b"add 0 A {", "3 literal"),
         (b"set 0 A 1 a {", "3 literal"),
         (b"set 0 A 1 1a {", "11 line"),
@@ -231,7 +311,10 @@ fn answers_the_first_refusal(rt: HostRuntime) -> Result<(), AllocError> {
         (b"Mount 0", "10 command"),
         (b"mount0", "10 command"),
         (b"Index 0 A k:int:ascend", "10 command"),
-        (b"query 0 A {}", "10 command"),
+        (b"vread 0 A 1 a 0 9", "10 command"),
+        (b"query 0 A {", "3 literal"),
+        (b"gotokey 32 {", "11 line"),
+        (b"gotokey 31 {", "3 literal"),
     ];
     expect_each(&rt, rt.alloc(), &cases)
 }

@@ -102,6 +102,21 @@ fn writes_graphs(rt: HostRuntime) -> Result<(), AllocError> {
     )
 }
 
+#[test]
+fn writes_where_cursors_are(rt: HostRuntime) -> Result<(), AllocError> {
+    let alloc = rt.alloc();
+    let frame = graph(&rt, alloc, "{a: 1}")?;
+    expect(
+        &rt,
+        alloc,
+        Reply::Current(Unit(7), Uid(0), 4_294_967_295, frame),
+        b"ok 7 0 4294967295 {a: 1}\n",
+    )?;
+    expect(&rt, alloc, Reply::Deleted, b"ok deleted\n")?;
+    expect(&rt, alloc, Reply::Begin, b"ok begin\n")?;
+    expect(&rt, alloc, Reply::End, b"ok end\n")
+}
+
 fn store_line(
     rt: &impl Abort,
     alloc: Global,

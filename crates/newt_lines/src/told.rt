@@ -172,8 +172,8 @@ fn with_paths(alloc: Global, front: &str, paths: &[Path]) -> Result<String, Allo
 fn with_symbols(alloc: Global, front: &str, symbols: &Syms) -> Result<String, AllocError> {
     let mut text = String::from_str(alloc, front)?;
     for symbol in symbols.list() {
-        let symbol = str::from_utf8(symbol.list()).unwrap_or("");
-        text = format!(in alloc; "{text} {symbol}")?;
+        text.push_str(" ")?;
+        text.push_str(str::from_utf8(symbol.list()).unwrap_or(""))?;
     }
     Ok(text)
 }
@@ -196,6 +196,56 @@ fn told_of_declarations(alloc: Global, command: &Command) -> Result<String, Allo
             let points = points(alloc, path)?;
             let front = format!(in alloc; "{front} {points}")?;
             with_symbols(alloc, front.as_str(), symbols)
+        }
+        _ => told_of_cursors(alloc, command),
+    }
+}
+
+fn cursor_words(alloc: Global, word: &str, cursor: u8) -> Result<String, AllocError> {
+    format!(in alloc; "{word} {cursor}")
+}
+
+/// A command that makes a cursor, tells of one, or ends one.
+fn told_of_cursors(alloc: Global, command: &Command) -> Result<String, AllocError> {
+    match command {
+        Command::Query(unit, name, graph) => {
+            let front = soup_words(alloc, "query", *unit, name)?;
+            with_graph(alloc, front.as_str(), graph)
+        }
+        Command::QueryAll(name, graph) => {
+            let name = text(name);
+            let front = format!(in alloc; "query all <{name}>")?;
+            with_graph(alloc, front.as_str(), graph)
+        }
+        Command::Entry(cursor) => cursor_words(alloc, "entry", *cursor),
+        Command::Count(cursor) => cursor_words(alloc, "count", *cursor),
+        Command::Which(cursor) => cursor_words(alloc, "which", *cursor),
+        Command::Clone(cursor) => cursor_words(alloc, "clone", *cursor),
+        Command::Close(cursor) => cursor_words(alloc, "close", *cursor),
+        _ => told_of_moves(alloc, command),
+    }
+}
+
+/// A command that moves a cursor.
+fn told_of_moves(alloc: Global, command: &Command) -> Result<String, AllocError> {
+    match command {
+        Command::Next(cursor) => cursor_words(alloc, "next", *cursor),
+        Command::Prev(cursor) => cursor_words(alloc, "prev", *cursor),
+        Command::Reset(cursor) => cursor_words(alloc, "reset", *cursor),
+        Command::End(cursor) => cursor_words(alloc, "end", *cursor),
+        Command::Moveby(cursor, steps) => {
+            let front = cursor_words(alloc, "moveby", *cursor)?;
+            format!(in alloc; "{front} by {steps}")
+        }
+        Command::Goto(cursor, unit, uid) => {
+            let unit = unit.0;
+            let uid = uid.0;
+            let front = cursor_words(alloc, "goto", *cursor)?;
+            format!(in alloc; "{front} at {unit} {uid}")
+        }
+        Command::Gotokey(cursor, graph) => {
+            let front = cursor_words(alloc, "gotokey", *cursor)?;
+            with_graph(alloc, front.as_str(), graph)
         }
         _ => String::from_str(alloc, "a command that is not built"),
     }

@@ -34,6 +34,18 @@ pub nil_text : written world.nil ≡ ok_text (codes "nil" ∷ [])
 unfolding written ok_text
 nil_text = refl
 
+pub deleted_text : written world.deleted ≡ ok_text (codes "deleted" ∷ [])
+unfolding written ok_text
+deleted_text = refl
+
+pub begin_text : written world.begin ≡ ok_text (codes "begin" ∷ [])
+unfolding written ok_text
+begin_text = refl
+
+pub end_text : written world.«end» ≡ ok_text (codes "end" ∷ [])
+unfolding written ok_text
+end_text = refl
+
 pub number_text : (n : ℕ) → written (world.number n) ≡ ok_text (decimal n ∷ [])
 unfolding written ok_text
 number_text n = ap (λ a. ok_text (a ∷ [])) (decimal_text-decimal n)
@@ -101,3 +113,7 @@ alias_text s p uid = three (λ a b c. ok_text ((codes "[alias: " ++ items (a ∷
 pub where_text : (u : ℕ) (name : List ℕ) (uid : ℕ) → written (world.where_is u name uid) ≡ ok_text (decimal u ∷ name_field name ∷ decimal uid ∷ [])
 unfolding written ok_text
 where_text u name uid = two (λ a b. ok_text (a ∷ name_field name ∷ b ∷ [])) u uid
+
+pub current_text : (u uid t : ℕ) (g : RawGraph) → written (world.current u uid t g) ≡ ok_text (decimal u ∷ decimal uid ∷ decimal t ∷ printed.literal g ∷ [])
+unfolding written ok_text
+current_text u uid t g = three (λ a b c. ok_text (a ∷ b ∷ c ∷ printed.literal g ∷ [])) u uid t

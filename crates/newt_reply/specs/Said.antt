@@ -2,7 +2,7 @@
 use Rattle.std.specs.Prelude.{ℕ, List, map}
 use Rattle.newt_spec_world.specs.Reply as world
 use Rattle.newt_reply.specs.declared.reply.Reply.{Reply}
-use Rattle.newt_reply.specs.declared.reply.Reply.TheVariants.{Done, Number, Added, Store, Stores, Soups, Indexes, Tags, Nsof, Literal, Timed, TimedNsof, Alias, Where, Nil, Refused}
+use Rattle.newt_reply.specs.declared.reply.Reply.TheVariants.{Done, Number, Added, Store, Stores, Soups, Indexes, Tags, Nsof, Literal, Timed, TimedNsof, Alias, Where, Current, Deleted, Nil, Begin, End, Refused}
 use Rattle.newt_reply.specs.declared.rows.StoreLine.{StoreLine}
 use Rattle.newt_reply.specs.declared.rows.SoupLine.{SoupLine}
 
@@ -30,5 +30,9 @@ said (Timed time graph) = world.timed time graph
 said (TimedNsof time graph) = world.timed_nsof time graph
 said (Alias a) = world.alias a.store a.soup a.uid
 said (Where unit name uid) = world.where_is unit name uid
+said (Current unit uid time graph) = world.current unit uid time graph
+said Deleted = world.deleted
 said Nil = world.nil
+said Begin = world.begin
+said End = world.«end»
 said (Refused refusal) = world.refused refusal

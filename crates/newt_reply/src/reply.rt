@@ -44,8 +44,16 @@ pub enum Reply {
     Alias(Alias),
     /// The unit, soup and id of an entry.
     Where(Unit, Name, Uid),
-    /// There is no such entry.
+    /// The unit, id, minute and graph of the entry at a cursor, the graph as a literal.
+    Current(Unit, Uid, u32, Graph),
+    /// The entry at a cursor is there no more.
+    Deleted,
+    /// There is no such entry, or a cursor is at one of its hits.
     Nil,
+    /// A cursor is before its first hit.
+    Begin,
+    /// A cursor is behind its last hit.
+    End,
     /// It was refused.
     Refused(Refusal),
 }

@@ -77,6 +77,32 @@ fn where_line(alloc: Global, unit: Unit, name: &Name, uid: Uid) -> Result<Vec<u8
     ok_line(alloc, &[unit.as_slice(), name.as_slice(), uid.as_slice()])
 }
 
+/// The unit, id and minute of an entry, and its graph as a literal.
+#[tactic(auto, using(crate::proofs::Written::current_text))]
+fn current_line(
+    alloc: Global,
+    unit: Unit,
+    uid: Uid,
+    time: u32,
+    graph: &Graph,
+) -> Result<Vec<u8>, AllocError>
+    ensures { IfOk result (λ line. line.items ≡ written (spec.current unit uid time graph.now)) }
+{
+    let unit = number_text(alloc, u32::from(unit.0))?;
+    let uid = number_text(alloc, uid.0)?;
+    let time = number_text(alloc, time)?;
+    let literal = print_literal(alloc, graph)?;
+    ok_line(
+        alloc,
+        &[
+            unit.as_slice(),
+            uid.as_slice(),
+            time.as_slice(),
+            literal.as_slice(),
+        ],
+    )
+}
+
 /// `ok` and one field.
 fn one_field(alloc: Global, field: &[u8]) -> Result<Vec<u8>, AllocError>
     ensures { IfOk result (λ line. line.items ≡ ok_text (field.now ∷ [])) }
@@ -105,7 +131,7 @@ fn tags_line(alloc: Global, row: &TagRow) -> Result<Vec<u8>, AllocError>
 }
 
 /// The line of a reply.
-#[tactic(auto, using(crate::proofs::Written::done_text, crate::proofs::Written::nil_text, crate::proofs::Written::number_text, crate::proofs::Written::stores_text, crate::proofs::Written::soups_text, crate::proofs::Written::specs_text, crate::proofs::Written::nsof_text, crate::proofs::Written::literal_text, crate::proofs::Written::alias_text))]
+#[tactic(auto, using(crate::proofs::Written::done_text, crate::proofs::Written::deleted_text, crate::proofs::Written::nil_text, crate::proofs::Written::begin_text, crate::proofs::Written::end_text, crate::proofs::Written::number_text, crate::proofs::Written::stores_text, crate::proofs::Written::soups_text, crate::proofs::Written::specs_text, crate::proofs::Written::nsof_text, crate::proofs::Written::literal_text, crate::proofs::Written::alias_text))]
 fn line_of(alloc: Global, reply: &Reply) -> Result<Vec<u8>, AllocError>
     ensures { IfOk result (λ line. line.items ≡ written (said reply.now)) }
 {
@@ -124,7 +150,11 @@ fn line_of(alloc: Global, reply: &Reply) -> Result<Vec<u8>, AllocError>
         Reply::TimedNsof(time, graph) => timed_stream_line(alloc, *time, graph),
         Reply::Alias(alias) => one_field(alloc, &alias_literal(alloc, *alias)?),
         Reply::Where(unit, name, uid) => where_line(alloc, *unit, name, *uid),
+        Reply::Current(unit, uid, time, graph) => current_line(alloc, *unit, *uid, *time, graph),
+        Reply::Deleted => one_field(alloc, b"deleted"),
         Reply::Nil => one_field(alloc, b"nil"),
+        Reply::Begin => one_field(alloc, b"begin"),
+        Reply::End => one_field(alloc, b"end"),
         Reply::Refused(refusal) => error_line(alloc, *refusal),
     }
 }

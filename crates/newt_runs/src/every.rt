@@ -1,8 +1,8 @@
-//! A script that uses every command, on two units, with its replies.
+//! A script that uses every command on units, soups and entries, on two units, with its replies.
 
 use crate::sessions::Answered;
 
-/// Every command, over the devices `internal` and `card` of zero bytes.
+/// Every command on units, soups and entries, over the devices `internal` and `card` of zero bytes.
 pub const EVERY: &[Answered] = &[
     ("format 0 Internal 7", "ok"),
     ("format 1 Card 9", "ok"),

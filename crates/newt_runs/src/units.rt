@@ -194,7 +194,7 @@ fn refuses_in_order(rt: HostRuntime) -> Result<(), Fail> {
         ("resolve [alias: 7, 0, 0]", "ok nil"),
         ("resolve", "error 11 line"),
         ("soups 0", "ok S 0 0"),
-        ("index 0 S k:int:ascend", "error 10 command"),
+        ("index 0 S k:int:ascend", "ok"),
     ];
     let alloc = rt.alloc();
     expect_on_both(&rt, alloc, &blocks(alloc, 13)?, &blocks(alloc, 13)?, lines)?;

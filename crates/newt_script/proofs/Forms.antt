@@ -1,13 +1,14 @@
 -- Single words.
-use Rattle.std.proofs.Common.{◌≡◌, ℕ, Bool, true, false, not, ◌==◌, List, [], take, Option, Some, None, Result, Ok, Err, if◌then◌else◌, refl, sym, ◌∙◌, ap, IfOk, IfErr}
+use Rattle.std.proofs.Common.{◌≡◌, ℕ, Bool, true, false, not, ◌==◌, List, [], take, Option, Some, None, Result, Ok, Err, if◌then◌else◌, codes, refl, sym, ◌∙◌, ap, IfOk, IfErr}
 use Rattle.std.proofs.lemmas.Bool.{eqb-true}
 use Rattle.std.specs.List.{prefix_len}
 use Rattle.std.specs.Option.{ok_or}
+use Rattle.std.specs.Prelude.{bytes_eq}
 use Rattle.newt_base.specs.declared.Refusal.TheVariants.{Line as NotTheForm}
 use Rattle.newt_spec_script.specs.Words.{word, or_not_the_form, is_blank, skip_blanks}
-use Rattle.newt_spec_script.specs.Line.{first_word}
+use Rattle.newt_spec_script.specs.Line.{first_word, star}
 use Rattle.newt_path.specs.Names.{path_of}
-use Rattle.newt_script.specs.Readers.{path_word}
+use Rattle.newt_script.specs.Readers.{path_word, star_of}
 use Rattle.newt_script.specs.declared.fault.LineFault.{LineFault}
 use Rattle.newt_script.specs.declared.fault.LineFault.TheVariants.{Refused}
 
@@ -58,3 +59,18 @@ unfolding path_word
 refuses_path cs w word_ok is =
     word_is path_of cs no_path_of_nothing
     ∙ (ap (λ v. or_not_the_form (path_of v) (first_word cs).1) (sym word_ok) ∙ ap (λ v. or_not_the_form v (first_word cs).1) is)
+
+-- ---- a star
+
+pub passes_star : (cs w rest : List ℕ) → w ≡ (first_word cs).0 → rest ≡ (first_word cs).1 → bytes_eq w (codes "*") ≡ true → star_of cs ≡ Ok (0, rest)
+unfolding star_of
+passes_star cs w rest word_ok rest_ok is =
+    word_is star cs refl
+    ∙ (ap (λ v. or_not_the_form (star v) (first_word cs).1) (sym word_ok)
+    ∙ (ap (λ (b : Bool). or_not_the_form (if b then Some 0 else None) (first_word cs).1) is ∙ ap (λ v. Ok (0, v)) (sym rest_ok)))
+
+pub stays_at_no_star : (cs w : List ℕ) → w ≡ (first_word cs).0 → bytes_eq w (codes "*") ≡ false → star_of cs ≡ Err NotTheForm
+unfolding star_of
+stays_at_no_star cs w word_ok is =
+    word_is star cs refl
+    ∙ (ap (λ v. or_not_the_form (star v) (first_word cs).1) (sym word_ok) ∙ ap (λ (b : Bool). or_not_the_form (if b then Some 0 else None) (first_word cs).1) is)

@@ -8,3 +8,5 @@ pub mod Spoken
 pub mod WordLists
 pub mod Pieces
 pub mod ListedRows
+pub mod Apart
+pub mod CursorRows

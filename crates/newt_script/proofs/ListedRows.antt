@@ -1,18 +1,16 @@
 -- What the rows on indexes and tags read, over the readers that stay closed.
-use Rattle.std.proofs.Common.{◌≡◌, ℕ, Bool, true, false, ◌==◌, List, [], length, Option, Some, None, Result, Ok, Err, if◌then◌else◌, codes, refl, ap, sym, ◌∙◌}
+use Rattle.std.proofs.Common.{◌≡◌, ℕ, Bool, true, false, ◌==◌, List, [], length, Option, Some, None, Result, Ok, Err, if◌then◌else◌, codes, refl, ap, ◌∙◌}
 use Rattle.newt_base.specs.Names.{same_name}
 use Rattle.newt_base.specs.declared.Refusal.{Refusal}
-use Rattle.newt_base.specs.declared.Refusal.TheVariants.{Line as NotTheForm}
 use Rattle.newt_path.specs.Names.{path_of}
 use Rattle.newt_spec_graph.specs.Lists.{all_apart}
 use Rattle.newt_spec_world.specs.declared.command.Command.{Command}
 use Rattle.newt_spec_world.specs.declared.command.Command.TheVariants as command
-use Rattle.newt_spec_script.specs.Words.{Reader, then_read, trimmed, of1, of2, of3, of4, word, words, name, part, symbol, several, all_words, or_not_the_form}
-use Rattle.newt_spec_script.specs.Line.{Parsed, ready, unit, ended, whole, distinct, if_distinct, or_row, tags_row}
+use Rattle.newt_spec_script.specs.Words.{then_read, trimmed, of1, of2, of3, of4, word, words, name, part, symbol, several, all_words, or_not_the_form}
+use Rattle.newt_spec_script.specs.Line.{Parsed, unit, ended, whole, distinct, if_distinct, or_row}
 use Rattle.newt_script.specs.Listed.{of_form, in_number, values, apart, parts_in, paths_in, symbols_in}
 use Rattle.newt_script.specs.Readers.{unit_of, name_of, soup_of, path_word, rest_of, is_ended, Reading, reading, row_reading}
 use Rattle.newt_script.specs.declared.fault.LineFault.{LineFault}
-use Rattle.newt_script.specs.declared.fault.LineFault.TheVariants.{Refused}
 use Rattle.newt_script.proofs.RowTable.{after, finished, mapped, after_same, two_words, soup_and_word, one_word, then_after, two, two_then}
 
 -- the command with a list
@@ -68,7 +66,7 @@ row_indexes cs = two_words unit name command.Indexes cs
 -- ---- the two rows of `tags`
 
 -- what follows a soup that is not all
-declaration : ℕ → List ℕ → List ℕ → Reading
+abbrev declaration : ℕ → List ℕ → List ℕ → Reading
 declaration u s rest = after (word path_of rest) (λ p rest. with_list (apart (values 140_000 symbol (words rest))) (command.SetTags u s p))
 
 second_row : (u : ℕ) (s rest : List ℕ) → reading (ended (of2 (word path_of) distinct (command.SetTags u s) rest)) ≡ declaration u s rest

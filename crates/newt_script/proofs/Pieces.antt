@@ -1,12 +1,12 @@
 -- The pieces of a part of an index between its colons.
-use Rattle.std.proofs.Common.{◌≡◌, ℕ, suc, ◌+◌, ◌<◌, ◌≤◌, Bool, true, false, not, ◌==◌, List, [], ◌∷◌, length, take, drop, Option, Some, None, refl, sym, ◌∙◌, ap, arith}
+use Rattle.std.proofs.Common.{◌≡◌, ℕ, suc, ◌+◌, ◌-◌, ◌<◌, ◌≤◌, Bool, true, false, ◌==◌, List, [], ◌∷◌, length, take, drop, Option, Some, None, cond, refl, sym, ◌∙◌, ap, arith}
 use Rattle.std.specs.Prelude.{nat_lt}
-use Rattle.std.specs.List.{position_or_len}
+use Rattle.std.specs.List.{position_or_len, position}
 use Rattle.std.proofs.lemmas.Bool.{ltb-true, ltb-false}
-use Rattle.newt_spec_world.specs.declared.command.PartWord.{PartWord}
+use Rattle.std.proofs.lemmas.List.{take_all, length-drop}
 use Rattle.newt_spec_script.specs.Words.{split_at, part_of, part}
 
-abbrev is_colon : ℕ → Bool
+abbrev pub is_colon : ℕ → Bool
 is_colon c = c == 58
 
 abbrev place : List ℕ → ℕ
@@ -43,6 +43,33 @@ uncut (c ∷ cs) none = go (uncut cs) (is_colon c) refl
     go rest false is =
         let is_at : place (c ∷ cs) ≡ suc (place cs) = rw is (add-one (place cs)) in
         rw (is, split_at, rest (omega (arith, is_at, none))) refl
+
+-- ---- as `position` finds it
+
+found : (text : List ℕ) (at : ℕ) → Some at ≡ position is_colon text → (place text < length text) × (at ≡ place text)
+found text at is = go (nat_lt (place text) (length text)) refl is
+  where
+    go : (l : Bool) → nat_lt (place text) (length text) ≡ l → Some at ≡ cond l (Some (place text)) None → (place text < length text) × (at ≡ place text)
+    go true less e = (ltb-true (place text) (length text) less, cc)
+    go false less e = cc
+
+pub within : (text : List ℕ) (at : ℕ) → Some at ≡ position is_colon text → at < length text
+within text at is = let f = found text at is in omega (arith, f.0, f.1)
+
+pub cut_at : (text : List ℕ) (at : ℕ) → Some at ≡ position is_colon text
+    → split_at 58 text ≡ take at text ∷ split_at 58 (take (length text - (at + 1)) (drop (at + 1) text))
+cut_at text at is =
+    let f = found text at is in
+    let rest : drop (at + 1) text ≡ take (length text - (at + 1)) (drop (at + 1) text) =
+    sym (take_all (length text - (at + 1)) (drop (at + 1) text) (omega (arith, length-drop (at + 1) text))) in
+    cut text f.0 ∙ (ap (λ n. take n text ∷ split_at 58 (drop (n + 1) text)) (sym f.1) ∙ ap (λ r. take at text ∷ split_at 58 r) rest)
+
+pub no_cut : (text : List ℕ) → None ≡ position is_colon text → split_at 58 text ≡ text ∷ []
+no_cut text is = go (nat_lt (place text) (length text)) refl is
+  where
+    go : (l : Bool) → nat_lt (place text) (length text) ≡ l → ◌≡◌ {A = Option ℕ} None (cond l (Some (place text)) None) → split_at 58 text ≡ text ∷ []
+    go true less e = cc
+    go false less e = uncut text (ltb-false (place text) (length text) less)
 
 -- ---- parts
 

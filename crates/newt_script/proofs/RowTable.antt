@@ -73,7 +73,7 @@ whole_after : {A : Type 0} (f : A → Command) (r : Result (A × List ℕ) Refus
 whole_after f (Err r) = refl
 whole_after f (Ok (a, rest)) = ends (f a) rest
 
-literal_after : {A : Type 0} (f : A → RawGraph → Command) (r : Result (A × List ℕ) Refusal)
+pub literal_after : {A : Type 0} (f : A → RawGraph → Command) (r : Result (A × List ℕ) Refusal)
     → reading (with_literal (mapped f r)) ≡ after r (λ a rest. with_graph (literal_word (rest_of rest)) (f a))
 literal_after f (Err r) = refl
 literal_after f (Ok (a, rest)) = ends_in_literal (f a) rest
@@ -281,7 +281,7 @@ then_literal : {A : Type 0} (k : A → List ℕ → Result ((RawGraph → Comman
 then_literal k (Err r) = refl
 then_literal k (Ok (a, rest)) = refl
 
-one_literal : {A : Type 0} (p : Reader A) (f : A → RawGraph → Command) (cs : List ℕ)
+pub one_literal : {A : Type 0} (p : Reader A) (f : A → RawGraph → Command) (cs : List ℕ)
     → reading (with_literal (of1 p f cs)) ≡ after (p cs) (λ a rest. with_graph (literal_word (rest_of rest)) (f a))
 one_literal p f cs = ap (λ r. reading (with_literal r)) (one p p f cs) ∙ literal_after f (p cs)
 

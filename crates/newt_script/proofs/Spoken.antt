@@ -62,6 +62,19 @@ word_is_built verb.Index = refl
 word_is_built verb.Unindex = refl
 word_is_built verb.Indexes = refl
 word_is_built verb.Tags = refl
+word_is_built verb.Query = refl
+word_is_built verb.Entry = refl
+word_is_built verb.Next = refl
+word_is_built verb.Prev = refl
+word_is_built verb.Reset = refl
+word_is_built verb.End = refl
+word_is_built verb.Moveby = refl
+word_is_built verb.Goto = refl
+word_is_built verb.Gotokey = refl
+word_is_built verb.Count = refl
+word_is_built verb.Which = refl
+word_is_built verb.Clone = refl
+word_is_built verb.Close = refl
 
 row_of_word : (word rest : List ℕ) → reading (row_of word rest) ≡ row_reading word rest
 unfolding row_reading

@@ -1,9 +1,9 @@
 -- The words of a text one after another, and their values.
-use Rattle.std.proofs.Common.{◌≡◌, ℕ, zero, suc, ◌+◌, ◌-◌, ◌<◌, ◌≤◌, Bool, true, false, not, ◌||◌, ◌==◌, List, [], ◌∷◌, ◌++◌, length, take, drop, filter, map, get_or, Option, Some, None, Result, Ok, Err, Bor, option_map, option_and_then, if◌then◌else◌, refl, sym, ◌∙◌, ap, subst, append_assoc, arith}
+use Rattle.std.proofs.Common.{◌≡◌, ℕ, zero, suc, ◌+◌, ◌<◌, ◌≤◌, Bool, true, false, not, ◌||◌, ◌==◌, List, [], ◌∷◌, ◌++◌, length, take, drop, filter, map, get_or, Option, Some, None, Result, Ok, Err, Bor, option_map, option_and_then, if◌then◌else◌, refl, sym, ◌∙◌, ap, subst, append_assoc, arith}
 use Rattle.std.proofs.lemmas.List.{take_more, take_all, length-drop, map-append}
 use Rattle.std.proofs.lemmas.Bool.{ne_eqb}
 use Rattle.std.specs.List.{prefix_len}
-use Rattle.newt_spec_script.specs.Words.{is_blank, skip_blanks, split_at, words, all_words}
+use Rattle.newt_spec_script.specs.Words.{is_blank, split_at, words, all_words}
 use Rattle.newt_spec_script.specs.Line.{first_word}
 use Rattle.newt_base.specs.declared.Refusal.TheVariants.{Line as NotTheForm}
 use Rattle.newt_script.specs.Listed.{of_form}
@@ -145,14 +145,14 @@ module _ {A : Type 0} (form : List ℕ → Option A) where
       go rest (Some a) found (Some ys) values_are given = rw (found, rest ys values_are) (ap (option_map (λ zs. zs ++ x ∷ [])) given)
 
   -- one word more
-  pub one_more : (ws : List (Bor (List ℕ))) (i : ℕ) (w : Bor (List ℕ)) (xs new : List A) (x : A) → i < length ws → w ≡ get_or ws i w
-      → all_words form (texts (take i ws)) ≡ Some xs → Ok x ≡ of_form (form w.now) → new ≡ xs ++ x ∷ [] → all_words form (texts (take (i + 1) ws)) ≡ Some new
-  one_more ws i w xs new x within word_is all is new_is =
-      ap (λ vs. all_words form (texts vs)) (take_more ws i w within ∙ ap (λ v. take i ws ++ v ∷ []) (sym word_is))
-      ∙ (ap (all_words form) (map-append (λ v. v.now) (take i ws) (w ∷ []))
-      ∙ (longer (texts (take i ws)) w.now xs x all (value (form w.now) refl is) ∙ ap Some (sym new_is)))
+  pub one_more : (ws : List (Bor (List ℕ))) (i : ℕ) (d : Bor (List ℕ)) (xs new : List A) (x : A) → i < length ws
+      → all_words form (texts (take i ws)) ≡ Some xs → Ok x ≡ of_form (form (get_or ws i d).now) → new ≡ xs ++ x ∷ [] → all_words form (texts (take (i + 1) ws)) ≡ Some new
+  one_more ws i d xs new x within all is new_is =
+      ap (λ vs. all_words form (texts vs)) (take_more ws i d within)
+      ∙ (ap (all_words form) (map-append (λ v. v.now) (take i ws) (get_or ws i d ∷ []))
+      ∙ (longer (texts (take i ws)) (get_or ws i d).now xs x all (value (form (get_or ws i d).now) refl is) ∙ ap Some (sym new_is)))
     where
-      value : (o : Option A) → form w.now ≡ o → Ok x ≡ of_form o → form w.now ≡ Some x
+      value : (o : Option A) → form (get_or ws i d).now ≡ o → Ok x ≡ of_form o → form (get_or ws i d).now ≡ Some x
       value None found e = cc
       value (Some y) found e = cc
 
@@ -170,13 +170,13 @@ module _ {A : Type 0} (form : List ℕ → Option A) where
       go rest (Some a) = rw rest refl
 
   -- a word that has not the form
-  pub refused : (ws : List (Bor (List ℕ))) (i : ℕ) (w : Bor (List ℕ)) (fault : LineFault) → i < length ws → w ≡ get_or ws i w → Err fault ≡ of_form (form w.now)
-      → ◌≡◌ {A = Result (List A) LineFault} (Err fault) (of_form (all_words form (texts ws)))
-  refused ws i w fault within word_is is = go (form w.now) refl is
+  pub refused : (ws : List (Bor (List ℕ))) (i : ℕ) (d : Bor (List ℕ)) (fault : LineFault) → i < length ws
+      → ◌≡◌ {A = Result A LineFault} (Err fault) (of_form (form (get_or ws i d).now)) → ◌≡◌ {A = Result (List A) LineFault} (Err fault) (of_form (all_words form (texts ws)))
+  refused ws i d fault within is = go (form (get_or ws i d).now) refl is
     where
-      go : (o : Option A) → form w.now ≡ o → ◌≡◌ {A = Result A LineFault} (Err fault) (of_form o) → ◌≡◌ {A = Result (List A) LineFault} (Err fault) (of_form (all_words form (texts ws)))
+      go : (o : Option A) → form (get_or ws i d).now ≡ o → ◌≡◌ {A = Result A LineFault} (Err fault) (of_form o) → ◌≡◌ {A = Result (List A) LineFault} (Err fault) (of_form (all_words form (texts ws)))
       go None found e =
-          let none : all_words form (texts ws) ≡ None = none_at ws i w within (ap (λ v. form v.now) (sym word_is) ∙ found) in
+          let none : all_words form (texts ws) ≡ None = none_at ws i d within found in
           let same : fault ≡ Refused NotTheForm = cc in
           rw (none, same) refl
       go (Some y) found e = cc

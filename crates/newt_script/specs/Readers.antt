@@ -1,9 +1,10 @@
 -- What the functions behind `line` read: the readers and rows of the definition, under names that stay closed in proofs.
-use Rattle.std.specs.Prelude.{ℕ, Bool, ◌==◌, List, length, Result, Ok, Err}
+use Rattle.std.specs.Prelude.{ℕ, ℤ, Bool, ◌==◌, List, length, Result, Ok, Err}
+use Rattle.newt_base.specs.Text.{signed_value}
 use Rattle.newt_path.specs.Names.{path_of}
 use Rattle.newt_spec_world.specs.declared.command.Command.{Command}
 use Rattle.newt_spec_script.specs.Words.{Reader, of2, of3, word, name, trimmed}
-use Rattle.newt_spec_script.specs.Line.{Parsed, unit, number, sig, row_of}
+use Rattle.newt_spec_script.specs.Line.{Parsed, unit, number, sig, cursor, star, row_of}
 use Rattle.newt_spec_script.specs.Script.{Item, item_of}
 use Rattle.newt_script.specs.Graphs.{readers}
 use Rattle.newt_script.specs.declared.fault.LineFault.{LineFault}
@@ -20,6 +21,18 @@ number_of = number
 -- SIG
 unfoldable pub sig_of : Reader ℕ
 sig_of = sig
+
+-- C
+unfoldable pub cursor_of : Reader ℕ
+cursor_of = cursor
+
+-- K
+unfoldable pub steps_of : Reader ℤ
+steps_of = word signed_value
+
+-- the word that stands for all mounted stores
+unfoldable pub star_of : Reader ℕ
+star_of = word star
 
 -- PATH
 unfoldable pub path_word : Reader (List (List ℕ))

@@ -20,15 +20,29 @@ entry_words =
 abbrev pub declaring_words : List (List ℕ)
 declaring_words = codes "index" ∷ codes "unindex" ∷ codes "indexes" ∷ codes "tags" ∷ []
 
+-- and those that make a cursor, tell of one, or end one
+abbrev pub cursor_words : List (List ℕ)
+cursor_words = codes "query" ∷ codes "entry" ∷ codes "count" ∷ codes "which" ∷ codes "clone" ∷ codes "close" ∷ []
+
+-- and those that move a cursor
+abbrev pub moving_words : List (List ℕ)
+moving_words = codes "next" ∷ codes "prev" ∷ codes "reset" ∷ codes "end" ∷ codes "moveby" ∷ codes "goto" ∷ codes "gotokey" ∷ []
+
 abbrev pub is_entry_word : List ℕ → Bool
 is_entry_word word = list_any (λ built. bytes_eq word built) entry_words
 
 abbrev pub is_declaring_word : List ℕ → Bool
 is_declaring_word word = list_any (λ built. bytes_eq word built) declaring_words
 
+abbrev pub is_cursor_word : List ℕ → Bool
+is_cursor_word word = list_any (λ built. bytes_eq word built) cursor_words
+
+abbrev pub is_moving_word : List ℕ → Bool
+is_moving_word word = list_any (λ built. bytes_eq word built) moving_words
+
 -- the word of a command that is built
 abbrev pub is_built : List ℕ → Bool
-is_built word = list_any (λ built. bytes_eq word built) store_words || is_entry_word word || is_declaring_word word
+is_built word = list_any (λ built. bytes_eq word built) store_words || is_entry_word word || is_declaring_word word || is_cursor_word word || is_moving_word word
 
 -- what a line says while not all commands are built: as the table has it, but a word that is not built is no command; a line that is too long is
 -- refused as such before

@@ -8,6 +8,7 @@
 //! is no command: `specs/Stage` lists the words of those that are.
 #![tactic(auto)]
 
+mod cursor_rows;
 mod declaring_rows;
 mod entry_rows;
 mod fault;

@@ -115,7 +115,7 @@ pub fn symbols_in(alloc: Global, text: &[u8]) -> Result<Syms, LineFault>
 {
     let words = words_in_number(alloc, text, LONGEST)?;
     let symbols = all_symbols(alloc, &words)?;
-    if are_apart(symbols.list()) {
+    if are_apart(alloc, symbols.list())? {
         Ok(symbols)
     } else {
         Err(LineFault::FORM)

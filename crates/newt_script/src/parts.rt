@@ -1,5 +1,5 @@
 //! Parts of an index.
-ghost use Rattle.std.specs.Prelude.{◌≡◌, ◌≢◌, ◌∷◌, [], MatchOption};
+ghost use Rattle.std.specs.Prelude.{◌≡◌, ◌≢◌, ◌∷◌, ◌==◌, [], MatchOption, position};
 ghost use Rattle.newt_path.specs.Names.{path_of};
 ghost use Rattle.newt_spec_script.specs.Words as spec;
 ghost use Rattle.newt_script.specs.Listed.{of_form};
@@ -85,10 +85,17 @@ fn three_pieces(text: &[u8]) -> Option<(&[u8], &[u8], &[u8])>
 }
 
 /// What stands before and behind the first colon.
-#[tactic(auto, using(crate::proofs::Pieces::cut, crate::proofs::Pieces::uncut))]
+#[tactic(auto, using(crate::proofs::Pieces::cut_at, crate::proofs::Pieces::within, crate::proofs::Pieces::no_cut))]
 fn at_colon(text: &[u8]) -> Option<(&[u8], &[u8])>
     ensures { MatchOption result (spec.split_at 58 text.now ≡ text.now ∷ []) (λ found. spec.split_at 58 text.now ≡ found.0.now ∷ spec.split_at 58 found.1.now) }
 {
-    let at = text.iter().position(|byte| *byte == b':')?;
+    let at = first_colon(text)?;
     Some((&text[..at], &text[at + 1..]))
+}
+
+/// Where the first colon stands.
+fn first_colon(text: &[u8]) -> Option<usize>
+    ensures { result ≡ position (λ byte. byte == 58) text.now }
+{
+    text.iter().position(|byte| *byte == b':')
 }

@@ -1,7 +1,9 @@
 //! Symbols of a tags declaration.
-ghost use Rattle.std.specs.Prelude.{◌≡◌, ◌≢◌, ◌||◌};
+ghost use Rattle.std.specs.Prelude.{◌≡◌, ◌≢◌, ◌||◌, bytes_eq, map, IfOk};
 ghost use Rattle.std.specs.Char.{is_ascii_digit};
-ghost use Rattle.std.specs.List.{list_all, list_any};
+ghost use Rattle.std.specs.HashSet.{IsFromIterResult};
+ghost use Rattle.std.specs.List.{list_all};
+ghost use Rattle.std.specs.Str.{str_to_ascii_lowercase};
 ghost use Rattle.newt_base.specs.Names.{is_identifier, starts_identifier, same_name};
 ghost use Rattle.newt_spec_graph.specs.Lists.{all_apart};
 ghost use Rattle.newt_spec_store.specs.Valid.{valid_symbol};
@@ -10,7 +12,8 @@ ghost use Rattle.newt_script.specs.Listed.{of_form};
 
 use crate::fault::LineFault;
 use newt_graph::Bytes;
-use std::alloc::Global;
+use std::alloc::{AllocError, Global};
+use std::collections::HashSet;
 
 /// The most bytes of a symbol.
 const MOST_BYTES: usize = 254;
@@ -56,23 +59,44 @@ fn all_continue(bytes: &[u8]) -> bool
 }
 
 /// Whether no two symbols are one but for ASCII case.
-pub fn are_apart(symbols: &[Bytes]) -> bool
-    ensures { result ≡ all_apart same_name symbols.now }
+#[tactic(auto, using(crate::proofs::Apart::folded_apart))]
+pub fn are_apart(alloc: Global, symbols: &[Bytes]) -> Result<bool, AllocError>
+    ensures { IfOk result (λ apart. apart ≡ all_apart same_name symbols.now) }
 {
-    let mut left = symbols;
-    while let [symbol, rest @ ..] = left {
-        if is_among(symbol.list(), rest) {
-            return false;
-        }
-        left = rest;
-    }
-    true
+    are_different(alloc, all_in_lower_case(alloc, symbols)?)
 }
 
-fn is_among(symbol: &[u8], symbols: &[Bytes]) -> bool
-    ensures { result ≡ list_any (same_name symbol.now) symbols.now }
+/// Whether no two texts are one.
+fn are_different(alloc: Global, texts: Vec<Vec<u8>>) -> Result<bool, AllocError>
+    ensures { IfOk result (λ different. different ≡ all_apart bytes_eq (map (λ text. text.items) texts.items)) }
 {
-    symbols
-        .iter()
-        .any(|other| symbol.eq_ignore_ascii_case(other.list()))
+    let number = texts.len();
+    let set = set_of(alloc, texts)?;
+    Ok(set.len() == number)
+}
+
+/// Each text once.
+fn set_of(alloc: Global, texts: Vec<Vec<u8>>) -> Result<HashSet<Vec<u8>>, AllocError>
+    ensures { IfOk result (λ set. IsFromIterResult (λ a b. bytes_eq a.items b.items) texts.items set) }
+{
+    texts.into_iter().collect(alloc)
+}
+
+/// Texts in ASCII lower case.
+fn all_in_lower_case(alloc: Global, texts: &[Bytes]) -> Result<Vec<Vec<u8>>, AllocError>
+    ensures { IfOk result (λ lower. map (λ text. text.items) lower.items ≡ map str_to_ascii_lowercase texts.now) }
+{
+    let mut lower = Vec::new(alloc);
+    for text in texts {
+        lower.push(in_lower_case(alloc, text.list())?)?;
+    }
+    Ok(lower)
+}
+
+fn in_lower_case(alloc: Global, text: &[u8]) -> Result<Vec<u8>, AllocError>
+    ensures { IfOk result (λ lower. lower.items ≡ str_to_ascii_lowercase text.now) }
+{
+    let mut lower = Vec::from_slice(alloc, text)?;
+    lower.make_ascii_lowercase();
+    Ok(lower)
 }

@@ -6,7 +6,7 @@ ghost use Rattle.newt_script.specs.Verbs.{word_of};
 use crate::fault::LineFault;
 use crate::verbs::Verb;
 use crate::words::Words;
-use crate::{declaring_rows, entry_rows, store_rows};
+use crate::{cursor_rows, declaring_rows, entry_rows, store_rows};
 use newt_spec_world::Command;
 use std::alloc::Global;
 
@@ -43,5 +43,18 @@ pub fn row(alloc: Global, verb: Verb, words: &mut Words) -> Result<Command, Line
         Verb::Unindex => declaring_rows::unindex(alloc, words),
         Verb::Indexes => declaring_rows::indexes(alloc, words),
         Verb::Tags => declaring_rows::tags(alloc, words),
+        Verb::Query => cursor_rows::query(alloc, words),
+        Verb::Entry => cursor_rows::entry(words),
+        Verb::Next => cursor_rows::next(words),
+        Verb::Prev => cursor_rows::prev(words),
+        Verb::Reset => cursor_rows::reset(words),
+        Verb::End => cursor_rows::end(words),
+        Verb::Moveby => cursor_rows::moveby(words),
+        Verb::Goto => cursor_rows::goto(words),
+        Verb::Gotokey => cursor_rows::gotokey(alloc, words),
+        Verb::Count => cursor_rows::count(words),
+        Verb::Which => cursor_rows::which(words),
+        Verb::Clone => cursor_rows::clone(words),
+        Verb::Close => cursor_rows::close(words),
     }
 }

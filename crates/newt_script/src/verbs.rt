@@ -1,6 +1,6 @@
 //! The first words of commands.
-ghost use Rattle.std.specs.Prelude.{◌≡◌, MatchOption, false};
-ghost use Rattle.newt_script.specs.Stage.{is_built, is_entry_word, is_declaring_word};
+ghost use Rattle.std.specs.Prelude.{◌≡◌, ◌||◌, MatchOption, false};
+ghost use Rattle.newt_script.specs.Stage.{is_built, is_entry_word, is_declaring_word, is_cursor_word, is_moving_word};
 ghost use Rattle.newt_script.specs.Verbs.{word_of};
 
 /// The first word of a command.
@@ -34,6 +34,19 @@ pub enum Verb {
     Unindex,
     Indexes,
     Tags,
+    Query,
+    Entry,
+    Next,
+    Prev,
+    Reset,
+    End,
+    Moveby,
+    Goto,
+    Gotokey,
+    Count,
+    Which,
+    Clone,
+    Close,
 }
 
 /// The command that a word names.
@@ -65,10 +78,22 @@ pub fn named(word: &[u8]) -> Option<Verb>
     } else if word == b"drop".as_slice() {
         Some(Verb::Drop)
     } else {
-        match named_entry(word) {
-            Some(verb) => Some(verb),
-            None => named_declaring(word),
-        }
+        named_below(word)
+    }
+}
+
+/// The same of the commands on entries, on what a soup declares, and on cursors.
+fn named_below(word: &[u8]) -> Option<Verb>
+    ensures { MatchOption result ((is_entry_word word.now || is_declaring_word word.now || is_cursor_word word.now || is_moving_word word.now) ≡ false) (λ verb. word.now ≡ word_of verb) }
+{
+    if let Some(verb) = named_entry(word) {
+        Some(verb)
+    } else if let Some(verb) = named_declaring(word) {
+        Some(verb)
+    } else if let Some(verb) = named_cursor(word) {
+        Some(verb)
+    } else {
+        named_moving(word)
     }
 }
 
@@ -117,6 +142,50 @@ fn named_declaring(word: &[u8]) -> Option<Verb>
         Some(Verb::Indexes)
     } else if word == b"tags".as_slice() {
         Some(Verb::Tags)
+    } else {
+        None
+    }
+}
+
+/// The same of the commands that make a cursor, tell of one, or end one.
+fn named_cursor(word: &[u8]) -> Option<Verb>
+    ensures { MatchOption result (is_cursor_word word.now ≡ false) (λ verb. word.now ≡ word_of verb) }
+{
+    if word == b"query".as_slice() {
+        Some(Verb::Query)
+    } else if word == b"entry".as_slice() {
+        Some(Verb::Entry)
+    } else if word == b"count".as_slice() {
+        Some(Verb::Count)
+    } else if word == b"which".as_slice() {
+        Some(Verb::Which)
+    } else if word == b"clone".as_slice() {
+        Some(Verb::Clone)
+    } else if word == b"close".as_slice() {
+        Some(Verb::Close)
+    } else {
+        None
+    }
+}
+
+/// The same of the commands that move a cursor.
+fn named_moving(word: &[u8]) -> Option<Verb>
+    ensures { MatchOption result (is_moving_word word.now ≡ false) (λ verb. word.now ≡ word_of verb) }
+{
+    if word == b"next".as_slice() {
+        Some(Verb::Next)
+    } else if word == b"prev".as_slice() {
+        Some(Verb::Prev)
+    } else if word == b"reset".as_slice() {
+        Some(Verb::Reset)
+    } else if word == b"end".as_slice() {
+        Some(Verb::End)
+    } else if word == b"moveby".as_slice() {
+        Some(Verb::Moveby)
+    } else if word == b"goto".as_slice() {
+        Some(Verb::Goto)
+    } else if word == b"gotokey".as_slice() {
+        Some(Verb::Gotokey)
     } else {
         None
     }

@@ -1,10 +1,10 @@
 //! Words between blanks, one after another.
-ghost use Rattle.std.specs.Prelude.{◌≡◌, ◌≢◌, ◌≤◌, length, reverse, not, true, false, IfOk, IfErr, MatchResult};
+ghost use Rattle.std.specs.Prelude.{◌≡◌, ◌≢◌, ◌≤◌, length, reverse, not, true, false, IfOk, IfErr, MatchResult, MatchBool};
 ghost use Rattle.std.specs.List.{prefix_len};
 ghost use Rattle.newt_base.specs.declared.Refusal.TheVariants.{Line as NotTheForm};
 ghost use Rattle.newt_spec_script.specs.Words as spec;
 ghost use Rattle.newt_spec_script.specs.Line.{first_word};
-ghost use Rattle.newt_script.specs.Readers.{unit_of, number_of, sig_of, name_of, soup_of, entry_of, path_word, rest_of, is_ended};
+ghost use Rattle.newt_script.specs.Readers.{unit_of, number_of, sig_of, cursor_of, steps_of, star_of, name_of, soup_of, entry_of, path_word, rest_of, is_ended};
 ghost use Rattle.newt_script.specs.Graphs.{literal_word, stream_word};
 ghost use Rattle.newt_script.specs.Listed.{parts_in, paths_in, symbols_in};
 
@@ -12,7 +12,7 @@ use crate::fault::LineFault;
 use crate::graphs::{literal_word, stream_word};
 use crate::listed::{parts_in, paths_in, symbols_in};
 use crate::names::name_from;
-use newt_base::{Name, Sig, Uid, decimal};
+use newt_base::{Name, Sig, Uid, decimal, signed};
 use newt_graph::Graph;
 use newt_host::Unit;
 use newt_path::{Path, PathFault};
@@ -22,6 +22,9 @@ use std::marker::Model;
 
 /// The largest signature of a store.
 const MOST_SIG: u32 = 536_870_911;
+
+/// The last cursor.
+const LAST_CURSOR: u32 = 31;
 
 pub fn is_blank(byte: u8) -> bool
     ensures { result ≡ spec.is_blank byte }
@@ -110,6 +113,16 @@ fn signature(word: &[u8]) -> Option<Sig>
     }
 }
 
+/// The value of a decimal word up to the last cursor.
+fn cursor_number(word: &[u8]) -> Option<u8>
+    ensures { result ≡ spec.decimal_to 31 word.now }
+{
+    match decimal(word) {
+        Some(number) if number <= LAST_CURSOR => Some(number as u8),
+        _ => None,
+    }
+}
+
 /// What is left of a line.
 #[derive(Drop)]
 pub struct Words<'a> {
@@ -191,6 +204,36 @@ impl<'a> Words<'a> {
         ensures refused { IfErr result (λ fault. (fault ≡ LineFault.Refused NotTheForm) × (sig_of self.old ≡ Err NotTheForm)) }
     {
         signature(self.word()).ok_or(LineFault::FORM)
+    }
+
+    /// C: the number of a cursor.
+    pub fn cursor(&mut self) -> Result<u8, LineFault>
+        ensures read { IfOk result (λ cursor. cursor_of self.old ≡ Ok (cursor, self.new)) }
+        ensures refused { IfErr result (λ fault. (fault ≡ LineFault.Refused NotTheForm) × (cursor_of self.old ≡ Err NotTheForm)) }
+    {
+        cursor_number(self.word()).ok_or(LineFault::FORM)
+    }
+
+    /// K: how many steps a cursor is moved, down to the lowest and up to the highest number of 32 bits with a sign.
+    pub fn steps(&mut self) -> Result<i32, LineFault>
+        ensures read { IfOk result (λ steps. steps_of self.old ≡ Ok (steps, self.new)) }
+        ensures refused { IfErr result (λ fault. (fault ≡ LineFault.Refused NotTheForm) × (steps_of self.old ≡ Err NotTheForm)) }
+    {
+        signed(self.word()).ok_or(LineFault::FORM)
+    }
+
+    /// Whether the next word is a star, which is passed.
+    #[tactic(auto, using(crate::proofs::Forms::passes_star, crate::proofs::Forms::stays_at_no_star))]
+    pub fn star(&mut self) -> bool
+        ensures { MatchBool result (star_of self.old ≡ Ok (0, self.new)) ((star_of self.old ≡ Err NotTheForm) × (self.new ≡ self.old)) }
+    {
+        let (word, rest) = split_word(self.rest);
+        if word == b"*".as_slice() {
+            self.rest = rest;
+            true
+        } else {
+            false
+        }
     }
 
     /// S or NAME: a name, bare or in quotes.

@@ -13,17 +13,17 @@ use Rattle.newt_pagebook.proofs.Tests.{true_or_false, is_same, equal_true}
 use Rattle.newt_objects.specs.Headers.{part_cmp}
 use Rattle.newt_objects.proofs.Indexing.{parts_total, same_part, itself}
 
-abbrev alike : ℕ × ℕ → ℕ × ℕ → Bool
+abbrev pub alike : ℕ × ℕ → ℕ × ℕ → Bool
 alike = eq_by_cmp part_cmp
 
-abbrev same_number : ℕ → ℕ → Bool
+abbrev pub same_number : ℕ → ℕ → Bool
 same_number a b = a == b
 
 -- the keys of these ids in one soup
 abbrev keys_in : ℕ → List ℕ → List (ℕ × ℕ)
 keys_in sig uids = map_list (λ u. let k : ℕ × ℕ = (sig, u) in k) uids
 
-as_well : (x y : Bool) → (x ≡ true → y ≡ true) → (y ≡ true → x ≡ true) → x ≡ y
+pub as_well : (x y : Bool) → (x ≡ true → y ≡ true) → (y ≡ true → x ≡ true) → x ≡ y
 as_well true true f g = refl
 as_well true false f g = sym (f refl)
 as_well false true f g = g refl
@@ -37,7 +37,7 @@ and_false : (b : Bool) → (b && false) ≡ false
 and_false true = refl
 and_false false = refl
 
-alike-in : (sig a b : ℕ) → alike (sig, a) (sig, b) ≡ same_number a b
+pub alike-in : (sig a b : ℕ) → alike (sig, a) (sig, b) ≡ same_number a b
 alike-in sig a b = as_well (alike (sig, a) (sig, b)) (same_number a b)
     (λ e. equal_true a b (ap (λ (k : ℕ × ℕ). k.1) (same_part (sig, a) (sig, b) e)))
     (λ e. ap (λ (n : ℕ). alike (sig, a) (sig, n)) (sym (is_same a b e)) ∙ itself (sig, a))

@@ -3,3 +3,4 @@ pub mod Lengths
 pub mod Counting
 pub mod Planning
 pub mod Placing
+pub mod Listing

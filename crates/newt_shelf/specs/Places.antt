@@ -19,3 +19,7 @@ pub record AreSoundPlaces (table : Table) (place : Places) : Type 0 where
 -- the objects of the rows of a soup, in order
 abbrev pub picked : ℕ → List ((ℕ × ℕ) × ℕ) → List ℕ
 picked sig rows = map (λ e. e.1) (filter (λ e. e.0.0 == sig) rows)
+
+-- the ids of the entries of the rows of a soup, in order
+abbrev pub uids_at : ℕ → List ((ℕ × ℕ) × ℕ) → List ℕ
+uids_at sig rows = map (λ e. e.0.1) (filter (λ e. e.0.0 == sig) rows)

@@ -1,11 +1,13 @@
 // Where the records of entries are.
 ghost use Rattle.std.specs.Prelude.{◌≡◌, ◌≢◌, ◌==◌, ◌++◌, ◌∷◌, [], ℕ, List, filter, length, slice_get, Some, None, is_some, OnOk, OnErr, IfOk};
 ghost use Rattle.std.specs.List.{IsDistinct};
+ghost use Rattle.std.specs.List.Sorted.{IsStrictlySortedBy};
+ghost use Rattle.std.specs.Ordering.{nat_cmp};
 ghost use Rattle.std.specs.Set.{is_member};
 ghost use Rattle.std.specs.BTreeMap as tree;
 ghost use Rattle.newt_objects.specs.Headers.{part_cmp};
 ghost use Rattle.newt_shelf.specs.Batch.{AreOnce};
-ghost use Rattle.newt_shelf.specs.Places.{place_of, picked};
+ghost use Rattle.newt_shelf.specs.Places.{place_of, picked, uids_at};
 
 use newt_base::{Sig, Uid};
 use std::alloc::{AllocError, Global};
@@ -28,6 +30,31 @@ fn pick(rows: &BTreeMap<(u32, u32), u32>, sig: u32, ids: &mut Vec<u32>) -> Resul
 {
     for (key, id) in rows.iter() {
         pick_one(key, id, sig, ids)?;
+    }
+    Ok(())
+}
+
+// Appends the id of the entry of a row, if it is one of the soup.
+fn list_one(key: &(u32, u32), id: &u32, sig: u32, uids: &mut Vec<Uid>) -> Result<(), AllocError>
+    ensures { OnOk result (uids.new.items ≡ uids.old.items ++ uids_at sig ((key.now, id.now) ∷ [])) }
+{
+    if key.0 == sig {
+        uids.push(Uid(key.1))?;
+    }
+    Ok(())
+}
+
+// Appends the ids of the entries of the rows of a soup.
+fn list_uids(
+    rows: &BTreeMap<(u32, u32), u32>,
+    sig: u32,
+    uids: &mut Vec<Uid>,
+) -> Result<(), AllocError>
+    ensures listed { OnOk result (uids.new.items ≡ uids.old.items ++ uids_at sig rows.now.entries) }
+    ensures ordered { tree.IsOrdered part_cmp rows.now }
+{
+    for (key, id) in rows.iter() {
+        list_one(key, id, sig, uids)?;
     }
     Ok(())
 }
@@ -91,6 +118,16 @@ impl PlaceTable {
         let mut ids = Vec::new(alloc);
         pick(&self.rows, sig.0, &mut ids)?;
         Ok(ids)
+    }
+
+    /// The ids of a soup's entries that have a place, in rising order.
+    pub fn uids_of(&self, alloc: Global, sig: Sig) -> Result<Vec<Uid>, AllocError>
+        ensures there { IfOk result (λ uids. (uid : ℕ) → is_member (λ a b. a == b) uids.items uid ≡ is_some (place_of self.now sig uid)) }
+        ensures rising { IfOk result (λ uids. IsStrictlySortedBy nat_cmp uids.items) }
+    {
+        let mut uids = Vec::new(alloc);
+        list_uids(&self.rows, sig.0, &mut uids)?;
+        Ok(uids)
     }
 
     /// How many entries of a soup have a place.

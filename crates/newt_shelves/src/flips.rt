@@ -1,8 +1,8 @@
 // The small image with one byte changed.
 ghost use Rattle.std.specs.Prelude.{◌<◌};
 
-use crate::contents::{Contents, contents_on};
 use newt_base::hex_read;
+use newt_onecard::{Contents, contents_on};
 use newt_pagebook::PageBook;
 use std::alloc::Global;
 use std::process::Abort;
@@ -152,13 +152,12 @@ pub(crate) fn patched(
 
 // What some bytes open as.
 fn outcome_of<P: PageBook>(
-    rt: &impl Abort,
     alloc: Global,
     bytes: &[u8],
     same: &Contents,
     before: &Contents,
 ) -> Result<Outcome, Fail> {
-    match contents_on::<P>(rt, alloc, bytes)? {
+    match contents_on::<P>(alloc, bytes)? {
         None => Ok(Outcome::NotStore),
         Some(found) => {
             if found == *same {
@@ -185,7 +184,7 @@ pub(crate) fn check_bytes<P: PageBook>(
 ) -> Result<(), Fail> {
     for at in places.0..places.1 {
         let bytes = flipped(rt, alloc, image, at, mask)?;
-        let got = outcome_of::<P>(rt, alloc, &bytes, same, before)?;
+        let got = outcome_of::<P>(alloc, &bytes, same, before)?;
         assert_eq!(rt; got, want, "byte {at}, mask {mask}");
     }
     Ok(())
@@ -204,7 +203,7 @@ pub(crate) fn check_places<P: PageBook>(
 {
     for at in (places.0..places.1).step_by(step) {
         let bytes = flipped(rt, alloc, image, at, 255)?;
-        let got = outcome_of::<P>(rt, alloc, &bytes, same, same)?;
+        let got = outcome_of::<P>(alloc, &bytes, same, same)?;
         assert_eq!(rt; got, Same, "byte {at}");
     }
     Ok(())
@@ -222,7 +221,7 @@ pub(crate) fn check_patch<P: PageBook>(
 ) -> Result<(), Fail> {
     let patch = hex_read(alloc, text.as_bytes())?;
     let bytes = patched(rt, alloc, image, at, &patch)?;
-    let got = outcome_of::<P>(rt, alloc, &bytes, same, same)?;
+    let got = outcome_of::<P>(alloc, &bytes, same, same)?;
     assert_eq!(rt; got, want, "{text} at {at}");
     Ok(())
 }

@@ -1,9 +1,8 @@
 //! Images of stores, spelt by hand.
-use crate::card::{CARD, filled, formatted, has_card};
-use crate::contents::{Contents, contents_on};
 use crate::flips::{Outcome, TABLE, check_bytes, check_patch, check_places};
 use crate::spelt::{small_before, small_contents, small_image, spelt};
 use newt_host::Host;
+use newt_onecard::{CARD, Contents, contents_on, filled, formatted, has_card};
 use newt_pagebook::PageBook;
 use newt_pageplain::PlainBook;
 use std::alloc::Global;
@@ -15,7 +14,7 @@ fn a_card_of_equal_bytes_is_no_store(rt: HostRuntime) -> Result<(), Fail> {
     let alloc = rt.alloc();
     for byte in [0u8, 0x5A, 255] {
         let bytes = filled(alloc, byte, 13 * 4096)?;
-        let found = contents_on::<PlainBook>(&rt, alloc, &bytes)?;
+        let found = contents_on::<PlainBook>(alloc, &bytes)?;
         assert_eq!(rt; found, None, "{byte}");
     }
     Ok(())
@@ -51,7 +50,7 @@ fn fresh_bank(alloc: Global) -> Result<Vec<u8>, Fail> {
 #[test]
 fn a_fresh_store_has_the_bytes_of_the_format(rt: HostRuntime) -> Result<(), Fail> {
     let alloc = rt.alloc();
-    let host = formatted::<PlainBook>(&rt, alloc, 13)?;
+    let host = formatted::<PlainBook>(alloc, 13)?;
     assert!(rt; has_card(&host));
     let bytes = host.bytes(CARD);
     assert!(rt; bytes.len() == 13 * 4096);
@@ -64,7 +63,7 @@ fn a_fresh_store_has_the_bytes_of_the_format(rt: HostRuntime) -> Result<(), Fail
 #[test]
 fn an_image_that_is_spelt_by_hand_is_read(rt: HostRuntime) -> Result<(), Fail> {
     let alloc = rt.alloc();
-    let found = contents_on::<PlainBook>(&rt, alloc, &small_image(alloc)?)?;
+    let found = contents_on::<PlainBook>(alloc, &small_image(alloc)?)?;
     assert_eq!(rt; found, Some(small_contents(alloc)?));
     Ok(())
 }

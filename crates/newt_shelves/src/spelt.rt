@@ -1,6 +1,6 @@
 // The image of a small store, spelt by hand.
-use crate::contents::{Contents, entry_row, named_row};
 use newt_base::hex_read;
+use newt_onecard::{Contents, entry_row, named_row};
 use std::alloc::Global;
 use std::test::Fail;
 

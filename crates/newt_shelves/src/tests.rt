@@ -3,14 +3,14 @@ ghost use Rattle.std.specs.Prelude.{true, OnOk};
 ghost use Rattle.newt_memhost.specs.Outside.{outside_of};
 ghost use Rattle.newt_store.specs.Stands.{IsSound};
 
-use crate::card::{CARD, formatted, has_card, host_of, opened};
-use crate::changes::{EMPTY, accept, add, make, move_to, refuse, remove};
-use crate::contents::{contents, contents_on, entry_row};
-use crate::filling::{fill, two_soups};
 use crate::flips::patched;
 use crate::spelt::{small_contents, small_image};
 use newt_base::{Refusal, Sig, Uid};
 use newt_memhost::MemHost;
+use newt_onecard::{
+    CARD, EMPTY, accept, accept_as, add, contents, contents_on, entry_row, fill, formatted,
+    has_card, host_of, make, move_to, opened, refuse, remove, two_soups,
+};
 use newt_pagebook::PageBook;
 use newt_pageplain::PlainBook;
 use newt_store::{Change, Store};
@@ -28,13 +28,13 @@ fn fill_up<P: PageBook>(
     requires stands { P.stands true store.old.book (outside_of host.old) }
     requires sound { IsSound true store.old.catalog (P.numbers store.old.book) (P.place store.old.book) (outside_of host.old) }
 {
-    assert_eq!(rt; accept(host, store, make(alloc, b"S")?, 0)?, 0);
-    fill(rt, alloc, host, store, 0, 37)?;
+    accept_as(host, store, make(alloc, b"S")?, 0, 0)?;
+    fill(alloc, host, store, 0, 37)?;
     assert_eq!(rt; [store.count(Sig(0)), store.count(Sig(1))], [37, 0]);
     let more = add(alloc, 0, EMPTY)?;
-    refuse(rt, alloc, host, store, more, Refusal::Full)?;
+    refuse(alloc, host, store, more, Refusal::Full)?;
     assert!(rt; store.has(Sig(0), Uid(0)));
-    assert_eq!(rt; accept(host, store, remove(0, 0), 0)?, 0);
+    accept_as(host, store, remove(0, 0), 0, 0)?;
     Ok(())
 }
 
@@ -48,28 +48,28 @@ fn go_on<P: PageBook>(
     requires stands { P.stands true store.old.book (outside_of host.old) }
     requires sound { IsSound true store.old.catalog (P.numbers store.old.book) (P.place store.old.book) (outside_of host.old) }
 {
-    assert_eq!(rt; accept(host, store, add(alloc, 0, EMPTY)?, 0)?, 37);
+    accept_as(host, store, add(alloc, 0, EMPTY)?, 0, 37)?;
     assert!(rt; !store.has(Sig(0), Uid(0)));
     assert!(rt; store.has(Sig(0), Uid(37)));
     assert_eq!(rt; store.count(Sig(0)), 37);
-    let rows = contents(rt, alloc, host, store)?;
+    let rows = contents(alloc, host, store)?;
     assert_eq!(rt; rows.len(), 2 + 37);
     assert!(rt; has_card(host));
-    let found = contents_on::<P>(rt, alloc, host.bytes(CARD))?;
+    let found = contents_on::<P>(alloc, host.bytes(CARD))?;
     assert_eq!(rt; found, Some(rows));
     Ok(())
 }
 
 // Another run goes on with these bytes.
 fn reopens<P: PageBook>(rt: &impl Abort, alloc: Global, bytes: &[u8]) -> Result<(), Fail> {
-    let mut host = host_of(rt, alloc, bytes)?;
-    let mut store: Store<P> = opened(rt, alloc, &mut host);
+    let mut host = host_of(alloc, bytes)?;
+    let mut store: Store<P> = opened(alloc, &mut host)?;
     go_on(rt, alloc, &mut host, &mut store)
 }
 
 fn fills<P: PageBook>(rt: &impl Abort, alloc: Global) -> Result<(), Fail> {
-    let mut host = formatted::<P>(rt, alloc, 13)?;
-    let mut store: Store<P> = opened(rt, alloc, &mut host);
+    let mut host = formatted::<P>(alloc, 13)?;
+    let mut store: Store<P> = opened(alloc, &mut host)?;
     fill_up(rt, alloc, &mut host, &mut store)?;
     assert!(rt; has_card(&host));
     reopens::<P>(rt, alloc, host.bytes(CARD))
@@ -82,7 +82,6 @@ fn a_unit_takes_what_it_should_and_ids_rise(rt: HostRuntime) -> Result<(), Fail>
 
 // A full store, and its soup goes.
 fn drop_full<P: PageBook>(
-    rt: &impl Abort,
     alloc: Global,
     host: &mut MemHost,
     store: &mut Store<P>,
@@ -92,9 +91,9 @@ fn drop_full<P: PageBook>(
     ensures stands { OnOk result (P.stands true store.new.book (outside_of host.new)) }
     ensures sound { OnOk result (IsSound true store.new.catalog (P.numbers store.new.book) (P.place store.new.book) (outside_of host.new)) }
 {
-    assert_eq!(rt; accept(host, store, make(alloc, b"S")?, 0)?, 0);
-    fill(rt, alloc, host, store, 0, 37)?;
-    assert_eq!(rt; accept(host, store, Change::DropSoup(Sig(0)), 0)?, 0);
+    accept_as(host, store, make(alloc, b"S")?, 0, 0)?;
+    fill(alloc, host, store, 0, 37)?;
+    accept_as(host, store, Change::DropSoup(Sig(0)), 0, 0)?;
     Ok(())
 }
 
@@ -108,17 +107,17 @@ fn fill_again<P: PageBook>(
     requires stands { P.stands true store.old.book (outside_of host.old) }
     requires sound { IsSound true store.old.catalog (P.numbers store.old.book) (P.place store.old.book) (outside_of host.old) }
 {
-    assert_eq!(rt; accept(host, store, make(alloc, b"S")?, 0)?, 1);
+    accept_as(host, store, make(alloc, b"S")?, 0, 1)?;
     assert!(rt; !store.has(Sig(1), Uid(0)));
-    fill(rt, alloc, host, store, 1, 37)?;
+    fill(alloc, host, store, 1, 37)?;
     let more = add(alloc, 1, EMPTY)?;
-    refuse(rt, alloc, host, store, more, Refusal::Full)
+    refuse(alloc, host, store, more, Refusal::Full)
 }
 
 fn frees<P: PageBook>(rt: &impl Abort, alloc: Global) -> Result<(), Fail> {
-    let mut host = formatted::<P>(rt, alloc, 13)?;
-    let mut store: Store<P> = opened(rt, alloc, &mut host);
-    drop_full(rt, alloc, &mut host, &mut store)?;
+    let mut host = formatted::<P>(alloc, 13)?;
+    let mut store: Store<P> = opened(alloc, &mut host)?;
+    drop_full(alloc, &mut host, &mut store)?;
     fill_again(rt, alloc, &mut host, &mut store)
 }
 
@@ -148,29 +147,24 @@ fn make_soups<P: PageBook>(
 }
 
 // A store has at most 64 soups.
-fn pass_64<P: PageBook>(
-    rt: &impl Abort,
-    alloc: Global,
-    host: &mut MemHost,
-    store: &mut Store<P>,
-) -> Result<(), Fail>
+fn pass_64<P: PageBook>(alloc: Global, host: &mut MemHost, store: &mut Store<P>) -> Result<(), Fail>
     requires stands { P.stands true store.old.book (outside_of host.old) }
     requires sound { IsSound true store.old.catalog (P.numbers store.old.book) (P.place store.old.book) (outside_of host.old) }
 {
     let more = make(alloc, b"one more")?;
-    refuse(rt, alloc, host, store, more, Refusal::Limit)?;
+    refuse(alloc, host, store, more, Refusal::Limit)?;
     let twice = make(alloc, b"Ab")?;
-    refuse(rt, alloc, host, store, twice, Refusal::Exists)?;
-    assert_eq!(rt; accept(host, store, Change::DropSoup(Sig(9)), 0)?, 0);
-    assert_eq!(rt; accept(host, store, make(alloc, b"one more")?, 0)?, 64);
+    refuse(alloc, host, store, twice, Refusal::Exists)?;
+    accept_as(host, store, Change::DropSoup(Sig(9)), 0, 0)?;
+    accept_as(host, store, make(alloc, b"one more")?, 0, 64)?;
     Ok(())
 }
 
 fn counts_soups<P: PageBook>(rt: &impl Abort, alloc: Global) -> Result<(), Fail> {
-    let mut host = formatted::<P>(rt, alloc, 33)?;
-    let mut store: Store<P> = opened(rt, alloc, &mut host);
+    let mut host = formatted::<P>(alloc, 33)?;
+    let mut store: Store<P> = opened(alloc, &mut host)?;
     make_soups(rt, alloc, &mut host, &mut store)?;
-    pass_64(rt, alloc, &mut host, &mut store)
+    pass_64(alloc, &mut host, &mut store)
 }
 
 #[test]
@@ -188,18 +182,18 @@ fn tell_case<P: PageBook>(
     requires stands { P.stands true store.old.book (outside_of host.old) }
     requires sound { IsSound true store.old.catalog (P.numbers store.old.book) (P.place store.old.book) (outside_of host.old) }
 {
-    assert_eq!(rt; accept(host, store, make(alloc, b"S")?, 0)?, 0);
-    assert_eq!(rt; accept(host, store, make(alloc, b"s")?, 0)?, 1);
-    assert_eq!(rt; accept(host, store, add(alloc, 1, EMPTY)?, 0)?, 0);
+    accept_as(host, store, make(alloc, b"S")?, 0, 0)?;
+    accept_as(host, store, make(alloc, b"s")?, 0, 1)?;
+    accept_as(host, store, add(alloc, 1, EMPTY)?, 0, 0)?;
     assert!(rt; !store.has(Sig(0), Uid(0)));
     assert!(rt; store.has(Sig(1), Uid(0)));
     let twice = make(alloc, b"s")?;
-    refuse(rt, alloc, host, store, twice, Refusal::Exists)
+    refuse(alloc, host, store, twice, Refusal::Exists)
 }
 
 fn tells_case<P: PageBook>(rt: &impl Abort, alloc: Global) -> Result<(), Fail> {
-    let mut host = formatted::<P>(rt, alloc, 13)?;
-    let mut store: Store<P> = opened(rt, alloc, &mut host);
+    let mut host = formatted::<P>(alloc, 13)?;
+    let mut store: Store<P> = opened(alloc, &mut host)?;
     tell_case(rt, alloc, &mut host, &mut store)
 }
 
@@ -210,7 +204,6 @@ fn soups_whose_names_differ_in_case_are_two(rt: HostRuntime) -> Result<(), Fail>
 
 // The entries of the small store that is spelt by hand.
 fn add_small<P: PageBook>(
-    rt: &impl Abort,
     alloc: Global,
     host: &mut MemHost,
     store: &mut Store<P>,
@@ -221,14 +214,14 @@ fn add_small<P: PageBook>(
     ensures sound { OnOk result (IsSound true store.new.catalog (P.numbers store.new.book) (P.place store.new.book) (outside_of host.new)) }
 {
     let one = add(alloc, 0, b"\x02\x06\x01\x07\x01a\x00\x04")?;
-    assert_eq!(rt; accept(host, store, one, 10)?, 0);
-    assert_eq!(rt; accept(host, store, add(alloc, 1, EMPTY)?, 3)?, 0);
-    assert_eq!(rt; accept(host, store, add(alloc, 1, EMPTY)?, 11)?, 1);
-    assert_eq!(rt; accept(host, store, remove(1, 0), 4)?, 0);
-    assert_eq!(rt; accept(host, store, add(alloc, 0, EMPTY)?, 5)?, 1);
-    assert_eq!(rt; accept(host, store, remove(0, 1), 6)?, 0);
+    accept_as(host, store, one, 10, 0)?;
+    accept_as(host, store, add(alloc, 1, EMPTY)?, 3, 0)?;
+    accept_as(host, store, add(alloc, 1, EMPTY)?, 11, 1)?;
+    accept_as(host, store, remove(1, 0), 4, 0)?;
+    accept_as(host, store, add(alloc, 0, EMPTY)?, 5, 1)?;
+    accept_as(host, store, remove(0, 1), 6, 0)?;
     let text = add(alloc, 0, b"\x02\x06\x01\x07\x01s\x08\x06\x00h\x00i\x00\x00")?;
-    assert_eq!(rt; accept(host, store, text, 12)?, 2);
+    accept_as(host, store, text, 12, 2)?;
     Ok(())
 }
 
@@ -242,19 +235,21 @@ fn make_small<P: PageBook>(
     requires stands { P.stands true store.old.book (outside_of host.old) }
     requires sound { IsSound true store.old.catalog (P.numbers store.old.book) (P.place store.old.book) (outside_of host.old) }
 {
-    assert_eq!(rt; accept(host, store, make(alloc, b"S")?, 0)?, 0);
-    assert_eq!(rt; accept(host, store, make(alloc, b"T")?, 0)?, 1);
-    add_small(rt, alloc, host, store)?;
-    assert_eq!(rt; contents(rt, alloc, host, store)?, small_contents(alloc)?);
+    accept_as(host, store, make(alloc, b"S")?, 0, 0)?;
+    accept_as(host, store, make(alloc, b"T")?, 0, 1)?;
+    add_small(alloc, host, store)?;
+    assert_eq!(rt; contents(alloc, host, store)?, small_contents(alloc)?);
+    assert_eq!(rt; store.uids(Sig(0))?.as_slice(), [Uid(0), Uid(2)].as_slice());
+    assert!(rt; store.uids(Sig(2))?.is_empty());
     assert!(rt; has_card(host));
-    let found = contents_on::<P>(rt, alloc, host.bytes(CARD))?;
+    let found = contents_on::<P>(alloc, host.bytes(CARD))?;
     assert_eq!(rt; found, Some(small_contents(alloc)?));
     Ok(())
 }
 
 fn makes_small<P: PageBook>(rt: &impl Abort, alloc: Global) -> Result<(), Fail> {
-    let mut host = formatted::<P>(rt, alloc, 13)?;
-    let mut store: Store<P> = opened(rt, alloc, &mut host);
+    let mut host = formatted::<P>(alloc, 13)?;
+    let mut store: Store<P> = opened(alloc, &mut host)?;
     make_small(rt, alloc, &mut host, &mut store)
 }
 
@@ -265,7 +260,6 @@ fn calls_make_the_store_that_is_spelt_by_hand(rt: HostRuntime) -> Result<(), Fai
 
 // Soups that are not there.
 fn miss_soups<P: PageBook>(
-    rt: &impl Abort,
     alloc: Global,
     host: &mut MemHost,
     store: &mut Store<P>,
@@ -276,23 +270,15 @@ fn miss_soups<P: PageBook>(
     ensures sound { OnOk result (IsSound true store.new.catalog (P.numbers store.new.book) (P.place store.new.book) (outside_of host.new)) }
 {
     let entry = add(alloc, 2, EMPTY)?;
-    refuse(rt, alloc, host, store, entry, Refusal::Soup)?;
-    refuse(
-        rt,
-        alloc,
-        host,
-        store,
-        Change::DropSoup(Sig(2)),
-        Refusal::Soup,
-    )?;
-    refuse(rt, alloc, host, store, remove(2, 0), Refusal::Soup)?;
-    refuse(rt, alloc, host, store, move_to(2, 0, 0), Refusal::Soup)?;
-    refuse(rt, alloc, host, store, move_to(0, 0, 2), Refusal::Soup)
+    refuse(alloc, host, store, entry, Refusal::Soup)?;
+    refuse(alloc, host, store, Change::DropSoup(Sig(2)), Refusal::Soup)?;
+    refuse(alloc, host, store, remove(2, 0), Refusal::Soup)?;
+    refuse(alloc, host, store, move_to(2, 0, 0), Refusal::Soup)?;
+    refuse(alloc, host, store, move_to(0, 0, 2), Refusal::Soup)
 }
 
 // Entries that are not there.
 fn miss_entries<P: PageBook>(
-    rt: &impl Abort,
     alloc: Global,
     host: &mut MemHost,
     store: &mut Store<P>,
@@ -300,20 +286,20 @@ fn miss_entries<P: PageBook>(
     requires stands { P.stands true store.old.book (outside_of host.old) }
     requires sound { IsSound true store.old.catalog (P.numbers store.old.book) (P.place store.old.book) (outside_of host.old) }
 {
-    refuse(rt, alloc, host, store, remove(0, 1), Refusal::Entry)?;
-    refuse(rt, alloc, host, store, move_to(0, 1, 1), Refusal::Entry)
+    refuse(alloc, host, store, remove(0, 1), Refusal::Entry)?;
+    refuse(alloc, host, store, move_to(0, 1, 1), Refusal::Entry)
 }
 
-fn misses<P: PageBook>(rt: &impl Abort, alloc: Global) -> Result<(), Fail> {
-    let mut host = formatted::<P>(rt, alloc, 13)?;
-    let mut store: Store<P> = two_soups(rt, alloc, &mut host)?;
-    miss_soups(rt, alloc, &mut host, &mut store)?;
-    miss_entries(rt, alloc, &mut host, &mut store)
+fn misses<P: PageBook>(alloc: Global) -> Result<(), Fail> {
+    let mut host = formatted::<P>(alloc, 13)?;
+    let mut store: Store<P> = two_soups(alloc, &mut host)?;
+    miss_soups(alloc, &mut host, &mut store)?;
+    miss_entries(alloc, &mut host, &mut store)
 }
 
 #[test]
 fn what_is_not_there_is_refused(rt: HostRuntime) -> Result<(), Fail> {
-    misses::<PlainBook>(&rt, rt.alloc())
+    misses::<PlainBook>(rt.alloc())
 }
 
 // The text of a frame of one slot, whose string takes 63,988 bytes: with them it has 64,000 bytes, or 64,001.
@@ -335,7 +321,6 @@ fn long_text(alloc: Global, head: &[u8]) -> Result<Vec<u8>, Fail> {
 
 // Graphs that are no entry's.
 fn refuse_graphs<P: PageBook>(
-    rt: &impl Abort,
     alloc: Global,
     host: &mut MemHost,
     store: &mut Store<P>,
@@ -346,11 +331,11 @@ fn refuse_graphs<P: PageBook>(
     ensures sound { OnOk result (IsSound true store.new.catalog (P.numbers store.new.book) (P.place store.new.book) (outside_of host.new)) }
 {
     let number = add(alloc, 0, b"\x02\x00\x04")?;
-    refuse(rt, alloc, host, store, number, Refusal::Notframe)?;
+    refuse(alloc, host, store, number, Refusal::Notframe)?;
     let longer = add(alloc, 0, &long_text(alloc, TOO_LONG)?)?;
-    refuse(rt, alloc, host, store, longer, Refusal::Size)?;
+    refuse(alloc, host, store, longer, Refusal::Size)?;
     let large = add(alloc, 0, LARGE)?;
-    refuse(rt, alloc, host, store, large, Refusal::Size)
+    refuse(alloc, host, store, large, Refusal::Size)
 }
 
 // The longest text.
@@ -364,17 +349,17 @@ fn take_longest<P: PageBook>(
     requires sound { IsSound true store.old.catalog (P.numbers store.old.book) (P.place store.old.book) (outside_of host.old) }
 {
     let text = long_text(alloc, LONGEST)?;
-    assert_eq!(rt; accept(host, store, add(alloc, 0, &text)?, 8)?, 1);
-    let rows = contents(rt, alloc, host, store)?;
+    accept_as(host, store, add(alloc, 0, &text)?, 8, 1)?;
+    let rows = contents(alloc, host, store)?;
     assert!(rt; rows.len() == 5);
     assert_eq!(rt; rows[4], entry_row(alloc, 0, 1, 8, &text)?);
     Ok(())
 }
 
 fn weighs<P: PageBook>(rt: &impl Abort, alloc: Global) -> Result<(), Fail> {
-    let mut host = formatted::<P>(rt, alloc, 53)?;
-    let mut store: Store<P> = two_soups(rt, alloc, &mut host)?;
-    refuse_graphs(rt, alloc, &mut host, &mut store)?;
+    let mut host = formatted::<P>(alloc, 53)?;
+    let mut store: Store<P> = two_soups(alloc, &mut host)?;
+    refuse_graphs(alloc, &mut host, &mut store)?;
     take_longest(rt, alloc, &mut host, &mut store)
 }
 
@@ -391,7 +376,6 @@ fn last_image(rt: &impl Abort, alloc: Global) -> Result<Vec<u8>, Fail> {
 
 // No further signature, and no further id of the first soup.
 fn refuse_numbers<P: PageBook>(
-    rt: &impl Abort,
     alloc: Global,
     host: &mut MemHost,
     store: &mut Store<P>,
@@ -400,18 +384,18 @@ fn refuse_numbers<P: PageBook>(
     requires sound { IsSound true store.old.catalog (P.numbers store.old.book) (P.place store.old.book) (outside_of host.old) }
 {
     let soup = make(alloc, b"U")?;
-    refuse(rt, alloc, host, store, soup, Refusal::Ids)?;
+    refuse(alloc, host, store, soup, Refusal::Ids)?;
     let entry = add(alloc, 0, EMPTY)?;
-    refuse(rt, alloc, host, store, entry, Refusal::Ids)?;
-    refuse(rt, alloc, host, store, move_to(1, 1, 0), Refusal::Ids)?;
-    assert_eq!(rt; accept(host, store, move_to(0, 2, 1), 0)?, 2);
+    refuse(alloc, host, store, entry, Refusal::Ids)?;
+    refuse(alloc, host, store, move_to(1, 1, 0), Refusal::Ids)?;
+    accept_as(host, store, move_to(0, 2, 1), 0, 2)?;
     Ok(())
 }
 
 fn ends<P: PageBook>(rt: &impl Abort, alloc: Global) -> Result<(), Fail> {
-    let mut host = host_of(rt, alloc, &last_image(rt, alloc)?)?;
-    let mut store: Store<P> = opened(rt, alloc, &mut host);
-    refuse_numbers(rt, alloc, &mut host, &mut store)
+    let mut host = host_of(alloc, &last_image(rt, alloc)?)?;
+    let mut store: Store<P> = opened(alloc, &mut host)?;
+    refuse_numbers(alloc, &mut host, &mut store)
 }
 
 #[test]

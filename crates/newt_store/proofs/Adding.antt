@@ -18,7 +18,7 @@ use Rattle.newt_store.proofs.Writing.{not-free}
 use Rattle.newt_spec_store.specs.Store.{Soup, Store, add_entry, change_soup}
 use Rattle.newt_spec_store.specs.Cost.{skeleton_length}
 use Rattle.newt_spec_store.specs.Laid.{bare}
-use Rattle.newt_spec_store.specs.Lies.{Places, graph_has_no_large, has_no_large}
+use Rattle.newt_spec_store.specs.Lies.{Places, graph_has_no_large}
 use Rattle.newt_spec_store.specs.Valid.{well_formed, valid_entry}
 use Rattle.newt_soupdir.specs.Bare.{bare_soup, bare_store}
 use Rattle.newt_soupdir.specs.Changes.{soup_of, take_uid_of}

@@ -1,7 +1,7 @@
 -- A soup whose declarations change: its indexes and its tags.
-use Rattle.std.proofs.Common.{◌≡◌, ◌≢◌, ℕ, ◌<◌, ◌≤◌, ◌==◌, Bool, IsTrue, true, false, not, nat_le, List, [], ◌∷◌, length, Option, Some, None, refl, sym, ◌∙◌, ap, subst, arith, map, cond}
-use Rattle.std.specs.List.{list_all, list_any}
-use Rattle.std.specs.Option.{is_some, is_none, option_map}
+use Rattle.std.proofs.Common.{◌≡◌, ℕ, ◌<◌, ◌≤◌, ◌==◌, Bool, IsTrue, true, false, not, nat_le, List, [], ◌∷◌, length, Option, Some, None, refl, sym, ◌∙◌, ap, subst, arith, map, cond}
+use Rattle.std.specs.List.{list_all}
+use Rattle.std.specs.Option.{is_some, is_none}
 use Rattle.std.proofs.lemmas.Bool.{eq-eqb, eqb-true}
 use Rattle.std.proofs.lemmas.Bool.Decides.{nat_tests}
 use Rattle.newt_base.specs.Names.{equal_text}

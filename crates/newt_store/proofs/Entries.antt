@@ -7,7 +7,7 @@ use Rattle.newt_pagebook.proofs.Tests.{some_inj}
 use Rattle.newt_spec_store.specs.Store.{Soup, Store, Entry, entry_of}
 use Rattle.newt_spec_store.specs.Image.{entry_bytes}
 use Rattle.newt_spec_store.specs.Laid.{row_of, row_of_large}
-use Rattle.newt_spec_store.specs.Lies.{Places, IsIn, entry_read, has_no_large, graph_has_no_large}
+use Rattle.newt_spec_store.specs.Lies.{Places, IsIn, entry_read, graph_has_no_large}
 use Rattle.newt_laws_images.proofs.Plain.{as-read, no-larges, own-skeleton}
 use Rattle.newt_laws_images.proofs.Placed.{entry-fits, its-plain}
 use Rattle.newt_laws_images.proofs.Records.{record-back}

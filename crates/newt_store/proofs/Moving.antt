@@ -8,7 +8,7 @@ use Rattle.newt_pagebook.proofs.Tests.{some_inj, the_some}
 use Rattle.newt_objects.specs.Held.{held}
 use Rattle.newt_spec_store.specs.Store.{Soup, Store, Entry, add_entry, remove_entry, change_soup}
 use Rattle.newt_spec_store.specs.Laid.{bare}
-use Rattle.newt_spec_store.specs.Lies.{Places, IsIn, graph_has_no_large, has_no_large}
+use Rattle.newt_spec_store.specs.Lies.{Places, IsIn, graph_has_no_large}
 use Rattle.newt_soupdir.specs.Bare.{bare_soup, bare_store}
 use Rattle.newt_soupdir.specs.Changes.{soup_of, take_uid_of}
 use Rattle.newt_soupdir.specs.declared.rows.SoupRow.{SoupRow}

@@ -18,7 +18,7 @@ use Rattle.newt_spec_store.specs.Store.{Store, Entry}
 use Rattle.newt_spec_store.specs.Cost.{cost}
 use Rattle.newt_spec_store.specs.ImageStore.{store_of_image}
 use Rattle.newt_spec_store.specs.OfImage.{blocks_of}
-use Rattle.newt_spec_store.specs.Lies.{LiesIn, Places, has_no_large, only}
+use Rattle.newt_spec_store.specs.Lies.{LiesIn, Places, only}
 use Rattle.newt_spec_store.specs.Valid.{well_formed, valid}
 use Rattle.newt_laws_images.specs.Found.{IsRecord, IsFound, HasGiven}
 use Rattle.newt_laws_images.proofs.Again.{over}

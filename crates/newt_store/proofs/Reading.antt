@@ -6,7 +6,7 @@ use Rattle.newt_image.specs.Pages.{cap}
 use Rattle.newt_objects.specs.Changing.{HoldsObjects, total_pages}
 use Rattle.newt_spec_store.specs.Store.{Store}
 use Rattle.newt_spec_store.specs.Cost.{cost}
-use Rattle.newt_spec_store.specs.Lies.{Places, only, has_no_large}
+use Rattle.newt_spec_store.specs.Lies.{Places, only}
 use Rattle.newt_spec_store.specs.OfImage.{blocks_of}
 use Rattle.newt_spec_store.specs.Valid.{valid, fits, well_formed}
 use Rattle.newt_spec_store.specs.ImageStore.{store_of_image}

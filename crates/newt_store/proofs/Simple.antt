@@ -4,7 +4,7 @@ use Rattle.std.specs.List.{list_all}
 use Rattle.newt_base.specs.Names.{equal_text}
 use Rattle.newt_graph.specs.Graph.{RawGraph}
 use Rattle.newt_spec_store.specs.Lies.{graph_has_no_large, has_no_large}
-use Rattle.newt_spec_store.specs.Store.{Store, Soup, Entry, change_soup, make_soup, drop_soup, add_entry, remove_entry}
+use Rattle.newt_spec_store.specs.Store.{Store, Entry, change_soup, make_soup, drop_soup, add_entry, remove_entry}
 use Rattle.newt_laws_changes.proofs.Soups.{first-all, filter-all, push-all}
 
 pub made_simple : (name : List ℕ) (s : Store) → has_no_large s ≡ true → has_no_large (make_soup name s) ≡ true

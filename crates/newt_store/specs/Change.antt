@@ -1,6 +1,6 @@
 -- What each change does to a plain store, and what it is refused for. Soups are named by their signatures. What the changes do to stores, soups and entries
 -- is Newton's (Newton Programmer's Guide 2.0); the refusals and their order are this project's own.
-use Rattle.std.specs.Prelude.{ℕ, ◌+◌, ◌*◌, Bool, cond, not, ◌==◌, ◌||◌, nat_lt, nat_le, List, [], ◌∷◌, ◌++◌, length, Option, Some, None, is_some, is_none, option_map, option_and_then}
+use Rattle.std.specs.Prelude.{ℕ, ◌+◌, ◌*◌, Bool, cond, not, ◌==◌, ◌||◌, nat_lt, nat_le, List, [], ◌∷◌, ◌++◌, map, length, Option, Some, None, is_some, is_none, option_map, option_and_then}
 use Rattle.std.specs.List.{list_any}
 use Rattle.newt_base.specs.declared.Refusal.{Refusal}
 use Rattle.newt_base.specs.declared.Refusal.TheVariants.{Soup as NoSoup, Exists, Entry as NoEntry, Notframe, Limit, Size, Ids, Full, Index as BadIndex}
@@ -129,6 +129,11 @@ new_store name sig = record { name = name; sig = sig; next_soup = 0; soups = [] 
 abbrev pub count_in : Option Soup → ℕ
 count_in None = 0
 count_in (Some p) = length p.entries
+
+-- the ids of a soup's entries, in their order, which is rising; none where there is no soup
+abbrev pub uids_in : Option Soup → List ℕ
+uids_in None = []
+uids_in (Some p) = map (λ e. e.uid) p.entries
 
 -- the pages of an entry, if there is one
 abbrev pub pages_of_entry : Option Entry → ℕ

@@ -11,7 +11,7 @@ ghost use Rattle.newt_soupdir.specs.Changes.{soup_of};
 ghost use Rattle.newt_entries.specs.Entry.{stream_graph};
 ghost use Rattle.newt_spec_store.specs.ImageStore.{store_of_image};
 ghost use Rattle.newt_store.specs.Stage.{readable};
-ghost use Rattle.newt_store.specs.Change.{changed_by, answer_of, refusal_of, entry_in, count_in, entry_moved, pages_of_entry, most_bytes, new_store};
+ghost use Rattle.newt_store.specs.Change.{changed_by, answer_of, refusal_of, entry_in, count_in, uids_in, entry_moved, pages_of_entry, most_bytes, new_store};
 ghost use Rattle.newt_store.specs.Stands.{StandsFor, IsSound, GoesOn, IsRefused, RefusesWith, IsBeforeOrChanged, plain_entry};
 ghost use Rattle.newt_shelf.specs.Faults.{FaultsAt};
 
@@ -28,7 +28,7 @@ use newt_host::{Host, Unit};
 use newt_pagebook::{BookFault, PageBook, Stop};
 use newt_shelf::StoreFault;
 use newt_soupdir::Directory;
-use std::alloc::Global;
+use std::alloc::{AllocError, Global};
 
 /// A store on one unit. It stands for one plain store, which its unit's image is read as, until a call stops.
 #[derive(Drop)]
@@ -175,6 +175,14 @@ impl<P: PageBook> Store<P> {
     {
         let count = self.catalog.places.count(soup);
         u32::try_from(count).unwrap_or(u32::MAX)
+    }
+
+    /// The ids of the soup's entries, in rising order, none where there is no such soup.
+    pub fn uids(&self, soup: Sig) -> Result<Vec<Uid>, AllocError>
+        ensures { (now : List ℕ) (s : PlainStore) → StandsFor self.now.catalog s now → IfOk result (λ uids. uids.items ≡ uids_in (soup_of soup s)) }
+    {
+        let uids = self.catalog.places.uids_of(self.alloc, soup)?;
+        Ok(uids)
     }
 
     /// The unit that it is on.

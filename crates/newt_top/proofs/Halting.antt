@@ -1,7 +1,6 @@
 -- Why a conversion halts.
-use Rattle.std.proofs.Common.{◌≡◌, ℕ, ◌<◌, List, [], ◌++◌, length, refl, sym, ◌∙◌, append-nil}
+use Rattle.std.proofs.Common.{◌≡◌, ℕ, ◌<◌, List, [], length, refl, sym, ◌∙◌, append-nil}
 use Rattle.newt_host.specs.Outside.{Outside}
-use Rattle.newt_session.specs.Stream.{WroteSome}
 use Rattle.newt_session.specs.declared.halt.Halt.{Halt}
 use Rattle.newt_session.specs.declared.halt.Halt.TheVariants.{Memory, Device, Source, Sink, TooLong}
 use Rattle.newt_top.specs.Whole.{converted, HaltedWhole, HasReadCause}

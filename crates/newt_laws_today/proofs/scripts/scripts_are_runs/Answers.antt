@@ -1,4 +1,5 @@
-use Rattle.newt_laws_today.proofs.Runs.{now-is, script-run, script-later}
+use Rattle.newt_laws_answers.proofs.Staged.{now-is}
+use Rattle.newt_laws_today.proofs.Runs.{script-run, script-later}
 use Rattle.newt_laws_today.proofs.scripts.scripts_are_runs.Goals as goal
 
 pub returns-clause-one : goal.returns-clause-one

@@ -1,4 +1,4 @@
-use Rattle.std.proofs.Common.{◌≡◌, true, false, List, length, nat_le, sym, ◌∙◌, ap}
+use Rattle.std.proofs.Common.{◌≡◌, false, List, length, nat_le, sym, ◌∙◌, ap}
 use Rattle.std.specs.Option.{is_some}
 use Rattle.newt_spec_store.specs.Keys.{IndexSpec, paths_of}
 use Rattle.newt_soupdir.specs.Bare.{bare_soup, bare_store}

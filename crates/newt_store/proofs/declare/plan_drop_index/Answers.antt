@@ -1,4 +1,4 @@
-use Rattle.std.proofs.Common.{◌≡◌, ℕ, List, true, not, ◌∙◌, ap}
+use Rattle.std.proofs.Common.{◌≡◌, List, true, not, ◌∙◌, ap}
 use Rattle.std.specs.Option.{is_some}
 use Rattle.newt_pagebook.proofs.Tests.{the_some}
 use Rattle.newt_spec_store.specs.Keys.{Path}

@@ -19,7 +19,7 @@ returns-clause-next c =
     c.set_tags.ensures ∙ ap (λ (x : Directory). change_soup_of c.args.sig (with_tags (Some c.args.table)) (bare_store x)) c.in_ok-directory.ensures in
     let p = the_some (soup_of c.args.sig (bare_store c.args.catalog.now.directory)) some in
     record {
-      formed = formed-declared c.args.catalog.now.directory c.set_tags.new.self c.args.sig p.0 (with_tags (Some c.args.table)) (sets-tags (Some c.args.table)) c.requires p.1 (valid-tagged (Some c.args.table) p.0 c.symbols.ensures.valid) is;
+      formed = formed-declared c.args.catalog.now.directory c.set_tags.new.self c.args.sig p.0 (with_tags (Some c.args.table)) (sets-tags (Some c.args.table)) c.requires p.1 (valid-tagged (Some c.args.table) p.0 c.symbols-valid.ensures.valid) is;
       odd = λ e isnt. absurd (none-some isnt);
       free = λ e isnt. absurd (none-some isnt);
     }
@@ -29,4 +29,4 @@ returns-clause-planned c = λ now texts s d.
     let some : is_some (soup_of c.args.sig (bare_store c.args.catalog.now.directory)) ≡ true = seen-some _ c.soup_of.result (soup_of c.args.sig (bare_store c.args.catalog.now.directory)) c.soup_of.ensures ∙ c.is_none.ensures ∙ ap not c.if-is_none.false in
     let is : bare_store c.set_tags.new.self ≡ change_soup_of c.args.sig (with_tags (Some c.args.table)) (bare_store c.args.catalog.now.directory) =
     c.set_tags.ensures ∙ ap (λ (x : Directory). change_soup_of c.args.sig (with_tags (Some c.args.table)) (bare_store x)) c.in_ok-directory.ensures in
-    tags-planned c.args.catalog.now texts s d c.args.sig c.args.table now c.set_tags.new.self c.symbols.ensures.valid some is
+    tags-planned c.args.catalog.now texts s d c.args.sig c.args.table now c.set_tags.new.self c.symbols-valid.ensures.valid some is

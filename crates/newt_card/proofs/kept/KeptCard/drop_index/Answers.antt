@@ -9,7 +9,7 @@ use Rattle.newt_card.proofs.kept.KeptCard.drop_index.Goals as goal
 pub returns-in-Ok : goal.returns-in-Ok
 returns-in-Ok g c =
     let o = g.H.Host.outside in
-    let u : ℕ = g.P.PageBook.place c.args.self.now.store.book in
+    let u : ℕ = g.P.PageBook.place c.args.self.now.store.store.book in
     let e = c.drop_paths.ensures in
     record {
       stands = e.stands;
@@ -24,13 +24,13 @@ returns-in-Ok g c =
 pub returns-in-Err : goal.returns-in-Err
 returns-in-Err g c =
     let o = g.H.Host.outside in
-    let u : ℕ = g.P.PageBook.place c.args.self.now.store.book in
+    let u : ℕ = g.P.PageBook.place c.args.self.now.store.store.book in
     record {
       stands = λ goes. absurd {A = StandsOn g.P.PageBook.place g.P.PageBook.numbers g.P.PageBook.stands g.H.Host.told c.args.self.now.store (o c.args.host.now)} goes;
       place = refl;
       made = λ tells s p reads found. tt;
       others = λ tells v not. refl;
-      any_moment = λ tells s p reads found. leaves-index p.name c.args.paths.now s u (o c.args.host.now).now (g.met.P.PageBook.tells g.H.Host.told c.args.self.now.store.book (o c.args.host.now) c.requires.book tells).1 reads;
+      any_moment = λ tells s p reads found. leaves-index p.name c.args.paths.now s u (o c.args.host.now).now (g.met.P.PageBook.tells g.H.Host.told c.args.self.now.store.store.book (o c.args.host.now) c.requires.is_open.book tells).1 reads;
       alone = Touches-refl u (o c.args.host.now);
       cause = tt;
     }

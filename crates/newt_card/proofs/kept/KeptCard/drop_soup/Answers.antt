@@ -8,7 +8,7 @@ use Rattle.newt_card.proofs.kept.KeptCard.drop_soup.Goals as goal
 pub returns-in-Ok : goal.returns-in-Ok
 returns-in-Ok g c =
     let o = g.H.Host.outside in
-    let u : ℕ = g.P.PageBook.place c.args.self.now.store.book in
+    let u : ℕ = g.P.PageBook.place c.args.self.now.store.store.book in
     let blocks : ℕ = (o c.args.host.now).blocks u in
     let e = c.in-Ok.ensures in
     record {
@@ -24,7 +24,7 @@ returns-in-Ok g c =
 pub returns-in-Err : goal.returns-in-Err
 returns-in-Err g c =
     let o = g.H.Host.outside in
-    let u : ℕ = g.P.PageBook.place c.args.self.now.store.book in
+    let u : ℕ = g.P.PageBook.place c.args.self.now.store.store.book in
     let blocks : ℕ = (o c.args.host.now).blocks u in
     let e = c.in-Err.ensures in
     record {

@@ -5,12 +5,12 @@ use Rattle.newt_card.proofs.kept.KeptCard.entry.Goals as goal
 
 pub returns-in-Ok-Some-clause-found : goal.returns-in-Ok-Some-clause-found
 returns-in-Ok-Some-clause-found g c = λ tells s reads.
-    let now : List ℕ = image (g.P.PageBook.place c.args.self.now.store.book) (g.H.Host.outside c.args.host.now).now in
+    let now : List ℕ = image (g.P.PageBook.place c.args.self.now.store.store.book) (g.H.Host.outside c.args.host.now).now in
     let e = rw c.in-Ok-Some.field-0-is at c.in-Ok-Some.ensures in
-    e.entry tells s (stands-for c.args.self.now.store.catalog s now (c.requires.plain tells) reads)
+    e.entry tells s (stands-for c.args.self.now.store.store.catalog c.args.self.now.store.ranges s now (c.requires.plain tells) reads)
 
 pub returns-in-Ok-None-clause-found : goal.returns-in-Ok-None-clause-found
 returns-in-Ok-None-clause-found g c = λ tells s reads.
-    let now : List ℕ = image (g.P.PageBook.place c.args.self.now.store.book) (g.H.Host.outside c.args.host.now).now in
+    let now : List ℕ = image (g.P.PageBook.place c.args.self.now.store.store.book) (g.H.Host.outside c.args.host.now).now in
     let e = rw c.in-Ok-None.field-0-is at c.in-Ok-None.ensures in
-    e.entry tells s (stands-for c.args.self.now.store.catalog s now (c.requires.plain tells) reads)
+    e.entry tells s (stands-for c.args.self.now.store.store.catalog c.args.self.now.store.ranges s now (c.requires.plain tells) reads)

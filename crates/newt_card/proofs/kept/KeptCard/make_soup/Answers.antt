@@ -9,7 +9,7 @@ use Rattle.newt_card.proofs.kept.KeptCard.make_soup.Goals as goal
 pub returns-in-Ok : goal.returns-in-Ok
 returns-in-Ok g c =
     let o = g.H.Host.outside in
-    let u : ℕ = g.P.PageBook.place c.args.self.now.store.book in
+    let u : ℕ = g.P.PageBook.place c.args.self.now.store.store.book in
     let blocks : ℕ = (o c.args.host.now).blocks u in
     let e = c.change_store.ensures in
     record {
@@ -25,14 +25,14 @@ returns-in-Ok g c =
 pub returns-in-Err : goal.returns-in-Err
 returns-in-Err g c =
     let o = g.H.Host.outside in
-    let u : ℕ = g.P.PageBook.place c.args.self.now.store.book in
+    let u : ℕ = g.P.PageBook.place c.args.self.now.store.store.book in
     let blocks : ℕ = (o c.args.host.now).blocks u in
     record {
       stands = λ goes. absurd {A = StandsOn g.P.PageBook.place g.P.PageBook.numbers g.P.PageBook.stands g.H.Host.told c.args.self.now.store (o c.args.host.now)} goes;
       place = refl;
       made = λ tells s reads. tt;
       others = λ tells v not. refl;
-      any_moment = λ tells s reads. leaves-nothing blocks c.args.name.now s u (o c.args.host.now).now (g.met.P.PageBook.tells g.H.Host.told c.args.self.now.store.book (o c.args.host.now) c.requires.book tells).1 reads;
+      any_moment = λ tells s reads. leaves-nothing blocks c.args.name.now s u (o c.args.host.now).now (g.met.P.PageBook.tells g.H.Host.told c.args.self.now.store.store.book (o c.args.host.now) c.requires.is_open.book tells).1 reads;
       alone = Touches-refl u (o c.args.host.now);
       cause = tt;
     }

@@ -7,7 +7,7 @@ use Rattle.newt_card.proofs.kept.KeptCard.move_entry.Goals as goal
 pub returns : goal.returns
 returns g c =
     let o = g.H.Host.outside in
-    let u : ℕ = g.P.PageBook.place c.args.self.now.store.book in
+    let u : ℕ = g.P.PageBook.place c.args.self.now.store.store.book in
     let blocks : ℕ = (o c.args.host.now).blocks u in
     let e = c.change_store.ensures in
     record {

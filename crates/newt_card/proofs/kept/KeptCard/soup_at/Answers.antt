@@ -18,12 +18,12 @@ row-said rows soups at found same is =
 pub returns-in-Some : goal.returns-in-Some
 returns-in-Some g c =
     let rows = c.list.result.now in
-    let same : rows ≡ c.args.self.now.store.catalog.directory.soups = c.list.ensures ∙ ap (λ (d : Directory). d.soups) c.directory.ensures in
+    let same : rows ≡ c.args.self.now.store.store.catalog.directory.soups = c.list.ensures ∙ ap (λ (d : Directory). d.soups) c.directory.ensures in
     let found = c.in-Some.ensures.lookup in
-    row-said rows c.args.self.now.store.catalog.directory.soups c.args.at (Some c.in-Some.row.now) same (slice_get_read rows _ c.args.at c.in-Some.row.now refl found.3.0 found.1)
+    row-said rows c.args.self.now.store.store.catalog.directory.soups c.args.at (Some c.in-Some.row.now) same (slice_get_read rows _ c.args.at c.in-Some.row.now refl found.3.0 found.1)
 
 pub returns-in-None : goal.returns-in-None
 returns-in-None g c =
     let rows = c.list.result.now in
-    let same : rows ≡ c.args.self.now.store.catalog.directory.soups = c.list.ensures ∙ ap (λ (d : Directory). d.soups) c.directory.ensures in
-    row-said rows c.args.self.now.store.catalog.directory.soups c.args.at None same (slice_get_past rows c.args.at c.in-None.ensures.lookup.3)
+    let same : rows ≡ c.args.self.now.store.store.catalog.directory.soups = c.list.ensures ∙ ap (λ (d : Directory). d.soups) c.directory.ensures in
+    row-said rows c.args.self.now.store.store.catalog.directory.soups c.args.at None same (slice_get_past rows c.args.at c.in-None.ensures.lookup.3)

@@ -5,7 +5,7 @@ use Rattle.newt_reply.specs.Said.{said}
 use Rattle.newt_reply.specs.declared.reply.Reply.TheVariants as reply
 use Rattle.newt_units.specs.declared.fault.Fault.{Fault}
 use Rattle.newt_units.specs.Answers.{Answers}
-use Rattle.newt_units.specs.Stands.{world_of}
+use Rattle.newt_walk.specs.World.{world_with}
 use Rattle.newt_engine.proofs.Refusing.{refusal_stays}
 use Rattle.newt_engine.proofs.world.World.apply.Goals as goal
 
@@ -14,7 +14,7 @@ returns-in-Ok-clause-refused g c t r is = refusal_stays _ _ c.args.command r (Ok
 
 pub returns-in-Err-Refused-clause-refused : goal.returns-in-Err-Refused-clause-refused
 returns-in-Err-Refused-clause-refused g c t r is =
-    let w = world_of g.C.Card.reads c.args.self.now.units (g.H.Host.outside c.args.host.now) in
-    let v = world_of g.C.Card.reads c.obey.new.self.units (g.H.Host.outside c.obey.new.host) in
+    let w = world_with g.C.Card.reads c.args.self.now.units c.args.self.now.desk (g.H.Host.outside c.args.host.now) in
+    let v = world_with g.C.Card.reads c.serve.new.self.units c.serve.new.self.desk (g.H.Host.outside c.serve.new.host) in
     refusal_stays w v c.args.command c.in-Err-Refused.refusal (Ok (reply.Refused c.in-Err-Refused.refusal))
     (subst (λ (f : Fault). Answers w v c.args.command said (Err f)) c.in-Err-Refused.field-0-is (c.in-Err-Refused.ensures.answered t)) refl

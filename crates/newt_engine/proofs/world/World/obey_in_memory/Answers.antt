@@ -55,6 +55,7 @@ returns-in_default g c = record {
   stands = λ told outside stand. stand;
   answered = λ outside eight stand. let d = c.in_default in
       not_built (world_of g.C.Card.reads c.args.self.now.units outside) c.args.command.now c.requires.no_graph c.requires.no_device d.not-Time d.not-Quit d.not-Unmount d.not-Stores d.not-Default d.not-Soups d.not-Indexes d.not-Tags d.not-Alias d.not-Resolve;
+  desk = refl;
   device = tt;
   ends = λ takes_none. tt;
 }

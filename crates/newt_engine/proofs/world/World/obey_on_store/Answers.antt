@@ -35,6 +35,7 @@ returns-in_default g c =
       stands = λ goes. c.obey_in_memory.ensures.stands g.H.Host.told (g.H.Host.outside c.args.host.now) c.requires.stands;
       answered = λ t. c.obey_in_memory.ensures.answered (g.H.Host.outside c.args.host.now) eight (told_stands g.H.Host.told c.args.self.now.units (g.H.Host.outside c.args.host.now) c.requires.stands t);
       moments = λ t. quiet (laws_of g.met.C.Card.formed g.met.C.Card.plain g.met.C.Card.durable g.met.C.Card.banks g.met.C.Card.kept) g.H.Host.told c.args.self.now.units (g.H.Host.outside c.args.host.now) eight c.requires.stands t _;
+      desk = c.obey_in_memory.ensures.desk;
       alone = still_devices (g.H.Host.outside c.args.host.now);
       cause = has_cause _ _ _ c.obey_in_memory.ensures.device;
       ends = c.obey_in_memory.ensures.ends;

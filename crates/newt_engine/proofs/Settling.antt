@@ -1,0 +1,184 @@
+-- Commands of a world without cursors, and the cursors settled after them.
+use Rattle.std.proofs.Common.{◌≡◌, refl, ap, sym, ◌∙◌, subst, ℕ, List, [], ◌∷◌, map, Bool, true, false, ◌⊎◌, inl, inr, IsTrue, Option, Some, None, cond}
+use Rattle.std.specs.Prelude.{Result, Ok, Err, IfErr, IfOk, OnOk}
+use Rattle.newt_base.specs.Refusals.{first_of}
+use Rattle.newt_base.specs.declared.Refusal.{Refusal}
+use Rattle.newt_base.specs.declared.Refusal.TheVariants.{Command as NoCommand}
+use Rattle.newt_host.specs.Moments.{Moment, Always, image}
+use Rattle.newt_host.specs.Outside.{Outside}
+use Rattle.newt_host.proofs.Moments.{Always-map}
+use Rattle.newt_reply.specs.Said.{said}
+use Rattle.newt_reply.specs.declared.reply.Reply.{Reply}
+use Rattle.newt_spec_graph.proofs.Lists.{some-same, none-some}
+use Rattle.newt_spec_query.specs.Cursor.{Cursor}
+use Rattle.newt_spec_store.specs.Store.{Store}
+use Rattle.newt_spec_world.specs.declared.command.Command.{Command}
+use Rattle.newt_spec_world.specs.declared.command.Command.TheVariants as command
+use Rattle.newt_spec_world.specs.First.{media_of}
+use Rattle.newt_spec_world.specs.Reply as plain
+use Rattle.newt_spec_world.specs.Refused.{checks}
+use Rattle.newt_spec_world.specs.World.{World, Device, settle}
+use Rattle.newt_laws.specs.Settled.{IsSettled, MountedApart, moves_keys}
+use Rattle.newt_laws.specs.Worlds.{OnMedia}
+use Rattle.newt_laws.proofs.Kept.{Every, Wf}
+use Rattle.newt_laws_cursors.specs.Cursors.{with_cursors, uses_cursors}
+use Rattle.newt_laws_answers.specs.Answering.{Answering}
+use Rattle.newt_laws_answers.specs.Stage.{answer_now, is_built, new_graph, staged}
+use Rattle.newt_laws_answers.proofs.Answers.{refused}
+use Rattle.newt_laws_answers.proofs.Staged.{now-apart, now-mounted-apart, now-on-cursors, now-settled, now-still}
+use Rattle.newt_units.specs.declared.fault.Fault.{Fault}
+use Rattle.newt_units.specs.declared.fault.Fault.TheVariants.{Refused, Stop as Ends}
+use Rattle.newt_units.specs.declared.units.Units.{Units}
+use Rattle.newt_units.specs.Answers.{Answers}
+use Rattle.newt_units.specs.Faults.{GoesOn, IsEnd}
+use Rattle.newt_units.specs.Stands.{Eight, Stands, world_of}
+use Rattle.newt_units.proofs.Known.{Laws, at-card, at-none}
+use Rattle.newt_walk.specs.Fits.{DeskFits}
+use Rattle.newt_walk.specs.Replies as walk
+use Rattle.newt_walk.specs.World.{world_with}
+use Rattle.newt_engine.specs.Ends.{takes_memory, uses_device}
+use Rattle.newt_engine.specs.Groups.{on_cursor, settles}
+use Rattle.newt_engine.specs.Standing.{Standing}
+use Rattle.newt_engine.proofs.Handed.{quiet}
+use Rattle.newt_engine.proofs.Refusing.{refused_stays}
+
+-- ---- the groups
+
+pub uses_none : (c : Command) → on_cursor c ≡ false → uses_cursors c ≡ false
+unfolding uses_cursors
+uses_none (command.Query _ _ _) h = h
+uses_none _ h = h
+
+pub uses_one : (c : Command) → on_cursor c ≡ true → uses_cursors c ≡ true
+unfolding uses_cursors
+uses_one (command.Query _ _ _) h = h
+uses_one _ h = h
+
+few_keys : (c : Command) → settles c ≡ false → (moves_keys c ≡ false) ⊎ (is_built c ≡ false)
+unfolding moves_keys
+few_keys (command.Vwrite _ _ _ _ _ _) h = inr refl
+few_keys _ h = inl h
+
+pub settles_on_devices : (c : Command) → settles c ≡ true → uses_device c ≡ false → ⊥
+settles_on_devices (command.Mount _) h k = cc
+settles_on_devices _ h k = cc
+
+pub settles_in_memory : (c : Command) → settles c ≡ true → takes_memory c ≡ false → ⊥
+settles_in_memory (command.Mount _) h k = cc
+settles_in_memory _ h k = cc
+
+pub cursors_on_devices : (c : Command) → on_cursor c ≡ true → uses_device c ≡ false → ⊥
+cursors_on_devices (command.Mount _) h k = cc
+cursors_on_devices _ h k = cc
+
+pub cursors_in_memory : (c : Command) → on_cursor c ≡ true → takes_memory c ≡ false → ⊥
+cursors_in_memory (command.Mount _) h k = cc
+cursors_in_memory _ h k = cc
+
+-- ---- one command
+
+not_built_stays : (w : World) (c : Command) → is_built c ≡ false → (answer_now w c).0 ≡ w
+not_built_stays w c h = ap (λ (a : World × plain.Reply). a.0) (refused w c NoCommand (ap (λ b. first_of (cond b (map (staged (new_graph w c)) (checks w c)) ((NoCommand, true) ∷ []))) h))
+
+-- what holds of the world after a command that goes on
+pub goes_apart : {T : Type 0} (w v : World) (c : Command) (made : T → plain.Reply) (result : Result T Fault) → MountedApart w → Answers w v c made result → GoesOn result → MountedApart v
+goes_apart w v c made (Ok x) h a goes = subst MountedApart (ap (λ (a : World × plain.Reply). a.0) a) (now-mounted-apart w c h)
+goes_apart w v c made (Err (Refused r)) h a goes = subst MountedApart (ap (λ (a : World × plain.Reply). a.0) a) (now-mounted-apart w c h)
+goes_apart w v c made (Err (Ends s)) h a goes = absurd goes
+
+pub goes_settled : {T : Type 0} (w v : World) (c : Command) (made : T → plain.Reply) (result : Result T Fault) → IsSettled w → Answers w v c made result → GoesOn result → IsSettled v
+goes_settled w v c made (Ok x) h a goes = subst IsSettled (ap (λ (a : World × plain.Reply). a.0) a) (now-settled w c h)
+goes_settled w v c made (Err (Refused r)) h a goes = subst IsSettled (ap (λ (a : World × plain.Reply). a.0) a) (now-settled w c h)
+goes_settled w v c made (Err (Ends s)) h a goes = absurd goes
+
+-- what is answered to a command is answered to an equal one
+pub walked_as : {T : Type 0} (w v : World) (c d : Command) (made : T → plain.Reply) (result : Result T Fault) → c ≡ d → walk.Answers w v d made result → walk.Answers w v c made result
+walked_as w v c d made result same h = subst (λ x. walk.Answers w v x made result) (sym same) h
+
+-- the commands of cursors are answered by the world of all commands
+pub walked_answers : {T : Type 0} (w v : World) (c : Command) (made : T → plain.Reply) (result : Result T Fault) → on_cursor c ≡ true → walk.Answers w v c made result → Answers w v c made result
+walked_answers w v c made (Ok x) h a = now-on-cursors w c (uses_one c h) ∙ a
+walked_answers w v c made (Err (Refused r)) h a = now-on-cursors w c (uses_one c h) ∙ a
+walked_answers w v c made (Err (Ends s)) h a = tt
+
+-- ---- commands that use no cursor
+
+module _ {C : Type 0} {reads : List ℕ → Option Store} {place : C → ℕ} {soups : C → Store} {stands : Bool → C → Outside → Type 0} (l : Laws reads place soups stands)
+    (told : Bool) (units : Units C) (ks : List (Option Cursor)) (o : Outside) (s : Standing reads place stands told units ks o) (t : IsTrue told) (c : Command) (none : on_cursor c ≡ false) where
+  abbrev w : World
+  w = world_of reads units o
+
+  formed : Every Wf w
+  formed u k d is = go (o.card u) refl
+    where
+      stand : Stands place stands true units o
+      stand = subst (λ b. Stands place stands b units o) t s.stand
+
+      media : (m : Option Store) → reads (image u o.now) ≡ m → OnMedia Wf (o.blocks u) (media_of m)
+      media None e = tt
+      media (Some x) e = (l.formed (image u o.now) x e).0
+
+      go : (card : Option (List ℕ)) → o.card u ≡ card → OnMedia Wf d.blocks d.media
+      go None e = absurd (none-some d (sym (at-none l units o s.eight stand u e) ∙ is))
+      go (Some name) e = subst (λ (x : Device). OnMedia Wf x.blocks x.media) (some-same _ d (sym (at-card l units o s.eight stand u name e) ∙ is)) (media (reads (image u o.now)) refl)
+
+  whole : answer_now (with_cursors ks w) c ≡ (settle (with_cursors ks (answer_now w c).0), (answer_now w c).1)
+  whole = now-apart ks w c (uses_none c none) refl (s.settled t)
+
+  -- where keys are as before, nothing is left to settle
+  pub still : (v : World) (r : plain.Reply) → settles c ≡ false → answer_now w c ≡ (v, r) → answer_now (with_cursors ks w) c ≡ (with_cursors ks v, r)
+  still v r few done = whole ∙ ap {A = World} (λ x. (x, (answer_now w c).1)) (go (few_keys c few)) ∙ ap (λ (a : World × plain.Reply). (with_cursors ks a.0, a.1)) done
+    where
+      go : (moves_keys c ≡ false) ⊎ (is_built c ≡ false) → IsSettled (with_cursors ks (answer_now w c).0)
+      go (inl h) = now-still ks w c (uses_none c none) h refl formed (s.apart t) (s.settled t)
+      go (inr h) = subst (λ v. IsSettled (with_cursors ks v)) (sym (not_built_stays w c h)) (s.settled t)
+
+  -- a refusal leaves the cursors
+  pub refuses : (v : World) (r : Refusal) → answer_now w c ≡ (v, plain.Reply.refused r) → answer_now (with_cursors ks w) c ≡ (with_cursors ks v, plain.Reply.refused r)
+  refuses v r refusing = whole ∙ ap {A = World} (λ x. (x, (answer_now w c).1)) (subst (λ v. IsSettled (with_cursors ks v)) (sym (refused_stays w c r (ap (λ (a : World × plain.Reply). a.1) refusing))) (s.settled t))
+      ∙ ap (λ (a : World × plain.Reply). (with_cursors ks a.0, a.1)) refusing
+
+  -- and else they are settled
+  pub settled_after : (v later : World) (r : plain.Reply) → answer_now w c ≡ (v, r) → later ≡ settle (with_cursors ks v) → answer_now (with_cursors ks w) c ≡ (later, r)
+  settled_after v later r done is = whole ∙ ap (λ (a : World × plain.Reply). (settle (with_cursors ks a.0), a.1)) done ∙ ap {A = World} (λ x. (x, r)) (sym is)
+
+  -- the same of what is answered
+  pub done_answers : (v : World) (reply : Reply) → settles c ≡ false → answer_now w c ≡ (v, said reply) → (ls : List (Option Cursor)) → ls ≡ ks → Answers (with_cursors ks w) (with_cursors ls v) c said (Ok reply)
+  done_answers v reply few done ls same = still v (said reply) few done ∙ ap (λ xs. (with_cursors xs v, said reply)) (sym same)
+
+  pub fault_answers : (v : World) (fault : Fault) → Answers w v c said (Err fault) → (ls : List (Option Cursor)) → ls ≡ ks → Answers (with_cursors ks w) (with_cursors ls v) c said (Err fault)
+  fault_answers v (Refused r) h ls same = refuses v r h ∙ ap (λ xs. (with_cursors xs v, plain.Reply.refused r)) (sym same)
+  fault_answers v (Ends stop) h ls same = tt
+
+  pub settled_answers : (v later : World) (reply : Reply) (result : Result Reply Fault) → answer_now w c ≡ (v, said reply) → (ls : List (Option Cursor)) → ls ≡ ks → OnOk result (later ≡ settle (with_cursors ls v))
+      → IfOk result (λ same. same ≡ reply) → IfErr result (λ fault. IsEnd fault) → Answers (with_cursors ks w) later c said result
+  settled_answers v later reply (Ok x) done ls desk on same ends =
+      settled_after v later (said x) (done ∙ ap (λ r. (v, said r)) (sym same)) (on ∙ ap (λ xs. settle (with_cursors xs v)) desk)
+  settled_answers v later reply (Err (Refused r)) done ls desk on same ends = absurd ends
+  settled_answers v later reply (Err (Ends stop)) done ls desk on same ends = tt
+
+  pub apart_after : (v : World) (r : plain.Reply) → answer_now w c ≡ (v, r) → MountedApart v
+  apart_after v r done = subst MountedApart (ap (λ (a : World × plain.Reply). a.0) done) (now-mounted-apart w c (s.apart t))
+
+  pub moments_with : (now : Moment) → Always (Answering reads w (answer_now w c).0 o.now) o.now now → Always (Answering reads (with_cursors ks w) (answer_now (with_cursors ks w) c).0 o.now) o.now now
+  moments_with now h = subst (λ (a : World × plain.Reply). Always (Answering reads (with_cursors ks w) a.0 o.now) o.now now) (sym whole)
+      (Always-map (λ m a. record { quiet = a.quiet; stores = a.stores; others = a.others }) h)
+
+-- units and cursors stand after a command as they did before
+pub stands_after : {T C : Type 0} {reads : List ℕ → Option Store} {place : C → ℕ} {stands : Bool → C → Outside → Type 0} (told : Bool) (units later : Units C) (ks ls : List (Option Cursor)) (o p : Outside)
+    → Standing reads place stands told units ks o → Stands place stands told later p → Eight p → DeskFits ls → (c : Command) (made : T → plain.Reply) (result : Result T Fault)
+    → (IsTrue told → Answers (world_with reads units ks o) (world_with reads later ls p) c made result) → GoesOn result → Standing reads place stands told later ls p
+stands_after {T} {C} {reads} told units later ks ls o p s stand eight desk c made result answers goes = record {
+  stand = stand;
+  eight = eight;
+  desk = desk;
+  apart = λ t. goes_apart (world_with reads units ks o) (world_with reads later ls p) c made result (s.apart t) (answers t) goes;
+  settled = λ t. goes_settled (world_with reads units ks o) (world_with reads later ls p) c made result (s.settled t) (answers t) goes;
+}
+
+-- where devices are read alone, nothing happens to them
+pub quiet_with : {C : Type 0} {reads : List ℕ → Option Store} {place : C → ℕ} {soups : C → Store} {stands : Bool → C → Outside → Type 0} → Laws reads place soups stands
+    → (told : Bool) (units : Units C) (ks : List (Option Cursor)) (o p : Outside) → Standing reads place stands told units ks o → IsTrue told → p.now ≡ o.now → (v : World)
+    → Always (Answering reads (world_with reads units ks o) v o.now) o.now p.now
+quiet_with {reads} l told units ks o p s t same v = subst (λ m. Always (Answering reads (world_with reads units ks o) v o.now) o.now m) (sym same)
+    (Always-map (λ m a. record { quiet = a.quiet; stores = a.stores; others = a.others }) (quiet l told units o s.eight s.stand t v))

@@ -1,0 +1,104 @@
+//! Commands that open, move, show or close a cursor.
+ghost use Rattle.std.specs.Prelude.{◌≡◌, true, false, IsTrue, IfErr};
+ghost use Rattle.newt_host.specs.Moments.{Always};
+ghost use Rattle.newt_reply.specs.Said.{said};
+ghost use Rattle.newt_laws_answers.specs.Answering.{Answering};
+ghost use Rattle.newt_laws_answers.specs.Stage.{answer_now};
+ghost use Rattle.newt_units.specs.Answers as now;
+ghost use Rattle.newt_units.specs.Faults.{GoesOn, HasFaultCause, IsRefusal, NoDevice, OnDevices};
+ghost use Rattle.newt_units.specs.Stands.{Stands};
+ghost use Rattle.newt_laws.specs.Settled.{MountedApart};
+ghost use Rattle.newt_walk.specs.Fits.{DeskFits};
+ghost use Rattle.newt_walk.specs.Replies.{Answers};
+ghost use Rattle.newt_walk.specs.World.{AreRead, world_with};
+ghost use Rattle.newt_engine.specs.Ends.{takes_memory, uses_device};
+ghost use Rattle.newt_engine.specs.Groups.{on_cursor, on_place};
+ghost use Rattle.newt_engine.specs.Standing.{Standing};
+
+use crate::replies::{closed, counted, opened, shown, sided};
+use crate::world::World;
+use newt_base::Refusal;
+use newt_host::Host;
+use newt_reply::Reply;
+use newt_script::Command;
+use newt_units::{Card, Fault};
+
+impl<C: Card> World<C> {
+    /// Obeys a command that opens, moves, shows or closes a cursor.
+    pub(crate) fn obey_on_cursor<H: Host>(
+        &mut self,
+        host: &mut H,
+        command: &Command,
+    ) -> Result<Reply, Fault>
+        requires stands { Standing C.reads C.place C.stands H.told self.old.units self.old.desk (H.outside host.old) }
+        requires on_cursor { on_cursor command.now ≡ true }
+        ensures stands { GoesOn result → Standing C.reads C.place C.stands H.told self.new.units self.new.desk (H.outside host.new) }
+        ensures answered { IsTrue H.told → now.Answers (world_with C.reads self.old.units self.old.desk (H.outside host.old)) (world_with C.reads self.new.units self.new.desk (H.outside host.new)) command.now said result }
+        ensures moments { IsTrue H.told → let w = world_with C.reads self.old.units self.old.desk (H.outside host.old) in
+            Always (Answering C.reads w (answer_now w command.now).0 (H.outside host.old).now) (H.outside host.old).now (H.outside host.new).now }
+        ensures alone { OnDevices (H.outside host.old) (H.outside host.new) }
+        ensures cause { IfErr result (λ fault. HasFaultCause fault (H.outside host.old) (H.outside host.new)) }
+        ensures ends { takes_memory command.now ≡ false → IfErr result (λ fault. IsRefusal fault) }
+        ensures device { uses_device command.now ≡ false → IfErr result (λ fault. NoDevice fault) }
+    {
+        self.walk(host, command)
+    }
+
+    /// Moves or shows a cursor, or opens or closes one.
+    fn walk<H: Host>(&mut self, host: &mut H, command: &Command) -> Result<Reply, Fault>
+        requires desk { DeskFits self.old.desk }
+        requires stands { Stands C.place C.stands H.told self.old.units (H.outside host.old) }
+        requires on_cursor { on_cursor command.now ≡ true }
+        ensures read { AreRead C.reads C.place C.stands H.told self.old.units self.new.units (H.outside host.old) (H.outside host.new) }
+        ensures desk { DeskFits self.new.desk }
+        ensures answered { IsTrue H.told → let w = world_with C.reads self.old.units self.old.desk (H.outside host.old) in MountedApart w →
+            Answers w (world_with C.reads self.new.units self.new.desk (H.outside host.new)) command.now said result }
+        ensures cause { IfErr result (λ fault. HasFaultCause fault (H.outside host.old) (H.outside host.new)) }
+    {
+        let World { units, desk } = self;
+        match command {
+            Command::Entry(cursor) => shown(newt_walk::entry(units, desk, host, *cursor)),
+            Command::Next(cursor) => shown(newt_walk::next(units, desk, host, *cursor)),
+            Command::Prev(cursor) => shown(newt_walk::prev(units, desk, host, *cursor)),
+            Command::Reset(cursor) => shown(newt_walk::reset(units, desk, host, *cursor)),
+            Command::End(cursor) => shown(newt_walk::end(units, desk, host, *cursor)),
+            Command::Moveby(cursor, by) => {
+                shown(newt_walk::moveby(units, desk, host, *cursor, *by))
+            }
+            Command::Goto(cursor, unit, uid) => {
+                shown(newt_walk::go_to(units, desk, host, *cursor, *unit, *uid))
+            }
+            Command::Gotokey(cursor, graph) => {
+                shown(newt_walk::go_to_key(units, desk, host, *cursor, graph))
+            }
+            _ => self.change_places(host, command),
+        }
+    }
+
+    /// Opens, counts, clones or closes a cursor, or tells its side.
+    fn change_places<H: Host>(&mut self, host: &mut H, command: &Command) -> Result<Reply, Fault>
+        requires desk { DeskFits self.old.desk }
+        requires stands { Stands C.place C.stands H.told self.old.units (H.outside host.old) }
+        requires on_place { on_place command.now ≡ true }
+        ensures read { AreRead C.reads C.place C.stands H.told self.old.units self.new.units (H.outside host.old) (H.outside host.new) }
+        ensures desk { DeskFits self.new.desk }
+        ensures answered { IsTrue H.told → let w = world_with C.reads self.old.units self.old.desk (H.outside host.old) in MountedApart w →
+            Answers w (world_with C.reads self.new.units self.new.desk (H.outside host.new)) command.now said result }
+        ensures cause { IfErr result (λ fault. HasFaultCause fault (H.outside host.old) (H.outside host.new)) }
+    {
+        let World { units, desk } = self;
+        match command {
+            Command::Query(unit, name, graph) => {
+                opened(newt_walk::query(units, desk, host, *unit, name, graph))
+            }
+            Command::QueryAll(name, graph) => {
+                opened(newt_walk::query_all(units, desk, host, name, graph))
+            }
+            Command::Count(cursor) => counted(newt_walk::count(units, desk, host, *cursor)),
+            Command::Which(cursor) => sided(newt_walk::which(units, desk, host, *cursor)),
+            Command::Clone(cursor) => opened(newt_walk::clone_of(units, desk, host, *cursor)),
+            Command::Close(cursor) => closed(newt_walk::close(units, desk, host, *cursor)),
+            _ => Err(Fault::Refused(Refusal::Command)),
+        }
+    }
+}

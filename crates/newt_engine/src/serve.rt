@@ -1,0 +1,130 @@
+//! Commands with the cursors settled after them.
+ghost use Rattle.std.specs.Prelude.{◌≡◌, true, false, IsTrue, IfErr, OnOk, IfOk};
+ghost use Rattle.newt_host.specs.Moments.{Always};
+ghost use Rattle.newt_reply.specs.Said.{said};
+ghost use Rattle.newt_laws_answers.specs.Answering.{Answering};
+ghost use Rattle.newt_laws_answers.specs.Stage.{answer_now};
+ghost use Rattle.newt_laws.specs.Settled.{MountedApart};
+ghost use Rattle.newt_spec_world.specs.World.{settle};
+ghost use Rattle.newt_units.specs.Answers.{Answers};
+ghost use Rattle.newt_units.specs.Faults.{GoesOn, HasFaultCause, IsEnd, IsRefusal, NoDevice, OnDevices};
+ghost use Rattle.newt_units.specs.Stands.{Stands};
+ghost use Rattle.newt_walk.specs.Fits.{DeskFits};
+ghost use Rattle.newt_walk.specs.World.{AreRead, world_with};
+ghost use Rattle.newt_engine.specs.Ends.{takes_memory, uses_device};
+ghost use Rattle.newt_engine.specs.Groups.{on_cursor, settles};
+ghost use Rattle.newt_engine.specs.Standing.{Standing};
+
+use crate::world::World;
+use newt_host::Host;
+use newt_reply::Reply;
+use newt_script::Command;
+use newt_units::{Card, Fault};
+use newt_walk::settle;
+
+impl<C: Card> World<C> {
+    /// Obeys a command, with the cursors. A fault is its refusal, or the end of the run.
+    pub(crate) fn serve<H: Host>(&mut self, host: &mut H, command: Command) -> Result<Reply, Fault>
+        requires { Standing C.reads C.place C.stands H.told self.old.units self.old.desk (H.outside host.old) }
+        ensures stands { GoesOn result → Standing C.reads C.place C.stands H.told self.new.units self.new.desk (H.outside host.new) }
+        ensures answered { IsTrue H.told → Answers (world_with C.reads self.old.units self.old.desk (H.outside host.old)) (world_with C.reads self.new.units self.new.desk (H.outside host.new)) command said result }
+        ensures moments { IsTrue H.told → let w = world_with C.reads self.old.units self.old.desk (H.outside host.old) in
+            Always (Answering C.reads w (answer_now w command).0 (H.outside host.old).now) (H.outside host.old).now (H.outside host.new).now }
+        ensures alone { OnDevices (H.outside host.old) (H.outside host.new) }
+        ensures cause { IfErr result (λ fault. HasFaultCause fault (H.outside host.old) (H.outside host.new)) }
+        ensures ends { takes_memory command ≡ false → IfErr result (λ fault. IsRefusal fault) }
+        ensures device { uses_device command ≡ false → IfErr result (λ fault. NoDevice fault) }
+    {
+        if is_on_cursor(&command) {
+            self.obey_on_cursor(host, &command)
+        } else {
+            self.obey_and_settle(host, command)
+        }
+    }
+
+    /// Obeys a command that uses no cursor, and settles the cursors where keys may have changed.
+    fn obey_and_settle<H: Host>(&mut self, host: &mut H, command: Command) -> Result<Reply, Fault>
+        requires stands { Standing C.reads C.place C.stands H.told self.old.units self.old.desk (H.outside host.old) }
+        requires no_cursor { on_cursor command ≡ false }
+        ensures stands { GoesOn result → Standing C.reads C.place C.stands H.told self.new.units self.new.desk (H.outside host.new) }
+        ensures answered { IsTrue H.told → Answers (world_with C.reads self.old.units self.old.desk (H.outside host.old)) (world_with C.reads self.new.units self.new.desk (H.outside host.new)) command said result }
+        ensures moments { IsTrue H.told → let w = world_with C.reads self.old.units self.old.desk (H.outside host.old) in
+            Always (Answering C.reads w (answer_now w command).0 (H.outside host.old).now) (H.outside host.old).now (H.outside host.new).now }
+        ensures alone { OnDevices (H.outside host.old) (H.outside host.new) }
+        ensures cause { IfErr result (λ fault. HasFaultCause fault (H.outside host.old) (H.outside host.new)) }
+        ensures ends { takes_memory command ≡ false → IfErr result (λ fault. IsRefusal fault) }
+        ensures device { uses_device command ≡ false → IfErr result (λ fault. NoDevice fault) }
+    {
+        let settles = settles(&command);
+        match self.obey(host, command) {
+            Ok(reply) => {
+                if settles {
+                    self.settled(host, reply)
+                } else {
+                    Ok(reply)
+                }
+            }
+            Err(fault) => Err(fault),
+        }
+    }
+
+    /// Settles the cursors, and hands a reply on.
+    fn settled<H: Host>(&mut self, host: &mut H, reply: Reply) -> Result<Reply, Fault>
+        requires stands { Stands C.place C.stands H.told self.old.units (H.outside host.old) }
+        requires desk { DeskFits self.old.desk }
+        ensures read { AreRead C.reads C.place C.stands H.told self.old.units self.new.units (H.outside host.old) (H.outside host.new) }
+        ensures desk { DeskFits self.new.desk }
+        ensures settled { IsTrue H.told → let w = world_with C.reads self.old.units self.old.desk (H.outside host.old) in MountedApart w →
+            OnOk result (world_with C.reads self.new.units self.new.desk (H.outside host.new) ≡ settle w) }
+        ensures same { IfOk result (λ same. same ≡ reply) }
+        ensures cause { IfErr result (λ fault. HasFaultCause fault (H.outside host.old) (H.outside host.new)) }
+        ensures ends { IfErr result (λ fault. IsEnd fault) }
+    {
+        match settle(&mut self.units, &mut self.desk, host) {
+            Ok(()) => Ok(reply),
+            Err(stop) => Err(Fault::Stop(stop)),
+        }
+    }
+}
+
+/// Whether the keys of entries may be others after a command.
+fn settles(command: &Command) -> bool
+    ensures { result ≡ settles command.now }
+{
+    matches!(
+        command,
+        Command::Mount(_)
+            | Command::Index(_, _, _)
+            | Command::SetTags(_, _, _, _)
+            | Command::Add(_, _, _)
+            | Command::Addx(_, _, _)
+            | Command::Addu(_, _)
+            | Command::Set(_, _, _, _, _)
+            | Command::Change(_, _, _, _)
+            | Command::Copy(_, _, _, _, _)
+            | Command::Move(_, _, _, _, _)
+    )
+}
+
+/// Whether a command opens, moves, shows or closes a cursor.
+fn is_on_cursor(command: &Command) -> bool
+    ensures { result ≡ on_cursor command.now }
+{
+    matches!(
+        command,
+        Command::Query(_, _, _)
+            | Command::QueryAll(_, _)
+            | Command::Entry(_)
+            | Command::Next(_)
+            | Command::Prev(_)
+            | Command::Reset(_)
+            | Command::End(_)
+            | Command::Moveby(_, _)
+            | Command::Goto(_, _, _)
+            | Command::Gotokey(_, _)
+            | Command::Count(_)
+            | Command::Which(_)
+            | Command::Clone(_)
+            | Command::Close(_)
+    )
+}

@@ -1,0 +1,13 @@
+//! A store of 200 entries on a card in memory, indexed, changed and opened again, against the lists sorted afresh.
+//!
+//! It stands on `newt_indexed` over the plain book of pages and a host in memory, and has tests alone.
+#![tactic(auto)]
+
+#[cfg(test)]
+mod card;
+#[cfg(test)]
+mod entries;
+#[cfg(test)]
+mod soups;
+#[cfg(test)]
+mod walks;
