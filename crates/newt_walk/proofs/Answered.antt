@@ -1,5 +1,5 @@
 -- What the world answers to a command whose tests are known, and to those that show, count, clone and close a cursor.
-use Rattle.std.proofs.Common.{◌≡◌, refl, ap, sym, ◌∙◌, subst, ℕ, List, [], ◌∷◌, Bool, true, false, Option, Some, None, option_map, length}
+use Rattle.std.proofs.Common.{◌≡◌, refl, ap, sym, ◌∙◌, ℕ, [], ◌∷◌, Bool, true, false, Option, Some, None, option_map, length}
 use Rattle.std.specs.Prelude.{is_none, is_some, not, slice_set}
 use Rattle.newt_base.specs.Refusals.{Checks, first_of}
 use Rattle.newt_base.specs.declared.Refusal.{Refusal}
@@ -11,7 +11,7 @@ use Rattle.newt_spec_world.specs.declared.command.Command.{Command}
 use Rattle.newt_spec_world.specs.declared.command.Command.TheVariants as command
 use Rattle.newt_spec_world.specs.Reply.{Reply}
 use Rattle.newt_spec_world.specs.World.{World, cursor, free_cursor, hits_of, settle}
-use Rattle.newt_spec_world.specs.Changed.{changed, cloned, open_cursor, open_at}
+use Rattle.newt_spec_world.specs.Changed.{changed, cloned, open_at}
 use Rattle.newt_spec_world.specs.Refused.{checks, no_cursor, no_free_cursor}
 use Rattle.newt_spec_world.specs.Answer.{answer, answered, current, fields, or_nil, side}
 use Rattle.newt_walk.specs.Replies.{side_at}

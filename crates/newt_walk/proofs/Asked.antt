@@ -1,12 +1,12 @@
 -- What a query asks: its frame, its index and its keys.
-use Rattle.std.proofs.Common.{arith, ◌≡◌, refl, ap, sym, ◌∙◌, subst, ℕ, ◌+◌, ◌<◌, List, [], ◌∷◌, Bool, true, false, ◌&&◌, ◌||◌, ◌==◌, cond, map, filter, find, length, drop, Option, Some, None, option_map, option_and_then}
-use Rattle.std.specs.Prelude.{Result, Ok, Err, not, is_none, is_some, unwrap_or, filter_map, zip, IfErr}
-use Rattle.std.specs.List.{list_all, list_any, cons_option}
+use Rattle.std.proofs.Common.{◌≡◌, refl, ap, sym, ◌∙◌, ℕ, ◌+◌, ◌<◌, List, [], ◌∷◌, Bool, true, false, ◌&&◌, ◌==◌, cond, length, drop, Option, Some, None, option_map, option_and_then}
+use Rattle.std.specs.Prelude.{Result, Ok, Err, not, is_none, unwrap_or, filter_map, zip}
+use Rattle.std.specs.List.{list_all, cons_option}
 use Rattle.newt_base.specs.Names.{same_path}
 use Rattle.newt_base.specs.Refusals.{Checks, first_of}
 use Rattle.newt_base.specs.declared.Refusal.TheVariants.{Spec as BadSpec, Index as BadIndex, Key as BadKey}
 use Rattle.newt_graph.specs.Graph.{RawGraph}
-use Rattle.newt_spec_graph.proofs.Lists.{some-same, none-some}
+use Rattle.newt_spec_graph.proofs.Lists.{none-some}
 use Rattle.newt_spec_store.specs.Keys.{IndexSpec, Path, paths_of, same_paths}
 use Rattle.newt_spec_query.specs.Hits.{Query}
 use Rattle.newt_spec_query.specs.Spec.{is_query, keys_fit, query_paths, spec_of}
@@ -26,7 +26,6 @@ use Rattle.newt_spec_world.specs.First.{unit_numbers}
 use Rattle.newt_spec_world.specs.World.{mounted_store, mounted_stores, on_unit}
 use Rattle.newt_laws_answers.specs.WorldAt.{device_at}
 use Rattle.newt_units.specs.declared.units.Units.{Units}
-use Rattle.newt_units.specs.Cards.{soup_of}
 use Rattle.newt_units.specs.Stands.{Stands, Eight, mounted_in, world_of}
 use Rattle.newt_units.proofs.Agree.{paths_seen as seen}
 use Rattle.newt_units.proofs.Known.{Laws, at-device}

@@ -1,9 +1,8 @@
 -- The number of the hits of a query, counted along the merge.
-use Rattle.std.proofs.Common.{arith, ◌≡◌, refl, ap, sym, ◌∙◌, ℕ, ◌+◌, ◌≤◌, ◌<◌, ◌^◌, Bool, true, false, cond, length, Option, Some, None, IsTrue, List}
+use Rattle.std.proofs.Common.{arith, ◌≡◌, ap, sym, ◌∙◌, ℕ, ◌+◌, ◌≤◌, ◌<◌, ◌^◌, Bool, cond, length, Option, Some, IsTrue}
 use Rattle.newt_spec_graph.specs.Lists.{Each}
-use Rattle.newt_spec_store.specs.Store.{Store}
 use Rattle.newt_spec_store.specs.Valid.{well_formed}
-use Rattle.newt_spec_query.specs.Hits.{Query, Hit, hits}
+use Rattle.newt_spec_query.specs.Hits.{Query, Hit}
 use Rattle.newt_spec_query.specs.Cursor.{on}
 use Rattle.newt_spec_world.specs.World.{World, mounted_stores, hits_of}
 use Rattle.newt_laws.specs.Settled.{MountedApart}

@@ -1,19 +1,19 @@
 -- What the world answers to the commands that open a cursor.
-use Rattle.std.proofs.Common.{arith, ◌≡◌, refl, ap, sym, ◌∙◌, subst, ℕ, ◌+◌, ◌<◌, List, [], ◌∷◌, ◌++◌, Bool, true, false, ◌||◌, drop, Option, Some, None, option_map, option_and_then}
+use Rattle.std.proofs.Common.{◌≡◌, refl, ap, sym, ◌∙◌, ℕ, ◌+◌, ◌<◌, List, [], ◌∷◌, ◌++◌, Bool, true, false, ◌||◌, drop, Option, Some, None, option_map, option_and_then}
 use Rattle.std.specs.Prelude.{Result, Ok, Err, not, is_none, is_some}
 use Rattle.std.specs.List.{list_any, cons_option}
 use Rattle.newt_base.specs.Refusals.{Checks, first_of}
 use Rattle.newt_base.specs.declared.Refusal.{Refusal}
 use Rattle.newt_base.specs.declared.Refusal.TheVariants.{Unit as NoUnit, Notmounted, Soup as NoSoup, Limit}
 use Rattle.newt_graph.specs.Graph.{RawGraph}
-use Rattle.newt_spec_graph.proofs.Lists.{some-same, none-some}
+use Rattle.newt_spec_graph.proofs.Lists.{none-some}
 use Rattle.newt_spec_store.specs.Store.{Store, Soup, soup_named}
 use Rattle.newt_spec_query.specs.Hits.{Query}
 use Rattle.newt_spec_world.specs.declared.command.Command.{Command}
 use Rattle.newt_spec_world.specs.declared.command.Command.TheVariants as command
 use Rattle.newt_spec_world.specs.Reply.{Reply}
 use Rattle.newt_spec_world.specs.First.{unit_numbers}
-use Rattle.newt_spec_world.specs.World.{World, Device, device, free_cursor, mounted, mounted_store, on_unit, settle, soup_in, store_if_mounted}
+use Rattle.newt_spec_world.specs.World.{World, Device, device, free_cursor, mounted, mounted_store, settle, soup_in, store_if_mounted}
 use Rattle.newt_spec_world.specs.Changed.{changed, opened, query_of, sig_of}
 use Rattle.newt_spec_world.specs.Refused.{checks, no_free_cursor, no_soup_anywhere}
 use Rattle.newt_spec_world.specs.Answer.{answer, fields, or_nil}

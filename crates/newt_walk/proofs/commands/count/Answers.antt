@@ -1,14 +1,12 @@
 -- All hits of the query of the cursor are counted.
-use Rattle.std.proofs.Common.{◌≡◌, ◌∙◌, ap, sym, subst, true, false, IsTrue, Err, List, Option, option_map}
+use Rattle.std.proofs.Common.{◌≡◌, ◌∙◌, ap, sym, subst, true, false, IsTrue, option_map}
 use Rattle.std.specs.Prelude.{slice_get, is_some}
-use Rattle.newt_cursor.specs.Seen.{query_of, place_of}
+use Rattle.newt_cursor.specs.Seen.{query_of}
 use Rattle.newt_spec_query.specs.Cursor.{Cursor}
 use Rattle.newt_laws.specs.Settled.{MountedApart}
 use Rattle.newt_spec_world.specs.World.{World, flat, settle}
 use Rattle.newt_laws_cursors.specs.Cursors.{with_cursors}
-use Rattle.newt_walk.specs.Replies.{shown_reply, side_reply}
 use Rattle.newt_spec_world.specs.Reply.{Reply}
-use Rattle.newt_base.specs.declared.Refusal.TheVariants.{Limit}
 use Rattle.newt_walk.specs.World.{world_with}
 use Rattle.newt_walk.proofs.Answered.{open-alike, count-closed, count-open, count-said}
 use Rattle.newt_walk.proofs.commands.count.Goals as goal

@@ -1,15 +1,14 @@
 -- One hit after another.
-use Rattle.std.proofs.Common.{arith, ◌≡◌, ◌∙◌, refl, ap, sym, subst, ℕ, Option, option_map, ◌+◌, ◌≤◌, ◌^◌, ◌<◌, Some, true, cond, length, IsTrue}
+use Rattle.std.proofs.Common.{arith, ◌≡◌, ◌∙◌, ap, sym, subst, Option, option_map, true, cond, length, IsTrue}
 use Rattle.newt_cursor.specs.Seen.{query_of, hit_of}
 use Rattle.newt_index.specs.declared.identity.Spot.{Spot}
-use Rattle.newt_spec_query.specs.Hits.{Hit}
 use Rattle.newt_spec_world.specs.World.{World, mounted_stores, hits_of}
 use Rattle.newt_laws_hits.specs.Stripped.{passing}
 use Rattle.newt_laws_hits.specs.Taking.{members_of}
 use Rattle.newt_union.specs.Merged.{merged}
 use Rattle.newt_units.specs.Stands.{Stands, Eight, world_of}
 use Rattle.newt_units.proofs.Known.{Laws}
-use Rattle.newt_walk.specs.Ways.{beyond, met}
+use Rattle.newt_walk.specs.Ways.{beyond}
 use Rattle.newt_walk.specs.declared.ways.Way.TheVariants.{On}
 use Rattle.newt_walk.proofs.Reading.{not-read, read-then}
 use Rattle.newt_walk.proofs.Stores.{stores-formed, stores-few}

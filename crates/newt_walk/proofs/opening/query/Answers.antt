@@ -1,5 +1,5 @@
 -- The query is made, and its cursor opened.
-use Rattle.std.proofs.Common.{◌≡◌, subst, true}
+use Rattle.std.proofs.Common.{subst, true}
 use Rattle.newt_units.specs.Stands.{Stands, Eight}
 use Rattle.newt_walk.specs.World.{world_with}
 use Rattle.newt_walk.proofs.Opened.{query-opens, query-refused}

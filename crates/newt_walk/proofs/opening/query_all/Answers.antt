@@ -1,5 +1,5 @@
 -- A soup is there, the query is made, and its cursor opened.
-use Rattle.std.proofs.Common.{◌≡◌, subst, refl, true, false}
+use Rattle.std.proofs.Common.{subst, refl, true, false}
 use Rattle.newt_units.specs.Stands.{Stands, Eight}
 use Rattle.newt_walk.specs.World.{world_with}
 use Rattle.newt_walk.proofs.Opened.{nowhere, all-opens, all-refused}
