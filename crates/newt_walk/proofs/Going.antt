@@ -23,7 +23,7 @@ use Rattle.newt_laws_answers.specs.Tests.{unit_checks}
 use Rattle.newt_laws_answers.specs.There.{OnUnit}
 use Rattle.newt_laws_answers.proofs.Answers.{unit-passes}
 use Rattle.newt_laws_answers.proofs.Units.{is-mounted}
-use Rattle.newt_laws_hits.specs.Located.{Located, located, looked_up, hit_for as hit_at}
+use Rattle.newt_laws_hits.specs.Located.{Located, located, looked_up, located_hit as hit_at}
 use Rattle.newt_laws_hits.proofs.Origins.{looked-up-is, same-looked-up, named-looked-up}
 use Rattle.newt_units.specs.declared.fault.Fault.{Fault}
 use Rattle.newt_units.specs.declared.fault.Fault.TheVariants.{Refused, Stop}

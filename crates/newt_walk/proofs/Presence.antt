@@ -11,7 +11,7 @@ use Rattle.newt_spec_world.specs.World.{World, mounted, mounted_stores}
 use Rattle.newt_spec_world.specs.Alias.{Spot, resolved}
 use Rattle.newt_laws.specs.Settled.{MountedApart}
 use Rattle.newt_laws_changes.proofs.Chosen.{find-passes}
-use Rattle.newt_laws_hits.specs.Located.{Located, looked_up, hit_for, takes_part}
+use Rattle.newt_laws_hits.specs.Located.{Located, looked_up, located_hit, takes_part}
 use Rattle.newt_laws_hits.proofs.Origins.{same-looked-up}
 use Rattle.newt_pass.specs.Kept.{kept_key}
 use Rattle.newt_pass.proofs.Keeping.{kept-is}
@@ -26,16 +26,16 @@ module _ (w : World) (q : Query) (store soup uid : ℕ) (apart : MountedApart w)
   -- no mounted store has the signature
   pub no-store-present : find (λ s. s.sig == store) (mounted_stores w) ≡ None → None ≡ present_in w q (identity store soup uid)
   no-store-present e =
-      sym (looked ∙ ap (λ (o : Option Store). option_and_then (with_entry w) (option_and_then (hit_for q) (option_and_then (λ s. located_in s soup uid) o))) e)
+      sym (looked ∙ ap (λ (o : Option Store). option_and_then (with_entry w) (option_and_then (located_hit q) (option_and_then (λ s. located_in s soup uid) o))) e)
 
   module _ (u : ℕ) (s : Store) (found : find (λ s. s.sig == store) (mounted_stores w) ≡ Some s) (found_with : find (λ m. m.1.sig == store) (mounted w) ≡ Some (u, s))
       (sig_is : s.sig ≡ store) where
-    in-store : present_in w q (identity store soup uid) ≡ option_and_then (with_entry w) (option_and_then (hit_for q) (located_in s soup uid))
-    in-store = looked ∙ ap (λ (o : Option Store). option_and_then (with_entry w) (option_and_then (hit_for q) (option_and_then (λ s. located_in s soup uid) o))) found
+    in-store : present_in w q (identity store soup uid) ≡ option_and_then (with_entry w) (option_and_then (located_hit q) (located_in s soup uid))
+    in-store = looked ∙ ap (λ (o : Option Store). option_and_then (with_entry w) (option_and_then (located_hit q) (option_and_then (λ s. located_in s soup uid) o))) found
 
     -- there is no such entry
     pub no-entry-present : None ≡ entry_at soup uid s → None ≡ present_in w q (identity store soup uid)
-    no-entry-present e = sym (in-store ∙ ap (λ (o : Option Located). option_and_then (with_entry w) (option_and_then (hit_for q) o)) (go (soup_of soup s) (sym e)))
+    no-entry-present e = sym (in-store ∙ ap (λ (o : Option Located). option_and_then (with_entry w) (option_and_then (located_hit q) o)) (go (soup_of soup s) (sym e)))
       where
         entry : (p : Soup) (x : Option Entry) → x ≡ None → option_map {U = Located} (λ e. record { store = s; soup = p; entry = e }) x ≡ None
         entry p None e = refl
@@ -49,11 +49,11 @@ module _ (w : World) (q : Query) (store soup uid : ℕ) (apart : MountedApart w)
     pub other-soup-present : ((p : Soup) → soup_of soup s ≡ Some p → takes_part q s p ≡ false) → None ≡ present_in w q (identity store soup uid)
     other-soup-present other = sym (in-store ∙ ap (option_and_then (with_entry w)) (go (soup_of soup s) refl))
       where
-        entry : (p : Soup) (x : Option Entry) → takes_part q s p ≡ false → option_and_then (hit_for q) (option_map {U = Located} (λ e. record { store = s; soup = p; entry = e }) x) ≡ None
+        entry : (p : Soup) (x : Option Entry) → takes_part q s p ≡ false → option_and_then (located_hit q) (option_map {U = Located} (λ e. record { store = s; soup = p; entry = e }) x) ≡ None
         entry p None e = refl
         entry p (Some x) e = ap (λ b. cond b (hit_of q.spec s p x) None) e
 
-        go : (o : Option Soup) → soup_of soup s ≡ o → option_and_then (hit_for q) (option_and_then {U = Located} (λ p. option_map (λ e. record { store = s; soup = p; entry = e }) (entry_of uid p)) o) ≡ None
+        go : (o : Option Soup) → soup_of soup s ≡ o → option_and_then (located_hit q) (option_and_then {U = Located} (λ p. option_map (λ e. record { store = s; soup = p; entry = e }) (entry_of uid p)) o) ≡ None
         go None e = refl
         go (Some p) e = entry p (entry_of uid p) (other p e)
 
@@ -82,7 +82,7 @@ module _ (w : World) (q : Query) (store soup uid : ℕ) (apart : MountedApart w)
         keyed p y (Some k) at is = ap (option_map {U = Present} (λ (z : Spot). record { unit = z.unit; key = k; entry = z.entry })) (spot p y at is)
 
         entry : (p : Soup) (o : Option Entry) → soup_of soup s ≡ Some p → entry_of uid p ≡ o → o ≡ Some x
-            → option_and_then (with_entry w) (option_and_then (hit_for q) (option_map {U = Located} (λ e. record { store = s; soup = p; entry = e }) o))
+            → option_and_then (with_entry w) (option_and_then (located_hit q) (option_map {U = Located} (λ e. record { store = s; soup = p; entry = e }) o))
             ≡ option_map {U = Present} (λ k. record { unit = u; key = k; entry = x }) (kept_key q.spec p.tags x.graph)
         entry p None at is e = absurd (none-some x e)
         entry p (Some y) at is e =
@@ -92,7 +92,7 @@ module _ (w : World) (q : Query) (store soup uid : ℕ) (apart : MountedApart w)
             ∙ ap (λ (z : Entry). option_map {U = Present} (λ k. record { unit = u; key = k; entry = z }) (kept_key q.spec p.tags z.graph)) (some-same y x e)
 
         go : (o : Option Soup) → soup_of soup s ≡ o → option_and_then (entry_of uid) o ≡ Some x
-            → option_and_then (with_entry w) (option_and_then (hit_for q) (option_and_then {U = Located} (λ p. option_map (λ e. record { store = s; soup = p; entry = e }) (entry_of uid p)) o))
+            → option_and_then (with_entry w) (option_and_then (located_hit q) (option_and_then {U = Located} (λ p. option_map (λ e. record { store = s; soup = p; entry = e }) (entry_of uid p)) o))
             ≡ option_map {U = Present} (λ k. record { unit = u; key = k; entry = x }) (kept_key q.spec (option_and_then (λ p. p.tags) o) x.graph)
         go None at e = absurd (none-some x e)
         go (Some p) at e = entry p (entry_of uid p) at refl e
