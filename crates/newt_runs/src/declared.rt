@@ -128,7 +128,8 @@ const SOUP: &[Answered] = &[
 /// A letter and a digit for each of so many names.
 fn named(text: &mut Vec<u8>, n: u8) -> Result<(), AllocError> {
     text.push(b'a' + n / 10)?;
-    text.push(b'0' + n % 10)
+    text.push(b'0' + n % 10)?;
+    Ok(())
 }
 
 /// A line that declares so many tags.
