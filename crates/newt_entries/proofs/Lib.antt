@@ -1,6 +1,5 @@
 pub mod Spelled
 pub mod Streams
-pub mod Larges
 pub mod Within
 pub mod Rows
 pub mod Records

@@ -1,10 +1,25 @@
 -- The fields of an entry's record, read from the front of bytes.
-use Rattle.std.proofs.Common.{◌≡◌, ℕ, zero, suc, ◌+◌, ◌-◌, ◌*◌, ◌^◌, ◌<◌, ◌≤◌, List, [], ◌∷◌, length, get_or, take, drop, fold, Option, Some, None, option_and_then, refl, ap, sym, subst, ◌∙◌, arith}
+use Rattle.std.proofs.Common.{◌≡◌, ◌⊎◌, inl, inr, ℕ, zero, suc, ◌+◌, ◌-◌, ◌*◌, ◌^◌, ◌<◌, ◌≤◌, Bool, true, false, leb, List, [], ◌∷◌, length, get_or, take, drop, fold, Option, Some, None, option_and_then, refl, ap, sym, ◌∙◌, arith, leb-true, leb-false}
 use Rattle.std.proofs.lemmas.Bool.{le-leb}
-use Rattle.std.proofs.lemmas.List.{take_all, drop_all, length-drop, drop-drop, get_or-drop}
+use Rattle.std.proofs.lemmas.List.{drop_all, length-drop, drop-drop, get_or-drop}
 use Rattle.newt_base.specs.Text.{be16_at, be32_at}
 use Rattle.newt_spec_store.specs.Reading.{Take, ◌>>=◌, give, number, some_bytes, times, whole_of}
 use Rattle.newt_spec_store.specs.StoreOf.{LargeRow, large_row, EntryRow, entry_fields, entry_row}
+use Rattle.newt_entries.specs.Entry.{rows_in}
+
+le_or_lt : (a b : ℕ) → (a ≤ b) ⊎ (b < a)
+le_or_lt a b = go (leb a b) refl
+  where
+    go : (t : Bool) → leb a b ≡ t → (a ≤ b) ⊎ (b < a)
+    go true e = inl (leb-true a b e)
+    go false e = inr (leb-false a b e)
+
+gt-leb : (a b : ℕ) → b < a → leb a b ≡ false
+gt-leb a b h = go (leb a b) refl
+  where
+    go : (t : Bool) → leb a b ≡ t → leb a b ≡ false
+    go false e = e
+    go true e = absurd (omega (arith, h, leb-true a b e))
 
 -- the number in the first bytes
 abbrev value : ℕ → List ℕ → ℕ
@@ -78,67 +93,104 @@ head_read size bytes h =
     ∙ ap (λ (n : ℕ). from_text size (be16_at bytes 0) (be16_at bytes 2) (be32_at bytes 4) n (drop 4 b3)) time
     ∙ ap (from_text size (be16_at bytes 0) (be16_at bytes 2) (be32_at bytes 4) (be32_at bytes 8)) at4
 
--- ---- without large binaries
+-- ---- the rows of large binaries
 
-abbrev pub plain_row : ℕ → ℕ → ℕ → List ℕ → EntryRow
-plain_row soup uid time text = record { soup = soup; uid = uid; time = time; text = text; larges = [] }
+large_read : (bytes : List ℕ) → 12 ≤ length bytes → large_row bytes ≡ Some ((be32_at bytes 0, be32_at bytes 4, be32_at bytes 8), drop 12 bytes)
+large_read bytes h =
+    let b1 : List ℕ = drop 4 bytes in
+    let b2 : List ℕ = drop 4 b1 in
+    let h1 : 8 ≤ length b1 = omega (arith, length-drop 4 bytes, h) in
+    let h2 : 4 ≤ length b2 = omega (arith, length-drop 4 b1, h1) in
+    let at2 : b2 ≡ drop 8 bytes = drop-drop 4 4 bytes in
+    let at3 : drop 4 b2 ≡ drop 12 bytes = ap (drop 4) at2 ∙ drop-drop 4 8 bytes in
+    let node : value 4 bytes ≡ be32_at bytes 0 = value32 bytes (omega (arith, h)) in
+    let object : value 4 b1 ≡ be32_at bytes 4 = value32 b1 (omega (arith, h1)) ∙ be32_from 4 bytes in
+    let len : value 4 b2 ≡ be32_at bytes 8 = value32 b2 h2 ∙ ap (λ (bs : List ℕ). be32_at bs 0) at2 ∙ be32_from 8 bytes in
+    reads 4 from_object bytes (omega (arith, h)) ∙ reads 4 (from_len (value 4 bytes)) b1 (omega (arith, h1)) ∙ reads 4 (λ len. give (value 4 bytes, value 4 b1, len)) b2 h2
+    ∙ (λ i. Some ((node i, object i, len i), at3 i))
+  where
+    from_len : ℕ → ℕ → Take LargeRow
+    from_len node object = number 4 >>= λ len. give (node, object, len)
 
-all_read : (n : ℕ) (bytes : List ℕ) → n ≡ length bytes → some_bytes n bytes ≡ Some (bytes, [])
-all_read n bytes h = rw (le-leb n (length bytes) (omega (arith, h)), take_all n bytes (omega (arith, h)), drop_all n bytes (omega (arith, h))) refl
+    from_object : ℕ → Take LargeRow
+    from_object node = number 4 >>= from_len node
 
-text_read : (size soup uid time : ℕ) (bytes : List ℕ) → size ≡ length bytes → from_text size soup 0 uid time bytes ≡ Some (plain_row soup uid time bytes, [])
-text_read size soup uid time bytes h =
-    ap (option_and_then (λ (r : List ℕ × List ℕ). Some (plain_row soup uid time r.0, r.1))) (all_read (size - 0) bytes (omega (arith, h)))
+pub larges_read : (n : ℕ) (bytes : List ℕ) → 12 * n ≤ length bytes → times n large_row bytes ≡ Some (rows_in n bytes, drop (12 * n) bytes)
+larges_read zero bytes h = refl
+larges_read (suc n) bytes h =
+    let rest : 12 * n ≤ length (drop 12 bytes) = omega (arith, length-drop 12 bytes, h) in
+    ap (option_and_then (λ (r : LargeRow × List ℕ). (times n large_row >>= λ ls. give (r.0 ∷ ls)) r.1)) (large_read bytes (omega (arith, h)))
+    ∙ ap (option_and_then (λ (r : List LargeRow × List ℕ). Some ((be32_at bytes 0, be32_at bytes 4, be32_at bytes 8) ∷ r.0, r.1))) (larges_read n (drop 12 bytes) rest)
+    ∙ (λ i. Some (rows_in (suc n) bytes, (drop-drop (12 * n) 12 bytes ∙ ap (λ k. drop k bytes) more) i))
+  where
+    more : 12 + 12 * n ≡ 12 * suc n
+    more = omega arith
 
-pub row_read : (bytes : List ℕ) → 12 ≤ length bytes → be16_at bytes 2 ≡ 0 → entry_row bytes ≡ Some (plain_row (be16_at bytes 0) (be32_at bytes 4) (be32_at bytes 8) (drop 12 bytes))
-row_read bytes h none =
-    let size : length bytes - 12 ≡ length (drop 12 bytes) = omega (arith, length-drop 12 bytes) in
+none_read : {B : Type 0} (n : ℕ) (f : ℕ → Take B) (bytes : List ℕ) → length bytes < n → (number n >>= f) bytes ≡ None
+none_read n f bytes h = rw (gt-leb n (length bytes) h) refl
+
+large_short : (bytes : List ℕ) → length bytes < 12 → large_row bytes ≡ None
+large_short bytes h = go (le_or_lt 4 (length bytes))
+  where
+    from_len : ℕ → ℕ → Take LargeRow
+    from_len node object = number 4 >>= λ len. give (node, object, len)
+
+    from_object : ℕ → Take LargeRow
+    from_object node = number 4 >>= from_len node
+
+    third : 4 ≤ length bytes → 8 ≤ length bytes → large_row bytes ≡ None
+    third a b = reads 4 from_object bytes a ∙ reads 4 (from_len (value 4 bytes)) (drop 4 bytes) (omega (arith, length-drop 4 bytes, b))
+        ∙ none_read 4 (λ len. give (value 4 bytes, value 4 (drop 4 bytes), len)) (drop 4 (drop 4 bytes)) (omega (arith, length-drop 4 (drop 4 bytes), length-drop 4 bytes, h))
+
+    second : 4 ≤ length bytes → (8 ≤ length bytes) ⊎ (length bytes < 8) → large_row bytes ≡ None
+    second a (inl b) = third a b
+    second a (inr b) = reads 4 from_object bytes a ∙ none_read 4 (from_len (value 4 bytes)) (drop 4 bytes) (omega (arith, length-drop 4 bytes, b))
+
+    go : (4 ≤ length bytes) ⊎ (length bytes < 4) → large_row bytes ≡ None
+    go (inl a) = second a (le_or_lt 8 (length bytes))
+    go (inr a) = none_read 4 from_object bytes a
+
+larges_short : (n : ℕ) (bytes : List ℕ) → length bytes < 12 * n → times n large_row bytes ≡ None
+larges_short zero bytes h = absurd (omega (arith, h))
+larges_short (suc n) bytes h = go (larges_short n (drop 12 bytes)) (le_or_lt 12 (length bytes))
+  where
+    go : (length (drop 12 bytes) < 12 * n → times n large_row (drop 12 bytes) ≡ None) → (12 ≤ length bytes) ⊎ (length bytes < 12) → times (suc n) large_row bytes ≡ None
+    go more (inl a) = ap (option_and_then (λ (r : LargeRow × List ℕ). (times n large_row >>= λ ls. give (r.0 ∷ ls)) r.1)) (large_read bytes a)
+        ∙ ap (option_and_then (λ (r : List LargeRow × List ℕ). Some ((be32_at bytes 0, be32_at bytes 4, be32_at bytes 8) ∷ r.0, r.1))) (more (omega (arith, length-drop 12 bytes, h)))
+    go more (inr a) = ap (option_and_then (λ (r : LargeRow × List ℕ). (times n large_row >>= λ ls. give (r.0 ∷ ls)) r.1)) (large_short bytes a)
+
+-- ---- whole records
+
+abbrev pub the_row : ℕ → ℕ → ℕ → List ℕ → List LargeRow → EntryRow
+the_row soup uid time text larges = record { soup = soup; uid = uid; time = time; text = text; larges = larges }
+
+-- where the text ends
+abbrev pub text_size : List ℕ → ℕ
+text_size bytes = length bytes - 12 - 12 * be16_at bytes 2
+
+pub row_read : (bytes : List ℕ) → 12 ≤ length bytes → 12 * be16_at bytes 2 ≤ length bytes - 12
+    → entry_row bytes ≡ Some (the_row (be16_at bytes 0) (be32_at bytes 4) (be32_at bytes 8) (take (text_size bytes) (drop 12 bytes)) (rows_in (be16_at bytes 2) (drop (text_size bytes) (drop 12 bytes))))
+row_read bytes h room =
+    let rest : List ℕ = drop 12 bytes in
+    let size : length rest ≡ length bytes - 12 = length-drop 12 bytes in
+    let fits : text_size bytes ≤ length rest = omega (arith, size) in
+    let left : length (drop (text_size bytes) rest) ≡ 12 * be16_at bytes 2 = omega (arith, length-drop (text_size bytes) rest, size, room) in
     ap whole_of (head_read (length bytes - 12) bytes h
-    ∙ ap (λ (n : ℕ). from_text (length bytes - 12) (be16_at bytes 0) n (be32_at bytes 4) (be32_at bytes 8) (drop 12 bytes)) none
-    ∙ text_read (length bytes - 12) (be16_at bytes 0) (be32_at bytes 4) (be32_at bytes 8) (drop 12 bytes) size)
+    ∙ ap (option_and_then (λ (r : List ℕ × List ℕ). (times (be16_at bytes 2) large_row >>= λ ls. give (the_row (be16_at bytes 0) (be32_at bytes 4) (be32_at bytes 8) r.0 ls)) r.1)) (taken (text_size bytes) rest fits)
+    ∙ ap (option_and_then (λ (r : List LargeRow × List ℕ). Some (the_row (be16_at bytes 0) (be32_at bytes 4) (be32_at bytes 8) (take (text_size bytes) rest) r.0, r.1)))
+    (larges_read (be16_at bytes 2) (drop (text_size bytes) rest) (omega (arith, left)))
+    ∙ ap (λ (bs : List ℕ). Some (the_row (be16_at bytes 0) (be32_at bytes 4) (be32_at bytes 8) (take (text_size bytes) rest) (rows_in (be16_at bytes 2) (drop (text_size bytes) rest)), bs))
+    (drop_all (12 * be16_at bytes 2) (drop (text_size bytes) rest) (omega (arith, left))))
+  where
+    taken : (n : ℕ) (rest : List ℕ) → n ≤ length rest → some_bytes n rest ≡ Some (take n rest, drop n rest)
+    taken n rest h = rw (le-leb n (length rest) h) refl
 
--- ---- with large binaries
-
--- all that is read meets this
-abbrev AllRead : {X : Type 0} → (X → Type 0) → Option (X × List ℕ) → Type 0
-AllRead P None = Unit {0}
-AllRead P (Some r) = P r.0
-
-all_then : {X Y : Type 0} (P : X → Type 0) (Q : Y → Type 0) (o : Option (X × List ℕ)) (f : X × List ℕ → Option (Y × List ℕ)) → AllRead P o → ((x : X × List ℕ) → P x.0 → AllRead Q (f x)) → AllRead Q (option_and_then f o)
-all_then P Q None f h k = tt
-all_then P Q (Some x) f h k = k x h
-
-anything : {X : Type 0} (o : Option (X × List ℕ)) → AllRead (λ x. Unit {0}) o
-anything None = tt
-anything (Some x) = tt
-
--- a row with large binaries
-abbrev pub HasRows : List LargeRow → Type 0
-HasRows [] = ⊥
-HasRows (l ∷ ls) = Unit {0}
-
-some_rows : (n : ℕ) (bytes : List ℕ) → AllRead HasRows (times (suc n) large_row bytes)
-some_rows n bytes = all_then (λ x. Unit {0}) HasRows (large_row bytes) (λ (l : LargeRow × List ℕ). (times n large_row >>= λ ls. give (l.0 ∷ ls)) l.1) (anything (large_row bytes))
-    (λ l any. all_then (λ x. Unit {0}) HasRows (times n large_row l.1) (λ (ls : List LargeRow × List ℕ). Some (l.0 ∷ ls.0, ls.1)) (anything (times n large_row l.1)) (λ ls any. tt))
-
-larges_read : (size soup count uid time : ℕ) (bytes : List ℕ) → 0 < count → AllRead (λ (row : EntryRow). HasRows row.larges) (from_text size soup count uid time bytes)
-larges_read size soup zero uid time bytes h = absurd (omega (arith, h))
-larges_read size soup (suc n) uid time bytes h =
-    all_then (λ x. Unit {0}) (λ (row : EntryRow). HasRows row.larges) (some_bytes (size - 12 * suc n) bytes)
-    (λ (t : List ℕ × List ℕ). (times (suc n) large_row >>= λ ls. give (record { soup = soup; uid = uid; time = time; text = t.0; larges = ls })) t.1) (anything (some_bytes (size - 12 * suc n) bytes))
-    (λ t any. all_then HasRows (λ (row : EntryRow). HasRows row.larges) (times (suc n) large_row t.1) (λ (ls : List LargeRow × List ℕ). Some (record { soup = soup; uid = uid; time = time; text = t.0; larges = ls.0 }, ls.1))
-    (some_rows n t.1) (λ ls rows. rows))
-
-none_some : {X : Type 0} (x : X) → Option.None ≡ Some x → ⊥
-none_some x e = cc
-
-whole_read : {X : Type 0} (P : X → Type 0) (o : Option (X × List ℕ)) → AllRead P o → (x : X) → whole_of o ≡ Some x → P x
-whole_read P None h x e = absurd (none_some x e)
-whole_read P (Some (y, [])) h x e = let same : y ≡ x = cc in subst P same h
-whole_read P (Some (y, b ∷ bs)) h x e = absurd (none_some x e)
-
--- a row that counts large binaries has some
-pub rows_read : (bytes : List ℕ) (row : EntryRow) → 12 ≤ length bytes → 0 < be16_at bytes 2 → entry_row bytes ≡ Some row → HasRows row.larges
-rows_read bytes row h some e =
-    whole_read (λ (row : EntryRow). HasRows row.larges) (entry_fields (length bytes - 12) bytes)
-    (subst (AllRead (λ (row : EntryRow). HasRows row.larges)) (sym (head_read (length bytes - 12) bytes h)) (larges_read (length bytes - 12) (be16_at bytes 0) (be16_at bytes 2) (be32_at bytes 4) (be32_at bytes 8) (drop 12 bytes) some)) row e
+pub row_short : (bytes : List ℕ) → 12 ≤ length bytes → length bytes - 12 < 12 * be16_at bytes 2 → entry_row bytes ≡ None
+row_short bytes h room =
+    let rest : List ℕ = drop 12 bytes in
+    let size : length rest ≡ length bytes - 12 = length-drop 12 bytes in
+    let none : text_size bytes ≡ 0 = omega (arith, room) in
+    ap whole_of (head_read (length bytes - 12) bytes h
+    ∙ ap (λ (n : ℕ). (some_bytes n >>= λ text. times (be16_at bytes 2) large_row >>= λ ls. give (the_row (be16_at bytes 0) (be32_at bytes 4) (be32_at bytes 8) text ls)) rest) none
+    ∙ ap (option_and_then (λ (r : List LargeRow × List ℕ). Some (the_row (be16_at bytes 0) (be32_at bytes 4) (be32_at bytes 8) [] r.0, r.1)))
+    (larges_short (be16_at bytes 2) rest (omega (arith, size, room))))

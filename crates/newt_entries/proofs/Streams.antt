@@ -76,3 +76,18 @@ written_graph text g e = go (stream_graph text) refl
     go : (o : Option RawGraph) → stream_graph text ≡ o → IsGraph g
     go None h = absurd (none_some (told None h))
     go (Some x) h = subst IsGraph (kept x (bytes_eq (nsof x) text) (told (Some x) h)) (reads_graphs.graphs text x h)
+
+-- a text that is written of a graph is the graph's
+pub written_text : (text : List ℕ) (g : RawGraph) → written stream_graph text ≡ Some g → nsof g ≡ text
+written_text text g e = go (stream_graph text) e
+  where
+    none_some : Option.None ≡ Some g → ⊥
+    none_some e = cc
+
+    test : (x : RawGraph) (b : Bool) → bytes_eq (nsof x) text ≡ b → cond b (Some x) None ≡ Some g → nsof g ≡ text
+    test x true k e = let same : x ≡ g = cc in ap nsof (sym same) ∙ (bytes_eq-Decides (nsof x) text).0 k
+    test x false k e = absurd (none_some e)
+
+    go : (o : Option RawGraph) → option_and_then (λ x. cond (bytes_eq (nsof x) text) (Some x) None) o ≡ Some g → nsof g ≡ text
+    go None e = absurd (none_some e)
+    go (Some x) e = test x (bytes_eq (nsof x) text) refl e

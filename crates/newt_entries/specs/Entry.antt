@@ -1,14 +1,19 @@
 -- Entry records as a program has them, and the graphs that texts are read as.
-use Rattle.std.specs.Prelude.{ℕ, Bool, ◌&&◌, nat_le, nat_lt, List, Option, Some, None, Result, Ok, Err, if◌then◌else◌}
-use Rattle.std.specs.List.{list_all}
+use Rattle.std.specs.Prelude.{◌≡◌, ℕ, zero, suc, ◌==◌, Bool, ◌&&◌, ◌++◌, nat_lt, bytes_eq, List, [], ◌∷◌, length, map, flat_map, drop, zip, Option, Some, None, Result, Ok, Err, if◌then◌else◌}
+use Rattle.std.specs.List.{list_all, enumerate_from}
+use Rattle.newt_base.specs.Text.{be32, be32_at}
+use Rattle.newt_graph.specs.declared.node.Node.{Node}
 use Rattle.newt_graph.specs.Graph.{RawGraph}
+use Rattle.newt_nsof.specs.Written.{nsof}
+use Rattle.newt_nsof.specs.Lengths.{skeleton}
 use Rattle.newt_nsof_read.specs.declared.fault.NsofFault.{NsofFault}
 use Rattle.newt_nsof_read.specs.Reading.{decoded}
-use Rattle.newt_spec_graph.specs.Graph.{is_frame, object}
-use Rattle.newt_spec_store.specs.Cost.{skeleton_length}
-use Rattle.newt_spec_store.specs.Lies.{graph_has_no_large}
-use Rattle.newt_spec_store.specs.Store.{Entry}
+use Rattle.newt_spec_store.specs.Image.{larges, large_in}
+use Rattle.newt_spec_store.specs.Laid.{row_of_large}
+use Rattle.newt_spec_store.specs.Lies.{is_record}
+use Rattle.newt_spec_store.specs.StoreOf.{LargeRow, EntryRow as PlainRow}
 use Rattle.newt_entries.specs.declared.row.EntryRow.{EntryRow}
+use Rattle.newt_entries.specs.declared.row.LargeAt.{LargeAt}
 
 -- the graph of an answer, none of a fault
 abbrev pub graph_in : Result RawGraph NsofFault → Option RawGraph
@@ -23,10 +28,34 @@ are_bytes = list_all (λ b. nat_lt b 256)
 abbrev pub stream_graph : List ℕ → Option RawGraph
 stream_graph bytes = if are_bytes bytes then graph_in (decoded bytes) else None
 
--- A graph without large binaries whose root is a frame and whose text has at most 64,000 bytes. It has the normal form of graphs besides, as all graphs of a program.
-abbrev pub fits : RawGraph → Bool
-fits g = graph_has_no_large g && is_frame (object g.nodes g.root) && nat_le (skeleton_length g) 64_000
+-- the node, object and length of a large binary
+abbrev pub row_at : LargeAt → LargeRow
+row_at l = (l.node, l.object, l.length)
 
--- what a row says: the signature of a soup, and an entry
-abbrev pub said : EntryRow → ℕ × Entry
-said row = (row.soup, record { uid = row.uid; time = row.time; graph = row.skeleton })
+-- the bytes of such a row: four for each number
+abbrev pub large_bytes : LargeAt → List ℕ
+large_bytes l = be32 l.node ++ be32 l.object ++ be32 l.length
+
+-- what a row says: its fields with the written text of the skeleton, and the skeleton
+abbrev pub said : EntryRow → PlainRow × RawGraph
+said row = (record { soup = row.soup; uid = row.uid; time = row.time; text = nsof row.skeleton; larges = map row_at row.larges }, row.skeleton)
+
+-- The graph has this skeleton, and its large binaries with these objects are the rows.
+pub record AreRowsOf (bare : RawGraph) (rows : List LargeAt) (g : RawGraph) (ids : List ℕ) : Type 0 where
+  pub skeleton_is : bare ≡ skeleton g
+  pub each_named : length (larges g) ≡ length ids
+  pub rows_are : map row_at rows ≡ map row_of_large (zip (larges g) ids)
+
+-- so many rows of large binaries at the front of bytes
+abbrev pub rows_in : ℕ → List ℕ → List LargeRow
+rows_in zero bytes = []
+rows_in (suc n) bytes = (be32_at bytes 0, be32_at bytes 4, be32_at bytes 8) ∷ rows_in n (drop 12 bytes)
+
+-- the rows name each large binary of the nodes, which are numbered from k on, in order, and none of these has bytes
+abbrev pub names_from : ℕ → List Node → List LargeRow → Bool
+names_from k nodes rows =
+    bytes_eq (map (λ l. l.0) (flat_map large_in (enumerate_from k nodes))) (map (λ l. l.0) rows) && list_all (λ l. length l.1 == 0) (flat_map large_in (enumerate_from k nodes))
+
+-- a skeleton and its rows may be those of an entry
+abbrev pub fits : List LargeRow → RawGraph → Bool
+fits rows g = is_record (record { soup = 0; uid = 0; time = 0; text = []; larges = rows }, g)

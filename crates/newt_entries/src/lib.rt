@@ -1,22 +1,20 @@
 //! Entry records as bytes.
 //!
 //! It stands on `newt_graph`, on the reader and the writer of the streamed form, and on the definitions of stores. It carries this promise: a record
-//! is read from exactly the bytes that have one by the store's reading, and is written as the store's definition says. In this stage a record with
-//! large binaries is not read.
+//! is read from exactly the bytes that have one by the store's reading, and is written as the store's definition says. The bytes of large binaries
+//! are no part of a record: it has the graph without them, and names their objects.
 #![tactic(auto)]
 
 mod fault;
-mod large;
 mod laws;
 mod read;
 mod row;
 mod write;
 
 pub use fault::EntryFault;
-pub use large::has_large;
 pub use laws::streams_are_read;
 pub use read::read_entry;
-pub use row::EntryRow;
+pub use row::{EntryRow, LargeAt, Larges};
 pub use write::write_entry;
 
 #[cfg(test)]

@@ -1,17 +1,80 @@
 //! What an entry record has.
-ghost use Rattle.std.specs.Prelude.{◌≡◌, IfOk};
+ghost use Rattle.std.specs.Prelude.{◌≡◌, [], IfOk};
 
 use newt_base::{Sig, Uid};
 use newt_graph::Graph;
-use std::alloc::AllocError;
+use std::alloc::{AllocError, Global};
+use std::marker::Model;
 
-/// An entry's record: the signature of its soup, its id, the minute of its last change, and its graph.
+/// A large binary in a record: the number of its node, the object that has its bytes, and how many these are.
+#[derive(Clone, Copy, Debug, PartialEq, Eq)]
+pub struct LargeAt {
+    pub node: u32,
+    pub object: u32,
+    pub length: u32,
+}
+
+/// The large binaries of a record, in the order of their nodes.
+#[derive(Drop)]
+pub struct Larges {
+    items: Vec<LargeAt>,
+}
+
+impl Model for Larges {
+    ghost use Rattle.std.specs.Prelude.{List};
+    ghost use Rattle.newt_entries.specs.declared.row.LargeAt.{LargeAt};
+
+    ghost Value = { List LargeAt };
+
+    ghost view = { λ l. l.items.items };
+}
+
+impl Larges {
+    /// No large binaries. It takes no memory.
+    pub fn none(alloc: Global) -> Self
+        ensures { result ≡ [] }
+    {
+        Larges {
+            items: Vec::new(alloc),
+        }
+    }
+
+    pub fn of(items: Vec<LargeAt>) -> Self
+        ensures { result ≡ items.items }
+    {
+        Larges { items }
+    }
+
+    pub fn list(&self) -> &[LargeAt]
+        ensures { result.now ≡ self.now }
+    {
+        self.items.as_slice()
+    }
+
+    pub fn into_vec(self) -> Vec<LargeAt>
+        ensures { result.items ≡ self }
+    {
+        self.items
+    }
+
+    /// An equal list.
+    pub fn copy(&self) -> Result<Larges, AllocError>
+        ensures { IfOk result (λ copy. copy ≡ self.now) }
+    {
+        Ok(Larges {
+            items: self.items.clone()?,
+        })
+    }
+}
+
+/// An entry's record: the signature of its soup, its id, the minute of its last change, its graph without the bytes of large binaries, and these.
 #[derive(Drop)]
 pub struct EntryRow {
     pub soup: Sig,
     pub uid: Uid,
     pub time: u32,
     pub skeleton: Graph,
+    pub larges: Larges,
 }
 
 impl EntryRow {
@@ -24,6 +87,7 @@ impl EntryRow {
             uid: self.uid,
             time: self.time,
             skeleton: self.skeleton.copy()?,
+            larges: self.larges.copy()?,
         })
     }
 }

@@ -1,7 +1,6 @@
 //! Records in bytes that were spelt by hand, with ample memory.
-use crate::{EntryFault, has_large, read_entry, write_entry};
+use crate::{EntryFault, read_entry, write_entry};
 use newt_base::{Sig, Uid};
-use newt_nsof_read::decode;
 use std::alloc::Global;
 use std::test::*;
 
@@ -17,10 +16,10 @@ fn is_bad(alloc: Global, bytes: &[u8]) -> bool {
 fn is_whole(alloc: Global, bytes: &[u8]) -> Option<(u32, u32, u32)> {
     let read = read_entry(alloc, bytes).ok()?;
     let row = read.copy().ok()?;
-    if has_large(&row.skeleton) || row.soup.0 > 65_535 {
+    if row.soup.0 > 65_535 || row.larges.list().len() > 65_535 {
         return None;
     }
-    let written = write_entry(alloc, row.soup, row.uid, row.time, &row.skeleton).ok()?;
+    let written = write_entry(alloc, &row).ok()?;
     if written.as_slice() != bytes {
         return None;
     }
@@ -33,12 +32,13 @@ fn a_record_is_read_and_written(rt: HostRuntime) -> Result<(), Fail> {
     Ok(())
 }
 
+/// The same entry with a large binary of class `b` in the slot `a`: node 2, object 4, five bytes.
+const WITH_LARGE: &[u8] =
+    b"\x00\x03\x00\x01\x00\x00\x00\x09\x00\x00\x01\x02\x02\x06\x01\x07\x01\x61\x0C\x07\x01b\x00\x00\x00\x00\x00\x00\x00\x00\x00\x00\x00\x00\x00\x00\x00\x00\x00\x00\x00\x02\x00\x00\x00\x04\x00\x00\x00\x05";
+
 #[test]
-fn a_large_binary_is_seen(rt: HostRuntime) -> Result<(), Fail> {
-    let text =
-        b"\x02\x0C\x07\x01b\x00\x00\x00\x00\x01\x00\x00\x00\x00\x00\x00\x00\x00\x00\x00\x00\x00\x05";
-    let graph = decode(rt.alloc(), text).ok().ok_or("a large binary")?;
-    assert!(rt; has_large(&graph));
+fn a_large_binary_is_named(rt: HostRuntime) -> Result<(), Fail> {
+    assert_eq!(rt; is_whole(rt.alloc(), WITH_LARGE), Some((3, 9, 258)));
     Ok(())
 }
 

@@ -1,12 +1,12 @@
 //! Writing an entry record.
-ghost use Rattle.std.specs.Prelude.{◌≡◌, ◌<◌, ◌++◌, [], OnOk, IfOk, IsTrue};
+ghost use Rattle.std.specs.Prelude.{◌≡◌, ◌<◌, ◌++◌, ℕ, List, length, flat_map, OnOk, IfOk};
 ghost use Rattle.newt_base.specs.Text.{be16, be32};
 ghost use Rattle.newt_nsof.specs.Written.{nsof};
 ghost use Rattle.newt_spec_store.specs.Image.{entry_bytes};
-ghost use Rattle.newt_spec_store.specs.Lies.{graph_has_no_large};
+ghost use Rattle.newt_spec_store.specs.Store.{Entry};
+ghost use Rattle.newt_entries.specs.Entry.{large_bytes, AreRowsOf};
 
-use newt_base::{Sig, Uid};
-use newt_graph::Graph;
+use crate::row::{EntryRow, LargeAt};
 use newt_nsof_write::encode;
 use std::alloc::{AllocError, Global};
 
@@ -22,38 +22,48 @@ fn put_32(out: &mut Vec<u8>, number: u32) -> Result<(), AllocError>
     out.extend_from_slice(&number.to_be_bytes())
 }
 
-/// The head of a record, and the written text of a graph.
-fn head_and_text(
-    alloc: Global,
-    soup: Sig,
-    uid: Uid,
-    time: u32,
-    graph: &Graph,
-) -> Result<Vec<u8>, AllocError>
-    requires { soup < 65536 }
-    ensures { IfOk result (λ v. v.items ≡ be16 soup ++ be16 0 ++ be32 uid ++ be32 time ++ nsof graph.now) }
+/// The row of a large binary.
+fn put_large(out: &mut Vec<u8>, large: &LargeAt) -> Result<(), AllocError>
+    ensures { OnOk result (out.new.items ≡ out.old.items ++ large_bytes large.now) }
+{
+    put_32(out, large.node)?;
+    put_32(out, large.object)?;
+    put_32(out, large.length)
+}
+
+/// The rows of large binaries.
+fn put_larges(out: &mut Vec<u8>, larges: &[LargeAt]) -> Result<(), AllocError>
+    ensures { OnOk result (out.new.items ≡ out.old.items ++ flat_map large_bytes larges.now) }
+{
+    for large in larges {
+        put_large(out, large)?;
+    }
+    Ok(())
+}
+
+/// The head of a record, and the written text of its skeleton.
+fn head_and_text(alloc: Global, row: &EntryRow) -> Result<Vec<u8>, AllocError>
+    requires soup { row.now.soup < 65536 }
+    requires few { length row.now.larges < 65536 }
+    ensures { IfOk result (λ v. v.items ≡ be16 row.now.soup ++ be16 (length row.now.larges) ++ be32 row.now.uid ++ be32 row.now.time ++ nsof row.now.skeleton) }
 {
     let mut out = Vec::new(alloc);
-    put_16(&mut out, soup.0 as u16)?;
-    put_16(&mut out, 0)?;
-    put_32(&mut out, uid.0)?;
-    put_32(&mut out, time)?;
-    let text = encode(alloc, graph)?;
+    put_16(&mut out, row.soup.0 as u16)?;
+    put_16(&mut out, row.larges.list().len() as u16)?;
+    put_32(&mut out, row.uid.0)?;
+    put_32(&mut out, row.time)?;
+    let text = encode(alloc, &row.skeleton)?;
     out.extend_from_slice(&text)?;
     Ok(out)
 }
 
-/// The bytes of an entry's record.
-pub fn write_entry(
-    alloc: Global,
-    soup: Sig,
-    uid: Uid,
-    time: u32,
-    graph: &Graph,
-) -> Result<Vec<u8>, AllocError>
-    requires soup { soup < 65536 }
-    requires none_large { IsTrue (graph_has_no_large graph.now) }
-    ensures { IfOk result (λ v. v.items ≡ entry_bytes soup (record { uid = uid; time = time; graph = graph.now }) []) }
+/// The bytes of an entry's record: of the entry that has this skeleton, and whose large binaries have these objects and lengths.
+pub fn write_entry(alloc: Global, row: &EntryRow) -> Result<Vec<u8>, AllocError>
+    requires soup { row.now.soup < 65536 }
+    requires few { length row.now.larges < 65536 }
+    ensures { (e : Entry) (ids : List ℕ) → e.uid ≡ row.now.uid → e.time ≡ row.now.time → AreRowsOf row.now.skeleton row.now.larges e.graph ids → IfOk result (λ v. v.items ≡ entry_bytes row.now.soup e ids) }
 {
-    head_and_text(alloc, soup, uid, time, graph)
+    let mut out = head_and_text(alloc, row)?;
+    put_larges(&mut out, row.larges.list())?;
+    Ok(out)
 }

@@ -386,23 +386,26 @@ all_at_start nodes = record { before = []; later = []; whole = sym (append-nil n
 limited_is : (h : RawGraph) → length h.nodes ≤ 65535 → sum_by payload h.nodes ≤ 16777216 → limited h ≡ Some h
 limited_is h few light = rw (le-leb (length h.nodes) 65535 few, le-leb (sum_by payload h.nodes) 16777216 light) refl
 
-pub form_is_found : (g h : RawGraph) → IsNormalForm g h → normal_form g ≡ Some h
+-- what a walk over the raw nodes meets in this order is their normal form, but for the limits
+pub met_form : (g h : RawGraph) (order : List ℕ) → IsSeenBy order g h → Walk 200 0 h.root h.nodes → normal_form g ≡ limited h
 unfolding normal_form
-form_is_found g h form =
-    let order = form.order in
-    let shows = shows_of g h order form.seen in
-    let distinct = form.seen.once in
-    let met = value_follows form.graph.walk g.nodes h.nodes order shows (all_at_start h.nodes) in
+met_form g h order seen walk =
+    let shows = shows_of g h order seen in
+    let distinct = seen.once in
+    let met = value_follows walk g.nodes h.nodes order shows (all_at_start h.nodes) in
     let whole : take (0 + length h.nodes) order ≡ order = take_all (0 + length h.nodes) order (omega (arith, shows.size)) in
     let found : meet g.nodes 200 (start g) g.root ≡ Some (record { order = order; count = length g.nodes }) =
     subst (λ (o : List ℕ). meet g.nodes 200 (start g) g.root ≡ Some (record { order = o; count = length g.nodes })) whole
-    (subst (λ (r : Ref). meet g.nodes 200 (start g) r ≡ Some (met_at g.nodes order (0 + length h.nodes))) form.seen.root met) in
-    let below = value_below form.graph.walk (length order) (omega (arith, shows.size)) in
-    let nodes : moved g.nodes order order ≡ h.nodes = nodes_forth g.nodes order distinct h.nodes order below.nodes form.seen.nodes in
+    (subst (λ (r : Ref). meet g.nodes 200 (start g) r ≡ Some (met_at g.nodes order (0 + length h.nodes))) seen.root met) in
+    let below = value_below walk (length order) (omega (arith, shows.size)) in
+    let nodes : moved g.nodes order order ≡ h.nodes = nodes_forth g.nodes order distinct h.nodes order below.nodes seen.nodes in
     let root : renamed_ref (number order) g.root ≡ h.root =
-    ap (renamed_ref (number order)) (sym form.seen.root) ∙ ref_forth order distinct h.root (All-head (RefBelow (length order)) h.root [] below.each) in
+    ap (renamed_ref (number order)) (sym seen.root) ∙ ref_forth order distinct h.root (All-head (RefBelow (length order)) h.root [] below.each) in
     let same : numbered g (record { order = order; count = length g.nodes }) ≡ h = rw (nodes, root) refl in
-    rw found (ap limited same ∙ limited_is h form.graph.few form.graph.light)
+    rw found (ap limited same)
+
+pub form_is_found : (g h : RawGraph) → IsNormalForm g h → normal_form g ≡ Some h
+form_is_found g h form = met_form g h form.order form.seen form.graph.walk ∙ limited_is h form.graph.few form.graph.light
 
 pub one_form : (g h k : RawGraph) → IsNormalForm g h → IsNormalForm g k → h ≡ k
 one_form g h k a b = some_is (sym (form_is_found g h a) ∙ form_is_found g k b)
@@ -461,16 +464,19 @@ counted_distinct n i j d lt within e =
     let same : 0 + i ≡ 0 + j = sym a ∙ (e ∙ b) in
     omega (arith, same, lt)
 
-pub own_form : (h : RawGraph) → IsGraph h → IsNormalForm h h
-own_form h graph =
+own_seen : (h : RawGraph) → Walk 200 0 h.root h.nodes → IsSeenBy (counted (length h.nodes)) h h
+own_seen h walk =
     let n = length h.nodes in
-    let below = value_below graph.walk n (omega arith) in
+    let below = value_below walk n (omega arith) in
     record {
-      order = counted n;
-      seen = record {
-        root = ref_same n h.root (All-head (RefBelow n) h.root [] below.each);
-        nodes = nodes_same n h.nodes [] h.nodes refl below.nodes;
-        once = counted_distinct n;
-      };
-      graph = graph;
+      root = ref_same n h.root (All-head (RefBelow n) h.root [] below.each);
+      nodes = nodes_same n h.nodes [] h.nodes refl below.nodes;
+      once = counted_distinct n;
     }
+
+pub own_form : (h : RawGraph) → IsGraph h → IsNormalForm h h
+own_form h graph = record { order = counted (length h.nodes); seen = own_seen h graph.walk; graph = graph }
+
+-- a graph whose nodes stand in the order of its walk is its own normal form, but for the limits
+pub walked_form : (h : RawGraph) → Walk 200 0 h.root h.nodes → normal_form h ≡ limited h
+walked_form h walk = met_form h h (counted (length h.nodes)) (own_seen h walk) walk

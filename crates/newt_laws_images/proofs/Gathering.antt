@@ -19,9 +19,8 @@ use Rattle.newt_spec_store.specs.Store.{Store}
 use Rattle.newt_spec_store.specs.StoreOf.{store_of}
 use Rattle.newt_laws_images.proofs.Again.{found-test}
 use Rattle.newt_laws_images.proofs.Finite.{entry-get, get-entry}
-use Rattle.newt_laws_images.proofs.Made.{Both}
+use Rattle.newt_laws_images.proofs.Both.{Both, every-both}
 use Rattle.newt_laws_images.proofs.OneStore.{objects-same, first-part}
-use Rattle.newt_laws_images.proofs.Parts.{every-both}
 
 -- ---- lists
 

@@ -1,5 +1,5 @@
--- A store without large binaries that was read: its directory, and one record for each of its entries.
-use Rattle.std.proofs.Common.{arith, ◌≡◌, refl, ap, sym, ◌∙◌, subst, ℕ, zero, suc, ◌%◌, ◌<◌, List, [], ◌∷◌, ◌++◌, true, false, Bool, ◌&&◌, ◌||◌, ◌⊎◌, inl, inr, cond, Option, Some, None, option_and_then, map, filter, flat_map, ◌==◌}
+-- A store that was read: its directory, one record for each of its entries, and the objects that these name.
+use Rattle.std.proofs.Common.{arith, ◌≡◌, ◌≢◌, not, refl, ap, sym, ◌∙◌, subst, ℕ, zero, suc, ◌%◌, ◌<◌, List, [], ◌∷◌, ◌++◌, true, false, Bool, ◌&&◌, ◌||◌, ◌⊎◌, inl, inr, cond, Option, Some, None, option_and_then, map, filter, flat_map, ◌==◌}
 use Rattle.std.specs.List.{list_all, list_any}
 use Rattle.std.specs.FinMap as map
 use Rattle.std.proofs.lemmas.Bool.{eqb-true, eq-eqb, and_parts, or_cases}
@@ -7,21 +7,22 @@ use Rattle.newt_base.specs.Names.{equal_text}
 use Rattle.newt_graph.specs.Graph.{RawGraph}
 use Rattle.newt_image.specs.Objects.{Objects as Texts}
 use Rattle.newt_spec_graph.specs.Lists.{Each, Pairs, Among, rises, all_apart}
-use Rattle.newt_spec_graph.proofs.Lists.{each-at, each-from, each-list_all, some-same, none-some, pairs-more, pairs-map, among-filter, filter-among, rises-pairs}
+use Rattle.newt_spec_graph.proofs.Lists.{each-at, each-from, each-list_all, some-same, none-some, pairs-more, pairs-map, among-left, among-right, among-filter, filter-among, among-flat_map, flat_map-among, rises-pairs}
 use Rattle.newt_spec_store.specs.Laid.{ApartIds, bare}
-use Rattle.newt_spec_store.specs.Lies.{IsIn, graph_has_no_large, has_no_large, directory_read, only}
+use Rattle.newt_spec_store.specs.Lies.{IsIn, directory_read, only}
 use Rattle.newt_spec_store.specs.Reading.{Take, ◌>>=◌, give, text, number, counted, part, tags_of, times, soup, whole, directory}
 use Rattle.newt_spec_store.specs.Sorted.{sorted_by}
 use Rattle.newt_spec_store.specs.Store.{Entry, Soup, Store}
 use Rattle.newt_spec_store.specs.StoreOf.{EntryRow, LargeRow, entry_row, entry_of_row, with_entries, in_a_soup}
 use Rattle.newt_spec_store.specs.Valid.{well_formed, fits, valid_soup, valid_entry}
-use Rattle.newt_laws_images.specs.Found.{HasGiven}
+use Rattle.newt_laws_images.specs.Found.{HasGiven, ids_in, ids_named}
 use Rattle.newt_laws_images.proofs.Assembled.{map-among, among-map, chosen, uid_cmp_of}
 use Rattle.newt_laws_images.proofs.Finite.{object-get, get-entry}
-use Rattle.newt_laws_images.proofs.Made.{Both, both-left, both-pairs, built, in-sorted, odds, all-map, map-length, map-kept}
-use Rattle.newt_laws_images.proofs.Parts.{every-both, both-flip, both-join, both-more, apart-from, sort-back, IsReading}
-use Rattle.newt_laws_images.proofs.Placed.{its-id, its-plain, its-soup}
-use Rattle.newt_laws_images.proofs.Plain.{plain-row, ReadAs, read-same}
+use Rattle.newt_laws_images.proofs.Both.{Both, both-left, both-pairs, every-both, both-flip, both-join, both-more}
+use Rattle.newt_laws_images.proofs.Made.{built, in-sorted, odds, all-map, map-length, map-kept}
+use Rattle.newt_laws_images.proofs.Parts.{apart-from, sort-back, IsReading}
+use Rattle.newt_laws_images.proofs.Placed.{its-id, its-soup}
+use Rattle.newt_laws_images.proofs.Rows.{row-of, ReadAs, read-same}
 use Rattle.newt_laws_images.proofs.Read.{bare_soup}
 use Rattle.newt_laws_images.proofs.Spelt.{whole-parts}
 use Rattle.newt_laws_images.proofs.Stores.{is-store, store-is, is-soup, soup-is}
@@ -117,17 +118,67 @@ pairs-two R (x ∷ xs) a b h (inl e) (inr n) k = inl (subst (λ v. R v b) e (eac
 pairs-two R (x ∷ xs) a b h (inr m) (inl f) k = inr (subst (λ v. R v a) f (each-at (R x) xs a h.0 m))
 pairs-two R (x ∷ xs) a b h (inr m) (inr n) k = pairs-two R xs a b h.1 m n k
 
-none-flat : (rows : List EntryRow) → Each (λ (r : EntryRow). r.larges ≡ []) rows → flat_map (λ (r : EntryRow). map (λ (l : LargeRow). l.1) r.larges) rows ≡ []
-none-flat [] h = refl
-none-flat (r ∷ rows) h = ap {A = List LargeRow} {B = List ℕ} (λ ls. map (λ (l : LargeRow). l.1) ls ++ flat_map (λ (r : EntryRow). map (λ (l : LargeRow). l.1) r.larges) rows) h.0 ∙ none-flat rows h.1
+-- no two elements of joined lists agree, so none is in two of them
+pairs-parts : {X : Type 0} (R : X → X → Type 0) (xs ys : List X) → Pairs R (xs ++ ys) → Pairs R xs × Pairs R ys × ((a b : X) → Among xs a → Among ys b → R a b)
+pairs-parts R [] ys h = (tt, h, λ a b m n. absurd m)
+pairs-parts {X} R (x ∷ xs) ys h =
+    let r = pairs-parts R xs ys h.1 in
+    ((each-from (R x) xs (λ z m. each-at (R x) (xs ++ ys) z h.0 (among-left xs ys z m)), r.0), r.1, across r.2)
+  where
+    across : ((a b : X) → Among xs a → Among ys b → R a b) → (a b : X) → Among (x ∷ xs) a → Among ys b → R a b
+    across more a b (inl e) n = subst (λ v. R v b) e (each-at (R x) (xs ++ ys) b h.0 (among-right xs ys b n))
+    across more a b (inr m) n = more a b m n
+
+flat-pairs : {X Y : Type 0} (R : Y → Y → Type 0) (f : X → List Y) (xs : List X) (x : X) → Pairs R (flat_map f xs) → Among xs x → Pairs R (f x)
+flat-pairs R f [] x h m = absurd m
+flat-pairs R f (y ∷ xs) x h (inl e) = subst (λ v. Pairs R (f v)) e (pairs-parts R (f y) (flat_map f xs) h).0
+flat-pairs R f (y ∷ xs) x h (inr m) = flat-pairs R f xs x (pairs-parts R (f y) (flat_map f xs) h).1 m
+
+flat-once : {X Y : Type 0} (f : X → List Y) (xs : List X) (x y : X) (z : Y) → Pairs (λ a b. a ≢ b) (flat_map f xs) → Among xs x → Among xs y → Among (f x) z → Among (f y) z → x ≡ y
+flat-once f [] x y z h m n k l = absurd m
+flat-once f (v ∷ xs) x y z h (inl e) (inl g) k l = sym e ∙ g
+flat-once f (v ∷ xs) x y z h (inl e) (inr n) k l =
+    absurd ((pairs-parts (λ a b. a ≢ b) (f v) (flat_map f xs) h).2 z z (subst (λ u. Among (f u) z) (sym e) k) (flat_map-among f xs y z n l) refl)
+flat-once f (v ∷ xs) x y z h (inr m) (inl g) k l =
+    absurd ((pairs-parts (λ a b. a ≢ b) (f v) (flat_map f xs) h).2 z z (subst (λ u. Among (f u) z) (sym g) l) (flat_map-among f xs x z m k) refl)
+flat-once f (v ∷ xs) x y z h (inr m) (inr n) k l = flat-once f xs x y z (pairs-parts (λ a b. a ≢ b) (f v) (flat_map f xs) h).1 m n k l
+
+any-not : {X : Type 0} (test : X → Bool) (xs : List X) (x : X) → not (list_any test xs) ≡ true → Among xs x → test x ≡ true → ⊥
+any-not test [] x h m t = absurd m
+any-not test (y ∷ xs) x h (inl e) t = no (test y) (list_any test xs) h (ap test e ∙ t)
+  where
+    no : (a b : Bool) → not (a || b) ≡ true → a ≡ true → ⊥
+    no true b h k = cc
+    no false b h k = cc
+any-not test (y ∷ xs) x h (inr m) t = any-not test xs x (rest (test y) (list_any test xs) h) m t
+  where
+    rest : (a b : Bool) → not (a || b) ≡ true → not b ≡ true
+    rest true b h = cc
+    rest false b h = h
+
+apart-pairs : (ns : List ℕ) → all_apart (λ a b. a == b) ns ≡ true → Pairs (λ a b. a ≢ b) ns
+apart-pairs [] h = tt
+apart-pairs (n ∷ ns) h =
+    let r = and_parts (not (list_any (λ m. n == m) ns)) (all_apart (λ a b. a == b) ns) h in
+    (each-from (λ m. n ≢ m) ns (λ m k e. any-not (λ m. n == m) ns m r.0 k (eq-eqb n m e)), apart-pairs ns r.1)
+
+-- the ids that objects with odd ids name
+abbrev names_of : List (ℕ × List ℕ) → List ℕ
+names_of os = flat_map (λ (o : ℕ × List ℕ). ids_named o.1) os
+
+rows-named : (os : List (ℕ × List ℕ)) (rows : List EntryRow) → Both (λ o row. entry_row o.1 ≡ Some row) os rows
+    → flat_map (λ (r : EntryRow). map (λ (l : LargeRow). l.1) r.larges) rows ≡ names_of os
+rows-named [] [] h = refl
+rows-named [] (r ∷ rows) h = absurd h
+rows-named (o ∷ os) [] h = absurd h
+rows-named (o ∷ os) (r ∷ rows) h = λ i. ids_in (sym h.0 i) ++ rows-named os rows h.1 i
 
 -- ---- the parts of a reading
 
 -- the object is the record of this entry, which is of a soup that is there
-pub record IsEntryIn (graph_of : List ℕ → Option RawGraph) (d : Store) (o : ℕ × List ℕ) (x : ℕ × Entry) : Type 0 where
+pub record IsEntryIn (graph_of : List ℕ → Option RawGraph) (objects : Texts) (d : Store) (o : ℕ × List ℕ) (x : ℕ × Entry) : Type 0 where
   pub odd : o.0 % 2 ≡ 1
-  pub read : ReadAs graph_of o.1 x.0 x.1
-  pub no_large : graph_has_no_large x.1.graph ≡ true
+  pub read : ReadAs graph_of objects o.1 x.0 x.1
   pub given : HasGiven d x.0 x.1.uid
 
 module _ (graph_of : List ℕ → Option RawGraph) (objects : Texts) (blocks : ℕ) (s : Store) (r : IsReading graph_of (map.entries objects) blocks s) where
@@ -187,67 +238,70 @@ module _ (graph_of : List ℕ → Option RawGraph) (objects : Texts) (blocks : �
   pub read-apart : Pairs ApartIds r.es
   read-apart = apart-from r.es (λ sig. soup-apart sig (chosen sig r.es) refl)
 
-  module _ (none : has_no_large s ≡ true) where
-    read-plain-entry : (x : ℕ × Entry) → Among r.es x → graph_has_no_large x.1.graph ≡ true
-    read-plain-entry x m = its-plain s x.0 x.1 none (read-in x m)
+  abbrev RowOf : ℕ × List ℕ → EntryRow → Type 0
+  RowOf o row = entry_row o.1 ≡ Some row
 
-    abbrev RowOf : ℕ × List ℕ → EntryRow → Type 0
-    RowOf o row = entry_row o.1 ≡ Some row
+  abbrev EntryOf : EntryRow → ℕ × Entry → Type 0
+  EntryOf row x = entry_of_row graph_of (map.entries objects) row ≡ Some x
 
-    abbrev EntryOf : EntryRow → ℕ × Entry → Type 0
-    EntryOf row x = entry_of_row graph_of (map.entries objects) row ≡ Some x
+  rows-read : Both RowOf (odds objects) r.rows
+  rows-read = every-both (λ (o : ℕ × List ℕ). entry_row o.1) (odds objects) r.rows r.are_rows
 
-    rows-read : Both RowOf (odds objects) r.rows
-    rows-read = every-both (λ (o : ℕ × List ℕ). entry_row o.1) (odds objects) r.rows r.are_rows
+  entries-read : Both EntryOf r.rows r.es
+  entries-read = every-both (entry_of_row graph_of (map.entries objects)) r.rows r.es r.are_entries
 
-    entries-read : Both EntryOf r.rows r.es
-    entries-read = every-both (entry_of_row graph_of (map.entries objects)) r.rows r.es r.are_entries
+  pub all-read : Both (IsEntryIn graph_of objects r.d) (odds objects) r.es
+  all-read = both-more (λ (o : ℕ × List ℕ) (x : ℕ × Entry). (row : EntryRow) × RowOf o row × EntryOf row x) (IsEntryIn graph_of objects r.d) (odds objects) r.es
+      (λ o x m n k. record {
+        odd = eqb-true (o.0 % 2) 1 (among-filter (λ (o : ℕ × List ℕ). o.0 % 2 == 1) (map.entries objects) o m).1;
+        read = record { row = k.0; is_row = k.1; of_row = row-of graph_of (map.entries objects) k.0 x.0 x.1 k.2; is_valid = entry-good x n };
+        given = read-given x n;
+      })
+      (both-join RowOf EntryOf (λ o x. (row : EntryRow) × RowOf o row × EntryOf row x) (λ o row x a b. (row, a, b)) (odds objects) r.rows r.es rows-read entries-read)
 
-    pub all-read : Both (IsEntryIn graph_of r.d) (odds objects) r.es
-    all-read = both-more (λ (o : ℕ × List ℕ) (x : ℕ × Entry). (row : EntryRow) × RowOf o row × EntryOf row x) (IsEntryIn graph_of r.d) (odds objects) r.es
-        (λ o x m n k. record {
-          odd = eqb-true (o.0 % 2) 1 (among-filter (λ (o : ℕ × List ℕ). o.0 % 2 == 1) (map.entries objects) o m).1;
-          read = record { row = k.0; is_row = k.1; plain = plain-row graph_of (map.entries objects) k.0 x.0 x.1 k.2 (read-plain-entry x n); is_valid = entry-good x n };
-          no_large = read-plain-entry x n;
-          given = read-given x n;
-        })
-        (both-join RowOf EntryOf (λ o x. (row : EntryRow) × RowOf o row × EntryOf row x) (λ o row x a b. (row, a, b)) (odds objects) r.rows r.es rows-read entries-read)
+  -- ---- what the records name
 
-    no-names : Each (λ (row : EntryRow). row.larges ≡ []) r.rows
-    no-names = each-from (λ (row : EntryRow). row.larges ≡ []) r.rows (λ row m.
-        let k = both-left EntryOf r.rows r.es row entries-read m in
-        (plain-row graph_of (map.entries objects) row k.0.0 k.0.1 k.2 (read-plain-entry k.0 k.1)).none)
+  named-parts : (all_apart (λ a b. a == b) (names_of (odds objects)) ≡ true) × (list_all (λ (o : ℕ × List ℕ). (o.0 % 2 == 1) || (o.0 == 0) || list_any (λ n. n == o.0) (names_of (odds objects))) (map.entries objects) ≡ true)
+  named-parts = and_parts _ _ (subst (λ ns. (all_apart (λ a b. a == b) ns && list_all (λ (o : ℕ × List ℕ). (o.0 % 2 == 1) || (o.0 == 0) || list_any (λ n. n == o.0) ns) (map.entries objects)) ≡ true)
+      (rows-named (odds objects) r.rows rows-read) r.named)
 
-    pub all-odd : (id : ℕ) (bytes : List ℕ) → map.get objects id ≡ Some bytes → (id ≡ 0 → ⊥) → id % 2 ≡ 1
-    all-odd id bytes there n =
-        let named : (all_apart (λ a b. a == b) (flat_map (λ (r : EntryRow). map (λ (l : LargeRow). l.1) r.larges) r.rows)
-        && list_all (λ (o : ℕ × List ℕ). (o.0 % 2 == 1) || (o.0 == 0) || list_any (λ n. n == o.0) (flat_map (λ (r : EntryRow). map (λ (l : LargeRow). l.1) r.larges) r.rows)) (map.entries objects)) ≡ true = r.named in
-        let all = (and_parts true _ (subst (λ ns. (all_apart (λ a b. a == b) ns && list_all (λ (o : ℕ × List ℕ). (o.0 % 2 == 1) || (o.0 == 0) || list_any (λ n. n == o.0) ns) (map.entries objects)) ≡ true) (none-flat r.rows no-names) named)).1 in
-        odd-of id n (each-at (λ (o : ℕ × List ℕ). ((o.0 % 2 == 1) || (o.0 == 0) || false) ≡ true) (map.entries objects) (id, bytes) (each-list_all _ (map.entries objects) all) (get-entry objects id bytes there))
-      where
-        odd-of : (id : ℕ) → (id ≡ 0 → ⊥) → ((id % 2 == 1) || (id == 0) || false) ≡ true → id % 2 ≡ 1
-        odd-of id n h = go (or_cases ((id % 2 == 1) || (id == 0)) false h)
-          where
-            last : (id % 2 == 1) ≡ true ⊎ (id == 0) ≡ true → id % 2 ≡ 1
-            last (inl e) = eqb-true (id % 2) 1 e
-            last (inr e) = absurd (n (eqb-true id 0 e))
+  pub names-apart : Pairs (λ a b. a ≢ b) (names_of (odds objects))
+  names-apart = apart-pairs (names_of (odds objects)) named-parts.0
 
-            go : (((id % 2 == 1) || (id == 0)) ≡ true) ⊎ (false ≡ true) → id % 2 ≡ 1
-            go (inl e) = last (or_cases (id % 2 == 1) (id == 0) e)
-            go (inr e) = cc
+  -- one record names each object, and it names it once
+  pub named-once : (a b : ℕ × List ℕ) (o : ℕ) → Among (odds objects) a → Among (odds objects) b → Among (ids_named a.1) o → Among (ids_named b.1) o → a ≡ b
+  named-once a b o m n k l = flat-once (λ (o : ℕ × List ℕ). ids_named o.1) (odds objects) a b o names-apart m n k l
 
-    -- the entry of an object
-    pub of-object : (id : ℕ) (bytes : List ℕ) → map.get objects id ≡ Some bytes → (id ≡ 0 → ⊥) → (x : ℕ × Entry) × Among r.es x × IsEntryIn graph_of r.d (id, bytes) x
-    of-object id bytes there n = both-left (IsEntryIn graph_of r.d) (odds objects) r.es (id, bytes) all-read
-        (filter-among (λ (o : ℕ × List ℕ). o.0 % 2 == 1) (map.entries objects) (id, bytes) (get-entry objects id bytes there) (eq-eqb (id % 2) 1 (all-odd id bytes there n)))
+  pub named-apart : (a : ℕ × List ℕ) → Among (odds objects) a → Pairs (λ a b. a ≢ b) (ids_named a.1)
+  named-apart a m = flat-pairs (λ a b. a ≢ b) (λ (o : ℕ × List ℕ). ids_named o.1) (odds objects) a names-apart m
 
-    -- two records are of two entries
-    abbrev pub Differ : ℕ × List ℕ → ℕ × List ℕ → Type 0
-    Differ a b = (x y : ℕ × Entry) → ReadAs graph_of a.1 x.0 x.1 → ReadAs graph_of b.1 y.0 y.1 → ApartIds x y
+  pub even-named : (id : ℕ) (bytes : List ℕ) → map.get objects id ≡ Some bytes → (id ≡ 0 → ⊥) → id % 2 ≡ 0 → (o : ℕ × List ℕ) × Among (odds objects) o × Among (ids_named o.1) id
+  even-named id bytes there n even =
+      go (or_cases ((id % 2 == 1) || (id == 0)) _ (each-at (λ (o : ℕ × List ℕ). ((o.0 % 2 == 1) || (o.0 == 0) || list_any (λ n. n == o.0) (names_of (odds objects))) ≡ true) (map.entries objects) (id, bytes)
+      (each-list_all _ (map.entries objects) named-parts.1) (get-entry objects id bytes there)))
+    where
+      no : ((id % 2 == 1) ≡ true) ⊎ ((id == 0) ≡ true) → ⊥
+      no (inl e) = let odd = eqb-true (id % 2) 1 e in omega (arith, odd, even)
+      no (inr e) = n (eqb-true id 0 e)
 
-    pub records-differ : Pairs Differ (odds objects)
-    records-differ = both-pairs (λ (x : ℕ × Entry) (o : ℕ × List ℕ). IsEntryIn graph_of r.d o x) ApartIds Differ
-        (λ x y a b p q apart v u h k soup uid. apart
-        (ap {A = ℕ × Entry} {B = ℕ} (λ z. z.0) (read-same graph_of a.1 x.0 v.0 x.1 v.1 p.read h) ∙ soup ∙ ap {A = ℕ × Entry} {B = ℕ} (λ z. z.0) (sym (read-same graph_of b.1 y.0 u.0 y.1 u.1 q.read k)))
-        (ap {A = ℕ × Entry} {B = ℕ} (λ z. z.1.uid) (read-same graph_of a.1 x.0 v.0 x.1 v.1 p.read h) ∙ uid ∙ ap {A = ℕ × Entry} {B = ℕ} (λ z. z.1.uid) (sym (read-same graph_of b.1 y.0 u.0 y.1 u.1 q.read k))))
-        r.es (odds objects) (both-flip (IsEntryIn graph_of r.d) (odds objects) r.es all-read) read-apart
+      go : (((id % 2 == 1) || (id == 0)) ≡ true) ⊎ (list_any (λ n. n == id) (names_of (odds objects)) ≡ true) → (o : ℕ × List ℕ) × Among (odds objects) o × Among (ids_named o.1) id
+      go (inl e) = absurd (no (or_cases (id % 2 == 1) (id == 0) e))
+      go (inr e) =
+          let k = any-among (λ n. n == id) (names_of (odds objects)) e in
+          among-flat_map (λ (o : ℕ × List ℕ). ids_named o.1) (odds objects) id (subst (Among (names_of (odds objects))) (eqb-true k.0 id k.2) k.1)
+
+  -- the entry of a record
+  pub of-object : (id : ℕ) (bytes : List ℕ) → map.get objects id ≡ Some bytes → id % 2 ≡ 1 → (x : ℕ × Entry) × Among r.es x × IsEntryIn graph_of objects r.d (id, bytes) x
+  of-object id bytes there odd = both-left (IsEntryIn graph_of objects r.d) (odds objects) r.es (id, bytes) all-read
+      (filter-among (λ (o : ℕ × List ℕ). o.0 % 2 == 1) (map.entries objects) (id, bytes) (get-entry objects id bytes there) (eq-eqb (id % 2) 1 odd))
+
+  -- two records are of two entries
+  abbrev pub Differ : ℕ × List ℕ → ℕ × List ℕ → Type 0
+  Differ a b = (x y : ℕ × Entry) → ReadAs graph_of objects a.1 x.0 x.1 → ReadAs graph_of objects b.1 y.0 y.1 → ApartIds x y
+
+  pub records-differ : Pairs Differ (odds objects)
+  records-differ = both-pairs (λ (x : ℕ × Entry) (o : ℕ × List ℕ). IsEntryIn graph_of objects r.d o x) ApartIds Differ
+      (λ x y a b p q apart v u h k soup uid. apart
+      (ap {A = ℕ × Entry} {B = ℕ} (λ z. z.0) (read-same graph_of objects a.1 x.0 v.0 x.1 v.1 p.read h) ∙ soup ∙ ap {A = ℕ × Entry} {B = ℕ} (λ z. z.0) (sym (read-same graph_of objects b.1 y.0 u.0 y.1 u.1 q.read k)))
+      (ap {A = ℕ × Entry} {B = ℕ} (λ z. z.1.uid) (read-same graph_of objects a.1 x.0 v.0 x.1 v.1 p.read h) ∙ uid ∙ ap {A = ℕ × Entry} {B = ℕ} (λ z. z.1.uid) (sym (read-same graph_of objects b.1 y.0 u.0 y.1 u.1 q.read k))))
+      r.es (odds objects) (both-flip (IsEntryIn graph_of objects r.d) (odds objects) r.es all-read) read-apart

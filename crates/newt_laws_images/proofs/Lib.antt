@@ -5,7 +5,12 @@ pub mod Assembled
 pub mod OneStore
 pub mod Finite
 pub mod Spelt
-pub mod Plain
+pub mod Both
+pub mod Alike
+pub mod Skeletons
+pub mod Filled
+pub mod Rows
+pub mod Alone
 pub mod Placed
 pub mod Whole
 pub mod Totals

@@ -1,5 +1,5 @@
--- A directory and records of entries of its soups make a store, which lies in their objects.
-use Rattle.std.proofs.Common.{arith, ◌≡◌, refl, ap, sym, ◌∙◌, subst, ℕ, ◌+◌, ◌%◌, ◌<◌, ◌≤◌, List, [], ◌∷◌, ◌++◌, true, Bool, ◌⊎◌, inl, inr, Option, Some, map, filter, flat_map, length, ◌==◌}
+-- A directory, records of entries of its soups and the objects that they name make a store, which lies in these objects.
+use Rattle.std.proofs.Common.{arith, ◌≡◌, ◌≢◌, refl, ap, sym, ◌∙◌, subst, ℕ, zero, suc, ◌+◌, ◌%◌, ◌<◌, ◌≤◌, List, [], ◌∷◌, ◌++◌, true, Bool, ◌⊎◌, inl, inr, Option, Some, map, filter, flat_map, zip, length, ◌==◌}
 use Rattle.std.specs.List.{list_all}
 use Rattle.std.specs.FinMap as map
 use Rattle.std.specs.Ordering.{nat_cmp}
@@ -12,64 +12,30 @@ use Rattle.newt_graph.specs.Graph.{RawGraph}
 use Rattle.newt_image.specs.Objects.{Objects as Texts}
 use Rattle.newt_nsof.specs.Text.{AreBytes}
 use Rattle.newt_nsof.specs.Written.{nsof}
+use Rattle.newt_nsof.specs.Lengths.{skeleton}
 use Rattle.newt_spec_graph.specs.Lists.{Each, Pairs, Among, rises, all_apart}
 use Rattle.newt_spec_graph.proofs.Lists.{each-at, each-from, each-list_all, list_all-each, among-filter, filter-among, some-same, pairs-more, pairs-filter}
 use Rattle.newt_spec_store.proofs.Sorting.{Untied, sorted-rises, among-fold, fold-among}
 use Rattle.newt_spec_store.specs.Cost.{directory_bytes, soup_bytes, text_bytes}
-use Rattle.newt_spec_store.specs.Laid.{ApartIds, bare}
-use Rattle.newt_spec_store.specs.Lies.{LiesIn, Places, IsIn, ReadsGraphs, directory_read, graph_has_no_large, has_no_large}
+use Rattle.newt_spec_store.specs.Image.{larges, entry_bytes}
+use Rattle.newt_spec_store.specs.Laid.{ApartIds, IsThere, bare}
+use Rattle.newt_spec_store.specs.Lies.{LiesIn, Places, IsIn, HasLarge, AreLarges, ReadsGraphs, directory_read}
 use Rattle.newt_spec_store.specs.Reading.{whole, directory}
 use Rattle.newt_spec_store.specs.Sorted.{sorted_by}
 use Rattle.newt_spec_store.specs.Store.{Entry, Soup, Store}
-use Rattle.newt_spec_store.specs.StoreOf.{with_entries}
+use Rattle.newt_spec_store.specs.StoreOf.{LargeRow, with_entries}
 use Rattle.newt_spec_store.specs.Valid.{well_formed, valid_soup, valid_entry}
-use Rattle.newt_laws_images.specs.Found.{HasGiven, IsFound}
+use Rattle.newt_laws_images.specs.Found.{HasGiven, IsFound, ids_in, ids_named}
 use Rattle.newt_laws_images.proofs.Assembled.{among-map, map-among, one-sig, chosen, chosen-apart, uid_cmp_of, uid_total, tied-same, less-rise}
-use Rattle.newt_laws_images.proofs.Finite.{entries-rising, entry-get, get-entry}
+use Rattle.newt_laws_images.proofs.Both.{Both, both-from, both-left, both-right, both-pairs}
+use Rattle.newt_laws_images.proofs.Finite.{object-get, entries-rising, entry-get, get-entry}
 use Rattle.newt_laws_images.proofs.Placed.{soups-rise}
-use Rattle.newt_laws_images.proofs.Plain.{ReadAs, read-as, read-plain, read-same, bytes-are, only-parts}
+use Rattle.newt_laws_images.proofs.Rows.{ids_of, ReadAs, read-as, read-same, bytes-are, only-parts}
 use Rattle.newt_laws_images.proofs.Read.{bare_soup, directory-back}
 use Rattle.newt_laws_images.proofs.Spelt.{Small, directory-spelt}
 use Rattle.newt_laws_images.proofs.Stores.{is-store, store-is, is-soup, soup-is}
 
 -- ---- lists
-
--- the elements of two lists, one of each, are related
-abbrev pub Both : {X Y : Type 0} → (X → Y → Type 0) → List X → List Y → Type 0
-Both R [] [] = Unit {0}
-Both R (x ∷ xs) (y ∷ ys) = R x y × Both R xs ys
-Both R [] (y ∷ ys) = ⊥
-Both R (x ∷ xs) [] = ⊥
-
-pub both-from : {X Y : Type 0} (R : X → Y → Type 0) (xs : List X) → Each (λ x. (y : Y) × R x y) xs → (ys : List Y) × Both R xs ys
-both-from R [] h = ([], tt)
-both-from R (x ∷ xs) h = let r = both-from R xs h.1 in (h.0.0 ∷ r.0, (h.0.1, r.1))
-
-pub both-left : {X Y : Type 0} (R : X → Y → Type 0) (xs : List X) (ys : List Y) (x : X) → Both R xs ys → Among xs x → (y : Y) × Among ys y × R x y
-both-left R [] ys x h m = absurd m
-both-left R (z ∷ xs) [] x h m = absurd h
-both-left R (z ∷ xs) (y ∷ ys) x h (inl e) = (y, inl refl, subst (λ v. R v y) e h.0)
-both-left R (z ∷ xs) (y ∷ ys) x h (inr m) = let r = both-left R xs ys x h.1 m in (r.0, inr r.1, r.2)
-
-pub both-right : {X Y : Type 0} (R : X → Y → Type 0) (xs : List X) (ys : List Y) (y : Y) → Both R xs ys → Among ys y → (x : X) × Among xs x × R x y
-both-right R [] [] y h m = absurd m
-both-right R [] (z ∷ ys) y h m = absurd h
-both-right R (x ∷ xs) [] y h m = absurd m
-both-right R (x ∷ xs) (z ∷ ys) y h (inl e) = (x, inl refl, subst (R x) e h.0)
-both-right R (x ∷ xs) (z ∷ ys) y h (inr m) = let r = both-right R xs ys y h.1 m in (r.0, inr r.1, r.2)
-
-pub both-pairs : {X Y : Type 0} (R : X → Y → Type 0) (S : X → X → Type 0) (T : Y → Y → Type 0) → ((a b : X) (x y : Y) → R a x → R b y → S a b → T x y)
-    → (xs : List X) (ys : List Y) → Both R xs ys → Pairs S xs → Pairs T ys
-both-pairs R S T f [] [] h k = tt
-both-pairs R S T f [] (y ∷ ys) h k = tt-of h
-  where
-    tt-of : {A : Type 0} → ⊥ → A
-    tt-of b = absurd b
-both-pairs R S T f (x ∷ xs) [] h k = tt
-both-pairs R S T f (x ∷ xs) (y ∷ ys) h k = (
-  each-from (T y) ys (λ z m. let r = both-right R xs ys z h.1 m in f x r.0 y z h.0 r.2 (each-at (S x) xs r.0 k.0 r.1)),
-  both-pairs R S T f xs ys h.1 k.1,
-)
 
 pub map-length : {X Y : Type 0} (f : X → Y) (xs : List X) → length (map f xs) ≡ length xs
 map-length f [] = refl
@@ -105,22 +71,34 @@ small-of (b ∷ bytes) h = (All-head (λ b. b < 256) b bytes h, small-of bytes (
 abbrev pub odds : Texts → List (ℕ × List ℕ)
 odds objects = filter (λ (o : ℕ × List ℕ). o.0 % 2 == 1) (map.entries objects)
 
--- the object is the record of this entry, in its place
-pub record IsEntryOf (graph_of : List ℕ → Option RawGraph) (place : Places) (d : Store) (o : ℕ × List ℕ) (x : ℕ × Entry) : Type 0 where
+-- a number is even or odd
+pub even-or-odd : (n : ℕ) → (n % 2 ≡ 0) ⊎ (n % 2 ≡ 1)
+even-or-odd n = go (n % 2) (omega arith)
+  where
+    go : (m : ℕ) → m < 2 → (m ≡ 0) ⊎ (m ≡ 1)
+    go zero h = inl refl
+    go (suc zero) h = inr refl
+    go (suc (suc m)) h = absurd (omega (arith, h))
+
+-- the object is the record of this entry, in its place, and names these objects
+pub record IsEntryOf (graph_of : List ℕ → Option RawGraph) (objects : Texts) (place : Places) (named : ℕ → List ℕ) (d : Store) (o : ℕ × List ℕ) (x : ℕ × Entry) : Type 0 where
   pub odd : o.0 % 2 ≡ 1
   pub small : Small o.1
-  pub read : ReadAs graph_of o.1 x.0 x.1
-  pub no_large : graph_has_no_large x.1.graph ≡ true
+  pub read : ReadAs graph_of objects o.1 x.0 x.1
   pub given : HasGiven d x.0 x.1.uid
   pub at : place x.0 x.1.uid ≡ Some o.0
+  pub names_are : named o.0 ≡ ids_named o.1
 
--- a directory, and the entries of all other objects, in the order of their ids
-pub record Gathered (graph_of : List ℕ → Option RawGraph) (objects : Texts) (place : Places) (d : Store) (es : List (ℕ × Entry)) : Type 0 where
+-- a directory, and the entries of all records, in the order of the records' ids
+pub record Gathered (graph_of : List ℕ → Option RawGraph) (objects : Texts) (place : Places) (named : ℕ → List ℕ) (d : Store) (es : List (ℕ × Entry)) : Type 0 where
   pub directory : map.get objects 0 ≡ Some (directory_bytes d)
   pub good : well_formed d ≡ true
-  pub others : (id : ℕ) (bytes : List ℕ) → map.get objects id ≡ Some bytes → (id ≡ 0 → ⊥) → id % 2 ≡ 1
-  pub both : Both (IsEntryOf graph_of place d) (odds objects) es
+  pub both : Both (IsEntryOf graph_of objects place named d) (odds objects) es
   pub places : (sig uid id : ℕ) → place sig uid ≡ Some id → (e : Entry) × Among es (sig, e) × (e.uid ≡ uid)
+  pub names : (r o : ℕ) → Among (named r) o → (bytes : List ℕ) × (map.get objects r ≡ Some bytes) × (r % 2 ≡ 1)
+  pub others : (id : ℕ) (bytes : List ℕ) → map.get objects id ≡ Some bytes → (id ≡ 0 → ⊥) → id % 2 ≡ 0 → (r : ℕ) × Among (named r) id
+  pub once : (id other o : ℕ) → Among (named id) o → Among (named other) o → id ≡ other
+  pub apart : (id : ℕ) → Pairs (λ a b. a ≢ b) (named id)
 
 -- ---- the entries of one soup
 
@@ -143,9 +121,25 @@ in-sorted es sig e m = fold-among uid_cmp_of [] (chosen sig es) e (inr (map-amon
 abbrev pub built : (List ℕ → Option RawGraph) → Store → List (ℕ × Entry) → Store
 built graph_of d es = record d { soups = map (with_entries graph_of es) d.soups }
 
-module _ (graph_of : List ℕ → Option RawGraph) (reads : ReadsGraphs graph_of) (objects : Texts) (place : Places) (d : Store) (es : List (ℕ × Entry)) (g : Gathered graph_of objects place d es) where
-  of-entry : (x : ℕ × Entry) → Among es x → (o : ℕ × List ℕ) × Among (odds objects) o × IsEntryOf graph_of place d o x
-  of-entry x m = both-right (IsEntryOf graph_of place d) (odds objects) es x g.both m
+-- what a row names, where its entry is read so
+its-ids : (graph_of : List ℕ → Option RawGraph) (objects : Texts) (bytes : List ℕ) (sig : ℕ) (e : Entry) (r : ReadAs graph_of objects bytes sig e) → ids_named bytes ≡ ids_of r.row.larges
+its-ids graph_of objects bytes sig e r = ap ids_in r.is_row
+
+large-objects : (objects : Texts) (ls : List (ℕ × List ℕ)) (ids : List ℕ) → length ls ≡ length ids → Each (IsThere (map.entries objects)) (zip ls ids) → Each (λ (i : ℕ). i < 4294967296) ids
+    → Each (HasLarge objects) (zip ls ids)
+large-objects objects [] ids h there small = tt
+large-objects objects (l ∷ ls) [] h there small = tt
+large-objects objects (l ∷ ls) (i ∷ ids) h there small =
+    ((there.0.0, there.0.1, small.0, sym (object-get objects i) ∙ there.0.2), large-objects objects ls ids (omega (arith, h)) there.1 small.1)
+
+small-ids : (ls : List LargeRow) → Each (λ (l : LargeRow). l.1 < 4294967296) ls → Each (λ (i : ℕ). i < 4294967296) (ids_of ls)
+small-ids [] h = tt
+small-ids (l ∷ ls) h = (h.0, small-ids ls h.1)
+
+module _ (graph_of : List ℕ → Option RawGraph) (reads : ReadsGraphs graph_of) (objects : Texts) (place : Places) (named : ℕ → List ℕ) (d : Store) (es : List (ℕ × Entry))
+    (g : Gathered graph_of objects place named d es) where
+  of-entry : (x : ℕ × Entry) → Among es x → (o : ℕ × List ℕ) × Among (odds objects) o × IsEntryOf graph_of objects place named d o x
+  of-entry x m = both-right (IsEntryOf graph_of objects place named d) (odds objects) es x g.both m
 
   in-es : (sig : ℕ) (e : Entry) → IsIn (built graph_of d es) sig e → Among es (sig, e)
   in-es sig e is =
@@ -165,7 +159,7 @@ module _ (graph_of : List ℕ → Option RawGraph) (reads : ReadsGraphs graph_of
       }
 
   once : Pairs ApartIds es
-  once = both-pairs (IsEntryOf graph_of place d) (λ (a b : ℕ × List ℕ). a.0 < b.0) ApartIds
+  once = both-pairs (IsEntryOf graph_of objects place named d) (λ (a b : ℕ × List ℕ). a.0 < b.0) ApartIds
       (λ a b x y r s less soup uid. let same : a.0 ≡ b.0 = some-same a.0 b.0 (sym r.at ∙ ap (λ n. place n x.1.uid) soup ∙ ap (place y.0) uid ∙ s.at) in absurd (omega (arith, less, same)))
       (odds objects) es g.both (pairs-filter (λ (a b : ℕ × List ℕ). a.0 < b.0) (λ (o : ℕ × List ℕ). o.0 % 2 == 1) (map.entries objects) (entries-rising objects))
 
@@ -206,32 +200,53 @@ module _ (graph_of : List ℕ → Option RawGraph) (reads : ReadsGraphs graph_of
     soups_fit = all-map valid_soup (with_entries graph_of es) d.soups soup-good;
   })
 
-  pub made-plain : has_no_large (built graph_of d es) ≡ true
-  made-plain = all-map (λ (p : Soup). list_all (λ (e : Entry). graph_has_no_large e.graph) p.entries) (with_entries graph_of es) d.soups (λ p m.
-      list_all-each (λ (e : Entry). graph_has_no_large e.graph) (sorted_by uid_cmp_of (chosen p.sig es)) (each-from _ (sorted_by uid_cmp_of (chosen p.sig es)) (λ e n. (of-entry (p.sig, e) (sorted-in es p.sig e n)).2.no_large)))
-
   pub made-bare : bare (built graph_of d es) ≡ bare d
   made-bare = ap {A = List Soup} {B = Store} (λ ps. record d { soups = ps }) (map-kept bare_soup (with_entries graph_of es) (λ p. refl) d.soups)
 
   directory-kept : directory_bytes (built graph_of d es) ≡ directory_bytes d
   directory-kept = λ i. text_bytes d.name ++ be32 d.sig ++ be16 d.next_soup ++ (map-length (with_entries graph_of es) d.soups i ∷ flat-kept soup_bytes (with_entries graph_of es) (λ p. refl) d.soups i)
 
+  -- the ids that the record of an entry names are those of its row
+  row-names : (o : ℕ × List ℕ) (x : ℕ × Entry) (r : IsEntryOf graph_of objects place named d o x) → named o.0 ≡ ids_of r.read.row.larges
+  row-names o x r = r.names_are ∙ its-ids graph_of objects o.1 x.0 x.1 r.read
+
+  its-larges : (o : ℕ × List ℕ) (x : ℕ × Entry) → IsEntryOf graph_of objects place named d o x → AreLarges objects x.1.graph (named o.0)
+  its-larges o x r =
+      let ids = row-names o x r in
+      let k = r.read.of_row in
+      record {
+        each_named = k.each_named ∙ ap length (sym ids);
+        there = subst (λ (ns : List ℕ). Each (HasLarge objects) (zip (larges x.1.graph) ns)) (sym ids)
+            (large-objects objects (larges x.1.graph) (ids_of r.read.row.larges) k.each_named k.there (small-ids r.read.row.larges (bytes-are graph_of objects o.1 x.0 x.1 r.small r.read).2));
+        apart = g.apart o.0;
+      }
+
+  -- the entry of a record
+  of-record : (id : ℕ) (bytes : List ℕ) → map.get objects id ≡ Some bytes → id % 2 ≡ 1 → (x : ℕ × Entry) × Among es x × IsEntryOf graph_of objects place named d (id, bytes) x
+  of-record id bytes there odd = both-left (IsEntryOf graph_of objects place named d) (odds objects) es (id, bytes) g.both
+      (filter-among (λ (o : ℕ × List ℕ). o.0 % 2 == 1) (map.entries objects) (id, bytes) (get-entry objects id bytes there) (eq-eqb (id % 2) 1 odd))
+
   pub made-lies : LiesIn objects place (built graph_of d es)
   made-lies = record {
+    named = named;
     directory = g.directory ∙ ap Some (sym directory-kept);
     records = λ sig e is. let r = of-entry (sig, e) (in-es sig e is) in (
       r.0.0,
       r.2.at,
       r.2.odd,
-      entry-get objects r.0.0 r.0.1 (among-filter (λ (o : ℕ × List ℕ). o.0 % 2 == 1) (map.entries objects) r.0 r.1).0 ∙ ap Some (bytes-are graph_of r.0.1 sig e r.2.small r.2.read r.2.no_large).0,
+      entry-get objects r.0.0 r.0.1 (among-filter (λ (o : ℕ × List ℕ). o.0 % 2 == 1) (map.entries objects) r.0 r.1).0
+          ∙ ap Some ((bytes-are graph_of objects r.0.1 sig e r.2.small r.2.read).0 ∙ ap (entry_bytes sig e) (sym (row-names r.0 (sig, e) r.2))),
+      its-larges r.0 (sig, e) r.2,
     );
-    only_these = λ id bytes there n.
-        let r = both-left (IsEntryOf graph_of place d) (odds objects) es (id, bytes) g.both
-        (filter-among (λ (o : ℕ × List ℕ). o.0 % 2 == 1) (map.entries objects) (id, bytes) (get-entry objects id bytes there) (eq-eqb (id % 2) 1 (g.others id bytes there n))) in
-        (r.0.0, r.0.1, is-in r.0 r.1, r.2.at);
+    once = g.once;
+    only_these = λ id bytes there n. elim (even-or-odd id) [
+      | inl even ↦ inr (g.others id bytes there n even)
+      | inr odd ↦ let r = of-record id bytes there odd in inl (r.0.0, r.0.1, is-in r.0 r.1, r.2.at)
+    ];
+    names = λ r o m. let n = g.names r o m in let k = of-record r n.0 n.1 n.2 in (k.0.0, k.0.1, is-in k.0 k.1, k.2.at);
     places = λ sig uid id h. let r = g.places sig uid id h in (r.0, is-in (sig, r.0) r.1, r.2);
-    graphs = λ sig e is. let r = of-entry (sig, e) (in-es sig e is) in reads.graphs (nsof e.graph) e.graph r.2.read.plain.reads;
-    times = λ sig e is. let r = of-entry (sig, e) (in-es sig e is) in (bytes-are graph_of r.0.1 sig e r.2.small r.2.read r.2.no_large).1;
+    skeletons = λ sig e is. let r = of-entry (sig, e) (in-es sig e is) in reads.graphs (nsof (skeleton e.graph)) (skeleton e.graph) r.2.read.of_row.reads;
+    times = λ sig e is. let r = of-entry (sig, e) (in-es sig e is) in (bytes-are graph_of objects r.0.1 sig e r.2.small r.2.read).1;
   }
 
 -- ---- from what was found
@@ -239,30 +254,32 @@ module _ (graph_of : List ℕ → Option RawGraph) (reads : ReadsGraphs graph_of
 directory-parts : (bytes : List ℕ) (d : Store) → directory_read bytes ≡ Some d → (whole directory bytes ≡ Some d) × (well_formed d ≡ true)
 directory-parts bytes d h = only-parts well_formed (whole directory bytes) d h
 
-module _ (graph_of : List ℕ → Option RawGraph) (objects : Texts) (place : Places) (d : Store) (f : IsFound graph_of objects place d) where
-  is-entry : (o : ℕ × List ℕ) → Among (odds objects) o → (x : ℕ × Entry) × IsEntryOf graph_of place d o x
+module _ (graph_of : List ℕ → Option RawGraph) (objects : Texts) (place : Places) (named : ℕ → List ℕ) (d : Store) (f : IsFound graph_of objects place named d) where
+  is-entry : (o : ℕ × List ℕ) → Among (odds objects) o → (x : ℕ × Entry) × IsEntryOf graph_of objects place named d o x
   is-entry o m =
       let k = among-filter (λ (o : ℕ × List ℕ). o.0 % 2 == 1) (map.entries objects) o m in
       let odd : o.0 % 2 ≡ 1 = eqb-true (o.0 % 2) 1 k.1 in
-      let r = f.records o.0 o.1 (entry-get objects o.0 o.1 k.0) (λ (z : o.0 ≡ 0). absurd (omega (arith, odd, z))) in
-      ((r.0, r.1), record { odd = odd; small = small-of o.1 r.3.are_bytes; read = read-as graph_of o.1 r.0 r.1 r.3.read; no_large = read-plain graph_of o.1 r.0 r.1 r.3.read; given = r.3.given; at = r.4 })
+      let r = f.records o.0 o.1 (entry-get objects o.0 o.1 k.0) odd in
+      ((r.0, r.1), record { odd = odd; small = small-of o.1 r.2.are_bytes; read = read-as graph_of objects o.1 r.0 r.1 r.2.read; given = r.2.given; at = r.3; names_are = r.4 })
 
-  gathered : (es : List (ℕ × Entry)) × Gathered graph_of objects place d es
+  gathered : (es : List (ℕ × Entry)) × Gathered graph_of objects place named d es
   gathered =
-      let b = both-from (IsEntryOf graph_of place d) (odds objects) (each-from _ (odds objects) is-entry) in
+      let b = both-from (IsEntryOf graph_of objects place named d) (odds objects) (each-from _ (odds objects) is-entry) in
       let k = directory-parts f.directory.0 d f.directory.2 in (
         b.0,
         record {
           directory = f.directory.1 ∙ ap Some (directory-spelt f.directory.0 d (small-of f.directory.0 f.directory.3) k.0);
           good = k.1;
-          others = λ id bytes there n. (f.records id bytes there n).2;
           both = b.1;
           places = λ sig uid id at.
               let p = f.places sig uid id at in
-              let odd : id % 2 ≡ 1 = (f.records id p.0 p.2 p.3).2 in
-              let m = filter-among (λ (o : ℕ × List ℕ). o.0 % 2 == 1) (map.entries objects) (id, p.0) (get-entry objects id p.0 p.2) (eq-eqb (id % 2) 1 odd) in
-              let r = both-left (IsEntryOf graph_of place d) (odds objects) b.0 (id, p.0) b.1 m in
-              (p.1, subst (Among b.0) (read-same graph_of p.0 r.0.0 sig r.0.1 p.1 r.2.read (read-as graph_of p.0 sig p.1 p.4.read)) r.1, p.5);
+              let m = filter-among (λ (o : ℕ × List ℕ). o.0 % 2 == 1) (map.entries objects) (id, p.0) (get-entry objects id p.0 p.2) (eq-eqb (id % 2) 1 p.3) in
+              let r = both-left (IsEntryOf graph_of objects place named d) (odds objects) b.0 (id, p.0) b.1 m in
+              (p.1, subst (Among b.0) (read-same graph_of objects p.0 r.0.0 sig r.0.1 p.1 r.2.read (read-as graph_of objects p.0 sig p.1 p.4.read)) r.1, p.5);
+          names = f.names;
+          others = f.others;
+          once = f.once;
+          apart = f.apart;
         },
       )
 
@@ -271,13 +288,14 @@ module _ (graph_of : List ℕ → Option RawGraph) (objects : Texts) (place : Pl
       let k = directory-parts f.directory.0 d f.directory.2 in
       some-same (bare d) d (sym (directory-back d k.1) ∙ ap (whole directory) (sym (directory-spelt f.directory.0 d (small-of f.directory.0 f.directory.3) k.0)) ∙ k.0)
 
-  pub found-lies : ReadsGraphs graph_of → (s : Store) × LiesIn objects place s × (well_formed s ≡ true) × (has_no_large s ≡ true) × (bare s ≡ d)
+  pub found-lies : ReadsGraphs graph_of → (s : Store) × (lies : LiesIn objects place s) × ((id : ℕ) → lies.named id ≡ named id) × (well_formed s ≡ true) × (bare s ≡ d)
+  unfolding made-lies
   found-lies reads =
       let es = gathered.0 in
       let g = gathered.1 in (
         built graph_of d es,
-        made-lies graph_of reads objects place d es g,
-        made-good graph_of reads objects place d es g,
-        made-plain graph_of reads objects place d es g,
-        made-bare graph_of reads objects place d es g ∙ its-bare,
+        made-lies graph_of reads objects place named d es g,
+        (λ id. refl),
+        made-good graph_of reads objects place named d es g,
+        made-bare graph_of reads objects place named d es g ∙ its-bare,
       )

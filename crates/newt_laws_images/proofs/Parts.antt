@@ -1,5 +1,5 @@
 -- What holds of objects that are read as a store: the directory, the rows and the entries that were read.
-use Rattle.std.proofs.Common.{◌≡◌, refl, ap, sym, ◌∙◌, subst, ℕ, List, [], ◌∷◌, true, false, Bool, ◌&&◌, inl, inr, cond, Option, Some, None, option_and_then, option_map, map, filter, fold, ◌==◌}
+use Rattle.std.proofs.Common.{◌≡◌, refl, ap, sym, ◌∙◌, subst, ℕ, List, [], ◌∷◌, true, false, Bool, ◌&&◌, inl, inr, cond, Option, Some, None, option_and_then, map, filter, fold, ◌==◌}
 use Rattle.std.specs.List.{list_all}
 use Rattle.std.specs.declared.cmp.Ordering.{Ordering}
 use Rattle.std.specs.Ordering.{is_lt}
@@ -17,44 +17,9 @@ use Rattle.newt_spec_store.specs.Store.{Entry, Store}
 use Rattle.newt_spec_store.specs.StoreOf.{EntryRow, object_bytes, entry_of_row, rows_of, named_once, in_a_soup, assembled, store_of}
 use Rattle.newt_spec_store.specs.Valid.{valid}
 use Rattle.newt_laws_images.proofs.Assembled.{map-among, chosen}
-use Rattle.newt_laws_images.proofs.Made.{Both, built}
+use Rattle.newt_laws_images.proofs.Made.{built}
 
 -- ---- lists
-
-pub every-both : {X Y : Type 0} (f : X → Option Y) (xs : List X) (ys : List Y) → every (map f xs) ≡ Some ys → Both (λ x y. f x ≡ Some y) xs ys
-every-both f [] [] h = tt
-every-both f [] (y ∷ ys) h = cc
-every-both {X} {Y} f (x ∷ xs) ys h = go (every-both f xs) (f x) refl h
-  where
-    rest : (y : Y) (ys : List Y) → ((zs : List Y) → every (map f xs) ≡ Some zs → Both (λ x y. f x ≡ Some y) xs zs) → f x ≡ Some y → (o : Option (List Y)) → every (map f xs) ≡ o
-        → option_map (λ zs. y ∷ zs) o ≡ Some ys → Both (λ x y. f x ≡ Some y) (x ∷ xs) ys
-    rest y ys more e None k l = absurd (none-some ys l)
-    rest y ys more e (Some zs) k l = subst (Both (λ x y. f x ≡ Some y) (x ∷ xs)) (some-same (y ∷ zs) ys l) (e, more zs k)
-
-    go : ((zs : List Y) → every (map f xs) ≡ Some zs → Both (λ x y. f x ≡ Some y) xs zs) → (o : Option Y) → f x ≡ o → every (o ∷ map f xs) ≡ Some ys → Both (λ x y. f x ≡ Some y) (x ∷ xs) ys
-    go more None e k = absurd (none-some ys k)
-    go more (Some y) e k = rest y ys more e (every (map f xs)) refl k
-
-pub both-join : {X Y Z : Type 0} (R : X → Y → Type 0) (S : Y → Z → Type 0) (T : X → Z → Type 0) → ((x : X) (y : Y) (z : Z) → R x y → S y z → T x z)
-    → (xs : List X) (ys : List Y) (zs : List Z) → Both R xs ys → Both S ys zs → Both T xs zs
-both-join R S T f [] [] [] h k = tt
-both-join R S T f [] [] (z ∷ zs) h k = absurd k
-both-join R S T f [] (y ∷ ys) zs h k = absurd h
-both-join R S T f (x ∷ xs) [] zs h k = absurd h
-both-join R S T f (x ∷ xs) (y ∷ ys) [] h k = absurd k
-both-join R S T f (x ∷ xs) (y ∷ ys) (z ∷ zs) h k = (f x y z h.0 k.0, both-join R S T f xs ys zs h.1 k.1)
-
-pub both-more : {X Y : Type 0} (R S : X → Y → Type 0) (xs : List X) (ys : List Y) → ((x : X) (y : Y) → Among xs x → Among ys y → R x y → S x y) → Both R xs ys → Both S xs ys
-both-more R S [] [] f h = tt
-both-more R S [] (y ∷ ys) f h = absurd h
-both-more R S (x ∷ xs) [] f h = absurd h
-both-more R S (x ∷ xs) (y ∷ ys) f h = (f x y (inl refl) (inl refl) h.0, both-more R S xs ys (λ a b m n. f a b (inr m) (inr n)) h.1)
-
-pub both-flip : {X Y : Type 0} (R : X → Y → Type 0) (xs : List X) (ys : List Y) → Both R xs ys → Both (λ y x. R x y) ys xs
-both-flip R [] [] h = tt
-both-flip R [] (y ∷ ys) h = absurd h
-both-flip R (x ∷ xs) [] h = absurd h
-both-flip R (x ∷ xs) (y ∷ ys) h = (h.0, both-flip R xs ys h.1)
 
 -- what holds of each two elements after the sort held before it
 insert-back : {X : Type 0} (R : X → X → Type 0) (cmp : X → X → Ordering) → ((a b : X) → R a b → R b a) → (ys : List X) (x : X) → Pairs R (insert_by cmp ys x) → Each (R x) ys × Pairs R ys

@@ -101,7 +101,7 @@ record-back soup e ids f = reads-whole (entry_fields (length (entry_bytes soup e
 
 -- ---- large binaries
 
-larges_from : ℕ → List Node → List (ℕ × List ℕ)
+abbrev pub larges_from : ℕ → List Node → List (ℕ × List ℕ)
 larges_from k nodes = flat_map large_in (enumerate_from k nodes)
 
 same-numbers : (k : ℕ) (nodes : List Node) → map (λ (l : ℕ × List ℕ). l.0) (flat_map large_in (enumerate_from k (map bare_node nodes))) ≡ map (λ (l : ℕ × List ℕ). l.0) (flat_map large_in (enumerate_from k nodes))
@@ -122,14 +122,14 @@ all-empty k (Binary _ _ ∷ nodes) = all-empty (k + 1) nodes
 all-empty k (Array _ _ ∷ nodes) = all-empty (k + 1) nodes
 all-empty k (Frame _ _ ∷ nodes) = all-empty (k + 1) nodes
 
-at-length : {X : Type 0} (f : X → X) (pre : List X) (x : X) (xs : List X) → change_nth (length pre) f (pre ++ (x ∷ xs)) ≡ pre ++ (f x ∷ xs)
+pub at-length : {X : Type 0} (f : X → X) (pre : List X) (x : X) (xs : List X) → change_nth (length pre) f (pre ++ (x ∷ xs)) ≡ pre ++ (f x ∷ xs)
 at-length f [] x xs = refl
 at-length f (y ∷ pre) x xs = ap (λ zs. y ∷ zs) (at-length f pre x xs)
 
-push-length : {X : Type 0} (pre : List X) (x : X) → length (pre ++ x ∷ []) ≡ length pre + 1
+pub push-length : {X : Type 0} (pre : List X) (x : X) → length (pre ++ x ∷ []) ≡ length pre + 1
 push-length pre x = length-append pre (x ∷ [])
 
-abbrev fill_nodes : List Node → ℕ × List ℕ → List Node
+abbrev pub fill_nodes : List Node → ℕ × List ℕ → List Node
 fill_nodes ns l = change_nth l.0 (with_bytes l.1) ns
 
 other : (pre : List Node) (x : Node) (nodes : List Node) → fold fill_nodes ((pre ++ x ∷ []) ++ map bare_node nodes) (flat_map large_in (enumerate_from (length (pre ++ x ∷ [])) nodes)) ≡ (pre ++ x ∷ []) ++ nodes
@@ -149,7 +149,7 @@ filled pre (Binary c b ∷ nodes) = other pre (Binary c b) nodes (filled (pre ++
 filled pre (Array c v ∷ nodes) = other pre (Array c v) nodes (filled (pre ++ Array c v ∷ []) nodes)
 filled pre (Frame t v ∷ nodes) = other pre (Frame t v) nodes (filled (pre ++ Frame t v ∷ []) nodes)
 
-fold-fill : (root : _) (ns : List Node) (ls : List (ℕ × List ℕ)) → ◌≡◌ {A = RawGraph} (fold fill (record { nodes = ns; root = root }) ls) (record { nodes = fold fill_nodes ns ls; root = root })
+pub fold-fill : (root : _) (ns : List Node) (ls : List (ℕ × List ℕ)) → ◌≡◌ {A = RawGraph} (fold fill (record { nodes = ns; root = root }) ls) (record { nodes = fold fill_nodes ns ls; root = root })
 fold-fill root ns [] = refl
 fold-fill root ns (l ∷ ls) = fold-fill root (fill_nodes ns l) ls
 
@@ -188,7 +188,7 @@ zip-back : (ls : List (ℕ × List ℕ)) → zip (map (λ (l : ℕ × List ℕ).
 zip-back [] = refl
 zip-back (l ∷ ls) = ap (λ ks. l ∷ ks) (zip-back ls)
 
-bytes-same : (xs : List ℕ) → bytes_eq xs xs ≡ true
+pub bytes-same : (xs : List ℕ) → bytes_eq xs xs ≡ true
 bytes-same xs = nat_list_eq_equiv.refl xs
 
 pub larges-back : (graph_of : List ℕ → Option RawGraph) (objects : Objects) (soup : ℕ) (e : Entry) (ids : List ℕ) → length (larges e.graph) ≡ length ids → Each (IsThere objects) (zip (larges e.graph) ids)

@@ -240,14 +240,28 @@ large_bytes l = be32 l.0 ++ be32 l.1 ++ be32 l.2
 abbrev pub row_bytes : EntryRow → List ℕ
 row_bytes row = be16 row.soup ++ be16 (length row.larges) ++ be32 row.uid ++ be32 row.time ++ row.text ++ flat_map large_bytes row.larges
 
-spells-large : Ends [] large_row large_bytes Anything
-spells-large = ends-then [] (number 4) be32 (λ n. n < 4294967296) _ large_bytes Anything spells-be32 (λ node _.
-    ends-then (be32 node) (number 4) be32 (λ n. n < 4294967296) _ large_bytes Anything spells-be32 (λ object _.
-    ends-then (be32 node ++ be32 object) (number 4) be32 (λ n. n < 4294967296) _ large_bytes Anything spells-be32 (λ len _.
-    ends-give (be32 node ++ be32 object ++ be32 len) (node, object, len) large_bytes Anything refl tt)))
+-- the id of an object fits in four bytes
+abbrev ObjectFits : LargeRow → Type 0
+ObjectFits l = l.1 < 4294967296
 
+spells-large : Ends [] large_row large_bytes ObjectFits
+spells-large = ends-then [] (number 4) be32 (λ n. n < 4294967296) _ large_bytes ObjectFits spells-be32 (λ node _.
+    ends-then (be32 node) (number 4) be32 (λ n. n < 4294967296) _ large_bytes ObjectFits spells-be32 (λ object fits.
+    ends-then (be32 node ++ be32 object) (number 4) be32 (λ n. n < 4294967296) _ large_bytes ObjectFits spells-be32 (λ len _.
+    ends-give (be32 node ++ be32 object ++ be32 len) (node, object, len) large_bytes ObjectFits refl fits)))
+
+abbrev AreFit : ℕ → List LargeRow → Type 0
+AreFit n ls = (length ls ≡ n) × Each ObjectFits ls
+
+spells-larges : (n : ℕ) → Ends [] (times n large_row) (flat_map large_bytes) (AreFit n)
+spells-larges zero = ends-give [] [] (flat_map large_bytes) (AreFit 0) refl (refl, tt)
+spells-larges (suc n) = ends-then [] large_row large_bytes ObjectFits (λ l. times n large_row >>= λ ls. give (l ∷ ls)) (flat_map large_bytes) (AreFit (suc n)) spells-large
+    (λ l fits. ends-then (large_bytes l) (times n large_row) (flat_map large_bytes) (AreFit n) (λ ls. give (l ∷ ls)) (flat_map large_bytes) (AreFit (suc n)) (spells-larges n)
+    (λ ls k. ends-give (large_bytes l ++ flat_map large_bytes ls) (l ∷ ls) (flat_map large_bytes) (AreFit (suc n)) refl (ap suc k.0, (fits, k.1))))
+
+-- the minute, and the ids of objects, fit in four bytes
 abbrev Timely : EntryRow → Type 0
-Timely row = row.time < 4294967296
+Timely row = (row.time < 4294967296) × Each (λ (l : LargeRow). l.1 < 4294967296) row.larges
 
 spells-entry : (size : ℕ) → Ends [] (entry_fields size) row_bytes Timely
 spells-entry size = ends-then [] (number 2) be16 (λ n. n < 65536) _ row_bytes Timely spells-be16 (λ soup _.
@@ -255,10 +269,11 @@ spells-entry size = ends-then [] (number 2) be16 (λ n. n < 65536) _ row_bytes T
     ends-then (be16 soup ++ be16 count) (number 4) be32 (λ n. n < 4294967296) _ row_bytes Timely spells-be32 (λ uid _.
     ends-then (be16 soup ++ be16 count ++ be32 uid) (number 4) be32 (λ n. n < 4294967296) _ row_bytes Timely spells-be32 (λ time fits.
     ends-then (be16 soup ++ be16 count ++ be32 uid ++ be32 time) (some_bytes (size - 12 * count)) (λ t. t) (λ t. (length t ≡ size - 12 * count) × Small t) _ row_bytes Timely (spells-some (size - 12 * count)) (λ t _.
-    ends-then (be16 soup ++ be16 count ++ be32 uid ++ be32 time ++ t) (times count large_row) (flat_map large_bytes) (λ ls. length ls ≡ count) _ row_bytes Timely (spells-times large_row large_bytes spells-large count) (λ ls long.
+    ends-then (be16 soup ++ be16 count ++ be32 uid ++ be32 time ++ t) (times count large_row) (flat_map large_bytes) (AreFit count) _ row_bytes Timely (spells-larges count) (λ ls long.
     ends-give (be16 soup ++ be16 count ++ be32 uid ++ be32 time ++ t ++ flat_map large_bytes ls) (record { soup = soup; uid = uid; time = time; text = t; larges = ls }) row_bytes Timely
-    (ap (λ n. be16 soup ++ be16 n ++ be32 uid ++ be32 time ++ t ++ flat_map large_bytes ls) (sym long)) fits))))))
+    (ap (λ n. be16 soup ++ be16 n ++ be32 uid ++ be32 time ++ t ++ flat_map large_bytes ls) (sym long.0)) (fits, long.1)))))))
 
--- the bytes of a record are those of its row, whose minute fits in four bytes
-pub record-spelt : (bytes : List ℕ) (row : EntryRow) → Small bytes → entry_row bytes ≡ Some row → (bytes ≡ row_bytes row) × (row.time < 4294967296)
-record-spelt bytes row small h = spells-whole (entry_fields (length bytes - 12)) row_bytes Timely (spells-entry (length bytes - 12)) bytes row small h
+-- the bytes of a record are those of its row, whose minute and whose ids of objects fit in four bytes
+pub record-spelt : (bytes : List ℕ) (row : EntryRow) → Small bytes → entry_row bytes ≡ Some row
+    → (bytes ≡ row_bytes row) × (row.time < 4294967296) × Each (λ (l : LargeRow). l.1 < 4294967296) row.larges
+record-spelt bytes row small h = let r = spells-whole (entry_fields (length bytes - 12)) row_bytes Timely (spells-entry (length bytes - 12)) bytes row small h in (r.0, r.1.0, r.1.1)

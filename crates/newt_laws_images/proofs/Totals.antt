@@ -1,26 +1,25 @@
 -- What a store costs is what its objects take in pages.
-use Rattle.std.proofs.Common.{arith, ◌≡◌, refl, ap, sym, ◌∙◌, subst, ℕ, ◌+◌, ◌*◌, ◌%◌, ◌<◌, List, [], ◌∷◌, ◌++◌, true, false, Bool, not, ◌⊎◌, inl, inr, cond, map, filter, flat_map, length, sum, sum_by, ◌==◌}
-use Rattle.std.proofs.lemmas.Bool.{eq-eqb}
+use Rattle.std.proofs.Common.{arith, ◌≡◌, ◌≢◌, refl, ap, sym, ◌∙◌, subst, ℕ, ◌+◌, ◌*◌, ◌%◌, ◌<◌, List, [], ◌∷◌, ◌++◌, true, false, Bool, not, ◌⊎◌, inl, inr, cond, Some, map, filter, flat_map, zip, length, sum, sum_by, ◌==◌}
+use Rattle.std.proofs.lemmas.Bool.{eq-eqb, eqb-true}
 use Rattle.std.proofs.lemmas.List.Sums.{sum_by-cons}
 use Rattle.std.specs.FinMap as map
+use Rattle.newt_graph.specs.declared.node.Node.{Node}
+use Rattle.newt_graph.specs.declared.node.Node.TheVariants.{Symbol, Str, Binary, Large, Array, Frame}
 use Rattle.newt_image.specs.Objects.{Objects as Texts, pages_for}
-use Rattle.newt_nsof.specs.Written.{nsof}
-use Rattle.newt_nsof.specs.Lengths.{skeleton}
 use Rattle.newt_spec_graph.specs.Lists.{Each, Pairs, Among}
-use Rattle.newt_spec_graph.proofs.Lists.{each-at, each-from, each-more, among-filter, filter-among, some-same, pairs-more, pairs-map, pairs-filter, pairs-flat_map, rises-pairs, each-list_all}
+use Rattle.newt_spec_graph.proofs.Lists.{each-at, each-from, among-filter, filter-among, among-flat_map, flat_map-among, some-same, pairs-more, pairs-map, pairs-filter, pairs-flat_map, rises-pairs, each-list_all}
 use Rattle.newt_spec_store.specs.Store.{Entry, Soup, Store}
-use Rattle.newt_spec_store.specs.Cost.{cost, directory_bytes, entry_pages, soup_pages, large_lengths, skeleton_length}
-use Rattle.newt_spec_store.specs.Image.{entry_bytes, all_entries}
-use Rattle.newt_spec_store.specs.Laid.{ApartIds, Laid, record_of}
-use Rattle.newt_spec_store.specs.Lies.{LiesIn, Places, has_no_large, graph_has_no_large}
+use Rattle.newt_spec_store.specs.Cost.{cost, directory_bytes, entry_pages, soup_pages, large_length, large_lengths, skeleton_length}
+use Rattle.newt_spec_store.specs.Image.{larges, all_entries}
+use Rattle.newt_spec_store.specs.Laid.{ApartIds, Named, Laid, record_of}
+use Rattle.newt_spec_store.specs.Lies.{LiesIn, Places, HasLarge}
 use Rattle.newt_spec_store.specs.Valid.{well_formed, valid_soup}
-use Rattle.newt_laws_images.proofs.Assembled.{among-map}
+use Rattle.newt_laws_images.proofs.Assembled.{among-map, map-among}
 use Rattle.newt_laws_images.proofs.Finite.{entries-rising, entry-get, get-entry}
-use Rattle.newt_laws_images.proofs.Placed.{IsPlaced, Layout, layout, soups-rise, pairs-map-from, its-plain}
-use Rattle.newt_laws_images.proofs.Plain.{no-lengths, no-larges}
-use Rattle.newt_laws_images.proofs.Records.{entry-length}
+use Rattle.newt_laws_images.proofs.Placed.{IsPlaced, soups-rise, pairs-map-from, has-large}
+use Rattle.newt_laws_images.proofs.Records.{larges_from, entry-length}
 use Rattle.newt_laws_images.proofs.Stores.{is-store, is-soup}
-use Rattle.newt_laws_images.proofs.Whole.{zero-or-odd}
+use Rattle.newt_laws_images.proofs.Whole.{laid_ids, its-layout, is-one-of, ids-apart}
 
 -- ---- sums
 
@@ -67,6 +66,11 @@ total-split f test (x ∷ xs) = go (total-split f test xs) (test x)
 total-one : {X : Type 0} (f : X → ℕ) (x : X) → total f (x ∷ []) ≡ f x
 unfolding total
 total-one f x = omega arith
+
+total-both : {X : Type 0} (f g : X → ℕ) (xs : List X) → total f xs + total g xs ≡ total (λ x. f x + g x) xs
+unfolding total
+total-both f g [] = refl
+total-both f g (x ∷ xs) = let k = total-both f g xs in omega (arith, k)
 
 -- ---- two lists with the same elements, each once
 
@@ -143,70 +147,160 @@ store-total s = total-flat (λ (y : ℕ × Entry). entry_pages y.1) (λ (p : Sou
     ∙ total-same (λ (p : Soup). total (λ (y : ℕ × Entry). entry_pages y.1) (map (λ (e : Entry). (p.sig, e)) p.entries)) soup_pages s.soups
     (each-from _ s.soups (λ p m. total-map (λ (y : ℕ × Entry). entry_pages y.1) (λ (e : Entry). (p.sig, e)) p.entries ∙ sym (sum-total entry_pages p.entries)))
 
-no-list : (xs : List ℕ) → length xs ≡ 0 → xs ≡ []
-no-list [] h = refl
-no-list (x ∷ xs) h = absurd (omega (arith, h))
+map-length : {X Y : Type 0} (f : X → Y) (xs : List X) → length (map f xs) ≡ length xs
+map-length f [] = refl
+map-length f (x ∷ xs) = grind (arith, map-length f xs)
 
--- the record of an entry without large binaries takes the pages of the entry
-pub record-pages : (sig : ℕ) (e : Entry) → graph_has_no_large e.graph ≡ true → pages_for (length (entry_bytes sig e [])) ≡ entry_pages e
-record-pages sig e plain =
-    let none = no-list (large_lengths e.graph) (no-lengths e.graph plain) in
-    let long = entry-length sig e [] (ap length (no-larges e.graph plain)) in
-    ap pages_for long ∙ alone (pages_for (12 + length (nsof (skeleton e.graph)) + 12 * 0))
-    ∙ ap {A = List ℕ} {B = ℕ} (λ ls. pages_for (12 + skeleton_length e.graph + 12 * length ls) + sum (map pages_for ls)) (sym none)
-  where
-    alone : (n : ℕ) → n ≡ n + 0
-    alone n = omega arith
+sum-more : (n : ℕ) (ns : List ℕ) → sum (n ∷ ns) ≡ n + sum ns
+sum-more n ns = sum_by-cons (λ m. m) n ns
+
+-- ---- the objects of one entry
+
+-- the objects that hold an entry's large binaries
+abbrev large_objects : Laid → List (ℕ × List ℕ)
+large_objects x = map (λ (l : Named). (l.1, l.0.1)) (zip (larges x.entry.graph) x.ids)
+
+abbrev pages : ℕ × List ℕ → ℕ
+pages o = pages_for (length o.1)
+
+lengths-from : (k : ℕ) (nodes : List Node) → map (λ (l : ℕ × List ℕ). length l.1) (larges_from k nodes) ≡ flat_map large_length nodes
+lengths-from k [] = refl
+lengths-from k (Large c bytes ∷ nodes) = ap (λ ns. length bytes ∷ ns) (lengths-from (k + 1) nodes)
+lengths-from k (Symbol _ ∷ nodes) = lengths-from (k + 1) nodes
+lengths-from k (Str _ ∷ nodes) = lengths-from (k + 1) nodes
+lengths-from k (Binary _ _ ∷ nodes) = lengths-from (k + 1) nodes
+lengths-from k (Array _ _ ∷ nodes) = lengths-from (k + 1) nodes
+lengths-from k (Frame _ _ ∷ nodes) = lengths-from (k + 1) nodes
+
+large-total : (ls : List (ℕ × List ℕ)) (ids : List ℕ) → length ls ≡ length ids
+    → total pages (map (λ (l : Named). (l.1, l.0.1)) (zip ls ids)) ≡ sum (map pages_for (map (λ (l : ℕ × List ℕ). length l.1) ls))
+unfolding total
+large-total [] [] h = refl
+large-total [] (i ∷ ids) h = absurd (omega (arith, h))
+large-total (l ∷ ls) [] h = absurd (omega (arith, h))
+large-total (l ∷ ls) (i ∷ ids) h = ap (λ n. pages_for (length l.1) + n) (large-total ls ids (omega (arith, h))) ∙ sym (sum-more (pages_for (length l.1)) (map pages_for (map (λ (l : ℕ × List ℕ). length l.1) ls)))
+
+-- an entry's record and its large binaries take the entry's pages
+entry-total : (x : Laid) → length (larges x.entry.graph) ≡ length x.ids → pages (record_of x) + total pages (large_objects x) ≡ entry_pages x.entry
+entry-total x h =
+    let lengths = lengths-from 0 x.entry.graph.nodes in
+    let long : length x.ids ≡ length (large_lengths x.entry.graph) = sym h ∙ sym (map-length (λ (l : ℕ × List ℕ). length l.1) (larges x.entry.graph)) ∙ ap length lengths in
+    ap (λ n. pages_for n + total pages (large_objects x)) (entry-length x.soup x.entry x.ids h)
+    ∙ ap (λ n. pages_for (12 + skeleton_length x.entry.graph + 12 * n) + total pages (large_objects x)) long
+    ∙ ap (λ n. pages_for (12 + skeleton_length x.entry.graph + 12 * length (large_lengths x.entry.graph)) + n)
+    (large-total (larges x.entry.graph) x.ids h ∙ ap (λ ns. sum (map pages_for ns)) lengths)
+
+object-ids : (ls : List (ℕ × List ℕ)) (ids : List ℕ) → length ls ≡ length ids → map (λ (o : ℕ × List ℕ). o.0) (map (λ (l : Named). (l.1, l.0.1)) (zip ls ids)) ≡ ids
+object-ids [] [] h = refl
+object-ids [] (i ∷ ids) h = absurd (omega (arith, h))
+object-ids (l ∷ ls) [] h = absurd (omega (arith, h))
+object-ids (l ∷ ls) (i ∷ ids) h = ap (λ ns. i ∷ ns) (object-ids ls ids (omega (arith, h)))
+
+map-append : (f : ℕ × List ℕ → ℕ) (xs ys : List (ℕ × List ℕ)) → map f (xs ++ ys) ≡ map f xs ++ map f ys
+map-append f [] ys = refl
+map-append f (x ∷ xs) ys = ap (λ ns. f x ∷ ns) (map-append f xs ys)
+
+all-ids : (laid : List Laid) → Each (λ (x : Laid). length (larges x.entry.graph) ≡ length x.ids) laid → map (λ (o : ℕ × List ℕ). o.0) (flat_map large_objects laid) ≡ laid_ids laid
+all-ids [] h = refl
+all-ids (x ∷ laid) h = map-append (λ (o : ℕ × List ℕ). o.0) (large_objects x) (flat_map large_objects laid) ∙ (λ i. object-ids (larges x.entry.graph) x.ids h.0 i ++ all-ids laid h.1 i)
 
 -- ---- the objects
 
 abbrev is_odd : ℕ × List ℕ → Bool
 is_odd o = o.0 % 2 == 1
 
--- one that all others are, and that stands once
-alone-in : (z : ℕ × List ℕ) (xs : List (ℕ × List ℕ)) → Pairs (λ a b. a.0 < b.0) xs → Each (λ o. o ≡ z) xs → Among xs z → xs ≡ z ∷ []
-alone-in z [] h k m = absurd m
-alone-in z (x ∷ []) h k m = ap (λ y. y ∷ []) k.0
-alone-in z (x ∷ y ∷ xs) h k m = absurd (omega (arith, h.0.0, ap {A = ℕ × List ℕ} {B = ℕ} (λ o. o.0) k.0, ap {A = ℕ × List ℕ} {B = ℕ} (λ o. o.0) k.1.0))
+not-true : (b : Bool) → not b ≡ true → b ≡ true → ⊥
+not-true true h k = cc
+not-true false h k = cc
 
-not-odd : (o : ℕ × List ℕ) → (o.0 ≡ 0) ⊎ (o.0 % 2 ≡ 1) → not (is_odd o) ≡ true → o.0 ≡ 0
-not-odd o (inl e) h = e
-not-odd o (inr e) h = absurd (no (is_odd o) (eq-eqb (o.0 % 2) 1 e) h)
-  where
-    no : (b : Bool) → b ≡ true → not b ≡ true → ⊥
-    no true h k = cc
-    no false h k = cc
+true-not : (b : Bool) → (b ≡ true → ⊥) → not b ≡ true
+true-not true h = absurd (h refl)
+true-not false h = refl
 
-others : (objects : Texts) (place : Places) (s : Store) → LiesIn objects place s → filter (λ o. not (is_odd o)) (map.entries objects) ≡ (0, directory_bytes s) ∷ []
-others objects place s lies = alone-in (0, directory_bytes s) (filter (λ o. not (is_odd o)) (map.entries objects)) (pairs-filter (λ (a b : ℕ × List ℕ). a.0 < b.0) (λ o. not (is_odd o)) (map.entries objects) (entries-rising objects))
-    (each-from _ (filter (λ o. not (is_odd o)) (map.entries objects)) (λ o m.
-    let k = among-filter (λ o. not (is_odd o)) (map.entries objects) o m in
-    let zero : o.0 ≡ 0 = not-odd o (zero-or-odd objects place s lies o k.0) k.1 in
-    let bytes : o.1 ≡ directory_bytes s = some-same o.1 (directory_bytes s) (sym (entry-get objects o.0 o.1 k.0) ∙ ap (map.get objects) zero ∙ lies.directory) in
-    λ i. (zero i, bytes i)))
-    (filter-among (λ o. not (is_odd o)) (map.entries objects) (0, directory_bytes s) (get-entry objects 0 (directory_bytes s) lies.directory) refl)
+module _ (objects : Texts) (place : Places) (s : Store) (lies : LiesIn objects place s) (w : well_formed s ≡ true) where
+  abbrev laid : List Laid
+  laid = (its-layout objects place s lies w).laid
 
-pub lies-total : (objects : Texts) (place : Places) (s : Store) → LiesIn objects place s → well_formed s ≡ true → has_no_large s ≡ true
-    → sum_by (λ (o : ℕ × List ℕ). pages_for (length o.1)) (map.entries objects) ≡ cost s
-lies-total objects place s lies w none =
-    let split = total-split pages is_odd (map.entries objects) in
-    let rest = ap (total pages) (others objects place s lies) ∙ total-one pages (0, directory_bytes s) in
-    let soups = sum-total soup_pages s.soups in
-    sum-total pages (map.entries objects) ∙ joined (total pages (map.entries objects)) _ _ (pages_for (length (directory_bytes s))) _ split odds rest soups
-  where
-    pages : ℕ × List ℕ → ℕ
-    pages o = pages_for (length o.1)
+  placed : (x : Laid) → Among laid x → IsPlaced objects place lies.named s x
+  placed x m = each-at (IsPlaced objects place lies.named s) laid x (its-layout objects place s lies w).placed m
 
-    joined : (a b c d e : ℕ) → a ≡ b + c → b ≡ e → c ≡ d → sum_by soup_pages s.soups ≡ e → a ≡ d + sum_by soup_pages s.soups
-    joined a b c d e h k l m = omega (arith, h, k, l, m)
+  each-placed : (P : Laid → Type 0) → ((x : Laid) → IsPlaced objects place lies.named s x → P x) → Each P laid
+  each-placed P f = each-from P laid (λ x m. f x (placed x m))
 
-    l : Layout objects place s
-    l = layout objects place s lies w none
+  -- the directory, and the objects of all large binaries
+  abbrev evens : List (ℕ × List ℕ)
+  evens = (0, directory_bytes s) ∷ flat_map large_objects laid
 
-    odds : total pages (filter is_odd (map.entries objects)) ≡ total soup_pages s.soups
-    odds = ap (total pages) l.records ∙ total-map pages record_of l.laid
-        ∙ total-same (λ (x : Laid). pages (record_of x)) (λ (x : Laid). entry_pages x.entry) l.laid (each-more (IsPlaced place s) _ l.laid
-        (λ x p. subst (λ (ids : List ℕ). pages_for (length (entry_bytes x.soup x.entry ids)) ≡ entry_pages x.entry) (sym p.alone) (record-pages x.soup x.entry (its-plain s x.soup x.entry none p.is_in))) l.placed)
-        ∙ sym (total-map (λ (y : ℕ × Entry). entry_pages y.1) (λ (x : Laid). (x.soup, x.entry)) l.laid)
-        ∙ same-total ApartIds (λ a h. h refl refl) (λ (y : ℕ × Entry). entry_pages y.1) (map (λ (x : Laid). (x.soup, x.entry)) l.laid) (all_entries s) l.are.once (entries-apart s w) l.are.sound l.are.complete
-        ∙ store-total s
+  abbrev Other : ℕ × List ℕ → ℕ × List ℕ → Type 0
+  Other a b = a.0 ≢ b.0
+
+  -- an object of a large binary
+  large-there : (o : ℕ × List ℕ) → Among (flat_map large_objects laid) o → (o.0 % 2 ≡ 0) × (0 < o.0) × (map.get objects o.0 ≡ Some o.1)
+  large-there o m =
+      let x = among-flat_map large_objects laid o m in
+      let l = among-map (λ (l : Named). (l.1, l.0.1)) (zip (larges x.0.entry.graph) x.0.ids) o x.2 in
+      let k = each-at (HasLarge objects) (zip (larges x.0.entry.graph) x.0.ids) l.0 (placed x.0 x.1).larges_are.there l.1 in
+      subst (λ (o : ℕ × List ℕ). (o.0 % 2 ≡ 0) × (0 < o.0) × (map.get objects o.0 ≡ Some o.1)) l.2 (k.0, k.1, k.3)
+
+  evens-apart : Pairs Other evens
+  evens-apart = (
+    each-from (Other (0, directory_bytes s)) (flat_map large_objects laid) (λ o m e. let k = large-there o m in omega (arith, k.1, e)),
+    pairs-map (λ a b. a ≢ b) (λ (o : ℕ × List ℕ). o.0) (flat_map large_objects laid)
+        (subst (Pairs (λ a b. a ≢ b)) (sym (all-ids laid (each-placed _ (λ x p. p.larges_are.each_named)))) (ids-apart objects place s lies w)),
+  )
+
+  abbrev rest : List (ℕ × List ℕ)
+  rest = filter (λ o. not (is_odd o)) (map.entries objects)
+
+  rest-apart : Pairs Other rest
+  rest-apart = pairs-filter Other (λ o. not (is_odd o)) (map.entries objects) (pairs-more (λ (a b : ℕ × List ℕ). a.0 < b.0) Other (map.entries objects) (λ a b _ _ less e. omega (arith, less, e)) (entries-rising objects))
+
+  into : (o : ℕ × List ℕ) → Among rest o → Among evens o
+  into o m = go (is-one-of objects place s lies w o k.0)
+    where
+      k : Among (map.entries objects) o × (not (is_odd o) ≡ true)
+      k = among-filter (λ o. not (is_odd o)) (map.entries objects) o m
+
+      there : map.get objects o.0 ≡ Some o.1
+      there = entry-get objects o.0 o.1 k.0
+
+      go : (o.0 ≡ 0) ⊎ (o.0 % 2 ≡ 1) ⊎ Among (laid_ids laid) o.0 → Among evens o
+      go (inl zero) =
+          let bytes : o.1 ≡ directory_bytes s = some-same o.1 (directory_bytes s) (sym there ∙ ap (map.get objects) zero ∙ lies.directory) in
+          inl (λ i. (sym zero i, sym bytes i))
+      go (inr (inl odd)) = absurd (not-true (is_odd o) k.1 (eq-eqb (o.0 % 2) 1 odd))
+      go (inr (inr n)) =
+          let x = among-flat_map (λ (x : Laid). x.ids) laid o.0 n in
+          let l = has-large objects x.0.entry.graph x.0.ids o.0 (placed x.0 x.1).larges_are x.2 in
+          let bytes : l.0.1 ≡ o.1 = some-same l.0.1 o.1 (sym l.2.3 ∙ there) in
+          inr (flat_map-among large_objects laid x.0 o x.1 (subst (λ (b : List ℕ). Among (large_objects x.0) (o.0, b)) bytes (map-among (λ (l : Named). (l.1, l.0.1)) (zip (larges x.0.entry.graph) x.0.ids) (l.0, o.0) l.1)))
+
+  from : (o : ℕ × List ℕ) → Among evens o → Among rest o
+  from o (inl e) = subst (Among rest) e (filter-among (λ o. not (is_odd o)) (map.entries objects) (0, directory_bytes s) (get-entry objects 0 (directory_bytes s) lies.directory) refl)
+  from o (inr m) =
+      let k = large-there o m in
+      filter-among (λ o. not (is_odd o)) (map.entries objects) o (get-entry objects o.0 o.1 k.2) (true-not (is_odd o) (λ e. let odd = eqb-true (o.0 % 2) 1 e in omega (arith, odd, k.0)))
+
+  evens-total : total pages rest ≡ pages_for (length (directory_bytes s)) + total (λ x. total pages (large_objects x)) laid
+  unfolding total
+  evens-total = same-total Other (λ a h. h refl) pages rest evens rest-apart evens-apart into from ∙ ap (λ n. pages_for (length (directory_bytes s)) + n) (total-flat pages large_objects laid)
+
+  entries-total : total (λ x. pages (record_of x)) laid + total (λ x. total pages (large_objects x)) laid ≡ total soup_pages s.soups
+  entries-total = total-both (λ x. pages (record_of x)) (λ x. total pages (large_objects x)) laid
+      ∙ total-same (λ x. pages (record_of x) + total pages (large_objects x)) (λ (x : Laid). entry_pages x.entry) laid (each-placed _ (λ x p. entry-total x p.larges_are.each_named))
+      ∙ sym (total-map (λ (y : ℕ × Entry). entry_pages y.1) (λ (x : Laid). (x.soup, x.entry)) laid)
+      ∙ same-total ApartIds (λ a h. h refl refl) (λ (y : ℕ × Entry). entry_pages y.1) (map (λ (x : Laid). (x.soup, x.entry)) laid) (all_entries s)
+      (its-layout objects place s lies w).are.once (entries-apart s w) (its-layout objects place s lies w).are.sound (its-layout objects place s lies w).are.complete
+      ∙ store-total s
+
+  odds-total : total pages (filter is_odd (map.entries objects)) ≡ total (λ x. pages (record_of x)) laid
+  odds-total = ap (total pages) (its-layout objects place s lies w).records ∙ total-map pages record_of laid
+
+  pub lies-total : sum_by (λ (o : ℕ × List ℕ). pages_for (length o.1)) (map.entries objects) ≡ cost s
+  lies-total =
+      let split = total-split pages is_odd (map.entries objects) in
+      let soups = sum-total soup_pages s.soups in
+      sum-total pages (map.entries objects) ∙ joined _ _ _ _ _ _ _ _ split odds-total evens-total entries-total soups
+    where
+      joined : (a b c d e f g h : ℕ) → a ≡ b + c → b ≡ d → c ≡ e + f → d + f ≡ g → h ≡ g → a ≡ e + h
+      joined a b c d e f g h k l m n o = omega (arith, k, l, m, n, o)

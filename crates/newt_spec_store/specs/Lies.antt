@@ -1,16 +1,18 @@
--- How a store without large binaries lies in objects, and what one object is read as. All of it is this project's own.
-use Rattle.std.specs.Prelude.{◌≡◌, ◌≢◌, ◌==◌, [], ℕ, ◌%◌, ◌<◌, Bool, List, length, Option, Some, None, if◌then◌else◌, option_and_then}
+-- How a store lies in objects, and what one object is read as. All of it is this project's own.
+use Rattle.std.specs.Prelude.{◌≡◌, ◌≢◌, ◌⊎◌, ◌==◌, ◌&&◌, [], ℕ, ◌%◌, ◌<◌, nat_lt, Bool, List, length, fold, zip, replicate, map as list_map, Option, Some, None, if◌then◌else◌, option_and_then, option_map}
 use Rattle.std.specs.List.{list_all}
 use Rattle.std.specs.FinMap as map
 use Rattle.newt_graph.specs.Graph.{RawGraph, IsGraph}
 use Rattle.newt_image.specs.Objects.{Objects}
 use Rattle.newt_nsof.specs.Written.{nsof}
-use Rattle.newt_spec_graph.specs.Lists.{Among}
-use Rattle.newt_spec_store.specs.Cost.{directory_bytes, large_lengths}
-use Rattle.newt_spec_store.specs.Image.{entry_bytes}
+use Rattle.newt_nsof.specs.Lengths.{skeleton}
+use Rattle.newt_spec_graph.specs.Lists.{Each, Pairs, Among}
+use Rattle.newt_spec_store.specs.Cost.{directory_bytes}
+use Rattle.newt_spec_store.specs.Image.{larges, entry_bytes}
+use Rattle.newt_spec_store.specs.Laid.{Named}
 use Rattle.newt_spec_store.specs.Reading.{whole, directory}
 use Rattle.newt_spec_store.specs.Store.{Entry, Soup, Store}
-use Rattle.newt_spec_store.specs.StoreOf.{entry_row, entry_of_row}
+use Rattle.newt_spec_store.specs.StoreOf.{LargeRow, EntryRow, entry_row, entry_of_row, fill, written, names_larges}
 use Rattle.newt_spec_store.specs.Valid.{valid_entry, well_formed}
 
 -- a value that passes a test, else none (a word of these definitions)
@@ -22,24 +24,37 @@ only test (Some x) = if test x then Some x else None
 abbrev pub directory_read : List ℕ → Option Store
 directory_read bytes = only well_formed (whole directory bytes)
 
--- ---- stores without large binaries
+-- ---- one record
 
--- a graph has no large binary (a word of these definitions)
-abbrev pub graph_has_no_large : RawGraph → Bool
-graph_has_no_large g = length (large_lengths g) == 0
+-- the entry, and the signature of its soup, that the bytes of a record are read as among objects, which have the bytes of its large binaries
+-- (this project's own)
+abbrev pub entry_read : (List ℕ → Option RawGraph) → Objects → List ℕ → Option (ℕ × Entry)
+entry_read graph_of objects bytes = only (λ x. valid_entry x.1) (option_and_then (entry_of_row graph_of (map.entries objects)) (entry_row bytes))
 
--- no entry of a store has one (a word of these definitions)
-abbrev pub has_no_large : Store → Bool
-has_no_large s = list_all (λ p. list_all (λ e. graph_has_no_large e.graph) p.entries) s.soups
+-- a graph with as many zero bytes in its large binaries as the rows say (a word of these definitions)
+abbrev pub stretched : List LargeRow → RawGraph → RawGraph
+stretched rows g = fold fill g (list_map (λ l. (l.0, replicate l.2 0)) rows)
 
--- the entry without large binaries, and the signature of its soup, that the bytes of a record are read as (this project's own)
-abbrev pub entry_read : (List ℕ → Option RawGraph) → List ℕ → Option (ℕ × Entry)
-entry_read graph_of bytes = only (λ x. valid_entry x.1) (option_and_then (entry_of_row graph_of []) (entry_row bytes))
+-- the object of a large binary has an even id above 0 (this project's own)
+abbrev pub may_be_large : LargeRow → Bool
+may_be_large l = (l.1 % 2 == 0) && nat_lt 0 l.1
+
+-- The rows name each large binary of the skeleton, in order, with an object that may be one; and the skeleton with as many bytes as they say may be an entry's.
+-- (this project's own)
+abbrev pub is_record : EntryRow × RawGraph → Bool
+is_record (row, g) =
+    names_larges row g && list_all may_be_large row.larges && valid_entry (record { uid = row.uid; time = row.time; graph = stretched row.larges g })
+
+-- what the bytes of a record are read as alone: its row, and its skeleton (this project's own)
+abbrev pub record_read : (List ℕ → Option RawGraph) → List ℕ → Option (EntryRow × RawGraph)
+record_read graph_of bytes = only is_record (option_and_then (λ row. option_map (λ g. (row, g)) (written graph_of row.text)) (entry_row bytes))
 
 -- Texts of graphs are read as the graphs that they are written of, and as no others. (a word of these definitions)
 pub record ReadsGraphs (graph_of : List ℕ → Option RawGraph) : Type 0 where
   pub back : (g : RawGraph) → IsGraph g → graph_of (nsof g) ≡ Some g
   pub graphs : (text : List ℕ) (g : RawGraph) → graph_of text ≡ Some g → IsGraph g
+
+-- ---- stores
 
 -- the id of the object that has an entry's record, by the signature of the entry's soup and the entry's id; none where there is no such entry
 -- (a word of these definitions)
@@ -53,12 +68,28 @@ pub record IsIn (s : Store) (sig : ℕ) (e : Entry) : Type 0 where
   pub of_sig : soup.sig ≡ sig
   pub is_entry : Among soup.entries e
 
--- How a store without large binaries lies in objects: the directory is object 0, each entry's record is the object of its place, which has an odd id,
--- and there are no other objects and no other places. A minute fits in four bytes. (this project's own)
+-- A large binary's object has an even id above 0, which fits in four bytes, and has its bytes. (this project's own)
+abbrev pub HasLarge : Objects → Named → Type 0
+HasLarge objects l = (l.1 % 2 ≡ 0) × (0 < l.1) × (l.1 < 4294967296) × (map.get objects l.1 ≡ Some l.0.1)
+
+-- These are the objects of the large binaries of a graph, in order: one for each, and no two are one. (this project's own)
+pub record AreLarges (objects : Objects) (g : RawGraph) (ids : List ℕ) : Type 0 where
+  pub each_named : length (larges g) ≡ length ids
+  pub there : Each (HasLarge objects) (zip (larges g) ids)
+  pub apart : Pairs (λ a b. a ≢ b) ids
+
+-- How a store lies in objects: the directory is object 0; each entry's record is the object of its place, which has an odd id, and names the objects of the
+-- entry's large binaries; no object is named by two records; and there are no other objects, no other places and no other names. Skeletons are in normal form, and a
+-- minute fits in four bytes. `named` are the ids that the record of an object names. (this project's own)
 pub record LiesIn (objects : Objects) (place : Places) (s : Store) : Type 0 where
+  pub named : ℕ → List ℕ
   pub directory : map.get objects 0 ≡ Some (directory_bytes s)
-  pub records : (sig : ℕ) (e : Entry) → IsIn s sig e → (id : ℕ) × (place sig e.uid ≡ Some id) × (id % 2 ≡ 1) × (map.get objects id ≡ Some (entry_bytes sig e []))
-  pub only_these : (id : ℕ) (bytes : List ℕ) → map.get objects id ≡ Some bytes → id ≢ 0 → (sig : ℕ) × (e : Entry) × IsIn s sig e × (place sig e.uid ≡ Some id)
+  pub records : (sig : ℕ) (e : Entry) → IsIn s sig e
+      → (id : ℕ) × (place sig e.uid ≡ Some id) × (id % 2 ≡ 1) × (map.get objects id ≡ Some (entry_bytes sig e (named id))) × AreLarges objects e.graph (named id)
+  pub once : (id other o : ℕ) → Among (named id) o → Among (named other) o → id ≡ other
+  pub only_these : (id : ℕ) (bytes : List ℕ) → map.get objects id ≡ Some bytes → id ≢ 0
+      → ((sig : ℕ) × (e : Entry) × IsIn s sig e × (place sig e.uid ≡ Some id)) ⊎ ((r : ℕ) × Among (named r) id)
+  pub names : (r o : ℕ) → Among (named r) o → (sig : ℕ) × (e : Entry) × IsIn s sig e × (place sig e.uid ≡ Some r)
   pub places : (sig uid id : ℕ) → place sig uid ≡ Some id → (e : Entry) × IsIn s sig e × (e.uid ≡ uid)
-  pub graphs : (sig : ℕ) (e : Entry) → IsIn s sig e → IsGraph e.graph
+  pub skeletons : (sig : ℕ) (e : Entry) → IsIn s sig e → IsGraph (skeleton e.graph)
   pub times : (sig : ℕ) (e : Entry) → IsIn s sig e → e.time < 4294967296
