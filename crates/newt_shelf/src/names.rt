@@ -33,10 +33,11 @@ impl NameTable {
         }
     }
 
-    /// Keeps what a record names. After an error nothing is said of the table.
+    /// Keeps what a record names. After an error each record names what it named.
     pub fn insert(&mut self, id: u32, ids: Vec<u32>) -> Result<(), AllocError>
         ensures kept { OnOk result (names_of self.new id ≡ ids.items) }
         ensures others { OnOk result ((other : ℕ) → other ≢ id → names_of self.new other ≡ names_of self.old other) }
+        ensures err { OnErr result ((other : ℕ) → names_of self.new other ≡ names_of self.old other) }
     {
         let _old = self.rows.insert(id, ids)?;
         Ok(())
