@@ -9,12 +9,11 @@ use Rattle.newt_spec_graph.proofs.Lists.{each-at, each-from, some-same, none-som
 use Rattle.newt_spec_store.specs.Store.{Store, Soup, Entry, change_first, change_soup, change_entry, make_soup, drop_soup, add_entry, remove_entry, entry_of, soup_named}
 use Rattle.newt_image.specs.Objects.{pages_for}
 use Rattle.newt_spec_store.specs.Cost.{cost, directory_bytes, soup_bytes, entry_pages, soup_pages}
-use Rattle.newt_spec_store.specs.StoreOf.{fill}
 use Rattle.newt_spec_store.specs.Valid.{well_formed, valid_soup}
 use Rattle.newt_laws_images.proofs.Stores.{is-store, is-soup}
 use Rattle.newt_laws_changes.proofs.Chosen.{OnePasses, one-uid, one-name}
 use Rattle.newt_laws_changes.proofs.Costs.{total, sum-total, cost-total, soup-length, directory-length}
-use Rattle.newt_laws_changes.proofs.Patched.{patched-pages}
+use Rattle.newt_laws_changes.proofs.Patched.{with_patch, patched-pages}
 use Rattle.newt_laws_changes.proofs.Soups.{found-good}
 
 -- ---- sums
@@ -127,7 +126,7 @@ cost-replaced name uid change s p e found there =
 
 -- other bytes, as many, in an entry's large binary
 pub cost-patched : (name : List ℕ) (uid node class : ℕ) (old bytes : List ℕ) (change : Entry → Entry) (s : Store) (p : Soup) (e : Entry) → soup_named name s ≡ Some p → entry_of uid p ≡ Some e
-    → slice_get e.graph.nodes node ≡ Some (Large class old) → length bytes ≡ length old → change e ≡ record e { graph = fill e.graph (node, bytes) }
+    → slice_get e.graph.nodes node ≡ Some (Large class old) → length bytes ≡ length old → change e ≡ with_patch e node bytes
     → cost (change_soup name (change_entry uid change) s) ≡ cost s
 cost-patched name uid node class old bytes change s p e found there large as_many changes =
     let k = cost-replaced name uid change s p e found there in

@@ -6,11 +6,10 @@ use Rattle.newt_graph.specs.declared.node.Node.TheVariants.{Large}
 use Rattle.newt_graph.specs.Graph.{RawGraph}
 use Rattle.newt_spec_graph.proofs.Lists.{each-at, each-list_all, some-same}
 use Rattle.newt_spec_store.specs.Store.{Store, Soup, Entry, soup_named, entry_of, change_soup, change_entry, make_soup, drop_soup, add_entry, remove_entry}
-use Rattle.newt_spec_store.specs.StoreOf.{fill}
 use Rattle.newt_spec_store.specs.Valid.{well_formed, valid_soup, valid_entry}
 use Rattle.newt_laws_changes.specs.Signatures.{soup_of}
 use Rattle.newt_laws_changes.proofs.Chosen.{find-passes, found_by_name, soup-good}
-use Rattle.newt_laws_changes.proofs.Patched.{patched-valid}
+use Rattle.newt_laws_changes.proofs.Patched.{with_patch, patched-valid}
 use Rattle.newt_laws_changes.proofs.Soups.{with-entry, with-change-at, with-soup, with-new-soup, without-entry, without-soup}
 
 pub made_formed : (name : List ℕ) (s : Store) → IsTrue (well_formed s) → IsTrue (is_name name) → soup_named name s ≡ None → length s.soups < 64 → s.next_soup < 65535
@@ -38,7 +37,7 @@ replaced_formed name uid change s p e w found here same_uid fits = with-soup nam
     (λ d at _. subst (λ (x : Entry). valid_entry (change x) ≡ true) (one d at) fits))
 
 pub patched_formed : (name : List ℕ) (uid node class : ℕ) (old bytes : List ℕ) (change : Entry → Entry) (s : Store) (p : Soup) (e : Entry) → IsTrue (well_formed s) → soup_named name s ≡ Some p
-    → entry_of uid p ≡ Some e → slice_get e.graph.nodes node ≡ Some (Large class old) → length bytes ≡ length old → change e ≡ record e { graph = fill e.graph (node, bytes) }
+    → entry_of uid p ≡ Some e → slice_get e.graph.nodes node ≡ Some (Large class old) → length bytes ≡ length old → change e ≡ with_patch e node bytes
     → IsTrue (well_formed (change_soup name (change_entry uid change) s))
 patched_formed name uid node class old bytes change s p e w found here large as_many changes = replaced_formed name uid change s p e w found here (ap (λ (d : Entry). d.uid) changes)
     (ap valid_entry changes ∙ patched-valid e node class old bytes large as_many ∙ good)

@@ -1,5 +1,5 @@
 -- A store with a soup or an entry more or less lies in the changed objects.
-use Rattle.std.proofs.Common.{arith, ◌≡◌, ◌≢◌, refl, ap, sym, ◌∙◌, subst, ℕ, ◌<◌, ◌%◌, List, [], ◌∷◌, true, IsTrue, Option, Some, None, ◌⊎◌, inl, inr}
+use Rattle.std.proofs.Common.{arith, ◌≡◌, ◌≢◌, refl, ap, sym, ◌∙◌, subst, ℕ, ◌<◌, ◌%◌, List, [], ◌∷◌, IsTrue, Option, Some, None, ◌⊎◌, inl, inr}
 use Rattle.std.specs.FinMap as map
 use Rattle.newt_graph.specs.Graph.{RawGraph, IsGraph}
 use Rattle.newt_image.specs.Objects.{Objects}
@@ -16,7 +16,7 @@ use Rattle.newt_laws_changes.specs.Written.{Names, HeadWritten, EntryWritten, En
 use Rattle.newt_laws_changes.proofs.Bytes.{removed-directory}
 use Rattle.newt_laws_changes.proofs.Members.{same-or-not, in-below, added-in, in-added, new-in, removed-in, in-removed, dropped-in, in-dropped, made-in, in-made}
 use Rattle.newt_laws_changes.proofs.Places.{odd-is-not, odd-or-even, above-is-not, place-there, named-there, places_apart}
-use Rattle.newt_laws_changes.proofs.Turned.{IsNew, IsTurned, turned_lies}
+use Rattle.newt_laws_changes.proofs.Turned.{IsNew, turned_lies}
 
 -- ---- words
 

@@ -1,5 +1,5 @@
 -- An entry moved within one store: an entry more in one soup and one less in another, in one step.
-use Rattle.std.proofs.Common.{arith, ◌≡◌, ◌≢◌, refl, ap, sym, ◌∙◌, subst, ℕ, ◌<◌, ◌%◌, List, [], true, false, Bool, IsTrue, cond, Some, ◌⊎◌, inl, inr, ◌==◌}
+use Rattle.std.proofs.Common.{arith, ◌≡◌, ◌≢◌, refl, ap, sym, ◌∙◌, subst, ℕ, ◌<◌, ◌%◌, List, true, false, Bool, IsTrue, cond, Some, ◌⊎◌, inl, inr, ◌==◌}
 use Rattle.std.proofs.lemmas.Bool.{eqb-true, eq-eqb}
 use Rattle.std.proofs.lemmas.Cmp.{nat_cmp_total}
 use Rattle.std.specs.Cmp.{unsigned_tied}
@@ -25,7 +25,7 @@ use Rattle.newt_laws_changes.proofs.Lying.{Same, same-carried, among-or-not, eit
 use Rattle.newt_laws_changes.proofs.Members.{same-or-not, same-name, in-below, added-in, in-added, new-in, removed-in, in-removed}
 use Rattle.newt_laws_changes.proofs.Places.{odd-is-not, odd-or-even, above-is-not, place-there, named-there, places_apart}
 use Rattle.newt_laws_changes.proofs.Soups.{first-map}
-use Rattle.newt_laws_changes.proofs.Turned.{IsNew, IsTurned, turned_lies}
+use Rattle.newt_laws_changes.proofs.Turned.{IsNew, turned_lies}
 
 -- ---- a soup when an entry has been added to another or to it
 
@@ -146,7 +146,7 @@ module _ (sig uid old to id now : ℕ) (ids : List ℕ) (g : RawGraph) (objects 
 
   move-objects : (o : ℕ) (bytes : List ℕ) → map.get objects' o ≡ Some bytes → o ≢ 0 → (o ≡ id) ⊎ (o ≡ id → ⊥) → Among ids o ⊎ (Among ids o → ⊥)
       → ((map.get objects o ≡ Some bytes) × (o ≡ old → ⊥) × ((r : ℕ) → Among (lies.named r) o → r ≡ old → ⊥))
-          ⊎ (((t : ℕ) × (e : Entry) × Same to moved id t e o) ⊎ ((r : ℕ) × Among (named' r) o))
+      ⊎ (((t : ℕ) × (e : Entry) × Same to moved id t e o) ⊎ ((r : ℕ) × Among (named' r) o))
   move-objects o bytes got z (inl e) k = inr (inl (to, moved, (refl, refl, e)))
   move-objects o bytes got z (inr m) (inl k) = inr (inr (id, subst (λ (v : List ℕ). Among v o) (sym h.names_it) k))
   move-objects o bytes got z (inr m) (inr l) =
