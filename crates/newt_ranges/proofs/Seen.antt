@@ -13,6 +13,7 @@ use Rattle.newt_spec_store.specs.declared.Kind.{Kind}
 use Rattle.newt_spec_store.specs.declared.Kind.TheVariants as kind
 use Rattle.newt_spec_store.specs.Keys.{IndexSpec, object_part, part_of, if_first_is_there, key, folded}
 use Rattle.newt_spec_store.specs.Store.{TagTable}
+use Rattle.newt_spec_store.specs.StoreOf.{with_bytes, fill}
 use Rattle.newt_spec_query.specs.Spec.{Spec}
 use Rattle.newt_spec_query.specs.Tags.{symbol_name, symbols_at, is_among, tags_of, tags_pass}
 use Rattle.newt_spec_query.specs.Hits.{strings, passes}
@@ -72,6 +73,18 @@ nth-like (suc n) change like (x ∷ xs) = (like-self x, nth-like n change like x
 -- a graph of which one node is changed so
 pub change-like : (n : ℕ) (change : Node → Node) → ((x : Node) → Like x (change x)) → (g : RawGraph) → AreLike g (record g { nodes = change_nth n change g.nodes })
 change-like n change like g = record { root = refl; nodes = nth-like n change like g.nodes }
+
+-- a graph with other bytes in a large binary
+pub filled-like : (g : RawGraph) (n : ℕ) (bytes : List ℕ) → AreLike g (fill g (n, bytes))
+filled-like g n bytes = change-like n (with_bytes bytes) like g
+  where
+    like : (x : Node) → Like x (with_bytes bytes x)
+    like (Symbol s) = refl
+    like (Str s) = refl
+    like (Binary c b) = refl
+    like (Large c b) = (bytes, refl)
+    like (Array c v) = refl
+    like (Frame t v) = refl
 
 -- ---- what is seen of a graph
 
