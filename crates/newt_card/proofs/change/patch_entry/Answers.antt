@@ -1,7 +1,9 @@
-use Rattle.std.proofs.Common.{ℕ}
+use Rattle.std.proofs.Common.{ℕ, subst}
 use Rattle.std.specs.Prelude.{Ok, Err}
 use Rattle.newt_host.specs.Moments.{image}
 use Rattle.newt_store.specs.Readable.{readable}
+use Rattle.newt_units.specs.Bounds.{ProgramsAtMost}
+use Rattle.newt_card.proofs.Bounds.{patch-bound}
 use Rattle.newt_card.proofs.Commands.{patch-does, patch-leaves}
 use Rattle.newt_card.proofs.change.patch_entry.Goals as goal
 
@@ -19,6 +21,8 @@ returns-in-Ok g c =
       others = c.change_store.ensures.others;
       any_moment = λ tells s p x class large reads found here is.
           patch-leaves blocks 0 c.args.soup s p found c.args.uid x here c.args.node c.args.at c.args.bytes class large is u (o c.args.host.now).now (o c.change_store.new.host).now (c.change_store.ensures.any_moment tells s reads);
+      bound = λ tells s p x class large reads found here is. subst (λ (k : ℕ). ProgramsAtMost k u (o c.args.host.now) (o c.change_store.new.host)) (patch-bound blocks 0 c.args.soup s p found c.args.uid x here c.args.node c.args.at c.args.bytes class large is) (c.change_store.ensures.bound tells s reads);
+      open_after = λ tells. e.open_after tells;
       alone = c.change_store.ensures.alone;
       cause = tt;
     }
@@ -37,6 +41,8 @@ returns-in-Err g c =
       others = c.change_store.ensures.others;
       any_moment = λ tells s p x class large reads found here is.
           patch-leaves blocks 0 c.args.soup s p found c.args.uid x here c.args.node c.args.at c.args.bytes class large is u (o c.args.host.now).now (o c.change_store.new.host).now (c.change_store.ensures.any_moment tells s reads);
+      bound = λ tells s p x class large reads found here is. subst (λ (k : ℕ). ProgramsAtMost k u (o c.args.host.now) (o c.change_store.new.host)) (patch-bound blocks 0 c.args.soup s p found c.args.uid x here c.args.node c.args.at c.args.bytes class large is) (c.change_store.ensures.bound tells s reads);
+      open_after = λ tells. tt;
       alone = c.change_store.ensures.alone;
       cause = e.cause;
     }
