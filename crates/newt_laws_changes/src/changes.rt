@@ -58,6 +58,8 @@ pub fn changed_stores_are_well_formed()
     ensures dropped { (name : List ℕ) (s : Store) → IsTrue (well_formed s) → IsTrue (well_formed (drop_soup name s)) }
     ensures added { (sig now : ℕ) (g : RawGraph) (s : Store) (p : Soup) → IsTrue (well_formed s) → soup_of sig s ≡ Some p → p.next_uid < 536870911
         → IsTrue (valid_entry (record { uid = p.next_uid; time = now; graph = g })) → IsTrue (well_formed (change_soup p.name (add_entry now g) s)) }
+    ensures replaced { (name : List ℕ) (uid : ℕ) (change : Entry → Entry) (s : Store) (p : Soup) (e : Entry) → IsTrue (well_formed s) → soup_named name s ≡ Some p → entry_of uid p ≡ Some e
+        → (change e).uid ≡ e.uid → IsTrue (valid_entry (change e)) → IsTrue (well_formed (change_soup name (change_entry uid change) s)) }
     ensures patched { (name : List ℕ) (uid node class : ℕ) (old bytes : List ℕ) (change : Entry → Entry) (s : Store) (p : Soup) (e : Entry) → IsTrue (well_formed s) → soup_named name s ≡ Some p
         → entry_of uid p ≡ Some e → slice_get e.graph.nodes node ≡ Some (Large class old) → length bytes ≡ length old → change e ≡ record e { graph = fill e.graph (node, bytes) }
         → IsTrue (well_formed (change_soup name (change_entry uid change) s)) }
