@@ -62,6 +62,10 @@ replaced-formed : (name : List ℕ) (uid now : ℕ) (g : RawGraph) (s : Store) �
 replaced-formed name uid now g s formed valid = with-soup name (change_entry uid (with_graph now g)) s formed (λ p. refl) (λ p. refl)
     (λ p is ok. with-change uid (with_graph now g) p ok (λ e. refl) (λ e here was. valid))
 
+-- the entry has its place
+pub kept-place : (place : Places) (e : NewEntry) (sig uid id : ℕ) → e.sig ≡ sig → e.uid ≡ uid → e.id ≡ id → place sig uid ≡ Some id → place e.sig e.uid ≡ Some e.id
+kept-place place e sig uid id of_sig of_uid of_id at = ap (λ (n : ℕ). place n e.uid) of_sig ∙ ap (place sig) of_uid ∙ at ∙ ap Some (sym of_id)
+
 module _ (catalog : Catalog) (s : Store) (places-sound : AreSoundPlaces (held catalog.objects) (place_of catalog.places)) (names-sound : AreSoundNames (held catalog.objects) (place_of catalog.places) (names_of catalog.names))
     (sig uid : ℕ) (p : Soup) (found : soup_of sig s ≡ Some p) (old : Entry) (here : entry_of uid p ≡ Some old) (id : ℕ) (at : place_of catalog.places sig uid ≡ Some id)
     (now : ℕ) (g : RawGraph) (graph : IsGraph (skeleton g)) (time : now < 4294967296) (valid : valid_entry (record { uid = uid; time = now; graph = g }) ≡ true)
@@ -79,7 +83,7 @@ module _ (catalog : Catalog) (s : Store) (places-sound : AreSoundPlaces (held ca
   then = replaced p.name uid now g s
 
   its-place : place-now e.sig e.uid ≡ Some e.id
-  its-place = ap (λ (n : ℕ). place-now n e.uid) of.of_sig ∙ ap (place-now sig) of.of_uid ∙ at ∙ ap Some (sym of_id)
+  its-place = kept-place place-now e sig uid id of.of_sig of.of_uid of_id at
 
   -- no place changes
   same-places : (place : Places) → ArePlacesNext next-replaced place-now place → place ≡ place-now
