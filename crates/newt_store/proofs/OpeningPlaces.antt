@@ -309,11 +309,14 @@ counted told objects numbers unit outside kept tells texts h =
     let same : kept.are.live ≡ h.live = some-is _ _ (sym (kept.are.are.of_image tells) ∙ h.of_image) in
     pages_total h.live texts numbers (image_whole (image unit outside.now) h.live h.of_image) h.are (λ q. ap (λ (m : Pages). map.contains_key m q) (sym same) ∙ kept.are.are.named q)
 
-module _ (now : List ℕ) (texts : Objects) (h : HoldsObjects now texts) (bytes_there : (id : ℕ) (bytes : List ℕ) → map.get texts id ≡ Some bytes → AreBytes bytes)
-    (place : Places) (names : Names) (directory : Directory) (found : IsFound stream_graph texts place names (bare_store directory)) where
+module _ (now : List ℕ) (texts : Objects) (h : HoldsObjects now texts) (place : Places) (names : Names) (directory : Directory) (found : IsFound stream_graph texts place names (bare_store directory)) where
+  bytes-there : (id : ℕ) (bytes : List ℕ) → map.get texts id ≡ Some bytes → (id ≡ 0) ⊎ (id % 2 ≡ 1) → AreBytes bytes
+  bytes-there id bytes at (inl zero) = let r = found.directory in subst AreBytes (some-is r.0 bytes (sym r.1 ∙ ap (λ (q : ℕ). map.get texts q) (sym zero) ∙ at)) r.3
+  bytes-there id bytes at (inr odd) = (found.records id bytes at odd).2.are_bytes
+
   -- the objects take more pages than the unit has
   pub too-large : cap (blocks_of now) < total_pages texts → readable now ≡ None
-  too-large more = not-readable now texts h (λ s is. over stream_graph texts (blocks_of now) s reads_graphs bytes_there is more)
+  too-large more = not-readable now texts h (λ s is. over stream_graph texts (blocks_of now) s reads_graphs bytes-there is more)
 
   pub opened : total_pages texts ≤ cap (blocks_of now) → (catalog : Catalog) → catalog.directory ≡ directory → place_of catalog.places ≡ place → names_of catalog.names ≡ names
       → (s : Store) × (readable now ≡ Some s) × StandsFor catalog s now
@@ -355,13 +358,10 @@ module _ (told : Bool) (objects : Held) (numbers : Numbers) (unit : ℕ) (outsid
   there_cap : cap (blocks_of now) ≡ cap blocks
   there_cap = ap (λ (b : List ℕ). cap (blocks_of b)) (sym is) ∙ ap cap (blocks-are (image unit outside.now) blocks size)
 
-  there_bytes : (id : ℕ) (bytes : List ℕ) → map.get texts_there id ≡ Some bytes → AreBytes bytes
-  there_bytes id bytes at = ?
-
   -- more pages are live than the unit takes
   pub live-large : cap blocks < set.len numbers → readable now ≡ None
-  live-large more = too-large now texts_there there_hold there_bytes place names directory (found tells texts_there there_hold) (omega (arith, there_cap, there_count, more))
+  live-large more = too-large now texts_there there_hold place names directory (found tells texts_there there_hold) (omega (arith, there_cap, there_count, more))
 
   pub live-opened : set.len numbers ≤ cap blocks → (catalog : Catalog) → catalog.directory ≡ directory → place_of catalog.places ≡ place → names_of catalog.names ≡ names → (s : Store) × (readable now ≡ Some s) × StandsFor catalog s now
   live-opened few catalog same_directory same_places same_names =
-      opened now texts_there there_hold there_bytes place names directory (found tells texts_there there_hold) (omega (arith, there_cap, there_count, few)) catalog same_directory same_places same_names
+      opened now texts_there there_hold place names directory (found tells texts_there there_hold) (omega (arith, there_cap, there_count, few)) catalog same_directory same_places same_names
