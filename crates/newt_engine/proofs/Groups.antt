@@ -8,7 +8,7 @@ use Rattle.newt_spec_world.specs.World.{World}
 use Rattle.newt_spec_graph.proofs.Lists.{both-ways}
 use Rattle.newt_base.specs.Refusals.{first_of}
 use Rattle.newt_spec_world.specs.Refused.{checks}
-use Rattle.newt_laws_answers.specs.Stage.{answer_now, is_built, new_graph, staged}
+use Rattle.newt_laws_answers.specs.Spoken.{answer_now, is_built, new_graph, staged}
 use Rattle.newt_laws_answers.proofs.Answers.{refused}
 use Rattle.newt_engine.specs.Ends.{uses_device}
 use Rattle.newt_engine.specs.Groups.{on_graph}

@@ -18,7 +18,7 @@ use Rattle.newt_spec_world.specs.Alias.{Spot, alias_of, resolved}
 use Rattle.newt_spec_world.specs.World.{World, mounted_store, soup_in, entry_in, cursor, free_cursor, hits_of}
 use Rattle.newt_spec_world.specs.Answer.{answered, current, fields, or_nil, shown, side, spot_of}
 use Rattle.newt_spec_world.specs.Refused.{checks}
-use Rattle.newt_laws_answers.specs.Stage.{answer_now, checks_now, is_built, new_graph, staged}
+use Rattle.newt_laws_answers.specs.Spoken.{answer_now, checks_now, is_built, new_graph, staged}
 
 nil_not : {X : Type 0} (shown : X → plain.Reply) (o : Option X) (r : Refusal) → ((x : X) → shown x ≡ plain.Reply.refused r → ⊥) → or_nil shown o ≡ plain.Reply.refused r → ⊥
 nil_not shown None r never h = cc

@@ -23,9 +23,9 @@ use Rattle.newt_laws.specs.Worlds.{OnMedia}
 use Rattle.newt_laws.proofs.Kept.{Every, Wf}
 use Rattle.newt_laws_cursors.specs.Cursors.{with_cursors, uses_cursors}
 use Rattle.newt_laws_answers.specs.Answering.{Answering}
-use Rattle.newt_laws_answers.specs.Stage.{answer_now, is_built, new_graph, staged}
+use Rattle.newt_laws_answers.specs.Spoken.{answer_now, is_built, new_graph, staged}
 use Rattle.newt_laws_answers.proofs.Answers.{refused}
-use Rattle.newt_laws_answers.proofs.Staged.{now-apart, now-mounted-apart, now-on-cursors, now-settled, now-still}
+use Rattle.newt_laws_answers.proofs.Spoken.{now-apart, now-mounted-apart, now-on-cursors, now-settled, now-still}
 use Rattle.newt_units.specs.declared.fault.Fault.{Fault}
 use Rattle.newt_units.specs.declared.fault.Fault.TheVariants.{Refused, Stop as Ends}
 use Rattle.newt_units.specs.declared.units.Units.{Units}

@@ -23,7 +23,7 @@ use Rattle.newt_laws.specs.Settled.{IsSettled, MountedApart}
 use Rattle.newt_laws.proofs.Kept.{AllFalse, all-false}
 use Rattle.newt_laws.proofs.Later.{row-later, world-not}
 use Rattle.newt_laws_cursors.specs.Cursors.{with_cursors}
-use Rattle.newt_laws_answers.specs.Stage.{answer_now, checks_now, is_built, new_graph, has_large, staged}
+use Rattle.newt_laws_answers.specs.Spoken.{answer_now, checks_now, is_built, new_graph, has_large, staged}
 use Rattle.newt_units.specs.declared.units.Units.{Units}
 use Rattle.newt_units.specs.Cards.{IsSame}
 use Rattle.newt_units.specs.Stands.{Eight}

@@ -17,7 +17,7 @@ use Rattle.newt_spec_world.specs.Refused.{checks, on_some, no_unit, not_mounted,
 use Rattle.newt_spec_world.specs.Answer.{fields, or_nil}
 use Rattle.newt_laws.specs.Worlds.{parts_fit}
 use Rattle.newt_laws_answers.specs.Tests.{soup_checks, has_paths, index_tests, tagged, tags_tests}
-use Rattle.newt_laws_answers.specs.Stage.{checks_now, answer_now, tags_fit}
+use Rattle.newt_laws_answers.specs.Spoken.{checks_now, answer_now, tags_fit}
 use Rattle.newt_laws_answers.specs.There.{OnUnit}
 use Rattle.newt_laws_answers.proofs.Firsts.{first-true, first-false, first-found}
 use Rattle.newt_laws_answers.proofs.Units.{on-changed, soup-named}

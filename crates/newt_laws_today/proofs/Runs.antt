@@ -4,8 +4,8 @@ use Rattle.newt_base.specs.declared.Refusal.{Refusal}
 use Rattle.newt_laws.specs.Later.{WorldLater}
 use Rattle.newt_laws.proofs.Later.{run-later}
 use Rattle.newt_laws.proofs.Aliases.{gone-for-good}
-use Rattle.newt_laws_answers.proofs.Staged.{now-is}
-use Rattle.newt_laws_answers.specs.Stage.{answer_now}
+use Rattle.newt_laws_answers.proofs.Spoken.{now-is}
+use Rattle.newt_laws_answers.specs.Spoken.{answer_now}
 use Rattle.newt_laws_changes.specs.Later.{EntryGone}
 use Rattle.newt_session.specs.Script.{world_behind}
 use Rattle.newt_spec_script.specs.Script.{Item}

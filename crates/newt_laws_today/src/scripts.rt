@@ -2,7 +2,7 @@
 ghost use Rattle.std.specs.Prelude.{ℕ, ◌≡◌, ◌⊎◌, List, Some};
 ghost use Rattle.newt_base.specs.declared.Refusal.{Refusal};
 ghost use Rattle.newt_laws.specs.Later.{WorldLater};
-ghost use Rattle.newt_laws_answers.specs.Stage.{answer_now};
+ghost use Rattle.newt_laws_answers.specs.Spoken.{answer_now};
 ghost use Rattle.newt_laws_changes.specs.Later.{EntryGone};
 ghost use Rattle.newt_session.specs.Script.{world_behind};
 ghost use Rattle.newt_spec_script.specs.Script.{Item};

@@ -7,7 +7,7 @@ use Rattle.newt_base.specs.Refusals.{first_of}
 use Rattle.newt_base.specs.declared.Refusal.{Refusal}
 use Rattle.newt_laws.proofs.Kept.{changed-units, on_units}
 use Rattle.newt_laws.proofs.Units.{same-or-not, device-other, device-same}
-use Rattle.newt_laws_answers.specs.Stage.{answer_now, checks_now}
+use Rattle.newt_laws_answers.specs.Spoken.{answer_now, checks_now}
 use Rattle.newt_session.specs.Moments.{HasLeft, replies_begun, world_at}
 use Rattle.newt_session.specs.Script.{step, world_behind}
 use Rattle.newt_spec_graph.proofs.Lists.{none-some}

@@ -14,7 +14,7 @@ use Rattle.newt_spec_world.specs.World.{World, store_on_unit}
 use Rattle.newt_laws.specs.Later.{WorldLater}
 use Rattle.newt_laws.proofs.Kept.{AllFalse, all-false}
 use Rattle.newt_laws.proofs.Later.{row-later, world-not}
-use Rattle.newt_laws_answers.specs.Stage.{answer_now, checks_now, is_built, new_graph, has_large, staged}
+use Rattle.newt_laws_answers.specs.Spoken.{answer_now, checks_now, is_built, new_graph, has_large, staged}
 
 or-rest : (a b : Bool) → (a || b) ≡ false → b ≡ false
 or-rest false b x = x

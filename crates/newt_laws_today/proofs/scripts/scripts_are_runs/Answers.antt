@@ -1,4 +1,4 @@
-use Rattle.newt_laws_answers.proofs.Staged.{now-is}
+use Rattle.newt_laws_answers.proofs.Spoken.{now-is}
 use Rattle.newt_laws_today.proofs.Runs.{script-run, script-later}
 use Rattle.newt_laws_today.proofs.scripts.scripts_are_runs.Goals as goal
 

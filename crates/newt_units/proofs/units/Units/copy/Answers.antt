@@ -7,7 +7,7 @@ use Rattle.newt_base.specs.Refusals.{first_of}
 use Rattle.newt_spec_store.specs.Store.{entry_of, change_soup, add_entry}
 use Rattle.newt_spec_world.specs.World.{World, store_on_unit}
 use Rattle.newt_laws_answers.specs.Answering.{Answering}
-use Rattle.newt_laws_answers.specs.Stage.{answer_now}
+use Rattle.newt_laws_answers.specs.Spoken.{answer_now}
 use Rattle.newt_laws_answers.specs.Tests.{add_tests, with_added}
 use Rattle.newt_laws_answers.specs.There.{OnUnit}
 use Rattle.newt_laws_answers.proofs.Copies.{copy-not-found}
