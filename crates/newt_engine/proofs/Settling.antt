@@ -116,7 +116,7 @@ module _ {C : Type 0} {reads : List ℕ → Option Store} {place : C → ℕ} {s
 
       media : (m : Option Store) → reads (image u o.now) ≡ m → OnMedia Wf (o.blocks u) (media_of m)
       media None e = tt
-      media (Some x) e = (l.formed (image u o.now) x e).0
+      media (Some x) e = l.formed (image u o.now) x e
 
       go : (card : Option (List ℕ)) → o.card u ≡ card → OnMedia Wf d.blocks d.media
       go None e = absurd (none-some d (sym (at-none l units o s.eight stand u e) ∙ is))

@@ -11,7 +11,6 @@ use Rattle.newt_session.specs.Causes.{SameDevices}
 use Rattle.newt_spec_graph.proofs.Lists.{none-some, some-same, both-ways}
 use Rattle.newt_spec_query.specs.Cursor.{Cursor}
 use Rattle.newt_spec_store.specs.Laid.{bare}
-use Rattle.newt_spec_store.specs.Lies.{has_no_large}
 use Rattle.newt_spec_store.specs.Store.{Store}
 use Rattle.newt_spec_store.specs.Valid.{well_formed}
 use Rattle.newt_spec_world.specs.declared.command.Command.{Command}
@@ -43,7 +42,7 @@ eight_same told old new same e = record {
 
 -- the laws of cards, as one
 pub laws_of : {C : Type 0} {reads : List ℕ → Option Store} {place : C → ℕ} {soups : C → Store} {stands : Bool → C → Outside → Type 0}
-    → ((bytes : List ℕ) (s : Store) → reads bytes ≡ Some s → IsTrue (well_formed s) × IsTrue (has_no_large s))
+    → ((bytes : List ℕ) (s : Store) → reads bytes ≡ Some s → IsTrue (well_formed s))
     → ((card : C) (outside : Outside) → stands true card outside → (s : Store) × (reads (image (place card) outside.now) ≡ Some s) × (bare s ≡ soups card))
     → ((card : C) (outside : Outside) → stands true card outside → IsDurable (place card) outside.now)
     → ((told : Bool) (card : C) (outside : Outside) → stands told card outside → 13 ≤ outside.blocks (place card))

@@ -13,7 +13,7 @@ use Rattle.newt_spec_world.specs.Reply.{Reply}
 use Rattle.newt_spec_world.specs.Changed.{changed, bytes_of_large, large_at, large_bytes, patched, patched_at}
 use Rattle.newt_spec_world.specs.Refused.{checks, on_some}
 use Rattle.newt_spec_world.specs.Answer.{bytes_from, fields, or_nil}
-use Rattle.newt_laws_answers.specs.Tests.{entry_checks, patch_tests, patched_within}
+use Rattle.newt_laws_answers.specs.Tests.{entry_checks, large_tests, patch_tests, patched_within}
 use Rattle.newt_laws_answers.specs.Spoken.{checks_now, answer_now}
 use Rattle.newt_laws_answers.specs.There.{OnUnit}
 use Rattle.newt_laws_answers.proofs.Firsts.{first-true, first-false}
@@ -45,58 +45,48 @@ module _ (w : World) (u blocks : ℕ) (s : Store) (name : List ℕ) (p : Soup) (
       (NoPath, on_some o (λ e. is_none (large_at e.graph path)))
       ∷ (Range, on_some o (λ e. nat_lt (length (large_bytes e.graph path)) upto)) ∷ []
 
-  vread-tests : (many : ℕ) → first_of (checks_now w (command.Vread u name uid path at many)) ≡ first_of (tests (at + many) (Some e))
+  -- ---- vread
+
+  vread-tests : (many : ℕ) → first_of (checks_now w (command.Vread u name uid path at many)) ≡ first_of (large_tests path (at + many) e.graph)
   unfolding checks
   vread-tests many = there-passes w u blocks s name p uid h f e here (drop 4 (checks_now w (command.Vread u name uid path at many))) ∙ ap (λ o. first_of (tests (at + many) o)) there
 
-  vwrite-tests : (bytes : List ℕ) → first_of (checks_now w (command.Vwrite u name uid path at bytes)) ≡ first_of (tests (at + length bytes) (Some e))
+  pub vread-refused : (many : ℕ) (r : Refusal) → first_of (large_tests path (at + many) e.graph) ≡ Some r → answer_now w (command.Vread u name uid path at many) ≡ (w, Reply.refused r)
+  vread-refused many r k = refused w (command.Vread u name uid path at many) r (vread-tests many ∙ k)
+
+  pub vread-done : (many : ℕ) → first_of (large_tests path (at + many) e.graph) ≡ None → w.cursors ≡ replicate 32 None
+      → answer_now w (command.Vread u name uid path at many) ≡ (w, Reply.hex (bytes_from at many (large_bytes e.graph path)))
+  unfolding changed fields
+  vread-done many k none = done w (command.Vread u name uid path at many) (vread-tests many ∙ k) none
+      ∙ ap {B = World × Reply} (λ o. (w, or_nil (λ e. Reply.hex (bytes_from at many (large_bytes e.graph path))) o)) there
+
+  -- ---- vwrite
+
+  vwrite-tests : (bytes : List ℕ) → first_of (checks_now w (command.Vwrite u name uid path at bytes)) ≡ first_of (large_tests path (at + length bytes) e.graph)
   unfolding checks
   vwrite-tests bytes = there-passes w u blocks s name p uid h f e here (drop 4 (checks_now w (command.Vwrite u name uid path at bytes))) ∙ ap (λ o. first_of (tests (at + length bytes) o)) there
 
   -- no large binary is reached
-  module _ (none : large_at e.graph path ≡ None) where
-    no-path : (upto : ℕ) → first_of (tests upto (Some e)) ≡ Some NoPath
-    no-path upto = first-true NoPath _ (drop 1 (tests upto (Some e))) (ap is_none none)
+  pub vwrite-no-path : large_at e.graph path ≡ None → (bytes : List ℕ) → answer_now w (command.Vwrite u name uid path at bytes) ≡ (w, Reply.refused NoPath)
+  vwrite-no-path none bytes = refused w (command.Vwrite u name uid path at bytes) NoPath (vwrite-tests bytes ∙ first-true NoPath _ (drop 1 (large_tests path (at + length bytes) e.graph)) (ap is_none none))
 
-    pub vread-no-path : (many : ℕ) → answer_now w (command.Vread u name uid path at many) ≡ (w, Reply.refused NoPath)
-    vread-no-path many = refused w (command.Vread u name uid path at many) NoPath (vread-tests many ∙ no-path (at + many))
+  -- the node of one is reached
+  module _ (node : ℕ) (is : large_at e.graph path ≡ Some node) (bytes : List ℕ) where
+    patch-checks : first_of (checks_now w (command.Vwrite u name uid path at bytes)) ≡ first_of (patch_tests node at (length bytes) e)
+    patch-checks = vwrite-tests bytes ∙ first-false NoPath _ (drop 1 (large_tests path (at + length bytes) e.graph)) (ap is_none is)
+        ∙ ap (λ o. first_of ((Range, nat_lt (length (bytes_of_large (option_and_then (slice_get e.graph.nodes) o))) (at + length bytes)) ∷ [])) is
 
-    pub vwrite-no-path : (bytes : List ℕ) → answer_now w (command.Vwrite u name uid path at bytes) ≡ (w, Reply.refused NoPath)
-    vwrite-no-path bytes = refused w (command.Vwrite u name uid path at bytes) NoPath (vwrite-tests bytes ∙ no-path (at + length bytes))
+    pub vwrite-refused : (r : Refusal) → first_of (patch_tests node at (length bytes) e) ≡ Some r → answer_now w (command.Vwrite u name uid path at bytes) ≡ (w, Reply.refused r)
+    vwrite-refused r k = refused w (command.Vwrite u name uid path at bytes) r (patch-checks ∙ k)
 
-  -- the node of a large binary is reached
-  module _ (node : ℕ) (is : large_at e.graph path ≡ Some node) where
-    bytes-are : large_bytes e.graph path ≡ bytes_of_large (slice_get e.graph.nodes node)
-    bytes-are = ap (λ o. bytes_of_large (option_and_then (slice_get e.graph.nodes) o)) is
-
-    range : (many : ℕ) → first_of (tests (at + many) (Some e)) ≡ first_of (patch_tests node at many e)
-    range many = first-false NoPath _ (drop 1 (tests (at + many) (Some e))) (ap is_none is) ∙ ap (λ xs. first_of ((Range, nat_lt (length xs) (at + many)) ∷ [])) bytes-are
-
-    -- ---- vread
-
-    pub vread-refused : (many : ℕ) (r : Refusal) → first_of (patch_tests node at many e) ≡ Some r → answer_now w (command.Vread u name uid path at many) ≡ (w, Reply.refused r)
-    vread-refused many r k = refused w (command.Vread u name uid path at many) r (vread-tests many ∙ range many ∙ k)
-
-    pub vread-done : (many : ℕ) → first_of (patch_tests node at many e) ≡ None → w.cursors ≡ replicate 32 None
-        → answer_now w (command.Vread u name uid path at many) ≡ (w, Reply.hex (bytes_from at many (bytes_of_large (slice_get e.graph.nodes node))))
-    unfolding changed fields
-    vread-done many k none = done w (command.Vread u name uid path at many) (vread-tests many ∙ range many ∙ k) none
-        ∙ ap {B = World × Reply} (λ o. (w, or_nil (λ e. Reply.hex (bytes_from at many (large_bytes e.graph path))) o)) there
-        ∙ ap {B = World × Reply} (λ xs. (w, Reply.hex (bytes_from at many xs))) bytes-are
-
-    -- ---- vwrite
-
-    pub vwrite-refused : (bytes : List ℕ) (r : Refusal) → first_of (patch_tests node at (length bytes) e) ≡ Some r → answer_now w (command.Vwrite u name uid path at bytes) ≡ (w, Reply.refused r)
-    vwrite-refused bytes r k = refused w (command.Vwrite u name uid path at bytes) r (vwrite-tests bytes ∙ range (length bytes) ∙ k)
-
-    vwrite-changed : (bytes : List ℕ) → changed w (command.Vwrite u name uid path at bytes) ≡ change_store w u (patched_within name uid node at bytes)
+    vwrite-changed : changed w (command.Vwrite u name uid path at bytes) ≡ change_store w u (patched_within name uid node at bytes)
     unfolding changed
-    vwrite-changed bytes = store-alike w u blocks s (change_soup name (change_entry uid (λ e. record e { graph = patched path at bytes e.graph }))) (patched_within name uid node at bytes) h
+    vwrite-changed = store-alike w u blocks s (change_soup name (change_entry uid (λ e. record e { graph = patched path at bytes e.graph }))) (patched_within name uid node at bytes) h
         (entry-alike name uid (λ e. record e { graph = patched path at bytes e.graph }) (λ e. record e { graph = patched_at (Some node) at bytes e.graph }) s p e f here
         (ap {A = Option ℕ} {B = Entry} (λ o. record e { graph = patched_at o at bytes e.graph }) is))
 
-    pub vwrite-done : (bytes : List ℕ) → first_of (patch_tests node at (length bytes) e) ≡ None → w.cursors ≡ replicate 32 None
+    pub vwrite-done : first_of (patch_tests node at (length bytes) e) ≡ None → w.cursors ≡ replicate 32 None
         → answer_now w (command.Vwrite u name uid path at bytes) ≡ (change_store w u (patched_within name uid node at bytes), Reply.done)
     unfolding fields
-    vwrite-done bytes k none = done w (command.Vwrite u name uid path at bytes) (vwrite-tests bytes ∙ range (length bytes) ∙ k) (ap (λ (y : World). y.cursors) (vwrite-changed bytes) ∙ none)
-        ∙ ap {B = World × Reply} (λ y. (y, Reply.done)) (vwrite-changed bytes)
+    vwrite-done k none = done w (command.Vwrite u name uid path at bytes) (patch-checks ∙ k) (ap (λ (y : World). y.cursors) vwrite-changed ∙ none)
+        ∙ ap {B = World × Reply} (λ y. (y, Reply.done)) vwrite-changed

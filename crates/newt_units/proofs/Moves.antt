@@ -124,7 +124,7 @@ module _ (w : World) (u to : ℕ) (name target : List ℕ) (sig into uid : ℕ) 
   by-name = ap (answer_now w) (move-named w u to name target sig into uid h k)
 
   room : first_of (tests w) ≡ first_of (room_tests k.blocks w.minute k.soup.name e.graph k.store k.soup)
-  room = let f = entry-fits h.store name h.soup uid e h.formed h.small h.named found in graph-passes k.blocks w.minute k.soup.name e k.store k.soup f.0 f.1
+  room = let f = entry-fits h.store name h.soup uid e h.formed h.named found in graph-passes k.blocks w.minute k.soup.name e k.store k.soup f
 
   pub on-added : OnUnit added u h.blocks h.store
   on-added = on-other w u to h.blocks h.store add (λ i. differ (sym i)) h.on

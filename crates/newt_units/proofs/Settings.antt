@@ -142,7 +142,6 @@ module _ {C : Type 0} {reads : List ℕ → Option Store} {place : C → ℕ} {s
     by_sig = f.by_sig;
     name_is = f.name_is;
     formed = f.formed;
-    small = f.small;
   }
 
   pub has-entry : (u : ℕ) (name : List ℕ) (sig uid : ℕ) → (h : HasSoup (world_of reads units o) u name sig) → is_some (entry_at sig uid h.store) ≡ true → HasEntry (world_of reads units o) u name sig uid
