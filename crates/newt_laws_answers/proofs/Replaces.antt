@@ -11,7 +11,7 @@ use Rattle.newt_image.specs.Pages.{cap}
 use Rattle.newt_spec_graph.specs.Graph.{is_frame, object}
 use Rattle.newt_spec_graph.specs.Limits.{within_limits, is_within}
 use Rattle.newt_spec_graph.specs.Slots.{put}
-use Rattle.newt_spec_graph.proofs.Lists.{some-same, none-some}
+use Rattle.newt_spec_graph.proofs.Lists.{some-same}
 use Rattle.newt_spec_store.specs.Cost.{cost, skeleton_length}
 use Rattle.newt_spec_store.specs.Keys.{Path}
 use Rattle.newt_spec_store.specs.Valid.{valid_entry}

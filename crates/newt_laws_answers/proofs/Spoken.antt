@@ -71,10 +71,10 @@ now-later w c = now-keeps (WorldLater w) w c (world-not w) (answer-later w c)
 
 -- lines give them, so the world of all commands answers them
 pub now-on-cursors : (w : World) (c : Command) → uses_cursors c ≡ true → answer_now w c ≡ answer w c
+unfolding uses_cursors
 now-on-cursors w c h = spoken-is w c (spoken c h)
   where
     spoken : (c : Command) → uses_cursors c ≡ true → is_spoken c ≡ true
-    unfolding uses_cursors
     spoken (command.Format _ _ _) h = cc
     spoken (command.Index _ _ _) h = cc
     spoken (command.SetTags _ _ _ _) h = cc
