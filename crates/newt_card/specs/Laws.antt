@@ -19,7 +19,7 @@ use Rattle.newt_soupdir.specs.Bare.{bare_store}
 use Rattle.newt_entries.specs.Entry.{stream_graph}
 use Rattle.newt_shelf.specs.Places.{place_of}
 use Rattle.newt_store.proofs.Reading.{both, read-back}
-use Rattle.newt_store.specs.Stage.{is_simple, readable}
+use Rattle.newt_store.specs.Readable.{readable}
 use Rattle.newt_store.specs.Stands.{IsSound}
 use Rattle.newt_store.specs.declared.catalog.Catalog.{Catalog}
 use Rattle.newt_ranges.specs.declared.rows.SoupRanges.{SoupRanges}

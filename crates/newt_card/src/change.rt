@@ -5,7 +5,7 @@ ghost use Rattle.newt_host.specs.Outside.{Touches};
 ghost use Rattle.newt_spec_store.specs.Store.{Store as Plain, Soup, change_soup};
 ghost use Rattle.newt_spec_world.specs.Changed.{without_index};
 ghost use Rattle.newt_store.specs.Change.{changed_by, answer_of, refusals};
-ghost use Rattle.newt_store.specs.Stage.{readable};
+ghost use Rattle.newt_store.specs.Readable.{readable};
 ghost use Rattle.newt_units.specs.Cards.{soup_of, LeavesEither, OthersSame};
 ghost use Rattle.newt_units.specs.Faults.{Does, GoesOn, FaultsAt};
 ghost use Rattle.newt_card.specs.Stands.{StandsOn};

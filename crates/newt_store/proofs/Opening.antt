@@ -35,7 +35,7 @@ use Rattle.newt_soupdir.specs.declared.rows.Directory.{Directory}
 use Rattle.newt_entries.specs.Entry.{stream_graph, said}
 use Rattle.newt_entries.specs.declared.row.EntryRow.{EntryRow}
 use Rattle.newt_shelf.specs.Commit.{AreKept}
-use Rattle.newt_store.specs.Stage.{readable, is_simple}
+use Rattle.newt_store.specs.Readable.{readable}
 use Rattle.newt_store.specs.Opening.{OfObjects, HasObject, IsRoot, IsRow, AreSoundTo, AreFoundTo}
 
 pub none-some : {X : Type 0} (x : X) → None ≡ Some x → ⊥

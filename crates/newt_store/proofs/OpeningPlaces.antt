@@ -34,7 +34,7 @@ use Rattle.newt_entries.proofs.Streams.{reads_graphs}
 use Rattle.newt_shelf.specs.Commit.{AreKept}
 use Rattle.newt_shelf.proofs.Committing.{blocks-are}
 use Rattle.newt_shelf.specs.Places.{place_of}
-use Rattle.newt_store.specs.Stage.{readable, is_simple}
+use Rattle.newt_store.specs.Readable.{readable}
 use Rattle.newt_store.specs.Stands.{StandsFor}
 use Rattle.newt_store.specs.Opening.{OfObjects, IsRoot, IsRow, AreSoundTo, AreFoundTo}
 use Rattle.newt_store.specs.declared.catalog.Catalog.{Catalog}

@@ -14,7 +14,7 @@ ghost use Rattle.newt_soupdir.specs.Bare.{bare_store};
 ghost use Rattle.newt_entries.specs.Entry.{stream_graph, said};
 ghost use Rattle.newt_shelf.specs.Commit.{AreKept};
 ghost use Rattle.newt_shelf.specs.Places.{AreSoundPlaces, place_of};
-ghost use Rattle.newt_store.specs.Stage.{readable};
+ghost use Rattle.newt_store.specs.Readable.{readable};
 ghost use Rattle.newt_store.specs.Stands.{StandsFor, IsSound};
 ghost use Rattle.newt_store.specs.Opening.{OfObjects, HasObject, IsRoot, IsRow, AreSoundTo, AreFoundTo};
 

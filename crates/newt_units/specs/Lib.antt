@@ -8,3 +8,4 @@ pub mod Faces
 pub mod Spots
 pub mod Declares
 pub mod Larges
+pub mod Bounds

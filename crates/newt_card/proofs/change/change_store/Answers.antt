@@ -7,7 +7,7 @@ use Rattle.newt_ranges.specs.declared.rows.SoupRanges.{SoupRanges}
 use Rattle.newt_spec_store.specs.OfImage.{blocks_of}
 use Rattle.newt_spec_store.specs.Store.{Store as Plain}
 use Rattle.newt_store.specs.Change.{changed_by}
-use Rattle.newt_store.specs.Stage.{readable}
+use Rattle.newt_store.specs.Readable.{readable}
 use Rattle.newt_store.specs.Stands.{StandsFor}
 use Rattle.newt_store.specs.declared.catalog.Catalog.{Catalog}
 use Rattle.newt_card.specs.Stands.{StandsOn}

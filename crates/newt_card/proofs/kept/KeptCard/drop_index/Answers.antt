@@ -1,7 +1,7 @@
 use Rattle.std.proofs.Common.{ℕ, refl}
 use Rattle.newt_host.specs.Moments.{image}
 use Rattle.newt_host.proofs.Outside.{Touches-refl}
-use Rattle.newt_store.specs.Stage.{readable}
+use Rattle.newt_store.specs.Readable.{readable}
 use Rattle.newt_card.specs.Stands.{StandsOn}
 use Rattle.newt_card.proofs.Commands.{copied-does, copied-leaves, leaves-index}
 use Rattle.newt_card.proofs.kept.KeptCard.drop_index.Goals as goal

@@ -1,7 +1,7 @@
 use Rattle.std.proofs.Common.{ℕ, refl}
 use Rattle.newt_host.specs.Moments.{image}
 use Rattle.newt_host.proofs.Outside.{Touches-refl}
-use Rattle.newt_store.specs.Stage.{readable}
+use Rattle.newt_store.specs.Readable.{readable}
 use Rattle.newt_card.specs.Stands.{StandsOn}
 use Rattle.newt_card.proofs.Commands.{make-does, make-leaves, leaves-nothing}
 use Rattle.newt_card.proofs.kept.KeptCard.make_soup.Goals as goal

@@ -1,6 +1,6 @@
 use Rattle.std.proofs.Common.{ℕ}
 use Rattle.newt_host.specs.Moments.{image}
-use Rattle.newt_store.specs.Stage.{readable}
+use Rattle.newt_store.specs.Readable.{readable}
 use Rattle.newt_card.proofs.Commands.{move-does, move-leaves}
 use Rattle.newt_card.proofs.kept.KeptCard.move_entry.Goals as goal
 
