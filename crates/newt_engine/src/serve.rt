@@ -103,6 +103,7 @@ fn settles(command: &Command) -> bool
             | Command::Change(_, _, _, _)
             | Command::Copy(_, _, _, _, _)
             | Command::Move(_, _, _, _, _)
+            | Command::Vwrite(_, _, _, _, _, _)
     )
 }
 
