@@ -10,7 +10,7 @@ use Rattle.newt_laws_answers.proofs.Larges.{vread-not-found}
 use Rattle.newt_units.specs.Cards.{ReadsEntry}
 use Rattle.newt_units.specs.Stands.{world_of}
 use Rattle.newt_units.proofs.Commands.{read-found}
-use Rattle.newt_units.proofs.Larges.{missing, vread-answers}
+use Rattle.newt_units.proofs.Binaries.{missing, vread-answers}
 use Rattle.newt_units.proofs.Settings.{Setting, is-err, still, soup-refused, has-soup}
 use Rattle.newt_units.proofs.units.Units.vread.Goals as goal
 

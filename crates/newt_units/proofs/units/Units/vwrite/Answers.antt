@@ -18,7 +18,7 @@ use Rattle.newt_units.specs.Cards.{ReadsEntry}
 use Rattle.newt_units.specs.Faults.{Does}
 use Rattle.newt_units.specs.Stands.{world_of}
 use Rattle.newt_units.proofs.Commands.{read-found}
-use Rattle.newt_units.proofs.Larges.{missing, reached, vwrite-answers, vwrite-makes, vwrite-nowhere}
+use Rattle.newt_units.proofs.Binaries.{missing, reached, vwrite-answers, vwrite-makes, vwrite-nowhere}
 use Rattle.newt_units.proofs.Settings.{Setting, is-err, still, soup-refused, has-soup}
 use Rattle.newt_units.proofs.units.Units.vwrite.Goals as goal
 
