@@ -17,8 +17,11 @@ ids_in (Some ids) = ids
 abbrev pub names_of : NameTable → ℕ → List ℕ
 names_of names id = ids_in (option_map (λ ids. ids.items) (tree.get nat_cmp names.rows id))
 
--- Each id that is named is that of an object, even and above 0; the record that names it is at a place; no id is named twice.
+-- a record has a row, so that keeping what it names takes no memory
+abbrev pub IsReady : NameTable → ℕ → Type 0
+IsReady names id = IsSome (tree.get nat_cmp names.rows id)
 
+-- Each id that is named is that of an object, even and above 0; the record that names it is at a place; no id is named twice.
 pub record AreSoundNames (table : Table) (place : Places) (names : ℕ → List ℕ) : Type 0 where
   pub there : (r o : ℕ) → Among (names r) o → IsSome (table o)
   pub even : (r o : ℕ) → Among (names r) o → (o % 2 ≡ 0) × (0 < o)

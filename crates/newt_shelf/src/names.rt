@@ -1,8 +1,6 @@
 // Which objects the records of entries name.
-ghost use Rattle.std.specs.Prelude.{◌≡◌, ◌≢◌, ◌++◌, [], ℕ, IsSome, OnOk, OnErr};
-ghost use Rattle.std.specs.BTreeMap as tree;
-ghost use Rattle.std.specs.Ordering.{nat_cmp};
-ghost use Rattle.newt_shelf.specs.Names.{names_of};
+ghost use Rattle.std.specs.Prelude.{◌≡◌, ◌≢◌, ◌++◌, [], ℕ, OnOk, OnErr};
+ghost use Rattle.newt_shelf.specs.Names.{names_of, IsReady};
 
 use std::alloc::{AllocError, Global};
 use std::collections::BTreeMap;
@@ -33,10 +31,11 @@ impl NameTable {
         }
     }
 
-    /// Keeps what a record names. After an error nothing is said of the table.
+    /// Keeps what a record names. After an error each record names what it named.
     pub fn insert(&mut self, id: u32, ids: Vec<u32>) -> Result<(), AllocError>
         ensures kept { OnOk result (names_of self.new id ≡ ids.items) }
         ensures others { OnOk result ((other : ℕ) → other ≢ id → names_of self.new other ≡ names_of self.old other) }
+        ensures err { OnErr result ((other : ℕ) → names_of self.new other ≡ names_of self.old other) }
     {
         let _old = self.rows.insert(id, ids)?;
         Ok(())
@@ -45,7 +44,8 @@ impl NameTable {
     /// Takes the memory that a row of a record needs; each record names what it named.
     pub fn prepare(&mut self, alloc: Global, id: u32) -> Result<(), AllocError>
         ensures same { (other : ℕ) → names_of self.new other ≡ names_of self.old other }
-        ensures ready { OnOk result (IsSome (tree.get nat_cmp self.new.rows id)) }
+        ensures ready { OnOk result (IsReady self.new id) }
+        ensures others { (other : ℕ) → IsReady self.old other → IsReady self.new other }
     {
         if self.rows.get(&id).is_none() {
             let _old = self.rows.insert(id, Vec::new(alloc))?;
@@ -55,7 +55,7 @@ impl NameTable {
 
     /// Keeps what a record names that has a row. It takes no memory.
     pub fn set(&mut self, id: u32, ids: Vec<u32>)
-        requires ready { IsSome (tree.get nat_cmp self.old.rows id) }
+        requires ready { IsReady self.old id }
         ensures kept { names_of self.new id ≡ ids.items }
         ensures others { (other : ℕ) → other ≢ id → names_of self.new other ≡ names_of self.old other }
     {
@@ -68,6 +68,7 @@ impl NameTable {
     pub fn remove(&mut self, id: u32)
         ensures gone { names_of self.new id ≡ [] }
         ensures others { (other : ℕ) → other ≢ id → names_of self.new other ≡ names_of self.old other }
+        ensures ready { (other : ℕ) → other ≢ id → IsReady self.old other → IsReady self.new other }
     {
         self.rows.remove(&id);
     }

@@ -1,5 +1,5 @@
 // What each change makes of a store, or why it is refused.
-ghost use Rattle.std.specs.Prelude.{IsTrue, ◌≡◌, ◌*◌, ◌%◌, ◌<◌, ℕ, Some, None, IsSome, OnOk, IfOk, IfErr, IfSome};
+ghost use Rattle.std.specs.Prelude.{IsTrue, ◌≡◌, ◌*◌, ◌%◌, ◌<◌, ℕ, false, map as map_list, Some, None, IfOk, IfErr, IfSome};
 ghost use Rattle.newt_base.specs.Refusals.{first_of};
 ghost use Rattle.newt_graph.specs.Graph.{IsGraph};
 ghost use Rattle.newt_host.specs.Moments.{image};
@@ -7,14 +7,16 @@ ghost use Rattle.newt_host.specs.Outside.{Touches, Spends};
 ghost use Rattle.newt_image.specs.Objects.{Objects as Texts};
 ghost use Rattle.newt_objects.specs.Held.{held};
 ghost use Rattle.newt_spec_graph.specs.Graph as words;
-ghost use Rattle.newt_spec_store.specs.Lies.{graph_has_no_large};
+ghost use Rattle.newt_spec_graph.specs.Lists.{Among};
 ghost use Rattle.newt_spec_store.specs.Store.{Store as PlainStore};
 ghost use Rattle.newt_spec_store.specs.Valid.{well_formed, valid_entry};
 ghost use Rattle.newt_soupdir.specs.Bare.{bare_soup, bare_store};
 ghost use Rattle.newt_soupdir.specs.Changes.{soup_of};
-ghost use Rattle.newt_store.specs.Change.{first_checks, entry_in, entry_moved, pages_of_entry, is_too_large as too_large};
+ghost use Rattle.newt_store.specs.Change.{first_checks, entry_in, entry_moved, is_patch, pages_of_entry, is_too_large as too_large};
+ghost use Rattle.newt_shelf.specs.Batch.{AreOnce, large_ids};
 ghost use Rattle.newt_shelf.specs.Faults.{FaultsAt};
-ghost use Rattle.newt_store.specs.Next.{IsNextOf, IsPlanOf, IsAdding, IsNoDevice};
+ghost use Rattle.newt_shelf.specs.Names.{names_of};
+ghost use Rattle.newt_store.specs.Next.{IsNextOf, IsPlanOf, IsAdding, IsEntryOf, IsNoDevice};
 ghost use Rattle.newt_store.specs.Stands.{Describes, StandsFor, IsSound, RefusesWith};
 ghost use Rattle.newt_shelf.specs.Places.{place_of, AreSoundPlaces};
 
@@ -32,7 +34,7 @@ use newt_objects::Objects;
 use newt_pagebook::{PageBook, Stop};
 use newt_shelf::{NewEntry, NewLarge, StoreFault};
 use newt_soupdir::SoupRow;
-use std::alloc::Global;
+use std::alloc::{AllocError, Global};
 
 /// The last next entry id: the soup has no further id to give.
 const LAST_ID: u32 = 536_870_911;

@@ -94,6 +94,6 @@ pub(crate) fn read_whole<P: PageBook, H: Host>(
     let larges = read_larges(alloc, host, book, objects, row.larges.list())?;
     let uid = row.uid;
     let time = row.time;
-    let graph = filled(alloc, row, larges)?;
+    let graph = filled(alloc, &row, larges)?;
     Ok(Entry { uid, time, graph })
 }
