@@ -1,5 +1,5 @@
 -- How many bytes a command programs at most, on a unit whose bank is not closed and has room for them. All of it is this project's own.
-use Rattle.std.specs.Prelude.{ℕ, ◌+◌, ◌*◌, ◌/◌, Bool, cond, ◌==◌, ◌&&◌, List, [], ◌∷◌, ◌++◌, length, sum_by, Option, Some, None, is_some}
+use Rattle.std.specs.Prelude.{ℕ, ◌+◌, ◌*◌, ◌/◌, cond, ◌==◌, List, [], ◌∷◌, length, sum_by, Option, Some, None, is_some, if◌then◌else◌}
 use Rattle.newt_base.specs.Refusals.{Checks, first_of}
 use Rattle.newt_image.specs.Objects.{pages_for}
 use Rattle.newt_spec_store.specs.Cost.{directory_bytes, entry_pages}

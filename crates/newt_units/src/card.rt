@@ -297,7 +297,7 @@ pub trait Card: Sized + Drop {
         ensures same { (place self.new ≡ place self.old) × (soups self.new ≡ soups self.old) }
         ensures found { IsTrue H.told → (s : Plain) → reads (image (place self.old) (H.outside host.old).now) ≡ Some s → IfOk result (λ found. entry_said found ≡ entry_at soup uid s) }
         ensures moment { (H.outside host.new).now ≡ (H.outside host.old).now }
-        ensures programs_nothing { (H.outside host.new).programmed (place self.old) ≤ (H.outside host.old).programmed (place self.old) }
+        ensures programs_nothing { IsTrue H.told → (H.outside host.new).programmed (place self.old) ≤ (H.outside host.old).programmed (place self.old) }
         ensures alone { Touches (place self.old) (H.outside host.old) (H.outside host.new) }
         ensures cause { IfErr result (StopsAt (place self.old) (H.outside host.old) (H.outside host.new)) };
 
