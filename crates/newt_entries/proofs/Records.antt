@@ -7,7 +7,7 @@ use Rattle.newt_spec_store.specs.Lies.{only, is_record, record_read}
 use Rattle.newt_spec_store.specs.StoreOf.{LargeRow, EntryRow, entry_row, written}
 use Rattle.newt_entries.specs.Entry.{stream_graph, rows_in, fits}
 use Rattle.newt_entries.proofs.Streams.{written_text}
-use Rattle.newt_entries.proofs.Rows.{the_row, text_size, row_read, row_short}
+use Rattle.newt_entries.proofs.Rows.{the_row, text_size, row_read, row_short, row_headless}
 
 abbrev read_row : Option EntryRow → Option (EntryRow × RawGraph)
 read_row o = only is_record (option_and_then (λ row. option_map (λ g. (row, g)) (written stream_graph row.text)) o)
@@ -42,3 +42,6 @@ unfit bytes g h room e is = by_tests bytes g h room e ∙ ap {A = Bool} {B = Opt
 
 pub short : (bytes : List ℕ) → 12 ≤ length bytes → length bytes - 12 < 12 * be16_at bytes 2 → record_read stream_graph bytes ≡ None
 short bytes h room = ap read_row (row_short bytes h room)
+
+pub headless : (bytes : List ℕ) → length bytes < 12 → record_read stream_graph bytes ≡ None
+headless bytes h = ap read_row (row_headless bytes h)

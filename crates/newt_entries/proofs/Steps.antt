@@ -1,0 +1,87 @@
+-- The steps of the loops over rows and nodes.
+use Rattle.std.proofs.Common.{arith, ◌≡◌, refl, ap, sym, ◌∙◌, ℕ, zero, suc, ◌+◌, ◌-◌, ◌<◌, ◌≤◌, List, [], ◌∷◌, ◌++◌, true, false, Bool, ◌&&◌, Option, Some, None, length, get_or, take, drop, map, zip, ◌==◌, append_assoc}
+use Rattle.std.specs.Prelude.{bytes_eq}
+use Rattle.std.specs.List.{list_all, flat_map}
+use Rattle.std.proofs.lemmas.Bool.{eq-eqb}
+use Rattle.std.proofs.lemmas.List.{append-nil, map-append, at_drop_more, at_drop_all}
+use Rattle.newt_base.specs.Text.{be32_at}
+use Rattle.newt_graph.specs.declared.node.Node.{Node}
+use Rattle.newt_graph.specs.declared.node.Node.TheVariants.{Symbol, Str, Binary, Large, Array, Frame}
+use Rattle.newt_spec_store.specs.Laid.{row_of_large}
+use Rattle.newt_spec_store.specs.StoreOf.{LargeRow}
+use Rattle.newt_laws_images.proofs.Records.{larges_from}
+use Rattle.newt_entries.specs.declared.row.LargeAt.{LargeAt}
+use Rattle.newt_entries.specs.Entry.{row_at, rows_in, names_from}
+use Rattle.newt_entries.specs.Filling.{bytes_in, length_in, put_node, put_in}
+
+-- one row more behind those that are there
+pushed : (rows next : List LargeAt) (l : LargeAt) (rest : List LargeRow) → next ≡ rows ++ l ∷ [] → map row_at next ++ rest ≡ map row_at rows ++ (row_at l ∷ rest)
+pushed rows next l rest e = ap (λ ls. map row_at ls ++ rest) e ∙ ap (λ ls. ls ++ rest) (map-append row_at rows (l ∷ [])) ∙ append_assoc (map row_at rows) (row_at l ∷ []) rest
+
+-- ---- rows that are read
+
+pub rows-more : (rows next : List LargeAt) (more : ℕ) (left rest : List ℕ) (l : LargeAt) (all : List LargeRow) → 0 < more → row_at l ≡ (be32_at left 0, be32_at left 4, be32_at left 8) → next ≡ rows ++ l ∷ [] → rest ≡ drop 12 left
+    → map row_at rows ++ rows_in more left ≡ all → map row_at next ++ rows_in (more - 1) rest ≡ all
+rows-more rows next zero left rest l all some is e r so_far = absurd (omega (arith, some))
+rows-more rows next (suc m) left rest l all some is e r so_far =
+    let one : suc m - 1 ≡ m = omega arith in
+    pushed rows next l (rows_in (suc m - 1) rest) e
+    ∙ (λ i. map row_at rows ++ (is i ∷ rows_in (one i) (r i))) ∙ so_far
+
+-- ---- rows that name large binaries
+
+pub named-large : (k class : ℕ) (bytes : List ℕ) (rest : List Node) (row : LargeAt) (others : List LargeAt) → row.node ≡ k → length bytes ≡ 0
+    → names_from k (Large class bytes ∷ rest) (map row_at (row ∷ others)) ≡ names_from (k + 1) rest (map row_at others)
+named-large k class bytes rest row others same none =
+    (λ i. (same-number i && bytes_eq (map (λ (l : ℕ × List ℕ). l.0) (larges_from (k + 1) rest)) (map (λ (l : LargeRow). l.0) (map row_at others)))
+    && (empty i && list_all (λ (l : ℕ × List ℕ). length l.1 == 0) (larges_from (k + 1) rest)))
+  where
+    same-number : (k == row.node) ≡ true
+    same-number = eq-eqb k row.node (sym same)
+
+    empty : (length bytes == 0) ≡ true
+    empty = eq-eqb (length bytes) 0 none
+
+pub named-other : (k : ℕ) (x : Node) (rest : List Node) (rows : List LargeRow) → length_in x ≡ None → names_from k (x ∷ rest) rows ≡ names_from (k + 1) rest rows
+named-other k (Large c b) rest rows h = absurd cc
+named-other k x rest rows h = refl
+
+-- ---- rows that are made
+
+pub made-large : (rows next : List LargeAt) (k n object : ℕ) (x : Node) (rest : List Node) (others : List ℕ) (l : LargeAt) (all : List LargeRow) → length_in x ≡ Some n → row_at l ≡ (k, object, n) → next ≡ rows ++ l ∷ []
+    → map row_at rows ++ map row_of_large (zip (larges_from k (x ∷ rest)) (object ∷ others)) ≡ all → map row_at next ++ map row_of_large (zip (larges_from (k + 1) rest) others) ≡ all
+made-large rows next k n object (Large c b) rest others l all h is e so_far =
+    let same : length b ≡ n = cc in
+    pushed rows next l (map row_of_large (zip (larges_from (k + 1) rest) others)) e
+    ∙ (λ i. map row_at rows ++ ((is ∙ ap {A = ℕ} {B = LargeRow} (λ m. (k, object, m)) (sym same)) i ∷ map row_of_large (zip (larges_from (k + 1) rest) others))) ∙ so_far
+made-large rows next k n object x rest others l all h is e so_far = absurd cc
+
+pub made-other : (k : ℕ) (x : Node) (rest : List Node) → length_in x ≡ None → larges_from k (x ∷ rest) ≡ larges_from (k + 1) rest
+made-other k (Large c b) rest h = absurd cc
+made-other k x rest h = refl
+
+none-zip : {X Y : Type 0} (xs : List X) → zip {K = X} {X = Y} xs [] ≡ []
+none-zip [] = refl
+none-zip (x ∷ xs) = refl
+
+pub made-end : (rows : List LargeAt) (k : ℕ) (left : List Node) (all : List LargeRow) → map row_at rows ++ map row_of_large (zip (larges_from k left) []) ≡ all → map row_at rows ≡ all
+made-end rows k left all so_far = sym (append-nil (map row_at rows)) ∙ ap (λ ls. map row_at rows ++ map row_of_large ls) (sym (none-zip (larges_from k left))) ∙ so_far
+
+-- ---- nodes that are filled
+
+pub put-more : (out next nodes : List Node) (i : ℕ) (n d : Node) (bs left : List (List ℕ)) (all : List Node) → i < length nodes → put_node (get_or nodes i d) bs ≡ (n, left) → next ≡ out ++ n ∷ []
+    → out ++ put_in (drop i nodes) bs ≡ all → next ++ put_in (drop (i + 1) nodes) left ≡ all
+put-more out next nodes i n d bs left all lt put e so_far =
+    let more : put_in (drop i nodes) bs ≡ n ∷ put_in (drop (i + 1) nodes) left =
+    at_drop_more (λ ns. put_in ns bs) nodes i d lt ∙ (λ j. (put j).0 ∷ put_in (drop (i + 1) nodes) (put j).1) in
+    ap (λ ns. ns ++ put_in (drop (i + 1) nodes) left) e ∙ append_assoc out (n ∷ []) (put_in (drop (i + 1) nodes) left) ∙ ap (λ ns. out ++ ns) (sym more) ∙ so_far
+
+pub put-done : (out nodes : List Node) (i : ℕ) (bs : List (List ℕ)) (all : List Node) → length nodes ≤ i → out ++ put_in (drop i nodes) bs ≡ all → out ≡ all
+put-done out nodes i bs all le so_far = sym (append-nil out) ∙ ap (λ ns. out ++ ns) (sym (at_drop_all (λ ns. put_in ns bs) nodes i le)) ∙ so_far
+
+-- ---- bytes of large binaries
+
+pub bytes-larges : (k : ℕ) (nodes : List Node) → flat_map bytes_in nodes ≡ map (λ (l : ℕ × List ℕ). l.1) (larges_from k nodes)
+bytes-larges k [] = refl
+bytes-larges k (Large c b ∷ nodes) = ap (λ bs. b ∷ bs) (bytes-larges (k + 1) nodes)
+bytes-larges k (x ∷ nodes) = bytes-larges (k + 1) nodes
