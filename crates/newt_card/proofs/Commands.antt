@@ -1,22 +1,23 @@
 -- Each change of a store does what the units ask of a card.
-use Rattle.std.proofs.Common.{◌≡◌, inl, ℕ, List, [], Option, Some, Result, ◌∙◌, ap, subst}
-use Rattle.std.specs.Prelude.{⊤}
+use Rattle.std.proofs.Common.{◌≡◌, inl, ℕ, List, [], length, Option, Some, Result, ◌∙◌, ap, subst}
+use Rattle.std.specs.Prelude.{slice_get, ⊤}
 use Rattle.newt_graph.specs.Graph.{RawGraph}
+use Rattle.newt_graph.specs.declared.node.Node.TheVariants.{Large}
 use Rattle.newt_host.specs.Moments.{Moment, image, IsDurable, Leaves}
 use Rattle.newt_host.proofs.Moments.{Leaves-start}
-use Rattle.newt_laws_answers.specs.Tests.{make_tests, add_tests, move_tests, moved_within, replace_tests, replaced, index_tests, tags_tests, tagged}
+use Rattle.newt_laws_answers.specs.Tests.{make_tests, add_tests, move_tests, moved_within, replace_tests, replaced, patch_tests, patched_within, index_tests, tags_tests, tagged}
 use Rattle.newt_spec_store.specs.Keys.{IndexSpec, Path}
 use Rattle.newt_spec_world.specs.Changed.{with_index, without_index}
 use Rattle.newt_spec_store.specs.Store.{Store as Plain, Soup, Entry, TagTable, entry_of, change_soup, make_soup, drop_soup, add_entry, remove_entry}
 use Rattle.newt_store.specs.Change.{changed_by, answer_of, refusals}
-use Rattle.newt_store.specs.Stage.{readable}
+use Rattle.newt_store.specs.Readable.{readable}
 use Rattle.newt_store.specs.declared.change.Change.{Change}
 use Rattle.newt_store.specs.declared.change.Change.TheVariants as change
 use Rattle.newt_units.specs.Cards.{soup_of, LeavesEither}
 use Rattle.newt_units.specs.Faults.{Does}
 use Rattle.newt_units.specs.declared.fault.Fault.{Fault}
 use Rattle.newt_card.proofs.Turns.{does-as, does-done, done, leaves-as}
-use Rattle.newt_card.proofs.Tests.{index-tests, indexed, unindex-tests, unindexed, tags-tests, tagged-as, drop-tests, dropped, add-tests, added, added-uid, remove-tests, removed, replace-tests, replaced-as, move-tests, moved, moved-uid}
+use Rattle.newt_card.proofs.Tests.{index-tests, indexed, unindex-tests, unindexed, tags-tests, tagged-as, drop-tests, dropped, add-tests, added, added-uid, remove-tests, removed, replace-tests, replaced-as, patch-tests, patched-as, move-tests, moved, moved-uid}
 
 some : {A : Type 0} {a b : A} → a ≡ b → Some a ≡ Some b
 some is = ap Some is
@@ -55,6 +56,24 @@ copied-leaves name paths copy s unit old new is leaves = subst (λ (x : List Pat
 pub leaves-index : (name : List ℕ) (paths : List Path) (s : Plain) (unit : ℕ) (now : Moment) → IsDurable unit now → readable (image unit now) ≡ Some s
     → Leaves unit (LeavesEither readable [] s (change_soup name (without_index paths) s)) now now
 leaves-index name paths s unit now durable reads = Leaves-start (λ left may. inl (ap readable (durable left may) ∙ reads))
+
+-- an entry is patched with bytes that were copied
+pub bytes-do : (name : List ℕ) (uid node at : ℕ) (bytes copy : List ℕ) (e : Entry) (s : Plain) (later : Option Plain) (result : Result (Unit {0}) Fault) → copy ≡ bytes
+    → Does (patch_tests node at (length copy) e) (λ _. ⊤) (Some s) (Some (patched_within name uid node at copy s)) later result
+    → Does (patch_tests node at (length bytes) e) (λ _. ⊤) (Some s) (Some (patched_within name uid node at bytes s)) later result
+bytes-do name uid node at bytes copy e s later result is d =
+    subst (λ (x : List ℕ). Does (patch_tests node at (length x) e) (λ _. ⊤) (Some s) (Some (patched_within name uid node at x s)) later result) is d
+
+pub bytes-leave : (name : List ℕ) (uid node at : ℕ) (bytes copy : List ℕ) (e : Entry) (s : Plain) (unit : ℕ) (old new : Moment) → copy ≡ bytes
+    → Leaves unit (LeavesEither readable (patch_tests node at (length copy) e) s (patched_within name uid node at copy s)) old new
+    → Leaves unit (LeavesEither readable (patch_tests node at (length bytes) e) s (patched_within name uid node at bytes s)) old new
+bytes-leave name uid node at bytes copy e s unit old new is leaves =
+    subst (λ (x : List ℕ). Leaves unit (LeavesEither readable (patch_tests node at (length x) e) s (patched_within name uid node at x s)) old new) is leaves
+
+-- nothing has happened where they are not copied
+pub leaves-unpatched : (name : List ℕ) (uid node at : ℕ) (bytes : List ℕ) (e : Entry) (s : Plain) (unit : ℕ) (now : Moment) → IsDurable unit now → readable (image unit now) ≡ Some s
+    → Leaves unit (LeavesEither readable (patch_tests node at (length bytes) e) s (patched_within name uid node at bytes s)) now now
+leaves-unpatched name uid node at bytes e s unit now durable reads = Leaves-start (λ left may. inl (ap readable (durable left may) ∙ reads))
 
 module _ (blocks now sig : ℕ) (s : Plain) (p : Soup) (found : soup_of sig s ≡ Some p) where
   pub drop-does : (later : Option Plain) (result : Result ℕ Fault) → Changes (change.DropSoup sig) blocks now s later result → Does [] (λ _. ⊤) (Some s) (Some (drop_soup p.name s)) later (done result)
@@ -131,6 +150,20 @@ module _ (blocks now sig : ℕ) (s : Plain) (p : Soup) (found : soup_of sig s �
       replace-leaves unit old new leaves = leaves-as unit readable (refusals (change.Replace sig uid g) blocks now s) (replace_tests blocks now p.name uid g s) s
           (changed_by (change.Replace sig uid g) now s) (replaced now p.name uid g s) old new
           (replace-tests blocks now sig s p found uid e here g) (replaced-as blocks now sig s p found uid e here g) leaves
+
+    module _ (node at : ℕ) (bytes : List ℕ) (class : ℕ) (large : List ℕ) (is : slice_get e.graph.nodes node ≡ Some (Large class large)) where
+      pub patch-does : (later : Option Plain) (result : Result ℕ Fault) → Changes (change.Patch sig uid node at bytes) blocks now s later result
+          → Does (patch_tests node at (length bytes) e) (λ _. ⊤) (Some s) (Some (patched_within p.name uid node at bytes s)) later (done result)
+      patch-does later result d = does-done (patch_tests node at (length bytes) e) (λ _. ⊤) (Some s) (Some (patched_within p.name uid node at bytes s)) later result
+          (does-as (refusals (change.Patch sig uid node at bytes) blocks now s) (patch_tests node at (length bytes) e) (λ n. n ≡ answer_of (change.Patch sig uid node at bytes) s) (λ _. ⊤)
+          (Some s) (Some (changed_by (change.Patch sig uid node at bytes) now s)) (Some (patched_within p.name uid node at bytes s)) later
+          (patch-tests blocks now sig s p found uid e here node at bytes class large is) (λ n good. tt) (some (patched-as blocks now sig s p found uid e here node at bytes class large is)) result d)
+
+      pub patch-leaves : (unit : ℕ) (old new : Moment) → LeavesChange unit (change.Patch sig uid node at bytes) blocks now s old new
+          → Leaves unit (LeavesEither readable (patch_tests node at (length bytes) e) s (patched_within p.name uid node at bytes s)) old new
+      patch-leaves unit old new leaves = leaves-as unit readable (refusals (change.Patch sig uid node at bytes) blocks now s) (patch_tests node at (length bytes) e) s
+          (changed_by (change.Patch sig uid node at bytes) now s) (patched_within p.name uid node at bytes s) old new
+          (patch-tests blocks now sig s p found uid e here node at bytes class large is) (patched-as blocks now sig s p found uid e here node at bytes class large is) leaves
 
     module _ (target : ℕ) (q : Soup) (into : soup_of target s ≡ Some q) where
       pub move-does : (later : Option Plain) (result : Result ℕ Fault) → Changes (change.Move sig uid target) blocks now s later result

@@ -1,3 +1,4 @@
 pub mod Turns
 pub mod Tests
 pub mod Commands
+pub mod Bounds

@@ -1,25 +1,45 @@
 -- The refusals of a change, where what it names is there, are the tests of a command.
-use Rattle.std.proofs.Common.{Bool, ◌≡◌, ◌==◌, ◌||◌, ◌∷◌, [], ℕ, List, not, nat_lt, nat_le, length, Option, Some, ◌∙◌, ap}
-use Rattle.std.specs.Option.{is_none, option_and_then}
+use Rattle.std.proofs.Common.{Bool, ◌≡◌, ◌==◌, ◌||◌, ◌+◌, ◌∷◌, [], ℕ, zero, suc, List, not, nat_lt, nat_le, length, Option, Some, refl, sym, ◌∙◌, ap}
+use Rattle.std.specs.Option.{is_none, option_and_then, unwrap_or}
+use Rattle.std.specs.Prelude.{slice_get}
 use Rattle.newt_base.specs.Refusals.{Checks, first_of}
-use Rattle.newt_base.specs.declared.Refusal.TheVariants.{Soup as NoSoup, Entry as NoEntry, Notframe, Size, Ids, Full, Limit, Index as BadIndex}
+use Rattle.newt_base.specs.declared.Refusal.TheVariants.{Soup as NoSoup, Entry as NoEntry, Notframe, Path as NoPath, Range, Size, Ids, Full, Limit, Index as BadIndex}
 use Rattle.newt_graph.specs.Graph.{RawGraph}
+use Rattle.newt_graph.specs.declared.node.Node.{Node}
+use Rattle.newt_graph.specs.declared.node.Node.TheVariants.{Symbol, Str, Binary, Large, Array, Frame}
+use Rattle.newt_host.specs.Moments.{overwritten}
 use Rattle.newt_image.specs.Pages.{cap}
 use Rattle.newt_laws_changes.proofs.Members.{entry_is_in}
-use Rattle.newt_laws_answers.specs.Tests.{add_tests, move_tests, moved_within, replace_tests, replaced, index_tests, tags_tests, tagged}
-use Rattle.newt_spec_graph.specs.Graph.{is_frame, object}
+use Rattle.newt_laws_answers.specs.Tests.{add_tests, move_tests, moved_within, replace_tests, replaced, patch_tests, patched_within, index_tests, tags_tests, tagged}
+use Rattle.newt_spec_graph.specs.Graph.{change_nth, is_frame, object}
 use Rattle.newt_spec_store.specs.Cost.{cost}
 use Rattle.newt_spec_store.specs.Keys.{IndexSpec, Path, paths_of}
-use Rattle.newt_spec_world.specs.Changed.{with_index, without_index}
+use Rattle.newt_spec_world.specs.Changed.{with_index, without_index, bytes_of_large, patch_node, patched_at}
 use Rattle.newt_spec_store.specs.Store.{Store as Plain, Soup, Entry, TagTable, entry_of, change_soup, change_entry, drop_soup, add_entry, remove_entry}
+use Rattle.newt_spec_store.specs.StoreOf.{with_bytes}
 use Rattle.newt_soupdir.specs.Changes.{with_tags}
-use Rattle.newt_store.specs.Change.{changed_by, answer_of, refusals, entry_in, changed_soup, dropped_soup, moved_entry, with_graph, next_uid_of, has_no_ids, is_too_large, has_paths, specs_of}
+use Rattle.newt_store.specs.Change.{changed_by, answer_of, refusals, entry_in, changed_soup, dropped_soup, moved_entry, with_graph, bytes_in, with_patch, patched_entry, large_in_entry, ends_behind, next_uid_of, has_no_ids, is_too_large, has_paths, specs_of}
 use Rattle.newt_store.specs.declared.change.Change.TheVariants as change
 use Rattle.newt_units.specs.Cards.{soup_of}
 
 -- the entry of a soup that is there
 pub entry-there : (sig uid : ℕ) (s : Plain) (p : Soup) (e : Entry) → soup_of sig s ≡ Some p → entry_of uid p ≡ Some e → entry_in sig uid s ≡ Some e
 entry-there sig uid s p e found here = ap (option_and_then (entry_of uid)) found ∙ here
+
+-- bytes are written over a large binary in two ways of speaking, and nothing where there is none
+same-nodes : (node at : ℕ) (bytes : List ℕ) (xs : List Node)
+    → change_nth node (with_bytes (overwritten (unwrap_or (bytes_in (slice_get xs node)) []) at bytes)) xs ≡ change_nth node (patch_node at bytes) xs
+same-nodes node at bytes [] = refl
+same-nodes zero at bytes (Symbol s ∷ xs) = refl
+same-nodes zero at bytes (Str s ∷ xs) = refl
+same-nodes zero at bytes (Binary c b ∷ xs) = refl
+same-nodes zero at bytes (Large c b ∷ xs) = refl
+same-nodes zero at bytes (Array c v ∷ xs) = refl
+same-nodes zero at bytes (Frame t v ∷ xs) = refl
+same-nodes (suc node) at bytes (x ∷ xs) = ap (λ (ys : List Node). x ∷ ys) (same-nodes node at bytes xs)
+
+same-patch : (node at : ℕ) (bytes : List ℕ) (g : RawGraph) → with_patch node at bytes g ≡ patched_at (Some node) at bytes g
+same-patch node at bytes g = λ i. record g { nodes = same-nodes node at bytes g.nodes i }
 
 module _ (blocks now sig : ℕ) (s : Plain) (p : Soup) (found : soup_of sig s ≡ Some p) where
   pub drop-tests : first_of (refusals (change.DropSoup sig) blocks now s) ≡ first_of []
@@ -77,6 +97,21 @@ module _ (blocks now sig : ℕ) (s : Plain) (p : Soup) (found : soup_of sig s �
         where
           later : Bool → Plain → Checks
           later none t = (NoEntry, none) ∷ (Notframe, not (is_frame (object g.nodes g.root))) ∷ (Size, is_too_large g) ∷ (Full, nat_lt (cap blocks) (cost t)) ∷ []
+
+    module _ (node at : ℕ) (bytes : List ℕ) (class : ℕ) (large : List ℕ) (is : slice_get e.graph.nodes node ≡ Some (Large class large)) where
+      pub patched-as : changed_by (change.Patch sig uid node at bytes) now s ≡ patched_within p.name uid node at bytes s
+      patched-as = ap (λ (o : Option Soup). changed_soup o (change_entry uid (patched_entry node at bytes)) s) found
+          ∙ ap (λ (f : Entry → Entry). change_soup p.name (change_entry uid f) s) (λ i x. record x { graph = same-patch node at bytes x.graph i })
+
+      pub patch-tests : first_of (refusals (change.Patch sig uid node at bytes) blocks now s) ≡ first_of (patch_tests node at (length bytes) e)
+      patch-tests =
+          ap (λ (o : Option Soup). first_of ((NoSoup, is_none o) ∷ later (entry_in sig uid s))) found
+          ∙ ap (λ (o : Option Entry). first_of (later o)) (entry-there sig uid s p e found here)
+          ∙ ap (λ (o : Option Node). first_of ((NoPath, is_none (bytes_in o)) ∷ (Range, ends_behind at (length bytes) (bytes_in o)) ∷ [])) is
+          ∙ ap (λ (o : Option Node). first_of ((Range, nat_lt (length (bytes_of_large o)) (at + length bytes)) ∷ [])) (sym is)
+        where
+          later : Option Entry → Checks
+          later o = (NoEntry, is_none o) ∷ (NoPath, is_none (large_in_entry node o)) ∷ (Range, ends_behind at (length bytes) (large_in_entry node o)) ∷ []
 
     module _ (target : ℕ) (q : Soup) (into : soup_of target s ≡ Some q) where
       moved-with : (a b : Option Soup) (o : Option Entry) → soup_of sig s ≡ a → soup_of target s ≡ b → entry_in sig uid s ≡ o → changed_by (change.Move sig uid target) now s ≡ moved_entry o a b now s

@@ -7,13 +7,14 @@ use Rattle.newt_host.specs.Moments.{Moment, image, Leaves}
 use Rattle.newt_host.proofs.Moments.{Leaves-weaken}
 use Rattle.newt_pagebook.proofs.Tests.{some_inj}
 use Rattle.newt_shelf.specs.Places.{place_of}
+use Rattle.newt_shelf.specs.Names.{names_of}
 use Rattle.newt_spec_store.specs.OfImage.{blocks_of}
 use Rattle.newt_spec_store.specs.Store.{Store as Plain}
 use Rattle.newt_ranges.specs.Stands.{AreRangesOf}
 use Rattle.newt_ranges.specs.declared.rows.SoupRanges.{SoupRanges}
 use Rattle.newt_store.proofs.Reading.{read-back}
 use Rattle.newt_store.specs.Change.{changed_by, refusals, refusal_of}
-use Rattle.newt_store.specs.Stage.{readable}
+use Rattle.newt_store.specs.Readable.{readable}
 use Rattle.newt_store.specs.Stands.{StandsFor, IsBeforeOrChanged}
 use Rattle.newt_store.specs.declared.catalog.Catalog.{Catalog}
 use Rattle.newt_store.specs.declared.change.Change.{Change}
@@ -53,7 +54,7 @@ leaves-as unit reads xs ys s t same_t old new same is leaves = Leaves-weaken (λ
 
 -- what is read of an image that stands for a store
 pub reads-it : (catalog : Catalog) (s : Plain) (now : List ℕ) → StandsFor catalog s now → readable now ≡ Some s
-reads-it catalog s now stands = read-back catalog.directory (place_of catalog.places) stands.texts s now stands.holds stands.describes stands.fits
+reads-it catalog s now stands = read-back catalog.directory (place_of catalog.places) (names_of catalog.names) stands.texts s now stands.holds stands.describes stands.fits
 
 -- a store that is read is the one that it stands for
 pub is-plain : (catalog : Catalog) (rows : List SoupRanges) (s : Plain) (now : List ℕ) (one : StandsForOne catalog rows now) → readable now ≡ Some s → one.plain ≡ s

@@ -5,21 +5,19 @@ use Rattle.newt_host.specs.Moments.{Change as Event, image, bytes_after}
 use Rattle.newt_host.specs.Outside.{Outside}
 use Rattle.newt_image.specs.Pages.{pages}
 use Rattle.newt_pagebook.specs.Book.{Numbers, IsSameFor}
-use Rattle.newt_spec_store.specs.ImageStore.{store_of_image}
 use Rattle.newt_spec_store.specs.Laid.{bare}
-use Rattle.newt_spec_store.specs.Lies.{has_no_large}
 use Rattle.newt_spec_store.specs.OfImage.{blocks_of}
 use Rattle.newt_spec_store.specs.Store.{Store as Plain}
 use Rattle.newt_spec_store.specs.Valid.{well_formed, fits}
 use Rattle.newt_laws_images.proofs.Assembled.{read-valid}
 use Rattle.newt_laws_images.proofs.Gathering.{image-sound}
-use Rattle.newt_laws_images.proofs.Plain.{only-parts}
 use Rattle.std.specs.FinMap as map
 use Rattle.newt_soupdir.specs.Bare.{bare_store}
 use Rattle.newt_entries.specs.Entry.{stream_graph}
 use Rattle.newt_shelf.specs.Places.{place_of}
+use Rattle.newt_shelf.specs.Names.{names_of}
 use Rattle.newt_store.proofs.Reading.{both, read-back}
-use Rattle.newt_store.specs.Stage.{is_simple, readable}
+use Rattle.newt_store.specs.Readable.{readable}
 use Rattle.newt_store.specs.Stands.{IsSound}
 use Rattle.newt_store.specs.declared.catalog.Catalog.{Catalog}
 use Rattle.newt_ranges.specs.declared.rows.SoupRanges.{SoupRanges}
@@ -28,18 +26,16 @@ use Rattle.newt_units.specs.Cards.{IsSame}
 use Rattle.newt_card.specs.Stands.{StandsForOne, StandsOn}
 
 -- only stores of this form are read
-pub formed_read : (bytes : List ℕ) (s : Plain) → readable bytes ≡ Some s → IsTrue (well_formed s) × IsTrue (has_no_large s)
+pub formed_read : (bytes : List ℕ) (s : Plain) → readable bytes ≡ Some s → IsTrue (well_formed s)
 formed_read bytes s h =
-    let parts = only-parts is_simple (store_of_image stream_graph bytes) s h in
-    let is = image-sound stream_graph bytes s parts.0 in
-    let valid = read-valid stream_graph (map.entries is.objects) (blocks_of bytes) s is.reads in
-    ((both (well_formed s) (fits (blocks_of bytes) s) valid).0, parts.1)
+    let is = image-sound stream_graph bytes s h in
+    (both (well_formed s) (fits (blocks_of bytes) s) (read-valid stream_graph (map.entries is.objects) (blocks_of bytes) s is.reads)).0
 
 -- where memory and image stand for a store, the image is read as one whose soups are known
 pub read_as : (catalog : Catalog) (rows : List SoupRanges) (now : List ℕ) → StandsForOne catalog rows now → (s : Plain) × (readable now ≡ Some s) × (bare s ≡ bare_store catalog.directory)
 read_as catalog rows now one = (
   one.plain,
-  read-back catalog.directory (place_of catalog.places) one.stands.texts one.plain now one.stands.holds one.stands.describes one.stands.fits,
+  read-back catalog.directory (place_of catalog.places) (names_of catalog.names) one.stands.texts one.plain now one.stands.holds one.stands.describes one.stands.fits,
   one.stands.describes.bare_is,
 )
 
@@ -57,6 +53,7 @@ sound_kept told catalog numbers unit old new same sound =
         };
       };
       places = sound.places;
+      names = sound.names;
       formed = sound.formed;
     }
 

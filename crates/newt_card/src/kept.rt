@@ -1,9 +1,9 @@
 //! A store on the card of one unit.
 ghost use Rattle.std.specs.Prelude.{◌≡◌};
 
-use crate::change::{change_store, drop_paths};
+use crate::change::{change_store, drop_paths, patch_entry};
 use newt_base::{Name, Sig, Uid};
-use newt_graph::Graph;
+use newt_graph::{Bytes, Graph};
 use newt_host::{Host, Unit};
 use newt_index::Index;
 use newt_indexed::{Change, IndexedStore, Paths};
@@ -24,7 +24,7 @@ pub struct Kept<P: PageBook> {
 impl<P: PageBook> Card for Kept<P> {
     ghost use Rattle.std.specs.Prelude.{true, refl};
     ghost use Rattle.newt_soupdir.specs.Bare.{bare_store};
-    ghost use Rattle.newt_store.specs.Stage.{readable};
+    ghost use Rattle.newt_store.specs.Readable.{readable};
     ghost use Rattle.newt_card.specs.Stands.{StandsOn};
     ghost use Rattle.newt_card.specs.Laws.{formed_read, plain_read, kept_on};
 
@@ -109,6 +109,24 @@ impl<P: PageBook> Card for Kept<P> {
         match change_store(&mut self.store, host, change, now) {
             Ok(_) => Ok(()),
             Err(fault) => Err(fault),
+        }
+    }
+
+    fn patch<H: Host>(
+        &mut self,
+        host: &mut H,
+        soup: Sig,
+        uid: Uid,
+        node: u32,
+        at: u32,
+        bytes: &[u8],
+    ) -> Result<(), Fault> {
+        match bytes.to_vec(self.store.alloc()) {
+            Ok(items) => {
+                let bytes = Bytes::of(items);
+                patch_entry(&mut self.store, host, soup, uid, node, at, bytes)
+            }
+            Err(_) => Err(Fault::Stop(Stop::Memory)),
         }
     }
 

@@ -10,6 +10,7 @@ use Rattle.newt_pagebook.specs.declared.book.Stop.TheVariants.{Memory}
 use Rattle.newt_pagebook.specs.Stops.{StopsAt}
 use Rattle.newt_pagebook.specs.declared.book.Stop.{Stop as StopOf}
 use Rattle.newt_shelf.specs.Places.{place_of}
+use Rattle.newt_shelf.specs.Names.{names_of}
 use Rattle.newt_shelf.specs.Faults.{FaultsAt}
 use Rattle.newt_shelf.specs.declared.fault.StoreFault.{StoreFault}
 use Rattle.newt_shelf.specs.declared.fault.StoreFault.TheVariants.{Refused, Stop}
@@ -19,7 +20,7 @@ use Rattle.newt_store.specs.Change.{changed_by, refusal_of}
 use Rattle.newt_store.specs.Stands.{StandsFor, IsRefused, RefusesWith, IsBeforeOrChanged}
 use Rattle.newt_store.specs.declared.catalog.Catalog.{Catalog}
 use Rattle.newt_store.specs.declared.change.Change.{Change}
-use Rattle.newt_store.specs.Stage.{readable}
+use Rattle.newt_store.specs.Readable.{readable}
 use Rattle.newt_store.proofs.Reading.{read-back}
 use Rattle.newt_store.specs.declared.store.Store.{Store}
 use Rattle.newt_indexed.specs.Calls.{Shows, Reads, Changes}
@@ -34,7 +35,7 @@ faults-over (Err (Stop stop)) unit unit' old mid new place touches faults = stop
 leaves-before : (catalog : Catalog) (change : Change) (now blocks : ℕ) (s : PlainStore) (unit : ℕ) (old new : Moment) → new ≡ old → StandsFor catalog s (image unit old) → IsDurable unit old
     → Leaves unit (IsBeforeOrChanged change blocks now s) old new
 leaves-before catalog change now blocks s unit old new same stands durable = subst (λ (m : Moment). Leaves unit (IsBeforeOrChanged change blocks now s) old m) (sym same) (Leaves-start (λ left may.
-    inl (ap readable (durable left may) ∙ read-back catalog.directory (place_of catalog.places) stands.texts s (image unit old) stands.holds stands.describes stands.fits)))
+    inl (ap readable (durable left may) ∙ read-back catalog.directory (place_of catalog.places) (names_of catalog.names) stands.texts s (image unit old) stands.holds stands.describes stands.fits)))
 
 module _ {B : Type 0} (place : B → ℕ) (numbers : B → Numbers) (stands : Bool → B → Outside → Type 0) (told : Bool) where
   pub changes-over : (a b c : Store B) (before between after : Outside) (change : Change) (now : ℕ) (result : Result ℕ StoreFault) → Reads place numbers stands told a b before between

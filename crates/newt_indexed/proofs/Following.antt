@@ -1,10 +1,11 @@
 -- The step of a change that is not refused is the change of the ranges.
 use Rattle.std.proofs.Common.{◌≡◌, ℕ, ◌==◌, ◌||◌, ◌+◌, ◌<◌, cond, Bool, true, false, [], ◌∷◌, List, Option, Some, None, refl, sym, ◌∙◌, ap, subst, arith}
-use Rattle.std.specs.Option.{is_none, option_and_then}
+use Rattle.std.specs.Option.{is_none, option_and_then, unwrap_or}
 use Rattle.std.proofs.lemmas.Bool.{eqb-true, eqb-false}
 use Rattle.newt_base.specs.Refusals.{Checks}
 use Rattle.newt_base.specs.declared.Refusal.TheVariants.{Soup as NoSoup, Entry as NoEntry, Ids}
 use Rattle.newt_graph.specs.Graph.{RawGraph}
+use Rattle.newt_host.specs.Moments.{overwritten}
 use Rattle.newt_spec_store.specs.Keys.{IndexSpec, Path}
 use Rattle.newt_spec_store.specs.Store.{Entry, Soup, Store, TagTable, entry_of, change_soup, change_entry, add_entry, remove_entry}
 use Rattle.newt_spec_store.specs.Valid.{well_formed}
@@ -19,8 +20,10 @@ use Rattle.newt_ranges.specs.declared.rows.SoupRanges.{SoupRanges}
 use Rattle.newt_ranges.specs.Rows.{with_entry, without_entry, each_range, with_range, change_ranges}
 use Rattle.newt_ranges.specs.Stands.{AreRangesOf, graphs_of}
 use Rattle.newt_ranges.proofs.Laws as laws
+use Rattle.newt_ranges.proofs.Patched.{IsPatch, patched_ranges}
+use Rattle.newt_ranges.proofs.Seen.{filled-like}
 use Rattle.newt_ranges.proofs.Standing.{none_changed}
-use Rattle.newt_store.specs.Change.{changed_by, answer_of, refusals, refusal_of, full_check, entry_in, changed_soup, dropped_soup, moved_entry, with_graph, next_uid_of, has_no_ids}
+use Rattle.newt_store.specs.Change.{changed_by, answer_of, refusals, refusal_of, full_check, entry_in, changed_soup, dropped_soup, moved_entry, with_graph, large_of, patched_entry, next_uid_of, has_no_ids}
 use Rattle.newt_store.specs.declared.change.Change.{Change}
 use Rattle.newt_store.specs.declared.change.Change.TheVariants as change
 use Rattle.newt_indexed.specs.Steps.{IsStepOf, IsDeclaring, rows_after}
@@ -82,6 +85,17 @@ module _ (s : Store) (rows : List SoupRanges) (formed : well_formed s ≡ true) 
       let at : entry_of uid there.0 ≡ Some entry.0 = sym (ap (option_and_then (entry_of uid)) there.1) ∙ entry.1 in
       changed-as sig there.0 (change_entry uid (with_graph now g)) (rows_after (step.Replaced sig uid g) 0 rows) there.1
       (laws.entry_replaced s rows sig there.0 formed there.1 are uid (with_graph now g) g entry.0 (λ d. refl) at refl)
+
+  -- no bytes of a large binary are in a range
+  follows-patched : (sig uid node at now : ℕ) (bytes : List ℕ) → AreRangesOf (changed_by (change.Patch sig uid node at bytes) now s) rows
+  follows-patched sig uid node at now bytes = go (soup_of sig s)
+    where
+      is : IsPatch (patched_entry node at bytes)
+      is = record { same_id = λ e. refl; like = λ e. filled-like e.graph node (overwritten (unwrap_or (large_of node e.graph) []) at bytes) }
+
+      go : (o : Option Soup) → AreRangesOf (changed_soup o (change_entry uid (patched_entry node at bytes)) s) rows
+      go None = are
+      go (Some p) = patched_ranges (patched_entry node at bytes) is s rows p.name uid are
 
   follows-declared : (sig blocks now : ℕ) (spec : IndexSpec) (st : Step) → refusal_of (change.AddIndex sig spec) blocks now s ≡ None → IsDeclaring sig spec s st
       → AreRangesOf (changed_by (change.AddIndex sig spec) now s) (rows_after st 0 rows)
@@ -178,6 +192,8 @@ module _ (s : Store) (rows : List SoupRanges) (formed : well_formed s ≡ true) 
   follows (change.Move source uid target) blocks now st none is = follows-moved source uid target blocks now st none is
   follows (change.Replace sig uid g) blocks now st none is =
       subst (λ (x : Step). AreRangesOf (changed_by (change.Replace sig uid g) now s) (rows_after x 0 rows)) (sym is) (follows-replaced sig uid blocks now g none)
+  follows (change.Patch sig uid node at bytes) blocks now st none is =
+      subst (λ (x : Step). AreRangesOf (changed_by (change.Patch sig uid node at bytes) now s) (rows_after x 0 rows)) (sym is) (follows-patched sig uid node at now bytes)
   follows (change.AddIndex sig spec) blocks now st none is = follows-declared sig blocks now spec st none is
   follows (change.DropIndex sig paths) blocks now st none is =
       subst (λ (x : Step). AreRangesOf (changed_by (change.DropIndex sig paths) now s) (rows_after x 0 rows)) (sym is) (follows-undeclared sig blocks now paths none)

@@ -8,7 +8,7 @@ use Rattle.newt_ranges.specs.Rows.{no_ranges, with_entry, without_entry, each_ra
 use Rattle.newt_ranges.specs.Stands.{graphs_of, IsRange}
 use Rattle.newt_store.specs.Change.{entry_in, uids_in, pages_of_entry}
 use Rattle.newt_store.specs.declared.change.Change.{Change}
-use Rattle.newt_store.specs.declared.change.Change.TheVariants.{MakeSoup, DropSoup, Add, Remove, Move, Replace, AddIndex, DropIndex, SetTags}
+use Rattle.newt_store.specs.declared.change.Change.TheVariants.{MakeSoup, DropSoup, Add, Remove, Move, Replace, Patch, AddIndex, DropIndex, SetTags}
 use Rattle.newt_indexed.specs.Filling.{pages_listed}
 use Rattle.newt_indexed.specs.declared.step.Step.{Step}
 use Rattle.newt_indexed.specs.declared.step.Step.TheVariants.{Untouched, Made, Dropped, Added, Removed, Moved, Replaced, Declared, Undeclared}
@@ -39,6 +39,7 @@ IsStepOf (Add sig graph) s step = step ≡ Added sig graph
 IsStepOf (Remove sig uid) s step = step ≡ Removed sig uid
 IsStepOf (Move source uid target) s step = (e : Entry) → entry_in source uid s ≡ Some e → step ≡ Moved source uid target e.graph
 IsStepOf (Replace sig uid graph) s step = step ≡ Replaced sig uid graph
+IsStepOf (Patch sig uid node at bytes) s step = step ≡ Untouched
 IsStepOf (AddIndex sig spec) s step = IsDeclaring sig spec s step
 IsStepOf (DropIndex sig paths) s step = step ≡ Undeclared sig paths
 IsStepOf (SetTags sig table) s step = step ≡ Untouched

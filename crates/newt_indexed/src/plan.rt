@@ -77,6 +77,7 @@ pub(crate) fn step_of<P: PageBook, H: Host>(
         Change::Remove(soup, uid) => Ok(Step::Removed(*soup, *uid)),
         Change::Move(source, uid, target) => moving(store, host, *source, *uid, *target),
         Change::Replace(soup, uid, graph) => Ok(Step::Replaced(*soup, *uid, graph.copy()?)),
+        Change::Patch(..) => Ok(Step::Untouched),
         Change::AddIndex(soup, spec) => declaring(store, host, *soup, spec),
         Change::DropIndex(soup, paths) => {
             Ok(Step::Undeclared(*soup, Paths::copied(store.alloc(), paths.list())?))

@@ -4,3 +4,4 @@ pub mod Answering
 pub mod Faces
 pub mod Tests
 pub mod There
+pub mod Bounds

@@ -1,6 +1,8 @@
 -- What a store costs after a change, from what it cost before.
 use Rattle.std.proofs.Common.{arith, ◌≡◌, refl, ap, sym, ◌∙◌, subst, ℕ, ◌+◌, List, [], ◌∷◌, ◌++◌, true, false, Bool, not, cond, Some, None, filter, length, find, sum_by, ◌==◌}
+use Rattle.std.specs.Prelude.{slice_get}
 use Rattle.newt_base.specs.Names.{equal_text}
+use Rattle.newt_graph.specs.declared.node.Node.TheVariants.{Large}
 use Rattle.newt_graph.specs.Graph.{RawGraph}
 use Rattle.newt_spec_graph.specs.Lists.{Each}
 use Rattle.newt_spec_graph.proofs.Lists.{each-at, each-from, some-same, none-some}
@@ -11,6 +13,7 @@ use Rattle.newt_spec_store.specs.Valid.{well_formed, valid_soup}
 use Rattle.newt_laws_images.proofs.Stores.{is-store, is-soup}
 use Rattle.newt_laws_changes.proofs.Chosen.{OnePasses, one-uid, one-name}
 use Rattle.newt_laws_changes.proofs.Costs.{total, sum-total, cost-total, soup-length, directory-length}
+use Rattle.newt_laws_changes.proofs.Patched.{with_patch, patched-pages}
 use Rattle.newt_laws_changes.proofs.Soups.{found-good}
 
 -- ---- sums
@@ -120,6 +123,15 @@ cost-replaced name uid change s p e found there =
     let a = cost-total (change_soup name (change_entry uid change) s) in
     let b = cost-total s in
     omega (arith, more, one, same, a, b)
+
+-- other bytes, as many, in an entry's large binary
+pub cost-patched : (name : List ℕ) (uid node class : ℕ) (old bytes : List ℕ) (change : Entry → Entry) (s : Store) (p : Soup) (e : Entry) → soup_named name s ≡ Some p → entry_of uid p ≡ Some e
+    → slice_get e.graph.nodes node ≡ Some (Large class old) → length bytes ≡ length old → change e ≡ with_patch e node bytes
+    → cost (change_soup name (change_entry uid change) s) ≡ cost s
+cost-patched name uid node class old bytes change s p e found there large as_many changes =
+    let k = cost-replaced name uid change s p e found there in
+    let same = ap entry_pages changes ∙ patched-pages e node class old bytes large as_many in
+    omega (arith, k, same)
 
 -- an entry less
 pub cost-removed : (name : List ℕ) (uid : ℕ) (s : Store) (p : Soup) (e : Entry) → well_formed s ≡ true → soup_named name s ≡ Some p → entry_of uid p ≡ Some e

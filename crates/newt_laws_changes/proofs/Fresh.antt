@@ -1,6 +1,5 @@
 -- A new store, and what is known of an entry that is in a store.
-use Rattle.std.proofs.Common.{arith, ◌≡◌, ◌≢◌, sym, ◌∙◌, subst, ℕ, ◌≤◌, ◌<◌, List, [], IsTrue, true, Some, None}
-use Rattle.std.specs.FinMap as map
+use Rattle.std.proofs.Common.{arith, ◌≡◌, refl, sym, ◌∙◌, subst, ℕ, ◌≤◌, ◌<◌, List, [], IsTrue, true, Some, None}
 use Rattle.newt_base.specs.Names.{is_name}
 use Rattle.newt_image.specs.Objects.{Objects}
 use Rattle.newt_spec_graph.specs.Lists.{Among}
@@ -10,6 +9,7 @@ use Rattle.newt_spec_store.specs.Lies.{IsIn, LiesIn}
 use Rattle.newt_spec_store.specs.Store.{Store, Soup, Entry, change_soup, add_entry, remove_entry}
 use Rattle.newt_spec_store.specs.Valid.{well_formed, valid_entry}
 use Rattle.newt_laws_changes.specs.Signatures.{soup_of}
+use Rattle.newt_laws_changes.specs.Written.{HeadAlone}
 use Rattle.newt_laws_changes.proofs.Chosen.{soup-good}
 use Rattle.newt_laws_changes.proofs.Formed.{added_formed, removed_formed}
 
@@ -18,16 +18,21 @@ empty-in : (s : Store) (t : ℕ) (e : Entry) → s.soups ≡ [] → IsIn s t e �
 empty-in s t e none i = subst (λ soups. Among soups i.soup) none i.is_soup
 
 -- a store without soups lies in its directory alone
-pub fresh_lies : (objects : Objects) (s : Store) → s.soups ≡ [] → map.get objects 0 ≡ Some (directory_bytes s) → ((id : ℕ) → id ≢ 0 → map.get objects id ≡ None)
-    → LiesIn objects (λ sig uid. None) s
-fresh_lies objects s none head others = record {
-  directory = head;
-  records = λ t e i. absurd (empty-in s t e none i);
-  only_these = λ id bytes got n. absurd (none-some bytes (sym (others id n) ∙ got));
-  places = λ t u id at. absurd (none-some id at);
-  graphs = λ t e i. absurd (empty-in s t e none i);
-  times = λ t e i. absurd (empty-in s t e none i);
-}
+pub fresh_lies : (objects : Objects) (s : Store) → s.soups ≡ [] → HeadAlone (directory_bytes s) objects → (lies' : LiesIn objects (λ sig uid. None) s) × ((r : ℕ) → lies'.named r ≡ [])
+fresh_lies objects s none h = (
+  record {
+    named = λ r. [];
+    directory = h.head_is;
+    records = λ t e i. absurd (empty-in s t e none i);
+    once = λ id other o m n. absurd m;
+    only_these = λ id bytes got n. absurd (none-some bytes (sym (h.no_others id n) ∙ got));
+    names = λ r o m. absurd m;
+    places = λ t u id at. absurd (none-some id at);
+    skeletons = λ t e i. absurd (empty-in s t e none i);
+    times = λ t e i. absurd (empty-in s t e none i);
+  },
+  λ r. refl,
+)
 
 pub fresh_formed : (name : List ℕ) (sig : ℕ) → IsTrue (is_name name) → sig ≤ 536870911 → IsTrue (well_formed (record { name = name; sig = sig; next_soup = 0; soups = [] }))
 fresh_formed name sig good fits = grind (arith, good, fits)

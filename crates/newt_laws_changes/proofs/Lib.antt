@@ -8,6 +8,8 @@ pub mod Lying
 pub mod Formed
 pub mod Bare
 pub mod Places
+pub mod Turned
+pub mod Patched
 pub mod Moved
 pub mod Later
 pub mod Fresh

@@ -22,13 +22,19 @@ first-all good test change (x ∷ xs) h k = go (first-all good test change xs) (
     go more true k = grind (arith, k x refl (grind arith))
     go more false k = grind (arith, more (grind arith) k)
 
-pub first-map : {X Y : Type 0} (g : X → Y) (test : X → Bool) (change : X → X) (xs : List X) → ((x : X) → g (change x) ≡ g x) → map g (change_first test change xs) ≡ map g xs
-first-map g test change [] h = refl
-first-map g test change (x ∷ xs) h = go (first-map g test change xs h) (test x)
+-- where the one that passes is seen as before
+first-map-at : {X Y : Type 0} (g : X → Y) (test : X → Bool) (change : X → X) (xs : List X) → ((x : X) → find test xs ≡ Some x → g (change x) ≡ g x)
+    → map g (change_first test change xs) ≡ map g xs
+first-map-at g test change [] h = refl
+first-map-at g test change (x ∷ xs) h = go (first-map-at g test change xs) (test x) h
   where
-    go : map g (change_first test change xs) ≡ map g xs → (b : Bool) → map g (cond b (change x ∷ xs) (x ∷ change_first test change xs)) ≡ map g (x ∷ xs)
-    go more true = ap (λ y. y ∷ map g xs) (h x)
-    go more false = ap (λ ys. g x ∷ ys) more
+    go : (((y : _) → find test xs ≡ Some y → g (change y) ≡ g y) → map g (change_first test change xs) ≡ map g xs) → (b : Bool)
+        → ((y : _) → cond b (Some x) (find test xs) ≡ Some y → g (change y) ≡ g y) → map g (cond b (change x ∷ xs) (x ∷ change_first test change xs)) ≡ map g (x ∷ xs)
+    go more true k = ap (λ y. y ∷ map g xs) (k x refl)
+    go more false k = ap (λ ys. g x ∷ ys) (more k)
+
+pub first-map : {X Y : Type 0} (g : X → Y) (test : X → Bool) (change : X → X) (xs : List X) → ((x : X) → g (change x) ≡ g x) → map g (change_first test change xs) ≡ map g xs
+first-map g test change xs h = first-map-at g test change xs (λ x _. h x)
 
 pub first-length : {X : Type 0} (test : X → Bool) (change : X → X) (xs : List X) → length (change_first test change xs) ≡ length xs
 first-length test change [] = refl
@@ -141,18 +147,22 @@ with-entry time g p h room fits = let r = is-soup p h in soup-is (add_entry time
   entries_fit = push-all valid_entry p.entries _ r.entries_fit fits;
 })
 
-pub with-change : (uid : ℕ) (f : Entry → Entry) (p : Soup) → valid_soup p ≡ true → ((e : Entry) → (f e).uid ≡ e.uid)
+pub with-change-at : (uid : ℕ) (f : Entry → Entry) (p : Soup) → valid_soup p ≡ true → ((e : Entry) → entry_of uid p ≡ Some e → (f e).uid ≡ e.uid)
     → ((e : Entry) → entry_of uid p ≡ Some e → valid_entry e ≡ true → valid_entry (f e) ≡ true) → valid_soup (change_entry uid f p) ≡ true
-with-change uid f p h same fits = let r = is-soup p h in soup-is (change_entry uid f p) (record {
+with-change-at uid f p h same fits = let r = is-soup p h in soup-is (change_entry uid f p) (record {
   named = r.named;
   next = r.next;
-  uids = ap (rises 0 p.next_uid) (first-map (λ (e : Entry). e.uid) (λ e. e.uid == uid) f p.entries same) ∙ r.uids;
+  uids = ap (rises 0 p.next_uid) (first-map-at (λ (e : Entry). e.uid) (λ e. e.uid == uid) f p.entries same) ∙ r.uids;
   count = r.count;
   specs_fit = r.specs_fit;
   specs_apart = r.specs_apart;
   tags_fit = r.tags_fit;
   entries_fit = first-all valid_entry (λ e. e.uid == uid) f p.entries r.entries_fit fits;
 })
+
+pub with-change : (uid : ℕ) (f : Entry → Entry) (p : Soup) → valid_soup p ≡ true → ((e : Entry) → (f e).uid ≡ e.uid)
+    → ((e : Entry) → entry_of uid p ≡ Some e → valid_entry e ≡ true → valid_entry (f e) ≡ true) → valid_soup (change_entry uid f p) ≡ true
+with-change uid f p h same fits = with-change-at uid f p h (λ e _. same e) fits
 
 pub without-entry : (uid : ℕ) (p : Soup) → valid_soup p ≡ true → valid_soup (remove_entry uid p) ≡ true
 without-entry uid p h = let r = is-soup p h in soup-is (remove_entry uid p) (record {

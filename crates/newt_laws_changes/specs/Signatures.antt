@@ -1,6 +1,6 @@
--- Soups by their signatures, and stores as far as they are built. A well-formed store has one soup of a name and one of a signature, so both find the same.
-use Rattle.std.specs.Prelude.{ℕ, ◌+◌, Bool, ◌&&◌, ◌==◌, not, length, filter, Option, is_some}
-use Rattle.std.specs.List.{find, list_all}
+-- Soups by their signatures. A well-formed store has one soup of a name and one of a signature, so both find the same.
+use Rattle.std.specs.Prelude.{ℕ, ◌+◌, ◌==◌, not, filter, Option}
+use Rattle.std.specs.List.{find}
 use Rattle.newt_spec_store.specs.Store.{Soup, Store, change_first}
 
 -- the soup of this signature (this project's own)
@@ -18,11 +18,3 @@ uid_taken p = record p { next_uid = p.next_uid + 1 }
 -- the next entry id of the soup of this signature is taken (this project's own)
 abbrev pub take_uid_of : ℕ → Store → Store
 take_uid_of sig s = record s { soups = change_first (λ p. p.sig == sig) uid_taken s.soups }
-
--- a soup has no indexes and no tags declaration (a word of these definitions)
-abbrev pub is_early_soup : Soup → Bool
-is_early_soup p = (length p.specs == 0) && not (is_some p.tags)
-
--- no soup of a store has indexes or a tags declaration (a word of these definitions)
-abbrev pub is_early : Store → Bool
-is_early s = list_all is_early_soup s.soups

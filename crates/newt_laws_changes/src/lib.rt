@@ -9,8 +9,7 @@ mod changes;
 mod cost;
 
 pub use changes::{
-    changed_stores_are_well_formed, changed_stores_lie_in_changed_objects,
-    changed_stores_stay_plain, changes_give_new_ids, directories_follow_changes, places_are_apart,
-    soups_are_found_both_ways,
+    changed_stores_are_well_formed, changed_stores_lie_in_changed_objects, changes_give_new_ids,
+    directories_follow_changes, places_are_apart, soups_are_found_both_ways,
 };
 pub use cost::costs_add_up;

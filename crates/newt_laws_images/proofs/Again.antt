@@ -1,5 +1,5 @@
 -- A store that is read lies in the objects, each entry in its place.
-use Rattle.std.proofs.Common.{arith, ◌≡◌, ◌≢◌, refl, ap, sym, ◌∙◌, subst, ℕ, ◌%◌, ◌<◌, List, [], ◌∷◌, true, false, Bool, ◌&&◌, cond, inl, inr, Option, Some, None, option_map, find, length, sum_by, ◌==◌}
+use Rattle.std.proofs.Common.{arith, ◌≡◌, ◌≢◌, refl, ap, sym, ◌∙◌, subst, ℕ, ◌%◌, ◌<◌, List, [], ◌∷◌, true, false, Bool, ◌&&◌, cond, inl, inr, ◌⊎◌, Option, Some, None, option_map, find, length, sum_by, ◌==◌}
 use Rattle.std.specs.FinMap as map
 use Rattle.std.proofs.lemmas.Bool.{eqb-true, eq-eqb, and_parts, and_from, leb-true}
 use Rattle.newt_graph.specs.Graph.{RawGraph}
@@ -71,7 +71,7 @@ read-names : (graph_of : List ℕ → Option RawGraph) (objects : Texts) (sig ui
 read-names graph_of objects sig uid bytes a e r = ap (row_names sig uid) r.is_row ∙ (λ i. (r.of_row.of_soup i == sig) && (r.of_row.of_uid i == uid))
 
 module _ (graph_of : List ℕ → Option RawGraph) (objects : Texts) (blocks : ℕ) (s : Store) (r : IsReading graph_of (map.entries objects) blocks s)
-    (small : (id : ℕ) (bytes : List ℕ) → map.get objects id ≡ Some bytes → Small bytes) where
+    (small : (id : ℕ) (bytes : List ℕ) → map.get objects id ≡ Some bytes → (id ≡ 0) ⊎ (id % 2 ≡ 1) → Small bytes) where
   -- the entry of a record
   record-of : (o : ℕ × List ℕ) → Among (odds objects) o → (x : ℕ × Entry) × Among r.es x × IsEntryIn graph_of objects r.d o x
   record-of o m = both-left (IsEntryIn graph_of objects r.d) (odds objects) r.es o (all-read graph_of objects blocks s r) m
@@ -126,12 +126,12 @@ module _ (graph_of : List ℕ → Option RawGraph) (objects : Texts) (blocks : �
 
   gathered-again : Gathered graph_of objects (place_in objects) (named_by objects) r.d r.es
   gathered-again = record {
-    directory = read-directory graph_of objects blocks s r ∙ ap Some (directory-spelt r.bytes r.d (small 0 r.bytes (read-directory graph_of objects blocks s r)) r.is_directory);
+    directory = read-directory graph_of objects blocks s r ∙ ap Some (directory-spelt r.bytes r.d (small 0 r.bytes (read-directory graph_of objects blocks s r) (inl refl)) r.is_directory);
     good = ap well_formed (read-bare graph_of objects blocks s r) ∙ bare-good s (read-good graph_of objects blocks s r);
     both = both-more (IsEntryIn graph_of objects r.d) (IsEntryOf graph_of objects (place_in objects) (named_by objects) r.d) (odds objects) r.es
         (λ o x m n is.
         let there = entry-get objects o.0 o.1 (among-filter (λ (o : ℕ × List ℕ). o.0 % 2 == 1) (map.entries objects) o m).0 in
-        record { odd = is.odd; small = small o.0 o.1 there; read = is.read; given = is.given; at = its-place o x m is; names_are = record-names o is.odd there })
+        record { odd = is.odd; small = small o.0 o.1 there (inr is.odd); read = is.read; given = is.given; at = its-place o x m is; names_are = record-names o is.odd there })
         (all-read graph_of objects blocks s r);
     places = its-entry;
     names = λ id o m. let k = its-record id o m in (k.0, k.1, k.2);
@@ -150,9 +150,9 @@ module _ (graph_of : List ℕ → Option RawGraph) (objects : Texts) (blocks : �
   lies-again reads = subst (λ (t : Store). LiesIn objects (place_in objects) t) r.is (made-lies graph_of reads objects (place_in objects) (named_by objects) r.d r.es gathered-again)
 
 module _ (graph_of : List ℕ → Option RawGraph) (objects : Texts) (blocks : ℕ) (s : Store) (reads : ReadsGraphs graph_of)
-    (are_bytes : (id : ℕ) (bytes : List ℕ) → map.get objects id ≡ Some bytes → AreBytes bytes) (h : store_of graph_of (map.entries objects) blocks ≡ Some s) where
+    (are_bytes : (id : ℕ) (bytes : List ℕ) → map.get objects id ≡ Some bytes → (id ≡ 0) ⊎ (id % 2 ≡ 1) → AreBytes bytes) (h : store_of graph_of (map.entries objects) blocks ≡ Some s) where
   pub read-lies : (place : Places) × LiesIn objects place s
-  read-lies = (place_in objects, lies-again graph_of objects blocks s (reading graph_of (map.entries objects) blocks s h) (λ id bytes at. small-of bytes (are_bytes id bytes at)) reads)
+  read-lies = (place_in objects, lies-again graph_of objects blocks s (reading graph_of (map.entries objects) blocks s h) (λ id bytes at which. small-of bytes (are_bytes id bytes at which)) reads)
 
   pub over : cap blocks < sum_by (λ (o : ℕ × List ℕ). pages_for (length o.1)) (map.entries objects) → ⊥
   over more =

@@ -1,5 +1,5 @@
 //! Laws of stores that lie in objects.
-ghost use Rattle.std.specs.Prelude.{ℕ, ◌≡◌, List, IsTrue, length, sum_by, fold, zip, map as list_map, Option, Some, None};
+ghost use Rattle.std.specs.Prelude.{ℕ, ◌≡◌, ◌⊎◌, ◌%◌, List, IsTrue, length, sum_by, fold, zip, map as list_map, Option, Some, None};
 ghost use Rattle.std.specs.FinMap as map;
 ghost use Rattle.newt_graph.specs.Graph.{RawGraph, IsGraph};
 ghost use Rattle.newt_image.specs.Objects.{Objects, pages_for};
@@ -19,7 +19,7 @@ pub fn lying_stores_are_read()
     ensures back { (graph_of : List ℕ → Option RawGraph) (objects : Objects) (place : Places) (blocks : ℕ) (s : Store) → ReadsGraphs graph_of → LiesIn objects place s
         → IsTrue (valid blocks s) → store_of graph_of (map.entries objects) blocks ≡ Some s }
     ensures lies { (graph_of : List ℕ → Option RawGraph) (objects : Objects) (blocks : ℕ) (s : Store) → ReadsGraphs graph_of
-        → ((id : ℕ) (bytes : List ℕ) → map.get objects id ≡ Some bytes → AreBytes bytes)
+        → ((id : ℕ) (bytes : List ℕ) → map.get objects id ≡ Some bytes → (id ≡ 0) ⊎ (id % 2 ≡ 1) → AreBytes bytes)
         → store_of graph_of (map.entries objects) blocks ≡ Some s → (place : Places) × LiesIn objects place s }
     ensures total { (objects : Objects) (place : Places) (s : Store) → LiesIn objects place s → IsTrue (well_formed s)
         → sum_by (λ o. pages_for (length o.1)) (map.entries objects) ≡ cost s }

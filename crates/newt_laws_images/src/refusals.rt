@@ -1,5 +1,5 @@
 //! Laws of objects that are no store.
-ghost use Rattle.std.specs.Prelude.{ℕ, ◌≡◌, ◌≢◌, ◌%◌, ◌<◌, List, length, sum_by, Option, Some, None};
+ghost use Rattle.std.specs.Prelude.{ℕ, ◌≡◌, ◌≢◌, ◌⊎◌, ◌%◌, ◌<◌, List, length, sum_by, Option, Some, None};
 ghost use Rattle.std.specs.FinMap as map;
 ghost use Rattle.newt_graph.specs.Graph.{RawGraph};
 ghost use Rattle.newt_image.specs.Objects.{Objects, pages_for};
@@ -58,7 +58,7 @@ pub fn bad_names_are_refused()
 
 /// Where the objects take more pages than a unit of so many blocks has, nothing is read.
 pub fn large_stores_are_refused()
-    ensures { (graph_of : List ℕ → Option RawGraph) (objects : Objects) (blocks : ℕ) → ReadsGraphs graph_of → ((id : ℕ) (bytes : List ℕ) → map.get objects id ≡ Some bytes → AreBytes bytes)
+    ensures { (graph_of : List ℕ → Option RawGraph) (objects : Objects) (blocks : ℕ) → ReadsGraphs graph_of → ((id : ℕ) (bytes : List ℕ) → map.get objects id ≡ Some bytes → (id ≡ 0) ⊎ (id % 2 ≡ 1) → AreBytes bytes)
         → cap blocks < sum_by (λ o. pages_for (length o.1)) (map.entries objects)
         → (s : Store) → store_of graph_of (map.entries objects) blocks ≡ Some s → ⊥ }
 {}

@@ -5,3 +5,5 @@ pub mod Found
 pub mod Laws
 pub mod Paths
 pub mod Places
+pub mod Seen
+pub mod Patched

@@ -1,5 +1,5 @@
 -- Places of the entries of one soup among all places.
-use Rattle.std.proofs.Common.{◌≡◌, ℕ, zero, suc, ◌==◌, Bool, true, false, cond, List, [], ◌∷◌, ◌++◌, map as map_list, slice_get, Some, None, refl, sym, ◌∙◌, ap, subst, arith, ⊎_elim}
+use Rattle.std.proofs.Common.{◌≡◌, ◌≢◌, ℕ, zero, suc, inl, inr, ◌==◌, Bool, true, false, cond, List, [], ◌∷◌, ◌++◌, map as map_list, slice_get, Some, None, refl, sym, ◌∙◌, ap, subst, arith, ⊎_elim}
 use Rattle.std.specs.List.{filter, AllByRecursion}
 use Rattle.std.specs.List.Sorted.{IsStrictlySortedBy}
 use Rattle.std.specs.declared.cmp.Ordering.TheVariants.{Less}
@@ -10,6 +10,8 @@ use Rattle.std.proofs.lemmas.Map.Entries.{place_from_lookup, btree_map_get_place
 use Rattle.newt_pagebook.proofs.Tests.{some_inj, true_or_false, is_same, equal_true}
 use Rattle.newt_objects.specs.Headers.{part_cmp}
 use Rattle.newt_objects.proofs.Indexing.{parts_total, same_part, itself}
+use Rattle.newt_spec_graph.specs.Lists.{Among}
+use Rattle.newt_spec_graph.proofs.Lists.{each-from}
 use Rattle.newt_shelf.specs.Batch.{AreOnce}
 use Rattle.newt_shelf.specs.Places.{picked}
 
@@ -44,51 +46,47 @@ later_row sig id row rows (i, uid, is) = (suc i, uid, is)
 first_row : (sig id : ℕ) (row : Row) (rows : List Row) → (row.0.0 == sig) ≡ true → row.1 ≡ id → slice_get (row ∷ rows) zero ≡ Some ((sig, row.0.1), id)
 first_row sig id row rows e same = ap (λ (x : Row). Some x) (λ i. ((is_same row.0.0 sig e i, row.0.1), same i))
 
-one_of : (sig : ℕ) (row : Row) (rows : List Row) (b : Bool) (k id : ℕ) → (row.0.0 == sig) ≡ b → ((k : ℕ) → slice_get (picked sig rows) k ≡ Some id → IsOf sig rows id) → slice_get (picks b row (picked sig rows)) k ≡ Some id → IsOf sig (row ∷ rows) id
-one_of sig row rows true zero id e others at = (zero, row.0.1, first_row sig id row rows e (some_inj row.1 id at))
-one_of sig row rows true (suc k) id e others at = later_row sig id row rows (others k at)
-one_of sig row rows false k id e others at = later_row sig id row rows (others k at)
+one_of : (sig : ℕ) (row : Row) (rows : List Row) (b : Bool) (id : ℕ) → (row.0.0 == sig) ≡ b → (Among (picked sig rows) id → IsOf sig rows id) → Among (picks b row (picked sig rows)) id → IsOf sig (row ∷ rows) id
+one_of sig row rows true id e others (inl same) = (zero, row.0.1, first_row sig id row rows e same)
+one_of sig row rows true id e others (inr m) = later_row sig id row rows (others m)
+one_of sig row rows false id e others m = later_row sig id row rows (others m)
 
 -- each object that is picked is that of a row of the soup
-pub picked-real : (sig : ℕ) (rows : List Row) (k id : ℕ) → slice_get (picked sig rows) k ≡ Some id → IsOf sig rows id
-picked-real sig [] k id at = absurd (let no : None ≡ Some id = at in cc)
-picked-real sig (row ∷ rows) k id at =
-    one_of sig row rows (row.0.0 == sig) k id refl (λ k is. picked-real sig rows k id is) (sym (ap (λ (l : List ℕ). slice_get l k) (picked-first sig row rows)) ∙ at)
+pub picked-real : (sig : ℕ) (rows : List Row) (id : ℕ) → Among (picked sig rows) id → IsOf sig rows id
+picked-real sig [] id m = absurd m
+picked-real sig (row ∷ rows) id m = one_of sig row rows (row.0.0 == sig) id refl (picked-real sig rows id) (subst (λ (l : List ℕ). Among l id) (picked-first sig row rows) m)
 
-kept : (b : Bool) (row : Row) (rest : List ℕ) (id : ℕ) → (k : ℕ) × (slice_get rest k ≡ Some id) → (k : ℕ) × (slice_get (picks b row rest) k ≡ Some id)
-kept true row rest id (k, is) = (suc k, is)
-kept false row rest id (k, is) = (k, is)
+kept : (b : Bool) (row : Row) (rest : List ℕ) (id : ℕ) → Among rest id → Among (picks b row rest) id
+kept true row rest id m = inr m
+kept false row rest id m = m
 
-in_first : (sig : ℕ) (row : Row) (rows : List Row) (id : ℕ) → (k : ℕ) × (slice_get (picks (row.0.0 == sig) row (picked sig rows)) k ≡ Some id) → (k : ℕ) × (slice_get (picked sig (row ∷ rows)) k ≡ Some id)
-in_first sig row rows id (k, is) = (k, ap (λ (l : List ℕ). slice_get l k) (picked-first sig row rows) ∙ is)
+in_first : (sig : ℕ) (row : Row) (rows : List Row) (id : ℕ) → Among (picks (row.0.0 == sig) row (picked sig rows)) id → Among (picked sig (row ∷ rows)) id
+in_first sig row rows id m = subst (λ (l : List ℕ). Among l id) (sym (picked-first sig row rows)) m
 
 -- the object of each row of the soup is picked
-pub picked-all : (sig : ℕ) (rows : List Row) (i uid id : ℕ) → slice_get rows i ≡ Some ((sig, uid), id) → (k : ℕ) × (slice_get (picked sig rows) k ≡ Some id)
+pub picked-all : (sig : ℕ) (rows : List Row) (i uid id : ℕ) → slice_get rows i ≡ Some ((sig, uid), id) → Among (picked sig rows) id
 picked-all sig [] i uid id at = absurd (let no : None ≡ Some ((sig, uid), id) = at in cc)
 picked-all sig (row ∷ rows) zero uid id at =
     let same : row ≡ ((sig, uid), id) = some_inj row ((sig, uid), id) at in
     let e : (row.0.0 == sig) ≡ true = equal_true row.0.0 sig (ap (λ (x : Row). x.0.0) same) in
-    in_first sig row rows id (zero, ap (λ (b : Bool). slice_get (picks b row (picked sig rows)) zero) e ∙ ap (λ (x : Row). Some x.1) same)
+    in_first sig row rows id (subst (λ (b : Bool). Among (picks b row (picked sig rows)) id) (sym e) (inl (ap (λ (x : Row). x.1) same)))
 picked-all sig (row ∷ rows) (suc i) uid id at = in_first sig row rows id (kept (row.0.0 == sig) row (picked sig rows) id (picked-all sig rows i uid id at))
 
 abbrev Apart : ℕ → List Row → Type 0
 Apart sig rows = (i j u v id : ℕ) → slice_get rows i ≡ Some ((sig, u), id) → slice_get rows j ≡ Some ((sig, v), id) → i ≡ j
 
-no_other : (sig : ℕ) (row : Row) (rows : List Row) (l id : ℕ) → (row.0.0 == sig) ≡ true → Apart sig (row ∷ rows) → row.1 ≡ id → slice_get (picked sig rows) l ≡ Some id → ⊥
-no_other sig row rows l id e apart same is =
-    let w = picked-real sig rows l id is in
+no_other : (sig : ℕ) (row : Row) (rows : List Row) (id : ℕ) → (row.0.0 == sig) ≡ true → Apart sig (row ∷ rows) → Among (picked sig rows) id → row.1 ≢ id
+no_other sig row rows id e apart m same =
+    let w = picked-real sig rows id m in
     let no : zero ≡ suc w.0 = apart zero (suc w.0) row.0.1 w.1 id (first_row sig id row rows e same) w.2 in omega (arith, no)
 
 once_with : (sig : ℕ) (row : Row) (rows : List Row) (b : Bool) → (row.0.0 == sig) ≡ b → Apart sig (row ∷ rows) → AreOnce (picked sig rows) → AreOnce (picks b row (picked sig rows))
-once_with sig row rows true e apart rest zero zero id at other = refl
-once_with sig row rows true e apart rest zero (suc l) id at other = absurd (no_other sig row rows l id e apart (some_inj row.1 id at) other)
-once_with sig row rows true e apart rest (suc k) zero id at other = absurd (no_other sig row rows k id e apart (some_inj row.1 id other) at)
-once_with sig row rows true e apart rest (suc k) (suc l) id at other = ap suc (rest k l id at other)
-once_with sig row rows false e apart rest k l id at other = rest k l id at other
+once_with sig row rows true e apart rest = (each-from (λ (id : ℕ). row.1 ≢ id) (picked sig rows) (λ id m. no_other sig row rows id e apart m), rest)
+once_with sig row rows false e apart rest = rest
 
 -- no object is picked twice, where no two rows of the soup have one
 pub picked-once : (sig : ℕ) (rows : List Row) → Apart sig rows → AreOnce (picked sig rows)
-picked-once sig [] apart = λ k l id at other. absurd (let no : None ≡ Some id = at in cc)
+picked-once sig [] apart = tt
 picked-once sig (row ∷ rows) apart = subst (λ (l : List ℕ). AreOnce l) (sym (picked-first sig row rows))
     (once_with sig row rows (row.0.0 == sig) refl apart (picked-once sig rows (λ i j u v id a b. (let e : suc i ≡ suc j = apart (suc i) (suc j) u v id a b in omega (arith, e)))))
 
@@ -134,10 +132,10 @@ picked-push sig (first ∷ rows) row =
       joined true = refl
       joined false = refl
 
-pub picked-places : (rows : BTreeMap (ℕ × ℕ) ℕ) (sig : ℕ) → tree.IsOrdered part_cmp rows → (k id : ℕ) → slice_get (picked sig rows.entries) k ≡ Some id → (uid : ℕ) × (tree.get part_cmp rows (sig, uid) ≡ Some id)
-picked-places rows sig ordered k id at = let w = picked-real sig rows.entries k id at in (w.1, place-at rows w.0 sig w.1 id ordered w.2)
+pub picked-places : (rows : BTreeMap (ℕ × ℕ) ℕ) (sig : ℕ) → tree.IsOrdered part_cmp rows → (id : ℕ) → Among (picked sig rows.entries) id → (uid : ℕ) × (tree.get part_cmp rows (sig, uid) ≡ Some id)
+picked-places rows sig ordered id m = let w = picked-real sig rows.entries id m in (w.1, place-at rows w.0 sig w.1 id ordered w.2)
 
-pub places-picked : (rows : BTreeMap (ℕ × ℕ) ℕ) (sig uid id : ℕ) → tree.get part_cmp rows (sig, uid) ≡ Some id → (k : ℕ) × (slice_get (picked sig rows.entries) k ≡ Some id)
+pub places-picked : (rows : BTreeMap (ℕ × ℕ) ℕ) (sig uid id : ℕ) → tree.get part_cmp rows (sig, uid) ≡ Some id → Among (picked sig rows.entries) id
 places-picked rows sig uid id is = let w = row-of rows sig uid id is in picked-all sig rows.entries w.0 uid id w.1
 
 pub places-once : (rows : BTreeMap (ℕ × ℕ) ℕ) (sig : ℕ) → tree.IsOrdered part_cmp rows → ((u v id : ℕ) → tree.get part_cmp rows (sig, u) ≡ Some id → tree.get part_cmp rows (sig, v) ≡ Some id → u ≡ v) → AreOnce (picked sig rows.entries)

@@ -2,3 +2,4 @@ pub mod Commit
 pub mod Faults
 pub mod Batch
 pub mod Places
+pub mod Names

@@ -1,11 +1,12 @@
 // Where the records of entries are.
-ghost use Rattle.std.specs.Prelude.{◌≡◌, ◌≢◌, ◌==◌, ◌++◌, ◌∷◌, [], ℕ, List, filter, length, slice_get, Some, None, is_some, OnOk, OnErr, IfOk};
+ghost use Rattle.std.specs.Prelude.{◌≡◌, ◌≢◌, ◌==◌, ◌++◌, ◌∷◌, [], ℕ, List, filter, length, Some, None, is_some, OnOk, OnErr, IfOk};
 ghost use Rattle.std.specs.List.{IsDistinct};
 ghost use Rattle.std.specs.List.Sorted.{IsStrictlySortedBy};
 ghost use Rattle.std.specs.Ordering.{nat_cmp};
 ghost use Rattle.std.specs.Set.{is_member};
 ghost use Rattle.std.specs.BTreeMap as tree;
 ghost use Rattle.newt_objects.specs.Headers.{part_cmp};
+ghost use Rattle.newt_spec_graph.specs.Lists.{Among};
 ghost use Rattle.newt_shelf.specs.Batch.{AreOnce};
 ghost use Rattle.newt_shelf.specs.Places.{place_of, picked, uids_at};
 
@@ -111,8 +112,8 @@ impl PlaceTable {
     /// The objects of the records of a soup's entries.
     pub fn objects_of(&self, alloc: Global, sig: Sig) -> Result<Vec<u32>, AllocError>
         requires { (u v id : ℕ) → place_of self.now sig u ≡ Some id → place_of self.now sig v ≡ Some id → u ≡ v }
-        ensures real { IfOk result (λ ids. (k id : ℕ) → slice_get ids.items k ≡ Some id → (uid : ℕ) × (place_of self.now sig uid ≡ Some id)) }
-        ensures all { IfOk result (λ ids. (uid id : ℕ) → place_of self.now sig uid ≡ Some id → (k : ℕ) × (slice_get ids.items k ≡ Some id)) }
+        ensures real { IfOk result (λ ids. (id : ℕ) → Among ids.items id → (uid : ℕ) × (place_of self.now sig uid ≡ Some id)) }
+        ensures all { IfOk result (λ ids. (uid id : ℕ) → place_of self.now sig uid ≡ Some id → Among ids.items id) }
         ensures once { IfOk result (λ ids. AreOnce ids.items) }
     {
         let mut ids = Vec::new(alloc);

@@ -29,7 +29,7 @@ use Rattle.newt_store.specs.declared.change.Change.TheVariants.{MakeSoup, DropSo
 use Rattle.newt_store.specs.Change.{changed_by, first_checks, full_check, refusal_of, dropped_soup, changed_soup, pages_put, pages_gone, directory_pages, most_bytes}
 use Rattle.newt_store.specs.declared.next.Next.{Next}
 use Rattle.newt_store.specs.Next.{IsEitherStore, IsPlanOf, goes_pages, replaced_pages, turn_bytes}
-use Rattle.newt_store.specs.Stage.{readable}
+use Rattle.newt_store.specs.Readable.{readable}
 use Rattle.newt_store.specs.Stands.{StandsFor, IsSound, IsRefused, RefusesWith, IsBeforeOrChanged}
 use Rattle.newt_store.proofs.Writing.{kept-over, failed}
 use Rattle.newt_store.proofs.Reading.{read-back}

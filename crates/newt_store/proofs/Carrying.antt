@@ -20,7 +20,7 @@ use Rattle.newt_store.specs.declared.next.Gone.{Gone}
 use Rattle.newt_store.specs.declared.next.Gone.TheVariants.{Nothing, OneEntry, AllOf}
 use Rattle.newt_store.specs.declared.next.Next.{Next}
 use Rattle.newt_store.specs.Next.{Goes, IsNew, IsNextOf, AreNext, ArePlacesNext, Turns, WritesNext, HoldsEither, IsEitherStore}
-use Rattle.newt_store.specs.Stage.{readable}
+use Rattle.newt_store.specs.Readable.{readable}
 use Rattle.newt_store.specs.Stands.{Describes, StandsFor}
 use Rattle.newt_store.proofs.Reading.{read-back, total-cost, same-cap}
 

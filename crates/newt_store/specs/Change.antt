@@ -1,9 +1,9 @@
 -- What each change does to a plain store, and what it is refused for. Soups are named by their signatures. What the changes do to stores, soups and entries
 -- is Newton's (Newton Programmer's Guide 2.0); the refusals and their order are this project's own.
-use Rattle.std.specs.Prelude.{ℕ, ◌+◌, ◌*◌, Bool, cond, not, ◌==◌, ◌||◌, nat_lt, nat_le, List, [], ◌∷◌, ◌++◌, map, length, Option, Some, None, is_some, is_none, option_map, option_and_then}
+use Rattle.std.specs.Prelude.{ℕ, ◌+◌, ◌*◌, ◌/◌, Bool, true, false, cond, not, ◌==◌, ◌||◌, nat_lt, nat_le, List, [], ◌∷◌, ◌++◌, map, length, slice_get, Option, Some, None, is_some, is_none, unwrap_or, option_map, option_and_then}
 use Rattle.std.specs.List.{list_any}
 use Rattle.newt_base.specs.declared.Refusal.{Refusal}
-use Rattle.newt_base.specs.declared.Refusal.TheVariants.{Soup as NoSoup, Exists, Entry as NoEntry, Notframe, Limit, Size, Ids, Full, Index as BadIndex}
+use Rattle.newt_base.specs.declared.Refusal.TheVariants.{Soup as NoSoup, Exists, Entry as NoEntry, Notframe, Limit, Size, Ids, Full, Range, Path as NoPath, Index as BadIndex}
 use Rattle.newt_base.specs.Refusals.{Checks, first_of}
 use Rattle.newt_image.specs.Pages.{cap}
 use Rattle.newt_image.specs.Objects.{pages_for}
@@ -11,11 +11,14 @@ use Rattle.newt_graph.specs.Graph.{RawGraph}
 use Rattle.newt_spec_graph.specs.Graph.{is_frame, object}
 use Rattle.newt_spec_store.specs.Store.{Entry, Soup, Store, soup_named, entry_of, change_soup, change_entry, make_soup, drop_soup, add_entry, remove_entry}
 use Rattle.newt_spec_store.specs.Cost.{cost, directory_bytes, skeleton_length, entry_pages, soup_pages}
-use Rattle.newt_spec_store.specs.Lies.{graph_has_no_large}
+use Rattle.newt_spec_store.specs.StoreOf.{fill}
+use Rattle.newt_host.specs.Moments.{overwritten}
+use Rattle.newt_graph.specs.declared.node.Node.{Node}
+use Rattle.newt_graph.specs.declared.node.Node.TheVariants.{Large}
 use Rattle.newt_spec_store.specs.Keys.{IndexSpec, Path, paths_of, same_paths}
 use Rattle.newt_soupdir.specs.Changes.{soup_of, with_index, without_index, with_tags}
 use Rattle.newt_store.specs.declared.change.Change.{Change}
-use Rattle.newt_store.specs.declared.change.Change.TheVariants.{MakeSoup, DropSoup, Add, Remove, Move, Replace, AddIndex, DropIndex, SetTags}
+use Rattle.newt_store.specs.declared.change.Change.TheVariants.{MakeSoup, DropSoup, Add, Remove, Move, Replace, Patch, AddIndex, DropIndex, SetTags}
 
 -- the entry of this id in the soup of this signature
 abbrev pub entry_in : ℕ → ℕ → Store → Option Entry
@@ -40,6 +43,23 @@ moved_entry (Some e) source target now s = changed_soup source (remove_entry e.u
 abbrev pub with_graph : ℕ → RawGraph → Entry → Entry
 with_graph now graph e = record e { time = now; graph = graph }
 
+-- the bytes of a large binary, none of another node
+abbrev pub bytes_in : Option Node → Option (List ℕ)
+bytes_in (Some (Large class bytes)) = Some bytes
+bytes_in node = None
+
+-- the bytes of the large binary of this number, none where there is none
+abbrev pub large_of : ℕ → RawGraph → Option (List ℕ)
+large_of node g = bytes_in (slice_get g.nodes node)
+
+-- the graph with these bytes over those of the large binary of this number, from a place on
+abbrev pub with_patch : ℕ → ℕ → List ℕ → RawGraph → RawGraph
+with_patch node at bytes g = fill g (node, overwritten (unwrap_or (large_of node g) []) at bytes)
+
+-- the entry with its graph so changed; it keeps its id and its minute
+abbrev pub patched_entry : ℕ → ℕ → List ℕ → Entry → Entry
+patched_entry node at bytes e = record e { graph = with_patch node at bytes e.graph }
+
 -- ---- the table: the store after a change at a minute, where it is not refused
 
 abbrev pub changed_by : Change → ℕ → Store → Store
@@ -49,6 +69,7 @@ changed_by (Add sig graph) now s = changed_soup (soup_of sig s) (add_entry now g
 changed_by (Remove sig uid) now s = changed_soup (soup_of sig s) (remove_entry uid) s
 changed_by (Move source uid target) now s = moved_entry (entry_in source uid s) (soup_of source s) (soup_of target s) now s
 changed_by (Replace sig uid graph) now s = changed_soup (soup_of sig s) (change_entry uid (with_graph now graph)) s
+changed_by (Patch sig uid node at bytes) now s = changed_soup (soup_of sig s) (change_entry uid (patched_entry node at bytes)) s
 changed_by (AddIndex sig spec) now s = changed_soup (soup_of sig s) (with_index spec) s
 changed_by (DropIndex sig paths) now s = changed_soup (soup_of sig s) (without_index paths) s
 changed_by (SetTags sig table) now s = changed_soup (soup_of sig s) (with_tags (Some table)) s
@@ -66,6 +87,7 @@ answer_of (Add sig graph) s = next_uid_of (soup_of sig s)
 answer_of (Remove sig uid) s = 0
 answer_of (Move source uid target) s = next_uid_of (soup_of target s)
 answer_of (Replace sig uid graph) s = 0
+answer_of (Patch sig uid node at bytes) s = 0
 answer_of (AddIndex sig spec) s = 0
 answer_of (DropIndex sig paths) s = 0
 answer_of (SetTags sig table) s = 0
@@ -76,9 +98,18 @@ answer_of (SetTags sig table) s = 0
 abbrev pub has_no_ids : Option Soup → Bool
 has_no_ids p = next_uid_of p == 536_870_911
 
--- The skeleton's written text has more than 64,000 bytes. In this stage that is answered for a graph with large binaries too.
+-- the skeleton's written text has more than 64,000 bytes
 abbrev pub is_too_large : RawGraph → Bool
-is_too_large g = not (graph_has_no_large g) || nat_lt 64_000 (skeleton_length g)
+is_too_large g = nat_lt 64_000 (skeleton_length g)
+
+-- the large binary of this number in an entry's graph
+abbrev pub large_in_entry : ℕ → Option Entry → Option (List ℕ)
+large_in_entry node e = option_and_then (λ e. large_of node e.graph) e
+
+-- so many bytes from a place on end behind a large binary
+abbrev pub ends_behind : ℕ → ℕ → Option (List ℕ) → Bool
+ends_behind at count None = false
+ends_behind at count (Some bytes) = nat_lt (length bytes) (at + count)
 
 -- the indexes of a soup, none where there is no soup
 abbrev pub specs_of : Option Soup → List IndexSpec
@@ -100,16 +131,20 @@ first_checks (Move source uid target) s =
     (NoSoup, is_none (soup_of source s) || is_none (soup_of target s)) ∷ (NoEntry, is_none (entry_in source uid s)) ∷ (Ids, has_no_ids (soup_of target s)) ∷ []
 first_checks (Replace sig uid graph) s =
     (NoSoup, is_none (soup_of sig s)) ∷ (NoEntry, is_none (entry_in sig uid s)) ∷ (Notframe, not (is_frame (object graph.nodes graph.root))) ∷ (Size, is_too_large graph) ∷ []
+first_checks (Patch sig uid node at bytes) s =
+    (NoSoup, is_none (soup_of sig s)) ∷ (NoEntry, is_none (entry_in sig uid s)) ∷ (NoPath, is_none (large_in_entry node (entry_in sig uid s)))
+    ∷ (Range, ends_behind at (length bytes) (large_in_entry node (entry_in sig uid s))) ∷ []
 first_checks (AddIndex sig spec) s =
     (NoSoup, is_none (soup_of sig s)) ∷ (BadIndex, has_paths (paths_of spec) (specs_of (soup_of sig s))) ∷ (Limit, nat_le 16 (length (specs_of (soup_of sig s)))) ∷ []
 first_checks (DropIndex sig paths) s = (NoSoup, is_none (soup_of sig s)) ∷ []
 first_checks (SetTags sig table) s = (NoSoup, is_none (soup_of sig s)) ∷ []
 
--- the store after the change would cost more pages than a unit of so many blocks takes; what goes is never refused so
+-- the store after the change would cost more pages than a unit of so many blocks takes; what goes and what is patched is never refused so
 abbrev pub full_check : Change → ℕ → ℕ → Store → Checks
 full_check (DropSoup sig) blocks now s = []
 full_check (Remove sig uid) blocks now s = []
 full_check (DropIndex sig paths) blocks now s = []
+full_check (Patch sig uid node at bytes) blocks now s = []
 full_check change blocks now s = (Full, nat_lt (cap blocks) (cost (changed_by change now s))) ∷ []
 
 -- the refusals of a change, and the first that holds
@@ -149,11 +184,17 @@ pages_of_soup (Some p) = soup_pages p
 abbrev pub directory_pages : Store → ℕ
 directory_pages s = pages_for (length (directory_bytes s))
 
+-- the change patches a large binary
+abbrev pub is_patch : Change → Bool
+is_patch (Patch sig uid node at bytes) = true
+is_patch change = false
+
 -- ---- what a change costs. This project's own.
 
--- the entry that a change reads: the one that is moved
+-- the entry that a change reads: the one that is moved or patched
 abbrev pub entry_moved : Change → Store → Option Entry
 entry_moved (Move source uid target) s = entry_in source uid s
+entry_moved (Patch sig uid node at bytes) s = entry_in sig uid s
 entry_moved change s = None
 
 -- the entry whose record a change writes: one that it appends, or one that it puts in the place of the one of its id
@@ -179,6 +220,11 @@ pages_put change now s = directory_pages (changed_by change now s) + pages_of_en
 abbrev pub pages_gone : Change → Store → ℕ
 pages_gone change s = directory_pages s + pages_removed change s
 
--- The most bytes that a change programs: none where it is refused, else 516 for each page that it writes, 4 for each that it lets go, and 9 beside them.
+-- The bytes of a batch: 516 for each page that it writes, 4 for each that it lets go, and 9 beside them. A patch writes one page more than its bytes fill.
+abbrev pub bytes_of : Change → ℕ → Store → ℕ
+bytes_of (Patch sig uid node at bytes) now s = 516 * ((length bytes + 499) / 500 + 1) + 9
+bytes_of change now s = 516 * pages_put change now s + 4 * pages_gone change s + 9
+
+-- the most bytes that a change programs: none where it is refused, else those of its batch
 unfoldable pub most_bytes : Change → ℕ → ℕ → Store → ℕ
-most_bytes change blocks now s = cond (is_some (refusal_of change blocks now s)) 0 (516 * pages_put change now s + 4 * pages_gone change s + 9)
+most_bytes change blocks now s = cond (is_some (refusal_of change blocks now s)) 0 (bytes_of change now s)

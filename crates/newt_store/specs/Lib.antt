@@ -1,5 +1,6 @@
-pub mod Stage
+pub mod Readable
 pub mod Change
 pub mod Stands
 pub mod Next
 pub mod Opening
+pub mod Reading

@@ -1,5 +1,5 @@
 -- What a change makes of a store, before it is written.
-use Rattle.std.specs.Prelude.{◌≡◌, ◌≢◌, ◌⊎◌, ℕ, ◌+◌, ◌*◌, ◌%◌, ◌≤◌, IsTrue, List, [], length, Option, Some, None}
+use Rattle.std.specs.Prelude.{◌≡◌, ◌≢◌, ◌⊎◌, ℕ, ◌+◌, ◌*◌, ◌%◌, ◌≤◌, IsTrue, List, [], ◌∷◌, ◌++◌, length, flat_map, map as map_list, Option, Some, None}
 use Rattle.std.specs.FinMap as map
 use Rattle.newt_image.specs.Objects.{Objects, pages_for}
 use Rattle.newt_spec_store.specs.Store.{Store}
@@ -10,7 +10,7 @@ use Rattle.newt_spec_store.specs.OfImage.{blocks_of}
 use Rattle.newt_spec_store.specs.Lies.{Places}
 use Rattle.newt_spec_store.specs.Valid.{well_formed}
 use Rattle.newt_graph.specs.Graph.{RawGraph}
-use Rattle.newt_spec_store.specs.Image.{entry_bytes}
+use Rattle.newt_spec_store.specs.Image.{entry_bytes, larges}
 use Rattle.newt_objects.specs.Held.{Held, held}
 use Rattle.newt_soupdir.specs.Changes.{take_uid_of}
 use Rattle.newt_soupdir.specs.Bare.{bare_store}
@@ -23,8 +23,12 @@ use Rattle.newt_store.specs.declared.change.Change.{Change}
 use Rattle.newt_store.specs.Change.{changed_by, answer_of, first_checks, entry_in, entry_added, pages_of_entry, pages_of_soup, pages_removed, directory_pages}
 use Rattle.newt_soupdir.specs.Changes.{soup_of}
 use Rattle.newt_shelf.specs.Commit.{Fit}
-use Rattle.newt_shelf.specs.Batch.{AreWritten, new_pages, over_pages, pages_held, all_pages_held}
-use Rattle.newt_store.specs.Stage.{readable}
+use Rattle.newt_shelf.specs.Batch.{AreWritten, HasIds, large_ids, new_pages, over_pages, pages_held, all_pages_held}
+use Rattle.newt_shelf.specs.Names.{names_of}
+use Rattle.newt_shelf.specs.declared.batch.NewLarge.{NewLarge}
+use Rattle.newt_spec_graph.specs.Lists.{Among}
+use Rattle.newt_laws_changes.specs.Written.{Names}
+use Rattle.newt_store.specs.Readable.{readable}
 use Rattle.newt_store.specs.declared.catalog.Catalog.{Catalog}
 use Rattle.newt_store.specs.declared.next.Next.{Next}
 use Rattle.newt_shelf.specs.declared.batch.NewEntry.{NewEntry}
@@ -44,12 +48,35 @@ abbrev pub IsNew : Option NewEntry → ℕ → ℕ → Type 0
 IsNew None sig uid = ⊥
 IsNew (Some e) sig uid = (e.sig ≡ sig) × (e.uid ≡ uid)
 
--- The objects after a change: the new directory, the record of the new entry, none of an entry that goes, and all others as they were.
-pub record AreNext (next : Next) (place : Places) (old new : Objects) : Type 0 where
+-- the object has the record of an entry that goes
+abbrev pub GoesAt : Next → Places → ℕ → Type 0
+GoesAt next place id = (sig : ℕ) × (uid : ℕ) × Goes next.gone sig uid × (place sig uid ≡ Some id)
+
+-- the record of the object goes, or the new entry's is put over it: what it names goes
+abbrev pub LosesNames : Next → Places → ℕ → Type 0
+LosesNames next place id = GoesAt next place id ⊎ ((e : NewEntry) × (next.entry ≡ Some e) × (e.id ≡ id))
+
+-- the object goes: it has the record of an entry that goes, or a record names it that goes or that the new entry's is put over
+abbrev pub IsGoing : Next → Places → Names → ℕ → Type 0
+IsGoing next place names o = GoesAt next place o ⊎ ((r : ℕ) × LosesNames next place r × Among (names r) o)
+
+-- what a record that is put over another names no more
+abbrev pub names_replaced : Names → Option NewEntry → List ℕ
+names_replaced names None = []
+names_replaced names (Some e) = names e.id
+
+-- the objects that go: these records, what they name, and what a record that is put over another names no more
+abbrev pub all_gone : Names → List ℕ → Option NewEntry → List ℕ
+all_gone names records entry = flat_map (λ r. r ∷ names r) records ++ names_replaced names entry
+
+-- The objects after a change: the new directory, the record of the new entry and its large binaries, none that goes, and all others as they were.
+pub record AreNext (next : Next) (place : Places) (names : Names) (old new : Objects) : Type 0 where
   pub directory : map.get new 0 ≡ Some (directory_bytes (bare_store next.directory))
   pub entry : (e : NewEntry) → next.entry ≡ Some e → map.get new e.id ≡ Some e.bytes.items
-  pub gone : (sig uid id : ℕ) → Goes next.gone sig uid → place sig uid ≡ Some id → map.get new id ≡ None
-  pub others : (id : ℕ) → id ≢ 0 → ((e : NewEntry) → next.entry ≡ Some e → e.id ≢ id) → ((sig uid : ℕ) → Goes next.gone sig uid → place sig uid ≡ Some id → ⊥) → map.get new id ≡ map.get old id
+  pub larges : (e : NewEntry) (l : NewLarge) → next.entry ≡ Some e → Among e.larges.items l → map.get new l.id ≡ Some l.bytes.items
+  pub gone : (o : ℕ) → IsGoing next place names o → map.get new o ≡ None
+  pub others : (o : ℕ) → o ≢ 0 → ((e : NewEntry) → next.entry ≡ Some e → e.id ≢ o) → ((e : NewEntry) → next.entry ≡ Some e → Among (large_ids e) o → ⊥)
+      → (IsGoing next place names o → ⊥) → map.get new o ≡ map.get old o
 
 -- The places after a change: the new entry's, none of an entry that goes, and all others as they were.
 pub record ArePlacesNext (next : Next) (old new : Places) : Type 0 where
@@ -57,25 +84,33 @@ pub record ArePlacesNext (next : Next) (old new : Places) : Type 0 where
   pub gone : (sig uid : ℕ) → Goes next.gone sig uid → new sig uid ≡ None
   pub others : (sig uid : ℕ) → (IsNew next.entry sig uid → ⊥) → (Goes next.gone sig uid → ⊥) → new sig uid ≡ old sig uid
 
+-- What records name after a change: the new entry's its large binaries, one that goes nothing, and all others what they named.
+pub record AreNamesNext (next : Next) (place : Places) (old new : Names) : Type 0 where
+  pub entry : (e : NewEntry) → next.entry ≡ Some e → new e.id ≡ large_ids e
+  pub gone : (r : ℕ) → GoesAt next place r → new r ≡ []
+  pub others : (r : ℕ) → (LosesNames next place r → ⊥) → new r ≡ old r
+
 -- No object has the new entry's id, or the entry has that place already, and does not go.
 abbrev pub IsFree : Catalog → Gone → NewEntry → Type 0
 IsFree catalog gone e = (held catalog.objects e.id ≡ None) ⊎ ((place_of catalog.places e.sig e.uid ≡ Some e.id) × (Goes gone e.sig e.uid → ⊥))
 
--- What holds of what a change makes: the directory is one, and the new entry's object has an odd id that no other object has.
+-- What holds of what a change makes: the directory is one, and the new entry's objects have ids of their kind that no other objects have.
 pub record IsNextOf (catalog : Catalog) (next : Next) : Type 0 where
   pub formed : IsTrue (well_formed (bare_store next.directory))
-  pub odd : (e : NewEntry) → next.entry ≡ Some e → e.id % 2 ≡ 1
+  pub ids : (e : NewEntry) → next.entry ≡ Some e → HasIds e
   pub free : (e : NewEntry) → next.entry ≡ Some e → IsFree catalog next.gone e
+  pub larges_free : (e : NewEntry) (id : ℕ) → next.entry ≡ Some e → Among (large_ids e) id → held catalog.objects id ≡ None
 
--- How what a change makes leads from one store to another: whatever objects and places are so changed, where they wrote down the store before, they write down
--- the one after; and the new entry has no place yet, or it has its own, and it does not go.
+-- How what a change makes leads from one store to another: whatever objects, places and names are so changed, where they wrote down the store before, they write
+-- down the one after; and the new entry has no place yet, or it has its own, and it does not go.
 pub record Turns (catalog : Catalog) (next : Next) (s t : Store) : Type 0 where
-  pub described : (old new : Objects) (place : Places) → Describes catalog.directory (place_of catalog.places) old s → AreNext next (place_of catalog.places) old new
-      → ArePlacesNext next (place_of catalog.places) place → Describes next.directory place new t
-  pub fresh : (texts : Objects) → Describes catalog.directory (place_of catalog.places) texts s → (e : NewEntry) → next.entry ≡ Some e
+  pub described : (old new : Objects) (place : Places) (names : Names) → Describes catalog.directory (place_of catalog.places) (names_of catalog.names) old s
+      → AreNext next (place_of catalog.places) (names_of catalog.names) old new → ArePlacesNext next (place_of catalog.places) place
+      → AreNamesNext next (place_of catalog.places) (names_of catalog.names) names → Describes next.directory place names new t
+  pub fresh : (texts : Objects) → Describes catalog.directory (place_of catalog.places) (names_of catalog.names) texts s → (e : NewEntry) → next.entry ≡ Some e
       → (place_of catalog.places e.sig e.uid ≡ None) ⊎ (place_of catalog.places e.sig e.uid ≡ Some e.id)
-  pub stays : (texts : Objects) → Describes catalog.directory (place_of catalog.places) texts s → (e : NewEntry) → next.entry ≡ Some e → Goes next.gone e.sig e.uid → ⊥
-  pub bare_is : (texts : Objects) → Describes catalog.directory (place_of catalog.places) texts s → bare t ≡ bare_store next.directory
+  pub stays : (texts : Objects) → Describes catalog.directory (place_of catalog.places) (names_of catalog.names) texts s → (e : NewEntry) → next.entry ≡ Some e → Goes next.gone e.sig e.uid → ⊥
+  pub bare_is : (texts : Objects) → Describes catalog.directory (place_of catalog.places) (names_of catalog.names) texts s → bare t ≡ bare_store next.directory
 
 -- the pages of the entries that go
 abbrev pub goes_pages : Gone → Store → ℕ
@@ -119,15 +154,21 @@ pub record HoldsEither (now : List ℕ) (next : Next) (gone : List ℕ) (before 
 abbrev pub IsEitherStore : List ℕ → Store → Store → List ℕ → Type 0
 IsEitherStore now s t left = (readable left ≡ Some s) ⊎ ((cost t ≤ cap (blocks_of now)) × (readable left ≡ Some t))
 
--- What a new entry makes of a store: the soup's next id is taken, the entry's record has an object that none had, and the answer is the id.
+-- The new entry's record is that of this graph, and its large binaries are the graph's.
+pub record IsEntryOf (sig uid now : ℕ) (graph : RawGraph) (e : NewEntry) : Type 0 where
+  pub of_sig : e.sig ≡ sig
+  pub of_uid : e.uid ≡ uid
+  pub bytes : e.bytes.items ≡ entry_bytes sig (record { uid = uid; time = now; graph = graph }) (large_ids e)
+  pub larges_are : map_list (λ l. l.bytes.items) e.larges.items ≡ map_list (λ l. l.1) (larges graph)
+  pub ids : HasIds e
+
+-- What a new entry makes of a store: the soup's next id is taken, the entry's record and large binaries have objects that none had, and the answer is the id.
 pub record IsAdding (catalog : Catalog) (sig uid now : ℕ) (graph : RawGraph) (gone : Gone) (next : Next) : Type 0 where
   pub entry : NewEntry
   pub is_entry : next.entry ≡ Some entry
-  pub of_sig : entry.sig ≡ sig
-  pub of_uid : entry.uid ≡ uid
-  pub bytes : entry.bytes.items ≡ entry_bytes sig (record { uid = uid; time = now; graph = graph }) []
-  pub odd : entry.id % 2 ≡ 1
+  pub of_graph : IsEntryOf sig uid now graph entry
   pub free : held catalog.objects entry.id ≡ None
+  pub larges_free : (id : ℕ) → Among (large_ids entry) id → held catalog.objects id ≡ None
   pub directory : bare_store next.directory ≡ take_uid_of sig (bare_store catalog.directory)
   pub of_gone : next.gone ≡ gone
   pub answer : next.answer ≡ uid

@@ -1,5 +1,5 @@
 // A change is written, and the memory follows.
-ghost use Rattle.std.specs.Prelude.{IsTrue, ◌≡◌, ◌≢◌, ◌%◌, ◌<◌, ◌≤◌, ℕ, true, false, slice_get, Some, None, IsSome, OnOk, IfOk, IfErr, IsErrOf};
+ghost use Rattle.std.specs.Prelude.{IsTrue, ◌≡◌, ◌≢◌, ◌++◌, [], ◌<◌, ◌≤◌, ℕ, true, false, Some, None, IsSome, OnOk, IfOk, IfErr, IsErrOf};
 ghost use Rattle.newt_base.specs.declared.Refusal.TheVariants.{Full};
 ghost use Rattle.newt_host.specs.Moments.{image, Leaves};
 ghost use Rattle.newt_host.specs.Outside.{Touches, Spends};
@@ -13,27 +13,31 @@ ghost use Rattle.newt_spec_store.specs.OfImage.{blocks_of};
 ghost use Rattle.newt_spec_store.specs.Valid.{well_formed};
 ghost use Rattle.newt_soupdir.specs.Bare.{bare_store};
 ghost use Rattle.newt_shelf.specs.declared.batch.NewEntry.{NewEntry as NewOne};
-ghost use Rattle.newt_shelf.specs.Batch.{AreOnce, IsApart};
+ghost use Rattle.newt_spec_graph.specs.Lists.{Among};
+ghost use Rattle.newt_shelf.specs.Batch.{AreOnce, HasIds, IsApart, large_ids};
+ghost use Rattle.newt_shelf.specs.Names.{names_of, IsReady};
 ghost use Rattle.newt_shelf.specs.Commit.{AreKept, Fit};
 ghost use Rattle.newt_shelf.specs.Faults.{FaultsAt, RefusesOnly};
-ghost use Rattle.newt_store.specs.Next.{Goes, IsNew, IsNextOf, WritesNext, Turns, HoldsEither, IsEitherStore, next_bytes, turn_bytes};
+ghost use Rattle.newt_store.specs.Next.{Goes, IsNew, names_replaced, all_gone, IsNextOf, WritesNext, Turns, HoldsEither, IsEitherStore, next_bytes, turn_bytes};
 ghost use Rattle.newt_store.specs.Stands.{StandsFor, IsSound, GoesOn, IsRefused};
 ghost use Rattle.newt_shelf.specs.Places.{place_of};
 
 use crate::catalog::Catalog;
 use crate::next::{Gone, Next};
+use crate::plan::ids_of;
 use newt_base::Refusal;
 use newt_host::Host;
 use newt_objects::Objects;
 use newt_pagebook::{Batch, PageBook};
-use newt_shelf::{NewEntry, PlaceTable, StoreFault, commit_plans, plan_objects};
+use newt_shelf::{NameTable, NewEntry, PlaceTable, StoreFault, commit_plans, plan_objects};
 use newt_soupdir::write_directory;
 use std::alloc::{AllocError, Global};
 
 // The one object, or none.
 fn one_object(alloc: Global, found: Option<u32>) -> Result<Vec<u32>, AllocError>
-    ensures real { IfOk result (λ ids. (k id : ℕ) → slice_get ids.items k ≡ Some id → (found ≡ Some id) × (k ≡ 0)) }
-    ensures all { IfOk result (λ ids. (id : ℕ) → found ≡ Some id → slice_get ids.items 0 ≡ Some id) }
+    ensures real { IfOk result (λ ids. (id : ℕ) → Among ids.items id → found ≡ Some id) }
+    ensures all { IfOk result (λ ids. (id : ℕ) → found ≡ Some id → Among ids.items id) }
+    ensures once { IfOk result (λ ids. AreOnce ids.items) }
 {
     let mut ids = Vec::new(alloc);
     if let Some(id) = found {
@@ -42,11 +46,11 @@ fn one_object(alloc: Global, found: Option<u32>) -> Result<Vec<u32>, AllocError>
     Ok(ids)
 }
 
-// The objects of the entries that go.
-fn gone_objects(alloc: Global, places: &PlaceTable, gone: Gone) -> Result<Vec<u32>, AllocError>
+// The objects of the records of the entries that go.
+fn gone_records(alloc: Global, places: &PlaceTable, gone: Gone) -> Result<Vec<u32>, AllocError>
     requires { (sig uid other_sig other_uid id : ℕ) → place_of places.now sig uid ≡ Some id → place_of places.now other_sig other_uid ≡ Some id → (sig ≡ other_sig) × (uid ≡ other_uid) }
-    ensures real { IfOk result (λ ids. (k id : ℕ) → slice_get ids.items k ≡ Some id → (sig : ℕ) × (uid : ℕ) × Goes gone sig uid × (place_of places.now sig uid ≡ Some id)) }
-    ensures all { IfOk result (λ ids. (sig uid id : ℕ) → Goes gone sig uid → place_of places.now sig uid ≡ Some id → (k : ℕ) × (slice_get ids.items k ≡ Some id)) }
+    ensures real { IfOk result (λ ids. (id : ℕ) → Among ids.items id → (sig : ℕ) × (uid : ℕ) × Goes gone sig uid × (place_of places.now sig uid ≡ Some id)) }
+    ensures all { IfOk result (λ ids. (sig uid id : ℕ) → Goes gone sig uid → place_of places.now sig uid ≡ Some id → Among ids.items id) }
     ensures once { IfOk result (λ ids. AreOnce ids.items) }
 {
     match gone {
@@ -56,6 +60,85 @@ fn gone_objects(alloc: Global, places: &PlaceTable, gone: Gone) -> Result<Vec<u3
             let ids = places.objects_of(alloc, sig)?;
             Ok(ids)
         }
+    }
+}
+
+// Appends what a record that is put over another names no more.
+fn append_replaced(
+    names: &NameTable,
+    entry: &Option<NewEntry>,
+    ids: &mut Vec<u32>,
+) -> Result<(), AllocError>
+    ensures { OnOk result (ids.new.items ≡ ids.old.items ++ names_replaced (names_of names.now) entry.now) }
+{
+    match entry {
+        Some(e) => names.append(e.id, ids),
+        None => Ok(()),
+    }
+}
+
+// The objects that go: the records of the entries that go, and what these and a record that is put over another name no more.
+fn gone_objects(
+    alloc: Global,
+    names: &NameTable,
+    records: &[u32],
+    entry: &Option<NewEntry>,
+) -> Result<Vec<u32>, AllocError>
+    ensures { IfOk result (λ ids. ids.items ≡ all_gone (names_of names.now) records.now entry.now) }
+{
+    let mut ids = Vec::new(alloc);
+    for id in records {
+        ids.push(*id)?;
+        names.append(*id, &mut ids)?;
+    }
+    append_replaced(names, entry, &mut ids)?;
+    Ok(ids)
+}
+
+// What the record of the new entry names, nothing where there is none.
+fn new_names(alloc: Global, entry: &Option<NewEntry>) -> Result<Vec<u32>, AllocError>
+    ensures { IfOk result (λ ids. (e : NewOne) → entry.now ≡ Some e → ids.items ≡ large_ids e) }
+{
+    match entry {
+        Some(e) => ids_of(alloc, &e.larges),
+        None => Ok(Vec::new(alloc)),
+    }
+}
+
+// Takes the memory that the names of the new entry need.
+fn prepare_names(
+    alloc: Global,
+    names: &mut NameTable,
+    entry: &Option<NewEntry>,
+) -> Result<(), AllocError>
+    ensures same { (r : ℕ) → names_of names.new r ≡ names_of names.old r }
+    ensures ready { OnOk result ((e : NewOne) → entry.now ≡ Some e → IsReady names.new e.id) }
+{
+    match entry {
+        Some(e) => names.prepare(alloc, e.id),
+        None => Ok(()),
+    }
+}
+
+// Forgets what the records of the entries that go name.
+fn forget_names(names: &mut NameTable, records: &[u32])
+    ensures gone { (r : ℕ) → Among records.now r → names_of names.new r ≡ [] }
+    ensures others { (r : ℕ) → (Among records.now r → ⊥) → names_of names.new r ≡ names_of names.old r }
+    ensures ready { (r : ℕ) → (Among records.now r → ⊥) → IsReady names.old r → IsReady names.new r }
+{
+    for id in records {
+        names.remove(*id);
+    }
+}
+
+// Keeps what the record of the new entry names, if there is one.
+fn name_new(names: &mut NameTable, entry: &Option<NewEntry>, ids: Vec<u32>)
+    requires ready { (e : NewOne) → entry.now ≡ Some e → IsReady names.old e.id }
+    ensures named { (e : NewOne) → entry.now ≡ Some e → names_of names.new e.id ≡ ids.items }
+    ensures others { (r : ℕ) → ((e : NewOne) → entry.now ≡ Some e → e.id ≢ r) → names_of names.new r ≡ names_of names.old r }
+{
+    if let Some(e) = entry {
+        names.set(e.id, ids);
     }
 }
 
@@ -115,7 +198,7 @@ fn hint_after(entry: &Option<NewEntry>, was_placed: bool, hint: u32) -> u32 {
     }
 }
 
-// Writes what a change makes, as one batch: the directory, the new entry's record, and no record of an entry that goes.
+// Writes what a change makes, as one batch: the directory, the new entry's record and large binaries, and no object that goes.
 fn write_next<P: PageBook, H: Host>(
     alloc: Global,
     host: &mut H,
@@ -127,16 +210,17 @@ fn write_next<P: PageBook, H: Host>(
     requires stands { P.stands H.told book.old (H.outside host.old) }
     requires kept { AreKept H.told objects.old (P.numbers book.old) (P.place book.old) (H.outside host.old) }
     requires formed { IsTrue (well_formed (bare_store next.now.directory)) }
-    requires new_odd { (e : NewOne) → next.now.entry ≡ Some e → e.id % 2 ≡ 1 }
+    requires ids { (e : NewOne) → next.now.entry ≡ Some e → HasIds e }
     requires apart { IsApart next.now.entry gone.now }
-    requires there { (k id : ℕ) → slice_get gone.now k ≡ Some id → IsSome (held objects.old id) }
-    requires odd { (k id : ℕ) → slice_get gone.now k ≡ Some id → id % 2 ≡ 1 }
+    requires there { (id : ℕ) → Among gone.now id → IsSome (held objects.old id) }
+    requires behind { (id : ℕ) → Among gone.now id → 0 < id }
     requires once { AreOnce gone.now }
     ensures stands { GoesOn result → P.stands H.told book.new (H.outside host.new) }
     ensures kept { GoesOn result → AreKept H.told objects.new (P.numbers book.new) (P.place book.new) (H.outside host.new) }
     ensures place { P.place book.new ≡ P.place book.old }
     ensures new { OnOk result ((e : NewOne) → next.now.entry ≡ Some e → IsSome (held objects.new e.id)) }
-    ensures there { OnOk result ((id : ℕ) → IsSome (held objects.old id) → ((k : ℕ) → slice_get gone.now k ≡ Some id → ⊥) → IsSome (held objects.new id)) }
+    ensures new_larges { OnOk result ((e : NewOne) (id : ℕ) → next.now.entry ≡ Some e → Among (large_ids e) id → IsSome (held objects.new id)) }
+    ensures there { OnOk result ((id : ℕ) → IsSome (held objects.old id) → (Among gone.now id → ⊥) → IsSome (held objects.new id)) }
     ensures holds { IsTrue H.told → (before : Texts) → HoldsObjects (image (P.place book.old) (H.outside host.old).now) before → OnOk result ((after : Texts) × HoldsObjects (image (P.place book.old) (H.outside host.new).now) after × WritesNext next.now gone.now before after × Fit after (image (P.place book.old) (H.outside host.old).now)) }
     ensures full { IsErrOf result (StoreFault.Refused Refusal.Full) → IsTrue H.told → (before : Texts) → HoldsObjects (image (P.place book.old) (H.outside host.old).now) before → (after : Texts) × WritesNext next.now gone.now before after × (cap (blocks_of (image (P.place book.old) (H.outside host.old).now)) < total_pages after) }
     ensures only { IfErr result (RefusesOnly Full) }
@@ -187,11 +271,16 @@ pub(crate) fn carry_out<P: PageBook, H: Host>(
     ensures alone { Touches (P.place book.old) (H.outside host.old) (H.outside host.new) }
     ensures cause { IfErr result (FaultsAt (P.place book.old) (H.outside host.old) (H.outside host.new)) }
 {
-    let gone = gone_objects(alloc, &catalog.places, next.gone)?;
+    let records = gone_records(alloc, &catalog.places, next.gone)?;
+    let gone = gone_objects(alloc, &catalog.names, &records, &next.entry)?;
+    let named = new_names(alloc, &next.entry)?;
+    prepare_names(alloc, &mut catalog.names, &next.entry)?;
     let was_placed = is_placed(&catalog.places, &next.entry);
     keep_new(&mut catalog.places, &next.entry)?;
     match write_next(alloc, host, book, &mut catalog.objects, &next, &gone) {
         Ok(()) => {
+            forget_names(&mut catalog.names, &records);
+            name_new(&mut catalog.names, &next.entry, named);
             forget_gone(&mut catalog.places, next.gone);
             catalog.hint = hint_after(&next.entry, was_placed, catalog.hint);
             catalog.directory = next.directory;

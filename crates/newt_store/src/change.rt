@@ -1,7 +1,7 @@
 // What is changed in a store.
 use crate::paths::Paths;
 use newt_base::{Name, Sig, Uid};
-use newt_graph::Graph;
+use newt_graph::{Bytes, Graph};
 use newt_keys::IndexSpec;
 use newt_tags::TagTable;
 
@@ -20,6 +20,8 @@ pub enum Change {
     Move(Sig, Uid, Sig),
     /// The entry gets this graph in place of its own, and keeps its id.
     Replace(Sig, Uid, Graph),
+    /// These bytes stand in a large binary of the entry, the node of this number, in place of those from a place on. The entry's minute stays.
+    Patch(Sig, Uid, u32, u32, Bytes),
     /// The soup gets an index, behind its others.
     AddIndex(Sig, IndexSpec),
     /// The soup's index with these paths goes, if there is one.

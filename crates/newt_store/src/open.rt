@@ -1,5 +1,6 @@
 // The store of an image is found.
-ghost use Rattle.std.specs.Prelude.{IsTrue, ◌≡◌, ◌+◌, ◌%◌, ◌<◌, ◌≤◌, ℕ, true, false, IsSome, Some, None, OnOk, IfOk, IsErrOf};
+ghost use Rattle.std.specs.Prelude.{IsTrue, ◌≡◌, ◌≢◌, ◌+◌, ◌%◌, ◌<◌, ◌≤◌, ℕ, true, false, IsSome, Some, None, OnOk, IfOk, IsErrOf};
+ghost use Rattle.std.specs.Option.{option_map};
 ghost use Rattle.newt_host.specs.Moments.{image};
 ghost use Rattle.newt_host.specs.Outside.{Touches, Rose};
 ghost use Rattle.newt_nsof.specs.Text.{AreBytes};
@@ -7,25 +8,29 @@ ghost use Rattle.newt_pagebook.specs.Book.{IsDurable};
 ghost use Rattle.newt_objects.specs.Extents.{IsNextIn};
 ghost use Rattle.newt_objects.specs.Held.{held};
 ghost use Rattle.newt_laws_images.specs.Found.{HasGiven, IsFound};
+ghost use Rattle.newt_spec_graph.specs.Lists.{Among};
 ghost use Rattle.newt_spec_store.specs.Store.{Store as PlainStore};
-ghost use Rattle.newt_spec_store.specs.Lies.{directory_read, entry_read};
+ghost use Rattle.newt_spec_store.specs.Lies.{directory_read, record_read};
 ghost use Rattle.newt_spec_store.specs.Valid.{well_formed};
 ghost use Rattle.newt_soupdir.specs.Bare.{bare_store};
+ghost use Rattle.newt_entries.specs.declared.row.LargeAt.{LargeAt as Large};
 ghost use Rattle.newt_entries.specs.Entry.{stream_graph, said};
 ghost use Rattle.newt_shelf.specs.Commit.{AreKept};
+ghost use Rattle.newt_shelf.specs.Names.{AreSoundNames, names_of};
 ghost use Rattle.newt_shelf.specs.Places.{AreSoundPlaces, place_of};
-ghost use Rattle.newt_store.specs.Stage.{readable};
+ghost use Rattle.newt_store.specs.Readable.{readable};
 ghost use Rattle.newt_store.specs.Stands.{StandsFor, IsSound};
-ghost use Rattle.newt_store.specs.Opening.{OfObjects, HasObject, IsRoot, IsRow, AreSoundTo, AreFoundTo};
+ghost use Rattle.newt_store.specs.Opening.{OfObjects, HasObject, IsRoot, IsRow, objects_named, owner_of, OwnsThese, AreOwned, AreSoundTo, AreFoundTo};
 
 use crate::catalog::Catalog;
-use newt_entries::{EntryFault, EntryRow, read_entry};
+use newt_entries::{EntryFault, EntryRow, LargeAt, read_entry};
 use newt_host::{Host, Unit};
 use newt_objects::{Objects, ScanFault};
 use newt_pagebook::{BookFault, PageBook, Stop, cap};
-use newt_shelf::PlaceTable;
+use newt_shelf::{NameTable, PlaceTable};
 use newt_soupdir::{DirFault, Directory, read_directory};
-use std::alloc::Global;
+use std::alloc::{AllocError, Global};
+use std::collections::BTreeMap;
 
 /// Finds where the objects lie.
 fn scan_objects<P: PageBook, H: Host>(
@@ -116,11 +121,11 @@ fn read_root<P: PageBook, H: Host>(
     root_of(alloc, &bytes)
 }
 
-/// The record that an object's bytes are read as.
+/// The record that an object's bytes are read as alone.
 fn record_of(alloc: Global, bytes: &[u8]) -> Result<EntryRow, BookFault>
-    ensures read { IfOk result (λ row. entry_read stream_graph bytes.now ≡ Some (said row)) }
+    ensures read { IfOk result (λ row. record_read stream_graph bytes.now ≡ Some (said row)) }
     ensures are_bytes { OnOk result (AreBytes bytes.now) }
-    ensures bad { IsErrOf result BookFault.NotStore → entry_read stream_graph bytes.now ≡ None }
+    ensures bad { IsErrOf result BookFault.NotStore → record_read stream_graph bytes.now ≡ None }
     ensures no_device { IsErrOf result BookFault.Device → ⊥ }
 {
     match read_entry(alloc, bytes) {
@@ -130,7 +135,7 @@ fn record_of(alloc: Global, bytes: &[u8]) -> Result<EntryRow, BookFault>
     }
 }
 
-/// Reads the record of an object that is there.
+/// Reads the record of an object that is there, with an odd id.
 fn read_record<P: PageBook, H: Host>(
     alloc: Global,
     host: &mut H,
@@ -141,9 +146,9 @@ fn read_record<P: PageBook, H: Host>(
     requires stands { P.stands H.told book.old (H.outside host.old) }
     requires kept { AreKept H.told objects.now (P.numbers book.old) (P.place book.old) (H.outside host.old) }
     requires there { IsSome (held objects.now id) }
-    requires behind { 0 < id }
-    ensures odd { OnOk result (id % 2 ≡ 1) }
+    requires odd { id % 2 ≡ 1 }
     ensures row { IfOk result (λ row. OfObjects H.told (image (P.place book.old) (H.outside host.old).now) (IsRow id row)) }
+    ensures even { IfOk result (λ row. (o : ℕ) → Among (objects_named row.larges) o → (o % 2 ≡ 0) × (0 < o)) }
     ensures not_store { IsErrOf result BookFault.NotStore → IsTrue H.told → readable (image (P.place book.old) (H.outside host.old).now) ≡ None }
     ensures stands { P.stands H.told book.new (H.outside host.new) }
     ensures kept { AreKept H.told objects.now (P.numbers book.new) (P.place book.new) (H.outside host.new) }
@@ -152,9 +157,6 @@ fn read_record<P: PageBook, H: Host>(
     ensures alone { Touches (P.place book.old) (H.outside host.old) (H.outside host.new) }
     ensures cause { IsErrOf result BookFault.Device → Rose ((H.outside host.old).dev_faults (P.place book.old)) ((H.outside host.new).dev_faults (P.place book.old)) }
 {
-    if id % 2 == 0 {
-        return Err(BookFault::NotStore);
-    }
     let bytes = read_object(host, book, objects, id)?;
     record_of(alloc, &bytes)
 }
@@ -171,14 +173,87 @@ fn has_given(directory: &Directory, row: &EntryRow) -> bool
     }
 }
 
-/// Keeps the place of the next object, which must be a record of an entry that has none yet.
-fn find_place<P: PageBook, H: Host>(
+/// Whether each object that rows name is there, with the row's length.
+fn are_there(objects: &Objects, rows: &[LargeAt]) -> bool
+    ensures there { result ≡ true → (l : Large) → Among rows.now l → option_map (λ x. x.length) (held objects.now l.object) ≡ Some l.length }
+    ensures not_there { result ≡ false → (l : Large) × Among rows.now l × (option_map (λ x. x.length) (held objects.now l.object) ≢ Some l.length) }
+{
+    for row in rows {
+        if objects.length(row.object) != Some(row.length) {
+            return false;
+        }
+    }
+    true
+}
+
+/// The ids of the objects that rows name, in order.
+fn named_by(alloc: Global, rows: &[LargeAt]) -> Result<Vec<u32>, AllocError>
+    ensures { IfOk result (λ ids. ids.items ≡ objects_named rows.now) }
+{
+    let mut ids = Vec::new(alloc);
+    for row in rows {
+        ids.push(row.object)?;
+    }
+    Ok(ids)
+}
+
+/// Keeps the owner of an object, and answers the one that it had.
+fn own(owners: &mut BTreeMap<u32, u32>, object: u32, id: u32) -> Result<Option<u32>, AllocError>
+    ensures old { IfOk result (λ old. old ≡ owner_of owners.old object) }
+    ensures owned { OnOk result (owner_of owners.new object ≡ Some id) }
+    ensures others { OnOk result ((other : ℕ) → other ≢ object → owner_of owners.new other ≡ owner_of owners.old other) }
+{
+    Ok(owners.insert(object, id)?)
+}
+
+/// Keeps the owner of these objects. Whether none of them had one, nor stands twice.
+fn own_all(owners: &mut BTreeMap<u32, u32>, ids: &[u32], id: u32) -> Result<bool, AllocError>
+    ensures owned { IfOk result (λ all. all ≡ true → OwnsThese ids.now id (owner_of owners.old) (owner_of owners.new)) }
+    ensures are_owned { IfOk result (λ all. all ≡ false → AreOwned ids.now (owner_of owners.old)) }
+{
+    for object in ids {
+        if own(owners, *object, id)?.is_some() {
+            return Ok(false);
+        }
+    }
+    Ok(true)
+}
+
+/// Whether each object with an even id above 0 has an owner.
+fn are_owned(objects: &Objects, owners: &BTreeMap<u32, u32>) -> bool
+    ensures owned { result ≡ true → (id : ℕ) → IsSome (held objects.now id) → id ≢ 0 → id % 2 ≡ 0 → IsSome (owner_of owners.now id) }
+    ensures not_owned { result ≡ false → (id : ℕ) × IsSome (held objects.now id) × (id ≢ 0) × (id % 2 ≡ 0) × (owner_of owners.now id ≡ None) }
+{
+    let mut last = 0;
+    while let Some(id) = objects.next_after(last) {
+        if id % 2 == 0 && owners.get(&id).is_none() {
+            return false;
+        }
+        last = id;
+    }
+    true
+}
+
+/// What is found of the records of entries.
+#[derive(Drop)]
+struct Finding {
+    /// The object of each entry's record.
+    places: PlaceTable,
+    /// Which objects each record names.
+    names: NameTable,
+    /// By each object that a record names, the object of that record.
+    owners: BTreeMap<u32, u32>,
+}
+
+/// Keeps what is found of the next object. One with an odd id must be a record of an entry that has no place yet, and whose large binaries are there and
+/// are named by no other.
+fn find_object<P: PageBook, H: Host>(
     alloc: Global,
     host: &mut H,
     book: &mut P,
     objects: &Objects,
     directory: &Directory,
-    places: &mut PlaceTable,
+    finding: &mut Finding,
     last: u32,
     id: u32,
 ) -> Result<(), BookFault>
@@ -187,10 +262,10 @@ fn find_place<P: PageBook, H: Host>(
     requires root { OfObjects H.told (image (P.place book.old) (H.outside host.old).now) (IsRoot directory.now) }
     requires formed { IsTrue (well_formed (bare_store directory.now)) }
     requires next { IsNextIn (held objects.now) (last + 1) (Some id) }
-    requires sound { AreSoundTo last (held objects.now) (place_of places.old) }
-    requires found { OfObjects H.told (image (P.place book.old) (H.outside host.old).now) (AreFoundTo last (place_of places.old) (bare_store directory.now)) }
-    ensures sound { OnOk result (AreSoundTo id (held objects.now) (place_of places.new)) }
-    ensures found { OnOk result (OfObjects H.told (image (P.place book.old) (H.outside host.old).now) (AreFoundTo id (place_of places.new) (bare_store directory.now))) }
+    requires sound { AreSoundTo last (held objects.now) (place_of finding.old.places) (names_of finding.old.names) (owner_of finding.old.owners) }
+    requires found { OfObjects H.told (image (P.place book.old) (H.outside host.old).now) (AreFoundTo last (place_of finding.old.places) (names_of finding.old.names) (bare_store directory.now)) }
+    ensures sound { OnOk result (AreSoundTo id (held objects.now) (place_of finding.new.places) (names_of finding.new.names) (owner_of finding.new.owners)) }
+    ensures found { OnOk result (OfObjects H.told (image (P.place book.old) (H.outside host.old).now) (AreFoundTo id (place_of finding.new.places) (names_of finding.new.names) (bare_store directory.now))) }
     ensures not_store { IsErrOf result BookFault.NotStore → IsTrue H.told → readable (image (P.place book.old) (H.outside host.old).now) ≡ None }
     ensures stands { P.stands H.told book.new (H.outside host.new) }
     ensures kept { AreKept H.told objects.now (P.numbers book.new) (P.place book.new) (H.outside host.new) }
@@ -199,30 +274,42 @@ fn find_place<P: PageBook, H: Host>(
     ensures alone { Touches (P.place book.old) (H.outside host.old) (H.outside host.new) }
     ensures cause { IsErrOf result BookFault.Device → Rose ((H.outside host.old).dev_faults (P.place book.old)) ((H.outside host.new).dev_faults (P.place book.old)) }
 {
+    if id % 2 == 0 {
+        return Ok(());
+    }
     let row = read_record(alloc, host, book, objects, id)?;
     if !has_given(directory, &row) {
         return Err(BookFault::NotStore);
     }
-    if places.get(row.soup, row.uid).is_some() {
+    if finding.places.get(row.soup, row.uid).is_some() {
         return Err(BookFault::NotStore);
     }
-    Ok(places.insert(row.soup, row.uid, id)?)
+    if !are_there(objects, row.larges.list()) {
+        return Err(BookFault::NotStore);
+    }
+    let ids = named_by(alloc, row.larges.list())?;
+    if !own_all(&mut finding.owners, &ids, id)? {
+        return Err(BookFault::NotStore);
+    }
+    finding.names.insert(id, ids)?;
+    Ok(finding.places.insert(row.soup, row.uid, id)?)
 }
 
-/// Finds the objects of all records of entries.
-fn find_places<P: PageBook, H: Host>(
+/// Finds the objects of all records of entries, and which objects they name: each with an even id above 0 must be named.
+fn find_records<P: PageBook, H: Host>(
     alloc: Global,
     host: &mut H,
     book: &mut P,
     objects: &Objects,
     directory: &Directory,
-) -> Result<PlaceTable, BookFault>
+) -> Result<Finding, BookFault>
     requires stands { P.stands H.told book.old (H.outside host.old) }
     requires kept { AreKept H.told objects.now (P.numbers book.old) (P.place book.old) (H.outside host.old) }
     requires root { OfObjects H.told (image (P.place book.old) (H.outside host.old).now) (IsRoot directory.now) }
     requires formed { IsTrue (well_formed (bare_store directory.now)) }
-    ensures sound { IfOk result (λ places. AreSoundPlaces (held objects.now) (place_of places)) }
-    ensures found { IfOk result (λ places. OfObjects H.told (image (P.place book.old) (H.outside host.old).now) (λ texts. IsFound stream_graph texts (place_of places) (bare_store directory.now))) }
+    ensures places { IfOk result (λ finding. AreSoundPlaces (held objects.now) (place_of finding.places)) }
+    ensures names { IfOk result (λ finding. AreSoundNames (held objects.now) (place_of finding.places) (names_of finding.names)) }
+    ensures found { IfOk result (λ finding. OfObjects H.told (image (P.place book.old) (H.outside host.old).now) (λ texts. IsFound stream_graph texts (place_of finding.places) (names_of finding.names) (bare_store directory.now))) }
     ensures not_store { IsErrOf result BookFault.NotStore → IsTrue H.told → readable (image (P.place book.old) (H.outside host.old).now) ≡ None }
     ensures stands { P.stands H.told book.new (H.outside host.new) }
     ensures kept { AreKept H.told objects.now (P.numbers book.new) (P.place book.new) (H.outside host.new) }
@@ -231,13 +318,20 @@ fn find_places<P: PageBook, H: Host>(
     ensures alone { Touches (P.place book.old) (H.outside host.old) (H.outside host.new) }
     ensures cause { IsErrOf result BookFault.Device → Rose ((H.outside host.old).dev_faults (P.place book.old)) ((H.outside host.new).dev_faults (P.place book.old)) }
 {
-    let mut places = PlaceTable::new(alloc);
+    let mut finding = Finding {
+        places: PlaceTable::new(alloc),
+        names: NameTable::new(alloc),
+        owners: BTreeMap::new(alloc),
+    };
     let mut last = 0;
     while let Some(id) = objects.next_after(last) {
-        find_place(alloc, host, book, objects, directory, &mut places, last, id)?;
+        find_object(alloc, host, book, objects, directory, &mut finding, last, id)?;
         last = id;
     }
-    Ok(places)
+    if !are_owned(objects, &finding.owners) {
+        return Err(BookFault::NotStore);
+    }
+    Ok(finding)
 }
 
 /// Finds the store that the objects of an open book write down.
@@ -258,14 +352,15 @@ fn find_catalog<P: PageBook, H: Host>(
 {
     let objects = scan_objects(alloc, host, book)?;
     let directory = read_root(alloc, host, book, &objects)?;
-    let places = find_places(alloc, host, book, &objects, &directory)?;
+    let finding = find_records(alloc, host, book, &objects, &directory)?;
     if cap(host.blocks(book.unit())) < book.live() {
         return Err(BookFault::NotStore);
     }
     Ok(Catalog {
         objects,
         directory,
-        places,
+        places: finding.places,
+        names: finding.names,
         hint: 0,
     })
 }

@@ -1,5 +1,5 @@
 // What each change makes of a store, or why it is refused.
-ghost use Rattle.std.specs.Prelude.{IsTrue, ◌≡◌, ◌*◌, ◌%◌, ◌<◌, ℕ, Some, None, IsSome, OnOk, IfOk, IfErr, IfSome};
+ghost use Rattle.std.specs.Prelude.{IsTrue, ◌≡◌, ◌*◌, ◌%◌, ◌<◌, ℕ, false, map as map_list, Some, None, IfOk, IfErr, IfSome};
 ghost use Rattle.newt_base.specs.Refusals.{first_of};
 ghost use Rattle.newt_graph.specs.Graph.{IsGraph};
 ghost use Rattle.newt_host.specs.Moments.{image};
@@ -7,14 +7,16 @@ ghost use Rattle.newt_host.specs.Outside.{Touches, Spends};
 ghost use Rattle.newt_image.specs.Objects.{Objects as Texts};
 ghost use Rattle.newt_objects.specs.Held.{held};
 ghost use Rattle.newt_spec_graph.specs.Graph as words;
-ghost use Rattle.newt_spec_store.specs.Lies.{graph_has_no_large};
+ghost use Rattle.newt_spec_graph.specs.Lists.{Among};
 ghost use Rattle.newt_spec_store.specs.Store.{Store as PlainStore};
 ghost use Rattle.newt_spec_store.specs.Valid.{well_formed, valid_entry};
 ghost use Rattle.newt_soupdir.specs.Bare.{bare_soup, bare_store};
 ghost use Rattle.newt_soupdir.specs.Changes.{soup_of};
-ghost use Rattle.newt_store.specs.Change.{first_checks, entry_in, entry_moved, pages_of_entry, is_too_large as too_large};
+ghost use Rattle.newt_store.specs.Change.{first_checks, entry_in, entry_moved, is_patch, pages_of_entry, is_too_large as too_large};
+ghost use Rattle.newt_shelf.specs.Batch.{AreOnce, large_ids};
 ghost use Rattle.newt_shelf.specs.Faults.{FaultsAt};
-ghost use Rattle.newt_store.specs.Next.{IsNextOf, IsPlanOf, IsAdding, IsNoDevice};
+ghost use Rattle.newt_shelf.specs.Names.{names_of};
+ghost use Rattle.newt_store.specs.Next.{IsNextOf, IsPlanOf, IsAdding, IsEntryOf, IsNoDevice};
 ghost use Rattle.newt_store.specs.Stands.{Describes, StandsFor, IsSound, RefusesWith};
 ghost use Rattle.newt_shelf.specs.Places.{place_of, AreSoundPlaces};
 
@@ -22,17 +24,17 @@ use crate::catalog::Catalog;
 use crate::change::Change;
 use crate::declare::{plan_add_index, plan_drop_index, plan_set_tags};
 use crate::next::{Gone, Next};
-use crate::read::read_row;
+use crate::read::read_whole;
 use newt_base::{Name, Refusal, Sig, Uid};
-use newt_entries::{has_large, write_entry};
+use newt_entries::{larges_of, row_of, write_entry};
 use newt_graph::{Graph, Node, Ref};
 use newt_host::Host;
 use newt_nsof_write::skeleton_len;
 use newt_objects::Objects;
 use newt_pagebook::{PageBook, Stop};
-use newt_shelf::{NewEntry, StoreFault};
+use newt_shelf::{NewEntry, NewLarge, StoreFault};
 use newt_soupdir::SoupRow;
-use std::alloc::Global;
+use std::alloc::{AllocError, Global};
 
 /// The last next entry id: the soup has no further id to give.
 const LAST_ID: u32 = 536_870_911;
@@ -43,15 +45,15 @@ const LAST_SIGNATURE: u32 = 65_535;
 /// The most bytes of an entry's text.
 const MOST_TEXT: u64 = 64_000;
 
-/// How many odd ids there are.
-const ODD_IDS: u32 = 2_147_483_648;
+/// How many odd ids there are, and how many even ones.
+const HALF_IDS: u32 = 2_147_483_648;
 
 // An odd id that no object has, the least from a place on.
 fn free_from(objects: &Objects, from: u32) -> Option<u32>
     ensures free { IfSome result (λ id. held objects.now id ≡ None) }
     ensures odd { IfSome result (λ id. id % 2 ≡ 1) }
 {
-    for half in from..ODD_IDS {
+    for half in from..HALF_IDS {
         let id = 2 * half + 1;
         if objects.length(id).is_none() {
             return Some(id);
@@ -82,18 +84,98 @@ fn is_frame(graph: &Graph) -> bool
     }
 }
 
-// Whether an entry's text would be too long, or has large binaries, which this stage does not keep.
+// Whether an entry's text would be too long.
 fn is_too_large(graph: &Graph) -> bool
     ensures { result ≡ too_large graph.now }
 {
-    has_large(graph) || MOST_TEXT < skeleton_len(graph)
+    MOST_TEXT < skeleton_len(graph)
+}
+
+// The least even id above a place that no object has.
+fn free_even(objects: &Objects, from: u32) -> Option<u32>
+    ensures free { IfSome result (λ id. held objects.now id ≡ None) }
+    ensures even { IfSome result (λ id. (id % 2 ≡ 0) × (from < id)) }
+{
+    for half in from / 2 + 1..HALF_IDS {
+        let id = 2 * half;
+        if objects.length(id).is_none() {
+            return Some(id);
+        }
+    }
+    None
+}
+
+// Large binaries, each with an even id that no object has, in rising order.
+fn with_ids(
+    alloc: Global,
+    objects: &Objects,
+    larges: Vec<Vec<u8>>,
+) -> Result<Vec<NewLarge>, StoreFault>
+    ensures bytes { IfOk result (λ new. map_list (λ l. l.bytes.items) new.items ≡ map_list (λ b. b.items) larges.items) }
+    ensures even { IfOk result (λ new. (id : ℕ) → Among (map_list (λ l. l.id) new.items) id → (id % 2 ≡ 0) × (0 < id)) }
+    ensures free { IfOk result (λ new. (id : ℕ) → Among (map_list (λ l. l.id) new.items) id → held objects.now id ≡ None) }
+    ensures once { IfOk result (λ new. AreOnce (map_list (λ l. l.id) new.items)) }
+    ensures only { IfErr result (λ fault. fault ≡ StoreFault.Stop Stop.Memory) }
+{
+    let mut new = Vec::new(alloc);
+    let mut last = 0;
+    for bytes in larges {
+        let Some(id) = free_even(objects, last) else {
+            return Err(StoreFault::Stop(Stop::Memory));
+        };
+        new.push(NewLarge { id, bytes })?;
+        last = id;
+    }
+    Ok(new)
+}
+
+// The ids of the objects of large binaries, in order.
+pub(crate) fn ids_of(alloc: Global, larges: &[NewLarge]) -> Result<Vec<u32>, AllocError>
+    ensures { IfOk result (λ ids. ids.items ≡ map_list (λ l. l.id) larges.now) }
+{
+    let mut ids = Vec::new(alloc);
+    for large in larges {
+        ids.push(large.id)?;
+    }
+    Ok(ids)
+}
+
+// The entry that is written for a graph: its record gets an object's id, each of its large binaries an even one that no object has.
+fn entry_of(
+    alloc: Global,
+    objects: &Objects,
+    sig: Sig,
+    uid: Uid,
+    now: u32,
+    graph: &Graph,
+    id: u32,
+) -> Result<NewEntry, StoreFault>
+    requires small { sig < 65536 }
+    requires odd { id % 2 ≡ 1 }
+    requires valid { IsTrue (valid_entry (record { uid = uid; time = now; graph = graph.now })) }
+    ensures entry { IfOk result (IsEntryOf sig uid now graph.now) }
+    ensures id { IfOk result (λ e. e.id ≡ id) }
+    ensures free { IfOk result (λ e. (o : ℕ) → Among (large_ids e) o → held objects.now o ≡ None) }
+    ensures only { IfErr result (λ fault. fault ≡ StoreFault.Stop Stop.Memory) }
+{
+    let larges = with_ids(alloc, objects, larges_of(alloc, graph)?)?;
+    let ids = ids_of(alloc, &larges)?;
+    let row = row_of(alloc, sig, uid, now, graph, &ids)?;
+    let bytes = write_entry(alloc, &row)?;
+    Ok(NewEntry {
+        sig,
+        uid,
+        id,
+        bytes,
+        larges,
+    })
 }
 
 fn plan_make(alloc: Global, catalog: &Catalog, name: &Name) -> Result<Next, StoreFault>
     requires { IsTrue (well_formed (bare_store catalog.now.directory)) }
     ensures next { IfOk result (IsNextOf catalog.now) }
-    ensures planned { (now : ℕ) (texts : Texts) (s : PlainStore) → Describes catalog.now.directory (place_of catalog.now.places) texts s → IfOk result (IsPlanOf catalog.now (Change.MakeSoup name.now) now s) }
-    ensures refused { (texts : Texts) (s : PlainStore) → Describes catalog.now.directory (place_of catalog.now.places) texts s → IfErr result (RefusesWith (first_of (first_checks (Change.MakeSoup name.now) s))) }
+    ensures planned { (now : ℕ) (texts : Texts) (s : PlainStore) → Describes catalog.now.directory (place_of catalog.now.places) (names_of catalog.now.names) texts s → IfOk result (IsPlanOf catalog.now (Change.MakeSoup name.now) now s) }
+    ensures refused { (texts : Texts) (s : PlainStore) → Describes catalog.now.directory (place_of catalog.now.places) (names_of catalog.now.names) texts s → IfErr result (RefusesWith (first_of (first_checks (Change.MakeSoup name.now) s))) }
     ensures cause { IfErr result IsNoDevice }
 {
     if catalog.directory.soup_named(name.list()).is_some() {
@@ -118,8 +200,8 @@ fn plan_make(alloc: Global, catalog: &Catalog, name: &Name) -> Result<Next, Stor
 fn plan_drop(catalog: &Catalog, sig: Sig) -> Result<Next, StoreFault>
     requires { IsTrue (well_formed (bare_store catalog.now.directory)) }
     ensures next { IfOk result (IsNextOf catalog.now) }
-    ensures planned { (now : ℕ) (texts : Texts) (s : PlainStore) → Describes catalog.now.directory (place_of catalog.now.places) texts s → IfOk result (IsPlanOf catalog.now (Change.DropSoup sig) now s) }
-    ensures refused { (texts : Texts) (s : PlainStore) → Describes catalog.now.directory (place_of catalog.now.places) texts s → IfErr result (RefusesWith (first_of (first_checks (Change.DropSoup sig) s))) }
+    ensures planned { (now : ℕ) (texts : Texts) (s : PlainStore) → Describes catalog.now.directory (place_of catalog.now.places) (names_of catalog.now.names) texts s → IfOk result (IsPlanOf catalog.now (Change.DropSoup sig) now s) }
+    ensures refused { (texts : Texts) (s : PlainStore) → Describes catalog.now.directory (place_of catalog.now.places) (names_of catalog.now.names) texts s → IfErr result (RefusesWith (first_of (first_checks (Change.DropSoup sig) s))) }
     ensures cause { IfErr result IsNoDevice }
 {
     if catalog.directory.soup_of(sig).is_none() {
@@ -147,7 +229,6 @@ fn next_with(
     requires formed { IsTrue (well_formed (bare_store catalog.now.directory)) }
     requires row { soup_of row.now.sig (bare_store catalog.now.directory) ≡ Some (bare_soup row.now) }
     requires room { row.now.next_uid < 536_870_911 }
-    requires plain { IsTrue (graph_has_no_large graph.now) }
     requires valid { IsTrue (valid_entry (record { uid = row.now.next_uid; time = now; graph = graph.now })) }
     ensures next { IfOk result (IsNextOf catalog.now) }
     ensures adds { IfOk result (IsAdding catalog.now row.now.sig row.now.next_uid now graph.now gone) }
@@ -157,15 +238,9 @@ fn next_with(
         return Err(StoreFault::Stop(Stop::Memory));
     };
     let uid = Uid(row.next_uid);
-    let bytes = write_entry(alloc, row.sig, uid, now, graph)?;
+    let entry = entry_of(alloc, &catalog.objects, row.sig, uid, now, graph, id)?;
     let mut directory = catalog.directory.copy()?;
     directory.take_uid(row.sig);
-    let entry = NewEntry {
-        sig: row.sig,
-        uid,
-        id,
-        bytes,
-    };
     Ok(Next {
         directory,
         entry: Some(entry),
@@ -184,8 +259,8 @@ fn plan_add(
     requires formed { IsTrue (well_formed (bare_store catalog.now.directory)) }
     requires places { AreSoundPlaces (held catalog.now.objects) (place_of catalog.now.places) }
     ensures next { IfOk result (IsNextOf catalog.now) }
-    ensures planned { (texts : Texts) (s : PlainStore) → Describes catalog.now.directory (place_of catalog.now.places) texts s → IfOk result (IsPlanOf catalog.now (Change.Add sig graph.now) now s) }
-    ensures refused { (texts : Texts) (s : PlainStore) → Describes catalog.now.directory (place_of catalog.now.places) texts s → IfErr result (RefusesWith (first_of (first_checks (Change.Add sig graph.now) s))) }
+    ensures planned { (texts : Texts) (s : PlainStore) → Describes catalog.now.directory (place_of catalog.now.places) (names_of catalog.now.names) texts s → IfOk result (IsPlanOf catalog.now (Change.Add sig graph.now) now s) }
+    ensures refused { (texts : Texts) (s : PlainStore) → Describes catalog.now.directory (place_of catalog.now.places) (names_of catalog.now.names) texts s → IfErr result (RefusesWith (first_of (first_checks (Change.Add sig graph.now) s))) }
     ensures cause { IfErr result IsNoDevice }
 {
     let Some(row) = catalog.directory.soup_of(sig) else {
@@ -207,8 +282,8 @@ fn plan_add(
 fn plan_remove(catalog: &Catalog, sig: Sig, uid: Uid) -> Result<Next, StoreFault>
     requires { IsTrue (well_formed (bare_store catalog.now.directory)) }
     ensures next { IfOk result (IsNextOf catalog.now) }
-    ensures planned { (now : ℕ) (texts : Texts) (s : PlainStore) → Describes catalog.now.directory (place_of catalog.now.places) texts s → IfOk result (IsPlanOf catalog.now (Change.Remove sig uid) now s) }
-    ensures refused { (texts : Texts) (s : PlainStore) → Describes catalog.now.directory (place_of catalog.now.places) texts s → IfErr result (RefusesWith (first_of (first_checks (Change.Remove sig uid) s))) }
+    ensures planned { (now : ℕ) (texts : Texts) (s : PlainStore) → Describes catalog.now.directory (place_of catalog.now.places) (names_of catalog.now.names) texts s → IfOk result (IsPlanOf catalog.now (Change.Remove sig uid) now s) }
+    ensures refused { (texts : Texts) (s : PlainStore) → Describes catalog.now.directory (place_of catalog.now.places) (names_of catalog.now.names) texts s → IfErr result (RefusesWith (first_of (first_checks (Change.Remove sig uid) s))) }
     ensures cause { IfErr result IsNoDevice }
 {
     if catalog.directory.soup_of(sig).is_none() {
@@ -259,12 +334,12 @@ fn plan_move<P: PageBook, H: Host>(
     if row.next_uid == LAST_ID {
         return Err(StoreFault::Refused(Refusal::Ids));
     }
-    let entry = read_row(alloc, host, book, &catalog.objects, id)?;
+    let entry = read_whole(alloc, host, book, &catalog.objects, id)?;
     let next = next_with(
         alloc,
         catalog,
         row,
-        &entry.skeleton,
+        &entry.graph,
         now,
         Gone::OneEntry(source, uid),
     )?;
@@ -282,8 +357,8 @@ fn plan_replace(
     requires formed { IsTrue (well_formed (bare_store catalog.now.directory)) }
     requires places { AreSoundPlaces (held catalog.now.objects) (place_of catalog.now.places) }
     ensures next { IfOk result (IsNextOf catalog.now) }
-    ensures planned { (texts : Texts) (s : PlainStore) → Describes catalog.now.directory (place_of catalog.now.places) texts s → IfOk result (IsPlanOf catalog.now (Change.Replace sig uid graph.now) now s) }
-    ensures refused { (texts : Texts) (s : PlainStore) → Describes catalog.now.directory (place_of catalog.now.places) texts s → IfErr result (RefusesWith (first_of (first_checks (Change.Replace sig uid graph.now) s))) }
+    ensures planned { (texts : Texts) (s : PlainStore) → Describes catalog.now.directory (place_of catalog.now.places) (names_of catalog.now.names) texts s → IfOk result (IsPlanOf catalog.now (Change.Replace sig uid graph.now) now s) }
+    ensures refused { (texts : Texts) (s : PlainStore) → Describes catalog.now.directory (place_of catalog.now.places) (names_of catalog.now.names) texts s → IfErr result (RefusesWith (first_of (first_checks (Change.Replace sig uid graph.now) s))) }
     ensures cause { IfErr result IsNoDevice }
 {
     if catalog.directory.soup_of(sig).is_none() {
@@ -298,13 +373,7 @@ fn plan_replace(
     if is_too_large(graph) {
         return Err(StoreFault::Refused(Refusal::Size));
     }
-    let bytes = write_entry(alloc, sig, uid, now, graph)?;
-    let entry = NewEntry {
-        sig,
-        uid,
-        id,
-        bytes,
-    };
+    let entry = entry_of(alloc, &catalog.objects, sig, uid, now, graph, id)?;
     Ok(Next {
         directory: catalog.directory.copy()?,
         entry: Some(entry),
@@ -313,7 +382,7 @@ fn plan_replace(
     })
 }
 
-/// What a change makes of a store, or its first refusal but that the unit is full.
+/// What a change but a patch makes of a store, or its first refusal but that the unit is full.
 pub(crate) fn plan_change<P: PageBook, H: Host>(
     alloc: Global,
     host: &mut H,
@@ -322,6 +391,7 @@ pub(crate) fn plan_change<P: PageBook, H: Host>(
     change: Change,
     now: u32,
 ) -> Result<Next, StoreFault>
+    requires no_patch { is_patch change ≡ false }
     requires stands { P.stands H.told book.old (H.outside host.old) }
     requires sound { IsSound H.told catalog.now (P.numbers book.old) (P.place book.old) (H.outside host.old) }
     ensures stands { P.stands H.told book.new (H.outside host.new) }
@@ -343,6 +413,7 @@ pub(crate) fn plan_change<P: PageBook, H: Host>(
             plan_move(alloc, host, book, catalog, source, uid, target, now)
         }
         Change::Replace(sig, uid, graph) => plan_replace(alloc, catalog, sig, uid, &graph, now),
+        Change::Patch(..) => unreachable!(),
         Change::AddIndex(sig, spec) => plan_add_index(catalog, sig, spec),
         Change::DropIndex(sig, paths) => plan_drop_index(catalog, sig, &paths),
         Change::SetTags(sig, table) => plan_set_tags(catalog, sig, table),

@@ -1,19 +1,23 @@
-// The record of an entry.
-ghost use Rattle.std.specs.Prelude.{IsTrue, ◌≡◌, ◌*◌, ℕ, Some, IsSome, IfOk, IfErr, OnOk, length};
+// An entry is read, with its large binaries.
+ghost use Rattle.std.specs.Prelude.{IsTrue, ◌≡◌, ◌*◌, ℕ, List, Some, IsSome, IfOk, IfErr, length};
 ghost use Rattle.std.specs.FinMap as map;
-ghost use Rattle.std.specs.Option.{option_map};
 ghost use Rattle.newt_host.specs.Moments.{image};
 ghost use Rattle.newt_host.specs.Outside.{Touches, Spends};
 ghost use Rattle.newt_image.specs.Objects.{pages_for};
 ghost use Rattle.newt_pagebook.specs.Stops.{StopsAt};
 ghost use Rattle.newt_objects.specs.Held.{held, Texts};
 ghost use Rattle.newt_objects.specs.Changing.{HoldsObjects};
-ghost use Rattle.newt_spec_store.specs.Lies.{entry_read, graph_has_no_large};
+ghost use Rattle.newt_spec_store.specs.Cost.{entry_pages};
+ghost use Rattle.newt_spec_store.specs.Lies.{record_read};
+ghost use Rattle.newt_spec_store.specs.Store.{Entry as PlainEntry};
 ghost use Rattle.newt_spec_store.specs.Valid.{valid_entry};
 ghost use Rattle.newt_entries.specs.Entry.{stream_graph, said};
 ghost use Rattle.newt_shelf.specs.Commit.{AreKept};
+ghost use Rattle.newt_store.specs.Reading.{IsLaidAt};
+ghost use Rattle.newt_store.specs.Stands.{plain_entry};
 
-use newt_entries::{EntryFault, EntryRow, read_entry};
+use crate::entry::Entry;
+use newt_entries::{EntryFault, EntryRow, LargeAt, filled, read_entry};
 use newt_host::Host;
 use newt_objects::Objects;
 use newt_pagebook::{PageBook, Stop};
@@ -30,8 +34,8 @@ pub(crate) fn read_row<P: PageBook, H: Host>(
     requires stands { P.stands H.told book.old (H.outside host.old) }
     requires kept { AreKept H.told objects.now (P.numbers book.old) (P.place book.old) (H.outside host.old) }
     requires there { IsSome (held objects.now id) }
-    ensures row { IsTrue H.told → (texts : Texts) (bytes : List ℕ) → HoldsObjects (image (P.place book.old) (H.outside host.old).now) texts → map.get texts id ≡ Some bytes → IfOk result (λ row. entry_read stream_graph bytes ≡ Some (said row)) }
-    ensures valid { IfOk result (λ row. IsTrue (valid_entry (said row).1) × IsTrue (graph_has_no_large row.skeleton)) }
+    ensures row { IsTrue H.told → (texts : Texts) (bytes : List ℕ) → HoldsObjects (image (P.place book.old) (H.outside host.old).now) texts → map.get texts id ≡ Some bytes → IfOk result (λ row. record_read stream_graph bytes ≡ Some (said row)) }
+    ensures any { IfOk result (λ row. (bytes : List ℕ) × (record_read stream_graph bytes ≡ Some (said row))) }
     ensures costs { IsTrue H.told → (texts : Texts) (bytes : List ℕ) → HoldsObjects (image (P.place book.old) (H.outside host.old).now) texts → map.get texts id ≡ Some bytes → Spends (P.place book.old) 0 (512 * pages_for (length bytes)) (H.outside host.old) (H.outside host.new) }
     ensures stands { P.stands H.told book.new (H.outside host.new) }
     ensures kept { AreKept H.told objects.now (P.numbers book.new) (P.place book.new) (H.outside host.new) }
@@ -47,4 +51,49 @@ pub(crate) fn read_row<P: PageBook, H: Host>(
     }
 }
 
-ghost use Rattle.std.specs.Prelude.{List};
+// Reads the bytes of large binaries, one after the other. One that is not there with its length is answered like want of memory.
+fn read_larges<P: PageBook, H: Host>(
+    alloc: Global,
+    host: &mut H,
+    book: &mut P,
+    objects: &Objects,
+    rows: &[LargeAt],
+) -> Result<Vec<Vec<u8>>, Stop> {
+    let mut larges = Vec::new(alloc);
+    for row in rows {
+        if objects.length(row.object) != Some(row.length) {
+            return Err(Stop::Memory);
+        }
+        larges.push(objects.read(host, book, row.object)?)?;
+    }
+    Ok(larges)
+}
+
+/// Reads an entry that is there. What is no entry is not there, so it is answered like want of memory.
+pub(crate) fn read_whole<P: PageBook, H: Host>(
+    alloc: Global,
+    host: &mut H,
+    book: &mut P,
+    objects: &Objects,
+    id: u32,
+) -> Result<Entry, Stop>
+    requires stands { P.stands H.told book.old (H.outside host.old) }
+    requires kept { AreKept H.told objects.now (P.numbers book.old) (P.place book.old) (H.outside host.old) }
+    requires there { IsSome (held objects.now id) }
+    ensures entry { IsTrue H.told → (texts : Texts) (sig : ℕ) (e : PlainEntry) (ids : List ℕ) → HoldsObjects (image (P.place book.old) (H.outside host.old).now) texts → IsLaidAt texts id sig e ids → IfOk result (λ found. plain_entry found ≡ e) }
+    ensures valid { IfOk result (λ found. IsTrue (valid_entry (plain_entry found))) }
+    ensures costs { IsTrue H.told → (texts : Texts) (sig : ℕ) (e : PlainEntry) (ids : List ℕ) → HoldsObjects (image (P.place book.old) (H.outside host.old).now) texts → IsLaidAt texts id sig e ids → Spends (P.place book.old) 0 (512 * entry_pages e) (H.outside host.old) (H.outside host.new) }
+    ensures stands { P.stands H.told book.new (H.outside host.new) }
+    ensures kept { AreKept H.told objects.now (P.numbers book.new) (P.place book.new) (H.outside host.new) }
+    ensures same { (P.place book.new ≡ P.place book.old) × (P.numbers book.new ≡ P.numbers book.old) }
+    ensures moment { (H.outside host.new).now ≡ (H.outside host.old).now }
+    ensures alone { Touches (P.place book.old) (H.outside host.old) (H.outside host.new) }
+    ensures cause { IfErr result (StopsAt (P.place book.old) (H.outside host.old) (H.outside host.new)) }
+{
+    let row = read_row(alloc, host, book, objects, id)?;
+    let larges = read_larges(alloc, host, book, objects, row.larges.list())?;
+    let uid = row.uid;
+    let time = row.time;
+    let graph = filled(alloc, &row, larges)?;
+    Ok(Entry { uid, time, graph })
+}

@@ -10,7 +10,7 @@ ghost use Rattle.newt_spec_store.specs.OfImage.{blocks_of};
 ghost use Rattle.newt_soupdir.specs.Changes.{soup_of};
 ghost use Rattle.newt_entries.specs.Entry.{stream_graph};
 ghost use Rattle.newt_spec_store.specs.ImageStore.{store_of_image};
-ghost use Rattle.newt_store.specs.Stage.{readable};
+ghost use Rattle.newt_store.specs.Readable.{readable};
 ghost use Rattle.newt_store.specs.Change.{changed_by, answer_of, refusal_of, entry_in, count_in, uids_in, entry_moved, pages_of_entry, most_bytes, new_store};
 ghost use Rattle.newt_store.specs.Stands.{StandsFor, IsSound, GoesOn, IsRefused, RefusesWith, IsBeforeOrChanged, plain_entry};
 ghost use Rattle.newt_shelf.specs.Faults.{FaultsAt};
@@ -21,8 +21,9 @@ use crate::change::Change;
 use crate::entry::Entry;
 use crate::format::format_unit;
 use crate::open::open_catalog;
+use crate::patch::patch_entry;
 use crate::plan::plan_change;
-use crate::read::read_row;
+use crate::read::read_whole;
 use newt_base::{Name, Sig, Uid};
 use newt_host::{Host, Unit};
 use newt_pagebook::{BookFault, PageBook, Stop};
@@ -112,6 +113,19 @@ impl<P: PageBook> Store<P> {
         ensures alone { Touches (P.place self.old.book) (H.outside host.old) (H.outside host.new) }
         ensures cause { IfErr result (FaultsAt (P.place self.old.book) (H.outside host.old) (H.outside host.new)) }
     {
+        if let Change::Patch(sig, uid, node, at, bytes) = &change {
+            return patch_entry(
+                self.alloc,
+                host,
+                &mut self.book,
+                &mut self.catalog,
+                *sig,
+                *uid,
+                *node,
+                *at,
+                bytes,
+            );
+        }
         let next = plan_change(self.alloc, host, &mut self.book, &self.catalog, change, now)?;
         match carry_out(self.alloc, host, &mut self.book, &mut self.catalog, next) {
             Ok(answer) => Ok(answer),
@@ -144,12 +158,14 @@ impl<P: PageBook> Store<P> {
     {
         match self.catalog.places.get(soup, uid) {
             Some(id) => {
-                let row = read_row(self.alloc, host, &mut self.book, &self.catalog.objects, id)?;
-                Ok(Some(Entry {
-                    uid: row.uid,
-                    time: row.time,
-                    graph: row.skeleton,
-                }))
+                let entry = read_whole(
+                    self.alloc,
+                    host,
+                    &mut self.book,
+                    &self.catalog.objects,
+                    id,
+                )?;
+                Ok(Some(entry))
             }
             None => Ok(None),
         }

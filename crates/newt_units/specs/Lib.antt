@@ -7,3 +7,4 @@ pub mod Found
 pub mod Faces
 pub mod Spots
 pub mod Declares
+pub mod Bounds

@@ -1,8 +1,8 @@
 //! What is asked of a store on the card of one unit.
-ghost use Rattle.std.specs.Prelude.{◌≡◌, ℕ, ◌≤◌, [], List, Bool, IsTrue, Option, Some, None, is_some, option_map, option_and_then, slice_get, OnOk, IfSome, IfOk, IfErr, IsErrOf, true, ⊤};
+ghost use Rattle.std.specs.Prelude.{◌≡◌, ℕ, ◌≤◌, [], ◌∷◌, List, Bool, IsTrue, Option, Some, None, is_some, option_map, option_and_then, slice_get, OnOk, IfSome, IfOk, IfErr, IsErrOf, true, ⊤};
 ghost use Rattle.newt_host.specs.Moments.{image, Leaves};
 ghost use Rattle.newt_host.specs.Outside.{Outside, Rose, Touches};
-ghost use Rattle.newt_pagebook.specs.Book.{IsDurable, Anything};
+ghost use Rattle.newt_pagebook.specs.Book.{IsDurable, IsOpenFor, Anything};
 ghost use Rattle.newt_pagebook.specs.Stops.{StopsAt};
 ghost use Rattle.newt_index.specs.Pairs.{IsSorted};
 ghost use Rattle.newt_ranges.specs.Range.{range_in};
@@ -10,7 +10,9 @@ ghost use Rattle.newt_spec_store.specs.Laid.{bare};
 ghost use Rattle.newt_spec_store.specs.Lies.{has_no_large};
 ghost use Rattle.newt_spec_store.specs.Store.{Store as Plain, Soup, Entry as PlainEntry, soup_named, change_soup, make_soup, drop_soup, add_entry, remove_entry, entry_of};
 ghost use Rattle.newt_spec_store.specs.Valid.{well_formed};
-ghost use Rattle.newt_spec_world.specs.Changed.{new_store, with_index, without_index};
+ghost use Rattle.newt_spec_world.specs.Changed.{new_store, with_graph, with_index, without_index};
+ghost use Rattle.newt_laws_answers.specs.Bounds.{change_bytes, unless};
+ghost use Rattle.newt_units.specs.Bounds.{ProgramsAtMost};
 ghost use Rattle.newt_laws_answers.specs.Tests.{make_tests, add_tests, move_tests, moved_within, replace_tests, replaced, index_tests, tags_tests, tagged};
 ghost use Rattle.newt_units.specs.Cards.{soup_of, entry_at, entry_said, count_in, LeavesEither, IsSame, OthersSame};
 ghost use Rattle.newt_units.specs.Faults.{Does, GoesOn, FaultsAt};
@@ -88,6 +90,10 @@ pub trait Card: Sized + Drop {
         ensures others { IsTrue H.told → OthersSame (place self.old) (H.outside host.old).now (H.outside host.new).now }
         ensures any_moment { IsTrue H.told → (s : Plain) → reads (image (place self.old) (H.outside host.old).now) ≡ Some s →
             Leaves (place self.old) (LeavesEither reads (make_tests ((H.outside host.old).blocks (place self.old)) name.now s) s (make_soup name.now s)) (H.outside host.old).now (H.outside host.new).now }
+        // while the bank is not closed and has room, it programs no more than the pages that come and go; and after a change the bank is not closed
+        ensures bound { IsTrue H.told → (s : Plain) → reads (image (place self.old) (H.outside host.old).now) ≡ Some s →
+            ProgramsAtMost (unless (make_tests ((H.outside host.old).blocks (place self.old)) name.now s) (change_bytes s (make_soup name.now s) [] [])) (place self.old) (H.outside host.old) (H.outside host.new) }
+        ensures open_after { IsTrue H.told → OnOk result (IsOpenFor 0 (image (place self.old) (H.outside host.new).now)) }
         ensures alone { Touches (place self.old) (H.outside host.old) (H.outside host.new) }
         ensures cause { IfErr result (FaultsAt (place self.old) (H.outside host.old) (H.outside host.new)) };
 
@@ -101,6 +107,10 @@ pub trait Card: Sized + Drop {
         ensures others { IsTrue H.told → OthersSame (place self.old) (H.outside host.old).now (H.outside host.new).now }
         ensures any_moment { IsTrue H.told → (s : Plain) (p : Soup) → reads (image (place self.old) (H.outside host.old).now) ≡ Some s → soup_of soup s ≡ Some p →
             Leaves (place self.old) (LeavesEither reads [] s (drop_soup p.name s)) (H.outside host.old).now (H.outside host.new).now }
+        // while the bank is not closed and has room, it programs no more than the pages that come and go; and after a change the bank is not closed
+        ensures bound { IsTrue H.told → (s : Plain) (p : Soup) → reads (image (place self.old) (H.outside host.old).now) ≡ Some s → soup_of soup s ≡ Some p →
+            ProgramsAtMost (change_bytes s (drop_soup p.name s) [] p.entries) (place self.old) (H.outside host.old) (H.outside host.new) }
+        ensures open_after { IsTrue H.told → OnOk result (IsOpenFor 0 (image (place self.old) (H.outside host.new).now)) }
         ensures alone { Touches (place self.old) (H.outside host.old) (H.outside host.new) }
         ensures cause { IfErr result (FaultsAt (place self.old) (H.outside host.old) (H.outside host.new)) };
 
@@ -122,6 +132,10 @@ pub trait Card: Sized + Drop {
         ensures any_moment { IsTrue H.told → (s : Plain) (p : Soup) → reads (image (place self.old) (H.outside host.old).now) ≡ Some s → soup_of soup s ≡ Some p →
             Leaves (place self.old) (LeavesEither reads (add_tests ((H.outside host.old).blocks (place self.old)) now p.name graph s p) s (change_soup p.name (add_entry now graph) s))
             (H.outside host.old).now (H.outside host.new).now }
+        // while the bank is not closed and has room, it programs no more than the pages that come and go; and after a change the bank is not closed
+        ensures bound { IsTrue H.told → (s : Plain) (p : Soup) → reads (image (place self.old) (H.outside host.old).now) ≡ Some s → soup_of soup s ≡ Some p →
+            ProgramsAtMost (unless (add_tests ((H.outside host.old).blocks (place self.old)) now p.name graph s p) (change_bytes s (change_soup p.name (add_entry now graph) s) (record { uid = p.next_uid; time = now; graph = graph } ∷ []) [])) (place self.old) (H.outside host.old) (H.outside host.new) }
+        ensures open_after { IsTrue H.told → OnOk result (IsOpenFor 0 (image (place self.old) (H.outside host.new).now)) }
         ensures alone { Touches (place self.old) (H.outside host.old) (H.outside host.new) }
         ensures cause { IfErr result (FaultsAt (place self.old) (H.outside host.old) (H.outside host.new)) };
 
@@ -135,6 +149,10 @@ pub trait Card: Sized + Drop {
         ensures others { IsTrue H.told → OthersSame (place self.old) (H.outside host.old).now (H.outside host.new).now }
         ensures any_moment { IsTrue H.told → (s : Plain) (p : Soup) (e : PlainEntry) → reads (image (place self.old) (H.outside host.old).now) ≡ Some s → soup_of soup s ≡ Some p → entry_of uid p ≡ Some e →
             Leaves (place self.old) (LeavesEither reads [] s (change_soup p.name (remove_entry uid) s)) (H.outside host.old).now (H.outside host.new).now }
+        // while the bank is not closed and has room, it programs no more than the pages that come and go; and after a change the bank is not closed
+        ensures bound { IsTrue H.told → (s : Plain) (p : Soup) (e : PlainEntry) → reads (image (place self.old) (H.outside host.old).now) ≡ Some s → soup_of soup s ≡ Some p → entry_of uid p ≡ Some e →
+            ProgramsAtMost (change_bytes s (change_soup p.name (remove_entry uid) s) [] (e ∷ [])) (place self.old) (H.outside host.old) (H.outside host.new) }
+        ensures open_after { IsTrue H.told → OnOk result (IsOpenFor 0 (image (place self.old) (H.outside host.new).now)) }
         ensures alone { Touches (place self.old) (H.outside host.old) (H.outside host.new) }
         ensures cause { IfErr result (FaultsAt (place self.old) (H.outside host.old) (H.outside host.new)) };
 
@@ -157,6 +175,10 @@ pub trait Card: Sized + Drop {
         ensures any_moment { IsTrue H.told → (s : Plain) (p : Soup) (e : PlainEntry) → reads (image (place self.old) (H.outside host.old).now) ≡ Some s → soup_of soup s ≡ Some p → entry_of uid p ≡ Some e →
             Leaves (place self.old) (LeavesEither reads (replace_tests ((H.outside host.old).blocks (place self.old)) now p.name uid graph s) s (replaced now p.name uid graph s))
             (H.outside host.old).now (H.outside host.new).now }
+        // while the bank is not closed and has room, it programs no more than the pages that come and go; and after a change the bank is not closed
+        ensures bound { IsTrue H.told → (s : Plain) (p : Soup) (e : PlainEntry) → reads (image (place self.old) (H.outside host.old).now) ≡ Some s → soup_of soup s ≡ Some p → entry_of uid p ≡ Some e →
+            ProgramsAtMost (unless (replace_tests ((H.outside host.old).blocks (place self.old)) now p.name uid graph s) (change_bytes s (replaced now p.name uid graph s) (with_graph now graph e ∷ []) (e ∷ []))) (place self.old) (H.outside host.old) (H.outside host.new) }
+        ensures open_after { IsTrue H.told → OnOk result (IsOpenFor 0 (image (place self.old) (H.outside host.new).now)) }
         ensures alone { Touches (place self.old) (H.outside host.old) (H.outside host.new) }
         ensures cause { IfErr result (FaultsAt (place self.old) (H.outside host.old) (H.outside host.new)) };
 
@@ -181,6 +203,10 @@ pub trait Card: Sized + Drop {
             soup_of soup s ≡ Some p → entry_of uid p ≡ Some e → soup_of target s ≡ Some q →
             Leaves (place self.old) (LeavesEither reads (move_tests ((H.outside host.old).blocks (place self.old)) now p.name uid q.name e.graph s q) s (moved_within now p.name uid q.name e.graph s))
             (H.outside host.old).now (H.outside host.new).now }
+        // while the bank is not closed and has room, it programs no more than the pages that come and go; and after a change the bank is not closed
+        ensures bound { IsTrue H.told → (s : Plain) (p q : Soup) (e : PlainEntry) → reads (image (place self.old) (H.outside host.old).now) ≡ Some s → soup_of soup s ≡ Some p → entry_of uid p ≡ Some e → soup_of target s ≡ Some q →
+            ProgramsAtMost (unless (move_tests ((H.outside host.old).blocks (place self.old)) now p.name uid q.name e.graph s q) (change_bytes s (moved_within now p.name uid q.name e.graph s) (record { uid = q.next_uid; time = now; graph = e.graph } ∷ []) (e ∷ []))) (place self.old) (H.outside host.old) (H.outside host.new) }
+        ensures open_after { IsTrue H.told → OnOk result (IsOpenFor 0 (image (place self.old) (H.outside host.new).now)) }
         ensures alone { Touches (place self.old) (H.outside host.old) (H.outside host.new) }
         ensures cause { IfErr result (FaultsAt (place self.old) (H.outside host.old) (H.outside host.new)) };
 
@@ -194,6 +220,10 @@ pub trait Card: Sized + Drop {
         ensures others { IsTrue H.told → OthersSame (place self.old) (H.outside host.old).now (H.outside host.new).now }
         ensures any_moment { IsTrue H.told → (s : Plain) (p : Soup) → reads (image (place self.old) (H.outside host.old).now) ≡ Some s → soup_of soup s ≡ Some p →
             Leaves (place self.old) (LeavesEither reads (index_tests ((H.outside host.old).blocks (place self.old)) p.name spec s p) s (change_soup p.name (with_index spec) s)) (H.outside host.old).now (H.outside host.new).now }
+        // while the bank is not closed and has room, it programs no more than the pages that come and go; and after a change the bank is not closed
+        ensures bound { IsTrue H.told → (s : Plain) (p : Soup) → reads (image (place self.old) (H.outside host.old).now) ≡ Some s → soup_of soup s ≡ Some p →
+            ProgramsAtMost (unless (index_tests ((H.outside host.old).blocks (place self.old)) p.name spec s p) (change_bytes s (change_soup p.name (with_index spec) s) [] [])) (place self.old) (H.outside host.old) (H.outside host.new) }
+        ensures open_after { IsTrue H.told → OnOk result (IsOpenFor 0 (image (place self.old) (H.outside host.new).now)) }
         ensures alone { Touches (place self.old) (H.outside host.old) (H.outside host.new) }
         ensures cause { IfErr result (FaultsAt (place self.old) (H.outside host.old) (H.outside host.new)) };
 
@@ -207,6 +237,10 @@ pub trait Card: Sized + Drop {
         ensures others { IsTrue H.told → OthersSame (place self.old) (H.outside host.old).now (H.outside host.new).now }
         ensures any_moment { IsTrue H.told → (s : Plain) (p : Soup) → reads (image (place self.old) (H.outside host.old).now) ≡ Some s → soup_of soup s ≡ Some p →
             Leaves (place self.old) (LeavesEither reads [] s (change_soup p.name (without_index paths.now) s)) (H.outside host.old).now (H.outside host.new).now }
+        // while the bank is not closed and has room, it programs no more than the pages that come and go; and after a change the bank is not closed
+        ensures bound { IsTrue H.told → (s : Plain) (p : Soup) → reads (image (place self.old) (H.outside host.old).now) ≡ Some s → soup_of soup s ≡ Some p →
+            ProgramsAtMost (change_bytes s (change_soup p.name (without_index paths.now) s) [] []) (place self.old) (H.outside host.old) (H.outside host.new) }
+        ensures open_after { IsTrue H.told → OnOk result (IsOpenFor 0 (image (place self.old) (H.outside host.new).now)) }
         ensures alone { Touches (place self.old) (H.outside host.old) (H.outside host.new) }
         ensures cause { IfErr result (FaultsAt (place self.old) (H.outside host.old) (H.outside host.new)) };
 
@@ -220,6 +254,10 @@ pub trait Card: Sized + Drop {
         ensures others { IsTrue H.told → OthersSame (place self.old) (H.outside host.old).now (H.outside host.new).now }
         ensures any_moment { IsTrue H.told → (s : Plain) (p : Soup) → reads (image (place self.old) (H.outside host.old).now) ≡ Some s → soup_of soup s ≡ Some p →
             Leaves (place self.old) (LeavesEither reads (tags_tests ((H.outside host.old).blocks (place self.old)) p.name table s) s (tagged p.name table s)) (H.outside host.old).now (H.outside host.new).now }
+        // while the bank is not closed and has room, it programs no more than the pages that come and go; and after a change the bank is not closed
+        ensures bound { IsTrue H.told → (s : Plain) (p : Soup) → reads (image (place self.old) (H.outside host.old).now) ≡ Some s → soup_of soup s ≡ Some p →
+            ProgramsAtMost (unless (tags_tests ((H.outside host.old).blocks (place self.old)) p.name table s) (change_bytes s (tagged p.name table s) [] [])) (place self.old) (H.outside host.old) (H.outside host.new) }
+        ensures open_after { IsTrue H.told → OnOk result (IsOpenFor 0 (image (place self.old) (H.outside host.new).now)) }
         ensures alone { Touches (place self.old) (H.outside host.old) (H.outside host.new) }
         ensures cause { IfErr result (FaultsAt (place self.old) (H.outside host.old) (H.outside host.new)) };
 
@@ -230,6 +268,7 @@ pub trait Card: Sized + Drop {
         ensures same { (place self.new ≡ place self.old) × (soups self.new ≡ soups self.old) }
         ensures found { IsTrue H.told → (s : Plain) → reads (image (place self.old) (H.outside host.old).now) ≡ Some s → IfOk result (λ found. entry_said found ≡ entry_at soup uid s) }
         ensures moment { (H.outside host.new).now ≡ (H.outside host.old).now }
+        ensures programs_nothing { (H.outside host.new).programmed (place self.old) ≤ (H.outside host.old).programmed (place self.old) }
         ensures alone { Touches (place self.old) (H.outside host.old) (H.outside host.new) }
         ensures cause { IfErr result (StopsAt (place self.old) (H.outside host.old) (H.outside host.new)) };
 

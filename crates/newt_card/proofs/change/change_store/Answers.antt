@@ -1,4 +1,4 @@
-use Rattle.std.proofs.Common.{IsTrue, ◌≡◌, ℕ, List, Some, None, sym, ◌∙◌, ap, subst}
+use Rattle.std.proofs.Common.{IsTrue, ◌≡◌, ◌+◌, ◌*◌, ℕ, List, Some, None, sym, ◌∙◌, ap, subst}
 use Rattle.newt_host.specs.Moments.{Moment, image}
 use Rattle.newt_host.proofs.Moments.{Leaves-others}
 use Rattle.newt_shelf.proofs.Committing.{blocks-are}
@@ -6,11 +6,13 @@ use Rattle.newt_ranges.specs.Stands.{AreRangesOf}
 use Rattle.newt_ranges.specs.declared.rows.SoupRanges.{SoupRanges}
 use Rattle.newt_spec_store.specs.OfImage.{blocks_of}
 use Rattle.newt_spec_store.specs.Store.{Store as Plain}
-use Rattle.newt_store.specs.Change.{changed_by}
-use Rattle.newt_store.specs.Stage.{readable}
+use Rattle.newt_store.specs.Change.{changed_by, entry_moved, pages_of_entry}
+use Rattle.newt_indexed.specs.Steps.{pages_read}
+use Rattle.newt_store.specs.Readable.{readable}
 use Rattle.newt_store.specs.Stands.{StandsFor}
 use Rattle.newt_store.specs.declared.catalog.Catalog.{Catalog}
 use Rattle.newt_card.specs.Stands.{StandsOn}
+use Rattle.newt_card.proofs.Bounds.{programs-most}
 use Rattle.newt_card.proofs.Turns.{reads-it, stands-for, by-blocks, leaves-either}
 use Rattle.newt_card.proofs.change.change_store.Goals as goal
 
@@ -48,6 +50,8 @@ returns-in-Ok g c =
       );
       others = λ tells. let one = c.requires.plain tells in Leaves-others (c.apply.ensures.changes.any_moment tells one.plain one.stands);
       any_moment = λ tells s reads. leaves-either u c.args.change blocks c.args.now s img old new (size tells) (c.apply.ensures.changes.any_moment tells s (at tells s reads));
+      bound = λ tells s reads. programs-most u c.args.change blocks c.args.now s (512 * pages_read c.args.change s + 512 * pages_of_entry (entry_moved c.args.change s)) (o c.args.host.now) (o c.apply.new.host) (size tells) (c.apply.ensures.costs tells s (at tells s reads));
+      open_after = λ tells. e.open_after tells;
       alone = c.apply.ensures.changes.alone;
       cause = tt;
     }
@@ -87,6 +91,8 @@ returns-in-Err-Refused g c =
       );
       others = λ tells. let one = c.requires.plain tells in Leaves-others (c.apply.ensures.changes.any_moment tells one.plain one.stands);
       any_moment = λ tells s reads. leaves-either u c.args.change blocks c.args.now s img old new (size tells) (c.apply.ensures.changes.any_moment tells s (at tells s reads));
+      bound = λ tells s reads. programs-most u c.args.change blocks c.args.now s (512 * pages_read c.args.change s + 512 * pages_of_entry (entry_moved c.args.change s)) (o c.args.host.now) (o c.apply.new.host) (size tells) (c.apply.ensures.costs tells s (at tells s reads));
+      open_after = λ tells. tt;
       alone = c.apply.ensures.changes.alone;
       cause = tt;
     }
@@ -111,6 +117,8 @@ returns-in-Err-Stop g c =
       made = λ tells s reads. tt;
       others = λ tells. let one = c.requires.plain tells in Leaves-others (c.apply.ensures.changes.any_moment tells one.plain one.stands);
       any_moment = λ tells s reads. leaves-either u c.args.change blocks c.args.now s img old new (size tells) (c.apply.ensures.changes.any_moment tells s (at tells s reads));
+      bound = λ tells s reads. programs-most u c.args.change blocks c.args.now s (512 * pages_read c.args.change s + 512 * pages_of_entry (entry_moved c.args.change s)) (o c.args.host.now) (o c.apply.new.host) (size tells) (c.apply.ensures.costs tells s (at tells s reads));
+      open_after = λ tells. tt;
       alone = c.apply.ensures.changes.alone;
       cause = e.cause;
     }

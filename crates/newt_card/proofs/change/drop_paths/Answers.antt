@@ -1,7 +1,9 @@
-use Rattle.std.proofs.Common.{ℕ}
+use Rattle.std.proofs.Common.{ℕ, subst}
 use Rattle.std.specs.Prelude.{Ok, Err}
 use Rattle.newt_host.specs.Moments.{image}
-use Rattle.newt_store.specs.Stage.{readable}
+use Rattle.newt_store.specs.Readable.{readable}
+use Rattle.newt_units.specs.Bounds.{ProgramsAtMost}
+use Rattle.newt_card.proofs.Bounds.{unindex-bound}
 use Rattle.newt_card.proofs.Commands.{unindex-does, unindex-leaves}
 use Rattle.newt_card.proofs.change.drop_paths.Goals as goal
 
@@ -17,6 +19,8 @@ returns-in-Ok g c =
       made = λ tells s p reads found. unindex-does blocks 0 c.args.soup s p found c.args.paths (readable (image u (o c.change_store.new.host).now)) (Ok c.in-Ok.field-0) (e.made tells s reads);
       others = c.change_store.ensures.others;
       any_moment = λ tells s p reads found. unindex-leaves blocks 0 c.args.soup s p found c.args.paths u (o c.args.host.now).now (o c.change_store.new.host).now (c.change_store.ensures.any_moment tells s reads);
+      bound = λ tells s p reads found. subst (λ (k : ℕ). ProgramsAtMost k u (o c.args.host.now) (o c.change_store.new.host)) (unindex-bound blocks 0 c.args.soup s p found c.args.paths) (c.change_store.ensures.bound tells s reads);
+      open_after = λ tells. e.open_after tells;
       alone = c.change_store.ensures.alone;
       cause = tt;
     }
@@ -33,6 +37,8 @@ returns-in-Err g c =
       made = λ tells s p reads found. unindex-does blocks 0 c.args.soup s p found c.args.paths (readable (image u (o c.change_store.new.host).now)) (Err c.in-Err.fault) (e.made tells s reads);
       others = c.change_store.ensures.others;
       any_moment = λ tells s p reads found. unindex-leaves blocks 0 c.args.soup s p found c.args.paths u (o c.args.host.now).now (o c.change_store.new.host).now (c.change_store.ensures.any_moment tells s reads);
+      bound = λ tells s p reads found. subst (λ (k : ℕ). ProgramsAtMost k u (o c.args.host.now) (o c.change_store.new.host)) (unindex-bound blocks 0 c.args.soup s p found c.args.paths) (c.change_store.ensures.bound tells s reads);
+      open_after = λ tells. tt;
       alone = c.change_store.ensures.alone;
       cause = e.cause;
     }

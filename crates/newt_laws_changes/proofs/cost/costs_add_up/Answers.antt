@@ -1,4 +1,4 @@
-use Rattle.newt_laws_changes.proofs.Counting.{cost-added, cost-replaced, cost-removed, cost-declared, cost-made, cost-dropped}
+use Rattle.newt_laws_changes.proofs.Counting.{cost-added, cost-replaced, cost-patched, cost-removed, cost-declared, cost-made, cost-dropped}
 use Rattle.newt_laws_changes.proofs.cost.costs_add_up.Goals as goal
 
 pub returns-clause-added : goal.returns-clause-added
@@ -6,6 +6,9 @@ returns-clause-added c = cost-added
 
 pub returns-clause-replaced : goal.returns-clause-replaced
 returns-clause-replaced c = cost-replaced
+
+pub returns-clause-patched : goal.returns-clause-patched
+returns-clause-patched c = cost-patched
 
 pub returns-clause-removed : goal.returns-clause-removed
 returns-clause-removed c = cost-removed

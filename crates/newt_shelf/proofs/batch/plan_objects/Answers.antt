@@ -1,42 +1,40 @@
-use Rattle.std.proofs.Common.{◌≡◌, ◌≢◌, ◌+◌, ◌%◌, ℕ, List, length, sum_by, refl, Option, Some, None, IsSome, sym, ◌∙◌, ap, subst, arith}
-use Rattle.newt_image.specs.Objects.{Extent}
-use Rattle.newt_objects.specs.Held.{Held, held}
+use Rattle.std.proofs.Common.{◌≡◌, ◌≢◌, ◌+◌, ◌%◌, ◌<◌, ℕ, length, Option, IsSome, sym, ◌∙◌, ap, subst, arith}
+use Rattle.newt_image.specs.Objects.{Extent, pages_for}
 use Rattle.newt_objects.proofs.Changing.{start_unplanned}
-use Rattle.newt_objects.specs.Extents.{numbers_of}
-use Rattle.newt_image.specs.Objects.{pages_for}
-use Rattle.newt_shelf.specs.declared.batch.NewEntry.{NewEntry}
+use Rattle.newt_spec_graph.specs.Lists.{Among}
 use Rattle.newt_shelf.specs.Batch.{pages_held, all_pages_held, new_pages, over_pages}
-use Rattle.newt_shelf.proofs.Planning.{written, adds-also, adds-as}
+use Rattle.newt_shelf.proofs.Planning.{written, adds-also, adds-as, as-held, as-over}
 use Rattle.newt_shelf.proofs.batch.plan_objects.Goals as goal
 
 not_zero : (n : ℕ) → n % 2 ≡ 1 → n ≢ 0
 not_zero n odd same = absurd (let no : 0 % 2 ≡ 1 = ap (λ (k : ℕ). k % 2) (sym same) ∙ odd in omega (arith, no))
 
--- the same objects have as many pages
-as-held : (old new : Held) (ids : List ℕ) → ((id : ℕ) → held new id ≡ held old id) → all_pages_held new ids ≡ all_pages_held old ids
-as-held old new ids same = λ i. sum_by (λ id. length (numbers_of (same id i))) ids
-
-as-over : (old new : Held) (entry : Option NewEntry) → ((id : ℕ) → held new id ≡ held old id) → over_pages new entry ≡ over_pages old entry
-as-over old new None same = refl
-as-over old new (Some e) same = ap (λ (o : Option Extent). length (numbers_of o)) (same e.id)
+above_zero : (n : ℕ) → 0 < n → n ≢ 0
+above_zero n above same = absurd (omega (arith, above, same))
 
 pub plan_object-requires-clause-no_plan : goal.plan_object-requires-clause-no_plan
 plan_object-requires-clause-no_plan c = start_unplanned c.args.objects.now 0 c.requires.none
 
 pub plan_entry-requires-clause-no_plan : goal.plan_entry-requires-clause-no_plan
-plan_entry-requires-clause-no_plan c = λ e is. c.in_ok-plan_object.ensures.others e.id (not_zero e.id (c.requires.odd e is)) (start_unplanned c.args.objects.now e.id c.requires.none)
+plan_entry-requires-clause-no_plan c = λ e is. c.in_ok-plan_object.ensures.others e.id (not_zero e.id (c.requires.ids e is).odd) (start_unplanned c.args.objects.now e.id c.requires.none)
+
+pub plan_entry-requires-clause-no_plans : goal.plan_entry-requires-clause-no_plans
+plan_entry-requires-clause-no_plans c = λ e id is among. c.in_ok-plan_object.ensures.others id (above_zero id ((c.requires.ids e is).even id among).1) (start_unplanned c.args.objects.now id c.requires.none)
 
 pub plan_entry-requires-clause-way : goal.plan_entry-requires-clause-way
 plan_entry-requires-clause-way c = let w = c.requires.way in let a = c.in_ok-plan_object.ensures.way w.0 w.1 w.2 in (w.0, a.0, a.1)
 
 pub plan_gone-requires-clause-there : goal.plan_gone-requires-clause-there
-plan_gone-requires-clause-there c = λ k id at. subst (λ (o : Option Extent). IsSome o) (sym (c.plan_entry.ensures.held id ∙ c.plan_object.ensures.held id)) (c.requires.there k id at)
+plan_gone-requires-clause-there c = λ id among. subst (λ (o : Option Extent). IsSome o) (sym (c.plan_entry.ensures.held id ∙ c.plan_object.ensures.held id)) (c.requires.there id among)
 
 pub plan_gone-requires-clause-no_plan : goal.plan_gone-requires-clause-no_plan
-plan_gone-requires-clause-no_plan c = λ k id at.
+plan_gone-requires-clause-no_plan c = λ id among.
     c.in_ok-plan_entry.ensures.others id
-    (λ e is same. c.requires.apart e k is (at ∙ ap Some same))
-    (c.in_ok-plan_object.ensures.others id (not_zero id (c.requires.gone_odd k id at)) (start_unplanned c.args.objects.now id c.requires.none))
+    (λ e is. (
+      λ same. c.requires.apart.record_apart e is (subst (λ (n : ℕ). Among c.args.gone.now n) same among),
+      λ large. c.requires.apart.larges_apart e id is large among,
+    ))
+    (c.in_ok-plan_object.ensures.others id (above_zero id (c.requires.behind id among)) (start_unplanned c.args.objects.now id c.requires.none))
 
 pub plan_gone-requires-clause-way : goal.plan_gone-requires-clause-way
 plan_gone-requires-clause-way c =
@@ -52,8 +50,8 @@ returns-clause-way c = λ live texts w.
     let z = c.in_ok-plan_gone.ensures.way live y.0 y.1 in (
       z.0,
       z.1,
-      written c.args.directory.now c.args.entry.now c.args.gone.now texts x.0 y.0 z.0 x.2 y.2 y.3 z.2
-          (λ e is. not_zero e.id (c.requires.odd e is)) (λ k id at. not_zero id (c.requires.gone_odd k id at))
+      written c.args.directory.now c.args.entry.now c.args.gone.now texts x.0 y.0 z.0 x.2 y.2 z.2
+          (λ e is. not_zero e.id (c.requires.ids e is).odd) (λ e id is among. above_zero id ((c.requires.ids e is).even id among).1) (λ id among. above_zero id (c.requires.behind id among))
           c.requires.apart,
     )
 

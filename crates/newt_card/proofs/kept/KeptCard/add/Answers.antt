@@ -1,6 +1,8 @@
-use Rattle.std.proofs.Common.{ℕ}
+use Rattle.std.proofs.Common.{ℕ, subst}
 use Rattle.newt_host.specs.Moments.{image}
-use Rattle.newt_store.specs.Stage.{readable}
+use Rattle.newt_store.specs.Readable.{readable}
+use Rattle.newt_units.specs.Bounds.{ProgramsAtMost}
+use Rattle.newt_card.proofs.Bounds.{add-bound}
 use Rattle.newt_card.proofs.Commands.{add-does, add-leaves}
 use Rattle.newt_card.proofs.kept.KeptCard.add.Goals as goal
 
@@ -16,6 +18,8 @@ returns g c =
       made = λ tells s p reads found. add-does blocks c.args.now c.args.soup s p found c.args.graph (readable (image u (o c.change_store.new.host).now)) c.change_store.result (e.made tells s reads);
       others = e.others;
       any_moment = λ tells s p reads found. add-leaves blocks c.args.now c.args.soup s p found c.args.graph u (o c.args.host.now).now (o c.change_store.new.host).now (e.any_moment tells s reads);
+      bound = λ tells s p reads found. subst (λ (k : ℕ). ProgramsAtMost k u (o c.args.host.now) (o c.change_store.new.host)) (add-bound blocks c.args.now c.args.soup s p found c.args.graph) (c.change_store.ensures.bound tells s reads);
+      open_after = e.open_after;
       alone = e.alone;
       cause = e.cause;
     }

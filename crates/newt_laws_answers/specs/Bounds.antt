@@ -1,0 +1,81 @@
+-- How many bytes a command programs at most, on a unit whose bank is not closed and has room for them. All of it is this project's own.
+use Rattle.std.specs.Prelude.{ℕ, ◌+◌, ◌*◌, ◌/◌, Bool, cond, ◌==◌, ◌&&◌, List, [], ◌∷◌, ◌++◌, length, sum_by, Option, Some, None, is_some}
+use Rattle.newt_base.specs.Refusals.{Checks, first_of}
+use Rattle.newt_image.specs.Objects.{pages_for}
+use Rattle.newt_spec_store.specs.Cost.{directory_bytes, entry_pages}
+use Rattle.newt_spec_store.specs.Store.{Store, Soup, Entry}
+use Rattle.newt_spec_world.specs.World.{World, default_unit, store_on_unit, soup_in, entry_in}
+use Rattle.newt_spec_world.specs.declared.command.Command.{Command}
+use Rattle.newt_spec_world.specs.declared.command.Command.TheVariants as command
+use Rattle.newt_laws_answers.specs.Stage.{checks_now, answer_now}
+
+-- the pages of a store's directory (this project's own)
+abbrev pub directory_pages : Store → ℕ
+directory_pages s = pages_for (length (directory_bytes s))
+
+-- The bytes of the batch that makes one store of another: 516 for each page of the directory and of the entries that it puts, 4 for each page of the directory and of
+-- the entries before that it lets go, and 9 beside them. (this project's own)
+abbrev pub change_bytes : Store → Store → List Entry → List Entry → ℕ
+change_bytes a b put gone = 516 * (directory_pages b + sum_by entry_pages put) + 4 * (directory_pages a + sum_by entry_pages gone) + 9
+
+-- the bytes of the batch that puts so many bytes in a large binary: 516 for each page that they fill and one more, and 9 beside them (this project's own)
+abbrev pub patch_bytes : ℕ → ℕ
+patch_bytes count = 516 * ((count + 499) / 500 + 1) + 9
+
+-- nothing where a test holds (this project's own)
+abbrev pub unless : Checks → ℕ → ℕ
+unless tests n = cond (is_some (first_of tests)) 0 n
+
+-- ---- commands
+
+-- the entry, if there is one, as a list (a word of these definitions)
+abbrev pub listed : Option Entry → List Entry
+listed None = []
+listed (Some e) = e ∷ []
+
+-- the entries of a soup, none where there is no soup (a word of these definitions)
+abbrev pub entries_of : Option Soup → List Entry
+entries_of None = []
+entries_of (Some p) = p.entries
+
+-- the next entry id of a soup, 0 where there is no soup (a word of these definitions)
+abbrev pub next_in : Option Soup → ℕ
+next_in None = 0
+next_in (Some p) = p.next_uid
+
+-- the entry that is new in a soup: it has the id that was the next (a word of these definitions)
+abbrev pub new_in : World → World → ℕ → List ℕ → List Entry
+new_in w v u s = listed (entry_in v u s (next_in (soup_in w u s)))
+
+-- Which entries a command puts on a unit, that is appends or changes, and which it lets go there, that is changes or removes; none where it does not write the
+-- unit's store. `w` is the world before, `v` the one after. (this project's own)
+abbrev pub touched : World → World → Command → ℕ → Option (List Entry × List Entry)
+touched w v (command.Soup t s) u = if t == u then Some ([], []) else None
+touched w v (command.Drop t s) u = if t == u then Some ([], entries_of (soup_in w t s)) else None
+touched w v (command.Add t s g) u = if t == u then Some (new_in w v t s, []) else None
+touched w v (command.Addx t s g) u = if t == u then Some (new_in w v t s, []) else None
+touched w v (command.Addu s g) u = if default_unit w == u then Some (new_in w v u s, []) else None
+touched w v (command.Set t s uid path g) u = if t == u then Some (listed (entry_in v t s uid), listed (entry_in w t s uid)) else None
+touched w v (command.Change t s uid g) u = if t == u then Some (listed (entry_in v t s uid), listed (entry_in w t s uid)) else None
+touched w v (command.Remove t s uid) u = if t == u then Some ([], listed (entry_in w t s uid)) else None
+touched w v (command.Copy t s uid x y) u = if x == u then Some (new_in w v x y, []) else None
+touched w v (command.Move t s uid x y) u =
+    if x == u then Some (new_in w v x y, if t == u then listed (entry_in w t s uid) else []) else if t == u then Some ([], listed (entry_in w t s uid)) else None
+touched w v (command.Index t s parts) u = if t == u then Some ([], []) else None
+touched w v (command.Unindex t s paths) u = if t == u then Some ([], []) else None
+touched w v (command.SetTags t s path symbols) u = if t == u then Some ([], []) else None
+touched w v c u = None
+
+-- the bytes of the change of a unit's store, of which these entries are put and let go (a word of these definitions)
+abbrev pub bytes_between : Option Store → Option Store → Option (List Entry × List Entry) → ℕ
+bytes_between (Some a) (Some b) (Some (put, gone)) = change_bytes a b put gone
+bytes_between a b entries = 0
+
+-- the most that a command programs where it is not refused (this project's own)
+abbrev pub bytes_done : World → World → Command → ℕ → ℕ
+bytes_done w v (command.Vwrite t s uid path at bytes) u = if t == u then patch_bytes (length bytes) else 0
+bytes_done w v c u = bytes_between (store_on_unit w u) (store_on_unit v u) (touched w v c u)
+
+-- The most bytes that a command but a format programs on a unit: none where it is refused or does not write the unit's store. (this project's own)
+unfoldable pub most_programmed : World → Command → ℕ → ℕ
+most_programmed w c u = unless (checks_now w c) (bytes_done w (answer_now w c).0 c u)
