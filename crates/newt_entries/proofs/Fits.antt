@@ -18,10 +18,11 @@ use Rattle.newt_spec_graph.specs.Graph.{object, is_frame}
 use Rattle.newt_spec_graph.specs.Limits.{within_limits}
 use Rattle.newt_spec_store.specs.Lies.{may_be_large, stretched}
 use Rattle.newt_spec_store.specs.StoreOf.{LargeRow, fill}
+use Rattle.newt_spec_store.specs.Valid.{valid_entry}
 use Rattle.newt_entries.specs.declared.row.LargeAt.{LargeAt}
 use Rattle.newt_entries.specs.Entry.{row_at, names_from, fits, filled}
 use Rattle.newt_entries.specs.Filling.{next_of, put_node, put_in, HasBytes}
-use Rattle.newt_entries.proofs.Putting.{AreEmpty, named-empty, named-count, put_graph, filled-is, put-limits, put-is_graph}
+use Rattle.newt_entries.proofs.Putting.{AreEmpty, named-empty, named-count, named-few, put_graph, filled-is, put-limits, put-is_graph}
 
 -- ---- what a skeleton has that is filled
 
@@ -143,6 +144,13 @@ fit-short rows g is h =
         let p = and_parts (nat_le l.length 1000000) (list_all (λ (l : LargeAt). nat_le l.length 1000000) rows) h in
         All-cons (λ (l : LargeAt). l.length ≤ 1000000) l rows (leb-true l.length 1000000 p.0) (go rows p.1)
 
+pub fit-few : (rows : List LargeAt) (g : RawGraph) → IsGraph g → fits (map row_at rows) g ≡ true → length rows < 65536
+fit-few rows g is h =
+    let few = is.few in
+    let named = named-few 0 g.nodes (map row_at rows) (fit-named (map row_at rows) g h) in
+    let size = length-map rows row_at in
+    omega (arith, few, named, size)
+
 -- ---- filled with bytes of the rows' lengths
 
 abbrev AsLong : List (List ℕ) → List LargeAt → Type 0
@@ -161,20 +169,45 @@ lengths-short bs rows h = sym (list_all-map (λ n. nat_le n 1000000) (λ (b : Li
 pub filled-nodes : (rows : List LargeAt) (g : RawGraph) (bs : List (List ℕ)) → fits (map row_at rows) g ≡ true → AsLong bs rows → filled (map row_at rows) g bs ≡ put_graph g bs
 filled-nodes rows g bs h long = filled-is (map row_at rows) g bs (fit-named (map row_at rows) g h) (as-many bs rows long)
 
+within-filled : (rows : List LargeAt) (g : RawGraph) (bs : List (List ℕ)) → IsGraph g → fits (map row_at rows) g ≡ true → AsLong bs rows → within_limits (put_graph g bs) ≡ true
+within-filled rows g bs is h long =
+    let named = fit-named (map row_at rows) g h in
+    put-limits g bs is (named-empty 0 g.nodes (map row_at rows) named) (named-count 0 g.nodes (map row_at rows) named ∙ as-many bs rows long)
+    ∙ (λ i. nat_le (sum_by payload g.nodes + lengths-sum bs rows long i) 16777216 && lengths-short bs rows long i) ∙ sym (within-is rows g is named) ∙ fit-within (map row_at rows) g h
+
+-- it may be an entry's
+pub filled-valid : (rows : List LargeAt) (g : RawGraph) (bs : List (List ℕ)) (uid time : ℕ) → IsGraph g → fits (map row_at rows) g ≡ true → AsLong bs rows
+    → valid_entry (record { uid = uid; time = time; graph = filled (map row_at rows) g bs }) ≡ true
+filled-valid rows g bs uid time is h long = ap (λ (k : RawGraph). valid_entry (record { uid = uid; time = time; graph = k })) (filled-nodes rows g bs h long) ∙ test
+  where
+    passed : (all_may rows && (is_frame (object g.nodes g.root) && within_limits (stretched (map row_at rows) g) && nat_le (length (nsof (skeleton g))) 64_000)) ≡ true
+    passed = sym (fits-is rows g (fit-named (map row_at rows) g h)) ∙ h
+
+    parts : (is_frame (object g.nodes g.root) ≡ true) × (nat_le (length (nsof (skeleton g))) 64_000 ≡ true)
+    parts =
+        let within : Bool = within_limits (stretched (map row_at rows) g) in
+        let framed : Bool = is_frame (object g.nodes g.root) in
+        let short : Bool = nat_le (length (nsof (skeleton g))) 64_000 in
+        let p = (and_parts (all_may rows) (framed && within && short) passed).1 in
+        let q = and_parts (framed && within) short p in
+        ((and_parts framed within q.0).0, q.1)
+
+    bare : skeleton (put_graph g bs) ≡ skeleton g
+    bare = ap {A = List Node} {B = RawGraph} (λ ns. record { nodes = ns; root = g.root }) (put-bare g.nodes bs)
+
+    test : (is_frame (object (put_in g.nodes bs) g.root) && within_limits (put_graph g bs) && nat_le (length (nsof (skeleton (put_graph g bs)))) 64_000) ≡ true
+    test = (λ i. put-frame g.nodes bs g.root i && within-filled rows g bs is h long i && nat_le (length (nsof (bare i))) 64_000) ∙ (λ i. parts.0 i && true && parts.1 i)
+
 pub filled-is_graph : (rows : List LargeAt) (g : RawGraph) (bs : List (List ℕ)) → IsGraph g → fits (map row_at rows) g ≡ true → AsLong bs rows → All HasBytes (put_in g.nodes bs) → IsGraph (put_graph g bs)
 filled-is_graph rows g bs is h long bytes =
     let named = fit-named (map row_at rows) g h in
-    let empty = named-empty 0 g.nodes (map row_at rows) named in
-    let count = named-count 0 g.nodes (map row_at rows) named ∙ as-many bs rows long in
-    put-is_graph g bs is empty count bytes
-    (put-limits g bs is empty count ∙ (λ i. nat_le (sum_by payload g.nodes + lengths-sum bs rows long i) 16777216 && lengths-short bs rows long i) ∙ sym (within-is rows g is named) ∙ fit-within (map row_at rows) g h)
+    put-is_graph g bs is (named-empty 0 g.nodes (map row_at rows) named) (named-count 0 g.nodes (map row_at rows) named ∙ as-many bs rows long) bytes (within-filled rows g bs is h long)
 
 -- the same of nodes and a root that were made so
 pub made-is_graph : (rows : List LargeAt) (g : RawGraph) (bs : List (List ℕ)) (nodes : List Node) (root : Ref) → IsGraph g → fits (map row_at rows) g ≡ true → AsLong bs rows → nodes ≡ put_in g.nodes bs → All HasBytes nodes
     → root ≡ g.root → ◌≡◌ {A = RawGraph} (record { nodes = nodes; root = root }) (filled (map row_at rows) g bs) × IsGraph (record { nodes = nodes; root = root })
 made-is_graph rows g bs nodes root is h long of_nodes bytes of_root =
-    let same : ◌≡◌ {A = RawGraph} (record { nodes = nodes; root = root }) (put_graph g bs) = λ i. record { nodes = of_nodes i; root = of_root i } in
-    (
+    let same : ◌≡◌ {A = RawGraph} (record { nodes = nodes; root = root }) (put_graph g bs) = λ i. record { nodes = of_nodes i; root = of_root i } in (
       same ∙ sym (filled-nodes rows g bs h long),
       subst IsGraph (sym same) (filled-is_graph rows g bs is h long (subst (All HasBytes) of_nodes bytes)),
     )

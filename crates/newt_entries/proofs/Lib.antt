@@ -3,7 +3,7 @@ pub mod Streams
 pub mod Within
 pub mod Putting
 pub mod Fits
+pub mod Steps
 pub mod Rows
 pub mod Records
-pub mod Steps
 pub mod Written

@@ -81,7 +81,7 @@ put-within k (x ∷ nodes) bs w e =
     let p = and_parts (node_within x) (list_all node_within nodes) w in
     ap (λ t. t && list_all node_within (put_in nodes bs)) p.0 ∙ put-within (k + 1) nodes bs p.1 e
 
-larges-few : (k : ℕ) (nodes : List Node) → length (larges_from k nodes) ≤ length nodes
+pub larges-few : (k : ℕ) (nodes : List Node) → length (larges_from k nodes) ≤ length nodes
 larges-few k [] = omega arith
 larges-few k (Large c b ∷ nodes) = omega (arith, larges-few (k + 1) nodes)
 larges-few k (x ∷ nodes) = omega (arith, larges-few (k + 1) nodes)

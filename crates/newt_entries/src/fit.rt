@@ -1,7 +1,9 @@
 //! Whether a skeleton and its rows may be those of an entry.
-ghost use Rattle.std.specs.Prelude.{◌≡◌, ◌≤◌, ◌*◌, true, nat_le, length, map};
+ghost use Rattle.std.specs.Prelude.{◌≡◌, ◌≤◌, ◌*◌, ◌&&◌, true, nat_le, length, map};
 ghost use Rattle.std.specs.List.{list_all, sum_by};
 ghost use Rattle.newt_graph.specs.Graph.{payload};
+ghost use Rattle.newt_nsof.specs.Lengths.{skeleton as skeleton_of};
+ghost use Rattle.newt_nsof.specs.Written.{nsof};
 ghost use Rattle.newt_spec_graph.specs.Graph as words;
 ghost use Rattle.newt_spec_graph.specs.Limits.{within_limits};
 ghost use Rattle.newt_spec_store.specs.Lies.{may_be_large, stretched};
@@ -118,13 +120,20 @@ fn is_within(skeleton: &Graph, rows: &[LargeAt]) -> bool
     are_short(rows) && bytes_of(nodes) + lengths_of(rows) <= MOST_BYTES
 }
 
+/// Whether a skeleton and rows that name its large binaries pass the other tests of an entry.
+fn passes(skeleton: &Graph, rows: &[LargeAt]) -> bool
+    requires { names_from 0 skeleton.now.nodes (map row_at rows.now) ≡ true }
+    ensures { result ≡ (list_all (λ row. may_be_large (row_at row)) rows.now && (words.is_frame (words.object skeleton.now.nodes skeleton.now.root) && within_limits (stretched (map row_at rows.now) skeleton.now) && nat_le (length (nsof (skeleton_of skeleton.now))) 64000)) }
+{
+    may_be_larges(rows)
+        && is_frame(skeleton)
+        && is_within(skeleton, rows)
+        && skeleton_len(skeleton) <= MOST_TEXT
+}
+
 /// Whether a skeleton and its rows may be those of an entry.
 pub(crate) fn is_fit(skeleton: &Graph, rows: &[LargeAt]) -> bool
     ensures { result ≡ fits (map row_at rows.now) skeleton.now }
 {
-    are_named(skeleton.nodes(), rows)
-        && may_be_larges(rows)
-        && is_frame(skeleton)
-        && is_within(skeleton, rows)
-        && skeleton_len(skeleton) <= MOST_TEXT
+    are_named(skeleton.nodes(), rows) && passes(skeleton, rows)
 }

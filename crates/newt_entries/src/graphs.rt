@@ -7,6 +7,7 @@ ghost use Rattle.newt_graph.specs.Graph.{payload};
 ghost use Rattle.newt_nsof.specs.Lengths.{bare, skeleton};
 ghost use Rattle.newt_spec_store.specs.Image.{large_in, larges};
 ghost use Rattle.newt_spec_store.specs.Laid.{row_of_large};
+ghost use Rattle.newt_spec_store.specs.Valid.{valid_entry};
 ghost use Rattle.newt_entries.specs.Entry.{row_at, fits, filled, AreRowsOf};
 ghost use Rattle.newt_entries.specs.Filling.{bytes_in, length_in, next_of, put_node, put_in, HasBytes};
 
@@ -91,11 +92,7 @@ fn put_node(
 }
 
 /// The nodes of a skeleton with these bytes in its large binaries.
-fn put_in(
-    alloc: Global,
-    nodes: &[Node],
-    larges: Vec<Vec<u8>>,
-) -> Result<Vec<Node>, AllocError>
+fn put_in(alloc: Global, nodes: &[Node], larges: Vec<Vec<u8>>) -> Result<Vec<Node>, AllocError>
     ensures value { IfOk result (λ v. v.items ≡ put_in nodes.now (map (λ bytes. bytes.items) larges.items)) }
     ensures bytes { IfOk result (λ v. All HasBytes v.items) }
 {
@@ -111,7 +108,8 @@ fn put_in(
 pub fn filled(alloc: Global, row: &EntryRow, larges: Vec<Vec<u8>>) -> Result<Graph, AllocError>
     requires fit { fits (map row_at row.now.larges) row.now.skeleton ≡ true }
     requires lengths { map (λ bytes. length bytes.items) larges.items ≡ map (λ l. l.length) row.now.larges }
-    ensures { IfOk result (λ g. g ≡ filled (map row_at row.now.larges) row.now.skeleton (map (λ bytes. bytes.items) larges.items)) }
+    ensures value { IfOk result (λ g. g ≡ filled (map row_at row.now.larges) row.now.skeleton (map (λ bytes. bytes.items) larges.items)) }
+    ensures valid { IfOk result (λ g. valid_entry (record { uid = row.now.uid; time = row.now.time; graph = g }) ≡ true) }
 {
     let nodes = put_in(alloc, row.skeleton.nodes(), larges)?;
     Ok(Graph::of(nodes, row.skeleton.root()))
@@ -177,16 +175,19 @@ fn rows_of(alloc: Global, nodes: &[Node], ids: &[u32]) -> Result<Vec<LargeAt>, A
     let mut unused = ids;
     let mut number = 0;
     while let [node, rest @ ..] = left {
-        if let Some(length) = length_in(node) {
-            let [object, others @ ..] = unused else {
-                return Ok(rows);
-            };
-            rows.push(LargeAt {
-                node: number,
-                object: *object,
-                length,
-            })?;
-            unused = others;
+        match length_in(node) {
+            Some(length) => {
+                let [object, others @ ..] = unused else {
+                    return Ok(rows);
+                };
+                rows.push(LargeAt {
+                    node: number,
+                    object: *object,
+                    length,
+                })?;
+                unused = others;
+            }
+            None => {}
         }
         left = rest;
         number += 1;
