@@ -222,10 +222,10 @@ odd-above n odd = above n odd (cases_eq n 0) where
   above n odd (inr other) = omega (arith, other)
 
 -- the record of the new entry is this object
-abbrev IsNewAt : Option NewEntry → ℕ → Type 0
+abbrev pub IsNewAt : Option NewEntry → ℕ → Type 0
 IsNewAt entry r = (e : NewEntry) × (entry ≡ Some e) × (e.id ≡ r)
 
-decide-new-at : (entry : Option NewEntry) (r : ℕ) → IsNewAt entry r ⊎ (IsNewAt entry r → ⊥)
+pub decide-new-at : (entry : Option NewEntry) (r : ℕ) → IsNewAt entry r ⊎ (IsNewAt entry r → ⊥)
 decide-new-at None r = inr (λ is. none-some is.1)
 decide-new-at (Some e) r = ⊎_elim
     (λ (same : e.id ≡ r). inl (e, refl, same))
@@ -322,7 +322,7 @@ module _ (catalog : Catalog) (next : Next) (records : List ℕ) (places : AreSou
 
   module _ (new-names : Names) (next-names : AreNamesNext next old-place old-names new-names) where
     -- the ids that a record names after a change are the new entry's, or those that it named
-    NamesWhich : ℕ → ℕ → Type 0
+    abbrev NamesWhich : ℕ → ℕ → Type 0
     NamesWhich r o = ((e : NewEntry) × (next.entry ≡ Some e) × (e.id ≡ r) × Among (large_ids e) o) ⊎ (Among (old-names r) o × (LosesNames next old-place r → ⊥))
 
     names-which : (r o : ℕ) → Among (new-names r) o → NamesWhich r o
@@ -407,7 +407,7 @@ module _ (catalog : Catalog) (next : Next) (records : List ℕ) (places : AreSou
 
   renamed-other : (r : ℕ) → (Among records r → ⊥) → (d : Among records r ⊎ (Among records r → ⊥)) → by_record r d ≡ old-names r
   renamed-other r out (inl k) = absurd (out k)
-  renamed-other r out (inr no) = refl
+  renamed-other r out (inr isnt) = refl
 
   pub renamed-next : AreNamesNext next old-place old-names renamed
   unfolding renamed

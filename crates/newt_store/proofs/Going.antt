@@ -265,15 +265,15 @@ module _ (told : Bool) (catalog : Catalog) (numbers : Numbers) (unit : ℕ) (out
 
   over-replaced : (next : Next) (t : Store) → IsNextOf catalog next → Turns catalog next s t → over_pages catalog.objects next.entry + all_pages_held catalog.objects (names_replaced names-now next.entry) ≡ replaced_pages next.entry s
   over-replaced next t is turns = cases next.entry refl where
+    without : (a b c : ℕ) → b ≡ 0 → a + b + c ≡ a + c
+    without a b c none = omega (arith, none)
+
     cases : (o : Option NewEntry) → next.entry ≡ o → over_pages catalog.objects o + all_pages_held catalog.objects (names_replaced names-now o) ≡ replaced_pages o s
     cases None e = refl
     cases (Some x) e =
         let free : all_pages_held catalog.objects (large_ids x) ≡ 0 = none-held catalog.objects (large_ids x) (λ id m. is.larges_free x id e m) in
         without (pages_held catalog.objects x.id) (all_pages_held catalog.objects (large_ids x)) (all_pages_held catalog.objects (names-now x.id)) free
         ∙ ⊎_elim (λ none. over-none x next.gone none (is.free x e)) (λ at. over-one x at) (turns.fresh stands.texts stands.describes x e)
-
-    without : (a b c : ℕ) → b ≡ 0 → a + b + c ≡ a + c
-    without a b c none = omega (arith, none)
 
   -- the bytes of the batch
   pub bytes-turn : (next : Next) (records : List ℕ) (t : Store) → AreOnce records → AreGone place-now next.gone records → IsNextOf catalog next → Turns catalog next s t

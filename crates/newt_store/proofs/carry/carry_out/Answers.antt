@@ -119,12 +119,12 @@ write_next-requires-clause-apart g c =
     subst (λ (l : List ℕ). IsApart c.args.next.entry l) (sym ids-are) (gone-apart c.args.catalog.now c.args.next records c.requires.sound.places c.requires.sound.names c.requires.next are)
 
 pub name_new-requires : goal.name_new-requires
-name_new-requires g c = λ e is.
+name_new-requires g c =
     let old : Places = place_of c.args.catalog.now.places in
     let records : List ℕ = c.deref.result.now in
     let are : AreGone old c.args.next.gone records = subst (λ (l : List ℕ). AreGone old c.args.next.gone l) (sym c.deref.ensures.value) (record { real = c.in_ok-records.ensures.real; all = c.in_ok-records.ensures.all }) in
-    let as-before : c.deref-3.result.now ≡ records = c.deref-3.ensures.value ∙ sym c.deref.ensures.value in
-    c.forget_names.ensures.ready e.id (λ m. new-stays c.args.catalog.now c.args.next records c.requires.sound.places c.requires.sound.names c.requires.next are e is (are.real e.id (subst (λ (l : List ℕ). Among l e.id) as-before m))) (c.in_ok-prepare_names.ensures.ready e is)
+    let as-before : c.deref-in-Ok.result.now ≡ records = c.deref-in-Ok.ensures.value ∙ sym c.deref.ensures.value in
+    record { ready = λ e is. c.forget_names.ensures.ready e.id (λ m. new-stays c.args.catalog.now c.args.next records c.requires.sound.places c.requires.sound.names c.requires.next are e is (are.real e.id (subst (λ (l : List ℕ). Among l e.id) as-before m))) (c.in_ok-prepare_names.ensures.ready e is) }
 
 pub returns-in-Ok-clause-sound : goal.returns-in-Ok-clause-sound
 returns-in-Ok-clause-sound g c = λ goes.
@@ -135,7 +135,7 @@ returns-in-Ok-clause-sound g c = λ goes.
     let ids-are : c.deref-2.result.now ≡ ids = c.deref-2.ensures.value ∙ c.in_ok-gone.ensures in
     let mid : Places = place_of c.keep_new.new.places in
     let new : Places = place_of c.forget_gone.new.places in
-    let as-before : c.deref-3.result.now ≡ records = c.deref-3.ensures.value ∙ sym c.deref.ensures.value in
+    let as-before : c.deref-in-Ok.result.now ≡ records = c.deref-in-Ok.ensures.value ∙ sym c.deref.ensures.value in
     let next-names = names-next c.args.catalog.now c.args.next records c.requires.sound.places c.requires.sound.names c.requires.next are
         (names_of c.prepare_names.new.names) (names_of c.forget_names.new.names) (names_of c.name_new.new.names) c.prepare_names.ensures.same
         (λ r m. c.forget_names.ensures.gone r (subst (λ (l : List ℕ). Among l r) (sym as-before) m)) (λ r out. c.forget_names.ensures.others r (λ m. out (subst (λ (l : List ℕ). Among l r) as-before m)))
@@ -159,7 +159,7 @@ returns-in-Ok-clause-changed g c = λ tells s t stands turns.
     let ids-are : c.deref-2.result.now ≡ ids = c.deref-2.ensures.value ∙ c.in_ok-gone.ensures in
     let mid : Places = place_of c.keep_new.new.places in
     let new : Places = place_of c.forget_gone.new.places in
-    let as-before : c.deref-3.result.now ≡ records = c.deref-3.ensures.value ∙ sym c.deref.ensures.value in
+    let as-before : c.deref-in-Ok.result.now ≡ records = c.deref-in-Ok.ensures.value ∙ sym c.deref.ensures.value in
     let next-names = names-next c.args.catalog.now c.args.next records c.requires.sound.places c.requires.sound.names c.requires.next are
         (names_of c.prepare_names.new.names) (names_of c.forget_names.new.names) (names_of c.name_new.new.names) c.prepare_names.ensures.same
         (λ r m. c.forget_names.ensures.gone r (subst (λ (l : List ℕ). Among l r) (sym as-before) m)) (λ r out. c.forget_names.ensures.others r (λ m. out (subst (λ (l : List ℕ). Among l r) as-before m)))
