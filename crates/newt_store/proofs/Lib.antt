@@ -1,8 +1,8 @@
 pub mod Writing
-pub mod Simple
 pub mod Reading
 pub mod Carrying
 pub mod Rows
+pub mod Ids
 pub mod Fresh
 pub mod Found
 pub mod Turning

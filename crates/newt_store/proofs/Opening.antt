@@ -327,7 +327,7 @@ module _ (told : Bool) (objects : Held) (numbers : Numbers) (unit : ℕ) (outsid
           free s is are o m None e = e
           free s is are o m (Some r) e =
               let names_it : Among (names r) o = sound.owns r o e in
-              let p = sound.named.placed r o names_it in
+              let p = sound.placed r o names_it in
               let below : r < last + 1 = sound.below p.0 p.1 r p.2 in
               let f = (found tells the.0 the.1).places p.0 p.1 r p.2 in
               let k = (found tells the.0 the.1).records r f.0 f.2 f.3 below in

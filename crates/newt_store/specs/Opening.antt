@@ -78,11 +78,12 @@ AreOwned ids owner = ((o : ℕ) → Among ids o → owner o ≡ None) → Pairs 
 
 -- ---- what is found up to an id
 
--- The places and the names are sound, the places are those of objects up to an id, and the record that names an object is its owner, and no other is.
+-- The places and the names are sound, the places are those of objects up to an id, and the record that names an object has a place, is its owner, and no other is.
 pub record AreSoundTo (last : ℕ) (table : Table) (place : Places) (names : Names) (owner : Owners) : Type 0 where
   pub places : AreSoundPlaces table place
   pub below : (sig uid id : ℕ) → place sig uid ≡ Some id → id < last + 1
-  pub named : AreSoundNames table place names
+  pub named : AreSoundNames table names
+  pub placed : (r o : ℕ) → Among (names r) o → (sig : ℕ) × (uid : ℕ) × (place sig uid ≡ Some r)
   pub owned : (r o : ℕ) → Among (names r) o → owner o ≡ Some r
   pub owns : (r o : ℕ) → owner o ≡ Some r → Among (names r) o
 

@@ -331,7 +331,7 @@ fn find_records<P: PageBook, H: Host>(
     requires root { OfObjects H.told (image (P.place book.old) (H.outside host.old).now) (IsRoot directory.now) }
     requires formed { IsTrue (well_formed (bare_store directory.now)) }
     ensures places { IfOk result (λ finding. AreSoundPlaces (held objects.now) (place_of finding.places)) }
-    ensures names { IfOk result (λ finding. AreSoundNames (held objects.now) (place_of finding.places) (names_of finding.names)) }
+    ensures names { IfOk result (λ finding. AreSoundNames (held objects.now) (names_of finding.names)) }
     ensures found { IfOk result (λ finding. OfObjects H.told (image (P.place book.old) (H.outside host.old).now) (λ texts. IsFound stream_graph texts (place_of finding.places) (names_of finding.names) (bare_store directory.now))) }
     ensures not_store { IsErrOf result BookFault.NotStore → IsTrue H.told → readable (image (P.place book.old) (H.outside host.old).now) ≡ None }
     ensures stands { P.stands H.told book.new (H.outside host.new) }
