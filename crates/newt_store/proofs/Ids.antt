@@ -120,7 +120,7 @@ are-larges objects sig uid now g e of put = record {
 abbrev size : ℕ × List ℕ → ℕ
 size l = length l.1
 
-lengths-from : (k : ℕ) (nodes : List Node) → map_list size (larges_from k nodes) ≡ flat_map large_length nodes
+pub lengths-from : (k : ℕ) (nodes : List Node) → map_list size (larges_from k nodes) ≡ flat_map large_length nodes
 lengths-from k [] = refl
 lengths-from k (Large c bytes ∷ nodes) = ap (λ ns. length bytes ∷ ns) (lengths-from (k + 1) nodes)
 lengths-from k (Symbol _ ∷ nodes) = lengths-from (k + 1) nodes
