@@ -69,8 +69,8 @@ among-or-not (x ∷ ids) o = go (same-number x o) (among-or-not ids o)
   where
     go : (x ≡ o) ⊎ (x ≢ o) → Among ids o ⊎ (Among ids o → ⊥) → Among (x ∷ ids) o ⊎ (Among (x ∷ ids) o → ⊥)
     go (inl same) rest = inl (inl same)
-    go (inr no) (inl m) = inl (inr m)
-    go (inr no) (inr out) = inr (λ m. ⊎_elim no out m)
+    go (inr other) (inl m) = inl (inr m)
+    go (inr other) (inr out) = inr (λ m. ⊎_elim other out m)
 
 -- ---- one place more
 

@@ -57,9 +57,9 @@ returns-clause-sound g c =
     let row = c.in_ok-row.row in
     sound-next (place_of c.args.finding.now.places) (place_of c.insert-2.new.self) row.soup row.uid c.args.id c.in_ok-insert-2.ensures.kept c.in_ok-insert-2.ensures.others c.args.last there.1
     (names_of c.args.finding.now.names) (names_of c.insert.new.self) (objects_named row.larges) (c.in_ok-insert.ensures.kept ∙ sym c.deref.ensures.value ∙ named) c.in_ok-insert.ensures.others
-    (held c.args.objects.now) (owner_of c.args.finding.now.owners) (owner_of c.own_all-are_free.new.owners) c.requires.sound there.0 (odd-is c.args.id c.if-id-eq0.false)
+    (held c.args.objects.now) (owner_of c.args.finding.now.owners) (owner_of c.own_all.new.owners) c.requires.sound there.0 (odd-is c.args.id c.if-id-eq0.false)
     (sym c.get.ensures ∙ is-none c.get.result (sym c.if-is_some.ensures))
-    (subst (λ (ids : List ℕ). OwnsThese ids c.args.id (owner_of c.args.finding.now.owners) (owner_of c.own_all-are_free.new.owners)) named (c.in_ok-are_free.ensures.owned c.if-not-are_free.false))
+    (subst (λ (ids : List ℕ). OwnsThese ids c.args.id (owner_of c.args.finding.now.owners) (owner_of c.own_all.new.owners)) named (c.in_ok-are_free.ensures.owned c.if-not-are_free.false))
     (named-there (held c.args.objects.now) row.larges all) c.in_ok-row.ensures.even
 
 pub returns-clause-found : goal.returns-clause-found

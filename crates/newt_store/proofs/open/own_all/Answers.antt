@@ -12,8 +12,8 @@ pub loop-object-preserved : goal.loop-object-preserved
 loop-object-preserved c =
     let x : ℕ = get_or c.args.ids.now c.loop-object.object-index 0 in
     let e = c.in_ok-old.ensures in
-    subst (λ (ids : List ℕ). OwnsThese ids c.args.id (owner_of c.args.owners.now) (owner_of c.own-old.new.owners)) (sym (take_more c.args.ids.now c.loop-object.object-index 0 c.loop-object-test.true))
-    (owns-more (take c.loop-object.object-index c.args.ids.now) x c.args.id (owner_of c.args.owners.now) (owner_of c.loop-object.owners) (owner_of c.own-old.new.owners) c.loop-object.invariant
+    subst (λ (ids : List ℕ). OwnsThese ids c.args.id (owner_of c.args.owners.now) (owner_of c.own.new.owners)) (sym (take_more c.args.ids.now c.loop-object.object-index 0 c.loop-object-test.true))
+    (owns-more (take c.loop-object.object-index c.args.ids.now) x c.args.id (owner_of c.args.owners.now) (owner_of c.loop-object.owners) (owner_of c.own.new.owners) c.loop-object.invariant
     (sym e.old ∙ is-none c.in_ok-old.old (sym c.if-is_some.ensures)) e.owned e.others)
 
 pub returns-then-is_some-clause-are_owned : goal.returns-then-is_some-clause-are_owned
