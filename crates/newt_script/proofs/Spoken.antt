@@ -42,21 +42,17 @@ both true b is = (refl, is)
 both false b is = cc
 
 none_of : (w : List ℕ) (rs : List Row) → is_command_word w ≡ false → list_all (λ (r : Row). is_command_word r.0) rs ≡ true → find (λ (r : Row). bytes_eq r.0 w) rs ≡ None
-none_of w [] no all = refl
-none_of w (r ∷ rs) no all = go (bytes_eq r.0 w) refl
+none_of w [] unknown all = refl
+none_of w (r ∷ rs) unknown all =
+    let is : (is_command_word r.0 ≡ true) × (list_all (λ (q : Row). is_command_word q.0) rs ≡ true) = both (is_command_word r.0) (list_all (λ (q : Row). is_command_word q.0) rs) all in
+    go is.0 (none_of w rs unknown is.1) (bytes_eq r.0 w) refl
   where
-    rest : list_all (λ (q : Row). is_command_word q.0) rs ≡ true
-    rest = (both (is_command_word r.0) (list_all (λ (q : Row). is_command_word q.0) rs) all).1
+    apart : (b : Bool) → b ≡ false → b ≡ true → ⊥
+    apart b f t = cc
 
-    here : is_command_word r.0 ≡ true
-    here = (both (is_command_word r.0) (list_all (λ (q : Row). is_command_word q.0) rs) all).0
-
-    go : (b : Bool) → bytes_eq r.0 w ≡ b → find (λ (q : Row). bytes_eq q.0 w) (r ∷ rs) ≡ None
-    go false is = rw is (none_of w rs no rest)
-    go true is = absurd (apart (is_command_word w) no (ap is_command_word (sym ((bytes_eq-Decides r.0 w).0 is)) ∙ here))
-      where
-        apart : (b : Bool) → b ≡ false → b ≡ true → ⊥
-        apart b f t = cc
+    go : is_command_word r.0 ≡ true → find (λ (q : Row). bytes_eq q.0 w) rs ≡ None → (b : Bool) → bytes_eq r.0 w ≡ b → find (λ (q : Row). bytes_eq q.0 w) (r ∷ rs) ≡ None
+    go here rest false is = rw is rest
+    go here rest true is = absurd (apart (is_command_word w) unknown (ap is_command_word (sym ((bytes_eq-Decides r.0 w).0 is)) ∙ here))
 
 -- each row of the table has the word of a command
 rows_known : list_all (λ (r : Row). is_command_word r.0) rows ≡ true
