@@ -1,5 +1,5 @@
 -- What a crash leaves of devices that were attached by their names.
-use Rattle.std.proofs.Common.{◌≡◌, refl, ap, sym, ◌∙◌, subst, inl, inr, ◌⊎◌, ℕ, ◌+◌, ◌*◌, ◌<◌, true, IsSome, List, [], ◌∷◌, ◌++◌, length, Option, Some, None, MatchOption, arith}
+use Rattle.std.proofs.Common.{◌≡◌, refl, ap, sym, ◌∙◌, subst, inl, inr, ◌⊎◌, ℕ, ◌+◌, ◌*◌, true, IsSome, List, [], ◌∷◌, ◌++◌, length, Option, Some, None, MatchOption, arith}
 use Rattle.std.specs.Prelude.{slice_get, option_map, option_and_then}
 use Rattle.std.proofs.lemmas.Bool.{cases_lt}
 use Rattle.newt_attach.specs.Named.{AreAttached, if_known}

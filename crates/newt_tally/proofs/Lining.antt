@@ -1,6 +1,6 @@
 -- One line of a text after another.
 use Rattle.std.proofs.Common.{◌≡◌, ◌<◌, ℕ, List, [], ◌∷◌, ◌++◌, length, refl, sym, ◌∙◌, ap, arith}
-use Rattle.std.proofs.lemmas.List.{append-nil, length-append}
+use Rattle.std.proofs.lemmas.List.{length-append}
 use Rattle.newt_session.specs.Lines.{BeginsWith, HasNoEnd, ended_lines, unended, last_line, lines_of}
 use Rattle.newt_session.proofs.Cutting.{cut_at, left_at, cut_none, left_none}
 use Rattle.newt_session.proofs.Ending.{last_some}

@@ -1,5 +1,5 @@
 -- What a crash leaves while one line after another is answered.
-use Rattle.std.proofs.Common.{◌≡◌, refl, ap, sym, ◌∙◌, subst, ℕ, ◌+◌, ◌<◌, List, [], ◌∷◌, ◌++◌, length, take, Option, Ok, append_assoc, append-nil, arith}
+use Rattle.std.proofs.Common.{◌≡◌, refl, ap, sym, ◌∙◌, subst, ℕ, ◌+◌, List, [], ◌∷◌, ◌++◌, length, take, Option, Ok, append_assoc, append-nil, arith}
 use Rattle.std.proofs.lemmas.List.{take_at}
 use Rattle.std.proofs.Math.Seq.{take-append-add}
 use Rattle.newt_host.specs.Moments.{Moment, MayLeave, Always, here, output as printed}
@@ -19,7 +19,7 @@ use Rattle.newt_spec_world.specs.World.{World}
 use Rattle.newt_tally.specs.Counts.{Counts, reply_texts}
 use Rattle.newt_tally.specs.Moments.{Within, CountedAt}
 use Rattle.newt_tally.specs.declared.tally.Tally.{Tally}
-use Rattle.newt_tally.proofs.Texts.{texts_append}
+use Rattle.newt_tally.proofs.Texts.{texts_append, texts_none}
 
 -- ---- devices alone
 
@@ -96,7 +96,7 @@ module _ (answer : Answers) (reads : List ℕ → Option Store) (start : Moment)
     done = [];
     split = refl;
     world_is = refl;
-    counts = none;
+    counts = subst (λ (ts : List (List ℕ)). Counts tally ts) (sym (texts_none answer world)) none;
     untouched = λ unit e. refl;
     always = here (counted_first world all its);
     quiet = refl;

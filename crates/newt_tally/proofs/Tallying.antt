@@ -1,5 +1,5 @@
 -- The commands of one line after another, and why a run halts that counts their replies.
-use Rattle.std.proofs.Common.{◌≡◌, refl, ap, sym, ◌∙◌, subst, ℕ, ◌<◌, true, false, List, [], ◌∷◌, ◌++◌, length, Option, Some, None, Result, Ok, Err, IfErr, OnErr, append-nil, arith}
+use Rattle.std.proofs.Common.{◌≡◌, refl, ap, sym, ◌∙◌, subst, ℕ, true, false, List, [], ◌∷◌, ◌++◌, length, Some, None, Result, Ok, Err, IfErr, OnErr, append-nil, arith}
 use Rattle.newt_base.specs.declared.Refusal.{Refusal}
 use Rattle.newt_host.specs.Outside.{Outside}
 use Rattle.newt_script.specs.Lines.{line_command}

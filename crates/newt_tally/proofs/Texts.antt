@@ -1,16 +1,17 @@
 -- One reply more.
-use Rattle.std.proofs.Common.{◌≡◌, refl, ap, sym, ◌∙◌, ℕ, ◌+◌, List, [], ◌∷◌, ◌++◌, length, map, codes, cond, decimal, append_assoc, append-nil, arith}
-use Rattle.std.specs.Prelude.{count_by, sum_by}
+use Rattle.std.proofs.Common.{◌≡◌, refl, ap, sym, ◌∙◌, ℕ, ◌+◌, List, [], ◌∷◌, ◌++◌, length, map, codes, cond, decimal, append_assoc, arith}
+use Rattle.std.specs.Prelude.{count_by}
 use Rattle.std.proofs.lemmas.List.{length-append}
 use Rattle.std.proofs.lemmas.List.Sums.{sum_by-append}
-use Rattle.newt_base.specs.Text.{decimal_text, decimal_text-decimal}
-use Rattle.newt_session.specs.Script.{Answers, replies, world_behind}
+use Rattle.newt_base.specs.Text.{decimal_text-decimal}
+use Rattle.newt_session.specs.Lines.{lines_of}
+use Rattle.newt_session.specs.Script.{Answers, commands_of, replies, world_behind}
 use Rattle.newt_session.proofs.Items.{replies_append}
 use Rattle.newt_spec_script.specs.Generator.{begins, summary, summary_line}
 use Rattle.newt_spec_script.specs.Script.{Item}
 use Rattle.newt_spec_world.specs.Reply.{Reply, reply_text}
 use Rattle.newt_spec_world.specs.World.{World}
-use Rattle.newt_tally.specs.Counts.{Counts, lines_of_tally, reply_texts}
+use Rattle.newt_tally.specs.Counts.{Counts, lines_of_tally, reply_texts, summary_of}
 use Rattle.newt_tally.specs.declared.tally.Tally.{Tally}
 
 pub one_more : (old new : Tally) (text : List ℕ) → new.commands ≡ old.commands + 1 → new.oks ≡ old.oks + cond (begins (codes "ok") text) 1 0
@@ -24,7 +25,8 @@ one_more old new text commands oks errors bytes texts k = record {
 }
 
 -- the lines of the tally of texts
-pub lines_summary : (tally : Tally) (texts : List (List ℕ)) → Counts tally texts → lines_of_tally tally ≡ summary texts
+lines_summary : (tally : Tally) (texts : List (List ℕ)) → Counts tally texts → lines_of_tally tally ≡ summary texts
+unfolding lines_of_tally
 lines_summary tally texts k =
     ap (λ n. summary_line (codes "commands") n ++ summary_line (codes "ok") tally.oks ++ summary_line (codes "errors") tally.errors ++ summary_line (codes "bytes") tally.bytes) k.commands
     ∙ (ap (λ n. summary_line (codes "commands") (length texts) ++ summary_line (codes "ok") n ++ summary_line (codes "errors") tally.errors ++ summary_line (codes "bytes") tally.bytes) k.oks
@@ -36,6 +38,21 @@ pub line_written : (old word : List ℕ) (n : ℕ) → (old ++ word) ++ (32 ∷ 
 line_written old word n =
     append_assoc old word (32 ∷ (decimal n ++ 10 ∷ []))
     ∙ ap (λ (t : List ℕ). old ++ t) (sym (append_assoc word (32 ∷ decimal n) (10 ∷ [])) ∙ ap (λ (t : List ℕ). (word ++ 32 ∷ t) ++ 10 ∷ []) (sym (decimal_text-decimal n)))
+
+-- the four lines behind one another
+pushed : (a b c d t0 t1 t2 t3 t4 : List ℕ) → t0 ≡ [] → t1 ≡ t0 ++ a → t2 ≡ t1 ++ b → t3 ≡ t2 ++ c → t4 ≡ t3 ++ d → t4 ≡ a ++ b ++ c ++ d
+pushed a b c d t0 t1 t2 t3 t4 e0 e1 e2 e3 e4 =
+    let all : t4 ≡ (((([] ++ a) ++ b) ++ c) ++ d) =
+    e4 ∙ ap (λ (t : List ℕ). t ++ d) (e3 ∙ ap (λ (t : List ℕ). t ++ c) (e2 ∙ ap (λ (t : List ℕ). t ++ b) (e1 ∙ ap (λ (t : List ℕ). t ++ a) e0))) in
+    all ∙ simp append_assoc
+
+pub lines_pushed : (tally : Tally) (commands oks errors : ℕ) (t0 t1 t2 t3 t4 : List ℕ) → commands ≡ tally.commands → oks ≡ tally.oks → errors ≡ tally.errors
+    → t0 ≡ [] → t1 ≡ t0 ++ summary_line (codes "commands") commands → t2 ≡ t1 ++ summary_line (codes "ok") oks → t3 ≡ t2 ++ summary_line (codes "errors") errors
+    → t4 ≡ t3 ++ summary_line (codes "bytes") tally.bytes → t4 ≡ lines_of_tally tally
+unfolding lines_of_tally
+lines_pushed tally commands oks errors t0 t1 t2 t3 t4 n1 n2 n3 e0 e1 e2 e3 e4 =
+    pushed (summary_line (codes "commands") tally.commands) (summary_line (codes "ok") tally.oks) (summary_line (codes "errors") tally.errors) (summary_line (codes "bytes") tally.bytes) t0 t1 t2 t3 t4
+    e0 (e1 ∙ ap (λ n. t0 ++ summary_line (codes "commands") n) n1) (e2 ∙ ap (λ n. t1 ++ summary_line (codes "ok") n) n2) (e3 ∙ ap (λ n. t2 ++ summary_line (codes "errors") n) n3) e4
 
 module _ (answer : Answers) where
   pub texts_append : (world : World) (a b : List Item) → reply_texts answer world (a ++ b) ≡ reply_texts answer world a ++ reply_texts answer (world_behind answer world a) b
@@ -49,3 +66,8 @@ module _ (answer : Answers) where
   pub texts_none : (world : World) → reply_texts answer world [] ≡ []
   unfolding replies
   texts_none world = refl
+
+  -- the lines of the tally of the replies to a script
+  pub tally_summary : (world : World) (script : List ℕ) (tally : Tally) → Counts tally (reply_texts answer world (commands_of (lines_of script))) → lines_of_tally tally ≡ summary_of answer world script
+  unfolding summary_of
+  tally_summary world script tally k = lines_summary tally (reply_texts answer world (commands_of (lines_of script))) k

@@ -16,7 +16,7 @@ pub record Counts (tally : Tally) (texts : List (List ℕ)) : Type 0 where
   pub bytes : tally.bytes ≡ sum_by length texts
 
 -- the four lines of a tally
-abbrev pub lines_of_tally : Tally → List ℕ
+unfoldable pub lines_of_tally : Tally → List ℕ
 lines_of_tally tally =
     summary_line (codes "commands") tally.commands ++ summary_line (codes "ok") tally.oks
     ++ summary_line (codes "errors") tally.errors ++ summary_line (codes "bytes") tally.bytes
@@ -27,5 +27,5 @@ module _ (answer : Answers) where
   reply_texts world items = map reply_text (replies answer world items)
 
   -- the summary of the replies to a script
-  abbrev pub summary_of : World → List ℕ → List ℕ
+  unfoldable pub summary_of : World → List ℕ → List ℕ
   summary_of world script = summary (reply_texts world (commands_of (lines_of script)))

@@ -1,4 +1,4 @@
-use Rattle.std.proofs.Common.{IsTrue, ◌≡◌, ◌≤◌, ◌+◌, length}
+use Rattle.std.proofs.Common.{IsTrue, ◌≤◌, ◌+◌, length}
 use Rattle.newt_session.specs.Causes.{OnDevices}
 use Rattle.newt_session.specs.Lines.{lines_of}
 use Rattle.newt_session.specs.Script.{commands_of}

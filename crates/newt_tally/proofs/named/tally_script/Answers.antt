@@ -1,4 +1,4 @@
-use Rattle.std.proofs.Common.{◌≡◌, ◌++◌, ℕ, List, Bool, OnErr, ◌∙◌, ap, subst}
+use Rattle.std.proofs.Common.{◌++◌, ℕ, List, Bool, OnErr, ◌∙◌, ap, subst}
 use Rattle.std.proofs.lemmas.Result.{err_from_is_err_and, on_ok_weaker}
 use Rattle.newt_host.proofs.Moments.{Always-append, Always-map}
 use Rattle.newt_session.specs.Lines.{lines_of}
@@ -7,10 +7,10 @@ use Rattle.newt_session.specs.Stream.{out_of, WroteSome}
 use Rattle.newt_session.proofs.Counting.{goes-on_devices, goes-trans}
 use Rattle.newt_session.proofs.Crashing.{its_now}
 use Rattle.newt_session.proofs.Halting.{sink_causes}
-use Rattle.newt_tally.specs.Counts.{lines_of_tally, reply_texts, summary_of}
+use Rattle.newt_tally.specs.Counts.{lines_of_tally, summary_of}
 use Rattle.newt_tally.proofs.Moving.{counted_last}
 use Rattle.newt_tally.proofs.Tallying.{halted_quiet, halted_writing}
-use Rattle.newt_tally.proofs.Texts.{lines_summary}
+use Rattle.newt_tally.proofs.Texts.{tally_summary}
 use Rattle.newt_tally.proofs.named.tally_script.Goals as goal
 
 -- ---- a command was not answered
@@ -37,9 +37,9 @@ returns-clause-out g c = λ told.
     let before = g.H.Host.outside c.args.host.now in
     let w = it.world c.args.interpreter.now before in
     let tally = c.in_ok-tally.tally in
-    let texts = reply_texts it.answer w (commands_of (lines_of c.args.script.now)) in
+    let script = c.args.script.now in
     on_ok_weaker c.put_tally.result (λ put. put
-    ∙ (ap (λ o. o ++ lines_of_tally tally) (c.tally_lines.ensures.quiet told) ∙ ap (λ t. out_of before ++ t) (lines_summary tally texts (c.in_ok-tally.ensures.counts told)))) (c.put_tally.ensures.put told)
+    ∙ (ap (λ o. o ++ lines_of_tally tally) (c.tally_lines.ensures.quiet told) ∙ ap (λ t. out_of before ++ t) (tally_summary it.answer w script tally (c.in_ok-tally.ensures.counts told)))) (c.put_tally.ensures.put told)
 
 pub returns-clause-halted : goal.returns-clause-halted
 returns-clause-halted g c = λ told.
@@ -49,12 +49,12 @@ returns-clause-halted g c = λ told.
     let new = g.H.Host.outside c.put_tally.new.host in
     let w = it.world c.args.interpreter.now before in
     let tally = c.in_ok-tally.tally in
-    let texts = reply_texts it.answer w (commands_of (lines_of c.args.script.now)) in
-    let summary = summary_of it.answer w c.args.script.now in
+    let script = c.args.script.now in
+    let summary = summary_of it.answer w script in
     let P : List ℕ → Type 0 = λ text. OnErr c.put_tally.result (WroteSome text (out_of mid) (out_of new)) in
     let Q : List ℕ → Type 0 = λ out. OnErr c.put_tally.result (WroteSome summary out (out_of new)) in
     halted_writing c.put_tally.result mid new summary (out_of before) (out_of new) c.put_tally.ensures.cause
-    (subst Q (c.tally_lines.ensures.quiet told) (subst P (lines_summary tally texts (c.in_ok-tally.ensures.counts told)) (c.put_tally.ensures.failed told)))
+    (subst Q (c.tally_lines.ensures.quiet told) (subst P (tally_summary it.answer w script tally (c.in_ok-tally.ensures.counts told)) (c.put_tally.ensures.failed told)))
 
 pub returns-clause-crash : goal.returns-clause-crash
 returns-clause-crash g c = λ told.

@@ -1,4 +1,4 @@
-use Rattle.std.proofs.Common.{◌≡◌, ◌++◌, [], ◌∷◌, ℕ, List, ap, subst}
+use Rattle.std.proofs.Common.{◌++◌, [], ◌∷◌, ℕ, List, subst}
 use Rattle.newt_spec_world.specs.Reply.{Reply, reply_text}
 use Rattle.newt_tally.specs.Counts.{Counts}
 use Rattle.newt_tally.proofs.turn.obey.Goals as goal
