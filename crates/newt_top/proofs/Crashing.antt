@@ -129,7 +129,7 @@ module _ (w : World) (items : List Item) (m u : ℕ) where
 -- ---- what is left
 
 module _ (w : World) (items : List Item) (held : Option (List ℕ)) (m u : ℕ) (left : List ℕ) where
-  next : Option Store
+  abbrev next : Option Store
   next = store_on_unit (world_at answer_now w items (m + 1)) u
 
   -- what is found where this is the store behind m items
@@ -148,7 +148,7 @@ module _ (w : World) (items : List Item) (held : Option (List ℕ)) (m u : ℕ) 
   formatted_left found store is = stored store is (subst (λ (o : Option Store). Found o) is found)
 
   pub untouched_left : Found (store_on_unit (world_at answer_now w items m) u) → store_on_unit (world_at answer_now w items m) u ≡ None → formats_next w items m u ≡ false → held ≡ Some left
-  untouched_left found none no = subst (λ (o : Option Store). Found o) none found (still_none w items m u none no)
+  untouched_left found none other = subst (λ (o : Option Store). Found o) none found (still_none w items m u none other)
 
 pub is_left : (w : World) (items : List Item) (held : Option (List ℕ)) (old out : List ℕ) (u : ℕ) (left : List ℕ) → HasLeft answer_now readable w items held old out u left → IsLeft w items held old out u left
 is_left w items held old out u left h =

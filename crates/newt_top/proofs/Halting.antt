@@ -1,14 +1,15 @@
 -- Why a conversion halts, and a run whose replies are counted.
-use Rattle.std.proofs.Common.{◌≡◌, ℕ, ◌<◌, List, [], ◌++◌, length, refl, sym, ◌∙◌, append-nil}
+use Rattle.std.proofs.Common.{◌≡◌, ℕ, ◌<◌, List, [], length, Some, None, refl, sym, ◌∙◌, append-nil}
+use Rattle.newt_host.specs.Meanings.{since}
 use Rattle.newt_host.specs.Outside.{Outside}
 use Rattle.newt_laws_answers.specs.Stage.{answer_now}
 use Rattle.newt_session.specs.Causes.{HasWriteCause}
 use Rattle.newt_session.specs.Run.{HaltedReply}
-use Rattle.newt_session.specs.Stream.{out_of, WroteSome}
+use Rattle.newt_session.specs.Stream.{out_of}
 use Rattle.newt_session.specs.declared.halt.Halt.{Halt}
 use Rattle.newt_session.specs.declared.halt.Halt.TheVariants.{Memory, Device, Source, Sink, TooLong}
 use Rattle.newt_tally.specs.Counts.{summary_of}
-use Rattle.newt_top.specs.Modes.{first, RanCounted}
+use Rattle.newt_top.specs.Modes.{first, LeavesCounted, RanCounted}
 use Rattle.newt_top.specs.Status.{HasStatusCause, status_of}
 use Rattle.newt_top.specs.Whole.{converted, HaltedWhole, HasReadCause}
 use Rattle.newt_top.specs.declared.status.Conversion.{Conversion}
@@ -37,3 +38,9 @@ cause_counting (Device unit) old new cause = cause
 cause_counting Source old new cause = absurd cause
 cause_counting Sink old new cause = cause
 cause_counting TooLong old new cause = tt
+
+-- nothing is left of devices that were not attached
+pub none_attached : (script : List ℕ) (names : List (List ℕ)) (old : Outside) → ((unit : ℕ) → since old unit ≡ None) → LeavesCounted script names old old
+none_attached script names old never unit t left out at some =
+    let apart : None ≡ Some t = sym (never unit) ∙ at in
+    absurd (cc)

@@ -1,5 +1,5 @@
 -- Names of devices.
-use Rattle.std.proofs.Common.{◌≡◌, inl, inr, ℕ, zero, suc, ◌≤◌, Bool, true, false, not, ◌&&◌, ◌||◌, cond, List, [], ◌∷◌, length, codes, nat_le, Option, Some, None, refl, sym, ◌∙◌, ap, subst, arith}
+use Rattle.std.proofs.Common.{◌≡◌, ℕ, zero, suc, ◌≤◌, Bool, true, false, not, ◌&&◌, ◌||◌, cond, List, [], ◌∷◌, length, codes, nat_le, Option, Some, None, refl, sym, ◌∙◌, ap, arith}
 use Rattle.std.specs.Prelude.{drop, slice_get}
 use Rattle.std.specs.Bool.{Decides}
 use Rattle.std.specs.List.{list_any}

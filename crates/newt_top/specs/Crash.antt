@@ -1,5 +1,5 @@
 -- What a crash leaves of the devices of a script. All of it is this project's own.
-use Rattle.std.specs.Prelude.{◌≡◌, ◌⊎◌, ℕ, ◌+◌, ◌<◌, ◌==◌, ◌&&◌, Bool, true, false, is_none, List, ◌++◌, length, slice_get, Option, Some, None, Ok}
+use Rattle.std.specs.Prelude.{◌≡◌, ◌⊎◌, ℕ, ◌+◌, ◌<◌, ◌==◌, ◌&&◌, Bool, false, is_none, List, ◌++◌, length, slice_get, Option, Some, None, Ok}
 use Rattle.newt_base.specs.Refusals.{first_of}
 use Rattle.newt_laws_answers.specs.Stage.{answer_now, checks_now}
 use Rattle.newt_session.specs.Moments.{replies_begun, world_at}

@@ -1,4 +1,4 @@
-use Rattle.std.proofs.Common.{◌≡◌, ◌≤◌, length, map, Global, string_bytes, arith}
+use Rattle.std.proofs.Common.{map, Global, string_bytes, arith}
 use Rattle.std.proofs.lemmas.List.{length-map}
 use Rattle.newt_top.proofs.Crashing.{is_left_counted}
 use Rattle.newt_top.proofs.Halting.{halted_counting, cause_counting}

@@ -1,6 +1,5 @@
-use Rattle.std.proofs.Common.{◌≡◌, ℕ, List, None, map, Global, string_bytes, subst, arith}
+use Rattle.std.proofs.Common.{◌≡◌, ℕ, List, map, Global, string_bytes, subst, arith}
 use Rattle.std.proofs.lemmas.Grind.{common_steps}
-use Rattle.newt_host.specs.Meanings.{since}
 use Rattle.newt_host.proofs.Histories.{untouched-attached}
 use Rattle.newt_laws_answers.specs.Stage.{answer_now}
 use Rattle.newt_session.specs.Stream.{out_of}
@@ -8,6 +7,7 @@ use Rattle.newt_session.proofs.Writing.{wrote_nothing}
 use Rattle.newt_spec_script.specs.Generator.{gen_script}
 use Rattle.newt_tally.specs.Counts.{summary_of}
 use Rattle.newt_top.specs.Modes.{first, LeavesCounted, RanCounted}
+use Rattle.newt_top.proofs.Halting.{none_attached}
 use Rattle.newt_top.proofs.top.run_generated.Goals as goal
 
 -- ---- want of memory for the script: nothing was attached
@@ -18,10 +18,10 @@ returns-in_default-clause-ran g c = λ told.
     wrote_nothing (summary_of answer_now (first (map (string_bytes {Z = Global}) c.args.names.now) before) (gen_script c.args.seed c.args.count)) (out_of before)
 
 pub returns-in_default-clause-leaves : goal.returns-in_default-clause-leaves
-returns-in_default-clause-leaves g c = λ told unit t left out at some.
+returns-in_default-clause-leaves g c = λ told.
     let before = g.H.Host.outside c.args.host.now in
-    let never : since before unit ≡ None = untouched-attached unit before.now (g.met.H.Host.untouched c.args.host.now unit told (c.requires.free unit)) in
-    absurd (cc)
+    none_attached (gen_script c.args.seed c.args.count) (map (string_bytes {Z = Global}) c.args.names.now) before
+    (λ unit. untouched-attached unit before.now (g.met.H.Host.untouched c.args.host.now unit told (c.requires.free unit)))
 
 -- ---- the script
 
