@@ -2,7 +2,7 @@
 use Rattle.std.proofs.Common.{◌≡◌, ℕ, ◌<◌, List, [], length, Some, None, refl, sym, ◌∙◌, append-nil}
 use Rattle.newt_host.specs.Meanings.{since}
 use Rattle.newt_host.specs.Outside.{Outside}
-use Rattle.newt_laws_answers.specs.Stage.{answer_now}
+use Rattle.newt_laws_answers.specs.Spoken.{answer_now}
 use Rattle.newt_session.specs.Causes.{HasWriteCause}
 use Rattle.newt_session.specs.Run.{HaltedReply}
 use Rattle.newt_session.specs.Stream.{out_of}
