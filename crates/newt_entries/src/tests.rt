@@ -1,5 +1,5 @@
 //! Records in bytes that were spelt by hand, with ample memory.
-use crate::{EntryFault, read_entry, write_entry};
+use crate::{EntryFault, filled, larges_of, read_entry, row_of, skeleton, write_entry};
 use newt_base::{Sig, Uid};
 use std::alloc::Global;
 use std::test::*;
@@ -39,6 +39,68 @@ const WITH_LARGE: &[u8] =
 #[test]
 fn a_large_binary_is_named(rt: HostRuntime) -> Result<(), Fail> {
     assert_eq!(rt; is_whole(rt.alloc(), WITH_LARGE), Some((3, 9, 258)));
+    Ok(())
+}
+
+/// Whether the record of an entry with one large binary is made again of its graph, and the graph's skeleton has no bytes.
+fn is_made_again(alloc: Global, record: &[u8], object: u32, bytes: &[u8]) -> Option<bool> {
+    let row = read_entry(alloc, record).ok()?;
+    let [large] = row.larges.list() else {
+        return None;
+    };
+    if bytes.len() != large.length as usize {
+        return None;
+    }
+    let mut given = Vec::new(alloc);
+    given.push(Vec::from_slice(alloc, bytes).ok()?).ok()?;
+    let graph = filled(alloc, &row, given).ok()?;
+    let bare = skeleton(alloc, &graph).ok()?;
+    if larges_of(alloc, &bare)
+        .ok()?
+        .iter()
+        .any(|left| !left.is_empty())
+    {
+        return Some(false);
+    }
+    let larges = larges_of(alloc, &graph).ok()?;
+    if larges.len() != 1 || larges[0].as_slice() != bytes {
+        return Some(false);
+    }
+    let again = row_of(alloc, row.soup, row.uid, row.time, &graph, &[object]).ok()?;
+    let written = write_entry(alloc, &again).ok()?;
+    Some(written.as_slice() == record)
+}
+
+#[test]
+fn a_large_binary_is_filled_in(rt: HostRuntime) -> Result<(), Fail> {
+    assert_eq!(rt;
+        is_made_again(rt.alloc(), WITH_LARGE, 4, b"hello"),
+        Some(true)
+    );
+    Ok(())
+}
+
+#[test]
+fn bad_large_binaries_are_refused(rt: HostRuntime) -> Result<(), Fail> {
+    let alloc = rt.alloc();
+    let head =
+        b"\x00\x03\x00\x01\x00\x00\x00\x09\x00\x00\x01\x02\x02\x06\x01\x07\x01\x61\x0C\x07\x01b\x00\x00\x00\x00\x00\x00\x00\x00\x00\x00\x00\x00\x00\x00\x00\x00\x00".as_slice();
+    for (row, bad) in [
+        (
+            b"\x00\x00\x00\x02\x00\x00\x00\x04\x00\x00\x00\x05".as_slice(),
+            false,
+        ),
+        (b"\x00\x00\x00\x02\x00\x00\x00\x04\x00\x0F\x42\x40", false),
+        (b"\x00\x00\x00\x02\x00\x00\x00\x04\x00\x0F\x42\x41", true),
+        (b"\x00\x00\x00\x01\x00\x00\x00\x04\x00\x00\x00\x05", true),
+        (b"\x00\x00\x00\x02\x00\x00\x00\x05\x00\x00\x00\x05", true),
+        (b"\x00\x00\x00\x02\x00\x00\x00\x00\x00\x00\x00\x05", true),
+        (b"", true),
+    ] {
+        let mut bytes = Vec::from_slice(alloc, head)?;
+        bytes.extend_from_slice(row)?;
+        assert_eq!(rt; is_bad(alloc, &bytes), bad);
+    }
     Ok(())
 }
 

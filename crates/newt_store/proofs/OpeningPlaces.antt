@@ -53,6 +53,9 @@ same-key a b s u = go (a == s) refl (b == u) refl
     go true p false q = inr (λ e f. not_true (b == u) (eq-eqb b u f) q)
     go false p y q = inr (λ e f. not_true (a == s) (eq-eqb a s e) p)
 
+pub odd-is : (n : ℕ) → n % 2 ≢ 0 → n % 2 ≡ 1
+odd-is n odd = omega (arith, odd)
+
 same-number : (a b : ℕ) → (a ≡ b) ⊎ (a ≢ b)
 same-number a b = go (a == b) refl
   where
@@ -66,8 +69,8 @@ among-or-not (x ∷ ids) o = go (same-number x o) (among-or-not ids o)
   where
     go : (x ≡ o) ⊎ (x ≢ o) → Among ids o ⊎ (Among ids o → ⊥) → Among (x ∷ ids) o ⊎ (Among (x ∷ ids) o → ⊥)
     go (inl same) rest = inl (inl same)
-    go (inr no) (inl m) = inl (inr m)
-    go (inr no) (inr out) = inr (λ m. ⊎_elim no out m)
+    go (inr other) (inl m) = inl (inr m)
+    go (inr other) (inr out) = inr (λ m. ⊎_elim other out m)
 
 -- ---- one place more
 

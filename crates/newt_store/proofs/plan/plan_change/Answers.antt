@@ -1,8 +1,9 @@
-use Rattle.std.proofs.Common.{◌*◌, sym, subst, IfErr}
+use Rattle.std.proofs.Common.{◌*◌, sym, subst, IfOk, IfErr}
 use Rattle.newt_host.specs.Outside.{Spends}
 use Rattle.newt_base.specs.Refusals.{first_of}
 use Rattle.newt_store.specs.declared.change.Change.{Change}
 use Rattle.newt_store.specs.Change.{first_checks, entry_moved, pages_of_entry}
+use Rattle.newt_store.specs.Next.{IsPlanOf}
 use Rattle.newt_store.specs.Stands.{RefusesWith}
 use Rattle.newt_store.proofs.Planned.{reads-nothing}
 use Rattle.newt_store.proofs.plan.plan_change.Goals as goal
@@ -38,3 +39,51 @@ returns-in-DropIndex-clause-costs g c = λ tells s stands. reads-nothing (g.P.Pa
 
 pub returns-in-SetTags-clause-costs : goal.returns-in-SetTags-clause-costs
 returns-in-SetTags-clause-costs g c = λ tells s stands. reads-nothing (g.P.PageBook.place c.args.book.now) (512 * pages_of_entry (entry_moved c.args.change s)) (g.H.Host.outside c.args.host.now)
+
+pub returns-in-MakeSoup-clause-planned : goal.returns-in-MakeSoup-clause-planned
+returns-in-MakeSoup-clause-planned g c = λ tells s stands. subst (λ (ch : Change). IfOk c.plan_make.result (IsPlanOf c.args.catalog.now ch c.args.now s)) (sym c.in-MakeSoup.is) (c.plan_make.ensures.planned c.args.now stands.texts s stands.describes)
+
+pub returns-in-MakeSoup-clause-refused : goal.returns-in-MakeSoup-clause-refused
+returns-in-MakeSoup-clause-refused g c = λ tells s stands. subst (λ (ch : Change). IfErr c.plan_make.result (RefusesWith (first_of (first_checks ch s)))) (sym c.in-MakeSoup.is) (c.plan_make.ensures.refused stands.texts s stands.describes)
+
+pub returns-in-DropSoup-clause-planned : goal.returns-in-DropSoup-clause-planned
+returns-in-DropSoup-clause-planned g c = λ tells s stands. subst (λ (ch : Change). IfOk c.plan_drop.result (IsPlanOf c.args.catalog.now ch c.args.now s)) (sym c.in-DropSoup.is) (c.plan_drop.ensures.planned c.args.now stands.texts s stands.describes)
+
+pub returns-in-DropSoup-clause-refused : goal.returns-in-DropSoup-clause-refused
+returns-in-DropSoup-clause-refused g c = λ tells s stands. subst (λ (ch : Change). IfErr c.plan_drop.result (RefusesWith (first_of (first_checks ch s)))) (sym c.in-DropSoup.is) (c.plan_drop.ensures.refused stands.texts s stands.describes)
+
+pub returns-in-Add-clause-planned : goal.returns-in-Add-clause-planned
+returns-in-Add-clause-planned g c = λ tells s stands. subst (λ (ch : Change). IfOk c.plan_add.result (IsPlanOf c.args.catalog.now ch c.args.now s)) (sym c.in-Add.is) (c.plan_add.ensures.planned stands.texts s stands.describes)
+
+pub returns-in-Add-clause-refused : goal.returns-in-Add-clause-refused
+returns-in-Add-clause-refused g c = λ tells s stands. subst (λ (ch : Change). IfErr c.plan_add.result (RefusesWith (first_of (first_checks ch s)))) (sym c.in-Add.is) (c.plan_add.ensures.refused stands.texts s stands.describes)
+
+pub returns-in-Remove-clause-planned : goal.returns-in-Remove-clause-planned
+returns-in-Remove-clause-planned g c = λ tells s stands. subst (λ (ch : Change). IfOk c.plan_remove.result (IsPlanOf c.args.catalog.now ch c.args.now s)) (sym c.in-Remove.is) (c.plan_remove.ensures.planned c.args.now stands.texts s stands.describes)
+
+pub returns-in-Remove-clause-refused : goal.returns-in-Remove-clause-refused
+returns-in-Remove-clause-refused g c = λ tells s stands. subst (λ (ch : Change). IfErr c.plan_remove.result (RefusesWith (first_of (first_checks ch s)))) (sym c.in-Remove.is) (c.plan_remove.ensures.refused stands.texts s stands.describes)
+
+pub returns-in-Replace-clause-planned : goal.returns-in-Replace-clause-planned
+returns-in-Replace-clause-planned g c = λ tells s stands. subst (λ (ch : Change). IfOk c.plan_replace.result (IsPlanOf c.args.catalog.now ch c.args.now s)) (sym c.in-Replace.is) (c.plan_replace.ensures.planned stands.texts s stands.describes)
+
+pub returns-in-Replace-clause-refused : goal.returns-in-Replace-clause-refused
+returns-in-Replace-clause-refused g c = λ tells s stands. subst (λ (ch : Change). IfErr c.plan_replace.result (RefusesWith (first_of (first_checks ch s)))) (sym c.in-Replace.is) (c.plan_replace.ensures.refused stands.texts s stands.describes)
+
+pub returns-in-AddIndex-clause-planned : goal.returns-in-AddIndex-clause-planned
+returns-in-AddIndex-clause-planned g c = λ tells s stands. subst (λ (ch : Change). IfOk c.plan_add_index.result (IsPlanOf c.args.catalog.now ch c.args.now s)) (sym c.in-AddIndex.is) (c.plan_add_index.ensures.planned c.args.now stands.texts s stands.describes)
+
+pub returns-in-AddIndex-clause-refused : goal.returns-in-AddIndex-clause-refused
+returns-in-AddIndex-clause-refused g c = λ tells s stands. subst (λ (ch : Change). IfErr c.plan_add_index.result (RefusesWith (first_of (first_checks ch s)))) (sym c.in-AddIndex.is) (c.plan_add_index.ensures.refused stands.texts s stands.describes)
+
+pub returns-in-DropIndex-clause-planned : goal.returns-in-DropIndex-clause-planned
+returns-in-DropIndex-clause-planned g c = λ tells s stands. subst (λ (ch : Change). IfOk c.plan_drop_index.result (IsPlanOf c.args.catalog.now ch c.args.now s)) (sym c.in-DropIndex.is) (c.plan_drop_index.ensures.planned c.args.now stands.texts s stands.describes)
+
+pub returns-in-DropIndex-clause-refused : goal.returns-in-DropIndex-clause-refused
+returns-in-DropIndex-clause-refused g c = λ tells s stands. subst (λ (ch : Change). IfErr c.plan_drop_index.result (RefusesWith (first_of (first_checks ch s)))) (sym c.in-DropIndex.is) (c.plan_drop_index.ensures.refused stands.texts s stands.describes)
+
+pub returns-in-SetTags-clause-planned : goal.returns-in-SetTags-clause-planned
+returns-in-SetTags-clause-planned g c = λ tells s stands. subst (λ (ch : Change). IfOk c.plan_set_tags.result (IsPlanOf c.args.catalog.now ch c.args.now s)) (sym c.in-SetTags.is) (c.plan_set_tags.ensures.planned c.args.now stands.texts s stands.describes)
+
+pub returns-in-SetTags-clause-refused : goal.returns-in-SetTags-clause-refused
+returns-in-SetTags-clause-refused g c = λ tells s stands. subst (λ (ch : Change). IfErr c.plan_set_tags.result (RefusesWith (first_of (first_checks ch s)))) (sym c.in-SetTags.is) (c.plan_set_tags.ensures.refused stands.texts s stands.describes)
