@@ -82,7 +82,7 @@ module _ (catalog : Catalog) (s : Store) (places-sound : AreSoundPlaces (held ca
         let is : bare moved ≡ bare_store next.directory = removed_bare p.name uid (change_soup q.name (add_entry now e.graph) s) ∙ added_bare s target q d.formed goal now e.graph ∙ ap (take_uid_of target) d.bare_is ∙ sym adds.directory in
         let of = adds.of_graph in
         let w = moved_lies source uid old-id target adds.entry.id now (large_ids adds.entry) e.graph old new place-now place names s p q d.lies d.formed found goal (d.lies.skeletons source e is_in) time room
-            (in_valid s source e d.formed is_in q.next_uid now) (record {
+        (in_valid s source e d.formed is_in q.next_uid now) (record {
           odd = of.ids.odd;
           is_new = free-in catalog s places-sound names-sound old adds.entry.id d (odd-is-not adds.entry.id of.ids.odd) adds.free;
           are_new = λ o m. free-in catalog s places-sound names-sound old o d (above-is-not o (of.ids.even o m).1) (adds.larges_free o m);
