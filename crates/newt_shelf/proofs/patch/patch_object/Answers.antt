@@ -82,7 +82,7 @@ returns-in-Ok-clause-patched g c = λ tells before text holds at.
     let low : c.args.at + length c.args.bytes.now ≤ x.0.length = inside _ (held c.args.objects.now c.args.id) x.0 (c.args.at + length c.args.bytes.now) x.1 c.in-Ok.ensures.past (λ is. no-error is) in
     on-both (HoldsObjects (image u (o c.commit_patch.new.host).now) after) (c.args.at + length c.args.bytes.now ≤ length text) c.commit_patch.result
     (with-place (λ (v : ℕ). HoldsObjects (image v (o c.commit_patch.new.host).now) after) c.commit_patch.result (g.P.PageBook.place c.plan_patch.new.book) u c.plan_patch.ensures.same.0
-        (c.commit_patch.ensures.holds tells live after (ap pages e ∙ holds.of_image) would))
+    (c.commit_patch.ensures.holds tells live after (ap pages e ∙ holds.of_image) would))
     (omega (arith, size, low))
 
 only-full : {T : Type 0} (r : Result T StoreFault) (x : Refusal) → IfErr r (RefusesOnly Full) → IsErrOf r (Refused x) → IsErrOf r (Refused Full)
@@ -115,7 +115,7 @@ returns-in-Ok-clause-any_moment g c = λ tells before text holds at.
     let after : Texts = map.insert before c.args.id (overwritten text c.args.at c.args.bytes.now) in
     subst (λ (x : Moment). Leaves u (IsBeforeOrPatched (image u x) before after) x n) c.plan_patch.ensures.moment
     (subst (λ (v : ℕ). Leaves v (IsBeforeOrPatched (image v m') before after) m' n) c.plan_patch.ensures.same.0
-        (c.commit_patch.ensures.any_moment tells live before after (ap pages e ∙ holds.of_image) holds.are would))
+    (c.commit_patch.ensures.any_moment tells live before after (ap pages e ∙ holds.of_image) holds.are would))
 
 the-range : {r : Result (Unit {0}) RangeFault} {fault : RangeFault} → r ≡ Err fault → fault ≡ Range → r ≡ Err Range
 the-range is range = is ∙ ap (λ (f : RangeFault). let r : Result (Unit {0}) RangeFault = Err f in r) range
