@@ -19,3 +19,4 @@ pub mod OpeningPlaces
 pub mod Sums
 pub mod Going
 pub mod Counting
+pub mod Patching

@@ -1,6 +1,6 @@
 -- What each change does to a plain store, and what it is refused for. Soups are named by their signatures. What the changes do to stores, soups and entries
 -- is Newton's (Newton Programmer's Guide 2.0); the refusals and their order are this project's own.
-use Rattle.std.specs.Prelude.{ℕ, ◌+◌, ◌*◌, ◌/◌, Bool, true, false, cond, not, ◌==◌, ◌||◌, nat_lt, nat_le, List, [], ◌∷◌, ◌++◌, map, length, slice_get, Option, Some, None, is_some, is_none, unwrap_or, option_map, option_and_then}
+use Rattle.std.specs.Prelude.{ℕ, ◌+◌, ◌*◌, Bool, true, false, cond, not, ◌==◌, ◌||◌, nat_lt, nat_le, List, [], ◌∷◌, ◌++◌, map, length, slice_get, Option, Some, None, is_some, is_none, unwrap_or, option_map, option_and_then}
 use Rattle.std.specs.List.{list_any}
 use Rattle.newt_base.specs.declared.Refusal.{Refusal}
 use Rattle.newt_base.specs.declared.Refusal.TheVariants.{Soup as NoSoup, Exists, Entry as NoEntry, Notframe, Limit, Size, Ids, Full, Range, Path as NoPath, Index as BadIndex}
@@ -17,6 +17,7 @@ use Rattle.newt_graph.specs.declared.node.Node.{Node}
 use Rattle.newt_graph.specs.declared.node.Node.TheVariants.{Large}
 use Rattle.newt_spec_store.specs.Keys.{IndexSpec, Path, paths_of, same_paths}
 use Rattle.newt_soupdir.specs.Changes.{soup_of, with_index, without_index, with_tags}
+use Rattle.newt_shelf.specs.Patch.{patch_bytes}
 use Rattle.newt_store.specs.declared.change.Change.{Change}
 use Rattle.newt_store.specs.declared.change.Change.TheVariants.{MakeSoup, DropSoup, Add, Remove, Move, Replace, Patch, AddIndex, DropIndex, SetTags}
 
@@ -222,7 +223,7 @@ pages_gone change s = directory_pages s + pages_removed change s
 
 -- The bytes of a batch: 516 for each page that it writes, 4 for each that it lets go, and 9 beside them. A patch writes one page more than its bytes fill.
 abbrev pub bytes_of : Change → ℕ → Store → ℕ
-bytes_of (Patch sig uid node at bytes) now s = 516 * ((length bytes + 499) / 500 + 1) + 9
+bytes_of (Patch sig uid node at bytes) now s = patch_bytes (length bytes)
 bytes_of change now s = 516 * pages_put change now s + 4 * pages_gone change s + 9
 
 -- the most bytes that a change programs: none where it is refused, else those of its batch

@@ -1,5 +1,7 @@
 // Bytes of an entry's large binary are overwritten.
-ghost use Rattle.std.specs.Prelude.{IsTrue, ◌≡◌, ◌*◌, ℕ, List, None, IsSome, OnOk, IfOk, IfErr};
+ghost use Rattle.std.specs.Prelude.{IsTrue, ◌≡◌, ◌==◌, ◌*◌, ℕ, List, None, IsSome, OnOk, IfOk, IfErr};
+ghost use Rattle.std.specs.List.{find};
+ghost use Rattle.std.specs.Option.{option_map};
 ghost use Rattle.newt_base.specs.Refusals.{first_of};
 ghost use Rattle.newt_objects.specs.Held.{held};
 ghost use Rattle.newt_host.specs.Moments.{image, Leaves};
@@ -24,11 +26,13 @@ use newt_shelf::{StoreFault, patch_object};
 use std::alloc::Global;
 
 // The row of the large binary with this node, if there is one.
-fn row_of_node(rows: &[LargeAt], node: u32) -> Option<LargeAt> {
-    rows.iter().find(|row| row.node == node).copied()
+fn row_of_node(rows: &[LargeAt], node: u32) -> Option<&LargeAt>
+    ensures { option_map (λ row. row.now) result ≡ find (λ row. row.node == node) rows.now }
+{
+    rows.iter().find(|row| row.node == node)
 }
 
-// The object of an entry's large binary: the node of this number.
+// The object of an entry's large binary: the node of this number. One that is not there is answered like want of memory.
 fn find_large<P: PageBook, H: Host>(
     alloc: Global,
     host: &mut H,
@@ -60,7 +64,7 @@ fn find_large<P: PageBook, H: Host>(
     let Some(large) = row_of_node(row.larges.list(), node) else {
         return Err(StoreFault::Refused(Refusal::Path));
     };
-    if catalog.objects.length(large.object) != Some(large.length) {
+    if catalog.objects.length(large.object).is_none() {
         return Err(StoreFault::Stop(Stop::Memory));
     }
     Ok(large.object)
