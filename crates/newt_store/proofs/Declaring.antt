@@ -1,6 +1,5 @@
 -- A soup whose declarations change: its indexes and its tags.
 use Rattle.std.proofs.Common.{◌≡◌, ℕ, ◌<◌, ◌≤◌, ◌==◌, Bool, IsTrue, true, false, not, nat_le, List, [], ◌∷◌, length, Option, Some, None, refl, sym, ◌∙◌, ap, subst, arith, map, cond}
-use Rattle.std.specs.List.{list_all}
 use Rattle.std.specs.Option.{is_some, is_none}
 use Rattle.std.proofs.lemmas.Bool.{eq-eqb, eqb-true}
 use Rattle.std.proofs.lemmas.Bool.Decides.{nat_tests}
@@ -14,7 +13,6 @@ use Rattle.newt_spec_graph.proofs.Lists.{each-from, both-ways}
 use Rattle.newt_spec_store.specs.Cost.{cost, counted, part_bytes, soup_bytes, soup_pages}
 use Rattle.newt_spec_store.specs.Keys.{IndexSpec, Path, paths_of, same_paths}
 use Rattle.newt_spec_store.specs.Laid.{bare}
-use Rattle.newt_spec_store.specs.Lies.{Places, LiesIn, graph_has_no_large, has_no_large}
 use Rattle.newt_spec_store.specs.Store.{Soup, Store, Entry, TagTable, change_first, change_soup}
 use Rattle.newt_spec_store.specs.Valid.{well_formed, valid_soup, valid_spec, valid_tags}
 use Rattle.newt_soupdir.specs.Bare.{bare_store}
@@ -26,18 +24,18 @@ use Rattle.newt_laws_changes.proofs.Chosen.{same-text, soup-there, found_by_name
 use Rattle.newt_laws_changes.proofs.Costs.{costs-less, directory-length, soup-length, total-filter, total-first}
 use Rattle.newt_laws_changes.proofs.Members.{same-sig, same-name}
 use Rattle.newt_laws_changes.proofs.Replaced.{declared_lies}
-use Rattle.newt_laws_changes.proofs.Soups.{first-all, filter-all, filter-apart, filter-length, push-all, push-apart, push-length, with-soup}
+use Rattle.newt_laws_changes.proofs.Soups.{filter-all, filter-apart, filter-length, push-all, push-apart, push-length, with-soup}
+use Rattle.newt_shelf.specs.Names.{names_of}
 use Rattle.newt_shelf.specs.Places.{place_of}
 use Rattle.newt_store.specs.declared.catalog.Catalog.{Catalog}
 use Rattle.newt_store.specs.declared.change.Change.TheVariants.{AddIndex, DropIndex, SetTags}
 use Rattle.newt_store.specs.declared.next.Gone.TheVariants.{Nothing}
-use Rattle.newt_store.specs.declared.next.Next.{Next}
 use Rattle.newt_store.specs.Change.{first_checks, changed_soup, has_paths, specs_of}
 use Rattle.newt_store.specs.Next.{Turns, IsPlanOf}
 use Rattle.newt_store.specs.Stands.{Describes}
 use Rattle.newt_store.proofs.Found.{emptied, emptied-some, soup-same, soup-some}
 use Rattle.newt_store.proofs.Planned.{first-holds, first-not, none-over, none-some, bare-bare}
-use Rattle.newt_store.proofs.Turning.{bytes-of}
+use Rattle.newt_store.proofs.Turning.{bytes-of, next-alone, others-alone, names-alone, lies-over}
 
 -- ---- a change of declarations alone
 
@@ -134,10 +132,6 @@ module _ (s : Store) (sig : ℕ) (p : Soup) (w : IsTrue (well_formed s)) (found 
       (λ q here ok. let same : p ≡ q = some_inj p q (sym (found_by_name sig s p w found) ∙ here) in
       subst (λ (r : Soup). valid_soup (f r) ≡ true) same (good (subst (λ (r : Soup). valid_soup r ≡ true) (sym same) ok)))
 
-declared-plain : (name : List ℕ) (f : Soup → Soup) (s : Store) → Declares f → has_no_large s ≡ true → has_no_large (change_soup name f s) ≡ true
-declared-plain name f s is plain = first-all (λ p. list_all (λ e. graph_has_no_large e.graph) p.entries) (λ p. equal_text p.name name) f s.soups plain
-    (λ p _ ok. ap (list_all (λ (e : Entry). graph_has_no_large e.graph)) (is.entries p) ∙ ok)
-
 -- an index less, and the store costs no more
 pub undeclared-cost : (name : List ℕ) (paths : List Path) (s : Store) → cost (change_soup name (without_index paths) s) ≤ cost s
 undeclared-cost name paths s = costs-less s (change_soup name (without_index paths) s)
@@ -161,26 +155,26 @@ formed-declared d e sig p f is formed found good made =
 
 module _ (catalog : Catalog) (s : Store) (sig : ℕ) (p : Soup) (found : soup_of sig s ≡ Some p) (f : Soup → Soup) (declares : Declares f) (good : valid_soup p ≡ true → valid_soup (f p) ≡ true)
     (dir : Directory) (made : bare_store dir ≡ change_soup_of sig f (bare_store catalog.directory)) where
-  abbrev pub next-declared : Next
-  next-declared = record { directory = dir; entry = None; gone = Nothing; answer = 0 }
-
   abbrev then : Store
   then = change_soup p.name f s
 
-  then-bare : (texts : Objects) → Describes catalog.directory (place_of catalog.places) texts s → bare then ≡ bare_store dir
+  then-bare : (texts : Objects) → Describes catalog.directory (place_of catalog.places) (names_of catalog.names) texts s → bare then ≡ bare_store dir
   then-bare texts d = declared-bare s sig p d.formed found f declares ∙ ap (change_soup_of sig f) d.bare_is ∙ sym made
 
-  pub turns-declared : Turns catalog next-declared s then
+  pub turns-declared : Turns catalog (next-alone dir 0) s then
   turns-declared = record {
-    described = λ before after place d are places.
+    described = λ before after place names d are places named.
         let is : bare then ≡ bare_store dir = then-bare before d in
         let same : place ≡ place_of catalog.places = λ i t u. places.others t u (λ isnt. isnt) (λ isnt. isnt) i in
+        let w = lies-over after (place_of catalog.places) place then d.lies.named same
+        (declared_lies sig f before after (place_of catalog.places) s p d.lies d.formed found (declares.sig p) (declares.entries p) (record {
+          head_is = are.directory ∙ ap Some (bytes-of dir then is);
+          others = others-alone dir 0 (place_of catalog.places) (names_of catalog.names) before after are;
+        })) in
         record {
-          lies = subst (λ (pl : Places). LiesIn after pl then) (sym same)
-              (declared_lies s sig p d.formed found f (declares.sig p) (declares.entries p) before after (place_of catalog.places) d.lies (are.directory ∙ ap Some (bytes-of dir then is))
-              (λ id ne. are.others id ne (λ e isnt. absurd (none-some isnt)) (λ t u isnt at. isnt)));
+          lies = w.0;
+          names_are = λ r. names-alone dir 0 (place_of catalog.places) (names_of catalog.names) names named r ∙ d.names_are r ∙ sym (w.1 r);
           formed = declared-formed s sig p d.formed found f declares good;
-          simple = declared-plain p.name f s declares d.simple;
           bare_is = is;
         };
     fresh = λ texts d e isnt. absurd (none-some isnt);
@@ -190,9 +184,9 @@ module _ (catalog : Catalog) (s : Store) (sig : ℕ) (p : Soup) (found : soup_of
 
 -- ---- refused, or planned
 
-module _ (catalog : Catalog) (texts : Objects) (s : Store) (d : Describes catalog.directory (place_of catalog.places) texts s) (sig : ℕ) where
+module _ (catalog : Catalog) (texts : Objects) (s : Store) (d : Describes catalog.directory (place_of catalog.places) (names_of catalog.names) texts s) (sig : ℕ) where
   some-as : is_some (soup_of sig s) ≡ is_some (soup_of sig (bare_store catalog.directory))
-  some-as = soup-some catalog.directory (place_of catalog.places) texts s d sig
+  some-as = soup-some catalog.directory (place_of catalog.places) (names_of catalog.names) texts s d sig
 
   -- an index less
 
@@ -241,7 +235,7 @@ module _ (catalog : Catalog) (texts : Objects) (s : Store) (d : Describes catalo
 
     module _ (row : Soup) (there : soup_of sig (bare_store catalog.directory) ≡ Some row) where
       the-soup : (p : Soup) × (soup_of sig s ≡ Some p) × (emptied p ≡ row)
-      the-soup = emptied-some (soup_of sig s) row (sym (soup-same catalog.directory (place_of catalog.places) texts s d sig) ∙ there)
+      the-soup = emptied-some (soup_of sig s) row (sym (soup-same catalog.directory (place_of catalog.places) (names_of catalog.names) texts s d sig) ∙ there)
 
       same-specs : the-soup.0.specs ≡ row.specs
       same-specs = ap (λ (q : Soup). q.specs) the-soup.2

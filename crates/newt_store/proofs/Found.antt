@@ -11,7 +11,8 @@ use Rattle.newt_soupdir.specs.Changes.{soup_of}
 use Rattle.newt_soupdir.specs.declared.rows.Directory.{Directory}
 use Rattle.newt_laws_images.proofs.Made.{map-length}
 use Rattle.newt_laws_changes.proofs.Members.{entry_is_in, is_in_found}
-use Rattle.newt_laws_changes.proofs.Lying.{place-there}
+use Rattle.newt_laws_changes.proofs.Places.{place-there}
+use Rattle.newt_laws_changes.specs.Written.{Names}
 use Rattle.newt_store.specs.Change.{entry_in}
 use Rattle.newt_store.specs.Stands.{Describes}
 
@@ -37,7 +38,7 @@ pub emptied-some : (o : Option Soup) (q : Soup) → option_map emptied o ≡ Som
 emptied-some None q e = absurd (let isnt : None ≡ Some q = e in cc)
 emptied-some (Some p) q e = (p, refl, cc)
 
-module _ (directory : Directory) (place : Places) (texts : Objects) (s : Store) (d : Describes directory place texts s) where
+module _ (directory : Directory) (place : Places) (names : Names) (texts : Objects) (s : Store) (d : Describes directory place names texts s) where
   pub named-same : (name : List ℕ) → soup_named name (bare_store directory) ≡ option_map emptied (soup_named name s)
   named-same name = ap (soup_named name) (sym d.bare_is) ∙ find-emptied (λ p. equal_text p.name name) (λ p. refl) s.soups
 

@@ -17,6 +17,7 @@ use Rattle.newt_spec_store.specs.Store.{Store}
 use Rattle.newt_spec_store.specs.Cost.{cost, directory_bytes}
 use Rattle.newt_spec_store.specs.OfImage.{blocks_of}
 use Rattle.newt_spec_store.specs.ImageStore.{store_of_image}
+use Rattle.newt_spec_store.specs.Lies.{LiesIn}
 use Rattle.newt_laws_images.proofs.Gathering.{image-by-objects}
 use Rattle.newt_laws_images.proofs.Whole.{lies-read}
 use Rattle.newt_laws_changes.proofs.Fresh.{fresh_lies, fresh_formed}
@@ -67,15 +68,22 @@ fresh-cost name sig blocks short many =
     let one : pages_for (length (directory_bytes (new_store name sig))) ≡ 1 = ap pages_for (fresh-bytes name sig) ∙ one-page (length name) short in
     omega (arith, one, enough-cap blocks many)
 
+-- a fresh store lies in its directory alone
+pub fresh-lies : (name : List ℕ) (sig : ℕ) (bytes : List ℕ) → bytes ≡ directory_bytes (new_store name sig) → (lies : LiesIn (map.insert map.empty 0 bytes) (λ t u. None) (new_store name sig)) × ((r : ℕ) → lies.named r ≡ [])
+fresh-lies name sig bytes is = fresh_lies (map.insert map.empty 0 bytes) (new_store name sig) refl (record {
+  head_is = inserted-at map.empty 0 bytes ∙ ap Some is;
+  no_others = λ id ne. inserted-other map.empty 0 bytes id ne ∙ map.get-empty nat_cmp id;
+})
+
 -- and is read as the fresh store
 pub fresh-read : (name : List ℕ) (sig : ℕ) (bytes image : List ℕ) → is_name name ≡ true → length name ≤ 39 → sig ≤ 536870911 → 13 ≤ blocks_of image → bytes ≡ directory_bytes (new_store name sig)
     → HoldsObjects image (map.insert map.empty 0 bytes) → store_of_image stream_graph image ≡ Some (new_store name sig)
 fresh-read name sig bytes image good short few many is holds =
     let texts : Texts = map.insert map.empty 0 bytes in
     let s : Store = new_store name sig in
-    let lies = fresh_lies texts s refl (inserted-at map.empty 0 bytes ∙ ap Some is) (λ id ne. inserted-other map.empty 0 bytes id ne ∙ map.get-empty nat_cmp id) in
+    let lies = (fresh-lies name sig bytes is).0 in
     image-by-objects stream_graph image holds.live texts holds.of_image holds.are
-    ∙ lies-read stream_graph texts (λ t u. None) (blocks_of image) s reads_graphs lies (is-valid (blocks_of image) s (fresh_formed name sig good few) (fresh-cost name sig (blocks_of image) short many)) refl
+    ∙ lies-read stream_graph texts (λ t u. None) (blocks_of image) s reads_graphs lies (is-valid (blocks_of image) s (fresh_formed name sig good few) (fresh-cost name sig (blocks_of image) short many))
 
 pub short-name : (name : List ℕ) → is_name name ≡ true → length name ≤ 39
 short-name name good = grind (arith, nat_tests, good)

@@ -1,8 +1,8 @@
 pub mod Writing
-pub mod Simple
 pub mod Reading
 pub mod Carrying
 pub mod Rows
+pub mod Ids
 pub mod Fresh
 pub mod Found
 pub mod Turning
@@ -14,6 +14,7 @@ pub mod Declaring
 pub mod Entries
 pub mod Applying
 pub mod Opening
+pub mod Owning
 pub mod OpeningPlaces
 pub mod Sums
 pub mod Going

@@ -1,5 +1,5 @@
 -- What a change makes of a store, before it is written.
-use Rattle.std.specs.Prelude.{◌≡◌, ◌≢◌, ◌⊎◌, ℕ, ◌+◌, ◌*◌, ◌%◌, ◌≤◌, IsTrue, List, [], ◌∷◌, ◌++◌, length, flat_map, map as map_list, Option, Some, None}
+use Rattle.std.specs.Prelude.{◌≡◌, ◌≢◌, ◌⊎◌, ℕ, ◌+◌, ◌*◌, ◌<◌, ◌≤◌, IsTrue, List, [], ◌∷◌, ◌++◌, length, flat_map, map as map_list, Option, Some, None}
 use Rattle.std.specs.FinMap as map
 use Rattle.newt_image.specs.Objects.{Objects, pages_for}
 use Rattle.newt_spec_store.specs.Store.{Store}
@@ -161,6 +161,7 @@ pub record IsEntryOf (sig uid now : ℕ) (graph : RawGraph) (e : NewEntry) : Typ
   pub bytes : e.bytes.items ≡ entry_bytes sig (record { uid = uid; time = now; graph = graph }) (large_ids e)
   pub larges_are : map_list (λ l. l.bytes.items) e.larges.items ≡ map_list (λ l. l.1) (larges graph)
   pub ids : HasIds e
+  pub ids_fit : (id : ℕ) → Among (large_ids e) id → id < 4294967296
 
 -- What a new entry makes of a store: the soup's next id is taken, the entry's record and large binaries have objects that none had, and the answer is the id.
 pub record IsAdding (catalog : Catalog) (sig uid now : ℕ) (graph : RawGraph) (gone : Gone) (next : Next) : Type 0 where

@@ -15,7 +15,7 @@ ghost use Rattle.newt_soupdir.specs.Changes.{soup_of};
 ghost use Rattle.newt_store.specs.Change.{first_checks, entry_in, entry_moved, is_patch, pages_of_entry, is_too_large as too_large};
 ghost use Rattle.newt_shelf.specs.Batch.{AreOnce, large_ids};
 ghost use Rattle.newt_shelf.specs.Faults.{FaultsAt};
-ghost use Rattle.newt_shelf.specs.Names.{names_of};
+ghost use Rattle.newt_shelf.specs.Names.{names_of, AreSoundNames};
 ghost use Rattle.newt_store.specs.Next.{IsNextOf, IsPlanOf, IsAdding, IsEntryOf, IsNoDevice};
 ghost use Rattle.newt_store.specs.Stands.{Describes, StandsFor, IsSound, RefusesWith};
 ghost use Rattle.newt_shelf.specs.Places.{place_of, AreSoundPlaces};
@@ -95,6 +95,7 @@ fn is_too_large(graph: &Graph) -> bool
 fn free_even(objects: &Objects, from: u32) -> Option<u32>
     ensures free { IfSome result (λ id. held objects.now id ≡ None) }
     ensures even { IfSome result (λ id. (id % 2 ≡ 0) × (from < id)) }
+    ensures fits { IfSome result (λ id. id < 4294967296) }
 {
     for half in from / 2 + 1..HALF_IDS {
         let id = 2 * half;
@@ -113,6 +114,7 @@ fn with_ids(
 ) -> Result<Vec<NewLarge>, StoreFault>
     ensures bytes { IfOk result (λ new. map_list (λ l. l.bytes.items) new.items ≡ map_list (λ b. b.items) larges.items) }
     ensures even { IfOk result (λ new. (id : ℕ) → Among (map_list (λ l. l.id) new.items) id → (id % 2 ≡ 0) × (0 < id)) }
+    ensures fit { IfOk result (λ new. (id : ℕ) → Among (map_list (λ l. l.id) new.items) id → id < 4294967296) }
     ensures free { IfOk result (λ new. (id : ℕ) → Among (map_list (λ l. l.id) new.items) id → held objects.now id ≡ None) }
     ensures once { IfOk result (λ new. AreOnce (map_list (λ l. l.id) new.items)) }
     ensures only { IfErr result (λ fault. fault ≡ StoreFault.Stop Stop.Memory) }
@@ -152,7 +154,6 @@ fn entry_of(
 ) -> Result<NewEntry, StoreFault>
     requires small { sig < 65536 }
     requires odd { id % 2 ≡ 1 }
-    requires valid { IsTrue (valid_entry (record { uid = uid; time = now; graph = graph.now })) }
     ensures entry { IfOk result (IsEntryOf sig uid now graph.now) }
     ensures id { IfOk result (λ e. e.id ≡ id) }
     ensures free { IfOk result (λ e. (o : ℕ) → Among (large_ids e) o → held objects.now o ≡ None) }
@@ -258,6 +259,7 @@ fn plan_add(
 ) -> Result<Next, StoreFault>
     requires formed { IsTrue (well_formed (bare_store catalog.now.directory)) }
     requires places { AreSoundPlaces (held catalog.now.objects) (place_of catalog.now.places) }
+    requires names { AreSoundNames (held catalog.now.objects) (names_of catalog.now.names) }
     ensures next { IfOk result (IsNextOf catalog.now) }
     ensures planned { (texts : Texts) (s : PlainStore) → Describes catalog.now.directory (place_of catalog.now.places) (names_of catalog.now.names) texts s → IfOk result (IsPlanOf catalog.now (Change.Add sig graph.now) now s) }
     ensures refused { (texts : Texts) (s : PlainStore) → Describes catalog.now.directory (place_of catalog.now.places) (names_of catalog.now.names) texts s → IfErr result (RefusesWith (first_of (first_checks (Change.Add sig graph.now) s))) }
@@ -356,6 +358,7 @@ fn plan_replace(
 ) -> Result<Next, StoreFault>
     requires formed { IsTrue (well_formed (bare_store catalog.now.directory)) }
     requires places { AreSoundPlaces (held catalog.now.objects) (place_of catalog.now.places) }
+    requires names { AreSoundNames (held catalog.now.objects) (names_of catalog.now.names) }
     ensures next { IfOk result (IsNextOf catalog.now) }
     ensures planned { (texts : Texts) (s : PlainStore) → Describes catalog.now.directory (place_of catalog.now.places) (names_of catalog.now.names) texts s → IfOk result (IsPlanOf catalog.now (Change.Replace sig uid graph.now) now s) }
     ensures refused { (texts : Texts) (s : PlainStore) → Describes catalog.now.directory (place_of catalog.now.places) (names_of catalog.now.names) texts s → IfErr result (RefusesWith (first_of (first_checks (Change.Replace sig uid graph.now) s))) }

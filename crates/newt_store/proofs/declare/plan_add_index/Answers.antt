@@ -6,7 +6,8 @@ use Rattle.newt_soupdir.specs.Changes.{soup_of, change_soup_of, with_index}
 use Rattle.newt_soupdir.specs.declared.rows.Directory.{Directory}
 use Rattle.newt_store.specs.Change.{has_paths}
 use Rattle.newt_store.proofs.Declaring.{adds-index, valid-index, formed-declared, index-no-soup, index-there, index-limit, index-planned}
-use Rattle.newt_store.proofs.Planned.{seen-some, none-some}
+use Rattle.newt_store.proofs.Planned.{seen-some, next-plain}
+use Rattle.newt_store.specs.declared.next.Gone.TheVariants.{Nothing}
 use Rattle.newt_store.proofs.declare.plan_add_index.Goals as goal
 
 pub returns-in_default-clause-refused : goal.returns-in_default-clause-refused
@@ -28,13 +29,9 @@ pub returns-clause-next : goal.returns-clause-next
 returns-clause-next c =
     let new : has_paths (paths_of c.args.spec) c.in-Some.row.now.specs ≡ false = ap (has_paths (paths_of c.args.spec)) (sym c.list-specs.ensures) ∙ sym c.has_paths_of.ensures.has ∙ c.if-has_paths_of.false in
     let few : nat_le 16 (length c.in-Some.row.now.specs) ≡ false = ap (λ (specs : List IndexSpec). nat_le 16 (length specs)) (sym c.list-specs.ensures) ∙ sym c.are_all.ensures ∙ c.if-are_all.false in
-    record {
-      formed = formed-declared c.args.catalog.now.directory c.add_spec.new.self c.args.sig (bare_soup c.in-Some.row.now) (with_index c.args.spec) (adds-index c.args.spec) c.requires (sym c.in-Some.ensures)
-          (valid-index c.args.spec (bare_soup c.in-Some.row.now) c.has_paths_of.ensures.valid few new)
-          (c.in_ok-add_spec.ensures.added ∙ ap (λ (x : Directory). change_soup_of c.args.sig (with_index c.args.spec) (bare_store x)) c.in_ok-directory.ensures);
-      odd = λ e isnt. absurd (none-some isnt);
-      free = λ e isnt. absurd (none-some isnt);
-    }
+    next-plain c.args.catalog.now c.add_spec.new.self Nothing 0 (formed-declared c.args.catalog.now.directory c.add_spec.new.self c.args.sig (bare_soup c.in-Some.row.now) (with_index c.args.spec) (adds-index c.args.spec) c.requires (sym c.in-Some.ensures)
+    (valid-index c.args.spec (bare_soup c.in-Some.row.now) c.has_paths_of.ensures.valid few new)
+    (c.in_ok-add_spec.ensures.added ∙ ap (λ (x : Directory). change_soup_of c.args.sig (with_index c.args.spec) (bare_store x)) c.in_ok-directory.ensures))
 
 pub returns-clause-planned : goal.returns-clause-planned
 returns-clause-planned c = λ now texts s d.

@@ -5,7 +5,8 @@ use Rattle.newt_soupdir.specs.Bare.{bare_store}
 use Rattle.newt_soupdir.specs.Changes.{soup_of, change_soup_of, with_tags}
 use Rattle.newt_soupdir.specs.declared.rows.Directory.{Directory}
 use Rattle.newt_store.proofs.Declaring.{sets-tags, valid-tagged, formed-declared, tags-no-soup, tags-planned}
-use Rattle.newt_store.proofs.Planned.{seen-some, none-some}
+use Rattle.newt_store.proofs.Planned.{seen-some, next-plain}
+use Rattle.newt_store.specs.declared.next.Gone.TheVariants.{Nothing}
 use Rattle.newt_store.proofs.declare.plan_set_tags.Goals as goal
 
 pub returns-then-is_none-clause-refused : goal.returns-then-is_none-clause-refused
@@ -18,11 +19,7 @@ returns-clause-next c =
     let is : bare_store c.set_tags.new.self ≡ change_soup_of c.args.sig (with_tags (Some c.args.table)) (bare_store c.args.catalog.now.directory) =
     c.set_tags.ensures ∙ ap (λ (x : Directory). change_soup_of c.args.sig (with_tags (Some c.args.table)) (bare_store x)) c.in_ok-directory.ensures in
     let p = the_some (soup_of c.args.sig (bare_store c.args.catalog.now.directory)) some in
-    record {
-      formed = formed-declared c.args.catalog.now.directory c.set_tags.new.self c.args.sig p.0 (with_tags (Some c.args.table)) (sets-tags (Some c.args.table)) c.requires p.1 (valid-tagged (Some c.args.table) p.0 c.symbols-valid.ensures.valid) is;
-      odd = λ e isnt. absurd (none-some isnt);
-      free = λ e isnt. absurd (none-some isnt);
-    }
+    next-plain c.args.catalog.now c.set_tags.new.self Nothing 0 (formed-declared c.args.catalog.now.directory c.set_tags.new.self c.args.sig p.0 (with_tags (Some c.args.table)) (sets-tags (Some c.args.table)) c.requires p.1 (valid-tagged (Some c.args.table) p.0 c.symbols-valid.ensures.valid) is)
 
 pub returns-clause-planned : goal.returns-clause-planned
 returns-clause-planned c = λ now texts s d.

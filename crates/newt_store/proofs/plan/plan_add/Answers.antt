@@ -29,16 +29,14 @@ next_with-requires-clause-row c = (row-is (bare_store c.args.catalog.now.directo
 pub next_with-requires-clause-room : goal.next_with-requires-clause-room
 next_with-requires-clause-room c = row-room (bare_store c.args.catalog.now.directory) c.args.sig (bare_soup c.in-Some.row.now) c.requires.formed (sym c.in-Some.ensures) c.if-row-eq-LAST_ID.false
 
-pub next_with-requires-clause-plain : goal.next_with-requires-clause-plain
-next_with-requires-clause-plain c = (small-is c.args.graph.now (sym c.is_too_large.ensures ∙ c.if-is_too_large.false)).0
-
 pub next_with-requires-clause-valid : goal.next_with-requires-clause-valid
 next_with-requires-clause-valid c =
-    is-valid-graph c.in-Some.row.now.next_uid c.args.now c.args.graph.now c.is_frame.ensures.graph (sym c.is_frame.ensures.frame ∙ c.if-not-is_frame.false) (small-is c.args.graph.now (sym c.is_too_large.ensures ∙ c.if-is_too_large.false)).1
+    is-valid-graph c.in-Some.row.now.next_uid c.args.now c.args.graph.now c.is_frame.ensures.graph (sym c.is_frame.ensures.frame ∙ c.if-not-is_frame.false) (small-is c.args.graph.now (sym c.is_too_large.ensures ∙ c.if-is_too_large.false))
 
 pub returns-clause-planned : goal.returns-clause-planned
 returns-clause-planned c = λ texts s d.
-    let small = small-is c.args.graph.now (sym c.is_too_large.ensures ∙ c.if-is_too_large.false) in
     let time : c.args.now < 4294967296 = omega (arith, c.ranges.now.fits) in
-    add-planned c.args.catalog.now texts s c.args.sig c.args.now c.args.graph.now c.in-Some.row.now c.in_ok-next.next c.requires.places d (sym c.in-Some.ensures) (row-is (bare_store c.args.catalog.now.directory) c.args.sig c.in-Some.row.now (sym c.in-Some.ensures)).0 c.is_frame.ensures.graph time
-    (sym c.is_frame.ensures.frame ∙ c.if-not-is_frame.false) small.0 small.1 c.if-row-eq-LAST_ID.false (row-room (bare_store c.args.catalog.now.directory) c.args.sig (bare_soup c.in-Some.row.now) c.requires.formed (sym c.in-Some.ensures) c.if-row-eq-LAST_ID.false) c.in_ok-next.ensures.adds
+    add-planned c.args.catalog.now texts s c.args.sig c.args.now c.args.graph.now c.in-Some.row.now c.in_ok-next.next c.requires.places c.requires.names d (sym c.in-Some.ensures)
+    (row-is (bare_store c.args.catalog.now.directory) c.args.sig c.in-Some.row.now (sym c.in-Some.ensures)).0 c.is_frame.ensures.graph time (sym c.is_frame.ensures.frame ∙ c.if-not-is_frame.false)
+    (small-is c.args.graph.now (sym c.is_too_large.ensures ∙ c.if-is_too_large.false)) c.if-row-eq-LAST_ID.false
+    (row-room (bare_store c.args.catalog.now.directory) c.args.sig (bare_soup c.in-Some.row.now) c.requires.formed (sym c.in-Some.ensures) c.if-row-eq-LAST_ID.false) c.in_ok-next.ensures.adds

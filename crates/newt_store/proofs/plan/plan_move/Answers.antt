@@ -1,22 +1,19 @@
-use Rattle.std.proofs.Common.{◌≡◌, ℕ, ◌*◌, ◌<◌, not, [], Some, sym, ◌∙◌, ap, subst, arith}
+use Rattle.std.proofs.Common.{◌≡◌, ℕ, ◌*◌, ◌<◌, not, Some, sym, ◌∙◌, ap, subst, arith}
 use Rattle.std.specs.Option.{is_some}
-use Rattle.newt_host.specs.Outside.{Spends}
-use Rattle.newt_laws_images.proofs.Totals.{record-pages}
-use Rattle.newt_store.specs.Change.{entry_in, pages_of_entry}
-use Rattle.newt_store.proofs.Writing.{spends-nothing}
 use Rattle.newt_graph.specs.Graph.{RawGraph}
+use Rattle.newt_host.specs.Outside.{Spends}
 use Rattle.newt_spec_store.specs.Store.{Entry}
-use Rattle.newt_spec_store.specs.Image.{entry_bytes}
 use Rattle.newt_soupdir.specs.Bare.{bare_soup, bare_store}
 use Rattle.newt_soupdir.specs.Changes.{soup_of}
-use Rattle.newt_entries.specs.Entry.{said}
+use Rattle.newt_shelf.specs.Names.{names_of}
 use Rattle.newt_shelf.specs.Places.{place_of}
 use Rattle.newt_store.specs.declared.next.Gone.TheVariants.{OneEntry}
+use Rattle.newt_store.specs.Change.{entry_in, pages_of_entry}
 use Rattle.newt_store.specs.Next.{IsAdding}
-use Rattle.newt_store.proofs.Planned.{seen-some}
+use Rattle.newt_store.proofs.Planned.{reads-nothing, seen-some}
 use Rattle.newt_store.proofs.Adding.{row-is, row-room, last-ids}
 use Rattle.newt_store.proofs.Moving.{move-no-source, move-no-target, move-no-entry, move-ids, move-planned}
-use Rattle.newt_store.proofs.Entries.{found-at, read-same}
+use Rattle.newt_store.proofs.Entries.{found-at}
 use Rattle.newt_store.proofs.plan.plan_move.Goals as goal
 
 pub returns-then-is_none-clause-refused : goal.returns-then-is_none-clause-refused
@@ -42,55 +39,56 @@ next_with-requires-clause-row g c = (row-is (bare_store c.args.catalog.now.direc
 pub next_with-requires-clause-room : goal.next_with-requires-clause-room
 next_with-requires-clause-room g c = row-room (bare_store c.args.catalog.now.directory) c.args.target (bare_soup c.in-Some.row.now) c.requires.sound.formed (sym c.in-Some.ensures) c.if-row-eq-LAST_ID.false
 
+pub read_whole-requires-clause-there : goal.read_whole-requires-clause-there
+read_whole-requires-clause-there g c = c.requires.sound.places.there c.args.source c.args.uid c.in-Some-get.id (sym c.get.ensures ∙ c.in-Some-get.is)
+
 pub returns-clause-planned : goal.returns-clause-planned
 returns-clause-planned g c = λ tells s stands.
     let cat = c.args.catalog.now in
     let row = c.in-Some.row.now in
     let at : place_of cat.places c.args.source c.args.uid ≡ Some c.in-Some-get.id = sym c.get.ensures ∙ c.in-Some-get.is in
     let time : c.args.now < 4294967296 = omega (arith, c.ranges.now.fits) in
-    let f = found-at cat.directory (place_of cat.places) stands.texts s stands.describes c.args.source c.args.uid c.in-Some-get.id at in
-    let same = read-same cat.directory (place_of cat.places) stands.texts s stands.describes c.args.source c.args.uid c.in-Some-get.id f (said c.in_ok-entry.entry)
-    (c.in_ok-entry.ensures.row tells stands.texts (entry_bytes c.args.source f.entry []) stands.holds f.text) in
-    let graph : c.in_ok-entry.entry.skeleton ≡ f.entry.graph = ap (λ (x : ℕ × Entry). x.1.graph) same in
-    move-planned cat stands.texts s c.args.source c.args.uid c.args.target c.in-Some-get.id c.args.now f.entry row c.in_ok-next.next c.requires.sound.places stands.describes (seen-some _ c.soup_of.result (soup_of c.args.source (bare_store c.args.catalog.now.directory)) c.soup_of.ensures ∙ c.is_none.ensures ∙ ap not c.if-is_none.false) (sym c.in-Some.ensures)
-    (row-is (bare_store c.args.catalog.now.directory) c.args.target row (sym c.in-Some.ensures)).0 at f.found f.is_in f.of_uid time f.plain c.if-row-eq-LAST_ID.false (row-room (bare_store c.args.catalog.now.directory) c.args.target (bare_soup row) c.requires.sound.formed (sym c.in-Some.ensures) c.if-row-eq-LAST_ID.false)
+    let f = found-at cat.directory (place_of cat.places) (names_of cat.names) stands.texts s stands.describes c.args.source c.args.uid c.in-Some-get.id at in
+    let same = c.in_ok-entry.ensures.entry tells stands.texts c.args.source f.entry (names_of cat.names c.in-Some-get.id) stands.holds f.laid in
+    let graph : c.in_ok-entry.entry.graph ≡ f.entry.graph = ap (λ (x : Entry). x.graph) same in
+    move-planned cat stands.texts s c.args.source c.args.uid c.args.target c.in-Some-get.id c.args.now f.entry row c.in_ok-next.next c.requires.sound.places c.requires.sound.names stands.describes
+    (seen-some _ c.soup_of.result (soup_of c.args.source (bare_store c.args.catalog.now.directory)) c.soup_of.ensures ∙ c.is_none.ensures ∙ ap not c.if-is_none.false) (sym c.in-Some.ensures)
+    (row-is (bare_store c.args.catalog.now.directory) c.args.target row (sym c.in-Some.ensures)).0 at f.found f.is_in f.of_uid time c.if-row-eq-LAST_ID.false
+    (row-room (bare_store c.args.catalog.now.directory) c.args.target (bare_soup row) c.requires.sound.formed (sym c.in-Some.ensures) c.if-row-eq-LAST_ID.false)
     (subst (λ (x : RawGraph). IsAdding cat row.sig row.next_uid c.args.now x (OneEntry c.args.source c.args.uid) c.in_ok-next.next) graph c.in_ok-next.ensures.adds)
 
 pub returns-then-is_none-clause-costs : goal.returns-then-is_none-clause-costs
-returns-then-is_none-clause-costs g c = λ tells s stands. spends-nothing (g.P.PageBook.place c.args.book.now) 0 (512 * pages_of_entry (entry_in c.args.source c.args.uid s)) (g.H.Host.outside c.args.host.now)
+returns-then-is_none-clause-costs g c = λ tells s stands. reads-nothing (g.P.PageBook.place c.args.book.now) (512 * pages_of_entry (entry_in c.args.source c.args.uid s)) (g.H.Host.outside c.args.host.now)
 
 pub returns-in_default-clause-costs : goal.returns-in_default-clause-costs
-returns-in_default-clause-costs g c = λ tells s stands. spends-nothing (g.P.PageBook.place c.args.book.now) 0 (512 * pages_of_entry (entry_in c.args.source c.args.uid s)) (g.H.Host.outside c.args.host.now)
+returns-in_default-clause-costs g c = λ tells s stands. reads-nothing (g.P.PageBook.place c.args.book.now) (512 * pages_of_entry (entry_in c.args.source c.args.uid s)) (g.H.Host.outside c.args.host.now)
 
 pub returns-in_default-get-clause-costs : goal.returns-in_default-get-clause-costs
-returns-in_default-get-clause-costs g c = λ tells s stands. spends-nothing (g.P.PageBook.place c.args.book.now) 0 (512 * pages_of_entry (entry_in c.args.source c.args.uid s)) (g.H.Host.outside c.args.host.now)
+returns-in_default-get-clause-costs g c = λ tells s stands. reads-nothing (g.P.PageBook.place c.args.book.now) (512 * pages_of_entry (entry_in c.args.source c.args.uid s)) (g.H.Host.outside c.args.host.now)
 
 pub returns-then-row-eq-LAST_ID-clause-costs : goal.returns-then-row-eq-LAST_ID-clause-costs
-returns-then-row-eq-LAST_ID-clause-costs g c = λ tells s stands. spends-nothing (g.P.PageBook.place c.args.book.now) 0 (512 * pages_of_entry (entry_in c.args.source c.args.uid s)) (g.H.Host.outside c.args.host.now)
+returns-then-row-eq-LAST_ID-clause-costs g c = λ tells s stands. reads-nothing (g.P.PageBook.place c.args.book.now) (512 * pages_of_entry (entry_in c.args.source c.args.uid s)) (g.H.Host.outside c.args.host.now)
 
 pub returns-in_err-entry-clause-costs : goal.returns-in_err-entry-clause-costs
 returns-in_err-entry-clause-costs g c = λ tells s stands.
     let o = g.H.Host.outside in
     let cat = c.args.catalog.now in
-    let at : place_of cat.places c.args.source c.args.uid ≡ Some c.in-Some-get.id = sym c.get.ensures ∙ c.in-Some-get.is in
-    let f = found-at cat.directory (place_of cat.places) stands.texts s stands.describes c.args.source c.args.uid c.in-Some-get.id at in
-    subst (λ (n : ℕ). Spends (g.P.PageBook.place c.args.book.now) 0 (512 * n) (o c.args.host.now) (o c.read_row.new.host)) (record-pages c.args.source f.entry f.plain ∙ sym (ap pages_of_entry f.found))
-    (c.read_row.ensures.costs tells stands.texts (entry_bytes c.args.source f.entry []) stands.holds f.text)
+    let f = found-at cat.directory (place_of cat.places) (names_of cat.names) stands.texts s stands.describes c.args.source c.args.uid c.in-Some-get.id (sym c.get.ensures ∙ c.in-Some-get.is) in
+    subst (λ (n : ℕ). Spends (g.P.PageBook.place c.args.book.now) 0 (512 * n) (o c.args.host.now) (o c.read_whole.new.host)) (sym (ap pages_of_entry f.found))
+    (c.read_whole.ensures.costs tells stands.texts c.args.source f.entry (names_of cat.names c.in-Some-get.id) stands.holds f.laid)
 
 pub returns-in_err-next-clause-costs : goal.returns-in_err-next-clause-costs
 returns-in_err-next-clause-costs g c = λ tells s stands.
     let o = g.H.Host.outside in
     let cat = c.args.catalog.now in
-    let at : place_of cat.places c.args.source c.args.uid ≡ Some c.in-Some-get.id = sym c.get.ensures ∙ c.in-Some-get.is in
-    let f = found-at cat.directory (place_of cat.places) stands.texts s stands.describes c.args.source c.args.uid c.in-Some-get.id at in
-    subst (λ (n : ℕ). Spends (g.P.PageBook.place c.args.book.now) 0 (512 * n) (o c.args.host.now) (o c.read_row.new.host)) (record-pages c.args.source f.entry f.plain ∙ sym (ap pages_of_entry f.found))
-    (c.read_row.ensures.costs tells stands.texts (entry_bytes c.args.source f.entry []) stands.holds f.text)
+    let f = found-at cat.directory (place_of cat.places) (names_of cat.names) stands.texts s stands.describes c.args.source c.args.uid c.in-Some-get.id (sym c.get.ensures ∙ c.in-Some-get.is) in
+    subst (λ (n : ℕ). Spends (g.P.PageBook.place c.args.book.now) 0 (512 * n) (o c.args.host.now) (o c.read_whole.new.host)) (sym (ap pages_of_entry f.found))
+    (c.read_whole.ensures.costs tells stands.texts c.args.source f.entry (names_of cat.names c.in-Some-get.id) stands.holds f.laid)
 
 pub returns-clause-costs : goal.returns-clause-costs
 returns-clause-costs g c = λ tells s stands.
     let o = g.H.Host.outside in
     let cat = c.args.catalog.now in
-    let at : place_of cat.places c.args.source c.args.uid ≡ Some c.in-Some-get.id = sym c.get.ensures ∙ c.in-Some-get.is in
-    let f = found-at cat.directory (place_of cat.places) stands.texts s stands.describes c.args.source c.args.uid c.in-Some-get.id at in
-    subst (λ (n : ℕ). Spends (g.P.PageBook.place c.args.book.now) 0 (512 * n) (o c.args.host.now) (o c.read_row.new.host)) (record-pages c.args.source f.entry f.plain ∙ sym (ap pages_of_entry f.found))
-    (c.read_row.ensures.costs tells stands.texts (entry_bytes c.args.source f.entry []) stands.holds f.text)
+    let f = found-at cat.directory (place_of cat.places) (names_of cat.names) stands.texts s stands.describes c.args.source c.args.uid c.in-Some-get.id (sym c.get.ensures ∙ c.in-Some-get.is) in
+    subst (λ (n : ℕ). Spends (g.P.PageBook.place c.args.book.now) 0 (512 * n) (o c.args.host.now) (o c.read_whole.new.host)) (sym (ap pages_of_entry f.found))
+    (c.read_whole.ensures.costs tells stands.texts c.args.source f.entry (names_of cat.names c.in-Some-get.id) stands.holds f.laid)

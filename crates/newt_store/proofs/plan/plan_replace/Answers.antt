@@ -1,11 +1,19 @@
-use Rattle.std.proofs.Common.{◌<◌, not, refl, sym, ◌∙◌, ap, arith}
+use Rattle.std.proofs.Common.{◌<◌, inr, not, sym, ◌∙◌, ap, subst, arith}
 use Rattle.std.specs.Option.{is_some}
-use Rattle.newt_pagebook.proofs.Tests.{the_some}
+use Rattle.newt_pagebook.proofs.Tests.{some_inj, the_some}
+use Rattle.newt_spec_graph.specs.Lists.{Among}
+use Rattle.newt_spec_store.specs.Valid.{well_formed}
+use Rattle.newt_shelf.specs.Batch.{HasIds, large_ids}
+use Rattle.newt_shelf.specs.Places.{place_of}
+use Rattle.newt_shelf.specs.declared.batch.NewEntry.{NewEntry}
 use Rattle.newt_soupdir.specs.Bare.{bare_store}
 use Rattle.newt_soupdir.specs.Changes.{soup_of}
+use Rattle.newt_soupdir.specs.declared.rows.Directory.{Directory}
+use Rattle.newt_store.specs.declared.next.Gone.TheVariants.{Nothing}
+use Rattle.newt_store.specs.Next.{IsFree}
 use Rattle.newt_store.proofs.Adding.{soup-small}
 use Rattle.newt_store.proofs.Planned.{seen-some}
-use Rattle.newt_store.proofs.Replacing.{replace-no-soup, replace-no-entry, replace-no-frame, replace-size, replace-planned}
+use Rattle.newt_store.proofs.Replacing.{kept-place, replace-no-soup, replace-no-entry, replace-no-frame, replace-size, replace-planned}
 use Rattle.newt_store.proofs.plan.plan_replace.Goals as goal
 
 pub returns-then-is_none-clause-refused : goal.returns-then-is_none-clause-refused
@@ -27,16 +35,29 @@ returns-then-is_too_large-clause-refused c = λ texts s d.
     replace-size c.args.catalog.now texts s d c.args.sig c.args.uid c.args.graph.now (seen-some _ c.soup_of.result (soup_of c.args.sig (bare_store c.args.catalog.now.directory)) c.soup_of.ensures ∙ c.is_none.ensures ∙ ap not c.if-is_none.false)
     (ap is_some (sym c.get.ensures ∙ c.in-Some.is)) (sym c.is_frame.ensures.frame ∙ c.if-not-is_frame.false) (sym c.is_too_large.ensures ∙ c.if-is_too_large.true)
 
-pub write_entry-requires-clause-soup : goal.write_entry-requires-clause-soup
-write_entry-requires-clause-soup c =
+pub entry_of-requires-clause-small : goal.entry_of-requires-clause-small
+entry_of-requires-clause-small c =
     let p = the_some (soup_of c.args.sig (bare_store c.args.catalog.now.directory)) (seen-some _ c.soup_of.result (soup_of c.args.sig (bare_store c.args.catalog.now.directory)) c.soup_of.ensures ∙ c.is_none.ensures ∙ ap not c.if-is_none.false) in
     soup-small c.args.catalog.now.directory p.0 c.args.sig c.requires.formed p.1
+
+pub entry_of-requires-clause-odd : goal.entry_of-requires-clause-odd
+entry_of-requires-clause-odd c = c.requires.places.odd c.args.sig c.args.uid c.in-Some.id (sym c.get.ensures ∙ c.in-Some.is)
+
+pub returns-clause-next : goal.returns-clause-next
+returns-clause-next c =
+    let e = c.in_ok-entry.ensures in
+    record {
+      formed = ap (λ (x : Directory). well_formed (bare_store x)) c.in_ok-copy.ensures ∙ c.requires.formed;
+      ids = λ x is. subst HasIds (some_inj _ x is) e.entry.ids;
+      free = λ x is. subst (IsFree c.args.catalog.now Nothing) (some_inj _ x is) (inr (kept-place (place_of c.args.catalog.now.places) c.in_ok-entry.entry c.args.sig c.args.uid c.in-Some.id e.entry.of_sig e.entry.of_uid e.id (sym c.get.ensures ∙ c.in-Some.is), λ goes. goes));
+      larges_free = λ x o is m. e.free o (subst (λ (y : NewEntry). Among (large_ids y) o) (sym (some_inj _ x is)) m);
+    }
 
 pub returns-clause-planned : goal.returns-clause-planned
 returns-clause-planned c = λ texts s d.
     let time : c.args.now < 4294967296 = omega (arith, c.ranges.now.fits) in
-    replace-planned c.args.catalog.now texts s c.args.sig c.args.uid c.in-Some.id c.args.now c.args.graph.now c.in_ok-copy.field-0
-    (record { sig = c.args.sig; uid = c.args.uid; id = c.in-Some.id; bytes = c.in_ok-bytes.bytes }) d
+    let e = c.in_ok-entry.ensures in
+    replace-planned c.args.catalog.now texts s c.args.sig c.args.uid c.in-Some.id c.args.now c.args.graph.now c.in_ok-copy.field-0 c.in_ok-entry.entry c.requires.places c.requires.names d
     (seen-some _ c.soup_of.result (soup_of c.args.sig (bare_store c.args.catalog.now.directory)) c.soup_of.ensures ∙ c.is_none.ensures ∙ ap not c.if-is_none.false)
-    (sym c.get.ensures ∙ c.in-Some.is) (ap bare_store c.in_ok-copy.ensures) refl refl refl c.in_ok-bytes.ensures c.is_frame.ensures.graph time
+    (sym c.get.ensures ∙ c.in-Some.is) (ap bare_store c.in_ok-copy.ensures) e.entry e.id e.free c.is_frame.ensures.graph time
     (sym c.is_frame.ensures.frame ∙ c.if-not-is_frame.false) (sym c.is_too_large.ensures ∙ c.if-is_too_large.false)
