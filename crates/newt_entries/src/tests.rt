@@ -1,4 +1,7 @@
 //! Records in bytes that were spelt by hand, with ample memory.
+ghost use Rattle.std.specs.Prelude.{◌≡◌, true, map};
+ghost use Rattle.newt_entries.specs.Entry.{row_at, fits};
+
 use crate::{EntryFault, EntryRow, filled, larges_of, read_entry, row_of, skeleton, write_entry};
 use newt_base::{Sig, Uid};
 use newt_graph::Graph;
@@ -62,7 +65,9 @@ fn written_again(
 }
 
 /// The graph of a row with one large binary, which has these bytes.
-fn filled_by(alloc: Global, row: &EntryRow, bytes: &[u8]) -> Result<Option<Graph>, AllocError> {
+fn filled_by(alloc: Global, row: &EntryRow, bytes: &[u8]) -> Result<Option<Graph>, AllocError>
+    requires { fits (map row_at row.now.larges) row.now.skeleton ≡ true }
+{
     let [large] = row.larges.list() else {
         return Ok(None);
     };
