@@ -1,5 +1,9 @@
 pub mod Spelled
 pub mod Streams
 pub mod Within
+pub mod Putting
+pub mod Fits
+pub mod Steps
 pub mod Rows
 pub mod Records
+pub mod Written

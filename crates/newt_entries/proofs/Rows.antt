@@ -168,6 +168,9 @@ the_row soup uid time text larges = record { soup = soup; uid = uid; time = time
 abbrev pub text_size : List ℕ → ℕ
 text_size bytes = length bytes - 12 - 12 * be16_at bytes 2
 
+taken : (n : ℕ) (rest : List ℕ) → n ≤ length rest → some_bytes n rest ≡ Some (take n rest, drop n rest)
+taken n rest h = rw (le-leb n (length rest) h) refl
+
 pub row_read : (bytes : List ℕ) → 12 ≤ length bytes → 12 * be16_at bytes 2 ≤ length bytes - 12
     → entry_row bytes ≡ Some (the_row (be16_at bytes 0) (be32_at bytes 4) (be32_at bytes 8) (take (text_size bytes) (drop 12 bytes)) (rows_in (be16_at bytes 2) (drop (text_size bytes) (drop 12 bytes))))
 row_read bytes h room =
@@ -181,9 +184,6 @@ row_read bytes h room =
     (larges_read (be16_at bytes 2) (drop (text_size bytes) rest) (omega (arith, left)))
     ∙ ap (λ (bs : List ℕ). Some (the_row (be16_at bytes 0) (be32_at bytes 4) (be32_at bytes 8) (take (text_size bytes) rest) (rows_in (be16_at bytes 2) (drop (text_size bytes) rest)), bs))
     (drop_all (12 * be16_at bytes 2) (drop (text_size bytes) rest) (omega (arith, left))))
-  where
-    taken : (n : ℕ) (rest : List ℕ) → n ≤ length rest → some_bytes n rest ≡ Some (take n rest, drop n rest)
-    taken n rest h = rw (le-leb n (length rest) h) refl
 
 pub row_short : (bytes : List ℕ) → 12 ≤ length bytes → length bytes - 12 < 12 * be16_at bytes 2 → entry_row bytes ≡ None
 row_short bytes h room =
@@ -192,5 +192,25 @@ row_short bytes h room =
     let none : text_size bytes ≡ 0 = omega (arith, room) in
     ap whole_of (head_read (length bytes - 12) bytes h
     ∙ ap (λ (n : ℕ). (some_bytes n >>= λ text. times (be16_at bytes 2) large_row >>= λ ls. give (the_row (be16_at bytes 0) (be32_at bytes 4) (be32_at bytes 8) text ls)) rest) none
+    ∙ ap (option_and_then (λ (r : List ℕ × List ℕ). (times (be16_at bytes 2) large_row >>= λ ls. give (the_row (be16_at bytes 0) (be32_at bytes 4) (be32_at bytes 8) r.0 ls)) r.1)) (taken 0 rest (omega arith))
     ∙ ap (option_and_then (λ (r : List LargeRow × List ℕ). Some (the_row (be16_at bytes 0) (be32_at bytes 4) (be32_at bytes 8) [] r.0, r.1)))
     (larges_short (be16_at bytes 2) rest (omega (arith, size, room))))
+
+pub row_headless : (bytes : List ℕ) → length bytes < 12 → entry_row bytes ≡ None
+row_headless bytes h = ap whole_of (go (le_or_lt 2 (length bytes)))
+  where
+    last : 2 ≤ length bytes → 2 ≤ length (drop 2 bytes) → (4 ≤ length (drop 2 (drop 2 bytes))) ⊎ (length (drop 2 (drop 2 bytes)) < 4) → entry_fields (length bytes - 12) bytes ≡ None
+    last a b (inr c) = reads 2 (from_count (length bytes - 12)) bytes a ∙ reads 2 (from_uid (length bytes - 12) (value 2 bytes)) (drop 2 bytes) b
+        ∙ none_read 4 (from_time (length bytes - 12) (value 2 bytes) (value 2 (drop 2 bytes))) (drop 2 (drop 2 bytes)) c
+    last a b (inl c) = reads 2 (from_count (length bytes - 12)) bytes a ∙ reads 2 (from_uid (length bytes - 12) (value 2 bytes)) (drop 2 bytes) b
+        ∙ reads 4 (from_time (length bytes - 12) (value 2 bytes) (value 2 (drop 2 bytes))) (drop 2 (drop 2 bytes)) c
+        ∙ none_read 4 (from_text (length bytes - 12) (value 2 bytes) (value 2 (drop 2 bytes)) (value 4 (drop 2 (drop 2 bytes)))) (drop 4 (drop 2 (drop 2 bytes)))
+        (omega (arith, length-drop 4 (drop 2 (drop 2 bytes)), length-drop 2 (drop 2 bytes), length-drop 2 bytes, h))
+
+    third : 2 ≤ length bytes → (2 ≤ length (drop 2 bytes)) ⊎ (length (drop 2 bytes) < 2) → entry_fields (length bytes - 12) bytes ≡ None
+    third a (inl b) = last a b (le_or_lt 4 (length (drop 2 (drop 2 bytes))))
+    third a (inr b) = reads 2 (from_count (length bytes - 12)) bytes a ∙ none_read 2 (from_uid (length bytes - 12) (value 2 bytes)) (drop 2 bytes) b
+
+    go : (2 ≤ length bytes) ⊎ (length bytes < 2) → entry_fields (length bytes - 12) bytes ≡ None
+    go (inl a) = third a (le_or_lt 2 (length (drop 2 bytes)))
+    go (inr a) = none_read 2 (from_count (length bytes - 12)) bytes a

@@ -9,7 +9,7 @@ use Rattle.newt_graph.proofs.Follows.{form_is_found, own_form}
 use Rattle.newt_spec_graph.specs.Limits.{node_within, within_limits}
 
 -- a node that meets the rules of a graph is within the limits
-node-within : (nodes : List Node) (node : Node) → IsNode nodes node → node_within node ≡ true
+pub node-within : (nodes : List Node) (node : Node) → IsNode nodes node → node_within node ≡ true
 node-within nodes (Symbol name) h = refl
 node-within nodes (Str units) h = let k = h.few in grind arith
 node-within nodes (Binary class bytes) h = let k = h.1.few in grind arith

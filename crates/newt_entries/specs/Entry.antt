@@ -1,5 +1,5 @@
 -- Entry records as a program has them, and the graphs that texts are read as.
-use Rattle.std.specs.Prelude.{◌≡◌, ℕ, zero, suc, ◌==◌, Bool, ◌&&◌, ◌++◌, nat_lt, bytes_eq, List, [], ◌∷◌, length, map, flat_map, drop, zip, Option, Some, None, Result, Ok, Err, if◌then◌else◌}
+use Rattle.std.specs.Prelude.{◌≡◌, ℕ, zero, suc, ◌==◌, Bool, ◌&&◌, ◌++◌, nat_lt, bytes_eq, List, [], ◌∷◌, length, map, flat_map, drop, fold, zip, Option, Some, None, Result, Ok, Err, if◌then◌else◌}
 use Rattle.std.specs.List.{list_all, enumerate_from}
 use Rattle.newt_base.specs.Text.{be32, be32_at}
 use Rattle.newt_graph.specs.declared.node.Node.{Node}
@@ -11,7 +11,7 @@ use Rattle.newt_nsof_read.specs.Reading.{decoded}
 use Rattle.newt_spec_store.specs.Image.{larges, large_in}
 use Rattle.newt_spec_store.specs.Laid.{row_of_large}
 use Rattle.newt_spec_store.specs.Lies.{is_record}
-use Rattle.newt_spec_store.specs.StoreOf.{LargeRow, EntryRow as PlainRow}
+use Rattle.newt_spec_store.specs.StoreOf.{LargeRow, EntryRow as PlainRow, fill}
 use Rattle.newt_entries.specs.declared.row.EntryRow.{EntryRow}
 use Rattle.newt_entries.specs.declared.row.LargeAt.{LargeAt}
 
@@ -59,3 +59,7 @@ names_from k nodes rows =
 -- a skeleton and its rows may be those of an entry
 abbrev pub fits : List LargeRow → RawGraph → Bool
 fits rows g = is_record (record { soup = 0; uid = 0; time = 0; text = []; larges = rows }, g)
+
+-- the graph of rows and their skeleton, with these bytes in its large binaries
+abbrev pub filled : List LargeRow → RawGraph → List (List ℕ) → RawGraph
+filled rows g bs = fold fill g (zip (map (λ l. l.0) rows) bs)

@@ -7,7 +7,7 @@ use std::alloc::AllocError;
 /// Why bytes were not read as an entry record.
 #[derive(Clone, Copy, Debug, PartialEq, Eq)]
 pub enum EntryFault {
-    /// The bytes are no record, or one with large binaries.
+    /// The bytes are no record.
     Bad,
     /// Memory was refused.
     Memory,

@@ -6,12 +6,15 @@
 #![tactic(auto)]
 
 mod fault;
+mod fit;
+mod graphs;
 mod laws;
 mod read;
 mod row;
 mod write;
 
 pub use fault::EntryFault;
+pub use graphs::{filled, larges_of, row_of, skeleton};
 pub use laws::streams_are_read;
 pub use read::read_entry;
 pub use row::{EntryRow, LargeAt, Larges};

@@ -1,20 +1,17 @@
 //! Reading an entry record.
-ghost use Rattle.std.specs.Prelude.{◌≡◌, ◌≤◌, ◌+◌, ◌*◌, ◌&&◌, true, ℕ, List, length, map, Some, None, IfOk, IsErrOf};
-ghost use Rattle.std.specs.List.{list_all};
+ghost use Rattle.std.specs.Prelude.{◌≡◌, ◌≤◌, ◌<◌, ◌*◌, true, All, length, map, Some, None, IfOk, IsErrOf};
 ghost use Rattle.newt_base.specs.Text.{be32_at};
-ghost use Rattle.newt_graph.specs.Graph.{IsGraph};
-ghost use Rattle.newt_spec_graph.specs.Graph as words;
-ghost use Rattle.newt_spec_graph.specs.Limits.{within_limits};
-ghost use Rattle.newt_spec_store.specs.Lies.{record_read, may_be_large, stretched};
+ghost use Rattle.newt_spec_store.specs.Lies.{record_read};
 ghost use Rattle.newt_spec_store.specs.StoreOf.{written};
-ghost use Rattle.newt_entries.specs.Entry.{stream_graph, row_at, rows_in, names_from, fits, said};
+ghost use Rattle.newt_entries.specs.Entry.{stream_graph, row_at, rows_in, fits, said};
 
 use crate::fault::EntryFault;
+use crate::fit::is_fit;
 use crate::row::{EntryRow, LargeAt, Larges};
 use newt_base::{Sig, Uid, be16, be32};
-use newt_graph::{Graph, Node, Ref};
+use newt_graph::Graph;
 use newt_nsof_read::{NsofFault, decode};
-use newt_nsof_write::{encode, skeleton_len};
+use newt_nsof_write::encode;
 use std::alloc::{AllocError, Global};
 
 /// The bytes before an entry's text: soup signature, number of large binaries, id and time.
@@ -22,15 +19,6 @@ const HEAD: usize = 12;
 
 /// The bytes of the row of a large binary: node, object and length.
 const ROW: usize = 12;
-
-/// The most bytes of an entry's text.
-const MOST_TEXT: u64 = 64_000;
-
-/// The most bytes of one large binary.
-const MOST_LARGE: u32 = 1_000_000;
-
-/// The most bytes of all strings, binaries and large binaries of a graph.
-const MOST_BYTES: u64 = 16_777_216;
 
 /// The graph whose written text this is.
 fn graph_of(alloc: Global, text: &[u8]) -> Result<Graph, EntryFault>
@@ -79,87 +67,14 @@ fn rows_of(alloc: Global, bytes: &[u8], count: usize) -> Result<Vec<LargeAt>, Al
     Ok(rows)
 }
 
-/// Whether the rows name each large binary of the nodes, in order, and none of these has bytes.
-fn are_named(nodes: &[Node], rows: &[LargeAt]) -> bool
-    requires { length nodes.now ≤ 65535 }
-    ensures { result ≡ names_from 0 nodes.now (map row_at rows.now) }
-{
-    let mut left = nodes;
-    let mut named = rows;
-    let mut number = 0;
-    while let [node, rest @ ..] = left {
-        if let Node::Large(_, bytes) = node {
-            let [row, others @ ..] = named else {
-                return false;
-            };
-            if row.node != number || !bytes.list().is_empty() {
-                return false;
-            }
-            named = others;
-        }
-        left = rest;
-        number += 1;
-    }
-    named.is_empty()
-}
-
-/// Whether each object may be that of a large binary.
-fn may_be_larges(rows: &[LargeAt]) -> bool
-    ensures { result ≡ list_all may_be_large (map row_at rows.now) }
-{
-    rows.iter().all(|row| row.object % 2 == 0 && row.object > 0)
-}
-
-fn is_frame(graph: &Graph) -> bool
-    ensures { result ≡ words.is_frame (words.object graph.now.nodes graph.now.root) }
-{
-    match graph.root() {
-        Ref::Node(n) => matches!(graph.nodes().get(n as usize), Some(Node::Frame(_, _))),
-        Ref::Imm(_) => false,
-    }
-}
-
-/// The bytes of a string, a binary or a large binary.
-fn payload(node: &Node) -> u64 {
-    match node {
-        Node::Str(units) => 2 * units.list().len() as u64 + 2,
-        Node::Binary(_, bytes) | Node::Large(_, bytes) => bytes.list().len() as u64,
-        Node::Symbol(_) | Node::Array(_, _) | Node::Frame(_, _) => 0,
-    }
-}
-
-/// Whether a skeleton with as many bytes in its large binaries as the rows say is within the limits of one graph.
-fn is_within(skeleton: &Graph, rows: &[LargeAt]) -> bool
-    requires named { names_from 0 skeleton.now.nodes (map row_at rows.now) ≡ true }
-    ensures { result ≡ within_limits (stretched (map row_at rows.now) skeleton.now) }
-{
-    let mut total: u64 = 0;
-    for node in skeleton.nodes() {
-        total += payload(node);
-    }
-    for row in rows {
-        if row.length > MOST_LARGE {
-            return false;
-        }
-        total += u64::from(row.length);
-    }
-    total <= MOST_BYTES
-}
-
-/// Whether a skeleton and its rows may be those of an entry.
-fn is_fit(skeleton: &Graph, rows: &[LargeAt]) -> bool
-    ensures { result ≡ fits (map row_at rows.now) skeleton.now }
-{
-    are_named(skeleton.nodes(), rows)
-        && may_be_larges(rows)
-        && is_frame(skeleton)
-        && is_within(skeleton, rows)
-        && skeleton_len(skeleton) <= MOST_TEXT
-}
-
-/// The record that all of the bytes are read as, beside other objects.
+/// The record that all of the bytes are read as, beside other objects: at most 65,535 large binaries of at most 1,000,000 bytes each, which are those
+/// of its skeleton.
 pub fn read_entry(alloc: Global, bytes: &[u8]) -> Result<EntryRow, EntryFault>
     ensures found { IfOk result (λ row. record_read stream_graph bytes.now ≡ Some (said row)) }
+    ensures fit { IfOk result (λ row. fits (map row_at row.larges) row.skeleton ≡ true) }
+    ensures few { IfOk result (λ row. length row.larges < 65536) }
+    ensures short { IfOk result (λ row. All (λ l. l.length ≤ 1000000) row.larges) }
+    ensures soup { IfOk result (λ row. row.soup < 65536) }
     ensures bad { IsErrOf result EntryFault.Bad → record_read stream_graph bytes.now ≡ None }
 {
     if bytes.len() < HEAD {

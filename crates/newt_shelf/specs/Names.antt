@@ -5,7 +5,6 @@ use Rattle.std.specs.BTreeMap as tree
 use Rattle.std.specs.Ordering.{nat_cmp}
 use Rattle.newt_image.specs.Objects.{Table}
 use Rattle.newt_spec_graph.specs.Lists.{Among, Pairs}
-use Rattle.newt_spec_store.specs.Lies.{Places}
 use Rattle.newt_shelf.specs.declared.names.NameTable.{NameTable}
 
 -- the ids of a row, none where there is no row
@@ -21,10 +20,10 @@ names_of names id = ids_in (option_map (λ ids. ids.items) (tree.get nat_cmp nam
 abbrev pub IsReady : NameTable → ℕ → Type 0
 IsReady names id = IsSome (tree.get nat_cmp names.rows id)
 
--- Each id that is named is that of an object, even and above 0; the record that names it is at a place; no id is named twice.
-pub record AreSoundNames (table : Table) (place : Places) (names : ℕ → List ℕ) : Type 0 where
+-- Each id that is named is that of an object, even and above 0; the record that names it is an object with an odd id; no id is named twice.
+pub record AreSoundNames (table : Table) (names : ℕ → List ℕ) : Type 0 where
   pub there : (r o : ℕ) → Among (names r) o → IsSome (table o)
   pub even : (r o : ℕ) → Among (names r) o → (o % 2 ≡ 0) × (0 < o)
-  pub placed : (r o : ℕ) → Among (names r) o → (sig : ℕ) × (uid : ℕ) × (place sig uid ≡ Some r)
+  pub records : (r o : ℕ) → Among (names r) o → IsSome (table r) × (r % 2 ≡ 1)
   pub by_one : (r q o : ℕ) → Among (names r) o → Among (names q) o → r ≡ q
   pub once : (r : ℕ) → Pairs (λ a b. a ≢ b) (names r)

@@ -93,7 +93,7 @@ module _ (catalog : Catalog) (s : Store) (sig : ℕ) (p : Soup) (found : soup_of
       let low : w.0.uid < p.next_uid = in-below s sig p d.formed found w.0 w.1 in
       absurd (omega (arith, low, w.2)))
 
-  module _ (places-sound : AreSoundPlaces (held catalog.objects) place-now) (names-sound : AreSoundNames (held catalog.objects) place-now names-now)
+  module _ (places-sound : AreSoundPlaces (held catalog.objects) place-now) (names-sound : AreSoundNames (held catalog.objects) names-now)
       (now : ℕ) (g : RawGraph) (graph : IsGraph (skeleton g)) (time : now < 4294967296) (room : p.next_uid < 536870911) (valid : IsTrue (valid_entry (record { uid = p.next_uid; time = now; graph = g })))
       (next : Next) (adds : IsAdding catalog sig p.next_uid now g Nothing next) where
     goes-not : (t u : ℕ) → Goes next.gone t u → ⊥
@@ -209,7 +209,7 @@ pub added-pages : (catalog : Catalog) (sig uid now : ℕ) (g : RawGraph) (gone :
 added-pages catalog sig uid now g gone next adds = ap new_pages adds.is_entry ∙ entry-pages sig uid now g adds.entry adds.of_graph
 
 pub add-planned : (catalog : Catalog) (texts : Objects) (s : Store) (sig now : ℕ) (g : RawGraph) (row : SoupRow) (next : Next) → AreSoundPlaces (held catalog.objects) (place_of catalog.places)
-    → AreSoundNames (held catalog.objects) (place_of catalog.places) (names_of catalog.names) → Describes catalog.directory (place_of catalog.places) (names_of catalog.names) texts s
+    → AreSoundNames (held catalog.objects) (names_of catalog.names) → Describes catalog.directory (place_of catalog.places) (names_of catalog.names) texts s
     → soup_of sig (bare_store catalog.directory) ≡ Some (bare_soup row) → row.sig ≡ sig → IsGraph g → now < 4294967296 → is_frame (object g.nodes g.root) ≡ true → skeleton_length g ≤ 64000 → row.next_uid ≢ 536870911 → row.next_uid < 536870911
     → IsAdding catalog row.sig row.next_uid now g Nothing next → IsPlanOf catalog (Add sig g) now s next
 add-planned catalog texts s sig now g row next places-sound names-sound d is of_sig graph time frame short last room adds =

@@ -22,11 +22,12 @@ use Rattle.newt_shelf.specs.declared.fault.StoreFault.{StoreFault}
 use Rattle.newt_shelf.specs.declared.fault.StoreFault.TheVariants.{Refused, Stop}
 use Rattle.newt_shelf.specs.Faults.{RefusesOnly, FaultsAt}
 use Rattle.newt_shelf.specs.Batch.{new_pages}
+use Rattle.newt_shelf.specs.Names.{names_of}
 use Rattle.newt_shelf.specs.Places.{place_of}
 use Rattle.newt_store.specs.declared.catalog.Catalog.{Catalog}
 use Rattle.newt_store.specs.declared.change.Change.{Change}
-use Rattle.newt_store.specs.declared.change.Change.TheVariants.{MakeSoup, DropSoup, Add, Remove, Move, Replace, AddIndex, DropIndex, SetTags}
-use Rattle.newt_store.specs.Change.{changed_by, first_checks, full_check, refusal_of, dropped_soup, changed_soup, pages_put, pages_gone, directory_pages, most_bytes}
+use Rattle.newt_store.specs.declared.change.Change.TheVariants.{MakeSoup, DropSoup, Add, Remove, Move, Replace, Patch, AddIndex, DropIndex, SetTags}
+use Rattle.newt_store.specs.Change.{changed_by, first_checks, full_check, refusal_of, dropped_soup, changed_soup, pages_put, pages_gone, directory_pages, is_patch, bytes_of, most_bytes}
 use Rattle.newt_store.specs.declared.next.Next.{Next}
 use Rattle.newt_store.specs.Next.{IsEitherStore, IsPlanOf, goes_pages, replaced_pages, turn_bytes}
 use Rattle.newt_store.specs.Readable.{readable}
@@ -68,6 +69,7 @@ fits-check : (change : Change) (blocks now : ℕ) (s : Store) → cost (changed_
 fits-check (DropSoup sig) blocks now s low = refl
 fits-check (Remove sig uid) blocks now s low = refl
 fits-check (DropIndex sig paths) blocks now s low = refl
+fits-check (Patch sig uid node at bytes) blocks now s low = refl
 fits-check (AddIndex sig spec) blocks now s low = first-not Full (nat_lt (cap blocks) (cost (changed_by (AddIndex sig spec) now s))) [] (not-more _ _ low)
 fits-check (SetTags sig table) blocks now s low = first-not Full (nat_lt (cap blocks) (cost (changed_by (SetTags sig table) now s))) [] (not-more _ _ low)
 fits-check (MakeSoup name) blocks now s low = first-not Full (nat_lt (cap blocks) (cost (changed_by (MakeSoup name) now s))) [] (not-more _ _ low)
@@ -90,19 +92,20 @@ undeclared-less : (o : Option Soup) (paths : List Path) (s : Store) → cost (ch
 undeclared-less None paths s = omega arith
 undeclared-less (Some p) paths s = undeclared-cost p.name paths s
 
-full-check : (change : Change) (blocks now : ℕ) (s : Store) → cost s ≤ cap blocks → cap blocks < cost (changed_by change now s) → first_of (full_check change blocks now s) ≡ Some Full
-full-check (DropSoup sig) blocks now s low more = absurd (omega (arith, low, more, dropped-less (soup_of sig s) s))
-full-check (Remove sig uid) blocks now s low more = absurd (omega (arith, low, more, removed-less (soup_of sig s) uid s))
-full-check (DropIndex sig paths) blocks now s low more = absurd (omega (arith, low, more, undeclared-less (soup_of sig s) paths s))
-full-check (AddIndex sig spec) blocks now s low more = first-holds Full (nat_lt (cap blocks) (cost (changed_by (AddIndex sig spec) now s))) [] (more-than _ _ more)
-full-check (SetTags sig table) blocks now s low more = first-holds Full (nat_lt (cap blocks) (cost (changed_by (SetTags sig table) now s))) [] (more-than _ _ more)
-full-check (MakeSoup name) blocks now s low more = first-holds Full (nat_lt (cap blocks) (cost (changed_by (MakeSoup name) now s))) [] (more-than _ _ more)
-full-check (Add sig g) blocks now s low more = first-holds Full (nat_lt (cap blocks) (cost (changed_by (Add sig g) now s))) [] (more-than _ _ more)
-full-check (Move a u b) blocks now s low more = first-holds Full (nat_lt (cap blocks) (cost (changed_by (Move a u b) now s))) [] (more-than _ _ more)
-full-check (Replace a u g) blocks now s low more = first-holds Full (nat_lt (cap blocks) (cost (changed_by (Replace a u g) now s))) [] (more-than _ _ more)
+full-check : (change : Change) (blocks now : ℕ) (s : Store) → is_patch change ≡ false → cost s ≤ cap blocks → cap blocks < cost (changed_by change now s) → first_of (full_check change blocks now s) ≡ Some Full
+full-check (DropSoup sig) blocks now s other low more = absurd (omega (arith, low, more, dropped-less (soup_of sig s) s))
+full-check (Remove sig uid) blocks now s other low more = absurd (omega (arith, low, more, removed-less (soup_of sig s) uid s))
+full-check (DropIndex sig paths) blocks now s other low more = absurd (omega (arith, low, more, undeclared-less (soup_of sig s) paths s))
+full-check (Patch sig uid node at bytes) blocks now s other low more = absurd (let isnt : true ≡ false = other in cc)
+full-check (AddIndex sig spec) blocks now s other low more = first-holds Full (nat_lt (cap blocks) (cost (changed_by (AddIndex sig spec) now s))) [] (more-than _ _ more)
+full-check (SetTags sig table) blocks now s other low more = first-holds Full (nat_lt (cap blocks) (cost (changed_by (SetTags sig table) now s))) [] (more-than _ _ more)
+full-check (MakeSoup name) blocks now s other low more = first-holds Full (nat_lt (cap blocks) (cost (changed_by (MakeSoup name) now s))) [] (more-than _ _ more)
+full-check (Add sig g) blocks now s other low more = first-holds Full (nat_lt (cap blocks) (cost (changed_by (Add sig g) now s))) [] (more-than _ _ more)
+full-check (Move a u b) blocks now s other low more = first-holds Full (nat_lt (cap blocks) (cost (changed_by (Move a u b) now s))) [] (more-than _ _ more)
+full-check (Replace a u g) blocks now s other low more = first-holds Full (nat_lt (cap blocks) (cost (changed_by (Replace a u g) now s))) [] (more-than _ _ more)
 
-pub full-due : (change : Change) (blocks now : ℕ) (s : Store) → first_of (first_checks change s) ≡ None → cost s ≤ cap blocks → cap blocks < cost (changed_by change now s) → refusal_of change blocks now s ≡ Some Full
-full-due change blocks now s first low more = first-later (first_checks change s) (full_check change blocks now s) first ∙ full-check change blocks now s low more
+pub full-due : (change : Change) (blocks now : ℕ) (s : Store) → is_patch change ≡ false → first_of (first_checks change s) ≡ None → cost s ≤ cap blocks → cap blocks < cost (changed_by change now s) → refusal_of change blocks now s ≡ Some Full
+full-due change blocks now s other first low more = first-later (first_checks change s) (full_check change blocks now s) first ∙ full-check change blocks now s other low more
 
 -- a refusal of the carrying out is the one that is due
 pub refuses-full : {due : Option Refusal} (fault : StoreFault) → RefusesOnly Full fault → (IsRefused (failed fault) → due ≡ Some Full) → RefusesWith due fault
@@ -125,6 +128,7 @@ pub sound-over : (told : Bool) (catalog : Catalog) (numbers numbers' : Numbers) 
 sound-over told catalog numbers numbers' unit unit' old new place same now sound = record {
   kept = kept-over told catalog.objects numbers numbers' unit unit' old new place same now sound.kept;
   places = sound.places;
+  names = sound.names;
   formed = sound.formed;
 }
 
@@ -142,7 +146,7 @@ leaves-changed change now s unit img old new first leaves = Leaves-weaken (λ le
 
 pub leaves-before : (catalog : Catalog) (change : Change) (now blocks : ℕ) (s : Store) (unit : ℕ) (old new : Moment) → new ≡ old → StandsFor catalog s (image unit old) → IsDurable unit old → Leaves unit (IsBeforeOrChanged change blocks now s) old new
 leaves-before catalog change now blocks s unit old new same stands durable = subst (λ (m : Moment). Leaves unit (IsBeforeOrChanged change blocks now s) old m) (sym same) (Leaves-start (λ left may.
-    inl (ap readable (durable left may) ∙ read-back catalog.directory (place_of catalog.places) stands.texts s (image unit old) stands.holds stands.describes stands.fits)))
+    inl (ap readable (durable left may) ∙ read-back catalog.directory (place_of catalog.places) (names_of catalog.names) stands.texts s (image unit old) stands.holds stands.describes stands.fits)))
 
 -- ---- one call after another
 
@@ -160,14 +164,27 @@ touches-over unit unit' old mid new place first second = Touches-append first (s
 
 -- ---- how many bytes
 
+bytes-put : (change : Change) (now : ℕ) (s : Store) → is_patch change ≡ false → bytes_of change now s ≡ 516 * pages_put change now s + 4 * pages_gone change s + 9
+bytes-put (MakeSoup name) now s other = refl
+bytes-put (DropSoup sig) now s other = refl
+bytes-put (Add sig g) now s other = refl
+bytes-put (Remove sig uid) now s other = refl
+bytes-put (Move a u b) now s other = refl
+bytes-put (Replace sig uid g) now s other = refl
+bytes-put (Patch sig uid node at bytes) now s other = absurd (let isnt : true ≡ false = other in cc)
+bytes-put (AddIndex sig spec) now s other = refl
+bytes-put (DropIndex sig paths) now s other = refl
+bytes-put (SetTags sig table) now s other = refl
+
 -- the bytes of what is planned are those of the change, where it is not refused
-planned-bytes : (catalog : Catalog) (change : Change) (blocks now : ℕ) (s : Store) (next : Next) → IsPlanOf catalog change now s next → refusal_of change blocks now s ≡ None → turn_bytes next s (changed_by change now s) ≡ most_bytes change blocks now s
+planned-bytes : (catalog : Catalog) (change : Change) (blocks now : ℕ) (s : Store) (next : Next) → is_patch change ≡ false → IsPlanOf catalog change now s next → refusal_of change blocks now s ≡ None → turn_bytes next s (changed_by change now s) ≡ most_bytes change blocks now s
 unfolding most_bytes turn_bytes
-planned-bytes catalog change blocks now s next plan none =
+planned-bytes catalog change blocks now s next other plan none =
     ap (λ (n : ℕ). 9 + 516 * (directory_pages (changed_by change now s) + new_pages next.entry) + 4 * n) (three (directory_pages s) (replaced_pages next.entry s) (goes_pages next.gone s))
     ∙ (λ i. 9 + 516 * (directory_pages (changed_by change now s) + plan.added i) + 4 * (directory_pages s + plan.removed i))
     ∙ turned (pages_put change now s) (pages_gone change s)
-    ∙ sym (ap (λ (o : Option Refusal). cond (is_some o) 0 (516 * pages_put change now s + 4 * pages_gone change s + 9)) none) where
+    ∙ sym (bytes-put change now s other)
+    ∙ sym (ap (λ (o : Option Refusal). cond (is_some o) 0 (bytes_of change now s)) none) where
       three : (a b c : ℕ) → a + b + c ≡ a + (b + c)
       three a b c = omega arith
 
@@ -178,13 +195,13 @@ pub spends-more : (unit most fetches : ℕ) (old new : Outside) → Spends unit 
 spends-more unit most fetches old new spends = Spends-widen 0 fetches most fetches (omega arith) (omega arith) spends
 
 -- first the change is planned, then what is planned is carried out
-pub spends-both : (catalog : Catalog) (change : Change) (now : ℕ) (s : Store) (next : Next) (img : List ℕ) (unit fetches : ℕ) (old mid new : Outside) → IsPlanOf catalog change now s next → Spends unit 0 fetches old mid
+pub spends-both : (catalog : Catalog) (change : Change) (now : ℕ) (s : Store) (next : Next) (img : List ℕ) (unit fetches : ℕ) (old mid new : Outside) → is_patch change ≡ false → IsPlanOf catalog change now s next → Spends unit 0 fetches old mid
     → (IsOpenFor (turn_bytes next s (changed_by change now s)) img → Spends unit (turn_bytes next s (changed_by change now s)) 0 mid new)
     → (cap (blocks_of img) < cost (changed_by change now s) → Spends unit 0 0 mid new)
     → IsOpenFor (most_bytes change (blocks_of img) now s) img → Spends unit (most_bytes change (blocks_of img) now s) fetches old new
-spends-both catalog change now s next img unit fetches old mid new plan first bound none room = ⊎_elim
+spends-both catalog change now s next img unit fetches old mid new other plan first bound none room = ⊎_elim
     (λ (low : cost (changed_by change now s) ≤ cap (blocks_of img)).
-    let same = planned-bytes catalog change (blocks_of img) now s next plan (none-due change (blocks_of img) now s plan.accepted low) in
+    let same = planned-bytes catalog change (blocks_of img) now s next other plan (none-due change (blocks_of img) now s plan.accepted low) in
     joined (subst (λ (n : ℕ). Spends unit n 0 mid new) same (bound (subst (λ (n : ℕ). IsOpenFor n img) (sym same) room))))
     (λ (more : cap (blocks_of img) < cost (changed_by change now s)). joined (Spends-widen 0 0 (most_bytes change (blocks_of img) now s) 0 (omega arith) (omega arith) (none more)))
     (either (cost (changed_by change now s)) (cap (blocks_of img))) where

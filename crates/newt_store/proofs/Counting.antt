@@ -17,6 +17,7 @@ use Rattle.newt_spec_store.specs.Valid.{valid_soup}
 use Rattle.newt_laws_images.proofs.Assembled.{less-rise}
 use Rattle.newt_laws_images.proofs.Made.{map-length}
 use Rattle.newt_laws_images.proofs.Stores.{IsSoup, is-store, is-soup}
+use Rattle.newt_laws_changes.specs.Written.{Names}
 use Rattle.newt_laws_changes.proofs.Soups.{found-good}
 use Rattle.newt_soupdir.specs.Changes.{soup_of}
 use Rattle.newt_soupdir.specs.declared.rows.Directory.{Directory}
@@ -46,7 +47,7 @@ rising-length : (low high : ℕ) (ns : List ℕ) → low ≤ high → rises low 
 rising-length low high [] fits h = omega arith
 rising-length low high (n ∷ ns) fits h = let more = rising-length (n + 1) high ns (grind arith) (grind arith) in let first : low ≤ n = grind arith in omega (arith, more, first)
 
-module _ (directory : Directory) (place : Places) (texts : Objects) (s : Store) (d : Describes directory place texts s) where
+module _ (directory : Directory) (place : Places) (names : Names) (texts : Objects) (s : Store) (d : Describes directory place names texts s) where
   soup-good : (sig : ℕ) (p : Soup) → soup_of sig s ≡ Some p → IsSoup p
   soup-good sig p found = is-soup p (found-good valid_soup (λ (p : Soup). p.sig == sig) s.soups p (is-store s d.formed).soups_fit found)
 
@@ -58,7 +59,7 @@ module _ (directory : Directory) (place : Places) (texts : Objects) (s : Store) 
     cases (Some p) e = rising-distinct (uids_in (Some p)) (rises-pairs 0 p.next_uid (uids_in (Some p)) (soup-good sig p e).uids)
 
   pub uids-placed : (sig uid : ℕ) → is_some (place sig uid) ≡ is_member same_number (uids_in (soup_of sig s)) uid
-  uids-placed sig uid = has-entry directory place texts s d sig uid ∙ cases (soup_of sig s) where
+  uids-placed sig uid = has-entry directory place names texts s d sig uid ∙ cases (soup_of sig s) where
     cases : (o : Option Soup) → is_some (option_and_then (entry_of uid) o) ≡ is_member same_number (uids_in o) uid
     cases None = refl
     cases (Some p) = found-member uid p.entries
@@ -122,14 +123,14 @@ same-rising (x ∷ xs) (y ∷ ys) rx ry same = by (cases_lt x y) (cases_lt y x) 
         ap (λ (b : Bool). b || is_member same_number xs q) (sym e) ∙ same q ∙ ap (λ (n : ℕ). same_number q n || is_member same_number ys q) (sym is) ∙ ap (λ (b : Bool). b || is_member same_number ys q) e)
         (true_or_false (same_number q x))
 
-module _ (directory : Directory) (place : Places) (texts : Objects) (s : Store) (d : Describes directory place texts s) where
+module _ (directory : Directory) (place : Places) (names : Names) (texts : Objects) (s : Store) (d : Describes directory place names texts s) where
   uids-rise : (sig : ℕ) → Pairs (λ m n. m < n) (uids_in (soup_of sig s))
   uids-rise sig = cases (soup_of sig s) refl where
     cases : (o : Option Soup) → soup_of sig s ≡ o → Pairs (λ m n. m < n) (uids_in o)
     cases None e = tt
-    cases (Some p) e = rises-pairs 0 p.next_uid (uids_in (Some p)) (soup-good directory place texts s d sig p e).uids
+    cases (Some p) e = rises-pairs 0 p.next_uid (uids_in (Some p)) (soup-good directory place names texts s d sig p e).uids
 
   -- the ids that have places, in rising order, are those of the soup
   pub uids-listed : (sig : ℕ) (uids : List ℕ) → IsStrictlySortedBy nat_cmp uids → ((uid : ℕ) → is_member same_number uids uid ≡ is_some (place sig uid)) → uids ≡ uids_in (soup_of sig s)
   uids-listed sig uids sorted there =
-      same-rising uids (uids_in (soup_of sig s)) (sorted-rises uids sorted) (uids-rise sig) (λ uid. there uid ∙ uids-placed directory place texts s d sig uid)
+      same-rising uids (uids_in (soup_of sig s)) (sorted-rises uids sorted) (uids-rise sig) (λ uid. there uid ∙ uids-placed directory place names texts s d sig uid)

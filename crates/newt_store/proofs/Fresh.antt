@@ -18,6 +18,7 @@ use Rattle.newt_spec_store.specs.Cost.{cost, directory_bytes}
 use Rattle.newt_spec_store.specs.Lies.{LiesIn}
 use Rattle.newt_spec_store.specs.OfImage.{blocks_of}
 use Rattle.newt_spec_store.specs.ImageStore.{store_of_image}
+use Rattle.newt_spec_store.specs.Lies.{LiesIn}
 use Rattle.newt_laws_images.proofs.Gathering.{image-by-objects}
 use Rattle.newt_laws_images.proofs.Whole.{lies-read}
 use Rattle.newt_laws_changes.proofs.Fresh.{fresh_lies, fresh_formed}

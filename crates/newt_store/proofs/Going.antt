@@ -1,28 +1,33 @@
 -- How many pages the objects have that go.
-use Rattle.std.proofs.Common.{IsTrue, ◌≡◌, inl, inr, ℕ, ◌+◌, ◌*◌, ◌<◌, ◌||◌, Bool, true, false, List, [], ◌∷◌, map as map_list, length, slice_get, sum_by, Option, Some, None, refl, sym, ◌∙◌, ap, arith, ⊎_elim}
+use Rattle.std.proofs.Common.{IsTrue, ◌≡◌, inl, inr, ℕ, ◌+◌, ◌*◌, ◌<◌, ◌||◌, Bool, true, false, List, [], ◌∷◌, map as map_list, flat_map, zip, length, sum, sum_by, Option, Some, None, refl, sym, ◌∙◌, ap, subst, arith, ⊎_elim}
 use Rattle.std.specs.List.{IsDistinct, AllByRecursion}
 use Rattle.std.specs.Option.{option_and_then, unwrap_or}
 use Rattle.std.specs.Set.{is_member}
-use Rattle.std.proofs.lemmas.List.Sums.{sum_by-cons}
+use Rattle.std.specs.FinMap as map
+use Rattle.std.proofs.lemmas.List.{length-map}
+use Rattle.std.proofs.lemmas.List.Sums.{sum_by-append, sum_by-cons}
 use Rattle.newt_host.specs.Moments.{image}
 use Rattle.newt_host.specs.Outside.{Outside}
 use Rattle.newt_image.specs.Objects.{Extent, pages_for}
 use Rattle.newt_pagebook.specs.Book.{Numbers}
 use Rattle.newt_pagebook.proofs.Tests.{is_same, equal_true, equal_false}
 use Rattle.newt_objects.specs.Extents.{numbers_of}
-use Rattle.newt_objects.specs.Held.{held}
+use Rattle.newt_objects.specs.Held.{Held, held}
 use Rattle.newt_spec_graph.specs.Lists.{Each, Pairs, Among}
-use Rattle.newt_spec_graph.proofs.Lists.{each-at, each-from, rises-pairs, pairs-map}
-use Rattle.newt_spec_store.specs.Cost.{directory_bytes, entry_pages}
-use Rattle.newt_spec_store.specs.Image.{entry_bytes}
-use Rattle.newt_spec_store.specs.Lies.{Places, IsIn}
+use Rattle.newt_spec_graph.proofs.Lists.{each-at, each-from, each-more, rises-pairs, pairs-map}
+use Rattle.newt_spec_store.specs.Cost.{directory_bytes, entry_pages, large_lengths, skeleton_length}
+use Rattle.newt_spec_store.specs.Image.{entry_bytes, larges}
+use Rattle.newt_spec_store.specs.Laid.{Named}
+use Rattle.newt_spec_store.specs.Lies.{Places, IsIn, AreLarges, HasLarge}
 use Rattle.newt_spec_store.specs.Store.{Entry, Soup, Store, entry_of}
-use Rattle.newt_laws_images.proofs.Totals.{record-pages}
+use Rattle.newt_laws_images.proofs.Records.{entry-length}
+use Rattle.newt_laws_changes.specs.Written.{Names}
 use Rattle.newt_laws_changes.proofs.Chosen.{soup-there, soup-good}
 use Rattle.newt_laws_changes.proofs.Members.{in-one, one-in}
 use Rattle.newt_soupdir.specs.Bare.{bare_store}
 use Rattle.newt_soupdir.specs.Changes.{soup_of}
-use Rattle.newt_shelf.specs.Batch.{AreOnce, pages_held, all_pages_held, new_pages, over_pages}
+use Rattle.newt_shelf.specs.Batch.{AreOnce, large_ids, pages_held, all_pages_held, new_pages, over_pages}
+use Rattle.newt_shelf.specs.Names.{names_of, AreSoundNames}
 use Rattle.newt_shelf.specs.Commit.{AreKept}
 use Rattle.newt_shelf.specs.declared.batch.NewEntry.{NewEntry}
 use Rattle.newt_shelf.specs.Places.{place_of, AreSoundPlaces}
@@ -31,13 +36,14 @@ use Rattle.newt_store.specs.declared.next.Gone.{Gone}
 use Rattle.newt_store.specs.declared.next.Gone.TheVariants.{Nothing, OneEntry, AllOf}
 use Rattle.newt_store.specs.declared.next.Next.{Next}
 use Rattle.newt_store.specs.Change.{entry_in, pages_of_entry, pages_of_soup, directory_pages}
-use Rattle.newt_store.specs.Next.{Goes, IsFree, IsNextOf, Turns, goes_pages, replaced_pages, next_bytes, turn_bytes}
+use Rattle.newt_store.specs.Next.{Goes, IsFree, IsNextOf, Turns, goes_pages, replaced_pages, names_replaced, all_gone, next_bytes, turn_bytes}
 use Rattle.newt_store.specs.Stands.{StandsFor}
-use Rattle.newt_store.proofs.Carrying.{AreGone}
-use Rattle.newt_store.proofs.Entries.{plain-in, found-at, no-entry-at}
+use Rattle.newt_store.proofs.Carrying.{AreGone, no-object}
+use Rattle.newt_store.proofs.Entries.{found-at, no-entry-at}
 use Rattle.newt_store.proofs.Found.{placed-entry, entry-placed}
 use Rattle.newt_store.proofs.Rows.{pages-are}
-use Rattle.newt_store.proofs.Sums.{same_number, member-at, at-member, once-distinct, sums-agree}
+use Rattle.newt_store.proofs.Sums.{same_number, among-member, member-among, once-distinct, sums-agree}
+use Rattle.newt_store.proofs.Ids.{lengths-from}
 use Rattle.newt_store.proofs.Turning.{bytes-of}
 
 no-more : (n : ℕ) → n + 0 ≡ n
@@ -105,61 +111,111 @@ module _ (place : Places) (weigh : ℕ → ℕ) (sig : ℕ) (apart : (u v id : �
 
   -- objects that are those of entries have as many pages as the entries, all together
   pub as-many-pages : (ids : List ℕ) (es : List Entry) → AreOnce ids → Each IsWeighed es → Pairs (λ (e f : Entry). e.uid < f.uid) es
-      → ((k id : ℕ) → slice_get ids k ≡ Some id → (e : Entry) × Among es e × (place sig e.uid ≡ Some id))
-      → ((e : Entry) (id : ℕ) → Among es e → place sig e.uid ≡ Some id → (k : ℕ) × (slice_get ids k ≡ Some id)) → sum_by weigh ids ≡ sum_by entry_pages es
+      → ((id : ℕ) → Among ids id → (e : Entry) × Among es e × (place sig e.uid ≡ Some id))
+      → ((e : Entry) (id : ℕ) → Among es e → place sig e.uid ≡ Some id → Among ids id) → sum_by weigh ids ≡ sum_by entry_pages es
   as-many-pages ids es once each rising real all =
       sums-agree weigh ids (ids_of es) (once-distinct ids once) (ids-distinct es each rising) (λ q. as-true _ _
       (λ is. (
-      let k = at-member ids q is in
-      let w = real k.0 q k.1 in
+      let w = real q (member-among ids q is) in
       ap (is_member same_number (ids_of es)) (sym (the-id w.0 q w.2)) ∙ ids-have es w.0 w.1))
       (λ is. (
       let w = have-ids es q is in
       let one = each-at IsWeighed es w.0 each w.1 in
-      let k = all w.0 one.id w.1 one.at in
-      member-at ids k.0 q (k.1 ∙ ap Some (sym (the-id w.0 one.id one.at) ∙ w.2)))))
+      among-member ids q (subst (λ (n : ℕ). Among ids n) (sym (the-id w.0 one.id one.at) ∙ w.2) (all w.0 one.id w.1 one.at)))))
       ∙ weighed es each
+
+-- ---- the pages of one entry
+
+abbrev size : ℕ × List ℕ → ℕ
+size l = length l.1
+
+named-pages : (weigh : ℕ → ℕ) (gs : List (ℕ × List ℕ)) (ids : List ℕ) → length gs ≡ length ids → Each (λ (l : Named). weigh l.1 ≡ pages_for (length l.0.1)) (zip gs ids) → sum_by weigh ids ≡ sum (map_list pages_for (map_list size gs))
+named-pages weigh [] [] same each = refl
+named-pages weigh [] (id ∷ ids) same each = absurd (omega (arith, same))
+named-pages weigh (g ∷ gs) [] same each = absurd (omega (arith, same))
+named-pages weigh (g ∷ gs) (id ∷ ids) same each =
+    sum_by-cons weigh id ids ∙ (λ i. each.0 i + named-pages weigh gs ids (omega (arith, same)) each.1 i) ∙ sym (sum_by-cons (λ m. m) (pages_for (length g.1)) (map_list pages_for (map_list size gs)))
+
+-- the pages of a record and of what it names are those of the entry
+laid-pages : (weigh : ℕ → ℕ) (sig : ℕ) (e : Entry) (ids : List ℕ) → length (larges e.graph) ≡ length ids → Each (λ (l : Named). weigh l.1 ≡ pages_for (length l.0.1)) (zip (larges e.graph) ids)
+    → pages_for (length (entry_bytes sig e ids)) + sum_by weigh ids ≡ entry_pages e
+laid-pages weigh sig e ids many each =
+    let lengths : map_list size (larges e.graph) ≡ large_lengths e.graph = lengths-from 0 e.graph.nodes in
+    let long : length ids ≡ length (large_lengths e.graph) = sym many ∙ sym (length-map (larges e.graph) size) ∙ ap (λ (l : List ℕ). length l) lengths in
+    (λ i. pages_for (entry-length sig e ids many i) + named-pages weigh (larges e.graph) ids many each i)
+    ∙ ap (λ (n : ℕ). pages_for (12 + skeleton_length e.graph + 12 * n) + sum (map_list pages_for (map_list size (larges e.graph)))) long
+    ∙ ap (λ (ns : List ℕ). pages_for (12 + skeleton_length e.graph + 12 * length (large_lengths e.graph)) + sum (map_list pages_for ns)) lengths
+
+-- the pages of records and of what they name
+flat-weights : (weigh : ℕ → ℕ) (names : Names) (records : List ℕ) → sum_by weigh (flat_map (λ r. r ∷ names r) records) ≡ sum_by (λ r. weigh r + sum_by weigh (names r)) records
+flat-weights weigh names [] = refl
+flat-weights weigh names (r ∷ records) =
+    sum_by-append weigh (r ∷ names r) (flat_map (λ r. r ∷ names r) records) ∙ (λ i. sum_by-cons weigh r (names r) i + flat-weights weigh names records i)
+    ∙ sym (sum_by-cons (λ r. weigh r + sum_by weigh (names r)) r records)
+
+-- objects that are none have no pages
+none-held : (objects : Held) (ids : List ℕ) → ((id : ℕ) → Among ids id → held objects id ≡ None) → all_pages_held objects ids ≡ 0
+none-held objects [] none = refl
+none-held objects (id ∷ ids) none =
+    sum_by-cons (pages_held objects) id ids ∙ (λ i. length (numbers_of (none id (inl refl) i)) + none-held objects ids (λ n m. none n (inr m)) i)
 
 -- ---- what goes
 
-module _ (told : Bool) (catalog : Catalog) (numbers : Numbers) (unit : ℕ) (outside : Outside) (kept : AreKept told catalog.objects numbers unit outside) (sound : AreSoundPlaces (held catalog.objects) (place_of catalog.places)) (tells : IsTrue told)
-    (s : Store) (stands : StandsFor catalog s (image unit outside.now)) where
+module _ (told : Bool) (catalog : Catalog) (numbers : Numbers) (unit : ℕ) (outside : Outside) (kept : AreKept told catalog.objects numbers unit outside) (sound : AreSoundPlaces (held catalog.objects) (place_of catalog.places))
+    (names-sound : AreSoundNames (held catalog.objects) (names_of catalog.names)) (tells : IsTrue told) (s : Store) (stands : StandsFor catalog s (image unit outside.now)) where
   abbrev place-now : Places
   place-now = place_of catalog.places
 
   apart-in : (sig u v id : ℕ) → place-now sig u ≡ Some id → place-now sig v ≡ Some id → u ≡ v
   apart-in sig u v id at other = (sound.once sig u sig v id at other).1
 
-  weighed-in : (sig : ℕ) (e : Entry) → IsIn s sig e → IsWeighed place-now (pages_held catalog.objects) sig (apart-in sig) e
+  abbrev names-now : Names
+  names-now = names_of catalog.names
+
+  -- the pages of a record and of what it names
+  abbrev weight : ℕ → ℕ
+  weight id = pages_held catalog.objects id + all_pages_held catalog.objects (names-now id)
+
+  -- an object has the pages of its bytes
+  has-pages : (id : ℕ) (bytes : List ℕ) → map.get stands.texts id ≡ Some bytes → pages_held catalog.objects id ≡ pages_for (length bytes)
+  has-pages id bytes at = pages-are told catalog.objects numbers unit outside kept tells stands.texts stands.holds id bytes at
+
+  weight-at : (sig id : ℕ) (e : Entry) → map.get stands.texts id ≡ Some (entry_bytes sig e (names-now id)) → AreLarges stands.texts e.graph (names-now id) → weight id ≡ entry_pages e
+  weight-at sig id e at there =
+      ap (λ (n : ℕ). n + all_pages_held catalog.objects (names-now id)) (has-pages id (entry_bytes sig e (names-now id)) at)
+      ∙ laid-pages (pages_held catalog.objects) sig e (names-now id) there.each_named
+          (each-more (HasLarge stands.texts) (λ (l : Named). pages_held catalog.objects l.1 ≡ pages_for (length l.0.1)) (zip (larges e.graph) (names-now id)) (λ l k. has-pages l.1 l.0.1 k.3) there.there)
+
+  weighed-in : (sig : ℕ) (e : Entry) → IsIn s sig e → IsWeighed place-now weight sig (apart-in sig) e
   weighed-in sig e is =
       let r = stands.describes.lies.records sig e is in
+      let same : stands.describes.lies.named r.0 ≡ names-now r.0 = sym (stands.describes.names_are r.0) in
       record {
         id = r.0;
         at = r.1;
-        pages = pages-are told catalog.objects numbers unit outside kept tells stands.texts stands.holds r.0 (entry_bytes sig e []) r.3
-            ∙ record-pages sig e (plain-in catalog.directory place-now stands.texts s stands.describes sig e is);
+        pages = weight-at sig r.0 e (r.3 ∙ ap (λ (l : List ℕ). Some (entry_bytes sig e l)) same) (subst (λ (l : List ℕ). AreLarges stands.texts e.graph l) same r.4);
       }
 
   module _ (gone : Gone) (ids : List ℕ) (once : AreOnce ids) where
-    none-goes : AreGone place-now gone ids → ((sig uid id : ℕ) → Goes gone sig uid → place-now sig uid ≡ Some id → ⊥) → all_pages_held catalog.objects ids ≡ 0
-    none-goes are none = as-many-pages place-now (pages_held catalog.objects) 0 (apart-in 0) ids [] once tt tt (λ k id at. (let w = are.real k id at in absurd (none w.0 w.1 id w.2 w.3))) (λ e id m at. absurd m)
+    none-goes : AreGone place-now gone ids → ((sig uid id : ℕ) → Goes gone sig uid → place-now sig uid ≡ Some id → ⊥) → sum_by weight ids ≡ 0
+    none-goes are none = as-many-pages place-now weight 0 (apart-in 0) ids [] once tt tt (λ id m. (let w = are.real id m in absurd (none w.0 w.1 id w.2 w.3))) (λ e id m at. absurd m)
 
-  pub gone-pages : (gone : Gone) (ids : List ℕ) → AreOnce ids → AreGone place-now gone ids → all_pages_held catalog.objects ids ≡ goes_pages gone s
+  pub gone-pages : (gone : Gone) (ids : List ℕ) → AreOnce ids → AreGone place-now gone ids → sum_by weight ids ≡ goes_pages gone s
   gone-pages Nothing ids once are = none-goes Nothing ids once are (λ sig uid id isnt at. isnt)
   gone-pages (OneEntry sig uid) ids once are = cases (entry_in sig uid s) refl where
     found : (id : ℕ) → place-now sig uid ≡ Some id → (e : Entry) × (entry_in sig uid s ≡ Some e) × IsIn s sig e × (e.uid ≡ uid)
-    found id at = placed-entry catalog.directory place-now stands.texts s stands.describes sig uid id at
+    found id at = placed-entry catalog.directory place-now names-now stands.texts s stands.describes sig uid id at
 
-    cases : (o : Option Entry) → entry_in sig uid s ≡ o → all_pages_held catalog.objects ids ≡ pages_of_entry (entry_in sig uid s)
+    cases : (o : Option Entry) → entry_in sig uid s ≡ o → sum_by weight ids ≡ pages_of_entry (entry_in sig uid s)
     cases None e = none-goes (OneEntry sig uid) ids once are (λ t u id goes at. (
         let w = found id (ap (λ (n : ℕ). place-now n uid) goes.0 ∙ ap (place-now t) goes.1 ∙ at) in
         absurd (let no : None ≡ Some w.0 = sym e ∙ w.1 in cc)))
         ∙ sym (ap pages_of_entry e)
     cases (Some x) e =
-        let w = entry-placed catalog.directory place-now stands.texts s stands.describes sig uid x e in
-        as-many-pages place-now (pages_held catalog.objects) sig (apart-in sig) ids (x ∷ []) once (weighed-in sig x w.3, tt) (tt, tt)
-        (λ k id at. (
-        let v = are.real k id at in
+        let w = entry-placed catalog.directory place-now names-now stands.texts s stands.describes sig uid x e in
+        as-many-pages place-now weight sig (apart-in sig) ids (x ∷ []) once (weighed-in sig x w.3, tt) (tt, tt)
+        (λ id m. (
+        let v = are.real id m in
         let here : place-now sig uid ≡ Some id = ap (λ (n : ℕ). place-now n uid) v.2.0 ∙ ap (place-now v.0) v.2.1 ∙ v.3 in
         (x, inl refl, ap (place-now sig) w.4 ∙ here)))
         (λ f id m at. (let same : x ≡ f = only x f m in are.all sig uid id (refl, refl) (ap (place-now sig) (sym w.4 ∙ ap (λ (y : Entry). y.uid) same) ∙ at)))
@@ -172,9 +228,9 @@ module _ (told : Bool) (catalog : Catalog) (numbers : Numbers) (unit : ℕ) (out
           alone x = sum_by-cons entry_pages x [] ∙ no-more (entry_pages x)
   gone-pages (AllOf sig) ids once are = cases (soup_of sig s) refl where
     found : (uid id : ℕ) → place-now sig uid ≡ Some id → (e : Entry) × (entry_in sig uid s ≡ Some e) × IsIn s sig e × (e.uid ≡ uid)
-    found uid id at = placed-entry catalog.directory place-now stands.texts s stands.describes sig uid id at
+    found uid id at = placed-entry catalog.directory place-now names-now stands.texts s stands.describes sig uid id at
 
-    cases : (o : Option Soup) → soup_of sig s ≡ o → all_pages_held catalog.objects ids ≡ pages_of_soup (soup_of sig s)
+    cases : (o : Option Soup) → soup_of sig s ≡ o → sum_by weight ids ≡ pages_of_soup (soup_of sig s)
     cases None e = none-goes (AllOf sig) ids once are (λ t u id goes at. (
         let w = found u id (ap (λ (n : ℕ). place-now n u) goes ∙ at) in
         absurd (let no : None ≡ Some w.0 = sym (ap (λ (o : Option Soup). option_and_then (entry_of u) o) e) ∙ w.1 in cc)))
@@ -182,10 +238,10 @@ module _ (told : Bool) (catalog : Catalog) (numbers : Numbers) (unit : ℕ) (out
     cases (Some p) e =
         let formed = stands.describes.formed in
         let rising : Pairs (λ (a b : Entry). a.uid < b.uid) p.entries = pairs-map (λ m n. m < n) (λ (x : Entry). x.uid) p.entries (rises-pairs 0 p.next_uid (map_list (λ (x : Entry). x.uid) p.entries) (soup-good s p formed (soup-there sig s p e).1).uids) in
-        as-many-pages place-now (pages_held catalog.objects) sig (apart-in sig) ids p.entries once
+        as-many-pages place-now weight sig (apart-in sig) ids p.entries once
         (each-from _ p.entries (λ x m. weighed-in sig x (one-in s sig p formed e x m))) rising
-        (λ k id at. (
-        let v = are.real k id at in
+        (λ id m. (
+        let v = are.real id m in
         let here : place-now sig v.1 ≡ Some id = ap (λ (n : ℕ). place-now n v.1) v.2 ∙ v.3 in
         let w = found v.1 id here in
         (w.0, in-one s sig p formed e w.0 w.2, ap (place-now sig) w.3 ∙ here)))
@@ -194,31 +250,42 @@ module _ (told : Bool) (catalog : Catalog) (numbers : Numbers) (unit : ℕ) (out
 
   -- ---- what the new record is put over
 
-  over-one : (x : NewEntry) → place-now x.sig x.uid ≡ Some x.id → pages_held catalog.objects x.id ≡ pages_of_entry (entry_in x.sig x.uid s)
+  over-one : (x : NewEntry) → place-now x.sig x.uid ≡ Some x.id → weight x.id ≡ pages_of_entry (entry_in x.sig x.uid s)
   over-one x at =
-      let f = found-at catalog.directory place-now stands.texts s stands.describes x.sig x.uid x.id at in
-      pages-are told catalog.objects numbers unit outside kept tells stands.texts stands.holds x.id (entry_bytes x.sig f.entry []) f.text
-      ∙ record-pages x.sig f.entry f.plain ∙ sym (ap pages_of_entry f.found)
+      let f = found-at catalog.directory place-now names-now stands.texts s stands.describes x.sig x.uid x.id at in
+      weight-at x.sig x.id f.entry f.laid.bytes_are f.laid.larges_are ∙ sym (ap pages_of_entry f.found)
 
-  over-none : (x : NewEntry) (gone : Gone) → place-now x.sig x.uid ≡ None → IsFree catalog gone x → pages_held catalog.objects x.id ≡ pages_of_entry (entry_in x.sig x.uid s)
+  over-none : (x : NewEntry) (gone : Gone) → place-now x.sig x.uid ≡ None → IsFree catalog gone x → weight x.id ≡ pages_of_entry (entry_in x.sig x.uid s)
   over-none x gone none free = ⊎_elim
-      (λ (absent : held catalog.objects x.id ≡ None). ap (λ (o : Option Extent). length (numbers_of o)) absent)
+      (λ (absent : held catalog.objects x.id ≡ None). (λ i. length (numbers_of (absent i))
+          + none-held catalog.objects (names-now x.id) (λ o m. absurd (no-object (held catalog.objects x.id) absent (names-sound.records x.id o m).0)) i))
       (λ its. absurd (let isnt : None ≡ Some x.id = sym none ∙ its.0 in cc))
       free
-      ∙ sym (ap pages_of_entry (no-entry-at catalog.directory place-now stands.texts s stands.describes x.sig x.uid none))
+      ∙ sym (ap pages_of_entry (no-entry-at catalog.directory place-now names-now stands.texts s stands.describes x.sig x.uid none))
 
-  over-replaced : (next : Next) (t : Store) → IsNextOf catalog next → Turns catalog next s t → over_pages catalog.objects next.entry ≡ replaced_pages next.entry s
+  over-replaced : (next : Next) (t : Store) → IsNextOf catalog next → Turns catalog next s t → over_pages catalog.objects next.entry + all_pages_held catalog.objects (names_replaced names-now next.entry) ≡ replaced_pages next.entry s
   over-replaced next t is turns = cases next.entry refl where
-    cases : (o : Option NewEntry) → next.entry ≡ o → over_pages catalog.objects o ≡ replaced_pages o s
+    without : (a b c : ℕ) → b ≡ 0 → a + b + c ≡ a + c
+    without a b c none = omega (arith, none)
+
+    cases : (o : Option NewEntry) → next.entry ≡ o → over_pages catalog.objects o + all_pages_held catalog.objects (names_replaced names-now o) ≡ replaced_pages o s
     cases None e = refl
-    cases (Some x) e = ⊎_elim (λ none. over-none x next.gone none (is.free x e)) (λ at. over-one x at) (turns.fresh stands.texts stands.describes x e)
+    cases (Some x) e =
+        let free : all_pages_held catalog.objects (large_ids x) ≡ 0 = none-held catalog.objects (large_ids x) (λ id m. is.larges_free x id e m) in
+        without (pages_held catalog.objects x.id) (all_pages_held catalog.objects (large_ids x)) (all_pages_held catalog.objects (names-now x.id)) free
+        ∙ ⊎_elim (λ none. over-none x next.gone none (is.free x e)) (λ at. over-one x at) (turns.fresh stands.texts stands.describes x e)
 
   -- the bytes of the batch
-  pub bytes-turn : (next : Next) (ids : List ℕ) (t : Store) → AreOnce ids → AreGone place-now next.gone ids → IsNextOf catalog next → Turns catalog next s t → next_bytes next catalog.objects ids ≡ turn_bytes next s t
+  pub bytes-turn : (next : Next) (records : List ℕ) (t : Store) → AreOnce records → AreGone place-now next.gone records → IsNextOf catalog next → Turns catalog next s t
+      → next_bytes next catalog.objects (all_gone names-now records next.entry) ≡ turn_bytes next s t
   unfolding next_bytes turn_bytes
-  bytes-turn next ids t once are is turns =
+  bytes-turn next records t once are is turns =
       let dir : pages_for (length (directory_bytes (bare_store next.directory))) ≡ directory_pages t = ap (λ (l : List ℕ). pages_for (length l)) (bytes-of next.directory t (turns.bare_is stands.texts stands.describes)) in
-      let zero-pages : pages_held catalog.objects 0 ≡ directory_pages s = pages-are told catalog.objects numbers unit outside kept tells stands.texts stands.holds 0 (directory_bytes s) stands.describes.lies.directory in
-      let rest : all_pages_held catalog.objects ids ≡ goes_pages next.gone s = gone-pages next.gone ids once are in
-      let over : over_pages catalog.objects next.entry ≡ replaced_pages next.entry s = over-replaced next t is turns in
-      λ i. 9 + 516 * (dir i + new_pages next.entry) + 4 * (zero-pages i + over i + rest i)
+      let zero-pages : pages_held catalog.objects 0 ≡ directory_pages s = has-pages 0 (directory_bytes s) stands.describes.lies.directory in
+      let rest : all_pages_held catalog.objects (all_gone names-now records next.entry) ≡ goes_pages next.gone s + all_pages_held catalog.objects (names_replaced names-now next.entry) =
+      sum_by-append (pages_held catalog.objects) (flat_map (λ r. r ∷ names-now r) records) (names_replaced names-now next.entry)
+      ∙ ap (λ (n : ℕ). n + all_pages_held catalog.objects (names_replaced names-now next.entry)) (flat-weights (pages_held catalog.objects) names-now records ∙ gone-pages next.gone records once are) in
+      let over = over-replaced next t is turns in
+      (λ i. 9 + 516 * (dir i + new_pages next.entry) + 4 * (zero-pages i + over_pages catalog.objects next.entry + rest i)) ∙ turned (516 * (directory_pages t + new_pages next.entry)) (directory_pages s) _ _ _ _ over where
+        turned : (p z o n g r : ℕ) → o + n ≡ r → 9 + p + 4 * (z + o + (g + n)) ≡ 9 + p + 4 * (z + r + g)
+        turned p z o n g r same = omega (arith, same)

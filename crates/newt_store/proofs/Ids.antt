@@ -69,7 +69,7 @@ pub is-none : {A : Type 0} (o : Option A) → ((x : A) → o ≡ Some x → ⊥)
 is-none None nothing = refl
 is-none (Some x) nothing = absurd (nothing x refl)
 
-module _ (catalog : Catalog) (s : Store) (places : AreSoundPlaces (held catalog.objects) (place_of catalog.places)) (names : AreSoundNames (held catalog.objects) (place_of catalog.places) (names_of catalog.names)) where
+module _ (catalog : Catalog) (s : Store) (places : AreSoundPlaces (held catalog.objects) (place_of catalog.places)) (names : AreSoundNames (held catalog.objects) (names_of catalog.names)) where
   pub free-in : (old : Objects) (id : ℕ) → Describes catalog.directory (place_of catalog.places) (names_of catalog.names) old s → id ≢ 0 → held catalog.objects id ≡ None → map.get old id ≡ None
   free-in old id d ne free = is-none (map.get old id) (λ bytes at. elim (d.lies.only_these id bytes at ne) [
     | inl w ↦ not-held (held catalog.objects id) free (places.there w.0 w.1.uid id w.3)
@@ -78,7 +78,7 @@ module _ (catalog : Catalog) (s : Store) (places : AreSoundPlaces (held catalog.
 
   -- it names nothing
   pub free-names : (r o : ℕ) → held catalog.objects r ≡ None → Among (names_of catalog.names r) o → ⊥
-  free-names r o free m = let w = names.placed r o m in not-held (held catalog.objects r) free (places.there w.0 w.1 r w.2)
+  free-names r o free m = not-held (held catalog.objects r) free (names.records r o m).0
 
 -- ---- a graph's large binaries, put under such ids
 
@@ -120,7 +120,7 @@ are-larges objects sig uid now g e of put = record {
 abbrev size : ℕ × List ℕ → ℕ
 size l = length l.1
 
-lengths-from : (k : ℕ) (nodes : List Node) → map_list size (larges_from k nodes) ≡ flat_map large_length nodes
+pub lengths-from : (k : ℕ) (nodes : List Node) → map_list size (larges_from k nodes) ≡ flat_map large_length nodes
 lengths-from k [] = refl
 lengths-from k (Large c bytes ∷ nodes) = ap (λ ns. length bytes ∷ ns) (lengths-from (k + 1) nodes)
 lengths-from k (Symbol _ ∷ nodes) = lengths-from (k + 1) nodes

@@ -14,6 +14,7 @@ pub mod Declaring
 pub mod Entries
 pub mod Applying
 pub mod Opening
+pub mod Owning
 pub mod OpeningPlaces
 pub mod Sums
 pub mod Going

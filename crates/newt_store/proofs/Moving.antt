@@ -37,7 +37,7 @@ use Rattle.newt_store.proofs.Turning.{bytes-of, describes, is-named, named-is}
 use Rattle.newt_store.proofs.Planned.{first-holds, first-not, no-entry, an-entry, none-over}
 use Rattle.newt_store.proofs.Adding.{not-yet, row-soup, more-ids, added-pages, none-replaced}
 
-module _ (catalog : Catalog) (s : Store) (places-sound : AreSoundPlaces (held catalog.objects) (place_of catalog.places)) (names-sound : AreSoundNames (held catalog.objects) (place_of catalog.places) (names_of catalog.names))
+module _ (catalog : Catalog) (s : Store) (places-sound : AreSoundPlaces (held catalog.objects) (place_of catalog.places)) (names-sound : AreSoundNames (held catalog.objects) (names_of catalog.names))
     (source uid target : ℕ) (p q : Soup) (found : soup_of source s ≡ Some p) (goal : soup_of target s ≡ Some q) (e : Entry) (is_in : IsIn s source e) (of_uid : e.uid ≡ uid) (old-id : ℕ) (at : place_of catalog.places source uid ≡ Some old-id)
     (now : ℕ) (time : now < 4294967296) (room : q.next_uid < 536870911) (next : Next) (adds : IsAdding catalog target q.next_uid now e.graph (OneEntry source uid) next) where
   abbrev place-now : Places
@@ -158,7 +158,7 @@ module _ (catalog : Catalog) (texts : Objects) (s : Store) (d : Describes catalo
       pub move-accepted : has_no_ids (soup_of target s) ≡ false → first_of (first_checks (Move source uid target) s) ≡ None
       move-accepted more = with-entry ∙ first-not Ids (has_no_ids (soup_of target s)) [] more
 
-pub move-planned : (catalog : Catalog) (texts : Objects) (s : Store) (source uid target old-id now : ℕ) (e : Entry) (row : SoupRow) (next : Next) → AreSoundPlaces (held catalog.objects) (place_of catalog.places) → AreSoundNames (held catalog.objects) (place_of catalog.places) (names_of catalog.names)
+pub move-planned : (catalog : Catalog) (texts : Objects) (s : Store) (source uid target old-id now : ℕ) (e : Entry) (row : SoupRow) (next : Next) → AreSoundPlaces (held catalog.objects) (place_of catalog.places) → AreSoundNames (held catalog.objects) (names_of catalog.names)
     → Describes catalog.directory (place_of catalog.places) (names_of catalog.names) texts s → is_some (soup_of source (bare_store catalog.directory)) ≡ true → soup_of target (bare_store catalog.directory) ≡ Some (bare_soup row) → row.sig ≡ target
     → place_of catalog.places source uid ≡ Some old-id → entry_in source uid s ≡ Some e → IsIn s source e → e.uid ≡ uid → now < 4294967296 → row.next_uid ≢ 536870911 → row.next_uid < 536870911
     → IsAdding catalog row.sig row.next_uid now e.graph (OneEntry source uid) next → IsPlanOf catalog (Move source uid target) now s next

@@ -1,9 +1,9 @@
 -- What is found where a store is opened, and what it is read as.
-use Rattle.std.proofs.Common.{IsTrue, ◌≡◌, inl, inr, ℕ, ◌+◌, ◌<◌, ◌≤◌, ◌%◌, ◌==◌, Bool, true, false, cond, ◌&&◌, nat_le, nat_lt, ◌⊎◌, List, [], ◌∷◌, length, get_or, find, map as map_list, Option, Some, None, option_and_then, Result, Ok, Err, IfOk, IsSome, is_some, refl, sym, ◌∙◌, ap, subst, arith, ⊎_elim}
+use Rattle.std.proofs.Common.{IsTrue, ◌≡◌, ◌≢◌, inl, inr, ℕ, ◌+◌, ◌<◌, ◌≤◌, ◌%◌, ◌==◌, Bool, true, false, cond, ◌&&◌, nat_le, nat_lt, ◌⊎◌, List, [], ◌∷◌, length, get_or, find, map as map_list, Option, Some, None, option_and_then, Result, Ok, Err, IfOk, IsSome, is_some, refl, sym, ◌∙◌, ap, subst, arith, ⊎_elim}
 use Rattle.std.specs.List.{list_all}
 use Rattle.std.specs.FinMap as map
 use Rattle.std.specs.Option.{option_map}
-use Rattle.std.proofs.lemmas.Bool.{and_parts, and_from, eqb-true, eq-eqb, lt-ltb, leb-true, cases_lt}
+use Rattle.std.proofs.lemmas.Bool.{and_parts, and_from, eqb-true, eq-eqb, lt-ltb, ltb-true, leb-true, cases_lt}
 use Rattle.std.proofs.lemmas.List.{get_or_default}
 use Rattle.newt_nsof.specs.Text.{AreBytes}
 use Rattle.newt_host.specs.Moments.{Moment, image, changes}
@@ -21,13 +21,14 @@ use Rattle.newt_objects.proofs.Whole.{image_whole}
 use Rattle.newt_base.specs.Names.{is_name, equal_text}
 use Rattle.newt_spec_graph.specs.Graph.{every}
 use Rattle.newt_spec_graph.specs.Lists.{Among, Pairs, all_apart, rises}
+use Rattle.newt_spec_graph.proofs.Lists.{each-at, each-list_all}
 use Rattle.newt_spec_store.specs.Store.{Store, Soup, Entry}
-use Rattle.newt_spec_store.specs.StoreOf.{LargeRow, large_object, store_of}
+use Rattle.newt_spec_store.specs.StoreOf.{LargeRow, large_object, names_larges, store_of}
 use Rattle.newt_spec_store.specs.ImageStore.{store_of_image}
 use Rattle.newt_spec_store.specs.OfImage.{blocks_of}
 use Rattle.newt_spec_store.specs.Laid.{bare}
 use Rattle.newt_spec_store.specs.Reading.{whole, directory}
-use Rattle.newt_spec_store.specs.Lies.{Places, only, directory_read, entry_read, record_read}
+use Rattle.newt_spec_store.specs.Lies.{Places, only, directory_read, entry_read, record_read, may_be_large}
 use Rattle.newt_spec_store.specs.Valid.{valid_soup, well_formed}
 use Rattle.newt_laws_changes.specs.Written.{Names}
 use Rattle.newt_laws_images.specs.Found.{HasGiven, ids_in, ids_named}
@@ -106,6 +107,14 @@ module _ (told : Bool) (objects : Held) (numbers : Numbers) (unit : ℕ) (outsid
       go None e s = absurd (not_true false s refl)
       go (Some x) e s = (joined h.live x, kept-by texts h id ∙ ap (option_map (joined h.live)) e)
 
+  -- what has bytes is there
+  pub kept-there : (texts : Objects) → HoldsObjects (image unit outside.now) texts → (id : ℕ) (bytes : List ℕ) → map.get texts id ≡ Some bytes → IsSome (held objects id)
+  kept-there texts h id bytes at = go (held objects id) refl
+    where
+      go : (o : Option Extent) → held objects id ≡ o → IsSome (held objects id)
+      go None e = absurd (none-some bytes (sym (kept-none texts h id e) ∙ at))
+      go (Some x) e = subst (λ (o : Option Extent). IsSome o) (sym e) refl
+
   -- an object has as many bytes as its extent says
   pub kept-length : (texts : Objects) → HoldsObjects (image unit outside.now) texts → (id : ℕ) (bytes : List ℕ) → map.get texts id ≡ Some bytes → option_map (λ x. x.length) (held objects id) ≡ Some (length bytes)
   kept-length texts h id bytes at = go (held objects id) refl
@@ -136,13 +145,13 @@ module _ (told : Bool) (objects : Held) (numbers : Numbers) (unit : ℕ) (outsid
 -- ---- a record among objects
 
 every-none : {X Y : Type 0} (f : X → Option Y) (xs : List X) (ys : List Y) (x : X) → every (map_list f xs) ≡ Some ys → Among xs x → f x ≡ None → ⊥
-every-none f [] ys x e m no = m
-every-none {X} {Y} f (z ∷ xs) ys x e m no = go (λ zs k n. every-none f xs zs x k n no) (f z) refl (every (map_list f xs)) refl e m
+every-none f [] ys x e m lacks = m
+every-none {X} {Y} f (z ∷ xs) ys x e m lacks = go (λ zs k n. every-none f xs zs x k n lacks) (f z) refl (every (map_list f xs)) refl e m
   where
     go : ((zs : List Y) → every (map_list f xs) ≡ Some zs → Among xs x → ⊥) → (o : Option Y) → f z ≡ o → (os : Option (List Y)) → every (map_list f xs) ≡ os → every (o ∷ map_list f xs) ≡ Some ys → Among (z ∷ xs) x → ⊥
     go more None is os rest k m = none-some ys k
     go more (Some y) is None rest k m = none-some ys (sym (ap (option_map (λ zs. y ∷ zs)) rest) ∙ k)
-    go more (Some y) is (Some zs) rest k (inl same) = none-some y (sym no ∙ ap f (sym same) ∙ is)
+    go more (Some y) is (Some zs) rest k (inl same) = none-some y (sym lacks ∙ ap f (sym same) ∙ is)
     go more (Some y) is (Some zs) rest k (inr n) = more zs rest n
 
 every-some : {X Y : Type 0} (f : X → Option Y) (xs : List X) → ((x : X) → Among xs x → (y : Y) × (f x ≡ Some y)) → (ys : List Y) × (every (map_list f xs) ≡ Some ys)
@@ -180,6 +189,21 @@ objects-at (x ∷ rows) = ap (λ (l : List ℕ). x.object ∷ l) (objects-at row
 -- the ids that the bytes of a record name are those of its rows
 pub names-are : (bytes : List ℕ) (row : EntryRow) → record_read stream_graph bytes ≡ Some (said row) → ids_named bytes ≡ objects_named row.larges
 names-are bytes row h = ap ids_in (alone stream_graph bytes (said row).0 (said row).1 h).is_row ∙ objects-at row.larges
+
+-- the objects of a record's large binaries have even ids above 0
+pub even-rows : (bytes : List ℕ) (row : EntryRow) → record_read stream_graph bytes ≡ Some (said row) → (o : ℕ) → Among (objects_named row.larges) o → (o % 2 ≡ 0) × (0 < o)
+even-rows bytes row h o m =
+    let good = (alone stream_graph bytes (said row).0 (said row).1 h).is_good in
+    let tests = and_parts (names_larges (said row).0 (said row).1 && list_all may_be_large (said row).0.larges) _ good in
+    let all : list_all may_be_large (map_list row_at row.larges) ≡ true = (and_parts (names_larges (said row).0 (said row).1) (list_all may_be_large (said row).0.larges) tests.0).1 in
+    let l = object-among row.larges o m in
+    let may : may_be_large (row_at l.0) ≡ true = each-at (λ x. may_be_large x ≡ true) (map_list row_at row.larges) (row_at l.0) (each-list_all may_be_large (map_list row_at row.larges) all) (among-rows row.larges l.0 l.1) in
+    let p = and_parts (l.0.object % 2 == 0) (nat_lt 0 l.0.object) may in
+    subst (λ (q : ℕ). (q % 2 ≡ 0) × (0 < q)) l.2 (eqb-true (l.0.object % 2) 0 p.0, ltb-true 0 l.0.object p.1)
+
+pub even-by : (bytes : List ℕ) (r : Result EntryRow BookFault) → IfOk r (λ row. record_read stream_graph bytes ≡ Some (said row)) → IfOk r (λ row. (o : ℕ) → Among (objects_named row.larges) o → (o % 2 ≡ 0) × (0 < o))
+even-by bytes (Ok row) h = even-rows bytes row h
+even-by bytes (Err e) h = tt
 
 -- the bytes of the rows' objects, none where one is missing
 abbrev bytes_of : Objects → EntryRow → Option (List (List ℕ))
@@ -275,7 +299,7 @@ module _ (told : Bool) (objects : Held) (numbers : Numbers) (unit : ℕ) (outsid
         not-there None e = refl
         not-there (Some b) e =
             let p = large-parts (map.entries the.0) (row_at l) b e in
-            absurd (none (kept-length told objects numbers unit outside kept tells the.0 the.1 l.object b (sym (object-get the.0 l.object) ∙ p.2.0) ∙ ap (λ (n : ℕ). let o : Option ℕ = Some n in o) p.2.1))
+            absurd (none (kept-length told objects numbers unit outside kept tells the.0 the.1 l.object b (sym (object-get the.0 l.object) ∙ p.2) ∙ ap (λ (n : ℕ). let o : Option ℕ = Some n in o) p.3))
 
         go : (o : Option (List (List ℕ))) → bytes_of the.0 row ≡ o → entry_read stream_graph the.0 the_row.bytes ≡ None
         go None e = missing stream_graph the.0 the_row.bytes (said row).0 (said row).1 the_row.read e
@@ -303,7 +327,7 @@ module _ (told : Bool) (objects : Held) (numbers : Numbers) (unit : ℕ) (outsid
           free s is are o m None e = e
           free s is are o m (Some r) e =
               let names_it : Among (names r) o = sound.owns r o e in
-              let p = sound.named.placed r o names_it in
+              let p = sound.placed r o names_it in
               let below : r < last + 1 = sound.below p.0 p.1 r p.2 in
               let f = (found tells the.0 the.1).places p.0 p.1 r p.2 in
               let k = (found tells the.0 the.1).records r f.0 f.2 f.3 below in

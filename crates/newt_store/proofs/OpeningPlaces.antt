@@ -53,6 +53,9 @@ same-key a b s u = go (a == s) refl (b == u) refl
     go true p false q = inr (λ e f. not_true (b == u) (eq-eqb b u f) q)
     go false p y q = inr (λ e f. not_true (a == s) (eq-eqb a s e) p)
 
+pub odd-is : (n : ℕ) → n % 2 ≢ 0 → n % 2 ≡ 1
+odd-is n odd = omega (arith, odd)
+
 same-number : (a b : ℕ) → (a ≡ b) ⊎ (a ≢ b)
 same-number a b = go (a == b) refl
   where
@@ -66,8 +69,8 @@ among-or-not (x ∷ ids) o = go (same-number x o) (among-or-not ids o)
   where
     go : (x ≡ o) ⊎ (x ≢ o) → Among ids o ⊎ (Among ids o → ⊥) → Among (x ∷ ids) o ⊎ (Among (x ∷ ids) o → ⊥)
     go (inl same) rest = inl (inl same)
-    go (inr no) (inl m) = inl (inr m)
-    go (inr no) (inr out) = inr (λ m. ⊎_elim no out m)
+    go (inr other) (inl m) = inl (inr m)
+    go (inr other) (inr out) = inr (λ m. ⊎_elim other out m)
 
 -- ---- one place more
 
@@ -98,7 +101,7 @@ module _ (place place' : Places) (sig uid id : ℕ) (kept : place' sig uid ≡ S
 
       -- a record that names an id is not the new one
       was-lower : (r o : ℕ) → Among (names r) o → r ≢ id
-      was-lower r o m = λ same. let p = so.named.placed r o m in new-high p.0 p.1 r same p.2
+      was-lower r o m = λ same. let p = so.placed r o m in new-high p.0 p.1 r same p.2
 
       module _ (there : IsSome (table id)) (odd : id % 2 ≡ 1) (none : place sig uid ≡ None) (owns : OwnsThese ids id owner owner')
           (large_there : (o : ℕ) → Among ids o → IsSome (table o)) (large_even : (o : ℕ) → Among ids o → (o % 2 ≡ 0) × (0 < o)) where
@@ -123,13 +126,13 @@ module _ (place place' : Places) (sig uid id : ℕ) (kept : place' sig uid ≡ S
             subst (λ (l : List ℕ). Among l o) (sym (other_names r (was-lower r o was))) was)
             (among-or-not ids o)
 
-        names-next : AreSoundNames table place' names'
+        names-next : AreSoundNames table names'
         names-next = record {
           there = λ r o m. ⊎_elim (λ (new : (r ≡ id) × Among ids o). large_there o new.1) (λ (old : (r ≢ id) × Among (names r) o). so.named.there r o old.1) (named-or-was r o m);
           even = λ r o m. ⊎_elim (λ (new : (r ≡ id) × Among ids o). large_even o new.1) (λ (old : (r ≢ id) × Among (names r) o). so.named.even r o old.1) (named-or-was r o m);
-          placed = λ r o m. ⊎_elim
-              (λ (new : (r ≡ id) × Among ids o). let p : (s : ℕ) × (u : ℕ) × (place' s u ≡ Some r) = (sig, uid, kept ∙ ap (λ (q : ℕ). let x : Option ℕ = Some q in x) (sym new.0)) in p)
-              (λ (old : (r ≢ id) × Among (names r) o). let w = so.named.placed r o old.1 in let p : (s : ℕ) × (u : ℕ) × (place' s u ≡ Some r) = (w.0, w.1, keeps none w.0 w.1 r w.2) in p)
+          records = λ r o m. ⊎_elim
+              (λ (new : (r ≡ id) × Among ids o). subst (λ (q : ℕ). IsSome (table q) × (q % 2 ≡ 1)) (sym new.0) (there, odd))
+              (λ (old : (r ≢ id) × Among (names r) o). so.named.records r o old.1)
               (named-or-was r o m);
           by_one = λ r q o m k. some-is r q (sym (owned-next r o m) ∙ owned-next q o k);
           once = λ r. ⊎_elim
@@ -137,6 +140,12 @@ module _ (place place' : Places) (sig uid id : ℕ) (kept : place' sig uid ≡ S
               (λ (no : r ≢ id). subst (λ (l : List ℕ). Pairs (λ a b. a ≢ b) l) (sym (other_names r no)) (so.named.once r))
               (same-number r id);
         }
+
+        placed-next : (r o : ℕ) → Among (names' r) o → (s : ℕ) × (u : ℕ) × (place' s u ≡ Some r)
+        placed-next r o m = ⊎_elim
+            (λ (new : (r ≡ id) × Among ids o). let p : (s : ℕ) × (u : ℕ) × (place' s u ≡ Some r) = (sig, uid, kept ∙ ap (λ (q : ℕ). let x : Option ℕ = Some q in x) (sym new.0)) in p)
+            (λ (old : (r ≢ id) × Among (names r) o). let w = so.placed r o old.1 in let p : (s : ℕ) × (u : ℕ) × (place' s u ≡ Some r) = (w.0, w.1, keeps none w.0 w.1 r w.2) in p)
+            (named-or-was r o m)
 
         pub sound-next : AreSoundTo id table place' names' owner'
         sound-next = record {
@@ -156,6 +165,7 @@ module _ (place place' : Places) (sig uid id : ℕ) (kept : place' sig uid ≡ S
               (λ (old : place s u ≡ Some i). let below : i < last + 1 = so.below s u i old in omega (arith, below, low))
               (new-or-old s u i at);
           named = names-next;
+          placed = placed-next;
           owned = owned-next;
           owns = owns-next;
         }
@@ -238,6 +248,7 @@ sound-even last id low table place names owner so = record {
   places = so.places;
   below = λ s u i at. let below : i < last + 1 = so.below s u i at in omega (arith, below, low);
   named = so.named;
+  placed = so.placed;
   owned = so.owned;
   owns = so.owns;
 }
@@ -255,10 +266,11 @@ sound-none table place names owner none no_names no_owner = record {
   named = record {
     there = λ r o m. absurd (not_named r o m);
     even = λ r o m. absurd (not_named r o m);
-    placed = λ r o m. absurd (not_named r o m);
+    records = λ r o m. absurd (not_named r o m);
     by_one = λ r q o m k. absurd (not_named r o m);
     once = λ r. subst (λ (l : List ℕ). Pairs (λ a b. a ≢ b) l) (sym (no_names r)) tt;
   };
+  placed = λ r o m. absurd (not_named r o m);
   owned = λ r o m. absurd (not_named r o m);
   owns = λ r o at. absurd (none-some r (sym (no_owner o) ∙ at));
 } where
@@ -286,7 +298,7 @@ found-all texts directory last table place names owner root so f none all_owned 
       (λ (from : last + 1 ≤ i). absurd (none-some b (sym (none i from) ∙ at)))
       (cases_lt i (last + 1));
   places = f.places;
-  names = λ r o m. let p = so.named.placed r o m in let k = f.places p.0 p.1 r p.2 in (k.0, k.2, k.3);
+  names = λ r o m. let p = so.placed r o m in let k = f.places p.0 p.1 r p.2 in (k.0, k.2, k.3);
   others = λ i b at n even. let r = some-of (owner i) (all_owned i b at n even) in (r.0, so.owns r.0 i r.1);
   once = λ r q o m k. so.named.by_one r q o m k;
   apart = so.named.once;

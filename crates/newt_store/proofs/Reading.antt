@@ -1,18 +1,18 @@
 -- What an image is read as, where a store lies in its objects.
-use Rattle.std.proofs.Common.{◌≡◌, ℕ, ◌≤◌, ◌/◌, ◌&&◌, Bool, true, false, cond, List, length, Some, None, refl, sym, ◌∙◌, ap, subst, arith}
+use Rattle.std.proofs.Common.{◌≡◌, ℕ, ◌≤◌, ◌/◌, ◌&&◌, Bool, true, false, List, length, Some, refl, sym, ◌∙◌, ap, subst, arith}
 use Rattle.std.proofs.lemmas.Bool.Decides.{nat_tests}
 use Rattle.newt_image.specs.Objects.{Objects}
 use Rattle.newt_image.specs.Pages.{cap}
 use Rattle.newt_objects.specs.Changing.{HoldsObjects, total_pages}
 use Rattle.newt_spec_store.specs.Store.{Store}
 use Rattle.newt_spec_store.specs.Cost.{cost}
-use Rattle.newt_spec_store.specs.Lies.{Places, only}
+use Rattle.newt_spec_store.specs.Lies.{Places}
 use Rattle.newt_spec_store.specs.OfImage.{blocks_of}
 use Rattle.newt_spec_store.specs.Valid.{valid, fits, well_formed}
-use Rattle.newt_spec_store.specs.ImageStore.{store_of_image}
 use Rattle.newt_laws_images.proofs.Gathering.{image-by-objects}
 use Rattle.newt_laws_images.proofs.Whole.{lies-read}
 use Rattle.newt_laws_images.proofs.Totals.{lies-total}
+use Rattle.newt_laws_changes.specs.Written.{Names}
 use Rattle.newt_soupdir.specs.declared.rows.Directory.{Directory}
 use Rattle.newt_entries.specs.Entry.{stream_graph}
 use Rattle.newt_entries.proofs.Streams.{reads_graphs}
@@ -32,23 +32,15 @@ fits-test blocks s low = grind (arith, nat_tests)
 pub is-valid : (blocks : ℕ) (s : Store) → well_formed s ≡ true → cost s ≤ cap blocks → valid blocks s ≡ true
 is-valid blocks s formed low = join (well_formed s) (fits blocks s) formed (fits-test blocks s low)
 
-only-kept : (s : Store) → is_simple s ≡ true → only is_simple (Some s) ≡ Some s
-only-kept s simple = kept (is_simple s) simple where
-  kept : (b : Bool) → b ≡ true → cond b (Some s) None ≡ Some s
-  kept true e = refl
-  kept false e = absurd (cc)
-
 -- an image that holds objects which write down a store that fits is read as this store
-pub read-back : (directory : Directory) (place : Places) (texts : Objects) (s : Store) (left : List ℕ) → HoldsObjects left texts → Describes directory place texts s → cost s ≤ cap (blocks_of left) → readable left ≡ Some s
-read-back directory place texts s left holds describes low =
-    let stored : store_of_image stream_graph left ≡ Some s =
+pub read-back : (directory : Directory) (place : Places) (names : Names) (texts : Objects) (s : Store) (left : List ℕ) → HoldsObjects left texts → Describes directory place names texts s → cost s ≤ cap (blocks_of left) → readable left ≡ Some s
+read-back directory place names texts s left holds describes low =
     image-by-objects stream_graph left holds.live texts holds.of_image holds.are
-    ∙ lies-read stream_graph texts place (blocks_of left) s reads_graphs describes.lies (is-valid (blocks_of left) s describes.formed low) describes.simple in
-    ap (only is_simple) stored ∙ only-kept s describes.simple
+    ∙ lies-read stream_graph texts place (blocks_of left) s reads_graphs describes.lies (is-valid (blocks_of left) s describes.formed low)
 
 -- as many pages as the store costs
-pub total-cost : (directory : Directory) (place : Places) (texts : Objects) (s : Store) → Describes directory place texts s → total_pages texts ≡ cost s
-total-cost directory place texts s describes = lies-total texts place s describes.lies describes.formed describes.simple
+pub total-cost : (directory : Directory) (place : Places) (names : Names) (texts : Objects) (s : Store) → Describes directory place names texts s → total_pages texts ≡ cost s
+total-cost directory place names texts s describes = lies-total texts place s describes.lies describes.formed
 
 -- an image with as many bytes
 pub same-cap : (now left : List ℕ) (n : ℕ) → length left ≡ length now → n ≤ cap (blocks_of now) → n ≤ cap (blocks_of left)

@@ -66,7 +66,7 @@ replaced-formed name uid now g s formed valid = with-soup name (change_entry uid
 pub kept-place : (place : Places) (e : NewEntry) (sig uid id : ℕ) → e.sig ≡ sig → e.uid ≡ uid → e.id ≡ id → place sig uid ≡ Some id → place e.sig e.uid ≡ Some e.id
 kept-place place e sig uid id of_sig of_uid of_id at = ap (λ (n : ℕ). place n e.uid) of_sig ∙ ap (place sig) of_uid ∙ at ∙ ap Some (sym of_id)
 
-module _ (catalog : Catalog) (s : Store) (places-sound : AreSoundPlaces (held catalog.objects) (place_of catalog.places)) (names-sound : AreSoundNames (held catalog.objects) (place_of catalog.places) (names_of catalog.names))
+module _ (catalog : Catalog) (s : Store) (places-sound : AreSoundPlaces (held catalog.objects) (place_of catalog.places)) (names-sound : AreSoundNames (held catalog.objects) (names_of catalog.names))
     (sig uid : ℕ) (p : Soup) (found : soup_of sig s ≡ Some p) (old : Entry) (here : entry_of uid p ≡ Some old) (id : ℕ) (at : place_of catalog.places sig uid ≡ Some id)
     (now : ℕ) (g : RawGraph) (graph : IsGraph (skeleton g)) (time : now < 4294967296) (valid : valid_entry (record { uid = uid; time = now; graph = g }) ≡ true)
     (dir : Directory) (same : bare_store dir ≡ bare_store catalog.directory) (e : NewEntry) (of : IsEntryOf sig uid now g e) (of_id : e.id ≡ id) (free : (o : ℕ) → Among (large_ids e) o → held catalog.objects o ≡ None) where
@@ -180,7 +180,7 @@ no-more : (n : ℕ) → n + 0 ≡ n
 no-more n = omega arith
 
 pub replace-planned : (catalog : Catalog) (texts : Objects) (s : Store) (sig uid id now : ℕ) (g : RawGraph) (dir : Directory) (e : NewEntry) → AreSoundPlaces (held catalog.objects) (place_of catalog.places)
-    → AreSoundNames (held catalog.objects) (place_of catalog.places) (names_of catalog.names) → Describes catalog.directory (place_of catalog.places) (names_of catalog.names) texts s
+    → AreSoundNames (held catalog.objects) (names_of catalog.names) → Describes catalog.directory (place_of catalog.places) (names_of catalog.names) texts s
     → is_some (soup_of sig (bare_store catalog.directory)) ≡ true → place_of catalog.places sig uid ≡ Some id → bare_store dir ≡ bare_store catalog.directory → IsEntryOf sig uid now g e → e.id ≡ id
     → ((o : ℕ) → Among (large_ids e) o → held catalog.objects o ≡ None) → IsGraph g → now < 4294967296 → is_frame (object g.nodes g.root) ≡ true → is_too_large g ≡ false
     → IsPlanOf catalog (Replace sig uid g) now s (record { directory = dir; entry = Some e; gone = Nothing; answer = 0 })

@@ -1,9 +1,10 @@
 -- Two lists with the same numbers, each once.
-use Rattle.std.proofs.Common.{◌≡◌, ℕ, zero, suc, ◌+◌, ◌==◌, ◌||◌, Bool, true, false, cond, not, List, [], ◌∷◌, filter, slice_get, sum_by, Some, None, refl, sym, ◌∙◌, ap, arith, ⊎_elim}
+use Rattle.std.proofs.Common.{◌≡◌, ◌≢◌, inl, inr, ℕ, ◌+◌, ◌==◌, ◌||◌, Bool, true, false, cond, not, List, [], ◌∷◌, filter, sum_by, refl, sym, ◌∙◌, ap, arith, ⊎_elim}
 use Rattle.std.specs.List.{IsDistinct, AllByRecursion}
 use Rattle.std.specs.Set.{is_member}
 use Rattle.std.proofs.lemmas.List.Sums.{sum_by-cons}
-use Rattle.newt_pagebook.proofs.Tests.{some_inj, true_or_false, is_same, equal_true, equal_false}
+use Rattle.newt_pagebook.proofs.Tests.{true_or_false, is_same, equal_true, equal_false}
+use Rattle.newt_spec_graph.specs.Lists.{Each, Among}
 use Rattle.newt_shelf.specs.Batch.{AreOnce}
 
 abbrev pub same_number : ℕ → ℕ → Bool
@@ -15,34 +16,31 @@ other-way a b = ⊎_elim
     (λ (e : (a == b) ≡ false). e ∙ sym (equal_false b a (λ is. absurd (let yes : (a == b) ≡ true = equal_true a b (sym is) in cc))))
     (true_or_false (a == b))
 
--- ---- members by their places
+-- ---- members
 
-pub member-at : (xs : List ℕ) (k q : ℕ) → slice_get xs k ≡ Some q → is_member same_number xs q ≡ true
-member-at [] k q at = absurd (let no : None ≡ Some q = at in cc)
-member-at (x ∷ xs) zero q at = ap (λ (b : Bool). b || is_member same_number xs q) (equal_true q x (sym (some_inj x q at)))
-member-at (x ∷ xs) (suc k) q at = or-later (same_number q x) (member-at xs k q at) where
+pub among-member : (xs : List ℕ) (q : ℕ) → Among xs q → is_member same_number xs q ≡ true
+among-member [] q m = absurd m
+among-member (x ∷ xs) q (inl same) = ap (λ (b : Bool). b || is_member same_number xs q) (equal_true q x (sym same))
+among-member (x ∷ xs) q (inr m) = or-later (same_number q x) (among-member xs q m) where
   or-later : (b : Bool) → is_member same_number xs q ≡ true → (b || is_member same_number xs q) ≡ true
   or-later true more = refl
   or-later false more = more
 
-pub at-member : (xs : List ℕ) (q : ℕ) → is_member same_number xs q ≡ true → (k : ℕ) × (slice_get xs k ≡ Some q)
-at-member [] q is = absurd (cc)
-at-member (x ∷ xs) q is = by (same_number q x) refl is (λ more. at-member xs q more) where
-  by : (b : Bool) → same_number q x ≡ b → (b || is_member same_number xs q) ≡ true → (is_member same_number xs q ≡ true → (k : ℕ) × (slice_get xs k ≡ Some q)) → (k : ℕ) × (slice_get (x ∷ xs) k ≡ Some q)
-  by true e h later = (zero, ap Some (sym (is_same q x e)))
-  by false e h later = let w = later h in (suc w.0, w.1)
+pub member-among : (xs : List ℕ) (q : ℕ) → is_member same_number xs q ≡ true → Among xs q
+member-among [] q is = absurd (cc)
+member-among (x ∷ xs) q is = by (same_number q x) refl is (λ more. member-among xs q more) where
+  by : (b : Bool) → same_number q x ≡ b → (b || is_member same_number xs q) ≡ true → (is_member same_number xs q ≡ true → Among xs q) → Among (x ∷ xs) q
+  by true e h later = inl (sym (is_same q x e))
+  by false e h later = inr (later h)
 
-all-at : (x : ℕ) (xs : List ℕ) → ((k y : ℕ) → slice_get xs k ≡ Some y → same_number x y ≡ false) → AllByRecursion (λ y. same_number x y ≡ false) xs
-all-at x [] each = tt
-all-at x (y ∷ xs) each = (each zero y refl, all-at x xs (λ k z at. each (suc k) z at))
+all-apart : (x : ℕ) (xs : List ℕ) → Each (λ y. x ≢ y) xs → AllByRecursion (λ y. same_number x y ≡ false) xs
+all-apart x [] each = tt
+all-apart x (y ∷ xs) each = (equal_false x y each.0, all-apart x xs each.1)
 
 pub once-distinct : (xs : List ℕ) → AreOnce xs → IsDistinct same_number xs
 unfolding IsDistinct
 once-distinct [] once = tt
-once-distinct (x ∷ xs) once = (
-  all-at x xs (λ k y at. equal_false x y (λ same. absurd (let no : zero ≡ suc k = once zero (suc k) x refl (at ∙ ap Some (sym same)) in omega (arith, no)))),
-  once-distinct xs (λ k l id at other. (let e : suc k ≡ suc l = once (suc k) (suc l) id at other in omega (arith, e))),
-)
+once-distinct (x ∷ xs) once = (all-apart x xs once.0, once-distinct xs once.1)
 
 -- ---- sums
 

@@ -1,5 +1,5 @@
 -- What a change writes, from what is planned of it.
-use Rattle.std.proofs.Common.{IsTrue, ◌≡◌, ◌≢◌, inl, inr, ℕ, ◌+◌, ◌*◌, Bool, List, length, slice_get, Option, Some, None, IsSome, Result, Err, refl, sym, ◌∙◌, ap, subst, arith, ⊎_elim}
+use Rattle.std.proofs.Common.{IsTrue, ◌≡◌, ◌≢◌, inl, inr, ℕ, ◌+◌, ◌*◌, Bool, List, [], ◌∷◌, map as map_list, length, Option, Some, None, IsSome, Result, Err, refl, sym, ◌∙◌, ap, subst, arith, ⊎_elim}
 use Rattle.std.specs.FinMap as map
 use Rattle.std.specs.Option.{option_map}
 use Rattle.std.proofs.lemmas.Bool.{cases_eq}
@@ -20,10 +20,13 @@ use Rattle.newt_objects.specs.Held.{Held, held, planned, Texts}
 use Rattle.newt_objects.specs.Changing.{HoldsObjects, IsUnderWay}
 use Rattle.newt_objects.proofs.Changing.{start_under_way, are_still}
 use Rattle.newt_objects.proofs.Same.{texts_by}
+use Rattle.newt_spec_graph.specs.Lists.{Among}
+use Rattle.newt_laws_changes.proofs.Lying.{among-or-not}
 use Rattle.newt_shelf.specs.declared.batch.NewEntry.{NewEntry}
+use Rattle.newt_shelf.specs.declared.batch.NewLarge.{NewLarge}
 use Rattle.newt_shelf.specs.declared.fault.StoreFault.{StoreFault}
 use Rattle.newt_shelf.specs.declared.fault.StoreFault.TheVariants.{Refused, Stop}
-use Rattle.newt_shelf.specs.Batch.{AreWritten, AddsPages, new_pages, over_pages, pages_held, all_pages_held}
+use Rattle.newt_shelf.specs.Batch.{AreWritten, AddsPages, large_ids, new_pages, over_pages, pages_held, all_pages_held}
 use Rattle.newt_shelf.specs.Commit.{AreKept, IsPlanned, IsEither}
 use Rattle.newt_shelf.specs.Faults.{RefusesOnly}
 use Rattle.newt_store.specs.declared.next.Next.{Next}
@@ -74,6 +77,12 @@ module _ (told : Bool) (objects : Held) (numbers : Numbers) (unit : ℕ) (outsid
   pub planned-made : (now : Held) (batch : Change) (before after : Texts) → AreObjectsOf live before → IsUnderWay now batch live after → IsPlanned told now batch numbers (image unit outside.now) before after
   planned-made now batch before after are way = record { live = live; are = kept.are.are; were = are; way = way }
 
+-- what stands in a list of values is the value of an element
+map-among : {X : Type 0} (f : X → ℕ) (xs : List X) (n : ℕ) → Among (map_list f xs) n → (x : X) × Among xs x × (f x ≡ n)
+map-among f [] n m = absurd m
+map-among f (x ∷ xs) n (inl e) = (x, inl refl, e)
+map-among f (x ∷ xs) n (inr m) = let w = map-among f xs n m in (w.0, inr w.1, w.2)
+
 some-map : {A B : Type 0} (f : A → B) (o : Option A) → IsSome o → IsSome (option_map f o)
 some-map f None some = some
 some-map f (Some x) some = refl
@@ -98,20 +107,30 @@ module _ (objects now : Held) (batch : Change) (live : Pages) (before after : Te
   pub planned-new : (e : NewEntry) → entry ≡ Some e → IsSome (planned now e.id)
   planned-new e is = in-after e.id (is-some (map.get after e.id) e.bytes.items (wrote.entry_is e is))
 
-  pub planned-there : (id : ℕ) → IsSome (held objects id) → ((k : ℕ) → slice_get gone k ≡ Some id → ⊥) → IsSome (planned now id)
+  pub planned-larges : (e : NewEntry) (id : ℕ) → entry ≡ Some e → Among (large_ids e) id → IsSome (planned now id)
+  planned-larges e id is m =
+      let l = map-among (λ (l : NewLarge). l.id) e.larges.items id m in
+      subst (λ (n : ℕ). IsSome (planned now n)) l.2 (in-after l.0.id (is-some (map.get after l.0.id) l.0.bytes.items (wrote.larges_are e l.0 is l.1)))
+
+  pub planned-there : (id : ℕ) → IsSome (held objects id) → (Among gone id → ⊥) → IsSome (planned now id)
   planned-there id there stays = ⊎_elim
       (λ (zero : id ≡ 0). in-after id (is-some (map.get after id) directory (ap (map.get after) zero ∙ wrote.directory_is)))
       (λ (other : id ≢ 0). with-entry other entry refl)
       (cases_eq id 0) where
-        untouched : id ≢ 0 → ((e : NewEntry) → entry ≡ Some e → e.id ≢ id) → IsSome (planned now id)
-        untouched other new = in-after id (subst (λ (o : Option (List ℕ)). IsSome o)
-            (sym (wrote.others id other new stays ∙ texts_by live (held objects) before were start.is_table id)) (some-map (joined live) (held objects id) there))
+        untouched : id ≢ 0 → ((e : NewEntry) → entry ≡ Some e → e.id ≢ id) → ((e : NewEntry) → entry ≡ Some e → Among (large_ids e) id → ⊥) → IsSome (planned now id)
+        untouched other new larges = in-after id (subst (λ (o : Option (List ℕ)). IsSome o)
+            (sym (wrote.others id other new larges stays ∙ texts_by live (held objects) before were start.is_table id)) (some-map (joined live) (held objects id) there))
 
         with-entry : id ≢ 0 → (o : Option NewEntry) → entry ≡ o → IsSome (planned now id)
-        with-entry other None e = untouched other (λ x is same. absurd (let no : None ≡ Some x = sym e ∙ is in cc))
+        with-entry other None e = untouched other (λ x is same. absurd (let no : None ≡ Some x = sym e ∙ is in cc)) (λ x is m. absurd (let no : None ≡ Some x = sym e ∙ is in cc))
         with-entry other (Some x) e = ⊎_elim
             (λ (same : x.id ≡ id). subst (λ (n : ℕ). IsSome (planned now n)) same (planned-new x e))
-            (λ (ne : x.id ≢ id). untouched other (λ y is same. ne (ap (λ (z : NewEntry). z.id) (some_inj x y (sym e ∙ is)) ∙ same)))
+            (λ (ne : x.id ≢ id). ⊎_elim
+            (λ (m : Among (large_ids x) id). planned-larges x id e m)
+            (λ (out : Among (large_ids x) id → ⊥). untouched other
+            (λ y is same. ne (ap (λ (z : NewEntry). z.id) (some_inj x y (sym e ∙ is)) ∙ same))
+            (λ y is m. out (subst (λ (z : NewEntry). Among (large_ids z) id) (sym (some_inj x y (sym e ∙ is))) m)))
+            (among-or-not (large_ids x) id))
             (cases_eq x.id id)
 
 -- ---- at every moment

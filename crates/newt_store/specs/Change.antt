@@ -46,7 +46,7 @@ with_graph now graph e = record e { time = now; graph = graph }
 -- the bytes of a large binary, none of another node
 abbrev pub bytes_in : Option Node → Option (List ℕ)
 bytes_in (Some (Large class bytes)) = Some bytes
-bytes_in node = None
+bytes_in _ = None
 
 -- the bytes of the large binary of this number, none where there is none
 abbrev pub large_of : ℕ → RawGraph → Option (List ℕ)

@@ -1,10 +1,10 @@
 -- What is found where a store is opened. This project's own.
-use Rattle.std.specs.Prelude.{◌≡◌, ◌≢◌, ℕ, ◌+◌, ◌%◌, ◌<◌, Bool, IsTrue, List, map as list_map, Option, Some, None}
+use Rattle.std.specs.Prelude.{◌≡◌, ◌≢◌, ℕ, ◌+◌, ◌%◌, ◌<◌, ◌==◌, Bool, false, IsTrue, List, map as list_map, Option, Some, None}
 use Rattle.std.specs.FinMap as map
 use Rattle.std.specs.BTreeMap as tree
 use Rattle.std.specs.BTreeMap.{BTreeMap}
 use Rattle.std.specs.Ordering.{nat_cmp}
-use Rattle.newt_image.specs.Objects.{Table, Objects}
+use Rattle.newt_image.specs.Objects.{Extent, Table, Objects}
 use Rattle.newt_nsof.specs.Text.{AreBytes}
 use Rattle.newt_objects.specs.Changing.{HoldsObjects}
 use Rattle.newt_spec_graph.specs.Lists.{Among, Pairs}
@@ -44,6 +44,15 @@ HasObject id bytes texts = map.get texts id ≡ Some bytes
 
 -- ---- who names an object
 
+-- the object is there, and has so many bytes
+abbrev pub is_long : ℕ → Option Extent → Bool
+is_long size None = false
+is_long size (Some x) = x.length == size
+
+-- the object that a row names is there, with the row's length
+abbrev pub has_length : Table → LargeAt → Bool
+has_length table l = is_long l.length (table l.object)
+
 -- by the id of an object, the object of the record that names it
 abbrev pub Owners : Type 0
 Owners = ℕ → Option ℕ
@@ -69,11 +78,12 @@ AreOwned ids owner = ((o : ℕ) → Among ids o → owner o ≡ None) → Pairs 
 
 -- ---- what is found up to an id
 
--- The places and the names are sound, the places are those of objects up to an id, and the record that names an object is its owner, and no other is.
+-- The places and the names are sound, the places are those of objects up to an id, and the record that names an object has a place, is its owner, and no other is.
 pub record AreSoundTo (last : ℕ) (table : Table) (place : Places) (names : Names) (owner : Owners) : Type 0 where
   pub places : AreSoundPlaces table place
   pub below : (sig uid id : ℕ) → place sig uid ≡ Some id → id < last + 1
-  pub named : AreSoundNames table place names
+  pub named : AreSoundNames table names
+  pub placed : (r o : ℕ) → Among (names r) o → (sig : ℕ) × (uid : ℕ) × (place sig uid ≡ Some r)
   pub owned : (r o : ℕ) → Among (names r) o → owner o ≡ Some r
   pub owns : (r o : ℕ) → owner o ≡ Some r → Among (names r) o
 

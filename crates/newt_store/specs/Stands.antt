@@ -45,7 +45,7 @@ pub record StandsFor (catalog : Catalog) (s : Store) (now : List ℕ) : Type 0 w
 pub record IsSound (told : Bool) (catalog : Catalog) (numbers : Numbers) (unit : ℕ) (outside : Outside) : Type 0 where
   pub kept : AreKept told catalog.objects numbers unit outside
   pub places : AreSoundPlaces (held catalog.objects) (place_of catalog.places)
-  pub names : AreSoundNames (held catalog.objects) (place_of catalog.places) (names_of catalog.names)
+  pub names : AreSoundNames (held catalog.objects) (names_of catalog.names)
   pub formed : IsTrue (well_formed (bare_store catalog.directory))
 
 -- ---- answers

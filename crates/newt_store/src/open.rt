@@ -1,6 +1,6 @@
 // The store of an image is found.
 ghost use Rattle.std.specs.Prelude.{IsTrue, ◌≡◌, ◌≢◌, ◌+◌, ◌%◌, ◌<◌, ◌≤◌, ℕ, true, false, IsSome, Some, None, OnOk, IfOk, IsErrOf};
-ghost use Rattle.std.specs.Option.{option_map};
+ghost use Rattle.std.specs.List.{list_all};
 ghost use Rattle.newt_host.specs.Moments.{image};
 ghost use Rattle.newt_host.specs.Outside.{Touches, Rose};
 ghost use Rattle.newt_nsof.specs.Text.{AreBytes};
@@ -13,14 +13,13 @@ ghost use Rattle.newt_spec_store.specs.Store.{Store as PlainStore};
 ghost use Rattle.newt_spec_store.specs.Lies.{directory_read, record_read};
 ghost use Rattle.newt_spec_store.specs.Valid.{well_formed};
 ghost use Rattle.newt_soupdir.specs.Bare.{bare_store};
-ghost use Rattle.newt_entries.specs.declared.row.LargeAt.{LargeAt as Large};
 ghost use Rattle.newt_entries.specs.Entry.{stream_graph, said};
 ghost use Rattle.newt_shelf.specs.Commit.{AreKept};
 ghost use Rattle.newt_shelf.specs.Names.{AreSoundNames, names_of};
 ghost use Rattle.newt_shelf.specs.Places.{AreSoundPlaces, place_of};
 ghost use Rattle.newt_store.specs.Readable.{readable};
 ghost use Rattle.newt_store.specs.Stands.{StandsFor, IsSound};
-ghost use Rattle.newt_store.specs.Opening.{OfObjects, HasObject, IsRoot, IsRow, objects_named, owner_of, OwnsThese, AreOwned, AreSoundTo, AreFoundTo};
+ghost use Rattle.newt_store.specs.Opening.{OfObjects, HasObject, IsRoot, IsRow, has_length, objects_named, owner_of, OwnsThese, AreOwned, AreSoundTo, AreFoundTo};
 
 use crate::catalog::Catalog;
 use newt_entries::{EntryFault, EntryRow, LargeAt, read_entry};
@@ -173,17 +172,21 @@ fn has_given(directory: &Directory, row: &EntryRow) -> bool
     }
 }
 
+/// Whether the object that a row names is there, with the row's length.
+fn is_there(objects: &Objects, row: &LargeAt) -> bool
+    ensures { result ≡ has_length (held objects.now) row.now }
+{
+    match objects.length(row.object) {
+        Some(length) => length == row.length,
+        None => false,
+    }
+}
+
 /// Whether each object that rows name is there, with the row's length.
 fn are_there(objects: &Objects, rows: &[LargeAt]) -> bool
-    ensures there { result ≡ true → (l : Large) → Among rows.now l → option_map (λ x. x.length) (held objects.now l.object) ≡ Some l.length }
-    ensures not_there { result ≡ false → (l : Large) × Among rows.now l × (option_map (λ x. x.length) (held objects.now l.object) ≢ Some l.length) }
+    ensures { result ≡ list_all (λ row. has_length (held objects.now) row) rows.now }
 {
-    for row in rows {
-        if objects.length(row.object) != Some(row.length) {
-            return false;
-        }
-    }
-    true
+    rows.iter().all(|row| is_there(objects, row))
 }
 
 /// The ids of the objects that rows name, in order.
@@ -212,11 +215,23 @@ fn own_all(owners: &mut BTreeMap<u32, u32>, ids: &[u32], id: u32) -> Result<bool
     ensures are_owned { IfOk result (λ all. all ≡ false → AreOwned ids.now (owner_of owners.old)) }
 {
     for object in ids {
-        if own(owners, *object, id)?.is_some() {
+        let old = own(owners, *object, id)?;
+        if old.is_some() {
             return Ok(false);
         }
     }
     Ok(true)
+}
+
+/// Whether an object with an even id has an owner.
+fn is_owned(owners: &BTreeMap<u32, u32>, id: u32) -> bool
+    ensures owned { result ≡ true → id % 2 ≡ 0 → IsSome (owner_of owners.now id) }
+    ensures not_owned { result ≡ false → (id % 2 ≡ 0) × (owner_of owners.now id ≡ None) }
+{
+    if id % 2 == 1 {
+        return true;
+    }
+    owners.get(&id).is_some()
 }
 
 /// Whether each object with an even id above 0 has an owner.
@@ -226,12 +241,19 @@ fn are_owned(objects: &Objects, owners: &BTreeMap<u32, u32>) -> bool
 {
     let mut last = 0;
     while let Some(id) = objects.next_after(last) {
-        if id % 2 == 0 && owners.get(&id).is_none() {
+        if !is_owned(owners, id) {
             return false;
         }
         last = id;
     }
     true
+}
+
+/// No owners. It takes no memory.
+fn no_owners(alloc: Global) -> BTreeMap<u32, u32>
+    ensures { (o : ℕ) → owner_of result o ≡ None }
+{
+    BTreeMap::new(alloc)
 }
 
 /// What is found of the records of entries.
@@ -288,7 +310,8 @@ fn find_object<P: PageBook, H: Host>(
         return Err(BookFault::NotStore);
     }
     let ids = named_by(alloc, row.larges.list())?;
-    if !own_all(&mut finding.owners, &ids, id)? {
+    let are_free = own_all(&mut finding.owners, &ids, id)?;
+    if !are_free {
         return Err(BookFault::NotStore);
     }
     finding.names.insert(id, ids)?;
@@ -308,7 +331,7 @@ fn find_records<P: PageBook, H: Host>(
     requires root { OfObjects H.told (image (P.place book.old) (H.outside host.old).now) (IsRoot directory.now) }
     requires formed { IsTrue (well_formed (bare_store directory.now)) }
     ensures places { IfOk result (λ finding. AreSoundPlaces (held objects.now) (place_of finding.places)) }
-    ensures names { IfOk result (λ finding. AreSoundNames (held objects.now) (place_of finding.places) (names_of finding.names)) }
+    ensures names { IfOk result (λ finding. AreSoundNames (held objects.now) (names_of finding.names)) }
     ensures found { IfOk result (λ finding. OfObjects H.told (image (P.place book.old) (H.outside host.old).now) (λ texts. IsFound stream_graph texts (place_of finding.places) (names_of finding.names) (bare_store directory.now))) }
     ensures not_store { IsErrOf result BookFault.NotStore → IsTrue H.told → readable (image (P.place book.old) (H.outside host.old).now) ≡ None }
     ensures stands { P.stands H.told book.new (H.outside host.new) }
@@ -318,10 +341,13 @@ fn find_records<P: PageBook, H: Host>(
     ensures alone { Touches (P.place book.old) (H.outside host.old) (H.outside host.new) }
     ensures cause { IsErrOf result BookFault.Device → Rose ((H.outside host.old).dev_faults (P.place book.old)) ((H.outside host.new).dev_faults (P.place book.old)) }
 {
+    let places = PlaceTable::new(alloc);
+    let names = NameTable::new(alloc);
+    let owners = no_owners(alloc);
     let mut finding = Finding {
-        places: PlaceTable::new(alloc),
-        names: NameTable::new(alloc),
-        owners: BTreeMap::new(alloc),
+        places,
+        names,
+        owners,
     };
     let mut last = 0;
     while let Some(id) = objects.next_after(last) {

@@ -259,7 +259,7 @@ fn plan_add(
 ) -> Result<Next, StoreFault>
     requires formed { IsTrue (well_formed (bare_store catalog.now.directory)) }
     requires places { AreSoundPlaces (held catalog.now.objects) (place_of catalog.now.places) }
-    requires names { AreSoundNames (held catalog.now.objects) (place_of catalog.now.places) (names_of catalog.now.names) }
+    requires names { AreSoundNames (held catalog.now.objects) (names_of catalog.now.names) }
     ensures next { IfOk result (IsNextOf catalog.now) }
     ensures planned { (texts : Texts) (s : PlainStore) → Describes catalog.now.directory (place_of catalog.now.places) (names_of catalog.now.names) texts s → IfOk result (IsPlanOf catalog.now (Change.Add sig graph.now) now s) }
     ensures refused { (texts : Texts) (s : PlainStore) → Describes catalog.now.directory (place_of catalog.now.places) (names_of catalog.now.names) texts s → IfErr result (RefusesWith (first_of (first_checks (Change.Add sig graph.now) s))) }
@@ -358,7 +358,7 @@ fn plan_replace(
 ) -> Result<Next, StoreFault>
     requires formed { IsTrue (well_formed (bare_store catalog.now.directory)) }
     requires places { AreSoundPlaces (held catalog.now.objects) (place_of catalog.now.places) }
-    requires names { AreSoundNames (held catalog.now.objects) (place_of catalog.now.places) (names_of catalog.now.names) }
+    requires names { AreSoundNames (held catalog.now.objects) (names_of catalog.now.names) }
     ensures next { IfOk result (IsNextOf catalog.now) }
     ensures planned { (texts : Texts) (s : PlainStore) → Describes catalog.now.directory (place_of catalog.now.places) (names_of catalog.now.names) texts s → IfOk result (IsPlanOf catalog.now (Change.Replace sig uid graph.now) now s) }
     ensures refused { (texts : Texts) (s : PlainStore) → Describes catalog.now.directory (place_of catalog.now.places) (names_of catalog.now.names) texts s → IfErr result (RefusesWith (first_of (first_checks (Change.Replace sig uid graph.now) s))) }

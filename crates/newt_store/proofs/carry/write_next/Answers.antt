@@ -10,7 +10,7 @@ use Rattle.newt_objects.proofs.TextsOf.{texts_of}
 use Rattle.newt_shelf.specs.Batch.{AreWritten}
 use Rattle.newt_shelf.specs.Commit.{AreKept}
 use Rattle.newt_store.specs.Next.{WritesNext, next_bytes}
-use Rattle.newt_store.proofs.Writing.{spends-nothing, bytes-planned, full-goes-on, the-fault, held-are, start-way, planned-made, planned-new, planned-there, leaves-next, leaves-none}
+use Rattle.newt_store.proofs.Writing.{spends-nothing, bytes-planned, full-goes-on, the-fault, held-are, start-way, planned-made, planned-new, planned-larges, planned-there, leaves-next, leaves-none}
 use Rattle.newt_store.proofs.carry.write_next.Goals as goal
 
 pub returns-in_err-bytes-clause-any_moment : goal.returns-in_err-bytes-clause-any_moment
@@ -72,6 +72,18 @@ returns-in-Ok-clause-new g c = λ e is.
     let made = c.in_ok-plan_objects.ensures.way k.are.live texts.0 (subst (λ (b : Change). IsUnderWay c.args.objects.now b k.are.live texts.0) (sym c.new-batch.ensures) start) in
     subst (λ (x : Option Extent). IsSome x) (sym (c.in-Ok.ensures.held e.id))
     (planned-new c.args.objects.now c.plan_objects.new.objects c.plan_objects.new.batch k.are.live texts.0 made.0 _ c.args.next.now.entry c.args.gone.now start texts.1 made.1 made.2 e is)
+
+pub returns-in-Ok-clause-new_larges : goal.returns-in-Ok-clause-new_larges
+returns-in-Ok-clause-new_larges g c = λ e id is m.
+    let k = c.requires.kept in
+    let o = g.H.Host.outside c.args.host.now in
+    let u : ℕ = g.P.PageBook.place c.args.book.now in
+    let n = g.P.PageBook.numbers c.args.book.now in
+    let texts = texts_of k.are.live (held c.args.objects.now) k.are.is_table in
+    let start = start-way g.H.Host.told c.args.objects.now n u o k texts.0 texts.1 in
+    let made = c.in_ok-plan_objects.ensures.way k.are.live texts.0 (subst (λ (b : Change). IsUnderWay c.args.objects.now b k.are.live texts.0) (sym c.new-batch.ensures) start) in
+    subst (λ (x : Option Extent). IsSome x) (sym (c.in-Ok.ensures.held id))
+    (planned-larges c.args.objects.now c.plan_objects.new.objects c.plan_objects.new.batch k.are.live texts.0 made.0 _ c.args.next.now.entry c.args.gone.now start texts.1 made.1 made.2 e id is m)
 
 pub returns-in-Ok-clause-there : goal.returns-in-Ok-clause-there
 returns-in-Ok-clause-there g c = λ id there stays.

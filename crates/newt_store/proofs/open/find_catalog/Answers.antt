@@ -4,8 +4,9 @@ use Rattle.newt_image.specs.Pages.{cap}
 use Rattle.newt_laws_images.specs.Found.{IsFound}
 use Rattle.newt_soupdir.specs.Bare.{bare_store}
 use Rattle.newt_entries.specs.Entry.{stream_graph}
+use Rattle.newt_shelf.specs.Names.{names_of}
 use Rattle.newt_shelf.specs.Places.{place_of}
-use Rattle.newt_store.specs.Opening.{OfObjects, IsRoot}
+use Rattle.newt_store.specs.Opening.{OfObjects}
 use Rattle.newt_store.proofs.Opening.{same-image}
 use Rattle.newt_store.proofs.OpeningPlaces.{live-large, live-opened}
 use Rattle.newt_store.proofs.open.find_catalog.Goals as goal
@@ -23,17 +24,16 @@ returns-then-cap-live-clause-not_store g c = λ is tells.
     let place = g.P.PageBook.place in
     let one = c.in_ok-objects.ensures in
     let two = c.in_ok-directory.ensures in
-    let three = c.in_ok-places.ensures in
-    let u : ℕ = place c.find_places.new.book in
-    let blocks : ℕ = (o c.find_places.new.host).blocks u in
+    let three = c.in_ok-finding.ensures in
+    let u : ℕ = place c.find_records.new.book in
+    let blocks : ℕ = (o c.find_records.new.host).blocks u in
     let now : List ℕ = image (place c.args.book.now) (o c.args.host.now).now in
-    let first : image (place c.scan_objects.new.book) (o c.scan_objects.new.host).now ≡ now = same-image _ _ _ _ one.same.0 one.moment in
     let second : image (place c.read_root.new.book) (o c.read_root.new.host).now ≡ now = same-image _ _ _ _ (two.same.0 ∙ one.same.0) (two.moment ∙ one.moment) in
-    let third : image u (o c.find_places.new.host).now ≡ now = same-image _ _ _ _ (three.same.0 ∙ two.same.0 ∙ one.same.0) (three.moment ∙ two.moment ∙ one.moment) in
-    let room : c.cap.result ≡ cap blocks = c.cap.ensures ∙ ap cap (c.blocks-2.ensures ∙ ap (λ (v : ℕ). (o c.find_places.new.host).blocks v) c.unit.ensures) in
-    live-large g.H.Host.told c.in_ok-objects.objects (g.P.PageBook.numbers c.find_places.new.book) u (o c.find_places.new.host) three.kept tells blocks (g.met.H.Host.sized c.find_places.new.host u tells) now third
-    (place_of c.in_ok-places.places) c.in_ok-directory.directory (subst (λ (b : List ℕ). OfObjects g.H.Host.told b (IsRoot c.in_ok-directory.directory)) first two.root)
-    (subst (λ (b : List ℕ). OfObjects g.H.Host.told b (λ texts. IsFound stream_graph texts (place_of c.in_ok-places.places) (bare_store c.in_ok-directory.directory))) second three.found)
+    let third : image u (o c.find_records.new.host).now ≡ now = same-image _ _ _ _ (three.same.0 ∙ two.same.0 ∙ one.same.0) (three.moment ∙ two.moment ∙ one.moment) in
+    let room : c.cap.result ≡ cap blocks = c.cap.ensures ∙ ap cap (c.blocks-2.ensures ∙ ap (λ (v : ℕ). (o c.find_records.new.host).blocks v) c.unit.ensures) in
+    live-large g.H.Host.told c.in_ok-objects.objects (g.P.PageBook.numbers c.find_records.new.book) u (o c.find_records.new.host) three.kept tells blocks (g.met.H.Host.sized c.find_records.new.host u tells) now third
+    (place_of c.in_ok-finding.finding.places) (names_of c.in_ok-finding.finding.names) c.in_ok-directory.directory
+    (subst (λ (b : List ℕ). OfObjects g.H.Host.told b (λ texts. IsFound stream_graph texts (place_of c.in_ok-finding.finding.places) (names_of c.in_ok-finding.finding.names) (bare_store c.in_ok-directory.directory))) second three.found)
     (is-more _ _ _ _ room c.live.ensures c.if-cap-live.true)
 
 pub returns-clause-found : goal.returns-clause-found
@@ -42,16 +42,15 @@ returns-clause-found g c = λ tells.
     let place = g.P.PageBook.place in
     let one = c.in_ok-objects.ensures in
     let two = c.in_ok-directory.ensures in
-    let three = c.in_ok-places.ensures in
-    let u : ℕ = place c.find_places.new.book in
-    let blocks : ℕ = (o c.find_places.new.host).blocks u in
+    let three = c.in_ok-finding.ensures in
+    let u : ℕ = place c.find_records.new.book in
+    let blocks : ℕ = (o c.find_records.new.host).blocks u in
     let now : List ℕ = image (place c.args.book.now) (o c.args.host.now).now in
-    let first : image (place c.scan_objects.new.book) (o c.scan_objects.new.host).now ≡ now = same-image _ _ _ _ one.same.0 one.moment in
     let second : image (place c.read_root.new.book) (o c.read_root.new.host).now ≡ now = same-image _ _ _ _ (two.same.0 ∙ one.same.0) (two.moment ∙ one.moment) in
-    let third : image u (o c.find_places.new.host).now ≡ now = same-image _ _ _ _ (three.same.0 ∙ two.same.0 ∙ one.same.0) (three.moment ∙ two.moment ∙ one.moment) in
-    let room : c.cap.result ≡ cap blocks = c.cap.ensures ∙ ap cap (c.blocks-2.ensures ∙ ap (λ (v : ℕ). (o c.find_places.new.host).blocks v) c.unit.ensures) in
-    live-opened g.H.Host.told c.in_ok-objects.objects (g.P.PageBook.numbers c.find_places.new.book) u (o c.find_places.new.host) three.kept tells blocks (g.met.H.Host.sized c.find_places.new.host u tells) now third
-    (place_of c.in_ok-places.places) c.in_ok-directory.directory (subst (λ (b : List ℕ). OfObjects g.H.Host.told b (IsRoot c.in_ok-directory.directory)) first two.root)
-    (subst (λ (b : List ℕ). OfObjects g.H.Host.told b (λ texts. IsFound stream_graph texts (place_of c.in_ok-places.places) (bare_store c.in_ok-directory.directory))) second three.found)
+    let third : image u (o c.find_records.new.host).now ≡ now = same-image _ _ _ _ (three.same.0 ∙ two.same.0 ∙ one.same.0) (three.moment ∙ two.moment ∙ one.moment) in
+    let room : c.cap.result ≡ cap blocks = c.cap.ensures ∙ ap cap (c.blocks-2.ensures ∙ ap (λ (v : ℕ). (o c.find_records.new.host).blocks v) c.unit.ensures) in
+    live-opened g.H.Host.told c.in_ok-objects.objects (g.P.PageBook.numbers c.find_records.new.book) u (o c.find_records.new.host) three.kept tells blocks (g.met.H.Host.sized c.find_records.new.host u tells) now third
+    (place_of c.in_ok-finding.finding.places) (names_of c.in_ok-finding.finding.names) c.in_ok-directory.directory
+    (subst (λ (b : List ℕ). OfObjects g.H.Host.told b (λ texts. IsFound stream_graph texts (place_of c.in_ok-finding.finding.places) (names_of c.in_ok-finding.finding.names) (bare_store c.in_ok-directory.directory))) second three.found)
     (is-few _ _ _ _ room c.live.ensures c.if-cap-live.false)
-    (record { objects = c.in_ok-objects.objects; directory = c.in_ok-directory.directory; places = c.in_ok-places.places; hint = 0 }) refl refl
+    (record { objects = c.in_ok-objects.objects; directory = c.in_ok-directory.directory; places = c.in_ok-finding.finding.places; names = c.in_ok-finding.finding.names; hint = 0 }) refl refl refl

@@ -111,7 +111,7 @@ returns-in-Err-clause-refused g c = λ tells s stands.
     let stands' : StandsFor cat s (image u' m') = subst (λ (b : List ℕ). StandsFor cat s b) (sym e) stands in
     let t : PlainStore = changed_by c.args.change c.args.now s in
     let plan = c.in_ok-next.ensures.planned tells s stands in
-    refuses-full c.in-Err.fault c.in-Err.ensures.only (λ is. full-due c.args.change (blocks_of (image u m)) c.args.now s plan.accepted stands.fits
+    refuses-full c.in-Err.fault c.in-Err.ensures.only (λ is. full-due c.args.change (blocks_of (image u m)) c.args.now s OTHER plan.accepted stands.fits
     (subst (λ (b : List ℕ). cap (blocks_of b) < cost t) e (c.in-Err.ensures.full is tells s t stands' plan.turns)))
 
 pub returns-in-Err-clause-still : goal.returns-in-Err-clause-still
@@ -146,7 +146,7 @@ returns-in-Ok-clause-costs g c = λ tells s stands room.
     let stands' : StandsFor cat s (image u' m') = subst (λ (b : List ℕ). StandsFor cat s b) (sym e) stands in
     let t : PlainStore = changed_by c.args.change c.args.now s in
     let plan = c.in_ok-next.ensures.planned tells s stands in
-    spends-both cat c.args.change c.args.now s c.in_ok-next.next (image u m) u (512 * pages_of_entry (entry_moved c.args.change s)) (o c.args.host.now) (o c.plan_change.new.host) (o c.carry_out.new.host) plan (c.plan_change.ensures.costs tells s stands)
+    spends-both cat c.args.change c.args.now s c.in_ok-next.next (image u m) u (512 * pages_of_entry (entry_moved c.args.change s)) (o c.args.host.now) (o c.plan_change.new.host) (o c.carry_out.new.host) OTHER plan (c.plan_change.ensures.costs tells s stands)
     (λ room-for. subst (λ (v : ℕ). Spends v (turn_bytes c.in_ok-next.next s t) 0 (o c.plan_change.new.host) (o c.carry_out.new.host)) c.plan_change.ensures.same.0
     (c.carry_out.ensures.bound tells s t stands' plan.turns (subst (λ (b : List ℕ). IsOpenFor (turn_bytes c.in_ok-next.next s t) b) (sym e) room-for)))
     (λ more. subst (λ (v : ℕ). Spends v 0 0 (o c.plan_change.new.host) (o c.carry_out.new.host)) c.plan_change.ensures.same.0
@@ -165,7 +165,7 @@ returns-in-Err-clause-costs g c = λ tells s stands room.
     let stands' : StandsFor cat s (image u' m') = subst (λ (b : List ℕ). StandsFor cat s b) (sym e) stands in
     let t : PlainStore = changed_by c.args.change c.args.now s in
     let plan = c.in_ok-next.ensures.planned tells s stands in
-    spends-both cat c.args.change c.args.now s c.in_ok-next.next (image u m) u (512 * pages_of_entry (entry_moved c.args.change s)) (o c.args.host.now) (o c.plan_change.new.host) (o c.carry_out.new.host) plan (c.plan_change.ensures.costs tells s stands)
+    spends-both cat c.args.change c.args.now s c.in_ok-next.next (image u m) u (512 * pages_of_entry (entry_moved c.args.change s)) (o c.args.host.now) (o c.plan_change.new.host) (o c.carry_out.new.host) OTHER plan (c.plan_change.ensures.costs tells s stands)
     (λ room-for. subst (λ (v : ℕ). Spends v (turn_bytes c.in_ok-next.next s t) 0 (o c.plan_change.new.host) (o c.carry_out.new.host)) c.plan_change.ensures.same.0
     (c.carry_out.ensures.bound tells s t stands' plan.turns (subst (λ (b : List ℕ). IsOpenFor (turn_bytes c.in_ok-next.next s t) b) (sym e) room-for)))
     (λ more. subst (λ (v : ℕ). Spends v 0 0 (o c.plan_change.new.host) (o c.carry_out.new.host)) c.plan_change.ensures.same.0

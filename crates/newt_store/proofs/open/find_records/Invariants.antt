@@ -4,9 +4,10 @@ use Rattle.newt_host.specs.Outside.{Touches}
 use Rattle.newt_objects.specs.Held.{held}
 use Rattle.newt_soupdir.specs.Bare.{bare_store}
 use Rattle.newt_shelf.specs.Commit.{AreKept}
+use Rattle.newt_shelf.specs.Names.{names_of}
 use Rattle.newt_shelf.specs.Places.{place_of}
-use Rattle.newt_store.specs.Opening.{OfObjects, AreSoundTo, AreFoundTo}
-use Rattle.newt_store.proofs.open.find_places.Given as goal
+use Rattle.newt_store.specs.Opening.{OfObjects, owner_of, AreSoundTo, AreFoundTo}
+use Rattle.newt_store.proofs.open.find_records.Given as goal
 
 abbrev pub invariant-loop-id : goal.invariant-loop-id
 invariant-loop-id g l =
@@ -18,8 +19,8 @@ invariant-loop-id g l =
       same_numbers : g.P.PageBook.numbers l.book ≡ g.P.PageBook.numbers l.fn.book;
       moment : (outside l.host).now ≡ (outside l.fn.host).now;
       alone : Touches (place l.fn.book) (outside l.fn.host) (outside l.host);
-      sound : AreSoundTo l.last (held l.objects) (place_of l.places);
-      found : OfObjects g.H.Host.told (image (place l.fn.book) (outside l.fn.host).now) (AreFoundTo l.last (place_of l.places) (bare_store l.directory));
+      sound : AreSoundTo l.last (held l.objects) (place_of l.finding.places) (names_of l.finding.names) (owner_of l.finding.owners);
+      found : OfObjects g.H.Host.told (image (place l.fn.book) (outside l.fn.host).now) (AreFoundTo l.last (place_of l.finding.places) (names_of l.finding.names) (bare_store l.directory));
     }
 
 abbrev pub decreases-loop-id : goal.decreases-loop-id
