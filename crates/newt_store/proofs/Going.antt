@@ -8,7 +8,7 @@ use Rattle.std.proofs.lemmas.List.{length-map}
 use Rattle.std.proofs.lemmas.List.Sums.{sum_by-append, sum_by-cons}
 use Rattle.newt_host.specs.Moments.{image}
 use Rattle.newt_host.specs.Outside.{Outside}
-use Rattle.newt_image.specs.Objects.{Extent, pages_for}
+use Rattle.newt_image.specs.Objects.{pages_for}
 use Rattle.newt_pagebook.specs.Book.{Numbers}
 use Rattle.newt_pagebook.proofs.Tests.{is_same, equal_true, equal_false}
 use Rattle.newt_objects.specs.Extents.{numbers_of}
@@ -184,7 +184,7 @@ module _ (told : Bool) (catalog : Catalog) (numbers : Numbers) (unit : ℕ) (out
   weight-at sig id e at there =
       ap (λ (n : ℕ). n + all_pages_held catalog.objects (names-now id)) (has-pages id (entry_bytes sig e (names-now id)) at)
       ∙ laid-pages (pages_held catalog.objects) sig e (names-now id) there.each_named
-          (each-more (HasLarge stands.texts) (λ (l : Named). pages_held catalog.objects l.1 ≡ pages_for (length l.0.1)) (zip (larges e.graph) (names-now id)) (λ l k. has-pages l.1 l.0.1 k.3) there.there)
+      (each-more (HasLarge stands.texts) (λ (l : Named). pages_held catalog.objects l.1 ≡ pages_for (length l.0.1)) (zip (larges e.graph) (names-now id)) (λ l k. has-pages l.1 l.0.1 k.3) there.there)
 
   weighed-in : (sig : ℕ) (e : Entry) → IsIn s sig e → IsWeighed place-now weight sig (apart-in sig) e
   weighed-in sig e is =
@@ -258,7 +258,7 @@ module _ (told : Bool) (catalog : Catalog) (numbers : Numbers) (unit : ℕ) (out
   over-none : (x : NewEntry) (gone : Gone) → place-now x.sig x.uid ≡ None → IsFree catalog gone x → weight x.id ≡ pages_of_entry (entry_in x.sig x.uid s)
   over-none x gone none free = ⊎_elim
       (λ (absent : held catalog.objects x.id ≡ None). (λ i. length (numbers_of (absent i))
-          + none-held catalog.objects (names-now x.id) (λ o m. absurd (no-object (held catalog.objects x.id) absent (names-sound.records x.id o m).0)) i))
+      + none-held catalog.objects (names-now x.id) (λ o m. absurd (no-object (held catalog.objects x.id) absent (names-sound.records x.id o m).0)) i))
       (λ its. absurd (let isnt : None ≡ Some x.id = sym none ∙ its.0 in cc))
       free
       ∙ sym (ap pages_of_entry (no-entry-at catalog.directory place-now names-now stands.texts s stands.describes x.sig x.uid none))

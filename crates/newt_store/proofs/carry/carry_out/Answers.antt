@@ -100,7 +100,7 @@ write_next-requires-clause-behind g c = λ id m.
     gone-above c.args.catalog.now c.args.next records c.requires.sound.places c.requires.sound.names c.requires.next are id (subst (λ (l : List ℕ). Among l id) ids-are m)
 
 pub write_next-requires-clause-once : goal.write_next-requires-clause-once
-write_next-requires-clause-once g c = 
+write_next-requires-clause-once g c =
     let old : Places = place_of c.args.catalog.now.places in
     let records : List ℕ = c.deref.result.now in
     let are : AreGone old c.args.next.gone records = subst (λ (l : List ℕ). AreGone old c.args.next.gone l) (sym c.deref.ensures.value) (record { real = c.in_ok-records.ensures.real; all = c.in_ok-records.ensures.all }) in
@@ -110,7 +110,7 @@ write_next-requires-clause-once g c =
     subst (λ (l : List ℕ). AreOnce l) (sym ids-are) (gone-once c.args.catalog.now c.args.next records c.requires.sound.places c.requires.sound.names c.requires.next are once)
 
 pub write_next-requires-clause-apart : goal.write_next-requires-clause-apart
-write_next-requires-clause-apart g c = 
+write_next-requires-clause-apart g c =
     let old : Places = place_of c.args.catalog.now.places in
     let records : List ℕ = c.deref.result.now in
     let are : AreGone old c.args.next.gone records = subst (λ (l : List ℕ). AreGone old c.args.next.gone l) (sym c.deref.ensures.value) (record { real = c.in_ok-records.ensures.real; all = c.in_ok-records.ensures.all }) in
@@ -137,9 +137,9 @@ returns-in-Ok-clause-sound g c = λ goes.
     let new : Places = place_of c.forget_gone.new.places in
     let as-before : c.deref-in-Ok.result.now ≡ records = c.deref-in-Ok.ensures.value ∙ sym c.deref.ensures.value in
     let next-names = names-next c.args.catalog.now c.args.next records c.requires.sound.places c.requires.sound.names c.requires.next are
-        (names_of c.prepare_names.new.names) (names_of c.forget_names.new.names) (names_of c.name_new.new.names) c.prepare_names.ensures.same
-        (λ r m. c.forget_names.ensures.gone r (subst (λ (l : List ℕ). Among l r) (sym as-before) m)) (λ r out. c.forget_names.ensures.others r (λ m. out (subst (λ (l : List ℕ). Among l r) as-before m)))
-        (λ e is. c.name_new.ensures.named e is ∙ c.in_ok-named.ensures e is) c.name_new.ensures.others in
+    (names_of c.prepare_names.new.names) (names_of c.forget_names.new.names) (names_of c.name_new.new.names) c.prepare_names.ensures.same
+    (λ r m. c.forget_names.ensures.gone r (subst (λ (l : List ℕ). Among l r) (sym as-before) m)) (λ r out. c.forget_names.ensures.others r (λ m. out (subst (λ (l : List ℕ). Among l r) as-before m)))
+    (λ e is. c.name_new.ensures.named e is ∙ c.in_ok-named.ensures e is) c.name_new.ensures.others in
     record {
       kept = c.in-Ok.ensures.kept tt;
       places = sound-next c.args.next old mid new c.in_ok-keep_new.ensures.kept c.in_ok-keep_new.ensures.others c.forget_gone.ensures.gone c.forget_gone.ensures.others
@@ -161,9 +161,9 @@ returns-in-Ok-clause-changed g c = λ tells s t stands turns.
     let new : Places = place_of c.forget_gone.new.places in
     let as-before : c.deref-in-Ok.result.now ≡ records = c.deref-in-Ok.ensures.value ∙ sym c.deref.ensures.value in
     let next-names = names-next c.args.catalog.now c.args.next records c.requires.sound.places c.requires.sound.names c.requires.next are
-        (names_of c.prepare_names.new.names) (names_of c.forget_names.new.names) (names_of c.name_new.new.names) c.prepare_names.ensures.same
-        (λ r m. c.forget_names.ensures.gone r (subst (λ (l : List ℕ). Among l r) (sym as-before) m)) (λ r out. c.forget_names.ensures.others r (λ m. out (subst (λ (l : List ℕ). Among l r) as-before m)))
-        (λ e is. c.name_new.ensures.named e is ∙ c.in_ok-named.ensures e is) c.name_new.ensures.others in
+    (names_of c.prepare_names.new.names) (names_of c.forget_names.new.names) (names_of c.name_new.new.names) c.prepare_names.ensures.same
+    (λ r m. c.forget_names.ensures.gone r (subst (λ (l : List ℕ). Among l r) (sym as-before) m)) (λ r out. c.forget_names.ensures.others r (λ m. out (subst (λ (l : List ℕ). Among l r) as-before m)))
+    (λ e is. c.name_new.ensures.named e is ∙ c.in_ok-named.ensures e is) c.name_new.ensures.others in
     let o = g.H.Host.outside in
     let u : ℕ = g.P.PageBook.place c.args.book.now in
     let now : List ℕ = image u (o c.args.host.now).now in
@@ -205,7 +205,7 @@ returns-in-Ok-clause-any_moment g c = λ tells s t stands turns.
     let u : ℕ = g.P.PageBook.place c.args.book.now in
     let now : List ℕ = image u (o c.args.host.now).now in
     leaves-store c.args.catalog.now c.args.next records c.requires.sound.places c.requires.sound.names c.requires.next are s t now stands turns u (o c.args.host.now).now (o c.write_next.new.host).now
-        (subst (λ (l : List ℕ). Leaves u (HoldsEither now c.args.next l stands.texts) (o c.args.host.now).now (o c.write_next.new.host).now) ids-are (c.write_next.ensures.any_moment tells stands.texts stands.holds))
+    (subst (λ (l : List ℕ). Leaves u (HoldsEither now c.args.next l stands.texts) (o c.args.host.now).now (o c.write_next.new.host).now) ids-are (c.write_next.ensures.any_moment tells stands.texts stands.holds))
 
 pub returns-in-Ok-clause-bound : goal.returns-in-Ok-clause-bound
 returns-in-Ok-clause-bound g c = λ tells s t stands turns room.
@@ -246,7 +246,7 @@ returns-in-Err-clause-any_moment g c = λ tells s t stands turns.
     let u : ℕ = g.P.PageBook.place c.args.book.now in
     let now : List ℕ = image u (o c.args.host.now).now in
     leaves-store c.args.catalog.now c.args.next records c.requires.sound.places c.requires.sound.names c.requires.next are s t now stands turns u (o c.args.host.now).now (o c.write_next.new.host).now
-        (subst (λ (l : List ℕ). Leaves u (HoldsEither now c.args.next l stands.texts) (o c.args.host.now).now (o c.write_next.new.host).now) ids-are (c.write_next.ensures.any_moment tells stands.texts stands.holds))
+    (subst (λ (l : List ℕ). Leaves u (HoldsEither now c.args.next l stands.texts) (o c.args.host.now).now (o c.write_next.new.host).now) ids-are (c.write_next.ensures.any_moment tells stands.texts stands.holds))
 
 pub returns-in-Err-clause-bound : goal.returns-in-Err-clause-bound
 returns-in-Err-clause-bound g c = λ tells s t stands turns room.
