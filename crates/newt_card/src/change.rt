@@ -38,6 +38,7 @@ pub(crate) fn change_store<P: PageBook, H: Host>(
     ensures others { IsTrue H.told → OthersSame (P.place store.old.store.book) (H.outside host.old).now (H.outside host.new).now }
     ensures any_moment { IsTrue H.told → (s : Plain) → readable (image (P.place store.old.store.book) (H.outside host.old).now) ≡ Some s →
         Leaves (P.place store.old.store.book) (LeavesEither readable (refusals change ((H.outside host.old).blocks (P.place store.old.store.book)) now s) s (changed_by change now s)) (H.outside host.old).now (H.outside host.new).now }
+    // while the bank is not closed and has room, it programs no more than this; and after a change the bank is not closed
     ensures bound { IsTrue H.told → (s : Plain) → readable (image (P.place store.old.store.book) (H.outside host.old).now) ≡ Some s →
         ProgramsAtMost (most_bytes change ((H.outside host.old).blocks (P.place store.old.store.book)) now s) (P.place store.old.store.book) (H.outside host.old) (H.outside host.new) }
     ensures open_after { IsTrue H.told → OnOk result (IsOpenFor 0 (image (P.place store.old.store.book) (H.outside host.new).now)) }
@@ -71,6 +72,7 @@ pub(crate) fn patch_entry<P: PageBook, H: Host>(
     ensures any_moment { IsTrue H.told → (s : Plain) (p : Soup) (e : PlainEntry) (class : ℕ) (large : List ℕ) → readable (image (P.place store.old.store.book) (H.outside host.old).now) ≡ Some s →
         soup_of soup s ≡ Some p → entry_of uid p ≡ Some e → slice_get e.graph.nodes node ≡ Some (Large class large) →
         Leaves (P.place store.old.store.book) (LeavesEither readable (patch_tests node at (length bytes) e) s (patched_within p.name uid node at bytes s)) (H.outside host.old).now (H.outside host.new).now }
+    // while the bank is not closed and has room, it programs no more than this; and after a change the bank is not closed
     ensures bound { IsTrue H.told → (s : Plain) (p : Soup) (e : PlainEntry) (class : ℕ) (large : List ℕ) → readable (image (P.place store.old.store.book) (H.outside host.old).now) ≡ Some s → soup_of soup s ≡ Some p → entry_of uid p ≡ Some e → slice_get e.graph.nodes node ≡ Some (Large class large) →
         ProgramsAtMost (unless (patch_tests node at (length bytes) e) (patch_bytes (length bytes))) (P.place store.old.store.book) (H.outside host.old) (H.outside host.new) }
     ensures open_after { IsTrue H.told → OnOk result (IsOpenFor 0 (image (P.place store.old.store.book) (H.outside host.new).now)) }
@@ -98,6 +100,7 @@ pub(crate) fn drop_paths<P: PageBook, H: Host>(
     ensures others { IsTrue H.told → OthersSame (P.place store.old.store.book) (H.outside host.old).now (H.outside host.new).now }
     ensures any_moment { IsTrue H.told → (s : Plain) (p : Soup) → readable (image (P.place store.old.store.book) (H.outside host.old).now) ≡ Some s → soup_of soup s ≡ Some p →
         Leaves (P.place store.old.store.book) (LeavesEither readable [] s (change_soup p.name (without_index paths) s)) (H.outside host.old).now (H.outside host.new).now }
+    // while the bank is not closed and has room, it programs no more than this; and after a change the bank is not closed
     ensures bound { IsTrue H.told → (s : Plain) (p : Soup) → readable (image (P.place store.old.store.book) (H.outside host.old).now) ≡ Some s → soup_of soup s ≡ Some p →
         ProgramsAtMost (change_bytes s (change_soup p.name (without_index paths) s) [] []) (P.place store.old.store.book) (H.outside host.old) (H.outside host.new) }
     ensures open_after { IsTrue H.told → OnOk result (IsOpenFor 0 (image (P.place store.old.store.book) (H.outside host.new).now)) }

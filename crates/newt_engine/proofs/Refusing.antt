@@ -1,14 +1,12 @@
 -- A command that is refused leaves the world.
-use Rattle.std.proofs.Common.{◌≡◌, refl, sym, ◌∙◌, ap, ℕ, Bool, true, false, cond, map, length, ◌∷◌, [], Some, None, Option, option_and_then, IfOk}
+use Rattle.std.proofs.Common.{◌≡◌, refl, sym, ◌∙◌, ap, ℕ, map, length, Some, None, Option, option_and_then, IfOk}
 use Rattle.std.specs.Prelude.{Result, Ok}
 use Rattle.newt_base.specs.Refusals.{first_of}
 use Rattle.newt_base.specs.declared.Refusal.{Refusal}
-use Rattle.newt_base.specs.declared.Refusal.TheVariants.{Command as NoCommand}
 use Rattle.newt_pagebook.specs.declared.book.Stop.{Stop}
 use Rattle.newt_reply.specs.Said.{said}
 use Rattle.newt_reply.specs.declared.reply.Reply.{Reply}
 use Rattle.newt_reply.specs.declared.reply.Reply.TheVariants as reply
-use Rattle.newt_spec_graph.proofs.Lists.{none-some, both-ways}
 use Rattle.newt_spec_world.specs.declared.command.Command.{Command}
 use Rattle.newt_spec_world.specs.declared.command.Command.TheVariants as command
 use Rattle.newt_spec_world.specs.Reply as plain
@@ -16,9 +14,9 @@ use Rattle.newt_spec_store.specs.Store.{Store, Soup, Entry}
 use Rattle.newt_spec_query.specs.Cursor.{Cursor, Place, start, finish, on, hit_at}
 use Rattle.newt_spec_world.specs.Alias.{Spot, alias_of, resolved}
 use Rattle.newt_spec_world.specs.World.{World, mounted_store, soup_in, entry_in, cursor, free_cursor, hits_of}
-use Rattle.newt_spec_world.specs.Answer.{answered, current, fields, or_nil, shown, side, spot_of}
-use Rattle.newt_spec_world.specs.Refused.{checks}
-use Rattle.newt_laws_answers.specs.Stage.{answer_now, checks_now, is_built, new_graph, staged}
+use Rattle.newt_spec_world.specs.Changed.{large_bytes}
+use Rattle.newt_spec_world.specs.Answer.{answered, bytes_from, current, fields, or_nil, shown, side, spot_of}
+use Rattle.newt_laws_answers.specs.Spoken.{answer_now, checks_now}
 
 nil_not : {X : Type 0} (shown : X → plain.Reply) (o : Option X) (r : Refusal) → ((x : X) → shown x ≡ plain.Reply.refused r → ⊥) → or_nil shown o ≡ plain.Reply.refused r → ⊥
 nil_not shown None r never h = cc
@@ -47,67 +45,61 @@ side_not r k h = go k.place h
     go (on at) e = cc
 
 -- the reply to a command that is done is no refusal
-fields_not : (w v : World) (c : Command) (r : Refusal) → is_built c ≡ true → fields w v c ≡ plain.Reply.refused r → ⊥
+fields_not : (w v : World) (c : Command) (r : Refusal) → fields w v c ≡ plain.Reply.refused r → ⊥
 unfolding fields
-fields_not w v (command.Nsof g) r b h = cc
-fields_not w v (command.Lit g) r b h = cc
-fields_not w v (command.Time t) r b h = cc
-fields_not w v command.Quit r b h = cc
-fields_not w v (command.Format u name sig) r b h = cc
-fields_not w v (command.Mount u) r b h = nil_not {X = Store} (λ s. plain.Reply.store s.sig s.name) (mounted_store v u) r (λ x k. cc) h
-fields_not w v (command.Unmount u) r b h = cc
-fields_not w v command.Stores r b h = cc
-fields_not w v (command.Default u) r b h = cc
-fields_not w v (command.Soup u s) r b h = nil_not {X = Store} (λ t. plain.Reply.number t.next_soup) (mounted_store w u) r (λ x k. cc) h
-fields_not w v (command.Soups u) r b h = nil_not {X = Store} (λ t. plain.Reply.soups (map (λ p. (p.name, p.sig, length p.entries)) t.soups)) (mounted_store w u) r (λ x k. cc) h
-fields_not w v (command.Drop u s) r b h = cc
-fields_not w v (command.Add u s g) r b h = cc
-fields_not w v (command.Addx u s g) r b h = cc
-fields_not w v (command.Addu s g) r b h = cc
-fields_not w v (command.Index u s parts) r b h = cc
-fields_not w v (command.Unindex u s paths) r b h = cc
-fields_not w v (command.Indexes u s) r b h = nil_not {X = Soup} (λ p. plain.Reply.indexes p.specs) (soup_in w u s) r (λ x k. cc) h
-fields_not w v (command.Tags u s) r b h = nil_not {X = Soup} (λ p. plain.Reply.tags p.tags) (soup_in w u s) r (λ x k. cc) h
-fields_not w v (command.SetTags u s path symbols) r b h = cc
-fields_not w v (command.Get u s uid) r b h = nil_not {X = Entry} (λ e. plain.Reply.timed e.time e.graph) (entry_in w u s uid) r (λ x k. cc) h
-fields_not w v (command.Getx u s uid) r b h = nil_not {X = Entry} (λ e. plain.Reply.timed_nsof e.time e.graph) (entry_in w u s uid) r (λ x k. cc) h
-fields_not w v (command.Set u s uid path g) r b h = cc
-fields_not w v (command.Change u s uid g) r b h = cc
-fields_not w v (command.Remove u s uid) r b h = cc
-fields_not w v (command.Copy u s uid t p) r b h = cc
-fields_not w v (command.Move u s uid t p) r b h = cc
-fields_not w v (command.Alias u s uid) r b h = nil_not {X = Store} (λ t. or_nil (λ p. plain.Reply.alias t.sig p.sig uid) (soup_in w u s)) (mounted_store w u) r (λ t k. nil_not {X = Soup} (λ p. plain.Reply.alias t.sig p.sig uid) (soup_in w u s) r (λ p l. cc) k) h
-fields_not w v (command.Resolve g) r b h = nil_not {X = Spot} (λ s. plain.Reply.where_is s.unit s.soup.name s.entry.uid) (option_and_then (resolved w) (alias_of g)) r (λ x k. cc) h
-fields_not w v (command.Query u s g) r b h = nil_not {X = ℕ} (λ n. plain.Reply.number n) (free_cursor w) r (λ x k. cc) h
-fields_not w v (command.QueryAll s g) r b h = nil_not {X = ℕ} (λ n. plain.Reply.number n) (free_cursor w) r (λ x k. cc) h
-fields_not w v (command.Entry c) r b h = nil_not {X = Cursor} (current v) (cursor v c) r (current_not v r) h
-fields_not w v (command.Next c) r b h = nil_not {X = Cursor} (current v) (cursor v c) r (current_not v r) h
-fields_not w v (command.Prev c) r b h = nil_not {X = Cursor} (current v) (cursor v c) r (current_not v r) h
-fields_not w v (command.Reset c) r b h = nil_not {X = Cursor} (current v) (cursor v c) r (current_not v r) h
-fields_not w v (command.End c) r b h = nil_not {X = Cursor} (current v) (cursor v c) r (current_not v r) h
-fields_not w v (command.Moveby c n) r b h = nil_not {X = Cursor} (current v) (cursor v c) r (current_not v r) h
-fields_not w v (command.Goto c u uid) r b h = nil_not {X = Cursor} (current v) (cursor v c) r (current_not v r) h
-fields_not w v (command.Gotokey c g) r b h = nil_not {X = Cursor} (current v) (cursor v c) r (current_not v r) h
-fields_not w v (command.Count c) r b h = nil_not {X = Cursor} (λ k. plain.Reply.number (length (hits_of w k.query))) (cursor w c) r (λ x k. cc) h
-fields_not w v (command.Which c) r b h = nil_not {X = Cursor} side (cursor w c) r (side_not r) h
-fields_not w v (command.Clone c) r b h = nil_not {X = ℕ} (λ n. plain.Reply.number n) (free_cursor w) r (λ x k. cc) h
-fields_not w v (command.Close c) r b h = cc
-fields_not w v _ r b h = both-ways b
+fields_not w v (command.Nsof g) r h = cc
+fields_not w v (command.Lit g) r h = cc
+fields_not w v (command.Time t) r h = cc
+fields_not w v command.Quit r h = cc
+fields_not w v (command.Format u name sig) r h = cc
+fields_not w v (command.Mount u) r h = nil_not {X = Store} (λ s. plain.Reply.store s.sig s.name) (mounted_store v u) r (λ x k. cc) h
+fields_not w v (command.Unmount u) r h = cc
+fields_not w v command.Stores r h = cc
+fields_not w v (command.Default u) r h = cc
+fields_not w v (command.Soup u s) r h = nil_not {X = Store} (λ t. plain.Reply.number t.next_soup) (mounted_store w u) r (λ x k. cc) h
+fields_not w v (command.Soups u) r h = nil_not {X = Store} (λ t. plain.Reply.soups (map (λ p. (p.name, p.sig, length p.entries)) t.soups)) (mounted_store w u) r (λ x k. cc) h
+fields_not w v (command.Drop u s) r h = cc
+fields_not w v (command.Add u s g) r h = cc
+fields_not w v (command.Addx u s g) r h = cc
+fields_not w v (command.Addu s g) r h = cc
+fields_not w v (command.Index u s parts) r h = cc
+fields_not w v (command.Unindex u s paths) r h = cc
+fields_not w v (command.Indexes u s) r h = nil_not {X = Soup} (λ p. plain.Reply.indexes p.specs) (soup_in w u s) r (λ x k. cc) h
+fields_not w v (command.Tags u s) r h = nil_not {X = Soup} (λ p. plain.Reply.tags p.tags) (soup_in w u s) r (λ x k. cc) h
+fields_not w v (command.SetTags u s path symbols) r h = cc
+fields_not w v (command.Get u s uid) r h = nil_not {X = Entry} (λ e. plain.Reply.timed e.time e.graph) (entry_in w u s uid) r (λ x k. cc) h
+fields_not w v (command.Getx u s uid) r h = nil_not {X = Entry} (λ e. plain.Reply.timed_nsof e.time e.graph) (entry_in w u s uid) r (λ x k. cc) h
+fields_not w v (command.Set u s uid path g) r h = cc
+fields_not w v (command.Change u s uid g) r h = cc
+fields_not w v (command.Remove u s uid) r h = cc
+fields_not w v (command.Copy u s uid t p) r h = cc
+fields_not w v (command.Move u s uid t p) r h = cc
+fields_not w v (command.Vread u s uid path at len) r h = nil_not {X = Entry} (λ e. plain.Reply.hex (bytes_from at len (large_bytes e.graph path))) (entry_in w u s uid) r (λ x k. cc) h
+fields_not w v (command.Vwrite u s uid path at bytes) r h = cc
+fields_not w v (command.Alias u s uid) r h = nil_not {X = Store} (λ t. or_nil (λ p. plain.Reply.alias t.sig p.sig uid) (soup_in w u s)) (mounted_store w u) r (λ t k. nil_not {X = Soup} (λ p. plain.Reply.alias t.sig p.sig uid) (soup_in w u s) r (λ p l. cc) k) h
+fields_not w v (command.Resolve g) r h = nil_not {X = Spot} (λ s. plain.Reply.where_is s.unit s.soup.name s.entry.uid) (option_and_then (resolved w) (alias_of g)) r (λ x k. cc) h
+fields_not w v (command.Query u s g) r h = nil_not {X = ℕ} (λ n. plain.Reply.number n) (free_cursor w) r (λ x k. cc) h
+fields_not w v (command.QueryAll s g) r h = nil_not {X = ℕ} (λ n. plain.Reply.number n) (free_cursor w) r (λ x k. cc) h
+fields_not w v (command.Entry c) r h = nil_not {X = Cursor} (current v) (cursor v c) r (current_not v r) h
+fields_not w v (command.Next c) r h = nil_not {X = Cursor} (current v) (cursor v c) r (current_not v r) h
+fields_not w v (command.Prev c) r h = nil_not {X = Cursor} (current v) (cursor v c) r (current_not v r) h
+fields_not w v (command.Reset c) r h = nil_not {X = Cursor} (current v) (cursor v c) r (current_not v r) h
+fields_not w v (command.End c) r h = nil_not {X = Cursor} (current v) (cursor v c) r (current_not v r) h
+fields_not w v (command.Moveby c n) r h = nil_not {X = Cursor} (current v) (cursor v c) r (current_not v r) h
+fields_not w v (command.Goto c u uid) r h = nil_not {X = Cursor} (current v) (cursor v c) r (current_not v r) h
+fields_not w v (command.Gotokey c g) r h = nil_not {X = Cursor} (current v) (cursor v c) r (current_not v r) h
+fields_not w v (command.Count c) r h = nil_not {X = Cursor} (λ k. plain.Reply.number (length (hits_of w k.query))) (cursor w c) r (λ x k. cc) h
+fields_not w v (command.Which c) r h = nil_not {X = Cursor} side (cursor w c) r (side_not r) h
+fields_not w v (command.Clone c) r h = nil_not {X = ℕ} (λ n. plain.Reply.number n) (free_cursor w) r (λ x k. cc) h
+fields_not w v (command.Close c) r h = cc
 
 pub refused_stays : (w : World) (c : Command) (r : Refusal) → (answer_now w c).1 ≡ plain.Reply.refused r → (answer_now w c).0 ≡ w
 unfolding answer_now
-refused_stays w c r h = go (first_of (checks_now w c)) refl h
+refused_stays w c r h = go (first_of (checks_now w c)) h
   where
-    tests : Bool → Option Refusal
-    tests b = first_of (cond b (map (staged (new_graph w c)) (checks w c)) ((NoCommand, true) ∷ []))
-
-    built : (b : Bool) → is_built c ≡ b → first_of (checks_now w c) ≡ None → is_built c ≡ true
-    built true e k = e
-    built false e k = absurd (none-some NoCommand (sym (sym (ap tests e) ∙ k)))
-
-    go : (o : Option Refusal) → first_of (checks_now w c) ≡ o → (answered w c o).1 ≡ plain.Reply.refused r → (answered w c o).0 ≡ w
-    go None e k = absurd (fields_not w _ c r (built (is_built c) refl e) k)
-    go (Some x) e k = refl
+    go : (o : Option Refusal) → (answered w c o).1 ≡ plain.Reply.refused r → (answered w c o).0 ≡ w
+    go None k = absurd (fields_not w _ c r k)
+    go (Some x) k = refl
 
 -- the same of what was answered
 pub refusal_stays : (w v : World) (c : Command) (r : Refusal) (result : Result Reply Stop) → IfOk result (λ said_it. answer_now w c ≡ (v, said said_it)) → result ≡ Ok (reply.Refused r) → v ≡ w

@@ -1,9 +1,7 @@
 -- Commands of a world without cursors, and the cursors settled after them.
-use Rattle.std.proofs.Common.{◌≡◌, refl, ap, sym, ◌∙◌, subst, ℕ, List, [], ◌∷◌, map, Bool, true, false, ◌⊎◌, inl, inr, IsTrue, Option, Some, None, cond}
+use Rattle.std.proofs.Common.{◌≡◌, refl, ap, sym, ◌∙◌, subst, ℕ, List, Bool, true, false, IsTrue, Option, Some, None}
 use Rattle.std.specs.Prelude.{Result, Ok, Err, IfErr, IfOk, OnOk}
-use Rattle.newt_base.specs.Refusals.{first_of}
 use Rattle.newt_base.specs.declared.Refusal.{Refusal}
-use Rattle.newt_base.specs.declared.Refusal.TheVariants.{Command as NoCommand}
 use Rattle.newt_host.specs.Moments.{Moment, Always, image}
 use Rattle.newt_host.specs.Outside.{Outside}
 use Rattle.newt_host.proofs.Moments.{Always-map}
@@ -16,16 +14,14 @@ use Rattle.newt_spec_world.specs.declared.command.Command.{Command}
 use Rattle.newt_spec_world.specs.declared.command.Command.TheVariants as command
 use Rattle.newt_spec_world.specs.First.{media_of}
 use Rattle.newt_spec_world.specs.Reply as plain
-use Rattle.newt_spec_world.specs.Refused.{checks}
 use Rattle.newt_spec_world.specs.World.{World, Device, settle}
 use Rattle.newt_laws.specs.Settled.{IsSettled, MountedApart, moves_keys}
 use Rattle.newt_laws.specs.Worlds.{OnMedia}
 use Rattle.newt_laws.proofs.Kept.{Every, Wf}
 use Rattle.newt_laws_cursors.specs.Cursors.{with_cursors, uses_cursors}
 use Rattle.newt_laws_answers.specs.Answering.{Answering}
-use Rattle.newt_laws_answers.specs.Stage.{answer_now, is_built, new_graph, staged}
-use Rattle.newt_laws_answers.proofs.Answers.{refused}
-use Rattle.newt_laws_answers.proofs.Staged.{now-apart, now-mounted-apart, now-on-cursors, now-settled, now-still}
+use Rattle.newt_laws_answers.specs.Spoken.{answer_now}
+use Rattle.newt_laws_answers.proofs.Spoken.{now-apart, now-mounted-apart, now-on-cursors, now-settled, now-still}
 use Rattle.newt_units.specs.declared.fault.Fault.{Fault}
 use Rattle.newt_units.specs.declared.fault.Fault.TheVariants.{Refused, Stop as Ends}
 use Rattle.newt_units.specs.declared.units.Units.{Units}
@@ -54,10 +50,10 @@ unfolding uses_cursors
 uses_one (command.Query _ _ _) h = h
 uses_one _ h = h
 
-few_keys : (c : Command) → settles c ≡ false → (moves_keys c ≡ false) ⊎ (is_built c ≡ false)
+few_keys : (c : Command) → settles c ≡ false → moves_keys c ≡ false
 unfolding moves_keys
-few_keys (command.Vwrite _ _ _ _ _ _) h = inr refl
-few_keys _ h = inl h
+few_keys (command.Mount _) h = h
+few_keys _ h = h
 
 pub settles_on_devices : (c : Command) → settles c ≡ true → uses_device c ≡ false → ⊥
 settles_on_devices (command.Mount _) h k = cc
@@ -76,9 +72,6 @@ cursors_in_memory (command.Mount _) h k = cc
 cursors_in_memory _ h k = cc
 
 -- ---- one command
-
-not_built_stays : (w : World) (c : Command) → is_built c ≡ false → (answer_now w c).0 ≡ w
-not_built_stays w c h = ap (λ (a : World × plain.Reply). a.0) (refused w c NoCommand (ap (λ b. first_of (cond b (map (staged (new_graph w c)) (checks w c)) ((NoCommand, true) ∷ []))) h))
 
 -- what holds of the world after a command that goes on
 pub goes_apart : {T : Type 0} (w v : World) (c : Command) (made : T → plain.Reply) (result : Result T Fault) → MountedApart w → Answers w v c made result → GoesOn result → MountedApart v
@@ -116,7 +109,7 @@ module _ {C : Type 0} {reads : List ℕ → Option Store} {place : C → ℕ} {s
 
       media : (m : Option Store) → reads (image u o.now) ≡ m → OnMedia Wf (o.blocks u) (media_of m)
       media None e = tt
-      media (Some x) e = (l.formed (image u o.now) x e).0
+      media (Some x) e = l.formed (image u o.now) x e
 
       go : (card : Option (List ℕ)) → o.card u ≡ card → OnMedia Wf d.blocks d.media
       go None e = absurd (none-some d (sym (at-none l units o s.eight stand u e) ∙ is))
@@ -127,11 +120,9 @@ module _ {C : Type 0} {reads : List ℕ → Option Store} {place : C → ℕ} {s
 
   -- where keys are as before, nothing is left to settle
   pub still : (v : World) (r : plain.Reply) → settles c ≡ false → answer_now w c ≡ (v, r) → answer_now (with_cursors ks w) c ≡ (with_cursors ks v, r)
-  still v r few done = whole ∙ ap {A = World} (λ x. (x, (answer_now w c).1)) (go (few_keys c few)) ∙ ap (λ (a : World × plain.Reply). (with_cursors ks a.0, a.1)) done
-    where
-      go : (moves_keys c ≡ false) ⊎ (is_built c ≡ false) → IsSettled (with_cursors ks (answer_now w c).0)
-      go (inl h) = now-still ks w c (uses_none c none) h refl formed (s.apart t) (s.settled t)
-      go (inr h) = subst (λ v. IsSettled (with_cursors ks v)) (sym (not_built_stays w c h)) (s.settled t)
+  still v r few done = whole
+      ∙ ap {A = World} (λ x. (x, (answer_now w c).1)) (now-still ks w c (uses_none c none) (few_keys c few) refl formed (s.apart t) (s.settled t))
+      ∙ ap (λ (a : World × plain.Reply). (with_cursors ks a.0, a.1)) done
 
   -- a refusal leaves the cursors
   pub refuses : (v : World) (r : Refusal) → answer_now w c ≡ (v, plain.Reply.refused r) → answer_now (with_cursors ks w) c ≡ (with_cursors ks v, plain.Reply.refused r)

@@ -23,6 +23,8 @@ uses_device (command.Change _ _ _ _) = true
 uses_device (command.Remove _ _ _) = true
 uses_device (command.Copy _ _ _ _ _) = true
 uses_device (command.Move _ _ _ _ _) = true
+uses_device (command.Vread _ _ _ _ _ _) = true
+uses_device (command.Vwrite _ _ _ _ _ _) = true
 uses_device c = on_cursor c
 
 -- memory is taken; whatever uses a device takes some

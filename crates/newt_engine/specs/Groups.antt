@@ -14,13 +14,15 @@ on_graph (command.Set _ _ _ _ _) = true
 on_graph (command.Change _ _ _ _) = true
 on_graph _ = false
 
--- an entry is read, removed or copied
+-- an entry is read, removed or copied, or its large binaries are read or written over
 abbrev pub on_entry : Command → Bool
 on_entry (command.Get _ _ _) = true
 on_entry (command.Getx _ _ _) = true
 on_entry (command.Remove _ _ _) = true
 on_entry (command.Copy _ _ _ _ _) = true
 on_entry (command.Move _ _ _ _ _) = true
+on_entry (command.Vread _ _ _ _ _ _) = true
+on_entry (command.Vwrite _ _ _ _ _ _) = true
 on_entry _ = false
 
 -- the keys of entries may be others afterwards, so the cursors are settled
@@ -35,6 +37,7 @@ settles (command.Set _ _ _ _ _) = true
 settles (command.Change _ _ _ _) = true
 settles (command.Copy _ _ _ _ _) = true
 settles (command.Move _ _ _ _ _) = true
+settles (command.Vwrite _ _ _ _ _ _) = true
 settles _ = false
 
 -- a cursor is opened, counted, asked for its side, cloned or closed

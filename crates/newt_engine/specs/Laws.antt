@@ -1,29 +1,20 @@
 -- What stands between commands, and what no command takes away.
-use Rattle.std.proofs.Common.{◌≡◌, refl, ap, sym, ◌∙◌, subst, ℕ, zero, suc, ◌≤◌, List, [], ◌∷◌, Bool, true, false, ◌||◌, IsTrue, Option, Some, None, map, cond}
+use Rattle.std.proofs.Common.{◌≡◌, refl, ap, sym, ◌∙◌, subst, ℕ, zero, suc, ◌≤◌, List, [], ◌∷◌, Bool, true, false, IsTrue, Option, Some, None}
 use Rattle.std.specs.Prelude.{is_some, slice_index_or, slice_get}
-use Rattle.newt_base.specs.Refusals.{Checks, first_of}
-use Rattle.newt_base.specs.declared.Refusal.{Refusal}
-use Rattle.newt_base.specs.declared.Refusal.TheVariants.{Size, Command as NoCommand}
-use Rattle.newt_graph.specs.Graph.{RawGraph}
 use Rattle.newt_host.specs.Moments.{IsDurable, MayLeave, image}
 use Rattle.newt_host.specs.Outside.{Outside}
 use Rattle.newt_session.specs.Causes.{SameDevices}
-use Rattle.newt_spec_graph.proofs.Lists.{none-some, some-same, both-ways}
+use Rattle.newt_spec_graph.proofs.Lists.{none-some, some-same}
 use Rattle.newt_spec_query.specs.Cursor.{Cursor}
 use Rattle.newt_spec_store.specs.Laid.{bare}
-use Rattle.newt_spec_store.specs.Lies.{has_no_large}
 use Rattle.newt_spec_store.specs.Store.{Store}
 use Rattle.newt_spec_store.specs.Valid.{well_formed}
 use Rattle.newt_spec_world.specs.declared.command.Command.{Command}
 use Rattle.newt_spec_world.specs.World.{World, store_on_unit}
-use Rattle.newt_spec_world.specs.Answer.{answered}
-use Rattle.newt_spec_world.specs.Refused.{Check, checks}
-use Rattle.newt_laws.specs.Later.{WorldLater}
 use Rattle.newt_laws.specs.Settled.{IsSettled, MountedApart}
-use Rattle.newt_laws.proofs.Kept.{AllFalse, all-false}
-use Rattle.newt_laws.proofs.Later.{row-later, world-not}
 use Rattle.newt_laws_cursors.specs.Cursors.{with_cursors}
-use Rattle.newt_laws_answers.specs.Stage.{answer_now, checks_now, is_built, new_graph, has_large, staged}
+use Rattle.newt_laws_answers.specs.Spoken.{answer_now}
+use Rattle.newt_laws_answers.proofs.Spoken.{now-later}
 use Rattle.newt_units.specs.declared.units.Units.{Units}
 use Rattle.newt_units.specs.Cards.{IsSame}
 use Rattle.newt_units.specs.Stands.{Eight}
@@ -43,7 +34,7 @@ eight_same told old new same e = record {
 
 -- the laws of cards, as one
 pub laws_of : {C : Type 0} {reads : List ℕ → Option Store} {place : C → ℕ} {soups : C → Store} {stands : Bool → C → Outside → Type 0}
-    → ((bytes : List ℕ) (s : Store) → reads bytes ≡ Some s → IsTrue (well_formed s) × IsTrue (has_no_large s))
+    → ((bytes : List ℕ) (s : Store) → reads bytes ≡ Some s → IsTrue (well_formed s))
     → ((card : C) (outside : Outside) → stands true card outside → (s : Store) × (reads (image (place card) outside.now) ≡ Some s) × (bare s ≡ soups card))
     → ((card : C) (outside : Outside) → stands true card outside → IsDurable (place card) outside.now)
     → ((told : Bool) (card : C) (outside : Outside) → stands told card outside → 13 ≤ outside.blocks (place card))
@@ -77,40 +68,12 @@ leaves_store laws units cursors outside s unit store left is may = left-alone la
 
 -- ---- no command takes a unit's store away
 
--- a test that is passed today is passed
-passed : (g : Option RawGraph) (ks : Checks) → AllFalse (map (staged g) ks) → AllFalse ks
-passed g [] h = tt
-passed g (k ∷ ks) h = (one g k h.0, passed g ks h.1)
-  where
-    or-rest : (a b : Bool) → (a || b) ≡ false → b ≡ false
-    or-rest false b x = x
-    or-rest true b x = absurd (both-ways (sym x))
-
-    one : (g : Option RawGraph) (k : Check) → (staged g k).1 ≡ false → k.1 ≡ false
-    one g (Size, test) x = or-rest (has_large g) test x
-    one g (r, test) x = x
-
-pub now_later : (w : World) (c : Command) → WorldLater w (answer_now w c).0
-unfolding answer_now
-now_later w c = go (first_of (checks_now w c)) refl
-  where
-    tests : Bool → Option Refusal
-    tests b = first_of (cond b (map (staged (new_graph w c)) (checks w c)) ((NoCommand, true) ∷ []))
-
-    built : (b : Bool) → is_built c ≡ b → first_of (checks_now w c) ≡ None → AllFalse (checks w c)
-    built true e h = passed (new_graph w c) (checks w c) (all-false (map (staged (new_graph w c)) (checks w c)) (sym (ap tests e) ∙ h))
-    built false e h = absurd (none-some NoCommand (sym (sym (ap tests e) ∙ h)))
-
-    go : (o : Option Refusal) → first_of (checks_now w c) ≡ o → WorldLater w (answered w c o).0
-    go None e = row-later w c (built (is_built c) refl e)
-    go (Some r) e = world-not w
-
 pub stays_there : (w : World) (c : Command) (unit : ℕ) → store_on_unit (answer_now w c).0 unit ≡ None → store_on_unit w unit ≡ None
 stays_there w c unit none = go (store_on_unit w unit) refl
   where
     go : (o : Option Store) → store_on_unit w unit ≡ o → store_on_unit w unit ≡ None
     go None e = e
-    go (Some s) e = let k = now_later w c unit s e in absurd (none-some k.0 (sym none ∙ k.1))
+    go (Some s) e = let k = now-later w c unit s e in absurd (none-some k.0 (sym none ∙ k.1))
 
 -- ---- at the start
 

@@ -1,9 +1,9 @@
-//! Commands that read, remove or copy an entry.
+//! Commands that read, remove or copy an entry, or read or write over its large binaries.
 ghost use Rattle.std.specs.Prelude.{◌≡◌, true, false, IsTrue, IfErr};
 ghost use Rattle.newt_host.specs.Moments.{Always};
 ghost use Rattle.newt_reply.specs.Said.{said};
 ghost use Rattle.newt_laws_answers.specs.Answering.{Answering};
-ghost use Rattle.newt_laws_answers.specs.Stage.{answer_now};
+ghost use Rattle.newt_laws_answers.specs.Spoken.{answer_now};
 ghost use Rattle.newt_units.specs.Answers.{Answers};
 ghost use Rattle.newt_units.specs.Faults.{GoesOn, HasFaultCause, IsRefusal, NoDevice, OnDevices};
 ghost use Rattle.newt_units.specs.Stands.{Stands, world_of};
@@ -55,6 +55,14 @@ impl<C: Card> World<C> {
             Command::Move(unit, name, uid, to, target) => Ok(Reply::Number(
                 self.units.move_entry(host, *unit, name, *uid, *to, target)?,
             )),
+            Command::Vread(unit, name, uid, path, at, len) => Ok(Reply::Hex(
+                self.units.vread(host, *unit, name, *uid, path, *at, *len)?,
+            )),
+            Command::Vwrite(unit, name, uid, path, at, bytes) => {
+                self.units
+                    .vwrite(host, *unit, name, *uid, path, *at, bytes.list())?;
+                Ok(Reply::Done)
+            }
             _ => self.obey_on_store(host, command),
         }
     }

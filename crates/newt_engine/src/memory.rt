@@ -15,7 +15,7 @@ use newt_script::Command;
 use newt_units::{Card, Fault};
 
 impl<C: Card> World<C> {
-    /// Obeys a command that uses no device and takes no graph. One that is not built is refused.
+    /// Obeys a command that uses no device and takes no graph.
     pub(crate) fn obey_in_memory(&mut self, command: &Command) -> Result<Reply, Fault>
         requires no_graph { on_graph command.now ≡ false }
         requires no_device { uses_device command.now ≡ false }

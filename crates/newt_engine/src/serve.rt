@@ -3,7 +3,7 @@ ghost use Rattle.std.specs.Prelude.{◌≡◌, true, false, IsTrue, IfErr, OnOk,
 ghost use Rattle.newt_host.specs.Moments.{Always};
 ghost use Rattle.newt_reply.specs.Said.{said};
 ghost use Rattle.newt_laws_answers.specs.Answering.{Answering};
-ghost use Rattle.newt_laws_answers.specs.Stage.{answer_now};
+ghost use Rattle.newt_laws_answers.specs.Spoken.{answer_now};
 ghost use Rattle.newt_laws.specs.Settled.{MountedApart};
 ghost use Rattle.newt_spec_world.specs.World.{settle};
 ghost use Rattle.newt_units.specs.Answers.{Answers};
@@ -103,6 +103,7 @@ fn settles(command: &Command) -> bool
             | Command::Change(_, _, _, _)
             | Command::Copy(_, _, _, _, _)
             | Command::Move(_, _, _, _, _)
+            | Command::Vwrite(_, _, _, _, _, _)
     )
 }
 

@@ -4,7 +4,7 @@ ghost use Rattle.newt_base.specs.declared.Refusal.{Refusal};
 ghost use Rattle.newt_host.specs.Moments.{Always};
 ghost use Rattle.newt_reply.specs.Said.{said};
 ghost use Rattle.newt_laws_answers.specs.Answering.{Answering};
-ghost use Rattle.newt_laws_answers.specs.Stage.{answer_now};
+ghost use Rattle.newt_laws_answers.specs.Spoken.{answer_now};
 ghost use Rattle.newt_units.specs.Faults.{HasStopCause, OnDevices};
 ghost use Rattle.newt_walk.specs.World.{world_with};
 ghost use Rattle.newt_engine.specs.Ends.{takes_memory, uses_device};

@@ -30,7 +30,7 @@ use Rattle.newt_laws.specs.Worlds.{OnMedia, OnUnits}
 use Rattle.newt_spec_graph.proofs.Lists.{none-some}
 use Rattle.newt_laws.proofs.Units.{change-store, Has, mounted-has, has-mounted, soup-has, entry-has}
 use Rattle.newt_laws.proofs.Soups.{with-soup, with-entry, with-change, found-good, is-store, is-soup}
-use Rattle.newt_laws.proofs.Patch.{at-skeleton, at-lengths, at-limits, at-object}
+use Rattle.newt_laws.proofs.Patch.{at-skeleton, at-lengths, at-limits, at-frame}
 use Rattle.newt_laws.proofs.Frames.{set-frame, normal-frame}
 
 -- ---- checks
@@ -223,7 +223,7 @@ patched-good None at new e room h = h
 patched-good (Some n) at new e room h = grind (
   arith,
   h,
-  at-object at new e.graph n room e.graph.root,
+  at-frame at new e.graph n room,
   at-limits at new e.graph n room,
   ap {A = RawGraph} {B = ℕ} (λ k. length (Rattle.newt_nsof.specs.Written.nsof k)) (at-skeleton at new e.graph n room),
 )

@@ -1,5 +1,5 @@
 -- Entries that are added.
-use Rattle.std.proofs.Common.{◌≡◌, refl, ap, sym, ◌∙◌, ℕ, List, [], ◌∷◌, Bool, Option, Some, None, option_map, unwrap_or, replicate, ◌||◌, not, nat_lt, ◌==◌, drop}
+use Rattle.std.proofs.Common.{◌≡◌, refl, ap, sym, ◌∙◌, ℕ, List, [], ◌∷◌, Bool, Option, Some, None, option_map, unwrap_or, replicate, not, nat_lt, ◌==◌, drop}
 use Rattle.std.specs.Option.{is_none}
 use Rattle.newt_base.specs.Refusals.{Checks, first_of}
 use Rattle.newt_base.specs.declared.Refusal.{Refusal}
@@ -8,7 +8,6 @@ use Rattle.newt_graph.specs.Graph.{RawGraph}
 use Rattle.newt_image.specs.Pages.{cap}
 use Rattle.newt_spec_graph.specs.Graph.{is_frame, object}
 use Rattle.newt_spec_store.specs.Cost.{cost, skeleton_length}
-use Rattle.newt_spec_store.specs.Lies.{graph_has_no_large}
 use Rattle.newt_spec_store.specs.Store.{Store, Soup, soup_named}
 use Rattle.newt_spec_world.specs.declared.command.Command.{Command}
 use Rattle.newt_spec_world.specs.declared.command.Command.TheVariants as command
@@ -18,7 +17,7 @@ use Rattle.newt_spec_world.specs.Changed.{changed}
 use Rattle.newt_spec_world.specs.Refused.{checks, on_some, not_mounted, no_soup, no_more_ids, full}
 use Rattle.newt_spec_world.specs.Answer.{fields, new_uid}
 use Rattle.newt_laws_answers.specs.Tests.{add_tests, room_tests, soup_checks, with_added}
-use Rattle.newt_laws_answers.specs.Stage.{checks_now, answer_now}
+use Rattle.newt_laws_answers.specs.Spoken.{checks_now, answer_now}
 use Rattle.newt_laws_answers.proofs.Firsts.{first-true}
 use Rattle.newt_laws_answers.specs.There.{OnUnit}
 use Rattle.newt_laws_answers.proofs.Units.{on-changed, soup-named}
@@ -26,7 +25,7 @@ use Rattle.newt_laws_answers.proofs.Answers.{done, refused, refused-early, all-p
 
 -- the tests of a graph, and more
 abbrev graph-tests : RawGraph → Checks → Checks
-graph-tests g more = (Notframe, not (is_frame (object g.nodes g.root))) ∷ (Size, not (graph_has_no_large g) || nat_lt 64_000 (skeleton_length g)) ∷ more
+graph-tests g more = (Notframe, not (is_frame (object g.nodes g.root))) ∷ (Size, nat_lt 64_000 (skeleton_length g)) ∷ more
 
 module _ (w : World) (u blocks : ℕ) (s : Store) (name : List ℕ) (p : Soup) (g : RawGraph) (h : OnUnit w u blocks s) (f : soup_named name s ≡ Some p) where
   pub ids-is : on_some (soup_in w u name) (λ q. q.next_uid == 536_870_911) ≡ (p.next_uid == 536_870_911)
@@ -39,7 +38,7 @@ module _ (w : World) (u blocks : ℕ) (s : Store) (name : List ℕ) (p : Soup) (
       ∙ full-is (with_added w u name g) u blocks _ (on-changed w u blocks s _ h))
 
   tests-are : (c : Command) → changed w c ≡ with_added w u name g → first_of (graph-tests g (no_more_ids w u name ∷ full w u c ∷ [])) ≡ first_of (add_tests blocks w.minute name g s p)
-  tests-are c e = ap {A = Checks} (λ xs. first_of ((Notframe, not (is_frame (object g.nodes g.root))) ∷ (Size, not (graph_has_no_large g) || nat_lt 64_000 (skeleton_length g)) ∷ xs)) (room-is c e)
+  tests-are c e = ap {A = Checks} (λ xs. first_of ((Notframe, not (is_frame (object g.nodes g.root))) ∷ (Size, nat_lt 64_000 (skeleton_length g)) ∷ xs)) (room-is c e)
 
   pub uid-is : new_uid w u name ≡ p.next_uid
   uid-is = ap (λ (o : Option Soup). unwrap_or (option_map (λ p. p.next_uid) o) 0) (soup-named w u blocks s name h ∙ f)

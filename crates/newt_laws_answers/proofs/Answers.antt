@@ -12,7 +12,7 @@ use Rattle.newt_spec_world.specs.Reply.{Reply}
 use Rattle.newt_spec_world.specs.Changed.{changed}
 use Rattle.newt_spec_world.specs.Refused.{no_unit, not_mounted, no_soup, on_some}
 use Rattle.newt_spec_world.specs.Answer.{answered, fields}
-use Rattle.newt_laws_answers.specs.Stage.{checks_now, answer_now}
+use Rattle.newt_laws_answers.specs.Spoken.{checks_now, answer_now}
 use Rattle.newt_laws_answers.proofs.Worlds.{settle-none}
 use Rattle.newt_laws_answers.proofs.Firsts.{first-found, first-false}
 use Rattle.newt_laws_answers.specs.There.{OnUnit}

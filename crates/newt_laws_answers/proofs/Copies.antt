@@ -10,7 +10,6 @@ use Rattle.newt_base.specs.declared.Refusal.TheVariants.{Unit as NoUnit, Notmoun
 use Rattle.newt_image.specs.Pages.{cap}
 use Rattle.newt_spec_graph.specs.Graph.{is_frame, object}
 use Rattle.newt_spec_store.specs.Cost.{cost, skeleton_length}
-use Rattle.newt_spec_store.specs.Lies.{graph_has_no_large}
 use Rattle.newt_spec_store.specs.Valid.{valid_entry}
 use Rattle.newt_spec_store.specs.Store.{Store, Soup, Entry, soup_named, entry_of, change_soup, add_entry, remove_entry}
 use Rattle.newt_spec_world.specs.declared.command.Command.TheVariants as command
@@ -20,7 +19,7 @@ use Rattle.newt_spec_world.specs.Changed.{changed, copy_to}
 use Rattle.newt_spec_world.specs.Refused.{checks, on_some, either, no_unit, not_mounted, no_soup, no_entry, full}
 use Rattle.newt_spec_world.specs.Answer.{fields, new_uid}
 use Rattle.newt_laws_answers.specs.Tests.{add_tests, both_checks, move_tests, moved_within, room_tests, with_added}
-use Rattle.newt_laws_answers.specs.Stage.{checks_now, answer_now}
+use Rattle.newt_laws_answers.specs.Spoken.{checks_now, answer_now}
 use Rattle.newt_laws_answers.proofs.Firsts.{first-true, first-false, first-found}
 use Rattle.newt_laws_answers.specs.There.{OnUnit}
 use Rattle.newt_laws_answers.proofs.Units.{on-changed, on-other, is-mounted, soup-named, store-twice}
@@ -29,16 +28,15 @@ use Rattle.newt_laws_answers.proofs.Adds.{room-is, uid-is, ids-is}
 
 -- ---- an entry that is there passes the tests of a graph
 
-no-size : (n most : ℕ) (b : Bool) → nat_le n most ≡ true → b ≡ true → (not b || nat_lt most n) ≡ false
-no-size n most true h k = le-ltb most n (leb-true n most h)
-no-size n most false h k = cc
+no-size : (n most : ℕ) → nat_le n most ≡ true → nat_lt most n ≡ false
+no-size n most h = le-ltb most n (leb-true n most h)
 
-pub graph-passes : (blocks now : ℕ) (name : List ℕ) (e : Entry) (s : Store) (p : Soup) → valid_entry e ≡ true → graph_has_no_large e.graph ≡ true
+pub graph-passes : (blocks now : ℕ) (name : List ℕ) (e : Entry) (s : Store) (p : Soup) → valid_entry e ≡ true
     → first_of (add_tests blocks now name e.graph s p) ≡ first_of (room_tests blocks now name e.graph s p)
-graph-passes blocks now name e s p ok none =
-    first-false Notframe _ ((Size, not (graph_has_no_large e.graph) || nat_lt 64_000 (skeleton_length e.graph)) ∷ room_tests blocks now name e.graph s p)
+graph-passes blocks now name e s p ok =
+    first-false Notframe _ ((Size, nat_lt 64_000 (skeleton_length e.graph)) ∷ room_tests blocks now name e.graph s p)
     (ap not (and-left framed _ (and-left (framed && within_limits e.graph) _ ok)))
-    ∙ first-false Size _ (room_tests blocks now name e.graph s p) (no-size (skeleton_length e.graph) 64_000 _ (and-right (framed && within_limits e.graph) _ ok) none)
+    ∙ first-false Size _ (room_tests blocks now name e.graph s p) (no-size (skeleton_length e.graph) 64_000 (and-right (framed && within_limits e.graph) _ ok))
   where
     framed : Bool
     framed = is_frame (object e.graph.nodes e.graph.root)

@@ -12,7 +12,7 @@ use Rattle.newt_spec_world.specs.Changed.{changed}
 use Rattle.newt_spec_world.specs.Refused.{checks, no_entry}
 use Rattle.newt_spec_world.specs.Answer.{fields, or_nil}
 use Rattle.newt_laws_answers.specs.Tests.{entry_checks, soup_checks}
-use Rattle.newt_laws_answers.specs.Stage.{answer_now}
+use Rattle.newt_laws_answers.specs.Spoken.{answer_now}
 use Rattle.newt_laws_answers.proofs.Firsts.{first-true, first-false, first-found}
 use Rattle.newt_laws_answers.specs.There.{OnUnit}
 use Rattle.newt_laws_answers.proofs.Units.{is-mounted, soup-named}

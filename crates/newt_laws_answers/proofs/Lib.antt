@@ -8,8 +8,9 @@ pub mod Soups
 pub mod Entries
 pub mod Copies
 pub mod Replaces
+pub mod Larges
 pub mod Declares
 pub mod Stores
 pub mod Resolves
 pub mod Faces
-pub mod Staged
+pub mod Spoken

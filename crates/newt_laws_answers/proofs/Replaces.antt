@@ -1,5 +1,5 @@
 -- Entries whose graph is replaced.
-use Rattle.std.proofs.Common.{◌≡◌, refl, ap, sym, ◌∙◌, ℕ, List, [], ◌∷◌, Bool, true, false, not, ◌||◌, ◌&&◌, nat_lt, nat_le, Option, Some, None, option_map, option_and_then, unwrap_or, cond, find, replicate, drop, ◌==◌}
+use Rattle.std.proofs.Common.{◌≡◌, refl, ap, sym, ◌∙◌, ℕ, List, [], ◌∷◌, Bool, true, false, not, ◌&&◌, nat_lt, nat_le, Option, Some, None, option_and_then, unwrap_or, cond, find, replicate, drop, ◌==◌}
 use Rattle.std.specs.Option.{is_none}
 use Rattle.newt_base.specs.Names.{equal_text}
 use Rattle.newt_base.specs.Refusals.{Checks, first_of}
@@ -11,10 +11,9 @@ use Rattle.newt_image.specs.Pages.{cap}
 use Rattle.newt_spec_graph.specs.Graph.{is_frame, object}
 use Rattle.newt_spec_graph.specs.Limits.{within_limits, is_within}
 use Rattle.newt_spec_graph.specs.Slots.{put}
-use Rattle.newt_spec_graph.proofs.Lists.{some-same, none-some}
+use Rattle.newt_spec_graph.proofs.Lists.{some-same}
 use Rattle.newt_spec_store.specs.Cost.{cost, skeleton_length}
 use Rattle.newt_spec_store.specs.Keys.{Path}
-use Rattle.newt_spec_store.specs.Lies.{graph_has_no_large}
 use Rattle.newt_spec_store.specs.Valid.{valid_entry}
 use Rattle.newt_spec_store.specs.Store.{Store, Soup, Entry, soup_named, entry_of, change_first, change_soup, change_entry}
 use Rattle.newt_spec_world.specs.declared.command.Command.{Command}
@@ -27,7 +26,7 @@ use Rattle.newt_spec_world.specs.Answer.{fields}
 use Rattle.newt_laws.proofs.Frames.{set-frame, normal-frame}
 use Rattle.newt_laws.proofs.Rows.{and-left}
 use Rattle.newt_laws_answers.specs.Tests.{entry_checks, replaced, replace_tests}
-use Rattle.newt_laws_answers.specs.Stage.{checks_now, answer_now, has_large}
+use Rattle.newt_laws_answers.specs.Spoken.{checks_now, answer_now}
 use Rattle.newt_laws_answers.specs.There.{OnUnit}
 use Rattle.newt_laws_answers.proofs.Firsts.{first-true, first-false}
 use Rattle.newt_laws_answers.proofs.Units.{on-changed, store-alike}
@@ -46,7 +45,7 @@ first-alike {X} test f g (y ∷ ys) x h k = go (test y) h (first-alike test f g 
     go false i more = ap {A = List X} {B = List X} (λ zs. y ∷ zs) (more i k)
 
 -- of a store, that agree on one entry
-entry-alike : (name : List ℕ) (uid : ℕ) (f g : Entry → Entry) (s : Store) (p : Soup) (e : Entry) → soup_named name s ≡ Some p → entry_of uid p ≡ Some e → f e ≡ g e
+pub entry-alike : (name : List ℕ) (uid : ℕ) (f g : Entry → Entry) (s : Store) (p : Soup) (e : Entry) → soup_named name s ≡ Some p → entry_of uid p ≡ Some e → f e ≡ g e
     → change_soup name (change_entry uid f) s ≡ change_soup name (change_entry uid g) s
 entry-alike name uid f g s p e named here same =
     ap {A = List Soup} {B = Store} (λ ps. record s { soups = ps }) (first-alike (λ p. equal_text p.name name) (change_entry uid f) (change_entry uid g) s.soups p named
@@ -66,7 +65,7 @@ module _ (w : World) (u : ℕ) (name : List ℕ) (uid : ℕ) (r : Refusal) (h : 
 -- ---- the entry is there
 
 module _ (w : World) (u blocks : ℕ) (s : Store) (name : List ℕ) (p : Soup) (uid : ℕ) (h : OnUnit w u blocks s) (f : soup_named name s ≡ Some p) (e : Entry) (here : entry_of uid p ≡ Some e) where
-  there-passes : (rest : Checks) → first_of (no_unit w u ∷ not_mounted w u ∷ no_soup w u name ∷ no_entry w u name uid ∷ rest) ≡ first_of rest
+  pub there-passes : (rest : Checks) → first_of (no_unit w u ∷ not_mounted w u ∷ no_soup w u name ∷ no_entry w u name uid ∷ rest) ≡ first_of rest
   there-passes rest = all-pass w u blocks s name p (no_entry w u name uid ∷ rest) h f ∙ entry-passes w u blocks s name p uid h f e here rest
 
   full-replaced : (c : Command) (new : RawGraph) → changed w c ≡ change_store w u (replaced w.minute name uid new) → (full w u c).1 ≡ nat_lt (cap blocks) (cost (replaced w.minute name uid new s))
@@ -80,7 +79,7 @@ module _ (w : World) (u blocks : ℕ) (s : Store) (name : List ℕ) (p : Soup) (
     unfolding checks changed
     change-checks =
         there-passes (drop 4 (checks_now w (command.Change u name uid g)))
-        ∙ ap {A = Bool} (λ b. first_of ((Notframe, not (is_frame (object g.nodes g.root))) ∷ (Size, not (graph_has_no_large g) || nat_lt 64_000 (skeleton_length g)) ∷ (Full, b) ∷ []))
+        ∙ ap {A = Bool} (λ b. first_of ((Notframe, not (is_frame (object g.nodes g.root))) ∷ (Size, nat_lt 64_000 (skeleton_length g)) ∷ (Full, b) ∷ []))
         (full-replaced (command.Change u name uid g) g refl)
 
     pub change-refused : (r : Refusal) → first_of (replace_tests blocks w.minute name uid g s) ≡ Some r → answer_now w (command.Change u name uid g) ≡ (w, Reply.refused r)
@@ -102,7 +101,7 @@ module _ (w : World) (u blocks : ℕ) (s : Store) (name : List ℕ) (p : Soup) (
     tests o =
         (NoPath, on_some o (λ e. is_none (put e.graph path g)))
         ∷ (Limit, on_some o (λ e. on_some (put e.graph path g) (λ x. not (is_within (normal_form x)))))
-        ∷ (Size, has_large (option_map (λ e. graph_after_set path g e.graph) o) || on_some o (λ e. nat_lt 64_000 (skeleton_length (graph_after_set path g e.graph))))
+        ∷ (Size, on_some o (λ e. nat_lt 64_000 (skeleton_length (graph_after_set path g e.graph))))
         ∷ full w u (command.Set u name uid path g) ∷ []
 
     set-tests : first_of (checks_now w (command.Set u name uid path g)) ≡ first_of (tests (Some e))
@@ -139,8 +138,8 @@ module _ (w : World) (u blocks : ℕ) (s : Store) (name : List ℕ) (p : Soup) (
         set-checks =
             set-tests ∙ path-passes
             ∙ first-false Limit _ (drop 2 (tests (Some e))) (ap (λ o. on_some o (λ x. not (is_within (normal_form x)))) is ∙ ap (λ o. not (is_within o)) form ∙ ap not within)
-            ∙ ap (λ x. first_of ((Size, not (graph_has_no_large x) || nat_lt 64_000 (skeleton_length x)) ∷ full w u (command.Set u name uid path g) ∷ [])) after
-            ∙ ap {A = Bool} (λ b. first_of ((Size, not (graph_has_no_large new) || nat_lt 64_000 (skeleton_length new)) ∷ (Full, b) ∷ [])) (full-replaced (command.Set u name uid path g) new set-changed)
+            ∙ ap (λ x. first_of ((Size, nat_lt 64_000 (skeleton_length x)) ∷ full w u (command.Set u name uid path g) ∷ [])) after
+            ∙ ap {A = Bool} (λ b. first_of ((Size, nat_lt 64_000 (skeleton_length new)) ∷ (Full, b) ∷ [])) (full-replaced (command.Set u name uid path g) new set-changed)
             ∙ sym (first-false Notframe _ (drop 1 (replace_tests blocks w.minute name uid new s)) (ap not framed))
 
         pub set-refused : (r : Refusal) → first_of (replace_tests blocks w.minute name uid new s) ≡ Some r → answer_now w (command.Set u name uid path g) ≡ (w, Reply.refused r)

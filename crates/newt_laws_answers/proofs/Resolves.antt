@@ -10,7 +10,7 @@ use Rattle.newt_spec_world.specs.Alias.{Alias, Spot, alias_of, resolved}
 use Rattle.newt_spec_world.specs.Changed.{changed}
 use Rattle.newt_spec_world.specs.Refused.{checks}
 use Rattle.newt_spec_world.specs.Answer.{fields, or_nil}
-use Rattle.newt_laws_answers.specs.Stage.{answer_now}
+use Rattle.newt_laws_answers.specs.Spoken.{answer_now}
 use Rattle.newt_laws_answers.proofs.Firsts.{first-true, first-false}
 use Rattle.newt_laws_answers.proofs.Answers.{done, refused}
 

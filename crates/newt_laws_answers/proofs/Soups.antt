@@ -14,7 +14,7 @@ use Rattle.newt_spec_world.specs.Changed.{changed}
 use Rattle.newt_spec_world.specs.Refused.{checks, on_some, soup_limit, no_more_soups, soup_exists, full}
 use Rattle.newt_spec_world.specs.Answer.{fields, or_nil}
 use Rattle.newt_laws_answers.specs.Tests.{make_tests, soup_checks, unit_checks}
-use Rattle.newt_laws_answers.specs.Stage.{checks_now, answer_now}
+use Rattle.newt_laws_answers.specs.Spoken.{checks_now, answer_now}
 use Rattle.newt_laws_answers.specs.There.{OnUnit}
 use Rattle.newt_laws_answers.proofs.Units.{on-changed, is-mounted, soup-named}
 use Rattle.newt_laws_answers.proofs.Answers.{done, refused, refused-early, unit-passes, all-pass, full-is}

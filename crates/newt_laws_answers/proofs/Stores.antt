@@ -14,7 +14,7 @@ use Rattle.newt_spec_world.specs.Changed.{changed, mark, default_without}
 use Rattle.newt_spec_world.specs.Refused.{checks, no_unit, bad_blocks, is_mounted, has_store, no_store, four_mounted, same_signature}
 use Rattle.newt_spec_world.specs.Answer.{fields, or_nil}
 use Rattle.newt_laws_answers.specs.Tests.{formatted, ready_checks, unit_checks}
-use Rattle.newt_laws_answers.specs.Stage.{checks_now, answer_now}
+use Rattle.newt_laws_answers.specs.Spoken.{checks_now, answer_now}
 use Rattle.newt_laws.proofs.Units.{device-same}
 use Rattle.newt_laws_answers.proofs.Firsts.{first-true, first-false, first-found}
 use Rattle.newt_laws_answers.specs.There.{OnUnit, IsReady}

@@ -1,4 +1,4 @@
-pub mod Stage
+pub mod Spoken
 pub mod WorldAt
 pub mod Answering
 pub mod Faces

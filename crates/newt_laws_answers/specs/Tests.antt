@@ -1,17 +1,16 @@
 -- The tests of commands, gathered by what they need to be there. Numbers, words and order of the refusals are this project's own.
-use Rattle.std.specs.Prelude.{ℕ, Bool, false, not, ◌||◌, ◌==◌, nat_lt, nat_le, List, [], ◌∷◌, length, is_some}
+use Rattle.std.specs.Prelude.{ℕ, ◌+◌, Bool, false, not, ◌==◌, nat_lt, nat_le, List, [], ◌∷◌, length, Some, is_some, is_none, slice_get}
 use Rattle.std.specs.List.{list_any}
 use Rattle.newt_base.specs.Refusals.{Checks}
-use Rattle.newt_base.specs.declared.Refusal.TheVariants.{Exists, Notframe, Limit, Size, Ids, Full, Index as BadIndex}
+use Rattle.newt_base.specs.declared.Refusal.TheVariants.{Exists, Notframe, Path as NoPath, Range, Limit, Size, Ids, Full, Index as BadIndex}
 use Rattle.newt_graph.specs.Graph.{RawGraph}
 use Rattle.newt_image.specs.Pages.{cap}
 use Rattle.newt_spec_graph.specs.Graph.{is_frame, object}
 use Rattle.newt_spec_store.specs.Cost.{cost, skeleton_length}
-use Rattle.newt_spec_store.specs.Lies.{graph_has_no_large}
 use Rattle.newt_spec_store.specs.Keys.{IndexSpec, Path, paths_of, same_paths}
-use Rattle.newt_spec_store.specs.Store.{Store, Soup, TagTable, soup_named, change_soup, make_soup, change_entry, add_entry, remove_entry}
+use Rattle.newt_spec_store.specs.Store.{Store, Soup, Entry, TagTable, soup_named, change_soup, make_soup, change_entry, add_entry, remove_entry}
 use Rattle.newt_spec_world.specs.World.{World, one, change_device, change_store}
-use Rattle.newt_spec_world.specs.Changed.{new_store, with_graph, with_index, with_tags}
+use Rattle.newt_spec_world.specs.Changed.{new_store, with_graph, with_index, with_tags, bytes_of_large, large_at, large_bytes, patched_at}
 use Rattle.newt_spec_world.specs.Refused.{either, no_unit, bad_blocks, is_mounted, not_mounted, no_soup, no_entry}
 
 -- ---- whether things are there
@@ -51,7 +50,7 @@ room_tests blocks now name g s p = (Ids, p.next_uid == 536_870_911) ∷ (Full, n
 -- what is tested of a graph before
 abbrev pub add_tests : (blocks now : ℕ) → List ℕ → RawGraph → Store → Soup → Checks
 add_tests blocks now name g s p =
-    (Notframe, not (is_frame (object g.nodes g.root))) ∷ (Size, not (graph_has_no_large g) || nat_lt 64_000 (skeleton_length g)) ∷ room_tests blocks now name g s p
+    (Notframe, not (is_frame (object g.nodes g.root))) ∷ (Size, nat_lt 64_000 (skeleton_length g)) ∷ room_tests blocks now name g s p
 
 -- the store after a move within it
 abbrev pub moved_within : ℕ → List ℕ → ℕ → List ℕ → RawGraph → Store → Store
@@ -68,7 +67,19 @@ replaced now name uid g s = change_soup name (change_entry uid (with_graph now g
 -- what is tested of a graph and the store where it is to take the place of an entry's
 abbrev pub replace_tests : (blocks now : ℕ) → List ℕ → ℕ → RawGraph → Store → Checks
 replace_tests blocks now name uid g s =
-    (Notframe, not (is_frame (object g.nodes g.root))) ∷ (Size, not (graph_has_no_large g) || nat_lt 64_000 (skeleton_length g)) ∷ (Full, nat_lt (cap blocks) (cost (replaced now name uid g s))) ∷ []
+    (Notframe, not (is_frame (object g.nodes g.root))) ∷ (Size, nat_lt 64_000 (skeleton_length g)) ∷ (Full, nat_lt (cap blocks) (cost (replaced now name uid g s))) ∷ []
+
+-- what is tested of the graph of an entry where bytes up to a place of the large binary at a path are to be read
+abbrev pub large_tests : Path → (upto : ℕ) → RawGraph → Checks
+large_tests path upto g = (NoPath, is_none (large_at g path)) ∷ (Range, nat_lt (length (large_bytes g path)) upto) ∷ []
+
+-- the store with bytes written over a large binary of an entry: over the node of this number, from a place on
+abbrev pub patched_within : List ℕ → ℕ → (node at : ℕ) → List ℕ → Store → Store
+patched_within name uid node at bytes s = change_soup name (change_entry uid (λ e. record e { graph = patched_at (Some node) at bytes e.graph })) s
+
+-- what is tested of the entry where so many bytes are to be written so
+abbrev pub patch_tests : (node at many : ℕ) → Entry → Checks
+patch_tests node at many e = (Range, nat_lt (length (bytes_of_large (slice_get e.graph.nodes node))) (at + many)) ∷ []
 
 -- the soup has an index of these paths
 abbrev pub has_paths : List Path → Soup → Bool

@@ -193,6 +193,62 @@ fn wants_the_forms_of_rows_on_cursors(rt: HostRuntime) -> Result<(), AllocError>
     expect_each(&rt, rt.alloc(), &cases)
 }
 
+#[test]
+fn reads_each_row_on_large_binaries(rt: HostRuntime) -> Result<(), AllocError> {
+    let cases: [(&[u8], &str); 9] = [
+        (b"vread 0 S 0 v 1200 0", "vread 0 <S> 0 .v from 1200 for 0"),
+        (
+            b"vread 7 \"To Do\" 4294967295 a.b.C 4294967295 60000",
+            "vread 7 <To Do> 4294967295 .a.b.C from 4294967295 for 60000",
+        ),
+        (
+            b"vread\t1 A 2  v 0000000003\t0000000004 ",
+            "vread 1 <A> 2 .v from 3 for 4",
+        ),
+        (
+            b"vwrite 0 S 0 v 499 4142",
+            "vwrite 0 <S> 0 .v from 499: 65 66",
+        ),
+        (
+            b"vwrite 7 \"To Do\" 4294967295 a.b.C 4294967295  00fFa0\t",
+            "vwrite 7 <To Do> 4294967295 .a.b.C from 4294967295: 0 255 160",
+        ),
+        (b"vwrite 0 S 0 v 499", "vwrite 0 <S> 0 .v from 499:"),
+        (b"vwrite 0 S 0 v 499 \t\r", "vwrite 0 <S> 0 .v from 499:"),
+        (b"vwrite 0 S 0 v 0 03", "vwrite 0 <S> 0 .v from 0: 3"),
+        (b"vwrite 0 S 0 v 4 020A", "vwrite 0 <S> 0 .v from 4: 2 10"),
+    ];
+    expect_each(&rt, rt.alloc(), &cases)
+}
+
+#[test]
+fn wants_the_forms_of_rows_on_large_binaries(rt: HostRuntime) -> Result<(), AllocError> {
+    let cases: [(&[u8], &str); 21] = [
+        (b"vread 0 S 0 v 0 60001", "11 line"),
+        (b"vread 0 S 0 v 4294967296 0", "11 line"),
+        (b"vread 0 S 0 v 0 00000000001", "11 line"),
+        (b"vread 0 S 0 v -1 1", "11 line"),
+        (b"vread 0 S 0 v 0", "11 line"),
+        (b"vread 0 S 0 v 0 1 2", "11 line"),
+        (b"vread 0 S 0 0 1", "11 line"),
+        (b"vread 0 S v 0 1", "11 line"),
+        (b"vread 0 S 0 a..b 0 1", "11 line"),
+        (b"vread 0 S 0 a.b.c.d.e.f.g.h.i 0 1", "11 line"),
+        (b"vread 8 S 0 v 0 1", "11 line"),
+        (b"vwrite 0 S 0 v", "11 line"),
+        (b"vwrite 0 S 0 v 41G", "11 line"),
+        (b"vwrite 0 S 0 v 4294967296 4", "11 line"),
+        (b"vwrite 0 S 0 1v 0 4", "11 line"),
+        (b"vwrite 8 S 0 v 0 4", "11 line"),
+        (b"vwrite 0 S 0 v 0 4", "1 malformed"),
+        (b"vwrite 0 S 0 v 0 4G", "1 malformed"),
+        (b"vwrite 0 S 0 v 0 41 42", "1 malformed"),
+        (b"vwrite 0 S 0 v 0 0x41", "1 malformed"),
+        (b"vwrite 0 S 0 v 0 414", "1 malformed"),
+    ];
+    expect_each(&rt, rt.alloc(), &cases)
+}
+
 /// A tags declaration of the symbols a0, a1 and so on, and a last one behind them.
 fn many_tags(alloc: Global, last: &str) -> Result<String, AllocError> {
     let mut line = String::from_str(alloc, "tags 0 A b")?;
@@ -311,7 +367,7 @@ fn answers_the_first_refusal(rt: HostRuntime) -> Result<(), AllocError> {
         (b"Mount 0", "10 command"),
         (b"mount0", "10 command"),
         (b"Index 0 A k:int:ascend", "10 command"),
-        (b"vread 0 A 1 a 0 9", "10 command"),
+        (b"Vread 0 A 1 a 0 9", "10 command"),
         (b"query 0 A {", "3 literal"),
         (b"gotokey 32 {", "11 line"),
         (b"gotokey 31 {", "3 literal"),

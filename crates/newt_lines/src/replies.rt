@@ -103,6 +103,17 @@ fn writes_graphs(rt: HostRuntime) -> Result<(), AllocError> {
 }
 
 #[test]
+fn writes_bytes(rt: HostRuntime) -> Result<(), AllocError> {
+    let alloc = rt.alloc();
+    let none = Bytes::of(Vec::new(alloc));
+    expect(&rt, alloc, Reply::Hex(none), b"ok\n")?;
+    let some = Bytes::of(vec![in alloc; 0, 65, 66, 0]?);
+    expect(&rt, alloc, Reply::Hex(some), b"ok 00414200\n")?;
+    let high = Bytes::of(vec![in alloc; 255, 10, 171]?);
+    expect(&rt, alloc, Reply::Hex(high), b"ok FF0AAB\n")
+}
+
+#[test]
 fn writes_where_cursors_are(rt: HostRuntime) -> Result<(), AllocError> {
     let alloc = rt.alloc();
     let frame = graph(&rt, alloc, "{a: 1}")?;

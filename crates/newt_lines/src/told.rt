@@ -247,7 +247,48 @@ fn told_of_moves(alloc: Global, command: &Command) -> Result<String, AllocError>
             let front = cursor_words(alloc, "gotokey", *cursor)?;
             with_graph(alloc, front.as_str(), graph)
         }
-        _ => String::from_str(alloc, "a command that is not built"),
+        _ => told_of_bytes(alloc, command),
+    }
+}
+
+/// A place in a large binary.
+fn place_words(
+    alloc: Global,
+    word: &str,
+    unit: Unit,
+    name: &Name,
+    uid: Uid,
+    path: &Path,
+    at: u32,
+) -> Result<String, AllocError> {
+    let front = entry_words(alloc, word, unit, name, uid)?;
+    let points = points(alloc, path)?;
+    format!(in alloc; "{front} {points} from {at}")
+}
+
+/// Bytes as numbers, with a space before each.
+fn with_bytes(alloc: Global, front: &str, bytes: &[u8]) -> Result<String, AllocError> {
+    let mut text = String::from_str(alloc, front)?;
+    for byte in bytes {
+        let number = *byte;
+        text = format!(in alloc; "{text} {number}")?;
+    }
+    Ok(text)
+}
+
+/// A command on the bytes of a large binary.
+fn told_of_bytes(alloc: Global, command: &Command) -> Result<String, AllocError> {
+    match command {
+        Command::Vread(unit, name, uid, path, at, length) => {
+            let front = place_words(alloc, "vread", *unit, name, *uid, path, *at)?;
+            format!(in alloc; "{front} for {length}")
+        }
+        Command::Vwrite(unit, name, uid, path, at, bytes) => {
+            let front = place_words(alloc, "vwrite", *unit, name, *uid, path, *at)?;
+            let front = format!(in alloc; "{front}:")?;
+            with_bytes(alloc, front.as_str(), bytes.list())
+        }
+        _ => String::from_str(alloc, "another command"),
     }
 }
 

@@ -90,6 +90,10 @@ pub tags_text : (table : TagTable) → written (world.tags (Some table)) ≡ ok_
 unfolding written ok_text
 tags_text table = refl
 
+pub bytes_text : (bytes : List ℕ) → written (world.hex bytes) ≡ ok_text (hex_text bytes ∷ [])
+unfolding written ok_text
+bytes_text bytes = refl
+
 pub nsof_text : (g : RawGraph) → written (world.nsof_of g) ≡ ok_text (hex_text (nsof g) ∷ [])
 unfolding written ok_text
 nsof_text g = refl

@@ -2,7 +2,7 @@
 use Rattle.std.specs.Prelude.{ℕ, List, map}
 use Rattle.newt_spec_world.specs.Reply as world
 use Rattle.newt_reply.specs.declared.reply.Reply.{Reply}
-use Rattle.newt_reply.specs.declared.reply.Reply.TheVariants.{Done, Number, Added, Store, Stores, Soups, Indexes, Tags, Nsof, Literal, Timed, TimedNsof, Alias, Where, Current, Deleted, Nil, Begin, End, Refused}
+use Rattle.newt_reply.specs.declared.reply.Reply.TheVariants.{Done, Number, Added, Store, Stores, Soups, Indexes, Tags, Hex, Nsof, Literal, Timed, TimedNsof, Alias, Where, Current, Deleted, Nil, Begin, End, Refused}
 use Rattle.newt_reply.specs.declared.rows.StoreLine.{StoreLine}
 use Rattle.newt_reply.specs.declared.rows.SoupLine.{SoupLine}
 
@@ -24,6 +24,7 @@ said (Stores lines) = world.stores (map store_row lines)
 said (Soups lines) = world.soups (map soup_row lines)
 said (Indexes specs) = world.indexes specs
 said (Tags row) = world.tags row.table
+said (Hex bytes) = world.hex bytes
 said (Nsof graph) = world.nsof_of graph
 said (Literal graph) = world.literal_of graph
 said (Timed time graph) = world.timed time graph

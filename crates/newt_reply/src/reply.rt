@@ -2,7 +2,7 @@
 
 use crate::rows::{SoupRows, SpecRows, StoreRows, TagRow};
 use newt_base::{Name, Refusal, Sig, Uid};
-use newt_graph::Graph;
+use newt_graph::{Bytes, Graph};
 use newt_host::Unit;
 
 /// What names an entry for as long as it is there: the signatures of its store and soup, and its id.
@@ -32,6 +32,8 @@ pub enum Reply {
     Indexes(SpecRows),
     /// The tags declaration of a soup, with nothing to show where there is none.
     Tags(TagRow),
+    /// Bytes, shown as hexadecimal text.
+    Hex(Bytes),
     /// A graph, shown as the hexadecimal text of its object stream.
     Nsof(Graph),
     /// A graph, shown as the literal that is printed of it.

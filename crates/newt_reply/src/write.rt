@@ -10,7 +10,7 @@ use crate::items::{soups_text, specs_text, stores_text};
 use crate::line::ok_line;
 use crate::reply::Reply;
 use crate::rows::TagRow;
-use newt_base::{Name, Refusal, Sig, Uid};
+use newt_base::{Name, Refusal, Sig, Uid, hex_text};
 use newt_graph::Graph;
 use newt_host::Unit;
 use newt_lit_print::print_literal;
@@ -131,7 +131,7 @@ fn tags_line(alloc: Global, row: &TagRow) -> Result<Vec<u8>, AllocError>
 }
 
 /// The line of a reply.
-#[tactic(auto, using(crate::proofs::Written::done_text, crate::proofs::Written::deleted_text, crate::proofs::Written::nil_text, crate::proofs::Written::begin_text, crate::proofs::Written::end_text, crate::proofs::Written::number_text, crate::proofs::Written::stores_text, crate::proofs::Written::soups_text, crate::proofs::Written::specs_text, crate::proofs::Written::nsof_text, crate::proofs::Written::literal_text, crate::proofs::Written::alias_text))]
+#[tactic(auto, using(crate::proofs::Written::done_text, crate::proofs::Written::deleted_text, crate::proofs::Written::nil_text, crate::proofs::Written::begin_text, crate::proofs::Written::end_text, crate::proofs::Written::number_text, crate::proofs::Written::stores_text, crate::proofs::Written::soups_text, crate::proofs::Written::specs_text, crate::proofs::Written::bytes_text, crate::proofs::Written::nsof_text, crate::proofs::Written::literal_text, crate::proofs::Written::alias_text))]
 fn line_of(alloc: Global, reply: &Reply) -> Result<Vec<u8>, AllocError>
     ensures { IfOk result (λ line. line.items ≡ written (said reply.now)) }
 {
@@ -144,6 +144,7 @@ fn line_of(alloc: Global, reply: &Reply) -> Result<Vec<u8>, AllocError>
         Reply::Soups(lines) => one_field(alloc, &soups_text(alloc, lines.list())?),
         Reply::Indexes(specs) => one_field(alloc, &specs_text(alloc, specs.list())?),
         Reply::Tags(row) => tags_line(alloc, row),
+        Reply::Hex(bytes) => one_field(alloc, &hex_text(alloc, bytes.list())?),
         Reply::Nsof(graph) => one_field(alloc, &stream_text(alloc, graph)?),
         Reply::Literal(graph) => one_field(alloc, &print_literal(alloc, graph)?),
         Reply::Timed(time, graph) => timed_line(alloc, *time, graph),

@@ -16,6 +16,14 @@ fn refuses_other_words(rt: HostRuntime) -> Result<(), AllocError> {
         "show x",
         "pack x",
         "--help",
+        "gen",
+        "gen 1 1",
+        "gen 1 1 a b",
+        "gen 1 10001 a",
+        "gen 4294967296 1 a",
+        "gen 00000000001 1 a",
+        "gen -1 1 a",
+        "gen 1 x a",
     ] {
         let mut host = host(alloc, b"nsof 020A\n", 100)?;
         assert_eq!(rt; run_on(alloc, text, &mut host)?, Status::Usage, "{text}");

@@ -18,7 +18,7 @@ two_chained p q f cs =
     then_after (λ a. of1 q (f a)) (p cs)
     ∙ after_same (λ a rest. reading (ended (of1 q (f a) rest))) (λ a rest. after (q rest) (λ b rest. finished rest (f a b))) (λ a rest. one_word q (f a) rest) (p cs)
 
-three_chained : {A B C : Type 0} (p : Reader A) (q : Reader B) (s : Reader C) (f : A → B → C → Command) (cs : List ℕ)
+pub three_chained : {A B C : Type 0} (p : Reader A) (q : Reader B) (s : Reader C) (f : A → B → C → Command) (cs : List ℕ)
     → reading (whole (of3 p q s f) cs) ≡ after (p cs) (λ a rest. after (q rest) (λ b rest. after (s rest) (λ c rest. finished rest (f a b c))))
 three_chained p q s f cs =
     then_after (λ a. of2 q s (f a)) (p cs)

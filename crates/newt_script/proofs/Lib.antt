@@ -10,3 +10,4 @@ pub mod Pieces
 pub mod ListedRows
 pub mod Apart
 pub mod CursorRows
+pub mod LargeRows

@@ -89,7 +89,7 @@ then_after k (Err r) = refl
 then_after k (Ok (a, rest)) = refl
 
 module _ {A B R : Type 0} (p : Reader A) (q : Reader B) where
-  one : (f : A → R) (cs : List ℕ) → of1 p f cs ≡ mapped f (p cs)
+  pub one : (f : A → R) (cs : List ℕ) → of1 p f cs ≡ mapped f (p cs)
   one f cs = go (p cs)
     where
       go : (r : Result (A × List ℕ) Refusal) → then_read r (λ a rest. Ok (f a, rest)) ≡ mapped f r
@@ -125,7 +125,7 @@ module _ {A B R : Type 0} (p : Reader A) (q : Reader B) where
 
 module _ {A B C R : Type 0} (p : Reader A) (q : Reader B) (s : Reader C) where
   -- the first three, and what follows
-  three_then : (k : A → B → C → Reader R) (cs : List ℕ)
+  pub three_then : (k : A → B → C → Reader R) (cs : List ℕ)
       → then_read (p cs) (λ a rest. then_read (q rest) (λ b rest. then_read (s rest) (k a b)))
       ≡ then_read (of3 p q s (λ a b c. (a, b, c)) cs) (λ (x : A × B × C). k x.0 x.1 x.2)
   three_then k cs = go (p cs)

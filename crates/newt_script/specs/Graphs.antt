@@ -1,4 +1,4 @@
--- The graphs in a line, as the code reads them: HEX, an object stream in hexadecimal digits, and LIT, a literal.
+-- The graphs and bytes in a line, as the code reads them: HEX, an object stream or bytes in hexadecimal digits, and LIT, a literal.
 use Rattle.std.specs.Prelude.{ℕ, ◌==◌, List, length, Option, Some, None, Result, Ok, Err, if◌then◌else◌}
 use Rattle.std.specs.Str.{chars, is_utf8}
 use Rattle.newt_base.specs.Text.{hex_bytes}
@@ -56,6 +56,14 @@ digits_answer (Some bytes) = or_fault (stream_of bytes)
 -- the graph of HEX: malformed where the digits are no digits, or not even in number
 unfoldable pub stream_word : List ℕ → Result RawGraph LineFault
 stream_word digits = digits_answer (hex_bytes digits)
+
+abbrev pub bytes_answer : Option (List ℕ) → Result (List ℕ) LineFault
+bytes_answer None = Err (Refused refusals.Malformed)
+bytes_answer (Some bytes) = Ok bytes
+
+-- the bytes of HEX: malformed where the digits are no digits, or not even in number
+unfoldable pub bytes_word : List ℕ → Result (List ℕ) LineFault
+bytes_word digits = bytes_answer (hex_bytes digits)
 
 abbrev pub literal_answer : Option RawGraph → Result RawGraph LineFault
 literal_answer None = Err (Refused refusals.Literal)

@@ -1,5 +1,4 @@
 pub mod Graphs
-pub mod Stage
 pub mod Verbs
 pub mod Names
 pub mod Listed

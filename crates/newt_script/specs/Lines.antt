@@ -1,11 +1,10 @@
 -- What one line of a script says, as the code answers it.
 use Rattle.std.specs.Prelude.{ℕ, List, length, nat_lt, Option, Some, None, Result, Ok, Err, option_map}
 use Rattle.newt_spec_world.specs.declared.command.Command.{Command}
-use Rattle.newt_spec_script.specs.Line.{within_length}
+use Rattle.newt_spec_script.specs.Line.{parsed, within_length}
 use Rattle.newt_spec_script.specs.Script.{Item, item_of, without_return}
 use Rattle.newt_script.specs.Graphs.{readers}
 use Rattle.newt_script.specs.Readers.{Reading, reading}
-use Rattle.newt_script.specs.Stage.{if_built, parsed_today}
 use Rattle.newt_script.specs.declared.fault.LineFault.{LineFault}
 use Rattle.newt_script.specs.declared.fault.LineFault.TheVariants.{Refused}
 
@@ -17,8 +16,8 @@ line_answer (Some (Err refusal)) = Err (Refused refusal)
 
 -- What a line says, of which the byte 10 at its end is left out: a command, or the refusal of its reading, or nothing. One byte 13 at its end is dropped.
 unfoldable pub line_command : List ℕ → Result (Option Command) LineFault
-line_command bytes = line_answer (option_map (item_of readers) (parsed_today (without_return bytes)))
+line_command bytes = line_answer (option_map (item_of readers) (parsed (without_return bytes)))
 
 -- what a line says that says something
 unfoldable pub spoken : List ℕ → Reading
-spoken line = reading (if_built line (within_length (nat_lt 140_000 (length line)) line))
+spoken line = reading (within_length (nat_lt 140_000 (length line)) line)

@@ -4,7 +4,7 @@ use Rattle.newt_base.specs.Text.{signed_value}
 use Rattle.newt_path.specs.Names.{path_of}
 use Rattle.newt_spec_world.specs.declared.command.Command.{Command}
 use Rattle.newt_spec_script.specs.Words.{Reader, of2, of3, word, name, trimmed}
-use Rattle.newt_spec_script.specs.Line.{Parsed, unit, number, sig, cursor, star, row_of}
+use Rattle.newt_spec_script.specs.Line.{Parsed, unit, number, sig, len, cursor, star, row_of}
 use Rattle.newt_spec_script.specs.Script.{Item, item_of}
 use Rattle.newt_script.specs.Graphs.{readers}
 use Rattle.newt_script.specs.declared.fault.LineFault.{LineFault}
@@ -14,13 +14,17 @@ use Rattle.newt_script.specs.declared.fault.LineFault.TheVariants.{Refused}
 unfoldable pub unit_of : Reader ℕ
 unit_of = unit
 
--- UID and T
+-- UID, T and AT
 unfoldable pub number_of : Reader ℕ
 number_of = number
 
 -- SIG
 unfoldable pub sig_of : Reader ℕ
 sig_of = sig
+
+-- LEN
+unfoldable pub length_of : Reader ℕ
+length_of = len
 
 -- C
 unfoldable pub cursor_of : Reader ℕ

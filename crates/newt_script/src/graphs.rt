@@ -1,10 +1,10 @@
-//! The graphs in a line: object streams in hexadecimal digits, and literals.
+//! The graphs and bytes in a line: object streams and bytes in hexadecimal digits, and literals.
 ghost use Rattle.std.specs.Prelude.{◌≡◌, ◌≢◌, Some};
 ghost use Rattle.newt_script.specs.Graphs as spec;
 
 use crate::fault::LineFault;
 use newt_base::{HexFault, Refusal, hex_read};
-use newt_graph::Graph;
+use newt_graph::{Bytes, Graph};
 use newt_lit_read::{LitFault, read_literal};
 use newt_nsof_read::{NsofFault, decode};
 use std::alloc::Global;
@@ -30,6 +30,18 @@ pub fn stream_word(alloc: Global, digits: &[u8]) -> Result<Graph, LineFault>
 {
     match hex_read(alloc, digits) {
         Ok(bytes) => stream(alloc, &bytes),
+        Err(HexFault::NotHex) => Err(LineFault::Refused(Refusal::Malformed)),
+        Err(HexFault::Memory) => Err(LineFault::Memory),
+    }
+}
+
+/// The bytes in hexadecimal digits.
+#[tactic(auto, unfolding(crate::specs::Graphs::bytes_word))]
+pub fn bytes_word(alloc: Global, digits: &[u8]) -> Result<Bytes, LineFault>
+    ensures { result ≢ Err LineFault.Memory → result ≡ spec.bytes_word digits.now }
+{
+    match hex_read(alloc, digits) {
+        Ok(bytes) => Ok(Bytes::of(bytes)),
         Err(HexFault::NotHex) => Err(LineFault::Refused(Refusal::Malformed)),
         Err(HexFault::Memory) => Err(LineFault::Memory),
     }

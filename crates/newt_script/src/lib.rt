@@ -4,8 +4,7 @@
 //! object streams and literals, and the definitions of commands and lines in `newt_spec_world` and
 //! `newt_spec_script`. It carries the promise that the reading of a line is exact: `line` answers
 //! the one command that the definition gives the line, or the one refusal of its reading, and
-//! nothing exactly for a blank line or a `%` line. A command of the definition that is not built yet
-//! is no command: `specs/Stage` lists the words of those that are.
+//! nothing exactly for a blank line or a `%` line.
 #![tactic(auto)]
 
 mod cursor_rows;
@@ -13,6 +12,7 @@ mod declaring_rows;
 mod entry_rows;
 mod fault;
 mod graphs;
+mod large_rows;
 mod lines;
 mod listed;
 mod names;

@@ -36,7 +36,7 @@ fn is_silent(line: &[u8]) -> bool
 }
 
 /// The command of a line that is neither blank nor a `%` line.
-#[tactic(auto, using(crate::proofs::Spoken::not_built))]
+#[tactic(auto, using(crate::proofs::Spoken::no_command))]
 fn spoken(alloc: Global, line: &[u8]) -> Result<Command, LineFault>
     ensures { result ≢ Err LineFault.Memory → result ≡ spoken line.now }
 {

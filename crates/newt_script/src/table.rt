@@ -6,7 +6,7 @@ ghost use Rattle.newt_script.specs.Verbs.{word_of};
 use crate::fault::LineFault;
 use crate::verbs::Verb;
 use crate::words::Words;
-use crate::{cursor_rows, declaring_rows, entry_rows, store_rows};
+use crate::{cursor_rows, declaring_rows, entry_rows, large_rows, store_rows};
 use newt_spec_world::Command;
 use std::alloc::Global;
 
@@ -39,6 +39,8 @@ pub fn row(alloc: Global, verb: Verb, words: &mut Words) -> Result<Command, Line
         Verb::Move => entry_rows::move_(alloc, words),
         Verb::Alias => entry_rows::alias(alloc, words),
         Verb::Resolve => entry_rows::resolve(alloc, words),
+        Verb::Vread => large_rows::vread(alloc, words),
+        Verb::Vwrite => large_rows::vwrite(alloc, words),
         Verb::Index => declaring_rows::index(alloc, words),
         Verb::Unindex => declaring_rows::unindex(alloc, words),
         Verb::Indexes => declaring_rows::indexes(alloc, words),

@@ -1,7 +1,6 @@
 //! The first words of commands.
 ghost use Rattle.std.specs.Prelude.{◌≡◌, ◌||◌, MatchOption, false};
-ghost use Rattle.newt_script.specs.Stage.{is_built, is_entry_word, is_declaring_word, is_cursor_word, is_moving_word};
-ghost use Rattle.newt_script.specs.Verbs.{word_of};
+ghost use Rattle.newt_script.specs.Verbs.{word_of, is_command_word, is_entry_word, is_large_word, is_declaring_word, is_cursor_word, is_moving_word};
 
 /// The first word of a command.
 #[derive(Clone, Copy, PartialEq, Eq, Debug)]
@@ -30,6 +29,8 @@ pub enum Verb {
     Move,
     Alias,
     Resolve,
+    Vread,
+    Vwrite,
     Index,
     Unindex,
     Indexes,
@@ -51,7 +52,7 @@ pub enum Verb {
 
 /// The command that a word names.
 pub fn named(word: &[u8]) -> Option<Verb>
-    ensures { MatchOption result (is_built word.now ≡ false) (λ verb. word.now ≡ word_of verb) }
+    ensures { MatchOption result (is_command_word word.now ≡ false) (λ verb. word.now ≡ word_of verb) }
 {
     if word == b"nsof".as_slice() {
         Some(Verb::Nsof)
@@ -82,11 +83,13 @@ pub fn named(word: &[u8]) -> Option<Verb>
     }
 }
 
-/// The same of the commands on entries, on what a soup declares, and on cursors.
+/// The same of the commands on entries and their large binaries, on what a soup declares, and on cursors.
 fn named_below(word: &[u8]) -> Option<Verb>
-    ensures { MatchOption result ((is_entry_word word.now || is_declaring_word word.now || is_cursor_word word.now || is_moving_word word.now) ≡ false) (λ verb. word.now ≡ word_of verb) }
+    ensures { MatchOption result ((is_entry_word word.now || is_large_word word.now || is_declaring_word word.now || is_cursor_word word.now || is_moving_word word.now) ≡ false) (λ verb. word.now ≡ word_of verb) }
 {
     if let Some(verb) = named_entry(word) {
+        Some(verb)
+    } else if let Some(verb) = named_large(word) {
         Some(verb)
     } else if let Some(verb) = named_declaring(word) {
         Some(verb)
@@ -125,6 +128,19 @@ fn named_entry(word: &[u8]) -> Option<Verb>
         Some(Verb::Alias)
     } else if word == b"resolve".as_slice() {
         Some(Verb::Resolve)
+    } else {
+        None
+    }
+}
+
+/// The same of the commands on the bytes of a large binary.
+fn named_large(word: &[u8]) -> Option<Verb>
+    ensures { MatchOption result (is_large_word word.now ≡ false) (λ verb. word.now ≡ word_of verb) }
+{
+    if word == b"vread".as_slice() {
+        Some(Verb::Vread)
+    } else if word == b"vwrite".as_slice() {
+        Some(Verb::Vwrite)
     } else {
         None
     }

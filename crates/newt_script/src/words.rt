@@ -4,16 +4,16 @@ ghost use Rattle.std.specs.List.{prefix_len};
 ghost use Rattle.newt_base.specs.declared.Refusal.TheVariants.{Line as NotTheForm};
 ghost use Rattle.newt_spec_script.specs.Words as spec;
 ghost use Rattle.newt_spec_script.specs.Line.{first_word};
-ghost use Rattle.newt_script.specs.Readers.{unit_of, number_of, sig_of, cursor_of, steps_of, star_of, name_of, soup_of, entry_of, path_word, rest_of, is_ended};
-ghost use Rattle.newt_script.specs.Graphs.{literal_word, stream_word};
+ghost use Rattle.newt_script.specs.Readers.{unit_of, number_of, sig_of, length_of, cursor_of, steps_of, star_of, name_of, soup_of, entry_of, path_word, rest_of, is_ended};
+ghost use Rattle.newt_script.specs.Graphs.{literal_word, stream_word, bytes_word};
 ghost use Rattle.newt_script.specs.Listed.{parts_in, paths_in, symbols_in};
 
 use crate::fault::LineFault;
-use crate::graphs::{literal_word, stream_word};
+use crate::graphs::{bytes_word, literal_word, stream_word};
 use crate::listed::{parts_in, paths_in, symbols_in};
 use crate::names::name_from;
 use newt_base::{Name, Sig, Uid, decimal, signed};
-use newt_graph::Graph;
+use newt_graph::{Bytes, Graph};
 use newt_host::Unit;
 use newt_path::{Path, PathFault};
 use newt_spec_world::{Parts, Paths, Syms};
@@ -22,6 +22,9 @@ use std::marker::Model;
 
 /// The largest signature of a store.
 const MOST_SIG: u32 = 536_870_911;
+
+/// The most bytes that are read at once.
+const MOST_READ: u32 = 60_000;
 
 /// The last cursor.
 const LAST_CURSOR: u32 = 31;
@@ -113,6 +116,16 @@ fn signature(word: &[u8]) -> Option<Sig>
     }
 }
 
+/// The value of a decimal word up to the most bytes that are read at once.
+fn read_length(word: &[u8]) -> Option<u32>
+    ensures { result ≡ spec.decimal_to 60_000 word.now }
+{
+    match decimal(word) {
+        Some(number) if number <= MOST_READ => Some(number),
+        _ => None,
+    }
+}
+
 /// The value of a decimal word up to the last cursor.
 fn cursor_number(word: &[u8]) -> Option<u8>
     ensures { result ≡ spec.decimal_to 31 word.now }
@@ -190,7 +203,7 @@ impl<'a> Words<'a> {
         unit_digit(self.word()).ok_or(LineFault::FORM)
     }
 
-    /// UID or T: a number of 32 bits.
+    /// UID, T or AT: a number of 32 bits.
     pub fn number(&mut self) -> Result<u32, LineFault>
         ensures read { IfOk result (λ number. number_of self.old ≡ Ok (number, self.new)) }
         ensures refused { IfErr result (λ fault. (fault ≡ LineFault.Refused NotTheForm) × (number_of self.old ≡ Err NotTheForm)) }
@@ -204,6 +217,14 @@ impl<'a> Words<'a> {
         ensures refused { IfErr result (λ fault. (fault ≡ LineFault.Refused NotTheForm) × (sig_of self.old ≡ Err NotTheForm)) }
     {
         signature(self.word()).ok_or(LineFault::FORM)
+    }
+
+    /// LEN: how many bytes are read, at most 60,000.
+    pub fn length(&mut self) -> Result<u32, LineFault>
+        ensures read { IfOk result (λ length. length_of self.old ≡ Ok (length, self.new)) }
+        ensures refused { IfErr result (λ fault. (fault ≡ LineFault.Refused NotTheForm) × (length_of self.old ≡ Err NotTheForm)) }
+    {
+        read_length(self.word()).ok_or(LineFault::FORM)
     }
 
     /// C: the number of a cursor.
@@ -315,5 +336,12 @@ impl<'a> Words<'a> {
         ensures { result ≢ Err LineFault.Memory → result ≡ stream_word (rest_of self.now) }
     {
         stream_word(alloc, self.rest())
+    }
+
+    /// HEX: the bytes that are left in hexadecimal digits.
+    pub fn bytes(&self, alloc: Global) -> Result<Bytes, LineFault>
+        ensures { result ≢ Err LineFault.Memory → result ≡ bytes_word (rest_of self.now) }
+    {
+        bytes_word(alloc, self.rest())
     }
 }

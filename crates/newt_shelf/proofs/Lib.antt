@@ -4,3 +4,4 @@ pub mod Counting
 pub mod Planning
 pub mod Placing
 pub mod Listing
+pub mod Patching

@@ -3,3 +3,4 @@ pub mod Faults
 pub mod Batch
 pub mod Places
 pub mod Names
+pub mod Patch

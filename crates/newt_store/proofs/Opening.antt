@@ -124,7 +124,7 @@ module _ (told : Bool) (objects : Held) (numbers : Numbers) (unit : ℕ) (outsid
       go (Some x) e =
           let joins : joined h.live x ≡ bytes = some-is _ _ (sym (kept-by texts h id ∙ ap (option_map (joined h.live)) e) ∙ at) in
           let size : length (joined h.live x) ≡ x.length = joined_size h.live (held objects) id x (image_whole (image unit outside.now) h.live h.of_image)
-              (told_table told (held objects) numbers unit outside h.live kept.are tells h.of_image) e in
+          (told_table told (held objects) numbers unit outside h.live kept.are tells h.of_image) e in
           ap (λ (n : ℕ). let o : Option ℕ = Some n in o) (sym size ∙ ap (λ (b : List ℕ). length b) joins)
 
   -- an object that is there with this length has so many bytes
@@ -224,10 +224,10 @@ pub read-whole : (texts : Objects) (bytes : List ℕ) (row : EntryRow) → recor
     → ((l : LargeAt) → Among row.larges l → (b : List ℕ) × (map.get texts l.object ≡ Some b) × (length b ≡ l.length)) → (e : Entry) × (entry_read stream_graph texts bytes ≡ Some (row.soup, e)) × (e.uid ≡ row.uid)
 read-whole texts bytes row h even there =
     let bs = every-some (large_object (map.entries texts)) (map_list row_at row.larges) (λ z m.
-        let r = rows-among row.larges z m in
-        let b = there r.0 r.1 in
-        let low = even r.0.object (among-object row.larges r.0 r.1) in
-        (b.0, ap (large_object (map.entries texts)) (sym r.2) ∙ is_there r.0 b.0 b.1 b.2 low.0 low.1)) in
+    let r = rows-among row.larges z m in
+    let b = there r.0 r.1 in
+    let low = even r.0.object (among-object row.larges r.0 r.1) in
+    (b.0, ap (large_object (map.entries texts)) (sym r.2) ∙ is_there r.0 b.0 b.1 b.2 low.0 low.1)) in
     ((entry_with (said row).0 (said row).1 bs.0).1, among stream_graph texts bytes (said row).0 (said row).1 bs.0 h bs.1, refl)
   where
     is_there : (l : LargeAt) (b : List ℕ) → map.get texts l.object ≡ Some b → length b ≡ l.length → l.object % 2 ≡ 0 → 0 < l.object → large_object (map.entries texts) (row_at l) ≡ Some b

@@ -4,3 +4,4 @@ pub mod Stands
 pub mod Next
 pub mod Opening
 pub mod Reading
+pub mod Patch

@@ -351,7 +351,16 @@ fn find_records<P: PageBook, H: Host>(
     };
     let mut last = 0;
     while let Some(id) = objects.next_after(last) {
-        find_object(alloc, host, book, objects, directory, &mut finding, last, id)?;
+        find_object(
+            alloc,
+            host,
+            book,
+            objects,
+            directory,
+            &mut finding,
+            last,
+            id,
+        )?;
         last = id;
     }
     if !are_owned(objects, &finding.owners) {

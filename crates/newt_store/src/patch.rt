@@ -1,12 +1,15 @@
 // Bytes of an entry's large binary are overwritten.
-ghost use Rattle.std.specs.Prelude.{IsTrue, ◌≡◌, ◌*◌, ℕ, None, OnOk, IfOk, IfErr};
+ghost use Rattle.std.specs.Prelude.{IsTrue, ◌≡◌, ◌*◌, ℕ, List, None, IsSome, OnOk, IfOk, IfErr};
+ghost use Rattle.newt_base.specs.Refusals.{first_of};
+ghost use Rattle.newt_objects.specs.Held.{held};
 ghost use Rattle.newt_host.specs.Moments.{image, Leaves};
 ghost use Rattle.newt_host.specs.Outside.{Touches, Spends};
 ghost use Rattle.newt_pagebook.specs.Book.{IsOpenFor};
 ghost use Rattle.newt_spec_store.specs.Store.{Store as PlainStore};
 ghost use Rattle.newt_spec_store.specs.OfImage.{blocks_of};
 ghost use Rattle.newt_shelf.specs.Faults.{FaultsAt};
-ghost use Rattle.newt_store.specs.Change.{changed_by, answer_of, refusal_of, entry_in, pages_of_entry, most_bytes};
+ghost use Rattle.newt_store.specs.Change.{changed_by, answer_of, first_checks, refusal_of, entry_in, pages_of_entry, most_bytes};
+ghost use Rattle.newt_store.specs.Patch.{IsLargeOf, record_pages};
 ghost use Rattle.newt_store.specs.Stands.{StandsFor, IsSound, GoesOn, IsRefused, RefusesWith, IsBeforeOrChanged};
 
 use crate::catalog::Catalog;
@@ -16,14 +19,51 @@ use newt_base::{Refusal, Sig, Uid};
 use newt_entries::LargeAt;
 use newt_graph::Bytes;
 use newt_host::Host;
-use newt_pagebook::{Batch, PageBook, Stop};
-use newt_shelf::{StoreFault, commit_plans};
-use newt_vbo::{RangeFault, plan_patch};
+use newt_pagebook::{PageBook, Stop};
+use newt_shelf::{StoreFault, patch_object};
 use std::alloc::Global;
 
 // The row of the large binary with this node, if there is one.
 fn row_of_node(rows: &[LargeAt], node: u32) -> Option<LargeAt> {
     rows.iter().find(|row| row.node == node).copied()
+}
+
+// The object of an entry's large binary: the node of this number.
+fn find_large<P: PageBook, H: Host>(
+    alloc: Global,
+    host: &mut H,
+    book: &mut P,
+    catalog: &Catalog,
+    sig: Sig,
+    uid: Uid,
+    node: u32,
+) -> Result<u32, StoreFault>
+    requires stands { P.stands H.told book.old (H.outside host.old) }
+    requires sound { IsSound H.told catalog.now (P.numbers book.old) (P.place book.old) (H.outside host.old) }
+    ensures there { IfOk result (λ o. IsSome (held catalog.now.objects o)) }
+    ensures found { IsTrue H.told → (s : PlainStore) → StandsFor catalog.now s (image (P.place book.old) (H.outside host.old).now) → IfOk result (IsLargeOf catalog.now s sig uid node) }
+    ensures refused { IsTrue H.told → (s : PlainStore) → StandsFor catalog.now s (image (P.place book.old) (H.outside host.old).now) → (at : ℕ) (bytes : List ℕ) → IfErr result (RefusesWith (first_of (first_checks (Change.Patch sig uid node at bytes) s))) }
+    ensures costs { IsTrue H.told → (s : PlainStore) → StandsFor catalog.now s (image (P.place book.old) (H.outside host.old).now) → Spends (P.place book.old) 0 (512 * record_pages (entry_in sig uid s)) (H.outside host.old) (H.outside host.new) }
+    ensures stands { P.stands H.told book.new (H.outside host.new) }
+    ensures same { (P.place book.new ≡ P.place book.old) × (P.numbers book.new ≡ P.numbers book.old) }
+    ensures moment { (H.outside host.new).now ≡ (H.outside host.old).now }
+    ensures alone { Touches (P.place book.old) (H.outside host.old) (H.outside host.new) }
+    ensures cause { IfErr result (FaultsAt (P.place book.old) (H.outside host.old) (H.outside host.new)) }
+{
+    if catalog.directory.soup_of(sig).is_none() {
+        return Err(StoreFault::Refused(Refusal::Soup));
+    }
+    let Some(id) = catalog.places.get(sig, uid) else {
+        return Err(StoreFault::Refused(Refusal::Entry));
+    };
+    let row = read_row(alloc, host, book, &catalog.objects, id)?;
+    let Some(large) = row_of_node(row.larges.list(), node) else {
+        return Err(StoreFault::Refused(Refusal::Path));
+    };
+    if catalog.objects.length(large.object) != Some(large.length) {
+        return Err(StoreFault::Stop(Stop::Memory));
+    }
+    Ok(large.object)
 }
 
 /// Puts these bytes in place of those of an entry's large binary from a place on: only the pages that they touch are written. After a refusal all is as it
@@ -60,36 +100,17 @@ pub(crate) fn patch_entry<P: PageBook, H: Host>(
     ensures alone { Touches (P.place book.old) (H.outside host.old) (H.outside host.new) }
     ensures cause { IfErr result (FaultsAt (P.place book.old) (H.outside host.old) (H.outside host.new)) }
 {
-    if catalog.directory.soup_of(sig).is_none() {
-        return Err(StoreFault::Refused(Refusal::Soup));
-    }
-    let Some(id) = catalog.places.get(sig, uid) else {
-        return Err(StoreFault::Refused(Refusal::Entry));
-    };
-    let row = read_row(alloc, host, book, &catalog.objects, id)?;
-    let Some(large) = row_of_node(row.larges.list(), node) else {
-        return Err(StoreFault::Refused(Refusal::Path));
-    };
-    if catalog.objects.length(large.object) != Some(large.length) {
-        return Err(StoreFault::Stop(Stop::Memory));
-    }
-    let mut batch = Batch::new(alloc);
-    let planned = plan_patch(
+    let object = find_large(alloc, host, book, catalog, sig, uid, node)?;
+    match patch_object(
+        alloc,
         host,
         book,
         &catalog.objects,
-        large.object,
+        object,
         at,
         bytes.list(),
-        &mut batch,
-    );
-    match planned {
-        Ok(()) => {
-            commit_plans(host, book, &mut catalog.objects, &batch)?;
-            Ok(0)
-        }
-        Err(RangeFault::Range) => Err(StoreFault::Refused(Refusal::Range)),
-        Err(RangeFault::Memory) => Err(StoreFault::Stop(Stop::Memory)),
-        Err(RangeFault::Device) => Err(StoreFault::Stop(Stop::Device(book.unit()))),
+    ) {
+        Ok(()) => Ok(0),
+        Err(fault) => Err(fault),
     }
 }

@@ -7,7 +7,7 @@ use Rattle.newt_base.specs.Refusals.{first_of}
 use Rattle.newt_base.specs.declared.Refusal.{Refusal}
 use Rattle.newt_laws.proofs.Kept.{changed-units, on_units}
 use Rattle.newt_laws.proofs.Units.{same-or-not, device-other, device-same}
-use Rattle.newt_laws_answers.specs.Stage.{answer_now, checks_now}
+use Rattle.newt_laws_answers.specs.Spoken.{answer_now, checks_now}
 use Rattle.newt_session.specs.Moments.{HasLeft, replies_begun, world_at}
 use Rattle.newt_session.specs.Script.{step, world_behind}
 use Rattle.newt_spec_graph.proofs.Lists.{none-some}
@@ -20,8 +20,9 @@ use Rattle.newt_spec_world.specs.Changed.{changed, copy_to}
 use Rattle.newt_spec_world.specs.World.{World, Device, Media, blank, one, device, default_unit, entry_in, store_of, store_on_unit, change_device, change_store, change_media}
 use Rattle.newt_spec_store.specs.Store as plain
 use Rattle.newt_store.specs.Readable.{readable}
-use Rattle.newt_top.proofs.Keeping.{stays_there}
-use Rattle.newt_top.specs.Crash.{formats, formats_next, IsOneOf, IsLeft}
+use Rattle.newt_engine.specs.Laws.{stays_there}
+use Rattle.newt_tally.specs.Moments.{HasLeftCounted}
+use Rattle.newt_top.specs.Crash.{formats, formats_next, IsOneOf, IsLeft, IsLeftCounted}
 
 -- ---- only a format gives a unit a store
 
@@ -127,27 +128,45 @@ module _ (w : World) (items : List Item) (m u : ℕ) where
 
 -- ---- what is left
 
+module _ (w : World) (items : List Item) (held : Option (List ℕ)) (m u : ℕ) (left : List ℕ) where
+  abbrev next : Option Store
+  next = store_on_unit (world_at answer_now w items (m + 1)) u
+
+  -- what is found where this is the store behind m items
+  abbrev pub Found : Option Store → Type 0
+  Found o = MatchOption o (next ≡ None → held ≡ Some left) (λ store. (readable left ≡ Some store) ⊎ (readable left ≡ next))
+
+  stored : (store : Store) → store_on_unit (world_at answer_now w items m) u ≡ Some store → (readable left ≡ Some store) ⊎ (readable left ≡ next) → IsOneOf left store next
+  stored store is (inl e) = record { found = store; read = e; one = inl refl }
+  stored store is (inr e) = go next refl
+    where
+      go : (o : Option Store) → next ≡ o → IsOneOf left store next
+      go None k = absurd (none-some store (sym (still_there w items m u k) ∙ is))
+      go (Some s) k = record { found = s; read = e ∙ k; one = inr k }
+
+  pub formatted_left : Found (store_on_unit (world_at answer_now w items m) u) → (store : Store) → store_on_unit (world_at answer_now w items m) u ≡ Some store → IsOneOf left store next
+  formatted_left found store is = stored store is (subst (λ (o : Option Store). Found o) is found)
+
+  pub untouched_left : Found (store_on_unit (world_at answer_now w items m) u) → store_on_unit (world_at answer_now w items m) u ≡ None → formats_next w items m u ≡ false → held ≡ Some left
+  untouched_left found none other = subst (λ (o : Option Store). Found o) none found (still_none w items m u none other)
+
 pub is_left : (w : World) (items : List Item) (held : Option (List ℕ)) (old out : List ℕ) (u : ℕ) (left : List ℕ) → HasLeft answer_now readable w items held old out u left → IsLeft w items held old out u left
-is_left w items held old out u left h = record {
+is_left w items held old out u left h =
+    let m = replies_begun answer_now w items (length h.shown) in
+    record {
+      shown = h.shown;
+      grown = h.grown;
+      formatted = λ store is. formatted_left w items held m u left h.leaves store is;
+      untouched = λ none no. untouched_left w items held m u left h.leaves none no;
+    }
+
+pub is_left_counted : (w : World) (items : List Item) (held : Option (List ℕ)) (old out : List ℕ) (u : ℕ) (left : List ℕ) → HasLeftCounted answer_now readable w items held old out u left
+    → IsLeftCounted w items held old out u left
+is_left_counted w items held old out u left h = record {
   shown = h.shown;
   grown = h.grown;
-  formatted = λ store is. stored store is (subst (λ (o : Option Store). Found o) is h.leaves);
-  untouched = λ none no. subst (λ (o : Option Store). Found o) none h.leaves (still_none w items m u none no);
+  done = h.done;
+  all = h.all;
+  formatted = λ store is. formatted_left w items held h.done u left h.leaves store is;
+  untouched = λ none no. untouched_left w items held h.done u left h.leaves none no;
 }
-  where
-    m : ℕ
-    m = replies_begun answer_now w items (length h.shown)
-
-    next : Option Store
-    next = store_on_unit (world_at answer_now w items (m + 1)) u
-
-    Found : Option Store → Type 0
-    Found o = MatchOption o (next ≡ None → held ≡ Some left) (λ store. (readable left ≡ Some store) ⊎ (readable left ≡ next))
-
-    stored : (store : Store) → store_on_unit (world_at answer_now w items m) u ≡ Some store → (readable left ≡ Some store) ⊎ (readable left ≡ next) → IsOneOf left store next
-    stored store is (inl e) = record { found = store; read = e; one = inl refl }
-    stored store is (inr e) = go next refl
-      where
-        go : (o : Option Store) → next ≡ o → IsOneOf left store next
-        go None k = absurd (none-some store (sym (still_there w items m u k) ∙ is))
-        go (Some s) k = record { found = s; read = e ∙ k; one = inr k }

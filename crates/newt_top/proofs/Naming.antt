@@ -1,6 +1,6 @@
 -- Names of devices.
 use Rattle.std.proofs.Common.{◌≡◌, ℕ, zero, suc, ◌≤◌, Bool, true, false, not, ◌&&◌, ◌||◌, cond, List, [], ◌∷◌, length, codes, nat_le, Option, Some, None, refl, sym, ◌∙◌, ap, arith}
-use Rattle.std.specs.Prelude.{slice_get}
+use Rattle.std.specs.Prelude.{drop, slice_get}
 use Rattle.std.specs.Bool.{Decides}
 use Rattle.std.specs.List.{list_any}
 use Rattle.std.specs.Str.{bytes_eq}
@@ -8,10 +8,9 @@ use Rattle.std.proofs.lemmas.Slice.Eq.{bytes_eq-Decides}
 use Rattle.std.proofs.lemmas.Bool.{false≢true}
 use Rattle.newt_attach.specs.Named.{AreDistinct}
 use Rattle.newt_spec_graph.specs.Lists.{all_apart}
-use Rattle.newt_top.specs.Words.{are_names, script_over, conversion_named, alone, mode_of, names_of}
+use Rattle.newt_top.specs.Words.{are_names, script_over, conversion_named, alone, generated, mode_of, names_of}
 use Rattle.newt_top.specs.declared.status.Mode.{Mode}
-use Rattle.newt_top.specs.declared.status.Mode.TheVariants.{Run, Convert}
-use Rattle.newt_top.specs.declared.status.Conversion.TheVariants.{Show, Pack}
+use Rattle.newt_top.specs.declared.status.Mode.TheVariants.{Run}
 
 -- a name equals itself
 same_bytes : (x : List ℕ) → bytes_eq x x ≡ true
@@ -53,27 +52,32 @@ apart_distinct (x ∷ xs) apart (suc i) zero name at there =
 apart_distinct (x ∷ xs) apart (suc i) (suc j) name at there = ap suc (apart_distinct xs (both (not (list_any (bytes_eq x) xs)) (all_apart bytes_eq xs) apart).1 i j name at there)
 
 -- the names of a script
-script_names : (b : Bool) (names : List (List ℕ)) → b ≡ are_names names → ◌≡◌ {A = Option Mode} (cond b (Some Run) None) (Some Run) → are_names names ≡ true
-script_names true names e is = sym e
-script_names false names e is = absurd (cc)
+script_names : (b : Bool) (names : List (List ℕ)) (mode : Mode) → b ≡ are_names names → ◌≡◌ {A = Option Mode} (cond b (Some Run) None) (Some mode) → are_names names ≡ true
+script_names true names mode e is = sym e
+script_names false names mode e is = absurd (cc)
 
-alone_runs : (word : List ℕ) (names : List (List ℕ)) → alone names (conversion_named word) ≡ Some Run → ⊥
-unfolding conversion_named
-alone_runs word [] is = converts (bytes_eq word (codes "show")) (bytes_eq word (codes "pack")) is
-  where
-    converts : (a b : Bool) → ◌≡◌ {A = Option Mode} (cond a (Some (Convert Show)) (cond b (Some (Convert Pack)) None)) (Some Run) → ⊥
-    converts true b e = cc
-    converts false true e = cc
-    converts false false e = cc
-alone_runs word (name ∷ names) is = cc
+-- of a generated one
+generated_names : (words : List (List ℕ)) (mode : Mode) → generated words ≡ Some mode → are_names (drop 2 words) ≡ true
+generated_names [] mode is = absurd (cc)
+generated_names (a ∷ []) mode is = absurd (cc)
+generated_names (a ∷ b ∷ []) mode is = absurd (cc)
+generated_names (a ∷ b ∷ name ∷ []) mode is = refl
+generated_names (a ∷ b ∷ name ∷ c ∷ rest) mode is = absurd (cc)
 
-pub run_names : (words : List (List ℕ)) → mode_of words ≡ Some Run → are_names (names_of words) ≡ true
-run_names [] is = absurd (cc)
-run_names (word ∷ names) is = go (bytes_eq word (codes "run")) is
+-- and of a conversion
+alone_names : (words : List (List ℕ)) (found : Option Mode) (mode : Mode) → alone words found ≡ Some mode → are_names words ≡ true
+alone_names [] found mode is = refl
+alone_names (name ∷ names) found mode is = absurd (cc)
+
+pub mode_names : (words : List (List ℕ)) (mode : Mode) → mode_of words ≡ Some mode → are_names (names_of words) ≡ true
+mode_names [] mode is = absurd (cc)
+mode_names (word ∷ words) mode is = go (bytes_eq word (codes "gen")) (bytes_eq word (codes "run")) is
   where
-    go : (b : Bool) → ◌≡◌ {A = Option Mode} (cond b (script_over names) (alone names (conversion_named word))) (Some Run) → are_names names ≡ true
-    go true e = script_names (are_names names) names refl e
-    go false e = absurd (alone_runs word names e)
+    go : (a b : Bool) → ◌≡◌ {A = Option Mode} (cond a (generated words) (cond b (script_over words) (alone words (conversion_named word)))) (Some mode)
+        → are_names (cond a (drop 2 words) words) ≡ true
+    go true b e = generated_names words mode e
+    go false true e = script_names (are_names words) words mode refl e
+    go false false e = alone_names words (conversion_named word) mode e
 
 pub few_names : (names : List (List ℕ)) → are_names names ≡ true → length names ≤ 8
 few_names names are = grind (arith, (both (nat_le (length names) 8) (all_apart bytes_eq names) are).0)

@@ -10,15 +10,13 @@ use Rattle.newt_spec_world.specs.declared.command.Command.{Command}
 use Rattle.newt_spec_world.specs.declared.command.Command.TheVariants as command
 use Rattle.newt_spec_world.specs.Reply.{Reply}
 use Rattle.newt_spec_world.specs.World.{World, Device, one, store_of, default_unit, store_on_unit, change_store}
-use Rattle.newt_laws_answers.specs.Stage.{answer_now}
+use Rattle.newt_laws_answers.specs.Spoken.{answer_now}
 use Rattle.newt_laws_answers.specs.Tests.{make_tests, add_tests, room_tests, with_added, entry_checks, formatted}
 use Rattle.newt_laws_answers.specs.There.{OnUnit, IsReady}
 use Rattle.newt_laws_answers.proofs.Units.{on-changed, is-there}
 use Rattle.newt_laws_answers.proofs.Soups.{soup-done, soup-refused, drop-done}
 use Rattle.newt_laws_answers.proofs.Adds.{add-done, add-refused, addx-done, addx-refused, addu-done, addu-refused}
-use Rattle.std.specs.List.{list_all}
 use Rattle.newt_base.specs.Names.{equal_text}
-use Rattle.newt_spec_store.specs.Lies.{has_no_large, graph_has_no_large}
 use Rattle.newt_spec_store.specs.Valid.{well_formed, valid_entry, valid_soup}
 use Rattle.newt_laws_images.proofs.Stores.{is-store, is-soup}
 use Rattle.newt_laws.proofs.Soups.{found-good}
@@ -149,12 +147,10 @@ module _ (w v : World) (u blocks : ℕ) (s : Store) (name : List ℕ) (p : Soup)
 -- ---- an entry that is copied
 
 -- an entry of a store that is read is within the limits
-pub entry-fits : (s : Store) (name : List ℕ) (p : Soup) (uid : ℕ) (e : Entry) → well_formed s ≡ true → has_no_large s ≡ true → soup_named name s ≡ Some p → entry_of uid p ≡ Some e
-    → (valid_entry e ≡ true) × (graph_has_no_large e.graph ≡ true)
-entry-fits s name p uid e ok small named found = (
-  found-good valid_entry (λ v. v.uid == uid) p.entries e (is-soup p (found-good valid_soup (λ v. equal_text v.name name) s.soups p (is-store s ok).soups_fit named)).entries_fit found,
-  found-good (λ x. graph_has_no_large x.graph) (λ v. v.uid == uid) p.entries e (found-good (λ x. list_all (λ y. graph_has_no_large y.graph) x.entries) (λ v. equal_text v.name name) s.soups p small named) found,
-)
+pub entry-fits : (s : Store) (name : List ℕ) (p : Soup) (uid : ℕ) (e : Entry) → well_formed s ≡ true → soup_named name s ≡ Some p → entry_of uid p ≡ Some e
+    → valid_entry e ≡ true
+entry-fits s name p uid e ok named found =
+    found-good valid_entry (λ v. v.uid == uid) p.entries e (is-soup p (found-good valid_soup (λ v. equal_text v.name name) s.soups p (is-store s ok).soups_fit named)).entries_fit found
 
 -- what was read is the entry
 pub read-found : (sig uid : ℕ) (s : Store) (p : Soup) (x : Shown) (g : RawGraph) → g ≡ x.graph → soup_of sig s ≡ Some p → entry_said (Some x) ≡ entry_at sig uid s
@@ -177,9 +173,9 @@ module _ (w v : World) (u blocks : ℕ) (s : Store) (name : List ℕ) (p : Soup)
       go (Refused r) h = copy-no-entry w u blocks s name p uid on named to other t target q there into h.0 ∙ ap {B = World × Reply} (λ q. (w, Reply.refused q)) (sym h.1) ∙ ap {B = World × Reply} (λ x. (x, Reply.refused r)) (sym same)
       go (Stop stop) h = tt
 
-  module _ (e : Entry) (found : entry_of uid p ≡ Some e) (ok : valid_entry e ≡ true) (small : graph_has_no_large e.graph ≡ true) where
+  module _ (e : Entry) (found : entry_of uid p ≡ Some e) (ok : valid_entry e ≡ true) where
     copy-tests : first_of (add_tests other w.minute q.name e.graph t q) ≡ first_of (room_tests other w.minute target e.graph t q)
-    copy-tests = ap (λ m. first_of (add_tests other w.minute m e.graph t q)) is ∙ graph-passes other w.minute target e t q ok small
+    copy-tests = ap (λ m. first_of (add_tests other w.minute m e.graph t q)) is ∙ graph-passes other w.minute target e t q ok
 
     copy-is : first_of (room_tests other w.minute target e.graph t q) ≡ None → (n : ℕ) → n ≡ q.next_uid → answer_now w (command.Copy u name uid to target) ≡ (with_added w to q.name e.graph, Reply.number n)
     copy-is k n good = copy-done w u blocks s name p uid on named to other t target q there into e found k none

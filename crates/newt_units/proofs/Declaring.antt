@@ -16,7 +16,7 @@ use Rattle.newt_spec_world.specs.declared.command.PartWord.{PartWord}
 use Rattle.newt_spec_world.specs.Changed.{spec_of_words, with_index, without_index}
 use Rattle.newt_spec_world.specs.Reply.{Reply}
 use Rattle.newt_spec_world.specs.World.{World, Device, store_of, store_on_unit, change_store}
-use Rattle.newt_laws_answers.specs.Stage.{answer_now, tags_fit}
+use Rattle.newt_laws_answers.specs.Spoken.{answer_now, tags_fit}
 use Rattle.newt_laws_answers.specs.Tests.{has_paths, index_tests, tagged, tags_tests}
 use Rattle.newt_laws_answers.specs.There.{OnUnit}
 use Rattle.newt_laws_answers.proofs.Declares.{index-exists, index-real, index-refused, index-done, unindex-done, set-tags-refused, set-tags-done}

@@ -10,7 +10,6 @@ use Rattle.newt_host.specs.Moments.{image, IsDurable}
 use Rattle.newt_host.specs.Outside.{Outside}
 use Rattle.newt_spec_graph.proofs.Lists.{some-same, none-some, both-ways}
 use Rattle.newt_spec_store.specs.Laid.{bare}
-use Rattle.newt_spec_store.specs.Lies.{has_no_large}
 use Rattle.newt_spec_store.specs.Store.{Store, Soup, soup_named}
 use Rattle.newt_spec_store.specs.Valid.{well_formed}
 use Rattle.newt_spec_world.specs.First.{media_of}
@@ -29,7 +28,7 @@ use Rattle.newt_units.specs.Looks.{attached_in, has_device, known_unit, known_so
 
 -- the laws of cards
 pub record Laws {C : Type 0} (reads : List ℕ → Option Store) (place : C → ℕ) (soups : C → Store) (stands : Bool → C → Outside → Type 0) : Type 0 where
-  pub formed : (bytes : List ℕ) (s : Store) → reads bytes ≡ Some s → IsTrue (well_formed s) × IsTrue (has_no_large s)
+  pub formed : (bytes : List ℕ) (s : Store) → reads bytes ≡ Some s → IsTrue (well_formed s)
   pub plain : (card : C) (outside : Outside) → stands true card outside → (s : Store) × (reads (image (place card) outside.now) ≡ Some s) × (bare s ≡ soups card)
   pub durable : (card : C) (outside : Outside) → stands true card outside → IsDurable (place card) outside.now
   pub banks : (told : Bool) (card : C) (outside : Outside) → stands told card outside → 13 ≤ outside.blocks (place card)
@@ -112,7 +111,6 @@ module _ {C : Type 0} {reads : List ℕ → Option Store} {place : C → ℕ} {s
     pub reads_it : reads (image u o.now) ≡ Some store
     pub known : bare store ≡ soups card
     pub formed : well_formed store ≡ true
-    pub small : has_no_large store ≡ true
 
   pub card-known : (u : ℕ) (card : C) → card_at slots u ≡ Some card → Plain u card
   card-known u card h = record {
@@ -123,8 +121,7 @@ module _ {C : Type 0} {reads : List ℕ → Option Store} {place : C → ℕ} {s
     };
     reads_it = its;
     known = p.2;
-    formed = (l.formed _ p.0 its).0;
-    small = (l.formed _ p.0 its).1;
+    formed = l.formed _ p.0 its;
   }
     where
       k : stands true card o × (place card ≡ u)
@@ -271,7 +268,6 @@ module _ {C : Type 0} {reads : List ℕ → Option Store} {place : C → ℕ} {s
     pub by_sig : soup_of sig store ≡ Some soup
     pub name_is : soup.name ≡ name
     pub formed : well_formed store ≡ true
-    pub small : has_no_large store ≡ true
 
   pub soup-found : (u : ℕ) (name : List ℕ) (sig : ℕ) → known_soup soups slots u name ≡ Some sig → Found u name sig
   soup-found u name sig h = go (card_at slots u) refl h
@@ -295,5 +291,4 @@ module _ {C : Type 0} {reads : List ℕ → Option Store} {place : C → ℕ} {s
             by_sig = ap (λ n. soup_of n p.store) (sym q.2) ∙ soup-of-sig p.store name q.0 p.formed q.1;
             name_is = named-name p.store name q.0 q.1;
             formed = p.formed;
-            small = p.small;
           }

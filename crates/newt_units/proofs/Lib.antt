@@ -5,6 +5,7 @@ pub mod Turns
 pub mod Calls
 pub mod Commands
 pub mod Replacing
+pub mod Binaries
 pub mod Settings
 pub mod Declaring
 pub mod Shown

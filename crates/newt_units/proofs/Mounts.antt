@@ -19,7 +19,7 @@ use Rattle.newt_spec_world.specs.First.{media_of}
 use Rattle.newt_spec_world.specs.Reply.{Reply}
 use Rattle.newt_spec_world.specs.World.{World, Device, one, mounted, mounted_stores}
 use Rattle.newt_laws_answers.specs.Faces.{Face, faces, shown_count, shows, first_shown, first_showing}
-use Rattle.newt_laws_answers.specs.Stage.{answer_now}
+use Rattle.newt_laws_answers.specs.Spoken.{answer_now}
 use Rattle.newt_laws_answers.specs.There.{OnUnit, IsReady}
 use Rattle.newt_laws_answers.proofs.Faces.{count-is, any-is, first-is}
 use Rattle.newt_laws_answers.proofs.Stores.{mount-no-store, mount-four, mount-same, mount-done, unmount-done}

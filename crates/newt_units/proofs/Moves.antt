@@ -15,7 +15,7 @@ use Rattle.newt_spec_world.specs.declared.command.Command.TheVariants as command
 use Rattle.newt_spec_world.specs.Reply.{Reply}
 use Rattle.newt_spec_world.specs.World.{World, Device, store_of, store_on_unit, change_store, change_media}
 use Rattle.newt_laws_answers.specs.Answering.{Answering}
-use Rattle.newt_laws_answers.specs.Stage.{answer_now}
+use Rattle.newt_laws_answers.specs.Spoken.{answer_now}
 use Rattle.newt_laws_answers.specs.Tests.{add_tests, room_tests, move_tests, moved_within, with_added}
 use Rattle.newt_laws_answers.specs.There.{OnUnit}
 use Rattle.newt_laws_answers.proofs.Copies.{graph-passes, move-no-entry, move-done, move-refused, within-done, within-refused}
@@ -124,7 +124,7 @@ module _ (w : World) (u to : ℕ) (name target : List ℕ) (sig into uid : ℕ) 
   by-name = ap (answer_now w) (move-named w u to name target sig into uid h k)
 
   room : first_of (tests w) ≡ first_of (room_tests k.blocks w.minute k.soup.name e.graph k.store k.soup)
-  room = let f = entry-fits h.store name h.soup uid e h.formed h.small h.named found in graph-passes k.blocks w.minute k.soup.name e k.store k.soup f.0 f.1
+  room = let f = entry-fits h.store name h.soup uid e h.formed h.named found in graph-passes k.blocks w.minute k.soup.name e k.store k.soup f
 
   pub on-added : OnUnit added u h.blocks h.store
   on-added = on-other w u to h.blocks h.store add (λ i. differ (sym i)) h.on

@@ -17,7 +17,7 @@ use Rattle.newt_spec_world.specs.World.{World}
 use Rattle.newt_laws.proofs.Settled.{find-passes, find-some}
 use Rattle.newt_laws_images.proofs.Assembled.{one-sig}
 use Rattle.newt_laws_images.proofs.Stores.{is-store}
-use Rattle.newt_laws_answers.specs.Stage.{answer_now}
+use Rattle.newt_laws_answers.specs.Spoken.{answer_now}
 use Rattle.newt_laws_answers.specs.There.{OnUnit}
 use Rattle.newt_laws_answers.proofs.Soups.{soups-done}
 use Rattle.newt_units.specs.Cards.{soup_of, count_in, soup_rows}

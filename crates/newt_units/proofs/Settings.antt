@@ -12,7 +12,7 @@ use Rattle.newt_spec_world.specs.Reply.{Reply}
 use Rattle.newt_spec_world.specs.World.{World, Device, store_of}
 use Rattle.newt_spec_world.specs.First.{media_of}
 use Rattle.newt_laws_answers.specs.Answering.{Answering}
-use Rattle.newt_laws_answers.specs.Stage.{answer_now}
+use Rattle.newt_laws_answers.specs.Spoken.{answer_now}
 use Rattle.newt_laws_answers.specs.Tests.{unit_checks, soup_checks, entry_checks, both_checks, ready_checks}
 use Rattle.newt_laws_answers.specs.There.{OnUnit, IsReady}
 use Rattle.newt_laws_answers.proofs.Entries.{no-entry, no-soup}
@@ -142,7 +142,6 @@ module _ {C : Type 0} {reads : List ℕ → Option Store} {place : C → ℕ} {s
     by_sig = f.by_sig;
     name_is = f.name_is;
     formed = f.formed;
-    small = f.small;
   }
 
   pub has-entry : (u : ℕ) (name : List ℕ) (sig uid : ℕ) → (h : HasSoup (world_of reads units o) u name sig) → is_some (entry_at sig uid h.store) ≡ true → HasEntry (world_of reads units o) u name sig uid

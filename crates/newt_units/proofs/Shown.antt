@@ -14,7 +14,7 @@ use Rattle.newt_spec_world.specs.declared.command.Command.TheVariants as command
 use Rattle.newt_spec_world.specs.Reply.{Reply}
 use Rattle.newt_spec_world.specs.World.{World, Device, mounted_store}
 use Rattle.newt_laws_answers.specs.Faces.{Face, face_of, faces, shows, shown_count, face_rows, first_showing}
-use Rattle.newt_laws_answers.specs.Stage.{answer_now}
+use Rattle.newt_laws_answers.specs.Spoken.{answer_now}
 use Rattle.newt_laws_answers.specs.WorldAt.{device_at}
 use Rattle.newt_laws_answers.proofs.Faces.{rows-is}
 use Rattle.newt_laws_answers.proofs.Stores.{stores-done}

@@ -1,7 +1,6 @@
 -- What is found of an entry.
 use Rattle.std.specs.Prelude.{◌≡◌, ℕ, true, List, Some, Result, Ok, Err}
 use Rattle.newt_spec_store.specs.Store.{Store, Soup, Entry, soup_named, entry_of}
-use Rattle.newt_spec_store.specs.Lies.{has_no_large}
 use Rattle.newt_spec_store.specs.Valid.{well_formed}
 use Rattle.newt_spec_world.specs.World.{World}
 use Rattle.newt_laws_answers.specs.Tests.{entry_checks}
@@ -22,7 +21,6 @@ pub record HasSoup (w : World) (u : ℕ) (name : List ℕ) (sig : ℕ) : Type 0 
   pub by_sig : soup_of sig store ≡ Some soup
   pub name_is : soup.name ≡ name
   pub formed : well_formed store ≡ true
-  pub small : has_no_large store ≡ true
 
 -- an entry of such a soup
 pub record HasEntry (w : World) (u : ℕ) (name : List ℕ) (sig uid : ℕ) : Type 0 where

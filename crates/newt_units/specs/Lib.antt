@@ -7,4 +7,5 @@ pub mod Found
 pub mod Faces
 pub mod Spots
 pub mod Declares
+pub mod Larges
 pub mod Bounds

@@ -1,5 +1,6 @@
 //! What is asked of a store on the card of one unit.
-ghost use Rattle.std.specs.Prelude.{◌≡◌, ℕ, ◌≤◌, [], ◌∷◌, List, Bool, IsTrue, Option, Some, None, is_some, option_map, option_and_then, slice_get, OnOk, IfSome, IfOk, IfErr, IsErrOf, true, ⊤};
+ghost use Rattle.std.specs.Prelude.{◌≡◌, ℕ, ◌≤◌, [], ◌∷◌, List, Bool, IsTrue, Option, Some, None, is_some, length, option_map, option_and_then, slice_get, OnOk, IfSome, IfOk, IfErr, IsErrOf, true, ⊤};
+ghost use Rattle.newt_graph.specs.declared.node.Node.TheVariants.{Large};
 ghost use Rattle.newt_host.specs.Moments.{image, Leaves};
 ghost use Rattle.newt_host.specs.Outside.{Outside, Rose, Touches};
 ghost use Rattle.newt_pagebook.specs.Book.{IsDurable, IsOpenFor, Anything};
@@ -7,13 +8,12 @@ ghost use Rattle.newt_pagebook.specs.Stops.{StopsAt};
 ghost use Rattle.newt_index.specs.Pairs.{IsSorted};
 ghost use Rattle.newt_ranges.specs.Range.{range_in};
 ghost use Rattle.newt_spec_store.specs.Laid.{bare};
-ghost use Rattle.newt_spec_store.specs.Lies.{has_no_large};
 ghost use Rattle.newt_spec_store.specs.Store.{Store as Plain, Soup, Entry as PlainEntry, soup_named, change_soup, make_soup, drop_soup, add_entry, remove_entry, entry_of};
 ghost use Rattle.newt_spec_store.specs.Valid.{well_formed};
 ghost use Rattle.newt_spec_world.specs.Changed.{new_store, with_graph, with_index, without_index};
-ghost use Rattle.newt_laws_answers.specs.Bounds.{change_bytes, unless};
+ghost use Rattle.newt_laws_answers.specs.Bounds.{change_bytes, patch_bytes, unless};
+ghost use Rattle.newt_laws_answers.specs.Tests.{make_tests, add_tests, move_tests, moved_within, replace_tests, replaced, patch_tests, patched_within, index_tests, tags_tests, tagged};
 ghost use Rattle.newt_units.specs.Bounds.{ProgramsAtMost};
-ghost use Rattle.newt_laws_answers.specs.Tests.{make_tests, add_tests, move_tests, moved_within, replace_tests, replaced, index_tests, tags_tests, tagged};
 ghost use Rattle.newt_units.specs.Cards.{soup_of, entry_at, entry_said, count_in, LeavesEither, IsSame, OthersSame};
 ghost use Rattle.newt_units.specs.Faults.{Does, GoesOn, FaultsAt};
 
@@ -182,6 +182,35 @@ pub trait Card: Sized + Drop {
         ensures alone { Touches (place self.old) (H.outside host.old) (H.outside host.new) }
         ensures cause { IfErr result (FaultsAt (place self.old) (H.outside host.old) (H.outside host.new)) };
 
+    /// Overwrites bytes of a large binary of an entry that is there: of the node of this number, from a place on. Nothing else is changed, the
+    /// entry's minute neither.
+    fn patch<H: Host>(
+        &mut self,
+        host: &mut H,
+        soup: Sig,
+        uid: Uid,
+        node: u32,
+        at: u32,
+        bytes: &[u8],
+    ) -> Result<(), Fault>
+        requires { stands H.told self.old (H.outside host.old) }
+        ensures stands { GoesOn result → stands H.told self.new (H.outside host.new) }
+        ensures place { place self.new ≡ place self.old }
+        ensures made { IsTrue H.told → (s : Plain) (p : Soup) (e : PlainEntry) (class : ℕ) (large : List ℕ) → reads (image (place self.old) (H.outside host.old).now) ≡ Some s → soup_of soup s ≡ Some p → entry_of uid p ≡ Some e →
+            slice_get e.graph.nodes node ≡ Some (Large class large) →
+            Does (patch_tests node at (length bytes.now) e) (λ _. ⊤) (Some s) (Some (patched_within p.name uid node at bytes.now s)) (reads (image (place self.old) (H.outside host.new).now)) result }
+        ensures others { IsTrue H.told → OthersSame (place self.old) (H.outside host.old).now (H.outside host.new).now }
+        ensures any_moment { IsTrue H.told → (s : Plain) (p : Soup) (e : PlainEntry) (class : ℕ) (large : List ℕ) → reads (image (place self.old) (H.outside host.old).now) ≡ Some s → soup_of soup s ≡ Some p → entry_of uid p ≡ Some e →
+            slice_get e.graph.nodes node ≡ Some (Large class large) →
+            Leaves (place self.old) (LeavesEither reads (patch_tests node at (length bytes.now) e) s (patched_within p.name uid node at bytes.now s)) (H.outside host.old).now (H.outside host.new).now }
+        // while the bank is not closed and has room, it programs no more than the pages that the bytes fill and one more; and after a change the bank is not closed
+        ensures bound { IsTrue H.told → (s : Plain) (p : Soup) (e : PlainEntry) (class : ℕ) (large : List ℕ) → reads (image (place self.old) (H.outside host.old).now) ≡ Some s → soup_of soup s ≡ Some p → entry_of uid p ≡ Some e →
+            slice_get e.graph.nodes node ≡ Some (Large class large) →
+            ProgramsAtMost (unless (patch_tests node at (length bytes.now) e) (patch_bytes (length bytes.now))) (place self.old) (H.outside host.old) (H.outside host.new) }
+        ensures open_after { IsTrue H.told → OnOk result (IsOpenFor 0 (image (place self.old) (H.outside host.new).now)) }
+        ensures alone { Touches (place self.old) (H.outside host.old) (H.outside host.new) }
+        ensures cause { IfErr result (FaultsAt (place self.old) (H.outside host.old) (H.outside host.new)) };
+
     /// Adds the graph of an entry that is there to another soup, removes it from its own, as one change, and answers its new id.
     fn move_entry<H: Host>(
         &mut self,
@@ -268,7 +297,7 @@ pub trait Card: Sized + Drop {
         ensures same { (place self.new ≡ place self.old) × (soups self.new ≡ soups self.old) }
         ensures found { IsTrue H.told → (s : Plain) → reads (image (place self.old) (H.outside host.old).now) ≡ Some s → IfOk result (λ found. entry_said found ≡ entry_at soup uid s) }
         ensures moment { (H.outside host.new).now ≡ (H.outside host.old).now }
-        ensures programs_nothing { (H.outside host.new).programmed (place self.old) ≤ (H.outside host.old).programmed (place self.old) }
+        ensures programs_nothing { IsTrue H.told → (H.outside host.new).programmed (place self.old) ≤ (H.outside host.old).programmed (place self.old) }
         ensures alone { Touches (place self.old) (H.outside host.old) (H.outside host.new) }
         ensures cause { IfErr result (StopsAt (place self.old) (H.outside host.old) (H.outside host.new)) };
 
@@ -316,7 +345,7 @@ pub trait Card: Sized + Drop {
         ensures { (outside : Outside) (s : Plain) → stands true self.now outside → reads (image (place self.now) outside.now) ≡ Some s → result ≡ is_some (entry_at soup uid s) };
 
     /// Only stores of this form are read.
-    ghost formed: { (bytes : List ℕ) (s : Plain) → reads bytes ≡ Some s → IsTrue (well_formed s) × IsTrue (has_no_large s) };
+    ghost formed: { (bytes : List ℕ) (s : Plain) → reads bytes ≡ Some s → IsTrue (well_formed s) };
 
     /// Where bytes are told, its unit is read as a store, whose soups are known.
     ghost plain: { (card : Self) (outside : Outside) → stands true card outside → (s : Plain) × (reads (image (place card) outside.now) ≡ Some s) × (bare s ≡ soups card) };

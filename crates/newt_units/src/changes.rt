@@ -1,11 +1,12 @@
 //! Changes of one store that is mounted.
-ghost use Rattle.std.specs.Prelude.{◌≡◌, ℕ, true, IsTrue, Some, None, ⊤, [], OnOk, IfOk, IfErr};
+ghost use Rattle.std.specs.Prelude.{◌≡◌, ℕ, true, IsTrue, List, length, Some, None, slice_get, ⊤, [], OnOk, IfOk, IfErr};
 ghost use Rattle.newt_base.specs.Refusals.{first_of};
+ghost use Rattle.newt_graph.specs.declared.node.Node.TheVariants.{Large};
 ghost use Rattle.newt_host.specs.Moments.{Always};
 ghost use Rattle.newt_spec_store.specs.Store.{Store as Plain, Soup, Entry as PlainEntry, entry_of, change_soup, make_soup, drop_soup, add_entry, remove_entry};
 ghost use Rattle.newt_spec_world.specs.World.{World, store_on_unit, change_store};
 ghost use Rattle.newt_laws_answers.specs.Answering.{Answering};
-ghost use Rattle.newt_laws_answers.specs.Tests.{make_tests, add_tests, replace_tests, replaced, move_tests, moved_within, with_added};
+ghost use Rattle.newt_laws_answers.specs.Tests.{make_tests, add_tests, replace_tests, replaced, patch_tests, patched_within, move_tests, moved_within, with_added};
 ghost use Rattle.newt_laws_answers.specs.There.{OnUnit};
 ghost use Rattle.newt_units.specs.Cards.{soup_of, entry_at, entry_said, ReadsEntry};
 ghost use Rattle.newt_units.specs.Faults.{Does, GoesOn, HasFaultCause, HasStopCause, OnDevices};
@@ -118,6 +119,36 @@ impl<C: Card> Units<C> {
         let minute = self.minute;
         match &mut self.slots[unit.0 as usize].card {
             Some(card) => card.replace(host, soup, uid, graph, minute),
+            None => Err(Fault::Refused(Refusal::Notmounted)),
+        }
+    }
+
+    /// Overwrites bytes of a large binary of an entry that is there: of the node of this number, from a place on.
+    pub(crate) fn patch_in<H: Host>(
+        &mut self,
+        host: &mut H,
+        unit: Unit,
+        soup: Sig,
+        uid: Uid,
+        node: u32,
+        at: u32,
+        bytes: &[u8],
+    ) -> Result<(), Fault>
+        requires stands { Stands C.place C.stands H.told self.old (H.outside host.old) }
+        requires mounted { mounted_in self.old.slots.items unit ≡ true }
+        ensures stands { GoesOn result → Stands C.place C.stands H.told self.new (H.outside host.new) }
+        ensures made { IsTrue H.told → let w = world_of C.reads self.old (H.outside host.old) in (blocks : ℕ) (s : Plain) (p : Soup) (e : PlainEntry) (class : ℕ) (large : List ℕ) → OnUnit w unit blocks s → soup_of soup s ≡ Some p → entry_of uid p ≡ Some e →
+            slice_get e.graph.nodes node ≡ Some (Large class large) →
+            Does (patch_tests node at (length bytes.now) e) (λ _. ⊤) w (change_store w unit (patched_within p.name uid node at bytes.now)) (world_of C.reads self.new (H.outside host.new)) result }
+        ensures moments { IsTrue H.told → let w = world_of C.reads self.old (H.outside host.old) in (blocks : ℕ) (s : Plain) (p : Soup) (e : PlainEntry) (class : ℕ) (large : List ℕ) → OnUnit w unit blocks s → soup_of soup s ≡ Some p → entry_of uid p ≡ Some e →
+            slice_get e.graph.nodes node ≡ Some (Large class large) →
+            (v : World) → (first_of (patch_tests node at (length bytes.now) e) ≡ None → store_on_unit v unit ≡ Some (patched_within p.name uid node at bytes.now s)) →
+            Always (Answering C.reads w v (H.outside host.old).now) (H.outside host.old).now (H.outside host.new).now }
+        ensures alone { OnDevices (H.outside host.old) (H.outside host.new) }
+        ensures cause { IfErr result (λ fault. HasFaultCause fault (H.outside host.old) (H.outside host.new)) }
+    {
+        match &mut self.slots[unit.0 as usize].card {
+            Some(card) => card.patch(host, soup, uid, node, at, bytes),
             None => Err(Fault::Refused(Refusal::Notmounted)),
         }
     }

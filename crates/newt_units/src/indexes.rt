@@ -10,7 +10,7 @@ ghost use Rattle.newt_spec_world.specs.World.{World, store_on_unit, change_store
 ghost use Rattle.newt_spec_world.specs.declared.command.Command.{Command};
 ghost use Rattle.newt_laws.specs.Worlds.{parts_fit};
 ghost use Rattle.newt_laws_answers.specs.Answering.{Answering};
-ghost use Rattle.newt_laws_answers.specs.Stage.{answer_now};
+ghost use Rattle.newt_laws_answers.specs.Spoken.{answer_now};
 ghost use Rattle.newt_laws_answers.specs.Tests.{index_tests, has_paths};
 ghost use Rattle.newt_laws_answers.specs.There.{OnUnit};
 ghost use Rattle.newt_units.specs.Answers.{Answers};

@@ -5,7 +5,7 @@ ghost use Rattle.newt_host.specs.Outside.{Outside};
 ghost use Rattle.newt_spec_world.specs.Reply.{Reply};
 ghost use Rattle.newt_spec_world.specs.declared.command.Command.{Command};
 ghost use Rattle.newt_laws_answers.specs.Answering.{Answering};
-ghost use Rattle.newt_laws_answers.specs.Stage.{answer_now};
+ghost use Rattle.newt_laws_answers.specs.Spoken.{answer_now};
 ghost use Rattle.newt_units.specs.Answers.{Answers};
 ghost use Rattle.newt_units.specs.Faces.{Admits, Opens, card_faces, default_after, with_card};
 ghost use Rattle.newt_units.specs.Faults.{GoesOn, HasFaultCause, IsRefusal, OnDevices};

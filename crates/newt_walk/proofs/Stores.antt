@@ -81,7 +81,7 @@ module _ {C : Type 0} {reads : List ℕ → Option Store} {place : C → ℕ} {s
       by : (b : Bool) (r : Option Store) → reads (image u o.now) ≡ r → cond b (store_of (media_of r)) None ≡ Some t → IsTrue (well_formed t)
       by false r k h = absurd (none-some t h)
       by true None k h = absurd (none-some t h)
-      by true (Some x) k h = subst (λ x. IsTrue (well_formed x)) (some-same x t h) (l.formed (image u o.now) x k).0
+      by true (Some x) k h = subst (λ x. IsTrue (well_formed x)) (some-same x t h) (l.formed (image u o.now) x k)
 
       go : (c : Option (List ℕ)) → on_unit (option_map (λ name. record { blocks = o.blocks u; media = media_of (reads (image u o.now)); mounted = mounted_in units.slots.items u }) c) ≡ Some t
           → IsTrue (well_formed t)

@@ -2,7 +2,7 @@ use Rattle.std.proofs.Common.{◌≡◌, sym, ◌∙◌, ap}
 use Rattle.newt_spec_script.specs.Line.{first_word}
 use Rattle.newt_script.specs.Readers.{row_reading}
 use Rattle.newt_script.specs.Verbs.{word_of}
-use Rattle.newt_script.proofs.Spoken.{too_long, built}
+use Rattle.newt_script.proofs.Spoken.{too_long, says_verb}
 use Rattle.newt_script.proofs.lines.spoken.Goals as goal
 
 pub returns-then-line-gt-LONGEST : goal.returns-then-line-gt-LONGEST
@@ -14,4 +14,4 @@ returns-in-Some c apart =
     let verb = c.in-Some.verb in
     let word : (first_word line).0 ≡ word_of verb = ap (λ l. (first_word l).0) (sym c.new-words.ensures) ∙ (sym c.word-word.ensures.word ∙ c.in-Some.ensures) in
     let rest : c.word-word.new.self ≡ (first_word line).1 = c.word-word.ensures.rest ∙ ap (λ l. (first_word l).1) c.new-words.ensures in
-    built line verb c.row.result c.if-line-gt-LONGEST.false word (c.row.ensures apart ∙ ap (row_reading (word_of verb)) rest)
+    says_verb line verb c.row.result c.if-line-gt-LONGEST.false word (c.row.ensures apart ∙ ap (row_reading (word_of verb)) rest)

@@ -36,7 +36,7 @@ returns-then-is_some-clause-not_store g c = λ is tells.
 pub returns-then-not-are_there-clause-not_store : goal.returns-then-not-are_there-clause-not_store
 returns-then-not-are_there-clause-not_store g c = λ is tells.
     let l = not-there (held c.args.objects.now) c.in_ok-row.row.larges
-        (ap (λ (rows : List LargeAt). list_all (λ row. has_length (held c.args.objects.now) row) rows) (sym c.list.ensures) ∙ sym c.are_there.ensures ∙ c.if-not-are_there.true) in
+    (ap (λ (rows : List LargeAt). list_all (λ row. has_length (held c.args.objects.now) row) rows) (sym c.list.ensures) ∙ sym c.are_there.ensures ∙ c.if-not-are_there.true) in
     record-missing g.H.Host.told c.args.objects.now (g.P.PageBook.numbers c.args.book.now) (g.P.PageBook.place c.args.book.now) (g.H.Host.outside c.args.host.now) c.requires.kept tells
     c.args.directory.now c.requires.root c.args.id (odd-is c.args.id c.if-id-eq0.false) c.in_ok-row.row c.in_ok-row.ensures.row l.0 l.1 l.2
 
@@ -53,7 +53,7 @@ returns-clause-sound g c =
     let there = c.requires.next.found c.args.id refl in
     let named : c.deref.result.now ≡ objects_named c.in_ok-row.row.larges = c.deref.ensures.value ∙ c.in_ok-ids.ensures ∙ ap objects_named c.list-2.ensures in
     let all = all-there (held c.args.objects.now) c.in_ok-row.row.larges
-        (ap (λ (rows : List LargeAt). list_all (λ row. has_length (held c.args.objects.now) row) rows) (sym c.list.ensures) ∙ sym c.are_there.ensures ∙ c.if-not-are_there.false) in
+    (ap (λ (rows : List LargeAt). list_all (λ row. has_length (held c.args.objects.now) row) rows) (sym c.list.ensures) ∙ sym c.are_there.ensures ∙ c.if-not-are_there.false) in
     let row = c.in_ok-row.row in
     sound-next (place_of c.args.finding.now.places) (place_of c.insert-2.new.self) row.soup row.uid c.args.id c.in_ok-insert-2.ensures.kept c.in_ok-insert-2.ensures.others c.args.last there.1
     (names_of c.args.finding.now.names) (names_of c.insert.new.self) (objects_named row.larges) (c.in_ok-insert.ensures.kept ∙ sym c.deref.ensures.value ∙ named) c.in_ok-insert.ensures.others
@@ -66,7 +66,7 @@ pub returns-clause-found : goal.returns-clause-found
 returns-clause-found g c = λ tells texts h.
     let named : c.deref.result.now ≡ objects_named c.in_ok-row.row.larges = c.deref.ensures.value ∙ c.in_ok-ids.ensures ∙ ap objects_named c.list-2.ensures in
     let all = all-there (held c.args.objects.now) c.in_ok-row.row.larges
-        (ap (λ (rows : List LargeAt). list_all (λ row. has_length (held c.args.objects.now) row) rows) (sym c.list.ensures) ∙ sym c.are_there.ensures ∙ c.if-not-are_there.false) in
+    (ap (λ (rows : List LargeAt). list_all (λ row. has_length (held c.args.objects.now) row) rows) (sym c.list.ensures) ∙ sym c.are_there.ensures ∙ c.if-not-are_there.false) in
     let row = c.in_ok-row.row in
     row-next g.H.Host.told c.args.objects.now (g.P.PageBook.numbers c.args.book.now) (g.P.PageBook.place c.args.book.now) (g.H.Host.outside c.args.host.now) c.requires.kept tells texts h
     (bare_store c.args.directory.now) c.args.last c.args.id c.requires.next (place_of c.args.finding.now.places) (names_of c.args.finding.now.names)

@@ -1,5 +1,5 @@
 use Rattle.std.proofs.Common.{Some, Global, map, string_bytes, sym, subst}
-use Rattle.newt_top.specs.Modes.{Leaves}
+use Rattle.newt_top.specs.Modes.{Leaves, Ran}
 use Rattle.newt_top.specs.declared.status.Mode.{Mode}
 use Rattle.newt_top.proofs.top.run_mode.Goals as goal
 
@@ -7,3 +7,13 @@ pub returns-in-Run-clause-leaves : goal.returns-in-Run-clause-leaves
 returns-in-Run-clause-leaves g c = λ told.
     let P : Mode → Type 0 = λ mode. Leaves (Some mode) (map (string_bytes {Z = Global}) c.args.names.now) (g.H.Host.outside c.args.host.now) (g.H.Host.outside c.run_script.new.host) in
     subst P (sym c.in-Run.is) (c.run_script.ensures.leaves told)
+
+pub returns-in-Generate-clause-leaves : goal.returns-in-Generate-clause-leaves
+returns-in-Generate-clause-leaves g c = λ told.
+    let P : Mode → Type 0 = λ mode. Leaves (Some mode) (map (string_bytes {Z = Global}) c.args.names.now) (g.H.Host.outside c.args.host.now) (g.H.Host.outside c.run_generated.new.host) in
+    subst P (sym c.in-Generate.is) (c.run_generated.ensures.leaves told)
+
+pub returns-in-Generate-clause-ran : goal.returns-in-Generate-clause-ran
+returns-in-Generate-clause-ran g c = λ told.
+    let P : Mode → Type 0 = λ mode. Ran (Some mode) (map (string_bytes {Z = Global}) c.args.names.now) c.args.limit c.run_generated.result (g.H.Host.outside c.args.host.now) (g.H.Host.outside c.run_generated.new.host) in
+    subst P (sym c.in-Generate.is) (c.run_generated.ensures.left, c.run_generated.ensures.ran told)

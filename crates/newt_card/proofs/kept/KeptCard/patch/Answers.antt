@@ -1,4 +1,4 @@
-use Rattle.std.proofs.Common.{ℕ, List, length, refl, subst}
+use Rattle.std.proofs.Common.{◌≡◌, ◌∙◌, ℕ, List, length, refl, subst}
 use Rattle.newt_host.specs.Moments.{image}
 use Rattle.newt_host.proofs.Outside.{Touches-refl}
 use Rattle.newt_store.specs.Readable.{readable}
@@ -15,16 +15,17 @@ returns-in-Ok g c =
     let o = g.H.Host.outside in
     let u : ℕ = g.P.PageBook.place c.args.self.now.store.store.book in
     let e = c.patch_entry.ensures in
+    let same : c.of-bytes.result ≡ c.args.bytes.now = c.of-bytes.ensures ∙ c.in-Ok.ensures.items_if_clones_equal (λ x y h. h) in
     record {
       stands = e.stands;
       place = e.place;
       made = λ tells s p x class large reads found here is.
-          bytes-do p.name c.args.uid c.args.node c.args.at c.args.bytes.now c.of-bytes.result x s (readable (image u (o c.patch_entry.new.host).now)) c.patch_entry.result ? (e.made tells s p x class large reads found here is);
+          bytes-do p.name c.args.uid c.args.node c.args.at c.args.bytes.now c.of-bytes.result x s (readable (image u (o c.patch_entry.new.host).now)) c.patch_entry.result same (e.made tells s p x class large reads found here is);
       others = e.others;
       any_moment = λ tells s p x class large reads found here is.
-          bytes-leave p.name c.args.uid c.args.node c.args.at c.args.bytes.now c.of-bytes.result x s u (o c.args.host.now).now (o c.patch_entry.new.host).now ? (e.any_moment tells s p x class large reads found here is);
+          bytes-leave p.name c.args.uid c.args.node c.args.at c.args.bytes.now c.of-bytes.result x s u (o c.args.host.now).now (o c.patch_entry.new.host).now same (e.any_moment tells s p x class large reads found here is);
       bound = λ tells s p x class large reads found here is.
-          subst (λ (b : List ℕ). ProgramsAtMost (unless (patch_tests c.args.node c.args.at (length b) x) (patch_bytes (length b))) u (o c.args.host.now) (o c.patch_entry.new.host)) ? (e.bound tells s p x class large reads found here is);
+          subst (λ (b : List ℕ). ProgramsAtMost (unless (patch_tests c.args.node c.args.at (length b) x) (patch_bytes (length b))) u (o c.args.host.now) (o c.patch_entry.new.host)) same (e.bound tells s p x class large reads found here is);
       open_after = e.open_after;
       alone = e.alone;
       cause = e.cause;

@@ -3,7 +3,7 @@ use Rattle.std.proofs.Common.{sym, ◌∙◌, subst, Ok, Err}
 use Rattle.newt_host.specs.Moments.{Always}
 use Rattle.newt_reply.specs.Said.{said}
 use Rattle.newt_laws_answers.specs.Answering.{Answering}
-use Rattle.newt_laws_answers.specs.Stage.{answer_now}
+use Rattle.newt_laws_answers.specs.Spoken.{answer_now}
 use Rattle.newt_units.specs.Stands.{world_of}
 use Rattle.newt_walk.specs.Fits.{DeskFits}
 use Rattle.newt_walk.specs.World.{world_with}

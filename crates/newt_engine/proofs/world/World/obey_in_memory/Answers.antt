@@ -7,11 +7,11 @@ use Rattle.newt_spec_store.specs.Keys.{IndexSpec}
 use Rattle.newt_spec_store.specs.Store.{TagTable}
 use Rattle.newt_spec_world.specs.Answer.{or_nil}
 use Rattle.newt_spec_world.specs.Reply.{Reply as plain}
-use Rattle.newt_laws_answers.specs.Stage.{answer_now}
+use Rattle.newt_laws_answers.specs.Spoken.{answer_now}
 use Rattle.newt_laws_answers.proofs.Stores.{quit-done}
 use Rattle.newt_units.specs.Faults.{IsRefusal}
 use Rattle.newt_units.specs.Stands.{world_of}
-use Rattle.newt_engine.proofs.Groups.{not_built}
+use Rattle.newt_engine.proofs.Groups.{no_other}
 use Rattle.newt_engine.proofs.Handed.{handed, hands}
 use Rattle.newt_engine.proofs.world.World.obey_in_memory.Goals as goal
 
@@ -51,11 +51,6 @@ returns-in-Quit-clause-answered g c outside eight stand =
     subst (λ x. answer_now w x ≡ (w, plain.done)) (sym c.in-Quit.is) (quit-done w refl)
 
 pub returns-in_default : goal.returns-in_default
-returns-in_default g c = record {
-  stands = λ told outside stand. stand;
-  answered = λ outside eight stand. let d = c.in_default in
-      not_built (world_of g.C.Card.reads c.args.self.now.units outside) c.args.command.now c.requires.no_graph c.requires.no_device d.not-Time d.not-Quit d.not-Unmount d.not-Stores d.not-Default d.not-Soups d.not-Indexes d.not-Tags d.not-Alias d.not-Resolve;
-  desk = refl;
-  device = tt;
-  ends = λ takes_none. tt;
-}
+returns-in_default g c =
+    let d = c.in_default in
+    absurd (no_other c.args.command.now c.requires.no_graph c.requires.no_device d.not-Time d.not-Quit d.not-Unmount d.not-Stores d.not-Default d.not-Soups d.not-Indexes d.not-Tags d.not-Alias d.not-Resolve)

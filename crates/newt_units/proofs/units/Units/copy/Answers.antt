@@ -7,7 +7,7 @@ use Rattle.newt_base.specs.Refusals.{first_of}
 use Rattle.newt_spec_store.specs.Store.{entry_of, change_soup, add_entry}
 use Rattle.newt_spec_world.specs.World.{World, store_on_unit}
 use Rattle.newt_laws_answers.specs.Answering.{Answering}
-use Rattle.newt_laws_answers.specs.Stage.{answer_now}
+use Rattle.newt_laws_answers.specs.Spoken.{answer_now}
 use Rattle.newt_laws_answers.specs.Tests.{add_tests, with_added}
 use Rattle.newt_laws_answers.specs.There.{OnUnit}
 use Rattle.newt_laws_answers.proofs.Copies.{copy-not-found}
@@ -73,9 +73,9 @@ returns-clause-answered g c t =
     let h = has-soup at t c.args.unit c.args.name.now c.in_ok-soup.soup c.in_ok-soup.ensures.0 in
     let k = has-soup at t c.args.to c.args.target.now c.in_ok-soup.into c.in_ok-soup.ensures.1 in
     let found = read-found c.in_ok-soup.soup c.args.uid h.store h.soup c.in_ok-graph.field-0 c.in_ok-graph.field-0.graph refl h.by_sig (c.in_ok-graph.ensures.read t h.blocks h.store h.on) in
-    let fits = entry-fits h.store c.args.name.now h.soup c.args.uid (record { uid = c.in_ok-graph.field-0.uid; time = c.in_ok-graph.field-0.time; graph = c.in_ok-graph.field-0.graph }) h.formed h.small h.named found in
+    let fits = entry-fits h.store c.args.name.now h.soup c.args.uid (record { uid = c.in_ok-graph.field-0.uid; time = c.in_ok-graph.field-0.time; graph = c.in_ok-graph.field-0.graph }) h.formed h.named found in
     let same = c.in_ok-graph.ensures.world t in
-    copy-answers w _ c.args.unit h.blocks h.store c.args.name.now h.soup c.args.uid h.on h.named refl c.args.to k.blocks k.store c.args.target.now k.soup k.on k.named k.name_is (record { uid = c.in_ok-graph.field-0.uid; time = c.in_ok-graph.field-0.time; graph = c.in_ok-graph.field-0.graph }) found fits.0 fits.1 _
+    copy-answers w _ c.args.unit h.blocks h.store c.args.name.now h.soup c.args.uid h.on h.named refl c.args.to k.blocks k.store c.args.target.now k.soup k.on k.named k.name_is (record { uid = c.in_ok-graph.field-0.uid; time = c.in_ok-graph.field-0.time; graph = c.in_ok-graph.field-0.graph }) found fits _
     (subst (λ (x : World). Does (add_tests k.blocks x.minute k.soup.name c.in_ok-graph.field-0.graph k.store k.soup) (λ n. n ≡ k.soup.next_uid) x (with_added x c.args.to k.soup.name c.in_ok-graph.field-0.graph) (world_of g.C.Card.reads c.add_to.new.self (g.H.Host.outside c.add_to.new.host)) c.add_to.result) same
     (c.add_to.ensures.made t k.blocks k.store k.soup (subst (λ x. OnUnit x c.args.to k.blocks k.store) (sym same) k.on) k.by_sig))
 
@@ -90,12 +90,12 @@ returns-clause-moments g c t =
     let h = has-soup at t c.args.unit c.args.name.now c.in_ok-soup.soup c.in_ok-soup.ensures.0 in
     let k = has-soup at t c.args.to c.args.target.now c.in_ok-soup.into c.in_ok-soup.ensures.1 in
     let found = read-found c.in_ok-soup.soup c.args.uid h.store h.soup c.in_ok-graph.field-0 c.in_ok-graph.field-0.graph refl h.by_sig (c.in_ok-graph.ensures.read t h.blocks h.store h.on) in
-    let fits = entry-fits h.store c.args.name.now h.soup c.args.uid (record { uid = c.in_ok-graph.field-0.uid; time = c.in_ok-graph.field-0.time; graph = c.in_ok-graph.field-0.graph }) h.formed h.small h.named found in
+    let fits = entry-fits h.store c.args.name.now h.soup c.args.uid (record { uid = c.in_ok-graph.field-0.uid; time = c.in_ok-graph.field-0.time; graph = c.in_ok-graph.field-0.graph }) h.formed h.named found in
     let same = c.in_ok-graph.ensures.world t in
     let v = (answer_now w (command.Copy c.args.unit c.args.name.now c.args.uid c.args.to c.args.target.now)).0 in
     let way = c.add_to.ensures.moments t k.blocks k.store k.soup (subst (λ x. OnUnit x c.args.to k.blocks k.store) (sym same) k.on) k.by_sig v
     (λ tests. subst (λ (x : World). store_on_unit v c.args.to ≡ Some (change_soup k.soup.name (add_entry x.minute c.in_ok-graph.field-0.graph) k.store)) (sym same)
-    (copy-makes w w c.args.unit h.blocks h.store c.args.name.now h.soup c.args.uid h.on h.named refl c.args.to k.blocks k.store c.args.target.now k.soup k.on k.named k.name_is (record { uid = c.in_ok-graph.field-0.uid; time = c.in_ok-graph.field-0.time; graph = c.in_ok-graph.field-0.graph }) found fits.0 fits.1
+    (copy-makes w w c.args.unit h.blocks h.store c.args.name.now h.soup c.args.uid h.on h.named refl c.args.to k.blocks k.store c.args.target.now k.soup k.on k.named k.name_is (record { uid = c.in_ok-graph.field-0.uid; time = c.in_ok-graph.field-0.time; graph = c.in_ok-graph.field-0.graph }) found fits
     (subst (λ (x : World). first_of (add_tests k.blocks x.minute k.soup.name c.in_ok-graph.field-0.graph k.store k.soup) ≡ None) same tests))) in
     subst (λ (m : Moment). Always (Answering g.C.Card.reads w v m) m (g.H.Host.outside c.add_to.new.host).now) c.in_ok-graph.ensures.moment
     (subst (λ (x : World). Always (Answering g.C.Card.reads x v (g.H.Host.outside c.read_entry.new.host).now) (g.H.Host.outside c.read_entry.new.host).now (g.H.Host.outside c.add_to.new.host).now) same way)

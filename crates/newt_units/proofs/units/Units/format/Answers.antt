@@ -7,7 +7,7 @@ use Rattle.newt_host.specs.Moments.{Moment, Always, changes, image}
 use Rattle.newt_spec_world.specs.World.{World, store_on_unit}
 use Rattle.newt_spec_world.specs.declared.command.Command.TheVariants as command
 use Rattle.newt_laws_answers.specs.Answering.{Answering}
-use Rattle.newt_laws_answers.specs.Stage.{answer_now}
+use Rattle.newt_laws_answers.specs.Spoken.{answer_now}
 use Rattle.newt_laws_answers.specs.Tests.{formatted}
 use Rattle.newt_laws_answers.proofs.Stores.{format-unbuilt, format-not-ready}
 use Rattle.newt_units.specs.Stands.{world_of}

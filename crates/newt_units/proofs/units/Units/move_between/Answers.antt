@@ -5,7 +5,7 @@ use Rattle.newt_spec_store.specs.Store.{Entry, change_soup, remove_entry}
 use Rattle.newt_spec_world.specs.Reply.{Reply}
 use Rattle.newt_spec_world.specs.World.{change_store}
 use Rattle.newt_spec_world.specs.declared.command.Command.TheVariants as command
-use Rattle.newt_laws_answers.specs.Stage.{answer_now}
+use Rattle.newt_laws_answers.specs.Spoken.{answer_now}
 use Rattle.newt_laws_answers.specs.There.{OnUnit}
 use Rattle.newt_units.specs.Answers.{Answers}
 use Rattle.newt_units.specs.Stands.{world_of}

@@ -6,7 +6,7 @@ use Rattle.newt_host.specs.Moments.{Always}
 use Rattle.newt_spec_world.specs.Reply.{Reply}
 use Rattle.newt_spec_world.specs.declared.command.Command.TheVariants as command
 use Rattle.newt_laws_answers.specs.Answering.{Answering}
-use Rattle.newt_laws_answers.specs.Stage.{answer_now}
+use Rattle.newt_laws_answers.specs.Spoken.{answer_now}
 use Rattle.newt_laws_answers.proofs.Copies.{move-not-found}
 use Rattle.newt_units.specs.Answers.{Answers}
 use Rattle.newt_units.specs.Found.{HasSoup}

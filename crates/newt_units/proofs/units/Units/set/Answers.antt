@@ -11,7 +11,7 @@ use Rattle.newt_spec_store.specs.Store.{Entry, entry_of}
 use Rattle.newt_spec_world.specs.World.{World, store_on_unit, change_store}
 use Rattle.newt_spec_world.specs.declared.command.Command.TheVariants as command
 use Rattle.newt_laws_answers.specs.Answering.{Answering}
-use Rattle.newt_laws_answers.specs.Stage.{answer_now}
+use Rattle.newt_laws_answers.specs.Spoken.{answer_now}
 use Rattle.newt_laws_answers.specs.Tests.{replace_tests, replaced}
 use Rattle.newt_laws_answers.specs.There.{OnUnit}
 use Rattle.newt_laws_answers.proofs.Entries.{no-soup}
@@ -103,8 +103,8 @@ returns-clause-answered g c t =
     let e : Entry = record { uid = c.in_ok-graph.field-0.uid; time = c.in_ok-graph.field-0.time; graph = c.in_ok-graph.field-0.graph } in
     let found : entry_of c.args.uid h.soup ≡ Some e = read-found c.in_ok-soup.soup c.args.uid h.store h.soup c.in_ok-graph.field-0 c.in_ok-graph.field-0.graph refl h.by_sig (c.in_ok-graph.ensures.read t h.blocks h.store h.on) in
     let same = c.in_ok-graph.ensures.world t in
-    let fits = entry-fits h.store c.args.name.now h.soup c.args.uid e h.formed h.small h.named found in
-    set-answers w _ c.args.unit h.blocks h.store h.on refl c.args.name.now h.soup h.named h.name_is c.args.uid e found c.args.path.now c.args.value.now c.in_ok-made.made c.in_ok-made.ensures.form fits.0 _
+    let fits = entry-fits h.store c.args.name.now h.soup c.args.uid e h.formed h.named found in
+    set-answers w _ c.args.unit h.blocks h.store h.on refl c.args.name.now h.soup h.named h.name_is c.args.uid e found c.args.path.now c.args.value.now c.in_ok-made.made c.in_ok-made.ensures.form fits _
     (subst (λ (x : World). Does (replace_tests h.blocks x.minute h.soup.name c.args.uid c.in_ok-made.made h.store) (λ _. ⊤) x (change_store x c.args.unit (replaced x.minute h.soup.name c.args.uid c.in_ok-made.made)) (world_of g.C.Card.reads c.replace_in.new.self (g.H.Host.outside c.replace_in.new.host)) c.replace_in.result) same
     (c.replace_in.ensures.made t h.blocks h.store h.soup e (subst (λ x. OnUnit x c.args.unit h.blocks h.store) (sym same) h.on) h.by_sig found))
 
@@ -120,11 +120,11 @@ returns-clause-moments g c t =
     let e : Entry = record { uid = c.in_ok-graph.field-0.uid; time = c.in_ok-graph.field-0.time; graph = c.in_ok-graph.field-0.graph } in
     let found : entry_of c.args.uid h.soup ≡ Some e = read-found c.in_ok-soup.soup c.args.uid h.store h.soup c.in_ok-graph.field-0 c.in_ok-graph.field-0.graph refl h.by_sig (c.in_ok-graph.ensures.read t h.blocks h.store h.on) in
     let same = c.in_ok-graph.ensures.world t in
-    let fits = entry-fits h.store c.args.name.now h.soup c.args.uid e h.formed h.small h.named found in
+    let fits = entry-fits h.store c.args.name.now h.soup c.args.uid e h.formed h.named found in
     let v = (answer_now w (command.Set c.args.unit c.args.name.now c.args.uid c.args.path.now c.args.value.now)).0 in
     let way = c.replace_in.ensures.moments t h.blocks h.store h.soup e (subst (λ x. OnUnit x c.args.unit h.blocks h.store) (sym same) h.on) h.by_sig found v
     (λ tests. subst (λ (x : World). store_on_unit v c.args.unit ≡ Some (replaced x.minute h.soup.name c.args.uid c.in_ok-made.made h.store)) (sym same)
-    (set-makes w w c.args.unit h.blocks h.store h.on refl c.args.name.now h.soup h.named h.name_is c.args.uid e found c.args.path.now c.args.value.now c.in_ok-made.made c.in_ok-made.ensures.form fits.0
+    (set-makes w w c.args.unit h.blocks h.store h.on refl c.args.name.now h.soup h.named h.name_is c.args.uid e found c.args.path.now c.args.value.now c.in_ok-made.made c.in_ok-made.ensures.form fits
     (subst (λ (x : World). first_of (replace_tests h.blocks x.minute h.soup.name c.args.uid c.in_ok-made.made h.store) ≡ None) same tests))) in
     subst (λ (m : Moment). Always (Answering g.C.Card.reads w v m) m (g.H.Host.outside c.replace_in.new.host).now) c.in_ok-graph.ensures.moment
     (subst (λ (x : World). Always (Answering g.C.Card.reads x v (g.H.Host.outside c.read_entry.new.host).now) (g.H.Host.outside c.read_entry.new.host).now (g.H.Host.outside c.replace_in.new.host).now) same way)

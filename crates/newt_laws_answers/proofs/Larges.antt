@@ -1,0 +1,92 @@
+-- Large binaries of entries, read and written over.
+use Rattle.std.proofs.Common.{◌≡◌, refl, ap, ◌∙◌, ℕ, ◌+◌, List, [], ◌∷◌, Option, Some, None, option_and_then, length, replicate, drop, nat_lt}
+use Rattle.std.specs.Prelude.{slice_get}
+use Rattle.std.specs.Option.{is_none}
+use Rattle.newt_base.specs.Refusals.{Checks, first_of}
+use Rattle.newt_base.specs.declared.Refusal.{Refusal}
+use Rattle.newt_base.specs.declared.Refusal.TheVariants.{Path as NoPath, Range}
+use Rattle.newt_spec_store.specs.Keys.{Path}
+use Rattle.newt_spec_store.specs.Store.{Store, Soup, Entry, soup_named, entry_of, change_soup, change_entry}
+use Rattle.newt_spec_world.specs.declared.command.Command.TheVariants as command
+use Rattle.newt_spec_world.specs.World.{World, entry_in, change_store}
+use Rattle.newt_spec_world.specs.Reply.{Reply}
+use Rattle.newt_spec_world.specs.Changed.{changed, bytes_of_large, large_at, large_bytes, patched, patched_at}
+use Rattle.newt_spec_world.specs.Refused.{checks, on_some}
+use Rattle.newt_spec_world.specs.Answer.{bytes_from, fields, or_nil}
+use Rattle.newt_laws_answers.specs.Tests.{entry_checks, large_tests, patch_tests, patched_within}
+use Rattle.newt_laws_answers.specs.Spoken.{checks_now, answer_now}
+use Rattle.newt_laws_answers.specs.There.{OnUnit}
+use Rattle.newt_laws_answers.proofs.Firsts.{first-true, first-false}
+use Rattle.newt_laws_answers.proofs.Units.{store-alike}
+use Rattle.newt_laws_answers.proofs.Answers.{done, refused, refused-early, entry-named}
+use Rattle.newt_laws_answers.proofs.Replaces.{entry-alike, there-passes}
+
+-- ---- refused before
+
+module _ (w : World) (u : ℕ) (name : List ℕ) (uid : ℕ) (r : Refusal) (h : first_of (entry_checks w u name uid) ≡ Some r) (path : Path) (at : ℕ) where
+  pub vread-not-found : (many : ℕ) → answer_now w (command.Vread u name uid path at many) ≡ (w, Reply.refused r)
+  unfolding checks
+  vread-not-found many = refused-early w (command.Vread u name uid path at many) (entry_checks w u name uid) (drop 4 (checks_now w (command.Vread u name uid path at many))) r refl h
+
+  pub vwrite-not-found : (bytes : List ℕ) → answer_now w (command.Vwrite u name uid path at bytes) ≡ (w, Reply.refused r)
+  unfolding checks
+  vwrite-not-found bytes = refused-early w (command.Vwrite u name uid path at bytes) (entry_checks w u name uid) (drop 4 (checks_now w (command.Vwrite u name uid path at bytes))) r refl h
+
+-- ---- the entry is there
+
+module _ (w : World) (u blocks : ℕ) (s : Store) (name : List ℕ) (p : Soup) (uid : ℕ) (h : OnUnit w u blocks s) (f : soup_named name s ≡ Some p) (e : Entry) (here : entry_of uid p ≡ Some e)
+    (path : Path) (at : ℕ) where
+  there : entry_in w u name uid ≡ Some e
+  there = entry-named w u blocks s name p uid h f ∙ here
+
+  -- the tests behind the entry's, by the entry
+  abbrev tests : ℕ → Option Entry → Checks
+  tests upto o =
+      (NoPath, on_some o (λ e. is_none (large_at e.graph path)))
+      ∷ (Range, on_some o (λ e. nat_lt (length (large_bytes e.graph path)) upto)) ∷ []
+
+  -- ---- vread
+
+  vread-tests : (many : ℕ) → first_of (checks_now w (command.Vread u name uid path at many)) ≡ first_of (large_tests path (at + many) e.graph)
+  unfolding checks
+  vread-tests many = there-passes w u blocks s name p uid h f e here (drop 4 (checks_now w (command.Vread u name uid path at many))) ∙ ap (λ o. first_of (tests (at + many) o)) there
+
+  pub vread-refused : (many : ℕ) (r : Refusal) → first_of (large_tests path (at + many) e.graph) ≡ Some r → answer_now w (command.Vread u name uid path at many) ≡ (w, Reply.refused r)
+  vread-refused many r k = refused w (command.Vread u name uid path at many) r (vread-tests many ∙ k)
+
+  pub vread-done : (many : ℕ) → first_of (large_tests path (at + many) e.graph) ≡ None → w.cursors ≡ replicate 32 None
+      → answer_now w (command.Vread u name uid path at many) ≡ (w, Reply.hex (bytes_from at many (large_bytes e.graph path)))
+  unfolding changed fields
+  vread-done many k none = done w (command.Vread u name uid path at many) (vread-tests many ∙ k) none
+      ∙ ap {B = World × Reply} (λ o. (w, or_nil (λ e. Reply.hex (bytes_from at many (large_bytes e.graph path))) o)) there
+
+  -- ---- vwrite
+
+  vwrite-tests : (bytes : List ℕ) → first_of (checks_now w (command.Vwrite u name uid path at bytes)) ≡ first_of (large_tests path (at + length bytes) e.graph)
+  unfolding checks
+  vwrite-tests bytes = there-passes w u blocks s name p uid h f e here (drop 4 (checks_now w (command.Vwrite u name uid path at bytes))) ∙ ap (λ o. first_of (tests (at + length bytes) o)) there
+
+  -- no large binary is reached
+  pub vwrite-no-path : large_at e.graph path ≡ None → (bytes : List ℕ) → answer_now w (command.Vwrite u name uid path at bytes) ≡ (w, Reply.refused NoPath)
+  vwrite-no-path none bytes = refused w (command.Vwrite u name uid path at bytes) NoPath (vwrite-tests bytes ∙ first-true NoPath _ (drop 1 (large_tests path (at + length bytes) e.graph)) (ap is_none none))
+
+  -- the node of one is reached
+  module _ (node : ℕ) (is : large_at e.graph path ≡ Some node) (bytes : List ℕ) where
+    patch-checks : first_of (checks_now w (command.Vwrite u name uid path at bytes)) ≡ first_of (patch_tests node at (length bytes) e)
+    patch-checks = vwrite-tests bytes ∙ first-false NoPath _ (drop 1 (large_tests path (at + length bytes) e.graph)) (ap is_none is)
+        ∙ ap (λ o. first_of ((Range, nat_lt (length (bytes_of_large (option_and_then (slice_get e.graph.nodes) o))) (at + length bytes)) ∷ [])) is
+
+    pub vwrite-refused : (r : Refusal) → first_of (patch_tests node at (length bytes) e) ≡ Some r → answer_now w (command.Vwrite u name uid path at bytes) ≡ (w, Reply.refused r)
+    vwrite-refused r k = refused w (command.Vwrite u name uid path at bytes) r (patch-checks ∙ k)
+
+    vwrite-changed : changed w (command.Vwrite u name uid path at bytes) ≡ change_store w u (patched_within name uid node at bytes)
+    unfolding changed
+    vwrite-changed = store-alike w u blocks s (change_soup name (change_entry uid (λ e. record e { graph = patched path at bytes e.graph }))) (patched_within name uid node at bytes) h
+        (entry-alike name uid (λ e. record e { graph = patched path at bytes e.graph }) (λ e. record e { graph = patched_at (Some node) at bytes e.graph }) s p e f here
+        (ap {A = Option ℕ} {B = Entry} (λ o. record e { graph = patched_at o at bytes e.graph }) is))
+
+    pub vwrite-done : first_of (patch_tests node at (length bytes) e) ≡ None → w.cursors ≡ replicate 32 None
+        → answer_now w (command.Vwrite u name uid path at bytes) ≡ (change_store w u (patched_within name uid node at bytes), Reply.done)
+    unfolding fields
+    vwrite-done k none = done w (command.Vwrite u name uid path at bytes) (patch-checks ∙ k) (ap (λ (y : World). y.cursors) vwrite-changed ∙ none)
+        ∙ ap {B = World × Reply} (λ y. (y, Reply.done)) vwrite-changed

@@ -1,0 +1,35 @@
+-- What the world answers to the commands of lines. All of it is this project's own.
+use Rattle.std.specs.Prelude.{ℕ, nat_le, Bool, true, ◌&&◌, cond, List, [], ◌∷◌}
+use Rattle.std.specs.List.{list_all}
+use Rattle.newt_base.specs.Names.{same_name}
+use Rattle.newt_base.specs.Refusals.{Checks, first_of}
+use Rattle.newt_base.specs.declared.Refusal.TheVariants.{Command as NoCommand}
+use Rattle.newt_spec_graph.specs.Lists.{all_apart}
+use Rattle.newt_spec_store.specs.Keys.{Path}
+use Rattle.newt_spec_store.specs.Valid.{valid_path, valid_symbol}
+use Rattle.newt_spec_world.specs.declared.command.Command.{Command}
+use Rattle.newt_spec_world.specs.declared.command.Command.TheVariants as command
+use Rattle.newt_spec_world.specs.World.{World}
+use Rattle.newt_spec_world.specs.Reply.{Reply}
+use Rattle.newt_spec_world.specs.Refused.{checks}
+use Rattle.newt_spec_world.specs.Answer.{answered}
+use Rattle.newt_laws.specs.Worlds.{parts_fit}
+
+-- the path and the symbols of a tags declaration are such as a line gives
+abbrev pub tags_fit : Path → List (List ℕ) → Bool
+tags_fit path symbols = valid_path path && list_all valid_symbol symbols && all_apart same_name symbols
+
+-- A command as a line can give it: no line gives a signature above the largest, or parts or tags of another form.
+abbrev pub is_spoken : Command → Bool
+is_spoken (command.Format _ _ sig) = nat_le sig 536_870_911
+is_spoken (command.Index _ _ parts) = parts_fit parts
+is_spoken (command.SetTags _ _ path symbols) = tags_fit path symbols
+is_spoken _ = true
+
+-- The tests of a command, in the order in which they are tried. One that no line gives is refused as no command.
+abbrev pub checks_now : World → Command → Checks
+checks_now w c = cond (is_spoken c) (checks w c) ((NoCommand, true) ∷ [])
+
+-- the world after a command, and its reply
+unfoldable pub answer_now : World → Command → World × Reply
+answer_now w c = answered w c (first_of (checks_now w c))

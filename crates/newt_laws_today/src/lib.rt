@@ -1,9 +1,0 @@
-//! Laws of what the program answers while not all commands are built, each as the contract of a function without a body.
-//!
-//! It stands on the crates of definitions, their laws and the loop over scripts. What is answered today is what the world of all commands answers, or
-//! a refusal; so each world of a script is one of a run of that world, and its laws hold.
-#![tactic(auto)]
-
-mod scripts;
-
-pub use scripts::{aliases_stay_true, scripts_are_runs};

@@ -1,0 +1,32 @@
+//! The rows of the table of commands that speak of the bytes of a large binary.
+ghost use Rattle.std.specs.Prelude.{◌≡◌, ◌≢◌, codes};
+ghost use Rattle.newt_script.specs.Readers.{row_reading};
+
+use crate::fault::LineFault;
+use crate::words::Words;
+use newt_spec_world::Command;
+use std::alloc::Global;
+
+/// `vread U S UID PATH AT LEN`
+#[tactic(auto, using(crate::proofs::LargeRows::row_vread))]
+pub fn vread(alloc: Global, words: &mut Words) -> Result<Command, LineFault>
+    ensures { result ≢ Err LineFault.Memory → result ≡ row_reading (codes "vread") words.old }
+{
+    let (unit, name, uid) = words.entry(alloc)?;
+    let path = words.path(alloc)?;
+    let at = words.number()?;
+    let length = words.length()?;
+    words.end()?;
+    Ok(Command::Vread(unit, name, uid, path, at, length))
+}
+
+/// `vwrite U S UID PATH AT HEX`
+#[tactic(auto, using(crate::proofs::LargeRows::row_vwrite))]
+pub fn vwrite(alloc: Global, words: &mut Words) -> Result<Command, LineFault>
+    ensures { result ≢ Err LineFault.Memory → result ≡ row_reading (codes "vwrite") words.old }
+{
+    let (unit, name, uid) = words.entry(alloc)?;
+    let path = words.path(alloc)?;
+    let at = words.number()?;
+    Ok(Command::Vwrite(unit, name, uid, path, at, words.bytes(alloc)?))
+}

@@ -1,0 +1,170 @@
+use Rattle.std.proofs.Common.{◌≡◌, ◌+◌, ◌<◌, ◌≤◌, ℕ, List, length, Option, Some, None, IsSome, IfSome, OnOk, IsErrOf, Result, Ok, Err, IfErr, sym, ◌∙◌, ap, subst, refl, arith}
+use Rattle.std.specs.FinMap as map
+use Rattle.newt_host.specs.Moments.{Moment, image, overwritten, Leaves}
+use Rattle.newt_image.specs.Objects.{Extent, IsTableOf}
+use Rattle.newt_image.specs.Pages.{Pages, Change, pages}
+use Rattle.newt_pagebook.specs.Batch.{no_change}
+use Rattle.newt_objects.specs.Held.{held, Texts}
+use Rattle.newt_objects.specs.Changing.{HoldsObjects}
+use Rattle.newt_objects.proofs.Changing.{told_table}
+use Rattle.newt_vbo.specs.Patches.{WouldPatch}
+use Rattle.newt_shelf.specs.declared.fault.StoreFault.{StoreFault}
+use Rattle.newt_shelf.specs.declared.fault.StoreFault.TheVariants.{Refused, Stop}
+use Rattle.newt_shelf.specs.Faults.{RefusesOnly}
+use Rattle.newt_shelf.specs.Commit.{AreKept}
+use Rattle.newt_base.specs.declared.Refusal.{Refusal}
+use Rattle.newt_base.specs.declared.Refusal.TheVariants.{Full}
+use Rattle.newt_vbo.specs.declared.fault.RangeFault.{RangeFault}
+use Rattle.newt_vbo.specs.declared.fault.RangeFault.TheVariants.{Range}
+use Rattle.newt_shelf.specs.Patch.{IsBeforeOrPatched}
+use Rattle.newt_shelf.proofs.Patching.{patch-nothing, kept-read, would-be, would-some, text-length}
+use Rattle.newt_shelf.proofs.patch.patch_object.Goals as goal
+
+pub commit_patch-requires-clause-kept : goal.commit_patch-requires-clause-kept
+commit_patch-requires-clause-kept g c =
+    let o = g.H.Host.outside in
+    let same = c.plan_patch.ensures.same in
+    kept-read g.H.Host.told c.args.objects.now (g.P.PageBook.numbers c.args.book.now) (g.P.PageBook.numbers c.plan_patch.new.book) (g.P.PageBook.place c.args.book.now) (g.P.PageBook.place c.plan_patch.new.book)
+    (o c.args.host.now) (o c.plan_patch.new.host) same.0 same.1 c.plan_patch.ensures.moment c.requires.kept
+
+pub commit_patch-requires-clause-would : goal.commit_patch-requires-clause-would
+commit_patch-requires-clause-would g c = λ tells live is.
+    let o = g.H.Host.outside in
+    let u : ℕ = g.P.PageBook.place c.args.book.now in
+    let m : Moment = (o c.args.host.now).now in
+    let m' : Moment = (o c.plan_patch.new.host).now in
+    let e : image (g.P.PageBook.place c.plan_patch.new.book) m' ≡ image u m = ap (λ (v : ℕ). image v m') c.plan_patch.ensures.same.0 ∙ ap (λ (x : Moment). image u x) c.plan_patch.ensures.moment in
+    let of_image : pages (image u m) ≡ Some live = sym (ap pages e) ∙ is in
+    let patch : WouldPatch c.args.objects.now c.args.id c.args.at c.args.bytes.now no_change c.plan_patch.new.batch live =
+    subst (λ (b : Change). WouldPatch c.args.objects.now c.args.id c.args.at c.args.bytes.now b c.plan_patch.new.batch live) c.new-batch.ensures (c.in-Ok.ensures.patched tells live of_image) in
+    would-some c.args.objects.now c.args.id c.args.at c.args.bytes.now c.plan_patch.new.batch live c.requires.kept.none
+    (told_table g.H.Host.told (held c.args.objects.now) (g.P.PageBook.numbers c.args.book.now) u (o c.args.host.now) live c.requires.kept.are tells of_image) c.requires.there patch
+
+on-both : {T E : Type 0} (P Q : Type 0) (r : Result T E) → OnOk r P → Q → OnOk r (P × Q)
+on-both P Q (Ok v) p q = (p, q)
+on-both P Q (Err f) p q = tt
+
+with-place : {T E : Type 0} (P : ℕ → Type 0) (r : Result T E) (u v : ℕ) → u ≡ v → OnOk r (P u) → OnOk r (P v)
+with-place P r u v e p = subst (λ (x : ℕ). OnOk r (P x)) e p
+
+no-error : {v : Unit {0}} {f : RangeFault} → IsErrOf (Ok v) f → ⊥
+no-error is = absurd (cc)
+
+-- where no error is due, the range is inside
+inside : (Error : Type 0) (o : Option Extent) (x : Extent) (n : ℕ) → o ≡ Some x → IfSome o (λ x. x.length < n → Error) → (Error → ⊥) → n ≤ x.length
+inside Error o x n at past none = not-less n x.length (λ less. none (subst (λ (o : Option Extent). IfSome o (λ x. x.length < n → Error)) at past less)) where
+  not-less : (a b : ℕ) → (b < a → ⊥) → a ≤ b
+  not-less a b none = omega (arith, none)
+
+-- where it is, it is not
+outside : (o : Option Extent) (x : Extent) (n : ℕ) → o ≡ Some x → IfSome o (λ x. x.length < n) → x.length < n
+outside o x n at past = subst (λ (o : Option Extent). IfSome o (λ x. x.length < n)) at past
+
+the-extent : (o : Option Extent) → IsSome o → (x : Extent) × (o ≡ Some x)
+the-extent (Some x) some = (x, refl)
+the-extent None some = absurd (let isnt = some in cc)
+
+pub returns-in-Ok-clause-patched : goal.returns-in-Ok-clause-patched
+returns-in-Ok-clause-patched g c = λ tells before text holds at.
+    let o = g.H.Host.outside in
+    let u : ℕ = g.P.PageBook.place c.args.book.now in
+    let m : Moment = (o c.args.host.now).now in
+    let m' : Moment = (o c.plan_patch.new.host).now in
+    let e : image (g.P.PageBook.place c.plan_patch.new.book) m' ≡ image u m = ap (λ (v : ℕ). image v m') c.plan_patch.ensures.same.0 ∙ ap (λ (x : Moment). image u x) c.plan_patch.ensures.moment in
+    let live : Pages = holds.live in
+    let table : IsTableOf live (held c.args.objects.now) = told_table g.H.Host.told (held c.args.objects.now) (g.P.PageBook.numbers c.args.book.now) u (o c.args.host.now) live c.requires.kept.are tells holds.of_image in
+    let patch : WouldPatch c.args.objects.now c.args.id c.args.at c.args.bytes.now no_change c.plan_patch.new.batch live =
+    subst (λ (b : Change). WouldPatch c.args.objects.now c.args.id c.args.at c.args.bytes.now b c.plan_patch.new.batch live) c.new-batch.ensures (c.in-Ok.ensures.patched tells live holds.of_image) in
+    let would = would-be c.args.objects.now c.args.id c.args.at c.args.bytes.now c.plan_patch.new.batch live c.requires.kept.none table c.requires.there patch before text holds.are at in
+    let after : Texts = map.insert before c.args.id (overwritten text c.args.at c.args.bytes.now) in
+    let x = the-extent (held c.args.objects.now c.args.id) c.requires.there in
+    let size : length text ≡ x.0.length = text-length c.args.objects.now c.args.id (image u m) before text live x.0 holds.of_image table holds.are at x.1 in
+    let low : c.args.at + length c.args.bytes.now ≤ x.0.length = inside _ (held c.args.objects.now c.args.id) x.0 (c.args.at + length c.args.bytes.now) x.1 c.in-Ok.ensures.past (λ is. no-error is) in
+    on-both (HoldsObjects (image u (o c.commit_patch.new.host).now) after) (c.args.at + length c.args.bytes.now ≤ length text) c.commit_patch.result
+    (with-place (λ (v : ℕ). HoldsObjects (image v (o c.commit_patch.new.host).now) after) c.commit_patch.result (g.P.PageBook.place c.plan_patch.new.book) u c.plan_patch.ensures.same.0
+    (c.commit_patch.ensures.holds tells live after (ap pages e ∙ holds.of_image) would))
+    (omega (arith, size, low))
+
+only-full : {T : Type 0} (r : Result T StoreFault) (x : Refusal) → IfErr r (RefusesOnly Full) → IsErrOf r (Refused x) → IsErrOf r (Refused Full)
+only-full (Ok v) x only is = absurd (cc)
+only-full (Err (Refused y)) x only is = ap (λ (z : Refusal). Err (Refused z)) only
+only-full (Err (Stop stop)) x only is = absurd (cc)
+
+pub returns-in-Ok-clause-refused : goal.returns-in-Ok-clause-refused
+returns-in-Ok-clause-refused g c = λ r is.
+    let o = g.H.Host.outside in
+    let w = c.commit_patch.ensures.refused (only-full c.commit_patch.result r c.commit_patch.ensures.only is) in (
+      w.0,
+      subst (λ (v : ℕ). AreKept g.H.Host.told c.args.objects.now (g.P.PageBook.numbers c.commit_patch.new.book) v (o c.commit_patch.new.host)) c.plan_patch.ensures.same.0 w.1,
+    )
+
+pub returns-in-Ok-clause-any_moment : goal.returns-in-Ok-clause-any_moment
+returns-in-Ok-clause-any_moment g c = λ tells before text holds at.
+    let o = g.H.Host.outside in
+    let u : ℕ = g.P.PageBook.place c.args.book.now in
+    let u' : ℕ = g.P.PageBook.place c.plan_patch.new.book in
+    let m : Moment = (o c.args.host.now).now in
+    let m' : Moment = (o c.plan_patch.new.host).now in
+    let n : Moment = (o c.commit_patch.new.host).now in
+    let e : image u' m' ≡ image u m = ap (λ (v : ℕ). image v m') c.plan_patch.ensures.same.0 ∙ ap (λ (x : Moment). image u x) c.plan_patch.ensures.moment in
+    let live : Pages = holds.live in
+    let table : IsTableOf live (held c.args.objects.now) = told_table g.H.Host.told (held c.args.objects.now) (g.P.PageBook.numbers c.args.book.now) u (o c.args.host.now) live c.requires.kept.are tells holds.of_image in
+    let patch : WouldPatch c.args.objects.now c.args.id c.args.at c.args.bytes.now no_change c.plan_patch.new.batch live =
+    subst (λ (b : Change). WouldPatch c.args.objects.now c.args.id c.args.at c.args.bytes.now b c.plan_patch.new.batch live) c.new-batch.ensures (c.in-Ok.ensures.patched tells live holds.of_image) in
+    let would = would-be c.args.objects.now c.args.id c.args.at c.args.bytes.now c.plan_patch.new.batch live c.requires.kept.none table c.requires.there patch before text holds.are at in
+    let after : Texts = map.insert before c.args.id (overwritten text c.args.at c.args.bytes.now) in
+    subst (λ (x : Moment). Leaves u (IsBeforeOrPatched (image u x) before after) x n) c.plan_patch.ensures.moment
+    (subst (λ (v : ℕ). Leaves v (IsBeforeOrPatched (image v m') before after) m' n) c.plan_patch.ensures.same.0
+    (c.commit_patch.ensures.any_moment tells live before after (ap pages e ∙ holds.of_image) holds.are would))
+
+the-range : {r : Result (Unit {0}) RangeFault} {fault : RangeFault} → r ≡ Err fault → fault ≡ Range → r ≡ Err Range
+the-range is range = is ∙ ap (λ (f : RangeFault). let r : Result (Unit {0}) RangeFault = Err f in r) range
+
+pub returns-in-Err-Range-clause-range : goal.returns-in-Err-Range-clause-range
+returns-in-Err-Range-clause-range g c = λ is tells before text holds at.
+    let o = g.H.Host.outside in
+    let u : ℕ = g.P.PageBook.place c.args.book.now in
+    let m : Moment = (o c.args.host.now).now in
+    let live : Pages = holds.live in
+    let table : IsTableOf live (held c.args.objects.now) = told_table g.H.Host.told (held c.args.objects.now) (g.P.PageBook.numbers c.args.book.now) u (o c.args.host.now) live c.requires.kept.are tells holds.of_image in
+    let x = the-extent (held c.args.objects.now c.args.id) c.requires.there in
+    let size : length text ≡ x.0.length = text-length c.args.objects.now c.args.id (image u m) before text live x.0 holds.of_image table holds.are at x.1 in
+    let past : x.0.length < c.args.at + length c.args.bytes.now =
+    outside (held c.args.objects.now c.args.id) x.0 (c.args.at + length c.args.bytes.now) x.1 (c.plan_patch.ensures.range (the-range c.in-Err-Range.is c.in-Err-Range.field-0-is)) in
+    omega (arith, size, past)
+
+pub returns-in-Err-Range-clause-refused : goal.returns-in-Err-Range-clause-refused
+returns-in-Err-Range-clause-refused g c = λ r is.
+    let o = g.H.Host.outside in
+    let same = c.plan_patch.ensures.same in (
+      c.plan_patch.ensures.stands,
+      kept-read g.H.Host.told c.args.objects.now (g.P.PageBook.numbers c.args.book.now) (g.P.PageBook.numbers c.plan_patch.new.book) (g.P.PageBook.place c.args.book.now) (g.P.PageBook.place c.args.book.now) (o c.args.host.now)
+          (o c.plan_patch.new.host) refl same.1 c.plan_patch.ensures.moment c.requires.kept,
+    )
+
+pub returns-in-Err-Range-clause-any_moment : goal.returns-in-Err-Range-clause-any_moment
+returns-in-Err-Range-clause-any_moment g c = λ tells before text holds at.
+    let o = g.H.Host.outside in
+    let u : ℕ = g.P.PageBook.place c.args.book.now in
+    let m : Moment = (o c.args.host.now).now in
+    let after : Texts = map.insert before c.args.id (overwritten text c.args.at c.args.bytes.now) in
+    subst (λ (x : Moment). Leaves u (IsBeforeOrPatched (image u m) before after) m x) (sym c.plan_patch.ensures.moment)
+    (patch-nothing holds.live before after u m holds.of_image holds.are (g.met.P.PageBook.tells g.H.Host.told c.args.book.now (o c.args.host.now) c.requires.stands tells).1)
+
+pub returns-in-Err-Memory-clause-any_moment : goal.returns-in-Err-Memory-clause-any_moment
+returns-in-Err-Memory-clause-any_moment g c = λ tells before text holds at.
+    let o = g.H.Host.outside in
+    let u : ℕ = g.P.PageBook.place c.args.book.now in
+    let m : Moment = (o c.args.host.now).now in
+    let after : Texts = map.insert before c.args.id (overwritten text c.args.at c.args.bytes.now) in
+    subst (λ (x : Moment). Leaves u (IsBeforeOrPatched (image u m) before after) m x) (sym c.plan_patch.ensures.moment)
+    (patch-nothing holds.live before after u m holds.of_image holds.are (g.met.P.PageBook.tells g.H.Host.told c.args.book.now (o c.args.host.now) c.requires.stands tells).1)
+
+pub returns-clause-any_moment : goal.returns-clause-any_moment
+returns-clause-any_moment g c = λ tells before text holds at.
+    let o = g.H.Host.outside in
+    let u : ℕ = g.P.PageBook.place c.args.book.now in
+    let m : Moment = (o c.args.host.now).now in
+    let after : Texts = map.insert before c.args.id (overwritten text c.args.at c.args.bytes.now) in
+    subst (λ (x : Moment). Leaves u (IsBeforeOrPatched (image u m) before after) m x) (sym c.plan_patch.ensures.moment)
+    (patch-nothing holds.live before after u m holds.of_image holds.are (g.met.P.PageBook.tells g.H.Host.told c.args.book.now (o c.args.host.now) c.requires.stands tells).1)

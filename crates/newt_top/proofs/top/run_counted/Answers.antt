@@ -1,0 +1,27 @@
+use Rattle.std.proofs.Common.{map, Global, string_bytes, arith}
+use Rattle.std.proofs.lemmas.List.{length-map}
+use Rattle.newt_top.proofs.Crashing.{is_left_counted}
+use Rattle.newt_top.proofs.Halting.{halted_counting, cause_counting}
+use Rattle.newt_top.proofs.Naming.{few_names, distinct_names}
+use Rattle.newt_top.proofs.top.run_counted.Goals as goal
+
+pub tally_named-requires-clause-few : goal.tally_named-requires-clause-few
+tally_named-requires-clause-few g c =
+    let few = few_names (map (string_bytes {Z = Global}) c.args.names.now) c.requires.names in
+    omega (arith, few, length-map c.args.names.now (string_bytes {Z = Global}))
+
+pub tally_named-requires-clause-distinct : goal.tally_named-requires-clause-distinct
+tally_named-requires-clause-distinct g c = distinct_names (map (string_bytes {Z = Global}) c.args.names.now) c.requires.names
+
+pub returns-in-Ok-clause-leaves : goal.returns-in-Ok-clause-leaves
+returns-in-Ok-clause-leaves g c = λ told unit t left out at some. is_left_counted _ _ _ _ _ unit left (c.tally_named.ensures.crash told unit t left out at some)
+
+pub returns-in-Err-clause-leaves : goal.returns-in-Err-clause-leaves
+returns-in-Err-clause-leaves g c = λ told unit t left out at some. is_left_counted _ _ _ _ _ unit left (c.tally_named.ensures.crash told unit t left out at some)
+
+pub returns-in-Err-clause-ran : goal.returns-in-Err-clause-ran
+returns-in-Err-clause-ran g c = λ told.
+    rw c.halted.ensures (halted_counting c.in-Err.halt c.args.script.now (map (string_bytes {Z = Global}) c.args.names.now) _ _ (c.in-Err.ensures.halted told))
+
+pub returns-in-Err-clause-cause : goal.returns-in-Err-clause-cause
+returns-in-Err-clause-cause g c = rw c.halted.ensures (cause_counting c.in-Err.halt _ _ c.in-Err.ensures.cause)
