@@ -9,6 +9,7 @@ use Rattle.std.proofs.lemmas.Simd.{map-map}
 use Rattle.newt_graph.specs.declared.node.Node.{Node}
 use Rattle.newt_graph.specs.declared.node.Node.TheVariants.{Symbol, Str, Binary, Large, Array, Frame}
 use Rattle.newt_graph.specs.Graph.{RawGraph}
+use Rattle.newt_host.specs.Moments.{Moment, image}
 use Rattle.newt_host.specs.Outside.{Outside, Touches, Spends}
 use Rattle.newt_host.proofs.Outside.{Touches-refl, Touches-append, Spends-append, Spends-widen}
 use Rattle.newt_image.specs.Objects.{Objects, pages_for}
@@ -17,7 +18,8 @@ use Rattle.newt_nsof.specs.Written.{nsof}
 use Rattle.newt_pagebook.specs.Book.{Numbers}
 use Rattle.newt_pagebook.proofs.Tests.{some_inj}
 use Rattle.newt_objects.specs.Extents.{numbers_of}
-use Rattle.newt_objects.specs.Held.{Held}
+use Rattle.newt_objects.specs.Held.{Held, Texts}
+use Rattle.newt_objects.specs.Changing.{HoldsObjects}
 use Rattle.newt_spec_graph.specs.Graph.{every}
 use Rattle.newt_spec_graph.specs.Lists.{Each}
 use Rattle.newt_spec_graph.proofs.Lists.{each-more}
@@ -122,63 +124,94 @@ pub record WentOn (texts : Objects) (left : List LargeAt) (bs done : List (List 
 pub goes-from : (texts : Objects) (rows : List LargeAt) (bs : List (List ℕ)) (unit : ℕ) (outside : Outside) → HaveBytes texts rows bs → Spends unit 0 0 outside outside → WentOn texts rows bs [] unit outside outside
 goes-from texts rows bs unit outside has none = record { rest = bs; has = has; all = refl; spent = none }
 
--- the first of the rows that are left has bytes
-record NextHas (texts : Objects) (left : List LargeAt) (row : LargeAt) (rest : List (List ℕ)) : Type 0 where
-  pub bytes : List ℕ
-  pub others : List (List ℕ)
-  pub rest_is : rest ≡ bytes ∷ others
-  pub there : map.get texts row.object ≡ Some bytes
-  pub has : HaveBytes texts (take (length left - 1) (drop 1 left)) others
+-- the first of some lists
+abbrev pub head-of : List (List ℕ) → List ℕ
+head-of [] = []
+head-of (b ∷ bs) = b
 
-next-has : (texts : Objects) (left : List LargeAt) (row : LargeAt) (rest : List (List ℕ)) → HaveBytes texts left rest → 1 ≤ length left → row ≡ get_or left 0 row → NextHas texts left row rest
-next-has texts [] row rest has some is = absurd (omega (arith, some))
-next-has texts (l ∷ left) row [] has some is = absurd cc
-next-has texts (l ∷ left) row (b ∷ rest) has some is =
-    let heads : map.get texts l.object ≡ Some b = cc in
+abbrev others-of : List (List ℕ) → List (List ℕ)
+others-of [] = []
+others-of (b ∷ bs) = bs
+
+has-head : (texts : Objects) (left : List LargeAt) (rest : List (List ℕ)) (d : LargeAt) → HaveBytes texts left rest → 1 ≤ length left → map.get texts (get_or left 0 d).object ≡ Some (head-of rest)
+has-head texts [] rest d has some = absurd (omega (arith, some))
+has-head texts (l ∷ left) [] d has some = absurd cc
+has-head texts (l ∷ left) (b ∷ rest) d has some = cc
+
+has-others : (texts : Objects) (left : List LargeAt) (rest : List (List ℕ)) → HaveBytes texts left rest → 1 ≤ length left → HaveBytes texts (take (length left - 1) (drop 1 left)) (others-of rest)
+has-others texts [] rest has some = absurd (omega (arith, some))
+has-others texts (l ∷ left) [] has some = absurd cc
+has-others texts (l ∷ left) (b ∷ rest) has some =
     let tails : map_list (λ (l : LargeAt). map.get texts l.object) left ≡ map_list (λ (b : List ℕ). Some b) rest = cc in
-    record {
-      bytes = b;
-      others = rest;
-      rest_is = refl;
-      there = ap (λ (l : LargeAt). map.get texts l.object) is ∙ heads;
-      has = ap (map_list (λ (l : LargeAt). map.get texts l.object)) (rest-is 1 (l ∷ left)) ∙ tails;
-    }
+    ap (map_list (λ (l : LargeAt). map.get texts l.object)) (rest-is 1 (l ∷ left)) ∙ tails
+
+has-both : (texts : Objects) (left : List LargeAt) (rest : List (List ℕ)) → HaveBytes texts left rest → 1 ≤ length left → rest ≡ head-of rest ∷ others-of rest
+has-both texts [] rest has some = absurd (omega (arith, some))
+has-both texts (l ∷ left) [] has some = absurd cc
+has-both texts (l ∷ left) (b ∷ rest) has some = refl
 
 spent-both : (unit m n total : ℕ) (old mid new : Outside) → m + n ≤ total → Spends unit 0 (512 * m) old mid → Spends unit 0 (512 * n) mid new → Spends unit 0 (512 * total) old new
 spent-both unit m n total old mid new most one two = Spends-widen (0 + 0) (512 * m + 512 * n) 0 (512 * total) (omega arith) (omega (arith, most)) (Spends-append 0 (512 * m) 0 (512 * n) one two)
 
-module _ (texts : Objects) (left : List LargeAt) (bs done : List (List ℕ)) (unit : ℕ) (old mid new : Outside) (row : LargeAt) (w : WentOn texts left bs done unit old mid) (some : 1 ≤ length left) (is : row ≡ get_or left 0 row) where
-  next : NextHas texts left row w.rest
-  next = next-has texts left row w.rest w.has some is
+module _ (texts : Objects) (left : List LargeAt) (bs done : List (List ℕ)) (unit : ℕ) (old mid : Outside) (w : WentOn texts left bs done unit old mid) (some : 1 ≤ length left) where
+  pub next-there : (d : LargeAt) → map.get texts (get_or left 0 d).object ≡ Some (head-of w.rest)
+  next-there d = has-head texts left w.rest d w.has some
 
-  pub next-bytes : (b : List ℕ) × (map.get texts row.object ≡ Some b)
-  next-bytes = (next.bytes, next.there)
-
-  pub goes-on : (got : List ℕ) (more : List (List ℕ)) → got ≡ next-bytes.0 → more ≡ done ++ got ∷ [] → Spends unit 0 (512 * pages_of next-bytes.0) mid new → WentOn texts (take (length left - 1) (drop 1 left)) bs more unit old new
-  unfolding next-bytes
-  goes-on got more same push spends = record {
-    rest = next.others;
-    has = next.has;
-    all = (λ i. push i ++ next.others) ∙ append_assoc done (got ∷ []) next.others ∙ (λ i. done ++ (same i ∷ next.others)) ∙ ap (λ bs. done ++ bs) (sym next.rest_is) ∙ w.all;
-    spent = spent-both unit (sum_by pages_of done) (pages_of next.bytes) (sum_by pages_of more) old mid new sizes w.spent spends;
+  pub goes-on : (new : Outside) (got : List ℕ) (more : List (List ℕ)) → got ≡ head-of w.rest → more ≡ done ++ got ∷ [] → Spends unit 0 (512 * pages_of (head-of w.rest)) mid new
+      → WentOn texts (take (length left - 1) (drop 1 left)) bs more unit old new
+  goes-on new got more same push spends = record {
+    rest = others-of w.rest;
+    has = has-others texts left w.rest w.has some;
+    all = (λ i. push i ++ others-of w.rest) ∙ append_assoc done (got ∷ []) (others-of w.rest) ∙ (λ i. done ++ (same i ∷ others-of w.rest)) ∙ ap (λ bs. done ++ bs) (sym (has-both texts left w.rest w.has some)) ∙ w.all;
+    spent = spent-both unit (sum_by pages_of done) (pages_of (head-of w.rest)) (sum_by pages_of more) old mid new sizes w.spent spends;
   }
     where
-      sizes : sum_by pages_of done + pages_of next.bytes ≤ sum_by pages_of more
+      sizes : sum_by pages_of done + pages_of (head-of w.rest) ≤ sum_by pages_of more
       sizes =
           let one = ap (sum_by pages_of) push ∙ sum_by-append pages_of done (got ∷ []) in
           let last = sum_by-cons pages_of got [] in
           let size = ap pages_of same in
           omega (arith, one, last, size)
 
-  pub stops-on : Spends unit 0 (512 * pages_of next-bytes.0) mid new → Spends unit 0 (512 * sum_by pages_of bs) old new
-  unfolding next-bytes
-  stops-on spends = spent-both unit (sum_by pages_of done) (pages_of next.bytes) (sum_by pages_of bs) old mid new sizes w.spent spends
+  pub stops-on : (new : Outside) → Spends unit 0 (512 * pages_of (head-of w.rest)) mid new → Spends unit 0 (512 * sum_by pages_of bs) old new
+  stops-on new spends = spent-both unit (sum_by pages_of done) (pages_of (head-of w.rest)) (sum_by pages_of bs) old mid new sizes w.spent spends
     where
-      sizes : sum_by pages_of done + pages_of next.bytes ≤ sum_by pages_of bs
+      sizes : sum_by pages_of done + pages_of (head-of w.rest) ≤ sum_by pages_of bs
       sizes =
           let one = ap (sum_by pages_of) (sym w.all) ∙ sum_by-append pages_of done w.rest in
-          let two = ap (sum_by pages_of) next.rest_is ∙ sum_by-cons pages_of next.bytes next.others in
+          let two = ap (sum_by pages_of) (has-both texts left w.rest w.has some) ∙ sum_by-cons pages_of (head-of w.rest) (others-of w.rest) in
           omega (arith, one, two)
+
+-- the lengths that were read, and those of the rows that are left
+pub lengths-on : {V : Type 0} (size : V → ℕ) (done next : List V) (v : V) (left : List LargeAt) (d : LargeAt) (all : List ℕ) → 1 ≤ length left → size v ≡ (get_or left 0 d).length → next ≡ done ++ v ∷ []
+    → map_list size done ++ map_list (λ (l : LargeAt). l.length) left ≡ all → map_list size next ++ map_list (λ (l : LargeAt). l.length) (take (length left - 1) (drop 1 left)) ≡ all
+lengths-on size done next v [] d all some same push so_far = absurd (omega (arith, some))
+lengths-on size done next v (l ∷ left) d all some same push so_far =
+    (λ i. map_list size (push i) ++ map_list (λ (l : LargeAt). l.length) (rest-is 1 (l ∷ left) i))
+    ∙ ap (λ ns. ns ++ map_list (λ (l : LargeAt). l.length) left) (map-append size done (v ∷ []))
+    ∙ append_assoc (map_list size done) (size v ∷ []) (map_list (λ (l : LargeAt). l.length) left)
+    ∙ (λ i. map_list size done ++ (same i ∷ map_list (λ (l : LargeAt). l.length) left)) ∙ so_far
+
+-- the image still holds these objects
+pub holds-on : (texts : Texts) (unit unit' : ℕ) (old new : Moment) → unit' ≡ unit → new ≡ old → HoldsObjects (image unit old) texts → HoldsObjects (image unit' new) texts
+holds-on texts unit unit' old new place now = subst (λ (img : List ℕ). HoldsObjects img texts) (λ i. image (sym place i) (sym now i))
+
+pub spends-at : (unit unit' fetches : ℕ) (old new : Outside) → unit' ≡ unit → Spends unit' 0 fetches old new → Spends unit 0 fetches old new
+spends-at unit unit' fetches old new place = subst (λ (u : ℕ). Spends u 0 fetches old new) place
+
+-- the record and the large binaries of an entry cost its pages
+module _ (sig : ℕ) (e : Entry) (ids : List ℕ) (each : length (larges e.graph) ≡ length ids) where
+  pub whole-spent : (unit unit' : ℕ) (old mid new : Outside) → unit' ≡ unit → Spends unit 0 (512 * pages_for (length (entry_bytes sig e ids))) old mid → Spends unit' 0 (512 * sum_by pages_of (its_bytes e ids)) mid new
+      → Spends unit 0 (512 * entry_pages e) old new
+  whole-spent unit unit' old mid new place one two =
+      let pages = whole-pages sig e ids each in
+      spent-both unit (pages_for (length (entry_bytes sig e ids))) (sum_by pages_of (its_bytes e ids)) (entry_pages e) old mid new (omega (arith, pages)) one
+      (spends-at unit unit' (512 * sum_by pages_of (its_bytes e ids)) mid new place two)
+
+  pub row-spent : (unit : ℕ) (old new : Outside) → Spends unit 0 (512 * pages_for (length (entry_bytes sig e ids))) old new → Spends unit 0 (512 * entry_pages e) old new
+  row-spent unit old new one =
+      let pages = whole-pages sig e ids each in
+      Spends-widen 0 (512 * pages_for (length (entry_bytes sig e ids))) 0 (512 * entry_pages e) (omega arith) (omega (arith, pages)) one
 
 -- where all rows are done
 pub went-all : (texts : Objects) (left : List LargeAt) (bs done : List (List ℕ)) (unit : ℕ) (old new : Outside) → WentOn texts left bs done unit old new → length left < 1 → done ≡ bs

@@ -74,7 +74,8 @@ fn read_large<P: PageBook, H: Host>(
     if length != large.length {
         return Err(Stop::Memory);
     }
-    objects.read(host, book, large.object)
+    let bytes = objects.read(host, book, large.object)?;
+    Ok(bytes)
 }
 
 /// Reads the bytes of large binaries, one after the other.
