@@ -81,6 +81,7 @@ pub fn patch_object<P: PageBook, H: Host>(
     ensures place { P.place book.new ≡ P.place book.old }
     ensures patched { IsTrue H.told → (before : Texts) (text : List ℕ) → HoldsObjects (image (P.place book.old) (H.outside host.old).now) before → map.get before id ≡ Some text → OnOk result (HoldsObjects (image (P.place book.old) (H.outside host.new).now) (map.insert before id (overwritten text at bytes.now)) × (at + length bytes.now ≤ length text)) }
     ensures range { IsErrOf result (StoreFault.Refused Refusal.Range) → IsTrue H.told → (before : Texts) (text : List ℕ) → HoldsObjects (image (P.place book.old) (H.outside host.old).now) before → map.get before id ≡ Some text → length text < at + length bytes.now }
+    ensures past { IsTrue H.told → (before : Texts) (text : List ℕ) → HoldsObjects (image (P.place book.old) (H.outside host.old).now) before → map.get before id ≡ Some text → length text < at + length bytes.now → IsErrOf result (StoreFault.Refused Refusal.Range) }
     ensures full { IsErrOf result (StoreFault.Refused Refusal.Full) → cap ((H.outside host.old).blocks (P.place book.old)) < set.len (P.numbers book.old) }
     ensures only { IfErr result IsRangeOrFull }
     ensures refused { (r : RefusedFor) → IsErrOf result (StoreFault.Refused r) → P.stands H.told book.new (H.outside host.new) × AreKept H.told objects.now (P.numbers book.new) (P.place book.old) (H.outside host.new) }

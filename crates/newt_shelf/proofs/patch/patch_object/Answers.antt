@@ -15,7 +15,7 @@ use Rattle.newt_shelf.specs.Commit.{AreKept}
 use Rattle.newt_base.specs.declared.Refusal.{Refusal}
 use Rattle.newt_base.specs.declared.Refusal.TheVariants.{Full}
 use Rattle.newt_vbo.specs.declared.fault.RangeFault.{RangeFault}
-use Rattle.newt_vbo.specs.declared.fault.RangeFault.TheVariants.{Range}
+use Rattle.newt_vbo.specs.declared.fault.RangeFault.TheVariants.{Range, Memory, Device}
 use Rattle.newt_shelf.specs.Patch.{IsBeforeOrPatched}
 use Rattle.newt_shelf.proofs.Patching.{patch-nothing, kept-read, would-be, would-some, text-length}
 use Rattle.newt_shelf.proofs.patch.patch_object.Goals as goal
@@ -168,3 +168,49 @@ returns-clause-any_moment g c = λ tells before text holds at.
     let after : Texts = map.insert before c.args.id (overwritten text c.args.at c.args.bytes.now) in
     subst (λ (x : Moment). Leaves u (IsBeforeOrPatched (image u m) before after) m x) (sym c.plan_patch.ensures.moment)
     (patch-nothing holds.live before after u m holds.of_image holds.are (g.met.P.PageBook.tells g.H.Host.told c.args.book.now (o c.args.host.now) c.requires.stands tells).1)
+
+-- past the end the range is refused
+past-error : (Error : Type 0) (o : Option Extent) (x : Extent) (n : ℕ) → o ≡ Some x → IfSome o (λ x. x.length < n → Error) → x.length < n → Error
+past-error Error o x n at past less = subst (λ (o : Option Extent). IfSome o (λ x. x.length < n → Error)) at past less
+
+pub returns-in-Ok-clause-past : goal.returns-in-Ok-clause-past
+returns-in-Ok-clause-past g c = λ tells before text holds at more.
+    let o = g.H.Host.outside in
+    let u : ℕ = g.P.PageBook.place c.args.book.now in
+    let m : Moment = (o c.args.host.now).now in
+    let live : Pages = holds.live in
+    let table : IsTableOf live (held c.args.objects.now) = told_table g.H.Host.told (held c.args.objects.now) (g.P.PageBook.numbers c.args.book.now) u (o c.args.host.now) live c.requires.kept.are tells holds.of_image in
+    let x = the-extent (held c.args.objects.now c.args.id) c.requires.there in
+    let size : length text ≡ x.0.length = text-length c.args.objects.now c.args.id (image u m) before text live x.0 holds.of_image table holds.are at x.1 in
+    let less : x.0.length < c.args.at + length c.args.bytes.now = omega (arith, size, more) in
+    absurd (no-error (past-error _ (held c.args.objects.now c.args.id) x.0 (c.args.at + length c.args.bytes.now) x.1 c.in-Ok.ensures.past less))
+
+no-memory : {r : Result (Unit {0}) RangeFault} {fault : RangeFault} → r ≡ Err fault → fault ≡ Memory → IsErrOf r Range → ⊥
+no-memory is fault range = absurd (cc)
+
+no-device : {r : Result (Unit {0}) RangeFault} {fault : RangeFault} → r ≡ Err fault → fault ≡ Device → IsErrOf r Range → ⊥
+no-device is fault range = absurd (cc)
+
+pub returns-in-Err-Memory-clause-past : goal.returns-in-Err-Memory-clause-past
+returns-in-Err-Memory-clause-past g c = λ tells before text holds at more.
+    let o = g.H.Host.outside in
+    let u : ℕ = g.P.PageBook.place c.args.book.now in
+    let m : Moment = (o c.args.host.now).now in
+    let live : Pages = holds.live in
+    let table : IsTableOf live (held c.args.objects.now) = told_table g.H.Host.told (held c.args.objects.now) (g.P.PageBook.numbers c.args.book.now) u (o c.args.host.now) live c.requires.kept.are tells holds.of_image in
+    let x = the-extent (held c.args.objects.now c.args.id) c.requires.there in
+    let size : length text ≡ x.0.length = text-length c.args.objects.now c.args.id (image u m) before text live x.0 holds.of_image table holds.are at x.1 in
+    let less : x.0.length < c.args.at + length c.args.bytes.now = omega (arith, size, more) in
+    absurd (no-memory c.in-Err-Memory.is c.in-Err-Memory.field-0-is (past-error _ (held c.args.objects.now c.args.id) x.0 (c.args.at + length c.args.bytes.now) x.1 c.plan_patch.ensures.past less))
+
+pub returns-clause-past : goal.returns-clause-past
+returns-clause-past g c = λ tells before text holds at more.
+    let o = g.H.Host.outside in
+    let u : ℕ = g.P.PageBook.place c.args.book.now in
+    let m : Moment = (o c.args.host.now).now in
+    let live : Pages = holds.live in
+    let table : IsTableOf live (held c.args.objects.now) = told_table g.H.Host.told (held c.args.objects.now) (g.P.PageBook.numbers c.args.book.now) u (o c.args.host.now) live c.requires.kept.are tells holds.of_image in
+    let x = the-extent (held c.args.objects.now c.args.id) c.requires.there in
+    let size : length text ≡ x.0.length = text-length c.args.objects.now c.args.id (image u m) before text live x.0 holds.of_image table holds.are at x.1 in
+    let less : x.0.length < c.args.at + length c.args.bytes.now = omega (arith, size, more) in
+    absurd (no-device c.in-Err-Device.is c.in-Err-Device.field-0-is (past-error _ (held c.args.objects.now c.args.id) x.0 (c.args.at + length c.args.bytes.now) x.1 c.plan_patch.ensures.past less))
