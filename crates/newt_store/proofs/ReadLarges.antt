@@ -1,23 +1,19 @@
 -- An entry that lies in objects is read from its record and its large binaries.
-use Rattle.std.proofs.Common.{arith, ◌≡◌, refl, ap, sym, ◌∙◌, subst, ℕ, zero, suc, ◌+◌, ◌-◌, ◌*◌, ◌<◌, ◌≤◌, Bool, IsTrue, List, [], ◌∷◌, ◌++◌, length, take, drop, get_or, zip, sum_by, map as map_list, Option, Some, None, append_assoc}
+use Rattle.std.proofs.Common.{arith, ◌≡◌, refl, ap, sym, ◌∙◌, subst, ℕ, suc, ◌+◌, ◌-◌, ◌*◌, ◌<◌, ◌≤◌, Bool, List, [], ◌∷◌, ◌++◌, length, take, drop, get_or, zip, sum_by, map as map_list, Some, append_assoc}
 use Rattle.std.specs.FinMap as map
 use Rattle.std.specs.List.{flat_map, sum}
-use Rattle.std.specs.Option.{option_map, is_some, IfSome, IsSome}
 use Rattle.std.proofs.lemmas.List.{append-nil, map-append}
 use Rattle.std.proofs.lemmas.List.Sums.{sum_by-cons, sum_by-append}
 use Rattle.std.proofs.lemmas.Simd.{map-map}
 use Rattle.newt_graph.specs.declared.node.Node.{Node}
-use Rattle.newt_graph.specs.declared.node.Node.TheVariants.{Symbol, Str, Binary, Large, Array, Frame}
-use Rattle.newt_graph.specs.Graph.{RawGraph}
+use Rattle.newt_graph.specs.declared.node.Node.TheVariants.{Large}
 use Rattle.newt_host.specs.Moments.{Moment, image}
 use Rattle.newt_host.specs.Outside.{Outside, Touches, Spends}
 use Rattle.newt_host.proofs.Outside.{Touches-refl, Touches-append, Spends-append, Spends-widen}
 use Rattle.newt_image.specs.Objects.{Objects, pages_for}
 use Rattle.newt_nsof.specs.Lengths.{skeleton}
-use Rattle.newt_nsof.specs.Written.{nsof}
 use Rattle.newt_pagebook.specs.Book.{Numbers}
 use Rattle.newt_pagebook.proofs.Tests.{some_inj}
-use Rattle.newt_objects.specs.Extents.{numbers_of}
 use Rattle.newt_objects.specs.Held.{Held, Texts}
 use Rattle.newt_objects.specs.Changing.{HoldsObjects}
 use Rattle.newt_spec_graph.specs.Graph.{every}
@@ -28,7 +24,7 @@ use Rattle.newt_spec_store.specs.Image.{entry_bytes, larges}
 use Rattle.newt_spec_store.specs.Laid.{Named, row_of, row_of_large, IsThere}
 use Rattle.newt_spec_store.specs.Lies.{HasLarge, record_read}
 use Rattle.newt_spec_store.specs.Store.{Entry}
-use Rattle.newt_spec_store.specs.StoreOf.{LargeRow, EntryRow as PlainRow, entry_row, large_object}
+use Rattle.newt_spec_store.specs.StoreOf.{LargeRow, EntryRow as PlainRow, large_object}
 use Rattle.newt_laws_images.proofs.Alone.{alone, among}
 use Rattle.newt_laws_images.proofs.Finite.{object-get}
 use Rattle.newt_laws_images.proofs.Records.{larges_from, record-back, every-back, entry-length}

@@ -1,4 +1,4 @@
-use Rattle.std.proofs.Common.{ℕ, sym}
+use Rattle.std.proofs.Common.{sym}
 use Rattle.newt_store.proofs.Rows.{read-is, read-costs}
 use Rattle.newt_store.proofs.Writing.{kept-over}
 use Rattle.newt_store.proofs.read.read_large.Goals as goal

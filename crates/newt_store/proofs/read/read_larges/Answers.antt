@@ -1,7 +1,7 @@
 use Rattle.std.proofs.Common.{◌≡◌, ◌++◌, ◌∷◌, [], rules, ℕ, List, ap, ◌∙◌, length, map as map_list, Vec, Global}
 use Rattle.std.proofs.lemmas.List.{map-append}
 use Rattle.newt_entries.specs.declared.row.LargeAt.{LargeAt}
-use Rattle.newt_store.proofs.ReadLarges.{reads-more, head-of, pages_of, next-there, goes-on, stops-on, went-all, went-some, lengths-on, holds-on, spends-at}
+use Rattle.newt_store.proofs.ReadLarges.{reads-more, head-of, next-there, goes-on, stops-on, went-all, went-some, lengths-on, holds-on, spends-at}
 use Rattle.newt_store.proofs.read.read_larges.Goals as goal
 
 abbrev items_of : List (Vec ℕ Global) → List (List ℕ)
