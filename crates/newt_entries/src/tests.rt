@@ -1,7 +1,11 @@
 //! Records in bytes that were spelt by hand, with ample memory.
-use crate::{EntryFault, filled, larges_of, read_entry, row_of, skeleton, write_entry};
+ghost use Rattle.std.specs.Prelude.{◌≡◌, true, map};
+ghost use Rattle.newt_entries.specs.Entry.{row_at, fits};
+
+use crate::{EntryFault, EntryRow, filled, larges_of, read_entry, row_of, skeleton, write_entry};
 use newt_base::{Sig, Uid};
-use std::alloc::Global;
+use newt_graph::Graph;
+use std::alloc::{AllocError, Global};
 use std::test::*;
 
 /// The entry 9 of the soup 3, of minute 258: a frame with slot `a` and value 1.
@@ -34,7 +38,7 @@ fn a_record_is_read_and_written(rt: HostRuntime) -> Result<(), Fail> {
 
 /// The same entry with a large binary of class `b` in the slot `a`: node 2, object 4, five bytes.
 const WITH_LARGE: &[u8] =
-    b"\x00\x03\x00\x01\x00\x00\x00\x09\x00\x00\x01\x02\x02\x06\x01\x07\x01\x61\x0C\x07\x01b\x00\x00\x00\x00\x00\x00\x00\x00\x00\x00\x00\x00\x00\x00\x00\x00\x00\x00\x00\x02\x00\x00\x00\x04\x00\x00\x00\x05";
+    b"\x00\x03\x00\x01\x00\x00\x00\x09\x00\x00\x01\x02\x02\x06\x01\x07\x01\x61\x0C\x07\x01b\x00\x00\x00\x00\x00\x00\x00\x00\x00\x00\x00\x00\x00\x00\x00\x00\x00\x00\x00\x00\x02\x00\x00\x00\x04\x00\x00\x00\x05";
 
 #[test]
 fn a_large_binary_is_named(rt: HostRuntime) -> Result<(), Fail> {
@@ -42,33 +46,54 @@ fn a_large_binary_is_named(rt: HostRuntime) -> Result<(), Fail> {
     Ok(())
 }
 
+/// The record of a graph with one large binary, which has this object.
+fn written_again(
+    alloc: Global,
+    row: &EntryRow,
+    graph: &Graph,
+    object: u32,
+) -> Result<Option<Vec<u8>>, AllocError> {
+    let larges = larges_of(alloc, graph)?;
+    let [_] = larges.as_slice() else {
+        return Ok(None);
+    };
+    if row.soup.0 > 65_535 {
+        return Ok(None);
+    }
+    let again = row_of(alloc, row.soup, row.uid, row.time, graph, &[object])?;
+    Ok(Some(write_entry(alloc, &again)?))
+}
+
+/// The graph of a row with one large binary, which has these bytes.
+fn filled_by(alloc: Global, row: &EntryRow, bytes: &[u8]) -> Result<Option<Graph>, AllocError>
+    requires { fits (map row_at row.now.larges) row.now.skeleton ≡ true }
+{
+    let [large] = row.larges.list() else {
+        return Ok(None);
+    };
+    if bytes.len() != large.length as usize {
+        return Ok(None);
+    }
+    let mut given = Vec::new(alloc);
+    given.push(Vec::from_slice(alloc, bytes)?)?;
+    Ok(Some(filled(alloc, row, given)?))
+}
+
+fn has_bytes(alloc: Global, graph: &Graph, bytes: &[u8]) -> bool {
+    larges_of(alloc, graph).is_ok_and(|larges| larges.len() == 1 && larges[0].as_slice() == bytes)
+}
+
 /// Whether the record of an entry with one large binary is made again of its graph, and the graph's skeleton has no bytes.
 fn is_made_again(alloc: Global, record: &[u8], object: u32, bytes: &[u8]) -> Option<bool> {
     let row = read_entry(alloc, record).ok()?;
-    let [large] = row.larges.list() else {
-        return None;
-    };
-    if bytes.len() != large.length as usize {
-        return None;
-    }
-    let mut given = Vec::new(alloc);
-    given.push(Vec::from_slice(alloc, bytes).ok()?).ok()?;
-    let graph = filled(alloc, &row, given).ok()?;
+    let graph = filled_by(alloc, &row, bytes).ok()??;
     let bare = skeleton(alloc, &graph).ok()?;
-    if larges_of(alloc, &bare)
-        .ok()?
-        .iter()
-        .any(|left| !left.is_empty())
-    {
-        return Some(false);
-    }
-    let larges = larges_of(alloc, &graph).ok()?;
-    if larges.len() != 1 || larges[0].as_slice() != bytes {
-        return Some(false);
-    }
-    let again = row_of(alloc, row.soup, row.uid, row.time, &graph, &[object]).ok()?;
-    let written = write_entry(alloc, &again).ok()?;
-    Some(written.as_slice() == record)
+    let written = written_again(alloc, &row, &graph, object).ok()??;
+    Some(
+        has_bytes(alloc, &graph, bytes)
+            && has_bytes(alloc, &bare, b"")
+            && written.as_slice() == record,
+    )
 }
 
 #[test]

@@ -1,5 +1,5 @@
 -- Changes that add an entry.
-use Rattle.std.proofs.Common.{IsTrue, ◌≡◌, ◌≢◌, inl, inr, ℕ, ◌+◌, ◌<◌, ◌≤◌, ◌==◌, ◌&&◌, Bool, true, false, not, nat_le, nat_lt, List, [], ◌∷◌, map as map_list, Option, Some, None, refl, sym, ◌∙◌, ap, subst, arith}
+use Rattle.std.proofs.Common.{IsTrue, ◌≡◌, ◌≢◌, inl, inr, ℕ, ◌+◌, ◌<◌, ◌≤◌, ◌==◌, ◌&&◌, Bool, true, false, not, nat_le, nat_lt, List, [], ◌∷◌, map as map_list, Option, Some, None, sym, ◌∙◌, ap, subst, arith}
 use Rattle.std.specs.Option.{is_some, is_none}
 use Rattle.std.proofs.lemmas.Bool.{and_parts}
 use Rattle.std.proofs.lemmas.Bool.Decides.{nat_tests}
@@ -47,7 +47,7 @@ use Rattle.newt_store.specs.Next.{Goes, IsNew, LosesNames, IsGoing, Turns, IsAdd
 use Rattle.newt_store.specs.Stands.{Describes}
 use Rattle.newt_store.proofs.Found.{soup-same, soup-some, emptied-some}
 use Rattle.newt_store.proofs.Ids.{is-none, free-in, free-names, are-larges, entry-pages}
-use Rattle.newt_store.proofs.Turning.{bytes-of}
+use Rattle.newt_store.proofs.Turning.{bytes-of, describes}
 use Rattle.newt_store.proofs.Planned.{first-holds, first-not, bare-bare, none-over}
 use Rattle.newt_store.proofs.Entries.{no-entry-at}
 
@@ -119,7 +119,8 @@ module _ (catalog : Catalog) (s : Store) (sig : ℕ) (p : Soup) (found : soup_of
           let t : Store = change_soup p.name (add_entry now g) s in
           let is : bare t ≡ bare_store next.directory = added_bare s sig p d.formed found now g ∙ ap (take_uid_of sig) d.bare_is ∙ sym adds.directory in
           let of = adds.of_graph in
-          let w = added_lies sig adds.entry.id now (large_ids adds.entry) g old new place-now place names s p d.lies d.formed found graph time (record {
+          describes next.directory new place names t
+          (added_lies sig adds.entry.id now (large_ids adds.entry) g old new place-now place names s p d.lies d.formed found graph time (record {
             odd = of.ids.odd;
             is_new = free-in catalog s places-sound names-sound old adds.entry.id d (odd-is-not adds.entry.id of.ids.odd) adds.free;
             are_new = λ o m. free-in catalog s places-sound names-sound old o d (above-is-not o (of.ids.even o m).1) (adds.larges_free o m);
@@ -134,13 +135,8 @@ module _ (catalog : Catalog) (s : Store) (sig : ℕ) (p : Soup) (found : soup_of
               names_it = named.entry adds.entry adds.is_entry;
               other_names = λ r ne. named.others r (λ loses. ne (add-loses r loses)) ∙ d.names_are r;
             };
-          }) in
-          record {
-            lies = w.0;
-            names_are = λ r. sym (w.1 r);
-            formed = added_formed sig s p now g d.formed found room valid;
-            bare_is = is;
-          };
+          }))
+          (added_formed sig s p now g d.formed found room valid) is;
       fresh = λ texts d e is.
           let same : e ≡ adds.entry = same-entry e is in
           inl (ap (λ (x : NewEntry). place-now x.sig x.uid) same ∙ ap (λ (n : ℕ). place-now n adds.entry.uid) adds.of_graph.of_sig ∙ ap (place-now sig) adds.of_graph.of_uid ∙ not-yet texts d);

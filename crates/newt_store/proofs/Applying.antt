@@ -37,6 +37,19 @@ use Rattle.newt_store.proofs.Reading.{read-back}
 use Rattle.newt_store.proofs.Planned.{first-not, first-holds}
 use Rattle.newt_store.proofs.Declaring.{undeclared-cost}
 
+-- a change that is no patch
+pub no-patch : (change : Change) → ((sig uid node at : ℕ) (bytes : List ℕ) → change ≡ Patch sig uid node at bytes → ⊥) → is_patch change ≡ false
+no-patch (MakeSoup name) never = refl
+no-patch (DropSoup sig) never = refl
+no-patch (Add sig g) never = refl
+no-patch (Remove sig uid) never = refl
+no-patch (Move a u b) never = refl
+no-patch (Replace sig uid g) never = refl
+no-patch (Patch sig uid node at bytes) never = absurd (never sig uid node at bytes refl)
+no-patch (AddIndex sig spec) never = refl
+no-patch (DropIndex sig paths) never = refl
+no-patch (SetTags sig table) never = refl
+
 -- ---- the first of checks in two parts
 
 chosen : (t : Bool) (r : Refusal) (later : Option Refusal) → Option Refusal

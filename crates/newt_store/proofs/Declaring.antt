@@ -13,7 +13,7 @@ use Rattle.newt_spec_graph.proofs.Lists.{each-from, both-ways}
 use Rattle.newt_spec_store.specs.Cost.{cost, counted, part_bytes, soup_bytes, soup_pages}
 use Rattle.newt_spec_store.specs.Keys.{IndexSpec, Path, paths_of, same_paths}
 use Rattle.newt_spec_store.specs.Laid.{bare}
-use Rattle.newt_spec_store.specs.Store.{Soup, Store, Entry, TagTable, change_first, change_soup}
+use Rattle.newt_spec_store.specs.Store.{Soup, Store, TagTable, change_first, change_soup}
 use Rattle.newt_spec_store.specs.Valid.{well_formed, valid_soup, valid_spec, valid_tags}
 use Rattle.newt_soupdir.specs.Bare.{bare_store}
 use Rattle.newt_soupdir.specs.Changes.{soup_of, change_soup_of, with_index, without_index, with_tags}
@@ -35,7 +35,7 @@ use Rattle.newt_store.specs.Next.{Turns, IsPlanOf}
 use Rattle.newt_store.specs.Stands.{Describes}
 use Rattle.newt_store.proofs.Found.{emptied, emptied-some, soup-same, soup-some}
 use Rattle.newt_store.proofs.Planned.{first-holds, first-not, none-over, none-some, bare-bare}
-use Rattle.newt_store.proofs.Turning.{bytes-of, next-alone, others-alone, names-alone, lies-over}
+use Rattle.newt_store.proofs.Turning.{bytes-of, next-alone, others-alone, names-alone, lies-over, names-over, describes}
 
 -- ---- a change of declarations alone
 
@@ -166,17 +166,14 @@ module _ (catalog : Catalog) (s : Store) (sig : ℕ) (p : Soup) (found : soup_of
     described = λ before after place names d are places named.
         let is : bare then ≡ bare_store dir = then-bare before d in
         let same : place ≡ place_of catalog.places = λ i t u. places.others t u (λ isnt. isnt) (λ isnt. isnt) i in
-        let w = lies-over after (place_of catalog.places) place then d.lies.named same
+        describes dir after place names then
+        (names-over after place d.lies.named names then (λ r. names-alone dir 0 (place_of catalog.places) (names_of catalog.names) names named r ∙ d.names_are r)
+        (lies-over after (place_of catalog.places) place d.lies.named then same
         (declared_lies sig f before after (place_of catalog.places) s p d.lies d.formed found (declares.sig p) (declares.entries p) (record {
           head_is = are.directory ∙ ap Some (bytes-of dir then is);
           others = others-alone dir 0 (place_of catalog.places) (names_of catalog.names) before after are;
-        })) in
-        record {
-          lies = w.0;
-          names_are = λ r. names-alone dir 0 (place_of catalog.places) (names_of catalog.names) names named r ∙ d.names_are r ∙ sym (w.1 r);
-          formed = declared-formed s sig p d.formed found f declares good;
-          bare_is = is;
-        };
+        }))))
+        (declared-formed s sig p d.formed found f declares good) is;
     fresh = λ texts d e isnt. absurd (none-some isnt);
     stays = λ texts d e isnt. absurd (none-some isnt);
     bare_is = λ texts d. then-bare texts d;

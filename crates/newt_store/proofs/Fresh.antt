@@ -15,6 +15,7 @@ use Rattle.newt_objects.specs.Changing.{HoldsObjects, IsUnderWay}
 use Rattle.newt_objects.proofs.Changing.{start_under_way, would_be_objects}
 use Rattle.newt_spec_store.specs.Store.{Store}
 use Rattle.newt_spec_store.specs.Cost.{cost, directory_bytes}
+use Rattle.newt_spec_store.specs.Lies.{LiesIn}
 use Rattle.newt_spec_store.specs.OfImage.{blocks_of}
 use Rattle.newt_spec_store.specs.ImageStore.{store_of_image}
 use Rattle.newt_spec_store.specs.Lies.{LiesIn}

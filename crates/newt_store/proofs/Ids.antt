@@ -1,5 +1,5 @@
 -- Ids that no object has, which a new entry's record and its large binaries get.
-use Rattle.std.proofs.Common.{◌≡◌, ◌≢◌, ◌⊎◌, inl, inr, ℕ, ◌+◌, ◌*◌, ◌%◌, ◌<◌, ◌≤◌, List, [], ◌∷◌, ◌++◌, length, sum, sum_by, flat_map, zip, map as map_list, Option, Some, None, IsSome, refl, sym, ◌∙◌, ap, subst, arith}
+use Rattle.std.proofs.Common.{◌≡◌, ◌≢◌, inl, inr, ℕ, ◌+◌, ◌*◌, ◌%◌, ◌<◌, ◌≤◌, List, [], ◌∷◌, ◌++◌, length, sum, sum_by, flat_map, zip, map as map_list, Option, Some, None, IsSome, refl, sym, ◌∙◌, ap, subst, arith}
 use Rattle.std.specs.FinMap as map
 use Rattle.std.proofs.lemmas.List.{map-append, length-map}
 use Rattle.std.proofs.lemmas.List.Sums.{sum_by-cons}
@@ -9,13 +9,13 @@ use Rattle.newt_graph.specs.declared.node.Node.TheVariants.{Symbol, Str, Binary,
 use Rattle.newt_image.specs.Objects.{Extent, Objects, pages_for}
 use Rattle.newt_objects.specs.Held.{Held, held}
 use Rattle.newt_spec_graph.specs.Lists.{Among, Each}
-use Rattle.newt_spec_graph.proofs.Lists.{among-append, each-from, pairs-append, some-same}
+use Rattle.newt_spec_graph.proofs.Lists.{among-append, each-from, pairs-append}
 use Rattle.newt_spec_store.specs.Cost.{entry_pages, large_length, large_lengths, skeleton_length}
-use Rattle.newt_spec_store.specs.Image.{entry_bytes, larges, large_in}
+use Rattle.newt_spec_store.specs.Image.{larges}
 use Rattle.newt_spec_store.specs.Lies.{AreLarges, HasLarge}
 use Rattle.newt_spec_store.specs.Store.{Entry, Store}
 use Rattle.newt_laws_images.proofs.Records.{larges_from, entry-length}
-use Rattle.newt_shelf.specs.Batch.{AreOnce, HasIds, large_ids, new_pages}
+use Rattle.newt_shelf.specs.Batch.{AreOnce, large_ids, new_pages}
 use Rattle.newt_shelf.specs.Names.{names_of, AreSoundNames}
 use Rattle.newt_shelf.specs.Places.{place_of, AreSoundPlaces}
 use Rattle.newt_shelf.specs.declared.batch.NewEntry.{NewEntry}

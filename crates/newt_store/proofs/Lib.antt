@@ -2,6 +2,7 @@ pub mod Writing
 pub mod Reading
 pub mod Carrying
 pub mod Rows
+pub mod ReadLarges
 pub mod Ids
 pub mod Fresh
 pub mod Found

@@ -33,7 +33,7 @@ use Rattle.newt_store.specs.Next.{Goes, GoesAt, IsNew, LosesNames, IsGoing, Turn
 use Rattle.newt_store.specs.Stands.{Describes}
 use Rattle.newt_store.proofs.Found.{soup-some}
 use Rattle.newt_store.proofs.Ids.{free-in, free-names, are-larges}
-use Rattle.newt_store.proofs.Turning.{bytes-of, is-named, named-is}
+use Rattle.newt_store.proofs.Turning.{bytes-of, describes, is-named, named-is}
 use Rattle.newt_store.proofs.Planned.{first-holds, first-not, no-entry, an-entry, none-over}
 use Rattle.newt_store.proofs.Adding.{not-yet, row-soup, more-ids, added-pages, none-replaced}
 
@@ -81,7 +81,8 @@ module _ (catalog : Catalog) (s : Store) (places-sound : AreSoundPlaces (held ca
     described = λ old new place names d are places named.
         let is : bare moved ≡ bare_store next.directory = removed_bare p.name uid (change_soup q.name (add_entry now e.graph) s) ∙ added_bare s target q d.formed goal now e.graph ∙ ap (take_uid_of target) d.bare_is ∙ sym adds.directory in
         let of = adds.of_graph in
-        let w = moved_lies source uid old-id target adds.entry.id now (large_ids adds.entry) e.graph old new place-now place names s p q d.lies d.formed found goal (d.lies.skeletons source e is_in) time room
+        describes next.directory new place names moved
+        (moved_lies source uid old-id target adds.entry.id now (large_ids adds.entry) e.graph old new place-now place names s p q d.lies d.formed found goal (d.lies.skeletons source e is_in) time room
         (in_valid s source e d.formed is_in q.next_uid now) (record {
           odd = of.ids.odd;
           is_new = free-in catalog s places-sound names-sound old adds.entry.id d (odd-is-not adds.entry.id of.ids.odd) adds.free;
@@ -100,13 +101,8 @@ module _ (catalog : Catalog) (s : Store) (places-sound : AreSoundPlaces (held ca
           names_it = named.entry adds.entry adds.is_entry;
           names_none = named.gone old-id (source, uid, goes-so, at);
           other_names = λ r new stays. named.others r (λ loses. elim (move-loses r loses) [ inl k ↦ stays k | inr k ↦ new k ]) ∙ d.names_are r;
-        }) in
-        record {
-          lies = w.0;
-          names_are = λ r. sym (w.1 r);
-          formed = moved_formed source target uid s p q e now d.formed goal room is_in;
-          bare_is = is;
-        };
+        }))
+        (moved_formed source target uid s p q e now d.formed goal room is_in) is;
     fresh = λ texts d x is.
         let same : x ≡ adds.entry = same-entry x is in
         inl (ap (λ (y : NewEntry). place-now y.sig y.uid) same ∙ ap (λ (n : ℕ). place-now n adds.entry.uid) adds.of_graph.of_sig ∙ ap (place-now target) adds.of_graph.of_uid ∙ not-yet catalog s target q goal texts d);

@@ -44,7 +44,7 @@ use Rattle.newt_store.proofs.Adding.{is-valid-graph, small-is}
 use Rattle.newt_store.proofs.Found.{soup-some, placed-entry, entry-placed}
 use Rattle.newt_store.proofs.Ids.{free-in, are-larges, entry-pages}
 use Rattle.newt_store.proofs.Planned.{first-holds, first-not, no-entry, an-entry}
-use Rattle.newt_store.proofs.Turning.{bytes-of, is-named, named-is, lies-over}
+use Rattle.newt_store.proofs.Turning.{bytes-of, describes, is-named, named-is, lies-over}
 
 -- ---- the store with another graph in the entry's place
 
@@ -120,7 +120,8 @@ module _ (catalog : Catalog) (s : Store) (places-sound : AreSoundPlaces (held ca
     described = λ before after place names d are places named.
         let is : bare then ≡ bare_store dir = replaced-bare p.name uid now g s ∙ d.bare_is ∙ sym same in
         let head : map.get after 0 ≡ map.get before 0 = are.directory ∙ ap Some (bytes-of dir s (d.bare_is ∙ sym same)) ∙ sym d.lies.directory in
-        let w = lies-over after place-now place then names (same-places place places)
+        describes dir after place names then
+        (lies-over after place-now place names then (same-places place places)
         (replaced_lies sig uid id (large_ids e) (with_graph now g) before after place-now names s p old d.lies d.formed found here refl graph time (record {
           is_placed = at;
           are_new = λ o m. free-in catalog s places-sound names-sound before o d (above-is-not o (of.ids.even o m).1) (free o m);
@@ -132,13 +133,8 @@ module _ (catalog : Catalog) (s : Store) (places-sound : AreSoundPlaces (held ca
             names_it = ap names (sym of_id) ∙ named.entry e refl;
             other_names = λ r ne. named.others r (λ loses. ne (replace-loses r loses)) ∙ d.names_are r;
           };
-        })) in
-        record {
-          lies = w.0;
-          names_are = λ r. sym (w.1 r);
-          formed = replaced-formed p.name uid now g s d.formed valid;
-          bare_is = is;
-        };
+        })))
+        (replaced-formed p.name uid now g s d.formed valid) is;
     fresh = λ texts d x is. inr (subst (λ (y : NewEntry). place-now y.sig y.uid ≡ Some y.id) (some_inj e x is) its-place);
     stays = λ texts d x is goes. goes;
     bare_is = λ texts d. replaced-bare p.name uid now g s ∙ d.bare_is ∙ sym same;

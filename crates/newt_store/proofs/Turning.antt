@@ -13,6 +13,7 @@ use Rattle.newt_spec_store.specs.Store.{Soup, Store, soup_named, change_soup, ma
 use Rattle.newt_spec_store.specs.Cost.{directory_bytes, soup_bytes, text_bytes}
 use Rattle.newt_spec_store.specs.Laid.{bare}
 use Rattle.newt_spec_store.specs.Lies.{Places, LiesIn}
+use Rattle.newt_spec_store.specs.Valid.{well_formed}
 use Rattle.newt_soupdir.specs.Bare.{bare_store}
 use Rattle.newt_soupdir.specs.Changes.{soup_of, without_soup}
 use Rattle.newt_soupdir.specs.declared.rows.Directory.{Directory}
@@ -70,10 +71,19 @@ others-alone dir a place names old new are o ne = are.others o ne (λ e isnt. ab
 pub names-alone : (dir : Directory) (a : ℕ) (place : Places) (old new : Names) → AreNamesNext (next-alone dir a) place old new → (r : ℕ) → new r ≡ old r
 names-alone dir a place old new are r = are.others r (loses-nothing dir a place r)
 
--- a store lies where it lay, by other words for the places
-pub lies-over : (objects : Objects) (place place' : Places) (s : Store) (named : Names) → place' ≡ place → (lies : LiesIn objects place s) × ((r : ℕ) → lies.named r ≡ named r)
-    → (lies : LiesIn objects place' s) × ((r : ℕ) → lies.named r ≡ named r)
-lies-over objects place place' s named same lies = subst (λ (pl : Places). (l : LiesIn objects pl s) × ((r : ℕ) → l.named r ≡ named r)) (sym same) lies
+-- a store lies in objects, and its records name these
+abbrev pub LiesNamed : Objects → Places → Names → Store → Type 0
+LiesNamed objects place names s = (lies : LiesIn objects place s) × ((r : ℕ) → lies.named r ≡ names r)
+
+-- the same by other words for the places, and for the names
+pub lies-over : (objects : Objects) (place place' : Places) (names : Names) (s : Store) → place' ≡ place → LiesNamed objects place names s → LiesNamed objects place' names s
+lies-over objects place place' names s same w = subst (λ (pl : Places). LiesNamed objects pl names s) (sym same) w
+
+pub names-over : (objects : Objects) (place : Places) (names names' : Names) (s : Store) → ((r : ℕ) → names' r ≡ names r) → LiesNamed objects place names s → LiesNamed objects place names' s
+names-over objects place names names' s same w = (w.0, λ r. w.1 r ∙ sym (same r))
+
+pub describes : (directory : Directory) (objects : Objects) (place : Places) (names : Names) (s : Store) → LiesNamed objects place names s → IsTrue (well_formed s) → bare s ≡ bare_store directory → Describes directory place names objects s
+describes directory objects place names s w formed is = record { lies = w.0; names_are = λ r. sym (w.1 r); formed = formed; bare_is = is }
 
 module _ (catalog : Catalog) (s : Store) where
   abbrev pub old-place : Places
@@ -90,16 +100,13 @@ module _ (catalog : Catalog) (s : Store) where
       described = λ old now place names d are places named.
           let is : bare (make_soup name s) ≡ bare_store dir = made_bare name s ∙ ap (make_soup name) d.bare_is ∙ sym made in
           let same : place ≡ old-place = λ i t u. places.others t u (λ isnt. isnt) (λ isnt. isnt) i in
-          let w = lies-over now old-place place (make_soup name s) d.lies.named same (made_lies name old now old-place s d.lies (record {
+          describes dir now place names (make_soup name s)
+          (names-over now place d.lies.named names (make_soup name s) (λ r. names-alone dir a old-place old-names names named r ∙ d.names_are r)
+          (lies-over now old-place place d.lies.named (make_soup name s) same (made_lies name old now old-place s d.lies (record {
             head_is = are.directory ∙ ap Some (bytes-of dir (make_soup name s) is);
             others = others-alone dir a old-place old-names old now are;
-          })) in
-          record {
-            lies = w.0;
-            names_are = λ r. names-alone dir a old-place old-names names named r ∙ d.names_are r ∙ sym (w.1 r);
-            formed = made_formed name s d.formed good new room ids;
-            bare_is = is;
-          };
+          }))))
+          (made_formed name s d.formed good new room ids) is;
       fresh = λ texts d e isnt. absurd (none-some e isnt);
       stays = λ texts d e isnt. absurd (none-some e isnt);
       bare_is = λ texts d. made_bare name s ∙ ap (make_soup name) d.bare_is ∙ sym made;
@@ -126,7 +133,8 @@ module _ (catalog : Catalog) (s : Store) where
         described = λ old now place names d are places named.
             let t : Store = drop_soup p.name s in
             let is : bare t ≡ bare_store dir = dropped_bare s sig p d.formed found ∙ ap (without_soup sig) d.bare_is ∙ sym dropped in
-            let w = dropped_lies sig old now old-place place names s p d.lies d.formed found (record {
+            describes dir now place names t
+            (dropped_lies sig old now old-place place names s p d.lies d.formed found (record {
               head_is = are.directory ∙ ap Some (bytes-of dir t is);
               are_gone = λ u id at. are.gone id (inl (sig, u, refl, at));
               names_are_gone = λ u id o at m. are.gone o (inr (id, inl (sig, u, refl, at), is-named catalog.directory old-place old-names old s d id o m));
@@ -135,13 +143,8 @@ module _ (catalog : Catalog) (s : Store) where
               other_places = λ t u ne. places.others t u (λ isnt. isnt) (λ goes. ne (sym goes));
               no_names = λ u id at. named.gone id (sig, u, refl, at);
               other_names = λ r away. named.others r (drop-loses r away) ∙ d.names_are r;
-            }) in
-            record {
-              lies = w.0;
-              names_are = λ r. sym (w.1 r);
-              formed = dropped_formed p.name s d.formed;
-              bare_is = is;
-            };
+            }))
+            (dropped_formed p.name s d.formed) is;
         fresh = λ texts d e isnt. absurd (none-some e isnt);
         stays = λ texts d e isnt. absurd (none-some e isnt);
         bare_is = λ texts d. dropped_bare s sig p d.formed found ∙ ap (without_soup sig) d.bare_is ∙ sym dropped;
@@ -168,7 +171,8 @@ module _ (catalog : Catalog) (s : Store) where
             let t : Store = change_soup p.name (remove_entry uid) s in
             let is : bare t ≡ bare_store dir = removed_bare p.name uid s ∙ d.bare_is ∙ sym same in
             let head : map.get now 0 ≡ map.get old 0 = are.directory ∙ ap Some (bytes-of dir s (d.bare_is ∙ sym same)) ∙ sym d.lies.directory in
-            let w = removed_lies sig uid id old now old-place place names s p d.lies d.formed found (record {
+            describes dir now place names t
+            (removed_lies sig uid id old now old-place place names s p d.lies d.formed found (record {
               was_placed = at;
               is_gone = are.gone id (inl (sig, uid, (refl, refl), at));
               are_gone = λ o m. are.gone o (inr (id, inl (sig, uid, (refl, refl), at), is-named catalog.directory old-place old-names old s d id o m));
@@ -179,13 +183,8 @@ module _ (catalog : Catalog) (s : Store) where
                 names_it = named.gone id (sig, uid, (refl, refl), at);
                 other_names = λ r ne. named.others r (remove-loses r ne) ∙ d.names_are r;
               };
-            }) in
-            record {
-              lies = w.0;
-              names_are = λ r. sym (w.1 r);
-              formed = removed_formed p.name uid s d.formed;
-              bare_is = is;
-            };
+            }))
+            (removed_formed p.name uid s d.formed) is;
         fresh = λ texts d e isnt. absurd (none-some e isnt);
         stays = λ texts d e isnt. absurd (none-some e isnt);
         bare_is = λ texts d. removed_bare p.name uid s ∙ d.bare_is ∙ sym same;

@@ -1,5 +1,5 @@
 -- Declarations of indexes through what is seen of their parts: whether their paths agree, and that they are valid.
-use Rattle.std.proofs.Common.{arith, ◌≡◌, ◌≤◌, ℕ, suc, Bool, true, ◌&&◌, List, [], ◌∷◌, map, refl, sym, ◌∙◌, ap, length, Some}
+use Rattle.std.proofs.Common.{arith, ◌≡◌, ◌≤◌, ℕ, suc, true, ◌&&◌, List, [], ◌∷◌, map, refl, ◌∙◌, ap, length, Some}
 use Rattle.std.specs.Prelude.{zip, ◌==◌}
 use Rattle.std.specs.List.{list_all}
 use Rattle.std.proofs.lemmas.List.{length-map}

@@ -1,6 +1,6 @@
 -- Commands that declare, remove and show indexes and tags.
 use Rattle.std.proofs.Common.{◌≡◌, refl, ap, sym, ◌∙◌, subst, ℕ, List, [], ◌∷◌, Bool, true, false, IsTrue, Option, Some, None, map, find, cond, option_map, option_and_then, replicate, ◌==◌, nat_lt, length}
-use Rattle.std.specs.Prelude.{Result, Ok, Err}
+use Rattle.std.specs.Prelude.{Result, Err}
 use Rattle.std.specs.Bool.{⊤}
 use Rattle.newt_base.specs.Refusals.{first_of}
 use Rattle.newt_base.specs.declared.Refusal.{Refusal}
@@ -15,7 +15,7 @@ use Rattle.newt_spec_world.specs.declared.command.Command.TheVariants as command
 use Rattle.newt_spec_world.specs.declared.command.PartWord.{PartWord}
 use Rattle.newt_spec_world.specs.Changed.{spec_of_words, with_index, without_index}
 use Rattle.newt_spec_world.specs.Reply.{Reply}
-use Rattle.newt_spec_world.specs.World.{World, Device, store_of, store_on_unit, change_store}
+use Rattle.newt_spec_world.specs.World.{World, store_on_unit, change_store}
 use Rattle.newt_laws_answers.specs.Spoken.{answer_now, tags_fit}
 use Rattle.newt_laws_answers.specs.Tests.{has_paths, index_tests, tagged, tags_tests}
 use Rattle.newt_laws_answers.specs.There.{OnUnit}
@@ -25,7 +25,7 @@ use Rattle.newt_units.specs.declared.fault.Fault.TheVariants.{Refused, Stop}
 use Rattle.newt_units.specs.declared.units.Units.{Units}
 use Rattle.newt_units.specs.Answers.{Answers}
 use Rattle.newt_units.specs.Cards.{soup_of}
-use Rattle.newt_units.specs.Declares.{has_parts, has_real, part_tests, MayDeclare}
+use Rattle.newt_units.specs.Declares.{has_parts, has_real, MayDeclare}
 use Rattle.newt_units.specs.Faults.{Does}
 use Rattle.newt_units.specs.Stands.{card_at, world_of}
 use Rattle.newt_units.proofs.Commands.{does-answers, makes}

@@ -1,6 +1,6 @@
 -- Stores that are mounted and unmounted.
 use Rattle.std.proofs.Common.{◌≡◌, refl, ap, sym, ◌∙◌, subst, ℕ, zero, suc, ◌<◌, List, [], ◌∷◌, ◌⊎◌, inl, inr, Bool, true, false, IsTrue, Option, Some, None, option_map, cond, unwrap_or, length, replicate, nat_le, get_or, ◌==◌}
-use Rattle.std.specs.Prelude.{slice_get, slice_set, is_some, Result, Ok, Err}
+use Rattle.std.specs.Prelude.{slice_get, slice_set, is_some, Ok, Err}
 use Rattle.std.specs.List.{list_any}
 use Rattle.std.proofs.lemmas.Bool.{eq-eqb}
 use Rattle.std.proofs.lemmas.Option.{slice_get_read, slice_get_within}

@@ -9,7 +9,7 @@ use Rattle.newt_host.specs.Moments.{Moment, Always, MayLeave}
 use Rattle.newt_host.proofs.Moments.{Always-append, Always-map, Always-last}
 use Rattle.newt_spec_graph.proofs.Lists.{some-same, none-some, both-ways}
 use Rattle.newt_laws.proofs.Units.{same-or-not, device-other}
-use Rattle.newt_spec_store.specs.Store.{Store, Soup, Entry, soup_named, entry_of, change_soup, add_entry, remove_entry}
+use Rattle.newt_spec_store.specs.Store.{Store, Entry, soup_named, entry_of, change_soup, add_entry, remove_entry}
 use Rattle.newt_spec_world.specs.declared.command.Command.{Command}
 use Rattle.newt_spec_world.specs.declared.command.Command.TheVariants as command
 use Rattle.newt_spec_world.specs.Reply.{Reply}

@@ -1,5 +1,5 @@
 -- Commands that put another graph in the place of an entry's.
-use Rattle.std.proofs.Common.{◌≡◌, refl, ap, sym, ◌∙◌, subst, ℕ, List, true, false, Option, Some, None, replicate}
+use Rattle.std.proofs.Common.{◌≡◌, refl, ap, sym, ◌∙◌, subst, ℕ, List, true, Option, Some, None, replicate}
 use Rattle.std.specs.Prelude.{Result, Err}
 use Rattle.std.specs.Bool.{⊤}
 use Rattle.newt_base.specs.Refusals.{first_of}

@@ -1,14 +1,13 @@
 -- Where the entry of an alias is.
-use Rattle.std.proofs.Common.{◌≡◌, refl, ap, sym, ◌∙◌, subst, ℕ, zero, suc, ◌+◌, List, [], ◌∷◌, Bool, true, false, cond, map, find, Option, Some, None, option_map, option_and_then, ◌==◌}
+use Rattle.std.proofs.Common.{◌≡◌, refl, ap, sym, ◌∙◌, ℕ, List, [], ◌∷◌, Bool, true, false, cond, map, find, Option, Some, None, option_map, option_and_then, ◌==◌}
 use Rattle.std.specs.Prelude.{is_some}
-use Rattle.std.specs.List.{position_from}
 use Rattle.std.proofs.lemmas.Bool.{eqb-true}
 use Rattle.newt_spec_graph.proofs.Lists.{some-same, none-some, both-ways}
 use Rattle.newt_spec_store.specs.Laid.{bare}
 use Rattle.newt_spec_store.specs.Store.{Store, Soup, Entry, entry_of}
 use Rattle.newt_spec_world.specs.Alias.{Alias, resolved}
 use Rattle.newt_spec_world.specs.Reply.{Reply}
-use Rattle.newt_spec_world.specs.World.{World, mounted, mounted_store}
+use Rattle.newt_spec_world.specs.World.{World, mounted_store}
 use Rattle.newt_laws.proofs.Settled.{find-passes}
 use Rattle.newt_laws_answers.specs.Faces.{faces, shows, first_showing}
 use Rattle.newt_laws_answers.proofs.Faces.{find-none, find-found}

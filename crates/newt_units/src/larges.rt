@@ -102,22 +102,11 @@ fn bytes_from(bytes: &[u8], at: u32, len: u32) -> Option<&[u8]>
     ensures { MatchOption result (nat_lt (length bytes.now) (at + len) ≡ true) (λ part. (nat_lt (length bytes.now) (at + len) ≡ false) × (part.now ≡ bytes_from at len bytes.now)) }
 {
     let start = at as usize;
-    let end = start + len as usize;
-    if end > bytes.len() {
-        None
-    } else {
-        Some(&bytes[start..end])
-    }
+    bytes.get(start..start + len as usize)
 }
 
 /// So many bytes of the large binary that a path of a graph reaches, from a place on.
-fn read_large(
-    alloc: Global,
-    graph: &Graph,
-    path: &Path,
-    at: u32,
-    len: u32,
-) -> Result<Bytes, Fault>
+fn read_large(alloc: Global, graph: &Graph, path: &Path, at: u32, len: u32) -> Result<Bytes, Fault>
     ensures read { ReadsLarge path.now at len graph.now result }
     ensures only { IfErr result (λ fault. NoDevice fault) }
 {

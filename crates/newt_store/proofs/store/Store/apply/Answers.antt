@@ -1,18 +1,40 @@
-use Rattle.std.proofs.Common.{◌≡◌, ◌*◌, ◌≤◌, ◌<◌, ℕ, List, sym, subst}
+use Rattle.std.proofs.Common.{◌≡◌, ◌*◌, ◌≤◌, ◌<◌, ℕ, List, None, IfOk, IfErr, OnOk, sym, subst}
 use Rattle.newt_host.specs.Moments.{Moment, image, Leaves}
 use Rattle.newt_image.specs.Pages.{cap}
 use Rattle.newt_spec_store.specs.Cost.{cost}
 use Rattle.newt_spec_store.specs.Store.{Store as PlainStore}
 use Rattle.newt_spec_store.specs.OfImage.{blocks_of}
-use Rattle.newt_store.specs.Change.{changed_by, refusal_of}
+use Rattle.newt_store.specs.declared.change.Change.{Change}
+use Rattle.newt_store.specs.Change.{changed_by, answer_of, refusal_of}
 use Rattle.newt_store.specs.Next.{IsEitherStore}
 use Rattle.newt_store.specs.Stands.{StandsFor, RefusesWith}
 use Rattle.newt_host.specs.Outside.{Spends}
 use Rattle.newt_pagebook.specs.Book.{IsOpenFor}
 use Rattle.newt_store.specs.Change.{entry_moved, pages_of_entry, most_bytes}
 use Rattle.newt_store.specs.Next.{turn_bytes}
-use Rattle.newt_store.proofs.Applying.{spends-more, spends-both, none-due, full-due, refuses-full, refuses-first, from-err, sound-over, same-image, leaves-changed, leaves-before}
+use Rattle.newt_store.proofs.Applying.{no-patch, spends-more, spends-both, none-due, full-due, refuses-full, refuses-first, from-err, sound-over, same-image, leaves-changed, leaves-before}
 use Rattle.newt_store.proofs.store.Store.apply.Goals as goal
+
+pub returns-in-Patch-clause-accepted : goal.returns-in-Patch-clause-accepted
+returns-in-Patch-clause-accepted g c = λ tells s stands.
+    subst (λ (change : Change). OnOk c.patch_entry.result (refusal_of change (blocks_of (image (g.P.PageBook.place c.args.self.now.book) (g.H.Host.outside c.args.host.now).now)) c.args.now s ≡ None))
+    (sym c.in-Patch.is) (c.patch_entry.ensures.accepted tells c.args.now s stands)
+
+pub returns-in-Patch-clause-answer : goal.returns-in-Patch-clause-answer
+returns-in-Patch-clause-answer g c = λ tells s stands. subst (λ (change : Change). IfOk c.patch_entry.result (λ n. n ≡ answer_of change s)) (sym c.in-Patch.is) (c.patch_entry.ensures.answer tells c.args.now s stands)
+
+pub returns-in-Patch-clause-changed : goal.returns-in-Patch-clause-changed
+returns-in-Patch-clause-changed g c = λ tells s stands.
+    subst (λ (change : Change). OnOk c.patch_entry.result (StandsFor c.patch_entry.new.catalog (changed_by change c.args.now s) (image (g.P.PageBook.place c.args.self.now.book) (g.H.Host.outside c.patch_entry.new.host).now)))
+    (sym c.in-Patch.is) (c.patch_entry.ensures.changed tells c.args.now s stands)
+
+pub returns-in-Patch-clause-refused : goal.returns-in-Patch-clause-refused
+returns-in-Patch-clause-refused g c = λ tells s stands.
+    subst (λ (change : Change). IfErr c.patch_entry.result (RefusesWith (refusal_of change (blocks_of (image (g.P.PageBook.place c.args.self.now.book) (g.H.Host.outside c.args.host.now).now)) c.args.now s)))
+    (sym c.in-Patch.is) (c.patch_entry.ensures.refused tells c.args.now s stands)
+
+pub returns-in-Patch-clause-still : goal.returns-in-Patch-clause-still
+returns-in-Patch-clause-still g c = λ tells s stands is. c.patch_entry.ensures.still tells c.args.now s stands is
 
 pub returns-in_err-next-clause-sound : goal.returns-in_err-next-clause-sound
 returns-in_err-next-clause-sound g c = λ goes.
@@ -111,7 +133,7 @@ returns-in-Err-clause-refused g c = λ tells s stands.
     let stands' : StandsFor cat s (image u' m') = subst (λ (b : List ℕ). StandsFor cat s b) (sym e) stands in
     let t : PlainStore = changed_by c.args.change c.args.now s in
     let plan = c.in_ok-next.ensures.planned tells s stands in
-    refuses-full c.in-Err.fault c.in-Err.ensures.only (λ is. full-due c.args.change (blocks_of (image u m)) c.args.now s OTHER plan.accepted stands.fits
+    refuses-full c.in-Err.fault c.in-Err.ensures.only (λ is. full-due c.args.change (blocks_of (image u m)) c.args.now s (no-patch c.args.change c.in_default.not-Patch) plan.accepted stands.fits
     (subst (λ (b : List ℕ). cap (blocks_of b) < cost t) e (c.in-Err.ensures.full is tells s t stands' plan.turns)))
 
 pub returns-in-Err-clause-still : goal.returns-in-Err-clause-still
@@ -146,7 +168,7 @@ returns-in-Ok-clause-costs g c = λ tells s stands room.
     let stands' : StandsFor cat s (image u' m') = subst (λ (b : List ℕ). StandsFor cat s b) (sym e) stands in
     let t : PlainStore = changed_by c.args.change c.args.now s in
     let plan = c.in_ok-next.ensures.planned tells s stands in
-    spends-both cat c.args.change c.args.now s c.in_ok-next.next (image u m) u (512 * pages_of_entry (entry_moved c.args.change s)) (o c.args.host.now) (o c.plan_change.new.host) (o c.carry_out.new.host) OTHER plan (c.plan_change.ensures.costs tells s stands)
+    spends-both cat c.args.change c.args.now s c.in_ok-next.next (image u m) u (512 * pages_of_entry (entry_moved c.args.change s)) (o c.args.host.now) (o c.plan_change.new.host) (o c.carry_out.new.host) (no-patch c.args.change c.in_default.not-Patch) plan (c.plan_change.ensures.costs tells s stands)
     (λ room-for. subst (λ (v : ℕ). Spends v (turn_bytes c.in_ok-next.next s t) 0 (o c.plan_change.new.host) (o c.carry_out.new.host)) c.plan_change.ensures.same.0
     (c.carry_out.ensures.bound tells s t stands' plan.turns (subst (λ (b : List ℕ). IsOpenFor (turn_bytes c.in_ok-next.next s t) b) (sym e) room-for)))
     (λ more. subst (λ (v : ℕ). Spends v 0 0 (o c.plan_change.new.host) (o c.carry_out.new.host)) c.plan_change.ensures.same.0
@@ -165,7 +187,7 @@ returns-in-Err-clause-costs g c = λ tells s stands room.
     let stands' : StandsFor cat s (image u' m') = subst (λ (b : List ℕ). StandsFor cat s b) (sym e) stands in
     let t : PlainStore = changed_by c.args.change c.args.now s in
     let plan = c.in_ok-next.ensures.planned tells s stands in
-    spends-both cat c.args.change c.args.now s c.in_ok-next.next (image u m) u (512 * pages_of_entry (entry_moved c.args.change s)) (o c.args.host.now) (o c.plan_change.new.host) (o c.carry_out.new.host) OTHER plan (c.plan_change.ensures.costs tells s stands)
+    spends-both cat c.args.change c.args.now s c.in_ok-next.next (image u m) u (512 * pages_of_entry (entry_moved c.args.change s)) (o c.args.host.now) (o c.plan_change.new.host) (o c.carry_out.new.host) (no-patch c.args.change c.in_default.not-Patch) plan (c.plan_change.ensures.costs tells s stands)
     (λ room-for. subst (λ (v : ℕ). Spends v (turn_bytes c.in_ok-next.next s t) 0 (o c.plan_change.new.host) (o c.carry_out.new.host)) c.plan_change.ensures.same.0
     (c.carry_out.ensures.bound tells s t stands' plan.turns (subst (λ (b : List ℕ). IsOpenFor (turn_bytes c.in_ok-next.next s t) b) (sym e) room-for)))
     (λ more. subst (λ (v : ℕ). Spends v 0 0 (o c.plan_change.new.host) (o c.carry_out.new.host)) c.plan_change.ensures.same.0

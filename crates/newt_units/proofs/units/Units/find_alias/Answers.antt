@@ -1,5 +1,5 @@
 -- The unit that shows the store's signature has its card.
-use Rattle.std.proofs.Common.{◌≡◌, refl, ap, sym, ◌∙◌, subst, true}
+use Rattle.std.proofs.Common.{◌≡◌, ap, sym, ◌∙◌, subst, true}
 use Rattle.std.specs.Prelude.{IfOk}
 use Rattle.newt_alias.specs.Alias.{alias_said}
 use Rattle.newt_laws_answers.specs.Faces.{first_showing}

@@ -1,5 +1,5 @@
 -- The card of the unit knows the indexes of the soup.
-use Rattle.std.proofs.Common.{◌≡◌, refl, ap, ◌∙◌, true, Some}
+use Rattle.std.proofs.Common.{refl, ap, ◌∙◌, true}
 use Rattle.std.specs.List.{list_any}
 use Rattle.newt_spec_graph.proofs.Lists.{some-same, none-some}
 use Rattle.newt_spec_store.specs.Keys.{paths_of, same_paths}

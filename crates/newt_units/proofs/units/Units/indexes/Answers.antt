@@ -1,5 +1,5 @@
 -- The soup is looked up, and its card has its indexes.
-use Rattle.std.proofs.Common.{◌≡◌, refl, ap, sym, ◌∙◌, true, List}
+use Rattle.std.proofs.Common.{refl, ap, sym, ◌∙◌, true, List}
 use Rattle.std.proofs.lemmas.Result.{err_from_is_err_and}
 use Rattle.newt_laws_answers.proofs.Declares.{indexes-not-found, indexes-done}
 use Rattle.newt_spec_graph.proofs.Lists.{some-same, none-some}

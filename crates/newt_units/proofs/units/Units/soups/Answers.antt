@@ -1,5 +1,5 @@
 -- The unit is looked up, and its card has the soups.
-use Rattle.std.proofs.Common.{refl, ap, sym, ◌∙◌, true}
+use Rattle.std.proofs.Common.{refl, true}
 use Rattle.std.proofs.lemmas.Result.{err_from_is_err_and}
 use Rattle.newt_laws_answers.proofs.Soups.{soups-refused}
 use Rattle.newt_units.specs.Stands.{world_of}

@@ -1,5 +1,5 @@
 -- The soup is looked up, and its card has its tags declaration.
-use Rattle.std.proofs.Common.{◌≡◌, refl, ap, sym, ◌∙◌, true, Option, Some}
+use Rattle.std.proofs.Common.{refl, ap, sym, ◌∙◌, true, Option, Some}
 use Rattle.std.proofs.lemmas.Result.{err_from_is_err_and}
 use Rattle.newt_laws_answers.proofs.Declares.{tags-not-found, tags-done}
 use Rattle.newt_spec_store.specs.Store.{TagTable}

@@ -1,13 +1,12 @@
 -- The soup is looked up, its indexes are looked through, and its card removes one.
-use Rattle.std.proofs.Common.{◌≡◌, refl, ap, sym, ◌∙◌, subst, [], Some, true}
+use Rattle.std.proofs.Common.{refl, ap, sym, ◌∙◌, subst, [], Some}
 use Rattle.std.proofs.lemmas.Result.{err_from_is_err_and}
 use Rattle.std.specs.Bool.{⊤}
-use Rattle.newt_host.specs.Moments.{Always}
 use Rattle.newt_laws_answers.specs.Tests.{has_paths}
 use Rattle.newt_laws_answers.proofs.Declares.{unindex-not-found, unindex-missing}
 use Rattle.newt_spec_store.specs.Store.{change_soup}
 use Rattle.newt_spec_world.specs.Changed.{without_index}
-use Rattle.newt_spec_world.specs.World.{store_on_unit, change_store}
+use Rattle.newt_spec_world.specs.World.{change_store}
 use Rattle.newt_units.specs.Faults.{Does}
 use Rattle.newt_units.specs.Stands.{world_of}
 use Rattle.newt_units.proofs.Declaring.{unindex-answers, unindex-makes}

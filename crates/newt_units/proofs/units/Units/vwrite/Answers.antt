@@ -103,8 +103,8 @@ returns-in-Some-clause-moments g c t =
     subst (λ (m : Moment). Always (Answering g.C.Card.reads w v m) m (g.H.Host.outside c.patch_in.new.host).now) c.in_ok-graph.ensures.moment
     (subst (λ (x : World). Always (Answering g.C.Card.reads x v (g.H.Host.outside c.read_entry.new.host).now) (g.H.Host.outside c.read_entry.new.host).now (g.H.Host.outside c.patch_in.new.host).now) same way)
 
-pub returns-in-None-clause-answered : goal.returns-in-None-clause-answered
-returns-in-None-clause-answered g c t =
+pub returns-clause-answered : goal.returns-clause-answered
+returns-clause-answered g c t =
     let at : Setting g.C.Card.reads g.C.Card.place g.C.Card.soups g.C.Card.stands g.H.Host.told c.args.self.now (g.H.Host.outside c.args.host.now) = record {
       laws = record { formed = g.met.C.Card.formed; plain = g.met.C.Card.plain; durable = g.met.C.Card.durable; banks = g.met.C.Card.banks; kept = g.met.C.Card.kept };
       eight = record { eight = g.met.H.Host.eight c.args.host.now; none = g.met.H.Host.none c.args.host.now };
@@ -117,8 +117,8 @@ returns-in-None-clause-answered g c t =
     let same = c.in_ok-graph.ensures.world t in
     vwrite-nowhere w _ c.args.unit h.blocks h.store h.on refl c.args.name.now h.soup h.named h.name_is c.args.uid e found c.args.path.now c.args.at c.args.bytes.now same (sym c.in-None.ensures)
 
-pub returns-in-None-clause-moments : goal.returns-in-None-clause-moments
-returns-in-None-clause-moments g c t =
+pub returns-clause-moments : goal.returns-clause-moments
+returns-clause-moments g c t =
     let at : Setting g.C.Card.reads g.C.Card.place g.C.Card.soups g.C.Card.stands g.H.Host.told c.args.self.now (g.H.Host.outside c.args.host.now) = record {
       laws = record { formed = g.met.C.Card.formed; plain = g.met.C.Card.plain; durable = g.met.C.Card.durable; banks = g.met.C.Card.banks; kept = g.met.C.Card.kept };
       eight = record { eight = g.met.H.Host.eight c.args.host.now; none = g.met.H.Host.none c.args.host.now };
