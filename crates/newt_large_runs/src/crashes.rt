@@ -1,5 +1,6 @@
 //! What a next run finds where the power failed while entries with large binaries were changed.
 
+use crate::runs::ADDED;
 use crate::trial::{Answered, blocks, expect, expect_on, has_device, image, ran, replies, script};
 use newt_host::Unit;
 use newt_memhost::{Crash, MemHost, Pick};
@@ -7,6 +8,9 @@ use newt_top::Status;
 use std::alloc::Global;
 use std::process::Abort;
 use std::test::Fail;
+
+/// What next runs answer after each number of first lines of a run.
+type Looks = Vec<Vec<u8>>;
 
 /// What a next run is asked, and told to go on with.
 const LOOK: &[u8] = b"mount 0
@@ -76,12 +80,7 @@ fn look(rt: &impl Abort, alloc: Global, bytes: &[u8], other: &[u8]) -> Result<Ve
 }
 
 /// What next runs answer after each number of first lines.
-fn looks(
-    rt: &impl Abort,
-    alloc: Global,
-    lines: &[Answered],
-    other: &[u8],
-) -> Result<Vec<Vec<u8>>, Fail> {
+fn looks(rt: &impl Abort, alloc: Global, lines: &[Answered], other: &[u8]) -> Result<Looks, Fail> {
     let mut all = Vec::new(alloc);
     for count in 0..lines.len() + 1 {
         let host = expect(rt, alloc, &lines[..count])?;
@@ -100,47 +99,51 @@ fn begun(output: &[u8]) -> usize {
 }
 
 /// What was found is the store before or after the command whose reply is the next to begin.
-fn expect_found(rt: &impl Abort, output: &[u8], found: &[u8], looks: &[Vec<u8>]) {
+fn expect_found(rt: &impl Abort, output: &[u8], found: &[u8], looks: &Looks) {
     let first = begun(output);
     assert!(rt; first < looks.len());
     let next = first.saturating_add(1).min(looks.len() - 1);
+    let (before, after) = (&looks[first], &looks[next]);
     assert!(rt;
-        found == looks[first].as_slice() || found == looks[next].as_slice(),
+        found == before.as_slice() || found == after.as_slice(),
         "after {first} replies"
     );
 }
 
-/// A crash within each call of a run, by each pick.
+/// The same for a crash within each call of a run.
 fn expect_safe(
     rt: &impl Abort,
     alloc: Global,
     host: &MemHost,
-    looks: &[Vec<u8>],
+    pick: Pick,
+    looks: &Looks,
     other: &[u8],
 ) -> Result<(), Fail> {
+    let mut left = Vec::new(alloc);
+    let mut found = Vec::new(alloc);
     assert!(rt; has_device(host, Unit(0)));
-    for pick in [Pick::Old, Pick::New, Pick::Half, Pick::Fill(0xFF)] {
-        let mut left = Vec::new(alloc);
-        let mut found = Vec::new(alloc);
-        for call in 0..host.calls() {
-            let Crash { image, out } = host.images(Unit(0), call, pick)?;
-            let out = out as usize;
-            if image != left {
-                found = look(rt, alloc, &image, other)?;
-                left = image;
-            }
-            assert!(rt; out <= host.output().len());
-            expect_found(rt, &host.output()[..out], &found, looks);
+    for call in 0..host.calls() {
+        let Crash { image, out } = host.images(Unit(0), call, pick)?;
+        let out = out as usize;
+        if image != left {
+            found = look(rt, alloc, &image, other)?;
+            left = image;
         }
+        assert!(rt; out <= host.output().len());
+        expect_found(rt, &host.output()[..out], &found, looks);
     }
     Ok(())
 }
 
+/// The same for each pick of what a crash leaves.
 fn expect_all_safe(rt: &impl Abort, alloc: Global, lines: &[Answered]) -> Result<(), Fail> {
     let host = expect(rt, alloc, lines)?;
     let other = blocks(alloc, 13)?;
     let looks = looks(rt, alloc, lines, &other)?;
-    expect_safe(rt, alloc, &host, &looks, &other)
+    for pick in [Pick::Old, Pick::New, Pick::Half, Pick::Fill(0xFF)] {
+        expect_safe(rt, alloc, &host, pick, &looks, &other)?;
+    }
+    Ok(())
 }
 
 #[test]
@@ -213,7 +216,7 @@ fn expect_halted(
 fn halts_at_each_call_that_fails(rt: HostRuntime) -> Result<(), Fail> {
     let alloc = rt.alloc();
     let other = blocks(alloc, 13)?;
-    let added = expect(&rt, alloc, &LINES[..4])?;
+    let added = expect(&rt, alloc, ADDED)?;
     let card = image(&rt, alloc, &added, Unit(0))?;
     let sound = expect_on(&rt, alloc, SHORT, &card, &other)?;
     assert_eq!(rt; sound.output(), replies(alloc, SHORT)?.as_slice());

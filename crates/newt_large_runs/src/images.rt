@@ -1,5 +1,4 @@
 //! Images whose entries name large binaries that are not theirs.
-ghost use Rattle.std.specs.Prelude.{◌≡◌, ◌*◌, IfOk, vec_len};
 
 use crate::trial::{Answered, blocks, expect, expect_on, image};
 use newt_host::Unit;
@@ -29,20 +28,15 @@ const NAMED: &[u8] =
     b"wave\x00\x00\x00\x00\x00\x00\x00\x00\x00\x00\x00\x00\x00\x00\x00\x00\x00\x00\x00\x00\x02";
 
 /// Where the records name the objects of their large binaries.
-fn places(rt: &impl Abort, alloc: Global, image: &[u8]) -> Result<[usize; 2], Fail> {
+fn places(rt: &impl Abort, alloc: Global, image: &[u8]) -> Result<(usize, usize), Fail> {
     let mut found = Vec::new(alloc);
     for place in 0..image.len() {
         if image[place..].starts_with(NAMED) {
             found.push(place.saturating_add(NAMED.len()))?;
         }
     }
-    match found.as_slice() {
-        [first, second] => Ok([*first, *second]),
-        _ => {
-            assert!(rt; found.len() == 2);
-            Ok([0, 0])
-        }
-    }
+    assert!(rt; found.len() == 2);
+    Ok((found[0], found[1]))
 }
 
 /// The image with another number at a place.
@@ -80,7 +74,7 @@ fn takes_no_image_whose_large_binaries_are_not_named_once(rt: HostRuntime) -> Re
     let small = blocks(alloc, 13)?;
     let host = expect(&rt, alloc, TWO)?;
     let sound = image(&rt, alloc, &host, Unit(0))?;
-    let [first, second] = places(&rt, alloc, &sound)?;
+    let (first, second) = places(&rt, alloc, &sound)?;
     let (one, other) = (
         number_at(&rt, &sound, first),
         number_at(&rt, &sound, second),

@@ -1,5 +1,4 @@
 //! How many pages entries with large binaries take: a unit of 13 blocks has 38, of which the directory takes one.
-ghost use Rattle.std.specs.Prelude.{◌≡◌, ◌*◌, IfOk, vec_len};
 
 use crate::trial::{blocks, expect_output};
 use std::alloc::{AllocError, Global};
