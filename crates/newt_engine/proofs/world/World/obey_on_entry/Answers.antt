@@ -1,6 +1,7 @@
 -- The units do it.
-use Rattle.std.proofs.Common.{ℕ, List}
+use Rattle.std.proofs.Common.{◌≡◌, ap, sym, ◌∙◌, ℕ, List}
 use Rattle.std.proofs.lemmas.Result.{err_from_is_err_and}
+use Rattle.newt_spec_world.specs.declared.command.Command.TheVariants as command
 use Rattle.newt_spec_world.specs.Reply.{Reply as plain}
 use Rattle.newt_units.specs.declared.card.Entry.{Entry}
 use Rattle.newt_engine.proofs.Handed.{handed, moments_same}
@@ -25,7 +26,7 @@ pub returns-in_err-vread-in-Vread-clause-answered : goal.returns-in_err-vread-in
 returns-in_err-vread-in-Vread-clause-answered g c t = handed {T = List ℕ} _ _ c.args.command.now _ (λ bytes. plain.hex bytes) _ c.in-Vread.is (c.in_err-vread-in-Vread.ensures.answered t) _ (err_from_is_err_and c.from_residual-in_err-vread-in-Vread.result c.from_residual-in_err-vread-in-Vread.ensures.1)
 
 pub returns-in_err-vwrite-in-Vwrite-clause-answered : goal.returns-in_err-vwrite-in-Vwrite-clause-answered
-returns-in_err-vwrite-in-Vwrite-clause-answered g c t = handed {T = Unit {0}} _ _ c.args.command.now _ (λ _. plain.done) _ c.in-Vwrite.is (c.in_err-vwrite-in-Vwrite.ensures.answered t) _ (err_from_is_err_and c.from_residual-in_err-vwrite-in-Vwrite.result c.from_residual-in_err-vwrite-in-Vwrite.ensures.1)
+returns-in_err-vwrite-in-Vwrite-clause-answered g c t = handed {T = Unit {0}} _ _ c.args.command.now _ (λ _. plain.done) _ (c.in-Vwrite.is ∙ ap (λ bytes. command.Vwrite c.in-Vwrite.unit c.in-Vwrite.name c.in-Vwrite.uid c.in-Vwrite.path c.in-Vwrite.at bytes) (sym c.list.ensures)) (c.in_err-vwrite-in-Vwrite.ensures.answered t) _ (err_from_is_err_and c.from_residual-in_err-vwrite-in-Vwrite.result c.from_residual-in_err-vwrite-in-Vwrite.ensures.1)
 
 pub returns-in_err-time-in-Get-clause-moments : goal.returns-in_err-time-in-Get-clause-moments
 returns-in_err-time-in-Get-clause-moments g c t = moments_same g.C.Card.reads _ _ _ c.args.command.now _ c.in-Get.is (c.get.ensures.moments t)
