@@ -307,10 +307,6 @@ const LONGEST: &[u8] = b"\x02\x06\x01\x07\x01s\x08\xFF\x00\x00\xF9\xF4";
 
 const TOO_LONG: &[u8] = b"\x02\x06\x01\x07\x02ss\x08\xFF\x00\x00\xF9\xF4";
 
-// The text of a frame of one slot, which is a large binary of one byte.
-const LARGE: &[u8] =
-    b"\x02\x06\x01\x07\x01a\x0C\x07\x01b\x00\0\0\0\x01\0\0\0\0\0\0\0\0\0\0\0\0\xAA";
-
 // A text to its string's bytes, and zeros for them.
 fn long_text(alloc: Global, head: &[u8]) -> Result<Vec<u8>, Fail> {
     let mut text = head.to_vec(alloc)?;
@@ -333,9 +329,7 @@ fn refuse_graphs<P: PageBook>(
     let number = add(alloc, 0, b"\x02\x00\x04")?;
     refuse(alloc, host, store, number, Refusal::Notframe)?;
     let longer = add(alloc, 0, &long_text(alloc, TOO_LONG)?)?;
-    refuse(alloc, host, store, longer, Refusal::Size)?;
-    let large = add(alloc, 0, LARGE)?;
-    refuse(alloc, host, store, large, Refusal::Size)
+    refuse(alloc, host, store, longer, Refusal::Size)
 }
 
 // The longest text.

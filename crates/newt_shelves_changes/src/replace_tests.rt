@@ -23,11 +23,8 @@ const ONE: &[u8] = b"\x02\x06\x01\x07\x01a\x00\x04";
 
 const TWO: &[u8] = b"\x02\x06\x01\x07\x01a\x00\x08";
 
-// The text of a number, and of a frame with a large binary.
+// The text of a number.
 const NUMBER: &[u8] = b"\x02\x00\x04";
-
-const LARGE: &[u8] =
-    b"\x02\x06\x01\x07\x01a\x0C\x07\x01b\x00\0\0\0\x01\0\0\0\0\0\0\0\0\0\0\0\0\xAA";
 
 // The bytes of a journal record beside those of its pages, those of a page that it puts, and those of one that it lets go.
 const HEAD: usize = 9;
@@ -205,9 +202,7 @@ fn refuse_all<P: PageBook>(
     let change = replace(alloc, 1, 0, NUMBER)?;
     refuse(alloc, host, store, change, Refusal::Entry)?;
     let change = replace(alloc, 0, 0, NUMBER)?;
-    refuse(alloc, host, store, change, Refusal::Notframe)?;
-    let change = replace(alloc, 0, 0, LARGE)?;
-    refuse(alloc, host, store, change, Refusal::Size)
+    refuse(alloc, host, store, change, Refusal::Notframe)
 }
 
 fn refuses<P: PageBook>(alloc: Global) -> Result<(), Fail> {
