@@ -1,3 +1,4 @@
+pub mod Bounds
 pub mod Groups
 pub mod Ends
 pub mod Standing

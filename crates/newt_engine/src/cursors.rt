@@ -11,6 +11,7 @@ ghost use Rattle.newt_laws.specs.Settled.{MountedApart};
 ghost use Rattle.newt_walk.specs.Fits.{DeskFits};
 ghost use Rattle.newt_walk.specs.Replies.{Answers};
 ghost use Rattle.newt_walk.specs.World.{AreRead, world_with};
+ghost use Rattle.newt_engine.specs.Bounds.{CommandCosts};
 ghost use Rattle.newt_engine.specs.Ends.{takes_memory, uses_device};
 ghost use Rattle.newt_engine.specs.Groups.{on_cursor, on_place};
 ghost use Rattle.newt_engine.specs.Standing.{Standing};
@@ -36,6 +37,7 @@ impl<C: Card> World<C> {
         ensures answered { IsTrue H.told → now.Answers (world_with C.reads self.old.units self.old.desk (H.outside host.old)) (world_with C.reads self.new.units self.new.desk (H.outside host.new)) command.now said result }
         ensures moments { IsTrue H.told → let w = world_with C.reads self.old.units self.old.desk (H.outside host.old) in
             Always (Answering C.reads w (answer_now w command.now).0 (H.outside host.old).now) (H.outside host.old).now (H.outside host.new).now }
+        ensures costs { IsTrue H.told → CommandCosts (world_with C.reads self.old.units self.old.desk (H.outside host.old)) command.now result (H.outside host.old) (H.outside host.new) }
         ensures alone { OnDevices (H.outside host.old) (H.outside host.new) }
         ensures cause { IfErr result (λ fault. HasFaultCause fault (H.outside host.old) (H.outside host.new)) }
         ensures ends { takes_memory command.now ≡ false → IfErr result (λ fault. IsRefusal fault) }

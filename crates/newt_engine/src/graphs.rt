@@ -7,6 +7,7 @@ ghost use Rattle.newt_laws_answers.specs.Spoken.{answer_now};
 ghost use Rattle.newt_units.specs.Answers.{Answers};
 ghost use Rattle.newt_units.specs.Faults.{GoesOn, HasFaultCause, IsRefusal, NoDevice, OnDevices};
 ghost use Rattle.newt_units.specs.Stands.{Stands, world_of};
+ghost use Rattle.newt_engine.specs.Bounds.{CommandCosts};
 ghost use Rattle.newt_engine.specs.Ends.{takes_memory, uses_device};
 ghost use Rattle.newt_engine.specs.Groups.{on_cursor};
 
@@ -27,6 +28,7 @@ impl<C: Card> World<C> {
         ensures moments { IsTrue H.told → let w = world_of C.reads self.old.units (H.outside host.old) in
             Always (Answering C.reads w (answer_now w command).0 (H.outside host.old).now) (H.outside host.old).now (H.outside host.new).now }
         ensures desk { self.new.desk ≡ self.old.desk }
+        ensures costs { IsTrue H.told → CommandCosts (world_of C.reads self.old.units (H.outside host.old)) command result (H.outside host.old) (H.outside host.new) }
         ensures alone { OnDevices (H.outside host.old) (H.outside host.new) }
         ensures cause { IfErr result (λ fault. HasFaultCause fault (H.outside host.old) (H.outside host.new)) }
         ensures ends { takes_memory command ≡ false → IfErr result (λ fault. IsRefusal fault) }

@@ -11,6 +11,7 @@ ghost use Rattle.newt_units.specs.Faults.{GoesOn, HasFaultCause, IsEnd, IsRefusa
 ghost use Rattle.newt_units.specs.Stands.{Stands};
 ghost use Rattle.newt_walk.specs.Fits.{DeskFits};
 ghost use Rattle.newt_walk.specs.World.{AreRead, world_with};
+ghost use Rattle.newt_engine.specs.Bounds.{CommandCosts};
 ghost use Rattle.newt_engine.specs.Ends.{takes_memory, uses_device};
 ghost use Rattle.newt_engine.specs.Groups.{on_cursor, settles};
 ghost use Rattle.newt_engine.specs.Standing.{Standing};
@@ -30,6 +31,7 @@ impl<C: Card> World<C> {
         ensures answered { IsTrue H.told → Answers (world_with C.reads self.old.units self.old.desk (H.outside host.old)) (world_with C.reads self.new.units self.new.desk (H.outside host.new)) command said result }
         ensures moments { IsTrue H.told → let w = world_with C.reads self.old.units self.old.desk (H.outside host.old) in
             Always (Answering C.reads w (answer_now w command).0 (H.outside host.old).now) (H.outside host.old).now (H.outside host.new).now }
+        ensures costs { IsTrue H.told → CommandCosts (world_with C.reads self.old.units self.old.desk (H.outside host.old)) command result (H.outside host.old) (H.outside host.new) }
         ensures alone { OnDevices (H.outside host.old) (H.outside host.new) }
         ensures cause { IfErr result (λ fault. HasFaultCause fault (H.outside host.old) (H.outside host.new)) }
         ensures ends { takes_memory command ≡ false → IfErr result (λ fault. IsRefusal fault) }
@@ -50,6 +52,7 @@ impl<C: Card> World<C> {
         ensures answered { IsTrue H.told → Answers (world_with C.reads self.old.units self.old.desk (H.outside host.old)) (world_with C.reads self.new.units self.new.desk (H.outside host.new)) command said result }
         ensures moments { IsTrue H.told → let w = world_with C.reads self.old.units self.old.desk (H.outside host.old) in
             Always (Answering C.reads w (answer_now w command).0 (H.outside host.old).now) (H.outside host.old).now (H.outside host.new).now }
+        ensures costs { IsTrue H.told → CommandCosts (world_with C.reads self.old.units self.old.desk (H.outside host.old)) command result (H.outside host.old) (H.outside host.new) }
         ensures alone { OnDevices (H.outside host.old) (H.outside host.new) }
         ensures cause { IfErr result (λ fault. HasFaultCause fault (H.outside host.old) (H.outside host.new)) }
         ensures ends { takes_memory command ≡ false → IfErr result (λ fault. IsRefusal fault) }

@@ -1,12 +1,15 @@
 //! The world over the cards of a host.
-ghost use Rattle.std.specs.Prelude.{◌≡◌, false, Ok, IsTrue, IsOk, IfOk, OnOk, IfErr};
+ghost use Rattle.std.specs.Prelude.{◌≡◌, ℕ, false, Ok, IsTrue, IsOk, IfOk, OnOk, IfErr};
 ghost use Rattle.newt_base.specs.declared.Refusal.{Refusal};
 ghost use Rattle.newt_host.specs.Moments.{Always};
 ghost use Rattle.newt_reply.specs.Said.{said};
 ghost use Rattle.newt_laws_answers.specs.Answering.{Answering};
+ghost use Rattle.newt_laws_answers.specs.Bounds.{most_programmed};
 ghost use Rattle.newt_laws_answers.specs.Spoken.{answer_now};
+ghost use Rattle.newt_units.specs.Bounds.{ProgramsAtMost, IsOpenOrSame};
 ghost use Rattle.newt_units.specs.Faults.{HasStopCause, OnDevices};
 ghost use Rattle.newt_walk.specs.World.{world_with};
+ghost use Rattle.newt_engine.specs.Bounds.{is_format};
 ghost use Rattle.newt_engine.specs.Ends.{takes_memory, uses_device};
 ghost use Rattle.newt_engine.specs.Standing.{Standing};
 ghost use Rattle.newt_engine.specs.Laws.{laws_of, still_stands, same_world, leaves_store, stays_there};
@@ -35,6 +38,9 @@ impl<C: Card> World<C> {
         ensures answered { IsTrue H.told → IfOk result (λ reply. answer_now (world_with C.reads self.old.units self.old.desk (H.outside host.old)) command ≡ (world_with C.reads self.new.units self.new.desk (H.outside host.new), said reply)) }
         ensures moments { IsTrue H.told → let w = world_with C.reads self.old.units self.old.desk (H.outside host.old) in
             Always (Answering C.reads w (answer_now w command).0 (H.outside host.old).now) (H.outside host.old).now (H.outside host.new).now }
+        // but for a format, it programs each unit that has room for that by no more than the command may; and after a reply each bank is not closed or is as it was
+        ensures bound { IsTrue H.told → is_format command ≡ false → (u : ℕ) → ProgramsAtMost (most_programmed (world_with C.reads self.old.units self.old.desk (H.outside host.old)) command u) u (H.outside host.old) (H.outside host.new) }
+        ensures open_after { IsTrue H.told → OnOk result ((u : ℕ) → IsOpenOrSame u (H.outside host.old).now (H.outside host.new).now) }
         ensures alone { OnDevices (H.outside host.old) (H.outside host.new) }
         ensures cause { IfErr result (λ stop. HasStopCause stop (H.outside host.old) (H.outside host.new)) }
         ensures refused { IsTrue H.told → (refusal : Refusal) → result ≡ Ok (Reply.Refused refusal) → world_with C.reads self.new.units self.new.desk (H.outside host.new) ≡ world_with C.reads self.old.units self.old.desk (H.outside host.old) }

@@ -54,6 +54,7 @@ impl<P: PageBook> IndexedStore<P> {
             × StandsFor opened.store.catalog s (image unit (H.outside host.old).now) × AreRangesOf s opened.ranges) }
         ensures not_store { IsErrOf result BookFault.NotStore → IsTrue H.told → readable (image unit (H.outside host.old).now) ≡ None }
         ensures moment { (H.outside host.new).now ≡ (H.outside host.old).now }
+        ensures programs_nothing { (H.outside host.new).programmed unit ≤ (H.outside host.old).programmed unit }
         ensures alone { Touches unit (H.outside host.old) (H.outside host.new) }
         ensures cause { IsErrOf result BookFault.Device → Rose ((H.outside host.old).dev_faults unit) ((H.outside host.new).dev_faults unit) }
     {

@@ -7,7 +7,8 @@ use Rattle.newt_spec_store.specs.Store.{Store, Soup, Entry}
 use Rattle.newt_spec_world.specs.World.{World, default_unit, store_on_unit, soup_in, entry_in}
 use Rattle.newt_spec_world.specs.declared.command.Command.{Command}
 use Rattle.newt_spec_world.specs.declared.command.Command.TheVariants as command
-use Rattle.newt_laws_answers.specs.Spoken.{checks_now, answer_now}
+use Rattle.newt_spec_world.specs.Changed.{changed}
+use Rattle.newt_laws_answers.specs.Spoken.{checks_now}
 
 -- the pages of a store's directory (this project's own)
 abbrev pub directory_pages : Store → ℕ
@@ -78,4 +79,4 @@ bytes_done w v c u = bytes_between (store_on_unit w u) (store_on_unit v u) (touc
 
 -- The most bytes that a command but a format programs on a unit: none where it is refused or does not write the unit's store. (this project's own)
 unfoldable pub most_programmed : World → Command → ℕ → ℕ
-most_programmed w c u = unless (checks_now w c) (bytes_done w (answer_now w c).0 c u)
+most_programmed w c u = unless (checks_now w c) (bytes_done w (changed w c) c u)

@@ -26,6 +26,12 @@ GoesOn (Ok value) = Unit {0}
 GoesOn (Err (Refused refusal)) = Unit {0}
 GoesOn (Err (Ends stop)) = ⊥
 
+-- the answer is a refusal
+abbrev pub IsRefused : {T : Type 0} → Result T Fault → Type 0
+IsRefused (Ok value) = ⊥
+IsRefused (Err (Refused refusal)) = Unit {0}
+IsRefused (Err (Ends stop)) = ⊥
+
 -- What a call does that makes one thing of another, where its tests are passed: it answers well and has made it, or answers the first test that holds and has
 -- made nothing.
 abbrev pub Does : {T A : Type 0} → Checks → (T → Type 0) → (before after now : A) → Result T Fault → Type 0

@@ -15,7 +15,7 @@ ghost use Rattle.newt_laws_answers.specs.Bounds.{change_bytes, patch_bytes, unle
 ghost use Rattle.newt_laws_answers.specs.Tests.{make_tests, add_tests, move_tests, moved_within, replace_tests, replaced, patch_tests, patched_within, index_tests, tags_tests, tagged};
 ghost use Rattle.newt_units.specs.Bounds.{ProgramsAtMost};
 ghost use Rattle.newt_units.specs.Cards.{soup_of, entry_at, entry_said, count_in, LeavesEither, IsSame, OthersSame};
-ghost use Rattle.newt_units.specs.Faults.{Does, GoesOn, FaultsAt};
+ghost use Rattle.newt_units.specs.Faults.{Does, GoesOn, FaultsAt, IsRefused};
 
 use crate::fault::Fault;
 use newt_base::{Name, Sig, Uid};
@@ -64,6 +64,7 @@ pub trait Card: Sized + Drop {
         requires sig { sig ≤ 536_870_911 }
         ensures formatted { IsTrue H.told → OnOk result ((reads (image unit (H.outside host.new).now) ≡ Some (new_store name.now sig)) × IsDurable unit (H.outside host.new).now) }
         ensures any_moment { IsTrue H.told → Leaves unit Anything (H.outside host.old).now (H.outside host.new).now }
+        ensures open_after { IsTrue H.told → OnOk result (IsOpenFor 0 (image unit (H.outside host.new).now)) }
         ensures alone { Touches unit (H.outside host.old) (H.outside host.new) }
         ensures cause { IfErr result (StopsAt unit (H.outside host.old) (H.outside host.new)) };
 
@@ -76,6 +77,7 @@ pub trait Card: Sized + Drop {
         ensures place { IfOk result (λ card. place card ≡ unit) }
         ensures not_store { IsErrOf result BookFault.NotStore → IsTrue H.told → reads (image unit (H.outside host.old).now) ≡ None }
         ensures moment { (H.outside host.new).now ≡ (H.outside host.old).now }
+        ensures programs_nothing { (H.outside host.new).programmed unit ≤ (H.outside host.old).programmed unit }
         ensures alone { Touches unit (H.outside host.old) (H.outside host.new) }
         ensures cause { IsErrOf result BookFault.Device → Rose ((H.outside host.old).dev_faults unit) ((H.outside host.new).dev_faults unit) };
 
@@ -94,6 +96,7 @@ pub trait Card: Sized + Drop {
         ensures bound { IsTrue H.told → (s : Plain) → reads (image (place self.old) (H.outside host.old).now) ≡ Some s →
             ProgramsAtMost (unless (make_tests ((H.outside host.old).blocks (place self.old)) name.now s) (change_bytes s (make_soup name.now s) [] [])) (place self.old) (H.outside host.old) (H.outside host.new) }
         ensures open_after { IsTrue H.told → OnOk result (IsOpenFor 0 (image (place self.old) (H.outside host.new).now)) }
+        ensures nothing_done { IsRefused result → (H.outside host.new).now ≡ (H.outside host.old).now }
         ensures alone { Touches (place self.old) (H.outside host.old) (H.outside host.new) }
         ensures cause { IfErr result (FaultsAt (place self.old) (H.outside host.old) (H.outside host.new)) };
 
@@ -111,6 +114,7 @@ pub trait Card: Sized + Drop {
         ensures bound { IsTrue H.told → (s : Plain) (p : Soup) → reads (image (place self.old) (H.outside host.old).now) ≡ Some s → soup_of soup s ≡ Some p →
             ProgramsAtMost (change_bytes s (drop_soup p.name s) [] p.entries) (place self.old) (H.outside host.old) (H.outside host.new) }
         ensures open_after { IsTrue H.told → OnOk result (IsOpenFor 0 (image (place self.old) (H.outside host.new).now)) }
+        ensures nothing_done { IsRefused result → (H.outside host.new).now ≡ (H.outside host.old).now }
         ensures alone { Touches (place self.old) (H.outside host.old) (H.outside host.new) }
         ensures cause { IfErr result (FaultsAt (place self.old) (H.outside host.old) (H.outside host.new)) };
 
@@ -136,6 +140,7 @@ pub trait Card: Sized + Drop {
         ensures bound { IsTrue H.told → (s : Plain) (p : Soup) → reads (image (place self.old) (H.outside host.old).now) ≡ Some s → soup_of soup s ≡ Some p →
             ProgramsAtMost (unless (add_tests ((H.outside host.old).blocks (place self.old)) now p.name graph s p) (change_bytes s (change_soup p.name (add_entry now graph) s) (record { uid = p.next_uid; time = now; graph = graph } ∷ []) [])) (place self.old) (H.outside host.old) (H.outside host.new) }
         ensures open_after { IsTrue H.told → OnOk result (IsOpenFor 0 (image (place self.old) (H.outside host.new).now)) }
+        ensures nothing_done { IsRefused result → (H.outside host.new).now ≡ (H.outside host.old).now }
         ensures alone { Touches (place self.old) (H.outside host.old) (H.outside host.new) }
         ensures cause { IfErr result (FaultsAt (place self.old) (H.outside host.old) (H.outside host.new)) };
 
@@ -153,6 +158,7 @@ pub trait Card: Sized + Drop {
         ensures bound { IsTrue H.told → (s : Plain) (p : Soup) (e : PlainEntry) → reads (image (place self.old) (H.outside host.old).now) ≡ Some s → soup_of soup s ≡ Some p → entry_of uid p ≡ Some e →
             ProgramsAtMost (change_bytes s (change_soup p.name (remove_entry uid) s) [] (e ∷ [])) (place self.old) (H.outside host.old) (H.outside host.new) }
         ensures open_after { IsTrue H.told → OnOk result (IsOpenFor 0 (image (place self.old) (H.outside host.new).now)) }
+        ensures nothing_done { IsRefused result → (H.outside host.new).now ≡ (H.outside host.old).now }
         ensures alone { Touches (place self.old) (H.outside host.old) (H.outside host.new) }
         ensures cause { IfErr result (FaultsAt (place self.old) (H.outside host.old) (H.outside host.new)) };
 
@@ -179,6 +185,7 @@ pub trait Card: Sized + Drop {
         ensures bound { IsTrue H.told → (s : Plain) (p : Soup) (e : PlainEntry) → reads (image (place self.old) (H.outside host.old).now) ≡ Some s → soup_of soup s ≡ Some p → entry_of uid p ≡ Some e →
             ProgramsAtMost (unless (replace_tests ((H.outside host.old).blocks (place self.old)) now p.name uid graph s) (change_bytes s (replaced now p.name uid graph s) (with_graph now graph e ∷ []) (e ∷ []))) (place self.old) (H.outside host.old) (H.outside host.new) }
         ensures open_after { IsTrue H.told → OnOk result (IsOpenFor 0 (image (place self.old) (H.outside host.new).now)) }
+        ensures nothing_done { IsRefused result → (H.outside host.new).now ≡ (H.outside host.old).now }
         ensures alone { Touches (place self.old) (H.outside host.old) (H.outside host.new) }
         ensures cause { IfErr result (FaultsAt (place self.old) (H.outside host.old) (H.outside host.new)) };
 
@@ -208,6 +215,7 @@ pub trait Card: Sized + Drop {
             slice_get e.graph.nodes node ≡ Some (Large class large) →
             ProgramsAtMost (unless (patch_tests node at (length bytes.now) e) (patch_bytes (length bytes.now))) (place self.old) (H.outside host.old) (H.outside host.new) }
         ensures open_after { IsTrue H.told → OnOk result (IsOpenFor 0 (image (place self.old) (H.outside host.new).now)) }
+        ensures nothing_done { IsRefused result → (H.outside host.new).now ≡ (H.outside host.old).now }
         ensures alone { Touches (place self.old) (H.outside host.old) (H.outside host.new) }
         ensures cause { IfErr result (FaultsAt (place self.old) (H.outside host.old) (H.outside host.new)) };
 
@@ -236,6 +244,7 @@ pub trait Card: Sized + Drop {
         ensures bound { IsTrue H.told → (s : Plain) (p q : Soup) (e : PlainEntry) → reads (image (place self.old) (H.outside host.old).now) ≡ Some s → soup_of soup s ≡ Some p → entry_of uid p ≡ Some e → soup_of target s ≡ Some q →
             ProgramsAtMost (unless (move_tests ((H.outside host.old).blocks (place self.old)) now p.name uid q.name e.graph s q) (change_bytes s (moved_within now p.name uid q.name e.graph s) (record { uid = q.next_uid; time = now; graph = e.graph } ∷ []) (e ∷ []))) (place self.old) (H.outside host.old) (H.outside host.new) }
         ensures open_after { IsTrue H.told → OnOk result (IsOpenFor 0 (image (place self.old) (H.outside host.new).now)) }
+        ensures nothing_done { IsRefused result → (H.outside host.new).now ≡ (H.outside host.old).now }
         ensures alone { Touches (place self.old) (H.outside host.old) (H.outside host.new) }
         ensures cause { IfErr result (FaultsAt (place self.old) (H.outside host.old) (H.outside host.new)) };
 
@@ -253,6 +262,7 @@ pub trait Card: Sized + Drop {
         ensures bound { IsTrue H.told → (s : Plain) (p : Soup) → reads (image (place self.old) (H.outside host.old).now) ≡ Some s → soup_of soup s ≡ Some p →
             ProgramsAtMost (unless (index_tests ((H.outside host.old).blocks (place self.old)) p.name spec s p) (change_bytes s (change_soup p.name (with_index spec) s) [] [])) (place self.old) (H.outside host.old) (H.outside host.new) }
         ensures open_after { IsTrue H.told → OnOk result (IsOpenFor 0 (image (place self.old) (H.outside host.new).now)) }
+        ensures nothing_done { IsRefused result → (H.outside host.new).now ≡ (H.outside host.old).now }
         ensures alone { Touches (place self.old) (H.outside host.old) (H.outside host.new) }
         ensures cause { IfErr result (FaultsAt (place self.old) (H.outside host.old) (H.outside host.new)) };
 
@@ -270,6 +280,7 @@ pub trait Card: Sized + Drop {
         ensures bound { IsTrue H.told → (s : Plain) (p : Soup) → reads (image (place self.old) (H.outside host.old).now) ≡ Some s → soup_of soup s ≡ Some p →
             ProgramsAtMost (change_bytes s (change_soup p.name (without_index paths.now) s) [] []) (place self.old) (H.outside host.old) (H.outside host.new) }
         ensures open_after { IsTrue H.told → OnOk result (IsOpenFor 0 (image (place self.old) (H.outside host.new).now)) }
+        ensures nothing_done { IsRefused result → (H.outside host.new).now ≡ (H.outside host.old).now }
         ensures alone { Touches (place self.old) (H.outside host.old) (H.outside host.new) }
         ensures cause { IfErr result (FaultsAt (place self.old) (H.outside host.old) (H.outside host.new)) };
 
@@ -287,6 +298,7 @@ pub trait Card: Sized + Drop {
         ensures bound { IsTrue H.told → (s : Plain) (p : Soup) → reads (image (place self.old) (H.outside host.old).now) ≡ Some s → soup_of soup s ≡ Some p →
             ProgramsAtMost (unless (tags_tests ((H.outside host.old).blocks (place self.old)) p.name table s) (change_bytes s (tagged p.name table s) [] [])) (place self.old) (H.outside host.old) (H.outside host.new) }
         ensures open_after { IsTrue H.told → OnOk result (IsOpenFor 0 (image (place self.old) (H.outside host.new).now)) }
+        ensures nothing_done { IsRefused result → (H.outside host.new).now ≡ (H.outside host.old).now }
         ensures alone { Touches (place self.old) (H.outside host.old) (H.outside host.new) }
         ensures cause { IfErr result (FaultsAt (place self.old) (H.outside host.old) (H.outside host.new)) };
 

@@ -1,13 +1,16 @@
 //! Changes of one store that is mounted.
-ghost use Rattle.std.specs.Prelude.{◌≡◌, ℕ, true, IsTrue, List, length, Some, None, slice_get, ⊤, [], OnOk, IfOk, IfErr};
+ghost use Rattle.std.specs.Prelude.{◌≡◌, ℕ, true, IsTrue, List, length, Some, None, slice_get, ⊤, [], OnOk, IfOk, IfErr, ◌∷◌, ◌≤◌};
 ghost use Rattle.newt_base.specs.Refusals.{first_of};
 ghost use Rattle.newt_graph.specs.declared.node.Node.TheVariants.{Large};
 ghost use Rattle.newt_host.specs.Moments.{Always};
 ghost use Rattle.newt_spec_store.specs.Store.{Store as Plain, Soup, Entry as PlainEntry, entry_of, change_soup, make_soup, drop_soup, add_entry, remove_entry};
 ghost use Rattle.newt_spec_world.specs.World.{World, store_on_unit, change_store};
 ghost use Rattle.newt_laws_answers.specs.Answering.{Answering};
+ghost use Rattle.newt_laws_answers.specs.Bounds.{change_bytes, patch_bytes, unless};
+ghost use Rattle.newt_spec_world.specs.Changed.{with_graph};
 ghost use Rattle.newt_laws_answers.specs.Tests.{make_tests, add_tests, replace_tests, replaced, patch_tests, patched_within, move_tests, moved_within, with_added};
 ghost use Rattle.newt_laws_answers.specs.There.{OnUnit};
+ghost use Rattle.newt_units.specs.Bounds.{CostsOn};
 ghost use Rattle.newt_units.specs.Cards.{soup_of, entry_at, entry_said, ReadsEntry};
 ghost use Rattle.newt_units.specs.Faults.{Does, GoesOn, HasFaultCause, HasStopCause, OnDevices};
 ghost use Rattle.newt_units.specs.Stands.{Stands, mounted_in, world_of};
@@ -36,6 +39,8 @@ impl<C: Card> Units<C> {
         ensures moments { IsTrue H.told → let w = world_of C.reads self.old (H.outside host.old) in (blocks : ℕ) (s : Plain) → OnUnit w unit blocks s →
             (v : World) → (first_of (make_tests blocks name.now s) ≡ None → store_on_unit v unit ≡ Some (make_soup name.now s)) →
             Always (Answering C.reads w v (H.outside host.old).now) (H.outside host.old).now (H.outside host.new).now }
+        ensures costs { IsTrue H.told → let w = world_of C.reads self.old (H.outside host.old) in (blocks : ℕ) (s : Plain) → OnUnit w unit blocks s →
+            CostsOn unit (unless (make_tests blocks name.now s) (change_bytes s (make_soup name.now s) [] [])) result (H.outside host.old) (H.outside host.new) }
         ensures alone { OnDevices (H.outside host.old) (H.outside host.new) }
         ensures cause { IfErr result (λ fault. HasFaultCause fault (H.outside host.old) (H.outside host.new)) }
     {
@@ -60,6 +65,8 @@ impl<C: Card> Units<C> {
         ensures moments { IsTrue H.told → let w = world_of C.reads self.old (H.outside host.old) in (blocks : ℕ) (s : Plain) (p : Soup) → OnUnit w unit blocks s → soup_of soup s ≡ Some p →
             (v : World) → (first_of ([]) ≡ None → store_on_unit v unit ≡ Some (drop_soup p.name s)) →
             Always (Answering C.reads w v (H.outside host.old).now) (H.outside host.old).now (H.outside host.new).now }
+        ensures costs { IsTrue H.told → let w = world_of C.reads self.old (H.outside host.old) in (blocks : ℕ) (s : Plain) (p : Soup) → OnUnit w unit blocks s → soup_of soup s ≡ Some p →
+            CostsOn unit (change_bytes s (drop_soup p.name s) [] p.entries) result (H.outside host.old) (H.outside host.new) }
         ensures alone { OnDevices (H.outside host.old) (H.outside host.new) }
         ensures cause { IfErr result (λ fault. HasFaultCause fault (H.outside host.old) (H.outside host.new)) }
     {
@@ -86,6 +93,8 @@ impl<C: Card> Units<C> {
             (v : World) → (first_of (add_tests blocks w.minute p.name graph s p) ≡ None → store_on_unit v unit ≡ Some (change_soup p.name (add_entry w.minute graph) s)) →
             Always (Answering C.reads w v (H.outside host.old).now) (H.outside host.old).now (H.outside host.new).now }
         ensures marks { (u : ℕ) → mounted_in self.new.slots.items u ≡ mounted_in self.old.slots.items u }
+        ensures costs { IsTrue H.told → let w = world_of C.reads self.old (H.outside host.old) in (blocks : ℕ) (s : Plain) (p : Soup) → OnUnit w unit blocks s → soup_of soup s ≡ Some p →
+            CostsOn unit (unless (add_tests blocks w.minute p.name graph s p) (change_bytes s (change_soup p.name (add_entry w.minute graph) s) (record { uid = p.next_uid; time = w.minute; graph = graph } ∷ []) [])) result (H.outside host.old) (H.outside host.new) }
         ensures alone { OnDevices (H.outside host.old) (H.outside host.new) }
         ensures cause { IfErr result (λ fault. HasFaultCause fault (H.outside host.old) (H.outside host.new)) }
     {
@@ -113,6 +122,8 @@ impl<C: Card> Units<C> {
         ensures moments { IsTrue H.told → let w = world_of C.reads self.old (H.outside host.old) in (blocks : ℕ) (s : Plain) (p : Soup) (e : PlainEntry) → OnUnit w unit blocks s → soup_of soup s ≡ Some p → entry_of uid p ≡ Some e →
             (v : World) → (first_of (replace_tests blocks w.minute p.name uid graph s) ≡ None → store_on_unit v unit ≡ Some (replaced w.minute p.name uid graph s)) →
             Always (Answering C.reads w v (H.outside host.old).now) (H.outside host.old).now (H.outside host.new).now }
+        ensures costs { IsTrue H.told → let w = world_of C.reads self.old (H.outside host.old) in (blocks : ℕ) (s : Plain) (p : Soup) (e : PlainEntry) → OnUnit w unit blocks s → soup_of soup s ≡ Some p → entry_of uid p ≡ Some e →
+            CostsOn unit (unless (replace_tests blocks w.minute p.name uid graph s) (change_bytes s (replaced w.minute p.name uid graph s) (with_graph w.minute graph e ∷ []) (e ∷ []))) result (H.outside host.old) (H.outside host.new) }
         ensures alone { OnDevices (H.outside host.old) (H.outside host.new) }
         ensures cause { IfErr result (λ fault. HasFaultCause fault (H.outside host.old) (H.outside host.new)) }
     {
@@ -144,6 +155,9 @@ impl<C: Card> Units<C> {
             slice_get e.graph.nodes node ≡ Some (Large class large) →
             (v : World) → (first_of (patch_tests node at (length bytes.now) e) ≡ None → store_on_unit v unit ≡ Some (patched_within p.name uid node at bytes.now s)) →
             Always (Answering C.reads w v (H.outside host.old).now) (H.outside host.old).now (H.outside host.new).now }
+        ensures costs { IsTrue H.told → let w = world_of C.reads self.old (H.outside host.old) in (blocks : ℕ) (s : Plain) (p : Soup) (e : PlainEntry) (class : ℕ) (large : List ℕ) → OnUnit w unit blocks s → soup_of soup s ≡ Some p → entry_of uid p ≡ Some e →
+            slice_get e.graph.nodes node ≡ Some (Large class large) →
+            CostsOn unit (unless (patch_tests node at (length bytes.now) e) (patch_bytes (length bytes.now))) result (H.outside host.old) (H.outside host.new) }
         ensures alone { OnDevices (H.outside host.old) (H.outside host.new) }
         ensures cause { IfErr result (λ fault. HasFaultCause fault (H.outside host.old) (H.outside host.new)) }
     {
@@ -169,6 +183,8 @@ impl<C: Card> Units<C> {
         ensures moments { IsTrue H.told → let w = world_of C.reads self.old (H.outside host.old) in (blocks : ℕ) (s : Plain) (p : Soup) (e : PlainEntry) → OnUnit w unit blocks s → soup_of soup s ≡ Some p → entry_of uid p ≡ Some e →
             (v : World) → (first_of ([]) ≡ None → store_on_unit v unit ≡ Some (change_soup p.name (remove_entry uid) s)) →
             Always (Answering C.reads w v (H.outside host.old).now) (H.outside host.old).now (H.outside host.new).now }
+        ensures costs { IsTrue H.told → let w = world_of C.reads self.old (H.outside host.old) in (blocks : ℕ) (s : Plain) (p : Soup) (e : PlainEntry) → OnUnit w unit blocks s → soup_of soup s ≡ Some p → entry_of uid p ≡ Some e →
+            CostsOn unit (change_bytes s (change_soup p.name (remove_entry uid) s) [] (e ∷ [])) result (H.outside host.old) (H.outside host.new) }
         ensures alone { OnDevices (H.outside host.old) (H.outside host.new) }
         ensures cause { IfErr result (λ fault. HasFaultCause fault (H.outside host.old) (H.outside host.new)) }
     {
@@ -195,6 +211,8 @@ impl<C: Card> Units<C> {
         ensures moments { IsTrue H.told → let w = world_of C.reads self.old (H.outside host.old) in (blocks : ℕ) (s : Plain) (p q : Soup) (e : PlainEntry) → OnUnit w unit blocks s → soup_of soup s ≡ Some p → entry_of uid p ≡ Some e → soup_of target s ≡ Some q →
             (v : World) → (first_of (move_tests blocks w.minute p.name uid q.name e.graph s q) ≡ None → store_on_unit v unit ≡ Some (moved_within w.minute p.name uid q.name e.graph s)) →
             Always (Answering C.reads w v (H.outside host.old).now) (H.outside host.old).now (H.outside host.new).now }
+        ensures costs { IsTrue H.told → let w = world_of C.reads self.old (H.outside host.old) in (blocks : ℕ) (s : Plain) (p q : Soup) (e : PlainEntry) → OnUnit w unit blocks s → soup_of soup s ≡ Some p → entry_of uid p ≡ Some e → soup_of target s ≡ Some q →
+            CostsOn unit (unless (move_tests blocks w.minute p.name uid q.name e.graph s q) (change_bytes s (moved_within w.minute p.name uid q.name e.graph s) (record { uid = q.next_uid; time = w.minute; graph = e.graph } ∷ []) (e ∷ []))) result (H.outside host.old) (H.outside host.new) }
         ensures alone { OnDevices (H.outside host.old) (H.outside host.new) }
         ensures cause { IfErr result (λ fault. HasFaultCause fault (H.outside host.old) (H.outside host.new)) }
     {
@@ -220,6 +238,7 @@ impl<C: Card> Units<C> {
         ensures world { IsTrue H.told → world_of C.reads self.new (H.outside host.new) ≡ world_of C.reads self.old (H.outside host.old) }
         ensures marks { (u : ℕ) → mounted_in self.new.slots.items u ≡ mounted_in self.old.slots.items u }
         ensures moment { (H.outside host.new).now ≡ (H.outside host.old).now }
+        ensures programs_nothing { IsTrue H.told → (u : ℕ) → (H.outside host.new).programmed u ≤ (H.outside host.old).programmed u }
         ensures alone { OnDevices (H.outside host.old) (H.outside host.new) }
         ensures cause { IfErr result (λ stop. HasStopCause stop (H.outside host.old) (H.outside host.new)) }
     {
@@ -244,6 +263,7 @@ impl<C: Card> Units<C> {
         ensures world { IsTrue H.told → world_of C.reads self.new (H.outside host.new) ≡ world_of C.reads self.old (H.outside host.old) }
         ensures marks { (u : ℕ) → mounted_in self.new.slots.items u ≡ mounted_in self.old.slots.items u }
         ensures moment { (H.outside host.new).now ≡ (H.outside host.old).now }
+        ensures programs_nothing { IsTrue H.told → (u : ℕ) → (H.outside host.new).programmed u ≤ (H.outside host.old).programmed u }
         ensures alone { OnDevices (H.outside host.old) (H.outside host.new) }
         ensures cause { IfErr result (λ fault. HasFaultCause fault (H.outside host.old) (H.outside host.new)) }
     {

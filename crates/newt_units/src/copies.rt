@@ -4,7 +4,9 @@ ghost use Rattle.newt_host.specs.Moments.{Always};
 ghost use Rattle.newt_spec_world.specs.Reply.{Reply};
 ghost use Rattle.newt_spec_world.specs.declared.command.Command.{Command};
 ghost use Rattle.newt_laws_answers.specs.Answering.{Answering};
+ghost use Rattle.newt_laws_answers.specs.Bounds.{most_programmed};
 ghost use Rattle.newt_laws_answers.specs.Spoken.{answer_now};
+ghost use Rattle.newt_units.specs.Bounds.{Costs};
 ghost use Rattle.newt_units.specs.Answers.{Answers};
 ghost use Rattle.newt_units.specs.Faults.{GoesOn, HasFaultCause, OnDevices};
 ghost use Rattle.newt_units.specs.Found.{HasSoup};
@@ -32,6 +34,7 @@ impl<C: Card> Units<C> {
         ensures answered { IsTrue H.told → Answers (world_of C.reads self.old (H.outside host.old)) (world_of C.reads self.new (H.outside host.new)) (Command.Copy unit name.now uid to target.now) (λ n. Reply.number n) result }
         ensures moments { IsTrue H.told → let w = world_of C.reads self.old (H.outside host.old) in
             Always (Answering C.reads w (answer_now w (Command.Copy unit name.now uid to target.now)).0 (H.outside host.old).now) (H.outside host.old).now (H.outside host.new).now }
+        ensures costs { IsTrue H.told → Costs (most_programmed (world_of C.reads self.old (H.outside host.old)) (Command.Copy unit name.now uid to target.now)) result (H.outside host.old) (H.outside host.new) }
         ensures alone { OnDevices (H.outside host.old) (H.outside host.new) }
         ensures cause { IfErr result (λ fault. HasFaultCause fault (H.outside host.old) (H.outside host.new)) }
     {
@@ -55,6 +58,7 @@ impl<C: Card> Units<C> {
         ensures answered { IsTrue H.told → Answers (world_of C.reads self.old (H.outside host.old)) (world_of C.reads self.new (H.outside host.new)) (Command.Move unit name.now uid to target.now) (λ n. Reply.number n) result }
         ensures moments { IsTrue H.told → let w = world_of C.reads self.old (H.outside host.old) in
             Always (Answering C.reads w (answer_now w (Command.Move unit name.now uid to target.now)).0 (H.outside host.old).now) (H.outside host.old).now (H.outside host.new).now }
+        ensures costs { IsTrue H.told → Costs (most_programmed (world_of C.reads self.old (H.outside host.old)) (Command.Move unit name.now uid to target.now)) result (H.outside host.old) (H.outside host.new) }
         ensures alone { OnDevices (H.outside host.old) (H.outside host.new) }
         ensures cause { IfErr result (λ fault. HasFaultCause fault (H.outside host.old) (H.outside host.new)) }
     {
@@ -82,6 +86,8 @@ impl<C: Card> Units<C> {
             Answers w (world_of C.reads self.new (H.outside host.new)) (Command.Move unit name uid unit target) (λ n. Reply.number n) result }
         ensures moments { IsTrue H.told → let w = world_of C.reads self.old (H.outside host.old) in (name target : List ℕ) → HasSoup w unit name soup → HasSoup w unit target into →
             Always (Answering C.reads w (answer_now w (Command.Move unit name uid unit target)).0 (H.outside host.old).now) (H.outside host.old).now (H.outside host.new).now }
+        ensures costs { IsTrue H.told → let w = world_of C.reads self.old (H.outside host.old) in (name target : List ℕ) → HasSoup w unit name soup → HasSoup w unit target into →
+            Costs (most_programmed w (Command.Move unit name uid unit target)) result (H.outside host.old) (H.outside host.new) }
         ensures alone { OnDevices (H.outside host.old) (H.outside host.new) }
         ensures cause { IfErr result (λ fault. HasFaultCause fault (H.outside host.old) (H.outside host.new)) }
     {
@@ -111,6 +117,8 @@ impl<C: Card> Units<C> {
             Answers w (world_of C.reads self.new (H.outside host.new)) (Command.Move unit name uid to target) (λ n. Reply.number n) result }
         ensures moments { IsTrue H.told → let w = world_of C.reads self.old (H.outside host.old) in (name target : List ℕ) → HasSoup w unit name soup → HasSoup w to target into →
             Always (Answering C.reads w (answer_now w (Command.Move unit name uid to target)).0 (H.outside host.old).now) (H.outside host.old).now (H.outside host.new).now }
+        ensures costs { IsTrue H.told → let w = world_of C.reads self.old (H.outside host.old) in (name target : List ℕ) → HasSoup w unit name soup → HasSoup w to target into →
+            Costs (most_programmed w (Command.Move unit name uid to target)) result (H.outside host.old) (H.outside host.new) }
         ensures alone { OnDevices (H.outside host.old) (H.outside host.new) }
         ensures cause { IfErr result (λ fault. HasFaultCause fault (H.outside host.old) (H.outside host.new)) }
     {

@@ -1,5 +1,5 @@
 //! Indexes: declared, removed and shown.
-ghost use Rattle.std.specs.Prelude.{◌≡◌, ℕ, true, IsTrue, ⊤, [], Some, None, IfOk, IfErr, map, option_map, option_and_then};
+ghost use Rattle.std.specs.Prelude.{◌≡◌, ℕ, true, IsTrue, ⊤, [], Some, None, IfOk, IfErr, map, option_map, option_and_then, ◌∷◌, ◌≤◌};
 ghost use Rattle.newt_base.specs.Refusals.{first_of};
 ghost use Rattle.newt_host.specs.Moments.{Always};
 ghost use Rattle.newt_host.specs.Outside.{Outside};
@@ -10,9 +10,11 @@ ghost use Rattle.newt_spec_world.specs.World.{World, store_on_unit, change_store
 ghost use Rattle.newt_spec_world.specs.declared.command.Command.{Command};
 ghost use Rattle.newt_laws.specs.Worlds.{parts_fit};
 ghost use Rattle.newt_laws_answers.specs.Answering.{Answering};
+ghost use Rattle.newt_laws_answers.specs.Bounds.{most_programmed, change_bytes, unless};
 ghost use Rattle.newt_laws_answers.specs.Spoken.{answer_now};
 ghost use Rattle.newt_laws_answers.specs.Tests.{index_tests, has_paths};
 ghost use Rattle.newt_laws_answers.specs.There.{OnUnit};
+ghost use Rattle.newt_units.specs.Bounds.{Costs, CostsOn};
 ghost use Rattle.newt_units.specs.Answers.{Answers};
 ghost use Rattle.newt_units.specs.Cards.{soup_of};
 ghost use Rattle.newt_units.specs.Declares.{MayDeclare};
@@ -45,6 +47,7 @@ impl<C: Card> Units<C> {
         ensures answered { IsTrue H.told → Answers (world_of C.reads self.old (H.outside host.old)) (world_of C.reads self.new (H.outside host.new)) (Command.Index unit name.now parts.now) (λ _. Reply.done) result }
         ensures moments { IsTrue H.told → let w = world_of C.reads self.old (H.outside host.old) in
             Always (Answering C.reads w (answer_now w (Command.Index unit name.now parts.now)).0 (H.outside host.old).now) (H.outside host.old).now (H.outside host.new).now }
+        ensures costs { IsTrue H.told → Costs (most_programmed (world_of C.reads self.old (H.outside host.old)) (Command.Index unit name.now parts.now)) result (H.outside host.old) (H.outside host.new) }
         ensures alone { OnDevices (H.outside host.old) (H.outside host.new) }
         ensures cause { IfErr result (λ fault. HasFaultCause fault (H.outside host.old) (H.outside host.new)) }
     {
@@ -70,6 +73,7 @@ impl<C: Card> Units<C> {
         ensures answered { IsTrue H.told → Answers (world_of C.reads self.old (H.outside host.old)) (world_of C.reads self.new (H.outside host.new)) (Command.Unindex unit name.now paths.now) (λ _. Reply.done) result }
         ensures moments { IsTrue H.told → let w = world_of C.reads self.old (H.outside host.old) in
             Always (Answering C.reads w (answer_now w (Command.Unindex unit name.now paths.now)).0 (H.outside host.old).now) (H.outside host.old).now (H.outside host.new).now }
+        ensures costs { IsTrue H.told → Costs (most_programmed (world_of C.reads self.old (H.outside host.old)) (Command.Unindex unit name.now paths.now)) result (H.outside host.old) (H.outside host.new) }
         ensures alone { OnDevices (H.outside host.old) (H.outside host.new) }
         ensures cause { IfErr result (λ fault. HasFaultCause fault (H.outside host.old) (H.outside host.new)) }
     {
@@ -159,6 +163,8 @@ impl<C: Card> Units<C> {
         ensures moments { IsTrue H.told → let w = world_of C.reads self.old (H.outside host.old) in (blocks : ℕ) (s : Plain) (p : Soup) → OnUnit w unit blocks s → soup_of soup s ≡ Some p →
             (v : World) → (first_of (index_tests blocks p.name spec s p) ≡ None → store_on_unit v unit ≡ Some (change_soup p.name (with_index spec) s)) →
             Always (Answering C.reads w v (H.outside host.old).now) (H.outside host.old).now (H.outside host.new).now }
+        ensures costs { IsTrue H.told → let w = world_of C.reads self.old (H.outside host.old) in (blocks : ℕ) (s : Plain) (p : Soup) → OnUnit w unit blocks s → soup_of soup s ≡ Some p →
+            CostsOn unit (unless (index_tests blocks p.name spec s p) (change_bytes s (change_soup p.name (with_index spec) s) [] [])) result (H.outside host.old) (H.outside host.new) }
         ensures alone { OnDevices (H.outside host.old) (H.outside host.new) }
         ensures cause { IfErr result (λ fault. HasFaultCause fault (H.outside host.old) (H.outside host.new)) }
     {
@@ -184,6 +190,8 @@ impl<C: Card> Units<C> {
         ensures moments { IsTrue H.told → let w = world_of C.reads self.old (H.outside host.old) in (blocks : ℕ) (s : Plain) (p : Soup) → OnUnit w unit blocks s → soup_of soup s ≡ Some p →
             (v : World) → (first_of ([]) ≡ None → store_on_unit v unit ≡ Some (change_soup p.name (without_index paths.now) s)) →
             Always (Answering C.reads w v (H.outside host.old).now) (H.outside host.old).now (H.outside host.new).now }
+        ensures costs { IsTrue H.told → let w = world_of C.reads self.old (H.outside host.old) in (blocks : ℕ) (s : Plain) (p : Soup) → OnUnit w unit blocks s → soup_of soup s ≡ Some p →
+            CostsOn unit (change_bytes s (change_soup p.name (without_index paths.now) s) [] []) result (H.outside host.old) (H.outside host.new) }
         ensures alone { OnDevices (H.outside host.old) (H.outside host.new) }
         ensures cause { IfErr result (λ fault. HasFaultCause fault (H.outside host.old) (H.outside host.new)) }
     {

@@ -6,7 +6,9 @@ ghost use Rattle.newt_spec_world.specs.Changed.{bytes_of_large, large_at};
 ghost use Rattle.newt_spec_world.specs.Reply.{Reply};
 ghost use Rattle.newt_spec_world.specs.declared.command.Command.{Command};
 ghost use Rattle.newt_laws_answers.specs.Answering.{Answering};
+ghost use Rattle.newt_laws_answers.specs.Bounds.{most_programmed};
 ghost use Rattle.newt_laws_answers.specs.Spoken.{answer_now};
+ghost use Rattle.newt_units.specs.Bounds.{Costs};
 ghost use Rattle.newt_units.specs.Answers.{Answers};
 ghost use Rattle.newt_units.specs.Faults.{GoesOn, HasFaultCause, NoDevice, OnDevices};
 ghost use Rattle.newt_units.specs.Larges.{ReadsLarge};
@@ -38,6 +40,7 @@ impl<C: Card> Units<C> {
         ensures answered { IsTrue H.told → Answers (world_of C.reads self.old (H.outside host.old)) (world_of C.reads self.new (H.outside host.new)) (Command.Vread unit name.now uid path.now at len) (λ bytes. Reply.hex bytes) result }
         ensures moments { IsTrue H.told → let w = world_of C.reads self.old (H.outside host.old) in
             Always (Answering C.reads w (answer_now w (Command.Vread unit name.now uid path.now at len)).0 (H.outside host.old).now) (H.outside host.old).now (H.outside host.new).now }
+        ensures costs { IsTrue H.told → Costs (most_programmed (world_of C.reads self.old (H.outside host.old)) (Command.Vread unit name.now uid path.now at len)) result (H.outside host.old) (H.outside host.new) }
         ensures alone { OnDevices (H.outside host.old) (H.outside host.new) }
         ensures cause { IfErr result (λ fault. HasFaultCause fault (H.outside host.old) (H.outside host.new)) }
     {
@@ -62,6 +65,7 @@ impl<C: Card> Units<C> {
         ensures answered { IsTrue H.told → Answers (world_of C.reads self.old (H.outside host.old)) (world_of C.reads self.new (H.outside host.new)) (Command.Vwrite unit name.now uid path.now at bytes.now) (λ _. Reply.done) result }
         ensures moments { IsTrue H.told → let w = world_of C.reads self.old (H.outside host.old) in
             Always (Answering C.reads w (answer_now w (Command.Vwrite unit name.now uid path.now at bytes.now)).0 (H.outside host.old).now) (H.outside host.old).now (H.outside host.new).now }
+        ensures costs { IsTrue H.told → Costs (most_programmed (world_of C.reads self.old (H.outside host.old)) (Command.Vwrite unit name.now uid path.now at bytes.now)) result (H.outside host.old) (H.outside host.new) }
         ensures alone { OnDevices (H.outside host.old) (H.outside host.new) }
         ensures cause { IfErr result (λ fault. HasFaultCause fault (H.outside host.old) (H.outside host.new)) }
     {

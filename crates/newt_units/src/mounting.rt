@@ -1,11 +1,13 @@
 //! Stores: mounted and unmounted.
-ghost use Rattle.std.specs.Prelude.{◌≡◌, Bool, true, IsTrue, None, Some, unwrap_or, IfErr};
+ghost use Rattle.std.specs.Prelude.{◌≡◌, Bool, true, IsTrue, None, Some, unwrap_or, IfErr, ℕ, ◌≤◌};
 ghost use Rattle.newt_host.specs.Moments.{Always, image};
 ghost use Rattle.newt_host.specs.Outside.{Outside};
 ghost use Rattle.newt_spec_world.specs.Reply.{Reply};
 ghost use Rattle.newt_spec_world.specs.declared.command.Command.{Command};
 ghost use Rattle.newt_laws_answers.specs.Answering.{Answering};
+ghost use Rattle.newt_laws_answers.specs.Bounds.{most_programmed};
 ghost use Rattle.newt_laws_answers.specs.Spoken.{answer_now};
+ghost use Rattle.newt_units.specs.Bounds.{Costs};
 ghost use Rattle.newt_units.specs.Answers.{Answers};
 ghost use Rattle.newt_units.specs.Faces.{Admits, Opens, card_faces, default_after, with_card};
 ghost use Rattle.newt_units.specs.Faults.{GoesOn, HasFaultCause, IsRefusal, OnDevices};
@@ -29,6 +31,7 @@ impl<C: Card> Units<C> {
         ensures answered { IsTrue H.told → Answers (world_of C.reads self.old (H.outside host.old)) (world_of C.reads self.new (H.outside host.new)) (Command.Mount unit) (λ x. Reply.store x.0 x.1) result }
         ensures moments { IsTrue H.told → let w = world_of C.reads self.old (H.outside host.old) in
             Always (Answering C.reads w (answer_now w (Command.Mount unit)).0 (H.outside host.old).now) (H.outside host.old).now (H.outside host.new).now }
+        ensures costs { IsTrue H.told → Costs (most_programmed (world_of C.reads self.old (H.outside host.old)) (Command.Mount unit)) result (H.outside host.old) (H.outside host.new) }
         ensures alone { OnDevices (H.outside host.old) (H.outside host.new) }
         ensures cause { IfErr result (λ fault. HasFaultCause fault (H.outside host.old) (H.outside host.new)) }
     {
@@ -46,6 +49,7 @@ impl<C: Card> Units<C> {
         ensures stands { Stands C.place C.stands H.told self.now (H.outside host.new) }
         ensures opened { Opens (λ card. C.stands H.told card (H.outside host.new) × (C.place card ≡ unit)) (IsTrue H.told → C.reads (image unit (H.outside host.old).now) ≡ None) result }
         ensures moment { (H.outside host.new).now ≡ (H.outside host.old).now }
+        ensures programs_nothing { IsTrue H.told → (u : ℕ) → (H.outside host.new).programmed u ≤ (H.outside host.old).programmed u }
         ensures alone { OnDevices (H.outside host.old) (H.outside host.new) }
         ensures cause { IfErr result (λ fault. HasFaultCause fault (H.outside host.old) (H.outside host.new)) }
     {

@@ -4,7 +4,9 @@ ghost use Rattle.newt_host.specs.Moments.{Always};
 ghost use Rattle.newt_spec_world.specs.Reply.{Reply};
 ghost use Rattle.newt_spec_world.specs.declared.command.Command.{Command};
 ghost use Rattle.newt_laws_answers.specs.Answering.{Answering};
+ghost use Rattle.newt_laws_answers.specs.Bounds.{most_programmed};
 ghost use Rattle.newt_laws_answers.specs.Spoken.{answer_now};
+ghost use Rattle.newt_units.specs.Bounds.{Costs};
 ghost use Rattle.newt_units.specs.Answers.{Answers};
 ghost use Rattle.newt_units.specs.Faults.{GoesOn, HasFaultCause, OnDevices};
 ghost use Rattle.newt_units.specs.Stands.{Stands, world_of};
@@ -33,6 +35,7 @@ impl<C: Card> Units<C> {
         ensures answered { IsTrue H.told → Answers (world_of C.reads self.old (H.outside host.old)) (world_of C.reads self.new (H.outside host.new)) (Command.Set unit name.now uid path.now value.now) (λ _. Reply.done) result }
         ensures moments { IsTrue H.told → let w = world_of C.reads self.old (H.outside host.old) in
             Always (Answering C.reads w (answer_now w (Command.Set unit name.now uid path.now value.now)).0 (H.outside host.old).now) (H.outside host.old).now (H.outside host.new).now }
+        ensures costs { IsTrue H.told → Costs (most_programmed (world_of C.reads self.old (H.outside host.old)) (Command.Set unit name.now uid path.now value.now)) result (H.outside host.old) (H.outside host.new) }
         ensures alone { OnDevices (H.outside host.old) (H.outside host.new) }
         ensures cause { IfErr result (λ fault. HasFaultCause fault (H.outside host.old) (H.outside host.new)) }
     {
@@ -56,6 +59,7 @@ impl<C: Card> Units<C> {
         ensures answered { IsTrue H.told → Answers (world_of C.reads self.old (H.outside host.old)) (world_of C.reads self.new (H.outside host.new)) (Command.Change unit name.now uid graph) (λ _. Reply.done) result }
         ensures moments { IsTrue H.told → let w = world_of C.reads self.old (H.outside host.old) in
             Always (Answering C.reads w (answer_now w (Command.Change unit name.now uid graph)).0 (H.outside host.old).now) (H.outside host.old).now (H.outside host.new).now }
+        ensures costs { IsTrue H.told → Costs (most_programmed (world_of C.reads self.old (H.outside host.old)) (Command.Change unit name.now uid graph)) result (H.outside host.old) (H.outside host.new) }
         ensures alone { OnDevices (H.outside host.old) (H.outside host.new) }
         ensures cause { IfErr result (λ fault. HasFaultCause fault (H.outside host.old) (H.outside host.new)) }
     {

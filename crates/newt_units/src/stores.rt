@@ -8,6 +8,7 @@ ghost use Rattle.newt_spec_world.specs.declared.command.Command.{Command};
 ghost use Rattle.newt_laws_answers.specs.Answering.{Answering};
 ghost use Rattle.newt_laws_answers.specs.Spoken.{answer_now};
 ghost use Rattle.newt_laws_answers.specs.Tests.{formatted};
+ghost use Rattle.newt_units.specs.Bounds.{IsOpenOrSame};
 ghost use Rattle.newt_units.specs.Answers.{Answers};
 ghost use Rattle.newt_units.specs.Faults.{GoesOn, HasFaultCause, IsEnd, OnDevices};
 ghost use Rattle.newt_units.specs.Looks.{FindsReady, IsFree};
@@ -49,6 +50,7 @@ impl<C: Card> Units<C> {
         ensures opened { IfOk result (λ found. MatchOption found (IsTrue H.told → C.reads (image unit (H.outside host.old).now) ≡ None) (λ card. C.stands H.told card (H.outside host.new) × (C.place card ≡ unit))) }
         ensures only { IfErr result (λ fault. IsEnd fault) }
         ensures moment { (H.outside host.new).now ≡ (H.outside host.old).now }
+        ensures programs_nothing { IsTrue H.told → (u : ℕ) → (H.outside host.new).programmed u ≤ (H.outside host.old).programmed u }
         ensures alone { OnDevices (H.outside host.old) (H.outside host.new) }
         ensures cause { IfErr result (λ fault. HasFaultCause fault (H.outside host.old) (H.outside host.new)) }
     {
@@ -68,6 +70,7 @@ impl<C: Card> Units<C> {
         ensures has { IsTrue H.told → IfOk result (λ has. has ≡ is_some (C.reads (image unit (H.outside host.old).now))) }
         ensures only { IfErr result (λ fault. IsEnd fault) }
         ensures moment { (H.outside host.new).now ≡ (H.outside host.old).now }
+        ensures programs_nothing { IsTrue H.told → (u : ℕ) → (H.outside host.new).programmed u ≤ (H.outside host.old).programmed u }
         ensures alone { OnDevices (H.outside host.old) (H.outside host.new) }
         ensures cause { IfErr result (λ fault. HasFaultCause fault (H.outside host.old) (H.outside host.new)) }
     {
@@ -90,6 +93,7 @@ impl<C: Card> Units<C> {
         ensures answered { IsTrue H.told → Answers (world_of C.reads self.old (H.outside host.old)) (world_of C.reads self.new (H.outside host.new)) (Command.Format unit name.now sig) (λ _. Reply.done) result }
         ensures moments { IsTrue H.told → let w = world_of C.reads self.old (H.outside host.old) in
             Always (Answering C.reads w (answer_now w (Command.Format unit name.now sig)).0 (H.outside host.old).now) (H.outside host.old).now (H.outside host.new).now }
+        ensures open_after { IsTrue H.told → GoesOn result → (u : ℕ) → IsOpenOrSame u (H.outside host.old).now (H.outside host.new).now }
         ensures alone { OnDevices (H.outside host.old) (H.outside host.new) }
         ensures cause { IfErr result (λ fault. HasFaultCause fault (H.outside host.old) (H.outside host.new)) }
     {
@@ -113,6 +117,7 @@ impl<C: Card> Units<C> {
         ensures only { IfErr result (λ fault. IsEnd fault) }
         ensures moments { IsTrue H.told → let w = world_of C.reads self.now (H.outside host.old) in (v : World) → store_on_unit w unit ≡ None → store_on_unit v unit ≡ Some (new_store name.now sig) →
             Always (Answering C.reads w v (H.outside host.old).now) (H.outside host.old).now (H.outside host.new).now }
+        ensures open_after { IsTrue H.told → GoesOn result → (u : ℕ) → IsOpenOrSame u (H.outside host.old).now (H.outside host.new).now }
         ensures alone { OnDevices (H.outside host.old) (H.outside host.new) }
         ensures cause { IfErr result (λ fault. HasFaultCause fault (H.outside host.old) (H.outside host.new)) }
     {

@@ -1,5 +1,5 @@
 //! Tags: declared and shown.
-ghost use Rattle.std.specs.Prelude.{◌≡◌, ℕ, true, IsTrue, ⊤, Some, None, IfErr, option_map, option_and_then};
+ghost use Rattle.std.specs.Prelude.{◌≡◌, ℕ, true, IsTrue, ⊤, Some, None, IfErr, option_map, option_and_then, [], ◌∷◌, ◌≤◌};
 ghost use Rattle.newt_base.specs.Refusals.{first_of};
 ghost use Rattle.newt_host.specs.Moments.{Always};
 ghost use Rattle.newt_host.specs.Outside.{Outside};
@@ -8,9 +8,11 @@ ghost use Rattle.newt_spec_world.specs.Reply.{Reply};
 ghost use Rattle.newt_spec_world.specs.World.{World, store_on_unit, change_store};
 ghost use Rattle.newt_spec_world.specs.declared.command.Command.{Command};
 ghost use Rattle.newt_laws_answers.specs.Answering.{Answering};
+ghost use Rattle.newt_laws_answers.specs.Bounds.{most_programmed, change_bytes, unless};
 ghost use Rattle.newt_laws_answers.specs.Spoken.{answer_now};
 ghost use Rattle.newt_laws_answers.specs.Tests.{tags_tests, tagged};
 ghost use Rattle.newt_laws_answers.specs.There.{OnUnit};
+ghost use Rattle.newt_units.specs.Bounds.{Costs, CostsOn};
 ghost use Rattle.newt_units.specs.Answers.{Answers};
 ghost use Rattle.newt_units.specs.Cards.{soup_of};
 ghost use Rattle.newt_units.specs.Faults.{Does, GoesOn, HasFaultCause, NoDevice, OnDevices};
@@ -45,6 +47,7 @@ impl<C: Card> Units<C> {
         ensures answered { IsTrue H.told → Answers (world_of C.reads self.old (H.outside host.old)) (world_of C.reads self.new (H.outside host.new)) (Command.SetTags unit name.now path.now symbols.now) (λ _. Reply.done) result }
         ensures moments { IsTrue H.told → let w = world_of C.reads self.old (H.outside host.old) in
             Always (Answering C.reads w (answer_now w (Command.SetTags unit name.now path.now symbols.now)).0 (H.outside host.old).now) (H.outside host.old).now (H.outside host.new).now }
+        ensures costs { IsTrue H.told → Costs (most_programmed (world_of C.reads self.old (H.outside host.old)) (Command.SetTags unit name.now path.now symbols.now)) result (H.outside host.old) (H.outside host.new) }
         ensures alone { OnDevices (H.outside host.old) (H.outside host.new) }
         ensures cause { IfErr result (λ fault. HasFaultCause fault (H.outside host.old) (H.outside host.new)) }
     {
@@ -99,6 +102,8 @@ impl<C: Card> Units<C> {
         ensures moments { IsTrue H.told → let w = world_of C.reads self.old (H.outside host.old) in (blocks : ℕ) (s : Plain) (p : Soup) → OnUnit w unit blocks s → soup_of soup s ≡ Some p →
             (v : World) → (first_of (tags_tests blocks p.name table s) ≡ None → store_on_unit v unit ≡ Some (tagged p.name table s)) →
             Always (Answering C.reads w v (H.outside host.old).now) (H.outside host.old).now (H.outside host.new).now }
+        ensures costs { IsTrue H.told → let w = world_of C.reads self.old (H.outside host.old) in (blocks : ℕ) (s : Plain) (p : Soup) → OnUnit w unit blocks s → soup_of soup s ≡ Some p →
+            CostsOn unit (unless (tags_tests blocks p.name table s) (change_bytes s (tagged p.name table s) [] [])) result (H.outside host.old) (H.outside host.new) }
         ensures alone { OnDevices (H.outside host.old) (H.outside host.new) }
         ensures cause { IfErr result (λ fault. HasFaultCause fault (H.outside host.old) (H.outside host.new)) }
     {

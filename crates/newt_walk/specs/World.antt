@@ -1,5 +1,5 @@
 -- The world that units, cursors and devices stand for.
-use Rattle.std.specs.Prelude.{◌≡◌, ℕ, Bool, IsTrue, List, Option}
+use Rattle.std.specs.Prelude.{◌≡◌, ℕ, ◌≤◌, Bool, IsTrue, List, Option}
 use Rattle.newt_host.specs.Outside.{Outside}
 use Rattle.newt_spec_store.specs.Store.{Store}
 use Rattle.newt_spec_query.specs.Cursor.{Cursor}
@@ -18,4 +18,5 @@ pub record AreRead {C : Type 0} (reads : List ℕ → Option Store) (place : C �
   pub stand : Stands place stands told later new
   pub world : IsTrue told → world_of reads later new ≡ world_of reads units old
   pub moment : new.now ≡ old.now
+  pub programs : IsTrue told → (u : ℕ) → new.programmed u ≤ old.programmed u
   pub alone : OnDevices old new
