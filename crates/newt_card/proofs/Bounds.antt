@@ -19,8 +19,8 @@ use Rattle.newt_spec_world.specs.Changed.{with_graph, with_index, without_index}
 use Rattle.newt_store.specs.Change.{changed_by, refusals, refusal_of, entry_in, entry_added, pages_of_entry, pages_of_soup, pages_removed, pages_put, pages_gone, next_uid_of, bytes_of, most_bytes}
 use Rattle.newt_store.specs.declared.change.Change.{Change}
 use Rattle.newt_store.specs.declared.change.Change.TheVariants as change
-use Rattle.newt_units.specs.Bounds.{ProgramsAtMost}
-use Rattle.newt_units.specs.Cards.{soup_of}
+use Rattle.newt_cardstore.specs.Bounds.{ProgramsAtMost}
+use Rattle.newt_cardstore.specs.Cards.{soup_of}
 use Rattle.newt_card.proofs.Tests.{entry-there, drop-tests, dropped, index-tests, indexed, unindex-tests, unindexed, tags-tests, tagged-as, add-tests, added, remove-tests, removed, replace-tests, replaced-as, patch-tests, move-tests, moved}
 
 -- the pages of one entry

@@ -13,9 +13,9 @@ use Rattle.newt_store.specs.Change.{changed_by, answer_of, refusals}
 use Rattle.newt_store.specs.Readable.{readable}
 use Rattle.newt_store.specs.declared.change.Change.{Change}
 use Rattle.newt_store.specs.declared.change.Change.TheVariants as change
-use Rattle.newt_units.specs.Cards.{soup_of, LeavesEither}
-use Rattle.newt_units.specs.Faults.{Does}
-use Rattle.newt_units.specs.declared.fault.Fault.{Fault}
+use Rattle.newt_cardstore.specs.Cards.{soup_of, LeavesEither}
+use Rattle.newt_cardstore.specs.Faults.{Does}
+use Rattle.newt_cardstore.specs.declared.fault.Fault.{Fault}
 use Rattle.newt_card.proofs.Turns.{does-as, does-done, done, leaves-as}
 use Rattle.newt_card.proofs.Tests.{index-tests, indexed, unindex-tests, unindexed, tags-tests, tagged-as, drop-tests, dropped, add-tests, added, added-uid, remove-tests, removed, replace-tests, replaced-as, patch-tests, patched-as, move-tests, moved, moved-uid}
 

@@ -20,7 +20,7 @@ use Rattle.newt_spec_store.specs.StoreOf.{with_bytes}
 use Rattle.newt_soupdir.specs.Changes.{with_tags}
 use Rattle.newt_store.specs.Change.{changed_by, answer_of, refusals, entry_in, changed_soup, dropped_soup, moved_entry, with_graph, bytes_in, with_patch, patched_entry, large_in_entry, ends_behind, next_uid_of, has_no_ids, is_too_large, has_paths, specs_of}
 use Rattle.newt_store.specs.declared.change.Change.TheVariants as change
-use Rattle.newt_units.specs.Cards.{soup_of}
+use Rattle.newt_cardstore.specs.Cards.{soup_of}
 
 -- the entry of a soup that is there
 pub entry-there : (sig uid : ℕ) (s : Plain) (p : Soup) (e : Entry) → soup_of sig s ≡ Some p → entry_of uid p ≡ Some e → entry_in sig uid s ≡ Some e

@@ -18,10 +18,10 @@ use Rattle.newt_store.specs.Readable.{readable}
 use Rattle.newt_store.specs.Stands.{StandsFor, IsBeforeOrChanged}
 use Rattle.newt_store.specs.declared.catalog.Catalog.{Catalog}
 use Rattle.newt_store.specs.declared.change.Change.{Change}
-use Rattle.newt_units.specs.Cards.{LeavesEither}
-use Rattle.newt_units.specs.Faults.{Does}
-use Rattle.newt_units.specs.declared.fault.Fault.{Fault}
-use Rattle.newt_units.specs.declared.fault.Fault.TheVariants.{Refused, Stop}
+use Rattle.newt_cardstore.specs.Cards.{LeavesEither}
+use Rattle.newt_cardstore.specs.Faults.{Does}
+use Rattle.newt_cardstore.specs.declared.fault.Fault.{Fault}
+use Rattle.newt_cardstore.specs.declared.fault.Fault.TheVariants.{Refused, Stop}
 use Rattle.newt_card.specs.Stands.{StandsForOne}
 
 -- ---- other words for one thing

@@ -22,7 +22,7 @@ use Rattle.newt_store.specs.Stands.{IsSound}
 use Rattle.newt_store.specs.declared.catalog.Catalog.{Catalog}
 use Rattle.newt_ranges.specs.declared.rows.SoupRanges.{SoupRanges}
 use Rattle.newt_indexed.specs.declared.store.IndexedStore.{IndexedStore}
-use Rattle.newt_units.specs.Cards.{IsSame}
+use Rattle.newt_cardstore.specs.Cards.{IsSame}
 use Rattle.newt_card.specs.Stands.{StandsForOne, StandsOn}
 
 -- only stores of this form are read

@@ -10,9 +10,9 @@ ghost use Rattle.newt_laws_answers.specs.Bounds.{change_bytes, patch_bytes, unle
 ghost use Rattle.newt_laws_answers.specs.Tests.{patch_tests, patched_within};
 ghost use Rattle.newt_store.specs.Change.{changed_by, answer_of, refusals, most_bytes};
 ghost use Rattle.newt_store.specs.Readable.{readable};
-ghost use Rattle.newt_units.specs.Bounds.{ProgramsAtMost};
-ghost use Rattle.newt_units.specs.Cards.{soup_of, LeavesEither, OthersSame};
-ghost use Rattle.newt_units.specs.Faults.{Does, GoesOn, FaultsAt};
+ghost use Rattle.newt_cardstore.specs.Bounds.{ProgramsAtMost};
+ghost use Rattle.newt_cardstore.specs.Cards.{soup_of, LeavesEither, OthersSame};
+ghost use Rattle.newt_cardstore.specs.Faults.{Does, GoesOn, FaultsAt};
 ghost use Rattle.newt_card.specs.Stands.{StandsOn};
 
 use newt_base::{Sig, Uid};
@@ -20,7 +20,7 @@ use newt_graph::Bytes;
 use newt_host::Host;
 use newt_indexed::{Change, IndexedStore, Paths, StoreFault};
 use newt_pagebook::PageBook;
-use newt_units::Fault;
+use newt_cardstore::Fault;
 
 /// Makes a change at a minute, and answers the new id or soup signature, else 0.
 pub(crate) fn change_store<P: PageBook, H: Host>(

@@ -12,7 +12,7 @@ use newt_pagebook::{BookFault, PageBook, Stop};
 use newt_path::Path;
 use newt_store::Store;
 use newt_tags::TagTable;
-use newt_units::{Card, Entry, Fault};
+use newt_cardstore::{Card, Entry, Fault};
 use std::alloc::Global;
 
 /// A store on the card of one unit, kept on a book of pages. After a fault that ends the run it is spent.

@@ -12,11 +12,11 @@ use Rattle.newt_spec_world.specs.Reply as plain
 use Rattle.newt_spec_world.specs.World.{World}
 use Rattle.newt_laws_answers.specs.Answering.{Answering}
 use Rattle.newt_laws_answers.specs.Spoken.{answer_now}
-use Rattle.newt_units.specs.declared.fault.Fault.{Fault}
-use Rattle.newt_units.specs.declared.fault.Fault.TheVariants.{Refused, Stop}
+use Rattle.newt_cardstore.specs.declared.fault.Fault.{Fault}
+use Rattle.newt_cardstore.specs.declared.fault.Fault.TheVariants.{Refused, Stop}
 use Rattle.newt_units.specs.declared.units.Units.{Units}
 use Rattle.newt_units.specs.Answers.{Answers}
-use Rattle.newt_units.specs.Faults.{HasFaultCause, NoDevice, OnDevices}
+use Rattle.newt_cardstore.specs.Faults.{HasFaultCause, NoDevice, OnDevices}
 use Rattle.newt_units.specs.Stands.{Eight, Stands, world_of}
 use Rattle.newt_units.proofs.Known.{Laws}
 use Rattle.newt_units.proofs.Turns.{still-moments}

@@ -22,11 +22,11 @@ use Rattle.newt_laws_cursors.specs.Cursors.{with_cursors, uses_cursors}
 use Rattle.newt_laws_answers.specs.Answering.{Answering}
 use Rattle.newt_laws_answers.specs.Spoken.{answer_now}
 use Rattle.newt_laws_answers.proofs.Spoken.{now-apart, now-mounted-apart, now-on-cursors, now-settled, now-still}
-use Rattle.newt_units.specs.declared.fault.Fault.{Fault}
-use Rattle.newt_units.specs.declared.fault.Fault.TheVariants.{Refused, Stop as Ends}
+use Rattle.newt_cardstore.specs.declared.fault.Fault.{Fault}
+use Rattle.newt_cardstore.specs.declared.fault.Fault.TheVariants.{Refused, Stop as Ends}
 use Rattle.newt_units.specs.declared.units.Units.{Units}
 use Rattle.newt_units.specs.Answers.{Answers}
-use Rattle.newt_units.specs.Faults.{GoesOn, IsEnd}
+use Rattle.newt_cardstore.specs.Faults.{GoesOn, IsEnd}
 use Rattle.newt_units.specs.Stands.{Eight, Stands, world_of}
 use Rattle.newt_units.proofs.Known.{Laws, at-card, at-none}
 use Rattle.newt_walk.specs.Fits.{DeskFits}

@@ -16,7 +16,7 @@ use Rattle.newt_laws_cursors.specs.Cursors.{with_cursors}
 use Rattle.newt_laws_answers.specs.Spoken.{answer_now}
 use Rattle.newt_laws_answers.proofs.Spoken.{now-later}
 use Rattle.newt_units.specs.declared.units.Units.{Units}
-use Rattle.newt_units.specs.Cards.{IsSame}
+use Rattle.newt_cardstore.specs.Cards.{IsSame}
 use Rattle.newt_units.specs.Stands.{Eight}
 use Rattle.newt_units.proofs.Known.{Laws}
 use Rattle.newt_units.proofs.Slots.{stands-still}

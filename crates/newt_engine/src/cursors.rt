@@ -5,7 +5,7 @@ ghost use Rattle.newt_reply.specs.Said.{said};
 ghost use Rattle.newt_laws_answers.specs.Answering.{Answering};
 ghost use Rattle.newt_laws_answers.specs.Spoken.{answer_now};
 ghost use Rattle.newt_units.specs.Answers as now;
-ghost use Rattle.newt_units.specs.Faults.{GoesOn, HasFaultCause, IsRefusal, NoDevice, OnDevices};
+ghost use Rattle.newt_cardstore.specs.Faults.{GoesOn, HasFaultCause, IsRefusal, NoDevice, OnDevices};
 ghost use Rattle.newt_units.specs.Stands.{Stands};
 ghost use Rattle.newt_laws.specs.Settled.{MountedApart};
 ghost use Rattle.newt_walk.specs.Fits.{DeskFits};
@@ -22,7 +22,7 @@ use newt_base::Refusal;
 use newt_host::Host;
 use newt_reply::Reply;
 use newt_script::Command;
-use newt_units::{Card, Fault};
+use newt_cardstore::{Card, Fault};
 
 impl<C: Card> World<C> {
     /// Obeys a command that opens, moves, shows or closes a cursor.

@@ -5,7 +5,7 @@ ghost use Rattle.newt_reply.specs.Said.{said};
 ghost use Rattle.newt_laws_answers.specs.Answering.{Answering};
 ghost use Rattle.newt_laws_answers.specs.Spoken.{answer_now};
 ghost use Rattle.newt_units.specs.Answers.{Answers};
-ghost use Rattle.newt_units.specs.Faults.{GoesOn, HasFaultCause, IsRefusal, NoDevice, OnDevices};
+ghost use Rattle.newt_cardstore.specs.Faults.{GoesOn, HasFaultCause, IsRefusal, NoDevice, OnDevices};
 ghost use Rattle.newt_units.specs.Stands.{Stands, world_of};
 ghost use Rattle.newt_engine.specs.Bounds.{CommandCosts};
 ghost use Rattle.newt_engine.specs.Ends.{takes_memory, uses_device};
@@ -15,7 +15,7 @@ use crate::world::World;
 use newt_host::Host;
 use newt_reply::Reply;
 use newt_script::Command;
-use newt_units::{Card, Entry, Fault};
+use newt_cardstore::{Card, Entry, Fault};
 
 impl<C: Card> World<C> {
     /// Obeys a command that takes no graph.
@@ -40,29 +40,28 @@ impl<C: Card> World<C> {
     {
         match command {
             Command::Get(unit, name, uid) => {
-                let Entry { time, graph, .. } = self.units.get(host, *unit, name, *uid)?;
+                let Entry { time, graph, .. } = newt_commands::get(&mut self.units, host, *unit, name, *uid)?;
                 Ok(Reply::Timed(time, graph))
             }
             Command::Getx(unit, name, uid) => {
-                let Entry { time, graph, .. } = self.units.get(host, *unit, name, *uid)?;
+                let Entry { time, graph, .. } = newt_commands::get(&mut self.units, host, *unit, name, *uid)?;
                 Ok(Reply::TimedNsof(time, graph))
             }
             Command::Remove(unit, name, uid) => {
-                self.units.remove(host, *unit, name, *uid)?;
+                newt_commands::remove(&mut self.units, host, *unit, name, *uid)?;
                 Ok(Reply::Done)
             }
             Command::Copy(unit, name, uid, to, target) => Ok(Reply::Number(
-                self.units.copy(host, *unit, name, *uid, *to, target)?,
+                newt_commands::copy(&mut self.units, host, *unit, name, *uid, *to, target)?,
             )),
             Command::Move(unit, name, uid, to, target) => Ok(Reply::Number(
-                self.units.move_entry(host, *unit, name, *uid, *to, target)?,
+                newt_commands::move_entry(&mut self.units, host, *unit, name, *uid, *to, target)?,
             )),
             Command::Vread(unit, name, uid, path, at, len) => Ok(Reply::Hex(
-                self.units.vread(host, *unit, name, *uid, path, *at, *len)?,
+                newt_commands::vread(&mut self.units, host, *unit, name, *uid, path, *at, *len)?,
             )),
             Command::Vwrite(unit, name, uid, path, at, bytes) => {
-                self.units
-                    .vwrite(host, *unit, name, *uid, path, *at, bytes.list())?;
+                newt_commands::vwrite(&mut self.units, host, *unit, name, *uid, path, *at, bytes.list())?;
                 Ok(Reply::Done)
             }
             _ => self.obey_on_store(host, command),

@@ -5,7 +5,7 @@ ghost use Rattle.newt_reply.specs.Said.{said};
 ghost use Rattle.newt_laws_answers.specs.Answering.{Answering};
 ghost use Rattle.newt_laws_answers.specs.Spoken.{answer_now};
 ghost use Rattle.newt_units.specs.Answers.{Answers};
-ghost use Rattle.newt_units.specs.Faults.{GoesOn, HasFaultCause, IsRefusal, NoDevice, OnDevices};
+ghost use Rattle.newt_cardstore.specs.Faults.{GoesOn, HasFaultCause, IsRefusal, NoDevice, OnDevices};
 ghost use Rattle.newt_units.specs.Stands.{Stands, world_of};
 ghost use Rattle.newt_engine.specs.Bounds.{CommandCosts};
 ghost use Rattle.newt_engine.specs.Ends.{takes_memory, uses_device};
@@ -16,7 +16,7 @@ use newt_base::Uid;
 use newt_host::Host;
 use newt_reply::Reply;
 use newt_script::Command;
-use newt_units::{Card, Fault};
+use newt_cardstore::{Card, Fault};
 
 impl<C: Card> World<C> {
     /// Obeys a command. A fault is its refusal, or the end of the run.
@@ -38,21 +38,21 @@ impl<C: Card> World<C> {
             Command::Nsof(graph) => Ok(Reply::Nsof(graph)),
             Command::Lit(graph) => Ok(Reply::Literal(graph)),
             Command::Add(unit, name, graph) => {
-                Ok(Reply::Number(self.units.add(host, unit, &name, graph)?))
+                Ok(Reply::Number(newt_commands::add(&mut self.units, host, unit, &name, graph)?))
             }
             Command::Addx(unit, name, graph) => {
-                Ok(Reply::Number(self.units.add(host, unit, &name, graph)?))
+                Ok(Reply::Number(newt_commands::add(&mut self.units, host, unit, &name, graph)?))
             }
             Command::Addu(name, graph) => {
-                let (unit, uid) = self.units.add_to_default(host, &name, graph)?;
+                let (unit, uid) = newt_commands::add_to_default(&mut self.units, host, &name, graph)?;
                 Ok(Reply::Added(unit, Uid(uid)))
             }
             Command::Set(unit, name, uid, path, value) => {
-                self.units.set(host, unit, &name, uid, &path, &value)?;
+                newt_commands::set(&mut self.units, host, unit, &name, uid, &path, &value)?;
                 Ok(Reply::Done)
             }
             Command::Change(unit, name, uid, graph) => {
-                self.units.change(host, unit, &name, uid, graph)?;
+                newt_commands::change(&mut self.units, host, unit, &name, uid, graph)?;
                 Ok(Reply::Done)
             }
             other => self.obey_on_entry(host, &other),

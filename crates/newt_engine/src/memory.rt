@@ -3,7 +3,7 @@ ghost use Rattle.std.specs.Prelude.{◌≡◌, Bool, true, false, IfErr};
 ghost use Rattle.newt_host.specs.Outside.{Outside};
 ghost use Rattle.newt_reply.specs.Said.{said};
 ghost use Rattle.newt_units.specs.Answers.{Answers};
-ghost use Rattle.newt_units.specs.Faults.{IsRefusal, NoDevice};
+ghost use Rattle.newt_cardstore.specs.Faults.{IsRefusal, NoDevice};
 ghost use Rattle.newt_units.specs.Stands.{Eight, Stands, world_of};
 ghost use Rattle.newt_engine.specs.Ends.{takes_memory, uses_device};
 ghost use Rattle.newt_engine.specs.Groups.{on_graph};
@@ -12,7 +12,7 @@ use crate::world::World;
 use newt_base::Refusal;
 use newt_reply::{Alias, Reply, TagRow};
 use newt_script::Command;
-use newt_units::{Card, Fault};
+use newt_cardstore::{Card, Fault};
 
 impl<C: Card> World<C> {
     /// Obeys a command that uses no device and takes no graph.
@@ -42,13 +42,13 @@ impl<C: Card> World<C> {
                 Ok(Reply::Done)
             }
             Command::Soups(unit) => Ok(Reply::Soups(self.units.soups(*unit)?)),
-            Command::Indexes(unit, name) => Ok(Reply::Indexes(self.units.indexes(*unit, name)?)),
+            Command::Indexes(unit, name) => Ok(Reply::Indexes(newt_commands::indexes(&self.units, *unit, name)?)),
             Command::Tags(unit, name) => {
-                let table = self.units.tags(*unit, name)?;
+                let table = newt_commands::tags(&self.units, *unit, name)?;
                 Ok(Reply::Tags(TagRow { table }))
             }
             Command::Alias(unit, name, uid) => {
-                let (store, soup) = self.units.alias(*unit, name, *uid)?;
+                let (store, soup) = newt_commands::alias(&self.units, *unit, name, *uid)?;
                 let uid = *uid;
                 Ok(Reply::Alias(Alias { store, soup, uid }))
             }

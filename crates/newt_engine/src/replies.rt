@@ -5,11 +5,11 @@ ghost use Rattle.newt_reply.specs.Said.{said};
 ghost use Rattle.newt_spec_world.specs.declared.command.Command.{Command as IsCommand};
 ghost use Rattle.newt_spec_world.specs.Reply as plain;
 ghost use Rattle.newt_spec_world.specs.World.{World};
-ghost use Rattle.newt_units.specs.Faults.{HasFaultCause};
+ghost use Rattle.newt_cardstore.specs.Faults.{HasFaultCause};
 ghost use Rattle.newt_walk.specs.Replies.{Answers, shown_reply, side_reply};
 
 use newt_reply::Reply;
-use newt_units::Fault;
+use newt_cardstore::Fault;
 use newt_walk::{Shown, Side};
 
 /// What a cursor shows.

@@ -7,7 +7,7 @@ ghost use Rattle.newt_laws_answers.specs.Spoken.{answer_now};
 ghost use Rattle.newt_laws.specs.Settled.{MountedApart};
 ghost use Rattle.newt_spec_world.specs.World.{settle};
 ghost use Rattle.newt_units.specs.Answers.{Answers};
-ghost use Rattle.newt_units.specs.Faults.{GoesOn, HasFaultCause, IsEnd, IsRefusal, NoDevice, OnDevices};
+ghost use Rattle.newt_cardstore.specs.Faults.{GoesOn, HasFaultCause, IsEnd, IsRefusal, NoDevice, OnDevices};
 ghost use Rattle.newt_units.specs.Stands.{Stands};
 ghost use Rattle.newt_walk.specs.Fits.{DeskFits};
 ghost use Rattle.newt_walk.specs.World.{AreRead, world_with};
@@ -20,7 +20,7 @@ use crate::world::World;
 use newt_host::Host;
 use newt_reply::Reply;
 use newt_script::Command;
-use newt_units::{Card, Fault};
+use newt_cardstore::{Card, Fault};
 use newt_walk::settle;
 
 impl<C: Card> World<C> {

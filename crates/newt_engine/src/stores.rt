@@ -5,7 +5,7 @@ ghost use Rattle.newt_reply.specs.Said.{said};
 ghost use Rattle.newt_laws_answers.specs.Answering.{Answering};
 ghost use Rattle.newt_laws_answers.specs.Spoken.{answer_now};
 ghost use Rattle.newt_units.specs.Answers.{Answers};
-ghost use Rattle.newt_units.specs.Faults.{GoesOn, HasFaultCause, IsRefusal, NoDevice, OnDevices};
+ghost use Rattle.newt_cardstore.specs.Faults.{GoesOn, HasFaultCause, IsRefusal, NoDevice, OnDevices};
 ghost use Rattle.newt_units.specs.Stands.{Stands, world_of};
 ghost use Rattle.newt_engine.specs.Bounds.{CommandCosts};
 ghost use Rattle.newt_engine.specs.Ends.{takes_memory, uses_device};
@@ -15,7 +15,7 @@ use crate::world::World;
 use newt_host::Host;
 use newt_reply::Reply;
 use newt_script::Command;
-use newt_units::{Card, Fault};
+use newt_cardstore::{Card, Fault};
 
 impl<C: Card> World<C> {
     /// Obeys a command that is on no entry of a device.
@@ -48,21 +48,21 @@ impl<C: Card> World<C> {
                 let (sig, name) = self.units.mount(host, *unit)?;
                 Ok(Reply::Store(sig, name))
             }
-            Command::Soup(unit, name) => Ok(Reply::Number(self.units.soup(host, *unit, name)?)),
+            Command::Soup(unit, name) => Ok(Reply::Number(newt_commands::soup(&mut self.units, host, *unit, name)?)),
             Command::Drop(unit, name) => {
-                self.units.drop_soup(host, *unit, name)?;
+                newt_commands::drop_soup(&mut self.units, host, *unit, name)?;
                 Ok(Reply::Done)
             }
             Command::Index(unit, name, parts) => {
-                self.units.index(host, *unit, name, parts)?;
+                newt_commands::index(&mut self.units, host, *unit, name, parts)?;
                 Ok(Reply::Done)
             }
             Command::Unindex(unit, name, paths) => {
-                self.units.unindex(host, *unit, name, paths)?;
+                newt_commands::unindex(&mut self.units, host, *unit, name, paths)?;
                 Ok(Reply::Done)
             }
             Command::SetTags(unit, name, path, symbols) => {
-                self.units.set_tags(host, *unit, name, path, symbols)?;
+                newt_commands::set_tags(&mut self.units, host, *unit, name, path, symbols)?;
                 Ok(Reply::Done)
             }
             _ => self.obey_in_memory(command),

@@ -6,8 +6,8 @@ ghost use Rattle.newt_reply.specs.Said.{said};
 ghost use Rattle.newt_laws_answers.specs.Answering.{Answering};
 ghost use Rattle.newt_laws_answers.specs.Bounds.{most_programmed};
 ghost use Rattle.newt_laws_answers.specs.Spoken.{answer_now};
-ghost use Rattle.newt_units.specs.Bounds.{ProgramsAtMost, IsOpenOrSame};
-ghost use Rattle.newt_units.specs.Faults.{HasStopCause, OnDevices};
+ghost use Rattle.newt_cardstore.specs.Bounds.{ProgramsAtMost, IsOpenOrSame};
+ghost use Rattle.newt_cardstore.specs.Faults.{HasStopCause, OnDevices};
 ghost use Rattle.newt_walk.specs.World.{world_with};
 ghost use Rattle.newt_engine.specs.Bounds.{is_format};
 ghost use Rattle.newt_engine.specs.Ends.{takes_memory, uses_device};
@@ -20,7 +20,8 @@ use newt_pagebook::Stop;
 use newt_reply::Reply;
 use newt_script::Command;
 use newt_session::Interpreter;
-use newt_units::{Card, Fault, Units};
+use newt_cardstore::{Card, Fault};
+use newt_units::Units;
 use std::alloc::{AllocError, Global};
 
 /// The eight units with their cards and the 32 places for cursors, which with the devices of a host stand for one world.

@@ -17,12 +17,12 @@ use Rattle.newt_laws_answers.specs.Answering.{Answering}
 use Rattle.newt_laws_answers.specs.There.{OnUnit}
 use Rattle.newt_laws_answers.proofs.Worlds.{world-alike, device-stays}
 use Rattle.newt_laws_answers.proofs.Units.{is-there}
-use Rattle.newt_units.specs.declared.fault.Fault.{Fault}
-use Rattle.newt_units.specs.declared.fault.Fault.TheVariants.{Refused, Stop}
+use Rattle.newt_cardstore.specs.declared.fault.Fault.{Fault}
+use Rattle.newt_cardstore.specs.declared.fault.Fault.TheVariants.{Refused, Stop}
 use Rattle.newt_units.specs.declared.units.Slot.{Slot}
 use Rattle.newt_units.specs.declared.units.Units.{Units}
-use Rattle.newt_units.specs.Cards.{LeavesEither, OthersSame}
-use Rattle.newt_units.specs.Faults.{Does, FaultsAt, HasFaultCause, HasStopCause, OnDevices}
+use Rattle.newt_cardstore.specs.Cards.{LeavesEither, OthersSame}
+use Rattle.newt_cardstore.specs.Faults.{Does, FaultsAt, HasFaultCause, HasStopCause, OnDevices}
 use Rattle.newt_units.specs.Stands.{card_of, mounted_in, world_of, Stands}
 use Rattle.newt_units.proofs.Slots.{Replaced, stands-replaced, card-was, marks}
 use Rattle.newt_units.specs.Stands.{Eight}

@@ -1,15 +1,10 @@
-pub mod Agree
 pub mod Slots
 pub mod Known
 pub mod Turns
 pub mod Calls
-pub mod Commands
-pub mod Replacing
-pub mod Binaries
+pub mod Answering
 pub mod Settings
-pub mod Declaring
 pub mod Shown
 pub mod Mounts
-pub mod Moves
 pub mod Rows
 pub mod Resolving

@@ -24,8 +24,8 @@ use Rattle.newt_laws_answers.specs.There.{OnUnit, IsReady}
 use Rattle.newt_laws_answers.proofs.Faces.{count-is, any-is, first-is}
 use Rattle.newt_laws_answers.proofs.Stores.{mount-no-store, mount-four, mount-same, mount-done, unmount-done}
 use Rattle.newt_laws_answers.proofs.Worlds.{device-here, world-changed}
-use Rattle.newt_units.specs.declared.fault.Fault.{Fault}
-use Rattle.newt_units.specs.declared.fault.Fault.TheVariants.{Refused, Stop}
+use Rattle.newt_cardstore.specs.declared.fault.Fault.{Fault}
+use Rattle.newt_cardstore.specs.declared.fault.Fault.TheVariants.{Refused, Stop}
 use Rattle.newt_units.specs.declared.units.Slot.{Slot}
 use Rattle.newt_units.specs.declared.units.Units.{Units}
 use Rattle.newt_units.specs.Answers.{Answers}

@@ -20,7 +20,7 @@ use Rattle.newt_laws_images.proofs.Stores.{is-store}
 use Rattle.newt_laws_answers.specs.Spoken.{answer_now}
 use Rattle.newt_laws_answers.specs.There.{OnUnit}
 use Rattle.newt_laws_answers.proofs.Soups.{soups-done}
-use Rattle.newt_units.specs.Cards.{soup_of, count_in, soup_rows}
+use Rattle.newt_cardstore.specs.Cards.{soup_of, count_in, soup_rows}
 
 -- ---- lists
 

@@ -17,18 +17,18 @@ use Rattle.newt_laws_answers.specs.Tests.{unit_checks, soup_checks, entry_checks
 use Rattle.newt_laws_answers.specs.There.{OnUnit, IsReady}
 use Rattle.newt_laws_answers.proofs.Entries.{no-entry, no-soup}
 use Rattle.newt_base.specs.declared.Refusal.TheVariants.{Entry as NoEntry}
-use Rattle.newt_units.specs.declared.fault.Fault.{Fault}
-use Rattle.newt_units.specs.declared.fault.Fault.TheVariants.{Refused, Stop}
-use Rattle.newt_units.specs.Cards.{entry_at}
+use Rattle.newt_cardstore.specs.declared.fault.Fault.{Fault}
+use Rattle.newt_cardstore.specs.declared.fault.Fault.TheVariants.{Refused, Stop}
+use Rattle.newt_cardstore.specs.Cards.{entry_at}
 use Rattle.newt_units.specs.Found.{HasSoup, HasEntry, FindsEntry}
 use Rattle.newt_units.specs.declared.units.Units.{Units}
 use Rattle.newt_units.specs.Answers.{Answers}
-use Rattle.newt_units.specs.Faults.{RefusesBy, IsEnd}
+use Rattle.newt_cardstore.specs.Faults.{RefusesBy, IsEnd}
 use Rattle.newt_units.specs.Looks.{known_unit, known_soup, known_checks, known_both, known_ready, IsFree}
 use Rattle.newt_units.specs.Stands.{card_at, mounted_in, world_of, Stands, Eight}
 use Rattle.newt_units.proofs.Known.{Laws, Plain, Found, on-known, card-known, mounted-known, unit-checks-are, checks-are, both-checks-are, ready-checks-are, ready-known, soup-found}
 use Rattle.newt_units.proofs.Turns.{still-moments}
-use Rattle.newt_units.proofs.Commands.{refuses}
+use Rattle.newt_units.proofs.Answering.{refuses}
 
 -- the units stand for a host
 pub record Setting {C : Type 0} (reads : List ℕ → Option Store) (place : C → ℕ) (soups : C → Store) (stands : Bool → C → Outside → Type 0) (told : Bool) (units : Units C) (o : Outside) : Type 0 where

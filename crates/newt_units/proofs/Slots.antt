@@ -7,7 +7,7 @@ use Rattle.newt_spec_graph.proofs.Lists.{some-same, none-some, both-ways}
 use Rattle.newt_laws.proofs.Units.{same-or-not}
 use Rattle.newt_units.specs.declared.units.Slot.{Slot}
 use Rattle.newt_units.specs.declared.units.Units.{Units}
-use Rattle.newt_units.specs.Cards.{IsSame}
+use Rattle.newt_cardstore.specs.Cards.{IsSame}
 use Rattle.newt_units.specs.Stands.{card_of, card_at, mounted_in, unmounted, Stands}
 
 -- ---- lists

@@ -5,9 +5,9 @@ use Rattle.newt_spec_store.specs.Valid.{well_formed}
 use Rattle.newt_spec_world.specs.World.{World}
 use Rattle.newt_laws_answers.specs.Tests.{entry_checks}
 use Rattle.newt_laws_answers.specs.There.{OnUnit}
-use Rattle.newt_units.specs.declared.fault.Fault.{Fault}
-use Rattle.newt_units.specs.Cards.{soup_of}
-use Rattle.newt_units.specs.Faults.{RefusesBy}
+use Rattle.newt_cardstore.specs.declared.fault.Fault.{Fault}
+use Rattle.newt_cardstore.specs.Cards.{soup_of}
+use Rattle.newt_cardstore.specs.Faults.{RefusesBy}
 
 -- A soup of a mounted store, by its name and by its signature. The store is one that is read.
 pub record HasSoup (w : World) (u : ℕ) (name : List ℕ) (sig : ℕ) : Type 0 where

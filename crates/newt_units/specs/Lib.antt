@@ -1,11 +1,6 @@
-pub mod Faults
-pub mod Cards
 pub mod Stands
 pub mod Answers
 pub mod Looks
 pub mod Found
 pub mod Faces
 pub mod Spots
-pub mod Declares
-pub mod Larges
-pub mod Bounds

@@ -4,7 +4,7 @@ use Rattle.newt_spec_store.specs.Store.{Store, entry_of}
 use Rattle.newt_spec_world.specs.Alias.{Spot}
 use Rattle.newt_spec_world.specs.Answer.{or_nil}
 use Rattle.newt_spec_world.specs.Reply.{Reply}
-use Rattle.newt_units.specs.Cards.{soup_of}
+use Rattle.newt_cardstore.specs.Cards.{soup_of}
 
 -- the entry of these signatures in the store of a unit
 abbrev pub spot_in : ℕ → ℕ → ℕ → Store → Option Spot

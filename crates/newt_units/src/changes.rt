@@ -10,13 +10,13 @@ ghost use Rattle.newt_laws_answers.specs.Bounds.{change_bytes, patch_bytes, unle
 ghost use Rattle.newt_spec_world.specs.Changed.{with_graph};
 ghost use Rattle.newt_laws_answers.specs.Tests.{make_tests, add_tests, replace_tests, replaced, patch_tests, patched_within, move_tests, moved_within, with_added};
 ghost use Rattle.newt_laws_answers.specs.There.{OnUnit};
-ghost use Rattle.newt_units.specs.Bounds.{CostsOn};
-ghost use Rattle.newt_units.specs.Cards.{soup_of, entry_at, entry_said, ReadsEntry};
-ghost use Rattle.newt_units.specs.Faults.{Does, GoesOn, HasFaultCause, HasStopCause, OnDevices};
+ghost use Rattle.newt_cardstore.specs.Bounds.{CostsOn};
+ghost use Rattle.newt_cardstore.specs.Cards.{soup_of, entry_at, entry_said, ReadsEntry};
+ghost use Rattle.newt_cardstore.specs.Faults.{Does, GoesOn, HasFaultCause, HasStopCause, OnDevices};
 ghost use Rattle.newt_units.specs.Stands.{Stands, mounted_in, world_of};
 
-use crate::card::{Card, Entry};
-use crate::fault::Fault;
+use newt_cardstore::{Card, Entry};
+use newt_cardstore::Fault;
 use crate::units::Units;
 use newt_base::{Name, Refusal, Sig, Uid};
 use newt_graph::Graph;
@@ -25,7 +25,7 @@ use newt_pagebook::Stop;
 
 impl<C: Card> Units<C> {
     /// Makes a soup in a store that is mounted.
-    pub(crate) fn make_soup_on<H: Host>(
+    pub fn make_soup_on<H: Host>(
         &mut self,
         host: &mut H,
         unit: Unit,
@@ -51,7 +51,7 @@ impl<C: Card> Units<C> {
     }
 
     /// Drops a soup that is there.
-    pub(crate) fn drop_soup_on<H: Host>(
+    pub fn drop_soup_on<H: Host>(
         &mut self,
         host: &mut H,
         unit: Unit,
@@ -77,7 +77,7 @@ impl<C: Card> Units<C> {
     }
 
     /// Adds an entry to a soup that is there.
-    pub(crate) fn add_to<H: Host>(
+    pub fn add_to<H: Host>(
         &mut self,
         host: &mut H,
         unit: Unit,
@@ -106,7 +106,7 @@ impl<C: Card> Units<C> {
     }
 
     /// Puts another graph in the place of an entry's that is there.
-    pub(crate) fn replace_in<H: Host>(
+    pub fn replace_in<H: Host>(
         &mut self,
         host: &mut H,
         unit: Unit,
@@ -135,7 +135,7 @@ impl<C: Card> Units<C> {
     }
 
     /// Overwrites bytes of a large binary of an entry that is there: of the node of this number, from a place on.
-    pub(crate) fn patch_in<H: Host>(
+    pub fn patch_in<H: Host>(
         &mut self,
         host: &mut H,
         unit: Unit,
@@ -168,7 +168,7 @@ impl<C: Card> Units<C> {
     }
 
     /// Removes an entry that is there.
-    pub(crate) fn remove_from<H: Host>(
+    pub fn remove_from<H: Host>(
         &mut self,
         host: &mut H,
         unit: Unit,
@@ -195,7 +195,7 @@ impl<C: Card> Units<C> {
     }
 
     /// Moves an entry that is there to another soup of its store.
-    pub(crate) fn move_within<H: Host>(
+    pub fn move_within<H: Host>(
         &mut self,
         host: &mut H,
         unit: Unit,
@@ -249,7 +249,7 @@ impl<C: Card> Units<C> {
     }
 
     /// Reads an entry, or says that it is not there.
-    pub(crate) fn read_entry<H: Host>(
+    pub fn read_entry<H: Host>(
         &mut self,
         host: &mut H,
         unit: Unit,

@@ -5,7 +5,7 @@ ghost use Rattle.newt_laws_answers.specs.Faces.{shows, shown_count, first_shown,
 ghost use Rattle.newt_units.specs.Faces.{card_face, card_faces};
 ghost use Rattle.newt_units.specs.Stands.{card_at};
 
-use crate::card::Card;
+use newt_cardstore::Card;
 use crate::units::Units;
 use newt_base::Sig;
 use newt_host::Unit;

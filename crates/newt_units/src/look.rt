@@ -2,15 +2,15 @@
 ghost use Rattle.std.specs.Prelude.{◌≡◌, ℕ, true, Some, is_some, IfOk, IfErr, option_map};
 ghost use Rattle.newt_spec_store.specs.Store.{Store as Plain};
 ghost use Rattle.newt_laws_answers.specs.There.{OnUnit};
-ghost use Rattle.newt_units.specs.Cards.{entry_at};
+ghost use Rattle.newt_cardstore.specs.Cards.{entry_at};
 ghost use Rattle.newt_host.specs.Outside.{Outside};
 ghost use Rattle.newt_units.specs.Stands.{card_at, mounted_in, Stands, Eight, world_of};
-ghost use Rattle.newt_units.specs.Faults.{IsRefusal};
+ghost use Rattle.newt_cardstore.specs.Faults.{IsRefusal};
 ghost use Rattle.newt_units.specs.Found.{FindsEntry};
 ghost use Rattle.newt_units.specs.Looks.{attached_in, known_soup, FindsUnit, LooksUp, LooksUpBoth};
 
-use crate::card::Card;
-use crate::fault::Fault;
+use newt_cardstore::Card;
+use newt_cardstore::Fault;
 use crate::units::Units;
 use newt_base::{Name, Refusal, Sig, Uid};
 use newt_host::Unit;
@@ -83,7 +83,7 @@ impl<C: Card> Units<C> {
     }
 
     /// Whether a soup of the store that is mounted on a unit has an entry.
-    pub(crate) fn has_entry(&self, unit: Unit, soup: Sig, uid: Uid) -> bool
+    pub fn has_entry(&self, unit: Unit, soup: Sig, uid: Uid) -> bool
         ensures { (outside : Outside) → Eight outside → Stands C.place C.stands true self.now outside → (blocks : ℕ) (s : Plain) → OnUnit (world_of C.reads self.now outside) unit blocks s →
             result ≡ is_some (entry_at soup uid s) }
     {
@@ -94,7 +94,7 @@ impl<C: Card> Units<C> {
     }
 
     /// The signature of a soup that has an entry, or why there is none: the soup is not there, or has no such entry.
-    pub(crate) fn find_entry(&self, unit: Unit, name: &Name, uid: Uid) -> Result<Sig, Fault>
+    pub fn find_entry(&self, unit: Unit, name: &Name, uid: Uid) -> Result<Sig, Fault>
         ensures soup { IfOk result (λ sig. known_soup C.soups self.now.slots.items unit name.now ≡ Some sig) }
         ensures only { IfErr result (λ fault. IsRefusal fault) }
         ensures found { (outside : Outside) → Eight outside → Stands C.place C.stands true self.now outside → FindsEntry (world_of C.reads self.now outside) unit name.now uid result }
@@ -108,7 +108,7 @@ impl<C: Card> Units<C> {
     }
 
     /// The signatures of two soups, or why one is not there: each is tried for both before the next.
-    pub(crate) fn find_both(
+    pub fn find_both(
         &self,
         unit: Unit,
         name: &Name,

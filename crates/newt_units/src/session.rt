@@ -5,11 +5,11 @@ ghost use Rattle.newt_spec_world.specs.Reply.{Reply};
 ghost use Rattle.newt_spec_world.specs.declared.command.Command.{Command};
 ghost use Rattle.newt_laws_answers.specs.Spoken.{answer_now};
 ghost use Rattle.newt_units.specs.Answers.{Answers};
-ghost use Rattle.newt_units.specs.Faults.{IsRefusal};
+ghost use Rattle.newt_cardstore.specs.Faults.{IsRefusal};
 ghost use Rattle.newt_units.specs.Stands.{Eight, Stands, world_of};
 
-use crate::card::Card;
-use crate::fault::Fault;
+use newt_cardstore::Card;
+use newt_cardstore::Fault;
 use crate::units::Units;
 use newt_host::Unit;
 
@@ -20,6 +20,13 @@ impl<C: Card> Units<C> {
         ensures answered { (outside : Outside) → answer_now (world_of C.reads self.old outside) (Command.Time minute) ≡ (world_of C.reads self.new outside, Reply.done) }
     {
         self.minute = minute;
+    }
+
+    /// The default unit, if there is one.
+    pub fn default_unit(&self) -> Option<Unit>
+        ensures { result ≡ self.now.default }
+    {
+        self.default
     }
 
     /// Makes the store of a unit the default one.

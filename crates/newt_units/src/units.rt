@@ -5,7 +5,7 @@ ghost use Rattle.newt_host.specs.Outside.{Outside};
 ghost use Rattle.newt_laws_answers.specs.WorldAt.{world_at};
 ghost use Rattle.newt_units.specs.Stands.{Stands, world_of};
 
-use crate::card::Card;
+use newt_cardstore::Card;
 use newt_host::Unit;
 use std::alloc::{AllocError, Global};
 

@@ -14,8 +14,8 @@ use Rattle.newt_spec_world.specs.World.{World, cursor, hits_of, set_place, settl
 use Rattle.newt_spec_world.specs.Changed.{Step, changed, step_from, stepped, go_to_key, to_key, key_from}
 use Rattle.newt_spec_world.specs.Refused.{checks, no_cursor, bad_key, on_some}
 use Rattle.newt_spec_world.specs.Answer.{answer, current, fields, or_nil}
-use Rattle.newt_units.specs.declared.fault.Fault.{Fault}
-use Rattle.newt_units.specs.declared.fault.Fault.TheVariants.{Refused, Stop}
+use Rattle.newt_cardstore.specs.declared.fault.Fault.{Fault}
+use Rattle.newt_cardstore.specs.declared.fault.Fault.TheVariants.{Refused, Stop}
 use Rattle.newt_walk.specs.Motions.{Steers, step_of}
 use Rattle.newt_walk.specs.Replies.{Answers, shown_reply}
 use Rattle.newt_walk.specs.declared.show.Shown.{Shown}

@@ -14,8 +14,8 @@ use Rattle.newt_spec_world.specs.Changed.{index_of, query_of}
 use Rattle.newt_spec_world.specs.Refused.{on_some}
 use Rattle.newt_spec_world.specs.World.{World}
 use Rattle.newt_cursor.specs.declared.query.Query as code
-use Rattle.newt_units.specs.declared.fault.Fault.{Fault}
-use Rattle.newt_units.specs.declared.fault.Fault.TheVariants.{Refused, Stop}
+use Rattle.newt_cardstore.specs.declared.fault.Fault.{Fault}
+use Rattle.newt_cardstore.specs.declared.fault.Fault.TheVariants.{Refused, Stop}
 use Rattle.newt_keys.specs.declared.types.IndexPart.{IndexPart}
 use Rattle.newt_keys.specs.Seen.{declared_all}
 use Rattle.newt_host.specs.Outside.{Outside}

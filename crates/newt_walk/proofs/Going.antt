@@ -25,11 +25,11 @@ use Rattle.newt_laws_answers.proofs.Answers.{unit-passes}
 use Rattle.newt_laws_answers.proofs.Units.{is-mounted}
 use Rattle.newt_laws_hits.specs.Located.{Located, located, looked_up, located_hit as hit_at}
 use Rattle.newt_laws_hits.proofs.Origins.{looked-up-is, same-looked-up, named-looked-up}
-use Rattle.newt_units.specs.declared.fault.Fault.{Fault}
-use Rattle.newt_units.specs.declared.fault.Fault.TheVariants.{Refused, Stop}
+use Rattle.newt_cardstore.specs.declared.fault.Fault.{Fault}
+use Rattle.newt_cardstore.specs.declared.fault.Fault.TheVariants.{Refused, Stop}
 use Rattle.newt_units.specs.declared.units.Units.{Units}
-use Rattle.newt_units.specs.Cards.{soup_of}
-use Rattle.newt_units.specs.Faults.{RefusesBy}
+use Rattle.newt_cardstore.specs.Cards.{soup_of}
+use Rattle.newt_cardstore.specs.Faults.{RefusesBy}
 use Rattle.newt_units.specs.Stands.{Stands, Eight, card_at, world_of}
 use Rattle.newt_units.proofs.Known.{Laws, bare-sig, card-known, none-mounted}
 use Rattle.newt_walk.specs.Present.{Present, identity, present_in, with_entry}

@@ -8,7 +8,7 @@ use Rattle.newt_spec_query.specs.Hits.{Query, Hit, passes}
 use Rattle.newt_query.specs.Filter.{in_range}
 use Rattle.newt_laws_hits.specs.Located.{located}
 use Rattle.newt_laws_hits.specs.Stripped.{entry_passes, passing}
-use Rattle.newt_units.specs.Cards.{soup_of, entry_at}
+use Rattle.newt_cardstore.specs.Cards.{soup_of, entry_at}
 use Rattle.newt_walk.specs.Searched.{located_in, keeps_in}
 
 abbrev table_in : ℕ → Store → Option TagTable

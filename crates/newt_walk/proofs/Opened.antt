@@ -20,9 +20,9 @@ use Rattle.newt_spec_world.specs.Answer.{answer, fields, or_nil}
 use Rattle.newt_laws_answers.specs.Tests.{soup_checks}
 use Rattle.newt_cursor.specs.declared.query.Query as code
 use Rattle.newt_cursor.specs.Seen.{query_of as seen}
-use Rattle.newt_units.specs.declared.fault.Fault.{Fault}
-use Rattle.newt_units.specs.declared.fault.Fault.TheVariants.{Refused, Stop}
-use Rattle.newt_units.specs.Faults.{RefusesBy}
+use Rattle.newt_cardstore.specs.declared.fault.Fault.{Fault}
+use Rattle.newt_cardstore.specs.declared.fault.Fault.TheVariants.{Refused, Stop}
+use Rattle.newt_cardstore.specs.Faults.{RefusesBy}
 use Rattle.newt_units.proofs.Shown.{drop-step}
 use Rattle.newt_walk.specs.Opening.{Binds, Opens, bind_tests}
 use Rattle.newt_walk.specs.Replies.{Answers}

@@ -15,7 +15,7 @@ use Rattle.newt_laws_hits.specs.Located.{Located, looked_up, located_hit, takes_
 use Rattle.newt_laws_hits.proofs.Origins.{same-looked-up}
 use Rattle.newt_pass.specs.Kept.{kept_key}
 use Rattle.newt_pass.proofs.Keeping.{kept-is}
-use Rattle.newt_units.specs.Cards.{soup_of, entry_at}
+use Rattle.newt_cardstore.specs.Cards.{soup_of, entry_at}
 use Rattle.newt_walk.specs.Searched.{located_in}
 use Rattle.newt_walk.specs.Present.{Present, identity, with_entry, present_in}
 

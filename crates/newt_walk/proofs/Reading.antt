@@ -6,7 +6,7 @@ use Rattle.newt_pagebook.specs.declared.book.Stop.{Stop}
 use Rattle.newt_pagebook.specs.declared.book.Stop.TheVariants.{Memory, Device}
 use Rattle.newt_spec_store.specs.Store.{Store}
 use Rattle.newt_units.specs.declared.units.Units.{Units}
-use Rattle.newt_units.specs.Faults.{HasStopCause, OnDevices}
+use Rattle.newt_cardstore.specs.Faults.{HasStopCause, OnDevices}
 use Rattle.newt_units.specs.Stands.{Stands}
 use Rattle.newt_walk.specs.World.{AreRead}
 

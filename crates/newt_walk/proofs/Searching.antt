@@ -32,7 +32,7 @@ use Rattle.newt_union.proofs.Orders.{same_keys}
 use Rattle.newt_laws_answers.specs.WorldAt.{device_at}
 use Rattle.newt_laws_hits.specs.Taking.{declared, member_of, members_of}
 use Rattle.newt_laws_hits.proofs.Cuts.{first-among, last-among}
-use Rattle.newt_units.specs.Cards.{soup_of}
+use Rattle.newt_cardstore.specs.Cards.{soup_of}
 use Rattle.newt_units.specs.declared.units.Units.{Units}
 use Rattle.newt_units.specs.Stands.{Stands, Eight, mounted_in, world_of}
 use Rattle.newt_units.proofs.Known.{Laws, at-device}

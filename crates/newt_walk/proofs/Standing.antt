@@ -14,7 +14,7 @@ use Rattle.newt_laws.specs.Settled.{MountedApart}
 use Rattle.newt_laws_changes.proofs.Chosen.{find-passes}
 use Rattle.newt_laws_hits.specs.Located.{Located, located}
 use Rattle.newt_laws_hits.proofs.Origins.{origin, hit-located}
-use Rattle.newt_units.specs.Cards.{soup_of}
+use Rattle.newt_cardstore.specs.Cards.{soup_of}
 use Rattle.newt_walk.specs.Keyed.{stands_on, key_now}
 use Rattle.newt_walk.specs.Present.{Present, identity, with_entry, present_in}
 use Rattle.newt_walk.specs.Searched.{located_in}

@@ -7,8 +7,8 @@ use Rattle.newt_spec_world.specs.Answer.{current, or_nil}
 use Rattle.newt_spec_world.specs.Changed.{Step, stepped}
 use Rattle.newt_spec_world.specs.World.{World, cursor, settle}
 use Rattle.newt_keys.specs.KeyForm.{IsKeyOf}
-use Rattle.newt_units.specs.declared.fault.Fault.{Fault}
-use Rattle.newt_units.specs.declared.fault.Fault.TheVariants.{Refused, Stop}
+use Rattle.newt_cardstore.specs.declared.fault.Fault.{Fault}
+use Rattle.newt_cardstore.specs.declared.fault.Fault.TheVariants.{Refused, Stop}
 use Rattle.newt_walk.specs.declared.show.Shown.{Shown}
 use Rattle.newt_walk.specs.declared.stepping.Motion.{Motion}
 use Rattle.newt_walk.specs.declared.stepping.Motion.TheVariants as motion

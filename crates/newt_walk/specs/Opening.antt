@@ -11,8 +11,8 @@ use Rattle.newt_spec_world.specs.Refused.{bad_query, no_query_index, bad_keys}
 use Rattle.newt_spec_world.specs.World.{World, free_cursor, settle}
 use Rattle.newt_cursor.specs.declared.query.Query as code
 use Rattle.newt_cursor.specs.Seen.{query_of}
-use Rattle.newt_units.specs.declared.fault.Fault.{Fault}
-use Rattle.newt_units.specs.declared.fault.Fault.TheVariants.{Refused, Stop}
+use Rattle.newt_cardstore.specs.declared.fault.Fault.{Fault}
+use Rattle.newt_cardstore.specs.declared.fault.Fault.TheVariants.{Refused, Stop}
 
 -- the declaration of these paths in the soup of this name of a store in scope (a word of these definitions)
 abbrev pub index_in : Option ℕ → List ℕ → List Path → Store → Option IndexSpec

@@ -6,7 +6,7 @@ use Rattle.newt_spec_query.specs.Hits.{Query, Hit}
 use Rattle.newt_spec_query.specs.Cursor.{same_identity}
 use Rattle.newt_spec_world.specs.World.{World, hits_of}
 use Rattle.newt_spec_world.specs.Answer.{spot_of}
-use Rattle.newt_units.specs.declared.card.Entry as code
+use Rattle.newt_cardstore.specs.declared.card.Entry as code
 use Rattle.newt_walk.specs.declared.present.Present as found
 
 -- a hit with its entry: its unit, the key that it has, and the entry (a word of these definitions)

@@ -5,8 +5,8 @@ use Rattle.newt_spec_world.specs.Reply.{Reply}
 use Rattle.newt_spec_world.specs.World.{World}
 use Rattle.newt_spec_world.specs.Answer.{answer}
 use Rattle.newt_spec_query.specs.Cursor.{Place, start, finish, on}
-use Rattle.newt_units.specs.declared.fault.Fault.{Fault}
-use Rattle.newt_units.specs.declared.fault.Fault.TheVariants.{Refused, Stop}
+use Rattle.newt_cardstore.specs.declared.fault.Fault.{Fault}
+use Rattle.newt_cardstore.specs.declared.fault.Fault.TheVariants.{Refused, Stop}
 use Rattle.newt_walk.specs.declared.show.Shown.{Shown}
 use Rattle.newt_walk.specs.declared.show.Shown.TheVariants.{Nil, Deleted, Entry}
 use Rattle.newt_walk.specs.declared.show.Side.{Side}

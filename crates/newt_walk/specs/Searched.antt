@@ -10,7 +10,7 @@ use Rattle.newt_union.specs.Seen.{AreSorted}
 use Rattle.newt_laws_hits.specs.Located.{Located}
 use Rattle.newt_laws_hits.specs.Stripped.{entry_passes}
 use Rattle.newt_laws_hits.specs.Taking.{member_of}
-use Rattle.newt_units.specs.Cards.{soup_of}
+use Rattle.newt_cardstore.specs.Cards.{soup_of}
 
 -- the soup of the query's name in a store in scope, with its range (Newton Programmer's Guide 2.0, union soups)
 abbrev pub member_in : Query → Store → Option Member

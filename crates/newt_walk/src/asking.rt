@@ -6,7 +6,7 @@ ghost use Rattle.newt_cursor.specs.Seen.{scope_of};
 ghost use Rattle.newt_query.specs.Shape.{shape_of};
 ghost use Rattle.newt_spec_query.specs.Spec.{is_query, keys_fit, spec_of};
 ghost use Rattle.newt_spec_world.specs.Changed.{query_of};
-ghost use Rattle.newt_units.specs.Faults.{NoDevice};
+ghost use Rattle.newt_cardstore.specs.Faults.{NoDevice};
 ghost use Rattle.newt_units.specs.Stands.{Eight, Stands, world_of};
 ghost use Rattle.newt_walk.specs.Opening.{Binds, Indexes, bind_tests};
 
@@ -17,7 +17,8 @@ use newt_graph::Graph;
 use newt_keys::IndexSpec;
 use newt_pagebook::Stop;
 use newt_query::{BindFault, Shape, ShapeFault};
-use newt_units::{Card, Fault, Units};
+use newt_cardstore::{Card, Fault};
+use newt_units::Units;
 use std::alloc::Global;
 
 /// What a frame asks of the soups of a name.

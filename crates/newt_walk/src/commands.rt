@@ -6,7 +6,7 @@ ghost use Rattle.newt_spec_world.specs.Reply.{Reply};
 ghost use Rattle.newt_spec_world.specs.World.{flat, settle};
 ghost use Rattle.newt_spec_world.specs.declared.command.Command.{Command};
 ghost use Rattle.newt_laws.specs.Settled.{MountedApart};
-ghost use Rattle.newt_units.specs.Faults.{HasFaultCause, HasStopCause};
+ghost use Rattle.newt_cardstore.specs.Faults.{HasFaultCause, HasStopCause};
 ghost use Rattle.newt_units.specs.Stands.{Stands};
 ghost use Rattle.newt_walk.specs.Fits.{DeskFits};
 ghost use Rattle.newt_walk.specs.Replies.{Answers, shown_reply, side_at, side_reply};
@@ -19,7 +19,8 @@ use newt_base::Refusal;
 use newt_cursor::{Desk, DeskFault, Place};
 use newt_host::Host;
 use newt_pagebook::Stop;
-use newt_units::{Card, Fault, Units};
+use newt_cardstore::{Card, Fault};
+use newt_units::Units;
 
 /// Shows a cursor.
 pub fn entry<C: Card, H: Host>(

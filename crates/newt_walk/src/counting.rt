@@ -3,7 +3,7 @@ ghost use Rattle.std.specs.Prelude.{◌≡◌, ◌+◌, ◌^◌, ◌<◌, IsTrue
 ghost use Rattle.newt_cursor.specs.Seen.{query_of};
 ghost use Rattle.newt_spec_world.specs.World.{hits_of};
 ghost use Rattle.newt_laws.specs.Settled.{MountedApart};
-ghost use Rattle.newt_units.specs.Faults.{HasStopCause};
+ghost use Rattle.newt_cardstore.specs.Faults.{HasStopCause};
 ghost use Rattle.newt_units.specs.Stands.{Stands, world_of};
 ghost use Rattle.newt_walk.specs.World.{AreRead};
 
@@ -13,7 +13,8 @@ use crate::ways::Way;
 use newt_cursor::Query;
 use newt_host::Host;
 use newt_pagebook::Stop;
-use newt_units::{Card, Units};
+use newt_cardstore::Card;
+use newt_units::Units;
 
 /// How many hits a query has.
 pub(crate) fn count_hits<C: Card, H: Host>(

@@ -7,7 +7,7 @@ ghost use Rattle.newt_cursor.specs.Seen.{scope_of};
 ghost use Rattle.newt_spec_store.specs.Keys.{paths_of, same_paths};
 ghost use Rattle.newt_spec_world.specs.Changed.{index_for};
 ghost use Rattle.newt_spec_world.specs.World.{mounted_store};
-ghost use Rattle.newt_units.specs.Cards.{soup_of};
+ghost use Rattle.newt_cardstore.specs.Cards.{soup_of};
 ghost use Rattle.newt_units.specs.Stands.{Eight, Stands, world_of};
 ghost use Rattle.newt_walk.specs.Opening.{index_in};
 
@@ -17,7 +17,8 @@ use newt_cursor::Scope;
 use newt_host::Unit;
 use newt_keys::{IndexPart, IndexSpec};
 use newt_path::Path;
-use newt_units::{Card, Units};
+use newt_cardstore::Card;
+use newt_units::Units;
 
 /// How many units there are.
 const UNITS: u8 = 8;

@@ -7,8 +7,8 @@ ghost use Rattle.newt_spec_store.specs.Store.{Store};
 ghost use Rattle.newt_spec_world.specs.World.{mounted_stores};
 ghost use Rattle.newt_laws_answers.specs.There.{OnUnit};
 ghost use Rattle.newt_laws_hits.specs.Stripped.{passing};
-ghost use Rattle.newt_units.specs.Cards.{soup_of};
-ghost use Rattle.newt_units.specs.Faults.{HasStopCause};
+ghost use Rattle.newt_cardstore.specs.Cards.{soup_of};
+ghost use Rattle.newt_cardstore.specs.Faults.{HasStopCause};
 ghost use Rattle.newt_units.specs.Stands.{Eight, Stands, mounted_in, world_of};
 ghost use Rattle.newt_walk.specs.Searched.{keeps_in};
 ghost use Rattle.newt_walk.specs.World.{AreRead};
@@ -19,7 +19,8 @@ use newt_host::{Host, Unit};
 use newt_index::Spot;
 use newt_pagebook::Stop;
 use newt_pass::{is_kept, is_kept_unread};
-use newt_units::{Card, Units};
+use newt_cardstore::Card;
+use newt_units::Units;
 use std::alloc::AllocError;
 
 /// Whether a query keeps a hit: its key is in the range, and its entry is there and passes. The entry is read only where words or texts are asked for

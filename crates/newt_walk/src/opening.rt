@@ -9,7 +9,7 @@ ghost use Rattle.newt_spec_world.specs.World.{mounted, soup_in};
 ghost use Rattle.newt_spec_world.specs.declared.command.Command.{Command};
 ghost use Rattle.newt_laws.specs.Settled.{MountedApart};
 ghost use Rattle.newt_laws_answers.specs.Tests.{soup_checks};
-ghost use Rattle.newt_units.specs.Faults.{HasFaultCause, NoDevice};
+ghost use Rattle.newt_cardstore.specs.Faults.{HasFaultCause, NoDevice};
 ghost use Rattle.newt_units.specs.Stands.{Eight, Stands, world_of};
 ghost use Rattle.newt_walk.specs.Fits.{DeskFits};
 ghost use Rattle.newt_walk.specs.Opening.{Binds, Opens, bind_tests};
@@ -25,7 +25,8 @@ use newt_cursor::{Desk, DeskFault, Query, Scope};
 use newt_graph::Graph;
 use newt_host::{Host, Unit};
 use newt_pagebook::Stop;
-use newt_units::{Card, Fault, Units};
+use newt_cardstore::{Card, Fault};
+use newt_units::Units;
 
 /// How many units there are.
 const UNITS: u8 = 8;

@@ -5,7 +5,7 @@ ghost use Rattle.newt_cursor.specs.Seen.{query_of, place_of};
 ghost use Rattle.newt_spec_query.specs.Cursor.{moved, place_at_key, repeated};
 ghost use Rattle.newt_spec_world.specs.World.{hits_of};
 ghost use Rattle.newt_laws.specs.Settled.{MountedApart};
-ghost use Rattle.newt_units.specs.Faults.{HasStopCause};
+ghost use Rattle.newt_cardstore.specs.Faults.{HasStopCause};
 ghost use Rattle.newt_units.specs.Stands.{Stands, world_of};
 ghost use Rattle.newt_walk.specs.Fits.{PlaceFits};
 ghost use Rattle.newt_walk.specs.Ways.{is_at_edge, outermost, stepping};
@@ -18,7 +18,8 @@ use newt_cursor::{Place, Query};
 use newt_host::Host;
 use newt_keys::Key;
 use newt_pagebook::Stop;
-use newt_units::{Card, Units};
+use newt_cardstore::Card;
+use newt_units::Units;
 
 /// On the hit that a way meets first, else where the way ends.
 pub(crate) fn outermost<C: Card, H: Host>(

@@ -11,8 +11,8 @@ ghost use Rattle.newt_laws.specs.Settled.{MountedApart};
 ghost use Rattle.newt_laws_answers.specs.There.{OnUnit};
 ghost use Rattle.newt_laws_hits.specs.Located.{takes_part};
 ghost use Rattle.newt_laws_hits.specs.Taking.{declared};
-ghost use Rattle.newt_units.specs.Cards.{soup_of};
-ghost use Rattle.newt_units.specs.Faults.{HasStopCause};
+ghost use Rattle.newt_cardstore.specs.Cards.{soup_of};
+ghost use Rattle.newt_cardstore.specs.Faults.{HasStopCause};
 ghost use Rattle.newt_units.specs.Stands.{Eight, Stands, world_of};
 ghost use Rattle.newt_pass.specs.Kept.{kept_key};
 ghost use Rattle.newt_walk.specs.Present.{entry_of, identity, present_in, present_of};
@@ -25,7 +25,8 @@ use newt_keys::{IndexSpec, Key};
 use newt_pagebook::Stop;
 use newt_pass::kept_key;
 use newt_tags::TagTable;
-use newt_units::{Card, Entry, Units};
+use newt_cardstore::{Card, Entry};
+use newt_units::Units;
 use std::alloc::AllocError;
 
 /// A hit with its entry: its unit, the key that it has, and the entry.

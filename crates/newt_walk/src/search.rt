@@ -20,7 +20,8 @@ use newt_host::Unit;
 use newt_index::{Index, Spot};
 use newt_keys::{IndexSpec, Key};
 use newt_union::{Hit, Members};
-use newt_units::{Card, Units};
+use newt_cardstore::Card;
+use newt_units::Units;
 use std::alloc::AllocError;
 
 /// How many units there are.

@@ -4,7 +4,7 @@ ghost use Rattle.newt_keys.specs.KeyForm.{IsKeyOf};
 ghost use Rattle.newt_spec_query.specs.Cursor.{Cursor};
 ghost use Rattle.newt_spec_world.specs.World.{change_at, flat, settle, settle_cursor};
 ghost use Rattle.newt_laws.specs.Settled.{MountedApart};
-ghost use Rattle.newt_units.specs.Faults.{HasStopCause};
+ghost use Rattle.newt_cardstore.specs.Faults.{HasStopCause};
 ghost use Rattle.newt_units.specs.Stands.{Stands, world_of};
 ghost use Rattle.newt_walk.specs.Fits.{DeskFits};
 ghost use Rattle.newt_walk.specs.Keyed.{key_now};
@@ -16,7 +16,8 @@ use newt_cursor::Desk;
 use newt_host::Host;
 use newt_keys::Key;
 use newt_pagebook::Stop;
-use newt_units::{Card, Units};
+use newt_cardstore::Card;
+use newt_units::Units;
 
 /// How many places for cursors there are.
 const PLACES: u8 = 32;

@@ -3,7 +3,7 @@ ghost use Rattle.std.specs.Prelude.{◌≡◌, IsTrue, IfErr, IfOk, slice_get};
 ghost use Rattle.newt_spec_world.specs.Answer.{current, or_nil};
 ghost use Rattle.newt_spec_world.specs.World.{flat};
 ghost use Rattle.newt_laws.specs.Settled.{MountedApart};
-ghost use Rattle.newt_units.specs.Faults.{HasStopCause};
+ghost use Rattle.newt_cardstore.specs.Faults.{HasStopCause};
 ghost use Rattle.newt_units.specs.Stands.{Stands};
 ghost use Rattle.newt_walk.specs.Replies.{shown_reply};
 ghost use Rattle.newt_walk.specs.World.{AreRead, world_with};
@@ -13,7 +13,8 @@ use crate::present::find_hit;
 use newt_cursor::Desk;
 use newt_host::{Host, Unit};
 use newt_pagebook::Stop;
-use newt_units::{Card, Entry, Units};
+use newt_cardstore::{Card, Entry};
+use newt_units::Units;
 
 /// What a cursor shows.
 #[derive(Drop)]

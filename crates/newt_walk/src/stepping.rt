@@ -10,7 +10,7 @@ ghost use Rattle.newt_spec_world.specs.Changed.{hit_for, key_from, sig_of};
 ghost use Rattle.newt_spec_world.specs.World.{cursor, flat, hits_of, set_place, settle, soup_in};
 ghost use Rattle.newt_spec_world.specs.declared.command.Command.TheVariants as Command;
 ghost use Rattle.newt_laws.specs.Settled.{MountedApart};
-ghost use Rattle.newt_units.specs.Faults.{HasFaultCause, HasStopCause};
+ghost use Rattle.newt_cardstore.specs.Faults.{HasFaultCause, HasStopCause};
 ghost use Rattle.newt_units.specs.Stands.{Eight, Stands, world_of};
 ghost use Rattle.newt_walk.specs.Fits.{DeskFits, PlaceFits};
 ghost use Rattle.newt_walk.specs.Motions.{MotionFits, Steers, step_of};
@@ -30,7 +30,8 @@ use newt_host::{Host, Unit};
 use newt_index::Spot;
 use newt_keys::{Key, key_from};
 use newt_pagebook::Stop;
-use newt_units::{Card, Fault, Units};
+use newt_cardstore::{Card, Fault};
+use newt_units::Units;
 use std::alloc::{AllocError, Global};
 
 /// How a cursor is moved.

@@ -6,7 +6,7 @@ ghost use Rattle.newt_spec_world.specs.World.{hits_of, mounted_stores};
 ghost use Rattle.newt_laws.specs.Settled.{MountedApart};
 ghost use Rattle.newt_laws_hits.specs.Stripped.{passing};
 ghost use Rattle.newt_laws_hits.specs.Walk.{walked};
-ghost use Rattle.newt_units.specs.Faults.{HasStopCause};
+ghost use Rattle.newt_cardstore.specs.Faults.{HasStopCause};
 ghost use Rattle.newt_units.specs.Stands.{Stands, world_of};
 ghost use Rattle.newt_walk.specs.Fits.{PlaceFits};
 ghost use Rattle.newt_walk.specs.Ways.{edge, stepping};
@@ -19,7 +19,8 @@ use newt_cursor::{Place, Query};
 use newt_host::Host;
 use newt_index::Spot;
 use newt_pagebook::Stop;
-use newt_units::{Card, Units};
+use newt_cardstore::Card;
+use newt_units::Units;
 
 /// From a hit of the index alone, or none, to the first that the query keeps, or to where the way ends. Each step leaves fewer hits before it, and there
 /// are fewer than the steps that are tried.

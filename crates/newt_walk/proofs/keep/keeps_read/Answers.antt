@@ -6,7 +6,7 @@ use Rattle.newt_spec_store.specs.Store.{TagTable}
 use Rattle.newt_spec_query.specs.Hits.{passes}
 use Rattle.newt_spec_world.specs.World.{World}
 use Rattle.newt_laws_answers.specs.There.{OnUnit}
-use Rattle.newt_units.specs.Cards.{entry_said}
+use Rattle.newt_cardstore.specs.Cards.{entry_said}
 use Rattle.newt_units.specs.Stands.{Stands, Eight}
 use Rattle.newt_walk.specs.Present.{entry_of}
 use Rattle.newt_walk.proofs.Keeping.{there-kept, gone-not-kept}

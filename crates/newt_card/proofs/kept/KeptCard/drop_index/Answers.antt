@@ -7,7 +7,7 @@ use Rattle.newt_laws_answers.specs.Bounds.{change_bytes}
 use Rattle.newt_spec_store.specs.Keys.{Path}
 use Rattle.newt_spec_store.specs.Store.{change_soup}
 use Rattle.newt_spec_world.specs.Changed.{without_index}
-use Rattle.newt_units.specs.Bounds.{ProgramsAtMost}
+use Rattle.newt_cardstore.specs.Bounds.{ProgramsAtMost}
 use Rattle.newt_card.proofs.Bounds.{programs-none}
 use Rattle.newt_card.proofs.Commands.{copied-does, copied-leaves, leaves-index}
 use Rattle.newt_card.proofs.kept.KeptCard.drop_index.Goals as goal

@@ -6,7 +6,7 @@ use Rattle.newt_card.specs.Stands.{StandsOn}
 use Rattle.newt_laws_answers.specs.Bounds.{change_bytes, unless}
 use Rattle.newt_laws_answers.specs.Tests.{make_tests}
 use Rattle.newt_spec_store.specs.Store.{make_soup}
-use Rattle.newt_units.specs.Bounds.{ProgramsAtMost}
+use Rattle.newt_cardstore.specs.Bounds.{ProgramsAtMost}
 use Rattle.newt_card.proofs.Bounds.{make-bound, programs-none}
 use Rattle.newt_card.proofs.Commands.{make-does, make-leaves, leaves-nothing}
 use Rattle.newt_card.proofs.kept.KeptCard.make_soup.Goals as goal

@@ -5,7 +5,7 @@ use Rattle.newt_store.specs.Readable.{readable}
 use Rattle.newt_card.specs.Stands.{StandsOn}
 use Rattle.newt_laws_answers.specs.Bounds.{patch_bytes, unless}
 use Rattle.newt_laws_answers.specs.Tests.{patch_tests}
-use Rattle.newt_units.specs.Bounds.{ProgramsAtMost}
+use Rattle.newt_cardstore.specs.Bounds.{ProgramsAtMost}
 use Rattle.newt_card.proofs.Bounds.{programs-none}
 use Rattle.newt_card.proofs.Commands.{bytes-do, bytes-leave, leaves-unpatched}
 use Rattle.newt_card.proofs.kept.KeptCard.patch.Goals as goal

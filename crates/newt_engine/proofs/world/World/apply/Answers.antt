@@ -3,7 +3,7 @@ use Rattle.std.proofs.Common.{refl, Err, subst}
 use Rattle.std.specs.Prelude.{Ok}
 use Rattle.newt_reply.specs.Said.{said}
 use Rattle.newt_reply.specs.declared.reply.Reply.TheVariants as reply
-use Rattle.newt_units.specs.declared.fault.Fault.{Fault}
+use Rattle.newt_cardstore.specs.declared.fault.Fault.{Fault}
 use Rattle.newt_units.specs.Answers.{Answers}
 use Rattle.newt_walk.specs.World.{world_with}
 use Rattle.newt_engine.proofs.Refusing.{refusal_stays}

@@ -9,7 +9,7 @@ use Rattle.newt_spec_world.specs.Answer.{or_nil}
 use Rattle.newt_spec_world.specs.Reply.{Reply as plain}
 use Rattle.newt_laws_answers.specs.Spoken.{answer_now}
 use Rattle.newt_laws_answers.proofs.Stores.{quit-done}
-use Rattle.newt_units.specs.Faults.{IsRefusal}
+use Rattle.newt_cardstore.specs.Faults.{IsRefusal}
 use Rattle.newt_units.specs.Stands.{world_of}
 use Rattle.newt_engine.proofs.Groups.{no_other}
 use Rattle.newt_engine.proofs.Handed.{handed, hands}

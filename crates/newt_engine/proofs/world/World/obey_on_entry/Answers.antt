@@ -3,7 +3,7 @@ use Rattle.std.proofs.Common.{◌≡◌, ap, sym, ◌∙◌, ℕ, List}
 use Rattle.std.proofs.lemmas.Result.{err_from_is_err_and}
 use Rattle.newt_spec_world.specs.declared.command.Command.TheVariants as command
 use Rattle.newt_spec_world.specs.Reply.{Reply as plain}
-use Rattle.newt_units.specs.declared.card.Entry.{Entry}
+use Rattle.newt_cardstore.specs.declared.card.Entry.{Entry}
 use Rattle.newt_engine.proofs.Handed.{handed, moments_same}
 use Rattle.newt_engine.proofs.world.World.obey_on_entry.Goals as goal
 

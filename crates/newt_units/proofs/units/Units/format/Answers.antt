@@ -11,7 +11,7 @@ use Rattle.newt_laws_answers.specs.Spoken.{answer_now}
 use Rattle.newt_laws_answers.specs.Tests.{formatted}
 use Rattle.newt_laws_answers.proofs.Stores.{format-unbuilt, format-not-ready}
 use Rattle.newt_units.specs.Stands.{world_of}
-use Rattle.newt_units.proofs.Commands.{format-has-answers, format-answers, format-makes, format-blank}
+use Rattle.newt_units.proofs.Answering.{format-has-answers, format-answers, format-makes, format-blank}
 use Rattle.newt_units.proofs.Settings.{Setting, still, ready-refused, ready-there}
 use Rattle.newt_units.proofs.Turns.{world-still}
 use Rattle.newt_units.proofs.units.Units.format.Goals as goal

@@ -4,7 +4,7 @@ use Rattle.newt_host.specs.Moments.{image}
 use Rattle.newt_host.specs.Outside.{Outside}
 use Rattle.newt_reply.specs.Said.{soup_row}
 use Rattle.newt_spec_store.specs.Store.{Store}
-use Rattle.newt_units.specs.Cards.{soup_rows}
+use Rattle.newt_cardstore.specs.Cards.{soup_rows}
 use Rattle.newt_units.proofs.units.Units.soup_lines.Given as goal
 
 abbrev pub invariant-loop-at : goal.invariant-loop-at

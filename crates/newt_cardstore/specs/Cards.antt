@@ -1,0 +1,53 @@
+-- What a store on a card stands for.
+use Rattle.std.specs.Prelude.{◌≡◌, ◌⊎◌, ℕ, ◌==◌, Bool, IsTrue, List, length, map, Option, Some, None, option_map, option_and_then, Result, Ok, Err}
+use Rattle.std.specs.List.{find}
+use Rattle.newt_base.specs.Refusals.{Checks, first_of}
+use Rattle.newt_host.specs.Moments.{Moment, changes}
+use Rattle.newt_host.specs.Outside.{Outside}
+use Rattle.newt_spec_store.specs.Store.{Store, Soup, entry_of}
+use Rattle.newt_spec_store.specs.Store as plain
+use Rattle.newt_base.specs.declared.Refusal.TheVariants.{Entry as NoEntry}
+use Rattle.newt_cardstore.specs.declared.card.Entry.{Entry}
+use Rattle.newt_cardstore.specs.declared.fault.Fault.{Fault}
+use Rattle.newt_cardstore.specs.declared.fault.Fault.TheVariants.{Refused, Stop}
+
+-- the soup of this signature
+abbrev pub soup_of : ℕ → Store → Option Soup
+soup_of sig s = find (λ p. p.sig == sig) s.soups
+
+-- the entry of this id in it
+abbrev pub entry_at : ℕ → ℕ → Store → Option plain.Entry
+entry_at sig uid s = option_and_then (entry_of uid) (soup_of sig s)
+
+-- an entry as the plain store has it
+abbrev pub entry_said : Option Entry → Option plain.Entry
+entry_said found = option_map (λ e. record { uid = e.uid; time = e.time; graph = e.graph }) found
+
+-- what an entry that is read is, or that it is not there
+abbrev pub ReadsEntry : Option plain.Entry → Result Entry Fault → Type 0
+ReadsEntry found (Ok e) = entry_said (Some e) ≡ found
+ReadsEntry found (Err (Refused refusal)) = (found ≡ None) × (refusal ≡ NoEntry)
+ReadsEntry found (Err (Stop stop)) = Unit {0}
+
+-- an image is read as one store, or, where the tests are passed, as another
+abbrev pub LeavesEither : (List ℕ → Option Store) → Checks → Store → Store → List ℕ → Type 0
+LeavesEither reads tests before after left = (reads left ≡ Some before) ⊎ ((first_of tests ≡ None) × (reads left ≡ Some after))
+
+-- nothing that concerns this unit is other than it was
+pub record IsSame (told : Bool) (unit : ℕ) (old new : Outside) : Type 0 where
+  pub card : new.card unit ≡ old.card unit
+  pub blocks : new.blocks unit ≡ old.blocks unit
+  pub changes : IsTrue told → changes unit new.now ≡ changes unit old.now
+
+-- how many entries a soup has
+abbrev pub count_in : Option Soup → ℕ
+count_in None = 0
+count_in (Some p) = length p.entries
+
+-- no other unit is other than it was
+abbrev pub OthersSame : ℕ → Moment → Moment → Type 0
+OthersSame unit old new = (u : ℕ) → (u ≡ unit → ⊥) → changes u new ≡ changes u old
+
+-- the lines of the soups of a store
+abbrev pub soup_rows : Store → List (List ℕ × ℕ × ℕ)
+soup_rows s = map (λ p. (p.name, p.sig, length p.entries)) s.soups

@@ -1,0 +1,6 @@
+pub mod Agree
+pub mod Binaries
+pub mod Commands
+pub mod Declaring
+pub mod Moves
+pub mod Replacing

@@ -1,0 +1,2 @@
+pub mod Larges
+pub mod Declares
