@@ -10,37 +10,35 @@ use Rattle.newt_laws_answers.specs.Spoken.{answer_now}
 use Rattle.newt_laws_answers.proofs.Copies.{move-not-found}
 use Rattle.newt_units.specs.Answers.{Answers}
 use Rattle.newt_units.specs.Found.{HasSoup}
-use Rattle.newt_units.specs.Stands.{world_of}
+use Rattle.newt_units.specs.Stands.{Stands, world_of}
+use Rattle.newt_units.proofs.Costs.{idle-costs}
 use Rattle.newt_units.proofs.Settings.{Setting, still, both-refused, has-soup}
+use Rattle.newt_commands.proofs.copies.move_entry.Given.{Over}
 use Rattle.newt_commands.proofs.copies.move_entry.Goals as goal
+
+-- where it begins
+begins : (g : Over) {units : _} {host : _} → Stands g.C.Card.place g.C.Card.stands g.H.Host.told units (g.H.Host.outside host)
+    → Setting g.C.Card.reads g.C.Card.place g.C.Card.soups g.C.Card.stands g.H.Host.told units (g.H.Host.outside host)
+begins g {units} {host} stand = record {
+  laws = record { formed = g.met.C.Card.formed; plain = g.met.C.Card.plain; durable = g.met.C.Card.durable; banks = g.met.C.Card.banks; kept = g.met.C.Card.kept };
+  eight = record { eight = g.met.H.Host.eight host; none = g.met.H.Host.none host };
+  stand = stand;
+}
 
 pub returns-in_err-soup-clause-answered : goal.returns-in_err-soup-clause-answered
 returns-in_err-soup-clause-answered g c t =
-    let at : Setting g.C.Card.reads g.C.Card.place g.C.Card.soups g.C.Card.stands g.H.Host.told c.args.units.now (g.H.Host.outside c.args.host.now) = record {
-      laws = record { formed = g.met.C.Card.formed; plain = g.met.C.Card.plain; durable = g.met.C.Card.durable; banks = g.met.C.Card.banks; kept = g.met.C.Card.kept };
-      eight = record { eight = g.met.H.Host.eight c.args.host.now; none = g.met.H.Host.none c.args.host.now };
-      stand = c.requires;
-    } in
     let w = world_of g.C.Card.reads c.args.units.now (g.H.Host.outside c.args.host.now) in
-    both-refused at t c.args.unit c.args.name.now c.args.to c.args.target.now _ _ (move-not-found w c.args.unit c.args.name.now c.args.uid c.args.to c.args.target.now) _ c.in_err-soup.ensures _ (err_from_is_err_and c.from_residual.result c.from_residual.ensures.1)
+    both-refused (begins g c.requires) t c.args.unit c.args.name.now c.args.to c.args.target.now _ _ (move-not-found w c.args.unit c.args.name.now c.args.uid c.args.to c.args.target.now) _ c.in_err-soup.ensures _ (err_from_is_err_and c.from_residual.result c.from_residual.ensures.1)
 
 pub returns-in_err-soup-clause-moments : goal.returns-in_err-soup-clause-moments
-returns-in_err-soup-clause-moments g c t =
-    let at : Setting g.C.Card.reads g.C.Card.place g.C.Card.soups g.C.Card.stands g.H.Host.told c.args.units.now (g.H.Host.outside c.args.host.now) = record {
-      laws = record { formed = g.met.C.Card.formed; plain = g.met.C.Card.plain; durable = g.met.C.Card.durable; banks = g.met.C.Card.banks; kept = g.met.C.Card.kept };
-      eight = record { eight = g.met.H.Host.eight c.args.host.now; none = g.met.H.Host.none c.args.host.now };
-      stand = c.requires;
-    } in
-    let w = world_of g.C.Card.reads c.args.units.now (g.H.Host.outside c.args.host.now) in
-    still at t _ _ refl
+returns-in_err-soup-clause-moments g c t = still (begins g c.requires) t _ _ refl
+
+pub returns-in_err-soup-clause-costs : goal.returns-in_err-soup-clause-costs
+returns-in_err-soup-clause-costs g c t = idle-costs _ _ _
 
 pub returns-then-eq-clause-answered : goal.returns-then-eq-clause-answered
 returns-then-eq-clause-answered g c t =
-    let at : Setting g.C.Card.reads g.C.Card.place g.C.Card.soups g.C.Card.stands g.H.Host.told c.args.units.now (g.H.Host.outside c.args.host.now) = record {
-      laws = record { formed = g.met.C.Card.formed; plain = g.met.C.Card.plain; durable = g.met.C.Card.durable; banks = g.met.C.Card.banks; kept = g.met.C.Card.kept };
-      eight = record { eight = g.met.H.Host.eight c.args.host.now; none = g.met.H.Host.none c.args.host.now };
-      stand = c.requires;
-    } in
+    let at = begins g c.requires in
     let w = world_of g.C.Card.reads c.args.units.now (g.H.Host.outside c.args.host.now) in
     let h = has-soup at t c.args.unit c.args.name.now c.in_ok-soup.soup c.in_ok-soup.ensures.0 in
     let k = has-soup at t c.args.to c.args.target.now c.in_ok-soup.into c.in_ok-soup.ensures.1 in
@@ -51,11 +49,7 @@ returns-then-eq-clause-answered g c t =
 
 pub returns-then-eq-clause-moments : goal.returns-then-eq-clause-moments
 returns-then-eq-clause-moments g c t =
-    let at : Setting g.C.Card.reads g.C.Card.place g.C.Card.soups g.C.Card.stands g.H.Host.told c.args.units.now (g.H.Host.outside c.args.host.now) = record {
-      laws = record { formed = g.met.C.Card.formed; plain = g.met.C.Card.plain; durable = g.met.C.Card.durable; banks = g.met.C.Card.banks; kept = g.met.C.Card.kept };
-      eight = record { eight = g.met.H.Host.eight c.args.host.now; none = g.met.H.Host.none c.args.host.now };
-      stand = c.requires;
-    } in
+    let at = begins g c.requires in
     let w = world_of g.C.Card.reads c.args.units.now (g.H.Host.outside c.args.host.now) in
     let h = has-soup at t c.args.unit c.args.name.now c.in_ok-soup.soup c.in_ok-soup.ensures.0 in
     let k = has-soup at t c.args.to c.args.target.now c.in_ok-soup.into c.in_ok-soup.ensures.1 in
@@ -66,24 +60,14 @@ returns-then-eq-clause-moments g c t =
 
 pub returns-else-eq-clause-answered : goal.returns-else-eq-clause-answered
 returns-else-eq-clause-answered g c t =
-    let at : Setting g.C.Card.reads g.C.Card.place g.C.Card.soups g.C.Card.stands g.H.Host.told c.args.units.now (g.H.Host.outside c.args.host.now) = record {
-      laws = record { formed = g.met.C.Card.formed; plain = g.met.C.Card.plain; durable = g.met.C.Card.durable; banks = g.met.C.Card.banks; kept = g.met.C.Card.kept };
-      eight = record { eight = g.met.H.Host.eight c.args.host.now; none = g.met.H.Host.none c.args.host.now };
-      stand = c.requires;
-    } in
-    let w = world_of g.C.Card.reads c.args.units.now (g.H.Host.outside c.args.host.now) in
+    let at = begins g c.requires in
     let h = has-soup at t c.args.unit c.args.name.now c.in_ok-soup.soup c.in_ok-soup.ensures.0 in
     let k = has-soup at t c.args.to c.args.target.now c.in_ok-soup.into c.in_ok-soup.ensures.1 in
     c.move_between.ensures.answered t c.args.name.now c.args.target.now h k
 
 pub returns-else-eq-clause-moments : goal.returns-else-eq-clause-moments
 returns-else-eq-clause-moments g c t =
-    let at : Setting g.C.Card.reads g.C.Card.place g.C.Card.soups g.C.Card.stands g.H.Host.told c.args.units.now (g.H.Host.outside c.args.host.now) = record {
-      laws = record { formed = g.met.C.Card.formed; plain = g.met.C.Card.plain; durable = g.met.C.Card.durable; banks = g.met.C.Card.banks; kept = g.met.C.Card.kept };
-      eight = record { eight = g.met.H.Host.eight c.args.host.now; none = g.met.H.Host.none c.args.host.now };
-      stand = c.requires;
-    } in
-    let w = world_of g.C.Card.reads c.args.units.now (g.H.Host.outside c.args.host.now) in
+    let at = begins g c.requires in
     let h = has-soup at t c.args.unit c.args.name.now c.in_ok-soup.soup c.in_ok-soup.ensures.0 in
     let k = has-soup at t c.args.to c.args.target.now c.in_ok-soup.into c.in_ok-soup.ensures.1 in
     c.move_between.ensures.moments t c.args.name.now c.args.target.now h k
