@@ -18,11 +18,11 @@ IsOpenOrSame unit old new = IsOpenFor 0 (image unit new) ⊎ (changes unit new �
 -- leaves the other units alone.
 pub record CostsOn {T : Type 0} (unit n : ℕ) (result : Result T Fault) (old new : Outside) : Type 0 where
   pub bound : ProgramsAtMost n unit old new
-  pub open : GoesOn result → IsOpenOrSame unit old.now new.now
+  pub open_after : GoesOn result → IsOpenOrSame unit old.now new.now
   pub others : (u : ℕ) → u ≢ unit → (new.programmed u ≤ old.programmed u) × (changes u new.now ≡ changes u old.now)
 
 -- What a command costs: each unit is programmed by so many bytes at most where there is room for them, and where the run goes on, each bank is not closed or is
 -- as it was.
 pub record Costs {T : Type 0} (most : ℕ → ℕ) (result : Result T Fault) (old new : Outside) : Type 0 where
   pub bound : (u : ℕ) → ProgramsAtMost (most u) u old new
-  pub open : GoesOn result → (u : ℕ) → IsOpenOrSame u old.now new.now
+  pub open_after : GoesOn result → (u : ℕ) → IsOpenOrSame u old.now new.now

@@ -18,4 +18,4 @@ is_format _ = false
 -- each bank is not closed or is as it was.
 pub record CommandCosts {T : Type 0} (w : World) (c : Command) (result : Result T Fault) (old new : Outside) : Type 0 where
   pub bound : is_format c ≡ false → (u : ℕ) → ProgramsAtMost (most_programmed w c u) u old new
-  pub open : GoesOn result → (u : ℕ) → IsOpenOrSame u old.now new.now
+  pub open_after : GoesOn result → (u : ℕ) → IsOpenOrSame u old.now new.now
