@@ -22,8 +22,8 @@ use Rattle.newt_engine.proofs.Handed.{Hands}
 use Rattle.newt_engine.proofs.Settling.{uses_none}
 
 -- where the command goes on, so did the call whose fault was handed on
-pub goes_back : {S T : Type 0} (fault : Fault) (result : Result T Fault) → Hands fault result → GoesOn result → GoesOn {T = S} (Err fault)
-goes_back {S} {T} fault result p goes = go fault (subst (λ e. GoesOn {T = T} (Err e)) p.2 (subst (λ (r : Result T Fault). GoesOn r) p.1 goes))
+pub goes_back : (S : Type 0) {T : Type 0} (fault : Fault) (result : Result T Fault) → Hands fault result → GoesOn result → GoesOn {T = S} (Err fault)
+goes_back S {T} fault result p goes = go fault (subst (λ e. GoesOn {T = T} (Err e)) p.2 (subst (λ (r : Result T Fault). GoesOn r) p.1 goes))
   where
     go : (f : Fault) → GoesOn {T = T} (Err f) → GoesOn {T = S} (Err f)
     go (Refused r) h = tt
@@ -43,7 +43,7 @@ done_costs same k = costs_on same (λ _. tt) k
 
 pub fault_costs : {S : Type 0} {w : World} {c d : Command} {fault : Fault} {result : Result Reply Fault} {o p : Outside} → c ≡ d → Costs {T = S} (most_programmed w d) (Err fault) o p
     → Hands fault result → CommandCosts w c result o p
-fault_costs {S} {w} {c} {d} {fault} {result} same k p = costs_on same (goes_back {S = S} fault result p) k
+fault_costs {S} {w} {c} {d} {fault} {result} same k p = costs_on same (goes_back S fault result p) k
 
 -- a format is no command that is bounded
 pub format_costs : {T : Type 0} {w : World} {c : Command} {unit : ℕ} {name : List ℕ} {sig : ℕ} {result : Result T Fault} {o p : Outside} → c ≡ command.Format unit name sig

@@ -44,7 +44,7 @@ returns-in_default g c =
     }
 
 pub returns-in_err-format-in-Format-clause-costs : goal.returns-in_err-format-in-Format-clause-costs
-returns-in_err-format-in-Format-clause-costs g c t = format_costs c.in-Format.is (λ goes. c.in_err-format-in-Format.ensures.open_after t (goes_back {S = Unit {0}} _ _ (err_from_is_err_and c.from_residual.result c.from_residual.ensures.1) goes))
+returns-in_err-format-in-Format-clause-costs g c t = format_costs c.in-Format.is (λ goes. c.in_err-format-in-Format.ensures.open_after t (goes_back (Unit {0}) _ _ (err_from_is_err_and c.from_residual.result c.from_residual.ensures.1) goes))
 
 pub returns-in_ok-format-in-Format-clause-costs : goal.returns-in_ok-format-in-Format-clause-costs
 returns-in_ok-format-in-Format-clause-costs g c t = format_costs c.in-Format.is (λ goes. c.in_ok-format-in-Format.ensures.open_after t tt)
