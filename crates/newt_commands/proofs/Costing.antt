@@ -1,5 +1,5 @@
 -- What the commands cost, by what the calls on one store cost that they are done by.
-use Rattle.std.proofs.Common.{◌≡◌, sym, subst, ℕ, ◌≤◌, List, [], ◌∷◌, true, false, None, Some, length, nat_lt}
+use Rattle.std.proofs.Common.{◌≡◌, subst, ℕ, ◌≤◌, List, [], ◌∷◌, true, false, None, Some, length, nat_lt}
 use Rattle.std.specs.Prelude.{Result, Err}
 use Rattle.newt_base.specs.Refusals.{first_of}
 use Rattle.newt_graph.specs.Graph.{RawGraph}
@@ -9,7 +9,7 @@ use Rattle.newt_path.specs.Put.{IsFormOf}
 use Rattle.newt_spec_graph.specs.Slots.{put}
 use Rattle.newt_laws.specs.Worlds.{parts_fit}
 use Rattle.newt_spec_store.specs.Keys.{Path, IndexSpec}
-use Rattle.newt_spec_store.specs.Store.{Store, Soup, TagTable, Entry, entry_of, make_soup, drop_soup, change_soup, add_entry, remove_entry}
+use Rattle.newt_spec_store.specs.Store.{Store, Soup, TagTable, Entry, entry_of, drop_soup, change_soup, add_entry, remove_entry}
 use Rattle.newt_spec_store.specs.Valid.{valid_entry}
 use Rattle.newt_spec_world.specs.declared.command.Command.{Command}
 use Rattle.newt_spec_world.specs.declared.command.Command.TheVariants as command

@@ -4,7 +4,7 @@ use Rattle.std.proofs.lemmas.Result.{err_from_is_err_and}
 use Rattle.newt_host.specs.Moments.{Moment, Always}
 use Rattle.std.specs.Prelude.{Err}
 use Rattle.newt_base.specs.Refusals.{first_of}
-use Rattle.newt_spec_store.specs.Store.{entry_of, change_soup, add_entry}
+use Rattle.newt_spec_store.specs.Store.{Entry, entry_of, change_soup, add_entry}
 use Rattle.newt_spec_world.specs.World.{World, store_on_unit}
 use Rattle.newt_laws_answers.specs.Answering.{Answering}
 use Rattle.newt_laws_answers.specs.Spoken.{answer_now}
@@ -16,6 +16,7 @@ use Rattle.newt_cardstore.specs.Cards.{ReadsEntry}
 use Rattle.newt_cardstore.specs.Faults.{Does}
 use Rattle.newt_units.specs.Stands.{Stands, world_of}
 use Rattle.newt_commands.proofs.Commands.{copy-missing, copy-answers, copy-makes, read-found, entry-fits}
+use Rattle.newt_commands.proofs.Costing.{copy-costs}
 use Rattle.newt_units.proofs.Costs.{idle-costs, read-costs}
 use Rattle.newt_units.proofs.Settings.{Setting, is-err, still, both-refused, has-soup}
 use Rattle.newt_commands.proofs.copies.copy.Given.{Over}
@@ -85,3 +86,14 @@ returns-clause-moments g c t =
     (subst (λ (x : World). first_of (add_tests k.blocks x.minute k.soup.name c.in_ok-graph.field-0.graph k.store k.soup) ≡ None) same tests))) in
     subst (λ (m : Moment). Always (Answering g.C.Card.reads w v m) m (g.H.Host.outside c.add_to.new.host).now) c.in_ok-graph.ensures.moment
     (subst (λ (x : World). Always (Answering g.C.Card.reads x v (g.H.Host.outside c.read_entry.new.host).now) (g.H.Host.outside c.read_entry.new.host).now (g.H.Host.outside c.add_to.new.host).now) same way)
+
+pub returns-clause-costs : goal.returns-clause-costs
+returns-clause-costs g c t =
+    let at = begins g c.requires in
+    let h = has-soup at t c.args.unit c.args.name.now c.in_ok-soup.soup c.in_ok-soup.ensures.0 in
+    let k = has-soup at t c.args.to c.args.target.now c.in_ok-soup.into c.in_ok-soup.ensures.1 in
+    let e : Entry = record { uid = c.in_ok-graph.field-0.uid; time = c.in_ok-graph.field-0.time; graph = c.in_ok-graph.field-0.graph } in
+    let found : entry_of c.args.uid h.soup ≡ Some e = read-found c.in_ok-soup.soup c.args.uid h.store h.soup c.in_ok-graph.field-0 c.in_ok-graph.field-0.graph refl h.by_sig (c.in_ok-graph.ensures.read t h.blocks h.store h.on) in
+    let same = c.in_ok-graph.ensures.world t in
+    copy-costs h c.args.uid e found _ same c.in_ok-graph.ensures.moment (c.in_ok-graph.ensures.programs_nothing t) k
+    (c.add_to.ensures.costs t k.blocks k.store k.soup (subst (λ x. OnUnit x c.args.to k.blocks k.store) (sym same) k.on) k.by_sig)

@@ -11,7 +11,8 @@ use Rattle.newt_units.specs.Answers.{Answers}
 use Rattle.newt_units.specs.Stands.{Stands, world_of}
 use Rattle.newt_commands.proofs.Commands.{read-found}
 use Rattle.newt_commands.proofs.Moves.{move-missing, never-refused, between-fails, was-added, between-answers, on-then, added-makes, removed-makes, first-moments, both-moments}
-use Rattle.newt_units.proofs.Costs.{read-costs}
+use Rattle.newt_commands.proofs.Costing.{handed-costs, first-costs, whole-costs}
+use Rattle.newt_units.proofs.Costs.{read-costs, costs-of}
 use Rattle.newt_units.proofs.Settings.{Setting, is-err, still}
 use Rattle.newt_commands.proofs.copies.move_between.Given.{Over}
 use Rattle.newt_commands.proofs.copies.move_between.Goals as goal
@@ -59,6 +60,17 @@ returns-in_err-added-clause-moments g c t name target h k =
     first-moments w c.args.unit c.args.to name target c.args.soup c.args.into c.args.uid h k refl entry found c.requires.apart g.C.Card.reads _ (g.H.Host.outside c.args.host.now).now (g.H.Host.outside c.read_entry.new.host).now (g.H.Host.outside c.add_to.new.host).now same c.in_ok-graph.ensures.moment
     (c.in_err-added.ensures.moments t k.blocks k.store k.soup there k.by_sig (answer_now w (command.Move c.args.unit name c.args.uid c.args.to target)).0 (added-makes w c.args.unit c.args.to name target c.args.soup c.args.into c.args.uid h k refl entry found c.requires.apart _ same))
 
+pub returns-in_err-added-clause-costs : goal.returns-in_err-added-clause-costs
+returns-in_err-added-clause-costs g c t name target h k =
+    let w = world_of g.C.Card.reads c.args.units.now (g.H.Host.outside c.args.host.now) in
+    let found = read-found c.args.soup c.args.uid h.store h.soup c.in_ok-graph.field-0 c.in_ok-graph.field-0.graph refl h.by_sig (c.in_ok-graph.ensures.read t h.blocks h.store h.on) in
+    let entry : Entry = record { uid = c.in_ok-graph.field-0.uid; time = c.in_ok-graph.field-0.time; graph = c.in_ok-graph.field-0.graph } in
+    let same = c.in_ok-graph.ensures.world t in
+    let there = subst (λ x. OnUnit x c.args.to k.blocks k.store) (sym same) k.on in
+    handed-costs (is-err _ _ (err_from_is_err_and c.from_residual-in_err-added.result c.from_residual-in_err-added.ensures.1))
+    (first-costs w c.args.unit c.args.to name target c.args.soup c.args.into c.args.uid h k entry found c.requires.apart _ same c.in_ok-graph.ensures.moment (c.in_ok-graph.ensures.programs_nothing t)
+    (c.in_err-added.ensures.costs t k.blocks k.store k.soup there k.by_sig))
+
 pub returns-in_err-remove_from-clause-answered : goal.returns-in_err-remove_from-clause-answered
 returns-in_err-remove_from-clause-answered g c t name target h k =
     let w = world_of g.C.Card.reads c.args.units.now (g.H.Host.outside c.args.host.now) in
@@ -84,6 +96,19 @@ returns-in_err-remove_from-clause-moments g c t name target h k =
     both-moments w c.args.unit c.args.to name target c.args.soup c.args.into c.args.uid h k refl entry found c.requires.apart g.C.Card.reads _ _ (g.H.Host.outside c.args.host.now).now (g.H.Host.outside c.add_to.new.host).now (g.H.Host.outside c.remove_from.new.host).now was way
     (c.in_err-remove_from.ensures.moments t h.blocks h.store h.soup entry (on-then w c.args.unit c.args.to name target c.args.soup c.args.into c.args.uid h k refl entry found c.requires.apart _ _ was) h.by_sig found (answer_now w (command.Move c.args.unit name c.args.uid c.args.to target)).0 (λ _. removed-makes w c.args.unit c.args.to name target c.args.soup c.args.into c.args.uid h k refl entry found c.requires.apart _ _ was))
 
+pub returns-in_err-remove_from-clause-costs : goal.returns-in_err-remove_from-clause-costs
+returns-in_err-remove_from-clause-costs g c t name target h k =
+    let w = world_of g.C.Card.reads c.args.units.now (g.H.Host.outside c.args.host.now) in
+    let found = read-found c.args.soup c.args.uid h.store h.soup c.in_ok-graph.field-0 c.in_ok-graph.field-0.graph refl h.by_sig (c.in_ok-graph.ensures.read t h.blocks h.store h.on) in
+    let entry : Entry = record { uid = c.in_ok-graph.field-0.uid; time = c.in_ok-graph.field-0.time; graph = c.in_ok-graph.field-0.graph } in
+    let same = c.in_ok-graph.ensures.world t in
+    let there = subst (λ x. OnUnit x c.args.to k.blocks k.store) (sym same) k.on in
+    let was = was-added w c.args.unit c.args.to name target c.args.soup c.args.into c.args.uid h k refl entry found c.requires.apart _ _ _ same (c.in_ok-added.ensures.made t k.blocks k.store k.soup there k.by_sig) in
+    handed-costs (is-err _ _ (err_from_is_err_and c.from_residual-in_err-remove_from.result c.from_residual-in_err-remove_from.ensures.1))
+    (whole-costs w c.args.unit c.args.to name target c.args.soup c.args.into c.args.uid h k entry found c.requires.apart _ same c.in_ok-graph.ensures.moment (c.in_ok-graph.ensures.programs_nothing t)
+    (c.in_ok-added.ensures.costs t k.blocks k.store k.soup there k.by_sig) tt was.passed
+    (c.in_err-remove_from.ensures.costs t h.blocks h.store h.soup entry (on-then w c.args.unit c.args.to name target c.args.soup c.args.into c.args.uid h k refl entry found c.requires.apart _ _ was) h.by_sig found))
+
 pub returns-clause-answered : goal.returns-clause-answered
 returns-clause-answered g c t name target h k =
     let w = world_of g.C.Card.reads c.args.units.now (g.H.Host.outside c.args.host.now) in
@@ -106,3 +131,17 @@ returns-clause-moments g c t name target h k =
     (c.in_ok-added.ensures.moments t k.blocks k.store k.soup there k.by_sig (answer_now w (command.Move c.args.unit name c.args.uid c.args.to target)).0 (added-makes w c.args.unit c.args.to name target c.args.soup c.args.into c.args.uid h k refl entry found c.requires.apart _ same)) in
     both-moments w c.args.unit c.args.to name target c.args.soup c.args.into c.args.uid h k refl entry found c.requires.apart g.C.Card.reads _ _ (g.H.Host.outside c.args.host.now).now (g.H.Host.outside c.add_to.new.host).now (g.H.Host.outside c.remove_from.new.host).now was way
     (c.in_ok-remove_from.ensures.moments t h.blocks h.store h.soup entry (on-then w c.args.unit c.args.to name target c.args.soup c.args.into c.args.uid h k refl entry found c.requires.apart _ _ was) h.by_sig found (answer_now w (command.Move c.args.unit name c.args.uid c.args.to target)).0 (λ _. removed-makes w c.args.unit c.args.to name target c.args.soup c.args.into c.args.uid h k refl entry found c.requires.apart _ _ was))
+
+pub returns-clause-costs : goal.returns-clause-costs
+returns-clause-costs g c t name target h k =
+    let w = world_of g.C.Card.reads c.args.units.now (g.H.Host.outside c.args.host.now) in
+    let found = read-found c.args.soup c.args.uid h.store h.soup c.in_ok-graph.field-0 c.in_ok-graph.field-0.graph refl h.by_sig (c.in_ok-graph.ensures.read t h.blocks h.store h.on) in
+    let entry : Entry = record { uid = c.in_ok-graph.field-0.uid; time = c.in_ok-graph.field-0.time; graph = c.in_ok-graph.field-0.graph } in
+    let same = c.in_ok-graph.ensures.world t in
+    let there = subst (λ x. OnUnit x c.args.to k.blocks k.store) (sym same) k.on in
+    let was = was-added w c.args.unit c.args.to name target c.args.soup c.args.into c.args.uid h k refl entry found c.requires.apart _ _ _ same (c.in_ok-added.ensures.made t k.blocks k.store k.soup there k.by_sig) in
+    costs-of
+    (whole-costs w c.args.unit c.args.to name target c.args.soup c.args.into c.args.uid h k entry found c.requires.apart _ same c.in_ok-graph.ensures.moment (c.in_ok-graph.ensures.programs_nothing t)
+    (c.in_ok-added.ensures.costs t k.blocks k.store k.soup there k.by_sig) tt was.passed
+    (c.in_ok-remove_from.ensures.costs t h.blocks h.store h.soup entry (on-then w c.args.unit c.args.to name target c.args.soup c.args.into c.args.uid h k refl entry found c.requires.apart _ _ was) h.by_sig found))
+    (λ _. tt)

@@ -8,6 +8,8 @@ use Rattle.newt_spec_world.specs.declared.command.Command.TheVariants as command
 use Rattle.newt_laws_answers.specs.Answering.{Answering}
 use Rattle.newt_laws_answers.specs.Spoken.{answer_now}
 use Rattle.newt_laws_answers.proofs.Copies.{move-not-found}
+use Rattle.newt_laws_answers.specs.Bounds.{most_programmed}
+use Rattle.newt_cardstore.specs.Bounds.{Costs}
 use Rattle.newt_units.specs.Answers.{Answers}
 use Rattle.newt_units.specs.Found.{HasSoup}
 use Rattle.newt_units.specs.Stands.{Stands, world_of}
@@ -58,6 +60,17 @@ returns-then-eq-clause-moments g c t =
     subst (λ (n : ℕ). Always (Answering g.C.Card.reads w (answer_now w (command.Move c.args.unit c.args.name.now c.args.uid n c.args.target.now)).0 (g.H.Host.outside c.args.host.now).now) (g.H.Host.outside c.args.host.now).now (g.H.Host.outside c.move_inside.new.host).now) same
     (c.move_inside.ensures.moments t c.args.name.now c.args.target.now h there)
 
+pub returns-then-eq-clause-costs : goal.returns-then-eq-clause-costs
+returns-then-eq-clause-costs g c t =
+    let at = begins g c.requires in
+    let w = world_of g.C.Card.reads c.args.units.now (g.H.Host.outside c.args.host.now) in
+    let h = has-soup at t c.args.unit c.args.name.now c.in_ok-soup.soup c.in_ok-soup.ensures.0 in
+    let k = has-soup at t c.args.to c.args.target.now c.in_ok-soup.into c.in_ok-soup.ensures.1 in
+    let same : c.args.unit ≡ c.args.to = grind (arith, common_steps) in
+    let there = subst (λ (n : ℕ). HasSoup w n c.args.target.now c.in_ok-soup.into) (sym same) k in
+    subst (λ (n : ℕ). Costs (most_programmed w (command.Move c.args.unit c.args.name.now c.args.uid n c.args.target.now)) c.move_inside.result (g.H.Host.outside c.args.host.now) (g.H.Host.outside c.move_inside.new.host)) same
+    (c.move_inside.ensures.costs t c.args.name.now c.args.target.now h there)
+
 pub returns-else-eq-clause-answered : goal.returns-else-eq-clause-answered
 returns-else-eq-clause-answered g c t =
     let at = begins g c.requires in
@@ -71,3 +84,10 @@ returns-else-eq-clause-moments g c t =
     let h = has-soup at t c.args.unit c.args.name.now c.in_ok-soup.soup c.in_ok-soup.ensures.0 in
     let k = has-soup at t c.args.to c.args.target.now c.in_ok-soup.into c.in_ok-soup.ensures.1 in
     c.move_between.ensures.moments t c.args.name.now c.args.target.now h k
+
+pub returns-else-eq-clause-costs : goal.returns-else-eq-clause-costs
+returns-else-eq-clause-costs g c t =
+    let at = begins g c.requires in
+    let h = has-soup at t c.args.unit c.args.name.now c.in_ok-soup.soup c.in_ok-soup.ensures.0 in
+    let k = has-soup at t c.args.to c.args.target.now c.in_ok-soup.into c.in_ok-soup.ensures.1 in
+    c.move_between.ensures.costs t c.args.name.now c.args.target.now h k

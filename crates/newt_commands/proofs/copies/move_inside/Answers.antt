@@ -2,6 +2,7 @@
 use Rattle.std.proofs.Common.{refl, sym}
 use Rattle.newt_units.specs.Stands.{Stands, world_of}
 use Rattle.newt_commands.proofs.Moves.{inside-answers, inside-by-sig, inside-makes, inside-missing}
+use Rattle.newt_commands.proofs.Costing.{inside-costs}
 use Rattle.newt_units.proofs.Costs.{idle-costs}
 use Rattle.newt_units.proofs.Settings.{Setting, still, stand-told, has-entry}
 use Rattle.newt_commands.proofs.copies.move_inside.Given.{Over}
@@ -31,6 +32,13 @@ returns-then-has_entry-clause-moments g c t name target h k =
     let x = has-entry at t c.args.unit name c.args.soup c.args.uid h (sym (c.if-has_entry.ensures (g.H.Host.outside c.args.host.now) at.eight (stand-told at t) h.blocks h.store h.on)) in
     c.move_within.ensures.moments t x.of.blocks x.of.store x.of.soup k.soup x.entry x.of.on x.of.by_sig x.found (inside-by-sig w c.args.unit name target c.args.soup c.args.into c.args.uid x k refl) _
     (inside-makes w c.args.unit name target c.args.soup c.args.into c.args.uid x k refl)
+
+pub returns-then-has_entry-clause-costs : goal.returns-then-has_entry-clause-costs
+returns-then-has_entry-clause-costs g c t name target h k =
+    let at = begins g c.requires.stands in
+    let w = world_of g.C.Card.reads c.args.units.now (g.H.Host.outside c.args.host.now) in
+    let x = has-entry at t c.args.unit name c.args.soup c.args.uid h (sym (c.if-has_entry.ensures (g.H.Host.outside c.args.host.now) at.eight (stand-told at t) h.blocks h.store h.on)) in
+    inside-costs x k (c.move_within.ensures.costs t x.of.blocks x.of.store x.of.soup k.soup x.entry x.of.on x.of.by_sig x.found (inside-by-sig w c.args.unit name target c.args.soup c.args.into c.args.uid x k refl))
 
 pub returns-else-has_entry-clause-answered : goal.returns-else-has_entry-clause-answered
 returns-else-has_entry-clause-answered g c t name target h k =

@@ -5,6 +5,7 @@ use Rattle.std.proofs.lemmas.Result.{err_from_is_err_and}
 use Rattle.newt_laws_answers.proofs.Adds.{add-not-found, addx-not-found, addu-not-found}
 use Rattle.newt_units.specs.Stands.{Stands, world_of}
 use Rattle.newt_commands.proofs.Commands.{add-answers, add-makes, addx-answers, addx-makes, addu-answers, addu-makes}
+use Rattle.newt_commands.proofs.Costing.{add-costs, addx-costs, addu-costs}
 use Rattle.newt_units.proofs.Costs.{idle-costs}
 use Rattle.newt_units.proofs.Settings.{Setting, still, unit-there, soup-refused, has-soup}
 use Rattle.newt_commands.proofs.entries.add.Given.{Over}
@@ -42,6 +43,11 @@ returns-clause-moments g c t =
     let h = has-soup (begins g c.requires) t c.args.unit c.args.name.now c.in_ok-soup.soup c.in_ok-soup.ensures in
     c.add_to.ensures.moments t h.blocks h.store h.soup h.on h.by_sig _ (add-makes w w c.args.unit h.blocks h.store h.on refl c.args.name.now h.soup h.named h.name_is c.args.graph)
 
+pub returns-clause-costs : goal.returns-clause-costs
+returns-clause-costs g c t =
+    let h = has-soup (begins g c.requires) t c.args.unit c.args.name.now c.in_ok-soup.soup c.in_ok-soup.ensures in
+    add-costs h c.args.graph (c.add_to.ensures.costs t h.blocks h.store h.soup h.on h.by_sig)
+
 pub returns-in_err-soup-clause-answered_as_stream : goal.returns-in_err-soup-clause-answered_as_stream
 returns-in_err-soup-clause-answered_as_stream g c t =
     let w = world_of g.C.Card.reads c.args.units.now (g.H.Host.outside c.args.host.now) in
@@ -64,6 +70,11 @@ returns-clause-moments_as_stream g c t =
     let w = world_of g.C.Card.reads c.args.units.now (g.H.Host.outside c.args.host.now) in
     let h = has-soup (begins g c.requires) t c.args.unit c.args.name.now c.in_ok-soup.soup c.in_ok-soup.ensures in
     c.add_to.ensures.moments t h.blocks h.store h.soup h.on h.by_sig _ (addx-makes w w c.args.unit h.blocks h.store h.on refl c.args.name.now h.soup h.named h.name_is c.args.graph)
+
+pub returns-clause-costs_as_stream : goal.returns-clause-costs_as_stream
+returns-clause-costs_as_stream g c t =
+    let h = has-soup (begins g c.requires) t c.args.unit c.args.name.now c.in_ok-soup.soup c.in_ok-soup.ensures in
+    addx-costs h c.args.graph (c.add_to.ensures.costs t h.blocks h.store h.soup h.on h.by_sig)
 
 pub returns-in_err-soup-clause-answered_to_default : goal.returns-in_err-soup-clause-answered_to_default
 returns-in_err-soup-clause-answered_to_default g c t d =
@@ -89,3 +100,8 @@ returns-clause-moments_to_default g c t d =
     let w = world_of g.C.Card.reads c.args.units.now (g.H.Host.outside c.args.host.now) in
     let h = has-soup (begins g c.requires) t c.args.unit c.args.name.now c.in_ok-soup.soup c.in_ok-soup.ensures in
     c.add_to.ensures.moments t h.blocks h.store h.soup h.on h.by_sig _ (addu-makes w w c.args.unit h.blocks h.store h.on refl c.args.name.now h.soup h.named h.name_is c.args.graph (ap (λ o. unwrap_or o 8) d))
+
+pub returns-clause-costs_to_default : goal.returns-clause-costs_to_default
+returns-clause-costs_to_default g c t d =
+    let h = has-soup (begins g c.requires) t c.args.unit c.args.name.now c.in_ok-soup.soup c.in_ok-soup.ensures in
+    addu-costs h c.args.graph (ap (λ o. unwrap_or o 8) d) (c.add_to.ensures.costs t h.blocks h.store h.soup h.on h.by_sig)

@@ -4,6 +4,7 @@ use Rattle.std.proofs.lemmas.Result.{err_from_is_err_and}
 use Rattle.newt_laws_answers.proofs.Entries.{remove-refused}
 use Rattle.newt_units.specs.Stands.{Stands, world_of}
 use Rattle.newt_commands.proofs.Commands.{remove-answers, remove-makes}
+use Rattle.newt_commands.proofs.Costing.{remove-costs}
 use Rattle.newt_units.proofs.Costs.{idle-costs}
 use Rattle.newt_units.proofs.Settings.{Setting, still, stand-told, entry-refused}
 use Rattle.newt_commands.proofs.entries.remove.Given.{Over}
@@ -45,3 +46,9 @@ returns-clause-moments g c t =
     let k = c.in_ok-soup.ensures.found (g.H.Host.outside c.args.host.now) at.eight (stand-told at t) in
     let h = k.of in
     c.remove_from.ensures.moments t h.blocks h.store h.soup k.entry h.on h.by_sig k.found _ (λ _. remove-makes w w c.args.unit h.blocks h.store h.on refl c.args.name.now h.soup h.named h.name_is c.args.uid k.entry k.found)
+
+pub returns-clause-costs : goal.returns-clause-costs
+returns-clause-costs g c t =
+    let at = begins g c.requires in
+    let k = c.in_ok-soup.ensures.found (g.H.Host.outside c.args.host.now) at.eight (stand-told at t) in
+    remove-costs k (c.remove_from.ensures.costs t k.of.blocks k.of.store k.of.soup k.entry k.of.on k.of.by_sig k.found)

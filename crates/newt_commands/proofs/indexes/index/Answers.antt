@@ -9,6 +9,7 @@ use Rattle.newt_spec_world.specs.Changed.{spec_of_words}
 use Rattle.newt_commands.specs.Declares.{MayDeclare}
 use Rattle.newt_units.specs.Stands.{Stands, world_of}
 use Rattle.newt_commands.proofs.Declaring.{index-fails, index-answers, index-makes}
+use Rattle.newt_commands.proofs.Costing.{index-costs}
 use Rattle.newt_units.proofs.Costs.{idle-costs}
 use Rattle.newt_units.proofs.Settings.{Setting, still, stand-told, soup-refused, has-soup, is-err}
 use Rattle.newt_commands.proofs.indexes.index.Given.{Over}
@@ -85,3 +86,12 @@ returns-clause-moments g c t =
     let words : c.in_ok-spec.spec ≡ spec_of_words c.args.parts.now = c.in_ok-spec.ensures.made ∙ ap spec_of_words c.list-words.ensures in
     c.add_index_to.ensures.moments t h.blocks h.store h.soup h.on h.by_sig _
     (index-makes w w c.args.unit h.blocks h.store h.on refl c.args.name.now h.soup h.named h.name_is c.args.parts.now fit c.in_ok-spec.spec words may.0 may.1)
+
+pub returns-clause-costs : goal.returns-clause-costs
+returns-clause-costs g c t =
+    let at = begins g c.requires in
+    let fit : parts_fit c.args.parts.now ≡ true = ap parts_fit (sym c.list-words.ensures) ∙ sym c.are_parts.ensures ∙ c.if-not-are_parts.false in
+    let h = has-soup at t c.args.unit c.args.name.now c.in_ok-soup.soup c.in_ok-soup.ensures in
+    let may : MayDeclare {T = IndexSpec} c.args.parts.now h.soup (Ok c.in_ok-spec.spec) = subst (λ x. MayDeclare {T = IndexSpec} x h.soup (Ok c.in_ok-spec.spec)) c.list-words.ensures
+    (c.in_ok-spec.ensures.may (g.H.Host.outside c.args.host.now) at.eight (stand-told at t) h.blocks h.store h.soup h.on h.by_sig) in
+    index-costs h c.args.parts.now fit may.0 may.1 c.in_ok-spec.spec (c.in_ok-spec.ensures.made ∙ ap spec_of_words c.list-words.ensures) (c.add_index_to.ensures.costs t h.blocks h.store h.soup h.on h.by_sig)

@@ -10,6 +10,7 @@ use Rattle.newt_spec_world.specs.World.{change_store}
 use Rattle.newt_cardstore.specs.Faults.{Does}
 use Rattle.newt_units.specs.Stands.{Stands, world_of}
 use Rattle.newt_commands.proofs.Declaring.{unindex-answers, unindex-makes}
+use Rattle.newt_commands.proofs.Costing.{unindex-costs}
 use Rattle.newt_units.proofs.Costs.{idle-costs}
 use Rattle.newt_units.proofs.Settings.{Setting, still, stand-told, soup-refused, has-soup}
 use Rattle.newt_commands.proofs.indexes.unindex.Given.{Over}
@@ -68,3 +69,11 @@ returns-clause-moments g c t =
     unindex-makes w w c.args.unit h.blocks h.store h.on refl c.args.name.now h.soup h.named h.name_is c.args.paths.now
     (ap (λ x. has_paths x h.soup) (sym c.list-declared.ensures) ∙ sym (c.has_index.ensures (g.H.Host.outside c.args.host.now) at.eight (stand-told at t) h.blocks h.store h.soup h.on h.by_sig) ∙ c.if-not-has_index.false)
     ∙ ap (λ x. Some (change_soup h.soup.name (without_index x) h.store)) (sym c.list-declared.ensures))
+
+pub returns-clause-costs : goal.returns-clause-costs
+returns-clause-costs g c t =
+    let at = begins g c.requires in
+    let h = has-soup at t c.args.unit c.args.name.now c.in_ok-soup.soup c.in_ok-soup.ensures in
+    unindex-costs h c.args.paths.now _
+    (ap (λ x. has_paths x h.soup) (sym c.list-declared.ensures) ∙ sym (c.has_index.ensures (g.H.Host.outside c.args.host.now) at.eight (stand-told at t) h.blocks h.store h.soup h.on h.by_sig) ∙ c.if-not-has_index.false)
+    c.list-declared.ensures (c.drop_index_from.ensures.costs t h.blocks h.store h.soup h.on h.by_sig)

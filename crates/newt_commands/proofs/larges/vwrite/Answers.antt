@@ -19,6 +19,7 @@ use Rattle.newt_cardstore.specs.Faults.{Does}
 use Rattle.newt_units.specs.Stands.{Stands, world_of}
 use Rattle.newt_commands.proofs.Commands.{read-found}
 use Rattle.newt_commands.proofs.Binaries.{missing, reached, vwrite-answers, vwrite-makes, vwrite-nowhere}
+use Rattle.newt_commands.proofs.Costing.{vwrite-costs}
 use Rattle.newt_units.proofs.Costs.{idle-costs, read-costs}
 use Rattle.newt_units.proofs.Settings.{Setting, is-err, still, soup-refused, has-soup}
 use Rattle.newt_commands.proofs.larges.vwrite.Given.{Over}
@@ -85,6 +86,17 @@ returns-in-Some-clause-moments g c t =
     (vwrite-makes w w c.args.unit h.blocks h.store h.on refl c.args.name.now h.soup h.named h.name_is c.args.uid e found c.args.path.now c.args.at c.args.bytes.now c.in-Some.node reach) in
     subst (λ (m : Moment). Always (Answering g.C.Card.reads w v m) m (g.H.Host.outside c.patch_in.new.host).now) c.in_ok-graph.ensures.moment
     (subst (λ (x : World). Always (Answering g.C.Card.reads x v (g.H.Host.outside c.read_entry.new.host).now) (g.H.Host.outside c.read_entry.new.host).now (g.H.Host.outside c.patch_in.new.host).now) same way)
+
+pub returns-in-Some-clause-costs : goal.returns-in-Some-clause-costs
+returns-in-Some-clause-costs g c t =
+    let h = has-soup (begins g c.requires) t c.args.unit c.args.name.now c.in_ok-soup.soup c.in_ok-soup.ensures in
+    let e : Entry = record { uid = c.in_ok-graph.field-0.uid; time = c.in_ok-graph.field-0.time; graph = c.in_ok-graph.field-0.graph } in
+    let found : entry_of c.args.uid h.soup ≡ Some e = read-found c.in_ok-soup.soup c.args.uid h.store h.soup c.in_ok-graph.field-0 c.in_ok-graph.field-0.graph refl h.by_sig (c.in_ok-graph.ensures.read t h.blocks h.store h.on) in
+    let same = c.in_ok-graph.ensures.world t in
+    let reach = sym c.in-Some.ensures in
+    let binary = reached e.graph c.args.path.now c.in-Some.node reach in
+    vwrite-costs h c.args.uid e found _ same c.in_ok-graph.ensures.moment (c.in_ok-graph.ensures.programs_nothing t) c.args.path.now c.args.at c.in-Some.node reach c.args.bytes.now
+    (c.patch_in.ensures.costs t h.blocks h.store h.soup e binary.0 binary.1 (subst (λ x. OnUnit x c.args.unit h.blocks h.store) (sym same) h.on) h.by_sig found binary.2)
 
 pub returns-clause-answered : goal.returns-clause-answered
 returns-clause-answered g c t =

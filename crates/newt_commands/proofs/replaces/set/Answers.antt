@@ -21,6 +21,7 @@ use Rattle.newt_cardstore.specs.Faults.{Does}
 use Rattle.newt_units.specs.Stands.{Stands, world_of}
 use Rattle.newt_commands.proofs.Commands.{read-found, entry-fits}
 use Rattle.newt_commands.proofs.Replacing.{set-missing, set-fails, set-answers, set-makes}
+use Rattle.newt_commands.proofs.Costing.{set-costs}
 use Rattle.newt_units.proofs.Costs.{idle-costs, read-costs}
 use Rattle.newt_units.proofs.Settings.{Setting, is-err, still, soup-refused, has-soup}
 use Rattle.newt_commands.proofs.replaces.set.Given.{Over}
@@ -102,3 +103,12 @@ returns-clause-moments g c t =
     (subst (λ (x : World). first_of (replace_tests h.blocks x.minute h.soup.name c.args.uid c.in_ok-made.made h.store) ≡ None) same tests))) in
     subst (λ (m : Moment). Always (Answering g.C.Card.reads w v m) m (g.H.Host.outside c.replace_in.new.host).now) c.in_ok-graph.ensures.moment
     (subst (λ (x : World). Always (Answering g.C.Card.reads x v (g.H.Host.outside c.read_entry.new.host).now) (g.H.Host.outside c.read_entry.new.host).now (g.H.Host.outside c.replace_in.new.host).now) same way)
+
+pub returns-clause-costs : goal.returns-clause-costs
+returns-clause-costs g c t =
+    let h = has-soup (begins g c.requires) t c.args.unit c.args.name.now c.in_ok-soup.soup c.in_ok-soup.ensures in
+    let e : Entry = record { uid = c.in_ok-graph.field-0.uid; time = c.in_ok-graph.field-0.time; graph = c.in_ok-graph.field-0.graph } in
+    let found : entry_of c.args.uid h.soup ≡ Some e = read-found c.in_ok-soup.soup c.args.uid h.store h.soup c.in_ok-graph.field-0 c.in_ok-graph.field-0.graph refl h.by_sig (c.in_ok-graph.ensures.read t h.blocks h.store h.on) in
+    let same = c.in_ok-graph.ensures.world t in
+    set-costs h c.args.uid e found _ same c.in_ok-graph.ensures.moment (c.in_ok-graph.ensures.programs_nothing t) c.args.path.now c.args.value.now c.in_ok-made.made c.in_ok-made.ensures.form
+    (c.replace_in.ensures.costs t h.blocks h.store h.soup e (subst (λ x. OnUnit x c.args.unit h.blocks h.store) (sym same) h.on) h.by_sig found)

@@ -4,6 +4,7 @@ use Rattle.std.proofs.lemmas.Result.{err_from_is_err_and}
 use Rattle.newt_laws_answers.proofs.Soups.{drop-not-found}
 use Rattle.newt_units.specs.Stands.{Stands, world_of}
 use Rattle.newt_commands.proofs.Commands.{drop-answers, drop-makes}
+use Rattle.newt_commands.proofs.Costing.{drop-costs}
 use Rattle.newt_units.proofs.Costs.{idle-costs}
 use Rattle.newt_units.proofs.Settings.{Setting, still, soup-refused, has-soup}
 use Rattle.newt_commands.proofs.soups.drop_soup.Given.{Over}
@@ -40,3 +41,8 @@ returns-clause-moments g c t =
     let w = world_of g.C.Card.reads c.args.units.now (g.H.Host.outside c.args.host.now) in
     let h = has-soup (begins g c.requires) t c.args.unit c.args.name.now c.in_ok-soup.soup c.in_ok-soup.ensures in
     c.drop_soup_on.ensures.moments t h.blocks h.store h.soup h.on h.by_sig _ (λ _. drop-makes w w c.args.unit h.blocks h.store h.on refl c.args.name.now h.soup h.named h.name_is)
+
+pub returns-clause-costs : goal.returns-clause-costs
+returns-clause-costs g c t =
+    let h = has-soup (begins g c.requires) t c.args.unit c.args.name.now c.in_ok-soup.soup c.in_ok-soup.ensures in
+    drop-costs h (c.drop_soup_on.ensures.costs t h.blocks h.store h.soup h.on h.by_sig)

@@ -2,9 +2,10 @@
 use Rattle.std.proofs.Common.{refl}
 use Rattle.std.proofs.lemmas.Result.{err_from_is_err_and}
 use Rattle.newt_laws_answers.proofs.Soups.{soup-not-mounted}
+use Rattle.newt_laws_answers.proofs.Most.{soup-most}
 use Rattle.newt_units.specs.Stands.{Stands, world_of}
 use Rattle.newt_commands.proofs.Commands.{soup-answers, soup-makes}
-use Rattle.newt_units.proofs.Costs.{idle-costs}
+use Rattle.newt_units.proofs.Costs.{idle-costs, on-costs}
 use Rattle.newt_units.proofs.Settings.{Setting, still, unit-there, unit-refused}
 use Rattle.newt_commands.proofs.soups.soup.Given.{Over}
 use Rattle.newt_commands.proofs.soups.soup.Goals as goal
@@ -39,3 +40,8 @@ returns-clause-moments g c t =
     let p = (unit-there (begins g c.requires) t c.args.unit c.in_ok-find_unit.ensures).1 in
     let w = world_of g.C.Card.reads c.args.units.now (g.H.Host.outside c.args.host.now) in
     c.make_soup_on.ensures.moments t _ p.store p.on _ (soup-makes w w c.args.unit _ p.store p.on refl c.args.name.now)
+
+pub returns-clause-costs : goal.returns-clause-costs
+returns-clause-costs g c t =
+    let p = (unit-there (begins g c.requires) t c.args.unit c.in_ok-find_unit.ensures).1 in
+    on-costs (c.make_soup_on.ensures.costs t _ p.store p.on) (soup-most _ c.args.unit _ p.store c.args.name.now p.on)

@@ -7,6 +7,7 @@ use Rattle.newt_laws_answers.proofs.Declares.{set-tags-unbuilt, set-tags-not-fou
 use Rattle.newt_spec_store.specs.Store.{TagTable}
 use Rattle.newt_units.specs.Stands.{Stands, world_of}
 use Rattle.newt_commands.proofs.Declaring.{tags-answers, tags-makes}
+use Rattle.newt_commands.proofs.Costing.{tags-costs}
 use Rattle.newt_units.proofs.Costs.{idle-costs}
 use Rattle.newt_units.proofs.Settings.{Setting, still, soup-refused, has-soup}
 use Rattle.newt_commands.proofs.tags.set_tags.Given.{Over}
@@ -83,3 +84,11 @@ returns-clause-moments g c t =
     let words : c.in_ok-table.table ≡ record { path = c.args.path.now; symbols = c.args.symbols.now } = c.in_ok-table.ensures ∙ ap {B = TagTable} (λ xs. record { path = c.args.path.now; symbols = xs }) c.list-names.ensures in
     c.tag_soup.ensures.moments t h.blocks h.store h.soup h.on h.by_sig _
     (tags-makes w w c.args.unit h.blocks h.store h.on refl c.args.name.now h.soup h.named h.name_is c.args.path.now c.args.symbols.now fit few c.in_ok-table.table words)
+
+pub returns-clause-costs : goal.returns-clause-costs
+returns-clause-costs g c t =
+    let fit : tags_fit c.args.path.now c.args.symbols.now ≡ true = ap (tags_fit c.args.path.now) (sym c.list-names.ensures) ∙ sym c.are_tags.ensures ∙ c.if-not-are_tags.false in
+    let h = has-soup (begins g c.requires) t c.args.unit c.args.name.now c.in_ok-soup.soup c.in_ok-soup.ensures in
+    let few : nat_lt 64 (length c.args.symbols.now) ≡ false = le-ltb 64 (length c.args.symbols.now) (subst (λ n. n ≤ 64) (ap (λ xs. length xs) c.list-names.ensures) c.if-names-gt-MOST_TAGS.false) in
+    let words : c.in_ok-table.table ≡ record { path = c.args.path.now; symbols = c.args.symbols.now } = c.in_ok-table.ensures ∙ ap {B = TagTable} (λ xs. record { path = c.args.path.now; symbols = xs }) c.list-names.ensures in
+    tags-costs h c.args.path.now c.args.symbols.now fit few c.in_ok-table.table words (c.tag_soup.ensures.costs t h.blocks h.store h.soup h.on h.by_sig)
