@@ -1,5 +1,5 @@
 -- What the change that a command makes of a store programs is no more than the most that the command may.
-use Rattle.std.proofs.Common.{arith, ◌≡◌, refl, ap, sym, ◌∙◌, subst, ℕ, ◌≤◌, List, [], ◌∷◌, Bool, true, false, cond, not, nat_lt, Option, Some, None, option_and_then, find, length, ◌==◌}
+use Rattle.std.proofs.Common.{arith, ◌≡◌, refl, ap, sym, ◌∙◌, subst, ℕ, ◌≤◌, List, [], ◌∷◌, Bool, true, false, cond, not, nat_lt, Option, Some, None, find, length, ◌==◌}
 use Rattle.std.specs.Option.{is_some}
 use Rattle.std.proofs.lemmas.Bool.{eq-eqb, ne_eqb}
 use Rattle.newt_base.specs.Names.{equal_text}
