@@ -21,9 +21,17 @@ same-still : (u : ℕ) (a b c : Moment) → changes u c ≡ changes u b → IsOp
 same-still u a b c same (inl h) = inl (still-open u 0 c b same h)
 same-still u a b c same (inr before) = inr (same ∙ before)
 
-same-before : (u : ℕ) (a b c : Moment) → changes u b ≡ changes u a → IsOpenOrSame u b c → IsOpenOrSame u a c
+pub same-before : (u : ℕ) (a b c : Moment) → changes u b ≡ changes u a → IsOpenOrSame u b c → IsOpenOrSame u a c
 same-before u a b c same (inl h) = inl h
 same-before u a b c same (inr later) = inr (later ∙ same)
+
+-- a unit is left open, and no other is other than it was
+pub opened-alone : (u : ℕ) (a b : Moment) → IsOpenFor 0 (image u b) → ((j : ℕ) → j ≢ u → changes j b ≡ changes j a) → (j : ℕ) → IsOpenOrSame j a b
+opened-alone u a b h others j = go (same-or-not j u)
+  where
+    go : (j ≡ u) ⊎ (j ≡ u → ⊥) → IsOpenOrSame j a b
+    go (inl is) = inl (subst (λ k. IsOpenFor 0 (image k b)) (sym is) h)
+    go (inr not) = inr (others j not)
 
 -- ---- one call
 
