@@ -1,6 +1,7 @@
 pub mod Agree
 pub mod Binaries
 pub mod Commands
+pub mod Costing
 pub mod Declaring
 pub mod Moves
 pub mod Replacing

@@ -74,7 +74,7 @@ module _ (w : World) (u : ℕ) (name target : List ℕ) (sig into uid : ℕ) (x 
   pub inside-by-sig : soup_of into h.store ≡ Some k.soup
   inside-by-sig = subst (λ s. soup_of into s ≡ Some k.soup) (sym same-store) k.by_sig
 
-  inside-named : soup_named k.soup.name h.store ≡ Some k.soup
+  pub inside-named : soup_named k.soup.name h.store ≡ Some k.soup
   inside-named = subst (λ s. soup_named k.soup.name s ≡ Some k.soup) (sym same-store) k.self_named
 
   abbrev inside : Store → Store

@@ -29,6 +29,11 @@ use Rattle.newt_cardstore.specs.Cards.{ReadsEntry}
 use Rattle.newt_cardstore.specs.Faults.{Does, set_fault}
 use Rattle.newt_units.proofs.Answering.{does-answers, makes}
 
+-- what was put, of which this is the normal form
+pub raw-of : (new : RawGraph) (o : Option RawGraph) → IsFormOf o new → (raw : RawGraph) × (o ≡ Some raw) × (normal_form raw ≡ Some new) × IsGraph new
+raw-of new None f = absurd f
+raw-of new (Some raw) f = (raw, refl, f.1, f.0.graph)
+
 module _ (w v : World) (u blocks : ℕ) (s : Store) (on : OnUnit w u blocks s) (none : w.cursors ≡ replicate 32 None) (name : List ℕ) (p : Soup) (named : soup_named name s ≡ Some p) (is : p.name ≡ name)
     (uid : ℕ) (e : Entry) (found : entry_of uid p ≡ Some e) where
   -- the tests by the soup's own name
@@ -57,19 +62,15 @@ module _ (w v : World) (u blocks : ℕ) (s : Store) (on : OnUnit w u blocks s) (
   module _ (path : Path) (g : RawGraph) where
     -- the value is put
     module _ (new : RawGraph) (form : IsFormOf (put e.graph path g) new) (ok : valid_entry e ≡ true) where
-      raw-of : (o : Option RawGraph) → IsFormOf o new → (raw : RawGraph) × (o ≡ Some raw) × (normal_form raw ≡ Some new) × IsGraph new
-      raw-of None f = absurd f
-      raw-of (Some raw) f = (raw, refl, f.1, f.0.graph)
-
       set-is : first_of (replace_tests blocks w.minute p.name uid new s) ≡ None → answer_now w (command.Set u name uid path g) ≡ (change_store w u (replaced w.minute p.name uid new), Reply.done)
       set-is k =
-          let r = raw-of (put e.graph path g) form in
+          let r = raw-of new (put e.graph path g) form in
           set-done w u blocks s name p uid on named e found path g r.0 r.1 new r.2 (graph-within new r.3) ok (own-tests new ∙ k) none ∙ own-world new
 
       pub set-answers : (result : Result (Unit {0}) Fault) → Does (replace_tests blocks w.minute p.name uid new s) (λ _. ⊤) w (change_store w u (replaced w.minute p.name uid new)) v result
           → Answers w v (command.Set u name uid path g) (λ _. Reply.done) result
       set-answers result d =
-          let r = raw-of (put e.graph path g) form in
+          let r = raw-of new (put e.graph path g) form in
           does-answers w v (change_store w u (replaced w.minute p.name uid new)) (command.Set u name uid path g) (λ _. Reply.done) (replace_tests blocks w.minute p.name uid new s) (λ _. ⊤)
           (λ k n good. set-is k) (λ q k. set-refused w u blocks s name p uid on named e found path g r.0 r.1 new r.2 (graph-within new r.3) ok q (own-tests new ∙ k)) result d
 

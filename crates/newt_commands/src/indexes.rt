@@ -1,25 +1,23 @@
 //! Indexes: declared, removed and shown.
-ghost use Rattle.std.specs.Prelude.{◌≡◌, ℕ, true, IsTrue, ⊤, [], Some, None, IfOk, IfErr, map, option_map, option_and_then, ◌∷◌, ◌≤◌};
-ghost use Rattle.newt_base.specs.Refusals.{first_of};
+ghost use Rattle.std.specs.Prelude.{◌≡◌, ℕ, true, IsTrue, Some, None, IfOk, IfErr, map, option_map, option_and_then};
 ghost use Rattle.newt_host.specs.Moments.{Always};
 ghost use Rattle.newt_host.specs.Outside.{Outside};
-ghost use Rattle.newt_spec_store.specs.Store.{Store as Plain, Soup, change_soup};
-ghost use Rattle.newt_spec_world.specs.Changed.{spec_of_words, with_index, without_index};
+ghost use Rattle.newt_spec_store.specs.Store.{Store as Plain, Soup};
+ghost use Rattle.newt_spec_world.specs.Changed.{spec_of_words};
 ghost use Rattle.newt_spec_world.specs.Reply.{Reply};
-ghost use Rattle.newt_spec_world.specs.World.{World, store_on_unit, change_store};
 ghost use Rattle.newt_spec_world.specs.declared.command.Command.{Command};
 ghost use Rattle.newt_laws.specs.Worlds.{parts_fit};
 ghost use Rattle.newt_laws_answers.specs.Answering.{Answering};
-ghost use Rattle.newt_laws_answers.specs.Bounds.{most_programmed, change_bytes, unless};
+ghost use Rattle.newt_laws_answers.specs.Bounds.{most_programmed};
 ghost use Rattle.newt_laws_answers.specs.Spoken.{answer_now};
-ghost use Rattle.newt_laws_answers.specs.Tests.{index_tests, has_paths};
+ghost use Rattle.newt_laws_answers.specs.Tests.{has_paths};
 ghost use Rattle.newt_laws_answers.specs.There.{OnUnit};
-ghost use Rattle.newt_cardstore.specs.Bounds.{Costs, CostsOn};
+ghost use Rattle.newt_cardstore.specs.Bounds.{Costs};
 ghost use Rattle.newt_units.specs.Answers.{Answers};
 ghost use Rattle.newt_cardstore.specs.Cards.{soup_of};
 ghost use Rattle.newt_commands.specs.Declares.{MayDeclare};
-ghost use Rattle.newt_cardstore.specs.Faults.{Does, GoesOn, HasFaultCause, NoDevice, OnDevices};
-ghost use Rattle.newt_units.specs.Stands.{card_at, mounted_in, Eight, Stands, world_of};
+ghost use Rattle.newt_cardstore.specs.Faults.{GoesOn, HasFaultCause, NoDevice, OnDevices};
+ghost use Rattle.newt_units.specs.Stands.{card_at, Eight, Stands, world_of};
 
 use newt_cardstore::Card;
 use crate::declarations::{copied_specs, has_paths, has_paths_of, new_spec};

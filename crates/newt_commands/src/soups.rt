@@ -1,5 +1,5 @@
 //! Soups: made and dropped.
-ghost use Rattle.std.specs.Prelude.{◌≡◌, IsTrue, ⊤, IfErr};
+ghost use Rattle.std.specs.Prelude.{IsTrue, IfErr};
 ghost use Rattle.newt_host.specs.Moments.{Always};
 ghost use Rattle.newt_spec_world.specs.Reply.{Reply};
 ghost use Rattle.newt_spec_world.specs.declared.command.Command.{Command};
