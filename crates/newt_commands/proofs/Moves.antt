@@ -64,7 +64,7 @@ never-refused w x a b v c (Stop stop) d = tt
 
 -- ---- within one store
 
-module _ (w : World) (u : ℕ) (name target : List ℕ) (sig into uid : ℕ) (x : HasEntry w u name sig uid) (k : HasSoup w u target into) (none : w.cursors ≡ replicate 32 None) where
+module _ (w : World) (u : ℕ) (name target : List ℕ) (sig into uid : ℕ) (x : HasEntry w u name sig uid) (k : HasSoup w u target into) where
   abbrev h : HasSoup w u name sig
   h = x.of
 
@@ -77,30 +77,31 @@ module _ (w : World) (u : ℕ) (name target : List ℕ) (sig into uid : ℕ) (x 
   pub inside-named : soup_named k.soup.name h.store ≡ Some k.soup
   inside-named = subst (λ s. soup_named k.soup.name s ≡ Some k.soup) (sym same-store) k.self_named
 
-  abbrev inside : Store → Store
-  inside = moved_within w.minute h.soup.name uid k.soup.name x.entry.graph
+  module _ (none : w.cursors ≡ replicate 32 None) where
+    abbrev inside : Store → Store
+    inside = moved_within w.minute h.soup.name uid k.soup.name x.entry.graph
 
-  abbrev inside_tests : Checks
-  inside_tests = move_tests h.blocks w.minute h.soup.name uid k.soup.name x.entry.graph h.store k.soup
+    abbrev inside_tests : Checks
+    inside_tests = move_tests h.blocks w.minute h.soup.name uid k.soup.name x.entry.graph h.store k.soup
 
-  abbrev inside_answer : World × Reply
-  inside_answer = answer_now w (command.Move u name uid u target)
+    abbrev inside_answer : World × Reply
+    inside_answer = answer_now w (command.Move u name uid u target)
 
-  named : answer_now w (command.Move u h.soup.name uid u k.soup.name) ≡ inside_answer
-  named = ap (answer_now w) (move-named w u u name target sig into uid h k)
+    named : answer_now w (command.Move u h.soup.name uid u k.soup.name) ≡ inside_answer
+    named = ap (answer_now w) (move-named w u u name target sig into uid h k)
 
-  inside-done : first_of inside_tests ≡ None → inside_answer ≡ (change_store w u inside, Reply.number k.soup.next_uid)
-  inside-done d = sym named ∙ within-done w u h.blocks h.store h.soup.name h.soup uid h.on h.self_named k.soup.name k.soup inside-named x.entry x.found d none
+    inside-done : first_of inside_tests ≡ None → inside_answer ≡ (change_store w u inside, Reply.number k.soup.next_uid)
+    inside-done d = sym named ∙ within-done w u h.blocks h.store h.soup.name h.soup uid h.on h.self_named k.soup.name k.soup inside-named x.entry x.found d none
 
-  inside-refused : (r : Refusal) → first_of inside_tests ≡ Some r → inside_answer ≡ (w, Reply.refused r)
-  inside-refused r d = sym named ∙ within-refused w u h.blocks h.store h.soup.name h.soup uid h.on h.self_named k.soup.name k.soup inside-named x.entry x.found r d
+    inside-refused : (r : Refusal) → first_of inside_tests ≡ Some r → inside_answer ≡ (w, Reply.refused r)
+    inside-refused r d = sym named ∙ within-refused w u h.blocks h.store h.soup.name h.soup uid h.on h.self_named k.soup.name k.soup inside-named x.entry x.found r d
 
-  pub inside-answers : (v : World) (result : Result ℕ Fault) → Does inside_tests (λ n. n ≡ k.soup.next_uid) w (change_store w u inside) v result → Answers w v (command.Move u name uid u target) (λ n. Reply.number n) result
-  inside-answers v result d = does-answers w v (change_store w u inside) (command.Move u name uid u target) (λ n. Reply.number n) inside_tests (λ n. n ≡ k.soup.next_uid)
-      (λ t n good. inside-done t ∙ ap {B = World × Reply} (λ m. (change_store w u inside, Reply.number m)) (sym good)) inside-refused result d
+    pub inside-answers : (v : World) (result : Result ℕ Fault) → Does inside_tests (λ n. n ≡ k.soup.next_uid) w (change_store w u inside) v result → Answers w v (command.Move u name uid u target) (λ n. Reply.number n) result
+    inside-answers v result d = does-answers w v (change_store w u inside) (command.Move u name uid u target) (λ n. Reply.number n) inside_tests (λ n. n ≡ k.soup.next_uid)
+        (λ t n good. inside-done t ∙ ap {B = World × Reply} (λ m. (change_store w u inside, Reply.number m)) (sym good)) inside-refused result d
 
-  pub inside-makes : first_of inside_tests ≡ None → store_on_unit inside_answer.0 u ≡ Some (inside h.store)
-  inside-makes t = makes w u h.blocks h.store inside inside_answer (Reply.number k.soup.next_uid) h.on (inside-done t)
+    pub inside-makes : first_of inside_tests ≡ None → store_on_unit inside_answer.0 u ≡ Some (inside h.store)
+    inside-makes t = makes w u h.blocks h.store inside inside_answer (Reply.number k.soup.next_uid) h.on (inside-done t)
 
 -- ---- between two stores
 

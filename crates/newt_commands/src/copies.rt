@@ -12,9 +12,8 @@ ghost use Rattle.newt_cardstore.specs.Faults.{GoesOn, HasFaultCause, OnDevices};
 ghost use Rattle.newt_units.specs.Found.{HasSoup};
 ghost use Rattle.newt_units.specs.Stands.{Stands, mounted_in, world_of};
 
-use newt_cardstore::{Card, Entry};
-use newt_cardstore::Fault;
 use newt_base::{Name, Refusal, Sig, Uid};
+use newt_cardstore::{Card, Entry, Fault};
 use newt_host::{Host, Unit};
 use newt_units::Units;
 

@@ -12,9 +12,8 @@ ghost use Rattle.newt_units.specs.Answers.{Answers};
 ghost use Rattle.newt_cardstore.specs.Faults.{GoesOn, HasFaultCause, IsRefusal, OnDevices};
 ghost use Rattle.newt_units.specs.Stands.{Eight, Stands, world_of};
 
-use newt_cardstore::{Card, Entry};
-use newt_cardstore::Fault;
 use newt_base::{Name, Refusal, Sig, Uid};
+use newt_cardstore::{Card, Entry, Fault};
 use newt_graph::Graph;
 use newt_host::{Host, Unit};
 use newt_units::Units;
@@ -120,7 +119,12 @@ pub fn remove<C: Card, H: Host>(
 }
 
 /// The signatures of the store and the soup of an entry, which with its id are its alias.
-pub fn alias<C: Card>(units: &Units<C>, unit: Unit, name: &Name, uid: Uid) -> Result<(Sig, Sig), Fault>
+pub fn alias<C: Card>(
+    units: &Units<C>,
+    unit: Unit,
+    name: &Name,
+    uid: Uid,
+) -> Result<(Sig, Sig), Fault>
     ensures answered { (outside : Outside) → Eight outside → Stands C.place C.stands true units.now outside →
         Answers (world_of C.reads units.now outside) (world_of C.reads units.now outside) (Command.Alias unit name.now uid) (λ x. Reply.alias x.0 x.1 uid) result }
     ensures only { IfErr result (λ fault. IsRefusal fault) }

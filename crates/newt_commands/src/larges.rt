@@ -14,13 +14,12 @@ ghost use Rattle.newt_cardstore.specs.Faults.{GoesOn, HasFaultCause, NoDevice, O
 ghost use Rattle.newt_commands.specs.Larges.{ReadsLarge};
 ghost use Rattle.newt_units.specs.Stands.{Stands, world_of};
 
-use newt_cardstore::{Card, Entry};
-use newt_cardstore::Fault;
 use newt_base::{Name, Refusal, Uid};
+use newt_cardstore::{Card, Entry, Fault};
 use newt_graph::{Bytes, Graph, Node, Ref};
 use newt_host::{Host, Unit};
-use newt_units::Units;
 use newt_path::{Path, value_at};
+use newt_units::Units;
 use std::alloc::Global;
 
 /// So many bytes of the large binary that a path of an entry's graph reaches, from a place on. Places and lengths are in bytes.

@@ -11,13 +11,12 @@ ghost use Rattle.newt_units.specs.Answers.{Answers};
 ghost use Rattle.newt_cardstore.specs.Faults.{GoesOn, HasFaultCause, OnDevices};
 ghost use Rattle.newt_units.specs.Stands.{Stands, world_of};
 
-use newt_cardstore::{Card, Entry};
-use newt_cardstore::Fault;
 use newt_base::{Name, Uid};
+use newt_cardstore::{Card, Entry, Fault};
 use newt_graph::Graph;
 use newt_host::{Host, Unit};
-use newt_units::Units;
 use newt_path::{Path, set_at};
+use newt_units::Units;
 
 /// Puts a value at a path of an entry's graph, at the present minute. The frame that the path reaches is changed where it stands.
 pub fn set<C: Card, H: Host>(

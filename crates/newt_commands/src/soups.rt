@@ -11,14 +11,18 @@ ghost use Rattle.newt_units.specs.Answers.{Answers};
 ghost use Rattle.newt_cardstore.specs.Faults.{GoesOn, HasFaultCause, OnDevices};
 ghost use Rattle.newt_units.specs.Stands.{Stands, world_of};
 
-use newt_cardstore::Card;
-use newt_cardstore::Fault;
 use newt_base::Name;
+use newt_cardstore::{Card, Fault};
 use newt_host::{Host, Unit};
 use newt_units::Units;
 
 /// Makes a soup, and answers its signature.
-pub fn soup<C: Card, H: Host>(units: &mut Units<C>, host: &mut H, unit: Unit, name: &Name) -> Result<u32, Fault>
+pub fn soup<C: Card, H: Host>(
+    units: &mut Units<C>,
+    host: &mut H,
+    unit: Unit,
+    name: &Name,
+) -> Result<u32, Fault>
     requires { Stands C.place C.stands H.told units.old (H.outside host.old) }
     ensures stands { GoesOn result → Stands C.place C.stands H.told units.new (H.outside host.new) }
     ensures answered { IsTrue H.told → Answers (world_of C.reads units.old (H.outside host.old)) (world_of C.reads units.new (H.outside host.new)) (Command.Soup unit name.now) (λ n. Reply.number n) result }
@@ -33,7 +37,12 @@ pub fn soup<C: Card, H: Host>(units: &mut Units<C>, host: &mut H, unit: Unit, na
 }
 
 /// Drops a soup with its entries.
-pub fn drop_soup<C: Card, H: Host>(units: &mut Units<C>, host: &mut H, unit: Unit, name: &Name) -> Result<(), Fault>
+pub fn drop_soup<C: Card, H: Host>(
+    units: &mut Units<C>,
+    host: &mut H,
+    unit: Unit,
+    name: &Name,
+) -> Result<(), Fault>
     requires { Stands C.place C.stands H.told units.old (H.outside host.old) }
     ensures stands { GoesOn result → Stands C.place C.stands H.told units.new (H.outside host.new) }
     ensures answered { IsTrue H.told → Answers (world_of C.reads units.old (H.outside host.old)) (world_of C.reads units.new (H.outside host.new)) (Command.Drop unit name.now) (λ _. Reply.done) result }

@@ -23,14 +23,14 @@ returns-then-has_entry-clause-answered g c t name target h k =
     let w = world_of g.C.Card.reads c.args.units.now (g.H.Host.outside c.args.host.now) in
     let x = has-entry at t c.args.unit name c.args.soup c.args.uid h (sym (c.if-has_entry.ensures (g.H.Host.outside c.args.host.now) at.eight (stand-told at t) h.blocks h.store h.on)) in
     inside-answers w c.args.unit name target c.args.soup c.args.into c.args.uid x k refl _ _
-    (c.move_within.ensures.made t x.of.blocks x.of.store x.of.soup k.soup x.entry x.of.on x.of.by_sig x.found (inside-by-sig w c.args.unit name target c.args.soup c.args.into c.args.uid x k refl))
+    (c.move_within.ensures.made t x.of.blocks x.of.store x.of.soup k.soup x.entry x.of.on x.of.by_sig x.found (inside-by-sig w c.args.unit name target c.args.soup c.args.into c.args.uid x k))
 
 pub returns-then-has_entry-clause-moments : goal.returns-then-has_entry-clause-moments
 returns-then-has_entry-clause-moments g c t name target h k =
     let at = begins g c.requires.stands in
     let w = world_of g.C.Card.reads c.args.units.now (g.H.Host.outside c.args.host.now) in
     let x = has-entry at t c.args.unit name c.args.soup c.args.uid h (sym (c.if-has_entry.ensures (g.H.Host.outside c.args.host.now) at.eight (stand-told at t) h.blocks h.store h.on)) in
-    c.move_within.ensures.moments t x.of.blocks x.of.store x.of.soup k.soup x.entry x.of.on x.of.by_sig x.found (inside-by-sig w c.args.unit name target c.args.soup c.args.into c.args.uid x k refl) _
+    c.move_within.ensures.moments t x.of.blocks x.of.store x.of.soup k.soup x.entry x.of.on x.of.by_sig x.found (inside-by-sig w c.args.unit name target c.args.soup c.args.into c.args.uid x k) _
     (inside-makes w c.args.unit name target c.args.soup c.args.into c.args.uid x k refl)
 
 pub returns-then-has_entry-clause-costs : goal.returns-then-has_entry-clause-costs
@@ -38,7 +38,7 @@ returns-then-has_entry-clause-costs g c t name target h k =
     let at = begins g c.requires.stands in
     let w = world_of g.C.Card.reads c.args.units.now (g.H.Host.outside c.args.host.now) in
     let x = has-entry at t c.args.unit name c.args.soup c.args.uid h (sym (c.if-has_entry.ensures (g.H.Host.outside c.args.host.now) at.eight (stand-told at t) h.blocks h.store h.on)) in
-    inside-costs x k (c.move_within.ensures.costs t x.of.blocks x.of.store x.of.soup k.soup x.entry x.of.on x.of.by_sig x.found (inside-by-sig w c.args.unit name target c.args.soup c.args.into c.args.uid x k refl))
+    inside-costs x k (c.move_within.ensures.costs t x.of.blocks x.of.store x.of.soup k.soup x.entry x.of.on x.of.by_sig x.found (inside-by-sig w c.args.unit name target c.args.soup c.args.into c.args.uid x k))
 
 pub returns-else-has_entry-clause-answered : goal.returns-else-has_entry-clause-answered
 returns-else-has_entry-clause-answered g c t name target h k =

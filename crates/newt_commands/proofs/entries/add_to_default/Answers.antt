@@ -1,5 +1,5 @@
 -- Where no store is the default, the command is refused.
-use Rattle.std.proofs.Common.{refl, ap}
+use Rattle.std.proofs.Common.{refl, ap, sym, ◌∙◌}
 use Rattle.std.specs.Prelude.{unwrap_or}
 use Rattle.newt_spec_world.specs.World.{mounted_store}
 use Rattle.newt_laws_answers.proofs.Adds.{addu-no-default}
@@ -21,7 +21,7 @@ begins g {units} {host} stand = record {
 pub returns-in-None-clause-answered : goal.returns-in-None-clause-answered
 returns-in-None-clause-answered g c t =
     let w = world_of g.C.Card.reads c.args.units.now (g.H.Host.outside c.args.host.now) in
-    addu-no-default w c.args.name.now c.args.graph (ap (λ d. mounted_store w (unwrap_or d 8)) c.in-None.is)
+    addu-no-default w c.args.name.now c.args.graph (ap (λ d. mounted_store w (unwrap_or d 8)) (sym c.default_unit.ensures ∙ c.in-None.is))
 
 pub returns-in-None-clause-moments : goal.returns-in-None-clause-moments
 returns-in-None-clause-moments g c t = still (begins g c.requires) t _ _ refl

@@ -13,16 +13,15 @@ ghost use Rattle.newt_cardstore.specs.Cards.{soup_of};
 ghost use Rattle.newt_cardstore.specs.Faults.{GoesOn, HasFaultCause, NoDevice, OnDevices};
 ghost use Rattle.newt_units.specs.Stands.{card_at, Eight, Stands, world_of};
 
-use newt_cardstore::Card;
 use crate::declarations::new_table;
-use newt_cardstore::Fault;
 use crate::forms::are_tags;
 use newt_base::{Name, Refusal, Sig};
+use newt_cardstore::{Card, Fault};
 use newt_host::{Host, Unit};
-use newt_units::Units;
 use newt_path::Path;
 use newt_spec_world::Syms;
 use newt_tags::TagTable;
+use newt_units::Units;
 
 /// The most symbols of a tags declaration.
 const MOST_TAGS: usize = 64;

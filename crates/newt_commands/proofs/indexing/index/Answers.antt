@@ -12,8 +12,8 @@ use Rattle.newt_commands.proofs.Declaring.{index-fails, index-answers, index-mak
 use Rattle.newt_commands.proofs.Costing.{index-costs}
 use Rattle.newt_units.proofs.Costs.{idle-costs}
 use Rattle.newt_units.proofs.Settings.{Setting, still, stand-told, soup-refused, has-soup, is-err}
-use Rattle.newt_commands.proofs.indexes.index.Given.{Over}
-use Rattle.newt_commands.proofs.indexes.index.Goals as goal
+use Rattle.newt_commands.proofs.indexing.index.Given.{Over}
+use Rattle.newt_commands.proofs.indexing.index.Goals as goal
 
 -- where it begins
 begins : (g : Over) {units : _} {host : _} → Stands g.C.Card.place g.C.Card.stands g.H.Host.told units (g.H.Host.outside host)

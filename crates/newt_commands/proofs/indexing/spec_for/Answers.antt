@@ -3,7 +3,7 @@ use Rattle.std.proofs.Common.{sym, ◌∙◌, [], ◌∷◌}
 use Rattle.newt_base.specs.declared.Refusal.TheVariants.{Index as BadIndex, Key as BadKey}
 use Rattle.newt_laws_answers.proofs.Firsts.{first-true, first-false}
 use Rattle.newt_commands.specs.Declares.{has_real}
-use Rattle.newt_commands.proofs.indexes.spec_for.Goals as goal
+use Rattle.newt_commands.proofs.indexing.spec_for.Goals as goal
 
 pub returns-then-has_index_of-clause-may : goal.returns-then-has_index_of-clause-may
 returns-then-has_index_of-clause-may g c outside eight stand blocks s p on by =

@@ -10,8 +10,8 @@ use Rattle.newt_commands.proofs.Declaring.{tags-answers, tags-makes}
 use Rattle.newt_commands.proofs.Costing.{tags-costs}
 use Rattle.newt_units.proofs.Costs.{idle-costs}
 use Rattle.newt_units.proofs.Settings.{Setting, still, soup-refused, has-soup}
-use Rattle.newt_commands.proofs.tags.set_tags.Given.{Over}
-use Rattle.newt_commands.proofs.tags.set_tags.Goals as goal
+use Rattle.newt_commands.proofs.tagging.set_tags.Given.{Over}
+use Rattle.newt_commands.proofs.tagging.set_tags.Goals as goal
 
 -- where it begins
 begins : (g : Over) {units : _} {host : _} → Stands g.C.Card.place g.C.Card.stands g.H.Host.told units (g.H.Host.outside host)

@@ -19,17 +19,16 @@ ghost use Rattle.newt_commands.specs.Declares.{MayDeclare};
 ghost use Rattle.newt_cardstore.specs.Faults.{GoesOn, HasFaultCause, NoDevice, OnDevices};
 ghost use Rattle.newt_units.specs.Stands.{card_at, Eight, Stands, world_of};
 
-use newt_cardstore::Card;
 use crate::declarations::{copied_specs, has_paths, has_paths_of, new_spec};
-use newt_cardstore::Fault;
 use crate::forms::{are_parts, has_real};
 use newt_base::{Name, Refusal, Sig};
+use newt_cardstore::{Card, Fault};
 use newt_host::{Host, Unit};
-use newt_units::Units;
 use newt_keys::IndexSpec;
 use newt_path::Path;
 use newt_reply::SpecRows;
 use newt_spec_world::{PartWord, Parts, Paths};
+use newt_units::Units;
 
 /// Declares an index of a soup. There are 1 to 4 parts, each with a path of identifiers.
 pub fn index<C: Card, H: Host>(
@@ -128,7 +127,12 @@ fn has_index_of<C: Card>(units: &Units<C>, unit: Unit, soup: Sig, parts: &[PartW
 }
 
 /// The declaration of these parts for a soup that is there, or why there is none: it has an index of their paths, or a part has no type.
-fn spec_for<C: Card>(units: &Units<C>, unit: Unit, soup: Sig, parts: &[PartWord]) -> Result<IndexSpec, Fault>
+fn spec_for<C: Card>(
+    units: &Units<C>,
+    unit: Unit,
+    soup: Sig,
+    parts: &[PartWord],
+) -> Result<IndexSpec, Fault>
     requires { parts_fit parts.now ≡ true }
     ensures made { IfOk result (λ spec. spec ≡ spec_of_words parts.now) }
     ensures may { (outside : Outside) → Eight outside → Stands C.place C.stands true units.now outside → (blocks : ℕ) (s : Plain) (p : Soup) → OnUnit (world_of C.reads units.now outside) unit blocks s →

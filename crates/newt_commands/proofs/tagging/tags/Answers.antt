@@ -9,8 +9,8 @@ use Rattle.newt_host.specs.Outside.{Outside}
 use Rattle.newt_units.specs.Stands.{Eight, Stands, world_of}
 use Rattle.newt_commands.proofs.Declaring.{table-known}
 use Rattle.newt_units.proofs.Settings.{Setting, soup-refused, has-soup}
-use Rattle.newt_commands.proofs.tags.tags.Given.{Over}
-use Rattle.newt_commands.proofs.tags.tags.Goals as goal
+use Rattle.newt_commands.proofs.tagging.tags.Given.{Over}
+use Rattle.newt_commands.proofs.tagging.tags.Goals as goal
 
 -- where it begins
 begins : (g : Over) {units : _} {outside : Outside} → Eight outside → Stands g.C.Card.place g.C.Card.stands true units outside

@@ -10,8 +10,8 @@ use Rattle.newt_host.specs.Outside.{Outside}
 use Rattle.newt_units.specs.Stands.{Eight, Stands, world_of}
 use Rattle.newt_commands.proofs.Declaring.{specs-known}
 use Rattle.newt_units.proofs.Settings.{Setting, soup-refused, has-soup}
-use Rattle.newt_commands.proofs.indexes.indexes.Given.{Over}
-use Rattle.newt_commands.proofs.indexes.indexes.Goals as goal
+use Rattle.newt_commands.proofs.indexing.indexes.Given.{Over}
+use Rattle.newt_commands.proofs.indexing.indexes.Goals as goal
 
 -- where it begins
 begins : (g : Over) {units : _} {outside : Outside} → Eight outside → Stands g.C.Card.place g.C.Card.stands true units outside

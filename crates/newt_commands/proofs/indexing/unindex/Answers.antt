@@ -13,8 +13,8 @@ use Rattle.newt_commands.proofs.Declaring.{unindex-answers, unindex-makes}
 use Rattle.newt_commands.proofs.Costing.{unindex-costs}
 use Rattle.newt_units.proofs.Costs.{idle-costs}
 use Rattle.newt_units.proofs.Settings.{Setting, still, stand-told, soup-refused, has-soup}
-use Rattle.newt_commands.proofs.indexes.unindex.Given.{Over}
-use Rattle.newt_commands.proofs.indexes.unindex.Goals as goal
+use Rattle.newt_commands.proofs.indexing.unindex.Given.{Over}
+use Rattle.newt_commands.proofs.indexing.unindex.Goals as goal
 
 -- where it begins
 begins : (g : Over) {units : _} {host : _} → Stands g.C.Card.place g.C.Card.stands g.H.Host.told units (g.H.Host.outside host)

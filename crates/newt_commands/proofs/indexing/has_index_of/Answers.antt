@@ -7,8 +7,8 @@ use Rattle.newt_commands.proofs.Declaring.{specs-known}
 use Rattle.newt_host.specs.Outside.{Outside}
 use Rattle.newt_units.specs.Stands.{Eight, Stands}
 use Rattle.newt_units.proofs.Settings.{Setting}
-use Rattle.newt_commands.proofs.indexes.has_index_of.Given.{Over}
-use Rattle.newt_commands.proofs.indexes.has_index_of.Goals as goal
+use Rattle.newt_commands.proofs.indexing.has_index_of.Given.{Over}
+use Rattle.newt_commands.proofs.indexing.has_index_of.Goals as goal
 
 -- where it begins
 begins : (g : Over) {units : _} {outside : Outside} → Eight outside → Stands g.C.Card.place g.C.Card.stands true units outside
