@@ -3,7 +3,6 @@ use Rattle.std.proofs.Common.{◌≡◌, ◌≢◌, ℕ, ◌+◌, ◌<◌, ◌�
 use Rattle.std.specs.List.{list_all}
 use Rattle.std.specs.Option.{option_map}
 use Rattle.std.proofs.lemmas.Bool.{eqb-true, eq-eqb, cases_lt}
-use Rattle.std.proofs.lemmas.List.{map-append, take_more}
 use Rattle.newt_image.specs.Objects.{Extent, Table}
 use Rattle.newt_objects.specs.Extents.{IsNextIn}
 use Rattle.newt_spec_graph.specs.Lists.{Among, Pairs}

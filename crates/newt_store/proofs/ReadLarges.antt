@@ -11,7 +11,6 @@ use Rattle.newt_host.specs.Moments.{Moment, image}
 use Rattle.newt_host.specs.Outside.{Outside, Touches, Spends}
 use Rattle.newt_host.proofs.Outside.{Touches-refl, Touches-append, Spends-append, Spends-widen}
 use Rattle.newt_image.specs.Objects.{Objects, pages_for}
-use Rattle.newt_nsof.specs.Lengths.{skeleton}
 use Rattle.newt_pagebook.specs.Book.{Numbers}
 use Rattle.newt_pagebook.proofs.Tests.{some_inj}
 use Rattle.newt_objects.specs.Held.{Held, Texts}

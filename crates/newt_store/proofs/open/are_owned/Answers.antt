@@ -1,4 +1,4 @@
-use Rattle.std.proofs.Common.{◌+◌, ◌≤◌, ℕ, Option, sym, subst, arith}
+use Rattle.std.proofs.Common.{◌+◌, ◌≤◌, ℕ, Option, subst, arith}
 use Rattle.newt_objects.specs.Extents.{IsNextIn}
 use Rattle.newt_objects.specs.Held.{held}
 use Rattle.newt_store.specs.Opening.{owner_of}

@@ -1,8 +1,7 @@
-use Rattle.std.proofs.Common.{◌≡◌, ◌+◌, ◌≤◌, ◌%◌, ℕ, List, refl, sym, ◌∙◌, ap, subst, arith}
+use Rattle.std.proofs.Common.{◌≡◌, ℕ, List, refl, sym, ◌∙◌, ap, subst}
 use Rattle.std.specs.List.{list_all}
 use Rattle.newt_objects.specs.Held.{held}
 use Rattle.newt_soupdir.specs.Bare.{bare_store}
-use Rattle.newt_spec_graph.specs.Lists.{Among}
 use Rattle.newt_shelf.specs.Names.{names_of}
 use Rattle.newt_shelf.specs.Places.{place_of}
 use Rattle.newt_entries.specs.declared.row.LargeAt.{LargeAt}

@@ -1,5 +1,4 @@
-use Rattle.std.proofs.Common.{◌≡◌, ◌+◌, ◌≤◌, ℕ, List, Option, refl, sym, ◌∙◌, subst, arith}
-use Rattle.newt_host.specs.Moments.{image}
+use Rattle.std.proofs.Common.{◌+◌, ◌≤◌, ℕ, List, Option, refl, sym, ◌∙◌, subst, arith}
 use Rattle.newt_host.specs.Outside.{Touches}
 use Rattle.newt_host.proofs.Outside.{Touches-refl, Touches-append}
 use Rattle.newt_objects.specs.Extents.{IsNextIn}
