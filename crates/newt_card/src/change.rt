@@ -12,15 +12,15 @@ ghost use Rattle.newt_store.specs.Change.{changed_by, answer_of, refusals, most_
 ghost use Rattle.newt_store.specs.Readable.{readable};
 ghost use Rattle.newt_cardstore.specs.Bounds.{ProgramsAtMost};
 ghost use Rattle.newt_cardstore.specs.Cards.{soup_of, LeavesEither, OthersSame};
-ghost use Rattle.newt_cardstore.specs.Faults.{Does, GoesOn, FaultsAt};
+ghost use Rattle.newt_cardstore.specs.Faults.{Does, GoesOn, FaultsAt, IsRefused};
 ghost use Rattle.newt_card.specs.Stands.{StandsOn};
 
 use newt_base::{Sig, Uid};
+use newt_cardstore::Fault;
 use newt_graph::Bytes;
 use newt_host::Host;
 use newt_indexed::{Change, IndexedStore, Paths, StoreFault};
 use newt_pagebook::PageBook;
-use newt_cardstore::Fault;
 
 /// Makes a change at a minute, and answers the new id or soup signature, else 0.
 pub(crate) fn change_store<P: PageBook, H: Host>(
@@ -42,6 +42,7 @@ pub(crate) fn change_store<P: PageBook, H: Host>(
     ensures bound { IsTrue H.told → (s : Plain) → readable (image (P.place store.old.store.book) (H.outside host.old).now) ≡ Some s →
         ProgramsAtMost (most_bytes change ((H.outside host.old).blocks (P.place store.old.store.book)) now s) (P.place store.old.store.book) (H.outside host.old) (H.outside host.new) }
     ensures open_after { IsTrue H.told → OnOk result (IsOpenFor 0 (image (P.place store.old.store.book) (H.outside host.new).now)) }
+    ensures nothing_done { IsRefused result → (H.outside host.new).now ≡ (H.outside host.old).now }
     ensures alone { Touches (P.place store.old.store.book) (H.outside host.old) (H.outside host.new) }
     ensures cause { IfErr result (FaultsAt (P.place store.old.store.book) (H.outside host.old) (H.outside host.new)) }
 {
@@ -76,6 +77,7 @@ pub(crate) fn patch_entry<P: PageBook, H: Host>(
     ensures bound { IsTrue H.told → (s : Plain) (p : Soup) (e : PlainEntry) (class : ℕ) (large : List ℕ) → readable (image (P.place store.old.store.book) (H.outside host.old).now) ≡ Some s → soup_of soup s ≡ Some p → entry_of uid p ≡ Some e → slice_get e.graph.nodes node ≡ Some (Large class large) →
         ProgramsAtMost (unless (patch_tests node at (length bytes) e) (patch_bytes (length bytes))) (P.place store.old.store.book) (H.outside host.old) (H.outside host.new) }
     ensures open_after { IsTrue H.told → OnOk result (IsOpenFor 0 (image (P.place store.old.store.book) (H.outside host.new).now)) }
+    ensures nothing_done { IsRefused result → (H.outside host.new).now ≡ (H.outside host.old).now }
     ensures alone { Touches (P.place store.old.store.book) (H.outside host.old) (H.outside host.new) }
     ensures cause { IfErr result (FaultsAt (P.place store.old.store.book) (H.outside host.old) (H.outside host.new)) }
 {
@@ -104,6 +106,7 @@ pub(crate) fn drop_paths<P: PageBook, H: Host>(
     ensures bound { IsTrue H.told → (s : Plain) (p : Soup) → readable (image (P.place store.old.store.book) (H.outside host.old).now) ≡ Some s → soup_of soup s ≡ Some p →
         ProgramsAtMost (change_bytes s (change_soup p.name (without_index paths) s) [] []) (P.place store.old.store.book) (H.outside host.old) (H.outside host.new) }
     ensures open_after { IsTrue H.told → OnOk result (IsOpenFor 0 (image (P.place store.old.store.book) (H.outside host.new).now)) }
+    ensures nothing_done { IsRefused result → (H.outside host.new).now ≡ (H.outside host.old).now }
     ensures alone { Touches (P.place store.old.store.book) (H.outside host.old) (H.outside host.new) }
     ensures cause { IfErr result (FaultsAt (P.place store.old.store.book) (H.outside host.old) (H.outside host.new)) }
 {

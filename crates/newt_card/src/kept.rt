@@ -3,6 +3,7 @@ ghost use Rattle.std.specs.Prelude.{◌≡◌};
 
 use crate::change::{change_store, drop_paths, patch_entry};
 use newt_base::{Name, Sig, Uid};
+use newt_cardstore::{Card, Entry, Fault};
 use newt_graph::{Bytes, Graph};
 use newt_host::{Host, Unit};
 use newt_index::Index;
@@ -12,7 +13,6 @@ use newt_pagebook::{BookFault, PageBook, Stop};
 use newt_path::Path;
 use newt_store::Store;
 use newt_tags::TagTable;
-use newt_cardstore::{Card, Entry, Fault};
 use std::alloc::Global;
 
 /// A store on the card of one unit, kept on a book of pages. After a fault that ends the run it is spent.

@@ -1,6 +1,6 @@
-//! A store on the card of one unit, as the units ask for it: the store of `newt_store`, on whichever book of pages.
+//! A store on the card of one unit, as the units ask for it: the store of `newt_indexed`, on whichever book of pages.
 //!
-//! It stands on `newt_store`, which keeps the store and changes it, and on `newt_units`, whose `Card` it is. The promise that it carries upwards: its
+//! It stands on `newt_indexed`, which keeps the store and its ranges and changes them, and on `newt_cardstore`, whose `Card` it is. The promise that it carries upwards: its
 //! unit is read as one store, a change of it is that of the plain store or its first refusal, and whenever the power fails the unit is read as the store
 //! before the change or after it. While its bank has room, a change programs no more than the pages that come and go, and its bank stays open.
 #![tactic(auto)]

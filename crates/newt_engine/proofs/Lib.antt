@@ -1,3 +1,4 @@
+pub mod Costing
 pub mod Groups
 pub mod Handed
 pub mod Refusing

@@ -19,10 +19,10 @@ ghost use Rattle.newt_engine.specs.Standing.{Standing};
 use crate::replies::{closed, counted, opened, shown, sided};
 use crate::world::World;
 use newt_base::Refusal;
+use newt_cardstore::{Card, Fault};
 use newt_host::Host;
 use newt_reply::Reply;
 use newt_script::Command;
-use newt_cardstore::{Card, Fault};
 
 impl<C: Card> World<C> {
     /// Obeys a command that opens, moves, shows or closes a cursor.

@@ -12,10 +12,10 @@ ghost use Rattle.newt_engine.specs.Ends.{takes_memory, uses_device};
 ghost use Rattle.newt_engine.specs.Groups.{on_cursor, on_graph};
 
 use crate::world::World;
+use newt_cardstore::{Card, Entry, Fault};
 use newt_host::Host;
 use newt_reply::Reply;
 use newt_script::Command;
-use newt_cardstore::{Card, Entry, Fault};
 
 impl<C: Card> World<C> {
     /// Obeys a command that takes no graph.
@@ -38,30 +38,31 @@ impl<C: Card> World<C> {
         ensures ends { takes_memory command.now ≡ false → IfErr result (λ fault. IsRefusal fault) }
         ensures device { uses_device command.now ≡ false → IfErr result (λ fault. NoDevice fault) }
     {
+        let World { units, .. } = self;
         match command {
             Command::Get(unit, name, uid) => {
-                let Entry { time, graph, .. } = newt_commands::get(&mut self.units, host, *unit, name, *uid)?;
+                let Entry { time, graph, .. } = newt_commands::get(units, host, *unit, name, *uid)?;
                 Ok(Reply::Timed(time, graph))
             }
             Command::Getx(unit, name, uid) => {
-                let Entry { time, graph, .. } = newt_commands::get(&mut self.units, host, *unit, name, *uid)?;
+                let Entry { time, graph, .. } = newt_commands::get(units, host, *unit, name, *uid)?;
                 Ok(Reply::TimedNsof(time, graph))
             }
             Command::Remove(unit, name, uid) => {
-                newt_commands::remove(&mut self.units, host, *unit, name, *uid)?;
+                newt_commands::remove(units, host, *unit, name, *uid)?;
                 Ok(Reply::Done)
             }
-            Command::Copy(unit, name, uid, to, target) => Ok(Reply::Number(
-                newt_commands::copy(&mut self.units, host, *unit, name, *uid, *to, target)?,
-            )),
+            Command::Copy(unit, name, uid, to, target) => Ok(Reply::Number(newt_commands::copy(
+                units, host, *unit, name, *uid, *to, target,
+            )?)),
             Command::Move(unit, name, uid, to, target) => Ok(Reply::Number(
-                newt_commands::move_entry(&mut self.units, host, *unit, name, *uid, *to, target)?,
+                newt_commands::move_entry(units, host, *unit, name, *uid, *to, target)?,
             )),
-            Command::Vread(unit, name, uid, path, at, len) => Ok(Reply::Hex(
-                newt_commands::vread(&mut self.units, host, *unit, name, *uid, path, *at, *len)?,
-            )),
+            Command::Vread(unit, name, uid, path, at, len) => Ok(Reply::Hex(newt_commands::vread(
+                units, host, *unit, name, *uid, path, *at, *len,
+            )?)),
             Command::Vwrite(unit, name, uid, path, at, bytes) => {
-                newt_commands::vwrite(&mut self.units, host, *unit, name, *uid, path, *at, bytes.list())?;
+                newt_commands::vwrite(units, host, *unit, name, *uid, path, *at, bytes.list())?;
                 Ok(Reply::Done)
             }
             _ => self.obey_on_store(host, command),

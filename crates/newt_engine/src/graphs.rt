@@ -13,10 +13,10 @@ ghost use Rattle.newt_engine.specs.Groups.{on_cursor};
 
 use crate::world::World;
 use newt_base::Uid;
+use newt_cardstore::{Card, Fault};
 use newt_host::Host;
 use newt_reply::Reply;
 use newt_script::Command;
-use newt_cardstore::{Card, Fault};
 
 impl<C: Card> World<C> {
     /// Obeys a command. A fault is its refusal, or the end of the run.
@@ -34,25 +34,26 @@ impl<C: Card> World<C> {
         ensures ends { takes_memory command ≡ false → IfErr result (λ fault. IsRefusal fault) }
         ensures device { uses_device command ≡ false → IfErr result (λ fault. NoDevice fault) }
     {
+        let World { units, .. } = self;
         match command {
             Command::Nsof(graph) => Ok(Reply::Nsof(graph)),
             Command::Lit(graph) => Ok(Reply::Literal(graph)),
             Command::Add(unit, name, graph) => {
-                Ok(Reply::Number(newt_commands::add(&mut self.units, host, unit, &name, graph)?))
+                Ok(Reply::Number(newt_commands::add(units, host, unit, &name, graph)?))
             }
             Command::Addx(unit, name, graph) => {
-                Ok(Reply::Number(newt_commands::add(&mut self.units, host, unit, &name, graph)?))
+                Ok(Reply::Number(newt_commands::add(units, host, unit, &name, graph)?))
             }
             Command::Addu(name, graph) => {
-                let (unit, uid) = newt_commands::add_to_default(&mut self.units, host, &name, graph)?;
+                let (unit, uid) = newt_commands::add_to_default(units, host, &name, graph)?;
                 Ok(Reply::Added(unit, Uid(uid)))
             }
             Command::Set(unit, name, uid, path, value) => {
-                newt_commands::set(&mut self.units, host, unit, &name, uid, &path, &value)?;
+                newt_commands::set(units, host, unit, &name, uid, &path, &value)?;
                 Ok(Reply::Done)
             }
             Command::Change(unit, name, uid, graph) => {
-                newt_commands::change(&mut self.units, host, unit, &name, uid, graph)?;
+                newt_commands::change(units, host, unit, &name, uid, graph)?;
                 Ok(Reply::Done)
             }
             other => self.obey_on_entry(host, &other),

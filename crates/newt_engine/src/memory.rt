@@ -10,9 +10,9 @@ ghost use Rattle.newt_engine.specs.Groups.{on_graph};
 
 use crate::world::World;
 use newt_base::Refusal;
+use newt_cardstore::{Card, Fault};
 use newt_reply::{Alias, Reply, TagRow};
 use newt_script::Command;
-use newt_cardstore::{Card, Fault};
 
 impl<C: Card> World<C> {
     /// Obeys a command that uses no device and takes no graph.
@@ -42,7 +42,11 @@ impl<C: Card> World<C> {
                 Ok(Reply::Done)
             }
             Command::Soups(unit) => Ok(Reply::Soups(self.units.soups(*unit)?)),
-            Command::Indexes(unit, name) => Ok(Reply::Indexes(newt_commands::indexes(&self.units, *unit, name)?)),
+            Command::Indexes(unit, name) => Ok(Reply::Indexes(newt_commands::indexes(
+                &self.units,
+                *unit,
+                name,
+            )?)),
             Command::Tags(unit, name) => {
                 let table = newt_commands::tags(&self.units, *unit, name)?;
                 Ok(Reply::Tags(TagRow { table }))

@@ -8,8 +8,8 @@ ghost use Rattle.newt_spec_world.specs.World.{World};
 ghost use Rattle.newt_cardstore.specs.Faults.{HasFaultCause};
 ghost use Rattle.newt_walk.specs.Replies.{Answers, shown_reply, side_reply};
 
-use newt_reply::Reply;
 use newt_cardstore::Fault;
+use newt_reply::Reply;
 use newt_walk::{Shown, Side};
 
 /// What a cursor shows.

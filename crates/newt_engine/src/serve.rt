@@ -17,10 +17,10 @@ ghost use Rattle.newt_engine.specs.Groups.{on_cursor, settles};
 ghost use Rattle.newt_engine.specs.Standing.{Standing};
 
 use crate::world::World;
+use newt_cardstore::{Card, Fault};
 use newt_host::Host;
 use newt_reply::Reply;
 use newt_script::Command;
-use newt_cardstore::{Card, Fault};
 use newt_walk::settle;
 
 impl<C: Card> World<C> {

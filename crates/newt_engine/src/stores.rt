@@ -12,10 +12,10 @@ ghost use Rattle.newt_engine.specs.Ends.{takes_memory, uses_device};
 ghost use Rattle.newt_engine.specs.Groups.{on_cursor, on_entry, on_graph};
 
 use crate::world::World;
+use newt_cardstore::{Card, Fault};
 use newt_host::Host;
 use newt_reply::Reply;
 use newt_script::Command;
-use newt_cardstore::{Card, Fault};
 
 impl<C: Card> World<C> {
     /// Obeys a command that is on no entry of a device.
@@ -39,30 +39,33 @@ impl<C: Card> World<C> {
         ensures ends { takes_memory command.now ≡ false → IfErr result (λ fault. IsRefusal fault) }
         ensures device { uses_device command.now ≡ false → IfErr result (λ fault. NoDevice fault) }
     {
+        let World { units, .. } = self;
         match command {
             Command::Format(unit, name, sig) => {
-                self.units.format(host, *unit, name, *sig)?;
+                units.format(host, *unit, name, *sig)?;
                 Ok(Reply::Done)
             }
             Command::Mount(unit) => {
-                let (sig, name) = self.units.mount(host, *unit)?;
+                let (sig, name) = units.mount(host, *unit)?;
                 Ok(Reply::Store(sig, name))
             }
-            Command::Soup(unit, name) => Ok(Reply::Number(newt_commands::soup(&mut self.units, host, *unit, name)?)),
+            Command::Soup(unit, name) => Ok(Reply::Number(newt_commands::soup(
+                units, host, *unit, name,
+            )?)),
             Command::Drop(unit, name) => {
-                newt_commands::drop_soup(&mut self.units, host, *unit, name)?;
+                newt_commands::drop_soup(units, host, *unit, name)?;
                 Ok(Reply::Done)
             }
             Command::Index(unit, name, parts) => {
-                newt_commands::index(&mut self.units, host, *unit, name, parts)?;
+                newt_commands::index(units, host, *unit, name, parts)?;
                 Ok(Reply::Done)
             }
             Command::Unindex(unit, name, paths) => {
-                newt_commands::unindex(&mut self.units, host, *unit, name, paths)?;
+                newt_commands::unindex(units, host, *unit, name, paths)?;
                 Ok(Reply::Done)
             }
             Command::SetTags(unit, name, path, symbols) => {
-                newt_commands::set_tags(&mut self.units, host, *unit, name, path, symbols)?;
+                newt_commands::set_tags(units, host, *unit, name, path, symbols)?;
                 Ok(Reply::Done)
             }
             _ => self.obey_in_memory(command),

@@ -14,13 +14,13 @@ ghost use Rattle.newt_engine.specs.Ends.{takes_memory, uses_device};
 ghost use Rattle.newt_engine.specs.Standing.{Standing};
 ghost use Rattle.newt_engine.specs.Laws.{laws_of, still_stands, same_world, leaves_store, stays_there};
 
+use newt_cardstore::{Card, Fault};
 use newt_cursor::Desk;
 use newt_host::Host;
 use newt_pagebook::Stop;
 use newt_reply::Reply;
 use newt_script::Command;
 use newt_session::Interpreter;
-use newt_cardstore::{Card, Fault};
 use newt_units::Units;
 use std::alloc::{AllocError, Global};
 

@@ -11,6 +11,7 @@ use Rattle.newt_spec_store.specs.Store.{Store as PlainStore}
 use Rattle.newt_store.specs.Stands.{StandsFor}
 use Rattle.newt_store.specs.declared.catalog.Catalog.{Catalog}
 use Rattle.newt_store.specs.declared.store.Store.{Store}
+use Rattle.newt_store.proofs.ReadLarges.{programs-over}
 use Rattle.newt_indexed.specs.Calls.{Shows, IsOpen, Reads}
 
 pub same-image : (unit unit' : ℕ) (old new : Moment) → unit' ≡ unit → new ≡ old → image unit' new ≡ image unit old
@@ -27,7 +28,7 @@ stops-over (Device at) unit unit' old mid new place touches stops =
 module _ {B : Type 0} (place : B → ℕ) (numbers : B → Numbers) (stands : Bool → B → Outside → Type 0) (told : Bool) where
   -- nothing was read
   pub reads-none : (store : Store B) (outside : Outside) → IsOpen place numbers stands told store outside → Reads place numbers stands told store store outside outside
-  reads-none store outside is = record { is_open = is; same_place = refl; same_numbers = refl; catalog = refl; moment = refl; alone = Touches-refl (place store.book) outside }
+  reads-none store outside is = record { is_open = is; same_place = refl; same_numbers = refl; catalog = refl; moment = refl; programs_nothing = omega arith; alone = Touches-refl (place store.book) outside }
 
   -- one call after another
   pub reads-more : (a b c : Store B) (before between after : Outside) → Reads place numbers stands told a b before between → Reads place numbers stands told b c between after
@@ -38,6 +39,7 @@ module _ {B : Type 0} (place : B → ℕ) (numbers : B → Numbers) (stands : Bo
     same_numbers = y.same_numbers ∙ x.same_numbers;
     catalog = y.catalog ∙ x.catalog;
     moment = y.moment ∙ x.moment;
+    programs_nothing = programs-over (place a.book) (place b.book) before between after x.same_place x.programs_nothing y.programs_nothing;
     alone = Touches-append x.alone (subst (λ (u : ℕ). Touches u between after) x.same_place y.alone);
   }
 

@@ -1,5 +1,5 @@
 -- What calls on a store with ranges promise. All of it is this project's own.
-use Rattle.std.specs.Prelude.{◌≡◌, ℕ, Bool, IsTrue, None, Result, OnOk, IfOk, IfErr}
+use Rattle.std.specs.Prelude.{◌≡◌, ◌≤◌, ℕ, Bool, IsTrue, None, Result, OnOk, IfOk, IfErr}
 use Rattle.newt_host.specs.Moments.{image, Leaves}
 use Rattle.newt_host.specs.Outside.{Outside, Touches}
 use Rattle.newt_pagebook.specs.Book.{Numbers, IsOpenFor}
@@ -29,6 +29,7 @@ module _ {B : Type 0} (place : B → ℕ) (numbers : B → Numbers) (stands : Bo
     pub same_numbers : numbers new.book ≡ numbers old.book
     pub catalog : new.catalog ≡ old.catalog
     pub moment : after.now ≡ before.now
+    pub programs_nothing : after.programmed (place old.book) ≤ before.programmed (place old.book)
     pub alone : Touches (place old.book) before after
 
   -- What a change promises of the store, at a minute: what it makes of the store, or the first of its refusals, after which it is as it was; and what a crash

@@ -43,11 +43,11 @@ module _ (w : World) (u blocks : ℕ) (s : Store) (name : List ℕ) (p : Soup) (
   pub uid-is : new_uid w u name ≡ p.next_uid
   uid-is = ap (λ (o : Option Soup). unwrap_or (option_map (λ p. p.next_uid) o) 0) (soup-named w u blocks s name h ∙ f)
 
-  add-checks : first_of (checks_now w (command.Add u name g)) ≡ first_of (add_tests blocks w.minute name g s p)
+  pub add-checks : first_of (checks_now w (command.Add u name g)) ≡ first_of (add_tests blocks w.minute name g s p)
   unfolding checks changed
   add-checks = all-pass w u blocks s name p (graph-tests g (no_more_ids w u name ∷ full w u (command.Add u name g) ∷ [])) h f ∙ tests-are (command.Add u name g) refl
 
-  addx-checks : first_of (checks_now w (command.Addx u name g)) ≡ first_of (add_tests blocks w.minute name g s p)
+  pub addx-checks : first_of (checks_now w (command.Addx u name g)) ≡ first_of (add_tests blocks w.minute name g s p)
   unfolding checks changed
   addx-checks = all-pass w u blocks s name p (graph-tests g (no_more_ids w u name ∷ full w u (command.Addx u name g) ∷ [])) h f ∙ tests-are (command.Addx u name g) refl
 
@@ -70,7 +70,7 @@ module _ (w : World) (u blocks : ℕ) (s : Store) (name : List ℕ) (p : Soup) (
 -- ---- to the default store
 
 module _ (w : World) (u blocks : ℕ) (s : Store) (name : List ℕ) (p : Soup) (g : RawGraph) (d : default_unit w ≡ u) (h : OnUnit w u blocks s) (f : soup_named name s ≡ Some p) where
-  addu-checks : first_of (checks_now w (command.Addu name g)) ≡ first_of (add_tests blocks w.minute name g s p)
+  pub addu-checks : first_of (checks_now w (command.Addu name g)) ≡ first_of (add_tests blocks w.minute name g s p)
   unfolding checks changed
   addu-checks =
       ap (λ v. first_of (not_mounted w v ∷ no_soup w v name ∷ graph-tests g (no_more_ids w v name ∷ full w v (command.Addu name g) ∷ []))) d

@@ -87,11 +87,11 @@ module _ (w : World) (u blocks : ℕ) (s : Store) (name : List ℕ) (p : Soup) (
 
     -- ---- copy
 
-    copied : changed w (command.Copy u name uid v target) ≡ with_added w v target e.graph
+    pub copied : changed w (command.Copy u name uid v target) ≡ with_added w v target e.graph
     unfolding changed
     copied = ap (copy_to w v target) there
 
-    copy-checks : first_of (checks_now w (command.Copy u name uid v target)) ≡ first_of (room_tests other w.minute target e.graph t q)
+    pub copy-checks : first_of (checks_now w (command.Copy u name uid v target)) ≡ first_of (room_tests other w.minute target e.graph t q)
     unfolding checks
     copy-checks =
         both-pass (drop 3 (checks_now w (command.Copy u name uid v target))) ∙ passes (drop 4 (checks_now w (command.Copy u name uid v target)))
@@ -113,11 +113,11 @@ module _ (w : World) (u blocks : ℕ) (s : Store) (name : List ℕ) (p : Soup) (
     abbrev pub moved_world : World
     moved_world = change_store (with_added w v target e.graph) u (change_soup name (remove_entry uid))
 
-    moved : changed w (command.Move u name uid v target) ≡ moved_world
+    pub moved : changed w (command.Move u name uid v target) ≡ moved_world
     unfolding changed
     moved = ap (λ y. change_store y u (change_soup name (remove_entry uid))) (ap (copy_to w v target) there)
 
-    ids-first : (n : ℕ) → (full w v (command.Move u name uid v target)).1 ≡ nat_lt (cap other) n → first_of (checks_now w (command.Move u name uid v target))
+    pub ids-first : (n : ℕ) → (full w v (command.Move u name uid v target)).1 ≡ nat_lt (cap other) n → first_of (checks_now w (command.Move u name uid v target))
         ≡ first_of ((Ids, q.next_uid == 536_870_911) ∷ (Full, nat_lt (cap other) n) ∷ [])
     unfolding checks
     ids-first n is =
@@ -134,7 +134,7 @@ module _ (w : World) (u blocks : ℕ) (s : Store) (name : List ℕ) (p : Soup) (
 
     -- between two units
     module _ (differ : v ≡ u → ⊥) where
-      full-there : (full w v (command.Move u name uid v target)).1 ≡ nat_lt (cap other) (cost (change_soup target (add_entry w.minute e.graph) t))
+      pub full-there : (full w v (command.Move u name uid v target)).1 ≡ nat_lt (cap other) (cost (change_soup target (add_entry w.minute e.graph) t))
       full-there = ap (λ y. on_some (device y v) (λ d. on_some (store_of d.media) (λ s. nat_lt (cap d.blocks) (cost s)))) moved
           ∙ full-is moved_world v other (change_soup target (add_entry w.minute e.graph) t)
           (on-other (with_added w v target e.graph) v u other _ (change_soup name (remove_entry uid)) differ (on-changed w v other t (change_soup target (add_entry w.minute e.graph)) k))
@@ -150,7 +150,7 @@ module _ (w : World) (u blocks : ℕ) (s : Store) (name : List ℕ) (p : Soup) (
 
 module _ (w : World) (u blocks : ℕ) (s : Store) (name : List ℕ) (p : Soup) (uid : ℕ) (h : OnUnit w u blocks s) (f : soup_named name s ≡ Some p)
     (target : List ℕ) (q : Soup) (g : soup_named target s ≡ Some q) (e : Entry) (here : entry_of uid p ≡ Some e) where
-  full-within : (full w u (command.Move u name uid u target)).1 ≡ nat_lt (cap blocks) (cost (moved_within w.minute name uid target e.graph s))
+  pub full-within : (full w u (command.Move u name uid u target)).1 ≡ nat_lt (cap blocks) (cost (moved_within w.minute name uid target e.graph s))
   full-within = ap (λ y. on_some (device y u) (λ d. on_some (store_of d.media) (λ s. nat_lt (cap d.blocks) (cost s)))) (moved w u blocks s name p uid h f u blocks s target q h g e here)
       ∙ full-is _ u blocks (moved_within w.minute name uid target e.graph s)
       (on-changed (with_added w u target e.graph) u blocks _ (change_soup name (remove_entry uid)) (on-changed w u blocks s (change_soup target (add_entry w.minute e.graph)) h))

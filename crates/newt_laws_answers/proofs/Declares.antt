@@ -50,7 +50,7 @@ module _ (w : World) (u : ℕ) (name : List ℕ) (parts : List PartWord) where
     index-not-found r h = refused w (command.Index u name parts) r (index-table ∙ first-found (soup_checks w u name) (drop 3 index-rows) r h)
 
 module _ (w : World) (u blocks : ℕ) (s : Store) (name : List ℕ) (p : Soup) (h : OnUnit w u blocks s) (f : soup_named name s ≡ Some p) where
-  has-is : (paths : List Path) → has_index w u name paths ≡ has_paths paths p
+  pub has-is : (paths : List Path) → has_index w u name paths ≡ has_paths paths p
   has-is paths = ap (λ o. on_some o (λ (q : Soup). list_any (λ spec. same_paths (paths_of spec) paths) q.specs)) (soup-named w u blocks s name h ∙ f)
 
   limit-is : (index_limit w u name).1 ≡ nat_le 16 (length p.specs)
@@ -77,7 +77,7 @@ module _ (w : World) (u blocks : ℕ) (s : Store) (name : List ℕ) (p : Soup) (
       index-real real = refused w (command.Index u name parts) BadKey (index-new ∙ first-true BadKey _ (drop 5 (index-rows w u name parts)) real)
 
       module _ (typed : (real_part parts).1 ≡ false) where
-        index-checks : first_of (checks_now w (command.Index u name parts)) ≡ first_of (index_tests blocks name (spec_of_words parts) s p)
+        pub index-checks : first_of (checks_now w (command.Index u name parts)) ≡ first_of (index_tests blocks name (spec_of_words parts) s p)
         index-checks =
             index-new ∙ first-false BadKey _ (drop 5 (index-rows w u name parts)) typed
             ∙ ap {A = Bool} (λ b. first_of ((Limit, b) ∷ full w u (command.Index u name parts) ∷ [])) limit-is
@@ -95,7 +95,7 @@ module _ (w : World) (u blocks : ℕ) (s : Store) (name : List ℕ) (p : Soup) (
   -- ---- an index is removed
 
   module _ (paths : List Path) where
-    unindex-there : first_of (checks_now w (command.Unindex u name paths)) ≡ first_of (no_index w u name paths ∷ [])
+    pub unindex-there : first_of (checks_now w (command.Unindex u name paths)) ≡ first_of (no_index w u name paths ∷ [])
     unfolding checks
     unindex-there = all-pass w u blocks s name p (no_index w u name paths ∷ []) h f
 
@@ -165,7 +165,7 @@ module _ (w : World) (u : ℕ) (name : List ℕ) (path : Path) (symbols : List (
           (on-changed w u blocks s (tagged name (record { path = path; symbols = symbols })) h)
 
       module _ (few : nat_lt 64 (length symbols) ≡ false) where
-        tags-checks : first_of (checks_now w (command.SetTags u name path symbols)) ≡ first_of (tags_tests blocks name (record { path = path; symbols = symbols }) s)
+        pub tags-checks : first_of (checks_now w (command.SetTags u name path symbols)) ≡ first_of (tags_tests blocks name (record { path = path; symbols = symbols }) s)
         tags-checks = tags-there ∙ first-false Limit _ (drop 4 tags-rows) few ∙ ap {A = Bool} (λ b. first_of ((Full, b) ∷ [])) tags-room
 
         pub set-tags-refused : (r : Refusal) → first_of (tags_tests blocks name (record { path = path; symbols = symbols }) s) ≡ Some r → answer_now w (command.SetTags u name path symbols) ≡ (w, Reply.refused r)

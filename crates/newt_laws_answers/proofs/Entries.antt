@@ -30,7 +30,7 @@ module _ (w : World) (u blocks : ℕ) (s : Store) (name : List ℕ) (p : Soup) (
   pub no-entry : entry_of uid p ≡ None → first_of (entry_checks w u name uid) ≡ Some NoEntry
   no-entry k = all-pass w u blocks s name p (no_entry w u name uid ∷ []) h f ∙ entry-fails k []
 
-  all-there : (e : Entry) → entry_of uid p ≡ Some e → first_of (entry_checks w u name uid) ≡ None
+  pub all-there : (e : Entry) → entry_of uid p ≡ Some e → first_of (entry_checks w u name uid) ≡ None
   all-there e k = all-pass w u blocks s name p (no_entry w u name uid ∷ []) h f ∙ entry-passes e k []
 
   pub get-done : (e : Entry) → entry_of uid p ≡ Some e → w.cursors ≡ replicate 32 None → answer_now w (command.Get u name uid) ≡ (w, Reply.timed e.time e.graph)

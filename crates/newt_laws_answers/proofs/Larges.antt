@@ -72,7 +72,7 @@ module _ (w : World) (u blocks : ℕ) (s : Store) (name : List ℕ) (p : Soup) (
 
   -- the node of one is reached
   module _ (node : ℕ) (is : large_at e.graph path ≡ Some node) (bytes : List ℕ) where
-    patch-checks : first_of (checks_now w (command.Vwrite u name uid path at bytes)) ≡ first_of (patch_tests node at (length bytes) e)
+    pub patch-checks : first_of (checks_now w (command.Vwrite u name uid path at bytes)) ≡ first_of (patch_tests node at (length bytes) e)
     patch-checks = vwrite-tests bytes ∙ first-false NoPath _ (drop 1 (large_tests path (at + length bytes) e.graph)) (ap is_none is)
         ∙ ap (λ o. first_of ((Range, nat_lt (length (bytes_of_large (option_and_then (slice_get e.graph.nodes) o))) (at + length bytes)) ∷ [])) is
 

@@ -14,3 +14,4 @@ pub mod Stores
 pub mod Resolves
 pub mod Faces
 pub mod Spoken
+pub mod Most

@@ -75,7 +75,7 @@ module _ (w : World) (u blocks : ℕ) (s : Store) (name : List ℕ) (p : Soup) (
   -- ---- change
 
   module _ (g : RawGraph) where
-    change-checks : first_of (checks_now w (command.Change u name uid g)) ≡ first_of (replace_tests blocks w.minute name uid g s)
+    pub change-checks : first_of (checks_now w (command.Change u name uid g)) ≡ first_of (replace_tests blocks w.minute name uid g s)
     unfolding checks changed
     change-checks =
         there-passes (drop 4 (checks_now w (command.Change u name uid g)))
@@ -129,12 +129,12 @@ module _ (w : World) (u blocks : ℕ) (s : Store) (name : List ℕ) (p : Soup) (
         framed = normal-frame raw new (set-frame path g e.graph raw (and-left (is_frame (object e.graph.nodes e.graph.root)) (within_limits e.graph)
             (and-left (is_frame (object e.graph.nodes e.graph.root) && within_limits e.graph) (nat_le (skeleton_length e.graph) 64_000) ok)) is) form
 
-        set-changed : changed w (command.Set u name uid path g) ≡ change_store w u (replaced w.minute name uid new)
+        pub set-changed : changed w (command.Set u name uid path g) ≡ change_store w u (replaced w.minute name uid new)
         unfolding changed
         set-changed = store-alike w u blocks s (change_soup name (change_entry uid (λ e. with_graph w.minute (graph_after_set path g e.graph) e))) (replaced w.minute name uid new) h
             (entry-alike name uid (λ e. with_graph w.minute (graph_after_set path g e.graph) e) (with_graph w.minute new) s p e f here (ap (λ x. with_graph w.minute x e) after))
 
-        set-checks : first_of (checks_now w (command.Set u name uid path g)) ≡ first_of (replace_tests blocks w.minute name uid new s)
+        pub set-checks : first_of (checks_now w (command.Set u name uid path g)) ≡ first_of (replace_tests blocks w.minute name uid new s)
         set-checks =
             set-tests ∙ path-passes
             ∙ first-false Limit _ (drop 2 (tests (Some e))) (ap (λ o. on_some o (λ x. not (is_within (normal_form x)))) is ∙ ap (λ o. not (is_within o)) form ∙ ap not within)

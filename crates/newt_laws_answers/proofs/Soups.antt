@@ -33,7 +33,7 @@ module _ (w : World) (u blocks : ℕ) (s : Store) (name : List ℕ) (h : OnUnit 
   unfolding changed
   room-is = full-is (change_store w u (make_soup name)) u blocks (make_soup name s) (on-changed w u blocks s (make_soup name) h)
 
-  soup-checks : first_of (checks_now w (command.Soup u name)) ≡ first_of (make_tests blocks name s)
+  pub soup-checks : first_of (checks_now w (command.Soup u name)) ≡ first_of (make_tests blocks name s)
   unfolding checks
   soup-checks =
       unit-passes w u blocks s (soup_exists w u name ∷ soup_limit w u ∷ no_more_soups w u ∷ full w u (command.Soup u name) ∷ []) h

@@ -82,7 +82,7 @@ now-on-cursors w c h = spoken-is w c (spoken c h)
 
 -- ---- all other commands, apart from the cursors
 
-checks-now-apart : (ks : List (Option Cursor)) (w : World) (c : Command) → uses_cursors c ≡ false → checks_now (with_cursors ks w) c ≡ checks_now w c
+pub checks-now-apart : (ks : List (Option Cursor)) (w : World) (c : Command) → uses_cursors c ≡ false → checks_now (with_cursors ks w) c ≡ checks_now w c
 checks-now-apart ks w c h = ap (tests_by (is_spoken c)) (checks-apart ks w c h)
 
 -- no cursor is open afterwards, if none was

@@ -1,6 +1,7 @@
 -- How many bytes a command programs at most, on a unit whose bank is not closed and has room for them. All of it is this project's own.
-use Rattle.std.specs.Prelude.{ℕ, ◌+◌, ◌*◌, ◌/◌, cond, ◌==◌, List, [], ◌∷◌, length, sum_by, Option, Some, None, is_some, if◌then◌else◌}
+use Rattle.std.specs.Prelude.{ℕ, ◌+◌, ◌*◌, ◌/◌, cond, ◌==◌, List, [], ◌∷◌, length, sum_by, Option, Some, None, is_some, option_map, if◌then◌else◌}
 use Rattle.newt_base.specs.Refusals.{Checks, first_of}
+use Rattle.newt_graph.specs.Graph.{RawGraph}
 use Rattle.newt_image.specs.Objects.{pages_for}
 use Rattle.newt_spec_store.specs.Cost.{directory_bytes, entry_pages}
 use Rattle.newt_spec_store.specs.Store.{Store, Soup, Entry}
@@ -44,24 +45,28 @@ abbrev pub next_in : Option Soup → ℕ
 next_in None = 0
 next_in (Some p) = p.next_uid
 
--- the entry that is new in a soup: it has the id that was the next (a word of these definitions)
-abbrev pub new_in : World → World → ℕ → List ℕ → List Entry
-new_in w v u s = listed (entry_in v u s (next_in (soup_in w u s)))
+-- the entry that is new in a soup, with this graph: it has the id that was the next, and the present minute (a word of these definitions)
+abbrev pub new_in : World → ℕ → List ℕ → RawGraph → Entry
+new_in w u s g = record { uid = next_in (soup_in w u s); time = w.minute; graph = g }
+
+-- the same with the graph of an entry, if there is one, as a list (a word of these definitions)
+abbrev pub copied_in : World → ℕ → List ℕ → Option Entry → List Entry
+copied_in w u s e = listed (option_map (λ e. new_in w u s e.graph) e)
 
 -- Which entries a command puts on a unit, that is appends or changes, and which it lets go there, that is changes or removes; none where it does not write the
 -- unit's store. `w` is the world before, `v` the one after. (this project's own)
 abbrev pub touched : World → World → Command → ℕ → Option (List Entry × List Entry)
 touched w v (command.Soup t s) u = if t == u then Some ([], []) else None
 touched w v (command.Drop t s) u = if t == u then Some ([], entries_of (soup_in w t s)) else None
-touched w v (command.Add t s g) u = if t == u then Some (new_in w v t s, []) else None
-touched w v (command.Addx t s g) u = if t == u then Some (new_in w v t s, []) else None
-touched w v (command.Addu s g) u = if default_unit w == u then Some (new_in w v u s, []) else None
+touched w v (command.Add t s g) u = if t == u then Some (new_in w t s g ∷ [], []) else None
+touched w v (command.Addx t s g) u = if t == u then Some (new_in w t s g ∷ [], []) else None
+touched w v (command.Addu s g) u = if default_unit w == u then Some (new_in w u s g ∷ [], []) else None
 touched w v (command.Set t s uid path g) u = if t == u then Some (listed (entry_in v t s uid), listed (entry_in w t s uid)) else None
 touched w v (command.Change t s uid g) u = if t == u then Some (listed (entry_in v t s uid), listed (entry_in w t s uid)) else None
 touched w v (command.Remove t s uid) u = if t == u then Some ([], listed (entry_in w t s uid)) else None
-touched w v (command.Copy t s uid x y) u = if x == u then Some (new_in w v x y, []) else None
+touched w v (command.Copy t s uid x y) u = if x == u then Some (copied_in w x y (entry_in w t s uid), []) else None
 touched w v (command.Move t s uid x y) u =
-    if x == u then Some (new_in w v x y, if t == u then listed (entry_in w t s uid) else []) else if t == u then Some ([], listed (entry_in w t s uid)) else None
+    if x == u then Some (copied_in w x y (entry_in w t s uid), if t == u then listed (entry_in w t s uid) else []) else if t == u then Some ([], listed (entry_in w t s uid)) else None
 touched w v (command.Index t s parts) u = if t == u then Some ([], []) else None
 touched w v (command.Unindex t s paths) u = if t == u then Some ([], []) else None
 touched w v (command.SetTags t s path symbols) u = if t == u then Some ([], []) else None

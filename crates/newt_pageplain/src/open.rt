@@ -29,6 +29,7 @@ fn read_payload<H: Host>(
     ensures bytes { IsTrue H.told → IfOk result (λ payload. payload.items ≡ take found.len (drop found.at (image journal.now.unit (H.outside host.old).now))) }
     ensures no_other { IsErrOf result BookFault.NotStore → ⊥ }
     ensures moment { (H.outside host.new).now ≡ (H.outside host.old).now }
+    ensures programs_nothing { (H.outside host.new).programmed journal.now.unit ≤ (H.outside host.old).programmed journal.now.unit }
     ensures alone { Touches journal.now.unit (H.outside host.old) (H.outside host.new) }
     ensures cause { IsErrOf result BookFault.Device → Rose ((H.outside host.old).dev_faults journal.now.unit) ((H.outside host.new).dev_faults journal.now.unit) }
 {
@@ -50,6 +51,7 @@ pub(crate) fn replay<H: Host>(
     ensures pages { IsTrue H.told → IfOk result (λ kept. pages_of (image journal.now.unit (H.outside host.old).now) ≡ Some (map_of kept.entries)) }
     ensures not_store { IsErrOf result BookFault.NotStore → IsTrue H.told → pages_of (image journal.now.unit (H.outside host.old).now) ≡ None }
     ensures moment { (H.outside host.new).now ≡ (H.outside host.old).now }
+    ensures programs_nothing { (H.outside host.new).programmed journal.now.unit ≤ (H.outside host.old).programmed journal.now.unit }
     ensures alone { Touches journal.now.unit (H.outside host.old) (H.outside host.new) }
     ensures cause { IsErrOf result BookFault.Device → Rose ((H.outside host.old).dev_faults journal.now.unit) ((H.outside host.new).dev_faults journal.now.unit) }
 {

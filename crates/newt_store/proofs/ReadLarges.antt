@@ -95,9 +95,13 @@ whole-pages sig e ids h =
 
 -- ---- calls that read, one after another
 
+-- the one programs nothing, and then the other
+pub programs-over : (unit unit' : ℕ) (old mid new : Outside) → unit' ≡ unit → mid.programmed unit ≤ old.programmed unit → new.programmed unit' ≤ mid.programmed unit' → new.programmed unit ≤ old.programmed unit
+programs-over unit unit' old mid new place one two = omega (arith, one, subst (λ (u : ℕ). new.programmed u ≤ mid.programmed u) place two)
+
 module _ {B : Type 0} (place : B → ℕ) (numbers : B → Numbers) (stands : Bool → B → Outside → Type 0) (told : Bool) (objects : Held) where
   pub reads-none : (book : B) (outside : Outside) → stands told book outside → AreKept told objects (numbers book) (place book) outside → ReadsOf place numbers stands told objects book book outside outside
-  reads-none book outside is kept = record { stood = is; kept = kept; same_place = refl; same_numbers = refl; moment = refl; alone = Touches-refl (place book) outside }
+  reads-none book outside is kept = record { stood = is; kept = kept; same_place = refl; same_numbers = refl; moment = refl; programs_nothing = omega arith; alone = Touches-refl (place book) outside }
 
   pub reads-more : (a b c : B) (before between after : Outside) → ReadsOf place numbers stands told objects a b before between → ReadsOf place numbers stands told objects b c between after
       → ReadsOf place numbers stands told objects a c before after
@@ -107,6 +111,7 @@ module _ {B : Type 0} (place : B → ℕ) (numbers : B → Numbers) (stands : Bo
     same_place = y.same_place ∙ x.same_place;
     same_numbers = y.same_numbers ∙ x.same_numbers;
     moment = y.moment ∙ x.moment;
+    programs_nothing = programs-over (place a) (place b) before between after x.same_place x.programs_nothing y.programs_nothing;
     alone = Touches-append x.alone (subst (λ (u : ℕ). Touches u between after) x.same_place y.alone);
   }
 

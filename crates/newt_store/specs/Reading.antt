@@ -1,5 +1,5 @@
 -- How an entry lies in objects where it is read. This project's own.
-use Rattle.std.specs.Prelude.{◌≡◌, ℕ, Bool, IsTrue, List, Some, map as list_map}
+use Rattle.std.specs.Prelude.{◌≡◌, ℕ, ◌≤◌, Bool, IsTrue, List, Some, map as list_map}
 use Rattle.std.specs.FinMap as map
 use Rattle.newt_host.specs.Outside.{Outside, Touches}
 use Rattle.newt_image.specs.Objects.{Objects}
@@ -35,4 +35,5 @@ module _ {B : Type 0} (place : B → ℕ) (numbers : B → Numbers) (stands : Bo
     pub same_place : place new ≡ place old
     pub same_numbers : numbers new ≡ numbers old
     pub moment : after.now ≡ before.now
+    pub programs_nothing : after.programmed (place old) ≤ before.programmed (place old)
     pub alone : Touches (place old) before after

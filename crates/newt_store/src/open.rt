@@ -43,6 +43,7 @@ fn scan_objects<P: PageBook, H: Host>(
     ensures stands { P.stands H.told book.new (H.outside host.new) }
     ensures same { (P.place book.new ≡ P.place book.old) × (P.numbers book.new ≡ P.numbers book.old) }
     ensures moment { (H.outside host.new).now ≡ (H.outside host.old).now }
+    ensures programs_nothing { (H.outside host.new).programmed (P.place book.old) ≤ (H.outside host.old).programmed (P.place book.old) }
     ensures alone { Touches (P.place book.old) (H.outside host.old) (H.outside host.new) }
     ensures cause { IsErrOf result BookFault.Device → Rose ((H.outside host.old).dev_faults (P.place book.old)) ((H.outside host.new).dev_faults (P.place book.old)) }
 {
@@ -70,6 +71,7 @@ fn read_object<P: PageBook, H: Host>(
     ensures kept { AreKept H.told objects.now (P.numbers book.new) (P.place book.new) (H.outside host.new) }
     ensures same { (P.place book.new ≡ P.place book.old) × (P.numbers book.new ≡ P.numbers book.old) }
     ensures moment { (H.outside host.new).now ≡ (H.outside host.old).now }
+    ensures programs_nothing { (H.outside host.new).programmed (P.place book.old) ≤ (H.outside host.old).programmed (P.place book.old) }
     ensures alone { Touches (P.place book.old) (H.outside host.old) (H.outside host.new) }
     ensures cause { IsErrOf result BookFault.Device → Rose ((H.outside host.old).dev_faults (P.place book.old)) ((H.outside host.new).dev_faults (P.place book.old)) }
 {
@@ -110,6 +112,7 @@ fn read_root<P: PageBook, H: Host>(
     ensures kept { AreKept H.told objects.now (P.numbers book.new) (P.place book.new) (H.outside host.new) }
     ensures same { (P.place book.new ≡ P.place book.old) × (P.numbers book.new ≡ P.numbers book.old) }
     ensures moment { (H.outside host.new).now ≡ (H.outside host.old).now }
+    ensures programs_nothing { (H.outside host.new).programmed (P.place book.old) ≤ (H.outside host.old).programmed (P.place book.old) }
     ensures alone { Touches (P.place book.old) (H.outside host.old) (H.outside host.new) }
     ensures cause { IsErrOf result BookFault.Device → Rose ((H.outside host.old).dev_faults (P.place book.old)) ((H.outside host.new).dev_faults (P.place book.old)) }
 {
@@ -153,6 +156,7 @@ fn read_record<P: PageBook, H: Host>(
     ensures kept { AreKept H.told objects.now (P.numbers book.new) (P.place book.new) (H.outside host.new) }
     ensures same { (P.place book.new ≡ P.place book.old) × (P.numbers book.new ≡ P.numbers book.old) }
     ensures moment { (H.outside host.new).now ≡ (H.outside host.old).now }
+    ensures programs_nothing { (H.outside host.new).programmed (P.place book.old) ≤ (H.outside host.old).programmed (P.place book.old) }
     ensures alone { Touches (P.place book.old) (H.outside host.old) (H.outside host.new) }
     ensures cause { IsErrOf result BookFault.Device → Rose ((H.outside host.old).dev_faults (P.place book.old)) ((H.outside host.new).dev_faults (P.place book.old)) }
 {
@@ -293,6 +297,7 @@ fn find_object<P: PageBook, H: Host>(
     ensures kept { AreKept H.told objects.now (P.numbers book.new) (P.place book.new) (H.outside host.new) }
     ensures same { (P.place book.new ≡ P.place book.old) × (P.numbers book.new ≡ P.numbers book.old) }
     ensures moment { (H.outside host.new).now ≡ (H.outside host.old).now }
+    ensures programs_nothing { (H.outside host.new).programmed (P.place book.old) ≤ (H.outside host.old).programmed (P.place book.old) }
     ensures alone { Touches (P.place book.old) (H.outside host.old) (H.outside host.new) }
     ensures cause { IsErrOf result BookFault.Device → Rose ((H.outside host.old).dev_faults (P.place book.old)) ((H.outside host.new).dev_faults (P.place book.old)) }
 {
@@ -338,6 +343,7 @@ fn find_records<P: PageBook, H: Host>(
     ensures kept { AreKept H.told objects.now (P.numbers book.new) (P.place book.new) (H.outside host.new) }
     ensures same { (P.place book.new ≡ P.place book.old) × (P.numbers book.new ≡ P.numbers book.old) }
     ensures moment { (H.outside host.new).now ≡ (H.outside host.old).now }
+    ensures programs_nothing { (H.outside host.new).programmed (P.place book.old) ≤ (H.outside host.old).programmed (P.place book.old) }
     ensures alone { Touches (P.place book.old) (H.outside host.old) (H.outside host.new) }
     ensures cause { IsErrOf result BookFault.Device → Rose ((H.outside host.old).dev_faults (P.place book.old)) ((H.outside host.new).dev_faults (P.place book.old)) }
 {
@@ -382,6 +388,7 @@ fn find_catalog<P: PageBook, H: Host>(
     ensures stands { P.stands H.told book.new (H.outside host.new) }
     ensures same { P.place book.new ≡ P.place book.old }
     ensures moment { (H.outside host.new).now ≡ (H.outside host.old).now }
+    ensures programs_nothing { (H.outside host.new).programmed (P.place book.old) ≤ (H.outside host.old).programmed (P.place book.old) }
     ensures alone { Touches (P.place book.old) (H.outside host.old) (H.outside host.new) }
     ensures cause { IsErrOf result BookFault.Device → Rose ((H.outside host.old).dev_faults (P.place book.old)) ((H.outside host.new).dev_faults (P.place book.old)) }
 {
@@ -415,6 +422,7 @@ pub(crate) fn open_catalog<P: PageBook, H: Host>(
     ensures found { IsTrue H.told → IfOk result (λ found. (s : PlainStore) × (readable (image unit (H.outside host.old).now) ≡ Some s) × StandsFor found.1 s (image unit (H.outside host.old).now)) }
     ensures not_store { IsErrOf result BookFault.NotStore → IsTrue H.told → readable (image unit (H.outside host.old).now) ≡ None }
     ensures moment { (H.outside host.new).now ≡ (H.outside host.old).now }
+    ensures programs_nothing { (H.outside host.new).programmed unit ≤ (H.outside host.old).programmed unit }
     ensures alone { Touches unit (H.outside host.old) (H.outside host.new) }
     ensures cause { IsErrOf result BookFault.Device → Rose ((H.outside host.old).dev_faults unit) ((H.outside host.new).dev_faults unit) }
 {

@@ -1,5 +1,5 @@
 // An entry is read, with its large binaries.
-ghost use Rattle.std.specs.Prelude.{IsTrue, ◌≡◌, ◌*◌, true, ℕ, List, Some, IsSome, IfOk, IfErr, length, map as list_map};
+ghost use Rattle.std.specs.Prelude.{IsTrue, ◌≡◌, ◌*◌, ◌≤◌, true, ℕ, List, Some, IsSome, IfOk, IfErr, length, map as list_map};
 ghost use Rattle.std.specs.List.{sum_by};
 ghost use Rattle.std.specs.FinMap as map;
 ghost use Rattle.newt_host.specs.Moments.{image};
@@ -43,6 +43,7 @@ pub(crate) fn read_row<P: PageBook, H: Host>(
     ensures kept { AreKept H.told objects.now (P.numbers book.new) (P.place book.new) (H.outside host.new) }
     ensures same { (P.place book.new ≡ P.place book.old) × (P.numbers book.new ≡ P.numbers book.old) }
     ensures moment { (H.outside host.new).now ≡ (H.outside host.old).now }
+    ensures programs_nothing { (H.outside host.new).programmed (P.place book.old) ≤ (H.outside host.old).programmed (P.place book.old) }
     ensures alone { Touches (P.place book.old) (H.outside host.old) (H.outside host.new) }
     ensures cause { IfErr result (StopsAt (P.place book.old) (H.outside host.old) (H.outside host.new)) }
 {
@@ -122,6 +123,7 @@ pub(crate) fn read_whole<P: PageBook, H: Host>(
     ensures kept { AreKept H.told objects.now (P.numbers book.new) (P.place book.new) (H.outside host.new) }
     ensures same { (P.place book.new ≡ P.place book.old) × (P.numbers book.new ≡ P.numbers book.old) }
     ensures moment { (H.outside host.new).now ≡ (H.outside host.old).now }
+    ensures programs_nothing { (H.outside host.new).programmed (P.place book.old) ≤ (H.outside host.old).programmed (P.place book.old) }
     ensures alone { Touches (P.place book.old) (H.outside host.old) (H.outside host.new) }
     ensures cause { IfErr result (StopsAt (P.place book.old) (H.outside host.old) (H.outside host.new)) }
 {

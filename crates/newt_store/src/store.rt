@@ -153,6 +153,7 @@ impl<P: PageBook> Store<P> {
         ensures sound { IsSound H.told self.new.catalog (P.numbers self.new.book) (P.place self.new.book) (H.outside host.new) }
         ensures same { (P.place self.new.book ≡ P.place self.old.book) × (P.numbers self.new.book ≡ P.numbers self.old.book) × (self.new.catalog ≡ self.old.catalog) }
         ensures moment { (H.outside host.new).now ≡ (H.outside host.old).now }
+        ensures programs_nothing { (H.outside host.new).programmed (P.place self.old.book) ≤ (H.outside host.old).programmed (P.place self.old.book) }
         ensures alone { Touches (P.place self.old.book) (H.outside host.old) (H.outside host.new) }
         ensures costs { IsTrue H.told → (s : PlainStore) → StandsFor self.old.catalog s (image (P.place self.old.book) (H.outside host.old).now) → Spends (P.place self.old.book) 0 (512 * pages_of_entry (entry_in soup uid s)) (H.outside host.old) (H.outside host.new) }
         ensures cause { IfErr result (StopsAt (P.place self.old.book) (H.outside host.old) (H.outside host.new)) }

@@ -1,39 +1,27 @@
 -- A command is answered by what a card does; the command `format`.
-use Rattle.std.proofs.Common.{◌≡◌, refl, ap, sym, ◌∙◌, subst, ℕ, List, [], true, Option, Some, None, replicate, option_map, option_and_then, false, nat_le, ◌==◌}
+use Rattle.std.proofs.Common.{◌≡◌, refl, ap, sym, ◌∙◌, subst, ℕ, List, true, Option, Some, None, replicate, option_map, option_and_then, false, nat_le}
 use Rattle.std.specs.Prelude.{Result, Ok, Err, OnOk, IfErr, is_some}
-use Rattle.std.specs.Bool.{⊤}
 use Rattle.newt_base.specs.Refusals.{Checks, first_of}
 use Rattle.newt_base.specs.declared.Refusal.{Refusal}
-use Rattle.newt_graph.specs.Graph.{RawGraph}
-use Rattle.newt_spec_store.specs.Store.{Store, Soup, Entry, soup_named, entry_of, make_soup, drop_soup, change_soup, add_entry, remove_entry}
+use Rattle.newt_spec_store.specs.Store.{Store}
 use Rattle.newt_spec_world.specs.declared.command.Command.{Command}
 use Rattle.newt_spec_world.specs.declared.command.Command.TheVariants as command
 use Rattle.newt_spec_world.specs.Reply.{Reply}
-use Rattle.newt_spec_world.specs.World.{World, Device, one, store_of, default_unit, store_on_unit, change_store}
+use Rattle.newt_spec_world.specs.World.{World, Device, one, store_of, store_on_unit, change_store}
 use Rattle.newt_laws_answers.specs.Spoken.{answer_now}
-use Rattle.newt_laws_answers.specs.Tests.{make_tests, add_tests, room_tests, with_added, entry_checks, formatted}
+use Rattle.newt_laws_answers.specs.Tests.{formatted}
 use Rattle.newt_laws_answers.specs.There.{OnUnit, IsReady}
 use Rattle.newt_laws_answers.proofs.Units.{on-changed, is-there}
-use Rattle.newt_laws_answers.proofs.Soups.{soup-done, soup-refused, drop-done}
-use Rattle.newt_laws_answers.proofs.Adds.{add-done, add-refused, addx-done, addx-refused, addu-done, addu-refused}
-use Rattle.newt_base.specs.Names.{equal_text}
-use Rattle.newt_spec_store.specs.Valid.{well_formed, valid_entry, valid_soup}
-use Rattle.newt_laws_images.proofs.Stores.{is-store, is-soup}
-use Rattle.newt_laws.proofs.Soups.{found-good}
 use Rattle.newt_spec_graph.proofs.Lists.{both-ways}
 use Rattle.newt_spec_world.specs.First.{media_of}
 use Rattle.newt_spec_world.specs.Changed.{new_store}
 use Rattle.newt_laws.proofs.Units.{device-same}
 use Rattle.newt_laws_answers.proofs.Stores.{format-has-store, format-done}
-use Rattle.newt_laws_answers.proofs.Copies.{graph-passes, copy-done, copy-refused, copy-no-entry}
-use Rattle.newt_laws_answers.proofs.Entries.{remove-done, no-entry, get-done, getx-done, get-refused, getx-refused, alias-done}
 use Rattle.newt_cardstore.specs.declared.fault.Fault.{Fault}
 use Rattle.newt_cardstore.specs.declared.fault.Fault.TheVariants.{Refused, Stop}
-use Rattle.newt_base.specs.declared.Refusal.TheVariants.{Entry as NoEntry, Store as HasStore}
-use Rattle.newt_cardstore.specs.declared.card.Entry.{Entry as Shown}
-use Rattle.newt_units.specs.Answers.{Answers}
-use Rattle.newt_cardstore.specs.Cards.{ReadsEntry, soup_of, entry_at, entry_said}
+use Rattle.newt_base.specs.declared.Refusal.TheVariants.{Store as HasStore}
 use Rattle.newt_cardstore.specs.Faults.{Does, RefusesBy, IsEnd}
+use Rattle.newt_units.specs.Answers.{Answers}
 
 -- refused before anything is done
 pub refuses : {T : Type 0} (w : World) (c : Command) (reply : T → Reply) (checks known : Checks) → known ≡ checks → ((r : Refusal) → first_of checks ≡ Some r → answer_now w c ≡ (w, Reply.refused r))

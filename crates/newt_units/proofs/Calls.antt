@@ -1,11 +1,12 @@
 -- A call on the card of one unit.
 use Rattle.std.proofs.Common.{arith, ◌≡◌, refl, ap, sym, ◌∙◌, subst, ℕ, ◌<◌, ◌≤◌, List, ◌⊎◌, inl, inr, Bool, true, IsTrue, Option, Some, None, length, get_or}
-use Rattle.std.specs.Prelude.{Result, Ok, Err, IfErr, slice_get, is_some}
+use Rattle.std.specs.Prelude.{Result, Ok, Err, OnOk, IfErr, slice_get, is_some}
 use Rattle.std.specs.Vec.{with_item}
 use Rattle.std.proofs.lemmas.Option.{slice_get_read, slice_get_within}
 use Rattle.newt_base.specs.Refusals.{Checks, first_of}
 use Rattle.newt_host.specs.Moments.{changes, image, Always, Leaves}
 use Rattle.newt_host.specs.Outside.{Outside, Touches, Rose}
+use Rattle.newt_pagebook.specs.Book.{IsOpenFor}
 use Rattle.newt_pagebook.specs.Stops.{StopsAt}
 use Rattle.newt_pagebook.specs.declared.book.Stop.{Stop as Ends}
 use Rattle.newt_pagebook.specs.declared.book.Stop.TheVariants as stops
@@ -19,10 +20,11 @@ use Rattle.newt_laws_answers.proofs.Worlds.{world-alike, device-stays}
 use Rattle.newt_laws_answers.proofs.Units.{is-there}
 use Rattle.newt_cardstore.specs.declared.fault.Fault.{Fault}
 use Rattle.newt_cardstore.specs.declared.fault.Fault.TheVariants.{Refused, Stop}
+use Rattle.newt_cardstore.specs.Bounds.{CostsOn, IsOpenOrSame, ProgramsAtMost}
+use Rattle.newt_cardstore.specs.Cards.{LeavesEither, OthersSame}
+use Rattle.newt_cardstore.specs.Faults.{Does, FaultsAt, GoesOn, HasFaultCause, HasStopCause, IsRefused, OnDevices}
 use Rattle.newt_units.specs.declared.units.Slot.{Slot}
 use Rattle.newt_units.specs.declared.units.Units.{Units}
-use Rattle.newt_cardstore.specs.Cards.{LeavesEither, OthersSame}
-use Rattle.newt_cardstore.specs.Faults.{Does, FaultsAt, HasFaultCause, HasStopCause, OnDevices}
 use Rattle.newt_units.specs.Stands.{card_of, mounted_in, world_of, Stands}
 use Rattle.newt_units.proofs.Slots.{Replaced, stands-replaced, card-was, marks}
 use Rattle.newt_units.specs.Stands.{Eight}
@@ -93,6 +95,21 @@ on-devices {u} {o} {p} t = record {
     go j (inl e) = subst (λ k. o.dev_faults k ≤ p.dev_faults k) (sym e) t.faults_later
     go j (inr e) = let k = t.dev_faults j e in omega (arith, k)
 
+-- where its own unit is programmed no more, none is
+pub programs-no-more : {u : ℕ} {o p : Outside} → Touches u o p → p.programmed u ≤ o.programmed u → (j : ℕ) → p.programmed j ≤ o.programmed j
+programs-no-more {u} {o} {p} t less j = go (same-or-not j u)
+  where
+    go : (j ≡ u) ⊎ (j ≡ u → ⊥) → p.programmed j ≤ o.programmed j
+    go (inl e) = subst (λ k. p.programmed k ≤ o.programmed k) (sym e) less
+    go (inr e) = let k = t.programmed j e in omega (arith, k)
+
+-- a change leaves a bank that is not closed, and a refusal leaves the unit
+pub open-or-same : {T : Type 0} (u : ℕ) (o p : Outside) (result : Result T Fault) → OnOk result (IsOpenFor 0 (image u p.now)) → (IsRefused result → p.now ≡ o.now)
+    → GoesOn result → IsOpenOrSame u o.now p.now
+open-or-same u o p (Ok x) changed refused goes = inl changed
+open-or-same u o p (Err (Refused refusal)) changed refused goes = inr (ap (changes u) (refused tt))
+open-or-same u o p (Err (Stop stop)) changed refused goes = absurd goes
+
 -- a call after which nothing has happened leaves the world
 pub call-still : {C : Type 0} {place : C → ℕ} (reads : List ℕ → Option Store) {told : Bool} {units : Units C} {u n : ℕ} {slot : Slot C} {card next : C} {o p : Outside}
     → Called place told units u n slot card next o p → p.now ≡ o.now → world_of reads (later units n slot next) p ≡ world_of reads units o
@@ -137,6 +154,22 @@ module _ {C : Type 0} {reads : List ℕ → Option Store} {place : C → ℕ} {s
       let k = on-known l units o e st u blocks a on in
       either-moments l units o e st u a b (tests (o.blocks u)) v p.now (is-there (world_of reads units o) u blocks a on) (λ h. makes (ap (λ m. first_of (tests m)) k.2 ∙ h))
       (subst (λ m. Leaves m (LeavesEither reads (tests (o.blocks m)) a b) o.now p.now) at (leaves (ap (λ m. reads (image m o.now)) at ∙ k.3)))
+
+  -- what the card programs, and what it leaves open
+  pub call-costs : {told : Bool} → IsTrue told → Eight o → Called place told units u n slot card next o p → Stands place stands told units o
+      → OthersSame (place card) o.now p.now
+      → {T : Type 0} (blocks : ℕ) (a : Store) (most : ℕ → ℕ) (result : Result T Fault)
+      → (reads (image (place card) o.now) ≡ Some a → ProgramsAtMost (most (o.blocks (place card))) (place card) o p)
+      → OnOk result (IsOpenFor 0 (image (place card) p.now)) → (IsRefused result → p.now ≡ o.now)
+      → OnUnit (world_of reads units o) u blocks a → CostsOn u (most blocks) result o p
+  call-costs {told} t e c s others blocks a most result bound changed refused on =
+      let at = place-is c s in
+      let k = on-known l units o e (subst (λ x. Stands place stands x units o) t s) u blocks a on in
+      subst (λ m. CostsOn u (most m) result o p) (sym k.2) (subst (λ m. CostsOn m (most (o.blocks m)) result o p) at (record {
+        bound = bound (ap (λ m. reads (image m o.now)) at ∙ k.3);
+        open_after = open-or-same (place card) o p result changed refused;
+        others = λ j h. (let same = c.touches.programmed j h in omega (arith, same), others j h);
+      }))
 
   -- what was read of the store of the unit
   pub call-reads : {told : Bool} → IsTrue told → Eight o → Called place told units u n slot card next o p → Stands place stands told units o

@@ -20,9 +20,9 @@ use Rattle.newt_laws_answers.specs.WorldAt.{device_at}
 use Rattle.newt_laws_answers.proofs.Worlds.{device-of, card_device}
 use Rattle.newt_laws_answers.proofs.Units.{is-mounted, soup-named}
 use Rattle.newt_laws_answers.proofs.Sigs.{soup-of-sig, named-name}
+use Rattle.newt_cardstore.specs.Cards.{IsSame, soup_of}
 use Rattle.newt_units.specs.declared.units.Slot.{Slot}
 use Rattle.newt_units.specs.declared.units.Units.{Units}
-use Rattle.newt_cardstore.specs.Cards.{IsSame, soup_of}
 use Rattle.newt_units.specs.Stands.{card_at, mounted_in, world_of, Stands, Eight}
 use Rattle.newt_units.specs.Looks.{attached_in, has_device, known_unit, known_soup, known_checks, known_both, known_ready, IsFree}
 

@@ -8,3 +8,4 @@ pub mod Shown
 pub mod Mounts
 pub mod Rows
 pub mod Resolving
+pub mod Costs

@@ -11,8 +11,8 @@ use Rattle.newt_spec_world.specs.World.{World, mounted_store}
 use Rattle.newt_laws.proofs.Settled.{find-passes}
 use Rattle.newt_laws_answers.specs.Faces.{faces, shows, first_showing}
 use Rattle.newt_laws_answers.proofs.Faces.{find-none, find-found}
-use Rattle.newt_units.specs.declared.units.Slot.{Slot}
 use Rattle.newt_cardstore.specs.Cards.{soup_of, entry_at}
+use Rattle.newt_units.specs.declared.units.Slot.{Slot}
 use Rattle.newt_units.specs.Faces.{card_face, card_faces}
 use Rattle.newt_units.specs.Spots.{spot_in, spot_reply}
 use Rattle.newt_units.specs.Stands.{card_at}

@@ -20,10 +20,10 @@ use Rattle.newt_base.specs.declared.Refusal.TheVariants.{Entry as NoEntry}
 use Rattle.newt_cardstore.specs.declared.fault.Fault.{Fault}
 use Rattle.newt_cardstore.specs.declared.fault.Fault.TheVariants.{Refused, Stop}
 use Rattle.newt_cardstore.specs.Cards.{entry_at}
+use Rattle.newt_cardstore.specs.Faults.{RefusesBy, IsEnd}
 use Rattle.newt_units.specs.Found.{HasSoup, HasEntry, FindsEntry}
 use Rattle.newt_units.specs.declared.units.Units.{Units}
 use Rattle.newt_units.specs.Answers.{Answers}
-use Rattle.newt_cardstore.specs.Faults.{RefusesBy, IsEnd}
 use Rattle.newt_units.specs.Looks.{known_unit, known_soup, known_checks, known_both, known_ready, IsFree}
 use Rattle.newt_units.specs.Stands.{card_at, mounted_in, world_of, Stands, Eight}
 use Rattle.newt_units.proofs.Known.{Laws, Plain, Found, on-known, card-known, mounted-known, unit-checks-are, checks-are, both-checks-are, ready-checks-are, ready-known, soup-found}

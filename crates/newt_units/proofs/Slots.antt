@@ -5,9 +5,9 @@ use Rattle.newt_host.specs.Moments.{changes, IsDurable, LeftBy, bytes_after}
 use Rattle.newt_host.specs.Outside.{Outside, SameCards}
 use Rattle.newt_spec_graph.proofs.Lists.{some-same, none-some, both-ways}
 use Rattle.newt_laws.proofs.Units.{same-or-not}
+use Rattle.newt_cardstore.specs.Cards.{IsSame}
 use Rattle.newt_units.specs.declared.units.Slot.{Slot}
 use Rattle.newt_units.specs.declared.units.Units.{Units}
-use Rattle.newt_cardstore.specs.Cards.{IsSame}
 use Rattle.newt_units.specs.Stands.{card_of, card_at, mounted_in, unmounted, Stands}
 
 -- ---- lists

@@ -18,9 +18,9 @@ use Rattle.newt_laws_answers.specs.WorldAt.{device_at, world_at}
 use Rattle.newt_laws_answers.proofs.Worlds.{device-here, device-stays, world-changed, world-alike}
 use Rattle.newt_cardstore.specs.declared.fault.Fault.{Fault}
 use Rattle.newt_cardstore.specs.declared.fault.Fault.TheVariants.{Refused, Stop}
-use Rattle.newt_units.specs.declared.units.Units.{Units}
 use Rattle.newt_cardstore.specs.Cards.{LeavesEither}
 use Rattle.newt_cardstore.specs.Faults.{Does}
+use Rattle.newt_units.specs.declared.units.Units.{Units}
 use Rattle.newt_units.specs.Stands.{mounted_in, world_of, Stands}
 use Rattle.newt_units.proofs.Slots.{Replaced, marks}
 use Rattle.newt_units.specs.Stands.{Eight}

@@ -6,9 +6,9 @@ use Rattle.newt_pagebook.specs.declared.book.Stop.TheVariants as stops
 use Rattle.newt_spec_store.specs.Store.{Store}
 use Rattle.newt_spec_world.specs.First.{unit_numbers}
 use Rattle.newt_laws_answers.specs.Faces.{Face, shown_count, first_shown, first_showing}
-use Rattle.newt_units.specs.declared.units.Slot.{Slot}
 use Rattle.newt_cardstore.specs.declared.fault.Fault.{Fault}
 use Rattle.newt_cardstore.specs.declared.fault.Fault.TheVariants.{Refused, Stop as Ends}
+use Rattle.newt_units.specs.declared.units.Slot.{Slot}
 use Rattle.newt_units.specs.Stands.{card_at}
 
 module _ {C : Type 0} (soups : C → Store) where

@@ -3,9 +3,9 @@ use Rattle.std.specs.Prelude.{◌≡◌, ℕ, ◌≤◌, nat_lt, Bool, true, fal
 use Rattle.newt_base.specs.declared.Refusal.TheVariants.{Unit as NoUnit, Blocks, Mounted, Notmounted, Soup as NoSoup}
 use Rattle.newt_base.specs.Refusals.{Checks}
 use Rattle.newt_spec_store.specs.Store.{Store, soup_named}
-use Rattle.newt_units.specs.declared.units.Slot.{Slot}
 use Rattle.newt_cardstore.specs.declared.fault.Fault.{Fault}
 use Rattle.newt_cardstore.specs.Faults.{RefusesBy}
+use Rattle.newt_units.specs.declared.units.Slot.{Slot}
 use Rattle.newt_units.specs.Stands.{card_at, mounted_in}
 
 -- a unit has a device

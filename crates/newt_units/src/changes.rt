@@ -1,5 +1,5 @@
 //! Changes of one store that is mounted.
-ghost use Rattle.std.specs.Prelude.{◌≡◌, ℕ, true, IsTrue, List, length, Some, None, slice_get, ⊤, [], OnOk, IfOk, IfErr, ◌∷◌, ◌≤◌};
+ghost use Rattle.std.specs.Prelude.{◌≡◌, ℕ, true, IsTrue, List, length, Some, None, slice_get, ⊤, [], IfOk, IfErr, ◌∷◌, ◌≤◌};
 ghost use Rattle.newt_base.specs.Refusals.{first_of};
 ghost use Rattle.newt_graph.specs.declared.node.Node.TheVariants.{Large};
 ghost use Rattle.newt_host.specs.Moments.{Always};
@@ -15,10 +15,9 @@ ghost use Rattle.newt_cardstore.specs.Cards.{soup_of, entry_at, entry_said, Read
 ghost use Rattle.newt_cardstore.specs.Faults.{Does, GoesOn, HasFaultCause, HasStopCause, OnDevices};
 ghost use Rattle.newt_units.specs.Stands.{Stands, mounted_in, world_of};
 
-use newt_cardstore::{Card, Entry};
-use newt_cardstore::Fault;
 use crate::units::Units;
 use newt_base::{Name, Refusal, Sig, Uid};
+use newt_cardstore::{Card, Entry, Fault};
 use newt_graph::Graph;
 use newt_host::{Host, Unit};
 use newt_pagebook::Stop;

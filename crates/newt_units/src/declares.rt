@@ -1,5 +1,5 @@
 //! Changes of what the soups of a store that is mounted declare.
-ghost use Rattle.std.specs.Prelude.{◌≡◌, ℕ, true, IsTrue, ⊤, [], ◌∷◌, Some, None, IfErr};
+ghost use Rattle.std.specs.Prelude.{◌≡◌, ℕ, true, IsTrue, ⊤, [], Some, None, IfErr};
 ghost use Rattle.newt_base.specs.Refusals.{first_of};
 ghost use Rattle.newt_host.specs.Moments.{Always};
 ghost use Rattle.newt_spec_store.specs.Store.{Store as Plain, Soup, change_soup};

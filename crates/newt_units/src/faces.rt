@@ -1,13 +1,13 @@
 //! What all the stores that are mounted show.
-ghost use Rattle.std.specs.Prelude.{◌≡◌, true, map, IfOk};
+ghost use Rattle.std.specs.Prelude.{◌≡◌, map, IfOk};
 ghost use Rattle.newt_reply.specs.Said.{store_row};
 ghost use Rattle.newt_laws_answers.specs.Faces.{shows, shown_count, first_shown, first_showing, face_rows};
 ghost use Rattle.newt_units.specs.Faces.{card_face, card_faces};
 ghost use Rattle.newt_units.specs.Stands.{card_at};
 
-use newt_cardstore::Card;
 use crate::units::Units;
 use newt_base::Sig;
+use newt_cardstore::Card;
 use newt_host::Unit;
 use newt_reply::{StoreLine, StoreRows};
 use std::alloc::AllocError;

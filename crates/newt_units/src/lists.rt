@@ -7,15 +7,14 @@ ghost use Rattle.newt_spec_world.specs.Reply.{Reply};
 ghost use Rattle.newt_spec_world.specs.declared.command.Command.{Command};
 ghost use Rattle.newt_laws_answers.specs.Spoken.{answer_now};
 ghost use Rattle.newt_reply.specs.Said.{store_row, soup_row};
-ghost use Rattle.newt_units.specs.Answers.{Answers};
 ghost use Rattle.newt_cardstore.specs.Cards.{count_in, soup_of, soup_rows};
 ghost use Rattle.newt_cardstore.specs.Faults.{NoDevice};
+ghost use Rattle.newt_units.specs.Answers.{Answers};
 ghost use Rattle.newt_units.specs.Stands.{Eight, Stands, world_of};
 
-use newt_cardstore::Card;
-use newt_cardstore::Fault;
 use crate::units::Units;
 use newt_base::{Name, Refusal, Sig};
+use newt_cardstore::{Card, Fault};
 use newt_host::Unit;
 use newt_reply::{SoupLine, SoupRows, StoreRows};
 use std::alloc::AllocError;

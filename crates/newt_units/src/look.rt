@@ -4,15 +4,14 @@ ghost use Rattle.newt_spec_store.specs.Store.{Store as Plain};
 ghost use Rattle.newt_laws_answers.specs.There.{OnUnit};
 ghost use Rattle.newt_cardstore.specs.Cards.{entry_at};
 ghost use Rattle.newt_host.specs.Outside.{Outside};
-ghost use Rattle.newt_units.specs.Stands.{card_at, mounted_in, Stands, Eight, world_of};
 ghost use Rattle.newt_cardstore.specs.Faults.{IsRefusal};
+ghost use Rattle.newt_units.specs.Stands.{card_at, mounted_in, Stands, Eight, world_of};
 ghost use Rattle.newt_units.specs.Found.{FindsEntry};
 ghost use Rattle.newt_units.specs.Looks.{attached_in, known_soup, FindsUnit, LooksUp, LooksUpBoth};
 
-use newt_cardstore::Card;
-use newt_cardstore::Fault;
 use crate::units::Units;
 use newt_base::{Name, Refusal, Sig, Uid};
+use newt_cardstore::{Card, Fault};
 use newt_host::Unit;
 
 impl<C: Card> Units<C> {

@@ -8,16 +8,15 @@ ghost use Rattle.newt_laws_answers.specs.Answering.{Answering};
 ghost use Rattle.newt_laws_answers.specs.Bounds.{most_programmed};
 ghost use Rattle.newt_laws_answers.specs.Spoken.{answer_now};
 ghost use Rattle.newt_cardstore.specs.Bounds.{Costs};
+ghost use Rattle.newt_cardstore.specs.Faults.{GoesOn, HasFaultCause, IsRefusal, OnDevices};
 ghost use Rattle.newt_units.specs.Answers.{Answers};
 ghost use Rattle.newt_units.specs.Faces.{Admits, Opens, card_faces, default_after, with_card};
-ghost use Rattle.newt_cardstore.specs.Faults.{GoesOn, HasFaultCause, IsRefusal, OnDevices};
 ghost use Rattle.newt_units.specs.Looks.{attached_in, IsFree};
 ghost use Rattle.newt_units.specs.Stands.{Eight, Stands, mounted_in, world_of};
 
-use newt_cardstore::Card;
-use newt_cardstore::Fault;
 use crate::units::Units;
 use newt_base::{Name, Refusal, Sig};
+use newt_cardstore::{Card, Fault};
 use newt_host::{Host, Unit};
 
 /// The most stores that are mounted.

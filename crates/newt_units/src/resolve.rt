@@ -9,16 +9,15 @@ ghost use Rattle.newt_spec_world.specs.Answer.{or_nil};
 ghost use Rattle.newt_spec_world.specs.Reply.{Reply};
 ghost use Rattle.newt_spec_world.specs.declared.command.Command.{Command};
 ghost use Rattle.newt_laws_answers.specs.There.{OnUnit};
-ghost use Rattle.newt_units.specs.Answers.{Answers};
 ghost use Rattle.newt_cardstore.specs.Faults.{NoDevice};
+ghost use Rattle.newt_units.specs.Answers.{Answers};
 ghost use Rattle.newt_units.specs.Spots.{spot_in, spot_reply};
 ghost use Rattle.newt_units.specs.Stands.{Eight, Stands, world_of};
 
-use newt_cardstore::Card;
-use newt_cardstore::Fault;
 use crate::units::Units;
 use newt_alias::Alias;
 use newt_base::{Name, Refusal, Sig, Uid};
+use newt_cardstore::{Card, Fault};
 use newt_graph::Graph;
 use newt_host::Unit;
 use std::alloc::AllocError;

@@ -4,13 +4,12 @@ ghost use Rattle.newt_host.specs.Outside.{Outside};
 ghost use Rattle.newt_spec_world.specs.Reply.{Reply};
 ghost use Rattle.newt_spec_world.specs.declared.command.Command.{Command};
 ghost use Rattle.newt_laws_answers.specs.Spoken.{answer_now};
-ghost use Rattle.newt_units.specs.Answers.{Answers};
 ghost use Rattle.newt_cardstore.specs.Faults.{IsRefusal};
+ghost use Rattle.newt_units.specs.Answers.{Answers};
 ghost use Rattle.newt_units.specs.Stands.{Eight, Stands, world_of};
 
-use newt_cardstore::Card;
-use newt_cardstore::Fault;
 use crate::units::Units;
+use newt_cardstore::{Card, Fault};
 use newt_host::Unit;
 
 impl<C: Card> Units<C> {

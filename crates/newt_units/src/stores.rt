@@ -9,15 +9,14 @@ ghost use Rattle.newt_laws_answers.specs.Answering.{Answering};
 ghost use Rattle.newt_laws_answers.specs.Spoken.{answer_now};
 ghost use Rattle.newt_laws_answers.specs.Tests.{formatted};
 ghost use Rattle.newt_cardstore.specs.Bounds.{IsOpenOrSame};
-ghost use Rattle.newt_units.specs.Answers.{Answers};
 ghost use Rattle.newt_cardstore.specs.Faults.{GoesOn, HasFaultCause, IsEnd, OnDevices};
+ghost use Rattle.newt_units.specs.Answers.{Answers};
 ghost use Rattle.newt_units.specs.Looks.{FindsReady, IsFree};
 ghost use Rattle.newt_units.specs.Stands.{Stands, world_of};
 
-use newt_cardstore::Card;
-use newt_cardstore::Fault;
 use crate::units::Units;
 use newt_base::{Name, Refusal, Sig};
+use newt_cardstore::{Card, Fault};
 use newt_host::{Host, Unit};
 use newt_pagebook::{BookFault, Stop};
 

@@ -2,11 +2,13 @@
 use Rattle.std.proofs.Common.{◌≡◌, refl, ap, sym, ◌∙◌, ℕ, ◌+◌, ◌<◌, List, [], ◌∷◌, Bool, true, false, ◌&&◌, ◌==◌, cond, length, drop, Option, Some, None, option_map, option_and_then}
 use Rattle.std.specs.Prelude.{Result, Ok, Err, not, is_none, unwrap_or, filter_map, zip}
 use Rattle.std.specs.List.{list_all, cons_option}
+use Rattle.std.proofs.lemmas.List.{length-map}
 use Rattle.newt_base.specs.Names.{same_path}
 use Rattle.newt_base.specs.Refusals.{Checks, first_of}
 use Rattle.newt_base.specs.declared.Refusal.TheVariants.{Spec as BadSpec, Index as BadIndex, Key as BadKey}
 use Rattle.newt_graph.specs.Graph.{RawGraph}
 use Rattle.newt_spec_graph.proofs.Lists.{none-some}
+use Rattle.newt_spec_store.specs.Keys as keys
 use Rattle.newt_spec_store.specs.Keys.{IndexSpec, Path, paths_of, same_paths}
 use Rattle.newt_spec_query.specs.Hits.{Query}
 use Rattle.newt_spec_query.specs.Spec.{is_query, keys_fit, query_paths, spec_of}
@@ -17,7 +19,7 @@ use Rattle.newt_cursor.specs.declared.query.Query as code
 use Rattle.newt_cardstore.specs.declared.fault.Fault.{Fault}
 use Rattle.newt_cardstore.specs.declared.fault.Fault.TheVariants.{Refused, Stop}
 use Rattle.newt_keys.specs.declared.types.IndexPart.{IndexPart}
-use Rattle.newt_keys.specs.Seen.{declared_all}
+use Rattle.newt_keys.specs.Seen.{declared, declared_all}
 use Rattle.newt_host.specs.Outside.{Outside}
 use Rattle.newt_spec_store.specs.Store.{Store, Soup, soup_named}
 use Rattle.newt_spec_query.specs.Hits.{in_scope}
@@ -27,7 +29,6 @@ use Rattle.newt_spec_world.specs.World.{mounted_store, mounted_stores, on_unit}
 use Rattle.newt_laws_answers.specs.WorldAt.{device_at}
 use Rattle.newt_units.specs.declared.units.Units.{Units}
 use Rattle.newt_units.specs.Stands.{Stands, Eight, mounted_in, world_of}
-use Rattle.newt_units.proofs.Agree.{paths_seen as seen}
 use Rattle.newt_units.proofs.Known.{Laws, at-device}
 use Rattle.newt_units.proofs.Shown.{drop-step}
 use Rattle.newt_walk.proofs.Searching.{chosen-kept, chosen-twice}
@@ -35,9 +36,23 @@ use Rattle.newt_walk.proofs.Stores.{chosen-map}
 use Rattle.newt_walk.specs.Opening.{index_in}
 use Rattle.newt_walk.specs.Opening.{Binds, Indexes, bind_tests}
 
--- the paths of parts, seen one by one
+-- ---- the paths of parts, seen one by one
+
+abbrev path : keys.IndexPart → Path
+path p = p.path
+
+lengths : (ps : List IndexPart) → length (paths_of (declared_all ps)) ≡ length ps
+lengths ps = length-map (declared_all ps) path ∙ length-map ps declared
+
+both_seen : (ps : List IndexPart) (qs : List Path) → list_all (λ p. same_path p.0 p.1) (zip (paths_of (declared_all ps)) qs) ≡ list_all (λ p. same_path p.0.path p.1) (zip ps qs)
+both_seen [] qs = refl
+both_seen (p ∷ ps) [] = refl
+both_seen (p ∷ ps) (q ∷ qs) = ap (λ b. same_path p.path q && b) (both_seen ps qs)
+
 pub paths_seen : (ps : List IndexPart) (qs : List Path) → same_paths (paths_of (declared_all ps)) qs ≡ ((length ps == length qs) && list_all (λ p. same_path p.0.path p.1) (zip ps qs))
-paths_seen ps qs = seen ps qs
+paths_seen ps qs = λ i. (lengths ps i == length qs) && both_seen ps qs i
+
+-- ---- the tests
 
 pub binds-same : (xs ys : Checks) (p q : Query) → first_of xs ≡ first_of ys → p ≡ q → (r : Result code.Query Fault) → Binds xs p r → Binds ys q r
 binds-same xs ys p q e is (Ok query) h = (sym e ∙ h.0, h.1 ∙ is)

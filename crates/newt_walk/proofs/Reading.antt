@@ -40,12 +40,18 @@ cause-since o p q (Device u) a h = let x = a.dev_faults u in omega (arith, h)
 module _ {C : Type 0} {reads : List ℕ → Option Store} {place : C → ℕ} {stands : Bool → C → Outside → Type 0} {told : Bool} where
   -- nothing was read
   pub not-read : {units : Units C} {o : Outside} → Stands place stands told units o → AreRead reads place stands told units units o o
-  not-read {units} {o} s = record { stand = s; world = λ t. refl; moment = refl; alone = devices-not o }
+  not-read {units} {o} s = record { stand = s; world = λ t. refl; moment = refl; programs = λ t u. omega arith; alone = devices-not o }
 
   -- one call after another
   pub read-then : {units mid later : Units C} {o p q : Outside} → AreRead reads place stands told units mid o p → AreRead reads place stands told mid later p q
       → AreRead reads place stands told units later o q
-  read-then a b = record { stand = b.stand; world = λ t. b.world t ∙ a.world t; moment = b.moment ∙ a.moment; alone = devices-then a.alone b.alone }
+  read-then a b = record {
+    stand = b.stand;
+    world = λ t. b.world t ∙ a.world t;
+    moment = b.moment ∙ a.moment;
+    programs = λ t u. let x = a.programs t u in let y = b.programs t u in omega arith;
+    alone = devices-then a.alone b.alone;
+  }
 
 -- an error that was handed on has its cause
 pub handed : {T : Type 0} (o q : Outside) (stop : Stop) → HasStopCause stop o q → (r : Result T Stop) → (e : Stop) × (r ≡ Err e) × (e ≡ stop) → IfErr r (λ stop. HasStopCause stop o q)

@@ -12,12 +12,12 @@ ghost use Rattle.newt_walk.specs.Opening.{Binds, Indexes, bind_tests};
 
 use crate::declared::index_for;
 use newt_base::{Name, Refusal};
+use newt_cardstore::{Card, Fault};
 use newt_cursor::{Query, Scope};
 use newt_graph::Graph;
 use newt_keys::IndexSpec;
 use newt_pagebook::Stop;
 use newt_query::{BindFault, Shape, ShapeFault};
-use newt_cardstore::{Card, Fault};
 use newt_units::Units;
 use std::alloc::Global;
 

@@ -16,10 +16,10 @@ use crate::counting::count_hits;
 use crate::settling::settle;
 use crate::show::{Shown, Side, show};
 use newt_base::Refusal;
+use newt_cardstore::{Card, Fault};
 use newt_cursor::{Desk, DeskFault, Place};
 use newt_host::Host;
 use newt_pagebook::Stop;
-use newt_cardstore::{Card, Fault};
 use newt_units::Units;
 
 /// Shows a cursor.

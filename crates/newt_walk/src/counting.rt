@@ -10,10 +10,10 @@ ghost use Rattle.newt_walk.specs.World.{AreRead};
 use crate::keep::keeps;
 use crate::search::{beyond, outermost};
 use crate::ways::Way;
+use newt_cardstore::Card;
 use newt_cursor::Query;
 use newt_host::Host;
 use newt_pagebook::Stop;
-use newt_cardstore::Card;
 use newt_units::Units;
 
 /// How many hits a query has.

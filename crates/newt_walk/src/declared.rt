@@ -13,11 +13,11 @@ ghost use Rattle.newt_walk.specs.Opening.{index_in};
 
 use crate::present::in_scope;
 use newt_base::{Name, Sig};
+use newt_cardstore::Card;
 use newt_cursor::Scope;
 use newt_host::Unit;
 use newt_keys::{IndexPart, IndexSpec};
 use newt_path::Path;
-use newt_cardstore::Card;
 use newt_units::Units;
 
 /// How many units there are.

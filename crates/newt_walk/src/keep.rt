@@ -14,12 +14,12 @@ ghost use Rattle.newt_walk.specs.Searched.{keeps_in};
 ghost use Rattle.newt_walk.specs.World.{AreRead};
 
 use crate::present::table_on;
+use newt_cardstore::Card;
 use newt_cursor::Query;
 use newt_host::{Host, Unit};
 use newt_index::Spot;
 use newt_pagebook::Stop;
 use newt_pass::{is_kept, is_kept_unread};
-use newt_cardstore::Card;
 use newt_units::Units;
 use std::alloc::AllocError;
 

@@ -21,11 +21,11 @@ use crate::places::outermost;
 use crate::settling::settle;
 use crate::ways::Way;
 use newt_base::{Name, Refusal};
+use newt_cardstore::{Card, Fault};
 use newt_cursor::{Desk, DeskFault, Query, Scope};
 use newt_graph::Graph;
 use newt_host::{Host, Unit};
 use newt_pagebook::Stop;
-use newt_cardstore::{Card, Fault};
 use newt_units::Units;
 
 /// How many units there are.

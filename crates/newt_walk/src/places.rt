@@ -14,11 +14,11 @@ ghost use Rattle.newt_walk.specs.World.{AreRead};
 use crate::search;
 use crate::walk::{edge, walk};
 use crate::ways::Way;
+use newt_cardstore::Card;
 use newt_cursor::{Place, Query};
 use newt_host::Host;
 use newt_keys::Key;
 use newt_pagebook::Stop;
-use newt_cardstore::Card;
 use newt_units::Units;
 
 /// On the hit that a way meets first, else where the way ends.

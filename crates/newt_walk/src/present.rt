@@ -19,13 +19,13 @@ ghost use Rattle.newt_walk.specs.Present.{entry_of, identity, present_in, presen
 ghost use Rattle.newt_walk.specs.World.{AreRead};
 
 use newt_base::{Sig, Uid};
+use newt_cardstore::{Card, Entry};
 use newt_cursor::{Query, Scope};
 use newt_host::{Host, Unit};
 use newt_keys::{IndexSpec, Key};
 use newt_pagebook::Stop;
 use newt_pass::kept_key;
 use newt_tags::TagTable;
-use newt_cardstore::{Card, Entry};
 use newt_units::Units;
 use std::alloc::AllocError;
 

@@ -15,12 +15,12 @@ ghost use Rattle.newt_walk.specs.Ways.{met, beyond};
 use crate::present::{in_scope, index_of};
 use crate::ways::Way;
 use newt_base::Sig;
+use newt_cardstore::Card;
 use newt_cursor::Query;
 use newt_host::Unit;
 use newt_index::{Index, Spot};
 use newt_keys::{IndexSpec, Key};
 use newt_union::{Hit, Members};
-use newt_cardstore::Card;
 use newt_units::Units;
 use std::alloc::AllocError;
 

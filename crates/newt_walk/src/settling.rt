@@ -12,11 +12,11 @@ ghost use Rattle.newt_walk.specs.World.{AreRead, world_with};
 
 use crate::desks::standing;
 use crate::present::find_hit;
+use newt_cardstore::Card;
 use newt_cursor::Desk;
 use newt_host::Host;
 use newt_keys::Key;
 use newt_pagebook::Stop;
-use newt_cardstore::Card;
 use newt_units::Units;
 
 /// How many places for cursors there are.

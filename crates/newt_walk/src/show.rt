@@ -10,10 +10,10 @@ ghost use Rattle.newt_walk.specs.World.{AreRead, world_with};
 
 use crate::desks::standing;
 use crate::present::find_hit;
+use newt_cardstore::{Card, Entry};
 use newt_cursor::Desk;
 use newt_host::{Host, Unit};
 use newt_pagebook::Stop;
-use newt_cardstore::{Card, Entry};
 use newt_units::Units;
 
 /// What a cursor shows.

@@ -24,13 +24,13 @@ use crate::present::find_hit;
 use crate::show::Shown;
 use crate::ways::Way;
 use newt_base::{Name, Refusal, Sig, Uid};
+use newt_cardstore::{Card, Fault};
 use newt_cursor::{Desk, Place, Query};
 use newt_graph::Graph;
 use newt_host::{Host, Unit};
 use newt_index::Spot;
 use newt_keys::{Key, key_from};
 use newt_pagebook::Stop;
-use newt_cardstore::{Card, Fault};
 use newt_units::Units;
 use std::alloc::{AllocError, Global};
 

@@ -15,11 +15,11 @@ ghost use Rattle.newt_walk.specs.World.{AreRead};
 use crate::keep::keeps;
 use crate::search::beyond;
 use crate::ways::Way;
+use newt_cardstore::Card;
 use newt_cursor::{Place, Query};
 use newt_host::Host;
 use newt_index::Spot;
 use newt_pagebook::Stop;
-use newt_cardstore::Card;
 use newt_units::Units;
 
 /// From a hit of the index alone, or none, to the first that the query keeps, or to where the way ends. Each step leaves fewer hits before it, and there

@@ -52,6 +52,7 @@ returns-in-Ok g c =
       any_moment = λ tells s reads. leaves-either u c.args.change blocks c.args.now s img old new (size tells) (c.apply.ensures.changes.any_moment tells s (at tells s reads));
       bound = λ tells s reads. programs-most u c.args.change blocks c.args.now s (512 * pages_read c.args.change s + 512 * pages_of_entry (entry_moved c.args.change s)) (o c.args.host.now) (o c.apply.new.host) (size tells) (c.apply.ensures.costs tells s (at tells s reads));
       open_after = λ tells. e.open_after tells;
+      nothing_done = λ refused. absurd refused;
       alone = c.apply.ensures.changes.alone;
       cause = tt;
     }
@@ -93,6 +94,7 @@ returns-in-Err-Refused g c =
       any_moment = λ tells s reads. leaves-either u c.args.change blocks c.args.now s img old new (size tells) (c.apply.ensures.changes.any_moment tells s (at tells s reads));
       bound = λ tells s reads. programs-most u c.args.change blocks c.args.now s (512 * pages_read c.args.change s + 512 * pages_of_entry (entry_moved c.args.change s)) (o c.args.host.now) (o c.apply.new.host) (size tells) (c.apply.ensures.costs tells s (at tells s reads));
       open_after = λ tells. tt;
+      nothing_done = λ refused. same;
       alone = c.apply.ensures.changes.alone;
       cause = tt;
     }
@@ -119,6 +121,7 @@ returns-in-Err-Stop g c =
       any_moment = λ tells s reads. leaves-either u c.args.change blocks c.args.now s img old new (size tells) (c.apply.ensures.changes.any_moment tells s (at tells s reads));
       bound = λ tells s reads. programs-most u c.args.change blocks c.args.now s (512 * pages_read c.args.change s + 512 * pages_of_entry (entry_moved c.args.change s)) (o c.args.host.now) (o c.apply.new.host) (size tells) (c.apply.ensures.costs tells s (at tells s reads));
       open_after = λ tells. tt;
+      nothing_done = λ refused. absurd refused;
       alone = c.apply.ensures.changes.alone;
       cause = e.cause;
     }

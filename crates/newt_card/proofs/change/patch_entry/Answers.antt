@@ -23,6 +23,7 @@ returns-in-Ok g c =
           patch-leaves blocks 0 c.args.soup s p found c.args.uid x here c.args.node c.args.at c.args.bytes class large is u (o c.args.host.now).now (o c.change_store.new.host).now (c.change_store.ensures.any_moment tells s reads);
       bound = λ tells s p x class large reads found here is. subst (λ (k : ℕ). ProgramsAtMost k u (o c.args.host.now) (o c.change_store.new.host)) (patch-bound blocks 0 c.args.soup s p found c.args.uid x here c.args.node c.args.at c.args.bytes class large is) (c.change_store.ensures.bound tells s reads);
       open_after = λ tells. e.open_after tells;
+      nothing_done = λ refused. absurd refused;
       alone = c.change_store.ensures.alone;
       cause = tt;
     }
@@ -43,6 +44,7 @@ returns-in-Err g c =
           patch-leaves blocks 0 c.args.soup s p found c.args.uid x here c.args.node c.args.at c.args.bytes class large is u (o c.args.host.now).now (o c.change_store.new.host).now (c.change_store.ensures.any_moment tells s reads);
       bound = λ tells s p x class large reads found here is. subst (λ (k : ℕ). ProgramsAtMost k u (o c.args.host.now) (o c.change_store.new.host)) (patch-bound blocks 0 c.args.soup s p found c.args.uid x here c.args.node c.args.at c.args.bytes class large is) (c.change_store.ensures.bound tells s reads);
       open_after = λ tells. tt;
+      nothing_done = e.nothing_done;
       alone = c.change_store.ensures.alone;
       cause = e.cause;
     }

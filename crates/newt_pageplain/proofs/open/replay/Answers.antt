@@ -56,6 +56,7 @@ loop-pages-preserved g c =
       low = omega (arith, inv.low, inside.0, inside.1);
       high = inside.2;
       moment = read_moment ∙ inv.moment;
+      programs_nothing = omega (arith, inv.programs_nothing, c.walk.ensures.costs.programmed, c.read_payload.ensures.programs_nothing);
       alone = Touches-append inv.alone touched;
       stands = stands-on told j (o c.loop-pages.host) (o c.read_payload.new.host) touched read_moment inv.stands;
       place = λ tells. subst (λ (m : Moment). IsPlace j f.next (image u m)) inv.moment (if_some _ c.in_ok-found.field-0 f c.in-Some.is (c.in_ok-found.ensures.next tells));

@@ -14,6 +14,7 @@ invariant-loop-pages g l = record {
   low : first_place l.journal ≤ l.at;
   high : l.at ≤ l.journal.end;
   moment : (g.H.Host.outside l.host).now ≡ (g.H.Host.outside l.fn.host).now;
+  programs_nothing : (g.H.Host.outside l.host).programmed l.journal.unit ≤ (g.H.Host.outside l.fn.host).programmed l.journal.unit;
   alone : Touches l.journal.unit (g.H.Host.outside l.fn.host) (g.H.Host.outside l.host);
   stands : Stands g.H.Host.told l.journal (g.H.Host.outside l.host);
   place : IsTrue g.H.Host.told → IsPlace l.journal l.at (image l.journal.unit (g.H.Host.outside l.fn.host).now);

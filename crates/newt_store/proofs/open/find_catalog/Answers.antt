@@ -7,6 +7,7 @@ use Rattle.newt_entries.specs.Entry.{stream_graph}
 use Rattle.newt_shelf.specs.Names.{names_of}
 use Rattle.newt_shelf.specs.Places.{place_of}
 use Rattle.newt_store.specs.Opening.{OfObjects}
+use Rattle.newt_store.proofs.ReadLarges.{programs-over}
 use Rattle.newt_store.proofs.Opening.{same-image}
 use Rattle.newt_store.proofs.OpeningPlaces.{live-large, live-opened}
 use Rattle.newt_store.proofs.open.find_catalog.Goals as goal
@@ -54,3 +55,37 @@ returns-clause-found g c = λ tells.
     (subst (λ (b : List ℕ). OfObjects g.H.Host.told b (λ texts. IsFound stream_graph texts (place_of c.in_ok-finding.finding.places) (names_of c.in_ok-finding.finding.names) (bare_store c.in_ok-directory.directory))) second three.found)
     (is-few _ _ _ _ room c.live.ensures c.if-cap-live.false)
     (record { objects = c.in_ok-objects.objects; directory = c.in_ok-directory.directory; places = c.in_ok-finding.finding.places; names = c.in_ok-finding.finding.names; hint = 0 }) refl refl refl
+
+pub returns-in_err-directory-clause-programs_nothing : goal.returns-in_err-directory-clause-programs_nothing
+returns-in_err-directory-clause-programs_nothing g c =
+    let o = g.H.Host.outside in
+    let place = g.P.PageBook.place in
+    let one = c.in_ok-objects.ensures in
+    programs-over (place c.args.book.now) (place c.scan_objects.new.book) (o c.args.host.now) (o c.scan_objects.new.host) (o c.read_root.new.host) one.same.0 one.programs_nothing c.read_root.ensures.programs_nothing
+
+pub returns-in_err-finding-clause-programs_nothing : goal.returns-in_err-finding-clause-programs_nothing
+returns-in_err-finding-clause-programs_nothing g c =
+    let o = g.H.Host.outside in
+    let place = g.P.PageBook.place in
+    let one = c.in_ok-objects.ensures in
+    let two = c.in_ok-directory.ensures in
+    programs-over (place c.args.book.now) (place c.read_root.new.book) (o c.args.host.now) (o c.read_root.new.host) (o c.find_records.new.host) (two.same.0 ∙ one.same.0)
+    (programs-over (place c.args.book.now) (place c.scan_objects.new.book) (o c.args.host.now) (o c.scan_objects.new.host) (o c.read_root.new.host) one.same.0 one.programs_nothing two.programs_nothing) c.find_records.ensures.programs_nothing
+
+pub returns-then-cap-live-clause-programs_nothing : goal.returns-then-cap-live-clause-programs_nothing
+returns-then-cap-live-clause-programs_nothing g c =
+    let o = g.H.Host.outside in
+    let place = g.P.PageBook.place in
+    let one = c.in_ok-objects.ensures in
+    let two = c.in_ok-directory.ensures in
+    programs-over (place c.args.book.now) (place c.read_root.new.book) (o c.args.host.now) (o c.read_root.new.host) (o c.find_records.new.host) (two.same.0 ∙ one.same.0)
+    (programs-over (place c.args.book.now) (place c.scan_objects.new.book) (o c.args.host.now) (o c.scan_objects.new.host) (o c.read_root.new.host) one.same.0 one.programs_nothing two.programs_nothing) c.find_records.ensures.programs_nothing
+
+pub returns-clause-programs_nothing : goal.returns-clause-programs_nothing
+returns-clause-programs_nothing g c =
+    let o = g.H.Host.outside in
+    let place = g.P.PageBook.place in
+    let one = c.in_ok-objects.ensures in
+    let two = c.in_ok-directory.ensures in
+    programs-over (place c.args.book.now) (place c.read_root.new.book) (o c.args.host.now) (o c.read_root.new.host) (o c.find_records.new.host) (two.same.0 ∙ one.same.0)
+    (programs-over (place c.args.book.now) (place c.scan_objects.new.book) (o c.args.host.now) (o c.scan_objects.new.host) (o c.read_root.new.host) one.same.0 one.programs_nothing two.programs_nothing) c.find_records.ensures.programs_nothing

@@ -9,6 +9,7 @@ use Rattle.newt_shelf.specs.Names.{names_of}
 use Rattle.newt_shelf.specs.Places.{place_of}
 use Rattle.newt_store.specs.Opening.{OfObjects, owner_of, IsRoot, AreFoundTo}
 use Rattle.newt_store.proofs.Opening.{kept-none, kept-there, large-not-named, same-image}
+use Rattle.newt_store.proofs.ReadLarges.{programs-over}
 use Rattle.newt_store.proofs.OpeningPlaces.{sound-none, found-none, found-all}
 use Rattle.newt_store.proofs.open.find_records.Goals as goal
 
@@ -19,6 +20,7 @@ loop-id-init g c = record {
   same_place = refl;
   same_numbers = refl;
   moment = refl;
+  programs_nothing = omega arith;
   alone = Touches-refl (g.P.PageBook.place c.args.book.now) (g.H.Host.outside c.args.host.now);
   sound = sound-none (held c.args.objects.now) (place_of c.new-places.result) (names_of c.new-names.result) (owner_of c.no_owners-owners.result) c.new-places.ensures c.new-names.ensures c.no_owners-owners.ensures;
   found = λ tells texts h. found-none texts (bare_store c.args.directory.now) (place_of c.new-places.result) (names_of c.new-names.result) c.new-places.ensures;
@@ -52,6 +54,7 @@ loop-id-preserved g c =
       same_place = e.same.0 ∙ i.same_place;
       same_numbers = e.same.1 ∙ i.same_numbers;
       moment = e.moment ∙ i.moment;
+      programs_nothing = programs-over (g.P.PageBook.place c.args.book.now) (g.P.PageBook.place c.loop-id.book) (g.H.Host.outside c.args.host.now) (g.H.Host.outside c.loop-id.host) (g.H.Host.outside c.find_object.new.host) i.same_place i.programs_nothing e.programs_nothing;
       alone = Touches-append i.alone (subst (λ (u : ℕ). Touches u (g.H.Host.outside c.loop-id.host) (g.H.Host.outside c.find_object.new.host)) i.same_place e.alone);
       sound = e.sound;
       found = subst (λ (b : List ℕ). OfObjects g.H.Host.told b (AreFoundTo c.in-Some.id (place_of c.find_object.new.finding.places) (names_of c.find_object.new.finding.names) (bare_store c.args.directory.now)))
@@ -75,3 +78,9 @@ returns-clause-found g c = λ tells texts h.
     (c.next_after.ensures.none q c.in_default.is from))
     (λ id bytes at n even. c.are_owned.ensures.owned c.if-not-are_owned.false id
     (kept-there g.H.Host.told c.args.objects.now (g.P.PageBook.numbers c.args.book.now) (g.P.PageBook.place c.args.book.now) (g.H.Host.outside c.args.host.now) c.requires.kept tells texts h id bytes at) n even)
+
+pub returns-in_err-find_object-clause-programs_nothing : goal.returns-in_err-find_object-clause-programs_nothing
+returns-in_err-find_object-clause-programs_nothing g c =
+    let i = c.loop-id.invariant in
+    programs-over (g.P.PageBook.place c.args.book.now) (g.P.PageBook.place c.loop-id.book) (g.H.Host.outside c.args.host.now) (g.H.Host.outside c.loop-id.host) (g.H.Host.outside c.find_object.new.host) i.same_place i.programs_nothing
+    c.find_object.ensures.programs_nothing

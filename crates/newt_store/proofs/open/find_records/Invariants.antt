@@ -1,4 +1,4 @@
-use Rattle.std.proofs.Common.{◌≡◌, ◌-◌}
+use Rattle.std.proofs.Common.{◌≡◌, ◌-◌, ◌≤◌}
 use Rattle.newt_host.specs.Moments.{image}
 use Rattle.newt_host.specs.Outside.{Touches}
 use Rattle.newt_objects.specs.Held.{held}
@@ -18,6 +18,7 @@ invariant-loop-id g l =
       same_place : place l.book ≡ place l.fn.book;
       same_numbers : g.P.PageBook.numbers l.book ≡ g.P.PageBook.numbers l.fn.book;
       moment : (outside l.host).now ≡ (outside l.fn.host).now;
+      programs_nothing : (outside l.host).programmed (place l.fn.book) ≤ (outside l.fn.host).programmed (place l.fn.book);
       alone : Touches (place l.fn.book) (outside l.fn.host) (outside l.host);
       sound : AreSoundTo l.last (held l.objects) (place_of l.finding.places) (names_of l.finding.names) (owner_of l.finding.owners);
       found : OfObjects g.H.Host.told (image (place l.fn.book) (outside l.fn.host).now) (AreFoundTo l.last (place_of l.finding.places) (names_of l.finding.names) (bare_store l.directory));

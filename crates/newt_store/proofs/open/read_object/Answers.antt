@@ -1,3 +1,5 @@
+use Rattle.newt_objects.specs.Held.{held}
+use Rattle.newt_store.proofs.Rows.{only-fetched}
 use Rattle.newt_store.proofs.Opening.{kept-read, still-kept}
 use Rattle.newt_store.proofs.open.read_object.Goals as goal
 
@@ -19,3 +21,18 @@ pub returns-in-Err-Device-clause-kept : goal.returns-in-Err-Device-clause-kept
 returns-in-Err-Device-clause-kept g c =
     still-kept g.H.Host.told c.args.objects.now (g.P.PageBook.numbers c.args.book.now) (g.P.PageBook.numbers c.read.new.book) (g.P.PageBook.place c.args.book.now) (g.P.PageBook.place c.read.new.book)
     (g.H.Host.outside c.args.host.now) (g.H.Host.outside c.read.new.host) c.requires.kept c.read.ensures.same.0 c.read.ensures.same.1 c.read.ensures.moment
+
+pub returns-in-Ok-clause-programs_nothing : goal.returns-in-Ok-clause-programs_nothing
+returns-in-Ok-clause-programs_nothing g c =
+    let o = g.H.Host.outside in
+    only-fetched (held c.args.objects.now c.args.id) (g.P.PageBook.place c.args.book.now) (o c.args.host.now) (o c.read.new.host) c.requires.there c.read.ensures.costs
+
+pub returns-in-Err-Memory-clause-programs_nothing : goal.returns-in-Err-Memory-clause-programs_nothing
+returns-in-Err-Memory-clause-programs_nothing g c =
+    let o = g.H.Host.outside in
+    only-fetched (held c.args.objects.now c.args.id) (g.P.PageBook.place c.args.book.now) (o c.args.host.now) (o c.read.new.host) c.requires.there c.read.ensures.costs
+
+pub returns-in-Err-Device-clause-programs_nothing : goal.returns-in-Err-Device-clause-programs_nothing
+returns-in-Err-Device-clause-programs_nothing g c =
+    let o = g.H.Host.outside in
+    only-fetched (held c.args.objects.now c.args.id) (g.P.PageBook.place c.args.book.now) (o c.args.host.now) (o c.read.new.host) c.requires.there c.read.ensures.costs

@@ -1,5 +1,6 @@
-use Rattle.std.proofs.Common.{sym}
-use Rattle.newt_store.proofs.Rows.{read-is, read-costs}
+use Rattle.std.proofs.Common.{sym, ◌∙◌}
+use Rattle.newt_objects.specs.Held.{held}
+use Rattle.newt_store.proofs.Rows.{read-is, read-costs, long-there, only-fetched}
 use Rattle.newt_store.proofs.Writing.{kept-over}
 use Rattle.newt_store.proofs.read.read_large.Goals as goal
 
@@ -12,6 +13,8 @@ returns-in_err-bytes-clause-reads g c =
       same_place = c.read.ensures.same.0;
       same_numbers = c.read.ensures.same.1;
       moment = c.read.ensures.moment;
+      programs_nothing = only-fetched (held c.args.objects.now c.args.large.now.object) (g.P.PageBook.place c.args.book.now) (o c.args.host.now) (o c.read.new.host)
+          (long-there (held c.args.objects.now c.args.large.now.object) c.in-Some.length (sym c.length.ensures ∙ c.in-Some.is)) c.read.ensures.costs;
       alone = c.read.ensures.alone;
     }
 
@@ -29,6 +32,8 @@ returns-clause-reads g c =
       same_place = c.read.ensures.same.0;
       same_numbers = c.read.ensures.same.1;
       moment = c.read.ensures.moment;
+      programs_nothing = only-fetched (held c.args.objects.now c.args.large.now.object) (g.P.PageBook.place c.args.book.now) (o c.args.host.now) (o c.read.new.host)
+          (long-there (held c.args.objects.now c.args.large.now.object) c.in-Some.length (sym c.length.ensures ∙ c.in-Some.is)) c.read.ensures.costs;
       alone = c.read.ensures.alone;
     }
 

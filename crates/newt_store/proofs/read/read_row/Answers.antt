@@ -1,8 +1,9 @@
 use Rattle.std.proofs.Common.{◌≡◌, sym, ◌∙◌, ap}
+use Rattle.newt_objects.specs.Held.{held}
 use Rattle.newt_spec_store.specs.Lies.{record_read}
 use Rattle.newt_entries.specs.Entry.{stream_graph}
 use Rattle.newt_store.proofs.Writing.{kept-over}
-use Rattle.newt_store.proofs.Rows.{read-is, read-costs}
+use Rattle.newt_store.proofs.Rows.{read-is, read-costs, only-fetched}
 use Rattle.newt_store.proofs.read.read_row.Goals as goal
 
 pub returns-in_err-bytes-clause-costs : goal.returns-in_err-bytes-clause-costs
@@ -43,3 +44,18 @@ returns-in-Ok-clause-row g c = λ tells texts bytes holds at.
 
 pub returns-in-Ok-clause-any : goal.returns-in-Ok-clause-any
 returns-in-Ok-clause-any g c = (c.deref.result.now, c.in-Ok.ensures.found)
+
+pub returns-in_err-bytes-clause-programs_nothing : goal.returns-in_err-bytes-clause-programs_nothing
+returns-in_err-bytes-clause-programs_nothing g c =
+    let o = g.H.Host.outside in
+    only-fetched (held c.args.objects.now c.args.id) (g.P.PageBook.place c.args.book.now) (o c.args.host.now) (o c.read.new.host) c.requires.there c.read.ensures.costs
+
+pub returns-in-Ok-clause-programs_nothing : goal.returns-in-Ok-clause-programs_nothing
+returns-in-Ok-clause-programs_nothing g c =
+    let o = g.H.Host.outside in
+    only-fetched (held c.args.objects.now c.args.id) (g.P.PageBook.place c.args.book.now) (o c.args.host.now) (o c.read.new.host) c.requires.there c.read.ensures.costs
+
+pub returns-clause-programs_nothing : goal.returns-clause-programs_nothing
+returns-clause-programs_nothing g c =
+    let o = g.H.Host.outside in
+    only-fetched (held c.args.objects.now c.args.id) (g.P.PageBook.place c.args.book.now) (o c.args.host.now) (o c.read.new.host) c.requires.there c.read.ensures.costs

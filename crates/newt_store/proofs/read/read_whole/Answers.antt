@@ -4,7 +4,7 @@ use Rattle.newt_spec_store.specs.Store.{Entry}
 use Rattle.newt_entries.specs.declared.row.LargeAt.{LargeAt}
 use Rattle.newt_entries.specs.Entry.{row_at, filled}
 use Rattle.newt_store.specs.Reading.{HaveBytes}
-use Rattle.newt_store.proofs.ReadLarges.{its_bytes, have-bytes, entry-is, holds-on, whole-spent, row-spent}
+use Rattle.newt_store.proofs.ReadLarges.{its_bytes, have-bytes, entry-is, holds-on, whole-spent, row-spent, programs-over}
 use Rattle.newt_store.proofs.read.read_whole.Goals as goal
 
 pub returns-in_err-row-clause-costs : goal.returns-in_err-row-clause-costs
@@ -64,3 +64,21 @@ returns-clause-entry g c = λ tells texts sig e ids holds laid.
     let got = c.in_ok-larges.ensures.larges tells texts (its_bytes e ids) still have in
     let graph = c.in_ok-graph.ensures.value ∙ ap (filled (map_list row_at row.larges) row.skeleton) got in
     ◌∙◌ {A = Entry} (λ i. record { uid = row.uid; time = row.time; graph = graph i }) (entry-is texts c.args.id sig e ids laid row read)
+
+pub returns-in_err-larges-clause-programs_nothing : goal.returns-in_err-larges-clause-programs_nothing
+returns-in_err-larges-clause-programs_nothing g c =
+    let o = g.H.Host.outside in
+    let row = c.in_ok-row.ensures in
+    programs-over (g.P.PageBook.place c.args.book.now) (g.P.PageBook.place c.read_row.new.book) (o c.args.host.now) (o c.read_row.new.host) (o c.read_larges.new.host) row.same.0 row.programs_nothing c.in_err-larges.ensures.reads.programs_nothing
+
+pub returns-in_err-graph-clause-programs_nothing : goal.returns-in_err-graph-clause-programs_nothing
+returns-in_err-graph-clause-programs_nothing g c =
+    let o = g.H.Host.outside in
+    let row = c.in_ok-row.ensures in
+    programs-over (g.P.PageBook.place c.args.book.now) (g.P.PageBook.place c.read_row.new.book) (o c.args.host.now) (o c.read_row.new.host) (o c.read_larges.new.host) row.same.0 row.programs_nothing c.in_ok-larges.ensures.reads.programs_nothing
+
+pub returns-clause-programs_nothing : goal.returns-clause-programs_nothing
+returns-clause-programs_nothing g c =
+    let o = g.H.Host.outside in
+    let row = c.in_ok-row.ensures in
+    programs-over (g.P.PageBook.place c.args.book.now) (g.P.PageBook.place c.read_row.new.book) (o c.args.host.now) (o c.read_row.new.host) (o c.read_larges.new.host) row.same.0 row.programs_nothing c.in_ok-larges.ensures.reads.programs_nothing

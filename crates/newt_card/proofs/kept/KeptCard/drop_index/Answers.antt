@@ -25,6 +25,7 @@ returns-in-Ok g c =
       any_moment = λ tells s p reads found. copied-leaves p.name c.args.paths.now c.in-Ok.paths s u (o c.args.host.now).now (o c.drop_paths.new.host).now c.in-Ok.ensures (e.any_moment tells s p reads found);
       bound = λ tells s p reads found. subst (λ (x : List Path). ProgramsAtMost (change_bytes s (change_soup p.name (without_index x) s) [] []) u (o c.args.host.now) (o c.drop_paths.new.host)) c.in-Ok.ensures (e.bound tells s p reads found);
       open_after = e.open_after;
+      nothing_done = e.nothing_done;
       alone = e.alone;
       cause = e.cause;
     }
@@ -41,6 +42,7 @@ returns-in-Err g c =
       any_moment = λ tells s p reads found. leaves-index p.name c.args.paths.now s u (o c.args.host.now).now (g.met.P.PageBook.tells g.H.Host.told c.args.self.now.store.store.book (o c.args.host.now) c.requires.is_open.book tells).1 reads;
       bound = λ tells s p reads found. programs-none (change_bytes s (change_soup p.name (without_index c.args.paths.now) s) [] []) u (o c.args.host.now);
       open_after = λ tells. tt;
+      nothing_done = λ refused. refl;
       alone = Touches-refl u (o c.args.host.now);
       cause = tt;
     }

@@ -21,6 +21,7 @@ returns-in-Ok g c =
       any_moment = λ tells s p reads found. drop-leaves blocks 0 c.args.soup s p found u (o c.args.host.now).now (o c.change_store.new.host).now (c.change_store.ensures.any_moment tells s reads);
       bound = λ tells s p reads found. subst (λ (k : ℕ). ProgramsAtMost k u (o c.args.host.now) (o c.change_store.new.host)) (drop-bound blocks 0 c.args.soup s p found) (c.change_store.ensures.bound tells s reads);
       open_after = λ tells. e.open_after tells;
+      nothing_done = λ refused. absurd refused;
       alone = c.change_store.ensures.alone;
       cause = tt;
     }
@@ -39,6 +40,7 @@ returns-in-Err g c =
       any_moment = λ tells s p reads found. drop-leaves blocks 0 c.args.soup s p found u (o c.args.host.now).now (o c.change_store.new.host).now (c.change_store.ensures.any_moment tells s reads);
       bound = λ tells s p reads found. subst (λ (k : ℕ). ProgramsAtMost k u (o c.args.host.now) (o c.change_store.new.host)) (drop-bound blocks 0 c.args.soup s p found) (c.change_store.ensures.bound tells s reads);
       open_after = λ tells. tt;
+      nothing_done = e.nothing_done;
       alone = c.change_store.ensures.alone;
       cause = e.cause;
     }

@@ -26,6 +26,7 @@ returns-in-Ok g c =
       bound = λ tells s reads. subst (λ (x : List ℕ). ProgramsAtMost (unless (make_tests blocks x s) (change_bytes s (make_soup x s) [] [])) u (o c.args.host.now) (o c.change_store.new.host)) c.in-Ok.ensures
           (subst (λ (k : ℕ). ProgramsAtMost k u (o c.args.host.now) (o c.change_store.new.host)) (make-bound blocks 0 c.in-Ok.name s) (e.bound tells s reads));
       open_after = e.open_after;
+      nothing_done = e.nothing_done;
       alone = e.alone;
       cause = e.cause;
     }
@@ -43,6 +44,7 @@ returns-in-Err g c =
       any_moment = λ tells s reads. leaves-nothing blocks c.args.name.now s u (o c.args.host.now).now (g.met.P.PageBook.tells g.H.Host.told c.args.self.now.store.store.book (o c.args.host.now) c.requires.is_open.book tells).1 reads;
       bound = λ tells s reads. programs-none (unless (make_tests blocks c.args.name.now s) (change_bytes s (make_soup c.args.name.now s) [] [])) u (o c.args.host.now);
       open_after = λ tells. tt;
+      nothing_done = λ refused. refl;
       alone = Touches-refl u (o c.args.host.now);
       cause = tt;
     }

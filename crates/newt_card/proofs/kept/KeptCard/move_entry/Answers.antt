@@ -20,6 +20,7 @@ returns g c =
       any_moment = λ tells s p q x reads found here into. move-leaves blocks c.args.now c.args.soup s p found c.args.uid x here c.args.target q into u (o c.args.host.now).now (o c.change_store.new.host).now (e.any_moment tells s reads);
       bound = λ tells s p q x reads found here into. subst (λ (k : ℕ). ProgramsAtMost k u (o c.args.host.now) (o c.change_store.new.host)) (move-bound blocks c.args.now c.args.soup s p found c.args.uid x here c.args.target q into) (c.change_store.ensures.bound tells s reads);
       open_after = e.open_after;
+      nothing_done = e.nothing_done;
       alone = e.alone;
       cause = e.cause;
     }

@@ -27,6 +27,7 @@ returns-in-Ok g c =
       bound = λ tells s p x class large reads found here is.
           subst (λ (b : List ℕ). ProgramsAtMost (unless (patch_tests c.args.node c.args.at (length b) x) (patch_bytes (length b))) u (o c.args.host.now) (o c.patch_entry.new.host)) same (e.bound tells s p x class large reads found here is);
       open_after = e.open_after;
+      nothing_done = e.nothing_done;
       alone = e.alone;
       cause = e.cause;
     }
@@ -44,6 +45,7 @@ returns-in-Err g c =
           leaves-unpatched p.name c.args.uid c.args.node c.args.at c.args.bytes.now x s u (o c.args.host.now).now (g.met.P.PageBook.tells g.H.Host.told c.args.self.now.store.store.book (o c.args.host.now) c.requires.is_open.book tells).1 reads;
       bound = λ tells s p x class large reads found here is. programs-none (unless (patch_tests c.args.node c.args.at (length c.args.bytes.now) x) (patch_bytes (length c.args.bytes.now))) u (o c.args.host.now);
       open_after = λ tells. tt;
+      nothing_done = λ refused. refl;
       alone = Touches-refl u (o c.args.host.now);
       cause = tt;
     }

@@ -1,9 +1,11 @@
 -- A refusal is a reply, and leaves the world.
-use Rattle.std.proofs.Common.{refl, Err, subst}
+use Rattle.std.proofs.Common.{refl, sym, Err, subst}
 use Rattle.std.specs.Prelude.{Ok}
 use Rattle.newt_reply.specs.Said.{said}
+use Rattle.newt_reply.specs.declared.reply.Reply.{Reply}
 use Rattle.newt_reply.specs.declared.reply.Reply.TheVariants as reply
 use Rattle.newt_cardstore.specs.declared.fault.Fault.{Fault}
+use Rattle.newt_cardstore.specs.Faults.{GoesOn}
 use Rattle.newt_units.specs.Answers.{Answers}
 use Rattle.newt_walk.specs.World.{world_with}
 use Rattle.newt_engine.proofs.Refusing.{refusal_stays}
@@ -18,3 +20,18 @@ returns-in-Err-Refused-clause-refused g c t r is =
     let v = world_with g.C.Card.reads c.serve.new.self.units c.serve.new.self.desk (g.H.Host.outside c.serve.new.host) in
     refusal_stays w v c.args.command c.in-Err-Refused.refusal (Ok (reply.Refused c.in-Err-Refused.refusal))
     (subst (λ (f : Fault). Answers w v c.args.command said (Err f)) c.in-Err-Refused.field-0-is (c.in-Err-Refused.ensures.answered t)) refl
+
+pub returns-in-Ok-clause-bound : goal.returns-in-Ok-clause-bound
+returns-in-Ok-clause-bound g c t other = (c.serve.ensures.costs t).bound other
+
+pub returns-in-Ok-clause-open_after : goal.returns-in-Ok-clause-open_after
+returns-in-Ok-clause-open_after g c t = (c.in-Ok.ensures.costs t).open_after tt
+
+pub returns-in-Err-Refused-clause-bound : goal.returns-in-Err-Refused-clause-bound
+returns-in-Err-Refused-clause-bound g c t other = (c.serve.ensures.costs t).bound other
+
+pub returns-in-Err-Refused-clause-open_after : goal.returns-in-Err-Refused-clause-open_after
+returns-in-Err-Refused-clause-open_after g c t = (c.in-Err-Refused.ensures.costs t).open_after (subst (λ (f : Fault). GoesOn {T = Reply} (Err f)) (sym c.in-Err-Refused.field-0-is) tt)
+
+pub returns-in-Err-Stop-clause-bound : goal.returns-in-Err-Stop-clause-bound
+returns-in-Err-Stop-clause-bound g c t other = (c.serve.ensures.costs t).bound other

@@ -1,5 +1,5 @@
 -- A graph is shown, or becomes an entry or a part of one.
-use Rattle.std.proofs.Common.{◌≡◌, ℕ, refl, sym, subst}
+use Rattle.std.proofs.Common.{arith, ◌≡◌, ℕ, refl, sym, subst}
 use Rattle.std.proofs.lemmas.Result.{err_from_is_err_and}
 use Rattle.newt_reply.specs.Said.{said}
 use Rattle.newt_reply.specs.declared.reply.Reply.TheVariants as reply
@@ -8,6 +8,7 @@ use Rattle.newt_laws_answers.specs.Spoken.{answer_now}
 use Rattle.newt_laws_answers.proofs.Stores.{nsof-done, lit-done}
 use Rattle.newt_units.specs.Stands.{world_of}
 use Rattle.newt_engine.specs.Laws.{laws_of}
+use Rattle.newt_engine.proofs.Costing.{done_costs, fault_costs, still_costs}
 use Rattle.newt_engine.proofs.Handed.{handed, moments_same, quiet}
 use Rattle.newt_engine.proofs.world.World.obey.Goals as goal
 
@@ -49,3 +50,39 @@ returns-in_err-set-in-Set-clause-answered g c t = handed {T = Unit {0}} _ _ c.ar
 
 pub returns-in_err-change-in-Change-clause-answered : goal.returns-in_err-change-in-Change-clause-answered
 returns-in_err-change-in-Change-clause-answered g c t = handed {T = Unit {0}} _ _ c.args.command _ (λ _. plain.done) _ c.in-Change.is (c.in_err-change-in-Change.ensures.answered t) _ (err_from_is_err_and c.from_residual-in_err-change-in-Change.result c.from_residual-in_err-change-in-Change.ensures.1)
+
+pub returns-in-Nsof-clause-costs : goal.returns-in-Nsof-clause-costs
+returns-in-Nsof-clause-costs g c t = still_costs refl (λ u. omega arith)
+
+pub returns-in-Lit-clause-costs : goal.returns-in-Lit-clause-costs
+returns-in-Lit-clause-costs g c t = still_costs refl (λ u. omega arith)
+
+pub returns-in_err-add-in-Add-clause-costs : goal.returns-in_err-add-in-Add-clause-costs
+returns-in_err-add-in-Add-clause-costs g c t = fault_costs c.in-Add.is (c.in_err-add-in-Add.ensures.costs t) (err_from_is_err_and c.from_residual.result c.from_residual.ensures.1)
+
+pub returns-in_ok-add-in-Add-clause-costs : goal.returns-in_ok-add-in-Add-clause-costs
+returns-in_ok-add-in-Add-clause-costs g c t = done_costs c.in-Add.is (c.in_ok-add-in-Add.ensures.costs t)
+
+pub returns-in_err-add-in-Addx-clause-costs : goal.returns-in_err-add-in-Addx-clause-costs
+returns-in_err-add-in-Addx-clause-costs g c t = fault_costs c.in-Addx.is (c.in_err-add-in-Addx.ensures.costs_as_stream t) (err_from_is_err_and c.from_residual-in_err-add-in-Addx.result c.from_residual-in_err-add-in-Addx.ensures.1)
+
+pub returns-in_ok-add-in-Addx-clause-costs : goal.returns-in_ok-add-in-Addx-clause-costs
+returns-in_ok-add-in-Addx-clause-costs g c t = done_costs c.in-Addx.is (c.in_ok-add-in-Addx.ensures.costs_as_stream t)
+
+pub returns-in_err-unit-in-Addu-clause-costs : goal.returns-in_err-unit-in-Addu-clause-costs
+returns-in_err-unit-in-Addu-clause-costs g c t = fault_costs c.in-Addu.is (c.in_err-unit-in-Addu.ensures.costs t) (err_from_is_err_and c.from_residual-in_err-unit-in-Addu.result c.from_residual-in_err-unit-in-Addu.ensures.1)
+
+pub returns-in_ok-unit-in-Addu-clause-costs : goal.returns-in_ok-unit-in-Addu-clause-costs
+returns-in_ok-unit-in-Addu-clause-costs g c t = done_costs c.in-Addu.is (c.in_ok-unit-in-Addu.ensures.costs t)
+
+pub returns-in_err-set-in-Set-clause-costs : goal.returns-in_err-set-in-Set-clause-costs
+returns-in_err-set-in-Set-clause-costs g c t = fault_costs c.in-Set.is (c.in_err-set-in-Set.ensures.costs t) (err_from_is_err_and c.from_residual-in_err-set-in-Set.result c.from_residual-in_err-set-in-Set.ensures.1)
+
+pub returns-in_ok-set-in-Set-clause-costs : goal.returns-in_ok-set-in-Set-clause-costs
+returns-in_ok-set-in-Set-clause-costs g c t = done_costs c.in-Set.is (c.in_ok-set-in-Set.ensures.costs t)
+
+pub returns-in_err-change-in-Change-clause-costs : goal.returns-in_err-change-in-Change-clause-costs
+returns-in_err-change-in-Change-clause-costs g c t = fault_costs c.in-Change.is (c.in_err-change-in-Change.ensures.costs t) (err_from_is_err_and c.from_residual-in_err-change-in-Change.result c.from_residual-in_err-change-in-Change.ensures.1)
+
+pub returns-in_ok-change-in-Change-clause-costs : goal.returns-in_ok-change-in-Change-clause-costs
+returns-in_ok-change-in-Change-clause-costs g c t = done_costs c.in-Change.is (c.in_ok-change-in-Change.ensures.costs t)

@@ -1,5 +1,5 @@
 -- The cursors are settled where keys may have changed.
-use Rattle.std.proofs.Common.{sym, ◌∙◌, subst, Ok, Err}
+use Rattle.std.proofs.Common.{arith, refl, sym, ◌∙◌, subst, Ok, Err}
 use Rattle.newt_host.specs.Moments.{Always}
 use Rattle.newt_reply.specs.Said.{said}
 use Rattle.newt_laws_answers.specs.Answering.{Answering}
@@ -8,6 +8,7 @@ use Rattle.newt_units.specs.Stands.{world_of}
 use Rattle.newt_walk.specs.Fits.{DeskFits}
 use Rattle.newt_walk.specs.World.{world_with}
 use Rattle.newt_engine.specs.Laws.{laws_of}
+use Rattle.newt_engine.proofs.Costing.{settled_costs}
 use Rattle.newt_engine.proofs.Settling.{apart_after, done_answers, fault_answers, moments_with, settled_answers, stands_after}
 use Rattle.newt_engine.proofs.world.World.obey_and_settle.Goals as goal
 
@@ -46,3 +47,12 @@ returns-in-Err-clause-stands g c goes = stands_after g.H.Host.told c.args.self.n
 
 pub returns-in-Err-clause-moments : goal.returns-in-Err-clause-moments
 returns-in-Err-clause-moments g c t = moments_with (laws_of g.met.C.Card.formed g.met.C.Card.plain g.met.C.Card.durable g.met.C.Card.banks g.met.C.Card.kept) g.H.Host.told c.args.self.now.units c.args.self.now.desk (g.H.Host.outside c.args.host.now) c.requires.stands t c.args.command c.requires.no_cursor (g.H.Host.outside c.obey.new.host).now (c.obey.ensures.moments t)
+
+pub returns-then-settles-clause-costs : goal.returns-then-settles-clause-costs
+returns-then-settles-clause-costs g c t = settled_costs c.args.self.now.desk c.requires.no_cursor (c.in-Ok.ensures.costs t) (λ goes. tt) c.settled.ensures.read.moment (c.settled.ensures.read.programs t)
+
+pub returns-else-settles-clause-costs : goal.returns-else-settles-clause-costs
+returns-else-settles-clause-costs g c t = settled_costs c.args.self.now.desk c.requires.no_cursor (c.in-Ok.ensures.costs t) (λ goes. tt) refl (λ u. omega arith)
+
+pub returns-in-Err-clause-costs : goal.returns-in-Err-clause-costs
+returns-in-Err-clause-costs g c t = settled_costs c.args.self.now.desk c.requires.no_cursor (c.in-Err.ensures.costs t) (λ goes. goes) refl (λ u. omega arith)

@@ -1,6 +1,7 @@
 -- Devices are read alone, and the world of all commands answers.
 use Rattle.newt_reply.specs.Said.{said}
 use Rattle.newt_engine.specs.Laws.{laws_of}
+use Rattle.newt_engine.proofs.Costing.{still_costs}
 use Rattle.newt_engine.proofs.Settling.{quiet_with, stands_after, walked_answers}
 use Rattle.newt_engine.proofs.world.World.obey_on_cursor.Goals as goal
 
@@ -17,3 +18,6 @@ returns-clause-stands g c goes =
 pub returns-clause-moments : goal.returns-clause-moments
 returns-clause-moments g c t = quiet_with (laws_of g.met.C.Card.formed g.met.C.Card.plain g.met.C.Card.durable g.met.C.Card.banks g.met.C.Card.kept) g.H.Host.told c.args.self.now.units c.args.self.now.desk
     (g.H.Host.outside c.args.host.now) (g.H.Host.outside c.walk.new.host) c.requires.stands t c.walk.ensures.read.moment _
+
+pub returns-clause-costs : goal.returns-clause-costs
+returns-clause-costs g c t = still_costs c.walk.ensures.read.moment (c.walk.ensures.read.programs t)

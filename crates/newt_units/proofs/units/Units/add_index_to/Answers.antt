@@ -1,10 +1,11 @@
 -- A call on the card of the unit changes the unit's store alone.
-use Rattle.std.proofs.Common.{sym, refl}
+use Rattle.std.proofs.Common.{sym, refl, []}
 use Rattle.std.specs.Bool.{⊤}
+use Rattle.newt_laws_answers.specs.Bounds.{change_bytes, unless}
 use Rattle.newt_laws_answers.specs.Tests.{index_tests}
 use Rattle.newt_spec_store.specs.Store.{change_soup}
 use Rattle.newt_spec_world.specs.Changed.{with_index}
-use Rattle.newt_units.proofs.Calls.{Called, mounted-bound, not-there, cause-of, on-devices, call-stands, call-does, call-moments}
+use Rattle.newt_units.proofs.Calls.{Called, mounted-bound, not-there, cause-of, on-devices, call-stands, call-does, call-moments, call-costs}
 use Rattle.newt_units.specs.Stands.{Eight}
 use Rattle.newt_units.proofs.Known.{Laws}
 use Rattle.newt_units.proofs.units.Units.add_index_to.Goals as goal
@@ -32,6 +33,9 @@ returns-in-Some g c =
           (λ blocks. index_tests blocks p.name c.args.spec s p) (λ _. ⊤) _ refl (λ reads. c.add_index.ensures.made t s p reads by) on;
       moments = λ t blocks s p on by. call-moments laws t eight call c.requires.stands blocks s (change_soup p.name (with_index c.args.spec) s)
           (λ blocks. index_tests blocks p.name c.args.spec s p) (λ reads. c.add_index.ensures.any_moment t s p reads by) on;
+      costs = λ t blocks s p on by. call-costs laws t eight call c.requires.stands (c.add_index.ensures.others t) blocks s
+          (λ blocks. unless (index_tests blocks p.name c.args.spec s p) (change_bytes s (change_soup p.name (with_index c.args.spec) s) [] [])) _
+          (λ reads. c.add_index.ensures.bound t s p reads by) (c.add_index.ensures.open_after t) c.add_index.ensures.nothing_done on;
       alone = on-devices c.add_index.ensures.alone;
       cause = cause-of _ _ _ _ c.add_index.ensures.cause;
     }

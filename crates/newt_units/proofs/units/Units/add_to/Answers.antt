@@ -1,8 +1,9 @@
 -- A call on the card of the unit changes the unit's store alone.
-use Rattle.std.proofs.Common.{◌≡◌, sym, refl}
+use Rattle.std.proofs.Common.{◌≡◌, sym, refl, [], ◌∷◌}
 use Rattle.newt_spec_store.specs.Store.{change_soup, add_entry}
+use Rattle.newt_laws_answers.specs.Bounds.{change_bytes, unless}
 use Rattle.newt_laws_answers.specs.Tests.{add_tests}
-use Rattle.newt_units.proofs.Calls.{Called, later, replaced, mounted-bound, not-there, cause-of, on-devices, call-stands, call-does, call-moments}
+use Rattle.newt_units.proofs.Calls.{Called, later, replaced, mounted-bound, not-there, cause-of, on-devices, call-stands, call-does, call-moments, call-costs}
 use Rattle.newt_units.proofs.Slots.{marks}
 use Rattle.newt_units.specs.Stands.{Eight}
 use Rattle.newt_units.proofs.Known.{Laws}
@@ -32,6 +33,9 @@ returns-in-Some g c =
       moments = λ t blocks s p on by. call-moments laws t eight call c.requires.stands blocks s (change_soup p.name (add_entry c.args.self.now.minute c.args.graph) s)
           (λ blocks. add_tests blocks c.args.self.now.minute p.name c.args.graph s p) (λ reads. c.add.ensures.any_moment t s p reads by) on;
       marks = λ j. marks c.args.self.now (later c.args.self.now c.unit.inside.0 c.index_mut.result.now c.add.new.self) c.args.unit c.in-Some.card c.add.new.self (replaced call) j;
+      costs = λ t blocks s p on by. call-costs laws t eight call c.requires.stands (c.add.ensures.others t) blocks s
+          (λ blocks. unless (add_tests blocks c.args.self.now.minute p.name c.args.graph s p) (change_bytes s (change_soup p.name (add_entry c.args.self.now.minute c.args.graph) s) (record { uid = p.next_uid; time = c.args.self.now.minute; graph = c.args.graph } ∷ []) [])) _
+          (λ reads. c.add.ensures.bound t s p reads by) (c.add.ensures.open_after t) c.add.ensures.nothing_done on;
       alone = on-devices c.add.ensures.alone;
       cause = cause-of _ _ _ _ c.add.ensures.cause;
     }

@@ -3,7 +3,8 @@ use Rattle.std.proofs.Common.{sym, refl, []}
 use Rattle.std.specs.Bool.{⊤}
 use Rattle.newt_spec_store.specs.Store.{change_soup}
 use Rattle.newt_spec_world.specs.Changed.{without_index}
-use Rattle.newt_units.proofs.Calls.{Called, mounted-bound, not-there, cause-of, on-devices, call-stands, call-does, call-moments}
+use Rattle.newt_laws_answers.specs.Bounds.{change_bytes}
+use Rattle.newt_units.proofs.Calls.{Called, mounted-bound, not-there, cause-of, on-devices, call-stands, call-does, call-moments, call-costs}
 use Rattle.newt_units.specs.Stands.{Eight}
 use Rattle.newt_units.proofs.Known.{Laws}
 use Rattle.newt_units.proofs.units.Units.drop_index_from.Goals as goal
@@ -31,6 +32,9 @@ returns-in-Some g c =
           (λ blocks. []) (λ _. ⊤) _ refl (λ reads. c.drop_index.ensures.made t s p reads by) on;
       moments = λ t blocks s p on by. call-moments laws t eight call c.requires.stands blocks s (change_soup p.name (without_index c.args.paths.now) s)
           (λ blocks. []) (λ reads. c.drop_index.ensures.any_moment t s p reads by) on;
+      costs = λ t blocks s p on by. call-costs laws t eight call c.requires.stands (c.drop_index.ensures.others t) blocks s
+          (λ blocks. change_bytes s (change_soup p.name (without_index c.args.paths.now) s) [] []) _
+          (λ reads. c.drop_index.ensures.bound t s p reads by) (c.drop_index.ensures.open_after t) c.drop_index.ensures.nothing_done on;
       alone = on-devices c.drop_index.ensures.alone;
       cause = cause-of _ _ _ _ c.drop_index.ensures.cause;
     }

@@ -2,7 +2,8 @@
 use Rattle.std.proofs.Common.{sym, refl, []}
 use Rattle.std.specs.Bool.{⊤}
 use Rattle.newt_spec_store.specs.Store.{drop_soup}
-use Rattle.newt_units.proofs.Calls.{Called, mounted-bound, not-there, cause-of, on-devices, call-stands, call-does, call-moments}
+use Rattle.newt_laws_answers.specs.Bounds.{change_bytes}
+use Rattle.newt_units.proofs.Calls.{Called, mounted-bound, not-there, cause-of, on-devices, call-stands, call-does, call-moments, call-costs}
 use Rattle.newt_units.specs.Stands.{Eight}
 use Rattle.newt_units.proofs.Known.{Laws}
 use Rattle.newt_units.proofs.units.Units.drop_soup_on.Goals as goal
@@ -30,6 +31,9 @@ returns-in-Some g c =
           (λ blocks. []) (λ _. ⊤) _ refl (λ reads. c.drop_soup.ensures.made t s p reads by) on;
       moments = λ t blocks s p on by. call-moments laws t eight call c.requires.stands blocks s (drop_soup p.name s)
           (λ blocks. []) (λ reads. c.drop_soup.ensures.any_moment t s p reads by) on;
+      costs = λ t blocks s p on by. call-costs laws t eight call c.requires.stands (c.drop_soup.ensures.others t) blocks s
+          (λ blocks. change_bytes s (drop_soup p.name s) [] p.entries) _
+          (λ reads. c.drop_soup.ensures.bound t s p reads by) (c.drop_soup.ensures.open_after t) c.drop_soup.ensures.nothing_done on;
       alone = on-devices c.drop_soup.ensures.alone;
       cause = cause-of _ _ _ _ c.drop_soup.ensures.cause;
     }

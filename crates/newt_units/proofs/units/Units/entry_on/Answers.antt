@@ -2,7 +2,7 @@
 use Rattle.std.proofs.Common.{ap, sym}
 use Rattle.newt_host.specs.Moments.{changes}
 use Rattle.newt_units.specs.Stands.{Eight}
-use Rattle.newt_units.proofs.Calls.{Called, mounted-bound, not-there, stop-cause, on-devices, replaced, later, call-stands, call-still, call-reads}
+use Rattle.newt_units.proofs.Calls.{Called, mounted-bound, not-there, stop-cause, on-devices, programs-no-more, replaced, later, call-stands, call-still, call-reads}
 use Rattle.newt_units.proofs.Known.{Laws}
 use Rattle.newt_units.proofs.Slots.{marks}
 use Rattle.newt_units.proofs.units.Units.entry_on.Goals as goal
@@ -30,6 +30,7 @@ returns-in-Some g c =
       world = λ t. call-still g.C.Card.reads call c.entry.ensures.moment;
       marks = λ u. marks c.args.self.now (later c.args.self.now c.unit.inside.0 c.index_mut.result.now c.entry.new.self) c.args.unit c.in-Some.card c.entry.new.self (replaced call) u;
       moment = c.entry.ensures.moment;
+      programs_nothing = λ t. programs-no-more c.entry.ensures.alone (c.entry.ensures.programs_nothing t);
       alone = on-devices c.entry.ensures.alone;
       cause = stop-cause _ _ _ _ c.entry.ensures.cause;
     }

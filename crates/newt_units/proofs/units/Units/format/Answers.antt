@@ -1,5 +1,5 @@
 -- The unit is looked at, its store is looked for, and it is formatted.
-use Rattle.std.proofs.Common.{◌≡◌, refl, sym, ap, ◌∙◌, subst, ◌<◌, ◌≤◌, None}
+use Rattle.std.proofs.Common.{◌≡◌, refl, sym, ap, ◌∙◌, subst, ◌<◌, ◌≤◌, None, inr}
 use Rattle.std.specs.Prelude.{OnOk}
 use Rattle.std.proofs.lemmas.Bool.{le-leb, lt-leb}
 use Rattle.std.proofs.lemmas.Result.{err_from_is_err_and}
@@ -12,6 +12,7 @@ use Rattle.newt_laws_answers.specs.Tests.{formatted}
 use Rattle.newt_laws_answers.proofs.Stores.{format-unbuilt, format-not-ready}
 use Rattle.newt_units.specs.Stands.{world_of}
 use Rattle.newt_units.proofs.Answering.{format-has-answers, format-answers, format-makes, format-blank}
+use Rattle.newt_units.proofs.Costs.{same-before}
 use Rattle.newt_units.proofs.Settings.{Setting, still, ready-refused, ready-there}
 use Rattle.newt_units.proofs.Turns.{world-still}
 use Rattle.newt_units.proofs.units.Units.format.Goals as goal
@@ -117,3 +118,18 @@ returns-clause-moments g c t =
     (format-makes w w c.args.unit _ (g.C.Card.reads (image c.args.unit (g.H.Host.outside c.args.host.now).now)) c.args.name.now c.args.sig (le-leb c.args.sig 536_870_911 (subst (λ n. n ≤ 536_870_911) c.sig.view_is c.if-sig-gt-MOST_SIG.false)) ready refl blank) in
     subst (λ (m : Moment). Always (Answering g.C.Card.reads w v m) m (g.H.Host.outside c.make.new.host).now) c.has_store.ensures.moment
     (subst (λ (x : World). Always (Answering g.C.Card.reads x v (g.H.Host.outside c.has_store.new.host).now) (g.H.Host.outside c.has_store.new.host).now (g.H.Host.outside c.make.new.host).now) same way)
+
+pub returns-then-sig-gt-MOST_SIG-clause-open_after : goal.returns-then-sig-gt-MOST_SIG-clause-open_after
+returns-then-sig-gt-MOST_SIG-clause-open_after g c t goes u = inr refl
+
+pub returns-in_err-find_ready-clause-open_after : goal.returns-in_err-find_ready-clause-open_after
+returns-in_err-find_ready-clause-open_after g c t goes u = inr refl
+
+pub returns-in_err-has_store-clause-open_after : goal.returns-in_err-has_store-clause-open_after
+returns-in_err-has_store-clause-open_after g c t goes u = inr (ap (changes u) c.in_err-has_store.ensures.moment)
+
+pub returns-then-branch-clause-open_after : goal.returns-then-branch-clause-open_after
+returns-then-branch-clause-open_after g c t goes u = inr (ap (changes u) c.in_ok-has_store.ensures.moment)
+
+pub returns-clause-open_after : goal.returns-clause-open_after
+returns-clause-open_after g c t goes u = same-before u (g.H.Host.outside c.args.host.now).now (g.H.Host.outside c.has_store.new.host).now (g.H.Host.outside c.make.new.host).now (ap (changes u) c.has_store.ensures.moment) (c.make.ensures.open_after t goes u)

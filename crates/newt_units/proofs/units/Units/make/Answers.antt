@@ -1,5 +1,6 @@
 -- The unit has no card, and no other is touched.
 use Rattle.newt_host.proofs.Moments.{Leaves-others}
+use Rattle.newt_units.proofs.Costs.{opened-alone}
 use Rattle.newt_units.proofs.Slots.{stands-beside}
 use Rattle.newt_units.proofs.Turns.{world-formatted, anything-moments}
 use Rattle.newt_units.proofs.Settings.{Setting, stand-told}
@@ -30,3 +31,6 @@ returns-in-Err-clause-moments g c t v has makes =
       stand = c.requires.stands;
     } in
     anything-moments at.laws c.args.self.now (g.H.Host.outside c.args.host.now) at.eight (stand-told at t) c.args.unit _ v _ has makes (c.format.ensures.any_moment t)
+
+pub returns-in-Ok-clause-open_after : goal.returns-in-Ok-clause-open_after
+returns-in-Ok-clause-open_after g c t goes = opened-alone c.args.unit (g.H.Host.outside c.args.host.now).now (g.H.Host.outside c.format.new.host).now (c.in-Ok.ensures.open_after t) (Leaves-others (c.format.ensures.any_moment t))

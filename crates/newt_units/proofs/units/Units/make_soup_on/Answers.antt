@@ -1,8 +1,9 @@
 -- A call on the card of the unit changes the unit's store alone.
-use Rattle.std.proofs.Common.{◌≡◌, sym, refl}
+use Rattle.std.proofs.Common.{◌≡◌, sym, refl, []}
 use Rattle.newt_spec_store.specs.Store.{make_soup}
+use Rattle.newt_laws_answers.specs.Bounds.{change_bytes, unless}
 use Rattle.newt_laws_answers.specs.Tests.{make_tests}
-use Rattle.newt_units.proofs.Calls.{Called, mounted-bound, not-there, cause-of, on-devices, call-stands, call-does, call-moments}
+use Rattle.newt_units.proofs.Calls.{Called, mounted-bound, not-there, cause-of, on-devices, call-stands, call-does, call-moments, call-costs}
 use Rattle.newt_units.specs.Stands.{Eight}
 use Rattle.newt_units.proofs.Known.{Laws}
 use Rattle.newt_units.proofs.units.Units.make_soup_on.Goals as goal
@@ -30,6 +31,9 @@ returns-in-Some g c =
           (λ blocks. make_tests blocks c.args.name.now s) (λ n. n ≡ s.next_soup) _ refl (λ reads. c.make_soup.ensures.made t s reads) on;
       moments = λ t blocks s on. call-moments laws t eight call c.requires.stands blocks s (make_soup c.args.name.now s)
           (λ blocks. make_tests blocks c.args.name.now s) (λ reads. c.make_soup.ensures.any_moment t s reads) on;
+      costs = λ t blocks s on. call-costs laws t eight call c.requires.stands (c.make_soup.ensures.others t) blocks s
+          (λ blocks. unless (make_tests blocks c.args.name.now s) (change_bytes s (make_soup c.args.name.now s) [] [])) _
+          (λ reads. c.make_soup.ensures.bound t s reads) (c.make_soup.ensures.open_after t) c.make_soup.ensures.nothing_done on;
       alone = on-devices c.make_soup.ensures.alone;
       cause = cause-of _ _ _ _ c.make_soup.ensures.cause;
     }

@@ -6,6 +6,7 @@ use Rattle.newt_spec_world.specs.declared.command.Command.TheVariants as command
 use Rattle.newt_laws_answers.proofs.Stores.{mount-not-ready}
 use Rattle.newt_units.specs.Answers.{Answers}
 use Rattle.newt_units.specs.Stands.{world_of}
+use Rattle.newt_units.proofs.Costs.{idle-costs, read-costs}
 use Rattle.newt_units.proofs.Mounts.{mount-unopened, mount-refuses, mount-answers, mounted-stands}
 use Rattle.newt_units.proofs.Settings.{Setting, is-err, still, stand-told, ready-refused}
 use Rattle.newt_units.proofs.units.Units.mount.Goals as goal
@@ -112,3 +113,15 @@ returns-clause-moments g c t =
     } in
     let w = world_of g.C.Card.reads c.args.self.now (g.H.Host.outside c.args.host.now) in
     still at t _ _ c.in_ok-card.ensures.moment
+
+pub returns-in_err-find_ready-clause-costs : goal.returns-in_err-find_ready-clause-costs
+returns-in_err-find_ready-clause-costs g c t = idle-costs _ _ _
+
+pub returns-in_err-card-clause-costs : goal.returns-in_err-card-clause-costs
+returns-in_err-card-clause-costs g c t = read-costs _ _ c.in_err-card.ensures.moment (c.in_err-card.ensures.programs_nothing t)
+
+pub returns-in_err-face-clause-costs : goal.returns-in_err-face-clause-costs
+returns-in_err-face-clause-costs g c t = read-costs _ _ c.in_ok-card.ensures.moment (c.in_ok-card.ensures.programs_nothing t)
+
+pub returns-clause-costs : goal.returns-clause-costs
+returns-clause-costs g c t = read-costs _ _ c.in_ok-card.ensures.moment (c.in_ok-card.ensures.programs_nothing t)

@@ -1,7 +1,8 @@
 -- A call on the card of the unit changes the unit's store alone.
-use Rattle.std.proofs.Common.{◌≡◌, sym, refl}
+use Rattle.std.proofs.Common.{◌≡◌, sym, refl, [], ◌∷◌}
+use Rattle.newt_laws_answers.specs.Bounds.{change_bytes, unless}
 use Rattle.newt_laws_answers.specs.Tests.{move_tests, moved_within}
-use Rattle.newt_units.proofs.Calls.{Called, mounted-bound, not-there, cause-of, on-devices, call-stands, call-does, call-moments}
+use Rattle.newt_units.proofs.Calls.{Called, mounted-bound, not-there, cause-of, on-devices, call-stands, call-does, call-moments, call-costs}
 use Rattle.newt_units.specs.Stands.{Eight}
 use Rattle.newt_units.proofs.Known.{Laws}
 use Rattle.newt_units.proofs.units.Units.move_within.Goals as goal
@@ -29,6 +30,9 @@ returns-in-Some g c =
           (λ blocks. move_tests blocks c.args.self.now.minute p.name c.args.uid q.name e.graph s q) (λ n. n ≡ q.next_uid) _ refl (λ reads. c.move_entry.ensures.made t s p q e reads by is to) on;
       moments = λ t blocks s p q e on by is to. call-moments laws t eight call c.requires.stands blocks s (moved_within c.args.self.now.minute p.name c.args.uid q.name e.graph s)
           (λ blocks. move_tests blocks c.args.self.now.minute p.name c.args.uid q.name e.graph s q) (λ reads. c.move_entry.ensures.any_moment t s p q e reads by is to) on;
+      costs = λ t blocks s p q e on by is to. call-costs laws t eight call c.requires.stands (c.move_entry.ensures.others t) blocks s
+          (λ blocks. unless (move_tests blocks c.args.self.now.minute p.name c.args.uid q.name e.graph s q) (change_bytes s (moved_within c.args.self.now.minute p.name c.args.uid q.name e.graph s) (record { uid = q.next_uid; time = c.args.self.now.minute; graph = e.graph } ∷ []) (e ∷ []))) _
+          (λ reads. c.move_entry.ensures.bound t s p q e reads by is to) (c.move_entry.ensures.open_after t) c.move_entry.ensures.nothing_done on;
       alone = on-devices c.move_entry.ensures.alone;
       cause = cause-of _ _ _ _ c.move_entry.ensures.cause;
     }

@@ -1,8 +1,9 @@
 -- A call on the card of the unit changes the unit's store alone.
 use Rattle.std.proofs.Common.{sym, refl, length}
 use Rattle.std.specs.Bool.{⊤}
+use Rattle.newt_laws_answers.specs.Bounds.{patch_bytes, unless}
 use Rattle.newt_laws_answers.specs.Tests.{patch_tests, patched_within}
-use Rattle.newt_units.proofs.Calls.{Called, mounted-bound, not-there, cause-of, on-devices, call-stands, call-does, call-moments}
+use Rattle.newt_units.proofs.Calls.{Called, mounted-bound, not-there, cause-of, on-devices, call-stands, call-does, call-moments, call-costs}
 use Rattle.newt_units.specs.Stands.{Eight}
 use Rattle.newt_units.proofs.Known.{Laws}
 use Rattle.newt_units.proofs.units.Units.patch_in.Goals as goal
@@ -30,6 +31,9 @@ returns-in-Some g c =
           (λ blocks. patch_tests c.args.node c.args.at (length c.args.bytes.now) e) (λ _. ⊤) _ refl (λ reads. c.patch.ensures.made t s p e class large reads by is binary) on;
       moments = λ t blocks s p e class large on by is binary. call-moments laws t eight call c.requires.stands blocks s (patched_within p.name c.args.uid c.args.node c.args.at c.args.bytes.now s)
           (λ blocks. patch_tests c.args.node c.args.at (length c.args.bytes.now) e) (λ reads. c.patch.ensures.any_moment t s p e class large reads by is binary) on;
+      costs = λ t blocks s p e class large on by is binary. call-costs laws t eight call c.requires.stands (c.patch.ensures.others t) blocks s
+          (λ blocks. unless (patch_tests c.args.node c.args.at (length c.args.bytes.now) e) (patch_bytes (length c.args.bytes.now))) _
+          (λ reads. c.patch.ensures.bound t s p e class large reads by is binary) (c.patch.ensures.open_after t) c.patch.ensures.nothing_done on;
       alone = on-devices c.patch.ensures.alone;
       cause = cause-of _ _ _ _ c.patch.ensures.cause;
     }

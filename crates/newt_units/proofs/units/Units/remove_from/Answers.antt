@@ -1,8 +1,9 @@
 -- A call on the card of the unit changes the unit's store alone.
-use Rattle.std.proofs.Common.{sym, refl, []}
+use Rattle.std.proofs.Common.{sym, refl, [], ◌∷◌}
 use Rattle.std.specs.Bool.{⊤}
 use Rattle.newt_spec_store.specs.Store.{change_soup, remove_entry}
-use Rattle.newt_units.proofs.Calls.{Called, mounted-bound, not-there, cause-of, on-devices, call-stands, call-does, call-moments}
+use Rattle.newt_laws_answers.specs.Bounds.{change_bytes}
+use Rattle.newt_units.proofs.Calls.{Called, mounted-bound, not-there, cause-of, on-devices, call-stands, call-does, call-moments, call-costs}
 use Rattle.newt_units.specs.Stands.{Eight}
 use Rattle.newt_units.proofs.Known.{Laws}
 use Rattle.newt_units.proofs.units.Units.remove_from.Goals as goal
@@ -30,6 +31,9 @@ returns-in-Some g c =
           (λ blocks. []) (λ _. ⊤) _ refl (λ reads. c.remove.ensures.made t s p e reads by is) on;
       moments = λ t blocks s p e on by is. call-moments laws t eight call c.requires.stands blocks s (change_soup p.name (remove_entry c.args.uid) s)
           (λ blocks. []) (λ reads. c.remove.ensures.any_moment t s p e reads by is) on;
+      costs = λ t blocks s p e on by is. call-costs laws t eight call c.requires.stands (c.remove.ensures.others t) blocks s
+          (λ blocks. change_bytes s (change_soup p.name (remove_entry c.args.uid) s) [] (e ∷ [])) _
+          (λ reads. c.remove.ensures.bound t s p e reads by is) (c.remove.ensures.open_after t) c.remove.ensures.nothing_done on;
       alone = on-devices c.remove.ensures.alone;
       cause = cause-of _ _ _ _ c.remove.ensures.cause;
     }

@@ -1,8 +1,10 @@
 -- A call on the card of the unit changes the unit's store alone.
-use Rattle.std.proofs.Common.{sym, refl}
+use Rattle.std.proofs.Common.{sym, refl, [], ◌∷◌}
 use Rattle.std.specs.Bool.{⊤}
+use Rattle.newt_spec_world.specs.Changed.{with_graph}
+use Rattle.newt_laws_answers.specs.Bounds.{change_bytes, unless}
 use Rattle.newt_laws_answers.specs.Tests.{replace_tests, replaced}
-use Rattle.newt_units.proofs.Calls.{Called, mounted-bound, not-there, cause-of, on-devices, call-stands, call-does, call-moments}
+use Rattle.newt_units.proofs.Calls.{Called, mounted-bound, not-there, cause-of, on-devices, call-stands, call-does, call-moments, call-costs}
 use Rattle.newt_units.specs.Stands.{Eight}
 use Rattle.newt_units.proofs.Known.{Laws}
 use Rattle.newt_units.proofs.units.Units.replace_in.Goals as goal
@@ -30,6 +32,9 @@ returns-in-Some g c =
           (λ blocks. replace_tests blocks c.args.self.now.minute p.name c.args.uid c.args.graph s) (λ _. ⊤) _ refl (λ reads. c.replace.ensures.made t s p e reads by is) on;
       moments = λ t blocks s p e on by is. call-moments laws t eight call c.requires.stands blocks s (replaced c.args.self.now.minute p.name c.args.uid c.args.graph s)
           (λ blocks. replace_tests blocks c.args.self.now.minute p.name c.args.uid c.args.graph s) (λ reads. c.replace.ensures.any_moment t s p e reads by is) on;
+      costs = λ t blocks s p e on by is. call-costs laws t eight call c.requires.stands (c.replace.ensures.others t) blocks s
+          (λ blocks. unless (replace_tests blocks c.args.self.now.minute p.name c.args.uid c.args.graph s) (change_bytes s (replaced c.args.self.now.minute p.name c.args.uid c.args.graph s) (with_graph c.args.self.now.minute c.args.graph e ∷ []) (e ∷ []))) _
+          (λ reads. c.replace.ensures.bound t s p e reads by is) (c.replace.ensures.open_after t) c.replace.ensures.nothing_done on;
       alone = on-devices c.replace.ensures.alone;
       cause = cause-of _ _ _ _ c.replace.ensures.cause;
     }

@@ -1,8 +1,9 @@
 -- A call on the card of the unit changes the unit's store alone.
-use Rattle.std.proofs.Common.{sym, refl}
+use Rattle.std.proofs.Common.{sym, refl, []}
 use Rattle.std.specs.Bool.{⊤}
+use Rattle.newt_laws_answers.specs.Bounds.{change_bytes, unless}
 use Rattle.newt_laws_answers.specs.Tests.{tags_tests, tagged}
-use Rattle.newt_units.proofs.Calls.{Called, mounted-bound, not-there, cause-of, on-devices, call-stands, call-does, call-moments}
+use Rattle.newt_units.proofs.Calls.{Called, mounted-bound, not-there, cause-of, on-devices, call-stands, call-does, call-moments, call-costs}
 use Rattle.newt_units.specs.Stands.{Eight}
 use Rattle.newt_units.proofs.Known.{Laws}
 use Rattle.newt_units.proofs.units.Units.tag_soup.Goals as goal
@@ -30,6 +31,9 @@ returns-in-Some g c =
           (λ blocks. tags_tests blocks p.name c.args.table s) (λ _. ⊤) _ refl (λ reads. c.set_tags.ensures.made t s p reads by) on;
       moments = λ t blocks s p on by. call-moments laws t eight call c.requires.stands blocks s (tagged p.name c.args.table s)
           (λ blocks. tags_tests blocks p.name c.args.table s) (λ reads. c.set_tags.ensures.any_moment t s p reads by) on;
+      costs = λ t blocks s p on by. call-costs laws t eight call c.requires.stands (c.set_tags.ensures.others t) blocks s
+          (λ blocks. unless (tags_tests blocks p.name c.args.table s) (change_bytes s (tagged p.name c.args.table s) [] [])) _
+          (λ reads. c.set_tags.ensures.bound t s p reads by) (c.set_tags.ensures.open_after t) c.set_tags.ensures.nothing_done on;
       alone = on-devices c.set_tags.ensures.alone;
       cause = cause-of _ _ _ _ c.set_tags.ensures.cause;
     }

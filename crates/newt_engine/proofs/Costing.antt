@@ -1,0 +1,64 @@
+-- What a command costs, by what a call on the units costs.
+use Rattle.std.proofs.Common.{arith, ◌≡◌, ap, sym, ◌∙◌, subst, ℕ, ◌≤◌, List, false, Option, inr}
+use Rattle.std.specs.Prelude.{Result, Ok, Err}
+use Rattle.newt_host.specs.Moments.{changes}
+use Rattle.newt_host.specs.Outside.{Outside}
+use Rattle.newt_reply.specs.declared.reply.Reply.{Reply}
+use Rattle.newt_spec_graph.proofs.Lists.{both-ways}
+use Rattle.newt_spec_query.specs.Cursor.{Cursor}
+use Rattle.newt_spec_world.specs.declared.command.Command.{Command}
+use Rattle.newt_spec_world.specs.declared.command.Command.TheVariants as command
+use Rattle.newt_spec_world.specs.World.{World}
+use Rattle.newt_laws_answers.specs.Bounds.{most_programmed}
+use Rattle.newt_laws_answers.proofs.Most.{cursors-cost-nothing}
+use Rattle.newt_laws_cursors.specs.Cursors.{with_cursors}
+use Rattle.newt_cardstore.specs.declared.fault.Fault.{Fault}
+use Rattle.newt_cardstore.specs.declared.fault.Fault.TheVariants.{Refused, Stop}
+use Rattle.newt_cardstore.specs.Bounds.{Costs, IsOpenOrSame, ProgramsAtMost}
+use Rattle.newt_cardstore.specs.Faults.{GoesOn}
+use Rattle.newt_engine.specs.Bounds.{CommandCosts, is_format}
+use Rattle.newt_engine.specs.Groups.{on_cursor}
+use Rattle.newt_engine.proofs.Handed.{Hands}
+use Rattle.newt_engine.proofs.Settling.{uses_none}
+
+-- where the command goes on, so did the call whose fault was handed on
+pub goes_back : (S : Type 0) {T : Type 0} (fault : Fault) (result : Result T Fault) → Hands fault result → GoesOn result → GoesOn {T = S} (Err fault)
+goes_back S {T} fault result p goes = go fault (subst (λ e. GoesOn {T = T} (Err e)) p.2 (subst (λ (r : Result T Fault). GoesOn r) p.1 goes))
+  where
+    go : (f : Fault) → GoesOn {T = T} (Err f) → GoesOn {T = S} (Err f)
+    go (Refused r) h = tt
+    go (Stop stop) h = absurd h
+
+-- the command costs what the call does
+costs_on : {S T : Type 0} {w : World} {c d : Command} {call : Result S Fault} {result : Result T Fault} {o p : Outside} → c ≡ d → (GoesOn result → GoesOn call)
+    → Costs (most_programmed w d) call o p → CommandCosts w c result o p
+costs_on {S} {T} {w} {c} {d} {call} {result} {o} {p} same goes k = record {
+  bound = λ _ u. subst (λ x. ProgramsAtMost (most_programmed w x u) u o p) (sym same) (k.bound u);
+  open_after = λ h. k.open_after (goes h);
+}
+
+pub done_costs : {S : Type 0} {w : World} {c d : Command} {value : S} {reply : Reply} {o p : Outside} → c ≡ d → Costs {T = S} (most_programmed w d) (Ok value) o p
+    → CommandCosts {T = Reply} w c (Ok reply) o p
+done_costs same k = costs_on same (λ _. tt) k
+
+pub fault_costs : {S : Type 0} {w : World} {c d : Command} {fault : Fault} {result : Result Reply Fault} {o p : Outside} → c ≡ d → Costs {T = S} (most_programmed w d) (Err fault) o p
+    → Hands fault result → CommandCosts w c result o p
+fault_costs {S} {w} {c} {d} {fault} {result} same k p = costs_on same (goes_back S fault result p) k
+
+-- a format is no command that is bounded
+pub format_costs : {T : Type 0} {w : World} {c : Command} {unit : ℕ} {name : List ℕ} {sig : ℕ} {result : Result T Fault} {o p : Outside} → c ≡ command.Format unit name sig
+    → (GoesOn result → (u : ℕ) → IsOpenOrSame u o.now p.now) → CommandCosts w c result o p
+format_costs same leaves = record { bound = λ other. absurd (both-ways (sym other ∙ ap is_format same)); open_after = leaves }
+
+-- nothing is programmed, and nothing has happened
+pub still_costs : {T : Type 0} {w : World} {c : Command} {result : Result T Fault} {o p : Outside} → p.now ≡ o.now → ((u : ℕ) → p.programmed u ≤ o.programmed u) → CommandCosts w c result o p
+still_costs same programs = record { bound = λ _ u _. let x = programs u in omega arith; open_after = λ _ u. inr (ap (changes u) same) }
+
+-- a command that uses no cursor costs the same with cursors, and to settle them costs nothing
+pub settled_costs : {S T : Type 0} (ks : List (Option Cursor)) {w : World} {c : Command} {call : Result S Fault} {result : Result T Fault} {o m p : Outside} → on_cursor c ≡ false
+    → CommandCosts w c call o m → (GoesOn result → GoesOn call) → p.now ≡ m.now → ((u : ℕ) → p.programmed u ≤ m.programmed u) → CommandCosts (with_cursors ks w) c result o p
+settled_costs ks {w} {c} {call} {result} {o} {m} {p} none k goes same programs = record {
+  bound = λ other u. subst (λ n. ProgramsAtMost n u o p) (sym (cursors-cost-nothing ks w c u (uses_none c none)))
+      (λ room. let x = k.bound other u room in let y = programs u in omega arith);
+  open_after = λ h u. subst (λ now. IsOpenOrSame u o.now now) (sym same) (k.open_after (goes h) u);
+}
