@@ -10,7 +10,7 @@ use Rattle.newt_spec_store.specs.Keys.{IndexSpec, Path}
 use Rattle.newt_spec_world.specs.Changed.{with_index, without_index}
 use Rattle.newt_spec_store.specs.Store.{Store as Plain, Soup, Entry, TagTable, entry_of, change_soup, make_soup, drop_soup, add_entry, remove_entry}
 use Rattle.newt_store.specs.Change.{changed_by, answer_of, refusals}
-use Rattle.newt_store.specs.Readable.{readable}
+use Rattle.newt_catalog.specs.Readable.{readable}
 use Rattle.newt_store.specs.declared.change.Change.{Change}
 use Rattle.newt_store.specs.declared.change.Change.TheVariants as change
 use Rattle.newt_cardstore.specs.Cards.{soup_of, LeavesEither}

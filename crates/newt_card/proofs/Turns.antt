@@ -14,9 +14,10 @@ use Rattle.newt_ranges.specs.Stands.{AreRangesOf}
 use Rattle.newt_ranges.specs.declared.rows.SoupRanges.{SoupRanges}
 use Rattle.newt_store.proofs.Reading.{read-back}
 use Rattle.newt_store.specs.Change.{changed_by, refusals, refusal_of}
-use Rattle.newt_store.specs.Readable.{readable}
-use Rattle.newt_store.specs.Stands.{StandsFor, IsBeforeOrChanged}
-use Rattle.newt_store.specs.declared.catalog.Catalog.{Catalog}
+use Rattle.newt_catalog.specs.Readable.{readable}
+use Rattle.newt_catalog.specs.Stands.{StandsFor}
+use Rattle.newt_store.specs.Stands.{IsBeforeOrChanged}
+use Rattle.newt_catalog.specs.declared.catalog.Catalog.{Catalog}
 use Rattle.newt_store.specs.declared.change.Change.{Change}
 use Rattle.newt_cardstore.specs.Cards.{LeavesEither}
 use Rattle.newt_cardstore.specs.Faults.{Does}

@@ -17,9 +17,9 @@ use Rattle.newt_entries.specs.Entry.{stream_graph}
 use Rattle.newt_shelf.specs.Places.{place_of}
 use Rattle.newt_shelf.specs.Names.{names_of}
 use Rattle.newt_store.proofs.Reading.{both, read-back}
-use Rattle.newt_store.specs.Readable.{readable}
-use Rattle.newt_store.specs.Stands.{IsSound}
-use Rattle.newt_store.specs.declared.catalog.Catalog.{Catalog}
+use Rattle.newt_catalog.specs.Readable.{readable}
+use Rattle.newt_catalog.specs.Stands.{IsSound}
+use Rattle.newt_catalog.specs.declared.catalog.Catalog.{Catalog}
 use Rattle.newt_ranges.specs.declared.rows.SoupRanges.{SoupRanges}
 use Rattle.newt_indexed.specs.declared.store.IndexedStore.{IndexedStore}
 use Rattle.newt_cardstore.specs.Cards.{IsSame}

@@ -4,8 +4,8 @@ use Rattle.newt_host.specs.Moments.{image}
 use Rattle.newt_host.specs.Outside.{Outside}
 use Rattle.newt_pagebook.specs.Book.{Numbers}
 use Rattle.newt_spec_store.specs.Store.{Store as Plain}
-use Rattle.newt_store.specs.declared.catalog.Catalog.{Catalog}
-use Rattle.newt_store.specs.Stands.{StandsFor}
+use Rattle.newt_catalog.specs.declared.catalog.Catalog.{Catalog}
+use Rattle.newt_catalog.specs.Stands.{StandsFor}
 use Rattle.newt_ranges.specs.Stands.{AreRangesOf}
 use Rattle.newt_ranges.specs.declared.rows.SoupRanges.{SoupRanges}
 use Rattle.newt_indexed.specs.Calls.{IsOpen}

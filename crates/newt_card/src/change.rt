@@ -9,7 +9,7 @@ ghost use Rattle.newt_spec_world.specs.Changed.{without_index};
 ghost use Rattle.newt_laws_answers.specs.Bounds.{change_bytes, patch_bytes, unless};
 ghost use Rattle.newt_laws_answers.specs.Tests.{patch_tests, patched_within};
 ghost use Rattle.newt_store.specs.Change.{changed_by, answer_of, refusals, most_bytes};
-ghost use Rattle.newt_store.specs.Readable.{readable};
+ghost use Rattle.newt_catalog.specs.Readable.{readable};
 ghost use Rattle.newt_cardstore.specs.Bounds.{ProgramsAtMost};
 ghost use Rattle.newt_cardstore.specs.Cards.{soup_of, LeavesEither, OthersSame};
 ghost use Rattle.newt_cardstore.specs.Faults.{Does, GoesOn, FaultsAt, IsRefused};

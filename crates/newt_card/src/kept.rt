@@ -24,7 +24,7 @@ pub struct Kept<P: PageBook> {
 impl<P: PageBook> Card for Kept<P> {
     ghost use Rattle.std.specs.Prelude.{true, refl};
     ghost use Rattle.newt_soupdir.specs.Bare.{bare_store};
-    ghost use Rattle.newt_store.specs.Readable.{readable};
+    ghost use Rattle.newt_catalog.specs.Readable.{readable};
     ghost use Rattle.newt_card.specs.Stands.{StandsOn};
     ghost use Rattle.newt_card.specs.Laws.{formed_read, plain_read, kept_on};
 

@@ -17,10 +17,11 @@ use Rattle.newt_shelf.specs.declared.fault.StoreFault.TheVariants.{Refused, Stop
 use Rattle.newt_spec_store.specs.OfImage.{blocks_of}
 use Rattle.newt_spec_store.specs.Store.{Store as PlainStore}
 use Rattle.newt_store.specs.Change.{changed_by, refusal_of}
-use Rattle.newt_store.specs.Stands.{StandsFor, IsRefused, RefusesWith, IsBeforeOrChanged}
-use Rattle.newt_store.specs.declared.catalog.Catalog.{Catalog}
+use Rattle.newt_catalog.specs.Stands.{StandsFor}
+use Rattle.newt_store.specs.Stands.{IsRefused, RefusesWith, IsBeforeOrChanged}
+use Rattle.newt_catalog.specs.declared.catalog.Catalog.{Catalog}
 use Rattle.newt_store.specs.declared.change.Change.{Change}
-use Rattle.newt_store.specs.Readable.{readable}
+use Rattle.newt_catalog.specs.Readable.{readable}
 use Rattle.newt_store.proofs.Reading.{read-back}
 use Rattle.newt_store.specs.declared.store.Store.{Store}
 use Rattle.newt_indexed.specs.Calls.{Shows, Reads, Changes}

@@ -8,10 +8,10 @@ use Rattle.newt_pagebook.specs.Stops.{StopsAt}
 use Rattle.newt_pagebook.specs.declared.book.Stop.{Stop}
 use Rattle.newt_pagebook.specs.declared.book.Stop.TheVariants.{Memory, Device}
 use Rattle.newt_spec_store.specs.Store.{Store as PlainStore}
-use Rattle.newt_store.specs.Stands.{StandsFor}
-use Rattle.newt_store.specs.declared.catalog.Catalog.{Catalog}
+use Rattle.newt_catalog.specs.Stands.{StandsFor}
+use Rattle.newt_catalog.specs.declared.catalog.Catalog.{Catalog}
 use Rattle.newt_store.specs.declared.store.Store.{Store}
-use Rattle.newt_store.proofs.ReadLarges.{programs-over}
+use Rattle.newt_catalog.proofs.ReadLarges.{programs-over}
 use Rattle.newt_indexed.specs.Calls.{Shows, IsOpen, Reads}
 
 pub same-image : (unit unit' : ℕ) (old new : Moment) → unit' ≡ unit → new ≡ old → image unit' new ≡ image unit old

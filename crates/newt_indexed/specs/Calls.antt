@@ -10,7 +10,8 @@ use Rattle.newt_shelf.specs.declared.fault.StoreFault.{StoreFault}
 use Rattle.newt_store.specs.declared.change.Change.{Change}
 use Rattle.newt_store.specs.declared.store.Store.{Store}
 use Rattle.newt_store.specs.Change.{changed_by, answer_of, refusal_of}
-use Rattle.newt_store.specs.Stands.{StandsFor, IsSound, GoesOn, IsRefused, RefusesWith, IsBeforeOrChanged}
+use Rattle.newt_catalog.specs.Stands.{StandsFor, IsSound}
+use Rattle.newt_store.specs.Stands.{GoesOn, IsRefused, RefusesWith, IsBeforeOrChanged}
 
 -- the store of this image is the plain one
 abbrev pub Shows : {B : Type 0} → (B → ℕ) → Store B → Outside → PlainStore → Type 0

@@ -12,9 +12,10 @@ ghost use Rattle.newt_spec_store.specs.Store.{Store as PlainStore};
 ghost use Rattle.newt_spec_store.specs.OfImage.{blocks_of};
 ghost use Rattle.newt_spec_store.specs.Valid.{well_formed};
 ghost use Rattle.newt_soupdir.specs.Changes.{soup_of};
-ghost use Rattle.newt_store.specs.Readable.{readable};
+ghost use Rattle.newt_catalog.specs.Readable.{readable};
 ghost use Rattle.newt_store.specs.Change.{changed_by, entry_in, count_in, entry_moved, pages_of_entry, most_bytes};
-ghost use Rattle.newt_store.specs.Stands.{StandsFor, IsRefused, plain_entry};
+ghost use Rattle.newt_catalog.specs.Stands.{StandsFor, plain_entry};
+ghost use Rattle.newt_store.specs.Stands.{IsRefused};
 ghost use Rattle.newt_indexed.specs.Calls.{Shows, IsOpen, Reads, Changes};
 ghost use Rattle.newt_indexed.specs.Steps.{IsStepOf, pages_read};
 

@@ -2,7 +2,7 @@
 ghost use Rattle.std.specs.Prelude.{◌≡◌, true, IfOk, IfSome, IsSome, IsTrue, vec_len};
 ghost use Rattle.newt_host.specs.Moments.{IsDurable};
 ghost use Rattle.newt_memhost.specs.Outside.{outside_of};
-ghost use Rattle.newt_store.specs.Stands.{IsSound};
+ghost use Rattle.newt_catalog.specs.Stands.{IsSound};
 
 use newt_base::{Name, Sig};
 use newt_host::{Host, Unit};

@@ -1,7 +1,7 @@
 // Changes of a store.
 ghost use Rattle.std.specs.Prelude.{true, OnOk};
 ghost use Rattle.newt_memhost.specs.Outside.{outside_of};
-ghost use Rattle.newt_store.specs.Stands.{IsSound};
+ghost use Rattle.newt_catalog.specs.Stands.{IsSound};
 
 use crate::rows::contents;
 use newt_base::{Name, Refusal, Sig, Uid};

@@ -2,7 +2,7 @@
 ghost use Rattle.std.specs.Prelude.{true, OnOk, IfOk};
 ghost use Rattle.newt_host.specs.Moments.{IsDurable};
 ghost use Rattle.newt_memhost.specs.Outside.{outside_of};
-ghost use Rattle.newt_store.specs.Stands.{IsSound};
+ghost use Rattle.newt_catalog.specs.Stands.{IsSound};
 
 use crate::card::opened;
 use crate::changes::{EMPTY, accept_as, add, make, remove};

@@ -1,7 +1,7 @@
 // What a store has, as rows of bytes that can be compared.
 ghost use Rattle.std.specs.Prelude.{true};
 ghost use Rattle.newt_memhost.specs.Outside.{outside_of};
-ghost use Rattle.newt_store.specs.Stands.{IsSound};
+ghost use Rattle.newt_catalog.specs.Stands.{IsSound};
 
 use crate::card::{found, host_of};
 use newt_base::{Sig, Uid};

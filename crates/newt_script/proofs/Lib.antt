@@ -1,13 +1,7 @@
-pub mod Blanks
 pub mod Literals
-pub mod Quotes
-pub mod Forms
 pub mod RowTable
 pub mod Returns
 pub mod Spoken
-pub mod WordLists
-pub mod Pieces
 pub mod ListedRows
-pub mod Apart
 pub mod CursorRows
 pub mod LargeRows

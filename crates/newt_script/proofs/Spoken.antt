@@ -9,7 +9,7 @@ use Rattle.newt_spec_world.specs.declared.command.Command.{Command}
 use Rattle.newt_spec_script.specs.Line.{Row, rows, read_row, row_of, if_said, within_length, first_word, parsed, says_nothing}
 use Rattle.newt_spec_script.specs.Script.{Item, item_of, without_return}
 use Rattle.newt_script.specs.Graphs.{readers}
-use Rattle.newt_script.specs.Readers.{Reading, as_read, reading, row_reading}
+use Rattle.newt_script.specs.Rows.{Reading, as_read, reading, row_reading}
 use Rattle.newt_script.specs.Lines.{line_answer, line_command, spoken}
 use Rattle.newt_script.specs.Verbs.{word_of, is_command_word}
 use Rattle.newt_script.specs.declared.fault.LineFault.{LineFault}

@@ -1,6 +1,5 @@
+pub mod Faults
 pub mod Graphs
 pub mod Verbs
-pub mod Names
-pub mod Listed
-pub mod Readers
+pub mod Rows
 pub mod Lines

@@ -4,7 +4,7 @@ use Rattle.newt_spec_world.specs.declared.command.Command.{Command}
 use Rattle.newt_spec_script.specs.Line.{parsed, within_length}
 use Rattle.newt_spec_script.specs.Script.{Item, item_of, without_return}
 use Rattle.newt_script.specs.Graphs.{readers}
-use Rattle.newt_script.specs.Readers.{Reading, reading}
+use Rattle.newt_script.specs.Rows.{Reading, reading}
 use Rattle.newt_script.specs.declared.fault.LineFault.{LineFault}
 use Rattle.newt_script.specs.declared.fault.LineFault.TheVariants.{Refused}
 

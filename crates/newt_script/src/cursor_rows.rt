@@ -1,11 +1,12 @@
 //! The rows of the table of commands that speak of cursors.
 ghost use Rattle.std.specs.Prelude.{◌≡◌, ◌≢◌, codes};
-ghost use Rattle.newt_script.specs.Readers.{row_reading};
+ghost use Rattle.newt_script.specs.Rows.{row_reading};
 
 use crate::fault::LineFault;
-use crate::words::Words;
+use crate::graphs::last_literal;
 use newt_base::Uid;
 use newt_spec_world::Command;
+use newt_words::Words;
 use std::alloc::Global;
 
 /// `query U S LIT` and `query * S LIT`
@@ -15,10 +16,10 @@ pub fn query(alloc: Global, words: &mut Words) -> Result<Command, LineFault>
 {
     if words.star() {
         let name = words.name(alloc)?;
-        return Ok(Command::QueryAll(name, words.literal(alloc)?));
+        return Ok(Command::QueryAll(name, last_literal(alloc, words)?));
     }
     let (unit, name) = words.soup(alloc)?;
-    Ok(Command::Query(unit, name, words.literal(alloc)?))
+    Ok(Command::Query(unit, name, last_literal(alloc, words)?))
 }
 
 /// `entry C`
@@ -100,7 +101,7 @@ pub fn gotokey(alloc: Global, words: &mut Words) -> Result<Command, LineFault>
     ensures { result ≢ Err LineFault.Memory → result ≡ row_reading (codes "gotokey") words.old }
 {
     let cursor = words.cursor()?;
-    Ok(Command::Gotokey(cursor, words.literal(alloc)?))
+    Ok(Command::Gotokey(cursor, last_literal(alloc, words)?))
 }
 
 /// `count C`

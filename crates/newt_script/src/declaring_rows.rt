@@ -1,10 +1,10 @@
 //! The rows of the table of commands that speak of the indexes and tags of a soup.
 ghost use Rattle.std.specs.Prelude.{◌≡◌, ◌≢◌, codes};
-ghost use Rattle.newt_script.specs.Readers.{row_reading};
+ghost use Rattle.newt_script.specs.Rows.{row_reading};
 
 use crate::fault::LineFault;
-use crate::words::Words;
 use newt_spec_world::Command;
+use newt_words::Words;
 use std::alloc::Global;
 
 /// `index U S PART..`

@@ -1,10 +1,11 @@
 //! The rows of the table of commands that speak of entries.
 ghost use Rattle.std.specs.Prelude.{◌≡◌, ◌≢◌, codes};
-ghost use Rattle.newt_script.specs.Readers.{row_reading};
+ghost use Rattle.newt_script.specs.Rows.{row_reading};
 
 use crate::fault::LineFault;
-use crate::words::Words;
+use crate::graphs::{last_literal, last_stream};
 use newt_spec_world::Command;
+use newt_words::Words;
 use std::alloc::Global;
 
 /// `add U S LIT`
@@ -13,7 +14,7 @@ pub fn add(alloc: Global, words: &mut Words) -> Result<Command, LineFault>
     ensures { result ≢ Err LineFault.Memory → result ≡ row_reading (codes "add") words.old }
 {
     let (unit, name) = words.soup(alloc)?;
-    Ok(Command::Add(unit, name, words.literal(alloc)?))
+    Ok(Command::Add(unit, name, last_literal(alloc, words)?))
 }
 
 /// `addx U S HEX`
@@ -22,7 +23,7 @@ pub fn addx(alloc: Global, words: &mut Words) -> Result<Command, LineFault>
     ensures { result ≢ Err LineFault.Memory → result ≡ row_reading (codes "addx") words.old }
 {
     let (unit, name) = words.soup(alloc)?;
-    Ok(Command::Addx(unit, name, words.stream(alloc)?))
+    Ok(Command::Addx(unit, name, last_stream(alloc, words)?))
 }
 
 /// `addu S LIT`
@@ -31,7 +32,7 @@ pub fn addu(alloc: Global, words: &mut Words) -> Result<Command, LineFault>
     ensures { result ≢ Err LineFault.Memory → result ≡ row_reading (codes "addu") words.old }
 {
     let name = words.name(alloc)?;
-    Ok(Command::Addu(name, words.literal(alloc)?))
+    Ok(Command::Addu(name, last_literal(alloc, words)?))
 }
 
 /// `get U S UID`
@@ -61,7 +62,7 @@ pub fn set(alloc: Global, words: &mut Words) -> Result<Command, LineFault>
 {
     let (unit, name, uid) = words.entry(alloc)?;
     let path = words.path(alloc)?;
-    Ok(Command::Set(unit, name, uid, path, words.literal(alloc)?))
+    Ok(Command::Set(unit, name, uid, path, last_literal(alloc, words)?))
 }
 
 /// `change U S UID LIT`
@@ -70,7 +71,7 @@ pub fn change(alloc: Global, words: &mut Words) -> Result<Command, LineFault>
     ensures { result ≢ Err LineFault.Memory → result ≡ row_reading (codes "change") words.old }
 {
     let (unit, name, uid) = words.entry(alloc)?;
-    Ok(Command::Change(unit, name, uid, words.literal(alloc)?))
+    Ok(Command::Change(unit, name, uid, last_literal(alloc, words)?))
 }
 
 /// `remove U S UID`
@@ -120,5 +121,5 @@ pub fn alias(alloc: Global, words: &mut Words) -> Result<Command, LineFault>
 pub fn resolve(alloc: Global, words: &mut Words) -> Result<Command, LineFault>
     ensures { result ≢ Err LineFault.Memory → result ≡ row_reading (codes "resolve") words.old }
 {
-    Ok(Command::Resolve(words.literal(alloc)?))
+    Ok(Command::Resolve(last_literal(alloc, words)?))
 }

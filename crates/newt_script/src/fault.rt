@@ -1,9 +1,9 @@
 //! Why a line is no command.
 ghost use Rattle.std.specs.Prelude.{◌≡◌};
-ghost use Rattle.newt_script.specs.declared.fault.LineFault.TheVariants as line_fault;
+ghost use Rattle.newt_script.specs.Faults.{of_words};
 
 use newt_base::Refusal;
-use std::alloc::{AllocError, AllocFailed};
+use newt_words::WordFault;
 
 /// Why a line is not taken for a command.
 #[derive(Clone, Copy, PartialEq, Eq, Debug)]
@@ -19,18 +19,13 @@ impl LineFault {
     pub const FORM: LineFault = LineFault::Refused(Refusal::Line);
 }
 
-impl From<AllocError> for LineFault {
-    ghost from_gives = { λ _ fault. fault ≡ line_fault.Memory };
+impl From<WordFault> for LineFault {
+    ghost from_gives = { λ word fault. fault ≡ of_words word };
 
-    fn from(_error: AllocError) -> LineFault {
-        LineFault::Memory
-    }
-}
-
-impl<T: Drop> From<AllocFailed<T>> for LineFault {
-    ghost from_gives = { λ _ fault. fault ≡ line_fault.Memory };
-
-    fn from(_error: AllocFailed<T>) -> LineFault {
-        LineFault::Memory
+    fn from(fault: WordFault) -> LineFault {
+        match fault {
+            WordFault::Form => LineFault::FORM,
+            WordFault::Memory => LineFault::Memory,
+        }
     }
 }

@@ -1,10 +1,11 @@
 //! The rows of the table of commands that speak of the bytes of a large binary.
 ghost use Rattle.std.specs.Prelude.{◌≡◌, ◌≢◌, codes};
-ghost use Rattle.newt_script.specs.Readers.{row_reading};
+ghost use Rattle.newt_script.specs.Rows.{row_reading};
 
 use crate::fault::LineFault;
-use crate::words::Words;
+use crate::graphs::last_bytes;
 use newt_spec_world::Command;
+use newt_words::Words;
 use std::alloc::Global;
 
 /// `vread U S UID PATH AT LEN`
@@ -28,5 +29,5 @@ pub fn vwrite(alloc: Global, words: &mut Words) -> Result<Command, LineFault>
     let (unit, name, uid) = words.entry(alloc)?;
     let path = words.path(alloc)?;
     let at = words.number()?;
-    Ok(Command::Vwrite(unit, name, uid, path, at, words.bytes(alloc)?))
+    Ok(Command::Vwrite(unit, name, uid, path, at, last_bytes(alloc, words)?))
 }

@@ -1,10 +1,10 @@
 //! Lines of a script: what one line says.
 //!
-//! Stands on the numbers and refusals of `newt_base`, the graphs of `newt_graph`, the readers of
-//! object streams and literals, and the definitions of commands and lines in `newt_spec_world` and
-//! `newt_spec_script`. It carries the promise that the reading of a line is exact: `line` answers
-//! the one command that the definition gives the line, or the one refusal of its reading, and
-//! nothing exactly for a blank line or a `%` line.
+//! Stands on the words of `newt_words`, the refusals of `newt_base`, the readers of object streams and
+//! literals, and the definitions of commands and lines in `newt_spec_world` and `newt_spec_script`. It
+//! carries the promise that the reading of a line is exact: `line` answers the one command that the
+//! definition gives the line, or the one refusal of its reading, and nothing exactly for a blank line
+//! or a `%` line.
 #![tactic(auto)]
 
 mod cursor_rows;
@@ -14,19 +14,12 @@ mod fault;
 mod graphs;
 mod large_rows;
 mod lines;
-mod listed;
-mod names;
-mod parts;
 mod store_rows;
-mod symbols;
 mod table;
 mod verbs;
-mod words;
 
 pub use fault::LineFault;
 pub use graphs::literal;
 pub use lines::line;
 pub use newt_spec_world::Command;
-
-/// The longest line that is read, in bytes without its end.
-pub const LONGEST: usize = 140_000;
+pub use newt_words::LONGEST;

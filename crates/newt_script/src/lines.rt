@@ -4,13 +4,12 @@ ghost use Rattle.newt_spec_script.specs.Line.{says_nothing};
 ghost use Rattle.newt_spec_script.specs.Script as script;
 ghost use Rattle.newt_script.specs.Lines.{line_command, spoken};
 
-use crate::LONGEST;
 use crate::fault::LineFault;
 use crate::table::row;
 use crate::verbs::named;
-use crate::words::{Words, skip_blanks};
 use newt_base::Refusal;
 use newt_spec_world::Command;
+use newt_words::{LONGEST, Words, skip_blanks};
 use std::alloc::Global;
 
 /// A line without the byte 13 at its end.

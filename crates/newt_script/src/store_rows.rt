@@ -1,10 +1,11 @@
 //! The rows of the table of commands, as far as they speak of graphs, stores and soups.
 ghost use Rattle.std.specs.Prelude.{◌≡◌, ◌≢◌, codes};
-ghost use Rattle.newt_script.specs.Readers.{row_reading};
+ghost use Rattle.newt_script.specs.Rows.{row_reading};
 
 use crate::fault::LineFault;
-use crate::words::Words;
+use crate::graphs::{last_literal, last_stream};
 use newt_spec_world::Command;
+use newt_words::Words;
 use std::alloc::Global;
 
 /// `nsof HEX`
@@ -12,7 +13,7 @@ use std::alloc::Global;
 pub fn nsof(alloc: Global, words: &mut Words) -> Result<Command, LineFault>
     ensures { result ≢ Err LineFault.Memory → result ≡ row_reading (codes "nsof") words.old }
 {
-    Ok(Command::Nsof(words.stream(alloc)?))
+    Ok(Command::Nsof(last_stream(alloc, words)?))
 }
 
 /// `lit LIT`
@@ -20,7 +21,7 @@ pub fn nsof(alloc: Global, words: &mut Words) -> Result<Command, LineFault>
 pub fn lit(alloc: Global, words: &mut Words) -> Result<Command, LineFault>
     ensures { result ≢ Err LineFault.Memory → result ≡ row_reading (codes "lit") words.old }
 {
-    Ok(Command::Lit(words.literal(alloc)?))
+    Ok(Command::Lit(last_literal(alloc, words)?))
 }
 
 /// `time T`

@@ -1,13 +1,13 @@
 //! The table of commands: what is read behind the first word of a line.
 ghost use Rattle.std.specs.Prelude.{◌≡◌, ◌≢◌};
-ghost use Rattle.newt_script.specs.Readers.{row_reading};
+ghost use Rattle.newt_script.specs.Rows.{row_reading};
 ghost use Rattle.newt_script.specs.Verbs.{word_of};
 
 use crate::fault::LineFault;
 use crate::verbs::Verb;
-use crate::words::Words;
 use crate::{cursor_rows, declaring_rows, entry_rows, large_rows, store_rows};
 use newt_spec_world::Command;
+use newt_words::Words;
 use std::alloc::Global;
 
 /// The command of the words behind the first one.

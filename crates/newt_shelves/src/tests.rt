@@ -1,7 +1,7 @@
 //! Changes of stores on a card in memory.
 ghost use Rattle.std.specs.Prelude.{true, OnOk};
 ghost use Rattle.newt_memhost.specs.Outside.{outside_of};
-ghost use Rattle.newt_store.specs.Stands.{IsSound};
+ghost use Rattle.newt_catalog.specs.Stands.{IsSound};
 
 use crate::flips::patched;
 use crate::spelt::{small_contents, small_image};

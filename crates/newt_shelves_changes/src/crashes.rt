@@ -1,7 +1,7 @@
 // What a crash leaves within the calls of a host.
 ghost use Rattle.std.specs.Prelude.{true, OnOk};
 ghost use Rattle.newt_memhost.specs.Outside.{outside_of};
-ghost use Rattle.newt_store.specs.Stands.{IsSound};
+ghost use Rattle.newt_catalog.specs.Stands.{IsSound};
 
 use newt_memhost::{MemHost, Pick};
 use newt_onecard::{

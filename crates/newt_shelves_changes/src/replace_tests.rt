@@ -1,7 +1,7 @@
 //! Entries whose graphs are replaced.
 ghost use Rattle.std.specs.Prelude.{true, OnOk};
 ghost use Rattle.newt_memhost.specs.Outside.{outside_of};
-ghost use Rattle.newt_store.specs.Stands.{IsSound};
+ghost use Rattle.newt_catalog.specs.Stands.{IsSound};
 
 use crate::crash_tests::used_of;
 use crate::crashes::{accept_through_crashes, assert_goes_on};

@@ -37,14 +37,14 @@ use Rattle.newt_shelf.specs.Batch.{large_ids, new_pages}
 use Rattle.newt_shelf.specs.declared.batch.NewEntry.{NewEntry}
 use Rattle.newt_shelf.specs.Names.{names_of, AreSoundNames}
 use Rattle.newt_shelf.specs.Places.{place_of, AreSoundPlaces}
-use Rattle.newt_store.specs.declared.catalog.Catalog.{Catalog}
+use Rattle.newt_catalog.specs.declared.catalog.Catalog.{Catalog}
 use Rattle.newt_store.specs.declared.change.Change.TheVariants.{Add}
 use Rattle.newt_store.specs.declared.next.Next.{Next}
 use Rattle.newt_store.specs.declared.next.Gone.{Gone}
 use Rattle.newt_store.specs.declared.next.Gone.TheVariants.{Nothing}
 use Rattle.newt_store.specs.Change.{first_checks, is_too_large, has_no_ids, next_uid_of, changed_soup, entry_in, pages_of_entry}
 use Rattle.newt_store.specs.Next.{Goes, IsNew, LosesNames, IsGoing, Turns, IsAdding, IsPlanOf, goes_pages, replaced_pages}
-use Rattle.newt_store.specs.Stands.{Describes}
+use Rattle.newt_catalog.specs.Stands.{Describes}
 use Rattle.newt_store.proofs.Found.{soup-same, soup-some, emptied-some}
 use Rattle.newt_store.proofs.Ids.{is-none, free-in, free-names, are-larges, entry-pages}
 use Rattle.newt_store.proofs.Turning.{bytes-of, describes}

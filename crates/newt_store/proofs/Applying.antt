@@ -24,15 +24,17 @@ use Rattle.newt_shelf.specs.Faults.{RefusesOnly, FaultsAt}
 use Rattle.newt_shelf.specs.Batch.{new_pages}
 use Rattle.newt_shelf.specs.Names.{names_of}
 use Rattle.newt_shelf.specs.Places.{place_of}
-use Rattle.newt_store.specs.declared.catalog.Catalog.{Catalog}
+use Rattle.newt_catalog.specs.declared.catalog.Catalog.{Catalog}
 use Rattle.newt_store.specs.declared.change.Change.{Change}
 use Rattle.newt_store.specs.declared.change.Change.TheVariants.{MakeSoup, DropSoup, Add, Remove, Move, Replace, Patch, AddIndex, DropIndex, SetTags}
 use Rattle.newt_store.specs.Change.{changed_by, first_checks, full_check, refusal_of, dropped_soup, changed_soup, pages_put, pages_gone, directory_pages, is_patch, bytes_of, most_bytes}
 use Rattle.newt_store.specs.declared.next.Next.{Next}
 use Rattle.newt_store.specs.Next.{IsEitherStore, IsPlanOf, goes_pages, replaced_pages, turn_bytes}
-use Rattle.newt_store.specs.Readable.{readable}
-use Rattle.newt_store.specs.Stands.{StandsFor, IsSound, IsRefused, RefusesWith, IsBeforeOrChanged}
-use Rattle.newt_store.proofs.Writing.{kept-over, failed}
+use Rattle.newt_catalog.specs.Readable.{readable}
+use Rattle.newt_catalog.specs.Stands.{StandsFor, IsSound}
+use Rattle.newt_store.specs.Stands.{IsRefused, RefusesWith, IsBeforeOrChanged}
+use Rattle.newt_catalog.proofs.Kept.{kept-over}
+use Rattle.newt_store.proofs.Writing.{failed}
 use Rattle.newt_store.proofs.Reading.{read-back}
 use Rattle.newt_store.proofs.Planned.{first-not, first-holds}
 use Rattle.newt_store.proofs.Declaring.{undeclared-cost}

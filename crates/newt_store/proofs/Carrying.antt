@@ -20,13 +20,13 @@ use Rattle.newt_shelf.specs.Batch.{AreOnce, HasIds, IsApart, large_ids}
 use Rattle.newt_shelf.specs.Names.{names_of, AreSoundNames}
 use Rattle.newt_shelf.specs.declared.batch.NewEntry.{NewEntry}
 use Rattle.newt_shelf.specs.Places.{place_of, AreSoundPlaces}
-use Rattle.newt_store.specs.declared.catalog.Catalog.{Catalog}
+use Rattle.newt_catalog.specs.declared.catalog.Catalog.{Catalog}
 use Rattle.newt_store.specs.declared.next.Gone.{Gone}
 use Rattle.newt_store.specs.declared.next.Gone.TheVariants.{Nothing, OneEntry, AllOf}
 use Rattle.newt_store.specs.declared.next.Next.{Next}
 use Rattle.newt_store.specs.Next.{Goes, GoesAt, LosesNames, IsGoing, IsNew, IsNextOf, AreNext, ArePlacesNext, AreNamesNext, Turns, WritesNext, HoldsEither, IsEitherStore, names_replaced, all_gone}
-use Rattle.newt_store.specs.Readable.{readable}
-use Rattle.newt_store.specs.Stands.{Describes, StandsFor}
+use Rattle.newt_catalog.specs.Readable.{readable}
+use Rattle.newt_catalog.specs.Stands.{Describes, StandsFor}
 use Rattle.newt_store.proofs.Reading.{read-back, total-cost, same-cap}
 
 -- ---- what goes

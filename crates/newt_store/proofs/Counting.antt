@@ -22,7 +22,7 @@ use Rattle.newt_laws_changes.proofs.Soups.{found-good}
 use Rattle.newt_soupdir.specs.Changes.{soup_of}
 use Rattle.newt_soupdir.specs.declared.rows.Directory.{Directory}
 use Rattle.newt_store.specs.Change.{count_in, uids_in}
-use Rattle.newt_store.specs.Stands.{Describes}
+use Rattle.newt_catalog.specs.Stands.{Describes}
 use Rattle.newt_store.proofs.Entries.{has-entry}
 use Rattle.newt_store.proofs.Sums.{same_number, other-way}
 

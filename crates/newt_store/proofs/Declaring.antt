@@ -27,12 +27,12 @@ use Rattle.newt_laws_changes.proofs.Replaced.{declared_lies}
 use Rattle.newt_laws_changes.proofs.Soups.{filter-all, filter-apart, filter-length, push-all, push-apart, push-length, with-soup}
 use Rattle.newt_shelf.specs.Names.{names_of}
 use Rattle.newt_shelf.specs.Places.{place_of}
-use Rattle.newt_store.specs.declared.catalog.Catalog.{Catalog}
+use Rattle.newt_catalog.specs.declared.catalog.Catalog.{Catalog}
 use Rattle.newt_store.specs.declared.change.Change.TheVariants.{AddIndex, DropIndex, SetTags}
 use Rattle.newt_store.specs.declared.next.Gone.TheVariants.{Nothing}
 use Rattle.newt_store.specs.Change.{first_checks, changed_soup, has_paths, specs_of}
 use Rattle.newt_store.specs.Next.{Turns, IsPlanOf}
-use Rattle.newt_store.specs.Stands.{Describes}
+use Rattle.newt_catalog.specs.Stands.{Describes}
 use Rattle.newt_store.proofs.Found.{emptied, emptied-some, soup-same, soup-some}
 use Rattle.newt_store.proofs.Planned.{first-holds, first-not, none-over, none-some, bare-bare}
 use Rattle.newt_store.proofs.Turning.{bytes-of, next-alone, others-alone, names-alone, lies-over, names-over, describes}

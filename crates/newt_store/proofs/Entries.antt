@@ -22,8 +22,8 @@ use Rattle.newt_soupdir.specs.declared.rows.Directory.{Directory}
 use Rattle.newt_entries.specs.Entry.{stream_graph}
 use Rattle.newt_entries.proofs.Streams.{reads_graphs}
 use Rattle.newt_store.specs.Change.{entry_in}
-use Rattle.newt_store.specs.Reading.{IsLaidAt}
-use Rattle.newt_store.specs.Stands.{Describes}
+use Rattle.newt_catalog.specs.Reading.{IsLaidAt}
+use Rattle.newt_catalog.specs.Stands.{Describes}
 use Rattle.newt_store.proofs.Found.{placed-entry, entry-placed}
 
 module _ (directory : Directory) (place : Places) (names : Names) (texts : Objects) (s : Store) (d : Describes directory place names texts s) where

@@ -14,7 +14,7 @@ use Rattle.newt_laws_changes.proofs.Members.{entry_is_in, is_in_found}
 use Rattle.newt_laws_changes.proofs.Places.{place-there}
 use Rattle.newt_laws_changes.specs.Written.{Names}
 use Rattle.newt_store.specs.Change.{entry_in}
-use Rattle.newt_store.specs.Stands.{Describes}
+use Rattle.newt_catalog.specs.Stands.{Describes}
 
 -- a soup without its entries
 abbrev pub emptied : Soup → Soup

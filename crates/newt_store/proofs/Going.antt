@@ -31,17 +31,17 @@ use Rattle.newt_shelf.specs.Names.{names_of, AreSoundNames}
 use Rattle.newt_shelf.specs.Commit.{AreKept}
 use Rattle.newt_shelf.specs.declared.batch.NewEntry.{NewEntry}
 use Rattle.newt_shelf.specs.Places.{place_of, AreSoundPlaces}
-use Rattle.newt_store.specs.declared.catalog.Catalog.{Catalog}
+use Rattle.newt_catalog.specs.declared.catalog.Catalog.{Catalog}
 use Rattle.newt_store.specs.declared.next.Gone.{Gone}
 use Rattle.newt_store.specs.declared.next.Gone.TheVariants.{Nothing, OneEntry, AllOf}
 use Rattle.newt_store.specs.declared.next.Next.{Next}
 use Rattle.newt_store.specs.Change.{entry_in, pages_of_entry, pages_of_soup, directory_pages}
 use Rattle.newt_store.specs.Next.{Goes, IsFree, IsNextOf, Turns, goes_pages, replaced_pages, names_replaced, all_gone, next_bytes, turn_bytes}
-use Rattle.newt_store.specs.Stands.{StandsFor}
+use Rattle.newt_catalog.specs.Stands.{StandsFor}
 use Rattle.newt_store.proofs.Carrying.{AreGone, no-object}
 use Rattle.newt_store.proofs.Entries.{found-at, no-entry-at}
 use Rattle.newt_store.proofs.Found.{placed-entry, entry-placed}
-use Rattle.newt_store.proofs.Rows.{pages-are}
+use Rattle.newt_catalog.proofs.Rows.{pages-are}
 use Rattle.newt_store.proofs.Sums.{same_number, among-member, member-among, once-distinct, sums-agree}
 use Rattle.newt_store.proofs.Ids.{lengths-from}
 use Rattle.newt_store.proofs.Turning.{bytes-of}

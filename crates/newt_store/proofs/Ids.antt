@@ -20,9 +20,9 @@ use Rattle.newt_shelf.specs.Names.{names_of, AreSoundNames}
 use Rattle.newt_shelf.specs.Places.{place_of, AreSoundPlaces}
 use Rattle.newt_shelf.specs.declared.batch.NewEntry.{NewEntry}
 use Rattle.newt_shelf.specs.declared.batch.NewLarge.{NewLarge}
-use Rattle.newt_store.specs.declared.catalog.Catalog.{Catalog}
+use Rattle.newt_catalog.specs.declared.catalog.Catalog.{Catalog}
 use Rattle.newt_store.specs.Next.{IsEntryOf}
-use Rattle.newt_store.specs.Stands.{Describes}
+use Rattle.newt_catalog.specs.Stands.{Describes}
 use Rattle.newt_store.proofs.Turning.{is-named}
 
 -- ---- ids that are given in rising order

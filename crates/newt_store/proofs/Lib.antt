@@ -1,8 +1,6 @@
 pub mod Writing
 pub mod Reading
 pub mod Carrying
-pub mod Rows
-pub mod ReadLarges
 pub mod Ids
 pub mod Fresh
 pub mod Found
@@ -14,9 +12,6 @@ pub mod Replacing
 pub mod Declaring
 pub mod Entries
 pub mod Applying
-pub mod Opening
-pub mod Owning
-pub mod OpeningPlaces
 pub mod Sums
 pub mod Going
 pub mod Counting

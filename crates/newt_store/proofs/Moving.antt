@@ -23,14 +23,14 @@ use Rattle.newt_shelf.specs.Batch.{large_ids}
 use Rattle.newt_shelf.specs.declared.batch.NewEntry.{NewEntry}
 use Rattle.newt_shelf.specs.Names.{names_of, AreSoundNames}
 use Rattle.newt_shelf.specs.Places.{place_of, AreSoundPlaces}
-use Rattle.newt_store.specs.declared.catalog.Catalog.{Catalog}
+use Rattle.newt_catalog.specs.declared.catalog.Catalog.{Catalog}
 use Rattle.newt_store.specs.declared.change.Change.TheVariants.{Move}
 use Rattle.newt_store.specs.declared.next.Next.{Next}
 use Rattle.newt_store.specs.declared.next.Gone.{Gone}
 use Rattle.newt_store.specs.declared.next.Gone.TheVariants.{OneEntry}
 use Rattle.newt_store.specs.Change.{first_checks, entry_in, has_no_ids, next_uid_of, moved_entry, pages_of_entry}
 use Rattle.newt_store.specs.Next.{Goes, GoesAt, IsNew, LosesNames, IsGoing, Turns, IsAdding, IsPlanOf, goes_pages}
-use Rattle.newt_store.specs.Stands.{Describes}
+use Rattle.newt_catalog.specs.Stands.{Describes}
 use Rattle.newt_store.proofs.Found.{soup-some}
 use Rattle.newt_store.proofs.Ids.{free-in, free-names, are-larges}
 use Rattle.newt_store.proofs.Turning.{bytes-of, describes, is-named, named-is}

@@ -56,16 +56,17 @@ use Rattle.newt_shelf.specs.Places.{place_of}
 use Rattle.newt_shelf.specs.declared.fault.StoreFault.{StoreFault}
 use Rattle.newt_shelf.specs.declared.fault.StoreFault.TheVariants.{Refused, Stop}
 use Rattle.newt_shelf.proofs.Committing.{blocks-are}
-use Rattle.newt_store.specs.declared.catalog.Catalog.{Catalog}
+use Rattle.newt_catalog.specs.declared.catalog.Catalog.{Catalog}
 use Rattle.newt_store.specs.declared.change.Change.TheVariants.{Patch}
 use Rattle.newt_store.specs.Change.{changed_by, changed_soup, bytes_in, large_of, large_in_entry, patched_entry, ends_behind, first_checks, refusal_of, entry_in, pages_of_entry, most_bytes}
 use Rattle.newt_store.specs.Patch.{IsLargeOf, record_pages}
-use Rattle.newt_store.specs.Stands.{Describes, StandsFor, GoesOn, RefusesWith, IsBeforeOrChanged}
+use Rattle.newt_catalog.specs.Stands.{Describes, StandsFor}
+use Rattle.newt_store.specs.Stands.{GoesOn, RefusesWith, IsBeforeOrChanged}
 use Rattle.newt_store.proofs.Applying.{leaves-before}
 use Rattle.newt_store.proofs.Entries.{FoundAt, found-at}
 use Rattle.newt_store.proofs.Found.{soup-some, entry-placed}
 use Rattle.newt_store.proofs.Ids.{lengths-from}
-use Rattle.newt_store.proofs.OpeningPlaces.{counted}
+use Rattle.newt_catalog.proofs.OpeningPlaces.{counted}
 use Rattle.newt_store.proofs.Planned.{first-holds, first-not, no-entry, an-entry}
 use Rattle.newt_store.proofs.Reading.{read-back, total-cost, same-cap}
 

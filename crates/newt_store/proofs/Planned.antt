@@ -28,11 +28,11 @@ use Rattle.newt_laws_changes.proofs.Bare.{dropped_bare}
 use Rattle.newt_laws_changes.proofs.Formed.{dropped_formed, made_formed}
 use Rattle.newt_shelf.specs.Names.{names_of}
 use Rattle.newt_shelf.specs.Places.{place_of}
-use Rattle.newt_store.specs.declared.catalog.Catalog.{Catalog}
+use Rattle.newt_catalog.specs.declared.catalog.Catalog.{Catalog}
 use Rattle.newt_store.specs.declared.change.Change.TheVariants.{MakeSoup, DropSoup, Remove}
 use Rattle.newt_store.specs.Change.{first_checks, entry_in, dropped_soup, changed_soup}
 use Rattle.newt_store.specs.Next.{IsNextOf, IsPlanOf, Turns}
-use Rattle.newt_store.specs.Stands.{Describes}
+use Rattle.newt_catalog.specs.Stands.{Describes}
 use Rattle.newt_store.proofs.Found.{named-some, soup-some, as-many, next-same, placed-entry, entry-placed}
 use Rattle.newt_store.proofs.Turning.{turns-made, turns-dropped, turns-removed, next-dropped, next-removed}
 

@@ -16,8 +16,8 @@ use Rattle.newt_laws_changes.specs.Written.{Names}
 use Rattle.newt_soupdir.specs.declared.rows.Directory.{Directory}
 use Rattle.newt_entries.specs.Entry.{stream_graph}
 use Rattle.newt_entries.proofs.Streams.{reads_graphs}
-use Rattle.newt_store.specs.Readable.{readable}
-use Rattle.newt_store.specs.Stands.{Describes}
+use Rattle.newt_catalog.specs.Readable.{readable}
+use Rattle.newt_catalog.specs.Stands.{Describes}
 
 pub both : (a b : Bool) → (a && b) ≡ true → (a ≡ true) × (b ≡ true)
 both true b e = (refl, e)

@@ -33,13 +33,13 @@ use Rattle.newt_shelf.specs.Batch.{large_ids}
 use Rattle.newt_shelf.specs.declared.batch.NewEntry.{NewEntry}
 use Rattle.newt_shelf.specs.Names.{names_of, AreSoundNames}
 use Rattle.newt_shelf.specs.Places.{place_of, AreSoundPlaces}
-use Rattle.newt_store.specs.declared.catalog.Catalog.{Catalog}
+use Rattle.newt_catalog.specs.declared.catalog.Catalog.{Catalog}
 use Rattle.newt_store.specs.declared.change.Change.TheVariants.{Replace}
 use Rattle.newt_store.specs.declared.next.Gone.TheVariants.{Nothing}
 use Rattle.newt_store.specs.declared.next.Next.{Next}
 use Rattle.newt_store.specs.Change.{first_checks, entry_in, is_too_large, changed_soup, with_graph, pages_of_entry}
 use Rattle.newt_store.specs.Next.{LosesNames, IsGoing, AreNext, ArePlacesNext, Turns, IsPlanOf, IsEntryOf}
-use Rattle.newt_store.specs.Stands.{Describes}
+use Rattle.newt_catalog.specs.Stands.{Describes}
 use Rattle.newt_store.proofs.Adding.{is-valid-graph, small-is}
 use Rattle.newt_store.proofs.Found.{soup-some, placed-entry, entry-placed}
 use Rattle.newt_store.proofs.Ids.{free-in, are-larges, entry-pages}

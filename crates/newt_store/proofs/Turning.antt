@@ -24,11 +24,11 @@ use Rattle.newt_laws_changes.proofs.Bare.{made_bare, dropped_bare, removed_bare}
 use Rattle.newt_laws_images.proofs.Made.{map-length}
 use Rattle.newt_shelf.specs.Names.{names_of}
 use Rattle.newt_shelf.specs.Places.{place_of}
-use Rattle.newt_store.specs.declared.catalog.Catalog.{Catalog}
+use Rattle.newt_catalog.specs.declared.catalog.Catalog.{Catalog}
 use Rattle.newt_store.specs.declared.next.Gone.TheVariants.{Nothing, OneEntry, AllOf}
 use Rattle.newt_store.specs.declared.next.Next.{Next}
 use Rattle.newt_store.specs.Next.{IsGoing, LosesNames, AreNext, AreNamesNext, Turns}
-use Rattle.newt_store.specs.Stands.{Describes}
+use Rattle.newt_catalog.specs.Stands.{Describes}
 
 -- the bytes of a directory are those of the store without its entries
 each-soup : (soups : List Soup) → flat_map soup_bytes (map_list (λ (p : Soup). let q : Soup = record p { entries = [] } in q) soups) ≡ flat_map soup_bytes soups

@@ -1,11 +1,11 @@
 -- What a change writes, from what is planned of it.
-use Rattle.std.proofs.Common.{IsTrue, ◌≡◌, ◌≢◌, inl, inr, ℕ, ◌+◌, ◌*◌, Bool, List, [], ◌∷◌, map as map_list, length, Option, Some, None, IsSome, Result, Err, refl, sym, ◌∙◌, ap, subst, arith, ⊎_elim}
+use Rattle.std.proofs.Common.{◌≡◌, ◌≢◌, inl, inr, ℕ, ◌+◌, ◌*◌, Bool, List, [], ◌∷◌, map as map_list, length, Option, Some, None, IsSome, Result, Err, refl, sym, ◌∙◌, ap, subst, arith, ⊎_elim}
 use Rattle.std.specs.FinMap as map
 use Rattle.std.specs.Option.{option_map}
 use Rattle.std.proofs.lemmas.Bool.{cases_eq}
 use Rattle.newt_base.specs.declared.Refusal.{Refusal}
 use Rattle.newt_base.specs.declared.Refusal.TheVariants.{Full}
-use Rattle.newt_host.specs.Moments.{Moment, image, changes, IsDurable, Leaves}
+use Rattle.newt_host.specs.Moments.{Moment, image, IsDurable, Leaves}
 use Rattle.newt_host.specs.Outside.{Outside, Spends}
 use Rattle.newt_host.proofs.Outside.{Spends-refl, Spends-widen}
 use Rattle.newt_spec_store.specs.Cost.{directory_bytes}
@@ -18,7 +18,7 @@ use Rattle.newt_pagebook.specs.Book.{Numbers, batch_bytes}
 use Rattle.newt_pagebook.proofs.Tests.{some_inj}
 use Rattle.newt_objects.specs.Held.{Held, held, planned, Texts}
 use Rattle.newt_objects.specs.Changing.{HoldsObjects, IsUnderWay}
-use Rattle.newt_objects.proofs.Changing.{start_under_way, are_still}
+use Rattle.newt_objects.proofs.Changing.{start_under_way}
 use Rattle.newt_objects.proofs.Same.{texts_by}
 use Rattle.newt_spec_graph.specs.Lists.{Among}
 use Rattle.newt_laws_changes.proofs.Lying.{among-or-not}
@@ -53,23 +53,11 @@ pub goes-refused : (fault : StoreFault) → GoesOn (failed fault) → IsRefused 
 goes-refused (Refused refusal) goes = tt
 goes-refused (Stop stop) goes = absurd goes
 
--- ---- what is kept
-
-pub kept-over : (told : Bool) (objects : Held) (numbers numbers' : Numbers) (unit unit' : ℕ) (old new : Outside) → unit' ≡ unit → numbers' ≡ numbers → new.now ≡ old.now → AreKept told objects numbers unit old → AreKept told objects numbers' unit' new
-kept-over told objects numbers numbers' unit unit' old new place same now kept = subst (λ (u : ℕ). AreKept told objects numbers' u new) (sym place) (record {
-  none = kept.none;
-  are = are_still told (held objects) (held objects) numbers numbers' unit old new (λ id. refl) same (ap (λ (m : Moment). changes unit m) now) kept.are;
-})
-
 -- ---- what is planned
 
 module _ (told : Bool) (objects : Held) (numbers : Numbers) (unit : ℕ) (outside : Outside) (kept : AreKept told objects numbers unit outside) where
   abbrev live : Pages
   live = kept.are.live
-
-  -- objects that the image holds are those of the live pages
-  pub held-are : (before : Texts) → IsTrue told → HoldsObjects (image unit outside.now) before → AreObjectsOf live before
-  held-are before tells holds = subst (λ (m : Pages). AreObjectsOf m before) (some_inj _ _ (sym holds.of_image ∙ kept.are.are.of_image tells)) holds.are
 
   pub start-way : (before : Texts) → AreObjectsOf live before → IsUnderWay objects no_change live before
   start-way before are = start_under_way objects live before kept.none kept.are.is_table are

@@ -28,14 +28,14 @@ use Rattle.newt_shelf.specs.Names.{names_of}
 use Rattle.newt_shelf.specs.declared.batch.NewLarge.{NewLarge}
 use Rattle.newt_spec_graph.specs.Lists.{Among}
 use Rattle.newt_laws_changes.specs.Written.{Names}
-use Rattle.newt_store.specs.Readable.{readable}
-use Rattle.newt_store.specs.declared.catalog.Catalog.{Catalog}
+use Rattle.newt_catalog.specs.Readable.{readable}
+use Rattle.newt_catalog.specs.declared.catalog.Catalog.{Catalog}
 use Rattle.newt_store.specs.declared.next.Next.{Next}
 use Rattle.newt_shelf.specs.declared.batch.NewEntry.{NewEntry}
 use Rattle.newt_store.specs.declared.next.Gone.{Gone}
 use Rattle.newt_store.specs.declared.next.Gone.TheVariants.{Nothing, OneEntry, AllOf}
 use Rattle.newt_shelf.specs.Places.{place_of}
-use Rattle.newt_store.specs.Stands.{Describes}
+use Rattle.newt_catalog.specs.Stands.{Describes}
 
 -- the entry goes
 abbrev pub Goes : Gone → ℕ → ℕ → Type 0

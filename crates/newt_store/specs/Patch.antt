@@ -7,7 +7,7 @@ use Rattle.newt_spec_store.specs.Store.{Store, Soup, Entry, entry_of}
 use Rattle.newt_shelf.specs.Names.{names_of}
 use Rattle.newt_shelf.specs.Places.{place_of}
 use Rattle.newt_soupdir.specs.Changes.{soup_of}
-use Rattle.newt_store.specs.declared.catalog.Catalog.{Catalog}
+use Rattle.newt_catalog.specs.declared.catalog.Catalog.{Catalog}
 
 -- the pages of an entry's record alone, none where there is no entry
 abbrev pub record_pages : Option Entry → ℕ

@@ -19,10 +19,11 @@ ghost use Rattle.newt_shelf.specs.Names.{names_of, IsReady};
 ghost use Rattle.newt_shelf.specs.Commit.{AreKept, Fit};
 ghost use Rattle.newt_shelf.specs.Faults.{FaultsAt, RefusesOnly};
 ghost use Rattle.newt_store.specs.Next.{Goes, IsNew, names_replaced, all_gone, IsNextOf, WritesNext, Turns, HoldsEither, IsEitherStore, next_bytes, turn_bytes};
-ghost use Rattle.newt_store.specs.Stands.{StandsFor, IsSound, GoesOn, IsRefused};
+ghost use Rattle.newt_catalog.specs.Stands.{StandsFor, IsSound};
+ghost use Rattle.newt_store.specs.Stands.{GoesOn, IsRefused};
 ghost use Rattle.newt_shelf.specs.Places.{place_of};
 
-use crate::catalog::Catalog;
+use newt_catalog::Catalog;
 use crate::next::{Gone, Next};
 use crate::plan::ids_of;
 use newt_base::Refusal;

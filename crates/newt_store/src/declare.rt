@@ -11,9 +11,10 @@ ghost use Rattle.newt_spec_store.specs.Store.{Store as PlainStore};
 ghost use Rattle.newt_spec_store.specs.Valid.{well_formed, valid_spec};
 ghost use Rattle.newt_store.specs.Change.{first_checks};
 ghost use Rattle.newt_store.specs.Next.{IsNextOf, IsPlanOf, IsNoDevice};
-ghost use Rattle.newt_store.specs.Stands.{Describes, RefusesWith};
+ghost use Rattle.newt_catalog.specs.Stands.{Describes};
+ghost use Rattle.newt_store.specs.Stands.{RefusesWith};
 
-use crate::catalog::Catalog;
+use newt_catalog::Catalog;
 use crate::change::Change;
 use crate::next::{Gone, Next};
 use crate::paths::Paths;

@@ -6,22 +6,17 @@
 #![tactic(auto)]
 
 mod carry;
-mod catalog;
 mod change;
 mod declare;
-mod entry;
 mod format;
 mod next;
-mod open;
 mod patch;
 mod paths;
 mod plan;
-mod read;
 mod store;
 
-pub use catalog::Catalog;
 pub use change::Change;
-pub use entry::Entry;
+pub use newt_catalog::Entry;
 pub use newt_shelf::{PlaceTable, StoreFault};
 pub use paths::Paths;
 pub use store::Store;

@@ -12,11 +12,12 @@ ghost use Rattle.newt_spec_store.specs.OfImage.{blocks_of};
 ghost use Rattle.newt_shelf.specs.Faults.{FaultsAt};
 ghost use Rattle.newt_store.specs.Change.{changed_by, answer_of, first_checks, refusal_of, entry_in, pages_of_entry, most_bytes};
 ghost use Rattle.newt_store.specs.Patch.{IsLargeOf, record_pages};
-ghost use Rattle.newt_store.specs.Stands.{StandsFor, IsSound, GoesOn, IsRefused, RefusesWith, IsBeforeOrChanged};
+ghost use Rattle.newt_catalog.specs.Stands.{StandsFor, IsSound};
+ghost use Rattle.newt_store.specs.Stands.{GoesOn, IsRefused, RefusesWith, IsBeforeOrChanged};
 
-use crate::catalog::Catalog;
+use newt_catalog::Catalog;
 use crate::change::Change;
-use crate::read::read_row;
+use newt_catalog::read_row;
 use newt_base::{Refusal, Sig, Uid};
 use newt_entries::LargeAt;
 use newt_graph::Bytes;

@@ -19,7 +19,7 @@ use Rattle.newt_spec_world.specs.Answer.{answered}
 use Rattle.newt_spec_world.specs.Changed.{changed, copy_to}
 use Rattle.newt_spec_world.specs.World.{World, Device, Media, blank, one, device, default_unit, entry_in, store_of, store_on_unit, change_device, change_store, change_media}
 use Rattle.newt_spec_store.specs.Store as plain
-use Rattle.newt_store.specs.Readable.{readable}
+use Rattle.newt_catalog.specs.Readable.{readable}
 use Rattle.newt_engine.specs.Laws.{stays_there}
 use Rattle.newt_tally.specs.Moments.{HasLeftCounted}
 use Rattle.newt_top.specs.Crash.{formats, formats_next, IsOneOf, IsLeft, IsLeftCounted}

@@ -7,7 +7,7 @@ use Rattle.newt_spec_script.specs.Script.{Item}
 use Rattle.newt_spec_store.specs.Store.{Store}
 use Rattle.newt_spec_world.specs.declared.command.Command.TheVariants.{Format}
 use Rattle.newt_spec_world.specs.World.{World, store_on_unit}
-use Rattle.newt_store.specs.Readable.{readable}
+use Rattle.newt_catalog.specs.Readable.{readable}
 
 -- the command is a format of this unit that is not refused
 abbrev pub formats : World → ℕ → Item → Bool

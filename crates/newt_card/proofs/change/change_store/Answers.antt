@@ -8,9 +8,9 @@ use Rattle.newt_spec_store.specs.OfImage.{blocks_of}
 use Rattle.newt_spec_store.specs.Store.{Store as Plain}
 use Rattle.newt_store.specs.Change.{changed_by, entry_moved, pages_of_entry}
 use Rattle.newt_indexed.specs.Steps.{pages_read}
-use Rattle.newt_store.specs.Readable.{readable}
-use Rattle.newt_store.specs.Stands.{StandsFor}
-use Rattle.newt_store.specs.declared.catalog.Catalog.{Catalog}
+use Rattle.newt_catalog.specs.Readable.{readable}
+use Rattle.newt_catalog.specs.Stands.{StandsFor}
+use Rattle.newt_catalog.specs.declared.catalog.Catalog.{Catalog}
 use Rattle.newt_card.specs.Stands.{StandsOn}
 use Rattle.newt_card.proofs.Bounds.{programs-most}
 use Rattle.newt_card.proofs.Turns.{reads-it, stands-for, by-blocks, leaves-either}

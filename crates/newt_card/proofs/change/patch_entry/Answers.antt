@@ -1,7 +1,7 @@
 use Rattle.std.proofs.Common.{ℕ, subst}
 use Rattle.std.specs.Prelude.{Ok, Err}
 use Rattle.newt_host.specs.Moments.{image}
-use Rattle.newt_store.specs.Readable.{readable}
+use Rattle.newt_catalog.specs.Readable.{readable}
 use Rattle.newt_cardstore.specs.Bounds.{ProgramsAtMost}
 use Rattle.newt_card.proofs.Bounds.{patch-bound}
 use Rattle.newt_card.proofs.Commands.{patch-does, patch-leaves}

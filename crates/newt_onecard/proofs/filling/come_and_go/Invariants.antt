@@ -1,6 +1,6 @@
 use Rattle.std.proofs.Common.{true}
 use Rattle.newt_memhost.specs.Outside.{outside_of}
-use Rattle.newt_store.specs.Stands.{IsSound}
+use Rattle.newt_catalog.specs.Stands.{IsSound}
 use Rattle.newt_onecard.proofs.filling.come_and_go.Given as goal
 
 abbrev pub invariant-loop-uid : goal.invariant-loop-uid

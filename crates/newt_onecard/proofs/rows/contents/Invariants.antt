@@ -1,6 +1,6 @@
 use Rattle.std.proofs.Common.{true}
 use Rattle.newt_memhost.specs.Outside.{outside_of}
-use Rattle.newt_store.specs.Stands.{IsSound}
+use Rattle.newt_catalog.specs.Stands.{IsSound}
 use Rattle.newt_onecard.proofs.rows.contents.Given as goal
 
 abbrev pub invariant-loop-soup : goal.invariant-loop-soup

@@ -1,6 +1,6 @@
 use Rattle.std.proofs.Common.{◌≡◌, sym, ◌∙◌, ap}
 use Rattle.newt_spec_script.specs.Line.{first_word}
-use Rattle.newt_script.specs.Readers.{row_reading}
+use Rattle.newt_script.specs.Rows.{row_reading}
 use Rattle.newt_script.specs.Verbs.{word_of}
 use Rattle.newt_script.proofs.Spoken.{too_long, says_verb}
 use Rattle.newt_script.proofs.lines.spoken.Goals as goal

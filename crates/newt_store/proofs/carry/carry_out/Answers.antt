@@ -13,7 +13,7 @@ use Rattle.newt_laws_changes.specs.Written.{Names}
 use Rattle.newt_shelf.specs.Batch.{AreOnce, IsApart}
 use Rattle.newt_shelf.specs.Names.{names_of}
 use Rattle.newt_shelf.specs.Places.{place_of}
-use Rattle.newt_store.specs.Stands.{Describes}
+use Rattle.newt_catalog.specs.Stands.{Describes}
 use Rattle.newt_store.specs.Next.{HoldsEither, WritesNext, all_gone, next_bytes, turn_bytes}
 use Rattle.newt_store.proofs.Going.{bytes-turn}
 use Rattle.newt_store.proofs.Writing.{spends-nothing, full-refused, goes-refused, the-fault}

@@ -10,7 +10,8 @@ use Rattle.newt_objects.proofs.TextsOf.{texts_of}
 use Rattle.newt_shelf.specs.Batch.{AreWritten}
 use Rattle.newt_shelf.specs.Commit.{AreKept}
 use Rattle.newt_store.specs.Next.{WritesNext, next_bytes}
-use Rattle.newt_store.proofs.Writing.{spends-nothing, bytes-planned, full-goes-on, the-fault, held-are, start-way, planned-made, planned-new, planned-larges, planned-there, leaves-next, leaves-none}
+use Rattle.newt_catalog.proofs.Kept.{held-are}
+use Rattle.newt_store.proofs.Writing.{spends-nothing, bytes-planned, full-goes-on, the-fault, start-way, planned-made, planned-new, planned-larges, planned-there, leaves-next, leaves-none}
 use Rattle.newt_store.proofs.carry.write_next.Goals as goal
 
 pub returns-in_err-bytes-clause-any_moment : goal.returns-in_err-bytes-clause-any_moment

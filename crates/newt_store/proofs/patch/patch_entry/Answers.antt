@@ -15,9 +15,11 @@ use Rattle.newt_shelf.specs.Patch.{IsBeforeOrPatched, patch_bytes}
 use Rattle.newt_store.specs.declared.change.Change.TheVariants.{Patch}
 use Rattle.newt_store.specs.Change.{changed_by, refusal_of, entry_in, pages_of_entry, most_bytes}
 use Rattle.newt_store.specs.Patch.{IsLargeOf}
-use Rattle.newt_store.specs.Stands.{StandsFor, RefusesWith, IsBeforeOrChanged}
+use Rattle.newt_catalog.specs.Stands.{StandsFor}
+use Rattle.newt_store.specs.Stands.{RefusesWith, IsBeforeOrChanged}
 use Rattle.newt_store.proofs.Applying.{from-err, sound-over, same-image, leaves-before}
-use Rattle.newt_store.proofs.Writing.{kept-over, failed}
+use Rattle.newt_catalog.proofs.Kept.{kept-over}
+use Rattle.newt_store.proofs.Writing.{failed}
 use Rattle.newt_store.proofs.Patching.{text-there, past-due, none-due, stands-after, spends-record, not-full, patch-leaves, patch-spends, patch-refuses, goes-error, less-over}
 use Rattle.newt_store.proofs.patch.patch_entry.Goals as goal
 

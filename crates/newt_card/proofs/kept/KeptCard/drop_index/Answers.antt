@@ -1,7 +1,7 @@
 use Rattle.std.proofs.Common.{ℕ, List, [], refl, subst}
 use Rattle.newt_host.specs.Moments.{image}
 use Rattle.newt_host.proofs.Outside.{Touches-refl}
-use Rattle.newt_store.specs.Readable.{readable}
+use Rattle.newt_catalog.specs.Readable.{readable}
 use Rattle.newt_card.specs.Stands.{StandsOn}
 use Rattle.newt_laws_answers.specs.Bounds.{change_bytes}
 use Rattle.newt_spec_store.specs.Keys.{Path}

@@ -1,6 +1,6 @@
 use Rattle.std.proofs.Common.{ℕ, subst}
 use Rattle.newt_host.specs.Moments.{image}
-use Rattle.newt_store.specs.Readable.{readable}
+use Rattle.newt_catalog.specs.Readable.{readable}
 use Rattle.newt_cardstore.specs.Bounds.{ProgramsAtMost}
 use Rattle.newt_card.proofs.Bounds.{move-bound}
 use Rattle.newt_card.proofs.Commands.{move-does, move-leaves}

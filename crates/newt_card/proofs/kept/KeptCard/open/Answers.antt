@@ -1,6 +1,6 @@
 use Rattle.std.proofs.Common.{List, ℕ, sym, subst, ap, ◌∙◌, ◌≡◌}
 use Rattle.newt_host.specs.Moments.{Moment, image}
-use Rattle.newt_store.specs.Stands.{StandsFor}
+use Rattle.newt_catalog.specs.Stands.{StandsFor}
 use Rattle.newt_card.proofs.kept.KeptCard.open.Goals as goal
 
 pub returns-in-Ok-clause-stands : goal.returns-in-Ok-clause-stands

@@ -7,7 +7,8 @@ use Rattle.newt_spec_store.specs.OfImage.{blocks_of}
 use Rattle.newt_store.specs.declared.change.Change.{Change}
 use Rattle.newt_store.specs.Change.{changed_by, answer_of, refusal_of}
 use Rattle.newt_store.specs.Next.{IsEitherStore}
-use Rattle.newt_store.specs.Stands.{StandsFor, RefusesWith}
+use Rattle.newt_catalog.specs.Stands.{StandsFor}
+use Rattle.newt_store.specs.Stands.{RefusesWith}
 use Rattle.newt_host.specs.Outside.{Spends}
 use Rattle.newt_pagebook.specs.Book.{IsOpenFor}
 use Rattle.newt_store.specs.Change.{entry_moved, pages_of_entry, most_bytes}

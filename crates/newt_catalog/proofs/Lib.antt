@@ -1,0 +1,6 @@
+pub mod Kept
+pub mod Opening
+pub mod OpeningPlaces
+pub mod Owning
+pub mod ReadLarges
+pub mod Rows

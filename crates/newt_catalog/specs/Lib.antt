@@ -1,0 +1,4 @@
+pub mod Readable
+pub mod Stands
+pub mod Opening
+pub mod Reading

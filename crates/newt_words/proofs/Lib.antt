@@ -1,0 +1,6 @@
+pub mod Trimming
+pub mod Quotes
+pub mod Forms
+pub mod WordLists
+pub mod Pieces
+pub mod Apart
