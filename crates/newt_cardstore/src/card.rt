@@ -51,7 +51,8 @@ pub trait Card: Sized + Drop {
     /// It stands for its unit, of a host that tells bytes or of one that does not.
     ghost stands: { Bool → Self → Outside → Type 0 };
 
-    /// Makes a unit's image one that is read as a store without soups.
+    /// Makes a unit's image one that is read as a store without soups. After want of memory nothing has happened; after a fault of the device nothing is
+    /// said of the unit.
     fn format<H: Host>(
         alloc: Global,
         host: &mut H,
@@ -63,6 +64,7 @@ pub trait Card: Sized + Drop {
         requires not_too_many { (H.outside host.old).blocks unit ≤ 4099 }
         requires sig { sig ≤ 536_870_911 }
         ensures formatted { IsTrue H.told → OnOk result ((reads (image unit (H.outside host.new).now) ≡ Some (new_store name.now sig)) × IsDurable unit (H.outside host.new).now) }
+        ensures unchanged { IsErrOf result Stop.Memory → (H.outside host.new).now ≡ (H.outside host.old).now }
         ensures any_moment { IsTrue H.told → Leaves unit Anything (H.outside host.old).now (H.outside host.new).now }
         ensures open_after { IsTrue H.told → OnOk result (IsOpenFor 0 (image unit (H.outside host.new).now)) }
         ensures alone { Touches unit (H.outside host.old) (H.outside host.new) }
