@@ -23,10 +23,10 @@ ghost use Rattle.newt_catalog.specs.Stands.{StandsFor, IsSound};
 ghost use Rattle.newt_store.specs.Stands.{GoesOn, IsRefused};
 ghost use Rattle.newt_shelf.specs.Places.{place_of};
 
-use newt_catalog::Catalog;
 use crate::next::{Gone, Next};
 use crate::plan::ids_of;
 use newt_base::Refusal;
+use newt_catalog::Catalog;
 use newt_host::Host;
 use newt_objects::Objects;
 use newt_pagebook::{Batch, PageBook};

@@ -14,11 +14,11 @@ ghost use Rattle.newt_store.specs.Next.{IsNextOf, IsPlanOf, IsNoDevice};
 ghost use Rattle.newt_catalog.specs.Stands.{Describes};
 ghost use Rattle.newt_store.specs.Stands.{RefusesWith};
 
-use newt_catalog::Catalog;
 use crate::change::Change;
 use crate::next::{Gone, Next};
 use crate::paths::Paths;
 use newt_base::{Refusal, Sig};
+use newt_catalog::Catalog;
 use newt_keys::IndexSpec;
 use newt_shelf::StoreFault;
 use newt_tags::TagTable;

@@ -15,10 +15,9 @@ ghost use Rattle.newt_store.specs.Patch.{IsLargeOf, record_pages};
 ghost use Rattle.newt_catalog.specs.Stands.{StandsFor, IsSound};
 ghost use Rattle.newt_store.specs.Stands.{GoesOn, IsRefused, RefusesWith, IsBeforeOrChanged};
 
-use newt_catalog::Catalog;
 use crate::change::Change;
-use newt_catalog::read_row;
 use newt_base::{Refusal, Sig, Uid};
+use newt_catalog::{Catalog, read_row};
 use newt_entries::LargeAt;
 use newt_graph::Bytes;
 use newt_host::Host;

@@ -21,12 +21,11 @@ ghost use Rattle.newt_catalog.specs.Stands.{Describes, StandsFor, IsSound};
 ghost use Rattle.newt_store.specs.Stands.{RefusesWith};
 ghost use Rattle.newt_shelf.specs.Places.{place_of, AreSoundPlaces};
 
-use newt_catalog::Catalog;
 use crate::change::Change;
 use crate::declare::{plan_add_index, plan_drop_index, plan_set_tags};
 use crate::next::{Gone, Next};
-use newt_catalog::read_whole;
 use newt_base::{Name, Refusal, Sig, Uid};
+use newt_catalog::{Catalog, read_whole};
 use newt_entries::{larges_of, row_of, write_entry};
 use newt_graph::{Graph, Node, Ref};
 use newt_host::Host;

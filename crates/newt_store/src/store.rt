@@ -17,15 +17,12 @@ ghost use Rattle.newt_store.specs.Stands.{GoesOn, IsRefused, RefusesWith, IsBefo
 ghost use Rattle.newt_shelf.specs.Faults.{FaultsAt};
 
 use crate::carry::carry_out;
-use newt_catalog::Catalog;
 use crate::change::Change;
-use newt_catalog::Entry;
 use crate::format::format_unit;
-use newt_catalog::open_catalog;
 use crate::patch::patch_entry;
 use crate::plan::plan_change;
-use newt_catalog::read_whole;
 use newt_base::{Name, Sig, Uid};
+use newt_catalog::{Catalog, Entry, open_catalog, read_whole};
 use newt_host::{Host, Unit};
 use newt_pagebook::{BookFault, PageBook, Stop};
 use newt_shelf::StoreFault;
