@@ -1,11 +1,9 @@
-//! Walks of cursors by the top call, over a host in memory. It stands on the top call and the host
-//! in memory, and carries no promise of its own: what it holds is tests, whose replies come from
-//! the rules of the language and not from the program.
+//! Walks of cursors by the top call, over a host in memory. It stands on the trials of whole runs,
+//! and carries no promise of its own: what it holds is tests, whose replies come from the rules of
+//! the language and not from the program.
 #![tactic(auto)]
 
 #[cfg(test)]
 mod more;
-#[cfg(test)]
-mod runs;
 #[cfg(test)]
 mod walks;

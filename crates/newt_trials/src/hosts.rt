@@ -1,0 +1,55 @@
+//! Hosts before their run.
+ghost use Rattle.std.specs.Prelude.{◌≡◌, ◌*◌, IfOk, vec_len};
+ghost use Rattle.newt_memhost.specs.Outside.{outside_of};
+ghost use Rattle.newt_trials.specs.Free.{IsFree, HasNone};
+
+use newt_memhost::MemHost;
+use std::alloc::{AllocError, Global};
+use std::test::Fail;
+
+/// So many blocks of zero bytes.
+pub fn blocks(alloc: Global, count: u32) -> Result<Vec<u8>, AllocError>
+    ensures { IfOk result (λ bytes. vec_len bytes ≡ count * 4096) }
+{
+    let mut bytes = Vec::new(alloc);
+    bytes.resize(count as usize * 4096, 0)?;
+    Ok(bytes)
+}
+
+/// A host with this input and no devices, no call of which moves more bytes than the piece.
+pub fn host(alloc: Global, input: &[u8], piece: u32) -> Result<MemHost, AllocError>
+    ensures free { IfOk result (λ host. IsFree (outside_of host)) }
+    ensures none { IfOk result (λ host. HasNone (outside_of host)) }
+{
+    let mut host = MemHost::new(alloc);
+    host.input(input)?;
+    host.piece(piece.max(1));
+    Ok(host)
+}
+
+/// A host with this input and five devices `a` to `e` of 13 blocks of zero bytes.
+pub fn over_blank(alloc: Global, input: &[u8]) -> Result<MemHost, AllocError>
+    ensures { IfOk result (λ host. IsFree (outside_of host)) }
+{
+    let blank = blocks(alloc, 13)?;
+    let mut host = host(alloc, input, u32::MAX)?;
+    host.device("a", &blank)?;
+    host.device("b", &blank)?;
+    host.device("c", &blank)?;
+    host.device("d", &blank)?;
+    host.device("e", &blank)?;
+    Ok(host)
+}
+
+/// A host with this input and the devices `a` and `b` of these bytes, which are whole blocks.
+pub fn over(alloc: Global, input: &[u8], a: &[u8], b: &[u8]) -> Result<MemHost, Fail>
+    ensures { IfOk result (λ host. IsFree (outside_of host)) }
+{
+    if a.len() % 4096 != 0 || b.len() % 4096 != 0 {
+        return Err(Fail::new("no whole blocks"));
+    }
+    let mut host = host(alloc, input, u32::MAX)?;
+    host.device("a", a)?;
+    host.device("b", b)?;
+    Ok(host)
+}

@@ -1,0 +1,15 @@
+//! Whole runs over a host in memory: what the tests of runs share. Scripts stand with their replies in tables, and a call answers a test's failure where
+//! something is not as it should be. No test stands here, and no contract says more than what the top call needs of a host.
+#![tactic(auto)]
+
+mod crashes;
+mod halts;
+mod hosts;
+mod runs;
+mod tables;
+
+pub use crashes::expect_all_safe;
+pub use halts::expect_halts;
+pub use hosts::{blocks, host, over, over_blank};
+pub use runs::{expect, expect_end, image, run_on, run_table, run_table_on};
+pub use tables::{expanded, lines_of};
