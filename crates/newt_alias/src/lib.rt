@@ -7,6 +7,3 @@
 mod alias;
 
 pub use alias::Alias;
-
-#[cfg(test)]
-mod tests;

@@ -19,6 +19,3 @@ pub use laws::streams_are_read;
 pub use read::read_entry;
 pub use row::{EntryRow, LargeAt, Larges};
 pub use write::write_entry;
-
-#[cfg(test)]
-mod tests;

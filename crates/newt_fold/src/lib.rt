@@ -15,9 +15,6 @@ use caseless::default_case_fold_str;
 use memchr::memmem;
 use std::alloc::{AllocError, Global};
 
-#[cfg(test)]
-mod tests;
-
 /// The text of UTF-16 units, in which a surrogate without its partner is U+FFFD.
 pub fn units_to_text(alloc: Global, units: &[u16]) -> Result<String, AllocError>
     ensures bytes { IfOk result (λ text. string_bytes text ≡ encode_utf8_all (utf16_lossy_chars units.now)) }

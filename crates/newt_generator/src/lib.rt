@@ -6,6 +6,3 @@
 mod script;
 
 pub use script::gen_script;
-
-#[cfg(test)]
-mod tests;

@@ -3,4 +3,3 @@ pub mod Change
 pub mod Sorting
 pub mod Ranges
 pub mod Found
-pub mod Fresh

@@ -3,4 +3,3 @@
 pub mod Pairs
 pub mod Kept
 pub mod Range
-pub mod Trials

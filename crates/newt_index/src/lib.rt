@@ -12,6 +12,3 @@ mod sorted;
 pub use identity::Spot;
 pub use search::Probe;
 pub use sorted::Index;
-
-#[cfg(test)]
-mod tests;

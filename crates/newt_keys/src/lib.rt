@@ -18,6 +18,3 @@ pub use given::key_from;
 pub use newt_spec_store::{Kind, Order};
 pub use read::key_of;
 pub use types::{IndexPart, IndexSpec, Key, Part};
-
-#[cfg(test)]
-mod tests;

@@ -1,1 +1,2 @@
--- No lemma: the walks stand on those of newt_index.
+-- What the filling of an index needs.
+pub mod Fresh

@@ -15,7 +15,7 @@ fn strings(alloc: Global, order: Order) -> Result<IndexSpec, Fail> {
 }
 
 /// Adds the next entry where it has a key.
-#[tactic(auto, using(newt_index::proofs::Fresh::absent_new, newt_index::proofs::Fresh::below_added, newt_index::proofs::Fresh::below_more))]
+#[tactic(auto, using(crate::proofs::Fresh::absent_new, crate::proofs::Fresh::below_added, crate::proofs::Fresh::below_more))]
 fn add_next(index: &mut Index, uid: u32, entry: &Graph) -> Result<(), Fail>
     requires { All (λ pair. pair.1 < uid) index.old.pairs }
     ensures { OnOk result (All (λ pair. pair.1 < uid + 1) index.new.pairs) }

@@ -13,6 +13,3 @@ pub use fault::{PathFault, SetFault};
 pub use path::Path;
 pub use set::set_at;
 pub use value::{slot_value, value_at};
-
-#[cfg(test)]
-mod tests;

@@ -22,6 +22,3 @@ pub use indexes::Specs;
 pub use read::read_directory;
 pub use rows::{Directory, SoupRow, Soups};
 pub use write::write_directory;
-
-#[cfg(test)]
-mod tests;

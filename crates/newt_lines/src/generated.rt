@@ -1,4 +1,4 @@
-use crate::gen_script;
+use newt_generator::gen_script;
 use std::test::*;
 
 /// The script of seed 1 and one name.

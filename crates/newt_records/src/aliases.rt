@@ -1,5 +1,5 @@
 //! Aliases with ample memory.
-use crate::Alias;
+use newt_alias::Alias;
 use newt_base::{Sig, Uid};
 use std::test::*;
 

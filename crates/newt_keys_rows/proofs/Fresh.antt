@@ -9,7 +9,7 @@ use Rattle.newt_spec_store.specs.Keys.{Key, IndexSpec, whole}
 use Rattle.newt_spec_store.specs.declared.Order.{Order}
 use Rattle.newt_keys.specs.KeyForm.{IsKeyOf}
 use Rattle.newt_index.specs.Pairs.{Pair, parts_of, pair_cmp, added}
-use Rattle.newt_index.specs.Trials.{integers}
+use Rattle.newt_keys_rows.specs.Trials.{integers}
 
 abbrev Below : ℕ → Pair → Type 0
 Below n p = p.1 < n

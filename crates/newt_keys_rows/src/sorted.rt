@@ -1,9 +1,9 @@
 //! An index of 200 pairs against the list sorted afresh, in both orders, with ample memory.
 ghost use Rattle.std.specs.Prelude.{◌≡◌, ◌∷◌, ◌<◌, ◌+◌, [], Some, All, IfOk, OnOk};
 ghost use Rattle.newt_spec_store.specs.Keys.{whole};
-ghost use Rattle.newt_index.specs.Trials.{integers};
+ghost use Rattle.newt_keys_rows.specs.Trials.{integers};
 
-use crate::{Index, Probe};
+use newt_index::{Index, Probe};
 use newt_base::Uid;
 use newt_graph::Bytes;
 use newt_keys::{IndexPart, IndexSpec, Key, Kind, Order, Part};

@@ -4,7 +4,7 @@ ghost use Rattle.newt_keys.specs.Seen.{declared};
 ghost use Rattle.newt_keys.specs.declared.types.IndexPart.{IndexPart};
 ghost use Rattle.newt_spec_store.specs.declared.Kind.TheVariants as kind;
 
-use crate::{IndexPart, IndexSpec, Key, Kind, Order, Part, compare};
+use newt_keys::{IndexPart, IndexSpec, Key, Kind, Order, Part, compare};
 use newt_graph::Bytes;
 use newt_path::Path;
 use std::alloc::{AllocError, Global};

@@ -1,5 +1,5 @@
 //! Directories in bytes that were spelt by hand, with ample memory.
-use crate::{DirFault, Directory, read_directory, write_directory};
+use newt_soupdir::{DirFault, Directory, read_directory, write_directory};
 use newt_base::{Name, Sig};
 use newt_keys::{IndexSpec, Kind, Order};
 use newt_path::Path;

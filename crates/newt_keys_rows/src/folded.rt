@@ -1,5 +1,5 @@
 //! Folding and search with ample memory. The folded forms are those of Unicode's table.
-use crate::{folded, has_text, has_word, units_to_text};
+use newt_fold::{folded, has_text, has_word, units_to_text};
 use std::alloc::Global;
 use std::test::*;
 

@@ -1,4 +1,4 @@
-use crate::{
+use newt_base::{
     HexFault, Name, NameFault, Refusal, be16, be32, decimal, hex_read, hex_text, set16, set32,
     signed,
 };

@@ -1,0 +1,2 @@
+-- Definitions that these tests need.
+pub mod Trials
