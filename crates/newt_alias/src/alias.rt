@@ -1,5 +1,5 @@
 //! Aliases of entries.
-ghost use Rattle.std.specs.Prelude.{◌≡◌, ◌≤◌, ◌*◌, List, ◌∷◌, [], Option, Some, None, codes, option_map, IfOk};
+ghost use Rattle.std.specs.Prelude.{◌≡◌, ◌≤◌, ◌*◌, ◌∷◌, [], Option, Some, None, codes, option_map, IfOk};
 ghost use Rattle.newt_base.specs.Names.{same_name};
 ghost use Rattle.newt_spec_world.specs.Alias as plain;
 ghost use Rattle.newt_alias.specs.Alias.{alias_said, integer, alias_nodes, alias_graph, Fits, is_alias_class, array_alias, node_alias, IsPrinted};

@@ -1,5 +1,5 @@
 -- The devices of names. That the name at a place goes to the unit of that number is this project's own.
-use Rattle.std.specs.Prelude.{◌≡◌, ◌≢◌, ℕ, ◌<◌, Bool, IsTrue, List, [], ◌∷◌, slice_get, Option, Some, None, option_map, option_and_then}
+use Rattle.std.specs.Prelude.{◌≡◌, ℕ, Bool, IsTrue, List, [], ◌∷◌, slice_get, Option, Some, None, option_map}
 use Rattle.newt_host.specs.Moments.{Attached, Extends, changes, output}
 use Rattle.newt_host.specs.Outside.{Outside, SameCounts}
 

@@ -1,5 +1,5 @@
 -- One plan in a batch of its own, carried out.
-use Rattle.std.proofs.Common.{◌≡◌, ℕ, List, [], Some, IsSome, refl, sym, ◌∙◌, ap, subst, true}
+use Rattle.std.proofs.Common.{◌≡◌, ℕ, List, [], Some, IsSome, sym, ◌∙◌, ap, subst, true}
 use Rattle.std.specs.FinMap as map
 use Rattle.std.specs.Option.{option_map}
 use Rattle.newt_host.specs.Moments.{Moment, changes, image, overwritten}

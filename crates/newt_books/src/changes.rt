@@ -1,5 +1,5 @@
 // Objects that are put, deleted and read.
-ghost use Rattle.std.specs.Prelude.{◌≡◌, ◌<◌, ◌^◌, ℕ, [], true, length, vec_len, IsSome, Some, OnOk, IfOk};
+ghost use Rattle.std.specs.Prelude.{◌≡◌, ◌<◌, ◌^◌, ℕ, [], true, length, IsSome, Some, OnOk, IfOk};
 ghost use Rattle.newt_books.specs.Changes.{AreAtRest, IsPlanned};
 ghost use Rattle.newt_memhost.specs.Outside.{outside_of};
 ghost use Rattle.newt_objects.specs.Held.{AreOf, held};

@@ -39,10 +39,6 @@ bound-is change blocks now s t tests put gone first after bytes come go =
     ap (λ (n : ℕ). cond (is_some (refusal_of change blocks now s)) 0 n) (bytes ∙ (λ i. 516 * (directory_pages (after i) + come i) + 4 * (directory_pages s + go i) + 9))
     ∙ ap (λ (o : Option Refusal). cond (is_some o) 0 (change_bytes s t put gone)) first
 
--- a bound in other words
-pub programs-as : (n m : ℕ) (unit : ℕ) (old new : Outside) → n ≡ m → ProgramsAtMost n unit old new → ProgramsAtMost m unit old new
-programs-as n m unit old new is programs = subst (λ (k : ℕ). ProgramsAtMost k unit old new) is programs
-
 -- what a call spends is what it programs
 pub programs-most : (unit : ℕ) (change : Change) (blocks now : ℕ) (s : Plain) (fetches : ℕ) (old new : Outside) → blocks_of (image unit old.now) ≡ blocks
     → (IsOpenFor (most_bytes change (blocks_of (image unit old.now)) now s) (image unit old.now) → Spends unit (most_bytes change (blocks_of (image unit old.now)) now s) fetches old new)

@@ -3,7 +3,7 @@ use Rattle.std.proofs.Common.{◌≡◌, inl, inr, ℕ, List, Option, Some, None
 use Rattle.std.specs.Prelude.{⊤}
 use Rattle.newt_base.specs.Refusals.{Checks, first_of}
 use Rattle.newt_base.specs.declared.Refusal.{Refusal}
-use Rattle.newt_host.specs.Moments.{Moment, image, Leaves}
+use Rattle.newt_host.specs.Moments.{Moment, Leaves}
 use Rattle.newt_host.proofs.Moments.{Leaves-weaken}
 use Rattle.newt_pagebook.proofs.Tests.{some_inj}
 use Rattle.newt_shelf.specs.Places.{place_of}
@@ -67,13 +67,6 @@ stands-for catalog rows s now one reads = subst (λ (t : Plain). StandsFor catal
 -- and the ranges are those of that store
 pub ranges-for : (catalog : Catalog) (rows : List SoupRanges) (s : Plain) (now : List ℕ) → StandsForOne catalog rows now → readable now ≡ Some s → AreRangesOf s rows
 ranges-for catalog rows s now one reads = subst (λ (t : Plain). AreRangesOf t rows) (is-plain catalog rows s now one reads) one.ranges
-
--- after a call that reads it still stands
-pub one-over : (catalog catalog' : Catalog) (rows rows' : List SoupRanges) (unit unit' : ℕ) (old new : Moment) → catalog' ≡ catalog → rows' ≡ rows → unit' ≡ unit → new ≡ old
-    → StandsForOne catalog rows (image unit old) → StandsForOne catalog' rows' (image unit' new)
-one-over catalog catalog' rows rows' unit unit' old new same ranges place now one = subst (λ (c : Catalog). StandsForOne c rows' (image unit' new)) (sym same)
-    (subst (λ (r : List SoupRanges). StandsForOne catalog r (image unit' new)) (sym ranges)
-    (subst (λ (u : ℕ). StandsForOne catalog rows (image u new)) (sym place) (subst (λ (m : Moment). StandsForOne catalog rows (image unit m)) (sym now) one)))
 
 -- the tests by the blocks of the unit
 pub by-blocks : (change : Change) (blocks now : ℕ) (s : Plain) (img : List ℕ) (due : Option Refusal) → blocks_of img ≡ blocks → refusal_of change (blocks_of img) now s ≡ due → first_of (refusals change blocks now s) ≡ due

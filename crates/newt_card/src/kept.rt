@@ -1,5 +1,4 @@
 //! A store on the card of one unit.
-ghost use Rattle.std.specs.Prelude.{◌≡◌};
 
 use crate::change::{change_store, drop_paths, patch_entry};
 use newt_base::{Name, Sig, Uid};

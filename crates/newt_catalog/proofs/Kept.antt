@@ -1,6 +1,5 @@
 -- What is kept in memory of the objects.
 use Rattle.std.proofs.Common.{IsTrue, ◌≡◌, ℕ, Bool, refl, sym, ◌∙◌, ap, subst}
-use Rattle.std.specs.FinMap as map
 use Rattle.newt_host.specs.Moments.{Moment, image, changes}
 use Rattle.newt_host.specs.Outside.{Outside}
 use Rattle.newt_image.specs.Pages.{Pages}

@@ -5,7 +5,7 @@ use Rattle.std.specs.Option.{option_map}
 use Rattle.std.proofs.lemmas.Bool.{eqb-true, eq-eqb, cases_lt}
 use Rattle.newt_image.specs.Objects.{Extent, Table}
 use Rattle.newt_objects.specs.Extents.{IsNextIn}
-use Rattle.newt_spec_graph.specs.Lists.{Among, Pairs}
+use Rattle.newt_spec_graph.specs.Lists.{Among}
 use Rattle.newt_spec_graph.proofs.Lists.{among-append, among-left, among-right, each-at, each-from, each-list_all, pairs-append}
 use Rattle.newt_entries.specs.declared.row.LargeAt.{LargeAt}
 use Rattle.newt_shelf.proofs.Planning.{among-get, not_yet}

@@ -121,9 +121,6 @@ pub record WentOn (texts : Objects) (left : List LargeAt) (bs done : List (List 
   pub all : done ++ rest ≡ bs
   pub spent : Spends unit 0 (512 * sum_by pages_of done) old new
 
-pub goes-from : (texts : Objects) (rows : List LargeAt) (bs : List (List ℕ)) (unit : ℕ) (outside : Outside) → HaveBytes texts rows bs → Spends unit 0 0 outside outside → WentOn texts rows bs [] unit outside outside
-goes-from texts rows bs unit outside has none = record { rest = bs; has = has; all = refl; spent = none }
-
 -- the first of some lists
 abbrev pub head-of : List (List ℕ) → List ℕ
 head-of [] = []

@@ -1,13 +1,12 @@
 -- The places for cursors of the code, seen as those of the definition.
-use Rattle.std.proofs.Common.{◌≡◌, ◌<◌, ◌≤◌, ◌+◌, refl, ap, sym, ◌∙◌, arith, ℕ, zero, suc, List, [], ◌∷◌, ◌++◌, length, map, get_or, cond, Option, Some, None, option_map, replicate, slice_get, slice_set}
+use Rattle.std.proofs.Common.{◌≡◌, ◌<◌, ◌≤◌, ◌+◌, refl, ap, ◌∙◌, arith, ℕ, zero, suc, List, [], ◌∷◌, ◌++◌, length, get_or, cond, Option, Some, None, option_map, replicate, slice_get, slice_set}
 use Rattle.std.specs.Prelude.{is_none, not, nat_lt}
 use Rattle.std.specs.List.{position, prefix_len}
 use Rattle.std.proofs.lemmas.List.{map-set, replicate_more}
 use Rattle.newt_spec_query.specs.Cursor as spec
 use Rattle.newt_spec_world.specs.World.{change_at, flat}
 use Rattle.newt_cursor.specs.declared.desk.Cursor.{Cursor}
-use Rattle.newt_cursor.specs.declared.query.Query.{Query}
-use Rattle.newt_cursor.specs.Seen.{cursor_of, cursors_of, place_of, query_of}
+use Rattle.newt_cursor.specs.Seen.{cursor_of, cursors_of}
 
 pub set_seen : (xs : List (Option Cursor)) (c : ℕ) (x : Option Cursor) → cursors_of (slice_set xs c x) ≡ slice_set (cursors_of xs) c (option_map cursor_of x)
 set_seen xs c x = map-set (option_map cursor_of) xs c x
@@ -54,12 +53,3 @@ pub one_more : (n : ℕ) (xs : List (Option Cursor)) → xs ≡ replicate n None
 one_more n xs e = ap (λ (ys : List (Option Cursor)). ys ++ None ∷ []) e ∙ replicate_more n None
 
 -- ---- what a call leaves
-
-pub set_opened : (xs : List (Option Cursor)) (c : ℕ) (k : Cursor) (q : Query) → k.query.value ≡ q
-    → cursors_of (slice_set xs c (Some k)) ≡ slice_set (cursors_of xs) c (Some (record { query = query_of q; place = place_of k.place }))
-set_opened xs c k q e =
-    set_seen xs c (Some k) ∙ ap (λ (r : Query). slice_set (cursors_of xs) c (Some (record { query = query_of r; place = place_of k.place }))) e
-
-pub set_cloned : (xs : List (Option Cursor)) (c : ℕ) (k : Cursor) (o : Option spec.Cursor) → Some (cursor_of k) ≡ o
-    → cursors_of (slice_set xs c (Some k)) ≡ slice_set (cursors_of xs) c o
-set_cloned xs c k o e = set_seen xs c (Some k) ∙ ap (λ (p : Option spec.Cursor). slice_set (cursors_of xs) c p) e

@@ -32,7 +32,6 @@ use Rattle.newt_units.proofs.Known.{Laws, at-card, at-none}
 use Rattle.newt_walk.specs.Fits.{DeskFits}
 use Rattle.newt_walk.specs.Replies as walk
 use Rattle.newt_walk.specs.World.{world_with}
-use Rattle.newt_engine.specs.Ends.{takes_memory, uses_device}
 use Rattle.newt_engine.specs.Groups.{on_cursor, settles}
 use Rattle.newt_engine.specs.Standing.{Standing}
 use Rattle.newt_engine.proofs.Handed.{quiet}
@@ -54,22 +53,6 @@ few_keys : (c : Command) → settles c ≡ false → moves_keys c ≡ false
 unfolding moves_keys
 few_keys (command.Mount _) h = h
 few_keys _ h = h
-
-pub settles_on_devices : (c : Command) → settles c ≡ true → uses_device c ≡ false → ⊥
-settles_on_devices (command.Mount _) h k = cc
-settles_on_devices _ h k = cc
-
-pub settles_in_memory : (c : Command) → settles c ≡ true → takes_memory c ≡ false → ⊥
-settles_in_memory (command.Mount _) h k = cc
-settles_in_memory _ h k = cc
-
-pub cursors_on_devices : (c : Command) → on_cursor c ≡ true → uses_device c ≡ false → ⊥
-cursors_on_devices (command.Mount _) h k = cc
-cursors_on_devices _ h k = cc
-
-pub cursors_in_memory : (c : Command) → on_cursor c ≡ true → takes_memory c ≡ false → ⊥
-cursors_in_memory (command.Mount _) h k = cc
-cursors_in_memory _ h k = cc
 
 -- ---- one command
 

@@ -1,5 +1,5 @@
 //! Commands with the cursors settled after them.
-ghost use Rattle.std.specs.Prelude.{◌≡◌, true, false, IsTrue, IfErr, OnOk, IfOk};
+ghost use Rattle.std.specs.Prelude.{◌≡◌, false, IsTrue, IfErr, OnOk, IfOk};
 ghost use Rattle.newt_host.specs.Moments.{Always};
 ghost use Rattle.newt_reply.specs.Said.{said};
 ghost use Rattle.newt_laws_answers.specs.Answering.{Answering};

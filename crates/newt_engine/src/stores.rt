@@ -1,5 +1,5 @@
 //! Commands that make or open a store, or change its soups or what these declare.
-ghost use Rattle.std.specs.Prelude.{◌≡◌, true, false, IsTrue, IfErr};
+ghost use Rattle.std.specs.Prelude.{◌≡◌, false, IsTrue, IfErr};
 ghost use Rattle.newt_host.specs.Moments.{Always};
 ghost use Rattle.newt_reply.specs.Said.{said};
 ghost use Rattle.newt_laws_answers.specs.Answering.{Answering};

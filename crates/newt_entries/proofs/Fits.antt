@@ -1,5 +1,5 @@
 -- Whether a skeleton and its rows may be those of an entry, test by test.
-use Rattle.std.proofs.Common.{arith, ◌≡◌, refl, ap, sym, subst, ◌∙◌, ℕ, zero, suc, ◌+◌, ◌<◌, ◌≤◌, List, [], ◌∷◌, true, false, Bool, ◌&&◌, Option, Some, None, length, fold, map, zip, sum_by, nat_le, ◌==◌, leb-true}
+use Rattle.std.proofs.Common.{arith, ◌≡◌, refl, ap, sym, subst, ◌∙◌, ℕ, zero, suc, ◌+◌, ◌<◌, ◌≤◌, List, [], ◌∷◌, true, false, Bool, ◌&&◌, length, fold, map, zip, sum_by, nat_le, leb-true}
 use Rattle.std.specs.Prelude.{slice_get, All, replicate}
 use Rattle.std.specs.List.{list_all, sum}
 use Rattle.std.proofs.lemmas.Bool.{and_parts}
@@ -10,7 +10,7 @@ use Rattle.std.proofs.lemmas.List.Sums.{sum-map, sum_by-cons}
 use Rattle.newt_graph.specs.declared.node.Ref.{Ref}
 use Rattle.newt_graph.specs.declared.node.Ref.TheVariants as refs
 use Rattle.newt_graph.specs.declared.node.Node.{Node}
-use Rattle.newt_graph.specs.declared.node.Node.TheVariants.{Symbol, Str, Binary, Large, Array, Frame}
+use Rattle.newt_graph.specs.declared.node.Node.TheVariants.{Large}
 use Rattle.newt_graph.specs.Graph.{RawGraph, IsGraph, payload}
 use Rattle.newt_nsof.specs.Lengths.{skeleton, bare as bare_node}
 use Rattle.newt_nsof.specs.Written.{nsof}
@@ -22,7 +22,7 @@ use Rattle.newt_spec_store.specs.Valid.{valid_entry}
 use Rattle.newt_entries.specs.declared.row.LargeAt.{LargeAt}
 use Rattle.newt_entries.specs.Entry.{row_at, names_from, fits, filled}
 use Rattle.newt_entries.specs.Filling.{next_of, put_node, put_in, HasBytes}
-use Rattle.newt_entries.proofs.Putting.{AreEmpty, named-empty, named-count, named-few, put_graph, filled-is, put-limits, put-is_graph}
+use Rattle.newt_entries.proofs.Putting.{named-empty, named-count, named-few, put_graph, filled-is, put-limits, put-is_graph}
 
 -- ---- what a skeleton has that is filled
 

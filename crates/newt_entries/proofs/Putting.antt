@@ -1,21 +1,19 @@
 -- The nodes of a skeleton with bytes in its large binaries: what is filled in, and that it is a graph where it is within the limits.
-use Rattle.std.proofs.Common.{arith, ◌≡◌, refl, ap, sym, ◌∙◌, subst, ℕ, zero, suc, ◌+◌, ◌<◌, ◌≤◌, List, [], ◌∷◌, ◌++◌, true, false, Bool, ◌&&◌, cond, Option, Some, None, is_some, length, fold, map, zip, sum_by, nat_le, get_or, ◌==◌, leb-true}
-use Rattle.std.specs.Prelude.{slice_get, All, replicate, bytes_eq}
-use Rattle.std.specs.List.{list_all, enumerate_from, flat_map}
+use Rattle.std.proofs.Common.{arith, ◌≡◌, refl, ap, sym, ◌∙◌, subst, ℕ, suc, ◌+◌, ◌≤◌, List, [], ◌∷◌, ◌++◌, true, false, Bool, ◌&&◌, cond, Some, None, is_some, length, fold, map, zip, sum_by, nat_le, ◌==◌, leb-true}
+use Rattle.std.specs.Prelude.{All, bytes_eq}
+use Rattle.std.specs.List.{list_all}
 use Rattle.std.proofs.lemmas.Bool.{eqb-true, and_parts, le-leb}
-use Rattle.std.proofs.lemmas.List.{append_assoc, length-map, length-replicate}
+use Rattle.std.proofs.lemmas.List.{append_assoc, length-map}
 use Rattle.std.proofs.lemmas.List.Elements.{All-nil, All-cons, All-head, All-tail}
 use Rattle.std.proofs.lemmas.List.Sums.{sum_by-cons}
 use Rattle.newt_graph.specs.declared.node.Ref.{Ref}
 use Rattle.newt_graph.specs.declared.node.Ref.TheVariants as refs
 use Rattle.newt_graph.specs.declared.node.Node.{Node}
-use Rattle.newt_graph.specs.declared.node.Node.TheVariants.{Symbol, Str, Binary, Large, Array, Frame}
+use Rattle.newt_graph.specs.declared.node.Node.TheVariants.{Large, Array, Frame}
 use Rattle.newt_graph.specs.Graph.{RawGraph, WalkLabel, WalkLabels, Walk, Walks, IsData, IsNode, IsGraph, payload}
 use Rattle.newt_graph.specs.Meeting.{normal_form, limited}
 use Rattle.newt_graph.proofs.Follows.{walked_form}
-use Rattle.newt_spec_graph.specs.Graph.{object, is_frame}
 use Rattle.newt_spec_graph.specs.Limits.{node_within, within_limits}
-use Rattle.newt_spec_store.specs.Image.{larges}
 use Rattle.newt_spec_store.specs.StoreOf.{LargeRow, fill, with_bytes}
 use Rattle.newt_laws_images.proofs.Both.{Both}
 use Rattle.newt_laws_images.proofs.Records.{larges_from, at-length, push-length, fill_nodes, fold-fill}

@@ -1,16 +1,16 @@
 -- What a record is read as beside other objects.
-use Rattle.std.proofs.Common.{◌≡◌, ℕ, ◌-◌, ◌*◌, ◌<◌, ◌≤◌, Bool, true, false, cond, List, length, take, drop, Option, Some, None, option_map, option_and_then, refl, sym, ap, subst, ◌∙◌, map, arith, ◌+◌}
+use Rattle.std.proofs.Common.{◌≡◌, ℕ, ◌-◌, ◌*◌, ◌<◌, ◌≤◌, Bool, true, false, cond, List, length, take, drop, Option, Some, None, option_map, option_and_then, sym, ap, subst, ◌∙◌, map, arith, ◌+◌}
 use Rattle.std.proofs.lemmas.List.{drop-drop}
 use Rattle.newt_base.specs.Text.{be16_at, be32_at}
 use Rattle.newt_graph.specs.Graph.{RawGraph}
 use Rattle.newt_nsof.specs.Written.{nsof}
 use Rattle.newt_spec_store.specs.Lies.{only, is_record, record_read}
-use Rattle.newt_spec_store.specs.StoreOf.{LargeRow, EntryRow, entry_row, written}
+use Rattle.newt_spec_store.specs.StoreOf.{LargeRow, EntryRow, written}
 use Rattle.newt_entries.specs.Entry.{stream_graph, row_at, rows_in, fits}
 use Rattle.newt_entries.specs.declared.row.LargeAt.{LargeAt}
 use Rattle.newt_entries.proofs.Steps.{rest-is}
 use Rattle.newt_entries.proofs.Streams.{written_text}
-use Rattle.newt_entries.proofs.Rows.{the_row, text_size, row_read, row_short, row_headless}
+use Rattle.newt_entries.proofs.Rows.{the_row, text_size, row_read, row_short}
 
 abbrev read_row : Option EntryRow → Option (EntryRow × RawGraph)
 read_row o = only is_record (option_and_then (λ row. option_map (λ g. (row, g)) (written stream_graph row.text)) o)
@@ -28,9 +28,6 @@ by_graph : (bytes : List ℕ) → 12 ≤ length bytes → 12 * be16_at bytes 2 �
     → record_read stream_graph bytes ≡ only is_record (option_map (λ g. (row_in bytes (the_text bytes), g)) (written stream_graph (the_text bytes)))
 by_graph bytes h room = ap read_row (row_read bytes h room)
 
-pub not_written : (bytes : List ℕ) → 12 ≤ length bytes → 12 * be16_at bytes 2 ≤ length bytes - 12 → written stream_graph (the_text bytes) ≡ None → record_read stream_graph bytes ≡ None
-not_written bytes h room none = by_graph bytes h room ∙ ap (λ o. only is_record (option_map (λ g. (row_in bytes (the_text bytes), g)) o)) none
-
 by_tests : (bytes : List ℕ) (g : RawGraph) → 12 ≤ length bytes → 12 * be16_at bytes 2 ≤ length bytes - 12 → written stream_graph (the_text bytes) ≡ Some g
     → record_read stream_graph bytes ≡ cond (fits (the_rows bytes) g) (Some (row_in bytes (the_text bytes), g)) None
 by_tests bytes g h room e = by_graph bytes h room ∙ ap (λ o. only is_record (option_map (λ g. (row_in bytes (the_text bytes), g)) o)) e
@@ -45,9 +42,6 @@ unfit bytes g h room e is = by_tests bytes g h room e ∙ ap {A = Bool} {B = Opt
 
 pub short : (bytes : List ℕ) → 12 ≤ length bytes → length bytes - 12 < 12 * be16_at bytes 2 → record_read stream_graph bytes ≡ None
 short bytes h room = ap read_row (row_short bytes h room)
-
-pub headless : (bytes : List ℕ) → length bytes < 12 → record_read stream_graph bytes ≡ None
-headless bytes h = ap read_row (row_headless bytes h)
 
 -- ---- the text and the rows as a reader takes them
 
@@ -88,7 +82,3 @@ module _ (bytes : List ℕ) (g : RawGraph) (rows : List LargeAt) (count : ℕ) (
 
   pub not_found : fits (map row_at rows) g ≡ false → record_read stream_graph bytes ≡ None
   not_found is = unfit bytes g h its-room its-text (ap (λ ls. fits ls g) (sym its-rows) ∙ is)
-
-pub not_spelled : (bytes : List ℕ) (count : ℕ) → 12 ≤ length bytes → 12 * count ≤ length bytes - 12 → count ≡ be16_at bytes 2 → written stream_graph (taken_text bytes count) ≡ None → record_read stream_graph bytes ≡ None
-not_spelled bytes count h room e none =
-    not_written bytes h (subst (λ n. 12 * n ≤ length bytes - 12) e room) (ap (written stream_graph) (sym (text-is bytes count e)) ∙ none)

@@ -1,5 +1,5 @@
 -- The fields of an entry's record, read from the front of bytes.
-use Rattle.std.proofs.Common.{◌≡◌, ◌⊎◌, inl, inr, ℕ, zero, suc, ◌+◌, ◌-◌, ◌*◌, ◌^◌, ◌<◌, ◌≤◌, Bool, true, false, leb, List, [], ◌∷◌, length, get_or, take, drop, fold, Option, Some, None, option_and_then, refl, ap, sym, ◌∙◌, arith, leb-true, leb-false}
+use Rattle.std.proofs.Common.{◌≡◌, ◌⊎◌, inl, inr, ℕ, zero, suc, ◌+◌, ◌-◌, ◌*◌, ◌^◌, ◌<◌, ◌≤◌, Bool, true, false, leb, List, [], ◌∷◌, length, get_or, take, drop, fold, Some, None, option_and_then, refl, ap, ◌∙◌, arith, leb-true, leb-false}
 use Rattle.std.proofs.lemmas.Bool.{le-leb}
 use Rattle.std.proofs.lemmas.List.{drop_all, length-drop, drop-drop, get_or-drop}
 use Rattle.newt_base.specs.Text.{be16_at, be32_at}
@@ -195,22 +195,3 @@ row_short bytes h room =
     ∙ ap (option_and_then (λ (r : List ℕ × List ℕ). (times (be16_at bytes 2) large_row >>= λ ls. give (the_row (be16_at bytes 0) (be32_at bytes 4) (be32_at bytes 8) r.0 ls)) r.1)) (taken 0 rest (omega arith))
     ∙ ap (option_and_then (λ (r : List LargeRow × List ℕ). Some (the_row (be16_at bytes 0) (be32_at bytes 4) (be32_at bytes 8) [] r.0, r.1)))
     (larges_short (be16_at bytes 2) rest (omega (arith, size, room))))
-
-pub row_headless : (bytes : List ℕ) → length bytes < 12 → entry_row bytes ≡ None
-row_headless bytes h = ap whole_of (go (le_or_lt 2 (length bytes)))
-  where
-    last : 2 ≤ length bytes → 2 ≤ length (drop 2 bytes) → (4 ≤ length (drop 2 (drop 2 bytes))) ⊎ (length (drop 2 (drop 2 bytes)) < 4) → entry_fields (length bytes - 12) bytes ≡ None
-    last a b (inr c) = reads 2 (from_count (length bytes - 12)) bytes a ∙ reads 2 (from_uid (length bytes - 12) (value 2 bytes)) (drop 2 bytes) b
-        ∙ none_read 4 (from_time (length bytes - 12) (value 2 bytes) (value 2 (drop 2 bytes))) (drop 2 (drop 2 bytes)) c
-    last a b (inl c) = reads 2 (from_count (length bytes - 12)) bytes a ∙ reads 2 (from_uid (length bytes - 12) (value 2 bytes)) (drop 2 bytes) b
-        ∙ reads 4 (from_time (length bytes - 12) (value 2 bytes) (value 2 (drop 2 bytes))) (drop 2 (drop 2 bytes)) c
-        ∙ none_read 4 (from_text (length bytes - 12) (value 2 bytes) (value 2 (drop 2 bytes)) (value 4 (drop 2 (drop 2 bytes)))) (drop 4 (drop 2 (drop 2 bytes)))
-        (omega (arith, length-drop 4 (drop 2 (drop 2 bytes)), length-drop 2 (drop 2 bytes), length-drop 2 bytes, h))
-
-    third : 2 ≤ length bytes → (2 ≤ length (drop 2 bytes)) ⊎ (length (drop 2 bytes) < 2) → entry_fields (length bytes - 12) bytes ≡ None
-    third a (inl b) = last a b (le_or_lt 4 (length (drop 2 (drop 2 bytes))))
-    third a (inr b) = reads 2 (from_count (length bytes - 12)) bytes a ∙ none_read 2 (from_uid (length bytes - 12) (value 2 bytes)) (drop 2 bytes) b
-
-    go : (2 ≤ length bytes) ⊎ (length bytes < 2) → entry_fields (length bytes - 12) bytes ≡ None
-    go (inl a) = third a (le_or_lt 2 (length (drop 2 bytes)))
-    go (inr a) = none_read 2 (from_count (length bytes - 12)) bytes a

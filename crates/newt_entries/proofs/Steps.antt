@@ -1,19 +1,18 @@
 -- The steps of the loops over rows and nodes.
-use Rattle.std.proofs.Common.{arith, ◌≡◌, refl, ap, sym, subst, ◌∙◌, ℕ, zero, suc, ◌+◌, ◌-◌, ◌<◌, ◌≤◌, List, [], ◌∷◌, ◌++◌, true, false, Bool, ◌&&◌, Option, Some, None, length, get_or, take, drop, map, zip, ◌==◌, append_assoc}
-use Rattle.std.specs.Prelude.{bytes_eq, All}
-use Rattle.std.specs.List.{list_all, flat_map}
-use Rattle.std.proofs.lemmas.Bool.{eq-eqb}
-use Rattle.std.proofs.lemmas.List.{append-nil, map-append, length-map, length-drop, take_all, at_drop_more, at_drop_all}
+use Rattle.std.proofs.Common.{arith, ◌≡◌, refl, ap, sym, subst, ◌∙◌, ℕ, zero, suc, ◌+◌, ◌-◌, ◌<◌, ◌≤◌, List, [], ◌∷◌, ◌++◌, Some, None, length, get_or, take, drop, map, zip, append_assoc}
+use Rattle.std.specs.Prelude.{All}
+use Rattle.std.specs.List.{flat_map}
+use Rattle.std.proofs.lemmas.List.{map-append, length-map, length-drop, take_all, at_drop_more}
 use Rattle.std.proofs.lemmas.List.Elements.{All-tail}
 use Rattle.std.proofs.lemmas.Slice.Zip.{length-zip}
 use Rattle.newt_base.specs.Text.{be32_at}
 use Rattle.newt_graph.specs.declared.node.Node.{Node}
-use Rattle.newt_graph.specs.declared.node.Node.TheVariants.{Symbol, Str, Binary, Large, Array, Frame}
+use Rattle.newt_graph.specs.declared.node.Node.TheVariants.{Large}
 use Rattle.newt_spec_store.specs.Laid.{row_of_large}
 use Rattle.newt_spec_store.specs.StoreOf.{LargeRow}
 use Rattle.newt_laws_images.proofs.Records.{larges_from}
 use Rattle.newt_entries.specs.declared.row.LargeAt.{LargeAt}
-use Rattle.newt_entries.specs.Entry.{row_at, rows_in, names_from}
+use Rattle.newt_entries.specs.Entry.{row_at, rows_in}
 use Rattle.newt_entries.specs.Filling.{bytes_in, length_in, put_node, put_in}
 use Rattle.newt_entries.proofs.Putting.{larges-few}
 
@@ -39,22 +38,6 @@ pub rest-size : {X : Type 0} (n : ℕ) (xs : List X) → length (take (length xs
 rest-size n xs = ap length (rest-is n xs) ∙ length-drop n xs
 
 -- ---- rows that name large binaries
-
-pub named-large : (k class : ℕ) (bytes : List ℕ) (rest : List Node) (row : LargeAt) (others : List LargeAt) → row.node ≡ k → length bytes ≡ 0
-    → names_from k (Large class bytes ∷ rest) (map row_at (row ∷ others)) ≡ names_from (k + 1) rest (map row_at others)
-named-large k class bytes rest row others same none =
-    (λ i. (same-number i && bytes_eq (map (λ (l : ℕ × List ℕ). l.0) (larges_from (k + 1) rest)) (map (λ (l : LargeRow). l.0) (map row_at others)))
-    && (empty i && list_all (λ (l : ℕ × List ℕ). length l.1 == 0) (larges_from (k + 1) rest)))
-  where
-    same-number : (k == row.node) ≡ true
-    same-number = eq-eqb k row.node (sym same)
-
-    empty : (length bytes == 0) ≡ true
-    empty = eq-eqb (length bytes) 0 none
-
-pub named-other : (k : ℕ) (x : Node) (rest : List Node) (rows : List LargeRow) → length_in x ≡ None → names_from k (x ∷ rest) rows ≡ names_from (k + 1) rest rows
-named-other k (Large c b) rest rows h = absurd cc
-named-other k x rest rows h = refl
 
 -- ---- rows that are made
 
@@ -99,13 +82,6 @@ made-few rows nodes ids h =
     let same = sym (length-map rows row_at) ∙ ap length h ∙ length-map (zip (larges_from 0 nodes) ids) row_of_large ∙ length-zip (larges_from 0 nodes) ids in
     omega (arith, same, larges-few 0 nodes)
 
-none-zip : {X Y : Type 0} (xs : List X) → zip {K = X} {X = Y} xs [] ≡ []
-none-zip [] = refl
-none-zip (x ∷ xs) = refl
-
-pub made-end : (rows : List LargeAt) (k : ℕ) (left : List Node) (all : List LargeRow) → map row_at rows ++ map row_of_large (zip (larges_from k left) []) ≡ all → map row_at rows ≡ all
-made-end rows k left all so_far = sym (append-nil (map row_at rows)) ∙ ap (λ ls. map row_at rows ++ map row_of_large ls) (sym (none-zip (larges_from k left))) ∙ so_far
-
 -- ---- nodes that are filled
 
 pub put-more : (out next nodes : List Node) (i : ℕ) (n d : Node) (bs left : List (List ℕ)) (all : List Node) → i < length nodes → put_node (get_or nodes i d) bs ≡ (n, left) → next ≡ out ++ n ∷ []
@@ -114,9 +90,6 @@ put-more out next nodes i n d bs left all lt put e so_far =
     let more : put_in (drop i nodes) bs ≡ n ∷ put_in (drop (i + 1) nodes) left =
     at_drop_more (λ ns. put_in ns bs) nodes i d lt ∙ (λ j. (put j).0 ∷ put_in (drop (i + 1) nodes) (put j).1) in
     ap (λ ns. ns ++ put_in (drop (i + 1) nodes) left) e ∙ append_assoc out (n ∷ []) (put_in (drop (i + 1) nodes) left) ∙ ap (λ ns. out ++ ns) (sym more) ∙ so_far
-
-pub put-done : (out nodes : List Node) (i : ℕ) (bs : List (List ℕ)) (all : List Node) → length nodes ≤ i → out ++ put_in (drop i nodes) bs ≡ all → out ≡ all
-put-done out nodes i bs all le so_far = sym (append-nil out) ∙ ap (λ ns. out ++ ns) (sym (at_drop_all (λ ns. put_in ns bs) nodes i le)) ∙ so_far
 
 -- ---- bytes of large binaries
 

@@ -1,12 +1,11 @@
 -- A row that is written is the record of its entry.
-use Rattle.std.proofs.Common.{arith, ◌≡◌, refl, ap, sym, ◌∙◌, ℕ, ◌+◌, ◌<◌, ◌≤◌, List, [], ◌∷◌, ◌++◌, length, map, zip, min}
+use Rattle.std.proofs.Common.{arith, ◌≡◌, ap, sym, ◌∙◌, ℕ, ◌+◌, List, ◌++◌, length, map, zip}
 use Rattle.std.specs.List.{flat_map}
 use Rattle.std.proofs.lemmas.List.{length-map}
 use Rattle.std.proofs.lemmas.List.Folds.{flat_map-map}
 use Rattle.std.proofs.lemmas.Slice.Zip.{length-zip}
 use Rattle.newt_base.specs.Text.{be16, be32}
 use Rattle.newt_graph.specs.Graph.{RawGraph}
-use Rattle.newt_nsof.specs.Lengths.{skeleton}
 use Rattle.newt_nsof.specs.Written.{nsof}
 use Rattle.newt_spec_store.specs.Image.{larges, large_row, entry_bytes}
 use Rattle.newt_spec_store.specs.Laid.{Named, row_of_large}

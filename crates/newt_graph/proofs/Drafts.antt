@@ -208,11 +208,6 @@ slot_kept nodes n node tags values tag value total at e h =
       sum,
     )
 
-pub slot_paired : (nodes : List Node) (n : ℕ) (tags : List ℕ) (values : List Ref) → slice_get nodes n ≡ Some (Frame tags values) → IsDraft nodes → length values ≡ length tags
-slot_paired nodes n tags values at draft =
-    let part : IsPart (Frame tags values) = subst IsPart (get_or_from_slice_get nodes n (Frame tags values) (Frame tags values) at) (draft.each n (Frame tags values) (slice_get_within nodes n (Frame tags values) at)) in
-    part.1
-
 pub set_gives : (nodes : List Node) (n : ℕ) (node : Node) (tags : List ℕ) (values : List Ref) (tag : ℕ) (value : Ref) → slice_get nodes n ≡ Some (Frame tags values) → with_slot tags values tag value ≡ Some node
     → with_set nodes n tag value ≡ Some (set nodes n node)
 unfolding with_set

@@ -1,7 +1,7 @@
 //! Puts a graph together.
-ghost use Rattle.std.specs.Prelude.{◌≡◌, ◌<◌, ◌≤◌, [], length, slice_get, Some, IfOk, IsErrOf, OnOk, OnErr, not, IsTrue, nat_le};
+ghost use Rattle.std.specs.Prelude.{◌≡◌, ◌<◌, ◌≤◌, [], length, Some, IfOk, IsErrOf, OnOk, OnErr};
 ghost use Rattle.std.specs.List.{sum_by};
-ghost use Rattle.newt_graph.specs.Graph.{RawGraph, IsName, IsSymbol, payload};
+ghost use Rattle.newt_graph.specs.Graph.{RawGraph, IsName, payload};
 ghost use Rattle.newt_graph.specs.Raw.{IsNormalForm};
 ghost use Rattle.newt_graph.specs.Meeting.{Gives, place, normal_form};
 ghost use Rattle.newt_graph.specs.Import.{with_graph};

@@ -1,9 +1,9 @@
 //! The walk over nodes in any order.
-ghost use Rattle.std.specs.Prelude.{◌≡◌, ◌<◌, ◌+◌, ◌^◌, OnOk, IfOk, map, ◌-◌, nat_le, length, All, Some, None, slice_get, if◌then◌else◌};
+ghost use Rattle.std.specs.Prelude.{◌≡◌, ◌<◌, ◌+◌, ◌^◌, OnOk, IfOk, map, ◌-◌, nat_le, length, All, Some, None, if◌then◌else◌};
 ghost use Rattle.std.specs.List.{sum_by};
-ghost use Rattle.newt_graph.specs.Graph.{RawGraph, payload};
+ghost use Rattle.newt_graph.specs.Graph.{payload};
 ghost use Rattle.newt_graph.specs.Raw.{renamed_ref, renamed_class, renamed, IsRaw, IsNormalForm};
-ghost use Rattle.newt_graph.specs.Meeting.{Gives, Seen, meet_label, meet_labels, meet_class, meet_each, meet, number, moved, place, Once, normal_form};
+ghost use Rattle.newt_graph.specs.Meeting.{Gives, meet_label, meet_labels, meet_class, meet_each, meet, number, moved, Once, normal_form};
 
 use crate::fault::GraphFault;
 use crate::graph::Graph;

@@ -1,9 +1,9 @@
 -- Each call goes on from the moment at which it began.
-use Rattle.std.proofs.Common.{◌≡◌, ◌↔◌, ◌⊎◌, inl, inr, ℕ, ◌+◌, ◌-◌, ◌≤◌, List, [], ◌∷◌, ◌++◌, length, drop, Result, Ok, Err, refl, sym, ◌∙◌, ap, subst, arith, append_assoc, length-append}
+use Rattle.std.proofs.Common.{◌≡◌, ◌↔◌, ◌⊎◌, inl, inr, ℕ, ◌+◌, ◌-◌, ◌≤◌, List, [], ◌∷◌, ◌++◌, length, drop, Result, refl, sym, ◌∙◌, ap, subst, arith, append_assoc, length-append}
 use Rattle.std.proofs.lemmas.Bool.{cases_lt}
 use Rattle.std.proofs.Math.Seq.{drop-append-add}
-use Rattle.newt_host.specs.Moments.{Event, On, Wrote, Synced, Printed, Moment, output, MayLeave, Extends, Always, here, later, moment_at, LeftSince}
-use Rattle.newt_host.specs.Outside.{Writes, Syncs, PrintsSome, printed}
+use Rattle.newt_host.specs.Moments.{Event, On, Wrote, Printed, Moment, output, MayLeave, Extends, Always, here, later, moment_at, LeftSince}
+use Rattle.newt_host.specs.Outside.{Writes, PrintsSome, printed}
 
 pub extends-refl : (m : Moment) → Extends m m
 extends-refl m = record { more = []; is = refl }
@@ -23,14 +23,6 @@ extends-writes {unit = unit} {at = at} {old = old} wrote = elim wrote.moment [
   | inl is ↦ record { more = On unit (Wrote at wrote.reads) ∷ []; is = is }
   | inr same ↦ record { more = []; is = same.0 }
 ]
-
-pub extends-syncs : {T E : Type 0} {unit : ℕ} {result : Result T E} {old new : Moment} → Syncs unit result old new → Extends old new
-extends-syncs {unit = unit} {result = Ok x} synced = record { more = On unit Synced ∷ []; is = synced.done }
-extends-syncs {unit = unit} {result = Err e} synced = record { more = []; is = synced.failed }
-
-pub extends-printed : (bytes : List ℕ) (m : Moment) → Extends m (printed bytes m)
-extends-printed [] m = extends-refl m
-extends-printed (byte ∷ bytes) m = extends-trans (extends-one (Printed byte) m) (extends-printed bytes (Printed byte ∷ m))
 
 -- a moment that had come by then is the same since
 pub moment-stays : (k : ℕ) {old new : Moment} → Extends old new → k ≤ length old → moment_at k new ≡ moment_at k old

@@ -1,5 +1,5 @@
 -- What follows of a device that has gone through a history.
-use Rattle.std.proofs.Common.{◌≡◌, ◌≢◌, ℕ, ◌+◌, ◌≤◌, Bool, true, false, cond, eqb, List, [], ◌∷◌, length, Option, Some, None, IsSome, refl, sym, ◌∙◌, ap, subst, arith}
+use Rattle.std.proofs.Common.{◌≡◌, ℕ, ◌+◌, ◌≤◌, Bool, true, false, cond, eqb, List, [], ◌∷◌, length, Option, Some, None, IsSome, refl, sym, ◌∙◌, ap, subst, arith}
 use Rattle.std.proofs.lemmas.Bool.Decides.{nat_tests}
 use Rattle.newt_host.specs.Meanings.{Begins}
 use Rattle.newt_host.specs.Moments.{Change, Attached, Wrote, Synced, On, Printed, Moment, bytes_after, LeftBy, changes, image, IsHistory, attached_at}
@@ -77,9 +77,6 @@ attached-early unit t (Printed byte ∷ before) is = let low = attached-early un
 
 pub attached-same : (unit : ℕ) (bytes : List ℕ) (m : Moment) → attached_at unit (On unit (Attached bytes) ∷ m) ≡ Some (length m + 1)
 attached-same unit bytes m = grind (arith, nat_tests)
-
-pub attached-other : (unit u : ℕ) (bytes : List ℕ) (m : Moment) → unit ≢ u → attached_at unit (On u (Attached bytes) ∷ m) ≡ attached_at unit m
-attached-other unit u bytes m differ = grind (arith, nat_tests)
 
 pub attached-printed : (unit : ℕ) (bytes : List ℕ) (m : Moment) → attached_at unit (printed bytes m) ≡ attached_at unit m
 attached-printed unit [] m = refl

@@ -1,5 +1,5 @@
 -- Worked rows of the definitions, computed.
-use Rattle.std.proofs.Common.{◌≡◌, ℕ, List, [], ◌∷◌, Option, Some, None, refl}
+use Rattle.std.proofs.Common.{◌≡◌, [], ◌∷◌, Some, None, refl}
 use Rattle.newt_image.specs.Records.{chosen, payloads_after, tail_after, length_at, record_bytes, length_bytes, bank_blocks, bank_start}
 
 -- The votes of blocks 0, 1 and 2, and the bank that they choose. 255 is no vote.

@@ -1,18 +1,16 @@
 -- Pairs of a declaration put in order, one more and one less.
-use Rattle.std.proofs.Common.{◌≡◌, ℕ, Bool, true, false, not, cond, List, [], ◌∷◌, ◌++◌, refl, sym, ◌∙◌, ap, fold}
+use Rattle.std.proofs.Common.{◌≡◌, Bool, true, false, not, cond, List, [], ◌∷◌, refl, sym, ◌∙◌, ap}
 use Rattle.std.specs.List.{All}
 use Rattle.std.specs.declared.cmp.Ordering.{Ordering}
 use Rattle.std.specs.declared.cmp.Ordering.TheVariants.{Less, Equal, Greater}
-use Rattle.std.specs.Ordering.{nat_cmp, ordering_then, ordering_reverse, is_lt, is_eq}
+use Rattle.std.specs.Ordering.{nat_cmp, ordering_then, ordering_reverse, is_lt}
 use Rattle.std.specs.Cmp.{then_flip}
 use Rattle.std.specs.FinMap.{nat_cmp-IsAntisymmetric}
 use Rattle.std.proofs.lemmas.Cmp.{nat_cmp_total}
-use Rattle.std.proofs.lemmas.List.Elements.{All-head, All-tail, All-cons}
-use Rattle.newt_spec_store.specs.Keys.{Key, IndexSpec, key_cmp}
-use Rattle.newt_spec_store.specs.Sorted.{insert_by, sorted_by}
+use Rattle.std.proofs.lemmas.List.Elements.{All-head, All-tail}
+use Rattle.newt_spec_store.specs.Keys.{IndexSpec, key_cmp}
 use Rattle.newt_keys.proofs.OrderLaws.{turns, chains, equal_keys, tied}
-use Rattle.newt_keys.specs.KeyForm.{IsKeyOf}
-use Rattle.newt_index.specs.Pairs.{Pair, pair_cmp, added, removed, IsPair}
+use Rattle.newt_index.specs.Pairs.{Pair, pair_cmp, added, IsPair}
 
 -- ---- the order of pairs
 
@@ -112,45 +110,3 @@ swapped spec (y ∷ ys) p q hl hp hq apart =
     (opposite (pair_cmp spec p q) (pair_cmp spec q p) (pair_turns spec p q hp hq) (λ e. apart (pair_equal spec p q hp hq e)))
     (chained spec q p y hq hp hy) (chained spec p q y hp hq hy)
     (swapped spec ys p q (All-tail (IsPair spec) y ys hl) hp hq apart)
-
-pub added_keeps : (P : Pair → Type 0) (spec : IndexSpec) (l : List Pair) (p : Pair) → All P l → P p → All P (added spec l p)
-added_keeps P spec [] p hl hp = All-cons P p [] hp hl
-added_keeps P spec (y ∷ ys) p hl hp =
-    by (is_lt (pair_cmp spec p y)) (added_keeps P spec ys p (All-tail P y ys hl) hp)
-  where
-    by : (b : Bool) → All P (added spec ys p) → All P (cond b (p ∷ y ∷ ys) (y ∷ added spec ys p))
-    by true rest = All-cons P p (y ∷ ys) hp hl
-    by false rest = All-cons P y (added spec ys p) (All-head P y ys hl) rest
-
-pub placed_keeps : (P : Pair → Type 0) (spec : IndexSpec) (l xs : List Pair) → All P l → All P xs → All P (fold (insert_by (pair_cmp spec)) l xs)
-placed_keeps P spec l [] hl hx = hl
-placed_keeps P spec l (x ∷ xs) hl hx = placed_keeps P spec (added spec l x) xs (added_keeps P spec l x hl (All-head P x xs hx)) (All-tail P x xs hx)
-
--- a pair other than this one
-abbrev pub IsOther : IndexSpec → Pair → Pair → Type 0
-IsOther spec p q = IsPair spec q × (p ≡ q → ⊥)
-
--- a pair may come to its place last
-pub placed_last : (spec : IndexSpec) (l : List Pair) (p : Pair) (xs : List Pair) → All (IsPair spec) l → IsPair spec p → All (IsOther spec p) xs
-    → fold (insert_by (pair_cmp spec)) (added spec l p) xs ≡ added spec (fold (insert_by (pair_cmp spec)) l xs) p
-placed_last spec l p [] hl hp hx = refl
-placed_last spec l p (x ∷ xs) hl hp hx =
-    let h = All-head (IsOther spec p) x xs hx in
-    ap (λ m. fold (insert_by (pair_cmp spec)) m xs) (swapped spec l p x hl hp h.0 h.1)
-    ∙ placed_last spec (added spec l x) p xs (added_keeps (IsPair spec) spec l x hl h.0) hp (All-tail (IsOther spec p) x xs hx)
-
--- a pair that was put at its place is taken out again
-pub taken_again : (spec : IndexSpec) (l : List Pair) (p : Pair) → IsPair spec p → All (IsOther spec p) l → removed spec (added spec l p) p ≡ l
-taken_again spec [] p hp hl = ap (λ o. cond (is_eq o) [] (p ∷ [])) (pair_itself spec p hp)
-taken_again spec (y ∷ ys) p hp hl =
-    let h = All-head (IsOther spec p) y ys hl in
-    by (is_lt (pair_cmp spec p y)) (taken_again spec ys p hp (All-tail (IsOther spec p) y ys hl)) (differ (pair_cmp spec p y) (λ e. h.1 (pair_equal spec p y hp h.0 e)))
-  where
-    differ : (o : Ordering) → (o ≡ Equal → ⊥) → is_eq o ≡ false
-    differ Less e = refl
-    differ Greater e = refl
-    differ Equal e = absurd (e refl)
-
-    by : (b : Bool) → removed spec (added spec ys p) p ≡ ys → is_eq (pair_cmp spec p y) ≡ false → removed spec (cond b (p ∷ y ∷ ys) (y ∷ added spec ys p)) p ≡ y ∷ ys
-    by true rest e = ap (λ o. cond (is_eq o) (y ∷ ys) (p ∷ removed spec (y ∷ ys) p)) (pair_itself spec p hp)
-    by false rest e = ap (λ b. cond b (added spec ys p) (y ∷ removed spec (added spec ys p) p)) e ∙ ap (λ l. y ∷ l) rest

@@ -1,5 +1,5 @@
 -- An index as a sorted list of keys with the ids of their entries.
-use Rattle.std.specs.Prelude.{◌≡◌, ◌<◌, ◌^◌, ℕ, Bool, not, ◌==◌, List, [], ◌∷◌, filter, Option, Some, None, cond, All}
+use Rattle.std.specs.Prelude.{◌≡◌, ◌<◌, ◌^◌, ℕ, not, ◌==◌, List, [], ◌∷◌, filter, Option, Some, None, cond, All}
 use Rattle.std.specs.declared.cmp.Ordering.{Ordering}
 use Rattle.std.specs.declared.cmp.Ordering.TheVariants.{Less}
 use Rattle.std.specs.Ordering.{nat_cmp, ordering_then, match_ordering, is_lt, is_eq, is_gt}

@@ -1,5 +1,5 @@
 -- The ranges of a store whose entries were read are the store's.
-use Rattle.std.proofs.Common.{◌≡◌, ℕ, ◌==◌, ◌<◌, Bool, true, cond, List, [], ◌∷◌, map, Option, Some, None, refl, sym, ◌∙◌, ap, subst, inl, inr, ◌⊎◌, arith}
+use Rattle.std.proofs.Common.{◌≡◌, ℕ, ◌==◌, ◌<◌, Bool, true, cond, List, [], ◌∷◌, map, Option, Some, None, refl, sym, ◌∙◌, ap, subst, inl, inr, arith}
 use Rattle.std.specs.Option.{option_and_then}
 use Rattle.std.proofs.lemmas.Bool.{eq-eqb}
 use Rattle.newt_spec_graph.specs.Lists.{Each, Pairs, Among}
@@ -64,10 +64,6 @@ module _ (s : Store) (ps : List Soup) (one : (sig : ℕ) → OnePasses (of_sig s
       listed-soups sigs (told_all sig s (uids_in (soup_of sig s)) told) (rows_with_all sig s (uids_in (soup_of sig s)) rows) formed rise.1
       (later-none sig (uids_in (soup_of sig s)) told sigs rise.0 none.1)
       (listed-all sig (uids_in (soup_of sig s)) told rows (ids-rise sig s formed) (ids-there sig s formed) (each-from (λ u. told sig u ≡ None) (uids_in (soup_of sig s)) (λ z m. none.0 z)) are)
-
--- the graphs of a soup that was among those are told
-abbrev IsKnown : Store → List ℕ → Told → ℕ → ℕ → Type 0
-IsKnown s sigs later t w = (Among sigs t → ⊥) ⊎ (later t w ≡ graph_in (entry_in t w s))
 
 -- what was told of a soup that is none of these stays
 others-told : (s : Store) (sigs : List ℕ) (told : Told) (t w : ℕ) → Each (λ sig. t < sig) sigs → told_soups s sigs told t w ≡ told t w

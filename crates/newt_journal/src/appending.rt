@@ -1,5 +1,5 @@
 // A record that is being written behind the others.
-ghost use Rattle.std.specs.Prelude.{IsTrue, ◌≡◌, ◌≤◌, ◌<◌, ◌+◌, ◌*◌};
+ghost use Rattle.std.specs.Prelude.{IsTrue, ◌≡◌, ◌≤◌, ◌<◌, ◌+◌};
 ghost use Rattle.newt_journal.specs.Bank.{limit_of};
 
 use crate::Journal;

@@ -1,5 +1,5 @@
 // A bank is begun anew.
-ghost use Rattle.std.specs.Prelude.{IsTrue, ◌≡◌, ◌≤◌, ◌+◌, ◌-◌, OnErr, OnOk};
+ghost use Rattle.std.specs.Prelude.{IsTrue, ◌≤◌, ◌+◌, ◌-◌, OnErr, OnOk};
 ghost use Rattle.newt_host.specs.Moments.{image, changes, IsDurable, SameOutside, Leaves};
 ghost use Rattle.newt_host.specs.Outside.{HasBlocks, Touches, Spends, Rose};
 ghost use Rattle.newt_image.specs.Records.{bank_size};

@@ -1,7 +1,7 @@
 // A unit becomes a journal.
 ghost use Rattle.std.specs.Prelude.{IsTrue, ◌≡◌, ◌≤◌, OnErr, OnOk};
-ghost use Rattle.newt_host.specs.Moments.{image, IsDurable, SameOutside, Leaves};
-ghost use Rattle.newt_host.specs.Outside.{HasBlocks, Touches, Spends, Rose};
+ghost use Rattle.newt_host.specs.Moments.{image, IsDurable, Leaves};
+ghost use Rattle.newt_host.specs.Outside.{Touches, Spends, Rose};
 ghost use Rattle.newt_image.specs.Records.{AllVoteFor};
 ghost use Rattle.newt_journal.specs.Fresh.{Anything};
 

@@ -1,5 +1,5 @@
 -- Whether two lists agree one by one, through what is seen of their elements.
-use Rattle.std.proofs.Common.{◌≡◌, ℕ, Bool, true, false, ◌&&◌, List, [], ◌∷◌, map, refl, sym, ◌∙◌, ap, length, nat_eq}
+use Rattle.std.proofs.Common.{◌≡◌, ℕ, Bool, ◌&&◌, List, [], ◌∷◌, map, refl, ◌∙◌, ap, length}
 use Rattle.std.specs.Prelude.{zip, ◌==◌}
 use Rattle.std.proofs.lemmas.List.{length-map}
 use Rattle.newt_spec_store.specs.Keys as spec

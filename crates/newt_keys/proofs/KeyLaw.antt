@@ -1,5 +1,5 @@
 -- The bytes of keys order as the keys.
-use Rattle.std.proofs.Common.{◌≡◌, ℕ, suc, zero, ◌+◌, ◌-◌, ◌*◌, ◌/◌, ◌%◌, ◌^◌, ◌<◌, ◌≤◌, ◌≢◌, List, [], ◌∷◌, ◌++◌, map, refl, sym, ◌∙◌, ap, subst, arith, length, ℤ, pos, negsuc, ◌<ℤ◌, append_assoc, append-nil}
+use Rattle.std.proofs.Common.{◌≡◌, ℕ, ◌+◌, ◌-◌, ◌*◌, ◌/◌, ◌%◌, ◌^◌, ◌<◌, List, [], ◌∷◌, ◌++◌, refl, sym, ◌∙◌, ap, subst, arith, ℤ, pos, negsuc, ◌<ℤ◌, append_assoc, append-nil}
 use Rattle.std.proofs.lemmas.List.Elements.{All-cons, All-nil}
 use Rattle.std.proofs.lemmas.Int.{ints}
 use Rattle.std.specs.Int.{w32}
@@ -10,14 +10,14 @@ use Rattle.std.specs.declared.cmp.Ordering.TheVariants.{Less, Equal, Greater}
 use Rattle.std.specs.Ordering.{nat_cmp, int_cmp, ordering_then, MatchOrdering}
 use Rattle.std.specs.Cmp.{nat_cmp_is}
 use Rattle.std.specs.Cmp.Lexicographic.{slice_cmp}
-use Rattle.std.proofs.lemmas.Cmp.{ranked, int_ranked, by_ranked}
+use Rattle.std.proofs.lemmas.Cmp.{int_ranked, by_ranked}
 use Rattle.newt_base.specs.Text.{be16, be32}
-use Rattle.newt_spec_store.specs.Keys.{Key, IndexSpec, IndexPart, Part, missing, words, whole, letter, name, in_direction, part_cmp, key_cmp}
+use Rattle.newt_spec_store.specs.Keys.{Key, IndexSpec, Part, missing, words, whole, letter, name, in_direction, part_cmp, key_cmp}
 use Rattle.newt_spec_store.specs.declared.Kind.{Kind}
 use Rattle.newt_spec_store.specs.declared.Kind.TheVariants as kind
 use Rattle.newt_spec_store.specs.declared.Order.{Order}
-use Rattle.newt_keys.specs.KeyForm.{IsPartOf, AreParts, IsKeyOf, turned, text_bytes, place_of, part_bytes, key_bytes}
-use Rattle.newt_keys.proofs.Turned.{then_then, text_law, digits_law, two_digits, less, equal, greater}
+use Rattle.newt_keys.specs.KeyForm.{IsPartOf, AreParts, IsKeyOf, place_of, part_bytes, key_bytes}
+use Rattle.newt_keys.proofs.Turned.{then_then, text_law, digits_law, two_digits}
 
 then_equal : (o : Ordering) → ordering_then o Equal ≡ o
 then_equal Less = refl

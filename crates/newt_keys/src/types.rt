@@ -5,7 +5,7 @@ ghost use Rattle.newt_spec_store.specs.Keys.{same_part, same_spec, paths_of};
 ghost use Rattle.newt_spec_store.specs.Keys as spec;
 ghost use Rattle.newt_spec_store.specs.Valid.{valid_spec};
 ghost use Rattle.newt_base.specs.Names.{same_path};
-ghost use Rattle.newt_keys.specs.Seen.{said, said_all, declared, declared_all};
+ghost use Rattle.newt_keys.specs.Seen.{said_all, declared, declared_all};
 
 use newt_graph::Bytes;
 use newt_path::Path;

@@ -1,11 +1,10 @@
 //! The order of keys of four parts with missing ones, in both directions, with ample memory.
 ghost use Rattle.std.specs.Prelude.{◌≡◌, ◌∷◌, [], IfOk};
-ghost use Rattle.newt_keys.specs.Seen.{declared};
 ghost use Rattle.newt_keys.specs.declared.types.IndexPart.{IndexPart};
 ghost use Rattle.newt_spec_store.specs.declared.Kind.TheVariants as kind;
 
-use newt_keys::{IndexPart, IndexSpec, Key, Kind, Order, Part, compare};
 use newt_graph::Bytes;
+use newt_keys::{IndexPart, IndexSpec, Key, Kind, Order, Part, compare};
 use newt_path::Path;
 use std::alloc::{AllocError, Global};
 use std::cmp::Ordering;

@@ -1,6 +1,6 @@
 //! What paths are read as, and paths into a graph of one immediate, with ample memory. Paths into larger graphs are tested where literals are read.
-use newt_path::{Path, PathFault, SetFault, set_at, value_at};
 use newt_graph::{Builder, Graph, GraphFault, Ref};
+use newt_path::{Path, PathFault, SetFault, set_at, value_at};
 use std::alloc::Global;
 use std::test::*;
 

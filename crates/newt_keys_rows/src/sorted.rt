@@ -3,9 +3,9 @@ ghost use Rattle.std.specs.Prelude.{◌≡◌, ◌∷◌, ◌<◌, ◌+◌, [], 
 ghost use Rattle.newt_spec_store.specs.Keys.{whole};
 ghost use Rattle.newt_keys_rows.specs.Trials.{integers};
 
-use newt_index::{Index, Probe};
 use newt_base::Uid;
 use newt_graph::Bytes;
+use newt_index::{Index, Probe};
 use newt_keys::{IndexPart, IndexSpec, Key, Kind, Order, Part};
 use newt_path::Path;
 use std::alloc::{AllocError, Global};

@@ -1,9 +1,8 @@
 -- Each row of the table keeps stores valid.
 use Rattle.std.proofs.Common.{arith, ◌≡◌, refl, ap, sym, ◌∙◌, subst, ℕ, ◌+◌, ◌*◌, ◌≤◌, List, [], ◌∷◌, true, false, Bool, not, ◌&&◌, ◌||◌, inl, Option, Some, None, option_and_then, unwrap_or, map, length, nat_lt, ◌==◌}
 use Rattle.std.specs.Prelude.{slice_get}
-use Rattle.std.specs.Option.{is_none, is_some}
+use Rattle.std.specs.Option.{is_none}
 use Rattle.std.specs.Bool.{⊤}
-use Rattle.std.specs.List.{list_all, list_any}
 use Rattle.std.proofs.lemmas.Bool.{eqb-false, ltb-false, le-leb, not-false}
 use Rattle.newt_base.specs.Names.{same_name}
 use Rattle.newt_base.specs.Refusals.{Checks, first_of}
@@ -16,8 +15,7 @@ use Rattle.newt_spec_graph.specs.Slots.{put}
 use Rattle.newt_spec_store.specs.Keys.{Path}
 use Rattle.newt_spec_store.specs.Store.{Store, Soup, Entry, soup_named, entry_of, change_soup, change_entry, add_entry}
 use Rattle.newt_image.specs.Objects.{pages_for}
-use Rattle.newt_spec_store.specs.Cost.{skeleton_length, cost, entry_pages}
-use Rattle.newt_base.specs.Names.{is_name}
+use Rattle.newt_spec_store.specs.Cost.{skeleton_length, entry_pages}
 use Rattle.newt_spec_store.specs.Valid.{well_formed, fits, valid_soup, valid_entry}
 use Rattle.newt_spec_query.specs.Hits.{Hit}
 use Rattle.newt_spec_query.specs.Cursor.{Cursor}
@@ -53,10 +51,6 @@ on-some o test x e h = sym (ap (λ v. on_some v test) e) ∙ h
 pub not-none : {X : Type 0} (o : Option X) → is_none o ≡ false → (x : X) × (o ≡ Some x)
 not-none None h = cc
 not-none (Some x) h = (x, refl)
-
-pub or-left : (a b : Bool) → (a || b) ≡ false → a ≡ false
-or-left false b h = refl
-or-left true b h = h
 
 pub or-right : (a b : Bool) → (a || b) ≡ false → b ≡ false
 or-right false b h = h

@@ -127,9 +127,6 @@ find-some test (y ∷ xs) x m h = go (λ n. find-some test xs x n h) (test y) re
 same-self : (h : Hit) → same_identity h h ≡ true
 same-self h = grind arith
 
-on-same : (a b : Hit) → on a ≡ on b → a ≡ b
-on-same a b h = cc
-
 -- a place on a hit that is there is settled
 pub shows-hit : (hs : List Hit) (h : Hit) → Pairs Other hs → Among hs h → settled hs (on h) ≡ on h
 shows-hit hs h apart m =

@@ -1,16 +1,7 @@
 -- The first test of a list that holds.
-use Rattle.std.proofs.Common.{◌≡◌, refl, ap, ◌∙◌, [], ◌∷◌, ◌++◌, Bool, true, false, Some, None}
+use Rattle.std.proofs.Common.{◌≡◌, refl, ap, ◌∙◌, [], ◌∷◌, ◌++◌, Bool, true, false, Some}
 use Rattle.newt_base.specs.Refusals.{Checks, first_of}
 use Rattle.newt_base.specs.declared.Refusal.{Refusal}
-
--- where none of the first holds, the others decide
-pub first-rest : (xs ys : Checks) → first_of xs ≡ None → first_of (xs ++ ys) ≡ first_of ys
-first-rest [] ys h = refl
-first-rest ((r, b) ∷ xs) ys h = go b h (first-rest xs ys)
-  where
-    go : (b : Bool) → first_of ((r, b) ∷ xs) ≡ None → (first_of xs ≡ None → first_of (xs ++ ys) ≡ first_of ys) → first_of ((r, b) ∷ (xs ++ ys)) ≡ first_of ys
-    go true h more = cc
-    go false h more = more h
 
 -- where one of the first holds, it is the answer
 pub first-found : (xs ys : Checks) (r : Refusal) → first_of xs ≡ Some r → first_of (xs ++ ys) ≡ Some r

@@ -1,9 +1,9 @@
 -- What a unit has, and what a change of its store leaves there.
-use Rattle.std.proofs.Common.{◌≡◌, refl, ap, sym, ◌∙◌, ℕ, zero, suc, List, [], ◌∷◌, true, false, Bool, cond, Option, Some, None, option_map, option_and_then}
+use Rattle.std.proofs.Common.{◌≡◌, refl, ap, sym, ◌∙◌, ℕ, zero, suc, List, [], ◌∷◌, true, Option, Some, None, option_map, option_and_then}
 use Rattle.std.specs.Prelude.{slice_get}
 use Rattle.newt_spec_store.specs.Store.{Store, soup_named}
-use Rattle.newt_spec_world.specs.World.{World, Device, Media, blank, one, device, flat, change_at, store_of, store_if_mounted, mounted_store, store_on_unit, soup_in, change_device, change_store, change_media}
-use Rattle.newt_spec_graph.proofs.Lists.{some-same, none-some}
+use Rattle.newt_spec_world.specs.World.{World, Device, one, device, flat, change_at, store_of, store_if_mounted, mounted_store, store_on_unit, soup_in, change_device, change_store, change_media}
+use Rattle.newt_spec_graph.proofs.Lists.{some-same}
 use Rattle.newt_laws_answers.specs.There.{OnUnit}
 use Rattle.newt_laws.proofs.Units.{device-same, device-other}
 
@@ -12,19 +12,6 @@ is-mounted w u blocks s h = ap (option_and_then store_if_mounted) h.device_is
 
 pub is-there : (w : World) (u blocks : ℕ) (s : Store) → OnUnit w u blocks s → store_on_unit w u ≡ Some s
 is-there w u blocks s h = ap (option_and_then (λ (d : Device). store_of d.media)) h.device_is
-
--- the device that a mounted store is on
-pub on-unit : (w : World) (u : ℕ) (s : Store) → mounted_store w u ≡ Some s → (blocks : ℕ) × OnUnit w u blocks s
-on-unit w u s h = go (device w u) refl h
-  where
-    media : (blocks : ℕ) (m : Media) (b : Bool) → device w u ≡ Some (record { blocks = blocks; media = m; mounted = b }) → cond b (store_of m) None ≡ Some s → (blocks : ℕ) × OnUnit w u blocks s
-    media blocks m false e k = absurd (none-some s k)
-    media blocks blank true e k = absurd (none-some s k)
-    media blocks (one t) true e k = (blocks, record { device_is = e ∙ ap (λ x. Some (record { blocks = blocks; media = one x; mounted = true })) (some-same t s k) })
-
-    go : (o : Option Device) → device w u ≡ o → option_and_then store_if_mounted o ≡ Some s → (blocks : ℕ) × OnUnit w u blocks s
-    go None e k = absurd (none-some s k)
-    go (Some d) e k = media d.blocks d.media d.mounted e k
 
 -- a store that is changed
 pub on-changed : (w : World) (u blocks : ℕ) (s : Store) (f : Store → Store) → OnUnit w u blocks s → OnUnit (change_store w u f) u blocks (f s)

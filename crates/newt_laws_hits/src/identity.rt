@@ -4,7 +4,7 @@ ghost use Rattle.newt_spec_graph.specs.Lists.{Among, Each, Pairs};
 ghost use Rattle.newt_spec_store.specs.Store.{Store, Soup, entry_of};
 ghost use Rattle.newt_spec_store.specs.Valid.{well_formed};
 ghost use Rattle.newt_spec_query.specs.Hits.{Query, Hit, hits};
-ghost use Rattle.newt_spec_query.specs.Cursor.{Place, on, same_identity, hit_at, settled};
+ghost use Rattle.newt_spec_query.specs.Cursor.{on, same_identity, hit_at, settled};
 ghost use Rattle.newt_spec_world.specs.World.{World, hits_of, mounted_stores, settle};
 ghost use Rattle.newt_spec_world.specs.Alias.{resolved};
 ghost use Rattle.newt_spec_world.specs.Answer.{answered, fields, spot_of};

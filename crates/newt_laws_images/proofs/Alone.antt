@@ -1,5 +1,5 @@
 -- What a record is read as alone, and what it is read as among objects.
-use Rattle.std.proofs.Common.{arith, ◌≡◌, refl, ap, sym, ◌∙◌, subst, ℕ, ◌%◌, List, [], ◌∷◌, true, false, Bool, ◌&&◌, cond, Option, Some, None, option_and_then, option_map, length, fold, map, zip, nat_lt, nat_le, ◌==◌}
+use Rattle.std.proofs.Common.{arith, ◌≡◌, refl, ap, sym, ◌∙◌, ℕ, ◌%◌, List, [], ◌∷◌, true, false, Bool, ◌&&◌, cond, Option, Some, None, option_and_then, option_map, length, fold, map, zip, nat_le, ◌==◌}
 use Rattle.std.specs.Prelude.{bytes_eq, replicate}
 use Rattle.std.specs.List.{list_all}
 use Rattle.std.specs.FinMap as map

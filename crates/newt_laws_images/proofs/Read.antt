@@ -26,10 +26,6 @@ pub reads-then : {A B : Type 0} (p : Take A) (f : A → Take B) (xs ys : List �
 reads-then p f xs ys a b h k rest =
     ap (λ zs. option_and_then (λ r. f r.0 r.1) (p zs)) (append_assoc xs ys rest) ∙ ap (option_and_then (λ r. f r.0 r.1)) (h (ys ++ rest)) ∙ k rest
 
--- a value made of what was read
-pub reads-give : {A : Type 0} (a : A) → Reads (give a) [] a
-reads-give a rest = refl
-
 pub reads-last : {A B : Type 0} (p : Take A) (f : A → B) (xs : List ℕ) (a : A) → Reads p xs a → Reads (p >>= (λ a. give (f a))) xs (f a)
 reads-last p f xs a h rest = ap (option_and_then (λ r. give (f r.0) r.1)) (h rest)
 

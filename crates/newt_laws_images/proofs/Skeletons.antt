@@ -1,13 +1,13 @@
 -- A graph stays in normal form where other bytes stand in its large binaries; so the skeleton of a graph is one.
-use Rattle.std.proofs.Common.{arith, ◌≡◌, refl, ap, sym, ◌∙◌, subst, ℕ, zero, suc, ◌+◌, ◌<◌, ◌≤◌, List, [], ◌∷◌, ◌++◌, Option, Some, None, map, length, sum_by}
-use Rattle.std.specs.Prelude.{slice_get, All}
+use Rattle.std.proofs.Common.{arith, ◌≡◌, refl, ap, sym, ◌∙◌, subst, ℕ, zero, suc, ◌+◌, ◌<◌, ◌≤◌, List, [], ◌∷◌, ◌++◌, Some, None, map, length, sum_by}
+use Rattle.std.specs.Prelude.{All}
 use Rattle.std.proofs.lemmas.List.Elements.{All-nil, All-cons, All-head, All-tail}
 use Rattle.std.proofs.lemmas.List.Sums.{sum_by-cons}
 use Rattle.newt_graph.specs.declared.node.Ref.{Ref}
 use Rattle.newt_graph.specs.declared.node.Ref.TheVariants as refs
 use Rattle.newt_graph.specs.declared.node.Node.{Node}
 use Rattle.newt_graph.specs.declared.node.Node.TheVariants.{Symbol, Str, Binary, Large, Array, Frame}
-use Rattle.newt_graph.specs.Graph.{RawGraph, WalkLabel, WalkLabels, Walk, Walks, IsNamed, IsSymbol, IsAlike, AreLight, AreFoldedOnce, IsData, IsFrame, IsNode, IsGraph, payload}
+use Rattle.newt_graph.specs.Graph.{RawGraph, WalkLabel, WalkLabels, Walk, Walks, IsNamed, IsSymbol, AreLight, IsData, IsNode, IsGraph, payload}
 use Rattle.newt_nsof.specs.Lengths.{skeleton, bare as bare_node}
 use Rattle.newt_laws_images.proofs.Both.{Both}
 

@@ -1,5 +1,5 @@
 -- The meetings of a node are the references that lead to it, counted up to two.
-use Rattle.std.proofs.Common.{◌≡◌, ℕ, zero, suc, ◌+◌, ◌<◌, Bool, true, false, cond, ltb, eqb, List, [], ◌∷◌, ◌++◌, length, fold, set, get_or, drop, replicate, Option, Some, None, refl, sym, ap, ◌∙◌, subst, append_assoc, add-one, drop-cons, arith, length-set, get_or-set_same, get_or-set_other}
+use Rattle.std.proofs.Common.{◌≡◌, ℕ, zero, suc, ◌+◌, ◌<◌, Bool, true, false, cond, eqb, List, [], ◌∷◌, ◌++◌, length, fold, set, get_or, drop, replicate, Option, Some, None, refl, sym, ap, ◌∙◌, subst, append_assoc, add-one, drop-cons, arith, length-set, get_or-set_same, get_or-set_other}
 use Rattle.std.specs.Prelude.{not, ◌&&◌, count_by, nat_lt}
 use Rattle.std.proofs.lemmas.Bool.{eqb-true, eqb-false}
 use Rattle.std.proofs.lemmas.List.{get_or-replicate, length-replicate}
@@ -10,7 +10,7 @@ use Rattle.newt_graph.specs.declared.node.Ref.TheVariants as refs
 use Rattle.newt_lit.specs.Printed.{leads_to, is_symbol, is_shared, labels_from}
 use Rattle.newt_lit_print.specs.Meetings.{met, met_by, is_more}
 use Rattle.newt_lit_print.specs.declared.labels.Meetings.{Meetings}
-use Rattle.newt_lit_print.specs.declared.labels.Meetings.TheVariants.{None as NoMeeting, One, More}
+use Rattle.newt_lit_print.specs.declared.labels.Meetings.TheVariants.{None as NoMeeting, More}
 
 pub tally : ℕ → Meetings → Meetings
 tally zero m = m

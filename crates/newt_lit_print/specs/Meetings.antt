@@ -1,5 +1,5 @@
 -- How many references lead to a node, counted up to two.
-use Rattle.std.specs.Prelude.{ℕ, Bool, true, false, List, slice_set, slice_index_or}
+use Rattle.std.specs.Prelude.{Bool, true, false, List, slice_set, slice_index_or}
 use Rattle.newt_graph.specs.declared.node.Ref.{Ref}
 use Rattle.newt_graph.specs.declared.node.Ref.TheVariants as refs
 use Rattle.newt_lit_print.specs.declared.labels.Meetings.{Meetings}

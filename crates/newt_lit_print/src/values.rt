@@ -1,6 +1,5 @@
 //! The values of a graph, each object in full where it is met first.
-ghost use Rattle.std.specs.Prelude.{◌≡◌, ◌++◌, ◌<◌, ◌≤◌, codes, length, map, zip, slice_get, OnOk, IfOk, Some};
-ghost use Rattle.newt_graph.specs.Graph.{RawGraph};
+ghost use Rattle.std.specs.Prelude.{◌≡◌, ◌<◌, ◌≤◌, length, map, zip, slice_get, OnOk, IfOk, Some};
 ghost use Rattle.newt_lit.specs.Spelling.{plain, spelled};
 ghost use Rattle.newt_lit.specs.Printed as printed;
 

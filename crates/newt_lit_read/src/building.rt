@@ -1,6 +1,6 @@
 //! What a text has written down so far.
-ghost use Rattle.std.specs.Prelude.{◌≡◌, ◌<◌, ◌≤◌, [], length, IfOk, OnOk, IfErr, IsErrOf};
-ghost use Rattle.newt_graph.specs.Graph.{RawGraph, IsName};
+ghost use Rattle.std.specs.Prelude.{◌≡◌, ◌<◌, ◌≤◌, [], length, IfOk, OnOk, IfErr};
+ghost use Rattle.newt_graph.specs.Graph.{IsName};
 ghost use Rattle.newt_graph.specs.Meeting.{normal_form};
 ghost use Rattle.newt_graph.specs.Draft.{IsFilling, IsJoined};
 ghost use Rattle.newt_lit.specs.Built.{symbol_in, held, filled, node_of, labelled};

@@ -1,5 +1,5 @@
 //! Objects without values: strings, binaries and large binaries. And symbols.
-ghost use Rattle.std.specs.Prelude.{◌≡◌, ◌<◌, ◌≤◌, length, IfOk, OnOk};
+ghost use Rattle.std.specs.Prelude.{◌<◌, ◌≤◌, length, IfOk, OnOk};
 ghost use Rattle.newt_lit_read.specs.Answers.{Gives};
 ghost use Rattle.newt_lit_read.specs.Tokens.{zeros_at, large_bytes_at};
 ghost use Rattle.newt_lit_read.specs.Reading.{symbol_at, string_at, classed_at, binary_at, large_at, angle_at};

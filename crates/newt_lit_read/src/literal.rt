@@ -1,5 +1,5 @@
 //! Whole literals.
-ghost use Rattle.std.specs.Prelude.{◌≡◌, ◌≢◌, IfOk, Ok, Err};
+ghost use Rattle.std.specs.Prelude.{◌≡◌, ◌≢◌, IfOk, Err};
 ghost use Rattle.std.specs.Str.{chars};
 ghost use Rattle.newt_graph.specs.Graph.{RawGraph};
 ghost use Rattle.newt_lit.specs.Grammar.{Reads};

@@ -29,9 +29,6 @@ pub total-append : (first second : List Happened) → total (first ++ second) �
 total-append [] second = omega arith
 total-append (h ∷ first) second = let rest = total-append first second in omega (arith, rest)
 
-small_part : (n : ℕ) (l : List ℕ) → n ≤ length l → length (take n l) ≤ length l
-small_part n l low = omega (arith, length-take n l)
-
 -- every choice keeps the length, and lies within the range
 length_chosen : (pick : Pick) (at : ℕ) (now left : List ℕ) → at + length now ≤ length left → length (chosen pick at now left) ≡ length left
 length_chosen Old at now left fits = refl

@@ -1,5 +1,5 @@
 //! Devices that no unit has yet, and how a unit gets one.
-ghost use Rattle.std.specs.Prelude.{◌≡◌, ◌≤◌, ◌<◌, ◌+◌, ◌∷◌, length, None, MatchOption, vec_len, vec_capacity};
+ghost use Rattle.std.specs.Prelude.{◌≡◌, ◌≤◌, ◌<◌, ◌+◌, ◌∷◌, None, MatchOption, vec_len, vec_capacity};
 ghost use Rattle.newt_host.specs.Moments.{Attached, On};
 ghost use Rattle.newt_memhost.specs.Cards.{free_device};
 ghost use Rattle.newt_memhost.specs.Calls.{HasMoved, IsPlaceOf};

@@ -1,5 +1,4 @@
 //! Containers up to their values: the count of slots, and the class or the tags.
-ghost use Rattle.std.specs.Prelude.{◌≡◌};
 ghost use Rattle.newt_nsof_read.specs.Reading.{Gives};
 ghost use Rattle.newt_nsof_read.specs.Stack.{frame_front, plain_array_front, array_front};
 

@@ -215,10 +215,3 @@ pub told_holds : (told : Bool) (table : Table) (numbers : Numbers) (unit : ℕ) 
 told_holds told table numbers unit outside are t =
     let w = texts_of are.live table are.is_table in
     (w.0, record { live = are.live; of_image = are.are.of_image t; are = w.1 })
-
--- Nothing is planned yet, on a told host or not.
-pub begin_under_way : (told : Bool) (objects : Held) (numbers : Numbers) (unit : ℕ) (outside : Outside) → objects.plans ≡ [] → (are : AreOf told (held objects) numbers unit outside)
-    → (texts : Texts) × AreObjectsOf are.live texts × IsUnderWay objects no_change are.live texts
-begin_under_way told objects numbers unit outside none are =
-    let w = texts_of are.live (held objects) are.is_table in
-    (w.0, w.1, start_under_way objects are.live w.0 none are.is_table w.1)

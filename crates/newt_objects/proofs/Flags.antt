@@ -13,19 +13,12 @@ pub or_assoc : (a b c : Bool) → ((a || b) || c) ≡ (a || (b || c))
 or_assoc true b c = refl
 or_assoc false b c = refl
 
--- no flag is set
-pub marks-none : (test : ℕ → Bool) (flags : List Bool) → ((q : ℕ) → test q ≡ false) → MarksAlso test flags flags
-marks-none test flags none = record { size = refl; each = λ q flag e. e ∙ ap Some (or_false flag ∙ ap (λ (b : Bool). flag || b) (sym (none q))) }
-
 -- more of them are
 pub marks-more : (first second both : ℕ → Bool) (a b c : List Bool) → ((q : ℕ) → both q ≡ (first q || second q)) → MarksAlso first a b → MarksAlso second b c → MarksAlso both a c
 marks-more first second both a b c is one other = record {
   size = other.size ∙ one.size;
   each = λ q flag e. other.each q (flag || first q) (one.each q flag e) ∙ ap Some (or_assoc flag (first q) (second q) ∙ ap (λ (b : Bool). flag || b) (sym (is q)));
 }
-
-pub marks-same : (test other : ℕ → Bool) (a b : List Bool) → ((q : ℕ) → other q ≡ test q) → MarksAlso test a b → MarksAlso other a b
-marks-same test other a b is marks = record { size = marks.size; each = λ q flag e. marks.each q flag e ∙ ap (λ (b : Bool). Some (flag || b)) (sym (is q)) }
 
 -- one element more of a list that grows at its end
 pub any_push : {X : Type 0} (p : X → Bool) (xs : List X) (x : X) → list_any p (xs ++ x ∷ []) ≡ (list_any p xs || p x)

@@ -1,6 +1,5 @@
 -- Pages have one table, and one map of objects.
 use Rattle.std.proofs.Common.{◌≡◌, ℕ, zero, suc, ◌≤◌, List, [], ◌∷◌, length, slice_get, get_or, Option, Some, None, refl, sym, ◌∙◌, ap, subst, arith}
-use Rattle.std.specs.Cmp.{nat_cmp_total}
 use Rattle.std.specs.FinMap as map
 use Rattle.std.specs.Option.{option_map}
 use Rattle.std.proofs.lemmas.Option.{slice_get-get_or}
@@ -8,7 +7,6 @@ use Rattle.newt_image.specs.Pages.{Pages, object_id, part_number, object_length}
 use Rattle.newt_image.specs.Objects.{Extent, Table, IsTableOf, AreObjectsOf, pages_for, joined}
 use Rattle.newt_pagebook.proofs.Tests.{some_inj}
 use Rattle.newt_objects.specs.Held.{Texts}
-use Rattle.newt_objects.specs.Changing.{HoldsObjects}
 
 one_page : (n : ℕ) → 1 ≤ pages_for n
 one_page n = omega arith
@@ -51,15 +49,6 @@ tables_agree live a b is_a is_b id = cases (a id) (b id) refl refl where
 -- the bytes of the objects, whichever table is looked at
 pub texts_by : (live : Pages) (table : Table) (texts : Texts) → AreObjectsOf live texts → IsTableOf live table → (id : ℕ) → map.get texts id ≡ option_map (joined live) (table id)
 texts_by live table texts are is id = are.each id ∙ ap (option_map (joined live)) (tables_agree live are.table table are.is_table is id)
-
-pub texts_agree : (live : Pages) (a b : Texts) → AreObjectsOf live a → AreObjectsOf live b → a ≡ b
-texts_agree live a b are_a are_b = map.same_map nat_cmp_total map.nat_cmp-IsAntisymmetric a b (λ id. texts_by live are_b.table a are_a are_b.is_table id ∙ sym (are_b.each id))
-
--- an image holds one map of objects at most
-pub holds_once : (image : List ℕ) (a b : Texts) → HoldsObjects image a → HoldsObjects image b → a ≡ b
-holds_once image a b is_a is_b =
-    let same : is_a.live ≡ is_b.live = some_inj _ _ (sym is_a.of_image ∙ is_b.of_image) in
-    texts_agree is_b.live a b (subst (λ (live : Pages). AreObjectsOf live a) same is_a.are) is_b.are
 
 -- a table that answers the same is that of the same pages
 pub table_kept : (live : Pages) (a b : Table) → ((id : ℕ) → b id ≡ a id) → IsTableOf live a → IsTableOf live b

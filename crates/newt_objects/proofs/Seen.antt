@@ -1,13 +1,12 @@
 -- The rows of a map and the list of plans, as contracts see them.
-use Rattle.std.proofs.Common.{◌≡◌, ◌≢◌, ⊎_elim, ℕ, zero, suc, ◌==◌, Bool, true, false, cond, List, [], ◌∷◌, ◌++◌, length, slice_get, Option, Some, None, IsSome, refl, sym, ◌∙◌, ap, subst}
-use Rattle.std.specs.Option.{option_flatten}
+use Rattle.std.proofs.Common.{◌≡◌, ⊎_elim, ℕ, zero, suc, ◌==◌, Bool, true, false, cond, List, [], ◌∷◌, ◌++◌, length, slice_get, Option, Some, None, IsSome, refl, sym, ◌∙◌, ap, subst}
 use Rattle.std.specs.BTreeMap as tree
-use Rattle.std.specs.Ordering.{nat_cmp, is_eq}
+use Rattle.std.specs.Ordering.{nat_cmp}
 use Rattle.newt_host.specs.Moments.{image}
 use Rattle.newt_host.specs.Outside.{Outside}
 use Rattle.newt_image.specs.Objects.{Extent}
 use Rattle.newt_pagebook.specs.Book.{Numbers}
-use Rattle.newt_pagebook.proofs.Tests.{true_or_false, some_inj, same_test, is_same, equal_true, equal_false}
+use Rattle.newt_pagebook.proofs.Tests.{some_inj, equal_true}
 use Rattle.newt_objects.specs.declared.header.Header.{Header}
 use Rattle.newt_objects.specs.declared.objects.Plan.{Plan}
 use Rattle.newt_objects.specs.Headers.{Rows, HasTable, ReadsHeaders, held_in}
@@ -19,26 +18,6 @@ use Rattle.newt_objects.proofs.Pushed.{push_which}
 pub are_of_rows : (told : Bool) (numbers : Numbers) (unit : ℕ) (outside : Outside) (hs : List Header) (rows : Rows) → ReadsHeaders told numbers (image unit outside.now) hs → HasTable hs rows
     → AreOf told (held_in rows) numbers unit outside
 are_of_rows told numbers unit outside hs rows reads table = record { live = reads.live; are = reads.are; is_table = table reads.live reads.headers_are }
-
--- a row without an object changes nothing where there was no row
-pub kept_row : (old new : Rows) (id : ℕ) → ((q : ℕ) → tree.get nat_cmp new q ≡ cond (is_eq (nat_cmp id q)) (Some None) (tree.get nat_cmp old q)) → tree.get nat_cmp old id ≡ None → (other : ℕ) → held_in new other ≡ held_in old other
-kept_row old new id now none other = ⊎_elim
-    (λ (t : is_eq (nat_cmp id other) ≡ true).
-    ap option_flatten (now other ∙ ap (λ (b : Bool). cond b (Some None) (tree.get nat_cmp old other)) t)
-    ∙ sym (ap option_flatten (ap (tree.get nat_cmp old) (sym (is_same id other (sym (same_test id other) ∙ t))) ∙ none)))
-    (λ (f : is_eq (nat_cmp id other) ≡ false). ap option_flatten (now other ∙ ap (λ (b : Bool). cond b (Some None) (tree.get nat_cmp old other)) f))
-    (true_or_false (is_eq (nat_cmp id other)))
-
--- every row stays where one is added
-pub still_rows : (old new : Rows) (id : ℕ) → ((q : ℕ) → tree.get nat_cmp new q ≡ cond (is_eq (nat_cmp id q)) (Some None) (tree.get nat_cmp old q)) → (other : ℕ) → IsSome (tree.get nat_cmp old other) → IsSome (tree.get nat_cmp new other)
-still_rows old new id now other had = still (is_eq (nat_cmp id other)) (tree.get nat_cmp old other) (tree.get nat_cmp new other) (now other) had where
-  still : (b : Bool) (r s : Option (Option Extent)) → s ≡ cond b (Some None) r → IsSome r → IsSome s
-  still true r s e h = subst IsSome (sym e) refl
-  still false r s e h = subst IsSome (sym e) h
-
--- another id's row, where one is changed
-pub other_row : (id q : ℕ) (v r s : Option (Option Extent)) → q ≢ id → s ≡ cond (is_eq (nat_cmp id q)) v r → s ≡ r
-other_row id q v r s ne e = e ∙ ap (λ (b : Bool). cond b v r) (same_test id q ∙ equal_false id q (λ same. ne (sym same)))
 
 no_head : (b : Bool) (x : Option Extent) (r : Option (Option Extent)) → cond b (Some x) r ≡ None → (b ≡ false) × (r ≡ None)
 no_head true x r e = absurd (cc)
@@ -71,10 +50,6 @@ placed-push rows plans p are row none = record {
       (push_which plans p l r f))
       (push_which plans p k q e);
 }
-
--- the same plans over rows that are all there still
-pub placed-rows : (old new : Rows) (plans : List Plan) → ArePlaced old plans → ((other : ℕ) → IsSome (tree.get nat_cmp old other) → IsSome (tree.get nat_cmp new other)) → ArePlaced new plans
-placed-rows old new plans are still = record { placed = λ k p e. still p.id (are.placed k p e); once = are.once }
 
 nowhere : (k : ℕ) (p : Plan) → slice_get [] k ≡ Some p → ⊥
 nowhere k p e = cc

@@ -2,7 +2,7 @@
 use Rattle.std.proofs.Common.{IsTrue, ◌≡◌, inl, inr, ℕ, Bool, List, [], ◌++◌, length, replicate, Option, sym, ◌∙◌, ap, subst, arith, ⊎_elim}
 use Rattle.std.proofs.lemmas.List.{length-replicate}
 use Rattle.newt_host.specs.Moments.{Moment, image, Leaves}
-use Rattle.newt_host.specs.Outside.{Outside, Touches, Spends, Rose}
+use Rattle.newt_host.specs.Outside.{Outside, Touches, Spends}
 use Rattle.newt_host.proofs.Moments.{Leaves-append, Leaves-weaken}
 use Rattle.newt_image.specs.Records.{records, tail}
 use Rattle.newt_journal.specs.Journal.{ReadsAs, ReadsAsEither}
@@ -82,9 +82,3 @@ touches-on u v a b is t = subst (λ (w : ℕ). Touches w a b) is t
 
 pub spends-on : (u v m n : ℕ) (a b : Outside) → u ≡ v → Spends u m n a b → Spends v m n a b
 spends-on u v m n a b is s = subst (λ (w : ℕ). Spends w m n a b) is s
-
--- a fault that was counted in the last of some calls was counted in them
-pub rose-at-last : (u v : ℕ) (a b c : Outside) → u ≡ v → Touches v a b → Rose (b.dev_faults u) (c.dev_faults u) → Rose (a.dev_faults v) (c.dev_faults v)
-rose-at-last u v a b c is t rose =
-    let its : Rose (b.dev_faults v) (c.dev_faults v) = subst (λ (w : ℕ). Rose (b.dev_faults w) (c.dev_faults w)) is rose in
-    omega (arith, t.faults_later, its)

@@ -167,14 +167,5 @@ batch_is_change payload whole batch =
     ap (λ (b : Bool). b && (list_all (λ n. nat_le n 65535) numbers && all_distinct numbers)) (equal_true (length payload) (4 + 516 * short_at 0 payload + 4 * short_at 2 payload) whole)
     ∙ ap (λ (b : Bool). b && all_distinct numbers) (all_small numbers batch.small) ∙ batch.distinct
 
-pub not_whole : (payload : List ℕ) → (length payload ≡ 4 + 516 * short_at 0 payload + 4 * short_at 2 payload → ⊥) → is_change payload ≡ false
-not_whole payload not = ap (λ (b : Bool). b && (list_all (λ n. nat_le n 65535) (change_numbers (said_by payload)) && all_distinct (change_numbers (said_by payload)))) (⊎_elim
-    (λ (t : (length payload == 4 + 516 * short_at 0 payload + 4 * short_at 2 payload) ≡ true). absurd (not (is_same (length payload) (4 + 516 * short_at 0 payload + 4 * short_at 2 payload) t)))
-    (λ (f : (length payload == 4 + 516 * short_at 0 payload + 4 * short_at 2 payload) ≡ false). f)
-    (true_or_false (length payload == 4 + 516 * short_at 0 payload + 4 * short_at 2 payload)))
-
-pub no_change_in : (payload : List ℕ) → is_change payload ≡ false → change_in payload ≡ None
-no_change_in payload e = ap (λ (b : Bool). if b then Some (said_by payload) else None) e
-
 pub the_change_in : (payload : List ℕ) → is_change payload ≡ true → change_in payload ≡ Some (said_by payload)
 the_change_in payload e = ap (λ (b : Bool). if b then Some (said_by payload) else None) e

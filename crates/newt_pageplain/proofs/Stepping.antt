@@ -1,7 +1,7 @@
 -- One write after another.
 use Rattle.std.proofs.Common.{IsTrue, ◌≡◌, ℕ, ◌+◌, ◌*◌, ◌≤◌, Bool, true, cond, List, [], ◌∷◌, ◌++◌, length, take, drop, take-append-drop, refl, sym, ◌∙◌, ap, subst, arith, append_assoc, append-nil, length-append}
 use Rattle.newt_host.specs.Moments.{Moment, image, Leaves}
-use Rattle.newt_host.specs.Outside.{Outside, Touches, Spends, Rose}
+use Rattle.newt_host.specs.Outside.{Outside, Touches, Spends}
 use Rattle.std.specs.List.{flat_map, filter}
 use Rattle.std.specs.Int.{to_be_bytes, w16, w32}
 use Rattle.std.proofs.lemmas.List.Elements.{filter-append}
@@ -91,10 +91,6 @@ keeps-on told u v size a b is k = subst (λ (w : ℕ). Keeps told w size a b) is
 pub flat-push : {A : Type 0} (f : A → List ℕ) (xs : List A) (x : A) → flat_map f (xs ++ x ∷ []) ≡ flat_map f xs ++ f x
 flat-push f [] x = append-nil (f x)
 flat-push f (y ∷ xs) x = ap (λ (l : List ℕ). f y ++ l) (flat-push f xs x) ∙ sym (append_assoc (f y) (flat_map f xs) (f x))
-
--- a count that rose later has risen since
-pub rose-later : (unit : ℕ) (a b c : Outside) → a.dev_faults unit ≤ b.dev_faults unit → Rose (b.dev_faults unit) (c.dev_faults unit) → Rose (a.dev_faults unit) (c.dev_faults unit)
-rose-later unit a b c le rose = omega (arith, le, rose)
 
 -- so many bytes of a record have been written, and the next are
 pub record Stepped (told : Bool) (unit size : ℕ) (bytes : List ℕ) (x z : Draft) (a c : Outside) : Type 0 where

@@ -3,7 +3,6 @@ ghost use Rattle.std.specs.Prelude.{◌≡◌, ℕ, ◌+◌, ◌≤◌, ◌<◌,
 ghost use Rattle.std.specs.HashMap as hash;
 ghost use Rattle.std.specs.FinSet as set;
 ghost use Rattle.newt_image.specs.Pages.{after};
-ghost use Rattle.newt_pagebook.specs.Batch.{IsBatch};
 ghost use Rattle.newt_pagebook.specs.Book.{changed_numbers};
 ghost use Rattle.newt_pageplain.specs.Kept.{map_of, numbers_in};
 

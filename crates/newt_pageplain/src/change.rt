@@ -1,5 +1,5 @@
 // A batch is committed: appended where the bank has room and is not closed, and else written with all pages into the other bank.
-ghost use Rattle.std.specs.Prelude.{IsTrue, ◌≡◌, ◌≤◌, ◌+◌, ◌*◌, ◌<◌, length, nat_eq, Some, IfOk, OnOk, OnErr};
+ghost use Rattle.std.specs.Prelude.{IsTrue, ◌≡◌, ◌≤◌, ◌+◌, ◌*◌, ◌<◌, length, Some, IfOk, OnOk, OnErr};
 ghost use Rattle.std.specs.List.{filter};
 ghost use Rattle.std.specs.HashMap as hash;
 ghost use Rattle.std.specs.FinSet as set;

@@ -1,5 +1,5 @@
 // The records of a journal are replayed.
-ghost use Rattle.std.specs.Prelude.{IsTrue, ◌≡◌, ◌+◌, ◌≤◌, length, take, drop, None, Some, IfOk, OnErr, IsErrOf};
+ghost use Rattle.std.specs.Prelude.{IsTrue, ◌≡◌, ◌+◌, ◌≤◌, length, take, drop, None, Some, IfOk, IsErrOf};
 ghost use Rattle.newt_host.specs.Moments.{image};
 ghost use Rattle.newt_host.specs.Outside.{Touches, Rose};
 ghost use Rattle.newt_image.specs.Pages.{pages as pages_of};

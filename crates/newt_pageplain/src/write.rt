@@ -1,16 +1,16 @@
 // A record is written that says a change.
-ghost use Rattle.std.specs.Prelude.{IsTrue, ◌≡◌, ◌+◌, ◌*◌, ◌≤◌, ◌<◌, ◌++◌, ◌∷◌, [], length, replicate, false, OnOk, OnErr, IfOk, Some};
+ghost use Rattle.std.specs.Prelude.{IsTrue, ◌≡◌, ◌+◌, ◌*◌, ◌≤◌, ◌<◌, ◌++◌, ◌∷◌, [], length, OnOk, OnErr, IfOk, Some};
 ghost use Rattle.std.specs.Int.{to_be_bytes, w16};
 ghost use Rattle.std.specs.List.{flat_map, filter};
 ghost use Rattle.newt_host.specs.Moments.{image, Leaves};
 ghost use Rattle.newt_host.specs.Outside.{Touches, Spends, Rose};
 ghost use Rattle.newt_image.specs.Pages.{written_put, written_delete, written_change};
-ghost use Rattle.newt_image.specs.Records.{records, tail, bank_size};
+ghost use Rattle.newt_image.specs.Records.{records, bank_size};
 ghost use Rattle.newt_journal.specs.Journal.{room, Stands, appended, ReadsAsEither};
 ghost use Rattle.newt_journal.specs.Draft.{IsDraftOf, unit_of, len_of, put_of};
 ghost use Rattle.newt_pagebook.specs.Batch.{IsBatch};
 ghost use Rattle.newt_pagebook.specs.Book.{IsOpenFor};
-ghost use Rattle.newt_pageplain.specs.Kept.{AreSound, is_kept, needed, all_of};
+ghost use Rattle.newt_pageplain.specs.Kept.{is_kept, needed, all_of};
 ghost use Rattle.newt_pageplain.specs.Steps.{IsSteady, Keeps, WritesMore};
 
 use crate::apply::Kept;

@@ -10,7 +10,7 @@ use Rattle.newt_graph.specs.Graph.{RawGraph, IsName}
 use Rattle.newt_graph.proofs.Grows.{get_seam}
 use Rattle.std.proofs.lemmas.Option.{slice_get_within, get_or_from_slice_get}
 use Rattle.newt_path.specs.Names.{IsPath}
-use Rattle.newt_spec_graph.specs.Slots.{frame_number, value_below, value_at, but_last, put, put_into}
+use Rattle.newt_spec_graph.specs.Slots.{frame_number, value_below, but_last, put, put_into}
 use Rattle.newt_graph.specs.declared.fault.GraphFault.{GraphFault}
 use Rattle.newt_graph.specs.declared.fault.GraphFault.TheVariants.{Limit, Memory}
 use Rattle.newt_path.specs.declared.fault.SetFault.TheVariants as fault

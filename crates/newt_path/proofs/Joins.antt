@@ -1,11 +1,9 @@
 -- In the nodes of a graph, a symbol and another graph behind them, each reference leads to a node, and each class and tag to a symbol.
-use Rattle.std.proofs.Common.{◌≡◌, ◌≢◌, ℕ, zero, suc, ◌+◌, ◌<◌, ◌≤◌, List, [], ◌∷◌, ◌++◌, length, map, All, get_or, Option, Some, None, refl, sym, ap, subst, ◌∙◌, arith, inl, inr, ◌⊎◌}
-use Rattle.std.specs.Prelude.{slice_get, AllPairs, set, filter, is_none}
+use Rattle.std.proofs.Common.{◌≡◌, ◌≢◌, ℕ, zero, suc, ◌+◌, ◌<◌, ◌≤◌, List, [], ◌∷◌, ◌++◌, length, map, All, get_or, Some, None, refl, sym, ap, subst, ◌∙◌, arith}
+use Rattle.std.specs.Prelude.{slice_get, AllPairs, set, is_none}
 use Rattle.std.specs.List.{enumerate_from}
-use Rattle.std.proofs.lemmas.Bool.{cases_eq}
 use Rattle.std.proofs.lemmas.List.{length-map, length-append, length-set, get_or-map}
 use Rattle.std.proofs.lemmas.List.Elements.{All-nil, All-cons, All-head, All-tail, All-append, All-map, All-weaker, All-set, All-filter}
-use Rattle.std.proofs.lemmas.Option.{slice_get_within, get_or_from_slice_get}
 use Rattle.newt_graph.specs.declared.node.Node.{Node}
 use Rattle.newt_graph.specs.declared.node.Node.TheVariants.{Symbol, Str, Binary, Large, Array, Frame}
 use Rattle.newt_graph.specs.declared.node.Ref.{Ref}
@@ -16,8 +14,8 @@ use Rattle.newt_graph.specs.Draft.{IsJoinedNode}
 use Rattle.newt_spec_graph.specs.Slots.{goes_to, new_nodes, known_number}
 use Rattle.newt_graph.proofs.Grows.{some_is, get_append}
 use Rattle.newt_graph.proofs.Form.{any_at}
-use Rattle.newt_path.proofs.Below.{Within, nodes_within}
-use Rattle.newt_path.proofs.Numbers.{joined, lacking, symbol_lands, lands_within}
+use Rattle.newt_path.proofs.Below.{nodes_within}
+use Rattle.newt_path.proofs.Numbers.{joined, symbol_lands, lands_within}
 
 no_pairs : {X : Type 0} (R : X → X → Type 0) → AllPairs R []
 no_pairs R i j d lt within = absurd (omega (arith, within))

@@ -1,5 +1,5 @@
 -- The symbol of a name among the nodes of a graph: one that is there, or a new one behind them.
-use Rattle.std.proofs.Common.{◌≡◌, ℕ, suc, ◌+◌, ◌<◌, ◌≤◌, List, [], ◌∷◌, ◌++◌, length, map, All, Bool, true, false, Option, Some, None, refl, sym, ap, subst, ◌∙◌, arith, cond, eqb, append_assoc, inl, inr, ◌⊎◌}
+use Rattle.std.proofs.Common.{◌≡◌, ℕ, suc, ◌+◌, ◌≤◌, List, [], ◌∷◌, ◌++◌, length, map, Bool, true, false, Option, Some, None, refl, sym, ap, subst, ◌∙◌, arith, cond, eqb, append_assoc, inl, inr, ◌⊎◌}
 use Rattle.std.specs.Prelude.{slice_get}
 use Rattle.std.specs.List.{position_from, sum_by}
 use Rattle.std.proofs.lemmas.Iterator.Adapters.{position_from-zero}
@@ -9,8 +9,8 @@ use Rattle.std.proofs.lemmas.List.Sums.{sum_by_push}
 use Rattle.std.proofs.lemmas.Option.{slice_get_within}
 use Rattle.newt_graph.specs.declared.node.Node.{Node}
 use Rattle.newt_graph.specs.declared.node.Node.TheVariants.{Symbol}
-use Rattle.newt_graph.specs.Graph.{IsAlike, AreFoldedOnce, payload, folded}
-use Rattle.newt_graph.specs.Draft.{find_alike, known, pushed, with_symbol}
+use Rattle.newt_graph.specs.Graph.{IsAlike, AreFoldedOnce, payload}
+use Rattle.newt_graph.specs.Draft.{find_alike, known, with_symbol}
 use Rattle.newt_spec_graph.specs.Slots.{is_named, symbol_number, new_nodes}
 use Rattle.newt_graph.proofs.Grows.{some_is, get_seam}
 use Rattle.newt_graph.proofs.Drafts.{none_alike}

@@ -1,13 +1,13 @@
 -- The numbers that a builder gives to the nodes of a graph that is put behind others are those of the definition.
-use Rattle.std.proofs.Common.{◌≡◌, ℕ, zero, suc, ◌+◌, ◌-◌, ◌<◌, ◌≤◌, List, [], ◌∷◌, ◌++◌, length, map, All, get_or, Bool, true, false, Option, Some, None, refl, sym, ap, subst, ◌∙◌, arith, cond, eqb}
+use Rattle.std.proofs.Common.{◌≡◌, ℕ, zero, suc, ◌+◌, ◌-◌, ◌<◌, ◌≤◌, List, [], ◌∷◌, ◌++◌, length, map, All, get_or, Bool, true, false, Option, Some, None, refl, sym, ap, subst, ◌∙◌, arith, eqb}
 use Rattle.std.specs.Prelude.{slice_get, filter, is_none, unwrap_or, option_and_then, ◌==◌}
-use Rattle.std.specs.List.{position, position_from, position_or_len, enumerate_from, sum_by}
+use Rattle.std.specs.List.{position_from, position_or_len, enumerate_from, sum_by}
 use Rattle.std.specs.Str.{bytes_eq}
 use Rattle.std.proofs.lemmas.Iterator.Adapters.{position_from-zero}
 use Rattle.std.proofs.lemmas.Bool.{eq-eqb, ne_eqb, le-leb}
 use Rattle.std.proofs.lemmas.Bool.Decides.{same_from_decides}
 use Rattle.std.proofs.lemmas.Slice.Eq.{bytes_eq-Decides}
-use Rattle.std.proofs.lemmas.List.{length-append, length-map, append-nil}
+use Rattle.std.proofs.lemmas.List.{length-append}
 use Rattle.std.proofs.lemmas.List.Elements.{All-head, All-tail}
 use Rattle.std.proofs.lemmas.List.Quantifiers.{position-Some}
 use Rattle.std.proofs.lemmas.List.Sums.{sum_by-cons}
@@ -16,8 +16,8 @@ use Rattle.newt_graph.specs.declared.node.Node.{Node}
 use Rattle.newt_graph.specs.declared.node.Node.TheVariants.{Symbol, Str, Binary, Large, Array, Frame}
 use Rattle.newt_graph.specs.declared.node.Ref.{Ref}
 use Rattle.newt_graph.specs.declared.node.Ref.TheVariants as refs
-use Rattle.newt_graph.specs.Graph.{RawGraph, IsGraph, IsNamed, IsAlike, payload, folded}
-use Rattle.newt_graph.specs.Raw.{renamed_ref, renamed, labels_of, values_of, IsValue}
+use Rattle.newt_graph.specs.Graph.{RawGraph, IsGraph, IsAlike, payload, folded}
+use Rattle.newt_graph.specs.Raw.{renamed_ref, renamed, IsValue}
 use Rattle.newt_graph.specs.Draft.{is_alike, find_alike}
 use Rattle.newt_graph.specs.Import.{known_as, numbers_from, kept_of, looked_up, behind, with_graph}
 use Rattle.newt_spec_graph.specs.Slots.{is_named, symbol_number, known_number, new_nodes, goes_to}

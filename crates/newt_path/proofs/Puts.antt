@@ -1,6 +1,6 @@
 -- The nodes that a builder has after a value was set are those of the definition, and its limit is that of one graph.
 use Rattle.std.proofs.Common.{◌≡◌, ◌≢◌, ℕ, zero, suc, ◌+◌, ◌<◌, ◌≤◌, List, [], ◌∷◌, ◌++◌, length, map, All, get_or, Bool, true, false, Option, Some, None, refl, sym, ap, subst, ◌∙◌, arith, cond, eqb, inl, inr, ◌⊎◌, ◌&&◌}
-use Rattle.std.specs.Prelude.{slice_get, AllPairs, set, nat_lt, nat_le, unwrap_or, is_some, option_and_then}
+use Rattle.std.specs.Prelude.{slice_get, set, nat_lt, nat_le, unwrap_or, is_some, option_and_then}
 use Rattle.std.specs.List.{position_from, list_all, sum_by}
 use Rattle.std.proofs.lemmas.Iterator.Adapters.{position_from-zero}
 use Rattle.std.proofs.lemmas.Bool.{ltb-false, and_left, and_right, lt-leb, eqb-false, cases_eq}
@@ -18,18 +18,18 @@ use Rattle.newt_graph.specs.Steps.{◌>>=◌}
 use Rattle.newt_graph.specs.Meeting.{Seen, place, meet, number, moved, limited, numbered, normal_form}
 use Rattle.newt_graph.specs.Draft.{IsJoinedNode, IsJoined, slot_put, frame_set, with_set}
 use Rattle.newt_graph.specs.Draft as draft
-use Rattle.newt_spec_graph.specs.Graph.{change_nth, object}
+use Rattle.newt_spec_graph.specs.Graph.{change_nth}
 use Rattle.newt_spec_graph.specs.Slots.{is_named, symbol_number, slot_number, slot_value, value_below, set_slot, with_slot, goes_to, new_nodes, put_into}
-use Rattle.newt_spec_graph.specs.Limits.{slots, node_within, within_limits, is_within}
+use Rattle.newt_spec_graph.specs.Limits.{node_within, is_within}
 use Rattle.newt_graph.proofs.Grows.{some_is, bind_some, get_append}
-use Rattle.newt_graph.proofs.Form.{any_at, at_map}
+use Rattle.newt_graph.proofs.Form.{at_map}
 use Rattle.newt_graph.proofs.Follows.{form_is_found}
 use Rattle.newt_path.specs.Put.{IsFormOf, PassesALimit}
 use Rattle.newt_path.proofs.Below.{root_within}
 use Rattle.newt_path.proofs.Numbers.{joined}
 use Rattle.newt_path.proofs.Named.{named, IsNamedBy}
 use Rattle.newt_path.proofs.Joins.{value_more, symbol_joined, graph_joined, append_joined, behind_joined, value_lands, set_other, set_here, symbol_stays, frame_joined}
-use Rattle.newt_path.proofs.Reached.{Has, In, Closed, Reached, Labelled, all_reached}
+use Rattle.newt_path.proofs.Reached.{Has, In, Closed, Labelled, all_reached}
 
 -- what a change is made in: a frame of the graph g, and the nodes with the name's symbol
 pub record IsPlace (g : RawGraph) (name : List ℕ) (tag frame : ℕ) (tags : List ℕ) (values : List Ref) : Type 0 where

@@ -1,5 +1,5 @@
 //! The value that a path reaches.
-ghost use Rattle.std.specs.Prelude.{◌≡◌, None, Some, drop, slice_get};
+ghost use Rattle.std.specs.Prelude.{◌≡◌, None, Some, slice_get};
 ghost use Rattle.newt_spec_graph.specs.Graph.{object};
 ghost use Rattle.newt_spec_graph.specs.Slots.{is_named, slot_number, slot_value, value_at, value_below};
 

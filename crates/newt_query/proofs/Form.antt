@@ -1,7 +1,7 @@
 -- The form of a query by the parts in which it is read.
 use Rattle.std.proofs.Common.{◌≡◌, Bool, true, false, refl}
 use Rattle.std.specs.Prelude.{◌&&◌, codes, is_some}
-use Rattle.std.proofs.lemmas.Bool.{and_parts, and_left, and_right, and_from}
+use Rattle.std.proofs.lemmas.Bool.{and_parts, and_left, and_right}
 use Rattle.newt_graph.specs.Graph.{RawGraph}
 use Rattle.newt_spec_query.specs.Spec.{bound_is, has_only, index_paths, is_query, is_tag_spec, is_text_list, is_true, query_slots, slot_is}
 use Rattle.newt_query.specs.Form.{is_framed}

@@ -1,5 +1,5 @@
 -- One value or several, and none.
-use Rattle.std.proofs.Common.{◌≡◌, List, [], ◌∷◌, map, Option, Some, None, refl, sym, ap, ◌∙◌}
+use Rattle.std.proofs.Common.{◌≡◌, List, [], ◌∷◌, map, Option, Some, None, refl, ap, ◌∙◌}
 use Rattle.std.specs.Prelude.{option_map}
 use Rattle.newt_spec_graph.specs.Graph.{every}
 use Rattle.newt_spec_query.specs.Spec.{or_else}

@@ -2,7 +2,6 @@
 ghost use Rattle.std.specs.Prelude.{◌≡◌};
 ghost use Rattle.newt_query.specs.declared.fault.ShapeFault.TheVariants as shape_fault;
 ghost use Rattle.newt_query.specs.declared.fault.BindFault.TheVariants as bind_fault;
-ghost use Rattle.newt_tags.specs.declared.read.TagFault.TheVariants as tag_fault;
 
 use newt_tags::TagFault;
 use std::alloc::AllocError;

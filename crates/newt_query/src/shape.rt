@@ -1,6 +1,6 @@
 //! How the frame of a query is read.
-ghost use Rattle.std.specs.Prelude.{◌≡◌, true, false, is_some, codes, map, option_map, IfOk, IsErrOf};
-ghost use Rattle.newt_spec_query.specs.Spec.{bound_is, given, has_only, has_slot, index_paths, is_query, is_tag_spec, is_text_list, is_true, query_paths, query_slots, slot_is, tag_spec, texts_given};
+ghost use Rattle.std.specs.Prelude.{◌≡◌, true, false, is_some, codes, option_map, IfOk, IsErrOf};
+ghost use Rattle.newt_spec_query.specs.Spec.{bound_is, given, has_slot, index_paths, is_query, is_tag_spec, is_text_list, is_true, query_paths, slot_is, tag_spec, texts_given};
 ghost use Rattle.newt_query.specs.Shape.{shape_of};
 ghost use Rattle.newt_query.specs.Form.{is_framed};
 ghost use Rattle.newt_query.specs.declared.fault.ShapeFault.{ShapeFault};

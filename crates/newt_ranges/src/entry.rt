@@ -1,5 +1,5 @@
 //! An entry in one range.
-ghost use Rattle.std.specs.Prelude.{◌≡◌, OnOk, OnErr, length, zip};
+ghost use Rattle.std.specs.Prelude.{◌≡◌, OnOk, OnErr, zip};
 ghost use Rattle.std.specs.List.{list_all};
 ghost use Rattle.newt_base.specs.Names.{same_path};
 ghost use Rattle.newt_spec_store.specs.Keys.{same_paths, paths_of};

@@ -1,11 +1,11 @@
 //! The ranges of all soups of a store.
-ghost use Rattle.std.specs.Prelude.{◌≡◌, ◌==◌, ◌<◌, [], ◌∷◌, ◌++◌, not, filter, length, option_map, IfSome, IsTrue, OnOk, OnErr};
+ghost use Rattle.std.specs.Prelude.{◌≡◌, ◌==◌, ◌<◌, [], ◌∷◌, ◌++◌, not, length, option_map, IfSome, IsTrue, OnOk, OnErr};
 ghost use Rattle.std.specs.List.{position_from};
 ghost use Rattle.newt_index.specs.Pairs.{IsSorted};
 ghost use Rattle.newt_spec_store.specs.Store.{Store};
 ghost use Rattle.newt_spec_store.specs.Valid.{well_formed};
 ghost use Rattle.newt_ranges.specs.Range.{range_in};
-ghost use Rattle.newt_ranges.specs.Rows.{no_ranges, with_entry, without_entry, each_range, with_range, without_range, ranges_of, change_ranges, drop_ranges, range_found};
+ghost use Rattle.newt_ranges.specs.Rows.{no_ranges, with_entry, without_entry, each_range, with_range, without_range, change_ranges, drop_ranges, range_found};
 ghost use Rattle.newt_ranges.specs.Stands.{AreRangesOf};
 
 use crate::rows::SoupRanges;

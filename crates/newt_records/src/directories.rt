@@ -1,8 +1,8 @@
 //! Directories in bytes that were spelt by hand, with ample memory.
-use newt_soupdir::{DirFault, Directory, read_directory, write_directory};
 use newt_base::{Name, Sig};
 use newt_keys::{IndexSpec, Kind, Order};
 use newt_path::Path;
+use newt_soupdir::{DirFault, Directory, read_directory, write_directory};
 use newt_tags::TagTable;
 use std::alloc::{AllocError, Global};
 use std::test::*;

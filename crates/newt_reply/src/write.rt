@@ -1,5 +1,5 @@
 //! The text of a reply.
-ghost use Rattle.std.specs.Prelude.{◌≡◌, ◌∷◌, [], ◌++◌, Some, IfOk};
+ghost use Rattle.std.specs.Prelude.{◌≡◌, ◌∷◌, [], Some, IfOk};
 ghost use Rattle.newt_spec_world.specs.Reply as spec;
 ghost use Rattle.newt_reply.specs.Fields.{ok_text, written};
 ghost use Rattle.newt_reply.specs.Said.{said};

@@ -1,6 +1,5 @@
 //! One run over a host in memory.
-ghost use Rattle.std.specs.Prelude.{◌≡◌, ◌*◌, ℕ, List, None, IfOk, IsSome, IsTrue, vec_len};
-ghost use Rattle.newt_host.specs.Outside.{Outside};
+ghost use Rattle.std.specs.Prelude.{◌≡◌, ◌*◌, IfOk, IsSome, IsTrue, vec_len};
 ghost use Rattle.newt_memhost.specs.Outside.{outside_of};
 ghost use Rattle.newt_runs.specs.Free.{IsFree, HasNone};
 

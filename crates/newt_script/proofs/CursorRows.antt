@@ -1,5 +1,5 @@
 -- What the rows on cursors read, over the readers that stay closed.
-use Rattle.std.proofs.Common.{◌≡◌, ℕ, List, Result, Ok, Err, codes, refl, ap, ◌∙◌}
+use Rattle.std.proofs.Common.{◌≡◌, ℕ, List, Result, Ok, Err, codes, ap, ◌∙◌}
 use Rattle.newt_base.specs.Text.{signed_value}
 use Rattle.newt_base.specs.declared.Refusal.{Refusal}
 use Rattle.newt_spec_world.specs.declared.command.Command.{Command}

@@ -1,5 +1,5 @@
 -- Lines that say something, by their first word.
-use Rattle.std.proofs.Common.{◌≡◌, ℕ, Bool, true, false, ◌&&◌, nat_lt, ◌<◌, ◌≤◌, List, [], ◌∷◌, length, option_map, Option, Some, None, Result, Ok, Err, cond, refl, sym, ◌∙◌, ap}
+use Rattle.std.proofs.Common.{◌≡◌, ℕ, Bool, true, false, ◌&&◌, nat_lt, ◌<◌, ◌≤◌, List, [], ◌∷◌, length, option_map, Option, Some, None, Result, Ok, Err, refl, sym, ◌∙◌, ap}
 use Rattle.std.proofs.lemmas.Bool.{lt-ltb, le-ltb}
 use Rattle.std.proofs.lemmas.Slice.Eq.{bytes_eq-Decides}
 use Rattle.std.specs.List.{list_all, find}

@@ -1,5 +1,5 @@
 -- A run over the devices of names.
-use Rattle.std.proofs.Common.{◌≡◌, inl, inr, ℕ, zero, suc, ◌⊎◌, ◌+◌, ◌*◌, ◌/◌, ◌<◌, ◌≤◌, Bool, true, false, IsTrue, IsSome, List, [], ◌∷◌, ◌++◌, length, map, Option, Some, None, MatchOption, Result, Ok, Err, OnOk, IfErr, refl, sym, ◌∙◌, ap, subst, arith}
+use Rattle.std.proofs.Common.{◌≡◌, inl, inr, ℕ, zero, suc, ◌⊎◌, ◌+◌, ◌*◌, ◌/◌, ◌<◌, Bool, true, false, IsTrue, IsSome, List, [], ◌∷◌, ◌++◌, length, map, Option, Some, None, MatchOption, refl, sym, ◌∙◌, ap, subst, arith}
 use Rattle.std.specs.Prelude.{slice_get, option_map, option_and_then}
 use Rattle.std.proofs.Math.Nat.{mul-div_cancel}
 use Rattle.std.proofs.lemmas.Bool.{cases_lt, false≢true}
@@ -7,7 +7,7 @@ use Rattle.std.proofs.lemmas.Option.{slice_get-map}
 use Rattle.newt_attach.specs.Named.{AreAttached, if_known}
 use Rattle.newt_attach.proofs.Since.{since_attached}
 use Rattle.newt_host.specs.Meanings.{held, left_since, since}
-use Rattle.newt_host.specs.Moments.{Attached, Change, IsDurable, IsHistory, LeftBy, MayLeave, LeftSince, Moment, Always, here, later, bytes_after, changes, image, moment_at, output as printed}
+use Rattle.newt_host.specs.Moments.{Attached, Change, IsDurable, IsHistory, LeftBy, MayLeave, Moment, Always, here, later, bytes_after, changes, image, moment_at, output as printed}
 use Rattle.newt_host.specs.Outside.{Outside}
 use Rattle.newt_host.proofs.Extending.{extends-always}
 use Rattle.newt_host.proofs.Histories.{untouched-attached}
@@ -19,7 +19,7 @@ use Rattle.newt_spec_world.specs.First.{media_of, unit_numbers, unit_of, world_o
 use Rattle.newt_spec_world.specs.World.{World, Device, flat, first_world, store_of, store_on_unit}
 use Rattle.newt_session.specs.Causes.{NeverLess}
 use Rattle.newt_session.specs.First.{device_now, unmounted}
-use Rattle.newt_session.specs.Moments.{BeforeOrAfter, CrashAt, HasLeft, replies_begun, world_at}
+use Rattle.newt_session.specs.Moments.{CrashAt, HasLeft, replies_begun, world_at}
 use Rattle.newt_session.specs.Script.{Answers}
 use Rattle.newt_session.proofs.Crashing.{left_same, its_now, safe_here, crash_at}
 

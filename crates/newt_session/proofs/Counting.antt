@@ -1,6 +1,6 @@
 -- What calls leave of devices and counts, one after another.
-use Rattle.std.proofs.Common.{◌≡◌, ℕ, ◌≤◌, Bool, IsTrue, refl, ◌∙◌, arith}
-use Rattle.newt_host.specs.Outside.{Outside, SameCards}
+use Rattle.std.proofs.Common.{Bool, refl, ◌∙◌, arith}
+use Rattle.newt_host.specs.Outside.{Outside}
 use Rattle.newt_host.proofs.Outside.{SameCards-refl, SameCards-append}
 use Rattle.newt_session.specs.Causes.{SameDevices, NeverLess, GoesOn, OnDevices}
 

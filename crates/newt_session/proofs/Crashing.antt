@@ -1,5 +1,5 @@
 -- From what a crash leaves in one command to what it leaves in a script.
-use Rattle.std.proofs.Common.{◌≡◌, ◌⊎◌, inl, inr, ℕ, zero, suc, ◌+◌, ◌-◌, ◌<◌, ◌≤◌, List, [], ◌∷◌, ◌++◌, length, map, take, Option, Some, None, MatchOption, refl, sym, ◌∙◌, ap, subst, append_assoc, append-nil, arith}
+use Rattle.std.proofs.Common.{◌≡◌, ◌⊎◌, inl, ℕ, zero, suc, ◌+◌, ◌-◌, ◌<◌, ◌≤◌, List, [], ◌∷◌, ◌++◌, length, Option, Some, None, MatchOption, refl, sym, ◌∙◌, ap, subst, append_assoc, append-nil, arith}
 use Rattle.std.proofs.lemmas.List.{length-append}
 use Rattle.newt_host.specs.Moments.{Moment, Change, LeftBy, MayLeave, Always, here, changes, output as printed}
 use Rattle.newt_host.specs.Outside.{PrintsSome}
@@ -11,7 +11,6 @@ use Rattle.newt_spec_world.specs.Reply.{Reply, reply_line, reply_text}
 use Rattle.newt_spec_world.specs.World.{World, store_on_unit}
 use Rattle.newt_session.specs.Moments.{Answering, begun, world_at, replies_begun, BeforeOrAfter, CrashAt, Leaves, SafeAt, Untouched}
 use Rattle.newt_session.specs.Script.{Answers, step, replies, texts, world_behind}
-use Rattle.newt_session.proofs.Items.{texts_none}
 
 some_text : (r : Reply) → 0 < length (reply_text r)
 some_text r = subst (λ n. 0 < n) (sym (length-append (reply_line r) (10 ∷ []))) (omega arith)

@@ -4,7 +4,7 @@ use Rattle.std.proofs.lemmas.List.{append-nil, take_at, length-append}
 use Rattle.std.proofs.Math.Seq.{take-append-add}
 use Rattle.newt_spec_script.specs.Script.{Item}
 use Rattle.newt_spec_world.specs.World.{World}
-use Rattle.newt_session.specs.Stream.{Wrote, WroteSome}
+use Rattle.newt_session.specs.Stream.{Wrote}
 use Rattle.newt_session.specs.Lines.{ended_lines, unended, last_line, lines_of}
 use Rattle.newt_session.specs.Script.{Answers, has_quit, commands_of, world_after, output_of}
 use Rattle.newt_session.specs.Run.{output, output_of_ended, quits, IsTooLong, IsReadThrough, AnsweredTaken, Halted, HaltedIn}

@@ -1,13 +1,13 @@
 -- Why a run halts that answers lines.
-use Rattle.std.proofs.Common.{◌≡◌, ℕ, ◌≤◌, List, [], ◌++◌, take, refl, Result, Ok, Err, OnErr, IfErr, sym, ◌∙◌, ap, subst, arith}
+use Rattle.std.proofs.Common.{◌≡◌, ℕ, List, [], ◌++◌, take, refl, Result, Ok, Err, OnErr, IfErr, sym, ◌∙◌, ap, subst, arith}
 use Rattle.newt_host.specs.Outside.{Outside}
 use Rattle.newt_pagebook.specs.declared.book.Stop.{Stop}
 use Rattle.newt_pagebook.specs.declared.book.Stop.TheVariants as stops
 use Rattle.newt_spec_world.specs.World.{World}
-use Rattle.newt_session.specs.Stream.{Wrote, WroteSome}
+use Rattle.newt_session.specs.Stream.{WroteSome}
 use Rattle.newt_session.specs.Run.{AnsweredLines, HaltedIn, HaltedReply}
 use Rattle.newt_session.specs.Script.{Answers, output_of}
-use Rattle.newt_session.specs.Causes.{halt_of, HasStopCause, HasSinkCause, HasWriteCause, HasCause, GoesOn, NeverLess}
+use Rattle.newt_session.specs.Causes.{halt_of, HasSinkCause, HasWriteCause, HasCause, GoesOn, NeverLess}
 use Rattle.newt_session.specs.declared.halt.Halt.{Halt}
 use Rattle.newt_session.specs.declared.halt.Halt.TheVariants.{Memory, Device, Source, Sink, TooLong}
 use Rattle.newt_session.proofs.Replying.{output_none}
@@ -15,10 +15,6 @@ use Rattle.newt_session.proofs.Writing.{wrote_nothing}
 use Rattle.std.proofs.lemmas.List.{append-nil}
 
 -- ---- causes, over more of the run
-
-pub stop_cause : (stop : Stop) (old mid new : Outside) → HasStopCause stop old mid → GoesOn mid new → HasWriteCause (halt_of stop) old new
-stop_cause stops.Memory old mid new cause later = tt
-stop_cause (stops.Device unit) old mid new cause later = omega (arith, cause, later.dev_faults unit)
 
 pub sink_cause : (halt : Halt) (old mid new : Outside) → HasSinkCause halt mid new → GoesOn old mid → HasWriteCause halt old new
 sink_cause Memory old mid new cause before = tt

@@ -1,5 +1,5 @@
 -- Items that are answered one after another.
-use Rattle.std.proofs.Common.{◌≡◌, true, false, cond, ℕ, List, [], ◌∷◌, ◌++◌, flat_map, refl, sym, ◌∙◌, ap, append-nil, append_assoc}
+use Rattle.std.proofs.Common.{◌≡◌, true, false, cond, List, [], ◌∷◌, ◌++◌, flat_map, refl, sym, ◌∙◌, ap, append-nil}
 use Rattle.std.proofs.lemmas.Grind.{flat_map-append}
 use Rattle.newt_spec_script.specs.Script.{Item, is_quit, up_to_quit}
 use Rattle.newt_spec_world.specs.Reply.{reply_text}

@@ -1,5 +1,5 @@
 -- What one line gives.
-use Rattle.std.proofs.Common.{◌≡◌, ◌≢◌, ℕ, true, false, List, [], ◌∷◌, ◌++◌, Option, Some, None, Result, Ok, Err, refl, sym, ◌∙◌, ap, append-nil}
+use Rattle.std.proofs.Common.{◌≡◌, ◌≢◌, ℕ, false, List, [], ◌∷◌, Option, Some, None, Result, Ok, Err, refl, sym, ◌∙◌, ap, append-nil}
 use Rattle.newt_base.specs.declared.Refusal.{Refusal}
 use Rattle.newt_reply.specs.Said.{said}
 use Rattle.newt_reply.specs.declared.reply.Reply.TheVariants as replies
@@ -10,7 +10,7 @@ use Rattle.newt_spec_script.specs.Script.{Item, is_quit, up_to_quit}
 use Rattle.newt_spec_world.specs.declared.command.Command.{Command}
 use Rattle.newt_spec_world.specs.Reply as reply
 use Rattle.newt_spec_world.specs.World.{World}
-use Rattle.newt_session.specs.Script.{Answers, given, items_of, quits_among, has_quit, commands_of, step, world_behind, texts, world_after, output_of}
+use Rattle.newt_session.specs.Script.{Answers, given, items_of, quits_among, has_quit, commands_of, world_behind, texts, world_after, output_of}
 use Rattle.newt_session.proofs.Items.{texts_none, texts_one, world_one, up_to_one, quits_one}
 
 -- the reading that a call answered is the line's, where memory was not wanting

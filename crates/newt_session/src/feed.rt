@@ -1,5 +1,5 @@
 //! The lines that end in one piece of a script.
-ghost use Rattle.std.specs.Prelude.{IsTrue, ◌≡◌, ◌≤◌, ◌++◌, IfOk, OnOk, OnErr, IfErr, MatchOption};
+ghost use Rattle.std.specs.Prelude.{IsTrue, ◌≡◌, ◌++◌, IfOk, OnOk, IfErr, MatchOption};
 ghost use Rattle.newt_host.specs.Moments.{Always, Moment};
 ghost use Rattle.newt_session.specs.Moments.{SafeAt, Untouched};
 ghost use Rattle.newt_session.specs.Stream.{out_of};

@@ -9,7 +9,7 @@ ghost use Rattle.newt_session.specs.Script.{commands_of, has_quit, output_of, wo
 ghost use Rattle.newt_session.specs.Stream.{out_of, WroteSome};
 ghost use Rattle.newt_session.specs.Run.{HaltedIn, HaltedReply};
 ghost use Rattle.newt_spec_script.specs.Script.{is_quit};
-ghost use Rattle.newt_spec_world.specs.Reply.{reply_text, Reply as PlainReply};
+ghost use Rattle.newt_spec_world.specs.Reply.{reply_text};
 ghost use Rattle.newt_spec_world.specs.Reply.Reply.{refused};
 
 use crate::halt::{Flow, Halt, halted_by};

@@ -1,6 +1,6 @@
 -- What a crash leaves of a device has as many bytes as the device.
 use Rattle.std.proofs.Common.{◌≡◌, ℕ, ◌≤◌, Bool, true, false, cond, eqb, List, [], ◌∷◌, length, ◌∙◌, ap, arith}
-use Rattle.newt_host.specs.Moments.{Change, Attached, Wrote, Synced, On, Printed, Moment, LeftBy, changes, image, IsHistory, Always, here, later, Leaves}
+use Rattle.newt_host.specs.Moments.{Change, Attached, Wrote, Synced, On, Printed, Moment, LeftBy, changes, IsHistory, Always, here, later, Leaves}
 use Rattle.newt_host.proofs.Moments.{Always-map}
 use Rattle.newt_host.proofs.Histories.{history-length}
 
@@ -46,6 +46,3 @@ Leaves-length {unit = unit} {size = size} {P = P} {old = old} first last leaves 
       crash = λ left may. (left-length size (changes unit m) left both.1 may, both.0.crash left may);
     })
     (each_history unit size first last leaves)
-
-pub image-length : (size unit : ℕ) (m : Moment) → IsHistory size (changes unit m) → length (image unit m) ≡ size
-image-length size unit m h = history-length size (changes unit m) h

@@ -24,12 +24,6 @@ Row = (ℕ × ℕ) × ℕ
 abbrev listed : Bool → Row → List ℕ → List ℕ
 listed b row rest = cond b (row.0.1 ∷ rest) rest
 
-listed-first : (sig : ℕ) (row : Row) (rows : List Row) → uids_at sig (row ∷ rows) ≡ listed (row.0.0 == sig) row (uids_at sig rows)
-listed-first sig row rows = by (row.0.0 == sig) where
-  by : (b : Bool) → map_list (λ (x : Row). x.0.1) (cond b (row ∷ filter (λ (x : Row). x.0.0 == sig) rows) (filter (λ (x : Row). x.0.0 == sig) rows)) ≡ listed b row (uids_at sig rows)
-  by true = refl
-  by false = refl
-
 -- rows more
 pub listed-append : (sig : ℕ) (rows more : List Row) → uids_at sig (rows ++ more) ≡ uids_at sig rows ++ uids_at sig more
 listed-append sig rows more =

@@ -1,5 +1,5 @@
 -- Bytes of one object that are overwritten: what the clauses of a plan and of its commit say together.
-use Rattle.std.proofs.Common.{IsTrue, ◌≡◌, inl, ℕ, ◌+◌, ◌*◌, ◌<◌, ◌≤◌, Bool, List, [], length, Option, Some, None, IsSome, OnOk, Result, Ok, Err, refl, sym, ◌∙◌, ap, subst, arith}
+use Rattle.std.proofs.Common.{◌≡◌, inl, ℕ, ◌*◌, Bool, List, [], length, Option, Some, None, IsSome, refl, sym, ◌∙◌, ap, subst}
 use Rattle.std.specs.FinMap as map
 use Rattle.std.specs.Option.{option_map}
 use Rattle.newt_host.specs.Moments.{Moment, image, changes, overwritten, IsDurable, IsHistory, Leaves}
@@ -10,8 +10,7 @@ use Rattle.newt_image.specs.Objects.{Extent, IsTableOf, AreObjectsOf, joined}
 use Rattle.newt_pagebook.specs.Batch.{no_change}
 use Rattle.newt_pagebook.specs.Book.{Numbers, IsBeforeOrAfter}
 use Rattle.newt_objects.specs.Held.{Held, held, AreOf, Texts, WouldHold}
-use Rattle.newt_objects.specs.Changing.{HoldsObjects}
-use Rattle.newt_objects.proofs.Changing.{are_still, left_holds, told_table}
+use Rattle.newt_objects.proofs.Changing.{are_still, left_holds}
 use Rattle.newt_objects.proofs.Counting.{joined_size}
 use Rattle.newt_objects.proofs.Same.{texts_by}
 use Rattle.newt_objects.proofs.TextsOf.{texts_of}

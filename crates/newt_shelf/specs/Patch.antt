@@ -1,6 +1,5 @@
 -- Bytes of one object that are overwritten.
 use Rattle.std.specs.Prelude.{◌≡◌, ◌⊎◌, ℕ, ◌+◌, ◌*◌, ◌/◌, List, length}
-use Rattle.newt_base.specs.declared.Refusal.{Refusal}
 use Rattle.newt_base.specs.declared.Refusal.TheVariants.{Full, Range}
 use Rattle.newt_objects.specs.Held.{Texts}
 use Rattle.newt_objects.specs.Changing.{HoldsObjects}

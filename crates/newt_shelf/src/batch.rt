@@ -1,13 +1,11 @@
 // The objects of a change, planned into one batch.
-ghost use Rattle.std.specs.Prelude.{◌≡◌, ◌≢◌, ◌+◌, ◌<◌, ◌≤◌, ℕ, List, [], length, map as map_list, sum_by, Some, None, IsSome, OnOk};
+ghost use Rattle.std.specs.Prelude.{◌≡◌, ◌≢◌, ◌+◌, ◌<◌, ℕ, [], length, map as map_list, sum_by, Some, IsSome, OnOk};
 ghost use Rattle.newt_image.specs.Pages.{Pages};
 ghost use Rattle.newt_image.specs.Objects.{pages_for};
 ghost use Rattle.newt_objects.specs.Held.{held, Texts, IsUnplanned};
 ghost use Rattle.newt_objects.specs.Changing.{IsUnderWay};
-ghost use Rattle.newt_pagebook.specs.Batch.{no_change};
 ghost use Rattle.newt_spec_graph.specs.Lists.{Among};
 ghost use Rattle.newt_shelf.specs.declared.batch.NewEntry.{NewEntry as NewOne};
-ghost use Rattle.newt_shelf.specs.declared.batch.NewLarge.{NewLarge as LargeOne};
 ghost use Rattle.newt_shelf.specs.Batch.{AreWritten, HasPut, HasNone, HasIds, IsApart, AreOnce, AddsPages, HasLarges, HasEntry, large_ids, pages_held, all_pages_held, new_pages, over_pages};
 
 use newt_base::{Sig, Uid};

@@ -1,5 +1,5 @@
 -- Words on the rows of a directory.
-use Rattle.std.proofs.Common.{◌≡◌, ℕ, ◌+◌, ◌<◌, ◌≤◌, Bool, true, false, cond, ◌&&◌, ◌==◌, leb, ltb, List, [], ◌∷◌, ◌++◌, length, get_or, map, filter, suc, Option, Some, None, refl, ap, sym, subst, ◌∙◌, All, arith}
+use Rattle.std.proofs.Common.{◌≡◌, ℕ, ◌+◌, ◌<◌, ◌≤◌, Bool, true, false, cond, ◌&&◌, ◌==◌, leb, ltb, List, [], ◌∷◌, length, get_or, map, filter, suc, Option, Some, None, refl, ap, sym, subst, ◌∙◌, All, arith}
 use Rattle.std.specs.Prelude.{IsTrue, IfSome, nat_le, slice_set}
 use Rattle.std.specs.List.{AllByRecursion, list_all, find, position_from}
 use Rattle.std.proofs.lemmas.Bool.{and_parts, leb-true, ltb-true}

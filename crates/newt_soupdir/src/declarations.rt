@@ -1,5 +1,4 @@
 //! Declarations of indexes and tags, read from the front.
-ghost use Rattle.std.specs.Prelude.{◌≡◌};
 ghost use Rattle.newt_spec_store.specs.Reading.{times};
 ghost use Rattle.newt_soupdir.specs.Reading.{Gives, symbol_at, path_at, kind_at, order_at, part_at, spec_at, specs_at, tag_symbols_at, table_at, tags_at};
 

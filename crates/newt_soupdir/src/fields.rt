@@ -1,5 +1,4 @@
 //! Numbers, texts and names, read from the front.
-ghost use Rattle.std.specs.Prelude.{◌≡◌};
 ghost use Rattle.newt_soupdir.specs.Reading.{Gives, byte_at, number16_at, number32_at, text_at, name_at};
 
 use crate::fault::DirFault;

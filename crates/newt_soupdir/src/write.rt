@@ -1,5 +1,5 @@
 //! Writing a directory.
-ghost use Rattle.std.specs.Prelude.{◌≡◌, ◌<◌, ◌^◌, ◌++◌, ◌∷◌, length, flat_map, map, All, OnOk, IfOk, IsTrue, Some};
+ghost use Rattle.std.specs.Prelude.{◌≡◌, ◌<◌, ◌^◌, ◌++◌, length, map, All, OnOk, IfOk, IsTrue, Some};
 ghost use Rattle.newt_base.specs.Text.{be16, be32};
 ghost use Rattle.newt_spec_store.specs.Cost.{text_bytes, path_bytes, kind_byte, direction_byte, part_bytes, tags_bytes, soup_bytes, directory_bytes, counted};
 ghost use Rattle.newt_spec_store.specs.Valid.{well_formed};

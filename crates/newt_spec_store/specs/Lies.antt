@@ -1,5 +1,5 @@
 -- How a store lies in objects, and what one object is read as. All of it is this project's own.
-use Rattle.std.specs.Prelude.{◌≡◌, ◌≢◌, ◌⊎◌, ◌==◌, ◌&&◌, [], ℕ, ◌%◌, ◌<◌, nat_lt, Bool, List, length, fold, zip, replicate, map as list_map, Option, Some, None, if◌then◌else◌, option_and_then, option_map}
+use Rattle.std.specs.Prelude.{◌≡◌, ◌≢◌, ◌⊎◌, ◌==◌, ◌&&◌, ℕ, ◌%◌, ◌<◌, nat_lt, Bool, List, length, fold, zip, replicate, map as list_map, Option, Some, None, if◌then◌else◌, option_and_then, option_map}
 use Rattle.std.specs.List.{list_all}
 use Rattle.std.specs.FinMap as map
 use Rattle.newt_graph.specs.Graph.{RawGraph, IsGraph}

@@ -7,7 +7,7 @@ use Rattle.newt_base.specs.declared.Refusal.{Refusal}
 use Rattle.newt_base.specs.declared.Refusal.TheVariants.{Full}
 use Rattle.newt_host.specs.Moments.{Moment, image, IsDurable, Leaves}
 use Rattle.newt_host.specs.Outside.{Outside, Rose, Touches, Spends}
-use Rattle.newt_host.proofs.Outside.{Touches-append, Spends-append, Spends-widen}
+use Rattle.newt_host.proofs.Outside.{Spends-append, Spends-widen}
 use Rattle.newt_pagebook.specs.declared.book.Stop.TheVariants.{Memory, Device}
 use Rattle.newt_host.proofs.Moments.{Leaves-start, Leaves-weaken}
 use Rattle.newt_image.specs.Pages.{cap}
@@ -173,9 +173,6 @@ faults-over (Refused refusal) unit unit' old mid new place touches faults = tt
 faults-over (Stop Memory) unit unit' old mid new place touches faults = tt
 faults-over (Stop (Device at)) unit unit' old mid new place touches faults =
     (faults.0 ∙ place, rose-before (old.dev_faults unit) (mid.dev_faults unit) (new.dev_faults unit) touches.faults_later (subst (λ (u : ℕ). Rose (mid.dev_faults u) (new.dev_faults u)) place faults.1))
-
-pub touches-over : (unit unit' : ℕ) (old mid new : Outside) → unit' ≡ unit → Touches unit old mid → Touches unit' mid new → Touches unit old new
-touches-over unit unit' old mid new place first second = Touches-append first (subst (λ (u : ℕ). Touches u mid new) place second)
 
 -- ---- how many bytes
 

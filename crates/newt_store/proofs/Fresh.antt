@@ -6,7 +6,7 @@ use Rattle.std.specs.Ordering.{nat_cmp}
 use Rattle.std.specs.Option.{option_map}
 use Rattle.newt_base.specs.Names.{is_name}
 use Rattle.newt_image.specs.Records.{and_then}
-use Rattle.newt_image.specs.Pages.{Pages, Change, pages_after, after, cap}
+use Rattle.newt_image.specs.Pages.{Change, pages_after, after, cap}
 use Rattle.newt_image.specs.Objects.{IsTableOf, joined, pages_for}
 use Rattle.newt_pagebook.specs.Batch.{no_change}
 use Rattle.newt_pagebook.specs.Book.{IsFormatted}
@@ -28,12 +28,6 @@ use Rattle.newt_entries.specs.Entry.{stream_graph}
 use Rattle.newt_entries.proofs.Streams.{reads_graphs}
 use Rattle.newt_store.specs.Change.{new_store}
 use Rattle.newt_store.proofs.Reading.{is-valid}
-
-empty_pages : Pages
-empty_pages = map.empty
-
-empty_texts : Texts
-empty_texts = map.empty
 
 -- no objects are the objects of no pages
 pub start-empty : (objects : Held) → ((id : ℕ) → held objects id ≡ None) → objects.plans ≡ [] → IsUnderWay objects no_change map.empty map.empty

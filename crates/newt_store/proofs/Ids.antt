@@ -35,9 +35,6 @@ pub record AreIdsTo (objects : Held) (last : ℕ) (ids : List ℕ) : Type 0 wher
   pub most : (id : ℕ) → Among ids id → id ≤ last
   pub once : AreOnce ids
 
-pub ids-none : (objects : Held) (last : ℕ) → AreIdsTo objects last []
-ids-none objects last = record { even = λ id m. absurd m; fit = λ id m. absurd m; free = λ id m. absurd m; most = λ id m. absurd m; once = tt }
-
 among-one : (z id : ℕ) → Among (z ∷ []) id → z ≡ id
 among-one z id (inl e) = e
 among-one z id (inr m) = absurd m

@@ -12,7 +12,7 @@ use Rattle.newt_spec_store.specs.Cost.{directory_bytes}
 use Rattle.newt_soupdir.specs.Bare.{bare_store}
 use Rattle.newt_host.proofs.Moments.{Leaves-start, Leaves-weaken}
 use Rattle.newt_image.specs.Pages.{Pages, Change}
-use Rattle.newt_image.specs.Objects.{Extent, AreObjectsOf, joined, pages_for}
+use Rattle.newt_image.specs.Objects.{AreObjectsOf, joined, pages_for}
 use Rattle.newt_pagebook.specs.Batch.{no_change}
 use Rattle.newt_pagebook.specs.Book.{Numbers, batch_bytes}
 use Rattle.newt_pagebook.proofs.Tests.{some_inj}
@@ -81,10 +81,6 @@ map-some f (Some x) some = refl
 
 is-some : {A : Type 0} (o : Option A) (x : A) → o ≡ Some x → IsSome o
 is-some o x is = subst (λ (o : Option _). IsSome o) (sym is) refl
-
-pub not-free : (o : Option Extent) → o ≡ None → IsSome o → ⊥
-not-free None none some = absurd (let no = some in cc)
-not-free (Some x) none some = absurd (cc)
 
 -- what lies where, once the plans are taken over
 module _ (objects now : Held) (batch : Change) (live : Pages) (before after : Texts) (directory : List ℕ) (entry : Option NewEntry) (gone : List ℕ)

@@ -5,7 +5,7 @@ ghost use Rattle.newt_host.specs.Moments.{image, Leaves};
 ghost use Rattle.newt_host.specs.Outside.{Touches, Spends, Rose};
 ghost use Rattle.newt_pagebook.specs.Stops.{StopsAt};
 ghost use Rattle.newt_pagebook.specs.Book.{Anything, IsDurable, IsOpenFor};
-ghost use Rattle.newt_spec_store.specs.Store.{Store as PlainStore, Entry as PlainEntry};
+ghost use Rattle.newt_spec_store.specs.Store.{Store as PlainStore};
 ghost use Rattle.newt_spec_store.specs.OfImage.{blocks_of};
 ghost use Rattle.newt_soupdir.specs.Changes.{soup_of};
 ghost use Rattle.newt_entries.specs.Entry.{stream_graph};

@@ -1,9 +1,8 @@
 -- A number by its bits.
-use Rattle.std.proofs.Common.{◌≡◌, ℕ, ◌+◌, ◌*◌, ◌/◌, ◌%◌, ◌^◌, ◌<◌, ◌≤◌, zero, suc, List, [], ◌∷◌, length, map, filter, drop, get_or, ◌&&◌, ◌||◌, Bool, true, false, Option, Some, None, refl, sym, ap, ◌∙◌, arith, cond, eqb}
+use Rattle.std.proofs.Common.{◌≡◌, ℕ, ◌+◌, ◌*◌, ◌/◌, ◌%◌, ◌<◌, ◌≤◌, List, [], ◌∷◌, length, map, filter, drop, get_or, ◌&&◌, ◌||◌, Bool, true, false, Option, Some, None, refl, sym, ap, ◌∙◌, arith, cond, eqb}
 use Rattle.std.specs.Prelude.{not}
 use Rattle.std.specs.List.{list_any, list_all}
 use native.Mathlib.Numerals.{unary_clauses}
-use Rattle.std.proofs.Math.Pow.{pow_mono}
 use Rattle.std.proofs.lemmas.List.{at_drop_more, at_drop_all}
 use Rattle.std.proofs.lemmas.Bool.{eq-eqb, ne_eqb}
 use Rattle.newt_graph.specs.declared.node.Ref.{Ref}
@@ -48,13 +47,6 @@ pub mask_some : (table : TagTable) (graph : RawGraph) (value : Ref) → value_at
 unfolding mask_of
 mask_some table graph value e = sym (ap (λ (o : Option Ref). number (map (is_among (symbols_at graph o)) table.symbols)) e)
 
-pub more_bits : (n : ℕ) → 2 ^ suc n ≡ 2 * 2 ^ n
-more_bits n = simp unary_clauses (omega arith)
-
-pub some_power : (n : ℕ) → 1 ≤ 2 ^ n
-some_power zero = omega arith
-some_power (suc n) = omega (arith, some_power n, more_bits n)
-
 -- ---- one bit after another
 
 any_one : (b : Bool) (p : List ℕ → Bool) (x : List ℕ) (xs : List (List ℕ)) → list_any p (cond b (x ∷ xs) xs) ≡ ((b && p x) || list_any p xs)
@@ -85,12 +77,6 @@ any_on p symbols i rest d total lt miss so_far =
     let sel = selected (rest / 2) (drop (i + 1) symbols) in
     sym (ap (λ (b : Bool). b || list_any p sel) miss) ∙ (sym (any_next p symbols i rest d lt) ∙ so_far)
 
-pub any_here : (p : List ℕ → Bool) (symbols : List (List ℕ)) (i rest : ℕ) (d : List ℕ) (total : Bool) → i < length symbols → (eqb (rest % 2) 1 && p (get_or symbols i d)) ≡ true
-    → list_any p (selected rest (drop i symbols)) ≡ total → true ≡ total
-any_here p symbols i rest d total lt hit so_far =
-    let sel = selected (rest / 2) (drop (i + 1) symbols) in
-    sym (ap (λ (b : Bool). b || list_any p sel) hit) ∙ (sym (any_next p symbols i rest d lt) ∙ so_far)
-
 pub any_done : (p : List ℕ → Bool) (symbols : List (List ℕ)) (i rest : ℕ) (total : Bool) → length symbols ≤ i → list_any p (selected rest (drop i symbols)) ≡ total → false ≡ total
 any_done p symbols i rest total le so_far = sym (at_drop_all (λ xs. list_any p (selected rest xs)) symbols i le) ∙ so_far
 
@@ -100,19 +86,7 @@ all_on p symbols i rest d total lt miss so_far =
     let sel = selected (rest / 2) (drop (i + 1) symbols) in
     sym (ap (λ (b : Bool). not b && list_all p sel) miss) ∙ (sym (all_next p symbols i rest d lt) ∙ so_far)
 
-pub all_here : (p : List ℕ → Bool) (symbols : List (List ℕ)) (i rest : ℕ) (d : List ℕ) (total : Bool) → i < length symbols → (eqb (rest % 2) 1 && not (p (get_or symbols i d))) ≡ true
-    → list_all p (selected rest (drop i symbols)) ≡ total → false ≡ total
-all_here p symbols i rest d total lt hit so_far =
-    let sel = selected (rest / 2) (drop (i + 1) symbols) in
-    sym (ap (λ (b : Bool). not b && list_all p sel) hit) ∙ (sym (all_next p symbols i rest d lt) ∙ so_far)
-
 pub all_done : (p : List ℕ → Bool) (symbols : List (List ℕ)) (i rest : ℕ) (total : Bool) → length symbols ≤ i → list_all p (selected rest (drop i symbols)) ≡ total → true ≡ total
 all_done p symbols i rest total le so_far = sym (at_drop_all (λ xs. list_all p (selected rest xs)) symbols i le) ∙ so_far
 
 -- ---- a mask fits its word
-
-pub bits_below : (n : ℕ) → n ≤ 63 → 2 ^ n ≤ 2 ^ 63
-bits_below n le = pow_mono le
-
-pub bit_more : (b m n : ℕ) → b ≤ 1 → m < 2 ^ n → b + 2 * m < 2 ^ suc n
-bit_more b m n le lt = omega (arith, le, lt, more_bits n)

@@ -1,8 +1,7 @@
 -- Symbols that are looked for among values, and symbols that each value is.
-use Rattle.std.proofs.Common.{◌≡◌, ℕ, ◌+◌, ◌<◌, ◌≤◌, List, [], ◌∷◌, ◌++◌, length, map, get_or, drop, Bool, true, false, Option, Some, None, refl, sym, ap, ◌∙◌, append_assoc, ◌&&◌, ◌||◌}
+use Rattle.std.proofs.Common.{◌≡◌, ℕ, ◌+◌, List, [], ◌∷◌, ◌++◌, map, Bool, true, false, Option, Some, None, refl, sym, ap, ◌∙◌, ◌&&◌, ◌||◌}
 use Rattle.std.specs.Prelude.{is_some, option_map, option_and_then, filter_map}
 use Rattle.std.specs.List.{list_any, list_all, cons_option}
-use Rattle.std.proofs.lemmas.List.{at_drop_more, at_drop_all, append-nil}
 use Rattle.newt_base.specs.Names.{same_name}
 use Rattle.newt_graph.specs.declared.node.Node.{Node}
 use Rattle.newt_graph.specs.declared.node.Node.TheVariants.{Symbol, Str, Binary, Large, Array, Frame}
@@ -83,32 +82,6 @@ symbols_neither nodes r e is = sym (symbols_other nodes r None e is)
 -- the names so far before those of what is left
 abbrev pub before : {Y : Type 0} → List Y → Option (List Y) → Option (List Y)
 before items o = option_map (λ others. items ++ others) o
-
-before_push : {Y : Type 0} (items : List Y) (item : Y) (os : List (Option Y)) → before (items ++ item ∷ []) (every os) ≡ before items (every (Some item ∷ os))
-before_push {Y = Y} items item os = by (every os)
-  where
-    by : (o : Option (List Y)) → before (items ++ item ∷ []) o ≡ before items (option_map (λ xs. item ∷ xs) o)
-    by None = refl
-    by (Some zs) = ap (λ (ws : List Y). Some ws) (append_assoc items (item ∷ []) zs)
-
-pub every_on : {X Y : Type 0} (f : X → Option Y) (values : List X) (items next : List Y) (item : Y) (i : ℕ) (d : X) (total : Option (List Y)) → i < length values → f (get_or values i d) ≡ Some item → next ≡ items ++ item ∷ []
-    → before items (every (map f (drop i values))) ≡ total → before next (every (map f (drop (i + 1) values))) ≡ total
-every_on {X = X} {Y = Y} f values items next item i d total lt here more so_far =
-    ap (λ (ns : List Y). before ns (every (map f (drop (i + 1) values)))) more
-    ∙ (before_push items item (map f (drop (i + 1) values))
-    ∙ (sym (ap (λ (o : Option Y). before items (every (o ∷ map f (drop (i + 1) values)))) here)
-    ∙ (sym (at_drop_more (λ xs. before items (every (map f xs))) values i d lt) ∙ so_far)))
-
-pub every_ends : {X Y : Type 0} (f : X → Option Y) (values : List X) (items : List Y) (i : ℕ) (d : X) (total : Option (List Y)) → i < length values → f (get_or values i d) ≡ None
-    → before items (every (map f (drop i values))) ≡ total → None ≡ total
-every_ends {X = X} {Y = Y} f values items i d total lt none so_far =
-    sym (ap (λ (o : Option Y). before items (every (o ∷ map f (drop (i + 1) values)))) none)
-    ∙ (sym (at_drop_more (λ xs. before items (every (map f xs))) values i d lt) ∙ so_far)
-
-pub every_done : {X Y : Type 0} (f : X → Option Y) (values : List X) (items : List Y) (i : ℕ) (total : Option (List Y)) → length values ≤ i
-    → before items (every (map f (drop i values))) ≡ total → Some items ≡ total
-every_done {X = X} {Y = Y} f values items i total le so_far =
-    ap (λ (ns : List Y). Some ns) (sym (append-nil items)) ∙ (sym (at_drop_all (λ xs. before items (every (map f xs))) values i le) ∙ so_far)
 
 -- ---- the symbols of a node
 

@@ -1,5 +1,5 @@
 //! The lines of a script, one after another.
-ghost use Rattle.std.specs.Prelude.{IsTrue, ◌≡◌, ◌<◌, ℕ, ◌∷◌, length, MatchOption, IfOk, OnOk, IfErr};
+ghost use Rattle.std.specs.Prelude.{IsTrue, ◌≡◌, ◌<◌, ◌∷◌, length, MatchOption, IfOk, OnOk, IfErr};
 ghost use Rattle.newt_host.specs.Moments.{Always};
 ghost use Rattle.newt_session.specs.Causes.{HasWriteCause, OnDevices};
 ghost use Rattle.newt_session.specs.Lines.{BeginsWith, HasNoEnd, lines_of};

@@ -1,5 +1,5 @@
 -- The best of the members' candidates is what the merged list has.
-use Rattle.std.proofs.Common.{◌≡◌, refl, sym, ◌∙◌, ap, subst, ℕ, Bool, true, false, not, cond, ◌<◌, ◌^◌, List, [], ◌∷◌, ◌++◌, map, filter, fold, Option, Some, None, ◌⊎◌, inl, inr}
+use Rattle.std.proofs.Common.{◌≡◌, refl, sym, ◌∙◌, ap, subst, Bool, true, false, not, cond, List, [], ◌∷◌, ◌++◌, map, filter, fold, Option, Some, None, ◌⊎◌, inl, inr}
 use Rattle.std.specs.Prelude.{option_map, flat_map}
 use Rattle.std.specs.List.{All}
 use Rattle.std.specs.declared.cmp.Ordering.{Ordering}
@@ -14,10 +14,10 @@ use Rattle.newt_spec_store.specs.Keys.{Key, IndexSpec, key_cmp}
 use Rattle.newt_spec_query.specs.Hits.{Hit, hit_cmp}
 use Rattle.newt_spec_query.proofs.Order.{hit_total}
 use Rattle.newt_keys.specs.KeyForm.{IsKeyOf}
-use Rattle.newt_index.specs.Pairs.{Pair, Sorted, parts_of, pair_cmp, first, last, IsPair, IsSorted}
+use Rattle.newt_index.specs.Pairs.{Pair, parts_of, pair_cmp, first, last, IsPair, IsSorted}
 use Rattle.newt_index.specs.Pairs as pairs
 use Rattle.newt_union.specs.Merged.{Member, hit, hits_of, merged, Agree, AllAgree, after, before, at_or_after}
-use Rattle.newt_union.specs.Candidates.{side, pair_after, pair_before, first_in, last_in, after_in, before_in, at_or_after_in, lesser, with_lesser, with_greater}
+use Rattle.newt_union.specs.Candidates.{side, first_in, last_in, after_in, before_in, at_or_after_in, lesser, with_lesser, with_greater}
 use Rattle.newt_union.specs.Seen.{AreSorted}
 use Rattle.newt_union.proofs.Best.{IsLeast, Passing, NotAfter, only_least, least_of_same, lesser_least, first_passing, last_passing, first_sorted, last_sorted}
 use Rattle.newt_union.proofs.Orders.{same_order, same_keys, same_hit_order, tied_hits, sided, own_order, from_key, to_key, past_key, short_of_key, turns}

@@ -1,8 +1,8 @@
 -- What each member has to offer to a search, and the best of it.
-use Rattle.std.specs.Prelude.{◌^◌, ◌-◌, ℕ, List, fold, Option, Some, None, option_map, cond}
+use Rattle.std.specs.Prelude.{Option, Some, None, option_map, cond}
 use Rattle.std.specs.declared.cmp.Ordering.{Ordering}
 use Rattle.std.specs.Ordering.{nat_cmp, ordering_then, is_lt, match_ordering}
-use Rattle.newt_spec_store.specs.Keys.{Key, IndexSpec}
+use Rattle.newt_spec_store.specs.Keys.{Key}
 use Rattle.newt_spec_query.specs.Hits.{Hit, hit_cmp}
 use Rattle.newt_index.specs.Pairs.{Pair, parts_of}
 use Rattle.newt_index.specs.Pairs as pairs

@@ -1,6 +1,6 @@
 -- The ranges of some soups put into one order, and its searches. That a union soup shows the entries of its members as one soup is Newton's
 -- (Newton Programmer's Guide 2.0, union soups).
-use Rattle.std.specs.Prelude.{◌≡◌, ℕ, Bool, not, ⊤, List, [], ◌∷◌, filter, flat_map, map, Option, All}
+use Rattle.std.specs.Prelude.{◌≡◌, ℕ, not, ⊤, List, [], ◌∷◌, filter, flat_map, map, Option, All}
 use Rattle.std.specs.Ordering.{is_lt, is_gt}
 use Rattle.newt_spec_store.specs.Keys.{Key, IndexSpec, key_cmp}
 use Rattle.newt_spec_store.specs.Sorted.{sorted_by}

@@ -1,5 +1,5 @@
 -- How the hits, members and spots of the code are seen as those of the definition.
-use Rattle.std.specs.Prelude.{List, map, Option, option_map, All}
+use Rattle.std.specs.Prelude.{List, All}
 use Rattle.newt_spec_query.specs.Hits as spec
 use Rattle.newt_index.specs.declared.identity.Spot.{Spot}
 use Rattle.newt_spec_store.specs.Keys.{Key}

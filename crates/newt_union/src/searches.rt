@@ -1,8 +1,6 @@
 //! The best of what the members have to offer.
-ghost use Rattle.std.specs.Prelude.{◌≡◌, ◌+◌, ◌-◌, ◌^◌, None, IfOk, fold, length, map, min, option_map, All};
+ghost use Rattle.std.specs.Prelude.{◌≡◌, ◌-◌, ◌^◌, None, IfOk, fold, length, map, min, option_map};
 ghost use Rattle.std.specs.List.{sum_by};
-ghost use Rattle.newt_keys.specs.KeyForm.{IsKeyOf};
-ghost use Rattle.newt_index.specs.Pairs.{parts_of};
 ghost use Rattle.newt_union.specs.Candidates.{first_in, last_in, after_in, before_in, at_or_after_in, with_lesser, with_greater};
 ghost use Rattle.newt_union.specs.Seen.{shown, seen, spot_hit, HaveKey};
 

@@ -68,9 +68,6 @@ on-costs {most} {u} {n} {result} {o} {p} c less = record {
 pub costs-of : {T S : Type 0} {most : ℕ → ℕ} {first : Result T Fault} {second : Result S Fault} {o p : Outside} → Costs most first o p → (GoesOn second → GoesOn first) → Costs most second o p
 costs-of c goes = record { bound = c.bound; open_after = λ on. c.open_after (goes on) }
 
-pub costs-on-of : {T S : Type 0} {u n : ℕ} {first : Result T Fault} {second : Result S Fault} {o p : Outside} → CostsOn u n first o p → (GoesOn second → GoesOn first) → CostsOn u n second o p
-costs-on-of c goes = record { bound = c.bound; open_after = λ on. c.open_after (goes on); others = c.others }
-
 -- ---- two calls
 
 -- after a call that reads

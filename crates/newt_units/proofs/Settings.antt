@@ -6,7 +6,7 @@ use Rattle.newt_base.specs.Refusals.{first_of}
 use Rattle.newt_base.specs.declared.Refusal.{Refusal}
 use Rattle.newt_host.specs.Moments.{Moment, Always, image}
 use Rattle.newt_host.specs.Outside.{Outside}
-use Rattle.newt_spec_store.specs.Store.{Store, Entry, soup_named, entry_of}
+use Rattle.newt_spec_store.specs.Store.{Store, Entry, entry_of}
 use Rattle.newt_spec_world.specs.declared.command.Command.{Command}
 use Rattle.newt_spec_world.specs.Reply.{Reply}
 use Rattle.newt_spec_world.specs.World.{World, Device, store_of}
@@ -50,14 +50,6 @@ ends w v c reply fault h result p = subst (λ r. Answers w v c reply r) (sym (p.
 -- an error that was handed on
 pub is-err : {T : Type 0} (result : Result T Fault) (fault : Fault) → (e : Fault) × (result ≡ Err e) × (e ≡ fault) → result ≡ Err fault
 is-err result fault p = p.1 ∙ ap {B = Result _ Fault} (λ e. Err e) p.2
-
--- a soup that is there is on a unit that is mounted
-pub soup-mounted : {C : Type 0} (soups : C → Store) (units : Units C) (u : ℕ) (name : List ℕ) (sig : ℕ) → known_soup soups units.slots.items u name ≡ Some sig → mounted_in units.slots.items u ≡ true
-soup-mounted soups units u name sig h = go (card_at units.slots.items u) h
-  where
-    go : (c : Option _) → option_and_then (λ card. option_map (λ p. p.sig) (soup_named name (soups card))) c ≡ Some sig → is_some c ≡ true
-    go None k = absurd (none-some sig k)
-    go (Some card) k = refl
 
 module _ {C : Type 0} {reads : List ℕ → Option Store} {place : C → ℕ} {soups : C → Store} {stands : Bool → C → Outside → Type 0} {told : Bool} {units : Units C} {o : Outside}
     (at : Setting reads place soups stands told units o) (t : IsTrue told) where

@@ -7,10 +7,6 @@ pub met_is : (at n : ℕ) → 1 ≤ n → parts_met at n ≡ (at + n - 1) / 500 
 met_is at zero some = absurd (omega (arith, some))
 met_is at (suc n) some = omega arith
 
-pub met_few : (at n : ℕ) → parts_met at n ≤ (n + 499) / 500 + 1
-met_few at zero = omega arith
-met_few at (suc n) = omega arith
-
 -- each part that is met begins before the range ends
 pub met_begins : (at n part : ℕ) → part < at / 500 + parts_met at n → at / 500 ≤ part → 500 * part < at + n
 met_begins at zero part low from = absurd (omega (arith, low, from))

@@ -8,9 +8,6 @@ use Rattle.newt_host.proofs.Ranges.{length-overwritten}
 use Rattle.newt_pagebook.proofs.Tests.{some_inj}
 use Rattle.newt_vbo.specs.Ranges.{range_of}
 
-pub length-range : (at n : ℕ) (l : List ℕ) → at + n ≤ length l → length (range_of at n l) ≡ n
-length-range at n l fits = omega (arith, fits, length-take n (drop at l), length-drop at l)
-
 pub range_more : (at a c : ℕ) (l : List ℕ) → range_of at (a + c) l ≡ range_of at a l ++ range_of (at + a) c l
 range_more at a c l = take-add a c (drop at l) ∙ ap (λ (m : List ℕ). take a (drop at l) ++ take c m) (drop-drop a at l)
 

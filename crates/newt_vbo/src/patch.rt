@@ -1,5 +1,5 @@
 // Bytes of an object are replaced.
-ghost use Rattle.std.specs.Prelude.{IsTrue, ◌≡◌, ℕ, ◌+◌, ◌*◌, ◌/◌, ◌<◌, ◌≤◌, ◌++◌, true, false, length, Some, IsSome, IfSome, IfOk, OnOk, IsErrOf};
+ghost use Rattle.std.specs.Prelude.{IsTrue, ◌≡◌, ◌+◌, ◌*◌, ◌/◌, ◌<◌, ◌≤◌, ◌++◌, true, false, length, Some, IsSome, IfSome, OnOk, IsErrOf};
 ghost use Rattle.std.specs.FinSet as set;
 ghost use Rattle.newt_host.specs.Moments.{image, overwritten};
 ghost use Rattle.newt_host.specs.Outside.{Touches, Spends, Rose};

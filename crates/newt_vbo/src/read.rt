@@ -1,5 +1,5 @@
 // Bytes of an object are read.
-ghost use Rattle.std.specs.Prelude.{IsTrue, ◌≡◌, ℕ, ◌+◌, ◌*◌, ◌<◌, ◌≤◌, ◌++◌, true, length, Some, IsSome, IfSome, IfOk, OnOk, IsErrOf};
+ghost use Rattle.std.specs.Prelude.{IsTrue, ◌≡◌, ◌+◌, ◌*◌, ◌<◌, ◌≤◌, ◌++◌, true, length, Some, IsSome, IfSome, IfOk, OnOk, IsErrOf};
 ghost use Rattle.std.specs.FinSet as set;
 ghost use Rattle.newt_host.specs.Moments.{image};
 ghost use Rattle.newt_host.specs.Outside.{Touches, Spends, Rose};

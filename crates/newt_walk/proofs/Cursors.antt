@@ -1,6 +1,6 @@
 -- The places for cursors, where some change.
-use Rattle.std.proofs.Common.{arith, ◌≡◌, refl, ap, sym, ◌∙◌, subst, ℕ, zero, suc, ◌+◌, ◌≤◌, List, [], ◌∷◌, true, ◌&&◌, ◌==◌, length, map, find, Option, Some, None, option_map, unwrap_or, add-one}
-use Rattle.std.specs.Prelude.{slice_get, slice_set}
+use Rattle.std.proofs.Common.{arith, ◌≡◌, refl, ap, sym, ◌∙◌, ℕ, zero, suc, ◌+◌, ◌≤◌, List, [], ◌∷◌, true, ◌&&◌, ◌==◌, length, map, find, Option, Some, None, option_map, unwrap_or, add-one}
+use Rattle.std.specs.Prelude.{slice_get}
 use Rattle.std.proofs.lemmas.Bool.{and_parts, eqb-true}
 use Rattle.newt_spec_graph.specs.Lists.{Each}
 use Rattle.newt_spec_graph.proofs.Lists.{some-same, none-some}
@@ -52,24 +52,6 @@ change-each P f (x ∷ xs) (suc c) e h = (e.0, change-each P f xs c e.1 h)
 pub change-fits : (f : Cursor → Cursor) (xs : List (Option Cursor)) (c : ℕ) → DeskFits xs → ((k : Cursor) → flat (slice_get xs c) ≡ Some k → KeyFits (Some (f k)))
     → DeskFits (change_at c f xs)
 change-fits f xs c d h = record { places = change-length f xs c ∙ d.places; keys = change-each KeyFits f xs c d.keys h }
-
-pub fits-at : (xs : List (Option Cursor)) (c : ℕ) (k : Cursor) → Each KeyFits xs → flat (slice_get xs c) ≡ Some k → PlaceFits k.query.spec.index k.place
-fits-at [] c k e h = absurd (none-some k h)
-fits-at (x ∷ xs) zero k e h = subst KeyFits h e.0
-fits-at (x ∷ xs) (suc c) k e h = fits-at xs c k e.1 h
-
-set-length : (xs : List (Option Cursor)) (c : ℕ) (x : Option Cursor) → length (slice_set xs c x) ≡ length xs
-set-length [] c x = refl
-set-length (y ∷ xs) zero x = refl
-set-length (y ∷ xs) (suc c) x = ap suc (set-length xs c x)
-
-set-each : (P : Option Cursor → Type 0) (xs : List (Option Cursor)) (c : ℕ) (x : Option Cursor) → Each P xs → P x → Each P (slice_set xs c x)
-set-each P [] c x e p = tt
-set-each P (y ∷ xs) zero x e p = (p, e.1)
-set-each P (y ∷ xs) (suc c) x e p = (e.0, set-each P xs c x e.1 p)
-
-pub set-fits : (xs : List (Option Cursor)) (c : ℕ) (x : Option Cursor) → DeskFits xs → KeyFits x → DeskFits (slice_set xs c x)
-set-fits xs c x d p = record { places = set-length xs c x ∙ d.places; keys = set-each KeyFits xs c x d.keys p }
 
 -- ---- the present key
 

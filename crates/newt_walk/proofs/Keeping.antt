@@ -6,7 +6,6 @@ use Rattle.newt_graph.specs.Graph.{RawGraph}
 use Rattle.newt_spec_store.specs.Store.{Store, Soup, Entry, TagTable, entry_of}
 use Rattle.newt_spec_query.specs.Hits.{Query, Hit, passes}
 use Rattle.newt_query.specs.Filter.{in_range}
-use Rattle.newt_laws_hits.specs.Located.{located}
 use Rattle.newt_laws_hits.specs.Stripped.{entry_passes, passing}
 use Rattle.newt_cardstore.specs.Cards.{soup_of, entry_at}
 use Rattle.newt_walk.specs.Searched.{located_in, keeps_in}
@@ -17,10 +16,6 @@ table_in soup s = option_and_then (λ p. p.tags) (soup_of soup s)
 and-false : (b : Bool) → (b && false) ≡ false
 and-false true = refl
 and-false false = refl
-
--- a key that is not in the range
-pub out-of-range : (stores : List Store) (q : Query) (h : Hit) → in_range q.spec h.key ≡ false → false ≡ passing stores q h
-out-of-range stores q h e = sym (ap (λ b. b && entry_passes q (located stores h.store h.soup h.uid)) e)
 
 -- no mounted store has the signature
 pub no-store-passes : (stores : List Store) (q : Query) (h : Hit) → find (λ s. s.sig == h.store) stores ≡ None → false ≡ passing stores q h

@@ -37,10 +37,6 @@ ahead-few Back index hs None = omega arith
 ahead-few On index hs (Some h) = let k = filter-length (is_after index (on h)) hs in omega (arith, k)
 ahead-few Back index hs (Some h) = let k = filter-length (is_before index (on h)) hs in omega (arith, k)
 
-pub ahead-one : (way : Way) (index : IndexSpec) (hs : List Hit) (h : Hit) → 0 < ahead way index hs (Some h)
-ahead-one On index hs h = omega arith
-ahead-one Back index hs h = omega arith
-
 -- where a walk comes to
 abbrev pub comes_to : World → Query → Way → Option Hit → Place
 comes_to w q way o = walked (passing (mounted_stores w) q) (edge way) (stepping way (hits_of w q) q.spec.index) o

@@ -1,6 +1,5 @@
 //! The lists at the end of a line: parts of an index, paths, and symbols.
 ghost use Rattle.std.specs.Prelude.{◌≡◌, ◌≢◌, ◌&&◌, nat_le, true, false, map, IfOk, IfErr};
-ghost use Rattle.newt_base.specs.declared.Refusal.TheVariants.{Line as NotTheForm};
 ghost use Rattle.newt_path.specs.Names.{path_of};
 ghost use Rattle.newt_spec_script.specs.Words as spec;
 ghost use Rattle.newt_words.specs.Listed.{of_form, in_number};

@@ -1,7 +1,7 @@
 -- One unit of several changes.
-use Rattle.std.proofs.Common.{◌≡◌, ◌≢◌, ℕ, zero, suc, ◌<◌, ◌≤◌, Bool, true, false, cond, List, [], ◌∷◌, length, get_or, Option, Some, None, IsSome, Result, OnErr, slice_get, slice_set, refl, sym, ◌∙◌, ap, subst, arith}
+use Rattle.std.proofs.Common.{◌≡◌, ◌≢◌, ℕ, zero, suc, ◌≤◌, Bool, true, false, cond, List, [], ◌∷◌, length, get_or, Option, Some, None, IsSome, Result, OnErr, slice_get, slice_set, refl, sym, ◌∙◌, ap, subst, arith}
 use Rattle.std.proofs.lemmas.Bool.{false≢true}
-use Rattle.std.proofs.lemmas.Option.{get_or_from_slice_get, slice_get-get_or}
+use Rattle.std.proofs.lemmas.Option.{get_or_from_slice_get}
 use Rattle.std.proofs.Math.ListN.{length-set}
 use Rattle.newt_host.specs.Outside.{Attaches, Rose, SameCounts, Touches, Spends, NeverFalls}
 use Rattle.newton.specs.Cards.{OnCard, name_of, blocks_of, faults_of, programmed_of, fetched_of}
@@ -49,10 +49,6 @@ read-there cards i u d same some =
     let at_i : slice_get cards i ≡ Some there.0 = ap (λ (k : ℕ). slice_get cards k) same ∙ there.1 in
     let is : get_or cards i d ≡ there.0 = get_or_from_slice_get cards i there.0 d at_i in
     (at_i ∙ ap Some (sym is), ap (λ (y : Card). y.attached) is ∙ there.2)
-
--- and one where there are eight
-pub read-eight : (cards : List Card) (i u : ℕ) (d : Card) → i ≡ u → u < 8 → length cards ≡ 8 → slice_get cards i ≡ Some (get_or cards i d)
-read-eight cards i u d same low eight = slice_get-get_or cards i d (omega (arith, same, low, eight))
 
 module _ (cards : List Card) (i unit : ℕ) (b c : Card) (same : i ≡ unit) (is : slice_get cards i ≡ Some b) where
   at-old : slice_get cards unit ≡ Some b

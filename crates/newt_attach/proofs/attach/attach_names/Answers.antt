@@ -1,8 +1,5 @@
-use Rattle.std.proofs.Common.{◌≡◌, ℕ, ◌<◌, ◌≤◌, List, Some, map, length, Global, string_bytes, refl, sym, ◌∙◌, ap, subst, arith}
-use Rattle.std.specs.Prelude.{is_some, slice_get}
+use Rattle.std.proofs.Common.{◌≡◌, ℕ, ◌<◌, ◌≤◌, map, length, Global, string_bytes, refl, sym, ◌∙◌, subst, arith}
 use Rattle.std.proofs.lemmas.List.{length-map, length-set}
-use Rattle.newt_host.specs.Outside.{Outside}
-use Rattle.newt_attach.specs.Named.{AreAttached}
 use Rattle.newt_attach.proofs.Attaching.{Attaching, attaching_start, attaching_next, attaching_all, flags_start, flags_next, name_at, next_free}
 use Rattle.newt_attach.proofs.attach.attach_names.Goals as goal
 

@@ -1,4 +1,4 @@
-use Rattle.std.proofs.Common.{arith, ◌≡◌, ◌∙◌, ap, length}
+use Rattle.std.proofs.Common.{arith, ap, length}
 use Rattle.newt_entries.proofs.Steps.{made-few}
 use Rattle.newt_entries.proofs.graphs.row_of.Goals as goal
 

@@ -1,4 +1,4 @@
-use Rattle.std.proofs.Common.{arith, rules, ◌≤◌, sym, ◌∙◌, get_or, map, zip, List}
+use Rattle.std.proofs.Common.{arith, rules, ◌≤◌, get_or, map, zip, List}
 use Rattle.newt_graph.specs.Graph.{payload}
 use Rattle.newt_spec_store.specs.Laid.{row_of_large}
 use Rattle.newt_spec_store.specs.StoreOf.{LargeRow}

@@ -1,4 +1,4 @@
-use Rattle.std.proofs.Common.{◌≡◌, ◌≤◌, ℕ, List, [], ◌∷◌, length, take, sym, refl, ap, arith, zero, suc}
+use Rattle.std.proofs.Common.{◌≡◌, ◌≤◌, ℕ, List, [], ◌∷◌, length, take, refl, ap, arith, zero, suc}
 use Rattle.newt_keys.proofs.values.first_units.Goals as goal
 
 long : (n : ℕ) (xs : List ℕ) → n ≤ length xs → n ≡ length (take n xs)

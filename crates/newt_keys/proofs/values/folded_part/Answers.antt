@@ -1,4 +1,4 @@
-use Rattle.std.proofs.Common.{◌≡◌, ◌∙◌, ap, chars, encode_utf8_all}
+use Rattle.std.proofs.Common.{◌∙◌, ap, chars, encode_utf8_all}
 use Rattle.caseless.specs.Caseless.{default_case_fold}
 use Rattle.newt_spec_store.specs.Keys.{words}
 use Rattle.newt_keys.proofs.values.folded_part.Goals as goal

@@ -1,4 +1,4 @@
-use Rattle.std.proofs.Common.{◌≡◌, ◌++◌, List, ℕ, ◌≤◌, ap, ◌∙◌, sym, append_assoc, arith, inl, inr, ◌⊎◌, ◌∷◌, [], ◌%◌}
+use Rattle.std.proofs.Common.{◌≡◌, ◌++◌, List, ℕ, ◌≤◌, ap, ◌∙◌, sym, append_assoc, inl, inr, ◌⊎◌, ◌∷◌, [], ◌%◌}
 use Rattle.std.specs.Int.{cast_unsigned, w32}
 use Rattle.std.proofs.lemmas.Int.{to_z-of_z}
 use Rattle.std.proofs.lemmas.Result.{on_ok_weaker}

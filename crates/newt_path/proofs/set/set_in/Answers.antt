@@ -1,7 +1,7 @@
 use Rattle.std.proofs.Common.{rules}
 use Rattle.newt_graph.specs.Draft.{with_symbol, with_set}
 use Rattle.newt_graph.specs.Import.{with_graph}
-use Rattle.newt_path.proofs.Trail.{fails_none, Stands, NamedSo, Made, alone, alone_fits, named_fits, named_so, value_fits, stands, frame_within, set_passes, made, all_joined, finished, ends}
+use Rattle.newt_path.proofs.Trail.{fails_none, alone, alone_fits, named_fits, named_so, value_fits, stands, frame_within, set_passes, made, all_joined, finished, ends}
 use Rattle.newt_path.proofs.set.set_in.Goals as goal
 
 pub returns-in_err-import-clause-limit : goal.returns-in_err-import-clause-limit

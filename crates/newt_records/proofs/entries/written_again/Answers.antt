@@ -1,4 +1,4 @@
-use Rattle.std.proofs.Common.{arith, ℕ, List, ap, sym, length, Vec, Global}
+use Rattle.std.proofs.Common.{arith, ℕ, List, ap, length, Vec, Global}
 use Rattle.std.proofs.lemmas.List.{length-map}
 use Rattle.newt_spec_store.specs.Image.{larges}
 use Rattle.newt_records.proofs.entries.written_again.Goals as goal

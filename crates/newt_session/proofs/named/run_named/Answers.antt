@@ -1,4 +1,4 @@
-use Rattle.std.proofs.Common.{◌≡◌, ◌++◌, ℕ, Bool, Global, List, IfErr, map, string_bytes, refl, sym, ◌∙◌, ap, subst}
+use Rattle.std.proofs.Common.{◌++◌, ℕ, Bool, Global, List, IfErr, map, string_bytes, refl, sym, ◌∙◌, ap, subst}
 use Rattle.std.proofs.lemmas.Result.{on_ok_weaker}
 use Rattle.newt_attach.specs.Named.{AreAttached}
 use Rattle.newt_host.specs.Moments.{Always}

@@ -1,7 +1,6 @@
 use Rattle.std.proofs.Common.{◌≡◌, ◌++◌, ◌≤◌, ◌<◌, ◌+◌, ℕ, Bool, List, [], length, take, refl, sym, ◌∙◌, ap, subst, arith}
 use Rattle.std.proofs.lemmas.List.{length-append, length-take-le}
 use Rattle.std.proofs.lemmas.Result.{err_from_is_err_and, on_ok_weaker}
-use Rattle.newt_spec_world.specs.World.{World}
 use Rattle.newt_session.specs.Causes.{SameDevices}
 use Rattle.newt_session.specs.Stream.{out_of}
 use Rattle.newt_session.specs.Run.{IsReadThrough}

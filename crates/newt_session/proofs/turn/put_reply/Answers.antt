@@ -1,6 +1,3 @@
-use Rattle.std.proofs.Common.{ℕ, List, ◌≡◌, sym, subst}
-use Rattle.newt_host.specs.Moments.{Always, here}
-use Rattle.newt_host.specs.Outside.{PrintsSome}
 use Rattle.newt_reply.specs.Said.{said}
 use Rattle.newt_spec_world.specs.Reply.{reply_text}
 use Rattle.newt_session.specs.Stream.{out_of}

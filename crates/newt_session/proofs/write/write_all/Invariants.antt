@@ -1,4 +1,4 @@
-use Rattle.std.proofs.Common.{IsTrue, ◌≡◌, ◌≤◌, length}
+use Rattle.std.proofs.Common.{IsTrue, ◌≡◌, length}
 use Rattle.newt_session.specs.Stream.{out_of, Wrote}
 use Rattle.newt_session.specs.Causes.{GoesOn, SameDevices}
 use Rattle.newt_session.proofs.Writing.{Printing}

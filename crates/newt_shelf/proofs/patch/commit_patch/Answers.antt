@@ -2,9 +2,8 @@ use Rattle.std.proofs.Common.{◌≡◌, ◌*◌, ℕ, List, length, Option, IsS
 use Rattle.std.proofs.Common.{Result, Err}
 use Rattle.newt_pagebook.specs.declared.book.CommitFault.{CommitFault}
 use Rattle.newt_pagebook.specs.declared.book.CommitFault.TheVariants.{Full}
-use Rattle.newt_host.specs.Moments.{Moment, image, changes, IsHistory, IsDurable, Leaves}
+use Rattle.newt_host.specs.Moments.{Moment, image, changes, IsHistory, Leaves}
 use Rattle.newt_pagebook.specs.Book.{Numbers, changed_numbers, ReadsChanged, IsBeforeOrAfter}
-use Rattle.newt_objects.specs.Held.{held}
 use Rattle.newt_objects.proofs.Changing.{changed_holds}
 use Rattle.newt_vbo.proofs.Committing.{patched_are}
 use Rattle.newt_shelf.specs.Patch.{IsBeforeOrPatched}

@@ -1,4 +1,4 @@
-use Rattle.std.proofs.Common.{◌≡◌, ◌+◌, ◌<◌, ◌≤◌, ℕ, List, length, Option, Some, None, IsSome, IfSome, OnOk, IsErrOf, Result, Ok, Err, IfErr, sym, ◌∙◌, ap, subst, refl, arith}
+use Rattle.std.proofs.Common.{◌≡◌, ◌+◌, ◌<◌, ◌≤◌, ℕ, length, Option, Some, None, IsSome, IfSome, OnOk, IsErrOf, Result, Ok, Err, IfErr, sym, ◌∙◌, ap, subst, refl, arith}
 use Rattle.std.specs.FinMap as map
 use Rattle.newt_host.specs.Moments.{Moment, image, overwritten, Leaves}
 use Rattle.newt_image.specs.Objects.{Extent, IsTableOf}

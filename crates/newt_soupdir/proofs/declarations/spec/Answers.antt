@@ -1,4 +1,4 @@
-use Rattle.std.proofs.Common.{◌≡◌, ◌≤◌, length, arith}
+use Rattle.std.proofs.Common.{◌≤◌, length, arith}
 use Rattle.newt_soupdir.proofs.Declared.{spec_is}
 use Rattle.newt_soupdir.proofs.declarations.spec.Goals as goal
 

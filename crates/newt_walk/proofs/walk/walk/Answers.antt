@@ -1,5 +1,5 @@
 -- One hit after another.
-use Rattle.std.proofs.Common.{arith, ◌≡◌, ◌∙◌, refl, ap, sym, subst, Option, option_map, ◌+◌, ◌≤◌, ◌^◌, ◌<◌, Some, true}
+use Rattle.std.proofs.Common.{arith, ◌≡◌, ◌∙◌, refl, ap, sym, subst, Option, option_map, true}
 use Rattle.std.specs.Prelude.{IfSome}
 use Rattle.std.proofs.lemmas.Result.{err_from_is_err_and}
 use Rattle.newt_cursor.specs.Seen.{query_of, hit_of}

@@ -1,4 +1,4 @@
-use Rattle.std.proofs.Common.{◌≡◌, ◌∙◌, refl}
+use Rattle.std.proofs.Common.{◌∙◌, refl}
 use Rattle.newt_index.proofs.Change.{sorted_seen}
 use Rattle.newt_index.proofs.Walk.{at_seen}
 use Rattle.newt_index.proofs.sorted.Index.at_or_after.Goals as goal

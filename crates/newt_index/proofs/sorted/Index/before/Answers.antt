@@ -1,4 +1,4 @@
-use Rattle.std.proofs.Common.{◌≡◌, ◌∙◌, ap}
+use Rattle.std.proofs.Common.{◌∙◌, ap}
 use Rattle.newt_index.specs.Pairs.{parts_of, before}
 use Rattle.newt_index.proofs.Change.{sorted_seen}
 use Rattle.newt_index.proofs.Walk.{before_seen}

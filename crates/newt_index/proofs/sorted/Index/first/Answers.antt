@@ -1,4 +1,4 @@
-use Rattle.std.proofs.Common.{◌≡◌, ◌∙◌, ap, map}
+use Rattle.std.proofs.Common.{◌∙◌, ap, map}
 use Rattle.newt_index.specs.Pairs.{first}
 use Rattle.newt_index.specs.Kept.{pair_of}
 use Rattle.newt_index.proofs.Change.{sorted_seen}

@@ -1,4 +1,4 @@
-use Rattle.std.proofs.Common.{◌≡◌, ◌==◌, List, filter, not, rules}
+use Rattle.std.proofs.Common.{◌==◌, not, rules}
 use Rattle.std.proofs.lemmas.Map.Made.{filter_same_pairs}
 use Rattle.newt_spec_store.specs.Keys.{Key}
 use Rattle.newt_index.specs.declared.search.Slot.{Slot}

@@ -1,4 +1,3 @@
-use Rattle.std.proofs.Common.{◌≡◌, ◌∙◌, refl}
 use Rattle.newt_index.proofs.Change.{put_seen}
 use Rattle.newt_index.proofs.sorted.Index.put.Goals as goal
 

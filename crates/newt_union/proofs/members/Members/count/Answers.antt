@@ -1,4 +1,4 @@
-use Rattle.std.proofs.Common.{◌≡◌, ◌∙◌, ap, min, ◌-◌, ◌^◌}
+use Rattle.std.proofs.Common.{◌∙◌, ap, min, ◌-◌, ◌^◌}
 use Rattle.newt_union.proofs.View.{counted}
 use Rattle.newt_union.proofs.members.Members.count.Goals as goal
 
