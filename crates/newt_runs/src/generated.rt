@@ -1,51 +1,34 @@
 //! Generated scripts, whose replies are counted.
-ghost use Rattle.newt_memhost.specs.Outside.{outside_of};
-ghost use Rattle.newt_runs.specs.Free.{IsFree};
-ghost use Rattle.std.specs.Prelude.{IfOk};
 
-use crate::trial::{blocks, run_on, with_card};
 use newt_generator::gen_script;
-use newt_memhost::MemHost;
 use newt_top::Status;
-use std::alloc::{AllocError, Global};
-use std::process::Abort;
+use newt_trials::{blocks, expect_end, over, run_on};
+use std::alloc::Global;
 use std::test::Fail;
 
-/// A host with this input, over a blank card of so many blocks.
-fn over_blank(
-    rt: &impl Abort,
-    alloc: Global,
-    input: &[u8],
-    count: u32,
-) -> Result<MemHost, AllocError>
-    ensures { IfOk result (λ host. IsFree (outside_of host)) }
-{
-    with_card(rt, alloc, input, &blocks(alloc, count)?)
+/// Runs these words with an input over a device `a` of 64 blocks of zero bytes, and looks for the output.
+fn expect_summary(alloc: Global, text: &str, input: &[u8], output: &[u8]) -> Result<(), Fail> {
+    let mut host = over(alloc, input, &blocks(alloc, 64)?, &[])?;
+    expect_end(alloc, text, &mut host, Status::Ok, output)
 }
 
 #[test]
-fn writes_the_summary(rt: HostRuntime) -> Result<(), AllocError> {
-    let alloc = rt.alloc();
-    for (text, count, summary) in [
+fn writes_the_summary(rt: HostRuntime) -> Result<(), Fail> {
+    let cases: &[(&str, &[u8])] = &[
+        ("gen 1 0 a", b"commands 10\nok 10\nerrors 0\nbytes 46\n"),
+        ("gen 1 1 a", b"commands 12\nok 12\nerrors 0\nbytes 121\n"),
         (
-            "gen 1 0 card",
-            13u32,
-            b"commands 10\nok 10\nerrors 0\nbytes 46\n".as_slice(),
-        ),
-        (
-            "gen 1 1 card",
-            13,
+            "gen 0000000001 01 a",
             b"commands 12\nok 12\nerrors 0\nbytes 121\n",
         ),
+        // there is no device of this name, and all but `quit` is refused
         (
-            "gen 0000000001 01 card",
-            13,
-            b"commands 12\nok 12\nerrors 0\nbytes 121\n",
+            "gen 1 1 other",
+            b"commands 12\nok 1\nerrors 11\nbytes 163\n",
         ),
-    ] {
-        let mut host = over_blank(&rt, alloc, b"nsof 020A\n", count)?;
-        assert_eq!(rt; run_on(alloc, text, &mut host)?, Status::Ok, "{text}");
-        assert_eq!(rt; host.output(), summary, "{text}");
+    ];
+    for (text, summary) in cases {
+        expect_summary(rt.alloc(), text, b"nsof 020A\n", summary)?;
     }
     Ok(())
 }
@@ -54,25 +37,11 @@ fn writes_the_summary(rt: HostRuntime) -> Result<(), AllocError> {
 fn counts_what_a_run_of_the_script_writes(rt: HostRuntime) -> Result<(), Fail> {
     let alloc = rt.alloc();
     let script = gen_script(alloc, 1, 200)?;
-    let mut written = over_blank(&rt, alloc, &script, 64)?;
-    assert_eq!(rt; run_on(alloc, "run card", &mut written)?, Status::Ok);
-    let mut counted = over_blank(&rt, alloc, b"", 64)?;
-    assert_eq!(rt; run_on(alloc, "gen 1 200 card", &mut counted)?, Status::Ok);
+    let mut written = over(alloc, &script, &blocks(alloc, 64)?, &[])?;
+    if run_on(alloc, "run a", &mut written)? != Status::Ok {
+        return Err(Fail::new("the script does not end well"));
+    }
     let size = written.output().len();
     let summary = format!(in alloc; "commands 410\nok 410\nerrors 0\nbytes {size}\n")?;
-    assert_eq!(rt; counted.output(), summary.as_bytes());
-    Ok(())
-}
-
-#[test]
-fn counts_refusals_where_nothing_can_be_done(rt: HostRuntime) -> Result<(), AllocError> {
-    let alloc = rt.alloc();
-    // there is no device of this name, and all but `quit` is refused
-    let mut host = over_blank(&rt, alloc, b"", 13)?;
-    assert_eq!(rt; run_on(alloc, "gen 1 1 other", &mut host)?, Status::Ok);
-    assert_eq!(rt;
-        host.output(),
-        b"commands 12\nok 1\nerrors 11\nbytes 163\n".as_slice()
-    );
-    Ok(())
+    expect_summary(alloc, "gen 1 200 a", b"", summary.as_bytes())
 }

@@ -1,14 +1,12 @@
-//! Whole runs of the top call over a host in memory. It stands on the top call and the host in
-//! memory, and carries no promise of its own: what it holds is tests, whose replies come from the
-//! rules of the language and not from the program.
+//! Whole runs of the top call over a host in memory. It stands on the trials of whole runs, and
+//! carries no promise of its own: what it holds is tests, whose replies come from the rules of the
+//! language and not from the program.
 #![tactic(auto)]
 
 #[cfg(test)]
 mod crashes;
 #[cfg(test)]
 mod declared;
-#[cfg(test)]
-mod every;
 #[cfg(test)]
 mod faults;
 #[cfg(test)]
@@ -18,13 +16,9 @@ mod limits;
 #[cfg(test)]
 mod lines;
 #[cfg(test)]
-mod many;
-#[cfg(test)]
 mod modes;
 #[cfg(test)]
 mod replaces;
-#[cfg(test)]
-mod sessions;
 #[cfg(test)]
 mod trial;
 #[cfg(test)]

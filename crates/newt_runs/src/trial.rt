@@ -1,124 +1,40 @@
-//! One run over a host in memory.
-ghost use Rattle.std.specs.Prelude.{◌≡◌, ◌*◌, IfOk, IsSome, IsTrue, vec_len};
-ghost use Rattle.newt_memhost.specs.Outside.{outside_of};
-ghost use Rattle.newt_runs.specs.Free.{IsFree, HasNone};
+//! Runs whose input comes in pieces, and the numbers of statuses.
 
-use newt_host::{Host, Unit};
-use newt_memhost::MemHost;
-use newt_top::{Status, run};
-use std::alloc::{AllocError, Global};
+use newt_host::Unit;
+use newt_top::Status;
+use newt_trials::{expect_end, host, lines_of};
+use std::alloc::Global;
 use std::process::Abort;
 use std::test::Fail;
 
-/// The words of a run.
-fn words(alloc: Global, text: &str) -> Result<Vec<String>, AllocError> {
-    let mut words = Vec::new(alloc);
-    for word in text.split_whitespace() {
-        let word = String::from_str(alloc, word)?;
-        if words.push(word).is_err() {
-            return Err(AllocError);
-        }
-    }
-    Ok(words)
-}
-
-/// A host with this input and no devices, no call of which moves more bytes than the piece.
-pub fn host(alloc: Global, input: &[u8], piece: u32) -> Result<MemHost, AllocError>
-    ensures free { IfOk result (λ host. IsFree (outside_of host)) }
-    ensures none { IfOk result (λ host. HasNone (outside_of host)) }
-{
-    let mut host = MemHost::new(alloc);
-    host.input(input)?;
-    host.piece(piece.max(1));
-    Ok(host)
-}
-
-/// So many blocks of zero bytes.
-pub fn blocks(alloc: Global, count: u32) -> Result<Vec<u8>, AllocError>
-    ensures { IfOk result (λ bytes. vec_len bytes ≡ count * 4096) }
-{
-    let mut bytes = Vec::new(alloc);
-    bytes.resize(count as usize * 4096, 0)?;
-    Ok(bytes)
-}
-
-/// A host with this input and the device `card`.
-pub fn with_card(
-    rt: &impl Abort,
-    alloc: Global,
-    input: &[u8],
-    card: &[u8],
-) -> Result<MemHost, AllocError>
-    ensures { IfOk result (λ host. IsFree (outside_of host)) }
-{
-    assert!(rt; card.len() % 4096 == 0);
-    let mut host = host(alloc, input, 100_000)?;
-    host.device("card", card)?;
-    Ok(host)
-}
-
-/// A host with this input and the devices `internal` and `card`.
-pub fn with_both(
-    rt: &impl Abort,
-    alloc: Global,
-    input: &[u8],
-    internal: &[u8],
-    card: &[u8],
-) -> Result<MemHost, AllocError>
-    ensures { IfOk result (λ host. IsFree (outside_of host)) }
-{
-    assert!(rt; internal.len() % 4096 == 0);
-    assert!(rt; card.len() % 4096 == 0);
-    let mut host = host(alloc, input, 100_000)?;
-    host.device("internal", internal)?;
-    host.device("card", card)?;
-    Ok(host)
-}
-
-/// Whether the unit has a device.
-pub fn has_device(host: &MemHost, unit: Unit) -> bool
-    ensures { IsTrue result → IsSome ((outside_of host.now).card unit) }
-{
-    host.blocks(unit) > 0
-}
-
-/// Runs these words over a host.
-pub fn run_on(alloc: Global, text: &str, host: &mut MemHost) -> Result<Status, AllocError>
-    requires { IsFree (outside_of host.old) }
-{
-    Ok(run(alloc, &words(alloc, text)?, host))
-}
-
-/// Runs each input in pieces of several sizes, and looks each time for its output and the status Ok.
-pub fn expect_outputs(
-    rt: &impl Abort,
+/// Runs an input in pieces of several sizes, and looks each time for its output and the status Ok.
+pub fn expect_in_pieces(
     alloc: Global,
     text: &str,
-    cases: &[(&[u8], &[u8])],
-) -> Result<(), AllocError> {
-    for (input, output) in cases {
-        for piece in [1u32, 2, 7, 100_000] {
-            let mut host = host(alloc, input, piece)?;
-            assert_eq!(rt; run_on(alloc, text, &mut host)?, Status::Ok);
-            assert_eq!(rt; host.output(), *output);
-        }
+    input: &[u8],
+    output: &[u8],
+) -> Result<(), Fail> {
+    for piece in [1u32, 2, 7, 100_000] {
+        let mut host = host(alloc, input, piece)?;
+        expect_end(alloc, text, &mut host, Status::Ok, output)?;
     }
     Ok(())
 }
 
-/// Runs the input once for each call that is to fail, and looks for its status and its output.
-pub fn expect_faults(
-    rt: &impl Abort,
+/// The same for a table.
+pub fn expect_lines(alloc: Global, table: &str) -> Result<(), Fail> {
+    let (script, output) = lines_of(alloc, table)?;
+    expect_in_pieces(alloc, "run", &script, &output)
+}
+
+/// The same for each of some inputs.
+pub fn expect_outputs(
     alloc: Global,
     text: &str,
-    input: &[u8],
-    cases: &[(u64, Status, &[u8])],
-) -> Result<(), AllocError> {
-    for (call, status, output) in cases {
-        let mut host = host(alloc, input, 100)?;
-        host.fail(*call)?;
-        assert_eq!(rt; run_on(alloc, text, &mut host)?, *status, "at call {call}");
-        assert_eq!(rt; host.output(), *output, "at call {call}");
+    cases: &[(&'static [u8], &'static [u8])],
+) -> Result<(), Fail> {
+    for (input, output) in cases {
+        expect_in_pieces(alloc, text, input, output)?;
     }
     Ok(())
 }
