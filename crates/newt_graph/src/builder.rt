@@ -10,6 +10,7 @@ ghost use Rattle.newt_graph.specs.Draft.{IsJoined, IsFilling, is_small, is_alike
 use crate::copies::{copied_ref, copies, numbers};
 use crate::fault::GraphFault;
 use crate::graph::Graph;
+use crate::limits::{MOST_DATA, MOST_HELD, MOST_HELD_BYTES, MOST_SLOTS};
 use crate::lists::{Bytes, Refs, Tags};
 use crate::node::{Node, Ref};
 use crate::normal::{left, normal, payload};
@@ -74,7 +75,7 @@ impl Builder {
             return Ok(k);
         }
         let n = self.nodes.len();
-        if n >= 131_072 {
+        if n >= MOST_HELD {
             return Err(GraphFault::Limit);
         }
         self.nodes.push(Node::Symbol(Bytes::of(Vec::from_slice(self.alloc, name)?)))?;
@@ -90,7 +91,7 @@ impl Builder {
         ensures kept { OnErr result (self.new ≡ self.old) }
     {
         let n = self.nodes.len();
-        if n >= 131_072 {
+        if n >= MOST_HELD {
             return Err(GraphFault::Limit);
         }
         self.nodes
@@ -112,7 +113,7 @@ impl Builder {
         }
         let others = self.total - payload(&self.nodes[n as usize]);
         let payload = others + payload(&node);
-        if payload > 33_554_432 {
+        if payload > MOST_HELD_BYTES {
             return Err(GraphFault::Limit);
         }
         self.nodes[n as usize] = node;
@@ -128,14 +129,14 @@ impl Builder {
     {
         let table = numbers(self.alloc, &self.nodes, graph.nodes())?;
         let mut added = copies(self.alloc, &table, &self.nodes, graph.nodes())?;
-        if self.nodes.len() + added.len() > 131_072 {
+        if self.nodes.len() + added.len() > MOST_HELD {
             return Err(GraphFault::Limit);
         }
-        let Some(left) = left(&added, 33_554_432 - self.total) else {
+        let Some(left) = left(&added, MOST_HELD_BYTES - self.total) else {
             return Err(GraphFault::Limit);
         };
         self.nodes.append(&mut added)?;
-        self.total = 33_554_432 - left;
+        self.total = MOST_HELD_BYTES - left;
         Ok(copied_ref(&table, graph.root()))
     }
 
@@ -195,10 +196,10 @@ fn is_small(node: &Node) -> bool
 {
     match node {
         Node::Symbol(_) => true,
-        Node::Str(units) => 2 * units.list().len() + 2 <= 1_000_000,
-        Node::Binary(_, bytes) | Node::Large(_, bytes) => bytes.list().len() <= 1_000_000,
-        Node::Array(_, values) => values.list().len() <= 65_535,
-        Node::Frame(tags, _) => tags.list().len() <= 65_535,
+        Node::Str(units) => 2 * units.list().len() + 2 <= MOST_DATA,
+        Node::Binary(_, bytes) | Node::Large(_, bytes) => bytes.list().len() <= MOST_DATA,
+        Node::Array(_, values) => values.list().len() <= MOST_SLOTS,
+        Node::Frame(tags, _) => tags.list().len() <= MOST_SLOTS,
     }
 }
 
@@ -227,7 +228,7 @@ fn with_slot(
     match slot_of(tags, tag) {
         Some(i) => new_values[i] = value,
         None => {
-            if tags.len() >= 65_535 {
+            if tags.len() >= MOST_SLOTS {
                 return Err(GraphFault::Limit);
             }
             new_tags.push(tag)?;

@@ -7,6 +7,7 @@ ghost use Rattle.newt_graph.specs.Meeting.{Gives, meet_label, meet_labels, meet_
 
 use crate::fault::GraphFault;
 use crate::graph::Graph;
+use crate::limits::{MOST_BYTES, MOST_NODES, MOST_OPEN};
 use crate::lists::{Refs, Tags, Units};
 use crate::node::{Node, Ref};
 use crate::walker::Walker;
@@ -203,12 +204,12 @@ pub(crate) fn normal(alloc: Global, nodes: Vec<Node>, root: Ref) -> Result<Graph
     ensures is_form { IfOk result (λ g. IsNormalForm (record { nodes = nodes.items; root = root }) g) }
 {
     let mut seen = Walker::new(alloc, nodes.len() as u32)?;
-    value(&mut seen, &nodes, root, 200)?;
-    if seen.order().len() > 65_535 {
+    value(&mut seen, &nodes, root, MOST_OPEN)?;
+    if seen.order().len() > MOST_NODES {
         return Err(GraphFault::Limit);
     }
     let nodes = gathered(alloc, nodes, &seen)?;
-    if !is_light(&nodes, 16_777_216) {
+    if !is_light(&nodes, MOST_BYTES) {
         return Err(GraphFault::Limit);
     }
     let root = numbered(&seen, root);
