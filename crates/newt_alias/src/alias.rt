@@ -16,7 +16,7 @@ pub struct Alias {
     pub uid: Uid,
 }
 
-/// An integer that is not negative.
+/// The value of an integer that is not negative; none for any other value.
 fn natural(value: Ref) -> Option<u32>
     ensures { result ≡ plain.natural value }
 {
@@ -31,13 +31,14 @@ fn natural(value: Ref) -> Option<u32>
     }
 }
 
+/// Whether a name is `alias` but for ASCII case.
 fn is_alias_name(name: &[u8]) -> bool
     ensures { result ≡ same_name (codes "alias") name.now }
 {
     b"alias".eq_ignore_ascii_case(name)
 }
 
-/// Whether a class, which is always a symbol, is named alias.
+/// Whether a class is named alias. A class that is no symbol, which no graph has, counts as one.
 fn is_alias_class(nodes: &[Node], class: u32) -> bool
     ensures { result ≡ is_alias_class nodes.now class }
 {
@@ -47,7 +48,7 @@ fn is_alias_class(nodes: &[Node], class: u32) -> bool
     }
 }
 
-/// The value of an integer.
+/// An integer as a value.
 fn integer(number: u32) -> Ref
     requires { number ≤ 536_870_911 }
     ensures { result ≡ integer number }
@@ -95,7 +96,7 @@ impl Alias {
         Some(Alias { store, soup, uid })
     }
 
-    /// The graph of an alias.
+    /// The graph of an alias whose numbers are at most 536,870,911 each, the greatest integer.
     pub fn graph(&self, alloc: Global) -> Result<Graph, AllocError>
         requires { Fits self.now }
         ensures graph { IfOk result (λ g. g ≡ alias_graph self.now) }
@@ -119,6 +120,7 @@ impl Alias {
         Ok(nodes)
     }
 
+    /// The signatures of store and soup and the id, in this order.
     fn values(&self, alloc: Global) -> Result<Vec<Ref>, AllocError>
         requires { Fits self.now }
         ensures { IfOk result (λ v. v.items ≡ integer self.now.store ∷ integer self.now.soup ∷ integer self.now.uid ∷ []) }
