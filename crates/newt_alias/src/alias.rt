@@ -11,8 +11,11 @@ use std::alloc::{AllocError, Global};
 /// Which entry of which soup of which store.
 #[derive(Clone, Copy, PartialEq, Eq, Debug)]
 pub struct Alias {
+    /// The signature of the store.
     pub store: Sig,
+    /// The signature of the soup.
     pub soup: Sig,
+    /// The id of the entry in that soup.
     pub uid: Uid,
 }
 

@@ -29,6 +29,7 @@ pub fn set_at(alloc: Global, graph: &Graph, path: &Path, value: &Graph) -> Resul
     let Some(frame) = frame_below(graph.nodes(), graph.root(), before) else {
         return Err(SetFault::NoPath);
     };
+    // A graph that is read is known to be in normal form, as `set_in` requires.
     let _root = value.root();
     Ok(set_in(alloc, graph, frame, last.list(), value)?)
 }
