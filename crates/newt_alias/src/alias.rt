@@ -11,12 +11,15 @@ use std::alloc::{AllocError, Global};
 /// Which entry of which soup of which store.
 #[derive(Clone, Copy, PartialEq, Eq, Debug)]
 pub struct Alias {
+    /// The signature of the store.
     pub store: Sig,
+    /// The signature of the soup.
     pub soup: Sig,
+    /// The id of the entry in that soup.
     pub uid: Uid,
 }
 
-/// An integer that is not negative.
+/// The value of an integer that is not negative; none for any other value.
 fn natural(value: Ref) -> Option<u32>
     ensures { result ≡ plain.natural value }
 {
@@ -31,13 +34,14 @@ fn natural(value: Ref) -> Option<u32>
     }
 }
 
+/// Whether a name is `alias` but for ASCII case.
 fn is_alias_name(name: &[u8]) -> bool
     ensures { result ≡ same_name (codes "alias") name.now }
 {
     b"alias".eq_ignore_ascii_case(name)
 }
 
-/// Whether a class, which is always a symbol, is named alias.
+/// Whether a class is named alias. A class that is no symbol, which no graph has, counts as one.
 fn is_alias_class(nodes: &[Node], class: u32) -> bool
     ensures { result ≡ is_alias_class nodes.now class }
 {
@@ -47,7 +51,7 @@ fn is_alias_class(nodes: &[Node], class: u32) -> bool
     }
 }
 
-/// The value of an integer.
+/// An integer as a value.
 fn integer(number: u32) -> Ref
     requires { number ≤ 536_870_911 }
     ensures { result ≡ integer number }
@@ -95,7 +99,7 @@ impl Alias {
         Some(Alias { store, soup, uid })
     }
 
-    /// The graph of an alias.
+    /// The graph of an alias whose numbers are at most 536,870,911 each, the greatest integer.
     pub fn graph(&self, alloc: Global) -> Result<Graph, AllocError>
         requires { Fits self.now }
         ensures graph { IfOk result (λ g. g ≡ alias_graph self.now) }
@@ -119,6 +123,7 @@ impl Alias {
         Ok(nodes)
     }
 
+    /// The signatures of store and soup and the id, in this order.
     fn values(&self, alloc: Global) -> Result<Vec<Ref>, AllocError>
         requires { Fits self.now }
         ensures { IfOk result (λ v. v.items ≡ integer self.now.store ∷ integer self.now.soup ∷ integer self.now.uid ∷ []) }

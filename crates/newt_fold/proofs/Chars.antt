@@ -13,6 +13,16 @@ use Rattle.std.proofs.lemmas.Str.{chars-nil, chars-append, encodes-chars, encode
 again : (bs : List ℕ) (u : IsUtf8 bs) → encode_utf8_all (chars bs) ≡ bs
 again bs u = encodes-chars bs u
 
+-- ---- the two parts of a list
+
+pub dropped : (a b : List ℕ) → drop (length a) (a ++ b) ≡ b
+dropped [] b = refl
+dropped (x ∷ a) b = dropped a b
+
+pub taken : (a b : List ℕ) → take (length a) (a ++ b) ≡ a
+taken [] b = refl
+taken (y ∷ a) b = ap (λ l. y ∷ l) (taken a b)
+
 -- ---- a text that begins with a word
 
 pub front_chars : (s n x : List ℕ) → IsUtf8 n → s ≡ n ++ x → chars s ≡ chars n ++ chars x
@@ -23,10 +33,6 @@ begins s n x u e = (starts_is Decides-eqb (chars s) (chars n) (starts_with nat_e
 
 pub behind : (s n x : List ℕ) → IsUtf8 n → s ≡ n ++ x → drop (length (chars n)) (chars s) ≡ chars x
 behind s n x u e = ap (drop (length (chars n))) (front_chars s n x u e) ∙ dropped (chars n) (chars x)
-  where
-    dropped : (a b : List ℕ) → drop (length a) (a ++ b) ≡ b
-    dropped [] b = refl
-    dropped (x ∷ a) b = dropped a b
 
 pub begins_not : (s n : List ℕ) → IsUtf8 s → IsUtf8 n → ((rest : List ℕ) → s ≢ n ++ rest) → starts_with nat_eq (chars s) (chars n) ≡ false
 begins_not s n us un none = by (starts_with nat_eq (chars s) (chars n)) refl
@@ -60,10 +66,6 @@ part_chars s (x ∷ n) us un h =
     let cut = boundary s h.0 h.1 (x ∷ n) un (omega arith) h.2 in
     let front : IsUtf8 h.0 = subst IsUtf8 (ap (take (length h.0)) h.2 ∙ taken h.0 ((x ∷ n) ++ h.1)) (IsUtf8-take s (length h.0) us cut) in
     (chars h.0, chars h.1, ap chars h.2 ∙ chars-append h.0 ((x ∷ n) ++ h.1) front ∙ ap (λ l. chars h.0 ++ l) (chars-append (x ∷ n) h.1 un))
-  where
-    taken : (a b : List ℕ) → take (length a) (a ++ b) ≡ a
-    taken [] b = refl
-    taken (y ∷ a) b = ap (λ l. y ∷ l) (taken a b)
 
 pub chars_part : (s n : List ℕ) → IsUtf8 s → IsUtf8 n → HasSubslice (chars s) (chars n) → HasSubslice s n
 chars_part s n us un h = (

@@ -4,7 +4,7 @@ use Rattle.std.specs.Prelude.{chars, is_some}
 use Rattle.std.specs.Str.{IsUtf8}
 use Rattle.memchr.specs.Find.{FindsNeedle, OccursAt}
 use Rattle.memchr.proofs.lemmas.MatchLemmas.{OccursAt-split, OccursAt-from_part}
-use Rattle.newt_fold.proofs.Chars.{part_chars, chars_part}
+use Rattle.newt_fold.proofs.Chars.{part_chars, chars_part, dropped, taken}
 use Rattle.std.proofs.lemmas.Bool.Decides.{Decides-eqb}
 use Rattle.std.specs.Bool.{one_answer}
 use Rattle.std.specs.List.{list_any, starts_with}
@@ -48,14 +48,6 @@ from_has before (c ∷ cs) part (x ∷ a) b e = or_right _ _ (from_has (is_word_
 pub contains_is : (text part : List ℕ) (r : Bool) → (r ≡ true) ↔ HasSubslice text part → r ≡ has_text text part
 contains_is text part r h =
     one_answer r (has_text text part) (h.0, h.1) (λ e. has_from false text part e, λ s. from_has false text part s.0 s.1 s.2)
-
-dropped : (a b : List ℕ) → drop (length a) (a ++ b) ≡ b
-dropped [] b = refl
-dropped (x ∷ a) b = dropped a b
-
-taken : (a b : List ℕ) → take (length a) (a ++ b) ≡ a
-taken [] b = refl
-taken (y ∷ a) b = ap (λ l. y ∷ l) (taken a b)
 
 occurs : (s n : List ℕ) (p : HasSubslice s n) → OccursAt s n (length p.0)
 occurs s n p =

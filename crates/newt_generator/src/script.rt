@@ -16,7 +16,8 @@ const QUERY: &[u8] = b"query 0 Names {indexPath: [pathExpr: 'name, 'last]}\n";
 /// One more than the largest state of the generator.
 const STATES: u64 = 1 << 31;
 
-/// The script of a seed, which adds so many names and walks over them in order of their last ones.
+/// The script of a seed, which adds so many names and walks over them in order of their last ones. Of the seed its low 31 bits count. The script
+/// has `2 * count + 10` lines.
 pub fn gen_script(alloc: Global, seed: u32, count: u32) -> Result<Vec<u8>, AllocError>
     ensures { IfOk result (λ text. text.items ≡ gen_script seed count) }
 {

@@ -217,9 +217,9 @@ module _ (g : RawGraph) (is : IsGraph g) (w : Written g) where
   object_covered : (k : ℕ) (node : Node) → slice_get g.nodes k ≡ Some node → is_symbol node ≡ false → (p : ℕ) × (slice_get w.seen p ≡ Some k)
   object_covered k node here object = w.stands.covers k node (slice_get_within g.nodes k node here) here object
 
-  -- each symbol is the root, or a class, a tag or a value of an object
-  symbol_covered : (k : ℕ) → k < length g.nodes → (p : ℕ) × (slice_get w.seen p ≡ Some k)
-  symbol_covered k lt = go (count k (g.root ∷ [])) refl
+  -- each node is met: it is the root, or a class, a tag or a value of an object that is met
+  covered : (k : ℕ) → k < length g.nodes → (p : ℕ) × (slice_get w.seen p ≡ Some k)
+  covered k lt = go (count k (g.root ∷ [])) refl
     where
       all : 1 ≤ count k (g.root ∷ []) + count k (flat_map parts g.nodes)
       all = named k is.walk (omega arith) (omega (arith, lt))
@@ -244,9 +244,6 @@ module _ (g : RawGraph) (is : IsGraph g) (w : Written g) where
           first : (i : ℕ) → slice_get (g.root ∷ []) i ≡ Some (refs.Node k) → g.root ≡ refs.Node k
           first zero e = cc
           first (suc i) e = absurd cc
-
-  covered : (k : ℕ) → k < length g.nodes → (p : ℕ) × (slice_get w.seen p ≡ Some k)
-  covered k lt = symbol_covered k lt
 
   order : List ℕ
   order = map (place w.seen) (range_with_len 0 (length g.nodes))

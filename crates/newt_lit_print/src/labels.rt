@@ -99,7 +99,7 @@ fn is_met_again(meetings: &[Meetings], n: usize) -> bool
     n < meetings.len() && matches!(meetings[n], Meetings::More)
 }
 
-/// The label of each object, from 0 on, where it has one.
+/// The label of each node: the next number from 0 on where more than one reference leads to it and it is no symbol, else none.
 pub fn labels(alloc: Global, nodes: &[Node], root: Ref) -> Result<Vec<Option<u32>>, AllocError>
     requires { length nodes.now ≤ 65535 }
     ensures { IfOk result (λ labels. labels.items ≡ printed.labels (record { nodes = nodes.now; root = root })) }

@@ -9,9 +9,10 @@ ghost use Rattle.std.specs.List.{list_all};
 use newt_base::hex_text;
 use std::alloc::{AllocError, Global};
 
-/// The immediate words of nil and true.
+/// The word of nil.
 const NIL: u32 = 2;
 
+/// The word of true.
 const TRUE: u32 = 26;
 
 /// Words of characters are below this bound: the greatest character is 65,535.

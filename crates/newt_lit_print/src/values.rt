@@ -75,6 +75,7 @@ impl Source<'_> {
         page.put(if values.is_empty() { b":" } else { b": " })
     }
 
+    /// A value, with so many objects within one another at most.
     #[cycle(value)]
     fn value(&self, page: &mut Page, value: Ref, levels: u8) -> Result<(), AllocError>
         ensures { OnOk result (page.new ≡ spelled page.old (printed.value_at self.now.nodes.now self.now.labels.now levels value)) }
@@ -85,7 +86,7 @@ impl Source<'_> {
         }
     }
 
-    /// Node n, as many objects deep.
+    /// Node n, with so many objects within one another at most: a symbol in full each time, any other object by its label where it has been met.
     #[cycle(value)]
     fn found(&self, page: &mut Page, n: u32, levels: u8) -> Result<(), AllocError>
         ensures { OnOk result (page.new ≡ spelled page.old (printed.node_at self.now.nodes.now self.now.labels.now levels n)) }

@@ -68,8 +68,8 @@ impl Building {
         Ok(self.builder.fill(n, node)?)
     }
 
-    /// The node of a label.
-    pub(crate) fn labelled(&self, label: u32) -> Option<u32>
+    /// The node of a label, where it was given.
+    pub(crate) fn labelled_node(&self, label: u32) -> Option<u32>
         ensures { result ≡ node_of label self.now.labels }
     {
         node_of(label, &self.labels)

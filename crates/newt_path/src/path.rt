@@ -40,7 +40,8 @@ impl Path {
         Path { items }
     }
 
-    /// Reads identifiers with points between them.
+    /// Reads 1 to 8 identifiers of 1 to 254 bytes each, with points between them. `Path` comes only where the text is none; `Memory` may come in
+    /// place of any answer.
     pub fn read(alloc: Global, text: &[u8]) -> Result<Path, PathFault>
         ensures ok { IfOk result (λ path. path_of text.now ≡ Some path) }
         ensures path { IsErrOf result PathFault.Path → path_of text.now ≡ None }

@@ -16,7 +16,8 @@ use std::alloc::Global;
 
 /// The graph with the value in the last slot of the path, in the frame that the slots before it lead to. That frame is changed where it stands, so that
 /// every other way to it shows the change. A missing last slot is added as the last one. Of symbols that differ in case alone the graph's spelling stays,
-/// then the path's. What the root no longer reaches is gone.
+/// then the path's. What the root no longer reaches is gone. `NoPath` comes exactly where there is no such frame; `Limit` only where the result would pass a
+/// limit of one graph.
 pub fn set_at(alloc: Global, graph: &Graph, path: &Path, value: &Graph) -> Result<Graph, SetFault>
     ensures form { IfOk result (λ g. IsFormOf (put graph.now path.now value.now) g) }
     ensures no_path { IsErrOf result SetFault.NoPath ↔ (put graph.now path.now value.now ≡ None) }
@@ -28,6 +29,7 @@ pub fn set_at(alloc: Global, graph: &Graph, path: &Path, value: &Graph) -> Resul
     let Some(frame) = frame_below(graph.nodes(), graph.root(), before) else {
         return Err(SetFault::NoPath);
     };
+    // A graph that is read is known to be in normal form, as `set_in` requires.
     let _root = value.root();
     Ok(set_in(alloc, graph, frame, last.list(), value)?)
 }
