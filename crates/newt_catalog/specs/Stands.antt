@@ -1,4 +1,4 @@
--- What is kept in memory of a store stands for.
+-- The store that a catalog and an image stand for.
 use Rattle.std.specs.Prelude.{◌≡◌, ℕ, ◌≤◌, Bool, IsTrue, List}
 use Rattle.newt_host.specs.Outside.{Outside}
 use Rattle.newt_image.specs.Pages.{cap}

@@ -10,6 +10,6 @@ pub struct Catalog {
     pub directory: Directory,
     pub places: PlaceTable,
     pub names: NameTable,
-    /// Where the search for a free object id begins.
+    /// Half of the odd id at which the search for a free object id begins: for `h` that is the id `2 * h + 1`.
     pub hint: u32,
 }

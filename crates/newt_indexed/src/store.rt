@@ -13,7 +13,7 @@ ghost use Rattle.newt_spec_store.specs.OfImage.{blocks_of};
 ghost use Rattle.newt_spec_store.specs.Valid.{well_formed};
 ghost use Rattle.newt_soupdir.specs.Changes.{soup_of};
 ghost use Rattle.newt_catalog.specs.Readable.{readable};
-ghost use Rattle.newt_store.specs.Change.{changed_by, entry_in, count_in, entry_moved, pages_of_entry, most_bytes};
+ghost use Rattle.newt_store.specs.Change.{changed_by, entry_in, count_in, entry_fetched, pages_of_entry, most_bytes};
 ghost use Rattle.newt_catalog.specs.Stands.{StandsFor, plain_entry};
 ghost use Rattle.newt_store.specs.Stands.{IsRefused};
 ghost use Rattle.newt_indexed.specs.Calls.{Shows, IsOpen, Reads, Changes};
@@ -81,7 +81,7 @@ impl<P: PageBook> IndexedStore<P> {
         ensures same_ranges { IsRefused result → self.new.ranges ≡ self.old.ranges }
         // what it programs and fetches, whatever the answer, while the bank is not closed and has room for that
         ensures costs { IsTrue H.told → (s : PlainStore) → Shows P.place self.old.store (H.outside host.old) s → IsOpenFor (most_bytes change (blocks_of (image (P.place self.old.store.book) (H.outside host.old).now)) now s) (image (P.place self.old.store.book) (H.outside host.old).now)
-            → Spends (P.place self.old.store.book) (most_bytes change (blocks_of (image (P.place self.old.store.book) (H.outside host.old).now)) now s) (512 * pages_read change s + 512 * pages_of_entry (entry_moved change s)) (H.outside host.old) (H.outside host.new) }
+            → Spends (P.place self.old.store.book) (most_bytes change (blocks_of (image (P.place self.old.store.book) (H.outside host.old).now)) now s) (512 * pages_read change s + 512 * pages_of_entry (entry_fetched change s)) (H.outside host.old) (H.outside host.new) }
     {
         match step_of(&mut self.store, host, &change) {
             Ok(step) => change_with(&mut self.store, &mut self.ranges, host, change, now, step),
@@ -163,7 +163,7 @@ fn change_with<P: PageBook, H: Host>(
     ensures ranges { IsTrue H.told → (s : PlainStore) → Shows P.place store.old (H.outside host.old) s → IsStepOf change s step → AreRangesOf s ranges.old → OnOk result (AreRangesOf (changed_by change now s) ranges.new) }
     ensures same_ranges { IsRefused result → ranges.new ≡ ranges.old }
     ensures costs { IsTrue H.told → (s : PlainStore) → Shows P.place store.old (H.outside host.old) s → IsOpenFor (most_bytes change (blocks_of (image (P.place store.old.book) (H.outside host.old).now)) now s) (image (P.place store.old.book) (H.outside host.old).now)
-        → Spends (P.place store.old.book) (most_bytes change (blocks_of (image (P.place store.old.book) (H.outside host.old).now)) now s) (512 * pages_of_entry (entry_moved change s)) (H.outside host.old) (H.outside host.new) }
+        → Spends (P.place store.old.book) (most_bytes change (blocks_of (image (P.place store.old.book) (H.outside host.old).now)) now s) (512 * pages_of_entry (entry_fetched change s)) (H.outside host.old) (H.outside host.new) }
 {
     match store.apply(host, change, now) {
         Ok(answer) => follow(ranges, step, answer),

@@ -28,7 +28,7 @@ has_number number object = list_any (λ n. number == n) (numbers_of object)
 abbrev pub is_taken : List (ℕ × Option Extent) → Change → ℕ → Bool
 is_taken rows change number = list_any (has_number number) (values_of rows) || names change number
 
--- the numbers below one that are not taken, rising
+-- the numbers below a bound that are not taken, rising
 unfoldable pub free_below : ℕ → List (ℕ × Option Extent) → Change → List ℕ
 free_below zero rows change = []
 free_below (suc n) rows change = if is_taken rows change n then free_below n rows change else free_below n rows change ++ n ∷ []
@@ -43,7 +43,7 @@ pub record AreNew (change : Change) (numbers : List ℕ) : Type 0 where
 abbrev pub AreUnused : Table → List ℕ → Type 0
 AreUnused table numbers = (k number id part : ℕ) (x : Extent) → slice_get numbers k ≡ Some number → table id ≡ Some x → slice_get x.numbers part ≡ Some number → ⊥
 
--- the least id, not below one, that has an object
+-- the least id from `from` on that has an object
 pub record IsNextIn (table : Table) (from : ℕ) (next : Option ℕ) : Type 0 where
   pub found : (id : ℕ) → next ≡ Some id → IsSome (table id) × (from ≤ id)
   pub least : (id other : ℕ) → next ≡ Some id → from ≤ other → other < id → table other ≡ None

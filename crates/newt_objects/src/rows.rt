@@ -57,7 +57,7 @@ pub(crate) fn drop_vacant(rows: &mut BTreeMap<u32, Option<Extent>>, id: u32)
     }
 }
 
-/// The least id, not below one, that has an object.
+/// The least id from `from` on that has an object.
 pub(crate) fn next_row(rows: &BTreeMap<u32, Option<Extent>>, from: u32) -> Option<u32>
     ensures { IsNextIn (held_in rows.now) from result }
 {
@@ -69,7 +69,7 @@ pub(crate) fn next_row(rows: &BTreeMap<u32, Option<Extent>>, from: u32) -> Optio
     None
 }
 
-/// The least id above one that has an object.
+/// The least id above `above` that has an object.
 pub(crate) fn row_after(rows: &BTreeMap<u32, Option<Extent>>, above: u32) -> Option<u32>
     ensures { IsNextIn (held_in rows.now) (above + 1) result }
 {

@@ -48,7 +48,7 @@ kept-read told objects numbers numbers' unit unit' old new at same now kept = re
       (are_still told (held objects) (held objects) numbers numbers' unit old new (λ id. refl) same (ap (λ (m : Moment). changes unit m) now) kept.are);
 }
 
-the-extent : (o : Option Extent) → IsSome o → (x : Extent) × (o ≡ Some x)
+pub the-extent : (o : Option Extent) → IsSome o → (x : Extent) × (o ≡ Some x)
 the-extent (Some x) some = (x, refl)
 the-extent None some = absurd (let isnt = some in cc)
 

@@ -74,10 +74,10 @@ first-later (check ∷ a) b e = by check.1 check.0 (λ later. first-later a b la
 pub first-due : (change : Change) (blocks now : ℕ) (s : Store) (r : Refusal) → first_of (first_checks change s) ≡ Some r → refusal_of change blocks now s ≡ Some r
 first-due change blocks now s r e = first-here (first_checks change s) (full_check change blocks now s) r e
 
-not-more : (a b : ℕ) → b ≤ a → nat_lt a b ≡ false
+pub not-more : (a b : ℕ) → b ≤ a → nat_lt a b ≡ false
 not-more a b low = grind (arith, nat_tests, low)
 
-more-than : (a b : ℕ) → a < b → nat_lt a b ≡ true
+pub more-than : (a b : ℕ) → a < b → nat_lt a b ≡ true
 more-than a b high = grind (arith, nat_tests, high)
 
 fits-check : (change : Change) (blocks now : ℕ) (s : Store) → cost (changed_by change now s) ≤ cap blocks → first_of (full_check change blocks now s) ≡ None

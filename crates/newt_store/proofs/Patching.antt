@@ -1,12 +1,11 @@
 -- A patch of a large binary: where it goes, and the store after it.
-use Rattle.std.proofs.Common.{IsTrue, ◌≡◌, ◌≢◌, inl, inr, ℕ, zero, suc, ◌+◌, ◌*◌, ◌<◌, ◌≤◌, ◌==◌, Bool, true, false, cond, not, nat_lt, List, [], ◌∷◌, map as map_list, zip, length, sum, Option, Some, None, IsSome, Result, Err, refl, sym, ◌∙◌, ap, subst, arith, ⊎_elim}
+use Rattle.std.proofs.Common.{IsTrue, ◌≡◌, ◌≢◌, inl, inr, ℕ, zero, suc, ◌+◌, ◌*◌, ◌<◌, ◌≤◌, ◌==◌, Bool, true, false, cond, not, List, [], ◌∷◌, map as map_list, zip, length, sum, Option, Some, None, IsSome, Result, Err, refl, sym, ◌∙◌, ap, subst, arith, ⊎_elim}
 use Rattle.std.specs.Prelude.{slice_get}
 use Rattle.std.specs.List.{find}
 use Rattle.std.specs.FinMap as map
 use Rattle.std.specs.FinSet as set
 use Rattle.std.specs.Option.{is_some, is_none, option_map, option_and_then, unwrap_or}
 use Rattle.std.proofs.lemmas.Bool.{eqb-true, eq-eqb, cases_lt}
-use Rattle.std.proofs.lemmas.Bool.Decides.{nat_tests}
 use Rattle.std.proofs.lemmas.List.Sums.{sum_by-cons}
 use Rattle.newt_base.specs.Names.{equal_text}
 use Rattle.newt_base.specs.Refusals.{Checks, first_of}
@@ -62,7 +61,7 @@ use Rattle.newt_store.specs.Change.{changed_by, changed_soup, bytes_in, large_of
 use Rattle.newt_store.specs.Patch.{IsLargeOf, record_pages}
 use Rattle.newt_catalog.specs.Stands.{Describes, StandsFor}
 use Rattle.newt_store.specs.Stands.{GoesOn, RefusesWith, IsBeforeOrChanged}
-use Rattle.newt_store.proofs.Applying.{leaves-before}
+use Rattle.newt_store.proofs.Applying.{more-than, not-more, leaves-before}
 use Rattle.newt_store.proofs.Entries.{FoundAt, found-at}
 use Rattle.newt_store.proofs.Found.{soup-some, entry-placed}
 use Rattle.newt_store.proofs.Ids.{lengths-from}
@@ -299,12 +298,6 @@ zip-at [] ys k x y h g = absurd (none-some x h)
 zip-at (a ∷ xs) [] k x y h g = absurd (none-some y g)
 zip-at (a ∷ xs) (b ∷ ys) zero x y h g = λ i. Some (some-same a x h i, some-same b y g i)
 zip-at (a ∷ xs) (b ∷ ys) (suc k) x y h g = zip-at xs ys k x y h g
-
-more-than : (a b : ℕ) → a < b → nat_lt a b ≡ true
-more-than a b high = grind (arith, nat_tests, high)
-
-not-more : (a b : ℕ) → b ≤ a → nat_lt a b ≡ false
-not-more a b low = grind (arith, nat_tests, low)
 
 abbrev emptied : Soup → Soup
 emptied p = record p { entries = [] }

@@ -192,11 +192,11 @@ is_patch change = false
 
 -- ---- what a change costs. This project's own.
 
--- the entry that a change reads: the one that is moved or patched
-abbrev pub entry_moved : Change → Store → Option Entry
-entry_moved (Move source uid target) s = entry_in source uid s
-entry_moved (Patch sig uid node at bytes) s = entry_in sig uid s
-entry_moved change s = None
+-- the entry whose pages a change fetches, all of them or some: the one that is moved or patched
+abbrev pub entry_fetched : Change → Store → Option Entry
+entry_fetched (Move source uid target) s = entry_in source uid s
+entry_fetched (Patch sig uid node at bytes) s = entry_in sig uid s
+entry_fetched change s = None
 
 -- the entry whose record a change writes: one that it appends, or one that it puts in the place of the one of its id
 abbrev pub entry_added : Change → ℕ → Store → Option Entry

@@ -35,12 +35,14 @@ fn has_paths_of(specs: &[IndexSpec], spec: &IndexSpec) -> bool
     specs.iter().any(|other| other.same_paths(spec))
 }
 
-fn are_all(specs: &[IndexSpec]) -> bool
+// Whether a soup with these indexes takes no further one.
+fn is_full(specs: &[IndexSpec]) -> bool
     ensures { result ≡ nat_le 16 (length specs.now) }
 {
     MOST_INDEXES <= specs.len()
 }
 
+/// A soup gets an index behind its others. Soup where there is none, Index where one has its paths, Limit where it has as many as a soup takes.
 pub(crate) fn plan_add_index(
     catalog: &Catalog,
     sig: Sig,
@@ -59,7 +61,7 @@ pub(crate) fn plan_add_index(
     if has_paths_of(specs, &spec) {
         return Err(StoreFault::Refused(Refusal::Index));
     }
-    if are_all(specs) {
+    if is_full(specs) {
         return Err(StoreFault::Refused(Refusal::Limit));
     }
     let mut directory = catalog.directory.copy()?;
@@ -72,6 +74,7 @@ pub(crate) fn plan_add_index(
     })
 }
 
+/// A soup's index with these paths goes, if there is one. Soup where there is no such soup.
 pub(crate) fn plan_drop_index(
     catalog: &Catalog,
     sig: Sig,
@@ -96,6 +99,7 @@ pub(crate) fn plan_drop_index(
     })
 }
 
+/// A soup gets this tags declaration in place of its own. Soup where there is no such soup.
 pub(crate) fn plan_set_tags(
     catalog: &Catalog,
     sig: Sig,

@@ -17,6 +17,6 @@ mod store;
 
 pub use change::Change;
 pub use newt_catalog::Entry;
-pub use newt_shelf::{PlaceTable, StoreFault};
+pub use newt_shelf::StoreFault;
 pub use paths::Paths;
 pub use store::Store;

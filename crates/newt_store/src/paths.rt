@@ -1,4 +1,4 @@
-//! The paths of an index that is dropped.
+// The paths of an index that is dropped.
 ghost use Rattle.std.specs.Prelude.{◌≡◌, IfOk};
 
 use newt_path::Path;
@@ -31,6 +31,7 @@ impl Paths {
         Ok(Paths { items })
     }
 
+    /// The paths, as a slice.
     pub fn list(&self) -> &[Path]
         ensures { result.now ≡ self.now }
     {

@@ -12,7 +12,7 @@ ghost use Rattle.newt_spec_store.specs.Store.{Store as PlainStore};
 ghost use Rattle.newt_spec_store.specs.Valid.{well_formed, valid_entry};
 ghost use Rattle.newt_soupdir.specs.Bare.{bare_soup, bare_store};
 ghost use Rattle.newt_soupdir.specs.Changes.{soup_of};
-ghost use Rattle.newt_store.specs.Change.{first_checks, entry_in, entry_moved, is_patch, pages_of_entry, is_too_large as too_large};
+ghost use Rattle.newt_store.specs.Change.{first_checks, entry_in, entry_fetched, is_patch, pages_of_entry, is_too_large as too_large};
 ghost use Rattle.newt_shelf.specs.Batch.{AreOnce, large_ids};
 ghost use Rattle.newt_shelf.specs.Faults.{FaultsAt};
 ghost use Rattle.newt_shelf.specs.Names.{names_of, AreSoundNames};
@@ -48,7 +48,7 @@ const MOST_TEXT: u64 = 64_000;
 /// How many odd ids there are, and how many even ones.
 const HALF_IDS: u32 = 2_147_483_648;
 
-// An odd id that no object has, the least from a place on.
+// The least odd id that no object has, from `2 * from + 1` on.
 fn free_from(objects: &Objects, from: u32) -> Option<u32>
     ensures free { IfSome result (λ id. held objects.now id ≡ None) }
     ensures odd { IfSome result (λ id. id % 2 ≡ 1) }
@@ -62,7 +62,7 @@ fn free_from(objects: &Objects, from: u32) -> Option<u32>
     None
 }
 
-// An odd id that no object has.
+// An odd id that no object has, the least from `2 * hint + 1` on, or else the least of all.
 fn free_id(objects: &Objects, hint: u32) -> Option<u32>
     ensures free { IfSome result (λ id. held objects.now id ≡ None) }
     ensures odd { IfSome result (λ id. id % 2 ≡ 1) }
@@ -91,7 +91,7 @@ fn is_too_large(graph: &Graph) -> bool
     MOST_TEXT < skeleton_len(graph)
 }
 
-// The least even id above a place that no object has.
+// The least even id above `from` that no object has.
 fn free_even(objects: &Objects, from: u32) -> Option<u32>
     ensures free { IfSome result (λ id. held objects.now id ≡ None) }
     ensures even { IfSome result (λ id. (id % 2 ≡ 0) × (from < id)) }
@@ -172,6 +172,7 @@ fn entry_of(
     })
 }
 
+// A new soup, behind the others. Exists where one has its name, Limit where there are as many as a store has, Ids where no signature is left.
 fn plan_make(alloc: Global, catalog: &Catalog, name: &Name) -> Result<Next, StoreFault>
     requires { IsTrue (well_formed (bare_store catalog.now.directory)) }
     ensures next { IfOk result (IsNextOf catalog.now) }
@@ -198,6 +199,7 @@ fn plan_make(alloc: Global, catalog: &Catalog, name: &Name) -> Result<Next, Stor
     })
 }
 
+// The soup goes with its entries. Soup where there is no such soup.
 fn plan_drop(catalog: &Catalog, sig: Sig) -> Result<Next, StoreFault>
     requires { IsTrue (well_formed (bare_store catalog.now.directory)) }
     ensures next { IfOk result (IsNextOf catalog.now) }
@@ -250,6 +252,7 @@ fn next_with(
     })
 }
 
+// A new entry in a soup. Soup where there is none, Notframe where the graph's root is no frame, Size where its text is too long, Ids where no id is left.
 fn plan_add(
     alloc: Global,
     catalog: &Catalog,
@@ -281,6 +284,7 @@ fn plan_add(
     Ok(next)
 }
 
+// An entry goes. Soup or Entry where it is not there.
 fn plan_remove(catalog: &Catalog, sig: Sig, uid: Uid) -> Result<Next, StoreFault>
     requires { IsTrue (well_formed (bare_store catalog.now.directory)) }
     ensures next { IfOk result (IsNextOf catalog.now) }
@@ -302,6 +306,7 @@ fn plan_remove(catalog: &Catalog, sig: Sig, uid: Uid) -> Result<Next, StoreFault
     })
 }
 
+// An entry is read, added to another soup and gone from its own. Soup or Entry where it or the other soup is not there, Ids where that has no id left.
 fn plan_move<P: PageBook, H: Host>(
     alloc: Global,
     host: &mut H,
@@ -348,6 +353,7 @@ fn plan_move<P: PageBook, H: Host>(
     Ok(next)
 }
 
+// An entry gets another graph under its id. Soup or Entry where it is not there, then as for a new entry, but no id is needed.
 fn plan_replace(
     alloc: Global,
     catalog: &Catalog,
@@ -403,7 +409,7 @@ pub(crate) fn plan_change<P: PageBook, H: Host>(
     ensures next { IfOk result (IsNextOf catalog.now) }
     ensures planned { IsTrue H.told → (s : PlainStore) → StandsFor catalog.now s (image (P.place book.old) (H.outside host.old).now) → IfOk result (IsPlanOf catalog.now change now s) }
     ensures refused { IsTrue H.told → (s : PlainStore) → StandsFor catalog.now s (image (P.place book.old) (H.outside host.old).now) → IfErr result (RefusesWith (first_of (first_checks change s))) }
-    ensures costs { IsTrue H.told → (s : PlainStore) → StandsFor catalog.now s (image (P.place book.old) (H.outside host.old).now) → Spends (P.place book.old) 0 (512 * pages_of_entry (entry_moved change s)) (H.outside host.old) (H.outside host.new) }
+    ensures costs { IsTrue H.told → (s : PlainStore) → StandsFor catalog.now s (image (P.place book.old) (H.outside host.old).now) → Spends (P.place book.old) 0 (512 * pages_of_entry (entry_fetched change s)) (H.outside host.old) (H.outside host.new) }
     ensures alone { Touches (P.place book.old) (H.outside host.old) (H.outside host.new) }
     ensures cause { IfErr result (FaultsAt (P.place book.old) (H.outside host.old) (H.outside host.new)) }
 {

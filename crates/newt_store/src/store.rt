@@ -11,7 +11,7 @@ ghost use Rattle.newt_soupdir.specs.Changes.{soup_of};
 ghost use Rattle.newt_entries.specs.Entry.{stream_graph};
 ghost use Rattle.newt_spec_store.specs.ImageStore.{store_of_image};
 ghost use Rattle.newt_catalog.specs.Readable.{readable};
-ghost use Rattle.newt_store.specs.Change.{changed_by, answer_of, refusal_of, entry_in, count_in, uids_in, entry_moved, pages_of_entry, most_bytes, new_store};
+ghost use Rattle.newt_store.specs.Change.{changed_by, answer_of, refusal_of, entry_in, count_in, uids_in, entry_fetched, pages_of_entry, most_bytes, new_store};
 ghost use Rattle.newt_catalog.specs.Stands.{StandsFor, IsSound, plain_entry};
 ghost use Rattle.newt_store.specs.Stands.{GoesOn, IsRefused, RefusesWith, IsBeforeOrChanged};
 ghost use Rattle.newt_shelf.specs.Faults.{FaultsAt};
@@ -106,7 +106,7 @@ impl<P: PageBook> Store<P> {
         // at each moment a crash leaves the store before the change, or, where the change is not refused, the one after it
         ensures any_moment { IsTrue H.told → (s : PlainStore) → StandsFor self.old.catalog s (image (P.place self.old.book) (H.outside host.old).now) → Leaves (P.place self.old.book) (IsBeforeOrChanged change (blocks_of (image (P.place self.old.book) (H.outside host.old).now)) now s) (H.outside host.old).now (H.outside host.new).now }
         // what it programs and fetches, whatever the answer, while the bank is not closed and has room for that
-        ensures costs { IsTrue H.told → (s : PlainStore) → StandsFor self.old.catalog s (image (P.place self.old.book) (H.outside host.old).now) → IsOpenFor (most_bytes change (blocks_of (image (P.place self.old.book) (H.outside host.old).now)) now s) (image (P.place self.old.book) (H.outside host.old).now) → Spends (P.place self.old.book) (most_bytes change (blocks_of (image (P.place self.old.book) (H.outside host.old).now)) now s) (512 * pages_of_entry (entry_moved change s)) (H.outside host.old) (H.outside host.new) }
+        ensures costs { IsTrue H.told → (s : PlainStore) → StandsFor self.old.catalog s (image (P.place self.old.book) (H.outside host.old).now) → IsOpenFor (most_bytes change (blocks_of (image (P.place self.old.book) (H.outside host.old).now)) now s) (image (P.place self.old.book) (H.outside host.old).now) → Spends (P.place self.old.book) (most_bytes change (blocks_of (image (P.place self.old.book) (H.outside host.old).now)) now s) (512 * pages_of_entry (entry_fetched change s)) (H.outside host.old) (H.outside host.new) }
         // after a change the bank is not closed
         ensures open_after { IsTrue H.told → OnOk result (IsOpenFor 0 (image (P.place self.old.book) (H.outside host.new).now)) }
         ensures alone { Touches (P.place self.old.book) (H.outside host.old) (H.outside host.new) }

@@ -6,7 +6,7 @@ use Rattle.newt_ranges.specs.Stands.{AreRangesOf}
 use Rattle.newt_ranges.specs.declared.rows.SoupRanges.{SoupRanges}
 use Rattle.newt_spec_store.specs.OfImage.{blocks_of}
 use Rattle.newt_spec_store.specs.Store.{Store as Plain}
-use Rattle.newt_store.specs.Change.{changed_by, entry_moved, pages_of_entry}
+use Rattle.newt_store.specs.Change.{changed_by, entry_fetched, pages_of_entry}
 use Rattle.newt_indexed.specs.Steps.{pages_read}
 use Rattle.newt_catalog.specs.Readable.{readable}
 use Rattle.newt_catalog.specs.Stands.{StandsFor}
@@ -50,7 +50,7 @@ returns-in-Ok g c =
       );
       others = λ tells. let one = c.requires.plain tells in Leaves-others (c.apply.ensures.changes.any_moment tells one.plain one.stands);
       any_moment = λ tells s reads. leaves-either u c.args.change blocks c.args.now s img old new (size tells) (c.apply.ensures.changes.any_moment tells s (at tells s reads));
-      bound = λ tells s reads. programs-most u c.args.change blocks c.args.now s (512 * pages_read c.args.change s + 512 * pages_of_entry (entry_moved c.args.change s)) (o c.args.host.now) (o c.apply.new.host) (size tells) (c.apply.ensures.costs tells s (at tells s reads));
+      bound = λ tells s reads. programs-most u c.args.change blocks c.args.now s (512 * pages_read c.args.change s + 512 * pages_of_entry (entry_fetched c.args.change s)) (o c.args.host.now) (o c.apply.new.host) (size tells) (c.apply.ensures.costs tells s (at tells s reads));
       open_after = λ tells. e.open_after tells;
       nothing_done = λ refused. absurd refused;
       alone = c.apply.ensures.changes.alone;
@@ -92,7 +92,7 @@ returns-in-Err-Refused g c =
       );
       others = λ tells. let one = c.requires.plain tells in Leaves-others (c.apply.ensures.changes.any_moment tells one.plain one.stands);
       any_moment = λ tells s reads. leaves-either u c.args.change blocks c.args.now s img old new (size tells) (c.apply.ensures.changes.any_moment tells s (at tells s reads));
-      bound = λ tells s reads. programs-most u c.args.change blocks c.args.now s (512 * pages_read c.args.change s + 512 * pages_of_entry (entry_moved c.args.change s)) (o c.args.host.now) (o c.apply.new.host) (size tells) (c.apply.ensures.costs tells s (at tells s reads));
+      bound = λ tells s reads. programs-most u c.args.change blocks c.args.now s (512 * pages_read c.args.change s + 512 * pages_of_entry (entry_fetched c.args.change s)) (o c.args.host.now) (o c.apply.new.host) (size tells) (c.apply.ensures.costs tells s (at tells s reads));
       open_after = λ tells. tt;
       nothing_done = λ refused. same;
       alone = c.apply.ensures.changes.alone;
@@ -119,7 +119,7 @@ returns-in-Err-Stop g c =
       made = λ tells s reads. tt;
       others = λ tells. let one = c.requires.plain tells in Leaves-others (c.apply.ensures.changes.any_moment tells one.plain one.stands);
       any_moment = λ tells s reads. leaves-either u c.args.change blocks c.args.now s img old new (size tells) (c.apply.ensures.changes.any_moment tells s (at tells s reads));
-      bound = λ tells s reads. programs-most u c.args.change blocks c.args.now s (512 * pages_read c.args.change s + 512 * pages_of_entry (entry_moved c.args.change s)) (o c.args.host.now) (o c.apply.new.host) (size tells) (c.apply.ensures.costs tells s (at tells s reads));
+      bound = λ tells s reads. programs-most u c.args.change blocks c.args.now s (512 * pages_read c.args.change s + 512 * pages_of_entry (entry_fetched c.args.change s)) (o c.args.host.now) (o c.apply.new.host) (size tells) (c.apply.ensures.costs tells s (at tells s reads));
       open_after = λ tells. tt;
       nothing_done = λ refused. absurd refused;
       alone = c.apply.ensures.changes.alone;

@@ -42,6 +42,9 @@ returns-in-Ok-commit-clause-kept g c =
           numbers (λ tells. subst (λ (v : ℕ). ReadsChanged batch (image v old) (image v new)) same.0 (e.committed tells)) c.adopt.ensures.adopted;
     }
 
+not-above : (a b x y : ℕ) → a ≡ b → x ≡ y → (x < a → ⊥) → b ≤ y
+not-above a b x y e f none = omega (arith, e, f, none)
+
 pub returns-in-Ok-commit-clause-holds : goal.returns-in-Ok-commit-clause-holds
 returns-in-Ok-commit-clause-holds g c = λ tells before after p.
     let o = g.H.Host.outside in
@@ -55,19 +58,14 @@ returns-in-Ok-commit-clause-holds g c = λ tells before after p.
     let blocks : ℕ = (o c.args.host.now).blocks u in
     let count : set.len (changed_numbers batch (g.P.PageBook.numbers c.reserve.new.self)) ≡ set.len (changed_numbers batch numbers) = ap (λ (n : Numbers). set.len (changed_numbers batch n)) same.1 in
     let room : cap ((o c.args.host.now).blocks (g.P.PageBook.place c.reserve.new.self)) ≡ cap blocks = ap (λ (v : ℕ). cap ((o c.args.host.now).blocks v)) same.0 in
-    let low : set.len (changed_numbers batch numbers) ≤ cap blocks = not-more _ _ _ _ count room (λ more. absurd (let no = e.fits more in cc)) in (
+    let low : set.len (changed_numbers batch numbers) ≤ cap blocks = not-above _ _ _ _ count room (λ more. absurd (let no = e.fits more in cc)) in (
       holds-after g.H.Host.told c.args.objects.now batch numbers (image u old) before after tells c.puts.ensures.sound p (image u new)
           (subst (λ (v : ℕ). ReadsChanged batch (image v old) (image v new)) same.0 (e.committed tells)),
       planned-fits g.H.Host.told c.args.objects.now batch numbers (image u old) before after tells c.puts.ensures.sound p blocks (g.met.H.Host.sized c.args.host.now u tells) low,
-    ) where
-      not-more : (a b x y : ℕ) → a ≡ b → x ≡ y → (x < a → ⊥) → b ≤ y
-      not-more a b x y e f none = omega (arith, e, f, none)
+    )
 
 the-full : {r : Result (Unit {0}) CommitFault} {fault : CommitFault} → r ≡ Err fault → fault ≡ Full → r ≡ Err Full
 the-full is full = is ∙ ap (λ (f : CommitFault). let r : Result (Unit {0}) CommitFault = Err f in r) full
-
-not-above : (a b x y : ℕ) → a ≡ b → x ≡ y → (x < a → ⊥) → b ≤ y
-not-above a b x y e f none = omega (arith, e, f, none)
 
 both-ways : (a b : ℕ) → a ≤ b → b < a → ⊥
 both-ways a b low more = absurd (omega (arith, low, more))

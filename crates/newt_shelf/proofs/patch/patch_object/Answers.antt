@@ -1,4 +1,4 @@
-use Rattle.std.proofs.Common.{◌≡◌, ◌+◌, ◌<◌, ◌≤◌, ℕ, length, Option, Some, None, IsSome, IfSome, OnOk, IsErrOf, Result, Ok, Err, IfErr, sym, ◌∙◌, ap, subst, refl, arith}
+use Rattle.std.proofs.Common.{◌≡◌, ◌+◌, ◌<◌, ◌≤◌, ℕ, length, Option, Some, IfSome, OnOk, IsErrOf, Result, Ok, Err, IfErr, sym, ◌∙◌, ap, subst, refl, arith}
 use Rattle.std.specs.FinMap as map
 use Rattle.newt_host.specs.Moments.{Moment, image, overwritten, Leaves}
 use Rattle.newt_image.specs.Objects.{Extent, IsTableOf}
@@ -17,7 +17,7 @@ use Rattle.newt_base.specs.declared.Refusal.TheVariants.{Full}
 use Rattle.newt_vbo.specs.declared.fault.RangeFault.{RangeFault}
 use Rattle.newt_vbo.specs.declared.fault.RangeFault.TheVariants.{Range, Memory, Device}
 use Rattle.newt_shelf.specs.Patch.{IsBeforeOrPatched}
-use Rattle.newt_shelf.proofs.Patching.{patch-nothing, kept-read, would-be, would-some, text-length}
+use Rattle.newt_shelf.proofs.Patching.{patch-nothing, kept-read, the-extent, would-be, would-some, text-length}
 use Rattle.newt_shelf.proofs.patch.patch_object.Goals as goal
 
 pub commit_patch-requires-clause-kept : goal.commit_patch-requires-clause-kept
@@ -59,10 +59,6 @@ inside Error o x n at past none = not-less n x.length (λ less. none (subst (λ 
 -- where it is, it is not
 outside : (o : Option Extent) (x : Extent) (n : ℕ) → o ≡ Some x → IfSome o (λ x. x.length < n) → x.length < n
 outside o x n at past = subst (λ (o : Option Extent). IfSome o (λ x. x.length < n)) at past
-
-the-extent : (o : Option Extent) → IsSome o → (x : Extent) × (o ≡ Some x)
-the-extent (Some x) some = (x, refl)
-the-extent None some = absurd (let isnt = some in cc)
 
 pub returns-in-Ok-clause-patched : goal.returns-in-Ok-clause-patched
 returns-in-Ok-clause-patched g c = λ tells before text holds at.

@@ -19,16 +19,16 @@ returns-then-has_paths_of-clause-refused c = λ texts s d.
     index-there c.args.catalog.now texts s d c.args.sig c.args.spec (bare_soup c.in-Some.row.now) (sym c.in-Some.ensures)
     (ap (has_paths (paths_of c.args.spec)) (sym c.list-specs.ensures) ∙ sym c.has_paths_of.ensures.has ∙ c.if-has_paths_of.true)
 
-pub returns-then-are_all-clause-refused : goal.returns-then-are_all-clause-refused
-returns-then-are_all-clause-refused c = λ texts s d.
+pub returns-then-is_full-clause-refused : goal.returns-then-is_full-clause-refused
+returns-then-is_full-clause-refused c = λ texts s d.
     index-limit c.args.catalog.now texts s d c.args.sig c.args.spec (bare_soup c.in-Some.row.now) (sym c.in-Some.ensures)
     (ap (has_paths (paths_of c.args.spec)) (sym c.list-specs.ensures) ∙ sym c.has_paths_of.ensures.has ∙ c.if-has_paths_of.false)
-    (ap (λ (specs : List IndexSpec). nat_le 16 (length specs)) (sym c.list-specs.ensures) ∙ sym c.are_all.ensures ∙ c.if-are_all.true)
+    (ap (λ (specs : List IndexSpec). nat_le 16 (length specs)) (sym c.list-specs.ensures) ∙ sym c.is_full.ensures ∙ c.if-is_full.true)
 
 pub returns-clause-next : goal.returns-clause-next
 returns-clause-next c =
     let new : has_paths (paths_of c.args.spec) c.in-Some.row.now.specs ≡ false = ap (has_paths (paths_of c.args.spec)) (sym c.list-specs.ensures) ∙ sym c.has_paths_of.ensures.has ∙ c.if-has_paths_of.false in
-    let few : nat_le 16 (length c.in-Some.row.now.specs) ≡ false = ap (λ (specs : List IndexSpec). nat_le 16 (length specs)) (sym c.list-specs.ensures) ∙ sym c.are_all.ensures ∙ c.if-are_all.false in
+    let few : nat_le 16 (length c.in-Some.row.now.specs) ≡ false = ap (λ (specs : List IndexSpec). nat_le 16 (length specs)) (sym c.list-specs.ensures) ∙ sym c.is_full.ensures ∙ c.if-is_full.false in
     next-plain c.args.catalog.now c.add_spec.new.self Nothing 0 (formed-declared c.args.catalog.now.directory c.add_spec.new.self c.args.sig (bare_soup c.in-Some.row.now) (with_index c.args.spec) (adds-index c.args.spec) c.requires (sym c.in-Some.ensures)
     (valid-index c.args.spec (bare_soup c.in-Some.row.now) c.has_paths_of.ensures.valid few new)
     (c.in_ok-add_spec.ensures.added ∙ ap (λ (x : Directory). change_soup_of c.args.sig (with_index c.args.spec) (bare_store x)) c.in_ok-directory.ensures))
@@ -36,6 +36,6 @@ returns-clause-next c =
 pub returns-clause-planned : goal.returns-clause-planned
 returns-clause-planned c = λ now texts s d.
     let new : has_paths (paths_of c.args.spec) c.in-Some.row.now.specs ≡ false = ap (has_paths (paths_of c.args.spec)) (sym c.list-specs.ensures) ∙ sym c.has_paths_of.ensures.has ∙ c.if-has_paths_of.false in
-    let few : nat_le 16 (length c.in-Some.row.now.specs) ≡ false = ap (λ (specs : List IndexSpec). nat_le 16 (length specs)) (sym c.list-specs.ensures) ∙ sym c.are_all.ensures ∙ c.if-are_all.false in
+    let few : nat_le 16 (length c.in-Some.row.now.specs) ≡ false = ap (λ (specs : List IndexSpec). nat_le 16 (length specs)) (sym c.list-specs.ensures) ∙ sym c.is_full.ensures ∙ c.if-is_full.false in
     index-planned c.args.catalog.now texts s d c.args.sig c.args.spec (bare_soup c.in-Some.row.now) (sym c.in-Some.ensures) new now c.add_spec.new.self few c.has_paths_of.ensures.valid
     (c.in_ok-add_spec.ensures.added ∙ ap (λ (x : Directory). change_soup_of c.args.sig (with_index c.args.spec) (bare_store x)) c.in_ok-directory.ensures)

@@ -1,7 +1,7 @@
 use Rattle.std.proofs.Common.{ℕ, List}
 use Rattle.newt_host.specs.Moments.{image}
 use Rattle.newt_spec_store.specs.OfImage.{blocks_of}
-use Rattle.newt_store.specs.Change.{most_bytes, entry_moved, pages_of_entry}
+use Rattle.newt_store.specs.Change.{most_bytes, entry_fetched, pages_of_entry}
 use Rattle.newt_indexed.specs.Steps.{pages_read}
 use Rattle.newt_indexed.proofs.Changing.{changes-over, changes-stopped, costs-stopped}
 use Rattle.newt_indexed.proofs.store.IndexedStore.apply.Goals as goal
@@ -23,5 +23,5 @@ returns-in-Err-clause-costs g c = λ tells s shows room.
     let o = g.H.Host.outside in
     let u : ℕ = g.P.PageBook.place c.args.self.now.store.book in
     let img : List ℕ = image u (o c.args.host.now).now in
-    costs-stopped g.P.PageBook.place g.P.PageBook.numbers g.P.PageBook.stands g.H.Host.told u (most_bytes c.args.change (blocks_of img) c.args.now s) (pages_read c.args.change s) (pages_of_entry (entry_moved c.args.change s))
+    costs-stopped g.P.PageBook.place g.P.PageBook.numbers g.P.PageBook.stands g.H.Host.told u (most_bytes c.args.change (blocks_of img) c.args.now s) (pages_read c.args.change s) (pages_of_entry (entry_fetched c.args.change s))
     (o c.args.host.now) (o c.step_of.new.host) (c.in-Err.ensures.costs tells s shows)

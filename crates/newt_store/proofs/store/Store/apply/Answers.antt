@@ -11,7 +11,7 @@ use Rattle.newt_catalog.specs.Stands.{StandsFor}
 use Rattle.newt_store.specs.Stands.{RefusesWith}
 use Rattle.newt_host.specs.Outside.{Spends}
 use Rattle.newt_pagebook.specs.Book.{IsOpenFor}
-use Rattle.newt_store.specs.Change.{entry_moved, pages_of_entry, most_bytes}
+use Rattle.newt_store.specs.Change.{entry_fetched, pages_of_entry, most_bytes}
 use Rattle.newt_store.specs.Next.{turn_bytes}
 use Rattle.newt_store.proofs.Applying.{no-patch, spends-more, spends-both, none-due, full-due, refuses-full, refuses-first, from-err, sound-over, same-image, leaves-changed, leaves-before}
 use Rattle.newt_store.proofs.store.Store.apply.Goals as goal
@@ -155,7 +155,7 @@ pub returns-in_err-next-clause-costs : goal.returns-in_err-next-clause-costs
 returns-in_err-next-clause-costs g c = λ tells s stands room.
     let o = g.H.Host.outside in
     let u : ℕ = g.P.PageBook.place c.args.self.now.book in
-    spends-more u (most_bytes c.args.change (blocks_of (image u (o c.args.host.now).now)) c.args.now s) (512 * pages_of_entry (entry_moved c.args.change s)) (o c.args.host.now) (o c.plan_change.new.host) (c.plan_change.ensures.costs tells s stands)
+    spends-more u (most_bytes c.args.change (blocks_of (image u (o c.args.host.now).now)) c.args.now s) (512 * pages_of_entry (entry_fetched c.args.change s)) (o c.args.host.now) (o c.plan_change.new.host) (c.plan_change.ensures.costs tells s stands)
 
 pub returns-in-Ok-clause-costs : goal.returns-in-Ok-clause-costs
 returns-in-Ok-clause-costs g c = λ tells s stands room.
@@ -169,7 +169,7 @@ returns-in-Ok-clause-costs g c = λ tells s stands room.
     let stands' : StandsFor cat s (image u' m') = subst (λ (b : List ℕ). StandsFor cat s b) (sym e) stands in
     let t : PlainStore = changed_by c.args.change c.args.now s in
     let plan = c.in_ok-next.ensures.planned tells s stands in
-    spends-both cat c.args.change c.args.now s c.in_ok-next.next (image u m) u (512 * pages_of_entry (entry_moved c.args.change s)) (o c.args.host.now) (o c.plan_change.new.host) (o c.carry_out.new.host) (no-patch c.args.change c.in_default.not-Patch) plan (c.plan_change.ensures.costs tells s stands)
+    spends-both cat c.args.change c.args.now s c.in_ok-next.next (image u m) u (512 * pages_of_entry (entry_fetched c.args.change s)) (o c.args.host.now) (o c.plan_change.new.host) (o c.carry_out.new.host) (no-patch c.args.change c.in_default.not-Patch) plan (c.plan_change.ensures.costs tells s stands)
     (λ room-for. subst (λ (v : ℕ). Spends v (turn_bytes c.in_ok-next.next s t) 0 (o c.plan_change.new.host) (o c.carry_out.new.host)) c.plan_change.ensures.same.0
     (c.carry_out.ensures.bound tells s t stands' plan.turns (subst (λ (b : List ℕ). IsOpenFor (turn_bytes c.in_ok-next.next s t) b) (sym e) room-for)))
     (λ more. subst (λ (v : ℕ). Spends v 0 0 (o c.plan_change.new.host) (o c.carry_out.new.host)) c.plan_change.ensures.same.0
@@ -188,7 +188,7 @@ returns-in-Err-clause-costs g c = λ tells s stands room.
     let stands' : StandsFor cat s (image u' m') = subst (λ (b : List ℕ). StandsFor cat s b) (sym e) stands in
     let t : PlainStore = changed_by c.args.change c.args.now s in
     let plan = c.in_ok-next.ensures.planned tells s stands in
-    spends-both cat c.args.change c.args.now s c.in_ok-next.next (image u m) u (512 * pages_of_entry (entry_moved c.args.change s)) (o c.args.host.now) (o c.plan_change.new.host) (o c.carry_out.new.host) (no-patch c.args.change c.in_default.not-Patch) plan (c.plan_change.ensures.costs tells s stands)
+    spends-both cat c.args.change c.args.now s c.in_ok-next.next (image u m) u (512 * pages_of_entry (entry_fetched c.args.change s)) (o c.args.host.now) (o c.plan_change.new.host) (o c.carry_out.new.host) (no-patch c.args.change c.in_default.not-Patch) plan (c.plan_change.ensures.costs tells s stands)
     (λ room-for. subst (λ (v : ℕ). Spends v (turn_bytes c.in_ok-next.next s t) 0 (o c.plan_change.new.host) (o c.carry_out.new.host)) c.plan_change.ensures.same.0
     (c.carry_out.ensures.bound tells s t stands' plan.turns (subst (λ (b : List ℕ). IsOpenFor (turn_bytes c.in_ok-next.next s t) b) (sym e) room-for)))
     (λ more. subst (λ (v : ℕ). Spends v 0 0 (o c.plan_change.new.host) (o c.carry_out.new.host)) c.plan_change.ensures.same.0
