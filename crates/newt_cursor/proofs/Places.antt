@@ -1,8 +1,8 @@
 -- The places for cursors of the code, seen as those of the definition.
-use Rattle.std.proofs.Common.{◌≡◌, ◌<◌, ◌≤◌, ◌+◌, refl, ap, ◌∙◌, arith, ℕ, zero, suc, List, [], ◌∷◌, ◌++◌, length, get_or, cond, Option, Some, None, option_map, replicate, slice_get, slice_set}
+use Rattle.std.proofs.Common.{◌≡◌, ◌<◌, ◌≤◌, ◌+◌, refl, ap, ◌∙◌, arith, ℕ, zero, suc, List, [], ◌∷◌, length, get_or, cond, Option, Some, None, option_map, replicate, slice_get, slice_set}
 use Rattle.std.specs.Prelude.{is_none, not, nat_lt}
 use Rattle.std.specs.List.{position, prefix_len}
-use Rattle.std.proofs.lemmas.List.{map-set, replicate_more}
+use Rattle.std.proofs.lemmas.List.{map-set}
 use Rattle.newt_spec_query.specs.Cursor as spec
 use Rattle.newt_spec_world.specs.World.{change_at, flat}
 use Rattle.newt_cursor.specs.declared.desk.Cursor.{Cursor}
@@ -48,8 +48,3 @@ free_alike xs =
 
 pub all_free : (xs : List (Option Cursor)) → xs ≡ replicate 32 None → cursors_of xs ≡ replicate 32 None
 all_free xs e = ap cursors_of e
-
-pub one_more : (n : ℕ) (xs : List (Option Cursor)) → xs ≡ replicate n None → xs ++ None ∷ [] ≡ replicate (n + 1) None
-one_more n xs e = ap (λ (ys : List (Option Cursor)). ys ++ None ∷ []) e ∙ replicate_more n None
-
--- ---- what a call leaves

@@ -138,7 +138,7 @@ impl Desk {
         watching(&self.cursors, store, soup, uid)
     }
 
-    /// Gives the entry on which a cursor stands this key. Nothing changes where the cursor is not open or stands on no entry. It takes no memory.
+    /// Sets the key of the entry on which a cursor stands, whose graph has changed. Nothing changes where the cursor is not open or stands on no entry. It takes no memory.
     #[tactic(auto, using(crate::proofs::Places::changed_at, crate::proofs::Places::stays_at))]
     pub fn changed(&mut self, cursor: u8, key: Key)
         ensures { self.new ≡ change_at cursor (keyed key) self.old }

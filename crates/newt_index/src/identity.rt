@@ -1,4 +1,4 @@
-//! An entry's place among all entries.
+//! The identity of an entry among those of all stores, with its key.
 ghost use Rattle.std.specs.Prelude.{◌≡◌, IfOk};
 
 use newt_base::{Sig, Uid};

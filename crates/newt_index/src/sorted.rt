@@ -59,7 +59,7 @@ impl Index {
         }
     }
 
-    /// Adds a pair that is not there.
+    /// Adds a pair that is not there. `put` is the call for one that may be.
     pub fn add(&mut self, key: Key, uid: Uid) -> Result<(), AllocError>
         requires key { IsKeyOf (parts_of self.old.spec) key }
         requires absent { IsAbsent self.old (key, uid) }
@@ -184,6 +184,7 @@ impl Index {
         ensures spec { option_map (λ s. s.now) result ≡ self.now.spec }
         ensures sorted { IsSorted self.now }
     {
+        // Its contract tells that the map's entries rise, which the clause `sorted` is proved from.
         let _count = self.entries.len();
         self.spec.as_ref()
     }

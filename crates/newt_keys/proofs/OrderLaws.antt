@@ -55,15 +55,6 @@ pub turns : (spec : IndexSpec) (a b : Key) → IsKeyOf spec a → IsKeyOf spec b
 turns spec a b ha hb =
     sym (bytes_order spec a b ha hb) ∙ nat_list_cmp_total.antisymm (key_bytes spec a) (key_bytes spec b) ∙ ap ordering_reverse (bytes_order spec b a hb ha)
 
-pub chains : (spec : IndexSpec) (a b c : Key) → IsKeyOf spec a → IsKeyOf spec b → IsKeyOf spec c
-    → key_cmp spec a b ≡ Less → key_cmp spec b c ≡ Less → key_cmp spec a c ≡ Less
-chains spec a b c ha hb hc e f =
-    sym (bytes_order spec a c ha hc)
-    ∙ nat_list_cmp_total.trans (key_bytes spec a) (key_bytes spec b) (key_bytes spec c) (bytes_order spec a b ha hb ∙ e) (bytes_order spec b c hb hc ∙ f)
-
-pub itself : (spec : IndexSpec) (a : Key) → IsKeyOf spec a → key_cmp spec a a ≡ Equal
-itself spec a ha = sym (bytes_order spec a a ha ha) ∙ tied_itself nat_list_cmp_total (key_bytes spec a)
-
 -- the bytes of a key begin those of no other key
 pub no_prefix : (spec : IndexSpec) (a b : Key) (t : List ℕ) → IsKeyOf spec a → IsKeyOf spec b → key_bytes spec a ++ t ≡ key_bytes spec b → a ≡ b
 no_prefix spec a b t ha hb e =
@@ -71,10 +62,6 @@ no_prefix spec a b t ha hb e =
     (sym (key_law spec a b t [] ha.0 hb.0)
     ∙ (λ i. slice_cmp nat_cmp (e i) (append-nil (key_bytes spec b) i))
     ∙ tied_itself nat_list_cmp_total (key_bytes spec b))).0
-
--- and so the bytes tell keys apart
-pub same_bytes : (spec : IndexSpec) (a b : Key) → IsKeyOf spec a → IsKeyOf spec b → key_bytes spec a ≡ key_bytes spec b → a ≡ b
-same_bytes spec a b ha hb e = no_prefix spec a b [] ha hb (append-nil (key_bytes spec a) ∙ e)
 
 -- the whole law
 pub order_as_keys : (spec : IndexSpec) → OrderAsKeys spec

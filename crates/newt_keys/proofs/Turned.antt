@@ -56,14 +56,6 @@ pub at_end : (d : Order) (r : Ordering) → r ≡ ordering_then (in_direction d 
 at_end order.Ascend r = refl
 at_end order.Descend r = refl
 
-settled : (d : Order) (o p q r : Ordering) → (o ≡ Less) ⊎ (o ≡ Greater) → ordering_then (in_direction d o) q ≡ ordering_then (in_direction d (ordering_then o p)) r
-settled order.Ascend Less p q r h = refl
-settled order.Ascend Greater p q r h = refl
-settled order.Ascend Equal p q r h = elim h [ inl e ↦ cc | inr e ↦ cc ]
-settled order.Descend Less p q r h = refl
-settled order.Descend Greater p q r h = refl
-settled order.Descend Equal p q r h = elim h [ inl e ↦ cc | inr e ↦ cc ]
-
 -- two different bytes decide, whatever follows
 pub decided : (d : Order) (m n : ℕ) (o r rest : Ordering) → m < 256 → n < 256 → nat_cmp m n ≡ o → (o ≡ Less) ⊎ (o ≡ Greater)
     → ordering_then (nat_cmp (turned d m) (turned d n)) rest ≡ ordering_then (in_direction d o) r
@@ -79,9 +71,6 @@ decided d m n o r rest hm hn e h =
     unequal order.Descend Less q r h = refl
     unequal order.Descend Greater q r h = refl
     unequal order.Descend Equal q r h = elim h [ inl e ↦ cc | inr e ↦ cc ]
-
-AreBytes : List ℕ → Type 0
-AreBytes bs = All (λ b. b < 256) bs
 
 -- texts with what follows them order as the texts, and then as what follows
 pub text_law : (d : Order) (as' bs x y : List ℕ) → All (λ b. b < 256) as' → All (λ b. b < 256) bs

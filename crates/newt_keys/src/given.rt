@@ -60,13 +60,13 @@ fn key_given(
     ensures of_spec { IfOk result (λ found. IfSome found (IsKeyOf (declared_all spec.now))) }
 {
     match given_parts(alloc, nodes, spec, values)? {
-        Some(parts) => Ok(if_any_begins(parts)),
+        Some(parts) => Ok(if_first_is_given(parts)),
         None => Ok(None),
     }
 }
 
-/// A key, where it has a first part that is there.
-fn if_any_begins(parts: Vec<Part>) -> Option<Key>
+/// A key, where it has a first part and that is there.
+fn if_first_is_given(parts: Vec<Part>) -> Option<Key>
     ensures { result ≡ query.keep query.first_is_there (said_all parts.items) }
 {
     match parts.first() {

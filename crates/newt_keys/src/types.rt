@@ -61,6 +61,7 @@ impl Model for IndexSpec {
 }
 
 impl IndexSpec {
+    /// The declaration of these parts.
     pub fn new(parts: Vec<IndexPart>) -> IndexSpec
         requires { IsTrue (valid_spec (declared_all parts.items)) }
         ensures { result ≡ declared_all parts.items }
@@ -182,6 +183,7 @@ impl Key {
         }
     }
 
+    /// The key of these parts. That they are those of a declaration is for the caller to see (`IsKeyOf`).
     pub fn of(parts: Vec<Part>) -> Key
         ensures { result ≡ said_all parts.items }
     {

@@ -34,6 +34,7 @@ impl Model for Paths {
 }
 
 impl Paths {
+    /// The paths in order.
     pub fn list(&self) -> &[Path]
         ensures { result.now ≡ self.now }
     {

@@ -97,10 +97,6 @@ made s rows name are =
     let p : Soup = record { name = name; sig = s.next_soup; next_uid = 0; specs = []; tags = None; entries = [] } in
     ranges_more graphs_of s.soups rows p (no_ranges s.next_soup []) (record { of_sig = refl; all = range_none None (graphs_of p) (λ w. refl); indexes = tt }) are
 
--- no ranges, and no soups
-pub none_yet : (graphs : Soup → Graphs) → AreRanges graphs [] []
-none_yet graphs = tt
-
 -- a soup gone
 pub dropped : (s : Store) (rows : List SoupRanges) (sig : ℕ) (p : Soup) → well_formed s ≡ true → find (of_sig sig) s.soups ≡ Some p → AreRangesOf s rows
     → AreRangesOf (drop_soup p.name s) (drop_ranges sig rows)

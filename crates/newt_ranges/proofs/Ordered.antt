@@ -13,7 +13,7 @@ use Rattle.newt_spec_store.specs.Keys.{IndexSpec, key_cmp}
 use Rattle.newt_spec_store.specs.Sorted.{insert_by, sorted_by}
 use Rattle.newt_keys.specs.KeyForm.{key_bytes}
 use Rattle.newt_keys.proofs.KeyLaw.{bytes_order}
-use Rattle.newt_keys.proofs.OrderLaws.{equal_keys, tied}
+use Rattle.newt_keys.proofs.OrderLaws.{tied}
 use Rattle.newt_index.specs.Pairs.{Pair, pair_cmp, IsPair}
 
 -- ---- the order of pairs is that of their keys' bytes and ids
@@ -42,11 +42,6 @@ module _ (spec : IndexSpec) where
 
   pair_itself : (p : Pair) → IsPair spec p → pair_cmp spec p p ≡ Equal
   pair_itself p hp = sym (placed p p hp hp) ∙ tied_itself places_total (place p)
-
-  same_pair : (p q : Pair) → IsPair spec p → IsPair spec q → pair_cmp spec p q ≡ Equal → p ≡ q
-  same_pair p q hp hq e =
-      let h = tied (key_cmp spec p.0 q.0) (nat_cmp p.1 q.1) e in
-      λ i. (equal_keys spec p.0 q.0 hp.is_key hq.is_key h.0 i, nat_cmp-IsAntisymmetric p.1 q.1 h.1 i)
 
   pub same_uid : (p q : Pair) → pair_cmp spec p q ≡ Equal → p.1 ≡ q.1
   same_uid p q e = nat_cmp-IsAntisymmetric p.1 q.1 (tied (key_cmp spec p.0 q.0) (nat_cmp p.1 q.1) e).1

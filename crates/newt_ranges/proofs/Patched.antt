@@ -1,13 +1,10 @@
 -- Where an entry's graph has other bytes in its large binaries, and is else what it was, the ranges of its store are what they were.
-use Rattle.std.proofs.Common.{◌≡◌, ℕ, ◌==◌, Bool, true, false, cond, List, [], ◌∷◌, find, Option, Some, None, option_map, option_and_then, refl, sym, ◌∙◌, ap}
-use Rattle.std.specs.List.{cons_option}
+use Rattle.std.proofs.Common.{◌≡◌, ℕ, ◌==◌, Bool, true, false, cond, List, [], ◌∷◌, find, Option, Some, option_map, option_and_then, refl, sym, ◌∙◌, ap}
 use Rattle.newt_base.specs.Names.{equal_text}
-use Rattle.newt_spec_store.specs.Keys.{IndexSpec, same_spec}
-use Rattle.newt_spec_store.specs.Sorted.{sorted_by}
+use Rattle.newt_spec_store.specs.Keys.{IndexSpec}
 use Rattle.newt_spec_store.specs.Store.{Entry, Soup, Store, change_first, change_soup, change_entry}
-use Rattle.newt_index.specs.Pairs.{parts_of, pair_cmp}
-use Rattle.newt_index.specs.Range.{entry_pair, entry_pairs, range_of}
-use Rattle.newt_ranges.specs.Range.{key_by, range_of_soup, range_in}
+use Rattle.newt_index.specs.Pairs.{parts_of}
+use Rattle.newt_ranges.specs.Range.{key_by}
 use Rattle.newt_ranges.specs.declared.rows.SoupRanges.{SoupRanges}
 use Rattle.newt_ranges.specs.Stands.{graphs_of, IsRangesOf, AreRanges, AreRangesOf}
 use Rattle.newt_ranges.proofs.Seen.{AreLike, like-key}
@@ -61,28 +58,3 @@ module _ (change : Entry → Entry) (is : IsPatch change) where
   -- the ranges of a store are those of the store with an entry patched
   pub patched_ranges : (s : Store) (rows : List SoupRanges) (name : List ℕ) (u : ℕ) → AreRangesOf s rows → AreRangesOf (change_soup name (change_entry u change) s) rows
   patched_ranges s rows name u are = patched-soups (λ p. equal_text p.name name) u s.soups rows are
-
-  -- ---- the range of a soup
-
-  same-pair : (spec : IndexSpec) (e : Entry) → entry_pair spec e ≡ entry_pair spec (change e)
-  same-pair spec e = λ i. option_map (λ k. (k, sym (is.same_id e) i)) (like-key e.graph (change e).graph (is.like e) spec i)
-
-  same-pairs : (spec : IndexSpec) (which : Entry → Bool) (es : List Entry) → entry_pairs spec es ≡ entry_pairs spec (change_first which change es)
-  same-pairs spec which [] = refl
-  same-pairs spec which (e ∷ es) = go (which e) (same-pairs spec which es)
-    where
-      go : (b : Bool) → entry_pairs spec es ≡ entry_pairs spec (change_first which change es) → entry_pairs spec (e ∷ es) ≡ entry_pairs spec (cond b (change e ∷ es) (e ∷ change_first which change es))
-      go true more = λ i. cons_option (same-pair spec e i) (entry_pairs spec es)
-      go false more = ap (cons_option (entry_pair spec e)) more
-
-  same-range : (spec : Option IndexSpec) (p : Soup) (u : ℕ) → range_of spec p.entries ≡ range_of spec (change_entry u change p).entries
-  same-range spec p u = λ i. record { spec = spec; pairs = sorted_by (pair_cmp (parts_of spec)) (same-pairs (parts_of spec) (λ e. e.uid == u) p.entries i) }
-
-  same-ranges : (spec : Option IndexSpec) (p : Soup) (u : ℕ) → range_of_soup spec p ≡ range_of_soup spec (change_entry u change p)
-  same-ranges None p u = ap Some (same-range None p u)
-  same-ranges (Some spec) p u = λ i. option_map (λ d. same-range (Some d) p u i) (find (same_spec spec) p.specs)
-
-  -- each range of a store is that of the store with an entry patched
-  pub patched_range : (sig : ℕ) (spec : Option IndexSpec) (s : Store) (name : List ℕ) (u : ℕ) → range_in sig spec s ≡ range_in sig spec (change_soup name (change_entry u change) s)
-  patched_range sig spec s name u =
-      found-seen (option_and_then (range_of_soup spec)) (λ p. p.sig == sig) (λ p. equal_text p.name name) (change_entry u change) s.soups (λ p. refl) (λ p. same-ranges spec p u)

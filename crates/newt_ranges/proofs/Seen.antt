@@ -1,7 +1,7 @@
--- What is seen of an entry's graph without the bytes of its large binaries: the values at its paths, its keys, its tags and its strings.
-use Rattle.std.proofs.Common.{◌≡◌, ℕ, zero, suc, ◌&&◌, List, [], ◌∷◌, map, filter, filter_map, Option, Some, None, option_and_then, refl, sym, ◌∙◌, ap}
+-- What is seen of an entry's graph without the bytes of its large binaries: the values at its paths, and its keys.
+use Rattle.std.proofs.Common.{◌≡◌, ℕ, zero, suc, List, [], ◌∷◌, map, Option, Some, None, option_and_then, refl, sym, ◌∙◌, ap}
 use Rattle.std.specs.Prelude.{slice_get}
-use Rattle.std.specs.List.{list_all, list_any, position, cons_option}
+use Rattle.std.specs.List.{position}
 use Rattle.newt_graph.specs.declared.node.Ref.{Ref}
 use Rattle.newt_graph.specs.declared.node.Ref.TheVariants.{Imm, Node as At}
 use Rattle.newt_graph.specs.declared.node.Node.{Node}
@@ -11,13 +11,8 @@ use Rattle.newt_spec_graph.specs.Graph.{change_nth, object}
 use Rattle.newt_spec_graph.specs.Slots.{is_named, slot_number, slot_value, value_below, value_at}
 use Rattle.newt_spec_store.specs.declared.Kind.{Kind}
 use Rattle.newt_spec_store.specs.declared.Kind.TheVariants as kind
-use Rattle.newt_spec_store.specs.Keys.{IndexSpec, object_part, part_of, if_first_is_there, key, folded}
-use Rattle.newt_spec_store.specs.Store.{TagTable}
+use Rattle.newt_spec_store.specs.Keys.{IndexSpec, object_part, part_of, if_first_is_there, key}
 use Rattle.newt_spec_store.specs.StoreOf.{with_bytes, fill}
-use Rattle.newt_spec_query.specs.Spec.{Spec}
-use Rattle.newt_spec_query.specs.Tags.{symbol_name, symbols_at, is_among, tags_of, tags_pass}
-use Rattle.newt_spec_query.specs.Hits.{strings, passes}
-use Rattle.newt_spec_query.specs.Words.{has_text, has_word}
 use Rattle.newt_laws_images.proofs.Both.{Both}
 use Rattle.newt_laws_images.proofs.Skeletons.{Like}
 
@@ -54,12 +49,6 @@ both-seen see blind [] (y ∷ ys) both k = absurd both
 both-seen see blind (x ∷ xs) [] both k = absurd both
 both-seen see blind (x ∷ xs) (y ∷ ys) both zero = like-node (λ z. see (Some z)) blind x y both.0
 both-seen see blind (x ∷ xs) (y ∷ ys) both (suc k) = both-seen see blind xs ys both.1 k
-
-both-filtered : {Y : Type 0} (f : Node → Option Y) → IsBlind f → (xs ys : List Node) → Both Like xs ys → filter_map f xs ≡ filter_map f ys
-both-filtered f blind [] [] both = refl
-both-filtered f blind [] (y ∷ ys) both = absurd both
-both-filtered f blind (x ∷ xs) [] both = absurd both
-both-filtered f blind (x ∷ xs) (y ∷ ys) both = λ i. cons_option (like-node f blind x y both.0 i) (both-filtered f blind xs ys both.1 i)
 
 like-nodes : (xs : List Node) → Both Like xs xs
 like-nodes [] = tt
@@ -136,45 +125,3 @@ module _ (g h : RawGraph) (like : AreLike g h) where
   -- it has the same key
   pub like-key : (spec : IndexSpec) → key g spec ≡ key h spec
   like-key spec = ap if_first_is_there (same-parts spec)
-
-  -- ---- tags
-
-  same-name : (r : Ref) → symbol_name g.nodes r ≡ symbol_name h.nodes r
-  same-name r = seen-at (λ o. elim o [ Some (Symbol name) ↦ Some name | _ ↦ None ]) (λ c a b. refl) r
-
-  same-names : (values : List Ref) → filter_map (symbol_name g.nodes) values ≡ filter_map (symbol_name h.nodes) values
-  same-names values = λ i. filter_map (λ r. same-name r i) values
-
-  abbrev symbols-seen : List Node → Option Node → List (List ℕ)
-  symbols-seen nodes o = elim o [
-    | Some (Symbol name) ↦ name ∷ []
-    | Some (Array _ values) ↦ filter_map (symbol_name nodes) values
-    | _ ↦ []
-  ]
-
-  same-seen : (o : Option Node) → symbols-seen g.nodes o ≡ symbols-seen h.nodes o
-  same-seen None = refl
-  same-seen (Some (Symbol s)) = refl
-  same-seen (Some (Str s)) = refl
-  same-seen (Some (Binary c b)) = refl
-  same-seen (Some (Large c b)) = refl
-  same-seen (Some (Array c values)) = same-names values
-  same-seen (Some (Frame t v)) = refl
-
-  same-symbols : (o : Option Ref) → symbols_at g o ≡ symbols_at h o
-  same-symbols None = refl
-  same-symbols (Some r) = same-seen (object g.nodes r) ∙ seen-at (symbols-seen h.nodes) (λ c a b. refl) r
-
-  -- it has the same tags
-  pub like-tags : (table : Option TagTable) → tags_of table g ≡ tags_of table h
-  like-tags None = refl
-  like-tags (Some t) = ap (λ names. filter (is_among names) t.symbols) (same-symbols (value_at g t.path) ∙ ap (symbols_at h) (like-value t.path))
-
-  -- it has the same strings
-  pub like-strings : strings g ≡ strings h
-  like-strings = both-filtered (λ x. elim x [ Str units ↦ Some (folded units) | _ ↦ None ]) (λ c a b. refl) g.nodes h.nodes like.nodes
-
-  -- a query takes it alike
-  pub like-passes : (q : Spec) (table : Option TagTable) → passes q table g ≡ passes q table h
-  like-passes q table = λ i. tags_pass q.tags (like-tags table i)
-      && (list_all (λ word. list_any (λ text. has_word text word q.entire) (like-strings i)) q.words && list_all (λ part. list_any (λ text. has_text text part) (like-strings i)) q.texts)

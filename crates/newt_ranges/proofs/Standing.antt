@@ -177,9 +177,6 @@ range_fewer p q graphs r paths sig specs of = record {
 abbrev pub of_sig : ℕ → Soup → Bool
 of_sig sig p = p.sig == sig
 
-abbrev row_of : ℕ → SoupRanges → Bool
-row_of sig r = r.sig == sig
-
 -- what is found for a signature on both sides
 abbrev pub AreFound : (Soup → Graphs) → List Soup → Option Soup → Option SoupRanges → Type 0
 AreFound graphs ps None None = Unit {0}

@@ -48,6 +48,7 @@ impl Indexes {
         let mut left = self.items.as_slice();
         while let [range, rest @ ..] = left {
             if carries(range, spec) {
+                // Its contract tells that the range is in order.
                 let _spec = range.spec();
                 return Some(range);
             }

@@ -44,6 +44,7 @@ impl SoupRanges {
         match spec {
             Some(spec) => self.indexes.find(spec),
             None => {
+                // Its contract tells that the range is in order.
                 let _spec = self.all.spec();
                 Some(&self.all)
             }

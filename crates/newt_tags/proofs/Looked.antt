@@ -82,9 +82,3 @@ symbols_neither nodes r e is = sym (symbols_other nodes r None e is)
 -- the names so far before those of what is left
 abbrev pub before : {Y : Type 0} → List Y → Option (List Y) → Option (List Y)
 before items o = option_map (λ others. items ++ others) o
-
--- ---- the symbols of a node
-
-pub or_false : (b : Bool) → (b || false) ≡ b
-or_false true = refl
-or_false false = refl

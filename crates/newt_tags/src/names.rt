@@ -21,18 +21,21 @@ impl Model for Names {
 }
 
 impl Names {
+    /// The list of these names.
     pub fn of(items: Vec<Bytes>) -> Self
         ensures { result ≡ items.items }
     {
         Names { items }
     }
 
+    /// The names in order.
     pub fn list(&self) -> &[Bytes]
         ensures { result.now ≡ self.now }
     {
         self.items.as_slice()
     }
 
+    /// The names themselves.
     pub fn into_items(self) -> Vec<Bytes>
         ensures { result.items ≡ self }
     {

@@ -1,4 +1,4 @@
-//! Slots of a frame that says something.
+//! The slots of a frame whose values are not nil.
 ghost use Rattle.std.specs.Prelude.{◌≡◌, ◌||◌, map, option_map, zip};
 ghost use Rattle.std.specs.List.{list_all, list_any};
 ghost use Rattle.newt_base.specs.Names.{same_name};

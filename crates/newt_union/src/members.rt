@@ -15,7 +15,8 @@ use newt_keys::Key;
 use std::alloc::{AllocError, Global};
 use std::marker::Model;
 
-/// The soups of a union. Their declarations agree in types and orders, which is all that the order of keys looks at; otherwise no search says anything.
+/// The soups of a union. Their declarations agree in types and orders, which is all that the order of keys looks at;
+/// where they do not, nothing is promised of what a search answers.
 #[derive(Drop)]
 pub struct Members<'a> {
     alloc: Global,
@@ -50,6 +51,7 @@ impl<'a> Members<'a> {
         ensures ok { IfOk result (λ _. self.new ≡ self.old ++ record { store = store; soup = soup; range = index.now } ∷ []) }
         ensures err { IfErr result (λ _. self.new ≡ self.old) }
     {
+        // Its contract tells that the range is in order, as those of all members are.
         let _spec = index.spec();
         self.list.push(Member {
             store: store.0,
