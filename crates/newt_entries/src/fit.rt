@@ -46,6 +46,7 @@ fn are_named(nodes: &[Node], rows: &[LargeAt]) -> bool
     named.is_empty()
 }
 
+/// Whether an object may be that of a large binary: it is even and not 0, which is the directory's.
 fn may_be_large(row: &LargeAt) -> bool
     ensures { result ≡ may_be_large (row_at row.now) }
 {
@@ -59,6 +60,7 @@ fn may_be_larges(rows: &[LargeAt]) -> bool
     rows.iter().all(|row| may_be_large(row))
 }
 
+/// Whether the root of a graph is a frame.
 fn is_frame(graph: &Graph) -> bool
     ensures { result ≡ words.is_frame (words.object graph.now.nodes graph.now.root) }
 {

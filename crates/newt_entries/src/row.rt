@@ -6,7 +6,8 @@ use newt_graph::Graph;
 use std::alloc::{AllocError, Global};
 use std::marker::Model;
 
-/// A large binary in a record: the number of its node, the object that has its bytes, and how many these are.
+/// A large binary in a record: the number of its node, from 0 in the order of the graph's nodes; the object that has its bytes, even and not 0; and how many
+/// bytes these are, at most 1,000,000.
 #[derive(Clone, Copy, Debug, PartialEq, Eq)]
 pub struct LargeAt {
     pub node: u32,
@@ -39,18 +40,21 @@ impl Larges {
         }
     }
 
+    /// These large binaries.
     pub fn of(items: Vec<LargeAt>) -> Self
         ensures { result ≡ items.items }
     {
         Larges { items }
     }
 
+    /// All of them, in the order of their nodes.
     pub fn list(&self) -> &[LargeAt]
         ensures { result.now ≡ self.now }
     {
         self.items.as_slice()
     }
 
+    /// All of them, given away.
     pub fn into_vec(self) -> Vec<LargeAt>
         ensures { result.items ≡ self }
     {
@@ -67,7 +71,8 @@ impl Larges {
     }
 }
 
-/// An entry's record: the signature of its soup, its id, the minute of its last change, its graph without the bytes of large binaries, and these.
+/// An entry's record: the signature of its soup, at most 65,535; its id; the minute of its last change; its graph without the bytes of large binaries; and
+/// what is said of each large binary, at most 65,535 of them. What `read_entry` gives keeps these limits.
 #[derive(Drop)]
 pub struct EntryRow {
     pub soup: Sig,

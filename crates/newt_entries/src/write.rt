@@ -10,12 +10,14 @@ use crate::row::{EntryRow, LargeAt};
 use newt_nsof_write::encode;
 use std::alloc::{AllocError, Global};
 
+/// A number of two bytes, the first the highest.
 fn put_16(out: &mut Vec<u8>, number: u16) -> Result<(), AllocError>
     ensures { OnOk result (out.new.items ≡ out.old.items ++ be16 number) }
 {
     out.extend_from_slice(&number.to_be_bytes())
 }
 
+/// A number of four bytes, the first the highest.
 fn put_32(out: &mut Vec<u8>, number: u32) -> Result<(), AllocError>
     ensures { OnOk result (out.new.items ≡ out.old.items ++ be32 number) }
 {

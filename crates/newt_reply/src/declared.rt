@@ -1,4 +1,4 @@
-//! Declarations of indexes and tags in replies, as they were made.
+//! Declarations of indexes and tags in replies: paths and symbols as they were spelt when they were declared.
 ghost use Rattle.std.specs.Prelude.{◌≡◌, ◌∷◌, ◌++◌, IfOk, OnOk, flat_map};
 ghost use Rattle.newt_keys.specs.Seen.{declared, declared_all};
 ghost use Rattle.newt_spec_world.specs.Reply as spec;

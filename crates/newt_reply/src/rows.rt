@@ -39,12 +39,14 @@ impl Model for StoreRows {
 }
 
 impl StoreRows {
+    /// These stores.
     pub fn of(items: Vec<StoreLine>) -> Self
         ensures { result ≡ items.items }
     {
         StoreRows { items }
     }
 
+    /// All of them, by unit.
     pub fn list(&self) -> &[StoreLine]
         ensures { result.now ≡ self.now }
     {
@@ -68,12 +70,14 @@ impl Model for SoupRows {
 }
 
 impl SoupRows {
+    /// These soups.
     pub fn of(items: Vec<SoupLine>) -> Self
         ensures { result ≡ items.items }
     {
         SoupRows { items }
     }
 
+    /// All of them, in order of making.
     pub fn list(&self) -> &[SoupLine]
         ensures { result.now ≡ self.now }
     {
@@ -97,12 +101,14 @@ impl Model for SpecRows {
 }
 
 impl SpecRows {
+    /// These indexes.
     pub fn of(items: Vec<IndexSpec>) -> Self
         ensures { result ≡ items.items }
     {
         SpecRows { items }
     }
 
+    /// All of them, in order of making.
     pub fn list(&self) -> &[IndexSpec]
         ensures { result.now ≡ self.now }
     {

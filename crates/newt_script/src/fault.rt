@@ -8,7 +8,8 @@ use newt_words::WordFault;
 /// Why a line is not taken for a command.
 #[derive(Clone, Copy, PartialEq, Eq, Debug)]
 pub enum LineFault {
-    /// The first refusal of its reading that holds: 12, 10, 11, 1, 2 or 3.
+    /// The first refusal of its reading that holds: `Longline`, `Command`, `Line`, `Malformed`,
+    /// `Compressed` or `Literal`.
     Refused(Refusal),
     /// Memory was refused.
     Memory,

@@ -51,8 +51,9 @@ fn spoken(alloc: Global, line: &[u8]) -> Result<Command, LineFault>
 }
 
 /// What a line says, without the byte 10 at its end: a command, or nothing where it is blank or a
-/// `%` line. The first refusal of its reading that holds is answered in the order 12, 10, 11, 1, 2,
-/// 3. One byte 13 at the end of the line is dropped. The language of lines is this project's own.
+/// `%` line. The first refusal of its reading that holds is answered: `Longline` before `Command`,
+/// `Line`, and the fault of the graph or bytes at its end, `Malformed`, `Compressed` or `Literal`. One
+/// byte 13 at the end of the line is dropped. The language of lines is this project's own.
 pub fn line(alloc: Global, bytes: &[u8]) -> Result<Option<Command>, LineFault>
     ensures reading { result ≢ Err LineFault.Memory → result ≡ line_command bytes.now }
 {

@@ -52,7 +52,8 @@ impl Directory {
         MOST_SOUPS <= self.soups.list().len()
     }
 
-    /// A new soup at the end, with the next signature, which is the answer.
+    /// A new soup at the end, without entries, indexes and tags, with the next signature, which is the answer. That the name is new and `is_full` is false
+    /// is the caller's to see.
     #[tactic(auto, using(crate::proofs::Lists::next_fits))]
     pub fn make_soup(&mut self, name: Name) -> Result<Sig, AllocError>
         requires { IsTrue (well_formed (bare_store self.old)) }
@@ -73,7 +74,7 @@ impl Directory {
         Ok(sig)
     }
 
-    /// The soup of this signature is gone.
+    /// The soup of this signature is gone. Its signature is not given again.
     pub fn drop_soup(&mut self, sig: Sig)
         ensures { bare_store self.new ≡ without_soup sig (bare_store self.old) }
     {
@@ -127,7 +128,7 @@ impl Directory {
         self.take_small_uid(sig)
     }
 
-    /// The same, where the id is small enough.
+    /// The same, where the next id is at most 536,870,911, so that the one after it is a number of 32 bits.
     fn take_small_uid(&mut self, sig: Sig) -> Option<Uid>
         requires { IfSome (soup_of sig (bare_store self.old)) (λ p. p.next_uid ≤ 536_870_911) }
         ensures uid { result ≡ option_map (λ p. p.next_uid) (soup_of sig (bare_store self.old)) }
@@ -182,6 +183,7 @@ fn take_uid_in(rows: &mut [SoupRow], sig: Sig) -> Option<Uid>
     Some(take_next(&mut rows[at]))
 }
 
+/// One index more in a row.
 fn add_to(row: &mut SoupRow, spec: IndexSpec) -> Result<(), AllocError>
     ensures added { OnOk result (bare_soup row.new ≡ with_index spec (bare_soup row.old)) }
     ensures err { OnErr result (row.new ≡ row.old) }
@@ -200,6 +202,7 @@ fn add_spec_in(rows: &mut [SoupRow], sig: Sig, spec: IndexSpec) -> Result<(), Al
     }
 }
 
+/// The index with these paths is gone from a row.
 fn drop_of(row: &mut SoupRow, paths: &[Path])
     ensures { bare_soup row.new ≡ without_index paths.now (bare_soup row.old) }
 {
@@ -215,6 +218,7 @@ fn drop_spec_in(rows: &mut [SoupRow], sig: Sig, paths: &[Path])
     }
 }
 
+/// The tags declaration of a row is this one, or none.
 fn set_tags_of(row: &mut SoupRow, tags: Option<TagTable>)
     ensures { bare_soup row.new ≡ with_tags tags (bare_soup row.old) }
 {

@@ -1,4 +1,4 @@
-//! Declarations of indexes and tags, read from the front.
+//! Declarations of indexes and tags, read from the front of bytes. A count is a byte before what it counts; paths, symbols and counts are tested as they are met.
 ghost use Rattle.newt_spec_store.specs.Reading.{times};
 ghost use Rattle.newt_soupdir.specs.Reading.{Gives, symbol_at, path_at, kind_at, order_at, part_at, spec_at, specs_at, tag_symbols_at, table_at, tags_at};
 
@@ -16,6 +16,7 @@ use std::alloc::Global;
 /// The most names of a path.
 const MOST_NAMES: usize = 8;
 
+/// A text that is an identifier of at most 254 bytes.
 #[tactic(auto, unfolding(crate::specs::Reading::symbol_at))]
 fn symbol(alloc: Global, bytes: &[u8]) -> Result<(Bytes, &[u8]), DirFault>
     ensures { Gives (λ x. (x.0, x.1.now)) result (symbol_at bytes.now) }
@@ -27,6 +28,7 @@ fn symbol(alloc: Global, bytes: &[u8]) -> Result<(Bytes, &[u8]), DirFault>
     Ok((Bytes::of(Vec::from_slice(alloc, text)?), rest))
 }
 
+/// So many symbols.
 fn symbols(alloc: Global, count: u8, bytes: &[u8]) -> Result<(Vec<Bytes>, &[u8]), DirFault>
     ensures { Gives (λ x. (x.0.items, x.1.now)) result (times count symbol_at bytes.now) }
 {
@@ -40,6 +42,7 @@ fn symbols(alloc: Global, count: u8, bytes: &[u8]) -> Result<(Vec<Bytes>, &[u8])
     Ok((symbols, rest))
 }
 
+/// A path: 1 to 8 symbols behind their count.
 #[tactic(auto, unfolding(crate::specs::Reading::path_at))]
 fn path(alloc: Global, bytes: &[u8]) -> Result<(Path, &[u8]), DirFault>
     ensures { Gives (λ x. (x.0, x.1.now)) result (path_at bytes.now) }
@@ -52,6 +55,7 @@ fn path(alloc: Global, bytes: &[u8]) -> Result<(Path, &[u8]), DirFault>
     Ok((Path::of(names), rest))
 }
 
+/// A type, by its byte.
 #[tactic(auto, unfolding(crate::specs::Reading::kind_at))]
 fn kind(bytes: &[u8]) -> Result<(Kind, &[u8]), DirFault>
     ensures { Gives (λ x. (x.0, x.1.now)) result (kind_at bytes.now) }
@@ -66,6 +70,7 @@ fn kind(bytes: &[u8]) -> Result<(Kind, &[u8]), DirFault>
     }
 }
 
+/// A direction, by its byte.
 #[tactic(auto, unfolding(crate::specs::Reading::order_at))]
 fn order(bytes: &[u8]) -> Result<(Order, &[u8]), DirFault>
     ensures { Gives (λ x. (x.0, x.1.now)) result (order_at bytes.now) }
@@ -78,6 +83,7 @@ fn order(bytes: &[u8]) -> Result<(Order, &[u8]), DirFault>
     }
 }
 
+/// A part of an index: its type, its direction and its path.
 #[tactic(auto, unfolding(crate::specs::Reading::part_at))]
 fn part(alloc: Global, bytes: &[u8]) -> Result<(IndexPart, &[u8]), DirFault>
     ensures { Gives (λ x. (x.0, x.1.now)) result (part_at bytes.now) }
@@ -88,6 +94,7 @@ fn part(alloc: Global, bytes: &[u8]) -> Result<(IndexPart, &[u8]), DirFault>
     Ok((IndexPart { path, kind, order }, rest))
 }
 
+/// So many parts.
 fn parts(alloc: Global, count: u8, bytes: &[u8]) -> Result<(Vec<IndexPart>, &[u8]), DirFault>
     ensures { Gives (λ x. (x.0.items, x.1.now)) result (times count part_at bytes.now) }
 {
@@ -101,6 +108,7 @@ fn parts(alloc: Global, count: u8, bytes: &[u8]) -> Result<(Vec<IndexPart>, &[u8
     Ok((parts, rest))
 }
 
+/// An index: 1 to 4 parts behind their count.
 #[tactic(auto, unfolding(crate::specs::Reading::spec_at))]
 fn spec(alloc: Global, bytes: &[u8]) -> Result<(IndexSpec, &[u8]), DirFault>
     ensures { Gives (λ x. (x.0, x.1.now)) result (spec_at bytes.now) }
@@ -113,6 +121,7 @@ fn spec(alloc: Global, bytes: &[u8]) -> Result<(IndexSpec, &[u8]), DirFault>
     Ok((IndexSpec::new(parts), rest))
 }
 
+/// So many indexes.
 fn some_specs(alloc: Global, count: u8, bytes: &[u8]) -> Result<(Vec<IndexSpec>, &[u8]), DirFault>
     ensures { Gives (λ x. (x.0.items, x.1.now)) result (times count spec_at bytes.now) }
 {
@@ -126,7 +135,7 @@ fn some_specs(alloc: Global, count: u8, bytes: &[u8]) -> Result<(Vec<IndexSpec>,
     Ok((specs, rest))
 }
 
-/// The indexes of a soup.
+/// The indexes of a soup, behind their count. That they are at most 16 with paths of their own is tested with the whole directory.
 #[tactic(auto, unfolding(crate::specs::Reading::specs_at))]
 pub(crate) fn specs(alloc: Global, bytes: &[u8]) -> Result<(Specs, &[u8]), DirFault>
     ensures { Gives (λ x. (x.0, x.1.now)) result (specs_at bytes.now) }
@@ -136,6 +145,7 @@ pub(crate) fn specs(alloc: Global, bytes: &[u8]) -> Result<(Specs, &[u8]), DirFa
     Ok((Specs::of(specs), rest))
 }
 
+/// The symbols of a tags declaration: at most 64 behind their count, no two of which are one but for ASCII case.
 #[tactic(auto, unfolding(crate::specs::Reading::tag_symbols_at))]
 fn tag_symbols(alloc: Global, bytes: &[u8]) -> Result<(Vec<Bytes>, &[u8]), DirFault>
     ensures { Gives (λ x. (x.0.items, x.1.now)) result (tag_symbols_at bytes.now) }
@@ -148,6 +158,7 @@ fn tag_symbols(alloc: Global, bytes: &[u8]) -> Result<(Vec<Bytes>, &[u8]), DirFa
     Ok((symbols, rest))
 }
 
+/// A tags declaration: its path and its symbols.
 #[tactic(auto, unfolding(crate::specs::Reading::table_at))]
 fn table(alloc: Global, bytes: &[u8]) -> Result<(TagTable, &[u8]), DirFault>
     ensures { Gives (λ x. (x.0, x.1.now)) result (table_at bytes.now) }
@@ -157,7 +168,7 @@ fn table(alloc: Global, bytes: &[u8]) -> Result<(TagTable, &[u8]), DirFault>
     Ok((TagTable::new(path, symbols), rest))
 }
 
-/// The tags declaration of a soup.
+/// The tags declaration of a soup: the byte 0 for none, or 1 and the declaration.
 #[tactic(auto, unfolding(crate::specs::Reading::tags_at))]
 pub(crate) fn tags(alloc: Global, bytes: &[u8]) -> Result<(Option<TagTable>, &[u8]), DirFault>
     ensures { Gives (λ x. (x.0, x.1.now)) result (tags_at bytes.now) }

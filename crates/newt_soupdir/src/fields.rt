@@ -1,10 +1,11 @@
-//! Numbers, texts and names, read from the front.
+//! Numbers, texts and names, read from the front of bytes: each function gives the value and the bytes behind it, and is `Bad` where there are too few.
 ghost use Rattle.newt_soupdir.specs.Reading.{Gives, byte_at, number16_at, number32_at, text_at, name_at};
 
 use crate::fault::DirFault;
 use newt_base::{Name, NameFault, be16, be32};
 use std::alloc::Global;
 
+/// A number of one byte.
 #[tactic(auto, using(crate::proofs::Numbers::byte_is, crate::proofs::Numbers::byte_none))]
 pub(crate) fn byte(bytes: &[u8]) -> Result<(u8, &[u8]), DirFault>
     ensures { Gives (λ x. (x.0, x.1.now)) result (byte_at bytes.now) }
@@ -15,6 +16,7 @@ pub(crate) fn byte(bytes: &[u8]) -> Result<(u8, &[u8]), DirFault>
     Ok((bytes[0], &bytes[1..]))
 }
 
+/// A number of two bytes, the first the highest.
 #[tactic(auto, using(crate::proofs::Numbers::number16_is, crate::proofs::Numbers::number16_none))]
 pub(crate) fn number16(bytes: &[u8]) -> Result<(u16, &[u8]), DirFault>
     ensures { Gives (λ x. (x.0, x.1.now)) result (number16_at bytes.now) }
@@ -25,6 +27,7 @@ pub(crate) fn number16(bytes: &[u8]) -> Result<(u16, &[u8]), DirFault>
     Ok((be16(bytes, 0), &bytes[2..]))
 }
 
+/// A number of four bytes, the first the highest.
 #[tactic(auto, using(crate::proofs::Numbers::number32_is, crate::proofs::Numbers::number32_none))]
 pub(crate) fn number32(bytes: &[u8]) -> Result<(u32, &[u8]), DirFault>
     ensures { Gives (λ x. (x.0, x.1.now)) result (number32_at bytes.now) }
@@ -35,6 +38,7 @@ pub(crate) fn number32(bytes: &[u8]) -> Result<(u32, &[u8]), DirFault>
     Ok((be32(bytes, 0), &bytes[4..]))
 }
 
+/// A text: a byte that says its length, and as many bytes.
 #[tactic(auto, unfolding(crate::specs::Reading::text_at))]
 pub(crate) fn text(bytes: &[u8]) -> Result<(&[u8], &[u8]), DirFault>
     ensures { Gives (λ x. (x.0.now, x.1.now)) result (text_at bytes.now) }
@@ -47,6 +51,7 @@ pub(crate) fn text(bytes: &[u8]) -> Result<(&[u8], &[u8]), DirFault>
     Ok(rest.split_at(len))
 }
 
+/// A text that is a name of a store or soup.
 #[tactic(auto, unfolding(crate::specs::Reading::name_at))]
 pub(crate) fn name(alloc: Global, bytes: &[u8]) -> Result<(Name, &[u8]), DirFault>
     ensures { Gives (λ x. (x.0, x.1.now)) result (name_at bytes.now) }

@@ -1,4 +1,4 @@
-//! Whether rows make a well formed store.
+//! Whether rows make a well formed store: the tests that are left to the whole directory. The forms of names, paths and symbols are kept by their types.
 ghost use Rattle.std.specs.Prelude.{◌≡◌, ◌&&◌, length, map, nat_le};
 ghost use Rattle.std.specs.List.{list_all, list_any};
 ghost use Rattle.newt_base.specs.Names.{equal_text, is_name};
@@ -59,6 +59,7 @@ impl Directory {
     }
 }
 
+/// Whether the signatures of soups rise and are below the next one.
 fn rise(next: u32, soups: &[SoupRow]) -> bool
     ensures { result ≡ rises 0 next (map (λ p. p.sig) (map bare_soup soups.now)) }
 {
@@ -74,6 +75,7 @@ fn rise(next: u32, soups: &[SoupRow]) -> bool
     true
 }
 
+/// Whether one of these soups has this name. Case counts.
 fn has_name(name: &[u8], soups: &[SoupRow]) -> bool
     ensures { result ≡ list_any (equal_text name.now) (map (λ p. p.name) (map bare_soup soups.now)) }
 {
@@ -87,6 +89,7 @@ fn has_name(name: &[u8], soups: &[SoupRow]) -> bool
     false
 }
 
+/// Whether no two soups have one name.
 fn are_apart(soups: &[SoupRow]) -> bool
     ensures { result ≡ all_apart equal_text (map (λ p. p.name) (map bare_soup soups.now)) }
 {
@@ -100,6 +103,7 @@ fn are_apart(soups: &[SoupRow]) -> bool
     true
 }
 
+/// Whether a soup's next entry id, indexes and tags are within their limits.
 fn is_valid(row: &SoupRow) -> bool
     ensures { result ≡ valid_soup (bare_soup row.now) }
 {
@@ -111,22 +115,24 @@ fn is_valid(row: &SoupRow) -> bool
 fn are_valid_specs(specs: &[IndexSpec]) -> bool
     ensures { result ≡ (nat_le (length specs.now) 16 && list_all valid_spec specs.now && all_apart same_paths (map paths_of specs.now)) }
 {
-    specs.len() <= MOST_SPECS && are_few_parts(specs) && have_paths_apart(specs)
+    specs.len() <= MOST_SPECS && have_few_parts(specs) && have_paths_apart(specs)
 }
 
-fn are_few_parts(specs: &[IndexSpec]) -> bool
+/// Whether each declaration has at most 4 parts.
+fn have_few_parts(specs: &[IndexSpec]) -> bool
     ensures { result ≡ list_all valid_spec specs.now }
 {
-    specs.iter().all(is_few_parts)
+    specs.iter().all(has_few_parts)
 }
 
-/// The rest of the form of a declaration is kept by its type.
-fn is_few_parts(spec: &IndexSpec) -> bool
+/// Whether a declaration has at most 4 parts; the rest of its form is kept by its type.
+fn has_few_parts(spec: &IndexSpec) -> bool
     ensures { result ≡ valid_spec spec.now }
 {
     spec.list().len() <= MOST_PARTS
 }
 
+/// Whether no two indexes have the same paths, in one order and but for ASCII case.
 fn have_paths_apart(specs: &[IndexSpec]) -> bool
     ensures { result ≡ all_apart same_paths (map paths_of specs.now) }
 {
@@ -140,6 +146,7 @@ fn have_paths_apart(specs: &[IndexSpec]) -> bool
     true
 }
 
+/// Whether one of these indexes has the paths of this one.
 fn has_paths_of(spec: &IndexSpec, specs: &[IndexSpec]) -> bool
     ensures { result ≡ list_any (same_paths (paths_of spec.now)) (map paths_of specs.now) }
 {
@@ -153,7 +160,7 @@ fn has_paths_of(spec: &IndexSpec, specs: &[IndexSpec]) -> bool
     false
 }
 
-/// The rest of the form of a declaration is kept by its type.
+/// Whether a tags declaration has at most 64 symbols; the rest of its form is kept by its type.
 fn is_valid_tags(tags: &Option<TagTable>) -> bool
     ensures { result ≡ valid_tags tags.now }
 {
@@ -163,6 +170,7 @@ fn is_valid_tags(tags: &Option<TagTable>) -> bool
     }
 }
 
+/// Whether each soup is within its limits.
 fn are_valid(soups: &[SoupRow]) -> bool
     ensures { result ≡ list_all valid_soup (map bare_soup soups.now) }
 {

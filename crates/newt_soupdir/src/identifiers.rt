@@ -1,4 +1,4 @@
-//! Symbols of paths and tags.
+//! Symbols of paths and tags: their form, and whether they are distinct.
 ghost use Rattle.std.specs.Prelude.{◌≡◌, ◌||◌};
 ghost use Rattle.std.specs.Char.{is_ascii_digit};
 ghost use Rattle.std.specs.List.{list_all, list_any};
@@ -18,6 +18,7 @@ pub(crate) fn is_symbol(text: &[u8]) -> bool
     is_identifier(text) && text.len() <= MOST_BYTES
 }
 
+/// Whether a text is a letter or `_`, and then letters, digits and `_`.
 fn is_identifier(text: &[u8]) -> bool
     ensures { result ≡ is_identifier text.now }
 {
@@ -27,12 +28,14 @@ fn is_identifier(text: &[u8]) -> bool
     }
 }
 
+/// Whether a byte is a letter of ASCII or `_`.
 fn starts_identifier(byte: u8) -> bool
     ensures { result ≡ starts_identifier byte }
 {
     byte.is_ascii_alphabetic() || byte == b'_'
 }
 
+/// Whether all bytes are letters, digits and `_`.
 fn all_continue(bytes: &[u8]) -> bool
     ensures { result ≡ list_all (λ b. starts_identifier b || is_ascii_digit b) bytes.now }
 {
@@ -55,6 +58,7 @@ pub(crate) fn are_symbols_apart(symbols: &[Bytes]) -> bool
     true
 }
 
+/// Whether a symbol is one of these but for ASCII case.
 fn is_among(symbol: &[u8], symbols: &[Bytes]) -> bool
     ensures { result ≡ list_any (same_name symbol.now) symbols.now }
 {

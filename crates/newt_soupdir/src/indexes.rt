@@ -34,18 +34,21 @@ impl Specs {
         }
     }
 
+    /// These indexes.
     pub fn of(items: Vec<IndexSpec>) -> Self
         ensures { result ≡ items.items }
     {
         Specs { items }
     }
 
+    /// All of them, in the order in which they were declared.
     pub fn list(&self) -> &[IndexSpec]
         ensures { result.now ≡ self.now }
     {
         self.items.as_slice()
     }
 
+    /// All of them, given away.
     pub fn into_vec(self) -> Vec<IndexSpec>
         ensures { result.items ≡ self }
     {
@@ -63,7 +66,7 @@ impl Specs {
         Ok(Specs { items })
     }
 
-    /// One index more, behind the others.
+    /// One index more, behind the others. Whether one with the same paths is there, or 16 are, is not looked at.
     pub fn add(&mut self, spec: IndexSpec) -> Result<(), AllocError>
         ensures added { OnOk result (self.new ≡ self.old ++ spec ∷ []) }
         ensures err { OnErr result (self.new ≡ self.old) }

@@ -1,4 +1,5 @@
-//! Reading a directory.
+//! Reading a directory: its bytes from the front, field by field, in the layout of docs/FORMATS.md. What is left behind the last field, and rows that
+//! make no well formed store, are refused at the end.
 ghost use Rattle.std.specs.Prelude.{◌≡◌, Some, None, IfOk, IsErrOf};
 ghost use Rattle.newt_spec_store.specs.Reading.{times};
 ghost use Rattle.newt_spec_store.specs.Lies.{directory_read};
@@ -12,6 +13,7 @@ use crate::rows::{Directory, SoupRow, Soups};
 use newt_base::Sig;
 use std::alloc::Global;
 
+/// A soup: its name, two bytes of its signature, four of its next entry id, its indexes and its tags.
 #[tactic(auto, unfolding(crate::specs::Reading::soup_at))]
 fn soup(alloc: Global, bytes: &[u8]) -> Result<(SoupRow, &[u8]), DirFault>
     ensures { Gives (λ x. (x.0, x.1.now)) result (soup_at bytes.now) }
@@ -34,6 +36,7 @@ fn soup(alloc: Global, bytes: &[u8]) -> Result<(SoupRow, &[u8]), DirFault>
     ))
 }
 
+/// So many soups.
 fn some_soups(alloc: Global, count: u8, bytes: &[u8]) -> Result<(Vec<SoupRow>, &[u8]), DirFault>
     ensures { Gives (λ x. (x.0.items, x.1.now)) result (times count soup_at bytes.now) }
 {
@@ -47,6 +50,7 @@ fn some_soups(alloc: Global, count: u8, bytes: &[u8]) -> Result<(Vec<SoupRow>, &
     Ok((soups, rest))
 }
 
+/// A byte that says how many, and as many soups.
 #[tactic(auto, unfolding(crate::specs::Reading::soups_at))]
 fn soups(alloc: Global, bytes: &[u8]) -> Result<(Soups, &[u8]), DirFault>
     ensures { Gives (λ x. (x.0, x.1.now)) result (soups_at bytes.now) }
@@ -56,6 +60,7 @@ fn soups(alloc: Global, bytes: &[u8]) -> Result<(Soups, &[u8]), DirFault>
     Ok((Soups::of(soups), rest))
 }
 
+/// The store's name, four bytes of its signature, two of the next soup's signature, and the soups.
 #[tactic(auto, unfolding(crate::specs::Reading::rows_at))]
 fn rows(alloc: Global, bytes: &[u8]) -> Result<(Directory, &[u8]), DirFault>
     ensures { Gives (λ x. (x.0, x.1.now)) result (rows_at bytes.now) }
@@ -76,6 +81,7 @@ fn rows(alloc: Global, bytes: &[u8]) -> Result<(Directory, &[u8]), DirFault>
     ))
 }
 
+/// The rows that all of the bytes are, where they make a well formed store.
 #[tactic(auto, unfolding(crate::specs::Reading::directory_at))]
 fn whole(alloc: Global, bytes: &[u8]) -> Result<Directory, DirFault>
     ensures { Gives (λ d. d) result (directory_at bytes.now) }
@@ -87,7 +93,7 @@ fn whole(alloc: Global, bytes: &[u8]) -> Result<Directory, DirFault>
     Ok(directory)
 }
 
-/// The directory that all of the bytes are read as.
+/// The directory that all of the bytes are read as. `Bad` comes only where they are none: also where a name, a path or a limit has not its form.
 pub fn read_directory(alloc: Global, bytes: &[u8]) -> Result<Directory, DirFault>
     ensures found { IfOk result (λ d. directory_read bytes.now ≡ Some (bare_store d)) }
     ensures bad { IsErrOf result DirFault.Bad → directory_read bytes.now ≡ None }

@@ -7,7 +7,8 @@ use newt_tags::TagTable;
 use std::alloc::AllocError;
 use std::marker::Model;
 
-/// A soup: its name, its signature, the id of its next entry, its indexes, and its tags declaration.
+/// A soup without its entries: its name, its signature, below the store's next one; the id of its next entry, at most 536,870,911; its indexes; and its
+/// tags declaration, or none. A row by itself may pass these limits: `Directory::is_well_formed` tests them.
 #[derive(Drop)]
 pub struct SoupRow {
     pub name: Name,
@@ -58,18 +59,21 @@ impl Model for Soups {
 }
 
 impl Soups {
+    /// These soups.
     pub fn of(items: Vec<SoupRow>) -> Self
         ensures { result ≡ items.items }
     {
         Soups { items }
     }
 
+    /// All of them, in order of making.
     pub fn list(&self) -> &[SoupRow]
         ensures { result.now ≡ self.now }
     {
         self.items.as_slice()
     }
 
+    /// All of them, given away.
     pub fn into_vec(self) -> Vec<SoupRow>
         ensures { result.items ≡ self }
     {
@@ -88,7 +92,8 @@ impl Soups {
     }
 }
 
-/// The directory of a store: its name, its signature, the signature of the next soup, and the soups.
+/// The directory of a store: its name; its signature, at most 536,870,911; the signature of the next soup, at most 65,535; and at most 64 soups. As long as
+/// it is built of its fields nothing of this is sure: `is_well_formed` tests it, and what `read_directory` gives has it.
 #[derive(Drop)]
 pub struct Directory {
     pub name: Name,

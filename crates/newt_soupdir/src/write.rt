@@ -1,4 +1,4 @@
-//! Writing a directory.
+//! Writing a directory: what `read` reads, field by field, behind the bytes that are there.
 ghost use Rattle.std.specs.Prelude.{◌≡◌, ◌<◌, ◌^◌, ◌++◌, length, map, All, OnOk, IfOk, IsTrue, Some};
 ghost use Rattle.newt_base.specs.Text.{be16, be32};
 ghost use Rattle.newt_spec_store.specs.Cost.{text_bytes, path_bytes, kind_byte, direction_byte, part_bytes, tags_bytes, soup_bytes, directory_bytes, counted};
@@ -13,18 +13,21 @@ use newt_path::Path;
 use newt_tags::TagTable;
 use std::alloc::{AllocError, Global};
 
+/// A number of two bytes, the first the highest.
 fn put_16(out: &mut Vec<u8>, number: u16) -> Result<(), AllocError>
     ensures { OnOk result (out.new.items ≡ out.old.items ++ be16 number) }
 {
     out.extend_from_slice(&number.to_be_bytes())
 }
 
+/// A number of four bytes, the first the highest.
 fn put_32(out: &mut Vec<u8>, number: u32) -> Result<(), AllocError>
     ensures { OnOk result (out.new.items ≡ out.old.items ++ be32 number) }
 {
     out.extend_from_slice(&number.to_be_bytes())
 }
 
+/// A text behind a byte that says its length.
 fn put_text(out: &mut Vec<u8>, text: &[u8]) -> Result<(), AllocError>
     requires { length text.now < 256 }
     ensures { OnOk result (out.new.items ≡ out.old.items ++ text_bytes text.now) }
@@ -34,6 +37,7 @@ fn put_text(out: &mut Vec<u8>, text: &[u8]) -> Result<(), AllocError>
     Ok(())
 }
 
+/// Texts behind their count.
 fn put_texts(out: &mut Vec<u8>, texts: &[Bytes]) -> Result<(), AllocError>
     requires few { length texts.now < 256 }
     requires short { All (λ text. length text < 256) texts.now }
@@ -46,12 +50,14 @@ fn put_texts(out: &mut Vec<u8>, texts: &[Bytes]) -> Result<(), AllocError>
     Ok(())
 }
 
+/// A path: its names behind their count.
 fn put_path(out: &mut Vec<u8>, path: &Path) -> Result<(), AllocError>
     ensures { OnOk result (out.new.items ≡ out.old.items ++ path_bytes path.now) }
 {
     put_texts(out, path.list())
 }
 
+/// The byte of a type.
 fn kind_byte(kind: Kind) -> u8
     ensures { result ≡ kind_byte kind }
 {
@@ -63,6 +69,7 @@ fn kind_byte(kind: Kind) -> u8
     }
 }
 
+/// The byte of a direction.
 fn order_byte(order: Order) -> u8
     ensures { result ≡ direction_byte order }
 {
@@ -72,6 +79,7 @@ fn order_byte(order: Order) -> u8
     }
 }
 
+/// A part of an index: its type, its direction and its path.
 fn put_part(out: &mut Vec<u8>, part: &IndexPart) -> Result<(), AllocError>
     ensures { OnOk result (out.new.items ≡ out.old.items ++ part_bytes (declared part.now)) }
 {
@@ -80,6 +88,7 @@ fn put_part(out: &mut Vec<u8>, part: &IndexPart) -> Result<(), AllocError>
     put_path(out, &part.path)
 }
 
+/// An index: its parts behind their count.
 #[tactic(auto, using(crate::proofs::Spelled::parts_few))]
 fn put_spec(out: &mut Vec<u8>, spec: &IndexSpec) -> Result<(), AllocError>
     ensures { OnOk result (out.new.items ≡ out.old.items ++ counted part_bytes spec.now) }
@@ -92,6 +101,7 @@ fn put_spec(out: &mut Vec<u8>, spec: &IndexSpec) -> Result<(), AllocError>
     Ok(())
 }
 
+/// Indexes behind their count.
 fn put_specs(out: &mut Vec<u8>, specs: &[IndexSpec]) -> Result<(), AllocError>
     requires { length specs.now < 256 }
     ensures { OnOk result (out.new.items ≡ out.old.items ++ counted (counted part_bytes) specs.now) }
@@ -103,6 +113,7 @@ fn put_specs(out: &mut Vec<u8>, specs: &[IndexSpec]) -> Result<(), AllocError>
     Ok(())
 }
 
+/// A tags declaration behind the byte 1: its path and its symbols.
 fn put_table(out: &mut Vec<u8>, table: &TagTable) -> Result<(), AllocError>
     ensures { OnOk result (out.new.items ≡ out.old.items ++ tags_bytes (Some table.now)) }
 {
@@ -111,6 +122,7 @@ fn put_table(out: &mut Vec<u8>, table: &TagTable) -> Result<(), AllocError>
     put_texts(out, table.symbols())
 }
 
+/// A tags declaration, or the byte 0 for none.
 fn put_tags(out: &mut Vec<u8>, tags: &Option<TagTable>) -> Result<(), AllocError>
     ensures { OnOk result (out.new.items ≡ out.old.items ++ tags_bytes tags.now) }
 {
@@ -123,6 +135,7 @@ fn put_tags(out: &mut Vec<u8>, tags: &Option<TagTable>) -> Result<(), AllocError
     }
 }
 
+/// A soup: its name, signature, next entry id, indexes and tags.
 fn put_soup(out: &mut Vec<u8>, row: &SoupRow) -> Result<(), AllocError>
     requires sig { row.now.sig < 2 ^ 16 }
     requires few { length row.now.specs < 256 }
@@ -135,6 +148,7 @@ fn put_soup(out: &mut Vec<u8>, row: &SoupRow) -> Result<(), AllocError>
     put_tags(out, &row.tags)
 }
 
+/// Soups behind their count.
 fn put_soups(out: &mut Vec<u8>, soups: &[SoupRow]) -> Result<(), AllocError>
     requires few { length soups.now < 256 }
     requires fit { All (λ row. (row.sig < 2 ^ 16) × (length row.specs < 256)) soups.now }
@@ -147,7 +161,7 @@ fn put_soups(out: &mut Vec<u8>, soups: &[SoupRow]) -> Result<(), AllocError>
     Ok(())
 }
 
-/// The bytes of a directory.
+/// The bytes of a directory, as they stand in its object.
 #[tactic(auto, using(crate::proofs::Lists::rows_fit))]
 pub fn write_directory(alloc: Global, directory: &Directory) -> Result<Vec<u8>, AllocError>
     requires { IsTrue (well_formed (bare_store directory.now)) }

@@ -1,9 +1,10 @@
-//! Words between blanks, one after another.
+//! Words between blanks, one after another. A blank is a space or a tab.
 ghost use Rattle.std.specs.Prelude.{◌≡◌, ◌≤◌, length, reverse, not};
 ghost use Rattle.std.specs.List.{prefix_len};
 ghost use Rattle.newt_spec_script.specs.Words as spec;
 ghost use Rattle.newt_spec_script.specs.Line.{first_word};
 
+/// Whether a byte is a space or a tab.
 pub fn is_blank(byte: u8) -> bool
     ensures { result ≡ spec.is_blank byte }
 {

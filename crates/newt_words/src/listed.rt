@@ -107,7 +107,8 @@ pub fn paths_in(alloc: Global, text: &[u8]) -> Result<Paths, WordFault>
     all_paths(alloc, &words)
 }
 
-/// SYM..: one or more symbols, no two of them one but for ASCII case.
+/// SYM..: one or more symbols, no two of them one but for ASCII case. A line has fewer words than `LONGEST`, which is no limit of its own here; how many tags a
+/// soup may declare is the command's to say.
 #[tactic(auto, unfolding(crate::specs::Listed::symbols_in))]
 pub fn symbols_in(alloc: Global, text: &[u8]) -> Result<Syms, WordFault>
     ensures { result ≢ Err WordFault.Memory → result ≡ listed.symbols_in text.now }

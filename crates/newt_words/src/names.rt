@@ -12,13 +12,13 @@ use newt_base::{Name, NameFault};
 use std::alloc::Global;
 
 /// Whether a name with this byte in it stands in quotes.
-fn is_marked(byte: u8) -> bool
+fn needs_quotes(byte: u8) -> bool
     ensures { result ≡ needs_quotes byte }
 {
     byte == b' ' || byte == b'"' || byte == b'\\'
 }
 
-/// The name of these bytes.
+/// The name that these bytes are; `Form` where they are none.
 fn named(alloc: Global, bytes: &[u8]) -> Result<Name, WordFault>
     ensures read { IfOk result (λ name. (is_name bytes.now ≡ true) × (name ≡ bytes.now)) }
     ensures refused { result ≢ Err WordFault.Memory → IfErr result (λ fault. (fault ≡ WordFault.Form) × (is_name bytes.now ≡ false)) }
@@ -34,7 +34,7 @@ fn named(alloc: Global, bytes: &[u8]) -> Result<Name, WordFault>
 fn are_bare(bytes: &[u8]) -> bool
     ensures { result ≡ list_all (λ byte. not (needs_quotes byte)) bytes.now }
 {
-    bytes.iter().all(|byte| !is_marked(*byte))
+    bytes.iter().all(|byte| !needs_quotes(*byte))
 }
 
 /// The name that a word without quotes is.

@@ -35,6 +35,7 @@ fn is_symbol(text: &[u8]) -> bool
     is_identifier(text) && text.len() <= MOST_BYTES
 }
 
+/// Whether a text is a letter or `_`, and then letters, digits and `_`.
 fn is_identifier(text: &[u8]) -> bool
     ensures { result ≡ is_identifier text.now }
 {
@@ -44,12 +45,14 @@ fn is_identifier(text: &[u8]) -> bool
     }
 }
 
+/// Whether a byte is a letter of ASCII or `_`.
 fn starts_identifier(byte: u8) -> bool
     ensures { result ≡ starts_identifier byte }
 {
     byte.is_ascii_alphabetic() || byte == b'_'
 }
 
+/// Whether all bytes are letters, digits and `_`.
 fn all_continue(bytes: &[u8]) -> bool
     ensures { result ≡ list_all (λ b. starts_identifier b || is_ascii_digit b) bytes.now }
 {
@@ -93,6 +96,7 @@ fn all_in_lower_case(alloc: Global, texts: &[Bytes]) -> Result<Vec<Vec<u8>>, All
     Ok(lower)
 }
 
+/// A text in ASCII lower case.
 fn in_lower_case(alloc: Global, text: &[u8]) -> Result<Vec<u8>, AllocError>
     ensures { IfOk result (λ lower. lower.items ≡ str_to_ascii_lowercase text.now) }
 {
