@@ -52,13 +52,6 @@ programs-none n unit outside room = go (outside.programmed unit) n
     go : (k n : ℕ) → k ≤ k + n
     go k n = omega arith
 
--- what programs no bytes
-pub no-programs : (unit fetches : ℕ) (old new : Outside) → Spends unit 0 fetches old new → new.programmed unit ≤ old.programmed unit
-no-programs unit fetches old new spends = go (new.programmed unit) (old.programmed unit) spends.programmed
-  where
-    go : (n k : ℕ) → n ≤ k + 0 → n ≤ k
-    go n k h = omega (arith, h)
-
 pub make-bound : (blocks now : ℕ) (name : List ℕ) (s : Plain) → most_bytes (change.MakeSoup name) blocks now s ≡ unless (make_tests blocks name s) (change_bytes s (make_soup name s) [] [])
 make-bound blocks now name s = bound-is (change.MakeSoup name) blocks now s (make_soup name s) (make_tests blocks name s) [] [] refl refl refl refl refl
 

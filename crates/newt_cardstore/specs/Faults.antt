@@ -16,6 +16,7 @@ abbrev pub HasStopCause : Stop → Outside → Outside → Type 0
 HasStopCause stops.Memory old new = Unit {0}
 HasStopCause (stops.Device unit) old new = Rose (old.dev_faults unit) (new.dev_faults unit)
 
+-- a refusal has no device to blame; an end of the run has its cause
 abbrev pub HasFaultCause : Fault → Outside → Outside → Type 0
 HasFaultCause (Refused refusal) old new = Unit {0}
 HasFaultCause (Ends stop) old new = HasStopCause stop old new

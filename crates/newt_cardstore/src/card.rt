@@ -36,8 +36,8 @@ pub struct Entry {
     pub graph: Graph,
 }
 
-/// A store on the card of one unit. It stands for the plain store that the unit's image is read as; soups are named by their signatures. After a
-/// fault that ends the run it is spent.
+/// A store on the card of one unit. It stands for the plain store that the unit's image is read as; soups are named by their signatures. A change is
+/// refused by the first of its tests that holds, and then nothing has happened. After a fault that ends the run the card is spent.
 pub trait Card: Sized + Drop {
     /// The store that an image is read as.
     ghost reads: { List ℕ → Option Plain };
@@ -311,7 +311,7 @@ pub trait Card: Sized + Drop {
         ensures same { (place self.new ≡ place self.old) × (soups self.new ≡ soups self.old) }
         ensures found { IsTrue H.told → (s : Plain) → reads (image (place self.old) (H.outside host.old).now) ≡ Some s → IfOk result (λ found. entry_said found ≡ entry_at soup uid s) }
         ensures moment { (H.outside host.new).now ≡ (H.outside host.old).now }
-        ensures programs_nothing { IsTrue H.told → (H.outside host.new).programmed (place self.old) ≤ (H.outside host.old).programmed (place self.old) }
+        ensures programs_nothing { (H.outside host.new).programmed (place self.old) ≤ (H.outside host.old).programmed (place self.old) }
         ensures alone { Touches (place self.old) (H.outside host.old) (H.outside host.new) }
         ensures cause { IfErr result (StopsAt (place self.old) (H.outside host.old) (H.outside host.new)) };
 
@@ -331,7 +331,7 @@ pub trait Card: Sized + Drop {
     fn soup_name(&self, soup: Sig) -> Option<&Name>
         ensures { option_map (λ name. name.now) result ≡ option_map (λ p. p.name) (soup_of soup (soups self.now)) };
 
-    /// The soup at a place, in order of making.
+    /// The soup at a place, counted from 0 in order of making.
     fn soup_at(&self, at: usize) -> Option<(&Name, Sig)>
         ensures { option_map {U = List ℕ × ℕ} (λ found. (found.0.now, found.1)) result ≡ option_map (λ p. (p.name, p.sig)) (slice_get (soups self.now).soups at) };
 
@@ -339,7 +339,7 @@ pub trait Card: Sized + Drop {
     fn specs(&self, soup: Sig) -> Option<&[IndexSpec]>
         ensures { option_map (λ specs. specs.now) result ≡ option_map (λ p. p.specs) (soup_of soup (soups self.now)) };
 
-    /// The tags declaration of a soup, if it has one.
+    /// The tags declaration of a soup; none where the soup has none or is not there.
     fn tags(&self, soup: Sig) -> Option<&TagTable>
         ensures { option_map (λ tags. tags.now) result ≡ option_and_then (λ p. p.tags) (soup_of soup (soups self.now)) };
 
@@ -350,7 +350,7 @@ pub trait Card: Sized + Drop {
         ensures stands { (outside : Outside) (s : Plain) → stands true self.now outside → reads (image (place self.now) outside.now) ≡ Some s →
             option_map (λ v. v.now) result ≡ range_in soup (option_map (λ s. s.now) spec.entry) s };
 
-    /// How many entries a soup has.
+    /// How many entries a soup has, 0 where it is not there.
     fn count(&self, soup: Sig) -> u32
         ensures { (outside : Outside) (s : Plain) → stands true self.now outside → reads (image (place self.now) outside.now) ≡ Some s → result ≡ count_in (soup_of soup s) };
 

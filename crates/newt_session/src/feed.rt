@@ -17,7 +17,7 @@ use newt_host::Host;
 use std::alloc::Global;
 
 /// The first line that ends in a text, without its end, and what follows it.
-fn first_line(text: &[u8]) -> Option<(&[u8], &[u8])>
+pub fn first_line(text: &[u8]) -> Option<(&[u8], &[u8])>
     ensures { MatchOption result (HasNoEnd text.now) (λ found. BeginsWith text.now found.0.now found.1.now) }
 {
     let end = memchr(b'\n', text)?;

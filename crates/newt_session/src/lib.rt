@@ -14,7 +14,8 @@ mod pieces;
 mod turn;
 mod write;
 
-pub use halt::Halt;
+pub use feed::first_line;
+pub use halt::{Halt, halted_by};
 pub use interpreter::Interpreter;
 pub use named::run_named;
 pub use pieces::{piece_buffer, read_piece};

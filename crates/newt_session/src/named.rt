@@ -17,7 +17,8 @@ use newt_attach::attach_names;
 use newt_host::Host;
 use std::alloc::Global;
 
-/// Attaches the devices of the names, each to the unit of its place, and answers a script over them.
+/// Attaches the devices of the names, each to the unit of its place, and answers the script of the input over them. It is halted where more than `limit` bytes
+/// come before the end of the input and no line that quits ended within the first `limit`.
 pub fn run_named<H: Host, I: Interpreter>(
     alloc: Global,
     host: &mut H,

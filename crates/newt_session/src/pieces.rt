@@ -16,10 +16,11 @@ use crate::turn::turn;
 use newt_host::Host;
 use std::alloc::{AllocError, Global};
 
-/// The bytes that are read at once.
+/// The most bytes that are read at once.
 const PIECE: usize = 65536;
 
-/// Moves the next bytes of the input to the front of the buffer, at most so many.
+/// Moves the next bytes of the input to the front of the buffer, at most so many, and answers how many: none only at the end of the input,
+/// or where none are asked for.
 pub fn read_piece<H: Host>(host: &mut H, buffer: &mut [u8], most: usize) -> Result<usize, Halt>
     requires { most ≤ length buffer.old }
     ensures within { IfOk result (λ n. n ≤ most) }
@@ -105,7 +106,7 @@ fn answer_pieces<H: Host, I: Interpreter>(
     finish(alloc, host, interpreter, line)
 }
 
-/// A buffer for the pieces of the input.
+/// A buffer of 65,536 bytes for the pieces of the input.
 pub fn piece_buffer(alloc: Global) -> Result<Vec<u8>, AllocError>
     ensures { IfOk result (λ buffer. vec_len buffer ≡ PIECE) }
 {

@@ -1,8 +1,8 @@
 //! The lines of a script, one after another.
-ghost use Rattle.std.specs.Prelude.{IsTrue, ◌≡◌, ◌<◌, ◌∷◌, length, MatchOption, IfOk, OnOk, IfErr};
+ghost use Rattle.std.specs.Prelude.{IsTrue, ◌≡◌, ◌<◌, ◌∷◌, length, IfOk, OnOk, IfErr};
 ghost use Rattle.newt_host.specs.Moments.{Always};
 ghost use Rattle.newt_session.specs.Causes.{HasWriteCause, OnDevices};
-ghost use Rattle.newt_session.specs.Lines.{BeginsWith, HasNoEnd, lines_of};
+ghost use Rattle.newt_session.specs.Lines.{lines_of};
 ghost use Rattle.newt_session.specs.Moments.{Untouched};
 ghost use Rattle.newt_session.specs.Script.{commands_of, world_behind};
 ghost use Rattle.newt_session.specs.Stream.{out_of};
@@ -11,18 +11,9 @@ ghost use Rattle.newt_tally.specs.Moments.{CountedAt};
 
 use crate::tally::Tally;
 use crate::turn::turn;
-use memchr::memchr;
 use newt_host::Host;
-use newt_session::{Halt, Interpreter};
+use newt_session::{Halt, Interpreter, first_line};
 use std::alloc::Global;
-
-/// The first line that ends in a text, without its end, and what follows it.
-fn ended_line(text: &[u8]) -> Option<(&[u8], &[u8])>
-    ensures { MatchOption result (HasNoEnd text.now) (λ found. BeginsWith text.now found.0.now found.1.now) }
-{
-    let end = memchr(b'\n', text)?;
-    Some((&text[..end], &text[end + 1..]))
-}
 
 /// The first line of a text that is not empty, without its end, and what follows it.
 #[tactic(auto, using(crate::proofs::Lining::first_line, crate::proofs::Lining::shorter_behind, crate::proofs::Lining::only_line))]
@@ -31,7 +22,7 @@ fn next_line(text: &[u8]) -> (&[u8], &[u8])
     ensures lines { lines_of text.now ≡ result.0.now ∷ lines_of result.1.now }
     ensures shorter { length result.1.now < length text.now }
 {
-    match ended_line(text) {
+    match first_line(text) {
         Some(found) => found,
         None => text.split_at(text.len()),
     }

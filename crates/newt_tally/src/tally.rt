@@ -1,4 +1,4 @@
-//! Numbers of replies.
+//! The counts of the replies to a script.
 ghost use Rattle.std.specs.Prelude.{◌≤◌, ◌*◌, ◌^◌};
 
 /// What replies come to.

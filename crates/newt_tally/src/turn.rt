@@ -2,7 +2,7 @@
 ghost use Rattle.std.specs.Prelude.{IsTrue, ◌≡◌, ◌≤◌, ◌<◌, ◌+◌, ◌^◌, ◌++◌, ℕ, List, [], ◌∷◌, Ok, IfOk, OnOk, IfErr};
 ghost use Rattle.newt_host.specs.Moments.{Always, Moment};
 ghost use Rattle.newt_reply.specs.Said.{said};
-ghost use Rattle.newt_session.specs.Causes.{halt_of, HasWriteCause, OnDevices};
+ghost use Rattle.newt_session.specs.Causes.{HasWriteCause, OnDevices};
 ghost use Rattle.newt_session.specs.Moments.{Answering, Untouched};
 ghost use Rattle.newt_session.specs.Script.{commands_of, has_quit, world_behind};
 ghost use Rattle.newt_spec_script.specs.Script.{is_quit};
@@ -14,10 +14,9 @@ ghost use Rattle.newt_tally.specs.Moments.{Within};
 use crate::tally::Tally;
 use newt_base::Refusal;
 use newt_host::Host;
-use newt_pagebook::Stop;
 use newt_reply::{Reply, write_reply};
 use newt_script::{Command, LineFault, line};
-use newt_session::{Halt, Interpreter};
+use newt_session::{Halt, Interpreter, halted_by};
 use std::alloc::Global;
 
 /// Whether a command ends the script.
@@ -25,16 +24,6 @@ fn quits(command: &Command) -> bool
     ensures { result ≡ is_quit (Ok command.now) }
 {
     matches!(command, Command::Quit)
-}
-
-/// Why a run ends where a command was not answered.
-fn halted_by(stop: Stop) -> Halt
-    ensures { result ≡ halt_of stop }
-{
-    match stop {
-        Stop::Memory => Halt::Memory,
-        Stop::Device(unit) => Halt::Device(unit),
-    }
 }
 
 /// Counts a reply.

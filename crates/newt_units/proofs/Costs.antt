@@ -78,12 +78,6 @@ after-read {u} {n} {result} {o} {p} {q} same less c = record {
   others = λ j not. (let h = (c.others j not).0 in let k = less j in omega (arith, h, k), (c.others j not).1 ∙ ap (changes j) same);
 }
 
-pub costs-after-read : {T : Type 0} {most : ℕ → ℕ} {result : Result T Fault} {o p q : Outside} → p.now ≡ o.now → ((j : ℕ) → p.programmed j ≤ o.programmed j) → Costs most result p q → Costs most result o q
-costs-after-read {most} {result} {o} {p} {q} same less c = record {
-  bound = λ u room. let h = c.bound u (still-open u (most u) p.now o.now (ap (changes u) same) room) in let k = less u in omega (arith, h, k);
-  open_after = λ goes u. same-before u o.now p.now q.now (ap (changes u) same) (c.open_after goes u);
-}
-
 -- two calls on two units
 pub both-costs : {T S : Type 0} {most : ℕ → ℕ} {v u n m : ℕ} {first : Result T Fault} {second : Result S Fault} {o p q : Outside}
     → CostsOn v n first o p → CostsOn u m second p q → v ≢ u → n ≤ most v → m ≤ most u → GoesOn first → Costs most second o q

@@ -8,12 +8,12 @@
 
 mod changes;
 mod declares;
+mod defaults;
 mod faces;
 mod lists;
 mod look;
 mod mounting;
 mod resolve;
-mod session;
 mod stores;
 mod units;
 

@@ -23,7 +23,7 @@ use newt_host::{Host, Unit};
 const MOST_STORES: usize = 4;
 
 impl<C: Card> Units<C> {
-    /// Mounts the store of a unit, and answers its signature and its name.
+    /// Mounts the store of a unit, and answers its signature and its name. At most 4 stores are mounted, no two of one signature.
     pub fn mount<H: Host>(&mut self, host: &mut H, unit: Unit) -> Result<(Sig, Name), Fault>
         requires { Stands C.place C.stands H.told self.old (H.outside host.old) }
         ensures stands { GoesOn result → Stands C.place C.stands H.told self.new (H.outside host.new) }
@@ -87,7 +87,7 @@ impl<C: Card> Units<C> {
         }
     }
 
-    /// Unmounts the store of a unit. Where it was the default one, that of the smallest unit is.
+    /// Unmounts the store of a unit. Where it was the default one, the default is then the mounted store of the smallest unit, if one is left.
     pub fn unmount(&mut self, unit: Unit) -> Result<(), Fault>
         ensures stands { (told : Bool) (outside : Outside) → Stands C.place C.stands told self.old outside → Stands C.place C.stands told self.new outside }
         ensures answered { (outside : Outside) → Eight outside → Stands C.place C.stands true self.old outside →

@@ -23,7 +23,7 @@ use newt_host::Unit;
 use std::alloc::AllocError;
 
 impl<C: Card> Units<C> {
-    /// The unit, the soup and the id of the entry that an alias names; none where it is not in a mounted store.
+    /// The unit, the soup and the id of the entry that an alias names; none where it is not in a mounted store. A graph that is no alias is refused.
     pub fn resolve(&self, graph: &Graph) -> Result<Option<(Unit, Name, Uid)>, Fault>
         ensures answered { (outside : Outside) → Eight outside → Stands C.place C.stands true self.now outside →
             Answers (world_of C.reads self.now outside) (world_of C.reads self.now outside) (Command.Resolve graph.now) (λ found. or_nil (λ x. Reply.where_is x.0 x.1 x.2) found) result }

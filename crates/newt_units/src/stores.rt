@@ -79,7 +79,7 @@ impl<C: Card> Units<C> {
         }
     }
 
-    /// Makes the device of a unit one with a store without soups. A signature has at most 536,870,911.
+    /// Makes the device of a unit one with a store without soups. A signature above 536,870,911 is refused, and so is a unit that has a store.
     pub fn format<H: Host>(
         &mut self,
         host: &mut H,

@@ -1,7 +1,5 @@
-use Rattle.std.proofs.Common.{ℕ, ◌*◌, List}
+use Rattle.std.proofs.Common.{ℕ, List}
 use Rattle.newt_host.specs.Moments.{image}
-use Rattle.newt_store.specs.Change.{entry_in, pages_of_entry}
-use Rattle.newt_card.proofs.Bounds.{no-programs}
 use Rattle.newt_card.proofs.Turns.{stands-for}
 use Rattle.newt_card.proofs.kept.KeptCard.entry.Goals as goal
 
@@ -18,19 +16,10 @@ returns-in-Ok-None-clause-found g c = λ tells s reads.
     e.entry tells s (stands-for c.args.self.now.store.store.catalog c.args.self.now.store.ranges s now (c.requires.plain tells) reads)
 
 pub returns-in-Ok-Some-clause-programs_nothing : goal.returns-in-Ok-Some-clause-programs_nothing
-returns-in-Ok-Some-clause-programs_nothing g c = λ tells.
-    let one = c.requires.plain tells in
-    no-programs (g.P.PageBook.place c.args.self.now.store.store.book) (512 * pages_of_entry (entry_in c.args.soup c.args.uid one.plain)) (g.H.Host.outside c.args.host.now) (g.H.Host.outside c.entry.new.host)
-    (c.entry.ensures.costs tells one.plain one.stands)
+returns-in-Ok-Some-clause-programs_nothing g c = c.entry.ensures.reads.programs_nothing
 
 pub returns-in-Ok-None-clause-programs_nothing : goal.returns-in-Ok-None-clause-programs_nothing
-returns-in-Ok-None-clause-programs_nothing g c = λ tells.
-    let one = c.requires.plain tells in
-    no-programs (g.P.PageBook.place c.args.self.now.store.store.book) (512 * pages_of_entry (entry_in c.args.soup c.args.uid one.plain)) (g.H.Host.outside c.args.host.now) (g.H.Host.outside c.entry.new.host)
-    (c.entry.ensures.costs tells one.plain one.stands)
+returns-in-Ok-None-clause-programs_nothing g c = c.entry.ensures.reads.programs_nothing
 
 pub returns-in-Err-clause-programs_nothing : goal.returns-in-Err-clause-programs_nothing
-returns-in-Err-clause-programs_nothing g c = λ tells.
-    let one = c.requires.plain tells in
-    no-programs (g.P.PageBook.place c.args.self.now.store.store.book) (512 * pages_of_entry (entry_in c.args.soup c.args.uid one.plain)) (g.H.Host.outside c.args.host.now) (g.H.Host.outside c.entry.new.host)
-    (c.entry.ensures.costs tells one.plain one.stands)
+returns-in-Err-clause-programs_nothing g c = c.entry.ensures.reads.programs_nothing

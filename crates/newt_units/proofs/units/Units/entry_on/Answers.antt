@@ -30,7 +30,7 @@ returns-in-Some g c =
       world = λ t. call-still g.C.Card.reads call c.entry.ensures.moment;
       marks = λ u. marks c.args.self.now (later c.args.self.now c.unit.inside.0 c.index_mut.result.now c.entry.new.self) c.args.unit c.in-Some.card c.entry.new.self (replaced call) u;
       moment = c.entry.ensures.moment;
-      programs_nothing = λ t. programs-no-more c.entry.ensures.alone (c.entry.ensures.programs_nothing t);
+      programs_nothing = λ t. programs-no-more c.entry.ensures.alone c.entry.ensures.programs_nothing;
       alone = on-devices c.entry.ensures.alone;
       cause = stop-cause _ _ _ _ c.entry.ensures.cause;
     }

@@ -1,4 +1,4 @@
-//! The minute and the default unit.
+//! What later commands go by: the minute and the default unit.
 ghost use Rattle.std.specs.Prelude.{◌≡◌, Bool, true, IfErr};
 ghost use Rattle.newt_host.specs.Outside.{Outside};
 ghost use Rattle.newt_spec_world.specs.Reply.{Reply};
