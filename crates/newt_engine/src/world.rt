@@ -32,7 +32,8 @@ pub struct World<C: Card> {
 }
 
 impl<C: Card> World<C> {
-    /// Answers a command. A refusal is a reply, and leaves the world as it was; after an error the world is spent.
+    /// Answers a command. A refusal is a reply, and leaves the world as it was. The errors are `Stop::Memory`, where memory was refused, and `Stop::Device`,
+    /// where the device of a unit failed; after one the world is spent, and no further command may be given.
     pub fn apply<H: Host>(&mut self, host: &mut H, command: Command) -> Result<Reply, Stop>
         requires { Standing C.reads C.place C.stands H.told self.old.units self.old.desk (H.outside host.old) }
         ensures stands { OnOk result (Standing C.reads C.place C.stands H.told self.new.units self.new.desk (H.outside host.new)) }

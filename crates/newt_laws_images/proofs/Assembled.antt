@@ -17,7 +17,7 @@ use Rattle.newt_spec_graph.specs.Graph.{every}
 use Rattle.newt_spec_store.specs.StoreOf.{EntryRow, object_bytes, entry_of_row, rows_of, named_once, with_entries, in_a_soup, assembled, store_of}
 use Rattle.newt_spec_graph.specs.Lists.{Each, Pairs, Among}
 use Rattle.newt_spec_store.specs.Laid.{ApartIds, AreEntries, Laid, record_of, row_of, IsLaid}
-use Rattle.newt_laws_images.proofs.Records.{record-back, entry-back}
+use Rattle.newt_laws_images.proofs.Records.{all-true, record-back, entry-back}
 use Rattle.newt_spec_store.specs.StoreOf.{entry_row}
 use Rattle.newt_spec_graph.proofs.Lists.{each-at, each-from, each-list_all, list_all-each, among-filter, filter-among, among-flat_map, flat_map-among, pairs-filter, pairs-more, pairs-map, rises-pairs}
 use Rattle.newt_spec_store.proofs.Sorting.{Untied, sorted-rises, among-fold, fold-among}
@@ -160,14 +160,11 @@ any-sig (x ∷ ps) p (inr m) = go (x.sig == p.sig) (any-sig ps p m)
     go true h = refl
     go false h = h
 
-all-three : (a b c : Bool) → a ≡ true → b ≡ true → c ≡ true → (a && b && c) ≡ true
-all-three a b c h k l = grind (arith, h, k, l)
-
 pub assembled-back : (graph_of : List ℕ → Option RawGraph) (objects : Objects) (blocks : ℕ) (s : Store) (rows : List EntryRow) (entries : List (ℕ × Entry)) → valid blocks s ≡ true
     → named_once graph_of objects rows ≡ true → AreEntries s entries → assembled graph_of objects blocks (bare s) rows entries ≡ Some s
 assembled-back graph_of objects blocks s rows entries v once are =
     ap {A = List Soup} {B = Option Store} (λ ps. cond (named_once graph_of objects rows && list_all (in_a_soup graph_of (bare s)) entries && valid blocks (record s { soups = ps })) (Some (record s { soups = ps })) None) soups
-    ∙ ap (λ b. cond b (Some s) None) (all-three _ _ _ once inside v)
+    ∙ ap (λ b. cond b (Some s) None) (all-true _ _ _ once inside v)
   where
     w : well_formed s ≡ true
     w = (and_parts (well_formed s) (fits blocks s) v).0

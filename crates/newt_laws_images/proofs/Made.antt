@@ -30,16 +30,13 @@ use Rattle.newt_laws_images.proofs.Assembled.{among-map, map-among, one-sig, cho
 use Rattle.newt_laws_images.proofs.Both.{Both, both-from, both-left, both-right, both-pairs}
 use Rattle.newt_laws_images.proofs.Finite.{object-get, entries-rising, entry-get, get-entry}
 use Rattle.newt_laws_images.proofs.Placed.{soups-rise}
+pub use Rattle.newt_laws_images.proofs.Records.{map-length}
 use Rattle.newt_laws_images.proofs.Rows.{ids_of, ReadAs, read-as, read-same, bytes-are, only-parts}
 use Rattle.newt_laws_images.proofs.Read.{bare_soup, directory-back}
 use Rattle.newt_laws_images.proofs.Spelt.{Small, directory-spelt}
 use Rattle.newt_laws_images.proofs.Stores.{is-store, store-is, is-soup, soup-is}
 
 -- ---- lists
-
-pub map-length : {X Y : Type 0} (f : X → Y) (xs : List X) → length (map f xs) ≡ length xs
-map-length f [] = refl
-map-length f (x ∷ xs) = grind (arith, map-length f xs)
 
 pub map-kept : {X Y : Type 0} (g : X → Y) (f : X → X) → ((x : X) → g (f x) ≡ g x) → (xs : List X) → map g (map f xs) ≡ map g xs
 map-kept g f h [] = refl

@@ -129,6 +129,10 @@ at-length f (y ∷ pre) x xs = ap (λ zs. y ∷ zs) (at-length f pre x xs)
 pub push-length : {X : Type 0} (pre : List X) (x : X) → length (pre ++ x ∷ []) ≡ length pre + 1
 push-length pre x = length-append pre (x ∷ [])
 
+pub map-length : {X Y : Type 0} (f : X → Y) (xs : List X) → length (map f xs) ≡ length xs
+map-length f [] = refl
+map-length f (x ∷ xs) = grind (arith, map-length f xs)
+
 abbrev pub fill_nodes : List Node → ℕ × List ℕ → List Node
 fill_nodes ns l = change_nth l.0 (with_bytes l.1) ns
 
@@ -158,7 +162,7 @@ fill-back g = fold-fill g.root (map bare_node g.nodes) (larges g) ∙ ap {A = Li
 
 -- ---- the objects of large binaries
 
-all-true : (a b c : Bool) → a ≡ true → b ≡ true → c ≡ true → (a && b && c) ≡ true
+pub all-true : (a b c : Bool) → a ≡ true → b ≡ true → c ≡ true → (a && b && c) ≡ true
 all-true a b c h k l = grind (arith, h, k, l)
 
 pub every-back : (objects : Objects) (ls : List Named) → Each (IsThere objects) ls → every (map (large_object objects) (map row_of_large ls)) ≡ Some (map (λ (l : Named). l.0.1) ls)

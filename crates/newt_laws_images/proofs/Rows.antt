@@ -21,7 +21,7 @@ use Rattle.newt_spec_store.specs.Lies.{entry_read, only}
 use Rattle.newt_spec_store.specs.Valid.{valid_entry}
 use Rattle.newt_laws_images.proofs.Both.{Both, every-both}
 use Rattle.newt_laws_images.proofs.Filled.{filled_with, filled-skeleton, filled-larges, own-skeleton}
-use Rattle.newt_laws_images.proofs.Records.{entry-back}
+use Rattle.newt_laws_images.proofs.Records.{entry-back, map-length}
 use Rattle.newt_laws_images.proofs.Spelt.{Small, row_bytes, large_bytes, record-spelt}
 
 pub text-same : (a b : List ℕ) → bytes_eq a b ≡ true → a ≡ b
@@ -85,10 +85,6 @@ rows-long objects [] (b ∷ bs) h = absurd h
 rows-long objects (l ∷ ls) [] h = absurd h
 rows-long objects (l ∷ ls) (b ∷ bs) h = ap suc (rows-long objects ls bs h.1)
 
-map-long : {X Y : Type 0} (f : X → Y) (xs : List X) → length (map f xs) ≡ length xs
-map-long f [] = refl
-map-long f (x ∷ xs) = grind (arith, map-long f xs)
-
 zip-long : (ns : List ℕ) (bs : List (List ℕ)) → length ns ≡ length bs → length (zip ns bs) ≡ length ns
 zip-long [] bs h = refl
 zip-long (n ∷ ns) [] h = absurd (omega (arith, h))
@@ -118,7 +114,7 @@ is-filled graph_of objects row g k h = test (names_larges row g) refl h
     done : names_larges row g ≡ true → (bs : List (List ℕ)) → Both (IsObject objects) row.larges bs → fold fill g (zip (nodes_of row.larges) bs) ≡ k → IsFilled objects row g k
     done t bs both e = record {
       of_larges = rows-are objects row.larges bs both ∙ ap {A = List (ℕ × List ℕ)} (λ ls. map row_of_large (zip ls (ids_of row.larges))) (sym ls);
-      each_named = ap length ls ∙ zip-long (nodes_of row.larges) bs long ∙ map-long (λ (l : LargeRow). l.0) row.larges ∙ sym (map-long (λ (l : LargeRow). l.1) row.larges);
+      each_named = ap length ls ∙ zip-long (nodes_of row.larges) bs long ∙ map-length (λ (l : LargeRow). l.0) row.larges ∙ sym (map-length (λ (l : LargeRow). l.1) row.larges);
       there = subst (λ (ls : List (ℕ × List ℕ)). Each (IsThere objects) (zip ls (ids_of row.larges))) (sym ls) (rows-there objects row.larges bs both);
       skeleton_is = ap skeleton (sym is) ∙ filled-skeleton g bs ∙ own-skeleton g parts.1;
     }
@@ -136,7 +132,7 @@ is-filled graph_of objects row g k h = test (names_larges row g) refl h
         is = ap {A = List ℕ} {B = RawGraph} (λ ns. fold fill g (zip ns bs)) numbers ∙ e
 
         ls : larges k ≡ zip (nodes_of row.larges) bs
-        ls = ap larges (sym is) ∙ filled-larges g bs (sym (map-long (λ (l : ℕ × List ℕ). l.0) (larges g)) ∙ ap length numbers ∙ long) ∙ ap {A = List ℕ} (λ ns. zip ns bs) numbers
+        ls = ap larges (sym is) ∙ filled-larges g bs (sym (map-length (λ (l : ℕ × List ℕ). l.0) (larges g)) ∙ ap length numbers ∙ long) ∙ ap {A = List ℕ} (λ ns. zip ns bs) numbers
 
     bytes : names_larges row g ≡ true → (o : Option (List (List ℕ))) → every (map (large_object objects) row.larges) ≡ o → option_map (λ bs. fold fill g (zip (nodes_of row.larges) bs)) o ≡ Some k → IsFilled objects row g k
     bytes t None w e = absurd (none-some k e)

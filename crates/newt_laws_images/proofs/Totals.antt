@@ -17,7 +17,7 @@ use Rattle.newt_spec_store.specs.Valid.{well_formed, valid_soup}
 use Rattle.newt_laws_images.proofs.Assembled.{among-map, map-among}
 use Rattle.newt_laws_images.proofs.Finite.{entries-rising, entry-get, get-entry}
 use Rattle.newt_laws_images.proofs.Placed.{IsPlaced, soups-rise, pairs-map-from, has-large}
-use Rattle.newt_laws_images.proofs.Records.{larges_from, entry-length}
+use Rattle.newt_laws_images.proofs.Records.{larges_from, map-length, entry-length}
 use Rattle.newt_laws_images.proofs.Stores.{is-store, is-soup}
 use Rattle.newt_laws_images.proofs.Whole.{laid_ids, its-layout, is-one-of, ids-apart}
 
@@ -146,10 +146,6 @@ store-total : (s : Store) → total (λ (y : ℕ × Entry). entry_pages y.1) (al
 store-total s = total-flat (λ (y : ℕ × Entry). entry_pages y.1) (λ (p : Soup). map (λ (e : Entry). (p.sig, e)) p.entries) s.soups
     ∙ total-same (λ (p : Soup). total (λ (y : ℕ × Entry). entry_pages y.1) (map (λ (e : Entry). (p.sig, e)) p.entries)) soup_pages s.soups
     (each-from _ s.soups (λ p m. total-map (λ (y : ℕ × Entry). entry_pages y.1) (λ (e : Entry). (p.sig, e)) p.entries ∙ sym (sum-total entry_pages p.entries)))
-
-map-length : {X Y : Type 0} (f : X → Y) (xs : List X) → length (map f xs) ≡ length xs
-map-length f [] = refl
-map-length f (x ∷ xs) = grind (arith, map-length f xs)
 
 sum-more : (n : ℕ) (ns : List ℕ) → sum (n ∷ ns) ≡ n + sum ns
 sum-more n ns = sum_by-cons (λ m. m) n ns

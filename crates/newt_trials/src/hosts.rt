@@ -7,7 +7,7 @@ use newt_memhost::MemHost;
 use std::alloc::{AllocError, Global};
 use std::test::Fail;
 
-/// So many blocks of zero bytes.
+/// So many blocks of 4,096 zero bytes.
 pub fn blocks(alloc: Global, count: u32) -> Result<Vec<u8>, AllocError>
     ensures { IfOk result (λ bytes. vec_len bytes ≡ count * 4096) }
 {

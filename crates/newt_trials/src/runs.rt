@@ -65,7 +65,7 @@ pub fn expect_end(
     Ok(())
 }
 
-/// Runs a table over the devices `a` and `b` of these bytes, and looks for its replies.
+/// Runs a table over the devices `a` and `b` of these bytes, which are whole blocks, and looks for its replies.
 pub fn run_table_on(
     alloc: Global,
     text: &str,

@@ -1,4 +1,4 @@
-//! The commands that show, count, clone and close a cursor.
+//! The commands that show, count, clone and close a cursor. Where the number is of no open cursor, each is refused as `Cursor`.
 ghost use Rattle.std.specs.Prelude.{◌≡◌, IsTrue, IfErr, IfOk, OnOk, slice_get};
 ghost use Rattle.newt_cursor.specs.Seen.{place_of};
 ghost use Rattle.newt_spec_world.specs.Answer.{current, or_nil};
@@ -89,7 +89,7 @@ pub fn which<C: Card, H: Host>(
     Ok(side)
 }
 
-/// Opens another cursor with the same query and place, and answers its number.
+/// Opens another cursor with the same query and place, and answers its number, from 0 to 31. Where all 32 places are taken it is refused as `Limit`.
 pub fn clone_of<C: Card, H: Host>(
     units: &mut Units<C>,
     desk: &mut Desk,

@@ -16,7 +16,7 @@ use newt_host::Host;
 use newt_pagebook::Stop;
 use newt_units::Units;
 
-/// How many hits a query has.
+/// How many hits a query has. Each search leaves fewer hits of the index after it, and there are fewer than the searches that are tried.
 pub(crate) fn count_hits<C: Card, H: Host>(
     units: &mut Units<C>,
     host: &mut H,

@@ -78,6 +78,7 @@ fn of_paths<'a>(specs: &'a [IndexSpec], paths: &[Path]) -> Option<&'a IndexSpec>
     specs.iter().find(|spec| are_paths_of(spec, paths))
 }
 
+/// Whether a declaration is of just these paths, but for ASCII case.
 #[tactic(auto, using(crate::proofs::Asked::paths_seen))]
 fn are_paths_of(spec: &IndexSpec, paths: &[Path]) -> bool
     ensures { result ≡ same_paths (paths_of spec.now) paths.now }

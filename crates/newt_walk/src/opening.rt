@@ -31,7 +31,8 @@ use newt_units::Units;
 /// How many units there are.
 const UNITS: u8 = 8;
 
-/// Opens a cursor on the first hit of a query in the soup of a name in one store, and answers its number.
+/// Opens a cursor on the first hit of a query in the soup of a name in one store, or behind all where it has no hits, and answers its number, from 0 to
+/// 31. Where all 32 places are taken it is refused as `Limit`.
 pub fn query<C: Card, H: Host>(
     units: &mut Units<C>,
     desk: &mut Desk,
@@ -55,7 +56,7 @@ pub fn query<C: Card, H: Host>(
     }
 }
 
-/// Opens a cursor on the first hit of a query in the soups of a name in all mounted stores, and answers its number.
+/// The same over the soups of a name in all stores that are mounted, now and later; refused as `Soup` where none has one now.
 pub fn query_all<C: Card, H: Host>(
     units: &mut Units<C>,
     desk: &mut Desk,
@@ -114,7 +115,7 @@ fn has_soup<C: Card>(units: &Units<C>, name: &Name) -> bool
     false
 }
 
-/// Opens a cursor on the first hit of a query.
+/// Opens a cursor on the first hit of a query, or behind all where it has none.
 fn open<C: Card, H: Host>(
     units: &mut Units<C>,
     desk: &mut Desk,

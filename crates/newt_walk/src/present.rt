@@ -90,12 +90,14 @@ fn card_takes_part<C: Card>(card: &C, query: &Query, soup: Sig) -> bool
     all_three(scoped, named, carried)
 }
 
+/// Whether two texts are the same, byte for byte.
 fn is_text(a: &[u8], b: &[u8]) -> bool
     ensures { result ≡ equal_text a.now b.now }
 {
     a == b
 }
 
+/// Whether all three hold.
 fn all_three(a: bool, b: bool, c: bool) -> bool
     ensures { result ≡ (a && (b && c)) }
 {

@@ -1,4 +1,4 @@
-//! The commands that move a cursor.
+//! The commands that move a cursor. Where the number is of no open cursor, each is refused as `Cursor`.
 ghost use Rattle.std.specs.Prelude.{◌≡◌, true, IsTrue, Some, IfErr, IfOk, IfSome, OnOk, option_map, slice_get};
 ghost use Rattle.newt_host.specs.Outside.{Outside};
 ghost use Rattle.newt_keys.specs.KeyForm.{IsKeyOf};
@@ -138,7 +138,8 @@ pub fn moveby<C: Card, H: Host>(
     steer(units, desk, host, cursor, Motion::By(by))
 }
 
-/// Moves a cursor to the first hit whose key is not before the one that a literal writes down, or behind all.
+/// Moves a cursor to the first hit whose key is not before the one that a literal writes down, or behind all. Where the literal is no key of the query's
+/// index, or the query has none, it is refused as `Key`.
 pub fn go_to_key<C: Card, H: Host>(
     units: &mut Units<C>,
     desk: &mut Desk,
@@ -163,7 +164,8 @@ pub fn go_to_key<C: Card, H: Host>(
     steer(units, desk, host, cursor, Motion::Key(key))
 }
 
-/// Moves a cursor to the hit of this id in the soup of its query's name on a unit.
+/// Moves a cursor to the hit of this id in the soup of its query's name on a unit. A unit that is none, or has no mounted store, is refused before the
+/// cursor is looked at; where the entry is no hit it is refused as `Entry`.
 pub fn go_to<C: Card, H: Host>(
     units: &mut Units<C>,
     desk: &mut Desk,

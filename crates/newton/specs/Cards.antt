@@ -7,18 +7,22 @@ abbrev pub name_of : Option Card → Option (List ℕ)
 name_of None = None
 name_of (Some c) = cond c.attached (Some c.name.items) None
 
+-- the number of its whole blocks, 0 where there is no unit
 abbrev pub blocks_of : Option Card → ℕ
 blocks_of None = 0
 blocks_of (Some c) = c.blocks
 
+-- how many of its calls failed, 0 where there is no unit
 abbrev pub faults_of : Option Card → ℕ
 faults_of None = 0
 faults_of (Some c) = c.faults
 
+-- how many bytes it was to program, 0 where there is no unit
 abbrev pub programmed_of : Option Card → ℕ
 programmed_of None = 0
 programmed_of (Some c) = c.programmed
 
+-- how many bytes it was to fetch, 0 where there is no unit
 abbrev pub fetched_of : Option Card → ℕ
 fetched_of None = 0
 fetched_of (Some c) = c.fetched

@@ -4,7 +4,8 @@ ghost use Rattle.newt_host.specs.Outside.{Rose};
 
 use std::alloc::Global;
 
-/// A unit: the name of its file, its whole blocks, and its counts. Without a file it has no blocks.
+/// A unit: the name of its file, its whole blocks of 4,096 bytes, and its counts: of faults, and of bytes that it was to program and to fetch. Without a
+/// file it has no blocks.
 #[derive(Drop)]
 pub struct Card {
     pub attached: bool,

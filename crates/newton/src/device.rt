@@ -7,7 +7,8 @@ use std::fs::{OpenFile, OpenOptions};
 use std::io::{Read, Seek, SeekFrom, Write};
 use std::rt::Files;
 
-/// Opens a file for reading and writing, and makes sure of it. With it its whole blocks; a file has not more of them than can be told.
+/// Opens a file for reading and writing and syncs it, and answers it with the number of its whole blocks of 4,096 bytes, at most `u32::MAX`. None where
+/// the system refuses one of these.
 pub fn open<S: Files>(system: &S, name: &str) -> Option<(S::File, u32)> {
     let file = OpenOptions::new()
         .read(true)
@@ -19,7 +20,7 @@ pub fn open<S: Files>(system: &S, name: &str) -> Option<(S::File, u32)> {
     Some((file, u32::try_from(bytes / 4096).unwrap_or(u32::MAX)))
 }
 
-/// Keeps the file of a unit, and answers whether there was room.
+/// Keeps the file of a unit, and answers whether there was memory for it.
 pub fn keep<F: Drop>(files: &mut Vec<Option<F>>, unit: Unit, file: F) -> bool {
     let place = unit.0 as usize;
     for _ in files.len()..place + 1 {
@@ -61,7 +62,7 @@ pub fn put<F: Write + Seek>(files: &mut Vec<Option<F>>, unit: Unit, at: u64, byt
     }
 }
 
-/// Makes sure of what was written, and answers whether that was done.
+/// Syncs the file: what was written is on the disk. Answers whether that was done.
 pub fn sync<F: OpenFile>(files: &mut Vec<Option<F>>, unit: Unit) -> bool {
     match files.get_mut(unit.0 as usize) {
         Some(Some(file)) => file.sync_all().is_ok(),
