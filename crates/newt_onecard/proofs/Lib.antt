@@ -1,0 +1,1 @@
+-- No lemma: what is known of a card stands with its type.
