@@ -4,7 +4,7 @@ use Rattle.newt_base.specs.Refusals.{Checks, first_of}
 use Rattle.newt_graph.specs.Graph.{RawGraph}
 use Rattle.newt_image.specs.Objects.{pages_for}
 use Rattle.newt_spec_store.specs.Cost.{directory_bytes, entry_pages}
-use Rattle.newt_spec_store.specs.Store.{Store, Soup, Entry}
+use Rattle.newt_spec_store.specs.Store.{Store, Soup, Entry, next_uid_of}
 use Rattle.newt_spec_world.specs.World.{World, default_unit, store_on_unit, soup_in, entry_in}
 use Rattle.newt_spec_world.specs.declared.command.Command.{Command}
 use Rattle.newt_spec_world.specs.declared.command.Command.TheVariants as command
@@ -40,14 +40,9 @@ abbrev pub entries_of : Option Soup → List Entry
 entries_of None = []
 entries_of (Some p) = p.entries
 
--- the next entry id of a soup, 0 where there is no soup (a word of these definitions)
-abbrev pub next_in : Option Soup → ℕ
-next_in None = 0
-next_in (Some p) = p.next_uid
-
 -- the entry that is new in a soup, with this graph: it has the id that was the next, and the present minute (a word of these definitions)
 abbrev pub new_in : World → ℕ → List ℕ → RawGraph → Entry
-new_in w u s g = record { uid = next_in (soup_in w u s); time = w.minute; graph = g }
+new_in w u s g = record { uid = next_uid_of (soup_in w u s); time = w.minute; graph = g }
 
 -- the same with the graph of an entry, if there is one, as a list (a word of these definitions)
 abbrev pub copied_in : World → ℕ → List ℕ → Option Entry → List Entry

@@ -12,11 +12,10 @@ use Rattle.newt_pagebook.specs.declared.book.Stop.TheVariants.{Memory, Device}
 use Rattle.newt_host.proofs.Moments.{Leaves-start, Leaves-weaken}
 use Rattle.newt_image.specs.Pages.{cap}
 use Rattle.newt_pagebook.specs.Book.{Numbers, IsOpenFor}
-use Rattle.newt_spec_store.specs.Store.{Soup, Store, remove_entry}
+use Rattle.newt_spec_store.specs.Store.{Soup, Store, remove_entry, soup_of, without_index}
 use Rattle.newt_spec_store.specs.Cost.{cost}
 use Rattle.newt_spec_store.specs.OfImage.{blocks_of}
 use Rattle.newt_spec_store.specs.Keys.{Path}
-use Rattle.newt_soupdir.specs.Changes.{soup_of, without_index}
 use Rattle.newt_laws_changes.proofs.Costs.{dropped_cost, removed_cost}
 use Rattle.newt_shelf.specs.declared.fault.StoreFault.{StoreFault}
 use Rattle.newt_shelf.specs.declared.fault.StoreFault.TheVariants.{Refused, Stop}

@@ -2,7 +2,7 @@
 use Rattle.std.specs.Prelude.{◌≡◌, ◌≢◌, ◌⊎◌, ℕ, ◌+◌, ◌*◌, ◌<◌, ◌≤◌, IsTrue, List, [], ◌∷◌, ◌++◌, length, flat_map, map as map_list, Option, Some, None}
 use Rattle.std.specs.FinMap as map
 use Rattle.newt_image.specs.Objects.{Objects, pages_for}
-use Rattle.newt_spec_store.specs.Store.{Store}
+use Rattle.newt_spec_store.specs.Store.{Store, take_uid_of, soup_of, entry_at}
 use Rattle.newt_image.specs.Pages.{cap}
 use Rattle.newt_spec_store.specs.Cost.{cost, directory_bytes}
 use Rattle.newt_spec_store.specs.Laid.{bare}
@@ -12,7 +12,6 @@ use Rattle.newt_spec_store.specs.Valid.{well_formed}
 use Rattle.newt_graph.specs.Graph.{RawGraph}
 use Rattle.newt_spec_store.specs.Image.{entry_bytes, larges}
 use Rattle.newt_objects.specs.Held.{Held, held}
-use Rattle.newt_soupdir.specs.Changes.{take_uid_of}
 use Rattle.newt_soupdir.specs.Bare.{bare_store}
 use Rattle.newt_objects.specs.Changing.{HoldsObjects}
 use Rattle.newt_base.specs.Refusals.{first_of}
@@ -20,8 +19,7 @@ use Rattle.newt_pagebook.specs.declared.book.Stop.TheVariants.{Memory, Device}
 use Rattle.newt_shelf.specs.declared.fault.StoreFault.{StoreFault}
 use Rattle.newt_shelf.specs.declared.fault.StoreFault.TheVariants.{Refused, Stop}
 use Rattle.newt_store.specs.declared.change.Change.{Change}
-use Rattle.newt_store.specs.Change.{changed_by, answer_of, first_checks, entry_in, entry_added, pages_of_entry, pages_of_soup, pages_removed, directory_pages}
-use Rattle.newt_soupdir.specs.Changes.{soup_of}
+use Rattle.newt_store.specs.Change.{changed_by, answer_of, first_checks, entry_added, pages_of_entry, pages_of_soup, pages_removed, directory_pages}
 use Rattle.newt_shelf.specs.Commit.{Fit}
 use Rattle.newt_shelf.specs.Batch.{AreWritten, HasIds, large_ids, new_pages, over_pages, pages_held, all_pages_held}
 use Rattle.newt_shelf.specs.Names.{names_of}
@@ -115,13 +113,13 @@ pub record Turns (catalog : Catalog) (next : Next) (s t : Store) : Type 0 where
 -- the pages of the entries that go
 abbrev pub goes_pages : Gone → Store → ℕ
 goes_pages Nothing s = 0
-goes_pages (OneEntry sig uid) s = pages_of_entry (entry_in sig uid s)
+goes_pages (OneEntry sig uid) s = pages_of_entry (entry_at sig uid s)
 goes_pages (AllOf sig) s = pages_of_soup (soup_of sig s)
 
 -- the pages of the entry that stands where the new one comes, none where there is none
 abbrev pub replaced_pages : Option NewEntry → Store → ℕ
 replaced_pages None s = 0
-replaced_pages (Some e) s = pages_of_entry (entry_in e.sig e.uid s)
+replaced_pages (Some e) s = pages_of_entry (entry_at e.sig e.uid s)
 
 -- the bytes of the batch that is written, and its record: 516 for each page of the directory and of the new entry's record, 4 for each page of the
 -- directory before, of the object that the record is put over, and of the objects that go
