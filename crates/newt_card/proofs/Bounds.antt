@@ -9,9 +9,9 @@ use Rattle.newt_graph.specs.declared.node.Node.TheVariants.{Large}
 use Rattle.newt_host.specs.Moments.{image}
 use Rattle.newt_host.specs.Outside.{Outside, Spends}
 use Rattle.newt_pagebook.specs.Book.{IsOpenFor}
-use Rattle.newt_laws_answers.specs.Bounds.{directory_pages, change_bytes, patch_bytes, unless}
+use Rattle.newt_laws_answers.specs.Bounds.{change_bytes, unless}
 use Rattle.newt_laws_answers.specs.Tests.{make_tests, add_tests, move_tests, moved_within, replace_tests, replaced, patch_tests, index_tests, tags_tests, tagged}
-use Rattle.newt_spec_store.specs.Cost.{entry_pages}
+use Rattle.newt_spec_store.specs.Cost.{entry_pages, directory_pages, patch_bytes}
 use Rattle.newt_spec_store.specs.Keys.{IndexSpec, Path}
 use Rattle.newt_spec_store.specs.OfImage.{blocks_of}
 use Rattle.newt_spec_store.specs.Store.{Store as Plain, Soup, Entry, TagTable, entry_of, change_soup, make_soup, drop_soup, add_entry, remove_entry, soup_of, entry_at, next_uid_of, with_index, without_index}

@@ -24,7 +24,8 @@ use Rattle.newt_laws.specs.Worlds.{parts_fit}
 use Rattle.newt_laws.proofs.Settled.{find-passes}
 use Rattle.newt_laws_cursors.specs.Cursors.{with_cursors, uses_cursors}
 use Rattle.newt_laws_cursors.proofs.Rows.{changed-apart}
-use Rattle.newt_laws_answers.specs.Bounds.{change_bytes, patch_bytes, unless, listed, entries_of, new_in, copied_in, touched, bytes_between, bytes_done, most_programmed}
+use Rattle.newt_spec_store.specs.Cost.{patch_bytes}
+use Rattle.newt_laws_answers.specs.Bounds.{change_bytes, unless, listed, entries_of, new_in, copied_in, touched, bytes_between, bytes_done, most_programmed}
 use Rattle.newt_laws_answers.specs.Spoken.{checks_now, tags_fit}
 use Rattle.newt_laws_answers.specs.There.{OnUnit}
 use Rattle.newt_laws_answers.specs.Tests.{make_tests, add_tests, move_tests, moved_within, replace_tests, replaced, patch_tests, has_paths, index_tests, tagged, tags_tests, with_added}

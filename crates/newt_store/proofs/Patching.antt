@@ -28,7 +28,7 @@ use Rattle.newt_pagebook.proofs.Changes.{get_insert}
 use Rattle.newt_objects.specs.Changing.{HoldsObjects}
 use Rattle.newt_vbo.specs.Ranges.{parts_met}
 use Rattle.newt_spec_graph.proofs.Lists.{each-at, some-same, none-some}
-use Rattle.newt_spec_store.specs.Cost.{cost, large_lengths}
+use Rattle.newt_spec_store.specs.Cost.{cost, large_lengths, patch_bytes}
 use Rattle.newt_spec_store.specs.Image.{larges, entry_bytes}
 use Rattle.newt_spec_store.specs.Laid.{bare, row_of, row_of_large, FitsRecord}
 use Rattle.newt_spec_store.specs.Lies.{AreLarges, HasLarge, only, is_record, record_read}
@@ -49,7 +49,7 @@ use Rattle.newt_entries.specs.declared.row.EntryRow.{EntryRow}
 use Rattle.newt_entries.specs.declared.row.LargeAt.{LargeAt}
 use Rattle.newt_shelf.specs.Commit.{AreKept}
 use Rattle.newt_shelf.specs.Names.{names_of}
-use Rattle.newt_shelf.specs.Patch.{IsBeforeOrPatched, IsRangeOrFull, patch_bytes}
+use Rattle.newt_shelf.specs.Patch.{IsBeforeOrPatched, IsRangeOrFull}
 use Rattle.newt_shelf.specs.Places.{place_of}
 use Rattle.newt_shelf.specs.declared.fault.StoreFault.{StoreFault}
 use Rattle.newt_shelf.specs.declared.fault.StoreFault.TheVariants.{Refused, Stop}

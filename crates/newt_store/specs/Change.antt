@@ -6,18 +6,16 @@ use Rattle.newt_base.specs.declared.Refusal.{Refusal}
 use Rattle.newt_base.specs.declared.Refusal.TheVariants.{Soup as NoSoup, Exists, Entry as NoEntry, Notframe, Limit, Size, Ids, Full, Range, Path as NoPath, Index as BadIndex}
 use Rattle.newt_base.specs.Refusals.{Checks, first_of}
 use Rattle.newt_image.specs.Pages.{cap}
-use Rattle.newt_image.specs.Objects.{pages_for}
 use Rattle.newt_graph.specs.Graph.{RawGraph}
 use Rattle.newt_spec_graph.specs.Graph.{is_frame, object}
 use Rattle.newt_spec_store.specs.Store.{Entry, Soup, Store, soup_named, change_soup, change_entry, make_soup, drop_soup, add_entry, remove_entry, soup_of, entry_at, next_uid_of, with_index, without_index}
-use Rattle.newt_spec_store.specs.Cost.{cost, directory_bytes, skeleton_length, entry_pages, soup_pages}
+use Rattle.newt_spec_store.specs.Cost.{cost, directory_pages, skeleton_length, entry_pages, soup_pages, patch_bytes}
 use Rattle.newt_spec_store.specs.StoreOf.{fill}
 use Rattle.newt_host.specs.Moments.{overwritten}
 use Rattle.newt_graph.specs.declared.node.Node.{Node}
 use Rattle.newt_graph.specs.declared.node.Node.TheVariants.{Large}
 use Rattle.newt_spec_store.specs.Keys.{IndexSpec, Path, paths_of, same_paths}
 use Rattle.newt_soupdir.specs.Changes.{with_tags}
-use Rattle.newt_shelf.specs.Patch.{patch_bytes}
 use Rattle.newt_store.specs.declared.change.Change.{Change}
 use Rattle.newt_store.specs.declared.change.Change.TheVariants.{MakeSoup, DropSoup, Add, Remove, Move, Replace, Patch, AddIndex, DropIndex, SetTags}
 
@@ -162,10 +160,6 @@ pages_of_entry (Some e) = entry_pages e
 abbrev pub pages_of_soup : Option Soup → ℕ
 pages_of_soup None = 0
 pages_of_soup (Some p) = soup_pages p
-
--- the pages of the directory
-abbrev pub directory_pages : Store → ℕ
-directory_pages s = pages_for (length (directory_bytes s))
 
 -- the change patches a large binary
 abbrev pub is_patch : Change → Bool

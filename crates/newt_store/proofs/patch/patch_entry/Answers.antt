@@ -11,7 +11,8 @@ use Rattle.newt_objects.specs.Changing.{HoldsObjects}
 use Rattle.newt_vbo.specs.Ranges.{parts_met}
 use Rattle.newt_spec_store.specs.OfImage.{blocks_of}
 use Rattle.newt_shelf.specs.Commit.{AreKept}
-use Rattle.newt_shelf.specs.Patch.{IsBeforeOrPatched, patch_bytes}
+use Rattle.newt_spec_store.specs.Cost.{patch_bytes}
+use Rattle.newt_shelf.specs.Patch.{IsBeforeOrPatched}
 use Rattle.newt_store.specs.declared.change.Change.TheVariants.{Patch}
 use Rattle.newt_spec_store.specs.Store.{entry_at}
 use Rattle.newt_store.specs.Change.{changed_by, refusal_of, pages_of_entry, most_bytes}
