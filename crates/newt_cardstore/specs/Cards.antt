@@ -10,9 +10,13 @@ use Rattle.newt_cardstore.specs.declared.card.Entry.{Entry}
 use Rattle.newt_cardstore.specs.declared.fault.Fault.{Fault}
 use Rattle.newt_cardstore.specs.declared.fault.Fault.TheVariants.{Refused, Stop}
 
--- an entry as the plain store has it
+-- an entry that was read, as the plain store has it
+abbrev pub plain_entry : Entry → plain.Entry
+plain_entry e = record { uid = e.uid; time = e.time; graph = e.graph }
+
+-- the same of one that may not be there
 abbrev pub entry_said : Option Entry → Option plain.Entry
-entry_said found = option_map (λ e. record { uid = e.uid; time = e.time; graph = e.graph }) found
+entry_said found = option_map plain_entry found
 
 -- what an entry that is read is, or that it is not there
 abbrev pub ReadsEntry : Option plain.Entry → Result Entry Fault → Type 0
