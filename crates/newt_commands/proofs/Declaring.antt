@@ -6,7 +6,7 @@ use Rattle.newt_base.specs.Refusals.{first_of}
 use Rattle.newt_base.specs.declared.Refusal.{Refusal}
 use Rattle.newt_base.specs.declared.Refusal.TheVariants.{Index as BadIndex, Key as BadKey}
 use Rattle.newt_host.specs.Outside.{Outside}
-use Rattle.newt_laws.specs.Worlds.{parts_fit}
+use Rattle.newt_laws.specs.Worlds.{parts_fit, tags_fit}
 use Rattle.newt_spec_graph.proofs.Lists.{some-same, none-some}
 use Rattle.newt_spec_store.specs.Keys.{Path, IndexSpec}
 use Rattle.newt_spec_store.specs.Laid.{bare}
@@ -16,7 +16,7 @@ use Rattle.newt_spec_world.specs.declared.command.PartWord.{PartWord}
 use Rattle.newt_spec_world.specs.Changed.{spec_of_words}
 use Rattle.newt_spec_world.specs.Reply.{Reply}
 use Rattle.newt_spec_world.specs.World.{World, store_on_unit, change_store}
-use Rattle.newt_laws_answers.specs.Spoken.{answer_now, tags_fit}
+use Rattle.newt_laws_answers.specs.Spoken.{answer_now}
 use Rattle.newt_laws_answers.specs.Tests.{has_paths, index_tests, tagged, tags_tests}
 use Rattle.newt_laws_answers.specs.There.{OnUnit}
 use Rattle.newt_laws_answers.proofs.Declares.{index-exists, index-real, index-refused, index-done, unindex-done, set-tags-refused, set-tags-done}

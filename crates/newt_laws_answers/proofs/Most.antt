@@ -20,13 +20,13 @@ use Rattle.newt_spec_world.specs.declared.command.PartWord.{PartWord}
 use Rattle.newt_spec_world.specs.World.{World, default_unit, store_on_unit, soup_in, entry_in, change_store}
 use Rattle.newt_spec_world.specs.Changed.{changed, with_graph, with_tags, spec_of_words, large_at}
 use Rattle.newt_spec_world.specs.Refused.{checks, real_part}
-use Rattle.newt_laws.specs.Worlds.{parts_fit}
+use Rattle.newt_laws.specs.Worlds.{parts_fit, tags_fit}
 use Rattle.newt_laws.proofs.Settled.{find-passes}
 use Rattle.newt_laws_cursors.specs.Cursors.{with_cursors, uses_cursors}
 use Rattle.newt_laws_cursors.proofs.Rows.{changed-apart}
 use Rattle.newt_spec_store.specs.Cost.{patch_bytes}
 use Rattle.newt_laws_answers.specs.Bounds.{change_bytes, unless, listed, entries_of, new_in, copied_in, touched, bytes_between, bytes_done, most_programmed}
-use Rattle.newt_laws_answers.specs.Spoken.{checks_now, tags_fit}
+use Rattle.newt_laws_answers.specs.Spoken.{checks_now}
 use Rattle.newt_laws_answers.specs.There.{OnUnit}
 use Rattle.newt_laws_answers.specs.Tests.{make_tests, add_tests, move_tests, moved_within, replace_tests, replaced, patch_tests, has_paths, index_tests, tagged, tags_tests, with_added}
 use Rattle.newt_laws_answers.proofs.Firsts.{first-false}
