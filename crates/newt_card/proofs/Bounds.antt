@@ -14,8 +14,7 @@ use Rattle.newt_laws_answers.specs.Tests.{make_tests, add_tests, move_tests, mov
 use Rattle.newt_spec_store.specs.Cost.{entry_pages, directory_pages, patch_bytes}
 use Rattle.newt_spec_store.specs.Keys.{IndexSpec, Path}
 use Rattle.newt_spec_store.specs.OfImage.{blocks_of}
-use Rattle.newt_spec_store.specs.Store.{Store as Plain, Soup, Entry, TagTable, entry_of, change_soup, make_soup, drop_soup, add_entry, remove_entry, soup_of, entry_at, next_uid_of, with_index, without_index}
-use Rattle.newt_spec_world.specs.Changed.{with_graph}
+use Rattle.newt_spec_store.specs.Store.{Store as Plain, Soup, Entry, TagTable, entry_of, change_soup, make_soup, drop_soup, add_entry, remove_entry, soup_of, entry_at, next_uid_of, with_index, without_index, with_graph}
 use Rattle.newt_store.specs.Change.{changed_by, refusals, refusal_of, entry_added, pages_of_entry, pages_of_soup, pages_removed, pages_put, pages_gone, bytes_of, most_bytes}
 use Rattle.newt_store.specs.declared.change.Change.{Change}
 use Rattle.newt_store.specs.declared.change.Change.TheVariants as change

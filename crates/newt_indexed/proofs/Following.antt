@@ -7,7 +7,7 @@ use Rattle.newt_base.specs.declared.Refusal.TheVariants.{Soup as NoSoup, Entry a
 use Rattle.newt_graph.specs.Graph.{RawGraph}
 use Rattle.newt_host.specs.Moments.{overwritten}
 use Rattle.newt_spec_store.specs.Keys.{IndexSpec, Path}
-use Rattle.newt_spec_store.specs.Store.{Entry, Soup, Store, TagTable, entry_of, change_soup, change_entry, add_entry, remove_entry, soup_of, with_index, without_index, entry_at, next_uid_of}
+use Rattle.newt_spec_store.specs.Store.{Entry, Soup, Store, TagTable, entry_of, change_soup, change_entry, add_entry, remove_entry, soup_of, with_index, without_index, entry_at, next_uid_of, with_graph}
 use Rattle.newt_spec_store.specs.Valid.{well_formed}
 use Rattle.newt_laws_images.proofs.Stores.{IsSoup}
 use Rattle.newt_laws_changes.proofs.Chosen.{find-passes, soup-there, soup-good, entry-below}
@@ -23,7 +23,7 @@ use Rattle.newt_ranges.proofs.Laws as laws
 use Rattle.newt_ranges.proofs.Patched.{IsPatch, patched_ranges}
 use Rattle.newt_ranges.proofs.Seen.{filled-like}
 use Rattle.newt_ranges.proofs.Standing.{none_changed}
-use Rattle.newt_store.specs.Change.{changed_by, answer_of, refusals, refusal_of, full_check, changed_soup, dropped_soup, moved_entry, with_graph, large_of, patched_entry, has_no_ids}
+use Rattle.newt_store.specs.Change.{changed_by, answer_of, refusals, refusal_of, full_check, changed_soup, dropped_soup, moved_entry, large_of, patched_entry, has_no_ids}
 use Rattle.newt_store.specs.declared.change.Change.{Change}
 use Rattle.newt_store.specs.declared.change.Change.TheVariants as change
 use Rattle.newt_indexed.specs.Steps.{IsStepOf, IsDeclaring, rows_after}

@@ -13,7 +13,7 @@ use Rattle.newt_spec_graph.specs.Limits.{within_limits, is_within}
 use Rattle.newt_graph.specs.Meeting.{normal_form}
 use Rattle.newt_spec_graph.specs.Slots.{put}
 use Rattle.newt_spec_store.specs.Keys.{Path}
-use Rattle.newt_spec_store.specs.Store.{Store, Soup, Entry, soup_named, entry_of, change_soup, change_entry, add_entry}
+use Rattle.newt_spec_store.specs.Store.{Store, Soup, Entry, soup_named, entry_of, change_soup, change_entry, add_entry, with_graph}
 use Rattle.newt_image.specs.Objects.{pages_for}
 use Rattle.newt_spec_store.specs.Cost.{skeleton_length, entry_pages}
 use Rattle.newt_spec_store.specs.Valid.{well_formed, fits, valid_soup, valid_entry}
@@ -22,7 +22,7 @@ use Rattle.newt_spec_query.specs.Cursor.{Cursor}
 use Rattle.newt_spec_world.specs.declared.command.Command.{Command}
 use Rattle.newt_spec_world.specs.declared.command.Command.TheVariants as command
 use Rattle.newt_spec_world.specs.World.{World, Media, blank, one, mounted_store, soup_in, entry_in, flat, free_cursor, change_soup_in}
-use Rattle.newt_spec_world.specs.Changed.{changed, with_graph, graph_after_set, patched_at, bytes_of_large, Step, step_from, open_at, put_on, cloned}
+use Rattle.newt_spec_world.specs.Changed.{changed, graph_after_set, patched_at, bytes_of_large, Step, step_from, open_at, put_on, cloned}
 use Rattle.newt_spec_world.specs.Refused.{on_some}
 use Rattle.newt_laws.specs.Worlds.{OnMedia, OnUnits}
 use Rattle.newt_spec_graph.proofs.Lists.{none-some}

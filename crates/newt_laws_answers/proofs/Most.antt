@@ -13,12 +13,12 @@ use Rattle.newt_spec_graph.proofs.Lists.{some-same, none-some}
 use Rattle.newt_spec_query.specs.Cursor.{Cursor}
 use Rattle.newt_spec_store.specs.Keys.{Path}
 use Rattle.newt_spec_store.specs.Valid.{valid_entry}
-use Rattle.newt_spec_store.specs.Store.{Store, Soup, Entry, soup_named, entry_of, change_first, change_soup, change_entry, make_soup, drop_soup, add_entry, remove_entry, next_uid_of, with_index, without_index}
+use Rattle.newt_spec_store.specs.Store.{Store, Soup, Entry, soup_named, entry_of, change_first, change_soup, change_entry, make_soup, drop_soup, add_entry, remove_entry, next_uid_of, with_index, without_index, with_graph}
 use Rattle.newt_spec_world.specs.declared.command.Command.{Command}
 use Rattle.newt_spec_world.specs.declared.command.Command.TheVariants as command
 use Rattle.newt_spec_world.specs.declared.command.PartWord.{PartWord}
 use Rattle.newt_spec_world.specs.World.{World, default_unit, store_on_unit, soup_in, entry_in, change_store}
-use Rattle.newt_spec_world.specs.Changed.{changed, with_graph, with_tags, spec_of_words, large_at}
+use Rattle.newt_spec_world.specs.Changed.{changed, with_tags, spec_of_words, large_at}
 use Rattle.newt_spec_world.specs.Refused.{checks, real_part}
 use Rattle.newt_laws.specs.Worlds.{parts_fit, tags_fit}
 use Rattle.newt_laws.proofs.Settled.{find-passes}

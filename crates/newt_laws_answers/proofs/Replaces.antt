@@ -15,12 +15,12 @@ use Rattle.newt_spec_graph.proofs.Lists.{some-same}
 use Rattle.newt_spec_store.specs.Cost.{cost, skeleton_length}
 use Rattle.newt_spec_store.specs.Keys.{Path}
 use Rattle.newt_spec_store.specs.Valid.{valid_entry}
-use Rattle.newt_spec_store.specs.Store.{Store, Soup, Entry, soup_named, entry_of, change_first, change_soup, change_entry}
+use Rattle.newt_spec_store.specs.Store.{Store, Soup, Entry, soup_named, entry_of, change_first, change_soup, change_entry, with_graph}
 use Rattle.newt_spec_world.specs.declared.command.Command.{Command}
 use Rattle.newt_spec_world.specs.declared.command.Command.TheVariants as command
 use Rattle.newt_spec_world.specs.World.{World, device, store_of, entry_in, change_store}
 use Rattle.newt_spec_world.specs.Reply.{Reply}
-use Rattle.newt_spec_world.specs.Changed.{changed, with_graph, graph_after_set}
+use Rattle.newt_spec_world.specs.Changed.{changed, graph_after_set}
 use Rattle.newt_spec_world.specs.Refused.{checks, on_some, no_unit, not_mounted, no_soup, no_entry, full}
 use Rattle.newt_spec_world.specs.Answer.{fields}
 use Rattle.newt_laws.proofs.Frames.{set-frame, normal-frame}

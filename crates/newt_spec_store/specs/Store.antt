@@ -81,6 +81,10 @@ add_entry time graph p =
 abbrev pub remove_entry : ℕ → Soup → Soup
 remove_entry uid p = record p { entries = filter (λ e. not (e.uid == uid)) p.entries }
 
+-- an entry with this graph, at this minute; it keeps its id (this project's own)
+abbrev pub with_graph : ℕ → RawGraph → Entry → Entry
+with_graph time graph e = record e { time = time; graph = graph }
+
 -- the declaration of an index is appended (Newton Programmer's Guide 2.0, indexes)
 abbrev pub with_index : IndexSpec → Soup → Soup
 with_index spec p = record p { specs = p.specs ++ spec ∷ [] }

@@ -17,7 +17,7 @@ use Rattle.newt_spec_store.specs.Cost.{entry_pages}
 use Rattle.newt_spec_store.specs.Image.{entry_bytes}
 use Rattle.newt_spec_store.specs.Laid.{bare}
 use Rattle.newt_spec_store.specs.Lies.{Places}
-use Rattle.newt_spec_store.specs.Store.{Soup, Store, Entry, entry_of, change_soup, change_entry, soup_of, entry_at}
+use Rattle.newt_spec_store.specs.Store.{Soup, Store, Entry, entry_of, change_soup, change_entry, soup_of, entry_at, with_graph}
 use Rattle.newt_spec_store.specs.Valid.{well_formed, valid_entry}
 use Rattle.newt_soupdir.specs.Bare.{bare_store}
 use Rattle.newt_soupdir.specs.declared.rows.Directory.{Directory}
@@ -36,7 +36,7 @@ use Rattle.newt_catalog.specs.declared.catalog.Catalog.{Catalog}
 use Rattle.newt_store.specs.declared.change.Change.TheVariants.{Replace}
 use Rattle.newt_store.specs.declared.next.Gone.TheVariants.{Nothing}
 use Rattle.newt_store.specs.declared.next.Next.{Next}
-use Rattle.newt_store.specs.Change.{first_checks, is_too_large, changed_soup, with_graph, pages_of_entry}
+use Rattle.newt_store.specs.Change.{first_checks, is_too_large, changed_soup, pages_of_entry}
 use Rattle.newt_store.specs.Next.{LosesNames, IsGoing, AreNext, ArePlacesNext, Turns, IsPlanOf, IsEntryOf}
 use Rattle.newt_catalog.specs.Stands.{Describes}
 use Rattle.newt_store.proofs.Adding.{is-valid-graph, small-is}

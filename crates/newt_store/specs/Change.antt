@@ -8,7 +8,7 @@ use Rattle.newt_base.specs.Refusals.{Checks, first_of}
 use Rattle.newt_image.specs.Pages.{cap}
 use Rattle.newt_graph.specs.Graph.{RawGraph}
 use Rattle.newt_spec_graph.specs.Graph.{is_frame, object}
-use Rattle.newt_spec_store.specs.Store.{Entry, Soup, Store, soup_named, change_soup, change_entry, make_soup, drop_soup, add_entry, remove_entry, soup_of, entry_at, next_uid_of, with_index, without_index}
+use Rattle.newt_spec_store.specs.Store.{Entry, Soup, Store, soup_named, change_soup, change_entry, make_soup, drop_soup, add_entry, remove_entry, soup_of, entry_at, next_uid_of, with_graph, with_index, without_index}
 use Rattle.newt_spec_store.specs.Cost.{cost, directory_pages, skeleton_length, entry_pages, soup_pages, patch_bytes}
 use Rattle.newt_spec_store.specs.StoreOf.{fill}
 use Rattle.newt_host.specs.Moments.{overwritten}
@@ -33,10 +33,6 @@ dropped_soup (Some p) s = drop_soup p.name s
 abbrev pub moved_entry : Option Entry → Option Soup → Option Soup → ℕ → Store → Store
 moved_entry None source target now s = s
 moved_entry (Some e) source target now s = changed_soup source (remove_entry e.uid) (changed_soup target (add_entry now e.graph) s)
-
--- the entry at a minute, with another graph; it keeps its id
-abbrev pub with_graph : ℕ → RawGraph → Entry → Entry
-with_graph now graph e = record e { time = now; graph = graph }
 
 -- the bytes of a large binary, none of another node
 abbrev pub bytes_in : Option Node → Option (List ℕ)

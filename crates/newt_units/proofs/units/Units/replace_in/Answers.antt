@@ -1,7 +1,7 @@
 -- A call on the card of the unit changes the unit's store alone.
 use Rattle.std.proofs.Common.{sym, refl, [], ◌∷◌}
 use Rattle.std.specs.Bool.{⊤}
-use Rattle.newt_spec_world.specs.Changed.{with_graph}
+use Rattle.newt_spec_store.specs.Store.{with_graph}
 use Rattle.newt_laws_answers.specs.Bounds.{change_bytes, unless}
 use Rattle.newt_laws_answers.specs.Tests.{replace_tests, replaced}
 use Rattle.newt_units.proofs.Calls.{Called, mounted-bound, not-there, cause-of, on-devices, call-stands, call-does, call-moments, call-costs}
