@@ -3,8 +3,7 @@ ghost use Rattle.std.specs.Prelude.{◌≡◌, ◌||◌, is_none};
 ghost use Rattle.std.specs.Char.{is_ascii_digit};
 ghost use Rattle.std.specs.List.{list_all, list_any};
 ghost use Rattle.newt_base.specs.Names.{is_identifier, starts_identifier, same_name};
-ghost use Rattle.newt_laws.specs.Worlds.{parts_fit};
-ghost use Rattle.newt_laws_answers.specs.Spoken.{tags_fit};
+ghost use Rattle.newt_laws.specs.Worlds.{parts_fit, tags_fit};
 ghost use Rattle.newt_spec_graph.specs.Lists.{all_apart};
 ghost use Rattle.newt_spec_store.specs.Valid.{valid_path, valid_symbol};
 

@@ -3,11 +3,10 @@ ghost use Rattle.std.specs.Prelude.{◌≡◌, ℕ, true, false, IsTrue, None, o
 ghost use Rattle.newt_host.specs.Outside.{Outside};
 ghost use Rattle.newt_cursor.specs.Seen.{query_of, hit_of};
 ghost use Rattle.newt_query.specs.Filter.{asks_texts};
-ghost use Rattle.newt_spec_store.specs.Store.{Store};
+ghost use Rattle.newt_spec_store.specs.Store.{Store, soup_of};
 ghost use Rattle.newt_spec_world.specs.World.{mounted_stores};
 ghost use Rattle.newt_laws_answers.specs.There.{OnUnit};
 ghost use Rattle.newt_laws_hits.specs.Stripped.{passing};
-ghost use Rattle.newt_cardstore.specs.Cards.{soup_of};
 ghost use Rattle.newt_cardstore.specs.Faults.{HasStopCause};
 ghost use Rattle.newt_units.specs.Stands.{Eight, Stands, mounted_in, world_of};
 ghost use Rattle.newt_walk.specs.Searched.{keeps_in};
