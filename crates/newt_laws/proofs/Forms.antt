@@ -5,7 +5,7 @@ use Rattle.std.specs.Prelude.{⊤, bytes_eq}
 use Rattle.std.proofs.lemmas.Bool.{and_parts}
 use Rattle.newt_base.specs.declared.Refusal.{Refusal}
 use Rattle.newt_base.specs.declared.Refusal.TheVariants.{Line as NotTheForm}
-use Rattle.newt_base.specs.Names.{is_name, same_name}
+use Rattle.newt_base.specs.Names.{is_name, same_name, needs_quotes}
 use Rattle.newt_base.specs.Text.{below, digits_value, signed_value, hex_bytes}
 use Rattle.newt_graph.specs.Graph.{RawGraph}
 use Rattle.newt_spec_graph.specs.Limits.{within_limits}
@@ -150,7 +150,7 @@ gives-name cs n rest e = from (skip_blanks cs) e
     from (c ∷ more) f = go (c == 34) f
       where
         bare : Gives (λ n. is_name n ≡ true) (word bare_name)
-        bare = gives-word (λ n. is_name n ≡ true) bare_name (λ cs a e. (and_parts (is_name a) (list_all (λ c. not ((c == 32) || (c == 34) || (c == 92))) a) (only-passes (λ cs. is_name cs && list_all (λ c. not ((c == 32) || (c == 34) || (c == 92))) cs) cs a e)).0)
+        bare = gives-word (λ n. is_name n ≡ true) bare_name (λ cs a e. (and_parts (is_name a) (list_all (λ c. not (needs_quotes c)) a) (only-passes (λ cs. is_name cs && list_all (λ c. not ((c == 32) || (c == 34) || (c == 92))) cs) cs a e)).0)
 
         go : (b : Bool) → (if b then if_name (quoted more) else word bare_name (c ∷ more)) ≡ Ok (n, rest) → is_name n ≡ true
         go true k = named (quoted more) n rest k
