@@ -1,11 +1,11 @@
 -- What holds of worlds, and of the commands that they are asked.
 use Rattle.std.specs.Prelude.{◌≡◌, ℕ, Bool, true, ◌&&◌, nat_le, IsTrue, List, length, Some, ⊤}
 use Rattle.std.specs.List.{list_all}
-use Rattle.newt_base.specs.Names.{is_name, same_name}
+use Rattle.newt_base.specs.Names.{is_name, same_name, is_identifier}
 use Rattle.newt_spec_graph.specs.Limits.{within_limits}
 use Rattle.newt_spec_store.specs.Store.{Store}
 use Rattle.newt_spec_graph.specs.Lists.{all_apart}
-use Rattle.newt_spec_store.specs.Valid.{valid, valid_path, valid_symbol}
+use Rattle.newt_spec_store.specs.Valid.{valid, valid_path}
 use Rattle.newt_spec_world.specs.declared.command.Command.{Command}
 use Rattle.newt_spec_world.specs.declared.command.Command.TheVariants as command
 use Rattle.newt_spec_world.specs.declared.command.PartWord.{PartWord}
@@ -33,7 +33,7 @@ unfoldable pub has_form : Command → Bool
 has_form (command.Format u name sig) = is_name name && nat_le sig 536_870_911
 has_form (command.Soup u name) = is_name name
 has_form (command.Index u s parts) = parts_fit parts
-has_form (command.SetTags u s path symbols) = valid_path path && list_all valid_symbol symbols && all_apart same_name symbols
+has_form (command.SetTags u s path symbols) = valid_path path && list_all is_identifier symbols && all_apart same_name symbols
 has_form (command.Add u s g) = within_limits g
 has_form (command.Addx u s g) = within_limits g
 has_form (command.Addu s g) = within_limits g

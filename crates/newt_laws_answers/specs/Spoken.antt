@@ -1,12 +1,12 @@
 -- What the world answers to the commands of lines. All of it is this project's own.
 use Rattle.std.specs.Prelude.{ℕ, nat_le, Bool, true, ◌&&◌, cond, List, [], ◌∷◌}
 use Rattle.std.specs.List.{list_all}
-use Rattle.newt_base.specs.Names.{same_name}
+use Rattle.newt_base.specs.Names.{same_name, is_identifier}
 use Rattle.newt_base.specs.Refusals.{Checks, first_of}
 use Rattle.newt_base.specs.declared.Refusal.TheVariants.{Command as NoCommand}
 use Rattle.newt_spec_graph.specs.Lists.{all_apart}
 use Rattle.newt_spec_store.specs.Keys.{Path}
-use Rattle.newt_spec_store.specs.Valid.{valid_path, valid_symbol}
+use Rattle.newt_spec_store.specs.Valid.{valid_path}
 use Rattle.newt_spec_world.specs.declared.command.Command.{Command}
 use Rattle.newt_spec_world.specs.declared.command.Command.TheVariants as command
 use Rattle.newt_spec_world.specs.World.{World}
@@ -17,7 +17,7 @@ use Rattle.newt_laws.specs.Worlds.{parts_fit}
 
 -- the path and the symbols of a tags declaration are such as a line gives
 abbrev pub tags_fit : Path → List (List ℕ) → Bool
-tags_fit path symbols = valid_path path && list_all valid_symbol symbols && all_apart same_name symbols
+tags_fit path symbols = valid_path path && list_all is_identifier symbols && all_apart same_name symbols
 
 -- A command as a line can give it: no line gives a signature above the largest, or parts or tags of another form.
 abbrev pub is_spoken : Command → Bool

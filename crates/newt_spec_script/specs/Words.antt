@@ -3,14 +3,13 @@ use Rattle.std.specs.Prelude.{ℕ, ◌+◌, ◌-◌, Bool, true, false, not, ◌
 use Rattle.std.specs.List.{list_all, prefix_len}
 use Rattle.newt_base.specs.declared.Refusal.{Refusal}
 use Rattle.newt_base.specs.declared.Refusal.TheVariants.{Line as NotTheForm}
-use Rattle.newt_base.specs.Names.{is_name, needs_quotes}
+use Rattle.newt_base.specs.Names.{is_name, is_identifier, needs_quotes}
 use Rattle.newt_base.specs.Text.{below, digits_value}
 use Rattle.newt_spec_store.specs.declared.Kind.{Kind}
 use Rattle.newt_spec_store.specs.declared.Kind.TheVariants as kind
 use Rattle.newt_spec_store.specs.declared.Order.{Order}
 use Rattle.newt_spec_store.specs.declared.Order.TheVariants as order
 use Rattle.newt_path.specs.Names.{path_of}
-use Rattle.newt_spec_store.specs.Valid.{valid_symbol}
 use Rattle.newt_spec_world.specs.declared.command.PartWord.{PartWord}
 
 -- a space or a tab (this project's own)
@@ -176,4 +175,4 @@ several most form cs =
 
 -- an identifier of at most 254 bytes (this project's own)
 abbrev pub symbol : List ℕ → Option (List ℕ)
-symbol = only valid_symbol
+symbol = only is_identifier
