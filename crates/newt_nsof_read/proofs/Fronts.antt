@@ -7,7 +7,7 @@ use Rattle.newt_graph.specs.declared.node.Node.{Node}
 use Rattle.newt_graph.specs.declared.node.Node.TheVariants.{Array, Frame}
 use Rattle.newt_graph.specs.declared.node.Ref.{Ref}
 use Rattle.newt_nsof.specs.Text.{SymbolText, Again, Object}
-use Rattle.newt_nsof.proofs.Normal.{get_append}
+use Rattle.newt_graph.proofs.Grows.{get_append}
 use Rattle.newt_nsof_read.specs.declared.tag.Tag.{Tag}
 use Rattle.newt_nsof_read.specs.declared.tag.Tag.TheVariants as tags
 use Rattle.newt_nsof_read.specs.declared.open.Kind.{Kind}

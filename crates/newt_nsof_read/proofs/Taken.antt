@@ -6,7 +6,7 @@ use Rattle.std.proofs.lemmas.List.{append-nil, length_push}
 use Rattle.newt_graph.specs.declared.node.Node.{Node}
 use Rattle.newt_graph.specs.declared.node.Node.TheVariants.{Symbol}
 use Rattle.newt_nsof.specs.Text.{Interned, InternedEach, SymbolText, Again, Label, Labels}
-use Rattle.newt_nsof.proofs.Normal.{get_append, get_seam}
+use Rattle.newt_graph.proofs.Grows.{get_append, get_seam}
 use Rattle.newt_nsof_read.specs.declared.tag.Tag.{Tag}
 use Rattle.newt_nsof_read.specs.declared.tag.Tag.TheVariants as tags
 use Rattle.newt_nsof_read.specs.Met.{Met}

@@ -21,7 +21,8 @@ use Rattle.newt_graph.specs.Raw.{renamed_ref, renamed, IsValue}
 use Rattle.newt_graph.specs.Draft.{is_alike, find_alike}
 use Rattle.newt_graph.specs.Import.{known_as, numbers_from, kept_of, looked_up, behind, with_graph}
 use Rattle.newt_spec_graph.specs.Slots.{is_named, symbol_number, known_number, new_nodes, goes_to}
-use Rattle.newt_graph.proofs.Grows.{some_is, get_append}
+use Rattle.newt_graph.proofs.Grows.{some_is}
+use Rattle.newt_graph.proofs.Drafts.{alike_append}
 use Rattle.newt_graph.proofs.Form.{at_map, any_at}
 use Rattle.newt_path.proofs.Below.{Within, nodes_within, root_within}
 
@@ -204,9 +205,6 @@ new_lands old new k node e none =
     let there : slice_get ks (place_of k ks) ≡ Some (k, node) = new_at old new 0 k k node (omega arith) e none in
     ap (λ (m : ℕ). slice_get (joined old new) m) number
     ∙ (get_behind old (map (λ k. renamed to k.1) ks) (place_of k ks) ∙ at_map (λ k. renamed to k.1) ks (place_of k ks) (k, node) there)
-
-alike_append : (nodes rest : List Node) (k : ℕ) (name : List ℕ) → IsAlike nodes k name → IsAlike (nodes ++ rest) k name
-alike_append nodes rest k name a = (a.0, get_append nodes rest k (Symbol a.0) a.1, a.2)
 
 -- a symbol goes to one that is alike
 pub symbol_lands : (old new : List Node) (k : ℕ) (name : List ℕ) → slice_get new k ≡ Some (Symbol name) → IsAlike (joined old new) (goes_to old new k) name
