@@ -2,8 +2,9 @@
 use Rattle.std.proofs.Common.{◌≡◌, ℕ, zero, suc, ◌+◌, ◌-◌, ◌<◌, ◌≤◌, List, [], ◌∷◌, ◌++◌, length, get_or, Bool, true, false, Option, Some, None, refl, sym, ap, subst, ◌∙◌, arith, cond, inl, inr, ◌⊎◌}
 use Rattle.std.specs.Prelude.{slice_get, set, nat_lt}
 use Rattle.std.specs.List.{sum_by, position_from}
-use Rattle.std.specs.Str.{str_eq_ignore_ascii_case}
+use Rattle.std.specs.Str.{bytes_eq, str_eq_ignore_ascii_case}
 use Rattle.std.proofs.lemmas.Bool.{leb-true, le-leb, ltb-true}
+use Rattle.std.proofs.lemmas.Bool.Decides.{same_from_decides}
 use Rattle.std.proofs.lemmas.Slice.Eq.{bytes_eq-Decides}
 use Rattle.std.proofs.lemmas.List.{length_push, length-set}
 use Rattle.std.proofs.lemmas.List.Sums.{sum_by_push, sum_by-set}
@@ -18,6 +19,10 @@ use Rattle.newt_graph.specs.Meeting.{place}
 use Rattle.std.proofs.lemmas.Option.{slice_get_within, get_or_from_slice_get}
 use Rattle.newt_graph.proofs.Grows.{get_append, at_push, some_is}
 use Rattle.std.proofs.lemmas.List.Elements.{All-head}
+
+-- names are alike in either order
+pub bytes_eq-sym : (a b : List ℕ) → bytes_eq a b ≡ bytes_eq b a
+bytes_eq-sym a b = same_from_decides (bytes_eq a b) (bytes_eq b a) (bytes_eq-Decides a b) ((λ e. sym ((bytes_eq-Decides b a).0 e)), (λ e. (bytes_eq-Decides b a).1 (sym e)))
 
 pub once_push : (nodes : List Node) (node : Node) → AreFoldedOnce nodes → ((name : List ℕ) → node ≡ Symbol name → (k : ℕ) → IsAlike nodes k name → ⊥) → AreFoldedOnce (nodes ++ node ∷ [])
 once_push nodes node once new i k name h alike =
