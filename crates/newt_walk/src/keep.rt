@@ -8,7 +8,6 @@ ghost use Rattle.newt_spec_store.specs.Store.{Store, soup_of};
 ghost use Rattle.newt_spec_world.specs.World.{mounted_stores};
 ghost use Rattle.newt_laws_answers.specs.There.{OnUnit};
 ghost use Rattle.newt_laws_hits.specs.Stripped.{passing};
-
 ghost use Rattle.newt_units.specs.Stands.{Eight, Stands, mounted_in, world_of};
 ghost use Rattle.newt_walk.specs.Searched.{keeps_in};
 ghost use Rattle.newt_walk.specs.World.{AreRead};

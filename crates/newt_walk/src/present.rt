@@ -12,7 +12,6 @@ ghost use Rattle.newt_laws.specs.Settled.{MountedApart};
 ghost use Rattle.newt_laws_answers.specs.There.{OnUnit};
 ghost use Rattle.newt_laws_hits.specs.Located.{takes_part};
 ghost use Rattle.newt_laws_hits.specs.Taking.{declared};
-
 ghost use Rattle.newt_units.specs.Stands.{Eight, Stands, world_of};
 ghost use Rattle.newt_pass.specs.Kept.{kept_key};
 ghost use Rattle.newt_cardstore.specs.Cards.{plain_entry};
