@@ -1,9 +1,9 @@
 -- Each call goes on from the moment at which it began.
-use Rattle.std.proofs.Common.{◌≡◌, ◌↔◌, ◌⊎◌, inl, inr, ℕ, ◌+◌, ◌-◌, ◌≤◌, List, [], ◌∷◌, ◌++◌, length, drop, Result, refl, sym, ◌∙◌, ap, subst, arith, append_assoc, length-append}
+use Rattle.std.proofs.Common.{◌≡◌, ◌↔◌, ◌⊎◌, inl, inr, ℕ, ◌+◌, ◌-◌, ◌≤◌, List, [], ◌∷◌, ◌++◌, length, drop, refl, sym, ◌∙◌, ap, subst, arith, append_assoc, length-append}
 use Rattle.std.proofs.lemmas.Bool.{cases_lt}
 use Rattle.std.proofs.Math.Seq.{drop-append-add}
-use Rattle.newt_host.specs.Moments.{Event, On, Wrote, Printed, Moment, output, MayLeave, Extends, Always, here, later, moment_at, LeftSince}
-use Rattle.newt_host.specs.Outside.{Writes, PrintsSome, printed}
+use Rattle.newt_host.specs.Moments.{Event, Printed, Moment, output, MayLeave, Extends, Always, here, later, moment_at, LeftSince}
+use Rattle.newt_host.specs.Outside.{PrintsSome, printed}
 
 pub extends-refl : (m : Moment) → Extends m m
 extends-refl m = record { more = []; is = refl }
@@ -17,12 +17,6 @@ extends-one event m = record { more = event ∷ []; is = refl }
 pub extends-always : {P : Moment → Type 0} {old new : Moment} → Always P old new → Extends old new
 extends-always {old = old} (here p) = extends-refl old
 extends-always (later event now so_far p) = extends-trans (extends-always so_far) (extends-one event now)
-
-pub extends-writes : {T E : Type 0} {unit at : ℕ} {bytes : List ℕ} {result : Result T E} {old new : Moment} → Writes unit at bytes result old new → Extends old new
-extends-writes {unit = unit} {at = at} {old = old} wrote = elim wrote.moment [
-  | inl is ↦ record { more = On unit (Wrote at wrote.reads) ∷ []; is = is }
-  | inr same ↦ record { more = []; is = same.0 }
-]
 
 -- a moment that had come by then is the same since
 pub moment-stays : (k : ℕ) {old new : Moment} → Extends old new → k ≤ length old → moment_at k new ≡ moment_at k old

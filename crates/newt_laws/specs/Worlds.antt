@@ -1,12 +1,12 @@
 -- What holds of worlds, and of the commands that they are asked.
 use Rattle.std.specs.Prelude.{◌≡◌, ℕ, Bool, true, ◌&&◌, nat_le, IsTrue, List, length, Some, ⊤}
 use Rattle.std.specs.List.{list_all}
-use Rattle.newt_base.specs.Names.{is_name, same_name}
+use Rattle.newt_base.specs.Names.{is_name, same_name, is_identifier}
 use Rattle.newt_spec_graph.specs.Limits.{within_limits}
 use Rattle.newt_spec_store.specs.Keys.{Path}
 use Rattle.newt_spec_store.specs.Store.{Store}
 use Rattle.newt_spec_graph.specs.Lists.{all_apart}
-use Rattle.newt_spec_store.specs.Valid.{valid, valid_path, valid_symbol}
+use Rattle.newt_spec_store.specs.Valid.{valid, valid_path}
 use Rattle.newt_spec_world.specs.declared.command.Command.{Command}
 use Rattle.newt_spec_world.specs.declared.command.Command.TheVariants as command
 use Rattle.newt_spec_world.specs.declared.command.PartWord.{PartWord}
@@ -35,7 +35,7 @@ parts_fit parts = nat_le 1 (length parts) && nat_le (length parts) 4 && list_all
 
 -- a path, and symbols no two of which are one but for the case of letters
 abbrev pub tags_fit : Path → List (List ℕ) → Bool
-tags_fit path symbols = valid_path path && list_all valid_symbol symbols && all_apart same_name symbols
+tags_fit path symbols = valid_path path && list_all is_identifier symbols && all_apart same_name symbols
 
 -- The words of a command have the forms of the script.
 unfoldable pub has_form : Command → Bool

@@ -59,7 +59,7 @@ pub record HasMoved (device : Device) (old new : Card) : Type 0 where
   pub programmed : new.programmed ≡ old.programmed
   pub fetched : new.fetched ≡ old.fetched
 
--- the same, and for as many bytes in the output
+-- there is room for so many entries and bytes in the log, and for as many bytes in the output
 pub record HasRoomFor (entries bytes : ℕ) (output : Vec ℕ Global) (log : Log) : Type 0 where
   pub log_fits : HasRoom entries bytes log
   pub output_fits : vec_len output + bytes ≤ vec_capacity output

@@ -8,9 +8,9 @@ ghost use Rattle.newt_memhost.specs.Happened.{after, bytes_of, counts};
 ghost use Rattle.newt_memhost.specs.Log.{HasRoom, now_of};
 
 use crate::card::Card;
+use crate::faults::count;
 use crate::happened::Happened;
 use crate::log::Log;
-use crate::parts::count;
 use newt_host::{Failed, Unit};
 
 /// Keeps a call that writes nothing.

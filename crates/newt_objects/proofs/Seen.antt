@@ -53,11 +53,3 @@ placed-push rows plans p are row none = record {
 
 nowhere : (k : ℕ) (p : Plan) → slice_get [] k ≡ Some p → ⊥
 nowhere k p e = cc
-
-pub placed-none : (rows : Rows) (plans : List Plan) → plans ≡ [] → ArePlaced rows plans
-placed-none rows plans none = record {
-  placed = λ k p e. absurd (nothing k p e);
-  once = λ k l p q e f same. absurd (nothing k p e);
-} where
-  nothing : (k : ℕ) (p : Plan) → slice_get plans k ≡ Some p → ⊥
-  nothing k p e = nowhere k p (ap (λ (l : List Plan). slice_get l k) (sym none) ∙ e)

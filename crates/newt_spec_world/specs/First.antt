@@ -13,10 +13,6 @@ abbrev pub media_of : Option Store → Media
 media_of None = blank
 media_of (Some s) = one s
 
--- no unit has a device (this project's own)
-abbrev pub no_devices : World
-no_devices = first_world (map (λ u. None) unit_numbers)
-
 module _ (store_of_image : List ℕ → Option Store) (held : List ℕ → Option (List ℕ)) where
   -- a device of this image, which is not mounted (this project's own)
   abbrev pub device_of : List ℕ → Device

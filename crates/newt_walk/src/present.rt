@@ -3,6 +3,7 @@ ghost use Rattle.std.specs.Prelude.{◌≡◌, ◌&&◌, ℕ, true, IsTrue, Some
 ghost use Rattle.newt_base.specs.Names.{equal_text};
 ghost use Rattle.newt_host.specs.Moments.{image};
 ghost use Rattle.newt_host.specs.Outside.{Outside};
+ghost use Rattle.newt_pagebook.specs.Stops.{HasStopCause};
 ghost use Rattle.newt_keys.specs.KeyForm.{IsKeyOf};
 ghost use Rattle.newt_cursor.specs.Seen.{query_of, scope_of};
 ghost use Rattle.newt_spec_store.specs.Store.{Store, Soup, soup_of};
@@ -11,7 +12,6 @@ ghost use Rattle.newt_laws.specs.Settled.{MountedApart};
 ghost use Rattle.newt_laws_answers.specs.There.{OnUnit};
 ghost use Rattle.newt_laws_hits.specs.Located.{takes_part};
 ghost use Rattle.newt_laws_hits.specs.Taking.{declared};
-ghost use Rattle.newt_cardstore.specs.Faults.{HasStopCause};
 ghost use Rattle.newt_units.specs.Stands.{Eight, Stands, world_of};
 ghost use Rattle.newt_pass.specs.Kept.{kept_key};
 ghost use Rattle.newt_cardstore.specs.Cards.{plain_entry};
