@@ -1,10 +1,9 @@
 //! The forms of the words that a declaration is made of.
 ghost use Rattle.std.specs.Prelude.{◌≡◌, is_none};
 ghost use Rattle.std.specs.List.{list_all, list_any};
-ghost use Rattle.newt_base.specs.Names.{is_identifier, same_name};
+ghost use Rattle.newt_base.specs.Names.{is_identifier, same_name, valid_path};
 ghost use Rattle.newt_laws.specs.Worlds.{parts_fit, tags_fit};
 ghost use Rattle.newt_spec_graph.specs.Lists.{all_apart};
-ghost use Rattle.newt_spec_store.specs.Valid.{valid_path};
 
 use newt_base::is_identifier;
 use newt_graph::Bytes;

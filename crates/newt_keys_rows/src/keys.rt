@@ -1,6 +1,6 @@
 //! Keys of literals.
 ghost use Rattle.std.specs.Prelude.{IfOk, IsTrue};
-ghost use Rattle.newt_spec_store.specs.Valid.{valid_path};
+ghost use Rattle.newt_base.specs.Names.{valid_path};
 
 use newt_graph::Graph;
 use newt_keys::{IndexPart, IndexSpec, Key, Kind, Order, Part, key_from, key_of};

@@ -5,7 +5,7 @@ use Rattle.std.specs.Prelude.{⊤, bytes_eq}
 use Rattle.std.proofs.lemmas.Bool.{and_parts}
 use Rattle.newt_base.specs.declared.Refusal.{Refusal}
 use Rattle.newt_base.specs.declared.Refusal.TheVariants.{Line as NotTheForm}
-use Rattle.newt_base.specs.Names.{is_name, same_name, is_identifier, needs_quotes}
+use Rattle.newt_base.specs.Names.{is_name, same_name, is_identifier, needs_quotes, valid_path}
 use Rattle.newt_base.specs.Text.{below, digits_value, signed_value, hex_bytes}
 use Rattle.newt_graph.specs.Graph.{RawGraph}
 use Rattle.newt_spec_graph.specs.Limits.{within_limits}
@@ -13,7 +13,6 @@ use Rattle.newt_spec_graph.specs.Lists.{Each, all_apart}
 use Rattle.newt_spec_graph.proofs.Lists.{each-at, none-some, some-same}
 use Rattle.newt_path.specs.Names.{path_of}
 use Rattle.newt_spec_store.specs.Keys.{Path}
-use Rattle.newt_spec_store.specs.Valid.{valid_path}
 use Rattle.newt_spec_world.specs.declared.command.Command.{Command}
 use Rattle.newt_spec_world.specs.declared.command.Command.TheVariants as command
 use Rattle.newt_spec_world.specs.declared.command.PartWord.{PartWord}

@@ -4,11 +4,11 @@ use Rattle.std.specs.Option.{is_none, is_some}
 use Rattle.std.specs.Bool.{⊤}
 use Rattle.std.specs.List.{list_all, list_any}
 use Rattle.std.proofs.lemmas.Bool.{eqb-false, ltb-false, leb-false, and_parts}
-use Rattle.newt_base.specs.Names.{same_name, is_identifier}
+use Rattle.newt_base.specs.Names.{same_name, is_identifier, valid_path}
 use Rattle.newt_spec_store.specs.Keys.{Path, paths_of, same_paths}
 use Rattle.newt_spec_store.specs.Store.{Store, Soup, soup_named, change_soup, make_soup, drop_soup, remove_entry, new_store, with_index, without_index, with_graph}
 use Rattle.newt_spec_graph.specs.Lists.{all_apart}
-use Rattle.newt_spec_store.specs.Valid.{valid_spec, valid_tags, valid_path}
+use Rattle.newt_spec_store.specs.Valid.{valid_spec, valid_tags}
 use Rattle.newt_spec_world.specs.declared.command.Command.{Command}
 use Rattle.newt_spec_world.specs.declared.command.Command.TheVariants as command
 use Rattle.newt_spec_world.specs.declared.command.PartWord.{PartWord}

@@ -1,12 +1,12 @@
 -- What holds of worlds, and of the commands that they are asked.
 use Rattle.std.specs.Prelude.{◌≡◌, ℕ, Bool, true, ◌&&◌, nat_le, IsTrue, List, length, Some, ⊤}
 use Rattle.std.specs.List.{list_all}
-use Rattle.newt_base.specs.Names.{is_name, same_name, is_identifier}
+use Rattle.newt_base.specs.Names.{is_name, same_name, is_identifier, valid_path}
 use Rattle.newt_spec_graph.specs.Limits.{within_limits}
 use Rattle.newt_spec_store.specs.Keys.{Path}
 use Rattle.newt_spec_store.specs.Store.{Store}
 use Rattle.newt_spec_graph.specs.Lists.{all_apart}
-use Rattle.newt_spec_store.specs.Valid.{valid, valid_path}
+use Rattle.newt_spec_store.specs.Valid.{valid}
 use Rattle.newt_spec_world.specs.declared.command.Command.{Command}
 use Rattle.newt_spec_world.specs.declared.command.Command.TheVariants as command
 use Rattle.newt_spec_world.specs.declared.command.PartWord.{PartWord}

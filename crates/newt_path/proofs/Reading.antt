@@ -6,18 +6,18 @@ use Rattle.std.proofs.lemmas.Bool.{and_parts, and_left, and_right, and_from, leb
 use Rattle.std.proofs.lemmas.Bool.Decides.{nat_tests}
 use Rattle.std.proofs.lemmas.List.Elements.{All-nil, All-cons}
 use Rattle.std.proofs.lemmas.List.Splits.{length-slice_split}
-use Rattle.newt_base.specs.Names.{is_word, begins_name, is_identifier}
+use Rattle.newt_base.specs.Names.{is_word, begins_name, is_identifier, valid_path}
 use Rattle.newt_graph.specs.Graph.{IsName}
-use Rattle.newt_path.specs.Names.{IsPath, are_slot_names, path_of}
+use Rattle.newt_path.specs.Names.{IsPath, path_of}
 
 abbrev pub pieces : List ℕ → List (List ℕ)
 pieces text = slice_split (λ c. c == 46) text
 
-pub no_path : (text : List ℕ) → are_slot_names (pieces text) ≡ false → path_of text ≡ None
+pub no_path : (text : List ℕ) → valid_path (pieces text) ≡ false → path_of text ≡ None
 unfolding path_of
 no_path text e = rw e refl
 
-pub path_is : (text : List ℕ) → are_slot_names (pieces text) ≡ true → path_of text ≡ Some (pieces text)
+pub path_is : (text : List ℕ) → valid_path (pieces text) ≡ true → path_of text ≡ Some (pieces text)
 unfolding path_of
 path_is text e = rw e refl
 
@@ -36,7 +36,7 @@ no_name text k name lt e bad =
     no_path text (and_right (nat_le 1 (length (pieces text)) && nat_le (length (pieces text)) 8) (list_all is_identifier (pieces text))
     (list_all-fails is_identifier (pieces text) k name lt (subst (λ (n : List ℕ). is_identifier n ≡ false) e bad)))
 
-pub all_names : (text : List ℕ) (names : List (List ℕ)) → names ≡ pieces text → length names ≤ 8 → list_all is_identifier names ≡ true → are_slot_names names ≡ true
+pub all_names : (text : List ℕ) (names : List (List ℕ)) → names ≡ pieces text → length names ≤ 8 → list_all is_identifier names ≡ true → valid_path names ≡ true
 all_names text names e few each =
     let some : 1 ≤ length names = omega (arith, ap length e, length-slice_split (λ c. c == 46) text) in
     and_from (nat_le 1 (length names) && nat_le (length names) 8) (list_all is_identifier names) (and_from (nat_le 1 (length names)) (nat_le (length names) 8) (le-leb 1 (length names) some) (le-leb (length names) 8 few)) each
@@ -66,7 +66,7 @@ identifiers_are_names (n ∷ ns) e =
     let p = and_parts (is_identifier n) (list_all is_identifier ns) e in
     All-cons IsName n ns (identifier_is_name n p.0) (identifiers_are_names ns p.1)
 
-pub names_are_path : (names : List (List ℕ)) → are_slot_names names ≡ true → IsPath names
+pub names_are_path : (names : List (List ℕ)) → valid_path names ≡ true → IsPath names
 names_are_path names e =
     let p = and_parts (nat_le 1 (length names) && nat_le (length names) 8) (list_all is_identifier names) e in
     let q = and_parts (nat_le 1 (length names)) (nat_le (length names) 8) p.0 in

@@ -1,6 +1,6 @@
 //! The entries of the tests: each has one of eleven graphs, whose keys are known.
 ghost use Rattle.std.specs.Prelude.{IfOk, IsTrue, ◌≡◌};
-ghost use Rattle.newt_spec_store.specs.Valid.{valid_path};
+ghost use Rattle.newt_base.specs.Names.{valid_path};
 
 use newt_base::Uid;
 use newt_graph::Graph;

@@ -3,7 +3,7 @@ use Rattle.std.proofs.Common.{◌≡◌, ℕ, ◌≤◌, zero, suc, Bool, true, 
 use Rattle.std.specs.Prelude.{IsTrue, nat_le}
 use Rattle.std.specs.List.{list_all}
 use Rattle.std.proofs.lemmas.Bool.{and_from, le-leb}
-use Rattle.newt_base.specs.Names.{same_name, is_identifier}
+use Rattle.newt_base.specs.Names.{same_name, is_identifier, valid_path}
 use Rattle.newt_path.specs.Names.{IsPath}
 use Rattle.newt_spec_graph.specs.Lists.{all_apart}
 use Rattle.newt_spec_store.specs.declared.Kind.{Kind}
@@ -12,7 +12,7 @@ use Rattle.newt_spec_store.specs.Keys as keys
 use Rattle.newt_spec_store.specs.Keys.{IndexSpec, Path}
 use Rattle.newt_spec_store.specs.Store.{TagTable}
 use Rattle.newt_spec_store.specs.Reading.{Take, ◌>>=◌, give, number, times, counted, text, path, kind_of, direction_of, part, tags_of}
-use Rattle.newt_spec_store.specs.Valid.{valid_path, valid_spec, valid_tags}
+use Rattle.newt_spec_store.specs.Valid.{valid_spec, valid_tags}
 use Rattle.newt_keys.specs.Seen.{declared, declared_all}
 use Rattle.newt_keys.specs.declared.types.IndexPart.{IndexPart}
 use Rattle.newt_soupdir.specs.Reading.{is_count, byte_at, text_at, symbol_at, path_at, kind_at, order_at, part_at, spec_at, specs_at, tag_symbols_at, table_at, tags_from, tags_at}

@@ -5,14 +5,14 @@ use Rattle.std.specs.List.{flat_map, list_all}
 use Rattle.std.proofs.lemmas.Bool.{and_parts, leb-true}
 use Rattle.std.proofs.lemmas.List.Elements.{All-nil, All-cons}
 use Rattle.std.proofs.lemmas.List.{take_all}
-use Rattle.newt_base.specs.Names.{is_word, begins_name, is_identifier, same_name}
+use Rattle.newt_base.specs.Names.{is_word, begins_name, is_identifier, same_name, valid_path}
 use Rattle.newt_graph.specs.Graph.{IsName}
 use Rattle.newt_path.specs.Names.{IsPath}
 use Rattle.newt_spec_graph.specs.Lists.{all_apart}
 use Rattle.newt_spec_store.specs.Store.{TagTable}
 use Rattle.newt_spec_store.specs.Keys.{IndexSpec}
 use Rattle.newt_spec_store.specs.Cost.{counted}
-use Rattle.newt_spec_store.specs.Valid.{valid_path, valid_spec, valid_tags}
+use Rattle.newt_spec_store.specs.Valid.{valid_spec, valid_tags}
 
 flat_map-map : {X Y Z : Type 0} (f : Y → List Z) (g : X → Y) (xs : List X) → flat_map f (map g xs) ≡ flat_map (λ x. f (g x)) xs
 flat_map-map f g [] = refl

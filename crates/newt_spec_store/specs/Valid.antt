@@ -2,20 +2,16 @@
 -- as identifiers.
 use Rattle.std.specs.Prelude.{ℕ, Bool, true, ◌&&◌, nat_le, map, length, Option, Some, None}
 use Rattle.std.specs.List.{list_all}
-use Rattle.newt_base.specs.Names.{is_name, same_name, equal_text, is_identifier}
+use Rattle.newt_base.specs.Names.{is_name, same_name, equal_text, is_identifier, valid_path}
 use Rattle.newt_spec_graph.specs.Lists.{all_apart, rises}
 use Rattle.newt_spec_graph.specs.Graph.{is_frame, object}
 use Rattle.newt_spec_graph.specs.Limits.{within_limits}
-use Rattle.newt_spec_store.specs.Keys.{IndexSpec, Path, paths_of, same_paths}
+use Rattle.newt_spec_store.specs.Keys.{IndexSpec, paths_of, same_paths}
 use Rattle.newt_spec_store.specs.Store.{Entry, TagTable, Soup, Store}
 use Rattle.newt_image.specs.Pages.{cap}
 use Rattle.newt_spec_store.specs.Cost.{cost, skeleton_length}
 
--- one to eight identifiers (this project's own)
-abbrev pub valid_path : Path → Bool
-valid_path path = nat_le 1 (length path) && nat_le (length path) 8 && list_all is_identifier path
-
--- one to four parts, each with such a path (this project's own)
+-- one to four parts, each with a path (this project's own)
 abbrev pub valid_spec : IndexSpec → Bool
 valid_spec spec = nat_le 1 (length spec) && nat_le (length spec) 4 && list_all (λ p. valid_path p.path) spec
 
