@@ -50,8 +50,8 @@ take-item xs i x low is = take_more xs i x low ∙ ap (λ y. take i xs ++ y ∷ 
 -- ---- objects that are put, and objects that go
 
 -- what is under way over a first part of the objects
-abbrev pub GoesOn : (start now : Held) (first batch : Change) (Has : Texts → Texts → Type 0) → Type 0
-GoesOn start now first batch Has = (live : Pages) (texts : Texts) → IsUnderWay start first live texts → (after : Texts) × IsUnderWay now batch live after × Has texts after
+abbrev pub KeepsUnderWay : (start now : Held) (first batch : Change) (Has : Texts → Texts → Type 0) → Type 0
+KeepsUnderWay start now first batch Has = (live : Pages) (texts : Texts) → IsUnderWay start first live texts → (after : Texts) × IsUnderWay now batch live after × Has texts after
 
 pub put-has : (id : ℕ) (bytes : List ℕ) (texts : Texts) → HasPut id bytes texts (map.insert texts id bytes)
 put-has id bytes texts = record {
