@@ -6,8 +6,7 @@ use Rattle.std.proofs.lemmas.List.{length-map}
 use Rattle.newt_base.specs.Names.{same_path}
 use Rattle.newt_keys.specs.Seen.{declared, declared_all}
 use Rattle.newt_keys.specs.declared.types.IndexPart.{IndexPart}
-use Rattle.newt_laws.specs.Worlds.{parts_fit}
-use Rattle.newt_laws_answers.specs.Spoken.{tags_fit}
+use Rattle.newt_laws.specs.Worlds.{parts_fit, tags_fit}
 use Rattle.newt_spec_store.specs.Keys as spec
 use Rattle.newt_spec_store.specs.Keys.{Path, same_paths, paths_of}
 use Rattle.newt_spec_store.specs.Valid.{valid_path, valid_spec, valid_tags}

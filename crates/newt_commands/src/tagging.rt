@@ -9,7 +9,7 @@ ghost use Rattle.newt_laws_answers.specs.Bounds.{most_programmed};
 ghost use Rattle.newt_laws_answers.specs.Spoken.{answer_now};
 ghost use Rattle.newt_cardstore.specs.Bounds.{Costs};
 ghost use Rattle.newt_units.specs.Answers.{Answers};
-ghost use Rattle.newt_cardstore.specs.Cards.{soup_of};
+ghost use Rattle.newt_spec_store.specs.Store.{soup_of};
 ghost use Rattle.newt_cardstore.specs.Faults.{GoesOn, HasFaultCause, NoDevice};
 ghost use Rattle.newt_units.specs.Stands.{card_at, Eight, Stands, world_of};
 

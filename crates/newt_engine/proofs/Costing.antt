@@ -11,15 +11,13 @@ use Rattle.newt_spec_world.specs.declared.command.Command.TheVariants as command
 use Rattle.newt_spec_world.specs.World.{World}
 use Rattle.newt_laws_answers.specs.Bounds.{most_programmed}
 use Rattle.newt_laws_answers.proofs.Most.{cursors-cost-nothing}
-use Rattle.newt_laws_cursors.specs.Cursors.{with_cursors}
+use Rattle.newt_laws_cursors.specs.Cursors.{with_cursors, uses_cursors}
 use Rattle.newt_cardstore.specs.declared.fault.Fault.{Fault}
 use Rattle.newt_cardstore.specs.declared.fault.Fault.TheVariants.{Refused, Stop}
 use Rattle.newt_cardstore.specs.Bounds.{Costs, IsOpenOrSame, ProgramsAtMost}
 use Rattle.newt_cardstore.specs.Faults.{GoesOn}
 use Rattle.newt_engine.specs.Bounds.{CommandCosts, is_format}
-use Rattle.newt_engine.specs.Groups.{on_cursor}
 use Rattle.newt_engine.proofs.Handed.{Hands}
-use Rattle.newt_engine.proofs.Settling.{uses_none}
 
 -- where the command goes on, so did the call whose fault was handed on
 pub goes_back : (S : Type 0) {T : Type 0} (fault : Fault) (result : Result T Fault) → Hands fault result → GoesOn result → GoesOn {T = S} (Err fault)
@@ -55,10 +53,10 @@ pub still_costs : {T : Type 0} {w : World} {c : Command} {result : Result T Faul
 still_costs same programs = record { bound = λ _ u _. let x = programs u in omega arith; open_after = λ _ u. inr (ap (changes u) same) }
 
 -- a command that uses no cursor costs the same with cursors, and to settle them costs nothing
-pub settled_costs : {S T : Type 0} (ks : List (Option Cursor)) {w : World} {c : Command} {call : Result S Fault} {result : Result T Fault} {o m p : Outside} → on_cursor c ≡ false
+pub settled_costs : {S T : Type 0} (ks : List (Option Cursor)) {w : World} {c : Command} {call : Result S Fault} {result : Result T Fault} {o m p : Outside} → uses_cursors c ≡ false
     → CommandCosts w c call o m → (GoesOn result → GoesOn call) → p.now ≡ m.now → ((u : ℕ) → p.programmed u ≤ m.programmed u) → CommandCosts (with_cursors ks w) c result o p
 settled_costs ks {w} {c} {call} {result} {o} {m} {p} none k goes same programs = record {
-  bound = λ other u. subst (λ n. ProgramsAtMost n u o p) (sym (cursors-cost-nothing ks w c u (uses_none c none)))
+  bound = λ other u. subst (λ n. ProgramsAtMost n u o p) (sym (cursors-cost-nothing ks w c u none))
       (λ room. let x = k.bound other u room in let y = programs u in omega arith);
   open_after = λ h u. subst (λ now. IsOpenOrSame u o.now now) (sym same) (k.open_after (goes h) u);
 }

@@ -11,7 +11,6 @@ use Rattle.newt_spec_graph.proofs.Lists.{some-same, none-some}
 use Rattle.newt_spec_query.specs.Cursor.{Cursor}
 use Rattle.newt_spec_store.specs.Store.{Store}
 use Rattle.newt_spec_world.specs.declared.command.Command.{Command}
-use Rattle.newt_spec_world.specs.declared.command.Command.TheVariants as command
 use Rattle.newt_spec_world.specs.First.{media_of}
 use Rattle.newt_spec_world.specs.Reply as plain
 use Rattle.newt_spec_world.specs.World.{World, Device, settle}
@@ -32,27 +31,9 @@ use Rattle.newt_units.proofs.Known.{Laws, at-card, at-none}
 use Rattle.newt_walk.specs.Fits.{DeskFits}
 use Rattle.newt_walk.specs.Replies as walk
 use Rattle.newt_walk.specs.World.{world_with}
-use Rattle.newt_engine.specs.Groups.{on_cursor, settles}
 use Rattle.newt_engine.specs.Standing.{Standing}
 use Rattle.newt_engine.proofs.Handed.{quiet}
 use Rattle.newt_engine.proofs.Refusing.{refused_stays}
-
--- ---- the groups
-
-pub uses_none : (c : Command) → on_cursor c ≡ false → uses_cursors c ≡ false
-unfolding uses_cursors
-uses_none (command.Query _ _ _) h = h
-uses_none _ h = h
-
-pub uses_one : (c : Command) → on_cursor c ≡ true → uses_cursors c ≡ true
-unfolding uses_cursors
-uses_one (command.Query _ _ _) h = h
-uses_one _ h = h
-
-few_keys : (c : Command) → settles c ≡ false → moves_keys c ≡ false
-unfolding moves_keys
-few_keys (command.Mount _) h = h
-few_keys _ h = h
 
 -- ---- one command
 
@@ -72,15 +53,15 @@ pub walked_as : {T : Type 0} (w v : World) (c d : Command) (made : T → plain.R
 walked_as w v c d made result same h = subst (λ x. walk.Answers w v x made result) (sym same) h
 
 -- the commands of cursors are answered by the world of all commands
-pub walked_answers : {T : Type 0} (w v : World) (c : Command) (made : T → plain.Reply) (result : Result T Fault) → on_cursor c ≡ true → walk.Answers w v c made result → Answers w v c made result
-walked_answers w v c made (Ok x) h a = now-on-cursors w c (uses_one c h) ∙ a
-walked_answers w v c made (Err (Refused r)) h a = now-on-cursors w c (uses_one c h) ∙ a
+pub walked_answers : {T : Type 0} (w v : World) (c : Command) (made : T → plain.Reply) (result : Result T Fault) → uses_cursors c ≡ true → walk.Answers w v c made result → Answers w v c made result
+walked_answers w v c made (Ok x) h a = now-on-cursors w c h ∙ a
+walked_answers w v c made (Err (Refused r)) h a = now-on-cursors w c h ∙ a
 walked_answers w v c made (Err (Ends s)) h a = tt
 
 -- ---- commands that use no cursor
 
 module _ {C : Type 0} {reads : List ℕ → Option Store} {place : C → ℕ} {soups : C → Store} {stands : Bool → C → Outside → Type 0} (l : Laws reads place soups stands)
-    (told : Bool) (units : Units C) (ks : List (Option Cursor)) (o : Outside) (s : Standing reads place stands told units ks o) (t : IsTrue told) (c : Command) (none : on_cursor c ≡ false) where
+    (told : Bool) (units : Units C) (ks : List (Option Cursor)) (o : Outside) (s : Standing reads place stands told units ks o) (t : IsTrue told) (c : Command) (none : uses_cursors c ≡ false) where
   abbrev w : World
   w = world_of reads units o
 
@@ -99,12 +80,12 @@ module _ {C : Type 0} {reads : List ℕ → Option Store} {place : C → ℕ} {s
       go (Some name) e = subst (λ (x : Device). OnMedia Wf x.blocks x.media) (some-same _ d (sym (at-card l units o s.eight stand u name e) ∙ is)) (media (reads (image u o.now)) refl)
 
   whole : answer_now (with_cursors ks w) c ≡ (settle (with_cursors ks (answer_now w c).0), (answer_now w c).1)
-  whole = now-apart ks w c (uses_none c none) refl (s.settled t)
+  whole = now-apart ks w c none refl (s.settled t)
 
   -- where keys are as before, nothing is left to settle
-  pub still : (v : World) (r : plain.Reply) → settles c ≡ false → answer_now w c ≡ (v, r) → answer_now (with_cursors ks w) c ≡ (with_cursors ks v, r)
+  pub still : (v : World) (r : plain.Reply) → moves_keys c ≡ false → answer_now w c ≡ (v, r) → answer_now (with_cursors ks w) c ≡ (with_cursors ks v, r)
   still v r few done = whole
-      ∙ ap {A = World} (λ x. (x, (answer_now w c).1)) (now-still ks w c (uses_none c none) (few_keys c few) refl formed (s.apart t) (s.settled t))
+      ∙ ap {A = World} (λ x. (x, (answer_now w c).1)) (now-still ks w c none few refl formed (s.apart t) (s.settled t))
       ∙ ap (λ (a : World × plain.Reply). (with_cursors ks a.0, a.1)) done
 
   -- a refusal leaves the cursors
@@ -117,7 +98,7 @@ module _ {C : Type 0} {reads : List ℕ → Option Store} {place : C → ℕ} {s
   settled_after v later r done is = whole ∙ ap (λ (a : World × plain.Reply). (settle (with_cursors ks a.0), a.1)) done ∙ ap {A = World} (λ x. (x, r)) (sym is)
 
   -- the same of what is answered
-  pub done_answers : (v : World) (reply : Reply) → settles c ≡ false → answer_now w c ≡ (v, said reply) → (ls : List (Option Cursor)) → ls ≡ ks → Answers (with_cursors ks w) (with_cursors ls v) c said (Ok reply)
+  pub done_answers : (v : World) (reply : Reply) → moves_keys c ≡ false → answer_now w c ≡ (v, said reply) → (ls : List (Option Cursor)) → ls ≡ ks → Answers (with_cursors ks w) (with_cursors ls v) c said (Ok reply)
   done_answers v reply few done ls same = still v (said reply) few done ∙ ap (λ xs. (with_cursors xs v, said reply)) (sym same)
 
   pub fault_answers : (v : World) (fault : Fault) → Answers w v c said (Err fault) → (ls : List (Option Cursor)) → ls ≡ ks → Answers (with_cursors ks w) (with_cursors ls v) c said (Err fault)

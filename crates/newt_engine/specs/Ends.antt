@@ -2,7 +2,7 @@
 use Rattle.std.specs.Prelude.{Bool, true}
 use Rattle.newt_spec_world.specs.declared.command.Command.{Command}
 use Rattle.newt_spec_world.specs.declared.command.Command.TheVariants as command
-use Rattle.newt_engine.specs.Groups.{on_cursor}
+use Rattle.newt_laws_cursors.specs.Cursors.{uses_cursors}
 
 -- a device is read or written; a command of cursors settles them all, so it may read their entries
 abbrev pub uses_device : Command → Bool
@@ -25,7 +25,7 @@ uses_device (command.Copy _ _ _ _ _) = true
 uses_device (command.Move _ _ _ _ _) = true
 uses_device (command.Vread _ _ _ _ _ _) = true
 uses_device (command.Vwrite _ _ _ _ _ _) = true
-uses_device c = on_cursor c
+uses_device c = uses_cursors c
 
 -- memory is taken; whatever uses a device takes some
 abbrev pub takes_memory : Command → Bool

@@ -25,21 +25,6 @@ on_entry (command.Vread _ _ _ _ _ _) = true
 on_entry (command.Vwrite _ _ _ _ _ _) = true
 on_entry _ = false
 
--- the keys of entries may be others afterwards, so the cursors are settled
-abbrev pub settles : Command → Bool
-settles (command.Mount _) = true
-settles (command.Index _ _ _) = true
-settles (command.SetTags _ _ _ _) = true
-settles (command.Add _ _ _) = true
-settles (command.Addx _ _ _) = true
-settles (command.Addu _ _) = true
-settles (command.Set _ _ _ _ _) = true
-settles (command.Change _ _ _ _) = true
-settles (command.Copy _ _ _ _ _) = true
-settles (command.Move _ _ _ _ _) = true
-settles (command.Vwrite _ _ _ _ _ _) = true
-settles _ = false
-
 -- a cursor is opened, counted, asked for its side, cloned or closed
 abbrev pub on_place : Command → Bool
 on_place (command.Query _ _ _) = true
@@ -49,15 +34,3 @@ on_place (command.Which _) = true
 on_place (command.Clone _) = true
 on_place (command.Close _) = true
 on_place _ = false
-
--- a cursor is opened, moved, shown or closed
-abbrev pub on_cursor : Command → Bool
-on_cursor (command.Entry _) = true
-on_cursor (command.Next _) = true
-on_cursor (command.Prev _) = true
-on_cursor (command.Reset _) = true
-on_cursor (command.End _) = true
-on_cursor (command.Moveby _ _) = true
-on_cursor (command.Goto _ _ _) = true
-on_cursor (command.Gotokey _ _) = true
-on_cursor c = on_place c

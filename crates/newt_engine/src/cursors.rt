@@ -3,6 +3,7 @@ ghost use Rattle.std.specs.Prelude.{◌≡◌, true, false, IsTrue, IfErr};
 ghost use Rattle.newt_host.specs.Outside.{OnDevices};
 ghost use Rattle.newt_host.specs.Moments.{Always};
 ghost use Rattle.newt_reply.specs.Said.{said};
+ghost use Rattle.newt_laws_cursors.specs.Cursors.{uses_cursors};
 ghost use Rattle.newt_laws_answers.specs.Answering.{Answering};
 ghost use Rattle.newt_laws_answers.specs.Spoken.{answer_now};
 ghost use Rattle.newt_units.specs.Answers as now;
@@ -14,7 +15,7 @@ ghost use Rattle.newt_walk.specs.Replies.{Answers};
 ghost use Rattle.newt_walk.specs.World.{AreRead, world_with};
 ghost use Rattle.newt_engine.specs.Bounds.{CommandCosts};
 ghost use Rattle.newt_engine.specs.Ends.{takes_memory, uses_device};
-ghost use Rattle.newt_engine.specs.Groups.{on_cursor, on_place};
+ghost use Rattle.newt_engine.specs.Groups.{on_place};
 ghost use Rattle.newt_engine.specs.Standing.{Standing};
 
 use crate::replies::{closed, counted, opened, shown, sided};
@@ -33,7 +34,7 @@ impl<C: Card> World<C> {
         command: &Command,
     ) -> Result<Reply, Fault>
         requires stands { Standing C.reads C.place C.stands H.told self.old.units self.old.desk (H.outside host.old) }
-        requires on_cursor { on_cursor command.now ≡ true }
+        requires on_cursor { uses_cursors command.now ≡ true }
         ensures stands { GoesOn result → Standing C.reads C.place C.stands H.told self.new.units self.new.desk (H.outside host.new) }
         ensures answered { IsTrue H.told → now.Answers (world_with C.reads self.old.units self.old.desk (H.outside host.old)) (world_with C.reads self.new.units self.new.desk (H.outside host.new)) command.now said result }
         ensures moments { IsTrue H.told → let w = world_with C.reads self.old.units self.old.desk (H.outside host.old) in
@@ -48,10 +49,11 @@ impl<C: Card> World<C> {
     }
 
     /// Moves or shows a cursor, or opens or closes one.
+    #[tactic(auto, unfolding(newt_laws_cursors::specs::Cursors::uses_cursors))]
     fn walk<H: Host>(&mut self, host: &mut H, command: &Command) -> Result<Reply, Fault>
         requires desk { DeskFits self.old.desk }
         requires stands { Stands C.place C.stands H.told self.old.units (H.outside host.old) }
-        requires on_cursor { on_cursor command.now ≡ true }
+        requires on_cursor { uses_cursors command.now ≡ true }
         ensures read { AreRead C.reads C.place C.stands H.told self.old.units self.new.units (H.outside host.old) (H.outside host.new) }
         ensures desk { DeskFits self.new.desk }
         ensures answered { IsTrue H.told → let w = world_with C.reads self.old.units self.old.desk (H.outside host.old) in MountedApart w →

@@ -3,6 +3,7 @@ ghost use Rattle.std.specs.Prelude.{◌≡◌, false, IsTrue, IfErr};
 ghost use Rattle.newt_host.specs.Outside.{OnDevices};
 ghost use Rattle.newt_host.specs.Moments.{Always};
 ghost use Rattle.newt_reply.specs.Said.{said};
+ghost use Rattle.newt_laws_cursors.specs.Cursors.{uses_cursors};
 ghost use Rattle.newt_laws_answers.specs.Answering.{Answering};
 ghost use Rattle.newt_laws_answers.specs.Spoken.{answer_now};
 ghost use Rattle.newt_units.specs.Answers.{Answers};
@@ -10,7 +11,7 @@ ghost use Rattle.newt_cardstore.specs.Faults.{GoesOn, HasFaultCause, IsRefusal, 
 ghost use Rattle.newt_units.specs.Stands.{Stands, world_of};
 ghost use Rattle.newt_engine.specs.Bounds.{CommandCosts};
 ghost use Rattle.newt_engine.specs.Ends.{takes_memory, uses_device};
-ghost use Rattle.newt_engine.specs.Groups.{on_cursor, on_graph};
+ghost use Rattle.newt_engine.specs.Groups.{on_graph};
 
 use crate::world::World;
 use newt_cardstore::{Card, Entry, Fault};
@@ -26,7 +27,7 @@ impl<C: Card> World<C> {
         command: &Command,
     ) -> Result<Reply, Fault>
         requires stands { Stands C.place C.stands H.told self.old.units (H.outside host.old) }
-        requires no_cursor { on_cursor command.now ≡ false }
+        requires no_cursor { uses_cursors command.now ≡ false }
         requires no_graph { on_graph command.now ≡ false }
         ensures stands { GoesOn result → Stands C.place C.stands H.told self.new.units (H.outside host.new) }
         ensures answered { IsTrue H.told → Answers (world_of C.reads self.old.units (H.outside host.old)) (world_of C.reads self.new.units (H.outside host.new)) command.now said result }

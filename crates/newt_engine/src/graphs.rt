@@ -3,6 +3,7 @@ ghost use Rattle.std.specs.Prelude.{◌≡◌, false, IsTrue, IfErr};
 ghost use Rattle.newt_host.specs.Outside.{OnDevices};
 ghost use Rattle.newt_host.specs.Moments.{Always};
 ghost use Rattle.newt_reply.specs.Said.{said};
+ghost use Rattle.newt_laws_cursors.specs.Cursors.{uses_cursors};
 ghost use Rattle.newt_laws_answers.specs.Answering.{Answering};
 ghost use Rattle.newt_laws_answers.specs.Spoken.{answer_now};
 ghost use Rattle.newt_units.specs.Answers.{Answers};
@@ -10,7 +11,6 @@ ghost use Rattle.newt_cardstore.specs.Faults.{GoesOn, HasFaultCause, IsRefusal, 
 ghost use Rattle.newt_units.specs.Stands.{Stands, world_of};
 ghost use Rattle.newt_engine.specs.Bounds.{CommandCosts};
 ghost use Rattle.newt_engine.specs.Ends.{takes_memory, uses_device};
-ghost use Rattle.newt_engine.specs.Groups.{on_cursor};
 
 use crate::world::World;
 use newt_base::Uid;
@@ -23,7 +23,7 @@ impl<C: Card> World<C> {
     /// Obeys a command. A fault is its refusal, or the end of the run.
     pub(crate) fn obey<H: Host>(&mut self, host: &mut H, command: Command) -> Result<Reply, Fault>
         requires stands { Stands C.place C.stands H.told self.old.units (H.outside host.old) }
-        requires no_cursor { on_cursor command ≡ false }
+        requires no_cursor { uses_cursors command ≡ false }
         ensures stands { GoesOn result → Stands C.place C.stands H.told self.new.units (H.outside host.new) }
         ensures answered { IsTrue H.told → Answers (world_of C.reads self.old.units (H.outside host.old)) (world_of C.reads self.new.units (H.outside host.new)) command said result }
         ensures moments { IsTrue H.told → let w = world_of C.reads self.old.units (H.outside host.old) in

@@ -5,7 +5,8 @@ ghost use Rattle.newt_host.specs.Moments.{Always};
 ghost use Rattle.newt_reply.specs.Said.{said};
 ghost use Rattle.newt_laws_answers.specs.Answering.{Answering};
 ghost use Rattle.newt_laws_answers.specs.Spoken.{answer_now};
-ghost use Rattle.newt_laws.specs.Settled.{MountedApart};
+ghost use Rattle.newt_laws.specs.Settled.{MountedApart, moves_keys};
+ghost use Rattle.newt_laws_cursors.specs.Cursors.{uses_cursors};
 ghost use Rattle.newt_spec_world.specs.World.{settle};
 ghost use Rattle.newt_units.specs.Answers.{Answers};
 ghost use Rattle.newt_cardstore.specs.Faults.{GoesOn, HasFaultCause, IsEnd, IsRefusal, NoDevice};
@@ -14,7 +15,6 @@ ghost use Rattle.newt_walk.specs.Fits.{DeskFits};
 ghost use Rattle.newt_walk.specs.World.{AreRead, world_with};
 ghost use Rattle.newt_engine.specs.Bounds.{CommandCosts};
 ghost use Rattle.newt_engine.specs.Ends.{takes_memory, uses_device};
-ghost use Rattle.newt_engine.specs.Groups.{on_cursor, settles};
 ghost use Rattle.newt_engine.specs.Standing.{Standing};
 
 use crate::world::World;
@@ -48,7 +48,7 @@ impl<C: Card> World<C> {
     /// Obeys a command that uses no cursor, and settles the cursors where keys may have changed.
     fn obey_and_settle<H: Host>(&mut self, host: &mut H, command: Command) -> Result<Reply, Fault>
         requires stands { Standing C.reads C.place C.stands H.told self.old.units self.old.desk (H.outside host.old) }
-        requires no_cursor { on_cursor command ≡ false }
+        requires no_cursor { uses_cursors command ≡ false }
         ensures stands { GoesOn result → Standing C.reads C.place C.stands H.told self.new.units self.new.desk (H.outside host.new) }
         ensures answered { IsTrue H.told → Answers (world_with C.reads self.old.units self.old.desk (H.outside host.old)) (world_with C.reads self.new.units self.new.desk (H.outside host.new)) command said result }
         ensures moments { IsTrue H.told → let w = world_with C.reads self.old.units self.old.desk (H.outside host.old) in
@@ -92,8 +92,9 @@ impl<C: Card> World<C> {
 }
 
 /// Whether the keys of entries may be others after a command.
+#[tactic(auto, unfolding(newt_laws::specs::Settled::moves_keys))]
 fn settles(command: &Command) -> bool
-    ensures { result ≡ settles command.now }
+    ensures { result ≡ moves_keys command.now }
 {
     matches!(
         command,
@@ -112,8 +113,9 @@ fn settles(command: &Command) -> bool
 }
 
 /// Whether a command opens, moves, shows or closes a cursor.
+#[tactic(auto, unfolding(newt_laws_cursors::specs::Cursors::uses_cursors))]
 fn is_on_cursor(command: &Command) -> bool
-    ensures { result ≡ on_cursor command.now }
+    ensures { result ≡ uses_cursors command.now }
 {
     matches!(
         command,

@@ -1,6 +1,5 @@
 pub mod Numbers
 pub mod Paths
-pub mod Named
 pub mod Spelled
 pub mod Lists
 pub mod Loop

@@ -3,15 +3,13 @@ ghost use Rattle.std.specs.Prelude.{◌≡◌, ℕ, true, IsTrue, ⊤, [], Some,
 ghost use Rattle.newt_base.specs.Refusals.{first_of};
 ghost use Rattle.newt_host.specs.Outside.{OnDevices};
 ghost use Rattle.newt_host.specs.Moments.{Always};
-ghost use Rattle.newt_spec_store.specs.Store.{Store as Plain, Soup, change_soup};
-ghost use Rattle.newt_spec_world.specs.Changed.{with_index, without_index};
+ghost use Rattle.newt_spec_store.specs.Store.{Store as Plain, Soup, change_soup, soup_of, with_index, without_index};
 ghost use Rattle.newt_spec_world.specs.World.{World, store_on_unit, change_store};
 ghost use Rattle.newt_laws_answers.specs.Answering.{Answering};
 ghost use Rattle.newt_laws_answers.specs.Bounds.{change_bytes, unless};
 ghost use Rattle.newt_laws_answers.specs.Tests.{index_tests, tags_tests, tagged};
 ghost use Rattle.newt_laws_answers.specs.There.{OnUnit};
 ghost use Rattle.newt_cardstore.specs.Bounds.{CostsOn};
-ghost use Rattle.newt_cardstore.specs.Cards.{soup_of};
 ghost use Rattle.newt_cardstore.specs.Faults.{Does, GoesOn, HasFaultCause};
 ghost use Rattle.newt_units.specs.Stands.{Stands, mounted_in, world_of};
 

@@ -2,7 +2,7 @@
 ghost use Rattle.std.specs.Prelude.{◌≡◌, ◌≤◌, ℕ, IsTrue, None, Some, is_some, IfOk, OnOk, IfErr, MatchOption};
 ghost use Rattle.newt_host.specs.Outside.{OnDevices};
 ghost use Rattle.newt_host.specs.Moments.{Always, image};
-ghost use Rattle.newt_spec_world.specs.Changed.{new_store};
+ghost use Rattle.newt_spec_store.specs.Store.{new_store};
 ghost use Rattle.newt_spec_world.specs.Reply.{Reply};
 ghost use Rattle.newt_spec_world.specs.World.{World, store_on_unit};
 ghost use Rattle.newt_spec_world.specs.declared.command.Command.{Command};
