@@ -5,12 +5,12 @@ use Rattle.std.specs.Option.{option_map}
 use Rattle.newt_host.specs.Moments.{Moment, changes, image, overwritten}
 use Rattle.newt_host.specs.Outside.{Outside}
 use Rattle.newt_image.specs.Pages.{Pages, Change, pages}
-use Rattle.newt_image.specs.Objects.{Extent, IsTableOf, joined}
+use Rattle.newt_image.specs.Objects.{Extent, IsTableOf, joined, Objects}
 use Rattle.newt_pagebook.specs.Batch.{names, no_change}
 use Rattle.newt_pagebook.specs.Book.{Numbers, changed_numbers, ReadsChanged}
 use Rattle.newt_pagebook.proofs.Tests.{the_some}
 use Rattle.newt_objects.specs.Extents.{IsUnnamed}
-use Rattle.newt_objects.specs.Held.{Held, held, planned, AreOf, Texts}
+use Rattle.newt_objects.specs.Held.{Held, held, planned, AreOf}
 use Rattle.newt_objects.specs.Changing.{IsUnderWay}
 use Rattle.newt_objects.proofs.Same.{table_kept, texts_by}
 use Rattle.newt_objects.proofs.TextsOf.{texts_of}
@@ -20,8 +20,8 @@ use Rattle.newt_vbo.proofs.Committing.{patch_would, patched_are}
 use Rattle.newt_books.specs.Changes.{AreAtRest, IsPlanned}
 
 -- the first plan of a batch
-pub planned_alone : (old new : Held) (change change' : Change) (to : Texts → Texts) → change ≡ no_change → old.plans ≡ [] → ((id : ℕ) → held new id ≡ held old id)
-    → ((live : Pages) (texts : Texts) → IsUnderWay old change live texts → IsUnderWay new change' live (to texts)) → IsPlanned new change'
+pub planned_alone : (old new : Held) (change change' : Change) (to : Objects → Objects) → change ≡ no_change → old.plans ≡ [] → ((id : ℕ) → held new id ≡ held old id)
+    → ((live : Pages) (texts : Objects) → IsUnderWay old change live texts → IsUnderWay new change' live (to texts)) → IsPlanned new change'
 planned_alone old new change change' to begun none kept way live table =
     let was : IsTableOf live (held old) = table_kept live (held new) (held old) (λ id. sym (kept id)) table in
     let w = texts_of live (held old) was in

@@ -2,9 +2,9 @@
 use Rattle.std.specs.Prelude.{◌≡◌, ℕ, [], true}
 use Rattle.newt_host.specs.Outside.{Outside}
 use Rattle.newt_image.specs.Pages.{Pages, Change}
-use Rattle.newt_image.specs.Objects.{IsTableOf}
+use Rattle.newt_image.specs.Objects.{IsTableOf, Objects}
 use Rattle.newt_pagebook.specs.Book.{Numbers}
-use Rattle.newt_objects.specs.Held.{Held, held, AreOf, Texts}
+use Rattle.newt_objects.specs.Held.{Held, held, AreOf}
 use Rattle.newt_objects.specs.Changing.{IsUnderWay}
 
 -- the objects are those of a unit, and none is about to change
@@ -14,4 +14,4 @@ pub record AreAtRest (objects : Held) (numbers : Numbers) (unit : ℕ) (outside 
 
 -- what the batch does to pages is what is planned, whatever the pages are
 abbrev pub IsPlanned : Held → Change → Type 0
-IsPlanned objects change = (live : Pages) → IsTableOf live (held objects) → (texts : Texts) × IsUnderWay objects change live texts
+IsPlanned objects change = (live : Pages) → IsTableOf live (held objects) → (texts : Objects) × IsUnderWay objects change live texts

@@ -5,7 +5,7 @@ ghost use Rattle.newt_memhost.specs.Outside.{outside_of};
 
 use newt_host::{Host, Unit};
 use newt_memhost::MemHost;
-use newt_pagebook::{Batch, Page, PageBook};
+use newt_pagebook::{Batch, LEAST_BLOCKS, MOST_BLOCKS, Page, PageBook};
 use std::alloc::{AllocError, Global};
 use std::process::Abort;
 use std::test::Fail;
@@ -43,8 +43,8 @@ pub(crate) fn opened<P: PageBook>(
     requires { IsDurable 0 (outside_of host.old).now }
     ensures { IfOk result (λ book. P.stands true book (outside_of host.new) × (P.place book ≡ 0)) }
 {
-    assert!(rt; host.blocks(CARD) >= 13);
-    assert!(rt; host.blocks(CARD) <= 4099);
+    assert!(rt; host.blocks(CARD) >= LEAST_BLOCKS);
+    assert!(rt; host.blocks(CARD) <= MOST_BLOCKS);
     Ok(P::open(alloc, host, CARD)?)
 }
 
@@ -66,8 +66,8 @@ pub(crate) fn fresh<P: PageBook>(
     ensures { IfOk result (λ host. IsDurable 0 (outside_of host).now) }
 {
     let mut host = host_of(rt, alloc, &worn(alloc, blocks as usize * 4096)?)?;
-    assert!(rt; host.blocks(CARD) >= 13);
-    assert!(rt; host.blocks(CARD) <= 4099);
+    assert!(rt; host.blocks(CARD) >= LEAST_BLOCKS);
+    assert!(rt; host.blocks(CARD) <= MOST_BLOCKS);
     P::format(alloc, &mut host, CARD, &Batch::new(alloc))?;
     assert!(rt; has_card(&host));
     host_of(rt, alloc, host.bytes(CARD))

@@ -3,10 +3,10 @@ use Rattle.std.proofs.Common.{IsTrue, ◌≡◌, ℕ, Bool, refl, sym, ◌∙◌
 use Rattle.newt_host.specs.Moments.{Moment, image, changes}
 use Rattle.newt_host.specs.Outside.{Outside}
 use Rattle.newt_image.specs.Pages.{Pages}
-use Rattle.newt_image.specs.Objects.{AreObjectsOf}
+use Rattle.newt_image.specs.Objects.{AreObjectsOf, Objects}
 use Rattle.newt_pagebook.specs.Book.{Numbers}
 use Rattle.newt_pagebook.proofs.Tests.{some_inj}
-use Rattle.newt_objects.specs.Held.{Held, held, Texts}
+use Rattle.newt_objects.specs.Held.{Held, held}
 use Rattle.newt_objects.specs.Changing.{HoldsObjects}
 use Rattle.newt_objects.proofs.Changing.{are_still}
 use Rattle.newt_shelf.specs.Commit.{AreKept}
@@ -22,5 +22,5 @@ module _ (told : Bool) (objects : Held) (numbers : Numbers) (unit : ℕ) (outsid
   live = kept.are.live
 
   -- objects that the image holds are those of the live pages
-  pub held-are : (before : Texts) → IsTrue told → HoldsObjects (image unit outside.now) before → AreObjectsOf live before
+  pub held-are : (before : Objects) → IsTrue told → HoldsObjects (image unit outside.now) before → AreObjectsOf live before
   held-are before tells holds = subst (λ (m : Pages). AreObjectsOf m before) (some_inj _ _ (sym holds.of_image ∙ kept.are.are.of_image tells)) holds.are

@@ -10,10 +10,10 @@ use Rattle.newt_graph.specs.declared.node.Node.TheVariants.{Large}
 use Rattle.newt_host.specs.Moments.{Moment, image}
 use Rattle.newt_host.specs.Outside.{Outside, Touches, Spends}
 use Rattle.newt_host.proofs.Outside.{Touches-refl, Touches-append, Spends-append, Spends-widen}
-use Rattle.newt_image.specs.Objects.{Objects, pages_for}
+use Rattle.newt_image.specs.Objects.{pages_for, Objects}
 use Rattle.newt_pagebook.specs.Book.{Numbers}
 use Rattle.newt_pagebook.proofs.Tests.{some_inj}
-use Rattle.newt_objects.specs.Held.{Held, Texts}
+use Rattle.newt_objects.specs.Held.{Held}
 use Rattle.newt_objects.specs.Changing.{HoldsObjects}
 use Rattle.newt_spec_graph.specs.Graph.{every}
 use Rattle.newt_spec_graph.specs.Lists.{Each}
@@ -190,7 +190,7 @@ lengths-on size done next v (l ∷ left) d all some same push so_far =
     ∙ (λ i. map_list size done ++ (same i ∷ map_list (λ (l : LargeAt). l.length) left)) ∙ so_far
 
 -- the image still holds these objects
-pub holds-on : (texts : Texts) (unit unit' : ℕ) (old new : Moment) → unit' ≡ unit → new ≡ old → HoldsObjects (image unit old) texts → HoldsObjects (image unit' new) texts
+pub holds-on : (texts : Objects) (unit unit' : ℕ) (old new : Moment) → unit' ≡ unit → new ≡ old → HoldsObjects (image unit old) texts → HoldsObjects (image unit' new) texts
 holds-on texts unit unit' old new place now = subst (λ (img : List ℕ). HoldsObjects img texts) (λ i. image (sym place i) (sym now i))
 
 pub spends-at : (unit unit' fetches : ℕ) (old new : Outside) → unit' ≡ unit → Spends unit' 0 fetches old new → Spends unit 0 fetches old new

@@ -5,11 +5,11 @@ use Rattle.std.specs.FinMap as map
 use Rattle.newt_host.specs.Moments.{image}
 use Rattle.newt_host.specs.Outside.{Outside, Spends}
 use Rattle.newt_image.specs.Pages.{Pages, pages}
-use Rattle.newt_image.specs.Objects.{Extent, AreObjectsOf, joined, pages_for}
+use Rattle.newt_image.specs.Objects.{Extent, AreObjectsOf, joined, pages_for, Objects}
 use Rattle.newt_pagebook.specs.Book.{Numbers}
 use Rattle.newt_pagebook.proofs.Tests.{some_inj}
 use Rattle.newt_objects.specs.Extents.{numbers_of}
-use Rattle.newt_objects.specs.Held.{Held, held, Texts}
+use Rattle.newt_objects.specs.Held.{Held, held}
 use Rattle.newt_objects.specs.Changing.{HoldsObjects}
 use Rattle.newt_objects.proofs.Same.{texts_by}
 use Rattle.newt_objects.proofs.Changing.{read_text}
@@ -29,7 +29,7 @@ pub only-fetched : (o : Option Extent) (unit : ℕ) (old new : Outside) → IsSo
 only-fetched None unit old new some spends = absurd (let no : false ≡ true = some in cc)
 only-fetched (Some x) unit old new some spends = omega (arith, spends.programmed)
 
-module _ (told : Bool) (objects : Held) (numbers : Numbers) (unit : ℕ) (outside : Outside) (kept : AreKept told objects numbers unit outside) (tells : IsTrue told) (texts : Texts) (holds : HoldsObjects (image unit outside.now) texts)
+module _ (told : Bool) (objects : Held) (numbers : Numbers) (unit : ℕ) (outside : Outside) (kept : AreKept told objects numbers unit outside) (tells : IsTrue told) (texts : Objects) (holds : HoldsObjects (image unit outside.now) texts)
     (id : ℕ) (bytes : List ℕ) (at : map.get texts id ≡ Some bytes) where
   are : AreObjectsOf kept.are.live texts
   are = held-are told objects numbers unit outside kept texts tells holds

@@ -8,7 +8,7 @@ use newt_host::Host;
 use newt_indexed::{Change, IndexedStore};
 use newt_memhost::MemHost;
 use newt_onecard::CARD;
-use newt_pagebook::PageBook;
+use newt_pagebook::{LEAST_BLOCKS, MOST_BLOCKS, PageBook};
 use std::alloc::Global;
 use std::test::Fail;
 
@@ -20,7 +20,7 @@ pub(crate) fn opened<P: PageBook>(
     requires { IsDurable 0 (outside_of host.old).now }
     ensures { IfOk result (λ store. IsOpen P.place P.numbers P.stands true store.store (outside_of host.new)) }
 {
-    if host.blocks(CARD) < 13 || host.blocks(CARD) > 4099 {
+    if host.blocks(CARD) < LEAST_BLOCKS || host.blocks(CARD) > MOST_BLOCKS {
         return Err(Fail::new("too few blocks, or too many"));
     }
     match IndexedStore::open(alloc, host, CARD) {

@@ -3,7 +3,7 @@ use Rattle.std.proofs.Common.{arith, ◌≡◌, ◌≢◌, refl, ap, sym, ◌∙
 use Rattle.std.specs.FinMap as map
 use Rattle.std.proofs.lemmas.Bool.{eqb-true, eq-eqb, and_parts, and_from, leb-true}
 use Rattle.newt_graph.specs.Graph.{RawGraph}
-use Rattle.newt_image.specs.Objects.{Objects as Texts, pages_for}
+use Rattle.newt_image.specs.Objects.{pages_for, Objects}
 use Rattle.newt_image.specs.Pages.{cap}
 use Rattle.newt_nsof.specs.Text.{AreBytes}
 use Rattle.newt_spec_graph.specs.Lists.{Pairs, Among}
@@ -31,7 +31,7 @@ abbrev names : ℕ → ℕ → ℕ × List ℕ → Bool
 names sig uid o = row_names sig uid (entry_row o.1)
 
 -- the object whose record is of this soup and this id
-abbrev pub place_in : Texts → Places
+abbrev pub place_in : Objects → Places
 place_in objects sig uid = option_map (λ (o : ℕ × List ℕ). o.0) (find (names sig uid) (odds objects))
 
 -- what the bytes of an object name, where there are such
@@ -40,7 +40,7 @@ names_at None = []
 names_at (Some bytes) = ids_named bytes
 
 -- the ids that the object of this id names, where it is a record
-abbrev pub named_by : Texts → ℕ → List ℕ
+abbrev pub named_by : Objects → ℕ → List ℕ
 named_by objects id = cond (id % 2 == 1) (names_at (map.get objects id)) []
 
 pub found-test : {X : Type 0} (test : X → Bool) (xs : List X) (x : X) → find test xs ≡ Some x → Among xs x × (test x ≡ true)
@@ -67,10 +67,10 @@ find-one {X} test (y ∷ xs) x h m t = go (λ n. find-one test xs x h.1 n t) (te
         both b p = cc
     go more false e (inr n) = more n
 
-read-names : (graph_of : List ℕ → Option RawGraph) (objects : Texts) (sig uid : ℕ) (bytes : List ℕ) (a : ℕ) (e : Entry) → ReadAs graph_of objects bytes a e → row_names sig uid (entry_row bytes) ≡ ((a == sig) && (e.uid == uid))
+read-names : (graph_of : List ℕ → Option RawGraph) (objects : Objects) (sig uid : ℕ) (bytes : List ℕ) (a : ℕ) (e : Entry) → ReadAs graph_of objects bytes a e → row_names sig uid (entry_row bytes) ≡ ((a == sig) && (e.uid == uid))
 read-names graph_of objects sig uid bytes a e r = ap (row_names sig uid) r.is_row ∙ (λ i. (r.of_row.of_soup i == sig) && (r.of_row.of_uid i == uid))
 
-module _ (graph_of : List ℕ → Option RawGraph) (objects : Texts) (blocks : ℕ) (s : Store) (r : IsReading graph_of (map.entries objects) blocks s)
+module _ (graph_of : List ℕ → Option RawGraph) (objects : Objects) (blocks : ℕ) (s : Store) (r : IsReading graph_of (map.entries objects) blocks s)
     (small : (id : ℕ) (bytes : List ℕ) → map.get objects id ≡ Some bytes → (id ≡ 0) ⊎ (id % 2 ≡ 1) → Small bytes) where
   -- the entry of a record
   record-of : (o : ℕ × List ℕ) → Among (odds objects) o → (x : ℕ × Entry) × Among r.es x × IsEntryIn graph_of objects r.d o x
@@ -149,7 +149,7 @@ module _ (graph_of : List ℕ → Option RawGraph) (objects : Texts) (blocks : �
   lies-again : ReadsGraphs graph_of → LiesIn objects (place_in objects) s
   lies-again reads = subst (λ (t : Store). LiesIn objects (place_in objects) t) r.is (made-lies graph_of reads objects (place_in objects) (named_by objects) r.d r.es gathered-again)
 
-module _ (graph_of : List ℕ → Option RawGraph) (objects : Texts) (blocks : ℕ) (s : Store) (reads : ReadsGraphs graph_of)
+module _ (graph_of : List ℕ → Option RawGraph) (objects : Objects) (blocks : ℕ) (s : Store) (reads : ReadsGraphs graph_of)
     (are_bytes : (id : ℕ) (bytes : List ℕ) → map.get objects id ≡ Some bytes → (id ≡ 0) ⊎ (id % 2 ≡ 1) → AreBytes bytes) (h : store_of graph_of (map.entries objects) blocks ≡ Some s) where
   pub read-lies : (place : Places) × LiesIn objects place s
   read-lies = (place_in objects, lies-again graph_of objects blocks s (reading graph_of (map.entries objects) blocks s h) (λ id bytes at which. small-of bytes (are_bytes id bytes at which)) reads)

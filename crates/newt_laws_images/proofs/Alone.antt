@@ -6,7 +6,7 @@ use Rattle.std.specs.FinMap as map
 use Rattle.std.proofs.lemmas.Bool.{eq-eqb, lt-ltb, and_parts}
 use Rattle.std.proofs.lemmas.List.{length-replicate}
 use Rattle.newt_graph.specs.Graph.{RawGraph}
-use Rattle.newt_image.specs.Objects.{Objects as Texts}
+use Rattle.newt_image.specs.Objects.{Objects}
 use Rattle.newt_spec_graph.specs.Graph.{every, object, is_frame}
 use Rattle.newt_spec_graph.specs.Limits.{within_limits}
 use Rattle.newt_nsof.specs.Lengths.{skeleton}
@@ -124,14 +124,14 @@ entry_with row g bs = (row.soup, record { uid = row.uid; time = row.time; graph 
 abbrev rest : EntryRow → RawGraph → Bool → Option (List (List ℕ)) → Option (ℕ × Entry)
 rest row g b o = only (λ x. valid_entry x.1) (option_map (λ k. (row.soup, record { uid = row.uid; time = row.time; graph = k })) (cond b (option_map (with_rows row.larges g) o) None))
 
-by-parts : (graph_of : List ℕ → Option RawGraph) (objects : Texts) (bytes : List ℕ) (row : EntryRow) (g : RawGraph) → IsAlone graph_of bytes row g
+by-parts : (graph_of : List ℕ → Option RawGraph) (objects : Objects) (bytes : List ℕ) (row : EntryRow) (g : RawGraph) → IsAlone graph_of bytes row g
     → entry_read graph_of objects bytes ≡ rest row g true (every (map (large_object (map.entries objects)) row.larges))
 by-parts graph_of objects bytes row g k =
     ap (λ o. only (λ (x : ℕ × Entry). valid_entry x.1) (option_and_then (entry_of_row graph_of (map.entries objects)) o)) k.is_row
     ∙ ap (λ o. only (λ (x : ℕ × Entry). valid_entry x.1) (option_map (λ k. (row.soup, record { uid = row.uid; time = row.time; graph = k })) (option_and_then (with_larges graph_of (map.entries objects) row) o))) k.is_written
     ∙ ap (λ b. rest row g b (every (map (large_object (map.entries objects)) row.larges))) (record-tests row g k.is_good).0
 
-pub among : (graph_of : List ℕ → Option RawGraph) (objects : Texts) (bytes : List ℕ) (row : EntryRow) (g : RawGraph) (bs : List (List ℕ)) → record_read graph_of bytes ≡ Some (row, g)
+pub among : (graph_of : List ℕ → Option RawGraph) (objects : Objects) (bytes : List ℕ) (row : EntryRow) (g : RawGraph) (bs : List (List ℕ)) → record_read graph_of bytes ≡ Some (row, g)
     → every (map (large_object (map.entries objects)) row.larges) ≡ Some bs → entry_read graph_of objects bytes ≡ Some (entry_with row g bs)
 among graph_of objects bytes row g bs h e =
     let k = alone graph_of bytes row g h in
@@ -140,12 +140,12 @@ among graph_of objects bytes row g bs h e =
     ∙ ap {A = Bool} {B = Option (ℕ × Entry)} (λ b. cond b (Some (entry_with row g bs)) None)
     (filled-valid (map.entries objects) row g bs t.0 (every-both (large_object (map.entries objects)) row.larges bs e) ∙ t.1)
 
-pub missing : (graph_of : List ℕ → Option RawGraph) (objects : Texts) (bytes : List ℕ) (row : EntryRow) (g : RawGraph) → record_read graph_of bytes ≡ Some (row, g)
+pub missing : (graph_of : List ℕ → Option RawGraph) (objects : Objects) (bytes : List ℕ) (row : EntryRow) (g : RawGraph) → record_read graph_of bytes ≡ Some (row, g)
     → every (map (large_object (map.entries objects)) row.larges) ≡ None → entry_read graph_of objects bytes ≡ None
 missing graph_of objects bytes row g h e = by-parts graph_of objects bytes row g (alone graph_of bytes row g h) ∙ ap (rest row g true) e
 
 -- an entry that is read among objects is one whose record is read alone
-its-record : (graph_of : List ℕ → Option RawGraph) (objects : Texts) (bytes : List ℕ) (x : ℕ × Entry) → entry_read graph_of objects bytes ≡ Some x → (r : EntryRow × RawGraph) × (record_read graph_of bytes ≡ Some r)
+its-record : (graph_of : List ℕ → Option RawGraph) (objects : Objects) (bytes : List ℕ) (x : ℕ × Entry) → entry_read graph_of objects bytes ≡ Some x → (r : EntryRow × RawGraph) × (record_read graph_of bytes ≡ Some r)
 its-record graph_of objects bytes x h = rows (entry_row bytes) refl h
   where
     done : (row : EntryRow) (g : RawGraph) (bs : List (List ℕ)) → entry_row bytes ≡ Some row → written graph_of row.text ≡ Some g → names_larges row g ≡ true
@@ -181,7 +181,7 @@ its-record graph_of objects bytes x h = rows (entry_row bytes) refl h
     rows None e s = absurd (none-some x s)
     rows (Some row) e s = graphs row e (written graph_of row.text) refl s
 
-pub bad-alone : (graph_of : List ℕ → Option RawGraph) (objects : Texts) (bytes : List ℕ) → record_read graph_of bytes ≡ None → entry_read graph_of objects bytes ≡ None
+pub bad-alone : (graph_of : List ℕ → Option RawGraph) (objects : Objects) (bytes : List ℕ) → record_read graph_of bytes ≡ None → entry_read graph_of objects bytes ≡ None
 bad-alone graph_of objects bytes none = go (entry_read graph_of objects bytes) refl
   where
     go : (o : Option (ℕ × Entry)) → entry_read graph_of objects bytes ≡ o → o ≡ None

@@ -5,7 +5,7 @@ use Rattle.std.specs.FinMap as map
 use Rattle.std.proofs.lemmas.Bool.{eqb-true, eq-eqb, and_parts, or_cases}
 use Rattle.newt_base.specs.Names.{equal_text}
 use Rattle.newt_graph.specs.Graph.{RawGraph}
-use Rattle.newt_image.specs.Objects.{Objects as Texts}
+use Rattle.newt_image.specs.Objects.{Objects}
 use Rattle.newt_spec_graph.specs.Lists.{Each, Pairs, Among, rises, all_apart}
 use Rattle.newt_spec_graph.proofs.Lists.{each-at, each-from, each-list_all, some-same, none-some, pairs-more, pairs-map, among-left, among-right, among-filter, filter-among, among-flat_map, flat_map-among, rises-pairs}
 use Rattle.newt_spec_store.specs.Laid.{ApartIds, bare}
@@ -176,12 +176,12 @@ rows-named (o ∷ os) (r ∷ rows) h = λ i. ids_in (sym h.0 i) ++ rows-named os
 -- ---- the parts of a reading
 
 -- the object is the record of this entry, which is of a soup that is there
-pub record IsEntryIn (graph_of : List ℕ → Option RawGraph) (objects : Texts) (d : Store) (o : ℕ × List ℕ) (x : ℕ × Entry) : Type 0 where
+pub record IsEntryIn (graph_of : List ℕ → Option RawGraph) (objects : Objects) (d : Store) (o : ℕ × List ℕ) (x : ℕ × Entry) : Type 0 where
   pub odd : o.0 % 2 ≡ 1
   pub read : ReadAs graph_of objects o.1 x.0 x.1
   pub given : HasGiven d x.0 x.1.uid
 
-module _ (graph_of : List ℕ → Option RawGraph) (objects : Texts) (blocks : ℕ) (s : Store) (r : IsReading graph_of (map.entries objects) blocks s) where
+module _ (graph_of : List ℕ → Option RawGraph) (objects : Objects) (blocks : ℕ) (s : Store) (r : IsReading graph_of (map.entries objects) blocks s) where
   pub read-good : well_formed s ≡ true
   read-good = (and_parts (well_formed s) (fits blocks s) r.good).0
 

@@ -9,7 +9,7 @@ use Rattle.std.proofs.lemmas.List.Elements.{All-head, All-tail}
 use Rattle.newt_base.specs.Text.{be16, be32}
 use Rattle.newt_base.specs.Names.{equal_text}
 use Rattle.newt_graph.specs.Graph.{RawGraph}
-use Rattle.newt_image.specs.Objects.{Objects as Texts}
+use Rattle.newt_image.specs.Objects.{Objects}
 use Rattle.newt_nsof.specs.Text.{AreBytes}
 use Rattle.newt_nsof.specs.Written.{nsof}
 use Rattle.newt_nsof.specs.Lengths.{skeleton}
@@ -65,7 +65,7 @@ small-of (b ∷ bytes) h = (All-head (λ b. b < 256) b bytes h, small-of bytes (
 
 -- ---- what was gathered
 
-abbrev pub odds : Texts → List (ℕ × List ℕ)
+abbrev pub odds : Objects → List (ℕ × List ℕ)
 odds objects = filter (λ (o : ℕ × List ℕ). o.0 % 2 == 1) (map.entries objects)
 
 -- a number is even or odd
@@ -78,7 +78,7 @@ even-or-odd n = go (n % 2) (omega arith)
     go (suc (suc m)) h = absurd (omega (arith, h))
 
 -- the object is the record of this entry, in its place, and names these objects
-pub record IsEntryOf (graph_of : List ℕ → Option RawGraph) (objects : Texts) (place : Places) (named : ℕ → List ℕ) (d : Store) (o : ℕ × List ℕ) (x : ℕ × Entry) : Type 0 where
+pub record IsEntryOf (graph_of : List ℕ → Option RawGraph) (objects : Objects) (place : Places) (named : ℕ → List ℕ) (d : Store) (o : ℕ × List ℕ) (x : ℕ × Entry) : Type 0 where
   pub odd : o.0 % 2 ≡ 1
   pub small : Small o.1
   pub read : ReadAs graph_of objects o.1 x.0 x.1
@@ -87,7 +87,7 @@ pub record IsEntryOf (graph_of : List ℕ → Option RawGraph) (objects : Texts)
   pub names_are : named o.0 ≡ ids_named o.1
 
 -- a directory, and the entries of all records, in the order of the records' ids
-pub record Gathered (graph_of : List ℕ → Option RawGraph) (objects : Texts) (place : Places) (named : ℕ → List ℕ) (d : Store) (es : List (ℕ × Entry)) : Type 0 where
+pub record Gathered (graph_of : List ℕ → Option RawGraph) (objects : Objects) (place : Places) (named : ℕ → List ℕ) (d : Store) (es : List (ℕ × Entry)) : Type 0 where
   pub directory : map.get objects 0 ≡ Some (directory_bytes d)
   pub good : well_formed d ≡ true
   pub both : Both (IsEntryOf graph_of objects place named d) (odds objects) es
@@ -119,10 +119,10 @@ abbrev pub built : (List ℕ → Option RawGraph) → Store → List (ℕ × Ent
 built graph_of d es = record d { soups = map (with_entries graph_of es) d.soups }
 
 -- what a row names, where its entry is read so
-its-ids : (graph_of : List ℕ → Option RawGraph) (objects : Texts) (bytes : List ℕ) (sig : ℕ) (e : Entry) (r : ReadAs graph_of objects bytes sig e) → ids_named bytes ≡ ids_of r.row.larges
+its-ids : (graph_of : List ℕ → Option RawGraph) (objects : Objects) (bytes : List ℕ) (sig : ℕ) (e : Entry) (r : ReadAs graph_of objects bytes sig e) → ids_named bytes ≡ ids_of r.row.larges
 its-ids graph_of objects bytes sig e r = ap ids_in r.is_row
 
-large-objects : (objects : Texts) (ls : List (ℕ × List ℕ)) (ids : List ℕ) → length ls ≡ length ids → Each (IsThere (map.entries objects)) (zip ls ids) → Each (λ (i : ℕ). i < 4294967296) ids
+large-objects : (objects : Objects) (ls : List (ℕ × List ℕ)) (ids : List ℕ) → length ls ≡ length ids → Each (IsThere (map.entries objects)) (zip ls ids) → Each (λ (i : ℕ). i < 4294967296) ids
     → Each (HasLarge objects) (zip ls ids)
 large-objects objects [] ids h there small = tt
 large-objects objects (l ∷ ls) [] h there small = tt
@@ -133,7 +133,7 @@ small-ids : (ls : List LargeRow) → Each (λ (l : LargeRow). l.1 < 4294967296) 
 small-ids [] h = tt
 small-ids (l ∷ ls) h = (h.0, small-ids ls h.1)
 
-module _ (graph_of : List ℕ → Option RawGraph) (reads : ReadsGraphs graph_of) (objects : Texts) (place : Places) (named : ℕ → List ℕ) (d : Store) (es : List (ℕ × Entry))
+module _ (graph_of : List ℕ → Option RawGraph) (reads : ReadsGraphs graph_of) (objects : Objects) (place : Places) (named : ℕ → List ℕ) (d : Store) (es : List (ℕ × Entry))
     (g : Gathered graph_of objects place named d es) where
   of-entry : (x : ℕ × Entry) → Among es x → (o : ℕ × List ℕ) × Among (odds objects) o × IsEntryOf graph_of objects place named d o x
   of-entry x m = both-right (IsEntryOf graph_of objects place named d) (odds objects) es x g.both m
@@ -251,7 +251,7 @@ module _ (graph_of : List ℕ → Option RawGraph) (reads : ReadsGraphs graph_of
 directory-parts : (bytes : List ℕ) (d : Store) → directory_read bytes ≡ Some d → (whole directory bytes ≡ Some d) × (well_formed d ≡ true)
 directory-parts bytes d h = only-parts well_formed (whole directory bytes) d h
 
-module _ (graph_of : List ℕ → Option RawGraph) (objects : Texts) (place : Places) (named : ℕ → List ℕ) (d : Store) (f : IsFound graph_of objects place named d) where
+module _ (graph_of : List ℕ → Option RawGraph) (objects : Objects) (place : Places) (named : ℕ → List ℕ) (d : Store) (f : IsFound graph_of objects place named d) where
   is-entry : (o : ℕ × List ℕ) → Among (odds objects) o → (x : ℕ × Entry) × IsEntryOf graph_of objects place named d o x
   is-entry o m =
       let k = among-filter (λ (o : ℕ × List ℕ). o.0 % 2 == 1) (map.entries objects) o m in

@@ -8,7 +8,7 @@ use Rattle.newt_graph.specs.declared.node.Node.{Node}
 use Rattle.newt_graph.specs.declared.node.Node.TheVariants.{Symbol, Str, Binary, Large, Array, Frame}
 use Rattle.newt_graph.specs.Graph.{RawGraph}
 use Rattle.newt_graph.specs.Meeting.{normal_form}
-use Rattle.newt_image.specs.Objects.{Objects as Texts}
+use Rattle.newt_image.specs.Objects.{Objects}
 use Rattle.newt_nsof.specs.Lengths.{bare as bare_node}
 use Rattle.newt_spec_graph.specs.Graph.{is_frame, object}
 use Rattle.newt_spec_graph.specs.Limits.{node_within, within_limits}
@@ -72,7 +72,7 @@ zip-right [] (z ∷ ys) y h m = absurd (omega (arith, h))
 zip-right {X} {Y} (x ∷ xs) (z ∷ ys) y h (inl e) = (x, inl (ap {A = Y} {B = X × Y} (λ v. (x, v)) e))
 zip-right (x ∷ xs) (z ∷ ys) y h (inr m) = let r = zip-right xs ys y (omega (arith, h)) m in (r.0, inr r.1)
 
-pub has-large : (objects : Texts) (g : RawGraph) (ids : List ℕ) (o : ℕ) → AreLarges objects g ids → Among ids o → (l : ℕ × List ℕ) × Among (zip (larges g) ids) (l, o) × HasLarge objects (l, o)
+pub has-large : (objects : Objects) (g : RawGraph) (ids : List ℕ) (o : ℕ) → AreLarges objects g ids → Among ids o → (l : ℕ × List ℕ) × Among (zip (larges g) ids) (l, o) × HasLarge objects (l, o)
 has-large objects g ids o are m =
     let r = zip-right (larges g) ids o are.each_named m in
     (r.0, r.1, each-at (HasLarge objects) (zip (larges g) ids) (r.0, o) are.there r.1)
@@ -113,12 +113,12 @@ entry-within s sig e w is =
 
 -- ---- records of a store
 
-rows-fit : (objects : Texts) (n : ℕ) (ls : List (ℕ × List ℕ)) (ids : List ℕ) → n < 4294967296 → Each (λ (l : ℕ × List ℕ). (l.0 < n) × (length l.1 ≤ 1000000)) ls → Each (HasLarge objects) (zip ls ids) → Each FitsRow (zip ls ids)
+rows-fit : (objects : Objects) (n : ℕ) (ls : List (ℕ × List ℕ)) (ids : List ℕ) → n < 4294967296 → Each (λ (l : ℕ × List ℕ). (l.0 < n) × (length l.1 ≤ 1000000)) ls → Each (HasLarge objects) (zip ls ids) → Each FitsRow (zip ls ids)
 rows-fit objects n [] ids small h k = tt
 rows-fit objects n (l ∷ ls) [] small h k = tt
 rows-fit objects n (l ∷ ls) (i ∷ ids) small h k = ((omega (arith, small, h.0.0), k.0.2, omega (arith, h.0.1)), rows-fit objects n ls ids small h.1 k.1)
 
-pub entry-fits : (objects : Texts) (place : Places) (s : Store) (sig : ℕ) (e : Entry) (ids : List ℕ) → LiesIn objects place s → well_formed s ≡ true → IsIn s sig e → AreLarges objects e.graph ids → FitsRecord sig e ids
+pub entry-fits : (objects : Objects) (place : Places) (s : Store) (sig : ℕ) (e : Entry) (ids : List ℕ) → LiesIn objects place s → well_formed s ≡ true → IsIn s sig e → AreLarges objects e.graph ids → FitsRecord sig e ids
 entry-fits objects place s sig e ids lies w is are =
     let f = each-at (λ (p : Soup). (p.sig < 65536) × (p.next_uid < 4294967296)) s.soups is.soup (valid-fields s w).2 is.is_soup in
     let few : length e.graph.nodes ≤ 65535 = subst (λ n. n ≤ 65535) (length-map e.graph.nodes bare_node) (lies.skeletons sig e is).few in
@@ -136,21 +136,21 @@ row-same : (a b : EntryRow) → Some a ≡ Some b → (a.soup ≡ b.soup) × (a.
 row-same a b h = let k = some-same a b h in (ap (λ (r : EntryRow). r.soup) k, ap (λ (r : EntryRow). r.uid) k)
 
 -- an object that lies in its place
-pub record IsPlaced (objects : Texts) (place : Places) (named : ℕ → List ℕ) (s : Store) (x : Laid) : Type 0 where
+pub record IsPlaced (objects : Objects) (place : Places) (named : ℕ → List ℕ) (s : Store) (x : Laid) : Type 0 where
   pub of_ids : x.ids ≡ named x.object
   pub is_in : IsIn s x.soup x.entry
   pub at : place x.soup x.entry.uid ≡ Some x.object
   pub larges_are : AreLarges objects x.entry.graph x.ids
 
 -- an object that a record names is no record
-pub even-named : (objects : Texts) (place : Places) (s : Store) (lies : LiesIn objects place s) (r o : ℕ) → Among (lies.named r) o → o % 2 ≡ 0
+pub even-named : (objects : Objects) (place : Places) (s : Store) (lies : LiesIn objects place s) (r o : ℕ) → Among (lies.named r) o → o % 2 ≡ 0
 even-named objects place s lies r o m =
     let n = lies.names r o m in
     let q = lies.records n.0 n.1 n.2 in
     let same : r ≡ q.0 = some-same r q.0 (sym n.3 ∙ q.1) in
     (has-large objects n.1.graph (lies.named q.0) o q.4 (subst (λ k. Among (lies.named k) o) same m)).2.0
 
-placed-one : (objects : Texts) (place : Places) (s : Store) (lies : LiesIn objects place s) → (o : ℕ × List ℕ) → Among (map.entries objects) o → (o.0 % 2 == 1) ≡ true
+placed-one : (objects : Objects) (place : Places) (s : Store) (lies : LiesIn objects place s) → (o : ℕ × List ℕ) → Among (map.entries objects) o → (o.0 % 2 == 1) ≡ true
     → (x : Laid) × (record_of x ≡ o) × IsPlaced objects place lies.named s x
 placed-one objects place s lies o m odd = go (lies.only_these o.0 o.1 there (λ (z : o.0 ≡ 0). absurd (omega (arith, k, z))))
   where
@@ -176,7 +176,7 @@ laids P [] h = ([], refl, tt)
 laids P (o ∷ os) h = let r = laids P os h.1 in (h.0.0 ∷ r.0, (λ i. sym h.0.1 i ∷ r.1 i), (h.0.2, r.2))
 
 -- The store's records, in the order of their ids.
-pub record Layout (objects : Texts) (place : Places) (named : ℕ → List ℕ) (s : Store) : Type 0 where
+pub record Layout (objects : Objects) (place : Places) (named : ℕ → List ℕ) (s : Store) : Type 0 where
   pub laid : List Laid
   pub records : filter (λ (o : ℕ × List ℕ). o.0 % 2 == 1) (map.entries objects) ≡ map record_of laid
   pub placed : Each (IsPlaced objects place named s) laid
@@ -192,7 +192,7 @@ pub pairs-map-from : {X Y : Type 0} (R : Y → Y → Type 0) (f : X → Y) (xs :
 pairs-map-from R f [] h = tt
 pairs-map-from R f (x ∷ xs) h = (each-map-from (R (f x)) f xs h.0, pairs-map-from R f xs h.1)
 
-pub layout : (objects : Texts) (place : Places) (s : Store) (lies : LiesIn objects place s) → well_formed s ≡ true → Layout objects place lies.named s
+pub layout : (objects : Objects) (place : Places) (s : Store) (lies : LiesIn objects place s) → well_formed s ≡ true → Layout objects place lies.named s
 layout objects place s lies w = record { laid = all.0; records = all.1; placed = all.2; are = record { sound = sound; complete = complete; once = once }; rising = ordered; all = found }
   where
     all : (laid : List Laid) × (filter (λ (o : ℕ × List ℕ). o.0 % 2 == 1) (map.entries objects) ≡ map record_of laid) × Each (IsPlaced objects place lies.named s) laid

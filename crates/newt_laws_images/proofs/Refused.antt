@@ -3,7 +3,7 @@ use Rattle.std.proofs.Common.{◌≡◌, ◌≢◌, refl, ap, sym, ◌∙◌, su
 use Rattle.std.specs.FinMap as map
 use Rattle.std.proofs.lemmas.Bool.{eqb-true, eq-eqb}
 use Rattle.newt_graph.specs.Graph.{RawGraph}
-use Rattle.newt_image.specs.Objects.{Objects as Texts}
+use Rattle.newt_image.specs.Objects.{Objects}
 use Rattle.newt_spec_graph.specs.Lists.{Pairs, Among}
 use Rattle.newt_spec_graph.proofs.Lists.{some-same, none-some, among-filter, filter-among}
 use Rattle.newt_spec_store.specs.Laid.{bare}
@@ -17,7 +17,7 @@ use Rattle.newt_laws_images.proofs.Made.{odds}
 use Rattle.newt_laws_images.proofs.Parts.{IsReading, reading}
 use Rattle.newt_laws_images.proofs.Rows.{as-read, read-as}
 
-module _ (graph_of : List ℕ → Option RawGraph) (objects : Texts) (blocks : ℕ) (s : Store) (h : store_of graph_of (map.entries objects) blocks ≡ Some s) where
+module _ (graph_of : List ℕ → Option RawGraph) (objects : Objects) (blocks : ℕ) (s : Store) (h : store_of graph_of (map.entries objects) blocks ≡ Some s) where
   is-reading : IsReading graph_of (map.entries objects) blocks s
   is-reading = reading graph_of (map.entries objects) blocks s h
 

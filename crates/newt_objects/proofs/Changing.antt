@@ -12,14 +12,14 @@ use Rattle.newt_host.specs.Moments.{Moment, bytes_after, changes, image, Leaves}
 use Rattle.newt_host.specs.Outside.{Outside}
 use Rattle.newt_host.proofs.Moments.{Leaves-weaken}
 use Rattle.newt_image.specs.Pages.{Pages, Change, pages, after, with_puts, without_numbers}
-use Rattle.newt_image.specs.Objects.{Extent, Table, IsTableOf, AreObjectsOf, joined, pages_for, written_parts}
+use Rattle.newt_image.specs.Objects.{Extent, Table, IsTableOf, AreObjectsOf, joined, pages_for, written_parts, Objects}
 use Rattle.newt_pagebook.specs.Batch.{names, no_change}
 use Rattle.newt_pagebook.specs.Book.{Numbers, with_put_numbers, without_deleted, changed_numbers, ReadsChanged, IsBeforeOrAfter}
 use Rattle.newt_pagebook.proofs.Tests.{some_inj, true_or_false, neither, same_test, equal_true, equal_false}
 use Rattle.newt_pagebook.proofs.Changes.{names_parts, get_insert, get_remove}
 use Rattle.newt_objects.specs.Extents.{numbers_of}
 use Rattle.newt_objects.specs.Headers.{ArePages}
-use Rattle.newt_objects.specs.Held.{Held, held, planned, after_plan, free_numbers, new_extent, AreOf, Texts, WouldHold, IsUnplanned}
+use Rattle.newt_objects.specs.Held.{Held, held, planned, after_plan, free_numbers, new_extent, AreOf, WouldHold, IsUnplanned}
 use Rattle.newt_objects.specs.Changing.{HoldsObjects, IsUnderWay}
 use Rattle.newt_objects.proofs.Numbers.{free-not_held}
 use Rattle.newt_objects.proofs.Plans.{lookup-push, slice_get-among, one_part}
@@ -30,7 +30,7 @@ use Rattle.newt_objects.proofs.TextsOf.{texts_of}
 planned-none : (objects : Held) → objects.plans ≡ [] → (id : ℕ) → planned objects id ≡ held objects id
 planned-none objects none id = ap (λ (plans : List (ℕ × Option Extent)). after_plan (lookup (λ other. id == other) plans) (held objects id)) none
 
-pub start_under_way : (objects : Held) (live : Pages) (texts : Texts) → objects.plans ≡ [] → IsTableOf live (held objects) → AreObjectsOf live texts → IsUnderWay objects no_change live texts
+pub start_under_way : (objects : Held) (live : Pages) (texts : Objects) → objects.plans ≡ [] → IsTableOf live (held objects) → AreObjectsOf live texts → IsUnderWay objects no_change live texts
 start_under_way objects live texts none is are = record {
   is_table = is;
   would = record {
@@ -98,9 +98,9 @@ not_its live table is id other k number x ne there at (Some y) e = ⊎_elim
     (true_or_false (list_any (λ n. number == n) y.numbers))
 
 -- One plan more: what the clauses of `plan_put` and `plan_delete` say together.
-module _ (old new : Held) (change change' : Change) (id : ℕ) (live : Pages) (texts : Texts) (none : IsUnplanned old id) (kept : (other : ℕ) → held new other ≡ held old other)
+module _ (old new : Held) (change change' : Change) (id : ℕ) (live : Pages) (texts : Objects) (none : IsUnplanned old id) (kept : (other : ℕ) → held new other ≡ held old other)
     (deletes : change'.deletes ≡ change.deletes ++ numbers_of (held old id)) where
-  pub put_under_way : (bytes : List ℕ) → ((live : Pages) (texts : Texts) → IsTableOf live (held old) → WouldHold old change live texts → WouldHold new change' live (map.insert texts id bytes))
+  pub put_under_way : (bytes : List ℕ) → ((live : Pages) (texts : Objects) → IsTableOf live (held old) → WouldHold old change live texts → WouldHold new change' live (map.insert texts id bytes))
       → new.plans ≡ old.plans ++ (id, Some (new_extent (length bytes) (free_numbers old change))) ∷ []
       → change'.puts ≡ change.puts ++ written_parts 0 id bytes (take (pages_for (length bytes)) (free_numbers old change))
       → IsUnderWay old change live texts → IsUnderWay new change' live (map.insert texts id bytes)
@@ -116,7 +116,7 @@ module _ (old new : Held) (change change' : Change) (id : ℕ) (live : Pages) (t
         (not_its live (held old) way.is_table id other k number x was.0 there' at (held old id) refl);
   }
 
-  pub delete_under_way : ((live : Pages) (texts : Texts) → IsTableOf live (held old) → WouldHold old change live texts → WouldHold new change' live (map.remove texts id))
+  pub delete_under_way : ((live : Pages) (texts : Objects) → IsTableOf live (held old) → WouldHold old change live texts → WouldHold new change' live (map.remove texts id))
       → new.plans ≡ old.plans ++ (id, None) ∷ [] → change'.puts ≡ change.puts → IsUnderWay old change live texts → IsUnderWay new change' live (map.remove texts id)
   delete_under_way planned plan puts way = record {
     is_table = table_kept live (held old) (held new) kept way.is_table;
@@ -155,7 +155,7 @@ pub changed_named : (change : Change) (live : Pages) (numbers : Numbers) → ((q
 changed_named change live numbers same q = gone_named change.deletes (with_puts change.puts live) (with_put_numbers change.puts numbers) (put_named change.puts live numbers same) q
 
 -- After a commit that was Ok and `adopt`, the table is that of the new pages.
-pub adopted_are : (told : Bool) (objects adopted : Held) (change : Change) (live : Pages) (texts : Texts) (numbers numbers' : Numbers) (unit : ℕ) (old new : Outside)
+pub adopted_are : (told : Bool) (objects adopted : Held) (change : Change) (live : Pages) (texts : Objects) (numbers numbers' : Numbers) (unit : ℕ) (old new : Outside)
     → ArePages told numbers (image unit old.now) live → IsUnderWay objects change live texts → numbers' ≡ changed_numbers change numbers
     → (IsTrue told → ReadsChanged change (image unit old.now) (image unit new.now)) → ((id : ℕ) → held adopted id ≡ planned objects id) → AreOf told (held adopted) numbers' unit new
 adopted_are told objects adopted change live texts numbers numbers' unit old new are way changed committed taken = record {
@@ -168,10 +168,10 @@ adopted_are told objects adopted change live texts numbers numbers' unit old new
 }
 
 -- The objects of the pages after the change.
-pub would_be_objects : (objects : Held) (change : Change) (live : Pages) (texts : Texts) → WouldHold objects change live texts → AreObjectsOf (after change live) texts
+pub would_be_objects : (objects : Held) (change : Change) (live : Pages) (texts : Objects) → WouldHold objects change live texts → AreObjectsOf (after change live) texts
 would_be_objects objects change live texts would = record { table = planned objects; is_table = would.is_table; each = would.each }
 
-pub changed_holds : (objects : Held) (change : Change) (live : Pages) (texts : Texts) (before now : List ℕ) → pages before ≡ Some live → WouldHold objects change live texts → ReadsChanged change before now → HoldsObjects now texts
+pub changed_holds : (objects : Held) (change : Change) (live : Pages) (texts : Objects) (before now : List ℕ) → pages before ≡ Some live → WouldHold objects change live texts → ReadsChanged change before now → HoldsObjects now texts
 changed_holds objects change live texts before now of_image would changed = record {
   live = after change live;
   of_image = changed ∙ ap (option_map (after change)) of_image;
@@ -179,14 +179,14 @@ changed_holds objects change live texts before now of_image would changed = reco
 }
 
 -- Each image that a crash may leave holds the objects before or those after.
-pub left_holds : (objects : Held) (change : Change) (live : Pages) (texts texts' : Texts) (before left : List ℕ) → pages before ≡ Some live → AreObjectsOf live texts → WouldHold objects change live texts'
+pub left_holds : (objects : Held) (change : Change) (live : Pages) (texts texts' : Objects) (before left : List ℕ) → pages before ≡ Some live → AreObjectsOf live texts → WouldHold objects change live texts'
     → IsBeforeOrAfter change before left → HoldsObjects left texts ⊎ HoldsObjects left texts'
 left_holds objects change live texts texts' before left of_image are would either = ⊎_elim
     (λ (same : pages left ≡ pages before). inl (record { live = live; of_image = same ∙ of_image; are = are }))
     (λ (changed : ReadsChanged change before left). inr (changed_holds objects change live texts' before left of_image would changed))
     either
 
-pub leaves_holds : (objects : Held) (change : Change) (live : Pages) (texts texts' : Texts) (unit : ℕ) (before : List ℕ) (old new : Moment) → pages before ≡ Some live → AreObjectsOf live texts → WouldHold objects change live texts'
+pub leaves_holds : (objects : Held) (change : Change) (live : Pages) (texts texts' : Objects) (unit : ℕ) (before : List ℕ) (old new : Moment) → pages before ≡ Some live → AreObjectsOf live texts → WouldHold objects change live texts'
     → Leaves unit (IsBeforeOrAfter change before) old new → Leaves unit (λ left. HoldsObjects left texts ⊎ HoldsObjects left texts') old new
 leaves_holds objects change live texts texts' unit before old new of_image are would leaves = Leaves-weaken (λ left either. left_holds objects change live texts texts' before left of_image are would either) leaves
 
@@ -207,11 +207,11 @@ pub told_table : (told : Bool) (table : Table) (numbers : Numbers) (unit : ℕ) 
 told_table told table numbers unit outside live are t is = subst (λ (live : Pages). IsTableOf live table) (some_inj _ _ (sym (are.are.of_image t) ∙ is)) are.is_table
 
 -- the bytes that `read` gives are the object's
-pub read_text : (objects : Held) (live : Pages) (texts : Texts) (id : ℕ) (bytes : List ℕ) → IsTableOf live (held objects) → AreObjectsOf live texts → Some bytes ≡ option_map (joined live) (held objects id) → map.get texts id ≡ Some bytes
+pub read_text : (objects : Held) (live : Pages) (texts : Objects) (id : ℕ) (bytes : List ℕ) → IsTableOf live (held objects) → AreObjectsOf live texts → Some bytes ≡ option_map (joined live) (held objects id) → map.get texts id ≡ Some bytes
 read_text objects live texts id bytes is are read = texts_by live (held objects) texts are is id ∙ sym read
 
 -- What `scan` finds on a told host: the image holds these objects.
-pub told_holds : (told : Bool) (table : Table) (numbers : Numbers) (unit : ℕ) (outside : Outside) → AreOf told table numbers unit outside → IsTrue told → (texts : Texts) × HoldsObjects (image unit outside.now) texts
+pub told_holds : (told : Bool) (table : Table) (numbers : Numbers) (unit : ℕ) (outside : Outside) → AreOf told table numbers unit outside → IsTrue told → (texts : Objects) × HoldsObjects (image unit outside.now) texts
 told_holds told table numbers unit outside are t =
     let w = texts_of are.live table are.is_table in
     (w.0, record { live = are.live; of_image = are.are.of_image t; are = w.1 })

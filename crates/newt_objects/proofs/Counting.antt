@@ -10,12 +10,12 @@ use Rattle.std.specs.FinSet as set
 use Rattle.std.specs.Option.{option_map, unwrap_or, is_some}
 use Rattle.std.proofs.lemmas.List.Sums.{sum_by-cons}
 use Rattle.newt_image.specs.Pages.{Pages, Change, without_numbers, after, object_id}
-use Rattle.newt_image.specs.Objects.{Extent, Table, IsTableOf, AreObjectsOf, pages_for, joined, data_at}
+use Rattle.newt_image.specs.Objects.{Extent, Table, IsTableOf, AreObjectsOf, pages_for, joined, data_at, Objects}
 use Rattle.newt_pagebook.specs.Batch.{IsBatch}
 use Rattle.newt_pagebook.specs.Book.{Numbers, without_deleted, changed_numbers}
 use Rattle.newt_pagebook.proofs.Tests.{some_inj, true_or_false, is_same, equal_true, equal_false, same_test}
 use Rattle.newt_pagebook.proofs.Changes.{get_remove}
-use Rattle.newt_objects.specs.Held.{Held, Texts, WouldHold}
+use Rattle.newt_objects.specs.Held.{Held, WouldHold}
 use Rattle.newt_objects.specs.Changing.{AreWhole, total_pages}
 use Rattle.newt_objects.proofs.Plans.{with_at, which, one_part, table_without}
 use Rattle.newt_objects.proofs.Changing.{contains_remove, gone_named, changed_named, would_be_objects}
@@ -126,7 +126,7 @@ joined_size live table id x whole is there =
     omega (arith, length-take x.length (flat_map (data_at live) x.numbers), size, is.whole id x there, le_pages x.length)
 
 -- As many pages are live as the objects have.
-pub pages_total : (live : Pages) (texts : Texts) (numbers : Numbers) → AreWhole live → AreObjectsOf live texts → ((q : ℕ) → map.contains_key live q ≡ set.contains numbers q) → set.len numbers ≡ total_pages texts
+pub pages_total : (live : Pages) (texts : Objects) (numbers : Numbers) → AreWhole live → AreObjectsOf live texts → ((q : ℕ) → map.contains_key live q ≡ set.contains numbers q) → set.len numbers ≡ total_pages texts
 pages_total live texts numbers whole are named = count_entries (map.entries texts) live are.table numbers (map.entries_sorted texts) are.is_table named (record {
   each = λ id text f. text_of id text (are.table id) refl (map.get-entries texts id ∙ f);
   real = λ id x there. (joined live x, sym (map.get-entries texts id) ∙ are.each id ∙ ap (option_map (joined live)) there);
@@ -138,7 +138,7 @@ pages_total live texts numbers whole are named = count_entries (map.entries text
       (x, e, sym (joined_size live are.table id x whole are.is_table e) ∙ ap (λ (l : List ℕ). length l) same)
 
 -- How many pages are live once a change is committed: what Full is about.
-pub would_count : (objects : Held) (change : Change) (live : Pages) (texts : Texts) (numbers : Numbers) → AreWhole live → IsBatch change → ((q : ℕ) → map.contains_key live q ≡ set.contains numbers q) → WouldHold objects change live texts
+pub would_count : (objects : Held) (change : Change) (live : Pages) (texts : Objects) (numbers : Numbers) → AreWhole live → IsBatch change → ((q : ℕ) → map.contains_key live q ≡ set.contains numbers q) → WouldHold objects change live texts
     → set.len (changed_numbers change numbers) ≡ total_pages texts
 would_count objects change live texts numbers whole batch named would =
     pages_total (after change live) texts (changed_numbers change numbers) (whole_after change live batch.whole_pages whole) (would_be_objects objects change live texts would) (changed_named change live numbers named)

@@ -4,9 +4,8 @@ use Rattle.std.specs.FinMap as map
 use Rattle.std.specs.Option.{option_map}
 use Rattle.std.proofs.lemmas.Option.{slice_get-get_or}
 use Rattle.newt_image.specs.Pages.{Pages, object_id, part_number, object_length}
-use Rattle.newt_image.specs.Objects.{Extent, Table, IsTableOf, AreObjectsOf, pages_for, joined}
+use Rattle.newt_image.specs.Objects.{Extent, Table, IsTableOf, AreObjectsOf, pages_for, joined, Objects}
 use Rattle.newt_pagebook.proofs.Tests.{some_inj}
-use Rattle.newt_objects.specs.Held.{Texts}
 
 one_page : (n : ℕ) → 1 ≤ pages_for n
 one_page n = omega arith
@@ -47,7 +46,7 @@ tables_agree live a b is_a is_b id = cases (a id) (b id) refl refl where
   cases (Some x) p e f = e ∙ sym (found_in live a b is_a is_b id x e)
 
 -- the bytes of the objects, whichever table is looked at
-pub texts_by : (live : Pages) (table : Table) (texts : Texts) → AreObjectsOf live texts → IsTableOf live table → (id : ℕ) → map.get texts id ≡ option_map (joined live) (table id)
+pub texts_by : (live : Pages) (table : Table) (texts : Objects) → AreObjectsOf live texts → IsTableOf live table → (id : ℕ) → map.get texts id ≡ option_map (joined live) (table id)
 texts_by live table texts are is id = are.each id ∙ ap (option_map (joined live)) (tables_agree live are.table table are.is_table is id)
 
 -- a table that answers the same is that of the same pages

@@ -7,9 +7,8 @@ use Rattle.std.specs.FinMap as map
 use Rattle.std.specs.Option.{option_map, unwrap_or, is_some}
 use Rattle.std.proofs.lemmas.Option.{slice_get-get_or}
 use Rattle.newt_image.specs.Pages.{Pages, object_id}
-use Rattle.newt_image.specs.Objects.{Extent, Table, IsTableOf, AreObjectsOf, pages_for, joined}
+use Rattle.newt_image.specs.Objects.{Extent, Table, IsTableOf, AreObjectsOf, pages_for, joined, Objects}
 use Rattle.newt_pagebook.proofs.Tests.{true_or_false, the_some, is_same, equal_true, same_test}
-use Rattle.newt_objects.specs.Held.{Texts}
 
 abbrev page_of : Pages → ℕ → List ℕ
 page_of live number = unwrap_or (map.get live number) []
@@ -84,7 +83,7 @@ module _ (live : Pages) (table : Table) (is : IsTableOf live table) where
       let own : object_id p.0 ≡ id = sym (ap (λ (o : Option (List ℕ)). object_id (unwrap_or o [])) p.1) ∙ w.2 in
       (o.0, ap table (sym own) ∙ o.1)
 
-  abbrev all_texts : Texts
+  abbrev all_texts : Objects
   all_texts = map.from_entries (texts_in live table (map.keys live))
 
   each_text : (id : ℕ) → map.get all_texts id ≡ option_map (joined live) (table id)
@@ -103,5 +102,5 @@ module _ (live : Pages) (table : Table) (is : IsTableOf live table) where
           cases (Some x) e = absurd (let t = has_page id x e in cc)
 
   -- the objects of pages that have a table
-  pub texts_of : (texts : Texts) × AreObjectsOf live texts
+  pub texts_of : (texts : Objects) × AreObjectsOf live texts
   texts_of = (all_texts, record { table = table; is_table = is; each = each_text })

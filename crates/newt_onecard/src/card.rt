@@ -7,7 +7,7 @@ use newt_base::{Refusal, Sig, Uid};
 use newt_host::Host;
 use newt_memhost::{MemHost, Pick};
 use newt_nsof_write::encode;
-use newt_pagebook::{BookFault, PageBook};
+use newt_pagebook::{BookFault, LEAST_BLOCKS, MOST_BLOCKS, PageBook};
 use newt_store::{Change, Store, StoreFault};
 use std::alloc::Global;
 use std::marker::Model;
@@ -38,7 +38,7 @@ impl<P: PageBook> OneCard<P> {
     /// The card of these bytes, which are whole blocks, if they are a store.
     pub fn found(alloc: Global, bytes: &[u8]) -> Result<Option<OneCard<P>>, Fail> {
         let mut host = host_of(alloc, bytes)?;
-        if host.blocks(CARD) < 13 || host.blocks(CARD) > 4099 {
+        if host.blocks(CARD) < LEAST_BLOCKS || host.blocks(CARD) > MOST_BLOCKS {
             return Err(Fail::new("too few blocks, or too many"));
         }
         match Store::open(alloc, &mut host, CARD) {

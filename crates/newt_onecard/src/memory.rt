@@ -6,7 +6,7 @@ ghost use Rattle.newt_memhost.specs.Outside.{outside_of};
 use newt_base::{Name, Sig};
 use newt_host::{Host, Unit};
 use newt_memhost::MemHost;
-use newt_pagebook::PageBook;
+use newt_pagebook::{LEAST_BLOCKS, MOST_BLOCKS, PageBook};
 use newt_store::Store;
 use std::alloc::{AllocError, Global};
 use std::test::Fail;
@@ -50,7 +50,7 @@ pub fn formatted<P: PageBook>(alloc: Global, blocks: u32) -> Result<MemHost, Fai
     ensures { IfOk result (λ host. IsDurable 0 (outside_of host).now) }
 {
     let mut host = host_of(alloc, &filled(alloc, 0, blocks as usize * 4096)?)?;
-    if host.blocks(CARD) < 13 || host.blocks(CARD) > 4099 {
+    if host.blocks(CARD) < LEAST_BLOCKS || host.blocks(CARD) > MOST_BLOCKS {
         return Err(Fail::new("too few blocks, or too many"));
     }
     let name = Name::read(alloc, b"Internal")?;

@@ -7,7 +7,7 @@ use Rattle.newt_spec_world.specs.World.{World}
 use Rattle.newt_session.specs.Stream.{WroteSome}
 use Rattle.newt_session.specs.Run.{AnsweredLines, HaltedIn, HaltedReply}
 use Rattle.newt_session.specs.Script.{Answers, output_of}
-use Rattle.newt_session.specs.Causes.{halt_of, HasSinkCause, HasWriteCause, HasCause, GoesOn, NeverLess}
+use Rattle.newt_session.specs.Causes.{halt_of, HasSinkCause, HasWriteCause, HasCause, StaysAttached, NeverLess}
 use Rattle.newt_session.specs.declared.halt.Halt.{Halt}
 use Rattle.newt_session.specs.declared.halt.Halt.TheVariants.{Memory, Device, Source, Sink, TooLong}
 use Rattle.newt_session.proofs.Replying.{output_none}
@@ -16,34 +16,34 @@ use Rattle.std.proofs.lemmas.List.{append-nil}
 
 -- ---- causes, over more of the run
 
-pub sink_cause : (halt : Halt) (old mid new : Outside) → HasSinkCause halt mid new → GoesOn old mid → HasWriteCause halt old new
+pub sink_cause : (halt : Halt) (old mid new : Outside) → HasSinkCause halt mid new → StaysAttached old mid → HasWriteCause halt old new
 sink_cause Memory old mid new cause before = tt
 sink_cause (Device unit) old mid new cause before = absurd cause
-sink_cause Sink old mid new cause before = omega (arith, cause, before.out_faults)
+sink_cause Sink old mid new cause before = omega (arith, cause, before.counts.out_faults)
 sink_cause Source old mid new cause before = absurd cause
 sink_cause TooLong old mid new cause before = absurd cause
 
-pub write_cause : (halt : Halt) (old mid new : Outside) → HasWriteCause halt mid new → GoesOn old mid → HasWriteCause halt old new
+pub write_cause : (halt : Halt) (old mid new : Outside) → HasWriteCause halt mid new → StaysAttached old mid → HasWriteCause halt old new
 write_cause Memory old mid new cause before = tt
-write_cause (Device unit) old mid new cause before = omega (arith, cause, before.dev_faults unit)
-write_cause Sink old mid new cause before = omega (arith, cause, before.out_faults)
+write_cause (Device unit) old mid new cause before = omega (arith, cause, before.counts.dev_faults unit)
+write_cause Sink old mid new cause before = omega (arith, cause, before.counts.out_faults)
 write_cause Source old mid new cause before = absurd cause
 write_cause TooLong old mid new cause before = absurd cause
 
-pub cause_of_write : (halt : Halt) (old mid new : Outside) → HasWriteCause halt mid new → GoesOn old mid → HasCause halt old new
+pub cause_of_write : (halt : Halt) (old mid new : Outside) → HasWriteCause halt mid new → StaysAttached old mid → HasCause halt old new
 cause_of_write Memory old mid new cause before = tt
-cause_of_write (Device unit) old mid new cause before = omega (arith, cause, before.dev_faults unit)
-cause_of_write Sink old mid new cause before = omega (arith, cause, before.out_faults)
+cause_of_write (Device unit) old mid new cause before = omega (arith, cause, before.counts.dev_faults unit)
+cause_of_write Sink old mid new cause before = omega (arith, cause, before.counts.out_faults)
 cause_of_write Source old mid new cause before = absurd cause
 cause_of_write TooLong old mid new cause before = absurd cause
 
 pub cause_of_writes : {T : Type 0} (result : Result T Halt) (old mid new : Outside)
-    → IfErr result (λ halt. HasWriteCause halt mid new) → GoesOn old mid → IfErr result (λ halt. HasCause halt old new)
+    → IfErr result (λ halt. HasWriteCause halt mid new) → StaysAttached old mid → IfErr result (λ halt. HasCause halt old new)
 cause_of_writes (Ok x) old mid new cause before = tt
 cause_of_writes (Err halt) old mid new cause before = cause_of_write halt old mid new cause before
 
 pub sink_causes : {T : Type 0} (result : Result T Halt) (old mid new : Outside)
-    → IfErr result (λ halt. HasSinkCause halt mid new) → GoesOn old mid → IfErr result (λ halt. HasWriteCause halt old new)
+    → IfErr result (λ halt. HasSinkCause halt mid new) → StaysAttached old mid → IfErr result (λ halt. HasWriteCause halt old new)
 sink_causes (Ok x) old mid new cause before = tt
 sink_causes (Err halt) old mid new cause before = sink_cause halt old mid new cause before
 

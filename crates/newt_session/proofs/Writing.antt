@@ -6,7 +6,7 @@ use Rattle.newt_host.specs.Outside.{Outside, PrintsSome, SameCards, SameCounts, 
 use Rattle.newt_host.proofs.Extending.{Always-prints_some}
 use Rattle.newt_host.proofs.Moments.{Always-append, Always-map}
 use Rattle.newt_host.proofs.Printing.{changes-printed, output-printed, printed-append}
-use Rattle.newt_session.specs.Causes.{GoesOn, SameDevices}
+use Rattle.newt_session.specs.Causes.{StaysAttached, SameDevices}
 use Rattle.newt_session.specs.Stream.{Wrote, WroteSome}
 
 pub nothing_wrote : (text out : List ℕ) → Wrote text text out out
@@ -68,12 +68,10 @@ prints_devices told bytes old new cards prints = record {
 }
 
 -- no count has fallen, and no other device is attached
-pub prints_counts : (old new : Outside) → SameCards old new → SameCounts old new → new.in_faults ≡ old.in_faults → old.out_faults ≤ new.out_faults → GoesOn old new
+pub prints_counts : (old new : Outside) → SameCards old new → SameCounts old new → new.in_faults ≡ old.in_faults → old.out_faults ≤ new.out_faults → StaysAttached old new
 prints_counts old new cards same inputs outputs = record {
   cards = cards;
-  in_faults = omega (arith, inputs);
-  out_faults = outputs;
-  dev_faults = λ unit. omega (arith, same.dev_faults unit);
+  counts = record { in_faults = omega (arith, inputs); out_faults = outputs; dev_faults = λ unit. omega (arith, same.dev_faults unit) };
 }
 
 -- after a first part of the bytes, a first part of those that are left

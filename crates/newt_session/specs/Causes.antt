@@ -54,9 +54,7 @@ pub record NeverLess (old new : Outside) : Type 0 where
   pub out_faults : old.out_faults ≤ new.out_faults
   pub dev_faults : (unit : ℕ) → old.dev_faults unit ≤ new.dev_faults unit
 
--- no count of faults has fallen, and the same devices are attached
-pub record GoesOn (old new : Outside) : Type 0 where
+-- the same devices are attached, and no count of faults has fallen
+pub record StaysAttached (old new : Outside) : Type 0 where
   pub cards : SameCards old new
-  pub in_faults : old.in_faults ≤ new.in_faults
-  pub out_faults : old.out_faults ≤ new.out_faults
-  pub dev_faults : (unit : ℕ) → old.dev_faults unit ≤ new.dev_faults unit
+  pub counts : NeverLess old new

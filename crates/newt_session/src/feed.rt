@@ -6,7 +6,7 @@ ghost use Rattle.newt_session.specs.Stream.{out_of};
 ghost use Rattle.newt_session.specs.Lines.{BeginsWith, HasNoEnd, ended_lines, unended};
 ghost use Rattle.newt_session.specs.Run.{HaltedIn};
 ghost use Rattle.newt_session.specs.Script.{commands_of, has_quit, output_of, world_after};
-ghost use Rattle.newt_session.specs.Causes.{flow_of, HasWriteCause, GoesOn};
+ghost use Rattle.newt_session.specs.Causes.{flow_of, HasWriteCause, StaysAttached};
 ghost use Rattle.newt_session.specs.declared.halt.Flow.TheVariants.{Go};
 
 use crate::halt::{Flow, Halt};
@@ -50,7 +50,7 @@ pub fn feed<H: Host, I: Interpreter>(
         → Always (SafeAt I.answer I.store_of_image start (I.world interpreter.old (H.outside host.old)) commands (out_of (H.outside host.old))) (H.outside host.old).now (H.outside host.new).now }
     ensures cause { IfErr result (λ halt. HasWriteCause halt (H.outside host.old) (H.outside host.new)) }
     ensures left { (H.outside host.new).input ≡ (H.outside host.old).input }
-    ensures goes_on { GoesOn (H.outside host.old) (H.outside host.new) }
+    ensures stays { StaysAttached (H.outside host.old) (H.outside host.new) }
 {
     let mut rest = piece;
     while let Some((ended, more)) = first_line(rest) {

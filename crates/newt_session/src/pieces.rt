@@ -7,7 +7,7 @@ ghost use Rattle.newt_session.specs.Stream.{out_of};
 ghost use Rattle.newt_session.specs.Lines.{last_line, lines_of};
 ghost use Rattle.newt_session.specs.Run.{output, IsReadThrough, Halted, HaltedIn};
 ghost use Rattle.newt_session.specs.Script.{commands_of, output_of};
-ghost use Rattle.newt_session.specs.Causes.{HasCause, HasWriteCause, GoesOn, SameDevices};
+ghost use Rattle.newt_session.specs.Causes.{HasCause, HasWriteCause, StaysAttached, SameDevices};
 
 use crate::feed::feed;
 use crate::halt::{Flow, Halt};
@@ -31,7 +31,7 @@ pub fn read_piece<H: Host>(host: &mut H, buffer: &mut [u8], most: usize) -> Resu
     ensures devices { SameDevices H.told (H.outside host.old) (H.outside host.new) }
     ensures source { IfErr result (λ halt. halt ≡ Halt.Source) }
     ensures cause { OnErr result (Rose (H.outside host.old).in_faults (H.outside host.new).in_faults) }
-    ensures goes_on { GoesOn (H.outside host.old) (H.outside host.new) }
+    ensures stays { StaysAttached (H.outside host.old) (H.outside host.new) }
     ensures out_count { (H.outside host.new).out_faults ≡ (H.outside host.old).out_faults }
 {
     match host.read_in(&mut buffer[..most]) {
@@ -56,7 +56,7 @@ fn finish<H: Host, I: Interpreter>(
         → Always (SafeAt I.answer I.store_of_image start (I.world interpreter.old (H.outside host.old)) (commands_of (last_line line.now)) (out_of (H.outside host.old))) (H.outside host.old).now (H.outside host.new).now }
     ensures cause { IfErr result (λ halt. HasWriteCause halt (H.outside host.old) (H.outside host.new)) }
     ensures left { (H.outside host.new).input ≡ (H.outside host.old).input }
-    ensures goes_on { GoesOn (H.outside host.old) (H.outside host.new) }
+    ensures stays { StaysAttached (H.outside host.old) (H.outside host.new) }
 {
     if line.is_empty() {
         return Ok(());
@@ -85,7 +85,7 @@ fn answer_pieces<H: Host, I: Interpreter>(
     ensures crash { IsTrue H.told → Always (CrashAt I.answer I.store_of_image (H.outside host.old).now (I.world interpreter.old (H.outside host.old)) (commands_of (lines_of (H.outside host.old).input)) (out_of (H.outside host.old)))
         (H.outside host.old).now (H.outside host.new).now }
     ensures cause { IfErr result (λ halt. HasCause halt (H.outside host.old) (H.outside host.new)) }
-    ensures goes_on { GoesOn (H.outside host.old) (H.outside host.new) }
+    ensures stays { StaysAttached (H.outside host.old) (H.outside host.new) }
 {
     let mut taken = 0;
     'pieces: loop {
@@ -129,7 +129,7 @@ pub fn run_script<H: Host, I: Interpreter>(
     ensures crash { IsTrue H.told → Always (CrashAt I.answer I.store_of_image (H.outside host.old).now (I.world interpreter.old (H.outside host.old)) (commands_of (lines_of (H.outside host.old).input)) (out_of (H.outside host.old)))
         (H.outside host.old).now (H.outside host.new).now }
     ensures cause { IfErr result (λ halt. HasCause halt (H.outside host.old) (H.outside host.new)) }
-    ensures goes_on { GoesOn (H.outside host.old) (H.outside host.new) }
+    ensures stays { StaysAttached (H.outside host.old) (H.outside host.new) }
 {
     let Ok(mut buffer) = piece_buffer(alloc) else {
         return Err(Halt::Memory);

@@ -3,7 +3,7 @@ ghost use Rattle.std.specs.Prelude.{IsTrue, ◌≡◌, ◌++◌, [], ◌∷◌, 
 ghost use Rattle.newt_host.specs.Moments.{Always, Moment};
 ghost use Rattle.newt_host.specs.Outside.{PrintsSome};
 ghost use Rattle.newt_reply.specs.Said.{said};
-ghost use Rattle.newt_session.specs.Causes.{flow_of, HasSinkCause, HasWriteCause, GoesOn, SameDevices};
+ghost use Rattle.newt_session.specs.Causes.{flow_of, HasSinkCause, HasWriteCause, StaysAttached, SameDevices};
 ghost use Rattle.newt_session.specs.Moments.{SafeAt, Untouched};
 ghost use Rattle.newt_session.specs.Script.{commands_of, has_quit, output_of, world_after};
 ghost use Rattle.newt_session.specs.Stream.{out_of, WroteSome};
@@ -39,7 +39,7 @@ fn put_reply<H: Host>(alloc: Global, host: &mut H, reply: &Reply) -> Result<(), 
     ensures left { (H.outside host.new).input ≡ (H.outside host.old).input }
     ensures devices { SameDevices H.told (H.outside host.old) (H.outside host.new) }
     ensures cause { IfErr result (λ halt. HasSinkCause halt (H.outside host.old) (H.outside host.new)) }
-    ensures goes_on { GoesOn (H.outside host.old) (H.outside host.new) }
+    ensures stays { StaysAttached (H.outside host.old) (H.outside host.new) }
 {
     let Ok(text) = write_reply(alloc, reply) else {
         return Err(Halt::Memory);
@@ -70,7 +70,7 @@ fn obey<H: Host, I: Interpreter>(
         → Always (SafeAt I.answer I.store_of_image start (I.world interpreter.old (H.outside host.old)) (Ok command ∷ []) (out_of (H.outside host.old))) (H.outside host.old).now (H.outside host.new).now }
     ensures cause { IfErr result (λ halt. HasWriteCause halt (H.outside host.old) (H.outside host.new)) }
     ensures left { (H.outside host.new).input ≡ (H.outside host.old).input }
-    ensures goes_on { GoesOn (H.outside host.old) (H.outside host.new) }
+    ensures stays { StaysAttached (H.outside host.old) (H.outside host.new) }
 {
     let flow = flow_after(&command);
     match interpreter.apply(host, command) {
@@ -91,7 +91,7 @@ fn refuse<H: Host>(alloc: Global, host: &mut H, refusal: Refusal) -> Result<Flow
     ensures left { (H.outside host.new).input ≡ (H.outside host.old).input }
     ensures devices { SameDevices H.told (H.outside host.old) (H.outside host.new) }
     ensures cause { IfErr result (λ halt. HasSinkCause halt (H.outside host.old) (H.outside host.new)) }
-    ensures goes_on { GoesOn (H.outside host.old) (H.outside host.new) }
+    ensures stays { StaysAttached (H.outside host.old) (H.outside host.new) }
 {
     let reply = Reply::Refused(refusal);
     put_reply(alloc, host, &reply)?;
@@ -118,7 +118,7 @@ pub fn turn<H: Host, I: Interpreter>(
         → Always (SafeAt I.answer I.store_of_image start (I.world interpreter.old (H.outside host.old)) (commands_of (bytes.now ∷ [])) (out_of (H.outside host.old))) (H.outside host.old).now (H.outside host.new).now }
     ensures cause { IfErr result (λ halt. HasWriteCause halt (H.outside host.old) (H.outside host.new)) }
     ensures left { (H.outside host.new).input ≡ (H.outside host.old).input }
-    ensures goes_on { GoesOn (H.outside host.old) (H.outside host.new) }
+    ensures stays { StaysAttached (H.outside host.old) (H.outside host.new) }
 {
     match line(alloc, bytes) {
         Ok(None) => Ok(Flow::Go),

@@ -2,7 +2,7 @@
 ghost use Rattle.std.specs.Prelude.{◌≡◌, ◌<◌, ◌≤◌, ◌++◌, length, take, IsTrue, IfOk, OnOk, OnErr};
 ghost use Rattle.newt_host.specs.Moments.{Always};
 ghost use Rattle.newt_host.specs.Outside.{PrintsSome, Rose, printed};
-ghost use Rattle.newt_session.specs.Causes.{GoesOn, SameDevices};
+ghost use Rattle.newt_session.specs.Causes.{StaysAttached, SameDevices};
 ghost use Rattle.newt_session.specs.Stream.{out_of, WroteSome};
 
 use newt_host::{Failed, Host};
@@ -19,7 +19,7 @@ fn write_part<H: Host>(host: &mut H, bytes: &[u8]) -> Result<usize, Failed>
     ensures left { (H.outside host.new).input ≡ (H.outside host.old).input }
     ensures devices { SameDevices H.told (H.outside host.old) (H.outside host.new) }
     ensures cause { OnErr result (Rose (H.outside host.old).out_faults (H.outside host.new).out_faults) }
-    ensures goes_on { GoesOn (H.outside host.old) (H.outside host.new) }
+    ensures stays { StaysAttached (H.outside host.old) (H.outside host.new) }
 {
     host.write_out(bytes)
 }
@@ -32,7 +32,7 @@ pub fn write_all<H: Host>(host: &mut H, bytes: &[u8]) -> Result<(), Failed>
     ensures left { (H.outside host.new).input ≡ (H.outside host.old).input }
     ensures devices { SameDevices H.told (H.outside host.old) (H.outside host.new) }
     ensures cause { OnErr result (Rose (H.outside host.old).out_faults (H.outside host.new).out_faults) }
-    ensures goes_on { GoesOn (H.outside host.old) (H.outside host.new) }
+    ensures stays { StaysAttached (H.outside host.old) (H.outside host.new) }
 {
     let mut rest = bytes;
     while !rest.is_empty() {

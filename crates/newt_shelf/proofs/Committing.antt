@@ -5,9 +5,10 @@ use Rattle.newt_host.specs.Moments.{Moment, image, changes, IsDurable, IsHistory
 use Rattle.newt_host.specs.Outside.{Outside}
 use Rattle.newt_host.proofs.Moments.{Leaves-weaken, Leaves-start}
 use Rattle.newt_image.specs.Pages.{Change, pages, after, cap}
+use Rattle.newt_image.specs.Objects.{Objects}
 use Rattle.newt_pagebook.specs.Batch.{IsBatch}
 use Rattle.newt_pagebook.specs.Book.{Numbers, changed_numbers, ReadsChanged, IsBeforeOrAfter}
-use Rattle.newt_objects.specs.Held.{Held, held, planned, Texts, AreOf}
+use Rattle.newt_objects.specs.Held.{Held, held, planned, AreOf}
 use Rattle.newt_objects.specs.Changing.{HoldsObjects, total_pages}
 use Rattle.newt_objects.proofs.Changing.{adopted_are, are_still, changed_holds, left_holds}
 use Rattle.newt_objects.proofs.Counting.{would_count}
@@ -21,7 +22,7 @@ blocks-are now blocks size = ap (λ (n : ℕ). n / 4096) size ∙ whole blocks w
   whole : (b : ℕ) → b * 4096 / 4096 ≡ b
   whole b = omega arith
 
-module _ (told : Bool) (objects : Held) (change : Change) (numbers : Numbers) (now : List ℕ) (before after : Texts) (tells : IsTrue told) (batch : IsBatch change) (p : IsPlanned told objects change numbers now before after) where
+module _ (told : Bool) (objects : Held) (change : Change) (numbers : Numbers) (now : List ℕ) (before after : Objects) (tells : IsTrue told) (batch : IsBatch change) (p : IsPlanned told objects change numbers now before after) where
   -- as many pages would be live as the objects after it have
   pub planned-count : set.len (changed_numbers change numbers) ≡ total_pages after
   planned-count = would_count objects change p.live after numbers (image_whole now p.live (p.are.of_image tells)) batch p.are.named p.way.would
@@ -59,7 +60,7 @@ module _ (told : Bool) (objects : Held) (change : Change) (numbers : Numbers) (n
   pub holds-after : (new : List ℕ) → ReadsChanged change now new → HoldsObjects new after
   holds-after new changed = changed_holds objects change p.live after now new (p.are.of_image tells) p.way.would changed
 
-pub kept-after : (told : Bool) (objects adopted : Held) (change : Change) (numbers numbers' : Numbers) (unit : ℕ) (old new : Outside) (before after : Texts) → IsPlanned told objects change numbers (image unit old.now) before after
+pub kept-after : (told : Bool) (objects adopted : Held) (change : Change) (numbers numbers' : Numbers) (unit : ℕ) (old new : Outside) (before after : Objects) → IsPlanned told objects change numbers (image unit old.now) before after
     → numbers' ≡ changed_numbers change numbers → (IsTrue told → ReadsChanged change (image unit old.now) (image unit new.now)) → ((id : ℕ) → held adopted id ≡ planned objects id) → AreOf told (held adopted) numbers' unit new
 kept-after told objects adopted change numbers numbers' unit old new before after p changed committed taken = adopted_are told objects adopted change p.live after numbers numbers' unit old new p.are p.way changed committed taken
 
@@ -69,7 +70,7 @@ some-card None blocks none many = absurd (omega (arith, none refl, many))
 some-card (Some name) blocks none many = refl
 
 -- where nothing is changed
-pub kept-still : (told : Bool) (objects still : Held) (change : Change) (numbers numbers' : Numbers) (unit : ℕ) (old new : Outside) (before after : Texts) → IsPlanned told objects change numbers (image unit old.now) before after
+pub kept-still : (told : Bool) (objects still : Held) (change : Change) (numbers numbers' : Numbers) (unit : ℕ) (old new : Outside) (before after : Objects) → IsPlanned told objects change numbers (image unit old.now) before after
     → numbers' ≡ numbers → new.now ≡ old.now → ((id : ℕ) → held still id ≡ held objects id) → AreOf told (held still) numbers' unit new
 kept-still told objects still change numbers numbers' unit old new before after p same now kept =
     are_still told (held objects) (held still) numbers numbers' unit old new kept same (ap (λ (m : Moment). changes unit m) now) (record { live = p.live; are = p.are; is_table = p.way.is_table })

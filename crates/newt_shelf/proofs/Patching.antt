@@ -6,10 +6,10 @@ use Rattle.newt_host.specs.Moments.{Moment, image, changes, overwritten, IsDurab
 use Rattle.newt_host.specs.Outside.{Outside}
 use Rattle.newt_host.proofs.Moments.{Leaves-weaken, Leaves-start}
 use Rattle.newt_image.specs.Pages.{Pages, Change, pages}
-use Rattle.newt_image.specs.Objects.{Extent, IsTableOf, AreObjectsOf, joined}
+use Rattle.newt_image.specs.Objects.{Extent, IsTableOf, AreObjectsOf, joined, Objects}
 use Rattle.newt_pagebook.specs.Batch.{no_change}
 use Rattle.newt_pagebook.specs.Book.{Numbers, IsBeforeOrAfter}
-use Rattle.newt_objects.specs.Held.{Held, held, AreOf, Texts, WouldHold}
+use Rattle.newt_objects.specs.Held.{Held, held, AreOf, WouldHold}
 use Rattle.newt_objects.proofs.Changing.{are_still, left_holds}
 use Rattle.newt_objects.proofs.Counting.{joined_size}
 use Rattle.newt_objects.proofs.Same.{texts_by}
@@ -23,7 +23,7 @@ use Rattle.newt_shelf.specs.Patch.{IsBeforeOrPatched}
 use Rattle.newt_shelf.proofs.Lengths.{Leaves-length}
 
 -- nothing has happened, and nothing is pending
-pub patch-nothing : (live : Pages) (before after : Texts) (unit : ℕ) (old : Moment) → pages (image unit old) ≡ Some live → AreObjectsOf live before → IsDurable unit old
+pub patch-nothing : (live : Pages) (before after : Objects) (unit : ℕ) (old : Moment) → pages (image unit old) ≡ Some live → AreObjectsOf live before → IsDurable unit old
     → Leaves unit (IsBeforeOrPatched (image unit old) before after) old old
 patch-nothing live before after unit old of_image were durable = Leaves-start (λ left may.
     let same : left ≡ image unit old = durable left may in
@@ -33,7 +33,7 @@ patch-nothing live before after unit old of_image were durable = Leaves-start (�
     })
 
 -- what a crash leaves within the commit
-pub patch-leaves : (objects : Held) (change : Change) (live : Pages) (before after : Texts) (blocks unit : ℕ) (old new : Moment) → pages (image unit old) ≡ Some live → AreObjectsOf live before → WouldHold objects change live after
+pub patch-leaves : (objects : Held) (change : Change) (live : Pages) (before after : Objects) (blocks unit : ℕ) (old new : Moment) → pages (image unit old) ≡ Some live → AreObjectsOf live before → WouldHold objects change live after
     → length (image unit old) ≡ blocks * 4096 → IsHistory (blocks * 4096) (changes unit old) → IsHistory (blocks * 4096) (changes unit new) → Leaves unit (IsBeforeOrAfter change (image unit old)) old new
     → Leaves unit (IsBeforeOrPatched (image unit old) before after) old new
 patch-leaves objects change live before after blocks unit old new of_image were would size first last leaves = Leaves-weaken
@@ -55,10 +55,10 @@ the-extent None some = absurd (let isnt = some in cc)
 module _ (objects : Held) (id at : ℕ) (bytes : List ℕ) (change : Change) (live : Pages) (none : objects.plans ≡ []) (table : IsTableOf live (held objects)) (there : IsSome (held objects id))
     (patch : WouldPatch objects id at bytes no_change change live) where
   -- what the live pages would hold
-  pub would-be : (before : Texts) (text : List ℕ) → AreObjectsOf live before → map.get before id ≡ Some text → WouldHold objects change live (map.insert before id (overwritten text at bytes))
+  pub would-be : (before : Objects) (text : List ℕ) → AreObjectsOf live before → map.get before id ≡ Some text → WouldHold objects change live (map.insert before id (overwritten text at bytes))
   would-be before text are here = patch_would objects id at bytes text change live before none table are here patch
 
-  pub would-some : (texts : Texts) × WouldHold objects change live texts
+  pub would-some : (texts : Objects) × WouldHold objects change live texts
   would-some =
       let w = texts_of live (held objects) table in
       let x = the-extent (held objects id) there in
@@ -66,7 +66,7 @@ module _ (objects : Held) (id at : ℕ) (bytes : List ℕ) (change : Change) (li
       (map.insert w.0 id (overwritten (joined live x.0) at bytes), would-be w.0 (joined live x.0) w.1 text)
 
 -- how many bytes an object has that the live pages hold
-pub text-length : (objects : Held) (id : ℕ) (now : List ℕ) (before : Texts) (text : List ℕ) (live : Pages) (x : Extent) → pages now ≡ Some live → IsTableOf live (held objects) → AreObjectsOf live before → map.get before id ≡ Some text
+pub text-length : (objects : Held) (id : ℕ) (now : List ℕ) (before : Objects) (text : List ℕ) (live : Pages) (x : Extent) → pages now ≡ Some live → IsTableOf live (held objects) → AreObjectsOf live before → map.get before id ≡ Some text
     → held objects id ≡ Some x → length text ≡ x.length
 text-length objects id now before text live x of_image table are here at =
     let is : text ≡ joined live x = some_inj text (joined live x) (sym here ∙ texts_by live (held objects) before are table id ∙ ap (option_map (joined live)) at) in

@@ -5,11 +5,11 @@ use Rattle.std.proofs.lemmas.Bool.{cases_eq}
 use Rattle.std.proofs.lemmas.List.{map-append, take_more}
 use Rattle.std.proofs.lemmas.List.Sums.{sum_by-append}
 use Rattle.newt_image.specs.Pages.{Pages, Change}
-use Rattle.newt_image.specs.Objects.{Extent, pages_for}
+use Rattle.newt_image.specs.Objects.{Extent, pages_for, Objects}
 use Rattle.newt_pagebook.proofs.Tests.{equal_true, equal_false, some_inj}
 use Rattle.newt_pagebook.proofs.Changes.{get_insert, get_remove}
 use Rattle.newt_objects.specs.Extents.{numbers_of}
-use Rattle.newt_objects.specs.Held.{Held, held, Texts}
+use Rattle.newt_objects.specs.Held.{Held, held}
 use Rattle.newt_objects.specs.Changing.{IsUnderWay}
 use Rattle.newt_spec_graph.specs.Lists.{Among}
 use Rattle.newt_spec_graph.proofs.Lists.{each-at, among-append, among-left, among-right}
@@ -50,20 +50,20 @@ take-item xs i x low is = take_more xs i x low ∙ ap (λ y. take i xs ++ y ∷ 
 -- ---- objects that are put, and objects that go
 
 -- what is under way over a first part of the objects
-abbrev pub GoesOn : (start now : Held) (first batch : Change) (Has : Texts → Texts → Type 0) → Type 0
-GoesOn start now first batch Has = (live : Pages) (texts : Texts) → IsUnderWay start first live texts → (after : Texts) × IsUnderWay now batch live after × Has texts after
+abbrev pub KeepsUnderWay : (start now : Held) (first batch : Change) (Has : Objects → Objects → Type 0) → Type 0
+KeepsUnderWay start now first batch Has = (live : Pages) (texts : Objects) → IsUnderWay start first live texts → (after : Objects) × IsUnderWay now batch live after × Has texts after
 
-pub put-has : (id : ℕ) (bytes : List ℕ) (texts : Texts) → HasPut id bytes texts (map.insert texts id bytes)
+pub put-has : (id : ℕ) (bytes : List ℕ) (texts : Objects) → HasPut id bytes texts (map.insert texts id bytes)
 put-has id bytes texts = record {
   object = get_insert texts id bytes id ∙ ap (λ (b : Bool). cond b (Some bytes) (map.get texts id)) (equal_true id id refl);
   others = λ q ne. get_insert texts id bytes q ∙ ap (λ (b : Bool). cond b (Some bytes) (map.get texts q)) (equal_false q id ne);
 }
 
-pub none-first : (texts : Texts) → HasNone [] texts texts
+pub none-first : (texts : Objects) → HasNone [] texts texts
 none-first texts = record { gone = λ id among. absurd among; others = λ id none. refl }
 
 -- one more that goes
-pub none-more : (ids : List ℕ) (id : ℕ) (old mid : Texts) → HasNone ids old mid → HasNone (ids ++ id ∷ []) old (map.remove mid id)
+pub none-more : (ids : List ℕ) (id : ℕ) (old mid : Objects) → HasNone ids old mid → HasNone (ids ++ id ∷ []) old (map.remove mid id)
 none-more ids id old mid so_far = record {
   gone = λ q among. ⊎_elim
       (λ (same : q ≡ id). at_id q same)
@@ -95,7 +95,7 @@ large-before (l ∷ larges) (suc i) d once low (inr m) = large-before larges i d
 pub large_not_yet : (larges : List NewLarge) (i : ℕ) (l : NewLarge) → AreOnce (ids_of larges) → i < length larges → l ≡ get_or larges i l → Among (ids_of (take i larges)) l.id → ⊥
 large_not_yet larges i l once low is m = large-before larges i l once low (subst (λ (x : NewLarge). Among (ids_of (take i larges)) x.id) is m)
 
-pub larges-first : (texts : Texts) → HasLarges [] texts texts
+pub larges-first : (texts : Objects) → HasLarges [] texts texts
 larges-first texts = record { objects = λ l among. absurd among; others = λ id none. refl }
 
 -- the id of a large binary, and those before it
@@ -104,7 +104,7 @@ ids-more larges l id (inl before) = subst (λ (ids : List ℕ). Among ids id) (s
 ids-more larges l id (inr last) = subst (λ (ids : List ℕ). Among ids id) (sym (map-append (λ l. l.id) larges (l ∷ []))) (among-right (ids_of larges) (l.id ∷ []) id (inl last))
 
 -- one more large binary that is put
-pub larges-more : (larges : List NewLarge) (l : NewLarge) (old mid new : Texts) → (Among (ids_of larges) l.id → ⊥) → HasLarges larges old mid → HasPut l.id l.bytes.items mid new → HasLarges (larges ++ l ∷ []) old new
+pub larges-more : (larges : List NewLarge) (l : NewLarge) (old mid new : Objects) → (Among (ids_of larges) l.id → ⊥) → HasLarges larges old mid → HasPut l.id l.bytes.items mid new → HasLarges (larges ++ l ∷ []) old new
 larges-more larges l old mid new apart so_far put = record {
   objects = λ x among. elim (among-append larges (l ∷ []) x among) [
     | inl before ↦ put.others x.id (λ same. apart (subst (λ (n : ℕ). Among (ids_of larges) n) same (among-map (λ l. l.id) larges x before))) ∙ so_far.objects x before
@@ -113,7 +113,7 @@ larges-more larges l old mid new apart so_far put = record {
   others = λ id none. put.others id (λ same. none (ids-more larges l id (inr (sym same)))) ∙ so_far.others id (λ before. none (ids-more larges l id (inl before)));
 }
 
-pub entry-none : (texts : Texts) → HasEntry None texts texts
+pub entry-none : (texts : Objects) → HasEntry None texts texts
 entry-none texts = record {
   entry_is = λ e is. absurd (let no : None ≡ Some e = is in cc);
   larges_are = λ e l is among. absurd (let no : None ≡ Some e = is in cc);
@@ -128,7 +128,7 @@ pub record-apart : (e : NewEntry) → HasIds e → Among (large_ids e) e.id → 
 record-apart e ids among = odd_even e.id ids.odd (ids.even e.id among).0
 
 -- the record of an entry, and then its large binaries
-pub entry-put : (e : NewEntry) (old mid new : Texts) → HasIds e → HasPut e.id e.bytes.items old mid → HasLarges e.larges.items mid new → HasEntry (Some e) old new
+pub entry-put : (e : NewEntry) (old mid new : Objects) → HasIds e → HasPut e.id e.bytes.items old mid → HasLarges e.larges.items mid new → HasEntry (Some e) old new
 entry-put e old mid new ids put larges = record {
   entry_is = λ x is. subst (λ (y : NewEntry). map.get new y.id ≡ Some y.bytes.items) (some_inj e x is) (larges.others e.id (record-apart e ids) ∙ put.object);
   larges_are = λ x l is among. larges.objects l (subst (λ (y : NewEntry). Among y.larges.items l) (sym (some_inj e x is)) among);
@@ -136,7 +136,7 @@ entry-put e old mid new ids put larges = record {
 }
 
 -- all three steps of a change
-pub written : (directory : List ℕ) (entry : Option NewEntry) (gone : List ℕ) (a b c d : Texts) → HasPut 0 directory a b → HasEntry entry b c → HasNone gone c d
+pub written : (directory : List ℕ) (entry : Option NewEntry) (gone : List ℕ) (a b c d : Objects) → HasPut 0 directory a b → HasEntry entry b c → HasNone gone c d
     → ((e : NewEntry) → entry ≡ Some e → e.id ≢ 0) → ((e : NewEntry) (id : ℕ) → entry ≡ Some e → Among (large_ids e) id → id ≢ 0) → ((id : ℕ) → Among gone id → id ≢ 0) → IsApart entry gone
     → AreWritten directory entry gone a d
 written directory entry gone a b c d first second third not_first not_larges not_gone apart = record {

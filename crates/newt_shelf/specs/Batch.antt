@@ -2,20 +2,20 @@
 use Rattle.std.specs.Prelude.{◌≡◌, ◌≢◌, ℕ, ◌+◌, ◌%◌, ◌<◌, List, length, map as map_list, sum_by, Option, Some, None}
 use Rattle.std.specs.FinMap as map
 use Rattle.newt_image.specs.Pages.{Change}
-use Rattle.newt_image.specs.Objects.{pages_for}
+use Rattle.newt_image.specs.Objects.{pages_for, Objects}
 use Rattle.newt_objects.specs.Extents.{numbers_of}
-use Rattle.newt_objects.specs.Held.{Held, held, Texts}
+use Rattle.newt_objects.specs.Held.{Held, held}
 use Rattle.newt_spec_graph.specs.Lists.{Among, Pairs}
 use Rattle.newt_shelf.specs.declared.batch.NewEntry.{NewEntry}
 use Rattle.newt_shelf.specs.declared.batch.NewLarge.{NewLarge}
 
 -- the object has these bytes, and all others are as they were
-pub record HasPut (id : ℕ) (bytes : List ℕ) (old new : Texts) : Type 0 where
+pub record HasPut (id : ℕ) (bytes : List ℕ) (old new : Objects) : Type 0 where
   pub object : map.get new id ≡ Some bytes
   pub others : (q : ℕ) → q ≢ id → map.get new q ≡ map.get old q
 
 -- none of these is an object, and all others are as they were
-pub record HasNone (ids : List ℕ) (old new : Texts) : Type 0 where
+pub record HasNone (ids : List ℕ) (old new : Objects) : Type 0 where
   pub gone : (id : ℕ) → Among ids id → map.get new id ≡ None
   pub others : (id : ℕ) → (Among ids id → ⊥) → map.get new id ≡ map.get old id
 
@@ -34,18 +34,18 @@ pub record HasIds (e : NewEntry) : Type 0 where
   pub once : AreOnce (large_ids e)
 
 -- Each large binary was put, and all other objects are as they were.
-pub record HasLarges (larges : List NewLarge) (old new : Texts) : Type 0 where
+pub record HasLarges (larges : List NewLarge) (old new : Objects) : Type 0 where
   pub objects : (l : NewLarge) → Among larges l → map.get new l.id ≡ Some l.bytes.items
   pub others : (id : ℕ) → (Among (map_list (λ l. l.id) larges) id → ⊥) → map.get new id ≡ map.get old id
 
 -- The new entry's record and its large binaries were put, and all other objects are as they were.
-pub record HasEntry (entry : Option NewEntry) (old new : Texts) : Type 0 where
+pub record HasEntry (entry : Option NewEntry) (old new : Objects) : Type 0 where
   pub entry_is : (e : NewEntry) → entry ≡ Some e → map.get new e.id ≡ Some e.bytes.items
   pub larges_are : (e : NewEntry) (l : NewLarge) → entry ≡ Some e → Among e.larges.items l → map.get new l.id ≡ Some l.bytes.items
   pub others : (id : ℕ) → ((e : NewEntry) → entry ≡ Some e → (e.id ≢ id) × (Among (large_ids e) id → ⊥)) → map.get new id ≡ map.get old id
 
 -- The directory, the new entry's record and its large binaries were put, and these are no objects any more.
-pub record AreWritten (directory : List ℕ) (entry : Option NewEntry) (gone : List ℕ) (old new : Texts) : Type 0 where
+pub record AreWritten (directory : List ℕ) (entry : Option NewEntry) (gone : List ℕ) (old new : Objects) : Type 0 where
   pub directory_is : map.get new 0 ≡ Some directory
   pub entry_is : (e : NewEntry) → entry ≡ Some e → map.get new e.id ≡ Some e.bytes.items
   pub larges_are : (e : NewEntry) (l : NewLarge) → entry ≡ Some e → Among e.larges.items l → map.get new l.id ≡ Some l.bytes.items

@@ -1,13 +1,13 @@
 -- Bytes of one object that are overwritten.
 use Rattle.std.specs.Prelude.{◌≡◌, ◌⊎◌, ℕ, List, length}
 use Rattle.newt_base.specs.declared.Refusal.TheVariants.{Full, Range}
-use Rattle.newt_objects.specs.Held.{Texts}
+use Rattle.newt_image.specs.Objects.{Objects}
 use Rattle.newt_objects.specs.Changing.{HoldsObjects}
 use Rattle.newt_shelf.specs.declared.fault.StoreFault.{StoreFault}
 use Rattle.newt_shelf.specs.declared.fault.StoreFault.TheVariants.{Refused, Stop}
 
 -- What a crash may leave of an image within a patch: as many bytes, which hold the objects before it, or those after it.
-pub record IsBeforeOrPatched (now : List ℕ) (before after : Texts) (left : List ℕ) : Type 0 where
+pub record IsBeforeOrPatched (now : List ℕ) (before after : Objects) (left : List ℕ) : Type 0 where
   pub size : length left ≡ length now
   pub holds : HoldsObjects left before ⊎ HoldsObjects left after
 

@@ -1,8 +1,8 @@
 // The objects of a change, planned into one batch.
 ghost use Rattle.std.specs.Prelude.{◌≡◌, ◌≢◌, ◌+◌, ◌<◌, ℕ, [], length, map as map_list, sum_by, Some, IsSome, OnOk};
 ghost use Rattle.newt_image.specs.Pages.{Pages};
-ghost use Rattle.newt_image.specs.Objects.{pages_for};
-ghost use Rattle.newt_objects.specs.Held.{held, Texts, IsUnplanned};
+ghost use Rattle.newt_image.specs.Objects.{pages_for, Objects as Texts};
+ghost use Rattle.newt_objects.specs.Held.{held, IsUnplanned};
 ghost use Rattle.newt_objects.specs.Changing.{IsUnderWay};
 ghost use Rattle.newt_spec_graph.specs.Lists.{Among};
 ghost use Rattle.newt_shelf.specs.declared.batch.NewEntry.{NewEntry as NewOne};

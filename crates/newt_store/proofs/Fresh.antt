@@ -7,10 +7,10 @@ use Rattle.std.specs.Option.{option_map}
 use Rattle.newt_base.specs.Names.{is_name}
 use Rattle.newt_image.specs.Records.{and_then}
 use Rattle.newt_image.specs.Pages.{Change, pages_after, after, cap}
-use Rattle.newt_image.specs.Objects.{IsTableOf, joined, pages_for}
+use Rattle.newt_image.specs.Objects.{IsTableOf, joined, pages_for, Objects}
 use Rattle.newt_pagebook.specs.Batch.{no_change}
 use Rattle.newt_pagebook.specs.Book.{IsFormatted}
-use Rattle.newt_objects.specs.Held.{Held, held, Texts}
+use Rattle.newt_objects.specs.Held.{Held, held}
 use Rattle.newt_objects.specs.Changing.{HoldsObjects, IsUnderWay}
 use Rattle.newt_objects.proofs.Changing.{start_under_way, would_be_objects}
 use Rattle.newt_spec_store.specs.Store.{Store, new_store}
@@ -39,7 +39,7 @@ start-empty objects none plans = start_under_way objects map.empty map.empty pla
   }
 
 -- a formatted image holds what the batch makes of nothing
-pub formatted-holds : (objects : Held) (batch : Change) (texts : Texts) (image : List ℕ) → IsUnderWay objects batch map.empty texts → IsFormatted batch image → HoldsObjects image texts
+pub formatted-holds : (objects : Held) (batch : Change) (texts : Objects) (image : List ℕ) → IsUnderWay objects batch map.empty texts → IsFormatted batch image → HoldsObjects image texts
 formatted-holds objects batch texts image way is = record {
   live = after batch map.empty;
   of_image = ap (λ (o : Option (List (List ℕ))). and_then o (λ payloads. pages_after payloads map.empty)) is.one.1
@@ -73,7 +73,7 @@ fresh-lies name sig bytes is = fresh_lies (map.insert map.empty 0 bytes) (new_st
 pub fresh-read : (name : List ℕ) (sig : ℕ) (bytes image : List ℕ) → is_name name ≡ true → length name ≤ 39 → sig ≤ 536870911 → 13 ≤ blocks_of image → bytes ≡ directory_bytes (new_store name sig)
     → HoldsObjects image (map.insert map.empty 0 bytes) → store_of_image stream_graph image ≡ Some (new_store name sig)
 fresh-read name sig bytes image good short few many is holds =
-    let texts : Texts = map.insert map.empty 0 bytes in
+    let texts : Objects = map.insert map.empty 0 bytes in
     let s : Store = new_store name sig in
     let lies = (fresh-lies name sig bytes is).0 in
     image-by-objects stream_graph image holds.live texts holds.of_image holds.are

@@ -12,11 +12,11 @@ use Rattle.newt_spec_store.specs.Cost.{directory_bytes}
 use Rattle.newt_soupdir.specs.Bare.{bare_store}
 use Rattle.newt_host.proofs.Moments.{Leaves-start, Leaves-weaken}
 use Rattle.newt_image.specs.Pages.{Pages, Change}
-use Rattle.newt_image.specs.Objects.{AreObjectsOf, joined, pages_for}
+use Rattle.newt_image.specs.Objects.{AreObjectsOf, joined, pages_for, Objects}
 use Rattle.newt_pagebook.specs.Batch.{no_change}
 use Rattle.newt_pagebook.specs.Book.{Numbers, batch_bytes}
 use Rattle.newt_pagebook.proofs.Tests.{some_inj}
-use Rattle.newt_objects.specs.Held.{Held, held, planned, Texts}
+use Rattle.newt_objects.specs.Held.{Held, held, planned}
 use Rattle.newt_objects.specs.Changing.{HoldsObjects, IsUnderWay}
 use Rattle.newt_objects.proofs.Changing.{start_under_way}
 use Rattle.newt_objects.proofs.Same.{texts_by}
@@ -59,10 +59,10 @@ module _ (told : Bool) (objects : Held) (numbers : Numbers) (unit : ℕ) (outsid
   abbrev live : Pages
   live = kept.are.live
 
-  pub start-way : (before : Texts) → AreObjectsOf live before → IsUnderWay objects no_change live before
+  pub start-way : (before : Objects) → AreObjectsOf live before → IsUnderWay objects no_change live before
   start-way before are = start_under_way objects live before kept.none kept.are.is_table are
 
-  pub planned-made : (now : Held) (batch : Change) (before after : Texts) → AreObjectsOf live before → IsUnderWay now batch live after → IsPlanned told now batch numbers (image unit outside.now) before after
+  pub planned-made : (now : Held) (batch : Change) (before after : Objects) → AreObjectsOf live before → IsUnderWay now batch live after → IsPlanned told now batch numbers (image unit outside.now) before after
   planned-made now batch before after are way = record { live = live; are = kept.are.are; were = are; way = way }
 
 -- what stands in a list of values is the value of an element
@@ -83,7 +83,7 @@ is-some : {A : Type 0} (o : Option A) (x : A) → o ≡ Some x → IsSome o
 is-some o x is = subst (λ (o : Option _). IsSome o) (sym is) refl
 
 -- what lies where, once the plans are taken over
-module _ (objects now : Held) (batch : Change) (live : Pages) (before after : Texts) (directory : List ℕ) (entry : Option NewEntry) (gone : List ℕ)
+module _ (objects now : Held) (batch : Change) (live : Pages) (before after : Objects) (directory : List ℕ) (entry : Option NewEntry) (gone : List ℕ)
     (start : IsUnderWay objects no_change live before) (were : AreObjectsOf live before) (way : IsUnderWay now batch live after) (wrote : AreWritten directory entry gone before after) where
   in-after : (id : ℕ) → IsSome (map.get after id) → IsSome (planned now id)
   in-after id some = map-some (joined _) (planned now id) (subst (λ (o : Option (List ℕ)). IsSome o) (way.would.each id) some)
@@ -119,17 +119,17 @@ module _ (objects now : Held) (batch : Change) (live : Pages) (before after : Te
 
 -- ---- at every moment
 
-pub either-next : (now : List ℕ) (next : Next) (gone : List ℕ) (before after : Texts) (left : List ℕ) → WritesNext next gone before after → IsEither now before after left → HoldsEither now next gone before left
+pub either-next : (now : List ℕ) (next : Next) (gone : List ℕ) (before after : Objects) (left : List ℕ) → WritesNext next gone before after → IsEither now before after left → HoldsEither now next gone before left
 either-next now next gone before after left wrote e = record {
   size = e.size;
   holds = ⊎_elim (λ was. inl was) (λ is. inr (after, is.0, wrote, is.1)) e.holds;
 }
 
-pub leaves-next : (unit : ℕ) (now : List ℕ) (next : Next) (gone : List ℕ) (before after : Texts) (old new : Moment) → WritesNext next gone before after → Leaves unit (IsEither now before after) old new → Leaves unit (HoldsEither now next gone before) old new
+pub leaves-next : (unit : ℕ) (now : List ℕ) (next : Next) (gone : List ℕ) (before after : Objects) (old new : Moment) → WritesNext next gone before after → Leaves unit (IsEither now before after) old new → Leaves unit (HoldsEither now next gone before) old new
 leaves-next unit now next gone before after old new wrote leaves = Leaves-weaken (λ left e. either-next now next gone before after left wrote e) leaves
 
 -- nothing was written yet
-pub leaves-none : (unit : ℕ) (next : Next) (gone : List ℕ) (before : Texts) (old : Moment) → HoldsObjects (image unit old) before → IsDurable unit old → Leaves unit (HoldsEither (image unit old) next gone before) old old
+pub leaves-none : (unit : ℕ) (next : Next) (gone : List ℕ) (before : Objects) (old : Moment) → HoldsObjects (image unit old) before → IsDurable unit old → Leaves unit (HoldsEither (image unit old) next gone before) old old
 leaves-none unit next gone before old holds durable = Leaves-start (λ left may.
     let same : left ≡ image unit old = durable left may in
     record { size = ap (λ (l : List ℕ). length l) same; holds = inl (subst (λ (l : List ℕ). HoldsObjects l before) (sym same) holds) })

@@ -2,7 +2,7 @@
 ghost use Rattle.std.specs.Prelude.{IsTrue, ◌≡◌, ℕ, Some, nat_le, length, IfOk, IfErr};
 ghost use Rattle.std.specs.List.{list_any};
 ghost use Rattle.newt_base.specs.Refusals.{first_of};
-ghost use Rattle.newt_image.specs.Objects.{Objects as Texts};
+ghost use Rattle.newt_image.specs.Objects.{Objects};
 ghost use Rattle.newt_shelf.specs.Places.{place_of};
 ghost use Rattle.newt_shelf.specs.Names.{names_of};
 ghost use Rattle.newt_soupdir.specs.Bare.{bare_store};
@@ -50,8 +50,8 @@ pub(crate) fn plan_add_index(
 ) -> Result<Next, StoreFault>
     requires { IsTrue (well_formed (bare_store catalog.now.directory)) }
     ensures next { IfOk result (IsNextOf catalog.now) }
-    ensures planned { (now : ℕ) (texts : Texts) (s : PlainStore) → Describes catalog.now.directory (place_of catalog.now.places) (names_of catalog.now.names) texts s → IfOk result (IsPlanOf catalog.now (Change.AddIndex sig spec) now s) }
-    ensures refused { (texts : Texts) (s : PlainStore) → Describes catalog.now.directory (place_of catalog.now.places) (names_of catalog.now.names) texts s → IfErr result (RefusesWith (first_of (first_checks (Change.AddIndex sig spec) s))) }
+    ensures planned { (now : ℕ) (texts : Objects) (s : PlainStore) → Describes catalog.now.directory (place_of catalog.now.places) (names_of catalog.now.names) texts s → IfOk result (IsPlanOf catalog.now (Change.AddIndex sig spec) now s) }
+    ensures refused { (texts : Objects) (s : PlainStore) → Describes catalog.now.directory (place_of catalog.now.places) (names_of catalog.now.names) texts s → IfErr result (RefusesWith (first_of (first_checks (Change.AddIndex sig spec) s))) }
     ensures cause { IfErr result IsNoDevice }
 {
     let Some(row) = catalog.directory.soup_of(sig) else {
@@ -82,8 +82,8 @@ pub(crate) fn plan_drop_index(
 ) -> Result<Next, StoreFault>
     requires { IsTrue (well_formed (bare_store catalog.now.directory)) }
     ensures next { IfOk result (IsNextOf catalog.now) }
-    ensures planned { (now : ℕ) (texts : Texts) (s : PlainStore) → Describes catalog.now.directory (place_of catalog.now.places) (names_of catalog.now.names) texts s → IfOk result (IsPlanOf catalog.now (Change.DropIndex sig paths.now) now s) }
-    ensures refused { (texts : Texts) (s : PlainStore) → Describes catalog.now.directory (place_of catalog.now.places) (names_of catalog.now.names) texts s → IfErr result (RefusesWith (first_of (first_checks (Change.DropIndex sig paths.now) s))) }
+    ensures planned { (now : ℕ) (texts : Objects) (s : PlainStore) → Describes catalog.now.directory (place_of catalog.now.places) (names_of catalog.now.names) texts s → IfOk result (IsPlanOf catalog.now (Change.DropIndex sig paths.now) now s) }
+    ensures refused { (texts : Objects) (s : PlainStore) → Describes catalog.now.directory (place_of catalog.now.places) (names_of catalog.now.names) texts s → IfErr result (RefusesWith (first_of (first_checks (Change.DropIndex sig paths.now) s))) }
     ensures cause { IfErr result IsNoDevice }
 {
     if catalog.directory.soup_of(sig).is_none() {
@@ -107,8 +107,8 @@ pub(crate) fn plan_set_tags(
 ) -> Result<Next, StoreFault>
     requires { IsTrue (well_formed (bare_store catalog.now.directory)) }
     ensures next { IfOk result (IsNextOf catalog.now) }
-    ensures planned { (now : ℕ) (texts : Texts) (s : PlainStore) → Describes catalog.now.directory (place_of catalog.now.places) (names_of catalog.now.names) texts s → IfOk result (IsPlanOf catalog.now (Change.SetTags sig table) now s) }
-    ensures refused { (texts : Texts) (s : PlainStore) → Describes catalog.now.directory (place_of catalog.now.places) (names_of catalog.now.names) texts s → IfErr result (RefusesWith (first_of (first_checks (Change.SetTags sig table) s))) }
+    ensures planned { (now : ℕ) (texts : Objects) (s : PlainStore) → Describes catalog.now.directory (place_of catalog.now.places) (names_of catalog.now.names) texts s → IfOk result (IsPlanOf catalog.now (Change.SetTags sig table) now s) }
+    ensures refused { (texts : Objects) (s : PlainStore) → Describes catalog.now.directory (place_of catalog.now.places) (names_of catalog.now.names) texts s → IfErr result (RefusesWith (first_of (first_checks (Change.SetTags sig table) s))) }
     ensures cause { IfErr result IsNoDevice }
 {
     if catalog.directory.soup_of(sig).is_none() {

@@ -4,7 +4,7 @@ ghost use Rattle.newt_attach.specs.Named.{AreDistinct};
 ghost use Rattle.newt_host.specs.Meanings.{held, left_since, since};
 ghost use Rattle.newt_host.specs.Moments.{Always};
 ghost use Rattle.newt_host.specs.Outside.{PrintsSome};
-ghost use Rattle.newt_session.specs.Causes.{GoesOn, HasSinkCause, HasWriteCause, NeverLess, SameDevices};
+ghost use Rattle.newt_session.specs.Causes.{StaysAttached, HasSinkCause, HasWriteCause, NeverLess, SameDevices};
 ghost use Rattle.newt_session.specs.Lines.{lines_of};
 ghost use Rattle.newt_session.specs.Run.{HaltedReply};
 ghost use Rattle.newt_session.specs.Script.{commands_of};
@@ -28,7 +28,7 @@ fn put_tally<H: Host>(alloc: Global, host: &mut H, tally: &Tally) -> Result<(), 
     ensures left { (H.outside host.new).input ≡ (H.outside host.old).input }
     ensures devices { SameDevices H.told (H.outside host.old) (H.outside host.new) }
     ensures cause { IfErr result (λ halt. HasSinkCause halt (H.outside host.old) (H.outside host.new)) }
-    ensures goes_on { GoesOn (H.outside host.old) (H.outside host.new) }
+    ensures stays { StaysAttached (H.outside host.old) (H.outside host.new) }
 {
     let Ok(text) = tally.lines(alloc) else {
         return Err(Halt::Memory);
@@ -55,7 +55,7 @@ fn tally_script<H: Host, I: Interpreter>(
         (H.outside host.old).now (H.outside host.new).now }
     ensures left { (H.outside host.new).input ≡ (H.outside host.old).input }
     ensures cause { IfErr result (λ halt. HasWriteCause halt (H.outside host.old) (H.outside host.new)) }
-    ensures goes_on { GoesOn (H.outside host.old) (H.outside host.new) }
+    ensures stays { StaysAttached (H.outside host.old) (H.outside host.new) }
 {
     let tally = tally_lines(alloc, host, interpreter, script)?;
     put_tally(alloc, host, &tally)

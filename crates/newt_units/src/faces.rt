@@ -8,12 +8,9 @@ ghost use Rattle.newt_units.specs.Stands.{card_at};
 use crate::units::Units;
 use newt_base::Sig;
 use newt_cardstore::Card;
-use newt_host::Unit;
+use newt_host::{UNITS, Unit};
 use newt_reply::{StoreLine, StoreRows};
 use std::alloc::AllocError;
-
-/// How many units there are.
-const UNITS: u8 = 8;
 
 impl<C: Card> Units<C> {
     /// How many stores are mounted.

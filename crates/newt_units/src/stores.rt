@@ -19,7 +19,7 @@ use crate::units::Units;
 use newt_base::{Name, Refusal, Sig};
 use newt_cardstore::{Card, Fault};
 use newt_host::{Host, Unit};
-use newt_pagebook::{BookFault, Stop};
+use newt_pagebook::{BookFault, LEAST_BLOCKS, MOST_BLOCKS, Stop};
 
 /// The largest signature of a store.
 const MOST_SIG: u32 = 536_870_911;
@@ -33,7 +33,7 @@ impl<C: Card> Units<C> {
             return Err(Fault::Refused(Refusal::Unit));
         }
         let blocks = host.blocks(unit);
-        if blocks < 13 || 4099 < blocks {
+        if blocks < LEAST_BLOCKS || MOST_BLOCKS < blocks {
             return Err(Fault::Refused(Refusal::Blocks));
         }
         if self.card(unit).is_some() {

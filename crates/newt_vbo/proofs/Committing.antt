@@ -7,10 +7,10 @@ use Rattle.std.specs.Option.{option_map}
 use Rattle.newt_host.specs.Moments.{image, overwritten}
 use Rattle.newt_host.specs.Outside.{Outside}
 use Rattle.newt_image.specs.Pages.{Pages, Change, pages, after}
-use Rattle.newt_image.specs.Objects.{Extent, IsTableOf, AreObjectsOf}
+use Rattle.newt_image.specs.Objects.{Extent, IsTableOf, AreObjectsOf, Objects}
 use Rattle.newt_pagebook.specs.Batch.{no_change}
 use Rattle.newt_pagebook.specs.Book.{Numbers, changed_numbers, ReadsChanged}
-use Rattle.newt_objects.specs.Held.{Held, held, planned, after_plan, AreOf, Texts, WouldHold}
+use Rattle.newt_objects.specs.Held.{Held, held, planned, after_plan, AreOf, WouldHold}
 use Rattle.newt_objects.proofs.Changing.{start_under_way, changed_named}
 use Rattle.newt_objects.proofs.Same.{table_kept}
 use Rattle.newt_vbo.specs.Patches.{WouldPatch}
@@ -20,14 +20,14 @@ planned_none : (objects : Held) → objects.plans ≡ [] → (id : ℕ) → plan
 planned_none objects none id = ap (λ (plans : List (ℕ × Option Extent)). after_plan (lookup (λ other. id == other) plans) (held objects id)) none
 
 -- What the objects are once the patch is committed. `newt_objects` says of it what the new image holds, and what a crash leaves meanwhile.
-pub patch_would : (objects : Held) (id at : ℕ) (bytes text : List ℕ) (change : Change) (live : Pages) (texts : Texts) → objects.plans ≡ [] → IsTableOf live (held objects) → AreObjectsOf live texts
+pub patch_would : (objects : Held) (id at : ℕ) (bytes text : List ℕ) (change : Change) (live : Pages) (texts : Objects) → objects.plans ≡ [] → IsTableOf live (held objects) → AreObjectsOf live texts
     → map.get texts id ≡ Some text → WouldPatch objects id at bytes no_change change live → WouldHold objects change live (map.insert texts id (overwritten text at bytes))
 patch_would objects id at bytes text change live texts none is are there patch = patch texts text there (start_under_way objects live texts none is are).would
 
 -- The table stays that of the live pages, on a host that tells bytes and on one that does not.
 pub patched_are : (told : Bool) (objects : Held) (change : Change) (numbers numbers' : Numbers) (unit : ℕ) (old new : Outside) → objects.plans ≡ [] → AreOf told (held objects) numbers unit old
     → numbers' ≡ changed_numbers change numbers → changed_numbers change numbers ≡ numbers → (IsTrue told → ReadsChanged change (image unit old.now) (image unit new.now))
-    → (IsTrue told → (live : Pages) → pages (image unit old.now) ≡ Some live → (texts : Texts) × WouldHold objects change live texts) → AreOf told (held objects) numbers' unit new
+    → (IsTrue told → (live : Pages) → pages (image unit old.now) ≡ Some live → (texts : Objects) × WouldHold objects change live texts) → AreOf told (held objects) numbers' unit new
 patched_are true objects change numbers numbers' unit old new none are changed same committed would =
     let live : Pages = are.live in
     let w = would refl live (are.are.of_image refl) in

@@ -9,12 +9,12 @@ use Rattle.std.proofs.lemmas.List.{drop_at, take-append-le, drop-append-le}
 use Rattle.std.proofs.lemmas.Option.{slice_get-get_or}
 use Rattle.newt_host.specs.Moments.{overwritten}
 use Rattle.newt_image.specs.Pages.{Pages, Change, after, object_id, part_number, object_length, page_data, word_at}
-use Rattle.newt_image.specs.Objects.{Extent, IsPart, IsTableOf, pages_for, joined, data_at}
+use Rattle.newt_image.specs.Objects.{Extent, IsPart, IsTableOf, pages_for, joined, data_at, Objects}
 use Rattle.newt_pagebook.specs.Batch.{names, puts_one}
 use Rattle.newt_pagebook.proofs.Tests.{some_inj, equal_true, equal_false}
 use Rattle.newt_pagebook.proofs.Changes.{after_put, unnamed, get_insert}
 use Rattle.newt_objects.specs.Extents.{IsUnnamed}
-use Rattle.newt_objects.specs.Held.{Held, held, planned, Texts, WouldHold}
+use Rattle.newt_objects.specs.Held.{Held, held, planned, WouldHold}
 use Rattle.newt_objects.proofs.Plans.{one_part, joined-same}
 use Rattle.newt_host.proofs.Ranges.{length-overwritten}
 use Rattle.newt_vbo.proofs.Lists.{overwritten_right, overwritten_part, overwritten_cut}
@@ -72,7 +72,7 @@ one_page : (n : ℕ) → 1 ≤ pages_for n
 one_page n = omega arith
 
 -- An object of which no page is named is still there once the change is committed.
-module _ (objects : Held) (change : Change) (live : Pages) (texts : Texts) (id : ℕ) (x : Extent) (is : IsTableOf live (held objects)) (would : WouldHold objects change live texts)
+module _ (objects : Held) (change : Change) (live : Pages) (texts : Objects) (id : ℕ) (x : Extent) (is : IsTableOf live (held objects)) (would : WouldHold objects change live texts)
     (there : held objects id ≡ Some x) (free : IsUnnamed x change) where
   part_still : (k number : ℕ) → slice_get x.numbers k ≡ Some number → (y : Extent) × (planned objects id ≡ Some y) × (slice_get y.numbers k ≡ Some number) × (y.length ≡ x.length)
   part_still k number at =
@@ -132,7 +132,7 @@ module _ (change : Change) (live : Pages) (number s : ℕ) (page new : List ℕ)
       (λ (ne : n ≡ number → ⊥). ap (λ (l : List ℕ). length l) (data_other n ne) ∙ whole k n at)
       (cases_eq n number)
 
-  module _ (objects : Held) (texts : Texts) (id k : ℕ) (x : Extent) (text : List ℕ) (would : WouldHold objects change live texts) (there : planned objects id ≡ Some x)
+  module _ (objects : Held) (texts : Objects) (id k : ℕ) (x : Extent) (text : List ℕ) (would : WouldHold objects change live texts) (there : planned objects id ≡ Some x)
       (at : slice_get x.numbers k ≡ Some number) (whole : HasWhole m x) (within : 500 * k + s + length new ≤ x.length) (text_is : map.get texts id ≡ Some text) where
     put_table : IsTableOf m' (planned objects)
     put_table = record {

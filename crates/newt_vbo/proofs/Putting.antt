@@ -9,13 +9,13 @@ use Rattle.std.proofs.lemmas.List.{map-append, take_more, get_or-drop}
 use Rattle.std.proofs.Math.Seq.{take-add}
 use Rattle.newt_host.specs.Moments.{overwritten}
 use Rattle.newt_image.specs.Pages.{Pages, Change, after}
-use Rattle.newt_image.specs.Objects.{Extent, IsTableOf, joined}
+use Rattle.newt_image.specs.Objects.{Extent, IsTableOf, joined, Objects}
 use Rattle.newt_pagebook.specs.Batch.{names, puts_one}
 use Rattle.newt_pagebook.specs.Book.{Numbers, with_put_numbers, without_deleted, changed_numbers}
 use Rattle.newt_pagebook.proofs.Tests.{some_inj, equal_true, equal_false, same_test, is_same, true_or_false}
 use Rattle.newt_pagebook.proofs.Changes.{get_insert, names_put}
 use Rattle.newt_objects.specs.Extents.{IsUnnamed}
-use Rattle.newt_objects.specs.Held.{Held, held, planned, Texts, WouldHold}
+use Rattle.newt_objects.specs.Held.{Held, held, planned, WouldHold}
 use Rattle.newt_objects.specs.Changing.{AreWhole}
 use Rattle.newt_objects.proofs.Plans.{one_part}
 use Rattle.newt_vbo.specs.Patches.{numbers_put, WouldPatch}
@@ -24,14 +24,14 @@ use Rattle.newt_vbo.proofs.Parts.{HasWhole, data_whole, unnamed_whole, joined_le
 use Rattle.newt_vbo.proofs.Patching.{still_planned, put_holds}
 
 -- what is put twice under one id
-insert_twice : (texts : Texts) (id : ℕ) (a b : List ℕ) → map.insert (map.insert texts id a) id b ≡ map.insert texts id b
+insert_twice : (texts : Objects) (id : ℕ) (a b : List ℕ) → map.insert (map.insert texts id a) id b ≡ map.insert texts id b
 insert_twice texts id a b = map.same_map nat_cmp_total map.nat_cmp-IsAntisymmetric _ _ (λ q.
     get_insert (map.insert texts id a) id b q ∙ ap (cond (q == id) (Some b)) (get_insert texts id a q) ∙ twice (q == id) (Some b) (Some a) (map.get texts q) ∙ sym (get_insert texts id b q)) where
       twice : (b : Bool) (u v w : Option (List ℕ)) → cond b u (cond b v w) ≡ cond b u w
       twice true u v w = refl
       twice false u v w = refl
 
-insert_same : (texts : Texts) (id : ℕ) (a : List ℕ) → map.get texts id ≡ Some a → map.insert texts id a ≡ texts
+insert_same : (texts : Objects) (id : ℕ) (a : List ℕ) → map.get texts id ≡ Some a → map.insert texts id a ≡ texts
 insert_same texts id a there = map.same_map nat_cmp_total map.nat_cmp-IsAntisymmetric _ _ (λ q. get_insert texts id a q ∙ ⊎_elim
     (λ (t : (q == id) ≡ true). ap (λ (b : Bool). cond b (Some a) (map.get texts q)) t ∙ sym there ∙ ap (map.get texts) (sym (is_same q id t)))
     (λ (f : (q == id) ≡ false). ap (λ (b : Bool). cond b (Some a) (map.get texts q)) f)
@@ -41,7 +41,7 @@ insert_same texts id a there = map.same_map nat_cmp_total map.nat_cmp-IsAntisymm
 pub patch_none : (objects : Held) (id at : ℕ) (bytes : List ℕ) (change : Change) (live : Pages) → bytes ≡ [] → WouldPatch objects id at bytes change change live
 patch_none objects id at bytes change live none = λ texts text there would.
     let same : overwritten text at bytes ≡ text = ap (λ (l : List ℕ). overwritten text at l) none ∙ overwritten_none text at in
-    subst (λ (t : Texts). WouldHold objects change live t) (sym (ap (λ (l : List ℕ). map.insert texts id l) same ∙ insert_same texts id text there)) would
+    subst (λ (t : Objects). WouldHold objects change live t) (sym (ap (λ (l : List ℕ). map.insert texts id l) same ∙ insert_same texts id text there)) would
 
 -- One page more.
 pub patch_more : (objects : Held) (id at : ℕ) (bytes : List ℕ) (old now : Change) (live : Pages) (x : Extent) (k number s done c : ℕ) (page : List ℕ) → IsTableOf live (held objects) → held objects id ≡ Some x → IsUnnamed x old
@@ -64,7 +64,7 @@ patch_more objects id at bytes old now live x k number s done c page is there fr
     let spot : 500 * k + s ≡ at + length before = sym place ∙ ap (λ (n : ℕ). at + n) (sym count) in
     let both : overwritten mid (500 * k + s) piece ≡ overwritten text at (take (done + c) bytes) =
     ap (λ (n : ℕ). overwritten mid n piece) spot ∙ overwritten_more text at before piece (omega (arith, long, within)) ∙ ap (λ (l : List ℕ). overwritten text at l) (sym (take-add done c bytes)) in
-    subst (λ (t : Texts). WouldHold objects (puts_one now number (overwritten page (12 + s) piece)) live t)
+    subst (λ (t : Objects). WouldHold objects (puts_one now number (overwritten page (12 + s) piece)) live t)
     (insert_twice texts id mid (overwritten mid (500 * k + s) piece) ∙ ap (λ (l : List ℕ). map.insert texts id l) both) next
 
 -- a page that is put again is no page more

@@ -3,8 +3,9 @@ use Rattle.std.specs.Prelude.{IsTrue, ◌≡◌, ℕ, ◌+◌, Bool, List, map a
 use Rattle.std.specs.FinMap as map
 use Rattle.newt_host.specs.Moments.{overwritten}
 use Rattle.newt_image.specs.Pages.{Change, Pages, pages}
+use Rattle.newt_image.specs.Objects.{Objects}
 use Rattle.newt_pagebook.specs.Batch.{puts_one}
-use Rattle.newt_objects.specs.Held.{Held, Texts, WouldHold}
+use Rattle.newt_objects.specs.Held.{Held, WouldHold}
 
 -- the numbers that are put
 abbrev pub numbers_put : Change → List ℕ
@@ -12,7 +13,7 @@ numbers_put change = map_list (λ put. put.0) change.puts
 
 -- Once the changes are committed, the object has these bytes in place of those from `at` on; all other objects, and its other bytes, are as they would be before.
 abbrev pub WouldPatch : Held → ℕ → ℕ → List ℕ → Change → Change → Pages → Type 0
-WouldPatch objects id at bytes old new live = (texts : Texts) (text : List ℕ) → map.get texts id ≡ Some text → WouldHold objects old live texts
+WouldPatch objects id at bytes old new live = (texts : Objects) (text : List ℕ) → map.get texts id ≡ Some text → WouldHold objects old live texts
     → WouldHold objects new live (map.insert texts id (overwritten text at bytes))
 
 -- A page is put under its number, with these bytes in place of those from a place in its part on. Where bytes are told, it was the live page of the number.

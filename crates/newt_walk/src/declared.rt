@@ -15,13 +15,10 @@ use crate::present::in_scope;
 use newt_base::{Name, Sig};
 use newt_cardstore::Card;
 use newt_cursor::Scope;
-use newt_host::Unit;
+use newt_host::{UNITS, Unit};
 use newt_keys::{IndexPart, IndexSpec};
 use newt_path::Path;
 use newt_units::Units;
-
-/// How many units there are.
-const UNITS: u8 = 8;
 
 /// The declaration of these paths in the soup of a name on the first unit in scope whose soup has one.
 pub(crate) fn index_for<'a, C: Card>(

@@ -24,12 +24,9 @@ use newt_base::{Name, Refusal};
 use newt_cardstore::{Card, Fault};
 use newt_cursor::{Desk, DeskFault, Query, Scope};
 use newt_graph::Graph;
-use newt_host::{Host, Unit};
+use newt_host::{Host, UNITS, Unit};
 use newt_pagebook::Stop;
 use newt_units::Units;
-
-/// How many units there are.
-const UNITS: u8 = 8;
 
 /// Opens a cursor on the first hit of a query in the soup of a name in one store, or behind all where it has no hits, and answers its number, from 0 to
 /// 31. Where all 32 places are taken it is refused as `Limit`.

@@ -17,15 +17,12 @@ use crate::ways::Way;
 use newt_base::Sig;
 use newt_cardstore::Card;
 use newt_cursor::Query;
-use newt_host::Unit;
+use newt_host::{UNITS, Unit};
 use newt_index::{Index, Spot};
 use newt_keys::{IndexSpec, Key};
 use newt_union::{Hit, Members};
 use newt_units::Units;
 use std::alloc::AllocError;
-
-/// How many units there are.
-const UNITS: u8 = 8;
 
 /// The hit that a way meets first.
 pub(crate) fn outermost<C: Card>(

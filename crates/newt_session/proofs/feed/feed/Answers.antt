@@ -5,7 +5,7 @@ use Rattle.newt_session.specs.Causes.{flow_of}
 use Rattle.newt_session.specs.Lines.{ended_lines}
 use Rattle.newt_session.specs.Script.{commands_of, has_quit}
 use Rattle.newt_session.specs.Stream.{out_of}
-use Rattle.newt_session.proofs.Counting.{goes-refl, goes-trans}
+use Rattle.newt_session.proofs.Counting.{stays-refl, stays-trans}
 use Rattle.newt_session.proofs.Crashing.{its_now, kept_start, kept_part, kept_after}
 use Rattle.newt_session.proofs.Cutting.{left_none}
 use Rattle.newt_session.proofs.Feeding.{go_is, quit_is, line_then_some, line_then_more, quit_line, left_line, has_last, quit_no_more, answered_start, answered_line, answered_rest, answered_world, answered_part, wrote_last, halted_line, wrote_no_more, world_no_more}
@@ -27,7 +27,7 @@ loop-ended-init g c =
       flow = refl;
       line = refl;
       left = refl;
-      goes_on = goes-refl _;
+      stays = stays-refl _;
     }
 
 pub returns-then-is_err-clause-halted : goal.returns-then-is_err-clause-halted
@@ -75,7 +75,7 @@ loop-ended-preserved g c =
           ∙ c.loop-ended.invariant.flow;
       line = left_line c.loop-ended.line.items c.loop-ended.rest.now c.in-Some.ended.now c.in-Some.more.now c.clear.new.self.items c.in-Some.ensures c.clear.ensures.items ∙ c.loop-ended.invariant.line;
       left = c.turn.ensures.left ∙ c.loop-ended.invariant.left;
-      goes_on = goes-trans c.loop-ended.invariant.goes_on c.turn.ensures.goes_on;
+      stays = stays-trans c.loop-ended.invariant.stays c.turn.ensures.stays;
     }
 
 pub returns-then-is_err-2-clause-halted : goal.returns-then-is_err-2-clause-halted

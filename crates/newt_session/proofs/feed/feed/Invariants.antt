@@ -4,7 +4,7 @@ use Rattle.newt_session.specs.Stream.{out_of}
 use Rattle.newt_session.specs.Lines.{ended_lines, unended}
 use Rattle.newt_session.specs.Script.{commands_of, has_quit}
 use Rattle.newt_session.specs.Moments.{Untouched}
-use Rattle.newt_session.specs.Causes.{GoesOn}
+use Rattle.newt_session.specs.Causes.{StaysAttached}
 use Rattle.newt_session.proofs.Crashing.{Kept}
 use Rattle.newt_session.proofs.Feeding.{Answered}
 use Rattle.newt_session.proofs.feed.feed.Given as goal
@@ -25,7 +25,7 @@ invariant-loop-ended g l =
       flow : has_quit rest ≡ has_quit all;
       line : unended l.line.items l.rest ≡ unended l.fn.line.items l.fn.piece;
       left : (host.outside l.host).input ≡ (host.outside l.fn.host).input;
-      goes_on : GoesOn (host.outside l.fn.host) (host.outside l.host);
+      stays : StaysAttached (host.outside l.fn.host) (host.outside l.host);
     }
 
 abbrev pub decreases-loop-ended : goal.decreases-loop-ended

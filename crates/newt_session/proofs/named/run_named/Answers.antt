@@ -99,11 +99,11 @@ returns-clause-crash g c = λ told.
     let Q : List ℕ → Type 0 = λ i. Always (CrashAt it.answer it.store_of_image mid.now first (commands_of (lines_of i)) (out_of mid)) mid.now new.now in
     crash_named it.answer it.store_of_image (commands_of (lines_of old.input)) names old mid new a first
     (subst Q a.input (subst P same (c.run_script.ensures.crash told)))
-    c.run_script.ensures.goes_on.cards.card (λ unit. g.met.H.Host.untouched c.args.host.now unit told (c.requires.free unit))
+    c.run_script.ensures.stays.cards.card (λ unit. g.met.H.Host.untouched c.args.host.now unit told (c.requires.free unit))
     (λ unit none. g.met.H.Host.untouched c.run_script.new.host unit told none) (λ unit some. g.met.H.Host.history c.run_script.new.host unit told some)
 
 pub returns-clause-cause : goal.returns-clause-cause
 returns-clause-cause g c = causes_later c.run_script.result _ _ _ c.run_script.ensures.cause (attached_never _ _ _ _ c.attach_names-attached.ensures.attached)
 
 pub returns-clause-counts : goal.returns-clause-counts
-returns-clause-counts g c = never-then (attached_never _ _ _ _ c.attach_names-attached.ensures.attached) c.run_script.ensures.goes_on
+returns-clause-counts g c = never-then (attached_never _ _ _ _ c.attach_names-attached.ensures.attached) c.run_script.ensures.stays

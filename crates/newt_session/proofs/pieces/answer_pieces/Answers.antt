@@ -8,7 +8,7 @@ use Rattle.newt_session.specs.Script.{commands_of, has_quit, output_of}
 use Rattle.newt_session.specs.Lines.{ended_lines, last_line, lines_of}
 use Rattle.newt_session.specs.Moments.{Untouched}
 use Rattle.newt_host.specs.Moments.{output as output_at}
-use Rattle.newt_session.proofs.Counting.{goes-refl, goes-trans}
+use Rattle.newt_session.proofs.Counting.{stays-refl, stays-trans}
 use Rattle.newt_session.proofs.Crashing.{Kept, its_now, kept_start, kept_part, kept_after, kept_moved, crash_always}
 use Rattle.newt_session.proofs.Feeding.{go_is, quit_is}
 use Rattle.newt_session.proofs.Going.{Going, lines_from, piece_then_some, piece_then_more, last_commands, going_start, going_same, going_more, going_quit, going_halted, going_end, ends_halted, going_too_long, through_end, through_quit, answered_taken}
@@ -35,7 +35,7 @@ pieces-init g c =
           let K : List ℕ → Type 0 = λ line. Kept it.answer it.store_of_image start w (commands_of (lines_of before.input)) before.now w (commands_of (lines_from line before.input)) before.now in
           subst K (sym c.requires.empty) (kept_start it.answer it.store_of_image start w (commands_of (lines_of before.input)) before.now untouched its);
       within = omega arith;
-      goes_on = goes-refl _;
+      stays = stays-refl _;
     }
 
 pub feed-requires : goal.feed-requires
@@ -63,7 +63,7 @@ returns-in_err-feed-clause-halted g c = λ told.
 pub returns-in_err-feed-clause-cause : goal.returns-in_err-feed-clause-cause
 returns-in_err-feed-clause-cause g c =
     let p = err_from_is_err_and c.from_residual-in_err-feed.result c.from_residual-in_err-feed.ensures.1 in
-    rw (p.1, p.2) (cause_of_write c.in_err-feed.field-0.0 _ _ _ c.in_err-feed.ensures.cause (goes-trans c.pieces.invariant.goes_on c.read_piece.ensures.goes_on))
+    rw (p.1, p.2) (cause_of_write c.in_err-feed.field-0.0 _ _ _ c.in_err-feed.ensures.cause (stays-trans c.pieces.invariant.stays c.read_piece.ensures.stays))
 
 pub returns-in-Quit-clause-out : goal.returns-in-Quit-clause-out
 returns-in-Quit-clause-out g c = λ told.
@@ -151,7 +151,7 @@ pieces-preserved g c =
           (c.in_ok-feed.ensures.world told c.in-Go.is ∙ world_commands it.answer later lines go)
           (c.in_ok-feed.ensures.untouched told before.now k.untouched c.in-Go.is));
       within = omega arith;
-      goes_on = goes-trans (goes-trans c.pieces.invariant.goes_on c.read_piece.ensures.goes_on) c.feed.ensures.goes_on;
+      stays = stays-trans (stays-trans c.pieces.invariant.stays c.read_piece.ensures.stays) c.feed.ensures.stays;
     }
 
 pub returns-clause-out : goal.returns-clause-out
@@ -184,7 +184,7 @@ returns-clause-halted g c = λ told.
     ends_halted c.finish.result g.I.Interpreter.answer c.args.limit _ _ _ v.0 _ _ _ c.pieces.line.items c.deref.result.now _ _ going end c.deref.ensures.value (c.finish.ensures.halted told)
 
 pub returns-clause-cause : goal.returns-clause-cause
-returns-clause-cause g c = cause_of_writes c.finish.result _ _ _ c.finish.ensures.cause (goes-trans c.pieces.invariant.goes_on c.read_piece.ensures.goes_on)
+returns-clause-cause g c = cause_of_writes c.finish.result _ _ _ c.finish.ensures.cause (stays-trans c.pieces.invariant.stays c.read_piece.ensures.stays)
 
 -- ---- moments
 

@@ -1,6 +1,6 @@
 use Rattle.std.proofs.Common.{IsTrue, ◌≡◌, ◌≤◌, ◌-◌, List, ℕ, length}
 use Rattle.newt_session.specs.Stream.{out_of}
-use Rattle.newt_session.specs.Causes.{GoesOn}
+use Rattle.newt_session.specs.Causes.{StaysAttached}
 use Rattle.newt_session.specs.Lines.{lines_of}
 use Rattle.newt_session.specs.Script.{commands_of}
 use Rattle.newt_session.proofs.Crashing.{Kept}
@@ -19,7 +19,7 @@ invariant-pieces g l =
       kept : IsTrue host.told → Kept it.answer it.store_of_image (host.outside l.fn.host).now (it.world l.fn.interpreter (host.outside l.fn.host)) (commands_of (lines_of (host.outside l.fn.host).input)) (host.outside l.fn.host).now
           (it.world l.interpreter (host.outside l.host)) (commands_of (lines_from l.line.items (host.outside l.host).input)) (host.outside l.host).now;
       within : l.taken ≤ l.limit;
-      goes_on : GoesOn (host.outside l.fn.host) (host.outside l.host);
+      stays : StaysAttached (host.outside l.fn.host) (host.outside l.host);
     }
 
 abbrev pub decreases-pieces : goal.decreases-pieces

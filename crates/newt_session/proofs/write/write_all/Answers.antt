@@ -2,7 +2,7 @@ use Rattle.std.proofs.Common.{◌≡◌, drop, refl, ◌∙◌, arith}
 use Rattle.std.proofs.lemmas.Grind.{common_steps}
 use Rattle.std.proofs.lemmas.Result.{err_from_is_err_and}
 use Rattle.newt_session.specs.Stream.{out_of}
-use Rattle.newt_session.proofs.Counting.{goes-refl, goes-trans, same-refl, same-trans}
+use Rattle.newt_session.proofs.Counting.{stays-refl, stays-trans, same-refl, same-trans}
 use Rattle.newt_session.proofs.Writing.{nothing_wrote, wrote_more, wrote_some, printing_start, printing_some, printing_more}
 use Rattle.newt_session.proofs.write.write_all.Goals as goal
 
@@ -12,7 +12,7 @@ loop-rest-init g c = record {
   printing = λ told. printing_start _ _;
   left = refl;
   devices = same-refl _ _;
-  goes_on = goes-refl _;
+  stays = stays-refl _;
 }
 
 pub returns-in_err-moved-clause-failed : goal.returns-in_err-moved-clause-failed
@@ -26,8 +26,8 @@ returns-in_err-moved-clause-moments g c = λ told. printing_some _ _ _ _ _ (c.lo
 pub returns-in_err-moved-clause-devices : goal.returns-in_err-moved-clause-devices
 returns-in_err-moved-clause-devices g c = same-trans c.loop-rest.invariant.devices c.write_part.ensures.devices
 
-pub returns-in_err-moved-clause-goes_on : goal.returns-in_err-moved-clause-goes_on
-returns-in_err-moved-clause-goes_on g c = goes-trans c.loop-rest.invariant.goes_on c.write_part.ensures.goes_on
+pub returns-in_err-moved-clause-stays : goal.returns-in_err-moved-clause-stays
+returns-in_err-moved-clause-stays g c = stays-trans c.loop-rest.invariant.stays c.write_part.ensures.stays
 
 pub loop-rest-preserved : goal.loop-rest-preserved
 loop-rest-preserved g c =
@@ -37,5 +37,5 @@ loop-rest-preserved g c =
       printing = λ told. printing_more c.in_ok-moved.moved _ _ _ _ _ _ rest_is (c.loop-rest.invariant.printing told) (c.in_ok-moved.ensures.grown told);
       left = c.write_part.ensures.left ∙ c.loop-rest.invariant.left;
       devices = same-trans c.loop-rest.invariant.devices c.write_part.ensures.devices;
-      goes_on = goes-trans c.loop-rest.invariant.goes_on c.write_part.ensures.goes_on;
+      stays = stays-trans c.loop-rest.invariant.stays c.write_part.ensures.stays;
     }

@@ -1,6 +1,6 @@
 use Rattle.std.proofs.Common.{IsTrue, ◌≡◌, length}
 use Rattle.newt_session.specs.Stream.{out_of, Wrote}
-use Rattle.newt_session.specs.Causes.{GoesOn, SameDevices}
+use Rattle.newt_session.specs.Causes.{StaysAttached, SameDevices}
 use Rattle.newt_session.proofs.Writing.{Printing}
 use Rattle.newt_session.proofs.write.write_all.Given as goal
 
@@ -12,7 +12,7 @@ invariant-loop-rest g l =
       printing : IsTrue host.told → Printing l.bytes l.rest (host.outside l.fn.host).now (host.outside l.host).now;
       left : (host.outside l.host).input ≡ (host.outside l.fn.host).input;
       devices : SameDevices host.told (host.outside l.fn.host) (host.outside l.host);
-      goes_on : GoesOn (host.outside l.fn.host) (host.outside l.host);
+      stays : StaysAttached (host.outside l.fn.host) (host.outside l.host);
     }
 
 abbrev pub decreases-loop-rest : goal.decreases-loop-rest

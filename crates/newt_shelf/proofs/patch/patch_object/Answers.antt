@@ -1,10 +1,10 @@
 use Rattle.std.proofs.Common.{◌≡◌, ◌+◌, ◌<◌, ◌≤◌, ℕ, length, Option, Some, IfSome, OnOk, IsErrOf, Result, Ok, Err, IfErr, sym, ◌∙◌, ap, subst, refl, arith}
 use Rattle.std.specs.FinMap as map
 use Rattle.newt_host.specs.Moments.{Moment, image, overwritten, Leaves}
-use Rattle.newt_image.specs.Objects.{Extent, IsTableOf}
+use Rattle.newt_image.specs.Objects.{Extent, IsTableOf, Objects}
 use Rattle.newt_image.specs.Pages.{Pages, Change, pages}
 use Rattle.newt_pagebook.specs.Batch.{no_change}
-use Rattle.newt_objects.specs.Held.{held, Texts}
+use Rattle.newt_objects.specs.Held.{held}
 use Rattle.newt_objects.specs.Changing.{HoldsObjects}
 use Rattle.newt_objects.proofs.Changing.{told_table}
 use Rattle.newt_vbo.specs.Patches.{WouldPatch}
@@ -72,7 +72,7 @@ returns-in-Ok-clause-patched g c = λ tells before text holds at.
     let patch : WouldPatch c.args.objects.now c.args.id c.args.at c.args.bytes.now no_change c.plan_patch.new.batch live =
     subst (λ (b : Change). WouldPatch c.args.objects.now c.args.id c.args.at c.args.bytes.now b c.plan_patch.new.batch live) c.new-batch.ensures (c.in-Ok.ensures.patched tells live holds.of_image) in
     let would = would-be c.args.objects.now c.args.id c.args.at c.args.bytes.now c.plan_patch.new.batch live c.requires.kept.none table c.requires.there patch before text holds.are at in
-    let after : Texts = map.insert before c.args.id (overwritten text c.args.at c.args.bytes.now) in
+    let after : Objects = map.insert before c.args.id (overwritten text c.args.at c.args.bytes.now) in
     let x = the-extent (held c.args.objects.now c.args.id) c.requires.there in
     let size : length text ≡ x.0.length = text-length c.args.objects.now c.args.id (image u m) before text live x.0 holds.of_image table holds.are at x.1 in
     let low : c.args.at + length c.args.bytes.now ≤ x.0.length = inside _ (held c.args.objects.now c.args.id) x.0 (c.args.at + length c.args.bytes.now) x.1 c.in-Ok.ensures.past (λ is. no-error is) in
@@ -108,7 +108,7 @@ returns-in-Ok-clause-any_moment g c = λ tells before text holds at.
     let patch : WouldPatch c.args.objects.now c.args.id c.args.at c.args.bytes.now no_change c.plan_patch.new.batch live =
     subst (λ (b : Change). WouldPatch c.args.objects.now c.args.id c.args.at c.args.bytes.now b c.plan_patch.new.batch live) c.new-batch.ensures (c.in-Ok.ensures.patched tells live holds.of_image) in
     let would = would-be c.args.objects.now c.args.id c.args.at c.args.bytes.now c.plan_patch.new.batch live c.requires.kept.none table c.requires.there patch before text holds.are at in
-    let after : Texts = map.insert before c.args.id (overwritten text c.args.at c.args.bytes.now) in
+    let after : Objects = map.insert before c.args.id (overwritten text c.args.at c.args.bytes.now) in
     subst (λ (x : Moment). Leaves u (IsBeforeOrPatched (image u x) before after) x n) c.plan_patch.ensures.moment
     (subst (λ (v : ℕ). Leaves v (IsBeforeOrPatched (image v m') before after) m' n) c.plan_patch.ensures.same.0
     (c.commit_patch.ensures.any_moment tells live before after (ap pages e ∙ holds.of_image) holds.are would))
@@ -143,7 +143,7 @@ returns-in-Err-Range-clause-any_moment g c = λ tells before text holds at.
     let o = g.H.Host.outside in
     let u : ℕ = g.P.PageBook.place c.args.book.now in
     let m : Moment = (o c.args.host.now).now in
-    let after : Texts = map.insert before c.args.id (overwritten text c.args.at c.args.bytes.now) in
+    let after : Objects = map.insert before c.args.id (overwritten text c.args.at c.args.bytes.now) in
     subst (λ (x : Moment). Leaves u (IsBeforeOrPatched (image u m) before after) m x) (sym c.plan_patch.ensures.moment)
     (patch-nothing holds.live before after u m holds.of_image holds.are (g.met.P.PageBook.tells g.H.Host.told c.args.book.now (o c.args.host.now) c.requires.stands tells).1)
 
@@ -152,7 +152,7 @@ returns-in-Err-Memory-clause-any_moment g c = λ tells before text holds at.
     let o = g.H.Host.outside in
     let u : ℕ = g.P.PageBook.place c.args.book.now in
     let m : Moment = (o c.args.host.now).now in
-    let after : Texts = map.insert before c.args.id (overwritten text c.args.at c.args.bytes.now) in
+    let after : Objects = map.insert before c.args.id (overwritten text c.args.at c.args.bytes.now) in
     subst (λ (x : Moment). Leaves u (IsBeforeOrPatched (image u m) before after) m x) (sym c.plan_patch.ensures.moment)
     (patch-nothing holds.live before after u m holds.of_image holds.are (g.met.P.PageBook.tells g.H.Host.told c.args.book.now (o c.args.host.now) c.requires.stands tells).1)
 
@@ -161,7 +161,7 @@ returns-clause-any_moment g c = λ tells before text holds at.
     let o = g.H.Host.outside in
     let u : ℕ = g.P.PageBook.place c.args.book.now in
     let m : Moment = (o c.args.host.now).now in
-    let after : Texts = map.insert before c.args.id (overwritten text c.args.at c.args.bytes.now) in
+    let after : Objects = map.insert before c.args.id (overwritten text c.args.at c.args.bytes.now) in
     subst (λ (x : Moment). Leaves u (IsBeforeOrPatched (image u m) before after) m x) (sym c.plan_patch.ensures.moment)
     (patch-nothing holds.live before after u m holds.of_image holds.are (g.met.P.PageBook.tells g.H.Host.told c.args.book.now (o c.args.host.now) c.requires.stands tells).1)
 

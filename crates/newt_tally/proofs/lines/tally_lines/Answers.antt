@@ -5,7 +5,7 @@ use Rattle.newt_host.proofs.Moments.{Always-last}
 use Rattle.newt_host.proofs.Outside.{OnDevices-refl, OnDevices-append}
 use Rattle.newt_session.specs.Lines.{lines_of}
 use Rattle.newt_session.specs.Script.{commands_of}
-use Rattle.newt_session.proofs.Counting.{goes-on_devices}
+use Rattle.newt_session.proofs.Counting.{stays-on_devices}
 use Rattle.newt_session.proofs.Crashing.{its_now}
 use Rattle.newt_session.proofs.Halting.{write_cause}
 use Rattle.newt_tally.proofs.Moving.{tallied_start, tallied_part, tallied_more, all_counted, all_behind}
@@ -62,7 +62,7 @@ returns-in_err-ends-clause-quiet g c = λ told.
 pub returns-in_err-ends-clause-cause : goal.returns-in_err-ends-clause-cause
 returns-in_err-ends-clause-cause g c =
     let p = err_from_is_err_and c.from_residual.result c.from_residual.ensures.1 in
-    rw (p.1, p.2) (write_cause c.in_err-ends.field-0.0 _ _ _ c.in_err-ends.ensures.cause (goes-on_devices c.loop-rest.invariant.alone))
+    rw (p.1, p.2) (write_cause c.in_err-ends.field-0.0 _ _ _ c.in_err-ends.ensures.cause (stays-on_devices c.loop-rest.invariant.alone))
 
 pub returns-in_err-ends-clause-alone : goal.returns-in_err-ends-clause-alone
 returns-in_err-ends-clause-alone g c = OnDevices-append c.loop-rest.invariant.alone c.turn.ensures.alone

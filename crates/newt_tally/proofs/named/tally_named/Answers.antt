@@ -110,7 +110,7 @@ returns-clause-crash g c = λ told unit t left shown at might.
     let P : World → Type 0 = λ v. Always (CountedAt it.answer it.store_of_image mid.now v items (out_of mid)) mid.now new.now in
     has_left_counted names old mid new a it.answer it.store_of_image first items unit left shown
     (seen_named names old mid new a (CountedAt it.answer it.store_of_image mid.now first items (out_of mid)) (subst P same (c.tally_script.ensures.crash told))
-    c.tally_script.ensures.goes_on.cards.card (λ unit. g.met.H.Host.untouched c.args.host.now unit told (c.requires.free unit))
+    c.tally_script.ensures.stays.cards.card (λ unit. g.met.H.Host.untouched c.args.host.now unit told (c.requires.free unit))
     (λ unit none. g.met.H.Host.untouched c.tally_script.new.host unit told none) (λ unit some. g.met.H.Host.history c.tally_script.new.host unit told some)
     unit t left shown at might)
 
@@ -118,4 +118,4 @@ pub returns-clause-cause : goal.returns-clause-cause
 returns-clause-cause g c = writes_later c.tally_script.result _ _ _ c.tally_script.ensures.cause (attached_never _ _ _ _ c.attach_names-attached.ensures.attached)
 
 pub returns-clause-counts : goal.returns-clause-counts
-returns-clause-counts g c = never-then (attached_never _ _ _ _ c.attach_names-attached.ensures.attached) c.tally_script.ensures.goes_on
+returns-clause-counts g c = never-then (attached_never _ _ _ _ c.attach_names-attached.ensures.attached) c.tally_script.ensures.stays

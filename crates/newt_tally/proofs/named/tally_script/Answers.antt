@@ -4,7 +4,7 @@ use Rattle.newt_host.proofs.Moments.{Always-append, Always-map}
 use Rattle.newt_session.specs.Lines.{lines_of}
 use Rattle.newt_session.specs.Script.{commands_of}
 use Rattle.newt_session.specs.Stream.{out_of, WroteSome}
-use Rattle.newt_session.proofs.Counting.{goes-on_devices, goes-trans}
+use Rattle.newt_session.proofs.Counting.{stays-on_devices, stays-trans}
 use Rattle.newt_session.proofs.Crashing.{its_now}
 use Rattle.newt_session.proofs.Halting.{sink_causes}
 use Rattle.newt_tally.specs.Counts.{lines_of_tally, summary_of}
@@ -26,8 +26,8 @@ returns-in_err-tally-clause-crash g c = λ told. c.tally_lines.ensures.moments t
 pub returns-in_err-tally-clause-left : goal.returns-in_err-tally-clause-left
 returns-in_err-tally-clause-left g c = c.tally_lines.ensures.alone.input
 
-pub returns-in_err-tally-clause-goes_on : goal.returns-in_err-tally-clause-goes_on
-returns-in_err-tally-clause-goes_on g c = goes-on_devices c.tally_lines.ensures.alone
+pub returns-in_err-tally-clause-stays : goal.returns-in_err-tally-clause-stays
+returns-in_err-tally-clause-stays g c = stays-on_devices c.tally_lines.ensures.alone
 
 -- ---- all were
 
@@ -74,7 +74,7 @@ pub returns-clause-left : goal.returns-clause-left
 returns-clause-left g c = c.put_tally.ensures.left ∙ c.tally_lines.ensures.alone.input
 
 pub returns-clause-cause : goal.returns-clause-cause
-returns-clause-cause g c = sink_causes c.put_tally.result _ _ _ c.put_tally.ensures.cause (goes-on_devices c.tally_lines.ensures.alone)
+returns-clause-cause g c = sink_causes c.put_tally.result _ _ _ c.put_tally.ensures.cause (stays-on_devices c.tally_lines.ensures.alone)
 
-pub returns-clause-goes_on : goal.returns-clause-goes_on
-returns-clause-goes_on g c = goes-trans (goes-on_devices c.tally_lines.ensures.alone) c.put_tally.ensures.goes_on
+pub returns-clause-stays : goal.returns-clause-stays
+returns-clause-stays g c = stays-trans (stays-on_devices c.tally_lines.ensures.alone) c.put_tally.ensures.stays
