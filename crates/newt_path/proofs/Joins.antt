@@ -12,9 +12,9 @@ use Rattle.newt_graph.specs.Graph.{RawGraph, IsGraph, IsNode, IsSymbol, IsAlike,
 use Rattle.newt_graph.specs.Raw.{renamed_ref, renamed, labels_of, values_of, IsValue}
 use Rattle.newt_graph.specs.Draft.{IsJoinedNode}
 use Rattle.newt_spec_graph.specs.Slots.{goes_to, new_nodes, known_number}
-use Rattle.newt_graph.proofs.Grows.{some_is}
+use Rattle.newt_graph.proofs.Options.{some_is}
+use Rattle.newt_graph.proofs.Lists.{any_at}
 use Rattle.newt_graph.proofs.Drafts.{symbol_append}
-use Rattle.newt_graph.proofs.Form.{any_at}
 use Rattle.newt_path.proofs.Below.{nodes_within}
 use Rattle.newt_path.proofs.Numbers.{joined, symbol_lands, lands_within}
 
