@@ -18,7 +18,7 @@ use Rattle.newt_graph.specs.Draft.{IsPart, IsDraft, IsJoinedNode, IsJoined, IsFi
 use Rattle.newt_graph.specs.Meeting.{place}
 use Rattle.std.proofs.lemmas.Option.{slice_get_within, get_or_from_slice_get}
 use Rattle.newt_graph.proofs.Options.{some_is}
-use Rattle.newt_graph.proofs.Lists.{get_append, at_push, found_at}
+use Rattle.newt_graph.proofs.Elements.{get_append, at_push, found_at}
 use Rattle.std.proofs.lemmas.List.Elements.{All-head}
 
 -- names are alike in either order

@@ -15,7 +15,7 @@ use Rattle.newt_graph.specs.Raw.{renamed_ref, renamed, IsRaw, IsNormalForm}
 use Rattle.newt_graph.specs.Meeting.{Seen, place, meet, Once, number, found, moved, limited, numbered, normal_form}
 use Rattle.newt_graph.proofs.Place.{place_get}
 use Rattle.newt_graph.proofs.Options.{bind_some, some_is}
-use Rattle.newt_graph.proofs.Lists.{map_at, at_map, all_at, any_at}
+use Rattle.newt_graph.proofs.Elements.{map_at, at_map, all_at, any_at}
 use Rattle.newt_graph.proofs.Grows.{Has, HasRef, Inverts, node_at, shown, ClosedNode, Closed, Grown, RawNodes, some_at, value_reads}
 
 -- ---- numbers and back

@@ -16,7 +16,7 @@ use Rattle.newt_lit.specs.Grammar.{Mark, Tag, Kind, Class, Field, Object, Form, 
 use Rattle.newt_lit.specs.Spelling.{plain, ◌then◌}
 use Rattle.newt_lit.specs.Printed.{name_text, symbol_text, class_text, field_text, list_text, value_at, label_of}
 use Rattle.newt_lit.proofs.Images.{RefStands, ClassStands, Both, Leads, NodeStands, ref_keeps, class_keeps}
-use Rattle.newt_graph.proofs.Lists.{get_append}
+use Rattle.newt_graph.proofs.Elements.{get_append}
 use Rattle.newt_lit.proofs.Objects.{IsPrinted, ObjectKind, ObjectWrote, closed, name_of, take_mono}
 use Rattle.newt_lit.proofs.Rows.{Ready, Chain, Writer, lead, several_wrote}
 use Rattle.newt_lit.proofs.Stands.{Stands, raise, any_at}

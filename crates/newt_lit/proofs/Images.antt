@@ -5,7 +5,7 @@ use Rattle.newt_graph.specs.declared.node.Node.{Node}
 use Rattle.newt_graph.specs.declared.node.Node.TheVariants as nodes
 use Rattle.newt_graph.specs.declared.node.Ref.{Ref}
 use Rattle.newt_graph.specs.declared.node.Ref.TheVariants as refs
-use Rattle.newt_graph.proofs.Lists.{get_append}
+use Rattle.newt_graph.proofs.Elements.{get_append}
 
 -- ---- what stands for what, where the text has met these nodes in this order
 

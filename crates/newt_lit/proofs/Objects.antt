@@ -17,7 +17,7 @@ use Rattle.newt_lit.specs.Built.{Built, filled}
 use Rattle.newt_lit.specs.Grammar.{Kind, Classed, LargeBytes, Leaf, Object, Array, Frame, Nothing, Value}
 use Rattle.newt_lit.specs.Printed.{name_text, symbol_text, string_text, binary_text, is_symbol, label_of}
 use Rattle.newt_lit.proofs.Images.{NodeStands}
-use Rattle.newt_graph.proofs.Lists.{get_append}
+use Rattle.newt_graph.proofs.Elements.{get_append}
 use Rattle.newt_lit.proofs.Rows.{Ready}
 use Rattle.newt_lit.proofs.Stands.{Stands, raise}
 use Rattle.newt_lit.proofs.Tokens.{name_token, bytes_token, units_pieces}

@@ -12,7 +12,7 @@ use Rattle.newt_graph.specs.Graph.{IsNamed, IsSymbol, WalkLabel, WalkLabels, Wal
 use Rattle.newt_lit.specs.Printed.{is_symbol, label_of}
 use Rattle.newt_lit.proofs.Lists.{get_right, get_either}
 use Rattle.newt_graph.proofs.Options.{some_is}
-use Rattle.newt_graph.proofs.Lists.{get_append}
+use Rattle.newt_graph.proofs.Elements.{get_append}
 use Rattle.newt_lit.proofs.Walked.{Between, Told, Full, ToldAll, parts, count, count_cons, count_flat, count_full, count_same, named}
 
 -- nodes that meet their rules, and a label for each object that is named more than once

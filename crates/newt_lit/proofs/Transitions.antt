@@ -14,7 +14,7 @@ use Rattle.newt_graph.specs.Graph.{IsNamed, AreFoldedOnce, folded, payload}
 use Rattle.newt_graph.specs.Draft.{is_alike, find_alike, known, with_symbol, with_held, with_filled, is_small}
 use Rattle.newt_lit.specs.Built.{Built, beside, symbol_in, held, filled, node_of}
 use Rattle.newt_lit.specs.Printed.{is_symbol, label_of}
-use Rattle.newt_graph.proofs.Lists.{get_append, found_at}
+use Rattle.newt_graph.proofs.Elements.{get_append, found_at}
 use Rattle.newt_lit.proofs.Lists.{get_last, get_split, get_set, found_none}
 use Rattle.newt_lit.proofs.Images.{NodeStands, node_keeps}
 use Rattle.newt_lit.proofs.Stands.{Stands, no_symbol, order_pushed, order_filled, room_left}

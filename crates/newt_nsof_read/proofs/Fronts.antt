@@ -9,7 +9,7 @@ use Rattle.newt_graph.specs.declared.node.Ref.{Ref}
 use Rattle.newt_graph.specs.Steps.{◌>>=◌}
 use Rattle.newt_nsof.specs.Text.{SymbolText, Again, Object}
 use Rattle.newt_graph.proofs.Options.{bind_some, unless, provided, some_is}
-use Rattle.newt_graph.proofs.Lists.{get_append}
+use Rattle.newt_graph.proofs.Elements.{get_append}
 use Rattle.newt_nsof_read.specs.declared.tag.Tag.{Tag}
 use Rattle.newt_nsof_read.specs.declared.tag.Tag.TheVariants as tags
 use Rattle.newt_nsof_read.specs.declared.open.Kind.{Kind}

@@ -9,7 +9,7 @@ use Rattle.newt_graph.specs.Steps.{◌>>=◌}
 use Rattle.newt_graph.specs.Draft.{find_alike}
 use Rattle.newt_nsof.specs.Text.{Interned, InternedEach, SymbolText, Again, Label, Labels}
 use Rattle.newt_graph.proofs.Options.{bind_some, chosen, provided, some_is}
-use Rattle.newt_graph.proofs.Lists.{get_append, get_seam}
+use Rattle.newt_graph.proofs.Elements.{get_append, get_seam}
 use Rattle.newt_graph.proofs.Drafts.{none_alike, alike_found}
 use Rattle.newt_nsof_read.specs.declared.tag.Tag.{Tag}
 use Rattle.newt_nsof_read.specs.declared.tag.Tag.TheVariants as tags

@@ -14,7 +14,7 @@ use Rattle.newt_graph.specs.Draft.{IsJoinedNode}
 use Rattle.newt_graph.specs.Import.{known_as}
 use Rattle.newt_spec_graph.specs.Slots.{goes_to, new_nodes}
 use Rattle.newt_graph.proofs.Options.{some_is}
-use Rattle.newt_graph.proofs.Lists.{any_at}
+use Rattle.newt_graph.proofs.Elements.{any_at}
 use Rattle.newt_graph.proofs.Drafts.{symbol_append}
 use Rattle.newt_path.proofs.Below.{nodes_within}
 use Rattle.newt_path.proofs.Numbers.{joined, symbol_lands, lands_within}

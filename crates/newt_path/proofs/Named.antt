@@ -13,7 +13,7 @@ use Rattle.newt_graph.specs.Graph.{IsAlike, AreFoldedOnce, payload}
 use Rattle.newt_graph.specs.Draft.{find_alike, known, with_symbol}
 use Rattle.newt_spec_graph.specs.Slots.{is_named, symbol_number, new_nodes}
 use Rattle.newt_graph.proofs.Options.{some_is}
-use Rattle.newt_graph.proofs.Lists.{get_seam}
+use Rattle.newt_graph.proofs.Elements.{get_seam}
 use Rattle.newt_graph.proofs.Drafts.{none_alike}
 use Rattle.newt_path.proofs.Numbers.{found_is_number, alike_named, alike_from_named, number_alike}
 

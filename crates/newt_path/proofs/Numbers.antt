@@ -20,7 +20,7 @@ use Rattle.newt_graph.specs.Draft.{is_alike, find_alike}
 use Rattle.newt_graph.specs.Import.{known_as, numbers_from, kept_of, looked_up, behind, with_graph}
 use Rattle.newt_spec_graph.specs.Slots.{is_named, symbol_number, new_nodes, goes_to}
 use Rattle.newt_graph.proofs.Options.{some_is}
-use Rattle.newt_graph.proofs.Lists.{at_map, any_at}
+use Rattle.newt_graph.proofs.Elements.{at_map, any_at}
 use Rattle.newt_graph.proofs.Drafts.{bytes_eq-sym, alike_append, alike_found}
 use Rattle.newt_path.proofs.Below.{Within, nodes_within, root_within}
 

@@ -13,7 +13,7 @@ use Rattle.newt_graph.specs.Graph.{IsSymbol}
 use Rattle.newt_graph.specs.Raw.{labels_of}
 use Rattle.newt_graph.specs.Meeting.{Seen, Step, place, is_new, added, meet_label, meet_labels, meet_class, meet_each, within, enter, meet_by, meet}
 use Rattle.newt_graph.proofs.Options.{bind_some, some_is}
-use Rattle.newt_graph.proofs.Lists.{get_append, get_seam, at_push, all_at, any_at}
+use Rattle.newt_graph.proofs.Elements.{get_append, get_seam, at_push, all_at, any_at}
 
 -- the number was met
 abbrev pub Has : Seen → ℕ → Type 0
