@@ -9,7 +9,8 @@ use Rattle.newt_graph.specs.declared.node.Node.TheVariants.{Symbol, Str, Binary,
 use Rattle.newt_graph.specs.declared.node.Ref.{Ref}
 use Rattle.newt_graph.specs.declared.node.Ref.TheVariants as refs
 use Rattle.newt_graph.specs.Graph.{RawGraph, IsWord, WalkLabel, Walk, Walks, IsName, IsNode, AreFoldedOnce, IsGraph}
-use Rattle.newt_base.specs.Text.{decimal_text, decimal_text-decimal}
+use Rattle.newt_base.specs.Text.{decimal_text}
+use Rattle.newt_base.proofs.Numerals.{decimal_written}
 use Rattle.newt_lit.specs.Printed.{word_text, literal}
 use Rattle.newt_spec_graph.specs.Graph.{object}
 use Rattle.newt_spec_world.specs.Alias as plain
@@ -96,7 +97,7 @@ read_at g ns n node same root lt is =
 -- ---- what is printed
 
 word_printed : (n : ℕ) → n ≤ 536_870_911 → word_text (pos (4 * n)) ≡ decimal_text n
-word_printed n h = step ∙ sym (decimal_text-decimal n)
+word_printed n h = step ∙ sym (decimal_written n)
   where
     whole : (cast_unsigned w32 (pos (4 * n)) % 4 == 0) ≡ true
     whole = eq-eqb (cast_unsigned w32 (pos (4 * n)) % 4) 0 (omega (arith, h))
