@@ -8,17 +8,16 @@ use Rattle.newt_graph.specs.declared.node.Node.{Node}
 use Rattle.newt_graph.specs.declared.node.Node.TheVariants.{Symbol, Str, Binary, Large, Array, Frame}
 use Rattle.newt_graph.specs.declared.node.Ref.{Ref}
 use Rattle.newt_graph.specs.declared.node.Ref.TheVariants as refs
-use Rattle.newt_graph.specs.Graph.{RawGraph, IsWord, WalkLabel, Walk, Walks, IsName, IsNode, AreFoldedOnce, IsGraph}
-use Rattle.newt_base.specs.Text.{decimal_text, decimal_text-decimal}
+use Rattle.newt_graph.specs.Graph.{RawGraph, WalkLabel, Walk, Walks, IsName, IsNode, AreFoldedOnce, IsGraph}
+use Rattle.newt_graph.proofs.Words.{integer_word}
+use Rattle.newt_base.specs.Text.{decimal_text}
+use Rattle.newt_base.proofs.Numerals.{decimal_written}
 use Rattle.newt_lit.specs.Printed.{word_text, literal}
 use Rattle.newt_spec_graph.specs.Graph.{object}
 use Rattle.newt_spec_world.specs.Alias as plain
 use Rattle.newt_spec_world.specs.Reply.{items}
 use Rattle.newt_alias.specs.declared.alias.Alias.{Alias}
 use Rattle.newt_alias.specs.Alias.{alias_said, integer, alias_nodes, alias_graph, Fits, array_alias, node_alias, IsPrinted}
-
-word_is : (n : ℕ) → n ≤ 536_870_911 → IsWord (pos (4 * n))
-word_is n h = record { fits = omega (arith, h); low = omega (arith, h) }
 
 name_is : IsName (codes "alias")
 name_is = record {
@@ -29,8 +28,8 @@ name_is = record {
 
 values_walk : (met : ℕ) (a : Alias) → Fits a → Walks 199 met (integer a.store ∷ integer a.soup ∷ integer a.uid ∷ []) []
 values_walk met a h =
-    Walks.more {first = []} {others = []} (Walk.word (word_is a.store h.store))
-    (Walks.more {first = []} {others = []} (Walk.word (word_is a.soup h.soup)) (Walks.more {first = []} {others = []} (Walk.word (word_is a.uid h.uid)) Walks.none))
+    Walks.more {first = []} {others = []} (Walk.word (integer_word a.store h.store))
+    (Walks.more {first = []} {others = []} (Walk.word (integer_word a.soup h.soup)) (Walks.more {first = []} {others = []} (Walk.word (integer_word a.uid h.uid)) Walks.none))
 
 once : (a : Alias) → AreFoldedOnce (alias_nodes a)
 unfolding alias_nodes
@@ -96,7 +95,7 @@ read_at g ns n node same root lt is =
 -- ---- what is printed
 
 word_printed : (n : ℕ) → n ≤ 536_870_911 → word_text (pos (4 * n)) ≡ decimal_text n
-word_printed n h = step ∙ sym (decimal_text-decimal n)
+word_printed n h = step ∙ sym (decimal_written n)
   where
     whole : (cast_unsigned w32 (pos (4 * n)) % 4 == 0) ≡ true
     whole = eq-eqb (cast_unsigned w32 (pos (4 * n)) % 4) 0 (omega (arith, h))

@@ -21,7 +21,7 @@ use Rattle.newt_objects.proofs.Whole.{image_whole}
 use Rattle.newt_base.specs.Names.{is_name, equal_text}
 use Rattle.newt_spec_graph.specs.Graph.{every}
 use Rattle.newt_spec_graph.specs.Lists.{Among, Pairs, all_apart, rises}
-use Rattle.newt_spec_graph.proofs.Lists.{each-at, each-list_all}
+use Rattle.newt_spec_graph.proofs.Lists.{each-at, each-list_all, some-same, none-some}
 use Rattle.newt_spec_store.specs.Store.{Store, Soup, Entry, soup_of}
 use Rattle.newt_spec_store.specs.StoreOf.{LargeRow, large_object, names_larges, store_of}
 use Rattle.newt_spec_store.specs.ImageStore.{store_of_image}
@@ -45,12 +45,6 @@ use Rattle.newt_entries.specs.declared.row.LargeAt.{LargeAt}
 use Rattle.newt_shelf.specs.Commit.{AreKept}
 use Rattle.newt_catalog.specs.Readable.{readable}
 use Rattle.newt_catalog.specs.Opening.{OfObjects, HasObject, IsRoot, IsRow, Owners, objects_named, AreOwned, AreSoundTo, AreFoundTo}
-
-pub none-some : {X : Type 0} (x : X) → None ≡ Some x → ⊥
-none-some x e = cc
-
-pub some-is : {X : Type 0} (x y : X) → Some x ≡ Some y → x ≡ y
-some-is x y e = cc
 
 pub not_true : (b : Bool) → b ≡ true → b ≡ false → ⊥
 not_true b t f = cc
@@ -121,7 +115,7 @@ module _ (told : Bool) (objects : Held) (numbers : Numbers) (unit : ℕ) (outsid
       go : (o : Option Extent) → held objects id ≡ o → option_map (λ x. x.length) o ≡ Some (length bytes)
       go None e = absurd (none-some bytes (sym (kept-none texts h id e) ∙ at))
       go (Some x) e =
-          let joins : joined h.live x ≡ bytes = some-is _ _ (sym (kept-by texts h id ∙ ap (option_map (joined h.live)) e) ∙ at) in
+          let joins : joined h.live x ≡ bytes = some-same _ _ (sym (kept-by texts h id ∙ ap (option_map (joined h.live)) e) ∙ at) in
           let size : length (joined h.live x) ≡ x.length = joined_size h.live (held objects) id x (image_whole (image unit outside.now) h.live h.of_image)
           (told_table told (held objects) numbers unit outside h.live kept.are tells h.of_image) e in
           ap (λ (n : ℕ). let o : Option ℕ = Some n in o) (sym size ∙ ap (λ (b : List ℕ). length b) joins)
@@ -134,7 +128,7 @@ module _ (told : Bool) (objects : Held) (numbers : Numbers) (unit : ℕ) (outsid
       go None e k = absurd (none-some size k)
       go (Some x) e k =
           let b = kept-some texts h id (subst (λ (o : Option Extent). IsSome o) (sym e) refl) in
-          (b.0, b.1, some-is _ _ (sym (kept-length texts h id b.0 b.1) ∙ is))
+          (b.0, b.1, some-same _ _ (sym (kept-length texts h id b.0 b.1) ∙ is))
 
   -- the bytes that were read are the object's
   pub kept-read : (id : ℕ) (bytes : List ℕ) → ((live : Pages) → pages (image unit outside.now) ≡ Some live → Some bytes ≡ option_map (joined live) (held objects id))
@@ -262,7 +256,7 @@ module _ (told : Bool) (objects : Held) (numbers : Numbers) (unit : ℕ) (outsid
   pub root-bad : (bytes : List ℕ) → OfObjects told now (HasObject 0 bytes) → directory_read bytes ≡ None → readable now ≡ None
   root-bad bytes has bad = not-readable now the.0 the.1 (λ s is.
       let r = has-directory stream_graph the.0 (blocks_of now) s is in
-      let same : r.0 ≡ bytes = some-is _ _ (sym r.1 ∙ has tells the.0 the.1) in
+      let same : r.0 ≡ bytes = some-same _ _ (sym r.1 ∙ has tells the.0 the.1) in
       let read : directory_read bytes ≡ Some (bare s) = ap directory_read (sym same) ∙ r.2 in
       none-some (bare s) (sym bad ∙ read))
 
@@ -353,7 +347,7 @@ find-among sig [] p e = absurd (none-some p e)
 find-among sig (q ∷ ps) p e = go (λ k. find-among sig ps p k) (q.sig == sig) refl e
   where
     go : (find (λ p. p.sig == sig) ps ≡ Some p → Among ps p × (p.sig ≡ sig)) → (b : Bool) → (q.sig == sig) ≡ b → cond b (Some q) (find (λ p. p.sig == sig) ps) ≡ Some p → Among (q ∷ ps) p × (p.sig ≡ sig)
-    go more true t k = let same : q ≡ p = some-is q p k in (inl same, ap (λ (p : Soup). p.sig) (sym same) ∙ eqb-true q.sig sig t)
+    go more true t k = let same : q ≡ p = some-same q p k in (inl same, ap (λ (p : Soup). p.sig) (sym same) ∙ eqb-true q.sig sig t)
     go more false t k = let r = more k in (inr r.0, r.1)
 
 find-none : (sig : ℕ) (ps : List Soup) (p : Soup) → find (λ p. p.sig == sig) ps ≡ None → Among ps p → p.sig ≡ sig → ⊥
@@ -390,7 +384,7 @@ find-same low high sig [] p q r e a of = absurd a
 find-same low high sig (h ∷ ps) p q r e a of = go (λ k rest. find-same (h.sig + 1) high sig ps p q (rises_on low high h ps r).1 k rest of) (h.sig == sig) refl e a
   where
     go : (find (λ p. p.sig == sig) ps ≡ Some p → Among ps q → q ≡ p) → (b : Bool) → (h.sig == sig) ≡ b → cond b (Some h) (find (λ p. p.sig == sig) ps) ≡ Some p → Among (h ∷ ps) q → q ≡ p
-    go more true t k (inl same) = sym same ∙ some-is h p k
+    go more true t k (inl same) = sym same ∙ some-same h p k
     go more true t k (inr rest) = absurd (let above : h.sig + 1 ≤ q.sig = rising (h.sig + 1) high ps q (rises_on low high h ps r).1 rest in let at : h.sig ≡ sig = eqb-true h.sig sig t in omega (arith, above, at, of))
     go more false t k (inl same) = absurd (not_true (h.sig == sig) (eq-eqb h.sig sig (ap (λ (p : Soup). p.sig) same ∙ of)) t)
     go more false t k (inr rest) = more k rest

@@ -43,7 +43,8 @@ use Rattle.newt_catalog.specs.Readable.{readable}
 use Rattle.newt_catalog.specs.Stands.{Describes, StandsFor}
 use Rattle.newt_catalog.specs.Opening.{OfObjects, IsRoot, IsRow, Owners, objects_named, OwnsThese, AreSoundTo, AreFoundTo}
 use Rattle.newt_catalog.specs.declared.catalog.Catalog.{Catalog}
-use Rattle.newt_catalog.proofs.Opening.{none-some, some-is, some-of, not_true, not-readable, names-are, read-whole, kept-none, kept-long, kept-holds}
+use Rattle.newt_spec_graph.proofs.Lists.{some-same, none-some}
+use Rattle.newt_catalog.proofs.Opening.{some-of, not_true, not-readable, names-are, read-whole, kept-none, kept-long, kept-holds}
 
 same-key : (a b s u : ℕ) → ((a ≡ s) × (b ≡ u)) ⊎ ((a ≡ s) → (b ≡ u) → ⊥)
 same-key a b s u = go (a == s) refl (b == u) refl
@@ -77,7 +78,7 @@ among-or-not (x ∷ ids) o = go (same-number x o) (among-or-not ids o)
 module _ (place place' : Places) (sig uid id : ℕ) (kept : place' sig uid ≡ Some id) (others : (s u : ℕ) → ((s ≡ sig) → (u ≡ uid) → ⊥) → place' s u ≡ place s u) where
   new-or-old : (s u i : ℕ) → place' s u ≡ Some i → ((s ≡ sig) × (u ≡ uid) × (i ≡ id)) ⊎ (place s u ≡ Some i)
   new-or-old s u i at = ⊎_elim
-      (λ (same : (s ≡ sig) × (u ≡ uid)). inl (same.0, same.1, some-is i id (sym at ∙ ap (λ (x : ℕ). place' x u) same.0 ∙ ap (λ (x : ℕ). place' sig x) same.1 ∙ kept)))
+      (λ (same : (s ≡ sig) × (u ≡ uid)). inl (same.0, same.1, some-same i id (sym at ∙ ap (λ (x : ℕ). place' x u) same.0 ∙ ap (λ (x : ℕ). place' sig x) same.1 ∙ kept)))
       (λ (no : (s ≡ sig) → (u ≡ uid) → ⊥). inr (sym (others s u no) ∙ at))
       (same-key s u sig uid)
 
@@ -120,7 +121,7 @@ module _ (place place' : Places) (sig uid id : ℕ) (kept : place' sig uid ≡ S
 
         owns-next : (r o : ℕ) → owner' o ≡ Some r → Among (names' r) o
         owns-next r o at = ⊎_elim
-            (λ (m : Among ids o). subst (λ (l : List ℕ). Among l o) (sym (ap names' (some-is r id (sym at ∙ owns.owned o m)) ∙ named)) m)
+            (λ (m : Among ids o). subst (λ (l : List ℕ). Among l o) (sym (ap names' (some-same r id (sym at ∙ owns.owned o m)) ∙ named)) m)
             (λ (out : Among ids o → ⊥).
             let was : Among (names r) o = so.owns r o (sym (owns.others o out) ∙ at) in
             subst (λ (l : List ℕ). Among l o) (sym (other_names r (was-lower r o was))) was)
@@ -134,7 +135,7 @@ module _ (place place' : Places) (sig uid id : ℕ) (kept : place' sig uid ≡ S
               (λ (new : (r ≡ id) × Among ids o). subst (λ (q : ℕ). IsSome (table q) × (q % 2 ≡ 1)) (sym new.0) (there, odd))
               (λ (old : (r ≢ id) × Among (names r) o). so.named.records r o old.1)
               (named-or-was r o m);
-          by_one = λ r q o m k. some-is r q (sym (owned-next r o m) ∙ owned-next q o k);
+          by_one = λ r q o m k. some-same r q (sym (owned-next r o m) ∙ owned-next q o k);
           once = λ r. ⊎_elim
               (λ (same : r ≡ id). subst (λ (l : List ℕ). Pairs (λ a b. a ≢ b) l) (sym (ap names' same ∙ named)) owns.once)
               (λ (no : r ≢ id). subst (λ (l : List ℕ). Pairs (λ a b. a ≢ b) l) (sym (other_names r no)) (so.named.once r))
@@ -177,7 +178,7 @@ module _ (place place' : Places) (sig uid id : ℕ) (kept : place' sig uid ≡ S
 
       new-record : (i : ℕ) (b : List ℕ) → map.get texts i ≡ Some b → i ≡ id → HasRecord i b
       new-record i b at same =
-          let one : bytes ≡ b = some-is bytes b (sym there ∙ ap (λ (q : ℕ). map.get texts q) (sym same) ∙ at) in (
+          let one : bytes ≡ b = some-same bytes b (sym there ∙ ap (λ (q : ℕ). map.get texts q) (sym same) ∙ at) in (
             sig,
             e,
             subst (λ (l : List ℕ). IsRecord stream_graph texts d l sig e) one is_record,
@@ -309,12 +310,12 @@ found-all texts directory last table place names owner root so f none all_owned 
 pub counted : (told : Bool) (objects : Held) (numbers : Numbers) (unit : ℕ) (outside : Outside) → AreKept told objects numbers unit outside → IsTrue told → (texts : Objects) → HoldsObjects (image unit outside.now) texts
     → set.len numbers ≡ total_pages texts
 counted told objects numbers unit outside kept tells texts h =
-    let same : kept.are.live ≡ h.live = some-is _ _ (sym (kept.are.are.of_image tells) ∙ h.of_image) in
+    let same : kept.are.live ≡ h.live = some-same _ _ (sym (kept.are.are.of_image tells) ∙ h.of_image) in
     pages_total h.live texts numbers (image_whole (image unit outside.now) h.live h.of_image) h.are (λ q. ap (λ (m : Pages). map.contains_key m q) (sym same) ∙ kept.are.are.named q)
 
 module _ (now : List ℕ) (texts : Objects) (h : HoldsObjects now texts) (place : Places) (names : Names) (directory : Directory) (found : IsFound stream_graph texts place names (bare_store directory)) where
   bytes-there : (id : ℕ) (bytes : List ℕ) → map.get texts id ≡ Some bytes → (id ≡ 0) ⊎ (id % 2 ≡ 1) → AreBytes bytes
-  bytes-there id bytes at (inl zero) = let r = found.directory in subst AreBytes (some-is r.0 bytes (sym r.1 ∙ ap (λ (q : ℕ). map.get texts q) (sym zero) ∙ at)) r.3
+  bytes-there id bytes at (inl zero) = let r = found.directory in subst AreBytes (some-same r.0 bytes (sym r.1 ∙ ap (λ (q : ℕ). map.get texts q) (sym zero) ∙ at)) r.3
   bytes-there id bytes at (inr odd) = (found.records id bytes at odd).2.are_bytes
 
   -- the objects take more pages than the unit has

@@ -6,17 +6,17 @@ use Rattle.std.proofs.lemmas.Bool.{eqb-true, eq-eqb, cases_lt}
 use Rattle.newt_image.specs.Objects.{Extent, Table}
 use Rattle.newt_objects.specs.Extents.{IsNextIn}
 use Rattle.newt_spec_graph.specs.Lists.{Among}
-use Rattle.newt_spec_graph.proofs.Lists.{among-append, among-left, among-right, each-at, each-from, each-list_all, pairs-append}
+use Rattle.newt_spec_graph.proofs.Lists.{some-same, none-some, among-append, among-left, among-right, each-at, each-from, each-list_all, pairs-append}
 use Rattle.newt_entries.specs.declared.row.LargeAt.{LargeAt}
 use Rattle.newt_shelf.proofs.Planning.{among-get, not_yet}
 use Rattle.newt_catalog.specs.Opening.{Owners, is_long, has_length, objects_named, OwnsThese, AreOwned}
-use Rattle.newt_catalog.proofs.Opening.{none-some, some-is, not_true, object-among}
+use Rattle.newt_catalog.proofs.Opening.{not_true, object-among}
 
 -- ---- lengths
 
 pub long-some : (o : Option Extent) (n size : ℕ) → Some n ≡ option_map (λ x. x.length) o → (n == size) ≡ is_long size o
 long-some None n size e = absurd (none-some n (sym e))
-long-some (Some x) n size e = ap (λ (m : ℕ). m == size) (some-is n x.length e)
+long-some (Some x) n size e = ap (λ (m : ℕ). m == size) (some-same n x.length e)
 
 pub long-none : (o : Option Extent) (size : ℕ) → None ≡ option_map (λ x. x.length) o → false ≡ is_long size o
 long-none None size e = refl
@@ -28,7 +28,7 @@ long-is (Some x) size e = ap (λ (n : ℕ). let o : Option ℕ = Some n in o) (e
 
 is-long : (o : Option Extent) (size : ℕ) → option_map (λ x. x.length) o ≡ Some size → is_long size o ≡ true
 is-long None size e = absurd (none-some size e)
-is-long (Some x) size e = eq-eqb x.length size (some-is x.length size e)
+is-long (Some x) size e = eq-eqb x.length size (some-same x.length size e)
 
 -- each object that rows name is there
 pub all-there : (table : Table) (rows : List LargeAt) → list_all (λ row. has_length table row) rows ≡ true → (l : LargeAt) → Among rows l → option_map (λ x. x.length) (table l.object) ≡ Some l.length

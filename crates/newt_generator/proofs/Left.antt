@@ -1,8 +1,8 @@
 -- What is written of a list of lines, and what is left of them.
-use Rattle.std.proofs.Common.{◌≡◌, ap, sym, ◌∙◌, ℕ, suc, ◌+◌, ◌-◌, ◌/◌, ◌%◌, ◌==◌, codes, if◌then◌else◌, ◌<◌, List, [], ◌∷◌, ◌++◌, arith, append_assoc, decimal}
+use Rattle.std.proofs.Common.{◌≡◌, ap, sym, ◌∙◌, ℕ, suc, ◌+◌, ◌-◌, ◌/◌, ◌%◌, ◌==◌, codes, if◌then◌else◌, ◌<◌, List, [], ◌∷◌, ◌++◌, arith, append_assoc}
 use Rattle.std.specs.Prelude.{flat_map, replicate}
 use Rattle.std.specs.List.{enumerate_from}
-use Rattle.newt_base.specs.Text.{decimal_text, decimal_text-decimal}
+use Rattle.newt_base.specs.Text.{decimal_text}
 use Rattle.newt_spec_script.specs.Generator.{add_line, drawn, next_state}
 
 -- the first of the lines left is written
@@ -20,10 +20,6 @@ pub line_written : (f : List ℕ → List ℕ) (text word : List ℕ) (i count :
 line_written f text word i count early =
     let k : count - i ≡ suc (count - (i + 1)) = omega (arith, early) in
     append_assoc text (f word) (flat_map f (replicate (count - (i + 1)) word)) ∙ ap (λ (n : ℕ). text ++ flat_map f (replicate n word)) (sym k)
-
--- a number behind a text, as std writes it
-pub number_written : (n : ℕ) → decimal_text n ≡ decimal n
-number_written n = decimal_text-decimal n
 
 -- the pieces of a line, one behind the other, and its end
 pub joined : (old p m q n w o r i e : List ℕ)

@@ -89,7 +89,7 @@ fn label(drawn: u32) -> &'static [u8]
 }
 
 /// A number in decimal.
-#[tactic(auto, using(crate::proofs::Left::number_written))]
+#[tactic(auto, using(newt_base::proofs::Numerals::decimal_written))]
 fn push_number(alloc: Global, text: &mut Vec<u8>, number: u32) -> Result<(), AllocError>
     ensures { OnOk result (text.new.items ≡ text.old.items ++ decimal_text number) }
 {

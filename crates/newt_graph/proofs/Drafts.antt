@@ -17,7 +17,8 @@ use Rattle.newt_graph.specs.Raw.{IsRaw}
 use Rattle.newt_graph.specs.Draft.{IsPart, IsDraft, IsJoinedNode, IsJoined, IsFilling, is_small, is_alike, find_alike, slot_put, with_slot, with_set}
 use Rattle.newt_graph.specs.Meeting.{place}
 use Rattle.std.proofs.lemmas.Option.{slice_get_within, get_or_from_slice_get}
-use Rattle.newt_graph.proofs.Grows.{get_append, at_push, some_is}
+use Rattle.newt_graph.proofs.Options.{some_is}
+use Rattle.newt_graph.proofs.Elements.{get_append, at_push, found_at}
 use Rattle.std.proofs.lemmas.List.Elements.{All-head}
 
 -- names are alike in either order
@@ -79,16 +80,6 @@ none_alike nodes name e k alike =
   where
     not_both : false ≡ true → ⊥
     not_both e = absurd cc
-
--- where the first one is that passes a test
-pub found_at : {X : Type 0} (t : X → Bool) (i : ℕ) (xs : List X) (q : ℕ) → position_from t i xs ≡ Some q → (p : ℕ) × (x : X) × (q ≡ i + p) × (slice_get xs p ≡ Some x) × (t x ≡ true)
-found_at t i [] q e = absurd cc
-found_at {X} t i (a ∷ xs) q e = go (λ e. found_at t (i + 1) xs q e) (t a) refl e
-  where
-    go : (position_from t (i + 1) xs ≡ Some q → (p : ℕ) × (x : X) × (q ≡ i + 1 + p) × (slice_get xs p ≡ Some x) × (t x ≡ true))
-        → (b : Bool) → t a ≡ b → cond b (Some i) (position_from t (i + 1) xs) ≡ Some q → (p : ℕ) × (x : X) × (q ≡ i + p) × (slice_get (a ∷ xs) p ≡ Some x) × (t x ≡ true)
-    go others true is e = let same : i ≡ q = cc in (0, a, omega (arith, same), refl, is)
-    go others false is e = let o = others e in (suc o.0, o.1, omega (arith, o.2), o.3, o.4)
 
 alike_symbol : (name : List ℕ) (node : Node) → is_alike name node ≡ true → (old : List ℕ) × (node ≡ Symbol old) × (folded old ≡ folded name)
 alike_symbol name (Symbol old) e = (old, refl, (bytes_eq-Decides (folded old) (folded name)).0 e)

@@ -18,9 +18,11 @@ use Rattle.newt_graph.specs.Raw.{renamed_ref, renamed, labels_of, values_of, IsS
 use Rattle.newt_graph.specs.Slice.{At}
 use Rattle.newt_graph.specs.Meeting.{Seen, Step, place, is_new, added, meet_label, meet_labels, meet_class, meet_each, within, enter, meet_by, meet, Once, number, moved, limited, numbered, normal_form, Gives}
 use Rattle.newt_graph.proofs.Place.{place_get, place_some, place_none}
-use Rattle.newt_graph.proofs.Grows.{some_is, get_seam, node_at}
+use Rattle.newt_graph.proofs.Options.{some_is}
+use Rattle.newt_graph.proofs.Elements.{get_seam, map_at, at_map, any_at}
+use Rattle.newt_graph.proofs.Grows.{node_at}
 use Rattle.newt_graph.proofs.Slices.{at_first, at_rest, at_inside, at_here, at_length}
-use Rattle.newt_graph.proofs.Form.{map_at, at_map, any_at, back, start, number_is}
+use Rattle.newt_graph.proofs.Form.{back, start, number_is}
 
 -- ---- the first so many of the order
 

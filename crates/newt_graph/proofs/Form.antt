@@ -1,11 +1,11 @@
 -- The nodes that were met, with their new numbers, are the normal form.
-use Rattle.std.proofs.Common.{◌≡◌, ◌≢◌, ℕ, zero, suc, ◌<◌, ◌≤◌, List, [], ◌∷◌, ◌++◌, length, map, All, get_or, Bool, true, false, Some, None, refl, sym, ap, subst, ◌∙◌, arith, cond, ◌&&◌}
+use Rattle.std.proofs.Common.{◌≡◌, ◌≢◌, ℕ, ◌<◌, ◌≤◌, List, [], ◌∷◌, ◌++◌, length, map, All, get_or, Bool, true, false, Some, None, refl, sym, ap, subst, ◌∙◌, arith, cond, ◌&&◌}
 use Rattle.std.specs.Prelude.{slice_get, AllPairs, nat_le}
 use Rattle.std.specs.List.{sum_by}
 use Rattle.std.proofs.lemmas.Bool.{and_parts, leb-true}
 use Rattle.std.proofs.lemmas.List.{append-nil, length-map, get_or-map}
 use Rattle.std.proofs.lemmas.List.Elements.{All-head, All-tail, All-map}
-use Rattle.std.proofs.lemmas.Option.{slice_get_within, get_or_from_slice_get}
+use Rattle.std.proofs.lemmas.Option.{get_or_from_slice_get}
 use Rattle.newt_graph.specs.declared.node.Node.{Node}
 use Rattle.newt_graph.specs.declared.node.Node.TheVariants.{Symbol, Str, Binary, Large, Array, Frame}
 use Rattle.newt_graph.specs.declared.node.Ref.{Ref}
@@ -14,25 +14,9 @@ use Rattle.newt_graph.specs.Graph.{RawGraph, IsNamed, IsSymbol, IsNode, AreFolde
 use Rattle.newt_graph.specs.Raw.{renamed_ref, renamed, IsRaw, IsNormalForm}
 use Rattle.newt_graph.specs.Meeting.{Seen, place, meet, Once, number, found, moved, limited, numbered, normal_form}
 use Rattle.newt_graph.proofs.Place.{place_get}
-use Rattle.newt_graph.proofs.Grows.{bind_some, some_is, Has, HasRef, Inverts, node_at, shown, ClosedNode, Closed, Grown, RawNodes, node_here, some_at, value_reads}
-
-pub map_at : {X Y : Type 0} (f : X → Y) (xs : List X) (i : ℕ) (y : Y) → slice_get (map f xs) i ≡ Some y → (x : X) × (slice_get xs i ≡ Some x) × (f x ≡ y)
-map_at f [] i y e = absurd cc
-map_at f (x ∷ xs) zero y e = (x, refl, some_is e)
-map_at f (x ∷ xs) (suc i) y e = map_at f xs i y e
-
-pub at_map : {X Y : Type 0} (f : X → Y) (xs : List X) (i : ℕ) (x : X) → slice_get xs i ≡ Some x → slice_get (map f xs) i ≡ Some (f x)
-at_map f [] i x e = absurd cc
-at_map f (y ∷ xs) zero x e = ap (λ z. Some (f z)) (some_is e)
-at_map f (y ∷ xs) (suc i) x e = at_map f xs i x e
-
-pub all_at : {X : Type 0} (P : X → Type 0) (xs : List X) (i : ℕ) (x : X) → All P xs → slice_get xs i ≡ Some x → P x
-all_at P xs i x all e = subst P (get_or_from_slice_get xs i x x e) (all i x (slice_get_within xs i x e))
-
-pub any_at : {X : Type 0} (xs : List X) (i : ℕ) (d : X) → i < length xs → slice_get xs i ≡ Some (get_or xs i d)
-any_at (x ∷ xs) zero d lt = refl
-any_at (x ∷ xs) (suc i) d lt = any_at xs i d (omega (arith, lt))
-any_at [] i d lt = absurd (omega (arith, lt))
+use Rattle.newt_graph.proofs.Options.{bind_some, some_is}
+use Rattle.newt_graph.proofs.Elements.{map_at, at_map, all_at, any_at}
+use Rattle.newt_graph.proofs.Grows.{Has, HasRef, Inverts, node_at, shown, ClosedNode, Closed, Grown, RawNodes, some_at, value_reads}
 
 -- ---- numbers and back
 
@@ -148,7 +132,7 @@ node_moves nodes order (Frame tags values) is h = record {
 nodes_move : (nodes : List Node) (order : List ℕ) → RawNodes nodes → Met nodes order → All (IsNode (moved nodes order order)) (moved nodes order order)
 nodes_move nodes order raw met =
     All-map (IsNode (moved nodes order order)) (λ k. renamed (number order) (node_at nodes k)) order
-    (λ j d lt. node_moves nodes order (node_at nodes (get_or order j d)) (node_here (IsNode nodes) nodes (get_or order j d) _ raw.each (some_at nodes _ (met.inside j d lt))) (met.closed j d lt))
+    (λ j d lt. node_moves nodes order (node_at nodes (get_or order j d)) (all_at (IsNode nodes) nodes (get_or order j d) _ raw.each (some_at nodes _ (met.inside j d lt))) (met.closed j d lt))
 
 pub order_distinct : (order : List ℕ) → Once order → AllPairs (λ a b. a ≢ b) order
 order_distinct order once i j d lt within e =

@@ -12,7 +12,8 @@ use Rattle.newt_graph.specs.Graph.{RawGraph, IsGraph, IsNode, IsAlike, AreFolded
 use Rattle.newt_graph.specs.Raw.{renamed, renamed_ref}
 use Rattle.newt_graph.specs.Draft.{IsPart, IsDraft}
 use Rattle.newt_graph.specs.Import.{known_as, kept_of}
-use Rattle.newt_graph.proofs.Grows.{at_push, some_is}
+use Rattle.newt_graph.proofs.Options.{some_is}
+use Rattle.newt_graph.proofs.Elements.{at_push}
 use Rattle.newt_graph.proofs.Form.{symbol_only}
 use Rattle.newt_graph.proofs.Drafts.{once_push, none_alike}
 

@@ -4,7 +4,7 @@ use Rattle.std.specs.Prelude.{slice_get}
 use Rattle.std.proofs.lemmas.List.{length-append, length_push}
 use Rattle.newt_graph.specs.declared.node.Node.{Node}
 use Rattle.newt_graph.specs.Slice.{At}
-use Rattle.newt_graph.proofs.Grows.{get_seam}
+use Rattle.newt_graph.proofs.Elements.{get_seam}
 
 abbrev pub at_first : (nodes a b : List Node) (met : ℕ) → At nodes (a ++ b) met → At nodes a met
 at_first nodes a b met at = record { before = at.before; later = b ++ at.later; whole = at.whole ∙ ap (λ (x : List Node). at.before ++ x) (append_assoc a b at.later); met_is = at.met_is }

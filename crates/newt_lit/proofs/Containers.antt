@@ -16,7 +16,7 @@ use Rattle.newt_lit.specs.Grammar.{Mark, Tag, Kind, Class, Field, Object, Form, 
 use Rattle.newt_lit.specs.Spelling.{plain, ◌then◌}
 use Rattle.newt_lit.specs.Printed.{name_text, symbol_text, class_text, field_text, list_text, value_at, label_of}
 use Rattle.newt_lit.proofs.Images.{RefStands, ClassStands, Both, Leads, NodeStands, ref_keeps, class_keeps}
-use Rattle.newt_lit.proofs.Lists.{get_left}
+use Rattle.newt_graph.proofs.Elements.{get_append}
 use Rattle.newt_lit.proofs.Objects.{IsPrinted, ObjectKind, ObjectWrote, closed, name_of, take_mono}
 use Rattle.newt_lit.proofs.Rows.{Ready, Chain, Writer, lead, several_wrote}
 use Rattle.newt_lit.proofs.Stands.{Stands, raise, any_at}
@@ -43,7 +43,7 @@ pub keeps_value : (seen extra : List ℕ) (a x : Ref) → RefStands seen a x →
 keeps_value seen extra a x is = ref_keeps extra is
 
 pub keeps_field : (seen extra : List ℕ) (f g : ℕ × Ref) → FieldStands seen f g → FieldStands (seen ++ extra) f g
-keeps_field seen extra f g is = (get_left seen extra f.0 g.0 is.0, ref_keeps extra is.1)
+keeps_field seen extra f g is = (get_append seen extra f.0 g.0 is.0, ref_keeps extra is.1)
 
 -- ---- lists of both
 
@@ -154,7 +154,7 @@ module _ (graph : List Node) (labels : List (Option ℕ)) (p : IsPrinted graph l
       let size : length w.x ≡ length values = both_length w.back in
       let f = closed graph labels p met after_met list.1 seen (c.extra ++ w.extra) open_nodes w.after (length b.nodes) (nodes.Array c.got w.x) (nodes.Array class values) here refl refl
       (subst (λ (l : List ℕ). Stands graph labels after_met l (met ∷ open_nodes) w.after) same w.ready.stands)
-      (get_left (seen ++ met ∷ []) (c.extra ++ w.extra) (length b.nodes) met o.place)
+      (get_append (seen ++ met ∷ []) (c.extra ++ w.extra) (length b.nodes) met o.place)
       (subst (λ (l : List ℕ). NodeStands l (nodes.Array c.got w.x) (nodes.Array class values)) same (NodeStands.array (class_keeps w.extra c.back) w.back))
       (le-leb (length w.x) 65535 (omega (arith, few, size))) w.ready.agrees (omega (arith, w.ready.light)) in
       let text : 91 ∷ (class_tag class ++ lead (is_some class) values list.0) ≡ (91 ∷ class_text graph class values) ++ list.0 = ap (λ (t : List ℕ). 91 ∷ t) (class_before class values list.0) in
@@ -187,7 +187,7 @@ module _ (graph : List Node) (labels : List (Option ℕ)) (p : IsPrinted graph l
         is = subst (λ (t : List ℕ). FieldKind room b t (y.q, w.x) w.after) text
             (Field.field (Tag.name (name_token named.0 (p.names k named.0 named.1)) Mark.here) y.is (blank_value room y.after value.0 w.x w.after w.is));
         ready = subst (λ (l : List ℕ). Ready graph labels after_met value.1 l open_nodes w.after) same w.ready;
-        back = subst (λ (l : List ℕ). FieldStands l (y.q, w.x) (k, v)) same (get_left (seen ++ y.extra) w.extra y.q k y.back, w.back);
+        back = subst (λ (l : List ℕ). FieldStands l (y.q, w.x) (k, v)) same (get_append (seen ++ y.extra) w.extra y.q k y.back, w.back);
       }
 
   fields_chain : (room : ℕ) {met after_met : ℕ} {values : List Ref} → Chain (ValueWriter room) met values after_met → (tags : List ℕ) → length values ≡ length tags → All (IsSymbol graph) tags
@@ -215,7 +215,7 @@ module _ (graph : List Node) (labels : List (Option ℕ)) (p : IsPrinted graph l
       let node = nodes.Frame (tags_of w.x) (values_of w.x) in
       let size : length (tags_of w.x) ≡ length tags = both_length parts.0 in
       let f = closed graph labels p met after_met list.1 seen w.extra open_nodes w.after (length b.nodes) node (nodes.Frame tags values) here refl refl w.ready.stands
-      (get_left seen_o w.extra (length b.nodes) met o.place) (NodeStands.frame parts.0 parts.1) (le-leb (length (tags_of w.x)) 65535 (omega (arith, size, rules.are_tags.few))) w.ready.agrees (omega (arith, w.ready.light)) in
+      (get_append seen_o w.extra (length b.nodes) met o.place) (NodeStands.frame parts.0 parts.1) (le-leb (length (tags_of w.x)) 65535 (omega (arith, size, rules.are_tags.few))) w.ready.agrees (omega (arith, w.ready.light)) in
       record {
         after = f.after;
         extra = w.extra;

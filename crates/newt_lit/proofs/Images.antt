@@ -5,7 +5,7 @@ use Rattle.newt_graph.specs.declared.node.Node.{Node}
 use Rattle.newt_graph.specs.declared.node.Node.TheVariants as nodes
 use Rattle.newt_graph.specs.declared.node.Ref.{Ref}
 use Rattle.newt_graph.specs.declared.node.Ref.TheVariants as refs
-use Rattle.newt_lit.proofs.Lists.{get_left}
+use Rattle.newt_graph.proofs.Elements.{get_append}
 
 -- ---- what stands for what, where the text has met these nodes in this order
 
@@ -37,11 +37,11 @@ pub data NodeStands (seen : List ℕ) : Node → Node → Type 0 where
 
 pub ref_keeps : {seen : List ℕ} {a x : Ref} (extra : List ℕ) → RefStands seen a x → RefStands (seen ++ extra) a x
 ref_keeps extra RefStands.word = RefStands.word
-ref_keeps {seen = seen} extra (RefStands.node {q = q} {k = k} e) = RefStands.node (get_left seen extra q k e)
+ref_keeps {seen = seen} extra (RefStands.node {q = q} {k = k} e) = RefStands.node (get_append seen extra q k e)
 
 pub class_keeps : {seen : List ℕ} {a x : Option ℕ} (extra : List ℕ) → ClassStands seen a x → ClassStands (seen ++ extra) a x
 class_keeps extra ClassStands.none = ClassStands.none
-class_keeps {seen = seen} extra (ClassStands.some {q = q} {k = k} e) = ClassStands.some (get_left seen extra q k e)
+class_keeps {seen = seen} extra (ClassStands.some {q = q} {k = k} e) = ClassStands.some (get_append seen extra q k e)
 
 pub both_weaker : {A X : Type 0} {P Q : A → X → Type 0} {got : List A} {xs : List X} → ((a : A) (x : X) → P a x → Q a x) → Both P got xs → Both Q got xs
 both_weaker f Both.none = Both.none
@@ -50,7 +50,7 @@ both_weaker f (Both.more {a = a} {x = x} is rest) = Both.more (f a x is) (both_w
 pub node_keeps : {seen : List ℕ} {a x : Node} (extra : List ℕ) → NodeStands seen a x → NodeStands (seen ++ extra) a x
 node_keeps extra NodeStands.symbol = NodeStands.symbol
 node_keeps extra NodeStands.string = NodeStands.string
-node_keeps {seen = seen} extra (NodeStands.binary {q = q} {k = k} e) = NodeStands.binary (get_left seen extra q k e)
-node_keeps {seen = seen} extra (NodeStands.large {q = q} {k = k} e) = NodeStands.large (get_left seen extra q k e)
+node_keeps {seen = seen} extra (NodeStands.binary {q = q} {k = k} e) = NodeStands.binary (get_append seen extra q k e)
+node_keeps {seen = seen} extra (NodeStands.large {q = q} {k = k} e) = NodeStands.large (get_append seen extra q k e)
 node_keeps extra (NodeStands.array class values) = NodeStands.array (class_keeps extra class) (both_weaker (λ a x. ref_keeps extra) values)
-node_keeps {seen = seen} extra (NodeStands.frame tags values) = NodeStands.frame (both_weaker (λ q k e. get_left seen extra q k e) tags) (both_weaker (λ a x. ref_keeps extra) values)
+node_keeps {seen = seen} extra (NodeStands.frame tags values) = NodeStands.frame (both_weaker (λ q k e. get_append seen extra q k e) tags) (both_weaker (λ a x. ref_keeps extra) values)

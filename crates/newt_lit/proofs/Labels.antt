@@ -7,7 +7,7 @@ use Rattle.newt_graph.specs.declared.node.Node.{Node}
 use Rattle.newt_graph.specs.declared.node.Ref.{Ref}
 use Rattle.newt_graph.specs.Graph.{RawGraph, IsGraph, IsNode}
 use Rattle.newt_lit.specs.Printed.{is_shared, labels_from, labels, label_of, references}
-use Rattle.newt_lit.proofs.Options.{some_is}
+use Rattle.newt_graph.proofs.Options.{some_is}
 use Rattle.newt_lit.proofs.Walked.{Told, parts, count, count_cons}
 use Rattle.newt_lit.proofs.Telling.{AreLabelled, told}
 
@@ -31,7 +31,7 @@ bounds rs next n [] i l e = absurd cc
 bounds rs next n (x ∷ xs) zero l e = go (is_shared rs n x) refl
   where
     go : (b : Bool) → is_shared rs n x ≡ b → (next ≤ l) × (l ≤ next + 0)
-    go true is = let same : next ≡ l = some_is next l (sym (rw (labels_from, is) refl) ∙ e) in (omega (arith, same), omega (arith, same))
+    go true is = let same : next ≡ l = some_is {x = next} {y = l} (sym (rw (labels_from, is) refl) ∙ e) in (omega (arith, same), omega (arith, same))
     go false is = let wrong : None ≡ Some l = sym (rw (labels_from, is) refl) ∙ e in absurd cc
 bounds rs next n (x ∷ xs) (suc i) l e = go (λ e. bounds rs (next + 1) (n + 1) xs i l e) (λ e. bounds rs next (n + 1) xs i l e) (is_shared rs n x) refl
   where
@@ -47,14 +47,14 @@ apart rs next n (x ∷ xs) zero (suc j) l e f = go (is_shared rs n x) refl
   where
     go : (b : Bool) → is_shared rs n x ≡ b → 0 ≡ suc j
     go true is =
-        let same : next ≡ l = some_is next l (sym (rw (labels_from, is) refl) ∙ e) in
+        let same : next ≡ l = some_is {x = next} {y = l} (sym (rw (labels_from, is) refl) ∙ e) in
         absurd (omega (arith, same, (bounds rs (next + 1) (n + 1) xs j l (rw (labels_from, is) at f)).0))
     go false is = let wrong : None ≡ Some l = sym (rw (labels_from, is) refl) ∙ e in absurd cc
 apart rs next n (x ∷ xs) (suc i) zero l e f = go (is_shared rs n x) refl
   where
     go : (b : Bool) → is_shared rs n x ≡ b → suc i ≡ 0
     go true is =
-        let same : next ≡ l = some_is next l (sym (rw (labels_from, is) refl) ∙ f) in
+        let same : next ≡ l = some_is {x = next} {y = l} (sym (rw (labels_from, is) refl) ∙ f) in
         absurd (omega (arith, same, (bounds rs (next + 1) (n + 1) xs i l (rw (labels_from, is) at e)).0))
     go false is = let wrong : None ≡ Some l = sym (rw (labels_from, is) refl) ∙ f in absurd cc
 apart rs next n (x ∷ xs) (suc i) (suc j) l e f = ap suc (go (λ e f. apart rs (next + 1) (n + 1) xs i j l e f) (λ e f. apart rs next (n + 1) xs i j l e f) (is_shared rs n x) refl)

@@ -17,7 +17,7 @@ use Rattle.newt_lit.specs.Built.{Built, filled}
 use Rattle.newt_lit.specs.Grammar.{Kind, Classed, LargeBytes, Leaf, Object, Array, Frame, Nothing, Value}
 use Rattle.newt_lit.specs.Printed.{name_text, symbol_text, string_text, binary_text, is_symbol, label_of}
 use Rattle.newt_lit.proofs.Images.{NodeStands}
-use Rattle.newt_lit.proofs.Lists.{get_left}
+use Rattle.newt_graph.proofs.Elements.{get_append}
 use Rattle.newt_lit.proofs.Rows.{Ready}
 use Rattle.newt_lit.proofs.Stands.{Stands, raise}
 use Rattle.newt_lit.proofs.Tokens.{name_token, bytes_token, units_pieces}
@@ -108,7 +108,7 @@ module _ (graph : List Node) (labels : List (Option ℕ)) (p : IsPrinted graph l
   class_of met x seen open_nodes b k name here object named s =
       let o = opened graph labels p.apart met x seen open_nodes b p.limit here object s in
       let y = symbol_stands graph labels (met + 1) (seen ++ met ∷ []) (met ∷ open_nodes) o.after k name p.limit p.once o.stands named in
-      record { o = o; y = y; place = get_left (seen ++ met ∷ []) y.extra (length b.nodes) met o.place; weight = y.weight ∙ o.weight }
+      record { o = o; y = y; place = get_append (seen ++ met ∷ []) y.extra (length b.nodes) met o.place; weight = y.weight ∙ o.weight }
 
   -- the object is filled, and the walk has met further symbols
   pub record Closed (met after_met count : ℕ) (seen extra open_nodes : List ℕ) (b : Built) (n : ℕ) (node : Node) : Type 0 where

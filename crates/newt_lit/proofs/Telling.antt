@@ -10,8 +10,9 @@ use Rattle.newt_graph.specs.declared.node.Ref.{Ref}
 use Rattle.newt_graph.specs.declared.node.Ref.TheVariants as refs
 use Rattle.newt_graph.specs.Graph.{IsNamed, IsSymbol, WalkLabel, WalkLabels, Walk, Walks, IsNode}
 use Rattle.newt_lit.specs.Printed.{is_symbol, label_of}
-use Rattle.newt_lit.proofs.Lists.{get_left, get_right, get_either}
-use Rattle.newt_lit.proofs.Options.{some_is}
+use Rattle.newt_lit.proofs.Lists.{get_right, get_either}
+use Rattle.newt_graph.proofs.Options.{some_is}
+use Rattle.newt_graph.proofs.Elements.{get_append}
 use Rattle.newt_lit.proofs.Walked.{Between, Told, Full, ToldAll, parts, count, count_cons, count_flat, count_full, count_same, named}
 
 -- nodes that meet their rules, and a label for each object that is named more than once
@@ -132,7 +133,7 @@ inside graph total met node labels values first others e symbols p =
     }
   where
     symbols_there : Between graph (suc met) (suc met + length first)
-    symbols_there = between graph (suc met) first symbols (λ i x h. behind graph met i x (p.here (suc i) x (get_left first others i x h)))
+    symbols_there = between graph (suc met) first symbols (λ i x h. behind graph met i x (p.here (suc i) x (get_append first others i x h)))
 
     step : (k : ℕ) (x : Node) → slice_get graph k ≡ Some x → is_symbol x ≡ false → met ≤ k → k < suc met + length first → (b : Bool) → eqb met k ≡ b → 1 ≤ count k (refs.Node met ∷ [])
     step k x there object le lt true e = let same : met ≡ k = eqb-true met k e in rw same (omega (arith, count_same k))
@@ -147,7 +148,7 @@ row : (graph : List Node) (total : ℕ → ℕ) (room met : ℕ) (value : Ref) (
     → Placed graph total met (value ∷ values) (first ++ others) → Row graph total met value values first others
 row graph total room met value values first others walk p = record {
   one = record {
-    here = λ i x h. p.here i x (get_left first others i x h);
+    here = λ i x h. p.here i x (get_append first others i x h);
     whole = omega (arith, p.whole, length-append first others);
     spare = λ k x there object. omega (arith, p.spare k x there object, count_cons k value values, count_flat k first others);
   };
@@ -213,7 +214,7 @@ module _ (graph : List Node) (labels : List (Option ℕ)) (total : ℕ → ℕ) 
     told {met = met} (Walk.array {room = room} {class = class} {values = values} {first = first} {valued = valued} label walks) p after e =
         let i = inside graph total met (nodes.Array (Some class) values) (refs.Node class ∷ []) values first valued refl (label_symbols label) p in
         let rules = is.each met (nodes.Array (Some class) values) i.here in
-        Told.object i.here (Full.array (suc met + length first) (λ k same. subst (λ (j : ℕ). IsSymbol graph j) (some_is _ _ same) rules.0) rules.1 i.tags (told_all walks i.rest after (omega (arith, e, length-append first valued))))
+        Told.object i.here (Full.array (suc met + length first) (λ k same. subst (λ (j : ℕ). IsSymbol graph j) (some_is same) rules.0) rules.1 i.tags (told_all walks i.rest after (omega (arith, e, length-append first valued))))
 
     told_all : {room met : ℕ} {rs : List Ref} {new : List Node} → Walks room met rs new → Placed graph total met rs new → (after : ℕ) → after ≡ met + length new → ToldAll graph labels room met rs after
     told_all {room = room} {met = met} Walks.none p after e = subst (λ (n : ℕ). ToldAll graph labels room met [] n) (sym (e ∙ add-zero met)) ToldAll.none

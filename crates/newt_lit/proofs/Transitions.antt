@@ -14,7 +14,8 @@ use Rattle.newt_graph.specs.Graph.{IsNamed, AreFoldedOnce, folded, payload}
 use Rattle.newt_graph.specs.Draft.{is_alike, find_alike, known, with_symbol, with_held, with_filled, is_small}
 use Rattle.newt_lit.specs.Built.{Built, beside, symbol_in, held, filled, node_of}
 use Rattle.newt_lit.specs.Printed.{is_symbol, label_of}
-use Rattle.newt_lit.proofs.Lists.{get_left, get_last, get_split, get_set, found_at, found_none}
+use Rattle.newt_graph.proofs.Elements.{get_append, found_at}
+use Rattle.newt_lit.proofs.Lists.{get_last, get_split, get_set, found_none}
 use Rattle.newt_lit.proofs.Images.{NodeStands, node_keeps}
 use Rattle.newt_lit.proofs.Stands.{Stands, no_symbol, order_pushed, order_filled, room_left}
 
@@ -69,8 +70,8 @@ new_symbol graph labels met seen open_nodes b k name s named fresh = record {
     | inl old ↦ s.below p j old
     | inr last ↦ inr (name, ap (slice_get graph) (sym last.1) ∙ named)
   ];
-  covers = λ j node lt here object. let c = s.covers j node lt here object in (c.0, get_left seen (k ∷ []) c.0 j c.1);
-  given = λ j l node lt here object label. let c = s.given j l node lt here object label in (c.0, c.1, get_left seen (k ∷ []) c.0 j c.2);
+  covers = λ j node lt here object. let c = s.covers j node lt here object in (c.0, get_append seen (k ∷ []) c.0 j c.1);
+  given = λ j l node lt here object label. let c = s.given j l node lt here object label in (c.0, c.1, get_append seen (k ∷ []) c.0 j c.2);
   only = s.only;
 }
 
@@ -188,7 +189,7 @@ module _ (graph : List Node) (labels : List (Option ℕ)) (apart : (i j l : ℕ)
       }
     where
       covered : (j : ℕ) (node : Node) → j < met + 1 → slice_get graph j ≡ Some node → is_symbol node ≡ false → (t : Bool) → ltb j met ≡ t → (p : ℕ) × (slice_get (seen ++ met ∷ []) p ≡ Some j)
-      covered j node lt j_here j_object true e = let c = s.covers j node (ltb-true j met e) j_here j_object in (c.0, get_left seen (met ∷ []) c.0 j c.1)
+      covered j node lt j_here j_object true e = let c = s.covers j node (ltb-true j met e) j_here j_object in (c.0, get_append seen (met ∷ []) c.0 j c.1)
       covered j node lt j_here j_object false e = let same : met ≡ j = omega (arith, ltb-false j met e, lt) in (length seen, get_last seen met ∙ ap (λ (n : ℕ). Some n) same)
 
       left : (l q : ℕ) (o : Option ℕ) → node_of l b.labels ≡ Some q → node_of l (marked_labels b o) ≡ Some q
@@ -198,7 +199,7 @@ module _ (graph : List Node) (labels : List (Option ℕ)) (apart : (i j l : ℕ)
       given : (j l : ℕ) (node : Node) → j < met + 1 → slice_get graph j ≡ Some node → is_symbol node ≡ false → label_of labels j ≡ Some l → (t : Bool) → ltb j met ≡ t
           → (q : ℕ) × (node_of l (marked_labels b label) ≡ Some q) × (slice_get (seen ++ met ∷ []) q ≡ Some j)
       given j l node lt j_here j_object j_label true e =
-          let c = s.given j l node (ltb-true j met e) j_here j_object j_label in (c.0, left l c.0 label c.1, get_left seen (met ∷ []) c.0 j c.2)
+          let c = s.given j l node (ltb-true j met e) j_here j_object j_label in (c.0, left l c.0 label c.1, get_append seen (met ∷ []) c.0 j c.2)
       given j l node lt j_here j_object j_label false e =
           let same : met ≡ j = omega (arith, ltb-false j met e, lt) in
           let mine : label_of labels met ≡ Some l = ap (label_of labels) same ∙ j_label in

@@ -6,20 +6,15 @@ use Rattle.std.proofs.lemmas.Bool.{leb-true, and_parts}
 use Rattle.std.proofs.lemmas.Int.{of_z-to_z}
 use Rattle.std.proofs.Math.Facts.{sfits_to_z}
 use Rattle.newt_graph.specs.Graph.{IsWord}
+use Rattle.newt_graph.proofs.Words.{integer_word, character_word}
 use Rattle.newt_lit.specs.Grammar.{Immediate}
 use Rattle.newt_lit_read.proofs.Characters.{hex_below}
-
-integer_word : (n : ℕ) → n ≤ 536870911 → IsWord (pos (4 * n))
-integer_word n le = record { fits = record { sfits = omega arith }; low = λ e. omega arith }
 
 negative_word : (n : ℕ) → n ≤ 536870912 → IsWord (neg_ℤ (pos (4 * n)))
 negative_word zero le = record { fits = record { sfits = omega arith }; low = λ e. omega arith }
 negative_word (suc n) le =
     let e : 4 * suc n ≡ suc (4 * n + 3) = omega arith in
     subst (λ (m : ℕ). IsWord (neg_ℤ (pos m))) (sym e) (record { fits = record { sfits = omega arith }; low = λ e. omega arith })
-
-character_word : (c : ℕ) → c < 65536 → IsWord (pos (16 * c + 6))
-character_word c lt = record { fits = record { sfits = omega arith }; low = λ e. omega arith }
 
 bits_word : (n : ℕ) → n < 4294967296 → n % 4 ≢ 1 → IsWord (cast_signed w32 n)
 bits_word n lt low = record { fits = sfits_to_z (record { fits = lt }); low = λ e. low (sym (ap (λ (x : ℕ). x % 4) (of_z-to_z w32 n lt)) ∙ e) }

@@ -16,11 +16,11 @@ use Rattle.newt_graph.specs.Graph.{IsName, IsSymbol, payload}
 use Rattle.newt_graph.specs.Raw.{IsValue, labels_of}
 use Rattle.newt_graph.specs.Raw.{values_of as refs_of}
 use Rattle.newt_graph.specs.Draft.{IsPart, IsDraft, IsJoinedNode, IsJoined, IsFilling, is_small, find_alike, known, with_symbol, with_held, with_filled}
-use Rattle.newt_graph.proofs.Grows.{get_append, get_seam}
+use Rattle.newt_graph.proofs.Options.{bind_some, provided, some_is}
+use Rattle.newt_graph.proofs.Elements.{get_append, get_seam}
 use Rattle.newt_graph.proofs.Drafts.{held_push, symbol_push, alike_found, part_of_filling, once_set}
 use Rattle.newt_lit.specs.Built.{Built, symbol_in, held, filled, node_of, labelled, all_distinct, tags_of, values_of}
 use Rattle.newt_lit.specs.Grammar.{Kind, Items, Several, Class, Field, Array, Frame, Classed, Leaf, Object, Form, Nothing, Value, Writes}
-use Rattle.newt_lit.proofs.Options.{bind_some, provided, some_is}
 use Rattle.newt_lit_read.proofs.Characters.{name_is, tag_is, bytes_fit, large_bytes_fit, units_fit}
 use Rattle.newt_lit_read.proofs.Immediates.{immediate_is}
 
@@ -82,14 +82,14 @@ symbol_made ns name m is h e = by (find_alike name ns) refl e
   where
     by : (o : Option ℕ) → find_alike name ns ≡ o → known ns name o ≡ Some m → Made ns m.1 × IsSymbol m.1 m.0
     by (Some q) found e =
-        subst (λ (m : ℕ × List Node). Made ns m.1 × IsSymbol m.1 m.0) (some_is _ _ e)
+        subst (λ (m : ℕ × List Node). Made ns m.1 × IsSymbol m.1 m.0) (some_is e)
         (record { new = []; is = sym (append-nil ns); holds = h }, (let alike = alike_found name ns q found in (alike.0, alike.1)))
     by None none e =
         let p = provided (ltb (length ns) 131072) (Some (length ns, ns ++ nodes.Symbol name ∷ [])) m e in
         let lt = ltb-true (length ns) 131072 p.0 in
         let all = ns ++ nodes.Symbol name ∷ [] in
         let draft = symbol_push ns all (sum_by payload ns) name is lt none refl (h.draft, refl) in
-        subst (λ (m : ℕ × List Node). Made ns m.1 × IsSymbol m.1 m.0) (some_is _ _ p.1) (
+        subst (λ (m : ℕ × List Node). Made ns m.1 × IsSymbol m.1 m.0) (some_is p.1) (
           record { new = nodes.Symbol name ∷ []; is = refl; holds = held_append ns (nodes.Symbol name) draft.0 h (no_parts all (nodes.Symbol name) refl (All-nil (IsValue (length all)))) },
           (name, get_seam ns (nodes.Symbol name) []),
         )
@@ -104,7 +104,7 @@ held_made ns m h e =
     let p = provided (ltb (length ns) 131072) (Some (length ns, ns ++ open_node ∷ [])) m e in
     let all = ns ++ open_node ∷ [] in
     let draft = held_push ns all (sum_by payload ns) (ltb-true (length ns) 131072 p.0) refl (h.draft, refl) in
-    subst (λ (m : ℕ × List Node). (m.0 ≡ length ns) × (m.1 ≡ all) × IsHeld m.1) (some_is _ _ p.1)
+    subst (λ (m : ℕ × List Node). (m.0 ≡ length ns) × (m.1 ≡ all) × IsHeld m.1) (some_is p.1)
     (refl, refl, held_append ns open_node draft.0 h (no_parts all open_node refl (All-nil (IsValue (length all)))))
 
 -- a node is filled where an open one stands
@@ -128,7 +128,7 @@ filled_made ns n node after vacant filling joined h e =
     let q = and_parts (is_small node) (leb (sum_by payload (set ns n node)) 33554432) p.0 in
     let w = set_wider ns n node vacant in
     let all = set ns n node in
-    subst (λ (after : List Node). (after ≡ all) × IsHeld after) (some_is _ _ p.1) (
+    subst (λ (after : List Node). (after ≡ all) × IsHeld after) (some_is p.1) (
       refl,
       record {
         draft = record {
@@ -178,7 +178,7 @@ unfolding symbol_in
 symbol_stepped b name k after is d e =
     let m = bind_some (with_symbol b.nodes name) _ (k, after) e in
     let made = symbol_made b.nodes name m.0 is d.holds m.1 in
-    subst (λ (x : ℕ × Built). Stepped IsSymbol b x.1 x.0) (some_is _ _ m.2) (record {
+    subst (λ (x : ℕ × Built). Stepped IsSymbol b x.1 x.0) (some_is m.2) (record {
       grown = record { new = made.0.new; nodes = made.0.is };
       drafted = record {
         holds = made.0.holds;
@@ -197,7 +197,7 @@ unfolding held
 opens b n opened d e =
     let m = bind_some (with_held b.nodes) _ (n, opened) e in
     let made = held_made b.nodes m.0 d.holds m.1 in
-    subst (λ (x : ℕ × Built). Opened b x.0 x.1) (some_is _ _ m.2) (record {
+    subst (λ (x : ℕ × Built). Opened b x.0 x.1) (some_is m.2) (record {
       place = made.0;
       nodes = made.1;
       drafted = record {
@@ -217,7 +217,7 @@ closes b n opened last node after d e g l filling joined f =
     let made = filled_made last.nodes n node m.0 vacant filling joined l.holds m.1 in
     let whole : m.0 ≡ b.nodes ++ node ∷ g.new = made.0 ∙ rw (parts, o.place) (set-append_seam b.nodes open_node g.new node) in
     let long : length m.0 ≡ length last.nodes = ap length made.0 ∙ length-set last.nodes n node in
-    subst (λ (x : Built). Stepped IsIn b x (refs.Node n)) (some_is _ _ m.2) (record {
+    subst (λ (x : Built). Stepped IsIn b x (refs.Node n)) (some_is m.2) (record {
       grown = record { new = node ∷ g.new; nodes = whole };
       drafted = record {
         holds = made.1;
@@ -387,7 +387,7 @@ labels_more b n d = record {
 }
   where
     more : (size n label k : ℕ) (ls : List (ℕ × ℕ)) → ((q : ℕ) → node_of label ls ≡ Some q → q < 0 + size) → node_of label (ls ++ (n, size) ∷ []) ≡ Some k → k < 1 + size
-    more size n label k [] below e = let p = provided (eqb n label) (Some size) k e in let s : size ≡ k = some_is _ _ p.1 in omega (arith, s)
+    more size n label k [] below e = let p = provided (eqb n label) (Some size) k e in let s : size ≡ k = some_is p.1 in omega (arith, s)
     more size n label k (l ∷ ls) below e = by (λ below e. more size n label k ls below e) (eqb l.0 label) refl below e
       where
         by : (((q : ℕ) → node_of label ls ≡ Some q → q < 0 + size) → node_of label (ls ++ (n, size) ∷ []) ≡ Some k → k < 1 + size)

@@ -11,7 +11,7 @@ use Rattle.newt_graph.specs.Steps.{◌>>=◌}
 use Rattle.newt_lit.specs.Words.{is_blank, skip, word_len, is_number, number, is_shown, is_barred, is_quoted, is_label, is_count, units_of}
 use Rattle.newt_lit.specs.Grammar.{Mark, Pieces, Hex, HexByte, InName, InString, Name, Immediate, Label, Tag, LargeBytes}
 use Rattle.newt_lit_read.specs.Tokens.{first_of, behind_mark, mark_at, word_at, word_value, plain_at, negative_at, label_at, hex_at, code_word_at, character_at, Next, after_next, pieces_at, single, piece, escaped_in_name, next_in_name, escaped_in_string, next_in_string, next_byte, barred_at, name_at, if_colon, tag_at, bytes_at, zeros_at, large_bytes_at}
-use Rattle.newt_lit.proofs.Options.{bind_some, chosen, provided, some_is}
+use Rattle.newt_graph.proofs.Options.{bind_some, chosen, provided, some_is}
 use Rattle.newt_lit_read.proofs.Characters.{one_of, small_units}
 
 -- a text of this kind in front
@@ -50,17 +50,17 @@ mark_takes whole m e = behind_blanks (Mark m.0) (λ c text is mark. Mark.blank i
   where
     go : (text : List ℕ) → first_of text ≡ Some m → Takes (Mark m.0) text m.1
     go [] e = absurd cc
-    go (c ∷ rest) e = subst (λ (x : ℕ × List ℕ). Takes (Mark x.0) (c ∷ rest) x.1) (some_is (c, rest) m e) (record { text = c ∷ []; parts = refl; is = Mark.here })
+    go (c ∷ rest) e = subst (λ (x : ℕ × List ℕ). Takes (Mark x.0) (c ∷ rest) x.1) (some_is {x = (c, rest)} {y = m} e) (record { text = c ∷ []; parts = refl; is = Mark.here })
 
 pub first_tells : (text : List ℕ) (m : ℕ × List ℕ) → first_of text ≡ Some m → text ≡ m.0 ∷ m.1
 first_tells [] m e = absurd cc
-first_tells (c ∷ rest) m e = ap (λ (x : ℕ × List ℕ). x.0 ∷ x.1) (some_is (c, rest) m e)
+first_tells (c ∷ rest) m e = ap (λ (x : ℕ × List ℕ). x.0 ∷ x.1) (some_is {x = (c, rest)} {y = m} e)
 
 pub behind_tells : (c : ℕ) (text rest : List ℕ) → behind_mark c (first_of text) ≡ Some rest → text ≡ c ∷ rest
 behind_tells c [] rest e = absurd cc
 behind_tells c (d ∷ ds) rest e =
     let p = provided (eqb d c) (Some ds) rest e in
-    ap (λ (x : ℕ). x ∷ ds) (eqb-true d c p.0) ∙ ap (λ (x : List ℕ). c ∷ x) (some_is ds rest p.1)
+    ap (λ (x : ℕ). x ∷ ds) (eqb-true d c p.0) ∙ ap (λ (x : List ℕ). c ∷ x) (some_is {x = ds} {y = rest} p.1)
 
 word_takes : (P : List ℕ → Type 0) (whole : List ℕ) → P (word_at whole).0 → Takes P whole (word_at whole).1
 word_takes P whole is = record { text = (word_at whole).0; parts = sym (take-append-drop (word_len whole) whole); is = is }
@@ -72,7 +72,7 @@ label_takes whole l e =
     let p = provided (is_label (word_at whole).0) _ l e in
     let m = bind_some (first_of (word_at whole).1) _ l p.1 in
     let front : (word_at whole).1 ≡ m.0.0 ∷ m.0.1 = first_tells (word_at whole).1 m.0 m.1 in
-    subst (λ (l : ℕ × ℕ × List ℕ). (digits : List ℕ) × Label digits l.0 × (whole ≡ digits ++ l.1 ∷ l.2)) (some_is _ _ m.2)
+    subst (λ (l : ℕ × ℕ × List ℕ). (digits : List ℕ) × Label digits l.0 × (whole ≡ digits ++ l.1 ∷ l.2)) (some_is m.2)
     ((word_at whole).0, Label.label p.0, sym (take-append-drop (word_len whole) whole) ∙ ap (λ (x : List ℕ). (word_at whole).0 ++ x) front)
 
 -- ---- hexadecimal digits
@@ -85,7 +85,7 @@ hex_takes count whole n e =
       | inr p ↦
           let q = provided (list_all is_ascii_hexdigit (take count whole)) _ n p.1 in
           let long : length (take count whole) ≡ count = length-take-le count whole (ltb-false (length whole) count p.0) in
-          subst (λ (n : ℕ × List ℕ). Takes (λ text. Hex count text n.0) whole n.1) (some_is _ _ q.1)
+          subst (λ (n : ℕ × List ℕ). Takes (λ text. Hex count text n.0) whole n.1) (some_is q.1)
           (record { text = take count whole; parts = sym (take-append-drop count whole); is = Hex.hex long q.0 })
     ]
 
@@ -112,19 +112,19 @@ pieces_take piece value close next tells (suc turns) whole found e =
   where
     by : ((rest : List ℕ) (f : List ℕ × List ℕ) → pieces_at value next turns rest ≡ Some f → TakesAll piece close rest f)
         → (o : Option ℕ) (rest : List ℕ) → next whole ≡ Some (o, rest) → after_next value (pieces_at value next turns) (o, rest) ≡ Some found → TakesAll piece close whole found
-    by again None rest is e = subst (λ (f : List ℕ × List ℕ). TakesAll piece close whole f) (some_is _ _ e) ([], tells whole (None, rest) is, Pieces.none)
+    by again None rest is e = subst (λ (f : List ℕ × List ℕ). TakesAll piece close whole f) (some_is e) ([], tells whole (None, rest) is, Pieces.none)
     by again (Some code) rest is e =
         let t : Takes (λ text. piece text (value code)) whole rest = tells whole (Some code, rest) is in
         let b = bind_some (pieces_at value next turns rest) _ found e in
         let others = again rest b.0 b.1 in
-        subst (λ (f : List ℕ × List ℕ). TakesAll piece close whole f) (some_is _ _ b.2)
+        subst (λ (f : List ℕ × List ℕ). TakesAll piece close whole f) (some_is b.2)
         (t.text ++ others.0, t.parts ∙ ap (λ (x : List ℕ). t.text ++ x) others.1 ∙ sym (append_assoc t.text others.0 (close ∷ b.0.1)), Pieces.more t.is others.2)
 
 name_escape : (c : ℕ) (cs : List ℕ) (f : ℕ × List ℕ) → c ≡ 92 → escaped_in_name cs ≡ Some f → Takes (λ text. InName text (single f.0)) (c ∷ cs) f.1
 name_escape c [] f is e = absurd cc
 name_escape c (d ∷ ds) f is e =
     let r = provided ((d == 124) || (d == 92)) (Some (d, ds)) f e in
-    subst (λ (f : ℕ × List ℕ). Takes (λ text. InName text (single f.0)) (c ∷ d ∷ ds) f.1) (some_is _ _ r.1)
+    subst (λ (f : ℕ × List ℕ). Takes (λ text. InName text (single f.0)) (c ∷ d ∷ ds) f.1) (some_is r.1)
     (elim (one_of (d == 124) (d == 92) r.0) [
       | inl h ↦ record {
         text = 92 ∷ 124 ∷ [];
@@ -143,14 +143,14 @@ unfolding next_in_name
 name_told [] found e = absurd cc
 name_told (c ∷ cs) found e =
     elim (chosen (eqb c 124) _ _ _ e) [
-      | inl p ↦ subst (λ (f : Option ℕ × List ℕ). Told InName single 124 (c ∷ cs) f.0 f.1) (some_is _ _ p.1) (ap (λ (x : ℕ). x ∷ cs) (eqb-true c 124 p.0))
+      | inl p ↦ subst (λ (f : Option ℕ × List ℕ). Told InName single 124 (c ∷ cs) f.0 f.1) (some_is p.1) (ap (λ (x : ℕ). x ∷ cs) (eqb-true c 124 p.0))
       | inr p ↦ elim (chosen (eqb c 92) _ _ _ p.1) [
         | inl q ↦
             let r = bind_some (escaped_in_name cs) _ found q.1 in
-            subst (λ (f : Option ℕ × List ℕ). Told InName single 124 (c ∷ cs) f.0 f.1) (some_is _ _ r.2) (name_escape c cs r.0 (eqb-true c 92 q.0) r.1)
+            subst (λ (f : Option ℕ × List ℕ). Told InName single 124 (c ∷ cs) f.0 f.1) (some_is r.2) (name_escape c cs r.0 (eqb-true c 92 q.0) r.1)
         | inr q ↦
             let r = provided (is_barred c) _ found q.1 in
-            subst (λ (f : Option ℕ × List ℕ). Told InName single 124 (c ∷ cs) f.0 f.1) (some_is _ _ r.1) (record { text = c ∷ []; parts = refl; is = InName.plain r.0 })
+            subst (λ (f : Option ℕ × List ℕ). Told InName single 124 (c ∷ cs) f.0 f.1) (some_is r.1) (record { text = c ∷ []; parts = refl; is = InName.plain r.0 })
       ]
     ]
 
@@ -159,7 +159,7 @@ string_escape c [] f is e = absurd cc
 string_escape c (d ∷ ds) f is e =
     elim (chosen ((d == 34) || (d == 92)) _ _ _ e) [
       | inl r ↦
-          subst (λ (f : ℕ × List ℕ). Takes (λ text. InString text (units_of f.0)) (c ∷ d ∷ ds) f.1) (some_is _ _ r.1)
+          subst (λ (f : ℕ × List ℕ). Takes (λ text. InString text (units_of f.0)) (c ∷ d ∷ ds) f.1) (some_is r.1)
           (elim (one_of (d == 34) (d == 92) r.0) [
             | inl h ↦ record {
               text = 92 ∷ 34 ∷ [];
@@ -187,17 +187,17 @@ unfolding next_in_string
 string_told [] found e = absurd cc
 string_told (c ∷ cs) found e =
     elim (chosen (eqb c 34) _ _ _ e) [
-      | inl p ↦ subst (λ (f : Option ℕ × List ℕ). Told InString units_of 34 (c ∷ cs) f.0 f.1) (some_is _ _ p.1) (ap (λ (x : ℕ). x ∷ cs) (eqb-true c 34 p.0))
+      | inl p ↦ subst (λ (f : Option ℕ × List ℕ). Told InString units_of 34 (c ∷ cs) f.0 f.1) (some_is p.1) (ap (λ (x : ℕ). x ∷ cs) (eqb-true c 34 p.0))
       | inr p ↦ elim (chosen (eqb c 92) _ _ _ p.1) [
         | inl q ↦
             let r = bind_some (escaped_in_string cs) _ found q.1 in
-            subst (λ (f : Option ℕ × List ℕ). Told InString units_of 34 (c ∷ cs) f.0 f.1) (some_is _ _ r.2) (string_escape c cs r.0 (eqb-true c 92 q.0) r.1)
+            subst (λ (f : Option ℕ × List ℕ). Told InString units_of 34 (c ∷ cs) f.0 f.1) (some_is r.2) (string_escape c cs r.0 (eqb-true c 92 q.0) r.1)
         | inr q ↦ elim (chosen (ltb c 32) _ _ _ q.1) [
           | inl r ↦ absurd cc
           | inr r ↦
               let s = provided (leb c 1_114_111) _ found r.1 in
               let quoted : is_quoted c ≡ true = rw (le-leb 32 c (ltb-false c 32 r.0), s.0, p.0, q.0) refl in
-              subst (λ (f : Option ℕ × List ℕ). Told InString units_of 34 (c ∷ cs) f.0 f.1) (some_is _ _ s.1) (record { text = c ∷ []; parts = refl; is = InString.plain quoted })
+              subst (λ (f : Option ℕ × List ℕ). Told InString units_of 34 (c ∷ cs) f.0 f.1) (some_is s.1) (record { text = c ∷ []; parts = refl; is = InString.plain quoted })
         ]
       ]
     ]
@@ -207,11 +207,11 @@ unfolding next_byte
 byte_told [] found e = absurd cc
 byte_told (c ∷ cs) found e =
     elim (chosen (eqb c 62) _ _ _ e) [
-      | inl p ↦ subst (λ (f : Option ℕ × List ℕ). Told HexByte single 62 (c ∷ cs) f.0 f.1) (some_is _ _ p.1) (ap (λ (x : ℕ). x ∷ cs) (eqb-true c 62 p.0))
+      | inl p ↦ subst (λ (f : Option ℕ × List ℕ). Told HexByte single 62 (c ∷ cs) f.0 f.1) (some_is p.1) (ap (λ (x : ℕ). x ∷ cs) (eqb-true c 62 p.0))
       | inr p ↦
           let r = bind_some (hex_at 2 (c ∷ cs)) _ found p.1 in
           let t = hex_takes 2 (c ∷ cs) r.0 r.1 in
-          subst (λ (f : Option ℕ × List ℕ). Told HexByte single 62 (c ∷ cs) f.0 f.1) (some_is _ _ r.2) (record { text = t.text; parts = t.parts; is = HexByte.byte t.is })
+          subst (λ (f : Option ℕ × List ℕ). Told HexByte single 62 (c ∷ cs) f.0 f.1) (some_is r.2) (record { text = t.text; parts = t.parts; is = HexByte.byte t.is })
     ]
 
 pub string_takes : (whole : List ℕ) (found : List ℕ × List ℕ) → pieces_at units_of next_in_string (length whole) whole ≡ Some found → TakesAll InString 34 whole found
@@ -229,7 +229,7 @@ barred_takes whole n e =
     let p = provided (ltb 0 (length a.0.0) && ltb (length a.0.0) 255) (Some a.0) n a.2 in
     let q = and_parts (ltb 0 (length a.0.0)) (ltb (length a.0.0) 255) p.0 in
     let t = pieces_take InName single 124 next_in_name name_told (length whole) whole a.0 a.1 in
-    subst (λ (n : List ℕ × List ℕ). Takes (λ text. Name text n.0) (124 ∷ whole) n.1) (some_is _ _ p.1) (record {
+    subst (λ (n : List ℕ × List ℕ). Takes (λ text. Name text n.0) (124 ∷ whole) n.1) (some_is p.1) (record {
       text = 124 ∷ (t.0 ++ 124 ∷ []);
       parts = ap (λ (x : List ℕ). 124 ∷ x) (t.1 ∙ sym (append_assoc t.0 (124 ∷ []) a.0.1));
       is = Name.barred t.2 (ltb-true 0 (length a.0.0) q.0) (ltb-true (length a.0.0) 255 q.1);
@@ -243,7 +243,7 @@ name_takes (c ∷ cs) n e =
       | inl p ↦ subst (λ (c : ℕ). Takes (λ text. Name text n.0) (c ∷ cs) n.1) (sym (eqb-true c 124 p.0)) (barred_takes cs n p.1)
       | inr p ↦
           let q = provided (is_identifier (word_at (c ∷ cs)).0) _ n p.1 in
-          subst (λ (n : List ℕ × List ℕ). Takes (λ text. Name text n.0) (c ∷ cs) n.1) (some_is _ _ q.1) (word_takes (λ text. Name text (word_at (c ∷ cs)).0) (c ∷ cs) (Name.identifier q.0))
+          subst (λ (n : List ℕ × List ℕ). Takes (λ text. Name text n.0) (c ∷ cs) n.1) (some_is q.1) (word_takes (λ text. Name text (word_at (c ∷ cs)).0) (c ∷ cs) (Name.identifier q.0))
     ]
 
 pub tag_takes : (whole : List ℕ) (n : List ℕ × List ℕ) → tag_at whole ≡ Some n → Takes (λ text. Tag text n.0) whole n.1
@@ -260,7 +260,7 @@ tag_takes whole n e = behind_blanks (λ text. Tag text n.0) (λ c text is tag. T
         colon name is (Some m) marked e =
             let p = provided (eqb m.0 58) (Some (name.0, m.1)) n e in
             let mark = subst (λ (c : ℕ). Takes (Mark c) name.1 m.1) (eqb-true m.0 58 p.0) (mark_takes name.1 m marked) in
-            subst (λ (n : List ℕ × List ℕ). Takes (λ text. Tag text n.0) text n.1) (some_is _ _ p.1)
+            subst (λ (n : List ℕ × List ℕ). Takes (λ text. Tag text n.0) text n.1) (some_is p.1)
             (joined (λ text. Name text name.0) (Mark 58) (λ text. Tag text name.0) text name.1 m.1 (λ x y name mark. Tag.name name mark) (name_takes text name is) mark)
 
 -- ---- immediates
@@ -269,20 +269,20 @@ word_tells : (word : List ℕ) (w : ℤ) → word_value word ≡ Some w → Imme
 unfolding word_value
 word_tells word w e =
     elim (chosen (bytes_eq word (codes "nil")) _ _ _ e) [
-      | inl p ↦ subst (λ (x : List ℕ). Immediate x w) (sym ((bytes_eq-Decides word (codes "nil")).0 p.0)) (subst (Immediate (codes "nil")) (some_is _ _ p.1) Immediate.nil)
+      | inl p ↦ subst (λ (x : List ℕ). Immediate x w) (sym ((bytes_eq-Decides word (codes "nil")).0 p.0)) (subst (Immediate (codes "nil")) (some_is p.1) Immediate.nil)
       | inr p ↦ elim (chosen (bytes_eq word (codes "true")) _ _ _ p.1) [
-        | inl q ↦ subst (λ (x : List ℕ). Immediate x w) (sym ((bytes_eq-Decides word (codes "true")).0 q.0)) (subst (Immediate (codes "true")) (some_is _ _ q.1) Immediate.truth)
+        | inl q ↦ subst (λ (x : List ℕ). Immediate x w) (sym ((bytes_eq-Decides word (codes "true")).0 q.0)) (subst (Immediate (codes "true")) (some_is q.1) Immediate.truth)
         | inr q ↦
             let r = provided (is_number word && leb (number word) 536_870_911) _ w q.1 in
             let s = and_parts (is_number word) (leb (number word) 536_870_911) r.0 in
-            subst (Immediate word) (some_is _ _ r.1) (Immediate.integer s.0 (leb-true _ _ s.1))
+            subst (Immediate word) (some_is r.1) (Immediate.integer s.0 (leb-true _ _ s.1))
       ]
     ]
 
 pub plain_takes : (whole : List ℕ) (w : ℤ × List ℕ) → plain_at whole ≡ Some w → Takes (λ text. Immediate text w.0) whole w.1
 plain_takes whole w e =
     let a = bind_some (word_value (word_at whole).0) _ w e in
-    subst (λ (w : ℤ × List ℕ). Takes (λ text. Immediate text w.0) whole w.1) (some_is _ _ a.2) (word_takes (λ text. Immediate text a.0) whole (word_tells (word_at whole).0 a.0 a.1))
+    subst (λ (w : ℤ × List ℕ). Takes (λ text. Immediate text w.0) whole w.1) (some_is a.2) (word_takes (λ text. Immediate text a.0) whole (word_tells (word_at whole).0 a.0 a.1))
 
 pub negative_takes : (whole : List ℕ) (w : ℤ × List ℕ) → negative_at whole ≡ Some w → Takes (λ text. Immediate text w.0) (45 ∷ whole) w.1
 unfolding negative_at
@@ -290,7 +290,7 @@ negative_takes whole w e =
     let word = (word_at whole).0 in
     let p = provided (is_number word && leb (number word) 536_870_912) _ w e in
     let q = and_parts (is_number word) (leb (number word) 536_870_912) p.0 in
-    subst (λ (w : ℤ × List ℕ). Takes (λ text. Immediate text w.0) (45 ∷ whole) w.1) (some_is _ _ p.1)
+    subst (λ (w : ℤ × List ℕ). Takes (λ text. Immediate text w.0) (45 ∷ whole) w.1) (some_is p.1)
     (fronted (λ text. text ≡ word) (λ text. Immediate text (neg_ℤ (pos (4 * number word)))) 45 whole (word_at whole).1
     (λ x same. subst (λ (x : List ℕ). Immediate (45 ∷ x) (neg_ℤ (pos (4 * number word)))) (sym same) (Immediate.negative q.0 (leb-true _ _ q.1)))
     (word_takes (λ text. text ≡ word) whole refl))
@@ -303,7 +303,7 @@ code_word_takes whole w e =
     elim (chosen (a.0.0 % 4 == 1) _ _ _ a.2) [
       | inl p ↦ absurd cc
       | inr p ↦
-          subst (λ (w : ℤ × List ℕ). Takes (λ text. Immediate text w.0) (38 ∷ whole) w.1) (some_is _ _ p.1)
+          subst (λ (w : ℤ × List ℕ). Takes (λ text. Immediate text w.0) (38 ∷ whole) w.1) (some_is p.1)
           (record { text = 38 ∷ t.text; parts = ap (λ (x : List ℕ). 38 ∷ x) t.parts; is = Immediate.word t.is (eqb-false (a.0.0 % 4) 1 p.0) })
     ]
 
@@ -315,14 +315,14 @@ character_takes (c ∷ rest) w e =
       | inl p ↦
           let a = bind_some (hex_at 4 rest) _ w p.1 in
           let t = hex_takes 4 rest a.0 a.1 in
-          subst (λ (w : ℤ × List ℕ). Takes (λ text. Immediate text w.0) (36 ∷ c ∷ rest) w.1) (some_is _ _ a.2) (record {
+          subst (λ (w : ℤ × List ℕ). Takes (λ text. Immediate text w.0) (36 ∷ c ∷ rest) w.1) (some_is a.2) (record {
             text = 36 ∷ 92 ∷ t.text;
             parts = ap (λ (x : ℕ). 36 ∷ x ∷ rest) (eqb-true c 92 p.0) ∙ ap (λ (x : List ℕ). 36 ∷ 92 ∷ x) t.parts;
             is = Immediate.coded t.is;
           })
       | inr p ↦
           let q = provided (is_shown c) _ w p.1 in
-          subst (λ (w : ℤ × List ℕ). Takes (λ text. Immediate text w.0) (36 ∷ c ∷ rest) w.1) (some_is _ _ q.1) (record { text = 36 ∷ c ∷ []; parts = refl; is = Immediate.character q.0 })
+          subst (λ (w : ℤ × List ℕ). Takes (λ text. Immediate text w.0) (36 ∷ c ∷ rest) w.1) (some_is q.1) (record { text = 36 ∷ c ∷ []; parts = refl; is = Immediate.character q.0 })
     ]
 
 -- ---- the bytes of a large binary, with the closing mark
@@ -338,7 +338,7 @@ zeros_take whole found e =
     let q = and_parts (is_count word) (leb (number word) 1_000_000) p.0 in
     let r = bind_some (behind_mark 62 (first_of (word_at whole).1)) _ found p.1 in
     let parts : whole ≡ word ++ 62 ∷ r.0 = sym (take-append-drop (word_len whole) whole) ∙ ap (λ (x : List ℕ). word ++ x) (behind_tells 62 (word_at whole).1 r.0 r.1) in
-    subst (λ (f : List ℕ × List ℕ). (text : List ℕ) × (42 ∷ whole ≡ text ++ 62 ∷ f.1) × LargeBytes text f.0) (some_is _ _ r.2)
+    subst (λ (f : List ℕ × List ℕ). (text : List ℕ) × (42 ∷ whole ≡ text ++ 62 ∷ f.1) × LargeBytes text f.0) (some_is r.2)
     (42 ∷ word, ap (λ (x : List ℕ). 42 ∷ x) parts, LargeBytes.zeros q.0 (leb-true _ _ q.1))
 
 pub large_bytes_take : (whole : List ℕ) (found : List ℕ × List ℕ) → large_bytes_at whole ≡ Some found → TakesLarge whole found

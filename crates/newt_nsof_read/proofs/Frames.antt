@@ -11,7 +11,8 @@ use Rattle.newt_graph.specs.declared.node.Ref.TheVariants as refs
 use Rattle.newt_nsof.specs.Text.{Count, Label, Labels, Object, Objects}
 use Rattle.newt_nsof_read.specs.Met.{Met}
 use Rattle.newt_nsof_read.specs.Reading.{Reader, count_at, add, label_at, many_at, all_distinct, filled, frame_at, plain_array_at, array_at}
-use Rattle.newt_nsof_read.proofs.Fields.{bind_some, provided, some_is, Takes, Takes-then, count_takes}
+use Rattle.newt_graph.proofs.Options.{bind_some, provided, some_is}
+use Rattle.newt_nsof_read.proofs.Fields.{Takes, Takes-then, count_takes}
 use Rattle.newt_nsof_read.proofs.Distinct.{all_distinct_tells}
 use Rattle.newt_nsof_read.proofs.Names.{names, names-append, names-other, same_length}
 use Rattle.newt_nsof_read.proofs.Taken.{Taken, IsSound, add_adds, behind, label_sound, Lists, many_sound, many_length, label_lists}
@@ -58,7 +59,7 @@ frame_parts read met bytes found e =
       labelled = c.1;
       distinct = q.0;
       valued = q.1;
-      whole = some_is _ _ d.2;
+      whole = some_is d.2;
     }
 
 pub frame_sound : (wide : Bool) (room : ℕ) (read : Reader Ref) → IsSound (Object wide room) read → IsSound (behind 6 (Object wide (suc room))) (frame_at read)
@@ -122,7 +123,7 @@ plain_array_parts read met bytes found e =
     let b = bind_some (cond (leb a.0.0 65535) (add met (Array None [])) None) _ found a.2 in
     let d = bind_some (many_at read a.0.0 b.0.1 a.0.1) _ found b.2 in
     let p = provided (leb a.0.0 65535) (add met (Array None [])) b.0 b.1 in
-    record { count = a.0; opened = b.0; values = d.0; counted = a.1; few = leb-true _ _ p.0; adds = p.1; valued = d.1; whole = some_is _ _ d.2 }
+    record { count = a.0; opened = b.0; values = d.0; counted = a.1; few = leb-true _ _ p.0; adds = p.1; valued = d.1; whole = some_is d.2 }
 
 pub plain_array_sound : (wide : Bool) (room : ℕ) (read : Reader Ref) → IsSound (Object wide room) read → IsSound (behind 5 (Object wide (suc room))) (plain_array_at read)
 plain_array_sound wide room read sound met bytes found fits e =
@@ -175,7 +176,7 @@ array_parts read met bytes found e =
     let c = bind_some (label_at b.0.1 a.0.1) _ found b.2 in
     let d = bind_some (many_at read a.0.0 c.0.1 c.0.2) _ found c.2 in
     let p = provided (leb a.0.0 65535) (add met (Array None [])) b.0 b.1 in
-    record { count = a.0; opened = b.0; label = c.0; values = d.0; counted = a.1; few = leb-true _ _ p.0; adds = p.1; labelled = c.1; valued = d.1; whole = some_is _ _ d.2 }
+    record { count = a.0; opened = b.0; label = c.0; values = d.0; counted = a.1; few = leb-true _ _ p.0; adds = p.1; labelled = c.1; valued = d.1; whole = some_is d.2 }
 
 pub array_sound : (wide : Bool) (room : ℕ) (read : Reader Ref) → IsSound (Object wide room) read → IsSound (behind 4 (Object wide (suc room))) (array_at read)
 array_sound wide room read sound met bytes found fits e =

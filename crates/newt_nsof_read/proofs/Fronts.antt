@@ -8,7 +8,8 @@ use Rattle.newt_graph.specs.declared.node.Node.TheVariants.{Array, Frame}
 use Rattle.newt_graph.specs.declared.node.Ref.{Ref}
 use Rattle.newt_graph.specs.Steps.{◌>>=◌}
 use Rattle.newt_nsof.specs.Text.{SymbolText, Again, Object}
-use Rattle.newt_graph.proofs.Grows.{get_append}
+use Rattle.newt_graph.proofs.Options.{bind_some, unless, provided, some_is}
+use Rattle.newt_graph.proofs.Elements.{get_append}
 use Rattle.newt_nsof_read.specs.declared.tag.Tag.{Tag}
 use Rattle.newt_nsof_read.specs.declared.tag.Tag.TheVariants as tags
 use Rattle.newt_nsof_read.specs.declared.open.Kind.{Kind}
@@ -21,7 +22,7 @@ use Rattle.newt_nsof_read.specs.Met.{Met}
 use Rattle.newt_nsof_read.specs.Opened.{Opened}
 use Rattle.newt_nsof_read.specs.Reading.{Fails, add, count_at, label_at, many_at, all_distinct, frame_at, array_at, plain_array_at, tag_of, object_by, tagged_at, object_at, is_other}
 use Rattle.newt_nsof_read.specs.Stack.{just_opened, closed, rest_at, resumed, whole, as_front, opens, leaf_by, frame_front, plain_array_front, array_front, front_by, allowed, front_of, FrontIsOpen}
-use Rattle.newt_nsof_read.proofs.Fields.{IsBytes, IsBytes-rest, bind_some, unless, provided, some_is, Takes, Takes-then, count_takes}
+use Rattle.newt_nsof_read.proofs.Fields.{IsBytes, IsBytes-rest, Takes, Takes-then, count_takes}
 use Rattle.newt_nsof_read.proofs.Taken.{Added, add_adds, label_sound, many_sound, label_lists, stays_open}
 use Rattle.newt_nsof_read.proofs.Sound.{object_sound}
 use Rattle.newt_nsof_read.proofs.Stacks.{bind_through, resumed_none, Stays}
@@ -186,7 +187,7 @@ leaf_takes wide b tag met rest found fits is e =
 leaf_front : (wide : Bool) (b : ℕ) (tag : Tag) (met : Met) (rest : List ℕ) (found : Front × Met × List ℕ) → IsBytes (b ∷ rest) → tag_of b ≡ Some tag → (leaf_by wide met rest tag >>= as_front) ≡ Some found → FrontTaken met (b ∷ rest) found
 leaf_front wide b tag met rest found fits is e =
     let a = bind_some (leaf_by wide met rest tag) as_front found e in
-    subst (FrontTaken met (b ∷ rest)) (some_is _ _ a.2) (leaf_takes wide b tag met rest a.0 fits is a.1)
+    subst (FrontTaken met (b ∷ rest)) (some_is a.2) (leaf_takes wide b tag met rest a.0 fits is a.1)
 
 -- a container that was opened, and what was read of it
 opened_front : (met then : Met) (b : ℕ) (bytes text rest : List ℕ) (node : Node) (opened : ℕ × Met) (new : List Node) (kind : Kind) (count : ℕ)
@@ -209,7 +210,7 @@ frame_takes b met bytes found fits e =
     let few = provided (leb count.0.0 65535) (add met (Frame [] [])) opened.0 opened.1 in
     let counted = count_takes bytes count.0 fits count.1 in
     let labelled = many_sound label_lists label_at label_sound count.0.0 opened.0.1 count.0.1 labels.0 counted.2.rest_fits labels.1 in
-    subst (FrontTaken met (b ∷ bytes)) (some_is _ _ distinct.1)
+    subst (FrontTaken met (b ∷ bytes)) (some_is distinct.1)
     (opened_front met labels.0.1 b bytes (counted.0 ++ labelled.text) labels.0.2 (Frame [] []) opened.0 labelled.new (kinds.Frame labels.0.0) count.0.0 refl (add_adds met (Frame [] []) opened.0 few.1) labelled.grown
     (Takes-then bytes counted.0 count.0.1 labelled.text labels.0.2 counted.2 labelled.takes))
 
@@ -220,7 +221,7 @@ plain_array_takes b met bytes found fits e =
     let opened = bind_some (cond (leb count.0.0 65535) (add met (Array None [])) None) _ found count.2 in
     let few = provided (leb count.0.0 65535) (add met (Array None [])) opened.0 opened.1 in
     let counted = count_takes bytes count.0 fits count.1 in
-    subst (FrontTaken met (b ∷ bytes)) (some_is _ _ opened.2)
+    subst (FrontTaken met (b ∷ bytes)) (some_is opened.2)
     (opened_front met opened.0.1 b bytes counted.0 count.0.1 (Array None []) opened.0 [] (kinds.Array None) count.0.0 refl (add_adds met (Array None []) opened.0 few.1) (sym (append-nil opened.0.1.nodes)) counted.2)
 
 array_takes : (b : ℕ) (met : Met) (bytes : List ℕ) (found : Front × Met × List ℕ) → IsBytes bytes → array_front met bytes ≡ Some found → FrontTaken met (b ∷ bytes) found
@@ -232,7 +233,7 @@ array_takes b met bytes found fits e =
     let few = provided (leb count.0.0 65535) (add met (Array None [])) opened.0 opened.1 in
     let counted = count_takes bytes count.0 fits count.1 in
     let labelled = label_sound opened.0.1 count.0.1 label.0 counted.2.rest_fits label.1 in
-    subst (FrontTaken met (b ∷ bytes)) (some_is _ _ label.2)
+    subst (FrontTaken met (b ∷ bytes)) (some_is label.2)
     (opened_front met label.0.1 b bytes (counted.0 ++ labelled.text) label.0.2 (Array None []) opened.0 labelled.new (kinds.Array (Some label.0.0)) count.0.0 refl (add_adds met (Array None []) opened.0 few.1) labelled.grown
     (Takes-then bytes counted.0 count.0.1 labelled.text label.0.2 counted.2 labelled.takes))
 

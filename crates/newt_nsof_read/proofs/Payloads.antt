@@ -14,7 +14,8 @@ use Rattle.newt_graph.specs.Steps.{◌>>=◌}
 use Rattle.newt_nsof.specs.Text.{Count, units_text, sides, corners, Label, Object}
 use Rattle.newt_nsof_read.specs.Met.{Met}
 use Rattle.newt_nsof_read.specs.Reading.{count_at, add, intern_each, rectangle_at, label_at, many_at, filled, unit_at, is_text_count, behind_zero, string_at, binary_at, large_data_at, large_at}
-use Rattle.newt_nsof_read.proofs.Fields.{IsBytes, IsBytes-take, IsBytes-drop, bind_some, unless, provided, some_is, Takes, Takes-then, count_takes}
+use Rattle.newt_graph.proofs.Options.{bind_some, unless, provided, some_is}
+use Rattle.newt_nsof_read.proofs.Fields.{IsBytes, IsBytes-take, IsBytes-drop, Takes, Takes-then, count_takes}
 use Rattle.newt_nsof_read.proofs.Larges.{large_takes}
 use Rattle.newt_nsof_read.proofs.Names.{names, names-other, same_length}
 use Rattle.newt_nsof_read.proofs.Taken.{Taken, IsSound, add_adds, interned_each, behind, label_sound}
@@ -35,19 +36,19 @@ unit_takes met (high ∷ low ∷ rest) found fits e =
     let l : low < 256 = fits 1 in
     let first : (256 * high + low) / 256 ≡ high = omega arith in
     let second : (256 * high + low) % 256 ≡ low = omega arith in
-    subst (λ (f : ℕ × Met × List ℕ). Takes (high ∷ low ∷ rest) (f.0 / 256 ∷ f.0 % 256 ∷ []) f.2 × (f.0 < 65536)) (some_is _ _ e)
+    subst (λ (f : ℕ × Met × List ℕ). Takes (high ∷ low ∷ rest) (f.0 / 256 ∷ f.0 % 256 ∷ []) f.2 × (f.0 < 65536)) (some_is e)
     (rw (first, second) (record { parts = refl; rest_fits = λ i. fits (suc (suc i)) }), omega arith)
 
 units_take : (n : ℕ) (met : Met) (bytes : List ℕ) (found : List ℕ × Met × List ℕ) → IsBytes bytes → many_at unit_at n met bytes ≡ Some found → UnitsTaken met n bytes found
 unfolding many_at
 units_take zero met bytes found fits e =
-    subst (UnitsTaken met 0 bytes) (some_is _ _ e) (record { takes = record { parts = refl; rest_fits = fits }; each = All-nil (λ u. u < 65536); long = refl })
+    subst (UnitsTaken met 0 bytes) (some_is e) (record { takes = record { parts = refl; rest_fits = fits }; each = All-nil (λ u. u < 65536); long = refl })
 units_take (suc n) met bytes found fits e =
     let a = bind_some (unit_at met bytes) (λ first. many_at unit_at n first.1 first.2 >>= λ others. Some (first.0 ∷ others.0, others.1, others.2)) found e in
     let b = bind_some (many_at unit_at n a.0.1 a.0.2) (λ others. Some (a.0.0 ∷ others.0, others.1, others.2)) found a.2 in
     let first = unit_takes met bytes a.0 fits a.1 in
     let others = units_take n a.0.1 a.0.2 b.0 first.0.rest_fits b.1 in
-    subst (UnitsTaken met (suc n) bytes) (some_is _ _ b.2) (record {
+    subst (UnitsTaken met (suc n) bytes) (some_is b.2) (record {
       takes = Takes-then bytes (a.0.0 / 256 ∷ a.0.0 % 256 ∷ []) a.0.2 (units_text b.0.0) b.0.2 first.0 others.takes;
       each = All-cons (λ u. u < 65536) a.0.0 b.0.0 first.1 others.each;
       long = ap suc others.long;
@@ -72,7 +73,7 @@ string_sound wide room met bytes found fits e =
     let units = units_take (a.0.0 / 2 - 1) met a.0.1 b.0 count.2.rest_fits p.1 in
     let last = unit_takes met b.0.2 c.0 units.takes.rest_fits c.1 in
     let zero_is : c.0.0 ≡ 0 = eqb-true _ _ z.0 in
-    let rest_is : c.0.2 ≡ d.0 = some_is _ _ z.1 in
+    let rest_is : c.0.2 ≡ d.0 = some_is z.1 in
     let ended : Takes b.0.2 (0 ∷ 0 ∷ []) d.0 = subst (λ (r : List ℕ). Takes b.0.2 (0 ∷ 0 ∷ []) r) rest_is (subst (λ (u : ℕ). Takes b.0.2 (u / 256 ∷ u % 256 ∷ []) c.0.2) zero_is last.0) in
     let added = add_adds met (Str b.0.0) f.0 f.1 in
     let len : a.0.0 ≡ 2 * length b.0.0 + 2 = omega (arith, units.long, even, some) in
@@ -88,7 +89,7 @@ string_sound wide room met bytes found fits e =
           let length_is : length met.nodes ≡ length before = same_length met.nodes before same in
           rw (added.n, added.numbered, length_is) (Object.string (subst (Count count.0) len count.1) text_is);
     } in
-    subst (Taken (behind 8 (Object wide room)) met bytes) (some_is _ _ f.2) taken
+    subst (Taken (behind 8 (Object wide room)) met bytes) (some_is f.2) taken
 
 -- ---- binaries
 
@@ -111,7 +112,7 @@ binary_parts met bytes found e =
     let c = bind_some (label_at b.0.1 a.0.1) _ found b.2 in
     let p = provided (leb a.0.0 1000000) (add met (Binary 0 [])) b.0 b.1 in
     let u = unless (ltb (length c.0.2) a.0.0) _ found c.2 in
-    record { count = a.0; opened = b.0; label = c.0; counted = a.1; few = leb-true _ _ p.0; adds = p.1; labelled = c.1; long = ltb-false _ _ u.0; whole = some_is _ _ u.1 }
+    record { count = a.0; opened = b.0; label = c.0; counted = a.1; few = leb-true _ _ p.0; adds = p.1; labelled = c.1; long = ltb-false _ _ u.0; whole = some_is u.1 }
 
 pub binary_sound : (wide : Bool) (room : ℕ) → IsSound (behind 3 (Object wide room)) binary_at
 binary_sound wide room met bytes found fits e =
@@ -165,7 +166,7 @@ large_parts wide met bytes found e =
     let a = bind_some (add met (Large 0 [])) _ found e in
     let b = bind_some (label_at a.0.1 bytes) _ found a.2 in
     let c = bind_some (large_data_at wide b.0.2) _ found b.2 in
-    record { opened = a.0; label = b.0; payload = c.0; adds = a.1; labelled = b.1; read = c.1; whole = some_is _ _ c.2 }
+    record { opened = a.0; label = b.0; payload = c.0; adds = a.1; labelled = b.1; read = c.1; whole = some_is c.2 }
 
 pub large_sound : (wide : Bool) (room : ℕ) → IsSound (behind 12 (Object wide room)) (large_at wide)
 large_sound wide room met bytes found fits e =
@@ -209,7 +210,7 @@ unfolding rectangle_at
 rectangle_parts met top left bottom right rest found e =
     let a = bind_some (add met (Frame [] [])) _ found e in
     let b = bind_some (intern_each a.0.1 sides) _ found a.2 in
-    record { opened = a.0; tags = b.0; adds = a.1; tagged = b.1; whole = some_is _ _ b.2 }
+    record { opened = a.0; tags = b.0; adds = a.1; tagged = b.1; whole = some_is b.2 }
 
 rectangle_taken : (wide : Bool) (room : ℕ) (met : Met) (top left bottom right : ℕ) (rest : List ℕ) (found : Ref × Met × List ℕ) → IsBytes (top ∷ left ∷ bottom ∷ right ∷ rest) → rectangle_at met (top ∷ left ∷ bottom ∷ right ∷ rest) ≡ Some found
     → Taken (behind 11 (Object wide (suc room))) met (top ∷ left ∷ bottom ∷ right ∷ rest) found

@@ -8,13 +8,14 @@ use Rattle.newt_graph.specs.declared.node.Node.TheVariants.{Symbol}
 use Rattle.newt_graph.specs.Steps.{◌>>=◌}
 use Rattle.newt_graph.specs.Draft.{find_alike}
 use Rattle.newt_nsof.specs.Text.{Interned, InternedEach, SymbolText, Again, Label, Labels}
-use Rattle.newt_graph.proofs.Grows.{get_append, get_seam}
+use Rattle.newt_graph.proofs.Options.{bind_some, chosen, provided, some_is}
+use Rattle.newt_graph.proofs.Elements.{get_append, get_seam}
 use Rattle.newt_graph.proofs.Drafts.{none_alike, alike_found}
 use Rattle.newt_nsof_read.specs.declared.tag.Tag.{Tag}
 use Rattle.newt_nsof_read.specs.declared.tag.Tag.TheVariants as tags
 use Rattle.newt_nsof_read.specs.Met.{Met}
 use Rattle.newt_nsof_read.specs.Reading.{Reader, count_at, name_at, push, add, known, numbering, intern, intern_each, numbered_at, symbol_at, symbol_only, is_symbol_at, is_other, tag_of, label_by, label_at, many_at}
-use Rattle.newt_nsof_read.proofs.Fields.{IsBytes, IsBytes-rest, bind_some, chosen, provided, some_is, Takes, Takes-then, Takes-after, count_takes, name_takes}
+use Rattle.newt_nsof_read.proofs.Fields.{IsBytes, IsBytes-rest, Takes, Takes-then, Takes-after, count_takes, name_takes}
 use Rattle.newt_nsof_read.proofs.Names.{names, names-append, same_length, IsAlike-moved, IsSymbol-moved, is_symbol_tells}
 
 -- how a text spells a value after some nodes and numbered objects: the nodes that it adds, and the numbered objects after it
@@ -52,14 +53,14 @@ push_pushes : (met : Met) (node : Node) (found : ℕ × Met) → push met node �
 unfolding push
 push_pushes met node found e =
     let p = provided (ltb (length met.nodes) 65535) _ found e in
-    subst (Pushed met node) (some_is _ _ p.1) (record { n = refl; nodes = refl; numbered = refl; few = omega (arith, ltb-true _ _ p.0, length_push met.nodes node) })
+    subst (Pushed met node) (some_is p.1) (record { n = refl; nodes = refl; numbered = refl; few = omega (arith, ltb-true _ _ p.0, length_push met.nodes node) })
 
 pub add_adds : (met : Met) (node : Node) (found : ℕ × Met) → add met node ≡ Some found → Added met node found
 unfolding add
 add_adds met node found e =
     let a = bind_some (push met node) (λ found. Some (found.0, numbering found.1 found.0)) found e in
     let p = push_pushes met node a.0 a.1 in
-    subst (Added met node) (some_is _ _ a.2) (record { n = p.n; nodes = p.nodes; numbered = rw (p.n, p.numbered) refl; few = p.few })
+    subst (Added met node) (some_is a.2) (record { n = p.n; nodes = p.nodes; numbered = rw (p.n, p.numbered) refl; few = p.few })
 
 -- ---- symbols
 
@@ -99,7 +100,7 @@ unfolding intern
 interned met name found e = go (find_alike name met.nodes) refl e
   where
     go : (o : Option ℕ) → find_alike name met.nodes ≡ o → known met name o ≡ Some found → Known met name found
-    go (Some k) f e = subst (Known met name) (some_is _ _ e) (known_old met name k f)
+    go (Some k) f e = subst (Known met name) (some_is e) (known_old met name k f)
     go None f e = known_new met name found f e
 
 -- the same for names one after another
@@ -112,13 +113,13 @@ pub record KnownEach (met : Met) (these : List (List ℕ)) (found : List ℕ × 
 
 pub interned_each : (these : List (List ℕ)) (met : Met) (found : List ℕ × Met) → intern_each met these ≡ Some found → KnownEach met these found
 unfolding intern_each
-interned_each [] met found e = subst (KnownEach met []) (some_is _ _ e) (record { new = []; grown = sym (append-nil met.nodes); few = λ h. h; numbered = refl; interned = λ before same. InternedEach.none })
+interned_each [] met found e = subst (KnownEach met []) (some_is e) (record { new = []; grown = sym (append-nil met.nodes); few = λ h. h; numbered = refl; interned = λ before same. InternedEach.none })
 interned_each (name ∷ these) met found e =
     let a = bind_some (intern met name) _ found e in
     let b = bind_some (intern_each a.0.1 these) _ found a.2 in
     let first = interned met name a.0 a.1 in
     let others = interned_each these a.0.1 b.0 b.1 in
-    subst (KnownEach met (name ∷ these)) (some_is _ _ b.2) (record {
+    subst (KnownEach met (name ∷ these)) (some_is b.2) (record {
       new = first.new ++ others.new;
       grown = others.grown ∙ ap (λ (x : List Node). x ++ others.new) first.grown ∙ append_assoc met.nodes first.new others.new;
       few = λ h. others.few (first.few h);
@@ -146,7 +147,7 @@ symbol_sound met bytes found fits e =
       few = k.few;
       spelled = λ before same. rw k.numbered (SymbolText.symbol t.1 t.2 (k.interned before same));
     } in
-    subst (Taken (behind 7 SymbolText) met bytes) (some_is _ _ b.2) made
+    subst (Taken (behind 7 SymbolText) met bytes) (some_is b.2) made
 
 -- ---- numbered objects
 
@@ -159,7 +160,7 @@ numbered_takes met bytes found fits e =
     let a = bind_some (count_at bytes) (λ place. slice_get met.numbered place.0 >>= λ k. Some (k, place.1)) found e in
     let b = bind_some (slice_get met.numbered a.0.0) (λ k. Some (k, a.0.1)) found a.2 in
     let t = count_takes bytes a.0 fits a.1 in
-    subst (λ (f : ℕ × List ℕ). (text : List ℕ) × Again met.numbered (9 ∷ text) f.0 × Takes bytes text f.1) (some_is _ _ b.2) (t.0, Again.again t.1 b.1, t.2)
+    subst (λ (f : ℕ × List ℕ). (text : List ℕ) × Again met.numbered (9 ∷ text) f.0 × Takes bytes text f.1) (some_is b.2) (t.0, Again.again t.1 b.1, t.2)
 
 -- ---- tags
 
@@ -199,7 +200,7 @@ tag_tells b tag e =
     step : (b n : ℕ) (this : Tag) (others : Option Tag) (tag : Tag) → byte_of this ≡ n → cond (eqb b n) (Some this) others ≡ Some tag → (others ≡ Some tag → b ≡ byte_of tag) → b ≡ byte_of tag
     step b n this others tag is e more =
         elim (chosen (eqb b n) (Some this) others (Some tag) e) [
-          | inl p ↦ eqb-true b n p.0 ∙ sym is ∙ ap byte_of (some_is this tag p.1)
+          | inl p ↦ eqb-true b n p.0 ∙ sym is ∙ ap byte_of (some_is {x = this} {y = tag} p.1)
           | inr p ↦ more p.1
         ]
 
@@ -235,7 +236,7 @@ label_by_sound met rest tags.Again b found fits is e =
     let a = bind_some (numbered_at met rest) (symbol_only met) found e in
     let p = provided (is_symbol_at met a.0.0) _ found a.2 in
     let t = numbered_takes met rest a.0 fits a.1 in
-    at_tag 9 b rest found (tag_tells b tags.Again is) (subst (Taken Label met (9 ∷ rest)) (some_is _ _ p.1) (again_taken met rest a.0 p.0 t))
+    at_tag 9 b rest found (tag_tells b tags.Again is) (subst (Taken Label met (9 ∷ rest)) (some_is p.1) (again_taken met rest a.0 p.0 t))
 label_by_sound met rest tags.Word b found fits is e = absurd cc
 label_by_sound met rest tags.Character b found fits is e = absurd cc
 label_by_sound met rest tags.WideCharacter b found fits is e = absurd cc
@@ -266,7 +267,7 @@ pub record Lists {A : Type 0} (one : Spelling A) (many : Spelling (List A)) : Ty
 pub many_sound : {A : Type 0} {one : Spelling A} {many : Spelling (List A)} (lists : Lists one many) (read : Reader A) → IsSound one read → (n : ℕ) → IsSound many (many_at read n)
 unfolding many_at
 many_sound {A} {one} {many} lists read sound zero met bytes found fits e =
-    subst (Taken many met bytes) (some_is _ _ e) (record {
+    subst (Taken many met bytes) (some_is e) (record {
       text = [];
       new = [];
       takes = record { parts = refl; rest_fits = fits };
@@ -289,15 +290,15 @@ many_sound {A} {one} {many} lists read sound (suc n) met bytes found fits e =
           (first.spelled before same)
           (others.spelled (before ++ first.new) (ap names first.grown ∙ names-append met.nodes before first.new same));
     } in
-    subst (Taken many met bytes) (some_is _ _ b.2) made
+    subst (Taken many met bytes) (some_is b.2) made
 
 pub many_length : {A : Type 0} (read : Reader A) (n : ℕ) (met : Met) (bytes : List ℕ) (found : List A × Met × List ℕ) → many_at read n met bytes ≡ Some found → length found.0 ≡ n
 unfolding many_at
-many_length read zero met bytes found e = ap (λ (f : List _ × Met × List ℕ). length f.0) (sym (some_is _ _ e))
+many_length read zero met bytes found e = ap (λ (f : List _ × Met × List ℕ). length f.0) (sym (some_is e))
 many_length read (suc n) met bytes found e =
     let a = bind_some (read met bytes) (λ first. many_at read n first.1 first.2 >>= λ others. Some (first.0 ∷ others.0, others.1, others.2)) found e in
     let b = bind_some (many_at read n a.0.1 a.0.2) (λ others. Some (a.0.0 ∷ others.0, others.1, others.2)) found a.2 in
-    ap (λ (f : List _ × Met × List ℕ). length f.0) (sym (some_is _ _ b.2)) ∙ ap suc (many_length read n a.0.1 a.0.2 b.0 b.1)
+    ap (λ (f : List _ × Met × List ℕ). length f.0) (sym (some_is b.2)) ∙ ap suc (many_length read n a.0.1 a.0.2 b.0 b.1)
 
 pub label_lists : Lists Label Labels
 label_lists = record {

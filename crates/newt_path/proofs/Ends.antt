@@ -7,7 +7,7 @@ use Rattle.newt_graph.specs.declared.node.Node.TheVariants.{Symbol, Str, Binary,
 use Rattle.newt_graph.specs.declared.node.Ref.{Ref}
 use Rattle.newt_graph.specs.declared.node.Ref.TheVariants as refs
 use Rattle.newt_graph.specs.Graph.{RawGraph, IsName}
-use Rattle.newt_graph.proofs.Grows.{get_seam}
+use Rattle.newt_graph.proofs.Elements.{get_seam}
 use Rattle.std.proofs.lemmas.Option.{slice_get_within, get_or_from_slice_get}
 use Rattle.newt_path.specs.Names.{IsPath}
 use Rattle.newt_spec_graph.specs.Slots.{frame_number, value_below, but_last, put, put_into}

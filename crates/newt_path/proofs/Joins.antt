@@ -11,10 +11,11 @@ use Rattle.newt_graph.specs.declared.node.Ref.TheVariants as refs
 use Rattle.newt_graph.specs.Graph.{RawGraph, IsGraph, IsNode, IsSymbol, IsAlike, AreFoldedOnce, folded}
 use Rattle.newt_graph.specs.Raw.{renamed_ref, renamed, labels_of, values_of, IsValue}
 use Rattle.newt_graph.specs.Draft.{IsJoinedNode}
-use Rattle.newt_spec_graph.specs.Slots.{goes_to, new_nodes, known_number}
-use Rattle.newt_graph.proofs.Grows.{some_is}
+use Rattle.newt_graph.specs.Import.{known_as}
+use Rattle.newt_spec_graph.specs.Slots.{goes_to, new_nodes}
+use Rattle.newt_graph.proofs.Options.{some_is}
+use Rattle.newt_graph.proofs.Elements.{any_at}
 use Rattle.newt_graph.proofs.Drafts.{symbol_append}
-use Rattle.newt_graph.proofs.Form.{any_at}
 use Rattle.newt_path.proofs.Below.{nodes_within}
 use Rattle.newt_path.proofs.Numbers.{joined, symbol_lands, lands_within}
 
@@ -123,7 +124,7 @@ behind_joined old v graph h =
     All-append (IsJoinedNode all) old added (append_joined old added h)
     (All-map (IsJoinedNode all) (λ k. renamed to k.1) (new_nodes old v.nodes)
     (All-weaker (λ k. IsJoinedNode v.nodes k.1) (λ k. IsJoinedNode all (renamed to k.1)) (λ k. renamed_joined old v graph.folded_once k.1) (new_nodes old v.nodes)
-    (All-filter (λ k. is_none (known_number old k.1)) (λ k. IsJoinedNode v.nodes k.1) (enumerate_from 0 v.nodes) (all_numbered (IsJoinedNode v.nodes) 0 v.nodes (graph_joined v graph)))))
+    (All-filter (λ k. is_none (known_as old k.1)) (λ k. IsJoinedNode v.nodes k.1) (enumerate_from 0 v.nodes) (all_numbered (IsJoinedNode v.nodes) 0 v.nodes (graph_joined v graph)))))
 
 -- ---- one node in another's place
 

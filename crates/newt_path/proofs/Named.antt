@@ -12,7 +12,8 @@ use Rattle.newt_graph.specs.declared.node.Node.TheVariants.{Symbol}
 use Rattle.newt_graph.specs.Graph.{IsAlike, AreFoldedOnce, payload}
 use Rattle.newt_graph.specs.Draft.{find_alike, known, with_symbol}
 use Rattle.newt_spec_graph.specs.Slots.{is_named, symbol_number, new_nodes}
-use Rattle.newt_graph.proofs.Grows.{some_is, get_seam}
+use Rattle.newt_graph.proofs.Options.{some_is}
+use Rattle.newt_graph.proofs.Elements.{get_seam}
 use Rattle.newt_graph.proofs.Drafts.{none_alike}
 use Rattle.newt_path.proofs.Numbers.{found_is_number, alike_named, alike_from_named, number_alike}
 
@@ -61,10 +62,10 @@ self_named name = alike_named name name refl
 named_old : (nodes : List Node) (name : List ℕ) (k : ℕ) → AreFoldedOnce nodes → symbol_number nodes name ≡ Some k → IsNamedBy nodes name k
 unfolding with_symbol
 named_old nodes name k once e =
-    let none : map (λ m. m.1) (new_nodes nodes (Symbol name ∷ [])) ≡ [] = rw e refl in
+    let found : find_alike name nodes ≡ Some k = found_is_number name nodes ∙ e in
+    let none : map (λ m. m.1) (new_nodes nodes (Symbol name ∷ [])) ≡ [] = rw found refl in
     let same : named nodes name ≡ nodes = ap (λ (ns : List Node). nodes ++ ns) none ∙ append-nil nodes in
     let here : IsAlike nodes k name = number_alike nodes name k e in
-    let found : find_alike name nodes ≡ Some k = found_is_number name nodes ∙ e in
     record {
       made = ap (known nodes name) found ∙ ap (λ (ns : List Node). Some (k, ns)) (sym same);
       all = inl same;
@@ -91,9 +92,9 @@ named_old nodes name k once e =
 named_new : (nodes : List Node) (name : List ℕ) → length nodes ≤ 65535 → symbol_number nodes name ≡ None → IsNamedBy nodes name (length nodes)
 unfolding with_symbol
 named_new nodes name few e =
-    let new : map (λ m. m.1) (new_nodes nodes (Symbol name ∷ [])) ≡ Symbol name ∷ [] = rw e refl in
-    let all : named nodes name ≡ nodes ++ Symbol name ∷ [] = ap (λ (ns : List Node). nodes ++ ns) new in
     let found : find_alike name nodes ≡ None = found_is_number name nodes ∙ e in
+    let new : map (λ m. m.1) (new_nodes nodes (Symbol name ∷ [])) ≡ Symbol name ∷ [] = rw found refl in
+    let all : named nodes name ≡ nodes ++ Symbol name ∷ [] = ap (λ (ns : List Node). nodes ++ ns) new in
     let sum : 0 + length nodes ≡ length nodes = omega arith in
     let room : known nodes name None ≡ Some (length nodes, nodes ++ Symbol name ∷ []) = rw (lt-ltb (length nodes) 131072 (omega (arith, few))) refl in
     record {

@@ -18,10 +18,10 @@ use Rattle.newt_graph.specs.Graph.{RawGraph, IsGraph, IsAlike, payload, folded}
 use Rattle.newt_graph.specs.Raw.{renamed_ref, renamed, IsValue}
 use Rattle.newt_graph.specs.Draft.{is_alike, find_alike}
 use Rattle.newt_graph.specs.Import.{known_as, numbers_from, kept_of, looked_up, behind, with_graph}
-use Rattle.newt_spec_graph.specs.Slots.{is_named, symbol_number, known_number, new_nodes, goes_to}
-use Rattle.newt_graph.proofs.Grows.{some_is}
-use Rattle.newt_graph.proofs.Drafts.{bytes_eq-sym, alike_append}
-use Rattle.newt_graph.proofs.Form.{at_map, any_at}
+use Rattle.newt_spec_graph.specs.Slots.{is_named, symbol_number, new_nodes, goes_to}
+use Rattle.newt_graph.proofs.Options.{some_is}
+use Rattle.newt_graph.proofs.Elements.{at_map, any_at}
+use Rattle.newt_graph.proofs.Drafts.{bytes_eq-sym, alike_append, alike_found}
 use Rattle.newt_path.proofs.Below.{Within, nodes_within, root_within}
 
 -- ---- the same symbols are found
@@ -42,14 +42,6 @@ pub found_is_number : (name : List ℕ) (nodes : List Node) → find_alike name 
 unfolding find_alike
 found_is_number name nodes =
     position_from-same (is_alike name) (λ node. is_named name (Some node)) (alike_is_named name) 0 nodes ∙ sym (position_from-zero (λ node. is_named name (Some node)) nodes)
-
-known_is_number : (old : List Node) (node : Node) → known_as old node ≡ known_number old node
-known_is_number old (Symbol name) = found_is_number name old
-known_is_number old (Str u) = refl
-known_is_number old (Binary c u) = refl
-known_is_number old (Large c u) = refl
-known_is_number old (Array c u) = refl
-known_is_number old (Frame c u) = refl
 
 -- a node that passes is a symbol of that name but for the case of its letters
 named_symbol : (name : List ℕ) (node : Node) → is_named name (Some node) ≡ true → (other : List ℕ) × (node ≡ Symbol other) × (folded other ≡ folded name)
@@ -76,7 +68,7 @@ number_alike nodes name k e =
 
 -- the nodes that the old ones lack, numbered from i on
 abbrev pub lacking : List Node → ℕ → List Node → List (ℕ × Node)
-lacking old i new = filter (λ k. is_none (known_number old k.1)) (enumerate_from i new)
+lacking old i new = filter (λ k. is_none (known_as old k.1)) (enumerate_from i new)
 
 abbrev place_of : ℕ → List (ℕ × Node) → ℕ
 place_of j ks = position_or_len (λ m. m.0 == j) ks
@@ -87,57 +79,57 @@ place_here i j x ks e = rw e refl
 place_next : (i j : ℕ) (x : Node) (ks : List (ℕ × Node)) → eqb i j ≡ false → place_of j ((i, x) ∷ ks) ≡ suc (place_of j ks)
 place_next i j x ks e = let next : 1 + place_of j ks ≡ suc (place_of j ks) = omega arith in rw e next
 
-lacks_known : (old : List Node) (i j : ℕ) (x : Node) (xs : List Node) → known_number old x ≡ Some j → lacking old i (x ∷ xs) ≡ lacking old (i + 1) xs
+lacks_known : (old : List Node) (i j : ℕ) (x : Node) (xs : List Node) → known_as old x ≡ Some j → lacking old i (x ∷ xs) ≡ lacking old (i + 1) xs
 lacks_known old i j x xs e = rw e refl
 
-lacks_new : (old : List Node) (i : ℕ) (x : Node) (xs : List Node) → known_number old x ≡ None → lacking old i (x ∷ xs) ≡ (i, x) ∷ lacking old (i + 1) xs
+lacks_new : (old : List Node) (i : ℕ) (x : Node) (xs : List Node) → known_as old x ≡ None → lacking old i (x ∷ xs) ≡ (i, x) ∷ lacking old (i + 1) xs
 lacks_new old i x xs e = rw e refl
 
-numbers_known : (old : List Node) (n j : ℕ) (x : Node) (xs : List Node) → known_number old x ≡ Some j → numbers_from old n (x ∷ xs) ≡ j ∷ numbers_from old n xs
+numbers_known : (old : List Node) (n j : ℕ) (x : Node) (xs : List Node) → known_as old x ≡ Some j → numbers_from old n (x ∷ xs) ≡ j ∷ numbers_from old n xs
 unfolding numbers_from
-numbers_known old n j x xs e = let k : known_as old x ≡ Some j = known_is_number old x ∙ e in rw (k, numbers_from) refl
+numbers_known old n j x xs e = rw (e, numbers_from) refl
 
-numbers_new : (old : List Node) (n : ℕ) (x : Node) (xs : List Node) → known_number old x ≡ None → numbers_from old n (x ∷ xs) ≡ n ∷ numbers_from old (n + 1) xs
+numbers_new : (old : List Node) (n : ℕ) (x : Node) (xs : List Node) → known_as old x ≡ None → numbers_from old n (x ∷ xs) ≡ n ∷ numbers_from old (n + 1) xs
 unfolding numbers_from
-numbers_new old n x xs e = let k : known_as old x ≡ None = known_is_number old x ∙ e in rw (k, numbers_from) refl
+numbers_new old n x xs e = rw (e, numbers_from) refl
 
-kept_known : (old : List Node) (j : ℕ) (x : Node) (xs : List Node) → known_number old x ≡ Some j → kept_of old (x ∷ xs) ≡ kept_of old xs
+kept_known : (old : List Node) (j : ℕ) (x : Node) (xs : List Node) → known_as old x ≡ Some j → kept_of old (x ∷ xs) ≡ kept_of old xs
 unfolding kept_of
-kept_known old j x xs e = let k : known_as old x ≡ Some j = known_is_number old x ∙ e in rw (k, kept_of) refl
+kept_known old j x xs e = rw (e, kept_of) refl
 
-kept_new : (old : List Node) (x : Node) (xs : List Node) → known_number old x ≡ None → kept_of old (x ∷ xs) ≡ x ∷ kept_of old xs
+kept_new : (old : List Node) (x : Node) (xs : List Node) → known_as old x ≡ None → kept_of old (x ∷ xs) ≡ x ∷ kept_of old xs
 unfolding kept_of
-kept_new old x xs e = let k : known_as old x ≡ None = known_is_number old x ∙ e in rw (k, kept_of) refl
+kept_new old x xs e = rw (e, kept_of) refl
 
 kept_nil : (old : List Node) → kept_of old [] ≡ []
 unfolding kept_of
 kept_nil old = refl
 
 abbrev told : List Node → ℕ → ℕ → List (ℕ × Node) → Node → ℕ
-told old n j ks node = unwrap_or (known_number old node) (n + place_of j ks)
+told old n j ks node = unwrap_or (known_as old node) (n + place_of j ks)
 
 number_is_told : (old new : List Node) (n i k j : ℕ) (node : Node) → j ≡ i + k → slice_get new k ≡ Some node → slice_get (numbers_from old n new) k ≡ Some (told old n j (lacking old i new) node)
 number_is_told old [] n i k j node is e = absurd cc
-number_is_told old (x ∷ xs) n i zero j node is e = head (known_number old x) refl
+number_is_told old (x ∷ xs) n i zero j node is e = head (known_as old x) refl
   where
     same : x ≡ node
     same = some_is e
 
-    head : (o : Option ℕ) → known_number old x ≡ o → slice_get (numbers_from old n (x ∷ xs)) 0 ≡ Some (told old n j (lacking old i (x ∷ xs)) node)
+    head : (o : Option ℕ) → known_as old x ≡ o → slice_get (numbers_from old n (x ∷ xs)) 0 ≡ Some (told old n j (lacking old i (x ∷ xs)) node)
     head (Some m) known =
-        let here : known_number old node ≡ Some m = subst (λ (z : Node). known_number old z ≡ Some m) same known in
+        let here : known_as old node ≡ Some m = subst (λ (z : Node). known_as old z ≡ Some m) same known in
         ap (λ (ns : List ℕ). slice_get ns 0) (numbers_known old n m x xs known)
         ∙ sym (ap (λ (o : Option ℕ). Some (unwrap_or o (n + place_of j (lacking old i (x ∷ xs))))) here)
     head None known =
-        let here : known_number old node ≡ None = subst (λ (z : Node). known_number old z ≡ None) same known in
+        let here : known_as old node ≡ None = subst (λ (z : Node). known_as old z ≡ None) same known in
         let at : place_of j (lacking old i (x ∷ xs)) ≡ 0 = ap (λ (ks : List (ℕ × Node)). place_of j ks) (lacks_new old i x xs known) ∙ place_here i j x (lacking old (i + 1) xs) (eq-eqb i j (omega (arith, is))) in
         let sum : n ≡ n + place_of j (lacking old i (x ∷ xs)) = omega (arith, at) in
         ap (λ (ns : List ℕ). slice_get ns 0) (numbers_new old n x xs known)
         ∙ (ap (λ (m : ℕ). Some m) sum ∙ sym (ap (λ (o : Option ℕ). Some (unwrap_or o (n + place_of j (lacking old i (x ∷ xs))))) here))
 number_is_told old (x ∷ xs) n i (suc k) j node is e =
-    tail (λ m. number_is_told old xs m (i + 1) k j node (omega (arith, is)) e) (known_number old x) refl
+    tail (λ m. number_is_told old xs m (i + 1) k j node (omega (arith, is)) e) (known_as old x) refl
   where
-    tail : ((m : ℕ) → slice_get (numbers_from old m xs) k ≡ Some (told old m j (lacking old (i + 1) xs) node)) → (o : Option ℕ) → known_number old x ≡ o
+    tail : ((m : ℕ) → slice_get (numbers_from old m xs) k ≡ Some (told old m j (lacking old (i + 1) xs) node)) → (o : Option ℕ) → known_as old x ≡ o
         → slice_get (numbers_from old n (x ∷ xs)) (suc k) ≡ Some (told old n j (lacking old i (x ∷ xs)) node)
     tail rest (Some m) known =
         ap (λ (ns : List ℕ). slice_get ns (suc k)) (numbers_known old n m x xs known)
@@ -147,12 +139,12 @@ number_is_told old (x ∷ xs) n i (suc k) j node is e =
         ap (λ (ks : List (ℕ × Node)). place_of j ks) (lacks_new old i x xs known) ∙ place_next i j x (lacking old (i + 1) xs) (ne_eqb i j (λ e. omega (arith, is, e))) in
         let sum : n + 1 + place_of j (lacking old (i + 1) xs) ≡ n + place_of j (lacking old i (x ∷ xs)) = omega (arith, at) in
         ap (λ (ns : List ℕ). slice_get ns (suc k)) (numbers_new old n x xs known)
-        ∙ (rest (n + 1) ∙ ap (λ (m : ℕ). Some (unwrap_or (known_number old node) m)) sum)
+        ∙ (rest (n + 1) ∙ ap (λ (m : ℕ). Some (unwrap_or (known_as old node) m)) sum)
 
 -- the number of each node is that of the definition
 goes_by : (old new : List Node) (k : ℕ) (node : Node) → slice_get new k ≡ Some node → goes_to old new k ≡ told old (length old) k (new_nodes old new) node
 goes_by old new k node e =
-    ap (λ (o : Option Node). unwrap_or (option_and_then (known_number old) o) (length old + place_of k (new_nodes old new))) e
+    ap (λ (o : Option Node). unwrap_or (option_and_then (known_as old) o) (length old + place_of k (new_nodes old new))) e
 
 looked_up_goes : (old new : List Node) (k : ℕ) (node : Node) → slice_get new k ≡ Some node → looked_up (numbers_from old (length old) new) k ≡ goes_to old new k
 looked_up_goes old new k node e =
@@ -161,19 +153,19 @@ looked_up_goes old new k node e =
 
 -- ---- where a node goes
 
-new_at : (old new : List Node) (i k j : ℕ) (node : Node) → j ≡ i + k → slice_get new k ≡ Some node → known_number old node ≡ None → slice_get (lacking old i new) (place_of j (lacking old i new)) ≡ Some (j, node)
+new_at : (old new : List Node) (i k j : ℕ) (node : Node) → j ≡ i + k → slice_get new k ≡ Some node → known_as old node ≡ None → slice_get (lacking old i new) (place_of j (lacking old i new)) ≡ Some (j, node)
 new_at old [] i k j node is e none = absurd cc
 new_at old (x ∷ xs) i zero j node is e none =
     let same : x ≡ node = some_is e in
-    let known : known_number old x ≡ None = subst (λ (z : Node). known_number old z ≡ None) (sym same) none in
+    let known : known_as old x ≡ None = subst (λ (z : Node). known_as old z ≡ None) (sym same) none in
     let all = lacks_new old i x xs known in
     let here : place_of j (lacking old i (x ∷ xs)) ≡ 0 = ap (λ (ks : List (ℕ × Node)). place_of j ks) all ∙ place_here i j x (lacking old (i + 1) xs) (eq-eqb i j (omega (arith, is))) in
     let number : i ≡ j = omega (arith, is) in
     ap (λ (m : ℕ). slice_get (lacking old i (x ∷ xs)) m) here ∙ (ap (λ (ks : List (ℕ × Node)). slice_get ks 0) all ∙ (ap (λ (m : ℕ). Some (m, x)) number ∙ ap (λ (z : Node). Some (j, z)) same))
 new_at old (x ∷ xs) i (suc k) j node is e none =
-    tail (new_at old xs (i + 1) k j node (omega (arith, is)) e none) (known_number old x) refl
+    tail (new_at old xs (i + 1) k j node (omega (arith, is)) e none) (known_as old x) refl
   where
-    tail : slice_get (lacking old (i + 1) xs) (place_of j (lacking old (i + 1) xs)) ≡ Some (j, node) → (o : Option ℕ) → known_number old x ≡ o
+    tail : slice_get (lacking old (i + 1) xs) (place_of j (lacking old (i + 1) xs)) ≡ Some (j, node) → (o : Option ℕ) → known_as old x ≡ o
         → slice_get (lacking old i (x ∷ xs)) (place_of j (lacking old i (x ∷ xs))) ≡ Some (j, node)
     tail rest (Some m) known =
         subst (λ (ks : List (ℕ × Node)). slice_get ks (place_of j ks) ≡ Some (j, node)) (sym (lacks_known old i m x xs known)) rest
@@ -192,7 +184,7 @@ get_behind (x ∷ xs) ys k = let e : suc (length xs) + k ≡ suc (length xs + k)
 abbrev pub joined : List Node → List Node → List Node
 joined old new = old ++ map (λ k. renamed (goes_to old new) k.1) (new_nodes old new)
 
-pub new_lands : (old new : List Node) (k : ℕ) (node : Node) → slice_get new k ≡ Some node → known_number old node ≡ None → slice_get (joined old new) (goes_to old new k) ≡ Some (renamed (goes_to old new) node)
+pub new_lands : (old new : List Node) (k : ℕ) (node : Node) → slice_get new k ≡ Some node → known_as old node ≡ None → slice_get (joined old new) (goes_to old new k) ≡ Some (renamed (goes_to old new) node)
 new_lands old new k node e none =
     let to = goes_to old new in
     let ks = new_nodes old new in
@@ -203,12 +195,12 @@ new_lands old new k node e none =
 
 -- a symbol goes to one that is alike
 pub symbol_lands : (old new : List Node) (k : ℕ) (name : List ℕ) → slice_get new k ≡ Some (Symbol name) → IsAlike (joined old new) (goes_to old new k) name
-symbol_lands old new k name e = by (symbol_number old name) refl
+symbol_lands old new k name e = by (find_alike name old) refl
   where
-    by : (o : Option ℕ) → symbol_number old name ≡ o → IsAlike (joined old new) (goes_to old new k) name
+    by : (o : Option ℕ) → find_alike name old ≡ o → IsAlike (joined old new) (goes_to old new k) name
     by (Some j) known =
         let number : goes_to old new k ≡ j = goes_by old new k (Symbol name) e ∙ ap (λ (o : Option ℕ). unwrap_or o (length old + place_of k (new_nodes old new))) known in
-        subst (λ (m : ℕ). IsAlike (joined old new) m name) (sym number) (alike_append old (map (λ k. renamed (goes_to old new) k.1) (new_nodes old new)) j name (number_alike old name j known))
+        subst (λ (m : ℕ). IsAlike (joined old new) m name) (sym number) (alike_append old (map (λ k. renamed (goes_to old new) k.1) (new_nodes old new)) j name (alike_found name old j known))
     by None known = (name, new_lands old new k (Symbol name) e known, refl)
 
 pub lands_within : (old new : List Node) (k : ℕ) (node : Node) → slice_get new k ≡ Some node → goes_to old new k < length (joined old new)
@@ -269,9 +261,9 @@ node_id (Frame tags values) = rw (tags_id tags, refs_id values) refl
 kept_agree : (old : List Node) (n i : ℕ) (to at : ℕ → ℕ) → Agree n to at → (new : List Node) → All (Within n) new → map (renamed to) (kept_of old new) ≡ map (λ k. renamed at k.1) (lacking old i new)
 kept_agree old n i to at h [] w = ap (λ (ns : List Node). map (renamed to) ns) (kept_nil old)
 kept_agree old n i to at h (x ∷ xs) w =
-    by (kept_agree old n (i + 1) to at h xs (All-tail (Within n) x xs w)) (known_number old x) refl
+    by (kept_agree old n (i + 1) to at h xs (All-tail (Within n) x xs w)) (known_as old x) refl
   where
-    by : map (renamed to) (kept_of old xs) ≡ map (λ k. renamed at k.1) (lacking old (i + 1) xs) → (o : Option ℕ) → known_number old x ≡ o
+    by : map (renamed to) (kept_of old xs) ≡ map (λ k. renamed at k.1) (lacking old (i + 1) xs) → (o : Option ℕ) → known_as old x ≡ o
         → map (renamed to) (kept_of old (x ∷ xs)) ≡ map (λ k. renamed at k.1) (lacking old i (x ∷ xs))
     by others (Some j) known =
         ap (λ (ns : List Node). map (renamed to) ns) (kept_known old j x xs known) ∙ (others ∙ sym (ap (λ (ks : List (ℕ × Node)). map (λ k. renamed at k.1) ks) (lacks_known old i j x xs known)))
@@ -297,12 +289,12 @@ pub record Fewer (new kept : List Node) : Type 0 where
 
 kept_fewer : (old : List Node) (to : ℕ → ℕ) (new : List Node) → Fewer new (map (renamed to) (kept_of old new))
 kept_fewer old to [] = subst (λ (ns : List Node). Fewer [] (map (renamed to) ns)) (sym (kept_nil old)) (record { few = omega arith; light = omega arith })
-kept_fewer old to (x ∷ xs) = by (kept_fewer old to xs) (known_number old x) refl
+kept_fewer old to (x ∷ xs) = by (kept_fewer old to xs) (known_as old x) refl
   where
     sum : sum_by payload (x ∷ xs) ≡ payload x + sum_by payload xs
     sum = sum_by-cons payload x xs
 
-    by : Fewer xs (map (renamed to) (kept_of old xs)) → (o : Option ℕ) → known_number old x ≡ o → Fewer (x ∷ xs) (map (renamed to) (kept_of old (x ∷ xs)))
+    by : Fewer xs (map (renamed to) (kept_of old xs)) → (o : Option ℕ) → known_as old x ≡ o → Fewer (x ∷ xs) (map (renamed to) (kept_of old (x ∷ xs)))
     by others (Some j) known =
         subst (λ (ns : List Node). Fewer (x ∷ xs) (map (renamed to) ns)) (sym (kept_known old j x xs known))
         (record { few = omega (arith, others.few); light = omega (arith, others.light, sum) })
@@ -332,7 +324,8 @@ graph_behind old v graph few light =
 
 -- ---- a graph put behind nothing is itself
 
-unknown : (node : Node) → known_number [] node ≡ None
+unknown : (node : Node) → known_as [] node ≡ None
+unfolding find_alike
 unknown (Symbol name) = refl
 unknown (Str u) = refl
 unknown (Binary c u) = refl

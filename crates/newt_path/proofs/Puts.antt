@@ -21,8 +21,8 @@ use Rattle.newt_graph.specs.Draft as draft
 use Rattle.newt_spec_graph.specs.Graph.{change_nth}
 use Rattle.newt_spec_graph.specs.Slots.{is_named, symbol_number, slot_number, slot_value, value_below, set_slot, with_slot, goes_to, new_nodes, put_into}
 use Rattle.newt_spec_graph.specs.Limits.{node_within, is_within}
-use Rattle.newt_graph.proofs.Grows.{some_is, bind_some, get_append}
-use Rattle.newt_graph.proofs.Form.{at_map}
+use Rattle.newt_graph.proofs.Options.{bind_some, some_is}
+use Rattle.newt_graph.proofs.Elements.{get_append, at_map}
 use Rattle.newt_graph.proofs.Follows.{form_is_found}
 use Rattle.newt_path.specs.Put.{IsFormOf, PassesALimit}
 use Rattle.newt_path.proofs.Below.{root_within}

@@ -12,8 +12,8 @@ use Rattle.newt_graph.specs.declared.node.Ref.TheVariants as refs
 use Rattle.newt_graph.specs.Graph.{IsSymbol}
 use Rattle.newt_graph.specs.Raw.{labels_of}
 use Rattle.newt_graph.specs.Meeting.{Seen, Step, place, is_new, added, meet_label, meet_labels, meet_class, meet_each, within, enter, meet_by, meet}
-use Rattle.newt_graph.proofs.Grows.{some_is, bind_some, get_append, get_seam, at_push, node_here}
-use Rattle.newt_graph.proofs.Form.{any_at}
+use Rattle.newt_graph.proofs.Options.{bind_some, some_is}
+use Rattle.newt_graph.proofs.Elements.{get_append, get_seam, at_push, all_at, any_at}
 
 -- the number was met
 abbrev pub Has : Seen → ℕ → Type 0
@@ -185,7 +185,7 @@ by_next nodes labelled inner is seen next (refs.Node k) e = by (is_new seen k) r
         clash : {tags : List ℕ} {values : List Ref} → None ≡ Some (Frame tags values) → ⊥
         clash e = absurd cc
     at (Some node) there e =
-        let r = enter_next nodes inner is (added seen k) next node (node_here (λ node. All (IsSymbol nodes) (labels_of node)) nodes k node labelled there) e in
+        let r = enter_next nodes inner is (added seen k) next node (all_at (λ node. All (IsSymbol nodes) (labels_of node)) nodes k node labelled there) e in
         (r.0, λ tags values here. r.1 tags values (some_is (sym there ∙ here)))
 
     by : (b : Bool) → is_new seen k ≡ b → cond b (enter inner (added seen k) (slice_get nodes k)) (Some seen) ≡ Some next → Next nodes seen next × (k < next.count → Has next k)

@@ -8,7 +8,7 @@ use Rattle.newt_graph.specs.declared.node.Ref.TheVariants.{Imm, Node as At}
 use Rattle.newt_graph.specs.declared.node.Node.{Node}
 use Rattle.newt_graph.specs.declared.node.Node.TheVariants.{Symbol, Str, Binary, Large, Array, Frame}
 use Rattle.newt_graph.specs.Graph.{RawGraph, IsGraph, IsName, IsNode}
-use Rattle.newt_graph.proofs.Form.{all_at}
+use Rattle.newt_graph.proofs.Elements.{all_at}
 use Rattle.newt_spec_graph.specs.Graph.{object, every}
 use Rattle.newt_spec_query.specs.Tags.{symbol_name, if_given}
 use Rattle.newt_spec_query.specs.Spec.{path_values, path_of, or_else, within}

@@ -2,7 +2,8 @@
 use Rattle.std.proofs.Common.{◌≡◌, ℕ, List, [], ◌∷◌, ◌++◌, codes, decimal, sym, ◌∙◌, ap, append_assoc}
 use Rattle.newt_base.specs.declared.Refusal.{Refusal}
 use Rattle.newt_base.specs.Refusals.{refusal_number, refusal_word}
-use Rattle.newt_base.specs.Text.{decimal_text, decimal_text-decimal}
+use Rattle.newt_base.specs.Text.{decimal_text}
+use Rattle.newt_base.proofs.Numerals.{decimal_written}
 use Rattle.newt_spec_world.specs.Reply.{refused}
 use Rattle.newt_reply.specs.Fields.{written}
 
@@ -16,5 +17,5 @@ unfolding written
 error_text number word refusal number_is word_is =
     ap (λ n. codes "error " ++ (decimal n ++ 32 ∷ (word ++ 10 ∷ []))) number_is
     ∙ (ap (λ w. codes "error " ++ (decimal (refusal_number refusal) ++ 32 ∷ (w ++ 10 ∷ []))) word_is
-    ∙ (ap (λ text. codes "error " ++ (text ++ 32 ∷ (refusal_word refusal ++ 10 ∷ []))) (sym (decimal_text-decimal (refusal_number refusal)))
+    ∙ (ap (λ text. codes "error " ++ (text ++ 32 ∷ (refusal_word refusal ++ 10 ∷ []))) (sym (decimal_written (refusal_number refusal)))
     ∙ regrouped (codes "error ") (decimal_text (refusal_number refusal)) (refusal_word refusal)))

@@ -1,6 +1,7 @@
 -- The texts of replies, from their fields.
 use Rattle.std.proofs.Common.{◌≡◌, ℕ, List, [], ◌∷◌, ◌++◌, map, Some, None, codes, decimal, refl, ap, ◌∙◌}
-use Rattle.newt_base.specs.Text.{decimal_text, decimal_text-decimal, hex_text}
+use Rattle.newt_base.specs.Text.{decimal_text, hex_text}
+use Rattle.newt_base.proofs.Numerals.{decimal_written}
 use Rattle.newt_graph.specs.Graph.{RawGraph}
 use Rattle.newt_lit.specs.Printed as printed
 use Rattle.newt_nsof.specs.Written.{nsof}
@@ -15,10 +16,10 @@ use Rattle.newt_reply.specs.declared.rows.SoupLine.{SoupLine}
 
 -- numbers, as std writes them
 two : (f : List ℕ → List ℕ → List ℕ) (m n : ℕ) → f (decimal_text m) (decimal_text n) ≡ f (decimal m) (decimal n)
-two f m n = ap (λ a. f a (decimal_text n)) (decimal_text-decimal m) ∙ ap (f (decimal m)) (decimal_text-decimal n)
+two f m n = ap (λ a. f a (decimal_text n)) (decimal_written m) ∙ ap (f (decimal m)) (decimal_written n)
 
 three : (f : List ℕ → List ℕ → List ℕ → List ℕ) (m n k : ℕ) → f (decimal_text m) (decimal_text n) (decimal_text k) ≡ f (decimal m) (decimal n) (decimal k)
-three f m n k = ap (λ a. f a (decimal_text n) (decimal_text k)) (decimal_text-decimal m) ∙ two (f (decimal m)) n k
+three f m n k = ap (λ a. f a (decimal_text n) (decimal_text k)) (decimal_written m) ∙ two (f (decimal m)) n k
 
 same_items : {A B : Type 0} (f : B → List ℕ) (g : A → B) (h : A → List ℕ) → ((a : A) → f (g a) ≡ h a) → (xs : List A) → map f (map g xs) ≡ map h xs
 same_items f g h same [] = refl
@@ -48,7 +49,7 @@ end_text = refl
 
 pub number_text : (n : ℕ) → written (world.number n) ≡ ok_text (decimal n ∷ [])
 unfolding written ok_text
-number_text n = ap (λ a. ok_text (a ∷ [])) (decimal_text-decimal n)
+number_text n = ap (λ a. ok_text (a ∷ [])) (decimal_written n)
 
 pub added_text : (u uid : ℕ) → written (world.added u uid) ≡ ok_text (decimal u ∷ decimal uid ∷ [])
 unfolding written ok_text
@@ -56,7 +57,7 @@ added_text u uid = two (λ a b. ok_text (a ∷ b ∷ [])) u uid
 
 pub store_text : (sig : ℕ) (name : List ℕ) → written (world.store sig name) ≡ ok_text (decimal sig ∷ name_field name ∷ [])
 unfolding written ok_text
-store_text sig name = ap (λ a. ok_text (a ∷ name_field name ∷ [])) (decimal_text-decimal sig)
+store_text sig name = ap (λ a. ok_text (a ∷ name_field name ∷ [])) (decimal_written sig)
 
 store_item_is : (line : StoreLine) → spaced (decimal_text line.unit ∷ decimal_text line.sig ∷ name_field line.name ∷ []) ≡ store_item line
 unfolding store_item
@@ -104,11 +105,11 @@ literal_text g = refl
 
 pub timed_text : (t : ℕ) (g : RawGraph) → written (world.timed t g) ≡ ok_text (decimal t ∷ printed.literal g ∷ [])
 unfolding written ok_text
-timed_text t g = ap (λ a. ok_text (a ∷ printed.literal g ∷ [])) (decimal_text-decimal t)
+timed_text t g = ap (λ a. ok_text (a ∷ printed.literal g ∷ [])) (decimal_written t)
 
 pub timed_nsof_text : (t : ℕ) (g : RawGraph) → written (world.timed_nsof t g) ≡ ok_text (decimal t ∷ hex_text (nsof g) ∷ [])
 unfolding written ok_text
-timed_nsof_text t g = ap (λ a. ok_text (a ∷ hex_text (nsof g) ∷ [])) (decimal_text-decimal t)
+timed_nsof_text t g = ap (λ a. ok_text (a ∷ hex_text (nsof g) ∷ [])) (decimal_written t)
 
 pub alias_text : (s p uid : ℕ) → written (world.alias s p uid) ≡ ok_text (alias_item s p uid ∷ [])
 unfolding written ok_text alias_item

@@ -11,6 +11,7 @@ use Rattle.newt_graph.specs.declared.node.Node.TheVariants.{Symbol, Frame}
 use Rattle.newt_graph.specs.Graph.{RawGraph}
 use Rattle.newt_spec_graph.specs.Graph.{change_nth, object}
 use Rattle.newt_graph.specs.Raw.{renamed, renamed_ref}
+use Rattle.newt_graph.specs.Import.{known_as}
 
 -- there is a node, and it is a symbol of this name but for the case of its letters (Newton Formats 1.1, symbols)
 abbrev pub is_named : List ℕ → Option Node → Bool
@@ -45,19 +46,14 @@ value_at g path = value_below g.nodes g.root path
 
 -- ---- a change at a path
 
--- the number that a node has in the list so far, where it is a symbol that stands there (a word of these definitions)
-abbrev pub known_number : List Node → Node → Option ℕ
-known_number nodes (Symbol name) = symbol_number nodes name
-known_number nodes _ = None
-
 -- the nodes that the list so far lacks, with their numbers (a word of these definitions)
 abbrev pub new_nodes : List Node → List Node → List (ℕ × Node)
-new_nodes so_far nodes = filter (λ k. is_none (known_number so_far k.1)) (enumerate_from 0 nodes)
+new_nodes so_far nodes = filter (λ k. is_none (known_as so_far k.1)) (enumerate_from 0 nodes)
 
 -- where node k goes: to the earlier symbol, or behind the list so far (this project's own)
 abbrev pub goes_to : List Node → List Node → ℕ → ℕ
 goes_to so_far nodes k =
-    unwrap_or (option_and_then (known_number so_far) (slice_get nodes k))
+    unwrap_or (option_and_then (known_as so_far) (slice_get nodes k))
     (length so_far + position_or_len (λ m. m.0 == k) (new_nodes so_far nodes))
 
 -- the slot of this tag with a value, where it stands or as a new last slot (this project's own)

@@ -3,7 +3,7 @@ use Rattle.std.proofs.Common.{◌≡◌, refl, ap, sym, ◌∙◌, ℕ, ◌+◌,
 use Rattle.std.specs.Prelude.{count_by}
 use Rattle.std.proofs.lemmas.List.{length-append}
 use Rattle.std.proofs.lemmas.List.Sums.{sum_by-append}
-use Rattle.newt_base.specs.Text.{decimal_text-decimal}
+use Rattle.newt_base.proofs.Numerals.{decimal_written}
 use Rattle.newt_session.specs.Lines.{lines_of}
 use Rattle.newt_session.specs.Script.{Answers, commands_of, replies, world_behind}
 use Rattle.newt_session.proofs.Items.{replies_append}
@@ -37,7 +37,7 @@ lines_summary tally texts k =
 pub line_written : (old word : List ℕ) (n : ℕ) → (old ++ word) ++ (32 ∷ (decimal n ++ 10 ∷ [])) ≡ old ++ summary_line word n
 line_written old word n =
     append_assoc old word (32 ∷ (decimal n ++ 10 ∷ []))
-    ∙ ap (λ (t : List ℕ). old ++ t) (sym (append_assoc word (32 ∷ decimal n) (10 ∷ [])) ∙ ap (λ (t : List ℕ). (word ++ 32 ∷ t) ++ 10 ∷ []) (sym (decimal_text-decimal n)))
+    ∙ ap (λ (t : List ℕ). old ++ t) (sym (append_assoc word (32 ∷ decimal n) (10 ∷ [])) ∙ ap (λ (t : List ℕ). (word ++ 32 ∷ t) ++ 10 ∷ []) (sym (decimal_written n)))
 
 -- the four lines behind one another
 pushed : (a b c d t0 t1 t2 t3 t4 : List ℕ) → t0 ≡ [] → t1 ≡ t0 ++ a → t2 ≡ t1 ++ b → t3 ≡ t2 ++ c → t4 ≡ t3 ++ d → t4 ≡ a ++ b ++ c ++ d

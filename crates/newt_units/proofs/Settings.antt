@@ -35,9 +35,6 @@ pub record Setting {C : Type 0} (reads : List ℕ → Option Store) (place : C �
   pub eight : Eight o
   pub stand : Stands place stands told units o
 
-pub some-is : (a b : ℕ) → Some a ≡ Some b → a ≡ b
-some-is a b h = some-same a b h
-
 -- the run ends
 pub ends : {T : Type 0} (w v : World) (c : Command) (reply : T → Reply) (fault : Fault) → IsEnd fault → (result : Result T Fault) → (e : Fault) × (result ≡ Err e) × (e ≡ fault) → Answers w v c reply result
 ends w v c reply fault h result p = subst (λ r. Answers w v c reply r) (sym (p.1 ∙ ap {B = Result _ Fault} (λ e. Err e) p.2)) (go fault h)

@@ -3,7 +3,8 @@ use Rattle.std.proofs.Common.{◌≡◌, refl, subst, true}
 use Rattle.std.proofs.lemmas.Result.{err_from_is_err_and}
 use Rattle.newt_laws_answers.proofs.Stores.{default-done, default-refused}
 use Rattle.newt_units.specs.Stands.{mounted_in, world_of}
-use Rattle.newt_units.proofs.Settings.{Setting, unit-there, unit-refused, some-is}
+use Rattle.newt_spec_graph.proofs.Lists.{some-same}
+use Rattle.newt_units.proofs.Settings.{Setting, unit-there, unit-refused}
 use Rattle.newt_units.proofs.units.Units.set_default.Goals as goal
 
 pub returns-in_err-find_unit-clause-answered : goal.returns-in_err-find_unit-clause-answered
@@ -21,7 +22,7 @@ returns-clause-stands g c told outside s = record {
   attached = s.attached;
   cards = s.cards;
   durable = s.durable;
-  default = λ u h. subst (λ n. mounted_in c.args.self.now.slots.items n ≡ true) (some-is _ _ h) c.in_ok-find_unit.ensures;
+  default = λ u h. subst (λ n. mounted_in c.args.self.now.slots.items n ≡ true) (some-same _ _ h) c.in_ok-find_unit.ensures;
 }
 
 pub returns-clause-answered : goal.returns-clause-answered
