@@ -17,7 +17,7 @@ use newt_tags::TagTable;
 use std::alloc::{AllocError, Global};
 
 /// The declaration of an index of these parts. The type of a part that has none becomes the integer's.
-#[tactic(auto, using(crate::proofs::Agree::spec_valid))]
+#[tactic(auto, using(newt_laws::proofs::Rows::spec_valid))]
 pub(crate) fn new_spec(alloc: Global, parts: &[PartWord]) -> Result<IndexSpec, AllocError>
     requires { parts_fit parts.now ≡ true }
     ensures { IfOk result (λ spec. spec ≡ spec_of_words parts.now) }

@@ -21,7 +21,7 @@ pub use Rattle.newt_laws_changes.proofs.Chosen.{find-passes}
 
 -- ---- to settle twice
 
-three-equal : (a b : Hit) → same_identity a b ≡ true → (a.store ≡ b.store) × (a.soup ≡ b.soup) × (a.uid ≡ b.uid)
+pub three-equal : (a b : Hit) → same_identity a b ≡ true → (a.store ≡ b.store) × (a.soup ≡ b.soup) × (a.uid ≡ b.uid)
 three-equal a b h = (grind arith, grind arith, grind arith)
 
 by_identity : ℕ → ℕ → ℕ → Hit → Bool

@@ -64,14 +64,14 @@ value-same nodes v (p ∷ ps) (q ∷ qs) h =
 
 -- ---- one key
 
-kind-same : (a b : Kind) → same_kind a b ≡ true → a ≡ b
+pub kind-same : (a b : Kind) → same_kind a b ≡ true → a ≡ b
 kind-same kind.Text kind.Text h = refl
 kind-same kind.Int kind.Int h = refl
 kind-same kind.Char kind.Char h = refl
 kind-same kind.Symbol kind.Symbol h = refl
 kind-same _ _ h = cc
 
-direction-same : (a b : Order) → same_direction a b ≡ true → a ≡ b
+pub direction-same : (a b : Order) → same_direction a b ≡ true → a ≡ b
 direction-same order.Ascend order.Ascend h = refl
 direction-same order.Descend order.Descend h = refl
 direction-same _ _ h = cc

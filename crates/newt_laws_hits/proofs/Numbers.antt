@@ -39,7 +39,7 @@ folded cmp ys (x ∷ xs) = let h = folded cmp (insert_by cmp ys x) xs in let k =
 sorted-length : {X : Type 0} (cmp : X → X → Ordering) (xs : List X) → length (sorted_by cmp xs) ≡ length xs
 sorted-length cmp xs = let h = folded cmp [] xs in omega (arith, h)
 
-chosen-length : {X Y : Type 0} (f : X → Option Y) (xs : List X) → length (filter_map f xs) ≤ length xs
+pub chosen-length : {X Y : Type 0} (f : X → Option Y) (xs : List X) → length (filter_map f xs) ≤ length xs
 chosen-length f [] = omega arith
 chosen-length f (x ∷ xs) = go (f x) (chosen-length f xs)
   where
