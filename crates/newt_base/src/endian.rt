@@ -1,8 +1,9 @@
 //! Big-endian numbers in bytes.
-ghost use Rattle.std.specs.Prelude.{◌≡◌, ◌+◌, ◌≤◌, ◌++◌, drop, length, take};
+ghost use Rattle.std.specs.Prelude.{◌≡◌, ◌+◌, ◌≤◌, ◌++◌, OnOk, drop, length, take};
 ghost use Rattle.newt_base.specs.Text as text;
 
 use byteorder::{BigEndian, ByteOrder};
+use std::alloc::AllocError;
 
 /// The number in the two bytes from `at` on.
 pub fn be16(bytes: &[u8], at: usize) -> u16
@@ -34,4 +35,18 @@ pub fn set32(out: &mut [u8], at: usize, value: u32)
     ensures { out.new ≡ take at out.old ++ text.be32 value ++ drop (at + 4) out.old }
 {
     BigEndian::write_u32(&mut out[at..], value);
+}
+
+/// Writes a number in two bytes behind those that are there.
+pub fn push16(out: &mut Vec<u8>, value: u16) -> Result<(), AllocError>
+    ensures { OnOk result (out.new.items ≡ out.old.items ++ text.be16 value) }
+{
+    out.extend_from_slice(&value.to_be_bytes())
+}
+
+/// Writes a number in four bytes behind those that are there.
+pub fn push32(out: &mut Vec<u8>, value: u32) -> Result<(), AllocError>
+    ensures { OnOk result (out.new.items ≡ out.old.items ++ text.be32 value) }
+{
+    out.extend_from_slice(&value.to_be_bytes())
 }

@@ -1,7 +1,7 @@
 //! Names of stores and soups.
 ghost use Rattle.std.specs.Prelude.{◌≡◌, ◌↔◌, false, IfOk, IsErrOf, IsTrue};
 ghost use Rattle.std.specs.List.{list_all};
-ghost use Rattle.newt_base.specs.Names.{is_name, is_printable};
+ghost use Rattle.newt_base.specs.Names.{is_name, is_printable, needs_quotes};
 
 use std::alloc::{AllocError, Global};
 use std::marker::Model;
@@ -92,4 +92,11 @@ fn all_printable(bytes: &[u8]) -> bool
     ensures { result ≡ list_all is_printable bytes.now }
 {
     bytes.iter().all(|b| FIRST <= *b && *b <= LAST)
+}
+
+/// Whether a name with this byte in it stands in quotes.
+pub fn needs_quotes(byte: u8) -> bool
+    ensures { result ≡ needs_quotes byte }
+{
+    byte == b' ' || byte == b'"' || byte == b'\\'
 }

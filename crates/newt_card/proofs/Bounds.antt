@@ -9,18 +9,17 @@ use Rattle.newt_graph.specs.declared.node.Node.TheVariants.{Large}
 use Rattle.newt_host.specs.Moments.{image}
 use Rattle.newt_host.specs.Outside.{Outside, Spends}
 use Rattle.newt_pagebook.specs.Book.{IsOpenFor}
-use Rattle.newt_laws_answers.specs.Bounds.{directory_pages, change_bytes, patch_bytes, unless}
+use Rattle.newt_laws_answers.specs.Bounds.{change_bytes, unless}
 use Rattle.newt_laws_answers.specs.Tests.{make_tests, add_tests, move_tests, moved_within, replace_tests, replaced, patch_tests, index_tests, tags_tests, tagged}
-use Rattle.newt_spec_store.specs.Cost.{entry_pages}
+use Rattle.newt_spec_store.specs.Cost.{entry_pages, directory_pages, patch_bytes}
 use Rattle.newt_spec_store.specs.Keys.{IndexSpec, Path}
 use Rattle.newt_spec_store.specs.OfImage.{blocks_of}
-use Rattle.newt_spec_store.specs.Store.{Store as Plain, Soup, Entry, TagTable, entry_of, change_soup, make_soup, drop_soup, add_entry, remove_entry}
-use Rattle.newt_spec_world.specs.Changed.{with_graph, with_index, without_index}
-use Rattle.newt_store.specs.Change.{changed_by, refusals, refusal_of, entry_in, entry_added, pages_of_entry, pages_of_soup, pages_removed, pages_put, pages_gone, next_uid_of, bytes_of, most_bytes}
+use Rattle.newt_spec_store.specs.Store.{Store as Plain, Soup, Entry, TagTable, entry_of, change_soup, make_soup, drop_soup, add_entry, remove_entry, soup_of, entry_at, next_uid_of, with_index, without_index}
+use Rattle.newt_spec_world.specs.Changed.{with_graph}
+use Rattle.newt_store.specs.Change.{changed_by, refusals, refusal_of, entry_added, pages_of_entry, pages_of_soup, pages_removed, pages_put, pages_gone, bytes_of, most_bytes}
 use Rattle.newt_store.specs.declared.change.Change.{Change}
 use Rattle.newt_store.specs.declared.change.Change.TheVariants as change
 use Rattle.newt_cardstore.specs.Bounds.{ProgramsAtMost}
-use Rattle.newt_cardstore.specs.Cards.{soup_of}
 use Rattle.newt_card.proofs.Tests.{entry-there, drop-tests, dropped, index-tests, indexed, unindex-tests, unindexed, tags-tests, tagged-as, add-tests, added, remove-tests, removed, replace-tests, replaced-as, patch-tests, move-tests, moved}
 
 -- the pages of one entry
@@ -80,7 +79,7 @@ module _ (blocks now sig : ℕ) (s : Plain) (p : Soup) (found : soup_of sig s �
 
   module _ (uid : ℕ) (e : Entry) (here : entry_of uid p ≡ Some e) where
     -- the pages of the entry that goes
-    goes : pages_of_entry (entry_in sig uid s) ≡ sum_by entry_pages (e ∷ [])
+    goes : pages_of_entry (entry_at sig uid s) ≡ sum_by entry_pages (e ∷ [])
     goes = ap pages_of_entry (entry-there sig uid s p e found here) ∙ one e
 
     pub remove-bound : most_bytes (change.Remove sig uid) blocks now s ≡ change_bytes s (change_soup p.name (remove_entry uid) s) [] (e ∷ [])

@@ -7,13 +7,12 @@ use Rattle.newt_host.specs.Moments.{Moment, image, IsDurable, Leaves}
 use Rattle.newt_host.proofs.Moments.{Leaves-start}
 use Rattle.newt_laws_answers.specs.Tests.{make_tests, add_tests, move_tests, moved_within, replace_tests, replaced, patch_tests, patched_within, index_tests, tags_tests, tagged}
 use Rattle.newt_spec_store.specs.Keys.{IndexSpec, Path}
-use Rattle.newt_spec_world.specs.Changed.{with_index, without_index}
-use Rattle.newt_spec_store.specs.Store.{Store as Plain, Soup, Entry, TagTable, entry_of, change_soup, make_soup, drop_soup, add_entry, remove_entry}
+use Rattle.newt_spec_store.specs.Store.{Store as Plain, Soup, Entry, TagTable, entry_of, change_soup, make_soup, drop_soup, add_entry, remove_entry, soup_of, with_index, without_index}
 use Rattle.newt_store.specs.Change.{changed_by, answer_of, refusals}
 use Rattle.newt_catalog.specs.Readable.{readable}
 use Rattle.newt_store.specs.declared.change.Change.{Change}
 use Rattle.newt_store.specs.declared.change.Change.TheVariants as change
-use Rattle.newt_cardstore.specs.Cards.{soup_of, LeavesEither}
+use Rattle.newt_cardstore.specs.Cards.{LeavesEither}
 use Rattle.newt_cardstore.specs.Faults.{Does}
 use Rattle.newt_cardstore.specs.declared.fault.Fault.{Fault}
 use Rattle.newt_card.proofs.Turns.{does-as, does-done, done, leaves-as}

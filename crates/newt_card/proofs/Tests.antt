@@ -14,16 +14,15 @@ use Rattle.newt_laws_answers.specs.Tests.{add_tests, move_tests, moved_within, r
 use Rattle.newt_spec_graph.specs.Graph.{change_nth, is_frame, object}
 use Rattle.newt_spec_store.specs.Cost.{cost}
 use Rattle.newt_spec_store.specs.Keys.{IndexSpec, Path, paths_of}
-use Rattle.newt_spec_world.specs.Changed.{with_index, without_index, bytes_of_large, patch_node, patched_at}
-use Rattle.newt_spec_store.specs.Store.{Store as Plain, Soup, Entry, TagTable, entry_of, change_soup, change_entry, drop_soup, add_entry, remove_entry}
+use Rattle.newt_spec_world.specs.Changed.{bytes_of_large, patch_node, patched_at}
+use Rattle.newt_spec_store.specs.Store.{Store as Plain, Soup, Entry, TagTable, entry_of, change_soup, change_entry, drop_soup, add_entry, remove_entry, soup_of, entry_at, next_uid_of, with_index, without_index}
 use Rattle.newt_spec_store.specs.StoreOf.{with_bytes}
 use Rattle.newt_soupdir.specs.Changes.{with_tags}
-use Rattle.newt_store.specs.Change.{changed_by, answer_of, refusals, entry_in, changed_soup, dropped_soup, moved_entry, with_graph, bytes_in, with_patch, patched_entry, large_in_entry, ends_behind, next_uid_of, has_no_ids, is_too_large, has_paths, specs_of}
+use Rattle.newt_store.specs.Change.{changed_by, answer_of, refusals, changed_soup, dropped_soup, moved_entry, with_graph, bytes_in, with_patch, patched_entry, large_in_entry, ends_behind, has_no_ids, is_too_large, has_paths, specs_of}
 use Rattle.newt_store.specs.declared.change.Change.TheVariants as change
-use Rattle.newt_cardstore.specs.Cards.{soup_of}
 
 -- the entry of a soup that is there
-pub entry-there : (sig uid : ℕ) (s : Plain) (p : Soup) (e : Entry) → soup_of sig s ≡ Some p → entry_of uid p ≡ Some e → entry_in sig uid s ≡ Some e
+pub entry-there : (sig uid : ℕ) (s : Plain) (p : Soup) (e : Entry) → soup_of sig s ≡ Some p → entry_of uid p ≡ Some e → entry_at sig uid s ≡ Some e
 entry-there sig uid s p e found here = ap (option_and_then (entry_of uid)) found ∙ here
 
 -- bytes are written over a large binary in two ways of speaking, and nothing where there is none
@@ -80,7 +79,7 @@ module _ (blocks now sig : ℕ) (s : Plain) (p : Soup) (found : soup_of sig s �
 
   module _ (uid : ℕ) (e : Entry) (here : entry_of uid p ≡ Some e) where
     pub remove-tests : first_of (refusals (change.Remove sig uid) blocks now s) ≡ first_of []
-    remove-tests = ap (λ (o : Option Soup). first_of ((NoSoup, is_none o) ∷ (NoEntry, is_none (entry_in sig uid s)) ∷ [])) found
+    remove-tests = ap (λ (o : Option Soup). first_of ((NoSoup, is_none o) ∷ (NoEntry, is_none (entry_at sig uid s)) ∷ [])) found
         ∙ ap (λ (o : Option Entry). first_of ((NoEntry, is_none o) ∷ [])) (entry-there sig uid s p e found here)
 
     pub removed : changed_by (change.Remove sig uid) now s ≡ change_soup p.name (remove_entry uid) s
@@ -92,7 +91,7 @@ module _ (blocks now sig : ℕ) (s : Plain) (p : Soup) (found : soup_of sig s �
 
       pub replace-tests : first_of (refusals (change.Replace sig uid g) blocks now s) ≡ first_of (replace_tests blocks now p.name uid g s)
       replace-tests =
-          ap (λ (o : Option Soup). first_of ((NoSoup, is_none o) ∷ later (is_none (entry_in sig uid s)) (changed_soup o (change_entry uid (with_graph now g)) s))) found
+          ap (λ (o : Option Soup). first_of ((NoSoup, is_none o) ∷ later (is_none (entry_at sig uid s)) (changed_soup o (change_entry uid (with_graph now g)) s))) found
           ∙ ap (λ (o : Option Entry). first_of (later (is_none o) (replaced now p.name uid g s))) (entry-there sig uid s p e found here)
         where
           later : Bool → Plain → Checks
@@ -105,7 +104,7 @@ module _ (blocks now sig : ℕ) (s : Plain) (p : Soup) (found : soup_of sig s �
 
       pub patch-tests : first_of (refusals (change.Patch sig uid node at bytes) blocks now s) ≡ first_of (patch_tests node at (length bytes) e)
       patch-tests =
-          ap (λ (o : Option Soup). first_of ((NoSoup, is_none o) ∷ later (entry_in sig uid s))) found
+          ap (λ (o : Option Soup). first_of ((NoSoup, is_none o) ∷ later (entry_at sig uid s))) found
           ∙ ap (λ (o : Option Entry). first_of (later o)) (entry-there sig uid s p e found here)
           ∙ ap (λ (o : Option Node). first_of ((NoPath, is_none (bytes_in o)) ∷ (Range, ends_behind at (length bytes) (bytes_in o)) ∷ [])) is
           ∙ ap (λ (o : Option Node). first_of ((Range, nat_lt (length (bytes_of_large o)) (at + length bytes)) ∷ [])) (sym is)
@@ -114,7 +113,7 @@ module _ (blocks now sig : ℕ) (s : Plain) (p : Soup) (found : soup_of sig s �
           later o = (NoEntry, is_none o) ∷ (NoPath, is_none (large_in_entry node o)) ∷ (Range, ends_behind at (length bytes) (large_in_entry node o)) ∷ []
 
     module _ (target : ℕ) (q : Soup) (into : soup_of target s ≡ Some q) where
-      moved-with : (a b : Option Soup) (o : Option Entry) → soup_of sig s ≡ a → soup_of target s ≡ b → entry_in sig uid s ≡ o → changed_by (change.Move sig uid target) now s ≡ moved_entry o a b now s
+      moved-with : (a b : Option Soup) (o : Option Entry) → soup_of sig s ≡ a → soup_of target s ≡ b → entry_at sig uid s ≡ o → changed_by (change.Move sig uid target) now s ≡ moved_entry o a b now s
       moved-with a b o x y z = ap (λ (v : Option Entry). moved_entry v (soup_of sig s) (soup_of target s) now s) z ∙ ap (λ (v : Option Soup). moved_entry o v (soup_of target s) now s) x
           ∙ ap (λ (v : Option Soup). moved_entry o a v now s) y
 
@@ -124,8 +123,8 @@ module _ (blocks now sig : ℕ) (s : Plain) (p : Soup) (found : soup_of sig s �
 
       pub move-tests : first_of (refusals (change.Move sig uid target) blocks now s) ≡ first_of (move_tests blocks now p.name uid q.name e.graph s q)
       move-tests =
-          ap (λ (o : Option Soup). first_of ((NoSoup, is_none o || is_none (soup_of target s)) ∷ later (is_none (entry_in sig uid s)) (soup_of target s) (changed_by (change.Move sig uid target) now s))) found
-          ∙ ap (λ (o : Option Soup). first_of ((NoSoup, is_none o) ∷ later (is_none (entry_in sig uid s)) o (changed_by (change.Move sig uid target) now s))) into
+          ap (λ (o : Option Soup). first_of ((NoSoup, is_none o || is_none (soup_of target s)) ∷ later (is_none (entry_at sig uid s)) (soup_of target s) (changed_by (change.Move sig uid target) now s))) found
+          ∙ ap (λ (o : Option Soup). first_of ((NoSoup, is_none o) ∷ later (is_none (entry_at sig uid s)) o (changed_by (change.Move sig uid target) now s))) into
           ∙ ap (λ (o : Option Entry). first_of (later (is_none o) (Some q) (changed_by (change.Move sig uid target) now s))) (entry-there sig uid s p e found here)
           ∙ ap (λ (t : Plain). first_of ((Ids, q.next_uid == 536_870_911) ∷ (Full, nat_lt (cap blocks) (cost t)) ∷ [])) moved
         where

@@ -4,14 +4,14 @@ ghost use Rattle.newt_graph.specs.declared.node.Node.TheVariants.{Large};
 ghost use Rattle.newt_host.specs.Moments.{image, Leaves};
 ghost use Rattle.newt_host.specs.Outside.{Touches};
 ghost use Rattle.newt_pagebook.specs.Book.{IsOpenFor};
-ghost use Rattle.newt_spec_store.specs.Store.{Store as Plain, Soup, Entry as PlainEntry, entry_of, change_soup};
-ghost use Rattle.newt_spec_world.specs.Changed.{without_index};
-ghost use Rattle.newt_laws_answers.specs.Bounds.{change_bytes, patch_bytes, unless};
+ghost use Rattle.newt_spec_store.specs.Store.{Store as Plain, Soup, Entry as PlainEntry, entry_of, change_soup, soup_of, without_index};
+ghost use Rattle.newt_spec_store.specs.Cost.{patch_bytes};
+ghost use Rattle.newt_laws_answers.specs.Bounds.{change_bytes, unless};
 ghost use Rattle.newt_laws_answers.specs.Tests.{patch_tests, patched_within};
 ghost use Rattle.newt_store.specs.Change.{changed_by, answer_of, refusals, most_bytes};
 ghost use Rattle.newt_catalog.specs.Readable.{readable};
 ghost use Rattle.newt_cardstore.specs.Bounds.{ProgramsAtMost};
-ghost use Rattle.newt_cardstore.specs.Cards.{soup_of, LeavesEither, OthersSame};
+ghost use Rattle.newt_cardstore.specs.Cards.{LeavesEither, OthersSame};
 ghost use Rattle.newt_cardstore.specs.Faults.{Does, GoesOn, FaultsAt, IsRefused};
 ghost use Rattle.newt_card.specs.Stands.{StandsOn};
 

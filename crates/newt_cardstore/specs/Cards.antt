@@ -1,27 +1,22 @@
 -- What a store on a card stands for.
-use Rattle.std.specs.Prelude.{◌≡◌, ◌⊎◌, ℕ, ◌==◌, Bool, IsTrue, List, length, map, Option, Some, None, option_map, option_and_then, Result, Ok, Err}
-use Rattle.std.specs.List.{find}
+use Rattle.std.specs.Prelude.{◌≡◌, ◌⊎◌, ℕ, Bool, IsTrue, List, length, map, Option, Some, None, option_map, Result, Ok, Err}
 use Rattle.newt_base.specs.Refusals.{Checks, first_of}
 use Rattle.newt_host.specs.Moments.{Moment, changes}
 use Rattle.newt_host.specs.Outside.{Outside}
-use Rattle.newt_spec_store.specs.Store.{Store, Soup, entry_of}
+use Rattle.newt_spec_store.specs.Store.{Store}
 use Rattle.newt_spec_store.specs.Store as plain
 use Rattle.newt_base.specs.declared.Refusal.TheVariants.{Entry as NoEntry}
 use Rattle.newt_cardstore.specs.declared.card.Entry.{Entry}
 use Rattle.newt_cardstore.specs.declared.fault.Fault.{Fault}
 use Rattle.newt_cardstore.specs.declared.fault.Fault.TheVariants.{Refused, Stop}
 
--- the soup of this signature
-abbrev pub soup_of : ℕ → Store → Option Soup
-soup_of sig s = find (λ p. p.sig == sig) s.soups
+-- an entry that was read, as the plain store has it
+abbrev pub plain_entry : Entry → plain.Entry
+plain_entry e = record { uid = e.uid; time = e.time; graph = e.graph }
 
--- the entry of this id in it
-abbrev pub entry_at : ℕ → ℕ → Store → Option plain.Entry
-entry_at sig uid s = option_and_then (entry_of uid) (soup_of sig s)
-
--- an entry as the plain store has it
+-- the same of one that may not be there
 abbrev pub entry_said : Option Entry → Option plain.Entry
-entry_said found = option_map (λ e. record { uid = e.uid; time = e.time; graph = e.graph }) found
+entry_said found = option_map plain_entry found
 
 -- what an entry that is read is, or that it is not there
 abbrev pub ReadsEntry : Option plain.Entry → Result Entry Fault → Type 0
@@ -38,11 +33,6 @@ pub record IsSame (told : Bool) (unit : ℕ) (old new : Outside) : Type 0 where
   pub card : new.card unit ≡ old.card unit
   pub blocks : new.blocks unit ≡ old.blocks unit
   pub changes : IsTrue told → changes unit new.now ≡ changes unit old.now
-
--- how many entries a soup has
-abbrev pub count_in : Option Soup → ℕ
-count_in None = 0
-count_in (Some p) = length p.entries
 
 -- no other unit is other than it was
 abbrev pub OthersSame : ℕ → Moment → Moment → Type 0

@@ -1,20 +1,14 @@
 -- Why a command is not done, and what stands then.
-use Rattle.std.specs.Prelude.{◌≡◌, ℕ, ◌≤◌, Result, Ok, Err, Some, None}
-use Rattle.newt_host.specs.Outside.{Outside, Rose, SameCards}
+use Rattle.std.specs.Prelude.{◌≡◌, ℕ, Result, Ok, Err, Some, None}
+use Rattle.newt_host.specs.Outside.{Outside}
 use Rattle.newt_base.specs.Refusals.{Checks, first_of}
 use Rattle.newt_base.specs.declared.Refusal.TheVariants.{Path as NoPath, Limit}
 use Rattle.newt_path.specs.declared.fault.SetFault.{SetFault}
 use Rattle.newt_path.specs.declared.fault.SetFault.TheVariants as put
-use Rattle.newt_pagebook.specs.Stops.{StopsAt}
-use Rattle.newt_pagebook.specs.declared.book.Stop.{Stop}
+use Rattle.newt_pagebook.specs.Stops.{HasStopCause, StopsAt}
 use Rattle.newt_pagebook.specs.declared.book.Stop.TheVariants as stops
 use Rattle.newt_cardstore.specs.declared.fault.Fault.{Fault}
 use Rattle.newt_cardstore.specs.declared.fault.Fault.TheVariants.{Refused, Stop as Ends}
-
--- a device that is said to have failed has failed, and counted it
-abbrev pub HasStopCause : Stop → Outside → Outside → Type 0
-HasStopCause stops.Memory old new = Unit {0}
-HasStopCause (stops.Device unit) old new = Rose (old.dev_faults unit) (new.dev_faults unit)
 
 -- a refusal has no device to blame; an end of the run has its cause
 abbrev pub HasFaultCause : Fault → Outside → Outside → Type 0
@@ -44,14 +38,6 @@ Does tests good before after now (Err (Ends stop)) = Unit {0}
 abbrev pub FaultsAt : ℕ → Outside → Outside → Fault → Type 0
 FaultsAt unit old new (Refused refusal) = Unit {0}
 FaultsAt unit old new (Ends stop) = StopsAt unit old new stop
-
--- The input and the output, their faults, and what is attached are as they were, and no device has fewer faults.
-pub record OnDevices (old new : Outside) : Type 0 where
-  pub input : new.input ≡ old.input
-  pub cards : SameCards old new
-  pub in_faults : new.in_faults ≡ old.in_faults
-  pub out_faults : new.out_faults ≡ old.out_faults
-  pub dev_faults : (unit : ℕ) → old.dev_faults unit ≤ new.dev_faults unit
 
 -- a refusal is the first test that holds, and the run does not end
 abbrev pub RefusesBy : Checks → Fault → Type 0

@@ -8,13 +8,14 @@ ghost use Rattle.newt_pagebook.specs.Stops.{StopsAt};
 ghost use Rattle.newt_index.specs.Pairs.{IsSorted};
 ghost use Rattle.newt_ranges.specs.Range.{range_in};
 ghost use Rattle.newt_spec_store.specs.Laid.{bare};
-ghost use Rattle.newt_spec_store.specs.Store.{Store as Plain, Soup, Entry as PlainEntry, soup_named, change_soup, make_soup, drop_soup, add_entry, remove_entry, entry_of};
+ghost use Rattle.newt_spec_store.specs.Store.{Store as Plain, Soup, Entry as PlainEntry, soup_named, change_soup, make_soup, drop_soup, add_entry, remove_entry, entry_of, soup_of, entry_at, count_in, new_store, with_index, without_index};
 ghost use Rattle.newt_spec_store.specs.Valid.{well_formed};
-ghost use Rattle.newt_spec_world.specs.Changed.{new_store, with_graph, with_index, without_index};
-ghost use Rattle.newt_laws_answers.specs.Bounds.{change_bytes, patch_bytes, unless};
+ghost use Rattle.newt_spec_world.specs.Changed.{with_graph};
+ghost use Rattle.newt_spec_store.specs.Cost.{patch_bytes};
+ghost use Rattle.newt_laws_answers.specs.Bounds.{change_bytes, unless};
 ghost use Rattle.newt_laws_answers.specs.Tests.{make_tests, add_tests, move_tests, moved_within, replace_tests, replaced, patch_tests, patched_within, index_tests, tags_tests, tagged};
 ghost use Rattle.newt_cardstore.specs.Bounds.{ProgramsAtMost};
-ghost use Rattle.newt_cardstore.specs.Cards.{soup_of, entry_at, entry_said, count_in, LeavesEither, IsSame, OthersSame};
+ghost use Rattle.newt_cardstore.specs.Cards.{entry_said, LeavesEither, IsSame, OthersSame};
 ghost use Rattle.newt_cardstore.specs.Faults.{Does, GoesOn, FaultsAt, IsRefused};
 
 use crate::fault::Fault;

@@ -22,7 +22,7 @@ use Rattle.newt_base.specs.Names.{is_name, equal_text}
 use Rattle.newt_spec_graph.specs.Graph.{every}
 use Rattle.newt_spec_graph.specs.Lists.{Among, Pairs, all_apart, rises}
 use Rattle.newt_spec_graph.proofs.Lists.{each-at, each-list_all}
-use Rattle.newt_spec_store.specs.Store.{Store, Soup, Entry}
+use Rattle.newt_spec_store.specs.Store.{Store, Soup, Entry, soup_of}
 use Rattle.newt_spec_store.specs.StoreOf.{LargeRow, large_object, names_larges, store_of}
 use Rattle.newt_spec_store.specs.ImageStore.{store_of_image}
 use Rattle.newt_spec_store.specs.OfImage.{blocks_of}
@@ -38,7 +38,6 @@ use Rattle.newt_laws_images.proofs.Rows.{large-parts}
 use Rattle.newt_laws_images.proofs.Gathering.{image-by-objects, image-no-pages, image-no-table}
 use Rattle.newt_laws_images.proofs.Refused.{no-directory, has-directory, has-names, named-by-two, named-by-one, bad-record, not-given, stands-twice}
 use Rattle.newt_soupdir.specs.Bare.{bare_store}
-use Rattle.newt_soupdir.specs.Changes.{soup_of}
 use Rattle.newt_soupdir.specs.declared.rows.Directory.{Directory}
 use Rattle.newt_entries.specs.Entry.{stream_graph, row_at, said}
 use Rattle.newt_entries.specs.declared.row.EntryRow.{EntryRow}

@@ -7,7 +7,7 @@ use Rattle.newt_base.specs.Names.{same_path}
 use Rattle.newt_keys.specs.Seen.{declared_all}
 use Rattle.newt_keys.specs.declared.types.IndexPart.{IndexPart}
 use Rattle.newt_keys.proofs.Agree.{paths_seen}
-use Rattle.newt_laws_answers.specs.Spoken.{tags_fit}
+use Rattle.newt_laws.specs.Worlds.{tags_fit}
 use Rattle.newt_spec_store.specs.Keys.{Path, same_paths, paths_of}
 use Rattle.newt_spec_store.specs.Valid.{valid_tags}
 use Rattle.newt_spec_world.specs.declared.command.PartWord.{PartWord}

@@ -5,7 +5,7 @@ use Rattle.std.specs.Bool.{⊤}
 use Rattle.newt_base.specs.Refusals.{Checks, first_of}
 use Rattle.newt_base.specs.declared.Refusal.{Refusal}
 use Rattle.newt_graph.specs.Graph.{RawGraph}
-use Rattle.newt_spec_store.specs.Store.{Store, Soup, Entry, soup_named, entry_of, make_soup, drop_soup, change_soup, add_entry, remove_entry}
+use Rattle.newt_spec_store.specs.Store.{Store, Soup, Entry, soup_named, entry_of, make_soup, drop_soup, change_soup, add_entry, remove_entry, soup_of, entry_at}
 use Rattle.newt_spec_world.specs.declared.command.Command.{Command}
 use Rattle.newt_spec_world.specs.declared.command.Command.TheVariants as command
 use Rattle.newt_spec_world.specs.Reply.{Reply}
@@ -26,7 +26,7 @@ use Rattle.newt_cardstore.specs.declared.fault.Fault.TheVariants.{Refused, Stop}
 use Rattle.newt_base.specs.declared.Refusal.TheVariants.{Entry as NoEntry}
 use Rattle.newt_cardstore.specs.declared.card.Entry.{Entry as Shown}
 use Rattle.newt_units.specs.Answers.{Answers}
-use Rattle.newt_cardstore.specs.Cards.{ReadsEntry, soup_of, entry_at, entry_said}
+use Rattle.newt_cardstore.specs.Cards.{ReadsEntry, entry_said}
 use Rattle.newt_cardstore.specs.Faults.{Does}
 use Rattle.newt_units.proofs.Answering.{does-answers, makes}
 

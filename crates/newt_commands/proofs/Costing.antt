@@ -7,17 +7,17 @@ use Rattle.newt_host.specs.Outside.{Outside}
 use Rattle.newt_entries.proofs.Within.{graph-within}
 use Rattle.newt_path.specs.Put.{IsFormOf}
 use Rattle.newt_spec_graph.specs.Slots.{put}
-use Rattle.newt_laws.specs.Worlds.{parts_fit}
+use Rattle.newt_laws.specs.Worlds.{parts_fit, tags_fit}
 use Rattle.newt_spec_store.specs.Keys.{Path, IndexSpec}
-use Rattle.newt_spec_store.specs.Store.{Store, Soup, TagTable, Entry, entry_of, drop_soup, change_soup, add_entry, remove_entry}
+use Rattle.newt_spec_store.specs.Store.{Store, Soup, TagTable, Entry, entry_of, drop_soup, change_soup, add_entry, remove_entry, with_index, without_index}
 use Rattle.newt_spec_store.specs.Valid.{valid_entry}
 use Rattle.newt_spec_world.specs.declared.command.Command.{Command}
 use Rattle.newt_spec_world.specs.declared.command.Command.TheVariants as command
 use Rattle.newt_spec_world.specs.declared.command.PartWord.{PartWord}
-use Rattle.newt_spec_world.specs.Changed.{spec_of_words, with_graph, with_index, without_index, large_at}
+use Rattle.newt_spec_world.specs.Changed.{spec_of_words, with_graph, large_at}
 use Rattle.newt_spec_world.specs.World.{World, default_unit}
-use Rattle.newt_laws_answers.specs.Bounds.{change_bytes, patch_bytes, unless, most_programmed}
-use Rattle.newt_laws_answers.specs.Spoken.{tags_fit}
+use Rattle.newt_spec_store.specs.Cost.{patch_bytes}
+use Rattle.newt_laws_answers.specs.Bounds.{change_bytes, unless, most_programmed}
 use Rattle.newt_laws_answers.specs.Tests.{add_tests, replace_tests, replaced, patch_tests, move_tests, moved_within, index_tests, has_paths, tagged, tags_tests}
 use Rattle.newt_laws_answers.proofs.Most.{drop-most, add-most, addx-most, addu-most, remove-most, change-most, set-most, vwrite-most, copy-most, move-to-most, move-from-most, within-most, index-most, unindex-most, set-tags-most}
 use Rattle.newt_cardstore.specs.declared.fault.Fault.{Fault}

@@ -9,7 +9,7 @@ use Rattle.newt_host.specs.Moments.{Moment, Always, MayLeave}
 use Rattle.newt_host.proofs.Moments.{Always-append, Always-map, Always-last}
 use Rattle.newt_spec_graph.proofs.Lists.{some-same, none-some, both-ways}
 use Rattle.newt_laws.proofs.Units.{same-or-not, device-other}
-use Rattle.newt_spec_store.specs.Store.{Store, Entry, soup_named, entry_of, change_soup, add_entry, remove_entry}
+use Rattle.newt_spec_store.specs.Store.{Store, Entry, soup_named, entry_of, change_soup, add_entry, remove_entry, soup_of, entry_at}
 use Rattle.newt_spec_world.specs.declared.command.Command.{Command}
 use Rattle.newt_spec_world.specs.declared.command.Command.TheVariants as command
 use Rattle.newt_spec_world.specs.Reply.{Reply}
@@ -23,7 +23,7 @@ use Rattle.newt_laws_answers.proofs.Units.{is-there, on-changed, on-other}
 use Rattle.newt_cardstore.specs.declared.fault.Fault.{Fault}
 use Rattle.newt_cardstore.specs.declared.fault.Fault.TheVariants.{Refused, Stop}
 use Rattle.newt_units.specs.Answers.{Answers}
-use Rattle.newt_cardstore.specs.Cards.{soup_of, entry_at, ReadsEntry}
+use Rattle.newt_cardstore.specs.Cards.{ReadsEntry}
 use Rattle.newt_cardstore.specs.Faults.{Does}
 use Rattle.newt_units.specs.Found.{HasSoup, HasEntry}
 use Rattle.newt_units.proofs.Answering.{does-answers, makes}

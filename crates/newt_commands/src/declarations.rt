@@ -3,8 +3,7 @@ ghost use Rattle.std.specs.Prelude.{◌≡◌, ◌≤◌, true, IfOk, length, ma
 ghost use Rattle.std.specs.List.{list_all, list_any};
 ghost use Rattle.newt_base.specs.Names.{same_path};
 ghost use Rattle.newt_keys.specs.Seen.{declared, declared_all};
-ghost use Rattle.newt_laws.specs.Worlds.{parts_fit};
-ghost use Rattle.newt_laws_answers.specs.Spoken.{tags_fit};
+ghost use Rattle.newt_laws.specs.Worlds.{parts_fit, tags_fit};
 ghost use Rattle.newt_spec_store.specs.Keys.{paths_of, same_paths};
 ghost use Rattle.newt_spec_world.specs.Changed.{kind_of, spec_of_words};
 

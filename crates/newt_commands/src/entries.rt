@@ -1,7 +1,7 @@
 //! Entries: added, shown, removed, and their aliases.
 ghost use Rattle.std.specs.Prelude.{◌≡◌, true, IsTrue, Some, IfErr};
 ghost use Rattle.newt_host.specs.Moments.{Always};
-ghost use Rattle.newt_host.specs.Outside.{Outside};
+ghost use Rattle.newt_host.specs.Outside.{Outside, OnDevices};
 ghost use Rattle.newt_spec_world.specs.Reply.{Reply};
 ghost use Rattle.newt_spec_world.specs.declared.command.Command.{Command};
 ghost use Rattle.newt_laws_answers.specs.Answering.{Answering};
@@ -9,7 +9,7 @@ ghost use Rattle.newt_laws_answers.specs.Bounds.{most_programmed};
 ghost use Rattle.newt_laws_answers.specs.Spoken.{answer_now};
 ghost use Rattle.newt_cardstore.specs.Bounds.{Costs};
 ghost use Rattle.newt_units.specs.Answers.{Answers};
-ghost use Rattle.newt_cardstore.specs.Faults.{GoesOn, HasFaultCause, IsRefusal, OnDevices};
+ghost use Rattle.newt_cardstore.specs.Faults.{GoesOn, HasFaultCause, IsRefusal};
 ghost use Rattle.newt_units.specs.Stands.{Eight, Stands, world_of};
 
 use newt_base::{Name, Refusal, Sig, Uid};

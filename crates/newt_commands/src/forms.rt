@@ -1,19 +1,15 @@
 //! The forms of the words that a declaration is made of.
-ghost use Rattle.std.specs.Prelude.{◌≡◌, ◌||◌, is_none};
-ghost use Rattle.std.specs.Char.{is_ascii_digit};
+ghost use Rattle.std.specs.Prelude.{◌≡◌, is_none};
 ghost use Rattle.std.specs.List.{list_all, list_any};
-ghost use Rattle.newt_base.specs.Names.{is_identifier, starts_identifier, same_name};
-ghost use Rattle.newt_laws.specs.Worlds.{parts_fit};
-ghost use Rattle.newt_laws_answers.specs.Spoken.{tags_fit};
+ghost use Rattle.newt_base.specs.Names.{is_identifier, same_name};
+ghost use Rattle.newt_laws.specs.Worlds.{parts_fit, tags_fit};
 ghost use Rattle.newt_spec_graph.specs.Lists.{all_apart};
-ghost use Rattle.newt_spec_store.specs.Valid.{valid_path, valid_symbol};
+ghost use Rattle.newt_spec_store.specs.Valid.{valid_path};
 
+use newt_base::is_identifier;
 use newt_graph::Bytes;
 use newt_path::Path;
 use newt_spec_world::PartWord;
-
-/// The most bytes of a symbol.
-const MOST_BYTES: usize = 254;
 
 /// The most names of a path.
 const MOST_NAMES: usize = 8;
@@ -48,7 +44,7 @@ pub(crate) fn are_tags(path: &Path, symbols: &[Bytes]) -> bool
     is_path(path) && all_symbols(symbols) && are_symbols_apart(symbols)
 }
 
-/// Whether a path has 1 to 8 names, each an identifier of at most 254 bytes.
+/// Whether a path has 1 to 8 names, each an identifier.
 fn is_path(path: &Path) -> bool
     ensures { result ≡ valid_path path.now }
 {
@@ -57,39 +53,9 @@ fn is_path(path: &Path) -> bool
 }
 
 fn all_symbols(names: &[Bytes]) -> bool
-    ensures { result ≡ list_all valid_symbol names.now }
+    ensures { result ≡ list_all is_identifier names.now }
 {
-    names.iter().all(|name| is_symbol(name.list()))
-}
-
-/// Whether a text is an identifier of at most 254 bytes.
-fn is_symbol(text: &[u8]) -> bool
-    ensures { result ≡ valid_symbol text.now }
-{
-    is_identifier(text) && text.len() <= MOST_BYTES
-}
-
-fn is_identifier(text: &[u8]) -> bool
-    ensures { result ≡ is_identifier text.now }
-{
-    match text {
-        [] => false,
-        [first, rest @ ..] => starts_identifier(*first) && all_continue(rest),
-    }
-}
-
-fn starts_identifier(byte: u8) -> bool
-    ensures { result ≡ starts_identifier byte }
-{
-    byte.is_ascii_alphabetic() || byte == b'_'
-}
-
-fn all_continue(bytes: &[u8]) -> bool
-    ensures { result ≡ list_all (λ b. starts_identifier b || is_ascii_digit b) bytes.now }
-{
-    bytes
-        .iter()
-        .all(|b| starts_identifier(*b) || b.is_ascii_digit())
+    names.iter().all(|name| is_identifier(name.list()))
 }
 
 /// Whether no two symbols are one but for ASCII case.

@@ -1,8 +1,8 @@
 //! Indexes: declared, removed and shown.
 ghost use Rattle.std.specs.Prelude.{◌≡◌, ℕ, true, IsTrue, Some, None, IfOk, IfErr, map, option_map, option_and_then};
 ghost use Rattle.newt_host.specs.Moments.{Always};
-ghost use Rattle.newt_host.specs.Outside.{Outside};
-ghost use Rattle.newt_spec_store.specs.Store.{Store as Plain, Soup};
+ghost use Rattle.newt_host.specs.Outside.{Outside, OnDevices};
+ghost use Rattle.newt_spec_store.specs.Store.{Store as Plain, Soup, soup_of};
 ghost use Rattle.newt_spec_world.specs.Changed.{spec_of_words};
 ghost use Rattle.newt_spec_world.specs.Reply.{Reply};
 ghost use Rattle.newt_spec_world.specs.declared.command.Command.{Command};
@@ -14,9 +14,8 @@ ghost use Rattle.newt_laws_answers.specs.Tests.{has_paths};
 ghost use Rattle.newt_laws_answers.specs.There.{OnUnit};
 ghost use Rattle.newt_cardstore.specs.Bounds.{Costs};
 ghost use Rattle.newt_units.specs.Answers.{Answers};
-ghost use Rattle.newt_cardstore.specs.Cards.{soup_of};
 ghost use Rattle.newt_commands.specs.Declares.{MayDeclare};
-ghost use Rattle.newt_cardstore.specs.Faults.{GoesOn, HasFaultCause, NoDevice, OnDevices};
+ghost use Rattle.newt_cardstore.specs.Faults.{GoesOn, HasFaultCause, NoDevice};
 ghost use Rattle.newt_units.specs.Stands.{card_at, Eight, Stands, world_of};
 
 use crate::declarations::{copied_specs, has_paths, has_paths_of, new_spec};

@@ -1,5 +1,6 @@
 //! Large binaries of entries: read and written over.
 ghost use Rattle.std.specs.Prelude.{◌≡◌, ◌+◌, IsTrue, IfErr, MatchOption, true, false, length, nat_lt, slice_get};
+ghost use Rattle.newt_host.specs.Outside.{OnDevices};
 ghost use Rattle.newt_host.specs.Moments.{Always};
 ghost use Rattle.newt_spec_world.specs.Answer.{bytes_from};
 ghost use Rattle.newt_spec_world.specs.Changed.{bytes_of_large, large_at};
@@ -10,7 +11,7 @@ ghost use Rattle.newt_laws_answers.specs.Bounds.{most_programmed};
 ghost use Rattle.newt_laws_answers.specs.Spoken.{answer_now};
 ghost use Rattle.newt_cardstore.specs.Bounds.{Costs};
 ghost use Rattle.newt_units.specs.Answers.{Answers};
-ghost use Rattle.newt_cardstore.specs.Faults.{GoesOn, HasFaultCause, NoDevice, OnDevices};
+ghost use Rattle.newt_cardstore.specs.Faults.{GoesOn, HasFaultCause, NoDevice};
 ghost use Rattle.newt_commands.specs.Larges.{ReadsLarge};
 ghost use Rattle.newt_units.specs.Stands.{Stands, world_of};
 

@@ -1,7 +1,7 @@
 //! Tags: declared and shown.
 ghost use Rattle.std.specs.Prelude.{◌≡◌, true, IsTrue, Some, None, IfErr, option_map, option_and_then};
 ghost use Rattle.newt_host.specs.Moments.{Always};
-ghost use Rattle.newt_host.specs.Outside.{Outside};
+ghost use Rattle.newt_host.specs.Outside.{Outside, OnDevices};
 ghost use Rattle.newt_spec_world.specs.Reply.{Reply};
 ghost use Rattle.newt_spec_world.specs.declared.command.Command.{Command};
 ghost use Rattle.newt_laws_answers.specs.Answering.{Answering};
@@ -9,8 +9,8 @@ ghost use Rattle.newt_laws_answers.specs.Bounds.{most_programmed};
 ghost use Rattle.newt_laws_answers.specs.Spoken.{answer_now};
 ghost use Rattle.newt_cardstore.specs.Bounds.{Costs};
 ghost use Rattle.newt_units.specs.Answers.{Answers};
-ghost use Rattle.newt_cardstore.specs.Cards.{soup_of};
-ghost use Rattle.newt_cardstore.specs.Faults.{GoesOn, HasFaultCause, NoDevice, OnDevices};
+ghost use Rattle.newt_spec_store.specs.Store.{soup_of};
+ghost use Rattle.newt_cardstore.specs.Faults.{GoesOn, HasFaultCause, NoDevice};
 ghost use Rattle.newt_units.specs.Stands.{card_at, Eight, Stands, world_of};
 
 use crate::declarations::new_table;

@@ -1,5 +1,5 @@
 -- What a call on the units says of a command.
-use Rattle.std.proofs.Common.{arith, ◌≡◌, refl, sym, ◌∙◌, ap, subst, ℕ, List, Bool, true, IsTrue, Option}
+use Rattle.std.proofs.Common.{◌≡◌, refl, sym, ◌∙◌, ap, subst, ℕ, List, Bool, true, IsTrue, Option}
 use Rattle.std.specs.Prelude.{Result, Ok, Err, IfErr}
 use Rattle.newt_host.specs.Moments.{Moment, Always}
 use Rattle.newt_host.specs.Outside.{Outside}
@@ -16,7 +16,7 @@ use Rattle.newt_cardstore.specs.declared.fault.Fault.{Fault}
 use Rattle.newt_cardstore.specs.declared.fault.Fault.TheVariants.{Refused, Stop}
 use Rattle.newt_units.specs.declared.units.Units.{Units}
 use Rattle.newt_units.specs.Answers.{Answers}
-use Rattle.newt_cardstore.specs.Faults.{HasFaultCause, NoDevice, OnDevices}
+use Rattle.newt_cardstore.specs.Faults.{HasFaultCause, NoDevice}
 use Rattle.newt_units.specs.Stands.{Eight, Stands, world_of}
 use Rattle.newt_units.proofs.Known.{Laws}
 use Rattle.newt_units.proofs.Turns.{still-moments}
@@ -56,13 +56,3 @@ has_cause o p (Ok x) h = tt
 has_cause o p (Err (Refused r)) h = tt
 has_cause o p (Err (Stop stops.Memory)) h = tt
 has_cause o p (Err (Stop (stops.Device unit))) h = absurd h
-
--- where nothing has happened, no device has fewer faults
-pub still_devices : (o : Outside) → OnDevices o o
-still_devices o = record {
-  input = refl;
-  cards = record { devices = λ name. refl; card = λ u. refl; blocks = λ u. refl };
-  in_faults = refl;
-  out_faults = refl;
-  dev_faults = λ u. omega arith;
-}

@@ -1,13 +1,14 @@
 //! The world over the cards of a host.
 ghost use Rattle.std.specs.Prelude.{◌≡◌, ℕ, false, Ok, IsTrue, IsOk, IfOk, OnOk, IfErr};
 ghost use Rattle.newt_base.specs.declared.Refusal.{Refusal};
+ghost use Rattle.newt_host.specs.Outside.{OnDevices};
 ghost use Rattle.newt_host.specs.Moments.{Always};
+ghost use Rattle.newt_pagebook.specs.Stops.{HasStopCause};
 ghost use Rattle.newt_reply.specs.Said.{said};
 ghost use Rattle.newt_laws_answers.specs.Answering.{Answering};
 ghost use Rattle.newt_laws_answers.specs.Bounds.{most_programmed};
 ghost use Rattle.newt_laws_answers.specs.Spoken.{answer_now};
 ghost use Rattle.newt_cardstore.specs.Bounds.{ProgramsAtMost, IsOpenOrSame};
-ghost use Rattle.newt_cardstore.specs.Faults.{HasStopCause, OnDevices};
 ghost use Rattle.newt_walk.specs.World.{world_with};
 ghost use Rattle.newt_engine.specs.Bounds.{is_format};
 ghost use Rattle.newt_engine.specs.Ends.{takes_memory, uses_device};

@@ -7,30 +7,17 @@ ghost use Rattle.newt_spec_store.specs.Store.{Entry};
 ghost use Rattle.newt_entries.specs.Entry.{large_bytes, AreRowsOf};
 
 use crate::row::{EntryRow, LargeAt};
+use newt_base::{push16, push32};
 use newt_nsof_write::encode;
 use std::alloc::{AllocError, Global};
-
-/// A number of two bytes, the first the highest.
-fn put_16(out: &mut Vec<u8>, number: u16) -> Result<(), AllocError>
-    ensures { OnOk result (out.new.items ≡ out.old.items ++ be16 number) }
-{
-    out.extend_from_slice(&number.to_be_bytes())
-}
-
-/// A number of four bytes, the first the highest.
-fn put_32(out: &mut Vec<u8>, number: u32) -> Result<(), AllocError>
-    ensures { OnOk result (out.new.items ≡ out.old.items ++ be32 number) }
-{
-    out.extend_from_slice(&number.to_be_bytes())
-}
 
 /// The row of a large binary.
 fn put_large(out: &mut Vec<u8>, large: &LargeAt) -> Result<(), AllocError>
     ensures { OnOk result (out.new.items ≡ out.old.items ++ large_bytes large.now) }
 {
-    put_32(out, large.node)?;
-    put_32(out, large.object)?;
-    put_32(out, large.length)
+    push32(out, large.node)?;
+    push32(out, large.object)?;
+    push32(out, large.length)
 }
 
 /// The rows of large binaries.
@@ -50,10 +37,10 @@ fn head_and_text(alloc: Global, row: &EntryRow) -> Result<Vec<u8>, AllocError>
     ensures { IfOk result (λ v. v.items ≡ be16 row.now.soup ++ be16 (length row.now.larges) ++ be32 row.now.uid ++ be32 row.now.time ++ nsof row.now.skeleton) }
 {
     let mut out = Vec::new(alloc);
-    put_16(&mut out, row.soup.0 as u16)?;
-    put_16(&mut out, row.larges.list().len() as u16)?;
-    put_32(&mut out, row.uid.0)?;
-    put_32(&mut out, row.time)?;
+    push16(&mut out, row.soup.0 as u16)?;
+    push16(&mut out, row.larges.list().len() as u16)?;
+    push32(&mut out, row.uid.0)?;
+    push32(&mut out, row.time)?;
     let text = encode(alloc, &row.skeleton)?;
     out.extend_from_slice(&text)?;
     Ok(out)

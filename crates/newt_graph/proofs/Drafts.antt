@@ -2,8 +2,9 @@
 use Rattle.std.proofs.Common.{◌≡◌, ℕ, zero, suc, ◌+◌, ◌-◌, ◌<◌, ◌≤◌, List, [], ◌∷◌, ◌++◌, length, get_or, Bool, true, false, Option, Some, None, refl, sym, ap, subst, ◌∙◌, arith, cond, inl, inr, ◌⊎◌}
 use Rattle.std.specs.Prelude.{slice_get, set, nat_lt}
 use Rattle.std.specs.List.{sum_by, position_from}
-use Rattle.std.specs.Str.{str_eq_ignore_ascii_case}
+use Rattle.std.specs.Str.{bytes_eq, str_eq_ignore_ascii_case}
 use Rattle.std.proofs.lemmas.Bool.{leb-true, le-leb, ltb-true}
+use Rattle.std.proofs.lemmas.Bool.Decides.{same_from_decides}
 use Rattle.std.proofs.lemmas.Slice.Eq.{bytes_eq-Decides}
 use Rattle.std.proofs.lemmas.List.{length_push, length-set}
 use Rattle.std.proofs.lemmas.List.Sums.{sum_by_push, sum_by-set}
@@ -16,8 +17,12 @@ use Rattle.newt_graph.specs.Raw.{IsRaw}
 use Rattle.newt_graph.specs.Draft.{IsPart, IsDraft, IsJoinedNode, IsJoined, IsFilling, is_small, is_alike, find_alike, slot_put, with_slot, with_set}
 use Rattle.newt_graph.specs.Meeting.{place}
 use Rattle.std.proofs.lemmas.Option.{slice_get_within, get_or_from_slice_get}
-use Rattle.newt_graph.proofs.Grows.{at_push, some_is}
+use Rattle.newt_graph.proofs.Grows.{get_append, at_push, some_is}
 use Rattle.std.proofs.lemmas.List.Elements.{All-head}
+
+-- names are alike in either order
+pub bytes_eq-sym : (a b : List ℕ) → bytes_eq a b ≡ bytes_eq b a
+bytes_eq-sym a b = same_from_decides (bytes_eq a b) (bytes_eq b a) (bytes_eq-Decides a b) ((λ e. sym ((bytes_eq-Decides b a).0 e)), (λ e. (bytes_eq-Decides b a).1 (sym e)))
 
 pub once_push : (nodes : List Node) (node : Node) → AreFoldedOnce nodes → ((name : List ℕ) → node ≡ Symbol name → (k : ℕ) → IsAlike nodes k name → ⊥) → AreFoldedOnce (nodes ++ node ∷ [])
 once_push nodes node once new i k name h alike =
@@ -31,6 +36,12 @@ once_push nodes node once new i k name h alike =
         | inr last ↦ this.0 ∙ sym last.0
       ]
     ]
+
+pub symbol_append : (nodes more : List Node) (k : ℕ) → IsSymbol nodes k → IsSymbol (nodes ++ more) k
+symbol_append nodes more k h = (h.0, get_append nodes more k (Symbol h.0) h.1)
+
+pub alike_append : (nodes more : List Node) (k : ℕ) (name : List ℕ) → IsAlike nodes k name → IsAlike (nodes ++ more) k name
+alike_append nodes more k name h = (h.0, get_append nodes more k (Symbol h.0) h.1, h.2)
 
 pub draft_push : (nodes : List Node) (node : Node) → length nodes < 131072 → payload node ≡ 0 → IsPart node → ((name : List ℕ) → node ≡ Symbol name → (k : ℕ) → IsAlike nodes k name → ⊥) → IsDraft nodes → IsDraft (nodes ++ node ∷ [])
 draft_push nodes node few none part new draft = record {
@@ -70,7 +81,7 @@ none_alike nodes name e k alike =
     not_both e = absurd cc
 
 -- where the first one is that passes a test
-found_at : {X : Type 0} (t : X → Bool) (i : ℕ) (xs : List X) (q : ℕ) → position_from t i xs ≡ Some q → (p : ℕ) × (x : X) × (q ≡ i + p) × (slice_get xs p ≡ Some x) × (t x ≡ true)
+pub found_at : {X : Type 0} (t : X → Bool) (i : ℕ) (xs : List X) (q : ℕ) → position_from t i xs ≡ Some q → (p : ℕ) × (x : X) × (q ≡ i + p) × (slice_get xs p ≡ Some x) × (t x ≡ true)
 found_at t i [] q e = absurd cc
 found_at {X} t i (a ∷ xs) q e = go (λ e. found_at t (i + 1) xs q e) (t a) refl e
   where
@@ -79,22 +90,22 @@ found_at {X} t i (a ∷ xs) q e = go (λ e. found_at t (i + 1) xs q e) (t a) ref
     go others true is e = let same : i ≡ q = cc in (0, a, omega (arith, same), refl, is)
     go others false is e = let o = others e in (suc o.0, o.1, omega (arith, o.2), o.3, o.4)
 
-alike_symbol : (name : List ℕ) (node : Node) → is_alike name node ≡ true → (old : List ℕ) × (node ≡ Symbol old)
-alike_symbol name (Symbol old) e = (old, refl)
+alike_symbol : (name : List ℕ) (node : Node) → is_alike name node ≡ true → (old : List ℕ) × (node ≡ Symbol old) × (folded old ≡ folded name)
+alike_symbol name (Symbol old) e = (old, refl, (bytes_eq-Decides (folded old) (folded name)).0 e)
 alike_symbol name (Str u) e = absurd cc
 alike_symbol name (Binary c u) e = absurd cc
 alike_symbol name (Large c u) e = absurd cc
 alike_symbol name (Array c u) e = absurd cc
 alike_symbol name (Frame c u) e = absurd cc
 
--- the node that is found is a symbol
-pub alike_found : (name : List ℕ) (nodes : List Node) (k : ℕ) → find_alike name nodes ≡ Some k → IsSymbol nodes k
+-- the node that is found is a symbol of this name but for ASCII case
+pub alike_found : (name : List ℕ) (nodes : List Node) (k : ℕ) → find_alike name nodes ≡ Some k → IsAlike nodes k name
 unfolding find_alike
 alike_found name nodes k e =
     let f = found_at (is_alike name) 0 nodes k e in
     let old = alike_symbol name f.1 f.4 in
     let same : f.0 ≡ k = omega (arith, f.2) in
-    (old.0, subst (λ (k : ℕ). slice_get nodes k ≡ Some (Symbol old.0)) same (f.3 ∙ ap (λ (n : Node). Some n) old.1))
+    (old.0, subst (λ (k : ℕ). slice_get nodes k ≡ Some (Symbol old.0)) same (f.3 ∙ ap (λ (n : Node). Some n) old.1), old.2)
 
 pub alike_within : (name : List ℕ) (nodes : List Node) (k : ℕ) → find_alike name nodes ≡ Some k → k < length nodes
 alike_within name nodes k e = let f = alike_found name nodes k e in slice_get_within nodes k (Symbol f.0) f.1

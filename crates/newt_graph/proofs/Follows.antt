@@ -15,42 +15,12 @@ use Rattle.newt_graph.specs.declared.node.Ref.{Ref}
 use Rattle.newt_graph.specs.declared.node.Ref.TheVariants as refs
 use Rattle.newt_graph.specs.Graph.{RawGraph, IsGraph, WalkLabel, WalkLabels, Walk, Walks, payload}
 use Rattle.newt_graph.specs.Raw.{renamed_ref, renamed, labels_of, values_of, IsSeenBy, IsNormalForm}
+use Rattle.newt_graph.specs.Slice.{At}
 use Rattle.newt_graph.specs.Meeting.{Seen, Step, place, is_new, added, meet_label, meet_labels, meet_class, meet_each, within, enter, meet_by, meet, Once, number, moved, limited, numbered, normal_form, Gives}
 use Rattle.newt_graph.proofs.Place.{place_get, place_some, place_none}
 use Rattle.newt_graph.proofs.Grows.{some_is, get_seam, node_at}
+use Rattle.newt_graph.proofs.Slices.{at_first, at_rest, at_inside, at_here, at_length}
 use Rattle.newt_graph.proofs.Form.{map_at, at_map, any_at, back, start, number_is}
-
--- the new nodes stand among all nodes behind those that were met
-record At (nodes new : List Node) (met : ℕ) : Type 0 where
-  pub before : List Node
-  pub later : List Node
-  pub whole : nodes ≡ before ++ (new ++ later)
-  pub met_is : length before ≡ met
-
-abbrev at_first : (nodes a b : List Node) (met : ℕ) → At nodes (a ++ b) met → At nodes a met
-at_first nodes a b met at = record { before = at.before; later = b ++ at.later; whole = at.whole ∙ ap (λ (x : List Node). at.before ++ x) (append_assoc a b at.later); met_is = at.met_is }
-
-abbrev at_rest : (nodes a b : List Node) (met : ℕ) → At nodes (a ++ b) met → At nodes b (met + length a)
-at_rest nodes a b met at = record {
-  before = at.before ++ a;
-  later = at.later;
-  whole = at.whole ∙ ap (λ (x : List Node). at.before ++ x) (append_assoc a b at.later) ∙ sym (append_assoc at.before a (b ++ at.later));
-  met_is = omega (arith, length-append at.before a, at.met_is);
-}
-
-abbrev at_inside : (nodes : List Node) (node : Node) (new : List Node) (met : ℕ) → At nodes (node ∷ new) met → At nodes new (suc met)
-at_inside nodes node new met at = record {
-  before = at.before ++ node ∷ [];
-  later = at.later;
-  whole = at.whole ∙ sym (append_assoc at.before (node ∷ []) (new ++ at.later));
-  met_is = omega (arith, length_push at.before node, at.met_is);
-}
-
-at_here : (nodes : List Node) (node : Node) (new : List Node) (met : ℕ) → At nodes (node ∷ new) met → slice_get nodes met ≡ Some node
-at_here nodes node new met at = ap (λ (x : List Node). slice_get x met) at.whole ∙ rw (← at.met_is) (get_seam at.before node (new ++ at.later))
-
-at_length : (nodes new : List Node) (met : ℕ) → At nodes new met → met + length new ≤ length nodes
-at_length nodes new met at = omega (arith, ap length at.whole, length-append at.before (new ++ at.later), length-append new at.later, at.met_is)
 
 -- ---- the first so many of the order
 

@@ -54,6 +54,7 @@ is_small (Large class bytes) = nat_le (length bytes) 1000000
 is_small (Array class values) = nat_le (length values) 65535
 is_small (Frame tags values) = nat_le (length tags) 65535
 
+-- a symbol of this name but for ASCII case
 abbrev pub is_alike : List ℕ → Node → Bool
 is_alike name (Symbol old) = str_eq_ignore_ascii_case old name
 is_alike name _ = false

@@ -7,14 +7,13 @@ use Rattle.newt_store.specs.declared.change.Change.TheVariants as change
 use Rattle.newt_spec_graph.specs.Lists.{Each, Pairs}
 use Rattle.newt_spec_graph.proofs.Lists.{each-from}
 use Rattle.newt_spec_store.specs.Keys.{IndexSpec}
-use Rattle.newt_spec_store.specs.Store.{Entry, Soup, Store, entry_of}
+use Rattle.newt_spec_store.specs.Store.{Entry, Soup, Store, entry_of, soup_of, entry_at}
 use Rattle.newt_spec_store.specs.Valid.{well_formed}
-use Rattle.newt_soupdir.specs.Changes.{soup_of}
 use Rattle.newt_index.specs.Pairs.{Sorted}
 use Rattle.newt_ranges.specs.Rows.{no_pairs}
 use Rattle.newt_ranges.specs.Stands.{graphs_of, IsRange}
 use Rattle.newt_ranges.proofs.Standing.{range_none, range_added, same_graphs}
-use Rattle.newt_store.specs.Change.{entry_in, uids_in}
+use Rattle.newt_store.specs.Change.{uids_in}
 use Rattle.newt_indexed.specs.Filling.{with_read, with_all}
 use Rattle.newt_indexed.specs.Steps.{IsDeclaring, IsStepOf}
 use Rattle.newt_indexed.specs.declared.step.Step.{Step}
@@ -24,7 +23,7 @@ use Rattle.newt_indexed.proofs.Told.{Told, graph_in, nothing, told_one, told_all
 module _ (s : Store) (sig : ℕ) where
   -- one entry more
   filled-one : (spec : Option IndexSpec) (told : Told) (v : Sorted) (u : ℕ) → IsThere sig s u → told sig u ≡ None → IsRange spec (told sig) v
-      → IsRange spec (told_one sig u (entry_in sig u s) told sig) (with_read u (entry_in sig u s) v)
+      → IsRange spec (told_one sig u (entry_at sig u s) told sig) (with_read u (entry_at sig u s) v)
   filled-one spec told v u there none is =
       subst (λ (o : Option Entry). IsRange spec (told_one sig u o told sig) (with_read u o v)) (sym there.1)
       (range_added spec (told sig) (told_one sig u (Some there.0) told sig) v u there.0.graph none (λ w. at_sig sig u (Some there.0) told w) is)
@@ -33,8 +32,8 @@ module _ (s : Store) (sig : ℕ) where
       → IsRange spec (told_all sig s us told sig) (with_all sig s us v)
   filled-all spec [] told v rise there none is = is
   filled-all spec (u ∷ us) told v rise there none is =
-      filled-all spec us (told_one sig u (entry_in sig u s) told) (with_read u (entry_in sig u s) v) rise.1 there.1
-      (still_none sig u (entry_in sig u s) told us rise.0 none.1) (filled-one spec told v u there.0 none.0 is)
+      filled-all spec us (told_one sig u (entry_at sig u s) told) (with_read u (entry_at sig u s) v) rise.1 there.1
+      (still_none sig u (entry_at sig u s) told us rise.0 none.1) (filled-one spec told v u there.0 none.0 is)
 
   -- all entries of a soup
   pub filled-range : (spec : IndexSpec) (p : Soup) → well_formed s ≡ true → soup_of sig s ≡ Some p → IsRange (Some spec) (graphs_of p) (with_all sig s (uids_in (soup_of sig s)) (no_pairs (Some spec)))
@@ -52,7 +51,7 @@ module _ (s : Store) (sig : ℕ) where
   }
 
 -- what is said of each entry is said of the step
-pub moved-step : (result : Result Step Stop) (source uid target : ℕ) (s : Store) → ((e : Entry) → entry_in source uid s ≡ Some e → IfOk result (λ made. made ≡ step.Moved source uid target e.graph))
+pub moved-step : (result : Result Step Stop) (source uid target : ℕ) (s : Store) → ((e : Entry) → entry_at source uid s ≡ Some e → IfOk result (λ made. made ≡ step.Moved source uid target e.graph))
     → IfOk result (IsStepOf (change.Move source uid target) s)
 moved-step (Ok made) source uid target s h = h
 moved-step (Err stop) source uid target s h = tt

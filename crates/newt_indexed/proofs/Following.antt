@@ -7,7 +7,7 @@ use Rattle.newt_base.specs.declared.Refusal.TheVariants.{Soup as NoSoup, Entry a
 use Rattle.newt_graph.specs.Graph.{RawGraph}
 use Rattle.newt_host.specs.Moments.{overwritten}
 use Rattle.newt_spec_store.specs.Keys.{IndexSpec, Path}
-use Rattle.newt_spec_store.specs.Store.{Entry, Soup, Store, TagTable, entry_of, change_soup, change_entry, add_entry, remove_entry}
+use Rattle.newt_spec_store.specs.Store.{Entry, Soup, Store, TagTable, entry_of, change_soup, change_entry, add_entry, remove_entry, soup_of, with_index, without_index, entry_at, next_uid_of}
 use Rattle.newt_spec_store.specs.Valid.{well_formed}
 use Rattle.newt_laws_images.proofs.Stores.{IsSoup}
 use Rattle.newt_laws_changes.proofs.Chosen.{find-passes, soup-there, soup-good, entry-below}
@@ -15,7 +15,7 @@ use Rattle.newt_laws_changes.proofs.Fresh.{in_valid}
 use Rattle.newt_laws_changes.proofs.Formed.{added_formed}
 use Rattle.newt_laws_changes.proofs.Members.{entry_is_in}
 use Rattle.newt_laws_changes.proofs.Moved.{soup_after_add}
-use Rattle.newt_soupdir.specs.Changes.{soup_of, with_index, without_index, with_tags}
+use Rattle.newt_soupdir.specs.Changes.{with_tags}
 use Rattle.newt_ranges.specs.declared.rows.SoupRanges.{SoupRanges}
 use Rattle.newt_ranges.specs.Rows.{with_entry, without_entry, each_range, with_range, change_ranges}
 use Rattle.newt_ranges.specs.Stands.{AreRangesOf, graphs_of}
@@ -23,7 +23,7 @@ use Rattle.newt_ranges.proofs.Laws as laws
 use Rattle.newt_ranges.proofs.Patched.{IsPatch, patched_ranges}
 use Rattle.newt_ranges.proofs.Seen.{filled-like}
 use Rattle.newt_ranges.proofs.Standing.{none_changed}
-use Rattle.newt_store.specs.Change.{changed_by, answer_of, refusals, refusal_of, full_check, entry_in, changed_soup, dropped_soup, moved_entry, with_graph, large_of, patched_entry, next_uid_of, has_no_ids}
+use Rattle.newt_store.specs.Change.{changed_by, answer_of, refusals, refusal_of, full_check, changed_soup, dropped_soup, moved_entry, with_graph, large_of, patched_entry, has_no_ids}
 use Rattle.newt_store.specs.declared.change.Change.{Change}
 use Rattle.newt_store.specs.declared.change.Change.TheVariants as change
 use Rattle.newt_indexed.specs.Steps.{IsStepOf, IsDeclaring, rows_after}
@@ -79,9 +79,9 @@ module _ (s : Store) (rows : List SoupRanges) (formed : well_formed s ≡ true) 
   follows-replaced : (sig uid blocks now : ℕ) (g : RawGraph) → refusal_of (change.Replace sig uid g) blocks now s ≡ None
       → AreRangesOf (changed_by (change.Replace sig uid g) now s) (rows_after (step.Replaced sig uid g) 0 rows)
   follows-replaced sig uid blocks now g none =
-      let two = none-two NoSoup NoEntry (is_none (soup_of sig s)) (is_none (entry_in sig uid s)) (later-checks (later-checks (refusals (change.Replace sig uid g) blocks now s))) none in
+      let two = none-two NoSoup NoEntry (is_none (soup_of sig s)) (is_none (entry_at sig uid s)) (later-checks (later-checks (refusals (change.Replace sig uid g) blocks now s))) none in
       let there = is-there (soup_of sig s) two.0 in
-      let entry = is-there (entry_in sig uid s) two.1 in
+      let entry = is-there (entry_at sig uid s) two.1 in
       let at : entry_of uid there.0 ≡ Some entry.0 = sym (ap (option_and_then (entry_of uid)) there.1) ∙ entry.1 in
       changed-as sig there.0 (change_entry uid (with_graph now g)) (rows_after (step.Replaced sig uid g) 0 rows) there.1
       (laws.entry_replaced s rows sig there.0 formed there.1 are uid (with_graph now g) g entry.0 (λ d. refl) at refl)
@@ -128,7 +128,7 @@ module _ (s : Store) (rows : List SoupRanges) (formed : well_formed s ≡ true) 
           go false more = ap (λ rs. r ∷ rs) more
 
   -- an entry is added to the one soup, and then goes from the other
-  module _ (source uid target blocks now : ℕ) (p q : Soup) (e : Entry) (from : soup_of source s ≡ Some p) (into : soup_of target s ≡ Some q) (entry : entry_in source uid s ≡ Some e)
+  module _ (source uid target blocks now : ℕ) (p q : Soup) (e : Entry) (from : soup_of source s ≡ Some p) (into : soup_of target s ≡ Some q) (entry : entry_at source uid s ≡ Some e)
       (ids : (q.next_uid == 536_870_911) ≡ false) where
     abbrev between : Store
     between = change_soup q.name (add_entry now e.graph) s
@@ -171,11 +171,11 @@ module _ (s : Store) (rows : List SoupRanges) (formed : well_formed s ≡ true) 
       → AreRangesOf (changed_by (change.Move source uid target) now s) (rows_after st (answer_of (change.Move source uid target) s) rows)
   follows-moved source uid target blocks now st none is =
       let rest : Checks = (Ids, has_no_ids (soup_of target s)) ∷ full_check (change.Move source uid target) blocks now s in
-      let two = none-two NoSoup NoEntry (is_none (soup_of source s) || is_none (soup_of target s)) (is_none (entry_in source uid s)) rest none in
+      let two = none-two NoSoup NoEntry (is_none (soup_of source s) || is_none (soup_of target s)) (is_none (entry_at source uid s)) rest none in
       let both = neither (is_none (soup_of source s)) (is_none (soup_of target s)) two.0 in
       let from = is-there (soup_of source s) both.0 in
       let into = is-there (soup_of target s) both.1 in
-      let entry = is-there (entry_in source uid s) two.1 in
+      let entry = is-there (entry_at source uid s) two.1 in
       let ids : (into.0.next_uid == 536_870_911) ≡ false = sym (ap has_no_ids into.1) ∙ (none-first Ids (has_no_ids (soup_of target s)) (full_check (change.Move source uid target) blocks now s) two.2).0 in
       moved-so source uid target blocks now from.0 into.0 entry.0 from.1 into.1 entry.1 ids st (is entry.0 entry.1)
 

@@ -5,13 +5,12 @@ use Rattle.std.proofs.lemmas.Bool.{eq-eqb}
 use Rattle.newt_spec_graph.specs.Lists.{Each, Pairs, Among}
 use Rattle.newt_spec_graph.proofs.Lists.{each-from, rises-pairs}
 use Rattle.newt_spec_store.specs.Laid.{bare}
-use Rattle.newt_spec_store.specs.Store.{Entry, Soup, Store, entry_of}
+use Rattle.newt_spec_store.specs.Store.{Entry, Soup, Store, entry_of, soup_of, entry_at}
 use Rattle.newt_spec_store.specs.Valid.{well_formed}
 use Rattle.newt_laws_images.proofs.Assembled.{map-among}
 use Rattle.newt_laws_images.proofs.Stores.{is-store}
 use Rattle.newt_laws_changes.proofs.Chosen.{OnePasses, one-sig-of, there-soup}
 use Rattle.newt_soupdir.specs.Bare.{bare_store, bare_soup}
-use Rattle.newt_soupdir.specs.Changes.{soup_of}
 use Rattle.newt_soupdir.specs.declared.rows.Directory.{Directory}
 use Rattle.newt_soupdir.specs.declared.rows.SoupRow.{SoupRow}
 use Rattle.newt_ranges.specs.declared.rows.SoupRanges.{SoupRanges}
@@ -19,7 +18,7 @@ use Rattle.newt_ranges.specs.Rows.{no_ranges}
 use Rattle.newt_ranges.specs.Stands.{graphs_of, IsRangesOf, AreRanges, AreRangesOf}
 use Rattle.newt_ranges.proofs.Laws.{soup_listed, entry_listed, opened}
 use Rattle.newt_ranges.proofs.Standing.{of_sig}
-use Rattle.newt_store.specs.Change.{entry_in, uids_in}
+use Rattle.newt_store.specs.Change.{uids_in}
 use Rattle.newt_indexed.specs.Filling.{rows_with, rows_with_all, rows_of_soups}
 use Rattle.newt_indexed.proofs.Told.{Told, graph_in, nothing, told_one, told_all, told_soups, other_sig, other_soup, still_none, soup-told, ids-rise, ids-there, IsThere}
 
@@ -29,7 +28,7 @@ Stand told ps rows = AreRanges (λ p. told p.sig) ps rows
 
 module _ (s : Store) (ps : List Soup) (one : (sig : ℕ) → OnePasses (of_sig sig) ps) where
   -- one entry more
-  listed-one : (sig u : ℕ) (told : Told) (rows : List SoupRanges) → IsThere sig s u → told sig u ≡ None → Stand told ps rows → Stand (told_one sig u (entry_in sig u s) told) ps (rows_with sig u (entry_in sig u s) rows)
+  listed-one : (sig u : ℕ) (told : Told) (rows : List SoupRanges) → IsThere sig s u → told sig u ≡ None → Stand told ps rows → Stand (told_one sig u (entry_at sig u s) told) ps (rows_with sig u (entry_at sig u s) rows)
   listed-one sig u told rows there none are =
       subst (λ (o : Option Entry). Stand (told_one sig u o told) ps (rows_with sig u o rows)) (sym there.1)
       (entry_listed (λ p. told p.sig) (λ p. told_one sig u (Some there.0) told p.sig) ps rows sig u there.0.graph (one sig)
@@ -43,8 +42,8 @@ module _ (s : Store) (ps : List Soup) (one : (sig : ℕ) → OnePasses (of_sig s
       → Stand (told_all sig s us told) ps (rows_with_all sig s us rows)
   listed-all sig [] told rows rise there none are = are
   listed-all sig (u ∷ us) told rows rise there none are =
-      listed-all sig us (told_one sig u (entry_in sig u s) told) (rows_with sig u (entry_in sig u s) rows) rise.1 there.1
-      (still_none sig u (entry_in sig u s) told us rise.0 none.1) (listed-one sig u told rows there.0 none.0 are)
+      listed-all sig us (told_one sig u (entry_at sig u s) told) (rows_with sig u (entry_at sig u s) rows) rise.1 there.1
+      (still_none sig u (entry_at sig u s) told us rise.0 none.1) (listed-one sig u told rows there.0 none.0 are)
 
   -- nothing is told of soups that come later
   abbrev AreNone : Told → List ℕ → Type 0
@@ -71,10 +70,10 @@ others-told s [] told t w above = refl
 others-told s (sig ∷ sigs) told t w above =
     others-told s sigs (told_all sig s (uids_in (soup_of sig s)) told) t w above.1 ∙ other_soup sig s (uids_in (soup_of sig s)) told t w (λ is. let low = above.0 in omega (arith, low, is))
 
-soups-told : (s : Store) (sigs : List ℕ) (told : Told) (t w : ℕ) → Pairs (λ m n. m < n) sigs → Each (λ sig. (w : ℕ) → told sig w ≡ None) sigs → Among sigs t → told_soups s sigs told t w ≡ graph_in (entry_in t w s)
+soups-told : (s : Store) (sigs : List ℕ) (told : Told) (t w : ℕ) → Pairs (λ m n. m < n) sigs → Each (λ sig. (w : ℕ) → told sig w ≡ None) sigs → Among sigs t → told_soups s sigs told t w ≡ graph_in (entry_at t w s)
 soups-told s [] told t w rise none m = absurd m
 soups-told s (sig ∷ sigs) told t w rise none (inl is) =
-    subst (λ (t : ℕ). told_soups s (sig ∷ sigs) told t w ≡ graph_in (entry_in t w s)) is
+    subst (λ (t : ℕ). told_soups s (sig ∷ sigs) told t w ≡ graph_in (entry_at t w s)) is
     (others-told s sigs (told_all sig s (uids_in (soup_of sig s)) told) sig w rise.0 ∙ soup-told sig s told w none.0)
 soups-told s (sig ∷ sigs) told t w rise none (inr m) =
     soups-told s sigs (told_all sig s (uids_in (soup_of sig s)) told) t w rise.1 (keep sigs rise.0 none.1) m

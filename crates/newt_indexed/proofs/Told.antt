@@ -5,13 +5,12 @@ use Rattle.std.proofs.lemmas.Bool.{eqb-true, eq-eqb}
 use Rattle.newt_graph.specs.Graph.{RawGraph}
 use Rattle.newt_spec_graph.specs.Lists.{Each, Pairs, Among}
 use Rattle.newt_spec_graph.proofs.Lists.{both-ways, rises-pairs}
-use Rattle.newt_spec_store.specs.Store.{Entry, Soup, Store, entry_of}
+use Rattle.newt_spec_store.specs.Store.{Entry, Soup, Store, entry_of, soup_of, entry_at}
 use Rattle.newt_spec_store.specs.Valid.{well_formed}
 use Rattle.newt_laws_images.proofs.Assembled.{map-among}
 use Rattle.newt_laws_changes.proofs.Chosen.{soup-there, soup-good, there-entry, find-passes}
-use Rattle.newt_soupdir.specs.Changes.{soup_of}
 use Rattle.newt_ranges.specs.Stands.{Graphs}
-use Rattle.newt_store.specs.Change.{entry_in, uids_in}
+use Rattle.newt_store.specs.Change.{uids_in}
 
 -- the graphs that are told, by signature and id
 abbrev pub Told : Type 0
@@ -31,7 +30,7 @@ told_one sig u o told t w = cond (t == sig) (cond (u == w) (graph_in o) (told t 
 -- the entries of a soup that have these ids are told
 abbrev pub told_all : ℕ → Store → List ℕ → Told → Told
 told_all sig s [] told = told
-told_all sig s (u ∷ us) told = told_all sig s us (told_one sig u (entry_in sig u s) told)
+told_all sig s (u ∷ us) told = told_all sig s us (told_one sig u (entry_at sig u s) told)
 
 -- and those of all these soups
 abbrev pub told_soups : Store → List ℕ → Told → Told
@@ -73,32 +72,32 @@ still_none sig u o told (v ∷ us) above none = (
 
 pub other_soup : (sig : ℕ) (s : Store) (us : List ℕ) (told : Told) (t w : ℕ) → (t ≡ sig → ⊥) → told_all sig s us told t w ≡ told t w
 other_soup sig s [] told t w differ = refl
-other_soup sig s (u ∷ us) told t w differ = other_soup sig s us (told_one sig u (entry_in sig u s) told) t w differ ∙ other_sig sig u (entry_in sig u s) told t w differ
+other_soup sig s (u ∷ us) told t w differ = other_soup sig s us (told_one sig u (entry_at sig u s) told) t w differ ∙ other_sig sig u (entry_at sig u s) told t w differ
 
 -- the graph of an id is told, or it is none of these ids and is told what it was
 abbrev pub IsTold : ℕ → Store → List ℕ → Told → Told → ℕ → Type 0
-IsTold sig s us told later w = (later sig w ≡ graph_in (entry_in sig w s)) ⊎ ((Among us w → ⊥) × (later sig w ≡ told sig w))
+IsTold sig s us told later w = (later sig w ≡ graph_in (entry_at sig w s)) ⊎ ((Among us w → ⊥) × (later sig w ≡ told sig w))
 
 pub told-is : (sig : ℕ) (s : Store) (us : List ℕ) (told : Told) (w : ℕ) → IsTold sig s us told (told_all sig s us told) w
 told-is sig s [] told w = inr (λ m. m, refl)
-told-is sig s (u ∷ us) told w = go (told-is sig s us (told_one sig u (entry_in sig u s) told) w)
+told-is sig s (u ∷ us) told w = go (told-is sig s us (told_one sig u (entry_at sig u s) told) w)
   where
     later : Told
-    later = told_all sig s us (told_one sig u (entry_in sig u s) told)
+    later = told_all sig s us (told_one sig u (entry_at sig u s) told)
 
-    by : (b : Bool) → (u == w) ≡ b → (Among us w → ⊥) → later sig w ≡ cond b (graph_in (entry_in sig u s)) (told sig w)
-        → (later sig w ≡ graph_in (entry_in sig w s)) ⊎ ((Among (u ∷ us) w → ⊥) × (later sig w ≡ told sig w))
-    by true e not is = inl (is ∙ ap (λ (v : ℕ). graph_in (entry_in sig v s)) (eqb-true u w e))
+    by : (b : Bool) → (u == w) ≡ b → (Among us w → ⊥) → later sig w ≡ cond b (graph_in (entry_at sig u s)) (told sig w)
+        → (later sig w ≡ graph_in (entry_at sig w s)) ⊎ ((Among (u ∷ us) w → ⊥) × (later sig w ≡ told sig w))
+    by true e not is = inl (is ∙ ap (λ (v : ℕ). graph_in (entry_at sig v s)) (eqb-true u w e))
     by false e not is = inr (λ m. (elim m [ inl k ↦ both-ways (sym e ∙ eq-eqb u w k) | inr k ↦ not k ]), is)
 
-    go : IsTold sig s us (told_one sig u (entry_in sig u s) told) later w → IsTold sig s (u ∷ us) told later w
+    go : IsTold sig s us (told_one sig u (entry_at sig u s) told) later w → IsTold sig s (u ∷ us) told later w
     go (inl is) = inl is
-    go (inr r) = by (u == w) refl r.0 (r.1 ∙ at_sig sig u (entry_in sig u s) told w)
+    go (inr r) = by (u == w) refl r.0 (r.1 ∙ at_sig sig u (entry_at sig u s) told w)
 
 -- ---- the ids of a soup
 
 -- an id that is none of a soup's has no entry
-pub no-entry : (sig : ℕ) (s : Store) (w : ℕ) → (Among (uids_in (soup_of sig s)) w → ⊥) → graph_in (entry_in sig w s) ≡ None
+pub no-entry : (sig : ℕ) (s : Store) (w : ℕ) → (Among (uids_in (soup_of sig s)) w → ⊥) → graph_in (entry_at sig w s) ≡ None
 no-entry sig s w not = go (soup_of sig s) not
   where
     at : (p : Soup) (o : Option Entry) → entry_of w p ≡ o → (Among (map (λ (e : Entry). e.uid) p.entries) w → ⊥) → graph_in o ≡ None
@@ -112,10 +111,10 @@ no-entry sig s w not = go (soup_of sig s) not
     go (Some p) not = at p (entry_of w p) refl not
 
 -- once all ids of a soup are told of which nothing was, its graphs are told
-pub soup-told : (sig : ℕ) (s : Store) (told : Told) (w : ℕ) → ((v : ℕ) → told sig v ≡ None) → told_all sig s (uids_in (soup_of sig s)) told sig w ≡ graph_in (entry_in sig w s)
+pub soup-told : (sig : ℕ) (s : Store) (told : Told) (w : ℕ) → ((v : ℕ) → told sig v ≡ None) → told_all sig s (uids_in (soup_of sig s)) told sig w ≡ graph_in (entry_at sig w s)
 soup-told sig s told w none = go (told-is sig s (uids_in (soup_of sig s)) told w)
   where
-    go : IsTold sig s (uids_in (soup_of sig s)) told (told_all sig s (uids_in (soup_of sig s)) told) w → told_all sig s (uids_in (soup_of sig s)) told sig w ≡ graph_in (entry_in sig w s)
+    go : IsTold sig s (uids_in (soup_of sig s)) told (told_all sig s (uids_in (soup_of sig s)) told) w → told_all sig s (uids_in (soup_of sig s)) told sig w ≡ graph_in (entry_at sig w s)
     go (inl is) = is
     go (inr r) = r.1 ∙ none w ∙ sym (no-entry sig s w r.0)
 
@@ -128,7 +127,7 @@ ids-rise sig s formed = go (soup_of sig s) refl
     go (Some p) e = rises-pairs 0 p.next_uid (uids_in (Some p)) (soup-good s p formed (soup-there sig s p e).1).uids
 
 abbrev pub IsThere : ℕ → Store → ℕ → Type 0
-IsThere sig s u = (e : Entry) × (entry_in sig u s ≡ Some e)
+IsThere sig s u = (e : Entry) × (entry_at sig u s ≡ Some e)
 
 pub ids-there : (sig : ℕ) (s : Store) → well_formed s ≡ true → Each (IsThere sig s) (uids_in (soup_of sig s))
 ids-there sig s formed = go (soup_of sig s) refl

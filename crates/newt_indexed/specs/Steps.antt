@@ -1,12 +1,11 @@
 -- What a change of the store is to its ranges.
 use Rattle.std.specs.Prelude.{◌≡◌, ℕ, List, [], ◌∷◌, ◌++◌, Some}
-use Rattle.newt_spec_store.specs.Store.{Soup, Entry, Store}
-use Rattle.newt_soupdir.specs.Changes.{soup_of}
+use Rattle.newt_spec_store.specs.Store.{Soup, Entry, Store, soup_of, entry_at}
 use Rattle.newt_index.specs.Pairs.{Sorted}
 use Rattle.newt_ranges.specs.declared.rows.SoupRanges.{SoupRanges}
 use Rattle.newt_ranges.specs.Rows.{no_ranges, with_entry, without_entry, each_range, with_range, without_range, change_ranges, drop_ranges}
 use Rattle.newt_ranges.specs.Stands.{graphs_of, IsRange}
-use Rattle.newt_store.specs.Change.{entry_in, uids_in, pages_of_entry}
+use Rattle.newt_store.specs.Change.{uids_in, pages_of_entry}
 use Rattle.newt_store.specs.declared.change.Change.{Change}
 use Rattle.newt_store.specs.declared.change.Change.TheVariants.{MakeSoup, DropSoup, Add, Remove, Move, Replace, Patch, AddIndex, DropIndex, SetTags}
 use Rattle.newt_indexed.specs.Filling.{pages_listed}
@@ -37,7 +36,7 @@ IsStepOf (MakeSoup name) s step = step ≡ Made
 IsStepOf (DropSoup sig) s step = step ≡ Dropped sig
 IsStepOf (Add sig graph) s step = step ≡ Added sig graph
 IsStepOf (Remove sig uid) s step = step ≡ Removed sig uid
-IsStepOf (Move source uid target) s step = (e : Entry) → entry_in source uid s ≡ Some e → step ≡ Moved source uid target e.graph
+IsStepOf (Move source uid target) s step = (e : Entry) → entry_at source uid s ≡ Some e → step ≡ Moved source uid target e.graph
 IsStepOf (Replace sig uid graph) s step = step ≡ Replaced sig uid graph
 IsStepOf (Patch sig uid node at bytes) s step = step ≡ Untouched
 IsStepOf (AddIndex sig spec) s step = IsDeclaring sig spec s step
@@ -46,6 +45,6 @@ IsStepOf (SetTags sig table) s step = step ≡ Untouched
 
 -- The pages that are read for the ranges' sake: those of the entry that is moved, and of the entries of a soup that gets an index. (this project's own)
 abbrev pub pages_read : Change → Store → ℕ
-pages_read (Move source uid target) s = pages_of_entry (entry_in source uid s)
+pages_read (Move source uid target) s = pages_of_entry (entry_at source uid s)
 pages_read (AddIndex sig spec) s = pages_listed sig s (uids_in (soup_of sig s))
 pages_read change s = 0

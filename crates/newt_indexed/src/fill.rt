@@ -2,10 +2,9 @@
 ghost use Rattle.std.specs.Prelude.{◌≡◌, ◌*◌, IsTrue, OnOk, IfOk, IfErr, Some};
 ghost use Rattle.newt_host.specs.Outside.{Spends};
 ghost use Rattle.newt_pagebook.specs.Stops.{StopsAt};
-ghost use Rattle.newt_spec_store.specs.Store.{Store as PlainStore};
-ghost use Rattle.newt_soupdir.specs.Changes.{soup_of};
+ghost use Rattle.newt_spec_store.specs.Store.{Store as PlainStore, soup_of, entry_at};
 ghost use Rattle.newt_ranges.specs.Rows.{no_pairs};
-ghost use Rattle.newt_store.specs.Change.{entry_in, uids_in, pages_of_entry};
+ghost use Rattle.newt_store.specs.Change.{uids_in, pages_of_entry};
 ghost use Rattle.newt_indexed.specs.Calls.{Shows, IsOpen, Reads};
 ghost use Rattle.newt_indexed.specs.Filling.{with_read, with_all, pages_listed};
 
@@ -26,9 +25,9 @@ fn fill_entry<P: PageBook, H: Host>(
     uid: Uid,
 ) -> Result<(), Stop>
     requires { IsOpen P.place P.numbers P.stands H.told store.old (H.outside host.old) }
-    ensures filled { IsTrue H.told → (s : PlainStore) → Shows P.place store.old (H.outside host.old) s → OnOk result (range.new ≡ with_read uid (entry_in soup uid s) range.old) }
+    ensures filled { IsTrue H.told → (s : PlainStore) → Shows P.place store.old (H.outside host.old) s → OnOk result (range.new ≡ with_read uid (entry_at soup uid s) range.old) }
     ensures reads { Reads P.place P.numbers P.stands H.told store.old store.new (H.outside host.old) (H.outside host.new) }
-    ensures costs { IsTrue H.told → (s : PlainStore) → Shows P.place store.old (H.outside host.old) s → Spends (P.place store.old.book) 0 (512 * pages_of_entry (entry_in soup uid s)) (H.outside host.old) (H.outside host.new) }
+    ensures costs { IsTrue H.told → (s : PlainStore) → Shows P.place store.old (H.outside host.old) s → Spends (P.place store.old.book) 0 (512 * pages_of_entry (entry_at soup uid s)) (H.outside host.old) (H.outside host.new) }
     ensures cause { IfErr result (StopsAt (P.place store.old.book) (H.outside host.old) (H.outside host.new)) }
 {
     match store.entry(host, soup, uid) {

@@ -1,11 +1,10 @@
 //! The ranges of a store that is opened.
 ghost use Rattle.std.specs.Prelude.{◌≡◌, IsTrue, OnOk, IfOk, IfErr, map};
 ghost use Rattle.newt_pagebook.specs.Stops.{StopsAt};
-ghost use Rattle.newt_spec_store.specs.Store.{Store as PlainStore};
+ghost use Rattle.newt_spec_store.specs.Store.{Store as PlainStore, soup_of, entry_at};
 ghost use Rattle.newt_ranges.specs.Rows.{no_ranges};
 ghost use Rattle.newt_ranges.specs.Stands.{AreRangesOf};
-ghost use Rattle.newt_soupdir.specs.Changes.{soup_of};
-ghost use Rattle.newt_store.specs.Change.{entry_in, uids_in};
+ghost use Rattle.newt_store.specs.Change.{uids_in};
 ghost use Rattle.newt_indexed.specs.Calls.{Shows, IsOpen, Reads};
 ghost use Rattle.newt_indexed.specs.Filling.{rows_with, rows_with_all, rows_of_soups};
 
@@ -26,7 +25,7 @@ fn list_entry<P: PageBook, H: Host>(
     uid: Uid,
 ) -> Result<(), Stop>
     requires { IsOpen P.place P.numbers P.stands H.told store.old (H.outside host.old) }
-    ensures listed { IsTrue H.told → (s : PlainStore) → Shows P.place store.old (H.outside host.old) s → OnOk result (ranges.new ≡ rows_with soup uid (entry_in soup uid s) ranges.old) }
+    ensures listed { IsTrue H.told → (s : PlainStore) → Shows P.place store.old (H.outside host.old) s → OnOk result (ranges.new ≡ rows_with soup uid (entry_at soup uid s) ranges.old) }
     ensures reads { Reads P.place P.numbers P.stands H.told store.old store.new (H.outside host.old) (H.outside host.new) }
     ensures cause { IfErr result (StopsAt (P.place store.old.book) (H.outside host.old) (H.outside host.new)) }
 {

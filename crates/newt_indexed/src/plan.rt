@@ -2,9 +2,8 @@
 ghost use Rattle.std.specs.Prelude.{◌≡◌, ◌*◌, IsTrue, IfOk, IfErr, Some};
 ghost use Rattle.newt_host.specs.Outside.{Spends};
 ghost use Rattle.newt_pagebook.specs.Stops.{StopsAt};
-ghost use Rattle.newt_spec_store.specs.Store.{Store as PlainStore, Entry as PlainEntry};
-ghost use Rattle.newt_soupdir.specs.Changes.{soup_of};
-ghost use Rattle.newt_store.specs.Change.{entry_in, uids_in, pages_of_entry};
+ghost use Rattle.newt_spec_store.specs.Store.{Store as PlainStore, Entry as PlainEntry, soup_of, entry_at};
+ghost use Rattle.newt_store.specs.Change.{uids_in, pages_of_entry};
 ghost use Rattle.newt_indexed.specs.Calls.{Shows, IsOpen, Reads};
 ghost use Rattle.newt_indexed.specs.Filling.{pages_listed};
 ghost use Rattle.newt_indexed.specs.Steps.{IsStepOf, IsDeclaring, pages_read};
@@ -27,9 +26,9 @@ fn moving<P: PageBook, H: Host>(
     target: Sig,
 ) -> Result<Step, Stop>
     requires { IsOpen P.place P.numbers P.stands H.told store.old (H.outside host.old) }
-    ensures moved { IsTrue H.told → (s : PlainStore) (e : PlainEntry) → Shows P.place store.old (H.outside host.old) s → entry_in source uid s ≡ Some e → IfOk result (λ made. made ≡ step.Moved source uid target e.graph) }
+    ensures moved { IsTrue H.told → (s : PlainStore) (e : PlainEntry) → Shows P.place store.old (H.outside host.old) s → entry_at source uid s ≡ Some e → IfOk result (λ made. made ≡ step.Moved source uid target e.graph) }
     ensures reads { Reads P.place P.numbers P.stands H.told store.old store.new (H.outside host.old) (H.outside host.new) }
-    ensures costs { IsTrue H.told → (s : PlainStore) → Shows P.place store.old (H.outside host.old) s → Spends (P.place store.old.book) 0 (512 * pages_of_entry (entry_in source uid s)) (H.outside host.old) (H.outside host.new) }
+    ensures costs { IsTrue H.told → (s : PlainStore) → Shows P.place store.old (H.outside host.old) s → Spends (P.place store.old.book) 0 (512 * pages_of_entry (entry_at source uid s)) (H.outside host.old) (H.outside host.new) }
     ensures cause { IfErr result (StopsAt (P.place store.old.book) (H.outside host.old) (H.outside host.new)) }
 {
     match store.entry(host, source, uid) {

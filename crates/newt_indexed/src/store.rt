@@ -8,12 +8,11 @@ ghost use Rattle.newt_pagebook.specs.Stops.{StopsAt};
 ghost use Rattle.newt_pagebook.specs.Book.{IsDurable, IsOpenFor};
 ghost use Rattle.newt_ranges.specs.Range.{range_in};
 ghost use Rattle.newt_ranges.specs.Stands.{AreRangesOf};
-ghost use Rattle.newt_spec_store.specs.Store.{Store as PlainStore};
+ghost use Rattle.newt_spec_store.specs.Store.{Store as PlainStore, soup_of, entry_at, count_in};
 ghost use Rattle.newt_spec_store.specs.OfImage.{blocks_of};
 ghost use Rattle.newt_spec_store.specs.Valid.{well_formed};
-ghost use Rattle.newt_soupdir.specs.Changes.{soup_of};
 ghost use Rattle.newt_catalog.specs.Readable.{readable};
-ghost use Rattle.newt_store.specs.Change.{changed_by, entry_in, count_in, entry_fetched, pages_of_entry, most_bytes};
+ghost use Rattle.newt_store.specs.Change.{changed_by, entry_fetched, pages_of_entry, most_bytes};
 ghost use Rattle.newt_catalog.specs.Stands.{StandsFor, plain_entry};
 ghost use Rattle.newt_store.specs.Stands.{IsRefused};
 ghost use Rattle.newt_indexed.specs.Calls.{Shows, IsOpen, Reads, Changes};
@@ -97,10 +96,10 @@ impl<P: PageBook> IndexedStore<P> {
         uid: Uid,
     ) -> Result<Option<Entry>, Stop>
         requires { IsOpen P.place P.numbers P.stands H.told self.old.store (H.outside host.old) }
-        ensures entry { IsTrue H.told → (s : PlainStore) → Shows P.place self.old.store (H.outside host.old) s → IfOk result (λ found. option_map plain_entry found ≡ entry_in soup uid s) }
+        ensures entry { IsTrue H.told → (s : PlainStore) → Shows P.place self.old.store (H.outside host.old) s → IfOk result (λ found. option_map plain_entry found ≡ entry_at soup uid s) }
         ensures reads { Reads P.place P.numbers P.stands H.told self.old.store self.new.store (H.outside host.old) (H.outside host.new) }
         ensures ranges { self.new.ranges ≡ self.old.ranges }
-        ensures costs { IsTrue H.told → (s : PlainStore) → Shows P.place self.old.store (H.outside host.old) s → Spends (P.place self.old.store.book) 0 (512 * pages_of_entry (entry_in soup uid s)) (H.outside host.old) (H.outside host.new) }
+        ensures costs { IsTrue H.told → (s : PlainStore) → Shows P.place self.old.store (H.outside host.old) s → Spends (P.place self.old.store.book) 0 (512 * pages_of_entry (entry_at soup uid s)) (H.outside host.old) (H.outside host.new) }
         ensures cause { IfErr result (StopsAt (P.place self.old.store.book) (H.outside host.old) (H.outside host.new)) }
     {
         self.store.entry(host, soup, uid)
@@ -124,7 +123,7 @@ impl<P: PageBook> IndexedStore<P> {
 
     /// Whether the soup has the entry.
     pub fn has(&self, soup: Sig, uid: Uid) -> bool
-        ensures { (now : List ℕ) (s : PlainStore) → StandsFor self.now.store.catalog s now → result ≡ is_some (entry_in soup uid s) }
+        ensures { (now : List ℕ) (s : PlainStore) → StandsFor self.now.store.catalog s now → result ≡ is_some (entry_at soup uid s) }
     {
         self.store.has(soup, uid)
     }

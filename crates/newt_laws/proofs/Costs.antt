@@ -2,10 +2,9 @@
 use Rattle.std.proofs.Common.{arith, ◌≡◌, ℕ, ◌≤◌, List, true, not, length}
 use Rattle.newt_image.specs.Pages.{cap}
 use Rattle.newt_spec_store.specs.Keys.{Path, paths_of, same_paths}
-use Rattle.newt_spec_store.specs.Store.{Store, change_soup}
+use Rattle.newt_spec_store.specs.Store.{Store, change_soup, without_index, new_store}
 use Rattle.newt_spec_store.specs.Cost.{counted, part_bytes}
 use Rattle.newt_spec_store.specs.Valid.{fits}
-use Rattle.newt_spec_world.specs.Changed.{without_index, new_store}
 use Rattle.newt_laws_images.proofs.Totals.{total}
 use Rattle.newt_laws_changes.proofs.Costs.{total-filter, soup-length, directory-length, cost-total, fits-with-soup}
 pub use Rattle.newt_laws_changes.proofs.Costs.{fits-without-soup, fits-without-entry, fits-with-change}

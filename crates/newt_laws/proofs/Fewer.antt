@@ -5,14 +5,14 @@ use Rattle.std.specs.List.{list_any, cons_option}
 use Rattle.std.proofs.lemmas.Bool.{and_parts}
 use Rattle.newt_base.specs.Names.{equal_text}
 use Rattle.newt_spec_store.specs.Keys.{IndexSpec, Key, Path, same_spec}
-use Rattle.newt_spec_store.specs.Store.{Store, Soup, Entry, change_soup, make_soup, drop_soup, remove_entry}
+use Rattle.newt_spec_store.specs.Store.{Store, Soup, Entry, change_soup, make_soup, drop_soup, remove_entry, new_store, without_index}
 use Rattle.newt_spec_store.specs.Valid.{well_formed, fits, valid}
 use Rattle.newt_spec_query.specs.Hits.{Hit, Query, hits, in_scope, carries, passes}
 use Rattle.newt_spec_query.specs.Cursor.{Place, on, Cursor, first_place, last_place, next_place, previous_place, moved}
 use Rattle.newt_spec_world.specs.declared.command.Command.{Command}
 use Rattle.newt_spec_world.specs.declared.command.Command.TheVariants as command
 use Rattle.newt_spec_world.specs.World.{World, Device, Media, blank, one, device, store_of, store_if_mounted, on_unit, mounted_store, mounted_stores, soup_in, hits_of, flat, cursor, free_cursor, change_device, change_store, change_media, set_place}
-use Rattle.newt_spec_world.specs.Changed.{changed, new_store, mark, without_index, Step, stepped, step_from, open_cursor, open_at, query_of, put_on, cloned, go_to, hit_for, hit_in, go_to_key, to_key, key_from, sig_of}
+use Rattle.newt_spec_world.specs.Changed.{changed, mark, Step, stepped, step_from, open_cursor, open_at, query_of, put_on, cloned, go_to, hit_for, hit_in, go_to_key, to_key, key_from, sig_of}
 use Rattle.newt_spec_graph.specs.Lists.{Each, Pairs, Among}
 use Rattle.newt_laws.specs.Worlds.{OnMedia, AllValid}
 use Rattle.newt_laws.specs.Settled.{IsSettled, MountedApart, moves_keys}

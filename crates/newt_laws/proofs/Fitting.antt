@@ -4,7 +4,7 @@ use Rattle.std.specs.Bool.{⊤}
 use Rattle.std.proofs.lemmas.Bool.{ltb-false, le-leb, and_parts}
 use Rattle.newt_base.specs.Refusals.{first_of}
 use Rattle.newt_base.specs.declared.Refusal.{Refusal}
-use Rattle.newt_spec_store.specs.Store.{Store, Entry, change_soup, change_entry, make_soup, drop_soup, add_entry, remove_entry}
+use Rattle.newt_spec_store.specs.Store.{Store, Entry, change_soup, change_entry, make_soup, drop_soup, add_entry, remove_entry, new_store, with_index, without_index}
 use Rattle.newt_image.specs.Pages.{cap}
 use Rattle.newt_spec_store.specs.Cost.{cost}
 use Rattle.newt_base.specs.Names.{is_name}
@@ -12,7 +12,7 @@ use Rattle.newt_spec_store.specs.Valid.{valid, well_formed, fits}
 use Rattle.newt_spec_world.specs.declared.command.Command.{Command}
 use Rattle.newt_spec_world.specs.declared.command.Command.TheVariants as command
 use Rattle.newt_spec_world.specs.World.{World, Device, Media, blank, one, device, default_unit, store_of, entry_in, change_store, change_media, change_soup_in, settle}
-use Rattle.newt_spec_world.specs.Changed.{changed, new_store, with_index, without_index, with_tags, spec_of_words, with_graph, graph_after_set, copy_to, patched, large_at, large_bytes}
+use Rattle.newt_spec_world.specs.Changed.{changed, with_tags, spec_of_words, with_graph, graph_after_set, copy_to, patched, large_at, large_bytes}
 use Rattle.newt_spec_world.specs.Refused.{checks, on_some}
 use Rattle.newt_spec_world.specs.Answer.{answer, answered}
 use Rattle.newt_laws.specs.Worlds.{OnMedia, AllValid, has_form}

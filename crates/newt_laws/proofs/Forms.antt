@@ -5,7 +5,7 @@ use Rattle.std.specs.Prelude.{⊤, bytes_eq}
 use Rattle.std.proofs.lemmas.Bool.{and_parts}
 use Rattle.newt_base.specs.declared.Refusal.{Refusal}
 use Rattle.newt_base.specs.declared.Refusal.TheVariants.{Line as NotTheForm}
-use Rattle.newt_base.specs.Names.{is_name, same_name}
+use Rattle.newt_base.specs.Names.{is_name, same_name, is_identifier, needs_quotes}
 use Rattle.newt_base.specs.Text.{below, digits_value, signed_value, hex_bytes}
 use Rattle.newt_graph.specs.Graph.{RawGraph}
 use Rattle.newt_spec_graph.specs.Limits.{within_limits}
@@ -13,7 +13,7 @@ use Rattle.newt_spec_graph.specs.Lists.{Each, all_apart}
 use Rattle.newt_spec_graph.proofs.Lists.{each-at, none-some, some-same}
 use Rattle.newt_path.specs.Names.{path_of}
 use Rattle.newt_spec_store.specs.Keys.{Path}
-use Rattle.newt_spec_store.specs.Valid.{valid_path, valid_symbol}
+use Rattle.newt_spec_store.specs.Valid.{valid_path}
 use Rattle.newt_spec_world.specs.declared.command.Command.{Command}
 use Rattle.newt_spec_world.specs.declared.command.Command.TheVariants as command
 use Rattle.newt_spec_world.specs.declared.command.PartWord.{PartWord}
@@ -150,7 +150,7 @@ gives-name cs n rest e = from (skip_blanks cs) e
     from (c ∷ more) f = go (c == 34) f
       where
         bare : Gives (λ n. is_name n ≡ true) (word bare_name)
-        bare = gives-word (λ n. is_name n ≡ true) bare_name (λ cs a e. (and_parts (is_name a) (list_all (λ c. not ((c == 32) || (c == 34) || (c == 92))) a) (only-passes (λ cs. is_name cs && list_all (λ c. not ((c == 32) || (c == 34) || (c == 92))) cs) cs a e)).0)
+        bare = gives-word (λ n. is_name n ≡ true) bare_name (λ cs a e. (and_parts (is_name a) (list_all (λ c. not (needs_quotes c)) a) (only-passes (λ cs. is_name cs && list_all (λ c. not ((c == 32) || (c == 34) || (c == 92))) cs) cs a e)).0)
 
         go : (b : Bool) → (if b then if_name (quoted more) else word bare_name (c ∷ more)) ≡ Ok (n, rest) → is_name n ≡ true
         go true k = named (quoted more) n rest k
@@ -208,7 +208,7 @@ part-good cs p e = of_pieces (split_at 58 cs) e
 gives-parts : Gives (λ ps. parts_fit ps ≡ true) (several 4 part)
 gives-parts cs ps rest e = let k = several-good (λ p. valid_path p.path) 4 part part-good cs ps rest e in grind (arith, k.0, k.1, k.2)
 
-gives-distinct : Gives (λ names. (list_all valid_symbol names ≡ true) × (all_apart same_name names ≡ true)) distinct
+gives-distinct : Gives (λ names. (list_all is_identifier names ≡ true) × (all_apart same_name names ≡ true)) distinct
 gives-distinct cs names rest e = go (several 140_000 symbol cs) refl e
   where
     test : (xs more : List _) (b : Bool) → all_apart same_name xs ≡ b → ◌≡◌ {A = Result (List (List ℕ) × List ℕ) Refusal} (if b then Ok (xs, more) else Err NotTheForm) (Ok (names, rest))
@@ -216,12 +216,12 @@ gives-distinct cs names rest e = go (several 140_000 symbol cs) refl e
     test xs more true is f = let same = ok-first xs names more rest f in (same, subst (λ ys. all_apart same_name ys ≡ true) same is)
     test xs more false is f = cc
 
-    go : (o : Result (List (List ℕ) × List ℕ) Refusal) → several 140_000 symbol cs ≡ o → if_distinct o ≡ Ok (names, rest) → (list_all valid_symbol names ≡ true) × (all_apart same_name names ≡ true)
+    go : (o : Result (List (List ℕ) × List ℕ) Refusal) → several 140_000 symbol cs ≡ o → if_distinct o ≡ Ok (names, rest) → (list_all is_identifier names ≡ true) × (all_apart same_name names ≡ true)
     go (Err r) is f = cc
     go (Ok (xs, more)) is f =
         let k = test xs more (all_apart same_name xs) refl f in
-        let all = several-good valid_symbol 140_000 symbol (λ cs a g. only-passes valid_symbol cs a g) cs xs more is in
-        (subst (λ ys. list_all valid_symbol ys ≡ true) k.0 all.0, k.1)
+        let all = several-good is_identifier 140_000 symbol (λ cs a g. only-passes is_identifier cs a g) cs xs more is in
+        (subst (λ ys. list_all is_identifier ys ≡ true) k.0 all.0, k.1)
 
 -- ---- rows
 
@@ -286,7 +286,7 @@ or-row (literal text f) b h k = k
 or-row (stream digits f) b h k = k
 or-row (bytes digits f) b h k = k
 
-tags-form : (u : ℕ) (s : List ℕ) (path : Path) (names : List (List ℕ)) → valid_path path ≡ true → (list_all valid_symbol names ≡ true) × (all_apart same_name names ≡ true) → Form (command.SetTags u s path names)
+tags-form : (u : ℕ) (s : List ℕ) (path : Path) (names : List (List ℕ)) → valid_path path ≡ true → (list_all is_identifier names ≡ true) × (all_apart same_name names ≡ true) → Form (command.SetTags u s path names)
 unfolding has_form
 tags-form u s path names h k = grind (arith, h, k.0, k.1)
 
@@ -299,7 +299,7 @@ unfolding has_form
 tags-good cs = or-row (whole (of2 unit name command.Tags) cs) (whole (of4 unit name (word path_of) distinct command.SetTags) cs)
     (row-whole (of2 unit name command.Tags) (all-2 Form unit name command.Tags (λ u s. refl)) cs)
     (row-whole (of4 unit name (word path_of) distinct command.SetTags)
-    (gives-4 Form (λ u. ⊤) (λ s. ⊤) (λ p. valid_path p ≡ true) (λ names. (list_all valid_symbol names ≡ true) × (all_apart same_name names ≡ true))
+    (gives-4 Form (λ u. ⊤) (λ s. ⊤) (λ p. valid_path p ≡ true) (λ names. (list_all is_identifier names ≡ true) × (all_apart same_name names ≡ true))
     unit name (word path_of) distinct command.SetTags (gives-any unit) (gives-any name) gives-path gives-distinct (λ u s p names _ _ h k. tags-form u s p names h k)) cs)
 
 query-good : (cs : List ℕ) → Good (query_row cs)

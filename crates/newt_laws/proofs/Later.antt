@@ -4,11 +4,11 @@ use Rattle.std.specs.Prelude.{slice_get}
 use Rattle.std.specs.Option.{is_some}
 use Rattle.newt_base.specs.Refusals.{first_of}
 use Rattle.newt_base.specs.declared.Refusal.{Refusal}
-use Rattle.newt_spec_store.specs.Store.{Store, Soup, Entry, change_soup, change_entry, make_soup, drop_soup, add_entry, remove_entry}
+use Rattle.newt_spec_store.specs.Store.{Store, Soup, Entry, change_soup, change_entry, make_soup, drop_soup, add_entry, remove_entry, new_store, with_index, without_index}
 use Rattle.newt_spec_world.specs.declared.command.Command.{Command}
 use Rattle.newt_spec_world.specs.declared.command.Command.TheVariants as command
 use Rattle.newt_spec_world.specs.World.{World, Device, Media, blank, one, device, default_unit, store_of, store_on_unit, entry_in, flat, change_device, change_store, change_media, change_soup_in}
-use Rattle.newt_spec_world.specs.Changed.{changed, new_store, copy_to, with_index, without_index, with_tags, spec_of_words, with_graph, graph_after_set, patched}
+use Rattle.newt_spec_world.specs.Changed.{changed, copy_to, with_tags, spec_of_words, with_graph, graph_after_set, patched}
 use Rattle.newt_spec_world.specs.Refused.{checks}
 use Rattle.newt_spec_world.specs.Answer.{answer, answered, after}
 use Rattle.newt_laws_changes.specs.Later.{SoupLater, StoreLater}

@@ -4,16 +4,16 @@ use Rattle.std.specs.Option.{is_none, is_some}
 use Rattle.std.specs.Bool.{⊤}
 use Rattle.std.specs.List.{list_all, list_any}
 use Rattle.std.proofs.lemmas.Bool.{eqb-false, ltb-false, leb-false, and_parts}
-use Rattle.newt_base.specs.Names.{same_name}
+use Rattle.newt_base.specs.Names.{same_name, is_identifier}
 use Rattle.newt_spec_store.specs.Keys.{Path, paths_of, same_paths}
-use Rattle.newt_spec_store.specs.Store.{Store, Soup, soup_named, change_soup, make_soup, drop_soup, remove_entry}
+use Rattle.newt_spec_store.specs.Store.{Store, Soup, soup_named, change_soup, make_soup, drop_soup, remove_entry, new_store, with_index, without_index}
 use Rattle.newt_spec_graph.specs.Lists.{all_apart}
-use Rattle.newt_spec_store.specs.Valid.{valid_spec, valid_tags, valid_path, valid_symbol}
+use Rattle.newt_spec_store.specs.Valid.{valid_spec, valid_tags, valid_path}
 use Rattle.newt_spec_world.specs.declared.command.Command.{Command}
 use Rattle.newt_spec_world.specs.declared.command.Command.TheVariants as command
 use Rattle.newt_spec_world.specs.declared.command.PartWord.{PartWord}
 use Rattle.newt_spec_world.specs.World.{World, one, default_unit, mounted_store, soup_in, entry_in, change_soup_in}
-use Rattle.newt_spec_world.specs.Changed.{changed, new_store, mark, with_index, without_index, with_tags, spec_of_words, with_graph, graph_after_set, copy_to, patched, large_at, large_bytes}
+use Rattle.newt_spec_world.specs.Changed.{changed, mark, with_tags, spec_of_words, with_graph, graph_after_set, copy_to, patched, large_at, large_bytes}
 use Rattle.newt_spec_world.specs.Refused.{checks, on_some}
 use Rattle.newt_laws.specs.Worlds.{has_form, parts_fit}
 use Rattle.newt_laws.proofs.Units.{change-device, change-store, mounted-has, soup-has}
@@ -46,7 +46,7 @@ parts-same (p ∷ parts) = ap (λ ps. p.path ∷ ps) (parts-same parts)
 pub spec_valid : (parts : List PartWord) → parts_fit parts ≡ true → valid_spec (spec_of_words parts) ≡ true
 spec_valid parts h = grind (arith, h, parts-count parts, parts-paths parts)
 
-tags-good : (path : Path) (symbols : List (List ℕ)) → (valid_path path && list_all valid_symbol symbols && all_apart same_name symbols) ≡ true → nat_lt 64 (length symbols) ≡ false
+tags-good : (path : Path) (symbols : List (List ℕ)) → (valid_path path && list_all is_identifier symbols && all_apart same_name symbols) ≡ true → nat_lt 64 (length symbols) ≡ false
     → valid_tags (Some (record { path = path; symbols = symbols })) ≡ true
 tags-good path symbols h k = grind (arith, h, k)
 

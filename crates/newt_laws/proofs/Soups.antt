@@ -3,9 +3,9 @@ use Rattle.std.proofs.Common.{arith, ◌≡◌, ℕ, ◌<◌, List, true, false,
 use Rattle.std.specs.List.{list_any}
 use Rattle.newt_base.specs.Names.{is_name}
 use Rattle.newt_spec_store.specs.Keys.{Path, IndexSpec, paths_of, same_paths}
-use Rattle.newt_spec_store.specs.Store.{Soup}
+use Rattle.newt_spec_store.specs.Store.{Soup, with_index, without_index, new_store}
 use Rattle.newt_spec_store.specs.Valid.{well_formed, valid_soup, valid_spec, valid_tags}
-use Rattle.newt_spec_world.specs.Changed.{with_index, without_index, with_tags, new_store}
+use Rattle.newt_spec_world.specs.Changed.{with_tags}
 use Rattle.newt_laws_images.proofs.Records.{push-length}
 pub use Rattle.newt_laws_images.proofs.Stores.{IsSoup, is-soup, soup-is, IsStore, is-store, store-is}
 pub use Rattle.newt_laws_changes.proofs.Soups.{with-entry, with-change, without-entry, with-soup, with-new-soup, without-soup, found-good, push-all, push-apart, filter-length, filter-all, filter-apart}

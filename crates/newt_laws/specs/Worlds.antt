@@ -1,11 +1,12 @@
 -- What holds of worlds, and of the commands that they are asked.
 use Rattle.std.specs.Prelude.{◌≡◌, ℕ, Bool, true, ◌&&◌, nat_le, IsTrue, List, length, Some, ⊤}
 use Rattle.std.specs.List.{list_all}
-use Rattle.newt_base.specs.Names.{is_name, same_name}
+use Rattle.newt_base.specs.Names.{is_name, same_name, is_identifier}
 use Rattle.newt_spec_graph.specs.Limits.{within_limits}
+use Rattle.newt_spec_store.specs.Keys.{Path}
 use Rattle.newt_spec_store.specs.Store.{Store}
 use Rattle.newt_spec_graph.specs.Lists.{all_apart}
-use Rattle.newt_spec_store.specs.Valid.{valid, valid_path, valid_symbol}
+use Rattle.newt_spec_store.specs.Valid.{valid, valid_path}
 use Rattle.newt_spec_world.specs.declared.command.Command.{Command}
 use Rattle.newt_spec_world.specs.declared.command.Command.TheVariants as command
 use Rattle.newt_spec_world.specs.declared.command.PartWord.{PartWord}
@@ -24,16 +25,24 @@ OnUnits D P w = (u : ℕ) → D u → (d : Device) → device w u ≡ Some d →
 abbrev pub AllValid : World → Type 0
 AllValid w = OnUnits (λ u. ⊤) (λ blocks s. IsTrue (valid blocks s)) w
 
+-- a signature is at most the largest
+abbrev pub sig_fits : ℕ → Bool
+sig_fits sig = nat_le sig 536_870_911
+
 -- one to four parts, each with a path
 abbrev pub parts_fit : List PartWord → Bool
 parts_fit parts = nat_le 1 (length parts) && nat_le (length parts) 4 && list_all (λ p. valid_path p.path) parts
 
+-- a path, and symbols no two of which are one but for the case of letters
+abbrev pub tags_fit : Path → List (List ℕ) → Bool
+tags_fit path symbols = valid_path path && list_all is_identifier symbols && all_apart same_name symbols
+
 -- The words of a command have the forms of the script.
 unfoldable pub has_form : Command → Bool
-has_form (command.Format u name sig) = is_name name && nat_le sig 536_870_911
+has_form (command.Format u name sig) = is_name name && sig_fits sig
 has_form (command.Soup u name) = is_name name
 has_form (command.Index u s parts) = parts_fit parts
-has_form (command.SetTags u s path symbols) = valid_path path && list_all valid_symbol symbols && all_apart same_name symbols
+has_form (command.SetTags u s path symbols) = tags_fit path symbols
 has_form (command.Add u s g) = within_limits g
 has_form (command.Addx u s g) = within_limits g
 has_form (command.Addu s g) = within_limits g

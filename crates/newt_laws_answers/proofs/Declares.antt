@@ -7,17 +7,17 @@ use Rattle.newt_base.specs.declared.Refusal.TheVariants.{Command as NoCommand, I
 use Rattle.newt_image.specs.Pages.{cap}
 use Rattle.newt_spec_store.specs.Cost.{cost}
 use Rattle.newt_spec_store.specs.Keys.{Path, paths_of, same_paths}
-use Rattle.newt_spec_store.specs.Store.{Store, Soup, soup_named, change_soup}
+use Rattle.newt_spec_store.specs.Store.{Store, Soup, soup_named, change_soup, with_index, without_index}
 use Rattle.newt_spec_world.specs.declared.command.Command.TheVariants as command
 use Rattle.newt_spec_world.specs.declared.command.PartWord.{PartWord}
 use Rattle.newt_spec_world.specs.World.{World, change_store}
 use Rattle.newt_spec_world.specs.Reply.{Reply}
-use Rattle.newt_spec_world.specs.Changed.{changed, spec_of_words, with_index, without_index}
+use Rattle.newt_spec_world.specs.Changed.{changed, spec_of_words}
 use Rattle.newt_spec_world.specs.Refused.{checks, on_some, no_unit, not_mounted, no_soup, has_index, index_exists, no_index, real_part, index_limit, full}
 use Rattle.newt_spec_world.specs.Answer.{fields, or_nil}
-use Rattle.newt_laws.specs.Worlds.{parts_fit}
+use Rattle.newt_laws.specs.Worlds.{parts_fit, tags_fit}
 use Rattle.newt_laws_answers.specs.Tests.{soup_checks, has_paths, index_tests, tagged, tags_tests}
-use Rattle.newt_laws_answers.specs.Spoken.{checks_now, answer_now, tags_fit}
+use Rattle.newt_laws_answers.specs.Spoken.{checks_now, answer_now}
 use Rattle.newt_laws_answers.specs.There.{OnUnit}
 use Rattle.newt_laws_answers.proofs.Firsts.{first-true, first-false, first-found}
 use Rattle.newt_laws_answers.proofs.Units.{on-changed, soup-named}

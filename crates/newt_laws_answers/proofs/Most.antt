@@ -13,19 +13,20 @@ use Rattle.newt_spec_graph.proofs.Lists.{some-same, none-some}
 use Rattle.newt_spec_query.specs.Cursor.{Cursor}
 use Rattle.newt_spec_store.specs.Keys.{Path}
 use Rattle.newt_spec_store.specs.Valid.{valid_entry}
-use Rattle.newt_spec_store.specs.Store.{Store, Soup, Entry, soup_named, entry_of, change_first, change_soup, change_entry, make_soup, drop_soup, add_entry, remove_entry}
+use Rattle.newt_spec_store.specs.Store.{Store, Soup, Entry, soup_named, entry_of, change_first, change_soup, change_entry, make_soup, drop_soup, add_entry, remove_entry, next_uid_of, with_index, without_index}
 use Rattle.newt_spec_world.specs.declared.command.Command.{Command}
 use Rattle.newt_spec_world.specs.declared.command.Command.TheVariants as command
 use Rattle.newt_spec_world.specs.declared.command.PartWord.{PartWord}
 use Rattle.newt_spec_world.specs.World.{World, default_unit, store_on_unit, soup_in, entry_in, change_store}
-use Rattle.newt_spec_world.specs.Changed.{changed, with_graph, with_index, without_index, with_tags, spec_of_words, large_at}
+use Rattle.newt_spec_world.specs.Changed.{changed, with_graph, with_tags, spec_of_words, large_at}
 use Rattle.newt_spec_world.specs.Refused.{checks, real_part}
-use Rattle.newt_laws.specs.Worlds.{parts_fit}
+use Rattle.newt_laws.specs.Worlds.{parts_fit, tags_fit}
 use Rattle.newt_laws.proofs.Settled.{find-passes}
 use Rattle.newt_laws_cursors.specs.Cursors.{with_cursors, uses_cursors}
 use Rattle.newt_laws_cursors.proofs.Rows.{changed-apart}
-use Rattle.newt_laws_answers.specs.Bounds.{change_bytes, patch_bytes, unless, listed, entries_of, next_in, new_in, copied_in, touched, bytes_between, bytes_done, most_programmed}
-use Rattle.newt_laws_answers.specs.Spoken.{checks_now, tags_fit}
+use Rattle.newt_spec_store.specs.Cost.{patch_bytes}
+use Rattle.newt_laws_answers.specs.Bounds.{change_bytes, unless, listed, entries_of, new_in, copied_in, touched, bytes_between, bytes_done, most_programmed}
+use Rattle.newt_laws_answers.specs.Spoken.{checks_now}
 use Rattle.newt_laws_answers.specs.There.{OnUnit}
 use Rattle.newt_laws_answers.specs.Tests.{make_tests, add_tests, move_tests, moved_within, replace_tests, replaced, patch_tests, has_paths, index_tests, tagged, tags_tests, with_added}
 use Rattle.newt_laws_answers.proofs.Firsts.{first-false}
@@ -94,7 +95,7 @@ new_entry w p g = record { uid = p.next_uid; time = w.minute; graph = g }
 
 module _ (w : World) (u blocks : ℕ) (s : Store) (name : List ℕ) (p : Soup) (g : RawGraph) (h : OnUnit w u blocks s) (f : soup_named name s ≡ Some p) where
   new-is : new_in w u name g ≡ new_entry w p g
-  new-is = ap {B = Entry} (λ o. record { uid = next_in o; time = w.minute; graph = g }) (soup-named w u blocks s name h ∙ f)
+  new-is = ap {B = Entry} (λ o. record { uid = next_uid_of o; time = w.minute; graph = g }) (soup-named w u blocks s name h ∙ f)
 
   added-touch : cond {A = Touch} (u == u) (Some (new_in w u name g ∷ [], [])) None ≡ Some (new_entry w p g ∷ [], [])
   added-touch = if-same {X = Touch} u (Some (new_in w u name g ∷ [], [])) None ∙ ap {A = Entry} {B = Touch} (λ e. Some (e ∷ [], [])) new-is

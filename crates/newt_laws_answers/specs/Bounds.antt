@@ -1,28 +1,19 @@
 -- How many bytes a command programs at most, on a unit whose bank is not closed and has room for them. All of it is this project's own.
-use Rattle.std.specs.Prelude.{ℕ, ◌+◌, ◌*◌, ◌/◌, cond, ◌==◌, List, [], ◌∷◌, length, sum_by, Option, Some, None, is_some, option_map, if◌then◌else◌}
+use Rattle.std.specs.Prelude.{ℕ, ◌+◌, ◌*◌, cond, ◌==◌, List, [], ◌∷◌, length, sum_by, Option, Some, None, is_some, option_map, if◌then◌else◌}
 use Rattle.newt_base.specs.Refusals.{Checks, first_of}
 use Rattle.newt_graph.specs.Graph.{RawGraph}
-use Rattle.newt_image.specs.Objects.{pages_for}
-use Rattle.newt_spec_store.specs.Cost.{directory_bytes, entry_pages}
-use Rattle.newt_spec_store.specs.Store.{Store, Soup, Entry}
+use Rattle.newt_spec_store.specs.Cost.{directory_pages, entry_pages, patch_bytes}
+use Rattle.newt_spec_store.specs.Store.{Store, Soup, Entry, next_uid_of}
 use Rattle.newt_spec_world.specs.World.{World, default_unit, store_on_unit, soup_in, entry_in}
 use Rattle.newt_spec_world.specs.declared.command.Command.{Command}
 use Rattle.newt_spec_world.specs.declared.command.Command.TheVariants as command
 use Rattle.newt_spec_world.specs.Changed.{changed}
 use Rattle.newt_laws_answers.specs.Spoken.{checks_now}
 
--- the pages of a store's directory (this project's own)
-abbrev pub directory_pages : Store → ℕ
-directory_pages s = pages_for (length (directory_bytes s))
-
 -- The bytes of the batch that makes one store of another: 516 for each page of the directory and of the entries that it puts, 4 for each page of the directory and of
 -- the entries before that it lets go, and 9 beside them. (this project's own)
 abbrev pub change_bytes : Store → Store → List Entry → List Entry → ℕ
 change_bytes a b put gone = 516 * (directory_pages b + sum_by entry_pages put) + 4 * (directory_pages a + sum_by entry_pages gone) + 9
-
--- the bytes of the batch that puts so many bytes in a large binary: 516 for each page that they fill and one more, and 9 beside them (this project's own)
-abbrev pub patch_bytes : ℕ → ℕ
-patch_bytes count = 516 * ((count + 499) / 500 + 1) + 9
 
 -- nothing where a test holds (this project's own)
 abbrev pub unless : Checks → ℕ → ℕ
@@ -40,14 +31,9 @@ abbrev pub entries_of : Option Soup → List Entry
 entries_of None = []
 entries_of (Some p) = p.entries
 
--- the next entry id of a soup, 0 where there is no soup (a word of these definitions)
-abbrev pub next_in : Option Soup → ℕ
-next_in None = 0
-next_in (Some p) = p.next_uid
-
 -- the entry that is new in a soup, with this graph: it has the id that was the next, and the present minute (a word of these definitions)
 abbrev pub new_in : World → ℕ → List ℕ → RawGraph → Entry
-new_in w u s g = record { uid = next_in (soup_in w u s); time = w.minute; graph = g }
+new_in w u s g = record { uid = next_uid_of (soup_in w u s); time = w.minute; graph = g }
 
 -- the same with the graph of an entry, if there is one, as a list (a word of these definitions)
 abbrev pub copied_in : World → ℕ → List ℕ → Option Entry → List Entry

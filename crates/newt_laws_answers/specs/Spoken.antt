@@ -1,27 +1,18 @@
 -- What the world answers to the commands of lines. All of it is this project's own.
-use Rattle.std.specs.Prelude.{ℕ, nat_le, Bool, true, ◌&&◌, cond, List, [], ◌∷◌}
-use Rattle.std.specs.List.{list_all}
-use Rattle.newt_base.specs.Names.{same_name}
+use Rattle.std.specs.Prelude.{Bool, true, cond, [], ◌∷◌}
 use Rattle.newt_base.specs.Refusals.{Checks, first_of}
 use Rattle.newt_base.specs.declared.Refusal.TheVariants.{Command as NoCommand}
-use Rattle.newt_spec_graph.specs.Lists.{all_apart}
-use Rattle.newt_spec_store.specs.Keys.{Path}
-use Rattle.newt_spec_store.specs.Valid.{valid_path, valid_symbol}
 use Rattle.newt_spec_world.specs.declared.command.Command.{Command}
 use Rattle.newt_spec_world.specs.declared.command.Command.TheVariants as command
 use Rattle.newt_spec_world.specs.World.{World}
 use Rattle.newt_spec_world.specs.Reply.{Reply}
 use Rattle.newt_spec_world.specs.Refused.{checks}
 use Rattle.newt_spec_world.specs.Answer.{answered}
-use Rattle.newt_laws.specs.Worlds.{parts_fit}
-
--- the path and the symbols of a tags declaration are such as a line gives
-abbrev pub tags_fit : Path → List (List ℕ) → Bool
-tags_fit path symbols = valid_path path && list_all valid_symbol symbols && all_apart same_name symbols
+use Rattle.newt_laws.specs.Worlds.{sig_fits, parts_fit, tags_fit}
 
 -- A command as a line can give it: no line gives a signature above the largest, or parts or tags of another form.
 abbrev pub is_spoken : Command → Bool
-is_spoken (command.Format _ _ sig) = nat_le sig 536_870_911
+is_spoken (command.Format _ _ sig) = sig_fits sig
 is_spoken (command.Index _ _ parts) = parts_fit parts
 is_spoken (command.SetTags _ _ path symbols) = tags_fit path symbols
 is_spoken _ = true

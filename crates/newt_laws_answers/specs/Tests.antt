@@ -8,9 +8,9 @@ use Rattle.newt_image.specs.Pages.{cap}
 use Rattle.newt_spec_graph.specs.Graph.{is_frame, object}
 use Rattle.newt_spec_store.specs.Cost.{cost, skeleton_length}
 use Rattle.newt_spec_store.specs.Keys.{IndexSpec, Path, paths_of, same_paths}
-use Rattle.newt_spec_store.specs.Store.{Store, Soup, Entry, TagTable, soup_named, change_soup, make_soup, change_entry, add_entry, remove_entry}
+use Rattle.newt_spec_store.specs.Store.{Store, Soup, Entry, TagTable, soup_named, change_soup, make_soup, change_entry, add_entry, remove_entry, new_store, with_index}
 use Rattle.newt_spec_world.specs.World.{World, one, change_device, change_store}
-use Rattle.newt_spec_world.specs.Changed.{new_store, with_graph, with_index, with_tags, bytes_of_large, large_at, large_bytes, patched_at}
+use Rattle.newt_spec_world.specs.Changed.{with_graph, with_tags, bytes_of_large, large_at, large_bytes, patched_at}
 use Rattle.newt_spec_world.specs.Refused.{either, no_unit, bad_blocks, is_mounted, not_mounted, no_soup, no_entry}
 
 -- ---- whether things are there

@@ -7,11 +7,10 @@ use Rattle.std.proofs.lemmas.Cmp.{nat_list_eq_equiv}
 use Rattle.newt_base.specs.Names.{equal_text}
 use Rattle.newt_spec_graph.specs.Lists.{Each, Pairs, Among, all_apart, rises}
 use Rattle.newt_spec_graph.proofs.Lists.{each-at, each-more, each-list_all, pairs-map, pairs-more, rises-pairs, rises-above, some-same, none-some, both-ways}
-use Rattle.newt_spec_store.specs.Store.{Store, Soup, Entry, soup_named, entry_of, change_first}
+use Rattle.newt_spec_store.specs.Store.{Store, Soup, Entry, soup_named, entry_of, change_first, soup_of}
 use Rattle.newt_spec_store.specs.Valid.{well_formed, valid_soup}
 use Rattle.newt_laws_images.proofs.Stores.{is-store, IsSoup, is-soup}
 use Rattle.newt_laws_images.proofs.Assembled.{map-among}
-use Rattle.newt_laws_changes.specs.Signatures.{soup_of}
 
 -- ---- lists of which one element passes a test
 

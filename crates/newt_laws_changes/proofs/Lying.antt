@@ -9,9 +9,8 @@ use Rattle.newt_spec_graph.proofs.Lists.{none-some, some-same}
 use Rattle.newt_spec_store.specs.Cost.{directory_bytes}
 use Rattle.newt_spec_store.specs.Image.{entry_bytes}
 use Rattle.newt_spec_store.specs.Lies.{Places, IsIn, AreLarges, LiesIn}
-use Rattle.newt_spec_store.specs.Store.{Store, Soup, Entry, change_soup, make_soup, drop_soup, add_entry, remove_entry}
+use Rattle.newt_spec_store.specs.Store.{Store, Soup, Entry, change_soup, make_soup, drop_soup, add_entry, remove_entry, soup_of}
 use Rattle.newt_spec_store.specs.Valid.{well_formed}
-use Rattle.newt_laws_changes.specs.Signatures.{soup_of}
 use Rattle.newt_laws_changes.specs.Written.{Names, HeadWritten, EntryWritten, EntryErased, SoupErased}
 use Rattle.newt_laws_changes.proofs.Bytes.{removed-directory}
 use Rattle.newt_laws_changes.proofs.Members.{same-or-not, in-below, added-in, in-added, new-in, removed-in, in-removed, dropped-in, in-dropped, made-in, in-made}

@@ -6,9 +6,8 @@ use Rattle.newt_graph.specs.Graph.{RawGraph}
 use Rattle.newt_spec_graph.specs.Lists.{Among}
 use Rattle.newt_spec_graph.proofs.Lists.{among-append, among-left, among-right, among-filter, filter-among, both-ways}
 use Rattle.newt_spec_store.specs.Lies.{IsIn}
-use Rattle.newt_spec_store.specs.Store.{Store, Soup, Entry, entry_of, change_soup, make_soup, drop_soup, add_entry, remove_entry}
+use Rattle.newt_spec_store.specs.Store.{Store, Soup, Entry, entry_of, change_soup, make_soup, drop_soup, add_entry, remove_entry, soup_of}
 use Rattle.newt_spec_store.specs.Valid.{well_formed}
-use Rattle.newt_laws_changes.specs.Signatures.{soup_of}
 use Rattle.newt_laws_changes.proofs.Chosen.{only-one, one-sig, one-name, find-passes, first-among, first-others, first-parts, same-text, soup-there, there-soup, there-entry, found_by_name, soup-good, entry-below}
 
 pub same-or-not : (a b : ℕ) → (a ≡ b) ⊎ (a ≡ b → ⊥)

@@ -14,10 +14,9 @@ use Rattle.newt_spec_graph.proofs.Lists.{none-some, some-same}
 use Rattle.newt_spec_store.specs.Cost.{directory_bytes}
 use Rattle.newt_spec_store.specs.Image.{entry_bytes}
 use Rattle.newt_spec_store.specs.Lies.{Places, IsIn, AreLarges, LiesIn}
-use Rattle.newt_spec_store.specs.Store.{Store, Soup, Entry, change_soup, add_entry, remove_entry}
+use Rattle.newt_spec_store.specs.Store.{Store, Soup, Entry, change_soup, add_entry, remove_entry, soup_of}
 use Rattle.newt_spec_store.specs.Valid.{well_formed, valid_entry}
 use Rattle.newt_laws_images.proofs.Stores.{is-store}
-use Rattle.newt_laws_changes.specs.Signatures.{soup_of}
 use Rattle.newt_laws_changes.specs.Written.{Names, EntryMoved}
 use Rattle.newt_laws_changes.proofs.Chosen.{find-one, first-among, first-others, one-sig-of, soup-there, found_by_name}
 use Rattle.newt_laws_changes.proofs.Formed.{added_formed}

@@ -10,9 +10,8 @@ use Rattle.newt_spec_graph.proofs.Lists.{some-same, none-some}
 use Rattle.newt_spec_store.specs.Cost.{directory_bytes}
 use Rattle.newt_spec_store.specs.Image.{entry_bytes}
 use Rattle.newt_spec_store.specs.Lies.{Places, IsIn, AreLarges, LiesIn}
-use Rattle.newt_spec_store.specs.Store.{Store, Soup, Entry, entry_of, change_soup, change_entry}
+use Rattle.newt_spec_store.specs.Store.{Store, Soup, Entry, entry_of, change_soup, change_entry, soup_of}
 use Rattle.newt_spec_store.specs.Valid.{well_formed}
-use Rattle.newt_laws_changes.specs.Signatures.{soup_of}
 use Rattle.newt_laws_changes.specs.Written.{Names, HeadWritten, EntryRewritten, EntryPatched}
 use Rattle.newt_laws_changes.proofs.Bytes.{same-directory}
 use Rattle.newt_laws_changes.proofs.Chosen.{find-passes, first-among, first-others, first-parts, one-uid, soup-there, soup-good}

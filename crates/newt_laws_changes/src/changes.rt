@@ -9,9 +9,8 @@ ghost use Rattle.newt_spec_store.specs.Laid.{bare};
 ghost use Rattle.newt_nsof.specs.Lengths.{skeleton};
 ghost use Rattle.newt_spec_store.specs.Lies.{Places, IsIn, LiesIn};
 ghost use Rattle.newt_spec_store.specs.StoreOf.{fill};
-ghost use Rattle.newt_spec_store.specs.Store.{Store, Soup, Entry, soup_named, entry_of, change_soup, change_entry, make_soup, add_entry, remove_entry, drop_soup};
+ghost use Rattle.newt_spec_store.specs.Store.{Store, Soup, Entry, soup_named, entry_of, change_soup, change_entry, make_soup, add_entry, remove_entry, drop_soup, soup_of, without_soup, take_uid_of};
 ghost use Rattle.newt_spec_store.specs.Valid.{well_formed, valid_entry};
-ghost use Rattle.newt_laws_changes.specs.Signatures.{soup_of, without_soup, take_uid_of};
 ghost use Rattle.newt_laws_changes.specs.Later.{StoreLater};
 ghost use Rattle.newt_laws_changes.specs.Written.{Names, HeadAlone, HeadWritten, EntryWritten, EntryRewritten, EntryErased, SoupErased, EntryMoved, EntryPatched};
 

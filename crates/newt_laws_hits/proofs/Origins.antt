@@ -5,7 +5,7 @@ use Rattle.newt_base.specs.Names.{equal_text}
 use Rattle.newt_spec_graph.specs.Lists.{Each, Pairs, Among}
 use Rattle.newt_spec_graph.proofs.Lists.{each-at, among-flat_map, flat_map-among, among-filter, filter-among, among-filter_map, filter_map-among, pairs-more, none-some, some-same}
 use Rattle.newt_spec_store.specs.Keys.{Key, key}
-use Rattle.newt_spec_store.specs.Store.{Entry, Soup, Store, entry_of}
+use Rattle.newt_spec_store.specs.Store.{Entry, Soup, Store, entry_of, soup_of}
 use Rattle.newt_spec_store.specs.Valid.{well_formed}
 use Rattle.newt_spec_store.proofs.Sorting.{among-fold, fold-among}
 use Rattle.newt_spec_query.specs.Spec.{Spec}
@@ -14,7 +14,6 @@ use Rattle.newt_spec_query.specs.Cursor.{on, same_identity, hit_at, settled}
 use Rattle.newt_spec_world.specs.World.{World, hits_of, mounted_stores}
 use Rattle.newt_spec_world.specs.Alias.{resolved}
 use Rattle.newt_spec_world.specs.Answer.{spot_of}
-use Rattle.newt_laws_changes.specs.Signatures.{soup_of}
 use Rattle.newt_laws_changes.proofs.Chosen.{OnePasses, find-passes, find-one, there-soup, there-entry, soup-good}
 use Rattle.newt_laws.proofs.Found.{Apart, Other, hits-apart}
 use Rattle.newt_laws_hits.specs.Located.{Located, located, takes_part, located_hit, looked_up}

@@ -1,9 +1,8 @@
 -- A hit by its identity: the store is found by its signature, the soup by its own, and the entry by its id.
 use Rattle.std.specs.Prelude.{ℕ, Bool, ◌&&◌, ◌==◌, List, find, Option, None, option_map, option_and_then, cond}
 use Rattle.newt_base.specs.Names.{equal_text}
-use Rattle.newt_spec_store.specs.Store.{Entry, Soup, Store, entry_of}
+use Rattle.newt_spec_store.specs.Store.{Entry, Soup, Store, entry_of, soup_of}
 use Rattle.newt_spec_query.specs.Hits.{Query, Hit, hit_of, in_scope, carries}
-use Rattle.newt_laws_changes.specs.Signatures.{soup_of}
 
 -- an entry with its soup and its store (a word of these definitions)
 pub record Located : Type 0 where

@@ -7,7 +7,7 @@ use Rattle.std.proofs.lemmas.Bool.{ltb-true, leb-true, and_parts}
 use Rattle.std.proofs.lemmas.Fmt.{decimal_by_steps}
 use Rattle.std.proofs.lemmas.Option.{slice_get_within}
 use Rattle.std.proofs.lemmas.List.Elements.{All-nil, All-cons, All-head, All-tail, All-append}
-use Rattle.newt_base.specs.Names.{is_printable}
+use Rattle.newt_base.specs.Names.{is_printable, is_identifier}
 use Rattle.newt_base.specs.Text.{hex_text, hex_digit, be16, be32}
 use Rattle.newt_graph.specs.declared.node.Node.{Node}
 use Rattle.newt_graph.specs.declared.node.Node.TheVariants as nodes
@@ -16,7 +16,7 @@ use Rattle.newt_graph.specs.declared.node.Ref.TheVariants as refs
 use Rattle.newt_graph.specs.Graph.{RawGraph, IsGraph, IsName, IsWord, IsNode, WalkLabel, WalkLabels, Walk, Walks}
 use Rattle.newt_graph.specs.Raw.{values_of}
 use Rattle.newt_lit.specs.Spelling.{Spelling}
-use Rattle.newt_lit.specs.Words.{is_identifier, is_shown}
+use Rattle.newt_lit.specs.Words.{is_shown}
 use Rattle.newt_lit.specs.Printed.{escaped, name_text, symbol_text, hex16, character_text, word_text, unit_text, string_text, binary_text, more_text, list_text, class_text, field_text, object_text, label_text, label_of, met_or_new, is_symbol, node_text, ref_text, node_at, labels, literal}
 use Rattle.newt_lit.proofs.Labels.{node_rules, label_le}
 use Rattle.newt_lit.proofs.Lists.{get_either}

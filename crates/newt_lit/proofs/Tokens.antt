@@ -9,11 +9,11 @@ use Rattle.std.proofs.lemmas.Fmt.{decimal_is_IsNumeral, decimal_by_steps, length
 use Rattle.std.proofs.lemmas.Int.{to_z_pos, to_z-of_z}
 use Rattle.std.proofs.lemmas.List.Elements.{All-head, All-tail}
 use Rattle.std.proofs.lemmas.List.Folds.{list_all-append}
-use Rattle.newt_base.specs.Names.{is_printable}
+use Rattle.newt_base.specs.Names.{is_printable, is_identifier}
 use Rattle.newt_base.specs.Text.{hex_text, hex_digit, be32}
 use Rattle.newt_graph.specs.Graph.{IsName, IsWord}
 use Rattle.newt_lit.specs.Grammar.{Pieces, Hex, HexByte, InName, InString, Name, Immediate, Label}
-use Rattle.newt_lit.specs.Words.{is_identifier, is_barred, is_number, number, hex_number, is_label, is_shown, is_quoted, units_of}
+use Rattle.newt_lit.specs.Words.{is_barred, is_number, number, hex_number, is_label, is_shown, is_quoted, units_of}
 use Rattle.newt_lit.specs.Printed.{escaped, name_text, hex16, character_text, word_text, unit_text}
 
 -- ---- decimal digits

@@ -2,11 +2,9 @@
 ghost use Rattle.std.specs.Prelude.{◌≡◌, ◌++◌, OnOk, decimal, flat_map, codes};
 ghost use Rattle.newt_base.specs.Text as text;
 ghost use Rattle.newt_lit.specs.Printed as printed;
-ghost use Rattle.newt_lit.specs.Words as words;
 ghost use Rattle.std.specs.Fmt.{signed_decimal};
-ghost use Rattle.std.specs.List.{list_all};
 
-use newt_base::hex_text;
+use newt_base::{hex_text, is_identifier};
 use std::alloc::{AllocError, Global};
 
 /// The word of nil.
@@ -17,34 +15,6 @@ const TRUE: u32 = 26;
 
 /// Words of characters are below this bound: the greatest character is 65,535.
 const CHARACTERS: u32 = 1 << 20;
-
-/// A letter, a digit or `_`.
-fn is_word(c: u8) -> bool
-    ensures { result ≡ words.is_word c }
-{
-    c.is_ascii_alphanumeric() || c == b'_'
-}
-
-fn are_words(name: &[u8]) -> bool
-    ensures { result ≡ list_all words.is_word name.now }
-{
-    name.iter().all(|c| is_word(*c))
-}
-
-fn begins_name(name: &[u8]) -> bool
-    ensures { result ≡ words.begins_name name.now }
-{
-    match name {
-        [] => false,
-        [first, ..] => !first.is_ascii_digit(),
-    }
-}
-
-fn is_identifier(name: &[u8]) -> bool
-    ensures { result ≡ words.is_identifier name.now }
-{
-    begins_name(name) && are_words(name) && name.len() < 255
-}
 
 /// A character, behind a backslash where it is one of the marks.
 fn escaped(out: &mut Vec<u8>, marks: &[u8], c: u8) -> Result<(), AllocError>

@@ -7,8 +7,9 @@ use Rattle.std.specs.Str.Parse.{AllDigits}
 use Rattle.std.proofs.lemmas.Bool.{leb-true, ltb-true, lt-ltb, le-ltb, eqb-true, and_parts}
 use Rattle.std.proofs.lemmas.List.Elements.{All-nil, All-cons, All-append, All-replicate}
 use Rattle.std.proofs.lemmas.Int.Digits.{digits_value-lt}
+use Rattle.newt_base.specs.Names.{is_word, begins_name}
 use Rattle.newt_graph.specs.Graph.{IsName}
-use Rattle.newt_lit.specs.Words.{is_word, begins_name, hex_number, units_of, number}
+use Rattle.newt_lit.specs.Words.{hex_number, units_of, number}
 use Rattle.newt_lit.specs.Grammar.{Pieces, Hex, HexByte, InName, InString, Name, LargeBytes, Tag}
 
 pub one_of : (a b : Bool) → (a || b) ≡ true → (a ≡ true) ⊎ (b ≡ true)
@@ -138,9 +139,10 @@ begun_some (c ∷ cs) e = omega arith
 -- a name is a name of a symbol
 pub name_is : {text name : List ℕ} → Name text name → IsName name
 name_is (Name.identifier {name = name} is) =
-    let p = and_parts (begins_name name && list_all is_word name) (ltb (length name) 255) is in
+    let p = and_parts (begins_name name && list_all is_word name) (leb (length name) 254) is in
     let q = and_parts (begins_name name) (list_all is_word name) p.0 in
-    record { some = begun_some name q.0; few = ltb-true (length name) 255 p.1; each = words_bytes name q.1 }
+    let most = leb-true (length name) 254 p.1 in
+    record { some = begun_some name q.0; few = omega (arith, most); each = words_bytes name q.1 }
 name_is (Name.barred {name = name} is some few) = record { some = some; few = few; each = between_bars is }
 
 pub tag_is : {text name : List ℕ} → Tag text name → IsName name

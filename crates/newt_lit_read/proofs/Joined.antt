@@ -83,7 +83,7 @@ symbol_made ns name m is h e = by (find_alike name ns) refl e
     by : (o : Option ℕ) → find_alike name ns ≡ o → known ns name o ≡ Some m → Made ns m.1 × IsSymbol m.1 m.0
     by (Some q) found e =
         subst (λ (m : ℕ × List Node). Made ns m.1 × IsSymbol m.1 m.0) (some_is _ _ e)
-        (record { new = []; is = sym (append-nil ns); holds = h }, alike_found name ns q found)
+        (record { new = []; is = sym (append-nil ns); holds = h }, (let alike = alike_found name ns q found in (alike.0, alike.1)))
     by None none e =
         let p = provided (ltb (length ns) 131072) (Some (length ns, ns ++ nodes.Symbol name ∷ [])) m e in
         let lt = ltb-true (length ns) 131072 p.0 in

@@ -6,9 +6,10 @@ use Rattle.std.specs.List.{list_all}
 use Rattle.std.specs.Char.{is_ascii_digit, is_ascii_hexdigit}
 use Rattle.std.proofs.lemmas.Bool.{leb-true, le-leb, lt-ltb, le-ltb, eqb-true, ne_eqb, and_parts, not-true}
 use Rattle.std.proofs.lemmas.List.{take_at, drop_at, length-append}
+use Rattle.newt_base.specs.Names.{is_word, begins_name, is_identifier}
 use Rattle.newt_graph.specs.Steps.{◌>>=◌}
 use Rattle.newt_lit_read.specs.declared.tokens.Start.TheVariants as start
-use Rattle.newt_lit.specs.Words.{is_blank, skip, is_word, word_len, is_number, number, is_shown, are_digits, begins_name, is_identifier, is_label, is_count, units_of}
+use Rattle.newt_lit.specs.Words.{is_blank, skip, word_len, is_number, number, is_shown, are_digits, is_label, is_count, units_of}
 use Rattle.newt_lit.specs.Grammar.{Mark, Pieces, Hex, HexByte, InName, InString, Name, Label, Tag, LargeBytes}
 use Rattle.newt_lit_read.specs.Tokens.{first_of, behind_mark, mark_at, word_at, word_value, negative_at, label_at, hex_at, code_word_at, character_at, Next, pieces_at, single, piece, next_in_name, next_in_string, next_byte, identifier_at, barred_at, name_at, tag_at, bytes_at, zeros_at, large_bytes_at}
 use Rattle.newt_lit_read.specs.Reading.{start_of}
@@ -244,7 +245,7 @@ pub record Begins (text : List ℕ) : Type 0 where
 identifier_begins : (text : List ℕ) → is_identifier text ≡ true → (c : ℕ) × (cs : List ℕ) × (text ≡ c ∷ cs) × (is_word c ≡ true)
 identifier_begins [] is = absurd cc
 identifier_begins (c ∷ cs) is =
-    let p = and_parts (begins_name (c ∷ cs) && list_all is_word (c ∷ cs)) (ltb (length (c ∷ cs)) 255) is in
+    let p = and_parts (begins_name (c ∷ cs) && list_all is_word (c ∷ cs)) (leb (length (c ∷ cs)) 254) is in
     let q = and_parts (begins_name (c ∷ cs)) (list_all is_word (c ∷ cs)) p.0 in
     (c, cs, refl, (and_parts (is_word c) (list_all is_word cs) q.1).0)
 
@@ -258,7 +259,7 @@ identifier_again : (text : List ℕ) → is_identifier text ≡ true → (rest :
 unfolding name_at
 identifier_again text is rest ends =
     let b = identifier_begins text is in
-    let p = and_parts (begins_name text && list_all is_word text) (ltb (length text) 255) is in
+    let p = and_parts (begins_name text && list_all is_word text) (leb (length text) 254) is in
     let q = and_parts (begins_name text) (list_all is_word text) p.0 in
     let front : text ++ rest ≡ b.0 ∷ (b.1 ++ rest) = ap (λ (x : List ℕ). x ++ rest) b.2 in
     let read : identifier_at (text ++ rest) ≡ Some (text, rest) = ap (λ (p : List ℕ × List ℕ). cond (is_identifier p.0) (Some p) None) (word_again text rest q.1 ends) ∙ rw is refl in

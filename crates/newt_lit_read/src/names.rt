@@ -1,7 +1,7 @@
 //! Names and tags.
 ghost use Rattle.std.specs.Prelude.{◌≡◌, ◌<◌, ◌≤◌, length, IfOk, IsTrue};
 ghost use Rattle.std.specs.List.{list_all};
-ghost use Rattle.newt_lit.specs.Words.{is_word};
+ghost use Rattle.newt_base.specs.Names.{is_word};
 ghost use Rattle.newt_lit_read.specs.Answers.{Gives};
 ghost use Rattle.newt_lit_read.specs.Tokens.{identifier_at, barred_at, name_at, tag_at};
 

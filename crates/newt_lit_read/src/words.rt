@@ -2,7 +2,8 @@
 ghost use Rattle.std.specs.Prelude.{◌≡◌, ◌<◌, ◌≤◌, ◌^◌, length, IsTrue};
 ghost use Rattle.std.specs.List.{list_all};
 ghost use Rattle.std.specs.Char.{is_ascii_digit, is_ascii_hexdigit, digit_value};
-ghost use Rattle.newt_lit.specs.Words.{is_blank, skip, is_word, word_len, begins_name, is_identifier, is_barred, number, hex_number, are_digits, is_number, is_label, is_count, is_shown};
+ghost use Rattle.newt_base.specs.Names.{is_word, begins_name, is_identifier};
+ghost use Rattle.newt_lit.specs.Words.{is_blank, skip, word_len, is_barred, number, hex_number, are_digits, is_number, is_label, is_count, is_shown};
 ghost use Rattle.newt_lit_read.specs.Tokens.{word_at};
 
 fn is_blank(c: char) -> bool
@@ -74,7 +75,7 @@ fn is_all_word(word: &[char]) -> bool
 pub(crate) fn is_identifier(word: &[char]) -> bool
     ensures { result ≡ is_identifier word.now }
 {
-    begins_name(word) && is_all_word(word) && word.len() < 255
+    begins_name(word) && is_all_word(word) && word.len() <= 254
 }
 
 /// Whether it stands for itself between bars.

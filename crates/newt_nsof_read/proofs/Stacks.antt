@@ -5,13 +5,14 @@ use Rattle.std.proofs.lemmas.List.{append-nil, length_push}
 use Rattle.newt_graph.specs.declared.node.Node.{Node}
 use Rattle.newt_graph.specs.declared.node.Ref.{Ref}
 use Rattle.newt_graph.specs.declared.node.Ref.TheVariants as refs
+use Rattle.newt_graph.specs.Steps.{◌>>=◌}
 use Rattle.newt_nsof_read.specs.declared.open.Kind.{Kind}
 use Rattle.newt_nsof_read.specs.declared.open.Kind.TheVariants as kinds
 use Rattle.newt_nsof_read.specs.declared.open.Front.{Front}
 use Rattle.newt_nsof_read.specs.declared.open.Front.TheVariants as fronts
 use Rattle.newt_nsof_read.specs.Met.{Met}
 use Rattle.newt_nsof_read.specs.Opened.{Opened}
-use Rattle.newt_nsof_read.specs.Reading.{◌>>=◌, filled, many_at, is_other, object_at}
+use Rattle.newt_nsof_read.specs.Reading.{filled, many_at, is_other, object_at}
 use Rattle.newt_nsof_read.specs.Stack.{node_of, with_value, closed, rest_at, onward, resumed, whole, IsOpen, AreOpen, awaited}
 
 -- ---- one container

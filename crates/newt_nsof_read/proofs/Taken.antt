@@ -5,14 +5,17 @@ use Rattle.std.proofs.lemmas.Bool.{ltb-true, eqb-true}
 use Rattle.std.proofs.lemmas.List.{append-nil, length_push}
 use Rattle.newt_graph.specs.declared.node.Node.{Node}
 use Rattle.newt_graph.specs.declared.node.Node.TheVariants.{Symbol}
+use Rattle.newt_graph.specs.Steps.{◌>>=◌}
+use Rattle.newt_graph.specs.Draft.{find_alike}
 use Rattle.newt_nsof.specs.Text.{Interned, InternedEach, SymbolText, Again, Label, Labels}
-use Rattle.newt_nsof.proofs.Normal.{get_append, get_seam}
+use Rattle.newt_graph.proofs.Grows.{get_append, get_seam}
+use Rattle.newt_graph.proofs.Drafts.{none_alike, alike_found}
 use Rattle.newt_nsof_read.specs.declared.tag.Tag.{Tag}
 use Rattle.newt_nsof_read.specs.declared.tag.Tag.TheVariants as tags
 use Rattle.newt_nsof_read.specs.Met.{Met}
-use Rattle.newt_nsof_read.specs.Reading.{◌>>=◌, Reader, count_at, name_at, push, add, known, numbering, intern, intern_each, find_alike, numbered_at, symbol_at, symbol_only, is_symbol_at, is_other, tag_of, label_by, label_at, many_at}
+use Rattle.newt_nsof_read.specs.Reading.{Reader, count_at, name_at, push, add, known, numbering, intern, intern_each, numbered_at, symbol_at, symbol_only, is_symbol_at, is_other, tag_of, label_by, label_at, many_at}
 use Rattle.newt_nsof_read.proofs.Fields.{IsBytes, IsBytes-rest, bind_some, chosen, provided, some_is, Takes, Takes-then, Takes-after, count_takes, name_takes}
-use Rattle.newt_nsof_read.proofs.Names.{names, names-append, same_length, IsAlike-moved, IsSymbol-moved, found_is_alike, none_is_alike, is_symbol_tells}
+use Rattle.newt_nsof_read.proofs.Names.{names, names-append, same_length, IsAlike-moved, IsSymbol-moved, is_symbol_tells}
 
 -- how a text spells a value after some nodes and numbered objects: the nodes that it adds, and the numbered objects after it
 abbrev pub Spelling : Type 0 → Type 1
@@ -74,7 +77,7 @@ known_old met name k e = record {
   grown = sym (append-nil met.nodes);
   few = λ h. h;
   numbered = refl;
-  interned = λ before same. Interned.alike (IsAlike-moved met.nodes before k name same (found_is_alike name met.nodes k e));
+  interned = λ before same. Interned.alike (IsAlike-moved met.nodes before k name same (alike_found name met.nodes k e));
 }
 
 known_new : (met : Met) (name : List ℕ) (found : ℕ × Met) → find_alike name met.nodes ≡ None → push met (Symbol name) ≡ Some found → Known met name found
@@ -87,7 +90,7 @@ known_new met name found none e =
       numbered = p.numbered;
       interned = λ before same.
           let len : length before ≡ found.0 = sym (p.n ∙ same_length met.nodes before same) in
-          let first : Interned before name (length before) (Symbol name ∷ []) = Interned.first (λ k alike. none_is_alike name met.nodes none k (IsAlike-moved before met.nodes k name (sym same) alike)) in
+          let first : Interned before name (length before) (Symbol name ∷ []) = Interned.first (λ k alike. none_alike met.nodes name none k (IsAlike-moved before met.nodes k name (sym same) alike)) in
           subst (λ (n : ℕ). Interned before name n (Symbol name ∷ [])) len first;
     }
 

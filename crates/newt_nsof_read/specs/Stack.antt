@@ -4,6 +4,7 @@ use Rattle.newt_graph.specs.declared.node.Node.{Node}
 use Rattle.newt_graph.specs.declared.node.Node.TheVariants.{Array, Frame}
 use Rattle.newt_graph.specs.declared.node.Ref.{Ref}
 use Rattle.newt_graph.specs.declared.node.Ref.TheVariants as refs
+use Rattle.newt_graph.specs.Steps.{◌>>=◌}
 use Rattle.newt_nsof_read.specs.declared.tag.Tag.{Tag}
 use Rattle.newt_nsof_read.specs.declared.tag.Tag.TheVariants as tags
 use Rattle.newt_nsof_read.specs.declared.open.Kind.{Kind}
@@ -12,7 +13,7 @@ use Rattle.newt_nsof_read.specs.declared.open.Front.{Front}
 use Rattle.newt_nsof_read.specs.declared.open.Front.TheVariants as fronts
 use Rattle.newt_nsof_read.specs.Met.{Met}
 use Rattle.newt_nsof_read.specs.Opened.{Opened}
-use Rattle.newt_nsof_read.specs.Reading.{◌>>=◌, Reader, add, filled, count_at, label_at, many_at, all_distinct, tag_of, object_by, rectangle_at, is_other, object_at}
+use Rattle.newt_nsof_read.specs.Reading.{Reader, add, filled, count_at, label_at, many_at, all_distinct, tag_of, object_by, rectangle_at, is_other, object_at}
 
 -- ---- open containers
 

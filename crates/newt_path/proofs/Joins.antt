@@ -12,7 +12,8 @@ use Rattle.newt_graph.specs.Graph.{RawGraph, IsGraph, IsNode, IsSymbol, IsAlike,
 use Rattle.newt_graph.specs.Raw.{renamed_ref, renamed, labels_of, values_of, IsValue}
 use Rattle.newt_graph.specs.Draft.{IsJoinedNode}
 use Rattle.newt_spec_graph.specs.Slots.{goes_to, new_nodes, known_number}
-use Rattle.newt_graph.proofs.Grows.{some_is, get_append}
+use Rattle.newt_graph.proofs.Grows.{some_is}
+use Rattle.newt_graph.proofs.Drafts.{symbol_append}
 use Rattle.newt_graph.proofs.Form.{any_at}
 use Rattle.newt_path.proofs.Below.{nodes_within}
 use Rattle.newt_path.proofs.Numbers.{joined, symbol_lands, lands_within}
@@ -110,9 +111,6 @@ renamed_joined old v once node h =
 all_numbered : (P : Node → Type 0) (i : ℕ) (new : List Node) → All P new → All (λ k. P k.1) (enumerate_from i new)
 all_numbered P i [] h = All-nil (λ k. P k.1)
 all_numbered P i (x ∷ xs) h = All-cons (λ k. P k.1) (i, x) (enumerate_from (i + 1) xs) (All-head P x xs h) (all_numbered P (i + 1) xs (All-tail P x xs h))
-
-symbol_append : (old rest : List Node) (k : ℕ) → IsSymbol old k → IsSymbol (old ++ rest) k
-symbol_append old rest k is = (is.0, get_append old rest k (Symbol is.0) is.1)
 
 pub append_joined : (old rest : List Node) → All (IsJoinedNode old) old → All (IsJoinedNode (old ++ rest)) old
 append_joined old rest h = All-weaker (IsJoinedNode old) (IsJoinedNode (old ++ rest)) (joined_more old (old ++ rest) (symbol_append old rest) (omega (arith, length-append old rest))) old h

@@ -5,5 +5,5 @@ mod Reached
 mod Joins
 mod Puts
 mod Trail
-mod Reading
+pub mod Reading
 mod Ends

@@ -2,10 +2,8 @@
 use Rattle.std.proofs.Common.{◌≡◌, ℕ, zero, suc, ◌+◌, ◌-◌, ◌<◌, ◌≤◌, List, [], ◌∷◌, ◌++◌, length, map, All, get_or, Bool, true, false, Option, Some, None, refl, sym, ap, subst, ◌∙◌, arith, eqb}
 use Rattle.std.specs.Prelude.{slice_get, filter, is_none, unwrap_or, option_and_then, ◌==◌}
 use Rattle.std.specs.List.{position_from, position_or_len, enumerate_from, sum_by}
-use Rattle.std.specs.Str.{bytes_eq}
 use Rattle.std.proofs.lemmas.Iterator.Adapters.{position_from-zero}
 use Rattle.std.proofs.lemmas.Bool.{eq-eqb, ne_eqb, le-leb}
-use Rattle.std.proofs.lemmas.Bool.Decides.{same_from_decides}
 use Rattle.std.proofs.lemmas.Slice.Eq.{bytes_eq-Decides}
 use Rattle.std.proofs.lemmas.List.{length-append}
 use Rattle.std.proofs.lemmas.List.Elements.{All-head, All-tail}
@@ -21,14 +19,12 @@ use Rattle.newt_graph.specs.Raw.{renamed_ref, renamed, IsValue}
 use Rattle.newt_graph.specs.Draft.{is_alike, find_alike}
 use Rattle.newt_graph.specs.Import.{known_as, numbers_from, kept_of, looked_up, behind, with_graph}
 use Rattle.newt_spec_graph.specs.Slots.{is_named, symbol_number, known_number, new_nodes, goes_to}
-use Rattle.newt_graph.proofs.Grows.{some_is, get_append}
+use Rattle.newt_graph.proofs.Grows.{some_is}
+use Rattle.newt_graph.proofs.Drafts.{bytes_eq-sym, alike_append}
 use Rattle.newt_graph.proofs.Form.{at_map, any_at}
 use Rattle.newt_path.proofs.Below.{Within, nodes_within, root_within}
 
 -- ---- the same symbols are found
-
-bytes_eq-sym : (a b : List ℕ) → bytes_eq a b ≡ bytes_eq b a
-bytes_eq-sym a b = same_from_decides (bytes_eq a b) (bytes_eq b a) (bytes_eq-Decides a b) ((λ e. sym ((bytes_eq-Decides b a).0 e)), (λ e. (bytes_eq-Decides b a).1 (sym e)))
 
 alike_is_named : (name : List ℕ) (node : Node) → is_alike name node ≡ is_named name (Some node)
 alike_is_named name (Symbol old) = bytes_eq-sym (folded old) (folded name)
@@ -204,9 +200,6 @@ new_lands old new k node e none =
     let there : slice_get ks (place_of k ks) ≡ Some (k, node) = new_at old new 0 k k node (omega arith) e none in
     ap (λ (m : ℕ). slice_get (joined old new) m) number
     ∙ (get_behind old (map (λ k. renamed to k.1) ks) (place_of k ks) ∙ at_map (λ k. renamed to k.1) ks (place_of k ks) (k, node) there)
-
-alike_append : (nodes rest : List Node) (k : ℕ) (name : List ℕ) → IsAlike nodes k name → IsAlike (nodes ++ rest) k name
-alike_append nodes rest k name a = (a.0, get_append nodes rest k (Symbol a.0) a.1, a.2)
 
 -- a symbol goes to one that is alike
 pub symbol_lands : (old new : List Node) (k : ℕ) (name : List ℕ) → slice_get new k ≡ Some (Symbol name) → IsAlike (joined old new) (goes_to old new k) name

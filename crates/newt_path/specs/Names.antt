@@ -10,13 +10,9 @@ pub record IsPath (path : List (List ℕ)) : Type 0 where
   pub few : length path ≤ 8
   pub each : All IsName path
 
--- an identifier of at most 254 bytes (this project's own)
-abbrev pub is_slot_name : List ℕ → Bool
-is_slot_name name = is_identifier name && nat_le (length name) 254
-
--- one to eight such identifiers (this project's own)
+-- one to eight identifiers (this project's own)
 abbrev pub are_slot_names : List (List ℕ) → Bool
-are_slot_names names = nat_le 1 (length names) && nat_le (length names) 8 && list_all is_slot_name names
+are_slot_names names = nat_le 1 (length names) && nat_le (length names) 8 && list_all is_identifier names
 
 -- the path that a text writes down: identifiers with points between them (this project's own)
 unfoldable pub path_of : List ℕ → Option (List (List ℕ))

@@ -4,7 +4,6 @@
 #![tactic(auto)]
 
 mod fault;
-mod names;
 mod path;
 mod set;
 mod value;

@@ -6,7 +6,7 @@ ghost use Rattle.newt_path.specs.Names.{IsPath, path_of};
 ghost use Rattle.newt_path.specs.declared.fault.PathFault.{PathFault};
 
 use crate::fault::PathFault;
-use crate::names::is_slot_name;
+use newt_base::is_identifier;
 use newt_graph::Bytes;
 use std::alloc::{AllocError, Global};
 use std::marker::Model;
@@ -40,7 +40,7 @@ impl Path {
         Path { items }
     }
 
-    /// Reads 1 to 8 identifiers of 1 to 254 bytes each, with points between them. `Path` comes only where the text is none; `Memory` may come in
+    /// Reads 1 to 8 identifiers with points between them. `Path` comes only where the text is none; `Memory` may come in
     /// place of any answer.
     pub fn read(alloc: Global, text: &[u8]) -> Result<Path, PathFault>
         ensures ok { IfOk result (λ path. path_of text.now ≡ Some path) }
@@ -48,7 +48,7 @@ impl Path {
     {
         let mut items = Vec::new(alloc);
         for name in text.split(|byte| *byte == b'.') {
-            if items.len() >= MOST || !is_slot_name(name) {
+            if items.len() >= MOST || !is_identifier(name) {
                 return Err(PathFault::Path);
             }
             items.push(Bytes::of(Vec::from_slice(alloc, name)?))?;

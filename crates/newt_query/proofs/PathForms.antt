@@ -1,14 +1,14 @@
 -- The two forms of a path, and that the names of a graph's symbols are a path.
 use Rattle.std.proofs.Common.{◌≡◌, ℕ, suc, ◌<◌, ◌≤◌, List, [], ◌∷◌, length, map, All, Option, Some, None, refl, sym, ap, subst, arith, cond}
 use Rattle.std.specs.Prelude.{◌&&◌, codes, option_map, option_and_then, slice_get}
-use Rattle.std.proofs.lemmas.List.Elements.{All-nil, All-cons, All-get_or}
-use Rattle.std.proofs.lemmas.Option.{slice_get_within, get_or_from_slice_get}
+use Rattle.std.proofs.lemmas.List.Elements.{All-nil, All-cons}
 use Rattle.newt_base.specs.Names.{same_name}
 use Rattle.newt_graph.specs.declared.node.Ref.{Ref}
 use Rattle.newt_graph.specs.declared.node.Ref.TheVariants.{Imm, Node as At}
 use Rattle.newt_graph.specs.declared.node.Node.{Node}
 use Rattle.newt_graph.specs.declared.node.Node.TheVariants.{Symbol, Str, Binary, Large, Array, Frame}
 use Rattle.newt_graph.specs.Graph.{RawGraph, IsGraph, IsName, IsNode}
+use Rattle.newt_graph.proofs.Form.{all_at}
 use Rattle.newt_spec_graph.specs.Graph.{object, every}
 use Rattle.newt_spec_query.specs.Tags.{symbol_name, if_given}
 use Rattle.newt_spec_query.specs.Spec.{path_values, path_of, or_else, within}
@@ -48,10 +48,6 @@ path_else nodes r e = rw (← e) (by (symbol_name nodes r))
     by (Some name) = refl
 
 -- ---- the names of symbols
-
--- an element of a list of which all have a property
-all_at : {X : Type 0} (P : X → Type 0) (xs : List X) (n : ℕ) (x : X) → All P xs → slice_get xs n ≡ Some x → P x
-all_at P xs n x all e = subst P (get_or_from_slice_get xs n x x e) (All-get_or P xs n x (slice_get_within xs n x e) all)
 
 -- the symbols of a graph have names
 pub symbol_is_name : (g : RawGraph) → IsGraph g → (r : Ref) (name : List ℕ) → symbol_name g.nodes r ≡ Some name → IsName name

@@ -1,5 +1,5 @@
 -- Parts of the texts of replies, with std's decimals. The text of a whole reply stays closed in proofs.
-use Rattle.std.specs.Prelude.{ℕ, Bool, ◌||◌, ◌==◌, List, [], ◌∷◌, ◌++◌, map, flat_map, codes, decimal}
+use Rattle.std.specs.Prelude.{ℕ, List, [], ◌∷◌, ◌++◌, map, flat_map, codes, decimal}
 use Rattle.newt_lit.specs.Printed.{escaped}
 use Rattle.newt_spec_store.specs.Keys.{IndexSpec, IndexPart}
 use Rattle.newt_spec_world.specs.Reply.{Reply, reply_text, ok, items, spaced, name_field, part_field}
@@ -13,10 +13,6 @@ written = reply_text
 -- the line of a reply that is no refusal, with its end
 unfoldable pub ok_text : List (List ℕ) → List ℕ
 ok_text fields = ok fields ++ 10 ∷ []
-
--- a byte for which a name stands in quotes
-abbrev pub is_quotable : ℕ → Bool
-is_quotable c = (c == 32) || (c == 34) || (c == 92)
 
 -- a name in quotes
 abbrev pub quoted : List ℕ → List ℕ

@@ -1,14 +1,15 @@
 //! The fields of replies.
 ghost use Rattle.std.specs.Prelude.{◌≡◌, ◌++◌, IfOk, OnOk, codes, decimal};
 ghost use Rattle.std.specs.List.{list_any};
+ghost use Rattle.newt_base.specs.Names.{needs_quotes};
 ghost use Rattle.newt_base.specs.Text.{hex_text as hex_of};
 ghost use Rattle.newt_lit.specs.Printed.{escaped};
 ghost use Rattle.newt_nsof.specs.Written.{nsof};
 ghost use Rattle.newt_spec_world.specs.Reply.{name_field};
-ghost use Rattle.newt_reply.specs.Fields.{is_quotable, quoted, alias_item};
+ghost use Rattle.newt_reply.specs.Fields.{quoted, alias_item};
 
 use crate::reply::Alias;
-use newt_base::{Name, hex_text};
+use newt_base::{Name, hex_text, needs_quotes};
 use newt_graph::Graph;
 use newt_nsof_write::encode;
 use std::alloc::{AllocError, Global};
@@ -63,16 +64,9 @@ pub fn name_text(alloc: Global, name: &Name) -> Result<Vec<u8>, AllocError>
     }
 }
 
-/// Whether a name with this byte in it stands in quotes.
-fn needs_quotes(byte: u8) -> bool
-    ensures { result ≡ is_quotable byte }
-{
-    byte == b' ' || byte == b'"' || byte == b'\\'
-}
-
 /// Whether a name stands in quotes.
 fn must_be_quoted(bytes: &[u8]) -> bool
-    ensures { result ≡ list_any is_quotable bytes.now }
+    ensures { result ≡ list_any needs_quotes bytes.now }
 {
     bytes.iter().any(|byte| needs_quotes(*byte))
 }

@@ -1,8 +1,8 @@
 -- What calls leave of devices and counts, one after another.
 use Rattle.std.proofs.Common.{Bool, refl, ◌∙◌, arith}
-use Rattle.newt_host.specs.Outside.{Outside}
+use Rattle.newt_host.specs.Outside.{Outside, OnDevices}
 use Rattle.newt_host.proofs.Outside.{SameCards-refl, SameCards-append}
-use Rattle.newt_session.specs.Causes.{SameDevices, NeverLess, GoesOn, OnDevices}
+use Rattle.newt_session.specs.Causes.{SameDevices, NeverLess, GoesOn}
 
 pub goes-refl : (a : Outside) → GoesOn a a
 goes-refl a = record { cards = SameCards-refl a; in_faults = omega arith; out_faults = omega arith; dev_faults = λ unit. omega arith }

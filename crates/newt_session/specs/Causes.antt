@@ -19,11 +19,6 @@ abbrev pub halt_of : Stop → Halt
 halt_of stops.Memory = Memory
 halt_of (stops.Device unit) = Device unit
 
--- A device has failed and counted it, where its fault is said to be why a command was not answered.
-abbrev pub HasStopCause : Stop → (old new : Outside) → Type 0
-HasStopCause stops.Memory old new = Unit {0}
-HasStopCause (stops.Device unit) old new = Rose (old.dev_faults unit) (new.dev_faults unit)
-
 -- what may halt the writing of a text: want of memory, or the output where it has failed
 abbrev pub HasSinkCause : Halt → (old new : Outside) → Type 0
 HasSinkCause Memory old new = Unit {0}
@@ -64,12 +59,4 @@ pub record GoesOn (old new : Outside) : Type 0 where
   pub cards : SameCards old new
   pub in_faults : old.in_faults ≤ new.in_faults
   pub out_faults : old.out_faults ≤ new.out_faults
-  pub dev_faults : (unit : ℕ) → old.dev_faults unit ≤ new.dev_faults unit
-
--- The input and the output, their faults, and what is attached are as they were, and no device has fewer faults.
-pub record OnDevices (old new : Outside) : Type 0 where
-  pub input : new.input ≡ old.input
-  pub cards : SameCards old new
-  pub in_faults : new.in_faults ≡ old.in_faults
-  pub out_faults : new.out_faults ≡ old.out_faults
   pub dev_faults : (unit : ℕ) → old.dev_faults unit ≤ new.dev_faults unit

@@ -1,9 +1,10 @@
 //! What an engine promises for one command.
 ghost use Rattle.std.specs.Prelude.{◌≡◌, ℕ, List, Bool, true, false, Option, Some, None, IsSome, IsTrue, IfOk, IfErr, OnOk, is_some, slice_index_or};
 ghost use Rattle.newt_host.specs.Moments.{Always, IsDurable, MayLeave};
-ghost use Rattle.newt_host.specs.Outside.{Outside};
+ghost use Rattle.newt_host.specs.Outside.{Outside, OnDevices};
+ghost use Rattle.newt_pagebook.specs.Stops.{HasStopCause};
 ghost use Rattle.newt_reply.specs.Said.{said};
-ghost use Rattle.newt_session.specs.Causes.{HasStopCause, OnDevices, SameDevices};
+ghost use Rattle.newt_session.specs.Causes.{SameDevices};
 ghost use Rattle.newt_session.specs.First.{unmounted};
 ghost use Rattle.newt_session.specs.Moments.{Answering};
 ghost use Rattle.newt_session.specs.Script.{Answers};

@@ -1,14 +1,10 @@
 -- Bytes of one object that are overwritten.
-use Rattle.std.specs.Prelude.{◌≡◌, ◌⊎◌, ℕ, ◌+◌, ◌*◌, ◌/◌, List, length}
+use Rattle.std.specs.Prelude.{◌≡◌, ◌⊎◌, ℕ, List, length}
 use Rattle.newt_base.specs.declared.Refusal.TheVariants.{Full, Range}
 use Rattle.newt_objects.specs.Held.{Texts}
 use Rattle.newt_objects.specs.Changing.{HoldsObjects}
 use Rattle.newt_shelf.specs.declared.fault.StoreFault.{StoreFault}
 use Rattle.newt_shelf.specs.declared.fault.StoreFault.TheVariants.{Refused, Stop}
-
--- the bytes of the batch that puts so many bytes in an object: 516 for each page that they fill and one more, and 9 beside them
-abbrev pub patch_bytes : ℕ → ℕ
-patch_bytes count = 516 * ((count + 499) / 500 + 1) + 9
 
 -- What a crash may leave of an image within a patch: as many bytes, which hold the objects before it, or those after it.
 pub record IsBeforeOrPatched (now : List ℕ) (before after : Texts) (left : List ℕ) : Type 0 where

@@ -14,7 +14,8 @@ ghost use Rattle.newt_objects.specs.Changing.{HoldsObjects};
 ghost use Rattle.newt_vbo.specs.Ranges.{parts_met};
 ghost use Rattle.newt_shelf.specs.Commit.{AreKept};
 ghost use Rattle.newt_shelf.specs.Faults.{FaultsAt, RefusesOnly};
-ghost use Rattle.newt_shelf.specs.Patch.{IsBeforeOrPatched, IsRangeOrFull, patch_bytes};
+ghost use Rattle.newt_spec_store.specs.Cost.{patch_bytes};
+ghost use Rattle.newt_shelf.specs.Patch.{IsBeforeOrPatched, IsRangeOrFull};
 
 use crate::StoreFault;
 use newt_base::Refusal;

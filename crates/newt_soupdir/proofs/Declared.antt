@@ -3,7 +3,7 @@ use Rattle.std.proofs.Common.{◌≡◌, ℕ, ◌≤◌, zero, suc, Bool, true, 
 use Rattle.std.specs.Prelude.{IsTrue, nat_le}
 use Rattle.std.specs.List.{list_all}
 use Rattle.std.proofs.lemmas.Bool.{and_from, le-leb}
-use Rattle.newt_base.specs.Names.{same_name}
+use Rattle.newt_base.specs.Names.{same_name, is_identifier}
 use Rattle.newt_path.specs.Names.{IsPath}
 use Rattle.newt_spec_graph.specs.Lists.{all_apart}
 use Rattle.newt_spec_store.specs.declared.Kind.{Kind}
@@ -12,11 +12,11 @@ use Rattle.newt_spec_store.specs.Keys as keys
 use Rattle.newt_spec_store.specs.Keys.{IndexSpec, Path}
 use Rattle.newt_spec_store.specs.Store.{TagTable}
 use Rattle.newt_spec_store.specs.Reading.{Take, ◌>>=◌, give, number, times, counted, text, path, kind_of, direction_of, part, tags_of}
-use Rattle.newt_spec_store.specs.Valid.{valid_symbol, valid_path, valid_spec, valid_tags}
+use Rattle.newt_spec_store.specs.Valid.{valid_path, valid_spec, valid_tags}
 use Rattle.newt_keys.specs.Seen.{declared, declared_all}
 use Rattle.newt_keys.specs.declared.types.IndexPart.{IndexPart}
 use Rattle.newt_soupdir.specs.Reading.{is_count, byte_at, text_at, symbol_at, path_at, kind_at, order_at, part_at, spec_at, specs_at, tag_symbols_at, table_at, tags_from, tags_at}
-use Rattle.newt_soupdir.proofs.Named.{names_are_path}
+use Rattle.newt_path.proofs.Reading.{names_are_path}
 use Rattle.newt_soupdir.proofs.Spelled.{length_rows}
 use Rattle.newt_soupdir.proofs.Sifting.{Sifts, formed, sieved, next, bind, never, times-sifts, passed, tested, narrowed, same_test, as_given, plain}
 
@@ -28,22 +28,22 @@ and_swapped false false = refl
 
 -- ---- symbols and paths
 
-symbol-sifts : (bytes : List ℕ) → Sifts (λ (t : List ℕ). t) valid_symbol (symbol_at bytes) (text bytes)
+symbol-sifts : (bytes : List ℕ) → Sifts (λ (t : List ℕ). t) is_identifier (symbol_at bytes) (text bytes)
 unfolding symbol_at text_at byte_at
-symbol-sifts bytes = tested valid_symbol (text bytes)
+symbol-sifts bytes = tested is_identifier (text bytes)
 
-pub symbols-sifts : (n : ℕ) (bytes : List ℕ) → Sifts (λ (ss : List (List ℕ)). ss) (list_all valid_symbol) (times n symbol_at bytes) (times n text bytes)
-symbols-sifts n bytes = plain (list_all valid_symbol) (times n symbol_at bytes) (times n text bytes) (times-sifts (λ (t : List ℕ). t) valid_symbol symbol_at text symbol-sifts n bytes)
+pub symbols-sifts : (n : ℕ) (bytes : List ℕ) → Sifts (λ (ss : List (List ℕ)). ss) (list_all is_identifier) (times n symbol_at bytes) (times n text bytes)
+symbols-sifts n bytes = plain (list_all is_identifier) (times n symbol_at bytes) (times n text bytes) (times-sifts (λ (t : List ℕ). t) is_identifier symbol_at text symbol-sifts n bytes)
 
-counted-symbols : (bytes : List ℕ) → Sifts (λ (ss : List (List ℕ)). ss) (list_all valid_symbol) ((byte_at >>= λ n. times n symbol_at) bytes) (counted text bytes)
+counted-symbols : (bytes : List ℕ) → Sifts (λ (ss : List (List ℕ)). ss) (list_all is_identifier) ((byte_at >>= λ n. times n symbol_at) bytes) (counted text bytes)
 unfolding byte_at
-counted-symbols bytes = next (λ (ss : List (List ℕ)). ss) (list_all valid_symbol) (number 1 bytes) (λ n. times n.0 symbol_at n.1) (λ n. times n.0 text n.1) (λ n. symbols-sifts n.0 n.1)
+counted-symbols bytes = next (λ (ss : List (List ℕ)). ss) (list_all is_identifier) (number 1 bytes) (λ n. times n.0 symbol_at n.1) (λ n. times n.0 text n.1) (λ n. symbols-sifts n.0 n.1)
 
 pub path-sifts : (bytes : List ℕ) → Sifts (λ (p : Path). p) valid_path (path_at bytes) (path bytes)
 unfolding path_at
 path-sifts bytes =
-    same_test (λ (p : Path). p) (λ p. list_all valid_symbol p && is_count 1 8 p) valid_path (path_at bytes) (path bytes) (λ p. and_swapped (list_all valid_symbol p) (is_count 1 8 p))
-    (narrowed (λ (p : Path). p) (list_all valid_symbol) (is_count 1 8) ((byte_at >>= λ n. times n symbol_at) bytes) (counted text bytes) (counted-symbols bytes))
+    same_test (λ (p : Path). p) (λ p. list_all is_identifier p && is_count 1 8 p) valid_path (path_at bytes) (path bytes) (λ p. and_swapped (list_all is_identifier p) (is_count 1 8 p))
+    (narrowed (λ (p : Path). p) (list_all is_identifier) (is_count 1 8) ((byte_at >>= λ n. times n symbol_at) bytes) (counted text bytes) (counted-symbols bytes))
 
 -- ---- indexes
 
@@ -104,11 +104,11 @@ abbrev few_apart : List (List ℕ) → Bool
 few_apart symbols = nat_le (length symbols) 64 && all_apart same_name symbols
 
 abbrev valid_symbols : List (List ℕ) → Bool
-valid_symbols symbols = list_all valid_symbol symbols && few_apart symbols
+valid_symbols symbols = list_all is_identifier symbols && few_apart symbols
 
 tag_symbols-sifts : (bytes : List ℕ) → Sifts (λ (ss : List (List ℕ)). ss) valid_symbols (tag_symbols_at bytes) (counted text bytes)
 unfolding tag_symbols_at
-tag_symbols-sifts bytes = narrowed (λ (ss : List (List ℕ)). ss) (list_all valid_symbol) few_apart ((byte_at >>= λ n. times n symbol_at) bytes) (counted text bytes) (counted-symbols bytes)
+tag_symbols-sifts bytes = narrowed (λ (ss : List (List ℕ)). ss) (list_all is_identifier) few_apart ((byte_at >>= λ n. times n symbol_at) bytes) (counted text bytes) (counted-symbols bytes)
 
 regrouped : (a b c d : Bool) → (a && b && c && d) ≡ (a && (c && (b && d)))
 regrouped false b c d = refl
@@ -121,7 +121,7 @@ abbrev table : Path → List (List ℕ) → TagTable
 table path symbols = record { path = path; symbols = symbols }
 
 valid_table : (path : Path) (symbols : List (List ℕ)) → valid_tags (Some (table path symbols)) ≡ (valid_path path && valid_symbols symbols)
-valid_table path symbols = regrouped (valid_path path) (nat_le (length symbols) 64) (list_all valid_symbol symbols) (all_apart same_name symbols)
+valid_table path symbols = regrouped (valid_path path) (nat_le (length symbols) 64) (list_all is_identifier symbols) (all_apart same_name symbols)
 
 abbrev some_table : TagTable → Option TagTable
 some_table t = Some t
@@ -160,8 +160,8 @@ is_between least most xs low high = and_from (nat_le least (length xs)) (nat_le 
 
 pub path_is : (count : ℕ) (bytes rest : List ℕ) (names : List (List ℕ)) → times count symbol_at bytes ≡ Some (names, rest) → 1 ≤ length names → length names ≤ 8 → IsPath names
 path_is count bytes rest names e low high =
-    names_are_path names (and_from (is_count 1 8 names) (list_all valid_symbol names) (is_between 1 8 names low high)
-    (passed (λ (ss : List (List ℕ)). ss) (list_all valid_symbol) (times count symbol_at bytes) (times count text bytes) (names, rest) (symbols-sifts count bytes) e))
+    names_are_path names (and_from (is_count 1 8 names) (list_all is_identifier names) (is_between 1 8 names low high)
+    (passed (λ (ss : List (List ℕ)). ss) (list_all is_identifier) (times count symbol_at bytes) (times count text bytes) (names, rest) (symbols-sifts count bytes) e))
 
 pub spec_is : (count : ℕ) (bytes rest : List ℕ) (parts : List IndexPart) → times count part_at bytes ≡ Some (parts, rest) → 1 ≤ length parts → length parts ≤ 4
     → IsTrue (valid_spec (declared_all parts))

@@ -5,14 +5,14 @@ use Rattle.std.specs.List.{flat_map, list_all}
 use Rattle.std.proofs.lemmas.Bool.{and_parts, leb-true}
 use Rattle.std.proofs.lemmas.List.Elements.{All-nil, All-cons}
 use Rattle.std.proofs.lemmas.List.{take_all}
-use Rattle.newt_base.specs.Names.{is_identifier, same_name}
+use Rattle.newt_base.specs.Names.{is_word, begins_name, is_identifier, same_name}
 use Rattle.newt_graph.specs.Graph.{IsName}
 use Rattle.newt_path.specs.Names.{IsPath}
 use Rattle.newt_spec_graph.specs.Lists.{all_apart}
 use Rattle.newt_spec_store.specs.Store.{TagTable}
 use Rattle.newt_spec_store.specs.Keys.{IndexSpec}
 use Rattle.newt_spec_store.specs.Cost.{counted}
-use Rattle.newt_spec_store.specs.Valid.{valid_symbol, valid_path, valid_spec, valid_tags}
+use Rattle.newt_spec_store.specs.Valid.{valid_path, valid_spec, valid_tags}
 
 flat_map-map : {X Y Z : Type 0} (f : Y → List Z) (g : X → Y) (xs : List X) → flat_map f (map g xs) ≡ flat_map (λ x. f (g x)) xs
 flat_map-map f g [] = refl
@@ -41,11 +41,11 @@ short_name name is = omega (arith, is.few)
 pub path_short : (path : List (List ℕ)) → IsPath path → All (λ name. length name < 256) path
 path_short path is = λ k d lt. short_name _ (is.each k d lt)
 
-short_symbols : (symbols : List (List ℕ)) → list_all valid_symbol symbols ≡ true → All (λ name. length name < 256) symbols
+short_symbols : (symbols : List (List ℕ)) → list_all is_identifier symbols ≡ true → All (λ name. length name < 256) symbols
 short_symbols [] e = All-nil (λ name. length name < 256)
 short_symbols (s ∷ ss) e =
-    let p = and_parts (valid_symbol s) (list_all valid_symbol ss) e in
-    let q = and_parts (is_identifier s) (nat_le (length s) 254) p.0 in
+    let p = and_parts (is_identifier s) (list_all is_identifier ss) e in
+    let q = and_parts (begins_name s && list_all is_word s) (nat_le (length s) 254) p.0 in
     let most = leb-true (length s) 254 q.1 in
     All-cons (λ name. length name < 256) s ss (omega (arith, most)) (short_symbols ss p.1)
 
@@ -56,8 +56,8 @@ pub record HasShortSymbols (t : TagTable) : Type 0 where
 
 pub table_fits : (t : TagTable) → IsTrue (valid_tags (Some t)) → HasShortSymbols t
 table_fits t e =
-    let a = and_parts (valid_path t.path && nat_le (length t.symbols) 64 && list_all valid_symbol t.symbols) (all_apart same_name t.symbols) e in
-    let b = and_parts (valid_path t.path && nat_le (length t.symbols) 64) (list_all valid_symbol t.symbols) a.0 in
+    let a = and_parts (valid_path t.path && nat_le (length t.symbols) 64 && list_all is_identifier t.symbols) (all_apart same_name t.symbols) e in
+    let b = and_parts (valid_path t.path && nat_le (length t.symbols) 64) (list_all is_identifier t.symbols) a.0 in
     let c = and_parts (valid_path t.path) (nat_le (length t.symbols) 64) b.0 in
     let most = leb-true (length t.symbols) 64 c.1 in
     record { path = c.0; few = omega (arith, most); short = short_symbols t.symbols b.1 }

@@ -1,6 +1,6 @@
 -- The rows of a directory, read from the front of bytes as a program reads them: names, symbols and counts are tested as they are met.
 use Rattle.std.specs.Prelude.{◌≡◌, ℕ, zero, suc, Bool, ◌&&◌, nat_le, List, length, Option, Some, None, Result, Ok, Err}
-use Rattle.newt_base.specs.Names.{is_name, same_name}
+use Rattle.newt_base.specs.Names.{is_name, same_name, is_identifier}
 use Rattle.newt_spec_graph.specs.Lists.{all_apart}
 use Rattle.newt_spec_store.specs.declared.Kind.{Kind}
 use Rattle.newt_spec_store.specs.declared.Order.{Order}
@@ -8,7 +8,7 @@ use Rattle.newt_spec_store.specs.Keys.{IndexSpec, Path}
 use Rattle.newt_spec_store.specs.Store.{TagTable}
 use Rattle.newt_spec_store.specs.Lies.{only}
 use Rattle.newt_spec_store.specs.Reading.{Take, ◌>>=◌, give, refuse, number, some_bytes, times, whole, kind_of, direction_of}
-use Rattle.newt_spec_store.specs.Valid.{well_formed, valid_symbol}
+use Rattle.newt_spec_store.specs.Valid.{well_formed}
 use Rattle.newt_keys.specs.Seen.{declared_all}
 use Rattle.newt_keys.specs.declared.types.IndexPart.{IndexPart}
 use Rattle.newt_soupdir.specs.declared.fault.DirFault.{DirFault}
@@ -55,7 +55,7 @@ name_at = passing is_name text_at
 -- ---- indexes and tags
 
 unfoldable pub symbol_at : Take (List ℕ)
-symbol_at = passing valid_symbol text_at
+symbol_at = passing is_identifier text_at
 
 unfoldable pub path_at : Take Path
 path_at = passing (is_count 1 8) (byte_at >>= λ n. times n symbol_at)

@@ -5,8 +5,9 @@ ghost use Rattle.newt_soupdir.specs.Reading.{Gives, symbol_at, path_at, kind_at,
 use crate::fault::DirFault;
 use crate::fields::{byte, text};
 use crate::form::{MOST_PARTS, MOST_TAGS};
-use crate::identifiers::{are_symbols_apart, is_symbol};
 use crate::indexes::Specs;
+use crate::symbols::are_symbols_apart;
+use newt_base::is_identifier;
 use newt_graph::Bytes;
 use newt_keys::{IndexPart, IndexSpec, Kind, Order};
 use newt_path::Path;
@@ -16,13 +17,13 @@ use std::alloc::Global;
 /// The most names of a path.
 const MOST_NAMES: usize = 8;
 
-/// A text that is an identifier of at most 254 bytes.
+/// A text that is an identifier.
 #[tactic(auto, unfolding(crate::specs::Reading::symbol_at))]
 fn symbol(alloc: Global, bytes: &[u8]) -> Result<(Bytes, &[u8]), DirFault>
     ensures { Gives (λ x. (x.0, x.1.now)) result (symbol_at bytes.now) }
 {
     let (text, rest) = text(bytes)?;
-    if !is_symbol(text) {
+    if !is_identifier(text) {
         return Err(DirFault::Bad);
     }
     Ok((Bytes::of(Vec::from_slice(alloc, text)?), rest))

@@ -11,10 +11,10 @@ mod declarations;
 mod fault;
 mod fields;
 mod form;
-mod identifiers;
 mod indexes;
 mod read;
 mod rows;
+mod symbols;
 mod write;
 
 pub use fault::DirFault;

@@ -1,31 +1,17 @@
 //! Writing a directory: what `read` reads, field by field, behind the bytes that are there.
 ghost use Rattle.std.specs.Prelude.{◌≡◌, ◌<◌, ◌^◌, ◌++◌, length, map, All, OnOk, IfOk, IsTrue, Some};
-ghost use Rattle.newt_base.specs.Text.{be16, be32};
 ghost use Rattle.newt_spec_store.specs.Cost.{text_bytes, path_bytes, kind_byte, direction_byte, part_bytes, tags_bytes, soup_bytes, directory_bytes, counted};
 ghost use Rattle.newt_spec_store.specs.Valid.{well_formed};
 ghost use Rattle.newt_keys.specs.Seen.{declared};
 ghost use Rattle.newt_soupdir.specs.Bare.{bare_soup, bare_store};
 
 use crate::rows::{Directory, SoupRow};
+use newt_base::{push16, push32};
 use newt_graph::Bytes;
 use newt_keys::{IndexPart, IndexSpec, Kind, Order};
 use newt_path::Path;
 use newt_tags::TagTable;
 use std::alloc::{AllocError, Global};
-
-/// A number of two bytes, the first the highest.
-fn put_16(out: &mut Vec<u8>, number: u16) -> Result<(), AllocError>
-    ensures { OnOk result (out.new.items ≡ out.old.items ++ be16 number) }
-{
-    out.extend_from_slice(&number.to_be_bytes())
-}
-
-/// A number of four bytes, the first the highest.
-fn put_32(out: &mut Vec<u8>, number: u32) -> Result<(), AllocError>
-    ensures { OnOk result (out.new.items ≡ out.old.items ++ be32 number) }
-{
-    out.extend_from_slice(&number.to_be_bytes())
-}
 
 /// A text behind a byte that says its length.
 fn put_text(out: &mut Vec<u8>, text: &[u8]) -> Result<(), AllocError>
@@ -142,8 +128,8 @@ fn put_soup(out: &mut Vec<u8>, row: &SoupRow) -> Result<(), AllocError>
     ensures { OnOk result (out.new.items ≡ out.old.items ++ soup_bytes (bare_soup row.now)) }
 {
     put_text(out, row.name.list())?;
-    put_16(out, row.sig.0 as u16)?;
-    put_32(out, row.next_uid)?;
+    push16(out, row.sig.0 as u16)?;
+    push32(out, row.next_uid)?;
     put_specs(out, row.specs.list())?;
     put_tags(out, &row.tags)
 }
@@ -169,8 +155,8 @@ pub fn write_directory(alloc: Global, directory: &Directory) -> Result<Vec<u8>, 
 {
     let mut out = Vec::new(alloc);
     put_text(&mut out, directory.name.list())?;
-    put_32(&mut out, directory.sig.0)?;
-    put_16(&mut out, directory.next_soup as u16)?;
+    push32(&mut out, directory.sig.0)?;
+    push16(&mut out, directory.next_soup as u16)?;
     put_soups(&mut out, directory.soups.list())?;
     Ok(out)
 }

@@ -3,10 +3,9 @@ use Rattle.std.specs.Prelude.{ℕ, List, [], ◌∷◌, codes, bytes_eq, Option,
 use Rattle.newt_graph.specs.Graph.{RawGraph}
 use Rattle.newt_nsof.specs.Written.{nsof}
 use Rattle.newt_nsof.specs.Lengths.{skeleton}
-use Rattle.newt_spec_store.specs.Store.{Entry, Store, make_soup, add_entry, change_soup}
+use Rattle.newt_spec_store.specs.Store.{Entry, Store, make_soup, add_entry, change_soup, new_store}
 use Rattle.newt_spec_store.specs.Cost.{directory_bytes}
 use Rattle.newt_spec_store.specs.Image.{Objects, entry_bytes}
-use Rattle.newt_spec_world.specs.Changed.{new_store}
 use Rattle.newt_spec_rows.specs.Worlds.{wave, S}
 
 -- a reader of one text, for the example

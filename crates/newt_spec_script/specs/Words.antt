@@ -3,14 +3,13 @@ use Rattle.std.specs.Prelude.{ℕ, ◌+◌, ◌-◌, Bool, true, false, not, ◌
 use Rattle.std.specs.List.{list_all, prefix_len}
 use Rattle.newt_base.specs.declared.Refusal.{Refusal}
 use Rattle.newt_base.specs.declared.Refusal.TheVariants.{Line as NotTheForm}
-use Rattle.newt_base.specs.Names.{is_name}
+use Rattle.newt_base.specs.Names.{is_name, is_identifier, needs_quotes}
 use Rattle.newt_base.specs.Text.{below, digits_value}
 use Rattle.newt_spec_store.specs.declared.Kind.{Kind}
 use Rattle.newt_spec_store.specs.declared.Kind.TheVariants as kind
 use Rattle.newt_spec_store.specs.declared.Order.{Order}
 use Rattle.newt_spec_store.specs.declared.Order.TheVariants as order
 use Rattle.newt_path.specs.Names.{path_of}
-use Rattle.newt_spec_store.specs.Valid.{valid_symbol}
 use Rattle.newt_spec_world.specs.declared.command.PartWord.{PartWord}
 
 -- a space or a tab (this project's own)
@@ -91,7 +90,7 @@ only test a = if test a then Some a else None
 
 -- a name without quotes: no space, no quote and no backslash in it (this project's own)
 abbrev pub bare_name : List ℕ → Option (List ℕ)
-bare_name = only (λ cs. is_name cs && list_all (λ c. not ((c == 32) || (c == 34) || (c == 92))) cs)
+bare_name = only (λ cs. is_name cs && list_all (λ c. not (needs_quotes c)) cs)
 
 -- The text up to the closing quote, and what follows it. A backslash stands only before a quote or a backslash, and is dropped. (this project's own)
 abbrev pub quoted : List ℕ → Option (List ℕ × List ℕ)
@@ -176,4 +175,4 @@ several most form cs =
 
 -- an identifier of at most 254 bytes (this project's own)
 abbrev pub symbol : List ℕ → Option (List ℕ)
-symbol = only valid_symbol
+symbol = only is_identifier

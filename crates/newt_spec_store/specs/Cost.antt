@@ -1,5 +1,5 @@
 -- What a store costs in pages, and the bytes of its directory. This project's own.
-use Rattle.std.specs.Prelude.{ℕ, ◌+◌, ◌*◌, List, [], ◌∷◌, ◌++◌, map, length, flat_map, sum_by, sum, Option, Some, None}
+use Rattle.std.specs.Prelude.{ℕ, ◌+◌, ◌*◌, ◌/◌, List, [], ◌∷◌, ◌++◌, map, length, flat_map, sum_by, sum, Option, Some, None}
 use Rattle.newt_base.specs.Text.{be16, be32}
 use Rattle.newt_image.specs.Objects.{pages_for}
 use Rattle.newt_graph.specs.Graph.{RawGraph}
@@ -84,6 +84,14 @@ entry_pages e =
 abbrev pub soup_pages : Soup → ℕ
 soup_pages p = sum_by entry_pages p.entries
 
+-- the pages of the directory (this project's own)
+abbrev pub directory_pages : Store → ℕ
+directory_pages s = pages_for (length (directory_bytes s))
+
 -- the pages of the directory, and those of all entries (this project's own)
 abbrev pub cost : Store → ℕ
-cost s = pages_for (length (directory_bytes s)) + sum_by soup_pages s.soups
+cost s = directory_pages s + sum_by soup_pages s.soups
+
+-- the bytes of the batch that puts so many bytes in a large binary: 516 for each page that they fill and one more, and 9 beside them (this project's own)
+abbrev pub patch_bytes : ℕ → ℕ
+patch_bytes count = 516 * ((count + 499) / 500 + 1) + 9

@@ -1,11 +1,11 @@
 -- A store as a plain value, and the changes of it. Stores, soups, entries, their names and signatures are Newton's (Newton Programmer's Guide 2.0, data
 -- storage and retrieval). This project's own is that entry ids and soup signatures rise from 0 and are never used again, that an entry's id and time
 -- stand beside its frame, and that a tags declaration names a path and symbols.
-use Rattle.std.specs.Prelude.{ℕ, ◌+◌, Bool, ◌==◌, List, [], ◌∷◌, ◌++◌, filter, Option, None, cond, not}
+use Rattle.std.specs.Prelude.{ℕ, ◌+◌, Bool, ◌==◌, List, [], ◌∷◌, ◌++◌, filter, length, Option, None, Some, option_and_then, cond, not}
 use Rattle.std.specs.List.{find}
 use Rattle.newt_base.specs.Names.{equal_text}
 use Rattle.newt_graph.specs.Graph.{RawGraph}
-use Rattle.newt_spec_store.specs.Keys.{IndexSpec, Path}
+use Rattle.newt_spec_store.specs.Keys.{IndexSpec, Path, paths_of, same_paths}
 
 -- an entry: its id, the minute of its last change, and its frame. Minutes are counted from midnight of 1 January 1904.
 -- (Newton Programmer's Guide 2.0, entries; that id and time stand beside the frame is this project's own)
@@ -80,3 +80,51 @@ add_entry time graph p =
 -- the entry of this id is gone (Newton Programmer's Guide 2.0, entries)
 abbrev pub remove_entry : ℕ → Soup → Soup
 remove_entry uid p = record p { entries = filter (λ e. not (e.uid == uid)) p.entries }
+
+-- the declaration of an index is appended (Newton Programmer's Guide 2.0, indexes)
+abbrev pub with_index : IndexSpec → Soup → Soup
+with_index spec p = record p { specs = p.specs ++ spec ∷ [] }
+
+-- the declaration of these paths is removed (Newton Programmer's Guide 2.0, indexes)
+abbrev pub without_index : List Path → Soup → Soup
+without_index paths p = record p { specs = filter (λ spec. not (same_paths (paths_of spec) paths)) p.specs }
+
+-- a store of this name and signature, without soups (Newton Programmer's Guide 2.0, stores)
+abbrev pub new_store : List ℕ → ℕ → Store
+new_store name sig = record { name = name; sig = sig; next_soup = 0; soups = [] }
+
+-- ---- soups by their signatures: a well-formed store has one soup of a name and one of a signature, so both find the same
+
+-- the soup of this signature (this project's own)
+abbrev pub soup_of : ℕ → Store → Option Soup
+soup_of sig s = find (λ p. p.sig == sig) s.soups
+
+-- the entry of this id in the soup of this signature (this project's own)
+abbrev pub entry_at : ℕ → ℕ → Store → Option Entry
+entry_at sig uid s = option_and_then (entry_of uid) (soup_of sig s)
+
+-- how many entries a soup has, none where there is no soup (a word of these definitions)
+abbrev pub count_in : Option Soup → ℕ
+count_in None = 0
+count_in (Some p) = length p.entries
+
+-- the id that the next entry of a soup gets, 0 where there is no soup (a word of these definitions)
+abbrev pub next_uid_of : Option Soup → ℕ
+next_uid_of None = 0
+next_uid_of (Some p) = p.next_uid
+
+-- the soup of this signature, changed (this project's own)
+abbrev pub change_soup_of : ℕ → (Soup → Soup) → Store → Store
+change_soup_of sig change s = record s { soups = change_first (λ p. p.sig == sig) change s.soups }
+
+-- the soup of this signature is gone (this project's own)
+abbrev pub without_soup : ℕ → Store → Store
+without_soup sig s = record s { soups = filter (λ p. not (p.sig == sig)) s.soups }
+
+-- the next entry id of a soup is taken (this project's own)
+abbrev pub uid_taken : Soup → Soup
+uid_taken p = record p { next_uid = p.next_uid + 1 }
+
+-- the next entry id of the soup of this signature is taken (this project's own)
+abbrev pub take_uid_of : ℕ → Store → Store
+take_uid_of sig s = record s { soups = change_first (λ p. p.sig == sig) uid_taken s.soups }

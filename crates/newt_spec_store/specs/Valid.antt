@@ -1,6 +1,6 @@
 -- What holds of every store: the forms of its names and declarations, and the limits. The limits are this project's own, as is the form of a path
 -- as identifiers.
-use Rattle.std.specs.Prelude.{ℕ, Bool, true, ◌&&◌, nat_le, List, map, length, Option, Some, None}
+use Rattle.std.specs.Prelude.{ℕ, Bool, true, ◌&&◌, nat_le, map, length, Option, Some, None}
 use Rattle.std.specs.List.{list_all}
 use Rattle.newt_base.specs.Names.{is_name, same_name, equal_text, is_identifier}
 use Rattle.newt_spec_graph.specs.Lists.{all_apart, rises}
@@ -11,13 +11,9 @@ use Rattle.newt_spec_store.specs.Store.{Entry, TagTable, Soup, Store}
 use Rattle.newt_image.specs.Pages.{cap}
 use Rattle.newt_spec_store.specs.Cost.{cost, skeleton_length}
 
--- an identifier of at most 254 bytes (this project's own)
-abbrev pub valid_symbol : List ℕ → Bool
-valid_symbol name = is_identifier name && nat_le (length name) 254
-
--- one to eight such identifiers (this project's own)
+-- one to eight identifiers (this project's own)
 abbrev pub valid_path : Path → Bool
-valid_path path = nat_le 1 (length path) && nat_le (length path) 8 && list_all valid_symbol path
+valid_path path = nat_le 1 (length path) && nat_le (length path) 8 && list_all is_identifier path
 
 -- one to four parts, each with such a path (this project's own)
 abbrev pub valid_spec : IndexSpec → Bool
@@ -27,7 +23,7 @@ valid_spec spec = nat_le 1 (length spec) && nat_le (length spec) 4 && list_all (
 abbrev pub valid_tags : Option TagTable → Bool
 valid_tags None = true
 valid_tags (Some t) =
-    valid_path t.path && nat_le (length t.symbols) 64 && list_all valid_symbol t.symbols && all_apart same_name t.symbols
+    valid_path t.path && nat_le (length t.symbols) 64 && list_all is_identifier t.symbols && all_apart same_name t.symbols
 
 -- the root is a frame, the graph is within the limits of one graph, and its skeleton's written text has at most 64,000 bytes (this project's own)
 abbrev pub valid_entry : Entry → Bool

@@ -1,6 +1,7 @@
 -- Replies, and their texts. All of it is this project's own.
-use Rattle.std.specs.Prelude.{ℕ, ◌||◌, ◌==◌, List, [], ◌∷◌, ◌++◌, map, flat_map, Option, Some, None, codes, if◌then◌else◌}
+use Rattle.std.specs.Prelude.{ℕ, List, [], ◌∷◌, ◌++◌, map, flat_map, Option, Some, None, codes, if◌then◌else◌}
 use Rattle.std.specs.List.{list_any, join_with_byte}
+use Rattle.newt_base.specs.Names.{needs_quotes}
 use Rattle.newt_base.specs.Text.{decimal_text, hex_text}
 use Rattle.newt_base.specs.declared.Refusal.{Refusal}
 use Rattle.newt_base.specs.Refusals.{refusal_text}
@@ -43,7 +44,7 @@ pub data Reply : Type 0 where
 -- a name in quotes where it holds a space, a quote or a backslash (this project's own)
 abbrev pub name_field : List ℕ → List ℕ
 name_field name =
-    if list_any (λ c. (c == 32) || (c == 34) || (c == 92)) name then codes "\"" ++ flat_map (escaped (codes "\"\\")) name ++ codes "\"" else name
+    if list_any needs_quotes name then codes "\"" ++ flat_map (escaped (codes "\"\\")) name ++ codes "\"" else name
 
 -- the items with a comma and a space between each two (a word of these definitions)
 abbrev pub items : List (List ℕ) → List ℕ

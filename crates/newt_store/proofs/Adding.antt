@@ -15,13 +15,12 @@ use Rattle.newt_spec_graph.specs.Limits.{within_limits}
 use Rattle.newt_spec_graph.specs.Lists.{Among, rises}
 use Rattle.newt_entries.proofs.Within.{graph-within}
 use Rattle.newt_soupdir.specs.declared.rows.SoupRow.{SoupRow}
-use Rattle.newt_spec_store.specs.Store.{Soup, Store, add_entry, change_soup}
+use Rattle.newt_spec_store.specs.Store.{Soup, Store, add_entry, change_soup, soup_of, take_uid_of, next_uid_of, entry_at}
 use Rattle.newt_spec_store.specs.Cost.{skeleton_length}
 use Rattle.newt_spec_store.specs.Laid.{bare}
 use Rattle.newt_spec_store.specs.Lies.{Places}
 use Rattle.newt_spec_store.specs.Valid.{well_formed, valid_entry}
 use Rattle.newt_soupdir.specs.Bare.{bare_soup, bare_store}
-use Rattle.newt_soupdir.specs.Changes.{soup_of, take_uid_of}
 use Rattle.newt_soupdir.specs.declared.rows.Directory.{Directory}
 use Rattle.newt_laws_images.proofs.Known.{bare-good}
 use Rattle.newt_laws_images.proofs.Skeletons.{skeleton-graph}
@@ -42,7 +41,7 @@ use Rattle.newt_store.specs.declared.change.Change.TheVariants.{Add}
 use Rattle.newt_store.specs.declared.next.Next.{Next}
 use Rattle.newt_store.specs.declared.next.Gone.{Gone}
 use Rattle.newt_store.specs.declared.next.Gone.TheVariants.{Nothing}
-use Rattle.newt_store.specs.Change.{first_checks, is_too_large, has_no_ids, next_uid_of, changed_soup, entry_in, pages_of_entry}
+use Rattle.newt_store.specs.Change.{first_checks, is_too_large, has_no_ids, changed_soup, pages_of_entry}
 use Rattle.newt_store.specs.Next.{Goes, IsNew, LosesNames, IsGoing, Turns, IsAdding, IsPlanOf, goes_pages, replaced_pages}
 use Rattle.newt_catalog.specs.Stands.{Describes}
 use Rattle.newt_store.proofs.Found.{soup-same, soup-some, emptied-some}
@@ -201,7 +200,7 @@ is-valid-graph uid now g graph frame short = all (is_frame (object g.nodes g.roo
 pub none-replaced : (catalog : Catalog) (texts : Objects) (s : Store) (sig uid now : ℕ) (g : RawGraph) (gone : Gone) (next : Next) → Describes catalog.directory (place_of catalog.places) (names_of catalog.names) texts s → IsAdding catalog sig uid now g gone next
     → place_of catalog.places sig uid ≡ None → replaced_pages next.entry s ≡ 0
 none-replaced catalog texts s sig uid now g gone next d adds none =
-    ap (λ (o : Option NewEntry). replaced_pages o s) adds.is_entry ∙ ap (λ (n : ℕ). pages_of_entry (entry_in n adds.entry.uid s)) adds.of_graph.of_sig ∙ ap (λ (n : ℕ). pages_of_entry (entry_in sig n s)) adds.of_graph.of_uid
+    ap (λ (o : Option NewEntry). replaced_pages o s) adds.is_entry ∙ ap (λ (n : ℕ). pages_of_entry (entry_at n adds.entry.uid s)) adds.of_graph.of_sig ∙ ap (λ (n : ℕ). pages_of_entry (entry_at sig n s)) adds.of_graph.of_uid
     ∙ ap pages_of_entry (no-entry-at catalog.directory (place_of catalog.places) (names_of catalog.names) texts s d sig uid none)
 
 -- its pages are the entry's

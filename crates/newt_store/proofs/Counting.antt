@@ -11,7 +11,7 @@ use Rattle.newt_image.specs.Objects.{Objects}
 use Rattle.newt_pagebook.proofs.Tests.{true_or_false, is_same, equal_true, equal_false}
 use Rattle.newt_spec_graph.specs.Lists.{Each, Pairs, rises}
 use Rattle.newt_spec_graph.proofs.Lists.{each-more, rises-pairs}
-use Rattle.newt_spec_store.specs.Store.{Entry, Soup, Store, entry_of}
+use Rattle.newt_spec_store.specs.Store.{Entry, Soup, Store, entry_of, soup_of, count_in}
 use Rattle.newt_spec_store.specs.Lies.{Places}
 use Rattle.newt_spec_store.specs.Valid.{valid_soup}
 use Rattle.newt_laws_images.proofs.Assembled.{less-rise}
@@ -19,9 +19,8 @@ use Rattle.newt_laws_images.proofs.Made.{map-length}
 use Rattle.newt_laws_images.proofs.Stores.{IsSoup, is-store, is-soup}
 use Rattle.newt_laws_changes.specs.Written.{Names}
 use Rattle.newt_laws_changes.proofs.Soups.{found-good}
-use Rattle.newt_soupdir.specs.Changes.{soup_of}
 use Rattle.newt_soupdir.specs.declared.rows.Directory.{Directory}
-use Rattle.newt_store.specs.Change.{count_in, uids_in}
+use Rattle.newt_store.specs.Change.{uids_in}
 use Rattle.newt_catalog.specs.Stands.{Describes}
 use Rattle.newt_store.proofs.Entries.{has-entry}
 use Rattle.newt_store.proofs.Sums.{same_number, other-way}

@@ -13,10 +13,10 @@ use Rattle.newt_spec_graph.proofs.Lists.{each-from}
 use Rattle.newt_spec_store.specs.Cost.{cost, counted, part_bytes, soup_bytes, soup_pages}
 use Rattle.newt_spec_store.specs.Keys.{IndexSpec, Path, paths_of, same_paths}
 use Rattle.newt_spec_store.specs.Laid.{bare}
-use Rattle.newt_spec_store.specs.Store.{Soup, Store, TagTable, change_soup}
+use Rattle.newt_spec_store.specs.Store.{Soup, Store, TagTable, change_soup, soup_of, change_soup_of, with_index, without_index}
 use Rattle.newt_spec_store.specs.Valid.{well_formed, valid_soup, valid_spec, valid_tags}
 use Rattle.newt_soupdir.specs.Bare.{bare_store}
-use Rattle.newt_soupdir.specs.Changes.{soup_of, change_soup_of, with_index, without_index, with_tags}
+use Rattle.newt_soupdir.specs.Changes.{with_tags}
 use Rattle.newt_soupdir.specs.declared.rows.Directory.{Directory}
 use Rattle.newt_laws_images.proofs.Known.{bare-good}
 use Rattle.newt_laws_images.proofs.Records.{push-length}

@@ -8,7 +8,7 @@ use Rattle.newt_spec_graph.proofs.Lists.{each-more}
 use Rattle.newt_spec_store.specs.Image.{entry_bytes, larges}
 use Rattle.newt_spec_store.specs.Laid.{IsThere}
 use Rattle.newt_spec_store.specs.Lies.{Places, IsIn, AreLarges, only}
-use Rattle.newt_spec_store.specs.Store.{Soup, Store, Entry, entry_of}
+use Rattle.newt_spec_store.specs.Store.{Soup, Store, Entry, entry_of, entry_at}
 use Rattle.newt_spec_store.specs.StoreOf.{entry_of_row}
 use Rattle.newt_spec_store.specs.Valid.{valid_entry}
 use Rattle.newt_laws_images.proofs.Finite.{object-get}
@@ -21,7 +21,6 @@ use Rattle.newt_laws_changes.proofs.Places.{place-there}
 use Rattle.newt_soupdir.specs.declared.rows.Directory.{Directory}
 use Rattle.newt_entries.specs.Entry.{stream_graph}
 use Rattle.newt_entries.proofs.Streams.{reads_graphs}
-use Rattle.newt_store.specs.Change.{entry_in}
 use Rattle.newt_catalog.specs.Reading.{IsLaidAt}
 use Rattle.newt_catalog.specs.Stands.{Describes}
 use Rattle.newt_store.proofs.Found.{placed-entry, entry-placed}
@@ -46,7 +45,7 @@ module _ (directory : Directory) (place : Places) (names : Names) (texts : Objec
   -- an entry that has a place, as it lies there
   pub record FoundAt (sig uid id : ℕ) : Type 0 where
     pub entry : Entry
-    pub found : entry_in sig uid s ≡ Some entry
+    pub found : entry_at sig uid s ≡ Some entry
     pub is_in : IsIn s sig entry
     pub of_uid : entry.uid ≡ uid
     pub odd : id % 2 ≡ 1
@@ -66,14 +65,14 @@ module _ (directory : Directory) (place : Places) (names : Names) (texts : Objec
       }
 
   -- an entry has a place exactly where it is there
-  pub no-entry-at : (sig uid : ℕ) → place sig uid ≡ None → entry_in sig uid s ≡ None
-  no-entry-at sig uid none = cases (entry_in sig uid s) refl where
-    cases : (o : Option Entry) → entry_in sig uid s ≡ o → entry_in sig uid s ≡ None
+  pub no-entry-at : (sig uid : ℕ) → place sig uid ≡ None → entry_at sig uid s ≡ None
+  no-entry-at sig uid none = cases (entry_at sig uid s) refl where
+    cases : (o : Option Entry) → entry_at sig uid s ≡ o → entry_at sig uid s ≡ None
     cases None e = e
     cases (Some x) e = let w = entry-placed directory place names texts s d sig uid x e in absurd (let isnt : None ≡ Some w.5 = sym none ∙ w.6 in cc)
 
-  pub has-entry : (sig uid : ℕ) → is_some (place sig uid) ≡ is_some (entry_in sig uid s)
+  pub has-entry : (sig uid : ℕ) → is_some (place sig uid) ≡ is_some (entry_at sig uid s)
   has-entry sig uid = cases (place sig uid) refl where
-    cases : (o : Option ℕ) → place sig uid ≡ o → is_some (place sig uid) ≡ is_some (entry_in sig uid s)
+    cases : (o : Option ℕ) → place sig uid ≡ o → is_some (place sig uid) ≡ is_some (entry_at sig uid s)
     cases None e = ap is_some e ∙ sym (ap is_some (no-entry-at sig uid e))
     cases (Some id) e = ap is_some e ∙ sym (ap is_some (placed-entry directory place names texts s d sig uid id e).1)

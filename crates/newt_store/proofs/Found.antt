@@ -4,16 +4,14 @@ use Rattle.std.specs.List.{find}
 use Rattle.std.specs.Option.{is_some, option_map, option_and_then}
 use Rattle.newt_base.specs.Names.{equal_text}
 use Rattle.newt_image.specs.Objects.{Objects}
-use Rattle.newt_spec_store.specs.Store.{Soup, Store, Entry, soup_named, entry_of}
+use Rattle.newt_spec_store.specs.Store.{Soup, Store, Entry, soup_named, entry_of, soup_of, entry_at}
 use Rattle.newt_spec_store.specs.Lies.{Places, IsIn}
 use Rattle.newt_soupdir.specs.Bare.{bare_soup, bare_store}
-use Rattle.newt_soupdir.specs.Changes.{soup_of}
 use Rattle.newt_soupdir.specs.declared.rows.Directory.{Directory}
 use Rattle.newt_laws_images.proofs.Made.{map-length}
 use Rattle.newt_laws_changes.proofs.Members.{entry_is_in, is_in_found}
 use Rattle.newt_laws_changes.proofs.Places.{place-there}
 use Rattle.newt_laws_changes.specs.Written.{Names}
-use Rattle.newt_store.specs.Change.{entry_in}
 use Rattle.newt_catalog.specs.Stands.{Describes}
 
 -- a soup without its entries
@@ -58,13 +56,13 @@ module _ (directory : Directory) (place : Places) (names : Names) (texts : Objec
   next-same = ap (λ (t : Store). t.next_soup) d.bare_is
 
   -- an entry that is there has a place, and one that is not has none
-  pub placed-entry : (sig uid id : ℕ) → place sig uid ≡ Some id → (e : Entry) × (entry_in sig uid s ≡ Some e) × IsIn s sig e × (e.uid ≡ uid)
+  pub placed-entry : (sig uid id : ℕ) → place sig uid ≡ Some id → (e : Entry) × (entry_at sig uid s ≡ Some e) × IsIn s sig e × (e.uid ≡ uid)
   placed-entry sig uid id at =
       let w = place-there texts place s sig uid id d.lies at in
       let f = is_in_found sig s w.0 d.formed w.1 in
       (w.0, ap (λ (o : Option Soup). option_and_then (entry_of uid) o) f.1 ∙ ap (λ (u : ℕ). entry_of u f.0) (sym w.2) ∙ f.2, w.1, w.2)
 
-  pub entry-placed : (sig uid : ℕ) (e : Entry) → entry_in sig uid s ≡ Some e → (p : Soup) × (soup_of sig s ≡ Some p) × (entry_of uid p ≡ Some e) × IsIn s sig e × (e.uid ≡ uid) × (id : ℕ) × (place sig uid ≡ Some id)
+  pub entry-placed : (sig uid : ℕ) (e : Entry) → entry_at sig uid s ≡ Some e → (p : Soup) × (soup_of sig s ≡ Some p) × (entry_of uid p ≡ Some e) × IsIn s sig e × (e.uid ≡ uid) × (id : ℕ) × (place sig uid ≡ Some id)
   entry-placed sig uid e there = cases (soup_of sig s) refl there where
     cases : (o : Option Soup) → soup_of sig s ≡ o → option_and_then (entry_of uid) o ≡ Some e → (p : Soup) × (soup_of sig s ≡ Some p) × (entry_of uid p ≡ Some e) × IsIn s sig e × (e.uid ≡ uid) × (id : ℕ) × (place sig uid ≡ Some id)
     cases None o is = absurd (let isnt : None ≡ Some e = is in cc)

@@ -13,7 +13,7 @@ use Rattle.newt_pagebook.specs.Book.{IsFormatted}
 use Rattle.newt_objects.specs.Held.{Held, held, Texts}
 use Rattle.newt_objects.specs.Changing.{HoldsObjects, IsUnderWay}
 use Rattle.newt_objects.proofs.Changing.{start_under_way, would_be_objects}
-use Rattle.newt_spec_store.specs.Store.{Store}
+use Rattle.newt_spec_store.specs.Store.{Store, new_store}
 use Rattle.newt_spec_store.specs.Cost.{cost, directory_bytes}
 use Rattle.newt_spec_store.specs.Lies.{LiesIn}
 use Rattle.newt_spec_store.specs.OfImage.{blocks_of}
@@ -27,7 +27,6 @@ use Rattle.newt_laws_images.proofs.Totals.{total}
 use Rattle.newt_laws_changes.proofs.Costs.{directory-length}
 use Rattle.newt_entries.specs.Entry.{stream_graph}
 use Rattle.newt_entries.proofs.Streams.{reads_graphs}
-use Rattle.newt_store.specs.Change.{new_store}
 use Rattle.newt_store.proofs.Reading.{is-valid}
 
 -- no objects are the objects of no pages

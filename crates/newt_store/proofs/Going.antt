@@ -15,17 +15,16 @@ use Rattle.newt_objects.specs.Extents.{numbers_of}
 use Rattle.newt_objects.specs.Held.{Held, held}
 use Rattle.newt_spec_graph.specs.Lists.{Each, Pairs, Among}
 use Rattle.newt_spec_graph.proofs.Lists.{each-at, each-from, each-more, rises-pairs, pairs-map}
-use Rattle.newt_spec_store.specs.Cost.{directory_bytes, entry_pages, large_lengths, skeleton_length}
+use Rattle.newt_spec_store.specs.Cost.{directory_bytes, entry_pages, large_lengths, skeleton_length, directory_pages}
 use Rattle.newt_spec_store.specs.Image.{entry_bytes, larges}
 use Rattle.newt_spec_store.specs.Laid.{Named}
 use Rattle.newt_spec_store.specs.Lies.{Places, IsIn, AreLarges, HasLarge}
-use Rattle.newt_spec_store.specs.Store.{Entry, Soup, Store, entry_of}
+use Rattle.newt_spec_store.specs.Store.{Entry, Soup, Store, entry_of, soup_of, entry_at}
 use Rattle.newt_laws_images.proofs.Records.{entry-length}
 use Rattle.newt_laws_changes.specs.Written.{Names}
 use Rattle.newt_laws_changes.proofs.Chosen.{soup-there, soup-good}
 use Rattle.newt_laws_changes.proofs.Members.{in-one, one-in}
 use Rattle.newt_soupdir.specs.Bare.{bare_store}
-use Rattle.newt_soupdir.specs.Changes.{soup_of}
 use Rattle.newt_shelf.specs.Batch.{AreOnce, large_ids, pages_held, all_pages_held, new_pages, over_pages}
 use Rattle.newt_shelf.specs.Names.{names_of, AreSoundNames}
 use Rattle.newt_shelf.specs.Commit.{AreKept}
@@ -35,7 +34,7 @@ use Rattle.newt_catalog.specs.declared.catalog.Catalog.{Catalog}
 use Rattle.newt_store.specs.declared.next.Gone.{Gone}
 use Rattle.newt_store.specs.declared.next.Gone.TheVariants.{Nothing, OneEntry, AllOf}
 use Rattle.newt_store.specs.declared.next.Next.{Next}
-use Rattle.newt_store.specs.Change.{entry_in, pages_of_entry, pages_of_soup, directory_pages}
+use Rattle.newt_store.specs.Change.{pages_of_entry, pages_of_soup}
 use Rattle.newt_store.specs.Next.{Goes, IsFree, IsNextOf, Turns, goes_pages, replaced_pages, names_replaced, all_gone, next_bytes, turn_bytes}
 use Rattle.newt_catalog.specs.Stands.{StandsFor}
 use Rattle.newt_store.proofs.Carrying.{AreGone, no-object}
@@ -202,11 +201,11 @@ module _ (told : Bool) (catalog : Catalog) (numbers : Numbers) (unit : ℕ) (out
 
   pub gone-pages : (gone : Gone) (ids : List ℕ) → AreOnce ids → AreGone place-now gone ids → sum_by weight ids ≡ goes_pages gone s
   gone-pages Nothing ids once are = none-goes Nothing ids once are (λ sig uid id isnt at. isnt)
-  gone-pages (OneEntry sig uid) ids once are = cases (entry_in sig uid s) refl where
-    found : (id : ℕ) → place-now sig uid ≡ Some id → (e : Entry) × (entry_in sig uid s ≡ Some e) × IsIn s sig e × (e.uid ≡ uid)
+  gone-pages (OneEntry sig uid) ids once are = cases (entry_at sig uid s) refl where
+    found : (id : ℕ) → place-now sig uid ≡ Some id → (e : Entry) × (entry_at sig uid s ≡ Some e) × IsIn s sig e × (e.uid ≡ uid)
     found id at = placed-entry catalog.directory place-now names-now stands.texts s stands.describes sig uid id at
 
-    cases : (o : Option Entry) → entry_in sig uid s ≡ o → sum_by weight ids ≡ pages_of_entry (entry_in sig uid s)
+    cases : (o : Option Entry) → entry_at sig uid s ≡ o → sum_by weight ids ≡ pages_of_entry (entry_at sig uid s)
     cases None e = none-goes (OneEntry sig uid) ids once are (λ t u id goes at. (
         let w = found id (ap (λ (n : ℕ). place-now n uid) goes.0 ∙ ap (place-now t) goes.1 ∙ at) in
         absurd (let no : None ≡ Some w.0 = sym e ∙ w.1 in cc)))
@@ -227,7 +226,7 @@ module _ (told : Bool) (catalog : Catalog) (numbers : Numbers) (unit : ℕ) (out
           alone : (x : Entry) → sum_by entry_pages (x ∷ []) ≡ entry_pages x
           alone x = sum_by-cons entry_pages x [] ∙ no-more (entry_pages x)
   gone-pages (AllOf sig) ids once are = cases (soup_of sig s) refl where
-    found : (uid id : ℕ) → place-now sig uid ≡ Some id → (e : Entry) × (entry_in sig uid s ≡ Some e) × IsIn s sig e × (e.uid ≡ uid)
+    found : (uid id : ℕ) → place-now sig uid ≡ Some id → (e : Entry) × (entry_at sig uid s ≡ Some e) × IsIn s sig e × (e.uid ≡ uid)
     found uid id at = placed-entry catalog.directory place-now names-now stands.texts s stands.describes sig uid id at
 
     cases : (o : Option Soup) → soup_of sig s ≡ o → sum_by weight ids ≡ pages_of_soup (soup_of sig s)
@@ -250,12 +249,12 @@ module _ (told : Bool) (catalog : Catalog) (numbers : Numbers) (unit : ℕ) (out
 
   -- ---- what the new record is put over
 
-  over-one : (x : NewEntry) → place-now x.sig x.uid ≡ Some x.id → weight x.id ≡ pages_of_entry (entry_in x.sig x.uid s)
+  over-one : (x : NewEntry) → place-now x.sig x.uid ≡ Some x.id → weight x.id ≡ pages_of_entry (entry_at x.sig x.uid s)
   over-one x at =
       let f = found-at catalog.directory place-now names-now stands.texts s stands.describes x.sig x.uid x.id at in
       weight-at x.sig x.id f.entry f.laid.bytes_are f.laid.larges_are ∙ sym (ap pages_of_entry f.found)
 
-  over-none : (x : NewEntry) (gone : Gone) → place-now x.sig x.uid ≡ None → IsFree catalog gone x → weight x.id ≡ pages_of_entry (entry_in x.sig x.uid s)
+  over-none : (x : NewEntry) (gone : Gone) → place-now x.sig x.uid ≡ None → IsFree catalog gone x → weight x.id ≡ pages_of_entry (entry_at x.sig x.uid s)
   over-none x gone none free = ⊎_elim
       (λ (absent : held catalog.objects x.id ≡ None). (λ i. length (numbers_of (absent i))
       + none-held catalog.objects (names-now x.id) (λ o m. absurd (no-object (held catalog.objects x.id) absent (names-sound.records x.id o m).0)) i))

@@ -7,11 +7,10 @@ use Rattle.newt_image.specs.Objects.{Objects}
 use Rattle.newt_pagebook.proofs.Tests.{some_inj, the_some}
 use Rattle.newt_objects.specs.Held.{held}
 use Rattle.newt_spec_graph.specs.Lists.{Among}
-use Rattle.newt_spec_store.specs.Store.{Soup, Store, Entry, add_entry, remove_entry, change_soup}
+use Rattle.newt_spec_store.specs.Store.{Soup, Store, Entry, add_entry, remove_entry, change_soup, soup_of, take_uid_of, entry_at, next_uid_of}
 use Rattle.newt_spec_store.specs.Laid.{bare}
 use Rattle.newt_spec_store.specs.Lies.{Places, IsIn}
 use Rattle.newt_soupdir.specs.Bare.{bare_soup, bare_store}
-use Rattle.newt_soupdir.specs.Changes.{soup_of, take_uid_of}
 use Rattle.newt_soupdir.specs.declared.rows.SoupRow.{SoupRow}
 use Rattle.newt_laws_changes.specs.Written.{Names}
 use Rattle.newt_laws_changes.proofs.Bare.{added_bare, removed_bare}
@@ -28,7 +27,7 @@ use Rattle.newt_store.specs.declared.change.Change.TheVariants.{Move}
 use Rattle.newt_store.specs.declared.next.Next.{Next}
 use Rattle.newt_store.specs.declared.next.Gone.{Gone}
 use Rattle.newt_store.specs.declared.next.Gone.TheVariants.{OneEntry}
-use Rattle.newt_store.specs.Change.{first_checks, entry_in, has_no_ids, next_uid_of, moved_entry, pages_of_entry}
+use Rattle.newt_store.specs.Change.{first_checks, has_no_ids, moved_entry, pages_of_entry}
 use Rattle.newt_store.specs.Next.{Goes, GoesAt, IsNew, LosesNames, IsGoing, Turns, IsAdding, IsPlanOf, goes_pages}
 use Rattle.newt_catalog.specs.Stands.{Describes}
 use Rattle.newt_store.proofs.Found.{soup-some}
@@ -130,7 +129,7 @@ module _ (catalog : Catalog) (texts : Objects) (s : Store) (d : Describes catalo
   first-test = is_none (soup_of source s) || is_none (soup_of target s)
 
   abbrev others : Checks
-  others = (NoEntry, is_none (entry_in source uid s)) ∷ (Ids, has_no_ids (soup_of target s)) ∷ []
+  others = (NoEntry, is_none (entry_at source uid s)) ∷ (Ids, has_no_ids (soup_of target s)) ∷ []
 
   seen : (sig : ℕ) → is_some (soup_of sig s) ≡ is_some (soup_of sig (bare_store catalog.directory))
   seen sig = soup-some catalog.directory (place_of catalog.places) (names_of catalog.names) texts s d sig
@@ -146,11 +145,11 @@ module _ (catalog : Catalog) (texts : Objects) (s : Store) (d : Describes catalo
     with-soups = first-not NoSoup first-test others (or-false (is_none (soup_of source s)) (is_none (soup_of target s)) (ap not (seen source ∙ a)) (ap not (seen target ∙ b)))
 
     pub move-no-entry : is_some (place_of catalog.places source uid) ≡ false → first_of (first_checks (Move source uid target) s) ≡ Some NoEntry
-    move-no-entry none = with-soups ∙ first-holds NoEntry (is_none (entry_in source uid s)) ((Ids, has_no_ids (soup_of target s)) ∷ []) (ap not (no-entry catalog.directory (place_of catalog.places) (names_of catalog.names) texts s source uid d none))
+    move-no-entry none = with-soups ∙ first-holds NoEntry (is_none (entry_at source uid s)) ((Ids, has_no_ids (soup_of target s)) ∷ []) (ap not (no-entry catalog.directory (place_of catalog.places) (names_of catalog.names) texts s source uid d none))
 
     module _ (there : is_some (place_of catalog.places source uid) ≡ true) where
       with-entry : first_of (first_checks (Move source uid target) s) ≡ first_of ((Ids, has_no_ids (soup_of target s)) ∷ [])
-      with-entry = with-soups ∙ first-not NoEntry (is_none (entry_in source uid s)) ((Ids, has_no_ids (soup_of target s)) ∷ []) (ap not (an-entry catalog.directory (place_of catalog.places) (names_of catalog.names) texts s source uid d there))
+      with-entry = with-soups ∙ first-not NoEntry (is_none (entry_at source uid s)) ((Ids, has_no_ids (soup_of target s)) ∷ []) (ap not (an-entry catalog.directory (place_of catalog.places) (names_of catalog.names) texts s source uid d there))
 
       pub move-ids : has_no_ids (soup_of target s) ≡ true → first_of (first_checks (Move source uid target) s) ≡ Some Ids
       move-ids last = with-entry ∙ first-holds Ids (has_no_ids (soup_of target s)) [] last
@@ -160,7 +159,7 @@ module _ (catalog : Catalog) (texts : Objects) (s : Store) (d : Describes catalo
 
 pub move-planned : (catalog : Catalog) (texts : Objects) (s : Store) (source uid target old-id now : ℕ) (e : Entry) (row : SoupRow) (next : Next) → AreSoundPlaces (held catalog.objects) (place_of catalog.places) → AreSoundNames (held catalog.objects) (names_of catalog.names)
     → Describes catalog.directory (place_of catalog.places) (names_of catalog.names) texts s → is_some (soup_of source (bare_store catalog.directory)) ≡ true → soup_of target (bare_store catalog.directory) ≡ Some (bare_soup row) → row.sig ≡ target
-    → place_of catalog.places source uid ≡ Some old-id → entry_in source uid s ≡ Some e → IsIn s source e → e.uid ≡ uid → now < 4294967296 → row.next_uid ≢ 536870911 → row.next_uid < 536870911
+    → place_of catalog.places source uid ≡ Some old-id → entry_at source uid s ≡ Some e → IsIn s source e → e.uid ≡ uid → now < 4294967296 → row.next_uid ≢ 536870911 → row.next_uid < 536870911
     → IsAdding catalog row.sig row.next_uid now e.graph (OneEntry source uid) next → IsPlanOf catalog (Move source uid target) now s next
 move-planned catalog texts s source uid target old-id now e row next places-sound names-sound d some is of_sig at there is_in of_uid time last room adds =
     let q = row-soup catalog texts s target row d is in

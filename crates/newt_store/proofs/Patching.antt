@@ -28,12 +28,12 @@ use Rattle.newt_pagebook.proofs.Changes.{get_insert}
 use Rattle.newt_objects.specs.Changing.{HoldsObjects}
 use Rattle.newt_vbo.specs.Ranges.{parts_met}
 use Rattle.newt_spec_graph.proofs.Lists.{each-at, some-same, none-some}
-use Rattle.newt_spec_store.specs.Cost.{cost, large_lengths}
+use Rattle.newt_spec_store.specs.Cost.{cost, large_lengths, patch_bytes}
 use Rattle.newt_spec_store.specs.Image.{larges, entry_bytes}
 use Rattle.newt_spec_store.specs.Laid.{bare, row_of, row_of_large, FitsRecord}
 use Rattle.newt_spec_store.specs.Lies.{AreLarges, HasLarge, only, is_record, record_read}
 use Rattle.newt_spec_store.specs.OfImage.{blocks_of}
-use Rattle.newt_spec_store.specs.Store.{Soup, Store, Entry, entry_of, soup_named, change_soup, change_entry}
+use Rattle.newt_spec_store.specs.Store.{Soup, Store, Entry, entry_of, soup_named, change_soup, change_entry, soup_of, entry_at}
 use Rattle.newt_spec_store.specs.StoreOf.{EntryRow as PlainRow, LargeRow, fill, written}
 use Rattle.newt_laws_images.proofs.Made.{map-length}
 use Rattle.newt_laws_images.proofs.Records.{larges_from, record-back, entry-length}
@@ -44,20 +44,19 @@ use Rattle.newt_laws_changes.proofs.Patched.{get-among, with_patch}
 use Rattle.newt_laws_changes.proofs.Replaced.{patched_lies}
 use Rattle.newt_laws_changes.proofs.Soups.{first-map}
 use Rattle.newt_soupdir.specs.Bare.{bare_store}
-use Rattle.newt_soupdir.specs.Changes.{soup_of}
 use Rattle.newt_entries.specs.Entry.{stream_graph, row_at, said}
 use Rattle.newt_entries.specs.declared.row.EntryRow.{EntryRow}
 use Rattle.newt_entries.specs.declared.row.LargeAt.{LargeAt}
 use Rattle.newt_shelf.specs.Commit.{AreKept}
 use Rattle.newt_shelf.specs.Names.{names_of}
-use Rattle.newt_shelf.specs.Patch.{IsBeforeOrPatched, IsRangeOrFull, patch_bytes}
+use Rattle.newt_shelf.specs.Patch.{IsBeforeOrPatched, IsRangeOrFull}
 use Rattle.newt_shelf.specs.Places.{place_of}
 use Rattle.newt_shelf.specs.declared.fault.StoreFault.{StoreFault}
 use Rattle.newt_shelf.specs.declared.fault.StoreFault.TheVariants.{Refused, Stop}
 use Rattle.newt_shelf.proofs.Committing.{blocks-are}
 use Rattle.newt_catalog.specs.declared.catalog.Catalog.{Catalog}
 use Rattle.newt_store.specs.declared.change.Change.TheVariants.{Patch}
-use Rattle.newt_store.specs.Change.{changed_by, changed_soup, bytes_in, large_of, large_in_entry, patched_entry, ends_behind, first_checks, refusal_of, entry_in, pages_of_entry, most_bytes}
+use Rattle.newt_store.specs.Change.{changed_by, changed_soup, bytes_in, large_of, large_in_entry, patched_entry, ends_behind, first_checks, refusal_of, pages_of_entry, most_bytes}
 use Rattle.newt_store.specs.Patch.{IsLargeOf, record_pages}
 use Rattle.newt_catalog.specs.Stands.{Describes, StandsFor}
 use Rattle.newt_store.specs.Stands.{GoesOn, RefusesWith, IsBeforeOrChanged}
@@ -217,14 +216,14 @@ module _ (catalog : Catalog) (s : Store) (now : List ℕ) (stands : StandsFor ca
   record-at = found.laid.bytes_are
 
   -- as many pages as the record alone
-  record-long : pages_for (length record-bytes) ≡ record_pages (entry_in sig uid s)
+  record-long : pages_for (length record-bytes) ≡ record_pages (entry_at sig uid s)
   record-long =
       let many = found.laid.larges_are.each_named in
       let long : length (names_of catalog.names id) ≡ length (large_lengths found.entry.graph) =
       sym many ∙ sym (map-length (λ (l : ℕ × List ℕ). length l.1) (larges found.entry.graph)) ∙ ap (λ (l : List ℕ). length l) (lengths-from 0 found.entry.graph.nodes) in
       ap pages_for (entry-length sig found.entry (names_of catalog.names id) many) ∙ ap (λ (n : ℕ). pages_for (12 + length (nsof (skeleton found.entry.graph)) + 12 * n)) long ∙ ap record_pages (sym found.found)
 
-  pub record-costs : (unit : ℕ) (old new : Outside) → Spends unit 0 (512 * pages_for (length record-bytes)) old new → Spends unit 0 (512 * record_pages (entry_in sig uid s)) old new
+  pub record-costs : (unit : ℕ) (old new : Outside) → Spends unit 0 (512 * pages_for (length record-bytes)) old new → Spends unit 0 (512 * record_pages (entry_at sig uid s)) old new
   record-costs unit old new spends = subst (λ (n : ℕ). Spends unit 0 (512 * n) old new) record-long spends
 
   module _ (row : EntryRow) (read : record_read stream_graph record-bytes ≡ Some (said row)) (node : ℕ) where
@@ -252,12 +251,12 @@ module _ (catalog : Catalog) (s : Store) (now : List ℕ) (stands : StandsFor ca
           is_named = r.2;
         }
 
-    no-bytes : find is-it row.larges ≡ None → large_in_entry node (entry_in sig uid s) ≡ None
+    no-bytes : find is-it row.larges ≡ None → large_in_entry node (entry_at sig uid s) ≡ None
     no-bytes none = ap (large_in_entry node) found.found ∙ no-large found.entry.graph node (λ k bytes is.
         let r = large-row row.larges (larges found.entry.graph) (names_of catalog.names id) k (node, bytes) found.laid.larges_are.each_named rows-are is in
         find-none is-it row.larges none k r.0 r.1 (eq-eqb r.0.node node r.2))
 
-    pub no-path : find is-it row.larges ≡ None → is_some (large_in_entry node (entry_in sig uid s)) ≡ false
+    pub no-path : find is-it row.larges ≡ None → is_some (large_in_entry node (entry_at sig uid s)) ≡ false
     no-path none = ap is_some (no-bytes none)
 
 pub object-there : (o : Option Extent) → is_some (option_map (λ x. x.length) o) ≡ true → IsSome o
@@ -268,13 +267,13 @@ object-there (Some x) some = refl
 
 module _ (catalog : Catalog) (s : Store) (now : List ℕ) (stands : StandsFor catalog s now) (sig uid node at : ℕ) (bytes : List ℕ) where
   abbrev of-range : Checks
-  of-range = (Range, ends_behind at (length bytes) (large_in_entry node (entry_in sig uid s))) ∷ []
+  of-range = (Range, ends_behind at (length bytes) (large_in_entry node (entry_at sig uid s))) ∷ []
 
   abbrev of-path : Checks
-  of-path = (NoPath, is_none (large_in_entry node (entry_in sig uid s))) ∷ of-range
+  of-path = (NoPath, is_none (large_in_entry node (entry_at sig uid s))) ∷ of-range
 
   abbrev of-entry : Checks
-  of-entry = (NoEntry, is_none (entry_in sig uid s)) ∷ of-path
+  of-entry = (NoEntry, is_none (entry_at sig uid s)) ∷ of-path
 
   pub patch-no-soup : is_some (soup_of sig (bare_store catalog.directory)) ≡ false → first_of (first_checks (Patch sig uid node at bytes) s) ≡ Some NoSoup
   patch-no-soup none = first-holds NoSoup (is_none (soup_of sig s)) of-entry (ap not (soup-some catalog.directory (place_of catalog.places) (names_of catalog.names) stands.texts s stands.describes sig ∙ none))
@@ -284,12 +283,12 @@ module _ (catalog : Catalog) (s : Store) (now : List ℕ) (stands : StandsFor ca
     with-a-soup = first-not NoSoup (is_none (soup_of sig s)) of-entry (ap not (soup-some catalog.directory (place_of catalog.places) (names_of catalog.names) stands.texts s stands.describes sig ∙ some))
 
     pub patch-no-entry : is_some (place_of catalog.places sig uid) ≡ false → first_of (first_checks (Patch sig uid node at bytes) s) ≡ Some NoEntry
-    patch-no-entry none = with-a-soup ∙ first-holds NoEntry (is_none (entry_in sig uid s)) of-path (ap not (no-entry catalog.directory (place_of catalog.places) (names_of catalog.names) stands.texts s sig uid stands.describes none))
+    patch-no-entry none = with-a-soup ∙ first-holds NoEntry (is_none (entry_at sig uid s)) of-path (ap not (no-entry catalog.directory (place_of catalog.places) (names_of catalog.names) stands.texts s sig uid stands.describes none))
 
-    pub patch-no-path : is_some (place_of catalog.places sig uid) ≡ true → is_some (large_in_entry node (entry_in sig uid s)) ≡ false → first_of (first_checks (Patch sig uid node at bytes) s) ≡ Some NoPath
+    pub patch-no-path : is_some (place_of catalog.places sig uid) ≡ true → is_some (large_in_entry node (entry_at sig uid s)) ≡ false → first_of (first_checks (Patch sig uid node at bytes) s) ≡ Some NoPath
     patch-no-path placed none =
-        with-a-soup ∙ first-not NoEntry (is_none (entry_in sig uid s)) of-path (ap not (an-entry catalog.directory (place_of catalog.places) (names_of catalog.names) stands.texts s sig uid stands.describes placed))
-        ∙ first-holds NoPath (is_none (large_in_entry node (entry_in sig uid s))) of-range (ap not none)
+        with-a-soup ∙ first-not NoEntry (is_none (entry_at sig uid s)) of-path (ap not (an-entry catalog.directory (place_of catalog.places) (names_of catalog.names) stands.texts s sig uid stands.describes placed))
+        ∙ first-holds NoPath (is_none (large_in_entry node (entry_at sig uid s))) of-range (ap not none)
 
 -- ---- the store after a patch
 
@@ -348,10 +347,10 @@ module _ (catalog : Catalog) (s : Store) (now : List ℕ) (stands : StandsFor ca
   its-bytes : large_of node l.entry.graph ≡ Some l.bytes
   its-bytes = ap bytes_in has.1
 
-  in-entry : entry_in sig uid s ≡ Some l.entry
+  in-entry : entry_at sig uid s ≡ Some l.entry
   in-entry = ap (λ (p : Option Soup). option_and_then (entry_of uid) p) l.is_soup ∙ l.is_entry
 
-  in-large : large_in_entry node (entry_in sig uid s) ≡ Some l.bytes
+  in-large : large_in_entry node (entry_at sig uid s) ≡ Some l.bytes
   in-large = ap (large_in_entry node) in-entry ∙ its-bytes
 
   -- its object has its bytes
@@ -364,14 +363,14 @@ module _ (catalog : Catalog) (s : Store) (now : List ℕ) (stands : StandsFor ca
       (get-among (zip (larges l.entry.graph) ids) l.at ((node, l.bytes), o) (zip-at (larges l.entry.graph) ids l.at (node, l.bytes) o l.is_large l.is_named))).3
 
   module _ (at : ℕ) (bytes : List ℕ) where
-    first-few : first_of (first_checks (Patch sig uid node at bytes) s) ≡ first_of ((Range, ends_behind at (length bytes) (large_in_entry node (entry_in sig uid s))) ∷ [])
+    first-few : first_of (first_checks (Patch sig uid node at bytes) s) ≡ first_of ((Range, ends_behind at (length bytes) (large_in_entry node (entry_at sig uid s))) ∷ [])
     first-few =
         first-not NoSoup (is_none (soup_of sig s)) (of-entry catalog s now stands sig uid node at bytes) (ap is_none l.is_soup)
-        ∙ first-not NoEntry (is_none (entry_in sig uid s)) (of-path catalog s now stands sig uid node at bytes) (ap is_none in-entry)
-        ∙ first-not NoPath (is_none (large_in_entry node (entry_in sig uid s))) (of-range catalog s now stands sig uid node at bytes) (ap is_none in-large)
+        ∙ first-not NoEntry (is_none (entry_at sig uid s)) (of-path catalog s now stands sig uid node at bytes) (ap is_none in-entry)
+        ∙ first-not NoPath (is_none (large_in_entry node (entry_at sig uid s))) (of-range catalog s now stands sig uid node at bytes) (ap is_none in-large)
 
     pub past-due : (blocks minute : ℕ) → length l.bytes < at + length bytes → refusal_of (Patch sig uid node at bytes) blocks minute s ≡ Some Range
-    past-due blocks minute more = first-few ∙ first-holds Range (ends_behind at (length bytes) (large_in_entry node (entry_in sig uid s))) [] (ap (ends_behind at (length bytes)) in-large ∙ more-than (length l.bytes) (at + length bytes) more)
+    past-due blocks minute more = first-few ∙ first-holds Range (ends_behind at (length bytes) (large_in_entry node (entry_at sig uid s))) [] (ap (ends_behind at (length bytes)) in-large ∙ more-than (length l.bytes) (at + length bytes) more)
 
     abbrev new-bytes : List ℕ
     new-bytes = overwritten l.bytes at bytes
@@ -381,7 +380,7 @@ module _ (catalog : Catalog) (s : Store) (now : List ℕ) (stands : StandsFor ca
 
     module _ (low : at + length bytes ≤ length l.bytes) where
       pub none-due : (blocks minute : ℕ) → refusal_of (Patch sig uid node at bytes) blocks minute s ≡ None
-      none-due blocks minute = first-few ∙ first-not Range (ends_behind at (length bytes) (large_in_entry node (entry_in sig uid s))) [] (ap (ends_behind at (length bytes)) in-large ∙ not-more (length l.bytes) (at + length bytes) low)
+      none-due blocks minute = first-few ∙ first-not Range (ends_behind at (length bytes) (large_in_entry node (entry_at sig uid s))) [] (ap (ends_behind at (length bytes)) in-large ∙ not-more (length l.bytes) (at + length bytes) low)
 
       as-many : length new-bytes ≡ length l.bytes
       as-many = length-overwritten l.bytes at bytes low
@@ -449,19 +448,19 @@ module _ (catalog : Catalog) (s : Store) (now : List ℕ) (stands : StandsFor ca
       unfolding most_bytes
       bytes-due blocks minute = ap (λ (r : Option Refusal). cond (is_some r) 0 (patch_bytes (length bytes))) (none-due blocks minute)
 
-      pages-due : record_pages (entry_in sig uid s) + parts_met at (length bytes) ≤ pages_of_entry (entry_in sig uid s)
+      pages-due : record_pages (entry_at sig uid s) + parts_met at (length bytes) ≤ pages_of_entry (entry_at sig uid s)
       pages-due = subst (λ (e : Option Entry). record_pages e + parts_met at (length bytes) ≤ pages_of_entry e) (sym in-entry)
           (both (record_pages (Some l.entry)) (parts_met at (length bytes)) (pages_for (length l.bytes)) _ _ (parts-few at (length bytes) (length l.bytes) low)
           (some-pages (larges l.entry.graph) l.at (node, l.bytes) l.is_large) (ap (λ (ns : List ℕ). sum (map_list pages_for ns)) (lengths-from 0 l.entry.graph.nodes))) where
             both : (a b c d e : ℕ) → b ≤ c → c ≤ d → d ≡ e → a + b ≤ a + e
             both a b c d e first second same = omega (arith, first, second, same)
 
-      pub spends-both : (blocks minute unit : ℕ) (old mid new : Outside) → Spends unit 0 (512 * record_pages (entry_in sig uid s)) old mid → Spends unit (patch_bytes (length bytes)) (512 * parts_met at (length bytes)) mid new
-          → Spends unit (most_bytes (Patch sig uid node at bytes) blocks minute s) (512 * pages_of_entry (entry_in sig uid s)) old new
+      pub spends-both : (blocks minute unit : ℕ) (old mid new : Outside) → Spends unit 0 (512 * record_pages (entry_at sig uid s)) old mid → Spends unit (patch_bytes (length bytes)) (512 * parts_met at (length bytes)) mid new
+          → Spends unit (most_bytes (Patch sig uid node at bytes) blocks minute s) (512 * pages_of_entry (entry_at sig uid s)) old new
       spends-both blocks minute unit old mid new first second =
-          Spends-widen (0 + patch_bytes (length bytes)) (512 * record_pages (entry_in sig uid s) + 512 * parts_met at (length bytes)) (most_bytes (Patch sig uid node at bytes) blocks minute s) (512 * pages_of_entry (entry_in sig uid s))
-          (as-most (patch_bytes (length bytes)) _ (bytes-due blocks minute)) (as-few (record_pages (entry_in sig uid s)) (parts_met at (length bytes)) (pages_of_entry (entry_in sig uid s)) pages-due)
-          (Spends-append 0 (512 * record_pages (entry_in sig uid s)) (patch_bytes (length bytes)) (512 * parts_met at (length bytes)) first second) where
+          Spends-widen (0 + patch_bytes (length bytes)) (512 * record_pages (entry_at sig uid s) + 512 * parts_met at (length bytes)) (most_bytes (Patch sig uid node at bytes) blocks minute s) (512 * pages_of_entry (entry_at sig uid s))
+          (as-most (patch_bytes (length bytes)) _ (bytes-due blocks minute)) (as-few (record_pages (entry_at sig uid s)) (parts_met at (length bytes)) (pages_of_entry (entry_at sig uid s)) pages-due)
+          (Spends-append 0 (512 * record_pages (entry_at sig uid s)) (patch_bytes (length bytes)) (512 * parts_met at (length bytes)) first second) where
             as-most : (a b : ℕ) → b ≡ a → 0 + a ≤ b
             as-most a b same = omega (arith, same)
 
@@ -500,11 +499,11 @@ patch-leaves catalog s unit old new stands sig uid node o l at bytes minute dura
     (cases_lt (length l.bytes) (at + length bytes))
 
 pub patch-spends : (catalog : Catalog) (s : Store) (now : List ℕ) (stands : StandsFor catalog s now) (sig uid node o : ℕ) (l : IsLargeOf catalog s sig uid node o) (at : ℕ) (bytes : List ℕ) (blocks minute unit : ℕ) (old mid new : Outside)
-    → Spends unit 0 (512 * record_pages (entry_in sig uid s)) old mid → (IsOpenFor (patch_bytes (length bytes)) now → Spends unit (patch_bytes (length bytes)) (512 * parts_met at (length bytes)) mid new)
+    → Spends unit 0 (512 * record_pages (entry_at sig uid s)) old mid → (IsOpenFor (patch_bytes (length bytes)) now → Spends unit (patch_bytes (length bytes)) (512 * parts_met at (length bytes)) mid new)
     → (length l.bytes < at + length bytes → Spends unit 0 0 mid new) → IsOpenFor (most_bytes (Patch sig uid node at bytes) blocks minute s) now
-    → Spends unit (most_bytes (Patch sig uid node at bytes) blocks minute s) (512 * pages_of_entry (entry_in sig uid s)) old new
+    → Spends unit (most_bytes (Patch sig uid node at bytes) blocks minute s) (512 * pages_of_entry (entry_at sig uid s)) old new
 patch-spends catalog s now stands sig uid node o l at bytes blocks minute unit old mid new first second third room = ⊎_elim
-    (λ (past : length l.bytes < at + length bytes). spends-record (most_bytes (Patch sig uid node at bytes) blocks minute s) unit (entry_in sig uid s) old new (spends-no-more unit (512 * record_pages (entry_in sig uid s)) old mid new first (third past)))
+    (λ (past : length l.bytes < at + length bytes). spends-record (most_bytes (Patch sig uid node at bytes) blocks minute s) unit (entry_at sig uid s) old new (spends-no-more unit (512 * record_pages (entry_at sig uid s)) old mid new first (third past)))
     (λ (low : at + length bytes ≤ length l.bytes). spends-both catalog s now stands sig uid node o l at bytes low blocks minute unit old mid new first
     (second (subst (λ (n : ℕ). IsOpenFor n now) (bytes-due catalog s now stands sig uid node o l at bytes low blocks minute) room)))
     (cases_lt (length l.bytes) (at + length bytes))

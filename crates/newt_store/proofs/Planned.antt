@@ -8,11 +8,10 @@ use Rattle.newt_base.specs.declared.Refusal.{Refusal}
 use Rattle.newt_base.specs.declared.Refusal.TheVariants.{Soup as NoSoup, Exists, Entry as NoEntry, Limit, Ids}
 use Rattle.newt_image.specs.Objects.{Objects}
 use Rattle.newt_pagebook.proofs.Tests.{the_some}
-use Rattle.newt_spec_store.specs.Store.{Soup, Store, Entry, soup_named, make_soup, drop_soup, remove_entry}
+use Rattle.newt_spec_store.specs.Store.{Soup, Store, Entry, soup_named, make_soup, drop_soup, remove_entry, soup_of, without_soup, entry_at}
 use Rattle.newt_spec_store.specs.Laid.{bare}
 use Rattle.newt_spec_store.specs.Valid.{well_formed}
 use Rattle.newt_soupdir.specs.Bare.{bare_soup, bare_store}
-use Rattle.newt_soupdir.specs.Changes.{soup_of, without_soup}
 use Rattle.newt_soupdir.specs.declared.rows.Directory.{Directory}
 use Rattle.newt_soupdir.specs.declared.rows.SoupRow.{SoupRow}
 use Rattle.newt_laws_images.proofs.Known.{bare-good}
@@ -30,7 +29,7 @@ use Rattle.newt_shelf.specs.Names.{names_of}
 use Rattle.newt_shelf.specs.Places.{place_of}
 use Rattle.newt_catalog.specs.declared.catalog.Catalog.{Catalog}
 use Rattle.newt_store.specs.declared.change.Change.TheVariants.{MakeSoup, DropSoup, Remove}
-use Rattle.newt_store.specs.Change.{first_checks, entry_in, dropped_soup, changed_soup}
+use Rattle.newt_store.specs.Change.{first_checks, dropped_soup, changed_soup}
 use Rattle.newt_store.specs.Next.{IsNextOf, IsPlanOf, Turns}
 use Rattle.newt_catalog.specs.Stands.{Describes}
 use Rattle.newt_store.proofs.Found.{named-some, soup-some, as-many, next-same, placed-entry, entry-placed}
@@ -97,16 +96,16 @@ drop-planned catalog texts s sig now dir d some dropped =
 
 pub remove-no-soup : (catalog : Catalog) (texts : Objects) (s : Store) (sig uid : ℕ) → Describes catalog.directory (place_of catalog.places) (names_of catalog.names) texts s → is_some (soup_of sig (bare_store catalog.directory)) ≡ false
     → first_of (first_checks (Remove sig uid) s) ≡ Some NoSoup
-remove-no-soup catalog texts s sig uid d none = first-holds NoSoup (is_none (soup_of sig s)) ((NoEntry, is_none (entry_in sig uid s)) ∷ []) (ap not (soup-some catalog.directory (place_of catalog.places) (names_of catalog.names) texts s d sig ∙ none))
+remove-no-soup catalog texts s sig uid d none = first-holds NoSoup (is_none (soup_of sig s)) ((NoEntry, is_none (entry_at sig uid s)) ∷ []) (ap not (soup-some catalog.directory (place_of catalog.places) (names_of catalog.names) texts s d sig ∙ none))
 
 -- no place, no entry
-pub no-entry : (directory : Directory) (place : Places) (names : Names) (texts : Objects) (s : Store) (sig uid : ℕ) → Describes directory place names texts s → is_some (place sig uid) ≡ false → is_some (entry_in sig uid s) ≡ false
-no-entry directory place names texts s sig uid d none = cases (entry_in sig uid s) refl where
-  cases : (o : Option Entry) → entry_in sig uid s ≡ o → is_some (entry_in sig uid s) ≡ false
+pub no-entry : (directory : Directory) (place : Places) (names : Names) (texts : Objects) (s : Store) (sig uid : ℕ) → Describes directory place names texts s → is_some (place sig uid) ≡ false → is_some (entry_at sig uid s) ≡ false
+no-entry directory place names texts s sig uid d none = cases (entry_at sig uid s) refl where
+  cases : (o : Option Entry) → entry_at sig uid s ≡ o → is_some (entry_at sig uid s) ≡ false
   cases None e = ap is_some e
   cases (Some x) e = let w = entry-placed directory place names texts s d sig uid x e in absurd (let t : true ≡ false = sym (ap is_some w.6) ∙ none in cc)
 
-pub an-entry : (directory : Directory) (place : Places) (names : Names) (texts : Objects) (s : Store) (sig uid : ℕ) → Describes directory place names texts s → is_some (place sig uid) ≡ true → is_some (entry_in sig uid s) ≡ true
+pub an-entry : (directory : Directory) (place : Places) (names : Names) (texts : Objects) (s : Store) (sig uid : ℕ) → Describes directory place names texts s → is_some (place sig uid) ≡ true → is_some (entry_at sig uid s) ≡ true
 an-entry directory place names texts s sig uid d some =
     let at = the_some (place sig uid) some in
     ap is_some (placed-entry directory place names texts s d sig uid at.0 at.1).1
@@ -114,8 +113,8 @@ an-entry directory place names texts s sig uid d some =
 pub remove-no-entry : (catalog : Catalog) (texts : Objects) (s : Store) (sig uid : ℕ) → Describes catalog.directory (place_of catalog.places) (names_of catalog.names) texts s → is_some (soup_of sig (bare_store catalog.directory)) ≡ true → is_some (place_of catalog.places sig uid) ≡ false
     → first_of (first_checks (Remove sig uid) s) ≡ Some NoEntry
 remove-no-entry catalog texts s sig uid d some none =
-    first-not NoSoup (is_none (soup_of sig s)) ((NoEntry, is_none (entry_in sig uid s)) ∷ []) (ap not (soup-some catalog.directory (place_of catalog.places) (names_of catalog.names) texts s d sig ∙ some))
-    ∙ first-holds NoEntry (is_none (entry_in sig uid s)) [] (ap not (no-entry catalog.directory (place_of catalog.places) (names_of catalog.names) texts s sig uid d none))
+    first-not NoSoup (is_none (soup_of sig s)) ((NoEntry, is_none (entry_at sig uid s)) ∷ []) (ap not (soup-some catalog.directory (place_of catalog.places) (names_of catalog.names) texts s d sig ∙ some))
+    ∙ first-holds NoEntry (is_none (entry_at sig uid s)) [] (ap not (no-entry catalog.directory (place_of catalog.places) (names_of catalog.names) texts s sig uid d none))
 
 pub remove-planned : (catalog : Catalog) (texts : Objects) (s : Store) (sig uid now : ℕ) (dir : Directory) → Describes catalog.directory (place_of catalog.places) (names_of catalog.names) texts s → is_some (soup_of sig (bare_store catalog.directory)) ≡ true
     → is_some (place_of catalog.places sig uid) ≡ true → bare_store dir ≡ bare_store catalog.directory
@@ -125,8 +124,8 @@ remove-planned catalog texts s sig uid now dir d some placed same =
     let w = the_some (soup_of sig s) is in
     let at = the_some (place_of catalog.places sig uid) placed in
     record {
-      accepted = first-not NoSoup (is_none (soup_of sig s)) ((NoEntry, is_none (entry_in sig uid s)) ∷ []) (ap not is)
-          ∙ first-not NoEntry (is_none (entry_in sig uid s)) [] (ap not (an-entry catalog.directory (place_of catalog.places) (names_of catalog.names) texts s sig uid d placed));
+      accepted = first-not NoSoup (is_none (soup_of sig s)) ((NoEntry, is_none (entry_at sig uid s)) ∷ []) (ap not is)
+          ∙ first-not NoEntry (is_none (entry_at sig uid s)) [] (ap not (an-entry catalog.directory (place_of catalog.places) (names_of catalog.names) texts s sig uid d placed));
       answer = refl;
       turns = subst (λ (t : Store). Turns catalog (next-removed catalog s sig w.0 w.1 uid at.0 dir 0 same at.1) s t) (ap (λ (o : Option Soup). changed_soup o (remove_entry uid) s) (sym w.1)) (turns-removed catalog s sig w.0 w.1 uid at.0 dir 0 same at.1);
       added = refl;

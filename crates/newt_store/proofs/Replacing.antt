@@ -17,10 +17,9 @@ use Rattle.newt_spec_store.specs.Cost.{entry_pages}
 use Rattle.newt_spec_store.specs.Image.{entry_bytes}
 use Rattle.newt_spec_store.specs.Laid.{bare}
 use Rattle.newt_spec_store.specs.Lies.{Places}
-use Rattle.newt_spec_store.specs.Store.{Soup, Store, Entry, entry_of, change_soup, change_entry}
+use Rattle.newt_spec_store.specs.Store.{Soup, Store, Entry, entry_of, change_soup, change_entry, soup_of, entry_at}
 use Rattle.newt_spec_store.specs.Valid.{well_formed, valid_entry}
 use Rattle.newt_soupdir.specs.Bare.{bare_store}
-use Rattle.newt_soupdir.specs.Changes.{soup_of}
 use Rattle.newt_soupdir.specs.declared.rows.Directory.{Directory}
 use Rattle.newt_laws_images.proofs.Skeletons.{skeleton-graph}
 use Rattle.newt_laws_changes.specs.Written.{Names}
@@ -37,7 +36,7 @@ use Rattle.newt_catalog.specs.declared.catalog.Catalog.{Catalog}
 use Rattle.newt_store.specs.declared.change.Change.TheVariants.{Replace}
 use Rattle.newt_store.specs.declared.next.Gone.TheVariants.{Nothing}
 use Rattle.newt_store.specs.declared.next.Next.{Next}
-use Rattle.newt_store.specs.Change.{first_checks, entry_in, is_too_large, changed_soup, with_graph, pages_of_entry}
+use Rattle.newt_store.specs.Change.{first_checks, is_too_large, changed_soup, with_graph, pages_of_entry}
 use Rattle.newt_store.specs.Next.{LosesNames, IsGoing, AreNext, ArePlacesNext, Turns, IsPlanOf, IsEntryOf}
 use Rattle.newt_catalog.specs.Stands.{Describes}
 use Rattle.newt_store.proofs.Adding.{is-valid-graph, small-is}
@@ -147,7 +146,7 @@ module _ (catalog : Catalog) (texts : Objects) (s : Store) (d : Describes catalo
   of-graph = (Notframe, not (is_frame (object g.nodes g.root))) ∷ (Size, is_too_large g) ∷ []
 
   abbrev of-entry : Checks
-  of-entry = (NoEntry, is_none (entry_in sig uid s)) ∷ of-graph
+  of-entry = (NoEntry, is_none (entry_at sig uid s)) ∷ of-graph
 
   pub replace-no-soup : is_some (soup_of sig (bare_store catalog.directory)) ≡ false → first_of (first_checks (Replace sig uid g) s) ≡ Some NoSoup
   replace-no-soup none = first-holds NoSoup (is_none (soup_of sig s)) of-entry (ap not (soup-some catalog.directory (place_of catalog.places) (names_of catalog.names) texts s d sig ∙ none))
@@ -157,11 +156,11 @@ module _ (catalog : Catalog) (texts : Objects) (s : Store) (d : Describes catalo
     with-a-soup = first-not NoSoup (is_none (soup_of sig s)) of-entry (ap not (soup-some catalog.directory (place_of catalog.places) (names_of catalog.names) texts s d sig ∙ some))
 
     pub replace-no-entry : is_some (place_of catalog.places sig uid) ≡ false → first_of (first_checks (Replace sig uid g) s) ≡ Some NoEntry
-    replace-no-entry none = with-a-soup ∙ first-holds NoEntry (is_none (entry_in sig uid s)) of-graph (ap not (no-entry catalog.directory (place_of catalog.places) (names_of catalog.names) texts s sig uid d none))
+    replace-no-entry none = with-a-soup ∙ first-holds NoEntry (is_none (entry_at sig uid s)) of-graph (ap not (no-entry catalog.directory (place_of catalog.places) (names_of catalog.names) texts s sig uid d none))
 
     module _ (placed : is_some (place_of catalog.places sig uid) ≡ true) where
       with-an-entry : first_of (first_checks (Replace sig uid g) s) ≡ first_of of-graph
-      with-an-entry = with-a-soup ∙ first-not NoEntry (is_none (entry_in sig uid s)) of-graph (ap not (an-entry catalog.directory (place_of catalog.places) (names_of catalog.names) texts s sig uid d placed))
+      with-an-entry = with-a-soup ∙ first-not NoEntry (is_none (entry_at sig uid s)) of-graph (ap not (an-entry catalog.directory (place_of catalog.places) (names_of catalog.names) texts s sig uid d placed))
 
       pub replace-no-frame : is_frame (object g.nodes g.root) ≡ false → first_of (first_checks (Replace sig uid g) s) ≡ Some Notframe
       replace-no-frame isnt = with-an-entry ∙ first-holds Notframe (not (is_frame (object g.nodes g.root))) ((Size, is_too_large g) ∷ []) (ap not isnt)
@@ -198,5 +197,5 @@ replace-planned catalog texts s sig uid id now g dir e places-sound names-sound 
       added = entry-pages sig uid now g e of
           ∙ ap (λ (n : ℕ). let x : Entry = record { uid = n; time = now; graph = g } in entry_pages x) (sym there.3)
           ∙ sym (ap (λ (o : Option Entry). pages_of_entry (option_map (with_graph now g) o)) there.1);
-      removed = no-more (pages_of_entry (entry_in e.sig e.uid s)) ∙ ap (λ (n : ℕ). pages_of_entry (entry_in n e.uid s)) of.of_sig ∙ ap (λ (n : ℕ). pages_of_entry (entry_in sig n s)) of.of_uid;
+      removed = no-more (pages_of_entry (entry_at e.sig e.uid s)) ∙ ap (λ (n : ℕ). pages_of_entry (entry_at n e.uid s)) of.of_sig ∙ ap (λ (n : ℕ). pages_of_entry (entry_at sig n s)) of.of_uid;
     }

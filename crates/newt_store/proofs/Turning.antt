@@ -9,13 +9,12 @@ use Rattle.newt_pagebook.proofs.Tests.{some_inj}
 use Rattle.newt_image.specs.Objects.{Objects}
 use Rattle.newt_spec_graph.specs.Lists.{Among}
 use Rattle.newt_spec_graph.proofs.Lists.{none-some}
-use Rattle.newt_spec_store.specs.Store.{Soup, Store, soup_named, change_soup, make_soup, drop_soup, remove_entry}
+use Rattle.newt_spec_store.specs.Store.{Soup, Store, soup_named, change_soup, make_soup, drop_soup, remove_entry, soup_of, without_soup}
 use Rattle.newt_spec_store.specs.Cost.{directory_bytes, soup_bytes, text_bytes}
 use Rattle.newt_spec_store.specs.Laid.{bare}
 use Rattle.newt_spec_store.specs.Lies.{Places, LiesIn}
 use Rattle.newt_spec_store.specs.Valid.{well_formed}
 use Rattle.newt_soupdir.specs.Bare.{bare_store}
-use Rattle.newt_soupdir.specs.Changes.{soup_of, without_soup}
 use Rattle.newt_soupdir.specs.declared.rows.Directory.{Directory}
 use Rattle.newt_laws_changes.specs.Written.{Names}
 use Rattle.newt_laws_changes.proofs.Lying.{made_lies, dropped_lies, removed_lies}

@@ -6,24 +6,18 @@ use Rattle.newt_base.specs.declared.Refusal.{Refusal}
 use Rattle.newt_base.specs.declared.Refusal.TheVariants.{Soup as NoSoup, Exists, Entry as NoEntry, Notframe, Limit, Size, Ids, Full, Range, Path as NoPath, Index as BadIndex}
 use Rattle.newt_base.specs.Refusals.{Checks, first_of}
 use Rattle.newt_image.specs.Pages.{cap}
-use Rattle.newt_image.specs.Objects.{pages_for}
 use Rattle.newt_graph.specs.Graph.{RawGraph}
 use Rattle.newt_spec_graph.specs.Graph.{is_frame, object}
-use Rattle.newt_spec_store.specs.Store.{Entry, Soup, Store, soup_named, entry_of, change_soup, change_entry, make_soup, drop_soup, add_entry, remove_entry}
-use Rattle.newt_spec_store.specs.Cost.{cost, directory_bytes, skeleton_length, entry_pages, soup_pages}
+use Rattle.newt_spec_store.specs.Store.{Entry, Soup, Store, soup_named, change_soup, change_entry, make_soup, drop_soup, add_entry, remove_entry, soup_of, entry_at, next_uid_of, with_index, without_index}
+use Rattle.newt_spec_store.specs.Cost.{cost, directory_pages, skeleton_length, entry_pages, soup_pages, patch_bytes}
 use Rattle.newt_spec_store.specs.StoreOf.{fill}
 use Rattle.newt_host.specs.Moments.{overwritten}
 use Rattle.newt_graph.specs.declared.node.Node.{Node}
 use Rattle.newt_graph.specs.declared.node.Node.TheVariants.{Large}
 use Rattle.newt_spec_store.specs.Keys.{IndexSpec, Path, paths_of, same_paths}
-use Rattle.newt_soupdir.specs.Changes.{soup_of, with_index, without_index, with_tags}
-use Rattle.newt_shelf.specs.Patch.{patch_bytes}
+use Rattle.newt_soupdir.specs.Changes.{with_tags}
 use Rattle.newt_store.specs.declared.change.Change.{Change}
 use Rattle.newt_store.specs.declared.change.Change.TheVariants.{MakeSoup, DropSoup, Add, Remove, Move, Replace, Patch, AddIndex, DropIndex, SetTags}
-
--- the entry of this id in the soup of this signature
-abbrev pub entry_in : ℕ → ℕ → Store → Option Entry
-entry_in sig uid s = option_and_then (entry_of uid) (soup_of sig s)
 
 -- the soup of this signature, changed
 abbrev pub changed_soup : Option Soup → (Soup → Soup) → Store → Store
@@ -68,17 +62,12 @@ changed_by (MakeSoup name) now s = make_soup name s
 changed_by (DropSoup sig) now s = dropped_soup (soup_of sig s) s
 changed_by (Add sig graph) now s = changed_soup (soup_of sig s) (add_entry now graph) s
 changed_by (Remove sig uid) now s = changed_soup (soup_of sig s) (remove_entry uid) s
-changed_by (Move source uid target) now s = moved_entry (entry_in source uid s) (soup_of source s) (soup_of target s) now s
+changed_by (Move source uid target) now s = moved_entry (entry_at source uid s) (soup_of source s) (soup_of target s) now s
 changed_by (Replace sig uid graph) now s = changed_soup (soup_of sig s) (change_entry uid (with_graph now graph)) s
 changed_by (Patch sig uid node at bytes) now s = changed_soup (soup_of sig s) (change_entry uid (patched_entry node at bytes)) s
 changed_by (AddIndex sig spec) now s = changed_soup (soup_of sig s) (with_index spec) s
 changed_by (DropIndex sig paths) now s = changed_soup (soup_of sig s) (without_index paths) s
 changed_by (SetTags sig table) now s = changed_soup (soup_of sig s) (with_tags (Some table)) s
-
--- the id that the next entry of a soup gets
-abbrev pub next_uid_of : Option Soup → ℕ
-next_uid_of None = 0
-next_uid_of (Some p) = p.next_uid
 
 -- what a change answers: the signature of a new soup, the id of a new entry, else 0
 abbrev pub answer_of : Change → Store → ℕ
@@ -127,14 +116,14 @@ first_checks (MakeSoup name) s = (Exists, is_some (soup_named name s)) ∷ (Limi
 first_checks (DropSoup sig) s = (NoSoup, is_none (soup_of sig s)) ∷ []
 first_checks (Add sig graph) s =
     (NoSoup, is_none (soup_of sig s)) ∷ (Notframe, not (is_frame (object graph.nodes graph.root))) ∷ (Size, is_too_large graph) ∷ (Ids, has_no_ids (soup_of sig s)) ∷ []
-first_checks (Remove sig uid) s = (NoSoup, is_none (soup_of sig s)) ∷ (NoEntry, is_none (entry_in sig uid s)) ∷ []
+first_checks (Remove sig uid) s = (NoSoup, is_none (soup_of sig s)) ∷ (NoEntry, is_none (entry_at sig uid s)) ∷ []
 first_checks (Move source uid target) s =
-    (NoSoup, is_none (soup_of source s) || is_none (soup_of target s)) ∷ (NoEntry, is_none (entry_in source uid s)) ∷ (Ids, has_no_ids (soup_of target s)) ∷ []
+    (NoSoup, is_none (soup_of source s) || is_none (soup_of target s)) ∷ (NoEntry, is_none (entry_at source uid s)) ∷ (Ids, has_no_ids (soup_of target s)) ∷ []
 first_checks (Replace sig uid graph) s =
-    (NoSoup, is_none (soup_of sig s)) ∷ (NoEntry, is_none (entry_in sig uid s)) ∷ (Notframe, not (is_frame (object graph.nodes graph.root))) ∷ (Size, is_too_large graph) ∷ []
+    (NoSoup, is_none (soup_of sig s)) ∷ (NoEntry, is_none (entry_at sig uid s)) ∷ (Notframe, not (is_frame (object graph.nodes graph.root))) ∷ (Size, is_too_large graph) ∷ []
 first_checks (Patch sig uid node at bytes) s =
-    (NoSoup, is_none (soup_of sig s)) ∷ (NoEntry, is_none (entry_in sig uid s)) ∷ (NoPath, is_none (large_in_entry node (entry_in sig uid s)))
-    ∷ (Range, ends_behind at (length bytes) (large_in_entry node (entry_in sig uid s))) ∷ []
+    (NoSoup, is_none (soup_of sig s)) ∷ (NoEntry, is_none (entry_at sig uid s)) ∷ (NoPath, is_none (large_in_entry node (entry_at sig uid s)))
+    ∷ (Range, ends_behind at (length bytes) (large_in_entry node (entry_at sig uid s))) ∷ []
 first_checks (AddIndex sig spec) s =
     (NoSoup, is_none (soup_of sig s)) ∷ (BadIndex, has_paths (paths_of spec) (specs_of (soup_of sig s))) ∷ (Limit, nat_le 16 (length (specs_of (soup_of sig s)))) ∷ []
 first_checks (DropIndex sig paths) s = (NoSoup, is_none (soup_of sig s)) ∷ []
@@ -157,15 +146,6 @@ refusal_of change blocks now s = first_of (refusals change blocks now s)
 
 -- ---- stores and pages
 
--- a store of this name and signature, without soups
-abbrev pub new_store : List ℕ → ℕ → Store
-new_store name sig = record { name = name; sig = sig; next_soup = 0; soups = [] }
-
--- how many entries a soup has, none where there is no soup
-abbrev pub count_in : Option Soup → ℕ
-count_in None = 0
-count_in (Some p) = length p.entries
-
 -- the ids of a soup's entries, in their order, which is rising; none where there is no soup
 abbrev pub uids_in : Option Soup → List ℕ
 uids_in None = []
@@ -181,10 +161,6 @@ abbrev pub pages_of_soup : Option Soup → ℕ
 pages_of_soup None = 0
 pages_of_soup (Some p) = soup_pages p
 
--- the pages of the directory
-abbrev pub directory_pages : Store → ℕ
-directory_pages s = pages_for (length (directory_bytes s))
-
 -- the change patches a large binary
 abbrev pub is_patch : Change → Bool
 is_patch (Patch sig uid node at bytes) = true
@@ -194,23 +170,23 @@ is_patch change = false
 
 -- the entry whose pages a change fetches, all of them or some: the one that is moved or patched
 abbrev pub entry_fetched : Change → Store → Option Entry
-entry_fetched (Move source uid target) s = entry_in source uid s
-entry_fetched (Patch sig uid node at bytes) s = entry_in sig uid s
+entry_fetched (Move source uid target) s = entry_at source uid s
+entry_fetched (Patch sig uid node at bytes) s = entry_at sig uid s
 entry_fetched change s = None
 
 -- the entry whose record a change writes: one that it appends, or one that it puts in the place of the one of its id
 abbrev pub entry_added : Change → ℕ → Store → Option Entry
 entry_added (Add sig graph) now s = Some (record { uid = next_uid_of (soup_of sig s); time = now; graph = graph })
-entry_added (Move source uid target) now s = option_map (λ e. record { uid = next_uid_of (soup_of target s); time = now; graph = e.graph }) (entry_in source uid s)
-entry_added (Replace sig uid graph) now s = option_map (with_graph now graph) (entry_in sig uid s)
+entry_added (Move source uid target) now s = option_map (λ e. record { uid = next_uid_of (soup_of target s); time = now; graph = e.graph }) (entry_at source uid s)
+entry_added (Replace sig uid graph) now s = option_map (with_graph now graph) (entry_at sig uid s)
 entry_added change now s = None
 
 -- the pages of the entries that a change removes, or puts another in the place of
 abbrev pub pages_removed : Change → Store → ℕ
 pages_removed (DropSoup sig) s = pages_of_soup (soup_of sig s)
-pages_removed (Remove sig uid) s = pages_of_entry (entry_in sig uid s)
-pages_removed (Move source uid target) s = pages_of_entry (entry_in source uid s)
-pages_removed (Replace sig uid graph) s = pages_of_entry (entry_in sig uid s)
+pages_removed (Remove sig uid) s = pages_of_entry (entry_at sig uid s)
+pages_removed (Move source uid target) s = pages_of_entry (entry_at source uid s)
+pages_removed (Replace sig uid graph) s = pages_of_entry (entry_at sig uid s)
 pages_removed change s = 0
 
 -- the pages that a change writes: those of the directory after it, and of the entry whose record it writes

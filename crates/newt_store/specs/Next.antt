@@ -1,10 +1,10 @@
 -- What a change makes of a store, before it is written.
 use Rattle.std.specs.Prelude.{◌≡◌, ◌≢◌, ◌⊎◌, ℕ, ◌+◌, ◌*◌, ◌<◌, ◌≤◌, IsTrue, List, [], ◌∷◌, ◌++◌, length, flat_map, map as map_list, Option, Some, None}
 use Rattle.std.specs.FinMap as map
-use Rattle.newt_image.specs.Objects.{Objects, pages_for}
-use Rattle.newt_spec_store.specs.Store.{Store}
+use Rattle.newt_image.specs.Objects.{Objects}
+use Rattle.newt_spec_store.specs.Store.{Store, take_uid_of, soup_of, entry_at}
 use Rattle.newt_image.specs.Pages.{cap}
-use Rattle.newt_spec_store.specs.Cost.{cost, directory_bytes}
+use Rattle.newt_spec_store.specs.Cost.{cost, directory_bytes, directory_pages}
 use Rattle.newt_spec_store.specs.Laid.{bare}
 use Rattle.newt_spec_store.specs.OfImage.{blocks_of}
 use Rattle.newt_spec_store.specs.Lies.{Places}
@@ -12,7 +12,6 @@ use Rattle.newt_spec_store.specs.Valid.{well_formed}
 use Rattle.newt_graph.specs.Graph.{RawGraph}
 use Rattle.newt_spec_store.specs.Image.{entry_bytes, larges}
 use Rattle.newt_objects.specs.Held.{Held, held}
-use Rattle.newt_soupdir.specs.Changes.{take_uid_of}
 use Rattle.newt_soupdir.specs.Bare.{bare_store}
 use Rattle.newt_objects.specs.Changing.{HoldsObjects}
 use Rattle.newt_base.specs.Refusals.{first_of}
@@ -20,8 +19,7 @@ use Rattle.newt_pagebook.specs.declared.book.Stop.TheVariants.{Memory, Device}
 use Rattle.newt_shelf.specs.declared.fault.StoreFault.{StoreFault}
 use Rattle.newt_shelf.specs.declared.fault.StoreFault.TheVariants.{Refused, Stop}
 use Rattle.newt_store.specs.declared.change.Change.{Change}
-use Rattle.newt_store.specs.Change.{changed_by, answer_of, first_checks, entry_in, entry_added, pages_of_entry, pages_of_soup, pages_removed, directory_pages}
-use Rattle.newt_soupdir.specs.Changes.{soup_of}
+use Rattle.newt_store.specs.Change.{changed_by, answer_of, first_checks, entry_added, pages_of_entry, pages_of_soup, pages_removed}
 use Rattle.newt_shelf.specs.Commit.{Fit}
 use Rattle.newt_shelf.specs.Batch.{AreWritten, HasIds, large_ids, new_pages, over_pages, pages_held, all_pages_held}
 use Rattle.newt_shelf.specs.Names.{names_of}
@@ -115,18 +113,18 @@ pub record Turns (catalog : Catalog) (next : Next) (s t : Store) : Type 0 where
 -- the pages of the entries that go
 abbrev pub goes_pages : Gone → Store → ℕ
 goes_pages Nothing s = 0
-goes_pages (OneEntry sig uid) s = pages_of_entry (entry_in sig uid s)
+goes_pages (OneEntry sig uid) s = pages_of_entry (entry_at sig uid s)
 goes_pages (AllOf sig) s = pages_of_soup (soup_of sig s)
 
 -- the pages of the entry that stands where the new one comes, none where there is none
 abbrev pub replaced_pages : Option NewEntry → Store → ℕ
 replaced_pages None s = 0
-replaced_pages (Some e) s = pages_of_entry (entry_in e.sig e.uid s)
+replaced_pages (Some e) s = pages_of_entry (entry_at e.sig e.uid s)
 
 -- the bytes of the batch that is written, and its record: 516 for each page of the directory and of the new entry's record, 4 for each page of the
 -- directory before, of the object that the record is put over, and of the objects that go
 unfoldable pub next_bytes : Next → Held → List ℕ → ℕ
-next_bytes next objects gone = 9 + 516 * (pages_for (length (directory_bytes (bare_store next.directory))) + new_pages next.entry) + 4 * (pages_held objects 0 + over_pages objects next.entry + all_pages_held objects gone)
+next_bytes next objects gone = 9 + 516 * (directory_pages (bare_store next.directory) + new_pages next.entry) + 4 * (pages_held objects 0 + over_pages objects next.entry + all_pages_held objects gone)
 
 -- the same, where one store becomes another
 unfoldable pub turn_bytes : Next → Store → Store → ℕ

@@ -3,10 +3,9 @@ use Rattle.std.specs.Prelude.{◌≡◌, ℕ, ◌+◌, ◌*◌, List, length, sl
 use Rattle.newt_image.specs.Objects.{pages_for}
 use Rattle.newt_spec_store.specs.Cost.{large_lengths, skeleton_length}
 use Rattle.newt_spec_store.specs.Image.{larges}
-use Rattle.newt_spec_store.specs.Store.{Store, Soup, Entry, entry_of}
+use Rattle.newt_spec_store.specs.Store.{Store, Soup, Entry, entry_of, soup_of}
 use Rattle.newt_shelf.specs.Names.{names_of}
 use Rattle.newt_shelf.specs.Places.{place_of}
-use Rattle.newt_soupdir.specs.Changes.{soup_of}
 use Rattle.newt_catalog.specs.declared.catalog.Catalog.{Catalog}
 
 -- the pages of an entry's record alone, none where there is no entry

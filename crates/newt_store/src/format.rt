@@ -7,7 +7,7 @@ ghost use Rattle.newt_pagebook.specs.Stops.{StopsAt};
 ghost use Rattle.newt_pagebook.specs.Book.{Anything, IsDurable, IsOpenFor};
 ghost use Rattle.newt_entries.specs.Entry.{stream_graph};
 ghost use Rattle.newt_soupdir.specs.Bare.{bare_store};
-ghost use Rattle.newt_store.specs.Change.{new_store};
+ghost use Rattle.newt_spec_store.specs.Store.{new_store};
 ghost use Rattle.newt_spec_store.specs.ImageStore.{store_of_image};
 
 use newt_base::{Name, Sig};

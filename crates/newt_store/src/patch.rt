@@ -7,10 +7,10 @@ ghost use Rattle.newt_objects.specs.Held.{held};
 ghost use Rattle.newt_host.specs.Moments.{image, Leaves};
 ghost use Rattle.newt_host.specs.Outside.{Touches, Spends};
 ghost use Rattle.newt_pagebook.specs.Book.{IsOpenFor};
-ghost use Rattle.newt_spec_store.specs.Store.{Store as PlainStore};
+ghost use Rattle.newt_spec_store.specs.Store.{Store as PlainStore, entry_at};
 ghost use Rattle.newt_spec_store.specs.OfImage.{blocks_of};
 ghost use Rattle.newt_shelf.specs.Faults.{FaultsAt};
-ghost use Rattle.newt_store.specs.Change.{changed_by, answer_of, first_checks, refusal_of, entry_in, pages_of_entry, most_bytes};
+ghost use Rattle.newt_store.specs.Change.{changed_by, answer_of, first_checks, refusal_of, pages_of_entry, most_bytes};
 ghost use Rattle.newt_store.specs.Patch.{IsLargeOf, record_pages};
 ghost use Rattle.newt_catalog.specs.Stands.{StandsFor, IsSound};
 ghost use Rattle.newt_store.specs.Stands.{GoesOn, IsRefused, RefusesWith, IsBeforeOrChanged};
@@ -47,7 +47,7 @@ fn find_large<P: PageBook, H: Host>(
     ensures there { IfOk result (λ o. IsSome (held catalog.now.objects o)) }
     ensures found { IsTrue H.told → (s : PlainStore) → StandsFor catalog.now s (image (P.place book.old) (H.outside host.old).now) → IfOk result (IsLargeOf catalog.now s sig uid node) }
     ensures refused { IsTrue H.told → (s : PlainStore) → StandsFor catalog.now s (image (P.place book.old) (H.outside host.old).now) → (at : ℕ) (bytes : List ℕ) → IfErr result (RefusesWith (first_of (first_checks (Change.Patch sig uid node at bytes) s))) }
-    ensures costs { IsTrue H.told → (s : PlainStore) → StandsFor catalog.now s (image (P.place book.old) (H.outside host.old).now) → Spends (P.place book.old) 0 (512 * record_pages (entry_in sig uid s)) (H.outside host.old) (H.outside host.new) }
+    ensures costs { IsTrue H.told → (s : PlainStore) → StandsFor catalog.now s (image (P.place book.old) (H.outside host.old).now) → Spends (P.place book.old) 0 (512 * record_pages (entry_at sig uid s)) (H.outside host.old) (H.outside host.new) }
     ensures stands { P.stands H.told book.new (H.outside host.new) }
     ensures same { (P.place book.new ≡ P.place book.old) × (P.numbers book.new ≡ P.numbers book.old) }
     ensures moment { (H.outside host.new).now ≡ (H.outside host.old).now }
@@ -98,7 +98,7 @@ pub(crate) fn patch_entry<P: PageBook, H: Host>(
     // at each moment a crash leaves the store before the change, or, where the change is not refused, the one after it
     ensures any_moment { IsTrue H.told → (now : ℕ) (s : PlainStore) → StandsFor catalog.old s (image (P.place book.old) (H.outside host.old).now) → Leaves (P.place book.old) (IsBeforeOrChanged (Change.Patch sig uid node at bytes.now) (blocks_of (image (P.place book.old) (H.outside host.old).now)) now s) (H.outside host.old).now (H.outside host.new).now }
     // what it programs and fetches, whatever the answer, while the bank is not closed and has room for that
-    ensures costs { IsTrue H.told → (now : ℕ) (s : PlainStore) → StandsFor catalog.old s (image (P.place book.old) (H.outside host.old).now) → IsOpenFor (most_bytes (Change.Patch sig uid node at bytes.now) (blocks_of (image (P.place book.old) (H.outside host.old).now)) now s) (image (P.place book.old) (H.outside host.old).now) → Spends (P.place book.old) (most_bytes (Change.Patch sig uid node at bytes.now) (blocks_of (image (P.place book.old) (H.outside host.old).now)) now s) (512 * pages_of_entry (entry_in sig uid s)) (H.outside host.old) (H.outside host.new) }
+    ensures costs { IsTrue H.told → (now : ℕ) (s : PlainStore) → StandsFor catalog.old s (image (P.place book.old) (H.outside host.old).now) → IsOpenFor (most_bytes (Change.Patch sig uid node at bytes.now) (blocks_of (image (P.place book.old) (H.outside host.old).now)) now s) (image (P.place book.old) (H.outside host.old).now) → Spends (P.place book.old) (most_bytes (Change.Patch sig uid node at bytes.now) (blocks_of (image (P.place book.old) (H.outside host.old).now)) now s) (512 * pages_of_entry (entry_at sig uid s)) (H.outside host.old) (H.outside host.new) }
     // after a change the bank is not closed
     ensures open_after { IsTrue H.told → OnOk result (IsOpenFor 0 (image (P.place book.old) (H.outside host.new).now)) }
     ensures alone { Touches (P.place book.old) (H.outside host.old) (H.outside host.new) }

@@ -8,11 +8,10 @@ ghost use Rattle.newt_image.specs.Objects.{Objects as Texts};
 ghost use Rattle.newt_objects.specs.Held.{held};
 ghost use Rattle.newt_spec_graph.specs.Graph as words;
 ghost use Rattle.newt_spec_graph.specs.Lists.{Among};
-ghost use Rattle.newt_spec_store.specs.Store.{Store as PlainStore};
+ghost use Rattle.newt_spec_store.specs.Store.{Store as PlainStore, soup_of, entry_at};
 ghost use Rattle.newt_spec_store.specs.Valid.{well_formed, valid_entry};
 ghost use Rattle.newt_soupdir.specs.Bare.{bare_soup, bare_store};
-ghost use Rattle.newt_soupdir.specs.Changes.{soup_of};
-ghost use Rattle.newt_store.specs.Change.{first_checks, entry_in, entry_fetched, is_patch, pages_of_entry, is_too_large as too_large};
+ghost use Rattle.newt_store.specs.Change.{first_checks, entry_fetched, is_patch, pages_of_entry, is_too_large as too_large};
 ghost use Rattle.newt_shelf.specs.Batch.{AreOnce, large_ids};
 ghost use Rattle.newt_shelf.specs.Faults.{FaultsAt};
 ghost use Rattle.newt_shelf.specs.Names.{names_of, AreSoundNames};
@@ -325,7 +324,7 @@ fn plan_move<P: PageBook, H: Host>(
     ensures next { IfOk result (IsNextOf catalog.now) }
     ensures planned { IsTrue H.told → (s : PlainStore) → StandsFor catalog.now s (image (P.place book.old) (H.outside host.old).now) → IfOk result (IsPlanOf catalog.now (Change.Move source uid target) now s) }
     ensures refused { IsTrue H.told → (s : PlainStore) → StandsFor catalog.now s (image (P.place book.old) (H.outside host.old).now) → IfErr result (RefusesWith (first_of (first_checks (Change.Move source uid target) s))) }
-    ensures costs { IsTrue H.told → (s : PlainStore) → StandsFor catalog.now s (image (P.place book.old) (H.outside host.old).now) → Spends (P.place book.old) 0 (512 * pages_of_entry (entry_in source uid s)) (H.outside host.old) (H.outside host.new) }
+    ensures costs { IsTrue H.told → (s : PlainStore) → StandsFor catalog.now s (image (P.place book.old) (H.outside host.old).now) → Spends (P.place book.old) 0 (512 * pages_of_entry (entry_at source uid s)) (H.outside host.old) (H.outside host.new) }
     ensures alone { Touches (P.place book.old) (H.outside host.old) (H.outside host.new) }
     ensures cause { IfErr result (FaultsAt (P.place book.old) (H.outside host.old) (H.outside host.new)) }
 {

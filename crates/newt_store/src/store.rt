@@ -5,13 +5,12 @@ ghost use Rattle.newt_host.specs.Moments.{image, Leaves};
 ghost use Rattle.newt_host.specs.Outside.{Touches, Spends, Rose};
 ghost use Rattle.newt_pagebook.specs.Stops.{StopsAt};
 ghost use Rattle.newt_pagebook.specs.Book.{Anything, IsDurable, IsOpenFor};
-ghost use Rattle.newt_spec_store.specs.Store.{Store as PlainStore};
+ghost use Rattle.newt_spec_store.specs.Store.{Store as PlainStore, soup_of, entry_at, count_in, new_store};
 ghost use Rattle.newt_spec_store.specs.OfImage.{blocks_of};
-ghost use Rattle.newt_soupdir.specs.Changes.{soup_of};
 ghost use Rattle.newt_entries.specs.Entry.{stream_graph};
 ghost use Rattle.newt_spec_store.specs.ImageStore.{store_of_image};
 ghost use Rattle.newt_catalog.specs.Readable.{readable};
-ghost use Rattle.newt_store.specs.Change.{changed_by, answer_of, refusal_of, entry_in, count_in, uids_in, entry_fetched, pages_of_entry, most_bytes, new_store};
+ghost use Rattle.newt_store.specs.Change.{changed_by, answer_of, refusal_of, uids_in, entry_fetched, pages_of_entry, most_bytes};
 ghost use Rattle.newt_catalog.specs.Stands.{StandsFor, IsSound, plain_entry};
 ghost use Rattle.newt_store.specs.Stands.{GoesOn, IsRefused, RefusesWith, IsBeforeOrChanged};
 ghost use Rattle.newt_shelf.specs.Faults.{FaultsAt};
@@ -146,14 +145,14 @@ impl<P: PageBook> Store<P> {
     ) -> Result<Option<Entry>, Stop>
         requires stands { P.stands H.told self.old.book (H.outside host.old) }
         requires sound { IsSound H.told self.old.catalog (P.numbers self.old.book) (P.place self.old.book) (H.outside host.old) }
-        ensures entry { IsTrue H.told → (s : PlainStore) → StandsFor self.old.catalog s (image (P.place self.old.book) (H.outside host.old).now) → IfOk result (λ found. option_map plain_entry found ≡ entry_in soup uid s) }
+        ensures entry { IsTrue H.told → (s : PlainStore) → StandsFor self.old.catalog s (image (P.place self.old.book) (H.outside host.old).now) → IfOk result (λ found. option_map plain_entry found ≡ entry_at soup uid s) }
         ensures stands { P.stands H.told self.new.book (H.outside host.new) }
         ensures sound { IsSound H.told self.new.catalog (P.numbers self.new.book) (P.place self.new.book) (H.outside host.new) }
         ensures same { (P.place self.new.book ≡ P.place self.old.book) × (P.numbers self.new.book ≡ P.numbers self.old.book) × (self.new.catalog ≡ self.old.catalog) }
         ensures moment { (H.outside host.new).now ≡ (H.outside host.old).now }
         ensures programs_nothing { (H.outside host.new).programmed (P.place self.old.book) ≤ (H.outside host.old).programmed (P.place self.old.book) }
         ensures alone { Touches (P.place self.old.book) (H.outside host.old) (H.outside host.new) }
-        ensures costs { IsTrue H.told → (s : PlainStore) → StandsFor self.old.catalog s (image (P.place self.old.book) (H.outside host.old).now) → Spends (P.place self.old.book) 0 (512 * pages_of_entry (entry_in soup uid s)) (H.outside host.old) (H.outside host.new) }
+        ensures costs { IsTrue H.told → (s : PlainStore) → StandsFor self.old.catalog s (image (P.place self.old.book) (H.outside host.old).now) → Spends (P.place self.old.book) 0 (512 * pages_of_entry (entry_at soup uid s)) (H.outside host.old) (H.outside host.new) }
         ensures cause { IfErr result (StopsAt (P.place self.old.book) (H.outside host.old) (H.outside host.new)) }
     {
         match self.catalog.places.get(soup, uid) {
@@ -180,7 +179,7 @@ impl<P: PageBook> Store<P> {
 
     /// Whether the soup has the entry.
     pub fn has(&self, soup: Sig, uid: Uid) -> bool
-        ensures { (now : List ℕ) (s : PlainStore) → StandsFor self.now.catalog s now → result ≡ is_some (entry_in soup uid s) }
+        ensures { (now : List ℕ) (s : PlainStore) → StandsFor self.now.catalog s now → result ≡ is_some (entry_at soup uid s) }
     {
         self.catalog.places.get(soup, uid).is_some()
     }

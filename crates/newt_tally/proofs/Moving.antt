@@ -3,11 +3,9 @@ use Rattle.std.proofs.Common.{◌≡◌, refl, ap, sym, ◌∙◌, subst, ℕ, �
 use Rattle.std.proofs.lemmas.List.{take_at}
 use Rattle.std.proofs.Math.Seq.{take-append-add}
 use Rattle.newt_host.specs.Moments.{Moment, MayLeave, Always, here, output as printed}
-use Rattle.newt_host.specs.Outside.{Outside, PrintsSome}
+use Rattle.newt_host.specs.Outside.{PrintsSome}
 use Rattle.newt_host.proofs.Moments.{Always-append, Always-last, Always-map}
-use Rattle.newt_host.proofs.Outside.{SameCards-refl, SameCards-append}
 use Rattle.newt_host.proofs.Printing.{output-printed}
-use Rattle.newt_session.specs.Causes.{OnDevices}
 use Rattle.newt_session.specs.Moments.{Answering, BeforeOrAfter, Untouched, world_at}
 use Rattle.newt_session.specs.Script.{Answers, world_behind}
 use Rattle.newt_session.proofs.Crashing.{LeavesIts, its_before, answering_leaves, left_same, prints_changes}
@@ -20,20 +18,6 @@ use Rattle.newt_tally.specs.Counts.{Counts, reply_texts}
 use Rattle.newt_tally.specs.Moments.{Within, CountedAt}
 use Rattle.newt_tally.specs.declared.tally.Tally.{Tally}
 use Rattle.newt_tally.proofs.Texts.{texts_append, texts_none}
-
--- ---- devices alone
-
-pub alone-refl : (a : Outside) → OnDevices a a
-alone-refl a = record { input = refl; cards = SameCards-refl a; in_faults = refl; out_faults = refl; dev_faults = λ unit. omega arith }
-
-pub alone-trans : {a b c : Outside} → OnDevices a b → OnDevices b c → OnDevices a c
-alone-trans s t = record {
-  input = t.input ∙ s.input;
-  cards = SameCards-append s.cards t.cards;
-  in_faults = t.in_faults ∙ s.in_faults;
-  out_faults = t.out_faults ∙ s.out_faults;
-  dev_faults = λ unit. omega (arith, s.dev_faults unit, t.dev_faults unit);
-}
 
 -- ---- the world behind the first items
 

@@ -1,8 +1,9 @@
 //! One line of a script, whose reply is counted.
 ghost use Rattle.std.specs.Prelude.{IsTrue, ◌≡◌, ◌≤◌, ◌<◌, ◌+◌, ◌^◌, ◌++◌, ℕ, List, [], ◌∷◌, Ok, IfOk, OnOk, IfErr};
+ghost use Rattle.newt_host.specs.Outside.{OnDevices};
 ghost use Rattle.newt_host.specs.Moments.{Always, Moment};
 ghost use Rattle.newt_reply.specs.Said.{said};
-ghost use Rattle.newt_session.specs.Causes.{HasWriteCause, OnDevices};
+ghost use Rattle.newt_session.specs.Causes.{HasWriteCause};
 ghost use Rattle.newt_session.specs.Moments.{Answering, Untouched};
 ghost use Rattle.newt_session.specs.Script.{commands_of, has_quit, world_behind};
 ghost use Rattle.newt_spec_script.specs.Script.{is_quit};

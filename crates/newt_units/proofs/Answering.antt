@@ -3,7 +3,7 @@ use Rattle.std.proofs.Common.{◌≡◌, refl, ap, sym, ◌∙◌, subst, ℕ, L
 use Rattle.std.specs.Prelude.{Result, Ok, Err, OnOk, IfErr, is_some}
 use Rattle.newt_base.specs.Refusals.{Checks, first_of}
 use Rattle.newt_base.specs.declared.Refusal.{Refusal}
-use Rattle.newt_spec_store.specs.Store.{Store}
+use Rattle.newt_spec_store.specs.Store.{Store, new_store}
 use Rattle.newt_spec_world.specs.declared.command.Command.{Command}
 use Rattle.newt_spec_world.specs.declared.command.Command.TheVariants as command
 use Rattle.newt_spec_world.specs.Reply.{Reply}
@@ -14,7 +14,6 @@ use Rattle.newt_laws_answers.specs.There.{OnUnit, IsReady}
 use Rattle.newt_laws_answers.proofs.Units.{on-changed, is-there}
 use Rattle.newt_spec_graph.proofs.Lists.{both-ways}
 use Rattle.newt_spec_world.specs.First.{media_of}
-use Rattle.newt_spec_world.specs.Changed.{new_store}
 use Rattle.newt_laws.proofs.Units.{device-same}
 use Rattle.newt_laws_answers.proofs.Stores.{format-has-store, format-done}
 use Rattle.newt_cardstore.specs.declared.fault.Fault.{Fault}

@@ -5,9 +5,9 @@ use Rattle.std.specs.Vec.{with_item}
 use Rattle.std.proofs.lemmas.Option.{slice_get_read, slice_get_within}
 use Rattle.newt_base.specs.Refusals.{Checks, first_of}
 use Rattle.newt_host.specs.Moments.{changes, image, Always, Leaves}
-use Rattle.newt_host.specs.Outside.{Outside, Touches, Rose}
+use Rattle.newt_host.specs.Outside.{Outside, Touches, Rose, OnDevices}
 use Rattle.newt_pagebook.specs.Book.{IsOpenFor}
-use Rattle.newt_pagebook.specs.Stops.{StopsAt}
+use Rattle.newt_pagebook.specs.Stops.{StopsAt, HasStopCause}
 use Rattle.newt_pagebook.specs.declared.book.Stop.{Stop as Ends}
 use Rattle.newt_pagebook.specs.declared.book.Stop.TheVariants as stops
 use Rattle.newt_spec_graph.proofs.Lists.{both-ways}
@@ -22,7 +22,7 @@ use Rattle.newt_cardstore.specs.declared.fault.Fault.{Fault}
 use Rattle.newt_cardstore.specs.declared.fault.Fault.TheVariants.{Refused, Stop}
 use Rattle.newt_cardstore.specs.Bounds.{CostsOn, IsOpenOrSame, ProgramsAtMost}
 use Rattle.newt_cardstore.specs.Cards.{LeavesEither, OthersSame}
-use Rattle.newt_cardstore.specs.Faults.{Does, FaultsAt, GoesOn, HasFaultCause, HasStopCause, IsRefused, OnDevices}
+use Rattle.newt_cardstore.specs.Faults.{Does, FaultsAt, GoesOn, HasFaultCause, IsRefused}
 use Rattle.newt_units.specs.declared.units.Slot.{Slot}
 use Rattle.newt_units.specs.declared.units.Units.{Units}
 use Rattle.newt_units.specs.Stands.{card_of, mounted_in, world_of, Stands}

@@ -10,7 +10,7 @@ use Rattle.newt_host.specs.Moments.{image, IsDurable}
 use Rattle.newt_host.specs.Outside.{Outside}
 use Rattle.newt_spec_graph.proofs.Lists.{some-same, none-some, both-ways}
 use Rattle.newt_spec_store.specs.Laid.{bare}
-use Rattle.newt_spec_store.specs.Store.{Store, Soup, soup_named}
+use Rattle.newt_spec_store.specs.Store.{Store, Soup, soup_named, soup_of}
 use Rattle.newt_spec_store.specs.Valid.{well_formed}
 use Rattle.newt_spec_world.specs.First.{media_of}
 use Rattle.newt_spec_world.specs.World.{World, Device, one, device, store_of, store_if_mounted, mounted_store, soup_in}
@@ -20,7 +20,7 @@ use Rattle.newt_laws_answers.specs.WorldAt.{device_at}
 use Rattle.newt_laws_answers.proofs.Worlds.{device-of, card_device}
 use Rattle.newt_laws_answers.proofs.Units.{is-mounted, soup-named}
 use Rattle.newt_laws_answers.proofs.Sigs.{soup-of-sig, named-name}
-use Rattle.newt_cardstore.specs.Cards.{IsSame, soup_of}
+use Rattle.newt_cardstore.specs.Cards.{IsSame}
 use Rattle.newt_units.specs.declared.units.Slot.{Slot}
 use Rattle.newt_units.specs.declared.units.Units.{Units}
 use Rattle.newt_units.specs.Stands.{card_at, mounted_in, world_of, Stands, Eight}

@@ -4,14 +4,13 @@ use Rattle.std.specs.Prelude.{is_some}
 use Rattle.std.proofs.lemmas.Bool.{eqb-true}
 use Rattle.newt_spec_graph.proofs.Lists.{some-same, none-some, both-ways}
 use Rattle.newt_spec_store.specs.Laid.{bare}
-use Rattle.newt_spec_store.specs.Store.{Store, Soup, Entry, entry_of}
+use Rattle.newt_spec_store.specs.Store.{Store, Soup, Entry, entry_of, soup_of, entry_at}
 use Rattle.newt_spec_world.specs.Alias.{Alias, resolved}
 use Rattle.newt_spec_world.specs.Reply.{Reply}
 use Rattle.newt_spec_world.specs.World.{World, mounted_store}
 use Rattle.newt_laws.proofs.Settled.{find-passes}
 use Rattle.newt_laws_answers.specs.Faces.{faces, shows, first_showing}
 use Rattle.newt_laws_answers.proofs.Faces.{find-none, find-found}
-use Rattle.newt_cardstore.specs.Cards.{soup_of, entry_at}
 use Rattle.newt_units.specs.declared.units.Slot.{Slot}
 use Rattle.newt_units.specs.Faces.{card_face, card_faces}
 use Rattle.newt_units.specs.Spots.{spot_in, spot_reply}

@@ -9,7 +9,7 @@ use Rattle.newt_reply.specs.declared.rows.SoupLine.{SoupLine}
 use Rattle.newt_spec_graph.specs.Lists.{Pairs, Among}
 use Rattle.newt_spec_graph.proofs.Lists.{rises-pairs, pairs-map, some-same, none-some}
 use Rattle.newt_spec_store.specs.Laid.{bare}
-use Rattle.newt_spec_store.specs.Store.{Store, Soup}
+use Rattle.newt_spec_store.specs.Store.{Store, Soup, soup_of, count_in}
 use Rattle.newt_spec_store.specs.Valid.{well_formed}
 use Rattle.newt_spec_world.specs.declared.command.Command.TheVariants as command
 use Rattle.newt_spec_world.specs.Reply.{Reply}
@@ -20,7 +20,7 @@ use Rattle.newt_laws_images.proofs.Stores.{is-store}
 use Rattle.newt_laws_answers.specs.Spoken.{answer_now}
 use Rattle.newt_laws_answers.specs.There.{OnUnit}
 use Rattle.newt_laws_answers.proofs.Soups.{soups-done}
-use Rattle.newt_cardstore.specs.Cards.{soup_of, count_in, soup_rows}
+use Rattle.newt_cardstore.specs.Cards.{soup_rows}
 
 -- ---- lists
 

@@ -6,7 +6,7 @@ use Rattle.newt_base.specs.Refusals.{first_of}
 use Rattle.newt_base.specs.declared.Refusal.{Refusal}
 use Rattle.newt_host.specs.Moments.{Moment, Always, image}
 use Rattle.newt_host.specs.Outside.{Outside}
-use Rattle.newt_spec_store.specs.Store.{Store, Entry, entry_of}
+use Rattle.newt_spec_store.specs.Store.{Store, Entry, entry_of, entry_at}
 use Rattle.newt_spec_world.specs.declared.command.Command.{Command}
 use Rattle.newt_spec_world.specs.Reply.{Reply}
 use Rattle.newt_spec_world.specs.World.{World, Device, store_of}
@@ -19,7 +19,6 @@ use Rattle.newt_laws_answers.proofs.Entries.{no-entry, no-soup}
 use Rattle.newt_base.specs.declared.Refusal.TheVariants.{Entry as NoEntry}
 use Rattle.newt_cardstore.specs.declared.fault.Fault.{Fault}
 use Rattle.newt_cardstore.specs.declared.fault.Fault.TheVariants.{Refused, Stop}
-use Rattle.newt_cardstore.specs.Cards.{entry_at}
 use Rattle.newt_cardstore.specs.Faults.{RefusesBy, IsEnd}
 use Rattle.newt_units.specs.Found.{HasSoup, HasEntry, FindsEntry}
 use Rattle.newt_units.specs.declared.units.Units.{Units}

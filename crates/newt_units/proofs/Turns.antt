@@ -8,10 +8,9 @@ use Rattle.newt_host.proofs.Moments.{Always-map}
 use Rattle.newt_pagebook.specs.Book.{Anything}
 use Rattle.newt_spec_graph.proofs.Lists.{some-same, none-some}
 use Rattle.newt_laws.proofs.Units.{same-or-not}
-use Rattle.newt_spec_store.specs.Store.{Store}
+use Rattle.newt_spec_store.specs.Store.{Store, new_store}
 use Rattle.newt_spec_world.specs.First.{media_of}
 use Rattle.newt_spec_world.specs.World.{World, Device, one, store_of, store_on_unit, change_store, change_media}
-use Rattle.newt_spec_world.specs.Changed.{new_store}
 use Rattle.newt_laws_answers.specs.Answering.{Answering}
 use Rattle.newt_laws_answers.specs.Tests.{formatted}
 use Rattle.newt_laws_answers.specs.WorldAt.{device_at, world_at}

@@ -1,12 +1,11 @@
 -- What is found of an entry.
 use Rattle.std.specs.Prelude.{◌≡◌, ℕ, true, List, Some, Result, Ok, Err}
-use Rattle.newt_spec_store.specs.Store.{Store, Soup, Entry, soup_named, entry_of}
+use Rattle.newt_spec_store.specs.Store.{Store, Soup, Entry, soup_named, entry_of, soup_of}
 use Rattle.newt_spec_store.specs.Valid.{well_formed}
 use Rattle.newt_spec_world.specs.World.{World}
 use Rattle.newt_laws_answers.specs.Tests.{entry_checks}
 use Rattle.newt_laws_answers.specs.There.{OnUnit}
 use Rattle.newt_cardstore.specs.declared.fault.Fault.{Fault}
-use Rattle.newt_cardstore.specs.Cards.{soup_of}
 use Rattle.newt_cardstore.specs.Faults.{RefusesBy}
 
 -- A soup of a mounted store, by its name and by its signature. The store is one that is read.

@@ -1,10 +1,9 @@
 -- Where the entry of an alias is. That an alias resolves to its entry or to nil is Newton's (Newton Programmer's Guide 2.0, entry aliases).
 use Rattle.std.specs.Prelude.{ℕ, Option, option_map, option_and_then}
-use Rattle.newt_spec_store.specs.Store.{Store, entry_of}
+use Rattle.newt_spec_store.specs.Store.{Store, entry_of, soup_of}
 use Rattle.newt_spec_world.specs.Alias.{Spot}
 use Rattle.newt_spec_world.specs.Answer.{or_nil}
 use Rattle.newt_spec_world.specs.Reply.{Reply}
-use Rattle.newt_cardstore.specs.Cards.{soup_of}
 
 -- the entry of these signatures in the store of a unit
 abbrev pub spot_in : ℕ → ℕ → ℕ → Store → Option Spot

@@ -2,17 +2,20 @@
 ghost use Rattle.std.specs.Prelude.{◌≡◌, ℕ, true, IsTrue, List, length, Some, None, slice_get, ⊤, [], IfOk, IfErr, ◌∷◌, ◌≤◌};
 ghost use Rattle.newt_base.specs.Refusals.{first_of};
 ghost use Rattle.newt_graph.specs.declared.node.Node.TheVariants.{Large};
+ghost use Rattle.newt_host.specs.Outside.{OnDevices};
 ghost use Rattle.newt_host.specs.Moments.{Always};
-ghost use Rattle.newt_spec_store.specs.Store.{Store as Plain, Soup, Entry as PlainEntry, entry_of, change_soup, make_soup, drop_soup, add_entry, remove_entry};
+ghost use Rattle.newt_spec_store.specs.Store.{Store as Plain, Soup, Entry as PlainEntry, entry_of, change_soup, make_soup, drop_soup, add_entry, remove_entry, soup_of, entry_at};
+ghost use Rattle.newt_pagebook.specs.Stops.{HasStopCause};
 ghost use Rattle.newt_spec_world.specs.World.{World, store_on_unit, change_store};
 ghost use Rattle.newt_laws_answers.specs.Answering.{Answering};
-ghost use Rattle.newt_laws_answers.specs.Bounds.{change_bytes, patch_bytes, unless};
+ghost use Rattle.newt_spec_store.specs.Cost.{patch_bytes};
+ghost use Rattle.newt_laws_answers.specs.Bounds.{change_bytes, unless};
 ghost use Rattle.newt_spec_world.specs.Changed.{with_graph};
 ghost use Rattle.newt_laws_answers.specs.Tests.{make_tests, add_tests, replace_tests, replaced, patch_tests, patched_within, move_tests, moved_within, with_added};
 ghost use Rattle.newt_laws_answers.specs.There.{OnUnit};
 ghost use Rattle.newt_cardstore.specs.Bounds.{CostsOn};
-ghost use Rattle.newt_cardstore.specs.Cards.{soup_of, entry_at, entry_said, ReadsEntry};
-ghost use Rattle.newt_cardstore.specs.Faults.{Does, GoesOn, HasFaultCause, HasStopCause, OnDevices};
+ghost use Rattle.newt_cardstore.specs.Cards.{entry_said, ReadsEntry};
+ghost use Rattle.newt_cardstore.specs.Faults.{Does, GoesOn, HasFaultCause};
 ghost use Rattle.newt_units.specs.Stands.{Stands, mounted_in, world_of};
 
 use crate::units::Units;

@@ -1,17 +1,16 @@
 //! Changes of what the soups of a store that is mounted declare.
 ghost use Rattle.std.specs.Prelude.{◌≡◌, ℕ, true, IsTrue, ⊤, [], Some, None, IfErr};
 ghost use Rattle.newt_base.specs.Refusals.{first_of};
+ghost use Rattle.newt_host.specs.Outside.{OnDevices};
 ghost use Rattle.newt_host.specs.Moments.{Always};
-ghost use Rattle.newt_spec_store.specs.Store.{Store as Plain, Soup, change_soup};
-ghost use Rattle.newt_spec_world.specs.Changed.{with_index, without_index};
+ghost use Rattle.newt_spec_store.specs.Store.{Store as Plain, Soup, change_soup, soup_of, with_index, without_index};
 ghost use Rattle.newt_spec_world.specs.World.{World, store_on_unit, change_store};
 ghost use Rattle.newt_laws_answers.specs.Answering.{Answering};
 ghost use Rattle.newt_laws_answers.specs.Bounds.{change_bytes, unless};
 ghost use Rattle.newt_laws_answers.specs.Tests.{index_tests, tags_tests, tagged};
 ghost use Rattle.newt_laws_answers.specs.There.{OnUnit};
 ghost use Rattle.newt_cardstore.specs.Bounds.{CostsOn};
-ghost use Rattle.newt_cardstore.specs.Cards.{soup_of};
-ghost use Rattle.newt_cardstore.specs.Faults.{Does, GoesOn, HasFaultCause, OnDevices};
+ghost use Rattle.newt_cardstore.specs.Faults.{Does, GoesOn, HasFaultCause};
 ghost use Rattle.newt_units.specs.Stands.{Stands, mounted_in, world_of};
 
 use crate::units::Units;

@@ -2,12 +2,12 @@
 ghost use Rattle.std.specs.Prelude.{◌≡◌, true, map, Some, IfOk, IfErr};
 ghost use Rattle.newt_host.specs.Moments.{image};
 ghost use Rattle.newt_host.specs.Outside.{Outside};
-ghost use Rattle.newt_spec_store.specs.Store.{Store};
+ghost use Rattle.newt_spec_store.specs.Store.{Store, count_in, soup_of};
 ghost use Rattle.newt_spec_world.specs.Reply.{Reply};
 ghost use Rattle.newt_spec_world.specs.declared.command.Command.{Command};
 ghost use Rattle.newt_laws_answers.specs.Spoken.{answer_now};
 ghost use Rattle.newt_reply.specs.Said.{store_row, soup_row};
-ghost use Rattle.newt_cardstore.specs.Cards.{count_in, soup_of, soup_rows};
+ghost use Rattle.newt_cardstore.specs.Cards.{soup_rows};
 ghost use Rattle.newt_cardstore.specs.Faults.{NoDevice};
 ghost use Rattle.newt_units.specs.Answers.{Answers};
 ghost use Rattle.newt_units.specs.Stands.{Eight, Stands, world_of};

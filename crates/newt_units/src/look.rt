@@ -1,8 +1,7 @@
 //! What the units have.
 ghost use Rattle.std.specs.Prelude.{◌≡◌, ℕ, true, Some, is_some, IfOk, IfErr, option_map};
-ghost use Rattle.newt_spec_store.specs.Store.{Store as Plain};
+ghost use Rattle.newt_spec_store.specs.Store.{Store as Plain, entry_at};
 ghost use Rattle.newt_laws_answers.specs.There.{OnUnit};
-ghost use Rattle.newt_cardstore.specs.Cards.{entry_at};
 ghost use Rattle.newt_host.specs.Outside.{Outside};
 ghost use Rattle.newt_cardstore.specs.Faults.{IsRefusal};
 ghost use Rattle.newt_units.specs.Stands.{card_at, mounted_in, Stands, Eight, world_of};

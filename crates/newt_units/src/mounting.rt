@@ -1,14 +1,14 @@
 //! Stores: mounted and unmounted.
 ghost use Rattle.std.specs.Prelude.{◌≡◌, Bool, true, IsTrue, None, Some, unwrap_or, IfErr, ℕ, ◌≤◌};
 ghost use Rattle.newt_host.specs.Moments.{Always, image};
-ghost use Rattle.newt_host.specs.Outside.{Outside};
+ghost use Rattle.newt_host.specs.Outside.{Outside, OnDevices};
 ghost use Rattle.newt_spec_world.specs.Reply.{Reply};
 ghost use Rattle.newt_spec_world.specs.declared.command.Command.{Command};
 ghost use Rattle.newt_laws_answers.specs.Answering.{Answering};
 ghost use Rattle.newt_laws_answers.specs.Bounds.{most_programmed};
 ghost use Rattle.newt_laws_answers.specs.Spoken.{answer_now};
 ghost use Rattle.newt_cardstore.specs.Bounds.{Costs};
-ghost use Rattle.newt_cardstore.specs.Faults.{GoesOn, HasFaultCause, IsRefusal, OnDevices};
+ghost use Rattle.newt_cardstore.specs.Faults.{GoesOn, HasFaultCause, IsRefusal};
 ghost use Rattle.newt_units.specs.Answers.{Answers};
 ghost use Rattle.newt_units.specs.Faces.{Admits, Opens, card_faces, default_after, with_card};
 ghost use Rattle.newt_units.specs.Looks.{attached_in, IsFree};

@@ -1,7 +1,8 @@
 //! Stores: made, and opened.
 ghost use Rattle.std.specs.Prelude.{◌≡◌, ◌≤◌, ℕ, IsTrue, None, Some, is_some, IfOk, OnOk, IfErr, MatchOption};
+ghost use Rattle.newt_host.specs.Outside.{OnDevices};
 ghost use Rattle.newt_host.specs.Moments.{Always, image};
-ghost use Rattle.newt_spec_world.specs.Changed.{new_store};
+ghost use Rattle.newt_spec_store.specs.Store.{new_store};
 ghost use Rattle.newt_spec_world.specs.Reply.{Reply};
 ghost use Rattle.newt_spec_world.specs.World.{World, store_on_unit};
 ghost use Rattle.newt_spec_world.specs.declared.command.Command.{Command};
@@ -9,7 +10,7 @@ ghost use Rattle.newt_laws_answers.specs.Answering.{Answering};
 ghost use Rattle.newt_laws_answers.specs.Spoken.{answer_now};
 ghost use Rattle.newt_laws_answers.specs.Tests.{formatted};
 ghost use Rattle.newt_cardstore.specs.Bounds.{IsOpenOrSame};
-ghost use Rattle.newt_cardstore.specs.Faults.{GoesOn, HasFaultCause, IsEnd, OnDevices};
+ghost use Rattle.newt_cardstore.specs.Faults.{GoesOn, HasFaultCause, IsEnd};
 ghost use Rattle.newt_units.specs.Answers.{Answers};
 ghost use Rattle.newt_units.specs.Looks.{FindsReady, IsFree};
 ghost use Rattle.newt_units.specs.Stands.{Stands, world_of};

@@ -7,12 +7,11 @@ use Rattle.newt_host.specs.Outside.{Outside}
 use Rattle.newt_spec_graph.proofs.Lists.{some-same, none-some}
 use Rattle.newt_spec_store.specs.Keys.{IndexSpec, same_spec}
 use Rattle.newt_spec_store.specs.Laid.{bare}
-use Rattle.newt_spec_store.specs.Store.{Store, Soup}
+use Rattle.newt_spec_store.specs.Store.{Store, Soup, soup_of}
 use Rattle.newt_spec_query.specs.Hits.{carries}
 use Rattle.newt_ranges.specs.Range.{range_in, range_of_soup}
 use Rattle.newt_index.specs.Range.{range_of}
 use Rattle.newt_laws_hits.specs.Taking.{declared}
-use Rattle.newt_cardstore.specs.Cards.{soup_of}
 use Rattle.newt_laws_answers.specs.There.{OnUnit}
 use Rattle.newt_units.specs.declared.units.Units.{Units}
 use Rattle.newt_units.specs.Stands.{Stands, Eight, card_at, world_of}

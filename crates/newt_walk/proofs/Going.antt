@@ -7,7 +7,7 @@ use Rattle.newt_base.specs.declared.Refusal.TheVariants.{Cursor as NoCursor, Ent
 use Rattle.newt_host.specs.Outside.{Outside}
 use Rattle.newt_spec_graph.specs.Lists.{Each}
 use Rattle.newt_spec_graph.proofs.Lists.{none-some, some-same}
-use Rattle.newt_spec_store.specs.Store.{Store, Soup, Entry, soup_named, entry_of}
+use Rattle.newt_spec_store.specs.Store.{Store, Soup, Entry, soup_named, entry_of, soup_of}
 use Rattle.newt_spec_store.specs.Valid.{well_formed}
 use Rattle.newt_spec_query.specs.Hits.{Query, Hit}
 use Rattle.newt_spec_query.specs.Cursor.{Cursor, on}
@@ -28,7 +28,6 @@ use Rattle.newt_laws_hits.proofs.Origins.{looked-up-is, same-looked-up, named-lo
 use Rattle.newt_cardstore.specs.declared.fault.Fault.{Fault}
 use Rattle.newt_cardstore.specs.declared.fault.Fault.TheVariants.{Refused, Stop}
 use Rattle.newt_units.specs.declared.units.Units.{Units}
-use Rattle.newt_cardstore.specs.Cards.{soup_of}
 use Rattle.newt_cardstore.specs.Faults.{RefusesBy}
 use Rattle.newt_units.specs.Stands.{Stands, Eight, card_at, world_of}
 use Rattle.newt_units.proofs.Known.{Laws, bare-sig, card-known, none-mounted}

@@ -3,11 +3,10 @@ use Rattle.std.proofs.Common.{◌≡◌, refl, ap, sym, ◌∙◌, ℕ, List, Bo
 use Rattle.std.specs.Prelude.{is_some}
 use Rattle.newt_spec_graph.proofs.Lists.{some-same, none-some, both-ways}
 use Rattle.newt_graph.specs.Graph.{RawGraph}
-use Rattle.newt_spec_store.specs.Store.{Store, Soup, Entry, TagTable, entry_of}
+use Rattle.newt_spec_store.specs.Store.{Store, Soup, Entry, TagTable, entry_of, soup_of, entry_at}
 use Rattle.newt_spec_query.specs.Hits.{Query, Hit, passes}
 use Rattle.newt_query.specs.Filter.{in_range}
 use Rattle.newt_laws_hits.specs.Stripped.{entry_passes, passing}
-use Rattle.newt_cardstore.specs.Cards.{soup_of, entry_at}
 use Rattle.newt_walk.specs.Searched.{located_in, keeps_in}
 
 abbrev table_in : ℕ → Store → Option TagTable

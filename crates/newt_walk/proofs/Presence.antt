@@ -4,7 +4,7 @@ use Rattle.std.proofs.lemmas.Bool.{eqb-true}
 use Rattle.newt_spec_graph.specs.Lists.{Each}
 use Rattle.newt_spec_graph.proofs.Lists.{some-same, none-some}
 use Rattle.newt_spec_store.specs.Keys.{Key, key}
-use Rattle.newt_spec_store.specs.Store.{Store, Soup, Entry, entry_of}
+use Rattle.newt_spec_store.specs.Store.{Store, Soup, Entry, entry_of, soup_of, entry_at}
 use Rattle.newt_spec_store.specs.Valid.{well_formed}
 use Rattle.newt_spec_query.specs.Hits.{Query, kept, hit_of}
 use Rattle.newt_spec_world.specs.World.{World, mounted, mounted_stores}
@@ -15,7 +15,6 @@ use Rattle.newt_laws_hits.specs.Located.{Located, looked_up, located_hit, takes_
 use Rattle.newt_laws_hits.proofs.Origins.{same-looked-up}
 use Rattle.newt_pass.specs.Kept.{kept_key}
 use Rattle.newt_pass.proofs.Keeping.{kept-is}
-use Rattle.newt_cardstore.specs.Cards.{soup_of, entry_at}
 use Rattle.newt_walk.specs.Searched.{located_in}
 use Rattle.newt_walk.specs.Present.{Present, identity, with_entry, present_in}
 

@@ -1,36 +1,15 @@
 -- Units and devices that are read alone, call after call.
 use Rattle.std.proofs.Common.{arith, ◌≡◌, refl, sym, ◌∙◌, ap, subst, ℕ, Bool, List, Option}
 use Rattle.std.specs.Prelude.{Result, Err, IfErr}
-use Rattle.newt_host.specs.Outside.{Outside}
+use Rattle.newt_host.specs.Outside.{Outside, OnDevices}
+use Rattle.newt_host.proofs.Outside.{OnDevices-refl, OnDevices-append}
+use Rattle.newt_pagebook.specs.Stops.{HasStopCause}
 use Rattle.newt_pagebook.specs.declared.book.Stop.{Stop}
 use Rattle.newt_pagebook.specs.declared.book.Stop.TheVariants.{Memory, Device}
 use Rattle.newt_spec_store.specs.Store.{Store}
 use Rattle.newt_units.specs.declared.units.Units.{Units}
-use Rattle.newt_cardstore.specs.Faults.{HasStopCause, OnDevices}
 use Rattle.newt_units.specs.Stands.{Stands}
 use Rattle.newt_walk.specs.World.{AreRead}
-
-pub devices-not : (o : Outside) → OnDevices o o
-devices-not o = record {
-  input = refl;
-  cards = record { devices = λ name. refl; card = λ u. refl; blocks = λ u. refl };
-  in_faults = refl;
-  out_faults = refl;
-  dev_faults = λ u. omega arith;
-}
-
-pub devices-then : {o p q : Outside} → OnDevices o p → OnDevices p q → OnDevices o q
-devices-then {o} {p} {q} a b = record {
-  input = b.input ∙ a.input;
-  cards = record {
-    devices = λ name. b.cards.devices name ∙ a.cards.devices name;
-    card = λ u. b.cards.card u ∙ a.cards.card u;
-    blocks = λ u. b.cards.blocks u ∙ a.cards.blocks u;
-  };
-  in_faults = b.in_faults ∙ a.in_faults;
-  out_faults = b.out_faults ∙ a.out_faults;
-  dev_faults = λ u. let x = a.dev_faults u in let y = b.dev_faults u in omega arith;
-}
 
 -- what has failed since has failed since an earlier moment
 pub cause-since : (o p q : Outside) (stop : Stop) → OnDevices o p → HasStopCause stop p q → HasStopCause stop o q
@@ -40,7 +19,7 @@ cause-since o p q (Device u) a h = let x = a.dev_faults u in omega (arith, h)
 module _ {C : Type 0} {reads : List ℕ → Option Store} {place : C → ℕ} {stands : Bool → C → Outside → Type 0} {told : Bool} where
   -- nothing was read
   pub not-read : {units : Units C} {o : Outside} → Stands place stands told units o → AreRead reads place stands told units units o o
-  not-read {units} {o} s = record { stand = s; world = λ t. refl; moment = refl; programs = λ t u. omega arith; alone = devices-not o }
+  not-read {units} {o} s = record { stand = s; world = λ t. refl; moment = refl; programs = λ t u. omega arith; alone = OnDevices-refl o }
 
   -- one call after another
   pub read-then : {units mid later : Units C} {o p q : Outside} → AreRead reads place stands told units mid o p → AreRead reads place stands told mid later p q
@@ -50,7 +29,7 @@ module _ {C : Type 0} {reads : List ℕ → Option Store} {place : C → ℕ} {s
     world = λ t. b.world t ∙ a.world t;
     moment = b.moment ∙ a.moment;
     programs = λ t u. let x = a.programs t u in let y = b.programs t u in omega arith;
-    alone = devices-then a.alone b.alone;
+    alone = OnDevices-append a.alone b.alone;
   }
 
 -- an error that was handed on has its cause

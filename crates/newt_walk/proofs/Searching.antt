@@ -9,7 +9,7 @@ use Rattle.newt_base.specs.Names.{same_path}
 use Rattle.newt_spec_graph.specs.Lists.{Among}
 use Rattle.newt_spec_graph.proofs.Lists.{some-same, none-some, among-filter, among-flat_map}
 use Rattle.newt_spec_store.specs.Keys.{IndexSpec, Key, same_kind, same_direction, same_part, same_spec}
-use Rattle.newt_spec_store.specs.Store.{Store, Soup, soup_named}
+use Rattle.newt_spec_store.specs.Store.{Store, Soup, soup_named, soup_of}
 use Rattle.newt_spec_store.proofs.Sorting.{among-fold}
 use Rattle.newt_spec_query.specs.Hits.{Query, Hit, hit_cmp, in_scope}
 use Rattle.newt_spec_world.specs.First.{unit_numbers}
@@ -29,7 +29,6 @@ use Rattle.newt_union.proofs.Orders.{same_keys}
 use Rattle.newt_laws_answers.specs.WorldAt.{device_at}
 use Rattle.newt_laws_hits.specs.Taking.{declared, member_of, members_of}
 use Rattle.newt_laws_hits.proofs.Cuts.{first-among, last-among}
-use Rattle.newt_cardstore.specs.Cards.{soup_of}
 use Rattle.newt_units.specs.declared.units.Units.{Units}
 use Rattle.newt_units.specs.Stands.{Stands, Eight, mounted_in, world_of}
 use Rattle.newt_units.proofs.Known.{Laws, at-device}

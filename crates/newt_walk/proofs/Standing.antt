@@ -2,7 +2,7 @@
 use Rattle.std.proofs.Common.{◌≡◌, refl, ap, sym, ◌∙◌, ℕ, find, Option, Some, None, option_map, option_and_then, ◌==◌, IsTrue}
 use Rattle.newt_spec_graph.specs.Lists.{Each}
 use Rattle.newt_spec_graph.proofs.Lists.{some-same, none-some}
-use Rattle.newt_spec_store.specs.Store.{Store, Soup, Entry, entry_of}
+use Rattle.newt_spec_store.specs.Store.{Store, Soup, Entry, entry_of, soup_of}
 use Rattle.newt_spec_store.specs.Valid.{well_formed}
 use Rattle.newt_spec_query.specs.Hits.{Query, Hit}
 use Rattle.newt_spec_query.specs.Cursor.{Cursor, Place, start, finish, on, same_identity}
@@ -14,7 +14,6 @@ use Rattle.newt_laws.specs.Settled.{MountedApart}
 use Rattle.newt_laws_changes.proofs.Chosen.{find-passes}
 use Rattle.newt_laws_hits.specs.Located.{Located, located}
 use Rattle.newt_laws_hits.proofs.Origins.{origin, hit-located}
-use Rattle.newt_cardstore.specs.Cards.{soup_of}
 use Rattle.newt_walk.specs.Keyed.{stands_on, key_now}
 use Rattle.newt_walk.specs.Present.{Present, identity, with_entry, present_in}
 use Rattle.newt_walk.specs.Searched.{located_in}

@@ -6,7 +6,7 @@ use Rattle.newt_spec_query.specs.Hits.{Query, Hit}
 use Rattle.newt_spec_query.specs.Cursor.{same_identity}
 use Rattle.newt_spec_world.specs.World.{World, hits_of}
 use Rattle.newt_spec_world.specs.Answer.{spot_of}
-use Rattle.newt_cardstore.specs.declared.card.Entry as code
+use Rattle.newt_cardstore.specs.Cards.{plain_entry}
 use Rattle.newt_walk.specs.declared.present.Present as found
 
 -- a hit with its entry: its unit, the key that it has, and the entry (a word of these definitions)
@@ -27,10 +27,6 @@ with_entry w h = option_map (λ s. record { unit = s.unit; key = h.key; entry = 
 abbrev pub present_in : World → Query → Hit → Option Present
 present_in w q at = option_and_then (with_entry w) (find (same_identity at) (hits_of w q))
 
--- an entry of the code as one of the definition (a word of these definitions)
-abbrev pub entry_of : code.Entry → Entry
-entry_of e = record { uid = e.uid; time = e.time; graph = e.graph }
-
 -- a hit of the code with its entry as one of the definition (a word of these definitions)
 abbrev pub present_of : found.Present → Present
-present_of p = record { unit = p.unit; key = p.key; entry = entry_of p.entry }
+present_of p = record { unit = p.unit; key = p.key; entry = plain_entry p.entry }

@@ -2,7 +2,7 @@
 use Rattle.std.specs.Prelude.{ℕ, Bool, true, false, ◌&&◌, List, Option, Some, None, option_map, option_and_then, cond}
 use Rattle.std.specs.Borrow.{Bor}
 use Rattle.newt_spec_store.specs.Keys.{IndexSpec, same_spec}
-use Rattle.newt_spec_store.specs.Store.{Store, entry_of, soup_named}
+use Rattle.newt_spec_store.specs.Store.{Store, entry_of, soup_named, soup_of}
 use Rattle.newt_spec_query.specs.Hits.{Query, Hit, above, below, in_scope}
 use Rattle.newt_index.specs.Pairs.{Sorted}
 use Rattle.newt_union.specs.Merged.{Member, AllAgree}
@@ -10,7 +10,6 @@ use Rattle.newt_union.specs.Seen.{AreSorted}
 use Rattle.newt_laws_hits.specs.Located.{Located}
 use Rattle.newt_laws_hits.specs.Stripped.{entry_passes}
 use Rattle.newt_laws_hits.specs.Taking.{member_of}
-use Rattle.newt_cardstore.specs.Cards.{soup_of}
 
 -- the soup of the query's name in a store in scope, with its range (Newton Programmer's Guide 2.0, union soups)
 abbrev pub member_in : Query → Store → Option Member

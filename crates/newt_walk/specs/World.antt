@@ -1,12 +1,11 @@
 -- The world that units, cursors and devices stand for.
 use Rattle.std.specs.Prelude.{◌≡◌, ℕ, ◌≤◌, Bool, IsTrue, List, Option}
-use Rattle.newt_host.specs.Outside.{Outside}
+use Rattle.newt_host.specs.Outside.{Outside, OnDevices}
 use Rattle.newt_spec_store.specs.Store.{Store}
 use Rattle.newt_spec_query.specs.Cursor.{Cursor}
 use Rattle.newt_spec_world.specs.World.{World}
 use Rattle.newt_laws_cursors.specs.Cursors.{with_cursors}
 use Rattle.newt_units.specs.declared.units.Units.{Units}
-use Rattle.newt_cardstore.specs.Faults.{OnDevices}
 use Rattle.newt_units.specs.Stands.{Stands, world_of}
 
 -- the world of the stores that are mounted, with these cursors (this project's own)

@@ -1,12 +1,13 @@
 //! The commands that show, count, clone and close a cursor. Where the number is of no open cursor, each is refused as `Cursor`.
 ghost use Rattle.std.specs.Prelude.{◌≡◌, IsTrue, IfErr, IfOk, OnOk, slice_get};
+ghost use Rattle.newt_pagebook.specs.Stops.{HasStopCause};
 ghost use Rattle.newt_cursor.specs.Seen.{place_of};
 ghost use Rattle.newt_spec_world.specs.Answer.{current, or_nil};
 ghost use Rattle.newt_spec_world.specs.Reply.{Reply};
 ghost use Rattle.newt_spec_world.specs.World.{flat, settle};
 ghost use Rattle.newt_spec_world.specs.declared.command.Command.{Command};
 ghost use Rattle.newt_laws.specs.Settled.{MountedApart};
-ghost use Rattle.newt_cardstore.specs.Faults.{HasFaultCause, HasStopCause};
+ghost use Rattle.newt_cardstore.specs.Faults.{HasFaultCause};
 ghost use Rattle.newt_units.specs.Stands.{Stands};
 ghost use Rattle.newt_walk.specs.Fits.{DeskFits};
 ghost use Rattle.newt_walk.specs.Replies.{Answers, shown_reply, side_at, side_reply};

@@ -5,7 +5,7 @@ ghost use Rattle.newt_cursor.specs.Seen.{scope_of};
 ghost use Rattle.newt_spec_store.specs.Keys.{paths_of, same_paths};
 ghost use Rattle.newt_spec_world.specs.Changed.{index_for};
 ghost use Rattle.newt_spec_world.specs.World.{mounted_store};
-ghost use Rattle.newt_cardstore.specs.Cards.{soup_of};
+ghost use Rattle.newt_spec_store.specs.Store.{soup_of};
 ghost use Rattle.newt_units.specs.Stands.{Eight, Stands, world_of};
 ghost use Rattle.newt_walk.specs.Opening.{index_in};
 

@@ -1,14 +1,13 @@
 //! Whether a hit of an index alone is one of the query.
 ghost use Rattle.std.specs.Prelude.{◌≡◌, ℕ, true, false, IsTrue, None, option_and_then, IfOk, IfErr};
 ghost use Rattle.newt_host.specs.Outside.{Outside};
+ghost use Rattle.newt_pagebook.specs.Stops.{HasStopCause};
 ghost use Rattle.newt_cursor.specs.Seen.{query_of, hit_of};
 ghost use Rattle.newt_query.specs.Filter.{asks_texts};
-ghost use Rattle.newt_spec_store.specs.Store.{Store};
+ghost use Rattle.newt_spec_store.specs.Store.{Store, soup_of};
 ghost use Rattle.newt_spec_world.specs.World.{mounted_stores};
 ghost use Rattle.newt_laws_answers.specs.There.{OnUnit};
 ghost use Rattle.newt_laws_hits.specs.Stripped.{passing};
-ghost use Rattle.newt_cardstore.specs.Cards.{soup_of};
-ghost use Rattle.newt_cardstore.specs.Faults.{HasStopCause};
 ghost use Rattle.newt_units.specs.Stands.{Eight, Stands, mounted_in, world_of};
 ghost use Rattle.newt_walk.specs.Searched.{keeps_in};
 ghost use Rattle.newt_walk.specs.World.{AreRead};

@@ -1,11 +1,11 @@
 //! Where a cursor comes to.
 ghost use Rattle.std.specs.Prelude.{◌≡◌, IsTrue, IfOk, IfErr};
+ghost use Rattle.newt_pagebook.specs.Stops.{HasStopCause};
 ghost use Rattle.newt_keys.specs.KeyForm.{IsKeyOf};
 ghost use Rattle.newt_cursor.specs.Seen.{query_of, place_of};
 ghost use Rattle.newt_spec_query.specs.Cursor.{moved, place_at_key, repeated};
 ghost use Rattle.newt_spec_world.specs.World.{hits_of};
 ghost use Rattle.newt_laws.specs.Settled.{MountedApart};
-ghost use Rattle.newt_cardstore.specs.Faults.{HasStopCause};
 ghost use Rattle.newt_units.specs.Stands.{Stands, world_of};
 ghost use Rattle.newt_walk.specs.Fits.{PlaceFits};
 ghost use Rattle.newt_walk.specs.Ways.{is_at_edge, outermost, stepping};

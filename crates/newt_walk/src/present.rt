@@ -3,19 +3,19 @@ ghost use Rattle.std.specs.Prelude.{◌≡◌, ◌&&◌, ℕ, true, IsTrue, Some
 ghost use Rattle.newt_base.specs.Names.{equal_text};
 ghost use Rattle.newt_host.specs.Moments.{image};
 ghost use Rattle.newt_host.specs.Outside.{Outside};
+ghost use Rattle.newt_pagebook.specs.Stops.{HasStopCause};
 ghost use Rattle.newt_keys.specs.KeyForm.{IsKeyOf};
 ghost use Rattle.newt_cursor.specs.Seen.{query_of, scope_of};
-ghost use Rattle.newt_spec_store.specs.Store.{Store, Soup};
+ghost use Rattle.newt_spec_store.specs.Store.{Store, Soup, soup_of};
 ghost use Rattle.newt_spec_query.specs.Hits.{in_scope};
 ghost use Rattle.newt_laws.specs.Settled.{MountedApart};
 ghost use Rattle.newt_laws_answers.specs.There.{OnUnit};
 ghost use Rattle.newt_laws_hits.specs.Located.{takes_part};
 ghost use Rattle.newt_laws_hits.specs.Taking.{declared};
-ghost use Rattle.newt_cardstore.specs.Cards.{soup_of};
-ghost use Rattle.newt_cardstore.specs.Faults.{HasStopCause};
 ghost use Rattle.newt_units.specs.Stands.{Eight, Stands, world_of};
 ghost use Rattle.newt_pass.specs.Kept.{kept_key};
-ghost use Rattle.newt_walk.specs.Present.{entry_of, identity, present_in, present_of};
+ghost use Rattle.newt_cardstore.specs.Cards.{plain_entry};
+ghost use Rattle.newt_walk.specs.Present.{identity, present_in, present_of};
 ghost use Rattle.newt_walk.specs.World.{AreRead};
 
 use newt_base::{Sig, Uid};
@@ -148,7 +148,7 @@ fn kept<C: Card>(
 ) -> Result<Option<Present>, AllocError>
     ensures key { IfOk result (λ found. IfSome found (λ p. IsKeyOf query.now.spec.index p.key)) }
     ensures found { (outside : Outside) → Eight outside → Stands C.place C.stands true units.now outside → (blocks : ℕ) (s : Store) → OnUnit (world_of C.reads units.now outside) unit blocks s →
-        IfOk result (λ found. option_map present_of found ≡ option_map (λ k. record { unit = unit; key = k; entry = entry_of entry }) (kept_key query.now.spec (option_and_then (λ p. p.tags) (soup_of soup s)) entry.graph)) }
+        IfOk result (λ found. option_map present_of found ≡ option_map (λ k. record { unit = unit; key = k; entry = plain_entry entry }) (kept_key query.now.spec (option_and_then (λ p. p.tags) (soup_of soup s)) entry.graph)) }
 {
     let table = table_on(units, unit, soup);
     let found = kept_key(units.alloc(), &query.spec, table, &entry.graph)?;

@@ -1,10 +1,10 @@
 //! The cursors take the present keys of their entries.
 ghost use Rattle.std.specs.Prelude.{◌≡◌, IsTrue, Some, IfOk, IfErr, IfSome, OnOk, option_and_then, slice_get};
+ghost use Rattle.newt_pagebook.specs.Stops.{HasStopCause};
 ghost use Rattle.newt_keys.specs.KeyForm.{IsKeyOf};
 ghost use Rattle.newt_spec_query.specs.Cursor.{Cursor};
 ghost use Rattle.newt_spec_world.specs.World.{change_at, flat, settle, settle_cursor};
 ghost use Rattle.newt_laws.specs.Settled.{MountedApart};
-ghost use Rattle.newt_cardstore.specs.Faults.{HasStopCause};
 ghost use Rattle.newt_units.specs.Stands.{Stands, world_of};
 ghost use Rattle.newt_walk.specs.Fits.{DeskFits};
 ghost use Rattle.newt_walk.specs.Keyed.{key_now};

@@ -1,9 +1,9 @@
 //! What a cursor shows.
 ghost use Rattle.std.specs.Prelude.{◌≡◌, IsTrue, IfErr, IfOk, slice_get};
+ghost use Rattle.newt_pagebook.specs.Stops.{HasStopCause};
 ghost use Rattle.newt_spec_world.specs.Answer.{current, or_nil};
 ghost use Rattle.newt_spec_world.specs.World.{flat};
 ghost use Rattle.newt_laws.specs.Settled.{MountedApart};
-ghost use Rattle.newt_cardstore.specs.Faults.{HasStopCause};
 ghost use Rattle.newt_units.specs.Stands.{Stands};
 ghost use Rattle.newt_walk.specs.Replies.{shown_reply};
 ghost use Rattle.newt_walk.specs.World.{AreRead, world_with};

@@ -1,6 +1,7 @@
 //! The commands that move a cursor. Where the number is of no open cursor, each is refused as `Cursor`.
 ghost use Rattle.std.specs.Prelude.{◌≡◌, true, IsTrue, Some, IfErr, IfOk, IfSome, OnOk, option_map, slice_get};
 ghost use Rattle.newt_host.specs.Outside.{Outside};
+ghost use Rattle.newt_pagebook.specs.Stops.{HasStopCause};
 ghost use Rattle.newt_keys.specs.KeyForm.{IsKeyOf};
 ghost use Rattle.newt_cursor.specs.Seen.{hit_of, place_of, query_of};
 ghost use Rattle.newt_spec_store.specs.Store.{soup_named};
@@ -10,7 +11,7 @@ ghost use Rattle.newt_spec_world.specs.Changed.{hit_for, key_from, sig_of};
 ghost use Rattle.newt_spec_world.specs.World.{cursor, flat, hits_of, set_place, settle, soup_in};
 ghost use Rattle.newt_spec_world.specs.declared.command.Command.TheVariants as Command;
 ghost use Rattle.newt_laws.specs.Settled.{MountedApart};
-ghost use Rattle.newt_cardstore.specs.Faults.{HasFaultCause, HasStopCause};
+ghost use Rattle.newt_cardstore.specs.Faults.{HasFaultCause};
 ghost use Rattle.newt_units.specs.Stands.{Eight, Stands, world_of};
 ghost use Rattle.newt_walk.specs.Fits.{DeskFits, PlaceFits};
 ghost use Rattle.newt_walk.specs.Motions.{MotionFits, Steers, step_of};

@@ -1,12 +1,12 @@
 //! The walk from one hit to the next that a query keeps.
 ghost use Rattle.std.specs.Prelude.{◌≡◌, IsTrue, option_map, IfOk, IfErr, IfSome};
+ghost use Rattle.newt_pagebook.specs.Stops.{HasStopCause};
 ghost use Rattle.newt_keys.specs.KeyForm.{IsKeyOf};
 ghost use Rattle.newt_cursor.specs.Seen.{query_of, place_of, hit_of};
 ghost use Rattle.newt_spec_world.specs.World.{hits_of, mounted_stores};
 ghost use Rattle.newt_laws.specs.Settled.{MountedApart};
 ghost use Rattle.newt_laws_hits.specs.Stripped.{passing};
 ghost use Rattle.newt_laws_hits.specs.Walk.{walked};
-ghost use Rattle.newt_cardstore.specs.Faults.{HasStopCause};
 ghost use Rattle.newt_units.specs.Stands.{Stands, world_of};
 ghost use Rattle.newt_walk.specs.Fits.{PlaceFits};
 ghost use Rattle.newt_walk.specs.Ways.{edge, stepping};

@@ -1,10 +1,6 @@
 -- Names in quotes, byte by byte.
-use Rattle.std.specs.Prelude.{ℕ, Bool, ◌||◌, ◌==◌, List, [], ◌∷◌, ◌++◌, Option, Some, None}
+use Rattle.std.specs.Prelude.{ℕ, List, [], ◌∷◌, ◌++◌, Option, Some, None}
 use Rattle.newt_spec_script.specs.Words.{quoted}
-
--- a byte for which a name stands in quotes
-abbrev pub needs_quotes : ℕ → Bool
-needs_quotes c = (c == 32) || (c == 34) || (c == 92)
 
 -- what is read behind some bytes of a quoted text
 abbrev pub behind : List ℕ → Option (List ℕ × List ℕ) → Option (List ℕ × List ℕ)

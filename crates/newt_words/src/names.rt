@@ -1,22 +1,15 @@
 //! Names in a line: bare, or in quotes.
 ghost use Rattle.std.specs.Prelude.{◌≡◌, ◌≢◌, ◌<◌, ◌||◌, ◌==◌, ◌∷◌, length, not, true, false, IfOk, IfErr, IfSome, MatchOption};
 ghost use Rattle.std.specs.List.{list_all};
-ghost use Rattle.newt_base.specs.Names.{is_name};
+ghost use Rattle.newt_base.specs.Names.{is_name, needs_quotes};
 ghost use Rattle.newt_base.specs.declared.Refusal.TheVariants.{Line as NotTheForm};
 ghost use Rattle.newt_spec_script.specs.Words as spec;
-ghost use Rattle.newt_words.specs.Names.{needs_quotes, goes_on};
+ghost use Rattle.newt_words.specs.Names.{goes_on};
 
 use crate::blanks::{is_blank, split_word};
 use crate::fault::WordFault;
-use newt_base::{Name, NameFault};
+use newt_base::{Name, NameFault, needs_quotes};
 use std::alloc::Global;
-
-/// Whether a name with this byte in it stands in quotes.
-fn needs_quotes(byte: u8) -> bool
-    ensures { result ≡ needs_quotes byte }
-{
-    byte == b' ' || byte == b'"' || byte == b'\\'
-}
 
 /// The name that these bytes are; `Form` where they are none.
 fn named(alloc: Global, bytes: &[u8]) -> Result<Name, WordFault>

@@ -1,64 +1,26 @@
 //! Symbols of a tags declaration.
-ghost use Rattle.std.specs.Prelude.{◌≡◌, ◌≢◌, ◌||◌, bytes_eq, map, IfOk};
-ghost use Rattle.std.specs.Char.{is_ascii_digit};
+ghost use Rattle.std.specs.Prelude.{◌≡◌, ◌≢◌, bytes_eq, map, IfOk};
 ghost use Rattle.std.specs.HashSet.{IsFromIterResult};
-ghost use Rattle.std.specs.List.{list_all};
 ghost use Rattle.std.specs.Str.{str_to_ascii_lowercase};
-ghost use Rattle.newt_base.specs.Names.{is_identifier, starts_identifier, same_name};
+ghost use Rattle.newt_base.specs.Names.{same_name};
 ghost use Rattle.newt_spec_graph.specs.Lists.{all_apart};
-ghost use Rattle.newt_spec_store.specs.Valid.{valid_symbol};
 ghost use Rattle.newt_spec_script.specs.Words as spec;
 ghost use Rattle.newt_words.specs.Listed.{of_form};
 
 use crate::fault::WordFault;
+use newt_base::is_identifier;
 use newt_graph::Bytes;
 use std::alloc::{AllocError, Global};
 use std::collections::HashSet;
 
-/// The most bytes of a symbol.
-const MOST_BYTES: usize = 254;
-
-/// SYM: an identifier of at most 254 bytes.
+/// SYM: an identifier.
 pub fn symbol(alloc: Global, word: &[u8]) -> Result<Bytes, WordFault>
     ensures { result ≢ Err WordFault.Memory → result ≡ of_form (spec.symbol word.now) }
 {
-    if !is_symbol(word) {
+    if !is_identifier(word) {
         return Err(WordFault::Form);
     }
     Ok(Bytes::of(Vec::from_slice(alloc, word)?))
-}
-
-/// Whether a text is an identifier of at most 254 bytes.
-fn is_symbol(text: &[u8]) -> bool
-    ensures { result ≡ valid_symbol text.now }
-{
-    is_identifier(text) && text.len() <= MOST_BYTES
-}
-
-/// Whether a text is a letter or `_`, and then letters, digits and `_`.
-fn is_identifier(text: &[u8]) -> bool
-    ensures { result ≡ is_identifier text.now }
-{
-    match text {
-        [] => false,
-        [first, rest @ ..] => starts_identifier(*first) && all_continue(rest),
-    }
-}
-
-/// Whether a byte is a letter of ASCII or `_`.
-fn starts_identifier(byte: u8) -> bool
-    ensures { result ≡ starts_identifier byte }
-{
-    byte.is_ascii_alphabetic() || byte == b'_'
-}
-
-/// Whether all bytes are letters, digits and `_`.
-fn all_continue(bytes: &[u8]) -> bool
-    ensures { result ≡ list_all (λ b. starts_identifier b || is_ascii_digit b) bytes.now }
-{
-    bytes
-        .iter()
-        .all(|b| starts_identifier(*b) || b.is_ascii_digit())
 }
 
 /// Whether no two symbols are one but for ASCII case.

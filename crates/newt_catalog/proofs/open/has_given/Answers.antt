@@ -2,7 +2,7 @@ use Rattle.std.proofs.Common.{◌≡◌, ◌<◌, ℕ, sym, ◌∙◌, ap, arith
 use Rattle.std.proofs.lemmas.Bool.{ltb-true, ltb-false}
 use Rattle.newt_entries.specs.declared.row.EntryRow.{EntryRow}
 use Rattle.newt_soupdir.specs.Bare.{bare_store, bare_soup}
-use Rattle.newt_soupdir.specs.Changes.{soup_of}
+use Rattle.newt_spec_store.specs.Store.{soup_of}
 use Rattle.newt_catalog.proofs.Opening.{given, given-none, given-below}
 use Rattle.newt_catalog.proofs.open.has_given.Goals as goal
 

@@ -4,8 +4,7 @@ use Rattle.std.proofs.lemmas.Result.{err_from_is_err_and}
 use Rattle.std.specs.Bool.{⊤}
 use Rattle.newt_laws_answers.specs.Tests.{has_paths}
 use Rattle.newt_laws_answers.proofs.Declares.{unindex-not-found, unindex-missing}
-use Rattle.newt_spec_store.specs.Store.{change_soup}
-use Rattle.newt_spec_world.specs.Changed.{without_index}
+use Rattle.newt_spec_store.specs.Store.{change_soup, without_index}
 use Rattle.newt_spec_world.specs.World.{change_store}
 use Rattle.newt_cardstore.specs.Faults.{Does}
 use Rattle.newt_units.specs.Stands.{Stands, world_of}

@@ -2,7 +2,7 @@
 use Rattle.std.proofs.Common.{◌≡◌, ◌≤◌, ◌<◌, refl, ap, sym, ◌∙◌, subst, true, false, length, nat_lt}
 use Rattle.std.proofs.lemmas.Bool.{le-ltb, lt-ltb}
 use Rattle.std.proofs.lemmas.Result.{err_from_is_err_and}
-use Rattle.newt_laws_answers.specs.Spoken.{tags_fit}
+use Rattle.newt_laws.specs.Worlds.{tags_fit}
 use Rattle.newt_laws_answers.proofs.Declares.{set-tags-unbuilt, set-tags-not-found, set-tags-many}
 use Rattle.newt_spec_store.specs.Store.{TagTable}
 use Rattle.newt_units.specs.Stands.{Stands, world_of}

@@ -1,7 +1,8 @@
 use Rattle.std.proofs.Common.{ℕ, ◌+◌, ◌*◌, List, sym, ◌∙◌, ap, subst}
 use Rattle.newt_host.specs.Outside.{Spends}
 use Rattle.newt_index.specs.Pairs.{Sorted}
-use Rattle.newt_store.specs.Change.{entry_in, pages_of_entry}
+use Rattle.newt_spec_store.specs.Store.{entry_at}
+use Rattle.newt_store.specs.Change.{pages_of_entry}
 use Rattle.newt_indexed.specs.Filling.{with_all, pages_listed}
 use Rattle.newt_indexed.proofs.Ends.{with-none, pages-none, behind, pages-first, with-first, sum-next, sum-below}
 use Rattle.newt_indexed.proofs.Reading.{shows-on, reads-more, spends-on, fetches-more}
@@ -24,7 +25,7 @@ returns-in_err-fill_entry-clause-costs g c = λ tells s shows.
     let reads = c.loop-left.invariant.reads in
     let left : List ℕ = c.loop-left.left.now in
     let total : ℕ = pages_listed c.args.soup s c.args.uids.now in
-    let k : ℕ = pages_of_entry (entry_in c.args.soup c.uid-item.result s) in
+    let k : ℕ = pages_of_entry (entry_at c.args.soup c.uid-item.result s) in
     let two = c.in_err-fill_entry.ensures.costs tells s (shows-on place g.P.PageBook.numbers g.P.PageBook.stands g.H.Host.told c.args.store.now c.loop-left.store (o c.args.host.now) (o c.loop-left.host) s reads shows) in
     fetches-more (place c.args.store.now.book) (i.0 + k) total (o c.args.host.now) (o c.fill_entry.new.host)
     (sum-below i.0 (pages_listed c.args.soup s left) total k (pages_listed c.args.soup s (behind left)) i.1 (pages-first c.args.soup s left c.uid-item.result c.in-len1-up.len_at_least c.uid-item.is))
@@ -47,7 +48,7 @@ loop-left-preserved g c =
       costs = λ tells s shows.
           let i = c.loop-left.invariant.costs tells s shows in
           let total : ℕ = pages_listed c.args.soup s c.args.uids.now in
-          let k : ℕ = pages_of_entry (entry_in c.args.soup c.uid-item.result s) in (
+          let k : ℕ = pages_of_entry (entry_at c.args.soup c.uid-item.result s) in (
             i.0 + k,
             sum-next i.0 (pages_listed c.args.soup s left) total k (pages_listed c.args.soup s (behind left)) i.1 (pages-first c.args.soup s left c.uid-item.result c.in-len1-up.len_at_least c.uid-item.is),
             spends-on place g.P.PageBook.numbers g.P.PageBook.stands g.H.Host.told c.args.store.now c.loop-left.store (o c.args.host.now) (o c.loop-left.host) (o c.fill_entry.new.host) i.0 k reads i.2

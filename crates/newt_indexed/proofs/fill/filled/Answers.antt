@@ -3,7 +3,7 @@ use Rattle.newt_host.specs.Moments.{image}
 use Rattle.newt_host.specs.Outside.{Spends}
 use Rattle.newt_index.specs.Pairs.{Sorted}
 use Rattle.newt_spec_store.specs.Keys.{IndexSpec}
-use Rattle.newt_soupdir.specs.Changes.{soup_of}
+use Rattle.newt_spec_store.specs.Store.{soup_of}
 use Rattle.newt_ranges.specs.Rows.{no_pairs}
 use Rattle.newt_store.specs.Change.{uids_in}
 use Rattle.newt_indexed.specs.Filling.{with_all, pages_listed}

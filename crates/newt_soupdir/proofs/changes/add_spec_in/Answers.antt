@@ -1,6 +1,6 @@
 use Rattle.std.proofs.Common.{sym, ◌∙◌}
 use Rattle.std.proofs.lemmas.Result.{on_ok_weaker}
-use Rattle.newt_soupdir.specs.Changes.{with_index}
+use Rattle.newt_spec_store.specs.Store.{with_index}
 use Rattle.newt_soupdir.proofs.Lists.{place_is, nowhere}
 use Rattle.newt_soupdir.proofs.changes.add_spec_in.Goals as goal
 

@@ -1,5 +1,5 @@
 use Rattle.std.proofs.Common.{sym, ◌∙◌}
-use Rattle.newt_soupdir.specs.Changes.{without_index}
+use Rattle.newt_spec_store.specs.Store.{without_index}
 use Rattle.newt_soupdir.proofs.Lists.{place_is, nowhere}
 use Rattle.newt_soupdir.proofs.changes.drop_spec_in.Goals as goal
 

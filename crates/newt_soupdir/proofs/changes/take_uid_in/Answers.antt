@@ -1,6 +1,6 @@
 use Rattle.std.proofs.Common.{ap, sym, refl}
 use Rattle.newt_soupdir.specs.Bare.{bare_soup}
-use Rattle.newt_soupdir.specs.Changes.{uid_taken}
+use Rattle.newt_spec_store.specs.Store.{uid_taken}
 use Rattle.newt_soupdir.proofs.Lists.{place_is, nowhere, within_bound}
 use Rattle.newt_soupdir.proofs.changes.take_uid_in.Goals as goal
 

@@ -3,7 +3,7 @@ use Rattle.std.specs.Option.{is_some}
 use Rattle.newt_pagebook.proofs.Tests.{the_some}
 use Rattle.newt_spec_store.specs.Keys.{Path}
 use Rattle.newt_soupdir.specs.Bare.{bare_store}
-use Rattle.newt_soupdir.specs.Changes.{soup_of, change_soup_of, without_index}
+use Rattle.newt_spec_store.specs.Store.{soup_of, change_soup_of, without_index}
 use Rattle.newt_soupdir.specs.declared.rows.Directory.{Directory}
 use Rattle.newt_store.proofs.Declaring.{drops-index, valid-dropped, formed-declared, unindex-no-soup, unindex-planned}
 use Rattle.newt_store.proofs.Planned.{seen-some, next-plain}

@@ -2,7 +2,8 @@ use Rattle.std.proofs.Common.{◌≡◌, Some, true, not, ◌∙◌, ap}
 use Rattle.std.specs.Option.{is_some}
 use Rattle.newt_pagebook.proofs.Tests.{the_some}
 use Rattle.newt_soupdir.specs.Bare.{bare_store}
-use Rattle.newt_soupdir.specs.Changes.{soup_of, change_soup_of, with_tags}
+use Rattle.newt_spec_store.specs.Store.{soup_of, change_soup_of}
+use Rattle.newt_soupdir.specs.Changes.{with_tags}
 use Rattle.newt_soupdir.specs.declared.rows.Directory.{Directory}
 use Rattle.newt_store.proofs.Declaring.{sets-tags, valid-tagged, formed-declared, tags-no-soup, tags-planned}
 use Rattle.newt_store.proofs.Planned.{seen-some, next-plain}

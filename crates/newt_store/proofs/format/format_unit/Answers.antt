@@ -7,8 +7,7 @@ use Rattle.newt_host.proofs.Moments.{Leaves-start}
 use Rattle.newt_objects.specs.Changing.{IsUnderWay, HoldsObjects}
 use Rattle.newt_spec_store.specs.Cost.{directory_bytes}
 use Rattle.newt_spec_store.specs.OfImage.{blocks_of}
-use Rattle.newt_spec_store.specs.Store.{Store}
-use Rattle.newt_store.specs.Change.{new_store}
+use Rattle.newt_spec_store.specs.Store.{Store, new_store}
 use Rattle.newt_shelf.proofs.Committing.{blocks-are}
 use Rattle.newt_store.proofs.Fresh.{start-empty, formatted-holds, fresh-read, short-name}
 use Rattle.newt_store.proofs.format.format_unit.Goals as goal

@@ -4,7 +4,7 @@ use Rattle.std.specs.Option.{is_some, option_map}
 use Rattle.newt_objects.specs.Held.{held}
 use Rattle.newt_entries.specs.declared.row.LargeAt.{LargeAt}
 use Rattle.newt_soupdir.specs.Bare.{bare_store}
-use Rattle.newt_soupdir.specs.Changes.{soup_of}
+use Rattle.newt_spec_store.specs.Store.{soup_of}
 use Rattle.newt_store.proofs.Planned.{seen-some}
 use Rattle.newt_store.proofs.Patching.{record-bytes, record-at, record-costs, is-large, no-path, object-there, patch-no-soup, patch-no-entry, patch-no-path}
 use Rattle.newt_store.proofs.patch.find_large.Goals as goal

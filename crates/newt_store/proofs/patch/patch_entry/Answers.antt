@@ -11,9 +11,11 @@ use Rattle.newt_objects.specs.Changing.{HoldsObjects}
 use Rattle.newt_vbo.specs.Ranges.{parts_met}
 use Rattle.newt_spec_store.specs.OfImage.{blocks_of}
 use Rattle.newt_shelf.specs.Commit.{AreKept}
-use Rattle.newt_shelf.specs.Patch.{IsBeforeOrPatched, patch_bytes}
+use Rattle.newt_spec_store.specs.Cost.{patch_bytes}
+use Rattle.newt_shelf.specs.Patch.{IsBeforeOrPatched}
 use Rattle.newt_store.specs.declared.change.Change.TheVariants.{Patch}
-use Rattle.newt_store.specs.Change.{changed_by, refusal_of, entry_in, pages_of_entry, most_bytes}
+use Rattle.newt_spec_store.specs.Store.{entry_at}
+use Rattle.newt_store.specs.Change.{changed_by, refusal_of, pages_of_entry, most_bytes}
 use Rattle.newt_store.specs.Patch.{IsLargeOf}
 use Rattle.newt_catalog.specs.Stands.{StandsFor}
 use Rattle.newt_store.specs.Stands.{RefusesWith, IsBeforeOrChanged}
@@ -48,7 +50,7 @@ pub returns-in_err-object-clause-costs : goal.returns-in_err-object-clause-costs
 returns-in_err-object-clause-costs g c = λ tells minute s stands room.
     let o = g.H.Host.outside in
     let u : ℕ = g.P.PageBook.place c.args.book.now in
-    spends-record (most_bytes (Patch c.args.sig c.args.uid c.args.node c.args.at c.args.bytes.now) (blocks_of (image u (o c.args.host.now).now)) minute s) u (entry_in c.args.sig c.args.uid s) (o c.args.host.now) (o c.find_large.new.host) (c.find_large.ensures.costs tells s stands)
+    spends-record (most_bytes (Patch c.args.sig c.args.uid c.args.node c.args.at c.args.bytes.now) (blocks_of (image u (o c.args.host.now).now)) minute s) u (entry_at c.args.sig c.args.uid s) (o c.args.host.now) (o c.find_large.new.host) (c.find_large.ensures.costs tells s stands)
 
 pub patch_object-requires-clause-kept : goal.patch_object-requires-clause-kept
 patch_object-requires-clause-kept g c =
@@ -133,7 +135,7 @@ returns-in-Ok-clause-costs g c = λ tells minute s stands.
     let there : map.get stands.texts x ≡ Some l.bytes = text-there cat s (image u m) stands c.args.sig c.args.uid c.args.node x l in
     let b : List ℕ = c.list.result.now in
     subst (λ (b : List ℕ). IsOpenFor (most_bytes (Patch c.args.sig c.args.uid c.args.node c.args.at b) (blocks_of (image u m)) minute s) (image u m)
-    → Spends u (most_bytes (Patch c.args.sig c.args.uid c.args.node c.args.at b) (blocks_of (image u m)) minute s) (512 * pages_of_entry (entry_in c.args.sig c.args.uid s)) (o c.args.host.now) (o c.patch_object.new.host)) c.list.ensures
+    → Spends u (most_bytes (Patch c.args.sig c.args.uid c.args.node c.args.at b) (blocks_of (image u m)) minute s) (512 * pages_of_entry (entry_at c.args.sig c.args.uid s)) (o c.args.host.now) (o c.patch_object.new.host)) c.list.ensures
     (patch-spends cat s (image u m) stands c.args.sig c.args.uid c.args.node x l c.args.at b (blocks_of (image u m)) minute u (o c.args.host.now) (o c.find_large.new.host) (o c.patch_object.new.host) (c.find_large.ensures.costs tells s stands)
     (λ room. with-unit (λ (v : ℕ). Spends v (patch_bytes (length b)) (512 * parts_met c.args.at (length b)) (o c.find_large.new.host) (o c.patch_object.new.host)) u' u c.find_large.ensures.same.0
     (c.patch_object.ensures.bound tells (subst (λ (i : List ℕ). IsOpenFor (patch_bytes (length b)) i) (sym e) room)))
@@ -210,7 +212,7 @@ returns-in-Err-clause-costs g c = λ tells minute s stands.
     let there : map.get stands.texts x ≡ Some l.bytes = text-there cat s (image u m) stands c.args.sig c.args.uid c.args.node x l in
     let b : List ℕ = c.list.result.now in
     subst (λ (b : List ℕ). IsOpenFor (most_bytes (Patch c.args.sig c.args.uid c.args.node c.args.at b) (blocks_of (image u m)) minute s) (image u m)
-    → Spends u (most_bytes (Patch c.args.sig c.args.uid c.args.node c.args.at b) (blocks_of (image u m)) minute s) (512 * pages_of_entry (entry_in c.args.sig c.args.uid s)) (o c.args.host.now) (o c.patch_object.new.host)) c.list.ensures
+    → Spends u (most_bytes (Patch c.args.sig c.args.uid c.args.node c.args.at b) (blocks_of (image u m)) minute s) (512 * pages_of_entry (entry_at c.args.sig c.args.uid s)) (o c.args.host.now) (o c.patch_object.new.host)) c.list.ensures
     (patch-spends cat s (image u m) stands c.args.sig c.args.uid c.args.node x l c.args.at b (blocks_of (image u m)) minute u (o c.args.host.now) (o c.find_large.new.host) (o c.patch_object.new.host) (c.find_large.ensures.costs tells s stands)
     (λ room. with-unit (λ (v : ℕ). Spends v (patch_bytes (length b)) (512 * parts_met c.args.at (length b)) (o c.find_large.new.host) (o c.patch_object.new.host)) u' u c.find_large.ensures.same.0
     (c.patch_object.ensures.bound tells (subst (λ (i : List ℕ). IsOpenFor (patch_bytes (length b)) i) (sym e) room)))

@@ -3,7 +3,7 @@ use Rattle.newt_pagebook.proofs.Tests.{some_inj}
 use Rattle.newt_objects.specs.Held.{held}
 use Rattle.newt_spec_graph.specs.Lists.{Among}
 use Rattle.newt_soupdir.specs.Bare.{bare_soup, bare_store}
-use Rattle.newt_soupdir.specs.Changes.{take_uid_of}
+use Rattle.newt_spec_store.specs.Store.{take_uid_of}
 use Rattle.newt_soupdir.specs.declared.rows.Directory.{Directory}
 use Rattle.newt_shelf.specs.Batch.{HasIds, large_ids}
 use Rattle.newt_shelf.specs.declared.batch.NewEntry.{NewEntry}

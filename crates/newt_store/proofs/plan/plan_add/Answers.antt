@@ -1,7 +1,7 @@
 use Rattle.std.proofs.Common.{◌<◌, sym, ◌∙◌, ap, arith}
 use Rattle.std.specs.Option.{is_some}
 use Rattle.newt_soupdir.specs.Bare.{bare_soup, bare_store}
-use Rattle.newt_soupdir.specs.Changes.{soup_of}
+use Rattle.newt_spec_store.specs.Store.{soup_of}
 use Rattle.newt_store.proofs.Planned.{seen-some}
 use Rattle.newt_store.proofs.Adding.{row-is, row-room, is-valid-graph, small-is, add-no-soup, add-no-frame, add-size, add-ids, add-planned, last-ids}
 use Rattle.newt_store.proofs.plan.plan_add.Goals as goal

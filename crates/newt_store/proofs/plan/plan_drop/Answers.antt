@@ -1,7 +1,7 @@
 use Rattle.std.proofs.Common.{◌≡◌, true, not, ◌∙◌, ap}
 use Rattle.std.specs.Option.{is_some}
 use Rattle.newt_soupdir.specs.Bare.{bare_store}
-use Rattle.newt_soupdir.specs.Changes.{soup_of, without_soup}
+use Rattle.newt_spec_store.specs.Store.{soup_of, without_soup}
 use Rattle.newt_soupdir.specs.declared.rows.Directory.{Directory}
 use Rattle.newt_store.proofs.Planned.{seen-some, formed-dropped, drop-refused, drop-planned, next-plain}
 use Rattle.newt_store.specs.declared.next.Gone.TheVariants.{AllOf}

@@ -2,13 +2,12 @@ use Rattle.std.proofs.Common.{◌≡◌, ℕ, ◌*◌, ◌<◌, not, Some, sym, 
 use Rattle.std.specs.Option.{is_some}
 use Rattle.newt_graph.specs.Graph.{RawGraph}
 use Rattle.newt_host.specs.Outside.{Spends}
-use Rattle.newt_spec_store.specs.Store.{Entry}
+use Rattle.newt_spec_store.specs.Store.{Entry, soup_of, entry_at}
 use Rattle.newt_soupdir.specs.Bare.{bare_soup, bare_store}
-use Rattle.newt_soupdir.specs.Changes.{soup_of}
 use Rattle.newt_shelf.specs.Names.{names_of}
 use Rattle.newt_shelf.specs.Places.{place_of}
 use Rattle.newt_store.specs.declared.next.Gone.TheVariants.{OneEntry}
-use Rattle.newt_store.specs.Change.{entry_in, pages_of_entry}
+use Rattle.newt_store.specs.Change.{pages_of_entry}
 use Rattle.newt_store.specs.Next.{IsAdding}
 use Rattle.newt_store.proofs.Planned.{reads-nothing, seen-some}
 use Rattle.newt_store.proofs.Adding.{row-is, row-room, last-ids}
@@ -58,16 +57,16 @@ returns-clause-planned g c = λ tells s stands.
     (subst (λ (x : RawGraph). IsAdding cat row.sig row.next_uid c.args.now x (OneEntry c.args.source c.args.uid) c.in_ok-next.next) graph c.in_ok-next.ensures.adds)
 
 pub returns-then-is_none-clause-costs : goal.returns-then-is_none-clause-costs
-returns-then-is_none-clause-costs g c = λ tells s stands. reads-nothing (g.P.PageBook.place c.args.book.now) (512 * pages_of_entry (entry_in c.args.source c.args.uid s)) (g.H.Host.outside c.args.host.now)
+returns-then-is_none-clause-costs g c = λ tells s stands. reads-nothing (g.P.PageBook.place c.args.book.now) (512 * pages_of_entry (entry_at c.args.source c.args.uid s)) (g.H.Host.outside c.args.host.now)
 
 pub returns-in_default-clause-costs : goal.returns-in_default-clause-costs
-returns-in_default-clause-costs g c = λ tells s stands. reads-nothing (g.P.PageBook.place c.args.book.now) (512 * pages_of_entry (entry_in c.args.source c.args.uid s)) (g.H.Host.outside c.args.host.now)
+returns-in_default-clause-costs g c = λ tells s stands. reads-nothing (g.P.PageBook.place c.args.book.now) (512 * pages_of_entry (entry_at c.args.source c.args.uid s)) (g.H.Host.outside c.args.host.now)
 
 pub returns-in_default-get-clause-costs : goal.returns-in_default-get-clause-costs
-returns-in_default-get-clause-costs g c = λ tells s stands. reads-nothing (g.P.PageBook.place c.args.book.now) (512 * pages_of_entry (entry_in c.args.source c.args.uid s)) (g.H.Host.outside c.args.host.now)
+returns-in_default-get-clause-costs g c = λ tells s stands. reads-nothing (g.P.PageBook.place c.args.book.now) (512 * pages_of_entry (entry_at c.args.source c.args.uid s)) (g.H.Host.outside c.args.host.now)
 
 pub returns-then-row-eq-LAST_ID-clause-costs : goal.returns-then-row-eq-LAST_ID-clause-costs
-returns-then-row-eq-LAST_ID-clause-costs g c = λ tells s stands. reads-nothing (g.P.PageBook.place c.args.book.now) (512 * pages_of_entry (entry_in c.args.source c.args.uid s)) (g.H.Host.outside c.args.host.now)
+returns-then-row-eq-LAST_ID-clause-costs g c = λ tells s stands. reads-nothing (g.P.PageBook.place c.args.book.now) (512 * pages_of_entry (entry_at c.args.source c.args.uid s)) (g.H.Host.outside c.args.host.now)
 
 pub returns-in_err-entry-clause-costs : goal.returns-in_err-entry-clause-costs
 returns-in_err-entry-clause-costs g c = λ tells s stands.

@@ -1,7 +1,7 @@
 use Rattle.std.proofs.Common.{not, sym, ◌∙◌, ap}
 use Rattle.std.specs.Option.{is_some}
 use Rattle.newt_soupdir.specs.Bare.{bare_store}
-use Rattle.newt_soupdir.specs.Changes.{soup_of}
+use Rattle.newt_spec_store.specs.Store.{soup_of}
 use Rattle.newt_store.proofs.Planned.{seen-some, remove-no-soup, remove-no-entry, remove-planned}
 use Rattle.newt_store.proofs.plan.plan_remove.Goals as goal
 

@@ -7,7 +7,7 @@ use Rattle.newt_shelf.specs.Batch.{HasIds, large_ids}
 use Rattle.newt_shelf.specs.Places.{place_of}
 use Rattle.newt_shelf.specs.declared.batch.NewEntry.{NewEntry}
 use Rattle.newt_soupdir.specs.Bare.{bare_store}
-use Rattle.newt_soupdir.specs.Changes.{soup_of}
+use Rattle.newt_spec_store.specs.Store.{soup_of}
 use Rattle.newt_soupdir.specs.declared.rows.Directory.{Directory}
 use Rattle.newt_store.specs.declared.next.Gone.TheVariants.{Nothing}
 use Rattle.newt_store.specs.Next.{IsFree}

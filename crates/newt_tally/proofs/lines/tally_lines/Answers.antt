@@ -2,12 +2,13 @@ use Rattle.std.proofs.Common.{◌≡◌, length, [], ◌∷◌, Bool, refl, sym,
 use Rattle.std.proofs.lemmas.Grind.{common_steps}
 use Rattle.std.proofs.lemmas.Result.{err_from_is_err_and}
 use Rattle.newt_host.proofs.Moments.{Always-last}
+use Rattle.newt_host.proofs.Outside.{OnDevices-refl, OnDevices-append}
 use Rattle.newt_session.specs.Lines.{lines_of}
 use Rattle.newt_session.specs.Script.{commands_of}
 use Rattle.newt_session.proofs.Counting.{goes-on_devices}
 use Rattle.newt_session.proofs.Crashing.{its_now}
 use Rattle.newt_session.proofs.Halting.{write_cause}
-use Rattle.newt_tally.proofs.Moving.{alone-refl, alone-trans, tallied_start, tallied_part, tallied_more, all_counted, all_behind}
+use Rattle.newt_tally.proofs.Moving.{tallied_start, tallied_part, tallied_more, all_counted, all_behind}
 use Rattle.newt_tally.proofs.Tallying.{line_goes, line_stops, line_some, no_more}
 use Rattle.newt_tally.proofs.lines.tally_lines.Goals as goal
 
@@ -23,7 +24,7 @@ loop-rest-init g c =
           let its = its_now it.store_of_image before.now w before.now (λ unit none. refl) (λ unit store left e may. g.met.I.Interpreter.leaves c.args.interpreter.now before stands unit store left e may) in
           tallied_start it.answer it.store_of_image before.now w (commands_of (lines_of c.args.script.now)) _ c.new-tally.ensures.none its;
       room = omega (arith, c.new-tally.ensures.zero);
-      alone = alone-refl _;
+      alone = OnDevices-refl _;
     }
 
 pub loop-rest-preserved : goal.loop-rest-preserved
@@ -39,7 +40,7 @@ loop-rest-preserved g c =
           (line_goes c.loop-rest.rest.now c.next_line-cut.result.0.now c.next_line-cut.result.1.now c.next_line-cut.ensures.lines go)
           (c.turn.ensures.moments told start k.untouched) (c.in_ok-ends.ensures.world told) (c.in_ok-ends.ensures.untouched told start k.untouched) (c.in_ok-ends.ensures.counts told);
       room = omega (arith, c.loop-rest.invariant.room, c.in_ok-ends.ensures.few, c.next_line-cut.ensures.shorter);
-      alone = alone-trans c.loop-rest.invariant.alone c.turn.ensures.alone;
+      alone = OnDevices-append c.loop-rest.invariant.alone c.turn.ensures.alone;
     }
 
 -- ---- a line was not answered
@@ -64,7 +65,7 @@ returns-in_err-ends-clause-cause g c =
     rw (p.1, p.2) (write_cause c.in_err-ends.field-0.0 _ _ _ c.in_err-ends.ensures.cause (goes-on_devices c.loop-rest.invariant.alone))
 
 pub returns-in_err-ends-clause-alone : goal.returns-in_err-ends-clause-alone
-returns-in_err-ends-clause-alone g c = alone-trans c.loop-rest.invariant.alone c.turn.ensures.alone
+returns-in_err-ends-clause-alone g c = OnDevices-append c.loop-rest.invariant.alone c.turn.ensures.alone
 
 -- ---- a line ended the script
 
@@ -111,7 +112,7 @@ returns-then-ends-clause-quiet g c = λ told.
     (Always-last (c.turn.ensures.moments told start k.untouched)).quiet ∙ k.quiet
 
 pub returns-then-ends-clause-alone : goal.returns-then-ends-clause-alone
-returns-then-ends-clause-alone g c = alone-trans c.loop-rest.invariant.alone c.turn.ensures.alone
+returns-then-ends-clause-alone g c = OnDevices-append c.loop-rest.invariant.alone c.turn.ensures.alone
 
 -- ---- no line is left
 

@@ -1,5 +1,5 @@
 use Rattle.std.proofs.Common.{IsTrue, ◌≤◌, ◌+◌, length}
-use Rattle.newt_session.specs.Causes.{OnDevices}
+use Rattle.newt_host.specs.Outside.{OnDevices}
 use Rattle.newt_session.specs.Lines.{lines_of}
 use Rattle.newt_session.specs.Script.{commands_of}
 use Rattle.newt_tally.proofs.Moving.{Tallied}

@@ -4,11 +4,10 @@ use Rattle.std.specs.Prelude.{is_some}
 use Rattle.newt_cursor.specs.Seen.{query_of}
 use Rattle.newt_spec_world.specs.World.{World}
 use Rattle.newt_laws_answers.specs.There.{OnUnit}
-use Rattle.newt_cardstore.specs.Cards.{entry_said}
+use Rattle.newt_cardstore.specs.Cards.{entry_said, plain_entry}
 use Rattle.newt_units.specs.Stands.{Stands, Eight, world_of}
 use Rattle.newt_units.proofs.Known.{Laws}
 use Rattle.newt_units.proofs.Resolving.{showing-card}
-use Rattle.newt_walk.specs.Present.{entry_of}
 use Rattle.newt_walk.proofs.Presence.{no-store-present, no-entry-present, other-soup-present, there-present}
 use Rattle.newt_walk.proofs.Stores.{stores-formed, shows-some, shows-none}
 use Rattle.newt_walk.proofs.present.find_hit.Goals as goal
@@ -51,7 +50,7 @@ returns-in_ok-kept-in-Some-2-clause-found g c t apart =
     let on2 = subst (λ (v : World). OnUnit v c.in-Some.unit k.blocks k.store) (sym (c.in_ok-entry.ensures.world t)) k.on in
     c.in_ok-kept-in-Some-2.ensures.found p eight2 stand2 k.blocks k.store on2
     ∙ there-present w (query_of c.args.query.now) c.args.store c.args.soup c.args.uid apart (stores-formed laws c.args.units.now o eight stand) c.in-Some.unit k.store k.found k.found_with k.sig_is
-    (λ p at. sym (c.if-not-takes_part.ensures o eight stand k.blocks k.store p k.on at)) (entry_of c.in-Some-2.entry)
+    (λ p at. sym (c.if-not-takes_part.ensures o eight stand k.blocks k.store p k.on at)) (plain_entry c.in-Some-2.entry)
     (sym (ap entry_said c.in-Some-2.is) ∙ c.in_ok-entry.ensures.read t k.blocks k.store k.on)
 
 pub returns-in-None-clause-found : goal.returns-in-None-clause-found

@@ -2,17 +2,18 @@
 use Rattle.std.proofs.Common.{◌∙◌, ap, sym, Option, option_map}
 use Rattle.newt_spec_store.specs.Store.{TagTable}
 use Rattle.newt_pass.specs.Kept.{kept_key}
-use Rattle.newt_walk.specs.Present.{Present, entry_of}
+use Rattle.newt_cardstore.specs.Cards.{plain_entry}
+use Rattle.newt_walk.specs.Present.{Present}
 use Rattle.newt_walk.proofs.present.kept.Goals as goal
 
 pub returns-in-Some-clause-found : goal.returns-in-Some-clause-found
 returns-in-Some-clause-found g c outside eight stands blocks s on =
-    ap (option_map {U = Present} (λ k. record { unit = c.args.unit; key = k; entry = entry_of c.args.entry }))
+    ap (option_map {U = Present} (λ k. record { unit = c.args.unit; key = k; entry = plain_entry c.args.entry }))
     (sym c.in-Some.is ∙ c.in_ok-found.ensures.value
     ∙ ap (λ (table : Option TagTable). kept_key c.args.query.now.spec table c.args.entry.graph) (c.table_on-table.ensures outside eight stands blocks s on))
 
 pub returns-in-None-clause-found : goal.returns-in-None-clause-found
 returns-in-None-clause-found g c outside eight stands blocks s on =
-    ap (option_map {U = Present} (λ k. record { unit = c.args.unit; key = k; entry = entry_of c.args.entry }))
+    ap (option_map {U = Present} (λ k. record { unit = c.args.unit; key = k; entry = plain_entry c.args.entry }))
     (sym c.in-None.is ∙ c.in_ok-found.ensures.value
     ∙ ap (λ (table : Option TagTable). kept_key c.args.query.now.spec table c.args.entry.graph) (c.table_on-table.ensures outside eight stands blocks s on))

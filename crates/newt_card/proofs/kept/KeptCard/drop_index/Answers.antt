@@ -5,8 +5,7 @@ use Rattle.newt_catalog.specs.Readable.{readable}
 use Rattle.newt_card.specs.Stands.{StandsOn}
 use Rattle.newt_laws_answers.specs.Bounds.{change_bytes}
 use Rattle.newt_spec_store.specs.Keys.{Path}
-use Rattle.newt_spec_store.specs.Store.{change_soup}
-use Rattle.newt_spec_world.specs.Changed.{without_index}
+use Rattle.newt_spec_store.specs.Store.{change_soup, without_index}
 use Rattle.newt_cardstore.specs.Bounds.{ProgramsAtMost}
 use Rattle.newt_card.proofs.Bounds.{programs-none}
 use Rattle.newt_card.proofs.Commands.{copied-does, copied-leaves, leaves-index}

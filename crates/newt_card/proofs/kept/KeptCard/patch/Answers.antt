@@ -3,7 +3,8 @@ use Rattle.newt_host.specs.Moments.{image}
 use Rattle.newt_host.proofs.Outside.{Touches-refl}
 use Rattle.newt_catalog.specs.Readable.{readable}
 use Rattle.newt_card.specs.Stands.{StandsOn}
-use Rattle.newt_laws_answers.specs.Bounds.{patch_bytes, unless}
+use Rattle.newt_spec_store.specs.Cost.{patch_bytes}
+use Rattle.newt_laws_answers.specs.Bounds.{unless}
 use Rattle.newt_laws_answers.specs.Tests.{patch_tests}
 use Rattle.newt_cardstore.specs.Bounds.{ProgramsAtMost}
 use Rattle.newt_card.proofs.Bounds.{programs-none}

@@ -1,11 +1,12 @@
 -- The units do it.
 use Rattle.std.proofs.Common.{arith, ℕ, List, refl}
 use Rattle.std.proofs.lemmas.Result.{err_from_is_err_and}
+use Rattle.newt_host.proofs.Outside.{OnDevices-refl}
 use Rattle.newt_spec_world.specs.Reply.{Reply as plain}
 use Rattle.newt_engine.specs.Laws.{laws_of}
 use Rattle.newt_units.specs.Stands.{Eight}
 use Rattle.newt_engine.proofs.Costing.{done_costs, fault_costs, format_costs, goes_back, still_costs}
-use Rattle.newt_engine.proofs.Handed.{handed, has_cause, quiet, still_devices, told_stands}
+use Rattle.newt_engine.proofs.Handed.{handed, has_cause, quiet, told_stands}
 use Rattle.newt_engine.proofs.world.World.obey_on_store.Goals as goal
 
 pub returns-in_err-format-in-Format-clause-answered : goal.returns-in_err-format-in-Format-clause-answered
@@ -37,7 +38,7 @@ returns-in_default g c =
       moments = λ t. quiet (laws_of g.met.C.Card.formed g.met.C.Card.plain g.met.C.Card.durable g.met.C.Card.banks g.met.C.Card.kept) g.H.Host.told c.args.self.now.units (g.H.Host.outside c.args.host.now) eight c.requires.stands t _;
       desk = c.obey_in_memory.ensures.desk;
       costs = λ t. still_costs refl (λ u. omega arith);
-      alone = still_devices (g.H.Host.outside c.args.host.now);
+      alone = OnDevices-refl (g.H.Host.outside c.args.host.now);
       cause = has_cause _ _ _ c.obey_in_memory.ensures.device;
       ends = c.obey_in_memory.ensures.ends;
       device = λ uses_none. c.obey_in_memory.ensures.device;

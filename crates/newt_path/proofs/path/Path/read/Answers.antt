@@ -4,11 +4,12 @@ use Rattle.std.proofs.lemmas.List.{length-map}
 use Rattle.std.proofs.lemmas.Iterator.Splits.{YieldsList-from_slice_split}
 use Rattle.std.proofs.lemmas.Iterator.Consumers.{YieldsList-turn, YieldsList-end}
 use Rattle.std.proofs.lemmas.Bool.Decides.{nat_tests}
-use Rattle.newt_path.specs.Names.{path_of, is_slot_name}
+use Rattle.newt_base.specs.Names.{is_identifier}
+use Rattle.newt_path.specs.Names.{path_of}
 use Rattle.std.specs.List.{list_all}
 use Rattle.newt_path.proofs.Reading.{pieces, too_many, no_name, path_is, all_names, names_are_path}
 use Rattle.newt_path.proofs.path.Path.read.Goals as goal
-use Rattle.newt_path.proofs.path.Path.read.Goals.{then-len-ge-MOST-via-then-len-ge-MOST, then-len-ge-MOST-via-else-len-ge-MOST+then-not-is_slot_name}
+use Rattle.newt_path.proofs.path.Path.read.Goals.{then-len-ge-MOST-via-then-len-ge-MOST, then-len-ge-MOST-via-else-len-ge-MOST+then-not-is_identifier}
 
 pub returns-then-len-ge-MOST-clause-path : goal.returns-then-len-ge-MOST-clause-path
 returns-then-len-ge-MOST-clause-path c = λ is.
@@ -17,7 +18,7 @@ returns-then-len-ge-MOST-clause-path c = λ is.
     let size : length c.loop-name.items.items ≡ length c.loop-name.yielded = ap length c.loop-name.invariant.2 ∙ length-map c.loop-name.yielded (λ x. x.now) in
     elim c.then-len-ge-MOST.branch [
       | then-len-ge-MOST-via-then-len-ge-MOST w ↦ too_many c.args.text.now (length c.loop-name.yielded) t.0 (search rules)
-      | then-len-ge-MOST-via-else-len-ge-MOST+then-not-is_slot_name w ↦ no_name c.args.text.now (length c.loop-name.yielded) c.in-Some.name.now t.0 t.1 (search rules)
+      | then-len-ge-MOST-via-else-len-ge-MOST+then-not-is_identifier w ↦ no_name c.args.text.now (length c.loop-name.yielded) c.in-Some.name.now t.0 t.1 (search rules)
     ]
 
 pub invariant_of-result : goal.invariant_of-result
@@ -34,4 +35,4 @@ returns-clause-ok c =
     let t = YieldsList-end road c.loop-name.yielded _ c.loop-name.yielded_by _ _ c.in-None.is c.next.ensures.steps in
     let names = c.loop-name.items.items in
     let all : names ≡ pieces c.args.text.now = c.loop-name.invariant.2 ∙ t.0 in
-    subst (λ (ns : List (List ℕ)). path_of c.args.text.now ≡ Some ns) (sym all) (path_is c.args.text.now (all_names c.args.text.now (pieces c.args.text.now) refl (subst (λ (ns : List (List ℕ)). length ns ≤ 8) all c.loop-name.invariant.3) (subst (λ (ns : List (List ℕ)). list_all is_slot_name ns ≡ true) all c.loop-name.invariant.4)))
+    subst (λ (ns : List (List ℕ)). path_of c.args.text.now ≡ Some ns) (sym all) (path_is c.args.text.now (all_names c.args.text.now (pieces c.args.text.now) refl (subst (λ (ns : List (List ℕ)). length ns ≤ 8) all c.loop-name.invariant.3) (subst (λ (ns : List (List ℕ)). list_all is_identifier ns ≡ true) all c.loop-name.invariant.4)))

@@ -3,8 +3,7 @@ use Rattle.std.proofs.Common.{sym, refl, []}
 use Rattle.std.specs.Bool.{⊤}
 use Rattle.newt_laws_answers.specs.Bounds.{change_bytes, unless}
 use Rattle.newt_laws_answers.specs.Tests.{index_tests}
-use Rattle.newt_spec_store.specs.Store.{change_soup}
-use Rattle.newt_spec_world.specs.Changed.{with_index}
+use Rattle.newt_spec_store.specs.Store.{change_soup, with_index}
 use Rattle.newt_units.proofs.Calls.{Called, mounted-bound, not-there, cause-of, on-devices, call-stands, call-does, call-moments, call-costs}
 use Rattle.newt_units.specs.Stands.{Eight}
 use Rattle.newt_units.proofs.Known.{Laws}

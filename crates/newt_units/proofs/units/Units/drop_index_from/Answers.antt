@@ -1,8 +1,7 @@
 -- A call on the card of the unit changes the unit's store alone.
 use Rattle.std.proofs.Common.{sym, refl, []}
 use Rattle.std.specs.Bool.{⊤}
-use Rattle.newt_spec_store.specs.Store.{change_soup}
-use Rattle.newt_spec_world.specs.Changed.{without_index}
+use Rattle.newt_spec_store.specs.Store.{change_soup, without_index}
 use Rattle.newt_laws_answers.specs.Bounds.{change_bytes}
 use Rattle.newt_units.proofs.Calls.{Called, mounted-bound, not-there, cause-of, on-devices, call-stands, call-does, call-moments, call-costs}
 use Rattle.newt_units.specs.Stands.{Eight}

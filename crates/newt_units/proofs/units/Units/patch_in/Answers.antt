@@ -1,7 +1,8 @@
 -- A call on the card of the unit changes the unit's store alone.
 use Rattle.std.proofs.Common.{sym, refl, length}
 use Rattle.std.specs.Bool.{⊤}
-use Rattle.newt_laws_answers.specs.Bounds.{patch_bytes, unless}
+use Rattle.newt_spec_store.specs.Cost.{patch_bytes}
+use Rattle.newt_laws_answers.specs.Bounds.{unless}
 use Rattle.newt_laws_answers.specs.Tests.{patch_tests, patched_within}
 use Rattle.newt_units.proofs.Calls.{Called, mounted-bound, not-there, cause-of, on-devices, call-stands, call-does, call-moments, call-costs}
 use Rattle.newt_units.specs.Stands.{Eight}

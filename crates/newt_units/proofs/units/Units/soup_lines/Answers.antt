@@ -3,7 +3,7 @@ use Rattle.std.proofs.Common.{ap, sym, ◌∙◌, ℕ, List, map, Option, Some}
 use Rattle.newt_reply.specs.Said.{soup_row}
 use Rattle.newt_spec_graph.proofs.Lists.{some-same}
 use Rattle.newt_spec_store.specs.Laid.{bare}
-use Rattle.newt_cardstore.specs.Cards.{count_in, soup_of}
+use Rattle.newt_spec_store.specs.Store.{count_in, soup_of}
 use Rattle.newt_units.proofs.Rows.{row-next, row-past, rows-whole}
 use Rattle.newt_units.proofs.units.Units.soup_lines.Goals as goal
 

@@ -1,7 +1,7 @@
 use Rattle.std.proofs.Common.{◌≡◌, length}
 use Rattle.newt_base.specs.Names.{same_name}
 use Rattle.newt_spec_graph.specs.Lists.{all_apart}
-use Rattle.newt_soupdir.proofs.identifiers.are_symbols_apart.Given as goal
+use Rattle.newt_soupdir.proofs.symbols.are_symbols_apart.Given as goal
 
 abbrev pub invariant-loop-left : goal.invariant-loop-left
 invariant-loop-left l = all_apart same_name l.left ≡ all_apart same_name l.symbols
