@@ -6,7 +6,7 @@ use Rattle.newt_spec_store.specs.Store.{Store, Soup, Entry, soup_named, change_s
 use Rattle.newt_spec_store.specs.Valid.{well_formed, valid_soup}
 use Rattle.newt_spec_graph.specs.Lists.{Among}
 use Rattle.newt_laws_changes.specs.Later.{EntryGone, SoupGone}
-use Rattle.newt_laws_changes.proofs.Chosen.{find-passes, first-among}
+use Rattle.newt_laws_images.proofs.Chosen.{find-passes, first-among}
 use Rattle.newt_spec_graph.proofs.Lists.{each-at, each-list_all, among-filter, rises-above, both-ways}
 use Rattle.newt_laws.proofs.Soups.{is-store, IsSoup, is-soup, with-soup, without-entry}
 use Rattle.newt_laws_images.proofs.Assembled.{map-among, one-sig}

@@ -17,7 +17,7 @@ use Rattle.newt_spec_graph.specs.Lists.{Each, Pairs, Among}
 use Rattle.newt_laws.specs.Settled.{IsSettled}
 use Rattle.newt_spec_graph.proofs.Lists.{each-at, among-filter, some-same, none-some}
 use Rattle.newt_laws.proofs.Found.{Other}
-pub use Rattle.newt_laws_changes.proofs.Chosen.{find-passes}
+pub use Rattle.newt_laws_images.proofs.Chosen.{find-passes}
 
 -- ---- to settle twice
 

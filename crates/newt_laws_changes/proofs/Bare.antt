@@ -9,7 +9,7 @@ use Rattle.newt_spec_graph.proofs.Lists.{each-from, each-more, both-ways}
 use Rattle.newt_spec_store.specs.Laid.{bare}
 use Rattle.newt_spec_store.specs.Store.{Store, Soup, change_first, change_soup, make_soup, drop_soup, add_entry, remove_entry, soup_of, without_soup, uid_taken, take_uid_of}
 use Rattle.newt_spec_store.specs.Valid.{well_formed}
-use Rattle.newt_laws_changes.proofs.Chosen.{same-text, soup-there}
+use Rattle.newt_laws_images.proofs.Chosen.{same-text, soup-there}
 use Rattle.newt_laws_changes.proofs.Members.{same-sig, same-name}
 use Rattle.newt_laws_changes.proofs.Soups.{first-map}
 

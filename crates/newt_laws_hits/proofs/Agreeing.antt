@@ -20,7 +20,7 @@ use Rattle.newt_spec_store.specs.declared.Order.TheVariants as order
 use Rattle.newt_spec_store.specs.Keys.{IndexPart, IndexSpec, Path, Part, key, part_of, if_first_is_there, same_kind, same_direction, same_part, same_spec}
 use Rattle.newt_spec_store.specs.Store.{Soup}
 use Rattle.newt_spec_query.specs.Hits.{carries}
-use Rattle.newt_laws_changes.proofs.Chosen.{find-passes}
+use Rattle.newt_laws_images.proofs.Chosen.{find-passes}
 use Rattle.newt_index.specs.Pairs.{Sorted, parts_of}
 use Rattle.newt_index.specs.Range.{range_of}
 use Rattle.newt_ranges.specs.Range.{range_of_soup}

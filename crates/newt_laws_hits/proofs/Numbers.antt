@@ -10,7 +10,7 @@ use Rattle.newt_spec_store.specs.Store.{Entry, Soup, Store, soup_named}
 use Rattle.newt_spec_store.specs.Sorted.{insert_by, sorted_by}
 use Rattle.newt_spec_store.specs.Valid.{well_formed}
 use Rattle.newt_spec_query.specs.Hits.{Query, Hit, hits, hit_cmp, in_scope}
-use Rattle.newt_laws_changes.proofs.Chosen.{soup-good}
+use Rattle.newt_laws_images.proofs.Chosen.{soup-good}
 use Rattle.newt_laws_changes.proofs.Soups.{filter-length}
 use Rattle.newt_laws.proofs.Found.{Apart}
 use Rattle.newt_index.specs.Pairs.{Pair, Sorted, parts_of, pair_cmp}

@@ -22,7 +22,7 @@ use Rattle.newt_laws_images.proofs.Known.{bare-good}
 use Rattle.newt_laws_images.proofs.Records.{push-length}
 use Rattle.newt_laws_images.proofs.Stores.{is-soup, soup-is}
 use Rattle.newt_laws_changes.proofs.Bare.{change-map, bool-same}
-use Rattle.newt_laws_changes.proofs.Chosen.{same-text, soup-there, found_by_name}
+use Rattle.newt_laws_images.proofs.Chosen.{same-text, soup-there, found_by_name}
 use Rattle.newt_laws_changes.proofs.Costs.{costs-less, directory-length, soup-length, total-filter, total-first}
 use Rattle.newt_laws_changes.proofs.Members.{same-sig, same-name}
 use Rattle.newt_laws_changes.proofs.Replaced.{declared_lies}

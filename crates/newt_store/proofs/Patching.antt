@@ -37,7 +37,7 @@ use Rattle.newt_spec_store.specs.Store.{Soup, Store, Entry, entry_of, soup_named
 use Rattle.newt_spec_store.specs.StoreOf.{EntryRow as PlainRow, LargeRow, fill, written}
 use Rattle.newt_laws_images.proofs.Made.{map-length}
 use Rattle.newt_laws_images.proofs.Records.{larges_from, record-back, entry-length}
-use Rattle.newt_laws_changes.proofs.Chosen.{found_by_name}
+use Rattle.newt_laws_images.proofs.Chosen.{found_by_name}
 use Rattle.newt_laws_changes.proofs.Counting.{cost-patched}
 use Rattle.newt_laws_changes.proofs.Formed.{patched_formed}
 use Rattle.newt_laws_changes.proofs.Patched.{get-among, with_patch}

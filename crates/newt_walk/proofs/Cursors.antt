@@ -7,7 +7,7 @@ use Rattle.newt_spec_store.specs.Keys.{Key}
 use Rattle.newt_spec_query.specs.Hits.{Hit}
 use Rattle.newt_spec_query.specs.Cursor.{Place, start, finish, on, Cursor, hit_at, settled, same_identity}
 use Rattle.newt_spec_world.specs.World.{World, change_at, flat, hits_of, settle_cursor}
-use Rattle.newt_laws_changes.proofs.Chosen.{find-passes}
+use Rattle.newt_laws_images.proofs.Chosen.{find-passes}
 use Rattle.newt_laws.proofs.Settled.{three-equal}
 use Rattle.newt_cursor.specs.Desk.{keyed, with_key}
 use Rattle.newt_keys.specs.KeyForm.{IsKeyOf}

@@ -18,7 +18,7 @@ use Rattle.newt_host.specs.Outside.{Outside}
 use Rattle.newt_index.specs.declared.identity.Spot.{Spot}
 use Rattle.newt_cursor.specs.Seen.{hit_of}
 use Rattle.newt_keys.specs.KeyForm.{IsKeyOf}
-use Rattle.newt_laws_changes.proofs.Chosen.{find-passes}
+use Rattle.newt_laws_images.proofs.Chosen.{find-passes}
 use Rattle.newt_laws_hits.proofs.Agreeing.{kind-same, direction-same}
 use Rattle.newt_index.specs.Pairs.{Pair, IsPair, IsSorted, Sorted, parts_of}
 use Rattle.newt_index.specs.Range.{range_of}

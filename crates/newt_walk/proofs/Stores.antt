@@ -11,7 +11,7 @@ use Rattle.newt_spec_store.specs.Store.{Store}
 use Rattle.newt_spec_store.specs.Valid.{well_formed}
 use Rattle.newt_spec_world.specs.First.{media_of, unit_numbers}
 use Rattle.newt_spec_world.specs.World.{World, Device, on_unit, mounted, mounted_stores, store_of}
-use Rattle.newt_laws_changes.proofs.Chosen.{find-passes}
+use Rattle.newt_laws_images.proofs.Chosen.{find-passes}
 use Rattle.newt_laws_answers.specs.Faces.{first_showing}
 use Rattle.newt_laws_answers.specs.There.{OnUnit}
 use Rattle.newt_laws_answers.specs.WorldAt.{device_at}
