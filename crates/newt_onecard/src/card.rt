@@ -22,14 +22,14 @@ pub struct OneCard<P: PageBook> {
 }
 
 impl<P: PageBook> Model for OneCard<P> {
-    ghost use Rattle.std.specs.Prelude.{true};
-    ghost use Rattle.newt_host.specs.Outside.{Outside};
+    ghost use Rattle.std.specs.Prelude.{true, ℕ, List};
+    ghost use Rattle.newt_host.specs.Moments.{image};
     ghost use Rattle.newt_memhost.specs.Outside.{outside_of};
     ghost use Rattle.newt_catalog.specs.Stands.{IsSound};
 
-    ghost Value = { Outside };
+    ghost Value = { List ℕ };
 
-    ghost view = { λ card. outside_of card.host };
+    ghost view = { λ card. image 0 (outside_of card.host).now };
 
     ghost invariant = { λ card. P.stands true card.store.book (outside_of card.host) × IsSound true card.store.catalog (P.numbers card.store.book) (P.place card.store.book) (outside_of card.host) };
 }

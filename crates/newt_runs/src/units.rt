@@ -27,6 +27,10 @@ fn formats_and_mounts_a_unit(rt: HostRuntime) -> Result<(), Fail> {
 const FIRST_RECORD: &[u8] =
     b"NSTORE\x00\x01\x00\x00\x00\x00\x00\x00\x00\x00\x00\x00\x00\x02\x08\x00\x01\x00\x00\x00\x00\x00\x00\x00\x00\x00\x00\x00\x00\x00\x00\x00\x00\x00\x10\x08Internal\x00\x00\x00\x07\x00\x00\x00";
 
+fn are_all(bytes: &[u8], byte: u8) -> bool {
+    bytes.iter().all(|other| *other == byte)
+}
+
 /// Whether the first bank of a unit of 13 blocks has the first record alone, and the votes are for it.
 fn is_fresh(image: &[u8]) -> bool {
     if image.len() != 53_248 {
@@ -34,10 +38,10 @@ fn is_fresh(image: &[u8]) -> bool {
     }
     let (votes, banks) = image.split_at(12_288);
     let (record, rest) = banks.split_at(57);
-    [votes[0], votes[4096], votes[8192]] == [0, 0, 0]
-        && record == FIRST_RECORD
-        && rest[..484].iter().all(|byte| *byte == 0)
-        && rest[484..20_423].iter().all(|byte| *byte == 0xFF)
+    let (zeros, rest) = rest.split_at(484);
+    let (tail, _) = rest.split_at(19_939);
+    let votes = [votes[0], votes[4096], votes[8192]];
+    votes == [0, 0, 0] && record == FIRST_RECORD && are_all(zeros, 0) && are_all(tail, 0xFF)
 }
 
 #[test]
