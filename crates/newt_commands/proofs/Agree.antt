@@ -1,31 +1,16 @@
 -- Declarations of indexes through what is seen of their parts: whether their paths agree, and that they are valid.
-use Rattle.std.proofs.Common.{arith, ◌≡◌, ◌≤◌, ℕ, suc, true, ◌&&◌, List, [], ◌∷◌, map, refl, ◌∙◌, ap, length, Some}
+use Rattle.std.proofs.Common.{arith, ◌≡◌, ◌≤◌, ℕ, true, ◌&&◌, List, [], ◌∷◌, map, refl, ◌∙◌, ap, length, Some}
 use Rattle.std.specs.Prelude.{zip, ◌==◌}
 use Rattle.std.specs.List.{list_all}
 use Rattle.std.proofs.lemmas.List.{length-map}
 use Rattle.newt_base.specs.Names.{same_path, valid_path}
 use Rattle.newt_keys.specs.Seen.{declared, declared_all}
 use Rattle.newt_keys.specs.declared.types.IndexPart.{IndexPart}
-use Rattle.newt_laws.specs.Worlds.{parts_fit, tags_fit}
-use Rattle.newt_spec_store.specs.Keys as spec
+use Rattle.newt_keys.proofs.Agree.{paths_seen}
+use Rattle.newt_laws.specs.Worlds.{tags_fit}
 use Rattle.newt_spec_store.specs.Keys.{Path, same_paths, paths_of}
 use Rattle.newt_spec_store.specs.Valid.{valid_spec, valid_tags}
 use Rattle.newt_spec_world.specs.declared.command.PartWord.{PartWord}
-use Rattle.newt_spec_world.specs.Changed.{spec_of_words}
-
-abbrev path : spec.IndexPart → Path
-path p = p.path
-
-both_seen : (ps : List IndexPart) (qs : List Path) → list_all (λ p. same_path p.0 p.1) (zip (paths_of (declared_all ps)) qs) ≡ list_all (λ p. same_path p.0.path p.1) (zip ps qs)
-both_seen [] qs = refl
-both_seen (p ∷ ps) [] = refl
-both_seen (p ∷ ps) (q ∷ qs) = ap (λ b. same_path p.path q && b) (both_seen ps qs)
-
-lengths : (ps : List IndexPart) → length (paths_of (declared_all ps)) ≡ length ps
-lengths ps = length-map (declared_all ps) path ∙ length-map ps declared
-
-pub paths_seen : (ps : List IndexPart) (qs : List Path) → same_paths (paths_of (declared_all ps)) qs ≡ ((length ps == length qs) && list_all (λ p. same_path p.0.path p.1) (zip ps qs))
-paths_seen ps qs = λ i. (lengths ps i == length qs) && both_seen ps qs i
 
 words_seen : (ps : List IndexPart) (qs : List PartWord) → list_all (λ p. same_path p.0.path p.1) (zip ps (map (λ q. q.path) qs)) ≡ list_all (λ p. same_path p.0.path p.1.path) (zip ps qs)
 words_seen [] qs = refl
@@ -37,17 +22,6 @@ pub parts_seen : (ps : List IndexPart) (qs : List PartWord)
 parts_seen ps qs = paths_seen ps (map (λ q. q.path) qs) ∙ (λ i. (length ps == length-map qs (λ q. q.path) i) && words_seen ps qs i)
 
 -- ---- valid
-
-parts_count : (parts : List PartWord) → length (spec_of_words parts) ≡ length parts
-parts_count [] = refl
-parts_count (p ∷ parts) = ap suc (parts_count parts)
-
-parts_paths : (parts : List PartWord) → list_all (λ p. valid_path p.path) (spec_of_words parts) ≡ list_all (λ p. valid_path p.path) parts
-parts_paths [] = refl
-parts_paths (p ∷ parts) = ap (λ b. valid_path p.path && b) (parts_paths parts)
-
-pub spec_valid : (parts : List PartWord) → parts_fit parts ≡ true → valid_spec (spec_of_words parts) ≡ true
-spec_valid parts h = grind (arith, h, parts_count parts, parts_paths parts)
 
 pub table_valid : (path : Path) (symbols : List (List ℕ)) → tags_fit path symbols ≡ true → length symbols ≤ 64 → valid_tags (Some (record { path = path; symbols = symbols })) ≡ true
 table_valid path symbols h k = grind (arith, h, k)

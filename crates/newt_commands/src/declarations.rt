@@ -16,7 +16,7 @@ use newt_tags::TagTable;
 use std::alloc::{AllocError, Global};
 
 /// The declaration of an index of these parts. The type of a part that has none becomes the integer's.
-#[tactic(auto, using(crate::proofs::Agree::spec_valid))]
+#[tactic(auto, using(newt_laws::proofs::Rows::spec_valid))]
 pub(crate) fn new_spec(alloc: Global, parts: &[PartWord]) -> Result<IndexSpec, AllocError>
     requires { parts_fit parts.now ≡ true }
     ensures { IfOk result (λ spec. spec ≡ spec_of_words parts.now) }
@@ -86,7 +86,7 @@ pub(crate) fn copied_specs(alloc: Global, specs: &[IndexSpec]) -> Result<Vec<Ind
 pub(crate) fn has_paths(specs: &[IndexSpec], paths: &[Path]) -> bool
     ensures { result ≡ list_any (λ spec. same_paths (paths_of spec) paths.now) specs.now }
 {
-    specs.iter().any(|spec| are_paths_of(spec, paths))
+    specs.iter().any(|spec| spec.has_paths(paths))
 }
 
 /// Whether one of the declarations has the paths of these parts, but for ASCII case.
@@ -96,30 +96,12 @@ pub(crate) fn has_paths_of(specs: &[IndexSpec], parts: &[PartWord]) -> bool
     specs.iter().any(|spec| are_parts_of(spec, parts))
 }
 
-#[tactic(auto, using(crate::proofs::Agree::paths_seen))]
-fn are_paths_of(spec: &IndexSpec, paths: &[Path]) -> bool
-    ensures { result ≡ same_paths (paths_of spec.now) paths.now }
-{
-    let seen = spec.list();
-    seen.len() == paths.len() && all_same_paths(seen, paths)
-}
-
 #[tactic(auto, using(crate::proofs::Agree::parts_seen))]
 fn are_parts_of(spec: &IndexSpec, parts: &[PartWord]) -> bool
     ensures { result ≡ same_paths (paths_of spec.now) (map (λ p. p.path) parts.now) }
 {
     let seen = spec.list();
     seen.len() == parts.len() && all_same_parts(seen, parts)
-}
-
-/// Whether the paths agree one by one, as far as the shorter list goes.
-fn all_same_paths(parts: &[IndexPart], paths: &[Path]) -> bool
-    ensures { result ≡ list_all (λ p. same_path p.0.path p.1) (zip parts.now paths.now) }
-{
-    parts
-        .iter()
-        .zip(paths)
-        .all(|(part, path)| part.path.same(path))
 }
 
 /// Whether the paths agree one by one, as far as the shorter list goes.

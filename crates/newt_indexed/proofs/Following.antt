@@ -10,7 +10,7 @@ use Rattle.newt_spec_store.specs.Keys.{IndexSpec, Path}
 use Rattle.newt_spec_store.specs.Store.{Entry, Soup, Store, TagTable, entry_of, change_soup, change_entry, add_entry, remove_entry, soup_of, with_index, without_index, entry_at, next_uid_of, with_graph}
 use Rattle.newt_spec_store.specs.Valid.{well_formed}
 use Rattle.newt_laws_images.proofs.Stores.{IsSoup}
-use Rattle.newt_laws_changes.proofs.Chosen.{find-passes, soup-there, soup-good, entry-below}
+use Rattle.newt_laws_images.proofs.Chosen.{find-passes, soup-there, soup-good, entry-below}
 use Rattle.newt_laws_changes.proofs.Fresh.{in_valid}
 use Rattle.newt_laws_changes.proofs.Formed.{added_formed}
 use Rattle.newt_laws_changes.proofs.Members.{entry_is_in}

@@ -9,7 +9,7 @@ use Rattle.newt_spec_store.specs.Store.{Entry, Soup, Store, entry_of, soup_of, e
 use Rattle.newt_spec_store.specs.Valid.{well_formed}
 use Rattle.newt_laws_images.proofs.Assembled.{map-among}
 use Rattle.newt_laws_images.proofs.Stores.{is-store}
-use Rattle.newt_laws_changes.proofs.Chosen.{OnePasses, one-sig-of, there-soup}
+use Rattle.newt_laws_images.proofs.Chosen.{OnePasses, one-sig-of, there-soup}
 use Rattle.newt_soupdir.specs.Bare.{bare_store, bare_soup}
 use Rattle.newt_soupdir.specs.declared.rows.Directory.{Directory}
 use Rattle.newt_soupdir.specs.declared.rows.SoupRow.{SoupRow}

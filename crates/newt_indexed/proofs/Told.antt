@@ -8,7 +8,7 @@ use Rattle.newt_spec_graph.proofs.Lists.{both-ways, rises-pairs}
 use Rattle.newt_spec_store.specs.Store.{Entry, Soup, Store, entry_of, soup_of, entry_at}
 use Rattle.newt_spec_store.specs.Valid.{well_formed}
 use Rattle.newt_laws_images.proofs.Assembled.{map-among}
-use Rattle.newt_laws_changes.proofs.Chosen.{soup-there, soup-good, there-entry, find-passes}
+use Rattle.newt_laws_images.proofs.Chosen.{soup-there, soup-good, there-entry, find-passes}
 use Rattle.newt_ranges.specs.Stands.{Graphs}
 use Rattle.newt_store.specs.Change.{uids_in}
 

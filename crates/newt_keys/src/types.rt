@@ -93,6 +93,14 @@ impl IndexSpec {
         self.parts.len() == other.parts.len() && all_same_paths(&self.parts, &other.parts)
     }
 
+    /// Whether a declaration has just these paths in their order, but for ASCII case.
+    #[tactic(auto, using(crate::proofs::Agree::paths_seen))]
+    pub fn has_paths(&self, paths: &[Path]) -> bool
+        ensures { result ≡ spec.same_paths (paths_of self.now) paths.now }
+    {
+        self.parts.len() == paths.len() && all_have(&self.parts, paths)
+    }
+
     /// An equal declaration.
     pub fn copy(&self) -> Result<IndexSpec, AllocError>
         ensures { IfOk result (λ copy. copy ≡ self.now) }
@@ -131,6 +139,16 @@ fn all_same_paths(parts: &[IndexPart], others: &[IndexPart]) -> bool
         .iter()
         .zip(others)
         .all(|(part, other)| part.path.same(&other.path))
+}
+
+/// Whether the parts have these paths one by one, as far as the shorter list goes.
+fn all_have(parts: &[IndexPart], paths: &[Path]) -> bool
+    ensures { result ≡ list_all (λ p. same_path p.0.path p.1) (zip parts.now paths.now) }
+{
+    parts
+        .iter()
+        .zip(paths)
+        .all(|(part, path)| part.path.same(path))
 }
 
 /// A part of a key: missing, the folded text of a string in UTF-8, an integer of 30 bits, a character, or a symbol in ASCII lower case.

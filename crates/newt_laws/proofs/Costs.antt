@@ -5,7 +5,8 @@ use Rattle.newt_spec_store.specs.Keys.{Path, paths_of, same_paths}
 use Rattle.newt_spec_store.specs.Store.{Store, change_soup, without_index, new_store}
 use Rattle.newt_spec_store.specs.Cost.{counted, part_bytes}
 use Rattle.newt_spec_store.specs.Valid.{fits}
-use Rattle.newt_laws_changes.proofs.Costs.{total, total-filter, soup-length, directory-length, cost-total, fits-with-soup}
+use Rattle.newt_laws_images.proofs.Totals.{total}
+use Rattle.newt_laws_changes.proofs.Costs.{total-filter, soup-length, directory-length, cost-total, fits-with-soup}
 pub use Rattle.newt_laws_changes.proofs.Costs.{fits-without-soup, fits-without-entry, fits-with-change}
 
 pub fits-without-index : (blocks : ℕ) (name : List ℕ) (paths : List Path) (s : Store) → fits blocks s ≡ true → fits blocks (change_soup name (without_index paths) s) ≡ true

@@ -17,7 +17,7 @@ use Rattle.newt_spec_graph.specs.Lists.{Each, Pairs, Among}
 use Rattle.newt_laws.specs.Worlds.{OnMedia, AllValid}
 use Rattle.newt_laws.specs.Settled.{IsSettled, MountedApart, moves_keys}
 use Rattle.newt_spec_graph.proofs.Lists.{each-from, among-append, among-filter, some-same, none-some}
-use Rattle.newt_laws_changes.proofs.Chosen.{among-first}
+use Rattle.newt_laws_images.proofs.Chosen.{among-first}
 use Rattle.newt_laws.proofs.Found.{Other, hits-apart, hit-found, found-hit}
 use Rattle.newt_laws.proofs.Units.{has-mounted, same-or-not, device-other, device-same}
 use Rattle.newt_laws.proofs.Kept.{Wf, Every, media-more}

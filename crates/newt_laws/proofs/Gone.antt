@@ -4,15 +4,13 @@ use Rattle.std.proofs.lemmas.Bool.{eq-eqb}
 use Rattle.newt_base.specs.Names.{equal_text}
 use Rattle.newt_spec_store.specs.Store.{Store, Soup, Entry, soup_named, change_soup, remove_entry, drop_soup}
 use Rattle.newt_spec_store.specs.Valid.{well_formed, valid_soup}
-use Rattle.newt_spec_graph.specs.Lists.{Pairs, Among}
+use Rattle.newt_spec_graph.specs.Lists.{Among}
 use Rattle.newt_laws_changes.specs.Later.{EntryGone, SoupGone}
-use Rattle.newt_laws_changes.proofs.Chosen.{find-passes, first-among}
-use Rattle.newt_spec_graph.proofs.Lists.{each-at, each-list_all, among-filter, rises-above, rises-pairs, pairs-map, both-ways}
+use Rattle.newt_laws_images.proofs.Chosen.{find-passes, first-among}
+use Rattle.newt_spec_graph.proofs.Lists.{each-at, each-list_all, among-filter, rises-above, both-ways}
 use Rattle.newt_laws.proofs.Soups.{is-store, IsSoup, is-soup, with-soup, without-entry}
 use Rattle.newt_laws_images.proofs.Assembled.{map-among, one-sig}
-
-sigs-rise : (s : Store) → well_formed s ≡ true → Pairs (λ (a b : Soup). a.sig < b.sig) s.soups
-sigs-rise s w = pairs-map (λ m n. m < n) (λ (p : Soup). p.sig) s.soups (rises-pairs 0 s.next_soup (map (λ (p : Soup). p.sig) s.soups) (is-store s w).sigs)
+use Rattle.newt_laws_images.proofs.Placed.{soups-rise}
 
 sig-given : (s : Store) (p : Soup) → well_formed s ≡ true → Among s.soups p → p.sig < s.next_soup
 sig-given s p w m = (each-at (λ n. (0 ≤ n) × (n < s.next_soup)) (map (λ (p : Soup). p.sig) s.soups) p.sig
@@ -44,7 +42,7 @@ removed-gone s name p e w found here = record {
     after = with-soup name (remove_entry e.uid) s w (λ p. refl) (λ p. refl) (λ p _ ok. without-entry e.uid p ok)
 
     same : (q : Soup) → Among (change_soup name (remove_entry e.uid) s).soups q → q.sig ≡ p.sig → q ≡ remove_entry e.uid p
-    same q m is = one-sig (change_soup name (remove_entry e.uid) s).soups q (remove_entry e.uid p) (sigs-rise (change_soup name (remove_entry e.uid) s) after) m
+    same q m is = one-sig (change_soup name (remove_entry e.uid) s).soups q (remove_entry e.uid p) (soups-rise (change_soup name (remove_entry e.uid) s) after) m
         (first-among (λ (p : Soup). equal_text p.name name) (remove_entry e.uid) s.soups p found) is
 
 pub dropped-gone : (s : Store) (name : List ℕ) (p : Soup) → well_formed s ≡ true → soup_named name s ≡ Some p → SoupGone p.sig (drop_soup name s)
@@ -52,7 +50,7 @@ dropped-gone s name p w found = record {
   sig_given = sig-given s p w f.1;
   not_there = λ q m is.
       let k = among-filter (λ (p : Soup). not (equal_text p.name name)) s.soups q m in
-      not-itself (equal_text q.name name) k.1 (ap (λ (r : Soup). equal_text r.name name) (one-sig s.soups q p (sigs-rise s w) k.0 f.1 is) ∙ f.0);
+      not-itself (equal_text q.name name) k.1 (ap (λ (r : Soup). equal_text r.name name) (one-sig s.soups q p (soups-rise s w) k.0 f.1 is) ∙ f.0);
 }
   where
     f : (equal_text p.name name ≡ true) × Among s.soups p

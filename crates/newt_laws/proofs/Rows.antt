@@ -43,8 +43,8 @@ parts-same : (parts : List PartWord) → paths_of (spec_of_words parts) ≡ map 
 parts-same [] = refl
 parts-same (p ∷ parts) = ap (λ ps. p.path ∷ ps) (parts-same parts)
 
-spec-good : (parts : List PartWord) → parts_fit parts ≡ true → valid_spec (spec_of_words parts) ≡ true
-spec-good parts h = grind (arith, h, parts-count parts, parts-paths parts)
+pub spec_valid : (parts : List PartWord) → parts_fit parts ≡ true → valid_spec (spec_of_words parts) ≡ true
+spec_valid parts h = grind (arith, h, parts-count parts, parts-paths parts)
 
 tags-good : (path : Path) (symbols : List (List ℕ)) → (valid_path path && list_all is_identifier symbols && all_apart same_name symbols) ≡ true → nat_lt 64 (length symbols) ≡ false
     → valid_tags (Some (record { path = path; symbols = symbols })) ≡ true
@@ -84,7 +84,7 @@ wf-row w (command.Soup u name) all form h = change-store (λ _. ⊤) Wf w u (mak
         go (Some p) e = cc
 wf-row w (command.Drop u s) all form h = change-store (λ _. ⊤) Wf w u (drop_soup s) all (inl tt) (λ blocks t has ok. without-soup s t ok)
 wf-row w (command.Index u s parts) all form h = wf-soup w u s (with_index (spec_of_words parts)) all h.1.0 (λ p. refl) (λ p. refl) (λ p found ok.
-    with-index (spec_of_words parts) p ok (spec-good parts form) (leb-false 16 (length p.specs) (on-some (soup_in w u s) (λ p. nat_le 16 (length p.specs)) p found h.1.1.1.1.1.0))
+    with-index (spec_of_words parts) p ok (spec_valid parts form) (leb-false 16 (length p.specs) (on-some (soup_in w u s) (λ p. nat_le 16 (length p.specs)) p found h.1.1.1.1.1.0))
     (ap (λ ps. list_any (λ t. same_paths (paths_of t) ps) p.specs) (parts-same parts) ∙ on-some (soup_in w u s) (λ p. list_any (λ t. same_paths (paths_of t) (map (λ (p : PartWord). p.path) parts)) p.specs) p found h.1.1.1.0))
 wf-row w (command.Unindex u s paths) all form h = wf-soup w u s (without_index paths) all h.1.0 (λ p. refl) (λ p. refl) (λ p found ok. without-index paths p ok)
 wf-row w (command.SetTags u s path symbols) all form h = wf-soup w u s (with_tags path symbols) all h.1.0 (λ p. refl) (λ p. refl) (λ p found ok. with-tags path symbols p ok (tags-good path symbols form h.1.1.1.0))

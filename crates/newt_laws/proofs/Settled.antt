@@ -17,11 +17,11 @@ use Rattle.newt_spec_graph.specs.Lists.{Each, Pairs, Among}
 use Rattle.newt_laws.specs.Settled.{IsSettled}
 use Rattle.newt_spec_graph.proofs.Lists.{each-at, among-filter, some-same, none-some}
 use Rattle.newt_laws.proofs.Found.{Other}
-pub use Rattle.newt_laws_changes.proofs.Chosen.{find-passes}
+pub use Rattle.newt_laws_images.proofs.Chosen.{find-passes}
 
 -- ---- to settle twice
 
-three-equal : (a b : Hit) → same_identity a b ≡ true → (a.store ≡ b.store) × (a.soup ≡ b.soup) × (a.uid ≡ b.uid)
+pub three-equal : (a b : Hit) → same_identity a b ≡ true → (a.store ≡ b.store) × (a.soup ≡ b.soup) × (a.uid ≡ b.uid)
 three-equal a b h = (grind arith, grind arith, grind arith)
 
 by_identity : ℕ → ℕ → ℕ → Hit → Bool

@@ -6,8 +6,9 @@ use Rattle.newt_spec_store.specs.Keys.{Path, IndexSpec, paths_of, same_paths}
 use Rattle.newt_spec_store.specs.Store.{Soup, with_index, without_index, new_store}
 use Rattle.newt_spec_store.specs.Valid.{well_formed, valid_soup, valid_spec, valid_tags}
 use Rattle.newt_spec_world.specs.Changed.{with_tags}
+use Rattle.newt_laws_images.proofs.Records.{push-length}
 pub use Rattle.newt_laws_images.proofs.Stores.{IsSoup, is-soup, soup-is, IsStore, is-store, store-is}
-pub use Rattle.newt_laws_changes.proofs.Soups.{with-entry, with-change, without-entry, with-soup, with-new-soup, without-soup, found-good, push-length, push-all, push-apart, filter-length, filter-all, filter-apart}
+pub use Rattle.newt_laws_changes.proofs.Soups.{with-entry, with-change, without-entry, with-soup, with-new-soup, without-soup, found-good, push-all, push-apart, filter-length, filter-all, filter-apart}
 
 pub with-index : (spec : IndexSpec) (p : Soup) → valid_soup p ≡ true → valid_spec spec ≡ true → length p.specs < 16
     → list_any (λ t. same_paths (paths_of t) (paths_of spec)) p.specs ≡ false → valid_soup (with_index spec p) ≡ true

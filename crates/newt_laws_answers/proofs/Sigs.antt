@@ -1,18 +1,14 @@
 -- A soup that is found by its name is found by its signature.
-use Rattle.std.proofs.Common.{◌≡◌, refl, ap, ◌∙◌, ℕ, ◌<◌, List, true, map, find, Some, ◌==◌}
+use Rattle.std.proofs.Common.{◌≡◌, refl, ap, ◌∙◌, ℕ, List, true, find, Some, ◌==◌}
 use Rattle.std.proofs.lemmas.Bool.{eq-eqb, eqb-true}
 use Rattle.std.proofs.lemmas.Slice.Eq.{bytes_eq-Decides}
 use Rattle.newt_base.specs.Names.{equal_text}
-use Rattle.newt_spec_graph.specs.Lists.{Pairs, Among}
-use Rattle.newt_spec_graph.proofs.Lists.{rises-pairs, pairs-map}
+use Rattle.newt_spec_graph.specs.Lists.{Among}
 use Rattle.newt_spec_store.specs.Store.{Store, Soup, soup_named}
 use Rattle.newt_spec_store.specs.Valid.{well_formed}
 use Rattle.newt_laws_images.proofs.Assembled.{one-sig}
+use Rattle.newt_laws_images.proofs.Placed.{soups-rise}
 use Rattle.newt_laws.proofs.Settled.{find-passes, find-some}
-use Rattle.newt_laws_images.proofs.Stores.{is-store}
-
-sigs-rise : (s : Store) → well_formed s ≡ true → Pairs (λ (a b : Soup). a.sig < b.sig) s.soups
-sigs-rise s w = pairs-map (λ m n. m < n) (λ (p : Soup). p.sig) s.soups (rises-pairs 0 s.next_soup (map (λ (p : Soup). p.sig) s.soups) (is-store s w).sigs)
 
 -- it has that name
 pub named-name : (s : Store) (name : List ℕ) (p : Soup) → soup_named name s ≡ Some p → p.name ≡ name
@@ -23,4 +19,4 @@ soup-of-sig s name p ok found =
     let among : Among s.soups p = (find-passes (λ (q : Soup). equal_text q.name name) s.soups p found).1 in
     let r = find-some (λ (q : Soup). q.sig == p.sig) s.soups p among (eq-eqb p.sig p.sig refl) in
     let f = find-passes (λ (q : Soup). q.sig == p.sig) s.soups r.0 r.1 in
-    r.1 ∙ ap Some (one-sig s.soups r.0 p (sigs-rise s ok) f.1 among (eqb-true r.0.sig p.sig f.0))
+    r.1 ∙ ap Some (one-sig s.soups r.0 p (soups-rise s ok) f.1 among (eqb-true r.0.sig p.sig f.0))

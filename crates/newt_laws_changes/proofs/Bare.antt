@@ -9,7 +9,7 @@ use Rattle.newt_spec_graph.proofs.Lists.{each-from, each-more, both-ways}
 use Rattle.newt_spec_store.specs.Laid.{bare}
 use Rattle.newt_spec_store.specs.Store.{Store, Soup, change_first, change_soup, make_soup, drop_soup, add_entry, remove_entry, soup_of, without_soup, uid_taken, take_uid_of}
 use Rattle.newt_spec_store.specs.Valid.{well_formed}
-use Rattle.newt_laws_changes.proofs.Chosen.{same-text, soup-there}
+use Rattle.newt_laws_images.proofs.Chosen.{same-text, soup-there}
 use Rattle.newt_laws_changes.proofs.Members.{same-sig, same-name}
 use Rattle.newt_laws_changes.proofs.Soups.{first-map}
 
@@ -31,7 +31,7 @@ filter-map f test other (x ∷ xs) h = go (test x) (other (f x)) h.0 (filter-map
     go false false e more = more
 
 -- the first that passes, changed, by tests that agree
-change-map : {X Y : Type 0} (f : X → Y) (test : X → Bool) (other : Y → Bool) (change : X → X) (changed : Y → Y) (xs : List X) → Each (λ x. test x ≡ other (f x)) xs
+pub change-map : {X Y : Type 0} (f : X → Y) (test : X → Bool) (other : Y → Bool) (change : X → X) (changed : Y → Y) (xs : List X) → Each (λ x. test x ≡ other (f x)) xs
     → ((x : X) → f (change x) ≡ changed (f x)) → map f (change_first test change xs) ≡ change_first other changed (map f xs)
 change-map f test other change changed [] h k = refl
 change-map f test other change changed (x ∷ xs) h k = go (test x) (other (f x)) h.0 (change-map f test other change changed xs h.1 k)
@@ -43,7 +43,7 @@ change-map f test other change changed (x ∷ xs) h k = go (test x) (other (f x)
     go false true e more = absurd (both-ways e)
     go false false e more = ap (λ ys. f x ∷ ys) more
 
-bool-same : (a b : Bool) → (a ≡ true → b ≡ true) → (b ≡ true → a ≡ true) → a ≡ b
+pub bool-same : (a b : Bool) → (a ≡ true → b ≡ true) → (b ≡ true → a ≡ true) → a ≡ b
 bool-same true b h k = sym (h refl)
 bool-same false true h k = k refl
 bool-same false false h k = refl

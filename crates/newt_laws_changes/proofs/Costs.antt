@@ -1,6 +1,5 @@
 -- Changes that do not raise what a store costs.
 use Rattle.std.proofs.Common.{arith, ◌≡◌, refl, ap, sym, ◌∙◌, subst, ℕ, ◌+◌, ◌≤◌, List, [], ◌∷◌, ◌++◌, true, false, Bool, not, cond, Some, filter, flat_map, length, find, sum_by}
-use Rattle.std.proofs.lemmas.List.Sums.{sum_by-cons}
 use lib.ListN.{length-append}
 use Rattle.newt_base.specs.Text.{be16, be32}
 use Rattle.newt_base.specs.Names.{equal_text}
@@ -8,16 +7,7 @@ use Rattle.newt_spec_store.specs.Store.{Store, Soup, Entry, change_first, change
 use Rattle.newt_image.specs.Objects.{pages_for}
 use Rattle.newt_spec_store.specs.Cost.{cost, directory_bytes, soup_bytes, text_bytes, counted, part_bytes, tags_bytes, entry_pages, soup_pages}
 use Rattle.newt_spec_store.specs.Valid.{fits}
-
--- a sum, by recursion
-unfoldable pub total : {X : Type 0} → (X → ℕ) → List X → ℕ
-total f [] = 0
-total f (x ∷ xs) = f x + total f xs
-
-pub sum-total : {X : Type 0} (f : X → ℕ) (xs : List X) → sum_by f xs ≡ total f xs
-unfolding total
-sum-total f [] = refl
-sum-total f (x ∷ xs) = sum_by-cons f x xs ∙ ap (λ n. f x + n) (sum-total f xs)
+use Rattle.newt_laws_images.proofs.Totals.{total, sum-total}
 
 pub flat-total : {X : Type 0} (f : X → List ℕ) (xs : List X) → length (flat_map f xs) ≡ total (λ x. length (f x)) xs
 unfolding total

@@ -11,8 +11,9 @@ use Rattle.newt_image.specs.Objects.{pages_for}
 use Rattle.newt_spec_store.specs.Cost.{cost, directory_bytes, soup_bytes, entry_pages, soup_pages}
 use Rattle.newt_spec_store.specs.Valid.{well_formed, valid_soup}
 use Rattle.newt_laws_images.proofs.Stores.{is-store, is-soup}
-use Rattle.newt_laws_changes.proofs.Chosen.{OnePasses, one-uid, one-name}
-use Rattle.newt_laws_changes.proofs.Costs.{total, sum-total, cost-total, soup-length, directory-length}
+use Rattle.newt_laws_images.proofs.Chosen.{OnePasses, one-uid, one-name}
+use Rattle.newt_laws_images.proofs.Totals.{total, sum-total}
+use Rattle.newt_laws_changes.proofs.Costs.{cost-total, soup-length, directory-length}
 use Rattle.newt_laws_changes.proofs.Patched.{with_patch, patched-pages}
 use Rattle.newt_laws_changes.proofs.Soups.{found-good}
 

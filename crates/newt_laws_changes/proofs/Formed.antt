@@ -7,7 +7,7 @@ use Rattle.newt_graph.specs.Graph.{RawGraph}
 use Rattle.newt_spec_graph.proofs.Lists.{each-at, each-list_all, some-same}
 use Rattle.newt_spec_store.specs.Store.{Store, Soup, Entry, soup_named, entry_of, change_soup, change_entry, make_soup, drop_soup, add_entry, remove_entry, soup_of}
 use Rattle.newt_spec_store.specs.Valid.{well_formed, valid_soup, valid_entry}
-use Rattle.newt_laws_changes.proofs.Chosen.{find-passes, found_by_name, soup-good}
+use Rattle.newt_laws_images.proofs.Chosen.{find-passes, found_by_name, soup-good}
 use Rattle.newt_laws_changes.proofs.Patched.{with_patch, patched-valid}
 use Rattle.newt_laws_changes.proofs.Soups.{with-entry, with-change-at, with-soup, with-new-soup, without-entry, without-soup}
 

@@ -9,7 +9,7 @@ use Rattle.newt_spec_store.specs.Lies.{IsIn, LiesIn}
 use Rattle.newt_spec_store.specs.Store.{Store, Soup, Entry, change_soup, add_entry, remove_entry, soup_of}
 use Rattle.newt_spec_store.specs.Valid.{well_formed, valid_entry}
 use Rattle.newt_laws_changes.specs.Written.{HeadAlone}
-use Rattle.newt_laws_changes.proofs.Chosen.{soup-good}
+use Rattle.newt_laws_images.proofs.Chosen.{soup-good}
 use Rattle.newt_laws_changes.proofs.Formed.{added_formed, removed_formed}
 
 -- a store without soups has no entries

@@ -5,7 +5,7 @@ use Rattle.newt_spec_graph.specs.Lists.{Among}
 use Rattle.newt_spec_graph.proofs.Lists.{among-append, among-filter}
 use Rattle.newt_spec_store.specs.Store.{Store, Soup, Entry, change_soup, change_entry, make_soup, drop_soup, add_entry, remove_entry}
 use Rattle.newt_laws_changes.specs.Later.{SoupLater, StoreLater, EntryGone, SoupGone}
-use Rattle.newt_laws_changes.proofs.Chosen.{among-first}
+use Rattle.newt_laws_images.proofs.Chosen.{among-first}
 
 -- ---- soups
 

@@ -1,4 +1,3 @@
-pub mod Chosen
 pub mod Soups
 pub mod Costs
 pub mod Counting

@@ -8,7 +8,7 @@ use Rattle.newt_spec_graph.proofs.Lists.{among-append, among-left, among-right, 
 use Rattle.newt_spec_store.specs.Lies.{IsIn}
 use Rattle.newt_spec_store.specs.Store.{Store, Soup, Entry, entry_of, change_soup, make_soup, drop_soup, add_entry, remove_entry, soup_of}
 use Rattle.newt_spec_store.specs.Valid.{well_formed}
-use Rattle.newt_laws_changes.proofs.Chosen.{only-one, one-sig, one-name, find-passes, first-among, first-others, first-parts, same-text, soup-there, there-soup, there-entry, found_by_name, soup-good, entry-below}
+use Rattle.newt_laws_images.proofs.Chosen.{only-one, one-sig, one-name, find-passes, first-among, first-others, first-parts, same-text, soup-there, there-soup, there-entry, found_by_name, soup-good, entry-below}
 
 pub same-or-not : (a b : ℕ) → (a ≡ b) ⊎ (a ≡ b → ⊥)
 same-or-not a b = go (a == b) refl

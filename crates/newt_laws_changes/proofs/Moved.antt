@@ -18,7 +18,7 @@ use Rattle.newt_spec_store.specs.Store.{Store, Soup, Entry, change_soup, add_ent
 use Rattle.newt_spec_store.specs.Valid.{well_formed, valid_entry}
 use Rattle.newt_laws_images.proofs.Stores.{is-store}
 use Rattle.newt_laws_changes.specs.Written.{Names, EntryMoved}
-use Rattle.newt_laws_changes.proofs.Chosen.{find-one, first-among, first-others, one-sig-of, soup-there, found_by_name}
+use Rattle.newt_laws_images.proofs.Chosen.{find-one, first-among, first-others, one-sig-of, soup-there, found_by_name}
 use Rattle.newt_laws_changes.proofs.Formed.{added_formed}
 use Rattle.newt_laws_changes.proofs.Lying.{Same, same-carried, among-or-not, either-way, at-other, is-not-free}
 use Rattle.newt_laws_changes.proofs.Members.{same-or-not, same-name, in-below, added-in, in-added, new-in, removed-in, in-removed}

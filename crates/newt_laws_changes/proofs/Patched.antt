@@ -20,6 +20,7 @@ use Rattle.newt_spec_store.specs.StoreOf.{with_bytes, fill}
 use Rattle.newt_spec_store.specs.Valid.{valid_entry}
 use Rattle.newt_laws_images.proofs.Alike.{Alike, same-node, same-large, alike-limits, alike-frame}
 use Rattle.newt_laws_images.proofs.Both.{Both}
+use Rattle.newt_laws_images.proofs.Filled.{same-nodes}
 use Rattle.newt_laws_images.proofs.Records.{larges_from}
 
 -- ---- lists
@@ -47,10 +48,6 @@ nth-bare (suc n) b (x ∷ nodes) = ap (λ ys. bare_node x ∷ ys) (nth-bare n b 
 
 pub patched-skeleton : (g : RawGraph) (n : ℕ) (b : List ℕ) → skeleton (fill g (n, b)) ≡ skeleton g
 patched-skeleton g n b = ap {A = List Node} {B = RawGraph} (λ ns. record { nodes = ns; root = g.root }) (nth-bare n b g.nodes)
-
-same-nodes : (nodes : List Node) → Both Alike nodes nodes
-same-nodes [] = tt
-same-nodes (x ∷ nodes) = (same-node x, same-nodes nodes)
 
 nth-alike : (n c : ℕ) (old b : List ℕ) (nodes : List Node) → slice_get nodes n ≡ Some (Large c old) → length b ≡ length old → Both Alike (change_nth n (with_bytes b) nodes) nodes
 nth-alike n c old b [] h same = tt

@@ -14,7 +14,7 @@ use Rattle.newt_spec_store.specs.Store.{Store, Soup, Entry, entry_of, change_sou
 use Rattle.newt_spec_store.specs.Valid.{well_formed}
 use Rattle.newt_laws_changes.specs.Written.{Names, HeadWritten, EntryRewritten, EntryPatched}
 use Rattle.newt_laws_changes.proofs.Bytes.{same-directory}
-use Rattle.newt_laws_changes.proofs.Chosen.{find-passes, first-among, first-others, first-parts, one-uid, soup-there, soup-good}
+use Rattle.newt_laws_images.proofs.Chosen.{find-passes, first-among, first-others, first-parts, one-uid, soup-there, soup-good}
 use Rattle.newt_laws_changes.proofs.Lying.{Same, same-carried, among-or-not, either-way, at-other, headed_lies, is-not-free}
 use Rattle.newt_laws_changes.proofs.Members.{same-or-not, entry_is_in, in-one, one-in, changed-in, in-changed, others-in}
 use Rattle.newt_laws_changes.proofs.Patched.{get-among, with_patch, patched-skeleton, patched-bytes, patched-there}

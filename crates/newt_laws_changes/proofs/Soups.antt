@@ -7,6 +7,7 @@ use Rattle.newt_spec_store.specs.Store.{Store, Soup, Entry, soup_named, entry_of
 use Rattle.newt_base.specs.Names.{is_name}
 use Rattle.newt_spec_graph.specs.Lists.{all_apart, rises}
 use Rattle.newt_spec_store.specs.Valid.{well_formed, valid_soup, valid_entry}
+use Rattle.newt_laws_images.proofs.Records.{push-length}
 use Rattle.newt_laws_images.proofs.Stores.{is-soup, soup-is, is-store, store-is}
 
 -- ---- lists
@@ -101,10 +102,6 @@ push-rises g low high (y ∷ xs) x le is h = grind (arith, push-rises g (g y + 1
 pub push-all : {X : Type 0} (good : X → Bool) (xs : List X) (x : X) → list_all good xs ≡ true → good x ≡ true → list_all good (xs ++ x ∷ []) ≡ true
 push-all good [] x h k = grind arith
 push-all good (y ∷ xs) x h k = grind (arith, push-all good xs x)
-
-pub push-length : {X : Type 0} (xs : List X) (x : X) → length (xs ++ x ∷ []) ≡ length xs + 1
-push-length [] x = refl
-push-length (y ∷ xs) x = grind (arith, push-length xs x)
 
 pub push-none : {X Y : Type 0} (same : Y → Bool) (g : X → Y) (xs : List X) (x : X) → list_any same (map g xs) ≡ false → same (g x) ≡ false → list_any same (map g (xs ++ x ∷ [])) ≡ false
 push-none same g [] x h k = grind arith

@@ -20,7 +20,7 @@ use Rattle.newt_spec_store.specs.declared.Order.TheVariants as order
 use Rattle.newt_spec_store.specs.Keys.{IndexPart, IndexSpec, Path, Part, key, part_of, if_first_is_there, same_kind, same_direction, same_part, same_spec}
 use Rattle.newt_spec_store.specs.Store.{Soup}
 use Rattle.newt_spec_query.specs.Hits.{carries}
-use Rattle.newt_laws_changes.proofs.Chosen.{find-passes}
+use Rattle.newt_laws_images.proofs.Chosen.{find-passes}
 use Rattle.newt_index.specs.Pairs.{Sorted, parts_of}
 use Rattle.newt_index.specs.Range.{range_of}
 use Rattle.newt_ranges.specs.Range.{range_of_soup}
@@ -64,14 +64,14 @@ value-same nodes v (p ∷ ps) (q ∷ qs) h =
 
 -- ---- one key
 
-kind-same : (a b : Kind) → same_kind a b ≡ true → a ≡ b
+pub kind-same : (a b : Kind) → same_kind a b ≡ true → a ≡ b
 kind-same kind.Text kind.Text h = refl
 kind-same kind.Int kind.Int h = refl
 kind-same kind.Char kind.Char h = refl
 kind-same kind.Symbol kind.Symbol h = refl
 kind-same _ _ h = cc
 
-direction-same : (a b : Order) → same_direction a b ≡ true → a ≡ b
+pub direction-same : (a b : Order) → same_direction a b ≡ true → a ≡ b
 direction-same order.Ascend order.Ascend h = refl
 direction-same order.Descend order.Descend h = refl
 direction-same _ _ h = cc

@@ -13,7 +13,7 @@ use Rattle.newt_spec_store.proofs.Sorting.{among-fold, fold-among, fold-pairs, s
 use Rattle.newt_spec_query.specs.Hits.{Query, Hit, hits, hit_cmp, hit_of, kept, in_scope, carries}
 use Rattle.newt_spec_query.proofs.Order.{hit_total}
 use Rattle.newt_laws_images.proofs.Assembled.{map-among, among-map}
-use Rattle.newt_laws_changes.proofs.Chosen.{find-passes, find-one, one-name, there-soup, soup-good}
+use Rattle.newt_laws_images.proofs.Chosen.{find-passes, find-one, one-name, there-soup, soup-good}
 use Rattle.newt_laws.proofs.Found.{Apart, Other, other-untied, hits-rise}
 use Rattle.newt_index.specs.Pairs.{Pair, Sorted, parts_of, pair_cmp}
 use Rattle.newt_index.specs.Range.{entry_pair, entry_pairs, range_of}

@@ -10,7 +10,7 @@ use Rattle.newt_spec_store.specs.Store.{Entry, Soup, Store, soup_named}
 use Rattle.newt_spec_store.specs.Sorted.{insert_by, sorted_by}
 use Rattle.newt_spec_store.specs.Valid.{well_formed}
 use Rattle.newt_spec_query.specs.Hits.{Query, Hit, hits, hit_cmp, in_scope}
-use Rattle.newt_laws_changes.proofs.Chosen.{soup-good}
+use Rattle.newt_laws_images.proofs.Chosen.{soup-good}
 use Rattle.newt_laws_changes.proofs.Soups.{filter-length}
 use Rattle.newt_laws.proofs.Found.{Apart}
 use Rattle.newt_index.specs.Pairs.{Pair, Sorted, parts_of, pair_cmp}
@@ -39,7 +39,7 @@ folded cmp ys (x ∷ xs) = let h = folded cmp (insert_by cmp ys x) xs in let k =
 sorted-length : {X : Type 0} (cmp : X → X → Ordering) (xs : List X) → length (sorted_by cmp xs) ≡ length xs
 sorted-length cmp xs = let h = folded cmp [] xs in omega (arith, h)
 
-chosen-length : {X Y : Type 0} (f : X → Option Y) (xs : List X) → length (filter_map f xs) ≤ length xs
+pub chosen-length : {X Y : Type 0} (f : X → Option Y) (xs : List X) → length (filter_map f xs) ≤ length xs
 chosen-length f [] = omega arith
 chosen-length f (x ∷ xs) = go (f x) (chosen-length f xs)
   where

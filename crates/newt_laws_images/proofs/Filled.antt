@@ -103,7 +103,7 @@ own-skeleton g h = ap {A = List Node} {B = RawGraph} (λ ns. record { nodes = ns
 abbrev pub AsLong : List ℕ → List ℕ → Type 0
 AsLong a b = length a ≡ length b
 
-same-nodes : (nodes : List Node) → Both Alike nodes nodes
+pub same-nodes : (nodes : List Node) → Both Alike nodes nodes
 same-nodes [] = tt
 same-nodes (x ∷ nodes) = (same-node x, same-nodes nodes)
 

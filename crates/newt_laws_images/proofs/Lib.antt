@@ -20,3 +20,4 @@ pub mod Known
 pub mod Refused
 pub mod Again
 pub mod Gathering
+pub mod Chosen

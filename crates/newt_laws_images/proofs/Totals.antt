@@ -24,11 +24,11 @@ use Rattle.newt_laws_images.proofs.Whole.{laid_ids, its-layout, is-one-of, ids-a
 -- ---- sums
 
 -- a sum, by recursion
-unfoldable total : {X : Type 0} → (X → ℕ) → List X → ℕ
+unfoldable pub total : {X : Type 0} → (X → ℕ) → List X → ℕ
 total f [] = 0
 total f (x ∷ xs) = f x + total f xs
 
-sum-total : {X : Type 0} (f : X → ℕ) (xs : List X) → sum_by f xs ≡ total f xs
+pub sum-total : {X : Type 0} (f : X → ℕ) (xs : List X) → sum_by f xs ≡ total f xs
 unfolding total
 sum-total f [] = refl
 sum-total f (x ∷ xs) = sum_by-cons f x xs ∙ ap (λ n. f x + n) (sum-total f xs)

@@ -10,7 +10,7 @@ use Rattle.newt_spec_store.specs.Keys.{Key, IndexSpec, same_spec}
 use Rattle.newt_spec_store.specs.Store.{Entry, Soup, Store, entry_of}
 use Rattle.newt_spec_store.specs.Valid.{well_formed}
 use Rattle.newt_laws_images.proofs.Stores.{IsSoup}
-use Rattle.newt_laws_changes.proofs.Chosen.{find-passes, find-one, one-uid, soup-good}
+use Rattle.newt_laws_images.proofs.Chosen.{find-passes, find-one, one-uid, soup-good}
 use Rattle.newt_index.specs.Pairs.{Pair, Sorted, parts_of, IsPair, IsSorted}
 use Rattle.newt_index.specs.Range.{entry_pair, entry_pairs, range_of}
 use Rattle.newt_ranges.specs.Range.{key_by, range_of_soup, range_in}

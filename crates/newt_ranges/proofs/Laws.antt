@@ -9,7 +9,7 @@ use Rattle.newt_spec_store.specs.Keys.{IndexSpec, Path, paths_of, same_paths}
 use Rattle.newt_spec_store.specs.Store.{Entry, Soup, Store, entry_of, change_first, change_soup, change_entry, make_soup, drop_soup, add_entry, remove_entry}
 use Rattle.newt_spec_store.specs.Valid.{well_formed}
 use Rattle.newt_spec_store.specs.Laid.{bare}
-use Rattle.newt_laws_changes.proofs.Chosen.{OnePasses, find-passes, soup-there, found_by_name, only-one, one-name, one-sig, same-text}
+use Rattle.newt_laws_images.proofs.Chosen.{OnePasses, find-passes, soup-there, found_by_name, only-one, one-name, one-sig, same-text}
 use Rattle.newt_index.specs.Pairs.{Sorted}
 use Rattle.newt_ranges.specs.declared.rows.SoupRanges.{SoupRanges}
 use Rattle.newt_ranges.specs.Rows.{no_pairs, no_ranges, with_entry, without_entry, each_range, with_range, without_range, change_ranges, drop_ranges}

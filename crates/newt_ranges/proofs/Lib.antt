@@ -3,7 +3,6 @@ pub mod Lookups
 pub mod Standing
 pub mod Found
 pub mod Laws
-pub mod Paths
 pub mod Places
 pub mod Seen
 pub mod Patched

@@ -1,15 +1,11 @@
 //! An entry in one range.
-ghost use Rattle.std.specs.Prelude.{◌≡◌, OnOk, OnErr, zip};
-ghost use Rattle.std.specs.List.{list_all};
-ghost use Rattle.newt_base.specs.Names.{same_path};
-ghost use Rattle.newt_spec_store.specs.Keys.{same_paths, paths_of};
-ghost use Rattle.newt_keys.specs.Seen.{declared_all};
+ghost use Rattle.std.specs.Prelude.{◌≡◌, OnOk, OnErr};
 ghost use Rattle.newt_ranges.specs.Rows.{with_entry, has_paths, carries};
 
 use newt_base::Uid;
 use newt_graph::Graph;
 use newt_index::Index;
-use newt_keys::{IndexPart, IndexSpec};
+use newt_keys::IndexSpec;
 use newt_path::Path;
 use std::alloc::AllocError;
 
@@ -39,24 +35,7 @@ pub(crate) fn has_paths(range: &Index, paths: &[Path]) -> bool
     ensures { result ≡ has_paths paths.now range.now }
 {
     match range.spec() {
-        Some(declared) => are_paths(declared.list(), paths),
+        Some(declared) => declared.has_paths(paths),
         None => paths.is_empty(),
     }
-}
-
-#[tactic(auto, using(crate::proofs::Paths::seen_paths))]
-fn are_paths(parts: &[IndexPart], paths: &[Path]) -> bool
-    ensures { result ≡ same_paths (paths_of (declared_all parts.now)) paths.now }
-{
-    parts.len() == paths.len() && all_paths(parts, paths)
-}
-
-/// Whether the parts have these paths, but for ASCII case, as far as the shorter list goes.
-fn all_paths(parts: &[IndexPart], paths: &[Path]) -> bool
-    ensures { result ≡ list_all (λ p. same_path p.0.path p.1) (zip parts.now paths.now) }
-{
-    parts
-        .iter()
-        .zip(paths)
-        .all(|(part, path)| part.path.same(path))
 }

@@ -1,5 +1,4 @@
 pub mod Numbers
-pub mod Paths
 pub mod Spelled
 pub mod Lists
 pub mod Loop

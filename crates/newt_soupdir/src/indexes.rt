@@ -1,10 +1,9 @@
 //! The indexes of a soup.
-ghost use Rattle.std.specs.Prelude.{◌≡◌, ◌++◌, ◌∷◌, [], filter, not, IfOk, OnOk, OnErr, zip};
-ghost use Rattle.std.specs.List.{list_all, position_from};
-ghost use Rattle.newt_base.specs.Names.{same_path};
+ghost use Rattle.std.specs.Prelude.{◌≡◌, ◌++◌, ◌∷◌, [], filter, not, IfOk, OnOk, OnErr};
+ghost use Rattle.std.specs.List.{position_from};
 ghost use Rattle.newt_spec_store.specs.Keys.{paths_of, same_paths, same_spec};
 
-use newt_keys::{IndexPart, IndexSpec};
+use newt_keys::IndexSpec;
 use newt_path::Path;
 use std::alloc::{AllocError, Global};
 use std::marker::Model;
@@ -100,7 +99,7 @@ impl Specs {
 fn remove_from(specs: &mut Vec<IndexSpec>, paths: &[Path])
     ensures { specs.new.items ≡ filter (λ spec. not (same_paths (paths_of spec) paths.now)) specs.old.items }
 {
-    specs.retain(|spec| !has_paths(spec, paths));
+    specs.retain(|spec| !spec.has_paths(paths));
 }
 
 fn place_of(specs: &[IndexSpec], spec: &IndexSpec) -> Option<usize>
@@ -124,30 +123,11 @@ fn place_with_paths(specs: &[IndexSpec], paths: &[Path]) -> Option<usize>
     let mut at = 0;
     let mut left = specs;
     while let [other, rest @ ..] = left {
-        if has_paths(other, paths) {
+        if other.has_paths(paths) {
             return Some(at);
         }
         at += 1;
         left = rest;
     }
     None
-}
-
-/// Whether a declaration has these paths, in this order and but for ASCII case.
-#[tactic(auto, using(crate::proofs::Paths::same_as_paths))]
-fn has_paths(spec: &IndexSpec, paths: &[Path]) -> bool
-    ensures { result ≡ same_paths (paths_of spec.now) paths.now }
-{
-    let parts = spec.list();
-    parts.len() == paths.len() && have_paths(parts, paths)
-}
-
-/// Whether parts have these paths one by one, as far as the shorter list goes.
-fn have_paths(parts: &[IndexPart], paths: &[Path]) -> bool
-    ensures { result ≡ list_all (λ p. same_path p.0.path p.1) (zip parts.now paths.now) }
-{
-    parts
-        .iter()
-        .zip(paths)
-        .all(|(part, path)| part.path.same(path))
 }

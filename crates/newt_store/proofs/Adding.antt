@@ -31,7 +31,7 @@ use Rattle.newt_laws_changes.proofs.Formed.{added_formed}
 use Rattle.newt_laws_changes.proofs.Lying.{added_lies}
 use Rattle.newt_laws_changes.proofs.Places.{above-is-not, odd-is-not, place-there}
 use Rattle.newt_laws_changes.proofs.Members.{in-below}
-use Rattle.newt_laws_changes.proofs.Chosen.{soup-there, soup-good}
+use Rattle.newt_laws_images.proofs.Chosen.{soup-there, soup-good}
 use Rattle.newt_shelf.specs.Batch.{large_ids, new_pages}
 use Rattle.newt_shelf.specs.declared.batch.NewEntry.{NewEntry}
 use Rattle.newt_shelf.specs.Names.{names_of, AreSoundNames}

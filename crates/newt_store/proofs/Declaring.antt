@@ -1,5 +1,5 @@
 -- A soup whose declarations change: its indexes and its tags.
-use Rattle.std.proofs.Common.{◌≡◌, ℕ, ◌<◌, ◌≤◌, ◌==◌, Bool, IsTrue, true, false, not, nat_le, List, [], ◌∷◌, length, Option, Some, None, refl, sym, ◌∙◌, ap, subst, arith, map, cond}
+use Rattle.std.proofs.Common.{◌≡◌, ℕ, ◌<◌, ◌≤◌, ◌==◌, IsTrue, true, false, not, nat_le, List, [], ◌∷◌, length, Option, Some, None, refl, sym, ◌∙◌, ap, subst, arith}
 use Rattle.std.specs.Option.{is_some, is_none}
 use Rattle.std.proofs.lemmas.Bool.{eq-eqb, eqb-true}
 use Rattle.std.proofs.lemmas.Bool.Decides.{nat_tests}
@@ -9,22 +9,24 @@ use Rattle.newt_base.specs.declared.Refusal.TheVariants.{Soup as NoSoup, Limit, 
 use Rattle.newt_image.specs.Objects.{Objects}
 use Rattle.newt_pagebook.proofs.Tests.{some_inj, the_some}
 use Rattle.newt_spec_graph.specs.Lists.{Each}
-use Rattle.newt_spec_graph.proofs.Lists.{each-from, both-ways}
+use Rattle.newt_spec_graph.proofs.Lists.{each-from}
 use Rattle.newt_spec_store.specs.Cost.{cost, counted, part_bytes, soup_bytes, soup_pages}
 use Rattle.newt_spec_store.specs.Keys.{IndexSpec, Path, paths_of, same_paths}
 use Rattle.newt_spec_store.specs.Laid.{bare}
-use Rattle.newt_spec_store.specs.Store.{Soup, Store, TagTable, change_first, change_soup, soup_of, change_soup_of, with_index, without_index}
+use Rattle.newt_spec_store.specs.Store.{Soup, Store, TagTable, change_soup, soup_of, change_soup_of, with_index, without_index}
 use Rattle.newt_spec_store.specs.Valid.{well_formed, valid_soup, valid_spec, valid_tags}
 use Rattle.newt_soupdir.specs.Bare.{bare_store}
 use Rattle.newt_soupdir.specs.Changes.{with_tags}
 use Rattle.newt_soupdir.specs.declared.rows.Directory.{Directory}
 use Rattle.newt_laws_images.proofs.Known.{bare-good}
+use Rattle.newt_laws_images.proofs.Records.{push-length}
 use Rattle.newt_laws_images.proofs.Stores.{is-soup, soup-is}
-use Rattle.newt_laws_changes.proofs.Chosen.{same-text, soup-there, found_by_name}
+use Rattle.newt_laws_changes.proofs.Bare.{change-map, bool-same}
+use Rattle.newt_laws_images.proofs.Chosen.{same-text, soup-there, found_by_name}
 use Rattle.newt_laws_changes.proofs.Costs.{costs-less, directory-length, soup-length, total-filter, total-first}
 use Rattle.newt_laws_changes.proofs.Members.{same-sig, same-name}
 use Rattle.newt_laws_changes.proofs.Replaced.{declared_lies}
-use Rattle.newt_laws_changes.proofs.Soups.{filter-all, filter-apart, filter-length, push-all, push-apart, push-length, with-soup}
+use Rattle.newt_laws_changes.proofs.Soups.{filter-all, filter-apart, filter-length, push-all, push-apart, with-soup}
 use Rattle.newt_shelf.specs.Names.{names_of}
 use Rattle.newt_shelf.specs.Places.{place_of}
 use Rattle.newt_catalog.specs.declared.catalog.Catalog.{Catalog}
@@ -96,24 +98,6 @@ valid-tagged tags p fits h = let r = is-soup p h in soup-is (with_tags tags p) (
 })
 
 -- ---- the store without its entries
-
-bool-same : (a b : Bool) → (a ≡ true → b ≡ true) → (b ≡ true → a ≡ true) → a ≡ b
-bool-same true b h k = sym (h refl)
-bool-same false true h k = k refl
-bool-same false false h k = refl
-
--- the first that passes, changed, by tests that agree
-change-map : {X Y : Type 0} (f : X → Y) (test : X → Bool) (other : Y → Bool) (change : X → X) (changed : Y → Y) (xs : List X) → Each (λ x. test x ≡ other (f x)) xs
-    → ((x : X) → f (change x) ≡ changed (f x)) → map f (change_first test change xs) ≡ change_first other changed (map f xs)
-change-map f test other change changed [] h k = refl
-change-map f test other change changed (x ∷ xs) h k = go (test x) (other (f x)) h.0 (change-map f test other change changed xs h.1 k)
-  where
-    go : (a b : Bool) → a ≡ b → map f (change_first test change xs) ≡ change_first other changed (map f xs)
-        → map f (cond a (change x ∷ xs) (x ∷ change_first test change xs)) ≡ cond b (changed (f x) ∷ map f xs) (f x ∷ change_first other changed (map f xs))
-    go true true e more = ap (λ y. y ∷ map f xs) (k x)
-    go true false e more = absurd (both-ways (sym e))
-    go false true e more = absurd (both-ways e)
-    go false false e more = ap (λ ys. f x ∷ ys) more
 
 abbrev with-soups : Store → List Soup → Store
 with-soups s soups = record { name = s.name; sig = s.sig; next_soup = s.next_soup; soups = soups }

@@ -23,7 +23,8 @@ use Rattle.newt_laws_images.proofs.Gathering.{image-by-objects}
 use Rattle.newt_laws_images.proofs.Whole.{lies-read}
 use Rattle.newt_laws_changes.proofs.Fresh.{fresh_lies, fresh_formed}
 use Rattle.newt_laws_changes.proofs.Moved.{inserted-at, inserted-other}
-use Rattle.newt_laws_changes.proofs.Costs.{directory-length, total}
+use Rattle.newt_laws_images.proofs.Totals.{total}
+use Rattle.newt_laws_changes.proofs.Costs.{directory-length}
 use Rattle.newt_entries.specs.Entry.{stream_graph}
 use Rattle.newt_entries.proofs.Streams.{reads_graphs}
 use Rattle.newt_store.proofs.Reading.{is-valid}

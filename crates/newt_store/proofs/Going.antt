@@ -22,7 +22,7 @@ use Rattle.newt_spec_store.specs.Lies.{Places, IsIn, AreLarges, HasLarge}
 use Rattle.newt_spec_store.specs.Store.{Entry, Soup, Store, entry_of, soup_of, entry_at}
 use Rattle.newt_laws_images.proofs.Records.{entry-length}
 use Rattle.newt_laws_changes.specs.Written.{Names}
-use Rattle.newt_laws_changes.proofs.Chosen.{soup-there, soup-good}
+use Rattle.newt_laws_images.proofs.Chosen.{soup-there, soup-good}
 use Rattle.newt_laws_changes.proofs.Members.{in-one, one-in}
 use Rattle.newt_soupdir.specs.Bare.{bare_store}
 use Rattle.newt_shelf.specs.Batch.{AreOnce, large_ids, pages_held, all_pages_held, new_pages, over_pages}

@@ -1,5 +1,5 @@
 -- A patch of a large binary: where it goes, and the store after it.
-use Rattle.std.proofs.Common.{IsTrue, ◌≡◌, ◌≢◌, inl, inr, ℕ, zero, suc, ◌+◌, ◌*◌, ◌<◌, ◌≤◌, ◌==◌, Bool, true, false, cond, not, List, [], ◌∷◌, map as map_list, zip, length, sum, Option, Some, None, IsSome, Result, Err, refl, sym, ◌∙◌, ap, subst, arith, ⊎_elim}
+use Rattle.std.proofs.Common.{IsTrue, ◌≡◌, inl, inr, ℕ, zero, suc, ◌+◌, ◌*◌, ◌<◌, ◌≤◌, ◌==◌, Bool, true, false, cond, not, List, [], ◌∷◌, map as map_list, zip, length, sum, Option, Some, None, IsSome, Result, Err, refl, sym, ◌∙◌, ap, subst, arith, ⊎_elim}
 use Rattle.std.specs.Prelude.{slice_get}
 use Rattle.std.specs.List.{find}
 use Rattle.std.specs.FinMap as map
@@ -24,7 +24,6 @@ use Rattle.newt_image.specs.Objects.{Objects, Extent, pages_for}
 use Rattle.newt_nsof.specs.Lengths.{skeleton}
 use Rattle.newt_nsof.specs.Written.{nsof}
 use Rattle.newt_pagebook.specs.Book.{Numbers, IsOpenFor}
-use Rattle.newt_pagebook.proofs.Changes.{get_insert}
 use Rattle.newt_objects.specs.Changing.{HoldsObjects}
 use Rattle.newt_vbo.specs.Ranges.{parts_met}
 use Rattle.newt_spec_graph.proofs.Lists.{each-at, some-same, none-some}
@@ -37,12 +36,13 @@ use Rattle.newt_spec_store.specs.Store.{Soup, Store, Entry, entry_of, soup_named
 use Rattle.newt_spec_store.specs.StoreOf.{EntryRow as PlainRow, LargeRow, fill, written}
 use Rattle.newt_laws_images.proofs.Made.{map-length}
 use Rattle.newt_laws_images.proofs.Records.{larges_from, record-back, entry-length}
-use Rattle.newt_laws_changes.proofs.Chosen.{found_by_name}
+use Rattle.newt_laws_images.proofs.Chosen.{found_by_name}
 use Rattle.newt_laws_changes.proofs.Counting.{cost-patched}
 use Rattle.newt_laws_changes.proofs.Formed.{patched_formed}
 use Rattle.newt_laws_changes.proofs.Patched.{get-among, with_patch}
 use Rattle.newt_laws_changes.proofs.Replaced.{patched_lies}
 use Rattle.newt_laws_changes.proofs.Soups.{first-map}
+use Rattle.newt_laws_changes.proofs.Moved.{inserted-at, inserted-other}
 use Rattle.newt_soupdir.specs.Bare.{bare_store}
 use Rattle.newt_entries.specs.Entry.{stream_graph, row_at, said}
 use Rattle.newt_entries.specs.declared.row.EntryRow.{EntryRow}
@@ -305,15 +305,6 @@ entry-bare : (name : List ℕ) (uid : ℕ) (change : Entry → Entry) (s : Store
 entry-bare name uid change s = ap (λ (soups : List Soup). let t : Store = record { name = s.name; sig = s.sig; next_soup = s.next_soup; soups = soups } in t)
     (first-map emptied (λ p. equal_text p.name name) (change_entry uid change) s.soups (λ p. refl))
 
-insert-same : (texts : Objects) (o : ℕ) (b : List ℕ) → map.get (map.insert texts o b) o ≡ Some b
-insert-same texts o b = get_insert texts o b o ∙ ap (λ (t : Bool). cond t (Some b) (map.get texts o)) (eq-eqb o o refl)
-
-insert-other : (texts : Objects) (o : ℕ) (b : List ℕ) (q : ℕ) → q ≢ o → map.get (map.insert texts o b) q ≡ map.get texts q
-insert-other texts o b q ne = get_insert texts o b q ∙ ap (λ (t : Bool). cond t (Some b) (map.get texts q)) (apart (q == o) refl) where
-  apart : (t : Bool) → (q == o) ≡ t → (q == o) ≡ false
-  apart true e = absurd (ne (eqb-true q o e))
-  apart false e = e
-
 -- the pages of a large binary are some of its entry's
 some-pages : (ls : List (ℕ × List ℕ)) (k : ℕ) (l : ℕ × List ℕ) → slice_get ls k ≡ Some l → pages_for (length l.1) ≤ sum (map_list pages_for (map_list (λ (l : ℕ × List ℕ). length l.1) ls))
 some-pages [] k l h = absurd (none-some l h)
@@ -407,8 +398,8 @@ module _ (catalog : Catalog) (s : Store) (now : List ℕ) (stands : StandsFor ca
             is_large = l.is_large;
             is_named = ap (λ (ns : List ℕ). slice_get ns l.at) (sym (d.names_are l.id)) ∙ l.is_named;
             as_many = as-many;
-            object_is = insert-same stands.texts o new-bytes;
-            others = insert-other stands.texts o new-bytes;
+            object_is = inserted-at stands.texts o new-bytes;
+            others = inserted-other stands.texts o new-bytes;
           }) in
           record {
             lies = w.0;

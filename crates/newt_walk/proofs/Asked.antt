@@ -1,15 +1,12 @@
 -- What a query asks: its frame, its index and its keys.
-use Rattle.std.proofs.Common.{◌≡◌, refl, ap, sym, ◌∙◌, ℕ, ◌+◌, ◌<◌, List, [], ◌∷◌, Bool, true, false, ◌&&◌, ◌==◌, cond, length, drop, Option, Some, None, option_map, option_and_then}
-use Rattle.std.specs.Prelude.{Result, Ok, Err, not, is_none, unwrap_or, filter_map, zip}
-use Rattle.std.specs.List.{list_all, cons_option}
-use Rattle.std.proofs.lemmas.List.{length-map}
-use Rattle.newt_base.specs.Names.{same_path}
+use Rattle.std.proofs.Common.{◌≡◌, refl, ap, sym, ◌∙◌, ℕ, ◌+◌, ◌<◌, List, [], ◌∷◌, Bool, true, false, cond, drop, Option, Some, None, option_map, option_and_then}
+use Rattle.std.specs.Prelude.{Result, Ok, Err, not, is_none, unwrap_or, filter_map}
+use Rattle.std.specs.List.{cons_option}
 use Rattle.newt_base.specs.Refusals.{Checks, first_of}
 use Rattle.newt_base.specs.declared.Refusal.TheVariants.{Spec as BadSpec, Index as BadIndex, Key as BadKey}
 use Rattle.newt_graph.specs.Graph.{RawGraph}
 use Rattle.newt_spec_graph.proofs.Lists.{none-some}
-use Rattle.newt_spec_store.specs.Keys as keys
-use Rattle.newt_spec_store.specs.Keys.{IndexSpec, Path, paths_of, same_paths}
+use Rattle.newt_spec_store.specs.Keys.{IndexSpec, Path}
 use Rattle.newt_spec_query.specs.Hits.{Query}
 use Rattle.newt_spec_query.specs.Spec.{is_query, keys_fit, query_paths, spec_of}
 use Rattle.newt_spec_world.specs.Changed.{index_of, query_of}
@@ -18,8 +15,6 @@ use Rattle.newt_spec_world.specs.World.{World}
 use Rattle.newt_cursor.specs.declared.query.Query as code
 use Rattle.newt_cardstore.specs.declared.fault.Fault.{Fault}
 use Rattle.newt_cardstore.specs.declared.fault.Fault.TheVariants.{Refused, Stop}
-use Rattle.newt_keys.specs.declared.types.IndexPart.{IndexPart}
-use Rattle.newt_keys.specs.Seen.{declared, declared_all}
 use Rattle.newt_host.specs.Outside.{Outside}
 use Rattle.newt_spec_store.specs.Store.{Store, Soup, soup_named}
 use Rattle.newt_spec_query.specs.Hits.{in_scope}
@@ -35,22 +30,6 @@ use Rattle.newt_walk.proofs.Searching.{chosen-kept, chosen-twice}
 use Rattle.newt_walk.proofs.Stores.{chosen-map}
 use Rattle.newt_walk.specs.Opening.{index_in}
 use Rattle.newt_walk.specs.Opening.{Binds, Indexes, bind_tests}
-
--- ---- the paths of parts, seen one by one
-
-abbrev path : keys.IndexPart → Path
-path p = p.path
-
-lengths : (ps : List IndexPart) → length (paths_of (declared_all ps)) ≡ length ps
-lengths ps = length-map (declared_all ps) path ∙ length-map ps declared
-
-both_seen : (ps : List IndexPart) (qs : List Path) → list_all (λ p. same_path p.0 p.1) (zip (paths_of (declared_all ps)) qs) ≡ list_all (λ p. same_path p.0.path p.1) (zip ps qs)
-both_seen [] qs = refl
-both_seen (p ∷ ps) [] = refl
-both_seen (p ∷ ps) (q ∷ qs) = ap (λ b. same_path p.path q && b) (both_seen ps qs)
-
-pub paths_seen : (ps : List IndexPart) (qs : List Path) → same_paths (paths_of (declared_all ps)) qs ≡ ((length ps == length qs) && list_all (λ p. same_path p.0.path p.1) (zip ps qs))
-paths_seen ps qs = λ i. (lengths ps i == length qs) && both_seen ps qs i
 
 -- ---- the tests
 

@@ -1,14 +1,14 @@
 -- The places for cursors, where some change.
-use Rattle.std.proofs.Common.{arith, ◌≡◌, refl, ap, sym, ◌∙◌, ℕ, zero, suc, ◌+◌, ◌≤◌, List, [], ◌∷◌, true, ◌&&◌, ◌==◌, length, map, find, Option, Some, None, option_map, unwrap_or, add-one}
+use Rattle.std.proofs.Common.{arith, ◌≡◌, refl, ap, sym, ◌∙◌, ℕ, zero, suc, ◌+◌, ◌≤◌, List, [], ◌∷◌, length, map, find, Option, Some, None, option_map, unwrap_or, add-one}
 use Rattle.std.specs.Prelude.{slice_get}
-use Rattle.std.proofs.lemmas.Bool.{and_parts, eqb-true}
 use Rattle.newt_spec_graph.specs.Lists.{Each}
 use Rattle.newt_spec_graph.proofs.Lists.{some-same, none-some}
 use Rattle.newt_spec_store.specs.Keys.{Key}
 use Rattle.newt_spec_query.specs.Hits.{Hit}
 use Rattle.newt_spec_query.specs.Cursor.{Place, start, finish, on, Cursor, hit_at, settled, same_identity}
 use Rattle.newt_spec_world.specs.World.{World, change_at, flat, hits_of, settle_cursor}
-use Rattle.newt_laws_changes.proofs.Chosen.{find-passes}
+use Rattle.newt_laws_images.proofs.Chosen.{find-passes}
+use Rattle.newt_laws.proofs.Settled.{three-equal}
 use Rattle.newt_cursor.specs.Desk.{keyed, with_key}
 use Rattle.newt_keys.specs.KeyForm.{IsKeyOf}
 use Rattle.newt_walk.specs.Fits.{DeskFits, KeyFits, PlaceFits}
@@ -55,12 +55,6 @@ change-fits f xs c d h = record { places = change-length f xs c ∙ d.places; ke
 
 -- ---- the present key
 
-three-same : (a b : Hit) → same_identity a b ≡ true → (a.store ≡ b.store) × (a.soup ≡ b.soup) × (a.uid ≡ b.uid)
-three-same a b h =
-    let p = and_parts ((a.store == b.store) && (a.soup == b.soup)) (a.uid == b.uid) h in
-    let r = and_parts (a.store == b.store) (a.soup == b.soup) p.0 in
-    (eqb-true a.store b.store r.0, eqb-true a.soup b.soup r.1, eqb-true a.uid b.uid p.1)
-
 settled-none : (hs : List Hit) (place : Place) → option_map (λ (h : Hit). h.key) (hit_at hs place) ≡ None → settled hs place ≡ place
 settled-none hs place e = go (hit_at hs place) refl e
   where
@@ -76,7 +70,7 @@ settled-some hs (on at) key e = go (find (same_identity at) hs) refl e
     go : (o : Option Hit) → find (same_identity at) hs ≡ o → option_map (λ (h : Hit). h.key) o ≡ Some key → unwrap_or (option_map on (find (same_identity at) hs)) (on at) ≡ on (record at { key = key })
     go None i e = absurd (none-some key e)
     go (Some h) i e =
-        let same = three-same at h (find-passes (same_identity at) hs h i).0 in
+        let same = three-equal at h (find-passes (same_identity at) hs h i).0 in
         ap (λ (o : Option Hit). unwrap_or (option_map on o) (on at)) i
         ∙ (λ i. on (record { key = some-same h.key key e i; store = sym same.0 i; soup = sym same.1 i; uid = sym same.2 i }))
 

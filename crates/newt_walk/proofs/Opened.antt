@@ -3,7 +3,6 @@ use Rattle.std.proofs.Common.{◌≡◌, refl, ap, sym, ◌∙◌, ℕ, ◌+◌,
 use Rattle.std.specs.Prelude.{Result, Ok, Err, not, is_none, is_some}
 use Rattle.std.specs.List.{list_any, cons_option}
 use Rattle.newt_base.specs.Refusals.{Checks, first_of}
-use Rattle.newt_base.specs.declared.Refusal.{Refusal}
 use Rattle.newt_base.specs.declared.Refusal.TheVariants.{Unit as NoUnit, Notmounted, Soup as NoSoup, Limit}
 use Rattle.newt_graph.specs.Graph.{RawGraph}
 use Rattle.newt_spec_graph.proofs.Lists.{none-some}
@@ -18,6 +17,7 @@ use Rattle.newt_spec_world.specs.Changed.{changed, opened, query_of, sig_of}
 use Rattle.newt_spec_world.specs.Refused.{checks, no_free_cursor, no_soup_anywhere}
 use Rattle.newt_spec_world.specs.Answer.{answer, fields, or_nil}
 use Rattle.newt_laws_answers.specs.Tests.{soup_checks}
+use Rattle.newt_laws_answers.proofs.Firsts.{first-found}
 use Rattle.newt_cursor.specs.declared.query.Query as code
 use Rattle.newt_cursor.specs.Seen.{query_of as seen}
 use Rattle.newt_cardstore.specs.declared.fault.Fault.{Fault}
@@ -36,16 +36,11 @@ first-on [] ys e = refl
 first-on ((r, true) ∷ xs) ys e = absurd (none-some r (sym e))
 first-on ((r, false) ∷ xs) ys e = first-on xs ys e
 
-pub first-some : (xs ys : Checks) (r : Refusal) → first_of xs ≡ Some r → first_of (xs ++ ys) ≡ Some r
-first-some [] ys r e = absurd (none-some r e)
-first-some ((q, true) ∷ xs) ys r e = e
-first-some ((q, false) ∷ xs) ys r e = first-some xs ys r e
-
 -- ---- a cursor that is opened
 
 module _ (w : World) (c : Command) (tests : Checks) (are : checks w c ≡ tests ++ no_free_cursor w ∷ []) where
   pub refused-asked : (q : Query) (fault : Fault) → Binds tests q (Err fault) → Answers {T = ℕ} w w c (λ n. Reply.number n) (Err fault)
-  refused-asked q (Refused r) h = refused-answer w c r (ap first_of are ∙ first-some tests (no_free_cursor w ∷ []) r h)
+  refused-asked q (Refused r) h = refused-answer w c r (ap first_of are ∙ first-found tests (no_free_cursor w ∷ []) r h)
   refused-asked q (Stop stop) h = tt
 
   module _ (p q : Query) (does : changed w c ≡ opened w q) (says : (u : World) → fields w u c ≡ or_nil Reply.number (free_cursor w)) (passed : first_of tests ≡ None) (is : p ≡ q) where
@@ -124,7 +119,7 @@ module _ (w : World) (name : List ℕ) (g : RawGraph) where
 module _ (w : World) (u : ℕ) (name : List ℕ) (g : RawGraph) where
   pub fails-asked : (known : Checks) → known ≡ soup_checks w u name → (fault : Fault) → RefusesBy known fault
       → Binds (query_tests w u name g) (query_of w (Some (sig_of w u)) name g) (Err fault)
-  fails-asked known is (Refused r) h = first-some (soup_checks w u name) (bind_tests w (Some (sig_of w u)) name g) r (ap first_of (sym is) ∙ h)
+  fails-asked known is (Refused r) h = first-found (soup_checks w u name) (bind_tests w (Some (sig_of w u)) name g) r (ap first_of (sym is) ∙ h)
   fails-asked known is (Stop stop) h = absurd h
 
   module _ (s : Store) (p : Soup) (m : mounted_store w u ≡ Some s) (named : soup_named name s ≡ Some p) where

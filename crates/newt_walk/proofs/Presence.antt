@@ -10,7 +10,7 @@ use Rattle.newt_spec_query.specs.Hits.{Query, kept, hit_of}
 use Rattle.newt_spec_world.specs.World.{World, mounted, mounted_stores}
 use Rattle.newt_spec_world.specs.Alias.{Spot, resolved}
 use Rattle.newt_laws.specs.Settled.{MountedApart}
-use Rattle.newt_laws_changes.proofs.Chosen.{find-passes}
+use Rattle.newt_laws_images.proofs.Chosen.{find-passes}
 use Rattle.newt_laws_hits.specs.Located.{Located, looked_up, located_hit, takes_part}
 use Rattle.newt_laws_hits.proofs.Origins.{same-looked-up}
 use Rattle.newt_pass.specs.Kept.{kept_key}

@@ -8,10 +8,6 @@ use Rattle.std.proofs.lemmas.List.Elements.{All-head, All-tail, All-nil, All-con
 use Rattle.newt_base.specs.Names.{same_path}
 use Rattle.newt_spec_graph.specs.Lists.{Among}
 use Rattle.newt_spec_graph.proofs.Lists.{some-same, none-some, among-filter, among-flat_map}
-use Rattle.newt_spec_store.specs.declared.Kind.{Kind}
-use Rattle.newt_spec_store.specs.declared.Kind.TheVariants as kind
-use Rattle.newt_spec_store.specs.declared.Order.{Order}
-use Rattle.newt_spec_store.specs.declared.Order.TheVariants as order
 use Rattle.newt_spec_store.specs.Keys.{IndexSpec, Key, same_kind, same_direction, same_part, same_spec}
 use Rattle.newt_spec_store.specs.Store.{Store, Soup, soup_named, soup_of}
 use Rattle.newt_spec_store.proofs.Sorting.{among-fold}
@@ -22,7 +18,8 @@ use Rattle.newt_host.specs.Outside.{Outside}
 use Rattle.newt_index.specs.declared.identity.Spot.{Spot}
 use Rattle.newt_cursor.specs.Seen.{hit_of}
 use Rattle.newt_keys.specs.KeyForm.{IsKeyOf}
-use Rattle.newt_laws_changes.proofs.Chosen.{find-passes}
+use Rattle.newt_laws_images.proofs.Chosen.{find-passes}
+use Rattle.newt_laws_hits.proofs.Agreeing.{kind-same, direction-same}
 use Rattle.newt_index.specs.Pairs.{Pair, IsPair, IsSorted, Sorted, parts_of}
 use Rattle.newt_index.specs.Range.{range_of}
 use Rattle.newt_ranges.specs.Range.{range_in, range_of_soup}
@@ -43,18 +40,6 @@ use Rattle.newt_walk.specs.declared.ways.Way.{Way}
 use Rattle.newt_walk.specs.declared.ways.Way.TheVariants.{On, Back}
 
 -- ---- declarations that agree
-
-kind-same : (a b : Kind) → same_kind a b ≡ true → a ≡ b
-kind-same kind.Text kind.Text h = refl
-kind-same kind.Int kind.Int h = refl
-kind-same kind.Char kind.Char h = refl
-kind-same kind.Symbol kind.Symbol h = refl
-kind-same _ _ h = cc
-
-direction-same : (a b : Order) → same_direction a b ≡ true → a ≡ b
-direction-same order.Ascend order.Ascend h = refl
-direction-same order.Descend order.Descend h = refl
-direction-same _ _ h = cc
 
 parts-agree : (ps qs : IndexSpec) → length ps ≡ length qs → list_all (λ p. same_part p.0 p.1) (zip ps qs) ≡ true → Agree ps qs
 parts-agree [] [] l h = tt

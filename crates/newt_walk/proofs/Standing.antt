@@ -11,7 +11,7 @@ use Rattle.newt_spec_world.specs.Answer.{current, or_nil, shown, spot_of}
 use Rattle.newt_spec_world.specs.Reply.{Reply}
 use Rattle.newt_spec_world.specs.World.{World, mounted, mounted_stores, hits_of}
 use Rattle.newt_laws.specs.Settled.{MountedApart}
-use Rattle.newt_laws_changes.proofs.Chosen.{find-passes}
+use Rattle.newt_laws_images.proofs.Chosen.{find-passes}
 use Rattle.newt_laws_hits.specs.Located.{Located, located}
 use Rattle.newt_laws_hits.proofs.Origins.{origin, hit-located}
 use Rattle.newt_walk.specs.Keyed.{stands_on, key_now}

@@ -1,5 +1,5 @@
 -- The stores that are mounted, as the units know them.
-use Rattle.std.proofs.Common.{arith, ◌≡◌, refl, ap, sym, ◌∙◌, subst, ℕ, ◌+◌, ◌≤◌, List, [], ◌∷◌, Bool, true, false, cond, map, find, length, Option, Some, None, option_map, IsTrue, ◌==◌}
+use Rattle.std.proofs.Common.{◌≡◌, refl, ap, sym, ◌∙◌, subst, ℕ, ◌+◌, ◌≤◌, List, [], ◌∷◌, Bool, true, false, cond, map, find, length, Option, Some, None, option_map, IsTrue, ◌==◌}
 use Rattle.std.specs.Prelude.{filter_map}
 use Rattle.std.specs.List.{enumerate_from, cons_option}
 use Rattle.std.proofs.lemmas.Bool.{eqb-true}
@@ -11,12 +11,13 @@ use Rattle.newt_spec_store.specs.Store.{Store}
 use Rattle.newt_spec_store.specs.Valid.{well_formed}
 use Rattle.newt_spec_world.specs.First.{media_of, unit_numbers}
 use Rattle.newt_spec_world.specs.World.{World, Device, on_unit, mounted, mounted_stores, store_of}
-use Rattle.newt_laws_changes.proofs.Chosen.{find-passes}
+use Rattle.newt_laws_images.proofs.Chosen.{find-passes}
 use Rattle.newt_laws_answers.specs.Faces.{first_showing}
 use Rattle.newt_laws_answers.specs.There.{OnUnit}
 use Rattle.newt_laws_answers.specs.WorldAt.{device_at}
 use Rattle.newt_laws_answers.proofs.Faces.{find-none, find-found}
 use Rattle.newt_laws_answers.proofs.Units.{is-mounted}
+use Rattle.newt_laws_hits.proofs.Numbers.{chosen-length}
 use Rattle.newt_units.specs.declared.units.Units.{Units}
 use Rattle.newt_units.specs.Faces.{card_faces}
 use Rattle.newt_units.specs.Stands.{Stands, Eight, mounted_in, world_of}
@@ -33,14 +34,6 @@ chosen-each P f (x ∷ xs) h = go (f x) refl (chosen-each P f xs h)
     go : (o : Option _) → f x ≡ o → Each P (filter_map f xs) → Each P (cons_option o (filter_map f xs))
     go None e more = more
     go (Some y) e more = (h x y e, more)
-
-chosen-few : {X Y : Type 0} (f : X → Option Y) (xs : List X) → length (filter_map f xs) ≤ length xs
-chosen-few f [] = omega arith
-chosen-few f (x ∷ xs) = go (f x) (chosen-few f xs)
-  where
-    go : (o : Option _) → length (filter_map f xs) ≤ length xs → length (cons_option o (filter_map f xs)) ≤ length (x ∷ xs)
-    go None h = omega (arith, h)
-    go (Some y) h = omega (arith, h)
 
 pub chosen-map : {X Y Z : Type 0} (f : Y → Option Z) (g : X → Y) (xs : List X) → filter_map f (map g xs) ≡ filter_map (λ x. f (g x)) xs
 chosen-map f g [] = refl
@@ -94,7 +87,7 @@ module _ {C : Type 0} {reads : List ℕ → Option Store} {place : C → ℕ} {s
       (chosen-each (λ t. IsTrue (well_formed t)) (λ u. on_unit (device u)) unit_numbers formed)
 
   pub stores-few : length (mounted_stores w) ≤ 8
-  stores-few = chosen-few on_unit w.units
+  stores-few = chosen-length on_unit w.units
 
   -- the unit that shows a signature, and its store
   pub record Shows (sig u : ℕ) : Type 0 where

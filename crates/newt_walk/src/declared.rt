@@ -1,7 +1,5 @@
 //! The declaration of an index that a query takes.
-ghost use Rattle.std.specs.Prelude.{◌≡◌, true, option_map, option_and_then, zip, find};
-ghost use Rattle.std.specs.List.{list_all};
-ghost use Rattle.newt_base.specs.Names.{same_path};
+ghost use Rattle.std.specs.Prelude.{◌≡◌, true, option_map, option_and_then, find};
 ghost use Rattle.newt_host.specs.Outside.{Outside};
 ghost use Rattle.newt_cursor.specs.Seen.{scope_of};
 ghost use Rattle.newt_spec_store.specs.Keys.{paths_of, same_paths};
@@ -17,6 +15,8 @@ use newt_cardstore::Card;
 use newt_cursor::Scope;
 use newt_host::{UNITS, Unit};
 use newt_keys::{IndexPart, IndexSpec};
+use newt_host::Unit;
+use newt_keys::IndexSpec;
 use newt_path::Path;
 use newt_units::Units;
 
@@ -72,24 +72,5 @@ fn index_of_soup<'a, C: Card>(card: &'a C, soup: Sig, paths: &[Path]) -> Option<
 fn of_paths<'a>(specs: &'a [IndexSpec], paths: &[Path]) -> Option<&'a IndexSpec>
     ensures { option_map (λ index. index.now) result ≡ find (λ spec. same_paths (paths_of spec) paths.now) specs.now }
 {
-    specs.iter().find(|spec| are_paths_of(spec, paths))
-}
-
-/// Whether a declaration is of just these paths, but for ASCII case.
-#[tactic(auto, using(crate::proofs::Asked::paths_seen))]
-fn are_paths_of(spec: &IndexSpec, paths: &[Path]) -> bool
-    ensures { result ≡ same_paths (paths_of spec.now) paths.now }
-{
-    let seen = spec.list();
-    seen.len() == paths.len() && all_same_paths(seen, paths)
-}
-
-/// Whether the paths agree one by one, as far as the shorter list goes.
-fn all_same_paths(parts: &[IndexPart], paths: &[Path]) -> bool
-    ensures { result ≡ list_all (λ p. same_path p.0.path p.1) (zip parts.now paths.now) }
-{
-    parts
-        .iter()
-        .zip(paths)
-        .all(|(part, path)| part.path.same(path))
+    specs.iter().find(|spec| spec.has_paths(paths))
 }

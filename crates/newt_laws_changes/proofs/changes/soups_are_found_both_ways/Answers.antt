@@ -1,4 +1,4 @@
-use Rattle.newt_laws_changes.proofs.Chosen.{found_by_name, found_by_signature}
+use Rattle.newt_laws_images.proofs.Chosen.{found_by_name, found_by_signature}
 use Rattle.newt_laws_changes.proofs.Members.{entry_is_in, is_in_found}
 use Rattle.newt_laws_changes.proofs.Moved.{soup_after_add}
 use Rattle.newt_laws_changes.proofs.changes.soups_are_found_both_ways.Goals as goal
