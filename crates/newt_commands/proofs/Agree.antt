@@ -3,13 +3,13 @@ use Rattle.std.proofs.Common.{arith, ◌≡◌, ◌≤◌, ℕ, true, ◌&&◌, 
 use Rattle.std.specs.Prelude.{zip, ◌==◌}
 use Rattle.std.specs.List.{list_all}
 use Rattle.std.proofs.lemmas.List.{length-map}
-use Rattle.newt_base.specs.Names.{same_path, valid_path}
-use Rattle.newt_keys.specs.Seen.{declared, declared_all}
+use Rattle.newt_base.specs.Names.{same_path}
+use Rattle.newt_keys.specs.Seen.{declared_all}
 use Rattle.newt_keys.specs.declared.types.IndexPart.{IndexPart}
 use Rattle.newt_keys.proofs.Agree.{paths_seen}
 use Rattle.newt_laws.specs.Worlds.{tags_fit}
 use Rattle.newt_spec_store.specs.Keys.{Path, same_paths, paths_of}
-use Rattle.newt_spec_store.specs.Valid.{valid_spec, valid_tags}
+use Rattle.newt_spec_store.specs.Valid.{valid_tags}
 use Rattle.newt_spec_world.specs.declared.command.PartWord.{PartWord}
 
 words_seen : (ps : List IndexPart) (qs : List PartWord) → list_all (λ p. same_path p.0.path p.1) (zip ps (map (λ q. q.path) qs)) ≡ list_all (λ p. same_path p.0.path p.1.path) (zip ps qs)

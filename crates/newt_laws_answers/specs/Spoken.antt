@@ -1,11 +1,7 @@
 -- What the world answers to the commands of lines. All of it is this project's own.
-use Rattle.std.specs.Prelude.{Bool, true, cond, [], ◌∷◌, ℕ, nat_le, ◌&&◌, List}
+use Rattle.std.specs.Prelude.{Bool, true, cond, [], ◌∷◌}
 use Rattle.newt_base.specs.Refusals.{Checks, first_of}
 use Rattle.newt_base.specs.declared.Refusal.TheVariants.{Command as NoCommand}
-use Rattle.std.specs.List.{list_all}
-use Rattle.newt_base.specs.Names.{same_name, is_identifier, valid_path}
-use Rattle.newt_spec_graph.specs.Lists.{all_apart}
-use Rattle.newt_spec_store.specs.Keys.{Path}
 use Rattle.newt_spec_world.specs.declared.command.Command.{Command}
 use Rattle.newt_spec_world.specs.declared.command.Command.TheVariants as command
 use Rattle.newt_spec_world.specs.World.{World}
