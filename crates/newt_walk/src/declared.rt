@@ -13,8 +13,8 @@ use crate::present::in_scope;
 use newt_base::{Name, Sig};
 use newt_cardstore::Card;
 use newt_cursor::Scope;
-use newt_host::{UNITS, Unit, Unit};
-use newt_keys::{IndexPart, IndexSpec, IndexSpec};
+use newt_host::{UNITS, Unit};
+use newt_keys::IndexSpec;
 use newt_path::Path;
 use newt_units::Units;
 
