@@ -7,7 +7,6 @@ use newt_graph::Bytes;
 use newt_keys::{IndexPart, IndexSpec, Key, Kind, Order, Part, compare};
 use newt_path::Path;
 use std::alloc::{AllocError, Global};
-use std::cmp::Ordering;
 use std::test::*;
 
 /// The integers at the path `a`, in this order.

@@ -2,7 +2,6 @@
 ghost use Rattle.std.specs.Prelude.{◌≡◌, true, map};
 ghost use Rattle.newt_entries.specs.Entry.{row_at, fits};
 
-use newt_base::{Sig, Uid};
 use newt_entries::{
     EntryFault, EntryRow, filled, larges_of, read_entry, row_of, skeleton, write_entry,
 };

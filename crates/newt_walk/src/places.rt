@@ -12,7 +12,7 @@ ghost use Rattle.newt_walk.specs.Ways.{is_at_edge, outermost, stepping};
 ghost use Rattle.newt_walk.specs.World.{AreRead};
 
 use crate::search;
-use crate::walk::{edge, walk};
+use crate::walk::walk;
 use crate::ways::Way;
 use newt_cardstore::Card;
 use newt_cursor::{Place, Query};
