@@ -1,5 +1,5 @@
 -- Lines that say something, by their first word.
-use Rattle.std.proofs.Common.{◌≡◌, ℕ, Bool, true, false, ◌&&◌, nat_lt, ◌<◌, ◌≤◌, List, [], ◌∷◌, length, option_map, Option, Some, None, Result, Ok, Err, refl, sym, ◌∙◌, ap}
+use Rattle.std.proofs.Common.{◌≡◌, ◌≢◌, ℕ, Bool, true, false, not, ◌&&◌, nat_lt, ◌<◌, ◌≤◌, List, [], ◌∷◌, length, option_map, Option, Some, None, Result, Ok, Err, refl, sym, ◌∙◌, ap}
 use Rattle.std.proofs.lemmas.Bool.{lt-ltb, le-ltb}
 use Rattle.std.proofs.lemmas.Slice.Eq.{bytes_eq-Decides}
 use Rattle.std.specs.List.{list_all, find}
@@ -10,10 +10,10 @@ use Rattle.newt_spec_script.specs.Line.{Row, rows, read_row, row_of, if_said, wi
 use Rattle.newt_spec_script.specs.Script.{Item, item_of, without_return}
 use Rattle.newt_script.specs.Graphs.{readers}
 use Rattle.newt_script.specs.Rows.{Reading, as_read, reading, row_reading}
-use Rattle.newt_script.specs.Lines.{line_answer, line_command, spoken}
-use Rattle.newt_script.specs.Verbs.{word_of, is_command_word}
+use Rattle.newt_script.specs.Lines.{line_answer, line_command, spoken, takes_memory}
+use Rattle.newt_script.specs.Verbs.{word_of, is_command_word, is_memory_word}
 use Rattle.newt_script.specs.declared.fault.LineFault.{LineFault}
-use Rattle.newt_script.specs.declared.fault.LineFault.TheVariants.{Refused}
+use Rattle.newt_script.specs.declared.fault.LineFault.TheVariants.{Refused, Memory}
 use Rattle.newt_script.specs.declared.verbs.Verb.{Verb}
 
 -- by its length
@@ -34,6 +34,23 @@ pub says_verb : (line : List ℕ) (v : Verb) (r : Reading) → length line ≤ 1
 says_verb line v r short word read =
     read ∙ sym (spoken_by line false (le-ltb 140_000 (length line) short)
     ∙ (row_of_word (first_word line).0 (first_word line).1 ∙ ap (λ w. row_reading w (first_word line).1) word))
+
+-- ---- want of memory
+
+-- is never what a row reads
+pub never_memory : (word rest : List ℕ) → row_reading word rest ≢ Err Memory
+unfolding row_reading
+never_memory word rest = go (item_of readers (row_of word rest))
+  where
+    go : (item : Item) → as_read item ≢ Err Memory
+    go (Ok command) = λ e. cc
+    go (Err refusal) = λ e. cc
+
+-- nor does the row of a line's verb take memory, where the line takes none
+pub no_memory_word : (line : List ℕ) (v : Verb) → length line ≤ 140_000 → (first_word line).0 ≡ word_of v → takes_memory line ≡ false → is_memory_word (word_of v) ≡ false
+unfolding takes_memory
+no_memory_word line v short word none =
+    ap is_memory_word (sym word) ∙ (ap (λ (b : Bool). not b && is_memory_word (first_word line).0) (sym (le-ltb 140_000 (length line) short)) ∙ none)
 
 -- ---- a word that no row has
 

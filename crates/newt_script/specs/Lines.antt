@@ -1,10 +1,11 @@
 -- What one line of a script says, as the code answers it.
-use Rattle.std.specs.Prelude.{ℕ, List, length, nat_lt, Option, Some, None, Result, Ok, Err, option_map}
+use Rattle.std.specs.Prelude.{ℕ, Bool, not, ◌&&◌, List, length, nat_lt, Option, Some, None, Result, Ok, Err, option_map}
 use Rattle.newt_spec_world.specs.declared.command.Command.{Command}
-use Rattle.newt_spec_script.specs.Line.{parsed, within_length}
+use Rattle.newt_spec_script.specs.Line.{parsed, within_length, first_word}
 use Rattle.newt_spec_script.specs.Script.{Item, item_of, without_return}
 use Rattle.newt_script.specs.Graphs.{readers}
 use Rattle.newt_script.specs.Rows.{Reading, reading}
+use Rattle.newt_script.specs.Verbs.{is_memory_word}
 use Rattle.newt_script.specs.declared.fault.LineFault.{LineFault}
 use Rattle.newt_script.specs.declared.fault.LineFault.TheVariants.{Refused}
 
@@ -21,3 +22,7 @@ line_command bytes = line_answer (option_map (item_of readers) (parsed (without_
 -- what a line says that says something
 unfoldable pub spoken : List ℕ → Reading
 spoken line = reading (within_length (nat_lt 140_000 (length line)) line)
+
+-- Whether a line may want memory: it is not too long, and its first word is that of a command which holds a name, a path, a list, a graph or bytes. A blank line and a `%` line have no such word.
+unfoldable pub takes_memory : List ℕ → Bool
+takes_memory line = not (nat_lt 140_000 (length line)) && is_memory_word (first_word line).0

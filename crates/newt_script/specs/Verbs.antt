@@ -1,5 +1,5 @@
 -- The words of commands: of each verb, and all of them, in groups.
-use Rattle.std.specs.Prelude.{ℕ, Bool, ◌||◌, List, [], ◌∷◌, codes, bytes_eq}
+use Rattle.std.specs.Prelude.{ℕ, Bool, ◌||◌, List, [], ◌∷◌, ◌++◌, codes, bytes_eq}
 use Rattle.std.specs.List.{list_any}
 use Rattle.newt_script.specs.declared.verbs.Verb.{Verb}
 use Rattle.newt_script.specs.declared.verbs.Verb.TheVariants as verb
@@ -80,6 +80,11 @@ cursor_words = codes "query" ∷ codes "entry" ∷ codes "count" ∷ codes "whic
 abbrev pub moving_words : List (List ℕ)
 moving_words = codes "next" ∷ codes "prev" ∷ codes "reset" ∷ codes "end" ∷ codes "moveby" ∷ codes "goto" ∷ codes "gotokey" ∷ []
 
+-- those of the commands that hold a name, a path, a list, a graph or bytes: the rows of all other words take no memory
+abbrev pub memory_words : List (List ℕ)
+memory_words =
+    codes "nsof" ∷ codes "lit" ∷ codes "format" ∷ codes "soup" ∷ codes "drop" ∷ codes "query" ∷ codes "gotokey" ∷ entry_words ++ large_words ++ declaring_words
+
 abbrev pub is_store_word : List ℕ → Bool
 is_store_word word = list_any (bytes_eq word) store_words
 
@@ -97,6 +102,9 @@ is_cursor_word word = list_any (bytes_eq word) cursor_words
 
 abbrev pub is_moving_word : List ℕ → Bool
 is_moving_word word = list_any (bytes_eq word) moving_words
+
+abbrev pub is_memory_word : List ℕ → Bool
+is_memory_word word = list_any (bytes_eq word) memory_words
 
 -- the word of a command
 abbrev pub is_command_word : List ℕ → Bool

@@ -1,8 +1,8 @@
 //! Whole lines.
-ghost use Rattle.std.specs.Prelude.{◌≡◌, ◌≢◌};
+ghost use Rattle.std.specs.Prelude.{◌≡◌, ◌≢◌, false};
 ghost use Rattle.newt_spec_script.specs.Line.{says_nothing};
 ghost use Rattle.newt_spec_script.specs.Script as script;
-ghost use Rattle.newt_script.specs.Lines.{line_command, spoken};
+ghost use Rattle.newt_script.specs.Lines.{line_command, spoken, takes_memory};
 
 use crate::fault::LineFault;
 use crate::table::row;
@@ -37,7 +37,8 @@ fn is_silent(line: &[u8]) -> bool
 /// The command of a line that is neither blank nor a `%` line.
 #[tactic(auto, using(crate::proofs::Spoken::no_command))]
 fn spoken(alloc: Global, line: &[u8]) -> Result<Command, LineFault>
-    ensures { result ≢ Err LineFault.Memory → result ≡ spoken line.now }
+    ensures reading { result ≢ Err LineFault.Memory → result ≡ spoken line.now }
+    ensures no_memory { takes_memory line.now ≡ false → result ≢ Err LineFault.Memory }
 {
     if line.len() > LONGEST {
         return Err(LineFault::Refused(Refusal::Longline));
@@ -53,9 +54,12 @@ fn spoken(alloc: Global, line: &[u8]) -> Result<Command, LineFault>
 /// What a line says, without the byte 10 at its end: a command, or nothing where it is blank or a
 /// `%` line. The first refusal of its reading that holds is answered: `Longline` before `Command`,
 /// `Line`, and the fault of the graph or bytes at its end, `Malformed`, `Compressed` or `Literal`. One
-/// byte 13 at the end of the line is dropped. The language of lines is this project's own.
+/// byte 13 at the end of the line is dropped. Memory is never wanting for a line whose command holds
+/// no name, path, list, graph or bytes, nor for one that is too long, has no command or says nothing.
+/// The language of lines is this project's own.
 pub fn line(alloc: Global, bytes: &[u8]) -> Result<Option<Command>, LineFault>
     ensures reading { result ≢ Err LineFault.Memory → result ≡ line_command bytes.now }
+    ensures no_memory { takes_memory (script.without_return bytes.now) ≡ false → result ≢ Err LineFault.Memory }
 {
     let line = without_return(bytes);
     if is_silent(line) {

@@ -1,7 +1,7 @@
 //! The table of commands: what is read behind the first word of a line.
-ghost use Rattle.std.specs.Prelude.{◌≡◌, ◌≢◌};
+ghost use Rattle.std.specs.Prelude.{◌≡◌, ◌≢◌, false};
 ghost use Rattle.newt_script.specs.Rows.{row_reading};
-ghost use Rattle.newt_script.specs.Verbs.{word_of};
+ghost use Rattle.newt_script.specs.Verbs.{word_of, is_memory_word};
 
 use crate::fault::LineFault;
 use crate::verbs::Verb;
@@ -11,8 +11,10 @@ use newt_words::Words;
 use std::alloc::Global;
 
 /// The command of the words behind the first one.
+#[tactic(auto, using(crate::proofs::Spoken::never_memory))]
 pub fn row(alloc: Global, verb: Verb, words: &mut Words) -> Result<Command, LineFault>
-    ensures { result ≢ Err LineFault.Memory → result ≡ row_reading (word_of verb) words.old }
+    ensures reading { result ≢ Err LineFault.Memory → result ≡ row_reading (word_of verb) words.old }
+    ensures no_memory { is_memory_word (word_of verb) ≡ false → result ≢ Err LineFault.Memory }
 {
     match verb {
         Verb::Nsof => store_rows::nsof(alloc, words),

@@ -3,7 +3,7 @@ ghost use Rattle.std.specs.Prelude.{◌≡◌, ◌||◌, MatchOption, false};
 ghost use Rattle.newt_script.specs.Verbs.{word_of, is_command_word, is_entry_word, is_large_word, is_declaring_word, is_cursor_word, is_moving_word};
 
 /// The first word of a command.
-#[derive(Clone, Copy, PartialEq, Eq, Debug)]
+#[derive(Clone, Copy)]
 pub enum Verb {
     Nsof,
     Lit,
