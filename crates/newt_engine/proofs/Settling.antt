@@ -11,6 +11,7 @@ use Rattle.newt_spec_graph.proofs.Lists.{some-same, none-some}
 use Rattle.newt_spec_query.specs.Cursor.{Cursor}
 use Rattle.newt_spec_store.specs.Store.{Store}
 use Rattle.newt_spec_world.specs.declared.command.Command.{Command}
+use Rattle.newt_spec_world.specs.declared.command.Command.TheVariants as command
 use Rattle.newt_spec_world.specs.First.{media_of}
 use Rattle.newt_spec_world.specs.Reply as plain
 use Rattle.newt_spec_world.specs.World.{World, Device, settle}
@@ -31,9 +32,24 @@ use Rattle.newt_units.proofs.Known.{Laws, at-card, at-none}
 use Rattle.newt_walk.specs.Fits.{DeskFits}
 use Rattle.newt_walk.specs.Replies as walk
 use Rattle.newt_walk.specs.World.{world_with}
+use Rattle.newt_engine.specs.Ends.{takes_memory, uses_device}
 use Rattle.newt_engine.specs.Standing.{Standing}
 use Rattle.newt_engine.proofs.Handed.{quiet}
 use Rattle.newt_engine.proofs.Refusing.{refused_stays}
+
+-- ---- what settling needs
+
+-- a command after which the cursors are settled uses a device
+pub moves_on_devices : (c : Command) → moves_keys c ≡ true → uses_device c ≡ false → ⊥
+unfolding moves_keys
+moves_on_devices (command.Mount _) h k = cc
+moves_on_devices _ h k = cc
+
+-- and takes memory
+pub moves_in_memory : (c : Command) → moves_keys c ≡ true → takes_memory c ≡ false → ⊥
+unfolding moves_keys
+moves_in_memory (command.Mount _) h k = cc
+moves_in_memory _ h k = cc
 
 -- ---- one command
 

@@ -9,7 +9,7 @@ use Rattle.newt_walk.specs.Fits.{DeskFits}
 use Rattle.newt_walk.specs.World.{world_with}
 use Rattle.newt_engine.specs.Laws.{laws_of}
 use Rattle.newt_engine.proofs.Costing.{settled_costs}
-use Rattle.newt_engine.proofs.Settling.{apart_after, done_answers, fault_answers, moments_with, settled_answers, stands_after}
+use Rattle.newt_engine.proofs.Settling.{apart_after, done_answers, fault_answers, moments_with, moves_in_memory, moves_on_devices, settled_answers, stands_after}
 use Rattle.newt_engine.proofs.world.World.obey_and_settle.Goals as goal
 
 pub returns-then-settles-clause-answered : goal.returns-then-settles-clause-answered
@@ -56,3 +56,9 @@ returns-else-settles-clause-costs g c t = settled_costs c.args.self.now.desk c.r
 
 pub returns-in-Err-clause-costs : goal.returns-in-Err-clause-costs
 returns-in-Err-clause-costs g c t = settled_costs c.args.self.now.desk c.requires.no_cursor (c.in-Err.ensures.costs t) (λ goes. goes) refl (λ u. omega arith)
+
+pub returns-then-settles-clause-ends : goal.returns-then-settles-clause-ends
+returns-then-settles-clause-ends g c none = absurd (moves_in_memory c.args.command (sym c.settles-settles.ensures ∙ c.if-settles.true) none)
+
+pub returns-then-settles-clause-device : goal.returns-then-settles-clause-device
+returns-then-settles-clause-device g c none = absurd (moves_on_devices c.args.command (sym c.settles-settles.ensures ∙ c.if-settles.true) none)
