@@ -146,6 +146,7 @@ pub(crate) fn patched(
 }
 
 /// A store, and what comes before its last record.
+#[derive(Drop)]
 pub(crate) struct Stores {
     pub(crate) same: Contents,
     pub(crate) before: Contents,
