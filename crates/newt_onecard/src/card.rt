@@ -147,7 +147,12 @@ impl<P: PageBook> OneCard<P> {
     }
 
     /// Makes a change at a minute, which is not refused, and gives its answer.
-    pub fn changed(self, change: Change, now: u32) -> Result<(OneCard<P>, u32), Fail> {
+    pub fn changed(
+        self,
+        change: Result<Change, Fail>,
+        now: u32,
+    ) -> Result<(OneCard<P>, u32), Fail> {
+        let change = change?;
         let OneCard { alloc, host, store } = self;
         let mut host = host;
         let mut store = store;
@@ -156,7 +161,12 @@ impl<P: PageBook> OneCard<P> {
     }
 
     /// Makes a change at a minute, which is not refused and has this answer.
-    pub fn accept(self, change: Change, now: u32, want: u32) -> Result<OneCard<P>, Fail> {
+    pub fn accept(
+        self,
+        change: Result<Change, Fail>,
+        now: u32,
+        want: u32,
+    ) -> Result<OneCard<P>, Fail> {
         let (card, answer) = self.changed(change, now)?;
         if answer != want {
             return Err(Fail::new("another answer"));
@@ -165,7 +175,8 @@ impl<P: PageBook> OneCard<P> {
     }
 
     // A change is refused.
-    fn refused(self, change: Change, want: Refusal) -> Result<OneCard<P>, Fail> {
+    fn refused(self, change: Result<Change, Fail>, want: Refusal) -> Result<OneCard<P>, Fail> {
+        let change = change?;
         let OneCard { alloc, host, store } = self;
         let mut host = host;
         let mut store = store;
@@ -181,7 +192,7 @@ impl<P: PageBook> OneCard<P> {
     }
 
     /// A change is refused, and the store is as it was.
-    pub fn refuse(self, change: Change, want: Refusal) -> Result<OneCard<P>, Fail> {
+    pub fn refuse(self, change: Result<Change, Fail>, want: Refusal) -> Result<OneCard<P>, Fail> {
         let mut card = self;
         let before = card.contents()?;
         let mut card = card.refused(change, want)?;
@@ -195,7 +206,7 @@ impl<P: PageBook> OneCard<P> {
     pub fn fill(self, soup: u32, count: u32) -> Result<OneCard<P>, Fail> {
         let mut card = self;
         for uid in 0..count {
-            let entry = add(card.alloc, soup, EMPTY)?;
+            let entry = add(card.alloc, soup, EMPTY);
             card = card.accept(entry, 0, uid)?;
         }
         Ok(card)
@@ -205,7 +216,7 @@ impl<P: PageBook> OneCard<P> {
     pub fn come_and_go(self, soup: u32, count: u32) -> Result<OneCard<P>, Fail> {
         let mut card = self;
         for uid in 0..count {
-            let entry = add(card.alloc, soup, EMPTY)?;
+            let entry = add(card.alloc, soup, EMPTY);
             card = card.accept(entry, 0, uid)?;
             card = card.accept(remove(soup, uid), 0, 0)?;
         }
@@ -215,8 +226,8 @@ impl<P: PageBook> OneCard<P> {
     /// A fresh card of so many blocks that gets the soups `S` and `T`, and an empty frame in the first at minute 5.
     pub fn of_two_soups(alloc: Global, blocks: u32) -> Result<OneCard<P>, Fail> {
         let card = OneCard::<P>::fresh(alloc, blocks)?;
-        let card = card.accept(make(alloc, b"S")?, 0, 0)?;
-        let card = card.accept(make(alloc, b"T")?, 0, 1)?;
-        card.accept(add(alloc, 0, EMPTY)?, 5, 0)
+        let card = card.accept(make(alloc, b"S"), 0, 0)?;
+        let card = card.accept(make(alloc, b"T"), 0, 1)?;
+        card.accept(add(alloc, 0, EMPTY), 5, 0)
     }
 }

@@ -1,4 +1,4 @@
-//! Changes of a store.
+//! Changes of a store. Each may want memory, so all are results, which the calls of a card take as they are.
 
 use newt_base::{Name, Sig, Uid};
 use newt_nsof_read::decode;
@@ -20,13 +20,18 @@ pub fn add(alloc: Global, soup: u32, text: &[u8]) -> Result<Change, Fail> {
 }
 
 /// An entry goes.
-pub fn remove(soup: u32, uid: u32) -> Change {
-    Change::Remove(Sig(soup), Uid(uid))
+pub fn remove(soup: u32, uid: u32) -> Result<Change, Fail> {
+    Ok(Change::Remove(Sig(soup), Uid(uid)))
 }
 
 /// An entry moves to a soup.
-pub fn move_to(soup: u32, uid: u32, target: u32) -> Change {
-    Change::Move(Sig(soup), Uid(uid), Sig(target))
+pub fn move_to(soup: u32, uid: u32, target: u32) -> Result<Change, Fail> {
+    Ok(Change::Move(Sig(soup), Uid(uid), Sig(target)))
+}
+
+/// A soup goes.
+pub fn drop_soup(soup: u32) -> Result<Change, Fail> {
+    Ok(Change::DropSoup(Sig(soup)))
 }
 
 /// An entry gets another text.

@@ -8,6 +8,6 @@ mod memory;
 mod rows;
 
 pub use card::OneCard;
-pub use changes::{EMPTY, add, make, move_to, remove, replace};
+pub use changes::{EMPTY, add, drop_soup, make, move_to, remove, replace};
 pub use memory::{CARD, filled, formatted, has_card, host_of};
 pub use rows::{Contents, entry_row, named_row};

@@ -1,9 +1,10 @@
 //! What a change writes, and what a crash leaves within the calls of the host.
 
 use crate::stores::{Card, fresh};
-use newt_base::Sig;
 use newt_memhost::Pick;
-use newt_onecard::{Contents, EMPTY, OneCard, add, entry_row, make, move_to, named_row, remove};
+use newt_onecard::{
+    Contents, EMPTY, OneCard, add, drop_soup, entry_row, make, move_to, named_row, remove,
+};
 use newt_store::Change;
 use std::alloc::Global;
 use std::test::Fail;
@@ -43,7 +44,7 @@ fn expect_either(
 pub(crate) fn accept_through_crashes(
     alloc: Global,
     card: Card,
-    change: Change,
+    change: Result<Change, Fail>,
     now: u32,
     want: u32,
 ) -> Result<Card, Fail> {
@@ -65,7 +66,7 @@ pub(crate) fn expect_goes_on(alloc: Global, card: &Card, from: u64) -> Result<()
         for pick in FEW_PICKS {
             let mut left: Card = OneCard::over(alloc, &card.crashed(call, pick)?)?;
             let before = left.contents()?.len();
-            let (mut left, _) = left.changed(add(alloc, 0, EMPTY)?, 99)?;
+            let (mut left, _) = left.changed(add(alloc, 0, EMPTY), 99)?;
             if left.contents()?.len() <= before {
                 return Err(Fail::new(format_args!("no entry after call {call}")));
             }
@@ -109,7 +110,7 @@ fn moved(alloc: Global) -> Result<Contents, Fail> {
 fn an_entry_moves_in_one_record(rt: HostRuntime) -> Result<(), Fail> {
     let alloc = rt.alloc();
     let card: Card = OneCard::of_two_soups(alloc, 13)?;
-    let card = card.accept(add(alloc, 1, EMPTY)?, 6, 0)?;
+    let card = card.accept(add(alloc, 1, EMPTY), 6, 0)?;
     let before = used_of(&card)?;
     let mut card = card.accept(move_to(0, 0, 1), 7, 1)?;
     // one record of two pages put and two deleted
@@ -123,12 +124,12 @@ fn an_entry_moves_in_one_record(rt: HostRuntime) -> Result<(), Fail> {
 fn a_crash_leaves_the_store_before_or_after(rt: HostRuntime) -> Result<(), Fail> {
     let alloc = rt.alloc();
     let mut card = fresh(alloc, 13)?;
-    card = accept_through_crashes(alloc, card, make(alloc, b"S")?, 1, 0)?;
-    card = accept_through_crashes(alloc, card, make(alloc, b"T")?, 2, 1)?;
-    card = accept_through_crashes(alloc, card, add(alloc, 0, EMPTY)?, 3, 0)?;
+    card = accept_through_crashes(alloc, card, make(alloc, b"S"), 1, 0)?;
+    card = accept_through_crashes(alloc, card, make(alloc, b"T"), 2, 1)?;
+    card = accept_through_crashes(alloc, card, add(alloc, 0, EMPTY), 3, 0)?;
     card = accept_through_crashes(alloc, card, move_to(0, 0, 1), 4, 0)?;
     card = accept_through_crashes(alloc, card, remove(1, 0), 5, 0)?;
-    let _card = accept_through_crashes(alloc, card, Change::DropSoup(Sig(1)), 6, 0)?;
+    let _card = accept_through_crashes(alloc, card, drop_soup(1), 6, 0)?;
     Ok(())
 }
 
@@ -143,12 +144,12 @@ fn a_crash_while_the_bank_changes_leaves_the_store_before_or_after(
 ) -> Result<(), Fail> {
     let alloc = rt.alloc();
     let card = fresh(alloc, 13)?
-        .accept(make(alloc, b"S")?, 0, 0)?
+        .accept(make(alloc, b"S"), 0, 0)?
         .come_and_go(0, 12)?;
     assert_eq!(rt; vote_of(&card)?, Some(0));
     // the next change finds no room in the bank, and writes the other one
     let from = card.calls();
-    let card = accept_through_crashes(alloc, card, add(alloc, 0, EMPTY)?, 1, 12)?;
+    let card = accept_through_crashes(alloc, card, add(alloc, 0, EMPTY), 1, 12)?;
     assert_eq!(rt; vote_of(&card)?, Some(1));
     expect_goes_on(alloc, &card, from)
 }

@@ -82,25 +82,25 @@ fn count(card: &Card) -> (usize, usize) {
 fn indexes_and_tags_are_declared(rt: HostRuntime) -> Result<(), Fail> {
     let alloc = rt.alloc();
     let mut card = fresh(alloc, 13)?
-        .refuse(add_index(&of_letter(alloc, b'a')?)?, Refusal::Soup)?
-        .accept(make(alloc, b"S")?, 0, 0)?;
+        .refuse(add_index(&of_letter(alloc, b'a')?), Refusal::Soup)?
+        .accept(make(alloc, b"S"), 0, 0)?;
     for letter in LETTERS {
-        card = card.accept(add_index(&of_letter(alloc, *letter)?)?, 0, 0)?;
+        card = card.accept(add_index(&of_letter(alloc, *letter)?), 0, 0)?;
     }
     // a path that is there, but for ASCII case, and then one too many
     let card = card
-        .refuse(add_index(&of_letter(alloc, b'C')?)?, Refusal::Index)?
-        .refuse(add_index(&of_letter(alloc, b'q')?)?, Refusal::Limit)?;
+        .refuse(add_index(&of_letter(alloc, b'C')?), Refusal::Index)?
+        .refuse(add_index(&of_letter(alloc, b'q')?), Refusal::Limit)?;
     // an index goes, once; then there is room for another, and for tags
     let third = of_letter(alloc, b'c')?;
-    let card = card.accept(drop_index(alloc, &third)?, 0, 0)?;
+    let card = card.accept(drop_index(alloc, &third), 0, 0)?;
     assert_eq!(rt; count(&card), (15, 0));
-    let card = card.accept(drop_index(alloc, &third)?, 0, 0)?;
+    let card = card.accept(drop_index(alloc, &third), 0, 0)?;
     assert_eq!(rt; count(&card), (15, 0));
     let another = of_letter(alloc, b'q')?;
     let card = card
-        .accept(add_index(&another)?, 0, 0)?
-        .accept(set_tags(&another)?, 0, 0)?;
+        .accept(add_index(&another), 0, 0)?
+        .accept(set_tags(&another), 0, 0)?;
     assert_eq!(rt; count(&card), (16, 2));
     assert_eq!(rt; count(&card.reopened()?), (16, 2));
     Ok(())
@@ -113,9 +113,9 @@ fn an_index_is_declared_only_where_it_fits(rt: HostRuntime) -> Result<(), Fail> 
     let long = of_long_path(alloc)?;
     let short = of_letter(alloc, b'a')?;
     let card = full(alloc)?
-        .refuse(add_index(&long)?, Refusal::Full)?
-        .accept(add_index(&short)?, 0, 0)?
-        .accept(drop_index(alloc, &short)?, 0, 0)?;
+        .refuse(add_index(&long), Refusal::Full)?
+        .accept(add_index(&short), 0, 0)?
+        .accept(drop_index(alloc, &short), 0, 0)?;
     assert_eq!(rt; count(&card), (0, 0));
     Ok(())
 }

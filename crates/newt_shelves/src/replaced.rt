@@ -54,7 +54,7 @@ fn replace_one(
     record: usize,
 ) -> Result<Card, Fail> {
     let before = used_of(&card)?;
-    let mut card = card.accept(replace(alloc, 0, 0, text)?, now, 0)?;
+    let mut card = card.accept(replace(alloc, 0, 0, text), now, 0)?;
     if used_of(&card)? != before.saturating_add(record) {
         return Err(Fail::new(format_args!("another record at minute {now}")));
     }
@@ -88,13 +88,13 @@ fn an_entry_grows_only_where_its_pages_fit(rt: HostRuntime) -> Result<(), Fail> 
     let long = long_text(alloc)?;
     // an entry cannot grow, but it can change; two entries less are as many pages as the third grows by
     full(alloc)?
-        .refuse(replace(alloc, 0, 0, &long)?, Refusal::Full)?
-        .accept(replace(alloc, 0, 0, ONE)?, 9, 0)?
+        .refuse(replace(alloc, 0, 0, &long), Refusal::Full)?
+        .accept(replace(alloc, 0, 0, ONE), 9, 0)?
         .accept(remove(0, 36), 0, 0)?
-        .refuse(replace(alloc, 0, 0, &long)?, Refusal::Full)?
+        .refuse(replace(alloc, 0, 0, &long), Refusal::Full)?
         .accept(remove(0, 35), 0, 0)?
-        .accept(replace(alloc, 0, 0, &long)?, 9, 0)?
-        .refuse(replace(alloc, 0, 1, &long)?, Refusal::Full)?
+        .accept(replace(alloc, 0, 0, &long), 9, 0)?
+        .refuse(replace(alloc, 0, 1, &long), Refusal::Full)?
         .expect_kept()
 }
 
@@ -104,10 +104,10 @@ fn what_cannot_be_replaced_is_refused(rt: HostRuntime) -> Result<(), Fail> {
     let card: Card = OneCard::of_two_soups(alloc, 13)?;
     // what is not there, and what is no entry's graph, in the order of the refusals
     let _card = card
-        .refuse(replace(alloc, 2, 0, NUMBER)?, Refusal::Soup)?
-        .refuse(replace(alloc, 0, 1, NUMBER)?, Refusal::Entry)?
-        .refuse(replace(alloc, 1, 0, NUMBER)?, Refusal::Entry)?
-        .refuse(replace(alloc, 0, 0, NUMBER)?, Refusal::Notframe)?;
+        .refuse(replace(alloc, 2, 0, NUMBER), Refusal::Soup)?
+        .refuse(replace(alloc, 0, 1, NUMBER), Refusal::Entry)?
+        .refuse(replace(alloc, 1, 0, NUMBER), Refusal::Entry)?
+        .refuse(replace(alloc, 0, 0, NUMBER), Refusal::Notframe)?;
     Ok(())
 }
 
@@ -117,8 +117,8 @@ fn a_crash_leaves_the_old_entry_or_the_new_one(rt: HostRuntime) -> Result<(), Fa
     let mut card: Card = OneCard::of_two_soups(alloc, 13)?;
     // the entry grows to three pages, and is one page again
     let from = card.calls();
-    let long = replace(alloc, 0, 0, &long_text(alloc)?)?;
+    let long = replace(alloc, 0, 0, &long_text(alloc)?);
     card = accept_through_crashes(alloc, card, long, 6, 0)?;
-    card = accept_through_crashes(alloc, card, replace(alloc, 0, 0, ONE)?, 7, 0)?;
+    card = accept_through_crashes(alloc, card, replace(alloc, 0, 0, ONE), 7, 0)?;
     expect_goes_on(alloc, &card, from)
 }

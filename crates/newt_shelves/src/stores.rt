@@ -3,9 +3,8 @@
 use crate::flips::patched;
 use crate::spelt::{small_contents, small_image};
 use newt_base::{Refusal, Sig, Uid};
-use newt_onecard::{EMPTY, OneCard, add, entry_row, make, move_to, remove};
+use newt_onecard::{EMPTY, OneCard, add, drop_soup, entry_row, make, move_to, remove};
 use newt_pageplain::PlainBook;
-use newt_store::Change;
 use std::alloc::Global;
 use std::test::Fail;
 
@@ -20,7 +19,7 @@ pub(crate) fn fresh(alloc: Global, blocks: u32) -> Result<Card, Fail> {
 /// A fresh card of 13 blocks with the soup `S` of 37 empty frames: with the directory the 38 pages that it takes.
 pub(crate) fn full(alloc: Global) -> Result<Card, Fail> {
     fresh(alloc, 13)?
-        .accept(make(alloc, b"S")?, 0, 0)?
+        .accept(make(alloc, b"S"), 0, 0)?
         .fill(0, 37)
 }
 
@@ -32,11 +31,11 @@ fn a_unit_takes_what_it_should_and_ids_rise(rt: HostRuntime) -> Result<(), Fail>
         [card.store().count(Sig(0)), card.store().count(Sig(1))],
         [37, 0]
     );
-    let card = card.refuse(add(alloc, 0, EMPTY)?, Refusal::Full)?;
+    let card = card.refuse(add(alloc, 0, EMPTY), Refusal::Full)?;
     assert!(rt; card.store().has(Sig(0), Uid(0)));
     let card = card.accept(remove(0, 0), 0, 0)?.reopened()?;
     // the removed id is not given again
-    let mut card = card.accept(add(alloc, 0, EMPTY)?, 0, 37)?;
+    let mut card = card.accept(add(alloc, 0, EMPTY), 0, 37)?;
     assert!(rt; !card.store().has(Sig(0), Uid(0)) && card.store().has(Sig(0), Uid(37)));
     assert_eq!(rt; card.store().count(Sig(0)), 37);
     assert_eq!(rt; card.contents()?.len(), 2 + 37);
@@ -48,12 +47,12 @@ fn a_soup_that_goes_frees_its_pages(rt: HostRuntime) -> Result<(), Fail> {
     let alloc = rt.alloc();
     // the soup comes again with another signature, and takes as many entries
     let card = full(alloc)?
-        .accept(Change::DropSoup(Sig(0)), 0, 0)?
-        .accept(make(alloc, b"S")?, 0, 1)?;
+        .accept(drop_soup(0), 0, 0)?
+        .accept(make(alloc, b"S"), 0, 1)?;
     assert!(rt; !card.store().has(Sig(1), Uid(0)));
     let _card = card
         .fill(1, 37)?
-        .refuse(add(alloc, 1, EMPTY)?, Refusal::Full)?;
+        .refuse(add(alloc, 1, EMPTY), Refusal::Full)?;
     Ok(())
 }
 
@@ -63,13 +62,13 @@ fn a_store_has_at_most_64_soups(rt: HostRuntime) -> Result<(), Fail> {
     let mut card = fresh(alloc, 33)?;
     for soup in 0..64u8 {
         let name = [b'A' + soup / 8, b'a' + soup % 8];
-        card = card.accept(make(alloc, &name)?, 0, soup as u32)?;
+        card = card.accept(make(alloc, &name), 0, soup as u32)?;
     }
     let _card = card
-        .refuse(make(alloc, b"one more")?, Refusal::Limit)?
-        .refuse(make(alloc, b"Ab")?, Refusal::Exists)?
-        .accept(Change::DropSoup(Sig(9)), 0, 0)?
-        .accept(make(alloc, b"one more")?, 0, 64)?;
+        .refuse(make(alloc, b"one more"), Refusal::Limit)?
+        .refuse(make(alloc, b"Ab"), Refusal::Exists)?
+        .accept(drop_soup(9), 0, 0)?
+        .accept(make(alloc, b"one more"), 0, 64)?;
     Ok(())
 }
 
@@ -77,11 +76,11 @@ fn a_store_has_at_most_64_soups(rt: HostRuntime) -> Result<(), Fail> {
 fn soups_whose_names_differ_in_case_are_two(rt: HostRuntime) -> Result<(), Fail> {
     let alloc = rt.alloc();
     let card = fresh(alloc, 13)?
-        .accept(make(alloc, b"S")?, 0, 0)?
-        .accept(make(alloc, b"s")?, 0, 1)?
-        .accept(add(alloc, 1, EMPTY)?, 0, 0)?;
+        .accept(make(alloc, b"S"), 0, 0)?
+        .accept(make(alloc, b"s"), 0, 1)?
+        .accept(add(alloc, 1, EMPTY), 0, 0)?;
     assert!(rt; !card.store().has(Sig(0), Uid(0)) && card.store().has(Sig(1), Uid(0)));
-    let _card = card.refuse(make(alloc, b"s")?, Refusal::Exists)?;
+    let _card = card.refuse(make(alloc, b"s"), Refusal::Exists)?;
     Ok(())
 }
 
@@ -94,15 +93,15 @@ const THIRD: &[u8] = b"\x02\x06\x01\x07\x01s\x08\x06\x00h\x00i\x00\x00";
 fn calls_make_the_store_that_is_spelt_by_hand(rt: HostRuntime) -> Result<(), Fail> {
     let alloc = rt.alloc();
     let mut card = fresh(alloc, 13)?
-        .accept(make(alloc, b"S")?, 0, 0)?
-        .accept(make(alloc, b"T")?, 0, 1)?
-        .accept(add(alloc, 0, FIRST)?, 10, 0)?
-        .accept(add(alloc, 1, EMPTY)?, 3, 0)?
-        .accept(add(alloc, 1, EMPTY)?, 11, 1)?
+        .accept(make(alloc, b"S"), 0, 0)?
+        .accept(make(alloc, b"T"), 0, 1)?
+        .accept(add(alloc, 0, FIRST), 10, 0)?
+        .accept(add(alloc, 1, EMPTY), 3, 0)?
+        .accept(add(alloc, 1, EMPTY), 11, 1)?
         .accept(remove(1, 0), 4, 0)?
-        .accept(add(alloc, 0, EMPTY)?, 5, 1)?
+        .accept(add(alloc, 0, EMPTY), 5, 1)?
         .accept(remove(0, 1), 6, 0)?
-        .accept(add(alloc, 0, THIRD)?, 12, 2)?;
+        .accept(add(alloc, 0, THIRD), 12, 2)?;
     assert_eq!(rt; card.contents()?, small_contents(alloc)?);
     assert_eq!(rt;
         card.store().uids(Sig(0))?.as_slice(),
@@ -117,8 +116,8 @@ fn what_is_not_there_is_refused(rt: HostRuntime) -> Result<(), Fail> {
     let alloc = rt.alloc();
     let card: Card = OneCard::of_two_soups(alloc, 13)?;
     let _card = card
-        .refuse(add(alloc, 2, EMPTY)?, Refusal::Soup)?
-        .refuse(Change::DropSoup(Sig(2)), Refusal::Soup)?
+        .refuse(add(alloc, 2, EMPTY), Refusal::Soup)?
+        .refuse(drop_soup(2), Refusal::Soup)?
         .refuse(remove(2, 0), Refusal::Soup)?
         .refuse(move_to(2, 0, 0), Refusal::Soup)?
         .refuse(move_to(0, 0, 2), Refusal::Soup)?
@@ -146,9 +145,9 @@ fn an_entry_has_at_most_64_000_bytes(rt: HostRuntime) -> Result<(), Fail> {
     let card: Card = OneCard::of_two_soups(alloc, 53)?;
     let text = long_text(alloc, LONGEST)?;
     let mut card = card
-        .refuse(add(alloc, 0, b"\x02\x00\x04")?, Refusal::Notframe)?
-        .refuse(add(alloc, 0, &long_text(alloc, TOO_LONG)?)?, Refusal::Size)?
-        .accept(add(alloc, 0, &text)?, 8, 1)?;
+        .refuse(add(alloc, 0, b"\x02\x00\x04"), Refusal::Notframe)?
+        .refuse(add(alloc, 0, &long_text(alloc, TOO_LONG)?), Refusal::Size)?
+        .accept(add(alloc, 0, &text), 8, 1)?;
     let rows = card.contents()?;
     assert_eq!(rt; rows.len(), 5);
     assert_eq!(rt; rows.last(), Some(&entry_row(alloc, 0, 1, 8, &text)?));
@@ -163,8 +162,8 @@ fn the_last_number_is_not_passed(rt: HostRuntime) -> Result<(), Fail> {
     let image = patched(alloc, &image, 13906, b"\x1F\xFF\xFF\xFF")?;
     let card: Card = OneCard::over(alloc, &image)?;
     let _card = card
-        .refuse(make(alloc, b"U")?, Refusal::Ids)?
-        .refuse(add(alloc, 0, EMPTY)?, Refusal::Ids)?
+        .refuse(make(alloc, b"U"), Refusal::Ids)?
+        .refuse(add(alloc, 0, EMPTY), Refusal::Ids)?
         .refuse(move_to(1, 1, 0), Refusal::Ids)?
         .accept(move_to(0, 2, 1), 0, 2)?;
     Ok(())
