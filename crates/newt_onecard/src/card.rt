@@ -175,8 +175,7 @@ impl<P: PageBook> OneCard<P> {
     }
 
     // A change is refused.
-    fn refused(self, change: Result<Change, Fail>, want: Refusal) -> Result<OneCard<P>, Fail> {
-        let change = change?;
+    fn refused(self, change: Change, want: Refusal) -> Result<OneCard<P>, Fail> {
         let OneCard { alloc, host, store } = self;
         let mut host = host;
         let mut store = store;
@@ -193,6 +192,7 @@ impl<P: PageBook> OneCard<P> {
 
     /// A change is refused, and the store is as it was.
     pub fn refuse(self, change: Result<Change, Fail>, want: Refusal) -> Result<OneCard<P>, Fail> {
+        let change = change?;
         let mut card = self;
         let before = card.contents()?;
         let mut card = card.refused(change, want)?;

@@ -48,10 +48,11 @@ pub(crate) fn accept_through_crashes(
     now: u32,
     want: u32,
 ) -> Result<Card, Fail> {
+    let change = change?;
     let mut card = card;
     let before = card.contents()?;
     let from = card.calls();
-    let mut card = card.accept(change, now, want)?;
+    let mut card = card.accept(Ok(change), now, want)?;
     let after = card.contents()?;
     if after == before {
         return Err(Fail::new("the store is as before"));
