@@ -1,1 +1,0 @@
--- No lemma: what is known of a card stands with its type.

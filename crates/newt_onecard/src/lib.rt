@@ -1,13 +1,13 @@
-//! The store on one card in memory, its changes and what it has: what the tests of stores share. A call answers a test's failure where something is not as
-//! it should be. No test stands here, and no contract says more than that a store goes on.
+//! One card in memory, the store on it, its changes and what it has: what the tests of stores share. A call answers a test's failure where something is
+//! not as it should be. No test stands here, and no contract says more than that a store goes on.
 #![tactic(auto)]
 
 mod card;
 mod changes;
-mod memory;
+mod filling;
 mod rows;
 
-pub use card::OneCard;
-pub use changes::{EMPTY, add, drop_soup, make, move_to, remove, replace};
-pub use memory::{CARD, filled, formatted, has_card, host_of};
-pub use rows::{Contents, entry_row, named_row};
+pub use card::{CARD, filled, formatted, found, has_card, host_of, opened};
+pub use changes::{EMPTY, accept, accept_as, add, make, move_to, refuse, remove, replace};
+pub use filling::{come_and_go, fill, two_soups};
+pub use rows::{Contents, contents, contents_on, entry_row, named_row};

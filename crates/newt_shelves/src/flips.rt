@@ -1,9 +1,11 @@
-//! The small image with some bytes changed.
+// The small image with one byte changed.
+ghost use Rattle.std.specs.Prelude.{◌<◌};
 
-use crate::stores::Card;
 use newt_base::hex_read;
-use newt_onecard::Contents;
+use newt_onecard::{Contents, contents_on};
+use newt_pagebook::PageBook;
 use std::alloc::Global;
+use std::process::Abort;
 use std::test::Fail;
 
 /// What a changed image opens as.
@@ -120,79 +122,106 @@ pub(crate) const TABLE: [(usize, usize, Outcome, Outcome); 73] = [
     (14902, 14903, NotStore, Same),
 ];
 
-/// With one byte changed in the bits of a mask.
-fn flipped(alloc: Global, image: &[u8], at: usize, mask: u8) -> Result<Vec<u8>, Fail> {
+// With one byte changed in the bits of a mask.
+fn flipped(
+    rt: &impl Abort,
+    alloc: Global,
+    image: &[u8],
+    at: usize,
+    mask: u8,
+) -> Result<Vec<u8>, Fail> {
     let mut bytes = image.to_vec(alloc)?;
-    match bytes.get_mut(at) {
-        Some(byte) => *byte ^= mask,
-        None => return Err(Fail::new("no such byte")),
-    }
+    assert!(rt; at < bytes.len());
+    bytes[at] ^= mask;
     Ok(bytes)
 }
 
 /// With other bytes from a place on.
 pub(crate) fn patched(
+    rt: &impl Abort,
     alloc: Global,
     image: &[u8],
     at: usize,
     patch: &[u8],
 ) -> Result<Vec<u8>, Fail> {
     let mut bytes = image.to_vec(alloc)?;
-    if at >= bytes.len() || patch.len() > bytes.len() - at {
-        return Err(Fail::new("no such bytes"));
-    }
+    assert!(rt; at < bytes.len() && patch.len() <= bytes.len() - at);
     bytes[at..at + patch.len()].copy_from_slice(patch);
     Ok(bytes)
 }
 
-/// A store, and what comes before its last record.
-#[derive(Drop)]
-pub(crate) struct Stores {
-    pub(crate) same: Contents,
-    pub(crate) before: Contents,
+// What some bytes open as.
+fn outcome_of<P: PageBook>(
+    alloc: Global,
+    bytes: &[u8],
+    same: &Contents,
+    before: &Contents,
+) -> Result<Outcome, Fail> {
+    match contents_on::<P>(alloc, bytes)? {
+        None => Ok(Outcome::NotStore),
+        Some(found) => {
+            if found == *same {
+                return Ok(Outcome::Same);
+            }
+            if found == *before {
+                return Ok(Outcome::Before);
+            }
+            Ok(Outcome::Other)
+        }
+    }
 }
 
-impl Stores {
-    /// What some bytes open as.
-    fn outcome_of(&self, alloc: Global, bytes: &[u8]) -> Result<Outcome, Fail> {
-        match Card::contents_on(alloc, bytes)? {
-            None => Ok(NotStore),
-            Some(found) if found == self.same => Ok(Same),
-            Some(found) if found == self.before => Ok(Before),
-            Some(_) => Ok(Other),
-        }
+/// Each of these bytes, changed in the bits of a mask, makes of the image what is wanted.
+pub(crate) fn check_bytes<P: PageBook>(
+    rt: &impl Abort,
+    alloc: Global,
+    image: &[u8],
+    same: &Contents,
+    before: &Contents,
+    places: (usize, usize),
+    mask: u8,
+    want: Outcome,
+) -> Result<(), Fail> {
+    for at in places.0..places.1 {
+        let bytes = flipped(rt, alloc, image, at, mask)?;
+        let got = outcome_of::<P>(alloc, &bytes, same, before)?;
+        assert_eq!(rt; got, want, "byte {at}, mask {mask}");
     }
+    Ok(())
+}
 
-    /// The image with one byte changed in the bits of a mask opens as what is wanted.
-    pub(crate) fn expect_byte(
-        &self,
-        alloc: Global,
-        image: &[u8],
-        at: usize,
-        mask: u8,
-        want: Outcome,
-    ) -> Result<(), Fail> {
-        let got = self.outcome_of(alloc, &flipped(alloc, image, at, mask)?)?;
-        if got != want {
-            return Err(Fail::new(format_args!("byte {at}, mask {mask}: {got:?}")));
-        }
-        Ok(())
+/// The image opens as the same store with any one of these bytes changed, of which each so many-th is tried.
+pub(crate) fn check_places<P: PageBook>(
+    rt: &impl Abort,
+    alloc: Global,
+    image: &[u8],
+    same: &Contents,
+    places: (usize, usize),
+    step: usize,
+) -> Result<(), Fail>
+    requires { 0 < step }
+{
+    for at in (places.0..places.1).step_by(step) {
+        let bytes = flipped(rt, alloc, image, at, 255)?;
+        let got = outcome_of::<P>(alloc, &bytes, same, same)?;
+        assert_eq!(rt; got, Same, "byte {at}");
     }
+    Ok(())
+}
 
-    /// With these bytes from a place on the image opens as what is wanted.
-    pub(crate) fn expect_patch(
-        &self,
-        alloc: Global,
-        image: &[u8],
-        at: usize,
-        text: &str,
-        want: Outcome,
-    ) -> Result<(), Fail> {
-        let patch = hex_read(alloc, text.as_bytes())?;
-        let got = self.outcome_of(alloc, &patched(alloc, image, at, &patch)?)?;
-        if got != want {
-            return Err(Fail::new(format_args!("{text} at {at}: {got:?}")));
-        }
-        Ok(())
-    }
+/// With these bytes from a place on the image opens as what is wanted.
+pub(crate) fn check_patch<P: PageBook>(
+    rt: &impl Abort,
+    alloc: Global,
+    image: &[u8],
+    same: &Contents,
+    at: usize,
+    text: &str,
+    want: Outcome,
+) -> Result<(), Fail> {
+    let patch = hex_read(alloc, text.as_bytes())?;
+    let bytes = patched(rt, alloc, image, at, &patch)?;
+    let got = outcome_of::<P>(alloc, &bytes, same, same)?;
+    assert_eq!(rt; got, want, "{text} at {at}");
+    Ok(())
 }
