@@ -1,5 +1,5 @@
 -- One card of several changes.
-use Rattle.std.proofs.Common.{◌≡◌, ◌≢◌, inl, inr, ℕ, zero, suc, ◌/◌, ◌<◌, ◌≤◌, ◌&&◌, Bool, true, false, cond, List, [], ◌∷◌, length, get_or, Option, Some, None, IsSome, is_some, Result, Ok, Err, OnErr, slice_get, slice_set, refl, sym, ◌∙◌, ap, subst, arith}
+use Rattle.std.proofs.Common.{◌≡◌, ◌≢◌, inl, inr, ℕ, zero, suc, ◌+◌, ◌/◌, ◌<◌, ◌≤◌, ◌&&◌, Bool, true, false, cond, List, [], ◌∷◌, length, get_or, Option, Some, None, IsSome, is_some, Result, Ok, Err, OnErr, slice_get, slice_set, refl, sym, ◌∙◌, ap, subst, arith}
 use Rattle.std.proofs.lemmas.Bool.{cases_eq, false≢true}
 use Rattle.std.proofs.lemmas.Option.{same_Some, get_or_from_slice_get, slice_get-get_or}
 use Rattle.std.proofs.Math.ListN.{length-set}
@@ -7,7 +7,8 @@ use Rattle.std.specs.Str.{bytes_eq}
 use Rattle.newt_host.specs.Moments.{Change, Attached, Wrote, Synced, On, Moment, bytes_after, changes, output, IsHistory}
 use Rattle.newt_host.specs.Outside.{Outside, Rose, Touches, Spends, NeverFalls, Writes, Syncs}
 use Rattle.newt_host.proofs.Moments.{changes-same, changes-other}
-use Rattle.newt_memhost.specs.Calls.{OnCard}
+use Rattle.newt_memhost.specs.Calls.{OnCard, faults_after, moved_after}
+use Rattle.newt_memhost.specs.Room.{IsCounted}
 use Rattle.newt_memhost.specs.Cards.{IsTold, Stands, StandsAs, name_of, blocks_of, faults_of, programmed_of, fetched_of, attached_device, free_device, or_else, device_of}
 use Rattle.newt_memhost.specs.declared.card.Card.{Card}
 use Rattle.newt_memhost.specs.declared.card.Device.{Device}
@@ -111,6 +112,15 @@ read-there cards i u d same some =
     let is : get_or cards i d ≡ there.0 = get_or_from_slice_get cards i there.0 d at_i in
     (at_i ∙ ap Some (sym is), ap (λ (y : Card). y.attached) is ∙ there.2)
 
+-- a call moves no more bytes than it was to
+moved-most : {T E : Type 0} (r : Result T E) (more count : ℕ) → moved_after more r count ≤ count + more
+moved-most (Ok x) more count = omega arith
+moved-most (Err e) more count = omega arith
+
+faults-rise : {T E : Type 0} (r : Result T E) (before now : ℕ) → now ≡ faults_after r before → OnErr r (Rose before now)
+faults-rise (Ok x) before now is = tt
+faults-rise (Err e) before now is = omega (arith, is)
+
 module _ (cards : List Card) (i unit : ℕ) (b c : Card) (same : i ≡ unit) (is : slice_get cards i ≡ Some b) where
   at-old : slice_get cards unit ≡ Some b
   at-old = ap (λ (k : ℕ). slice_get cards k) (sym same) ∙ is
@@ -180,7 +190,7 @@ module _ (cards : List Card) (i unit : ℕ) (b c : Card) (same : i ≡ unit) (is
       ) in
       told-set old now told held kept (λ other differ. ap (λ (m : Moment). changes other m) is) stands
 
-  module _ {p f : ℕ} (on : OnCard p f b c) where
+  module _ {T E : Type 0} {result : Result T E} {p f : ℕ} (on : OnCard p f result b c) where
     pub names-same : (u : ℕ) → name_of (slice_get (slice_set cards i c) u) ≡ name_of (slice_get cards u)
     names-same u = same-field name_of b c
         (ap (λ (t : Bool). cond t (Some c.name.items) None) on.attached ∙ ap (λ (l : List ℕ). cond b.attached (Some l) None) on.name) cards i is u
@@ -197,9 +207,8 @@ module _ (cards : List Card) (i unit : ℕ) (b c : Card) (same : i ≡ unit) (is
     faults-at : (u : ℕ) → u ≡ unit → faults_of (slice_get cards u) ≤ faults_of (slice_get (slice_set cards i c) u)
     faults-at u here = omega (arith, on.faults, ap (λ (k : ℕ). faults_of (slice_get cards k)) here ∙ ap faults_of at-old, ap (λ (k : ℕ). faults_of (slice_get (slice_set cards i c) k)) here ∙ ap faults_of at-new)
 
-    pub cause-at : {T E : Type 0} (r : Result T E) → OnErr r (Rose b.faults c.faults) → OnErr r (Rose (faults_of (slice_get cards unit)) (faults_of (slice_get (slice_set cards i c) unit)))
-    cause-at r cause = subst (λ (o : Option Card). OnErr r (Rose (faults_of o) (faults_of (slice_get (slice_set cards i c) unit)))) (sym at-old)
-        (subst (λ (o : Option Card). OnErr r (Rose b.faults (faults_of o))) (sym at-new) cause)
+    pub cause-at : OnErr result (Rose (faults_of (slice_get cards unit)) (faults_of (slice_get (slice_set cards i c) unit)))
+    cause-at = faults-rise result _ _ (ap faults_of at-new ∙ on.faults_are ∙ ap (λ (o : Option Card). faults_after result (faults_of o)) (sym at-old))
 
     programmed-old : programmed_of (slice_get cards unit) ≡ b.programmed
     programmed-old = ap programmed_of at-old
@@ -228,8 +237,15 @@ module _ (cards : List Card) (i unit : ℕ) (b c : Card) (same : i ≡ unit) (is
 
       pub spends : Spends unit p f (told-by cards old_now input shelf in_faults out_faults) (told-by (slice_set cards i c) now input shelf in_faults out_faults)
       spends = record {
-        programmed = omega (arith, on.programmed_most, programmed-old, programmed-new);
-        fetched = omega (arith, on.fetched_most, fetched-old, fetched-new);
+        programmed = omega (arith, moved-most result p b.programmed, on.programmed_is, programmed-old, programmed-new);
+        fetched = omega (arith, moved-most result f b.fetched, on.fetched_is, fetched-old, fetched-new);
+      }
+
+      pub counted : IsCounted unit p f result (told-by cards old_now input shelf in_faults out_faults) (told-by (slice_set cards i c) now input shelf in_faults out_faults)
+      counted = record {
+        faults = ap faults_of at-new ∙ on.faults_are ∙ ap (λ (o : Option Card). faults_after result (faults_of o)) (sym at-old);
+        programmed = programmed-new ∙ on.programmed_is ∙ ap (λ (n : ℕ). moved_after p result n) (sym programmed-old);
+        fetched = fetched-new ∙ on.fetched_is ∙ ap (λ (n : ℕ). moved_after f result n) (sym fetched-old);
       }
 
       pub never_falls : NeverFalls unit (told-by cards old_now input shelf in_faults out_faults) (told-by (slice_set cards i c) now input shelf in_faults out_faults)

@@ -1,21 +1,31 @@
 -- A call that was kept in the log was kept by the host.
-use Rattle.std.proofs.Common.{◌≡◌, ℕ, ◌+◌, ◌≤◌, Bool, Result, IsOk, IsErr, ◌∙◌, arith, vec_len, vec_capacity}
+use Rattle.std.proofs.Common.{◌≡◌, inl, inr, ℕ, ◌+◌, ◌≤◌, Bool, Option, Result, is_err, ◌∙◌, arith, vec_len, vec_capacity}
 use Rattle.newt_memhost.specs.Calls.{Keeps}
-use Rattle.newt_memhost.specs.Room.{HasRoomOf, IsKept, is_listed}
+use Rattle.newt_memhost.specs.Room.{HasRoomOf, IsKept, SamePlan, is_listed}
 use Rattle.newt_memhost.specs.declared.host.MemHost.{MemHost}
 
 -- what stays beside the log, and what the output uses
 pub record Beside (bytes : ℕ) (old new : MemHost) : Type 0 where
   pub shelf : vec_len new.shelf ≡ vec_len old.shelf
-  pub failing : new.failing.items ≡ old.failing.items
+  pub plan : SamePlan old new
   pub output_used : vec_len new.output ≤ vec_len old.output + bytes
   pub output_left : vec_capacity old.output ≤ vec_capacity new.output
 
-pub kept-host : {T E S F : Type 0} (bytes waiting : ℕ) (fails : Bool) (room : Type 0) (inner : Result S F) (result : Result T E) (old new : MemHost) → waiting ≡ vec_len old.shelf → fails ≡ is_listed old
-    → Keeps waiting bytes fails room inner old.log new.log → (HasRoomOf 1 bytes old → room) → (IsErr inner → IsErr result) → (IsOk inner → IsOk result) → Beside bytes old new → IsKept bytes result old new
-kept-host bytes waiting fails room inner result old new waits listed kept enough err ok beside = record {
-  fails = λ on. err (kept.fails_so (listed ∙ on));
-  succeeds = λ off has. ok (kept.succeeds (listed ∙ off) (enough has));
+pub kept-host : {T E S F : Type 0} (bytes waiting : ℕ) (unit : Option ℕ) (fails : Bool) (room : Type 0) (inner : Result S F) (result : Result T E) (old new : MemHost) → waiting ≡ vec_len old.shelf → fails ≡ is_listed old
+    → Keeps waiting bytes unit fails room inner old.log new.log → (HasRoomOf 1 bytes old → room) → is_err result ≡ is_err inner → Beside bytes old new → IsKept bytes unit result old new
+kept-host bytes waiting unit fails room inner result old new waits listed kept enough same beside = record {
+  became = elim kept.became [
+    | inl was ↦ inl (record {
+      entry = was.entry;
+      bytes = was.bytes;
+      entries_are = was.entries_are;
+      bytes_are = was.bytes_are;
+      numbered = was.numbered;
+      is_on = was.is_on;
+      failed = same ∙ was.failed ∙ listed;
+    })
+    | inr none ↦ inr (record { entries_are = none.entries_are; bytes_are = none.bytes_are; failed = same ∙ none.failed; full = λ has. none.full (enough has) })
+  ];
   room = λ calls more has. record {
     log_fits = record {
       entries_fit = omega (arith, has.log_fits.entries_fit, kept.entries_used, kept.entries_left, beside.shelf);
@@ -23,7 +33,5 @@ kept-host bytes waiting fails room inner result old new waits listed kept enough
     };
     output_fits = omega (arith, has.output_fits, beside.output_used, beside.output_left);
   };
-  numbered = λ has. kept.counted (enough has);
-  grows = kept.grows;
-  failing = beside.failing;
+  plan = beside.plan;
 }

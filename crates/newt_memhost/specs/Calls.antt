@@ -1,47 +1,70 @@
 -- What one call does to the log and to the card of its unit.
-use Rattle.std.specs.Prelude.{◌≡◌, ℕ, ◌+◌, ◌≤◌, ◌<◌, Some, slice_index_or, Bool, true, false, List, ◌++◌, length, Result, IsOk, IsErr, vec_len, vec_capacity, OnErr, take, drop, ◌∷◌}
+use Rattle.std.specs.Prelude.{◌≡◌, ◌⊎◌, ℕ, ◌+◌, ◌-◌, ◌^◌, ◌≤◌, ◌<◌, min, Option, Some, slice_index_or, Bool, true, List, [], ◌∷◌, ◌++◌, length, take, drop, Result, Ok, Err, IsErr, is_err, OnErr, vec_len, vec_capacity}
 use Rattle.std.proofs.Common.{Vec, Global}
-use Rattle.newt_host.specs.Moments.{Moment, On, Wrote}
-use Rattle.newt_memhost.specs.Happened.{calls_in}
-use Rattle.newt_memhost.specs.Log.{HasRoom}
+use Rattle.newt_host.specs.Moments.{On, Wrote}
+use Rattle.newt_memhost.specs.Log.{HasRoom, now_of}
+use Rattle.newt_memhost.specs.Past.{unit_at}
 use Rattle.newt_memhost.specs.Cards.{free_device}
 use Rattle.newt_memhost.specs.declared.card.Card.{Card}
 use Rattle.newt_memhost.specs.declared.card.Device.{Device}
 use Rattle.newt_memhost.specs.declared.happened.Happened.{Happened}
 use Rattle.newt_memhost.specs.declared.log.Log.{Log}
 
--- Nothing was forgotten: the log has grown by one call, or where there was no room for it, by nothing.
-pub record Grows (old new : Log) : Type 0 where
-  pub entries : List Happened
-  pub bytes : List ℕ
-  pub entries_are : new.entries.items ≡ old.entries.items ++ entries
-  pub bytes_are : new.store.items ≡ old.store.items ++ bytes
-  pub at_most_one : length entries ≤ 1
-  pub calls : calls_in entries ≡ length entries
+-- a count after so many more; it stands still at its last value
+abbrev pub raised : ℕ → ℕ → ℕ
+raised more count = min (count + more) (2 ^ 64 - 1)
 
--- A call is kept, in the room that it has: it uses one entry and at most so many bytes of it, and leaves the entries that wait for attaches.
--- It fails where it is to fail, and else only where there was less room.
-pub record Keeps {T E : Type 0} (waiting bytes : ℕ) (fails : Bool) (room : Type 0) (result : Result T E) (old new : Log) : Type 0 where
-  pub grows : Grows old new
+-- a count of faults after a call: one more where that failed, and else as it was
+abbrev pub faults_after : {T E : Type 0} → Result T E → ℕ → ℕ
+faults_after (Ok x) count = count
+faults_after (Err e) count = raised 1 count
+
+-- a count of bytes after a call on so many of them: where that failed as it was
+abbrev pub moved_after : {T E : Type 0} → ℕ → Result T E → ℕ → ℕ
+moved_after bytes (Ok x) count = raised bytes count
+moved_after bytes (Err e) count = count
+
+-- A call was kept, as one more entry that has a number, on its unit or on none. It failed exactly where it was to fail.
+pub record WasKept {T E : Type 0} (unit : Option ℕ) (fails : Bool) (result : Result T E) (old new : Log) : Type 0 where
+  pub entry : Happened
+  pub bytes : List ℕ
+  pub entries_are : new.entries.items ≡ old.entries.items ++ entry ∷ []
+  pub bytes_are : new.store.items ≡ old.store.items ++ bytes
+  pub numbered : new.calls ≡ old.calls + 1
+  pub is_on : unit_at (Some entry) ≡ unit
+  pub failed : is_err result ≡ fails
+
+-- There was less room than a call uses, and no memory for more: it failed, and nothing has happened.
+pub record HadNoRoom {T E : Type 0} (room : Type 0) (result : Result T E) (old new : Log) : Type 0 where
+  pub entries_are : new.entries.items ≡ old.entries.items
+  pub bytes_are : new.store.items ≡ old.store.items
+  pub failed : IsErr result
+  pub full : room → ⊥
+
+-- What became of a call: nothing that happened before was forgotten, and nothing but that call has happened.
+abbrev pub Became : {T E : Type 0} → Option ℕ → Bool → Type 0 → Result T E → Log → Log → Type 0
+Became unit fails room result old new = WasKept unit fails result old new ⊎ HadNoRoom room result old new
+
+-- A call uses one entry of the room of the log and at most so many bytes of it, and leaves the entries that wait for attaches.
+pub record Keeps {T E : Type 0} (waiting bytes : ℕ) (unit : Option ℕ) (fails : Bool) (room : Type 0) (result : Result T E) (old new : Log) : Type 0 where
+  pub became : Became unit fails room result old new
   pub waits : HasRoom waiting 0 new
   pub entries_used : vec_len new.entries ≤ vec_len old.entries + 1
   pub bytes_used : vec_len new.store ≤ vec_len old.store + bytes
   pub entries_left : vec_capacity old.entries ≤ vec_capacity new.entries
   pub bytes_left : vec_capacity old.store ≤ vec_capacity new.store
-  pub fails_so : fails ≡ true → IsErr result
-  pub succeeds : fails ≡ false → room → IsOk result
-  pub counted : room → new.calls ≡ old.calls + 1
 
--- a call on a card leaves what is attached, and its counts never fall
-pub record OnCard (programs fetches : ℕ) (old new : Card) : Type 0 where
+-- A call on a card leaves what is attached. It counts its fault where it failed, and else the bytes that it programmed and fetched; no count falls.
+pub record OnCard {T E : Type 0} (programs fetches : ℕ) (result : Result T E) (old new : Card) : Type 0 where
   pub attached : new.attached ≡ old.attached
   pub name : new.name.items ≡ old.name.items
   pub first : new.first.items ≡ old.first.items
   pub faults : old.faults ≤ new.faults
+  pub faults_are : new.faults ≡ faults_after result old.faults
   pub programmed : old.programmed ≤ new.programmed
-  pub programmed_most : new.programmed ≤ old.programmed + programs
+  pub programmed_is : new.programmed ≡ moved_after programs result old.programmed
   pub fetched : old.fetched ≤ new.fetched
-  pub fetched_most : new.fetched ≤ old.fetched + fetches
+  pub fetched_is : new.fetched ≡ moved_after fetches result old.fetched
 
 -- the first device of this name stands there
 pub record IsPlaceOf (name : List ℕ) (shelf : List Device) (place : ℕ) : Type 0 where
@@ -64,6 +87,6 @@ pub record HasRoomFor (entries bytes : ℕ) (output : Vec ℕ Global) (log : Log
   pub log_fits : HasRoom entries bytes log
   pub output_fits : vec_len output + bytes ≤ vec_capacity output
 
--- A call that was to program or erase a range and failed has the range pending, as it reads; and nothing has happened where there was no room to keep that.
-abbrev pub LeavesPending : {T E : Type 0} → ℕ → ℕ → ℕ → List ℕ → Type 0 → Result T E → Moment → Moment → Type 0
-LeavesPending unit at n held room result old new = room → OnErr result (new ≡ On unit (Wrote at (take n (drop at held))) ∷ old)
+-- A call that was to program or erase a range, was kept and failed has the range pending, as it reads.
+abbrev pub LeavesPending : {T E : Type 0} → ℕ → ℕ → ℕ → List ℕ → Result T E → Log → Log → Type 0
+LeavesPending unit at n held result old new = new.calls ≡ old.calls + 1 → OnErr result (now_of new ≡ On unit (Wrote at (take n (drop at held))) ∷ now_of old)

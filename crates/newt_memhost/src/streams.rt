@@ -1,5 +1,5 @@
 //! The input and the output.
-ghost use Rattle.std.specs.Prelude.{◌≡◌, ◌+◌, ◌≤◌, ◌++◌, length, IsTrue, OnOk, OnErr, vec_len, vec_capacity};
+ghost use Rattle.std.specs.Prelude.{◌≡◌, ◌+◌, ◌≤◌, ◌++◌, None, length, IsTrue, OnOk, OnErr, vec_len, vec_capacity};
 ghost use Rattle.newt_host.specs.Outside.{printed};
 ghost use Rattle.newt_memhost.specs.Calls.{HasRoomFor, Keeps};
 ghost use Rattle.newt_memhost.specs.Log.{HasRoom, now_of};
@@ -37,7 +37,7 @@ pub fn print(
     ensures appended { OnOk result (output.new.items ≡ output.old.items ++ piece.now) }
     ensures same { OnErr result (now_of log.new ≡ now_of log.old) }
     ensures unchanged { OnErr result (output.new.items ≡ output.old.items) }
-    ensures kept { Keeps waiting (length piece.now) fails (HasRoomFor (waiting + 1) (length piece.now) output.old log.old) result log.old log.new }
+    ensures kept { Keeps waiting (length piece.now) None fails (HasRoomFor (waiting + 1) (length piece.now) output.old log.old) result log.old log.new }
     ensures used { vec_len output.new ≤ vec_len output.old + length piece.now }
     ensures more { vec_capacity output.old ≤ vec_capacity output.new }
 {

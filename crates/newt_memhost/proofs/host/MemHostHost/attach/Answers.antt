@@ -9,7 +9,7 @@ use Rattle.newt_memhost.proofs.Devices.{unknown, attaches, same_counts}
 use Rattle.newt_memhost.proofs.host.MemHostHost.attach.Goals as goal
 
 pub returns-in_default-clause-known : goal.returns-in_default-clause-known
-returns-in_default-clause-known c told =
+returns-in_default-clause-known c =
     unknown c.args.name.now c.args.self.now.cards c.args.self.now.shelf.items c.requires.once
     (ap (λ (n : List ℕ). free_device n c.args.self.now.shelf.items) (sym c.as_bytes.ensures.value) ∙ ap (λ (s : List Device). free_device c.as_bytes.result.now s) (sym c.deref.ensures.value) ∙ c.in_default.ensures)
 
