@@ -4,8 +4,12 @@
 #![tactic(auto)]
 
 #[cfg(test)]
+mod calls;
+#[cfg(test)]
 mod graphs;
 #[cfg(test)]
 mod literals;
 #[cfg(test)]
 mod numbers;
+#[cfg(test)]
+mod tables;
