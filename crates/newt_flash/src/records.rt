@@ -1,20 +1,24 @@
 // What a journal holds, read and changed by its calls.
-ghost use Rattle.std.specs.Prelude.{◌≡◌, ◌+◌, ◌<◌, ◌≤◌, length, IfOk};
+ghost use Rattle.std.specs.Prelude.{◌≡◌, ◌+◌, ◌<◌, ◌≤◌, length, true, IfOk};
 ghost use Rattle.newt_host.specs.Outside.{Touches};
-ghost use Rattle.newt_image.specs.Records.{bank_size};
 ghost use Rattle.newt_journal.specs.Journal.{Stands, room};
+ghost use Rattle.newt_memhost.specs.Outside.{outside_of};
 
+use crate::halt::Halt;
 use newt_host::{Failed, Host};
 use newt_journal::Journal;
+use newt_memhost::MemHost;
 use std::alloc::Global;
-use std::test::Fail;
+
+/// The payloads of a journal, in order.
+pub(crate) type Records = Vec<Vec<u8>>;
 
 /// The payloads of a journal, in order.
 pub(crate) fn payloads<H: Host>(
     alloc: Global,
     journal: &Journal,
     host: &mut H,
-) -> Result<Vec<Vec<u8>>, Fail>
+) -> Result<Records, Halt>
     requires { Stands H.told journal.now (H.outside host.old) }
     ensures stands { Stands H.told journal.now (H.outside host.new) }
     ensures moment { (H.outside host.new).now ≡ (H.outside host.old).now }
@@ -32,17 +36,12 @@ pub(crate) fn payloads<H: Host>(
     Ok(all)
 }
 
-/// Appends one record, its payload in two pieces.
-pub(crate) fn append<H: Host>(
-    journal: Journal,
-    host: &mut H,
-    payload: &[u8],
-) -> Result<Journal, Failed>
+// Appends one record, its payload in two pieces.
+fn append(journal: Journal, host: &mut MemHost, payload: &[u8]) -> Result<Journal, Failed>
     requires some { 0 < length payload.now }
     requires fits { length payload.now ≤ room journal }
-    requires stands { Stands H.told journal (H.outside host.old) }
-    ensures stands { IfOk result (λ after. Stands H.told after (H.outside host.new) × (after.unit ≡ journal.unit)) }
-    ensures alone { Touches journal.unit (H.outside host.old) (H.outside host.new) }
+    requires stands { Stands true journal (outside_of host.old) }
+    ensures { IfOk result (λ after. Stands true after (outside_of host.new) × (after.unit ≡ journal.unit)) }
 {
     let (front, back) = payload.split_at(payload.len() / 2);
     let mut draft = journal.append(host, payload.len() as u32)?;
@@ -51,20 +50,46 @@ pub(crate) fn append<H: Host>(
     draft.finish(host)
 }
 
-/// Mends the votes, and writes one record alone into the other bank.
-pub(crate) fn replace<H: Host>(
-    journal: Journal,
-    host: &mut H,
-    payload: &[u8],
-) -> Result<Journal, Failed>
-    requires fits { 21 + length payload.now ≤ bank_size ((H.outside host.old).blocks journal.unit) }
-    requires stands { Stands H.told journal (H.outside host.old) }
-    ensures stands { IfOk result (λ after. Stands H.told after (H.outside host.new) × (after.unit ≡ journal.unit)) }
-    ensures alone { Touches journal.unit (H.outside host.old) (H.outside host.new) }
+// Mends the votes.
+fn repair(journal: Journal, host: &mut MemHost) -> Result<Journal, Failed>
+    requires { Stands true journal (outside_of host.old) }
+    ensures { IfOk result (λ after. Stands true after (outside_of host.new) × (after.unit ≡ journal.unit)) }
+{
+    let mut journal = journal;
+    journal.repair(host)?;
+    Ok(journal)
+}
+
+// Mends the votes, and writes one record alone into the other bank.
+fn replace(journal: Journal, host: &mut MemHost, payload: &[u8]) -> Result<Journal, Failed>
+    requires short { length payload.now ≤ 4096 }
+    requires stands { Stands true journal (outside_of host.old) }
+    ensures { IfOk result (λ after. Stands true after (outside_of host.new) × (after.unit ≡ journal.unit)) }
 {
     let mut journal = journal;
     journal.repair(host)?;
     let mut draft = journal.switch(host, payload.len() as u32)?;
     draft.put(host, payload)?;
     draft.finish(host)
+}
+
+/// Carries one change out: `append`, `replace` or `repair`.
+pub(crate) fn changed(
+    journal: Journal,
+    host: &mut MemHost,
+    word: &str,
+    payload: &[u8],
+) -> Result<Journal, Halt>
+    requires { Stands true journal (outside_of host.old) × (journal.unit ≡ 0) }
+    ensures { IfOk result (λ after. Stands true after (outside_of host.new) × (after.unit ≡ 0)) }
+{
+    let len = payload.len();
+    match word {
+        "append" if 0 < len && len <= journal.room() as usize => {
+            Ok(append(journal, host, payload)?)
+        }
+        "replace" if len <= 4096 => Ok(replace(journal, host, payload)?),
+        "repair" => Ok(repair(journal, host)?),
+        _ => Err(Halt::Row),
+    }
 }

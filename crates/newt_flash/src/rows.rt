@@ -1,0 +1,245 @@
+//! Tables of rows, each played on the journal of one card. A row is one of these:
+//!
+//! - `append PAYLOAD`, `replace PAYLOAD`, `repair`: a change, behind which the journal holds what it should.
+//! - `cut`, `cut few`: what a crash leaves within each device call of the last change reads as before it or as after it.
+//! - `room => BYTES`: the longest payload that may be appended.
+//! - `reads PLACE=BYTE .. => PAYLOAD ..`: what is read where the card's bytes stand with these others: records, `no record` or `no journal`.
+ghost use Rattle.std.specs.Prelude.{◌≡◌, true, IfOk};
+ghost use Rattle.newt_host.specs.Moments.{IsDurable};
+ghost use Rattle.newt_memhost.specs.Outside.{outside_of};
+ghost use Rattle.newt_journal.specs.Journal.{Stands};
+
+use crate::card::{CARD, has_card, host_of, opened, records_on};
+use crate::crashes::{expect_either, images};
+use crate::halt::Halt;
+use crate::records::{Records, changed, payloads};
+use crate::texts::{around, filled, payload_of, poked, records_of};
+use newt_host::Host;
+use newt_journal::Journal;
+use newt_memhost::MemHost;
+use std::alloc::{AllocError, Global};
+use std::mem;
+use std::process::Abort;
+use std::test::Fail;
+
+// The last change: the number of its first call, the records before it and after it, and the room behind it.
+#[derive(Drop)]
+struct Last {
+    from: u64,
+    before: Records,
+    held: Records,
+    room: u32,
+}
+
+impl Last {
+    // No change yet.
+    fn new(alloc: Global, held: Records, room: u32) -> Last {
+        Last {
+            from: 0,
+            before: Vec::new(alloc),
+            held,
+            room,
+        }
+    }
+}
+
+// The records that a change makes of others.
+fn after(alloc: Global, held: &Records, word: &str, payload: &[u8]) -> Result<Records, Halt> {
+    let mut records = Vec::new(alloc);
+    if word != "replace" {
+        for record in held {
+            records.push(record.to_vec(alloc)?)?;
+        }
+    }
+    if word != "repair" {
+        records.push(payload.to_vec(alloc)?)?;
+    }
+    Ok(records)
+}
+
+// Carries a change out, behind which the journal holds what it should.
+fn change(
+    alloc: Global,
+    journal: Journal,
+    host: &mut MemHost,
+    last: &mut Last,
+    word: &str,
+    payload: &[u8],
+) -> Result<Journal, Halt>
+    requires { Stands true journal (outside_of host.old) × (journal.unit ≡ 0) }
+    ensures { IfOk result (λ after. Stands true after (outside_of host.new) × (after.unit ≡ 0)) }
+{
+    let held = after(alloc, &last.held, word, payload)?;
+    last.before = mem::replace(&mut last.held, held);
+    last.from = host.calls();
+    let journal = changed(journal, host, word, payload)?;
+    last.room = journal.room();
+    if payloads(alloc, &journal, host)? != last.held {
+        return Err(Halt::Other);
+    }
+    Ok(journal)
+}
+
+// The room behind the last change.
+fn expect_room(last: &Last, want: &str) -> Result<(), Halt> {
+    let room: u32 = want.parse()?;
+    if last.room != room {
+        return Err(Halt::Other);
+    }
+    Ok(())
+}
+
+// What is read where the card's bytes stand with some others.
+fn expect_read(
+    rt: &impl Abort,
+    alloc: Global,
+    host: &MemHost,
+    pokes: &str,
+    want: &str,
+) -> Result<(), Halt> {
+    if !has_card(host) {
+        return Err(Halt::Row);
+    }
+    let bytes = poked(alloc, host.bytes(CARD), pokes)?;
+    if records_on(rt, alloc, &bytes)? != records_of(alloc, want)? {
+        return Err(Halt::Other);
+    }
+    Ok(())
+}
+
+// Looks for what a row says, and changes nothing.
+fn look(
+    rt: &impl Abort,
+    alloc: Global,
+    host: &MemHost,
+    last: &Last,
+    asked: (&str, &str),
+    want: &str,
+) -> Result<(), Halt> {
+    match asked.0 {
+        "cut" => {
+            let images = images(alloc, host, last.from, asked.1 == "few")?;
+            expect_either(rt, alloc, &images, &last.before, &last.held)
+        }
+        "room" => expect_room(last, want),
+        "reads" => expect_read(rt, alloc, host, asked.1, want),
+        _ => Err(Halt::Row),
+    }
+}
+
+// Plays one row.
+fn play_row(
+    rt: &impl Abort,
+    alloc: Global,
+    journal: Journal,
+    host: &mut MemHost,
+    last: &mut Last,
+    row: &str,
+) -> Result<Journal, Halt>
+    requires { Stands true journal (outside_of host.old) × (journal.unit ≡ 0) }
+    ensures { IfOk result (λ after. Stands true after (outside_of host.new) × (after.unit ≡ 0)) }
+{
+    let (asked, want) = around(row, " => ");
+    let (word, rest) = around(asked, " ");
+    match word {
+        "append" | "replace" | "repair" => {
+            let payload = payload_of(alloc, rest)?;
+            change(alloc, journal, host, last, word, &payload)
+        }
+        _ => {
+            look(rt, alloc, host, last, (word, rest), want)?;
+            Ok(journal)
+        }
+    }
+}
+
+// Plays the rows of a table, one after another.
+fn play_rows(
+    rt: &impl Abort,
+    alloc: Global,
+    journal: Journal,
+    host: &mut MemHost,
+    last: &mut Last,
+    table: &str,
+) -> Result<(), Fail>
+    requires { Stands true journal (outside_of host.old) × (journal.unit ≡ 0) }
+{
+    let mut journal = journal;
+    for row in table.lines() {
+        match play_row(rt, alloc, journal, host, last, row) {
+            Ok(after) => journal = after,
+            Err(halt) => return Err(Fail::new(format_args!("{halt:?} at {row}"))),
+        }
+    }
+    Ok(())
+}
+
+// Plays a table on a card that is formatted with one record, `first`. The answer is the number of the first call of its last change.
+fn play_formatted(
+    rt: &impl Abort,
+    alloc: Global,
+    host: &mut MemHost,
+    table: &str,
+) -> Result<u64, Fail> {
+    if host.blocks(CARD) < 13 || host.blocks(CARD) > 4099 {
+        return Err(Fail::new("a size that no unit has"));
+    }
+    let journal = Journal::format(host, CARD, b"first")?;
+    let mut held = Vec::new(alloc);
+    held.push(b"first".to_vec(alloc)?)?;
+    let mut last = Last::new(alloc, held, journal.room());
+    play_rows(rt, alloc, journal, host, &mut last, table)?;
+    Ok(last.from)
+}
+
+// Opens the journal of a card, and plays a table on it.
+fn play_opened(rt: &impl Abort, alloc: Global, host: &mut MemHost, table: &str) -> Result<(), Fail>
+    requires { IsDurable 0 (outside_of host.old).now }
+{
+    let Some(journal) = opened(host)? else {
+        return Err(Fail::new("no journal"));
+    };
+    let held = payloads(alloc, &journal, host)?;
+    let mut last = Last::new(alloc, held, journal.room());
+    play_rows(rt, alloc, journal, host, &mut last, table)
+}
+
+// Plays a table on the journal that stands on these bytes.
+fn play_on(rt: &impl Abort, alloc: Global, bytes: &[u8], table: &str) -> Result<(), Fail> {
+    let mut host = host_of(rt, alloc, bytes);
+    play_opened(rt, alloc, &mut host, table)
+}
+
+// A host with a card of so many blocks, all of one byte.
+fn blank(rt: &impl Abort, alloc: Global, blocks: u32, byte: u8) -> Result<MemHost, AllocError> {
+    let bytes = filled(alloc, byte, blocks as usize * 4096)?;
+    Ok(host_of(rt, alloc, &bytes))
+}
+
+/// Plays a table on a card of so many blocks that is formatted with one record, `first`. Before that each byte of it was this one.
+pub(crate) fn play(
+    rt: &impl Abort,
+    alloc: Global,
+    blocks: u32,
+    byte: u8,
+    table: &str,
+) -> Result<(), Fail> {
+    let mut host = blank(rt, alloc, blocks, byte)?;
+    play_formatted(rt, alloc, &mut host, table)?;
+    Ok(())
+}
+
+/// Plays a table on a card of 13 blocks, and another on each card that a crash might have left within its last change.
+pub(crate) fn play_and_mend(
+    rt: &impl Abort,
+    alloc: Global,
+    table: &str,
+    mending: &str,
+) -> Result<(), Fail> {
+    let mut host = blank(rt, alloc, 13, 0x5A)?;
+    let from = play_formatted(rt, alloc, &mut host, table)?;
+    for left in &images(alloc, &host, from, false)? {
+        play_on(rt, alloc, &left.image, mending)?;
+    }
+    Ok(())
+}
