@@ -1,11 +1,11 @@
 //! Replies, and their lines.
 ghost use Rattle.std.specs.Prelude.{◌≡◌, ◌∷◌, [], IfOk};
 
-use newt_base::{Name, NameFault, Refusal, Sig, Uid};
-use newt_graph::{Bytes, Graph};
+use newt_base::{Name, Refusal, Sig, Uid, hex_read};
+use newt_graph::Bytes;
 use newt_host::Unit;
 use newt_keys::{IndexPart, IndexSpec};
-use newt_lit_read::{LitFault, read_literal};
+use newt_lit_read::read_literal;
 use newt_path::Path;
 use newt_reply::{
     Alias, Reply, SoupLine, SoupRows, SpecRows, StoreLine, StoreRows, TagRow, write_reply,
@@ -13,200 +13,64 @@ use newt_reply::{
 use newt_spec_store::{Kind, Order};
 use newt_tags::TagTable;
 use std::alloc::{AllocError, Global};
-use std::process::Abort;
+use std::test::Fail;
 
-fn expect(rt: &impl Abort, alloc: Global, reply: Reply, line: &[u8]) -> Result<(), AllocError> {
-    let text = write_reply(alloc, &reply)?;
-    assert_eq!(rt; text.as_slice(), line);
-    Ok(())
+/// The number that a text begins with, and what is behind it.
+fn number(text: &str) -> (u32, &str) {
+    let (word, rest) = text.split_once(' ').unwrap_or((text, ""));
+    (word.parse().unwrap_or(0), rest)
 }
 
-fn name(rt: &impl Abort, alloc: Global, bytes: &[u8]) -> Result<Name, AllocError> {
-    match Name::read(alloc, bytes) {
-        Ok(name) => Ok(name),
-        Err(NameFault::Memory) => Err(AllocError),
-        Err(NameFault::Name) => rt.abort(),
-    }
+fn unit(number: u32) -> Unit {
+    Unit((number % 256) as u8)
 }
 
-fn graph(rt: &impl Abort, alloc: Global, text: &str) -> Result<Graph, AllocError> {
-    match read_literal(alloc, text) {
-        Ok(graph) => Ok(graph),
-        Err(LitFault::Memory) => Err(AllocError),
-        Err(LitFault::Literal) => rt.abort(),
-    }
+fn name(alloc: Global, text: &str) -> Result<Name, Fail> {
+    Ok(Name::read(alloc, text.as_bytes())?)
 }
 
-#[test]
-fn writes_numbers_and_words(rt: HostRuntime) -> Result<(), AllocError> {
-    let alloc = rt.alloc();
-    expect(&rt, alloc, Reply::Done, b"ok\n")?;
-    expect(&rt, alloc, Reply::Nil, b"ok nil\n")?;
-    expect(&rt, alloc, Reply::Number(4_294_967_295), b"ok 4294967295\n")?;
-    expect(&rt, alloc, Reply::Added(Unit(3), Uid(0)), b"ok 3 0\n")?;
-    let alias = Alias {
-        store: Sig(536_870_911),
-        soup: Sig(0),
-        uid: Uid(12),
-    };
-    expect(
-        &rt,
-        alloc,
-        Reply::Alias(alias),
-        b"ok [alias: 536870911, 0, 12]\n",
-    )?;
-    expect(
-        &rt,
-        alloc,
-        Reply::Refused(Refusal::Full),
-        b"error 33 full\n",
-    )
-}
-
-#[test]
-fn writes_names(rt: HostRuntime) -> Result<(), AllocError> {
-    let alloc = rt.alloc();
-    let bare = name(&rt, alloc, b"Internal")?;
-    expect(&rt, alloc, Reply::Store(Sig(7), bare), b"ok 7 Internal\n")?;
-    let marked = name(&rt, alloc, b"A \"b\" \\")?;
-    expect(
-        &rt,
-        alloc,
-        Reply::Store(Sig(9), marked),
-        b"ok 9 \"A \\\"b\\\" \\\\\"\n",
-    )?;
-    let soup = name(&rt, alloc, b"To Do")?;
-    expect(
-        &rt,
-        alloc,
-        Reply::Where(Unit(0), soup, Uid(1)),
-        b"ok 0 \"To Do\" 1\n",
-    )
-}
-
-#[test]
-fn writes_graphs(rt: HostRuntime) -> Result<(), AllocError> {
-    let alloc = rt.alloc();
-    let frame = graph(&rt, alloc, "{a: 1}")?;
-    expect(&rt, alloc, Reply::Literal(frame), b"ok {a: 1}\n")?;
-    let frame = graph(&rt, alloc, "{a: 1}")?;
-    expect(&rt, alloc, Reply::Nsof(frame), b"ok 0206010701610004\n")?;
-    let frame = graph(&rt, alloc, "{a: 1}")?;
-    expect(&rt, alloc, Reply::Timed(77, frame), b"ok 77 {a: 1}\n")?;
-    let frame = graph(&rt, alloc, "{a: 1}")?;
-    expect(
-        &rt,
-        alloc,
-        Reply::TimedNsof(0, frame),
-        b"ok 0 0206010701610004\n",
-    )
-}
-
-#[test]
-fn writes_bytes(rt: HostRuntime) -> Result<(), AllocError> {
-    let alloc = rt.alloc();
-    let none = Bytes::of(Vec::new(alloc));
-    expect(&rt, alloc, Reply::Hex(none), b"ok\n")?;
-    let some = Bytes::of(vec![in alloc; 0, 65, 66, 0]?);
-    expect(&rt, alloc, Reply::Hex(some), b"ok 00414200\n")?;
-    let high = Bytes::of(vec![in alloc; 255, 10, 171]?);
-    expect(&rt, alloc, Reply::Hex(high), b"ok FF0AAB\n")
-}
-
-#[test]
-fn writes_where_cursors_are(rt: HostRuntime) -> Result<(), AllocError> {
-    let alloc = rt.alloc();
-    let frame = graph(&rt, alloc, "{a: 1}")?;
-    expect(
-        &rt,
-        alloc,
-        Reply::Current(Unit(7), Uid(0), 4_294_967_295, frame),
-        b"ok 7 0 4294967295 {a: 1}\n",
-    )?;
-    expect(&rt, alloc, Reply::Deleted, b"ok deleted\n")?;
-    expect(&rt, alloc, Reply::Begin, b"ok begin\n")?;
-    expect(&rt, alloc, Reply::End, b"ok end\n")
-}
-
-fn store_line(
-    rt: &impl Abort,
-    alloc: Global,
-    unit: u8,
-    sig: u32,
-    text: &[u8],
-) -> Result<StoreLine, AllocError> {
+fn store_line(alloc: Global, item: &str) -> Result<StoreLine, Fail> {
+    let (place, rest) = number(item);
+    let (sig, text) = number(rest);
+    let name = name(alloc, text)?;
     Ok(StoreLine {
-        unit: Unit(unit),
+        unit: unit(place),
         sig: Sig(sig),
-        name: name(rt, alloc, text)?,
+        name,
     })
 }
 
-fn soup_line(
-    rt: &impl Abort,
-    alloc: Global,
-    text: &[u8],
-    sig: u32,
-    count: u32,
-) -> Result<SoupLine, AllocError> {
+/// The stores of items with commas between them.
+fn stores(alloc: Global, text: &str) -> Result<StoreRows, Fail> {
+    let mut lines = Vec::new(alloc);
+    for item in text.split_terminator(", ") {
+        let Ok(()) = lines.push(store_line(alloc, item)?) else {
+            return Err(Fail::new("memory"));
+        };
+    }
+    Ok(StoreRows::of(lines))
+}
+
+fn soup_line(alloc: Global, item: &str) -> Result<SoupLine, Fail> {
+    let (sig, rest) = number(item);
+    let (count, text) = number(rest);
+    let name = name(alloc, text)?;
     Ok(SoupLine {
-        name: name(rt, alloc, text)?,
+        name,
         sig: Sig(sig),
         count,
     })
 }
 
-fn two_stores(rt: &impl Abort, alloc: Global) -> Result<Vec<StoreLine>, AllocError> {
-    let mut stores = Vec::new(alloc);
-    let Ok(()) = stores.push(store_line(rt, alloc, 0, 7, b"Internal")?) else {
-        return Err(AllocError);
-    };
-    let Ok(()) = stores.push(store_line(rt, alloc, 2, 9, b"My Card")?) else {
-        return Err(AllocError);
-    };
-    Ok(stores)
-}
-
-fn three_soups(rt: &impl Abort, alloc: Global) -> Result<Vec<SoupLine>, AllocError> {
-    let mut soups = Vec::new(alloc);
-    let Ok(()) = soups.push(soup_line(rt, alloc, b"Names", 0, 2)?) else {
-        return Err(AllocError);
-    };
-    let Ok(()) = soups.push(soup_line(rt, alloc, b"To Do", 1, 0)?) else {
-        return Err(AllocError);
-    };
-    let Ok(()) = soups.push(soup_line(rt, alloc, b"Cards", 64, 10)?) else {
-        return Err(AllocError);
-    };
-    Ok(soups)
-}
-
-#[test]
-fn writes_stores(rt: HostRuntime) -> Result<(), AllocError> {
-    let alloc = rt.alloc();
-    let none = StoreRows::of(Vec::new(alloc));
-    expect(&rt, alloc, Reply::Stores(none), b"ok\n")?;
-    let two = StoreRows::of(two_stores(&rt, alloc)?);
-    expect(
-        &rt,
-        alloc,
-        Reply::Stores(two),
-        b"ok 0 7 Internal, 2 9 \"My Card\"\n",
-    )
-}
-
-#[test]
-fn writes_soups(rt: HostRuntime) -> Result<(), AllocError> {
-    let alloc = rt.alloc();
-    let none = SoupRows::of(Vec::new(alloc));
-    expect(&rt, alloc, Reply::Soups(none), b"ok\n")?;
-    let three = SoupRows::of(three_soups(&rt, alloc)?);
-    expect(
-        &rt,
-        alloc,
-        Reply::Soups(three),
-        b"ok Names 0 2, \"To Do\" 1 0, Cards 64 10\n",
-    )
+/// The soups of items with commas between them.
+fn soups(alloc: Global, text: &str) -> Result<SoupRows, Fail> {
+    let mut lines = Vec::new(alloc);
+    for item in text.split_terminator(", ") {
+        let Ok(()) = lines.push(soup_line(alloc, item)?) else {
+            return Err(Fail::new("memory"));
+        };
+    }
+    Ok(SoupRows::of(lines))
 }
 
 /// The path `a.B`.
@@ -240,20 +104,6 @@ fn three_parts(alloc: Global) -> Result<IndexSpec, AllocError> {
     Ok(IndexSpec::new(vec![in alloc; number, character, symbol]?))
 }
 
-#[test]
-fn writes_indexes(rt: HostRuntime) -> Result<(), AllocError> {
-    let alloc = rt.alloc();
-    let none = SpecRows::of(Vec::new(alloc));
-    expect(&rt, alloc, Reply::Indexes(none), b"ok\n")?;
-    let two = SpecRows::of(vec![in alloc; one_part(alloc)?, three_parts(alloc)?]?);
-    expect(
-        &rt,
-        alloc,
-        Reply::Indexes(two),
-        b"ok a.B:string:ascend, a.B:int:descend a.B:char:ascend a.B:symbol:descend\n",
-    )
-}
-
 /// The tags `x` and `Y` at the path `a.B`.
 fn two_tags(alloc: Global) -> Result<TagTable, AllocError> {
     let path = path(alloc)?;
@@ -262,12 +112,144 @@ fn two_tags(alloc: Global) -> Result<TagTable, AllocError> {
     Ok(TagTable::new(path, vec![in alloc; first, second]?))
 }
 
+/// The indexes of a word: none of them, or two.
+fn indexes(alloc: Global, text: &str) -> Result<SpecRows, AllocError> {
+    let specs = match text {
+        "none" => Vec::new(alloc),
+        _ => vec![in alloc; one_part(alloc)?, three_parts(alloc)?]?,
+    };
+    Ok(SpecRows::of(specs))
+}
+
+/// The tags of a word: none of them, or two.
+fn tags(alloc: Global, text: &str) -> Result<TagRow, AllocError> {
+    let table = match text {
+        "none" => None,
+        _ => Some(two_tags(alloc)?),
+    };
+    Ok(TagRow { table })
+}
+
+/// A reply with a graph and with up to three numbers before it.
+fn reply_of_graph(alloc: Global, word: &str, rest: &str) -> Result<Reply, Fail> {
+    let (first, behind) = number(rest);
+    match word {
+        "literal" => Ok(Reply::Literal(read_literal(alloc, rest)?)),
+        "nsof" => Ok(Reply::Nsof(read_literal(alloc, rest)?)),
+        "timed" => Ok(Reply::Timed(first, read_literal(alloc, behind)?)),
+        "timednsof" => Ok(Reply::TimedNsof(first, read_literal(alloc, behind)?)),
+        "current" => {
+            let (uid, behind) = number(behind);
+            let (minute, text) = number(behind);
+            let graph = read_literal(alloc, text)?;
+            Ok(Reply::Current(unit(first), Uid(uid), minute, graph))
+        }
+        _ => Err(Fail::new(format_args!("no reply: {word}"))),
+    }
+}
+
+/// A reply with names, bytes or declarations.
+fn reply_of_names(alloc: Global, word: &str, rest: &str) -> Result<Reply, Fail> {
+    let (first, behind) = number(rest);
+    match word {
+        "hex" => Ok(Reply::Hex(Bytes::of(hex_read(alloc, rest.as_bytes())?))),
+        "store" => Ok(Reply::Store(Sig(first), name(alloc, behind)?)),
+        "where" => {
+            let (uid, text) = number(behind);
+            let soup = name(alloc, text)?;
+            Ok(Reply::Where(unit(first), soup, Uid(uid)))
+        }
+        "stores" => Ok(Reply::Stores(stores(alloc, rest)?)),
+        "soups" => Ok(Reply::Soups(soups(alloc, rest)?)),
+        "indexes" => Ok(Reply::Indexes(indexes(alloc, rest)?)),
+        "tags" => Ok(Reply::Tags(tags(alloc, rest)?)),
+        _ => reply_of_graph(alloc, word, rest),
+    }
+}
+
+fn alias(text: &str) -> Alias {
+    let (store, rest) = number(text);
+    let (soup, rest) = number(rest);
+    let (uid, _) = number(rest);
+    Alias {
+        store: Sig(store),
+        soup: Sig(soup),
+        uid: Uid(uid),
+    }
+}
+
+/// The reply of a row: its name, its numbers and its text.
+fn reply(alloc: Global, text: &str) -> Result<Reply, Fail> {
+    let (word, rest) = text.split_once(' ').unwrap_or((text, ""));
+    let (first, behind) = number(rest);
+    match word {
+        "done" => Ok(Reply::Done),
+        "nil" => Ok(Reply::Nil),
+        "deleted" => Ok(Reply::Deleted),
+        "begin" => Ok(Reply::Begin),
+        "end" => Ok(Reply::End),
+        "full" => Ok(Reply::Refused(Refusal::Full)),
+        "number" => Ok(Reply::Number(first)),
+        "added" => Ok(Reply::Added(unit(first), Uid(number(behind).0))),
+        "alias" => Ok(Reply::Alias(alias(rest))),
+        _ => reply_of_names(alloc, word, rest),
+    }
+}
+
+/// Looks for the line of each reply. A row is a reply and, behind ` => `, its line.
+fn expect_each(alloc: Global, table: &str) -> Result<(), Fail> {
+    for row in table.lines() {
+        if row.is_empty() || row.starts_with('#') {
+            continue;
+        }
+        let (text, wanted) = row.split_once(" => ").ok_or("a row without a line")?;
+        let line = write_reply(alloc, &reply(alloc, text)?)?;
+        if line.strip_suffix(b"\n") != Some(wanted.as_bytes()) {
+            return Err(Fail::new(format_args!("another line: {row}")));
+        }
+    }
+    Ok(())
+}
+
+const REPLIES: &str = "
+# Numbers and words.
+done => ok
+nil => ok nil
+number 4294967295 => ok 4294967295
+added 3 0 => ok 3 0
+alias 536870911 0 12 => ok [alias: 536870911, 0, 12]
+full => error 33 full
+# Names.
+store 7 Internal => ok 7 Internal
+store 9 A \"b\" \\ => ok 9 \"A \\\"b\\\" \\\\\"
+where 0 1 To Do => ok 0 \"To Do\" 1
+# Graphs.
+literal {a: 1} => ok {a: 1}
+nsof {a: 1} => ok 0206010701610004
+timed 77 {a: 1} => ok 77 {a: 1}
+timednsof 0 {a: 1} => ok 0 0206010701610004
+# Bytes.
+hex => ok
+hex 00414200 => ok 00414200
+hex FF0AAB => ok FF0AAB
+# Cursors.
+current 7 0 4294967295 {a: 1} => ok 7 0 4294967295 {a: 1}
+deleted => ok deleted
+begin => ok begin
+end => ok end
+# Stores and soups.
+stores => ok
+stores 0 7 Internal, 2 9 My Card => ok 0 7 Internal, 2 9 \"My Card\"
+soups => ok
+soups 0 2 Names, 1 0 To Do, 64 10 Cards => ok Names 0 2, \"To Do\" 1 0, Cards 64 10
+# Indexes and tags.
+indexes none => ok
+indexes two => ok a.B:string:ascend, a.B:int:descend a.B:char:ascend a.B:symbol:descend
+tags none => ok
+tags two => ok a.B x Y
+";
+
 #[test]
-fn writes_tags(rt: HostRuntime) -> Result<(), AllocError> {
-    let alloc = rt.alloc();
-    let none = TagRow { table: None };
-    expect(&rt, alloc, Reply::Tags(none), b"ok\n")?;
-    let table = two_tags(alloc)?;
-    let two = TagRow { table: Some(table) };
-    expect(&rt, alloc, Reply::Tags(two), b"ok a.B x Y\n")
+fn writes_each_reply(rt: HostRuntime) -> Result<(), Fail> {
+    expect_each(rt.alloc(), REPLIES)
 }

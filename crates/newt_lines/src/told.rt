@@ -1,131 +1,151 @@
-//! What a line gives, told in words.
+//! What a line gives, told in words. What memory is refused for is missing in the words, which are then others.
 
-use newt_base::{Name, Uid};
+use newt_base::{Name, Refusal, Uid};
 use newt_graph::Graph;
 use newt_host::Unit;
 use newt_lit_print::print_literal;
 use newt_path::Path;
 use newt_script::{Command, LineFault, line};
 use newt_spec_store::{Kind, Order};
-use newt_spec_world::{PartWord, Syms};
-use std::alloc::{AllocError, Global};
-use std::str;
+use newt_spec_world::PartWord;
+use std::alloc::Global;
 
-/// The text of a name.
-fn text(name: &Name) -> &str {
-    str::from_utf8(name.list()).unwrap_or("")
+fn push(to: &mut Vec<u8>, text: &[u8]) {
+    let _ = to.extend_from_slice(text);
 }
 
-fn unit_words(alloc: Global, word: &str, unit: Unit) -> Result<String, AllocError> {
-    let unit = unit.0;
-    format!(in alloc; "{word} {unit}")
+fn push_word(to: &mut Vec<u8>, word: &str) {
+    push(to, b" ");
+    push(to, word.as_bytes());
 }
 
-fn soup_words(alloc: Global, word: &str, unit: Unit, name: &Name) -> Result<String, AllocError> {
-    let unit = unit.0;
-    let name = text(name);
-    format!(in alloc; "{word} {unit} <{name}>")
+fn push_number(alloc: Global, to: &mut Vec<u8>, number: i64) {
+    if let Ok(text) = format!(in alloc; " {number}") {
+        push(to, text.as_bytes());
+    }
 }
 
-fn entry_words(
-    alloc: Global,
-    word: &str,
-    unit: Unit,
-    name: &Name,
-    uid: Uid,
-) -> Result<String, AllocError> {
-    let front = soup_words(alloc, word, unit, name)?;
-    let uid = uid.0;
-    format!(in alloc; "{front} {uid}")
-}
-
-fn two_soups(alloc: Global, front: &str, unit: Unit, name: &Name) -> Result<String, AllocError> {
-    let back = soup_words(alloc, "to", unit, name)?;
-    format!(in alloc; "{front} {back}")
+fn push_name(to: &mut Vec<u8>, name: &Name) {
+    push(to, b" <");
+    push(to, name.list());
+    push(to, b">");
 }
 
 /// The names of a path, with a point before each.
-fn points(alloc: Global, path: &Path) -> Result<String, AllocError> {
-    let mut text = String::new(alloc);
+fn push_path(to: &mut Vec<u8>, path: &Path) {
+    push(to, b" ");
     for name in path.list() {
-        let name = str::from_utf8(name.list()).unwrap_or("");
-        text = format!(in alloc; "{text}.{name}")?;
+        push(to, b".");
+        push(to, name.list());
     }
-    Ok(text)
 }
 
-fn with_graph(alloc: Global, front: &str, graph: &Graph) -> Result<String, AllocError> {
-    let bytes = print_literal(alloc, graph)?;
-    let printed = str::from_utf8(&bytes).unwrap_or("");
-    format!(in alloc; "{front} {printed}")
+fn push_graph(alloc: Global, to: &mut Vec<u8>, graph: &Graph) {
+    push(to, b" ");
+    if let Ok(printed) = print_literal(alloc, graph) {
+        push(to, &printed);
+    }
+}
+
+fn push_unit(alloc: Global, to: &mut Vec<u8>, word: &str, unit: Unit) {
+    push(to, word.as_bytes());
+    push_number(alloc, to, i64::from(unit.0));
+}
+
+fn push_soup(alloc: Global, to: &mut Vec<u8>, word: &str, unit: Unit, name: &Name) {
+    push_unit(alloc, to, word, unit);
+    push_name(to, name);
+}
+
+fn push_entry(alloc: Global, to: &mut Vec<u8>, word: &str, unit: Unit, name: &Name, uid: Uid) {
+    push_soup(alloc, to, word, unit, name);
+    push_number(alloc, to, i64::from(uid.0));
+}
+
+fn push_cursor(alloc: Global, to: &mut Vec<u8>, word: &str, cursor: u8) {
+    push(to, word.as_bytes());
+    push_number(alloc, to, i64::from(cursor));
 }
 
 /// A command on stores and soups, or on none.
-fn told_of_stores(alloc: Global, command: &Command) -> Result<String, AllocError> {
+fn push_command(alloc: Global, to: &mut Vec<u8>, command: &Command) {
     match command {
-        Command::Nsof(graph) => with_graph(alloc, "nsof", graph),
-        Command::Lit(graph) => with_graph(alloc, "lit", graph),
-        Command::Time(minute) => format!(in alloc; "time {minute}"),
-        Command::Quit => String::from_str(alloc, "quit"),
-        Command::Format(unit, name, sig) => {
-            let front = soup_words(alloc, "format", *unit, name)?;
-            let sig = sig.0;
-            format!(in alloc; "{front} {sig}")
+        Command::Nsof(graph) => {
+            push(to, b"nsof");
+            push_graph(alloc, to, graph);
         }
-        Command::Mount(unit) => unit_words(alloc, "mount", *unit),
-        Command::Unmount(unit) => unit_words(alloc, "unmount", *unit),
-        Command::Stores => String::from_str(alloc, "stores"),
-        Command::Default(unit) => unit_words(alloc, "default", *unit),
-        Command::Soup(unit, name) => soup_words(alloc, "soup", *unit, name),
-        Command::Soups(unit) => unit_words(alloc, "soups", *unit),
-        Command::Drop(unit, name) => soup_words(alloc, "drop", *unit, name),
-        _ => told_of_entries(alloc, command),
+        Command::Lit(graph) => {
+            push(to, b"lit");
+            push_graph(alloc, to, graph);
+        }
+        Command::Time(minute) => {
+            push(to, b"time");
+            push_number(alloc, to, i64::from(*minute));
+        }
+        Command::Quit => push(to, b"quit"),
+        Command::Format(unit, name, sig) => {
+            push_soup(alloc, to, "format", *unit, name);
+            push_number(alloc, to, i64::from(sig.0));
+        }
+        Command::Mount(unit) => push_unit(alloc, to, "mount", *unit),
+        Command::Unmount(unit) => push_unit(alloc, to, "unmount", *unit),
+        Command::Stores => push(to, b"stores"),
+        Command::Default(unit) => push_unit(alloc, to, "default", *unit),
+        Command::Soup(unit, name) => push_soup(alloc, to, "soup", *unit, name),
+        Command::Soups(unit) => push_unit(alloc, to, "soups", *unit),
+        Command::Drop(unit, name) => push_soup(alloc, to, "drop", *unit, name),
+        _ => push_of_entries(alloc, to, command),
     }
 }
 
 /// A command on entries.
-fn told_of_entries(alloc: Global, command: &Command) -> Result<String, AllocError> {
+fn push_of_entries(alloc: Global, to: &mut Vec<u8>, command: &Command) {
     match command {
         Command::Add(unit, name, graph) => {
-            let front = soup_words(alloc, "add", *unit, name)?;
-            with_graph(alloc, front.as_str(), graph)
+            push_soup(alloc, to, "add", *unit, name);
+            push_graph(alloc, to, graph);
         }
         Command::Addx(unit, name, graph) => {
-            let front = soup_words(alloc, "addx", *unit, name)?;
-            with_graph(alloc, front.as_str(), graph)
+            push_soup(alloc, to, "addx", *unit, name);
+            push_graph(alloc, to, graph);
         }
-        Command::Addu(name, graph) => with_graph(alloc, text(name), graph),
-        Command::Get(unit, name, uid) => entry_words(alloc, "get", *unit, name, *uid),
-        Command::Getx(unit, name, uid) => entry_words(alloc, "getx", *unit, name, *uid),
+        Command::Addu(name, graph) => {
+            push(to, name.list());
+            push_graph(alloc, to, graph);
+        }
+        Command::Get(unit, name, uid) => push_entry(alloc, to, "get", *unit, name, *uid),
+        Command::Getx(unit, name, uid) => push_entry(alloc, to, "getx", *unit, name, *uid),
         Command::Set(unit, name, uid, path, graph) => {
-            let front = entry_words(alloc, "set", *unit, name, *uid)?;
-            let points = points(alloc, path)?;
-            let front = format!(in alloc; "{front} {points}")?;
-            with_graph(alloc, front.as_str(), graph)
+            push_entry(alloc, to, "set", *unit, name, *uid);
+            push_path(to, path);
+            push_graph(alloc, to, graph);
         }
         Command::Change(unit, name, uid, graph) => {
-            let front = entry_words(alloc, "change", *unit, name, *uid)?;
-            with_graph(alloc, front.as_str(), graph)
+            push_entry(alloc, to, "change", *unit, name, *uid);
+            push_graph(alloc, to, graph);
         }
-        _ => told_of_places(alloc, command),
+        _ => push_of_places(alloc, to, command),
     }
 }
 
 /// A command that takes an entry away, or tells where it is.
-fn told_of_places(alloc: Global, command: &Command) -> Result<String, AllocError> {
+fn push_of_places(alloc: Global, to: &mut Vec<u8>, command: &Command) {
     match command {
-        Command::Remove(unit, name, uid) => entry_words(alloc, "remove", *unit, name, *uid),
-        Command::Copy(unit, name, uid, to, soup) => {
-            let front = entry_words(alloc, "copy", *unit, name, *uid)?;
-            two_soups(alloc, front.as_str(), *to, soup)
+        Command::Remove(unit, name, uid) => push_entry(alloc, to, "remove", *unit, name, *uid),
+        Command::Copy(unit, name, uid, other, soup) => {
+            push_entry(alloc, to, "copy", *unit, name, *uid);
+            push_soup(alloc, to, " to", *other, soup);
         }
-        Command::Move(unit, name, uid, to, soup) => {
-            let front = entry_words(alloc, "move", *unit, name, *uid)?;
-            two_soups(alloc, front.as_str(), *to, soup)
+        Command::Move(unit, name, uid, other, soup) => {
+            push_entry(alloc, to, "move", *unit, name, *uid);
+            push_soup(alloc, to, " to", *other, soup);
         }
-        Command::Alias(unit, name, uid) => entry_words(alloc, "alias", *unit, name, *uid),
-        Command::Resolve(graph) => with_graph(alloc, "resolve", graph),
-        _ => told_of_declarations(alloc, command),
+        Command::Alias(unit, name, uid) => push_entry(alloc, to, "alias", *unit, name, *uid),
+        Command::Resolve(graph) => {
+            push(to, b"resolve");
+            push_graph(alloc, to, graph);
+        }
+        _ => push_of_declarations(alloc, to, command),
     }
 }
 
@@ -146,162 +166,128 @@ fn order_text(order: Order) -> &'static str {
     }
 }
 
-/// Parts of an index, with a space before each.
-fn with_parts(alloc: Global, front: &str, parts: &[PartWord]) -> Result<String, AllocError> {
-    let mut text = String::from_str(alloc, front)?;
+fn push_parts(to: &mut Vec<u8>, parts: &[PartWord]) {
     for part in parts {
-        let points = points(alloc, &part.path)?;
-        let kind = kind_text(part.kind);
-        let order = order_text(part.order);
-        text = format!(in alloc; "{text} {points} {kind} {order}")?;
+        push_path(to, &part.path);
+        push_word(to, kind_text(part.kind));
+        push_word(to, order_text(part.order));
     }
-    Ok(text)
-}
-
-/// Paths, with a space before each.
-fn with_paths(alloc: Global, front: &str, paths: &[Path]) -> Result<String, AllocError> {
-    let mut text = String::from_str(alloc, front)?;
-    for path in paths {
-        let points = points(alloc, path)?;
-        text = format!(in alloc; "{text} {points}")?;
-    }
-    Ok(text)
-}
-
-/// Symbols, with a space before each.
-fn with_symbols(alloc: Global, front: &str, symbols: &Syms) -> Result<String, AllocError> {
-    let mut text = String::from_str(alloc, front)?;
-    for symbol in symbols.list() {
-        text.push_str(" ")?;
-        text.push_str(str::from_utf8(symbol.list()).unwrap_or(""))?;
-    }
-    Ok(text)
 }
 
 /// A command on the indexes and tags of a soup.
-fn told_of_declarations(alloc: Global, command: &Command) -> Result<String, AllocError> {
+fn push_of_declarations(alloc: Global, to: &mut Vec<u8>, command: &Command) {
     match command {
         Command::Index(unit, name, parts) => {
-            let front = soup_words(alloc, "index", *unit, name)?;
-            with_parts(alloc, front.as_str(), parts.list())
+            push_soup(alloc, to, "index", *unit, name);
+            push_parts(to, parts.list());
         }
         Command::Unindex(unit, name, paths) => {
-            let front = soup_words(alloc, "unindex", *unit, name)?;
-            with_paths(alloc, front.as_str(), paths.list())
+            push_soup(alloc, to, "unindex", *unit, name);
+            for path in paths.list() {
+                push_path(to, path);
+            }
         }
-        Command::Indexes(unit, name) => soup_words(alloc, "indexes", *unit, name),
-        Command::Tags(unit, name) => soup_words(alloc, "tags", *unit, name),
+        Command::Indexes(unit, name) => push_soup(alloc, to, "indexes", *unit, name),
+        Command::Tags(unit, name) => push_soup(alloc, to, "tags", *unit, name),
         Command::SetTags(unit, name, path, symbols) => {
-            let front = soup_words(alloc, "tags", *unit, name)?;
-            let points = points(alloc, path)?;
-            let front = format!(in alloc; "{front} {points}")?;
-            with_symbols(alloc, front.as_str(), symbols)
+            push_soup(alloc, to, "tags", *unit, name);
+            push_path(to, path);
+            for symbol in symbols.list() {
+                push(to, b" ");
+                push(to, symbol.list());
+            }
         }
-        _ => told_of_cursors(alloc, command),
+        _ => push_of_cursors(alloc, to, command),
     }
 }
 
-fn cursor_words(alloc: Global, word: &str, cursor: u8) -> Result<String, AllocError> {
-    format!(in alloc; "{word} {cursor}")
-}
-
 /// A command that makes a cursor, tells of one, or ends one.
-fn told_of_cursors(alloc: Global, command: &Command) -> Result<String, AllocError> {
+fn push_of_cursors(alloc: Global, to: &mut Vec<u8>, command: &Command) {
     match command {
         Command::Query(unit, name, graph) => {
-            let front = soup_words(alloc, "query", *unit, name)?;
-            with_graph(alloc, front.as_str(), graph)
+            push_soup(alloc, to, "query", *unit, name);
+            push_graph(alloc, to, graph);
         }
         Command::QueryAll(name, graph) => {
-            let name = text(name);
-            let front = format!(in alloc; "query all <{name}>")?;
-            with_graph(alloc, front.as_str(), graph)
+            push(to, b"query all");
+            push_name(to, name);
+            push_graph(alloc, to, graph);
         }
-        Command::Entry(cursor) => cursor_words(alloc, "entry", *cursor),
-        Command::Count(cursor) => cursor_words(alloc, "count", *cursor),
-        Command::Which(cursor) => cursor_words(alloc, "which", *cursor),
-        Command::Clone(cursor) => cursor_words(alloc, "clone", *cursor),
-        Command::Close(cursor) => cursor_words(alloc, "close", *cursor),
-        _ => told_of_moves(alloc, command),
+        Command::Entry(cursor) => push_cursor(alloc, to, "entry", *cursor),
+        Command::Count(cursor) => push_cursor(alloc, to, "count", *cursor),
+        Command::Which(cursor) => push_cursor(alloc, to, "which", *cursor),
+        Command::Clone(cursor) => push_cursor(alloc, to, "clone", *cursor),
+        Command::Close(cursor) => push_cursor(alloc, to, "close", *cursor),
+        _ => push_of_moves(alloc, to, command),
     }
 }
 
 /// A command that moves a cursor.
-fn told_of_moves(alloc: Global, command: &Command) -> Result<String, AllocError> {
+fn push_of_moves(alloc: Global, to: &mut Vec<u8>, command: &Command) {
     match command {
-        Command::Next(cursor) => cursor_words(alloc, "next", *cursor),
-        Command::Prev(cursor) => cursor_words(alloc, "prev", *cursor),
-        Command::Reset(cursor) => cursor_words(alloc, "reset", *cursor),
-        Command::End(cursor) => cursor_words(alloc, "end", *cursor),
+        Command::Next(cursor) => push_cursor(alloc, to, "next", *cursor),
+        Command::Prev(cursor) => push_cursor(alloc, to, "prev", *cursor),
+        Command::Reset(cursor) => push_cursor(alloc, to, "reset", *cursor),
+        Command::End(cursor) => push_cursor(alloc, to, "end", *cursor),
         Command::Moveby(cursor, steps) => {
-            let front = cursor_words(alloc, "moveby", *cursor)?;
-            format!(in alloc; "{front} by {steps}")
+            push_cursor(alloc, to, "moveby", *cursor);
+            push(to, b" by");
+            push_number(alloc, to, i64::from(*steps));
         }
         Command::Goto(cursor, unit, uid) => {
-            let unit = unit.0;
-            let uid = uid.0;
-            let front = cursor_words(alloc, "goto", *cursor)?;
-            format!(in alloc; "{front} at {unit} {uid}")
+            push_cursor(alloc, to, "goto", *cursor);
+            push_unit(alloc, to, " at", *unit);
+            push_number(alloc, to, i64::from(uid.0));
         }
         Command::Gotokey(cursor, graph) => {
-            let front = cursor_words(alloc, "gotokey", *cursor)?;
-            with_graph(alloc, front.as_str(), graph)
+            push_cursor(alloc, to, "gotokey", *cursor);
+            push_graph(alloc, to, graph);
         }
-        _ => told_of_bytes(alloc, command),
+        _ => push_of_bytes(alloc, to, command),
     }
-}
-
-/// A place in a large binary.
-fn place_words(
-    alloc: Global,
-    word: &str,
-    unit: Unit,
-    name: &Name,
-    uid: Uid,
-    path: &Path,
-    at: u32,
-) -> Result<String, AllocError> {
-    let front = entry_words(alloc, word, unit, name, uid)?;
-    let points = points(alloc, path)?;
-    format!(in alloc; "{front} {points} from {at}")
-}
-
-/// Bytes as numbers, with a space before each.
-fn with_bytes(alloc: Global, front: &str, bytes: &[u8]) -> Result<String, AllocError> {
-    let mut text = String::from_str(alloc, front)?;
-    for byte in bytes {
-        let number = *byte;
-        text = format!(in alloc; "{text} {number}")?;
-    }
-    Ok(text)
 }
 
 /// A command on the bytes of a large binary.
-fn told_of_bytes(alloc: Global, command: &Command) -> Result<String, AllocError> {
+fn push_of_bytes(alloc: Global, to: &mut Vec<u8>, command: &Command) {
     match command {
         Command::Vread(unit, name, uid, path, at, length) => {
-            let front = place_words(alloc, "vread", *unit, name, *uid, path, *at)?;
-            format!(in alloc; "{front} for {length}")
+            push_entry(alloc, to, "vread", *unit, name, *uid);
+            push_path(to, path);
+            push(to, b" from");
+            push_number(alloc, to, i64::from(*at));
+            push(to, b" for");
+            push_number(alloc, to, i64::from(*length));
         }
         Command::Vwrite(unit, name, uid, path, at, bytes) => {
-            let front = place_words(alloc, "vwrite", *unit, name, *uid, path, *at)?;
-            let front = format!(in alloc; "{front}:")?;
-            with_bytes(alloc, front.as_str(), bytes.list())
+            push_entry(alloc, to, "vwrite", *unit, name, *uid);
+            push_path(to, path);
+            push(to, b" from");
+            push_number(alloc, to, i64::from(*at));
+            push(to, b":");
+            for byte in bytes.list() {
+                push_number(alloc, to, i64::from(*byte));
+            }
         }
-        _ => String::from_str(alloc, "another command"),
+        _ => push(to, b"another command"),
+    }
+}
+
+fn push_refusal(alloc: Global, to: &mut Vec<u8>, refusal: Refusal) {
+    let number = refusal.number();
+    let word = refusal.word();
+    if let Ok(text) = format!(in alloc; "{number} {word}") {
+        push(to, text.as_bytes());
     }
 }
 
 /// The command of a line, or its refusal, or that it gives none.
-pub fn told(alloc: Global, bytes: &[u8]) -> Result<String, AllocError> {
+pub fn told(alloc: Global, bytes: &[u8]) -> Vec<u8> {
+    let mut text = Vec::new(alloc);
     match line(alloc, bytes) {
-        Ok(None) => String::from_str(alloc, "none"),
-        Ok(Some(command)) => told_of_stores(alloc, &command),
-        Err(LineFault::Refused(refusal)) => {
-            let number = refusal.number();
-            let word = refusal.word();
-            format!(in alloc; "{number} {word}")
-        }
-        Err(LineFault::Memory) => Err(AllocError),
+        Ok(None) => push(&mut text, b"none"),
+        Ok(Some(command)) => push_command(alloc, &mut text, &command),
+        Err(LineFault::Refused(refusal)) => push_refusal(alloc, &mut text, refusal),
+        Err(LineFault::Memory) => push(&mut text, b"memory"),
     }
+    text
 }

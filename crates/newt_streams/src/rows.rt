@@ -1,212 +1,120 @@
-//! Small streams: what is read is written in its one form, and what is refused is refused for its reason.
-use newt_nsof_read::{NsofFault, decode};
-use newt_nsof_write::{encode, encoded_len, skeleton_len};
-use std::alloc::Global;
-use std::test::*;
+//! Small streams: what is read is written in its one form, and what is refused is refused for its reason. What is cut off anywhere is malformed.
+use crate::tables::expect_answers;
+use std::test::Fail;
 
-/// A stream, and the one text of the graph that it spells.
-type Row = (&'static [u8], &'static [u8]);
-
-/// Streams that are written again as they stand.
-const KEPT: [&'static [u8]; 18] = [
-    // A frame with the slot a, whose value is 1.
-    b"\x02\x06\x01\x07\x01a\x00\x04",
-    // 64, the least number whose word needs the long form.
-    b"\x02\x00\xFF\x00\x00\x01\x00",
-    // -1: a word with a sign.
-    b"\x02\x00\xFF\xFF\xFF\xFF\xFC",
-    // Nil, true, the last character of one byte, the first of two.
-    b"\x02\x0A",
-    b"\x02\x00\x1A",
-    b"\x02\x01\xFF",
-    b"\x02\x02\x01\x00",
-    // The last character, and a word of its form that is none.
-    b"\x02\x02\xFF\xFF",
-    b"\x02\x00\xFF\x00\x10\x00\x06",
-    // A frame that holds itself, and an array that does.
-    b"\x02\x06\x01\x07\x04self\x09\x00",
-    b"\x02\x05\x01\x09\x00",
-    // One string in two slots, and a string with a zero in it.
-    b"\x02\x05\x02\x08\x04\x00A\x00\x00\x09\x01",
-    b"\x02\x08\x06\x00\x00\xD8\x00\x00\x00",
-    // The class of an array is named again as a tag, and the tag as a value.
-    b"\x02\x04\x01\x07\x01c\x06\x01\x09\x01\x09\x01",
-    // A binary, and two binaries of one class.
-    b"\x02\x03\x02\x07\x01xhi",
-    b"\x02\x05\x02\x03\x00\x07\x01x\x03\x01\x09\x02z",
-    // A large binary that is not compressed, and one of no bytes.
-    b"\x02\x0C\x07\x03foo\x00\x00\x00\x00\x01\x00\x00\x00\x00\x00\x00\x00\x00\x00\x00\x00\x00A",
-    b"\x02\x0C\x07\x03foo\x00\x00\x00\x00\x00\x00\x00\x00\x00\x00\x00\x00\x00\x00\x00\x00\x00",
-];
-
-/// Streams that are written in another form.
-const CHANGED: [Row; 12] = [
-    // The long form of a small number.
-    (b"\x02\x00\xFF\x00\x00\x00\x14", b"\x02\x00\x14"),
-    (
-        b"\x02\x05\xFF\x00\x00\x00\x01\x09\xFF\x00\x00\x00\x00",
-        b"\x02\x05\x01\x09\x00",
-    ),
-    // Nil and a character as words.
-    (b"\x02\x00\x02", b"\x02\x0A"),
-    (b"\x02\x00\xFF\x00\x00\x04\x16", b"\x02\x01A"),
-    (b"\x02\x02\x00A", b"\x02\x01A"),
-    // Two spellings of one symbol: the first stays, and each takes a number.
-    (
-        b"\x02\x05\x02\x07\x03Foo\x07\x03foo",
-        b"\x02\x05\x02\x07\x03Foo\x09\x01",
-    ),
-    (
-        b"\x02\x05\x04\x07\x01a\x07\x01A\x05\x00\x09\x03",
-        b"\x02\x05\x04\x07\x01a\x09\x01\x05\x00\x09\x02",
-    ),
-    // A compander's name, its parameters and the free number are dropped.
-    (
-        b"\x02\x0C\x07\x03foo\x00\x00\x00\x00\x01\x00\x00\x00\x02\x00\x00\x00\x00\x00\x00\x00\x00abA",
-        b"\x02\x0C\x07\x03foo\x00\x00\x00\x00\x01\x00\x00\x00\x00\x00\x00\x00\x00\x00\x00\x00\x00A",
-    ),
-    (
-        b"\x02\x0C\x07\x03foo\x00\x00\x00\x00\x01\x00\x00\x00\x00\x00\x00\x00\x02\x80\x00\x00\x01pqA",
-        b"\x02\x0C\x07\x03foo\x00\x00\x00\x00\x01\x00\x00\x00\x00\x00\x00\x00\x00\x00\x00\x00\x00A",
-    ),
-    // A small rectangle is a frame of four integers.
-    (
-        b"\x02\x0B\x01\x02\x03\x04",
-        b"\x02\x06\x04\x07\x03top\x07\x04left\x07\x06bottom\x07\x05right\x00\x04\x00\x08\x00\x0C\x00\x10",
-    ),
-    // Its symbols take no numbers: 2 is the rectangle's, 3 is that of the symbol behind it.
-    (
-        b"\x02\x05\x04\x07\x03TOP\x0B\x01\x02\x03\xFF\x07\x04left\x09\x03",
-        b"\x02\x05\x04\x07\x03TOP\x06\x04\x09\x01\x07\x04left\x07\x06bottom\x07\x05right\x00\x04\x00\x08\x00\x0C\x00\xFF\x00\x00\x03\xFC\x09\x03\x09\x03",
-    ),
-    // A symbol behind a rectangle is that of its side.
-    (
-        b"\x02\x05\x02\x0B\x00\x00\x00\x00\x07\x04LEFT",
-        b"\x02\x05\x02\x06\x04\x07\x03top\x07\x04left\x07\x06bottom\x07\x05right\x00\x00\x00\x00\x00\x00\x00\x00\x09\x03",
-    ),
-];
-
-/// Bytes that spell no graph.
-const MALFORMED: [&'static [u8]; 34] = [
-    b"",
-    // The version alone, another version, a tag that there is none of.
-    b"\x02",
-    b"\x01\x0A",
-    b"\x02\x0D",
-    // A word that is a pointer.
-    b"\x02\x00\x05",
-    // Bytes behind the object.
-    b"\x02\x0A\x0A",
-    b"\x02\x05\x00\x00",
-    // Counts and numbers below 0, and a count with no slots behind it.
-    b"\x02\x05\xFF\xFF\xFF\xFF\xFF",
-    b"\x02\x06\xFF\xFF\xFF\xFF\xFF",
-    b"\x02\x05\x01\x09\xFF\xFF\xFF\xFF\xFF",
-    b"\x02\x05\xFF\x00\x00\xFF\xFF",
-    b"\x02\x06\xFF\x00\x00\xFF\xFF",
-    // More slots than there may be.
-    b"\x02\x05\xFF\x00\x01\x00\x00",
-    // A precedent of an object that is not yet met, and of itself.
-    b"\x02\x09\x05",
-    b"\x02\x09\x00",
-    b"\x02\x05\x02\x07\x01a\x09\x02",
-    // Strings: of an odd length, of no unit, with a last unit that is not 0.
-    b"\x02\x08\x01A",
-    b"\x02\x08\x03\x00A\x00",
-    b"\x02\x08\x00",
-    b"\x02\x08\x04\x00A\x00B",
-    // Equal tags, in two spellings and by a precedent.
-    b"\x02\x06\x02\x07\x01a\x07\x01A\x0A\x0A",
-    b"\x02\x06\x02\x07\x01a\x09\x01\x0A\x0A",
-    // A tag and classes that are no symbols: nil, a string, the array itself.
-    b"\x02\x06\x01\x0A\x0A",
-    b"\x02\x03\x00\x08\x02\x00\x00",
-    b"\x02\x04\x00\x09\x00",
-    b"\x02\x03\x00\x09\x00",
-    // Names: of no byte, with a control character, with a byte above 126.
-    b"\x02\x07\x00",
-    b"\x02\x07\x01\x1F",
-    b"\x02\x07\x01\x7F",
-    // A name and a binary with too few bytes.
-    b"\x02\x07\x02a",
-    b"\x02\x03\x03\x07\x01xhi",
-    // A large binary of more bytes than there are, marked as compressed, and of more than there may be.
-    b"\x02\x0C\x07\x03foo\x01\x00\x00\x00\x02\x00\x00\x00\x00\x00\x00\x00\x00\x00\x00\x00\x00A",
-    b"\x02\x0C\x07\x03foo\x00\x00\x0F\x42\x41\x00\x00\x00\x00\x00\x00\x00\x00\x00\x00\x00\x00A",
-    b"\x02\x0C\x07\x03foo\x00\xFF\xFF\xFF\xFF\xFF\xFF\xFF\xFF\xFF\xFF\xFF\xFF\xFF\xFF\xFF\xFFA",
-];
-
-/// Bytes that spell a graph but for a flag.
-const COMPRESSED: [&'static [u8]; 2] = [
-    b"\x02\x0C\x07\x03foo\x01\x00\x00\x00\x01\x00\x00\x00\x00\x00\x00\x00\x00\x00\x00\x00\x00A",
-    b"\x02\x05\x02\x0C\x07\x01x\x00\x00\x00\x00\x00\x00\x00\x00\x00\x00\x00\x00\x00\x00\x00\x00\x00\x0C\x09\x02\xFF\x00\x00\x00\x00\x00\x00\x00\x00\x00\x00\x00\x00\x00\x00\x00\x00",
-];
-
-/// Whether the bytes spell a graph that is written so, in the length that is told beforehand.
-pub(crate) fn gives(alloc: Global, given: &[u8], wanted: &[u8]) -> bool {
-    let Ok(graph) = decode(alloc, given) else {
-        return false;
-    };
-    let Ok(written) = encode(alloc, &graph) else {
-        return false;
-    };
-    written.as_slice() == wanted && encoded_len(&graph) == wanted.len() as u64
-}
-
-pub(crate) fn is_malformed(alloc: Global, given: &[u8]) -> bool {
-    matches!(decode(alloc, given), Err(NsofFault::Malformed))
-}
-
-/// Whether each text that such bytes begin with is malformed.
-fn prefixes_are_malformed(alloc: Global, whole: &[u8]) -> bool {
-    (0..whole.len()).all(|n| is_malformed(alloc, &whole[..n]))
-}
+/// Streams that are written again as they stand, and streams that are written in another form.
+const WRITTEN: &str = "
+# A frame with the slot a, whose value is 1.
+02 0601 0701 'a 0004 => kept
+# 64, the least number whose word needs the long form.
+02 00FF00000100 => kept
+# -1: a word with a sign.
+02 00FFFFFFFFFC => kept
+# Nil, true, the last character of one byte, the first of two.
+02 0A => kept
+02 001A => kept
+02 01FF => kept
+02 020100 => kept
+# The last character, and a word of its form that is none.
+02 02FFFF => kept
+02 00FF00100006 => kept
+# A frame that holds itself, and an array that does.
+02 0601 0704 'self 0900 => kept
+02 0501 0900 => kept
+# One string in two slots, and a string with a zero in it.
+02 0502 0804 00 'A 0000 0901 => kept
+02 0806 0000D8000000 => kept
+# The class of an array is named again as a tag, and the tag as a value.
+02 0401 0701 'c 0601 0901 0901 => kept
+# A binary, and two binaries of one class.
+02 0302 0701 'xhi => kept
+02 0502 0300 0701 'x 0301 0902 'z => kept
+# A large binary that is not compressed, and one of no bytes.
+02 0C 0703 'foo 00 00000001 00000000 00000000 00000000 'A => kept => 1
+02 0C 0703 'foo 00 00000000 00000000 00000000 00000000 => kept
+# Large binaries, whose bytes no skeleton has.
+02 0502 0C 0703 'foo 00 00000002 00000000 00000000 00000000 'AB 0302 0902 'hi => kept => 2
+02 0502 0C 0701 'x 00 00000003 00000000 00000000 00000000 'abc 0C 0902 00 00000001 00000000 00000000 00000000 'd => kept => 4
+# From here on another form is written: of the long form of a small number.
+02 00FF00000014 => 02 0014
+02 05FF00000001 09FF00000000 => 02 0501 0900
+# Nil and a character as words.
+02 0002 => 02 0A
+02 00FF00000416 => 02 01 'A
+02 0200 'A => 02 01 'A
+# Two spellings of one symbol: the first stays, and each takes a number.
+02 0502 0703 'Foo 0703 'foo => 02 0502 0703 'Foo 0901
+02 0504 0701 'a 0701 'A 0500 0903 => 02 0504 0701 'a 0901 0500 0902
+# A compander's name, its parameters and the free number are dropped.
+02 0C 0703 'foo 00 00000001 00000002 00000000 00000000 'abA => 02 0C 0703 'foo 00 00000001 00000000 00000000 00000000 'A => 1
+02 0C 0703 'foo 00 00000001 00000000 00000002 80000001 'pqA => 02 0C 0703 'foo 00 00000001 00000000 00000000 00000000 'A => 1
+# A small rectangle is a frame of four integers.
+02 0B01020304 => 02 0604 0703 'top 0704 'left 0706 'bottom 0705 'right 0004 0008 000C 0010
+# Its symbols take no numbers: 2 is the rectangle's, 3 is that of the symbol behind it.
+02 0504 0703 'TOP 0B010203FF 0704 'left 0903 => 02 0504 0703 'TOP 0604 0901 0704 'left 0706 'bottom 0705 'right 0004 0008 000C 00FF000003FC 0903 0903
+# A symbol behind a rectangle is that of its side.
+02 0502 0B00000000 0704 'LEFT => 02 0502 0604 0703 'top 0704 'left 0706 'bottom 0705 'right 0000*4 0903
+";
 
 #[test]
-fn what_is_read_is_written_in_one_form(rt: HostRuntime) {
-    for (n, text) in KEPT.iter().enumerate() {
-        assert!(rt; gives(rt.alloc(), text, text), "kept {n}");
-    }
-    for (n, (given, wanted)) in CHANGED.iter().enumerate() {
-        assert!(rt; gives(rt.alloc(), given, wanted), "changed {n}");
-        assert!(rt; gives(rt.alloc(), wanted, wanted), "changed {n}, once more");
-    }
+fn what_is_read_is_written_in_one_form(rt: HostRuntime) -> Result<(), Fail> {
+    expect_answers(rt.alloc(), WRITTEN)
 }
 
-#[test]
-fn what_is_refused_has_its_reason(rt: HostRuntime) {
-    for (n, bytes) in MALFORMED.iter().enumerate() {
-        assert!(rt; is_malformed(rt.alloc(), bytes), "malformed {n}");
-    }
-    for (n, bytes) in COMPRESSED.iter().enumerate() {
-        assert!(rt;
-            matches!(decode(rt.alloc(), bytes), Err(NsofFault::Compressed)),
-            "compressed {n}"
-        );
-    }
-}
+/// Bytes that spell no graph, or one but for a flag.
+const REFUSED: &str = "
+# No bytes, the version alone, another version, a tag that there is none of.
+00*0 => malformed
+02 => malformed
+01 0A => malformed
+02 0D => malformed
+# A word that is a pointer.
+02 0005 => malformed
+# Bytes behind the object.
+02 0A 0A => malformed
+02 0500 00 => malformed
+# Counts and numbers below 0, and a count with no slots behind it.
+02 05FFFFFFFFFF => malformed
+02 06FFFFFFFFFF => malformed
+02 0501 09FFFFFFFFFF => malformed
+02 05FF0000FFFF => malformed
+02 06FF0000FFFF => malformed
+# More slots than there may be.
+02 05FF00010000 => malformed
+# A precedent of an object that is not yet met, and of itself.
+02 0905 => malformed
+02 0900 => malformed
+02 0502 0701 'a 0902 => malformed
+# Strings: of an odd length, of no unit, with a last unit that is not 0.
+02 0801 'A => malformed
+02 0803 00 'A 00 => malformed
+02 0800 => malformed
+02 0804 00 'A 00 'B => malformed
+# Equal tags, in two spellings and by a precedent.
+02 0602 0701 'a 0701 'A 0A 0A => malformed
+02 0602 0701 'a 0901 0A 0A => malformed
+# A tag and classes that are no symbols: nil, a string, the array itself.
+02 0601 0A 0A => malformed
+02 0300 0802 0000 => malformed
+02 0400 0900 => malformed
+02 0300 0900 => malformed
+# Names: of no byte, with a control character, with a byte above 126.
+02 0700 => malformed
+02 0701 1F => malformed
+02 0701 7F => malformed
+# A name and a binary with too few bytes.
+02 0702 'a => malformed
+02 0303 0701 'xhi => malformed
+# A large binary of more bytes than there are, marked as compressed, and of more than there may be.
+02 0C 0703 'foo 01 00000002 00000000 00000000 00000000 'A => malformed
+02 0C 0703 'foo 00 000F4241 00000000 00000000 00000000 'A => malformed
+02 0C 0703 'foo 00 FFFFFFFF FFFFFFFF FFFFFFFF FFFFFFFF 'A => malformed
+# Streams that are read but for a flag.
+02 0C 0703 'foo 01 00000001 00000000 00000000 00000000 'A => compressed
+02 0502 0C 0701 'x 00 00000000 00000000 00000000 00000000 0C 0902 FF 00000000 00000000 00000000 00000000 => compressed
+";
 
 #[test]
-fn what_is_cut_off_is_malformed(rt: HostRuntime) {
-    for (n, text) in KEPT.iter().enumerate() {
-        assert!(rt; prefixes_are_malformed(rt.alloc(), text), "kept {n}");
-    }
-    for (n, (text, _)) in CHANGED.iter().enumerate() {
-        assert!(rt; prefixes_are_malformed(rt.alloc(), text), "changed {n}");
-    }
-    for (n, text) in COMPRESSED.iter().enumerate() {
-        assert!(rt; prefixes_are_malformed(rt.alloc(), text), "compressed {n}");
-    }
-}
-
-#[test]
-fn a_skeleton_has_no_bytes_of_large_binaries(rt: HostRuntime) -> Result<(), Fail> {
-    let text =
-        b"\x02\x05\x02\x0C\x07\x03foo\x00\x00\x00\x00\x02\x00\x00\x00\x00\x00\x00\x00\x00\x00\x00\x00\x00AB\x03\x02\x09\x02hi";
-    let graph = decode(rt.alloc(), text)
-        .ok()
-        .ok_or("the text spells a graph")?;
-    assert_eq!(rt; encoded_len(&graph), text.len() as u64);
-    assert_eq!(rt; skeleton_len(&graph), text.len() as u64 - 2);
-    Ok(())
+fn what_is_refused_has_its_reason(rt: HostRuntime) -> Result<(), Fail> {
+    expect_answers(rt.alloc(), REFUSED)
 }
