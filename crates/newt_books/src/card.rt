@@ -1,14 +1,14 @@
 // One card in memory, attached as unit 0, and the book on it.
-ghost use Rattle.std.specs.Prelude.{◌≡◌, true, IfOk, IsSome, IsTrue, OnOk, vec_len};
+ghost use Rattle.std.specs.Prelude.{◌≡◌, true, IfOk, IsSome, IsTrue, vec_len};
 ghost use Rattle.newt_host.specs.Moments.{IsDurable};
 ghost use Rattle.newt_memhost.specs.Outside.{outside_of};
 
-use crate::halt::Halt;
 use newt_host::{Host, Unit};
 use newt_memhost::MemHost;
 use newt_pagebook::{Batch, LEAST_BLOCKS, MOST_BLOCKS, Page, PageBook};
 use std::alloc::{AllocError, Global};
 use std::process::Abort;
+use std::test::Fail;
 
 /// The unit of the card.
 pub(crate) const CARD: Unit = Unit(0);
@@ -17,14 +17,14 @@ pub(crate) const CARD: Unit = Unit(0);
 pub(crate) type Pages = Vec<(u32, Page)>;
 
 /// A host with one card of these bytes.
-pub(crate) fn host_of(rt: &impl Abort, alloc: Global, bytes: &[u8]) -> MemHost
-    ensures { IsDurable 0 (outside_of result).now }
+pub(crate) fn host_of(rt: &impl Abort, alloc: Global, bytes: &[u8]) -> Result<MemHost, Fail>
+    ensures { IfOk result (λ host. IsDurable 0 (outside_of host).now) }
 {
     assert!(rt; bytes.len() % 4096 == 0);
     let mut host = MemHost::new(alloc);
-    assert!(rt; host.device("card", bytes).is_ok());
+    host.device("card", bytes)?;
     assert!(rt; host.attach(CARD, "card"));
-    host
+    Ok(host)
 }
 
 /// Whether the unit has a card.
@@ -35,26 +35,17 @@ pub(crate) fn has_card(host: &MemHost) -> bool
 }
 
 /// The book of the card.
-pub(crate) fn opened<P: PageBook>(alloc: Global, host: &mut MemHost) -> Result<P, Halt>
+pub(crate) fn opened<P: PageBook>(
+    rt: &impl Abort,
+    alloc: Global,
+    host: &mut MemHost,
+) -> Result<P, Fail>
     requires { IsDurable 0 (outside_of host.old).now }
     ensures { IfOk result (λ book. P.stands true book (outside_of host.new) × (P.place book ≡ 0)) }
 {
-    if host.blocks(CARD) < LEAST_BLOCKS || host.blocks(CARD) > MOST_BLOCKS {
-        return Err(Halt::Row);
-    }
+    assert!(rt; host.blocks(CARD) >= LEAST_BLOCKS);
+    assert!(rt; host.blocks(CARD) <= MOST_BLOCKS);
     Ok(P::open(alloc, host, CARD)?)
-}
-
-/// Attaches the card anew, to another host.
-pub(crate) fn attach_anew(rt: &impl Abort, alloc: Global, host: &mut MemHost) -> Result<(), Halt>
-    ensures { OnOk result (IsDurable 0 (outside_of host.new).now) }
-{
-    if !has_card(host) {
-        return Err(Halt::Row);
-    }
-    let next = host_of(rt, alloc, host.bytes(CARD));
-    *host = next;
-    Ok(())
 }
 
 // So many bytes, none of them blank.
@@ -66,30 +57,20 @@ fn worn(alloc: Global, count: usize) -> Result<Vec<u8>, AllocError>
     Ok(bytes)
 }
 
-/// A host whose card has so many blocks, each of them worn.
-pub(crate) fn worn_card(
-    rt: &impl Abort,
-    alloc: Global,
-    blocks: u32,
-) -> Result<MemHost, AllocError> {
-    let bytes = worn(alloc, blocks as usize * 4096)?;
-    Ok(host_of(rt, alloc, &bytes))
-}
-
-/// Formats the card as a book without pages, and opens it.
+/// A host whose card has so many blocks, formatted as a book without pages, and attached anew.
 pub(crate) fn fresh<P: PageBook>(
     rt: &impl Abort,
     alloc: Global,
-    host: &mut MemHost,
-) -> Result<P, Halt>
-    ensures { IfOk result (λ book. P.stands true book (outside_of host.new) × (P.place book ≡ 0)) }
+    blocks: u32,
+) -> Result<MemHost, Fail>
+    ensures { IfOk result (λ host. IsDurable 0 (outside_of host).now) }
 {
-    if host.blocks(CARD) < LEAST_BLOCKS || host.blocks(CARD) > MOST_BLOCKS {
-        return Err(Halt::Row);
-    }
-    P::format(alloc, host, CARD, &Batch::new(alloc))?;
-    attach_anew(rt, alloc, host)?;
-    opened(alloc, host)
+    let mut host = host_of(rt, alloc, &worn(alloc, blocks as usize * 4096)?)?;
+    assert!(rt; host.blocks(CARD) >= LEAST_BLOCKS);
+    assert!(rt; host.blocks(CARD) <= MOST_BLOCKS);
+    P::format(alloc, &mut host, CARD, &Batch::new(alloc))?;
+    assert!(rt; has_card(&host));
+    host_of(rt, alloc, host.bytes(CARD))
 }
 
 /// The pages of a book.
@@ -97,7 +78,7 @@ pub(crate) fn pages_in<P: PageBook>(
     alloc: Global,
     host: &mut MemHost,
     book: &mut P,
-) -> Result<Pages, Halt>
+) -> Result<Pages, Fail>
     requires { P.stands true book.old (outside_of host.old) }
     ensures stands { P.stands true book.new (outside_of host.new) }
     ensures same { (P.place book.new ≡ P.place book.old) × (P.spare book.new ≡ P.spare book.old) }
@@ -115,20 +96,13 @@ pub(crate) fn pages_in<P: PageBook>(
     Ok(pages)
 }
 
-// The pages of the card.
-fn pages_opened<P: PageBook>(alloc: Global, host: &mut MemHost) -> Result<Pages, Halt>
-    requires { IsDurable 0 (outside_of host.old).now }
-{
-    let mut book: P = opened(alloc, host)?;
-    pages_in(alloc, host, &mut book)
-}
-
 /// The pages that stand on these bytes.
 pub(crate) fn pages_on<P: PageBook>(
     rt: &impl Abort,
     alloc: Global,
     bytes: &[u8],
-) -> Result<Pages, Halt> {
-    let mut host = host_of(rt, alloc, bytes);
-    pages_opened::<P>(alloc, &mut host)
+) -> Result<Pages, Fail> {
+    let mut host = host_of(rt, alloc, bytes)?;
+    let mut book: P = opened(rt, alloc, &mut host)?;
+    pages_in(alloc, &mut host, &mut book)
 }

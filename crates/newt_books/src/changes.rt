@@ -1,25 +1,24 @@
-// Objects that are put, deleted and patched, and plans that are forgotten.
-ghost use Rattle.std.specs.Prelude.{◌≡◌, ◌<◌, ◌^◌, ℕ, [], true, length, IsSome, IsTrue, OnOk, IfOk};
+// Objects that are put, deleted and read.
+ghost use Rattle.std.specs.Prelude.{◌≡◌, ◌<◌, ◌^◌, ℕ, [], true, length, IsSome, Some, OnOk, IfOk};
 ghost use Rattle.newt_books.specs.Changes.{AreAtRest, IsPlanned};
-ghost use Rattle.newt_host.specs.Outside.{Outside};
 ghost use Rattle.newt_memhost.specs.Outside.{outside_of};
 ghost use Rattle.newt_objects.specs.Held.{AreOf, held};
-ghost use Rattle.newt_pagebook.specs.Book.{Numbers};
 
-use crate::halt::Halt;
-use crate::texts::bytes_of;
+use crate::card::{CARD, has_card, host_of, opened};
+use crate::objects::text_from;
 use newt_memhost::MemHost;
 use newt_objects::Objects;
 use newt_pagebook::{Batch, PageBook};
-use newt_vbo::plan_patch;
 use std::alloc::{AllocError, Global};
+use std::process::Abort;
+use std::test::Fail;
 
 /// The objects of a book.
 pub(crate) fn scanned<P: PageBook>(
     alloc: Global,
     host: &mut MemHost,
     book: &mut P,
-) -> Result<Objects, Halt>
+) -> Result<Objects, Fail>
     requires { P.stands true book.old (outside_of host.old) × (P.place book.old ≡ 0) }
     ensures book { P.stands true book.new (outside_of host.new) × (P.place book.new ≡ 0) }
     ensures objects { IfOk result (λ objects. AreAtRest objects (P.numbers book.new) 0 (outside_of host.new)) }
@@ -27,15 +26,8 @@ pub(crate) fn scanned<P: PageBook>(
     Ok(Objects::scan(alloc, host, book)?)
 }
 
-/// Whether there is an object of this id.
-pub(crate) fn is_there(objects: &Objects, id: u32) -> bool
-    ensures { IsTrue result → IsSome (held objects.now id) }
-{
-    objects.length(id).is_some()
-}
-
-// Plans what the bytes of an object will be, in a batch of its own.
-fn put_plan(
+/// Plans what the bytes of an object will be, in a batch of its own.
+pub(crate) fn put_plan(
     alloc: Global,
     objects: &mut Objects,
     id: u32,
@@ -52,8 +44,12 @@ fn put_plan(
     Ok(batch)
 }
 
-// Plans that an object goes, in a batch of its own.
-fn delete_plan(alloc: Global, objects: &mut Objects, id: u32) -> Result<Batch, AllocError>
+/// Plans that an object goes, in a batch of its own.
+pub(crate) fn delete_plan(
+    alloc: Global,
+    objects: &mut Objects,
+    id: u32,
+) -> Result<Batch, AllocError>
     requires there { IsSome (held objects.old id) }
     requires none { objects.old.plans ≡ [] }
     ensures plan { IfOk result (IsPlanned objects.new) }
@@ -65,13 +61,13 @@ fn delete_plan(alloc: Global, objects: &mut Objects, id: u32) -> Result<Batch, A
     Ok(batch)
 }
 
-// Commits a batch and takes over what was planned.
-fn carry_out<P: PageBook>(
+/// Commits a batch and takes over what was planned.
+pub(crate) fn carry_out<P: PageBook>(
     host: &mut MemHost,
     book: &mut P,
     objects: &mut Objects,
     batch: &Batch,
-) -> Result<(), Halt>
+) -> Result<(), Fail>
     requires book { P.stands true book.old (outside_of host.old) × (P.place book.old ≡ 0) }
     requires table { AreOf true (held objects.old) (P.numbers book.old) 0 (outside_of host.old) }
     requires plan { IsPlanned objects.old batch.now }
@@ -85,95 +81,118 @@ fn carry_out<P: PageBook>(
     Ok(())
 }
 
-/// Puts an object of so many bytes.
+/// Puts an object whose bytes begin with its id.
 pub(crate) fn put<P: PageBook>(
     alloc: Global,
     host: &mut MemHost,
     book: &mut P,
     objects: &mut Objects,
-    id: u32,
+    id: u8,
     size: u32,
-) -> Result<(), Halt>
+) -> Result<(), Fail>
     requires book { P.stands true book.old (outside_of host.old) × (P.place book.old ≡ 0) }
     requires objects { AreAtRest objects.old (P.numbers book.old) 0 (outside_of host.old) }
     ensures book { OnOk result (P.stands true book.new (outside_of host.new) × (P.place book.new ≡ 0)) }
     ensures objects { OnOk result (AreAtRest objects.new (P.numbers book.new) 0 (outside_of host.new)) }
 {
-    let bytes = bytes_of(alloc, id, size)?;
-    let batch = put_plan(alloc, objects, id, &bytes)?;
+    let bytes = text_from(alloc, id, size)?;
+    let batch = put_plan(alloc, objects, u32::from(id), &bytes)?;
     carry_out(host, book, objects, &batch)
 }
 
 /// Deletes an object that is there.
 pub(crate) fn delete<P: PageBook>(
+    rt: &impl Abort,
     alloc: Global,
     host: &mut MemHost,
     book: &mut P,
     objects: &mut Objects,
     id: u32,
-) -> Result<(), Halt>
+) -> Result<(), Fail>
     requires book { P.stands true book.old (outside_of host.old) × (P.place book.old ≡ 0) }
     requires objects { AreAtRest objects.old (P.numbers book.old) 0 (outside_of host.old) }
     ensures book { OnOk result (P.stands true book.new (outside_of host.new) × (P.place book.new ≡ 0)) }
     ensures objects { OnOk result (AreAtRest objects.new (P.numbers book.new) 0 (outside_of host.new)) }
 {
-    if !is_there(objects, id) {
-        return Err(Halt::Row);
-    }
+    assert!(rt; objects.length(id).is_some());
     let batch = delete_plan(alloc, objects, id)?;
     carry_out(host, book, objects, &batch)
 }
 
-/// Plans to put an object, and forgets the plan: nothing is changed.
-pub(crate) fn forget_put(
-    alloc: Global,
-    objects: &mut Objects,
-    id: u32,
-    size: u32,
-) -> Result<(), Halt>
-    requires { objects.old.plans ≡ [] }
-    ensures { OnOk result ((numbers : Numbers) (unit : ℕ) (outside : Outside) → AreAtRest objects.old numbers unit outside → AreAtRest objects.new numbers unit outside) }
-{
-    let bytes = bytes_of(alloc, id, size)?;
-    let _batch = put_plan(alloc, objects, id, &bytes)?;
-    objects.forget();
-    Ok(())
-}
-
-/// Plans to delete an object, and forgets the plan: nothing is changed.
-pub(crate) fn forget_delete(alloc: Global, objects: &mut Objects, id: u32) -> Result<(), Halt>
-    requires { objects.old.plans ≡ [] }
-    ensures { OnOk result ((numbers : Numbers) (unit : ℕ) (outside : Outside) → AreAtRest objects.old numbers unit outside → AreAtRest objects.new numbers unit outside) }
-{
-    if !is_there(objects, id) {
-        return Err(Halt::Row);
-    }
-    let _batch = delete_plan(alloc, objects, id)?;
-    objects.forget();
-    Ok(())
-}
-
-/// Puts bytes in place of others of an object, in a batch of its own. The answer is how many pages were put.
-pub(crate) fn patch<P: PageBook>(
-    alloc: Global,
+// The bytes of an object.
+fn bytes_of<P: PageBook>(
+    rt: &impl Abort,
     host: &mut MemHost,
     book: &mut P,
     objects: &Objects,
     id: u32,
-    at: u32,
-    bytes: &[u8],
-) -> Result<usize, Halt>
-    requires there { IsSome (held objects.now id) }
-    requires short { length bytes.now < 2 ^ 31 }
+) -> Result<Vec<u8>, Fail>
+    requires book { P.stands true book.old (outside_of host.old) × (P.place book.old ≡ 0) }
+    requires objects { AreAtRest objects.now (P.numbers book.old) 0 (outside_of host.old) }
+    ensures book { P.stands true book.new (outside_of host.new) × (P.place book.new ≡ 0) }
+    ensures objects { AreAtRest objects.now (P.numbers book.new) 0 (outside_of host.new) }
+{
+    assert!(rt; objects.length(id).is_some());
+    Ok(objects.read(host, book, id)?)
+}
+
+/// These objects are there, with the bytes that `put` gives them, and no others.
+pub(crate) fn assert_held<P: PageBook>(
+    rt: &impl Abort,
+    alloc: Global,
+    host: &mut MemHost,
+    book: &mut P,
+    objects: &Objects,
+    want: &[(u8, u32)],
+) -> Result<(), Fail>
     requires book { P.stands true book.old (outside_of host.old) × (P.place book.old ≡ 0) }
     requires objects { AreAtRest objects.now (P.numbers book.old) 0 (outside_of host.old) }
     ensures book { OnOk result (P.stands true book.new (outside_of host.new) × (P.place book.new ≡ 0)) }
     ensures objects { OnOk result (AreAtRest objects.now (P.numbers book.new) 0 (outside_of host.new)) }
 {
-    let mut batch = Batch::new(alloc);
-    plan_patch(host, book, objects, id, at, bytes, &mut batch)?;
-    let puts = batch.puts().len();
-    book.reserve(puts as u32)?;
-    book.commit(host, &batch)?;
-    Ok(puts)
+    let mut from = 0;
+    for (id, size) in want {
+        let id = *id;
+        assert_eq!(rt; objects.next(from), Some(u32::from(id)));
+        assert_eq!(rt; objects.length(u32::from(id)), Some(*size));
+        assert!(rt;
+            bytes_of(rt, host, book, objects, u32::from(id))? == text_from(alloc, id, *size)?,
+            "{id}"
+        );
+        from = u32::from(id) + 1;
+    }
+    assert_eq!(rt; objects.next(from), None);
+    Ok(())
+}
+
+// The same of the objects that are found on these bytes.
+fn assert_found<P: PageBook>(
+    rt: &impl Abort,
+    alloc: Global,
+    bytes: &[u8],
+    want: &[(u8, u32)],
+) -> Result<(), Fail> {
+    let mut host = host_of(rt, alloc, bytes)?;
+    let mut book: P = opened(rt, alloc, &mut host)?;
+    let objects = scanned(alloc, &mut host, &mut book)?;
+    assert_held(rt, alloc, &mut host, &mut book, &objects, want)
+}
+
+/// These objects are there, and are found again when the card is opened anew.
+pub(crate) fn assert_kept<P: PageBook>(
+    rt: &impl Abort,
+    alloc: Global,
+    host: &mut MemHost,
+    book: &mut P,
+    objects: &Objects,
+    want: &[(u8, u32)],
+) -> Result<(), Fail>
+    requires book { P.stands true book.old (outside_of host.old) × (P.place book.old ≡ 0) }
+    requires objects { AreAtRest objects.now (P.numbers book.old) 0 (outside_of host.old) }
+    ensures book { OnOk result (P.stands true book.new (outside_of host.new) × (P.place book.new ≡ 0)) }
+    ensures objects { OnOk result (AreAtRest objects.now (P.numbers book.new) 0 (outside_of host.new)) }
+{
+    assert_held(rt, alloc, host, book, objects, want)?;
+    assert!(rt; has_card(host));
+    assert_found::<P>(rt, alloc, host.bytes(CARD), want)
 }

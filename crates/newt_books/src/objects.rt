@@ -1,8 +1,12 @@
 // Objects, their pages spelt by hand.
 ghost use Rattle.std.specs.Prelude.{◌≡◌, ◌≤◌, length, vec_len, IfOk};
 
-use newt_pagebook::{Batch, Page};
+use crate::card::{CARD, fresh, has_card, host_of, opened};
+use newt_objects::{Objects, ScanFault};
+use newt_pagebook::{Batch, Page, PageBook};
 use std::alloc::{AllocError, Global};
+use std::process::Abort;
+use std::test::Fail;
 
 /// The bytes of an object, from 0 on in a circle of 251.
 pub(crate) fn text(alloc: Global, size: u32) -> Result<Vec<u8>, AllocError>
@@ -47,4 +51,52 @@ pub(crate) fn parts_of(alloc: Global, id: u32, size: u32, parts: u32) -> Result<
         batch.put(number, &part_page(id, parts - 1 - number, size))?;
     }
     Ok(batch)
+}
+
+/// The bytes of a card with the pages of a batch.
+pub(crate) fn written<P: PageBook>(
+    rt: &impl Abort,
+    alloc: Global,
+    blocks: u32,
+    batch: &Batch,
+) -> Result<Vec<u8>, Fail>
+    requires { length batch.now.puts ≤ 65536 }
+{
+    let mut host = fresh::<P>(rt, alloc, blocks)?;
+    let mut book: P = opened(rt, alloc, &mut host)?;
+    book.reserve(batch.puts().len() as u32)?;
+    book.commit(&mut host, batch)?;
+    assert!(rt; has_card(&host));
+    Ok(host.bytes(CARD).to_vec(alloc)?)
+}
+
+/// An object that is read from these bytes.
+pub(crate) fn object_on<P: PageBook>(
+    rt: &impl Abort,
+    alloc: Global,
+    bytes: &[u8],
+    id: u32,
+) -> Result<Vec<u8>, Fail> {
+    let mut host = host_of(rt, alloc, bytes)?;
+    let mut book: P = opened(rt, alloc, &mut host)?;
+    let objects = Objects::scan(alloc, &mut host, &mut book)?;
+    assert!(rt; objects.length(id).is_some());
+    Ok(objects.read(&mut host, &mut book, id)?)
+}
+
+/// Whether the pages on these bytes are objects.
+pub(crate) fn are_objects<P: PageBook>(
+    rt: &impl Abort,
+    alloc: Global,
+    bytes: &[u8],
+) -> Result<bool, Fail> {
+    let mut host = host_of(rt, alloc, bytes)?;
+    let mut book: P = opened(rt, alloc, &mut host)?;
+    match Objects::scan(alloc, &mut host, &mut book) {
+        Ok(_) => Ok(true),
+        Err(fault) => {
+            assert_eq!(rt; fault, ScanFault::Bad);
+            Ok(false)
+        }
+    }
 }

@@ -1,140 +1,217 @@
-//! Rows on the objects of a book, which are changed by plans:
-//!
-//! - `put ID SIZE`, `delete ID`: an object is put, with bytes that begin with its id, or is deleted.
-//! - `forget ID SIZE`, `forget ID`: the same is planned, and the plan is forgotten.
-//! - `patch ID AT COUNT => PAGES`: so many bytes are put in place of others, from a place on, and so many pages.
-//! - `reopen`: the card is attached and opened anew, and its objects are found again.
-//! - `ids ID ..`: these objects are there, and no others. `object ID => SIZE`: it has so many bytes, and those that it should.
-//! - `range ID AT LEN`: so many bytes from a place on are read, and are those that they should. `past ID AT LEN`: they end past the end, and are refused.
-//! - `live => COUNT`, `next FROM => NUMBER`: how many pages are live, and the least number of one from a number on.
-ghost use Rattle.std.specs.Prelude.{◌≡◌, true, OnOk};
+//! Objects by plans: what is put is read back, also when the card is opened anew.
+ghost use Rattle.std.specs.Prelude.{◌≡◌, ◌<◌, ◌^◌, ℕ, [], true, length, OnOk, IfOk};
 ghost use Rattle.newt_books.specs.Changes.{AreAtRest};
+ghost use Rattle.newt_host.specs.Outside.{Outside};
 ghost use Rattle.newt_memhost.specs.Outside.{outside_of};
+ghost use Rattle.newt_pagebook.specs.Book.{Numbers};
 
-use crate::card::{attach_anew, opened};
-use crate::changes::{delete, forget_delete, forget_put, is_there, patch, put, scanned};
-use crate::halt::Halt;
-use crate::reads::{Patches, expect_ids, expect_object, expect_past, expect_range};
-use crate::texts::{bytes_at, expect_number};
+use crate::card::{fresh, opened};
+use crate::changes::{assert_kept, delete, delete_plan, put, put_plan, scanned};
+use crate::objects::text;
 use newt_memhost::MemHost;
 use newt_objects::Objects;
-use newt_pagebook::PageBook;
-use std::alloc::Global;
+use newt_pagebook::{Batch, PageBook};
+use newt_pageplain::PlainBook;
+use std::alloc::{AllocError, Global};
 use std::process::Abort;
+use std::test::Fail;
 
-// Attaches the card anew, opens its book and finds its objects.
-fn reopen<P: PageBook>(
-    rt: &impl Abort,
+// Puts these objects, one after another.
+fn put_each<P: PageBook>(
     alloc: Global,
     host: &mut MemHost,
     book: &mut P,
     objects: &mut Objects,
-) -> Result<(), Halt>
-    ensures book { OnOk result (P.stands true book.new (outside_of host.new) × (P.place book.new ≡ 0)) }
-    ensures objects { OnOk result (AreAtRest objects.new (P.numbers book.new) 0 (outside_of host.new)) }
-{
-    attach_anew(rt, alloc, host)?;
-    *book = opened(alloc, host)?;
-    *objects = scanned(alloc, host, book)?;
-    Ok(())
-}
-
-// Patches an object that is there, which puts so many pages.
-fn expect_patch<P: PageBook>(
-    alloc: Global,
-    host: &mut MemHost,
-    book: &mut P,
-    objects: &Objects,
-    patched: (u32, u32, u32),
-    pages: usize,
-) -> Result<(), Halt>
-    requires book { P.stands true book.old (outside_of host.old) × (P.place book.old ≡ 0) }
-    requires objects { AreAtRest objects.now (P.numbers book.old) 0 (outside_of host.old) }
-    ensures book { OnOk result (P.stands true book.new (outside_of host.new) × (P.place book.new ≡ 0)) }
-    ensures objects { OnOk result (AreAtRest objects.now (P.numbers book.new) 0 (outside_of host.new)) }
-{
-    let (id, at, count) = patched;
-    if !is_there(objects, id) || count > 10_000 {
-        return Err(Halt::Row);
-    }
-    let bytes = bytes_at(alloc, at, count)?;
-    if patch(alloc, host, book, objects, id, at, &bytes)? != pages {
-        return Err(Halt::Other);
-    }
-    Ok(())
-}
-
-// Looks for what a row says, and changes nothing.
-fn look<P: PageBook>(
-    alloc: Global,
-    host: &mut MemHost,
-    book: &mut P,
-    objects: &Objects,
-    patches: &[(u32, u32, u32)],
-    word: &str,
-    numbers: &[u32],
-    want: &str,
-) -> Result<(), Halt>
-    requires book { P.stands true book.old (outside_of host.old) × (P.place book.old ≡ 0) }
-    requires objects { AreAtRest objects.now (P.numbers book.old) 0 (outside_of host.old) }
-    ensures book { OnOk result (P.stands true book.new (outside_of host.new) × (P.place book.new ≡ 0)) }
-    ensures objects { OnOk result (AreAtRest objects.now (P.numbers book.new) 0 (outside_of host.new)) }
-{
-    match (word, numbers) {
-        ("ids", _) => expect_ids(alloc, objects, numbers),
-        ("object", [id]) => {
-            expect_object(alloc, host, book, objects, patches, *id, want.parse()?)
-        }
-        ("range", [id, at, len]) => {
-            expect_range(alloc, host, book, objects, patches, *id, *at, *len)
-        }
-        ("past", [id, at, len]) => expect_past(alloc, host, book, objects, *id, *at, *len),
-        ("live", []) => expect_number(Some(book.live()), want),
-        ("next", [from]) => expect_number(book.next_page(*from), want),
-        _ => Err(Halt::Row),
-    }
-}
-
-/// Plays one row.
-pub(crate) fn play_row<P: PageBook>(
-    rt: &impl Abort,
-    alloc: Global,
-    host: &mut MemHost,
-    book: &mut P,
-    objects: &mut Objects,
-    patches: &mut Patches,
-    word: &str,
-    numbers: &[u32],
-    want: &str,
-) -> Result<(), Halt>
+    all: &[(u8, u32)],
+) -> Result<(), Fail>
     requires book { P.stands true book.old (outside_of host.old) × (P.place book.old ≡ 0) }
     requires objects { AreAtRest objects.old (P.numbers book.old) 0 (outside_of host.old) }
     ensures book { OnOk result (P.stands true book.new (outside_of host.new) × (P.place book.new ≡ 0)) }
     ensures objects { OnOk result (AreAtRest objects.new (P.numbers book.new) 0 (outside_of host.new)) }
 {
-    match (word, numbers) {
-        ("put", [id, size]) => put(alloc, host, book, objects, *id, *size),
-        ("delete", [id]) => delete(alloc, host, book, objects, *id),
-        ("forget", [id, size]) => {
-            forget_put(alloc, objects, *id, *size)?;
-            Ok(())
-        }
-        ("forget", [id]) => {
-            forget_delete(alloc, objects, *id)?;
-            Ok(())
-        }
-        ("patch", [id, at, count]) => {
-            patches.push((*id, *at, *count))?;
-            expect_patch(
-                alloc,
-                host,
-                book,
-                objects,
-                (*id, *at, *count),
-                want.parse()?,
-            )
-        }
-        ("reopen", []) => reopen(rt, alloc, host, book, objects),
-        _ => look(alloc, host, book, objects, patches, word, numbers, want),
+    for (id, size) in all {
+        put(alloc, host, book, objects, *id, *size)?;
     }
+    Ok(())
+}
+
+// Each object is put into a batch of its own, and is there beside the others.
+fn keeps<P: PageBook>(
+    rt: &impl Abort,
+    alloc: Global,
+    blocks: u32,
+    all: &[(u8, u32)],
+    pages: u32,
+) -> Result<(), Fail> {
+    let mut host = fresh::<P>(rt, alloc, blocks)?;
+    let mut book: P = opened(rt, alloc, &mut host)?;
+    let mut objects = scanned(alloc, &mut host, &mut book)?;
+    put_each(alloc, &mut host, &mut book, &mut objects, all)?;
+    assert_eq!(rt; book.live(), pages);
+    assert_kept(rt, alloc, &mut host, &mut book, &objects, all)
+}
+
+#[test]
+fn objects_are_put_and_found_again(rt: HostRuntime) -> Result<(), Fail> {
+    let all = [(3u8, 0u32), (5, 1), (6, 500), (8, 501), (9, 1_000_000)];
+    keeps::<PlainBook>(&rt, rt.alloc(), 520, &all, 2005)
+}
+
+// What is put again is there instead: of the longer object no part is left.
+fn shortens<P: PageBook>(rt: &impl Abort, alloc: Global) -> Result<(), Fail> {
+    let mut host = fresh::<P>(rt, alloc, 13)?;
+    let mut book: P = opened(rt, alloc, &mut host)?;
+    let mut objects = scanned(alloc, &mut host, &mut book)?;
+    put_each(
+        alloc,
+        &mut host,
+        &mut book,
+        &mut objects,
+        &[(7, 1_200), (8, 501)],
+    )?;
+    assert_eq!(rt; book.live(), 5);
+    put_each(alloc, &mut host, &mut book, &mut objects, &[(7, 400)])?;
+    assert_eq!(rt; book.live(), 3);
+    assert_kept(
+        rt,
+        alloc,
+        &mut host,
+        &mut book,
+        &objects,
+        &[(7, 400), (8, 501)],
+    )
+}
+
+#[test]
+fn a_shorter_object_leaves_no_old_part(rt: HostRuntime) -> Result<(), Fail> {
+    shortens::<PlainBook>(&rt, rt.alloc())
+}
+
+// A deleted object's pages are gone, and their numbers are given again.
+fn deletes<P: PageBook>(rt: &impl Abort, alloc: Global) -> Result<(), Fail> {
+    let mut host = fresh::<P>(rt, alloc, 13)?;
+    let mut book: P = opened(rt, alloc, &mut host)?;
+    let mut objects = scanned(alloc, &mut host, &mut book)?;
+    put_each(
+        alloc,
+        &mut host,
+        &mut book,
+        &mut objects,
+        &[(7, 1_200), (8, 501)],
+    )?;
+    delete(rt, alloc, &mut host, &mut book, &mut objects, 7)?;
+    assert_eq!(rt; book.next_page(0), Some(3));
+    assert_kept(rt, alloc, &mut host, &mut book, &objects, &[(8, 501)])?;
+    put_each(alloc, &mut host, &mut book, &mut objects, &[(9, 501)])?;
+    assert_eq!(rt; book.next_page(2), Some(3));
+    assert_kept(
+        rt,
+        alloc,
+        &mut host,
+        &mut book,
+        &objects,
+        &[(8, 501), (9, 501)],
+    )
+}
+
+#[test]
+fn a_deleted_object_is_gone(rt: HostRuntime) -> Result<(), Fail> {
+    deletes::<PlainBook>(&rt, rt.alloc())
+}
+
+// Plans to put an object anew, to put another, and to delete one, and forgets each plan.
+fn plan_and_forget(rt: &impl Abort, alloc: Global, objects: &mut Objects) -> Result<(), Fail>
+    requires { objects.old.plans ≡ [] }
+    ensures { OnOk result ((numbers : Numbers) (unit : ℕ) (outside : Outside) → AreAtRest objects.old numbers unit outside → AreAtRest objects.new numbers unit outside) }
+{
+    let bytes = text(alloc, 400)?;
+    let _batch = put_plan(alloc, objects, 7, &bytes)?;
+    objects.forget();
+    let _batch = put_plan(alloc, objects, 9, &bytes)?;
+    objects.forget();
+    assert!(rt; objects.length(8).is_some());
+    let _batch = delete_plan(alloc, objects, 8)?;
+    objects.forget();
+    Ok(())
+}
+
+// What is forgotten was never there, and may be planned again.
+fn forgets<P: PageBook>(rt: &impl Abort, alloc: Global) -> Result<(), Fail> {
+    let mut host = fresh::<P>(rt, alloc, 13)?;
+    let mut book: P = opened(rt, alloc, &mut host)?;
+    let mut objects = scanned(alloc, &mut host, &mut book)?;
+    put_each(
+        alloc,
+        &mut host,
+        &mut book,
+        &mut objects,
+        &[(7, 1_200), (8, 501)],
+    )?;
+    plan_and_forget(rt, alloc, &mut objects)?;
+    assert_kept(
+        rt,
+        alloc,
+        &mut host,
+        &mut book,
+        &objects,
+        &[(7, 1_200), (8, 501)],
+    )?;
+    put_each(alloc, &mut host, &mut book, &mut objects, &[(9, 400)])?;
+    assert_kept(
+        rt,
+        alloc,
+        &mut host,
+        &mut book,
+        &objects,
+        &[(7, 1_200), (8, 501), (9, 400)],
+    )
+}
+
+#[test]
+fn a_forgotten_plan_changes_nothing(rt: HostRuntime) -> Result<(), Fail> {
+    forgets::<PlainBook>(&rt, rt.alloc())
+}
+
+// The batch with one put and one delete.
+fn begun(alloc: Global) -> Result<Batch, AllocError>
+    ensures { IfOk result (λ batch. length batch.puts < 2 ^ 32) }
+{
+    let mut batch = Batch::new(alloc);
+    batch.put(5, &[0; 512])?;
+    batch.delete(9)?;
+    Ok(batch)
+}
+
+// The numbers of the pages that are put for an object of so many bytes, behind those of the batch; none where page numbers are wanting.
+fn numbers_for(alloc: Global, size: u32) -> Result<Option<Vec<u32>>, AllocError> {
+    let bytes = text(alloc, size)?;
+    let mut objects = Objects::empty(alloc);
+    let mut batch = begun(alloc)?;
+    match objects.plan_put(7, &bytes, &mut batch) {
+        Ok(()) => Ok(Some(put_numbers(alloc, &batch)?)),
+        Err(_) => Ok(None),
+    }
+}
+
+fn put_numbers(alloc: Global, batch: &Batch) -> Result<Vec<u32>, AllocError> {
+    batch.puts().iter().map(|put| put.0).collect(alloc)
+}
+
+#[test]
+fn every_page_number_is_given(rt: HostRuntime) -> Result<(), Fail> {
+    let alloc = rt.alloc();
+    let Some(few) = numbers_for(alloc, 5_000)? else {
+        panic!(&rt; "the object is not planned");
+    };
+    assert_eq!(&rt;
+        few.as_slice(),
+        [5, 0, 1, 2, 3, 4, 6, 7, 8, 10, 11].as_slice()
+    );
+    let Some(all) = numbers_for(alloc, 65_534 * 500)? else {
+        panic!(&rt; "the object is not planned");
+    };
+    assert_eq!(&rt; all.len(), 65_535);
+    assert_eq!(&rt; all.last(), Some(&65_535));
+    assert!(&rt; numbers_for(alloc, 65_534 * 500 + 1)?.is_none());
+    Ok(())
 }

@@ -1,342 +1,182 @@
 //! Books on a card in memory.
-use crate::rows::play;
+ghost use Rattle.std.specs.Prelude.{◌≡◌, ◌≤◌, true, length, OnOk};
+ghost use Rattle.newt_memhost.specs.Outside.{outside_of};
+
+use crate::batches::{batch_of, changed};
+use crate::card::{CARD, fresh, has_card, opened, pages_in};
+use crate::crashes::assert_either;
+use crate::objects::{are_objects, object_on, parts_of, text, written};
+use newt_host::Host;
+use newt_memhost::MemHost;
+use newt_pagebook::{Batch, CommitFault, PageBook};
 use newt_pageplain::PlainBook;
+use std::alloc::Global;
+use std::process::Abort;
 use std::test::Fail;
 
-// Each commit has ten puts and two deletes. A bank takes three such records, and behind a record of all pages one more.
+// The bank that the card votes for.
+fn vote_of(rt: &impl Abort, host: &MemHost) -> u8 {
+    assert!(rt; has_card(host));
+    let bytes = host.bytes(CARD);
+    assert!(rt; bytes.len() == 13 * 4096);
+    bytes[0]
+}
+
+// Commits a batch, for which room is made first, and checks what a crash leaves within each call.
+fn commit<P: PageBook>(
+    rt: &impl Abort,
+    alloc: Global,
+    host: &mut MemHost,
+    book: &mut P,
+    batch: &Batch,
+) -> Result<(), Fail>
+    requires book { P.stands true book.old (outside_of host.old) × (P.place book.old ≡ 0) }
+    requires few { length batch.now.puts ≤ 64 }
+    ensures { OnOk result (P.stands true book.new (outside_of host.new) × (P.place book.new ≡ 0)) }
+{
+    let before = pages_in(alloc, host, book)?;
+    let after = changed(alloc, &before, batch)?;
+    book.reserve(batch.puts().len() as u32)?;
+    let from = host.calls();
+    book.commit(host, batch)?;
+    assert_either::<P>(rt, alloc, host, from, &before, &after)?;
+    assert_eq!(rt; pages_in(alloc, host, book)?, after);
+    Ok(())
+}
+
+// A batch after which too many pages would be live is refused, and the book is as it was.
+fn refuse<P: PageBook>(
+    rt: &impl Abort,
+    alloc: Global,
+    host: &mut MemHost,
+    book: &mut P,
+    batch: &Batch,
+) -> Result<(), Fail>
+    requires book { P.stands true book.old (outside_of host.old) × (P.place book.old ≡ 0) }
+    requires few { length batch.now.puts ≤ 64 }
+    ensures { OnOk result (P.stands true book.new (outside_of host.new) × (P.place book.new ≡ 0)) }
+{
+    let before = pages_in(alloc, host, book)?;
+    book.reserve(batch.puts().len() as u32)?;
+    let from = host.calls();
+    match book.commit(host, batch) {
+        Err(CommitFault::Full) => {}
+        _ => panic!(rt; "the batch is not refused"),
+    }
+    assert_eq!(rt; host.calls(), from);
+    assert_eq!(rt; pages_in(alloc, host, book)?, before);
+    Ok(())
+}
+
+// Commits ten puts and two deletes at a time. A bank takes three such records, and behind a record of all pages one more.
+fn switches<P: PageBook>(rt: &impl Abort, alloc: Global) -> Result<(), Fail> {
+    let mut host = fresh::<P>(rt, alloc, 13)?;
+    let mut book: P = opened(rt, alloc, &mut host)?;
+    let mut votes = Vec::new(alloc);
+    for turn in 0..10u8 {
+        let from = turn as u32 * 7 % 26;
+        commit(
+            rt,
+            alloc,
+            &mut host,
+            &mut book,
+            &batch_of(alloc, from, 2, 10, turn)?,
+        )?;
+        votes.push(vote_of(rt, &host))?;
+    }
+    assert_eq!(rt; votes.as_slice(), [0, 0, 0, 1, 1, 0, 0, 1, 1, 0].as_slice());
+    Ok(())
+}
+
 #[test]
 fn a_crash_leaves_the_pages_before_or_after(rt: HostRuntime) -> Result<(), Fail> {
-    play::<PlainBook>(
-        &rt,
-        rt.alloc(),
-        "pages 13
-commit 0 2 10 0
-cut
-vote => 0
-commit 7 2 10 1
-cut
-vote => 0
-commit 14 2 10 2
-cut
-vote => 0
-commit 21 2 10 3
-cut
-vote => 1
-commit 2 2 10 4
-cut
-vote => 1
-commit 9 2 10 5
-cut
-vote => 0
-commit 16 2 10 6
-cut
-vote => 0
-commit 23 2 10 7
-cut
-vote => 1
-commit 4 2 10 8
-cut
-vote => 1
-commit 11 2 10 9
-cut
-vote => 0",
-    )
+    switches::<PlainBook>(&rt, rt.alloc())
 }
 
 // Thirteen blocks take 38 pages, and not one more.
-#[test]
-fn a_batch_fills_the_unit_exactly(rt: HostRuntime) -> Result<(), Fail> {
-    play::<PlainBook>(
-        &rt,
-        rt.alloc(),
-        "pages 13
-full 0 0 39 1
-commit 0 0 38 2
-cut
-live => 38
-full 38 0 1 3
-commit 0 1 38 4
-cut
-live => 38",
-    )
+fn fills<P: PageBook>(rt: &impl Abort, alloc: Global) -> Result<(), Fail> {
+    let mut host = fresh::<P>(rt, alloc, 13)?;
+    let mut book: P = opened(rt, alloc, &mut host)?;
+    refuse(
+        rt,
+        alloc,
+        &mut host,
+        &mut book,
+        &batch_of(alloc, 0, 0, 39, 1)?,
+    )?;
+    commit(
+        rt,
+        alloc,
+        &mut host,
+        &mut book,
+        &batch_of(alloc, 0, 0, 38, 2)?,
+    )?;
+    assert_eq!(rt; book.live(), 38);
+    refuse(
+        rt,
+        alloc,
+        &mut host,
+        &mut book,
+        &batch_of(alloc, 38, 0, 1, 3)?,
+    )?;
+    commit(
+        rt,
+        alloc,
+        &mut host,
+        &mut book,
+        &batch_of(alloc, 0, 1, 38, 4)?,
+    )?;
+    assert_eq!(rt; book.live(), 38);
+    Ok(())
 }
 
-// Room is made first, and more of it is refused before each commit and behind it.
 #[test]
-fn refused_room_changes_nothing(rt: HostRuntime) -> Result<(), Fail> {
-    play::<PlainBook>(
-        &rt,
-        rt.alloc(),
-        "pages 13
-reserve 10
-commit 0 2 10 0
-refuse
-reserve 10
-refuse
-commit 2 2 10 1
-refuse
-reserve 10
-refuse
-commit 4 2 10 2
-refuse
-pages
-reopen
-pages",
-    )
+fn a_batch_fills_the_unit_exactly(rt: HostRuntime) -> Result<(), Fail> {
+    fills::<PlainBook>(&rt, rt.alloc())
 }
 
 // Each object is read from the parts that are spelt by hand, 500 bytes to a page, and one page where there are no bytes.
+fn reads<P: PageBook>(rt: &impl Abort, alloc: Global) -> Result<(), Fail> {
+    for (size, parts, blocks) in [
+        (0u32, 1u32, 13u32),
+        (1, 1, 13),
+        (500, 1, 13),
+        (501, 2, 13),
+        (19_000, 38, 13),
+        (1_000_000, 2000, 520),
+    ] {
+        let batch = parts_of(alloc, 7, size, parts)?;
+        let bytes = written::<P>(rt, alloc, blocks, &batch)?;
+        assert_eq!(rt; object_on::<P>(rt, alloc, &bytes, 7)?, text(alloc, size)?);
+    }
+    Ok(())
+}
+
 #[test]
 fn objects_are_joined_parts(rt: HostRuntime) -> Result<(), Fail> {
-    play::<PlainBook>(
-        &rt,
-        rt.alloc(),
-        "pages 13
-spell 7 0 1
-reopen
-object 7 => 0
-
-pages 13
-spell 7 1 1
-reopen
-object 7 => 1
-
-pages 13
-spell 7 500 1
-reopen
-object 7 => 500
-
-pages 13
-spell 7 501 2
-reopen
-object 7 => 501
-
-pages 13
-spell 7 19000 38
-reopen
-object 7 => 19000
-
-pages 520
-spell 7 1000000 2000
-reopen
-object 7 => 1000000",
-    )
+    reads::<PlainBook>(&rt, rt.alloc())
 }
 
 // One part too few, and one too many.
+fn refuses<P: PageBook>(rt: &impl Abort, alloc: Global) -> Result<(), Fail> {
+    for (size, parts, want) in [
+        (501u32, 1u32, false),
+        (501, 2, true),
+        (501, 3, false),
+        (500, 2, false),
+        (0, 2, false),
+    ] {
+        let bytes = written::<P>(rt, alloc, 13, &parts_of(alloc, 7, size, parts)?)?;
+        assert_eq!(rt;
+            are_objects::<P>(rt, alloc, &bytes)?,
+            want,
+            "{size} {parts}"
+        );
+    }
+    Ok(())
+}
+
 #[test]
 fn a_part_more_or_less_is_no_object(rt: HostRuntime) -> Result<(), Fail> {
-    play::<PlainBook>(
-        &rt,
-        rt.alloc(),
-        "pages 13
-spell 7 501 1
-reopen
-scan => bad
-
-pages 13
-spell 7 501 2
-reopen
-scan => good
-
-pages 13
-spell 7 501 3
-reopen
-scan => bad
-
-pages 13
-spell 7 500 2
-reopen
-scan => bad
-
-pages 13
-spell 7 0 2
-reopen
-scan => bad",
-    )
-}
-
-// Each object is put into a batch of its own, and is there beside the others.
-#[test]
-fn objects_are_put_and_found_again(rt: HostRuntime) -> Result<(), Fail> {
-    play::<PlainBook>(
-        &rt,
-        rt.alloc(),
-        "objects 520
-put 3 0
-put 5 1
-put 6 500
-put 8 501
-put 9 1000000
-live => 2005
-ids 3 5 6 8 9
-object 3 => 0
-object 5 => 1
-object 6 => 500
-object 8 => 501
-object 9 => 1000000
-reopen
-ids 3 5 6 8 9
-object 3 => 0
-object 5 => 1
-object 6 => 500
-object 8 => 501
-object 9 => 1000000",
-    )
-}
-
-// What is put again is there instead: of the longer object no part is left.
-#[test]
-fn a_shorter_object_leaves_no_old_part(rt: HostRuntime) -> Result<(), Fail> {
-    play::<PlainBook>(
-        &rt,
-        rt.alloc(),
-        "objects 13
-put 7 1200
-put 8 501
-live => 5
-put 7 400
-live => 3
-ids 7 8
-object 7 => 400
-object 8 => 501
-reopen
-ids 7 8
-object 7 => 400
-object 8 => 501",
-    )
-}
-
-// A deleted object's pages are gone, and their numbers are given again, on the book that was opened anew and on the one that goes on.
-#[test]
-fn a_deleted_object_is_gone(rt: HostRuntime) -> Result<(), Fail> {
-    play::<PlainBook>(
-        &rt,
-        rt.alloc(),
-        "objects 13
-put 7 1200
-put 8 501
-delete 7
-next 0 => 3
-ids 8
-object 8 => 501
-reopen
-ids 8
-object 8 => 501
-put 9 501
-next 2 => 3
-ids 8 9
-object 8 => 501
-object 9 => 501
-reopen
-ids 8 9
-object 8 => 501
-object 9 => 501
-
-objects 13
-put 7 1200
-put 8 501
-delete 7
-next 0 => 3
-ids 8
-object 8 => 501
-put 9 501
-next 2 => 3
-ids 8 9
-object 8 => 501
-object 9 => 501
-reopen
-ids 8 9
-object 8 => 501
-object 9 => 501",
-    )
-}
-
-// What is forgotten was never there, and may be planned again.
-#[test]
-fn a_forgotten_plan_changes_nothing(rt: HostRuntime) -> Result<(), Fail> {
-    play::<PlainBook>(
-        &rt,
-        rt.alloc(),
-        "objects 13
-put 7 1200
-put 8 501
-forget 7 400
-forget 9 400
-forget 8
-ids 7 8
-object 7 => 1200
-object 8 => 501
-reopen
-ids 7 8
-object 7 => 1200
-object 8 => 501
-put 9 400
-ids 7 8 9
-object 7 => 1200
-object 8 => 501
-object 9 => 400
-reopen
-ids 7 8 9
-object 7 => 1200
-object 8 => 501
-object 9 => 400
-
-objects 13
-put 7 1200
-put 8 501
-forget 7 400
-forget 9 400
-forget 8
-ids 7 8
-object 7 => 1200
-object 8 => 501
-put 9 400
-ids 7 8 9
-object 7 => 1200
-object 8 => 501
-object 9 => 400
-reopen
-ids 7 8 9
-object 7 => 1200
-object 8 => 501
-object 9 => 400",
-    )
-}
-
-// A large object is patched across its pages, and read by ranges when the card is opened anew. Another object stays as it is.
-#[test]
-fn a_large_object_is_patched_and_read_by_ranges(rt: HostRuntime) -> Result<(), Fail> {
-    play::<PlainBook>(
-        &rt,
-        rt.alloc(),
-        "objects 520
-put 7 1000000
-put 8 1200
-patch 7 0 1 => 1
-patch 7 499 2 => 2
-patch 7 500 500 => 1
-patch 7 750 1000 => 3
-patch 7 1234 0 => 0
-patch 7 123456 5000 => 11
-patch 7 999000 1000 => 2
-patch 7 999999 1 => 1
-patch 7 1000000 0 => 0
-reopen
-ids 7 8
-object 7 => 1000000
-object 8 => 1200
-range 7 0 0
-range 7 0 1000000
-range 7 498 4
-range 7 500 500
-range 7 750 1000
-range 7 999999 1
-range 7 999001 999
-range 7 1000000 0
-past 7 1000000 1
-past 7 999999 2
-past 7 1000001 0
-past 7 4294967295 4294967295",
-    )
+    refuses::<PlainBook>(&rt, rt.alloc())
 }

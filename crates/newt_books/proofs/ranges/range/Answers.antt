@@ -1,7 +1,7 @@
 use Rattle.std.proofs.Common.{refl}
 use Rattle.newt_memhost.specs.Outside.{outside_of}
 use Rattle.newt_books.proofs.Carried.{at_place, still_at_rest}
-use Rattle.newt_books.proofs.reads.range.Goals as goal
+use Rattle.newt_books.proofs.ranges.range.Goals as goal
 
 pub read_range-requires-clause-objects : goal.read_range-requires-clause-objects
 read_range-requires-clause-objects g c = at_place c.args.objects.now (g.P.PageBook.numbers c.args.book.now) (g.P.PageBook.place c.args.book.now) (outside_of c.args.host.now) c.requires.book.1 c.requires.objects

@@ -1,0 +1,122 @@
+//! Room for a commit that is refused.
+ghost use Rattle.std.specs.Prelude.{◌≡◌, ◌≤◌, true, length, OnOk};
+ghost use Rattle.newt_memhost.specs.Outside.{outside_of};
+ghost use Rattle.newt_pagebook.specs.Book.{IsAtHand};
+
+use crate::batches::{batch_of, changed};
+use crate::card::{CARD, fresh, has_card, opened, pages_in, pages_on};
+use newt_host::Host;
+use newt_memhost::MemHost;
+use newt_pagebook::{Batch, Page, PageBook};
+use newt_pageplain::PlainBook;
+use std::alloc::Global;
+use std::process::Abort;
+use std::test::Fail;
+
+// Brings the first page of a book to hand.
+fn first_page<P: PageBook>(rt: &impl Abort, host: &mut MemHost, book: &mut P) -> Result<Page, Fail>
+    requires book { P.stands true book.old (outside_of host.old) × (P.place book.old ≡ 0) }
+    ensures book { P.stands true book.new (outside_of host.new) × (P.place book.new ≡ 0) }
+    ensures room { P.spare book.new ≡ P.spare book.old }
+    ensures at_hand { OnOk result (IsAtHand (P.shown book.new)) }
+{
+    let Some(number) = book.next_page(0) else {
+        panic!(rt; "the book has no page");
+    };
+    book.load(host, number)?;
+    Ok(*book.page())
+}
+
+// Asks for room for as many puts as there are numbers of 32 bits, which is more than memory is ever asked for: it is refused, and the book is as it was.
+// What room it had, it has.
+fn refuse_room<P: PageBook>(
+    rt: &impl Abort,
+    alloc: Global,
+    host: &mut MemHost,
+    book: &mut P,
+) -> Result<(), Fail>
+    requires book { P.stands true book.old (outside_of host.old) × (P.place book.old ≡ 0) }
+    ensures book { P.stands true book.new (outside_of host.new) × (P.place book.new ≡ 0) }
+    ensures room { P.spare book.old ≤ P.spare book.new }
+{
+    let before = pages_in(alloc, host, book)?;
+    let at_hand = first_page(rt, host, book)?;
+    let from = host.calls();
+    assert!(rt; book.reserve(u32::MAX).is_err());
+    assert_eq!(rt; host.calls(), from);
+    assert!(rt; *book.page() == at_hand);
+    assert_eq!(rt; pages_in(alloc, host, book)?, before);
+    Ok(())
+}
+
+// Makes room for so many puts. Where that is refused the book is as it was, and it is asked for once more. The answer is whether it was refused.
+fn make_room<P: PageBook>(
+    rt: &impl Abort,
+    alloc: Global,
+    host: &mut MemHost,
+    book: &mut P,
+    puts: u32,
+) -> Result<bool, Fail>
+    requires book { P.stands true book.old (outside_of host.old) × (P.place book.old ≡ 0) }
+    ensures book { P.stands true book.new (outside_of host.new) × (P.place book.new ≡ 0) }
+    ensures room { OnOk result (puts ≤ P.spare book.new) }
+{
+    let before = pages_in(alloc, host, book)?;
+    match book.reserve(puts) {
+        Ok(()) => Ok(false),
+        Err(_) => {
+            assert_eq!(rt; pages_in(alloc, host, book)?, before);
+            book.reserve(puts)?;
+            Ok(true)
+        }
+    }
+}
+
+// Commits a batch for whose puts there is room.
+fn commit<P: PageBook>(
+    rt: &impl Abort,
+    alloc: Global,
+    host: &mut MemHost,
+    book: &mut P,
+    batch: &Batch,
+) -> Result<(), Fail>
+    requires book { P.stands true book.old (outside_of host.old) × (P.place book.old ≡ 0) }
+    requires room { length batch.now.puts ≤ P.spare book.old }
+    ensures { OnOk result (P.stands true book.new (outside_of host.new) × (P.place book.new ≡ 0)) }
+{
+    let before = pages_in(alloc, host, book)?;
+    let after = changed(alloc, &before, batch)?;
+    book.commit(host, batch)?;
+    assert_eq!(rt; pages_in(alloc, host, book)?, after);
+    Ok(())
+}
+
+// Commits three batches. More room is refused before each and behind it, and the last pages are found again when the card is opened anew. The answer is how
+// often room was refused that could be had.
+fn goes_on<P: PageBook>(rt: &impl Abort, alloc: Global) -> Result<u32, Fail> {
+    let mut host = fresh::<P>(rt, alloc, 13)?;
+    let mut book: P = opened(rt, alloc, &mut host)?;
+    let mut refused = 0;
+    for turn in 0..3u8 {
+        let batch = batch_of(alloc, turn as u32 * 2, 2, 10, turn)?;
+        if make_room(rt, alloc, &mut host, &mut book, batch.puts().len() as u32)? {
+            refused += 1;
+        }
+        if book.live() > 0 {
+            refuse_room(rt, alloc, &mut host, &mut book)?;
+        }
+        commit(rt, alloc, &mut host, &mut book, &batch)?;
+        refuse_room(rt, alloc, &mut host, &mut book)?;
+    }
+    let held = pages_in(alloc, &mut host, &mut book)?;
+    assert!(rt; has_card(&host));
+    assert_eq!(rt; pages_on::<P>(rt, alloc, host.bytes(CARD))?, held);
+    Ok(refused)
+}
+
+#[test]
+fn refused_room_changes_nothing(rt: HostRuntime) -> Result<(), Fail> {
+    let refused = goes_on::<PlainBook>(&rt, rt.alloc())?;
+    println!(rt; "room that could be had was refused {refused} times")?;
+    Ok(())
+}
