@@ -34,12 +34,12 @@ pub(crate) fn accept<P: PageBook>(
     host: &mut MemHost,
     store: &mut IndexedStore<P>,
     change: Change,
-) -> Result<u32, Fail>
+) -> Result<(), Fail>
     requires { IsOpen P.place P.numbers P.stands true store.old.store (outside_of host.old) }
     ensures { OnOk result (IsOpen P.place P.numbers P.stands true store.new.store (outside_of host.new)) }
 {
     match store.apply(host, change, 0) {
-        Ok(answer) => Ok(answer),
+        Ok(_) => Ok(()),
         Err(fault) => Err(Fail::from(fault)),
     }
 }

@@ -1,4 +1,4 @@
-//! A store of 200 entries on a card in memory, indexed, changed and opened again, against the lists sorted afresh.
+//! A store of 200 entries on a card in memory, indexed, changed and opened again, against lists that were sorted outside the program.
 //!
 //! It stands on `newt_indexed` over the plain book of pages and a host in memory, and has tests alone.
 #![tactic(auto)]
@@ -8,6 +8,8 @@ mod card;
 #[cfg(test)]
 mod entries;
 #[cfg(test)]
-mod soups;
+mod tables;
+#[cfg(test)]
+mod tests;
 #[cfg(test)]
 mod walks;

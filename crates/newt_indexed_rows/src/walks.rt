@@ -1,28 +1,20 @@
-//! Whether a range is a list.
-use crate::entries::{By, Left, by_name, by_number, graph, id, sorted};
+//! The ids of a range, in its order.
+use crate::entries::graph_in;
 use newt_base::{Sig, Uid};
 use newt_graph::Graph;
 use newt_index::{Index, Probe};
 use newt_indexed::IndexedStore;
 use newt_keys::{IndexSpec, Key, key_of};
 use newt_pagebook::PageBook;
+use newt_soupdir::Directory;
 use std::alloc::{AllocError, Global};
-use std::test::*;
+use std::test::Fail;
 
-/// The declaration of a range.
-pub(crate) fn spec_of(alloc: Global, by: By) -> Result<Option<IndexSpec>, Fail> {
-    match by {
-        By::Id => Ok(None),
-        By::Number => Ok(Some(by_number(alloc)?)),
-        By::Name => Ok(Some(by_name(alloc)?)),
-    }
-}
-
-/// The probe of a graph's key.
+/// The probe of a graph's key, where it has one.
 fn probe(
     alloc: Global,
     graph: &Graph,
-    spec: &Option<IndexSpec>,
+    spec: Option<&IndexSpec>,
 ) -> Result<Option<Probe>, AllocError> {
     let Some(spec) = spec else {
         return Ok(Some(Probe::empty(alloc)));
@@ -41,62 +33,58 @@ fn id_of(found: &Option<(&Key, Uid)>) -> Option<u32> {
     }
 }
 
-/// Whether the entry behind another in a range is the next of the list.
-fn steps(
+/// The id behind an entry's in a range, by the key of its graph.
+fn id_behind(
     alloc: Global,
     range: &Index,
-    by: By,
-    left: Left,
+    spec: Option<&IndexSpec>,
     uid: u32,
-    next: Option<u32>,
-) -> Result<bool, Fail> {
-    let graph = graph(alloc, uid, left.is_changed(uid))?;
-    let Some(mut at) = probe(alloc, &graph, &spec_of(alloc, by)?)? else {
-        return Ok(false);
-    };
-    Ok(id_of(&range.after(&mut at, id(uid))) == next)
+    after: bool,
+) -> Result<Option<u32>, Fail> {
+    let graph = graph_in(alloc, uid, after)?;
+    let mut at = probe(alloc, &graph, spec)?.ok_or("no key")?;
+    Ok(id_of(&range.after(&mut at, Uid(uid))))
 }
 
-/// Whether a range has exactly the ids of the list, in order.
-pub(crate) fn is_list(alloc: Global, range: &Index, by: By, left: Left) -> Result<bool, Fail> {
-    let list = sorted(alloc, by, left)?;
-    if range.len() != list.len() || id_of(&range.first()) != list.first().map(|pair| pair.1) {
-        return Ok(false);
+/// The ids of a range, one after another, which are as many as it counts.
+fn walked(
+    alloc: Global,
+    range: &Index,
+    spec: Option<&IndexSpec>,
+    after: bool,
+) -> Result<Vec<u32>, Fail> {
+    let mut uids = Vec::new(alloc);
+    let mut next = id_of(&range.first());
+    for _ in 0..range.len() {
+        let uid = next.ok_or("the range is too short")?;
+        uids.push(uid)?;
+        next = id_behind(alloc, range, spec, uid, after)?;
     }
-    for (i, pair) in list.iter().enumerate() {
-        let next = list.get(i.wrapping_add(1)).map(|pair| pair.1);
-        if !steps(alloc, range, by, left, pair.1, next)? {
-            return Ok(false);
-        }
+    match next {
+        Some(_) => Err(Fail::new("the range is too long")),
+        None => Ok(uids),
     }
-    Ok(true)
 }
 
-/// Whether a soup's range is there and is the list.
-pub(crate) fn has_list<P: PageBook>(
+/// The index of the soup of signature 0 by its number, and none for `id`.
+fn index_at<'a>(directory: &'a Directory, by: &str) -> Result<Option<&'a IndexSpec>, Fail> {
+    if by == "id" {
+        return Ok(None);
+    }
+    let number: usize = by.parse()?;
+    let soup = directory.soup_of(Sig(0)).ok_or("no soup")?;
+    Ok(Some(soup.specs.list().get(number).ok_or("no index")?))
+}
+
+/// The ids of the range of the soup of signature 0 by `id` or by the index of a number, as a text.
+pub(crate) fn range_text<P: PageBook>(
     alloc: Global,
     store: &IndexedStore<P>,
-    soup: u32,
-    by: By,
-    left: Left,
-) -> Result<bool, Fail> {
-    let spec = spec_of(alloc, by)?;
-    match store.range_of(Sig(soup), spec.as_ref()) {
-        Some(range) => is_list(alloc, range, by, left),
-        None => Ok(false),
-    }
-}
-
-/// Whether all three ranges of a soup are their lists.
-pub(crate) fn has_lists<P: PageBook>(
-    alloc: Global,
-    store: &IndexedStore<P>,
-    soup: u32,
-    left: Left,
-) -> Result<bool, Fail> {
-    Ok(
-        has_list(alloc, store, soup, By::Id, left)?
-            && has_list(alloc, store, soup, By::Number, left)?
-            && has_list(alloc, store, soup, By::Name, left)?,
-    )
+    by: &str,
+    after: bool,
+) -> Result<String, Fail> {
+    let spec = index_at(store.directory(), by)?;
+    let range = store.range_of(Sig(0), spec).ok_or("no range")?;
+    let uids = walked(alloc, range, spec, after)?;
+    Ok(format!(in alloc; "{uids:?}")?)
 }

@@ -1,5 +1,5 @@
 // One card in memory, attached as unit 0, and the store on it.
-ghost use Rattle.std.specs.Prelude.{◌≡◌, true, IfOk, IfSome, IsSome, IsTrue, vec_len};
+ghost use Rattle.std.specs.Prelude.{true, IfOk, IfSome, IsSome, IsTrue};
 ghost use Rattle.newt_host.specs.Moments.{IsDurable};
 ghost use Rattle.newt_memhost.specs.Outside.{outside_of};
 ghost use Rattle.newt_catalog.specs.Stands.{IsSound};
@@ -9,7 +9,7 @@ use newt_host::{Host, Unit};
 use newt_memhost::MemHost;
 use newt_pagebook::{BookFault, PageBook};
 use newt_store::Store;
-use std::alloc::{AllocError, Global};
+use std::alloc::Global;
 use std::test::Fail;
 
 /// The unit of the card.
@@ -37,20 +37,20 @@ pub fn has_card(host: &MemHost) -> bool
     host.blocks(CARD) > 0
 }
 
-/// So many times the same byte.
-pub fn filled(alloc: Global, byte: u8, count: usize) -> Result<Vec<u8>, AllocError>
-    ensures { IfOk result (λ bytes. vec_len bytes ≡ count) }
-{
-    let mut bytes = Vec::new(alloc);
-    bytes.resize(count, byte)?;
-    Ok(bytes)
+/// The bytes of the card.
+pub fn card_bytes(alloc: Global, host: &MemHost) -> Result<Vec<u8>, Fail> {
+    if !has_card(host) {
+        return Err(Fail::new("no card"));
+    }
+    Ok(host.bytes(CARD).to_vec(alloc)?)
 }
 
 /// A host whose card has so many blocks, formatted as the store `Internal` of signature 7.
 pub fn formatted<P: PageBook>(alloc: Global, blocks: u32) -> Result<MemHost, Fail>
     ensures { IfOk result (λ host. IsDurable 0 (outside_of host).now) }
 {
-    let mut host = host_of(alloc, &filled(alloc, 0, blocks as usize * 4096)?)?;
+    let bytes = vec![in alloc; 0; blocks as usize * 4096]?;
+    let mut host = host_of(alloc, &bytes)?;
     if host.blocks(CARD) < 13 || host.blocks(CARD) > 4099 {
         return Err(Fail::new("too few blocks, or too many"));
     }

@@ -1,115 +1,98 @@
-// Changes of a store.
-ghost use Rattle.std.specs.Prelude.{true, OnOk};
-ghost use Rattle.newt_memhost.specs.Outside.{outside_of};
-ghost use Rattle.newt_catalog.specs.Stands.{IsSound};
+// The changes of a table.
 
-use crate::rows::contents;
-use newt_base::{Name, Refusal, Sig, Uid};
-use newt_memhost::MemHost;
+use crate::digits::spelt;
+use newt_base::{Name, Sig, Uid};
+use newt_graph::Graph;
+use newt_keys::IndexSpec;
 use newt_nsof_read::decode;
-use newt_pagebook::PageBook;
-use newt_store::{Change, Store, StoreFault};
+use newt_soupdir::{Directory, SoupRow, read_directory};
+use newt_store::{Change, Paths};
 use std::alloc::Global;
 use std::test::Fail;
 
-/// The text of a frame without slots.
-pub const EMPTY: &[u8] = b"\x02\x06\x00";
+// A store `S` with the soup `A`, up to the number of its indexes, as a directory has it.
+const STORE: &str = "0153 00000001 0001 01 0141 0000 00000000 ";
 
-/// A new soup.
-pub fn make(alloc: Global, name: &[u8]) -> Result<Change, Fail> {
-    Ok(Change::MakeSoup(Name::read(alloc, name)?))
+// The graph of a text.
+fn graph_of(alloc: Global, text: &str) -> Result<Graph, Fail> {
+    Ok(decode(alloc, &spelt(alloc, text)?)?)
 }
 
-/// A new entry of a text.
-pub fn add(alloc: Global, soup: u32, text: &[u8]) -> Result<Change, Fail> {
-    Ok(Change::Add(Sig(soup), decode(alloc, text)?))
+// The directory of a store whose soup has these indexes and tags, spelt as a directory has them.
+fn directory_of(alloc: Global, declared: &str) -> Result<Directory, Fail> {
+    let text = format!(in alloc; "{STORE}{declared}")?;
+    let bytes = spelt(alloc, text.as_str())?;
+    Ok(read_directory(alloc, &bytes).ok().ok_or("no directory")?)
 }
 
-/// An entry goes.
-pub fn remove(soup: u32, uid: u32) -> Change {
-    Change::Remove(Sig(soup), Uid(uid))
+// Its soup.
+fn soup_in(directory: &Directory) -> Result<&SoupRow, Fail> {
+    Ok(directory.soup_of(Sig(0)).ok_or("no soup")?)
 }
 
-/// An entry moves to a soup.
-pub fn move_to(soup: u32, uid: u32, target: u32) -> Change {
-    Change::Move(Sig(soup), Uid(uid), Sig(target))
+// The first of these indexes.
+fn index_of(alloc: Global, declared: &str) -> Result<IndexSpec, Fail> {
+    let directory = directory_of(alloc, declared)?;
+    let index = soup_in(&directory)?.specs.list().first().ok_or("no index")?;
+    Ok(index.copy()?)
 }
 
-/// An entry gets another text.
-pub fn replace(alloc: Global, soup: u32, uid: u32, text: &[u8]) -> Result<Change, Fail> {
-    Ok(Change::Replace(Sig(soup), Uid(uid), decode(alloc, text)?))
-}
-
-/// Makes a change, which is not refused.
-pub fn accept<P: PageBook>(
-    host: &mut MemHost,
-    store: &mut Store<P>,
-    change: Change,
-    now: u32,
-) -> Result<u32, Fail>
-    requires stands { P.stands true store.old.book (outside_of host.old) }
-    requires sound { IsSound true store.old.catalog (P.numbers store.old.book) (P.place store.old.book) (outside_of host.old) }
-    ensures stands { OnOk result (P.stands true store.new.book (outside_of host.new)) }
-    ensures sound { OnOk result (IsSound true store.new.catalog (P.numbers store.new.book) (P.place store.new.book) (outside_of host.new)) }
-{
-    Ok(store.apply(host, change, now)?)
-}
-
-/// Makes a change, which is not refused and has this answer.
-pub fn accept_as<P: PageBook>(
-    host: &mut MemHost,
-    store: &mut Store<P>,
-    change: Change,
-    now: u32,
-    want: u32,
-) -> Result<(), Fail>
-    requires stands { P.stands true store.old.book (outside_of host.old) }
-    requires sound { IsSound true store.old.catalog (P.numbers store.old.book) (P.place store.old.book) (outside_of host.old) }
-    ensures stands { OnOk result (P.stands true store.new.book (outside_of host.new)) }
-    ensures sound { OnOk result (IsSound true store.new.catalog (P.numbers store.new.book) (P.place store.new.book) (outside_of host.new)) }
-{
-    if accept(host, store, change, now)? != want {
-        return Err(Fail::new("another answer"));
+// The paths of the first of these indexes.
+fn paths_of(alloc: Global, declared: &str) -> Result<Paths, Fail> {
+    let index = index_of(alloc, declared)?;
+    let mut paths = Vec::new(alloc);
+    for part in index.list() {
+        paths.push(part.path.copy()?)?;
     }
-    Ok(())
+    Ok(Paths::copied(alloc, &paths)?)
 }
 
-// The refusal of a change.
-fn refusal_of<P: PageBook>(
-    host: &mut MemHost,
-    store: &mut Store<P>,
-    change: Change,
-) -> Result<Refusal, Fail>
-    requires stands { P.stands true store.old.book (outside_of host.old) }
-    requires sound { IsSound true store.old.catalog (P.numbers store.old.book) (P.place store.old.book) (outside_of host.old) }
-    ensures stands { OnOk result (P.stands true store.new.book (outside_of host.new)) }
-    ensures sound { OnOk result (IsSound true store.new.catalog (P.numbers store.new.book) (P.place store.new.book) (outside_of host.new)) }
-{
-    match store.apply(host, change, 0) {
-        Err(StoreFault::Refused(refusal)) => Ok(refusal),
-        _ => Err(Fail::new("the change is not refused")),
+// These tags are set.
+fn set_tags(alloc: Global, soup: Sig, declared: &str) -> Result<Change, Fail> {
+    let directory = directory_of(alloc, declared)?;
+    let table = soup_in(&directory)?.tags.as_ref().ok_or("no tags")?;
+    Ok(Change::SetTags(soup, table.copy()?))
+}
+
+// The change of an entry of a soup.
+fn entry_change(alloc: Global, word: &str, soup: Sig, rest: &str) -> Result<Change, Fail> {
+    let (uid, rest) = rest.split_once(' ').unwrap_or((rest, ""));
+    let uid = Uid(uid.parse()?);
+    match word {
+        "remove" => Ok(Change::Remove(soup, uid)),
+        "move" => Ok(Change::Move(soup, uid, Sig(rest.parse()?))),
+        "replace" => Ok(Change::Replace(soup, uid, graph_of(alloc, rest)?)),
+        _ => Err(Fail::new("no such change")),
     }
 }
 
-/// A change is refused, and the store is as it was.
-pub fn refuse<P: PageBook>(
-    alloc: Global,
-    host: &mut MemHost,
-    store: &mut Store<P>,
-    change: Change,
-    want: Refusal,
-) -> Result<(), Fail>
-    requires stands { P.stands true store.old.book (outside_of host.old) }
-    requires sound { IsSound true store.old.catalog (P.numbers store.old.book) (P.place store.old.book) (outside_of host.old) }
-    ensures stands { OnOk result (P.stands true store.new.book (outside_of host.new)) }
-    ensures sound { OnOk result (IsSound true store.new.catalog (P.numbers store.new.book) (P.place store.new.book) (outside_of host.new)) }
-{
-    let before = contents(alloc, host, store)?;
-    if refusal_of(host, store, change)? != want {
-        return Err(Fail::new("another refusal"));
+// The change of a soup.
+fn soup_change(alloc: Global, word: &str, soup: Sig, rest: &str) -> Result<Change, Fail> {
+    match word {
+        "drop" => Ok(Change::DropSoup(soup)),
+        "add" => Ok(Change::Add(soup, graph_of(alloc, rest)?)),
+        "index" => Ok(Change::AddIndex(soup, index_of(alloc, rest)?)),
+        "unindex" => Ok(Change::DropIndex(soup, paths_of(alloc, rest)?)),
+        "tags" => set_tags(alloc, soup, rest),
+        _ => entry_change(alloc, word, soup, rest),
     }
-    if contents(alloc, host, store)? != before {
-        return Err(Fail::new("another store after a refusal"));
+}
+
+/// The change of a line, and its minute.
+pub fn change_of(alloc: Global, line: &str) -> Result<(Change, u32), Fail> {
+    let (line, minute) = line.split_once(" @").unwrap_or((line, "0"));
+    let minute: u32 = minute.parse()?;
+    let (word, rest) = line.split_once(' ').ok_or("no change")?;
+    if word == "make" {
+        let name = Name::read(alloc, rest.as_bytes())?;
+        return Ok((Change::MakeSoup(name), minute));
     }
-    Ok(())
+    let (soup, rest) = rest.split_once(' ').unwrap_or((rest, ""));
+    let change = soup_change(alloc, word, Sig(soup.parse()?), rest)?;
+    Ok((change, minute))
+}
+
+// The change that adds an empty frame to a soup.
+pub(crate) fn add_empty(alloc: Global, soup: u32) -> Result<Change, Fail> {
+    Ok(Change::Add(Sig(soup), graph_of(alloc, "020600")?))
 }

@@ -8,6 +8,6 @@ mod flips;
 #[cfg(test)]
 mod image_tests;
 #[cfg(test)]
-mod spelt;
+mod small;
 #[cfg(test)]
 mod tests;

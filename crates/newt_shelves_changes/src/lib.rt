@@ -5,8 +5,6 @@
 #[cfg(test)]
 mod crash_tests;
 #[cfg(test)]
-mod crashes;
-#[cfg(test)]
 mod declare_tests;
 #[cfg(test)]
 mod replace_tests;

@@ -1,10 +1,10 @@
 use Rattle.std.proofs.Common.{true}
 use Rattle.newt_memhost.specs.Outside.{outside_of}
 use Rattle.newt_catalog.specs.Stands.{IsSound}
-use Rattle.newt_shelves_changes.proofs.declare_tests.declare_all.Given as goal
+use Rattle.newt_onecard.proofs.contents.contents.Given as goal
 
-abbrev pub invariant-loop-letter : goal.invariant-loop-letter
-invariant-loop-letter g l = record {
+abbrev pub invariant-loop-soup : goal.invariant-loop-soup
+invariant-loop-soup g l = record {
   stands : g.P.PageBook.stands true l.store.book (outside_of l.host);
   sound : IsSound true l.store.catalog (g.P.PageBook.numbers l.store.book) (g.P.PageBook.place l.store.book) (outside_of l.host);
 }
