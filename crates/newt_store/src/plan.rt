@@ -1,5 +1,5 @@
 // What each change makes of a store, or why it is refused.
-ghost use Rattle.std.specs.Prelude.{IsTrue, ◌≡◌, ◌*◌, ◌%◌, ◌<◌, ℕ, false, map as map_list, Some, None, IfOk, IfErr, IfSome};
+ghost use Rattle.std.specs.Prelude.{IsTrue, ◌≡◌, ◌*◌, ◌+◌, ◌%◌, ◌<◌, ◌≤◌, ℕ, false, map as map_list, Some, None, IfOk, IfErr, IfSome, IsSome};
 ghost use Rattle.newt_base.specs.Refusals.{first_of};
 ghost use Rattle.newt_graph.specs.Graph.{IsGraph};
 ghost use Rattle.newt_host.specs.Moments.{image};
@@ -51,6 +51,7 @@ const HALF_IDS: u32 = 2_147_483_648;
 fn free_from(objects: &Objects, from: u32) -> Option<u32>
     ensures free { IfSome result (λ id. held objects.now id ≡ None) }
     ensures odd { IfSome result (λ id. id % 2 ≡ 1) }
+    ensures least { (half : ℕ) → from ≤ half → half < 2147483648 → held objects.now (2 * half + 1) ≡ None → IsSome result × IfSome result (λ id. id ≤ 2 * half + 1) }
 {
     for half in from..HALF_IDS {
         let id = 2 * half + 1;
@@ -65,6 +66,7 @@ fn free_from(objects: &Objects, from: u32) -> Option<u32>
 fn free_id(objects: &Objects, hint: u32) -> Option<u32>
     ensures free { IfSome result (λ id. held objects.now id ≡ None) }
     ensures odd { IfSome result (λ id. id % 2 ≡ 1) }
+    ensures none { (half : ℕ) → half < 2147483648 → held objects.now (2 * half + 1) ≡ None → IsSome result }
 {
     match free_from(objects, hint) {
         Some(id) => Some(id),
@@ -95,6 +97,7 @@ fn free_even(objects: &Objects, from: u32) -> Option<u32>
     ensures free { IfSome result (λ id. held objects.now id ≡ None) }
     ensures even { IfSome result (λ id. (id % 2 ≡ 0) × (from < id)) }
     ensures fits { IfSome result (λ id. id < 4294967296) }
+    ensures least { (half : ℕ) → from < 2 * half → half < 2147483648 → held objects.now (2 * half) ≡ None → IsSome result × IfSome result (λ id. id ≤ 2 * half) }
 {
     for half in from / 2 + 1..HALF_IDS {
         let id = 2 * half;
