@@ -258,7 +258,7 @@ fn expect_patch(alloc: Global, image: &[u8], row: &str) -> Result<(), Fail> {
     let (digits, wanted) = rest.split_once(' ').ok_or("no bytes")?;
     let found = opens_as(alloc, &patched(alloc, image, at, digits)?)?;
     if found != wanted {
-        return Err(Fail::new(format_args!("{row}: {found}")));
+        return Err(Fail::new(format_args!("another store at {row}")));
     }
     Ok(())
 }
