@@ -1,5 +1,5 @@
 //! What is kept of a unit beside its file.
-ghost use Rattle.std.specs.Prelude.{◌≡◌, ◌≤◌, ◌<◌, ◌^◌, false};
+ghost use Rattle.std.specs.Prelude.{◌≡◌, ◌≤◌, ◌+◌, ◌<◌, ◌^◌, false};
 ghost use Rattle.newt_host.specs.Outside.{Rose};
 
 use std::alloc::Global;
@@ -37,6 +37,7 @@ impl Card {
 /// Another fault. The count stays at its last value.
 pub fn count(faults: &mut u64)
     ensures rose { Rose faults.old faults.new }
+    ensures one { faults.old + 1 < 2 ^ 64 → faults.new ≡ faults.old + 1 }
     ensures later { faults.old ≤ faults.new }
 {
     *faults = faults.saturating_add(1);

@@ -1,5 +1,5 @@
 //! The counts of a unit.
-ghost use Rattle.std.specs.Prelude.{OnErr};
+ghost use Rattle.std.specs.Prelude.{◌≡◌, ◌+◌, ◌<◌, ◌^◌, IsTrue, IsFalse, OnOk, OnErr};
 ghost use Rattle.newt_host.specs.Outside.{Rose};
 ghost use Rattle.newton.specs.Cards.{OnCard};
 
@@ -10,6 +10,9 @@ use newt_host::Failed;
 pub fn touched(card: &mut Card, done: bool) -> Result<(), Failed>
     ensures card { OnCard 0 0 card.old card.new }
     ensures cause { OnErr result (Rose card.old.faults card.new.faults) }
+    ensures done { IsTrue done → OnErr result ⊥ }
+    ensures failed { IsFalse done → OnOk result ⊥ }
+    ensures faults { OnOk result (card.new.faults ≡ card.old.faults) }
 {
     if !done {
         count(&mut card.faults);
@@ -22,6 +25,9 @@ pub fn touched(card: &mut Card, done: bool) -> Result<(), Failed>
 pub fn fetched(card: &mut Card, bytes: u64, done: bool) -> Result<(), Failed>
     ensures card { OnCard 0 bytes card.old card.new }
     ensures cause { OnErr result (Rose card.old.faults card.new.faults) }
+    ensures done { IsTrue done → OnErr result ⊥ }
+    ensures failed { IsFalse done → OnOk result ⊥ }
+    ensures count { card.old.fetched + bytes < 2 ^ 64 → card.new.fetched ≡ card.old.fetched + bytes }
 {
     card.fetched = card.fetched.saturating_add(bytes);
     touched(card, done)
@@ -31,6 +37,9 @@ pub fn fetched(card: &mut Card, bytes: u64, done: bool) -> Result<(), Failed>
 pub fn programmed(card: &mut Card, bytes: u64, done: bool) -> Result<(), Failed>
     ensures card { OnCard bytes 0 card.old card.new }
     ensures cause { OnErr result (Rose card.old.faults card.new.faults) }
+    ensures done { IsTrue done → OnErr result ⊥ }
+    ensures failed { IsFalse done → OnOk result ⊥ }
+    ensures count { card.old.programmed + bytes < 2 ^ 64 → card.new.programmed ≡ card.old.programmed + bytes }
 {
     card.programmed = card.programmed.saturating_add(bytes);
     touched(card, done)
