@@ -81,7 +81,7 @@ none_alike nodes name e k alike =
     not_both : false ≡ true → ⊥
     not_both e = absurd cc
 
-alike_symbol : (name : List ℕ) (node : Node) → is_alike name node ≡ true → (old : List ℕ) × (node ≡ Symbol old) × (folded old ≡ folded name)
+pub alike_symbol : (name : List ℕ) (node : Node) → is_alike name node ≡ true → (old : List ℕ) × (node ≡ Symbol old) × (folded old ≡ folded name)
 alike_symbol name (Symbol old) e = (old, refl, (bytes_eq-Decides (folded old) (folded name)).0 e)
 alike_symbol name (Str u) e = absurd cc
 alike_symbol name (Binary c u) e = absurd cc
@@ -110,14 +110,14 @@ symbol_push nodes items total name is few none e h =
 
 -- ---- filling
 
-get_set : {X : Type 0} (xs : List X) (n : ℕ) (y : X) (i : ℕ) (x : X) → slice_get (set xs n y) i ≡ Some x → ((i ≡ n) × (y ≡ x)) ⊎ (slice_get xs i ≡ Some x)
+pub get_set : {X : Type 0} (xs : List X) (n : ℕ) (y : X) (i : ℕ) (x : X) → slice_get (set xs n y) i ≡ Some x → ((i ≡ n) × (y ≡ x)) ⊎ (slice_get xs i ≡ Some x)
 get_set [] n y i x e = inr e
 get_set (z ∷ xs) zero y zero x e = inl (refl, some_is e)
 get_set (z ∷ xs) zero y (suc i) x e = inr e
 get_set (z ∷ xs) (suc n) y zero x e = inr e
 get_set (z ∷ xs) (suc n) y (suc i) x e = elim (get_set xs n y i x e) [ inl h ↦ inl (ap suc h.0, h.1) | inr h ↦ inr h ]
 
-filling_is_no_symbol : (node : Node) (name : List ℕ) → IsFilling node → node ≡ Symbol name → ⊥
+pub filling_is_no_symbol : (node : Node) (name : List ℕ) → IsFilling node → node ≡ Symbol name → ⊥
 filling_is_no_symbol node name is e = subst IsFilling e is
 
 pub once_set : (nodes : List Node) (n : ℕ) (node : Node) → IsFilling node → AreFoldedOnce nodes → AreFoldedOnce (set nodes n node)

@@ -5,13 +5,14 @@ ghost use Rattle.newt_graph.specs.Graph.{RawGraph, IsName, payload};
 ghost use Rattle.newt_graph.specs.Raw.{IsNormalForm};
 ghost use Rattle.newt_graph.specs.Meeting.{Gives, place, normal_form};
 ghost use Rattle.newt_graph.specs.Import.{with_graph};
-ghost use Rattle.newt_graph.specs.Draft.{IsJoined, IsFilling, is_small, is_alike, find_alike, with_symbol, with_held, with_filled, with_slot, with_set};
+ghost use Rattle.newt_graph.specs.Draft.{IsJoined, IsFilling, is_small, with_symbol, with_held, with_filled, with_slot, with_set};
 
 use crate::copies::{copied_ref, copies, numbers};
 use crate::fault::GraphFault;
 use crate::graph::Graph;
 use crate::limits::{MOST_DATA, MOST_HELD, MOST_HELD_BYTES, MOST_SLOTS};
 use crate::lists::{Bytes, Refs, Tags};
+use crate::names::Names;
 use crate::node::{Node, Ref};
 use crate::normal::{left, normal, payload};
 use std::alloc::Global;
@@ -26,6 +27,7 @@ pub struct Builder {
     nodes: Vec<Node>,
     /// The bytes of all strings, binaries and large binaries.
     total: usize,
+    names: Names,
     alloc: Global,
 }
 
@@ -35,12 +37,13 @@ impl Model for Builder {
     ghost use Rattle.newt_graph.specs.declared.node.Node.{Node};
     ghost use Rattle.newt_graph.specs.Graph.{payload};
     ghost use Rattle.newt_graph.specs.Draft.{IsDraft};
+    ghost use Rattle.newt_graph.specs.Names.{Knows};
 
     ghost Value = { List Node };
 
     ghost view = { λ b. b.nodes.items };
 
-    ghost invariant = { λ b. IsDraft b.nodes.items × (b.total ≡ sum_by payload b.nodes.items) };
+    ghost invariant = { λ b. record { draft : IsDraft b.nodes.items × (b.total ≡ sum_by payload b.nodes.items); knows : Knows b.names.numbers b.nodes.items } };
 }
 
 impl Builder {
@@ -51,6 +54,7 @@ impl Builder {
         Builder {
             nodes: Vec::new(alloc),
             total: 0,
+            names: Names::new(alloc),
             alloc,
         }
     }
@@ -71,14 +75,16 @@ impl Builder {
         ensures grows { OnOk result (length self.old ≤ length self.new) }
         ensures kept { OnErr result (self.new ≡ self.old) }
     {
-        if let Some(k) = find_alike(name, &self.nodes) {
+        if let Some(k) = self.names.find(self.alloc, &self.nodes, name)? {
             return Ok(k);
         }
         let n = self.nodes.len();
         if n >= MOST_HELD {
             return Err(GraphFault::Limit);
         }
-        self.nodes.push(Node::Symbol(Bytes::of(Vec::from_slice(self.alloc, name)?)))?;
+        let symbol = Node::Symbol(Bytes::of(Vec::from_slice(self.alloc, name)?));
+        self.names.note(self.alloc, name, n as u32)?;
+        self.nodes.push(symbol)?;
         Ok(n as u32)
     }
 
@@ -127,14 +133,15 @@ impl Builder {
         ensures value { Gives (λ root. (root, self.new)) result (with_graph self.old graph.now) }
         ensures kept { OnErr result (self.new ≡ self.old) }
     {
-        let table = numbers(self.alloc, &self.nodes, graph.nodes())?;
-        let mut added = copies(self.alloc, &table, &self.nodes, graph.nodes())?;
+        let table = numbers(self.alloc, &self.names, &self.nodes, graph.nodes())?;
+        let mut added = copies(self.alloc, &table, &self.names, &self.nodes, graph.nodes())?;
         if self.nodes.len() + added.len() > MOST_HELD {
             return Err(GraphFault::Limit);
         }
         let Some(left) = left(&added, MOST_HELD_BYTES - self.total) else {
             return Err(GraphFault::Limit);
         };
+        self.names.note_all(self.alloc, &self.nodes, &added)?;
         self.nodes.append(&mut added)?;
         self.total = MOST_HELD_BYTES - left;
         Ok(copied_ref(&table, graph.root()))
@@ -164,29 +171,6 @@ impl Builder {
         ensures limit { IsErrOf result GraphFault.Limit → (g : RawGraph) → IsNormalForm (record { nodes = self; root = root }) g → ⊥ }
     {
         normal(self.alloc, self.nodes, root)
-    }
-}
-
-/// The first symbol of this name but for ASCII case.
-#[tactic(auto, unfolding(crate::specs::Draft::find_alike))]
-pub(crate) fn find_alike(name: &[u8], nodes: &[Node]) -> Option<u32>
-    requires { length nodes.now < 4294967296 }
-    ensures { result ≡ find_alike name.now nodes.now }
-{
-    for (i, node) in nodes.iter().enumerate() {
-        if is_alike(name, node) {
-            return Some(i as u32);
-        }
-    }
-    None
-}
-
-fn is_alike(name: &[u8], node: &Node) -> bool
-    ensures { result ≡ is_alike name.now node.now }
-{
-    match node {
-        Node::Symbol(old) => old.list().eq_ignore_ascii_case(name),
-        _ => false,
     }
 }
 

@@ -1,10 +1,11 @@
 //! Copies of nodes with other numbers.
 ghost use Rattle.std.specs.Prelude.{◌≡◌, ◌+◌, ◌<◌, IfOk, map, length};
 ghost use Rattle.newt_graph.specs.Raw.{renamed_ref, renamed_class, renamed};
+ghost use Rattle.newt_graph.specs.Names.{Knows};
 ghost use Rattle.newt_graph.specs.Import.{known_as, numbers_from, kept_of, looked_up};
 
-use crate::builder::find_alike;
 use crate::lists::{Refs, Tags};
+use crate::names::Names;
 use crate::node::{Node, Ref};
 use std::alloc::{AllocError, Global};
 
@@ -78,29 +79,40 @@ fn copied(alloc: Global, table: &[u32], node: &Node) -> Result<Node, AllocError>
 }
 
 /// The old node that stands for a symbol already.
-fn known_as(old: &[Node], node: &Node) -> Option<u32>
-    requires { length old.now < 4294967296 }
-    ensures { result ≡ known_as old.now node.now }
+fn known_as(
+    alloc: Global,
+    names: &Names,
+    old: &[Node],
+    node: &Node,
+) -> Result<Option<u32>, AllocError>
+    requires { Knows names.now.numbers old.now }
+    ensures { IfOk result (λ k. k ≡ known_as old.now node.now) }
 {
     match node {
-        Node::Symbol(name) => find_alike(name.list(), old),
+        Node::Symbol(name) => names.find(alloc, old, name.list()),
         Node::Str(_)
         | Node::Binary(_, _)
         | Node::Large(_, _)
         | Node::Array(_, _)
-        | Node::Frame(_, _) => None,
+        | Node::Frame(_, _) => Ok(None),
     }
 }
 
 /// The numbers of a graph's nodes behind old ones.
-pub(crate) fn numbers(alloc: Global, old: &[Node], new: &[Node]) -> Result<Vec<u32>, AllocError>
-    requires { length old.now + length new.now < 4294967296 }
+pub(crate) fn numbers(
+    alloc: Global,
+    names: &Names,
+    old: &[Node],
+    new: &[Node],
+) -> Result<Vec<u32>, AllocError>
+    requires known { Knows names.now.numbers old.now }
+    requires few { length old.now + length new.now < 4294967296 }
     ensures { IfOk result (λ v. v.items ≡ numbers_from old.now (length old.now) new.now) }
 {
     let mut numbers = Vec::new(alloc);
     let mut n = old.len() as u32;
     for node in new {
-        match known_as(old, node) {
+        match known_as(alloc, names, old, node)? {
             Some(k) => numbers.push(k)?,
             None => {
                 numbers.push(n)?;
@@ -115,15 +127,16 @@ pub(crate) fn numbers(alloc: Global, old: &[Node], new: &[Node]) -> Result<Vec<u
 pub(crate) fn copies(
     alloc: Global,
     table: &[u32],
+    names: &Names,
     old: &[Node],
     new: &[Node],
 ) -> Result<Vec<Node>, AllocError>
-    requires { length old.now < 4294967296 }
+    requires { Knows names.now.numbers old.now }
     ensures { IfOk result (λ v. v.items ≡ map (renamed (looked_up table.now)) (kept_of old.now new.now)) }
 {
     let mut out = Vec::new(alloc);
     for node in new {
-        match known_as(old, node) {
+        match known_as(alloc, names, old, node)? {
             Some(_) => {}
             None => out.push(copied(alloc, table, node)?)?,
         }

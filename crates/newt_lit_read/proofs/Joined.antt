@@ -1,11 +1,10 @@
 -- What a text writes down is a draft whose references lead to nodes, and whose classes and tags are symbols.
-use Rattle.std.proofs.Common.{◌≡◌, ◌≢◌, ℕ, zero, suc, ◌+◌, ◌<◌, ◌≤◌, Bool, true, false, cond, ltb, leb, eqb, List, [], ◌∷◌, ◌++◌, length, set, All, Option, Some, None, refl, sym, ap, subst, ◌∙◌, append_assoc, arith}
-use Rattle.std.specs.Prelude.{slice_get, ◌&&◌, ◌||◌, not, AllPairs}
-use Rattle.std.specs.List.{list_any, sum_by}
-use Rattle.std.proofs.lemmas.Bool.{leb-true, ltb-true, eqb-false, and_parts, not-true}
+use Rattle.std.proofs.Common.{◌≡◌, ℕ, zero, suc, ◌+◌, ◌<◌, ◌≤◌, Bool, true, false, cond, ltb, leb, eqb, List, [], ◌∷◌, ◌++◌, length, set, All, Option, Some, None, refl, sym, ap, subst, ◌∙◌, append_assoc, arith}
+use Rattle.std.specs.Prelude.{slice_get, ◌&&◌}
+use Rattle.std.specs.List.{sum_by}
+use Rattle.std.proofs.lemmas.Bool.{leb-true, ltb-true, and_parts}
 use Rattle.std.proofs.lemmas.List.{append-nil, length-append, length_push, length-set, length-map}
 use Rattle.std.proofs.lemmas.List.Elements.{All-nil, All-cons, All-push, All-set, All-map}
-use Rattle.std.proofs.lemmas.List.Kept.{AllPairs-cons}
 use Rattle.std.proofs.lemmas.Option.{slice_get_within}
 use Rattle.std.proofs.Math.Seq.{set-append_seam}
 use Rattle.newt_graph.specs.declared.node.Node.{Node}
@@ -21,6 +20,7 @@ use Rattle.newt_graph.proofs.Elements.{get_append, get_seam}
 use Rattle.newt_graph.proofs.Drafts.{held_push, symbol_push, alike_found, part_of_filling, once_set}
 use Rattle.newt_lit.specs.Built.{Built, symbol_in, held, filled, node_of, labelled, all_distinct, tags_of, values_of}
 use Rattle.newt_lit.specs.Grammar.{Kind, Items, Several, Class, Field, Array, Frame, Classed, Leaf, Object, Form, Nothing, Value, Writes}
+use Rattle.newt_lit_read.proofs.Distinct.{all_distinct_tells}
 use Rattle.newt_lit_read.proofs.Characters.{name_is, tag_is, bytes_fit, large_bytes_fit, units_fit}
 use Rattle.newt_lit_read.proofs.Immediates.{immediate_is}
 
@@ -305,28 +305,10 @@ field_keeps kind keeps b _ _ after (Field.field {name = name} {k = k} {then = ne
     let t = keeps _ _ _ _ value s.drafted in
     record { grown = chain b next after s.grown t.grown; drafted = t.drafted; fit = ((grown_wider next after t.grown).symbols k s.fit, t.fit) }
 
--- ---- distinct tags
-
-or_false : (a b : Bool) → (a || b) ≡ false → (a ≡ false) × (b ≡ false)
-or_false false b e = (refl, e)
-or_false true b e = absurd cc
-
-none_equal : (x : ℕ) (xs : List ℕ) → list_any (eqb x) xs ≡ false → All (λ y. x ≢ y) xs
-none_equal x [] e = All-nil (λ y. x ≢ y)
-none_equal x (y ∷ ys) e =
-    let p = or_false (eqb x y) (list_any (eqb x) ys) e in
-    All-cons (λ y. x ≢ y) y ys (eqb-false x y p.0) (none_equal x ys p.1)
-
-distinct_pairs : (xs : List ℕ) → all_distinct xs ≡ true → AllPairs (λ a b. a ≢ b) xs
-distinct_pairs [] e = λ i j d lt within. absurd (omega (arith, within))
-distinct_pairs (x ∷ xs) e =
-    let p = and_parts (not (list_any (eqb x) xs)) (all_distinct xs) e in
-    AllPairs-cons (λ a b. a ≢ b) x xs (none_equal x xs (not-true (list_any (eqb x) xs) p.0)) (distinct_pairs xs p.1)
-
 frame_joined : (ns : List Node) (fields : List (ℕ × Ref)) → all_distinct (tags_of fields) ≡ true → All (IsField ns) fields → IsJoinedNode ns (nodes.Frame (tags_of fields) (values_of fields))
 frame_joined ns fields distinct fits = record {
   labels = All-map (IsSymbol ns) (λ f. f.0) fields (λ k d lt. (fits k d lt).0);
-  distinct = distinct_pairs (tags_of fields) distinct;
+  distinct = all_distinct_tells (tags_of fields) distinct;
   values = All-map (IsIn ns) (λ f. f.1) fields (λ k d lt. (fits k d lt).1);
 }
 

@@ -1,5 +1,5 @@
 //! What a text has written down so far.
-ghost use Rattle.std.specs.Prelude.{◌≡◌, ◌<◌, ◌≤◌, [], length, IfOk, OnOk, IfErr};
+ghost use Rattle.std.specs.Prelude.{◌≡◌, ◌<◌, ◌≤◌, [], None, length, IfOk, OnOk, IfErr};
 ghost use Rattle.newt_graph.specs.Graph.{IsName};
 ghost use Rattle.newt_graph.specs.Meeting.{normal_form};
 ghost use Rattle.newt_graph.specs.Draft.{IsFilling, IsJoined};
@@ -8,6 +8,7 @@ ghost use Rattle.newt_lit_read.specs.Answers.{Gives};
 ghost use Rattle.newt_lit_read.specs.declared.fault.LitFault.TheVariants.{Memory};
 
 use crate::fault::LitFault;
+use indexmap::IndexMap;
 use newt_graph::{Builder, Graph, Node, Ref};
 use std::alloc::Global;
 use std::marker::Model;
@@ -16,7 +17,7 @@ use std::marker::Model;
 #[derive(Drop)]
 pub(crate) struct Building {
     builder: Builder,
-    labels: Vec<(u32, u32)>,
+    labels: IndexMap<u32, u32>,
 }
 
 impl Model for Building {
@@ -24,7 +25,7 @@ impl Model for Building {
 
     ghost Value = { Built };
 
-    ghost view = { λ b. record { nodes = b.builder; labels = b.labels.items } };
+    ghost view = { λ b. record { nodes = b.builder; labels = b.labels.entries } };
 }
 
 impl Building {
@@ -33,7 +34,7 @@ impl Building {
     {
         Building {
             builder: Builder::new(alloc),
-            labels: Vec::new(alloc),
+            labels: IndexMap::new(alloc),
         }
     }
 
@@ -72,15 +73,16 @@ impl Building {
     pub(crate) fn labelled_node(&self, label: u32) -> Option<u32>
         ensures { result ≡ node_of label self.now.labels }
     {
-        node_of(label, &self.labels)
+        self.labels.get(&label).copied()
     }
 
-    /// Gives the next node a label.
+    /// Gives the next node a label that none has.
     pub(crate) fn label(&mut self, label: u32) -> Result<(), LitFault>
+        requires { node_of label self.old.labels ≡ None }
         ensures ok { OnOk result (self.new ≡ labelled self.old label) }
         ensures err { IfErr result (λ e. e ≡ Memory) }
     {
-        self.labels.push((label, self.builder.len()))?;
+        self.labels.insert(label, self.builder.len())?;
         Ok(())
     }
 
@@ -91,17 +93,4 @@ impl Building {
     {
         Ok(self.builder.finish(root)?)
     }
-}
-
-fn node_of(label: u32, labels: &[(u32, u32)]) -> Option<u32>
-    ensures { result ≡ node_of label labels.now }
-{
-    let mut rest = labels;
-    while let [(given, node), others @ ..] = rest {
-        if *given == label {
-            return Some(*node);
-        }
-        rest = others;
-    }
-    None
 }

@@ -1,0 +1,169 @@
+-- What a table of names finds, and what it knows as nodes are added and filled.
+use Rattle.std.proofs.Common.{◌≡◌, ℕ, zero, suc, ◌+◌, ◌<◌, Bool, true, false, cond, List, [], ◌∷◌, ◌++◌, length, take, drop, get_or, Option, Some, None, Vec, refl, sym, ap, subst, ◌∙◌, append_assoc, arith, inl, inr}
+use Rattle.std.specs.Prelude.{slice_get, set, nat_lt}
+use Rattle.std.specs.Map.{lookup, KeepsOthers}
+use Rattle.std.specs.Str.{bytes_eq}
+use Rattle.std.specs.HashMap.{HashMap, Updates}
+use Rattle.std.proofs.lemmas.Slice.Eq.{bytes_eq-Decides}
+use Rattle.std.proofs.lemmas.List.{length-append, length-take, take_more, take-append-drop}
+use Rattle.std.proofs.lemmas.Option.{slice_get_within}
+use Rattle.newt_graph.specs.declared.node.Node.{Node}
+use Rattle.newt_graph.specs.declared.node.Node.TheVariants.{Symbol, Array, Frame}
+use Rattle.newt_graph.specs.declared.node.Ref.{Ref}
+use Rattle.newt_graph.specs.Graph.{folded, IsAlike, AreFoldedOnce}
+use Rattle.newt_graph.specs.Draft.{IsFilling, is_alike, find_alike, slot_put, with_slot}
+use Rattle.newt_graph.specs.Meeting.{place}
+use Rattle.newt_graph.specs.Names.{KnowsBy, Knows, NotesBy, checked, checked_among}
+use Rattle.newt_graph.proofs.Elements.{get_append, at_push, any_at}
+use Rattle.newt_graph.proofs.Drafts.{bytes_eq-sym, alike_found, alike_symbol, none_alike, get_set, filling_is_no_symbol}
+
+-- ---- what is found
+
+pub found : (number : List ℕ → Option ℕ) (nodes : List Node) (name : List ℕ) → KnowsBy number nodes → checked_among name nodes (number (folded name)) ≡ find_alike name nodes
+found number nodes name knows = by (find_alike name nodes) refl
+  where
+    no_other : (o : Option ℕ) → find_alike name nodes ≡ None → checked_among name nodes o ≡ None
+    no_other None none = refl
+    no_other (Some k) none = at (slice_get nodes k) refl
+      where
+        at : (o : Option Node) → slice_get nodes k ≡ o → checked name k o ≡ None
+        at None here = refl
+        at (Some node) here = tested (is_alike name node) refl
+          where
+            tested : (b : Bool) → is_alike name node ≡ b → cond b (Some k) None ≡ None
+            tested true is =
+                let old = alike_symbol name node is in
+                absurd (none_alike nodes name none k (old.0, here ∙ ap (λ (n : Node). Some n) old.1, old.2))
+            tested false is = refl
+
+    by : (o : Option ℕ) → find_alike name nodes ≡ o → checked_among name nodes (number (folded name)) ≡ o
+    by None none = no_other (number (folded name)) none
+    by (Some k) is =
+        let alike = alike_found name nodes k is in
+        let known : number (folded name) ≡ Some k = ap number (sym alike.2) ∙ knows k alike.0 alike.1 in
+        let yes : bytes_eq (folded alike.0) (folded name) ≡ true = (bytes_eq-Decides (folded alike.0) (folded name)).1 alike.2 in
+        rw (known, alike.1, yes) refl
+
+-- ---- what a table knows after an entry
+
+-- a new entry is found at its own key alone
+pub noted : {A S : Type 0} (old new : HashMap (Vec ℕ A) ℕ S) (key : Vec ℕ A) (n : ℕ) → Updates (λ a b. bytes_eq a.items b.items) old new key (Some n)
+    → (q : List ℕ) → lookup (λ k. bytes_eq q k.items) new.entries ≡ cond (bytes_eq key.items q) (Some n) (lookup (λ k. bytes_eq q k.items) old.entries)
+unfolding KeepsOthers
+noted {A} old new key n updates q = by (bytes_eq key.items q) refl
+  where
+    test : Vec ℕ A → Bool
+    test k = bytes_eq q k.items
+
+    by : (b : Bool) → bytes_eq key.items q ≡ b → lookup (λ k. bytes_eq q k.items) new.entries ≡ cond b (Some n) (lookup (λ k. bytes_eq q k.items) old.entries)
+    by true is = subst (λ (q : List ℕ). lookup (λ k. bytes_eq q k.items) new.entries ≡ Some n) ((bytes_eq-Decides key.items q).0 is) updates.1
+    by false is =
+        updates.3 (λ k. bytes_eq q k.items)
+        (λ x y same. ap (λ (q : List ℕ). bytes_eq q y.items) ((bytes_eq-Decides q x.items).0 same))
+        (λ k same. ap (bytes_eq q) (sym ((bytes_eq-Decides key.items k.items).0 same)) ∙ (bytes_eq-sym q key.items ∙ is))
+
+-- entries that stayed
+pub knows_kept : {A S : Type 0} (old new : HashMap (Vec ℕ A) ℕ S) (nodes more : List Node) → new.entries ≡ old.entries → Knows old (nodes ++ more) → Knows new nodes
+knows_kept old new nodes more same knows k name named = rw same (knows k name (get_append nodes more k (Symbol name) named))
+
+pub knows_same : {A S : Type 0} (old new : HashMap (Vec ℕ A) ℕ S) (nodes : List Node) → new.entries ≡ old.entries → Knows old nodes → Knows new nodes
+knows_same old new nodes same knows k name named = rw same (knows k name named)
+
+-- an entry for a name that no node has
+pub knows_noted : (old new : List ℕ → Option ℕ) (nodes : List Node) (name : List ℕ) (n : ℕ) → KnowsBy old nodes → ((k : ℕ) → IsAlike nodes k name → ⊥) → NotesBy old name n new → KnowsBy new nodes
+knows_noted old new nodes name n knows none notes k other named = by (bytes_eq (folded name) (folded other)) refl (notes (folded other))
+  where
+    by : (b : Bool) → bytes_eq (folded name) (folded other) ≡ b → new (folded other) ≡ cond b (Some n) (old (folded other)) → new (folded other) ≡ Some k
+    by true is e = absurd (none k (other, named, sym ((bytes_eq-Decides (folded name) (folded other)).0 is)))
+    by false is e = e ∙ knows k other named
+
+-- ---- what a table knows of more nodes
+
+pub knows_held : (number : List ℕ → Option ℕ) (nodes items : List Node) → items ≡ nodes ++ Array None [] ∷ [] → KnowsBy number nodes → KnowsBy number items
+knows_held number nodes items all knows = subst (KnowsBy number) (sym all) (λ k name named.
+    elim (at_push nodes (Array None []) k (Symbol name) named) [
+      | inl old ↦ knows k name old
+      | inr last ↦ absurd (no_symbol last.1)
+    ])
+  where
+    no_symbol : {name : List ℕ} → Array None [] ≡ Symbol name → ⊥
+    no_symbol e = absurd cc
+
+pub knows_symbol : (old new : List ℕ → Option ℕ) (nodes : List Node) (name : List ℕ) → KnowsBy old nodes → ((k : ℕ) → IsAlike nodes k name → ⊥) → NotesBy old name (length nodes) new → KnowsBy new (nodes ++ Symbol name ∷ [])
+knows_symbol old new nodes name knows none notes k other named =
+    elim (at_push nodes (Symbol name) k (Symbol other) named) [
+      | inl before ↦ knows_noted old new nodes name (length nodes) knows none notes k other before
+      | inr last ↦
+          let own : bytes_eq (folded name) (folded name) ≡ true = (bytes_eq-Decides (folded name) (folded name)).1 refl in
+          let is : name ≡ other = same_name last.1 in
+          let e : new (folded name) ≡ Some (length nodes) = notes (folded name) ∙ rw own refl in
+          ap (λ (x : List ℕ). new (folded x)) (sym is) ∙ (e ∙ ap (λ (m : ℕ). Some m) (sym last.0))
+    ]
+  where
+    same_name : {a b : List ℕ} → Symbol a ≡ Symbol b → a ≡ b
+    same_name e = cc
+
+-- a symbol that was pushed
+pub symbol_known : (old new : List ℕ → Option ℕ) (nodes items : List Node) (name : List ℕ) (n : ℕ) → n ≡ length nodes → items ≡ nodes ++ Symbol name ∷ [] → KnowsBy old nodes → find_alike name nodes ≡ None → NotesBy old name n new → KnowsBy new items
+symbol_known old new nodes items name n is all knows none notes =
+    subst (KnowsBy new) (sym all) (knows_symbol old new nodes name knows (none_alike nodes name none) (subst (λ (m : ℕ). NotesBy old name m new) is notes))
+
+pub knows_fewer : (number : List ℕ → Option ℕ) (nodes more : List Node) → KnowsBy number (nodes ++ more) → KnowsBy number nodes
+knows_fewer number nodes more knows k name named = knows k name (get_append nodes more k (Symbol name) named)
+
+set_with : (number : List ℕ → Option ℕ) (nodes : List Node) (n : ℕ) (node : Node) → ((name : List ℕ) → node ≡ Symbol name → ⊥) → KnowsBy number nodes → KnowsBy number (set nodes n node)
+set_with number nodes n node none knows k name named =
+    elim (get_set nodes n node k (Symbol name) named) [
+      | inl h ↦ absurd (none name h.1)
+      | inr old ↦ knows k name old
+    ]
+
+pub knows_set : (number : List ℕ → Option ℕ) (nodes : List Node) (n : ℕ) (node : Node) → IsFilling node → KnowsBy number nodes → KnowsBy number (set nodes n node)
+knows_set number nodes n node is knows = set_with number nodes n node (λ name e. filling_is_no_symbol node name is e) knows
+
+slot_is_frame : (tags : List ℕ) (values : List Ref) (tag : ℕ) (value : Ref) (o : Option ℕ) (node : Node) (name : List ℕ) → slot_put tags values tag value o ≡ Some node → node ≡ Symbol name → ⊥
+slot_is_frame tags values tag value (Some i) node name e is = absurd cc
+slot_is_frame tags values tag value None node name e is = by (nat_lt (length tags) 65535) e
+  where
+    by : (b : Bool) → cond b (Some (Frame (tags ++ tag ∷ []) (values ++ value ∷ []))) None ≡ Some node → ⊥
+    by true e = absurd cc
+    by false e = absurd cc
+
+pub knows_slot : (number : List ℕ → Option ℕ) (nodes : List Node) (n : ℕ) (node : Node) (tags : List ℕ) (values : List Ref) (tag : ℕ) (value : Ref) → with_slot tags values tag value ≡ Some node → KnowsBy number nodes → KnowsBy number (set nodes n node)
+unfolding with_slot
+knows_slot number nodes n node tags values tag value e knows = set_with number nodes n node (λ name is. slot_is_frame tags values tag value (place tags tag) node name e is) knows
+
+-- ---- new nodes one after another
+
+-- a new symbol that is the next to stand behind the others
+pub knows_next : (before after : List ℕ → Option ℕ) (old new : List Node) (i n : ℕ) (d : Node) (name : List ℕ) → i < length new → n ≡ length old + i → get_or new i d ≡ Symbol name → AreFoldedOnce (old ++ new)
+    → NotesBy before name n after → KnowsBy before (old ++ take i new) → KnowsBy after (old ++ take (i + 1) new)
+knows_next before after old new i n d name lt is here once notes knows =
+    let so_far = old ++ take i new in
+    let long : length so_far ≡ length old + i = omega (arith, length-append old (take i new), length-take i new, lt) in
+    let whole : old ++ take (i + 1) new ≡ so_far ++ Symbol name ∷ [] = rw (take_more new i d lt, here) (sym (append_assoc old (take i new) (Symbol name ∷ []))) in
+    let there : slice_get (old ++ new) (length old + i) ≡ Some (Symbol name) = get_behind old new i (length old + i) (Symbol name) refl (any_at new i d lt ∙ ap (λ (x : Node). Some x) here) in
+    subst (KnowsBy after) (sym whole)
+    (knows_symbol before after so_far name knows
+    (λ k alike.
+    let within = slice_get_within so_far k (Symbol alike.0) alike.1 in
+    let parts : so_far ++ drop i new ≡ old ++ new = append_assoc old (take i new) (drop i new) ∙ ap (λ (ns : List Node). old ++ ns) (take-append-drop i new) in
+    let older = subst (λ (ns : List Node). slice_get ns k ≡ Some (Symbol alike.0)) parts (get_append so_far (drop i new) k (Symbol alike.0) alike.1) in
+    let same = once (length old + i) k name there (alike.0, older, alike.2) in
+    absurd (omega (arith, within, same, long)))
+    (subst (λ (m : ℕ). NotesBy before name m after) (is ∙ sym long) notes))
+  where
+    get_behind : {X : Type 0} (xs ys : List X) (k m : ℕ) (x : X) → m ≡ length xs + k → slice_get ys k ≡ Some x → slice_get (xs ++ ys) m ≡ Some x
+    get_behind [] ys k m x same e = let here : k ≡ m = omega (arith, same) in subst (λ (m : ℕ). slice_get ys m ≡ Some x) here e
+    get_behind (y ∷ xs) ys k zero x same e = absurd (omega (arith, same))
+    get_behind (y ∷ xs) ys k (suc m) x same e = get_behind xs ys k m x (omega (arith, same)) e
+
+-- a node of another kind is the next
+pub knows_pass : (number : List ℕ → Option ℕ) (old new : List Node) (i : ℕ) (d : Node) → i < length new → ((name : List ℕ) → get_or new i d ≡ Symbol name → ⊥) → KnowsBy number (old ++ take i new) → KnowsBy number (old ++ take (i + 1) new)
+knows_pass number old new i d lt none knows =
+    let whole : old ++ take (i + 1) new ≡ (old ++ take i new) ++ get_or new i d ∷ [] = rw (take_more new i d lt) (sym (append_assoc old (take i new) (get_or new i d ∷ []))) in
+    subst (KnowsBy number) (sym whole) (λ k name named.
+    elim (at_push (old ++ take i new) (get_or new i d) k (Symbol name) named) [
+      | inl before ↦ knows k name before
+      | inr last ↦ absurd (none name last.1)
+    ])
