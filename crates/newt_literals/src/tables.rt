@@ -23,14 +23,25 @@ fn shown(character: char) -> char {
     }
 }
 
-/// Appends a text so often, as in `[*200`.
-fn push_many(to: &mut String, part: &str) -> Result<(), Fail> {
+/// Appends a text so often, as in `[*200`. A `№` in it stands for how often it was appended before.
+fn push_many(alloc: Global, to: &mut String, part: &str) -> Result<(), Fail> {
     let Some((text, count)) = part.rsplit_once('*') else {
         return Err(Fail::new("no number of times"));
     };
     let count: u32 = count.parse()?;
-    for _ in 0..count {
-        to.push_str(text)?;
+    for before in 0..count {
+        push_numbered(alloc, to, text, before)?;
+    }
+    Ok(())
+}
+
+/// Appends a text with a number in the place of each `№`.
+fn push_numbered(alloc: Global, to: &mut String, text: &str, number: u32) -> Result<(), Fail> {
+    for (i, piece) in text.split('№').enumerate() {
+        if i > 0 {
+            to.push_str(&format!(in alloc; "{number}")?)?;
+        }
+        to.push_str(piece)?;
     }
     Ok(())
 }
@@ -49,7 +60,7 @@ fn expanded(alloc: Global, text: &str) -> Result<String, Fail> {
         if number % 2 == 0 {
             push_shown(&mut out, part)?;
         } else {
-            push_many(&mut out, part)?;
+            push_many(alloc, &mut out, part)?;
         }
     }
     Ok(out)
