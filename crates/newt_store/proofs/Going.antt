@@ -34,7 +34,7 @@ use Rattle.newt_catalog.specs.declared.catalog.Catalog.{Catalog}
 use Rattle.newt_store.specs.declared.next.Gone.{Gone}
 use Rattle.newt_store.specs.declared.next.Gone.TheVariants.{Nothing, OneEntry, AllOf}
 use Rattle.newt_store.specs.declared.next.Next.{Next}
-use Rattle.newt_store.specs.Change.{pages_of_entry, pages_of_soup}
+use Rattle.newt_store.specs.Change.{pages_of_entry, pages_of_soup, pages_bytes}
 use Rattle.newt_store.specs.Next.{Goes, IsFree, IsNextOf, Turns, goes_pages, replaced_pages, names_replaced, all_gone, next_bytes, turn_bytes}
 use Rattle.newt_catalog.specs.Stands.{StandsFor}
 use Rattle.newt_store.proofs.Carrying.{AreGone, no-object}
@@ -285,6 +285,7 @@ module _ (told : Bool) (catalog : Catalog) (numbers : Numbers) (unit : ℕ) (out
       sum_by-append (pages_held catalog.objects) (flat_map (λ r. r ∷ names-now r) records) (names_replaced names-now next.entry)
       ∙ ap (λ (n : ℕ). n + all_pages_held catalog.objects (names_replaced names-now next.entry)) (flat-weights (pages_held catalog.objects) names-now records ∙ gone-pages next.gone records once are) in
       let over = over-replaced next t is turns in
-      (λ i. 9 + 516 * (dir i + new_pages next.entry) + 4 * (zero-pages i + over_pages catalog.objects next.entry + rest i)) ∙ turned (516 * (directory_pages t + new_pages next.entry)) (directory_pages s) _ _ _ _ over where
-        turned : (p z o n g r : ℕ) → o + n ≡ r → 9 + p + 4 * (z + o + (g + n)) ≡ 9 + p + 4 * (z + r + g)
-        turned p z o n g r same = omega (arith, same)
+      (λ i. pages_bytes (dir i + new_pages next.entry) (zero-pages i + over_pages catalog.objects next.entry + rest i))
+      ∙ ap (pages_bytes (directory_pages t + new_pages next.entry)) (turned (directory_pages s) _ _ _ _ over) where
+        turned : (z o n g r : ℕ) → o + n ≡ r → z + o + (g + n) ≡ z + r + g
+        turned z o n g r same = omega (arith, same)

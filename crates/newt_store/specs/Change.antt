@@ -193,10 +193,14 @@ pages_put change now s = directory_pages (changed_by change now s) + pages_of_en
 abbrev pub pages_gone : Change → Store → ℕ
 pages_gone change s = directory_pages s + pages_removed change s
 
--- The bytes of a batch: 516 for each page that it writes, 4 for each that it lets go, and 9 beside them. A patch writes one page more than its bytes fill.
+-- the bytes of a batch that puts so many pages and lets so many go: 516 for each that it puts, 4 for each that it lets go, and 9 beside them
+abbrev pub pages_bytes : ℕ → ℕ → ℕ
+pages_bytes put gone = 9 + 516 * put + 4 * gone
+
+-- the bytes of the batch of a change
 abbrev pub bytes_of : Change → ℕ → Store → ℕ
 bytes_of (Patch sig uid node at bytes) now s = patch_bytes (length bytes)
-bytes_of change now s = 516 * pages_put change now s + 4 * pages_gone change s + 9
+bytes_of change now s = pages_bytes (pages_put change now s) (pages_gone change s)
 
 -- the most bytes that a change programs: none where it is refused, else those of its batch
 unfoldable pub most_bytes : Change → ℕ → ℕ → Store → ℕ
