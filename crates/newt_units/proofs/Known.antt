@@ -20,7 +20,7 @@ use Rattle.newt_laws_answers.specs.WorldAt.{device_at}
 use Rattle.newt_laws_answers.proofs.Worlds.{device-of, card_device}
 use Rattle.newt_laws_answers.proofs.Units.{is-mounted, soup-named}
 use Rattle.newt_laws_answers.proofs.Sigs.{soup-of-sig, named-name}
-use Rattle.newt_cardstore.specs.Cards.{IsSame}
+use Rattle.newt_pagebook.specs.Book.{IsSameFor}
 use Rattle.newt_units.specs.declared.units.Slot.{Slot}
 use Rattle.newt_units.specs.declared.units.Units.{Units}
 use Rattle.newt_units.specs.Stands.{card_at, mounted_in, world_of, Stands, Eight}
@@ -32,7 +32,7 @@ pub record Laws {C : Type 0} (reads : List ℕ → Option Store) (place : C → 
   pub plain : (card : C) (outside : Outside) → stands true card outside → (s : Store) × (reads (image (place card) outside.now) ≡ Some s) × (bare s ≡ soups card)
   pub durable : (card : C) (outside : Outside) → stands true card outside → IsDurable (place card) outside.now
   pub banks : (told : Bool) (card : C) (outside : Outside) → stands told card outside → 13 ≤ outside.blocks (place card)
-  pub kept : (told : Bool) (card : C) (old new : Outside) → stands told card old → IsSame told (place card) old new → stands told card new
+  pub kept : (told : Bool) (card : C) (old new : Outside) → stands told card old → IsSameFor told (place card) old new → stands told card new
 
 -- ---- lists
 
