@@ -15,7 +15,7 @@ use Rattle.newt_objects.specs.Extents.{numbers_of}
 use Rattle.newt_objects.specs.Held.{Held, held}
 use Rattle.newt_spec_graph.specs.Lists.{Each, Pairs, Among}
 use Rattle.newt_spec_graph.proofs.Lists.{each-at, each-from, each-more, rises-pairs, pairs-map}
-use Rattle.newt_spec_store.specs.Cost.{directory_bytes, entry_pages, large_lengths, skeleton_length, directory_pages}
+use Rattle.newt_spec_store.specs.Cost.{directory_bytes, entry_pages, large_lengths, skeleton_length, directory_pages, pages_bytes}
 use Rattle.newt_spec_store.specs.Image.{entry_bytes, larges}
 use Rattle.newt_spec_store.specs.Laid.{Named}
 use Rattle.newt_spec_store.specs.Lies.{Places, IsIn, AreLarges, HasLarge}
@@ -34,7 +34,7 @@ use Rattle.newt_catalog.specs.declared.catalog.Catalog.{Catalog}
 use Rattle.newt_store.specs.declared.next.Gone.{Gone}
 use Rattle.newt_store.specs.declared.next.Gone.TheVariants.{Nothing, OneEntry, AllOf}
 use Rattle.newt_store.specs.declared.next.Next.{Next}
-use Rattle.newt_store.specs.Change.{pages_of_entry, pages_of_soup, pages_bytes}
+use Rattle.newt_store.specs.Change.{pages_of_entry, pages_of_soup}
 use Rattle.newt_store.specs.Next.{Goes, IsFree, IsNextOf, Turns, goes_pages, replaced_pages, names_replaced, all_gone, next_bytes, turn_bytes}
 use Rattle.newt_catalog.specs.Stands.{StandsFor}
 use Rattle.newt_store.proofs.Carrying.{AreGone, no-object}

@@ -8,7 +8,7 @@ use Rattle.newt_base.specs.declared.Refusal.TheVariants.{Full}
 use Rattle.newt_host.specs.Moments.{Moment, image, IsDurable, Leaves}
 use Rattle.newt_host.specs.Outside.{Outside, Spends}
 use Rattle.newt_host.proofs.Outside.{Spends-refl, Spends-widen}
-use Rattle.newt_spec_store.specs.Cost.{directory_bytes}
+use Rattle.newt_spec_store.specs.Cost.{directory_bytes, pages_bytes}
 use Rattle.newt_soupdir.specs.Bare.{bare_store}
 use Rattle.newt_host.proofs.Moments.{Leaves-start, Leaves-weaken}
 use Rattle.newt_image.specs.Pages.{Pages, Change}
@@ -30,7 +30,6 @@ use Rattle.newt_shelf.specs.Batch.{AreWritten, AddsPages, large_ids, new_pages, 
 use Rattle.newt_shelf.specs.Commit.{AreKept, IsPlanned, IsEither}
 use Rattle.newt_shelf.specs.Faults.{RefusesOnly}
 use Rattle.newt_store.specs.declared.next.Next.{Next}
-use Rattle.newt_store.specs.Change.{pages_bytes}
 use Rattle.newt_store.specs.Next.{WritesNext, HoldsEither, next_bytes}
 use Rattle.newt_store.specs.Stands.{GoesOn, IsRefused}
 

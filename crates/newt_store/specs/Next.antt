@@ -4,7 +4,7 @@ use Rattle.std.specs.FinMap as map
 use Rattle.newt_image.specs.Objects.{Objects}
 use Rattle.newt_spec_store.specs.Store.{Store, take_uid_of, soup_of, entry_at}
 use Rattle.newt_image.specs.Pages.{cap}
-use Rattle.newt_spec_store.specs.Cost.{cost, directory_bytes, directory_pages}
+use Rattle.newt_spec_store.specs.Cost.{cost, directory_bytes, directory_pages, pages_bytes}
 use Rattle.newt_spec_store.specs.Laid.{bare}
 use Rattle.newt_spec_store.specs.OfImage.{blocks_of}
 use Rattle.newt_spec_store.specs.Lies.{Places}
@@ -19,7 +19,7 @@ use Rattle.newt_pagebook.specs.declared.book.Stop.TheVariants.{Memory, Device}
 use Rattle.newt_shelf.specs.declared.fault.StoreFault.{StoreFault}
 use Rattle.newt_shelf.specs.declared.fault.StoreFault.TheVariants.{Refused, Stop}
 use Rattle.newt_store.specs.declared.change.Change.{Change}
-use Rattle.newt_store.specs.Change.{changed_by, answer_of, first_checks, entry_added, pages_of_entry, pages_of_soup, pages_removed, pages_bytes}
+use Rattle.newt_store.specs.Change.{changed_by, answer_of, first_checks, entry_added, pages_of_entry, pages_of_soup, pages_removed}
 use Rattle.newt_shelf.specs.Commit.{Fit}
 use Rattle.newt_shelf.specs.Batch.{AreWritten, HasIds, large_ids, new_pages, over_pages, pages_held, all_pages_held}
 use Rattle.newt_shelf.specs.Names.{names_of}

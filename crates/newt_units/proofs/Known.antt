@@ -9,7 +9,7 @@ use Rattle.newt_base.specs.declared.Refusal.TheVariants.{Unit as NoUnit, Blocks,
 use Rattle.newt_host.specs.Moments.{image, IsDurable}
 use Rattle.newt_host.specs.Outside.{Outside}
 use Rattle.newt_spec_graph.proofs.Lists.{some-same, none-some, both-ways}
-use Rattle.newt_spec_store.specs.Laid.{bare}
+use Rattle.newt_spec_store.specs.Laid.{bare, bare_soup}
 use Rattle.newt_spec_store.specs.Store.{Store, Soup, soup_named, soup_of}
 use Rattle.newt_spec_store.specs.Valid.{well_formed}
 use Rattle.newt_spec_world.specs.First.{media_of}
@@ -40,10 +40,6 @@ pub get-none : {X : Type 0} (xs : List X) (u : ℕ) → slice_get xs u ≡ None 
 get-none [] u h = omega arith
 get-none (x ∷ xs) zero h = absurd (none-some x (sym h))
 get-none (x ∷ xs) (suc u) h = let r = get-none xs u h in omega (arith, r)
-
--- a soup without its entries
-abbrev bare_soup : Soup → Soup
-bare_soup p = record p { entries = [] }
 
 -- the soup of a name without its entries
 pub bare-named : (name : List ℕ) (ps : List Soup) → find (λ p. equal_text p.name name) (map bare_soup ps) ≡ option_map bare_soup (find (λ p. equal_text p.name name) ps)
