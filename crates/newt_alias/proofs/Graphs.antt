@@ -8,7 +8,7 @@ use Rattle.newt_graph.specs.declared.node.Node.{Node}
 use Rattle.newt_graph.specs.declared.node.Node.TheVariants.{Symbol, Str, Binary, Large, Array, Frame}
 use Rattle.newt_graph.specs.declared.node.Ref.{Ref}
 use Rattle.newt_graph.specs.declared.node.Ref.TheVariants as refs
-use Rattle.newt_graph.specs.Graph.{RawGraph, WalkLabel, Walk, Walks, IsName, IsNode, AreFoldedOnce, IsGraph}
+use Rattle.newt_graph.specs.Graph.{RawGraph, integer, WalkLabel, Walk, Walks, IsName, IsNode, AreFoldedOnce, IsGraph}
 use Rattle.newt_graph.proofs.Words.{integer_word}
 use Rattle.newt_base.specs.Text.{decimal_text}
 use Rattle.newt_base.proofs.Numerals.{decimal_written}
@@ -17,7 +17,7 @@ use Rattle.newt_spec_graph.specs.Graph.{object}
 use Rattle.newt_spec_world.specs.Alias as plain
 use Rattle.newt_spec_world.specs.Reply.{items}
 use Rattle.newt_alias.specs.declared.alias.Alias.{Alias}
-use Rattle.newt_alias.specs.Alias.{alias_said, integer, alias_nodes, alias_graph, Fits, array_alias, node_alias, IsPrinted}
+use Rattle.newt_alias.specs.Alias.{alias_said, alias_nodes, alias_graph, Fits, array_alias, node_alias, IsPrinted}
 
 name_is : IsName (codes "alias")
 name_is = record {

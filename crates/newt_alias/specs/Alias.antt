@@ -1,11 +1,11 @@
 -- Aliases as a program has them, and their graphs. That an alias is an array with class `alias` and the three numbers is this project's own.
-use Rattle.std.specs.Prelude.{◌≡◌, ℕ, ◌*◌, ◌≤◌, Bool, List, [], ◌∷◌, Option, Some, None, pos, codes, option_map, option_and_then, if◌then◌else◌}
+use Rattle.std.specs.Prelude.{◌≡◌, ℕ, ◌≤◌, Bool, List, [], ◌∷◌, Option, Some, None, codes, option_map, option_and_then, if◌then◌else◌}
 use Rattle.newt_base.specs.Names.{same_name}
 use Rattle.newt_graph.specs.declared.node.Node.{Node}
 use Rattle.newt_graph.specs.declared.node.Node.TheVariants.{Symbol, Array}
 use Rattle.newt_graph.specs.declared.node.Ref.{Ref}
 use Rattle.newt_graph.specs.declared.node.Ref.TheVariants as refs
-use Rattle.newt_graph.specs.Graph.{RawGraph}
+use Rattle.newt_graph.specs.Graph.{RawGraph, integer}
 use Rattle.newt_lit.specs.Printed.{literal}
 use Rattle.newt_spec_query.specs.Tags.{symbol_name, if_given}
 use Rattle.newt_spec_world.specs.Alias as plain
@@ -15,10 +15,6 @@ use Rattle.newt_alias.specs.declared.alias.Alias.{Alias}
 -- the alias of the plain world
 abbrev pub alias_said : Alias → plain.Alias
 alias_said a = record { store = a.store; soup = a.soup; uid = a.uid }
-
--- an integer as a value, whose word is four times its value
-abbrev pub integer : ℕ → Ref
-integer n = refs.Imm (pos (4 * n))
 
 -- the nodes of an alias: the array, and its class
 unfoldable pub alias_nodes : Alias → List Node

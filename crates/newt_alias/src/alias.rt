@@ -2,7 +2,8 @@
 ghost use Rattle.std.specs.Prelude.{◌≡◌, ◌≤◌, ◌*◌, ◌∷◌, [], Option, Some, None, codes, option_map, IfOk};
 ghost use Rattle.newt_base.specs.Names.{same_name};
 ghost use Rattle.newt_spec_world.specs.Alias as plain;
-ghost use Rattle.newt_alias.specs.Alias.{alias_said, integer, alias_nodes, alias_graph, Fits, is_alias_class, array_alias, node_alias, IsPrinted};
+ghost use Rattle.newt_graph.specs.Graph.{integer};
+ghost use Rattle.newt_alias.specs.Alias.{alias_said, alias_nodes, alias_graph, Fits, is_alias_class, array_alias, node_alias, IsPrinted};
 
 use newt_base::{Sig, Uid};
 use newt_graph::{Bytes, Graph, Node, Ref, Refs};

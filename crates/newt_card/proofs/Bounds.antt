@@ -1,5 +1,5 @@
 -- What each change programs at most, as the units ask for it.
-use Rattle.std.proofs.Common.{◌≡◌, ℕ, ◌+◌, ◌*◌, ◌≤◌, cond, List, [], ◌∷◌, length, Option, Some, option_map, sum_by, refl, ◌∙◌, ap, subst, arith}
+use Rattle.std.proofs.Common.{◌≡◌, ℕ, ◌+◌, ◌≤◌, cond, List, [], ◌∷◌, length, Option, Some, option_map, sum_by, refl, ◌∙◌, ap, subst, arith}
 use Rattle.std.specs.Option.{is_some}
 use Rattle.std.specs.Prelude.{slice_get}
 use Rattle.newt_base.specs.Refusals.{Checks, first_of}
@@ -11,7 +11,7 @@ use Rattle.newt_host.specs.Outside.{Outside, Spends}
 use Rattle.newt_pagebook.specs.Book.{IsOpenFor}
 use Rattle.newt_laws_answers.specs.Bounds.{change_bytes, unless}
 use Rattle.newt_laws_answers.specs.Tests.{make_tests, add_tests, move_tests, moved_within, replace_tests, replaced, patch_tests, index_tests, tags_tests, tagged}
-use Rattle.newt_spec_store.specs.Cost.{entry_pages, directory_pages, patch_bytes}
+use Rattle.newt_spec_store.specs.Cost.{entry_pages, directory_pages, patch_bytes, pages_bytes}
 use Rattle.newt_spec_store.specs.Keys.{IndexSpec, Path}
 use Rattle.newt_spec_store.specs.OfImage.{blocks_of}
 use Rattle.newt_spec_store.specs.Store.{Store as Plain, Soup, Entry, TagTable, entry_of, change_soup, make_soup, drop_soup, add_entry, remove_entry, soup_of, entry_at, next_uid_of, with_index, without_index, with_graph}
@@ -30,11 +30,11 @@ one e = go (entry_pages e)
 
 -- the most that a change programs, in the words of the tests and of the entries that come and go
 bound-is : (change : Change) (blocks now : ℕ) (s t : Plain) (tests : Checks) (put gone : List Entry) → first_of (refusals change blocks now s) ≡ first_of tests → changed_by change now s ≡ t
-    → bytes_of change now s ≡ 516 * pages_put change now s + 4 * pages_gone change s + 9 → pages_of_entry (entry_added change now s) ≡ sum_by entry_pages put
+    → bytes_of change now s ≡ pages_bytes (pages_put change now s) (pages_gone change s) → pages_of_entry (entry_added change now s) ≡ sum_by entry_pages put
     → pages_removed change s ≡ sum_by entry_pages gone → most_bytes change blocks now s ≡ unless tests (change_bytes s t put gone)
 unfolding most_bytes
 bound-is change blocks now s t tests put gone first after bytes come go =
-    ap (λ (n : ℕ). cond (is_some (refusal_of change blocks now s)) 0 n) (bytes ∙ (λ i. 516 * (directory_pages (after i) + come i) + 4 * (directory_pages s + go i) + 9))
+    ap (λ (n : ℕ). cond (is_some (refusal_of change blocks now s)) 0 n) (bytes ∙ (λ i. pages_bytes (directory_pages (after i) + come i) (directory_pages s + go i)))
     ∙ ap (λ (o : Option Refusal). cond (is_some o) 0 (change_bytes s t put gone)) first
 
 -- what a call spends is what it programs

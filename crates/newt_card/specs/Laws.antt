@@ -22,7 +22,6 @@ use Rattle.newt_catalog.specs.Stands.{IsSound}
 use Rattle.newt_catalog.specs.declared.catalog.Catalog.{Catalog}
 use Rattle.newt_ranges.specs.declared.rows.SoupRanges.{SoupRanges}
 use Rattle.newt_indexed.specs.declared.store.IndexedStore.{IndexedStore}
-use Rattle.newt_cardstore.specs.Cards.{IsSame}
 use Rattle.newt_card.specs.Stands.{StandsForOne, StandsOn}
 
 -- only stores of this form are read
@@ -40,7 +39,7 @@ read_as catalog rows now one = (
 )
 
 -- memory stays sound while nothing that concerns the unit changes
-pub sound_kept : (told : Bool) (catalog : Catalog) (numbers : Numbers) (unit : ℕ) (old new : Outside) → IsSame told unit old new → IsSound told catalog numbers unit old → IsSound told catalog numbers unit new
+pub sound_kept : (told : Bool) (catalog : Catalog) (numbers : Numbers) (unit : ℕ) (old new : Outside) → IsSameFor told unit old new → IsSound told catalog numbers unit old → IsSound told catalog numbers unit new
 sound_kept told catalog numbers unit old new same sound =
     let are = sound.kept.are in
     record {
@@ -58,7 +57,7 @@ sound_kept told catalog numbers unit old new same sound =
     }
 
 -- and the image stands for the same
-pub one_kept : (told : Bool) (catalog : Catalog) (rows : List SoupRanges) (unit : ℕ) (old new : Outside) → IsSame told unit old new → (IsTrue told → StandsForOne catalog rows (image unit old.now)) → IsTrue told → StandsForOne catalog rows (image unit new.now)
+pub one_kept : (told : Bool) (catalog : Catalog) (rows : List SoupRanges) (unit : ℕ) (old new : Outside) → IsSameFor told unit old new → (IsTrue told → StandsForOne catalog rows (image unit old.now)) → IsTrue told → StandsForOne catalog rows (image unit new.now)
 one_kept told catalog rows unit old new same one tells = subst (λ (c : List Event). StandsForOne catalog rows (bytes_after c)) (sym (same.changes tells)) (one tells)
 
 module _ {B : Type 0} (place : B → ℕ) (numbers : B → Numbers) (stands : Bool → B → Outside → Type 0) where
@@ -69,10 +68,10 @@ module _ {B : Type 0} (place : B → ℕ) (numbers : B → Numbers) (stands : Bo
 
   -- a call on another unit, on the input or on the output keeps it, where it keeps the book
   pub kept_on : ((told : Bool) (book : B) (old new : Outside) → stands told book old → IsSameFor told (place book) old new → stands told book new)
-      → (told : Bool) (store : IndexedStore B) (old new : Outside) → StandsOn place numbers stands told store old → IsSame told (place store.store.book) old new → StandsOn place numbers stands told store new
+      → (told : Bool) (store : IndexedStore B) (old new : Outside) → StandsOn place numbers stands told store old → IsSameFor told (place store.store.book) old new → StandsOn place numbers stands told store new
   kept_on book_kept told store old new on same = record {
     is_open = record {
-      book = book_kept told store.store.book old new on.is_open.book (record { card = same.card; blocks = same.blocks; changes = same.changes });
+      book = book_kept told store.store.book old new on.is_open.book same;
       sound = sound_kept told store.store.catalog (numbers store.store.book) (place store.store.book) old new same on.is_open.sound;
     };
     plain = one_kept told store.store.catalog store.ranges (place store.store.book) old new same on.plain;

@@ -1,8 +1,7 @@
 -- What a store on a card stands for.
-use Rattle.std.specs.Prelude.{◌≡◌, ◌⊎◌, ℕ, Bool, IsTrue, List, length, map, Option, Some, None, option_map, Result, Ok, Err}
+use Rattle.std.specs.Prelude.{◌≡◌, ◌⊎◌, ℕ, List, length, map, Option, Some, None, option_map, Result, Ok, Err}
 use Rattle.newt_base.specs.Refusals.{Checks, first_of}
 use Rattle.newt_host.specs.Moments.{Moment, changes}
-use Rattle.newt_host.specs.Outside.{Outside}
 use Rattle.newt_spec_store.specs.Store.{Store}
 use Rattle.newt_spec_store.specs.Store as plain
 use Rattle.newt_base.specs.declared.Refusal.TheVariants.{Entry as NoEntry}
@@ -27,12 +26,6 @@ ReadsEntry found (Err (Stop stop)) = Unit {0}
 -- an image is read as one store, or, where the tests are passed, as another
 abbrev pub LeavesEither : (List ℕ → Option Store) → Checks → Store → Store → List ℕ → Type 0
 LeavesEither reads tests before after left = (reads left ≡ Some before) ⊎ ((first_of tests ≡ None) × (reads left ≡ Some after))
-
--- nothing that concerns this unit is other than it was
-pub record IsSame (told : Bool) (unit : ℕ) (old new : Outside) : Type 0 where
-  pub card : new.card unit ≡ old.card unit
-  pub blocks : new.blocks unit ≡ old.blocks unit
-  pub changes : IsTrue told → changes unit new.now ≡ changes unit old.now
 
 -- no other unit is other than it was
 abbrev pub OthersSame : ℕ → Moment → Moment → Type 0

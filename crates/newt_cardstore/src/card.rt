@@ -3,7 +3,7 @@ ghost use Rattle.std.specs.Prelude.{◌≡◌, ℕ, ◌≤◌, [], ◌∷◌, Li
 ghost use Rattle.newt_graph.specs.declared.node.Node.TheVariants.{Large};
 ghost use Rattle.newt_host.specs.Moments.{image, Leaves};
 ghost use Rattle.newt_host.specs.Outside.{Outside, Rose, Touches};
-ghost use Rattle.newt_pagebook.specs.Book.{IsDurable, IsOpenFor, Anything};
+ghost use Rattle.newt_pagebook.specs.Book.{IsDurable, IsOpenFor, IsSameFor, Anything};
 ghost use Rattle.newt_pagebook.specs.Stops.{StopsAt};
 ghost use Rattle.newt_index.specs.Pairs.{IsSorted};
 ghost use Rattle.newt_ranges.specs.Range.{range_in};
@@ -14,7 +14,7 @@ ghost use Rattle.newt_spec_store.specs.Cost.{patch_bytes};
 ghost use Rattle.newt_laws_answers.specs.Bounds.{change_bytes, unless};
 ghost use Rattle.newt_laws_answers.specs.Tests.{make_tests, add_tests, move_tests, moved_within, replace_tests, replaced, patch_tests, patched_within, index_tests, tags_tests, tagged};
 ghost use Rattle.newt_cardstore.specs.Bounds.{ProgramsAtMost};
-ghost use Rattle.newt_cardstore.specs.Cards.{entry_said, LeavesEither, IsSame, OthersSame};
+ghost use Rattle.newt_cardstore.specs.Cards.{entry_said, LeavesEither, OthersSame};
 ghost use Rattle.newt_cardstore.specs.Faults.{Does, GoesOn, FaultsAt, IsRefused};
 
 use crate::fault::Fault;
@@ -371,5 +371,5 @@ pub trait Card: Sized + Drop {
     ghost banks: { (told : Bool) (card : Self) (outside : Outside) → stands told card outside → 13 ≤ outside.blocks (place card) };
 
     /// A call on another unit, on the input or on the output keeps it.
-    ghost kept: { (told : Bool) (card : Self) (old new : Outside) → stands told card old → IsSame told (place card) old new → stands told card new };
+    ghost kept: { (told : Bool) (card : Self) (old new : Outside) → stands told card old → IsSameFor told (place card) old new → stands told card new };
 }

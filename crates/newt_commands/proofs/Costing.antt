@@ -8,7 +8,7 @@ use Rattle.newt_entries.proofs.Within.{graph-within}
 use Rattle.newt_path.specs.Put.{IsFormOf}
 use Rattle.newt_spec_graph.specs.Slots.{put}
 use Rattle.newt_laws.specs.Worlds.{parts_fit, tags_fit}
-use Rattle.newt_spec_store.specs.Keys.{Path, IndexSpec}
+use Rattle.newt_spec_store.specs.Keys.{Path, IndexSpec, has_paths}
 use Rattle.newt_spec_store.specs.Store.{Store, Soup, TagTable, Entry, entry_of, drop_soup, change_soup, add_entry, remove_entry, with_index, without_index, with_graph}
 use Rattle.newt_spec_store.specs.Valid.{valid_entry}
 use Rattle.newt_spec_world.specs.declared.command.Command.{Command}
@@ -18,7 +18,7 @@ use Rattle.newt_spec_world.specs.Changed.{spec_of_words, large_at}
 use Rattle.newt_spec_world.specs.World.{World, default_unit}
 use Rattle.newt_spec_store.specs.Cost.{patch_bytes}
 use Rattle.newt_laws_answers.specs.Bounds.{change_bytes, unless, most_programmed}
-use Rattle.newt_laws_answers.specs.Tests.{add_tests, replace_tests, replaced, patch_tests, move_tests, moved_within, index_tests, has_paths, tagged, tags_tests}
+use Rattle.newt_laws_answers.specs.Tests.{add_tests, replace_tests, replaced, patch_tests, move_tests, moved_within, index_tests, tagged, tags_tests}
 use Rattle.newt_laws_answers.proofs.Most.{drop-most, add-most, addx-most, addu-most, remove-most, change-most, set-most, vwrite-most, copy-most, move-to-most, move-from-most, within-most, index-most, unindex-most, set-tags-most}
 use Rattle.newt_cardstore.specs.declared.fault.Fault.{Fault}
 use Rattle.newt_cardstore.specs.declared.fault.Fault.TheVariants.{Refused, Stop}
@@ -84,7 +84,7 @@ module _ {w : World} {u : ℕ} {name : List ℕ} {sig : ℕ} (h : HasSoup w u na
   index-costs parts fit new typed spec words k = named-costs h (λ m. command.Index u m parts) (subst (λ x. CostsOn u (index_bytes h.blocks h.store h.soup x) result o p) words k)
       (index-most w u h.blocks h.store h.soup.name h.soup h.on h.self_named parts fit new typed)
 
-  pub unindex-costs : (paths shown : List Path) → has_paths paths h.soup ≡ true → shown ≡ paths → CostsOn u (unindex_bytes h.store h.soup shown) result o p
+  pub unindex-costs : (paths shown : List Path) → has_paths paths h.soup.specs ≡ true → shown ≡ paths → CostsOn u (unindex_bytes h.store h.soup shown) result o p
       → Costs (most_programmed w (command.Unindex u name paths)) result o p
   unindex-costs paths shown there same k = named-costs h (λ m. command.Unindex u m paths) (subst (λ x. CostsOn u (unindex_bytes h.store h.soup x) result o p) same k)
       (unindex-most w u h.blocks h.store h.soup.name h.soup h.on h.self_named paths there)

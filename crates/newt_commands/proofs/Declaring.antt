@@ -8,8 +8,8 @@ use Rattle.newt_base.specs.declared.Refusal.TheVariants.{Index as BadIndex, Key 
 use Rattle.newt_host.specs.Outside.{Outside}
 use Rattle.newt_laws.specs.Worlds.{parts_fit, tags_fit}
 use Rattle.newt_spec_graph.proofs.Lists.{some-same, none-some}
-use Rattle.newt_spec_store.specs.Keys.{Path, IndexSpec}
-use Rattle.newt_spec_store.specs.Laid.{bare}
+use Rattle.newt_spec_store.specs.Keys.{Path, IndexSpec, has_paths}
+use Rattle.newt_spec_store.specs.Laid.{bare, bare_soup}
 use Rattle.newt_spec_store.specs.Store.{Store, Soup, TagTable, soup_named, change_soup, soup_of, with_index, without_index}
 use Rattle.newt_spec_world.specs.declared.command.Command.TheVariants as command
 use Rattle.newt_spec_world.specs.declared.command.PartWord.{PartWord}
@@ -17,7 +17,7 @@ use Rattle.newt_spec_world.specs.Changed.{spec_of_words}
 use Rattle.newt_spec_world.specs.Reply.{Reply}
 use Rattle.newt_spec_world.specs.World.{World, store_on_unit, change_store}
 use Rattle.newt_laws_answers.specs.Spoken.{answer_now}
-use Rattle.newt_laws_answers.specs.Tests.{has_paths, index_tests, tagged, tags_tests}
+use Rattle.newt_laws_answers.specs.Tests.{index_tests, tagged, tags_tests}
 use Rattle.newt_laws_answers.specs.There.{OnUnit}
 use Rattle.newt_laws_answers.proofs.Declares.{index-exists, index-real, index-refused, index-done, unindex-done, set-tags-refused, set-tags-done}
 use Rattle.newt_cardstore.specs.declared.fault.Fault.{Fault}
@@ -32,9 +32,6 @@ use Rattle.newt_units.proofs.Known.{on-known, card-known}
 use Rattle.newt_units.proofs.Settings.{Setting, stand-told}
 
 -- ---- what a card knows of a soup
-
-abbrev bare_soup : Soup → Soup
-bare_soup p = record p { entries = [] }
 
 bare-found : (sig : ℕ) (ps : List Soup) → find (λ p. p.sig == sig) (map bare_soup ps) ≡ option_map bare_soup (find (λ p. p.sig == sig) ps)
 bare-found sig [] = refl
@@ -101,7 +98,7 @@ module _ (w v : World) (u blocks : ℕ) (s : Store) (on : OnUnit w u blocks s) (
 
   -- ---- removed
 
-  module _ (paths : List Path) (there : has_paths paths p ≡ true) where
+  module _ (paths : List Path) (there : has_paths paths p.specs ≡ true) where
     unindex-is : answer_now w (command.Unindex u name paths) ≡ (change_store w u (change_soup p.name (without_index paths)), Reply.done)
     unindex-is = unindex-done w u blocks s name p on named paths there none ∙ ap {B = World × Reply} (λ m. (change_store w u (change_soup m (without_index paths)), Reply.done)) (sym is)
 

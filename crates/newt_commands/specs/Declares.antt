@@ -5,13 +5,13 @@ use Rattle.newt_base.specs.Refusals.{Checks, first_of}
 use Rattle.newt_base.specs.declared.Refusal.TheVariants.{Index as BadIndex, Key as BadKey}
 use Rattle.newt_spec_store.specs.Store.{Soup}
 use Rattle.newt_spec_world.specs.declared.command.PartWord.{PartWord}
-use Rattle.newt_laws_answers.specs.Tests.{has_paths}
+use Rattle.newt_spec_store.specs.Keys.{has_paths}
 use Rattle.newt_cardstore.specs.declared.fault.Fault.{Fault}
 use Rattle.newt_cardstore.specs.declared.fault.Fault.TheVariants.{Refused, Stop}
 
 -- the soup has an index of the paths of these parts
 abbrev pub has_parts : List PartWord → Soup → Bool
-has_parts parts p = has_paths (map (λ q. q.path) parts) p
+has_parts parts p = has_paths (map (λ q. q.path) parts) p.specs
 
 -- a part has no type that an index can have
 abbrev pub has_real : List PartWord → Bool

@@ -1,10 +1,10 @@
 //! Declarations of indexes and tags, made of words.
 ghost use Rattle.std.specs.Prelude.{◌≡◌, ◌≤◌, true, IfOk, length, map, zip};
-ghost use Rattle.std.specs.List.{list_all, list_any};
+ghost use Rattle.std.specs.List.{list_all};
 ghost use Rattle.newt_base.specs.Names.{same_path};
 ghost use Rattle.newt_keys.specs.Seen.{declared, declared_all};
 ghost use Rattle.newt_laws.specs.Worlds.{parts_fit, tags_fit};
-ghost use Rattle.newt_spec_store.specs.Keys.{paths_of, same_paths};
+ghost use Rattle.newt_spec_store.specs.Keys.{has_paths, paths_of, same_paths};
 ghost use Rattle.newt_spec_world.specs.Changed.{kind_of, spec_of_words};
 
 use newt_graph::Bytes;
@@ -84,14 +84,14 @@ pub(crate) fn copied_specs(alloc: Global, specs: &[IndexSpec]) -> Result<Vec<Ind
 
 /// Whether one of the declarations has these paths, but for ASCII case.
 pub(crate) fn has_paths(specs: &[IndexSpec], paths: &[Path]) -> bool
-    ensures { result ≡ list_any (λ spec. same_paths (paths_of spec) paths.now) specs.now }
+    ensures { result ≡ has_paths paths.now specs.now }
 {
     specs.iter().any(|spec| spec.has_paths(paths))
 }
 
 /// Whether one of the declarations has the paths of these parts, but for ASCII case.
 pub(crate) fn has_paths_of(specs: &[IndexSpec], parts: &[PartWord]) -> bool
-    ensures { result ≡ list_any (λ spec. same_paths (paths_of spec) (map (λ p. p.path) parts.now)) specs.now }
+    ensures { result ≡ has_paths (map (λ p. p.path) parts.now) specs.now }
 {
     specs.iter().any(|spec| are_parts_of(spec, parts))
 }

@@ -1,14 +1,14 @@
 //! The forms of the words that a declaration is made of.
 ghost use Rattle.std.specs.Prelude.{◌≡◌, is_none};
 ghost use Rattle.std.specs.List.{list_all, list_any};
-ghost use Rattle.newt_base.specs.Names.{is_identifier, same_name, valid_path};
+ghost use Rattle.newt_base.specs.Names.{is_identifier, valid_path};
 ghost use Rattle.newt_laws.specs.Worlds.{parts_fit, tags_fit};
-ghost use Rattle.newt_spec_graph.specs.Lists.{all_apart};
 
 use newt_base::is_identifier;
 use newt_graph::Bytes;
 use newt_path::Path;
 use newt_spec_world::PartWord;
+use newt_tags::are_names_apart;
 
 /// The most names of a path.
 const MOST_NAMES: usize = 8;
@@ -40,7 +40,7 @@ pub(crate) fn has_real(parts: &[PartWord]) -> bool
 pub(crate) fn are_tags(path: &Path, symbols: &[Bytes]) -> bool
     ensures { result ≡ tags_fit path.now symbols.now }
 {
-    is_path(path) && all_symbols(symbols) && are_symbols_apart(symbols)
+    is_path(path) && all_symbols(symbols) && are_names_apart(symbols)
 }
 
 /// Whether a path has 1 to 8 names, each an identifier.
@@ -55,26 +55,4 @@ fn all_symbols(names: &[Bytes]) -> bool
     ensures { result ≡ list_all is_identifier names.now }
 {
     names.iter().all(|name| is_identifier(name.list()))
-}
-
-/// Whether no two symbols are one but for ASCII case.
-fn are_symbols_apart(symbols: &[Bytes]) -> bool
-    ensures { result ≡ all_apart same_name symbols.now }
-{
-    let mut left = symbols;
-    while let [symbol, rest @ ..] = left {
-        if is_among(symbol.list(), rest) {
-            return false;
-        }
-        left = rest;
-    }
-    true
-}
-
-fn is_among(symbol: &[u8], symbols: &[Bytes]) -> bool
-    ensures { result ≡ list_any (same_name symbol.now) symbols.now }
-{
-    symbols
-        .iter()
-        .any(|other| symbol.eq_ignore_ascii_case(other.list()))
 }

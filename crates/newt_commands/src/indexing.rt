@@ -10,7 +10,7 @@ ghost use Rattle.newt_laws.specs.Worlds.{parts_fit};
 ghost use Rattle.newt_laws_answers.specs.Answering.{Answering};
 ghost use Rattle.newt_laws_answers.specs.Bounds.{most_programmed};
 ghost use Rattle.newt_laws_answers.specs.Spoken.{answer_now};
-ghost use Rattle.newt_laws_answers.specs.Tests.{has_paths};
+ghost use Rattle.newt_spec_store.specs.Keys.{has_paths};
 ghost use Rattle.newt_laws_answers.specs.There.{OnUnit};
 ghost use Rattle.newt_cardstore.specs.Bounds.{Costs};
 ghost use Rattle.newt_units.specs.Answers.{Answers};
@@ -106,7 +106,7 @@ fn specs<C: Card>(units: &Units<C>, unit: Unit, soup: Sig) -> Option<&[IndexSpec
 /// Whether a soup that is there has an index of these paths.
 fn has_index<C: Card>(units: &Units<C>, unit: Unit, soup: Sig, paths: &[Path]) -> bool
     ensures { (outside : Outside) → Eight outside → Stands C.place C.stands true units.now outside → (blocks : ℕ) (s : Plain) (p : Soup) → OnUnit (world_of C.reads units.now outside) unit blocks s →
-        soup_of soup s ≡ Some p → result ≡ has_paths paths.now p }
+        soup_of soup s ≡ Some p → result ≡ has_paths paths.now p.specs }
 {
     match specs(units, unit, soup) {
         Some(specs) => has_paths(specs, paths),
@@ -117,7 +117,7 @@ fn has_index<C: Card>(units: &Units<C>, unit: Unit, soup: Sig, paths: &[Path]) -
 /// Whether a soup that is there has an index of the paths of these parts.
 fn has_index_of<C: Card>(units: &Units<C>, unit: Unit, soup: Sig, parts: &[PartWord]) -> bool
     ensures { (outside : Outside) → Eight outside → Stands C.place C.stands true units.now outside → (blocks : ℕ) (s : Plain) (p : Soup) → OnUnit (world_of C.reads units.now outside) unit blocks s →
-        soup_of soup s ≡ Some p → result ≡ has_paths (map (λ q. q.path) parts.now) p }
+        soup_of soup s ≡ Some p → result ≡ has_paths (map (λ q. q.path) parts.now) p.specs }
 {
     match specs(units, unit, soup) {
         Some(specs) => has_paths_of(specs, parts),

@@ -2,7 +2,7 @@
 use Rattle.std.specs.Prelude.{ℕ, Option, Some, None, List, map, option_map}
 use Rattle.newt_spec_query.specs.Hits as hits
 use Rattle.newt_spec_query.specs.Cursor as spec
-use Rattle.newt_index.specs.declared.identity.Spot.{Spot}
+use Rattle.newt_index.specs.Spots.{spot_hit}
 use Rattle.newt_cursor.specs.declared.query.Scope.{Scope}
 use Rattle.newt_cursor.specs.declared.query.Scope.TheVariants.{One, All}
 use Rattle.newt_cursor.specs.declared.query.Query.{Query}
@@ -19,15 +19,11 @@ scope_of All = None
 abbrev pub query_of : Query → hits.Query
 query_of q = record { scope = scope_of q.scope; name = q.name; spec = q.spec }
 
--- the hit that an identity with its key is (a word of these definitions)
-abbrev pub hit_of : Spot → hits.Hit
-hit_of s = record { key = s.key; store = s.store; soup = s.soup; uid = s.uid }
-
 -- the place that a place of the code is (a word of these definitions)
 abbrev pub place_of : Place → spec.Place
 place_of Start = spec.start
 place_of Finish = spec.finish
-place_of (On spot) = spec.on (hit_of spot)
+place_of (On spot) = spec.on (spot_hit spot)
 
 -- the cursor that a cursor of the code is (a word of these definitions)
 abbrev pub cursor_of : Cursor → spec.Cursor

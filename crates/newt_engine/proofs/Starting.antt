@@ -1,15 +1,14 @@
 -- The world before the first command.
-use Rattle.std.proofs.Common.{◌≡◌, refl, ap, sym, ◌∙◌, ℕ, zero, suc, List, [], ◌∷◌, map, false, replicate, Option, Some, None, option_map}
-use Rattle.std.specs.Prelude.{slice_get}
+use Rattle.std.proofs.Common.{◌≡◌, refl, ap, sym, ◌∙◌, ℕ, List, map, false, replicate, Option, Some, None, option_map}
 use Rattle.newt_host.specs.Outside.{Outside}
 use Rattle.newt_session.specs.First.{device_now, unmounted}
 use Rattle.newt_spec_graph.proofs.Lists.{none-some, some-same}
 use Rattle.newt_spec_query.specs.Cursor.{Cursor}
 use Rattle.newt_spec_store.specs.Store.{Store}
 use Rattle.newt_spec_world.specs.First.{unit_numbers}
-use Rattle.newt_spec_world.specs.World.{Device, flat}
+use Rattle.newt_spec_world.specs.World.{Device}
 use Rattle.newt_laws.specs.Settled.{IsSettled, MountedApart}
-use Rattle.newt_laws.proofs.Runs.{first-apart, first-settled}
+use Rattle.newt_laws.proofs.Runs.{first-apart, first-settled, mapped-at}
 use Rattle.newt_laws_answers.specs.WorldAt.{world_at}
 use Rattle.newt_laws_cursors.specs.Cursors.{with_cursors}
 use Rattle.newt_units.specs.declared.units.Units.{Units}
@@ -21,13 +20,8 @@ pub first_world_is : {C : Type 0} (reads : List ℕ → Option Store) (units : U
     → world_with reads units ks o ≡ unmounted reads o
 first_world_is reads units ks o world free = ap (λ xs. with_cursors xs (world_of reads units o)) free ∙ ap (with_cursors (replicate 32 None)) world
 
-mapped_at : {X : Type 0} (f : ℕ → Option X) (ns : List ℕ) (u : ℕ) (d : X) → flat (slice_get (map f ns) u) ≡ Some d → (n : ℕ) × (f n ≡ Some d)
-mapped_at f [] u d h = absurd (none-some d h)
-mapped_at f (n ∷ ns) zero d h = (n, h)
-mapped_at f (n ∷ ns) (suc u) d h = mapped_at f ns u d h
-
 pub none_mounted : (reads : List ℕ → Option Store) (o : Outside) → MountedApart (unmounted reads o)
-none_mounted reads o = first-apart (map (device_now reads o) unit_numbers) (λ u d h. let at = mapped_at (device_now reads o) unit_numbers u d h in go at.0 (o.card at.0) d at.1)
+none_mounted reads o = first-apart (map (device_now reads o) unit_numbers) (λ u d h. let at = mapped-at (device_now reads o) unit_numbers u d h in go at.0 (o.card at.0) d at.1)
   where
     go : (u : ℕ) (card : Option (List ℕ)) (d : Device) → option_map (λ _. record { blocks = o.blocks u; media = Rattle.newt_spec_world.specs.First.media_of (reads (Rattle.newt_host.specs.Moments.image u o.now)); mounted = false }) card ≡ Some d → d.mounted ≡ false
     go u None d h = absurd (none-some d h)

@@ -16,7 +16,7 @@ use Rattle.newt_laws_cursors.specs.Cursors.{with_cursors}
 use Rattle.newt_laws_answers.specs.Spoken.{answer_now}
 use Rattle.newt_laws_answers.proofs.Spoken.{now-later}
 use Rattle.newt_units.specs.declared.units.Units.{Units}
-use Rattle.newt_cardstore.specs.Cards.{IsSame}
+use Rattle.newt_pagebook.specs.Book.{IsSameFor}
 use Rattle.newt_units.specs.Stands.{Eight}
 use Rattle.newt_units.proofs.Known.{Laws}
 use Rattle.newt_units.proofs.Slots.{stands-still}
@@ -38,12 +38,12 @@ pub laws_of : {C : Type 0} {reads : List ℕ → Option Store} {place : C → �
     → ((card : C) (outside : Outside) → stands true card outside → (s : Store) × (reads (image (place card) outside.now) ≡ Some s) × (bare s ≡ soups card))
     → ((card : C) (outside : Outside) → stands true card outside → IsDurable (place card) outside.now)
     → ((told : Bool) (card : C) (outside : Outside) → stands told card outside → 13 ≤ outside.blocks (place card))
-    → ((told : Bool) (card : C) (old new : Outside) → stands told card old → IsSame told (place card) old new → stands told card new)
+    → ((told : Bool) (card : C) (old new : Outside) → stands told card old → IsSameFor told (place card) old new → stands told card new)
     → Laws reads place soups stands
 laws_of formed plain durable banks kept = record { formed = formed; plain = plain; durable = durable; banks = banks; kept = kept }
 
 pub still_stands : {C : Type 0} {reads : List ℕ → Option Store} {place : C → ℕ} {stands : Bool → C → Outside → Type 0}
-    → ((told : Bool) (card : C) (old new : Outside) → stands told card old → IsSame told (place card) old new → stands told card new)
+    → ((told : Bool) (card : C) (old new : Outside) → stands told card old → IsSameFor told (place card) old new → stands told card new)
     → ((card : C) (outside : Outside) → stands true card outside → IsDurable (place card) outside.now)
     → (told : Bool) (units : Units C) (cursors : List (Option Cursor)) (old new : Outside) → SameDevices told old new → Standing reads place stands told units cursors old → Standing reads place stands told units cursors new
 still_stands {C} {reads} {place} {stands} kept durable told units cursors old new same s = record {

@@ -1,5 +1,5 @@
 -- Whether a skeleton and its rows may be those of an entry, test by test.
-use Rattle.std.proofs.Common.{arith, ◌≡◌, refl, ap, sym, subst, ◌∙◌, ℕ, zero, suc, ◌+◌, ◌<◌, ◌≤◌, List, [], ◌∷◌, true, false, Bool, ◌&&◌, length, fold, map, zip, sum_by, nat_le, leb-true}
+use Rattle.std.proofs.Common.{arith, ◌≡◌, refl, ap, sym, subst, ◌∙◌, ℕ, zero, suc, ◌+◌, ◌<◌, ◌≤◌, List, [], ◌∷◌, true, false, Bool, ◌&&◌, length, fold, map, sum_by, nat_le, leb-true}
 use Rattle.std.specs.Prelude.{slice_get, All, replicate}
 use Rattle.std.specs.List.{list_all, sum}
 use Rattle.std.proofs.lemmas.Bool.{and_parts}
@@ -19,6 +19,7 @@ use Rattle.newt_spec_graph.specs.Limits.{within_limits}
 use Rattle.newt_spec_store.specs.Lies.{may_be_large, stretched}
 use Rattle.newt_spec_store.specs.StoreOf.{LargeRow, fill}
 use Rattle.newt_spec_store.specs.Valid.{valid_entry}
+use Rattle.newt_laws_images.proofs.Alone.{zeros, zipped}
 use Rattle.newt_entries.specs.declared.row.LargeAt.{LargeAt}
 use Rattle.newt_entries.specs.Entry.{row_at, names_from, fits, filled}
 use Rattle.newt_entries.specs.Filling.{next_of, put_node, put_in, HasBytes}
@@ -43,13 +44,6 @@ put-bare (x ∷ nodes) bs = ap (λ ns. bare_node x ∷ ns) (put-bare nodes (put_
 
 -- ---- as many zeros as the rows say
 
-abbrev zeros : List LargeRow → List (List ℕ)
-zeros ls = map (λ (l : LargeRow). replicate l.2 0) ls
-
-zipped : (ls : List LargeRow) → map (λ (l : LargeRow). (l.0, replicate l.2 0)) ls ≡ zip (map (λ (l : LargeRow). l.0) ls) (zeros ls)
-zipped [] = refl
-zipped (l ∷ ls) = ap (λ zs. (l.0, replicate l.2 0) ∷ zs) (zipped ls)
-
 zeros-sum : (rows : List LargeAt) → sum_by (λ (b : List ℕ). length b) (zeros (map row_at rows)) ≡ sum_by (λ (l : LargeAt). l.length) rows
 zeros-sum [] = refl
 zeros-sum (l ∷ rows) =
@@ -64,7 +58,7 @@ zeros-count rows = sym (length-map (map row_at rows) (λ (l : LargeRow). replica
 
 stretched-is : (rows : List LargeAt) (g : RawGraph) → names_from 0 g.nodes (map row_at rows) ≡ true → stretched (map row_at rows) g ≡ put_graph g (zeros (map row_at rows))
 stretched-is rows g named =
-    ap {A = List (ℕ × List ℕ)} {B = RawGraph} (fold fill g) (zipped (map row_at rows)) ∙ filled-is (map row_at rows) g (zeros (map row_at rows)) named (zeros-count rows)
+    ap {A = List (ℕ × List ℕ)} {B = RawGraph} (fold fill g) (sym (zipped (map row_at rows))) ∙ filled-is (map row_at rows) g (zeros (map row_at rows)) named (zeros-count rows)
 
 -- ---- the tests
 

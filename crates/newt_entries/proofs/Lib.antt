@@ -1,6 +1,5 @@
 pub mod Spelled
 pub mod Streams
-pub mod Within
 pub mod Putting
 pub mod Fits
 pub mod Steps

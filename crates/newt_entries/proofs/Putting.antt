@@ -3,14 +3,14 @@ use Rattle.std.proofs.Common.{arith, ◌≡◌, refl, ap, sym, ◌∙◌, subst,
 use Rattle.std.specs.Prelude.{All, bytes_eq}
 use Rattle.std.specs.List.{list_all}
 use Rattle.std.proofs.lemmas.Bool.{eqb-true, and_parts, le-leb}
-use Rattle.std.proofs.lemmas.List.{append_assoc, length-map}
+use Rattle.std.proofs.lemmas.List.{length-map}
 use Rattle.std.proofs.lemmas.List.Elements.{All-nil, All-cons, All-head, All-tail}
 use Rattle.std.proofs.lemmas.List.Sums.{sum_by-cons}
 use Rattle.newt_graph.specs.declared.node.Ref.{Ref}
 use Rattle.newt_graph.specs.declared.node.Ref.TheVariants as refs
 use Rattle.newt_graph.specs.declared.node.Node.{Node}
 use Rattle.newt_graph.specs.declared.node.Node.TheVariants.{Large, Array, Frame}
-use Rattle.newt_graph.specs.Graph.{RawGraph, WalkLabel, WalkLabels, Walk, Walks, IsData, IsNode, IsGraph, payload}
+use Rattle.newt_graph.specs.Graph.{RawGraph, WalkLabel, WalkLabels, Walk, Walks, IsNode, IsGraph, payload}
 use Rattle.newt_graph.specs.Meeting.{normal_form, limited}
 use Rattle.newt_graph.proofs.Follows.{walked_form}
 use Rattle.newt_spec_graph.specs.Limits.{node_within, within_limits}
@@ -18,34 +18,26 @@ use Rattle.newt_spec_store.specs.StoreOf.{LargeRow, fill, with_bytes}
 use Rattle.newt_laws_images.proofs.Both.{Both}
 use Rattle.newt_laws_images.proofs.Records.{larges_from, at-length, push-length, fill_nodes, fold-fill}
 use Rattle.newt_laws_images.proofs.Rows.{text-same}
-use Rattle.newt_laws_images.proofs.Skeletons.{Like, graph-like}
+use Rattle.newt_laws_images.proofs.Skeletons.{Like, graph-like, HasData}
+use Rattle.newt_laws_images.proofs.Filled.{numbers_from, step}
 use Rattle.newt_entries.specs.Entry.{names_from, filled}
 use Rattle.newt_entries.specs.Filling.{next_of, put_node, put_in, HasBytes}
-use Rattle.newt_entries.proofs.Within.{node-within}
-
-abbrev numbers : ℕ → List Node → List ℕ
-numbers k nodes = map (λ (l : ℕ × List ℕ). l.0) (larges_from k nodes)
+use Rattle.newt_laws_images.proofs.Within.{node-within}
 
 -- the large binaries have no bytes
 abbrev pub AreEmpty : ℕ → List Node → Type 0
 AreEmpty k nodes = list_all (λ (l : ℕ × List ℕ). length l.1 == 0) (larges_from k nodes) ≡ true
 
-step : (pre : List Node) (x y : Node) (nodes rest : List Node) (bs : List (List ℕ))
-    → fold fill_nodes ((pre ++ y ∷ []) ++ nodes) (zip (numbers (length (pre ++ y ∷ [])) nodes) bs) ≡ (pre ++ y ∷ []) ++ rest
-    → fold fill_nodes (pre ++ (y ∷ nodes)) (zip (numbers (length pre + 1) nodes) bs) ≡ pre ++ (y ∷ rest)
-step pre x y nodes rest bs h = ap (λ ns. fold fill_nodes ns (zip (numbers (length pre + 1) nodes) bs)) (sym (append_assoc pre (y ∷ []) nodes))
-    ∙ ap (λ k. fold fill_nodes ((pre ++ y ∷ []) ++ nodes) (zip (numbers k nodes) bs)) (sym (push-length pre y)) ∙ h ∙ append_assoc pre (y ∷ []) rest
-
 -- the nodes before these are filled already
-put-fills : (pre nodes : List Node) (bs : List (List ℕ)) → length (larges_from (length pre) nodes) ≡ length bs → fold fill_nodes (pre ++ nodes) (zip (numbers (length pre) nodes) bs) ≡ pre ++ put_in nodes bs
+put-fills : (pre nodes : List Node) (bs : List (List ℕ)) → length (larges_from (length pre) nodes) ≡ length bs → fold fill_nodes (pre ++ nodes) (zip (numbers_from (length pre) nodes) bs) ≡ pre ++ put_in nodes bs
 put-fills pre [] bs e = refl
 put-fills pre (Large c old ∷ nodes) [] e = absurd (omega (arith, e))
 put-fills pre (Large c old ∷ nodes) (b ∷ bs) e =
-    ap (λ ns. fold fill_nodes ns (zip (numbers (length pre + 1) nodes) bs)) (at-length (with_bytes b) pre (Large c old) nodes)
-    ∙ step pre (Large c old) (Large c b) nodes (put_in nodes bs) bs
+    ap (λ ns. fold fill_nodes ns (zip (numbers_from (length pre + 1) nodes) bs)) (at-length (with_bytes b) pre (Large c old) nodes)
+    ∙ step pre (Large c b) nodes (put_in nodes bs) bs
     (put-fills (pre ++ Large c b ∷ []) nodes bs (ap (λ k. length (larges_from k nodes)) (push-length pre (Large c b)) ∙ omega (arith, e)))
 put-fills pre (x ∷ nodes) bs e =
-    step pre x x nodes (put_in nodes bs) bs (put-fills (pre ++ x ∷ []) nodes bs (ap (λ k. length (larges_from k nodes)) (push-length pre x) ∙ e))
+    step pre x nodes (put_in nodes bs) bs (put-fills (pre ++ x ∷ []) nodes bs (ap (λ k. length (larges_from k nodes)) (push-length pre x) ∙ e))
 
 put-like : (nodes : List Node) (bs : List (List ℕ)) → Both Like nodes (put_in nodes bs)
 put-like [] bs = tt
@@ -86,10 +78,10 @@ larges-few k (x ∷ nodes) = omega (arith, larges-few (k + 1) nodes)
 
 -- ---- rows that name the large binaries
 
-named-parts : (k : ℕ) (nodes : List Node) (rows : List LargeRow) → names_from k nodes rows ≡ true → (numbers k nodes ≡ map (λ (l : LargeRow). l.0) rows) × AreEmpty k nodes
+named-parts : (k : ℕ) (nodes : List Node) (rows : List LargeRow) → names_from k nodes rows ≡ true → (numbers_from k nodes ≡ map (λ (l : LargeRow). l.0) rows) × AreEmpty k nodes
 named-parts k nodes rows h =
-    let p = and_parts (bytes_eq (numbers k nodes) (map (λ (l : LargeRow). l.0) rows)) (list_all (λ (l : ℕ × List ℕ). length l.1 == 0) (larges_from k nodes)) h in
-    (text-same (numbers k nodes) (map (λ (l : LargeRow). l.0) rows) p.0, p.1)
+    let p = and_parts (bytes_eq (numbers_from k nodes) (map (λ (l : LargeRow). l.0) rows)) (list_all (λ (l : ℕ × List ℕ). length l.1 == 0) (larges_from k nodes)) h in
+    (text-same (numbers_from k nodes) (map (λ (l : LargeRow). l.0) rows) p.0, p.1)
 
 pub named-empty : (k : ℕ) (nodes : List Node) (rows : List LargeRow) → names_from k nodes rows ≡ true → AreEmpty k nodes
 named-empty k nodes rows h = (named-parts k nodes rows h).1
@@ -108,7 +100,7 @@ pub filled-is : (rows : List LargeRow) (g : RawGraph) (bs : List (List ℕ)) →
 filled-is rows g bs h e =
     let count : length (larges_from 0 g.nodes) ≡ length bs = named-count 0 g.nodes rows h ∙ e in
     ap {A = List ℕ} {B = RawGraph} (λ ns. fold fill g (zip ns bs)) (sym (named-parts 0 g.nodes rows h).0)
-    ∙ fold-fill g.root g.nodes (zip (numbers 0 g.nodes) bs)
+    ∙ fold-fill g.root g.nodes (zip (numbers_from 0 g.nodes) bs)
     ∙ ap {A = List Node} {B = RawGraph} (λ ns. record { nodes = ns; root = g.root }) (put-fills [] g.nodes bs count)
 
 -- ---- the limits
@@ -179,11 +171,6 @@ mutual
       (Walks.more (walk-put w bs) (subst (λ (n : ℕ). Walks room n values (put_in others (left_of first bs))) size (walks-put ws (left_of first bs))))
 
 -- ---- within the limits
-
--- the bytes of a large binary are data
-abbrev HasData : Node → Type 0
-HasData (Large c b) = IsData b
-HasData _ = Unit {0}
 
 -- a skeleton that is filled is within the limits where no large binary is too long, and all bytes together are few enough
 pub put-limits : (g : RawGraph) (bs : List (List ℕ)) → IsGraph g → AreEmpty 0 g.nodes → length (larges_from 0 g.nodes) ≡ length bs

@@ -10,12 +10,9 @@ use Rattle.newt_nsof.specs.Written.{nsof}
 use Rattle.newt_spec_store.specs.Image.{larges, large_row, entry_bytes}
 use Rattle.newt_spec_store.specs.Laid.{Named, row_of_large}
 use Rattle.newt_spec_store.specs.Store.{Entry}
-use Rattle.newt_spec_store.specs.StoreOf.{LargeRow}
+use Rattle.newt_laws_images.proofs.Spelt.{large_bytes as spelled}
 use Rattle.newt_entries.specs.declared.row.LargeAt.{LargeAt}
 use Rattle.newt_entries.specs.Entry.{row_at, large_bytes, AreRowsOf}
-
-abbrev spelled : LargeRow → List ℕ
-spelled l = be32 l.0 ++ be32 l.1 ++ be32 l.2
 
 rows-spelled : (rows : List LargeAt) (ls : List Named) → map row_at rows ≡ map row_of_large ls → flat_map large_bytes rows ≡ flat_map large_row ls
 rows-spelled rows ls h = sym (flat_map-map spelled row_at rows) ∙ ap (flat_map spelled) h ∙ flat_map-map spelled row_of_large ls

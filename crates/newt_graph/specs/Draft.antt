@@ -5,6 +5,7 @@ use Rattle.std.specs.Str.{str_eq_ignore_ascii_case}
 use Rattle.newt_graph.specs.declared.node.Node.{Node}
 use Rattle.newt_graph.specs.declared.node.Node.TheVariants.{Symbol, Str, Binary, Large, Array, Frame}
 use Rattle.newt_graph.specs.declared.node.Ref.{Ref}
+use Rattle.newt_graph.specs.Limits.{most_slots, most_data, most_held, most_held_bytes}
 use Rattle.newt_graph.specs.Graph.{IsName, IsText, IsData, IsSymbol, AreFoldedOnce, payload}
 use Rattle.newt_graph.specs.Raw.{labels_of, values_of, IsValue}
 use Rattle.newt_graph.specs.Meeting.{place}
@@ -16,13 +17,13 @@ IsPart (Symbol name) = IsName name
 IsPart (Str units) = IsText units
 IsPart (Binary class bytes) = IsData bytes
 IsPart (Large class bytes) = IsData bytes
-IsPart (Array class values) = length values ≤ 65535
-IsPart (Frame tags values) = (length tags ≤ 65535) × (length values ≡ length tags)
+IsPart (Array class values) = length values ≤ most_slots
+IsPart (Frame tags values) = (length tags ≤ most_slots) × (length values ≡ length tags)
 
 -- what a builder holds
 pub record IsDraft (nodes : List Node) : Type 0 where
-  pub few : length nodes ≤ 131072
-  pub light : sum_by payload nodes ≤ 33554432
+  pub few : length nodes ≤ most_held
+  pub light : sum_by payload nodes ≤ most_held_bytes
   pub each : All IsPart nodes
   pub folded_once : AreFoldedOnce nodes
 
@@ -48,11 +49,11 @@ IsFilling (Frame tags values) = length values ≡ length tags
 
 abbrev pub is_small : Node → Bool
 is_small (Symbol name) = true
-is_small (Str units) = nat_le (2 * length units + 2) 1000000
-is_small (Binary class bytes) = nat_le (length bytes) 1000000
-is_small (Large class bytes) = nat_le (length bytes) 1000000
-is_small (Array class values) = nat_le (length values) 65535
-is_small (Frame tags values) = nat_le (length tags) 65535
+is_small (Str units) = nat_le (2 * length units + 2) most_data
+is_small (Binary class bytes) = nat_le (length bytes) most_data
+is_small (Large class bytes) = nat_le (length bytes) most_data
+is_small (Array class values) = nat_le (length values) most_slots
+is_small (Frame tags values) = nat_le (length tags) most_slots
 
 -- a symbol of this name but for ASCII case
 abbrev pub is_alike : List ℕ → Node → Bool
@@ -65,7 +66,7 @@ find_alike name nodes = position_from (is_alike name) 0 nodes
 
 -- what a call gives: its answer and the nodes after it; none where a limit would be passed
 abbrev pub pushed : List Node → Node → Option (ℕ × List Node)
-pushed nodes node = if nat_lt (length nodes) 131072 then Some (length nodes, nodes ++ node ∷ []) else None
+pushed nodes node = if nat_lt (length nodes) most_held then Some (length nodes, nodes ++ node ∷ []) else None
 
 abbrev pub known : List Node → List ℕ → Option ℕ → Option (ℕ × List Node)
 known nodes name (Some k) = Some (k, nodes)
@@ -79,12 +80,12 @@ unfoldable pub with_held : List Node → Option (ℕ × List Node)
 with_held nodes = pushed nodes (Array None [])
 
 unfoldable pub with_filled : List Node → ℕ → Node → Option (List Node)
-with_filled nodes n node = if is_small node && nat_le (sum_by payload (set nodes n node)) 33554432 then Some (set nodes n node) else None
+with_filled nodes n node = if is_small node && nat_le (sum_by payload (set nodes n node)) most_held_bytes then Some (set nodes n node) else None
 
 -- a value in the slot of this tag: where the slot stands, or in a new last one
 abbrev pub slot_put : List ℕ → List Ref → ℕ → Ref → Option ℕ → Option Node
 slot_put tags values tag value (Some i) = Some (Frame tags (set values i value))
-slot_put tags values tag value None = if nat_lt (length tags) 65535 then Some (Frame (tags ++ tag ∷ []) (values ++ value ∷ [])) else None
+slot_put tags values tag value None = if nat_lt (length tags) most_slots then Some (Frame (tags ++ tag ∷ []) (values ++ value ∷ [])) else None
 
 unfoldable pub with_slot : List ℕ → List Ref → ℕ → Ref → Option Node
 with_slot tags values tag value = slot_put tags values tag value (place tags tag)

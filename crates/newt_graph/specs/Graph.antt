@@ -1,14 +1,15 @@
 -- Graphs of objects, in the one order in which a walk from the root first meets their nodes.
-use Rattle.std.specs.Prelude.{◌≡◌, ◌≢◌, ℕ, suc, ◌+◌, ◌*◌, ◌<◌, ◌≤◌, List, [], ◌∷◌, ◌++◌, length, map, All, AllPairs, Some, None, slice_get}
-use Rattle.std.specs.List.{sum_by}
+use Rattle.std.specs.Prelude.{◌≡◌, ◌≢◌, ℕ, suc, ◌+◌, ◌*◌, ◌<◌, ◌≤◌, Bool, true, not, ◌&&◌, ◌==◌, nat_le, List, [], ◌∷◌, ◌++◌, length, map, All, AllPairs, Some, None, slice_get}
+use Rattle.std.specs.List.{list_any, sum_by}
 use Rattle.std.specs.Char.{to_ascii_lowercase}
-use Rattle.std.specs.Prelude.{ℤ, ◌%◌}
+use Rattle.std.specs.Prelude.{ℤ, pos, ◌%◌}
 use Rattle.std.specs.Int.{w32, cast_unsigned}
 use Rattle.std.specs.Int.RustNames.{FitsSigned}
 use Rattle.newt_graph.specs.declared.node.Node.{Node}
 use Rattle.newt_graph.specs.declared.node.Node.TheVariants.{Symbol, Str, Binary, Large, Array, Frame}
 use Rattle.newt_graph.specs.declared.node.Ref.{Ref}
 use Rattle.newt_graph.specs.declared.node.Ref.TheVariants as refs
+use Rattle.newt_graph.specs.Limits.{most_slots, most_data, most_nodes, most_bytes, most_open}
 
 -- nodes, and the value at which a walk begins
 pub record RawGraph : Type 0 where
@@ -39,6 +40,10 @@ pub record IsName (name : List ℕ) : Type 0 where
 pub record IsWord (w : ℤ) : Type 0 where
   pub fits : FitsSigned w32 w
   pub low : cast_unsigned w32 w % 4 ≢ 1
+
+-- an integer that is not negative, as a value: its word is four times the number
+abbrev pub integer : ℕ → Ref
+integer n = refs.Imm (pos (4 * n))
 
 -- A walk that has met so many nodes comes to a class or a tag. The list is what it meets anew from there, in order.
 pub data WalkLabel : (met : ℕ) → ℕ → List Node → Type 0 where
@@ -84,9 +89,14 @@ mutual
         → Walks room (met + length first) values others
         → Walks room met (value ∷ values) (first ++ others)
 
--- at most 65,535 tags, no two of them the same
+-- whether no two of the numbers are the same
+abbrev pub all_distinct : List ℕ → Bool
+all_distinct [] = true
+all_distinct (n ∷ ns) = not (list_any (λ m. n == m) ns) && all_distinct ns
+
+-- as many tags as a frame may have, no two of them the same
 pub record AreTags (tags : List ℕ) : Type 0 where
-  pub few : length tags ≤ 65535
+  pub few : length tags ≤ most_slots
   pub distinct : AllPairs (λ a b. a ≢ b) tags
 
 -- a value for each tag, and each tag is a symbol
@@ -95,14 +105,14 @@ pub record IsFrame (nodes : List Node) (tags : List ℕ) (values : List Ref) : T
   pub paired : length values ≡ length tags
   pub symbols : All (IsSymbol nodes) tags
 
--- 16-bit units, of which two bytes each and two more are at most 1,000,000
+-- 16-bit units, of which two bytes each and two more are within the limit
 pub record IsText (units : List ℕ) : Type 0 where
-  pub few : 2 * length units + 2 ≤ 1000000
+  pub few : 2 * length units + 2 ≤ most_data
   pub each : All (λ u. u < 65536) units
 
--- at most 1,000,000 bytes
+-- as many bytes as a binary may have
 pub record IsData (bytes : List ℕ) : Type 0 where
-  pub few : length bytes ≤ 1000000
+  pub few : length bytes ≤ most_data
   pub each : All (λ b. b < 256) bytes
 
 abbrev pub IsNode : List Node → Node → Type 0
@@ -110,8 +120,8 @@ IsNode nodes (Symbol name) = IsName name
 IsNode nodes (Frame tags values) = IsFrame nodes tags values
 IsNode nodes (Str units) = IsText units
 IsNode nodes (Binary class bytes) = IsSymbol nodes class × IsData bytes
-IsNode nodes (Array None values) = length values ≤ 65535
-IsNode nodes (Array (Some class) values) = IsSymbol nodes class × (length values ≤ 65535)
+IsNode nodes (Array None values) = length values ≤ most_slots
+IsNode nodes (Array (Some class) values) = IsSymbol nodes class × (length values ≤ most_slots)
 IsNode nodes (Large class bytes) = IsSymbol nodes class × IsData bytes
 
 -- the bytes of a string, a binary or a large binary
@@ -123,9 +133,13 @@ payload (Large class bytes) = length bytes
 payload (Array class values) = 0
 payload (Frame tags values) = 0
 
--- strings, binaries and large binaries have at most 16,777,216 bytes together
+-- strings, binaries and large binaries are within the limit together
 abbrev pub AreLight : List Node → Type 0
-AreLight nodes = sum_by payload nodes ≤ 16777216
+AreLight nodes = sum_by payload nodes ≤ most_bytes
+
+-- whether they are
+abbrev pub are_light : List Node → Bool
+are_light nodes = nat_le (sum_by payload nodes) most_bytes
 
 -- no two symbols are alike
 abbrev pub AreFoldedOnce : List Node → Type 0
@@ -133,8 +147,8 @@ AreFoldedOnce nodes = (i k : ℕ) (name : List ℕ) → IsNamed nodes i name →
 
 -- Normal form: node i is the one that the walk from the root meets as the i-th, each node is met, no two symbols are alike, and the limits hold.
 pub record IsGraph (g : RawGraph) : Type 0 where
-  pub walk : Walk 200 0 g.root g.nodes
-  pub few : length g.nodes ≤ 65535
+  pub walk : Walk most_open 0 g.root g.nodes
+  pub few : length g.nodes ≤ most_nodes
   pub light : AreLight g.nodes
   pub each : All (IsNode g.nodes) g.nodes
   pub folded_once : AreFoldedOnce g.nodes

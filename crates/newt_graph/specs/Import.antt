@@ -4,6 +4,7 @@ use Rattle.std.specs.List.{sum_by}
 use Rattle.newt_graph.specs.declared.node.Node.{Node}
 use Rattle.newt_graph.specs.declared.node.Node.TheVariants.{Symbol, Str, Binary, Large, Array, Frame}
 use Rattle.newt_graph.specs.declared.node.Ref.{Ref}
+use Rattle.newt_graph.specs.Limits.{most_held, most_held_bytes}
 use Rattle.newt_graph.specs.Graph.{RawGraph, payload}
 use Rattle.newt_graph.specs.Raw.{renamed_ref, renamed}
 use Rattle.newt_graph.specs.Draft.{find_alike}
@@ -37,7 +38,7 @@ abbrev pub looked_up : List ℕ → ℕ → ℕ
 looked_up table k = get_or table k 0
 
 abbrev pub behind : List Node → List Node → Ref → Option (Ref × List Node)
-behind old added root = if nat_le (length (old ++ added)) 131072 && nat_le (sum_by payload added) (33554432 - sum_by payload old) then Some (root, old ++ added) else None
+behind old added root = if nat_le (length (old ++ added)) most_held && nat_le (sum_by payload added) (most_held_bytes - sum_by payload old) then Some (root, old ++ added) else None
 
 abbrev pub behind_by : List Node → RawGraph → List ℕ → Option (Ref × List Node)
 behind_by old g table = behind old (map (renamed (looked_up table)) (kept_of old g.nodes)) (renamed_ref (looked_up table) g.root)

@@ -1,13 +1,14 @@
 -- The walk over nodes in any order: which it meets first, one after another.
 use Rattle.std.specs.Prelude.{◌≡◌, ℕ, zero, suc, Bool, true, false, ◌&&◌, ◌==◌, nat_lt, nat_le, List, [], ◌∷◌, ◌++◌, length, map, Option, Some, None, Result, Ok, Err, if◌then◌else◌, slice_get, get_or}
-use Rattle.std.specs.List.{position_from, sum_by}
+use Rattle.std.specs.List.{position_from}
 use Rattle.newt_graph.specs.declared.node.Node.{Node}
 use Rattle.newt_graph.specs.declared.node.Node.TheVariants.{Symbol, Str, Binary, Large, Array, Frame}
 use Rattle.newt_graph.specs.declared.node.Ref.{Ref}
 use Rattle.newt_graph.specs.declared.node.Ref.TheVariants as refs
 use Rattle.newt_graph.specs.declared.fault.GraphFault.{GraphFault}
 use Rattle.newt_graph.specs.declared.fault.GraphFault.TheVariants.{Limit, Memory}
-use Rattle.newt_graph.specs.Graph.{RawGraph, payload}
+use Rattle.newt_graph.specs.Limits.{most_nodes, most_open}
+use Rattle.newt_graph.specs.Graph.{RawGraph, are_light}
 use Rattle.newt_graph.specs.Raw.{renamed_ref, renamed}
 use Rattle.newt_graph.specs.Steps.{◌>>=◌}
 
@@ -105,10 +106,10 @@ abbrev pub moved : List Node → List ℕ → List ℕ → List Node
 moved nodes order ks = map (λ k. renamed (number order) (get_or nodes k (Str []))) ks
 
 abbrev pub limited : RawGraph → Option RawGraph
-limited h = if nat_le (length h.nodes) 65535 && nat_le (sum_by payload h.nodes) 16777216 then Some h else None
+limited h = if nat_le (length h.nodes) most_nodes && are_light h.nodes then Some h else None
 
 abbrev pub numbered : RawGraph → Seen → RawGraph
 numbered g seen = record { nodes = moved g.nodes seen.order seen.order; root = renamed_ref (number seen.order) g.root }
 
 unfoldable pub normal_form : RawGraph → Option RawGraph
-normal_form g = meet g.nodes 200 (record { order = []; count = length g.nodes }) g.root >>= λ seen. limited (numbered g seen)
+normal_form g = meet g.nodes most_open (record { order = []; count = length g.nodes }) g.root >>= λ seen. limited (numbered g seen)

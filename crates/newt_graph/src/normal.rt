@@ -1,7 +1,7 @@
 //! The walk over nodes in any order.
 ghost use Rattle.std.specs.Prelude.{◌≡◌, ◌<◌, ◌+◌, ◌^◌, OnOk, IfOk, map, ◌-◌, nat_le, length, All, Some, None, if◌then◌else◌};
 ghost use Rattle.std.specs.List.{sum_by};
-ghost use Rattle.newt_graph.specs.Graph.{payload};
+ghost use Rattle.newt_graph.specs.Graph.{payload, are_light};
 ghost use Rattle.newt_graph.specs.Raw.{renamed_ref, renamed_class, renamed, IsRaw, IsNormalForm};
 ghost use Rattle.newt_graph.specs.Meeting.{Gives, meet_label, meet_labels, meet_class, meet_each, meet, number, moved, Once, normal_form};
 
@@ -188,11 +188,11 @@ pub(crate) fn left(nodes: &[Node], most: usize) -> Option<usize>
     Some(left)
 }
 
-/// Whether the nodes have at most so many bytes together.
-fn is_light(nodes: &[Node], most: usize) -> bool
-    ensures { result ≡ nat_le (sum_by payload nodes.now) most }
+/// Whether the strings and binaries among the nodes are within the limit together.
+pub fn are_light(nodes: &[Node]) -> bool
+    ensures { result ≡ are_light nodes.now }
 {
-    left(nodes, most).is_some()
+    left(nodes, MOST_BYTES).is_some()
 }
 
 /// What the root reaches, in the order of the walk.
@@ -209,7 +209,7 @@ pub(crate) fn normal(alloc: Global, nodes: Vec<Node>, root: Ref) -> Result<Graph
         return Err(GraphFault::Limit);
     }
     let nodes = gathered(alloc, nodes, &seen)?;
-    if !is_light(&nodes, MOST_BYTES) {
+    if !are_light(&nodes) {
         return Err(GraphFault::Limit);
     }
     let root = numbered(&seen, root);

@@ -1,9 +1,9 @@
 -- The map's changes are the list's.
-use Rattle.std.proofs.Common.{◌≡◌, ◌==◌, ℕ, Bool, true, false, not, filter, cond, List, [], ◌∷◌, map, Option, refl, sym, ◌∙◌, ap, subst, ◌<◌, ◌^◌, inl, inr}
+use Rattle.std.proofs.Common.{◌≡◌, ◌==◌, ℕ, Bool, true, false, not, filter, cond, List, [], ◌∷◌, map, Option, refl, sym, ◌∙◌, ap, subst, ◌<◌, ◌^◌}
 use Rattle.std.specs.List.{All}
 use Rattle.std.specs.declared.cmp.Ordering.{Ordering}
 use Rattle.std.specs.declared.cmp.Ordering.TheVariants.{Less, Equal, Greater}
-use Rattle.std.specs.Ordering.{nat_cmp, is_lt, is_eq, match_ordering}
+use Rattle.std.specs.Ordering.{nat_cmp, is_eq, match_ordering}
 use Rattle.std.specs.BTreeMap.{insert_entry, is_at}
 use Rattle.std.specs.Map.{remove_entry}
 use Rattle.std.proofs.lemmas.List.Elements.{All-head, All-tail, All-cons, All-nil}
@@ -11,12 +11,12 @@ use Rattle.std.specs.List.{AllByRecursion}
 use Rattle.std.specs.List.Sorted.{IsStrictlySortedBy}
 use Rattle.std.specs.Map.{keys_of}
 use Rattle.std.specs.FinMap.{nat_cmp-IsAntisymmetric}
-use Rattle.newt_spec_graph.specs.Lists.{Among, Each, Pairs}
+use Rattle.newt_spec_graph.specs.Lists.{Each, Pairs}
 use Rattle.newt_spec_store.specs.Keys.{Key, IndexSpec, key_cmp}
 use Rattle.newt_keys.proofs.OrderLaws.{equal_keys, tied}
 use Rattle.newt_keys.specs.KeyForm.{IsKeyOf, key_bytes}
 use Rattle.newt_index.specs.declared.search.Slot.{Slot}
-use Rattle.newt_index.specs.Pairs.{Pair, Sorted, parts_of, pair_cmp, added, with_pair, removed, IsPair, IsAbsent, IsSorted}
+use Rattle.newt_index.specs.Pairs.{Pair, Sorted, parts_of, pair_cmp, with_pair, removed, IsPair, IsSorted}
 use Rattle.newt_index.specs.Kept.{pair_of, IsKept, AreKept, IsProbeOf, slot_cmp}
 use Rattle.newt_index.proofs.Walk.{kept_cmp}
 
@@ -25,31 +25,6 @@ tied_pairs : (spec : Option IndexSpec) (p q : Pair) → IsKeyOf (parts_of spec) 
 tied_pairs spec p q hp hq e =
     let h = tied (key_cmp (parts_of spec) p.0 q.0) (nat_cmp p.1 q.1) e in
     λ i. (equal_keys (parts_of spec) p.0 q.0 hp hq h.0 i, nat_cmp-IsAntisymmetric p.1 q.1 h.1 i)
-
-module _ (spec : Option IndexSpec) (slot : Slot) (key : Key) (probe : IsProbeOf spec key slot.bytes.items) (fits : slot.uid < 2 ^ 32) where
-  abbrev Inserted : Slot × Key → List (Slot × Key) → Ordering → Ordering → Type 0
-  Inserted e es o p = (map pair_of (match_ordering o ((slot, key) ∷ e ∷ es) ((e.0, key) ∷ es) (e ∷ insert_entry slot_cmp es slot key))
-      ≡ cond (is_lt p) ((key, slot.uid) ∷ pair_of e ∷ map pair_of es) (pair_of e ∷ added (parts_of spec) (map pair_of es) (key, slot.uid)))
-      × AreKept spec (match_ordering o ((slot, key) ∷ e ∷ es) ((e.0, key) ∷ es) (e ∷ insert_entry slot_cmp es slot key))
-
-  inserted : (es : List (Slot × Key)) → AreKept spec es → (Among (map pair_of es) (key, slot.uid) → ⊥)
-      → (map pair_of (insert_entry slot_cmp es slot key) ≡ added (parts_of spec) (map pair_of es) (key, slot.uid)) × AreKept spec (insert_entry slot_cmp es slot key)
-  inserted [] kept absent =
-      (refl, All-cons (IsKept spec) (slot, key) [] (record { is_key = probe.is_key; bytes = probe.same; uid = fits }) (All-nil (IsKept spec)))
-  inserted (e ∷ es) kept absent =
-      let he = All-head (IsKept spec) e es kept in
-      by (slot_cmp slot e.0) (pair_cmp (parts_of spec) (key, slot.uid) (pair_of e)) (kept_cmp spec slot key e probe he)
-      (λ h. absent (inl (sym (tied_pairs spec (key, slot.uid) (pair_of e) probe.is_key he.is_key h))))
-      (inserted es (All-tail (IsKept spec) e es kept) (λ h. absent (inr h)))
-    where
-      by : (o p : Ordering) → o ≡ p → (p ≡ Equal → ⊥)
-          → (map pair_of (insert_entry slot_cmp es slot key) ≡ added (parts_of spec) (map pair_of es) (key, slot.uid)) × AreKept spec (insert_entry slot_cmp es slot key)
-          → Inserted e es o p
-      by Less Less h new rest = (refl, All-cons (IsKept spec) (slot, key) (e ∷ es) (record { is_key = probe.is_key; bytes = probe.same; uid = fits }) kept)
-      by Greater Greater h new rest =
-          (ap (λ xs. pair_of e ∷ xs) rest.0, All-cons (IsKept spec) e (insert_entry slot_cmp es slot key) (All-head (IsKept spec) e es kept) rest.1)
-      by Equal Equal h new rest = absurd (new refl)
-      by o p h new rest = absurd (cc)
 
 module _ (spec : Option IndexSpec) (slot : Slot) (key : Key) (probe : IsProbeOf spec key slot.bytes.items) where
   abbrev TakenOut : Slot × Key → List (Slot × Key) → Bool → Bool → Type 0
@@ -102,20 +77,6 @@ module _ (spec : Option IndexSpec) (slot : Slot) (key : Key) (probe : IsProbeOf 
 
 abbrev probe_from : (spec : Option IndexSpec) (slot : Slot) (key : Key) → IsKeyOf (parts_of spec) key → slot.bytes.items ≡ key_bytes (parts_of spec) key → IsProbeOf spec key slot.bytes.items
 probe_from spec slot key k b = record { is_key = k; same = b }
-
-pub added_seen : (v : Sorted) (spec : Option IndexSpec) (es new : List (Slot × Key)) (slot : Slot) (key : Key) (uid : ℕ)
-    → record { spec = spec; pairs = map pair_of es } ≡ v → AreKept spec es → IsKeyOf (parts_of v.spec) key
-    → slot.bytes.items ≡ key_bytes (parts_of spec) key → slot.uid ≡ uid → slot.uid < 2 ^ 32 → IsAbsent v (key, uid)
-    → new ≡ insert_entry slot_cmp es slot key
-    → (record { spec = spec; pairs = map pair_of new } ≡ record v { pairs = added (parts_of v.spec) v.pairs (key, uid) }) × AreKept spec new
-added_seen v spec es new slot key uid seen kept k b u small absent n =
-    let Q : Sorted → Type 0 = λ w. IsKeyOf (parts_of w.spec) key → IsAbsent w (key, slot.uid)
-    → (record { spec = spec; pairs = map pair_of new } ≡ record w { pairs = added (parts_of w.spec) w.pairs (key, slot.uid) }) × AreKept spec new in
-    let R : ℕ → Type 0 = λ m. IsAbsent v (key, m)
-    → (record { spec = spec; pairs = map pair_of new } ≡ record v { pairs = added (parts_of v.spec) v.pairs (key, m) }) × AreKept spec new in
-    subst R u (λ a. subst Q seen (λ k a.
-    let h = inserted spec slot key (probe_from spec slot key k b) small es kept a in
-    ((λ i. record { spec = spec; pairs = (ap (map pair_of) n ∙ h.0) i }), (let S : List (Slot × Key) → Type 0 = λ xs. AreKept spec xs in subst S (sym n) h.1))) k a) absent
 
 pub put_seen : (v : Sorted) (spec : Option IndexSpec) (es new : List (Slot × Key)) (slot : Slot) (key : Key) (uid : ℕ)
     → record { spec = spec; pairs = map pair_of es } ≡ v → AreKept spec es → IsKeyOf (parts_of v.spec) key

@@ -1,11 +1,10 @@
 -- An index as a sorted list of keys with the ids of their entries.
-use Rattle.std.specs.Prelude.{◌≡◌, ◌<◌, ◌^◌, ℕ, not, ◌==◌, List, [], ◌∷◌, filter, Option, Some, None, cond, All}
+use Rattle.std.specs.Prelude.{◌≡◌, ◌<◌, ◌^◌, ℕ, not, List, [], ◌∷◌, filter, Option, Some, None, cond, All}
 use Rattle.std.specs.declared.cmp.Ordering.{Ordering}
 use Rattle.std.specs.declared.cmp.Ordering.TheVariants.{Less}
 use Rattle.std.specs.Ordering.{nat_cmp, ordering_then, match_ordering, is_lt, is_eq, is_gt}
-use Rattle.newt_spec_graph.specs.Lists.{Among, Pairs}
+use Rattle.newt_spec_graph.specs.Lists.{Pairs}
 use Rattle.newt_spec_store.specs.Keys.{Key, IndexSpec, key_cmp}
-use Rattle.newt_spec_store.specs.Sorted.{insert_by}
 use Rattle.newt_keys.specs.KeyForm.{IsKeyOf}
 
 -- a key and the id of its entry (a word of these definitions)
@@ -22,10 +21,6 @@ abbrev pub pair_cmp : IndexSpec → Pair → Pair → Ordering
 pair_cmp spec a b = ordering_then (key_cmp spec a.0 b.0) (nat_cmp a.1 b.1)
 
 -- ---- the list's operations
-
--- with a pair at its place (a word of these definitions)
-abbrev pub added : IndexSpec → List Pair → Pair → List Pair
-added spec pairs p = insert_by (pair_cmp spec) pairs p
 
 -- with a pair at its place, where it is not there yet (a word of these definitions)
 abbrev pub with_pair : IndexSpec → List Pair → Pair → List Pair
@@ -64,21 +59,12 @@ at_or_after spec pairs k = first (filter (λ q. not (is_lt (key_cmp spec q.0 k))
 abbrev pub at_or_before : IndexSpec → List Pair → Key → Option Pair
 at_or_before spec pairs k = last (filter (λ q. not (is_gt (key_cmp spec q.0 k))) pairs)
 
--- the key of the first pair with this id (a word of these definitions)
-abbrev pub key_at : List Pair → ℕ → Option Key
-key_at [] uid = None
-key_at (q ∷ qs) uid = cond (q.1 == uid) (Some q.0) (key_at qs uid)
-
 -- ---- the value of an index
 
 -- an index: its declaration, and the pairs in order (this project's own)
 pub record Sorted : Type 0 where
   pub spec : Option IndexSpec
   pub pairs : List Pair
-
--- the pair is not there (a word of these definitions)
-abbrev pub IsAbsent : Sorted → Pair → Type 0
-IsAbsent v p = Among v.pairs p → ⊥
 
 -- a pair of an index: a key of its declaration, and an id of 32 bits (this project's own)
 pub record IsPair (spec : IndexSpec) (p : Pair) : Type 0 where

@@ -2,7 +2,7 @@
 ghost use Rattle.std.specs.Prelude.{◌≡◌, ◌==◌, [], not, filter, IfOk, IfErr, IfSome, length, option_map};
 ghost use Rattle.newt_keys.specs.KeyForm.{IsKeyOf};
 ghost use Rattle.newt_spec_store.specs.Keys as keys;
-ghost use Rattle.newt_index.specs.Pairs.{Sorted, parts_of, IsAbsent, added, with_pair, removed, first, last, key_at, IsSorted};
+ghost use Rattle.newt_index.specs.Pairs.{Sorted, parts_of, with_pair, removed, first, last, IsSorted};
 ghost use Rattle.newt_index.specs.Pairs as pairs;
 ghost use Rattle.newt_index.specs.Kept.{IsProbeOf, shown, lent};
 
@@ -57,18 +57,6 @@ impl Index {
             Some(spec) => key_of(self.alloc, graph, spec),
             None => Ok(Some(Key::empty(self.alloc))),
         }
-    }
-
-    /// Adds a pair that is not there. `put` is the call for one that may be.
-    pub fn add(&mut self, key: Key, uid: Uid) -> Result<(), AllocError>
-        requires key { IsKeyOf (parts_of self.old.spec) key }
-        requires absent { IsAbsent self.old (key, uid) }
-        ensures ok { IfOk result (λ _. self.new ≡ record self.old { pairs = added (parts_of self.old.spec) self.old.pairs (key, uid) }) }
-        ensures err { IfErr result (λ _. self.new ≡ self.old) }
-    {
-        let slot = slot_of(self.alloc, &self.spec, &key, uid)?;
-        self.entries.insert(slot, key)?;
-        Ok(())
     }
 
     /// Adds a pair. Where it is there nothing changes.
@@ -187,18 +175,6 @@ impl Index {
         // Its contract tells that the map's entries rise, which the clause `sorted` is proved from.
         let _count = self.entries.len();
         self.spec.as_ref()
-    }
-
-    /// The key of the first pair with this id, which a walk over all pairs finds.
-    pub fn key_of(&self, uid: Uid) -> Option<&Key>
-        ensures { option_map (λ k. k.now) result ≡ key_at self.now.pairs uid }
-    {
-        for (slot, key) in &self.entries {
-            if slot.uid == uid.0 {
-                return Some(key);
-            }
-        }
-        None
     }
 }
 

@@ -22,10 +22,11 @@ use Rattle.newt_store.specs.Stands.{IsRefused, RefusesWith, IsBeforeOrChanged}
 use Rattle.newt_catalog.specs.declared.catalog.Catalog.{Catalog}
 use Rattle.newt_store.specs.declared.change.Change.{Change}
 use Rattle.newt_catalog.specs.Readable.{readable}
+use Rattle.newt_catalog.proofs.Opening.{same-image}
 use Rattle.newt_store.proofs.Reading.{read-back}
 use Rattle.newt_store.specs.declared.store.Store.{Store}
 use Rattle.newt_indexed.specs.Calls.{Shows, Reads, Changes}
-use Rattle.newt_indexed.proofs.Reading.{same-image, shows-on, stops-over}
+use Rattle.newt_indexed.proofs.Reading.{shows-on, stops-over}
 
 faults-over : (result : Result ℕ StoreFault) (unit unit' : ℕ) (old mid new : Outside) → unit' ≡ unit → Touches unit old mid → IfErr result (FaultsAt unit' mid new) → IfErr result (FaultsAt unit old new)
 faults-over (Ok n) unit unit' old mid new place touches faults = tt

@@ -7,7 +7,7 @@ use Rattle.newt_base.specs.declared.Refusal.TheVariants.{Soup as NoSoup, Entry a
 use Rattle.newt_graph.specs.Graph.{RawGraph}
 use Rattle.newt_host.specs.Moments.{overwritten}
 use Rattle.newt_spec_store.specs.Keys.{IndexSpec, Path}
-use Rattle.newt_spec_store.specs.Store.{Entry, Soup, Store, TagTable, entry_of, change_soup, change_entry, add_entry, remove_entry, soup_of, with_index, without_index, entry_at, next_uid_of, with_graph}
+use Rattle.newt_spec_store.specs.Store.{Entry, Soup, Store, TagTable, entry_of, change_soup, change_entry, add_entry, remove_entry, soup_of, with_index, without_index, entry_at, next_uid_of, with_graph, with_tags}
 use Rattle.newt_spec_store.specs.Valid.{well_formed}
 use Rattle.newt_laws_images.proofs.Stores.{IsSoup}
 use Rattle.newt_laws_images.proofs.Chosen.{find-passes, soup-there, soup-good, entry-below}
@@ -15,7 +15,6 @@ use Rattle.newt_laws_changes.proofs.Fresh.{in_valid}
 use Rattle.newt_laws_changes.proofs.Formed.{added_formed}
 use Rattle.newt_laws_changes.proofs.Members.{entry_is_in}
 use Rattle.newt_laws_changes.proofs.Moved.{soup_after_add}
-use Rattle.newt_soupdir.specs.Changes.{with_tags}
 use Rattle.newt_ranges.specs.declared.rows.SoupRanges.{SoupRanges}
 use Rattle.newt_ranges.specs.Rows.{with_entry, without_entry, each_range, with_range, change_ranges}
 use Rattle.newt_ranges.specs.Stands.{AreRangesOf, graphs_of}

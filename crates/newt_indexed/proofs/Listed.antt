@@ -4,7 +4,7 @@ use Rattle.std.specs.Option.{option_and_then}
 use Rattle.std.proofs.lemmas.Bool.{eq-eqb}
 use Rattle.newt_spec_graph.specs.Lists.{Each, Pairs, Among}
 use Rattle.newt_spec_graph.proofs.Lists.{each-from, rises-pairs}
-use Rattle.newt_spec_store.specs.Laid.{bare}
+use Rattle.newt_spec_store.specs.Laid.{bare, bare_soup as emptied}
 use Rattle.newt_spec_store.specs.Store.{Entry, Soup, Store, entry_of, soup_of, entry_at}
 use Rattle.newt_spec_store.specs.Valid.{well_formed}
 use Rattle.newt_laws_images.proofs.Assembled.{map-among}
@@ -95,14 +95,14 @@ none-listed rows = go rows
         (soup_listed [] [] (bare_soup row) tt).0 (go rows)
 
 -- the signatures of the soups of a store
-bare-sigs : (ps : List Soup) (rows : List SoupRow) → map (λ (p : Soup). record p { entries = [] }) ps ≡ map bare_soup rows → map (λ (row : SoupRow). row.sig) rows ≡ map (λ (p : Soup). p.sig) ps
+bare-sigs : (ps : List Soup) (rows : List SoupRow) → map emptied ps ≡ map bare_soup rows → map (λ (row : SoupRow). row.sig) rows ≡ map (λ (p : Soup). p.sig) ps
 bare-sigs ps rows same = of_rows rows ∙ ap (λ (qs : List Soup). map (λ (p : Soup). p.sig) qs) (sym same) ∙ of_soups ps
   where
     of_rows : (rows : List SoupRow) → map (λ (row : SoupRow). row.sig) rows ≡ map (λ (p : Soup). p.sig) (map bare_soup rows)
     of_rows [] = refl
     of_rows (row ∷ rows) = ap (λ ns. row.sig ∷ ns) (of_rows rows)
 
-    of_soups : (ps : List Soup) → map (λ (p : Soup). p.sig) (map (λ (p : Soup). record p { entries = [] }) ps) ≡ map (λ (p : Soup). p.sig) ps
+    of_soups : (ps : List Soup) → map (λ (p : Soup). p.sig) (map emptied ps) ≡ map (λ (p : Soup). p.sig) ps
     of_soups [] = refl
     of_soups (p ∷ ps) = ap (λ ns. p.sig ∷ ns) (of_soups ps)
 

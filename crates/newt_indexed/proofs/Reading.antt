@@ -1,6 +1,6 @@
 -- Calls that read, one after another.
-use Rattle.std.proofs.Common.{◌≡◌, ℕ, ◌+◌, ◌*◌, ◌≤◌, Bool, List, refl, sym, ◌∙◌, ap, subst, arith}
-use Rattle.newt_host.specs.Moments.{Moment, image}
+use Rattle.std.proofs.Common.{◌≡◌, ℕ, ◌+◌, ◌*◌, ◌≤◌, Bool, List, refl, sym, ◌∙◌, subst, arith}
+use Rattle.newt_host.specs.Moments.{image}
 use Rattle.newt_host.specs.Outside.{Outside, Touches, Spends, Rose}
 use Rattle.newt_host.proofs.Outside.{Touches-refl, Touches-append, Spends-append, Spends-widen}
 use Rattle.newt_pagebook.specs.Book.{Numbers}
@@ -11,14 +11,10 @@ use Rattle.newt_spec_store.specs.Store.{Store as PlainStore}
 use Rattle.newt_catalog.specs.Stands.{StandsFor}
 use Rattle.newt_catalog.specs.declared.catalog.Catalog.{Catalog}
 use Rattle.newt_store.specs.declared.store.Store.{Store}
+use Rattle.newt_catalog.proofs.Opening.{same-image}
 use Rattle.newt_catalog.proofs.ReadLarges.{programs-over}
+use Rattle.newt_store.proofs.Applying.{rose-before}
 use Rattle.newt_indexed.specs.Calls.{Shows, IsOpen, Reads}
-
-pub same-image : (unit unit' : ℕ) (old new : Moment) → unit' ≡ unit → new ≡ old → image unit' new ≡ image unit old
-same-image unit unit' old new place now = ap (λ (u : ℕ). image u new) place ∙ ap (λ (m : Moment). image unit m) now
-
-pub rose-before : (old mid new : ℕ) → old ≤ mid → Rose mid new → Rose old new
-rose-before old mid new low rose = omega (arith, low, rose)
 
 pub stops-over : (stop : Stop) (unit unit' : ℕ) (old mid new : Outside) → unit' ≡ unit → Touches unit old mid → StopsAt unit' mid new stop → StopsAt unit old new stop
 stops-over Memory unit unit' old mid new place touches stops = tt

@@ -16,13 +16,9 @@ use Rattle.newt_spec_store.specs.Keys.{Key, IndexSpec, Part, missing, words, who
 use Rattle.newt_spec_store.specs.declared.Kind.{Kind}
 use Rattle.newt_spec_store.specs.declared.Kind.TheVariants as kind
 use Rattle.newt_spec_store.specs.declared.Order.{Order}
+use Rattle.newt_spec_query.proofs.Order.{then-equal}
 use Rattle.newt_keys.specs.KeyForm.{IsPartOf, AreParts, IsKeyOf, place_of, part_bytes, key_bytes}
 use Rattle.newt_keys.proofs.Turned.{then_then, text_law, digits_law, two_digits}
-
-then_equal : (o : Ordering) → ordering_then o Equal ≡ o
-then_equal Less = refl
-then_equal Equal = refl
-then_equal Greater = refl
 
 -- ---- numbers
 
@@ -31,7 +27,7 @@ both a b m n e f i = nat_cmp (e i) (f i)
 
 be16_cmp : (m n : ℕ) → m < 2 ^ 16 → n < 2 ^ 16 → slice_cmp nat_cmp (be16 m) (be16 n) ≡ nat_cmp m n
 be16_cmp m n hm hn =
-    ap (λ o. ordering_then (nat_cmp (m / 256 % 256) (n / 256 % 256)) o) (then_equal (nat_cmp (m % 256) (n % 256)))
+    ap (λ o. ordering_then (nat_cmp (m / 256 % 256) (n / 256 % 256)) o) (then-equal (nat_cmp (m % 256) (n % 256)))
     ∙ two_digits (m / 256 % 256) (n / 256 % 256) (m % 256) (n % 256) (omega arith) (omega arith)
     ∙ both (m / 256 % 256 * 256 + m % 256) (n / 256 % 256 * 256 + n % 256) m n (omega arith) (omega arith)
 
@@ -42,7 +38,7 @@ four Equal Less c e = refl
 four Equal Greater c e = refl
 four Equal Equal Less e = refl
 four Equal Equal Greater e = refl
-four Equal Equal Equal e = then_equal e
+four Equal Equal Equal e = then-equal e
 
 joined : ℕ → ℕ
 joined n = ((n / 2 ^ 16 / 256 % 256 * 256 + n / 2 ^ 16 % 256) * 256 + n / 256 % 256) * 256 + n % 256
@@ -131,4 +127,4 @@ pub bytes_order : (spec : IndexSpec) (a b : Key) → IsKeyOf spec a → IsKeyOf 
 bytes_order spec a b ha hb =
     (λ i. slice_cmp nat_cmp (sym (append-nil (key_bytes spec a)) i) (sym (append-nil (key_bytes spec b)) i))
     ∙ key_law spec a b [] [] ha.0 hb.0
-    ∙ then_equal (key_cmp spec a b)
+    ∙ then-equal (key_cmp spec a b)

@@ -1,2 +1,2 @@
 -- What the filling of an index needs.
-pub mod Fresh
+pub mod Integers

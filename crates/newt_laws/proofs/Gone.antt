@@ -1,5 +1,5 @@
 -- What is removed is gone.
-use Rattle.std.proofs.Common.{◌≡◌, refl, ap, sym, ◌∙◌, subst, ℕ, ◌<◌, ◌≤◌, List, true, false, Bool, not, Some, map, ◌==◌}
+use Rattle.std.proofs.Common.{◌≡◌, refl, ap, sym, ◌∙◌, subst, ℕ, ◌<◌, ◌≤◌, List, true, not, Some, map, ◌==◌}
 use Rattle.std.proofs.lemmas.Bool.{eq-eqb}
 use Rattle.newt_base.specs.Names.{equal_text}
 use Rattle.newt_spec_store.specs.Store.{Store, Soup, Entry, soup_named, change_soup, remove_entry, drop_soup}
@@ -7,7 +7,8 @@ use Rattle.newt_spec_store.specs.Valid.{well_formed, valid_soup}
 use Rattle.newt_spec_graph.specs.Lists.{Among}
 use Rattle.newt_laws_changes.specs.Later.{EntryGone, SoupGone}
 use Rattle.newt_laws_images.proofs.Chosen.{find-passes, first-among}
-use Rattle.newt_spec_graph.proofs.Lists.{each-at, each-list_all, among-filter, rises-above, both-ways}
+use Rattle.newt_spec_graph.proofs.Lists.{each-at, each-list_all, among-filter, rises-above}
+use Rattle.newt_laws_changes.proofs.Members.{not-itself}
 use Rattle.newt_laws.proofs.Soups.{is-store, IsSoup, is-soup, with-soup, without-entry}
 use Rattle.newt_laws_images.proofs.Assembled.{map-among, one-sig}
 use Rattle.newt_laws_images.proofs.Placed.{soups-rise}
@@ -15,10 +16,6 @@ use Rattle.newt_laws_images.proofs.Placed.{soups-rise}
 sig-given : (s : Store) (p : Soup) → well_formed s ≡ true → Among s.soups p → p.sig < s.next_soup
 sig-given s p w m = (each-at (λ n. (0 ≤ n) × (n < s.next_soup)) (map (λ (p : Soup). p.sig) s.soups) p.sig
     (rises-above 0 s.next_soup (map (λ (p : Soup). p.sig) s.soups) (is-store s w).sigs) (map-among (λ (p : Soup). p.sig) s.soups p m)).1
-
-not-itself : (b : Bool) → not b ≡ true → b ≡ true → ⊥
-not-itself true h k = both-ways h
-not-itself false h k = both-ways k
 
 pub removed-gone : (s : Store) (name : List ℕ) (p : Soup) (e : Entry) → well_formed s ≡ true → soup_named name s ≡ Some p → Among p.entries e → EntryGone p.sig e.uid (change_soup name (remove_entry e.uid) s)
 removed-gone s name p e w found here = record {

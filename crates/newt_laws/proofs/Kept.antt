@@ -1,5 +1,5 @@
 -- Each row of the table keeps stores valid.
-use Rattle.std.proofs.Common.{arith, ◌≡◌, refl, ap, sym, ◌∙◌, subst, ℕ, ◌+◌, ◌*◌, ◌≤◌, List, [], ◌∷◌, true, false, Bool, not, ◌&&◌, ◌||◌, inl, Option, Some, None, option_and_then, unwrap_or, map, length, nat_lt, ◌==◌}
+use Rattle.std.proofs.Common.{arith, ◌≡◌, refl, ap, sym, ◌∙◌, subst, ℕ, ◌+◌, ◌*◌, ◌≤◌, List, [], ◌∷◌, true, false, Bool, not, ◌||◌, inl, Option, Some, None, option_and_then, unwrap_or, map, length, nat_lt, ◌==◌}
 use Rattle.std.specs.Prelude.{slice_get}
 use Rattle.std.specs.Option.{is_none}
 use Rattle.std.specs.Bool.{⊤}
@@ -26,6 +26,7 @@ use Rattle.newt_spec_world.specs.Changed.{changed, graph_after_set, patched_at, 
 use Rattle.newt_spec_world.specs.Refused.{on_some}
 use Rattle.newt_laws.specs.Worlds.{OnMedia, OnUnits}
 use Rattle.newt_spec_graph.proofs.Lists.{none-some}
+use Rattle.newt_laws_images.proofs.Records.{all-true}
 use Rattle.newt_laws.proofs.Units.{change-store, Has, mounted-has, has-mounted, soup-has, entry-has}
 use Rattle.newt_laws.proofs.Soups.{with-soup, with-entry, with-change, found-good, is-store, is-soup}
 use Rattle.newt_laws.proofs.Patch.{at-skeleton, at-lengths, at-limits, at-frame}
@@ -182,9 +183,6 @@ pub wf-add : (w : World) (u : ℕ) (name : List ℕ) (time : ℕ) (g : RawGraph)
 wf-add w u name time g all m ids good = wf-soup w u name (add_entry time g) all m (λ p. refl) (λ p. refl)
     (λ p found ok. with-entry time g p ok (eqb-false p.next_uid 536870911 (on-some (soup_in w u name) _ p found ids)) (good p.next_uid))
 
-pub all-three : (a b c : Bool) → a ≡ true → b ≡ true → c ≡ true → (a && b && c) ≡ true
-all-three a b c h k l = grind (arith, h, k, l)
-
 pub new-entry : (g : RawGraph) (uid time : ℕ) → within_limits g ≡ true → not (is_frame (object g.nodes g.root)) ≡ false → nat_lt 64_000 (skeleton_length g) ≡ false → valid_entry (record { uid = uid; time = time; graph = g }) ≡ true
 new-entry g uid time limits frame size = grind (arith, limits, frame, size)
 
@@ -202,7 +200,7 @@ set-good e minute (Some x) h frame limits size = go (normal_form x) refl limits 
     go : (o : Option RawGraph) → normal_form x ≡ o → not (is_within o) ≡ false → nat_lt 64_000 (skeleton_length (unwrap_or o e.graph)) ≡ false
         → valid_entry (with_graph minute (unwrap_or o e.graph) e) ≡ true
     go None is l k = cc
-    go (Some y) is l k = all-three _ _ _ (normal-frame x y (frame x refl) is) (not-false _ l)
+    go (Some y) is l k = all-true _ _ _ (normal-frame x y (frame x refl) is) (not-false _ l)
         (le-leb (skeleton_length y) 64_000 (ltb-false 64_000 (skeleton_length y) k))
 
 pub set-entry : (e : Entry) (minute : ℕ) (path : Path) (g : RawGraph) → valid_entry e ≡ true → on_some (put e.graph path g) (λ h. not (is_within (normal_form h))) ≡ false

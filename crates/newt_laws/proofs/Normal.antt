@@ -1,29 +1,9 @@
--- A graph in normal form is its own normal form, and within the limits of one graph.
-use Rattle.std.proofs.Common.{arith, ◌≡◌, refl, ap, List, true, Some, None, is_some}
-use Rattle.std.proofs.lemmas.List.Sums.{list_all-from_AllPass}
-use Rattle.newt_graph.specs.declared.node.Node.{Node}
-use Rattle.newt_graph.specs.declared.node.Node.TheVariants.{Symbol, Str, Binary, Large, Array, Frame}
-use Rattle.newt_graph.specs.Graph.{RawGraph, IsGraph, IsNode}
+-- A graph in normal form is its own normal form.
+use Rattle.std.proofs.Common.{◌≡◌, Some}
+use Rattle.newt_graph.specs.Graph.{RawGraph, IsGraph}
 use Rattle.newt_graph.specs.Meeting.{normal_form}
 use Rattle.newt_graph.proofs.Follows.{form_is_found, own_form}
-use Rattle.newt_spec_graph.specs.Limits.{node_within, within_limits}
-
--- a node that meets the rules of a graph is within the limits
-node-within : (nodes : List Node) (node : Node) → IsNode nodes node → node_within node ≡ true
-node-within nodes (Symbol name) h = refl
-node-within nodes (Str units) h = let k = h.few in grind arith
-node-within nodes (Binary class bytes) h = let k = h.1.few in grind arith
-node-within nodes (Large class bytes) h = let k = h.1.few in grind arith
-node-within nodes (Array None values) h = grind (arith, h)
-node-within nodes (Array (Some class) values) h = let k = h.1 in grind arith
-node-within nodes (Frame tags values) h = let k = h.are_tags.few in grind arith
 
 -- a graph is its own normal form
 pub own-normal : (g : RawGraph) → IsGraph g → normal_form g ≡ Some g
 own-normal g h = form_is_found g g (own_form g h)
-
-pub graph-within : (g : RawGraph) → IsGraph g → within_limits g ≡ true
-graph-within g h =
-    let some = ap is_some (own-normal g h) in
-    let each = list_all-from_AllPass node_within g.nodes (λ k d inside. node-within g.nodes _ (h.each k d inside)) in
-    grind (arith, some, each)

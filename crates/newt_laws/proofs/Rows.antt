@@ -6,14 +6,14 @@ use Rattle.std.specs.List.{list_all, list_any}
 use Rattle.std.proofs.lemmas.Bool.{eqb-false, ltb-false, leb-false, and_parts}
 use Rattle.newt_base.specs.Names.{same_name, is_identifier, valid_path}
 use Rattle.newt_spec_store.specs.Keys.{Path, paths_of, same_paths}
-use Rattle.newt_spec_store.specs.Store.{Store, Soup, soup_named, change_soup, make_soup, drop_soup, remove_entry, new_store, with_index, without_index, with_graph}
+use Rattle.newt_spec_store.specs.Store.{Store, Soup, soup_named, change_soup, make_soup, drop_soup, remove_entry, new_store, with_index, without_index, with_graph, with_tags}
 use Rattle.newt_spec_graph.specs.Lists.{all_apart}
 use Rattle.newt_spec_store.specs.Valid.{valid_spec, valid_tags}
 use Rattle.newt_spec_world.specs.declared.command.Command.{Command}
 use Rattle.newt_spec_world.specs.declared.command.Command.TheVariants as command
 use Rattle.newt_spec_world.specs.declared.command.PartWord.{PartWord}
 use Rattle.newt_spec_world.specs.World.{World, one, default_unit, mounted_store, soup_in, entry_in, change_soup_in}
-use Rattle.newt_spec_world.specs.Changed.{changed, mark, with_tags, spec_of_words, graph_after_set, copy_to, patched, large_at, large_bytes}
+use Rattle.newt_spec_world.specs.Changed.{changed, mark, spec_of_words, graph_after_set, copy_to, patched, large_at, large_bytes}
 use Rattle.newt_spec_world.specs.Refused.{checks, on_some}
 use Rattle.newt_laws.specs.Worlds.{has_form, parts_fit}
 use Rattle.newt_laws.proofs.Units.{change-device, change-store, mounted-has, soup-has}
@@ -87,7 +87,7 @@ wf-row w (command.Index u s parts) all form h = wf-soup w u s (with_index (spec_
     with-index (spec_of_words parts) p ok (spec_valid parts form) (leb-false 16 (length p.specs) (on-some (soup_in w u s) (λ p. nat_le 16 (length p.specs)) p found h.1.1.1.1.1.0))
     (ap (λ ps. list_any (λ t. same_paths (paths_of t) ps) p.specs) (parts-same parts) ∙ on-some (soup_in w u s) (λ p. list_any (λ t. same_paths (paths_of t) (map (λ (p : PartWord). p.path) parts)) p.specs) p found h.1.1.1.0))
 wf-row w (command.Unindex u s paths) all form h = wf-soup w u s (without_index paths) all h.1.0 (λ p. refl) (λ p. refl) (λ p found ok. without-index paths p ok)
-wf-row w (command.SetTags u s path symbols) all form h = wf-soup w u s (with_tags path symbols) all h.1.0 (λ p. refl) (λ p. refl) (λ p found ok. with-tags path symbols p ok (tags-good path symbols form h.1.1.1.0))
+wf-row w (command.SetTags u s path symbols) all form h = wf-soup w u s (with_tags (Some (record { path = path; symbols = symbols }))) all h.1.0 (λ p. refl) (λ p. refl) (λ p found ok. with-tags (Some (record { path = path; symbols = symbols })) p (tags-good path symbols form h.1.1.1.0) ok)
 wf-row w (command.Add u s g) all form h = wf-add w u s w.minute g all h.1.0 h.1.1.1.1.1.0 (λ uid. new-entry g uid w.minute form h.1.1.1.0 h.1.1.1.1.0)
 wf-row w (command.Addx u s g) all form h = wf-add w u s w.minute g all h.1.0 h.1.1.1.1.1.0 (λ uid. new-entry g uid w.minute form h.1.1.1.0 h.1.1.1.1.0)
 wf-row w (command.Addu s g) all form h = wf-add w (default_unit w) s w.minute g all h.0 h.1.1.1.1.0 (λ uid. new-entry g uid w.minute form h.1.1.0 h.1.1.1.0)

@@ -41,7 +41,7 @@ first-apart units h = apart-from-units units (λ m n s t differ e f same. go m s
 
 -- ---- the first world of a run over images
 
-mapped-at : {X : Type 0} (f : ℕ → Option X) (ns : List ℕ) (u : ℕ) (d : X) → flat (slice_get (map f ns) u) ≡ Some d → (n : ℕ) × (f n ≡ Some d)
+pub mapped-at : {X : Type 0} (f : ℕ → Option X) (ns : List ℕ) (u : ℕ) (d : X) → flat (slice_get (map f ns) u) ≡ Some d → (n : ℕ) × (f n ≡ Some d)
 mapped-at f [] u d h = absurd (none-some d h)
 mapped-at f (n ∷ ns) zero d h = (n, h)
 mapped-at f (n ∷ ns) (suc u) d h = mapped-at f ns u d h

@@ -6,7 +6,7 @@ use Rattle.newt_base.specs.declared.Refusal.{Refusal}
 use Rattle.newt_base.specs.declared.Refusal.TheVariants.{Command as NoCommand, Index as BadIndex, Key as BadKey, Limit, Full}
 use Rattle.newt_image.specs.Pages.{cap}
 use Rattle.newt_spec_store.specs.Cost.{cost}
-use Rattle.newt_spec_store.specs.Keys.{Path, paths_of, same_paths}
+use Rattle.newt_spec_store.specs.Keys.{Path, paths_of, same_paths, has_paths}
 use Rattle.newt_spec_store.specs.Store.{Store, Soup, soup_named, change_soup, with_index, without_index}
 use Rattle.newt_spec_world.specs.declared.command.Command.TheVariants as command
 use Rattle.newt_spec_world.specs.declared.command.PartWord.{PartWord}
@@ -16,7 +16,7 @@ use Rattle.newt_spec_world.specs.Changed.{changed, spec_of_words}
 use Rattle.newt_spec_world.specs.Refused.{checks, on_some, no_unit, not_mounted, no_soup, has_index, index_exists, no_index, real_part, index_limit, full}
 use Rattle.newt_spec_world.specs.Answer.{fields, or_nil}
 use Rattle.newt_laws.specs.Worlds.{parts_fit, tags_fit}
-use Rattle.newt_laws_answers.specs.Tests.{soup_checks, has_paths, index_tests, tagged, tags_tests}
+use Rattle.newt_laws_answers.specs.Tests.{soup_checks, index_tests, tagged, tags_tests}
 use Rattle.newt_laws_answers.specs.Spoken.{checks_now, answer_now}
 use Rattle.newt_laws_answers.specs.There.{OnUnit}
 use Rattle.newt_laws_answers.proofs.Firsts.{first-true, first-false, first-found}
@@ -50,7 +50,7 @@ module _ (w : World) (u : ℕ) (name : List ℕ) (parts : List PartWord) where
     index-not-found r h = refused w (command.Index u name parts) r (index-table ∙ first-found (soup_checks w u name) (drop 3 index-rows) r h)
 
 module _ (w : World) (u blocks : ℕ) (s : Store) (name : List ℕ) (p : Soup) (h : OnUnit w u blocks s) (f : soup_named name s ≡ Some p) where
-  pub has-is : (paths : List Path) → has_index w u name paths ≡ has_paths paths p
+  pub has-is : (paths : List Path) → has_index w u name paths ≡ has_paths paths p.specs
   has-is paths = ap (λ o. on_some o (λ (q : Soup). list_any (λ spec. same_paths (paths_of spec) paths) q.specs)) (soup-named w u blocks s name h ∙ f)
 
   limit-is : (index_limit w u name).1 ≡ nat_le 16 (length p.specs)
@@ -66,10 +66,10 @@ module _ (w : World) (u blocks : ℕ) (s : Store) (name : List ℕ) (p : Soup) (
     index-there : first_of (checks_now w (command.Index u name parts)) ≡ first_of (drop 3 (index-rows w u name parts))
     index-there = index-table w u name parts fit ∙ all-pass w u blocks s name p (drop 3 (index-rows w u name parts)) h f
 
-    pub index-exists : has_paths (paths_of_words parts) p ≡ true → answer_now w (command.Index u name parts) ≡ (w, Reply.refused BadIndex)
+    pub index-exists : has_paths (paths_of_words parts) p.specs ≡ true → answer_now w (command.Index u name parts) ≡ (w, Reply.refused BadIndex)
     index-exists there = refused w (command.Index u name parts) BadIndex (index-there ∙ first-true BadIndex _ (drop 4 (index-rows w u name parts)) (has-is (paths_of_words parts) ∙ there))
 
-    module _ (new : has_paths (paths_of_words parts) p ≡ false) where
+    module _ (new : has_paths (paths_of_words parts) p.specs ≡ false) where
       index-new : first_of (checks_now w (command.Index u name parts)) ≡ first_of (drop 4 (index-rows w u name parts))
       index-new = index-there ∙ first-false BadIndex _ (drop 4 (index-rows w u name parts)) (has-is (paths_of_words parts) ∙ new)
 
@@ -82,7 +82,7 @@ module _ (w : World) (u blocks : ℕ) (s : Store) (name : List ℕ) (p : Soup) (
             index-new ∙ first-false BadKey _ (drop 5 (index-rows w u name parts)) typed
             ∙ ap {A = Bool} (λ b. first_of ((Limit, b) ∷ full w u (command.Index u name parts) ∷ [])) limit-is
             ∙ ap {A = Bool} (λ b. first_of ((Limit, nat_le 16 (length p.specs)) ∷ (Full, b) ∷ [])) room-is
-            ∙ sym (first-false BadIndex _ (drop 1 (index_tests blocks name (spec_of_words parts) s p)) (ap (λ paths. has_paths paths p) (paths-same parts) ∙ new))
+            ∙ sym (first-false BadIndex _ (drop 1 (index_tests blocks name (spec_of_words parts) s p)) (ap (λ paths. has_paths paths p.specs) (paths-same parts) ∙ new))
 
         pub index-refused : (r : Refusal) → first_of (index_tests blocks name (spec_of_words parts) s p) ≡ Some r → answer_now w (command.Index u name parts) ≡ (w, Reply.refused r)
         index-refused r k = refused w (command.Index u name parts) r (index-checks ∙ k)
@@ -99,10 +99,10 @@ module _ (w : World) (u blocks : ℕ) (s : Store) (name : List ℕ) (p : Soup) (
     unfolding checks
     unindex-there = all-pass w u blocks s name p (no_index w u name paths ∷ []) h f
 
-    pub unindex-missing : has_paths paths p ≡ false → answer_now w (command.Unindex u name paths) ≡ (w, Reply.refused BadIndex)
+    pub unindex-missing : has_paths paths p.specs ≡ false → answer_now w (command.Unindex u name paths) ≡ (w, Reply.refused BadIndex)
     unindex-missing none = refused w (command.Unindex u name paths) BadIndex (unindex-there ∙ first-true BadIndex _ [] (ap not (has-is paths ∙ none)))
 
-    pub unindex-done : has_paths paths p ≡ true → w.cursors ≡ replicate 32 None
+    pub unindex-done : has_paths paths p.specs ≡ true → w.cursors ≡ replicate 32 None
         → answer_now w (command.Unindex u name paths) ≡ (change_store w u (change_soup name (without_index paths)), Reply.done)
     unfolding changed fields
     unindex-done there none = done w (command.Unindex u name paths) (unindex-there ∙ first-false BadIndex _ [] (ap not (has-is paths ∙ there))) none

@@ -11,14 +11,14 @@ use Rattle.newt_spec_graph.specs.Limits.{within_limits}
 use Rattle.newt_spec_graph.specs.Slots.{put}
 use Rattle.newt_spec_graph.proofs.Lists.{some-same, none-some}
 use Rattle.newt_spec_query.specs.Cursor.{Cursor}
-use Rattle.newt_spec_store.specs.Keys.{Path}
+use Rattle.newt_spec_store.specs.Keys.{Path, has_paths}
 use Rattle.newt_spec_store.specs.Valid.{valid_entry}
-use Rattle.newt_spec_store.specs.Store.{Store, Soup, Entry, soup_named, entry_of, change_first, change_soup, change_entry, make_soup, drop_soup, add_entry, remove_entry, next_uid_of, with_index, without_index, with_graph}
+use Rattle.newt_spec_store.specs.Store.{Store, Soup, Entry, soup_named, entry_of, change_first, change_soup, change_entry, make_soup, drop_soup, add_entry, remove_entry, next_uid_of, with_index, without_index, with_graph, with_tags}
 use Rattle.newt_spec_world.specs.declared.command.Command.{Command}
 use Rattle.newt_spec_world.specs.declared.command.Command.TheVariants as command
 use Rattle.newt_spec_world.specs.declared.command.PartWord.{PartWord}
 use Rattle.newt_spec_world.specs.World.{World, default_unit, store_on_unit, soup_in, entry_in, change_store}
-use Rattle.newt_spec_world.specs.Changed.{changed, with_tags, spec_of_words, large_at}
+use Rattle.newt_spec_world.specs.Changed.{changed, spec_of_words, large_at}
 use Rattle.newt_spec_world.specs.Refused.{checks, real_part}
 use Rattle.newt_laws.specs.Worlds.{parts_fit, tags_fit}
 use Rattle.newt_laws.proofs.Settled.{find-passes}
@@ -28,7 +28,7 @@ use Rattle.newt_spec_store.specs.Cost.{patch_bytes}
 use Rattle.newt_laws_answers.specs.Bounds.{change_bytes, unless, listed, entries_of, new_in, copied_in, touched, bytes_between, bytes_done, most_programmed}
 use Rattle.newt_laws_answers.specs.Spoken.{checks_now}
 use Rattle.newt_laws_answers.specs.There.{OnUnit}
-use Rattle.newt_laws_answers.specs.Tests.{make_tests, add_tests, move_tests, moved_within, replace_tests, replaced, patch_tests, has_paths, index_tests, tagged, tags_tests, with_added}
+use Rattle.newt_laws_answers.specs.Tests.{make_tests, add_tests, move_tests, moved_within, replace_tests, replaced, patch_tests, index_tests, tagged, tags_tests, with_added}
 use Rattle.newt_laws_answers.proofs.Firsts.{first-false}
 use Rattle.newt_laws_answers.proofs.Units.{is-there, on-changed, on-other, soup-named}
 use Rattle.newt_laws_answers.proofs.Answers.{all-pass, entry-named}
@@ -244,14 +244,14 @@ module _ (w : World) (u blocks : ℕ) (s : Store) (name : List ℕ) (p : Soup) (
 -- ---- indexes and tags
 
 module _ (w : World) (u blocks : ℕ) (s : Store) (name : List ℕ) (p : Soup) (h : OnUnit w u blocks s) (f : soup_named name s ≡ Some p) where
-  pub index-most : (parts : List PartWord) → parts_fit parts ≡ true → has_paths (paths_of_words parts) p ≡ false → (real_part parts).1 ≡ false
+  pub index-most : (parts : List PartWord) → parts_fit parts ≡ true → has_paths (paths_of_words parts) p.specs ≡ false → (real_part parts).1 ≡ false
       → unless (index_tests blocks name (spec_of_words parts) s p) (change_bytes s (change_soup name (with_index (spec_of_words parts)) s) [] []) ≤ most_programmed w (command.Index u name parts) u
   unfolding changed
   index-most parts fit new typed =
       most-between w (command.Index u name parts) u blocks s (change_soup name (with_index (spec_of_words parts)) s) [] [] (index_tests blocks name (spec_of_words parts) s p) refl
       (index-checks w u blocks s name p h f parts fit new typed) h (on-changed w u blocks s (change_soup name (with_index (spec_of_words parts))) h) (if-same {X = Touch} u (Some ([], [])) None)
 
-  pub unindex-most : (paths : List Path) → has_paths paths p ≡ true → change_bytes s (change_soup name (without_index paths) s) [] [] ≤ most_programmed w (command.Unindex u name paths) u
+  pub unindex-most : (paths : List Path) → has_paths paths p.specs ≡ true → change_bytes s (change_soup name (without_index paths) s) [] [] ≤ most_programmed w (command.Unindex u name paths) u
   unfolding changed
   unindex-most paths has = most-between w (command.Unindex u name paths) u blocks s (change_soup name (without_index paths) s) [] [] [] refl
       (unindex-there w u blocks s name p h f paths ∙ first-false BadIndex _ [] (ap not (has-is w u blocks s name p h f paths ∙ has))) h
@@ -263,8 +263,8 @@ pub set-tags-most : (w : World) (u : ℕ) (name : List ℕ) (path : Path) (symbo
     ≤ most_programmed w (command.SetTags u name path symbols) u
 unfolding changed
 set-tags-most w u name path symbols fit blocks s p h f few =
-    most-between w (command.SetTags u name path symbols) u blocks s (change_soup name (with_tags path symbols) s) [] [] (tags_tests blocks name (record { path = path; symbols = symbols }) s) refl
-    (tags-checks w u name path symbols fit blocks s p h f few) h (on-changed w u blocks s (change_soup name (with_tags path symbols)) h) (if-same {X = Touch} u (Some ([], [])) None)
+    most-between w (command.SetTags u name path symbols) u blocks s (change_soup name (with_tags (Some (record { path = path; symbols = symbols }))) s) [] [] (tags_tests blocks name (record { path = path; symbols = symbols }) s) refl
+    (tags-checks w u name path symbols fit blocks s p h f few) h (on-changed w u blocks s (change_soup name (with_tags (Some (record { path = path; symbols = symbols })))) h) (if-same {X = Touch} u (Some ([], [])) None)
 
 -- ---- cursors
 

@@ -1,8 +1,8 @@
 -- How many bytes a command programs at most, on a unit whose bank is not closed and has room for them. All of it is this project's own.
-use Rattle.std.specs.Prelude.{ℕ, ◌+◌, ◌*◌, cond, ◌==◌, List, [], ◌∷◌, length, sum_by, Option, Some, None, is_some, option_map, if◌then◌else◌}
+use Rattle.std.specs.Prelude.{ℕ, ◌+◌, cond, ◌==◌, List, [], ◌∷◌, length, sum_by, Option, Some, None, is_some, option_map, if◌then◌else◌}
 use Rattle.newt_base.specs.Refusals.{Checks, first_of}
 use Rattle.newt_graph.specs.Graph.{RawGraph}
-use Rattle.newt_spec_store.specs.Cost.{directory_pages, entry_pages, patch_bytes}
+use Rattle.newt_spec_store.specs.Cost.{directory_pages, entry_pages, patch_bytes, pages_bytes}
 use Rattle.newt_spec_store.specs.Store.{Store, Soup, Entry, next_uid_of}
 use Rattle.newt_spec_world.specs.World.{World, default_unit, store_on_unit, soup_in, entry_in}
 use Rattle.newt_spec_world.specs.declared.command.Command.{Command}
@@ -10,10 +10,10 @@ use Rattle.newt_spec_world.specs.declared.command.Command.TheVariants as command
 use Rattle.newt_spec_world.specs.Changed.{changed}
 use Rattle.newt_laws_answers.specs.Spoken.{checks_now}
 
--- The bytes of the batch that makes one store of another: 516 for each page of the directory and of the entries that it puts, 4 for each page of the directory and of
--- the entries before that it lets go, and 9 beside them. (this project's own)
+-- The bytes of the batch that makes one store of another: it puts the pages of the directory and of entries, and lets go those of the directory before and of the
+-- entries that were there. (this project's own)
 abbrev pub change_bytes : Store → Store → List Entry → List Entry → ℕ
-change_bytes a b put gone = 516 * (directory_pages b + sum_by entry_pages put) + 4 * (directory_pages a + sum_by entry_pages gone) + 9
+change_bytes a b put gone = pages_bytes (directory_pages b + sum_by entry_pages put) (directory_pages a + sum_by entry_pages gone)
 
 -- nothing where a test holds (this project's own)
 abbrev pub unless : Checks → ℕ → ℕ

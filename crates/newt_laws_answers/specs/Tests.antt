@@ -1,16 +1,15 @@
 -- The tests of commands, gathered by what they need to be there. Numbers, words and order of the refusals are this project's own.
-use Rattle.std.specs.Prelude.{ℕ, ◌+◌, Bool, false, not, ◌==◌, nat_lt, nat_le, List, [], ◌∷◌, length, Some, is_some, is_none, slice_get}
-use Rattle.std.specs.List.{list_any}
+use Rattle.std.specs.Prelude.{ℕ, ◌+◌, false, not, ◌==◌, nat_lt, nat_le, List, [], ◌∷◌, length, Some, is_some, is_none, slice_get}
 use Rattle.newt_base.specs.Refusals.{Checks}
 use Rattle.newt_base.specs.declared.Refusal.TheVariants.{Exists, Notframe, Path as NoPath, Range, Limit, Size, Ids, Full, Index as BadIndex}
 use Rattle.newt_graph.specs.Graph.{RawGraph}
 use Rattle.newt_image.specs.Pages.{cap}
 use Rattle.newt_spec_graph.specs.Graph.{is_frame, object}
 use Rattle.newt_spec_store.specs.Cost.{cost, skeleton_length}
-use Rattle.newt_spec_store.specs.Keys.{IndexSpec, Path, paths_of, same_paths}
-use Rattle.newt_spec_store.specs.Store.{Store, Soup, Entry, TagTable, soup_named, change_soup, make_soup, change_entry, add_entry, remove_entry, new_store, with_index, with_graph}
+use Rattle.newt_spec_store.specs.Keys.{IndexSpec, Path, paths_of, has_paths}
+use Rattle.newt_spec_store.specs.Store.{Store, Soup, Entry, TagTable, soup_named, change_soup, make_soup, change_entry, add_entry, remove_entry, new_store, with_index, with_graph, with_tags}
 use Rattle.newt_spec_world.specs.World.{World, one, change_device, change_store}
-use Rattle.newt_spec_world.specs.Changed.{with_tags, bytes_of_large, large_at, large_bytes, patched_at}
+use Rattle.newt_spec_world.specs.Changed.{bytes_of_large, large_at, large_bytes, patched_at}
 use Rattle.newt_spec_world.specs.Refused.{either, no_unit, bad_blocks, is_mounted, not_mounted, no_soup, no_entry}
 
 -- ---- whether things are there
@@ -81,18 +80,14 @@ patched_within name uid node at bytes s = change_soup name (change_entry uid (λ
 abbrev pub patch_tests : (node at many : ℕ) → Entry → Checks
 patch_tests node at many e = (Range, nat_lt (length (bytes_of_large (slice_get e.graph.nodes node))) (at + many)) ∷ []
 
--- the soup has an index of these paths
-abbrev pub has_paths : List Path → Soup → Bool
-has_paths paths p = list_any (λ spec. same_paths (paths_of spec) paths) p.specs
-
 -- what is tested of the soup and the store where an index is to be declared
 abbrev pub index_tests : (blocks : ℕ) → List ℕ → IndexSpec → Store → Soup → Checks
 index_tests blocks name spec s p =
-    (BadIndex, has_paths (paths_of spec) p) ∷ (Limit, nat_le 16 (length p.specs)) ∷ (Full, nat_lt (cap blocks) (cost (change_soup name (with_index spec) s))) ∷ []
+    (BadIndex, has_paths (paths_of spec) p.specs) ∷ (Limit, nat_le 16 (length p.specs)) ∷ (Full, nat_lt (cap blocks) (cost (change_soup name (with_index spec) s))) ∷ []
 
 -- the store with this tags declaration of a soup
 abbrev pub tagged : List ℕ → TagTable → Store → Store
-tagged name table s = change_soup name (with_tags table.path table.symbols) s
+tagged name table s = change_soup name (with_tags (Some table)) s
 
 -- what is tested of the store where tags are to be declared
 abbrev pub tags_tests : (blocks : ℕ) → List ℕ → TagTable → Store → Checks

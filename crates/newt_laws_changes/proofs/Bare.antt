@@ -6,15 +6,12 @@ use Rattle.newt_base.specs.Names.{equal_text}
 use Rattle.newt_graph.specs.Graph.{RawGraph}
 use Rattle.newt_spec_graph.specs.Lists.{Each}
 use Rattle.newt_spec_graph.proofs.Lists.{each-from, each-more, both-ways}
-use Rattle.newt_spec_store.specs.Laid.{bare}
+use Rattle.newt_spec_store.specs.Laid.{bare, bare_soup}
 use Rattle.newt_spec_store.specs.Store.{Store, Soup, change_first, change_soup, make_soup, drop_soup, add_entry, remove_entry, soup_of, without_soup, uid_taken, take_uid_of}
 use Rattle.newt_spec_store.specs.Valid.{well_formed}
 use Rattle.newt_laws_images.proofs.Chosen.{same-text, soup-there}
 use Rattle.newt_laws_changes.proofs.Members.{same-sig, same-name}
 use Rattle.newt_laws_changes.proofs.Soups.{first-map}
-
-abbrev bare_soup : Soup → Soup
-bare_soup p = record p { entries = [] }
 
 abbrev with_soups : Store → ℕ → List Soup → Store
 with_soups s next soups = record { name = s.name; sig = s.sig; next_soup = next; soups = soups }

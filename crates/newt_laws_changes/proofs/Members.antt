@@ -9,6 +9,7 @@ use Rattle.newt_spec_store.specs.Lies.{IsIn}
 use Rattle.newt_spec_store.specs.Store.{Store, Soup, Entry, entry_of, change_soup, make_soup, drop_soup, add_entry, remove_entry, soup_of}
 use Rattle.newt_spec_store.specs.Valid.{well_formed}
 use Rattle.newt_laws_images.proofs.Chosen.{only-one, one-sig, one-name, find-passes, first-among, first-others, first-parts, same-text, soup-there, there-soup, there-entry, found_by_name, soup-good, entry-below}
+use Rattle.newt_laws_images.proofs.Totals.{true-not}
 
 pub same-or-not : (a b : ℕ) → (a ≡ b) ⊎ (a ≡ b → ⊥)
 same-or-not a b = go (a == b) refl
@@ -17,13 +18,9 @@ same-or-not a b = go (a == b) refl
     go true e = inl (eqb-true a b e)
     go false e = inr (eqb-false a b e)
 
-not-itself : (b : Bool) → not b ≡ true → b ≡ true → ⊥
+pub not-itself : (b : Bool) → not b ≡ true → b ≡ true → ⊥
 not-itself true h k = both-ways h
 not-itself false h k = both-ways k
-
-not-true : (b : Bool) → (b ≡ true → ⊥) → not b ≡ true
-not-true true n = absurd (n refl)
-not-true false n = refl
 
 -- ---- the entry that is found
 
@@ -98,7 +95,7 @@ module _ (s : Store) (sig : ℕ) (p : Soup) (w : IsTrue (well_formed s)) (found 
   in-dropped t e i n = record {
     soup = i.soup;
     is_soup = filter-among (λ (q : Soup). not (equal_text q.name p.name)) s.soups i.soup i.is_soup
-        (not-true (equal_text i.soup.name p.name) (λ h. n (sym i.of_sig ∙ ap (λ (q : Soup). q.sig) (same-name i.soup i.is_soup h) ∙ (soup-there sig s p found).0)));
+        (true-not (equal_text i.soup.name p.name) (λ h. n (sym i.of_sig ∙ ap (λ (q : Soup). q.sig) (same-name i.soup i.is_soup h) ∙ (soup-there sig s p found).0)));
     of_sig = i.of_sig;
     is_entry = i.is_entry;
   }
@@ -145,7 +142,7 @@ module _ (s : Store) (sig : ℕ) (p : Soup) (w : IsTrue (well_formed s)) (found 
     where
       go : (t ≡ sig) ⊎ (t ≡ sig → ⊥) → IsIn (change_soup p.name (remove_entry uid) s) t e
       go (inl same) = subst (λ v. IsIn (change_soup p.name (remove_entry uid) s) v e) (sym same) (in-changed (remove_entry uid) refl e
-          (filter-among (λ (d : Entry). not (d.uid == uid)) p.entries e (in-one e (subst (λ v. IsIn s v e) same i)) (not-true (e.uid == uid) (λ h. n same (eqb-true e.uid uid h)))))
+          (filter-among (λ (d : Entry). not (d.uid == uid)) p.entries e (in-one e (subst (λ v. IsIn s v e) same i)) (true-not (e.uid == uid) (λ h. n same (eqb-true e.uid uid h)))))
       go (inr other) = others-in (remove_entry uid) t e i other
 
 -- ---- a soup more

@@ -1,14 +1,15 @@
 -- Changes of soups and stores that keep them well formed.
-use Rattle.std.proofs.Common.{arith, ◌≡◌, refl, ap, ◌∙◌, ℕ, ◌+◌, ◌<◌, ◌≤◌, List, [], ◌∷◌, ◌++◌, true, false, Bool, not, ◌||◌, cond, Some, None, map, filter, length, find, ◌==◌}
+use Rattle.std.proofs.Common.{arith, ◌≡◌, refl, ap, ◌∙◌, ℕ, ◌+◌, ◌<◌, ◌≤◌, List, [], ◌∷◌, ◌++◌, true, false, Bool, not, ◌||◌, cond, Option, Some, None, map, filter, length, find, ◌==◌}
 use Rattle.std.specs.List.{list_all, list_any}
 use Rattle.newt_base.specs.Names.{equal_text, same_name}
 use Rattle.newt_graph.specs.Graph.{RawGraph}
-use Rattle.newt_spec_store.specs.Store.{Store, Soup, Entry, soup_named, entry_of, change_first, change_soup, change_entry, make_soup, drop_soup, add_entry, remove_entry}
+use Rattle.newt_spec_store.specs.Store.{Store, Soup, Entry, soup_named, entry_of, change_first, change_soup, change_entry, make_soup, drop_soup, add_entry, remove_entry, TagTable, with_index, without_index, with_tags}
 use Rattle.newt_base.specs.Names.{is_name}
 use Rattle.newt_spec_graph.specs.Lists.{all_apart, rises}
-use Rattle.newt_spec_store.specs.Valid.{well_formed, valid_soup, valid_entry}
+use Rattle.newt_spec_store.specs.Valid.{well_formed, valid_soup, valid_entry, valid_spec, valid_tags}
 use Rattle.newt_laws_images.proofs.Records.{push-length}
 use Rattle.newt_laws_images.proofs.Stores.{is-soup, soup-is, is-store, store-is}
+use Rattle.newt_spec_store.specs.Keys.{Path, IndexSpec, paths_of, same_paths}
 
 -- ---- lists
 
@@ -81,6 +82,11 @@ filter-apart same g test (x ∷ xs) h = go (filter-apart same g test xs (grind a
 pub rises-lower : (low lower high : ℕ) (ns : List ℕ) → lower ≤ low → rises low high ns ≡ true → rises lower high ns ≡ true
 rises-lower low lower high [] h k = refl
 rises-lower low lower high (n ∷ ns) h k = grind arith
+
+-- numbers that rise between two are no more than these are apart
+pub rising-length : (low high : ℕ) (ns : List ℕ) → low ≤ high → rises low high ns ≡ true → low + length ns ≤ high
+rising-length low high [] fits h = omega arith
+rising-length low high (n ∷ ns) fits h = let more = rising-length (n + 1) high ns (grind arith) (grind arith) in let first : low ≤ n = grind arith in omega (arith, more, first)
 
 pub filter-rises : {X : Type 0} (g : X → ℕ) (test : X → Bool) (low high : ℕ) (xs : List X) → rises low high (map g xs) ≡ true → rises low high (map g (filter test xs)) ≡ true
 filter-rises g test low high [] h = refl
@@ -171,6 +177,45 @@ without-entry uid p h = let r = is-soup p h in soup-is (remove_entry uid p) (rec
   specs_apart = r.specs_apart;
   tags_fit = r.tags_fit;
   entries_fit = filter-all valid_entry _ p.entries r.entries_fit;
+})
+
+-- ---- declarations
+
+pub with-index : (spec : IndexSpec) (p : Soup) → valid_soup p ≡ true → valid_spec spec ≡ true → length p.specs < 16
+    → list_any (λ t. same_paths (paths_of t) (paths_of spec)) p.specs ≡ false → valid_soup (with_index spec p) ≡ true
+with-index spec p h fits room new = let r = is-soup p h in soup-is (with_index spec p) (record {
+  named = r.named;
+  next = r.next;
+  uids = r.uids;
+  count = omega (arith, push-length p.specs spec, room);
+  specs_fit = push-all valid_spec p.specs spec r.specs_fit fits;
+  specs_apart = push-apart same_paths paths_of p.specs spec r.specs_apart new;
+  tags_fit = r.tags_fit;
+  entries_fit = r.entries_fit;
+})
+
+pub without-index : (paths : List Path) (p : Soup) → valid_soup p ≡ true → valid_soup (without_index paths p) ≡ true
+without-index paths p h = let r = is-soup p h in soup-is (without_index paths p) (record {
+  named = r.named;
+  next = r.next;
+  uids = r.uids;
+  count = omega (arith, filter-length (λ spec. not (same_paths (paths_of spec) paths)) p.specs, r.count);
+  specs_fit = filter-all valid_spec _ p.specs r.specs_fit;
+  specs_apart = filter-apart same_paths paths_of _ p.specs r.specs_apart;
+  tags_fit = r.tags_fit;
+  entries_fit = r.entries_fit;
+})
+
+pub with-tags : (tags : Option TagTable) (p : Soup) → valid_tags tags ≡ true → valid_soup p ≡ true → valid_soup (with_tags tags p) ≡ true
+with-tags tags p fits h = let r = is-soup p h in soup-is (with_tags tags p) (record {
+  named = r.named;
+  next = r.next;
+  uids = r.uids;
+  count = r.count;
+  specs_fit = r.specs_fit;
+  specs_apart = r.specs_apart;
+  tags_fit = fits;
+  entries_fit = r.entries_fit;
 })
 
 -- ---- stores

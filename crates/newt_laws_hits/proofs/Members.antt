@@ -15,6 +15,7 @@ use Rattle.newt_spec_query.proofs.Order.{hit_total}
 use Rattle.newt_laws_images.proofs.Assembled.{map-among, among-map}
 use Rattle.newt_laws_images.proofs.Chosen.{find-passes, find-one, one-name, there-soup, soup-good}
 use Rattle.newt_laws.proofs.Found.{Apart, Other, other-untied, hits-rise}
+use Rattle.newt_laws.proofs.Units.{mapped}
 use Rattle.newt_index.specs.Pairs.{Pair, Sorted, parts_of, pair_cmp}
 use Rattle.newt_index.specs.Range.{entry_pair, entry_pairs, range_of}
 use Rattle.newt_ranges.specs.Range.{range_of_soup, range_in}
@@ -113,16 +114,12 @@ hit-pair q s p e spec r same = go (key e.graph q.spec.index) ∙ ap (λ o. optio
     go None = refl
     go (Some k) = refl
 
-some-of-map : {X Y : Type 0} (f : X → Y) (o : Option X) (y : Y) → option_map f o ≡ Some y → (x : X) × (o ≡ Some x) × (f x ≡ y)
-some-of-map f None y h = absurd (none-some y h)
-some-of-map f (Some x) y h = (x, refl, some-same (f x) y h)
-
 -- the hit of an entry is among those of a range of its soup
 member-hit : (q : Query) (s : Store) (p : Soup) (e : Entry) (r : Sorted) → (f : IsRangeFor q.spec.index p r) → (h : Hit) → Among p.entries e → hit_of (stripped q).spec s p e ≡ Some h
     → Among (hits_of (with_range s p r)) h
 member-hit q s p e r f h m t =
     let spec = parts_of f.declared_by in
-    let is = some-of-map (hit (with_range s p r)) (entry_pair spec e) h (sym (hit-pair q s p e spec r (f.keys e.graph)) ∙ t) in
+    let is = mapped (hit (with_range s p r)) (entry_pair spec e) h (sym (hit-pair q s p e spec r (f.keys e.graph)) ∙ t) in
     subst (Among (hits_of (with_range s p r))) is.2 (map-among (hit (with_range s p r)) r.pairs is.0
     (subst (λ (v : Sorted). Among v.pairs is.0) (sym f.range_is)
     (fold-among (pair_cmp spec) [] (entry_pairs spec p.entries) is.0 (inr (filter_map-among (entry_pair spec) p.entries e is.0 m is.1)))))

@@ -1,43 +1,25 @@
 -- How many hits there are.
-use Rattle.std.proofs.Common.{arith, ◌≡◌, refl, ap, sym, subst, ℕ, ◌+◌, ◌*◌, ◌<◌, ◌≤◌, ◌^◌, Bool, true, false, inl, inr, List, [], ◌∷◌, length, fold, filter, filter_map, flat_map, map, Option, Some, None, cond, length-append}
-use Rattle.std.specs.declared.cmp.Ordering.{Ordering}
-use Rattle.std.specs.Ordering.{is_lt}
+use Rattle.std.proofs.Common.{arith, ◌≡◌, refl, ap, sym, subst, ◌*◌, ◌<◌, ◌≤◌, ◌^◌, true, inl, inr, List, [], ◌∷◌, length, filter, filter_map, flat_map, map, Option, Some, None, length-append}
 use Rattle.std.specs.List.{cons_option}
 use Rattle.std.proofs.lemmas.List.{length-map}
-use Rattle.newt_spec_graph.specs.Lists.{Each, Pairs, Among, rises}
+use Rattle.newt_spec_graph.specs.Lists.{Each, Pairs, Among}
 use Rattle.newt_spec_graph.proofs.Lists.{each-at}
 use Rattle.newt_spec_store.specs.Store.{Entry, Soup, Store, soup_named}
-use Rattle.newt_spec_store.specs.Sorted.{insert_by, sorted_by}
 use Rattle.newt_spec_store.specs.Valid.{well_formed}
 use Rattle.newt_spec_query.specs.Hits.{Query, Hit, hits, hit_cmp, in_scope}
 use Rattle.newt_laws_images.proofs.Chosen.{soup-good}
-use Rattle.newt_laws_changes.proofs.Soups.{filter-length}
+use Rattle.newt_laws_changes.proofs.Soups.{filter-length, rising-length}
 use Rattle.newt_laws.proofs.Found.{Apart}
 use Rattle.newt_index.specs.Pairs.{Pair, Sorted, parts_of, pair_cmp}
 use Rattle.newt_index.specs.Range.{entry_pair, entry_pairs, range_of}
 use Rattle.newt_union.specs.Merged.{Member, hit, hits_of}
+use Rattle.newt_union.proofs.View.{length_sorted}
 use Rattle.newt_laws_hits.specs.Stripped.{stripped, passing}
 use Rattle.newt_laws_hits.specs.Taking.{member_of, members_of}
 use Rattle.newt_laws_hits.proofs.Passing.{filtered}
 use Rattle.newt_laws_hits.proofs.Members.{with_range, is-member, carried, merged-is}
 
 -- ---- lists
-
-inserted : {X : Type 0} (cmp : X → X → Ordering) (ys : List X) (x : X) → length (insert_by cmp ys x) ≡ 1 + length ys
-inserted cmp [] x = refl
-inserted cmp (y ∷ ys) x = go (is_lt (cmp x y)) (inserted cmp ys x)
-  where
-    go : (b : Bool) → length (insert_by cmp ys x) ≡ 1 + length ys → length (cond b (x ∷ y ∷ ys) (y ∷ insert_by cmp ys x)) ≡ 1 + length (y ∷ ys)
-    go true e = omega arith
-    go false e = omega arith
-
-folded : {X : Type 0} (cmp : X → X → Ordering) (ys xs : List X) → length (fold (insert_by cmp) ys xs) ≡ length ys + length xs
-folded cmp ys [] = omega arith
-folded cmp ys (x ∷ xs) = let h = folded cmp (insert_by cmp ys x) xs in let k = inserted cmp ys x in omega (arith, h, k)
-
--- a list in order is as long as before
-sorted-length : {X : Type 0} (cmp : X → X → Ordering) (xs : List X) → length (sorted_by cmp xs) ≡ length xs
-sorted-length cmp xs = let h = folded cmp [] xs in omega (arith, h)
 
 pub chosen-length : {X Y : Type 0} (f : X → Option Y) (xs : List X) → length (filter_map f xs) ≤ length xs
 chosen-length f [] = omega arith
@@ -46,10 +28,6 @@ chosen-length f (x ∷ xs) = go (f x) (chosen-length f xs)
     go : (o : Option _) → length (filter_map f xs) ≤ length xs → length (cons_option o (filter_map f xs)) ≤ length (x ∷ xs)
     go None h = omega arith
     go (Some y) h = omega arith
-
-rising-length : (low high : ℕ) (ns : List ℕ) → low ≤ high → rises low high ns ≡ true → low + length ns ≤ high
-rising-length low high [] fits h = omega arith
-rising-length low high (n ∷ ns) fits h = let more = rising-length (n + 1) high ns (grind arith) (grind arith) in let first : low ≤ n = grind arith in omega (arith, more, first)
 
 -- each has so few
 few-together : {X Y : Type 0} (f : X → List Y) (xs : List X) → ((x : X) → Among xs x → length (f x) ≤ 536870911) → length (flat_map f xs) ≤ length xs * 536870911
@@ -65,7 +43,7 @@ few-together f (x ∷ xs) h =
 range-few : (spec : Option _) (s : Store) (p : Soup) → well_formed s ≡ true → Among s.soups p → length (range_of spec p.entries).pairs ≤ 536870911
 range-few spec s p w m =
     let good = soup-good s p w m in
-    let a = sorted-length (pair_cmp (parts_of spec)) (entry_pairs (parts_of spec) p.entries) in
+    let a = length_sorted (pair_cmp (parts_of spec)) (entry_pairs (parts_of spec) p.entries) in
     let b = chosen-length (entry_pair (parts_of spec)) p.entries in
     let c = rising-length 0 p.next_uid (map (λ (e : Entry). e.uid) p.entries) (omega arith) good.uids in
     let d = length-map p.entries (λ (e : Entry). e.uid) in
@@ -90,7 +68,7 @@ module _ (stores : List Store) (q : Query) (apart : Pairs Apart stores) (formed 
       let a = ap length (filtered stores q apart formed) in
       let b = filter-length (passing stores q) (hits stores (stripped q)) in
       let c = ap length (merged-is stores q apart formed) in
-      let d = sorted-length (hit_cmp q.spec.index) (flat_map hits_of (members_of stores q)) in
+      let d = length_sorted (hit_cmp q.spec.index) (flat_map hits_of (members_of stores q)) in
       let e = few-together hits_of (members_of stores q) member-few in
       let f = chosen-length (λ s. Rattle.std.specs.Prelude.option_and_then (member_of q s) (soup_named q.name s)) (filter (in_scope q.scope) stores) in
       let g = filter-length (in_scope q.scope) stores in

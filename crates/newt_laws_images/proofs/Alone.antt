@@ -26,10 +26,10 @@ use Rattle.newt_laws_images.proofs.Rows.{text-same, large-parts, only-parts}
 abbrev pub with_rows : List LargeRow → RawGraph → List (List ℕ) → RawGraph
 with_rows ls g bs = fold fill g (zip (map (λ (l : LargeRow). l.0) ls) bs)
 
-abbrev zeros : List LargeRow → List (List ℕ)
+abbrev pub zeros : List LargeRow → List (List ℕ)
 zeros ls = map (λ (l : LargeRow). replicate l.2 0) ls
 
-zipped : (ls : List LargeRow) → zip (map (λ (l : LargeRow). l.0) ls) (zeros ls) ≡ map (λ (l : LargeRow). (l.0, replicate l.2 0)) ls
+pub zipped : (ls : List LargeRow) → zip (map (λ (l : LargeRow). l.0) ls) (zeros ls) ≡ map (λ (l : LargeRow). (l.0, replicate l.2 0)) ls
 zipped [] = refl
 zipped (l ∷ ls) = ap (λ zs. (l.0, replicate l.2 0) ∷ zs) (zipped ls)
 

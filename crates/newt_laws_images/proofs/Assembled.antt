@@ -16,13 +16,13 @@ use Rattle.newt_spec_store.specs.Reading.{whole, directory}
 use Rattle.newt_spec_graph.specs.Graph.{every}
 use Rattle.newt_spec_store.specs.StoreOf.{EntryRow, object_bytes, entry_of_row, rows_of, named_once, with_entries, in_a_soup, assembled, store_of}
 use Rattle.newt_spec_graph.specs.Lists.{Each, Pairs, Among}
-use Rattle.newt_spec_store.specs.Laid.{ApartIds, AreEntries, Laid, record_of, row_of, IsLaid}
+use Rattle.newt_spec_store.specs.Laid.{ApartIds, AreEntries, Laid, record_of, row_of, IsLaid, bare, bare_soup}
 use Rattle.newt_laws_images.proofs.Records.{all-true, record-back, entry-back}
 use Rattle.newt_spec_store.specs.StoreOf.{entry_row}
 use Rattle.newt_spec_graph.proofs.Lists.{each-at, each-from, each-list_all, list_all-each, among-filter, filter-among, among-flat_map, flat_map-among, pairs-filter, pairs-more, pairs-map, rises-pairs}
 use Rattle.newt_spec_store.proofs.Sorting.{Untied, sorted-rises, among-fold, fold-among}
 use Rattle.newt_laws_images.proofs.Stores.{is-store, is-soup}
-use Rattle.newt_laws_images.proofs.Read.{bare, bare_soup, directory-back}
+use Rattle.newt_laws_images.proofs.Read.{directory-back}
 
 -- ---- two rising lists with the same elements are one
 

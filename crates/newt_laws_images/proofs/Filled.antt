@@ -26,10 +26,11 @@ put_in (Binary c b ∷ nodes) bs = Binary c b ∷ put_in nodes bs
 put_in (Array c v ∷ nodes) bs = Array c v ∷ put_in nodes bs
 put_in (Frame t v ∷ nodes) bs = Frame t v ∷ put_in nodes bs
 
-abbrev numbers_from : ℕ → List Node → List ℕ
+abbrev pub numbers_from : ℕ → List Node → List ℕ
 numbers_from k nodes = map (λ (l : ℕ × List ℕ). l.0) (larges_from k nodes)
 
-step : (pre : List Node) (x : Node) (nodes rest : List Node) (bs : List (List ℕ))
+-- a node is before those that are filled
+pub step : (pre : List Node) (x : Node) (nodes rest : List Node) (bs : List (List ℕ))
     → fold fill_nodes ((pre ++ x ∷ []) ++ nodes) (zip (numbers_from (length (pre ++ x ∷ [])) nodes) bs) ≡ (pre ++ x ∷ []) ++ rest
     → fold fill_nodes (pre ++ (x ∷ nodes)) (zip (numbers_from (length pre + 1) nodes) bs) ≡ pre ++ (x ∷ rest)
 step pre x nodes rest bs h = ap (λ ns. fold fill_nodes ns (zip (numbers_from (length pre + 1) nodes) bs)) (sym (append_assoc pre (x ∷ []) nodes))

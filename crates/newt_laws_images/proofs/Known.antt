@@ -8,7 +8,7 @@ use Rattle.newt_graph.specs.Graph.{RawGraph}
 use Rattle.newt_image.specs.Objects.{Objects}
 use Rattle.newt_spec_graph.specs.Lists.{Each, Pairs, Among, rises, all_apart}
 use Rattle.newt_spec_graph.proofs.Lists.{each-at, each-from, each-list_all, some-same, none-some, pairs-more, pairs-map, among-left, among-right, among-filter, filter-among, among-flat_map, flat_map-among, rises-pairs}
-use Rattle.newt_spec_store.specs.Laid.{ApartIds, bare}
+use Rattle.newt_spec_store.specs.Laid.{ApartIds, bare, bare_soup}
 use Rattle.newt_spec_store.specs.Lies.{IsIn, directory_read, only}
 use Rattle.newt_spec_store.specs.Reading.{Take, ◌>>=◌, give, text, number, counted, part, tags_of, times, soup, whole, directory}
 use Rattle.newt_spec_store.specs.Sorted.{sorted_by}
@@ -23,7 +23,6 @@ use Rattle.newt_laws_images.proofs.Made.{built, in-sorted, odds, all-map, map-le
 use Rattle.newt_laws_images.proofs.Parts.{apart-from, sort-back, IsReading}
 use Rattle.newt_laws_images.proofs.Placed.{its-id, its-soup}
 use Rattle.newt_laws_images.proofs.Rows.{row-of, ReadAs, read-same}
-use Rattle.newt_laws_images.proofs.Read.{bare_soup}
 use Rattle.newt_laws_images.proofs.Spelt.{whole-parts}
 use Rattle.newt_laws_images.proofs.Stores.{is-store, store-is, is-soup, soup-is}
 

@@ -21,3 +21,4 @@ pub mod Refused
 pub mod Again
 pub mod Gathering
 pub mod Chosen
+pub mod Within

@@ -18,7 +18,7 @@ use Rattle.newt_spec_graph.proofs.Lists.{each-at, each-from, each-list_all, list
 use Rattle.newt_spec_store.proofs.Sorting.{Untied, sorted-rises, among-fold, fold-among}
 use Rattle.newt_spec_store.specs.Cost.{directory_bytes, soup_bytes, text_bytes}
 use Rattle.newt_spec_store.specs.Image.{larges, entry_bytes}
-use Rattle.newt_spec_store.specs.Laid.{ApartIds, IsThere, bare}
+use Rattle.newt_spec_store.specs.Laid.{ApartIds, IsThere, bare, bare_soup}
 use Rattle.newt_spec_store.specs.Lies.{LiesIn, Places, IsIn, HasLarge, AreLarges, ReadsGraphs, directory_read}
 use Rattle.newt_spec_store.specs.Reading.{whole, directory}
 use Rattle.newt_spec_store.specs.Sorted.{sorted_by}
@@ -32,7 +32,7 @@ use Rattle.newt_laws_images.proofs.Finite.{object-get, entries-rising, entry-get
 use Rattle.newt_laws_images.proofs.Placed.{soups-rise}
 pub use Rattle.newt_laws_images.proofs.Records.{map-length}
 use Rattle.newt_laws_images.proofs.Rows.{ids_of, ReadAs, read-as, read-same, bytes-are, only-parts}
-use Rattle.newt_laws_images.proofs.Read.{bare_soup, directory-back}
+use Rattle.newt_laws_images.proofs.Read.{directory-back}
 use Rattle.newt_laws_images.proofs.Spelt.{Small, directory-spelt}
 use Rattle.newt_laws_images.proofs.Stores.{is-store, store-is, is-soup, soup-is}
 

@@ -12,6 +12,7 @@ use Rattle.newt_spec_store.specs.declared.Order.TheVariants as order
 use Rattle.newt_spec_store.specs.Keys.{Path, IndexPart}
 use Rattle.newt_spec_store.specs.Store.{TagTable, Soup, Store}
 use Rattle.newt_spec_store.specs.Cost as cost
+use Rattle.newt_spec_store.specs.Laid.{bare, bare_soup}
 use Rattle.newt_spec_store.specs.Reading.{Take, ◌>>=◌, give, some_bytes, number, times, counted, whole, whole_of, text, path, kind_of, direction_of, part, tags_of, soup, directory}
 use Rattle.newt_spec_store.specs.Valid.{well_formed, valid_soup}
 use Rattle.newt_spec_graph.specs.Lists.{Each, Among}
@@ -116,9 +117,6 @@ four a b c d = append_assoc (a ++ b) c d ∙ append_assoc a b (c ++ d)
 five : (a b c d e : List ℕ) → a ++ b ++ c ++ d ++ e ≡ a ++ (b ++ (c ++ (d ++ e)))
 five a b c d e = append_assoc (a ++ b ++ c) d e ∙ four a b c (d ++ e)
 
-abbrev pub bare_soup : Soup → Soup
-bare_soup p = record p { entries = [] }
-
 pub reads-soup : (p : Soup) → p.sig < 65536 → p.next_uid < 4294967296 → Reads soup (cost.soup_bytes p) (bare_soup p)
 reads-soup p h k = regroup soup (bare_soup p) (cost.soup_bytes p) _ (five (cost.text_bytes p.name) (be16 p.sig) (be32 p.next_uid) (cost.counted (cost.counted cost.part_bytes) p.specs) (cost.tags_bytes p.tags))
     (reads-then text _ (cost.text_bytes p.name) (be16 p.sig ++ (be32 p.next_uid ++ (cost.counted (cost.counted cost.part_bytes) p.specs ++ cost.tags_bytes p.tags))) p.name (bare_soup p) (reads-text p.name)
@@ -136,10 +134,6 @@ reads-times-as item bytes g (x ∷ xs) h = reads-then item (λ a. times (length 
 
 reads-counted-as : {A B : Type 0} (item : Take B) (bytes : A → List ℕ) (g : A → B) (xs : List A) → Each (λ x. Reads item (bytes x) (g x)) xs → Reads (counted item) (cost.counted bytes xs) (map g xs)
 reads-counted-as item bytes g xs h = reads-then (number 1) (λ n. times n item) (length xs ∷ []) (flat_map bytes xs) (length xs) (map g xs) (reads-byte (length xs)) (reads-times-as item bytes g xs h)
-
--- the store without its entries
-abbrev pub bare : Store → Store
-bare s = record s { soups = map bare_soup s.soups }
 
 pub reads-directory : (s : Store) → s.sig < 4294967296 → s.next_soup < 65536 → Each (λ p. (p.sig < 65536) × (p.next_uid < 4294967296)) s.soups → Reads directory (cost.directory_bytes s) (bare s)
 reads-directory s h k each = regroup directory (bare s) (cost.directory_bytes s) _ (four (cost.text_bytes s.name) (be32 s.sig) (be16 s.next_soup) (cost.counted cost.soup_bytes s.soups))

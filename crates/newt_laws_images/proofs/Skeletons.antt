@@ -124,7 +124,7 @@ symbol-back (x ∷ xs) (y ∷ ys) (suc k) name h e = symbol-back xs ys k name h.
 -- ---- a graph with other bytes in its large binaries
 
 -- the bytes of a large binary are data
-abbrev HasData : Node → Type 0
+abbrev pub HasData : Node → Type 0
 HasData (Large c b) = IsData b
 HasData _ = Unit {0}
 

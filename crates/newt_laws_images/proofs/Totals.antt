@@ -209,7 +209,7 @@ not-true : (b : Bool) → not b ≡ true → b ≡ true → ⊥
 not-true true h k = cc
 not-true false h k = cc
 
-true-not : (b : Bool) → (b ≡ true → ⊥) → not b ≡ true
+pub true-not : (b : Bool) → (b ≡ true → ⊥) → not b ≡ true
 true-not true h = absurd (h refl)
 true-not false h = refl
 

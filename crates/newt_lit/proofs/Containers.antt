@@ -10,8 +10,8 @@ use Rattle.newt_graph.specs.declared.node.Node.{Node}
 use Rattle.newt_graph.specs.declared.node.Node.TheVariants as nodes
 use Rattle.newt_graph.specs.declared.node.Ref.{Ref}
 use Rattle.newt_graph.specs.declared.node.Ref.TheVariants as refs
-use Rattle.newt_graph.specs.Graph.{IsSymbol, IsFrame, payload}
-use Rattle.newt_lit.specs.Built.{Built, all_distinct, tags_of, values_of}
+use Rattle.newt_graph.specs.Graph.{IsSymbol, IsFrame, all_distinct, payload}
+use Rattle.newt_lit.specs.Built.{Built, tags_of, values_of}
 use Rattle.newt_lit.specs.Grammar.{Mark, Tag, Kind, Class, Field, Object, Form, Array, Frame, Value}
 use Rattle.newt_lit.specs.Spelling.{plain, ◌then◌}
 use Rattle.newt_lit.specs.Printed.{name_text, symbol_text, class_text, field_text, list_text, value_at, label_of}

@@ -11,16 +11,16 @@ use Rattle.newt_graph.specs.declared.node.Node.{Node}
 use Rattle.newt_graph.specs.declared.node.Node.TheVariants as nodes
 use Rattle.newt_graph.specs.declared.node.Ref.{Ref}
 use Rattle.newt_graph.specs.declared.node.Ref.TheVariants as refs
-use Rattle.newt_graph.specs.Graph.{IsName, IsSymbol, payload}
+use Rattle.newt_graph.specs.Graph.{IsName, IsSymbol, all_distinct, payload}
 use Rattle.newt_graph.specs.Raw.{IsValue, labels_of}
 use Rattle.newt_graph.specs.Raw.{values_of as refs_of}
 use Rattle.newt_graph.specs.Draft.{IsPart, IsDraft, IsJoinedNode, IsJoined, IsFilling, is_small, find_alike, known, with_symbol, with_held, with_filled}
 use Rattle.newt_graph.proofs.Options.{bind_some, provided, some_is}
 use Rattle.newt_graph.proofs.Elements.{get_append, get_seam}
 use Rattle.newt_graph.proofs.Drafts.{held_push, symbol_push, alike_found, part_of_filling, once_set}
-use Rattle.newt_lit.specs.Built.{Built, symbol_in, held, filled, node_of, labelled, all_distinct, tags_of, values_of}
+use Rattle.newt_lit.specs.Built.{Built, symbol_in, held, filled, node_of, labelled, tags_of, values_of}
 use Rattle.newt_lit.specs.Grammar.{Kind, Items, Several, Class, Field, Array, Frame, Classed, Leaf, Object, Form, Nothing, Value, Writes}
-use Rattle.newt_lit_read.proofs.Distinct.{all_distinct_tells}
+use Rattle.newt_graph.proofs.Distinct.{all_distinct_tells}
 use Rattle.newt_lit_read.proofs.Characters.{name_is, tag_is, bytes_fit, large_bytes_fit, units_fit}
 use Rattle.newt_lit_read.proofs.Immediates.{immediate_is}
 

@@ -4,6 +4,7 @@ use Rattle.std.specs.Int.{w32, cast_signed}
 use Rattle.std.specs.List.{list_all}
 use Rattle.std.specs.Char.{is_ascii_hexdigit}
 use Rattle.newt_base.specs.Names.{is_identifier}
+use Rattle.newt_graph.specs.Limits.{most_data}
 use Rattle.newt_graph.specs.Steps.{◌>>=◌}
 use Rattle.newt_lit.specs.Words.{skip, word_len, is_number, number, hex_number, is_barred, is_shown, is_label, is_count}
 
@@ -128,7 +129,7 @@ bytes_at text = pieces_at single next_byte (length text) text
 
 -- a count of zero bytes, behind its '*'
 unfoldable pub zeros_at : List ℕ → Option (List ℕ × List ℕ)
-zeros_at text = if is_count (word_at text).0 && nat_le (number (word_at text).0) 1_000_000 then (behind_mark 62 (first_of (word_at text).1) >>= λ rest. Some (replicate (number (word_at text).0) 0, rest)) else None
+zeros_at text = if is_count (word_at text).0 && nat_le (number (word_at text).0) most_data then (behind_mark 62 (first_of (word_at text).1) >>= λ rest. Some (replicate (number (word_at text).0) 0, rest)) else None
 
 -- the bytes of a large binary
 unfoldable pub large_bytes_at : List ℕ → Option (List ℕ × List ℕ)

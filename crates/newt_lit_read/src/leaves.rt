@@ -10,7 +10,7 @@ use crate::names::name;
 use crate::pieces::{bytes, units};
 use crate::tokens::behind;
 use crate::words::{is_count, number, word};
-use newt_graph::{Bytes, Node, Ref, Units};
+use newt_graph::{Bytes, MOST_DATA, Node, Ref, Units};
 use std::alloc::Global;
 
 /// A symbol, behind its quote.
@@ -93,7 +93,7 @@ fn zeros(alloc: Global, text: &[char]) -> Result<(Vec<u8>, &[char]), LitFault>
         return Err(LitFault::Literal);
     }
     let count = number(word);
-    if count > 1_000_000 {
+    if count as usize > MOST_DATA {
         return Err(LitFault::Literal);
     }
     let rest = behind('>', rest)?;

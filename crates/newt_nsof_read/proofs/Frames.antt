@@ -10,10 +10,11 @@ use Rattle.newt_graph.specs.declared.node.Ref.{Ref}
 use Rattle.newt_graph.specs.declared.node.Ref.TheVariants as refs
 use Rattle.newt_nsof.specs.Text.{Count, Label, Labels, Object, Objects}
 use Rattle.newt_nsof_read.specs.Met.{Met}
-use Rattle.newt_nsof_read.specs.Reading.{Reader, count_at, add, label_at, many_at, all_distinct, filled, frame_at, plain_array_at, array_at}
+use Rattle.newt_nsof_read.specs.Reading.{Reader, count_at, add, label_at, many_at, filled, frame_at, plain_array_at, array_at}
+use Rattle.newt_graph.specs.Graph.{all_distinct}
 use Rattle.newt_graph.proofs.Options.{bind_some, provided, some_is}
 use Rattle.newt_nsof_read.proofs.Fields.{Takes, Takes-then, count_takes}
-use Rattle.newt_nsof_read.proofs.Distinct.{all_distinct_tells}
+use Rattle.newt_graph.proofs.Distinct.{all_distinct_tells}
 use Rattle.newt_nsof_read.proofs.Names.{names, names-append, names-other, same_length}
 use Rattle.newt_nsof_read.proofs.Taken.{Taken, IsSound, add_adds, behind, label_sound, Lists, many_sound, many_length, label_lists}
 

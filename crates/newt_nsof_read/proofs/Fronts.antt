@@ -6,6 +6,7 @@ use Rattle.std.proofs.lemmas.List.{append-nil, length-append}
 use Rattle.newt_graph.specs.declared.node.Node.{Node}
 use Rattle.newt_graph.specs.declared.node.Node.TheVariants.{Array, Frame}
 use Rattle.newt_graph.specs.declared.node.Ref.{Ref}
+use Rattle.newt_graph.specs.Graph.{all_distinct}
 use Rattle.newt_graph.specs.Steps.{◌>>=◌}
 use Rattle.newt_nsof.specs.Text.{SymbolText, Again, Object}
 use Rattle.newt_graph.proofs.Options.{bind_some, unless, provided, some_is}
@@ -20,7 +21,7 @@ use Rattle.newt_nsof_read.specs.declared.fault.NsofFault.{NsofFault}
 use Rattle.newt_nsof_read.specs.declared.fault.NsofFault.TheVariants.{Malformed, Compressed, Memory}
 use Rattle.newt_nsof_read.specs.Met.{Met}
 use Rattle.newt_nsof_read.specs.Opened.{Opened}
-use Rattle.newt_nsof_read.specs.Reading.{Fails, add, count_at, label_at, many_at, all_distinct, frame_at, array_at, plain_array_at, tag_of, object_by, tagged_at, object_at, is_other}
+use Rattle.newt_nsof_read.specs.Reading.{Fails, add, count_at, label_at, many_at, frame_at, array_at, plain_array_at, tag_of, object_by, tagged_at, object_at, is_other}
 use Rattle.newt_nsof_read.specs.Stack.{just_opened, closed, rest_at, resumed, whole, as_front, opens, leaf_by, frame_front, plain_array_front, array_front, front_by, allowed, front_of, FrontIsOpen}
 use Rattle.newt_nsof_read.proofs.Fields.{IsBytes, IsBytes-rest, Takes, Takes-then, count_takes}
 use Rattle.newt_nsof_read.proofs.Taken.{Added, add_adds, label_sound, many_sound, label_lists, stays_open}

@@ -4,6 +4,8 @@ use Rattle.newt_graph.specs.declared.node.Node.{Node}
 use Rattle.newt_graph.specs.declared.node.Node.TheVariants.{Array, Frame}
 use Rattle.newt_graph.specs.declared.node.Ref.{Ref}
 use Rattle.newt_graph.specs.declared.node.Ref.TheVariants as refs
+use Rattle.newt_graph.specs.Limits.{most_slots, most_open}
+use Rattle.newt_graph.specs.Graph.{all_distinct}
 use Rattle.newt_graph.specs.Steps.{◌>>=◌}
 use Rattle.newt_nsof_read.specs.declared.tag.Tag.{Tag}
 use Rattle.newt_nsof_read.specs.declared.tag.Tag.TheVariants as tags
@@ -13,7 +15,7 @@ use Rattle.newt_nsof_read.specs.declared.open.Front.{Front}
 use Rattle.newt_nsof_read.specs.declared.open.Front.TheVariants as fronts
 use Rattle.newt_nsof_read.specs.Met.{Met}
 use Rattle.newt_nsof_read.specs.Opened.{Opened}
-use Rattle.newt_nsof_read.specs.Reading.{Reader, add, filled, count_at, label_at, many_at, all_distinct, tag_of, object_by, rectangle_at, is_other, object_at}
+use Rattle.newt_nsof_read.specs.Reading.{Reader, add, filled, count_at, label_at, many_at, tag_of, object_by, rectangle_at, is_other, object_at}
 
 -- ---- open containers
 
@@ -72,20 +74,20 @@ leaf_by wide met rest tag = object_by wide None met rest tag
 unfoldable pub frame_front : Reader Front
 frame_front met bytes = do
   count ← count_at bytes
-  opened ← if nat_le count.0 65535 then add met (Frame [] []) else None
+  opened ← if nat_le count.0 most_slots then add met (Frame [] []) else None
   labels ← many_at label_at count.0 opened.1 count.1
   if all_distinct labels.0 then Some (fronts.Open (just_opened opened.0 (kinds.Frame labels.0) count.0), labels.1, labels.2) else None
 
 unfoldable pub plain_array_front : Reader Front
 plain_array_front met bytes = do
   count ← count_at bytes
-  opened ← if nat_le count.0 65535 then add met (Array None []) else None
+  opened ← if nat_le count.0 most_slots then add met (Array None []) else None
   Some (fronts.Open (just_opened opened.0 (kinds.Array None) count.0), opened.1, count.1)
 
 unfoldable pub array_front : Reader Front
 array_front met bytes = do
   count ← count_at bytes
-  opened ← if nat_le count.0 65535 then add met (Array None []) else None
+  opened ← if nat_le count.0 most_slots then add met (Array None []) else None
   label ← label_at opened.1 count.1
   Some (fronts.Open (just_opened opened.0 (kinds.Array (Some label.0)) count.0), label.1, label.2)
 
@@ -120,4 +122,4 @@ FrontIsOpen met (fronts.Open o) = IsOpen met o
 -- the root, or what is still to be read for it, where the stack waits for a value
 abbrev pub awaited : Bool → Option Ref → List Opened → Met → List ℕ → Option (Ref × Met × List ℕ)
 awaited wide (Some root) stack met rest = Some (root, met, rest)
-awaited wide None stack met rest = resumed wide 200 stack (object_at wide (200 - length stack) met rest)
+awaited wide None stack met rest = resumed wide most_open stack (object_at wide (most_open - length stack) met rest)

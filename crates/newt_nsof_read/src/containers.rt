@@ -3,12 +3,11 @@ ghost use Rattle.newt_nsof_read.specs.Reading.{Gives};
 ghost use Rattle.newt_nsof_read.specs.Stack.{frame_front, plain_array_front, array_front};
 
 use crate::fault::NsofFault;
-use crate::labels::{are_distinct, label, labels};
-use crate::limits::MOST_SLOTS;
+use crate::labels::{label, labels};
 use crate::met::Seen;
 use crate::numbers::count;
 use crate::open::{Front, Kind, Open};
-use newt_graph::{Node, Refs, Tags};
+use newt_graph::{MOST_SLOTS, Node, Refs, Tags, are_distinct};
 use std::alloc::Global;
 
 /// A frame up to its values, behind its tag. No two of its slot tags are the same.
@@ -21,7 +20,7 @@ pub(crate) fn frame<'a>(
     ensures { Gives (λ x. (x.0, seen.new, x.1.now)) result (frame_front seen.old bytes.now) }
 {
     let (count, rest) = count(bytes)?;
-    if count > MOST_SLOTS {
+    if count as usize > MOST_SLOTS {
         return Err(NsofFault::Malformed);
     }
     let n = seen.add(Node::Frame(Tags::of(Vec::new(alloc)), Refs::of(Vec::new(alloc))))?;
@@ -43,7 +42,7 @@ pub(crate) fn plain_array<'a>(
     ensures { Gives (λ x. (x.0, seen.new, x.1.now)) result (plain_array_front seen.old bytes.now) }
 {
     let (count, rest) = count(bytes)?;
-    if count > MOST_SLOTS {
+    if count as usize > MOST_SLOTS {
         return Err(NsofFault::Malformed);
     }
     let n = seen.add(Node::Array(None, Refs::of(Vec::new(alloc))))?;
@@ -61,7 +60,7 @@ pub(crate) fn array<'a>(
     ensures { Gives (λ x. (x.0, seen.new, x.1.now)) result (array_front seen.old bytes.now) }
 {
     let (count, rest) = count(bytes)?;
-    if count > MOST_SLOTS {
+    if count as usize > MOST_SLOTS {
         return Err(NsofFault::Malformed);
     }
     let n = seen.add(Node::Array(None, Refs::of(Vec::new(alloc))))?;

@@ -5,10 +5,9 @@ ghost use Rattle.newt_nsof_read.specs.Reading.{Gives, many_at, unit_at, is_text_
 
 use crate::fault::NsofFault;
 use crate::labels::label;
-use crate::limits::MOST_DATA;
 use crate::met::Seen;
 use crate::numbers::{count, front, number};
-use newt_graph::{Bytes, Node, Ref, Units};
+use newt_graph::{Bytes, MOST_DATA, Node, Ref, Units};
 use std::alloc::Global;
 
 /// A unit of two bytes.
@@ -38,7 +37,7 @@ fn units(alloc: Global, count: u32, bytes: &[u8]) -> Result<(Vec<u16>, &[u8]), N
 fn is_text_count(count: u32) -> bool
     ensures { result ≡ is_text_count count }
 {
-    count % 2 == 0 && 2 <= count && count <= MOST_DATA
+    count % 2 == 0 && 2 <= count && count as usize <= MOST_DATA
 }
 
 /// A string, behind its tag.
@@ -73,7 +72,7 @@ pub(crate) fn binary<'a>(
     ensures { Gives (λ x. (x.0, seen.new, x.1.now)) result (binary_at seen.old bytes.now) }
 {
     let (count, rest) = count(bytes)?;
-    if count > MOST_DATA {
+    if count as usize > MOST_DATA {
         return Err(NsofFault::Malformed);
     }
     let n = seen.add(Node::Binary(0, Bytes::of(Vec::new(alloc))))?;
@@ -112,7 +111,7 @@ fn large_data(bytes: &[u8], wide: bool) -> Result<(&[u8], &[u8]), NsofFault>
 {
     let rest = behind_flag(bytes, wide)?;
     let (len, rest) = number(rest)?;
-    if len > MOST_DATA {
+    if len as usize > MOST_DATA {
         return Err(NsofFault::Malformed);
     }
     let (compander_len, rest) = number(rest)?;

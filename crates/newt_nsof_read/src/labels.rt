@@ -1,13 +1,11 @@
 //! Symbols, precedents, and the classes and slot tags that are one or the other.
-ghost use Rattle.std.specs.Prelude.{◌≡◌, IfOk};
-ghost use Rattle.newt_nsof_read.specs.Reading.{Gives, symbol_at, numbered_at, label_at, many_at, all_distinct};
+ghost use Rattle.newt_nsof_read.specs.Reading.{Gives, symbol_at, numbered_at, label_at, many_at};
 
 use crate::fault::NsofFault;
 use crate::met::Seen;
 use crate::numbers::{count, name};
 use crate::tag::{Tag, tag_of};
-use std::alloc::{AllocError, Global};
-use std::collections::HashSet;
+use std::alloc::Global;
 
 /// A symbol, behind its tag: its name, which stands for the first symbol that is spelled alike.
 #[tactic(auto, unfolding(crate::specs::Reading::symbol_at))]
@@ -78,12 +76,4 @@ pub(crate) fn labels<'a>(
         rest = after;
     }
     Ok((labels, rest))
-}
-
-/// Whether no two tags are the same.
-pub(crate) fn are_distinct(alloc: Global, tags: &[u32]) -> Result<bool, AllocError>
-    ensures { IfOk result (λ yes. yes ≡ all_distinct tags.now) }
-{
-    let set: HashSet<u32> = tags.iter().copied().collect(alloc)?;
-    Ok(set.len() == tags.len())
 }

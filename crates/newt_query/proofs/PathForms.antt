@@ -13,10 +13,7 @@ use Rattle.newt_spec_graph.specs.Graph.{object, every}
 use Rattle.newt_spec_query.specs.Tags.{symbol_name, if_given}
 use Rattle.newt_spec_query.specs.Spec.{path_values, path_of, or_else, within}
 use Rattle.newt_path.specs.Names.{IsPath}
-
--- the name of a node that is a symbol
-abbrev name_of : Option Node → Option (List ℕ)
-name_of o = elim o [ Some (Symbol name) ↦ Some name | _ ↦ None ]
+use Rattle.newt_tags.proofs.Looked.{name_of}
 
 no_symbol : (nodes : List Node) (r : Ref) (vs : List Ref) → path_values nodes r ≡ Some vs → symbol_name nodes r ≡ None
 no_symbol nodes r vs e = by (object nodes r) e

@@ -8,7 +8,7 @@ use Rattle.newt_spec_graph.proofs.Lists.{some-same, both-ways}
 use Rattle.newt_spec_store.specs.Keys.{IndexSpec, Path, paths_of, same_paths}
 use Rattle.newt_spec_store.specs.Store.{Entry, Soup, Store, entry_of, change_first, change_soup, change_entry, make_soup, drop_soup, add_entry, remove_entry}
 use Rattle.newt_spec_store.specs.Valid.{well_formed}
-use Rattle.newt_spec_store.specs.Laid.{bare}
+use Rattle.newt_spec_store.specs.Laid.{bare, bare_soup}
 use Rattle.newt_laws_images.proofs.Chosen.{OnePasses, find-passes, soup-there, found_by_name, only-one, one-name, one-sig, same-text}
 use Rattle.newt_index.specs.Pairs.{Sorted}
 use Rattle.newt_ranges.specs.declared.rows.SoupRanges.{SoupRanges}
@@ -164,9 +164,6 @@ entry_listed old new ps rows sig u g one here others are =
     each_changed p p (old p) (new p) (with_entry u g) r refl refl (λ spec v. range_added spec (old p) (new p) v u g h.0 h.1) is)
     (λ p r m e is. none_changed p p (old p) (new p) r refl refl (λ spec v. same_graphs spec (old p) (new p) v (others p m (λ same. both-ways (sym e ∙ eq-eqb p.sig sig same)))) is)
     are
-
-abbrev bare_soup : Soup → Soup
-bare_soup p = record p { entries = [] }
 
 -- what the graphs of the directory's soups were told to be are those of the store
 pub opened : (s : Store) (rows : List SoupRanges) (told : ℕ → Graphs) → ((p : Soup) → Among s.soups p → (w : ℕ) → told p.sig w ≡ graphs_of p w)

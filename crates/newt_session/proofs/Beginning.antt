@@ -88,7 +88,7 @@ attached_never told names old new a = record {
 
 -- ---- what a crash leaves
 
-always_first : {Q : Moment → Type 0} {old now : Moment} → Always Q old now → Q old
+pub always_first : {Q : Moment → Type 0} {old now : Moment} → Always Q old now → Q old
 always_first (here q) = q
 always_first (later event now before q) = always_first before
 

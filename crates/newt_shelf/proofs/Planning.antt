@@ -120,7 +120,7 @@ entry-none texts = record {
   others = λ id out. refl;
 }
 
-odd_even : (n : ℕ) → n % 2 ≡ 1 → n % 2 ≡ 0 → ⊥
+pub odd_even : (n : ℕ) → n % 2 ≡ 1 → n % 2 ≡ 0 → ⊥
 odd_even n odd even = let no : 1 ≡ 0 = sym odd ∙ even in omega (arith, no)
 
 -- the record of an entry is none of its large binaries

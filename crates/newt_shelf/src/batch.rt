@@ -11,7 +11,7 @@ ghost use Rattle.newt_shelf.specs.Batch.{AreWritten, HasPut, HasNone, HasIds, Is
 use newt_base::{Sig, Uid};
 use newt_objects::Objects;
 use newt_pagebook::Batch;
-use std::alloc::{AllocError, Global};
+use std::alloc::AllocError;
 
 /// The bytes of a large binary, and the object that gets them.
 #[derive(Drop)]

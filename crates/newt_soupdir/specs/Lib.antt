@@ -1,3 +1,2 @@
 pub mod Bare
-pub mod Changes
 pub mod Reading

@@ -1,11 +1,10 @@
 //! To find soups in a directory, and to change it.
 ghost use Rattle.std.specs.Prelude.{◌≡◌, ◌+◌, ◌<◌, ◌≤◌, filter, length, map, not, ◌==◌, nat_le, option_map, option_and_then, OnErr, OnOk, IfOk, IfSome, IsTrue};
 ghost use Rattle.std.specs.List.{find, position_from};
-ghost use Rattle.newt_spec_store.specs.Store.{soup_named, make_soup, change_first, soup_of, without_soup, uid_taken, take_uid_of, with_index, without_index, change_soup_of};
+ghost use Rattle.newt_spec_store.specs.Store.{soup_named, make_soup, change_first, soup_of, without_soup, uid_taken, take_uid_of, with_index, without_index, change_soup_of, with_tags};
 ghost use Rattle.newt_spec_store.specs.Valid.{well_formed};
 ghost use Rattle.newt_soupdir.specs.Bare.{bare_soup, bare_store};
 ghost use Rattle.newt_spec_store.specs.Keys.{paths_of, same_paths, same_spec};
-ghost use Rattle.newt_soupdir.specs.Changes.{with_tags};
 
 use crate::form::MOST_SOUPS;
 use crate::indexes::Specs;

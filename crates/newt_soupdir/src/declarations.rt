@@ -6,12 +6,11 @@ use crate::fault::DirFault;
 use crate::fields::{byte, text};
 use crate::form::{MOST_PARTS, MOST_TAGS};
 use crate::indexes::Specs;
-use crate::symbols::are_symbols_apart;
 use newt_base::is_identifier;
 use newt_graph::Bytes;
 use newt_keys::{IndexPart, IndexSpec, Kind, Order};
 use newt_path::Path;
-use newt_tags::TagTable;
+use newt_tags::{TagTable, are_names_apart};
 use std::alloc::Global;
 
 /// The most names of a path.
@@ -153,7 +152,7 @@ fn tag_symbols(alloc: Global, bytes: &[u8]) -> Result<(Vec<Bytes>, &[u8]), DirFa
 {
     let (count, rest) = byte(bytes)?;
     let (symbols, rest) = symbols(alloc, count, rest)?;
-    if symbols.len() > MOST_TAGS || !are_symbols_apart(&symbols) {
+    if symbols.len() > MOST_TAGS || !are_names_apart(&symbols) {
         return Err(DirFault::Bad);
     }
     Ok((symbols, rest))

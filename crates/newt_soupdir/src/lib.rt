@@ -14,7 +14,6 @@ mod form;
 mod indexes;
 mod read;
 mod rows;
-mod symbols;
 mod write;
 
 pub use fault::DirFault;

@@ -3,6 +3,7 @@ use Rattle.std.specs.Prelude.{ℕ, Bool, false, ◌&&◌, nat_le, length, Option
 use Rattle.std.specs.List.{list_all}
 use Rattle.newt_graph.specs.declared.node.Node.{Node}
 use Rattle.newt_graph.specs.declared.node.Node.TheVariants.{Array, Frame}
+use Rattle.newt_graph.specs.Limits.{most_slots, most_data}
 use Rattle.newt_graph.specs.Graph.{RawGraph, payload}
 use Rattle.newt_graph.specs.Meeting.{normal_form}
 
@@ -12,12 +13,12 @@ slots (Array _ values) = length values
 slots (Frame tags _) = length tags
 slots _ = 0
 
--- at most 65,535 slots, and at most 1,000,000 bytes in a string, a binary or a large binary (this project's own)
+-- the slots of an array or a frame, and the bytes of a string, a binary or a large binary, are within the limits (this project's own)
 abbrev pub node_within : Node → Bool
-node_within node = nat_le (slots node) 65535 && nat_le (payload node) 1_000_000
+node_within node = nat_le (slots node) most_slots && nat_le (payload node) most_data
 
--- Each node is within the limits, and there is a normal form: at most 65,535 nodes, 200 arrays and frames open within one another, and
--- 16,777,216 bytes of strings, binaries and large binaries together. (this project's own)
+-- Each node is within the limits, and there is a normal form, whose nodes, open arrays and frames, and bytes together are within theirs.
+-- (this project's own)
 abbrev pub within_limits : RawGraph → Bool
 within_limits g = is_some (normal_form g) && list_all node_within g.nodes
 

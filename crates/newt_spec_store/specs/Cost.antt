@@ -92,6 +92,11 @@ directory_pages s = pages_for (length (directory_bytes s))
 abbrev pub cost : Store → ℕ
 cost s = directory_pages s + sum_by soup_pages s.soups
 
--- the bytes of the batch that puts so many bytes in a large binary: 516 for each page that they fill and one more, and 9 beside them (this project's own)
+-- the bytes of a batch that puts so many pages and lets so many go: 516 for each that it puts, 4 for each that it lets go, and 9 beside them
+-- (this project's own)
+abbrev pub pages_bytes : ℕ → ℕ → ℕ
+pages_bytes put gone = 9 + 516 * put + 4 * gone
+
+-- the bytes of the batch that puts so many bytes in a large binary: it puts the pages that they fill and one more (this project's own)
 abbrev pub patch_bytes : ℕ → ℕ
-patch_bytes count = 516 * ((count + 499) / 500 + 1) + 9
+patch_bytes count = pages_bytes ((count + 499) / 500 + 1) 0

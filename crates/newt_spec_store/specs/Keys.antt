@@ -9,7 +9,7 @@ use Rattle.std.specs.Ordering.{nat_cmp, int_cmp, ordering_then, ordering_reverse
 use Rattle.std.specs.Cmp.Lexicographic.{slice_cmp}
 use Rattle.std.specs.Char.Utf16.{utf16_lossy_chars}
 use Rattle.std.specs.Str.{str_to_ascii_lowercase}
-use Rattle.std.specs.List.{list_all}
+use Rattle.std.specs.List.{list_all, list_any}
 use Rattle.caseless.specs.Caseless.{default_case_fold}
 use Rattle.newt_base.specs.Names.{same_path}
 use Rattle.newt_spec_store.specs.declared.Kind.{Kind}
@@ -148,6 +148,10 @@ paths_of spec = map (λ p. p.path) spec
 -- two lists of paths are one but for the case of letters (Newton Formats 1.1, symbols)
 abbrev pub same_paths : List Path → List Path → Bool
 same_paths ps qs = (length ps == length qs) && list_all (λ p. same_path p.0 p.1) (zip ps qs)
+
+-- one of the declarations has these paths (Newton Programmer's Guide 2.0, indexes)
+abbrev pub has_paths : List Path → List IndexSpec → Bool
+has_paths paths specs = list_any (λ spec. same_paths (paths_of spec) paths) specs
 
 -- two parts have one path, one type and one direction (this project's own)
 abbrev pub same_part : IndexPart → IndexPart → Bool

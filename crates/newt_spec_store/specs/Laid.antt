@@ -9,9 +9,13 @@ use Rattle.newt_spec_store.specs.Image.{Objects, larges, entry_bytes, all_entrie
 use Rattle.newt_spec_store.specs.StoreOf.{LargeRow, EntryRow, object_bytes, named_once}
 use Rattle.newt_spec_graph.specs.Lists.{Each, Pairs, Among}
 
+-- the soup without its entries (a word of these definitions)
+abbrev pub bare_soup : Soup → Soup
+bare_soup p = record p { entries = [] }
+
 -- the store without its entries (a word of these definitions)
 abbrev pub bare : Store → Store
-bare s = record s { soups = map (λ (p : Soup). let q : Soup = record p { entries = [] } in q) s.soups }
+bare s = record s { soups = map bare_soup s.soups }
 
 -- a large binary, and the number of its object (a word of these definitions)
 abbrev pub Named : Type 0

@@ -93,6 +93,10 @@ with_index spec p = record p { specs = p.specs ++ spec ∷ [] }
 abbrev pub without_index : List Path → Soup → Soup
 without_index paths p = record p { specs = filter (λ spec. not (same_paths (paths_of spec) paths)) p.specs }
 
+-- the tags declaration is this one, or none (this project's own)
+abbrev pub with_tags : Option TagTable → Soup → Soup
+with_tags tags p = record p { tags = tags }
+
 -- a store of this name and signature, without soups (Newton Programmer's Guide 2.0, stores)
 abbrev pub new_store : List ℕ → ℕ → Store
 new_store name sig = record { name = name; sig = sig; next_soup = 0; soups = [] }

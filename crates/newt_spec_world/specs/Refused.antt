@@ -10,7 +10,7 @@ use Rattle.newt_spec_graph.specs.Graph.{is_frame, object}
 use Rattle.newt_graph.specs.Meeting.{normal_form}
 use Rattle.newt_spec_graph.specs.Limits.{is_within}
 use Rattle.newt_spec_graph.specs.Slots.{put}
-use Rattle.newt_spec_store.specs.Keys.{Path, paths_of, same_paths}
+use Rattle.newt_spec_store.specs.Keys.{Path, has_paths}
 use Rattle.newt_image.specs.Pages.{cap}
 use Rattle.newt_spec_store.specs.Cost.{cost, skeleton_length}
 use Rattle.newt_spec_query.specs.Spec.{is_query, keys_fit}
@@ -134,7 +134,7 @@ out_of_range w u s uid path upto = (Range, on_some (entry_in w u s uid) (λ e. n
 
 -- the soup has an index of these paths (a word of these definitions)
 abbrev pub has_index : World → ℕ → List ℕ → List Path → Bool
-has_index w u s paths = on_some (soup_in w u s) (λ p. list_any (λ spec. same_paths (paths_of spec) paths) p.specs)
+has_index w u s paths = on_some (soup_in w u s) (λ p. has_paths paths p.specs)
 
 -- an index of these paths is there (this project's own)
 abbrev pub index_exists : World → ℕ → List ℕ → List Path → Check

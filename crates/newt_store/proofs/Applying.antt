@@ -1,5 +1,5 @@
 -- What a change of a store answers.
-use Rattle.std.proofs.Common.{◌≡◌, inl, inr, ℕ, ◌<◌, ◌≤◌, Bool, true, false, nat_lt, List, [], ◌∷◌, ◌++◌, Option, Some, None, Result, Ok, Err, IfErr, IsErrAnd, refl, sym, ◌∙◌, ap, subst, arith, ⊎_elim, ◌+◌, ◌*◌, ◌⊎◌, cond, is_some}
+use Rattle.std.proofs.Common.{◌≡◌, inl, inr, ℕ, ◌<◌, ◌≤◌, Bool, true, false, nat_lt, List, [], ◌∷◌, ◌++◌, Option, Some, None, Result, Ok, Err, IfErr, IsErrAnd, refl, sym, ◌∙◌, ap, subst, arith, ⊎_elim, ◌+◌, ◌⊎◌, cond, is_some}
 use Rattle.std.proofs.lemmas.Bool.{cases_lt}
 use Rattle.std.proofs.lemmas.Bool.Decides.{nat_tests}
 use Rattle.newt_base.specs.Refusals.{Checks, first_of}
@@ -13,7 +13,7 @@ use Rattle.newt_host.proofs.Moments.{Leaves-start, Leaves-weaken}
 use Rattle.newt_image.specs.Pages.{cap}
 use Rattle.newt_pagebook.specs.Book.{Numbers, IsOpenFor}
 use Rattle.newt_spec_store.specs.Store.{Soup, Store, remove_entry, soup_of, without_index}
-use Rattle.newt_spec_store.specs.Cost.{cost, directory_pages}
+use Rattle.newt_spec_store.specs.Cost.{cost, directory_pages, pages_bytes}
 use Rattle.newt_spec_store.specs.OfImage.{blocks_of}
 use Rattle.newt_spec_store.specs.Keys.{Path}
 use Rattle.newt_laws_changes.proofs.Costs.{dropped_cost, removed_cost}
@@ -146,9 +146,6 @@ sound-over told catalog numbers numbers' unit unit' old new place same now sound
   formed = sound.formed;
 }
 
-pub same-image : (unit unit' : ℕ) (old new : Moment) → unit' ≡ unit → new ≡ old → image unit' new ≡ image unit old
-same-image unit unit' old new place now = ap (λ (u : ℕ). image u new) place ∙ ap (λ (m : Moment). image unit m) now
-
 -- ---- at every moment
 
 pub before-or-changed : (change : Change) (now : ℕ) (s : Store) (img left : List ℕ) → first_of (first_checks change s) ≡ None → IsEitherStore img s (changed_by change now s) left → IsBeforeOrChanged change (blocks_of img) now s left
@@ -164,7 +161,7 @@ leaves-before catalog change now blocks s unit old new same stands durable = sub
 
 -- ---- one call after another
 
-rose-before : (old mid new : ℕ) → old ≤ mid → Rose mid new → Rose old new
+pub rose-before : (old mid new : ℕ) → old ≤ mid → Rose mid new → Rose old new
 rose-before old mid new low rose = omega (arith, low, rose)
 
 pub faults-over : (fault : StoreFault) (unit unit' : ℕ) (old mid new : Outside) → unit' ≡ unit → Touches unit old mid → FaultsAt unit' mid new fault → FaultsAt unit old new fault
@@ -175,7 +172,7 @@ faults-over (Stop (Device at)) unit unit' old mid new place touches faults =
 
 -- ---- how many bytes
 
-bytes-put : (change : Change) (now : ℕ) (s : Store) → is_patch change ≡ false → bytes_of change now s ≡ 516 * pages_put change now s + 4 * pages_gone change s + 9
+bytes-put : (change : Change) (now : ℕ) (s : Store) → is_patch change ≡ false → bytes_of change now s ≡ pages_bytes (pages_put change now s) (pages_gone change s)
 bytes-put (MakeSoup name) now s other = refl
 bytes-put (DropSoup sig) now s other = refl
 bytes-put (Add sig g) now s other = refl
@@ -191,16 +188,12 @@ bytes-put (SetTags sig table) now s other = refl
 planned-bytes : (catalog : Catalog) (change : Change) (blocks now : ℕ) (s : Store) (next : Next) → is_patch change ≡ false → IsPlanOf catalog change now s next → refusal_of change blocks now s ≡ None → turn_bytes next s (changed_by change now s) ≡ most_bytes change blocks now s
 unfolding most_bytes turn_bytes
 planned-bytes catalog change blocks now s next other plan none =
-    ap (λ (n : ℕ). 9 + 516 * (directory_pages (changed_by change now s) + new_pages next.entry) + 4 * n) (three (directory_pages s) (replaced_pages next.entry s) (goes_pages next.gone s))
-    ∙ (λ i. 9 + 516 * (directory_pages (changed_by change now s) + plan.added i) + 4 * (directory_pages s + plan.removed i))
-    ∙ turned (pages_put change now s) (pages_gone change s)
+    ap (pages_bytes (directory_pages (changed_by change now s) + new_pages next.entry)) (three (directory_pages s) (replaced_pages next.entry s) (goes_pages next.gone s))
+    ∙ (λ i. pages_bytes (directory_pages (changed_by change now s) + plan.added i) (directory_pages s + plan.removed i))
     ∙ sym (bytes-put change now s other)
     ∙ sym (ap (λ (o : Option Refusal). cond (is_some o) 0 (bytes_of change now s)) none) where
       three : (a b c : ℕ) → a + b + c ≡ a + (b + c)
       three a b c = omega arith
-
-      turned : (p q : ℕ) → 9 + 516 * p + 4 * q ≡ 516 * p + 4 * q + 9
-      turned p q = omega arith
 
 pub spends-more : (unit most fetches : ℕ) (old new : Outside) → Spends unit 0 fetches old new → Spends unit most fetches old new
 spends-more unit most fetches old new spends = Spends-widen 0 fetches most fetches (omega arith) (omega arith) spends

@@ -21,6 +21,7 @@ use Rattle.newt_shelf.specs.Names.{names_of, AreSoundNames}
 use Rattle.newt_shelf.specs.declared.batch.NewEntry.{NewEntry}
 use Rattle.newt_shelf.specs.Places.{place_of, AreSoundPlaces}
 use Rattle.newt_catalog.specs.declared.catalog.Catalog.{Catalog}
+use Rattle.newt_shelf.proofs.Planning.{odd_even}
 use Rattle.newt_store.specs.declared.next.Gone.{Gone}
 use Rattle.newt_store.specs.declared.next.Gone.TheVariants.{Nothing, OneEntry, AllOf}
 use Rattle.newt_store.specs.declared.next.Next.{Next}
@@ -212,9 +213,6 @@ module _ (next : Next) (old mid new : Places)
 
 -- ---- what the records name
 
-odd-even : (n : ℕ) → n % 2 ≡ 1 → n % 2 ≡ 0 → ⊥
-odd-even n odd even = let no : 1 ≡ 0 = sym odd ∙ even in omega (arith, no)
-
 odd-above : (n : ℕ) → n % 2 ≡ 1 → 0 < n
 odd-above n odd = above n odd (cases_eq n 0) where
   above : (n : ℕ) → n % 2 ≡ 1 → (n ≡ 0) ⊎ (n ≢ 0) → 0 < n
@@ -263,7 +261,7 @@ module _ (catalog : Catalog) (next : Next) (records : List ℕ) (places : AreSou
 
   pub gone-apart : IsApart next.entry gone-ids
   gone-apart = record {
-    record_apart = λ e new m. ⊎_elim (λ w. new-stays e new w) (λ w. odd-even e.id (is.ids e new).odd (names.even w.0 e.id w.2).0) (is-going next old-place old-names records are e.id m);
+    record_apart = λ e new m. ⊎_elim (λ w. new-stays e new w) (λ w. odd_even e.id (is.ids e new).odd (names.even w.0 e.id w.2).0) (is-going next old-place old-names records are e.id m);
     larges_apart = λ e o new large m. no-object (held catalog.objects o) (is.larges_free e o new large) (gone-there o m);
   }
 
@@ -273,7 +271,7 @@ module _ (catalog : Catalog) (next : Next) (records : List ℕ) (places : AreSou
       (λ w.
       let same = places.once w.0 w.1 sig uid id w.3 at in
       subst (λ (s : ℕ). Goes next.gone s uid) same.0 (subst (λ (u : ℕ). Goes next.gone w.0 u) same.1 w.2))
-      (λ w. absurd (odd-even id (places.odd sig uid id at) (names.even w.0 id w.2).0))
+      (λ w. absurd (odd_even id (places.odd sig uid id at) (names.even w.0 id w.2).0))
       (is-going next old-place old-names records are id m)
 
   record-odd : (r : ℕ) → Among records r → r % 2 ≡ 1
@@ -282,13 +280,13 @@ module _ (catalog : Catalog) (next : Next) (records : List ℕ) (places : AreSou
   -- what stands with two records is not one
   with-apart : (x y : ℕ) → Among records x → Among records y → x ≢ y → (a b : ℕ) → Among (x ∷ old-names x) a → Among (y ∷ old-names y) b → a ≢ b
   with-apart x y mx my ne a b (inl p) (inl q) same = ne (p ∙ same ∙ sym q)
-  with-apart x y mx my ne a b (inl p) (inr n) same = odd-even x (record-odd x mx) (subst (λ (k : ℕ). k % 2 ≡ 0) (sym (p ∙ same)) (names.even y b n).0)
-  with-apart x y mx my ne a b (inr n) (inl q) same = odd-even y (record-odd y my) (subst (λ (k : ℕ). k % 2 ≡ 0) (same ∙ sym q) (names.even x a n).0)
+  with-apart x y mx my ne a b (inl p) (inr n) same = odd_even x (record-odd x mx) (subst (λ (k : ℕ). k % 2 ≡ 0) (sym (p ∙ same)) (names.even y b n).0)
+  with-apart x y mx my ne a b (inr n) (inl q) same = odd_even y (record-odd y my) (subst (λ (k : ℕ). k % 2 ≡ 0) (same ∙ sym q) (names.even x a n).0)
   with-apart x y mx my ne a b (inr n) (inr k) same = ne (names.by_one x y a n (subst (λ (o : ℕ). Among (old-names y) o) (sym same) k))
 
   replaced-apart : (entry : Option NewEntry) → next.entry ≡ entry → (r a b : ℕ) → Among records r → Among (r ∷ old-names r) a → Among (names_replaced old-names entry) b → a ≢ b
   replaced-apart None new r a b m first second same = second
-  replaced-apart (Some e) new r a b m (inl p) second same = odd-even r (record-odd r m) (subst (λ (k : ℕ). k % 2 ≡ 0) (sym (p ∙ same)) (names.even e.id b second).0)
+  replaced-apart (Some e) new r a b m (inl p) second same = odd_even r (record-odd r m) (subst (λ (k : ℕ). k % 2 ≡ 0) (sym (p ∙ same)) (names.even e.id b second).0)
   replaced-apart (Some e) new r a b m (inr n) second same =
       let one : r ≡ e.id = names.by_one r e.id a n (subst (λ (o : ℕ). Among (old-names e.id) o) (sym same) second) in
       new-stays e new (subst (λ (k : ℕ). GoesAt next old-place k) one (are.real r m))
@@ -301,7 +299,7 @@ module _ (catalog : Catalog) (next : Next) (records : List ℕ) (places : AreSou
   gone-once once = pairs-append (λ a b. a ≢ b) (flat_map (λ r. r ∷ old-names r) records) (names_replaced old-names next.entry)
       (pairs-flat_map (λ a b. a ≢ b) (λ r. r ∷ old-names r) records
       (each-from (λ r. Pairs (λ a b. a ≢ b) (r ∷ old-names r)) records (λ r m. (
-        each-from (λ (o : ℕ). r ≢ o) (old-names r) (λ o n same. odd-even r (record-odd r m) (subst (λ (k : ℕ). k % 2 ≡ 0) (sym same) (names.even r o n).0)),
+        each-from (λ (o : ℕ). r ≢ o) (old-names r) (λ o n same. odd_even r (record-odd r m) (subst (λ (k : ℕ). k % 2 ≡ 0) (sym same) (names.even r o n).0)),
         names.once r,
       )))
       (pairs-more (λ a b. a ≢ b) (λ x y. (a b : ℕ) → Among (x ∷ old-names x) a → Among (y ∷ old-names y) b → a ≢ b) records (λ x y mx my ne. with-apart x y mx my ne) once))
@@ -333,14 +331,14 @@ module _ (catalog : Catalog) (next : Next) (records : List ℕ) (places : AreSou
 
     not-going : (r o : ℕ) → Among (old-names r) o → (LosesNames next old-place r → ⊥) → Among gone-ids o → ⊥
     not-going r o n stays m = ⊎_elim
-        (λ w. odd-even o (goes-odd o w) (names.even r o n).0)
+        (λ w. odd_even o (goes-odd o w) (names.even r o n).0)
         (λ w. stays (subst (λ (k : ℕ). LosesNames next old-place k) (names.by_one w.0 r o w.2 n) w.1))
         (is-going next old-place old-names records are o m)
 
     record-not-going : (r o : ℕ) → Among (old-names r) o → (LosesNames next old-place r → ⊥) → Among gone-ids r → ⊥
     record-not-going r o n stays m = ⊎_elim
         (λ w. stays (inl w))
-        (λ w. odd-even r (names.records r o n).1 (names.even w.0 r w.2).0)
+        (λ w. odd_even r (names.records r o n).1 (names.even w.0 r w.2).0)
         (is-going next old-place old-names records are r m)
 
     module _ (table' : Table) (held-new : (e : NewEntry) → next.entry ≡ Some e → IsSome (table' e.id)) (held-larges : (e : NewEntry) (o : ℕ) → next.entry ≡ Some e → Among (large_ids e) o → IsSome (table' o))

@@ -1,5 +1,5 @@
 -- How many entries a soup has, by their places.
-use Rattle.std.proofs.Common.{◌≡◌, ℕ, ◌+◌, ◌==◌, ◌||◌, ◌<◌, ◌≤◌, Bool, true, false, cond, List, [], ◌∷◌, map as map_list, length, Option, Some, None, is_some, refl, sym, ◌∙◌, ap, arith, ◌⊎◌, inl, inr, ⊎_elim}
+use Rattle.std.proofs.Common.{◌≡◌, ℕ, ◌==◌, ◌||◌, ◌<◌, ◌≤◌, Bool, true, false, cond, List, [], ◌∷◌, map as map_list, length, Option, Some, None, is_some, refl, sym, ◌∙◌, ap, arith, ◌⊎◌, inl, inr, ⊎_elim}
 use Rattle.std.specs.List.{find, IsDistinct, AllByRecursion}
 use Rattle.std.specs.List.Sorted.{IsStrictlySortedBy}
 use Rattle.std.specs.Option.{option_and_then}
@@ -18,7 +18,7 @@ use Rattle.newt_laws_images.proofs.Assembled.{less-rise}
 use Rattle.newt_laws_images.proofs.Made.{map-length}
 use Rattle.newt_laws_images.proofs.Stores.{IsSoup, is-store, is-soup}
 use Rattle.newt_laws_changes.specs.Written.{Names}
-use Rattle.newt_laws_changes.proofs.Soups.{found-good}
+use Rattle.newt_laws_changes.proofs.Soups.{found-good, rising-length}
 use Rattle.newt_soupdir.specs.declared.rows.Directory.{Directory}
 use Rattle.newt_store.specs.Change.{uids_in}
 use Rattle.newt_catalog.specs.Stands.{Describes}
@@ -41,10 +41,6 @@ rising-distinct : (ns : List ℕ) → Pairs (λ m n. m < n) ns → IsDistinct sa
 unfolding IsDistinct
 rising-distinct [] h = tt
 rising-distinct (n ∷ ns) h = (later-other n ns h.0, rising-distinct ns h.1)
-
-rising-length : (low high : ℕ) (ns : List ℕ) → low ≤ high → rises low high ns ≡ true → low + length ns ≤ high
-rising-length low high [] fits h = omega arith
-rising-length low high (n ∷ ns) fits h = let more = rising-length (n + 1) high ns (grind arith) (grind arith) in let first : low ≤ n = grind arith in omega (arith, more, first)
 
 module _ (directory : Directory) (place : Places) (names : Names) (texts : Objects) (s : Store) (d : Describes directory place names texts s) where
   soup-good : (sig : ℕ) (p : Soup) → soup_of sig s ≡ Some p → IsSoup p

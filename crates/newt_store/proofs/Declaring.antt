@@ -11,31 +11,28 @@ use Rattle.newt_pagebook.proofs.Tests.{some_inj, the_some}
 use Rattle.newt_spec_graph.specs.Lists.{Each}
 use Rattle.newt_spec_graph.proofs.Lists.{each-from}
 use Rattle.newt_spec_store.specs.Cost.{cost, counted, part_bytes, soup_bytes, soup_pages}
-use Rattle.newt_spec_store.specs.Keys.{IndexSpec, Path, paths_of, same_paths}
-use Rattle.newt_spec_store.specs.Laid.{bare}
-use Rattle.newt_spec_store.specs.Store.{Soup, Store, TagTable, change_soup, soup_of, change_soup_of, with_index, without_index}
+use Rattle.newt_spec_store.specs.Keys.{IndexSpec, Path, paths_of, same_paths, has_paths}
+use Rattle.newt_spec_store.specs.Laid.{bare, bare_soup}
+use Rattle.newt_spec_store.specs.Store.{Soup, Store, TagTable, change_soup, soup_of, change_soup_of, with_index, without_index, with_tags}
 use Rattle.newt_spec_store.specs.Valid.{well_formed, valid_soup, valid_spec, valid_tags}
 use Rattle.newt_soupdir.specs.Bare.{bare_store}
-use Rattle.newt_soupdir.specs.Changes.{with_tags}
 use Rattle.newt_soupdir.specs.declared.rows.Directory.{Directory}
 use Rattle.newt_laws_images.proofs.Known.{bare-good}
-use Rattle.newt_laws_images.proofs.Records.{push-length}
-use Rattle.newt_laws_images.proofs.Stores.{is-soup, soup-is}
 use Rattle.newt_laws_changes.proofs.Bare.{change-map, bool-same}
 use Rattle.newt_laws_images.proofs.Chosen.{same-text, soup-there, found_by_name}
 use Rattle.newt_laws_changes.proofs.Costs.{costs-less, directory-length, soup-length, total-filter, total-first}
 use Rattle.newt_laws_changes.proofs.Members.{same-sig, same-name}
 use Rattle.newt_laws_changes.proofs.Replaced.{declared_lies}
-use Rattle.newt_laws_changes.proofs.Soups.{filter-all, filter-apart, filter-length, push-all, push-apart, with-soup}
+use Rattle.newt_laws_changes.proofs.Soups.{with-soup, with-index, without-index, with-tags}
 use Rattle.newt_shelf.specs.Names.{names_of}
 use Rattle.newt_shelf.specs.Places.{place_of}
 use Rattle.newt_catalog.specs.declared.catalog.Catalog.{Catalog}
 use Rattle.newt_store.specs.declared.change.Change.TheVariants.{AddIndex, DropIndex, SetTags}
 use Rattle.newt_store.specs.declared.next.Gone.TheVariants.{Nothing}
-use Rattle.newt_store.specs.Change.{first_checks, changed_soup, has_paths, specs_of}
+use Rattle.newt_store.specs.Change.{first_checks, changed_soup, specs_of}
 use Rattle.newt_store.specs.Next.{Turns, IsPlanOf}
 use Rattle.newt_catalog.specs.Stands.{Describes}
-use Rattle.newt_store.proofs.Found.{emptied, emptied-some, soup-same, soup-some}
+use Rattle.newt_store.proofs.Found.{emptied-some, soup-same, soup-some}
 use Rattle.newt_store.proofs.Planned.{first-holds, first-not, none-over, none-some, bare-bare}
 use Rattle.newt_store.proofs.Turning.{bytes-of, next-alone, others-alone, names-alone, lies-over, names-over, describes}
 
@@ -46,7 +43,7 @@ pub record Declares (f : Soup → Soup) : Type 0 where
   pub name : (q : Soup) → (f q).name ≡ q.name
   pub sig : (q : Soup) → (f q).sig ≡ q.sig
   pub entries : (q : Soup) → (f q).entries ≡ q.entries
-  pub bare : (q : Soup) → emptied (f q) ≡ f (emptied q)
+  pub bare : (q : Soup) → bare_soup (f q) ≡ f (bare_soup q)
 
 pub adds-index : (spec : IndexSpec) → Declares (with_index spec)
 adds-index spec = record { name = λ q. refl; sig = λ q. refl; entries = λ q. refl; bare = λ q. refl }
@@ -60,42 +57,9 @@ sets-tags tags = record { name = λ q. refl; sig = λ q. refl; entries = λ q. r
 -- ---- the soups stay valid
 
 pub valid-index : (spec : IndexSpec) (p : Soup) → valid_spec spec ≡ true → nat_le 16 (length p.specs) ≡ false → has_paths (paths_of spec) p.specs ≡ false → valid_soup p ≡ true → valid_soup (with_index spec p) ≡ true
-valid-index spec p fits few new h = let r = is-soup p h in soup-is (with_index spec p) (record {
-  named = r.named;
-  next = r.next;
-  uids = r.uids;
-  count = omega (arith, push-length p.specs spec, room (length p.specs) few);
-  specs_fit = push-all valid_spec p.specs spec r.specs_fit fits;
-  specs_apart = push-apart same_paths paths_of p.specs spec r.specs_apart new;
-  tags_fit = r.tags_fit;
-  entries_fit = r.entries_fit;
-}) where
+valid-index spec p fits few new h = with-index spec p h fits (room (length p.specs) few) new where
   room : (n : ℕ) → nat_le 16 n ≡ false → n < 16
   room n e = grind (arith, nat_tests, e)
-
-pub valid-dropped : (paths : List Path) (p : Soup) → valid_soup p ≡ true → valid_soup (without_index paths p) ≡ true
-valid-dropped paths p h = let r = is-soup p h in soup-is (without_index paths p) (record {
-  named = r.named;
-  next = r.next;
-  uids = r.uids;
-  count = omega (arith, filter-length (λ spec. not (same_paths (paths_of spec) paths)) p.specs, r.count);
-  specs_fit = filter-all valid_spec _ p.specs r.specs_fit;
-  specs_apart = filter-apart same_paths paths_of _ p.specs r.specs_apart;
-  tags_fit = r.tags_fit;
-  entries_fit = r.entries_fit;
-})
-
-pub valid-tagged : (tags : Option TagTable) (p : Soup) → valid_tags tags ≡ true → valid_soup p ≡ true → valid_soup (with_tags tags p) ≡ true
-valid-tagged tags p fits h = let r = is-soup p h in soup-is (with_tags tags p) (record {
-  named = r.named;
-  next = r.next;
-  uids = r.uids;
-  count = r.count;
-  specs_fit = r.specs_fit;
-  specs_apart = r.specs_apart;
-  tags_fit = fits;
-  entries_fit = r.entries_fit;
-})
 
 -- ---- the store without its entries
 
@@ -103,13 +67,13 @@ abbrev with-soups : Store → List Soup → Store
 with-soups s soups = record { name = s.name; sig = s.sig; next_soup = s.next_soup; soups = soups }
 
 module _ (s : Store) (sig : ℕ) (p : Soup) (w : IsTrue (well_formed s)) (found : soup_of sig s ≡ Some p) (f : Soup → Soup) (is : Declares f) where
-  tests-same : Each (λ (q : Soup). equal_text q.name p.name ≡ ((emptied q).sig == sig)) s.soups
+  tests-same : Each (λ (q : Soup). equal_text q.name p.name ≡ ((bare_soup q).sig == sig)) s.soups
   tests-same = each-from (λ (q : Soup). equal_text q.name p.name ≡ (q.sig == sig)) s.soups (λ q m. bool-same (equal_text q.name p.name) (q.sig == sig)
       (λ h. eq-eqb q.sig sig (ap (λ (r : Soup). r.sig) (same-name s sig p w found q m h) ∙ (soup-there sig s p found).0))
       (λ h. ap (λ (r : Soup). equal_text r.name p.name) (same-sig s sig p w found q m (eqb-true q.sig sig h)) ∙ same-text p.name))
 
   pub declared-bare : bare (change_soup p.name f s) ≡ change_soup_of sig f (bare s)
-  declared-bare = ap (with-soups s) (change-map emptied (λ q. equal_text q.name p.name) (λ q. q.sig == sig) f f s.soups tests-same is.bare)
+  declared-bare = ap (with-soups s) (change-map bare_soup (λ q. equal_text q.name p.name) (λ q. q.sig == sig) f f s.soups tests-same is.bare)
 
   pub declared-formed : (valid_soup p ≡ true → valid_soup (f p) ≡ true) → well_formed (change_soup p.name f s) ≡ true
   declared-formed good = with-soup p.name f s w is.name is.sig
@@ -182,7 +146,7 @@ module _ (catalog : Catalog) (texts : Objects) (s : Store) (d : Describes catalo
         accepted = first-not NoSoup (is_none (soup_of sig s)) [] (ap not (some-as ∙ some));
         answer = refl;
         turns = subst (λ (t : Store). Turns catalog (record { directory = dir; entry = None; gone = Nothing; answer = 0 }) s t) (ap (λ (o : Option Soup). changed_soup o (without_index paths) s) (sym w.1))
-            (turns-declared catalog s sig w.0 w.1 (without_index paths) (drops-index paths) (valid-dropped paths w.0) dir made);
+            (turns-declared catalog s sig w.0 w.1 (without_index paths) (drops-index paths) (without-index paths w.0) dir made);
         added = refl;
         removed = none-over _;
       }
@@ -200,7 +164,7 @@ module _ (catalog : Catalog) (texts : Objects) (s : Store) (d : Describes catalo
         accepted = first-not NoSoup (is_none (soup_of sig s)) [] (ap not (some-as ∙ some));
         answer = refl;
         turns = subst (λ (t : Store). Turns catalog (record { directory = dir; entry = None; gone = Nothing; answer = 0 }) s t) (ap (λ (o : Option Soup). changed_soup o (with_tags (Some table)) s) (sym w.1))
-            (turns-declared catalog s sig w.0 w.1 (with_tags (Some table)) (sets-tags (Some table)) (valid-tagged (Some table) w.0 fits) dir made);
+            (turns-declared catalog s sig w.0 w.1 (with_tags (Some table)) (sets-tags (Some table)) (with-tags (Some table) w.0 fits) dir made);
         added = refl;
         removed = none-over _;
       }
@@ -215,7 +179,7 @@ module _ (catalog : Catalog) (texts : Objects) (s : Store) (d : Describes catalo
     index-no-soup none = first-holds NoSoup (is_none (soup_of sig s)) (of-indexes (specs_of (soup_of sig s))) (ap not (some-as ∙ none))
 
     module _ (row : Soup) (there : soup_of sig (bare_store catalog.directory) ≡ Some row) where
-      the-soup : (p : Soup) × (soup_of sig s ≡ Some p) × (emptied p ≡ row)
+      the-soup : (p : Soup) × (soup_of sig s ≡ Some p) × (bare_soup p ≡ row)
       the-soup = emptied-some (soup_of sig s) row (sym (soup-same catalog.directory (place_of catalog.places) (names_of catalog.names) texts s d sig) ∙ there)
 
       same-specs : the-soup.0.specs ≡ row.specs

@@ -15,7 +15,7 @@ use Rattle.newt_objects.specs.Extents.{numbers_of}
 use Rattle.newt_objects.specs.Held.{Held, held}
 use Rattle.newt_spec_graph.specs.Lists.{Each, Pairs, Among}
 use Rattle.newt_spec_graph.proofs.Lists.{each-at, each-from, each-more, rises-pairs, pairs-map}
-use Rattle.newt_spec_store.specs.Cost.{directory_bytes, entry_pages, large_lengths, skeleton_length, directory_pages}
+use Rattle.newt_spec_store.specs.Cost.{directory_bytes, entry_pages, large_lengths, skeleton_length, directory_pages, pages_bytes}
 use Rattle.newt_spec_store.specs.Image.{entry_bytes, larges}
 use Rattle.newt_spec_store.specs.Laid.{Named}
 use Rattle.newt_spec_store.specs.Lies.{Places, IsIn, AreLarges, HasLarge}
@@ -285,6 +285,7 @@ module _ (told : Bool) (catalog : Catalog) (numbers : Numbers) (unit : ℕ) (out
       sum_by-append (pages_held catalog.objects) (flat_map (λ r. r ∷ names-now r) records) (names_replaced names-now next.entry)
       ∙ ap (λ (n : ℕ). n + all_pages_held catalog.objects (names_replaced names-now next.entry)) (flat-weights (pages_held catalog.objects) names-now records ∙ gone-pages next.gone records once are) in
       let over = over-replaced next t is turns in
-      (λ i. 9 + 516 * (dir i + new_pages next.entry) + 4 * (zero-pages i + over_pages catalog.objects next.entry + rest i)) ∙ turned (516 * (directory_pages t + new_pages next.entry)) (directory_pages s) _ _ _ _ over where
-        turned : (p z o n g r : ℕ) → o + n ≡ r → 9 + p + 4 * (z + o + (g + n)) ≡ 9 + p + 4 * (z + r + g)
-        turned p z o n g r same = omega (arith, same)
+      (λ i. pages_bytes (dir i + new_pages next.entry) (zero-pages i + over_pages catalog.objects next.entry + rest i))
+      ∙ ap (pages_bytes (directory_pages t + new_pages next.entry)) (turned (directory_pages s) _ _ _ _ over) where
+        turned : (z o n g r : ℕ) → o + n ≡ r → z + o + (g + n) ≡ z + r + g
+        turned z o n g r same = omega (arith, same)

@@ -29,7 +29,7 @@ use Rattle.newt_vbo.specs.Ranges.{parts_met}
 use Rattle.newt_spec_graph.proofs.Lists.{each-at, some-same, none-some}
 use Rattle.newt_spec_store.specs.Cost.{cost, large_lengths, patch_bytes}
 use Rattle.newt_spec_store.specs.Image.{larges, entry_bytes}
-use Rattle.newt_spec_store.specs.Laid.{bare, row_of, row_of_large, FitsRecord}
+use Rattle.newt_spec_store.specs.Laid.{bare, row_of, row_of_large, FitsRecord, bare_soup}
 use Rattle.newt_spec_store.specs.Lies.{AreLarges, HasLarge, only, is_record, record_read}
 use Rattle.newt_spec_store.specs.OfImage.{blocks_of}
 use Rattle.newt_spec_store.specs.Store.{Soup, Store, Entry, entry_of, soup_named, change_soup, change_entry, soup_of, entry_at}
@@ -298,12 +298,9 @@ zip-at (a ∷ xs) [] k x y h g = absurd (none-some y g)
 zip-at (a ∷ xs) (b ∷ ys) zero x y h g = λ i. Some (some-same a x h i, some-same b y g i)
 zip-at (a ∷ xs) (b ∷ ys) (suc k) x y h g = zip-at xs ys k x y h g
 
-abbrev emptied : Soup → Soup
-emptied p = record p { entries = [] }
-
 entry-bare : (name : List ℕ) (uid : ℕ) (change : Entry → Entry) (s : Store) → bare (change_soup name (change_entry uid change) s) ≡ bare s
 entry-bare name uid change s = ap (λ (soups : List Soup). let t : Store = record { name = s.name; sig = s.sig; next_soup = s.next_soup; soups = soups } in t)
-    (first-map emptied (λ p. equal_text p.name name) (change_entry uid change) s.soups (λ p. refl))
+    (first-map bare_soup (λ p. equal_text p.name name) (change_entry uid change) s.soups (λ p. refl))
 
 -- the pages of a large binary are some of its entry's
 some-pages : (ls : List (ℕ × List ℕ)) (k : ℕ) (l : ℕ × List ℕ) → slice_get ls k ≡ Some l → pages_for (length l.1) ≤ sum (map_list pages_for (map_list (λ (l : ℕ × List ℕ). length l.1) ls))

@@ -7,9 +7,9 @@ use Rattle.newt_base.specs.Refusals.{Checks, first_of}
 use Rattle.newt_base.specs.declared.Refusal.{Refusal}
 use Rattle.newt_base.specs.declared.Refusal.TheVariants.{Soup as NoSoup, Exists, Entry as NoEntry, Limit, Ids}
 use Rattle.newt_image.specs.Objects.{Objects}
-use Rattle.newt_pagebook.proofs.Tests.{the_some}
+use Rattle.newt_pagebook.proofs.Tests.{the_some, none_is}
 use Rattle.newt_spec_store.specs.Store.{Soup, Store, Entry, soup_named, make_soup, drop_soup, remove_entry, soup_of, without_soup, entry_at}
-use Rattle.newt_spec_store.specs.Laid.{bare}
+use Rattle.newt_spec_store.specs.Laid.{bare, bare_soup as emptied}
 use Rattle.newt_spec_store.specs.Valid.{well_formed}
 use Rattle.newt_soupdir.specs.Bare.{bare_soup, bare_store}
 use Rattle.newt_soupdir.specs.declared.rows.Directory.{Directory}
@@ -52,7 +52,7 @@ pub seen-some : {A B : Type 0} (f : A → B) (o : Option A) (q : Option B) → o
 seen-some f None q e = ap is_some (sym e)
 seen-some f (Some x) q e = ap is_some (sym e)
 
-bare-rows : (rows : List SoupRow) → map (λ (p : Soup). let q : Soup = record p { entries = [] } in q) (map bare_soup rows) ≡ map bare_soup rows
+bare-rows : (rows : List SoupRow) → map emptied (map bare_soup rows) ≡ map bare_soup rows
 bare-rows [] = refl
 bare-rows (row ∷ rows) = ap (λ (l : List Soup). bare_soup row ∷ l) (bare-rows rows)
 
@@ -134,10 +134,6 @@ remove-planned catalog texts s sig uid now dir d some placed same =
 
 -- ---- a soup more
 
-none-of : {A : Type 0} (o : Option A) → is_some o ≡ false → o ≡ None
-none-of None e = refl
-none-of (Some x) e = absurd (cc)
-
 pub make-exists : (catalog : Catalog) (texts : Objects) (s : Store) (name : List ℕ) → Describes catalog.directory (place_of catalog.places) (names_of catalog.names) texts s → is_some (soup_named name (bare_store catalog.directory)) ≡ true
     → first_of (first_checks (MakeSoup name) s) ≡ Some Exists
 make-exists catalog texts s name d some = first-holds Exists (is_some (soup_named name s)) ((Limit, nat_le 64 (length s.soups)) ∷ (Ids, s.next_soup == 65_535) ∷ []) (named-some catalog.directory (place_of catalog.places) (names_of catalog.names) texts s d name ∙ some)
@@ -169,7 +165,7 @@ pub make-planned : (catalog : Catalog) (texts : Objects) (s : Store) (name : Lis
     → IsPlanOf catalog (MakeSoup name) now s (record { directory = dir; entry = None; gone = Nothing; answer = a })
 make-planned catalog texts s name now a dir d good none few last made answer =
     let p = place_of catalog.places in
-    let new : soup_named name s ≡ None = none-of (soup_named name s) (named-some catalog.directory p (names_of catalog.names) texts s d name ∙ none) in
+    let new : soup_named name s ≡ None = none_is (soup_named name s) (named-some catalog.directory p (names_of catalog.names) texts s d name ∙ none) in
     let room : length s.soups < 64 = few-soups (length s.soups) (ap (nat_le 64) (as-many catalog.directory p (names_of catalog.names) texts s d) ∙ few) in
     let next : s.next_soup ≢ 65535 = λ is. last (sym (next-same catalog.directory p (names_of catalog.names) texts s d) ∙ is) in
     record {
@@ -185,7 +181,7 @@ make-planned catalog texts s name now a dir d good none few last made answer =
 pub formed-made : (d e : Directory) (name : List ℕ) → well_formed (bare_store d) ≡ true → IsTrue (is_name name) → is_some (soup_named name (bare_store d)) ≡ false → nat_le 64 (length d.soups) ≡ false → d.next_soup ≢ 65535
     → bare_store e ≡ make_soup name (bare_store d) → well_formed (bare_store e) ≡ true
 formed-made d e name formed good none few last is =
-    ap well_formed is ∙ made_formed name (bare_store d) formed good (none-of (soup_named name (bare_store d)) none)
+    ap well_formed is ∙ made_formed name (bare_store d) formed good (none_is (soup_named name (bare_store d)) none)
     (subst (λ (n : ℕ). n < 64) (sym (map-length bare_soup d.soups)) (few-soups (length d.soups) few)) (below-last (bare_store d) formed last)
 
 pub made-is : (d copy e : Directory) (name given : List ℕ) → bare_store e ≡ make_soup given (bare_store copy) → given ≡ name → copy ≡ d → bare_store e ≡ make_soup name (bare_store d)

@@ -15,7 +15,7 @@ use Rattle.newt_spec_graph.specs.Graph.{is_frame, object}
 use Rattle.newt_spec_graph.specs.Lists.{Among}
 use Rattle.newt_spec_store.specs.Cost.{entry_pages}
 use Rattle.newt_spec_store.specs.Image.{entry_bytes}
-use Rattle.newt_spec_store.specs.Laid.{bare}
+use Rattle.newt_spec_store.specs.Laid.{bare, bare_soup}
 use Rattle.newt_spec_store.specs.Lies.{Places}
 use Rattle.newt_spec_store.specs.Store.{Soup, Store, Entry, entry_of, change_soup, change_entry, soup_of, entry_at, with_graph}
 use Rattle.newt_spec_store.specs.Valid.{well_formed, valid_entry}
@@ -50,12 +50,9 @@ use Rattle.newt_store.proofs.Turning.{bytes-of, describes, is-named, named-is, l
 abbrev pub replaced : List ℕ → ℕ → ℕ → RawGraph → Store → Store
 replaced name uid now g s = change_soup name (change_entry uid (with_graph now g)) s
 
-abbrev emptied : Soup → Soup
-emptied p = record p { entries = [] }
-
 replaced-bare : (name : List ℕ) (uid now : ℕ) (g : RawGraph) (s : Store) → bare (replaced name uid now g s) ≡ bare s
 replaced-bare name uid now g s = ap (λ (soups : List Soup). let t : Store = record { name = s.name; sig = s.sig; next_soup = s.next_soup; soups = soups } in t)
-    (first-map emptied (λ p. equal_text p.name name) (change_entry uid (with_graph now g)) s.soups (λ p. refl))
+    (first-map bare_soup (λ p. equal_text p.name name) (change_entry uid (with_graph now g)) s.soups (λ p. refl))
 
 replaced-formed : (name : List ℕ) (uid now : ℕ) (g : RawGraph) (s : Store) → well_formed s ≡ true → valid_entry (record { uid = uid; time = now; graph = g }) ≡ true → well_formed (replaced name uid now g s) ≡ true
 replaced-formed name uid now g s formed valid = with-soup name (change_entry uid (with_graph now g)) s formed (λ p. refl) (λ p. refl)

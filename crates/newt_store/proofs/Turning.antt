@@ -11,7 +11,7 @@ use Rattle.newt_spec_graph.specs.Lists.{Among}
 use Rattle.newt_spec_graph.proofs.Lists.{none-some}
 use Rattle.newt_spec_store.specs.Store.{Soup, Store, soup_named, change_soup, make_soup, drop_soup, remove_entry, soup_of, without_soup}
 use Rattle.newt_spec_store.specs.Cost.{directory_bytes, soup_bytes, text_bytes}
-use Rattle.newt_spec_store.specs.Laid.{bare}
+use Rattle.newt_spec_store.specs.Laid.{bare, bare_soup}
 use Rattle.newt_spec_store.specs.Lies.{Places, LiesIn}
 use Rattle.newt_spec_store.specs.Valid.{well_formed}
 use Rattle.newt_soupdir.specs.Bare.{bare_store}
@@ -30,13 +30,13 @@ use Rattle.newt_store.specs.Next.{IsGoing, LosesNames, AreNext, AreNamesNext, Tu
 use Rattle.newt_catalog.specs.Stands.{Describes}
 
 -- the bytes of a directory are those of the store without its entries
-each-soup : (soups : List Soup) → flat_map soup_bytes (map_list (λ (p : Soup). let q : Soup = record p { entries = [] } in q) soups) ≡ flat_map soup_bytes soups
+each-soup : (soups : List Soup) → flat_map soup_bytes (map_list bare_soup soups) ≡ flat_map soup_bytes soups
 each-soup [] = refl
 each-soup (p ∷ soups) = ap (λ (l : List ℕ). soup_bytes p ++ l) (each-soup soups)
 
 bytes-bare : (s : Store) → directory_bytes (bare s) ≡ directory_bytes s
 bytes-bare s = λ i. text_bytes s.name ++ be32 s.sig ++ be16 s.next_soup
-    ++ (map-length (λ (p : Soup). let q : Soup = record p { entries = [] } in q) s.soups i ∷ each-soup s.soups i)
+    ++ (map-length bare_soup s.soups i ∷ each-soup s.soups i)
 
 pub bytes-of : (directory : Directory) (s : Store) → bare s ≡ bare_store directory → directory_bytes (bare_store directory) ≡ directory_bytes s
 bytes-of directory s is = ap directory_bytes (sym is) ∙ bytes-bare s

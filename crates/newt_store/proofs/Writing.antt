@@ -1,5 +1,5 @@
 -- What a change writes, from what is planned of it.
-use Rattle.std.proofs.Common.{◌≡◌, ◌≢◌, inl, inr, ℕ, ◌+◌, ◌*◌, Bool, List, [], ◌∷◌, map as map_list, length, Option, Some, None, IsSome, Result, Err, refl, sym, ◌∙◌, ap, subst, arith, ⊎_elim}
+use Rattle.std.proofs.Common.{◌≡◌, ◌≢◌, inl, inr, ℕ, ◌+◌, Bool, List, [], ◌∷◌, map as map_list, length, Option, Some, None, IsSome, Result, Err, refl, sym, ◌∙◌, ap, subst, arith, ⊎_elim}
 use Rattle.std.specs.FinMap as map
 use Rattle.std.specs.Option.{option_map}
 use Rattle.std.proofs.lemmas.Bool.{cases_eq}
@@ -8,7 +8,7 @@ use Rattle.newt_base.specs.declared.Refusal.TheVariants.{Full}
 use Rattle.newt_host.specs.Moments.{Moment, image, IsDurable, Leaves}
 use Rattle.newt_host.specs.Outside.{Outside, Spends}
 use Rattle.newt_host.proofs.Outside.{Spends-refl, Spends-widen}
-use Rattle.newt_spec_store.specs.Cost.{directory_bytes}
+use Rattle.newt_spec_store.specs.Cost.{directory_bytes, pages_bytes}
 use Rattle.newt_soupdir.specs.Bare.{bare_store}
 use Rattle.newt_host.proofs.Moments.{Leaves-start, Leaves-weaken}
 use Rattle.newt_image.specs.Pages.{Pages, Change}
@@ -152,4 +152,4 @@ bytes-planned next objects gone bytes first batch none is adds =
     let b : length first.deletes ≡ 0 = ap (λ (c : Change). length c.deletes) none in
     let p : length batch.puts ≡ pages_for (length (directory_bytes (bare_store next.directory))) + new_pages next.entry = in-all _ _ _ _ _ _ adds.more_puts a (ap (λ (l : List ℕ). pages_for (length l)) is) refl in
     let q : length batch.deletes ≡ pages_held objects 0 + over_pages objects next.entry + all_pages_held objects gone = in-all _ _ _ _ _ _ adds.more_deletes b refl refl in
-    λ i. 9 + 516 * p i + 4 * q i
+    λ i. pages_bytes (p i) (q i)

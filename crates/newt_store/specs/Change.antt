@@ -1,21 +1,19 @@
 -- What each change does to a plain store, and what it is refused for. Soups are named by their signatures. What the changes do to stores, soups and entries
 -- is Newton's (Newton Programmer's Guide 2.0); the refusals and their order are this project's own.
-use Rattle.std.specs.Prelude.{ℕ, ◌+◌, ◌*◌, Bool, true, false, cond, not, ◌==◌, ◌||◌, nat_lt, nat_le, List, [], ◌∷◌, ◌++◌, map, length, slice_get, Option, Some, None, is_some, is_none, unwrap_or, option_map, option_and_then}
-use Rattle.std.specs.List.{list_any}
+use Rattle.std.specs.Prelude.{ℕ, ◌+◌, Bool, true, false, cond, not, ◌==◌, ◌||◌, nat_lt, nat_le, List, [], ◌∷◌, ◌++◌, map, length, slice_get, Option, Some, None, is_some, is_none, unwrap_or, option_map, option_and_then}
 use Rattle.newt_base.specs.declared.Refusal.{Refusal}
 use Rattle.newt_base.specs.declared.Refusal.TheVariants.{Soup as NoSoup, Exists, Entry as NoEntry, Notframe, Limit, Size, Ids, Full, Range, Path as NoPath, Index as BadIndex}
 use Rattle.newt_base.specs.Refusals.{Checks, first_of}
 use Rattle.newt_image.specs.Pages.{cap}
 use Rattle.newt_graph.specs.Graph.{RawGraph}
 use Rattle.newt_spec_graph.specs.Graph.{is_frame, object}
-use Rattle.newt_spec_store.specs.Store.{Entry, Soup, Store, soup_named, change_soup, change_entry, make_soup, drop_soup, add_entry, remove_entry, soup_of, entry_at, next_uid_of, with_graph, with_index, without_index}
-use Rattle.newt_spec_store.specs.Cost.{cost, directory_pages, skeleton_length, entry_pages, soup_pages, patch_bytes}
+use Rattle.newt_spec_store.specs.Store.{Entry, Soup, Store, soup_named, change_soup, change_entry, make_soup, drop_soup, add_entry, remove_entry, soup_of, entry_at, next_uid_of, with_graph, with_index, without_index, with_tags}
+use Rattle.newt_spec_store.specs.Cost.{cost, directory_pages, skeleton_length, entry_pages, soup_pages, patch_bytes, pages_bytes}
 use Rattle.newt_spec_store.specs.StoreOf.{fill}
 use Rattle.newt_host.specs.Moments.{overwritten}
 use Rattle.newt_graph.specs.declared.node.Node.{Node}
 use Rattle.newt_graph.specs.declared.node.Node.TheVariants.{Large}
-use Rattle.newt_spec_store.specs.Keys.{IndexSpec, Path, paths_of, same_paths}
-use Rattle.newt_soupdir.specs.Changes.{with_tags}
+use Rattle.newt_spec_store.specs.Keys.{IndexSpec, paths_of, has_paths}
 use Rattle.newt_store.specs.declared.change.Change.{Change}
 use Rattle.newt_store.specs.declared.change.Change.TheVariants.{MakeSoup, DropSoup, Add, Remove, Move, Replace, Patch, AddIndex, DropIndex, SetTags}
 
@@ -101,10 +99,6 @@ ends_behind at count (Some bytes) = nat_lt (length bytes) (at + count)
 abbrev pub specs_of : Option Soup → List IndexSpec
 specs_of None = []
 specs_of (Some p) = p.specs
-
--- one of the indexes has these paths
-abbrev pub has_paths : List Path → List IndexSpec → Bool
-has_paths paths specs = list_any (λ spec. same_paths (paths_of spec) paths) specs
 
 -- all refusals but the last one, that the unit is full
 abbrev pub first_checks : Change → Store → Checks
@@ -193,10 +187,10 @@ pages_put change now s = directory_pages (changed_by change now s) + pages_of_en
 abbrev pub pages_gone : Change → Store → ℕ
 pages_gone change s = directory_pages s + pages_removed change s
 
--- The bytes of a batch: 516 for each page that it writes, 4 for each that it lets go, and 9 beside them. A patch writes one page more than its bytes fill.
+-- the bytes of the batch of a change
 abbrev pub bytes_of : Change → ℕ → Store → ℕ
 bytes_of (Patch sig uid node at bytes) now s = patch_bytes (length bytes)
-bytes_of change now s = 516 * pages_put change now s + 4 * pages_gone change s + 9
+bytes_of change now s = pages_bytes (pages_put change now s) (pages_gone change s)
 
 -- the most bytes that a change programs: none where it is refused, else those of its batch
 unfoldable pub most_bytes : Change → ℕ → ℕ → Store → ℕ

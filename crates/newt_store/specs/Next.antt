@@ -1,10 +1,10 @@
 -- What a change makes of a store, before it is written.
-use Rattle.std.specs.Prelude.{◌≡◌, ◌≢◌, ◌⊎◌, ℕ, ◌+◌, ◌*◌, ◌<◌, ◌≤◌, IsTrue, List, [], ◌∷◌, ◌++◌, length, flat_map, map as map_list, Option, Some, None}
+use Rattle.std.specs.Prelude.{◌≡◌, ◌≢◌, ◌⊎◌, ℕ, ◌+◌, ◌<◌, ◌≤◌, IsTrue, List, [], ◌∷◌, ◌++◌, length, flat_map, map as map_list, Option, Some, None}
 use Rattle.std.specs.FinMap as map
 use Rattle.newt_image.specs.Objects.{Objects}
 use Rattle.newt_spec_store.specs.Store.{Store, take_uid_of, soup_of, entry_at}
 use Rattle.newt_image.specs.Pages.{cap}
-use Rattle.newt_spec_store.specs.Cost.{cost, directory_bytes, directory_pages}
+use Rattle.newt_spec_store.specs.Cost.{cost, directory_bytes, directory_pages, pages_bytes}
 use Rattle.newt_spec_store.specs.Laid.{bare}
 use Rattle.newt_spec_store.specs.OfImage.{blocks_of}
 use Rattle.newt_spec_store.specs.Lies.{Places}
@@ -121,14 +121,15 @@ abbrev pub replaced_pages : Option NewEntry → Store → ℕ
 replaced_pages None s = 0
 replaced_pages (Some e) s = pages_of_entry (entry_at e.sig e.uid s)
 
--- the bytes of the batch that is written, and its record: 516 for each page of the directory and of the new entry's record, 4 for each page of the
--- directory before, of the object that the record is put over, and of the objects that go
+-- the bytes of the batch that is written: it puts the pages of the directory and of the new entry's record, and lets go those of the directory before, of the
+-- object that the record is put over, and of the objects that go
 unfoldable pub next_bytes : Next → Held → List ℕ → ℕ
-next_bytes next objects gone = 9 + 516 * (directory_pages (bare_store next.directory) + new_pages next.entry) + 4 * (pages_held objects 0 + over_pages objects next.entry + all_pages_held objects gone)
+next_bytes next objects gone =
+    pages_bytes (directory_pages (bare_store next.directory) + new_pages next.entry) (pages_held objects 0 + over_pages objects next.entry + all_pages_held objects gone)
 
 -- the same, where one store becomes another
 unfoldable pub turn_bytes : Next → Store → Store → ℕ
-turn_bytes next s t = 9 + 516 * (directory_pages t + new_pages next.entry) + 4 * (directory_pages s + replaced_pages next.entry s + goes_pages next.gone s)
+turn_bytes next s t = pages_bytes (directory_pages t + new_pages next.entry) (directory_pages s + replaced_pages next.entry s + goes_pages next.gone s)
 
 -- What a change makes of a store: it is not refused but perhaps for a full unit, it has the change's answer, it leads to the
 -- changed store, and as many pages come and go.

@@ -1,12 +1,11 @@
 // What each change of a soup's declarations makes of a store, or why it is refused.
 ghost use Rattle.std.specs.Prelude.{IsTrue, ◌≡◌, ℕ, Some, nat_le, length, IfOk, IfErr};
-ghost use Rattle.std.specs.List.{list_any};
 ghost use Rattle.newt_base.specs.Refusals.{first_of};
 ghost use Rattle.newt_image.specs.Objects.{Objects};
 ghost use Rattle.newt_shelf.specs.Places.{place_of};
 ghost use Rattle.newt_shelf.specs.Names.{names_of};
 ghost use Rattle.newt_soupdir.specs.Bare.{bare_store};
-ghost use Rattle.newt_spec_store.specs.Keys.{paths_of, same_paths};
+ghost use Rattle.newt_spec_store.specs.Keys.{has_paths, paths_of};
 ghost use Rattle.newt_spec_store.specs.Store.{Store as PlainStore};
 ghost use Rattle.newt_spec_store.specs.Valid.{well_formed, valid_spec};
 ghost use Rattle.newt_store.specs.Change.{first_checks};
@@ -28,7 +27,7 @@ const MOST_INDEXES: usize = 16;
 
 // Whether one of the indexes has the paths of the declaration, in this order and but for ASCII case.
 fn has_paths_of(specs: &[IndexSpec], spec: &IndexSpec) -> bool
-    ensures has { result ≡ list_any (λ other. same_paths (paths_of other) (paths_of spec.now)) specs.now }
+    ensures has { result ≡ has_paths (paths_of spec.now) specs.now }
     ensures valid { IsTrue (valid_spec spec.now) }
 {
     let _parts = spec.list();

@@ -47,14 +47,17 @@ const MOST_TEXT: u64 = 64_000;
 /// How many odd ids there are, and how many even ones.
 const HALF_IDS: u32 = 2_147_483_648;
 
-// The least odd id that no object has, from `2 * from + 1` on.
-fn free_from(objects: &Objects, from: u32) -> Option<u32>
+// The least id that no object has of the odd ids (`parity` 1) or the even ones (0), from `2 * from + parity` on.
+fn free_from(objects: &Objects, from: u32, parity: u32) -> Option<u32>
+    requires parity { parity < 2 }
     ensures free { IfSome result (λ id. held objects.now id ≡ None) }
-    ensures odd { IfSome result (λ id. id % 2 ≡ 1) }
-    ensures least { (half : ℕ) → from ≤ half → half < 2147483648 → held objects.now (2 * half + 1) ≡ None → IsSome result × IfSome result (λ id. id ≤ 2 * half + 1) }
+    ensures parity { IfSome result (λ id. id % 2 ≡ parity) }
+    ensures from { IfSome result (λ id. 2 * from + parity ≤ id) }
+    ensures fits { IfSome result (λ id. id < 4294967296) }
+    ensures least { (half : ℕ) → from ≤ half → half < 2147483648 → held objects.now (2 * half + parity) ≡ None → IsSome result × IfSome result (λ id. id ≤ 2 * half + parity) }
 {
     for half in from..HALF_IDS {
-        let id = 2 * half + 1;
+        let id = 2 * half + parity;
         if objects.length(id).is_none() {
             return Some(id);
         }
@@ -68,9 +71,9 @@ fn free_id(objects: &Objects, hint: u32) -> Option<u32>
     ensures odd { IfSome result (λ id. id % 2 ≡ 1) }
     ensures none { (half : ℕ) → half < 2147483648 → held objects.now (2 * half + 1) ≡ None → IsSome result }
 {
-    match free_from(objects, hint) {
+    match free_from(objects, hint, 1) {
         Some(id) => Some(id),
-        None => free_from(objects, 0),
+        None => free_from(objects, 0, 1),
     }
 }
 
@@ -99,13 +102,7 @@ fn free_even(objects: &Objects, from: u32) -> Option<u32>
     ensures fits { IfSome result (λ id. id < 4294967296) }
     ensures least { (half : ℕ) → from < 2 * half → half < 2147483648 → held objects.now (2 * half) ≡ None → IsSome result × IfSome result (λ id. id ≤ 2 * half) }
 {
-    for half in from / 2 + 1..HALF_IDS {
-        let id = 2 * half;
-        if objects.length(id).is_none() {
-            return Some(id);
-        }
-    }
-    None
+    free_from(objects, from / 2 + 1, 0)
 }
 
 // Large binaries, each with an even id that no object has, in rising order.

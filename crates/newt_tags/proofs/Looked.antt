@@ -22,7 +22,7 @@ pub named_slot : {Y : Type 0} (names : List Y) (f : Y → List ℕ) (o : Option 
 named_slot names f o name e = sym (any_mapped (same_name name) f names) ∙ ap (if_given (λ tag. list_any (same_name tag) (map f names))) e
 
 -- the name of a node that is a symbol
-abbrev name_of : Option Node → Option (List ℕ)
+abbrev pub name_of : Option Node → Option (List ℕ)
 name_of o = elim o [ Some (Symbol name) ↦ Some name | _ ↦ None ]
 
 one_named : (name : List ℕ) (o : Option Node) (rest : List (List ℕ)) → is_among (cons_option (name_of o) rest) name ≡ (is_named name o || is_among rest name)

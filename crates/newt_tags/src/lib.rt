@@ -13,7 +13,7 @@ mod symbols;
 mod table;
 
 pub use laws::a_mask_means_the_tags;
-pub use names::Names;
+pub use names::{Names, are_names_apart};
 pub use read::TagFault;
 pub use slots::{given_slot, has_only_slots};
 pub use spec::TagSpec;

@@ -1,5 +1,7 @@
 //! Lists of symbols' names.
 ghost use Rattle.std.specs.Prelude.{◌≡◌, IfOk};
+ghost use Rattle.newt_base.specs.Names.{same_name};
+ghost use Rattle.newt_spec_graph.specs.Lists.{all_apart};
 ghost use Rattle.newt_spec_query.specs.Tags.{is_among};
 
 use newt_graph::Bytes;
@@ -52,6 +54,20 @@ impl Names {
         }
         Ok(Names { items })
     }
+}
+
+/// Whether no two names are one but for ASCII case. It takes no memory.
+pub fn are_names_apart(names: &[Bytes]) -> bool
+    ensures { result ≡ all_apart same_name names.now }
+{
+    let mut left = names;
+    while let [name, rest @ ..] = left {
+        if is_among(rest, name.list()) {
+            return false;
+        }
+        left = rest;
+    }
+    true
 }
 
 /// Whether the name is one of these but for ASCII case.

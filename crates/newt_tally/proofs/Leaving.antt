@@ -5,22 +5,19 @@ use Rattle.std.proofs.lemmas.Bool.{cases_lt}
 use Rattle.newt_attach.specs.Named.{AreAttached, if_known}
 use Rattle.newt_attach.proofs.Since.{since_attached}
 use Rattle.newt_host.specs.Meanings.{held, left_since, since}
-use Rattle.newt_host.specs.Moments.{Attached, Change, IsHistory, LeftBy, MayLeave, Moment, Always, here, later, changes, moment_at, output as printed}
+use Rattle.newt_host.specs.Moments.{Attached, Change, IsHistory, LeftBy, MayLeave, Moment, Always, changes, moment_at, output as printed}
 use Rattle.newt_host.specs.Outside.{Outside}
 use Rattle.newt_host.proofs.Extending.{extends-always}
 use Rattle.newt_host.proofs.Histories.{untouched-attached}
 use Rattle.newt_host.proofs.Since.{Always-at}
 use Rattle.newt_session.specs.Moments.{world_at}
 use Rattle.newt_session.specs.Script.{Answers}
+use Rattle.newt_session.proofs.Beginning.{always_first}
 use Rattle.newt_session.proofs.Crashing.{left_same}
 use Rattle.newt_spec_script.specs.Script.{Item}
 use Rattle.newt_spec_store.specs.Store.{Store}
 use Rattle.newt_spec_world.specs.World.{World, store_on_unit}
 use Rattle.newt_tally.specs.Moments.{CountedAt, HasLeftCounted}
-
-always_first : {Q : Moment → Type 0} {old now : Moment} → Always Q old now → Q old
-always_first (here q) = q
-always_first (later event now before q) = always_first before
 
 module _ (names : List (List ℕ)) (old mid new : Outside) (a : AreAttached true names old mid) where
   -- at some moment a crash might have left this on the unit, which was attached with these bytes, while that was the output

@@ -72,7 +72,8 @@ length_fold : {X : Type 0} (cmp : X → X → Ordering) (ys xs : List X) → len
 length_fold cmp ys [] = omega arith
 length_fold cmp ys (x ∷ xs) = let h = length_fold cmp (insert_by cmp ys x) xs in let k = length_insert cmp ys x in omega (arith, h, k)
 
-length_sorted : {X : Type 0} (cmp : X → X → Ordering) (xs : List X) → length (sorted_by cmp xs) ≡ length xs
+-- a list in order is as long as before
+pub length_sorted : {X : Type 0} (cmp : X → X → Ordering) (xs : List X) → length (sorted_by cmp xs) ≡ length xs
 length_sorted cmp xs = let h = length_fold cmp [] xs in omega (arith, h)
 
 sum_from : (n : ℕ) (items : List Member)

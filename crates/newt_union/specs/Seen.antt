@@ -1,7 +1,6 @@
--- How the hits, members and spots of the code are seen as those of the definition.
+-- How the hits and members of the code are seen as those of the definition.
 use Rattle.std.specs.Prelude.{List, All}
 use Rattle.newt_spec_query.specs.Hits as spec
-use Rattle.newt_index.specs.declared.identity.Spot.{Spot}
 use Rattle.newt_spec_store.specs.Keys.{Key}
 use Rattle.newt_keys.specs.KeyForm.{IsKeyOf}
 use Rattle.newt_index.specs.Pairs.{parts_of, IsSorted}
@@ -16,10 +15,6 @@ shown h = record { key = h.key.now; store = h.store; soup = h.soup; uid = h.uid 
 -- a member that lends its range (a word of these definitions)
 abbrev pub seen : Member → merged.Member
 seen m = record { store = m.store; soup = m.soup; range = m.index.now }
-
--- a spot as a hit (a word of these definitions)
-abbrev pub spot_hit : Spot → spec.Hit
-spot_hit s = record { key = s.key; store = s.store; soup = s.soup; uid = s.uid }
 
 -- each range is in order (a word of these definitions)
 abbrev pub AreSorted : List merged.Member → Type 0

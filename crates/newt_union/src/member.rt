@@ -6,10 +6,11 @@ ghost use Rattle.newt_keys.specs.KeyForm.{IsKeyOf};
 ghost use Rattle.newt_index.specs.Pairs.{parts_of};
 ghost use Rattle.newt_index.specs.Kept.{IsProbeOf};
 ghost use Rattle.newt_index.specs.Kept as kept;
+ghost use Rattle.newt_index.specs.Spots.{spot_hit};
 ghost use Rattle.newt_union.specs.Merged as merged;
 ghost use Rattle.newt_union.specs.Candidates.{side, first_in, last_in, after_in, before_in, at_or_after_in, lesser, greater};
 ghost use Rattle.newt_union.specs.Candidates as candidates;
-ghost use Rattle.newt_union.specs.Seen.{shown, seen, spot_hit};
+ghost use Rattle.newt_union.specs.Seen.{shown, seen};
 
 use crate::hit::Hit;
 use newt_base::{Sig, Uid};

@@ -2,9 +2,10 @@
 ghost use Rattle.std.specs.Prelude.{◌≡◌, ◌++◌, ◌∷◌, ◌^◌, ◌-◌, [], IfOk, IfErr, length, min, option_map};
 ghost use Rattle.newt_spec_store.specs.Keys.{IndexSpec};
 ghost use Rattle.newt_index.specs.Pairs.{first, last};
+ghost use Rattle.newt_index.specs.Spots.{spot_hit};
 ghost use Rattle.newt_union.specs.Merged.{merged, AllAgree, IsKeyIn};
 ghost use Rattle.newt_union.specs.Merged as of;
-ghost use Rattle.newt_union.specs.Seen.{shown, spot_hit};
+ghost use Rattle.newt_union.specs.Seen.{shown};
 
 use crate::hit::Hit;
 use crate::member::Member;

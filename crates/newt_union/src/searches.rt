@@ -1,8 +1,9 @@
 //! The best of what the members have to offer.
 ghost use Rattle.std.specs.Prelude.{◌≡◌, ◌-◌, ◌^◌, None, IfOk, fold, length, map, min, option_map};
 ghost use Rattle.std.specs.List.{sum_by};
+ghost use Rattle.newt_index.specs.Spots.{spot_hit};
 ghost use Rattle.newt_union.specs.Candidates.{first_in, last_in, after_in, before_in, at_or_after_in, with_lesser, with_greater};
-ghost use Rattle.newt_union.specs.Seen.{shown, seen, spot_hit, HaveKey};
+ghost use Rattle.newt_union.specs.Seen.{shown, seen, HaveKey};
 
 use crate::hit::Hit;
 use crate::member::Member;

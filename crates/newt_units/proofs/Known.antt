@@ -9,7 +9,7 @@ use Rattle.newt_base.specs.declared.Refusal.TheVariants.{Unit as NoUnit, Blocks,
 use Rattle.newt_host.specs.Moments.{image, IsDurable}
 use Rattle.newt_host.specs.Outside.{Outside}
 use Rattle.newt_spec_graph.proofs.Lists.{some-same, none-some, both-ways}
-use Rattle.newt_spec_store.specs.Laid.{bare}
+use Rattle.newt_spec_store.specs.Laid.{bare, bare_soup}
 use Rattle.newt_spec_store.specs.Store.{Store, Soup, soup_named, soup_of}
 use Rattle.newt_spec_store.specs.Valid.{well_formed}
 use Rattle.newt_spec_world.specs.First.{media_of}
@@ -20,7 +20,7 @@ use Rattle.newt_laws_answers.specs.WorldAt.{device_at}
 use Rattle.newt_laws_answers.proofs.Worlds.{device-of, card_device}
 use Rattle.newt_laws_answers.proofs.Units.{is-mounted, soup-named}
 use Rattle.newt_laws_answers.proofs.Sigs.{soup-of-sig, named-name}
-use Rattle.newt_cardstore.specs.Cards.{IsSame}
+use Rattle.newt_pagebook.specs.Book.{IsSameFor}
 use Rattle.newt_units.specs.declared.units.Slot.{Slot}
 use Rattle.newt_units.specs.declared.units.Units.{Units}
 use Rattle.newt_units.specs.Stands.{card_at, mounted_in, world_of, Stands, Eight}
@@ -32,7 +32,7 @@ pub record Laws {C : Type 0} (reads : List ℕ → Option Store) (place : C → 
   pub plain : (card : C) (outside : Outside) → stands true card outside → (s : Store) × (reads (image (place card) outside.now) ≡ Some s) × (bare s ≡ soups card)
   pub durable : (card : C) (outside : Outside) → stands true card outside → IsDurable (place card) outside.now
   pub banks : (told : Bool) (card : C) (outside : Outside) → stands told card outside → 13 ≤ outside.blocks (place card)
-  pub kept : (told : Bool) (card : C) (old new : Outside) → stands told card old → IsSame told (place card) old new → stands told card new
+  pub kept : (told : Bool) (card : C) (old new : Outside) → stands told card old → IsSameFor told (place card) old new → stands told card new
 
 -- ---- lists
 
@@ -40,10 +40,6 @@ pub get-none : {X : Type 0} (xs : List X) (u : ℕ) → slice_get xs u ≡ None 
 get-none [] u h = omega arith
 get-none (x ∷ xs) zero h = absurd (none-some x (sym h))
 get-none (x ∷ xs) (suc u) h = let r = get-none xs u h in omega (arith, r)
-
--- a soup without its entries
-abbrev bare_soup : Soup → Soup
-bare_soup p = record p { entries = [] }
 
 -- the soup of a name without its entries
 pub bare-named : (name : List ℕ) (ps : List Soup) → find (λ p. equal_text p.name name) (map bare_soup ps) ≡ option_map bare_soup (find (λ p. equal_text p.name name) ps)

@@ -3,7 +3,7 @@ use Rattle.std.proofs.Common.{◌≡◌, refl, ap, sym, ◌∙◌, ℕ, List, []
 use Rattle.std.specs.Prelude.{is_some}
 use Rattle.std.proofs.lemmas.Bool.{eqb-true}
 use Rattle.newt_spec_graph.proofs.Lists.{some-same, none-some, both-ways}
-use Rattle.newt_spec_store.specs.Laid.{bare}
+use Rattle.newt_spec_store.specs.Laid.{bare, bare_soup}
 use Rattle.newt_spec_store.specs.Store.{Store, Soup, Entry, entry_of, soup_of, entry_at}
 use Rattle.newt_spec_world.specs.Alias.{Alias, resolved}
 use Rattle.newt_spec_world.specs.Reply.{Reply}
@@ -63,9 +63,6 @@ module _ (u soup uid : ℕ) (s : Store) where
       go (Some p) n h = entry p (some-same p.name name n) (entry_of uid p) refl h
 
 -- ---- the soups of a card
-
-abbrev bare_soup : Soup → Soup
-bare_soup p = record p { entries = [] }
 
 bare-of : (sig : ℕ) (ps : List Soup) → option_map (λ p. p.name) (find (λ p. p.sig == sig) (map bare_soup ps)) ≡ option_map (λ p. p.name) (find (λ p. p.sig == sig) ps)
 bare-of sig [] = refl

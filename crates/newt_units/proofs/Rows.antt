@@ -8,7 +8,7 @@ use Rattle.newt_reply.specs.Said.{soup_row}
 use Rattle.newt_reply.specs.declared.rows.SoupLine.{SoupLine}
 use Rattle.newt_spec_graph.specs.Lists.{Pairs, Among}
 use Rattle.newt_spec_graph.proofs.Lists.{rises-pairs, pairs-map, some-same, none-some}
-use Rattle.newt_spec_store.specs.Laid.{bare}
+use Rattle.newt_spec_store.specs.Laid.{bare, bare_soup}
 use Rattle.newt_spec_store.specs.Store.{Store, Soup, soup_of, count_in}
 use Rattle.newt_spec_store.specs.Valid.{well_formed}
 use Rattle.newt_spec_world.specs.declared.command.Command.TheVariants as command
@@ -49,9 +49,6 @@ take-whole (y ∷ xs) zero h = absurd (omega (arith, h))
 take-whole (y ∷ xs) (suc n) h = ap {A = List _} (λ zs. y ∷ zs) (take-whole xs n (omega (arith, h)))
 
 -- ---- the soup at a place
-
-abbrev bare_soup : Soup → Soup
-bare_soup p = record p { entries = [] }
 
 abbrev row : Soup → List ℕ × ℕ × ℕ
 row p = (p.name, p.sig, length p.entries)

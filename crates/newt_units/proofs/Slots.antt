@@ -5,7 +5,7 @@ use Rattle.newt_host.specs.Moments.{changes, IsDurable, LeftBy, bytes_after}
 use Rattle.newt_host.specs.Outside.{Outside, SameCards}
 use Rattle.newt_spec_graph.proofs.Lists.{some-same, none-some, both-ways}
 use Rattle.newt_laws.proofs.Units.{same-or-not}
-use Rattle.newt_cardstore.specs.Cards.{IsSame}
+use Rattle.newt_pagebook.specs.Book.{IsSameFor}
 use Rattle.newt_units.specs.declared.units.Slot.{Slot}
 use Rattle.newt_units.specs.declared.units.Units.{Units}
 use Rattle.newt_units.specs.Stands.{card_of, card_at, mounted_in, unmounted, Stands}
@@ -69,7 +69,7 @@ pub durable-same : (u : ℕ) (old new : List _) → changes u new ≡ changes u 
 durable-same u old new same h = λ left m. h left (subst (λ c. LeftBy c left) same m) ∙ ap bytes_after (sym same)
 
 module _ {C : Type 0} (place : C → ℕ) (stands : Bool → C → Outside → Type 0)
-    (kept : (told : Bool) (card : C) (old new : Outside) → stands told card old → IsSame told (place card) old new → stands told card new)
+    (kept : (told : Bool) (card : C) (old new : Outside) → stands told card old → IsSameFor told (place card) old new → stands told card new)
     (durable : (card : C) (outside : Outside) → stands true card outside → IsDurable (place card) outside.now) where
   -- the units stand where nothing has happened to any device
   pub stands-still : (told : Bool) (units : Units C) (o p : Outside) → SameCards o p → (IsTrue told → (j : ℕ) → changes j p.now ≡ changes j o.now) → Stands place stands told units o → Stands place stands told units p

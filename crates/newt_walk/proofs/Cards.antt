@@ -6,7 +6,7 @@ use Rattle.newt_host.specs.Moments.{image}
 use Rattle.newt_host.specs.Outside.{Outside}
 use Rattle.newt_spec_graph.proofs.Lists.{some-same, none-some}
 use Rattle.newt_spec_store.specs.Keys.{IndexSpec, same_spec}
-use Rattle.newt_spec_store.specs.Laid.{bare}
+use Rattle.newt_spec_store.specs.Laid.{bare, bare_soup}
 use Rattle.newt_spec_store.specs.Store.{Store, Soup, soup_of}
 use Rattle.newt_spec_query.specs.Hits.{carries}
 use Rattle.newt_ranges.specs.Range.{range_in, range_of_soup}
@@ -16,10 +16,6 @@ use Rattle.newt_laws_answers.specs.There.{OnUnit}
 use Rattle.newt_units.specs.declared.units.Units.{Units}
 use Rattle.newt_units.specs.Stands.{Stands, Eight, card_at, world_of}
 use Rattle.newt_units.proofs.Known.{Laws, on-known}
-
--- a soup without its entries
-abbrev bare_soup : Soup → Soup
-bare_soup p = record p { entries = [] }
 
 module _ {Y : Type 0} (f : Soup → Option Y) (same : (p : Soup) → f (bare_soup p) ≡ f p) (sig : ℕ) where
   bare-list : (ps : List Soup) → option_and_then f (find (λ p. p.sig == sig) (map bare_soup ps)) ≡ option_and_then f (find (λ p. p.sig == sig) ps)

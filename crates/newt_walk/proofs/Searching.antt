@@ -16,7 +16,6 @@ use Rattle.newt_spec_world.specs.First.{unit_numbers}
 use Rattle.newt_spec_world.specs.World.{World, mounted_store, mounted_stores, on_unit}
 use Rattle.newt_host.specs.Outside.{Outside}
 use Rattle.newt_index.specs.declared.identity.Spot.{Spot}
-use Rattle.newt_cursor.specs.Seen.{hit_of}
 use Rattle.newt_keys.specs.KeyForm.{IsKeyOf}
 use Rattle.newt_laws_images.proofs.Chosen.{find-passes}
 use Rattle.newt_laws_hits.proofs.Agreeing.{kind-same, direction-same}
@@ -33,6 +32,7 @@ use Rattle.newt_units.specs.declared.units.Units.{Units}
 use Rattle.newt_units.specs.Stands.{Stands, Eight, mounted_in, world_of}
 use Rattle.newt_units.proofs.Known.{Laws, at-device}
 use Rattle.newt_units.proofs.Shown.{drop-step}
+use Rattle.newt_index.specs.Spots.{spot_hit}
 use Rattle.newt_walk.specs.Searched.{agrees, AreMembers, member_in}
 use Rattle.newt_walk.proofs.Stores.{chosen-map}
 use Rattle.newt_walk.specs.Ways.{met, beyond}
@@ -127,18 +127,18 @@ beyond-among On index ms at h e = (among-filter _ (merged index ms) h (first-amo
 beyond-among Back index ms at h e = (among-filter _ (merged index ms) h (last-among _ h e)).0
 
 -- the spot is none, or has a key of the index
-spot-key : (index : IndexSpec) (found : Option Spot) (o : Option Hit) → option_map hit_of found ≡ o → ((h : Hit) → o ≡ Some h → IsKeyOf index h.key) → IfSome found (λ spot. IsKeyOf index spot.key)
+spot-key : (index : IndexSpec) (found : Option Spot) (o : Option Hit) → option_map spot_hit found ≡ o → ((h : Hit) → o ≡ Some h → IsKeyOf index h.key) → IfSome found (λ spot. IsKeyOf index spot.key)
 spot-key index None o e k = tt
-spot-key index (Some spot) o e k = k (hit_of spot) (sym e)
+spot-key index (Some spot) o e k = k (spot_hit spot) (sym e)
 
 module _ (index : IndexSpec) (ms : List Member) (are : AreMembers index ms) (found : Option Spot) where
-  pub met-key : (way : Way) → option_map hit_of found ≡ met way (merged index ms) → IfSome found (λ spot. IsKeyOf index spot.key)
+  pub met-key : (way : Way) → option_map spot_hit found ≡ met way (merged index ms) → IfSome found (λ spot. IsKeyOf index spot.key)
   met-key way e = spot-key index found (met way (merged index ms)) e (λ h k. merged-key index ms are h (met-among way (merged index ms) h k))
 
-  pub beyond-key : (way : Way) (at : Hit) → option_map hit_of found ≡ beyond way index ms at → IfSome found (λ spot. IsKeyOf index spot.key)
+  pub beyond-key : (way : Way) (at : Hit) → option_map spot_hit found ≡ beyond way index ms at → IfSome found (λ spot. IsKeyOf index spot.key)
   beyond-key way at e = spot-key index found (beyond way index ms at) e (λ h k. merged-key index ms are h (beyond-among way index ms at h k))
 
-  pub at-key : (key : Key) → option_map hit_of found ≡ at_or_after index ms key → IfSome found (λ spot. IsKeyOf index spot.key)
+  pub at-key : (key : Key) → option_map spot_hit found ≡ at_or_after index ms key → IfSome found (λ spot. IsKeyOf index spot.key)
   at-key key e = spot-key index found (at_or_after index ms key) e (λ h k. merged-key index ms are h (among-filter _ (merged index ms) h (first-among _ h k)).0)
 
 -- a key of the index is one of each member

@@ -15,6 +15,7 @@ use Rattle.newt_spec_world.specs.World.{World, mounted_stores, hits_of}
 use Rattle.newt_laws.specs.Settled.{MountedApart}
 use Rattle.newt_laws_changes.proofs.Soups.{filter-length}
 use Rattle.newt_union.specs.Merged.{merged, at_or_after}
+use Rattle.newt_union.proofs.Union.{all_pass}
 use Rattle.newt_laws_hits.specs.Stripped.{passing, stripped}
 use Rattle.newt_laws_hits.specs.Taking.{members_of}
 use Rattle.newt_laws_hits.specs.Walk.{walked, count_after, count_before}
@@ -85,18 +86,14 @@ module _ (w : World) (q : Query) (apart : MountedApart w) (formed : Each (λ s. 
 
 -- ---- steps
 
-filter-all : {X : Type 0} (xs : List X) → filter (λ x. true) xs ≡ xs
-filter-all [] = refl
-filter-all (x ∷ xs) = ap (λ ys. x ∷ ys) (filter-all xs)
-
 filter-no : {X : Type 0} (xs : List X) → filter (λ x. false) xs ≡ []
 filter-no [] = refl
 filter-no (x ∷ xs) = filter-no xs
 
 -- from where the way begins
 pub step-outset : (way : Way) (hs : List Hit) (index : IndexSpec) → stepping way hs index (outset way) ≡ outermost way hs
-step-outset On hs index = ap first_place (filter-all hs)
-step-outset Back hs index = ap last_place (filter-all hs)
+step-outset On hs index = ap first_place (all_pass hs)
+step-outset Back hs index = ap last_place (all_pass hs)
 
 -- from where it ends
 pub step-edge : (way : Way) (hs : List Hit) (index : IndexSpec) → stepping way hs index (edge way) ≡ edge way

@@ -2,13 +2,14 @@
 ghost use Rattle.std.specs.Prelude.{◌≡◌, ℕ, true, false, IsTrue, None, option_and_then, IfOk, IfErr};
 ghost use Rattle.newt_host.specs.Outside.{Outside};
 ghost use Rattle.newt_pagebook.specs.Stops.{HasStopCause};
-ghost use Rattle.newt_cursor.specs.Seen.{query_of, hit_of};
+ghost use Rattle.newt_cursor.specs.Seen.{query_of};
 ghost use Rattle.newt_query.specs.Filter.{asks_texts};
 ghost use Rattle.newt_spec_store.specs.Store.{Store, soup_of};
 ghost use Rattle.newt_spec_world.specs.World.{mounted_stores};
 ghost use Rattle.newt_laws_answers.specs.There.{OnUnit};
 ghost use Rattle.newt_laws_hits.specs.Stripped.{passing};
 ghost use Rattle.newt_units.specs.Stands.{Eight, Stands, mounted_in, world_of};
+ghost use Rattle.newt_index.specs.Spots.{spot_hit};
 ghost use Rattle.newt_walk.specs.Searched.{keeps_in};
 ghost use Rattle.newt_walk.specs.World.{AreRead};
 
@@ -32,7 +33,7 @@ pub(crate) fn keeps<C: Card, H: Host>(
 ) -> Result<bool, Stop>
     requires { Stands C.place C.stands H.told units.old (H.outside host.old) }
     ensures read { AreRead C.reads C.place C.stands H.told units.old units.new (H.outside host.old) (H.outside host.new) }
-    ensures kept { IsTrue H.told → IfOk result (λ kept. kept ≡ passing (mounted_stores (world_of C.reads units.old (H.outside host.old))) (query_of query.now) (hit_of spot.now)) }
+    ensures kept { IsTrue H.told → IfOk result (λ kept. kept ≡ passing (mounted_stores (world_of C.reads units.old (H.outside host.old))) (query_of query.now) (spot_hit spot.now)) }
     ensures cause { IfErr result (λ stop. HasStopCause stop (H.outside host.old) (H.outside host.new)) }
 {
     if !query.spec.in_range(&spot.key) {
@@ -69,7 +70,7 @@ fn keeps_read<C: Card, H: Host>(
     requires mounted { mounted_in units.old.slots.items unit ≡ true }
     ensures read { AreRead C.reads C.place C.stands H.told units.old units.new (H.outside host.old) (H.outside host.new) }
     ensures kept { IsTrue H.told → (blocks : ℕ) (s : Store) → OnUnit (world_of C.reads units.old (H.outside host.old)) unit blocks s →
-        IfOk result (λ kept. kept ≡ keeps_in (query_of query.now) s (hit_of spot.now)) }
+        IfOk result (λ kept. kept ≡ keeps_in (query_of query.now) s (spot_hit spot.now)) }
     ensures cause { IfErr result (λ stop. HasStopCause stop (H.outside host.old) (H.outside host.new)) }
 {
     match units.entry_on(host, unit, spot.soup, spot.uid)? {
@@ -90,7 +91,7 @@ fn keeps_unread<C: Card>(
 ) -> Result<bool, AllocError>
     requires { asks_texts query.now.spec ≡ false }
     ensures { (outside : Outside) → Eight outside → Stands C.place C.stands true units.now outside → (blocks : ℕ) (s : Store) → OnUnit (world_of C.reads units.now outside) unit blocks s →
-        option_and_then (λ p. p.tags) (soup_of spot.now.soup s) ≡ None → IfOk result (λ kept. kept ≡ keeps_in (query_of query.now) s (hit_of spot.now)) }
+        option_and_then (λ p. p.tags) (soup_of spot.now.soup s) ≡ None → IfOk result (λ kept. kept ≡ keeps_in (query_of query.now) s (spot_hit spot.now)) }
 {
     match units.card(unit) {
         Some(card) if card.has(spot.soup, spot.uid) => {

@@ -3,12 +3,13 @@ ghost use Rattle.std.specs.Prelude.{◌≡◌, true, option_map, option_and_then
 ghost use Rattle.newt_host.specs.Outside.{Outside};
 ghost use Rattle.newt_keys.specs.KeyForm.{IsKeyOf};
 ghost use Rattle.newt_index.specs.Pairs.{IsSorted, parts_of};
-ghost use Rattle.newt_cursor.specs.Seen.{query_of, hit_of};
+ghost use Rattle.newt_cursor.specs.Seen.{query_of};
 ghost use Rattle.newt_spec_world.specs.World.{mounted_store, mounted_stores};
 ghost use Rattle.newt_union.specs.Merged.{Agree, merged, at_or_after};
 ghost use Rattle.newt_union.specs.Seen.{shown};
 ghost use Rattle.newt_laws_hits.specs.Taking.{members_of};
 ghost use Rattle.newt_units.specs.Stands.{Eight, Stands, world_of};
+ghost use Rattle.newt_index.specs.Spots.{spot_hit};
 ghost use Rattle.newt_walk.specs.Searched.{AreMembers, agrees, member_in, seen_member};
 ghost use Rattle.newt_walk.specs.Ways.{met, beyond};
 
@@ -32,7 +33,7 @@ pub(crate) fn outermost<C: Card>(
 ) -> Result<Option<Spot>, AllocError>
     ensures key { IfOk result (λ found. IfSome found (λ spot. IsKeyOf query.now.spec.index spot.key)) }
     ensures found { (outside : Outside) → Eight outside → Stands C.place C.stands true units.now outside → let q = query_of query.now in
-        IfOk result (λ found. option_map hit_of found ≡ met way (merged q.spec.index (members_of (mounted_stores (world_of C.reads units.now outside)) q))) }
+        IfOk result (λ found. option_map spot_hit found ≡ met way (merged q.spec.index (members_of (mounted_stores (world_of C.reads units.now outside)) q))) }
 {
     let members = members(units, query)?;
     match way {
@@ -51,7 +52,7 @@ pub(crate) fn beyond<C: Card>(
     requires { IsKeyOf query.now.spec.index spot.now.key }
     ensures key { IfOk result (λ found. IfSome found (λ spot. IsKeyOf query.now.spec.index spot.key)) }
     ensures found { (outside : Outside) → Eight outside → Stands C.place C.stands true units.now outside → let q = query_of query.now in
-        IfOk result (λ found. option_map hit_of found ≡ beyond way q.spec.index (members_of (mounted_stores (world_of C.reads units.now outside)) q) (hit_of spot.now)) }
+        IfOk result (λ found. option_map spot_hit found ≡ beyond way q.spec.index (members_of (mounted_stores (world_of C.reads units.now outside)) q) (spot_hit spot.now)) }
 {
     let members = members(units, query)?;
     match way {
@@ -75,7 +76,7 @@ pub(crate) fn at_or_after<C: Card>(
     requires { IsKeyOf query.now.spec.index key.now }
     ensures key { IfOk result (λ found. IfSome found (λ spot. IsKeyOf query.now.spec.index spot.key)) }
     ensures found { (outside : Outside) → Eight outside → Stands C.place C.stands true units.now outside → let q = query_of query.now in
-        IfOk result (λ found. option_map hit_of found ≡ at_or_after q.spec.index (members_of (mounted_stores (world_of C.reads units.now outside)) q) key.now) }
+        IfOk result (λ found. option_map spot_hit found ≡ at_or_after q.spec.index (members_of (mounted_stores (world_of C.reads units.now outside)) q) key.now) }
 {
     let members = members(units, query)?;
     match members.at_or_after(key) {
@@ -136,7 +137,7 @@ fn agrees(range: &Index, spec: Option<&IndexSpec>) -> bool
 
 /// A hit that owns its key.
 fn owned(hit: &Option<Hit<'_>>) -> Result<Option<Spot>, AllocError>
-    ensures { IfOk result (λ found. option_map hit_of found ≡ option_map shown hit.now) }
+    ensures { IfOk result (λ found. option_map spot_hit found ≡ option_map shown hit.now) }
 {
     match hit {
         Some(hit) => Ok(Some(Spot {

@@ -3,7 +3,7 @@ ghost use Rattle.std.specs.Prelude.{◌≡◌, true, IsTrue, Some, IfErr, IfOk, 
 ghost use Rattle.newt_host.specs.Outside.{Outside};
 ghost use Rattle.newt_pagebook.specs.Stops.{HasStopCause};
 ghost use Rattle.newt_keys.specs.KeyForm.{IsKeyOf};
-ghost use Rattle.newt_cursor.specs.Seen.{hit_of, place_of, query_of};
+ghost use Rattle.newt_cursor.specs.Seen.{place_of, query_of};
 ghost use Rattle.newt_spec_store.specs.Store.{soup_named};
 ghost use Rattle.newt_spec_query.specs.Cursor.{Cursor};
 ghost use Rattle.newt_spec_world.specs.Answer.{current, or_nil};
@@ -13,6 +13,7 @@ ghost use Rattle.newt_spec_world.specs.declared.command.Command.TheVariants as C
 ghost use Rattle.newt_laws.specs.Settled.{MountedApart};
 ghost use Rattle.newt_cardstore.specs.Faults.{HasFaultCause};
 ghost use Rattle.newt_units.specs.Stands.{Eight, Stands, world_of};
+ghost use Rattle.newt_index.specs.Spots.{spot_hit};
 ghost use Rattle.newt_walk.specs.Fits.{DeskFits, PlaceFits};
 ghost use Rattle.newt_walk.specs.Motions.{MotionFits, Steers, step_of};
 ghost use Rattle.newt_walk.specs.Replies.{Answers, shown_reply};
@@ -291,7 +292,7 @@ fn spot_on<C: Card, H: Host>(
     ensures read { AreRead C.reads C.place C.stands H.told units.old units.new (H.outside host.old) (H.outside host.new) }
     ensures key { IfOk result (λ found. IfSome found (λ spot. IsKeyOf query.now.spec.index spot.key)) }
     ensures found { IsTrue H.told → let w = world_of C.reads units.old (H.outside host.old) in MountedApart w →
-        (k : Cursor) → k.query ≡ query_of query.now → IfOk result (λ found. option_map hit_of found ≡ hit_for w unit uid k) }
+        (k : Cursor) → k.query ≡ query_of query.now → IfOk result (λ found. option_map spot_hit found ≡ hit_for w unit uid k) }
     ensures cause { IfErr result (λ stop. HasStopCause stop (H.outside host.old) (H.outside host.new)) }
 {
     let Some((store, soup)) = soup_on(units, unit, &query.name) else {

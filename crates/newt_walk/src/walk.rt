@@ -2,12 +2,13 @@
 ghost use Rattle.std.specs.Prelude.{◌≡◌, IsTrue, option_map, IfOk, IfErr, IfSome};
 ghost use Rattle.newt_pagebook.specs.Stops.{HasStopCause};
 ghost use Rattle.newt_keys.specs.KeyForm.{IsKeyOf};
-ghost use Rattle.newt_cursor.specs.Seen.{query_of, place_of, hit_of};
+ghost use Rattle.newt_cursor.specs.Seen.{query_of, place_of};
 ghost use Rattle.newt_spec_world.specs.World.{hits_of, mounted_stores};
 ghost use Rattle.newt_laws.specs.Settled.{MountedApart};
 ghost use Rattle.newt_laws_hits.specs.Stripped.{passing};
 ghost use Rattle.newt_laws_hits.specs.Walk.{walked};
 ghost use Rattle.newt_units.specs.Stands.{Stands, world_of};
+ghost use Rattle.newt_index.specs.Spots.{spot_hit};
 ghost use Rattle.newt_walk.specs.Fits.{PlaceFits};
 ghost use Rattle.newt_walk.specs.Ways.{edge, stepping};
 ghost use Rattle.newt_walk.specs.World.{AreRead};
@@ -36,7 +37,7 @@ pub(crate) fn walk<C: Card, H: Host>(
     ensures read { AreRead C.reads C.place C.stands H.told units.old units.new (H.outside host.old) (H.outside host.new) }
     ensures fits { IfOk result (λ place. PlaceFits query.now.spec.index (place_of place)) }
     ensures walked { IsTrue H.told → let w = world_of C.reads units.old (H.outside host.old) in let q = query_of query.now in MountedApart w →
-        IfOk result (λ place. place_of place ≡ walked (passing (mounted_stores w) q) (edge way) (stepping way (hits_of w q) q.spec.index) (option_map hit_of start)) }
+        IfOk result (λ place. place_of place ≡ walked (passing (mounted_stores w) q) (edge way) (stepping way (hits_of w q) q.spec.index) (option_map spot_hit start)) }
     ensures cause { IfErr result (λ stop. HasStopCause stop (H.outside host.old) (H.outside host.new)) }
 {
     let mut found = start;

@@ -1,8 +1,7 @@
 -- The card of the unit knows the indexes of the soup.
 use Rattle.std.proofs.Common.{refl, ap, ◌∙◌, true, map}
-use Rattle.std.specs.List.{list_any}
 use Rattle.newt_spec_graph.proofs.Lists.{some-same, none-some}
-use Rattle.newt_spec_store.specs.Keys.{paths_of, same_paths}
+use Rattle.newt_spec_store.specs.Keys.{has_paths}
 use Rattle.newt_commands.proofs.Declaring.{specs-known}
 use Rattle.newt_host.specs.Outside.{Outside}
 use Rattle.newt_units.specs.Stands.{Eight, Stands}
@@ -22,7 +21,7 @@ begins g eight stand = record {
 pub returns-in-Some : goal.returns-in-Some
 returns-in-Some g c outside eight stand blocks s p on by =
     let same = some-same _ _ (specs-known (begins g eight stand) refl c.args.unit blocks s on c.args.soup p by _ c.in-Some.ensures) in
-    c.has_paths_of.ensures ∙ ap (list_any (λ spec. same_paths (paths_of spec) (map (λ q. q.path) c.args.parts.now))) same
+    c.has_paths_of.ensures ∙ ap (has_paths (map (λ q. q.path) c.args.parts.now)) same
 
 pub returns-in-None : goal.returns-in-None
 returns-in-None g c outside eight stand blocks s p on by =

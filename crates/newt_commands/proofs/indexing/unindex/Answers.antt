@@ -2,7 +2,7 @@
 use Rattle.std.proofs.Common.{refl, ap, sym, ◌∙◌, subst, [], Some}
 use Rattle.std.proofs.lemmas.Result.{err_from_is_err_and}
 use Rattle.std.specs.Bool.{⊤}
-use Rattle.newt_laws_answers.specs.Tests.{has_paths}
+use Rattle.newt_spec_store.specs.Keys.{has_paths}
 use Rattle.newt_laws_answers.proofs.Declares.{unindex-not-found, unindex-missing}
 use Rattle.newt_spec_store.specs.Store.{change_soup, without_index}
 use Rattle.newt_spec_world.specs.World.{change_store}
@@ -41,7 +41,7 @@ returns-then-not-has_index-clause-answered g c t =
     let w = world_of g.C.Card.reads c.args.units.now (g.H.Host.outside c.args.host.now) in
     let h = has-soup at t c.args.unit c.args.name.now c.in_ok-soup.soup c.in_ok-soup.ensures in
     unindex-missing w c.args.unit h.blocks h.store c.args.name.now h.soup h.on h.named c.args.paths.now
-    (ap (λ x. has_paths x h.soup) (sym c.list-declared.ensures) ∙ sym (c.has_index.ensures (g.H.Host.outside c.args.host.now) at.eight (stand-told at t) h.blocks h.store h.soup h.on h.by_sig) ∙ c.if-not-has_index.true)
+    (ap (λ x. has_paths x h.soup.specs) (sym c.list-declared.ensures) ∙ sym (c.has_index.ensures (g.H.Host.outside c.args.host.now) at.eight (stand-told at t) h.blocks h.store h.soup h.on h.by_sig) ∙ c.if-not-has_index.true)
 
 pub returns-then-not-has_index-clause-moments : goal.returns-then-not-has_index-clause-moments
 returns-then-not-has_index-clause-moments g c t = still (begins g c.requires) t _ _ refl
@@ -55,7 +55,7 @@ returns-clause-answered g c t =
     let w = world_of g.C.Card.reads c.args.units.now (g.H.Host.outside c.args.host.now) in
     let h = has-soup at t c.args.unit c.args.name.now c.in_ok-soup.soup c.in_ok-soup.ensures in
     unindex-answers w _ c.args.unit h.blocks h.store h.on refl c.args.name.now h.soup h.named h.name_is c.args.paths.now
-    (ap (λ x. has_paths x h.soup) (sym c.list-declared.ensures) ∙ sym (c.has_index.ensures (g.H.Host.outside c.args.host.now) at.eight (stand-told at t) h.blocks h.store h.soup h.on h.by_sig) ∙ c.if-not-has_index.false) _
+    (ap (λ x. has_paths x h.soup.specs) (sym c.list-declared.ensures) ∙ sym (c.has_index.ensures (g.H.Host.outside c.args.host.now) at.eight (stand-told at t) h.blocks h.store h.soup h.on h.by_sig) ∙ c.if-not-has_index.false) _
     (subst (λ x. Does [] (λ _. ⊤) w (change_store w c.args.unit (change_soup h.soup.name (without_index x))) (world_of g.C.Card.reads c.drop_index_from.new.self (g.H.Host.outside c.drop_index_from.new.host)) c.drop_index_from.result) c.list-declared.ensures
     (c.drop_index_from.ensures.made t h.blocks h.store h.soup h.on h.by_sig))
 
@@ -66,7 +66,7 @@ returns-clause-moments g c t =
     let h = has-soup at t c.args.unit c.args.name.now c.in_ok-soup.soup c.in_ok-soup.ensures in
     c.drop_index_from.ensures.moments t h.blocks h.store h.soup h.on h.by_sig _ (λ _.
     unindex-makes w w c.args.unit h.blocks h.store h.on refl c.args.name.now h.soup h.named h.name_is c.args.paths.now
-    (ap (λ x. has_paths x h.soup) (sym c.list-declared.ensures) ∙ sym (c.has_index.ensures (g.H.Host.outside c.args.host.now) at.eight (stand-told at t) h.blocks h.store h.soup h.on h.by_sig) ∙ c.if-not-has_index.false)
+    (ap (λ x. has_paths x h.soup.specs) (sym c.list-declared.ensures) ∙ sym (c.has_index.ensures (g.H.Host.outside c.args.host.now) at.eight (stand-told at t) h.blocks h.store h.soup h.on h.by_sig) ∙ c.if-not-has_index.false)
     ∙ ap (λ x. Some (change_soup h.soup.name (without_index x) h.store)) (sym c.list-declared.ensures))
 
 pub returns-clause-costs : goal.returns-clause-costs
@@ -74,5 +74,5 @@ returns-clause-costs g c t =
     let at = begins g c.requires in
     let h = has-soup at t c.args.unit c.args.name.now c.in_ok-soup.soup c.in_ok-soup.ensures in
     unindex-costs h c.args.paths.now _
-    (ap (λ x. has_paths x h.soup) (sym c.list-declared.ensures) ∙ sym (c.has_index.ensures (g.H.Host.outside c.args.host.now) at.eight (stand-told at t) h.blocks h.store h.soup h.on h.by_sig) ∙ c.if-not-has_index.false)
+    (ap (λ x. has_paths x h.soup.specs) (sym c.list-declared.ensures) ∙ sym (c.has_index.ensures (g.H.Host.outside c.args.host.now) at.eight (stand-told at t) h.blocks h.store h.soup h.on h.by_sig) ∙ c.if-not-has_index.false)
     c.list-declared.ensures (c.drop_index_from.ensures.costs t h.blocks h.store h.soup h.on h.by_sig)

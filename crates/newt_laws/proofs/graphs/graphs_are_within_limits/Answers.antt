@@ -1,4 +1,5 @@
-use Rattle.newt_laws.proofs.Normal.{own-normal, graph-within}
+use Rattle.newt_laws_images.proofs.Within.{graph-within}
+use Rattle.newt_laws.proofs.Normal.{own-normal}
 use Rattle.newt_laws.proofs.graphs.graphs_are_within_limits.Goals as goal
 
 pub returns-clause-own : goal.returns-clause-own

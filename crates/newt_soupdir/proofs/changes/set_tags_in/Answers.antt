@@ -1,5 +1,5 @@
 use Rattle.std.proofs.Common.{sym, ◌∙◌}
-use Rattle.newt_soupdir.specs.Changes.{with_tags}
+use Rattle.newt_spec_store.specs.Store.{with_tags}
 use Rattle.newt_soupdir.proofs.Lists.{place_is, nowhere}
 use Rattle.newt_soupdir.proofs.changes.set_tags_in.Goals as goal
 

@@ -1,10 +1,9 @@
 use Rattle.std.proofs.Common.{◌≡◌, false, List, length, nat_le, sym, ◌∙◌, ap}
 use Rattle.std.specs.Option.{is_some}
-use Rattle.newt_spec_store.specs.Keys.{IndexSpec, paths_of}
+use Rattle.newt_spec_store.specs.Keys.{IndexSpec, paths_of, has_paths}
 use Rattle.newt_soupdir.specs.Bare.{bare_soup, bare_store}
 use Rattle.newt_spec_store.specs.Store.{soup_of, change_soup_of, with_index}
 use Rattle.newt_soupdir.specs.declared.rows.Directory.{Directory}
-use Rattle.newt_store.specs.Change.{has_paths}
 use Rattle.newt_store.proofs.Declaring.{adds-index, valid-index, formed-declared, index-no-soup, index-there, index-limit, index-planned}
 use Rattle.newt_store.proofs.Planned.{seen-some, next-plain}
 use Rattle.newt_store.specs.declared.next.Gone.TheVariants.{Nothing}

@@ -2,10 +2,10 @@ use Rattle.std.proofs.Common.{◌≡◌, Some, true, not, ◌∙◌, ap}
 use Rattle.std.specs.Option.{is_some}
 use Rattle.newt_pagebook.proofs.Tests.{the_some}
 use Rattle.newt_soupdir.specs.Bare.{bare_store}
-use Rattle.newt_spec_store.specs.Store.{soup_of, change_soup_of}
-use Rattle.newt_soupdir.specs.Changes.{with_tags}
+use Rattle.newt_spec_store.specs.Store.{soup_of, change_soup_of, with_tags}
 use Rattle.newt_soupdir.specs.declared.rows.Directory.{Directory}
-use Rattle.newt_store.proofs.Declaring.{sets-tags, valid-tagged, formed-declared, tags-no-soup, tags-planned}
+use Rattle.newt_laws_changes.proofs.Soups.{with-tags}
+use Rattle.newt_store.proofs.Declaring.{sets-tags, formed-declared, tags-no-soup, tags-planned}
 use Rattle.newt_store.proofs.Planned.{seen-some, next-plain}
 use Rattle.newt_store.specs.declared.next.Gone.TheVariants.{Nothing}
 use Rattle.newt_store.proofs.declare.plan_set_tags.Goals as goal
@@ -20,7 +20,7 @@ returns-clause-next c =
     let is : bare_store c.set_tags.new.self ≡ change_soup_of c.args.sig (with_tags (Some c.args.table)) (bare_store c.args.catalog.now.directory) =
     c.set_tags.ensures ∙ ap (λ (x : Directory). change_soup_of c.args.sig (with_tags (Some c.args.table)) (bare_store x)) c.in_ok-directory.ensures in
     let p = the_some (soup_of c.args.sig (bare_store c.args.catalog.now.directory)) some in
-    next-plain c.args.catalog.now c.set_tags.new.self Nothing 0 (formed-declared c.args.catalog.now.directory c.set_tags.new.self c.args.sig p.0 (with_tags (Some c.args.table)) (sets-tags (Some c.args.table)) c.requires p.1 (valid-tagged (Some c.args.table) p.0 c.symbols-valid.ensures.valid) is)
+    next-plain c.args.catalog.now c.set_tags.new.self Nothing 0 (formed-declared c.args.catalog.now.directory c.set_tags.new.self c.args.sig p.0 (with_tags (Some c.args.table)) (sets-tags (Some c.args.table)) c.requires p.1 (with-tags (Some c.args.table) p.0 c.symbols-valid.ensures.valid) is)
 
 pub returns-clause-planned : goal.returns-clause-planned
 returns-clause-planned c = λ now texts s d.

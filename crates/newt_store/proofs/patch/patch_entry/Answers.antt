@@ -19,7 +19,8 @@ use Rattle.newt_store.specs.Change.{changed_by, refusal_of, pages_of_entry, most
 use Rattle.newt_store.specs.Patch.{IsLargeOf}
 use Rattle.newt_catalog.specs.Stands.{StandsFor}
 use Rattle.newt_store.specs.Stands.{RefusesWith, IsBeforeOrChanged}
-use Rattle.newt_store.proofs.Applying.{from-err, sound-over, same-image, leaves-before}
+use Rattle.newt_catalog.proofs.Opening.{same-image}
+use Rattle.newt_store.proofs.Applying.{from-err, sound-over, leaves-before}
 use Rattle.newt_catalog.proofs.Kept.{kept-over}
 use Rattle.newt_store.proofs.Writing.{failed}
 use Rattle.newt_store.proofs.Patching.{text-there, past-due, none-due, stands-after, spends-record, not-full, patch-leaves, patch-spends, patch-refuses, goes-error, less-over}

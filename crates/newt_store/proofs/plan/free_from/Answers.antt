@@ -1,4 +1,4 @@
-use Rattle.std.proofs.Common.{◌≡◌, ◌+◌, ◌*◌, ◌<◌, ℕ, false, Option, None, is_some, sym, option_map, refl, ◌∙◌, ap, subst, arith, ⊎_elim}
+use Rattle.std.proofs.Common.{◌≡◌, ◌+◌, ◌*◌, ◌<◌, ℕ, false, None, is_some, sym, option_map, refl, ◌∙◌, ap, subst, arith, ⊎_elim}
 use Rattle.std.proofs.lemmas.Bool.{false≢true}
 use Rattle.std.proofs.Math.Nat.{eq-or-lt_of_le}
 use Rattle.newt_objects.specs.Held.{held}
@@ -17,7 +17,7 @@ loop-half-preserved c k low below free =
     let n = c.loop-half.half in
     ⊎_elim
     (λ (e : k ≡ n).
-    let gone : held c.args.objects.now (2 * n + 1) ≡ None = subst (λ (k : ℕ). held c.args.objects.now (2 * k + 1) ≡ None) e free in
+    let gone : held c.args.objects.now (2 * n + c.args.parity) ≡ None = subst (λ (k : ℕ). held c.args.objects.now (2 * k + c.args.parity) ≡ None) e free in
     let none : is_some c.length.result ≡ false = ap is_some (c.length.ensures ∙ ap (option_map (λ x. x.length)) gone) in
     absurd (false≢true (sym none ∙ c.if-is_none.ensures)))
     (λ (l : k < n). c.loop-half.invariant k low l free)

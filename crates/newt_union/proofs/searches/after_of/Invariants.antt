@@ -1,7 +1,8 @@
 use Rattle.std.proofs.Common.{◌≡◌, fold, map, take, None}
 use Rattle.std.specs.Prelude.{option_map}
+use Rattle.newt_index.specs.Spots.{spot_hit}
 use Rattle.newt_union.specs.Candidates.{after_in, with_lesser}
-use Rattle.newt_union.specs.Seen.{shown, seen, spot_hit}
+use Rattle.newt_union.specs.Seen.{shown, seen}
 use Rattle.newt_union.proofs.searches.after_of.Given as goal
 
 abbrev pub invariant-loop-member : goal.invariant-loop-member

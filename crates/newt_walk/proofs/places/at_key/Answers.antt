@@ -1,12 +1,13 @@
 -- The first that is found, and on from there.
 use Rattle.std.proofs.Common.{◌≡◌, ◌∙◌, ap, sym, subst, option_map, true}
 use Rattle.std.proofs.lemmas.Result.{IfOk-weaker}
-use Rattle.newt_cursor.specs.Seen.{query_of, place_of, hit_of}
+use Rattle.newt_cursor.specs.Seen.{query_of, place_of}
 use Rattle.newt_cursor.specs.declared.place.Place.{Place}
 use Rattle.newt_spec_query.specs.Cursor.{place_at_key}
 use Rattle.newt_spec_world.specs.World.{hits_of}
 use Rattle.newt_units.specs.Stands.{Stands, Eight, world_of}
 use Rattle.newt_units.proofs.Known.{Laws}
+use Rattle.newt_index.specs.Spots.{spot_hit}
 use Rattle.newt_walk.specs.declared.ways.Way.TheVariants.{On}
 use Rattle.newt_walk.proofs.Stores.{stores-formed}
 use Rattle.newt_walk.proofs.Walking.{comes_to, key-goal}
@@ -20,6 +21,6 @@ returns-clause-place g c t apart =
     let stand : Stands g.C.Card.place g.C.Card.stands true c.args.units.now o = subst (λ b. Stands g.C.Card.place g.C.Card.stands b c.args.units.now o) t c.requires.stands in
     let w = world_of g.C.Card.reads c.args.units.now o in
     let q = query_of c.args.query.now in
-    IfOk-weaker c.walk.result (λ (place : Place). place_of place ≡ comes_to w q On (option_map hit_of c.in_ok-found.found)) (λ (place : Place). place_of place ≡ place_at_key (hits_of w q) q.spec.index c.args.key.now)
+    IfOk-weaker c.walk.result (λ (place : Place). place_of place ≡ comes_to w q On (option_map spot_hit c.in_ok-found.found)) (λ (place : Place). place_of place ≡ place_at_key (hits_of w q) q.spec.index c.args.key.now)
     (λ place e. e ∙ ap (comes_to w q On) (c.in_ok-found.ensures.found o eight stand) ∙ sym (key-goal w q apart (stores-formed laws c.args.units.now o eight stand) c.args.key.now))
     (c.walk.ensures.walked t apart)

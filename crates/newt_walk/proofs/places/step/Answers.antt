@@ -1,11 +1,12 @@
 -- On from the hit, from where the way begins, or not at all.
 use Rattle.std.proofs.Common.{◌≡◌, ◌∙◌, ap, sym, subst, option_map, true}
 use Rattle.std.proofs.lemmas.Result.{IfOk-weaker}
-use Rattle.newt_cursor.specs.Seen.{query_of, place_of, hit_of}
+use Rattle.newt_cursor.specs.Seen.{query_of, place_of}
 use Rattle.newt_cursor.specs.declared.place.Place.{Place}
 use Rattle.newt_spec_world.specs.World.{hits_of}
 use Rattle.newt_units.specs.Stands.{Stands, Eight, world_of}
 use Rattle.newt_units.proofs.Known.{Laws}
+use Rattle.newt_index.specs.Spots.{spot_hit}
 use Rattle.newt_walk.specs.Ways.{outermost, outset, stepping}
 use Rattle.newt_walk.specs.declared.ways.Way.TheVariants.{On, Back}
 use Rattle.newt_walk.proofs.Stores.{stores-formed}
@@ -20,10 +21,10 @@ returns-in_ok-found-in-On-clause-place g c t apart =
     let stand : Stands g.C.Card.place g.C.Card.stands true c.args.units.now o = subst (λ b. Stands g.C.Card.place g.C.Card.stands b c.args.units.now o) t c.requires.stands in
     let w = world_of g.C.Card.reads c.args.units.now (g.H.Host.outside c.args.host.now) in
     let q = query_of c.args.query.now in
-    IfOk-weaker c.walk.result (λ (place : Place). place_of place ≡ comes_to w q c.args.way (option_map hit_of c.in_ok-found-in-On.found))
+    IfOk-weaker c.walk.result (λ (place : Place). place_of place ≡ comes_to w q c.args.way (option_map spot_hit c.in_ok-found-in-On.found))
     (λ (next : Place). place_of next ≡ stepping c.args.way (hits_of w q) q.spec.index (place_of c.args.place.now))
     (λ place e. e ∙ ap (comes_to w q c.args.way) (c.in_ok-found-in-On.ensures.found o eight stand)
-    ∙ sym (step-goal w q apart (stores-formed laws c.args.units.now o eight stand) c.args.way (hit_of c.in-On.spot))
+    ∙ sym (step-goal w q apart (stores-formed laws c.args.units.now o eight stand) c.args.way (spot_hit c.in-On.spot))
     ∙ (λ i. stepping c.args.way (hits_of w q) q.spec.index (place_of ((sym c.in-On.is) i)))) (c.walk.ensures.walked t apart)
 
 pub returns-in-On-way-clause-place : goal.returns-in-On-way-clause-place

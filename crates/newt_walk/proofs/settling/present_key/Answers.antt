@@ -1,8 +1,9 @@
 -- The key of the hit.
 use Rattle.std.proofs.Common.{◌∙◌, ap, sym, subst, option_map, true}
-use Rattle.newt_cursor.specs.Seen.{query_of, hit_of}
+use Rattle.newt_cursor.specs.Seen.{query_of}
 use Rattle.newt_units.specs.Stands.{Stands, Eight, world_of}
 use Rattle.newt_units.proofs.Known.{Laws}
+use Rattle.newt_index.specs.Spots.{spot_hit}
 use Rattle.newt_walk.specs.Present.{present_of}
 use Rattle.newt_walk.proofs.Standing.{key-present}
 use Rattle.newt_walk.proofs.Stores.{stores-formed}
@@ -16,7 +17,7 @@ returns-in-Some-2-clause-found g c t apart =
     let stand : Stands g.C.Card.place g.C.Card.stands true c.args.units.now o = subst (λ b. Stands g.C.Card.place g.C.Card.stands b c.args.units.now o) t c.requires in
     let w = world_of g.C.Card.reads c.args.units.now o in
     let r = ap (option_map present_of) (sym c.in-Some-2.is) ∙ c.in_ok-present.ensures.found t apart in
-    key-present w apart (stores-formed laws c.args.units.now o eight stand) _ (query_of c.in-Some.query.now) (hit_of c.in-Some.spot.now) c.in-Some.ensures _ r
+    key-present w apart (stores-formed laws c.args.units.now o eight stand) _ (query_of c.in-Some.query.now) (spot_hit c.in-Some.spot.now) c.in-Some.ensures _ r
 
 pub returns-in-None-clause-found : goal.returns-in-None-clause-found
 returns-in-None-clause-found g c t apart =
@@ -26,4 +27,4 @@ returns-in-None-clause-found g c t apart =
     let stand : Stands g.C.Card.place g.C.Card.stands true c.args.units.now o = subst (λ b. Stands g.C.Card.place g.C.Card.stands b c.args.units.now o) t c.requires in
     let w = world_of g.C.Card.reads c.args.units.now o in
     let r = ap (option_map present_of) (sym c.in-None.is) ∙ c.in_ok-present.ensures.found t apart in
-    key-present w apart (stores-formed laws c.args.units.now o eight stand) _ (query_of c.in-Some.query.now) (hit_of c.in-Some.spot.now) c.in-Some.ensures _ r
+    key-present w apart (stores-formed laws c.args.units.now o eight stand) _ (query_of c.in-Some.query.now) (spot_hit c.in-Some.spot.now) c.in-Some.ensures _ r

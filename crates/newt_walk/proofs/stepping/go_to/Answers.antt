@@ -3,7 +3,6 @@ use Rattle.std.proofs.Common.{◌∙◌, refl, ap, sym, subst, true, option_map}
 use Rattle.std.specs.Prelude.{is_none, slice_get}
 use Rattle.std.proofs.lemmas.Result.{err_from_is_err_and}
 use Rattle.newt_base.specs.declared.Refusal.TheVariants.{Entry as NoEntry}
-use Rattle.newt_cursor.specs.Seen.{hit_of}
 use Rattle.newt_spec_query.specs.Cursor.{on}
 use Rattle.newt_spec_world.specs.Answer.{current, or_nil}
 use Rattle.newt_spec_world.specs.Reply.{Reply}
@@ -15,6 +14,7 @@ use Rattle.newt_units.specs.Looks.{known_unit}
 use Rattle.newt_units.specs.Stands.{Stands, Eight}
 use Rattle.newt_units.proofs.Known.{Laws, card-known, mounted-known, unit-checks-are}
 use Rattle.newt_units.proofs.Settings.{is-err}
+use Rattle.newt_index.specs.Spots.{spot_hit}
 use Rattle.newt_walk.specs.Keyed.{seen_cursor}
 use Rattle.newt_walk.specs.World.{world_with}
 use Rattle.newt_walk.proofs.Going.{unit-faults, no-cursor-goto, no-hit-goto, hit-goto}
@@ -54,7 +54,7 @@ returns-in_default-2-clause-answered g c t apart =
     let there : OnUnit w c.args.unit (o.blocks c.args.unit) p.store = record { device_is = p.on.device_is } in
     let k = seen_cursor (c.in-Some.query, c.in-Some.field-0-1) in
     no-hit-goto w c.args.cursor c.args.unit c.args.uid (o.blocks c.args.unit) p.store there k (sym c.in-Some.ensures)
-    (sym (c.in_ok-spot.ensures.found t apart k refl) ∙ ap (option_map hit_of) c.in_default-2.is)
+    (sym (c.in_ok-spot.ensures.found t apart k refl) ∙ ap (option_map spot_hit) c.in_default-2.is)
     ∙ ap {A = World} {B = World × Reply} (λ v. (with_cursors c.args.desk.now v, Reply.refused NoEntry)) (sym (c.in_ok-spot.ensures.read.world t))
 
 pub returns-clause-answered : goal.returns-clause-answered
@@ -68,11 +68,11 @@ returns-clause-answered g c t apart =
     let p = card-known laws c.args.units.now o eight stand c.args.unit m.0 m.1 in
     let there : OnUnit w c.args.unit (o.blocks c.args.unit) p.store = record { device_is = p.on.device_is } in
     let k = seen_cursor (c.in-Some.query, c.in-Some.field-0-1) in
-    let h = hit_of c.in-Some-2.spot in
+    let h = spot_hit c.in-Some-2.spot in
     let same = ap (with_cursors c.args.desk.now) (c.in_ok-spot.ensures.read.world t) in
     let still = subst MountedApart (sym same) apart in
     let settled = c.in_ok-move_to.ensures.settled t still in
     hit-goto w c.args.cursor c.args.unit c.args.uid (o.blocks c.args.unit) p.store there k (sym c.in-Some.ensures) h
-    (sym (c.in_ok-spot.ensures.found t apart k refl) ∙ ap (option_map hit_of) c.in-Some-2.is) _ c.in_ok-move_to.field-0
+    (sym (c.in_ok-spot.ensures.found t apart k refl) ∙ ap (option_map spot_hit) c.in-Some-2.is) _ c.in_ok-move_to.field-0
     (settled ∙ ap (λ (w : World). settle (set_place w c.args.cursor (on h))) same)
     (c.in_ok-move_to.ensures.shown t still ∙ ap (λ (v : World). or_nil (current v) (flat (slice_get v.cursors c.args.cursor))) (sym settled))

@@ -2,7 +2,7 @@
 use Rattle.std.proofs.Common.{arith, ◌≡◌, ◌∙◌, refl, ap, sym, subst, Option, option_map, true}
 use Rattle.std.specs.Prelude.{IfSome}
 use Rattle.std.proofs.lemmas.Result.{err_from_is_err_and}
-use Rattle.newt_cursor.specs.Seen.{query_of, hit_of}
+use Rattle.newt_cursor.specs.Seen.{query_of}
 use Rattle.newt_index.specs.declared.identity.Spot.{Spot}
 use Rattle.newt_keys.specs.KeyForm.{IsKeyOf}
 use Rattle.newt_spec_world.specs.World.{World, mounted_stores}
@@ -11,6 +11,7 @@ use Rattle.newt_laws_hits.specs.Taking.{members_of}
 use Rattle.newt_union.specs.Merged.{merged}
 use Rattle.newt_units.specs.Stands.{Stands, Eight, world_of}
 use Rattle.newt_units.proofs.Known.{Laws}
+use Rattle.newt_index.specs.Spots.{spot_hit}
 use Rattle.newt_walk.specs.Ways.{beyond}
 use Rattle.newt_walk.proofs.Reading.{not-read, read-then, cause-since, handed}
 use Rattle.newt_walk.proofs.Stores.{stores-formed, stores-few}
@@ -29,7 +30,7 @@ steps-init g c = record {
       let stand : Stands g.C.Card.place g.C.Card.stands true c.args.units.now o = subst (λ b. Stands g.C.Card.place g.C.Card.stands b c.args.units.now o) t c.requires.stands in
       let w = world_of g.C.Card.reads c.args.units.now o in
       let q = query_of c.args.query.now in
-      let k = ahead-start w q apart (stores-formed laws c.args.units.now o eight stand) (stores-few laws c.args.units.now o eight stand) c.args.way (option_map hit_of c.args.start) in
+      let k = ahead-start w q apart (stores-formed laws c.args.units.now o eight stand) (stores-few laws c.args.units.now o eight stand) c.args.way (option_map spot_hit c.args.start) in
       omega (arith, k);
 }
 
@@ -39,7 +40,7 @@ returns-in_default-clause-read g c = c.steps.invariant.read
 pub returns-in_default-clause-walked : goal.returns-in_default-clause-walked
 returns-in_default-clause-walked g c t apart =
     let w = world_of g.C.Card.reads c.args.units.now (g.H.Host.outside c.args.host.now) in
-    c.edge.ensures ∙ sym (c.steps.invariant.walked t apart ∙ ap (λ (o : Option Spot). comes_to w (query_of c.args.query.now) c.args.way (option_map hit_of o)) c.in_default.is)
+    c.edge.ensures ∙ sym (c.steps.invariant.walked t apart ∙ ap (λ (o : Option Spot). comes_to w (query_of c.args.query.now) c.args.way (option_map spot_hit o)) c.in_default.is)
 
 pub keeps-requires : goal.keeps-requires
 keeps-requires g c = c.steps.invariant.read.stand
@@ -65,9 +66,9 @@ returns-then-branch-clause-walked g c t apart =
     let stand : Stands g.C.Card.place g.C.Card.stands true c.args.units.now o = subst (λ b. Stands g.C.Card.place g.C.Card.stands b c.args.units.now o) t c.requires.stands in
     let w = world_of g.C.Card.reads c.args.units.now o in
     let q = query_of c.args.query.now in
-    let kept = sym c.if-branch.true ∙ c.in_ok-keeps.ensures.kept t ∙ ap (λ (v : World). passing (mounted_stores v) q (hit_of c.in-Some.spot)) (c.steps.invariant.read.world t) in
-    sym (c.steps.invariant.walked t apart ∙ ap (λ (o : Option Spot). comes_to w q c.args.way (option_map hit_of o)) c.in-Some.is
-    ∙ passed-goal w q apart (stores-formed laws c.args.units.now o eight stand) c.args.way (hit_of c.in-Some.spot) kept)
+    let kept = sym c.if-branch.true ∙ c.in_ok-keeps.ensures.kept t ∙ ap (λ (v : World). passing (mounted_stores v) q (spot_hit c.in-Some.spot)) (c.steps.invariant.read.world t) in
+    sym (c.steps.invariant.walked t apart ∙ ap (λ (o : Option Spot). comes_to w q c.args.way (option_map spot_hit o)) c.in-Some.is
+    ∙ passed-goal w q apart (stores-formed laws c.args.units.now o eight stand) c.args.way (spot_hit c.in-Some.spot) kept)
 
 pub beyond-requires : goal.beyond-requires
 beyond-requires g c = subst (λ (o : Option Spot). IfSome o (λ spot. IsKeyOf c.args.query.now.spec.index spot.key)) c.in-Some.is c.steps.invariant.key
@@ -87,9 +88,9 @@ steps-preserved g c = record {
       let w = world_of g.C.Card.reads c.args.units.now o in
       let q = query_of c.args.query.now in
       let formed = stores-formed laws c.args.units.now o eight stand in
-      let kept = sym c.if-branch.false ∙ c.in_ok-keeps.ensures.kept t ∙ ap (λ (v : World). passing (mounted_stores v) q (hit_of c.in-Some.spot)) (c.steps.invariant.read.world t) in
-      c.steps.invariant.walked t apart ∙ ap (λ (o : Option Spot). comes_to w q c.args.way (option_map hit_of o)) c.in-Some.is
-      ∙ over-goal w q apart formed c.args.way (hit_of c.in-Some.spot) kept ∙ ap (comes_to w q c.args.way) (sym (found t));
+      let kept = sym c.if-branch.false ∙ c.in_ok-keeps.ensures.kept t ∙ ap (λ (v : World). passing (mounted_stores v) q (spot_hit c.in-Some.spot)) (c.steps.invariant.read.world t) in
+      c.steps.invariant.walked t apart ∙ ap (λ (o : Option Spot). comes_to w q c.args.way (option_map spot_hit o)) c.in-Some.is
+      ∙ over-goal w q apart formed c.args.way (spot_hit c.in-Some.spot) kept ∙ ap (comes_to w q c.args.way) (sym (found t));
   ahead = λ t apart.
       let laws : Laws g.C.Card.reads g.C.Card.place g.C.Card.soups g.C.Card.stands = record { formed = g.met.C.Card.formed; plain = g.met.C.Card.plain; durable = g.met.C.Card.durable; banks = g.met.C.Card.banks; kept = g.met.C.Card.kept } in
       let o = g.H.Host.outside c.args.host.now in
@@ -100,20 +101,20 @@ steps-preserved g c = record {
       let formed = stores-formed laws c.args.units.now o eight stand in
       let all = merged q.spec.index (members_of (mounted_stores w) q) in
       let was = c.steps.invariant.ahead t apart in
-      let is = ap (λ (o : Option Spot). ahead c.args.way q.spec.index all (option_map hit_of o)) c.in-Some.is in
-      let less = ahead-fewer w q apart formed c.args.way (hit_of c.in-Some.spot) in
+      let is = ap (λ (o : Option Spot). ahead c.args.way q.spec.index all (option_map spot_hit o)) c.in-Some.is in
+      let less = ahead-fewer w q apart formed c.args.way (spot_hit c.in-Some.spot) in
       let next = ap (ahead c.args.way q.spec.index all) (found t) in
       omega (arith, was, is, less, next);
 }
   where
-    found : Rattle.std.proofs.Common.IsTrue g.H.Host.told → option_map hit_of c.in_ok-found.found ≡ beyond c.args.way c.args.query.now.spec.index
-        (members_of (mounted_stores (world_of g.C.Card.reads c.args.units.now (g.H.Host.outside c.args.host.now))) (query_of c.args.query.now)) (hit_of c.in-Some.spot)
+    found : Rattle.std.proofs.Common.IsTrue g.H.Host.told → option_map spot_hit c.in_ok-found.found ≡ beyond c.args.way c.args.query.now.spec.index
+        (members_of (mounted_stores (world_of g.C.Card.reads c.args.units.now (g.H.Host.outside c.args.host.now))) (query_of c.args.query.now)) (spot_hit c.in-Some.spot)
     found t =
         let p = g.H.Host.outside c.keeps.new.host in
         let eight2 : Eight (g.H.Host.outside c.keeps.new.host) = record { eight = g.met.H.Host.eight c.keeps.new.host; none = g.met.H.Host.none c.keeps.new.host } in
         let stand2 : Stands g.C.Card.place g.C.Card.stands true c.keeps.new.units p = subst (λ b. Stands g.C.Card.place g.C.Card.stands b c.keeps.new.units p) t c.keeps.ensures.read.stand in
         c.in_ok-found.ensures.found p eight2 stand2
-        ∙ ap (λ (v : World). beyond c.args.way c.args.query.now.spec.index (members_of (mounted_stores v) (query_of c.args.query.now)) (hit_of c.in-Some.spot))
+        ∙ ap (λ (v : World). beyond c.args.way c.args.query.now.spec.index (members_of (mounted_stores v) (query_of c.args.query.now)) (spot_hit c.in-Some.spot))
         (c.keeps.ensures.read.world t ∙ c.steps.invariant.read.world t)
 
 pub returns-clause-read : goal.returns-clause-read

@@ -13,7 +13,8 @@ use Rattle.newt_host.specs.Outside.{Spends}
 use Rattle.newt_pagebook.specs.Book.{IsOpenFor}
 use Rattle.newt_store.specs.Change.{entry_fetched, pages_of_entry, most_bytes}
 use Rattle.newt_store.specs.Next.{turn_bytes}
-use Rattle.newt_store.proofs.Applying.{no-patch, spends-more, spends-both, none-due, full-due, refuses-full, refuses-first, from-err, sound-over, same-image, leaves-changed, leaves-before}
+use Rattle.newt_catalog.proofs.Opening.{same-image}
+use Rattle.newt_store.proofs.Applying.{no-patch, spends-more, spends-both, none-due, full-due, refuses-full, refuses-first, from-err, sound-over, leaves-changed, leaves-before}
 use Rattle.newt_store.proofs.store.Store.apply.Goals as goal
 
 pub returns-in-Patch-clause-accepted : goal.returns-in-Patch-clause-accepted

@@ -2,10 +2,11 @@ use Rattle.std.proofs.Common.{◌≡◌, Option, None, fold, map}
 use Rattle.std.specs.Prelude.{option_map}
 use Rattle.std.proofs.lemmas.Result.{IfOk-weaker}
 use Rattle.newt_spec_store.specs.Keys.{IndexSpec}
+use Rattle.newt_index.specs.Spots.{spot_hit}
 use Rattle.newt_union.specs.declared.hit.Hit.{Hit}
 use Rattle.newt_union.specs.Merged as merged
 use Rattle.newt_union.specs.Candidates.{after_in, with_lesser}
-use Rattle.newt_union.specs.Seen.{shown, seen, spot_hit}
+use Rattle.newt_union.specs.Seen.{shown, seen}
 use Rattle.newt_union.proofs.View.{have_key, after_seen}
 use Rattle.newt_union.proofs.members.Members.after.Goals as goal
 

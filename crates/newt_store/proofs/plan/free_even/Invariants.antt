@@ -1,6 +1,0 @@
-use Rattle.std.proofs.Common.{◌≢◌, ◌+◌, ◌*◌, ◌<◌, ℕ, None}
-use Rattle.newt_objects.specs.Held.{held}
-use Rattle.newt_store.proofs.plan.free_even.Given as goal
-
-abbrev pub invariant-loop-half : goal.invariant-loop-half
-invariant-loop-half l = (k : ℕ) → l.from < 2 * k → k < l.half → held l.objects (2 * k) ≢ None
