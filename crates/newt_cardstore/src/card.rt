@@ -1,9 +1,9 @@
 //! What is asked of a store on the card of one unit.
 ghost use Rattle.std.specs.Prelude.{◌≡◌, ℕ, ◌≤◌, [], ◌∷◌, List, Bool, IsTrue, Option, Some, None, is_some, length, option_map, option_and_then, slice_get, OnOk, IfSome, IfOk, IfErr, IsErrOf, true, ⊤};
 ghost use Rattle.newt_graph.specs.declared.node.Node.TheVariants.{Large};
-ghost use Rattle.newt_host.specs.Moments.{image, Leaves};
+ghost use Rattle.newt_host.specs.Moments.{image, IsDurable, Leaves, Anything};
 ghost use Rattle.newt_host.specs.Outside.{Outside, Rose, Touches};
-ghost use Rattle.newt_pagebook.specs.Book.{IsDurable, IsOpenFor, IsSameFor, Anything};
+ghost use Rattle.newt_pagebook.specs.Book.{IsOpenFor, IsSameFor};
 ghost use Rattle.newt_pagebook.specs.Stops.{StopsAt};
 ghost use Rattle.newt_index.specs.Pairs.{IsSorted};
 ghost use Rattle.newt_ranges.specs.Range.{range_in};

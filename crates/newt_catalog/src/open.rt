@@ -1,10 +1,9 @@
 // The store of an image is found.
 ghost use Rattle.std.specs.Prelude.{IsTrue, ◌≡◌, ◌≢◌, ◌+◌, ◌%◌, ◌<◌, ◌≤◌, ℕ, true, false, IsSome, Some, None, OnOk, IfOk, IsErrOf};
 ghost use Rattle.std.specs.List.{list_all};
-ghost use Rattle.newt_host.specs.Moments.{image};
+ghost use Rattle.newt_host.specs.Moments.{image, IsDurable};
 ghost use Rattle.newt_host.specs.Outside.{Touches, Rose};
 ghost use Rattle.newt_nsof.specs.Text.{AreBytes};
-ghost use Rattle.newt_pagebook.specs.Book.{IsDurable};
 ghost use Rattle.newt_objects.specs.Extents.{IsNextIn};
 ghost use Rattle.newt_objects.specs.Held.{held};
 ghost use Rattle.newt_laws_images.specs.Found.{HasGiven, IsFound};

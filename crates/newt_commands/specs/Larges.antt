@@ -3,7 +3,7 @@ use Rattle.std.specs.Prelude.{◌≡◌, ℕ, ◌+◌, List, Some, None, Result,
 use Rattle.newt_base.specs.Refusals.{first_of}
 use Rattle.newt_graph.specs.Graph.{RawGraph}
 use Rattle.newt_spec_store.specs.Keys.{Path}
-use Rattle.newt_spec_world.specs.Answer.{bytes_from}
+use Rattle.newt_host.specs.Moments.{bytes_from}
 use Rattle.newt_spec_world.specs.Changed.{large_bytes}
 use Rattle.newt_laws_answers.specs.Tests.{large_tests}
 use Rattle.newt_cardstore.specs.declared.fault.Fault.{Fault}

@@ -1,8 +1,7 @@
 //! Large binaries of entries: read and written over.
 ghost use Rattle.std.specs.Prelude.{◌≡◌, ◌+◌, IsTrue, IfErr, MatchOption, true, false, length, nat_lt, slice_get};
 ghost use Rattle.newt_host.specs.Outside.{OnDevices};
-ghost use Rattle.newt_host.specs.Moments.{Always};
-ghost use Rattle.newt_spec_world.specs.Answer.{bytes_from};
+ghost use Rattle.newt_host.specs.Moments.{Always, bytes_from};
 ghost use Rattle.newt_spec_world.specs.Changed.{bytes_of_large, large_at};
 ghost use Rattle.newt_spec_world.specs.Reply.{Reply};
 ghost use Rattle.newt_spec_world.specs.declared.command.Command.{Command};

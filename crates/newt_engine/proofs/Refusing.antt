@@ -15,7 +15,8 @@ use Rattle.newt_spec_query.specs.Cursor.{Cursor, Place, start, finish, on, hit_a
 use Rattle.newt_spec_world.specs.Alias.{Spot, alias_of, resolved}
 use Rattle.newt_spec_world.specs.World.{World, mounted_store, soup_in, entry_in, cursor, free_cursor, hits_of}
 use Rattle.newt_spec_world.specs.Changed.{large_bytes}
-use Rattle.newt_spec_world.specs.Answer.{answered, bytes_from, current, fields, or_nil, shown, side, spot_of}
+use Rattle.newt_host.specs.Moments.{bytes_from}
+use Rattle.newt_spec_world.specs.Answer.{answered, current, fields, or_nil, shown, side, spot_of}
 use Rattle.newt_laws_answers.specs.Spoken.{answer_now, checks_now}
 
 nil_not : {X : Type 0} (shown : X → plain.Reply) (o : Option X) (r : Refusal) → ((x : X) → shown x ≡ plain.Reply.refused r → ⊥) → or_nil shown o ≡ plain.Reply.refused r → ⊥

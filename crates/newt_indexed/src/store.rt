@@ -1,11 +1,11 @@
 //! A store on one unit with its ranges.
 ghost use Rattle.std.specs.Prelude.{IsTrue, ◌≡◌, ◌≤◌, ◌+◌, ◌*◌, ℕ, Some, None, IfOk, IfErr, IfSome, OnOk, IsErrOf, is_some, List};
 ghost use Rattle.std.specs.Option.{option_map};
-ghost use Rattle.newt_host.specs.Moments.{image};
+ghost use Rattle.newt_host.specs.Moments.{image, IsDurable};
 ghost use Rattle.newt_host.specs.Outside.{Touches, Spends, Rose};
 ghost use Rattle.newt_index.specs.Pairs.{IsSorted};
 ghost use Rattle.newt_pagebook.specs.Stops.{StopsAt};
-ghost use Rattle.newt_pagebook.specs.Book.{IsDurable, IsOpenFor};
+ghost use Rattle.newt_pagebook.specs.Book.{IsOpenFor};
 ghost use Rattle.newt_ranges.specs.Range.{range_in};
 ghost use Rattle.newt_ranges.specs.Stands.{AreRangesOf};
 ghost use Rattle.newt_spec_store.specs.Store.{Store as PlainStore, soup_of, entry_at, count_in};

@@ -1,12 +1,12 @@
 -- A unit becomes a journal of one record.
 use Rattle.std.proofs.Common.{◌≡◌, ℕ, ◌+◌, ◌-◌, ◌*◌, ◌≤◌, false, List, [], ◌∷◌, ◌++◌, length, take, replicate, Some, Result, Ok, sym, ◌∙◌, ap, subst, arith, length-append}
 use Rattle.std.proofs.lemmas.List.{length-replicate}
-use Rattle.newt_host.specs.Moments.{Moment, image, changes, IsDurable, SameOutside, Leaves}
+use Rattle.newt_host.specs.Moments.{Moment, image, changes, IsDurable, SameOutside, Leaves, Anything}
 use Rattle.newt_host.specs.Outside.{IsBlank, Writes, Syncs}
 use Rattle.newt_host.proofs.Moments.{Leaves-start, Leaves-sync, Leaves-weaken}
 use Rattle.newt_image.specs.Records.{bank_size, records, tail, AllVoteFor}
 use Rattle.newt_journal.specs.Bank.{bank_number, start_of}
-use Rattle.newt_journal.specs.Fresh.{lead, FilledBy, Anything}
+use Rattle.newt_journal.specs.Fresh.{lead, FilledBy}
 use Rattle.newt_journal.specs.Journal.{Holds, written, HeldBy}
 use Rattle.newt_journal.specs.declared.bank.Bank.{Bank}
 use Rattle.newt_journal.specs.declared.bank.Bank.TheVariants.{First}

@@ -12,7 +12,3 @@ pub record FilledBy (start size : ℕ) (base front : List ℕ) (more : ℕ) (don
   pub bytes : take size (drop start (bytes_after done)) ≡ front ++ replicate more 255
   pub kept : SameOutside start size base (bytes_after done)
   pub crash : (left : List ℕ) → LeftBy done left → SameOutside start size base left
-
--- nothing is said of what a crash leaves
-abbrev pub Anything : List ℕ → Type 0
-Anything left = Unit {0}

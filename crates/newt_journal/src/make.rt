@@ -1,9 +1,8 @@
 // A unit becomes a journal.
 ghost use Rattle.std.specs.Prelude.{IsTrue, ◌≡◌, ◌≤◌, OnErr, OnOk};
-ghost use Rattle.newt_host.specs.Moments.{image, IsDurable, Leaves};
+ghost use Rattle.newt_host.specs.Moments.{image, IsDurable, Leaves, Anything};
 ghost use Rattle.newt_host.specs.Outside.{Touches, Spends, Rose};
 ghost use Rattle.newt_image.specs.Records.{AllVoteFor};
-ghost use Rattle.newt_journal.specs.Fresh.{Anything};
 
 use crate::fresh::begin_bank;
 use crate::piece::program_piece;

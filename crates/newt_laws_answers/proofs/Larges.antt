@@ -12,7 +12,8 @@ use Rattle.newt_spec_world.specs.World.{World, entry_in, change_store}
 use Rattle.newt_spec_world.specs.Reply.{Reply}
 use Rattle.newt_spec_world.specs.Changed.{changed, bytes_of_large, large_at, large_bytes, patched, patched_at}
 use Rattle.newt_spec_world.specs.Refused.{checks, on_some}
-use Rattle.newt_spec_world.specs.Answer.{bytes_from, fields, or_nil}
+use Rattle.newt_host.specs.Moments.{bytes_from}
+use Rattle.newt_spec_world.specs.Answer.{fields, or_nil}
 use Rattle.newt_laws_answers.specs.Tests.{entry_checks, large_tests, patch_tests, patched_within}
 use Rattle.newt_laws_answers.specs.Spoken.{checks_now, answer_now}
 use Rattle.newt_laws_answers.specs.There.{OnUnit}

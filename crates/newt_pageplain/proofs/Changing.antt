@@ -16,7 +16,7 @@ use Rattle.std.proofs.lemmas.Map.Keys.{IsDistinct-head, IsDistinct-tail}
 use Rattle.std.proofs.lemmas.Map.Steps.{length-le_from_keys}
 use Rattle.newt_host.specs.Moments.{image}
 use Rattle.newt_image.specs.Records.{and_then, records, bank_size}
-use Rattle.newt_image.specs.Pages.{Pages, Change, change_numbers, all_distinct, change_in, with_puts, without_numbers, after, pages, pages_after, cap}
+use Rattle.newt_image.specs.Pages.{Pages, Put, Change, change_numbers, all_distinct, change_in, with_puts, without_numbers, after, pages, pages_after, cap}
 use Rattle.newt_journal.specs.Journal.{appended, room}
 use Rattle.newt_journal.specs.Bank.{limit_of}
 use Rattle.newt_journal.specs.declared.journal.Journal.{Journal}
@@ -30,9 +30,6 @@ use Rattle.newt_pageplain.specs.Kept.{Entries, page_in, map_of, numbers_in, get_
 use Rattle.newt_pageplain.proofs.Maps.{turned, same_maps}
 use Rattle.newt_pageplain.proofs.Counts.{live-is, numbers-after, any_numbers}
 use Rattle.newt_pageplain.proofs.Spelling.{fewer_deletes, is_distinct, distinct_is, back_distinct, not_put, front_small, both_true, not_true}
-
-abbrev Put : Type 0
-Put = ℕ × List ℕ
 
 -- a record more
 after-append : (ps : List (List ℕ)) (payload : List ℕ) (m live : Pages) (change : Change) → pages_after ps m ≡ Some live → change_in payload ≡ Some change → pages_after (ps ++ payload ∷ []) m ≡ Some (after change live)

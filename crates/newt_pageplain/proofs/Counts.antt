@@ -10,15 +10,12 @@ use Rattle.std.specs.FinMap as map
 use Rattle.std.specs.FinSet as set
 use Rattle.std.proofs.lemmas.List.{take_more}
 use Rattle.std.proofs.lemmas.List.Folds.{list_any-append}
-use Rattle.newt_image.specs.Pages.{Pages, Change, change_numbers, all_distinct, with_puts, without_numbers, after}
+use Rattle.newt_image.specs.Pages.{Pages, Put, Change, change_numbers, all_distinct, with_puts, without_numbers, after}
 use Rattle.newt_pagebook.specs.Book.{Numbers, with_put_numbers, without_deleted, changed_numbers}
 use Rattle.newt_pagebook.proofs.Tests.{true_or_false, is_same, equal_true, same_test, neither}
 use Rattle.newt_pagebook.proofs.Changes.{get_insert, get_remove}
 use Rattle.newt_pageplain.specs.Kept.{Entries, map_of, numbers_in, named_in}
 use Rattle.newt_pageplain.proofs.Maps.{turned, no_put}
-
-abbrev Put : Type 0
-Put = ℕ × List ℕ
 
 both_true : (a b : Bool) → (a && b) ≡ true → (a ≡ true) × (b ≡ true)
 both_true true true e = (refl, refl)

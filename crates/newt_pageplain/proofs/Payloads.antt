@@ -4,14 +4,11 @@ use Rattle.std.specs.List.{All, list_any, list_all}
 use Rattle.std.proofs.lemmas.List.{drop-drop, append-nil, map-append}
 use Rattle.std.proofs.lemmas.List.Elements.{All-head, All-tail}
 use Rattle.std.proofs.lemmas.Bool.Decides.{nat_tests}
-use Rattle.newt_image.specs.Pages.{Change, change_numbers, all_distinct, word_at, short_at, puts_from, deletes_from, said_by, is_change, change_in}
+use Rattle.newt_image.specs.Pages.{Put, Change, change_numbers, all_distinct, word_at, short_at, puts_from, deletes_from, said_by, is_change, change_in}
 use Rattle.newt_pagebook.specs.Batch.{IsBatch, names, puts_one, deletes_one}
 use Rattle.newt_pagebook.proofs.Tests.{true_or_false, is_same, equal_true}
 use Rattle.newt_pagebook.proofs.Changes.{names_put, names_delete}
 use Rattle.newt_pageplain.specs.Replay.{IsSeen, IsTaken, IsRefused}
-
-abbrev Put : Type 0
-Put = ℕ × List ℕ
 
 puts_from-split : (i m n : ℕ) (bytes : List ℕ) → n ≡ i + m → puts_from n bytes ≡ puts_from i bytes ++ puts_from m (drop (516 * i) bytes)
 puts_from-split zero m n bytes e = ap (λ (k : ℕ). puts_from k bytes) (let s : n ≡ m = omega arith in s)

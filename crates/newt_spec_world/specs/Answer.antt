@@ -1,7 +1,8 @@
 -- What the world answers: the first refusal that holds, or the fields of the reply. Replies are this project's own.
-use Rattle.std.specs.Prelude.{ℕ, List, [], ◌∷◌, map, length, take, drop, Option, Some, None, option_map, option_and_then, unwrap_or}
+use Rattle.std.specs.Prelude.{ℕ, List, [], ◌∷◌, map, length, Option, Some, None, option_map, option_and_then, unwrap_or}
 use Rattle.newt_base.specs.Refusals.{first_of}
 use Rattle.newt_base.specs.declared.Refusal.{Refusal}
+use Rattle.newt_host.specs.Moments.{bytes_from}
 use Rattle.newt_spec_query.specs.Hits.{Hit}
 use Rattle.newt_spec_query.specs.Cursor.{Cursor, start, finish, on, hit_at}
 use Rattle.newt_spec_world.specs.declared.command.Command.{Command}
@@ -43,10 +44,6 @@ side k = elim k.place [ start ↦ Reply.begin | finish ↦ Reply.«end» | on _ 
 -- the id that the next entry of a soup gets (a word of these definitions)
 abbrev pub new_uid : World → ℕ → List ℕ → ℕ
 new_uid w u name = unwrap_or (option_map (λ p. p.next_uid) (soup_in w u name)) 0
-
--- so many bytes from a place on (a word of these definitions)
-abbrev pub bytes_from : ℕ → ℕ → List ℕ → List ℕ
-bytes_from at len bytes = take len (drop at bytes)
 
 -- ---- the table: the fields of each command, from the world before it and the world after it
 

@@ -1,10 +1,10 @@
 // A fresh store.
 ghost use Rattle.std.specs.Prelude.{IsTrue, ◌≡◌, ◌≤◌, Some, OnOk, IfOk, IfErr, IsErrOf};
 ghost use Rattle.newt_base.specs.Names.{is_name};
-ghost use Rattle.newt_host.specs.Moments.{image, Leaves};
+ghost use Rattle.newt_host.specs.Moments.{image, IsDurable, Leaves, Anything};
 ghost use Rattle.newt_host.specs.Outside.{Touches};
 ghost use Rattle.newt_pagebook.specs.Stops.{StopsAt};
-ghost use Rattle.newt_pagebook.specs.Book.{Anything, IsDurable, IsOpenFor};
+ghost use Rattle.newt_pagebook.specs.Book.{IsOpenFor};
 ghost use Rattle.newt_entries.specs.Entry.{stream_graph};
 ghost use Rattle.newt_soupdir.specs.Bare.{bare_store};
 ghost use Rattle.newt_spec_store.specs.Store.{new_store};

@@ -1,10 +1,10 @@
 // A store on one unit.
 ghost use Rattle.std.specs.Prelude.{IsTrue, ◌≡◌, ◌≤◌, ◌*◌, ℕ, Some, None, OnOk, IfOk, IfErr, IsErrOf, is_some, List};
 ghost use Rattle.std.specs.Option.{option_map};
-ghost use Rattle.newt_host.specs.Moments.{image, Leaves};
+ghost use Rattle.newt_host.specs.Moments.{image, IsDurable, Leaves, Anything};
 ghost use Rattle.newt_host.specs.Outside.{Touches, Spends, Rose};
 ghost use Rattle.newt_pagebook.specs.Stops.{StopsAt};
-ghost use Rattle.newt_pagebook.specs.Book.{Anything, IsDurable, IsOpenFor};
+ghost use Rattle.newt_pagebook.specs.Book.{IsOpenFor};
 ghost use Rattle.newt_spec_store.specs.Store.{Store as PlainStore, soup_of, entry_at, count_in, new_store};
 ghost use Rattle.newt_spec_store.specs.OfImage.{blocks_of};
 ghost use Rattle.newt_entries.specs.Entry.{stream_graph};

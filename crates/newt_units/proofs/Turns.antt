@@ -2,10 +2,9 @@
 use Rattle.std.proofs.Common.{◌≡◌, refl, ap, sym, ◌∙◌, subst, ℕ, List, ◌⊎◌, inl, inr, Bool, true, false, Option, Some, None, option_map, option_and_then}
 use Rattle.std.specs.Prelude.{Result, Ok, Err, IsSome}
 use Rattle.newt_base.specs.Refusals.{Checks, first_of}
-use Rattle.newt_host.specs.Moments.{Moment, changes, image, MayLeave, LeftBy, Always, Leaves, AtMoment, here}
+use Rattle.newt_host.specs.Moments.{Moment, changes, image, MayLeave, LeftBy, Always, Leaves, Anything, AtMoment, here}
 use Rattle.newt_host.specs.Outside.{Outside, SameCards}
 use Rattle.newt_host.proofs.Moments.{Always-map}
-use Rattle.newt_pagebook.specs.Book.{Anything}
 use Rattle.newt_spec_graph.proofs.Lists.{some-same, none-some}
 use Rattle.newt_laws.proofs.Units.{same-or-not}
 use Rattle.newt_spec_store.specs.Store.{Store, new_store}

@@ -3,38 +3,37 @@ use Rattle.std.proofs.Common.{◌≡◌, ℕ, zero, suc, ◌+◌, ◌-◌, ◌*�
 use Rattle.std.specs.List.{flat_map}
 use Rattle.std.proofs.lemmas.List.{append-nil, take_at, drop_at, take-take, take-append-le, drop-append-le, drop-drop, drop-take}
 use Rattle.std.proofs.Math.Seq.{take-add}
-use Rattle.newt_host.specs.Moments.{overwritten}
+use Rattle.newt_host.specs.Moments.{overwritten, bytes_from}
 use Rattle.newt_host.proofs.Ranges.{length-overwritten}
 use Rattle.newt_pagebook.proofs.Tests.{some_inj}
-use Rattle.newt_vbo.specs.Ranges.{range_of}
 
-pub range_more : (at a c : ℕ) (l : List ℕ) → range_of at (a + c) l ≡ range_of at a l ++ range_of (at + a) c l
+pub range_more : (at a c : ℕ) (l : List ℕ) → bytes_from at (a + c) l ≡ bytes_from at a l ++ bytes_from (at + a) c l
 range_more at a c l = take-add a c (drop at l) ∙ ap (λ (m : List ℕ). take a (drop at l) ++ take c m) (drop-drop a at l)
 
 -- a range of the first bytes
-pub range_cut : (at c n : ℕ) (l : List ℕ) → at + c ≤ n → range_of at c (take n l) ≡ range_of at c l
+pub range_cut : (at c n : ℕ) (l : List ℕ) → at + c ≤ n → bytes_from at c (take n l) ≡ bytes_from at c l
 range_cut at c n l fits =
     let e : n ≡ at + (n - at) = omega arith in
     ap (λ (k : ℕ). take c (drop at (take k l))) e ∙ ap (λ (m : List ℕ). take c m) (drop-take at (n - at) l) ∙ take-take c (n - at) (drop at l) (omega arith)
 
-range_left : (a b : List ℕ) (s c : ℕ) → s + c ≤ length a → range_of s c (a ++ b) ≡ range_of s c a
+range_left : (a b : List ℕ) (s c : ℕ) → s + c ≤ length a → bytes_from s c (a ++ b) ≡ bytes_from s c a
 range_left a b s c fits =
     ap (λ (m : List ℕ). take c m) (drop-append-le s a b (omega arith)) ∙ take-append-le c (drop s a) b (omega (arith, fits, length-drop s a))
 
-range_right : (a b : List ℕ) (q p c : ℕ) → q ≡ length a + p → range_of q c (a ++ b) ≡ range_of p c b
+range_right : (a b : List ℕ) (q p c : ℕ) → q ≡ length a + p → bytes_from q c (a ++ b) ≡ bytes_from p c b
 range_right a b q p c e =
     ap (λ (k : ℕ). take c (drop k (a ++ b))) e ∙ ap (λ (m : List ℕ). take c m) (sym (drop-drop p (length a) (a ++ b)) ∙ ap (λ (m : List ℕ). drop p m) (drop_at a b (length a) refl))
 
 -- a range that lies in one of parts of 500 bytes
 pub range_in_part : (d : ℕ → List ℕ) (ns : List ℕ) (k s c n : ℕ) → ((j m : ℕ) → slice_get ns j ≡ Some m → length (d m) ≡ 500) → slice_get ns k ≡ Some n → s + c ≤ 500
-    → range_of (500 * k + s) c (flat_map d ns) ≡ range_of s c (d n)
+    → bytes_from (500 * k + s) c (flat_map d ns) ≡ bytes_from s c (d n)
 range_in_part d [] k s c n sizes at fits = absurd (cc)
 range_in_part d (m ∷ ns) zero s c n sizes at fits =
     let same : m ≡ n = some_inj m n at in
     let e : 500 * 0 + s ≡ s = omega arith in
-    ap (λ (k : ℕ). range_of k c (d m ++ flat_map d ns)) e
+    ap (λ (k : ℕ). bytes_from k c (d m ++ flat_map d ns)) e
     ∙ range_left (d m) (flat_map d ns) s c (omega (arith, fits, sizes zero m refl))
-    ∙ ap (λ (i : ℕ). range_of s c (d i)) same
+    ∙ ap (λ (i : ℕ). bytes_from s c (d i)) same
 range_in_part d (m ∷ ns) (suc k) s c n sizes at fits =
     range_right (d m) (flat_map d ns) (500 * suc k + s) (500 * k + s) c (omega (arith, sizes zero m refl))
     ∙ range_in_part d ns k s c n (λ j i e. sizes (suc j) i e) at fits

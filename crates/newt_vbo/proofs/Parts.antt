@@ -14,7 +14,8 @@ use Rattle.newt_objects.specs.Extents.{IsUnnamed}
 use Rattle.newt_objects.specs.Held.{Held, held, page_at, AreOf}
 use Rattle.newt_objects.specs.Changing.{AreWhole}
 use Rattle.newt_vbo.specs.declared.range.Piece.{Piece}
-use Rattle.newt_vbo.specs.Ranges.{range_of, before_part, IsPiece}
+use Rattle.newt_host.specs.Moments.{bytes_from}
+use Rattle.newt_vbo.specs.Ranges.{before_part, IsPiece}
 use Rattle.newt_vbo.proofs.Lists.{range_cut, range_more, range_in_part}
 
 -- each part of an object has a number
@@ -58,22 +59,22 @@ joined_length live x whole count = omega (arith, joined_long live x whole count,
 
 -- the bytes of an object that lie in one part
 pub joined_range : (live : Pages) (x : Extent) → HasWhole live x → (k number s c : ℕ) → slice_get x.numbers k ≡ Some number → s + c ≤ 500 → 500 * k + s + c ≤ x.length
-    → range_of (500 * k + s) c (joined live x) ≡ range_of s c (data_at live number)
+    → bytes_from (500 * k + s) c (joined live x) ≡ bytes_from s c (data_at live number)
 joined_range live x whole k number s c at inside within =
     range_cut (500 * k + s) c x.length (flat_map (data_at live) x.numbers) within
     ∙ range_in_part (data_at live) x.numbers k s c number whole at inside
 
 -- one piece more of what is read
 pub range_step : (live : Pages) (x : Extent) → HasWhole live x → (part number at end : ℕ) (piece : Piece) → IsPiece part at end piece → slice_get x.numbers part ≡ Some number → at ≤ end → end ≤ x.length
-    → (old new : List ℕ) → old ≡ range_of at (before_part part at end) (joined live x) → new ≡ old ++ range_of piece.from piece.count (data_at live number)
-    → new ≡ range_of at (before_part (part + 1) at end) (joined live x)
+    → (old new : List ℕ) → old ≡ bytes_from at (before_part part at end) (joined live x) → new ≡ old ++ bytes_from piece.from piece.count (data_at live number)
+    → new ≡ bytes_from at (before_part (part + 1) at end) (joined live x)
 range_step live x whole part number at end piece is slot forward fits old new so_far more =
     let text : List ℕ = joined live x in
     let within : 500 * part + piece.from + piece.count ≤ x.length = omega (arith, is.place, is.last, forward, fits) in
     more
-    ∙ ap (λ (l : List ℕ). l ++ range_of piece.from piece.count (data_at live number)) (so_far ∙ ap (λ (n : ℕ). range_of at n text) (sym is.first))
-    ∙ ap (λ (l : List ℕ). range_of at piece.start text ++ l) (sym (joined_range live x whole part number piece.from piece.count slot is.inside within) ∙ ap (λ (k : ℕ). range_of k piece.count text) (sym is.place))
-    ∙ sym (range_more at piece.start piece.count text) ∙ ap (λ (n : ℕ). range_of at n text) is.last
+    ∙ ap (λ (l : List ℕ). l ++ bytes_from piece.from piece.count (data_at live number)) (so_far ∙ ap (λ (n : ℕ). bytes_from at n text) (sym is.first))
+    ∙ ap (λ (l : List ℕ). bytes_from at piece.start text ++ l) (sym (joined_range live x whole part number piece.from piece.count slot is.inside within) ∙ ap (λ (k : ℕ). bytes_from k piece.count text) (sym is.place))
+    ∙ sym (range_more at piece.start piece.count text) ∙ ap (λ (n : ℕ). bytes_from at n text) is.last
 
 -- what is loaded for one part more
 pub spends_more : (unit first part : ℕ) (a b c : Outside) → first ≤ part → Spends unit 0 (512 * (part - first)) a b → Spends unit 0 512 b c → Spends unit 0 (512 * (part + 1 - first)) a c

@@ -3,10 +3,6 @@ use Rattle.std.specs.Prelude.{◌≡◌, ℕ, zero, suc, ◌+◌, ◌-◌, ◌*�
 use Rattle.newt_image.specs.Objects.{Extent}
 use Rattle.newt_vbo.specs.declared.range.Piece.{Piece}
 
--- so many bytes of a text, from a place on
-abbrev pub range_of : ℕ → ℕ → List ℕ → List ℕ
-range_of at n text = take n (drop at text)
-
 -- How many parts they lie in, from that of the first byte to that of the last; none where there are no bytes.
 abbrev pub parts_met : ℕ → ℕ → ℕ
 parts_met at zero = 0

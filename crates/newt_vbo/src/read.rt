@@ -1,12 +1,12 @@
 // Bytes of an object are read.
 ghost use Rattle.std.specs.Prelude.{IsTrue, ◌≡◌, ◌+◌, ◌*◌, ◌<◌, ◌≤◌, ◌++◌, true, length, Some, IsSome, IfSome, IfOk, OnOk, IsErrOf};
 ghost use Rattle.std.specs.FinSet as set;
-ghost use Rattle.newt_host.specs.Moments.{image};
+ghost use Rattle.newt_host.specs.Moments.{image, bytes_from};
 ghost use Rattle.newt_host.specs.Outside.{Touches, Spends, Rose};
 ghost use Rattle.newt_image.specs.Pages.{Pages, pages, page_data};
 ghost use Rattle.newt_image.specs.Objects.{joined, data_at};
 ghost use Rattle.newt_objects.specs.Held.{held, AreOf};
-ghost use Rattle.newt_vbo.specs.Ranges.{range_of, parts_met as parts_of};
+ghost use Rattle.newt_vbo.specs.Ranges.{parts_met as parts_of};
 
 use crate::RangeFault;
 use crate::range::{Piece, check_range, parts_met, piece_in};
@@ -18,7 +18,7 @@ use std::alloc::Global;
 // So many bytes of a page's part, from a place on.
 fn bytes_in(page: &Page, from: usize, count: usize) -> &[u8]
     requires { from + count ≤ 500 }
-    ensures bytes { result.now ≡ range_of from count (page_data page.now) }
+    ensures bytes { result.now ≡ bytes_from from count (page_data page.now) }
     ensures size { length result.now ≡ count }
 {
     let start = 12 + from;
@@ -36,7 +36,7 @@ fn append_piece<P: PageBook, H: Host>(
     requires live { set.contains (P.numbers book.old) number ≡ true }
     requires stands { P.stands H.told book.old (H.outside host.old) }
     requires inside { piece.from + piece.count ≤ 500 }
-    ensures appended { IsTrue H.told → (live : Pages) → pages (image (P.place book.old) (H.outside host.old).now) ≡ Some live → OnOk result (bytes.new.items ≡ bytes.old.items ++ range_of piece.from piece.count (data_at live number)) }
+    ensures appended { IsTrue H.told → (live : Pages) → pages (image (P.place book.old) (H.outside host.old).now) ≡ Some live → OnOk result (bytes.new.items ≡ bytes.old.items ++ bytes_from piece.from piece.count (data_at live number)) }
     ensures size { OnOk result (length bytes.new.items ≡ length bytes.old.items + piece.count) }
     ensures stands { P.stands H.told book.new (H.outside host.new) }
     ensures same { (P.place book.new ≡ P.place book.old) × (P.numbers book.new ≡ P.numbers book.old) × (P.spare book.new ≡ P.spare book.old) }
@@ -65,7 +65,7 @@ pub fn read_range<P: PageBook, H: Host>(
     requires there { IsSome (held objects.now id) }
     requires stands { P.stands H.told book.old (H.outside host.old) }
     requires objects { AreOf H.told (held objects.now) (P.numbers book.old) (P.place book.old) (H.outside host.old) }
-    ensures bytes { IfOk result (λ bytes. IsTrue H.told → (live : Pages) → pages (image (P.place book.old) (H.outside host.old).now) ≡ Some live → IfSome (held objects.now id) (λ x. bytes.items ≡ range_of at len (joined live x))) }
+    ensures bytes { IfOk result (λ bytes. IsTrue H.told → (live : Pages) → pages (image (P.place book.old) (H.outside host.old).now) ≡ Some live → IfSome (held objects.now id) (λ x. bytes.items ≡ bytes_from at len (joined live x))) }
     ensures size { IfOk result (λ bytes. length bytes.items ≡ len) }
     ensures range { IsErrOf result RangeFault.Range → IfSome (held objects.now id) (λ x. x.length < at + len) }
     ensures past { IfSome (held objects.now id) (λ x. x.length < at + len → IsErrOf result RangeFault.Range) }

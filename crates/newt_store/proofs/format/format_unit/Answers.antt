@@ -1,8 +1,7 @@
 use Rattle.std.proofs.Common.{◌≡◌, ◌≤◌, ℕ, List, sym, ◌∙◌, ap, subst, arith}
 use Rattle.std.specs.FinMap as map
-use Rattle.newt_host.specs.Moments.{image}
+use Rattle.newt_host.specs.Moments.{image, Anything}
 use Rattle.newt_image.specs.Pages.{Change}
-use Rattle.newt_pagebook.specs.Book.{Anything}
 use Rattle.newt_host.proofs.Moments.{Leaves-start}
 use Rattle.newt_objects.specs.Changing.{IsUnderWay, HoldsObjects}
 use Rattle.newt_spec_store.specs.Cost.{directory_bytes}

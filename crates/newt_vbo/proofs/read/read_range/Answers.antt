@@ -1,6 +1,6 @@
 use Rattle.std.proofs.Common.{◌≡◌, ℕ, ◌+◌, ◌/◌, ◌≤◌, List, slice_get, Option, Some, sym, ◌∙◌, ap, subst, arith}
 use Rattle.std.specs.Option.{option_and_then}
-use Rattle.newt_host.specs.Moments.{Moment, image}
+use Rattle.newt_host.specs.Moments.{Moment, image, bytes_from}
 use Rattle.newt_host.specs.Outside.{Touches, Spends}
 use Rattle.newt_host.proofs.Outside.{Touches-append}
 use Rattle.newt_image.specs.Pages.{pages}
@@ -9,7 +9,7 @@ use Rattle.newt_objects.specs.Held.{held}
 use Rattle.newt_objects.specs.Changing.{AreWhole}
 use Rattle.newt_objects.proofs.Changing.{told_table}
 use Rattle.newt_objects.proofs.Whole.{image_whole}
-use Rattle.newt_vbo.specs.Ranges.{range_of, parts_met, before_part}
+use Rattle.newt_vbo.specs.Ranges.{parts_met, before_part}
 use Rattle.newt_vbo.proofs.Counts.{before_end}
 use Rattle.newt_vbo.proofs.Parts.{data_whole, range_step, spends_more, for_some, of_some}
 use Rattle.newt_vbo.proofs.read.read_range.Goals as goal
@@ -55,5 +55,5 @@ returns-clause-bytes g c = λ told live is.
     let high : c.loop-part.part ≤ at / 500 + c.parts_met.result = c.loop-part.auto.part-end (omega arith) in
     let last : c.loop-part.part ≡ at / 500 + parts_met at len = omega (arith, high, c.loop-part-test.false, c.parts_met.ensures) in
     let all : before_part c.loop-part.part at (at + len) ≡ len = ap (λ (k : ℕ). before_part k at (at + len)) last ∙ before_end at len in
-    for_some (held c.args.objects.now c.args.id) (λ x. c.loop-part.bytes.items ≡ range_of at len (joined live x))
-    (λ x there. c.loop-part.invariant.so_far told live is x there ∙ ap (λ (n : ℕ). range_of at n (joined live x)) all)
+    for_some (held c.args.objects.now c.args.id) (λ x. c.loop-part.bytes.items ≡ bytes_from at len (joined live x))
+    (λ x there. c.loop-part.invariant.so_far told live is x there ∙ ap (λ (n : ℕ). bytes_from at n (joined live x)) all)

@@ -1,10 +1,10 @@
 use Rattle.std.proofs.Common.{IsTrue, ◌≡◌, ◌+◌, ◌-◌, ◌*◌, ◌/◌, Some, length}
-use Rattle.newt_host.specs.Moments.{image}
+use Rattle.newt_host.specs.Moments.{image, bytes_from}
 use Rattle.newt_host.specs.Outside.{Touches, Spends}
 use Rattle.newt_image.specs.Pages.{Pages, pages}
 use Rattle.newt_image.specs.Objects.{Extent, joined}
 use Rattle.newt_objects.specs.Held.{held}
-use Rattle.newt_vbo.specs.Ranges.{range_of, before_part}
+use Rattle.newt_vbo.specs.Ranges.{before_part}
 use Rattle.newt_vbo.proofs.read.read_range.Given as goal
 
 abbrev pub invariant-loop-part : goal.invariant-loop-part
@@ -20,5 +20,5 @@ invariant-loop-part g l =
       size : length l.bytes.items ≡ before_part l.part l.at (l.at + l.len);
       costs : Spends (place l.fn.book) 0 (512 * (l.part - l.at / 500)) (outside l.fn.host) (outside l.host);
       so_far : IsTrue g.H.Host.told → (live : Pages) → pages (image (place l.fn.book) (outside l.fn.host).now) ≡ Some live → (x : Extent) → held l.objects l.id ≡ Some x
-          → l.bytes.items ≡ range_of l.at (before_part l.part l.at (l.at + l.len)) (joined live x);
+          → l.bytes.items ≡ bytes_from l.at (before_part l.part l.at (l.at + l.len)) (joined live x);
     }

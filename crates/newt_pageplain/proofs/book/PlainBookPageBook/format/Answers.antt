@@ -3,7 +3,7 @@ use Rattle.std.proofs.lemmas.List.{length-replicate}
 use Rattle.newt_host.proofs.Moments.{Leaves-start}
 use Rattle.newt_image.specs.Records.{bank_size}
 use Rattle.newt_image.specs.Pages.{change_in, written_change}
-use Rattle.newt_pagebook.specs.Book.{Anything}
+use Rattle.newt_host.specs.Moments.{Anything}
 use Rattle.newt_pageplain.proofs.Spelling.{written-says, written-length}
 use Rattle.newt_pageplain.proofs.Changing.{cap-few, cap-fits}
 use Rattle.newt_pageplain.proofs.book.PlainBookPageBook.format.Goals as goal
