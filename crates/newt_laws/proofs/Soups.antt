@@ -1,5 +1,5 @@
 -- Declarations of soups, and new stores, are well formed.
-use Rattle.std.proofs.Common.{arith, ◌≡◌, ℕ, List, true, length, nat_le}
+use Rattle.std.proofs.Common.{arith, ◌≡◌, ℕ, List, true, nat_le}
 use Rattle.newt_base.specs.Names.{is_name}
 use Rattle.newt_spec_store.specs.Store.{new_store}
 use Rattle.newt_spec_store.specs.Valid.{well_formed}
