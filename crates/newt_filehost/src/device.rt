@@ -9,7 +9,7 @@ use std::rt::Files;
 
 /// Opens a file for reading and writing and syncs it, and answers it with the number of its whole blocks of 4,096 bytes, at most `u32::MAX`. None where
 /// the system refuses one of these.
-pub fn open<S: Files>(system: &S, name: &str) -> Option<(S::File, u32)> {
+pub(crate) fn open<S: Files>(system: &S, name: &str) -> Option<(S::File, u32)> {
     let file = OpenOptions::new()
         .read(true)
         .write(true)
@@ -21,7 +21,7 @@ pub fn open<S: Files>(system: &S, name: &str) -> Option<(S::File, u32)> {
 }
 
 /// Keeps the file of a unit, and answers whether there was memory for it.
-pub fn keep<F: Drop>(files: &mut Vec<Option<F>>, unit: Unit, file: F) -> bool {
+pub(crate) fn keep<F: Drop>(files: &mut Vec<Option<F>>, unit: Unit, file: F) -> bool {
     let place = unit.0 as usize;
     for _ in files.len()..place + 1 {
         if files.push(None).is_err() {
@@ -38,7 +38,7 @@ pub fn keep<F: Drop>(files: &mut Vec<Option<F>>, unit: Unit, file: F) -> bool {
 }
 
 /// Fills a buffer from a place of the file, and answers whether that was done.
-pub fn get<F: Read + Seek>(
+pub(crate) fn get<F: Read + Seek>(
     files: &mut Vec<Option<F>>,
     unit: Unit,
     at: u64,
@@ -53,7 +53,7 @@ pub fn get<F: Read + Seek>(
 }
 
 /// Writes all the bytes at a place of the file and no others, and answers whether that was done.
-pub fn put<F: Write + Seek>(files: &mut Vec<Option<F>>, unit: Unit, at: u64, bytes: &[u8]) -> bool {
+pub(crate) fn put<F: Write + Seek>(files: &mut Vec<Option<F>>, unit: Unit, at: u64, bytes: &[u8]) -> bool {
     match files.get_mut(unit.0 as usize) {
         Some(Some(file)) => {
             file.seek(SeekFrom::Start(at)).is_ok() && file.write_all(bytes).is_ok()
@@ -63,7 +63,7 @@ pub fn put<F: Write + Seek>(files: &mut Vec<Option<F>>, unit: Unit, at: u64, byt
 }
 
 /// Syncs the file: what was written is on the disk. Answers whether that was done.
-pub fn sync<F: OpenFile>(files: &mut Vec<Option<F>>, unit: Unit) -> bool {
+pub(crate) fn sync<F: OpenFile>(files: &mut Vec<Option<F>>, unit: Unit) -> bool {
     match files.get_mut(unit.0 as usize) {
         Some(Some(file)) => file.sync_all().is_ok(),
         _ => false,
@@ -71,7 +71,7 @@ pub fn sync<F: OpenFile>(files: &mut Vec<Option<F>>, unit: Unit) -> bool {
 }
 
 /// A unit has this file from now on.
-pub fn attach(card: &mut Card, name: Vec<u8>, blocks: u32)
+pub(crate) fn attach(card: &mut Card, name: Vec<u8>, blocks: u32)
     ensures attached { card.new.attached ≡ true }
     ensures name { card.new.name.items ≡ name.items }
     ensures faults { card.new.faults ≡ card.old.faults }

@@ -1,7 +1,7 @@
-//! The host over real files, which lie in the folder that the tests run in, and which each test removes.
+//! The host over real files.
 ghost use Rattle.std.specs.Prelude.{◌≡◌, ℕ, IsFalse, IsSome, None};
 
-use crate::files::FileHost;
+use newt_filehost::FileHost;
 use newt_host::{Host, Unit};
 use std::fs;
 use std::os::unix::fs::PermissionsExt;

@@ -5,7 +5,7 @@ use newt_host::Failed;
 use std::io::{ErrorKind, Read, Write};
 
 /// Takes some bytes, and tries again where a signal came between.
-pub fn take<R: Read>(input: &mut R, buf: &mut [u8]) -> Result<usize, Failed>
+pub(crate) fn take<R: Read>(input: &mut R, buf: &mut [u8]) -> Result<usize, Failed>
     ensures { IfOk result (λ count. count ≤ length buf.old) }
 {
     for _ in 0..u64::MAX {
@@ -19,7 +19,7 @@ pub fn take<R: Read>(input: &mut R, buf: &mut [u8]) -> Result<usize, Failed>
 }
 
 /// Gives some of the bytes, which are not none, and tries again where a signal came between. To give nothing is a fault.
-pub fn give<W: Write>(output: &mut W, bytes: &[u8]) -> Result<usize, Failed>
+pub(crate) fn give<W: Write>(output: &mut W, bytes: &[u8]) -> Result<usize, Failed>
     ensures bound { IfOk result (λ count. count ≤ length bytes.now) }
     ensures some { IfOk result (λ count. 0 < count) }
 {

@@ -1,13 +1,13 @@
 //! The counts of a unit.
 ghost use Rattle.std.specs.Prelude.{◌≡◌, ◌+◌, ◌<◌, ◌^◌, IsTrue, IsFalse, OnOk, OnErr};
 ghost use Rattle.newt_host.specs.Outside.{Rose};
-ghost use Rattle.newton.specs.Cards.{OnCard};
+ghost use Rattle.newt_filehost.specs.Cards.{OnCard};
 
 use crate::card::{Card, count};
 use newt_host::Failed;
 
 /// A call on the unit was done, or is another fault.
-pub fn touched(card: &mut Card, done: bool) -> Result<(), Failed>
+pub(crate) fn touched(card: &mut Card, done: bool) -> Result<(), Failed>
     ensures card { OnCard 0 0 card.old card.new }
     ensures cause { OnErr result (Rose card.old.faults card.new.faults) }
     ensures done { IsTrue done → OnErr result ⊥ }
@@ -22,7 +22,7 @@ pub fn touched(card: &mut Card, done: bool) -> Result<(), Failed>
 }
 
 /// The same, where the call was to fetch so many bytes.
-pub fn fetched(card: &mut Card, bytes: u64, done: bool) -> Result<(), Failed>
+pub(crate) fn fetched(card: &mut Card, bytes: u64, done: bool) -> Result<(), Failed>
     ensures card { OnCard 0 bytes card.old card.new }
     ensures cause { OnErr result (Rose card.old.faults card.new.faults) }
     ensures done { IsTrue done → OnErr result ⊥ }
@@ -34,7 +34,7 @@ pub fn fetched(card: &mut Card, bytes: u64, done: bool) -> Result<(), Failed>
 }
 
 /// The same, where the call was to program so many bytes.
-pub fn programmed(card: &mut Card, bytes: u64, done: bool) -> Result<(), Failed>
+pub(crate) fn programmed(card: &mut Card, bytes: u64, done: bool) -> Result<(), Failed>
     ensures card { OnCard bytes 0 card.old card.new }
     ensures cause { OnErr result (Rose card.old.faults card.new.faults) }
     ensures done { IsTrue done → OnErr result ⊥ }

@@ -4,10 +4,10 @@ use Rattle.std.proofs.lemmas.Bool.{false≢true}
 use Rattle.std.proofs.lemmas.Option.{get_or_from_slice_get}
 use Rattle.std.proofs.Math.ListN.{length-set}
 use Rattle.newt_host.specs.Outside.{Attaches, Rose, SameCounts, Touches, Spends, NeverFalls}
-use Rattle.newton.specs.Cards.{OnCard, name_of, blocks_of, faults_of, programmed_of, fetched_of}
-use Rattle.newton.specs.Laws.{untold}
-use Rattle.newton.specs.Outside.{told_by}
-use Rattle.newton.specs.declared.card.Card.{Card}
+use Rattle.newt_filehost.specs.Cards.{OnCard, name_of, blocks_of, faults_of, programmed_of, fetched_of}
+use Rattle.newt_filehost.specs.Laws.{untold}
+use Rattle.newt_filehost.specs.Outside.{told_by}
+use Rattle.newt_filehost.specs.declared.card.Card.{Card}
 
 get-set-same : (cards : List Card) (i : ℕ) (b c : Card) → slice_get cards i ≡ Some b → slice_get (slice_set cards i c) i ≡ Some c
 get-set-same [] i b c is = absurd (let no = is in cc)

@@ -3,8 +3,8 @@ use Rattle.std.specs.Prelude.{◌≡◌, ℕ, ◌≤◌, ◌<◌, ◌^◌, Bool,
 use Rattle.std.proofs.Common.{ap, sym, subst, lit<}
 use Rattle.std.proofs.lemmas.Bool.{false≢true}
 use Rattle.std.proofs.lemmas.Option.{slice_get_past}
-use Rattle.newton.specs.Cards.{name_of, blocks_of}
-use Rattle.newton.specs.declared.card.Card.{Card}
+use Rattle.newt_filehost.specs.Cards.{name_of, blocks_of}
+use Rattle.newt_filehost.specs.declared.card.Card.{Card}
 
 pub untold : {A : Type 0} → false ≡ true → A
 untold told = absurd (false≢true told)

@@ -1,6 +1,6 @@
 -- What the units tell.
 use Rattle.std.specs.Prelude.{◌≡◌, ℕ, ◌+◌, ◌≤◌, cond, List, Option, Some, None}
-use Rattle.newton.specs.declared.card.Card.{Card}
+use Rattle.newt_filehost.specs.declared.card.Card.{Card}
 
 -- the name of the file of a unit, where it has one
 abbrev pub name_of : Option Card → Option (List ℕ)

@@ -1,6 +1,6 @@
-//! Runs over real files, which lie in the folder that the tests run in, and which each test removes.
+//! Runs over real files.
 
-use crate::files::FileHost;
+use newt_filehost::FileHost;
 use newt_top::{Status, run};
 use std::alloc::{AllocError, Global};
 use std::fs::{self, File};

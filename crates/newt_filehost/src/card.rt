@@ -7,7 +7,7 @@ use std::alloc::Global;
 /// A unit: the name of its file, its whole blocks of 4,096 bytes, and its counts: of faults, and of bytes that it was to program and to fetch. Without a
 /// file it has no blocks.
 #[derive(Drop)]
-pub struct Card {
+pub(crate) struct Card {
     pub attached: bool,
     pub name: Vec<u8>,
     pub blocks: u32,
@@ -20,7 +20,7 @@ pub struct Card {
 
 impl Card {
     /// A unit without a file.
-    pub fn new(alloc: Global) -> Self
+    pub(crate) fn new(alloc: Global) -> Self
         ensures { result.attached ≡ false }
     {
         Card {
@@ -35,7 +35,7 @@ impl Card {
 }
 
 /// Another fault. The count stays at its last value.
-pub fn count(faults: &mut u64)
+pub(crate) fn count(faults: &mut u64)
     ensures rose { Rose faults.old faults.new }
     ensures one { faults.old + 1 < 2 ^ 64 → faults.new ≡ faults.old + 1 }
     ensures later { faults.old ≤ faults.new }

@@ -1,6 +1,6 @@
 //! The outside by a reader, a writer, and one file for each unit. It tells no bytes.
 ghost use Rattle.std.specs.Prelude.{◌≡◌, ℕ, None, length, slice_get};
-ghost use Rattle.newton.specs.Cards.{name_of};
+ghost use Rattle.newt_filehost.specs.Cards.{name_of};
 
 use crate::card::{Card, count};
 use crate::{counts, device, edge};
@@ -53,8 +53,8 @@ impl<S: Files + Drop, R: Read + Drop, W: Write + Drop> FileHost<S, R, W> {
 
 impl<S: Files + Drop, R: Read + Drop, W: Write + Drop> Host for FileHost<S, R, W> {
     ghost use Rattle.std.specs.Prelude.{false};
-    ghost use Rattle.newton.specs.Outside.{told_by};
-    ghost use Rattle.newton.specs.Laws.{eight_of, few_of, none_of, untold};
+    ghost use Rattle.newt_filehost.specs.Outside.{told_by};
+    ghost use Rattle.newt_filehost.specs.Laws.{eight_of, few_of, none_of, untold};
 
     ghost told = { false };
 

@@ -1,0 +1,8 @@
+//! The host over files, and whole runs of the top call over it. It stands on `newt_filehost` and on the top call, and carries no promise of its own: what it
+//! holds is tests over real files, which lie in the folder that the tests run in, and which each test removes.
+#![tactic(auto)]
+
+#[cfg(test)]
+mod files;
+#[cfg(test)]
+mod sessions;
