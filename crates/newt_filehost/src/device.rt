@@ -53,7 +53,12 @@ pub(crate) fn get<F: Read + Seek>(
 }
 
 /// Writes all the bytes at a place of the file and no others, and answers whether that was done.
-pub(crate) fn put<F: Write + Seek>(files: &mut Vec<Option<F>>, unit: Unit, at: u64, bytes: &[u8]) -> bool {
+pub(crate) fn put<F: Write + Seek>(
+    files: &mut Vec<Option<F>>,
+    unit: Unit,
+    at: u64,
+    bytes: &[u8],
+) -> bool {
     match files.get_mut(unit.0 as usize) {
         Some(Some(file)) => {
             file.seek(SeekFrom::Start(at)).is_ok() && file.write_all(bytes).is_ok()
