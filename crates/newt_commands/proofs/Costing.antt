@@ -4,7 +4,7 @@ use Rattle.std.specs.Prelude.{Result, Err}
 use Rattle.newt_base.specs.Refusals.{first_of}
 use Rattle.newt_graph.specs.Graph.{RawGraph}
 use Rattle.newt_host.specs.Outside.{Outside}
-use Rattle.newt_entries.proofs.Within.{graph-within}
+use Rattle.newt_laws_images.proofs.Within.{graph-within}
 use Rattle.newt_path.specs.Put.{IsFormOf}
 use Rattle.newt_spec_graph.specs.Slots.{put}
 use Rattle.newt_laws.specs.Worlds.{parts_fit, tags_fit}

@@ -4,7 +4,7 @@ use Rattle.std.specs.Prelude.{Result, Err}
 use Rattle.std.specs.Bool.{⊤}
 use Rattle.newt_base.specs.Refusals.{first_of}
 use Rattle.newt_base.specs.declared.Refusal.TheVariants.{Entry as NoEntry, Path as NoPath, Limit}
-use Rattle.newt_entries.proofs.Within.{graph-within}
+use Rattle.newt_laws_images.proofs.Within.{graph-within}
 use Rattle.newt_graph.specs.Graph.{RawGraph, IsGraph}
 use Rattle.newt_graph.specs.Meeting.{normal_form}
 use Rattle.newt_path.specs.Put.{IsFormOf, PassesALimit}

@@ -13,7 +13,7 @@ use Rattle.newt_objects.specs.Held.{held}
 use Rattle.newt_spec_graph.specs.Graph.{is_frame, object}
 use Rattle.newt_spec_graph.specs.Limits.{within_limits}
 use Rattle.newt_spec_graph.specs.Lists.{Among, rises}
-use Rattle.newt_entries.proofs.Within.{graph-within}
+use Rattle.newt_laws_images.proofs.Within.{graph-within}
 use Rattle.newt_soupdir.specs.declared.rows.SoupRow.{SoupRow}
 use Rattle.newt_spec_store.specs.Store.{Soup, Store, add_entry, change_soup, soup_of, take_uid_of, next_uid_of, entry_at}
 use Rattle.newt_spec_store.specs.Cost.{skeleton_length}
