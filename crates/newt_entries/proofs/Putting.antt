@@ -6,6 +6,7 @@ use Rattle.std.proofs.lemmas.Bool.{eqb-true, and_parts, le-leb}
 use Rattle.std.proofs.lemmas.List.{length-map}
 use Rattle.std.proofs.lemmas.List.Elements.{All-nil, All-cons, All-head, All-tail}
 use Rattle.std.proofs.lemmas.List.Sums.{sum_by-cons}
+use Rattle.newt_graph.specs.Draft.{is_small}
 use Rattle.newt_graph.specs.declared.node.Ref.{Ref}
 use Rattle.newt_graph.specs.declared.node.Ref.TheVariants as refs
 use Rattle.newt_graph.specs.declared.node.Node.{Node}
@@ -13,7 +14,7 @@ use Rattle.newt_graph.specs.declared.node.Node.TheVariants.{Large, Array, Frame}
 use Rattle.newt_graph.specs.Graph.{RawGraph, WalkLabel, WalkLabels, Walk, Walks, IsNode, IsGraph, payload}
 use Rattle.newt_graph.specs.Meeting.{normal_form, limited}
 use Rattle.newt_graph.proofs.Follows.{walked_form}
-use Rattle.newt_spec_graph.specs.Limits.{node_within, within_limits}
+use Rattle.newt_spec_graph.specs.Limits.{within_limits}
 use Rattle.newt_spec_store.specs.StoreOf.{LargeRow, fill, with_bytes}
 use Rattle.newt_laws_images.proofs.Both.{Both}
 use Rattle.newt_laws_images.proofs.Records.{larges_from, at-length, push-length, fill_nodes, fold-fill}
@@ -59,17 +60,17 @@ put-weight k (x ∷ nodes) bs h e =
     let more = put-weight (k + 1) nodes bs h e in
     omega (arith, sum_by-cons payload x (put_in nodes bs), sum_by-cons payload x nodes, more)
 
-put-within : (k : ℕ) (nodes : List Node) (bs : List (List ℕ)) → list_all node_within nodes ≡ true → length (larges_from k nodes) ≡ length bs
-    → list_all node_within (put_in nodes bs) ≡ list_all (λ (b : List ℕ). nat_le (length b) 1000000) bs
+put-within : (k : ℕ) (nodes : List Node) (bs : List (List ℕ)) → list_all is_small nodes ≡ true → length (larges_from k nodes) ≡ length bs
+    → list_all is_small (put_in nodes bs) ≡ list_all (λ (b : List ℕ). nat_le (length b) 1000000) bs
 put-within k [] [] w e = refl
 put-within k [] (b ∷ bs) w e = absurd (omega (arith, e))
 put-within k (Large c old ∷ nodes) [] w e = absurd (omega (arith, e))
 put-within k (Large c old ∷ nodes) (b ∷ bs) w e =
-    let p = and_parts (node_within (Large c old)) (list_all node_within nodes) w in
+    let p = and_parts (is_small (Large c old)) (list_all is_small nodes) w in
     ap (λ t. nat_le (length b) 1000000 && t) (put-within (k + 1) nodes bs p.1 (omega (arith, e)))
 put-within k (x ∷ nodes) bs w e =
-    let p = and_parts (node_within x) (list_all node_within nodes) w in
-    ap (λ t. t && list_all node_within (put_in nodes bs)) p.0 ∙ put-within (k + 1) nodes bs p.1 e
+    let p = and_parts (is_small x) (list_all is_small nodes) w in
+    ap (λ t. t && list_all is_small (put_in nodes bs)) p.0 ∙ put-within (k + 1) nodes bs p.1 e
 
 pub larges-few : (k : ℕ) (nodes : List Node) → length (larges_from k nodes) ≤ length nodes
 larges-few k [] = omega arith
@@ -112,12 +113,12 @@ limited-some g = go (nat_le (length g.nodes) 65535 && nat_le (sum_by payload g.n
     go true = refl
     go false = refl
 
-all-within : (g : RawGraph) → IsGraph g → list_all node_within g.nodes ≡ true
+all-within : (g : RawGraph) → IsGraph g → list_all is_small g.nodes ≡ true
 all-within g is = go g.nodes is.each
   where
-    go : (nodes : List Node) → All (IsNode g.nodes) nodes → list_all node_within nodes ≡ true
+    go : (nodes : List Node) → All (IsNode g.nodes) nodes → list_all is_small nodes ≡ true
     go [] h = refl
-    go (x ∷ nodes) h = ap (λ t. t && list_all node_within nodes) (node-within g.nodes x (All-head (IsNode g.nodes) x nodes h)) ∙ go nodes (All-tail (IsNode g.nodes) x nodes h)
+    go (x ∷ nodes) h = ap (λ t. t && list_all is_small nodes) (node-within g.nodes x (All-head (IsNode g.nodes) x nodes h)) ∙ go nodes (All-tail (IsNode g.nodes) x nodes h)
 
 -- ---- the walk
 
@@ -186,20 +187,20 @@ put-limits g bs is empty count = λ i. some i && put-within 0 g.nodes bs (all-wi
         ∙ ap (λ n. nat_le n 16777216) (put-weight 0 g.nodes bs empty count)
 
 -- a skeleton that is filled and within the limits is a graph
-data-of : (x : Node) → HasBytes x → node_within x ≡ true → HasData x
+data-of : (x : Node) → HasBytes x → is_small x ≡ true → HasData x
 data-of (Large c b) h w = record { few = leb-true (length b) 1000000 w; each = h }
 data-of x h w = tt
 
-datas-of : (xs : List Node) → All HasBytes xs → list_all node_within xs ≡ true → All HasData xs
+datas-of : (xs : List Node) → All HasBytes xs → list_all is_small xs ≡ true → All HasData xs
 datas-of [] h w = All-nil HasData
 datas-of (x ∷ xs) h w =
-    let p = and_parts (node_within x) (list_all node_within xs) w in
+    let p = and_parts (is_small x) (list_all is_small xs) w in
     All-cons HasData x xs (data-of x (All-head HasBytes x xs h) p.0) (datas-of xs (All-tail HasBytes x xs h) p.1)
 
 pub put-is_graph : (g : RawGraph) (bs : List (List ℕ)) → IsGraph g → AreEmpty 0 g.nodes → length (larges_from 0 g.nodes) ≡ length bs → All HasBytes (put_in g.nodes bs) → within_limits (put_graph g bs) ≡ true
     → IsGraph (put_graph g bs)
 put-is_graph g bs is empty count bytes within =
-    let p = and_parts (is_some (normal_form (put_graph g bs))) (list_all node_within (put_in g.nodes bs)) within in
+    let p = and_parts (is_some (normal_form (put_graph g bs))) (list_all is_small (put_in g.nodes bs)) within in
     let q = and_parts (nat_le (sum_by payload g.nodes + sum_by (λ (b : List ℕ). length b) bs) 16777216) (list_all (λ (b : List ℕ). nat_le (length b) 1000000) bs) (sym (put-limits g bs is empty count) ∙ within) in
     let heavy = put-weight 0 g.nodes bs empty count in
     let most = leb-true (sum_by payload g.nodes + sum_by (λ (b : List ℕ). length b) bs) 16777216 q.0 in

@@ -1,7 +1,7 @@
 //! Whether a skeleton and its rows may be those of an entry.
 ghost use Rattle.std.specs.Prelude.{◌≡◌, ◌≤◌, ◌*◌, ◌&&◌, true, nat_le, length, map};
 ghost use Rattle.std.specs.List.{list_all, sum_by};
-ghost use Rattle.newt_graph.specs.Graph.{payload};
+ghost use Rattle.newt_graph.specs.Graph.{IsGraph, payload};
 ghost use Rattle.newt_nsof.specs.Lengths.{skeleton as skeleton_of};
 ghost use Rattle.newt_nsof.specs.Written.{nsof};
 ghost use Rattle.newt_spec_graph.specs.Graph as words;
@@ -10,17 +10,11 @@ ghost use Rattle.newt_spec_store.specs.Lies.{may_be_large, stretched};
 ghost use Rattle.newt_entries.specs.Entry.{row_at, names_from, fits};
 
 use crate::row::LargeAt;
-use newt_graph::{Graph, Node, Ref};
+use newt_graph::{Graph, MOST_BYTES, MOST_DATA, Node, Ref, payload};
 use newt_nsof_write::skeleton_len;
 
 /// The most bytes of an entry's text.
-const MOST_TEXT: u64 = 64_000;
-
-/// The most bytes of one large binary.
-const MOST_LARGE: u32 = 1_000_000;
-
-/// The most bytes of all strings, binaries and large binaries of a graph.
-const MOST_BYTES: u64 = 16_777_216;
+pub const MOST_TEXT: u64 = 64_000;
 
 /// Whether the rows name each large binary of the nodes, in order, and none of these has bytes.
 fn are_named(nodes: &[Node], rows: &[LargeAt]) -> bool
@@ -61,8 +55,9 @@ fn may_be_larges(rows: &[LargeAt]) -> bool
 }
 
 /// Whether the root of a graph is a frame.
-fn is_frame(graph: &Graph) -> bool
-    ensures { result ≡ words.is_frame (words.object graph.now.nodes graph.now.root) }
+pub fn is_frame(graph: &Graph) -> bool
+    ensures frame { result ≡ words.is_frame (words.object graph.now.nodes graph.now.root) }
+    ensures graph { IsGraph graph.now }
 {
     match graph.root() {
         Ref::Node(n) => matches!(graph.nodes().get(n as usize), Some(Node::Frame(_, _))),
@@ -70,19 +65,8 @@ fn is_frame(graph: &Graph) -> bool
     }
 }
 
-/// The bytes of a string, a binary or a large binary.
-fn payload(node: &Node) -> u64
-    ensures { result ≡ payload node.now }
-{
-    match node {
-        Node::Str(units) => 2 * units.list().len() as u64 + 2,
-        Node::Binary(_, bytes) | Node::Large(_, bytes) => bytes.list().len() as u64,
-        Node::Symbol(_) | Node::Array(_, _) | Node::Frame(_, _) => 0,
-    }
-}
-
 /// The bytes of all strings, binaries and large binaries.
-fn bytes_of(nodes: &[Node]) -> u64
+fn bytes_of(nodes: &[Node]) -> usize
     requires { sum_by payload nodes.now ≤ 16777216 }
     ensures { result ≡ sum_by payload nodes.now }
 {
@@ -97,18 +81,18 @@ fn bytes_of(nodes: &[Node]) -> u64
 fn are_short(rows: &[LargeAt]) -> bool
     ensures { result ≡ list_all (λ row. nat_le row.length 1000000) rows.now }
 {
-    rows.iter().all(|row| row.length <= MOST_LARGE)
+    rows.iter().all(|row| row.length as usize <= MOST_DATA)
 }
 
 /// The bytes of all large binaries.
-fn lengths_of(rows: &[LargeAt]) -> u64
+fn lengths_of(rows: &[LargeAt]) -> usize
     requires { length rows.now ≤ 65535 }
     ensures sum { result ≡ sum_by (λ row. row.length) rows.now }
     ensures below { result ≤ 65535 * 4294967295 }
 {
     let mut total = 0;
     for row in rows {
-        total += u64::from(row.length);
+        total += row.length as usize;
     }
     total
 }

@@ -14,6 +14,7 @@ mod row;
 mod write;
 
 pub use fault::EntryFault;
+pub use fit::{MOST_TEXT, is_frame};
 pub use graphs::{filled, larges_of, row_of, skeleton};
 pub use laws::streams_are_read;
 pub use read::read_entry;

@@ -47,6 +47,7 @@ IsFilling (Large class bytes) = All (λ b. b < 256) bytes
 IsFilling (Array class values) = Unit {0}
 IsFilling (Frame tags values) = length values ≡ length tags
 
+-- the slots of an array or a frame, and the bytes of a string, a binary or a large binary, are within the limits (this project's own)
 abbrev pub is_small : Node → Bool
 is_small (Symbol name) = true
 is_small (Str units) = nat_le (2 * length units + 2) most_data

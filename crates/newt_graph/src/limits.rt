@@ -16,7 +16,7 @@ pub const MOST_DATA: usize = 1_000_000;
 pub const MOST_NODES: usize = 65_535;
 
 /// How many bytes the strings and binaries of a graph have together at most.
-pub(crate) const MOST_BYTES: usize = 16_777_216;
+pub const MOST_BYTES: usize = 16_777_216;
 
 /// How many arrays and frames of a graph are open within one another at most.
 pub const MOST_OPEN: u8 = 200;

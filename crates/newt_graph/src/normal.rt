@@ -163,7 +163,7 @@ fn gathered(alloc: Global, nodes: Vec<Node>, seen: &Walker) -> Result<Vec<Node>,
 }
 
 /// The bytes of a string, a binary or a large binary.
-pub(crate) fn payload(node: &Node) -> usize
+pub fn payload(node: &Node) -> usize
     ensures { result ≡ payload node.now }
 {
     match node {

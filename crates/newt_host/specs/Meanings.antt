@@ -24,8 +24,8 @@ abbrev pub left : Outside → List ℕ
 left outside = outside.input
 
 -- the output so far
-abbrev pub out : Outside → List ℕ
-out outside = output outside.now
+abbrev pub out_of : Outside → List ℕ
+out_of outside = output outside.now
 
 -- the bytes of the whole blocks of a unit
 abbrev pub image_of : Outside → ℕ → List ℕ

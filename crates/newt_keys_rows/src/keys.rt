@@ -2,12 +2,23 @@
 ghost use Rattle.std.specs.Prelude.{IfOk, IsTrue};
 ghost use Rattle.newt_base.specs.Names.{valid_path};
 
+use crate::calls::Call;
 use newt_graph::Graph;
 use newt_keys::{IndexPart, IndexSpec, Key, Kind, Order, Part, key_from, key_of};
 use newt_lit_read::read_literal;
 use newt_path::Path;
+use newt_tables::expect_rows;
 use std::alloc::Global;
 use std::test::*;
+
+/// A declaration.
+#[derive(Clone, Copy)]
+pub(crate) enum Declared {
+    /// One part at the path `a`.
+    One(Kind),
+    /// A string at `a` and an integer at `b.c`.
+    Two,
+}
 
 /// A part of a declaration, whose path is read.
 #[tactic(auto, using(newt_keys::proofs::Valid::path_valid))]
@@ -20,16 +31,17 @@ pub(crate) fn part(alloc: Global, path: &str, kind: Kind, order: Order) -> Resul
     }
 }
 
-/// A declaration of one part at the path `a`.
-fn one(alloc: Global, kind: Kind) -> Result<IndexSpec, Fail> {
-    Ok(IndexSpec::new(vec![in alloc; part(alloc, "a", kind, Order::Ascend)?]?))
-}
-
-/// A string at `a` and an integer at `b.c`.
-fn two(alloc: Global) -> Result<IndexSpec, Fail> {
-    let text = part(alloc, "a", Kind::Text, Order::Ascend)?;
-    let number = part(alloc, "b.c", Kind::Int, Order::Ascend)?;
-    Ok(IndexSpec::new(vec![in alloc; text, number]?))
+fn spec_of(alloc: Global, declared: &Declared) -> Result<IndexSpec, Fail> {
+    match declared {
+        Declared::One(kind) => {
+            Ok(IndexSpec::new(vec![in alloc; part(alloc, "a", *kind, Order::Ascend)?]?))
+        }
+        Declared::Two => {
+            let text = part(alloc, "a", Kind::Text, Order::Ascend)?;
+            let number = part(alloc, "b.c", Kind::Int, Order::Ascend)?;
+            Ok(IndexSpec::new(vec![in alloc; text, number]?))
+        }
+    }
 }
 
 pub(crate) fn literal(alloc: Global, text: &str) -> Result<Graph, Fail> {
@@ -39,148 +51,119 @@ pub(crate) fn literal(alloc: Global, text: &str) -> Result<Graph, Fail> {
     }
 }
 
-/// Whether there is a key of one text.
-fn is_text(found: &Option<Key>, wanted: &str) -> bool {
+/// A part: `-` where it is missing, and else a number, or a text behind what says its type.
+fn told_part(alloc: Global, part: &Part) -> Result<String, Fail> {
+    Ok(match part {
+        Part::Missing => String::from_str(alloc, "-")?,
+        Part::Text(text) => format!(in alloc; "\"{}", str::from_utf8(text.list())?)?,
+        Part::Int(number) => format!(in alloc; "{number}")?,
+        Part::Char(unit) => format!(in alloc; "${unit}")?,
+        Part::Symbol(name) => format!(in alloc; "'{}", str::from_utf8(name.list())?)?,
+    })
+}
+
+/// The parts of a key, or that there is none.
+fn told(alloc: Global, found: &Option<Key>) -> Result<String, Fail> {
     let Some(key) = found else {
-        return false;
+        return Ok(String::from_str(alloc, "no key")?);
     };
-    match key.list() {
-        [Part::Text(text)] => text.list() == wanted.as_bytes(),
-        _ => false,
+    let mut out = String::new(alloc);
+    for (i, part) in key.list().iter().enumerate() {
+        if i > 0 {
+            out.push(' ')?;
+        }
+        out.push_str(&told_part(alloc, part)?)?;
     }
+    Ok(out)
 }
 
-/// Whether there is a key of a text and an integer, which 0 says is missing.
-fn is_pair(found: &Option<Key>, wanted: &str, number: i32) -> bool {
-    let Some(key) = found else {
-        return false;
-    };
-    match key.list() {
-        [Part::Text(text), Part::Int(n)] => text.list() == wanted.as_bytes() && *n == number,
-        [Part::Text(text), Part::Missing] => text.list() == wanted.as_bytes() && number == 0,
-        _ => false,
-    }
+/// The key that a graph has.
+pub(crate) fn key(alloc: Global, declared: &Declared, text: &str) -> Result<String, Fail> {
+    let spec = spec_of(alloc, declared)?;
+    told(alloc, &key_of(alloc, &literal(alloc, text)?, &spec)?)
 }
 
-/// The key of a literal.
-fn key(alloc: Global, text: &str, spec: &IndexSpec) -> Result<Option<Key>, Fail> {
+/// The key that a value writes down.
+pub(crate) fn written(alloc: Global, declared: &Declared, text: &str) -> Result<String, Fail> {
+    let spec = spec_of(alloc, declared)?;
     let graph = literal(alloc, text)?;
-    Ok(key_of(alloc, &graph, spec)?)
+    told(alloc, &key_from(alloc, &graph, graph.root(), &spec)?)
 }
 
-/// The key that a literal writes down.
-fn written(alloc: Global, text: &str, spec: &IndexSpec) -> Result<Option<Key>, Fail> {
-    let graph = literal(alloc, text)?;
-    Ok(key_from(alloc, &graph, graph.root(), spec)?)
-}
+/// Strings are cut at 39 units, a pair too, and then folded, and a folded text may be longer.
+const TEXTS: &str = "
+{a: \"Stra\\u00DFe\"} => \"strasse
+{a: \"\\u0130\"} => \"i\u{307}
+{a: \"\"} => \"
+{a: \"123456789 123456789 123456789 123456789X\"} => \"123456789 123456789 123456789 123456789
+{a: \"123456789 123456789 123456789 12345678\\u00DF\"} => \"123456789 123456789 123456789 12345678ss
+{a: \"123456789 123456789 123456789 12345678\\uD83D\\uDE00\"} => \"123456789 123456789 123456789 12345678\u{fffd}
+";
+
+/// An entry has a key where the first part is there.
+const PAIRS: &str = "
+{a: \"A\", b: {c: 7}} => \"a 7
+{A: \"A\", B: {C: -7}} => \"a -7
+{a: \"A\", b: {c: 0}} => \"a 0
+{a: \"A\", b: {c: $7}} => \"a -
+{a: \"A\", b: [7]} => \"a -
+{a: \"A\"} => \"a -
+{a: 'A, b: {c: 7}} => no key
+{b: {c: 7}} => no key
+{a: nil, b: {c: 7}} => no key
+[\"A\"] => no key
+";
+
+/// A value for one part is of its type.
+const VALUES: &str = "
+\"A\" => \"a
+[\"A\"] => no key
+nil => no key
+'A => no key
+7 => no key
+";
+
+/// A value for two parts is an array, whose first value is there.
+const ARRAYS: &str = "
+[\"A\", 7] => \"a 7
+[\"A\", nil] => \"a -
+[\"A\"] => \"a -
+[nil, 7] => no key
+[] => no key
+[\"A\", 7, nil] => no key
+\"A\" => no key
+[x: \"A\", 7] => no key
+[\"A\", 'b] => no key
+";
 
 #[test]
 fn strings_are_cut_at_39_units_and_then_folded(rt: HostRuntime) -> Result<(), Fail> {
-    let texts = one(rt.alloc(), Kind::Text)?;
-    for (graph, wanted) in [
-        ("{a: \"Stra\\u00DFe\"}", "strasse"),
-        ("{a: \"\\u0130\"}", "i\u{307}"),
-        ("{a: \"\"}", ""),
-        // the 40th unit does not count, and a folded text may be longer than 39
-        (
-            "{a: \"123456789 123456789 123456789 123456789X\"}",
-            "123456789 123456789 123456789 123456789",
-        ),
-        (
-            "{a: \"123456789 123456789 123456789 12345678\\u00DF\"}",
-            "123456789 123456789 123456789 12345678ss",
-        ),
-        // a pair that is cut in two
-        (
-            "{a: \"123456789 123456789 123456789 12345678\\uD83D\\uDE00\"}",
-            "123456789 123456789 123456789 12345678\u{fffd}",
-        ),
-    ] {
-        assert!(rt;
-            is_text(&key(rt.alloc(), graph, &texts)?, wanted),
-            "at {graph}"
-        );
-    }
-    Ok(())
+    expect_rows(rt.alloc(), &Call::Key(Declared::One(Kind::Text)), TEXTS)
 }
 
 #[test]
 fn an_entry_has_a_key_where_the_first_part_is_there(rt: HostRuntime) -> Result<(), Fail> {
-    let pairs = two(rt.alloc())?;
-    for (graph, wanted, number) in [
-        ("{a: \"A\", b: {c: 7}}", "a", 7),
-        ("{A: \"A\", B: {C: -7}}", "a", -7),
-        ("{a: \"A\", b: {c: $7}}", "a", 0),
-        ("{a: \"A\", b: [7]}", "a", 0),
-        ("{a: \"A\"}", "a", 0),
-    ] {
-        assert!(rt;
-            is_pair(&key(rt.alloc(), graph, &pairs)?, wanted, number),
-            "at {graph}"
-        );
-    }
-    for graph in [
-        "{a: 'A, b: {c: 7}}",
-        "{b: {c: 7}}",
-        "{a: nil, b: {c: 7}}",
-        "[\"A\"]",
-    ] {
-        assert!(rt; key(rt.alloc(), graph, &pairs)?.is_none(), "at {graph}");
-    }
-    Ok(())
+    expect_rows(rt.alloc(), &Call::Key(Declared::Two), PAIRS)
 }
 
 #[test]
 fn a_value_of_a_query_is_a_key_of_the_types(rt: HostRuntime) -> Result<(), Fail> {
-    let texts = one(rt.alloc(), Kind::Text)?;
-    assert!(rt; is_text(&written(rt.alloc(), "\"A\"", &texts)?, "a"));
-    for value in ["[\"A\"]", "nil", "'A", "7"] {
-        assert!(rt; written(rt.alloc(), value, &texts)?.is_none(), "at {value}");
-    }
-    let pairs = two(rt.alloc())?;
-    for (value, wanted, number) in [
-        ("[\"A\", 7]", "a", 7),
-        ("[\"A\", nil]", "a", 0),
-        ("[\"A\"]", "a", 0),
-    ] {
-        assert!(rt;
-            is_pair(&written(rt.alloc(), value, &pairs)?, wanted, number),
-            "at {value}"
-        );
-    }
-    for value in [
-        "[nil, 7]",
-        "[]",
-        "[\"A\", 7, nil]",
-        "\"A\"",
-        "[x: \"A\", 7]",
-        "[\"A\", 'b]",
-    ] {
-        assert!(rt; written(rt.alloc(), value, &pairs)?.is_none(), "at {value}");
-    }
-    Ok(())
+    expect_rows(
+        rt.alloc(),
+        &Call::Written(Declared::One(Kind::Text)),
+        VALUES,
+    )?;
+    expect_rows(rt.alloc(), &Call::Written(Declared::Two), ARRAYS)
 }
 
 #[test]
 fn each_type_takes_its_values(rt: HostRuntime) -> Result<(), Fail> {
-    let numbers = key(rt.alloc(), "{a: -536870912}", &one(rt.alloc(), Kind::Int)?)?;
-    assert!(rt;
-        matches!(
-            numbers.as_ref().map(|k| k.list()),
-            Some([Part::Int(-536_870_912)])
-        )
-    );
-    let characters = key(rt.alloc(), "{a: $Z}", &one(rt.alloc(), Kind::Char)?)?;
-    assert!(rt;
-        matches!(
-            characters.as_ref().map(|k| k.list()),
-            Some([Part::Char(90)])
-        )
-    );
-    let symbols = key(rt.alloc(), "{a: 'ABC}", &one(rt.alloc(), Kind::Symbol)?)?.ok_or("a key")?;
-    let [Part::Symbol(name)] = symbols.list() else {
-        return Err("a symbol".into());
-    };
-    assert!(rt; name.list() == b"abc".as_slice());
+    for (kind, row) in [
+        (Kind::Int, "{a: -536870912} => -536870912"),
+        (Kind::Char, "{a: $Z} => $90"),
+        (Kind::Symbol, "{a: 'ABC} => 'abc"),
+    ] {
+        expect_rows(rt.alloc(), &Call::Key(Declared::One(kind)), row)?;
+    }
     Ok(())
 }

@@ -3,9 +3,12 @@ ghost use Rattle.std.specs.Prelude.{◌≡◌, ◌∷◌, [], IfOk};
 ghost use Rattle.newt_keys.specs.declared.types.IndexPart.{IndexPart};
 ghost use Rattle.newt_spec_store.specs.declared.Kind.TheVariants as kind;
 
+use crate::calls::Call;
+use crate::keys::literal;
 use newt_graph::Bytes;
-use newt_keys::{IndexPart, IndexSpec, Key, Kind, Order, Part, compare};
+use newt_keys::{IndexPart, IndexSpec, Key, Kind, Order, compare, key_from};
 use newt_path::Path;
+use newt_tables::expect_rows;
 use std::alloc::{AllocError, Global};
 use std::test::*;
 
@@ -32,65 +35,47 @@ fn four(alloc: Global, order: Order) -> Result<IndexSpec, AllocError> {
     Ok(IndexSpec::new(parts))
 }
 
-/// A key of integers; 0 stands for a missing part.
-fn key(alloc: Global, numbers: &[i32; 4]) -> Result<Key, AllocError> {
-    let mut parts = Vec::new(alloc);
-    for number in numbers {
-        parts.push(if *number == 0 {
-            Part::Missing
-        } else {
-            Part::Int(*number)
-        })?;
+/// The keys that literals write down.
+fn keys(alloc: Global, spec: &IndexSpec, text: &str) -> Result<Vec<Key>, Fail> {
+    let mut keys = Vec::new(alloc);
+    for part in text.split(" < ") {
+        let graph = literal(alloc, part)?;
+        match key_from(alloc, &graph, graph.root(), spec)? {
+            Some(key) => keys.push(key)?,
+            None => return Err("a key".into()),
+        }
     }
-    Ok(Key::of(parts))
+    Ok(keys)
 }
 
 /// Whether each key stands before those behind it, and ties with itself.
-fn rise(alloc: Global, order: Order, keys: &[[i32; 4]]) -> Result<bool, AllocError> {
-    let spec = four(alloc, order)?;
-    for (i, a) in keys.iter().enumerate() {
-        for (j, b) in keys.iter().enumerate() {
-            if compare(&key(alloc, a)?, &key(alloc, b)?, &spec) != i.cmp(&j) {
-                return Ok(false);
-            }
-        }
-    }
-    Ok(true)
+fn rise(keys: &[Key], spec: &IndexSpec) -> bool {
+    keys.iter().enumerate().all(|(i, a)| {
+        keys.iter()
+            .enumerate()
+            .all(|(j, b)| compare(a, b, spec) == i.cmp(&j))
+    })
 }
+
+/// Whether keys of four integers rise.
+pub(crate) fn rising(alloc: Global, order: Order, text: &str) -> Result<String, Fail> {
+    let spec = four(alloc, order)?;
+    let keys = keys(alloc, &spec, text)?;
+    Ok(format!(in alloc; "{}", rise(&keys, &spec))?)
+}
+
+const ASCENDING: &str = "
+[-5] < [1] < [1, nil, nil, 7] < [1, nil, 2] < [1, 2] < [1, 2, 3] < [1, 2, 3, 4] < [1, 2, 3, 5] < [1, 3] < [2] => true
+[1] < [1] => false
+";
+
+const DESCENDING: &str = "
+[2] < [1] < [1, nil, nil, 7] < [1, nil, 2] < [1, 3] < [1, 2] < [1, 2, 3] < [1, 2, 3, 5] < [1, 2, 3, 4] < [-5] => true
+[1] < [2] => false
+";
 
 #[test]
 fn missing_parts_stand_first_in_both_orders(rt: HostRuntime) -> Result<(), Fail> {
-    let ascending = [
-        [-5, 0, 0, 0],
-        [1, 0, 0, 0],
-        [1, 0, 0, 7],
-        [1, 0, 2, 0],
-        [1, 2, 0, 0],
-        [1, 2, 3, 0],
-        [1, 2, 3, 4],
-        [1, 2, 3, 5],
-        [1, 3, 0, 0],
-        [2, 0, 0, 0],
-    ];
-    let descending = [
-        [2, 0, 0, 0],
-        [1, 0, 0, 0],
-        [1, 0, 0, 7],
-        [1, 0, 2, 0],
-        [1, 3, 0, 0],
-        [1, 2, 0, 0],
-        [1, 2, 3, 0],
-        [1, 2, 3, 5],
-        [1, 2, 3, 4],
-        [-5, 0, 0, 0],
-    ];
-    let up = rise(rt.alloc(), Order::Ascend, &ascending)
-        .ok()
-        .ok_or("memory is ample")?;
-    let down = rise(rt.alloc(), Order::Descend, &descending)
-        .ok()
-        .ok_or("memory is ample")?;
-    assert!(rt; up);
-    assert!(rt; down);
-    Ok(())
+    expect_rows(rt.alloc(), &Call::Rising(Order::Ascend), ASCENDING)?;
+    expect_rows(rt.alloc(), &Call::Rising(Order::Descend), DESCENDING)
 }

@@ -1,72 +1,87 @@
-//! What paths are read as, and paths into a graph of one immediate, with ample memory. Paths into larger graphs are tested where literals are read.
-use newt_graph::{Builder, Graph, GraphFault, Ref};
-use newt_path::{Path, PathFault, SetFault, set_at, value_at};
+//! What paths are read as, and what they reach, with ample memory. Paths into larger graphs are tested where literals are read.
+use crate::calls::Call;
+use crate::keys::literal;
+use newt_path::{Path, PathFault, set_at, value_at};
+use newt_tables::expect_rows;
 use std::alloc::Global;
 use std::test::*;
 
-/// The graph of one immediate, nil.
-fn nil(alloc: Global) -> Result<Graph, GraphFault> {
-    Builder::new(alloc).finish(Ref::Imm(2))
+/// How many names a path has, and whether its copy is the same path, or the fault.
+pub(crate) fn named(alloc: Global, text: &str) -> Result<String, Fail> {
+    match Path::read(alloc, text.as_bytes()) {
+        Ok(path) => {
+            let copy = path.copy()?;
+            Ok(format!(in alloc; "{} {}", copy.list().len(), copy.same(&path))?)
+        }
+        Err(PathFault::Path) => Ok(String::from_str(alloc, "path")?),
+        Err(PathFault::Memory) => Ok(String::from_str(alloc, "memory")?),
+    }
 }
+
+/// Whether a path is `Name.last`.
+pub(crate) fn is_same(alloc: Global, text: &str) -> Result<String, Fail> {
+    let path = Path::read(alloc, b"Name.last")?;
+    let other = Path::read(alloc, text.as_bytes())?;
+    Ok(format!(in alloc; "{}", path.same(&other))?)
+}
+
+/// What the path `a` reaches in a graph, and how a change there is refused.
+pub(crate) fn reached(alloc: Global, text: &str) -> Result<String, Fail> {
+    let graph = literal(alloc, text)?;
+    let path = Path::read(alloc, b"a")?;
+    let fault = set_at(alloc, &graph, &path, &graph).err();
+    Ok(format!(in alloc; "{:?} {fault:?}", value_at(&graph, &path))?)
+}
+
+/// Up to eight identifiers of up to 254 characters, with points between them.
+const NAMES: &str = "
+a => 1 true
+name.last => 2 true
+_1.B2.c_ => 3 true
+a.b.c.d.e.f.g.h => 8 true
+~n*254~ => 1 true
+ => path
+. => path
+a. => path
+.a => path
+a..b => path
+1a => path
+a b => path
+a.|b| => path
+a-b => path
+a.b.c.d.e.f.g.h.i => path
+~n*255~ => path
+";
+
+/// Paths are compared without case.
+const SAME: &str = "
+name.LAST => true
+name => false
+name.last.x => false
+nameXlast => false
+name.lost => false
+";
+
+/// Nothing is reached from what is no frame, and a frame gets the slot that it lacks.
+const REACHED: &str = "
+nil => None Some(NoPath)
+7 => None Some(NoPath)
+[7] => None Some(NoPath)
+{b: 7} => None None
+{A: nil} => Some(Imm(2)) None
+";
 
 #[test]
 fn a_path_is_identifiers_with_points_between_them(rt: HostRuntime) -> Result<(), Fail> {
-    let a = rt.alloc();
-    for (text, names) in [
-        ("a", 1),
-        ("name.last", 2),
-        ("_1.B2.c_", 3),
-        ("a.b.c.d.e.f.g.h", 8),
-    ] {
-        let path = Path::read(a, text.as_bytes()).ok().ok_or("a path")?;
-        let copy = path.copy()?;
-        assert_eq!(rt; copy.list().len(), names, "at {text}");
-        assert!(rt; copy.same(&path), "at {text}");
-    }
-    for text in [
-        "",
-        ".",
-        "a.",
-        ".a",
-        "a..b",
-        "1a",
-        "a b",
-        "a.|b|",
-        "a-b",
-        "a.b.c.d.e.f.g.h.i",
-    ] {
-        let fault = Path::read(a, text.as_bytes()).err();
-        assert_eq!(rt; fault, Some(PathFault::Path), "at {text}");
-    }
-    let long = [b'n'; 255];
-    assert!(rt; Path::read(a, &long[1..]).is_ok());
-    assert_eq!(rt; Path::read(a, &long).err(), Some(PathFault::Path));
-    Ok(())
+    expect_rows(rt.alloc(), &Call::Names, NAMES)
 }
 
 #[test]
 fn paths_are_compared_without_case(rt: HostRuntime) -> Result<(), Fail> {
-    let a = rt.alloc();
-    let path = Path::read(a, b"Name.last").ok().ok_or("a path")?;
-    for (text, same) in [
-        ("name.LAST", true),
-        ("name", false),
-        ("name.last.x", false),
-        ("nameXlast", false),
-        ("name.lost", false),
-    ] {
-        let other = Path::read(a, text.as_bytes()).ok().ok_or("a path")?;
-        assert_eq!(rt; path.same(&other), same, "at {text}");
-    }
-    Ok(())
+    expect_rows(rt.alloc(), &Call::Same, SAME)
 }
 
 #[test]
-fn nothing_is_reached_from_an_immediate(rt: HostRuntime) -> Result<(), Fail> {
-    let graph = nil(rt.alloc()).ok().ok_or("it fits")?;
-    let path = Path::read(rt.alloc(), b"a").ok().ok_or("a path")?;
-    assert!(rt; value_at(&graph, &path).is_none());
-    let fault = set_at(rt.alloc(), &graph, &path, &graph).err();
-    assert_eq!(rt; fault, Some(SetFault::NoPath));
-    Ok(())
+fn a_path_goes_through_frames(rt: HostRuntime) -> Result<(), Fail> {
+    expect_rows(rt.alloc(), &Call::Reached, REACHED)
 }

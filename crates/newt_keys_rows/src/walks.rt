@@ -1,9 +1,11 @@
 //! Walks of indexes over entries that are read from literals.
+use crate::calls::Call;
 use crate::keys::{literal, part};
 use newt_base::Uid;
 use newt_graph::Graph;
 use newt_index::{Index, Probe};
 use newt_keys::{IndexSpec, Key, Kind, Order, key_of};
+use newt_tables::expect_rows;
 use std::alloc::Global;
 use std::test::*;
 
@@ -12,20 +14,19 @@ fn strings(alloc: Global, order: Order) -> Result<IndexSpec, Fail> {
     Ok(IndexSpec::new(vec![in alloc; part(alloc, "k", Kind::Text, order)?]?))
 }
 
-/// Adds the next entry where it has a key.
-fn add_next(index: &mut Index, uid: u32, entry: &Graph) -> Result<(), Fail> {
+/// Adds an entry where it has a key.
+fn add(index: &mut Index, uid: u32, entry: &Graph) -> Result<(), Fail> {
     if let Some(key) = index.key_in(entry)? {
         index.put(key, Uid(uid))?;
     }
     Ok(())
 }
 
-/// The index of these entries, whose ids rise from 0.
-fn filled(alloc: Global, order: Order, entries: &[&str]) -> Result<Index, Fail> {
+/// The index of entries, whose ids rise from 0.
+fn filled(alloc: Global, order: Order, entries: &str) -> Result<Index, Fail> {
     let mut index = Index::new(alloc, Some(strings(alloc, order)?));
-    let count = entries.len().min(100) as u32;
-    for uid in 0..count {
-        add_next(&mut index, uid, &literal(alloc, entries[uid as usize])?)?;
+    for (entry, uid) in entries.split(" | ").zip(0..100) {
+        add(&mut index, uid, &literal(alloc, entry)?)?;
     }
     Ok(index)
 }
@@ -47,46 +48,92 @@ fn id(found: &Option<(&Key, Uid)>) -> Option<u32> {
     }
 }
 
+/// The id of the pair behind that of an entry, or before it.
+fn next(
+    alloc: Global,
+    index: &Index,
+    order: Order,
+    entries: &str,
+    uid: u32,
+    forward: bool,
+) -> Result<Option<u32>, Fail> {
+    let entry = entries.split(" | ").nth(uid as usize).ok_or("an entry")?;
+    let mut at = probe(alloc, order, entry)?;
+    Ok(if forward {
+        id(&index.after(&mut at, Uid(uid)))
+    } else {
+        id(&index.before(&mut at, Uid(uid)))
+    })
+}
+
+/// Appends the ids of an index, from the first to the last, or back.
+fn push_ids(
+    alloc: Global,
+    to: &mut String,
+    index: &Index,
+    order: Order,
+    entries: &str,
+    forward: bool,
+) -> Result<(), Fail> {
+    let mut at = if forward {
+        id(&index.first())
+    } else {
+        id(&index.last())
+    };
+    for _ in 0..100 {
+        let Some(uid) = at else {
+            return Ok(());
+        };
+        to.push_str(&format!(in alloc; "{uid} ")?)?;
+        at = next(alloc, index, order, entries, uid, forward)?;
+    }
+    Err("an end".into())
+}
+
+/// The ids of entries, from the first of the index of their strings to its last, and back.
+pub(crate) fn walked(alloc: Global, order: Order, entries: &str) -> Result<String, Fail> {
+    let index = filled(alloc, order, entries)?;
+    let mut ids = String::new(alloc);
+    push_ids(alloc, &mut ids, &index, order, entries, true)?;
+    push_ids(alloc, &mut ids, &index, order, entries, false)?;
+    Ok(format!(in alloc; "{ids}of {}", index.len())?)
+}
+
+/// The ids behind and before a pair of the string `d` and the id 1.
+pub(crate) fn near(alloc: Global, entries: &str) -> Result<String, Fail> {
+    let index = filled(alloc, Order::Ascend, entries)?;
+    let mut d = probe(alloc, Order::Ascend, "{k: \"d\"}")?;
+    let after = id(&index.after(&mut d, Uid(1)));
+    let before = id(&index.before(&mut d, Uid(1)));
+    Ok(format!(in alloc; "{after:?} {before:?} of {}", index.len())?)
+}
+
+/// The ids of a walk forward and of one back, and how many there are. Ties rise by id in both orders, and an entry without a key is not there.
+const ASCENDING: &str = "
+{k: \"x\"} | {k: \"y\"} | {k: \"X\"} => 0 2 1 1 2 0 of 3
+{k: \"a\"} | {k: 5} | {k: \"c\"} | {k: \"e\"} => 0 2 3 3 2 0 of 3
+{k: 5} => of 0
+";
+
+const DESCENDING: &str = "
+{k: \"x\"} | {k: \"y\"} | {k: \"x\"} => 1 0 2 2 0 1 of 3
+";
+
+/// The ids behind and before a pair that is there, and one that is not.
+const NEAR: &str = "
+{k: \"a\"} | {k: \"d\"} | {k: \"c\"} | {k: \"e\"} => Some(3) Some(2) of 4
+{k: \"a\"} | {k: 5} | {k: \"c\"} | {k: \"e\"} => Some(3) Some(2) of 3
+{k: \"a\"} => None Some(0) of 1
+{k: \"e\"} => Some(0) None of 1
+";
+
 #[test]
-fn ties_of_a_descending_index_rise_by_id(rt: HostRuntime) -> Result<(), Fail> {
-    let alloc = rt.alloc();
-    let index = filled(
-        alloc,
-        Order::Descend,
-        &["{k: \"x\"}", "{k: \"y\"}", "{k: \"x\"}"],
-    )?;
-    let mut x = probe(alloc, Order::Descend, "{k: \"x\"}")?;
-    let mut y = probe(alloc, Order::Descend, "{k: \"y\"}")?;
-    assert_eq!(rt; id(&index.first()), Some(1));
-    assert_eq!(rt; id(&index.after(&mut y, Uid(1))), Some(0));
-    assert_eq!(rt; id(&index.after(&mut x, Uid(0))), Some(2));
-    assert_eq!(rt; id(&index.after(&mut x, Uid(2))), None);
-    assert_eq!(rt; id(&index.last()), Some(2));
-    assert_eq!(rt; id(&index.before(&mut x, Uid(2))), Some(0));
-    assert_eq!(rt; id(&index.before(&mut x, Uid(0))), Some(1));
-    assert_eq!(rt; id(&index.before(&mut y, Uid(1))), None);
-    Ok(())
+fn ties_rise_by_id_in_both_orders(rt: HostRuntime) -> Result<(), Fail> {
+    expect_rows(rt.alloc(), &Call::Walked(Order::Ascend), ASCENDING)?;
+    expect_rows(rt.alloc(), &Call::Walked(Order::Descend), DESCENDING)
 }
 
 #[test]
-fn an_entry_without_a_key_is_not_in_the_index(rt: HostRuntime) -> Result<(), Fail> {
-    let alloc = rt.alloc();
-    let mut d = probe(alloc, Order::Ascend, "{k: \"d\"}")?;
-    let changed = filled(
-        alloc,
-        Order::Ascend,
-        &["{k: \"a\"}", "{k: \"d\"}", "{k: \"c\"}", "{k: \"e\"}"],
-    )?;
-    assert_eq!(rt; changed.len(), 4);
-    assert_eq!(rt; id(&changed.after(&mut d, Uid(1))), Some(3));
-    assert_eq!(rt; id(&changed.before(&mut d, Uid(1))), Some(2));
-    let without = filled(
-        alloc,
-        Order::Ascend,
-        &["{k: \"a\"}", "{k: 5}", "{k: \"c\"}", "{k: \"e\"}"],
-    )?;
-    assert_eq!(rt; without.len(), 3);
-    assert_eq!(rt; id(&without.after(&mut d, Uid(1))), Some(3));
-    assert_eq!(rt; id(&without.before(&mut d, Uid(1))), Some(2));
-    Ok(())
+fn a_search_begins_from_a_pair_that_need_not_be_there(rt: HostRuntime) -> Result<(), Fail> {
+    expect_rows(rt.alloc(), &Call::Near, NEAR)
 }

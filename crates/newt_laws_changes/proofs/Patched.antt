@@ -11,7 +11,7 @@ use Rattle.newt_nsof.specs.Written.{nsof}
 use Rattle.newt_nsof.specs.Lengths.{skeleton, bare as bare_node}
 use Rattle.newt_spec_graph.specs.Graph.{change_nth}
 use Rattle.newt_spec_graph.specs.Lists.{Each, Pairs, Among}
-use Rattle.newt_spec_graph.proofs.Lists.{each-at, each-more, some-same, none-some}
+use Rattle.newt_spec_graph.proofs.Lists.{each-at, each-more, get-among, some-same, none-some}
 use Rattle.newt_spec_store.specs.Cost.{large_length, entry_pages}
 use Rattle.newt_spec_store.specs.Image.{larges, large_row, entry_bytes}
 use Rattle.newt_spec_store.specs.Lies.{HasLarge, AreLarges}
@@ -24,11 +24,6 @@ use Rattle.newt_laws_images.proofs.Filled.{same-nodes}
 use Rattle.newt_laws_images.proofs.Records.{larges_from}
 
 -- ---- lists
-
-pub get-among : {X : Type 0} (xs : List X) (n : ℕ) (x : X) → slice_get xs n ≡ Some x → Among xs x
-get-among [] n x h = absurd (none-some x h)
-get-among (y ∷ xs) zero x h = inl (some-same y x h)
-get-among (y ∷ xs) (suc n) x h = inr (get-among xs n x h)
 
 nth-length : {X : Type 0} (n : ℕ) (f : X → X) (xs : List X) → length (change_nth n f xs) ≡ length xs
 nth-length n f [] = refl

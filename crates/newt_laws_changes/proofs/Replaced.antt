@@ -6,7 +6,7 @@ use Rattle.newt_graph.specs.Graph.{IsGraph}
 use Rattle.newt_image.specs.Objects.{Objects}
 use Rattle.newt_nsof.specs.Lengths.{skeleton}
 use Rattle.newt_spec_graph.specs.Lists.{Among}
-use Rattle.newt_spec_graph.proofs.Lists.{some-same, none-some}
+use Rattle.newt_spec_graph.proofs.Lists.{get-among, some-same, none-some}
 use Rattle.newt_spec_store.specs.Cost.{directory_bytes}
 use Rattle.newt_spec_store.specs.Image.{entry_bytes}
 use Rattle.newt_spec_store.specs.Lies.{Places, IsIn, AreLarges, LiesIn}
@@ -17,7 +17,7 @@ use Rattle.newt_laws_changes.proofs.Bytes.{same-directory}
 use Rattle.newt_laws_images.proofs.Chosen.{find-passes, first-among, first-others, first-parts, one-uid, soup-there, soup-good}
 use Rattle.newt_laws_changes.proofs.Lying.{Same, same-carried, among-or-not, either-way, at-other, headed_lies, is-not-free}
 use Rattle.newt_laws_changes.proofs.Members.{same-or-not, entry_is_in, in-one, one-in, changed-in, in-changed, others-in}
-use Rattle.newt_laws_changes.proofs.Patched.{get-among, with_patch, patched-skeleton, patched-bytes, patched-there}
+use Rattle.newt_laws_changes.proofs.Patched.{with_patch, patched-skeleton, patched-bytes, patched-there}
 use Rattle.newt_laws_changes.proofs.Places.{odd-is-not, odd-or-even, above-is-not, named-there, places_apart}
 use Rattle.newt_laws_changes.proofs.Turned.{IsNew, turned_lies}
 

@@ -4,6 +4,7 @@ use Rattle.std.specs.Prelude.{slice_get}
 use Rattle.std.specs.List.{list_all}
 use Rattle.std.proofs.Math.Path.{fun_ext}
 use Rattle.std.proofs.lemmas.List.Sums.{sum_by-cons}
+use Rattle.newt_graph.specs.Draft.{is_small}
 use Rattle.newt_graph.specs.declared.node.Ref.{Ref}
 use Rattle.newt_graph.specs.declared.node.Ref.TheVariants.{Imm, Node as At}
 use Rattle.newt_graph.specs.declared.node.Node.{Node}
@@ -13,22 +14,22 @@ use Rattle.newt_graph.specs.Raw.{renamed}
 use Rattle.newt_graph.specs.Steps.{◌>>=◌}
 use Rattle.newt_graph.specs.Meeting.{Seen, Step, is_new, added, enter, meet_by, meet, number, moved, limited, numbered, normal_form}
 use Rattle.newt_spec_graph.specs.Graph.{object, is_frame}
-use Rattle.newt_spec_graph.specs.Limits.{within_limits, node_within, slots}
+use Rattle.newt_spec_graph.specs.Limits.{within_limits}
 use Rattle.newt_laws_images.proofs.Both.{Both}
 
 -- two nodes that are seen alike by all that looks at no bytes of large binaries
 pub record Alike (a b : Node) : Type 0 where
   pub entered : (inner : Option Step) (seen : Seen) → enter inner seen (Some a) ≡ enter inner seen (Some b)
   pub heavy : payload a ≡ payload b
-  pub wide : slots a ≡ slots b
+  pub small : is_small a ≡ is_small b
   pub framed : is_frame (Some a) ≡ is_frame (Some b)
 
 pub same-node : (a : Node) → Alike a a
-same-node a = record { entered = λ inner seen. refl; heavy = refl; wide = refl; framed = refl }
+same-node a = record { entered = λ inner seen. refl; heavy = refl; small = refl; framed = refl }
 
 pub same-large : (c : ℕ) (a b : List ℕ) → length a ≡ length b → Alike (Large c a) (Large c b)
 unfolding enter
-same-large c a b h = record { entered = λ inner seen. refl; heavy = h; wide = refl; framed = refl }
+same-large c a b h = record { entered = λ inner seen. refl; heavy = h; small = ap (λ n. nat_le n 1_000_000) h; framed = refl }
 
 -- what is seen of the nodes of two lists
 both-get : {Y : Type 0} (f : Option Node → Y) → ((a b : Node) → Alike a b → f (Some a) ≡ f (Some b)) → (xs ys : List Node) (k : ℕ) → Both Alike xs ys → f (slice_get xs k) ≡ f (slice_get ys k)
@@ -51,11 +52,11 @@ both-count [] (y ∷ ys) h = absurd h
 both-count (x ∷ xs) [] h = absurd h
 both-count (x ∷ xs) (y ∷ ys) h = ap suc (both-count xs ys h.1)
 
-both-within : (xs ys : List Node) → Both Alike xs ys → list_all node_within xs ≡ list_all node_within ys
+both-within : (xs ys : List Node) → Both Alike xs ys → list_all is_small xs ≡ list_all is_small ys
 both-within [] [] h = refl
 both-within [] (y ∷ ys) h = absurd h
 both-within (x ∷ xs) [] h = absurd h
-both-within (x ∷ xs) (y ∷ ys) h = λ i. (nat_le (h.0.wide i) 65535 && nat_le (h.0.heavy i) 1_000_000) && both-within xs ys h.1 i
+both-within (x ∷ xs) (y ∷ ys) h = λ i. h.0.small i && both-within xs ys h.1 i
 
 -- ---- the walk
 

@@ -4,6 +4,7 @@ use Rattle.std.specs.List.{list_all}
 use Rattle.std.specs.FinMap as map
 use Rattle.std.proofs.lemmas.Bool.{eqb-true, eq-eqb, and_parts, leb-true}
 use Rattle.std.proofs.lemmas.List.{length-map}
+use Rattle.newt_graph.specs.Draft.{is_small}
 use Rattle.newt_graph.specs.declared.node.Node.{Node}
 use Rattle.newt_graph.specs.declared.node.Node.TheVariants.{Symbol, Str, Binary, Large, Array, Frame}
 use Rattle.newt_graph.specs.Graph.{RawGraph}
@@ -11,7 +12,7 @@ use Rattle.newt_graph.specs.Meeting.{normal_form}
 use Rattle.newt_image.specs.Objects.{Objects}
 use Rattle.newt_nsof.specs.Lengths.{bare as bare_node}
 use Rattle.newt_spec_graph.specs.Graph.{is_frame, object}
-use Rattle.newt_spec_graph.specs.Limits.{node_within, within_limits}
+use Rattle.newt_spec_graph.specs.Limits.{within_limits}
 use Rattle.newt_spec_graph.specs.Lists.{Each, Pairs, Among}
 use Rattle.newt_spec_graph.proofs.Lists.{each-at, each-from, each-more, each-list_all, among-filter, filter-among, among-flat_map, some-same, pairs-more, pairs-map, pairs-filter, rises-above, rises-pairs, flat_map-among}
 use Rattle.newt_spec_store.specs.Cost.{skeleton_length}
@@ -83,17 +84,17 @@ more-nodes k x nodes h = each-more (λ (l : ℕ × List ℕ). (l.0 < k + 1 + len
     (λ l p. (omega (arith, p.0), p.1)) h
 
 -- numbers below that of the nodes, and lengths within the limit
-large-nodes : (k : ℕ) (nodes : List Node) → list_all node_within nodes ≡ true → Each (λ (l : ℕ × List ℕ). (l.0 < k + length nodes) × (length l.1 ≤ 1000000)) (larges_from k nodes)
+large-nodes : (k : ℕ) (nodes : List Node) → list_all is_small nodes ≡ true → Each (λ (l : ℕ × List ℕ). (l.0 < k + length nodes) × (length l.1 ≤ 1000000)) (larges_from k nodes)
 large-nodes k [] h = tt
 large-nodes k (Large c bytes ∷ nodes) h =
-    let r = and_parts (node_within (Large c bytes)) (list_all node_within nodes) h in
-    let few = leb-true (length bytes) 1000000 (and_parts true (nat_le (length bytes) 1000000) r.0).1 in
+    let r = and_parts (is_small (Large c bytes)) (list_all is_small nodes) h in
+    let few = leb-true (length bytes) 1000000 r.0 in
     ((omega arith, few), more-nodes k (Large c bytes) nodes (large-nodes (k + 1) nodes r.1))
-large-nodes k (Symbol s ∷ nodes) h = more-nodes k (Symbol s) nodes (large-nodes (k + 1) nodes (and_parts (node_within (Symbol s)) (list_all node_within nodes) h).1)
-large-nodes k (Str s ∷ nodes) h = more-nodes k (Str s) nodes (large-nodes (k + 1) nodes (and_parts (node_within (Str s)) (list_all node_within nodes) h).1)
-large-nodes k (Binary c b ∷ nodes) h = more-nodes k (Binary c b) nodes (large-nodes (k + 1) nodes (and_parts (node_within (Binary c b)) (list_all node_within nodes) h).1)
-large-nodes k (Array c v ∷ nodes) h = more-nodes k (Array c v) nodes (large-nodes (k + 1) nodes (and_parts (node_within (Array c v)) (list_all node_within nodes) h).1)
-large-nodes k (Frame t v ∷ nodes) h = more-nodes k (Frame t v) nodes (large-nodes (k + 1) nodes (and_parts (node_within (Frame t v)) (list_all node_within nodes) h).1)
+large-nodes k (Symbol s ∷ nodes) h = more-nodes k (Symbol s) nodes (large-nodes (k + 1) nodes (and_parts (is_small (Symbol s)) (list_all is_small nodes) h).1)
+large-nodes k (Str s ∷ nodes) h = more-nodes k (Str s) nodes (large-nodes (k + 1) nodes (and_parts (is_small (Str s)) (list_all is_small nodes) h).1)
+large-nodes k (Binary c b ∷ nodes) h = more-nodes k (Binary c b) nodes (large-nodes (k + 1) nodes (and_parts (is_small (Binary c b)) (list_all is_small nodes) h).1)
+large-nodes k (Array c v ∷ nodes) h = more-nodes k (Array c v) nodes (large-nodes (k + 1) nodes (and_parts (is_small (Array c v)) (list_all is_small nodes) h).1)
+large-nodes k (Frame t v ∷ nodes) h = more-nodes k (Frame t v) nodes (large-nodes (k + 1) nodes (and_parts (is_small (Frame t v)) (list_all is_small nodes) h).1)
 
 count-larges : (k : ℕ) (nodes : List Node) → length (larges_from k nodes) ≤ length nodes
 count-larges k [] = omega arith
@@ -122,7 +123,7 @@ pub entry-fits : (objects : Objects) (place : Places) (s : Store) (sig : ℕ) (e
 entry-fits objects place s sig e ids lies w is are =
     let f = each-at (λ (p : Soup). (p.sig < 65536) × (p.next_uid < 4294967296)) s.soups is.soup (valid-fields s w).2 is.is_soup in
     let few : length e.graph.nodes ≤ 65535 = subst (λ n. n ≤ 65535) (length-map e.graph.nodes bare_node) (lies.skeletons sig e is).few in
-    let within = (and_parts (is_some (normal_form e.graph)) (list_all node_within e.graph.nodes) (entry-within s sig e w is)).1 in
+    let within = (and_parts (is_some (normal_form e.graph)) (list_all is_small e.graph.nodes) (entry-within s sig e w is)).1 in
     record {
       soup_fits = subst (λ n. n < 65536) is.of_sig f.0;
       count_fits = omega (arith, few, count-larges 0 e.graph.nodes, are.each_named);

@@ -5,11 +5,11 @@ ghost use Rattle.newt_lit.specs.Printed as printed;
 
 use crate::labels::{is_symbol, labels};
 use crate::page::Page;
-use newt_graph::{Node, Ref};
+use newt_graph::{MOST_OPEN, Node, Ref};
 use std::alloc::{AllocError, Global};
 
-/// At most 200 containers are open within one another, and then comes an object without values.
-const LEVELS: u8 = 201;
+/// Containers are open within one another as far as the limit, and then comes an object without values.
+const LEVELS: u8 = MOST_OPEN + 1;
 
 /// The objects that are printed, and their labels.
 #[derive(Clone, Copy)]

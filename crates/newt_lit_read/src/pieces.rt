@@ -33,7 +33,7 @@ fn escaped_in_name(text: &[char]) -> Result<(char, &[char]), LitFault>
     ensures shorter { IfOk result (λ x. length x.1.now < length text.now) }
 {
     match text {
-        [c, rest @ ..] if *c == '|' || *c == '\\' => Ok((*c, rest)),
+        [c @ ('|' | '\\'), rest @ ..] => Ok((*c, rest)),
         _ => Err(LitFault::Literal),
     }
 }
@@ -88,7 +88,7 @@ fn escaped_in_string(text: &[char]) -> Result<(u32, &[char]), LitFault>
             let (unit, rest) = hex(4, rest)?;
             Ok((unit as u32, rest))
         }
-        [c, rest @ ..] if *c == '"' || *c == '\\' => Ok((*c as u32, rest)),
+        [c @ ('"' | '\\'), rest @ ..] => Ok((*c as u32, rest)),
         _ => Err(LitFault::Literal),
     }
 }

@@ -9,7 +9,7 @@ ghost use Rattle.newt_lit_read.specs.Tokens.{word_at};
 fn is_blank(c: char) -> bool
     ensures { result ≡ is_blank c }
 {
-    c == ' ' || c == '\t' || c == '\n' || c == '\r'
+    matches!(c, ' ' | '\t' | '\n' | '\r')
 }
 
 fn is_word(c: char) -> bool

@@ -2,16 +2,20 @@
 
 use newt_base::{HexFault, Name, NameFault, decimal, hex_read, hex_text, signed};
 use newt_graph::{Graph, Node};
+use newt_lit_print::print_literal;
 use newt_lit_read::{LitFault, read_literal};
+use newt_tables::Asks;
 use std::alloc::{AllocError, Global};
+use std::test::Fail;
 
 /// A call of a text.
-#[derive(Clone, Copy)]
 pub(crate) enum Call {
     /// The graph that a literal reads as.
     Literal,
     /// Whether a text is a literal.
     Fits,
+    /// The literal that is printed of the graph that a literal reads as.
+    Printed,
     /// A number without a sign.
     Decimal,
     /// A number that may have a sign.
@@ -22,15 +26,17 @@ pub(crate) enum Call {
     Hex,
 }
 
-/// What a call answers.
-pub(crate) fn answer(alloc: Global, call: Call, text: &str) -> Result<String, AllocError> {
-    match call {
-        Call::Literal => literal(alloc, text),
-        Call::Fits => fits(alloc, text),
-        Call::Decimal => format!(in alloc; "{:?}", decimal(text.as_bytes())),
-        Call::Signed => format!(in alloc; "{:?}", signed(text.as_bytes())),
-        Call::Name => name(alloc, text),
-        Call::Hex => hex(alloc, text),
+impl Asks for Call {
+    fn answer(&self, alloc: Global, text: &str) -> Result<String, Fail> {
+        Ok(match self {
+            Call::Literal => literal(alloc, text)?,
+            Call::Fits => fits(alloc, text)?,
+            Call::Printed => printed(alloc, text)?,
+            Call::Decimal => format!(in alloc; "{:?}", decimal(text.as_bytes()))?,
+            Call::Signed => format!(in alloc; "{:?}", signed(text.as_bytes()))?,
+            Call::Name => name(alloc, text)?,
+            Call::Hex => hex(alloc, text)?,
+        })
     }
 }
 
@@ -77,6 +83,18 @@ fn fits(alloc: Global, text: &str) -> Result<String, AllocError> {
     match read_literal(alloc, text) {
         Ok(_) => String::from_str(alloc, "fits"),
         Err(why) => String::from_str(alloc, fault(why)),
+    }
+}
+
+/// The literal of the graph that a text reads as, or the fault.
+fn printed(alloc: Global, text: &str) -> Result<String, AllocError> {
+    let graph = match read_literal(alloc, text) {
+        Ok(graph) => graph,
+        Err(why) => return String::from_str(alloc, fault(why)),
+    };
+    match str::from_utf8(&print_literal(alloc, &graph)?) {
+        Ok(text) => String::from_str(alloc, text),
+        Err(_) => String::from_str(alloc, "no text"),
     }
 }
 

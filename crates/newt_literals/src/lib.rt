@@ -1,6 +1,6 @@
-//! Literals, and what they are made of: numbers, names and hexadecimal text, graphs that a builder makes, and what a literal reads as. It stands on
-//! `newt_base`, `newt_graph` and the reader of literals, and carries no promise of its own: what it holds is tests, whose values come from the rules of
-//! the form and not from the program.
+//! Literals, and what they are made of: numbers, names and hexadecimal text, graphs that a builder makes, what a literal reads as, and what is printed of
+//! it. It stands on `newt_base`, `newt_graph` and the reader and the printer of literals, and carries no promise of its own: what it holds is tests, whose
+//! values come from the rules of the form and not from the program.
 #![tactic(auto)]
 
 #[cfg(test)]
@@ -11,5 +11,3 @@ mod graphs;
 mod literals;
 #[cfg(test)]
 mod numbers;
-#[cfg(test)]
-mod tables;

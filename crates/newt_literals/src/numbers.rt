@@ -1,7 +1,7 @@
 //! Numbers in text and bytes, names, hexadecimal text and refusals.
 use crate::calls::Call;
-use crate::tables::{expect, expect_rows};
 use newt_base::{Refusal, be16, be32, set16, set32};
+use newt_tables::{expect, expect_rows};
 use std::alloc::{AllocError, Global};
 use std::test::*;
 
@@ -71,12 +71,12 @@ fn refusals(alloc: Global) -> Result<String, AllocError> {
 
 #[test]
 fn numbers_without_a_sign(rt: HostRuntime) -> Result<(), Fail> {
-    expect_rows(rt.alloc(), Call::Decimal, DECIMALS)
+    expect_rows(rt.alloc(), &Call::Decimal, DECIMALS)
 }
 
 #[test]
 fn numbers_with_a_sign(rt: HostRuntime) -> Result<(), Fail> {
-    expect_rows(rt.alloc(), Call::Signed, SIGNED)
+    expect_rows(rt.alloc(), &Call::Signed, SIGNED)
 }
 
 #[test]
@@ -90,12 +90,12 @@ fn numbers_in_bytes(rt: HostRuntime) -> Result<(), Fail> {
 
 #[test]
 fn names_are_read(rt: HostRuntime) -> Result<(), Fail> {
-    expect_rows(rt.alloc(), Call::Name, NAMES)
+    expect_rows(rt.alloc(), &Call::Name, NAMES)
 }
 
 #[test]
 fn hexadecimal_text_is_read_and_written(rt: HostRuntime) -> Result<(), Fail> {
-    expect_rows(rt.alloc(), Call::Hex, HEXADECIMAL)
+    expect_rows(rt.alloc(), &Call::Hex, HEXADECIMAL)
 }
 
 #[test]

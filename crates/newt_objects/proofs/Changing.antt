@@ -1,22 +1,22 @@
 -- The way of a change: planned, committed, taken over; and what a crash leaves meanwhile.
-use Rattle.std.proofs.Common.{IsTrue, ◌≡◌, ◌⊎◌, inl, inr, ℕ, suc, ◌==◌, Bool, true, false, cond, not, ◌&&◌, ◌||◌, List, [], ◌∷◌, ◌++◌, length, take, map as map_list, slice_get, Option, Some, None, refl, sym, ◌∙◌, ap, subst, ⊎_elim}
+use Rattle.std.proofs.Common.{IsTrue, ◌≡◌, ◌⊎◌, inl, inr, ℕ, suc, ◌==◌, Bool, true, false, cond, ◌||◌, List, [], ◌∷◌, ◌++◌, length, take, map as map_list, slice_get, Option, Some, None, refl, sym, ◌∙◌, ap, subst, ⊎_elim}
 use Rattle.std.specs.List.{list_any}
 use Rattle.std.specs.Map.{lookup}
-use Rattle.std.specs.Cmp.{nat_cmp_total}
 use Rattle.std.specs.FinMap as map
 use Rattle.std.specs.FinSet as set
-use Rattle.std.specs.Option.{option_map, is_some}
+use Rattle.std.specs.Option.{option_map}
 use Rattle.std.proofs.lemmas.List.{map-append, append-nil}
 use Rattle.std.proofs.lemmas.List.Folds.{list_any-append}
 use Rattle.newt_host.specs.Moments.{Moment, bytes_after, changes, image, Leaves}
 use Rattle.newt_host.specs.Outside.{Outside}
 use Rattle.newt_host.proofs.Moments.{Leaves-weaken}
-use Rattle.newt_image.specs.Pages.{Pages, Change, pages, after, with_puts, without_numbers}
+use Rattle.newt_image.specs.Pages.{Pages, Change, pages, after}
 use Rattle.newt_image.specs.Objects.{Extent, Table, IsTableOf, AreObjectsOf, joined, pages_for, written_parts, Objects}
 use Rattle.newt_pagebook.specs.Batch.{names, no_change}
-use Rattle.newt_pagebook.specs.Book.{Numbers, with_put_numbers, without_deleted, changed_numbers, ReadsChanged, IsBeforeOrAfter}
-use Rattle.newt_pagebook.proofs.Tests.{some_inj, true_or_false, neither, same_test, equal_true, equal_false}
-use Rattle.newt_pagebook.proofs.Changes.{names_parts, get_insert, get_remove}
+use Rattle.newt_pagebook.specs.Book.{Numbers, changed_numbers, ReadsChanged, IsBeforeOrAfter}
+use Rattle.newt_pagebook.proofs.Tests.{some_inj, true_or_false, neither, equal_true, equal_false}
+use Rattle.newt_pagebook.proofs.Changes.{names_parts}
+use Rattle.newt_pagebook.proofs.Numbers.{changed_named}
 use Rattle.newt_objects.specs.Extents.{numbers_of}
 use Rattle.newt_objects.specs.Headers.{ArePages}
 use Rattle.newt_objects.specs.Held.{Held, held, planned, after_plan, free_numbers, new_extent, AreOf, WouldHold, IsUnplanned}
@@ -27,7 +27,7 @@ use Rattle.newt_objects.proofs.Same.{texts_by, table_kept}
 use Rattle.newt_objects.proofs.TextsOf.{texts_of}
 
 -- Before anything is planned.
-planned-none : (objects : Held) → objects.plans ≡ [] → (id : ℕ) → planned objects id ≡ held objects id
+pub planned-none : (objects : Held) → objects.plans ≡ [] → (id : ℕ) → planned objects id ≡ held objects id
 planned-none objects none id = ap (λ (plans : List (ℕ × Option Extent)). after_plan (lookup (λ other. id == other) plans) (held objects id)) none
 
 pub start_under_way : (objects : Held) (live : Pages) (texts : Objects) → objects.plans ≡ [] → IsTableOf live (held objects) → AreObjectsOf live texts → IsUnderWay objects no_change live texts
@@ -127,32 +127,6 @@ module _ (old new : Held) (change change' : Change) (id : ℕ) (live : Pages) (t
         still_unnamed change change' [] (numbers_of (held old id)) number (puts ∙ sym (append-nil change.puts)) deletes (way.apart other x there' was.1 k number at) refl
         (not_its live (held old) way.is_table id other k number x was.0 there' at (held old id) refl);
   }
-
--- The numbers after a batch are those of the pages after it.
-contains_insert : (s : Numbers) (n q : ℕ) → set.contains (set.insert s n) q ≡ ((q == n) || set.contains s q)
-contains_insert s n q = set.contains-insert nat_cmp_total s n q ∙ ap (λ (b : Bool). b || set.contains s q) (same_test q n)
-
-pub contains_remove : (s : Numbers) (n q : ℕ) → set.contains (set.remove s n) q ≡ (not (q == n) && set.contains s q)
-contains_remove s n q = set.contains-remove nat_cmp_total s n q ∙ ap (λ (b : Bool). not b && set.contains s q) (same_test q n)
-
-put_named : (puts : List (ℕ × List ℕ)) (m : Pages) (s : Numbers) → ((q : ℕ) → map.contains_key m q ≡ set.contains s q) → (q : ℕ) → map.contains_key (with_puts puts m) q ≡ set.contains (with_put_numbers puts s) q
-put_named [] m s same q = same q
-put_named (p ∷ puts) m s same q = put_named puts (map.insert m p.0 p.1) (set.insert s p.0)
-    (λ k. ap is_some (get_insert m p.0 p.1 k) ∙ some_cond (k == p.0) p.1 (map.get m k) ∙ ap (λ (b : Bool). (k == p.0) || b) (same k) ∙ sym (contains_insert s p.0 k)) q where
-      some_cond : (b : Bool) (x : List ℕ) (o : Option (List ℕ)) → is_some (cond b (Some x) o) ≡ (b || is_some o)
-      some_cond true x o = refl
-      some_cond false x o = refl
-
-pub gone_named : (ns : List ℕ) (m : Pages) (s : Numbers) → ((q : ℕ) → map.contains_key m q ≡ set.contains s q) → (q : ℕ) → map.contains_key (without_numbers ns m) q ≡ set.contains (without_deleted ns s) q
-gone_named [] m s same q = same q
-gone_named (n ∷ ns) m s same q = gone_named ns (map.remove m n) (set.remove s n)
-    (λ k. ap is_some (get_remove m n k) ∙ none_cond (k == n) (map.get m k) ∙ ap (λ (b : Bool). not (k == n) && b) (same k) ∙ sym (contains_remove s n k)) q where
-      none_cond : (b : Bool) (o : Option (List ℕ)) → is_some (cond b None o) ≡ (not b && is_some o)
-      none_cond true o = refl
-      none_cond false o = refl
-
-pub changed_named : (change : Change) (live : Pages) (numbers : Numbers) → ((q : ℕ) → map.contains_key live q ≡ set.contains numbers q) → (q : ℕ) → map.contains_key (after change live) q ≡ set.contains (changed_numbers change numbers) q
-changed_named change live numbers same q = gone_named change.deletes (with_puts change.puts live) (with_put_numbers change.puts numbers) (put_named change.puts live numbers same) q
 
 -- After a commit that was Ok and `adopt`, the table is that of the new pages.
 pub adopted_are : (told : Bool) (objects adopted : Held) (change : Change) (live : Pages) (texts : Objects) (numbers numbers' : Numbers) (unit : ℕ) (old new : Outside)

@@ -1,6 +1,6 @@
 -- As many pages are live as their objects have.
-use Rattle.std.proofs.Common.{◌≡◌, ℕ, zero, suc, ◌+◌, ◌-◌, ◌*◌, ◌≤◌, ◌==◌, ◌&&◌, ◌||◌, Bool, true, false, cond, not, List, [], ◌∷◌, length, drop, slice_get, Option, Some, None, refl, sym, ◌∙◌, ap, subst, arith, ⊎_elim, length-take, length-drop, length-append}
-use Rattle.std.specs.List.{list_any, flat_map, sum_by}
+use Rattle.std.proofs.Common.{◌≡◌, ℕ, zero, suc, ◌+◌, ◌-◌, ◌*◌, ◌≤◌, ◌==◌, ◌&&◌, Bool, true, false, cond, not, List, [], ◌∷◌, length, drop, slice_get, Option, Some, None, refl, sym, ◌∙◌, ap, subst, arith, ⊎_elim, length-take, length-drop, length-append}
+use Rattle.std.specs.List.{flat_map, sum_by}
 use Rattle.std.specs.Prelude.{T}
 use Rattle.std.specs.Ordering.{nat_cmp, is_lt}
 use Rattle.std.specs.Cmp.{nat_cmp_total, tied_itself}
@@ -14,11 +14,12 @@ use Rattle.newt_image.specs.Objects.{Extent, Table, IsTableOf, AreObjectsOf, pag
 use Rattle.newt_pagebook.specs.Batch.{IsBatch}
 use Rattle.newt_pagebook.specs.Book.{Numbers, without_deleted, changed_numbers}
 use Rattle.newt_pagebook.proofs.Tests.{some_inj, true_or_false, is_same, equal_true, equal_false, same_test}
-use Rattle.newt_pagebook.proofs.Changes.{get_remove}
+use Rattle.newt_pagebook.proofs.Changes.{get_without}
+use Rattle.newt_pagebook.proofs.Numbers.{contains_remove, gone_named, changed_named}
 use Rattle.newt_objects.specs.Held.{Held, WouldHold}
 use Rattle.newt_objects.specs.Changing.{AreWhole, total_pages}
 use Rattle.newt_objects.proofs.Plans.{with_at, which, one_part, table_without}
-use Rattle.newt_objects.proofs.Changing.{contains_remove, gone_named, changed_named, would_be_objects}
+use Rattle.newt_objects.proofs.Changing.{would_be_objects}
 use Rattle.newt_objects.proofs.Whole.{whole_after}
 
 -- each number that goes is one less
@@ -39,15 +40,6 @@ len_without (n ∷ ns) s there once =
         cases : (i : ℕ) → set.len s ≡ i → 1 ≤ i
         cases zero e = absurd (let none : set.contains s n ≡ false = ap (λ (t : Numbers). set.contains t n) (set.empty_of_len s e) ∙ set.contains-empty nat_cmp n in cc)
         cases (suc i) e = omega arith
-
-get_without : (ns : List ℕ) (m : Pages) (q : ℕ) → map.get (without_numbers ns m) q ≡ cond (list_any (λ n. q == n) ns) None (map.get m q)
-get_without [] m q = refl
-get_without (n ∷ ns) m q = get_without ns (map.remove m n) q ∙ ap (cond (list_any (λ n. q == n) ns) None) (get_remove m n q) ∙ both_none (list_any (λ n. q == n) ns) (q == n) (map.get m q) where
-  both_none : (a b : Bool) (o : Option (List ℕ)) → cond a None (cond b None o) ≡ cond (b || a) None o
-  both_none true true o = refl
-  both_none true false o = refl
-  both_none false true o = refl
-  both_none false false o = refl
 
 first_of : (a b : Bool) → T (a && b) → T a
 first_of true b p = tt

@@ -7,10 +7,10 @@ use Rattle.newt_image.specs.Pages.{Pages, object_id, part_number, object_length}
 use Rattle.newt_image.specs.Objects.{Extent, Table, IsTableOf, AreObjectsOf, pages_for, joined, Objects}
 use Rattle.newt_pagebook.proofs.Tests.{some_inj}
 
-one_page : (n : ℕ) → 1 ≤ pages_for n
+pub one_page : (n : ℕ) → 1 ≤ pages_for n
 one_page n = omega arith
 
-same_list : (xs ys : List ℕ) → length xs ≡ length ys → ((k n : ℕ) → slice_get xs k ≡ Some n → slice_get ys k ≡ Some n) → xs ≡ ys
+pub same_list : (xs ys : List ℕ) → length xs ≡ length ys → ((k n : ℕ) → slice_get xs k ≡ Some n → slice_get ys k ≡ Some n) → xs ≡ ys
 same_list [] [] size each = refl
 same_list [] (y ∷ ys) size each = absurd (omega (arith, size))
 same_list (x ∷ xs) [] size each = absurd (omega (arith, size))

@@ -5,6 +5,7 @@ use Rattle.std.specs.Ordering.{nat_cmp, eq_by_cmp}
 use Rattle.std.specs.Cmp.{nat_cmp_total}
 use Rattle.std.specs.FinMap as map
 use Rattle.std.specs.Option.{option_map, unwrap_or, is_some}
+use Rattle.std.proofs.lemmas.Bool.{or_right}
 use Rattle.std.proofs.lemmas.Option.{slice_get-get_or}
 use Rattle.newt_image.specs.Pages.{Pages, object_id}
 use Rattle.newt_image.specs.Objects.{Extent, Table, IsTableOf, AreObjectsOf, pages_for, joined, Objects}
@@ -26,10 +27,6 @@ text_at live table id = joined live (unwrap_or (table id) nowhere)
 abbrev texts_in : Pages → Table → List ℕ → List (ℕ × List ℕ)
 texts_in live table numbers = map_list (λ n. (owner live n, text_at live table (owner live n))) numbers
 
-or_true : (b : Bool) → (b || true) ≡ true
-or_true true = refl
-or_true false = refl
-
 -- what stands at an id: the text, where a page is of this object
 find_text : (live : Pages) (table : Table) (id : ℕ) (numbers : List ℕ) → map.find nat_cmp id (texts_in live table numbers) ≡ cond (list_any (λ n. id == owner live n) numbers) (Some (text_at live table id)) None
 find_text live table id [] = refl
@@ -50,7 +47,7 @@ some_owned live id number (n ∷ ns) among own = ⊎_elim
     (λ (t : (number == n) ≡ true). ap (λ (b : Bool). b || list_any (λ n. id == owner live n) ns) (equal_true id (owner live n) (sym own ∙ ap (owner live) (is_same number n t))))
     (λ (f : (number == n) ≡ false).
     let rest : list_any (eq_by_cmp nat_cmp number) ns ≡ true = sym (ap (λ (b : Bool). b || list_any (eq_by_cmp nat_cmp number) ns) (same_test number n ∙ f)) ∙ among in
-    ap (λ (b : Bool). (id == owner live n) || b) (some_owned live id number ns rest own) ∙ or_true (id == owner live n))
+    ap (λ (b : Bool). (id == owner live n) || b) (some_owned live id number ns rest own) ∙ or_right (id == owner live n) true refl)
     (true_or_false (number == n))
 
 the_owned : (live : Pages) (id : ℕ) (numbers : List ℕ) → list_any (λ n. id == owner live n) numbers ≡ true → (number : ℕ) × (list_any (eq_by_cmp nat_cmp number) numbers ≡ true) × (owner live number ≡ id)
@@ -59,7 +56,7 @@ the_owned live id (n ∷ ns) any = ⊎_elim
     (λ (t : (id == owner live n) ≡ true). (n, ap (λ (b : Bool). b || list_any (eq_by_cmp nat_cmp n) ns) (same_test n n ∙ equal_true n n refl), sym (is_same id (owner live n) t)))
     (λ (f : (id == owner live n) ≡ false).
     let w = the_owned live id ns (sym (ap (λ (b : Bool). b || list_any (λ n. id == owner live n) ns) f) ∙ any) in
-    (w.0, ap (λ (b : Bool). eq_by_cmp nat_cmp w.0 n || b) w.1 ∙ or_true (eq_by_cmp nat_cmp w.0 n), w.2))
+    (w.0, ap (λ (b : Bool). eq_by_cmp nat_cmp w.0 n || b) w.1 ∙ or_right (eq_by_cmp nat_cmp w.0 n) true refl, w.2))
     (true_or_false (id == owner live n))
 
 module _ (live : Pages) (table : Table) (is : IsTableOf live table) where

@@ -4,6 +4,7 @@ use Rattle.std.specs.List.{All, list_any, filter, IsDistinct, AllByRecursion}
 use Rattle.std.proofs.lemmas.List.Elements.{All-head, All-tail, All-cons, All-nil}
 use Rattle.std.proofs.lemmas.Map.Entries.{lookup_from_place}
 use Rattle.std.specs.Map.{keys_of}
+use Rattle.std.proofs.lemmas.Bool.{and_parts, not-true}
 use Rattle.std.proofs.lemmas.Bool.Decides.{nat_tests}
 use Rattle.std.specs.Option.{is_some}
 use Rattle.std.specs.Ordering.{nat_cmp}
@@ -25,11 +26,11 @@ use Rattle.newt_journal.specs.declared.bank.Bank.TheVariants.{First, Second}
 use Rattle.newt_pagebook.specs.Batch.{IsBatch}
 use Rattle.newt_pagebook.specs.Book.{Numbers, changed_numbers}
 use Rattle.newt_pagebook.proofs.Tests.{true_or_false, is_same, some_inj, none_is, neither}
-use Rattle.newt_pagebook.proofs.Changes.{get_insert, get_remove}
+use Rattle.newt_pagebook.proofs.Changes.{get_insert, get_without}
 use Rattle.newt_pageplain.specs.Kept.{Entries, page_in, map_of, numbers_in, get_map, is_kept, needed, all_of, AreSound}
 use Rattle.newt_pageplain.proofs.Maps.{turned, same_maps}
 use Rattle.newt_pageplain.proofs.Counts.{live-is, numbers-after, any_numbers}
-use Rattle.newt_pageplain.proofs.Spelling.{fewer_deletes, is_distinct, distinct_is, back_distinct, not_put, front_small, both_true, not_true}
+use Rattle.newt_pageplain.proofs.Spelling.{fewer_deletes, is_distinct, distinct_is, back_distinct, not_put, front_small}
 
 -- a record more
 after-append : (ps : List (List ℕ)) (payload : List ℕ) (m live : Pages) (change : Change) → pages_after ps m ≡ Some live → change_in payload ≡ Some change → pages_after (ps ++ payload ∷ []) m ≡ Some (after change live)
@@ -51,16 +52,6 @@ pub read-same : (image other : List ℕ) → records image ≡ records other →
 read-same image other same = ap (λ (r : Option (List (List ℕ))). and_then r (λ ps. pages_after ps map.empty)) same
 
 -- the map after a change, at a number
-both_none : (a b : Bool) (o : Option (List ℕ)) → cond a None (cond b None o) ≡ cond (b || a) None o
-both_none true true o = refl
-both_none true false o = refl
-both_none false true o = refl
-both_none false false o = refl
-
-get_without : (ns : List ℕ) (m : Pages) (q : ℕ) → map.get (without_numbers ns m) q ≡ cond (list_any (λ n. q == n) ns) None (map.get m q)
-get_without [] m q = refl
-get_without (n ∷ ns) m q = get_without ns (map.remove m n) q ∙ ap (cond (list_any (λ n. q == n) ns) None) (get_remove m n q) ∙ both_none (list_any (λ n. q == n) ns) (q == n) (map.get m q)
-
 not_by_puts : (puts : List Put) (m : Pages) (q : ℕ) → list_any (λ put. q == put.0) puts ≡ false → map.get (with_puts puts m) q ≡ map.get m q
 not_by_puts [] m q e = refl
 not_by_puts (p ∷ puts) m q e =
@@ -257,8 +248,8 @@ pigeons m ns distinct small = subst (λ (k : ℕ). length ns ≤ k) (down-length
 front_distinct : (xs ys : List ℕ) → all_distinct (xs ++ ys) ≡ true → all_distinct xs ≡ true
 front_distinct [] ys d = refl
 front_distinct (x ∷ xs) ys d =
-    let parts = both_true (not (list_any (λ m. x == m) (xs ++ ys))) (all_distinct (xs ++ ys)) d in
-    let n = neither (list_any (λ m. x == m) xs) (list_any (λ m. x == m) ys) (sym (list_any-append (λ m. x == m) xs ys) ∙ not_true (list_any (λ m. x == m) (xs ++ ys)) parts.0) in
+    let parts = and_parts (not (list_any (λ m. x == m) (xs ++ ys))) (all_distinct (xs ++ ys)) d in
+    let n = neither (list_any (λ m. x == m) xs) (list_any (λ m. x == m) ys) (sym (list_any-append (λ m. x == m) xs ys) ∙ not-true (list_any (λ m. x == m) (xs ++ ys)) parts.0) in
     ap (λ (b : Bool). not b && all_distinct xs) n.0 ∙ front_distinct xs ys parts.1
 
 put-count : (puts : List Put) → length (map_list (λ (p : Put). p.0) puts) ≡ length puts

@@ -1,7 +1,7 @@
 -- How many numbers there are after a batch.
-use Rattle.std.proofs.Common.{◌≡◌, ℕ, zero, suc, ◌+◌, ◌-◌, ◌<◌, ◌≤◌, ◌==◌, Bool, true, false, cond, ◌||◌, not, ◌&&◌, List, [], ◌∷◌, ◌++◌, map as map_list, length, take, get_or, nat_eq, Option, Some, None, refl, sym, ◌∙◌, ap, arith, ⊎_elim, length-append}
+use Rattle.std.proofs.Common.{◌≡◌, ℕ, zero, suc, ◌+◌, ◌-◌, ◌<◌, ◌≤◌, ◌==◌, Bool, true, false, cond, ◌||◌, not, ◌&&◌, List, [], ◌∷◌, ◌++◌, map as map_list, length, take, get_or, nat_eq, refl, sym, ◌∙◌, ap, arith, ⊎_elim, length-append}
 use Rattle.std.specs.List.{list_any, IsDistinct, AllByRecursion}
-use Rattle.std.specs.Option.{is_some}
+use Rattle.std.proofs.lemmas.Bool.{and_parts, or_from, or_right, not-true}
 use Rattle.std.proofs.lemmas.Map.Keys.{IsDistinct-head, IsDistinct-tail}
 use Rattle.std.specs.Map.{keys_of}
 use Rattle.std.specs.Ordering.{nat_cmp}
@@ -10,28 +10,12 @@ use Rattle.std.specs.FinMap as map
 use Rattle.std.specs.FinSet as set
 use Rattle.std.proofs.lemmas.List.{take_more}
 use Rattle.std.proofs.lemmas.List.Folds.{list_any-append}
-use Rattle.newt_image.specs.Pages.{Pages, Put, Change, change_numbers, all_distinct, with_puts, without_numbers, after}
+use Rattle.newt_image.specs.Pages.{Pages, Put, Change, change_numbers, all_distinct, after}
 use Rattle.newt_pagebook.specs.Book.{Numbers, with_put_numbers, without_deleted, changed_numbers}
-use Rattle.newt_pagebook.proofs.Tests.{true_or_false, is_same, equal_true, same_test, neither}
-use Rattle.newt_pagebook.proofs.Changes.{get_insert, get_remove}
+use Rattle.newt_pagebook.proofs.Tests.{true_or_false, is_same, equal_true, neither}
+use Rattle.newt_pagebook.proofs.Numbers.{contains_insert, contains_remove, changed_named}
 use Rattle.newt_pageplain.specs.Kept.{Entries, map_of, numbers_in, named_in}
 use Rattle.newt_pageplain.proofs.Maps.{turned, no_put}
-
-both_true : (a b : Bool) → (a && b) ≡ true → (a ≡ true) × (b ≡ true)
-both_true true true e = (refl, refl)
-both_true true false e = absurd (cc)
-both_true false b e = absurd (cc)
-
-neither-or : (a b : Bool) → a ≡ false → b ≡ false → (a || b) ≡ false
-neither-or a b p q = ap (λ (c : Bool). c || b) p ∙ q
-
-or_right : (a b : Bool) → b ≡ true → (a || b) ≡ true
-or_right true b e = refl
-or_right false b e = e
-
-not_any : (b : Bool) → not b ≡ true → b ≡ false
-not_any true e = absurd (cc)
-not_any false e = refl
 
 -- an element is found in its list
 any_at : (ns : List ℕ) (k : ℕ) → k < length ns → list_any (λ m. get_or ns k 0 == m) ns ≡ true
@@ -44,12 +28,12 @@ pub distinct_at : (ns : List ℕ) (k : ℕ) → all_distinct ns ≡ true → k <
 distinct_at [] k distinct low = absurd (omega arith)
 distinct_at (n ∷ ns) zero distinct low = refl
 distinct_at (n ∷ ns) (suc k) distinct low =
-    let d = both_true (not (list_any (λ m. n == m) ns)) (all_distinct ns) distinct in
+    let d = and_parts (not (list_any (λ m. n == m) ns)) (all_distinct ns) distinct in
     let g = get_or ns k 0 in
-    neither-or (g == n) (list_any (λ m. g == m) (take k ns)) (⊎_elim
+    or_from (g == n) (list_any (λ m. g == m) (take k ns)) (⊎_elim
     (λ (t : (g == n) ≡ true). absurd (
     let found : list_any (λ m. n == m) ns ≡ true = ap (λ (x : ℕ). list_any (λ m. x == m) ns) (sym (is_same g n t)) ∙ any_at ns k (omega arith) in
-    let none : list_any (λ m. n == m) ns ≡ false = not_any (list_any (λ m. n == m) ns) d.0 in cc))
+    let none : list_any (λ m. n == m) ns ≡ false = not-true (list_any (λ m. n == m) ns) d.0 in cc))
     (λ (f : (g == n) ≡ false). f)
     (true_or_false (g == n))) (distinct_at ns k d.1 (omega arith))
 
@@ -107,12 +91,6 @@ delete_is_other change distinct j low =
     (sym (any_numbers n change.puts) ∙ parts.0, parts.1)
 
 -- the numbers that are there after puts, and after deletes
-contains_insert : (s : Numbers) (n q : ℕ) → set.contains (set.insert s n) q ≡ ((q == n) || set.contains s q)
-contains_insert s n q = set.contains-insert nat_cmp_total s n q ∙ ap (λ (b : Bool). b || set.contains s q) (same_test q n)
-
-contains_remove : (s : Numbers) (n q : ℕ) → set.contains (set.remove s n) q ≡ (not (q == n) && set.contains s q)
-contains_remove s n q = set.contains-remove nat_cmp_total s n q ∙ ap (λ (b : Bool). not b && set.contains s q) (same_test q n)
-
 or_mid : (a b c : Bool) → (a || (b || c)) ≡ ((b || a) || c)
 or_mid true true c = refl
 or_mid true false c = refl
@@ -181,7 +159,7 @@ module _ (change : Change) (distinct : all_distinct (change_numbers change) ≡ 
 
 none_equal : (n : ℕ) (ns : List ℕ) → AllByRecursion (λ m. (n == m) ≡ false) ns → list_any (λ m. m == n) ns ≡ false
 none_equal n [] all = refl
-none_equal n (m ∷ ns) all = neither-or (m == n) (list_any (λ m. m == n) ns) (turned m n ∙ all.0) (none_equal n ns all.1)
+none_equal n (m ∷ ns) all = or_from (m == n) (list_any (λ m. m == n) ns) (turned m n ∙ all.0) (none_equal n ns all.1)
 
 -- distinct numbers are as many as their set has
 pub len-distinct : (ns : List ℕ) → IsDistinct nat_eq ns → set.len (set.from_list {R = nat_cmp} ns) ≡ length ns
@@ -200,22 +178,4 @@ live-is es d = len-distinct (keys_of es) d ∙ keys_length es where
 -- the numbers after a batch, where the map is that after it
 pub numbers-after : (old new : Entries) (change : Change) → map_of new ≡ after change (map_of old) → numbers_in new ≡ changed_numbers change (numbers_in old)
 numbers-after old new change is = set.same_set nat_cmp_total map.nat_cmp-IsAntisymmetric (numbers_in new) (changed_numbers change (numbers_in old)) (λ q.
-    sym (named_in new q) ∙ ap (λ (m : Pages). map.contains_key m q) is ∙ there change.puts change.deletes (map_of old) (numbers_in old) (named_in old) q)
-  where
-    put_named : (puts : List Put) (m : Pages) (s : Numbers) → ((q : ℕ) → map.contains_key m q ≡ set.contains s q) → (q : ℕ) → map.contains_key (with_puts puts m) q ≡ set.contains (with_put_numbers puts s) q
-    put_named [] m s same q = same q
-    put_named (p ∷ puts) m s same q = put_named puts (map.insert m p.0 p.1) (set.insert s p.0) (λ k. ap is_some (get_insert m p.0 p.1 k) ∙ some_cond (k == p.0) p.1 (map.get m k) ∙ ap (λ (b : Bool). (k == p.0) || b) (same k) ∙ sym (contains_insert s p.0 k)) q where
-      some_cond : (b : Bool) (x : List ℕ) (o : Option (List ℕ)) → is_some (cond b (Some x) o) ≡ (b || is_some o)
-      some_cond true x o = refl
-      some_cond false x o = refl
-
-    gone_named : (ns : List ℕ) (m : Pages) (s : Numbers) → ((q : ℕ) → map.contains_key m q ≡ set.contains s q) → (q : ℕ) → map.contains_key (without_numbers ns m) q ≡ set.contains (without_deleted ns s) q
-    gone_named [] m s same q = same q
-    gone_named (n ∷ ns) m s same q = gone_named ns (map.remove m n) (set.remove s n) (λ k. ap is_some (get_remove m n k) ∙ none_cond (k == n) (map.get m k) ∙ ap (λ (b : Bool). not (k == n) && b) (same k) ∙ sym (contains_remove s n k)) q where
-      none_cond : (b : Bool) (o : Option (List ℕ)) → is_some (cond b None o) ≡ (not b && is_some o)
-      none_cond true o = refl
-      none_cond false o = refl
-
-    there : (puts : List Put) (deletes : List ℕ) (m : Pages) (s : Numbers) → ((q : ℕ) → map.contains_key m q ≡ set.contains s q) → (q : ℕ)
-        → map.contains_key (without_numbers deletes (with_puts puts m)) q ≡ set.contains (without_deleted deletes (with_put_numbers puts s)) q
-    there puts deletes m s same q = gone_named deletes (with_puts puts m) (with_put_numbers puts s) (put_named puts m s same) q
+    sym (named_in new q) ∙ ap (λ (m : Pages). map.contains_key m q) is ∙ changed_named change (map_of old) (numbers_in old) (named_in old) q)

@@ -1,6 +1,7 @@
 -- What a payload says, read number by number.
 use Rattle.std.proofs.Common.{◌≡◌, ◌⊎◌, inl, inr, ℕ, zero, suc, ◌+◌, ◌-◌, ◌*◌, ◌<◌, ◌≤◌, ◌==◌, nat_le, Bool, true, false, if◌then◌else◌, ◌||◌, ◌&&◌, not, List, [], ◌∷◌, ◌++◌, map as map_list, length, take, drop, Some, None, refl, sym, ◌∙◌, ap, arith, ⊎_elim, append_assoc}
 use Rattle.std.specs.List.{All, list_any, list_all}
+use Rattle.std.proofs.lemmas.Bool.{or_right}
 use Rattle.std.proofs.lemmas.List.{drop-drop, append-nil, map-append}
 use Rattle.std.proofs.lemmas.List.Elements.{All-head, All-tail}
 use Rattle.std.proofs.lemmas.Bool.Decides.{nat_tests}
@@ -95,13 +96,9 @@ not_all : (xs ys : List ℕ) (n : ℕ) → 65536 ≤ n → list_all (λ m. nat_l
 not_all [] ys n big = ap (λ (b : Bool). b && list_all (λ m. nat_le m 65535) ys) (big_false n big)
 not_all (x ∷ xs) ys n big = ap (λ (b : Bool). nat_le x 65535 && b) (not_all xs ys n big) ∙ and_false (nat_le x 65535)
 
-or_true : (a : Bool) → (a || true) ≡ true
-or_true true = refl
-or_true false = refl
-
 middle_found : (xs ys : List ℕ) (n : ℕ) → list_any (λ m. n == m) (xs ++ n ∷ ys) ≡ true
 middle_found [] ys n = ap (λ (b : Bool). b || list_any (λ m. n == m) ys) (equal_true n n refl)
-middle_found (x ∷ xs) ys n = ap (λ (b : Bool). (n == x) || b) (middle_found xs ys n) ∙ or_true (n == x)
+middle_found (x ∷ xs) ys n = ap (λ (b : Bool). (n == x) || b) (middle_found xs ys n) ∙ or_right (n == x) true refl
 
 not_distinct : (xs ys : List ℕ) (n : ℕ) → list_any (λ m. n == m) xs ≡ true → all_distinct (xs ++ n ∷ ys) ≡ false
 not_distinct [] ys n there = absurd (cc)

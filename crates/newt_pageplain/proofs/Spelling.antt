@@ -2,6 +2,7 @@
 use Rattle.std.proofs.Common.{◌≡◌, ℕ, ◌+◌, ◌*◌, ◌<◌, ◌==◌, Bool, true, false, not, cond, ◌||◌, ◌&&◌, nat_eq, List, [], ◌∷◌, ◌++◌, map as map_list, length, take, drop, Some, refl, sym, ◌∙◌, ap, subst, arith, ⊎_elim, append_assoc, length-append}
 use Rattle.std.specs.List.{All, list_any, filter, flat_map, IsDistinct, AllByRecursion}
 use Rattle.std.specs.Int.{to_be_bytes, from_be_bytes, w16, w32}
+use Rattle.std.proofs.lemmas.Bool.{and_parts, or_right, not-true}
 use Rattle.std.proofs.lemmas.List.{take_at, drop_at}
 use Rattle.std.proofs.lemmas.List.Folds.{list_any-append}
 use Rattle.std.proofs.lemmas.List.Elements.{All-head, All-tail, All-cons, All-nil}
@@ -123,30 +124,17 @@ small_filter p [] (y ∷ ys) all = choose (p y) (All-head (λ n. n < 65536) y ys
   choose false low rest = rest
 small_filter p (x ∷ xs) ys all = All-cons (λ n. n < 65536) x (xs ++ filter p ys) (All-head (λ n. n < 65536) x (xs ++ ys) all) (small_filter p xs ys (All-tail (λ n. n < 65536) x (xs ++ ys) all))
 
-pub both_true : (a b : Bool) → (a && b) ≡ true → (a ≡ true) × (b ≡ true)
-both_true true true e = (refl, refl)
-both_true true false e = absurd (cc)
-both_true false b e = absurd (cc)
-
-pub not_true : (b : Bool) → not b ≡ true → b ≡ false
-not_true true e = absurd (cc)
-not_true false e = refl
-
 or_left : (a b c : Bool) → (a || c) ≡ false → (b ≡ true → c ≡ true) → (a || b) ≡ false
 or_left true b c e h = absurd (cc)
 or_left false true c e h = absurd (let t : c ≡ true = h refl in cc)
 or_left false false c e h = refl
 
-or_true : (a b : Bool) → b ≡ true → (a || b) ≡ true
-or_true true b t = refl
-or_true false b t = t
-
 filter_step : (n y : ℕ) (b : Bool) (zs ys : List ℕ) → (list_any (λ m. n == m) zs ≡ true → list_any (λ m. n == m) ys ≡ true) → list_any (λ m. n == m) (cond b (y ∷ zs) zs) ≡ true → ((n == y) || list_any (λ m. n == m) ys) ≡ true
 filter_step n y true zs ys more t = ⊎_elim
     (λ (here : (n == y) ≡ true). ap (λ (b : Bool). b || list_any (λ m. n == m) ys) here)
-    (λ (not_here : (n == y) ≡ false). or_true (n == y) (list_any (λ m. n == m) ys) (more (sym (ap (λ (b : Bool). b || list_any (λ m. n == m) zs) not_here) ∙ t)))
+    (λ (not_here : (n == y) ≡ false). or_right (n == y) (list_any (λ m. n == m) ys) (more (sym (ap (λ (b : Bool). b || list_any (λ m. n == m) zs) not_here) ∙ t)))
     (true_or_false (n == y))
-filter_step n y false zs ys more t = or_true (n == y) (list_any (λ m. n == m) ys) (more t)
+filter_step n y false zs ys more t = or_right (n == y) (list_any (λ m. n == m) ys) (more t)
 
 any_filter : (n : ℕ) (p : ℕ → Bool) (ys : List ℕ) → list_any (λ m. n == m) (filter p ys) ≡ true → list_any (λ m. n == m) ys ≡ true
 any_filter n p [] e = e
@@ -155,8 +143,8 @@ any_filter n p (y ∷ ys) e = filter_step n y (p y) (filter p ys) ys (any_filter
 distinct_filter : (p : ℕ → Bool) (xs ys : List ℕ) → all_distinct (xs ++ ys) ≡ true → all_distinct (xs ++ filter p ys) ≡ true
 distinct_filter p [] [] d = d
 distinct_filter p [] (y ∷ ys) d =
-    let parts = both_true (not (list_any (λ m. y == m) ys)) (all_distinct ys) d in
-    choose (p y) (not_true (list_any (λ m. y == m) ys) parts.0) (distinct_filter p [] ys parts.1) where
+    let parts = and_parts (not (list_any (λ m. y == m) ys)) (all_distinct ys) d in
+    choose (p y) (not-true (list_any (λ m. y == m) ys) parts.0) (distinct_filter p [] ys parts.1) where
       none : list_any (λ m. y == m) ys ≡ false → list_any (λ m. y == m) (filter p ys) ≡ false
       none e = or_left false (list_any (λ m. y == m) (filter p ys)) (list_any (λ m. y == m) ys) e (any_filter y p ys)
 
@@ -164,8 +152,8 @@ distinct_filter p [] (y ∷ ys) d =
       choose true e rest = ap (λ (b : Bool). not b && all_distinct (filter p ys)) (none e) ∙ rest
       choose false e rest = rest
 distinct_filter p (x ∷ xs) ys d =
-    let parts = both_true (not (list_any (λ m. x == m) (xs ++ ys))) (all_distinct (xs ++ ys)) d in
-    let old : (list_any (λ m. x == m) xs || list_any (λ m. x == m) ys) ≡ false = sym (list_any-append (λ m. x == m) xs ys) ∙ not_true (list_any (λ m. x == m) (xs ++ ys)) parts.0 in
+    let parts = and_parts (not (list_any (λ m. x == m) (xs ++ ys))) (all_distinct (xs ++ ys)) d in
+    let old : (list_any (λ m. x == m) xs || list_any (λ m. x == m) ys) ≡ false = sym (list_any-append (λ m. x == m) xs ys) ∙ not-true (list_any (λ m. x == m) (xs ++ ys)) parts.0 in
     let new : list_any (λ m. x == m) (xs ++ filter p ys) ≡ false = list_any-append (λ m. x == m) xs (filter p ys) ∙ or_left (list_any (λ m. x == m) xs) (list_any (λ m. x == m) (filter p ys)) (list_any (λ m. x == m) ys) old (any_filter x p ys) in
     ap (λ (b : Bool). not b && all_distinct (xs ++ filter p ys)) new ∙ distinct_filter p xs ys parts.1
 
@@ -185,8 +173,8 @@ pub distinct_is : (ns : List ℕ) → all_distinct ns ≡ true → IsDistinct na
 unfolding IsDistinct
 distinct_is [] d = tt
 distinct_is (n ∷ ns) d =
-    let parts = both_true (not (list_any (λ m. n == m) ns)) (all_distinct ns) d in
-    (none_of n ns (not_true (list_any (λ m. n == m) ns) parts.0), distinct_is ns parts.1)
+    let parts = and_parts (not (list_any (λ m. n == m) ns)) (all_distinct ns) d in
+    (none_of n ns (not-true (list_any (λ m. n == m) ns) parts.0), distinct_is ns parts.1)
 
 any_none : (n : ℕ) (ns : List ℕ) → AllByRecursion (λ m. (n == m) ≡ false) ns → list_any (λ m. n == m) ns ≡ false
 any_none n [] all = refl
@@ -198,14 +186,14 @@ is_distinct (n ∷ ns) d = ap (λ (b : Bool). not b && all_distinct ns) (any_non
 
 pub back_distinct : (xs ys : List ℕ) → all_distinct (xs ++ ys) ≡ true → all_distinct ys ≡ true
 back_distinct [] ys d = d
-back_distinct (x ∷ xs) ys d = back_distinct xs ys (both_true (not (list_any (λ m. x == m) (xs ++ ys))) (all_distinct (xs ++ ys)) d).1
+back_distinct (x ∷ xs) ys d = back_distinct xs ys (and_parts (not (list_any (λ m. x == m) (xs ++ ys))) (all_distinct (xs ++ ys)) d).1
 
 -- a number that is deleted is not put
 pub not_put : (xs ys : List ℕ) (q : ℕ) → all_distinct (xs ++ ys) ≡ true → list_any (λ m. q == m) ys ≡ true → list_any (λ m. q == m) xs ≡ false
 not_put [] ys q d there = refl
 not_put (x ∷ xs) ys q d there =
-    let parts = both_true (not (list_any (λ m. x == m) (xs ++ ys))) (all_distinct (xs ++ ys)) d in
-    let no : (list_any (λ m. x == m) xs || list_any (λ m. x == m) ys) ≡ false = sym (list_any-append (λ m. x == m) xs ys) ∙ not_true (list_any (λ m. x == m) (xs ++ ys)) parts.0 in
+    let parts = and_parts (not (list_any (λ m. x == m) (xs ++ ys))) (all_distinct (xs ++ ys)) d in
+    let no : (list_any (λ m. x == m) xs || list_any (λ m. x == m) ys) ≡ false = sym (list_any-append (λ m. x == m) xs ys) ∙ not-true (list_any (λ m. x == m) (xs ++ ys)) parts.0 in
     ⊎_elim
     (λ (t : (q == x) ≡ true). absurd (let there' : list_any (λ m. x == m) ys ≡ true = ap (λ (k : ℕ). list_any (λ m. k == m) ys) (sym (is_same q x t)) ∙ there in let none = (neither (list_any (λ m. x == m) xs) (list_any (λ m. x == m) ys) no).1 in cc))
     (λ (f : (q == x) ≡ false). ap (λ (b : Bool). b || list_any (λ m. q == m) xs) f ∙ not_put xs ys q parts.1 there)

@@ -16,11 +16,11 @@ use Rattle.newt_graph.specs.Graph.{RawGraph, IsGraph, IsNode, IsSymbol, payload}
 use Rattle.newt_graph.specs.Raw.{renamed_ref, renamed, labels_of, IsValue, IsNormalForm}
 use Rattle.newt_graph.specs.Steps.{◌>>=◌}
 use Rattle.newt_graph.specs.Meeting.{Seen, place, meet, number, moved, limited, numbered, normal_form}
-use Rattle.newt_graph.specs.Draft.{IsJoinedNode, IsJoined, slot_put, frame_set, with_set}
+use Rattle.newt_graph.specs.Draft.{IsJoinedNode, IsJoined, slot_put, frame_set, with_set, is_small}
 use Rattle.newt_graph.specs.Draft as draft
 use Rattle.newt_spec_graph.specs.Graph.{change_nth}
 use Rattle.newt_spec_graph.specs.Slots.{is_named, symbol_number, slot_number, slot_value, value_below, set_slot, with_slot, goes_to, new_nodes, put_into}
-use Rattle.newt_spec_graph.specs.Limits.{node_within, is_within}
+use Rattle.newt_spec_graph.specs.Limits.{is_within}
 use Rattle.newt_graph.proofs.Options.{bind_some, some_is}
 use Rattle.newt_graph.proofs.Elements.{get_append, at_map}
 use Rattle.newt_graph.proofs.Follows.{form_is_found}
@@ -322,7 +322,7 @@ full_passes g name v tag frame tags values path p other full leads =
     outside None e = refl
     outside (Some h) e =
         let f = full_in g name v tag frame tags values path p other full.full leads h e in
-        and_right (is_some (normal_form h)) (list_all node_within h.nodes) (list_all-fails node_within h.nodes f.0 (Frame f.1 f.2) f.3 (and_left (nat_le (length f.1) 65535) true (lt-leb (length f.1) 65535 f.4)))
+        and_right (is_some (normal_form h)) (list_all is_small h.nodes) (list_all-fails is_small h.nodes f.0 (Frame f.1 f.2) f.3 (lt-leb (length f.1) 65535 f.4))
 
 -- what the builder makes
 pub made_form : (g : RawGraph) (name : List ℕ) (v : RawGraph) (tag frame : ℕ) (tags : List ℕ) (values : List Ref) (h : RawGraph) → IsPlace g name tag frame tags values

@@ -11,4 +11,4 @@ mod value;
 pub use fault::{PathFault, SetFault};
 pub use path::Path;
 pub use set::set_at;
-pub use value::{slot_value, value_at};
+pub use value::{has_name, slot_value, value_at};

@@ -46,7 +46,7 @@ fn slot_number(nodes: &[Node], tags: &[u32], name: &[u8]) -> Option<usize>
     tags.iter().position(|tag| is_named(nodes, *tag, name))
 }
 
-/// Whether node n is a symbol of this name but for ASCII case.
+/// Whether there is a node n, and it has this name.
 fn is_named(nodes: &[Node], n: u32, name: &[u8]) -> bool
     ensures { result ≡ is_named name.now (slice_get nodes.now n) }
 {
@@ -56,7 +56,8 @@ fn is_named(nodes: &[Node], n: u32, name: &[u8]) -> bool
     }
 }
 
-fn has_name(node: &Node, name: &[u8]) -> bool
+/// Whether a node is a symbol of this name but for ASCII case.
+pub fn has_name(node: &Node, name: &[u8]) -> bool
     ensures { result ≡ is_named name.now (Some node.now) }
 {
     match node {

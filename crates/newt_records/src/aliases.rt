@@ -10,7 +10,7 @@ fn an_alias_is_read_back(rt: HostRuntime) -> Result<(), Fail> {
         soup: Sig(0),
         uid: Uid(12),
     };
-    let graph = alias.graph(rt.alloc()).ok().ok_or("memory is ample")?;
+    let graph = alias.graph(rt.alloc())?;
     assert_eq!(rt; graph.len(), 2);
     assert_eq!(rt; Alias::read(&graph), Some(alias));
     Ok(())

@@ -1,25 +1,43 @@
 //! Directories in bytes that were spelt by hand, with ample memory.
+use crate::calls::Record;
 use newt_base::{Name, Sig};
 use newt_keys::{IndexSpec, Kind, Order};
 use newt_path::Path;
-use newt_soupdir::{DirFault, Directory, read_directory, write_directory};
+use newt_soupdir::{Directory, read_directory, write_directory};
+use newt_tables::{bytes_of, expect_rows};
 use newt_tags::TagTable;
-use std::alloc::{AllocError, Global};
+use std::alloc::Global;
 use std::test::*;
 
-/// The store `Internal` with the signature 7 and no soups.
-const INTERNAL: &[u8] = b"\x08Internal\x00\x00\x00\x07\x00\x00\x00";
+/// The name, the signature and the next soup of a directory, and whether it is written as the same bytes; or that there is none.
+pub(crate) fn directory(alloc: Global, bytes: &[u8]) -> Result<String, Fail> {
+    let read = match read_directory(alloc, bytes) {
+        Ok(read) => read,
+        Err(fault) => return Ok(format!(in alloc; "{fault:?}")?),
+    };
+    let name = str::from_utf8(read.name.list())?;
+    let kept = is_written(alloc, &read, bytes);
+    Ok(format!(in alloc; "{name} {} {} {kept}", read.sig.0, read.next_soup)?)
+}
 
-/// The store `S` with the soups `A` and `a`.
-const TWO_SOUPS: &[u8] =
-    b"\x01S\x00\x00\x00\x01\x00\x02\x02\x01A\x00\x00\x00\x00\x00\x03\x00\x00\x01a\x00\x01\x00\x00\x00\x00\x00\x00";
+/// The same of the store `S` with the soup `A`, from the number of that soup's indexes on.
+pub(crate) fn soup(alloc: Global, tail: &[u8]) -> Result<String, Fail> {
+    directory(alloc, &with_tail(alloc, tail)?)
+}
 
-/// The same when `a` is gone, `A` has one entry more, and `B` was made.
-const CHANGED: &[u8] =
-    b"\x01S\x00\x00\x00\x01\x00\x03\x02\x01A\x00\x00\x00\x00\x00\x04\x00\x00\x01B\x00\x02\x00\x00\x00\x00\x00\x00";
+fn with_tail(alloc: Global, tail: &[u8]) -> Result<Vec<u8>, Fail> {
+    let mut bytes = bytes_of(alloc, "01 'S 00000001 0001 01 01 'A 0000 00000000")?;
+    bytes.extend_from_slice(tail)?;
+    Ok(bytes)
+}
 
-fn is_bad(alloc: Global, bytes: &[u8]) -> bool {
-    matches!(read_directory(alloc, bytes), Err(DirFault::Bad))
+fn read_words(alloc: Global, words: &str) -> Result<Directory, Fail> {
+    Ok(read_directory(alloc, &bytes_of(alloc, words)?)?)
+}
+
+fn read_tail(alloc: Global, words: &str) -> Result<Directory, Fail> {
+    let tail = bytes_of(alloc, words)?;
+    Ok(read_directory(alloc, &with_tail(alloc, &tail)?)?)
 }
 
 fn is_written(alloc: Global, directory: &Directory, bytes: &[u8]) -> bool {
@@ -30,6 +48,52 @@ fn is_written(alloc: Global, directory: &Directory, bytes: &[u8]) -> bool {
         Ok(written) => written.as_slice() == bytes,
         Err(_) => false,
     }
+}
+
+/// The name of the store, its signature, the next soup's signature, and the soups: the name of each, its signature, the next entry id, indexes and tags.
+const DIRECTORIES: &str = "
+08 'Internal 00000007 0000 00 => Internal 7 0 true
+01 'S 00000001 0002 02 01 'A 0000 00000003 00 00 01 'a 0001 00000000 00 00 => S 1 2 true
+ => Bad
+08 'Internal 00000007 0000 00 00 => Bad
+08 'Internal 20000000 0000 00 => Bad
+01 'S 00000001 0000 01 01 'A 0000 00000000 00 00 => Bad
+";
+
+/// The indexes, and whether there are tags: for an index how many parts, for each of them the type, the order and the path; the path of the tags, and the tags.
+const SOUPS: &str = "
+00 00 => S 1 1 true
+01 01 00 00 02 04 'name 04 'last 00 => S 1 1 true
+02 04 00 00 01 01 'a 01 01 02 01 'b 01 'c 02 00 01 01 'd 03 01 01 03 'e_1 01 01 01 01 01 'b 00 => S 1 1 true
+00 01 01 06 'labels 02 08 'business 08 'personal => S 1 1 true
+00 01 01 06 'labels 00 => S 1 1 true
+10 ~01 00 00 01 02 'a№ *10~ ~01 00 00 01 02 'b№ *6~ 00 => S 1 1 true
+11 ~01 00 00 01 02 'a№ *10~ ~01 00 00 01 02 'b№ *7~ 00 => Bad
+00 01 01 06 'labels 40 ~02 'a№ *10~ ~02 'b№ *10~ ~02 'c№ *10~ ~02 'd№ *10~ ~02 'e№ *10~ ~02 'f№ *10~ ~02 'g№ *4~ => S 1 1 true
+00 01 01 06 'labels 41 ~02 'a№ *10~ ~02 'b№ *10~ ~02 'c№ *10~ ~02 'd№ *10~ ~02 'e№ *10~ ~02 'f№ *10~ ~02 'g№ *5~ => Bad
+01 01 04 00 01 01 'a 00 => Bad
+01 01 00 02 01 01 'a 00 => Bad
+01 00 00 => Bad
+01 05 ~00 00 01 01 'a *5~ 00 => Bad
+01 01 00 00 00 00 => Bad
+01 01 00 00 08 ~01 'a *8~ 00 => S 1 1 true
+01 01 00 00 09 ~01 'a *9~ 00 => Bad
+01 01 00 00 01 00 00 => Bad
+01 01 00 00 01 01 '1 00 => Bad
+01 01 00 00 01 02 'a. 00 => Bad
+02 01 00 00 01 01 'a 01 01 01 01 01 'A 00 => Bad
+00 02 => Bad
+00 01 00 00 => Bad
+00 01 01 01 'l 02 01 'a 01 'A => Bad
+00 01 01 01 'l 01 02 'a- => Bad
+00 01 01 01 'l 02 01 'a => Bad
+00 00 00 => Bad
+";
+
+#[test]
+fn directories_are_read_and_written(rt: HostRuntime) -> Result<(), Fail> {
+    expect_rows(rt.alloc(), &Record::Directory, DIRECTORIES)?;
+    expect_rows(rt.alloc(), &Record::Soup, SOUPS)
 }
 
 /// Takes an entry id of the soup 0, drops the soup 1 and makes another.
@@ -46,111 +110,39 @@ fn change(directory: &mut Directory, name: Name) -> Option<(u32, u32)> {
     Some((uid.0, made.0))
 }
 
-#[test]
-fn a_new_store_is_read_and_written(rt: HostRuntime) -> Result<(), Fail> {
-    let alloc = rt.alloc();
-    let directory = read_directory(alloc, INTERNAL).ok().ok_or("a directory")?;
-    assert_eq!(rt; directory.name.list(), b"Internal".as_slice());
-    assert_eq!(rt; directory.sig, Sig(7));
-    assert!(rt; is_written(alloc, &directory, INTERNAL));
-    Ok(())
-}
+/// The store `S` with the soups `A` and `a`.
+const TWO_SOUPS: &str =
+    "01 'S 00000001 0002 02 01 'A 0000 00000003 00 00 01 'a 0001 00000000 00 00";
+
+/// The same when `a` is gone, `A` has one entry more, and `B` was made.
+const CHANGED: &str = "01 'S 00000001 0003 02 01 'A 0000 00000004 00 00 01 'B 0002 00000000 00 00";
 
 #[test]
 fn soups_are_found_and_changed(rt: HostRuntime) -> Result<(), Fail> {
     let alloc = rt.alloc();
-    let read = read_directory(alloc, TWO_SOUPS).ok().ok_or("a directory")?;
-    let mut directory = read.copy().ok().ok_or("memory is ample")?;
+    let read = read_words(alloc, TWO_SOUPS)?;
+    let mut directory = read.copy()?;
     assert_eq!(rt; directory.soup_named(b"a").map(|row| row.sig.0), Some(1));
     assert_eq!(rt; directory.soup_of(Sig(0)).map(|row| row.next_uid), Some(3));
     assert!(rt; directory.soup_named(b"B").is_none());
     assert!(rt; !directory.is_full());
-    let name = Name::read(alloc, b"B").ok().ok_or("a name")?;
+    let name = Name::read(alloc, b"B")?;
     assert_eq!(rt; change(&mut directory, name), Some((3, 2)));
-    assert!(rt; is_written(alloc, &directory, CHANGED));
+    assert!(rt; is_written(alloc, &directory, &bytes_of(alloc, CHANGED)?));
     let rows = directory.soups.into_vec();
     assert_eq!(rt; rows.len(), 2);
     Ok(())
 }
 
-#[test]
-fn bad_bytes_are_refused(rt: HostRuntime) -> Result<(), Fail> {
-    let alloc = rt.alloc();
-    for bytes in [
-        b"".as_slice(),
-        b"\x08Internal\x00\x00\x00\x07\x00\x00\x00\x00",
-        b"\x08Internal\x20\x00\x00\x00\x00\x00\x00",
-        b"\x01S\x00\x00\x00\x01\x00\x00\x01\x01A\x00\x00\x00\x00\x00\x00\x00\x00",
-    ] {
-        assert!(rt; is_bad(alloc, bytes));
-    }
-    Ok(())
-}
-
-/// The store `S` with the soup `A`, up to the number of its indexes.
-const HEAD: &[u8] = b"\x01S\x00\x00\x00\x01\x00\x01\x01\x01A\x00\x00\x00\x00\x00\x00";
-
 /// The index name.last.
-const NAMES: &[u8] = b"\x01\x01\x00\x00\x02\x04name\x04last\x00";
+const NAMES: &str = "01 01 00 00 02 04 'name 04 'last 00";
 
 /// An index of four parts, of all types, and one of one part.
-const PARTS: &[u8] =
-    b"\x02\x04\x00\x00\x01\x01a\x01\x01\x02\x01b\x01c\x02\x00\x01\x01d\x03\x01\x01\x03e_1\x01\x01\x01\x01\x01b\x00";
+const PARTS: &str =
+    "02 04 00 00 01 01 'a 01 01 02 01 'b 01 'c 02 00 01 01 'd 03 01 01 03 'e_1 01 01 01 01 01 'b 00";
 
 /// The tags business and personal.
-const TAGS: &[u8] = b"\x00\x01\x01\x06labels\x02\x08business\x08personal";
-
-fn with_tail(alloc: Global, tail: &[u8]) -> Result<Vec<u8>, AllocError> {
-    let mut bytes = Vec::from_slice(alloc, HEAD)?;
-    bytes.extend_from_slice(tail)?;
-    Ok(bytes)
-}
-
-fn read_tail(alloc: Global, tail: &[u8]) -> Option<Directory> {
-    let bytes = with_tail(alloc, tail).ok()?;
-    read_directory(alloc, &bytes).ok()
-}
-
-fn comes_back(alloc: Global, bytes: &[u8]) -> bool {
-    match read_directory(alloc, bytes) {
-        Ok(directory) => is_written(alloc, &directory, bytes),
-        Err(_) => false,
-    }
-}
-
-fn tail_comes_back(alloc: Global, tail: &[u8]) -> bool {
-    match with_tail(alloc, tail) {
-        Ok(bytes) => comes_back(alloc, &bytes),
-        Err(_) => false,
-    }
-}
-
-fn is_bad_tail(alloc: Global, tail: &[u8]) -> bool {
-    match with_tail(alloc, tail) {
-        Ok(bytes) => is_bad(alloc, &bytes),
-        Err(_) => false,
-    }
-}
-
-/// So many indexes of one part each.
-fn with_indexes(alloc: Global, count: u8) -> Result<Vec<u8>, AllocError> {
-    let mut bytes = with_tail(alloc, &[count])?;
-    for n in 0..count {
-        bytes.extend_from_slice(&[1, 0, 0, 1, 1, b'a' + n % 26])?;
-    }
-    bytes.push(0)?;
-    Ok(bytes)
-}
-
-/// So many tags.
-fn with_tags(alloc: Global, count: u8) -> Result<Vec<u8>, AllocError> {
-    let mut bytes = with_tail(alloc, b"\x00\x01\x01\x06labels")?;
-    bytes.push(count)?;
-    for n in 0..count {
-        bytes.extend_from_slice(&[2, b'a' + n % 26, b'0' + n / 26])?;
-    }
-    Ok(bytes)
-}
+const TAGS: &str = "00 01 01 06 'labels 02 08 'business 08 'personal";
 
 /// The last index of the first soup.
 fn last_index(directory: &Directory) -> Option<IndexSpec> {
@@ -168,92 +160,38 @@ fn first_tags(directory: &Directory) -> Option<TagTable> {
 }
 
 #[test]
-fn indexes_and_tags_are_read_and_written(rt: HostRuntime) -> Result<(), Fail> {
-    let alloc = rt.alloc();
-    for tail in [
-        b"\x00\x00".as_slice(),
-        NAMES,
-        PARTS,
-        TAGS,
-        b"\x00\x01\x01\x06labels\x00",
-    ] {
-        assert!(rt; tail_comes_back(alloc, tail));
-    }
-    let indexes = with_indexes(alloc, 16).ok().ok_or("memory is ample")?;
-    assert!(rt; comes_back(alloc, &indexes));
-    let tags = with_tags(alloc, 64).ok().ok_or("memory is ample")?;
-    assert!(rt; comes_back(alloc, &tags));
-    Ok(())
-}
-
-#[test]
 fn parts_keep_their_types_and_orders(rt: HostRuntime) -> Result<(), Fail> {
     let alloc = rt.alloc();
-    let directory = read_tail(alloc, PARTS).ok_or("a directory")?;
+    let directory = read_tail(alloc, PARTS)?;
     let row = directory.soup_of(Sig(0)).ok_or("a soup")?;
     let spec = row.specs.list().first().ok_or("an index")?;
     let part = spec.list().get(1).ok_or("a part")?;
     assert!(rt; part.kind == Kind::Int && part.order == Order::Descend);
-    let path = Path::read(alloc, b"b.c").ok().ok_or("a path")?;
+    let path = Path::read(alloc, b"b.c")?;
     assert!(rt; part.path.same(&path));
     Ok(())
 }
 
-#[test]
-fn bad_indexes_and_tags_are_refused(rt: HostRuntime) -> Result<(), Fail> {
-    let alloc = rt.alloc();
-    for tail in [
-        b"\x01\x01\x04\x00\x01\x01a\x00".as_slice(),
-        b"\x01\x01\x00\x02\x01\x01a\x00",
-        b"\x01\x00\x00",
-        b"\x01\x05\x00\x00\x01\x01a\x00\x00\x01\x01a\x00\x00\x01\x01a\x00\x00\x01\x01a\x00\x00\x01\x01a\x00",
-        b"\x01\x01\x00\x00\x00\x00",
-        b"\x01\x01\x00\x00\x09\x01a\x01a\x01a\x01a\x01a\x01a\x01a\x01a\x01a\x00",
-        b"\x01\x01\x00\x00\x01\x00\x00",
-        b"\x01\x01\x00\x00\x01\x011\x00",
-        b"\x01\x01\x00\x00\x01\x02a.\x00",
-        b"\x02\x01\x00\x00\x01\x01a\x01\x01\x01\x01\x01A\x00",
-        b"\x00\x02",
-        b"\x00\x01\x00\x00",
-        b"\x00\x01\x01\x01l\x02\x01a\x01A",
-        b"\x00\x01\x01\x01l\x01\x02a-",
-        b"\x00\x01\x01\x01l\x02\x01a",
-        b"\x00\x00\x00",
-    ] {
-        assert!(rt; is_bad_tail(alloc, tail));
-    }
-    let indexes = with_indexes(alloc, 17).ok().ok_or("memory is ample")?;
-    assert!(rt; is_bad(alloc, &indexes));
-    let tags = with_tags(alloc, 65).ok().ok_or("memory is ample")?;
-    assert!(rt; is_bad(alloc, &tags));
-    Ok(())
-}
-
 /// What `PARTS` is when `b` is gone, name.last was added, and the tags were set.
-const CHANGED_PARTS: &[u8] =
-    b"\x02\x04\x00\x00\x01\x01a\x01\x01\x02\x01b\x01c\x02\x00\x01\x01d\x03\x01\x01\x03e_1\x01\x00\x00\x02\x04name\x04last\x01\x01\x06labels\x02\x08business\x08personal";
+const CHANGED_PARTS: &str =
+    "02 04 00 00 01 01 'a 01 01 02 01 'b 01 'c 02 00 01 01 'd 03 01 01 03 'e_1 01 00 00 02 04 'name 04 'last 01 01 06 'labels 02 08 'business 08 'personal";
 
 #[test]
 fn indexes_and_tags_are_changed(rt: HostRuntime) -> Result<(), Fail> {
     let alloc = rt.alloc();
-    let mut directory = read_tail(alloc, PARTS).ok_or("a directory")?;
-    let names = read_tail(alloc, NAMES).ok_or("a directory")?;
+    let mut directory = read_tail(alloc, PARTS)?;
+    let names = read_tail(alloc, NAMES)?;
     let spec = last_index(&names).ok_or("an index")?;
     assert_eq!(rt; directory.index_of(Sig(0), &spec), None);
-    let added = directory.add_spec(Sig(0), spec.copy().ok().ok_or("memory is ample")?);
-    assert!(rt; added.is_ok());
-    let paths = vec![in alloc; Path::read(alloc, b"B").ok().ok_or("a path")?]
-        .ok()
-        .ok_or("memory is ample")?;
+    directory.add_spec(Sig(0), spec.copy()?)?;
+    let paths = vec![in alloc; Path::read(alloc, b"B")?]?;
     assert_eq!(rt; directory.index_with_paths(Sig(0), &paths), Some(1));
     directory.drop_spec(Sig(0), &paths);
     assert_eq!(rt; directory.index_of(Sig(0), &spec), Some(1));
-    let tags = read_tail(alloc, TAGS).ok_or("a directory")?;
+    let tags = read_tail(alloc, TAGS)?;
     directory.set_tags(Sig(0), first_tags(&tags));
-    let bytes = with_tail(alloc, CHANGED_PARTS)
-        .ok()
-        .ok_or("memory is ample")?;
-    assert!(rt; is_written(alloc, &directory, &bytes));
+    let changed = bytes_of(alloc, CHANGED_PARTS)?;
+    assert!(rt; is_written(alloc, &directory, &with_tail(alloc, &changed)?));
     directory.set_tags(Sig(0), None);
     assert!(rt; first_tags(&directory).is_none());
     Ok(())

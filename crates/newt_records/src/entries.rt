@@ -2,49 +2,47 @@
 ghost use Rattle.std.specs.Prelude.{◌≡◌, true, map};
 ghost use Rattle.newt_entries.specs.Entry.{row_at, fits};
 
-use newt_entries::{
-    EntryFault, EntryRow, filled, larges_of, read_entry, row_of, skeleton, write_entry,
-};
+use crate::calls::Record;
+use newt_entries::{EntryRow, filled, larges_of, read_entry, row_of, skeleton, write_entry};
 use newt_graph::Graph;
+use newt_tables::{bytes_of, expect_rows};
 use std::alloc::{AllocError, Global};
 use std::test::*;
 
-/// The entry 9 of the soup 3, of minute 258: a frame with slot `a` and value 1.
-const RECORD: &[u8] =
-    b"\x00\x03\x00\x00\x00\x00\x00\x09\x00\x00\x01\x02\x02\x06\x01\x07\x01\x61\x00\x04";
-
-fn is_bad(alloc: Global, bytes: &[u8]) -> bool {
-    matches!(read_entry(alloc, bytes), Err(EntryFault::Bad))
-}
-
-/// Whether a record is read, and its row is written as the same record.
-fn is_whole(alloc: Global, bytes: &[u8]) -> Option<(u32, u32, u32)> {
-    let read = read_entry(alloc, bytes).ok()?;
-    let row = read.copy().ok()?;
+/// The soup, the id and the minute of an entry, and whether its row is written as the same record; or that there is none.
+pub(crate) fn entry(alloc: Global, bytes: &[u8]) -> Result<String, Fail> {
+    let read = match read_entry(alloc, bytes) {
+        Ok(read) => read,
+        Err(fault) => return Ok(format!(in alloc; "{fault:?}")?),
+    };
+    let row = read.copy()?;
     if row.soup.0 > 65_535 || row.larges.list().len() > 65_535 {
-        return None;
+        return Err("a larger row".into());
     }
-    let written = write_entry(alloc, &row).ok()?;
-    if written.as_slice() != bytes {
-        return None;
-    }
-    Some((row.soup.0, row.uid.0, row.time))
+    let kept = write_entry(alloc, &row)?.as_slice() == bytes;
+    Ok(format!(in alloc; "{} {} {} {kept}", row.soup.0, row.uid.0, row.time)?)
 }
 
-#[test]
-fn a_record_is_read_and_written(rt: HostRuntime) -> Result<(), Fail> {
-    assert_eq!(rt; is_whole(rt.alloc(), RECORD), Some((3, 9, 258)));
-    Ok(())
-}
+/// An entry: the soup, how many large binaries it has, the id, the minute, the stream, and for each large binary its node, its object and its length.
+const ENTRIES: &str = "
+0003 0000 00000009 00000102 02 06 01 07 01 'a 0004 => 3 9 258 true
+0003 0001 00000009 00000102 02 06 01 07 01 'a 0C 07 01 'b 00*17 00000002 00000004 00000005 => 3 9 258 true
+0003 0001 00000009 00000102 02 06 01 07 01 'a 0C 07 01 'b 00*17 00000002 00000004 000F4240 => 3 9 258 true
+0003 0001 00000009 00000102 02 06 01 07 01 'a 0C 07 01 'b 00*17 00000002 00000004 000F4241 => Bad
+0003 0001 00000009 00000102 02 06 01 07 01 'a 0C 07 01 'b 00*17 00000001 00000004 00000005 => Bad
+0003 0001 00000009 00000102 02 06 01 07 01 'a 0C 07 01 'b 00*17 00000002 00000005 00000005 => Bad
+0003 0001 00000009 00000102 02 06 01 07 01 'a 0C 07 01 'b 00*17 00000002 00000000 00000005 => Bad
+0003 0001 00000009 00000102 02 06 01 07 01 'a 0C 07 01 'b 00*17 => Bad
+ => Bad
+0003 0000 00000009 00000102 => Bad
+0003 0000 00000009 00000102 02 0A => Bad
+0003 0001 00000009 00000102 02 06 01 07 01 'a 0004 => Bad
+0003 0000 00000009 00000102 02 06 01 07 01 'a 00FF 00000004 => Bad
+";
 
-/// The same entry with a large binary of class `b` in the slot `a`: node 2, object 4, five bytes.
-const WITH_LARGE: &[u8] =
-    b"\x00\x03\x00\x01\x00\x00\x00\x09\x00\x00\x01\x02\x02\x06\x01\x07\x01\x61\x0C\x07\x01b\x00\x00\x00\x00\x00\x00\x00\x00\x00\x00\x00\x00\x00\x00\x00\x00\x00\x00\x00\x00\x02\x00\x00\x00\x04\x00\x00\x00\x05";
-
 #[test]
-fn a_large_binary_is_named(rt: HostRuntime) -> Result<(), Fail> {
-    assert_eq!(rt; is_whole(rt.alloc(), WITH_LARGE), Some((3, 9, 258)));
-    Ok(())
+fn records_of_entries_are_read_and_written(rt: HostRuntime) -> Result<(), Fail> {
+    expect_rows(rt.alloc(), &Record::Entry, ENTRIES)
 }
 
 /// The record of a graph with one large binary, which has this object.
@@ -99,48 +97,10 @@ fn is_made_again(alloc: Global, record: &[u8], object: u32, bytes: &[u8]) -> Opt
 
 #[test]
 fn a_large_binary_is_filled_in(rt: HostRuntime) -> Result<(), Fail> {
-    assert_eq!(rt;
-        is_made_again(rt.alloc(), WITH_LARGE, 4, b"hello"),
-        Some(true)
-    );
-    Ok(())
-}
-
-#[test]
-fn bad_large_binaries_are_refused(rt: HostRuntime) -> Result<(), Fail> {
-    let alloc = rt.alloc();
-    let head =
-        b"\x00\x03\x00\x01\x00\x00\x00\x09\x00\x00\x01\x02\x02\x06\x01\x07\x01\x61\x0C\x07\x01b\x00\x00\x00\x00\x00\x00\x00\x00\x00\x00\x00\x00\x00\x00\x00\x00\x00".as_slice();
-    for (row, bad) in [
-        (
-            b"\x00\x00\x00\x02\x00\x00\x00\x04\x00\x00\x00\x05".as_slice(),
-            false,
-        ),
-        (b"\x00\x00\x00\x02\x00\x00\x00\x04\x00\x0F\x42\x40", false),
-        (b"\x00\x00\x00\x02\x00\x00\x00\x04\x00\x0F\x42\x41", true),
-        (b"\x00\x00\x00\x01\x00\x00\x00\x04\x00\x00\x00\x05", true),
-        (b"\x00\x00\x00\x02\x00\x00\x00\x05\x00\x00\x00\x05", true),
-        (b"\x00\x00\x00\x02\x00\x00\x00\x00\x00\x00\x00\x05", true),
-        (b"", true),
-    ] {
-        let mut bytes = Vec::from_slice(alloc, head)?;
-        bytes.extend_from_slice(row)?;
-        assert_eq!(rt; is_bad(alloc, &bytes), bad);
-    }
-    Ok(())
-}
-
-#[test]
-fn bad_records_are_refused(rt: HostRuntime) -> Result<(), Fail> {
-    let alloc = rt.alloc();
-    for bytes in [
-        b"".as_slice(),
-        b"\x00\x03\x00\x00\x00\x00\x00\x09\x00\x00\x01\x02",
-        b"\x00\x03\x00\x00\x00\x00\x00\x09\x00\x00\x01\x02\x02\x0A",
-        b"\x00\x03\x00\x01\x00\x00\x00\x09\x00\x00\x01\x02\x02\x06\x01\x07\x01\x61\x00\x04",
-        b"\x00\x03\x00\x00\x00\x00\x00\x09\x00\x00\x01\x02\x02\x06\x01\x07\x01\x61\x00\xFF\x00\x00\x00\x04",
-    ] {
-        assert!(rt; is_bad(alloc, bytes));
-    }
+    let record = bytes_of(
+        rt.alloc(),
+        "0003 0001 00000009 00000102 02 06 01 07 01 'a 0C 07 01 'b 00*17 00000002 00000004 00000005",
+    )?;
+    assert_eq!(rt; is_made_again(rt.alloc(), &record, 4, b"hello"), Some(true));
     Ok(())
 }

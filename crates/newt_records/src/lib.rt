@@ -5,6 +5,8 @@
 #[cfg(test)]
 mod aliases;
 #[cfg(test)]
+mod calls;
+#[cfg(test)]
 mod directories;
 #[cfg(test)]
 mod entries;

@@ -1,8 +1,8 @@
 //! The lines that end in one piece of a script.
 ghost use Rattle.std.specs.Prelude.{IsTrue, ◌≡◌, ◌++◌, IfOk, OnOk, IfErr, MatchOption};
+ghost use Rattle.newt_host.specs.Meanings.{out_of};
 ghost use Rattle.newt_host.specs.Moments.{Always, Moment};
 ghost use Rattle.newt_session.specs.Moments.{SafeAt, Untouched};
-ghost use Rattle.newt_session.specs.Stream.{out_of};
 ghost use Rattle.newt_session.specs.Lines.{BeginsWith, HasNoEnd, ended_lines, unended};
 ghost use Rattle.newt_session.specs.Run.{HaltedIn};
 ghost use Rattle.newt_session.specs.Script.{commands_of, has_quit, output_of, world_after};

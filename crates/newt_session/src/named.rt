@@ -1,13 +1,12 @@
 //! A script over the devices of names.
 ghost use Rattle.std.specs.Prelude.{IsTrue, ◌≡◌, ℕ, ◌≤◌, ◌++◌, List, Some, None, length, map, slice_get, option_and_then, string_bytes, IfErr, OnOk};
 ghost use Rattle.newt_attach.specs.Named.{AreDistinct};
-ghost use Rattle.newt_host.specs.Meanings.{held, left_since, since};
+ghost use Rattle.newt_host.specs.Meanings.{held, left_since, out_of, since};
 ghost use Rattle.newt_session.specs.Causes.{HasCause, NeverLess};
 ghost use Rattle.newt_session.specs.Lines.{lines_of};
 ghost use Rattle.newt_session.specs.Moments.{HasLeft};
 ghost use Rattle.newt_session.specs.Run.{output, Halted, IsReadThrough};
 ghost use Rattle.newt_session.specs.Script.{commands_of};
-ghost use Rattle.newt_session.specs.Stream.{out_of};
 ghost use Rattle.newt_spec_world.specs.First.{world_of};
 
 use crate::halt::Halt;

@@ -1,9 +1,9 @@
 //! A script from the input to the output.
 ghost use Rattle.std.specs.Prelude.{IsTrue, ◌≡◌, ◌<◌, ◌≤◌, ◌++◌, [], take, length, IfOk, OnOk, OnErr, IfErr, vec_len};
+ghost use Rattle.newt_host.specs.Meanings.{out_of};
 ghost use Rattle.newt_host.specs.Outside.{Rose};
 ghost use Rattle.newt_host.specs.Moments.{Always, Moment};
 ghost use Rattle.newt_session.specs.Moments.{CrashAt, SafeAt, Untouched};
-ghost use Rattle.newt_session.specs.Stream.{out_of};
 ghost use Rattle.newt_session.specs.Lines.{last_line, lines_of};
 ghost use Rattle.newt_session.specs.Run.{output, IsReadThrough, Halted, HaltedIn};
 ghost use Rattle.newt_session.specs.Script.{commands_of, output_of};

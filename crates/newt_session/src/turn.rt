@@ -1,12 +1,13 @@
 //! One line of a script.
 ghost use Rattle.std.specs.Prelude.{IsTrue, ◌≡◌, ◌++◌, [], ◌∷◌, Ok, IfOk, OnOk, OnErr, IfErr};
+ghost use Rattle.newt_host.specs.Meanings.{out_of};
 ghost use Rattle.newt_host.specs.Moments.{Always, Moment};
 ghost use Rattle.newt_host.specs.Outside.{PrintsSome};
 ghost use Rattle.newt_reply.specs.Said.{said};
 ghost use Rattle.newt_session.specs.Causes.{flow_of, HasSinkCause, HasWriteCause, StaysAttached, SameDevices};
 ghost use Rattle.newt_session.specs.Moments.{SafeAt, Untouched};
 ghost use Rattle.newt_session.specs.Script.{commands_of, has_quit, output_of, world_after};
-ghost use Rattle.newt_session.specs.Stream.{out_of, WroteSome};
+ghost use Rattle.newt_session.specs.Stream.{WroteSome};
 ghost use Rattle.newt_session.specs.Run.{HaltedIn, HaltedReply};
 ghost use Rattle.newt_spec_script.specs.Script.{is_quit};
 ghost use Rattle.newt_spec_world.specs.Reply.{reply_text};

@@ -1,9 +1,10 @@
 //! Whole texts of output, by a host that may take a part of one at a time.
 ghost use Rattle.std.specs.Prelude.{◌≡◌, ◌<◌, ◌≤◌, ◌++◌, length, take, IsTrue, IfOk, OnOk, OnErr};
+ghost use Rattle.newt_host.specs.Meanings.{out_of};
 ghost use Rattle.newt_host.specs.Moments.{Always};
 ghost use Rattle.newt_host.specs.Outside.{PrintsSome, Rose, printed};
 ghost use Rattle.newt_session.specs.Causes.{StaysAttached, SameDevices};
-ghost use Rattle.newt_session.specs.Stream.{out_of, WroteSome};
+ghost use Rattle.newt_session.specs.Stream.{WroteSome};
 
 use newt_host::{Failed, Host};
 

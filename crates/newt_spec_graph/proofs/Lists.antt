@@ -1,5 +1,5 @@
 -- Lemmas on elements of lists.
-use Rattle.std.proofs.Common.{arith, ◌≡◌, refl, ap, sym, ◌∙◌, subst, ℕ, ◌+◌, ◌<◌, ◌≤◌, List, [], ◌∷◌, ◌++◌, true, false, Bool, ◌⊎◌, inl, inr, map, filter, flat_map, filter_map, cond, Option, Some, None}
+use Rattle.std.proofs.Common.{arith, ◌≡◌, refl, ap, sym, ◌∙◌, subst, ℕ, zero, suc, ◌+◌, ◌<◌, ◌≤◌, List, [], ◌∷◌, ◌++◌, true, false, Bool, ◌⊎◌, inl, inr, map, filter, flat_map, filter_map, cond, slice_get, Option, Some, None}
 use Rattle.std.specs.List.{list_all, cons_option}
 use Rattle.newt_spec_graph.specs.Lists.{rises}
 use Rattle.newt_spec_graph.specs.Lists.{Each, Pairs, Among}
@@ -93,6 +93,11 @@ some-same a b h = cc
 
 pub none-some : {X : Type 0} (a : X) → None ≡ Some a → ⊥
 none-some a h = cc
+
+pub get-among : {X : Type 0} (xs : List X) (n : ℕ) (x : X) → slice_get xs n ≡ Some x → Among xs x
+get-among [] n x h = absurd (none-some x h)
+get-among (y ∷ xs) zero x h = inl (some-same y x h)
+get-among (y ∷ xs) (suc n) x h = inr (get-among xs n x h)
 
 pub among-filter_map : {X Y : Type 0} (f : X → Option Y) (xs : List X) (z : Y) → Among (filter_map f xs) z → (x : X) × Among xs x × (f x ≡ Some z)
 among-filter_map f [] z m = absurd m

@@ -2,13 +2,14 @@
 use Rattle.std.proofs.Common.{◌≡◌, refl, ℕ, zero, suc, ◌+◌, true, false, List, [], ◌∷◌, length, map, codes, Some, None, pos}
 use Rattle.std.specs.Prelude.{is_some, option_and_then, nat_eq}
 use Rattle.std.specs.List.{sum_by}
+use Rattle.newt_graph.specs.Draft.{is_small}
 use Rattle.newt_graph.specs.Graph.{RawGraph, payload}
 use Rattle.newt_graph.specs.Meeting.{limited, normal_form}
 use Rattle.newt_graph.specs.declared.node.Node.{Node}
 use Rattle.newt_graph.specs.declared.node.Node.TheVariants.{Symbol, Str, Binary, Large, Array, Frame}
 use Rattle.newt_graph.specs.declared.node.Ref.{Ref}
 use Rattle.newt_graph.specs.declared.node.Ref.TheVariants.{Imm, Node as At}
-use Rattle.newt_spec_graph.specs.Limits.{is_within, node_within}
+use Rattle.newt_spec_graph.specs.Limits.{is_within}
 use Rattle.newt_spec_graph.specs.Lists.{all_apart, rises}
 use Rattle.newt_spec_graph.specs.Slots.{put}
 use Rattle.newt_spec_rows.specs.Graphs.{knot, number, one_slot}
@@ -86,34 +87,34 @@ byte_too_many h e f = rw (e, f) refl
 payloads : map payload (Symbol (codes "abc") ∷ Str [] ∷ Str (65 ∷ 66 ∷ []) ∷ Binary 0 (1 ∷ 2 ∷ 3 ∷ []) ∷ Large 0 (1 ∷ []) ∷ Array None (At 0 ∷ []) ∷ Frame (0 ∷ []) (At 0 ∷ []) ∷ []) ≡ 0 ∷ 2 ∷ 6 ∷ 3 ∷ 1 ∷ 0 ∷ 0 ∷ []
 payloads = refl
 
-most_slots : (values : List Ref) → length values ≡ 65535 → node_within (Array None values) ≡ true
+most_slots : (values : List Ref) → length values ≡ 65535 → is_small (Array None values) ≡ true
 most_slots values e = rw e refl
 
-slot_too_many : (values : List Ref) → length values ≡ 65536 → node_within (Array None values) ≡ false
+slot_too_many : (values : List Ref) → length values ≡ 65536 → is_small (Array None values) ≡ false
 slot_too_many values e = rw e refl
 
-most_tags : (tags : List ℕ) (values : List Ref) → length tags ≡ 65535 → node_within (Frame tags values) ≡ true
+most_tags : (tags : List ℕ) (values : List Ref) → length tags ≡ 65535 → is_small (Frame tags values) ≡ true
 most_tags tags values e = rw e refl
 
-tag_too_many : (tags : List ℕ) (values : List Ref) → length tags ≡ 65536 → node_within (Frame tags values) ≡ false
+tag_too_many : (tags : List ℕ) (values : List Ref) → length tags ≡ 65536 → is_small (Frame tags values) ≡ false
 tag_too_many tags values e = rw e refl
 
-longest_string : (units : List ℕ) → length units ≡ 499999 → node_within (Str units) ≡ true
+longest_string : (units : List ℕ) → length units ≡ 499999 → is_small (Str units) ≡ true
 longest_string units e = rw e refl
 
-string_too_long : (units : List ℕ) → length units ≡ 500000 → node_within (Str units) ≡ false
+string_too_long : (units : List ℕ) → length units ≡ 500000 → is_small (Str units) ≡ false
 string_too_long units e = rw e refl
 
-longest_binary : (bytes : List ℕ) → length bytes ≡ 1000000 → node_within (Binary 0 bytes) ≡ true
+longest_binary : (bytes : List ℕ) → length bytes ≡ 1000000 → is_small (Binary 0 bytes) ≡ true
 longest_binary bytes e = rw e refl
 
-binary_too_long : (bytes : List ℕ) → length bytes ≡ 1000001 → node_within (Binary 0 bytes) ≡ false
+binary_too_long : (bytes : List ℕ) → length bytes ≡ 1000001 → is_small (Binary 0 bytes) ≡ false
 binary_too_long bytes e = rw e refl
 
-longest_large_binary : (bytes : List ℕ) → length bytes ≡ 1000000 → node_within (Large 0 bytes) ≡ true
+longest_large_binary : (bytes : List ℕ) → length bytes ≡ 1000000 → is_small (Large 0 bytes) ≡ true
 longest_large_binary bytes e = rw e refl
 
-large_binary_too_long : (bytes : List ℕ) → length bytes ≡ 1000001 → node_within (Large 0 bytes) ≡ false
+large_binary_too_long : (bytes : List ℕ) → length bytes ≡ 1000001 → is_small (Large 0 bytes) ≡ false
 large_binary_too_long bytes e = rw e refl
 
 -- ---- values at a path

@@ -26,7 +26,7 @@ use Rattle.newt_nsof.specs.Written.{nsof}
 use Rattle.newt_pagebook.specs.Book.{Numbers, IsOpenFor}
 use Rattle.newt_objects.specs.Changing.{HoldsObjects}
 use Rattle.newt_vbo.specs.Ranges.{parts_met}
-use Rattle.newt_spec_graph.proofs.Lists.{each-at, some-same, none-some}
+use Rattle.newt_spec_graph.proofs.Lists.{each-at, get-among, some-same, none-some}
 use Rattle.newt_spec_store.specs.Cost.{cost, large_lengths, patch_bytes}
 use Rattle.newt_spec_store.specs.Image.{larges, entry_bytes}
 use Rattle.newt_spec_store.specs.Laid.{bare, row_of, row_of_large, FitsRecord, bare_soup}
@@ -39,7 +39,7 @@ use Rattle.newt_laws_images.proofs.Records.{larges_from, record-back, entry-leng
 use Rattle.newt_laws_images.proofs.Chosen.{found_by_name}
 use Rattle.newt_laws_changes.proofs.Counting.{cost-patched}
 use Rattle.newt_laws_changes.proofs.Formed.{patched_formed}
-use Rattle.newt_laws_changes.proofs.Patched.{get-among, with_patch}
+use Rattle.newt_laws_changes.proofs.Patched.{with_patch}
 use Rattle.newt_laws_changes.proofs.Replaced.{patched_lies}
 use Rattle.newt_laws_changes.proofs.Soups.{first-map}
 use Rattle.newt_laws_changes.proofs.Moved.{inserted-at, inserted-other}

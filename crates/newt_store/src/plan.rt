@@ -1,12 +1,10 @@
 // What each change makes of a store, or why it is refused.
 ghost use Rattle.std.specs.Prelude.{IsTrue, ◌≡◌, ◌*◌, ◌+◌, ◌%◌, ◌<◌, ◌≤◌, ℕ, false, map as map_list, Some, None, IfOk, IfErr, IfSome, IsSome};
 ghost use Rattle.newt_base.specs.Refusals.{first_of};
-ghost use Rattle.newt_graph.specs.Graph.{IsGraph};
 ghost use Rattle.newt_host.specs.Moments.{image};
 ghost use Rattle.newt_host.specs.Outside.{Touches, Spends};
 ghost use Rattle.newt_image.specs.Objects.{Objects as Texts};
 ghost use Rattle.newt_objects.specs.Held.{held};
-ghost use Rattle.newt_spec_graph.specs.Graph as words;
 ghost use Rattle.newt_spec_graph.specs.Lists.{Among};
 ghost use Rattle.newt_spec_store.specs.Store.{Store as PlainStore, soup_of, entry_at};
 ghost use Rattle.newt_spec_store.specs.Valid.{well_formed, valid_entry};
@@ -25,8 +23,8 @@ use crate::declare::{plan_add_index, plan_drop_index, plan_set_tags};
 use crate::next::{Gone, Next};
 use newt_base::{Name, Refusal, Sig, Uid};
 use newt_catalog::{Catalog, read_whole};
-use newt_entries::{larges_of, row_of, write_entry};
-use newt_graph::{Graph, Node, Ref};
+use newt_entries::{MOST_TEXT, is_frame, larges_of, row_of, write_entry};
+use newt_graph::Graph;
 use newt_host::Host;
 use newt_nsof_write::skeleton_len;
 use newt_objects::Objects;
@@ -40,9 +38,6 @@ const LAST_ID: u32 = 536_870_911;
 
 /// The last next soup signature: the store has no further signature to give.
 const LAST_SIGNATURE: u32 = 65_535;
-
-/// The most bytes of an entry's text.
-const MOST_TEXT: u64 = 64_000;
 
 /// How many odd ids there are, and how many even ones.
 const HALF_IDS: u32 = 2_147_483_648;
@@ -74,17 +69,6 @@ fn free_id(objects: &Objects, hint: u32) -> Option<u32>
     match free_from(objects, hint, 1) {
         Some(id) => Some(id),
         None => free_from(objects, 0, 1),
-    }
-}
-
-// Whether the root of a graph is a frame.
-fn is_frame(graph: &Graph) -> bool
-    ensures frame { result ≡ words.is_frame (words.object graph.now.nodes graph.now.root) }
-    ensures graph { IsGraph graph.now }
-{
-    match graph.root() {
-        Ref::Node(n) => matches!(graph.nodes().get(n as usize), Some(Node::Frame(_, _))),
-        Ref::Imm(_) => false,
     }
 }
 

@@ -1,6 +1,7 @@
 //! Tables of streams and their answers.
 use newt_nsof_read::{NsofFault, decode};
 use newt_nsof_write::{encode, encoded_len, skeleton_len};
+use newt_tables::push_word;
 use std::alloc::Global;
 use std::test::Fail;
 
@@ -15,28 +16,14 @@ fn push_names(to: &mut Vec<u8>, count: u32) -> Result<(), Fail> {
     Ok(())
 }
 
-/// Appends what a word stands for: `'foo` for its letters, and others are hex digits. A number behind a star says how often.
-fn push_word(alloc: Global, to: &mut Vec<u8>, word: &str) -> Result<(), Fail> {
-    let (word, count) = word.split_once('*').unwrap_or((word, "1"));
-    let count: u32 = count.parse()?;
-    if word == "names" {
-        return push_names(to, count);
-    }
-    let part = match word.strip_prefix('\'') {
-        Some(letters) => Vec::from_slice(alloc, letters.as_bytes())?,
-        None => hex::decode(alloc, word)?,
-    };
-    for _ in 0..count {
-        to.extend_from_slice(&part)?;
-    }
-    Ok(())
-}
-
-/// The bytes that words stand for.
+/// The bytes that words stand for. `names*12` are twelve names.
 fn bytes_of(alloc: Global, words: &str) -> Result<Vec<u8>, Fail> {
     let mut bytes = Vec::new(alloc);
     for word in words.split_whitespace() {
-        push_word(alloc, &mut bytes, word)?;
+        match word.strip_prefix("names*") {
+            Some(count) => push_names(&mut bytes, count.parse()?)?,
+            None => push_word(alloc, &mut bytes, word)?,
+        }
     }
     Ok(bytes)
 }

@@ -9,6 +9,7 @@ ghost use Rattle.newt_tags.specs.Masks.{symbols_of};
 
 use crate::names::Names;
 use newt_graph::{Bytes, Node, Ref};
+use newt_path::has_name;
 use std::alloc::{AllocError, Global};
 
 /// Whether a value is a symbol, or an array that has one, of this name but for ASCII case.
@@ -51,15 +52,6 @@ fn is_named(nodes: &[Node], value: Ref, name: &[u8]) -> bool
     match nodes.get(n as usize) {
         Some(node) => has_name(node, name),
         None => false,
-    }
-}
-
-fn has_name(node: &Node, name: &[u8]) -> bool
-    ensures { result ≡ is_named name.now (Some node.now) }
-{
-    match node {
-        Node::Symbol(other) => name.eq_ignore_ascii_case(other.list()),
-        _ => false,
     }
 }
 

@@ -1,12 +1,12 @@
 //! The lines of a script, one after another.
 ghost use Rattle.std.specs.Prelude.{IsTrue, ◌≡◌, ◌<◌, ◌∷◌, length, IfOk, OnOk, IfErr};
+ghost use Rattle.newt_host.specs.Meanings.{out_of};
 ghost use Rattle.newt_host.specs.Outside.{OnDevices};
 ghost use Rattle.newt_host.specs.Moments.{Always};
 ghost use Rattle.newt_session.specs.Causes.{HasWriteCause};
 ghost use Rattle.newt_session.specs.Lines.{lines_of};
 ghost use Rattle.newt_session.specs.Moments.{Untouched};
 ghost use Rattle.newt_session.specs.Script.{commands_of, world_behind};
-ghost use Rattle.newt_session.specs.Stream.{out_of};
 ghost use Rattle.newt_tally.specs.Counts.{Counts, reply_texts};
 ghost use Rattle.newt_tally.specs.Moments.{CountedAt};
 

@@ -1,14 +1,14 @@
 //! A script over the devices of names, and the summary of its replies.
 ghost use Rattle.std.specs.Prelude.{IsTrue, ◌≡◌, ℕ, ◌≤◌, ◌++◌, List, Some, None, length, map, slice_get, option_and_then, string_bytes, IfErr, OnOk, OnErr};
 ghost use Rattle.newt_attach.specs.Named.{AreDistinct};
-ghost use Rattle.newt_host.specs.Meanings.{held, left_since, since};
+ghost use Rattle.newt_host.specs.Meanings.{held, left_since, out_of, since};
 ghost use Rattle.newt_host.specs.Moments.{Always};
 ghost use Rattle.newt_host.specs.Outside.{PrintsSome};
 ghost use Rattle.newt_session.specs.Causes.{StaysAttached, HasSinkCause, HasWriteCause, NeverLess, SameDevices};
 ghost use Rattle.newt_session.specs.Lines.{lines_of};
 ghost use Rattle.newt_session.specs.Run.{HaltedReply};
 ghost use Rattle.newt_session.specs.Script.{commands_of};
-ghost use Rattle.newt_session.specs.Stream.{out_of, WroteSome};
+ghost use Rattle.newt_session.specs.Stream.{WroteSome};
 ghost use Rattle.newt_spec_world.specs.First.{world_of};
 ghost use Rattle.newt_tally.specs.Counts.{lines_of_tally, summary_of};
 ghost use Rattle.newt_tally.specs.Moments.{CountedAt, HasLeftCounted};

@@ -1,11 +1,10 @@
 -- Why a conversion halts, and a run whose replies are counted.
 use Rattle.std.proofs.Common.{◌≡◌, ℕ, ◌<◌, List, [], length, Some, None, refl, sym, ◌∙◌, append-nil}
-use Rattle.newt_host.specs.Meanings.{since}
+use Rattle.newt_host.specs.Meanings.{out_of, since}
 use Rattle.newt_host.specs.Outside.{Outside}
 use Rattle.newt_laws_answers.specs.Spoken.{answer_now}
 use Rattle.newt_session.specs.Causes.{HasWriteCause}
 use Rattle.newt_session.specs.Run.{HaltedReply}
-use Rattle.newt_session.specs.Stream.{out_of}
 use Rattle.newt_session.specs.declared.halt.Halt.{Halt}
 use Rattle.newt_session.specs.declared.halt.Halt.TheVariants.{Memory, Device, Source, Sink, TooLong}
 use Rattle.newt_tally.specs.Counts.{summary_of}

@@ -7,7 +7,7 @@ use Rattle.std.proofs.lemmas.Option.{slice_get-map}
 use Rattle.newt_reply.specs.Said.{soup_row}
 use Rattle.newt_reply.specs.declared.rows.SoupLine.{SoupLine}
 use Rattle.newt_spec_graph.specs.Lists.{Pairs, Among}
-use Rattle.newt_spec_graph.proofs.Lists.{rises-pairs, pairs-map, some-same, none-some}
+use Rattle.newt_spec_graph.proofs.Lists.{rises-pairs, pairs-map, get-among, some-same, none-some}
 use Rattle.newt_spec_store.specs.Laid.{bare, bare_soup}
 use Rattle.newt_spec_store.specs.Store.{Store, Soup, soup_of, count_in}
 use Rattle.newt_spec_store.specs.Valid.{well_formed}
@@ -23,11 +23,6 @@ use Rattle.newt_laws_answers.proofs.Soups.{soups-done}
 use Rattle.newt_cardstore.specs.Cards.{soup_rows}
 
 -- ---- lists
-
-among-at : {X : Type 0} (xs : List X) (n : ℕ) (x : X) → slice_get xs n ≡ Some x → Among xs x
-among-at [] n x h = absurd (none-some x h)
-among-at (y ∷ xs) zero x h = inl (some-same y x h)
-among-at (y ∷ xs) (suc n) x h = inr (among-at xs n x h)
 
 -- the first of a list and one more
 pub take-next : {X : Type 0} (xs : List X) (n : ℕ) (x : X) → slice_get xs n ≡ Some x → take (suc n) xs ≡ take n xs ++ x ∷ []
@@ -56,7 +51,7 @@ row p = (p.name, p.sig, length p.entries)
 -- it is found by its signature
 by-sig : (s : Store) (at : ℕ) (p : Soup) → well_formed s ≡ true → slice_get s.soups at ≡ Some p → soup_of p.sig s ≡ Some p
 by-sig s at p ok h =
-    let among : Among s.soups p = among-at s.soups at p h in
+    let among : Among s.soups p = get-among s.soups at p h in
     let rise : Pairs (λ (a b : Soup). a.sig < b.sig) s.soups =
     pairs-map (λ m n. m < n) (λ (p : Soup). p.sig) s.soups (rises-pairs 0 s.next_soup (map (λ (p : Soup). p.sig) s.soups) (is-store s ok).sigs) in
     let r = find-some (λ (q : Soup). q.sig == p.sig) s.soups p among (eq-eqb p.sig p.sig refl) in

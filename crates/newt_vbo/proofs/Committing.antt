@@ -1,23 +1,19 @@
 -- A patch in a batch of its own, committed: what the layer above shows by it.
-use Rattle.std.proofs.Common.{IsTrue, ◌≡◌, ℕ, ◌==◌, Bool, true, false, List, [], Some, Option, refl, sym, ◌∙◌, ap}
+use Rattle.std.proofs.Common.{IsTrue, ◌≡◌, ℕ, Bool, true, false, List, [], Some, refl, sym, ◌∙◌, ap}
 use Rattle.std.specs.FinMap as map
 use Rattle.std.specs.FinSet as set
-use Rattle.std.specs.Map.{lookup}
 use Rattle.std.specs.Option.{option_map}
 use Rattle.newt_host.specs.Moments.{image, overwritten}
 use Rattle.newt_host.specs.Outside.{Outside}
 use Rattle.newt_image.specs.Pages.{Pages, Change, pages, after}
-use Rattle.newt_image.specs.Objects.{Extent, IsTableOf, AreObjectsOf, Objects}
+use Rattle.newt_image.specs.Objects.{IsTableOf, AreObjectsOf, Objects}
 use Rattle.newt_pagebook.specs.Batch.{no_change}
 use Rattle.newt_pagebook.specs.Book.{Numbers, changed_numbers, ReadsChanged}
-use Rattle.newt_objects.specs.Held.{Held, held, planned, after_plan, AreOf, WouldHold}
-use Rattle.newt_objects.proofs.Changing.{start_under_way, changed_named}
+use Rattle.newt_objects.specs.Held.{Held, held, planned, AreOf, WouldHold}
+use Rattle.newt_pagebook.proofs.Numbers.{changed_named}
+use Rattle.newt_objects.proofs.Changing.{planned-none, start_under_way}
 use Rattle.newt_objects.proofs.Same.{table_kept}
 use Rattle.newt_vbo.specs.Patches.{WouldPatch}
-
--- nothing is planned of where the objects lie
-planned_none : (objects : Held) → objects.plans ≡ [] → (id : ℕ) → planned objects id ≡ held objects id
-planned_none objects none id = ap (λ (plans : List (ℕ × Option Extent)). after_plan (lookup (λ other. id == other) plans) (held objects id)) none
 
 -- What the objects are once the patch is committed. `newt_objects` says of it what the new image holds, and what a crash leaves meanwhile.
 pub patch_would : (objects : Held) (id at : ℕ) (bytes text : List ℕ) (change : Change) (live : Pages) (texts : Objects) → objects.plans ≡ [] → IsTableOf live (held objects) → AreObjectsOf live texts
@@ -37,7 +33,7 @@ patched_are true objects change numbers numbers' unit old new none are changed s
         named = λ q. changed_named change live numbers are.are.named q ∙ ap (λ (s : Numbers). set.contains s q) (sym changed);
         of_image = λ t. committed t ∙ ap (option_map (after change)) (are.are.of_image t);
       };
-      is_table = table_kept (after change live) (planned objects) (held objects) (λ id. sym (planned_none objects none id)) w.1.is_table;
+      is_table = table_kept (after change live) (planned objects) (held objects) (λ id. sym (planned-none objects none id)) w.1.is_table;
     }
 patched_are false objects change numbers numbers' unit old new none are changed same committed would = record {
   live = are.live;

@@ -1,5 +1,5 @@
 -- One page of an object is put again, with bytes of its part replaced.
-use Rattle.std.proofs.Common.{◌≡◌, ℕ, zero, suc, ◌+◌, ◌*◌, ◌≤◌, Bool, false, cond, List, [], ◌∷◌, ◌++◌, length, take, drop, get_or, slice_get, Option, Some, None, refl, sym, ◌∙◌, ap, subst, arith, ⊎_elim, length-take, length-drop, take-append-drop}
+use Rattle.std.proofs.Common.{◌≡◌, ℕ, ◌+◌, ◌*◌, ◌≤◌, Bool, false, cond, List, [], ◌++◌, length, take, drop, get_or, slice_get, Option, Some, None, refl, sym, ◌∙◌, ap, subst, arith, ⊎_elim, length-take, length-drop, take-append-drop}
 use Rattle.std.specs.Int.{from_be_bytes, w32}
 use Rattle.std.specs.List.{flat_map}
 use Rattle.std.specs.FinMap as map
@@ -16,6 +16,7 @@ use Rattle.newt_pagebook.proofs.Changes.{after_put, unnamed, get_insert}
 use Rattle.newt_objects.specs.Extents.{IsUnnamed}
 use Rattle.newt_objects.specs.Held.{Held, held, planned, WouldHold}
 use Rattle.newt_objects.proofs.Plans.{one_part, joined-same}
+use Rattle.newt_objects.proofs.Same.{one_page, same_list}
 use Rattle.newt_host.proofs.Ranges.{length-overwritten}
 use Rattle.newt_vbo.proofs.Lists.{overwritten_right, overwritten_part, overwritten_cut}
 use Rattle.newt_vbo.proofs.Parts.{HasWhole, joined_long}
@@ -59,17 +60,6 @@ module _ (page new : List ℕ) (s : ℕ) (size : length page ≡ 512) where
     of_part = patched_part ∙ is.of_part;
     of_size = patched_length ∙ is.of_size;
   }
-
-same_list : (xs ys : List ℕ) → length xs ≡ length ys → ((k n : ℕ) → slice_get xs k ≡ Some n → slice_get ys k ≡ Some n) → xs ≡ ys
-same_list [] [] size each = refl
-same_list [] (y ∷ ys) size each = absurd (omega (arith, size))
-same_list (x ∷ xs) [] size each = absurd (omega (arith, size))
-same_list (x ∷ xs) (y ∷ ys) size each =
-    let head : x ≡ y = some_inj x y (sym (each zero x refl)) in
-    ap (λ (n : ℕ). n ∷ xs) head ∙ ap (λ (l : List ℕ). y ∷ l) (same_list xs ys (omega (arith, size)) (λ k n e. each (suc k) n e))
-
-one_page : (n : ℕ) → 1 ≤ pages_for n
-one_page n = omega arith
 
 -- An object of which no page is named is still there once the change is committed.
 module _ (objects : Held) (change : Change) (live : Pages) (texts : Objects) (id : ℕ) (x : Extent) (is : IsTableOf live (held objects)) (would : WouldHold objects change live texts)

@@ -4,6 +4,7 @@ use Rattle.std.specs.Cmp.{nat_cmp_total}
 use Rattle.std.specs.FinMap as map
 use Rattle.std.specs.FinSet as set
 use Rattle.std.specs.Option.{option_map}
+use Rattle.std.proofs.lemmas.Bool.{or_right}
 use Rattle.std.proofs.lemmas.Option.{slice_get_within, slice_get-get_or}
 use Rattle.std.proofs.lemmas.List.{map-append, take_more, get_or-drop}
 use Rattle.std.proofs.Math.Seq.{take-add}
@@ -12,8 +13,9 @@ use Rattle.newt_image.specs.Pages.{Pages, Change, after}
 use Rattle.newt_image.specs.Objects.{Extent, IsTableOf, joined, Objects}
 use Rattle.newt_pagebook.specs.Batch.{names, puts_one}
 use Rattle.newt_pagebook.specs.Book.{Numbers, with_put_numbers, without_deleted, changed_numbers}
-use Rattle.newt_pagebook.proofs.Tests.{some_inj, equal_true, equal_false, same_test, is_same, true_or_false}
+use Rattle.newt_pagebook.proofs.Tests.{some_inj, equal_true, equal_false, is_same, true_or_false}
 use Rattle.newt_pagebook.proofs.Changes.{get_insert, names_put}
+use Rattle.newt_pagebook.proofs.Numbers.{contains_insert}
 use Rattle.newt_objects.specs.Extents.{IsUnnamed}
 use Rattle.newt_objects.specs.Held.{Held, held, planned, WouldHold}
 use Rattle.newt_objects.specs.Changing.{AreWhole}
@@ -72,16 +74,9 @@ with_put-push : (puts : List (ℕ × List ℕ)) (n : ℕ) (page : List ℕ) (s :
 with_put-push [] n page s = refl
 with_put-push (p ∷ puts) n page s = with_put-push puts n page (set.insert s p.0)
 
-contains_insert : (s : Numbers) (n q : ℕ) → set.contains (set.insert s n) q ≡ ((q == n) || set.contains s q)
-contains_insert s n q = set.contains-insert nat_cmp_total s n q ∙ ap (λ (b : Bool). b || set.contains s q) (same_test q n)
-
-or_true : (b : Bool) → (b || true) ≡ true
-or_true true = refl
-or_true false = refl
-
 still_contained : (puts : List (ℕ × List ℕ)) (s : Numbers) (n : ℕ) → set.contains s n ≡ true → set.contains (with_put_numbers puts s) n ≡ true
 still_contained [] s n there = there
-still_contained (p ∷ puts) s n there = still_contained puts (set.insert s p.0) n (contains_insert s p.0 n ∙ ap (λ (b : Bool). (n == p.0) || b) there ∙ or_true (n == p.0))
+still_contained (p ∷ puts) s n there = still_contained puts (set.insert s p.0) n (contains_insert s p.0 n ∙ ap (λ (b : Bool). (n == p.0) || b) there ∙ or_right (n == p.0) true refl)
 
 insert_contained : (s : Numbers) (n : ℕ) → set.contains s n ≡ true → set.insert s n ≡ s
 insert_contained s n there = set.same_set nat_cmp_total map.nat_cmp-IsAntisymmetric (set.insert s n) s (λ q. contains_insert s n q ∙ ⊎_elim

@@ -1,10 +1,10 @@
 use Rattle.std.proofs.Common.{◌≡◌, ◌++◌, [], ◌∷◌, Bool, refl, sym, ◌∙◌, ap, subst, arith}
 use Rattle.std.proofs.lemmas.Grind.{common_steps}
 use Rattle.std.proofs.lemmas.Result.{err_from_is_err_and}
+use Rattle.newt_host.specs.Meanings.{out_of}
 use Rattle.newt_session.specs.Causes.{flow_of}
 use Rattle.newt_session.specs.Lines.{ended_lines}
 use Rattle.newt_session.specs.Script.{commands_of, has_quit}
-use Rattle.newt_session.specs.Stream.{out_of}
 use Rattle.newt_session.proofs.Counting.{stays-refl, stays-trans}
 use Rattle.newt_session.proofs.Crashing.{its_now, kept_start, kept_part, kept_after}
 use Rattle.newt_session.proofs.Cutting.{left_none}

@@ -1,6 +1,6 @@
 use Rattle.std.proofs.Common.{IsTrue, ◌≡◌, length}
+use Rattle.newt_host.specs.Meanings.{out_of}
 use Rattle.newt_host.specs.Moments.{Moment}
-use Rattle.newt_session.specs.Stream.{out_of}
 use Rattle.newt_session.specs.Lines.{ended_lines, unended}
 use Rattle.newt_session.specs.Script.{commands_of, has_quit}
 use Rattle.newt_session.specs.Moments.{Untouched}

@@ -2,11 +2,11 @@ use Rattle.std.proofs.Common.{◌≡◌, ◌++◌, ◌≤◌, ◌<◌, ◌+◌, 
 use Rattle.std.proofs.lemmas.List.{length-append, length-take-le}
 use Rattle.std.proofs.lemmas.Result.{err_from_is_err_and, on_ok_weaker}
 use Rattle.newt_session.specs.Causes.{SameDevices}
-use Rattle.newt_session.specs.Stream.{out_of}
 use Rattle.newt_session.specs.Run.{IsReadThrough}
 use Rattle.newt_session.specs.Script.{commands_of, has_quit, output_of}
 use Rattle.newt_session.specs.Lines.{ended_lines, last_line, lines_of}
 use Rattle.newt_session.specs.Moments.{Untouched}
+use Rattle.newt_host.specs.Meanings.{out_of}
 use Rattle.newt_host.specs.Moments.{output as output_at}
 use Rattle.newt_session.proofs.Counting.{stays-refl, stays-trans}
 use Rattle.newt_session.proofs.Crashing.{Kept, its_now, kept_start, kept_part, kept_after, kept_moved, crash_always}

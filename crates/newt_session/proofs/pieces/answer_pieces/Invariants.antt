@@ -1,5 +1,5 @@
 use Rattle.std.proofs.Common.{IsTrue, ◌≡◌, ◌≤◌, ◌-◌, List, ℕ, length}
-use Rattle.newt_session.specs.Stream.{out_of}
+use Rattle.newt_host.specs.Meanings.{out_of}
 use Rattle.newt_session.specs.Causes.{StaysAttached}
 use Rattle.newt_session.specs.Lines.{lines_of}
 use Rattle.newt_session.specs.Script.{commands_of}

@@ -1,12 +1,12 @@
 use Rattle.std.proofs.Common.{◌<◌, ◌++◌, List, ℕ, Bool, length, sym, ◌∙◌, ap, subst, arith}
 use Rattle.std.proofs.lemmas.Grind.{common_steps}
 use Rattle.std.proofs.lemmas.Result.{err_from_is_err_and}
+use Rattle.newt_host.specs.Meanings.{out_of}
 use Rattle.newt_host.specs.Moments.{Always, here}
 use Rattle.newt_session.specs.Lines.{last_line}
 use Rattle.newt_session.specs.Moments.{SafeAt}
 use Rattle.newt_session.specs.Run.{HaltedIn}
 use Rattle.newt_session.specs.Script.{commands_of, output_of}
-use Rattle.newt_session.specs.Stream.{out_of}
 use Rattle.newt_session.proofs.Crashing.{its_now, safe_here}
 use Rattle.newt_session.proofs.Ending.{last_some, last_none}
 use Rattle.newt_session.proofs.pieces.finish.Goals as goal

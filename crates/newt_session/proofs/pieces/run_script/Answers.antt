@@ -1,10 +1,10 @@
 use Rattle.std.proofs.Common.{Bool, refl, subst}
+use Rattle.newt_host.specs.Meanings.{out_of}
 use Rattle.newt_host.specs.Moments.{here}
 use Rattle.newt_session.specs.Lines.{lines_of}
 use Rattle.newt_session.specs.Moments.{Untouched}
 use Rattle.newt_session.specs.Script.{commands_of}
 use Rattle.newt_session.proofs.Crashing.{its_now, safe_here, crash_always}
-use Rattle.newt_session.specs.Stream.{out_of}
 use Rattle.newt_session.specs.Run.{output}
 use Rattle.newt_session.proofs.Writing.{wrote_nothing}
 use Rattle.newt_session.proofs.pieces.run_script.Goals as goal

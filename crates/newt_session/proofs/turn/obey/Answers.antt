@@ -1,4 +1,5 @@
 use Rattle.std.proofs.Common.{◌++◌, Bool, Ok, ap, subst, ◌∙◌}
+use Rattle.newt_host.specs.Meanings.{out_of}
 use Rattle.newt_host.specs.Moments.{Always}
 use Rattle.newt_host.specs.Outside.{PrintsSome}
 use Rattle.std.proofs.lemmas.Result.{err_from_is_err_and}
@@ -7,7 +8,6 @@ use Rattle.newt_reply.specs.Said.{said}
 use Rattle.newt_spec_world.specs.Reply.{Reply, reply_text}
 use Rattle.newt_spec_world.specs.World.{store_on_unit}
 use Rattle.newt_session.specs.Causes.{SameDevices}
-use Rattle.newt_session.specs.Stream.{out_of}
 use Rattle.newt_session.proofs.Crashing.{its_now, answering_leaves, untouched_next, untouched_same, untouched_world, safe_answering, safe_writing}
 use Rattle.newt_session.proofs.Halting.{reply_halted, stop_reply}
 use Rattle.newt_session.proofs.turn.obey.Goals as goal

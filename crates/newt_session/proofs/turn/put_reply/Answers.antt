@@ -1,6 +1,6 @@
+use Rattle.newt_host.specs.Meanings.{out_of}
 use Rattle.newt_reply.specs.Said.{said}
 use Rattle.newt_spec_world.specs.Reply.{reply_text}
-use Rattle.newt_session.specs.Stream.{out_of}
 use Rattle.newt_session.proofs.Writing.{wrote_nothing, printed_none}
 use Rattle.newt_session.proofs.turn.put_reply.Goals as goal
 

@@ -1,9 +1,10 @@
 use Rattle.std.proofs.Common.{◌≡◌, ◌++◌, subst}
 use Rattle.std.proofs.lemmas.Result.{err_from_is_err_and}
+use Rattle.newt_host.specs.Meanings.{out_of}
 use Rattle.newt_host.specs.Moments.{Always}
 use Rattle.newt_host.specs.Outside.{PrintsSome}
 use Rattle.newt_spec_world.specs.Reply as reply
-use Rattle.newt_session.specs.Stream.{out_of, WroteSome}
+use Rattle.newt_session.specs.Stream.{WroteSome}
 use Rattle.newt_session.proofs.Turning.{said_refused}
 use Rattle.newt_session.proofs.turn.refuse.Goals as goal
 

@@ -1,5 +1,6 @@
 use Rattle.std.proofs.Common.{◌≡◌, ◌++◌, [], ◌∷◌, ℕ, List, Bool, Err, IfOk, OnOk, refl, sym, ◌∙◌, ap, subst, append-nil}
 use Rattle.std.proofs.lemmas.Result.{on_ok_weaker}
+use Rattle.newt_host.specs.Meanings.{out_of}
 use Rattle.newt_host.specs.Moments.{Always, here}
 use Rattle.newt_host.proofs.Moments.{Always-map}
 use Rattle.newt_spec_script.specs.Script.{Item}
@@ -7,7 +8,6 @@ use Rattle.newt_spec_world.specs.World.{World}
 use Rattle.newt_session.specs.Causes.{flow_of, SameDevices}
 use Rattle.newt_session.specs.Script.{commands_of, output_of}
 use Rattle.newt_session.specs.Moments.{SafeAt}
-use Rattle.newt_session.specs.Stream.{out_of}
 use Rattle.newt_session.proofs.Crashing.{its_before, its_now, untouched_same, untouched_world, safe_here, safe_writing}
 use Rattle.newt_session.proofs.Halting.{replies_of_lines, sink_of_lines}
 use Rattle.newt_session.proofs.Turning.{said_nothing, said_command, said_refusal, commands_command, commands_refused, output_silent, quit_silent, world_silent, output_command, quit_command, world_command, output_refused, quit_refused, world_refused}

@@ -1,7 +1,7 @@
 use Rattle.std.proofs.Common.{◌≡◌, drop, refl, ◌∙◌, arith}
 use Rattle.std.proofs.lemmas.Grind.{common_steps}
 use Rattle.std.proofs.lemmas.Result.{err_from_is_err_and}
-use Rattle.newt_session.specs.Stream.{out_of}
+use Rattle.newt_host.specs.Meanings.{out_of}
 use Rattle.newt_session.proofs.Counting.{stays-refl, stays-trans, same-refl, same-trans}
 use Rattle.newt_session.proofs.Writing.{nothing_wrote, wrote_more, wrote_some, printing_start, printing_some, printing_more}
 use Rattle.newt_session.proofs.write.write_all.Goals as goal

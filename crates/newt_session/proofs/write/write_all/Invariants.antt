@@ -1,5 +1,6 @@
 use Rattle.std.proofs.Common.{IsTrue, ◌≡◌, length}
-use Rattle.newt_session.specs.Stream.{out_of, Wrote}
+use Rattle.newt_host.specs.Meanings.{out_of}
+use Rattle.newt_session.specs.Stream.{Wrote}
 use Rattle.newt_session.specs.Causes.{StaysAttached, SameDevices}
 use Rattle.newt_session.proofs.Writing.{Printing}
 use Rattle.newt_session.proofs.write.write_all.Given as goal

@@ -1,4 +1,4 @@
-use Rattle.newt_session.specs.Stream.{out_of}
+use Rattle.newt_host.specs.Meanings.{out_of}
 use Rattle.newt_session.proofs.Writing.{wrote_nothing, printed_none}
 use Rattle.newt_tally.specs.Counts.{lines_of_tally}
 use Rattle.newt_tally.proofs.named.put_tally.Goals as goal

@@ -1,6 +1,7 @@
 use Rattle.std.proofs.Common.{◌++◌, ℕ, Bool, Global, List, IfErr, map, string_bytes, refl, sym, ◌∙◌, ap, subst}
 use Rattle.std.proofs.lemmas.Result.{on_ok_weaker}
 use Rattle.newt_attach.specs.Named.{AreAttached}
+use Rattle.newt_host.specs.Meanings.{out_of}
 use Rattle.newt_host.specs.Moments.{Always, here}
 use Rattle.newt_spec_world.specs.First.{world_of}
 use Rattle.newt_spec_world.specs.World.{World}
@@ -8,7 +9,7 @@ use Rattle.newt_session.specs.First.{unmounted}
 use Rattle.newt_session.specs.Lines.{lines_of}
 use Rattle.newt_session.specs.Run.{HaltedReply}
 use Rattle.newt_session.specs.Script.{commands_of}
-use Rattle.newt_session.specs.Stream.{out_of, WroteSome}
+use Rattle.newt_session.specs.Stream.{WroteSome}
 use Rattle.newt_session.proofs.Beginning.{first_is, attached_at_rest, attached_never, unmounted_leaves}
 use Rattle.newt_session.proofs.Counting.{never-then}
 use Rattle.newt_session.proofs.Crashing.{its_now}

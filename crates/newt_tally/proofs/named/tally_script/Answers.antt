@@ -1,9 +1,10 @@
 use Rattle.std.proofs.Common.{◌++◌, ℕ, List, Bool, OnErr, ◌∙◌, ap, subst}
 use Rattle.std.proofs.lemmas.Result.{err_from_is_err_and, on_ok_weaker}
 use Rattle.newt_host.proofs.Moments.{Always-append, Always-map}
+use Rattle.newt_host.specs.Meanings.{out_of}
 use Rattle.newt_session.specs.Lines.{lines_of}
 use Rattle.newt_session.specs.Script.{commands_of}
-use Rattle.newt_session.specs.Stream.{out_of, WroteSome}
+use Rattle.newt_session.specs.Stream.{WroteSome}
 use Rattle.newt_session.proofs.Counting.{stays-on_devices, stays-trans}
 use Rattle.newt_session.proofs.Crashing.{its_now}
 use Rattle.newt_session.proofs.Halting.{sink_causes}

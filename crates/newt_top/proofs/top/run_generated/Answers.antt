@@ -1,8 +1,8 @@
 use Rattle.std.proofs.Common.{◌≡◌, ℕ, List, map, Global, string_bytes, subst, arith}
 use Rattle.std.proofs.lemmas.Grind.{common_steps}
 use Rattle.newt_host.proofs.Histories.{untouched-attached}
+use Rattle.newt_host.specs.Meanings.{out_of}
 use Rattle.newt_laws_answers.specs.Spoken.{answer_now}
-use Rattle.newt_session.specs.Stream.{out_of}
 use Rattle.newt_session.proofs.Writing.{wrote_nothing}
 use Rattle.newt_spec_script.specs.Generator.{gen_script}
 use Rattle.newt_tally.specs.Counts.{summary_of}

@@ -1,11 +1,21 @@
-//! Tables: a row is a text and, behind ` => `, what a call answers of it.
+//! Tables of texts and what is answered of them, for tests, and words that stand for bytes. It carries no promise: what is wanted stands in the rows of
+//! those who use it.
+#![tactic(auto)]
 
-use crate::calls::{Call, answer};
+mod words;
+
 use std::alloc::{AllocError, Global};
 use std::test::Fail;
+pub use words::{bytes_of, push_word};
+
+/// A question that is asked of texts.
+pub trait Asks {
+    /// What is answered of a text.
+    fn answer(&self, alloc: Global, text: &str) -> Result<String, Fail>;
+}
 
 /// Fails where another text was answered.
-pub(crate) fn expect(asked: &str, answered: &str, wanted: &str) -> Result<(), Fail> {
+pub fn expect(asked: &str, answered: &str, wanted: &str) -> Result<(), Fail> {
     if answered != wanted {
         return Err(Fail::new(format_args!("{asked} answers {answered}")));
     }
@@ -66,19 +76,19 @@ fn expanded(alloc: Global, text: &str) -> Result<String, Fail> {
     Ok(out)
 }
 
-fn expect_row(alloc: Global, call: Call, row: &str) -> Result<(), Fail> {
+fn expect_row<A: Asks>(alloc: Global, asks: &A, row: &str) -> Result<(), Fail> {
     let Some((text, wanted)) = row.split_once(" => ") else {
         return Err(Fail::new(format_args!("{row} has no answer")));
     };
     let text = expanded(alloc, text)?;
-    expect(row, &answer(alloc, call, &text)?, wanted)
+    expect(row, &asks.answer(alloc, &text)?, wanted)
 }
 
-/// Fails where a call answers otherwise than a row of the table says. Blank rows say nothing.
-pub(crate) fn expect_rows(alloc: Global, call: Call, table: &str) -> Result<(), Fail> {
+/// Fails where another answer is given than a row of the table says. A row is a text and, behind ` => `, its answer. Blank rows say nothing.
+pub fn expect_rows<A: Asks>(alloc: Global, asks: &A, table: &str) -> Result<(), Fail> {
     for row in table.lines() {
         if !row.is_empty() {
-            expect_row(alloc, call, row)?;
+            expect_row(alloc, asks, row)?;
         }
     }
     Ok(())
