@@ -66,9 +66,6 @@ noted {A} old new key n updates q = by (bytes_eq key.items q) refl
 pub knows_kept : {A S : Type 0} (old new : HashMap (Vec ℕ A) ℕ S) (nodes more : List Node) → new.entries ≡ old.entries → Knows old (nodes ++ more) → Knows new nodes
 knows_kept old new nodes more same knows k name named = rw same (knows k name (get_append nodes more k (Symbol name) named))
 
-pub knows_same : {A S : Type 0} (old new : HashMap (Vec ℕ A) ℕ S) (nodes : List Node) → new.entries ≡ old.entries → Knows old nodes → Knows new nodes
-knows_same old new nodes same knows k name named = rw same (knows k name named)
-
 -- an entry for a name that no node has
 pub knows_noted : (old new : List ℕ → Option ℕ) (nodes : List Node) (name : List ℕ) (n : ℕ) → KnowsBy old nodes → ((k : ℕ) → IsAlike nodes k name → ⊥) → NotesBy old name n new → KnowsBy new nodes
 knows_noted old new nodes name n knows none notes k other named = by (bytes_eq (folded name) (folded other)) refl (notes (folded other))

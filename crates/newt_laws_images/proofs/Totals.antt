@@ -63,10 +63,6 @@ total-split f test (x ∷ xs) = go (total-split f test xs) (test x)
     go more true = omega (arith, more)
     go more false = omega (arith, more)
 
-total-one : {X : Type 0} (f : X → ℕ) (x : X) → total f (x ∷ []) ≡ f x
-unfolding total
-total-one f x = omega arith
-
 total-both : {X : Type 0} (f g : X → ℕ) (xs : List X) → total f xs + total g xs ≡ total (λ x. f x + g x) xs
 unfolding total
 total-both f g [] = refl
