@@ -1,6 +1,7 @@
 //! Tables of texts and what is answered of them, for tests, and words that stand for bytes. It carries no promise: what is wanted stands in the rows of
 //! those who use it.
 #![tactic(auto)]
+ghost use Rattle.std.specs.Prelude.{◌≡◌, IfOk};
 
 mod words;
 
@@ -15,7 +16,9 @@ pub trait Asks {
 }
 
 /// Fails where another text was answered.
-pub fn expect(asked: &str, answered: &str, wanted: &str) -> Result<(), Fail> {
+pub fn expect(asked: &str, answered: &str, wanted: &str) -> Result<(), Fail>
+    ensures { IfOk result (λ _. answered.now ≡ wanted.now) }
+{
     if answered != wanted {
         return Err(Fail::new(format_args!("{asked} answers {answered}")));
     }
