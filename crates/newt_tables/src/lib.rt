@@ -1,6 +1,7 @@
 //! Tables of texts and what is answered of them, for tests, and words that stand for bytes. It carries no promise: what is wanted stands in the rows of
 //! those who use it.
 #![tactic(auto)]
+
 ghost use Rattle.std.specs.Prelude.{◌≡◌, IfOk};
 
 mod words;

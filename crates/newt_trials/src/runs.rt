@@ -1,5 +1,6 @@
 //! Runs and what they write.
-ghost use Rattle.std.specs.Prelude.{IsSome, IsTrue};
+ghost use Rattle.std.specs.Prelude.{◌≡◌, IsSome, IsTrue, OnOk};
+ghost use Rattle.newt_host.specs.Meanings.{out_of};
 ghost use Rattle.newt_memhost.specs.Outside.{outside_of};
 ghost use Rattle.newt_trials.specs.Free.{IsFree};
 
@@ -53,6 +54,7 @@ pub fn expect_end(
     output: &[u8],
 ) -> Result<(), Fail>
     requires { IsFree (outside_of host.old) }
+    ensures { OnOk result (out_of (outside_of host.new) ≡ output.now) }
 {
     let ended = run_on(alloc, text, host)?;
     if ended != status {
