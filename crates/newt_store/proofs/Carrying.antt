@@ -81,8 +81,16 @@ sound-fewer table table' place place' more fewer sound = record {
   once = λ sig uid s u id at other. sound.once sig uid s u id (fewer sig uid id at) (fewer s u id other);
 }
 
-none-some : {A : Type 0} {x : A} → None ≡ Some x → ⊥
+pub none-some : {A : Type 0} {x : A} → None ≡ Some x → ⊥
 none-some e = absurd (cc)
+
+-- ---- a list of one object
+
+pub one-among : (ids : List ℕ) (id other : ℕ) → ids ≡ id ∷ [] → Among ids other → id ≡ other
+one-among ids id other one m = elim (subst (λ (l : List ℕ). Among l other) one m) [ inl same ↦ same | inr none ↦ absurd none ]
+
+pub once-one : (ids : List ℕ) (id : ℕ) → ids ≡ id ∷ [] → AreOnce ids
+once-one ids id one = subst AreOnce (sym one) (tt, tt)
 
 pub no-object : (o : Option Extent) → o ≡ None → IsSome o → ⊥
 no-object None none some = absurd (let isnt = some in cc)

@@ -16,3 +16,4 @@ pub mod Sums
 pub mod Going
 pub mod Counting
 pub mod Patching
+pub mod Unanswered

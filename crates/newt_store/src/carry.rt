@@ -14,6 +14,7 @@ ghost use Rattle.newt_spec_store.specs.OfImage.{blocks_of};
 ghost use Rattle.newt_spec_store.specs.Valid.{well_formed};
 ghost use Rattle.newt_soupdir.specs.Bare.{bare_store};
 ghost use Rattle.newt_shelf.specs.declared.batch.NewEntry.{NewEntry as NewOne};
+ghost use Rattle.newt_laws_changes.specs.Written.{Names};
 ghost use Rattle.newt_spec_graph.specs.Lists.{Among};
 ghost use Rattle.newt_shelf.specs.Batch.{AreOnce, HasIds, IsApart, large_ids};
 ghost use Rattle.newt_shelf.specs.Names.{names_of, IsReady};
@@ -32,7 +33,7 @@ use newt_host::Host;
 use newt_objects::Objects;
 use newt_pagebook::{Batch, PageBook};
 use newt_shelf::{NameTable, NewEntry, PlaceTable, StoreFault, commit_plans, plan_objects};
-use newt_soupdir::write_directory;
+use newt_soupdir::{Directory, write_directory};
 use std::alloc::{AllocError, Global};
 
 // The one object, or none.
@@ -42,9 +43,10 @@ fn one_object(alloc: Global, found: Option<u32>) -> Result<Vec<u32>, AllocError>
     ensures once { IfOk result (λ ids. AreOnce ids.items) }
 {
     let mut ids = Vec::new(alloc);
-    if let Some(id) = found {
-        ids.push(id)?;
-    }
+    let Some(id) = found else {
+        return Ok(ids);
+    };
+    ids.push(id)?;
     Ok(ids)
 }
 
@@ -105,6 +107,38 @@ fn new_names(alloc: Global, entry: &Option<NewEntry>) -> Result<Vec<u32>, AllocE
         Some(e) => ids_of(alloc, &e.larges),
         None => Ok(Vec::new(alloc)),
     }
+}
+
+// What a change takes from memory before it is written: the records that go, all objects that go, and what the record of the new entry names.
+#[derive(Drop)]
+struct Gathered {
+    records: Vec<u32>,
+    gone: Vec<u32>,
+    named: Vec<u32>,
+}
+
+// Gathers what a change takes from memory.
+fn gather(
+    alloc: Global,
+    places: &PlaceTable,
+    names: &NameTable,
+    next: &Next,
+) -> Result<Gathered, AllocError>
+    requires { (sig uid other_sig other_uid id : ℕ) → place_of places.now sig uid ≡ Some id → place_of places.now other_sig other_uid ≡ Some id → (sig ≡ other_sig) × (uid ≡ other_uid) }
+    ensures real { IfOk result (λ g. (id : ℕ) → Among g.records.items id → (sig : ℕ) × (uid : ℕ) × Goes next.now.gone sig uid × (place_of places.now sig uid ≡ Some id)) }
+    ensures all { IfOk result (λ g. (sig uid id : ℕ) → Goes next.now.gone sig uid → place_of places.now sig uid ≡ Some id → Among g.records.items id) }
+    ensures once { IfOk result (λ g. AreOnce g.records.items) }
+    ensures gone { IfOk result (λ g. g.gone.items ≡ all_gone (names_of names.now) g.records.items next.now.entry) }
+    ensures named { IfOk result (λ g. (e : NewOne) → next.now.entry ≡ Some e → g.named.items ≡ large_ids e) }
+{
+    let records = gone_records(alloc, places, next.gone)?;
+    let gone = gone_objects(alloc, names, &records, &next.entry)?;
+    let named = new_names(alloc, &next.entry)?;
+    Ok(Gathered {
+        records,
+        gone,
+        named,
+    })
 }
 
 // Takes the memory that the names of the new entry need.
@@ -200,6 +234,31 @@ fn hint_after(entry: &Option<NewEntry>, was_placed: bool, hint: u32) -> u32 {
     }
 }
 
+// The memory follows what was written: the entries that go have no places, and their records name nothing; the new entry's record names its large binaries;
+// the directory is the new one. Answers the change's answer.
+fn follow(
+    names: &mut NameTable,
+    places: &mut PlaceTable,
+    directory: &mut Directory,
+    next: Next,
+    gathered: Gathered,
+) -> u32
+    requires ready { (e : NewOne) → next.entry ≡ Some e → IsReady names.old e.id }
+    requires stays { (e : NewOne) → next.entry ≡ Some e → Among gathered.records.items e.id → ⊥ }
+    ensures answer { result ≡ next.answer }
+    ensures directory { directory.new ≡ next.directory }
+    ensures gone { (sig uid : ℕ) → Goes next.gone sig uid → place_of places.new sig uid ≡ None }
+    ensures others { (sig uid : ℕ) → (Goes next.gone sig uid → ⊥) → place_of places.new sig uid ≡ place_of places.old sig uid }
+    ensures named { (e : NewOne) → next.entry ≡ Some e → names_of names.new e.id ≡ gathered.named.items }
+    ensures between { (forgotten : Names) × ((r : ℕ) → Among gathered.records.items r → forgotten r ≡ []) × ((r : ℕ) → (Among gathered.records.items r → ⊥) → forgotten r ≡ names_of names.old r) × ((r : ℕ) → ((e : NewOne) → next.entry ≡ Some e → e.id ≢ r) → names_of names.new r ≡ forgotten r) }
+{
+    forget_names(names, &gathered.records);
+    name_new(names, &next.entry, gathered.named);
+    forget_gone(places, next.gone);
+    *directory = next.directory;
+    next.answer
+}
+
 // Writes what a change makes, as one batch: the directory, the new entry's record and large binaries, and no object that goes.
 fn write_next<P: PageBook, H: Host>(
     alloc: Global,
@@ -273,20 +332,28 @@ pub(crate) fn carry_out<P: PageBook, H: Host>(
     ensures alone { Touches (P.place book.old) (H.outside host.old) (H.outside host.new) }
     ensures cause { IfErr result (FaultsAt (P.place book.old) (H.outside host.old) (H.outside host.new)) }
 {
-    let records = gone_records(alloc, &catalog.places, next.gone)?;
-    let gone = gone_objects(alloc, &catalog.names, &records, &next.entry)?;
-    let named = new_names(alloc, &next.entry)?;
+    let gathered = gather(alloc, &catalog.places, &catalog.names, &next)?;
     prepare_names(alloc, &mut catalog.names, &next.entry)?;
     let was_placed = is_placed(&catalog.places, &next.entry);
     keep_new(&mut catalog.places, &next.entry)?;
-    match write_next(alloc, host, book, &mut catalog.objects, &next, &gone) {
+    match write_next(
+        alloc,
+        host,
+        book,
+        &mut catalog.objects,
+        &next,
+        &gathered.gone,
+    ) {
         Ok(()) => {
-            forget_names(&mut catalog.names, &records);
-            name_new(&mut catalog.names, &next.entry, named);
-            forget_gone(&mut catalog.places, next.gone);
             catalog.hint = hint_after(&next.entry, was_placed, catalog.hint);
-            catalog.directory = next.directory;
-            Ok(next.answer)
+            let answer = follow(
+                &mut catalog.names,
+                &mut catalog.places,
+                &mut catalog.directory,
+                next,
+                gathered,
+            );
+            Ok(answer)
         }
         Err(fault) => {
             forget_new(&mut catalog.places, &next.entry, was_placed);

@@ -7,6 +7,7 @@ ghost use Rattle.newt_pagebook.specs.Stops.{StopsAt};
 ghost use Rattle.newt_pagebook.specs.Book.{IsOpenFor};
 ghost use Rattle.newt_entries.specs.Entry.{stream_graph};
 ghost use Rattle.newt_soupdir.specs.Bare.{bare_store};
+ghost use Rattle.newt_spec_store.specs.Cost.{directory_bytes};
 ghost use Rattle.newt_spec_store.specs.Store.{new_store};
 ghost use Rattle.newt_spec_store.specs.ImageStore.{store_of_image};
 
@@ -31,6 +32,16 @@ fn new_directory(alloc: Global, name: &Name, sig: Sig) -> Result<Directory, Allo
     })
 }
 
+/// The bytes of the directory of a store without soups.
+fn new_bytes(alloc: Global, name: &Name, sig: Sig) -> Result<Vec<u8>, AllocError>
+    requires few { sig ≤ 536_870_911 }
+    ensures made { IfOk result (λ bytes. bytes.items ≡ directory_bytes (new_store name.now sig)) }
+    ensures named { IsTrue (is_name name.now) }
+{
+    let directory = new_directory(alloc, name, sig)?;
+    write_directory(alloc, &directory)
+}
+
 /// Makes a unit's image that of a store without soups.
 pub(crate) fn format_unit<P: PageBook, H: Host>(
     alloc: Global,
@@ -50,8 +61,7 @@ pub(crate) fn format_unit<P: PageBook, H: Host>(
     ensures alone { Touches unit (H.outside host.old) (H.outside host.new) }
     ensures cause { IfErr result (StopsAt unit (H.outside host.old) (H.outside host.new)) }
 {
-    let directory = new_directory(alloc, name, sig)?;
-    let bytes = write_directory(alloc, &directory)?;
+    let bytes = new_bytes(alloc, name, sig)?;
     let mut objects = Objects::empty(alloc);
     let mut batch = Batch::new(alloc);
     objects.plan_put(0, &bytes, &mut batch)?;

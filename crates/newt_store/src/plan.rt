@@ -1,11 +1,12 @@
 // What each change makes of a store, or why it is refused.
-ghost use Rattle.std.specs.Prelude.{IsTrue, ◌≡◌, ◌*◌, ◌+◌, ◌%◌, ◌<◌, ◌≤◌, ℕ, false, map as map_list, Some, None, IfOk, IfErr, IfSome, IsSome};
+ghost use Rattle.std.specs.Prelude.{IsTrue, ◌≡◌, ◌*◌, ◌+◌, ◌%◌, ◌<◌, ◌≤◌, ℕ, false, map as map_list, length, Some, None, IfOk, IfErr, IfSome, IsSome};
 ghost use Rattle.newt_base.specs.Refusals.{first_of};
 ghost use Rattle.newt_host.specs.Moments.{image};
 ghost use Rattle.newt_host.specs.Outside.{Touches, Spends};
 ghost use Rattle.newt_image.specs.Objects.{Objects as Texts};
 ghost use Rattle.newt_objects.specs.Held.{held};
 ghost use Rattle.newt_spec_graph.specs.Lists.{Among};
+ghost use Rattle.newt_spec_store.specs.Image.{entry_bytes, larges as larges_in};
 ghost use Rattle.newt_spec_store.specs.Store.{Store as PlainStore, soup_of, entry_at};
 ghost use Rattle.newt_spec_store.specs.Valid.{well_formed, valid_entry};
 ghost use Rattle.newt_soupdir.specs.Bare.{bare_soup, bare_store};
@@ -125,6 +126,23 @@ pub(crate) fn ids_of(alloc: Global, larges: &[NewLarge]) -> Result<Vec<u32>, All
     Ok(ids)
 }
 
+// The bytes of the record of an entry whose large binaries have objects of these ids.
+fn record_of(
+    alloc: Global,
+    sig: Sig,
+    uid: Uid,
+    now: u32,
+    graph: &Graph,
+    ids: &[u32],
+) -> Result<Vec<u8>, AllocError>
+    requires small { sig < 65536 }
+    requires named { length (larges_in graph.now) ≡ length ids.now }
+    ensures { IfOk result (λ bytes. bytes.items ≡ entry_bytes sig (record { uid = uid; time = now; graph = graph.now }) ids.now) }
+{
+    let row = row_of(alloc, sig, uid, now, graph, ids)?;
+    write_entry(alloc, &row)
+}
+
 // The entry that is written for a graph: its record gets an object's id, each of its large binaries an even one that no object has.
 fn entry_of(
     alloc: Global,
@@ -144,8 +162,7 @@ fn entry_of(
 {
     let larges = with_ids(alloc, objects, larges_of(alloc, graph)?)?;
     let ids = ids_of(alloc, &larges)?;
-    let row = row_of(alloc, sig, uid, now, graph, &ids)?;
-    let bytes = write_entry(alloc, &row)?;
+    let bytes = record_of(alloc, sig, uid, now, graph, &ids)?;
     Ok(NewEntry {
         sig,
         uid,

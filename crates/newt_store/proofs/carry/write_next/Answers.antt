@@ -1,6 +1,8 @@
-use Rattle.std.proofs.Common.{◌≡◌, ℕ, List, IsSome, sym, ◌∙◌, subst, Option}
+use Rattle.std.proofs.Common.{◌≡◌, ℕ, List, IsSome, refl, sym, ◌∙◌, subst, Option}
 use Rattle.newt_host.specs.Moments.{Moment, image, IsDurable}
 use Rattle.newt_host.specs.Outside.{Spends}
+use Rattle.newt_host.proofs.Outside.{Touches-refl}
+use Rattle.newt_base.specs.declared.Refusal.TheVariants.{Full}
 use Rattle.newt_pagebook.specs.Book.{IsOpenFor, batch_bytes}
 use Rattle.newt_image.specs.Objects.{Extent}
 use Rattle.newt_image.specs.Pages.{Change}
@@ -9,9 +11,11 @@ use Rattle.newt_objects.specs.Changing.{IsUnderWay}
 use Rattle.newt_objects.proofs.TextsOf.{texts_of}
 use Rattle.newt_shelf.specs.Batch.{AreWritten}
 use Rattle.newt_shelf.specs.Commit.{AreKept}
+use Rattle.newt_shelf.specs.Faults.{FaultsAt, RefusesOnly}
 use Rattle.newt_store.specs.Next.{WritesNext, next_bytes}
 use Rattle.newt_catalog.proofs.Kept.{held-are}
-use Rattle.newt_store.proofs.Writing.{spends-nothing, bytes-planned, full-goes-on, the-fault, start-way, planned-made, planned-new, planned-larges, planned-there, leaves-next, leaves-none}
+use Rattle.newt_store.proofs.Unanswered.{memory-on, memory-err, memory-stops, memory-refuses, memory-fits}
+use Rattle.newt_store.proofs.Writing.{spends-nothing, bytes-planned, full-goes-on, full-refused, the-fault, start-way, planned-made, planned-new, planned-larges, planned-there, leaves-next, leaves-none}
 use Rattle.newt_store.proofs.carry.write_next.Goals as goal
 
 pub returns-in_err-bytes-clause-any_moment : goal.returns-in_err-bytes-clause-any_moment
@@ -204,3 +208,150 @@ returns-clause-too_many g c = λ tells before holds each.
     let p = planned-made g.H.Host.told c.args.objects.now n u o k c.plan_objects.new.objects c.plan_objects.new.batch before made.0 are made.1 in
     let wrote : WritesNext c.args.next.now c.args.gone.now before made.0 = subst (λ (l : List ℕ). AreWritten l c.args.next.now.entry c.args.gone.now before made.0) (c.deref.ensures.value ∙ c.in_ok-bytes.ensures) made.2 in
     c.commit_plans.ensures.too_many tells before made.0 p (each made.0 wrote)
+
+pub returns-in_err-bytes-clause-stands : goal.returns-in_err-bytes-clause-stands
+returns-in_err-bytes-clause-stands g c = λ goes. c.requires.stands
+
+pub returns-in_err-bytes-clause-kept : goal.returns-in_err-bytes-clause-kept
+returns-in_err-bytes-clause-kept g c = λ goes. absurd (memory-stops c.from_residual.result c.from_residual.ensures.1 goes)
+
+pub returns-in_err-bytes-clause-place : goal.returns-in_err-bytes-clause-place
+returns-in_err-bytes-clause-place g c = refl
+
+pub returns-in_err-bytes-clause-new : goal.returns-in_err-bytes-clause-new
+returns-in_err-bytes-clause-new g c = memory-on c.from_residual.result _ c.from_residual.ensures.1
+
+pub returns-in_err-bytes-clause-new_larges : goal.returns-in_err-bytes-clause-new_larges
+returns-in_err-bytes-clause-new_larges g c = memory-on c.from_residual.result _ c.from_residual.ensures.1
+
+pub returns-in_err-bytes-clause-there : goal.returns-in_err-bytes-clause-there
+returns-in_err-bytes-clause-there g c = memory-on c.from_residual.result _ c.from_residual.ensures.1
+
+pub returns-in_err-bytes-clause-holds : goal.returns-in_err-bytes-clause-holds
+returns-in_err-bytes-clause-holds g c = λ tells before holds. memory-on c.from_residual.result _ c.from_residual.ensures.1
+
+pub returns-in_err-bytes-clause-full : goal.returns-in_err-bytes-clause-full
+returns-in_err-bytes-clause-full g c = λ is tells before holds. absurd (memory-fits c.from_residual.result c.from_residual.ensures.1 is)
+
+pub returns-in_err-bytes-clause-only : goal.returns-in_err-bytes-clause-only
+returns-in_err-bytes-clause-only g c = memory-err c.from_residual.result (RefusesOnly Full) c.from_residual.ensures.1 tt
+
+pub returns-in_err-bytes-clause-still : goal.returns-in_err-bytes-clause-still
+returns-in_err-bytes-clause-still g c = λ is id. absurd (memory-refuses c.from_residual.result c.from_residual.ensures.1 is)
+
+pub returns-in_err-bytes-clause-nothing_done : goal.returns-in_err-bytes-clause-nothing_done
+returns-in_err-bytes-clause-nothing_done g c = λ is. refl
+
+pub returns-in_err-bytes-clause-open_after : goal.returns-in_err-bytes-clause-open_after
+returns-in_err-bytes-clause-open_after g c = λ tells. memory-on c.from_residual.result _ c.from_residual.ensures.1
+
+pub returns-in_err-bytes-clause-alone : goal.returns-in_err-bytes-clause-alone
+returns-in_err-bytes-clause-alone g c = Touches-refl (g.P.PageBook.place c.args.book.now) (g.H.Host.outside c.args.host.now)
+
+pub returns-in_err-bytes-clause-cause : goal.returns-in_err-bytes-clause-cause
+returns-in_err-bytes-clause-cause g c = memory-err c.from_residual.result (FaultsAt (g.P.PageBook.place c.args.book.now) (g.H.Host.outside c.args.host.now) (g.H.Host.outside c.args.host.now)) c.from_residual.ensures.1 tt
+
+pub returns-in_err-plan_objects-clause-stands : goal.returns-in_err-plan_objects-clause-stands
+returns-in_err-plan_objects-clause-stands g c = λ goes. c.requires.stands
+
+pub returns-in_err-plan_objects-clause-kept : goal.returns-in_err-plan_objects-clause-kept
+returns-in_err-plan_objects-clause-kept g c = λ goes. absurd (memory-stops c.from_residual-in_err-plan_objects.result c.from_residual-in_err-plan_objects.ensures.1 goes)
+
+pub returns-in_err-plan_objects-clause-place : goal.returns-in_err-plan_objects-clause-place
+returns-in_err-plan_objects-clause-place g c = refl
+
+pub returns-in_err-plan_objects-clause-new : goal.returns-in_err-plan_objects-clause-new
+returns-in_err-plan_objects-clause-new g c = memory-on c.from_residual-in_err-plan_objects.result _ c.from_residual-in_err-plan_objects.ensures.1
+
+pub returns-in_err-plan_objects-clause-new_larges : goal.returns-in_err-plan_objects-clause-new_larges
+returns-in_err-plan_objects-clause-new_larges g c = memory-on c.from_residual-in_err-plan_objects.result _ c.from_residual-in_err-plan_objects.ensures.1
+
+pub returns-in_err-plan_objects-clause-there : goal.returns-in_err-plan_objects-clause-there
+returns-in_err-plan_objects-clause-there g c = memory-on c.from_residual-in_err-plan_objects.result _ c.from_residual-in_err-plan_objects.ensures.1
+
+pub returns-in_err-plan_objects-clause-holds : goal.returns-in_err-plan_objects-clause-holds
+returns-in_err-plan_objects-clause-holds g c = λ tells before holds. memory-on c.from_residual-in_err-plan_objects.result _ c.from_residual-in_err-plan_objects.ensures.1
+
+pub returns-in_err-plan_objects-clause-full : goal.returns-in_err-plan_objects-clause-full
+returns-in_err-plan_objects-clause-full g c = λ is tells before holds. absurd (memory-fits c.from_residual-in_err-plan_objects.result c.from_residual-in_err-plan_objects.ensures.1 is)
+
+pub returns-in_err-plan_objects-clause-only : goal.returns-in_err-plan_objects-clause-only
+returns-in_err-plan_objects-clause-only g c = memory-err c.from_residual-in_err-plan_objects.result (RefusesOnly Full) c.from_residual-in_err-plan_objects.ensures.1 tt
+
+pub returns-in_err-plan_objects-clause-still : goal.returns-in_err-plan_objects-clause-still
+returns-in_err-plan_objects-clause-still g c = λ is id. absurd (memory-refuses c.from_residual-in_err-plan_objects.result c.from_residual-in_err-plan_objects.ensures.1 is)
+
+pub returns-in_err-plan_objects-clause-nothing_done : goal.returns-in_err-plan_objects-clause-nothing_done
+returns-in_err-plan_objects-clause-nothing_done g c = λ is. refl
+
+pub returns-in_err-plan_objects-clause-open_after : goal.returns-in_err-plan_objects-clause-open_after
+returns-in_err-plan_objects-clause-open_after g c = λ tells. memory-on c.from_residual-in_err-plan_objects.result _ c.from_residual-in_err-plan_objects.ensures.1
+
+pub returns-in_err-plan_objects-clause-alone : goal.returns-in_err-plan_objects-clause-alone
+returns-in_err-plan_objects-clause-alone g c = Touches-refl (g.P.PageBook.place c.args.book.now) (g.H.Host.outside c.args.host.now)
+
+pub returns-in_err-plan_objects-clause-cause : goal.returns-in_err-plan_objects-clause-cause
+returns-in_err-plan_objects-clause-cause g c = memory-err c.from_residual-in_err-plan_objects.result (FaultsAt (g.P.PageBook.place c.args.book.now) (g.H.Host.outside c.args.host.now) (g.H.Host.outside c.args.host.now)) c.from_residual-in_err-plan_objects.ensures.1 tt
+
+pub returns-in-Ok-clause-stands : goal.returns-in-Ok-clause-stands
+returns-in-Ok-clause-stands g c = λ goes. c.in-Ok.ensures.stands
+
+pub returns-in-Ok-clause-place : goal.returns-in-Ok-clause-place
+returns-in-Ok-clause-place g c = c.commit_plans.ensures.place
+
+pub returns-in-Ok-clause-full : goal.returns-in-Ok-clause-full
+returns-in-Ok-clause-full g c = λ is tells before holds. absurd (cc)
+
+pub returns-in-Ok-clause-only : goal.returns-in-Ok-clause-only
+returns-in-Ok-clause-only g c = tt
+
+pub returns-in-Ok-clause-still : goal.returns-in-Ok-clause-still
+returns-in-Ok-clause-still g c = λ is id. absurd is
+
+pub returns-in-Ok-clause-nothing_done : goal.returns-in-Ok-clause-nothing_done
+returns-in-Ok-clause-nothing_done g c = λ is. absurd is
+
+pub returns-in-Ok-clause-open_after : goal.returns-in-Ok-clause-open_after
+returns-in-Ok-clause-open_after g c = λ tells. c.in-Ok.ensures.open_after tells
+
+pub returns-in-Ok-clause-alone : goal.returns-in-Ok-clause-alone
+returns-in-Ok-clause-alone g c = c.commit_plans.ensures.alone
+
+pub returns-in-Ok-clause-cause : goal.returns-in-Ok-clause-cause
+returns-in-Ok-clause-cause g c = tt
+
+pub returns-clause-stands : goal.returns-clause-stands
+returns-clause-stands g c = λ goes. (c.in-Err.ensures.refused (the-fault (full-goes-on c.in-Err.fault c.in-Err.ensures.only goes))).0
+
+pub returns-clause-place : goal.returns-clause-place
+returns-clause-place g c = c.commit_plans.ensures.place
+
+pub returns-clause-new : goal.returns-clause-new
+returns-clause-new g c = tt
+
+pub returns-clause-new_larges : goal.returns-clause-new_larges
+returns-clause-new_larges g c = tt
+
+pub returns-clause-there : goal.returns-clause-there
+returns-clause-there g c = tt
+
+pub returns-clause-holds : goal.returns-clause-holds
+returns-clause-holds g c = λ tells before holds. tt
+
+pub returns-clause-only : goal.returns-clause-only
+returns-clause-only g c = c.in-Err.ensures.only
+
+pub returns-clause-still : goal.returns-clause-still
+returns-clause-still g c = λ is id. (c.in-Err.ensures.refused (the-fault (full-refused c.in-Err.fault c.in-Err.ensures.only is))).2 id ∙ c.plan_objects.ensures.held id
+
+pub returns-clause-nothing_done : goal.returns-clause-nothing_done
+returns-clause-nothing_done g c = λ is. c.in-Err.ensures.nothing_done (the-fault (full-refused c.in-Err.fault c.in-Err.ensures.only is))
+
+pub returns-clause-open_after : goal.returns-clause-open_after
+returns-clause-open_after g c = λ tells. tt
+
+pub returns-clause-alone : goal.returns-clause-alone
+returns-clause-alone g c = c.commit_plans.ensures.alone
+
+pub returns-clause-cause : goal.returns-clause-cause
+returns-clause-cause g c = c.in-Err.ensures.cause

@@ -1,9 +1,11 @@
-use Rattle.std.proofs.Common.{◌≡◌, ◌*◌, ℕ, List, length, Some, None, sym, ◌∙◌, ap, subst}
+use Rattle.std.proofs.Common.{◌≡◌, ◌*◌, ℕ, List, length, Some, None, refl, sym, ◌∙◌, ap, subst}
 use Rattle.std.specs.FinMap as map
 use Rattle.std.specs.FinSet as set
 use Rattle.newt_base.specs.declared.Refusal.TheVariants.{Range}
 use Rattle.newt_host.specs.Moments.{Moment, image, overwritten, Leaves}
-use Rattle.newt_host.specs.Outside.{Spends}
+use Rattle.newt_host.specs.Outside.{Touches, Spends}
+use Rattle.newt_host.proofs.Outside.{Touches-append}
+use Rattle.newt_shelf.specs.Faults.{FaultsAt}
 use Rattle.newt_image.specs.Pages.{cap}
 use Rattle.newt_image.specs.Objects.{Objects}
 use Rattle.newt_pagebook.specs.Book.{IsOpenFor}
@@ -20,8 +22,9 @@ use Rattle.newt_store.specs.Patch.{IsLargeOf}
 use Rattle.newt_catalog.specs.Stands.{StandsFor}
 use Rattle.newt_store.specs.Stands.{RefusesWith, IsBeforeOrChanged}
 use Rattle.newt_catalog.proofs.Opening.{same-image}
-use Rattle.newt_store.proofs.Applying.{from-err, sound-over, leaves-before}
+use Rattle.newt_store.proofs.Applying.{from-err, faults-over, sound-over, leaves-before}
 use Rattle.newt_catalog.proofs.Kept.{kept-over}
+use Rattle.newt_store.proofs.Unanswered.{no-value}
 use Rattle.newt_store.proofs.Writing.{failed}
 use Rattle.newt_store.proofs.Patching.{text-there, past-due, none-due, stands-after, spends-record, not-full, patch-leaves, patch-spends, patch-refuses, goes-error, less-over}
 use Rattle.newt_store.proofs.patch.patch_entry.Goals as goal
@@ -219,3 +222,75 @@ returns-in-Err-clause-costs g c = λ tells minute s stands.
     (c.patch_object.ensures.bound tells (subst (λ (i : List ℕ). IsOpenFor (patch_bytes (length b)) i) (sym e) room)))
     (λ past. with-unit (λ (v : ℕ). Spends v 0 0 (o c.find_large.new.host) (o c.patch_object.new.host)) u' u c.find_large.ensures.same.0
     (c.patch_object.ensures.untouched (c.patch_object.ensures.past tells stands.texts l.bytes holds there past))))
+
+pub returns-in_err-object-clause-stands : goal.returns-in_err-object-clause-stands
+returns-in_err-object-clause-stands g c = λ goes. c.find_large.ensures.stands
+
+pub returns-in_err-object-clause-place : goal.returns-in_err-object-clause-place
+returns-in_err-object-clause-place g c = c.find_large.ensures.same.0
+
+pub returns-in_err-object-clause-accepted : goal.returns-in_err-object-clause-accepted
+returns-in_err-object-clause-accepted g c = λ tells minute s stands. no-value c.from_residual.result _ c.from_residual.ensures.0
+
+pub returns-in_err-object-clause-answer : goal.returns-in_err-object-clause-answer
+returns-in_err-object-clause-answer g c = λ tells minute s stands. no-value c.from_residual.result _ c.from_residual.ensures.0
+
+pub returns-in_err-object-clause-changed : goal.returns-in_err-object-clause-changed
+returns-in_err-object-clause-changed g c = λ tells minute s stands. no-value c.from_residual.result _ c.from_residual.ensures.0
+
+pub returns-in_err-object-clause-still : goal.returns-in_err-object-clause-still
+returns-in_err-object-clause-still g c = λ tells minute s stands is. stands
+
+pub returns-in_err-object-clause-nothing_done : goal.returns-in_err-object-clause-nothing_done
+returns-in_err-object-clause-nothing_done g c = λ is. c.find_large.ensures.moment
+
+pub returns-in_err-object-clause-open_after : goal.returns-in_err-object-clause-open_after
+returns-in_err-object-clause-open_after g c = λ tells. no-value c.from_residual.result _ c.from_residual.ensures.0
+
+pub returns-in_err-object-clause-alone : goal.returns-in_err-object-clause-alone
+returns-in_err-object-clause-alone g c = c.find_large.ensures.alone
+
+pub returns-in_err-object-clause-cause : goal.returns-in_err-object-clause-cause
+returns-in_err-object-clause-cause g c = from-err (FaultsAt (g.P.PageBook.place c.args.book.now) (g.H.Host.outside c.args.host.now) (g.H.Host.outside c.find_large.new.host)) c.from_residual.result c.in_err-object.field-0.0 c.from_residual.ensures.1 c.in_err-object.ensures.cause
+
+pub returns-in-Ok-clause-place : goal.returns-in-Ok-clause-place
+returns-in-Ok-clause-place g c = c.patch_object.ensures.place ∙ c.find_large.ensures.same.0
+
+pub returns-in-Ok-clause-answer : goal.returns-in-Ok-clause-answer
+returns-in-Ok-clause-answer g c = λ tells minute s stands. refl
+
+pub returns-in-Ok-clause-refused : goal.returns-in-Ok-clause-refused
+returns-in-Ok-clause-refused g c = λ tells minute s stands. tt
+
+pub returns-in-Ok-clause-still : goal.returns-in-Ok-clause-still
+returns-in-Ok-clause-still g c = λ tells minute s stands is. absurd is
+
+pub returns-in-Ok-clause-nothing_done : goal.returns-in-Ok-clause-nothing_done
+returns-in-Ok-clause-nothing_done g c = λ is. absurd is
+
+pub returns-in-Ok-clause-alone : goal.returns-in-Ok-clause-alone
+returns-in-Ok-clause-alone g c = Touches-append c.find_large.ensures.alone (subst (λ (v : ℕ). Touches v (g.H.Host.outside c.find_large.new.host) (g.H.Host.outside c.patch_object.new.host)) c.find_large.ensures.same.0 c.patch_object.ensures.alone)
+
+pub returns-in-Ok-clause-cause : goal.returns-in-Ok-clause-cause
+returns-in-Ok-clause-cause g c = tt
+
+pub returns-in-Err-clause-place : goal.returns-in-Err-clause-place
+returns-in-Err-clause-place g c = c.patch_object.ensures.place ∙ c.find_large.ensures.same.0
+
+pub returns-in-Err-clause-accepted : goal.returns-in-Err-clause-accepted
+returns-in-Err-clause-accepted g c = λ tells minute s stands. tt
+
+pub returns-in-Err-clause-answer : goal.returns-in-Err-clause-answer
+returns-in-Err-clause-answer g c = λ tells minute s stands. tt
+
+pub returns-in-Err-clause-changed : goal.returns-in-Err-clause-changed
+returns-in-Err-clause-changed g c = λ tells minute s stands. tt
+
+pub returns-in-Err-clause-open_after : goal.returns-in-Err-clause-open_after
+returns-in-Err-clause-open_after g c = λ tells. tt
+
+pub returns-in-Err-clause-alone : goal.returns-in-Err-clause-alone
+returns-in-Err-clause-alone g c = Touches-append c.find_large.ensures.alone (subst (λ (v : ℕ). Touches v (g.H.Host.outside c.find_large.new.host) (g.H.Host.outside c.patch_object.new.host)) c.find_large.ensures.same.0 c.patch_object.ensures.alone)
+
+pub returns-in-Err-clause-cause : goal.returns-in-Err-clause-cause
+returns-in-Err-clause-cause g c = faults-over c.in-Err.fault (g.P.PageBook.place c.args.book.now) (g.P.PageBook.place c.find_large.new.book) (g.H.Host.outside c.args.host.now) (g.H.Host.outside c.find_large.new.host) (g.H.Host.outside c.patch_object.new.host) c.find_large.ensures.same.0 c.find_large.ensures.alone c.in-Err.ensures.cause

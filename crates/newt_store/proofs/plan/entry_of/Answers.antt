@@ -1,4 +1,4 @@
-use Rattle.std.proofs.Common.{◌≡◌, ℕ, map as map_list, refl, sym, ◌∙◌, ap}
+use Rattle.std.proofs.Common.{◌≡◌, map as map_list, refl, ◌∙◌, ap}
 use Rattle.newt_shelf.specs.declared.batch.NewLarge.{NewLarge}
 use Rattle.newt_spec_store.specs.Image.{entry_bytes}
 use Rattle.newt_spec_store.specs.Store.{Entry}
@@ -7,13 +7,12 @@ use Rattle.newt_store.proofs.plan.entry_of.Goals as goal
 pub returns-clause-entry : goal.returns-clause-entry
 returns-clause-entry c =
     let x : Entry = record { uid = c.args.uid; time = c.args.now; graph = c.args.graph.now } in
-    let head = c.in_ok-row.ensures.head in
     let with = c.in_ok-larges.ensures in
     let ids : c.deref-2.result.now ≡ map_list (λ (l : NewLarge). l.id) c.in_ok-larges.larges.items = c.deref-2.ensures.value ∙ c.in_ok-ids.ensures ∙ ap (map_list (λ (l : NewLarge). l.id)) c.deref.ensures.value in
     record {
       of_sig = refl;
       of_uid = refl;
-      bytes = c.in_ok-bytes.ensures x c.deref-2.result.now (sym head.1) (sym head.2) c.in_ok-row.ensures.rows ∙ ap (λ (n : ℕ). entry_bytes n x c.deref-2.result.now) head.0 ∙ ap (entry_bytes c.args.sig x) ids;
+      bytes = c.in_ok-bytes.ensures ∙ ap (entry_bytes c.args.sig x) ids;
       larges_are = with.bytes ∙ c.in_ok-larges_of.ensures;
       ids = record { odd = c.requires.odd; even = with.even; once = with.once };
       ids_fit = with.fit;

@@ -1,0 +1,15 @@
+use Rattle.std.proofs.Common.{ℕ, List, sym, subst}
+use Rattle.newt_shelf.specs.Names.{names_of}
+use Rattle.newt_spec_graph.specs.Lists.{Among}
+use Rattle.newt_store.proofs.carry.follow.Goals as goal
+
+pub name_new-requires : goal.name_new-requires
+name_new-requires c = record { ready = λ e is. c.forget_names.ensures.ready e.id (λ m. c.requires.stays e is (subst (λ (l : List ℕ). Among l e.id) c.deref.ensures.value m)) (c.requires.ready e is) }
+
+pub returns-clause-between : goal.returns-clause-between
+returns-clause-between c = (
+  names_of c.forget_names.new.names,
+  λ r m. c.forget_names.ensures.gone r (subst (λ (l : List ℕ). Among l r) (sym c.deref.ensures.value) m),
+  λ r out. c.forget_names.ensures.others r (λ m. out (subst (λ (l : List ℕ). Among l r) c.deref.ensures.value m)),
+  c.name_new.ensures.others,
+)
