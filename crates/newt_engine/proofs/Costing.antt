@@ -1,6 +1,6 @@
 -- What a command costs, by what a call on the units costs.
 use Rattle.std.proofs.Common.{arith, ◌≡◌, ap, sym, ◌∙◌, subst, ℕ, ◌≤◌, List, false, Option, inr}
-use Rattle.std.specs.Prelude.{Result, Ok, Err}
+use Rattle.std.specs.Prelude.{Result}
 use Rattle.newt_host.specs.Moments.{changes}
 use Rattle.newt_host.specs.Outside.{Outside}
 use Rattle.newt_reply.specs.declared.reply.Reply.{Reply}
@@ -8,40 +8,25 @@ use Rattle.newt_spec_graph.proofs.Lists.{both-ways}
 use Rattle.newt_spec_query.specs.Cursor.{Cursor}
 use Rattle.newt_spec_world.specs.declared.command.Command.{Command}
 use Rattle.newt_spec_world.specs.declared.command.Command.TheVariants as command
+use Rattle.newt_spec_world.specs.Reply as plain
 use Rattle.newt_spec_world.specs.World.{World}
 use Rattle.newt_laws_answers.specs.Bounds.{most_programmed}
 use Rattle.newt_laws_answers.proofs.Most.{cursors-cost-nothing}
 use Rattle.newt_laws_cursors.specs.Cursors.{with_cursors, uses_cursors}
 use Rattle.newt_cardstore.specs.declared.fault.Fault.{Fault}
-use Rattle.newt_cardstore.specs.declared.fault.Fault.TheVariants.{Refused, Stop}
 use Rattle.newt_cardstore.specs.Bounds.{Costs, IsOpenOrSame, ProgramsAtMost}
 use Rattle.newt_cardstore.specs.Faults.{GoesOn}
 use Rattle.newt_engine.specs.Bounds.{CommandCosts, is_format}
-use Rattle.newt_engine.proofs.Handed.{Hands}
-
--- where the command goes on, so did the call whose fault was handed on
-pub goes_back : (S : Type 0) {T : Type 0} (fault : Fault) (result : Result T Fault) → Hands fault result → GoesOn result → GoesOn {T = S} (Err fault)
-goes_back S {T} fault result p goes = go fault (subst (λ e. GoesOn {T = T} (Err e)) p.2 (subst (λ (r : Result T Fault). GoesOn r) p.1 goes))
-  where
-    go : (f : Fault) → GoesOn {T = T} (Err f) → GoesOn {T = S} (Err f)
-    go (Refused r) h = tt
-    go (Stop stop) h = absurd h
+use Rattle.newt_engine.specs.Handed.{HandsOn}
+use Rattle.newt_engine.proofs.Handed.{goes_back}
 
 -- the command costs what the call does
-costs_on : {S T : Type 0} {w : World} {c d : Command} {call : Result S Fault} {result : Result T Fault} {o p : Outside} → c ≡ d → (GoesOn result → GoesOn call)
-    → Costs (most_programmed w d) call o p → CommandCosts w c result o p
-costs_on {S} {T} {w} {c} {d} {call} {result} {o} {p} same goes k = record {
+pub costs_on : {T : Type 0} {made : T → plain.Reply} {found : Result T Fault} {result : Result Reply Fault} {w : World} {c d : Command} {o p : Outside} → HandsOn made found result → c ≡ d
+    → Costs (most_programmed w d) found o p → CommandCosts w c result o p
+costs_on {T} {made} {found} {result} {w} {c} {d} {o} {p} on same k = record {
   bound = λ _ u. subst (λ x. ProgramsAtMost (most_programmed w x u) u o p) (sym same) (k.bound u);
-  open_after = λ h. k.open_after (goes h);
+  open_after = λ h. k.open_after (goes_back on h);
 }
-
-pub done_costs : {S : Type 0} {w : World} {c d : Command} {value : S} {reply : Reply} {o p : Outside} → c ≡ d → Costs {T = S} (most_programmed w d) (Ok value) o p
-    → CommandCosts {T = Reply} w c (Ok reply) o p
-done_costs same k = costs_on same (λ _. tt) k
-
-pub fault_costs : {S : Type 0} {w : World} {c d : Command} {fault : Fault} {result : Result Reply Fault} {o p : Outside} → c ≡ d → Costs {T = S} (most_programmed w d) (Err fault) o p
-    → Hands fault result → CommandCosts w c result o p
-fault_costs {S} {w} {c} {d} {fault} {result} same k p = costs_on same (goes_back S fault result p) k
 
 -- a format is no command that is bounded
 pub format_costs : {T : Type 0} {w : World} {c : Command} {unit : ℕ} {name : List ℕ} {sig : ℕ} {result : Result T Fault} {o p : Outside} → c ≡ command.Format unit name sig

@@ -1,4 +1,4 @@
--- What a call on the units says of a command.
+-- What a call says of a command.
 use Rattle.std.proofs.Common.{◌≡◌, refl, sym, ◌∙◌, ap, subst, ℕ, List, Bool, true, IsTrue, Option}
 use Rattle.std.specs.Prelude.{Result, Ok, Err, IfErr}
 use Rattle.newt_host.specs.Moments.{Moment, Always}
@@ -16,25 +16,64 @@ use Rattle.newt_cardstore.specs.declared.fault.Fault.{Fault}
 use Rattle.newt_cardstore.specs.declared.fault.Fault.TheVariants.{Refused, Stop}
 use Rattle.newt_units.specs.declared.units.Units.{Units}
 use Rattle.newt_units.specs.Answers.{Answers}
-use Rattle.newt_cardstore.specs.Faults.{HasFaultCause, NoDevice}
+use Rattle.newt_cardstore.specs.Faults.{GoesOn, HasFaultCause, IsRefusal, NoDevice}
 use Rattle.newt_units.specs.Stands.{Eight, Stands, world_of}
 use Rattle.newt_units.proofs.Known.{Laws}
 use Rattle.newt_units.proofs.Turns.{still-moments}
+use Rattle.newt_walk.specs.Replies as walk
+use Rattle.newt_engine.specs.Handed.{HandsOn, IsHanded}
 
--- a fault that was handed on
-abbrev pub Hands : {T : Type 0} → Fault → Result T Fault → Type 0
-Hands fault result = (e : Fault) × (result ≡ Err e) × (e ≡ fault)
+module _ {T : Type 0} {made : T → plain.Reply} {found : Result T Fault} {result : Result Reply Fault} (on : HandsOn made found result) where
+  -- where the command goes on, so did the call
+  pub goes_back : GoesOn result → GoesOn found
+  goes_back h = go found result on.same h
+    where
+      fault : (f : Fault) → GoesOn {T = Reply} (Err f) → GoesOn {T = T} (Err f)
+      fault (Refused r) h = tt
+      fault (Stop stop) h = absurd h
 
-pub hands : {T : Type 0} (P : Fault → Type 0) (fault : Fault) → P fault → (result : Result T Fault) → Hands fault result → IfErr result P
-hands P fault h result p = subst (λ r. IfErr r P) (sym p.1) (subst P (sym p.2) h)
+      go : (f : Result T Fault) (r : Result Reply Fault) → IsHanded made f r → GoesOn r → GoesOn f
+      go (Ok x) _ s h = tt
+      go (Err f) (Err g) s h = fault f (subst (λ e. GoesOn {T = Reply} (Err e)) s h)
+      go (Err f) (Ok y) s h = absurd s
 
--- a command that a call did not do is not done
-pub handed : {T : Type 0} (w v : World) (c d : Command) (made : T → plain.Reply) (fault : Fault) → c ≡ d → Answers w v d made (Err fault) → (result : Result Reply Fault) → Hands fault result → Answers w v c said result
-handed {T} w v c d made fault same h result p = subst (λ r. Answers w v c said r) (sym (p.1 ∙ ap {B = Result Reply Fault} (λ e. Err e) p.2)) (go fault (subst (λ x. Answers w v x made (Err fault)) (sym same) h))
-  where
-    go : (fault : Fault) → Answers {T = T} w v c made (Err fault) → Answers w v c said (Err fault)
-    go (Refused r) k = k
-    go (Stop stop) k = tt
+  -- what holds of the call's fault holds of the command's
+  pub err_on : (P : Fault → Type 0) → IfErr found P → IfErr result P
+  err_on P h = go found result on.same h
+    where
+      go : (f : Result T Fault) (r : Result Reply Fault) → IsHanded made f r → IfErr f P → IfErr r P
+      go (Ok x) (Ok y) s h = tt
+      go (Err f) (Err g) s h = subst P (sym s) h
+      go (Ok x) (Err g) s h = absurd s
+      go (Err f) (Ok y) s h = absurd s
+
+  -- what the call answers is what the command answers
+  pub answered_on : (w v : World) {c d : Command} → c ≡ d → Answers w v d made found → Answers w v c said result
+  answered_on w v {c} {d} is h = go found result on.same (subst (λ x. Answers w v x made found) (sym is) h)
+    where
+      fault : (f : Fault) → Answers {T = T} w v c made (Err f) → Answers w v c said (Err f)
+      fault (Refused r) k = k
+      fault (Stop stop) k = tt
+
+      go : (f : Result T Fault) (r : Result Reply Fault) → IsHanded made f r → Answers w v c made f → Answers w v c said r
+      go (Ok x) (Ok y) s h = h ∙ ap (λ r. (v, r)) (sym s)
+      go (Err f) (Err g) s h = subst (λ e. Answers w v c said (Err e)) (sym s) (fault f h)
+      go (Ok x) (Err g) s h = absurd s
+      go (Err f) (Ok y) s h = absurd s
+
+  -- the same of a call on cursors
+  pub walked_on : (w v : World) {c d : Command} → c ≡ d → walk.Answers w v d made found → walk.Answers w v c said result
+  walked_on w v {c} {d} is h = go found result on.same (subst (λ x. walk.Answers w v x made found) (sym is) h)
+    where
+      fault : (f : Fault) → walk.Answers {T = T} w v c made (Err f) → walk.Answers w v c said (Err f)
+      fault (Refused r) k = k
+      fault (Stop stop) k = tt
+
+      go : (f : Result T Fault) (r : Result Reply Fault) → IsHanded made f r → walk.Answers w v c made f → walk.Answers w v c said r
+      go (Ok x) (Ok y) s h = h ∙ ap (λ r. (v, r)) (sym s)
+      go (Err f) (Err g) s h = subst (λ e. walk.Answers w v c said (Err e)) (sym s) (fault f h)
+      go (Ok x) (Err g) s h = absurd s
+      go (Err f) (Ok y) s h = absurd s
 
 -- the moments of a call are those of the command
 pub moments_same : (reads : List ℕ → Option Store) (w : World) (start now : Moment) (c d : Command) → c ≡ d → Always (Answering reads w (answer_now w d).0 start) start now → Always (Answering reads w (answer_now w c).0 start) start now
@@ -56,3 +95,13 @@ has_cause o p (Ok x) h = tt
 has_cause o p (Err (Refused r)) h = tt
 has_cause o p (Err (Stop stops.Memory)) h = tt
 has_cause o p (Err (Stop (stops.Device unit))) h = absurd h
+
+-- a refusal has no device to blame
+pub blameless : {T : Type 0} (result : Result T Fault) → IfErr result (λ fault. IsRefusal fault) → IfErr result (λ fault. NoDevice fault)
+blameless (Ok x) h = tt
+blameless (Err (Refused r)) h = tt
+blameless (Err (Stop stop)) h = absurd h
+
+-- want of memory that was handed on is the answer
+pub for_memory : (P : Result Reply Fault → Type 0) (result : Result Reply Fault) → (e : Fault) × (result ≡ Err e) × (e ≡ Stop stops.Memory) → P (Err (Stop stops.Memory)) → P result
+for_memory P result e h = subst P (sym (e.1 ∙ ap {B = Result Reply Fault} (λ f. Err f) e.2)) h

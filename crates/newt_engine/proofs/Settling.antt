@@ -64,10 +64,6 @@ goes_settled w v c made (Ok x) h a goes = subst IsSettled (ap (λ (a : World × 
 goes_settled w v c made (Err (Refused r)) h a goes = subst IsSettled (ap (λ (a : World × plain.Reply). a.0) a) (now-settled w c h)
 goes_settled w v c made (Err (Ends s)) h a goes = absurd goes
 
--- what is answered to a command is answered to an equal one
-pub walked_as : {T : Type 0} (w v : World) (c d : Command) (made : T → plain.Reply) (result : Result T Fault) → c ≡ d → walk.Answers w v d made result → walk.Answers w v c made result
-walked_as w v c d made result same h = subst (λ x. walk.Answers w v x made result) (sym same) h
-
 -- the commands of cursors are answered by the world of all commands
 pub walked_answers : {T : Type 0} (w v : World) (c : Command) (made : T → plain.Reply) (result : Result T Fault) → uses_cursors c ≡ true → walk.Answers w v c made result → Answers w v c made result
 walked_answers w v c made (Ok x) h a = now-on-cursors w c h ∙ a

@@ -1,5 +1,6 @@
 pub mod Bounds
 pub mod Groups
 pub mod Ends
+pub mod Handed
 pub mod Standing
 pub mod Laws

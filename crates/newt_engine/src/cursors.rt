@@ -18,7 +18,7 @@ ghost use Rattle.newt_engine.specs.Ends.{takes_memory, uses_device};
 ghost use Rattle.newt_engine.specs.Groups.{on_place};
 ghost use Rattle.newt_engine.specs.Standing.{Standing};
 
-use crate::replies::{closed, counted, opened, shown, sided};
+use crate::replies::{done, numbered, opened, shown, sided};
 use crate::world::World;
 use newt_base::Refusal;
 use newt_cardstore::{Card, Fault};
@@ -49,7 +49,6 @@ impl<C: Card> World<C> {
     }
 
     /// Moves or shows a cursor, or opens or closes one.
-    #[tactic(auto, unfolding(newt_laws_cursors::specs::Cursors::uses_cursors))]
     fn walk<H: Host>(&mut self, host: &mut H, command: &Command) -> Result<Reply, Fault>
         requires desk { DeskFits self.old.desk }
         requires stands { Stands C.place C.stands H.told self.old.units (H.outside host.old) }
@@ -99,10 +98,10 @@ impl<C: Card> World<C> {
             Command::QueryAll(name, graph) => {
                 opened(newt_walk::query_all(units, desk, host, name, graph))
             }
-            Command::Count(cursor) => counted(newt_walk::count(units, desk, host, *cursor)),
+            Command::Count(cursor) => numbered(newt_walk::count(units, desk, host, *cursor)),
             Command::Which(cursor) => sided(newt_walk::which(units, desk, host, *cursor)),
             Command::Clone(cursor) => opened(newt_walk::clone_of(units, desk, host, *cursor)),
-            Command::Close(cursor) => closed(newt_walk::close(units, desk, host, *cursor)),
+            Command::Close(cursor) => done(newt_walk::close(units, desk, host, *cursor)),
             _ => Err(Fault::Refused(Refusal::Command)),
         }
     }

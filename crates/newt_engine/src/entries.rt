@@ -13,8 +13,9 @@ ghost use Rattle.newt_engine.specs.Bounds.{CommandCosts};
 ghost use Rattle.newt_engine.specs.Ends.{takes_memory, uses_device};
 ghost use Rattle.newt_engine.specs.Groups.{on_graph};
 
+use crate::replies::{done, hex, numbered, timed, timed_nsof};
 use crate::world::World;
-use newt_cardstore::{Card, Entry, Fault};
+use newt_cardstore::{Card, Fault};
 use newt_host::Host;
 use newt_reply::Reply;
 use newt_script::Command;
@@ -43,29 +44,25 @@ impl<C: Card> World<C> {
         let World { units, .. } = self;
         match command {
             Command::Get(unit, name, uid) => {
-                let Entry { time, graph, .. } = newt_commands::get(units, host, *unit, name, *uid)?;
-                Ok(Reply::Timed(time, graph))
+                timed(newt_commands::get(units, host, *unit, name, *uid))
             }
             Command::Getx(unit, name, uid) => {
-                let Entry { time, graph, .. } = newt_commands::get(units, host, *unit, name, *uid)?;
-                Ok(Reply::TimedNsof(time, graph))
+                timed_nsof(newt_commands::get(units, host, *unit, name, *uid))
             }
             Command::Remove(unit, name, uid) => {
-                newt_commands::remove(units, host, *unit, name, *uid)?;
-                Ok(Reply::Done)
+                done(newt_commands::remove(units, host, *unit, name, *uid))
             }
-            Command::Copy(unit, name, uid, to, target) => Ok(Reply::Number(newt_commands::copy(
-                units, host, *unit, name, *uid, *to, target,
-            )?)),
-            Command::Move(unit, name, uid, to, target) => Ok(Reply::Number(
-                newt_commands::move_entry(units, host, *unit, name, *uid, *to, target)?,
-            )),
-            Command::Vread(unit, name, uid, path, at, len) => Ok(Reply::Hex(newt_commands::vread(
-                units, host, *unit, name, *uid, path, *at, *len,
-            )?)),
+            Command::Copy(unit, name, uid, to, target) => {
+                numbered(newt_commands::copy(units, host, *unit, name, *uid, *to, target))
+            }
+            Command::Move(unit, name, uid, to, target) => {
+                numbered(newt_commands::move_entry(units, host, *unit, name, *uid, *to, target))
+            }
+            Command::Vread(unit, name, uid, path, at, len) => {
+                hex(newt_commands::vread(units, host, *unit, name, *uid, path, *at, *len))
+            }
             Command::Vwrite(unit, name, uid, path, at, bytes) => {
-                newt_commands::vwrite(units, host, *unit, name, *uid, path, *at, bytes.list())?;
-                Ok(Reply::Done)
+                done(newt_commands::vwrite(units, host, *unit, name, *uid, path, *at, bytes.list()))
             }
             _ => self.obey_on_store(host, command),
         }

@@ -12,8 +12,8 @@ ghost use Rattle.newt_units.specs.Stands.{Stands, world_of};
 ghost use Rattle.newt_engine.specs.Bounds.{CommandCosts};
 ghost use Rattle.newt_engine.specs.Ends.{takes_memory, uses_device};
 
+use crate::replies::{added, done, numbered};
 use crate::world::World;
-use newt_base::Uid;
 use newt_cardstore::{Card, Fault};
 use newt_host::Host;
 use newt_reply::Reply;
@@ -40,24 +40,26 @@ impl<C: Card> World<C> {
             Command::Nsof(graph) => Ok(Reply::Nsof(graph)),
             Command::Lit(graph) => Ok(Reply::Literal(graph)),
             Command::Add(unit, name, graph) => {
-                Ok(Reply::Number(newt_commands::add(units, host, unit, &name, graph)?))
+                numbered(newt_commands::add(units, host, unit, &name, graph))
             }
             Command::Addx(unit, name, graph) => {
-                Ok(Reply::Number(newt_commands::add(units, host, unit, &name, graph)?))
+                numbered(newt_commands::add(units, host, unit, &name, graph))
             }
             Command::Addu(name, graph) => {
-                let (unit, uid) = newt_commands::add_to_default(units, host, &name, graph)?;
-                Ok(Reply::Added(unit, Uid(uid)))
+                added(newt_commands::add_to_default(units, host, &name, graph))
             }
             Command::Set(unit, name, uid, path, value) => {
-                newt_commands::set(units, host, unit, &name, uid, &path, &value)?;
-                Ok(Reply::Done)
+                done(newt_commands::set(units, host, unit, &name, uid, &path, &value))
             }
             Command::Change(unit, name, uid, graph) => {
-                newt_commands::change(units, host, unit, &name, uid, graph)?;
-                Ok(Reply::Done)
+                done(newt_commands::change(units, host, unit, &name, uid, graph))
             }
-            other => self.obey_on_entry(host, &other),
+            other => {
+                let obeyed = self.obey_on_entry(host, &other);
+                // (as one call, and not part by part here)
+                drop(other);
+                obeyed
+            }
         }
     }
 }

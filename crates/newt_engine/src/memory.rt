@@ -8,10 +8,11 @@ ghost use Rattle.newt_units.specs.Stands.{Eight, Stands, world_of};
 ghost use Rattle.newt_engine.specs.Ends.{takes_memory, uses_device};
 ghost use Rattle.newt_engine.specs.Groups.{on_graph};
 
+use crate::replies::{alias_of, done, place, soup_rows, spec_rows, tag_row};
 use crate::world::World;
 use newt_base::Refusal;
 use newt_cardstore::{Card, Fault};
-use newt_reply::{Alias, Reply, TagRow};
+use newt_reply::Reply;
 use newt_script::Command;
 
 impl<C: Card> World<C> {
@@ -32,34 +33,18 @@ impl<C: Card> World<C> {
                 Ok(Reply::Done)
             }
             Command::Quit => Ok(Reply::Done),
-            Command::Unmount(unit) => {
-                self.units.unmount(*unit)?;
-                Ok(Reply::Done)
-            }
+            Command::Unmount(unit) => done(self.units.unmount(*unit)),
             Command::Stores => Ok(Reply::Stores(self.units.stores()?)),
-            Command::Default(unit) => {
-                self.units.set_default(*unit)?;
-                Ok(Reply::Done)
+            Command::Default(unit) => done(self.units.set_default(*unit)),
+            Command::Soups(unit) => soup_rows(self.units.soups(*unit)),
+            Command::Indexes(unit, name) => {
+                spec_rows(newt_commands::indexes(&self.units, *unit, name))
             }
-            Command::Soups(unit) => Ok(Reply::Soups(self.units.soups(*unit)?)),
-            Command::Indexes(unit, name) => Ok(Reply::Indexes(newt_commands::indexes(
-                &self.units,
-                *unit,
-                name,
-            )?)),
-            Command::Tags(unit, name) => {
-                let table = newt_commands::tags(&self.units, *unit, name)?;
-                Ok(Reply::Tags(TagRow { table }))
-            }
+            Command::Tags(unit, name) => tag_row(newt_commands::tags(&self.units, *unit, name)),
             Command::Alias(unit, name, uid) => {
-                let (store, soup) = newt_commands::alias(&self.units, *unit, name, *uid)?;
-                let uid = *uid;
-                Ok(Reply::Alias(Alias { store, soup, uid }))
+                alias_of(newt_commands::alias(&self.units, *unit, name, *uid), *uid)
             }
-            Command::Resolve(graph) => match self.units.resolve(graph)? {
-                Some((unit, soup, uid)) => Ok(Reply::Where(unit, soup, uid)),
-                None => Ok(Reply::Nil),
-            },
+            Command::Resolve(graph) => place(self.units.resolve(graph)),
             _ => Err(Fault::Refused(Refusal::Command)),
         }
     }

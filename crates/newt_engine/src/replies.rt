@@ -1,21 +1,153 @@
-//! What the commands of cursors answer, as replies.
-ghost use Rattle.std.specs.Prelude.{◌≡◌, IfErr};
-ghost use Rattle.newt_host.specs.Outside.{Outside};
-ghost use Rattle.newt_reply.specs.Said.{said};
-ghost use Rattle.newt_spec_world.specs.declared.command.Command.{Command as IsCommand};
+//! What a call answers, as a reply.
+ghost use Rattle.std.specs.Prelude.{◌≡◌, map};
+ghost use Rattle.newt_reply.specs.Said.{said, soup_row};
+ghost use Rattle.newt_spec_world.specs.Answer.{or_nil};
 ghost use Rattle.newt_spec_world.specs.Reply as plain;
-ghost use Rattle.newt_spec_world.specs.World.{World};
-ghost use Rattle.newt_cardstore.specs.Faults.{HasFaultCause};
-ghost use Rattle.newt_walk.specs.Replies.{Answers, shown_reply, side_reply};
+ghost use Rattle.newt_walk.specs.Replies.{shown_reply, side_reply};
+ghost use Rattle.newt_engine.specs.Handed.{HandsOn};
 
-use newt_cardstore::Fault;
-use newt_reply::Reply;
+use newt_base::{Name, Sig, Uid};
+use newt_cardstore::{Entry, Fault};
+use newt_graph::Bytes;
+use newt_host::Unit;
+use newt_reply::{Alias, Reply, SoupRows, SpecRows, TagRow};
+use newt_tags::TagTable;
 use newt_walk::{Shown, Side};
+
+/// That it was done.
+pub(crate) fn done(found: Result<(), Fault>) -> Result<Reply, Fault>
+    ensures { HandsOn (λ _. plain.Reply.done) found result }
+{
+    match found {
+        Ok(()) => Ok(Reply::Done),
+        Err(fault) => Err(fault),
+    }
+}
+
+/// A signature, an id or a count.
+pub(crate) fn numbered(found: Result<u32, Fault>) -> Result<Reply, Fault>
+    ensures { HandsOn (λ n. plain.Reply.number n) found result }
+{
+    match found {
+        Ok(number) => Ok(Reply::Number(number)),
+        Err(fault) => Err(fault),
+    }
+}
+
+/// The number of a cursor that was opened.
+pub(crate) fn opened(found: Result<u8, Fault>) -> Result<Reply, Fault>
+    ensures { HandsOn (λ n. plain.Reply.number n) found result }
+{
+    match found {
+        Ok(cursor) => Ok(Reply::Number(u32::from(cursor))),
+        Err(fault) => Err(fault),
+    }
+}
+
+/// The unit and the id of an entry that was added.
+pub(crate) fn added(found: Result<(Unit, u32), Fault>) -> Result<Reply, Fault>
+    ensures { HandsOn (λ x. plain.Reply.added x.0 x.1) found result }
+{
+    match found {
+        Ok((unit, uid)) => Ok(Reply::Added(unit, Uid(uid))),
+        Err(fault) => Err(fault),
+    }
+}
+
+/// The signature and the name of a store that was mounted.
+pub(crate) fn mounted(found: Result<(Sig, Name), Fault>) -> Result<Reply, Fault>
+    ensures { HandsOn (λ x. plain.Reply.store x.0 x.1) found result }
+{
+    match found {
+        Ok((sig, name)) => Ok(Reply::Store(sig, name)),
+        Err(fault) => Err(fault),
+    }
+}
+
+/// An entry, its graph as a literal.
+pub(crate) fn timed(found: Result<Entry, Fault>) -> Result<Reply, Fault>
+    ensures { HandsOn (λ e. plain.Reply.timed e.time e.graph) found result }
+{
+    match found {
+        Ok(Entry { time, graph, .. }) => Ok(Reply::Timed(time, graph)),
+        Err(fault) => Err(fault),
+    }
+}
+
+/// An entry, its graph as an object stream.
+pub(crate) fn timed_nsof(found: Result<Entry, Fault>) -> Result<Reply, Fault>
+    ensures { HandsOn (λ e. plain.Reply.timed_nsof e.time e.graph) found result }
+{
+    match found {
+        Ok(Entry { time, graph, .. }) => Ok(Reply::TimedNsof(time, graph)),
+        Err(fault) => Err(fault),
+    }
+}
+
+/// Bytes.
+pub(crate) fn hex(found: Result<Bytes, Fault>) -> Result<Reply, Fault>
+    ensures { HandsOn (λ bytes. plain.Reply.hex bytes) found result }
+{
+    match found {
+        Ok(bytes) => Ok(Reply::Hex(bytes)),
+        Err(fault) => Err(fault),
+    }
+}
+
+/// The soups of a store.
+pub(crate) fn soup_rows(found: Result<SoupRows, Fault>) -> Result<Reply, Fault>
+    ensures { HandsOn (λ rows. plain.Reply.soups (map soup_row rows)) found result }
+{
+    match found {
+        Ok(rows) => Ok(Reply::Soups(rows)),
+        Err(fault) => Err(fault),
+    }
+}
+
+/// The indexes of a soup.
+pub(crate) fn spec_rows(found: Result<SpecRows, Fault>) -> Result<Reply, Fault>
+    ensures { HandsOn (λ specs. plain.Reply.indexes specs) found result }
+{
+    match found {
+        Ok(specs) => Ok(Reply::Indexes(specs)),
+        Err(fault) => Err(fault),
+    }
+}
+
+/// The tags declaration of a soup.
+pub(crate) fn tag_row(found: Result<Option<TagTable>, Fault>) -> Result<Reply, Fault>
+    ensures { HandsOn (λ table. plain.Reply.tags table) found result }
+{
+    match found {
+        Ok(table) => Ok(Reply::Tags(TagRow { table })),
+        Err(fault) => Err(fault),
+    }
+}
+
+/// The alias of the entry of this id, by the signatures of its store and soup.
+pub(crate) fn alias_of(found: Result<(Sig, Sig), Fault>, uid: Uid) -> Result<Reply, Fault>
+    ensures { HandsOn (λ x. plain.Reply.alias x.0 x.1 uid) found result }
+{
+    match found {
+        Ok((store, soup)) => Ok(Reply::Alias(Alias { store, soup, uid })),
+        Err(fault) => Err(fault),
+    }
+}
+
+/// Where the entry of an alias is, or that there is none.
+pub(crate) fn place(found: Result<Option<(Unit, Name, Uid)>, Fault>) -> Result<Reply, Fault>
+    ensures { HandsOn (λ spot. or_nil (λ x. plain.Reply.where_is x.0 x.1 x.2) spot) found result }
+{
+    match found {
+        Ok(Some((unit, soup, uid))) => Ok(Reply::Where(unit, soup, uid)),
+        Ok(None) => Ok(Reply::Nil),
+        Err(fault) => Err(fault),
+    }
+}
 
 /// What a cursor shows.
 pub(crate) fn shown(found: Result<Shown, Fault>) -> Result<Reply, Fault>
-    ensures answered { (w v : World) (c : IsCommand) → Answers w v c shown_reply found → Answers w v c said result }
-    ensures cause { (old new : Outside) → IfErr found (λ fault. HasFaultCause fault old new) → IfErr result (λ fault. HasFaultCause fault old new) }
+    ensures { HandsOn shown_reply found result }
 {
     match found {
         Ok(shown) => Ok(shown_reply(shown)),
@@ -35,47 +167,13 @@ fn shown_reply(shown: Shown) -> Reply
 }
 
 /// The side of the hits on which a cursor stands.
-pub(crate) fn sided(side: Result<Side, Fault>) -> Result<Reply, Fault>
-    ensures answered { (w v : World) (c : IsCommand) → Answers w v c side_reply side → Answers w v c said result }
-    ensures cause { (old new : Outside) → IfErr side (λ fault. HasFaultCause fault old new) → IfErr result (λ fault. HasFaultCause fault old new) }
+pub(crate) fn sided(found: Result<Side, Fault>) -> Result<Reply, Fault>
+    ensures { HandsOn side_reply found result }
 {
-    match side {
+    match found {
         Ok(Side::Begin) => Ok(Reply::Begin),
         Ok(Side::End) => Ok(Reply::End),
         Ok(Side::Nil) => Ok(Reply::Nil),
-        Err(fault) => Err(fault),
-    }
-}
-
-/// The number of a cursor that was opened.
-pub(crate) fn opened(cursor: Result<u8, Fault>) -> Result<Reply, Fault>
-    ensures answered { (w v : World) (c : IsCommand) → Answers w v c (λ n. plain.Reply.number n) cursor → Answers w v c said result }
-    ensures cause { (old new : Outside) → IfErr cursor (λ fault. HasFaultCause fault old new) → IfErr result (λ fault. HasFaultCause fault old new) }
-{
-    match cursor {
-        Ok(cursor) => Ok(Reply::Number(u32::from(cursor))),
-        Err(fault) => Err(fault),
-    }
-}
-
-/// How many hits there are.
-pub(crate) fn counted(count: Result<u32, Fault>) -> Result<Reply, Fault>
-    ensures answered { (w v : World) (c : IsCommand) → Answers w v c (λ n. plain.Reply.number n) count → Answers w v c said result }
-    ensures cause { (old new : Outside) → IfErr count (λ fault. HasFaultCause fault old new) → IfErr result (λ fault. HasFaultCause fault old new) }
-{
-    match count {
-        Ok(count) => Ok(Reply::Number(count)),
-        Err(fault) => Err(fault),
-    }
-}
-
-/// That a cursor was closed.
-pub(crate) fn closed(done: Result<(), Fault>) -> Result<Reply, Fault>
-    ensures answered { (w v : World) (c : IsCommand) → Answers w v c (λ _. plain.Reply.done) done → Answers w v c said result }
-    ensures cause { (old new : Outside) → IfErr done (λ fault. HasFaultCause fault old new) → IfErr result (λ fault. HasFaultCause fault old new) }
-{
-    match done {
-        Ok(()) => Ok(Reply::Done),
         Err(fault) => Err(fault),
     }
 }

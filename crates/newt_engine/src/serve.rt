@@ -39,7 +39,10 @@ impl<C: Card> World<C> {
         ensures device { uses_device command ≡ false → IfErr result (λ fault. NoDevice fault) }
     {
         if is_on_cursor(&command) {
-            self.obey_on_cursor(host, &command)
+            let served = self.obey_on_cursor(host, &command);
+            // (as one call, and not part by part here)
+            drop(command);
+            served
         } else {
             self.obey_and_settle(host, command)
         }
@@ -86,7 +89,10 @@ impl<C: Card> World<C> {
     {
         match settle(&mut self.units, &mut self.desk, host) {
             Ok(()) => Ok(reply),
-            Err(stop) => Err(Fault::Stop(stop)),
+            Err(stop) => {
+                drop(reply);
+                Err(Fault::Stop(stop))
+            }
         }
     }
 }

@@ -13,6 +13,7 @@ ghost use Rattle.newt_engine.specs.Bounds.{CommandCosts};
 ghost use Rattle.newt_engine.specs.Ends.{takes_memory, uses_device};
 ghost use Rattle.newt_engine.specs.Groups.{on_entry, on_graph};
 
+use crate::replies::{done, mounted, numbered};
 use crate::world::World;
 use newt_cardstore::{Card, Fault};
 use newt_host::Host;
@@ -43,32 +44,18 @@ impl<C: Card> World<C> {
     {
         let World { units, .. } = self;
         match command {
-            Command::Format(unit, name, sig) => {
-                units.format(host, *unit, name, *sig)?;
-                Ok(Reply::Done)
-            }
-            Command::Mount(unit) => {
-                let (sig, name) = units.mount(host, *unit)?;
-                Ok(Reply::Store(sig, name))
-            }
-            Command::Soup(unit, name) => Ok(Reply::Number(newt_commands::soup(
-                units, host, *unit, name,
-            )?)),
-            Command::Drop(unit, name) => {
-                newt_commands::drop_soup(units, host, *unit, name)?;
-                Ok(Reply::Done)
-            }
+            Command::Format(unit, name, sig) => done(units.format(host, *unit, name, *sig)),
+            Command::Mount(unit) => mounted(units.mount(host, *unit)),
+            Command::Soup(unit, name) => numbered(newt_commands::soup(units, host, *unit, name)),
+            Command::Drop(unit, name) => done(newt_commands::drop_soup(units, host, *unit, name)),
             Command::Index(unit, name, parts) => {
-                newt_commands::index(units, host, *unit, name, parts)?;
-                Ok(Reply::Done)
+                done(newt_commands::index(units, host, *unit, name, parts))
             }
             Command::Unindex(unit, name, paths) => {
-                newt_commands::unindex(units, host, *unit, name, paths)?;
-                Ok(Reply::Done)
+                done(newt_commands::unindex(units, host, *unit, name, paths))
             }
             Command::SetTags(unit, name, path, symbols) => {
-                newt_commands::set_tags(units, host, *unit, name, path, symbols)?;
-                Ok(Reply::Done)
+                done(newt_commands::set_tags(units, host, *unit, name, path, symbols))
             }
             _ => self.obey_in_memory(command),
         }

@@ -14,6 +14,12 @@ use Rattle.newt_engine.proofs.world.World.apply.Goals as goal
 pub returns-in-Ok-clause-refused : goal.returns-in-Ok-clause-refused
 returns-in-Ok-clause-refused g c t r is = refusal_stays _ _ c.args.command r (Ok c.in-Ok.reply) (c.in-Ok.ensures.answered t) is
 
+pub returns-in-Err-Refused-clause-answered : goal.returns-in-Err-Refused-clause-answered
+returns-in-Err-Refused-clause-answered g c t =
+    let w = world_with g.C.Card.reads c.args.self.now.units c.args.self.now.desk (g.H.Host.outside c.args.host.now) in
+    let v = world_with g.C.Card.reads c.serve.new.self.units c.serve.new.self.desk (g.H.Host.outside c.serve.new.host) in
+    subst (λ (f : Fault). Answers w v c.args.command said (Err f)) c.in-Err-Refused.field-0-is (c.in-Err-Refused.ensures.answered t)
+
 pub returns-in-Err-Refused-clause-refused : goal.returns-in-Err-Refused-clause-refused
 returns-in-Err-Refused-clause-refused g c t r is =
     let w = world_with g.C.Card.reads c.args.self.now.units c.args.self.now.desk (g.H.Host.outside c.args.host.now) in

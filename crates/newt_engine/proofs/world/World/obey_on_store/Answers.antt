@@ -1,34 +1,126 @@
 -- The units do it.
-use Rattle.std.proofs.Common.{arith, ℕ, List, refl}
-use Rattle.std.proofs.lemmas.Result.{err_from_is_err_and}
+use Rattle.std.proofs.Common.{arith, ap, refl, sym, ◌∙◌}
 use Rattle.newt_host.proofs.Outside.{OnDevices-refl}
-use Rattle.newt_spec_world.specs.Reply.{Reply as plain}
-use Rattle.newt_engine.specs.Laws.{laws_of}
+use Rattle.newt_spec_graph.proofs.Lists.{both-ways}
 use Rattle.newt_units.specs.Stands.{Eight}
-use Rattle.newt_engine.proofs.Costing.{done_costs, fault_costs, format_costs, goes_back, still_costs}
-use Rattle.newt_engine.proofs.Handed.{handed, has_cause, quiet, told_stands}
+use Rattle.newt_engine.specs.Ends.{takes_memory, uses_device}
+use Rattle.newt_engine.specs.Laws.{laws_of}
+use Rattle.newt_engine.proofs.Costing.{costs_on, format_costs, still_costs}
+use Rattle.newt_engine.proofs.Groups.{no_device}
+use Rattle.newt_engine.proofs.Handed.{answered_on, err_on, goes_back, has_cause, moments_same, quiet, told_stands}
 use Rattle.newt_engine.proofs.world.World.obey_on_store.Goals as goal
 
-pub returns-in_err-format-in-Format-clause-answered : goal.returns-in_err-format-in-Format-clause-answered
-returns-in_err-format-in-Format-clause-answered g c t = handed {T = Unit {0}} _ _ c.args.command.now _ (λ _. plain.done) _ c.in-Format.is (c.in_err-format-in-Format.ensures.answered t) _ (err_from_is_err_and c.from_residual.result c.from_residual.ensures.1)
+pub returns-in-Format : goal.returns-in-Format
+returns-in-Format g c =
+    let call = c.format.ensures in
+    let on = c.done.ensures in record {
+      stands = λ goes. call.stands (goes_back on goes);
+      answered = λ t. answered_on on _ _ c.in-Format.is (call.answered t);
+      moments = λ t. moments_same g.C.Card.reads _ _ _ c.args.command.now _ c.in-Format.is (call.moments t);
+      desk = refl;
+      costs = λ t. format_costs c.in-Format.is (λ goes. call.open_after t (goes_back on goes));
+      alone = call.alone;
+      cause = err_on on _ call.cause;
+      ends = λ none. absurd (both-ways (sym none ∙ ap takes_memory c.in-Format.is));
+      device = λ none. absurd (both-ways (sym none ∙ ap uses_device c.in-Format.is));
+    }
 
-pub returns-in_err-sig-in-Mount-clause-answered : goal.returns-in_err-sig-in-Mount-clause-answered
-returns-in_err-sig-in-Mount-clause-answered g c t = handed {T = ℕ × List ℕ} _ _ c.args.command.now _ (λ x. plain.store x.0 x.1) _ c.in-Mount.is (c.in_err-sig-in-Mount.ensures.answered t) _ (err_from_is_err_and c.from_residual-in_err-sig-in-Mount.result c.from_residual-in_err-sig-in-Mount.ensures.1)
+pub returns-in-Mount : goal.returns-in-Mount
+returns-in-Mount g c =
+    let call = c.mount.ensures in
+    let on = c.mounted.ensures in record {
+      stands = λ goes. call.stands (goes_back on goes);
+      answered = λ t. answered_on on _ _ c.in-Mount.is (call.answered t);
+      moments = λ t. moments_same g.C.Card.reads _ _ _ c.args.command.now _ c.in-Mount.is (call.moments t);
+      desk = refl;
+      costs = λ t. costs_on on c.in-Mount.is (call.costs t);
+      alone = call.alone;
+      cause = err_on on _ call.cause;
+      ends = λ none. absurd (both-ways (sym none ∙ ap takes_memory c.in-Mount.is));
+      device = λ none. absurd (both-ways (sym none ∙ ap uses_device c.in-Mount.is));
+    }
 
-pub returns-in_err-soup-in-Soup-clause-answered : goal.returns-in_err-soup-in-Soup-clause-answered
-returns-in_err-soup-in-Soup-clause-answered g c t = handed {T = ℕ} _ _ c.args.command.now _ (λ n. plain.number n) _ c.in-Soup.is (c.in_err-soup-in-Soup.ensures.answered t) _ (err_from_is_err_and c.from_residual-in_err-soup-in-Soup.result c.from_residual-in_err-soup-in-Soup.ensures.1)
+pub returns-in-Soup : goal.returns-in-Soup
+returns-in-Soup g c =
+    let call = c.soup.ensures in
+    let on = c.numbered.ensures in record {
+      stands = λ goes. call.stands (goes_back on goes);
+      answered = λ t. answered_on on _ _ c.in-Soup.is (call.answered t);
+      moments = λ t. moments_same g.C.Card.reads _ _ _ c.args.command.now _ c.in-Soup.is (call.moments t);
+      desk = refl;
+      costs = λ t. costs_on on c.in-Soup.is (call.costs t);
+      alone = call.alone;
+      cause = err_on on _ call.cause;
+      ends = λ none. absurd (both-ways (sym none ∙ ap takes_memory c.in-Soup.is));
+      device = λ none. absurd (both-ways (sym none ∙ ap uses_device c.in-Soup.is));
+    }
 
-pub returns-in_err-drop_soup-in-Drop-clause-answered : goal.returns-in_err-drop_soup-in-Drop-clause-answered
-returns-in_err-drop_soup-in-Drop-clause-answered g c t = handed {T = Unit {0}} _ _ c.args.command.now _ (λ _. plain.done) _ c.in-Drop.is (c.in_err-drop_soup-in-Drop.ensures.answered t) _ (err_from_is_err_and c.from_residual-in_err-drop_soup-in-Drop.result c.from_residual-in_err-drop_soup-in-Drop.ensures.1)
+pub returns-in-Drop : goal.returns-in-Drop
+returns-in-Drop g c =
+    let call = c.drop_soup.ensures in
+    let on = c.done-in-Drop.ensures in record {
+      stands = λ goes. call.stands (goes_back on goes);
+      answered = λ t. answered_on on _ _ c.in-Drop.is (call.answered t);
+      moments = λ t. moments_same g.C.Card.reads _ _ _ c.args.command.now _ c.in-Drop.is (call.moments t);
+      desk = refl;
+      costs = λ t. costs_on on c.in-Drop.is (call.costs t);
+      alone = call.alone;
+      cause = err_on on _ call.cause;
+      ends = λ none. absurd (both-ways (sym none ∙ ap takes_memory c.in-Drop.is));
+      device = λ none. absurd (both-ways (sym none ∙ ap uses_device c.in-Drop.is));
+    }
 
-pub returns-in_err-index-in-Index-clause-answered : goal.returns-in_err-index-in-Index-clause-answered
-returns-in_err-index-in-Index-clause-answered g c t = handed {T = Unit {0}} _ _ c.args.command.now _ (λ _. plain.done) _ c.in-Index.is (c.in_err-index-in-Index.ensures.answered t) _ (err_from_is_err_and c.from_residual-in_err-index-in-Index.result c.from_residual-in_err-index-in-Index.ensures.1)
+pub returns-in-Index : goal.returns-in-Index
+returns-in-Index g c =
+    let call = c.index.ensures in
+    let on = c.done-in-Index.ensures in record {
+      stands = λ goes. call.stands (goes_back on goes);
+      answered = λ t. answered_on on _ _ c.in-Index.is (call.answered t);
+      moments = λ t. moments_same g.C.Card.reads _ _ _ c.args.command.now _ c.in-Index.is (call.moments t);
+      desk = refl;
+      costs = λ t. costs_on on c.in-Index.is (call.costs t);
+      alone = call.alone;
+      cause = err_on on _ call.cause;
+      ends = λ none. absurd (both-ways (sym none ∙ ap takes_memory c.in-Index.is));
+      device = λ none. absurd (both-ways (sym none ∙ ap uses_device c.in-Index.is));
+    }
 
-pub returns-in_err-unindex-in-Unindex-clause-answered : goal.returns-in_err-unindex-in-Unindex-clause-answered
-returns-in_err-unindex-in-Unindex-clause-answered g c t = handed {T = Unit {0}} _ _ c.args.command.now _ (λ _. plain.done) _ c.in-Unindex.is (c.in_err-unindex-in-Unindex.ensures.answered t) _ (err_from_is_err_and c.from_residual-in_err-unindex-in-Unindex.result c.from_residual-in_err-unindex-in-Unindex.ensures.1)
+pub returns-in-Unindex : goal.returns-in-Unindex
+returns-in-Unindex g c =
+    let call = c.unindex.ensures in
+    let on = c.done-in-Unindex.ensures in record {
+      stands = λ goes. call.stands (goes_back on goes);
+      answered = λ t. answered_on on _ _ c.in-Unindex.is (call.answered t);
+      moments = λ t. moments_same g.C.Card.reads _ _ _ c.args.command.now _ c.in-Unindex.is (call.moments t);
+      desk = refl;
+      costs = λ t. costs_on on c.in-Unindex.is (call.costs t);
+      alone = call.alone;
+      cause = err_on on _ call.cause;
+      ends = λ none. absurd (both-ways (sym none ∙ ap takes_memory c.in-Unindex.is));
+      device = λ none. absurd (both-ways (sym none ∙ ap uses_device c.in-Unindex.is));
+    }
 
-pub returns-in_err-set_tags-in-SetTags-clause-answered : goal.returns-in_err-set_tags-in-SetTags-clause-answered
-returns-in_err-set_tags-in-SetTags-clause-answered g c t = handed {T = Unit {0}} _ _ c.args.command.now _ (λ _. plain.done) _ c.in-SetTags.is (c.in_err-set_tags-in-SetTags.ensures.answered t) _ (err_from_is_err_and c.from_residual-in_err-set_tags-in-SetTags.result c.from_residual-in_err-set_tags-in-SetTags.ensures.1)
+pub returns-in-SetTags : goal.returns-in-SetTags
+returns-in-SetTags g c =
+    let call = c.set_tags.ensures in
+    let on = c.done-in-SetTags.ensures in record {
+      stands = λ goes. call.stands (goes_back on goes);
+      answered = λ t. answered_on on _ _ c.in-SetTags.is (call.answered t);
+      moments = λ t. moments_same g.C.Card.reads _ _ _ c.args.command.now _ c.in-SetTags.is (call.moments t);
+      desk = refl;
+      costs = λ t. costs_on on c.in-SetTags.is (call.costs t);
+      alone = call.alone;
+      cause = err_on on _ call.cause;
+      ends = λ none. absurd (both-ways (sym none ∙ ap takes_memory c.in-SetTags.is));
+      device = λ none. absurd (both-ways (sym none ∙ ap uses_device c.in-SetTags.is));
+    }
+
+pub obey_in_memory-requires : goal.obey_in_memory-requires
+obey_in_memory-requires g c =
+    let d = c.in_default in record {
+      no_graph = c.requires.no_graph;
+      no_device = no_device c.args.command.now c.requires.no_cursor c.requires.no_graph c.requires.no_entry d.not-Format d.not-Mount d.not-Soup d.not-Drop d.not-Index d.not-Unindex d.not-SetTags;
+    }
 
 pub returns-in_default : goal.returns-in_default
 returns-in_default g c =
@@ -43,45 +135,3 @@ returns-in_default g c =
       ends = c.obey_in_memory.ensures.ends;
       device = λ uses_none. c.obey_in_memory.ensures.device;
     }
-
-pub returns-in_err-format-in-Format-clause-costs : goal.returns-in_err-format-in-Format-clause-costs
-returns-in_err-format-in-Format-clause-costs g c t = format_costs c.in-Format.is (λ goes. c.in_err-format-in-Format.ensures.open_after t (goes_back (Unit {0}) _ _ (err_from_is_err_and c.from_residual.result c.from_residual.ensures.1) goes))
-
-pub returns-in_ok-format-in-Format-clause-costs : goal.returns-in_ok-format-in-Format-clause-costs
-returns-in_ok-format-in-Format-clause-costs g c t = format_costs c.in-Format.is (λ goes. c.in_ok-format-in-Format.ensures.open_after t tt)
-
-pub returns-in_err-sig-in-Mount-clause-costs : goal.returns-in_err-sig-in-Mount-clause-costs
-returns-in_err-sig-in-Mount-clause-costs g c t = fault_costs c.in-Mount.is (c.in_err-sig-in-Mount.ensures.costs t) (err_from_is_err_and c.from_residual-in_err-sig-in-Mount.result c.from_residual-in_err-sig-in-Mount.ensures.1)
-
-pub returns-in_ok-sig-in-Mount-clause-costs : goal.returns-in_ok-sig-in-Mount-clause-costs
-returns-in_ok-sig-in-Mount-clause-costs g c t = done_costs c.in-Mount.is (c.in_ok-sig-in-Mount.ensures.costs t)
-
-pub returns-in_err-soup-in-Soup-clause-costs : goal.returns-in_err-soup-in-Soup-clause-costs
-returns-in_err-soup-in-Soup-clause-costs g c t = fault_costs c.in-Soup.is (c.in_err-soup-in-Soup.ensures.costs t) (err_from_is_err_and c.from_residual-in_err-soup-in-Soup.result c.from_residual-in_err-soup-in-Soup.ensures.1)
-
-pub returns-in_ok-soup-in-Soup-clause-costs : goal.returns-in_ok-soup-in-Soup-clause-costs
-returns-in_ok-soup-in-Soup-clause-costs g c t = done_costs c.in-Soup.is (c.in_ok-soup-in-Soup.ensures.costs t)
-
-pub returns-in_err-drop_soup-in-Drop-clause-costs : goal.returns-in_err-drop_soup-in-Drop-clause-costs
-returns-in_err-drop_soup-in-Drop-clause-costs g c t = fault_costs c.in-Drop.is (c.in_err-drop_soup-in-Drop.ensures.costs t) (err_from_is_err_and c.from_residual-in_err-drop_soup-in-Drop.result c.from_residual-in_err-drop_soup-in-Drop.ensures.1)
-
-pub returns-in_ok-drop_soup-in-Drop-clause-costs : goal.returns-in_ok-drop_soup-in-Drop-clause-costs
-returns-in_ok-drop_soup-in-Drop-clause-costs g c t = done_costs c.in-Drop.is (c.in_ok-drop_soup-in-Drop.ensures.costs t)
-
-pub returns-in_err-index-in-Index-clause-costs : goal.returns-in_err-index-in-Index-clause-costs
-returns-in_err-index-in-Index-clause-costs g c t = fault_costs c.in-Index.is (c.in_err-index-in-Index.ensures.costs t) (err_from_is_err_and c.from_residual-in_err-index-in-Index.result c.from_residual-in_err-index-in-Index.ensures.1)
-
-pub returns-in_ok-index-in-Index-clause-costs : goal.returns-in_ok-index-in-Index-clause-costs
-returns-in_ok-index-in-Index-clause-costs g c t = done_costs c.in-Index.is (c.in_ok-index-in-Index.ensures.costs t)
-
-pub returns-in_err-unindex-in-Unindex-clause-costs : goal.returns-in_err-unindex-in-Unindex-clause-costs
-returns-in_err-unindex-in-Unindex-clause-costs g c t = fault_costs c.in-Unindex.is (c.in_err-unindex-in-Unindex.ensures.costs t) (err_from_is_err_and c.from_residual-in_err-unindex-in-Unindex.result c.from_residual-in_err-unindex-in-Unindex.ensures.1)
-
-pub returns-in_ok-unindex-in-Unindex-clause-costs : goal.returns-in_ok-unindex-in-Unindex-clause-costs
-returns-in_ok-unindex-in-Unindex-clause-costs g c t = done_costs c.in-Unindex.is (c.in_ok-unindex-in-Unindex.ensures.costs t)
-
-pub returns-in_err-set_tags-in-SetTags-clause-costs : goal.returns-in_err-set_tags-in-SetTags-clause-costs
-returns-in_err-set_tags-in-SetTags-clause-costs g c t = fault_costs c.in-SetTags.is (c.in_err-set_tags-in-SetTags.ensures.costs t) (err_from_is_err_and c.from_residual-in_err-set_tags-in-SetTags.result c.from_residual-in_err-set_tags-in-SetTags.ensures.1)
-
-pub returns-in_ok-set_tags-in-SetTags-clause-costs : goal.returns-in_ok-set_tags-in-SetTags-clause-costs
-returns-in_ok-set_tags-in-SetTags-clause-costs g c t = done_costs c.in-SetTags.is (c.in_ok-set_tags-in-SetTags.ensures.costs t)
