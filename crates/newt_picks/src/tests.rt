@@ -3,9 +3,9 @@ ghost use Rattle.std.specs.Prelude.{IfOk, IsSome};
 ghost use Rattle.newt_memhost.specs.Outside.{outside_of};
 
 use crate::steps::{CARD, erase, host_of, print, read, sync, take};
-use newt_host::{Failed, Host, Unit};
+use newt_host::{Host, Unit};
 use newt_memhost::{MemHost, Pick};
-use std::alloc::Global;
+use std::alloc::{AllocError, Global};
 use std::process::Abort;
 use std::test::Fail;
 
@@ -20,17 +20,30 @@ struct Row {
     images: [[u8; 4]; 4],
 }
 
-// A card of two blocks, and an input of two bytes; the calls 3 and 7 are to fail.
+// The bytes of two blocks.
+fn two_blocks(alloc: Global) -> Result<Vec<u8>, AllocError> {
+    let mut bytes = Vec::new(alloc);
+    bytes.resize(8192, 7)?;
+    Ok(bytes)
+}
+
+// An input of two bytes; the calls 3 and 7 are to fail.
+fn prepare(host: &mut MemHost) -> Result<(), AllocError>
+    requires { IsSome ((outside_of host.old).card 0) }
+    ensures { IsSome ((outside_of host.new).card 0) }
+{
+    host.input(b"ab")?;
+    host.fail(3)?;
+    host.fail(7)
+}
+
+// A card of two blocks, prepared.
 fn prepared(rt: &impl Abort, alloc: Global) -> Result<MemHost, Fail>
     ensures { IfOk result (λ host. IsSome ((outside_of host).card 0)) }
 {
-    let mut bytes = Vec::new(alloc);
-    bytes.resize(8192, 7)?;
-    let mut host = host_of(rt, alloc, &bytes)?;
+    let mut host = host_of(rt, alloc, &two_blocks(alloc)?)?;
     assert!(rt; host.blocks(CARD) == 2);
-    host.input(b"ab")?;
-    host.fail(3)?;
-    host.fail(7)?;
+    prepare(&mut host)?;
     Ok(host)
 }
 
@@ -39,11 +52,11 @@ fn first_calls(rt: &impl Abort, host: &mut MemHost)
     requires { IsSome ((outside_of host.old).card 0) }
     ensures { IsSome ((outside_of host.new).card 0) }
 {
-    assert_eq!(rt; take(host), Ok(2));
-    assert_eq!(rt; erase(rt, host, 0), Ok(()));
-    assert_eq!(rt; print(host, b"x"), Ok(1));
-    assert_eq!(rt; erase(rt, host, 1), Err(Failed));
-    assert_eq!(rt; sync(host), Ok(()));
+    assert!(rt; take(host) == Ok(2));
+    assert!(rt; erase(rt, host, 0).is_ok());
+    assert!(rt; print(host, b"x") == Ok(1));
+    assert!(rt; erase(rt, host, 1).is_err());
+    assert!(rt; sync(host).is_ok());
 }
 
 // The second block is erased, and is to be made sure of.
@@ -51,20 +64,28 @@ fn later_calls(rt: &impl Abort, host: &mut MemHost)
     requires { IsSome ((outside_of host.old).card 0) }
     ensures { IsSome ((outside_of host.new).card 0) }
 {
-    assert_eq!(rt; read(rt, host, 8000), Ok(()));
-    assert_eq!(rt; erase(rt, host, 1), Ok(()));
-    assert_eq!(rt; sync(host), Err(Failed));
-    assert_eq!(rt; print(host, b"yz"), Ok(2));
+    assert!(rt; read(rt, host, 8000).is_ok());
+    assert!(rt; erase(rt, host, 1).is_ok());
+    assert!(rt; sync(host).is_err());
+    assert!(rt; print(host, b"yz") == Ok(2));
+}
+
+// The byte that stands at both of these places.
+fn byte_at(rt: &impl Abort, image: &[u8], first: usize, last: usize) -> u8 {
+    assert!(rt; first < image.len() && last < image.len());
+    assert!(rt; image[first] == image[last]);
+    image[first]
 }
 
 // The byte of each half of both blocks, which is the same at both of its ends.
 fn shown(rt: &impl Abort, image: &[u8]) -> [u8; 4] {
     assert!(rt; image.len() == 8192);
-    assert_eq!(rt; image[0], image[2047]);
-    assert_eq!(rt; image[2048], image[4095]);
-    assert_eq!(rt; image[4096], image[6143]);
-    assert_eq!(rt; image[6144], image[8191]);
-    [image[0], image[2048], image[4096], image[6144]]
+    [
+        byte_at(rt, image, 0, 2047),
+        byte_at(rt, image, 2048, 4095),
+        byte_at(rt, image, 4096, 6143),
+        byte_at(rt, image, 6144, 8191),
+    ]
 }
 
 // One call is told as its row says.
@@ -72,12 +93,12 @@ fn assert_row(rt: &impl Abort, host: &MemHost, call: u64, row: &Row) -> Result<(
     requires { IsSome ((outside_of host.now).card 0) }
 {
     assert!(rt; call < host.calls());
-    assert_eq!(rt; host.unit_of(call), row.unit, "at {call}");
-    assert_eq!(rt; host.out_before(call), row.before, "at {call}");
+    assert!(rt; host.unit_of(call) == row.unit, "at {call}");
+    assert!(rt; host.out_before(call) == row.before, "at {call}");
     for (pick, image) in PICKS.iter().zip(row.images) {
         let crash = host.images(CARD, call, *pick)?;
-        assert_eq!(rt; shown(rt, &crash.image), image, "at {call} {pick:?}");
-        assert_eq!(rt; crash.out, row.out, "at {call}");
+        assert!(rt; shown(rt, &crash.image) == image, "at {call} {pick:?}");
+        assert!(rt; crash.out == row.out, "at {call}");
     }
     Ok(())
 }
@@ -97,7 +118,7 @@ fn each_pick_at_each_call(rt: HostRuntime) -> Result<(), Fail> {
     let mut host = prepared(&rt, rt.alloc())?;
     first_calls(&rt, &mut host);
     later_calls(&rt, &mut host);
-    assert_eq!(rt; host.calls(), 9);
+    assert!(rt; host.calls() == 9);
     let none = [[7, 7, 7, 7]; 4];
     let first = [[7, 7, 7, 7], [255, 255, 7, 7], [255, 7, 7, 7], [9, 9, 7, 7]];
     let both = [[7, 7, 7, 7], [255, 255, 7, 7], [255, 7, 7, 7], [9, 9, 9, 9]];
