@@ -1,5 +1,5 @@
 // One card in memory, attached as unit 0, and the book on it.
-ghost use Rattle.std.specs.Prelude.{◌≡◌, true, IfOk, IsSome, IsTrue, vec_len};
+ghost use Rattle.std.specs.Prelude.{◌≡◌, ◌<◌, ◌^◌, true, length, IfOk, OnOk, IsSome, IsTrue, vec_len};
 ghost use Rattle.newt_host.specs.Moments.{IsDurable};
 ghost use Rattle.newt_memhost.specs.Outside.{outside_of};
 
@@ -15,6 +15,11 @@ pub(crate) const CARD: Unit = Unit(0);
 
 /// The pages of a book by their numbers, in order.
 pub(crate) type Pages = Vec<(u32, Page)>;
+
+/// What is wanted holds, at this place of a table or of a run.
+pub(crate) fn assert_at(rt: &impl Abort, holds: bool, at: &[u64]) {
+    assert!(rt; holds, "at {at:?}");
+}
 
 /// A host with one card of these bytes.
 pub(crate) fn host_of(rt: &impl Abort, alloc: Global, bytes: &[u8]) -> Result<MemHost, Fail>
@@ -71,6 +76,21 @@ pub(crate) fn fresh<P: PageBook>(
     P::format(alloc, &mut host, CARD, &Batch::new(alloc))?;
     assert!(rt; has_card(&host));
     host_of(rt, alloc, host.bytes(CARD))
+}
+
+/// Makes room for a batch, and commits it.
+pub(crate) fn committed<P: PageBook>(
+    host: &mut MemHost,
+    book: &mut P,
+    batch: &Batch,
+) -> Result<(), Fail>
+    requires book { P.stands true book.old (outside_of host.old) × (P.place book.old ≡ 0) }
+    requires few { length batch.now.puts < 2 ^ 32 }
+    ensures { OnOk result (P.stands true book.new (outside_of host.new) × (P.place book.new ≡ 0)) }
+{
+    book.reserve(batch.puts().len() as u32)?;
+    book.commit(host, batch)?;
+    Ok(())
 }
 
 /// The pages of a book.

@@ -4,7 +4,7 @@ ghost use Rattle.newt_books.specs.Changes.{AreAtRest, IsPlanned};
 ghost use Rattle.newt_memhost.specs.Outside.{outside_of};
 ghost use Rattle.newt_objects.specs.Held.{AreOf, held};
 
-use crate::card::{CARD, has_card, host_of, opened};
+use crate::card::{CARD, assert_at, has_card, host_of, opened};
 use crate::objects::text_from;
 use newt_memhost::MemHost;
 use newt_objects::Objects;
@@ -119,8 +119,8 @@ pub(crate) fn delete<P: PageBook>(
     carry_out(host, book, objects, &batch)
 }
 
-// The bytes of an object.
-fn bytes_of<P: PageBook>(
+/// The bytes of an object.
+pub(crate) fn bytes_of<P: PageBook>(
     rt: &impl Abort,
     host: &mut MemHost,
     book: &mut P,
@@ -153,15 +153,13 @@ pub(crate) fn assert_held<P: PageBook>(
     let mut from = 0;
     for (id, size) in want {
         let id = *id;
-        assert_eq!(rt; objects.next(from), Some(u32::from(id)));
-        assert_eq!(rt; objects.length(u32::from(id)), Some(*size));
-        assert!(rt;
-            bytes_of(rt, host, book, objects, u32::from(id))? == text_from(alloc, id, *size)?,
-            "{id}"
-        );
+        assert!(rt; objects.next(from) == Some(u32::from(id)));
+        assert!(rt; objects.length(u32::from(id)) == Some(*size));
+        let bytes = bytes_of(rt, host, book, objects, u32::from(id))?;
+        assert_at(rt, bytes == text_from(alloc, id, *size)?, &[u64::from(id)]);
         from = u32::from(id) + 1;
     }
-    assert_eq!(rt; objects.next(from), None);
+    assert!(rt; objects.next(from) == None);
     Ok(())
 }
 

@@ -1,7 +1,8 @@
 // Objects, their pages spelt by hand.
 ghost use Rattle.std.specs.Prelude.{◌≡◌, ◌≤◌, length, vec_len, IfOk};
 
-use crate::card::{CARD, fresh, has_card, host_of, opened};
+use crate::card::{CARD, committed, fresh, has_card, host_of, opened};
+use crate::changes::{bytes_of, scanned};
 use newt_objects::{Objects, ScanFault};
 use newt_pagebook::{Batch, Page, PageBook};
 use std::alloc::{AllocError, Global};
@@ -64,8 +65,7 @@ pub(crate) fn written<P: PageBook>(
 {
     let mut host = fresh::<P>(rt, alloc, blocks)?;
     let mut book: P = opened(rt, alloc, &mut host)?;
-    book.reserve(batch.puts().len() as u32)?;
-    book.commit(&mut host, batch)?;
+    committed(&mut host, &mut book, batch)?;
     assert!(rt; has_card(&host));
     Ok(host.bytes(CARD).to_vec(alloc)?)
 }
@@ -79,9 +79,8 @@ pub(crate) fn object_on<P: PageBook>(
 ) -> Result<Vec<u8>, Fail> {
     let mut host = host_of(rt, alloc, bytes)?;
     let mut book: P = opened(rt, alloc, &mut host)?;
-    let objects = Objects::scan(alloc, &mut host, &mut book)?;
-    assert!(rt; objects.length(id).is_some());
-    Ok(objects.read(&mut host, &mut book, id)?)
+    let objects = scanned(alloc, &mut host, &mut book)?;
+    bytes_of(rt, &mut host, &mut book, &objects, id)
 }
 
 /// Whether the pages on these bytes are objects.
@@ -95,7 +94,7 @@ pub(crate) fn are_objects<P: PageBook>(
     match Objects::scan(alloc, &mut host, &mut book) {
         Ok(_) => Ok(true),
         Err(fault) => {
-            assert_eq!(rt; fault, ScanFault::Bad);
+            assert!(rt; fault == ScanFault::Bad);
             Ok(false)
         }
     }

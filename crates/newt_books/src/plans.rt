@@ -1,6 +1,6 @@
 //! Objects by plans: what is put is read back, also when the card is opened anew.
 ghost use Rattle.std.specs.Prelude.{◌≡◌, ◌<◌, ◌^◌, ℕ, [], true, length, OnOk, IfOk};
-ghost use Rattle.newt_books.specs.Changes.{AreAtRest};
+ghost use Rattle.newt_books.specs.Changes.{AreAtRest, AreStill};
 ghost use Rattle.newt_host.specs.Outside.{Outside};
 ghost use Rattle.newt_memhost.specs.Outside.{outside_of};
 ghost use Rattle.newt_pagebook.specs.Book.{Numbers};
@@ -47,7 +47,7 @@ fn keeps<P: PageBook>(
     let mut book: P = opened(rt, alloc, &mut host)?;
     let mut objects = scanned(alloc, &mut host, &mut book)?;
     put_each(alloc, &mut host, &mut book, &mut objects, all)?;
-    assert_eq!(rt; book.live(), pages);
+    assert!(rt; book.live() == pages);
     assert_kept(rt, alloc, &mut host, &mut book, &objects, all)
 }
 
@@ -69,9 +69,9 @@ fn shortens<P: PageBook>(rt: &impl Abort, alloc: Global) -> Result<(), Fail> {
         &mut objects,
         &[(7, 1_200), (8, 501)],
     )?;
-    assert_eq!(rt; book.live(), 5);
+    assert!(rt; book.live() == 5);
     put_each(alloc, &mut host, &mut book, &mut objects, &[(7, 400)])?;
-    assert_eq!(rt; book.live(), 3);
+    assert!(rt; book.live() == 3);
     assert_kept(
         rt,
         alloc,
@@ -100,10 +100,10 @@ fn deletes<P: PageBook>(rt: &impl Abort, alloc: Global) -> Result<(), Fail> {
         &[(7, 1_200), (8, 501)],
     )?;
     delete(rt, alloc, &mut host, &mut book, &mut objects, 7)?;
-    assert_eq!(rt; book.next_page(0), Some(3));
+    assert!(rt; book.next_page(0) == Some(3));
     assert_kept(rt, alloc, &mut host, &mut book, &objects, &[(8, 501)])?;
     put_each(alloc, &mut host, &mut book, &mut objects, &[(9, 501)])?;
-    assert_eq!(rt; book.next_page(2), Some(3));
+    assert!(rt; book.next_page(2) == Some(3));
     assert_kept(
         rt,
         alloc,
@@ -119,19 +119,47 @@ fn a_deleted_object_is_gone(rt: HostRuntime) -> Result<(), Fail> {
     deletes::<PlainBook>(&rt, rt.alloc())
 }
 
+// Plans to put an object, and forgets the plan.
+fn put_and_forget(
+    alloc: Global,
+    objects: &mut Objects,
+    id: u32,
+    bytes: &[u8],
+) -> Result<(), AllocError>
+    requires none { objects.old.plans ≡ [] }
+    requires short { length bytes.now < 2 ^ 32 }
+    ensures { OnOk result (AreStill objects.old objects.new) }
+{
+    let _batch = put_plan(alloc, objects, id, bytes)?;
+    objects.forget();
+    Ok(())
+}
+
+// Plans to delete an object that is there, and forgets the plan.
+fn delete_and_forget(
+    rt: &impl Abort,
+    alloc: Global,
+    objects: &mut Objects,
+    id: u32,
+) -> Result<(), AllocError>
+    requires { objects.old.plans ≡ [] }
+    ensures { OnOk result (AreStill objects.old objects.new) }
+{
+    assert!(rt; objects.length(id).is_some());
+    let _batch = delete_plan(alloc, objects, id)?;
+    objects.forget();
+    Ok(())
+}
+
 // Plans to put an object anew, to put another, and to delete one, and forgets each plan.
 fn plan_and_forget(rt: &impl Abort, alloc: Global, objects: &mut Objects) -> Result<(), Fail>
     requires { objects.old.plans ≡ [] }
     ensures { OnOk result ((numbers : Numbers) (unit : ℕ) (outside : Outside) → AreAtRest objects.old numbers unit outside → AreAtRest objects.new numbers unit outside) }
 {
     let bytes = text(alloc, 400)?;
-    let _batch = put_plan(alloc, objects, 7, &bytes)?;
-    objects.forget();
-    let _batch = put_plan(alloc, objects, 9, &bytes)?;
-    objects.forget();
-    assert!(rt; objects.length(8).is_some());
-    let _batch = delete_plan(alloc, objects, 8)?;
-    objects.forget();
+    put_and_forget(alloc, objects, 7, &bytes)?;
+    put_and_forget(alloc, objects, 9, &bytes)?;
+    delete_and_forget(rt, alloc, objects, 8)?;
     Ok(())
 }
 
@@ -194,7 +222,11 @@ fn numbers_for(alloc: Global, size: u32) -> Result<Option<Vec<u32>>, AllocError>
 }
 
 fn put_numbers(alloc: Global, batch: &Batch) -> Result<Vec<u32>, AllocError> {
-    batch.puts().iter().map(|put| put.0).collect(alloc)
+    let mut numbers = Vec::new(alloc);
+    for put in batch.puts() {
+        numbers.push(put.0)?;
+    }
+    Ok(numbers)
 }
 
 #[test]
@@ -203,15 +235,12 @@ fn every_page_number_is_given(rt: HostRuntime) -> Result<(), Fail> {
     let Some(few) = numbers_for(alloc, 5_000)? else {
         panic!(&rt; "the object is not planned");
     };
-    assert_eq!(&rt;
-        few.as_slice(),
-        [5, 0, 1, 2, 3, 4, 6, 7, 8, 10, 11].as_slice()
-    );
+    assert!(&rt; few.as_slice() == [5, 0, 1, 2, 3, 4, 6, 7, 8, 10, 11].as_slice());
     let Some(all) = numbers_for(alloc, 65_534 * 500)? else {
         panic!(&rt; "the object is not planned");
     };
-    assert_eq!(&rt; all.len(), 65_535);
-    assert_eq!(&rt; all.last(), Some(&65_535));
+    assert!(&rt; all.len() == 65_535);
+    assert!(&rt; all.last() == Some(&65_535));
     assert!(&rt; numbers_for(alloc, 65_534 * 500 + 1)?.is_none());
     Ok(())
 }

@@ -4,7 +4,7 @@ ghost use Rattle.newt_books.specs.Changes.{AreAtRest};
 ghost use Rattle.newt_memhost.specs.Outside.{outside_of};
 ghost use Rattle.newt_objects.specs.Held.{held};
 
-use crate::card::{CARD, fresh, has_card, host_of, opened};
+use crate::card::{CARD, assert_at, fresh, has_card, host_of, opened};
 use crate::changes::{put, scanned};
 use crate::objects::{object_on, text_from};
 use newt_memhost::MemHost;
@@ -90,11 +90,8 @@ fn patch_all<P: PageBook>(
     for (at, count, pages) in PATCHES {
         assert!(rt; at as usize + count as usize <= want.len() && count < 10_000);
         let bytes = text_from(alloc, (at % 241) as u8, count)?;
-        assert_eq!(rt;
-            patch(alloc, host, book, objects, at, &bytes)?,
-            pages,
-            "{at}"
-        );
+        let puts = patch(alloc, host, book, objects, at, &bytes)?;
+        assert_at(rt, puts == pages, &[u64::from(at)]);
         want[at as usize..at as usize + count as usize].copy_from_slice(&bytes);
     }
     Ok(())
@@ -137,7 +134,11 @@ fn assert_read<P: PageBook>(
         let bytes = range(alloc, host, book, objects, at, len)?;
         let end = at as usize + len as usize;
         assert!(rt; end <= want.len());
-        assert!(rt; bytes.as_slice() == &want[at as usize..end], "{at}");
+        assert_at(
+            rt,
+            bytes.as_slice() == &want[at as usize..end],
+            &[u64::from(at)],
+        );
     }
     Ok(())
 }
@@ -156,7 +157,7 @@ fn assert_refused<P: PageBook>(
 {
     for (at, len) in PAST {
         match range(alloc, host, book, objects, at, len) {
-            Err(fault) => assert_eq!(rt; fault, RangeFault::Range, "{at}"),
+            Err(fault) => assert_at(rt, fault == RangeFault::Range, &[u64::from(at)]),
             Ok(_) => panic!(rt; "the range is read"),
         }
     }
@@ -190,11 +191,8 @@ fn patches<P: PageBook>(rt: &impl Abort, alloc: Global) -> Result<(), Fail> {
     patch_all(rt, alloc, &mut host, &mut book, &objects, &mut want)?;
     assert!(rt; has_card(&host));
     let bytes = host.bytes(CARD);
-    assert_eq!(rt; object_on::<P>(rt, alloc, bytes, 7)?, want);
-    assert_eq!(rt;
-        object_on::<P>(rt, alloc, bytes, 8)?,
-        text_from(alloc, 8, 1_200)?
-    );
+    assert!(rt; object_on::<P>(rt, alloc, bytes, 7)? == want);
+    assert!(rt; object_on::<P>(rt, alloc, bytes, 8)? == text_from(alloc, 8, 1_200)?);
     assert_ranges::<P>(rt, alloc, bytes, &want)
 }
 

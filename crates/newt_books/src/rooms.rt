@@ -43,9 +43,9 @@ fn refuse_room<P: PageBook>(
     let at_hand = first_page(rt, host, book)?;
     let from = host.calls();
     assert!(rt; book.reserve(u32::MAX).is_err());
-    assert_eq!(rt; host.calls(), from);
+    assert!(rt; host.calls() == from);
     assert!(rt; *book.page() == at_hand);
-    assert_eq!(rt; pages_in(alloc, host, book)?, before);
+    assert!(rt; pages_in(alloc, host, book)? == before);
     Ok(())
 }
 
@@ -65,7 +65,7 @@ fn make_room<P: PageBook>(
     match book.reserve(puts) {
         Ok(()) => Ok(false),
         Err(_) => {
-            assert_eq!(rt; pages_in(alloc, host, book)?, before);
+            assert!(rt; pages_in(alloc, host, book)? == before);
             book.reserve(puts)?;
             Ok(true)
         }
@@ -87,7 +87,7 @@ fn commit<P: PageBook>(
     let before = pages_in(alloc, host, book)?;
     let after = changed(alloc, &before, batch)?;
     book.commit(host, batch)?;
-    assert_eq!(rt; pages_in(alloc, host, book)?, after);
+    assert!(rt; pages_in(alloc, host, book)? == after);
     Ok(())
 }
 
@@ -110,7 +110,7 @@ fn goes_on<P: PageBook>(rt: &impl Abort, alloc: Global) -> Result<u32, Fail> {
     }
     let held = pages_in(alloc, &mut host, &mut book)?;
     assert!(rt; has_card(&host));
-    assert_eq!(rt; pages_on::<P>(rt, alloc, host.bytes(CARD))?, held);
+    assert!(rt; pages_on::<P>(rt, alloc, host.bytes(CARD))? == held);
     Ok(refused)
 }
 

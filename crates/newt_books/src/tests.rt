@@ -3,7 +3,7 @@ ghost use Rattle.std.specs.Prelude.{◌≡◌, ◌≤◌, true, length, OnOk};
 ghost use Rattle.newt_memhost.specs.Outside.{outside_of};
 
 use crate::batches::{batch_of, changed};
-use crate::card::{CARD, fresh, has_card, opened, pages_in};
+use crate::card::{CARD, assert_at, fresh, has_card, opened, pages_in};
 use crate::crashes::assert_either;
 use crate::objects::{are_objects, object_on, parts_of, text, written};
 use newt_host::Host;
@@ -40,7 +40,7 @@ fn commit<P: PageBook>(
     let from = host.calls();
     book.commit(host, batch)?;
     assert_either::<P>(rt, alloc, host, from, &before, &after)?;
-    assert_eq!(rt; pages_in(alloc, host, book)?, after);
+    assert!(rt; pages_in(alloc, host, book)? == after);
     Ok(())
 }
 
@@ -63,8 +63,8 @@ fn refuse<P: PageBook>(
         Err(CommitFault::Full) => {}
         _ => panic!(rt; "the batch is not refused"),
     }
-    assert_eq!(rt; host.calls(), from);
-    assert_eq!(rt; pages_in(alloc, host, book)?, before);
+    assert!(rt; host.calls() == from);
+    assert!(rt; pages_in(alloc, host, book)? == before);
     Ok(())
 }
 
@@ -84,7 +84,7 @@ fn switches<P: PageBook>(rt: &impl Abort, alloc: Global) -> Result<(), Fail> {
         )?;
         votes.push(vote_of(rt, &host))?;
     }
-    assert_eq!(rt; votes.as_slice(), [0, 0, 0, 1, 1, 0, 0, 1, 1, 0].as_slice());
+    assert!(rt; votes.as_slice() == [0, 0, 0, 1, 1, 0, 0, 1, 1, 0].as_slice());
     Ok(())
 }
 
@@ -111,7 +111,7 @@ fn fills<P: PageBook>(rt: &impl Abort, alloc: Global) -> Result<(), Fail> {
         &mut book,
         &batch_of(alloc, 0, 0, 38, 2)?,
     )?;
-    assert_eq!(rt; book.live(), 38);
+    assert!(rt; book.live() == 38);
     refuse(
         rt,
         alloc,
@@ -126,7 +126,7 @@ fn fills<P: PageBook>(rt: &impl Abort, alloc: Global) -> Result<(), Fail> {
         &mut book,
         &batch_of(alloc, 0, 1, 38, 4)?,
     )?;
-    assert_eq!(rt; book.live(), 38);
+    assert!(rt; book.live() == 38);
     Ok(())
 }
 
@@ -147,7 +147,7 @@ fn reads<P: PageBook>(rt: &impl Abort, alloc: Global) -> Result<(), Fail> {
     ] {
         let batch = parts_of(alloc, 7, size, parts)?;
         let bytes = written::<P>(rt, alloc, blocks, &batch)?;
-        assert_eq!(rt; object_on::<P>(rt, alloc, &bytes, 7)?, text(alloc, size)?);
+        assert!(rt; object_on::<P>(rt, alloc, &bytes, 7)? == text(alloc, size)?);
     }
     Ok(())
 }
@@ -167,11 +167,8 @@ fn refuses<P: PageBook>(rt: &impl Abort, alloc: Global) -> Result<(), Fail> {
         (0, 2, false),
     ] {
         let bytes = written::<P>(rt, alloc, 13, &parts_of(alloc, 7, size, parts)?)?;
-        assert_eq!(rt;
-            are_objects::<P>(rt, alloc, &bytes)?,
-            want,
-            "{size} {parts}"
-        );
+        let are = are_objects::<P>(rt, alloc, &bytes)?;
+        assert_at(rt, are == want, &[u64::from(size), u64::from(parts)]);
     }
     Ok(())
 }

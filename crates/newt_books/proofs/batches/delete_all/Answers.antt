@@ -8,6 +8,9 @@ use Rattle.newt_books.proofs.batches.delete_all.Goals as goal
 pub delete-requires-clause-new : goal.delete-requires-clause-new
 delete-requires-clause-new c = c.loop-number.invariant.new c.loop-number.number (omega arith)
 
+pub returns-clause-new : goal.returns-clause-new
+returns-clause-new c = λ n above. c.loop-number.invariant.new n (omega (arith, above))
+
 pub loop-number-preserved : goal.loop-number-preserved
 loop-number-preserved c =
     let i = c.loop-number.invariant in

@@ -1,7 +1,16 @@
-use Rattle.std.proofs.Common.{refl}
+use Rattle.std.proofs.Common.{refl, ◌∙◌}
 use Rattle.newt_memhost.specs.Outside.{outside_of}
-use Rattle.newt_books.proofs.Carried.{still_at_rest}
+use Rattle.newt_books.proofs.Carried.{at_place, still_at_rest}
 use Rattle.newt_books.proofs.changes.bytes_of.Goals as goal
+
+pub read-requires-clause-objects : goal.read-requires-clause-objects
+read-requires-clause-objects g c = at_place c.args.objects.now (g.P.PageBook.numbers c.args.book.now) (g.P.PageBook.place c.args.book.now) (outside_of c.args.host.now) c.requires.book.1 c.requires.objects
+
+pub returns-in_err-read-clause-book : goal.returns-in_err-read-clause-book
+returns-in_err-read-clause-book g c = (c.in_err-read.ensures.stands, c.in_err-read.ensures.same.0 ∙ c.requires.book.1)
+
+pub returns-clause-book : goal.returns-clause-book
+returns-clause-book g c = (c.in_ok-read.ensures.stands, c.in_ok-read.ensures.same.0 ∙ c.requires.book.1)
 
 pub returns-in_err-read-clause-objects : goal.returns-in_err-read-clause-objects
 returns-in_err-read-clause-objects g c =

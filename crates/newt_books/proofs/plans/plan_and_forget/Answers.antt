@@ -4,6 +4,7 @@ use Rattle.newt_books.proofs.plans.plan_and_forget.Goals as goal
 
 pub returns : goal.returns
 returns g c = λ numbers unit outside rest.
-    still_at_rest c.args.objects.now c.forget-3.new.self numbers numbers unit outside outside
-    (λ id. c.forget-3.ensures.kept id ∙ c.delete_plan.ensures.kept id ∙ c.forget-2.ensures.kept id ∙ c.put_plan-2.ensures.kept id ∙ c.forget.ensures.kept id ∙ c.put_plan.ensures.kept id)
-    c.forget-3.ensures.no_plans refl refl rest
+    let first = c.in_ok-put_and_forget.ensures in
+    let second = c.in_ok-put_and_forget-2.ensures in
+    let last = c.in_ok-delete_and_forget.ensures in
+    still_at_rest c.args.objects.now c.delete_and_forget.new.objects numbers numbers unit outside outside (λ id. last.kept id ∙ second.kept id ∙ first.kept id) last.none refl refl rest

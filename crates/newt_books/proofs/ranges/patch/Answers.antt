@@ -1,4 +1,4 @@
-use Rattle.std.proofs.Common.{refl, ◌∙◌}
+use Rattle.std.proofs.Common.{refl, true, ◌∙◌}
 use Rattle.newt_memhost.specs.Outside.{outside_of}
 use Rattle.newt_books.proofs.Carried.{apart_alone, at_place, patched_out}
 use Rattle.newt_books.proofs.ranges.patch.Goals as goal
@@ -8,6 +8,12 @@ plan_patch-requires-clause-apart g c = λ x there. apart_alone c.new-batch.resul
 
 pub plan_patch-requires-clause-objects : goal.plan_patch-requires-clause-objects
 plan_patch-requires-clause-objects g c = at_place c.args.objects.now (g.P.PageBook.numbers c.args.book.now) (g.P.PageBook.place c.args.book.now) (outside_of c.args.host.now) c.requires.book.1 c.requires.objects
+
+pub commit-requires-clause-book : goal.commit-requires-clause-book
+commit-requires-clause-book g c = c.in_ok-reserve.ensures.book true (outside_of c.plan_patch.new.host) c.in_ok-plan_patch.ensures.stands
+
+pub returns-clause-book : goal.returns-clause-book
+returns-clause-book g c = (c.in_ok-commit.ensures.book, c.in_ok-commit.ensures.place ∙ c.in_ok-reserve.ensures.same.0 ∙ c.in_ok-plan_patch.ensures.same.0 ∙ c.requires.book.1)
 
 pub returns-clause-objects : goal.returns-clause-objects
 returns-clause-objects g c =

@@ -1,10 +1,13 @@
-use Rattle.std.proofs.Common.{refl}
+use Rattle.std.proofs.Common.{refl, ◌∙◌}
 use Rattle.newt_memhost.specs.Outside.{outside_of}
 use Rattle.newt_books.proofs.Carried.{at_place, still_at_rest}
 use Rattle.newt_books.proofs.ranges.range.Goals as goal
 
 pub read_range-requires-clause-objects : goal.read_range-requires-clause-objects
 read_range-requires-clause-objects g c = at_place c.args.objects.now (g.P.PageBook.numbers c.args.book.now) (g.P.PageBook.place c.args.book.now) (outside_of c.args.host.now) c.requires.book.1 c.requires.objects
+
+pub returns-clause-book : goal.returns-clause-book
+returns-clause-book g c = (c.read_range.ensures.stands, c.read_range.ensures.same.0 ∙ c.requires.book.1)
 
 pub returns-clause-objects : goal.returns-clause-objects
 returns-clause-objects g c =
