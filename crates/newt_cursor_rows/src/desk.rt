@@ -113,13 +113,13 @@ fn a_closed_number_is_taken_again(rt: HostRuntime) -> Result<(), Fail> {
     desk.close(7);
     desk.close(32);
     assert!(rt; desk.query(7).is_none());
-    assert_eq!(rt; opened(rt.alloc(), &mut desk, "Dates", Place::Finish)?, 7);
-    assert_eq!(rt; cloned(&mut desk, 7)?, 20);
+    assert!(rt; opened(rt.alloc(), &mut desk, "Dates", Place::Finish)? == 7);
+    assert!(rt; cloned(&mut desk, 7)? == 20);
     assert!(rt; matches!(desk.place(20), Some(Place::Finish)));
     let Some(query) = desk.query(20) else {
         return Err("an open cursor".into());
     };
-    assert_eq!(rt; query.name.list(), b"Dates".as_slice());
+    assert!(rt; query.name.list() == b"Dates".as_slice());
     Ok(())
 }
 
@@ -132,20 +132,20 @@ fn two_cursors_on_one_entry_take_its_key(rt: HostRuntime) -> Result<(), Fail> {
     opened(alloc, &mut desk, "Notes", on(alloc, 5, 1, 3)?)?;
     opened(alloc, &mut desk, "Notes", on(alloc, 5, 1, 4)?)?;
     opened(alloc, &mut desk, "Notes", on(alloc, 5, 9, 3)?)?;
-    assert_eq!(rt; watchers(&desk, 3), 0b00101);
+    assert!(rt; watchers(&desk, 3) == 0b00101);
     for cursor in 0..3u8 {
         desk.changed(cursor, key(alloc, 8)?);
     }
-    assert_eq!(rt; shown(&desk, 0), Some((3, 8)));
+    assert!(rt; shown(&desk, 0) == Some((3, 8)));
     assert!(rt; matches!(desk.place(1), Some(Place::Start)));
-    assert_eq!(rt; shown(&desk, 2), Some((3, 8)));
-    assert_eq!(rt; shown(&desk, 3), Some((4, 5)));
+    assert!(rt; shown(&desk, 2) == Some((3, 8)));
+    assert!(rt; shown(&desk, 3) == Some((4, 5)));
     desk.step(0, on(alloc, 5, 1, 4)?);
-    assert_eq!(rt; watchers(&desk, 3), 0b00100);
-    assert_eq!(rt; watchers(&desk, 4), 0b01001);
-    assert_eq!(rt; cloned(&mut desk, 2)?, 5);
-    assert_eq!(rt; watchers(&desk, 3), 0b100100);
+    assert!(rt; watchers(&desk, 3) == 0b00100);
+    assert!(rt; watchers(&desk, 4) == 0b01001);
+    assert!(rt; cloned(&mut desk, 2)? == 5);
+    assert!(rt; watchers(&desk, 3) == 0b100100);
     desk.step(5, Place::Finish);
-    assert_eq!(rt; shown(&desk, 2), Some((3, 8)));
+    assert!(rt; shown(&desk, 2) == Some((3, 8)));
     Ok(())
 }
