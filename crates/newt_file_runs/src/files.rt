@@ -52,7 +52,7 @@ fn assert_read<H: Host>(rt: &impl Abort, host: &mut H)
     let mut buf = [0; 5];
     assert!(rt; host.blocks(CARD) == 13);
     assert!(rt; host.read(CARD, 49_251, &mut buf).is_ok());
-    assert_eq!(rt; buf, [255, b'a', b'b', b'c', 255]);
+    assert!(rt; buf == [255, b'a', b'b', b'c', 255]);
 }
 
 // A host changes the last block.
@@ -86,6 +86,11 @@ fn wanted(place: usize) -> u8 {
     }
 }
 
+// It is this byte.
+fn assert_byte(rt: &impl Abort, place: usize, byte: u8) {
+    assert!(rt; byte == wanted(place), "at {place}");
+}
+
 #[test]
 fn keeps_what_was_written_and_leaves_the_rest(rt: HostRuntime) -> Result<(), Fail> {
     // Thirteen blocks and five bytes more, which are no part of any.
@@ -98,9 +103,9 @@ fn keeps_what_was_written_and_leaves_the_rest(rt: HostRuntime) -> Result<(), Fai
     read_again(&rt, &mut other);
     let after = fs::read(&rt, "card")?;
     fs::remove_file(&rt, "card")?;
-    assert_eq!(rt; after.len(), 53_253);
+    assert!(rt; after.len() == 53_253);
     for (place, byte) in after.iter().enumerate() {
-        assert_eq!(rt; *byte, wanted(place), "at {place}");
+        assert_byte(&rt, place, *byte);
     }
     Ok(())
 }
@@ -127,8 +132,8 @@ fn attaches_no_folder_and_no_missing_file(rt: HostRuntime) -> Result<(), Fail> {
     fs::create_dir(&rt, "folder")?;
     let folder = attached(&rt, "folder");
     fs::remove_dir(&rt, "folder")?;
-    assert_eq!(rt; folder, None);
-    assert_eq!(rt; attached(&rt, "missing"), None);
+    assert!(rt; folder == None);
+    assert!(rt; attached(&rt, "missing") == None);
     Ok(())
 }
 
@@ -137,7 +142,7 @@ fn attaches_a_file_shorter_than_a_block_with_no_blocks(rt: HostRuntime) -> Resul
     fs::write(&rt, "short", b"less than a block".as_slice())?;
     let short = attached(&rt, "short");
     fs::remove_file(&rt, "short")?;
-    assert_eq!(rt; short, Some(0));
+    assert!(rt; short == Some(0));
     Ok(())
 }
 
@@ -152,6 +157,6 @@ fn attaches_only_what_can_be_written(rt: HostRuntime) -> Result<(), Fail> {
         .is_err();
     let locked = attached(&rt, "locked");
     fs::remove_file(&rt, "locked")?;
-    assert_eq!(rt; locked.is_none(), refused);
+    assert!(rt; locked.is_none() == refused);
     Ok(())
 }

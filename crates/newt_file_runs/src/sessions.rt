@@ -4,6 +4,7 @@ use newt_filehost::FileHost;
 use newt_top::{Status, run};
 use std::alloc::{AllocError, Global};
 use std::fs::{self, File};
+use std::process::Abort;
 use std::test::Fail;
 
 fn words(alloc: Global, texts: &[&str]) -> Result<Vec<String>, AllocError> {
@@ -73,6 +74,11 @@ ok 2
 ok
 ";
 
+// These replies were written, and no others.
+fn assert_replies(rt: &impl Abort, written: &[u8], wanted: &[u8]) {
+    assert_eq!(rt; written, wanted);
+}
+
 #[test]
 fn goes_on_with_the_stores_of_the_run_before(rt: HostRuntime) -> Result<(), Fail> {
     let mut bytes = Vec::new(rt.alloc());
@@ -83,9 +89,8 @@ fn goes_on_with_the_stores_of_the_run_before(rt: HostRuntime) -> Result<(), Fail
     let second = session(&rt, SECOND)?;
     fs::remove_file(&rt, "internal")?;
     fs::remove_file(&rt, "card")?;
-    assert_eq!(rt; first.0, Status::Ok);
-    assert_eq!(rt; first.1.as_slice(), FIRST_REPLIES);
-    assert_eq!(rt; second.0, Status::Ok);
-    assert_eq!(rt; second.1.as_slice(), SECOND_REPLIES);
+    assert!(rt; first.0 == Status::Ok && second.0 == Status::Ok);
+    assert_replies(&rt, &first.1, FIRST_REPLIES);
+    assert_replies(&rt, &second.1, SECOND_REPLIES);
     Ok(())
 }

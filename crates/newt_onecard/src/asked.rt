@@ -4,7 +4,7 @@ use newt_base::{Sig, Uid};
 use newt_pagebook::PageBook;
 use newt_soupdir::Directory;
 use newt_store::Store;
-use std::alloc::Global;
+use std::alloc::{AllocError, Global};
 use std::test::Fail;
 
 // How many indexes a soup has, and how many tags.
@@ -18,6 +18,32 @@ fn declared(directory: &Directory, soup: Sig) -> (usize, usize) {
     }
 }
 
+// The reply to each question.
+fn has<P: PageBook>(
+    alloc: Global,
+    store: &Store<P>,
+    soup: Sig,
+    uid: &str,
+) -> Result<Vec<u8>, Fail> {
+    let has = store.has(soup, Uid(uid.parse()?));
+    Ok(format!(in alloc; "{has}")?.into_bytes())
+}
+
+fn count<P: PageBook>(alloc: Global, store: &Store<P>, soup: Sig) -> Result<Vec<u8>, AllocError> {
+    let count = store.count(soup);
+    Ok(format!(in alloc; "{count}")?.into_bytes())
+}
+
+fn uids<P: PageBook>(alloc: Global, store: &Store<P>, soup: Sig) -> Result<Vec<u8>, AllocError> {
+    let uids = store.uids(soup)?;
+    Ok(format!(in alloc; "{uids:?}")?.into_bytes())
+}
+
+fn numbers(alloc: Global, directory: &Directory, soup: Sig) -> Result<Vec<u8>, AllocError> {
+    let (indexes, tags) = declared(directory, soup);
+    Ok(format!(in alloc; "{indexes} {tags}")?.into_bytes())
+}
+
 /// The reply to a question about a soup.
 pub(crate) fn asked<P: PageBook>(
     alloc: Global,
@@ -27,23 +53,10 @@ pub(crate) fn asked<P: PageBook>(
 ) -> Result<Vec<u8>, Fail> {
     let (soup, rest) = rest.split_once(' ').unwrap_or((rest, ""));
     let soup = Sig(soup.parse()?);
-    let text = match word {
-        "has" => {
-            let has = store.has(soup, Uid(rest.parse()?));
-            format!(in alloc; "{has}")?
-        }
-        "count" => {
-            let count = store.count(soup);
-            format!(in alloc; "{count}")?
-        }
-        "uids" => {
-            let uids = store.uids(soup)?;
-            format!(in alloc; "{uids:?}")?
-        }
-        _ => {
-            let (indexes, tags) = declared(store.directory(), soup);
-            format!(in alloc; "{indexes} {tags}")?
-        }
-    };
-    Ok(text.into_bytes())
+    match word {
+        "has" => has(alloc, store, soup, rest),
+        "count" => Ok(count(alloc, store, soup)?),
+        "uids" => Ok(uids(alloc, store, soup)?),
+        _ => Ok(numbers(alloc, store.directory(), soup)?),
+    }
 }

@@ -21,6 +21,24 @@ const PICKS: [Pick; 5] = [
 // And of each call after which the store goes on.
 const FEW_PICKS: [Pick; 2] = [Pick::Half, Pick::Fill(0)];
 
+fn another_store(call: u64) -> Fail {
+    Fail::new(format_args!("a crash within call {call} leaves another store"))
+}
+
+// An image that a crash might have left within a call opens as one of the two.
+fn expect_one<P: PageBook>(
+    alloc: Global,
+    image: &[u8],
+    trace: &Trace,
+    call: u64,
+) -> Result<(), Fail> {
+    let found = contents_on::<P>(alloc, image)?;
+    if found != trace.before && found != trace.after {
+        return Err(another_store(call));
+    }
+    Ok(())
+}
+
 /// Every image that a crash might have left within a change opens as the store before it or as the one after it, which is another.
 pub(crate) fn expect_either<P: PageBook>(
     alloc: Global,
@@ -33,12 +51,7 @@ pub(crate) fn expect_either<P: PageBook>(
     for call in trace.from..host.calls() {
         for pick in PICKS {
             let crash = host.images(CARD, call, pick)?;
-            let found = contents_on::<P>(alloc, &crash.image)?;
-            if found != trace.before && found != trace.after {
-                return Err(Fail::new(format_args!(
-                    "a crash within call {call} leaves another store"
-                )));
-            }
+            expect_one::<P>(alloc, &crash.image, trace, call)?;
         }
     }
     Ok(())

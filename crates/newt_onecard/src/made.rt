@@ -130,6 +130,10 @@ fn three_numbers(line: &str) -> Result<(u32, u32, u32), Fail> {
     Ok((first.parse()?, second.parse()?, third.parse()?))
 }
 
+fn not_added(uid: u32) -> Fail {
+    Fail::new(format_args!("entry {uid} is not added"))
+}
+
 /// Adds so many empty frames to a soup, whose ids rise from the first.
 pub(crate) fn fill<P: PageBook>(
     alloc: Global,
@@ -145,7 +149,7 @@ pub(crate) fn fill<P: PageBook>(
     let (soup, first, count) = three_numbers(line)?;
     for uid in first..first.saturating_add(count) {
         if outcome_of(host, store, add_empty(alloc, soup)?, 0)? != Outcome::Done(uid) {
-            return Err(Fail::new(format_args!("entry {uid} is not added")));
+            return Err(not_added(uid));
         }
     }
     Ok(Vec::new(alloc))

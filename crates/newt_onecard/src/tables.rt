@@ -52,6 +52,10 @@ fn reply_to<P: PageBook>(
     }
 }
 
+fn another_reply(line: &str, reply: &[u8]) -> Fail {
+    Fail::new(format_args!("another reply: {line:.200} => {reply:?}"))
+}
+
 // Plays a row, which is answered as it says.
 fn play_row<P: PageBook>(
     alloc: Global,
@@ -67,7 +71,7 @@ fn play_row<P: PageBook>(
     let (line, wanted) = row.split_once(" => ").unwrap_or((row, ""));
     let reply = reply_to(alloc, host, store, line)?;
     if reply.as_slice() != wanted.as_bytes() {
-        return Err(Fail::new(format_args!("another reply: {line:.200} => {reply:?}")));
+        return Err(another_reply(line, &reply));
     }
     Ok(())
 }

@@ -122,15 +122,15 @@ fn soups_are_found_and_changed(rt: HostRuntime) -> Result<(), Fail> {
     let alloc = rt.alloc();
     let read = read_words(alloc, TWO_SOUPS)?;
     let mut directory = read.copy()?;
-    assert_eq!(rt; directory.soup_named(b"a").map(|row| row.sig.0), Some(1));
-    assert_eq!(rt; directory.soup_of(Sig(0)).map(|row| row.next_uid), Some(3));
+    assert!(rt; directory.soup_named(b"a").map(|row| row.sig.0) == Some(1));
+    assert!(rt; directory.soup_of(Sig(0)).map(|row| row.next_uid) == Some(3));
     assert!(rt; directory.soup_named(b"B").is_none());
     assert!(rt; !directory.is_full());
     let name = Name::read(alloc, b"B")?;
-    assert_eq!(rt; change(&mut directory, name), Some((3, 2)));
+    assert!(rt; change(&mut directory, name) == Some((3, 2)));
     assert!(rt; is_written(alloc, &directory, &bytes_of(alloc, CHANGED)?));
     let rows = directory.soups.into_vec();
-    assert_eq!(rt; rows.len(), 2);
+    assert!(rt; rows.len() == 2);
     Ok(())
 }
 
@@ -182,12 +182,12 @@ fn indexes_and_tags_are_changed(rt: HostRuntime) -> Result<(), Fail> {
     let mut directory = read_tail(alloc, PARTS)?;
     let names = read_tail(alloc, NAMES)?;
     let spec = last_index(&names).ok_or("an index")?;
-    assert_eq!(rt; directory.index_of(Sig(0), &spec), None);
+    assert!(rt; directory.index_of(Sig(0), &spec) == None);
     directory.add_spec(Sig(0), spec.copy()?)?;
     let paths = vec![in alloc; Path::read(alloc, b"B")?]?;
-    assert_eq!(rt; directory.index_with_paths(Sig(0), &paths), Some(1));
+    assert!(rt; directory.index_with_paths(Sig(0), &paths) == Some(1));
     directory.drop_spec(Sig(0), &paths);
-    assert_eq!(rt; directory.index_of(Sig(0), &spec), Some(1));
+    assert!(rt; directory.index_of(Sig(0), &spec) == Some(1));
     let tags = read_tail(alloc, TAGS)?;
     directory.set_tags(Sig(0), first_tags(&tags));
     let changed = bytes_of(alloc, CHANGED_PARTS)?;

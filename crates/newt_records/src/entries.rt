@@ -101,6 +101,6 @@ fn a_large_binary_is_filled_in(rt: HostRuntime) -> Result<(), Fail> {
         rt.alloc(),
         "0003 0001 00000009 00000102 02 06 01 07 01 'a 0C 07 01 'b 00*17 00000002 00000004 00000005",
     )?;
-    assert_eq!(rt; is_made_again(rt.alloc(), &record, 4, b"hello"), Some(true));
+    assert!(rt; is_made_again(rt.alloc(), &record, 4, b"hello") == Some(true));
     Ok(())
 }
