@@ -76,7 +76,9 @@ fn obey<H: Host, I: Interpreter>(
     let flow = flow_after(&command);
     match interpreter.apply(host, command) {
         Ok(reply) => {
-            put_reply(alloc, host, &reply)?;
+            let put = put_reply(alloc, host, &reply);
+            drop(reply);
+            put?;
             Ok(flow)
         }
         Err(stop) => Err(halted_by(stop)),
@@ -95,7 +97,9 @@ fn refuse<H: Host>(alloc: Global, host: &mut H, refusal: Refusal) -> Result<Flow
     ensures stays { StaysAttached (H.outside host.old) (H.outside host.new) }
 {
     let reply = Reply::Refused(refusal);
-    put_reply(alloc, host, &reply)?;
+    let put = put_reply(alloc, host, &reply);
+    drop(reply);
+    put?;
     Ok(Flow::Go)
 }
 

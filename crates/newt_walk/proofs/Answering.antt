@@ -6,7 +6,7 @@ use Rattle.newt_base.specs.declared.Refusal.{Refusal}
 use Rattle.newt_base.specs.declared.Refusal.TheVariants.{Cursor as NoCursor, Key as BadKey}
 use Rattle.newt_graph.specs.Graph.{RawGraph}
 use Rattle.newt_spec_store.specs.Keys.{Key}
-use Rattle.newt_spec_query.specs.Cursor.{Cursor}
+use Rattle.newt_spec_query.specs.Cursor.{Cursor, Place}
 use Rattle.newt_spec_world.specs.declared.command.Command.{Command}
 use Rattle.newt_spec_world.specs.declared.command.Command.TheVariants as command
 use Rattle.newt_spec_world.specs.Reply.{Reply}
@@ -14,6 +14,7 @@ use Rattle.newt_spec_world.specs.World.{World, cursor, hits_of, set_place, settl
 use Rattle.newt_spec_world.specs.Changed.{Step, changed, step_from, stepped, go_to_key, to_key, key_from}
 use Rattle.newt_spec_world.specs.Refused.{checks, no_cursor, bad_key, on_some}
 use Rattle.newt_spec_world.specs.Answer.{answer, current, fields, or_nil}
+use Rattle.newt_pagebook.specs.declared.book.Stop.{Stop as End}
 use Rattle.newt_cardstore.specs.declared.fault.Fault.{Fault}
 use Rattle.newt_cardstore.specs.declared.fault.Fault.TheVariants.{Refused, Stop}
 use Rattle.newt_walk.specs.Motions.{Steers, step_of}
@@ -54,6 +55,19 @@ end-steps n = record { tests = λ w. refl; does = λ w. refl; shows = λ w v. re
 moveby-steps : (n : ℕ) (by : ℤ) → IsStepping (command.Moveby n by) n (step_of (motion.By by))
 unfolding checks changed fields
 moveby-steps n by = record { tests = λ w. refl; does = λ w. refl; shows = λ w v. refl }
+
+-- a run that ends says nothing of a step
+pub steers-end : (w v : World) (n : ℕ) (step : Step) (stop : End) (r : Result Shown Fault) → r ≡ Err (Stop stop) → Steers w v n step r
+steers-end w v n step stop r is = subst (λ (r : Result Shown Fault). Steers w v n step r) (sym is) tt
+
+-- a cursor that is open steps to where it comes, and is shown there
+pub steers-there : (w mid v : World) (n : ℕ) (step : Step) (k : Cursor) (next : Place) (shown : Shown) → Some k ≡ cursor w n → mid ≡ w → next ≡ step (hits_of w k.query) k.query.spec.index k.place
+    → v ≡ settle (set_place mid n next) → shown_reply shown ≡ or_nil (current (settle (set_place mid n next))) (cursor (settle (set_place mid n next)) n) → Steers w v n step (Ok shown)
+steers-there w mid v n step k next shown there same at after said = (
+  ap is_none (sym there),
+  after ∙ ap (λ (u : World). settle (set_place u n next)) same ∙ ap (λ (p : Place). settle (set_place w n p)) at ∙ ap (λ (o : Option Cursor). settle (step_from w n step o)) there,
+  said ∙ ap (λ (u : World). or_nil (current u) (cursor u n)) (sym after),
+)
 
 -- no cursor is open, or one is
 pub no-cursor : (w : World) (n : ℕ) (more : Checks) → is_none (cursor w n) ≡ true → first_of (no_cursor w n ∷ more) ≡ Some NoCursor

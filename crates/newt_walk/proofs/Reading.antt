@@ -8,6 +8,9 @@ use Rattle.newt_pagebook.specs.declared.book.Stop.{Stop}
 use Rattle.newt_pagebook.specs.declared.book.Stop.TheVariants.{Memory, Device}
 use Rattle.newt_spec_store.specs.Store.{Store}
 use Rattle.newt_units.specs.declared.units.Units.{Units}
+use Rattle.newt_cardstore.specs.Faults.{HasFaultCause}
+use Rattle.newt_cardstore.specs.declared.fault.Fault.{Fault}
+use Rattle.newt_cardstore.specs.declared.fault.Fault.TheVariants.{Stop as Ends}
 use Rattle.newt_units.specs.Stands.{Stands}
 use Rattle.newt_walk.specs.World.{AreRead}
 
@@ -35,3 +38,11 @@ module _ {C : Type 0} {reads : List ℕ → Option Store} {place : C → ℕ} {s
 -- an error that was handed on has its cause
 pub handed : {T : Type 0} (o q : Outside) (stop : Stop) → HasStopCause stop o q → (r : Result T Stop) → (e : Stop) × (r ≡ Err e) × (e ≡ stop) → IfErr r (λ stop. HasStopCause stop o q)
 handed {T} o q stop h r p = subst (λ (r : Result T Stop). IfErr r (λ stop. HasStopCause stop o q)) (sym (p.1 ∙ ap {B = Result T Stop} (λ e. Err e) p.2)) h
+
+-- an end of the run that was handed on is the same end
+pub ended : {T : Type 0} (stop : Stop) (r : Result T Fault) → (e : Fault) × (r ≡ Err e) × (e ≡ Ends stop) → r ≡ Err (Ends stop)
+ended {T} stop r p = p.1 ∙ ap {B = Result T Fault} (λ e. Err e) p.2
+
+-- and has its cause
+pub ended-cause : {T : Type 0} (o q : Outside) (stop : Stop) → HasStopCause stop o q → (r : Result T Fault) → r ≡ Err (Ends stop) → IfErr r (λ fault. HasFaultCause fault o q)
+ended-cause {T} o q stop h r is = subst (λ (r : Result T Fault). IfErr r (λ fault. HasFaultCause fault o q)) (sym is) h

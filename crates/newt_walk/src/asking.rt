@@ -75,11 +75,13 @@ fn keyed(
     ensures cause { IfErr result NoDevice }
 {
     match shape.bind(alloc, graph, index) {
-        Ok(spec) => Ok(Query {
-            scope,
-            name: name.copy()?,
-            spec,
-        }),
+        Ok(spec) => match name.copy() {
+            Ok(name) => Ok(Query { scope, name, spec }),
+            Err(_) => {
+                drop(spec);
+                Err(Fault::Stop(Stop::Memory))
+            }
+        },
         Err(BindFault::KeyType) => Err(Fault::Refused(Refusal::Key)),
         Err(BindFault::Memory) => Err(Fault::Stop(Stop::Memory)),
     }

@@ -76,7 +76,9 @@ fn keeps_read<C: Card, H: Host>(
     match units.entry_on(host, unit, spot.soup, spot.uid)? {
         Some(entry) => {
             let table = table_on(units, unit, spot.soup);
-            Ok(is_kept(units.alloc(), &query.spec, &spot.key, table, &entry.graph)?)
+            let kept = is_kept(units.alloc(), &query.spec, &spot.key, table, &entry.graph);
+            drop(entry);
+            Ok(kept?)
         }
         None => Ok(false),
     }
