@@ -1,5 +1,5 @@
 // One card in memory, attached as unit 0, and the store on it.
-ghost use Rattle.std.specs.Prelude.{true, IfOk, IfSome, IsSome, IsTrue};
+ghost use Rattle.std.specs.Prelude.{true, IfOk, IfSome, IsSome, IsTrue, OnOk};
 ghost use Rattle.newt_host.specs.Moments.{IsDurable};
 ghost use Rattle.newt_memhost.specs.Outside.{outside_of};
 ghost use Rattle.newt_catalog.specs.Stands.{IsSound};
@@ -45,17 +45,30 @@ pub fn card_bytes(alloc: Global, host: &MemHost) -> Result<Vec<u8>, Fail> {
     Ok(host.bytes(CARD).to_vec(alloc)?)
 }
 
-/// A host whose card has so many blocks, formatted as the store `Internal` of signature 7.
-pub fn formatted<P: PageBook>(alloc: Global, blocks: u32) -> Result<MemHost, Fail>
-    ensures { IfOk result (λ host. IsDurable 0 (outside_of host).now) }
+// The card is formatted as the store `Internal` of signature 7.
+fn format_card<P: PageBook>(alloc: Global, host: &mut MemHost) -> Result<(), Fail>
+    ensures { OnOk result (IsDurable 0 (outside_of host.new).now) }
 {
-    let bytes = vec![in alloc; 0; blocks as usize * 4096]?;
-    let mut host = host_of(alloc, &bytes)?;
     if host.blocks(CARD) < 13 || host.blocks(CARD) > 4099 {
         return Err(Fail::new("too few blocks, or too many"));
     }
     let name = Name::read(alloc, b"Internal")?;
-    Store::<P>::format(alloc, &mut host, CARD, &name, Sig(7))?;
+    Store::<P>::format(alloc, host, CARD, &name, Sig(7))?;
+    Ok(())
+}
+
+// A host with a card of so many blocks of zeros.
+fn zeroed(alloc: Global, blocks: u32) -> Result<MemHost, Fail> {
+    let bytes = vec![in alloc; 0; blocks as usize * 4096]?;
+    host_of(alloc, &bytes)
+}
+
+/// A host whose card has so many blocks, formatted as the store `Internal` of signature 7.
+pub fn formatted<P: PageBook>(alloc: Global, blocks: u32) -> Result<MemHost, Fail>
+    ensures { IfOk result (λ host. IsDurable 0 (outside_of host).now) }
+{
+    let mut host = zeroed(alloc, blocks)?;
+    format_card::<P>(alloc, &mut host)?;
     Ok(host)
 }
 

@@ -1,5 +1,6 @@
 // What a store has, as one text.
 ghost use Rattle.std.specs.Prelude.{true};
+ghost use Rattle.newt_host.specs.Moments.{IsDurable};
 ghost use Rattle.newt_memhost.specs.Outside.{outside_of};
 ghost use Rattle.newt_catalog.specs.Stands.{IsSound};
 
@@ -149,15 +150,22 @@ pub(crate) fn contents<P: PageBook>(
     Ok(text)
 }
 
-/// What the store on a card of these bytes has, or `no store` where they are none.
-pub fn contents_on<P: PageBook>(alloc: Global, bytes: &[u8]) -> Result<Vec<u8>, Fail> {
-    let mut host = host_of(alloc, bytes)?;
-    let store: Option<Store<P>> = found(alloc, &mut host)?;
+// What the store of the card has, or `no store`.
+fn contents_in<P: PageBook>(alloc: Global, host: &mut MemHost) -> Result<Vec<u8>, Fail>
+    requires { IsDurable 0 (outside_of host.old).now }
+{
+    let store: Option<Store<P>> = found(alloc, host)?;
     match store {
         Some(store) => {
             let mut store = store;
-            contents(alloc, &mut host, &mut store)
+            contents(alloc, host, &mut store)
         }
         None => Ok(b"no store".to_vec(alloc)?),
     }
+}
+
+/// What the store on a card of these bytes has, or `no store` where they are none.
+pub fn contents_on<P: PageBook>(alloc: Global, bytes: &[u8]) -> Result<Vec<u8>, Fail> {
+    let mut host = host_of(alloc, bytes)?;
+    contents_in::<P>(alloc, &mut host)
 }

@@ -1,4 +1,7 @@
 // What a crash leaves within the calls of a change.
+ghost use Rattle.std.specs.Prelude.{true};
+ghost use Rattle.newt_memhost.specs.Outside.{outside_of};
+ghost use Rattle.newt_catalog.specs.Stands.{IsSound};
 
 use crate::card::{CARD, has_card, host_of, opened};
 use crate::contents::contents_on;
@@ -57,15 +60,32 @@ pub(crate) fn expect_either<P: PageBook>(
     Ok(())
 }
 
-// The store on these bytes takes an entry in its soup 0.
-fn expect_more<P: PageBook>(alloc: Global, bytes: &[u8]) -> Result<(), Fail> {
-    let mut host = host_of(alloc, bytes)?;
-    let mut store: Store<P> = opened(alloc, &mut host)?;
-    let trace = changed(alloc, &mut host, &mut store, "add 0 020600 @99")?;
+// An entry was taken, and is found by another run.
+fn expect_taken<P: PageBook>(alloc: Global, host: &MemHost, trace: &Trace) -> Result<(), Fail> {
     if trace.after.len() <= trace.before.len() {
         return Err(Fail::new("a store takes no entry after a crash"));
     }
-    expect_found::<P>(alloc, &host, &trace.after)
+    expect_found::<P>(alloc, host, &trace.after)
+}
+
+// A store takes an entry in its soup 0.
+fn expect_one_more<P: PageBook>(
+    alloc: Global,
+    host: &mut MemHost,
+    store: &mut Store<P>,
+) -> Result<(), Fail>
+    requires stands { P.stands true store.old.book (outside_of host.old) }
+    requires sound { IsSound true store.old.catalog (P.numbers store.old.book) (P.place store.old.book) (outside_of host.old) }
+{
+    let trace = changed(alloc, host, store, "add 0 020600 @99")?;
+    expect_taken::<P>(alloc, host, &trace)
+}
+
+// The store on these bytes does.
+fn expect_more<P: PageBook>(alloc: Global, bytes: &[u8]) -> Result<(), Fail> {
+    let mut host = host_of(alloc, bytes)?;
+    let mut store: Store<P> = opened(alloc, &mut host)?;
+    expect_one_more(alloc, &mut host, &mut store)
 }
 
 /// The store on each image that a crash might have left within a change takes a further change.

@@ -1,5 +1,6 @@
 // Tables and how they are played.
 ghost use Rattle.std.specs.Prelude.{true, OnOk};
+ghost use Rattle.newt_host.specs.Moments.{IsDurable};
 ghost use Rattle.newt_memhost.specs.Outside.{outside_of};
 ghost use Rattle.newt_catalog.specs.Stands.{IsSound};
 
@@ -95,11 +96,18 @@ fn play_rows<P: PageBook>(
     Ok(())
 }
 
+// Plays the rows of one run on the card.
+fn play_run<P: PageBook>(alloc: Global, host: &mut MemHost, rows: &str) -> Result<(), Fail>
+    requires { IsDurable 0 (outside_of host.old).now }
+{
+    let mut store: Store<P> = opened(alloc, host)?;
+    play_rows(alloc, host, &mut store, rows)
+}
+
 // Plays the rows of one run on a card of these bytes, and answers what the card has then.
 fn run<P: PageBook>(alloc: Global, bytes: &[u8], rows: &str) -> Result<Vec<u8>, Fail> {
     let mut host = host_of(alloc, bytes)?;
-    let mut store: Store<P> = opened(alloc, &mut host)?;
-    play_rows(alloc, &mut host, &mut store, rows)?;
+    play_run::<P>(alloc, &mut host, rows)?;
     card_bytes(alloc, &host)
 }
 

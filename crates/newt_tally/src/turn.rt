@@ -65,7 +65,9 @@ fn obey<H: Host, I: Interpreter>(
     let quits = quits(&command);
     match interpreter.apply(host, command) {
         Ok(reply) => {
-            count(alloc, tally, &reply)?;
+            let counted = count(alloc, tally, &reply);
+            drop(reply);
+            counted?;
             Ok(quits)
         }
         Err(stop) => Err(halted_by(stop)),
@@ -81,7 +83,9 @@ fn refuse(alloc: Global, tally: &mut Tally, refusal: Refusal) -> Result<bool, Ha
     ensures memory { IfErr result (λ halt. halt ≡ Halt.Memory) }
 {
     let reply = Reply::Refused(refusal);
-    count(alloc, tally, &reply)?;
+    let counted = count(alloc, tally, &reply);
+    drop(reply);
+    counted?;
     Ok(false)
 }
 
