@@ -1,6 +1,7 @@
 // Objects that are put, deleted and read.
 ghost use Rattle.std.specs.Prelude.{◌≡◌, ◌<◌, ◌^◌, ℕ, [], true, length, IsSome, Some, OnOk, IfOk};
 ghost use Rattle.newt_books.specs.Changes.{AreAtRest, IsPlanned};
+ghost use Rattle.newt_host.specs.Moments.{IsDurable};
 ghost use Rattle.newt_memhost.specs.Outside.{outside_of};
 ghost use Rattle.newt_objects.specs.Held.{AreOf, held};
 
@@ -136,6 +137,19 @@ pub(crate) fn bytes_of<P: PageBook>(
     Ok(objects.read(host, book, id)?)
 }
 
+// These are the bytes that `put` gives an object.
+fn assert_text(
+    rt: &impl Abort,
+    alloc: Global,
+    bytes: &[u8],
+    id: u8,
+    size: u32,
+) -> Result<(), AllocError> {
+    let want = text_from(alloc, id, size)?;
+    assert_at(rt, want.as_slice() == bytes, &[u64::from(id)]);
+    Ok(())
+}
+
 /// These objects are there, with the bytes that `put` gives them, and no others.
 pub(crate) fn assert_held<P: PageBook>(
     rt: &impl Abort,
@@ -156,11 +170,25 @@ pub(crate) fn assert_held<P: PageBook>(
         assert!(rt; objects.next(from) == Some(u32::from(id)));
         assert!(rt; objects.length(u32::from(id)) == Some(*size));
         let bytes = bytes_of(rt, host, book, objects, u32::from(id))?;
-        assert_at(rt, bytes == text_from(alloc, id, *size)?, &[u64::from(id)]);
+        assert_text(rt, alloc, &bytes, id, *size)?;
         from = u32::from(id) + 1;
     }
     assert!(rt; objects.next(from) == None);
     Ok(())
+}
+
+// The same of the objects that are found on the card.
+fn assert_on_card<P: PageBook>(
+    rt: &impl Abort,
+    alloc: Global,
+    host: &mut MemHost,
+    want: &[(u8, u32)],
+) -> Result<(), Fail>
+    requires { IsDurable 0 (outside_of host.old).now }
+{
+    let mut book: P = opened(rt, alloc, host)?;
+    let objects = scanned(alloc, host, &mut book)?;
+    assert_held(rt, alloc, host, &mut book, &objects, want)
 }
 
 // The same of the objects that are found on these bytes.
@@ -171,9 +199,7 @@ fn assert_found<P: PageBook>(
     want: &[(u8, u32)],
 ) -> Result<(), Fail> {
     let mut host = host_of(rt, alloc, bytes)?;
-    let mut book: P = opened(rt, alloc, &mut host)?;
-    let objects = scanned(alloc, &mut host, &mut book)?;
-    assert_held(rt, alloc, &mut host, &mut book, &objects, want)
+    assert_on_card::<P>(rt, alloc, &mut host, want)
 }
 
 /// These objects are there, and are found again when the card is opened anew.

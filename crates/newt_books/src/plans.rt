@@ -35,6 +35,23 @@ fn put_each<P: PageBook>(
     Ok(())
 }
 
+fn keep_each<P: PageBook>(
+    rt: &impl Abort,
+    alloc: Global,
+    host: &mut MemHost,
+    book: &mut P,
+    objects: &mut Objects,
+    all: &[(u8, u32)],
+    pages: u32,
+) -> Result<(), Fail>
+    requires book { P.stands true book.old (outside_of host.old) × (P.place book.old ≡ 0) }
+    requires objects { AreAtRest objects.old (P.numbers book.old) 0 (outside_of host.old) }
+{
+    put_each(alloc, host, book, objects, all)?;
+    assert!(rt; book.live() == pages);
+    assert_kept(rt, alloc, host, book, objects, all)
+}
+
 // Each object is put into a batch of its own, and is there beside the others.
 fn keeps<P: PageBook>(
     rt: &impl Abort,
@@ -46,9 +63,7 @@ fn keeps<P: PageBook>(
     let mut host = fresh::<P>(rt, alloc, blocks)?;
     let mut book: P = opened(rt, alloc, &mut host)?;
     let mut objects = scanned(alloc, &mut host, &mut book)?;
-    put_each(alloc, &mut host, &mut book, &mut objects, all)?;
-    assert!(rt; book.live() == pages);
-    assert_kept(rt, alloc, &mut host, &mut book, &objects, all)
+    keep_each(rt, alloc, &mut host, &mut book, &mut objects, all, pages)
 }
 
 #[test]
@@ -57,29 +72,29 @@ fn objects_are_put_and_found_again(rt: HostRuntime) -> Result<(), Fail> {
     keeps::<PlainBook>(&rt, rt.alloc(), 520, &all, 2005)
 }
 
+fn shorten<P: PageBook>(
+    rt: &impl Abort,
+    alloc: Global,
+    host: &mut MemHost,
+    book: &mut P,
+    objects: &mut Objects,
+) -> Result<(), Fail>
+    requires book { P.stands true book.old (outside_of host.old) × (P.place book.old ≡ 0) }
+    requires objects { AreAtRest objects.old (P.numbers book.old) 0 (outside_of host.old) }
+{
+    put_each(alloc, host, book, objects, &[(7, 1_200), (8, 501)])?;
+    assert!(rt; book.live() == 5);
+    put_each(alloc, host, book, objects, &[(7, 400)])?;
+    assert!(rt; book.live() == 3);
+    assert_kept(rt, alloc, host, book, objects, &[(7, 400), (8, 501)])
+}
+
 // What is put again is there instead: of the longer object no part is left.
 fn shortens<P: PageBook>(rt: &impl Abort, alloc: Global) -> Result<(), Fail> {
     let mut host = fresh::<P>(rt, alloc, 13)?;
     let mut book: P = opened(rt, alloc, &mut host)?;
     let mut objects = scanned(alloc, &mut host, &mut book)?;
-    put_each(
-        alloc,
-        &mut host,
-        &mut book,
-        &mut objects,
-        &[(7, 1_200), (8, 501)],
-    )?;
-    assert!(rt; book.live() == 5);
-    put_each(alloc, &mut host, &mut book, &mut objects, &[(7, 400)])?;
-    assert!(rt; book.live() == 3);
-    assert_kept(
-        rt,
-        alloc,
-        &mut host,
-        &mut book,
-        &objects,
-        &[(7, 400), (8, 501)],
-    )
+    shorten(rt, alloc, &mut host, &mut book, &mut objects)
 }
 
 #[test]
@@ -87,31 +102,31 @@ fn a_shorter_object_leaves_no_old_part(rt: HostRuntime) -> Result<(), Fail> {
     shortens::<PlainBook>(&rt, rt.alloc())
 }
 
+fn delete_and_put<P: PageBook>(
+    rt: &impl Abort,
+    alloc: Global,
+    host: &mut MemHost,
+    book: &mut P,
+    objects: &mut Objects,
+) -> Result<(), Fail>
+    requires book { P.stands true book.old (outside_of host.old) × (P.place book.old ≡ 0) }
+    requires objects { AreAtRest objects.old (P.numbers book.old) 0 (outside_of host.old) }
+{
+    put_each(alloc, host, book, objects, &[(7, 1_200), (8, 501)])?;
+    delete(rt, alloc, host, book, objects, 7)?;
+    assert!(rt; book.next_page(0) == Some(3));
+    assert_kept(rt, alloc, host, book, objects, &[(8, 501)])?;
+    put_each(alloc, host, book, objects, &[(9, 501)])?;
+    assert!(rt; book.next_page(2) == Some(3));
+    assert_kept(rt, alloc, host, book, objects, &[(8, 501), (9, 501)])
+}
+
 // A deleted object's pages are gone, and their numbers are given again.
 fn deletes<P: PageBook>(rt: &impl Abort, alloc: Global) -> Result<(), Fail> {
     let mut host = fresh::<P>(rt, alloc, 13)?;
     let mut book: P = opened(rt, alloc, &mut host)?;
     let mut objects = scanned(alloc, &mut host, &mut book)?;
-    put_each(
-        alloc,
-        &mut host,
-        &mut book,
-        &mut objects,
-        &[(7, 1_200), (8, 501)],
-    )?;
-    delete(rt, alloc, &mut host, &mut book, &mut objects, 7)?;
-    assert!(rt; book.next_page(0) == Some(3));
-    assert_kept(rt, alloc, &mut host, &mut book, &objects, &[(8, 501)])?;
-    put_each(alloc, &mut host, &mut book, &mut objects, &[(9, 501)])?;
-    assert!(rt; book.next_page(2) == Some(3));
-    assert_kept(
-        rt,
-        alloc,
-        &mut host,
-        &mut book,
-        &objects,
-        &[(8, 501), (9, 501)],
-    )
+    delete_and_put(rt, alloc, &mut host, &mut book, &mut objects)
 }
 
 #[test]
@@ -163,36 +178,36 @@ fn plan_and_forget(rt: &impl Abort, alloc: Global, objects: &mut Objects) -> Res
     Ok(())
 }
 
+fn forget_and_put<P: PageBook>(
+    rt: &impl Abort,
+    alloc: Global,
+    host: &mut MemHost,
+    book: &mut P,
+    objects: &mut Objects,
+) -> Result<(), Fail>
+    requires book { P.stands true book.old (outside_of host.old) × (P.place book.old ≡ 0) }
+    requires objects { AreAtRest objects.old (P.numbers book.old) 0 (outside_of host.old) }
+{
+    put_each(alloc, host, book, objects, &[(7, 1_200), (8, 501)])?;
+    plan_and_forget(rt, alloc, objects)?;
+    assert_kept(rt, alloc, host, book, objects, &[(7, 1_200), (8, 501)])?;
+    put_each(alloc, host, book, objects, &[(9, 400)])?;
+    assert_kept(
+        rt,
+        alloc,
+        host,
+        book,
+        objects,
+        &[(7, 1_200), (8, 501), (9, 400)],
+    )
+}
+
 // What is forgotten was never there, and may be planned again.
 fn forgets<P: PageBook>(rt: &impl Abort, alloc: Global) -> Result<(), Fail> {
     let mut host = fresh::<P>(rt, alloc, 13)?;
     let mut book: P = opened(rt, alloc, &mut host)?;
     let mut objects = scanned(alloc, &mut host, &mut book)?;
-    put_each(
-        alloc,
-        &mut host,
-        &mut book,
-        &mut objects,
-        &[(7, 1_200), (8, 501)],
-    )?;
-    plan_and_forget(rt, alloc, &mut objects)?;
-    assert_kept(
-        rt,
-        alloc,
-        &mut host,
-        &mut book,
-        &objects,
-        &[(7, 1_200), (8, 501)],
-    )?;
-    put_each(alloc, &mut host, &mut book, &mut objects, &[(9, 400)])?;
-    assert_kept(
-        rt,
-        alloc,
-        &mut host,
-        &mut book,
-        &objects,
-        &[(7, 1_200), (8, 501), (9, 400)],
-    )
+    forget_and_put(rt, alloc, &mut host, &mut book, &mut objects)
 }
 
 #[test]
@@ -229,18 +244,25 @@ fn put_numbers(alloc: Global, batch: &Batch) -> Result<Vec<u32>, AllocError> {
     Ok(numbers)
 }
 
+// The same, where they are not wanting.
+fn numbers_given(alloc: Global, size: u32) -> Result<Vec<u32>, Fail> {
+    Ok(numbers_for(alloc, size)?.ok_or("the object is not planned")?)
+}
+
+fn assert_few(rt: &impl Abort, numbers: &[u32]) {
+    assert!(rt; numbers == [5, 0, 1, 2, 3, 4, 6, 7, 8, 10, 11].as_slice());
+}
+
+fn assert_all(rt: &impl Abort, numbers: &[u32]) {
+    assert!(rt; numbers.len() == 65_535);
+    assert!(rt; numbers.last() == Some(&65_535));
+}
+
 #[test]
 fn every_page_number_is_given(rt: HostRuntime) -> Result<(), Fail> {
     let alloc = rt.alloc();
-    let Some(few) = numbers_for(alloc, 5_000)? else {
-        panic!(&rt; "the object is not planned");
-    };
-    assert!(&rt; few.as_slice() == [5, 0, 1, 2, 3, 4, 6, 7, 8, 10, 11].as_slice());
-    let Some(all) = numbers_for(alloc, 65_534 * 500)? else {
-        panic!(&rt; "the object is not planned");
-    };
-    assert!(&rt; all.len() == 65_535);
-    assert!(&rt; all.last() == Some(&65_535));
+    assert_few(&rt, &numbers_given(alloc, 5_000)?);
+    assert_all(&rt, &numbers_given(alloc, 65_534 * 500)?);
     assert!(&rt; numbers_for(alloc, 65_534 * 500 + 1)?.is_none());
     Ok(())
 }

@@ -1,6 +1,7 @@
 //! Ranges of a large object: they are patched and read, also when the card is opened anew.
 ghost use Rattle.std.specs.Prelude.{◌≡◌, ◌<◌, ◌^◌, true, length, IsSome, OnOk};
 ghost use Rattle.newt_books.specs.Changes.{AreAtRest};
+ghost use Rattle.newt_host.specs.Moments.{IsDurable};
 ghost use Rattle.newt_memhost.specs.Outside.{outside_of};
 ghost use Rattle.newt_objects.specs.Held.{held};
 
@@ -164,6 +165,37 @@ fn assert_refused<P: PageBook>(
     Ok(())
 }
 
+// The same of an object that is there.
+fn assert_both<P: PageBook>(
+    rt: &impl Abort,
+    alloc: Global,
+    host: &mut MemHost,
+    book: &mut P,
+    objects: &Objects,
+    want: &[u8],
+) -> Result<(), Fail>
+    requires book { P.stands true book.old (outside_of host.old) × (P.place book.old ≡ 0) }
+    requires objects { AreAtRest objects.now (P.numbers book.old) 0 (outside_of host.old) }
+{
+    assert!(rt; objects.length(7).is_some());
+    assert_read(rt, alloc, host, book, objects, want)?;
+    assert_refused(rt, alloc, host, book, objects)
+}
+
+// The same on a card.
+fn assert_on_card<P: PageBook>(
+    rt: &impl Abort,
+    alloc: Global,
+    host: &mut MemHost,
+    want: &[u8],
+) -> Result<(), Fail>
+    requires { IsDurable 0 (outside_of host.old).now }
+{
+    let mut book: P = opened(rt, alloc, host)?;
+    let objects = scanned(alloc, host, &mut book)?;
+    assert_both(rt, alloc, host, &mut book, &objects, want)
+}
+
 // The same on the bytes of a card.
 fn assert_ranges<P: PageBook>(
     rt: &impl Abort,
@@ -172,11 +204,71 @@ fn assert_ranges<P: PageBook>(
     want: &[u8],
 ) -> Result<(), Fail> {
     let mut host = host_of(rt, alloc, bytes)?;
-    let mut book: P = opened(rt, alloc, &mut host)?;
-    let objects = scanned(alloc, &mut host, &mut book)?;
+    assert_on_card::<P>(rt, alloc, &mut host, want)
+}
+
+// An object on these bytes has this text.
+fn assert_object<P: PageBook>(
+    rt: &impl Abort,
+    alloc: Global,
+    bytes: &[u8],
+    id: u32,
+    want: &[u8],
+) -> Result<(), Fail> {
+    let object = object_on::<P>(rt, alloc, bytes, id)?;
+    assert!(rt; object.as_slice() == want);
+    Ok(())
+}
+
+// Puts two objects.
+fn put_both<P: PageBook>(
+    alloc: Global,
+    host: &mut MemHost,
+    book: &mut P,
+    objects: &mut Objects,
+) -> Result<(), Fail>
+    requires book { P.stands true book.old (outside_of host.old) × (P.place book.old ≡ 0) }
+    requires objects { AreAtRest objects.old (P.numbers book.old) 0 (outside_of host.old) }
+    ensures book { OnOk result (P.stands true book.new (outside_of host.new) × (P.place book.new ≡ 0)) }
+    ensures objects { OnOk result (AreAtRest objects.new (P.numbers book.new) 0 (outside_of host.new)) }
+{
+    put(alloc, host, book, objects, 7, 1_000_000)?;
+    put(alloc, host, book, objects, 8, 1_200)
+}
+
+// What is patched is found on the bytes of the card.
+fn patch_and_read<P: PageBook>(
+    rt: &impl Abort,
+    alloc: Global,
+    host: &mut MemHost,
+    book: &mut P,
+    objects: &Objects,
+    want: &mut [u8],
+) -> Result<(), Fail>
+    requires book { P.stands true book.old (outside_of host.old) × (P.place book.old ≡ 0) }
+    requires objects { AreAtRest objects.now (P.numbers book.old) 0 (outside_of host.old) }
+{
     assert!(rt; objects.length(7).is_some());
-    assert_read(rt, alloc, &mut host, &mut book, &objects, want)?;
-    assert_refused(rt, alloc, &mut host, &mut book, &objects)
+    patch_all(rt, alloc, host, book, objects, want)?;
+    assert!(rt; has_card(host));
+    assert_object::<P>(rt, alloc, host.bytes(CARD), 7, want)?;
+    assert_object::<P>(rt, alloc, host.bytes(CARD), 8, &text_from(alloc, 8, 1_200)?)?;
+    assert_ranges::<P>(rt, alloc, host.bytes(CARD), want)
+}
+
+fn put_and_patch<P: PageBook>(
+    rt: &impl Abort,
+    alloc: Global,
+    host: &mut MemHost,
+    book: &mut P,
+    objects: &mut Objects,
+) -> Result<(), Fail>
+    requires book { P.stands true book.old (outside_of host.old) × (P.place book.old ≡ 0) }
+    requires objects { AreAtRest objects.old (P.numbers book.old) 0 (outside_of host.old) }
+{
+    put_both(alloc, host, book, objects)?;
+    let mut want = text_from(alloc, 7, 1_000_000)?;
+    patch_and_read(rt, alloc, host, book, objects, &mut want)
 }
 
 // A large object is patched across its pages, and read by ranges when the card is opened anew. Another object stays as it is.
@@ -184,16 +276,7 @@ fn patches<P: PageBook>(rt: &impl Abort, alloc: Global) -> Result<(), Fail> {
     let mut host = fresh::<P>(rt, alloc, 520)?;
     let mut book: P = opened(rt, alloc, &mut host)?;
     let mut objects = scanned(alloc, &mut host, &mut book)?;
-    put(alloc, &mut host, &mut book, &mut objects, 7, 1_000_000)?;
-    put(alloc, &mut host, &mut book, &mut objects, 8, 1_200)?;
-    let mut want = text_from(alloc, 7, 1_000_000)?;
-    assert!(rt; objects.length(7).is_some());
-    patch_all(rt, alloc, &mut host, &mut book, &objects, &mut want)?;
-    assert!(rt; has_card(&host));
-    let bytes = host.bytes(CARD);
-    assert!(rt; object_on::<P>(rt, alloc, bytes, 7)? == want);
-    assert!(rt; object_on::<P>(rt, alloc, bytes, 8)? == text_from(alloc, 8, 1_200)?);
-    assert_ranges::<P>(rt, alloc, bytes, &want)
+    put_and_patch(rt, alloc, &mut host, &mut book, &mut objects)
 }
 
 #[test]

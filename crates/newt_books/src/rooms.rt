@@ -1,10 +1,10 @@
 //! Room for a commit that is refused.
-ghost use Rattle.std.specs.Prelude.{◌≡◌, ◌≤◌, true, length, OnOk};
+ghost use Rattle.std.specs.Prelude.{◌≡◌, ◌≤◌, ◌<◌, ◌^◌, true, length, OnOk};
 ghost use Rattle.newt_memhost.specs.Outside.{outside_of};
 ghost use Rattle.newt_pagebook.specs.Book.{IsAtHand};
 
 use crate::batches::{batch_of, changed};
-use crate::card::{CARD, fresh, has_card, opened, pages_in, pages_on};
+use crate::card::{CARD, Pages, assert_pages, fresh, has_card, opened, pages_in, pages_on};
 use newt_host::Host;
 use newt_memhost::MemHost;
 use newt_pagebook::{Batch, Page, PageBook};
@@ -40,13 +40,27 @@ fn refuse_room<P: PageBook>(
     ensures room { P.spare book.old ≤ P.spare book.new }
 {
     let before = pages_in(alloc, host, book)?;
+    refuse_room_of(rt, alloc, host, book, &before)
+}
+
+// The same of a book that has these pages.
+fn refuse_room_of<P: PageBook>(
+    rt: &impl Abort,
+    alloc: Global,
+    host: &mut MemHost,
+    book: &mut P,
+    before: &Pages,
+) -> Result<(), Fail>
+    requires book { P.stands true book.old (outside_of host.old) × (P.place book.old ≡ 0) }
+    ensures book { P.stands true book.new (outside_of host.new) × (P.place book.new ≡ 0) }
+    ensures room { P.spare book.old ≤ P.spare book.new }
+{
     let at_hand = first_page(rt, host, book)?;
     let from = host.calls();
     assert!(rt; book.reserve(u32::MAX).is_err());
     assert!(rt; host.calls() == from);
     assert!(rt; *book.page() == at_hand);
-    assert!(rt; pages_in(alloc, host, book)? == before);
-    Ok(())
+    assert_pages(rt, alloc, host, book, before)
 }
 
 // Makes room for so many puts. Where that is refused the book is as it was, and it is asked for once more. The answer is whether it was refused.
@@ -62,14 +76,45 @@ fn make_room<P: PageBook>(
     ensures room { OnOk result (puts ≤ P.spare book.new) }
 {
     let before = pages_in(alloc, host, book)?;
+    make_room_in(rt, alloc, host, book, puts, &before)
+}
+
+// The same in a book that has these pages.
+fn make_room_in<P: PageBook>(
+    rt: &impl Abort,
+    alloc: Global,
+    host: &mut MemHost,
+    book: &mut P,
+    puts: u32,
+    before: &Pages,
+) -> Result<bool, Fail>
+    requires book { P.stands true book.old (outside_of host.old) × (P.place book.old ≡ 0) }
+    ensures book { P.stands true book.new (outside_of host.new) × (P.place book.new ≡ 0) }
+    ensures room { OnOk result (puts ≤ P.spare book.new) }
+{
     match book.reserve(puts) {
         Ok(()) => Ok(false),
         Err(_) => {
-            assert!(rt; pages_in(alloc, host, book)? == before);
+            assert_pages(rt, alloc, host, book, before)?;
             book.reserve(puts)?;
             Ok(true)
         }
     }
+}
+
+// The pages that a batch makes of those of a book.
+fn pages_after<P: PageBook>(
+    alloc: Global,
+    host: &mut MemHost,
+    book: &mut P,
+    batch: &Batch,
+) -> Result<Pages, Fail>
+    requires book { P.stands true book.old (outside_of host.old) × (P.place book.old ≡ 0) }
+    ensures book { P.stands true book.new (outside_of host.new) × (P.place book.new ≡ 0) }
+    ensures room { P.spare book.new ≡ P.spare book.old }
+{
+    let before = pages_in(alloc, host, book)?;
+    changed(alloc, &before, batch)
 }
 
 // Commits a batch for whose puts there is room.
@@ -84,11 +129,95 @@ fn commit<P: PageBook>(
     requires room { length batch.now.puts ≤ P.spare book.old }
     ensures { OnOk result (P.stands true book.new (outside_of host.new) × (P.place book.new ≡ 0)) }
 {
-    let before = pages_in(alloc, host, book)?;
-    let after = changed(alloc, &before, batch)?;
+    let after = pages_after(alloc, host, book, batch)?;
+    commit_to(rt, alloc, host, book, batch, &after)
+}
+
+// The same, which makes these pages.
+fn commit_to<P: PageBook>(
+    rt: &impl Abort,
+    alloc: Global,
+    host: &mut MemHost,
+    book: &mut P,
+    batch: &Batch,
+    after: &Pages,
+) -> Result<(), Fail>
+    requires book { P.stands true book.old (outside_of host.old) × (P.place book.old ≡ 0) }
+    requires room { length batch.now.puts ≤ P.spare book.old }
+    ensures { OnOk result (P.stands true book.new (outside_of host.new) × (P.place book.new ≡ 0)) }
+{
     book.commit(host, batch)?;
-    assert!(rt; pages_in(alloc, host, book)? == after);
+    assert_pages(rt, alloc, host, book, after)
+}
+
+// Commits a batch. More room is refused before and behind it. The answer is whether room was refused that could be had.
+fn goes_on_with<P: PageBook>(
+    rt: &impl Abort,
+    alloc: Global,
+    host: &mut MemHost,
+    book: &mut P,
+    batch: &Batch,
+) -> Result<bool, Fail>
+    requires book { P.stands true book.old (outside_of host.old) × (P.place book.old ≡ 0) }
+    requires few { length batch.now.puts < 2 ^ 32 }
+    ensures { OnOk result (P.stands true book.new (outside_of host.new) × (P.place book.new ≡ 0)) }
+{
+    let refused = make_room(rt, alloc, host, book, batch.puts().len() as u32)?;
+    if book.live() > 0 {
+        refuse_room(rt, alloc, host, book)?;
+    }
+    commit(rt, alloc, host, book, batch)?;
+    refuse_room(rt, alloc, host, book)?;
+    Ok(refused)
+}
+
+// The batch of a turn: ten puts behind two deletes.
+fn turn<P: PageBook>(
+    rt: &impl Abort,
+    alloc: Global,
+    host: &mut MemHost,
+    book: &mut P,
+    number: u8,
+) -> Result<bool, Fail>
+    requires book { P.stands true book.old (outside_of host.old) × (P.place book.old ≡ 0) }
+    requires few { number < 3 }
+    ensures { OnOk result (P.stands true book.new (outside_of host.new) × (P.place book.new ≡ 0)) }
+{
+    let batch = batch_of(alloc, number as u32 * 2, 2, 10, number)?;
+    goes_on_with(rt, alloc, host, book, &batch)
+}
+
+// The last pages are found when the card is opened anew.
+fn assert_found<P: PageBook>(
+    rt: &impl Abort,
+    alloc: Global,
+    host: &MemHost,
+    held: &Pages,
+) -> Result<(), Fail> {
+    assert!(rt; has_card(host));
+    let found = pages_on::<P>(rt, alloc, host.bytes(CARD))?;
+    assert!(rt; found == *held);
     Ok(())
+}
+
+// Commits three batches. The answer is how often room was refused that could be had.
+fn goes_on_in<P: PageBook>(
+    rt: &impl Abort,
+    alloc: Global,
+    host: &mut MemHost,
+    book: &mut P,
+) -> Result<u32, Fail>
+    requires book { P.stands true book.old (outside_of host.old) × (P.place book.old ≡ 0) }
+{
+    let mut refused = 0;
+    for number in 0..3u8 {
+        if turn(rt, alloc, host, book, number)? {
+            refused += 1;
+        }
+    }
+    let held = pages_in(alloc, host, book)?;
+    assert_found::<P>(rt, alloc, host, &held)?;
+    Ok(refused)
 }
 
 // Commits three batches. More room is refused before each and behind it, and the last pages are found again when the card is opened anew. The answer is how
@@ -96,22 +225,7 @@ fn commit<P: PageBook>(
 fn goes_on<P: PageBook>(rt: &impl Abort, alloc: Global) -> Result<u32, Fail> {
     let mut host = fresh::<P>(rt, alloc, 13)?;
     let mut book: P = opened(rt, alloc, &mut host)?;
-    let mut refused = 0;
-    for turn in 0..3u8 {
-        let batch = batch_of(alloc, turn as u32 * 2, 2, 10, turn)?;
-        if make_room(rt, alloc, &mut host, &mut book, batch.puts().len() as u32)? {
-            refused += 1;
-        }
-        if book.live() > 0 {
-            refuse_room(rt, alloc, &mut host, &mut book)?;
-        }
-        commit(rt, alloc, &mut host, &mut book, &batch)?;
-        refuse_room(rt, alloc, &mut host, &mut book)?;
-    }
-    let held = pages_in(alloc, &mut host, &mut book)?;
-    assert!(rt; has_card(&host));
-    assert!(rt; pages_on::<P>(rt, alloc, host.bytes(CARD))? == held);
-    Ok(refused)
+    goes_on_in(rt, alloc, &mut host, &mut book)
 }
 
 #[test]
