@@ -2,31 +2,38 @@
 
 use newt_base::{Name, Sig, Uid};
 use newt_cursor::{Desk, DeskFault, Place, Query, Scope};
+use newt_graph::Graph;
 use newt_index::Spot;
 use newt_keys::{Key, Part};
 use newt_lit_read::read_literal;
-use newt_query::Shape;
+use newt_query::{Shape, Spec};
 use std::alloc::Global;
+use std::process::Abort;
 use std::test::*;
+
+/// What a frame asks of every entry.
+fn spec_of(alloc: Global, graph: &Graph) -> Result<Spec, Fail> {
+    let shape = Shape::read(alloc, graph).ok().ok_or("a query")?;
+    Ok(
+        shape
+            .bind(alloc, graph, None)
+            .ok()
+            .ok_or("keys of the index")?,
+    )
+}
+
+fn empty_spec(alloc: Global) -> Result<Spec, Fail> {
+    let graph = read_literal(alloc, "{}").ok().ok_or("a literal")?;
+    spec_of(alloc, &graph)
+}
 
 /// A query over all soups of a name.
 fn query(alloc: Global, name: &str) -> Result<Query, Fail> {
-    let Ok(graph) = read_literal(alloc, "{}") else {
-        return Err("a literal".into());
-    };
-    let Ok(shape) = Shape::read(alloc, &graph) else {
-        return Err("a query".into());
-    };
-    let Ok(spec) = shape.bind(alloc, &graph, None) else {
-        return Err("keys of the index".into());
-    };
-    let Ok(name) = Name::read(alloc, name.as_bytes()) else {
-        return Err("a name".into());
-    };
+    let name = Name::read(alloc, name.as_bytes())?;
     Ok(Query {
         scope: Scope::All,
         name,
-        spec,
+        spec: empty_spec(alloc)?,
     })
 }
 
@@ -91,61 +98,105 @@ fn full(alloc: Global) -> Result<Desk, Fail> {
     Ok(desk)
 }
 
-#[test]
-fn the_33rd_cursor_is_refused(rt: HostRuntime) -> Result<(), Fail> {
-    let mut desk = full(rt.alloc())?;
-    let refused = desk.open(query(rt.alloc(), "Dates")?, Place::Finish);
-    assert!(rt; matches!(refused, Err(DeskFault::Limit)));
+fn assert_start(rt: &impl Abort, desk: &Desk, cursor: u8) {
+    assert!(rt;
+        matches!(desk.place(cursor), Some(Place::Start)),
+        "at {cursor}"
+    );
+}
+
+/// Whether one cursor more is refused as one too many.
+fn is_full(alloc: Global, desk: &mut Desk) -> Result<bool, Fail> {
+    let query = query(alloc, "Dates")?;
+    Ok(matches!(desk.open(query, Place::Finish), Err(DeskFault::Limit)))
+}
+
+fn refuse_the_33rd(rt: &impl Abort, alloc: Global, desk: &mut Desk) -> Result<(), Fail> {
+    assert!(rt; is_full(alloc, desk)?);
     for cursor in 0..32u8 {
-        assert!(rt;
-            matches!(desk.place(cursor), Some(Place::Start)),
-            "at {cursor}"
-        );
+        assert_start(rt, desk, cursor);
     }
     assert!(rt; desk.place(32).is_none());
     Ok(())
 }
 
 #[test]
-fn a_closed_number_is_taken_again(rt: HostRuntime) -> Result<(), Fail> {
+fn the_33rd_cursor_is_refused(rt: HostRuntime) -> Result<(), Fail> {
     let mut desk = full(rt.alloc())?;
+    refuse_the_33rd(&rt, rt.alloc(), &mut desk)
+}
+
+/// Whether the query of a cursor is over the soups of this name.
+fn is_over(desk: &Desk, cursor: u8, name: &[u8]) -> bool {
+    desk.query(cursor)
+        .is_some_and(|query| query.name.list() == name)
+}
+
+fn close_and_open(rt: &impl Abort, alloc: Global, desk: &mut Desk) -> Result<(), Fail> {
     desk.close(20);
     desk.close(7);
     desk.close(32);
     assert!(rt; desk.query(7).is_none());
-    assert!(rt; opened(rt.alloc(), &mut desk, "Dates", Place::Finish)? == 7);
-    assert!(rt; cloned(&mut desk, 7)? == 20);
+    assert!(rt; opened(alloc, desk, "Dates", Place::Finish)? == 7);
+    assert!(rt; cloned(desk, 7)? == 20);
     assert!(rt; matches!(desk.place(20), Some(Place::Finish)));
-    let Some(query) = desk.query(20) else {
-        return Err("an open cursor".into());
-    };
-    assert!(rt; query.name.list() == b"Dates".as_slice());
+    assert!(rt; is_over(desk, 20, b"Dates"));
+    Ok(())
+}
+
+#[test]
+fn a_closed_number_is_taken_again(rt: HostRuntime) -> Result<(), Fail> {
+    let mut desk = full(rt.alloc())?;
+    close_and_open(&rt, rt.alloc(), &mut desk)
+}
+
+/// Opens a cursor on an entry of a store.
+fn open_on(alloc: Global, desk: &mut Desk, store: u32, uid: u32) -> Result<(), Fail> {
+    let place = on(alloc, 5, store, uid)?;
+    opened(alloc, desk, "Notes", place)?;
+    Ok(())
+}
+
+/// The first cursors take the key 8.
+fn change_three(alloc: Global, desk: &mut Desk) -> Result<(), Fail> {
+    for cursor in 0..3u8 {
+        desk.changed(cursor, key(alloc, 8)?);
+    }
+    Ok(())
+}
+
+fn assert_shown(rt: &impl Abort, desk: &Desk, cursor: u8, want: (u32, i32)) {
+    assert!(rt; shown(desk, cursor) == Some(want), "at {cursor}");
+}
+
+fn assert_watchers(rt: &impl Abort, desk: &Desk, uid: u32, want: u32) {
+    assert!(rt; watchers(desk, uid) == want, "of {uid}");
+}
+
+fn change_and_step(rt: &impl Abort, alloc: Global, desk: &mut Desk) -> Result<(), Fail> {
+    open_on(alloc, desk, 1, 3)?;
+    opened(alloc, desk, "Notes", Place::Start)?;
+    open_on(alloc, desk, 1, 3)?;
+    open_on(alloc, desk, 1, 4)?;
+    open_on(alloc, desk, 9, 3)?;
+    assert_watchers(rt, desk, 3, 0b00101);
+    change_three(alloc, desk)?;
+    assert_shown(rt, desk, 0, (3, 8));
+    assert_start(rt, desk, 1);
+    assert_shown(rt, desk, 2, (3, 8));
+    assert_shown(rt, desk, 3, (4, 5));
+    desk.step(0, on(alloc, 5, 1, 4)?);
+    assert_watchers(rt, desk, 3, 0b00100);
+    assert_watchers(rt, desk, 4, 0b01001);
+    assert!(rt; cloned(desk, 2)? == 5);
+    assert_watchers(rt, desk, 3, 0b100100);
+    desk.step(5, Place::Finish);
+    assert_shown(rt, desk, 2, (3, 8));
     Ok(())
 }
 
 #[test]
 fn two_cursors_on_one_entry_take_its_key(rt: HostRuntime) -> Result<(), Fail> {
-    let alloc = rt.alloc();
-    let mut desk = Desk::new(alloc)?;
-    opened(alloc, &mut desk, "Notes", on(alloc, 5, 1, 3)?)?;
-    opened(alloc, &mut desk, "Notes", Place::Start)?;
-    opened(alloc, &mut desk, "Notes", on(alloc, 5, 1, 3)?)?;
-    opened(alloc, &mut desk, "Notes", on(alloc, 5, 1, 4)?)?;
-    opened(alloc, &mut desk, "Notes", on(alloc, 5, 9, 3)?)?;
-    assert!(rt; watchers(&desk, 3) == 0b00101);
-    for cursor in 0..3u8 {
-        desk.changed(cursor, key(alloc, 8)?);
-    }
-    assert!(rt; shown(&desk, 0) == Some((3, 8)));
-    assert!(rt; matches!(desk.place(1), Some(Place::Start)));
-    assert!(rt; shown(&desk, 2) == Some((3, 8)));
-    assert!(rt; shown(&desk, 3) == Some((4, 5)));
-    desk.step(0, on(alloc, 5, 1, 4)?);
-    assert!(rt; watchers(&desk, 3) == 0b00100);
-    assert!(rt; watchers(&desk, 4) == 0b01001);
-    assert!(rt; cloned(&mut desk, 2)? == 5);
-    assert!(rt; watchers(&desk, 3) == 0b100100);
-    desk.step(5, Place::Finish);
-    assert!(rt; shown(&desk, 2) == Some((3, 8)));
-    Ok(())
+    let mut desk = Desk::new(rt.alloc())?;
+    change_and_step(&rt, rt.alloc(), &mut desk)
 }

@@ -51,15 +51,30 @@ pub(crate) fn literal(alloc: Global, text: &str) -> Result<Graph, Fail> {
     }
 }
 
+/// A text behind a sign.
+fn told_text(alloc: Global, sign: char, text: &[u8]) -> Result<String, Fail> {
+    Ok(format!(in alloc; "{sign}{}", str::from_utf8(text)?)?)
+}
+
 /// A part: `-` where it is missing, and else a number, or a text behind what says its type.
 fn told_part(alloc: Global, part: &Part) -> Result<String, Fail> {
-    Ok(match part {
-        Part::Missing => String::from_str(alloc, "-")?,
-        Part::Text(text) => format!(in alloc; "\"{}", str::from_utf8(text.list())?)?,
-        Part::Int(number) => format!(in alloc; "{number}")?,
-        Part::Char(unit) => format!(in alloc; "${unit}")?,
-        Part::Symbol(name) => format!(in alloc; "'{}", str::from_utf8(name.list())?)?,
-    })
+    match part {
+        Part::Missing => Ok(String::from_str(alloc, "-")?),
+        Part::Text(text) => told_text(alloc, '"', text.list()),
+        Part::Int(number) => Ok(format!(in alloc; "{number}")?),
+        Part::Char(unit) => Ok(format!(in alloc; "${unit}")?),
+        Part::Symbol(name) => told_text(alloc, '\'', name.list()),
+    }
+}
+
+fn push_parts(alloc: Global, to: &mut String, key: &Key) -> Result<(), Fail> {
+    for (i, part) in key.list().iter().enumerate() {
+        if i > 0 {
+            to.push(' ')?;
+        }
+        to.push_str(&told_part(alloc, part)?)?;
+    }
+    Ok(())
 }
 
 /// The parts of a key, or that there is none.
@@ -68,26 +83,30 @@ fn told(alloc: Global, found: &Option<Key>) -> Result<String, Fail> {
         return Ok(String::from_str(alloc, "no key")?);
     };
     let mut out = String::new(alloc);
-    for (i, part) in key.list().iter().enumerate() {
-        if i > 0 {
-            out.push(' ')?;
-        }
-        out.push_str(&told_part(alloc, part)?)?;
-    }
+    push_parts(alloc, &mut out, key)?;
     Ok(out)
+}
+
+fn key_told(alloc: Global, graph: &Graph, spec: &IndexSpec) -> Result<String, Fail> {
+    told(alloc, &key_of(alloc, graph, spec)?)
 }
 
 /// The key that a graph has.
 pub(crate) fn key(alloc: Global, declared: &Declared, text: &str) -> Result<String, Fail> {
     let spec = spec_of(alloc, declared)?;
-    told(alloc, &key_of(alloc, &literal(alloc, text)?, &spec)?)
+    let graph = literal(alloc, text)?;
+    key_told(alloc, &graph, &spec)
+}
+
+fn written_told(alloc: Global, graph: &Graph, spec: &IndexSpec) -> Result<String, Fail> {
+    told(alloc, &key_from(alloc, graph, graph.root(), spec)?)
 }
 
 /// The key that a value writes down.
 pub(crate) fn written(alloc: Global, declared: &Declared, text: &str) -> Result<String, Fail> {
     let spec = spec_of(alloc, declared)?;
     let graph = literal(alloc, text)?;
-    told(alloc, &key_from(alloc, &graph, graph.root(), &spec)?)
+    written_told(alloc, &graph, &spec)
 }
 
 /// Strings are cut at 39 units, a pair too, and then folded, and a folded text may be longer.

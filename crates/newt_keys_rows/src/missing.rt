@@ -35,15 +35,17 @@ fn four(alloc: Global, order: Order) -> Result<IndexSpec, AllocError> {
     Ok(IndexSpec::new(parts))
 }
 
+/// The key that a literal writes down.
+fn key(alloc: Global, spec: &IndexSpec, text: &str) -> Result<Key, Fail> {
+    let graph = literal(alloc, text)?;
+    Ok(key_from(alloc, &graph, graph.root(), spec)?.ok_or("a key")?)
+}
+
 /// The keys that literals write down.
 fn keys(alloc: Global, spec: &IndexSpec, text: &str) -> Result<Vec<Key>, Fail> {
     let mut keys = Vec::new(alloc);
     for part in text.split(" < ") {
-        let graph = literal(alloc, part)?;
-        match key_from(alloc, &graph, graph.root(), spec)? {
-            Some(key) => keys.push(key)?,
-            None => return Err("a key".into()),
-        }
+        keys.push(key(alloc, spec, part)?)?;
     }
     Ok(keys)
 }
@@ -57,11 +59,15 @@ fn rise(keys: &[Key], spec: &IndexSpec) -> bool {
     })
 }
 
+fn are_rising(alloc: Global, keys: &[Key], spec: &IndexSpec) -> Result<String, Fail> {
+    Ok(format!(in alloc; "{}", rise(keys, spec))?)
+}
+
 /// Whether keys of four integers rise.
 pub(crate) fn rising(alloc: Global, order: Order, text: &str) -> Result<String, Fail> {
     let spec = four(alloc, order)?;
     let keys = keys(alloc, &spec, text)?;
-    Ok(format!(in alloc; "{}", rise(&keys, &spec))?)
+    are_rising(alloc, &keys, &spec)
 }
 
 const ASCENDING: &str = "

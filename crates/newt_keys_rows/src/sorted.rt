@@ -1,5 +1,5 @@
 //! An index of 200 pairs against the list sorted afresh, in both orders, with ample memory.
-ghost use Rattle.std.specs.Prelude.{◌≡◌, ◌∷◌, [], Some, IfOk, OnOk};
+ghost use Rattle.std.specs.Prelude.{◌≡◌, ◌∷◌, [], None, Some, IfOk, OnOk};
 ghost use Rattle.newt_spec_store.specs.Keys.{whole};
 ghost use Rattle.newt_keys_rows.specs.Trials.{integers};
 
@@ -9,6 +9,7 @@ use newt_index::{Index, Probe};
 use newt_keys::{IndexPart, IndexSpec, Key, Kind, Order, Part};
 use newt_path::Path;
 use std::alloc::{AllocError, Global};
+use std::process::Abort;
 use std::test::*;
 
 /// The declaration of the integers at the path `a`.
@@ -112,6 +113,42 @@ fn element(order: Order, key: &Key, uid: Uid) -> Option<(i32, u32)> {
     }
 }
 
+fn before_of(list: &[(i32, u32)], i: usize) -> Option<(i32, u32)> {
+    list.get(i.checked_sub(1)?).copied()
+}
+
+fn first_of(list: &[(i32, u32)], number: i32) -> Option<(i32, u32)> {
+    list.iter().find(|pair| pair.0 == number).copied()
+}
+
+fn last_of(list: &[(i32, u32)], number: i32) -> Option<(i32, u32)> {
+    list.iter().rev().find(|pair| pair.0 == number).copied()
+}
+
+/// Whether the pairs behind and before an id are these.
+fn has_neighbours(
+    index: &Index,
+    order: Order,
+    at: &mut Probe,
+    uid: u32,
+    after: Option<(i32, u32)>,
+    before: Option<(i32, u32)>,
+) -> bool {
+    shown(order, &index.after(at, Uid(uid))) == after
+        && shown(order, &index.before(at, Uid(uid))) == before
+}
+
+/// Whether the first and the last pair of a number are these.
+fn has_ends(
+    index: &Index,
+    order: Order,
+    at: &mut Probe,
+    first: Option<(i32, u32)>,
+    last: Option<(i32, u32)>,
+) -> bool {
+    shown(order, &index.at_or_after(at)) == first && shown(order, &index.at_or_before(at)) == last
+}
+
 /// Whether each search from a pair of the list finds its neighbours.
 fn finds(
     alloc: Global,
@@ -123,20 +160,17 @@ fn finds(
     let Some((number, uid)) = list.get(i).copied() else {
         return Ok(false);
     };
-    let before = if i == 0 {
-        None
-    } else {
-        list.get(i - 1).copied()
-    };
     let after = list.get(i.wrapping_add(1)).copied();
-    let first = list.iter().find(|pair| pair.0 == number).copied();
-    let last = list.iter().rev().find(|pair| pair.0 == number).copied();
     let mut at = probe(alloc, order, rising(order, number))?;
     Ok(
-        shown(order, &index.after(&mut at, Uid(uid))) == after
-            && shown(order, &index.before(&mut at, Uid(uid))) == before
-            && shown(order, &index.at_or_after(&mut at)) == first
-            && shown(order, &index.at_or_before(&mut at)) == last,
+        has_neighbours(index, order, &mut at, uid, after, before_of(list, i))
+            && has_ends(
+                index,
+                order,
+                &mut at,
+                first_of(list, number),
+                last_of(list, number),
+            ),
     )
 }
 
@@ -163,14 +197,31 @@ fn is_list(
     Ok(true)
 }
 
+/// Whether the index is the list of 200 entries, all of them or without each third.
+fn is_sorted_list(
+    alloc: Global,
+    index: &Index,
+    order: Order,
+    thinned: bool,
+) -> Result<bool, AllocError> {
+    let list = sorted(alloc, order, 200, thinned)?;
+    is_list(alloc, index, order, &list)
+}
+
+fn stays_sorted(alloc: Global, index: &mut Index, order: Order) -> Result<bool, AllocError>
+    requires { index.old.spec ≡ Some (integers order) }
+{
+    if !is_sorted_list(alloc, index, order, false)? {
+        return Ok(false);
+    }
+    thinned(alloc, index, order, 200)?;
+    is_sorted_list(alloc, index, order, true)
+}
+
 /// Whether an index of 200 entries is the sorted list, before and after each third is removed.
 fn is_sorted(alloc: Global, order: Order) -> Result<bool, AllocError> {
     let mut index = filled(alloc, order, 200)?;
-    if !is_list(alloc, &index, order, &sorted(alloc, order, 200, false)?)? {
-        return Ok(false);
-    }
-    thinned(alloc, &mut index, order, 200)?;
-    is_list(alloc, &index, order, &sorted(alloc, order, 200, true)?)
+    stays_sorted(alloc, &mut index, order)
 }
 
 #[test]
@@ -179,21 +230,25 @@ fn two_hundred_entries_are_the_sorted_list(rt: HostRuntime) {
     assert!(rt; matches!(is_sorted(rt.alloc(), Order::Descend), Ok(true)));
 }
 
+fn assert_seven(rt: &impl Abort, index: &Index, at: &mut Probe) {
+    assert!(rt; matches!(index.after(at, Uid(6)), Some((_, Uid(7)))));
+    assert!(rt; index.after(at, Uid(7)).is_none());
+    assert!(rt; matches!(index.at_or_after(at), Some((_, Uid(7)))));
+}
+
+/// The id 7 is added, is found, and is removed.
+fn put_and_remove(rt: &impl Abort, alloc: Global, index: &mut Index) -> Result<(), AllocError>
+    requires { index.old.spec ≡ None }
+{
+    index.put(Key::empty(alloc), Uid(7))?;
+    assert_seven(rt, index, &mut Probe::empty(alloc));
+    index.remove(&Key::empty(alloc), Uid(7))?;
+    assert!(rt; index.len() == 0);
+    Ok(())
+}
+
 #[test]
 fn with_no_declaration_the_ids_decide(rt: HostRuntime) -> Result<(), Fail> {
     let mut index = Index::new(rt.alloc(), None);
-    index
-        .put(Key::empty(rt.alloc()), Uid(7))
-        .ok()
-        .ok_or("memory is ample")?;
-    let mut at = Probe::empty(rt.alloc());
-    assert!(rt; matches!(index.after(&mut at, Uid(6)), Some((_, Uid(7)))));
-    assert!(rt; index.after(&mut at, Uid(7)).is_none());
-    assert!(rt; matches!(index.at_or_after(&mut at), Some((_, Uid(7)))));
-    index
-        .remove(&Key::empty(rt.alloc()), Uid(7))
-        .ok()
-        .ok_or("memory is ample")?;
-    assert_eq!(rt; index.len(), 0);
-    Ok(())
+    Ok(put_and_remove(&rt, rt.alloc(), &mut index)?)
 }

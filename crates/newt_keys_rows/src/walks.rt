@@ -22,22 +22,30 @@ fn add(index: &mut Index, uid: u32, entry: &Graph) -> Result<(), Fail> {
     Ok(())
 }
 
+fn add_all(alloc: Global, index: &mut Index, entries: &str) -> Result<(), Fail> {
+    for (entry, uid) in entries.split(" | ").zip(0..100) {
+        add(index, uid, &literal(alloc, entry)?)?;
+    }
+    Ok(())
+}
+
 /// The index of entries, whose ids rise from 0.
 fn filled(alloc: Global, order: Order, entries: &str) -> Result<Index, Fail> {
     let mut index = Index::new(alloc, Some(strings(alloc, order)?));
-    for (entry, uid) in entries.split(" | ").zip(0..100) {
-        add(&mut index, uid, &literal(alloc, entry)?)?;
-    }
+    add_all(alloc, &mut index, entries)?;
     Ok(index)
+}
+
+fn probe_of(alloc: Global, graph: &Graph, spec: &IndexSpec) -> Result<Probe, Fail> {
+    let key = key_of(alloc, graph, spec)?.ok_or("a key")?;
+    Ok(Probe::new(alloc, &key, spec)?)
 }
 
 /// The probe of an entry's key.
 fn probe(alloc: Global, order: Order, entry: &str) -> Result<Probe, Fail> {
     let spec = strings(alloc, order)?;
-    match key_of(alloc, &literal(alloc, entry)?, &spec)? {
-        Some(key) => Ok(Probe::new(alloc, &key, &spec)?),
-        None => Err("a key".into()),
-    }
+    let graph = literal(alloc, entry)?;
+    probe_of(alloc, &graph, &spec)
 }
 
 /// The id of a pair.
@@ -90,22 +98,30 @@ fn push_ids(
     Err("an end".into())
 }
 
+fn walked_in(alloc: Global, index: &Index, order: Order, entries: &str) -> Result<String, Fail> {
+    let mut ids = String::new(alloc);
+    push_ids(alloc, &mut ids, index, order, entries, true)?;
+    push_ids(alloc, &mut ids, index, order, entries, false)?;
+    Ok(format!(in alloc; "{ids}of {}", index.len())?)
+}
+
 /// The ids of entries, from the first of the index of their strings to its last, and back.
 pub(crate) fn walked(alloc: Global, order: Order, entries: &str) -> Result<String, Fail> {
     let index = filled(alloc, order, entries)?;
-    let mut ids = String::new(alloc);
-    push_ids(alloc, &mut ids, &index, order, entries, true)?;
-    push_ids(alloc, &mut ids, &index, order, entries, false)?;
-    Ok(format!(in alloc; "{ids}of {}", index.len())?)
+    walked_in(alloc, &index, order, entries)
+}
+
+fn near_in(alloc: Global, index: &Index, at: &mut Probe) -> Result<String, Fail> {
+    let after = id(&index.after(at, Uid(1)));
+    let before = id(&index.before(at, Uid(1)));
+    Ok(format!(in alloc; "{after:?} {before:?} of {}", index.len())?)
 }
 
 /// The ids behind and before a pair of the string `d` and the id 1.
 pub(crate) fn near(alloc: Global, entries: &str) -> Result<String, Fail> {
     let index = filled(alloc, Order::Ascend, entries)?;
     let mut d = probe(alloc, Order::Ascend, "{k: \"d\"}")?;
-    let after = id(&index.after(&mut d, Uid(1)));
-    let before = id(&index.before(&mut d, Uid(1)));
-    Ok(format!(in alloc; "{after:?} {before:?} of {}", index.len())?)
+    near_in(alloc, &index, &mut d)
 }
 
 /// The ids of a walk forward and of one back, and how many there are. Ties rise by id in both orders, and an entry without a key is not there.

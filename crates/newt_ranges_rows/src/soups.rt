@@ -6,11 +6,22 @@ use newt_index::Index;
 use newt_keys::IndexSpec;
 use newt_ranges::{Ranges, add_entry};
 use std::alloc::Global;
+use std::process::Abort;
 use std::test::*;
 
 const ALL: Left = Left {
     changed: false,
     removed: false,
+};
+
+const CHANGED: Left = Left {
+    changed: true,
+    removed: false,
+};
+
+const REMOVED: Left = Left {
+    changed: true,
+    removed: true,
 };
 
 /// Adds an entry that a soup does not have.
@@ -20,12 +31,16 @@ fn add_new(alloc: Global, ranges: &mut Ranges, soup: u32, uid: u32) -> Result<()
     Ok(())
 }
 
+fn add_to(alloc: Global, range: &mut Index, uid: u32) -> Result<(), Fail> {
+    let graph = graph(alloc, uid, false)?;
+    Ok(add_entry(range, Uid(uid), &graph)?)
+}
+
 /// The range of the first entries by a declaration.
 fn filled(alloc: Global, spec: IndexSpec, count: u32) -> Result<Index, Fail> {
     let mut range = Index::new(alloc, Some(spec));
     for uid in 0..count {
-        let graph = graph(alloc, uid, false)?;
-        add_entry(&mut range, Uid(uid), &graph)?;
+        add_to(alloc, &mut range, uid)?;
     }
     Ok(range)
 }
@@ -75,71 +90,104 @@ fn remove_some(ranges: &mut Ranges, soup: u32) {
     }
 }
 
+/// The soups 3 and 5 are made so.
+fn make_both(alloc: Global, ranges: &mut Ranges) -> Result<(), Fail> {
+    two_hundred(alloc, ranges, 3)?;
+    opened(alloc, ranges, 5)
+}
+
+/// Fails where the ranges of a soup are other lists.
+fn expect_lists(alloc: Global, ranges: &Ranges, soup: u32, left: Left) -> Result<(), Fail> {
+    if !has_lists(alloc, ranges, soup, left)? {
+        return Err(Fail::new(format_args!("other lists of {soup}: {left:?}")));
+    }
+    Ok(())
+}
+
+fn is_there(ranges: &Ranges, soup: u32, spec: Option<&IndexSpec>) -> bool {
+    ranges.range_of(Sig(soup), spec).is_some()
+}
+
+fn change_and_remove(alloc: Global, ranges: &mut Ranges) -> Result<(), Fail> {
+    make_both(alloc, ranges)?;
+    expect_lists(alloc, ranges, 3, ALL)?;
+    expect_lists(alloc, ranges, 5, ALL)?;
+    change_some(alloc, ranges, 3)?;
+    expect_lists(alloc, ranges, 3, CHANGED)?;
+    remove_some(ranges, 3);
+    expect_lists(alloc, ranges, 3, REMOVED)?;
+    expect_lists(alloc, ranges, 5, ALL)
+}
+
 #[test]
 fn ranges_are_the_lists_sorted_afresh(rt: HostRuntime) -> Result<(), Fail> {
-    let alloc = rt.alloc();
-    let mut ranges = Ranges::new(alloc);
-    two_hundred(alloc, &mut ranges, 3)?;
-    opened(alloc, &mut ranges, 5)?;
-    assert!(rt; has_lists(alloc, &ranges, 3, ALL)?);
-    assert!(rt; has_lists(alloc, &ranges, 5, ALL)?);
-    change_some(alloc, &mut ranges, 3)?;
-    let changed = Left {
-        changed: true,
-        removed: false,
-    };
-    assert!(rt; has_lists(alloc, &ranges, 3, changed)?);
-    remove_some(&mut ranges, 3);
-    let removed = Left {
-        changed: true,
-        removed: true,
-    };
-    assert!(rt; has_lists(alloc, &ranges, 3, removed)?);
-    assert!(rt; has_lists(alloc, &ranges, 5, ALL)?);
+    let mut ranges = Ranges::new(rt.alloc());
+    change_and_remove(rt.alloc(), &mut ranges)
+}
+
+fn undeclare_number(alloc: Global, ranges: &mut Ranges) -> Result<(), Fail> {
+    let paths = number_paths(alloc)?;
+    ranges.undeclare(Sig(3), &paths);
     Ok(())
+}
+
+/// Whether the soup has the declaration of the numbers.
+fn has_numbers(alloc: Global, ranges: &Ranges, soup: u32) -> Result<bool, Fail> {
+    let number = by_number(alloc)?;
+    Ok(is_there(ranges, soup, Some(&number)))
+}
+
+fn undeclare(rt: &impl Abort, alloc: Global, ranges: &mut Ranges) -> Result<(), Fail> {
+    make_both(alloc, ranges)?;
+    undeclare_number(alloc, ranges)?;
+    assert!(rt; !has_numbers(alloc, ranges, 3)?);
+    assert!(rt; has_list(alloc, ranges, 3, By::Name, ALL)?);
+    assert!(rt; has_list(alloc, ranges, 3, By::Id, ALL)?);
+    expect_lists(alloc, ranges, 5, ALL)
 }
 
 #[test]
 fn a_declaration_goes_by_its_paths(rt: HostRuntime) -> Result<(), Fail> {
-    let alloc = rt.alloc();
-    let mut ranges = Ranges::new(alloc);
-    two_hundred(alloc, &mut ranges, 3)?;
-    opened(alloc, &mut ranges, 5)?;
-    ranges.undeclare(Sig(3), &number_paths(alloc)?);
-    let number = by_number(alloc)?;
-    assert!(rt; ranges.range_of(Sig(3), Some(&number)).is_none());
-    assert!(rt; has_list(alloc, &ranges, 3, By::Name, ALL)?);
-    assert!(rt; has_list(alloc, &ranges, 3, By::Id, ALL)?);
-    assert!(rt; has_lists(alloc, &ranges, 5, ALL)?);
-    Ok(())
+    let mut ranges = Ranges::new(rt.alloc());
+    undeclare(&rt, rt.alloc(), &mut ranges)
+}
+
+/// How many entries the soup has, if it is there.
+fn count_of(ranges: &Ranges, soup: u32) -> Option<usize> {
+    ranges.range_of(Sig(soup), None).map(|ids| ids.len())
+}
+
+fn drop_and_make(rt: &impl Abort, alloc: Global, ranges: &mut Ranges) -> Result<(), Fail> {
+    make_both(alloc, ranges)?;
+    ranges.drop_soup(Sig(3));
+    assert!(rt; !is_there(ranges, 3, None));
+    ranges.make_soup(Sig(6), &[])?;
+    assert!(rt; count_of(ranges, 6) == Some(0));
+    assert!(rt; !has_numbers(alloc, ranges, 6)?);
+    expect_lists(alloc, ranges, 5, ALL)
 }
 
 #[test]
 fn a_soup_that_is_made_again_has_no_entries(rt: HostRuntime) -> Result<(), Fail> {
-    let alloc = rt.alloc();
-    let mut ranges = Ranges::new(alloc);
-    two_hundred(alloc, &mut ranges, 3)?;
-    opened(alloc, &mut ranges, 5)?;
-    ranges.drop_soup(Sig(3));
-    assert!(rt; ranges.range_of(Sig(3), None).is_none());
-    ranges.make_soup(Sig(6), &[])?;
-    let ids = ranges.range_of(Sig(6), None).ok_or("the soup is there")?;
-    assert_eq!(rt; ids.len(), 0);
-    let number = by_number(alloc)?;
-    assert!(rt; ranges.range_of(Sig(6), Some(&number)).is_none());
-    assert!(rt; has_lists(alloc, &ranges, 5, ALL)?);
-    Ok(())
+    let mut ranges = Ranges::new(rt.alloc());
+    drop_and_make(&rt, rt.alloc(), &mut ranges)
+}
+
+fn change_what_is_not_there(
+    rt: &impl Abort,
+    alloc: Global,
+    ranges: &mut Ranges,
+) -> Result<(), Fail> {
+    opened(alloc, ranges, 5)?;
+    add_new(alloc, ranges, 4, 7)?;
+    ranges.remove(Sig(4), Uid(7));
+    ranges.drop_soup(Sig(4));
+    assert!(rt; !is_there(ranges, 4, None));
+    expect_lists(alloc, ranges, 5, ALL)
 }
 
 #[test]
 fn a_soup_that_is_not_there_changes_nothing(rt: HostRuntime) -> Result<(), Fail> {
-    let alloc = rt.alloc();
-    let mut ranges = Ranges::new(alloc);
-    opened(alloc, &mut ranges, 5)?;
-    add_new(alloc, &mut ranges, 4, 7)?;
-    ranges.remove(Sig(4), Uid(7));
-    ranges.drop_soup(Sig(4));
-    assert!(rt; ranges.range_of(Sig(4), None).is_none());
-    assert!(rt; has_lists(alloc, &ranges, 5, ALL)?);
-    Ok(())
+    let mut ranges = Ranges::new(rt.alloc());
+    change_what_is_not_there(&rt, rt.alloc(), &mut ranges)
 }

@@ -7,16 +7,20 @@ use newt_soupdir::{Directory, read_directory, write_directory};
 use newt_tables::{bytes_of, expect_rows};
 use newt_tags::TagTable;
 use std::alloc::Global;
+use std::process::Abort;
 use std::test::*;
 
 /// The name, the signature and the next soup of a directory, and whether it is written as the same bytes; or that there is none.
 pub(crate) fn directory(alloc: Global, bytes: &[u8]) -> Result<String, Fail> {
-    let read = match read_directory(alloc, bytes) {
-        Ok(read) => read,
-        Err(fault) => return Ok(format!(in alloc; "{fault:?}")?),
-    };
+    match read_directory(alloc, bytes) {
+        Ok(read) => described(alloc, &read, bytes),
+        Err(fault) => Ok(format!(in alloc; "{fault:?}")?),
+    }
+}
+
+fn described(alloc: Global, read: &Directory, bytes: &[u8]) -> Result<String, Fail> {
     let name = str::from_utf8(read.name.list())?;
-    let kept = is_written(alloc, &read, bytes);
+    let kept = is_written(alloc, read, bytes);
     Ok(format!(in alloc; "{name} {} {} {kept}", read.sig.0, read.next_soup)?)
 }
 
@@ -38,6 +42,10 @@ fn read_words(alloc: Global, words: &str) -> Result<Directory, Fail> {
 fn read_tail(alloc: Global, words: &str) -> Result<Directory, Fail> {
     let tail = bytes_of(alloc, words)?;
     Ok(read_directory(alloc, &with_tail(alloc, &tail)?)?)
+}
+
+fn copy_of(alloc: Global, words: &str) -> Result<Directory, Fail> {
+    Ok(read_words(alloc, words)?.copy()?)
 }
 
 fn is_written(alloc: Global, directory: &Directory, bytes: &[u8]) -> bool {
@@ -117,20 +125,33 @@ const TWO_SOUPS: &str =
 /// The same when `a` is gone, `A` has one entry more, and `B` was made.
 const CHANGED: &str = "01 'S 00000001 0003 02 01 'A 0000 00000004 00 00 01 'B 0002 00000000 00 00";
 
-#[test]
-fn soups_are_found_and_changed(rt: HostRuntime) -> Result<(), Fail> {
-    let alloc = rt.alloc();
-    let read = read_words(alloc, TWO_SOUPS)?;
-    let mut directory = read.copy()?;
+/// The soups of `TWO_SOUPS` are found, and no other.
+fn assert_two(rt: &impl Abort, directory: &Directory) {
     assert!(rt; directory.soup_named(b"a").map(|row| row.sig.0) == Some(1));
     assert!(rt; directory.soup_of(Sig(0)).map(|row| row.next_uid) == Some(3));
     assert!(rt; directory.soup_named(b"B").is_none());
     assert!(rt; !directory.is_full());
+}
+
+/// How many soups a directory had.
+fn count_of(directory: Directory) -> usize {
+    directory.soups.into_vec().len()
+}
+
+/// An entry id is taken, a soup goes and another comes, which makes the directory what was wanted.
+fn change_soups(rt: &impl Abort, alloc: Global, directory: &mut Directory) -> Result<(), Fail> {
     let name = Name::read(alloc, b"B")?;
-    assert!(rt; change(&mut directory, name) == Some((3, 2)));
-    assert!(rt; is_written(alloc, &directory, &bytes_of(alloc, CHANGED)?));
-    let rows = directory.soups.into_vec();
-    assert!(rt; rows.len() == 2);
+    assert!(rt; change(directory, name) == Some((3, 2)));
+    assert!(rt; is_written(alloc, directory, &bytes_of(alloc, CHANGED)?));
+    Ok(())
+}
+
+#[test]
+fn soups_are_found_and_changed(rt: HostRuntime) -> Result<(), Fail> {
+    let mut directory = copy_of(rt.alloc(), TWO_SOUPS)?;
+    assert_two(&rt, &directory);
+    change_soups(&rt, rt.alloc(), &mut directory)?;
+    assert!(rt; count_of(directory) == 2);
     Ok(())
 }
 
@@ -159,16 +180,19 @@ fn first_tags(directory: &Directory) -> Option<TagTable> {
     }
 }
 
+/// Whether the second part of the first index of the first soup is an integer at this path, the greatest first.
+fn has_part(directory: &Directory, path: &Path) -> Option<bool> {
+    let row = directory.soup_of(Sig(0))?;
+    let part = row.specs.list().first()?.list().get(1)?;
+    Some(part.kind == Kind::Int && part.order == Order::Descend && part.path.same(path))
+}
+
 #[test]
 fn parts_keep_their_types_and_orders(rt: HostRuntime) -> Result<(), Fail> {
     let alloc = rt.alloc();
-    let directory = read_tail(alloc, PARTS)?;
-    let row = directory.soup_of(Sig(0)).ok_or("a soup")?;
-    let spec = row.specs.list().first().ok_or("an index")?;
-    let part = spec.list().get(1).ok_or("a part")?;
-    assert!(rt; part.kind == Kind::Int && part.order == Order::Descend);
     let path = Path::read(alloc, b"b.c")?;
-    assert!(rt; part.path.same(&path));
+    let directory = read_tail(alloc, PARTS)?;
+    assert!(rt; has_part(&directory, &path) == Some(true));
     Ok(())
 }
 
@@ -176,23 +200,61 @@ fn parts_keep_their_types_and_orders(rt: HostRuntime) -> Result<(), Fail> {
 const CHANGED_PARTS: &str =
     "02 04 00 00 01 01 'a 01 01 02 01 'b 01 'c 02 00 01 01 'd 03 01 01 03 'e_1 01 00 00 02 04 'name 04 'last 01 01 06 'labels 02 08 'business 08 'personal";
 
+/// The index that words say.
+fn index_in(alloc: Global, words: &str) -> Result<IndexSpec, Fail> {
+    Ok(last_index(&read_tail(alloc, words)?).ok_or("an index")?)
+}
+
+/// One path.
+fn path_of(alloc: Global, text: &[u8]) -> Result<Vec<Path>, Fail> {
+    let mut paths = Vec::new(alloc);
+    paths.push(Path::read(alloc, text)?)?;
+    Ok(paths)
+}
+
+/// An index is added, and the one of these paths goes.
+fn change_with(
+    rt: &impl Abort,
+    directory: &mut Directory,
+    spec: &IndexSpec,
+    paths: &[Path],
+) -> Result<(), Fail> {
+    assert!(rt; directory.index_of(Sig(0), spec) == None);
+    directory.add_spec(Sig(0), spec.copy()?)?;
+    assert!(rt; directory.index_with_paths(Sig(0), paths) == Some(1));
+    directory.drop_spec(Sig(0), paths);
+    assert!(rt; directory.index_of(Sig(0), spec) == Some(1));
+    Ok(())
+}
+
+/// The same of the index name.last and the path B.
+fn change_indexes(rt: &impl Abort, alloc: Global, directory: &mut Directory) -> Result<(), Fail> {
+    let spec = index_in(alloc, NAMES)?;
+    change_with(rt, directory, &spec, &path_of(alloc, b"B")?)
+}
+
+/// The bytes of what was changed.
+fn changed_parts(alloc: Global) -> Result<Vec<u8>, Fail> {
+    with_tail(alloc, &bytes_of(alloc, CHANGED_PARTS)?)
+}
+
+/// The tags that words say.
+fn tags_in(alloc: Global, words: &str) -> Result<Option<TagTable>, Fail> {
+    Ok(first_tags(&read_tail(alloc, words)?))
+}
+
+/// The tags are set, which makes the directory what was wanted, and taken away.
+fn change_tags(rt: &impl Abort, alloc: Global, directory: &mut Directory) -> Result<(), Fail> {
+    directory.set_tags(Sig(0), tags_in(alloc, TAGS)?);
+    assert!(rt; is_written(alloc, directory, &changed_parts(alloc)?));
+    directory.set_tags(Sig(0), None);
+    assert!(rt; first_tags(directory).is_none());
+    Ok(())
+}
+
 #[test]
 fn indexes_and_tags_are_changed(rt: HostRuntime) -> Result<(), Fail> {
-    let alloc = rt.alloc();
-    let mut directory = read_tail(alloc, PARTS)?;
-    let names = read_tail(alloc, NAMES)?;
-    let spec = last_index(&names).ok_or("an index")?;
-    assert!(rt; directory.index_of(Sig(0), &spec) == None);
-    directory.add_spec(Sig(0), spec.copy()?)?;
-    let paths = vec![in alloc; Path::read(alloc, b"B")?]?;
-    assert!(rt; directory.index_with_paths(Sig(0), &paths) == Some(1));
-    directory.drop_spec(Sig(0), &paths);
-    assert!(rt; directory.index_of(Sig(0), &spec) == Some(1));
-    let tags = read_tail(alloc, TAGS)?;
-    directory.set_tags(Sig(0), first_tags(&tags));
-    let changed = bytes_of(alloc, CHANGED_PARTS)?;
-    assert!(rt; is_written(alloc, &directory, &with_tail(alloc, &changed)?));
-    directory.set_tags(Sig(0), None);
-    assert!(rt; first_tags(&directory).is_none());
-    Ok(())
+    let mut directory = read_tail(rt.alloc(), PARTS)?;
+    change_indexes(&rt, rt.alloc(), &mut directory)?;
+    change_tags(&rt, rt.alloc(), &mut directory)
 }

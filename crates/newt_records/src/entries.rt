@@ -82,17 +82,53 @@ fn has_bytes(alloc: Global, graph: &Graph, bytes: &[u8]) -> bool {
     larges_of(alloc, graph).is_ok_and(|larges| larges.len() == 1 && larges[0].as_slice() == bytes)
 }
 
+/// Whether the graph's skeleton has no bytes.
+fn is_bare(alloc: Global, graph: &Graph) -> Option<bool> {
+    let bare = skeleton(alloc, graph).ok()?;
+    Some(has_bytes(alloc, &bare, b""))
+}
+
+fn is_written(
+    alloc: Global,
+    row: &EntryRow,
+    graph: &Graph,
+    object: u32,
+    record: &[u8],
+) -> Option<bool> {
+    let written = written_again(alloc, row, graph, object).ok()??;
+    Some(written.as_slice() == record)
+}
+
+fn is_same(
+    alloc: Global,
+    row: &EntryRow,
+    graph: &Graph,
+    object: u32,
+    record: &[u8],
+) -> Option<bool> {
+    Some(is_bare(alloc, graph)? && is_written(alloc, row, graph, object, record)?)
+}
+
+fn is_row_made_again(
+    alloc: Global,
+    row: &EntryRow,
+    object: u32,
+    bytes: &[u8],
+    record: &[u8],
+) -> Option<bool>
+    requires { fits (map row_at row.now.larges) row.now.skeleton ≡ true }
+{
+    let graph = filled_by(alloc, row, bytes).ok()??;
+    if !has_bytes(alloc, &graph, bytes) {
+        return None;
+    }
+    is_same(alloc, row, &graph, object, record)
+}
+
 /// Whether the record of an entry with one large binary is made again of its graph, and the graph's skeleton has no bytes.
 fn is_made_again(alloc: Global, record: &[u8], object: u32, bytes: &[u8]) -> Option<bool> {
     let row = read_entry(alloc, record).ok()?;
-    let graph = filled_by(alloc, &row, bytes).ok()??;
-    let bare = skeleton(alloc, &graph).ok()?;
-    let written = written_again(alloc, &row, &graph, object).ok()??;
-    Some(
-        has_bytes(alloc, &graph, bytes)
-            && has_bytes(alloc, &bare, b"")
-            && written.as_slice() == record,
-    )
+    is_row_made_again(alloc, &row, object, bytes, record)
 }
 
 #[test]
