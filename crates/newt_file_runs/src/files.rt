@@ -91,22 +91,36 @@ fn assert_byte(rt: &impl Abort, place: usize, byte: u8) {
     assert!(rt; byte == wanted(place), "at {place}");
 }
 
-#[test]
-fn keeps_what_was_written_and_leaves_the_rest(rt: HostRuntime) -> Result<(), Fail> {
-    // Thirteen blocks and five bytes more, which are no part of any.
+// The bytes are as they are wanted.
+fn assert_bytes(rt: &impl Abort, bytes: &[u8]) {
+    assert!(rt; bytes.len() == 53_253);
+    for (place, byte) in bytes.iter().enumerate() {
+        assert_byte(rt, place, *byte);
+    }
+}
+
+// Thirteen blocks and five bytes more, which are no part of any.
+fn write_card(rt: &HostRuntime) -> Result<(), Fail> {
     let mut bytes = Vec::new(rt.alloc());
     bytes.resize(53_253, 7)?;
-    fs::write(&rt, "card", bytes)?;
-    let mut host = FileHost::new(rt.alloc(), &rt, rt.stdin(), rt.stdout());
-    change(&rt, &mut host);
-    let mut other = FileHost::new(rt.alloc(), &rt, rt.stdin(), rt.stdout());
-    read_again(&rt, &mut other);
+    Ok(fs::write(rt, "card", bytes)?)
+}
+
+// One host changes the card, and another one reads it.
+fn change_and_read(abort: &impl Abort, rt: &HostRuntime) {
+    let mut host = FileHost::new(rt.alloc(), rt, rt.stdin(), rt.stdout());
+    change(abort, &mut host);
+    let mut other = FileHost::new(rt.alloc(), rt, rt.stdin(), rt.stdout());
+    read_again(abort, &mut other);
+}
+
+#[test]
+fn keeps_what_was_written_and_leaves_the_rest(rt: HostRuntime) -> Result<(), Fail> {
+    write_card(&rt)?;
+    change_and_read(&rt, &rt);
     let after = fs::read(&rt, "card")?;
     fs::remove_file(&rt, "card")?;
-    assert!(rt; after.len() == 53_253);
-    for (place, byte) in after.iter().enumerate() {
-        assert_byte(&rt, place, *byte);
-    }
+    assert_bytes(&rt, &after);
     Ok(())
 }
 

@@ -15,17 +15,27 @@ fn words(alloc: Global, texts: &[&str]) -> Result<Vec<String>, AllocError> {
     Ok(words)
 }
 
-// How a run of a script over the files `internal` and `card` ended, and what it wrote.
-fn session(rt: &HostRuntime, script: &[u8]) -> Result<(Status, Vec<u8>), Fail> {
-    fs::write(rt, "script", script)?;
+// How a run of the script over the files `internal` and `card` ends.
+fn run_script(rt: &HostRuntime) -> Result<Status, Fail> {
+    let words = words(rt.alloc(), &["run", "internal", "card"])?;
     let (input, output) = (File::open(rt, "script")?, File::create(rt, "replies")?);
     let mut host = FileHost::new(rt.alloc(), rt, input, output);
-    let words = words(rt.alloc(), &["run", "internal", "card"])?;
-    let status = run(rt.alloc(), &words, &mut host);
-    let written = fs::read(rt, "replies")?;
+    Ok(run(rt.alloc(), &words, &mut host))
+}
+
+// The bytes of a file, which goes.
+fn taken(rt: &HostRuntime, name: &str) -> Result<Vec<u8>, Fail> {
+    let bytes = fs::read(rt, name)?;
+    fs::remove_file(rt, name)?;
+    Ok(bytes)
+}
+
+// How a run of a script ended, and what it wrote.
+fn session(rt: &HostRuntime, script: &[u8]) -> Result<(Status, Vec<u8>), Fail> {
+    fs::write(rt, "script", script)?;
+    let status = run_script(rt)?;
     fs::remove_file(rt, "script")?;
-    fs::remove_file(rt, "replies")?;
-    Ok((status, written))
+    Ok((status, taken(rt, "replies")?))
 }
 
 const FIRST: &[u8] = b"format 0 Internal 7
@@ -74,23 +84,34 @@ ok 2
 ok
 ";
 
-// These replies were written, and no others.
-fn assert_replies(rt: &impl Abort, written: &[u8], wanted: &[u8]) {
+// A run ended well, and wrote these replies and no others.
+fn assert_replies(rt: &impl Abort, status: Status, written: &[u8], wanted: &[u8]) {
+    assert!(rt; status == Status::Ok);
     assert_eq!(rt; written, wanted);
+}
+
+// Thirteen blocks.
+fn write_card(rt: &HostRuntime, name: &str) -> Result<(), Fail> {
+    let mut bytes = Vec::new(rt.alloc());
+    bytes.resize(53_248, 0)?;
+    Ok(fs::write(rt, name, bytes)?)
+}
+
+fn remove_cards(rt: &HostRuntime) -> Result<(), Fail> {
+    fs::remove_file(rt, "internal")?;
+    fs::remove_file(rt, "card")?;
+    Ok(())
 }
 
 #[test]
 fn goes_on_with_the_stores_of_the_run_before(rt: HostRuntime) -> Result<(), Fail> {
-    let mut bytes = Vec::new(rt.alloc());
-    bytes.resize(53_248, 0)?;
-    fs::write(&rt, "internal", bytes.as_slice())?;
-    fs::write(&rt, "card", bytes.as_slice())?;
-    let first = session(&rt, FIRST)?;
-    let second = session(&rt, SECOND)?;
-    fs::remove_file(&rt, "internal")?;
-    fs::remove_file(&rt, "card")?;
-    assert!(rt; first.0 == Status::Ok && second.0 == Status::Ok);
-    assert_replies(&rt, &first.1, FIRST_REPLIES);
-    assert_replies(&rt, &second.1, SECOND_REPLIES);
+    write_card(&rt, "internal")?;
+    write_card(&rt, "card")?;
+    let (status, written) = session(&rt, FIRST)?;
+    assert_replies(&rt, status, &written, FIRST_REPLIES);
+    drop(written);
+    let (status, written) = session(&rt, SECOND)?;
+    remove_cards(&rt)?;
+    assert_replies(&rt, status, &written, SECOND_REPLIES);
     Ok(())
 }
