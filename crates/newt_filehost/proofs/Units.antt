@@ -1,5 +1,5 @@
 -- One unit of several changes.
-use Rattle.std.proofs.Common.{◌≡◌, ◌≢◌, ℕ, zero, suc, ◌≤◌, Bool, true, false, cond, List, [], ◌∷◌, length, get_or, Option, Some, None, IsSome, Result, OnErr, slice_get, slice_set, refl, sym, ◌∙◌, ap, subst, arith}
+use Rattle.std.proofs.Common.{◌≡◌, ◌≢◌, ℕ, zero, suc, ◌<◌, ◌≤◌, Bool, true, false, cond, List, [], ◌∷◌, length, get_or, Option, Some, None, IsSome, Result, OnErr, slice_get, slice_set, refl, sym, ◌∙◌, ap, subst, arith}
 use Rattle.std.proofs.lemmas.Bool.{false≢true}
 use Rattle.std.proofs.lemmas.Option.{get_or_from_slice_get}
 use Rattle.std.proofs.Math.ListN.{length-set}
@@ -49,6 +49,15 @@ read-there cards i u d same some =
     let at_i : slice_get cards i ≡ Some there.0 = ap (λ (k : ℕ). slice_get cards k) same ∙ there.1 in
     let is : get_or cards i d ≡ there.0 = get_or_from_slice_get cards i there.0 d at_i in
     (at_i ∙ ap Some (sym is), ap (λ (y : Card). y.attached) is ∙ there.2)
+
+-- it is one of the cards
+pub card-inside : (cards : List Card) (i u : ℕ) → i ≡ u → IsSome (name_of (slice_get cards u)) → i < length cards
+card-inside cards i u same some = subst (λ (k : ℕ). k < length cards) (sym same) (inside cards u some)
+  where
+    inside : (cards : List Card) (u : ℕ) → IsSome (name_of (slice_get cards u)) → u < length cards
+    inside [] u some = absurd (false≢true some)
+    inside (x ∷ cards) zero some = omega arith
+    inside (x ∷ cards) (suc u) some = let less = inside cards u some in omega (arith, less)
 
 module _ (cards : List Card) (i unit : ℕ) (b c : Card) (same : i ≡ unit) (is : slice_get cards i ≡ Some b) where
   at-old : slice_get cards unit ≡ Some b

@@ -1,5 +1,5 @@
 -- One card of several changes.
-use Rattle.std.proofs.Common.{◌≡◌, ◌≢◌, inl, inr, ℕ, zero, suc, ◌+◌, ◌/◌, ◌<◌, ◌≤◌, ◌&&◌, Bool, true, false, cond, List, [], ◌∷◌, length, get_or, Option, Some, None, IsSome, is_some, Result, Ok, Err, OnErr, slice_get, slice_set, refl, sym, ◌∙◌, ap, subst, arith}
+use Rattle.std.proofs.Common.{◌≡◌, ◌≢◌, inl, inr, ℕ, zero, suc, ◌+◌, ◌*◌, ◌/◌, ◌<◌, ◌≤◌, ◌&&◌, Bool, true, false, cond, List, [], ◌∷◌, length, get_or, Option, Some, None, IsSome, is_some, Result, Ok, Err, OnErr, slice_get, slice_set, refl, sym, ◌∙◌, ap, subst, arith}
 use Rattle.std.proofs.lemmas.Bool.{cases_eq, false≢true}
 use Rattle.std.proofs.lemmas.Option.{same_Some, get_or_from_slice_get, slice_get-get_or}
 use Rattle.std.proofs.Math.ListN.{length-set}
@@ -7,7 +7,7 @@ use Rattle.std.specs.Str.{bytes_eq}
 use Rattle.newt_host.specs.Moments.{Change, Attached, Wrote, Synced, On, Moment, bytes_after, changes, output, IsHistory}
 use Rattle.newt_host.specs.Outside.{Outside, Rose, Touches, Spends, NeverFalls, Writes, Syncs}
 use Rattle.newt_host.proofs.Moments.{changes-same, changes-other}
-use Rattle.newt_memhost.specs.Calls.{OnCard, faults_after, moved_after}
+use Rattle.newt_memhost.specs.Calls.{OnCard, faults_after, moved_after, raised}
 use Rattle.newt_memhost.specs.Room.{IsCounted}
 use Rattle.newt_memhost.specs.Cards.{IsTold, Stands, StandsAs, name_of, blocks_of, faults_of, programmed_of, fetched_of, attached_device, free_device, or_else, device_of}
 use Rattle.newt_memhost.specs.declared.card.Card.{Card}
@@ -112,14 +112,34 @@ read-there cards i u d same some =
     let is : get_or cards i d ≡ there.0 = get_or_from_slice_get cards i there.0 d at_i in
     (at_i ∙ ap Some (sym is), ap (λ (y : Card). y.attached) is ∙ there.2)
 
+-- it is one of the cards
+pub card-inside : (cards : List Card) (i u : ℕ) → i ≡ u → IsSome (name_of (slice_get cards u)) → i < length cards
+card-inside cards i u same some = subst (λ (k : ℕ). k < length cards) (sym same) (inside cards u some)
+  where
+    inside : (cards : List Card) (u : ℕ) → IsSome (name_of (slice_get cards u)) → u < length cards
+    inside [] u some = absurd (false≢true some)
+    inside (x ∷ cards) zero some = omega arith
+    inside (x ∷ cards) (suc u) some = let less = inside cards u some in omega (arith, less)
+
+-- what ends within its blocks ends within what it holds
+pub holds-end : (cards : List Card) (i u : ℕ) (d : Card) (end : ℕ) → i ≡ u → IsSome (name_of (slice_get cards u)) → end ≤ blocks_of (slice_get cards u) * 4096 → end ≤ length (get_or cards i d).held.items
+holds-end cards i u d end same some fits =
+    let b = get_or cards i d in
+    let is : blocks_of (slice_get cards u) ≡ length b.first.items / 4096 = ap (λ (k : ℕ). blocks_of (slice_get cards k)) (sym same) ∙ ap blocks_of (read-there cards i u d same some).0 in
+    omega (arith, fits, is, b.size, b.whole)
+
 -- a call moves no more bytes than it was to
 moved-most : {T E : Type 0} (r : Result T E) (more count : ℕ) → moved_after more r count ≤ count + more
 moved-most (Ok x) more count = omega arith
 moved-most (Err e) more count = omega arith
 
+-- a fault more is a count that rose
+pub rises : (before now : ℕ) → now ≡ raised 1 before → Rose before now
+rises before now is = omega (arith, is)
+
 faults-rise : {T E : Type 0} (r : Result T E) (before now : ℕ) → now ≡ faults_after r before → OnErr r (Rose before now)
 faults-rise (Ok x) before now is = tt
-faults-rise (Err e) before now is = omega (arith, is)
+faults-rise (Err e) before now is = rises before now is
 
 module _ (cards : List Card) (i unit : ℕ) (b c : Card) (same : i ≡ unit) (is : slice_get cards i ≡ Some b) where
   at-old : slice_get cards unit ≡ Some b

@@ -92,7 +92,7 @@ devices-moved name cards shelf i k b c d is free none place moved n = elim (case
 -- what an attach that answers true does to what the host tells
 module _ (name : List ℕ) (cards : List Card) (shelf left : List Device) (i unit k : ℕ) (b c : Card) (d : Device) (same : i ≡ unit) (is : slice_get cards i ≡ Some b) (free : b.attached ≡ false)
     (once : (u : ℕ) → name_of (slice_get cards u) ≡ Some name → ⊥) (place : IsPlaceOf name shelf k) (moved : HasMoved (get_or shelf k d) b c) (rest : left ≡ remove shelf k)
-    (old now : Moment) (event : now ≡ On unit (Attached (get_or shelf k d).first.items) ∷ old) (input : List ℕ) (in_faults out_faults : ℕ) where
+    (old now : Moment) (event : now ≡ On unit (Attached (get_or shelf k d).first.items) ∷ old) where
   unheld : attached_device name cards ≡ None
   unheld = none-attached name cards once
 
@@ -103,21 +103,25 @@ module _ (name : List ℕ) (cards : List Card) (shelf left : List Device) (i uni
   name_is = ap (λ (u : ℕ). name_of (slice_get (slice_set cards i c) u)) (sym same) ∙ ap name_of (get-set-same cards i b c is)
       ∙ ap (λ (t : Bool). cond t (Some c.name.items) None) moved.attached ∙ ap Some (moved.name ∙ place.named d)
 
-  pub attaches : Attaches true unit name (told-by cards old input shelf in_faults out_faults) (told-by (slice_set cards i c) now input left in_faults out_faults)
-  attaches = record {
-    devices = λ n. ap (λ (l : List Device). device_of (slice_set cards i c) l n) rest ∙ devices-moved name cards shelf i k b c d is free unheld place moved n;
-    card = name_is;
-    other_cards = λ u other. ap name_of (get-set-other cards i u c (λ e. other (e ∙ same)));
-    other_blocks = λ u other. ap blocks_of (get-set-other cards i u c (λ e. other (e ∙ same)));
-    moment = λ told. ((get_or shelf k d).first.items, known_is, event);
-  }
+  pub found : true ≡ is_some (device_of cards shelf name)
+  found = sym (ap is_some known_is)
 
-  pub same_counts : SameCounts (told-by cards old input shelf in_faults out_faults) (told-by (slice_set cards i c) now input left in_faults out_faults)
-  same_counts = record {
-    dev_faults = λ u. same-field faults_of b c moved.faults cards i is u;
-    programmed = λ u. same-field programmed_of b c moved.programmed cards i is u;
-    fetched = λ u. same-field fetched_of b c moved.fetched cards i is u;
-  }
+  module _ (input : List ℕ) (in_faults out_faults : ℕ) where
+    pub attaches : Attaches true unit name (told-by cards old input shelf in_faults out_faults) (told-by (slice_set cards i c) now input left in_faults out_faults)
+    attaches = record {
+      devices = λ n. ap (λ (l : List Device). device_of (slice_set cards i c) l n) rest ∙ devices-moved name cards shelf i k b c d is free unheld place moved n;
+      card = name_is;
+      other_cards = λ u other. ap name_of (get-set-other cards i u c (λ e. other (e ∙ same)));
+      other_blocks = λ u other. ap blocks_of (get-set-other cards i u c (λ e. other (e ∙ same)));
+      moment = λ told. ((get_or shelf k d).first.items, known_is, event);
+    }
+
+    pub same_counts : SameCounts (told-by cards old input shelf in_faults out_faults) (told-by (slice_set cards i c) now input left in_faults out_faults)
+    same_counts = record {
+      dev_faults = λ u. same-field faults_of b c moved.faults cards i is u;
+      programmed = λ u. same-field programmed_of b c moved.programmed cards i is u;
+      fetched = λ u. same-field fetched_of b c moved.fetched cards i is u;
+    }
 
 pub unknown : (name : List ℕ) (cards : List Card) (shelf : List Device) → ((u : ℕ) → name_of (slice_get cards u) ≡ Some name → ⊥) → free_device name shelf ≡ None → false ≡ is_some (device_of cards shelf name)
 unknown name cards shelf once none =

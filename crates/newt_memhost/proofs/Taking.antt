@@ -26,3 +26,10 @@ told-printed cards bytes old now told is = record {
 
 pub out-printed : (bytes before : List ℕ) (old now : Moment) → output old ≡ before → now ≡ printed bytes old → output now ≡ before ++ bytes
 out-printed bytes before old now out is = ap output is ∙ output-printed bytes old ∙ ap (λ (l : List ℕ). l ++ bytes) out
+
+-- a call that printed nothing
+pub told-same : (cards : List Card) (old now : Moment) → IsTold cards old → now ≡ old → IsTold cards now
+told-same cards old now told is = subst (λ (m : Moment). IsTold cards m) (sym is) told
+
+pub out-same : (before after : List ℕ) (old now : Moment) → output old ≡ before → now ≡ old → after ≡ before → output now ≡ after
+out-same before after old now out is same = ap output is ∙ out ∙ sym same

@@ -1,22 +1,22 @@
-use Rattle.newt_filehost.proofs.Units.{read-there, touches, spends, never_falls, cause-at}
+use Rattle.std.proofs.Common.{ℕ, ◌<◌, subst}
+use Rattle.newt_filehost.specs.Laws.{untold}
+use Rattle.newt_filehost.proofs.Units.{card-inside, read-there, touches, spends, never_falls, cause-at}
 use Rattle.newt_filehost.proofs.files.FileHostHost.erase.Goals as goal
 
-pub returns-clause-alone : goal.returns-clause-alone
-returns-clause-alone g c =
-    let there = read-there c.args.self.now.cards _ c.args.unit c.index-self-unit.result c.unit.view_is c.requires.attached in
-    touches c.args.self.now.cards _ c.args.unit _ _ c.unit.view_is there.0 c.touched.ensures.card _ _
+pub listed : goal.listed
+listed g c = card-inside c.args.self.now.cards _ c.args.unit c.unit.view_is c.requires.attached
 
-pub returns-clause-costs : goal.returns-clause-costs
-returns-clause-costs g c =
-    let there = read-there c.args.self.now.cards _ c.args.unit c.index-self-unit.result c.unit.view_is c.requires.attached in
-    spends c.args.self.now.cards _ c.args.unit _ _ c.unit.view_is there.0 c.touched.ensures.card _ _
+pub bounds-self-unit-inside : goal.bounds-self-unit-inside
+bounds-self-unit-inside g c = subst (λ (n : ℕ). c.unit.inside.0 < n) c.args.self.now.eight (card-inside c.args.self.now.cards _ c.args.unit c.unit.view_is c.requires.attached)
 
-pub returns-clause-later : goal.returns-clause-later
-returns-clause-later g c =
-    let there = read-there c.args.self.now.cards _ c.args.unit c.index-self-unit.result c.unit.view_is c.requires.attached in
-    never_falls c.args.self.now.cards _ c.args.unit _ _ c.unit.view_is there.0 c.touched.ensures.card _ _
-
-pub returns-clause-cause : goal.returns-clause-cause
-returns-clause-cause g c =
-    let there = read-there c.args.self.now.cards _ c.args.unit c.index-self-unit.result c.unit.view_is c.requires.attached in
-    cause-at c.args.self.now.cards _ c.args.unit _ _ c.unit.view_is there.0 c.touched.result c.touched.ensures.cause
+pub returns : goal.returns
+returns g c =
+    let cards = c.args.self.now.cards in
+    let there = read-there cards _ c.args.unit c.index-self-unit.result c.unit.view_is c.requires.attached in
+    record {
+      wrote = λ tells. untold tells;
+      alone = touches cards _ c.args.unit _ _ c.unit.view_is there.0 c.touched.ensures.card _ _;
+      costs = spends cards _ c.args.unit _ _ c.unit.view_is there.0 c.touched.ensures.card _ _;
+      later = never_falls cards _ c.args.unit _ _ c.unit.view_is there.0 c.touched.ensures.card _ _;
+      cause = cause-at cards _ c.args.unit _ _ c.unit.view_is there.0 c.touched.result c.touched.ensures.cause;
+    }
