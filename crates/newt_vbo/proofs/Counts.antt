@@ -12,6 +12,16 @@ pub met_begins : (at n part : ℕ) → part < at / 500 + parts_met at n → at /
 met_begins at zero part low from = absurd (omega (arith, low, from))
 met_begins at (suc n) part low from = omega (arith, low, from)
 
+-- they are at most one more than those that the bytes fill
+pub met_few : (at n : ℕ) → parts_met at n ≤ (n + 499) / 500 + 1
+met_few at zero = omega arith
+met_few at (suc n) = omega arith
+
+-- and end below the numbers of 32 bits, as the bytes do
+pub met_small : (at n : ℕ) → at + n < 4294967296 → at / 500 + parts_met at n < 4294967296
+met_small at zero low = omega (arith, low)
+met_small at (suc n) low = omega (arith, low)
+
 -- none of the bytes lie before the first part, and all lie before the end of the last
 pub before_first : (at n : ℕ) → before_part (at / 500) at (at + n) ≡ 0
 before_first at n = omega arith

@@ -1,21 +1,24 @@
-use Rattle.std.proofs.Common.{◌≡◌, ℕ, ◌+◌, ◌-◌, ◌*◌, ◌/◌, ◌<◌, ◌≤◌, true, List, ◌++◌, length, take, drop, slice_get, Option, Some, IsSome, refl, sym, ◌∙◌, ap, subst, arith, length-take}
+use Rattle.std.proofs.Common.{◌≡◌, ℕ, ◌+◌, ◌-◌, ◌*◌, ◌/◌, ◌<◌, ◌≤◌, true, List, ◌++◌, length, take, drop, slice_get, Option, Some, Ok, Err, IsSome, IfSome, IsErrOf, refl, sym, ◌∙◌, ap, subst, arith, length-take, Result}
 use Rattle.std.specs.Option.{option_and_then}
 use Rattle.std.specs.FinSet as set
 use Rattle.std.proofs.lemmas.List.{append-nil, length_push, take_all}
 use Rattle.newt_host.specs.Moments.{Moment, image, overwritten}
-use Rattle.newt_host.specs.Outside.{Touches, Spends}
-use Rattle.newt_host.proofs.Outside.{Touches-refl, Touches-append, Spends-refl, Spends-widen}
+use Rattle.newt_host.specs.Outside.{Rose, Touches, Spends}
+use Rattle.newt_host.proofs.Outside.{Touches-refl, Touches-append}
 use Rattle.newt_image.specs.Pages.{Change, pages, after}
 use Rattle.newt_image.specs.Objects.{Extent, IsTableOf}
 use Rattle.newt_pagebook.specs.Batch.{names, puts_one}
-use Rattle.newt_pagebook.specs.Book.{changed_numbers}
+use Rattle.newt_pagebook.specs.Book.{Numbers, changed_numbers}
 use Rattle.newt_pagebook.proofs.Tests.{the_some}
 use Rattle.newt_objects.specs.Held.{held}
 use Rattle.newt_objects.proofs.Changing.{told_table}
 use Rattle.newt_objects.proofs.Whole.{image_whole}
+use Rattle.newt_vbo.specs.declared.fault.RangeFault.{RangeFault}
+use Rattle.newt_vbo.specs.declared.fault.RangeFault.TheVariants.{Range, Device}
 use Rattle.newt_vbo.specs.Ranges.{parts_met, before_part, numbers_met}
 use Rattle.newt_vbo.specs.Patches.{numbers_put, WouldPatch}
-use Rattle.newt_vbo.proofs.Counts.{met_begins, met_within, before_first, before_end}
+use Rattle.newt_vbo.proofs.Counts.{met_begins, met_few, met_within, before_first, before_end}
+use Rattle.newt_vbo.proofs.Exits.{Fails, no_done, no_fault, the_fault, is_fault, range_device, rose_later, past_end, not_past, spends_none, spends_part, all_met, count_met}
 use Rattle.newt_vbo.proofs.Parts.{HasWhole, part_at, part_live, data_whole, unnamed_whole, spends_more, for_some, of_some}
 use Rattle.newt_vbo.proofs.Patching.{put_whole}
 use Rattle.newt_vbo.proofs.Putting.{patch_none, patch_more, numbers_kept, put_more, later_free}
@@ -36,7 +39,7 @@ loop-part-init g c =
       same_spare = refl;
       moment = refl;
       alone = Touches-refl unit (outside c.args.host.now);
-      costs = Spends-widen 0 0 0 (512 * (at / 500 - at / 500)) (omega arith) (omega arith) (Spends-refl unit (outside c.args.host.now));
+      costs = spends_none unit (512 * (at / 500 - at / 500)) (outside c.args.host.now);
       deletes = refl;
       count = omega arith;
       same_live = refl;
@@ -59,6 +62,37 @@ page_of-number-requires g c =
     let low : 500 * part < at + n = met_begins at n part (omega (arith, c.loop-part-test.true, c.parts_met.ensures)) c.loop-part.auto.part in
     let slot = part_at c.args.objects.now c.args.id part x w.1 (c.requires.objects.is_table.whole c.args.id x w.1) (met_within at n part x.length low fits) in
     subst IsSome (sym slot.0) refl
+
+pub parts_met-requires : goal.parts_met-requires
+parts_met-requires g c = c.in_ok-check_range.ensures.small
+
+pub piece_in-piece-requires : goal.piece_in-piece-requires
+piece_in-piece-requires g c = record {
+  begun = c.loop-part.auto.part;
+  not_over = met_begins c.args.at (length c.args.bytes.now) c.loop-part.part (omega (arith, c.loop-part-test.true, c.parts_met.ensures)) c.loop-part.auto.part;
+  forward = omega arith;
+}
+
+pub put_patched-requires-clause-live : goal.put_patched-requires-clause-live
+put_patched-requires-clause-live g c =
+    let part : ℕ = c.loop-part.part in
+    let number : ℕ = c.page_of-number.result in
+    let outside = g.H.Host.outside c.args.host.now in
+    let w = the_some (held c.args.objects.now c.args.id) c.requires.there in
+    let slot : slice_get w.0.numbers part ≡ Some number = ap (λ (o : Option Extent). option_and_then (λ (x : Extent). slice_get x.numbers part) o) (sym w.1) ∙ sym c.page_of-number.ensures in
+    ap (λ (s : Numbers). set.contains s number) c.loop-part.invariant.same_numbers
+    ∙ part_live g.H.Host.told c.args.objects.now (g.P.PageBook.numbers c.args.book.now) (g.P.PageBook.place c.args.book.now) outside c.args.id part number w.0 c.requires.objects w.1 slot
+
+pub put_patched-requires-clause-new : goal.put_patched-requires-clause-new
+put_patched-requires-clause-new g c =
+    let part : ℕ = c.loop-part.part in
+    let number : ℕ = c.page_of-number.result in
+    let w = the_some (held c.args.objects.now c.args.id) c.requires.there in
+    let slot : slice_get w.0.numbers part ≡ Some number = ap (λ (o : Option Extent). option_and_then (λ (x : Extent). slice_get x.numbers part) o) (sym w.1) ∙ sym c.page_of-number.ensures in
+    c.loop-part.invariant.free w.0 part number w.1 (omega arith) slot
+
+pub loop-part-smaller : goal.loop-part-smaller
+loop-part-smaller g c = omega (arith, c.loop-part-test.true)
 
 pub put_patched-requires-clause-small : goal.put_patched-requires-clause-small
 put_patched-requires-clause-small g c =
@@ -141,21 +175,94 @@ loop-part-preserved g c =
           (slot_of x there) fine got piece.place piece.inside within fits before));
     }
 
-pub returns-clause-patched : goal.returns-clause-patched
-returns-clause-patched g c = λ told live is.
+pub returns-in_err-check_range : goal.returns-in_err-check_range
+returns-in_err-check_range g c =
+    let o = g.H.Host.outside c.args.host.now in
+    let unit : ℕ = g.P.PageBook.place c.args.book.now in
+    let at : ℕ = c.args.at in
+    let n : ℕ = length c.args.bytes.now in
+    let fault : RangeFault = c.in_err-check_range.field-0.0 in
+    let r : Result (Unit {0}) RangeFault = c.from_residual.result in
+    let fails : Fails r fault = c.from_residual.ensures.1 in
+    let e = c.in_err-check_range.ensures in
+    record {
+      patched = λ told live is. no_done r fault (WouldPatch c.args.objects.now c.args.id at c.args.bytes.now c.args.batch.now c.args.batch.now live) fails;
+      puts = no_done r fault (IfSome (held c.args.objects.now c.args.id) (λ x. numbers_put c.args.batch.now ≡ numbers_put c.args.batch.now ++ numbers_met x at n)) fails;
+      few = no_done r fault (length c.args.batch.now.puts ≤ length c.args.batch.now.puts + ((n + 499) / 500 + 1)) fails;
+      deletes = no_done r fault (c.args.batch.now.deletes ≡ c.args.batch.now.deletes) fails;
+      numbers = no_done r fault (changed_numbers c.args.batch.now (g.P.PageBook.numbers c.args.book.now) ≡ changed_numbers c.args.batch.now (g.P.PageBook.numbers c.args.book.now)) fails;
+      range = λ same. e.past;
+      past = past_end (held c.args.objects.now c.args.id) (at + n) (IsErrOf r Range) (is_fault r fault Range fails e.only);
+      unchanged = λ same. (refl, refl, refl);
+      stands = c.requires.stands;
+      same = (refl, refl, refl);
+      moment = refl;
+      alone = Touches-refl unit o;
+      costs = spends_none unit (512 * parts_met at n) o;
+      cause = λ same. absurd (range_device (sym e.only ∙ the_fault r fault Device fails same));
+    }
+
+pub returns-in_err-put_patched : goal.returns-in_err-put_patched
+returns-in_err-put_patched g c =
+    let i = c.loop-part.invariant in
+    let e = c.put_patched.ensures in
+    let outside = g.H.Host.outside in
+    let unit : ℕ = g.P.PageBook.place c.args.book.now in
+    let at : ℕ = c.args.at in
+    let n : ℕ = length c.args.bytes.now in
+    let part : ℕ = c.loop-part.part in
+    let first : ℕ = at / 500 in
+    let fault : RangeFault = c.in_err-put_patched.field-0.0 in
+    let r : Result (Unit {0}) RangeFault = c.from_residual-in_err-put_patched.result in
+    let fails : Fails r fault = c.from_residual-in_err-put_patched.ensures.1 in
+    let old = outside c.args.host.now in
+    let mid = outside c.loop-part.host in
+    let new = outside c.put_patched.new.host in
+    record {
+      patched = λ told live is. no_done r fault (WouldPatch c.args.objects.now c.args.id at c.args.bytes.now c.args.batch.now c.put_patched.new.batch live) fails;
+      puts = no_done r fault (IfSome (held c.args.objects.now c.args.id) (λ x. numbers_put c.put_patched.new.batch ≡ numbers_put c.args.batch.now ++ numbers_met x at n)) fails;
+      few = no_done r fault (length c.put_patched.new.batch.puts ≤ length c.args.batch.now.puts + ((n + 499) / 500 + 1)) fails;
+      deletes = no_done r fault (c.put_patched.new.batch.deletes ≡ c.args.batch.now.deletes) fails;
+      numbers = no_done r fault (changed_numbers c.put_patched.new.batch (g.P.PageBook.numbers c.args.book.now) ≡ changed_numbers c.args.batch.now (g.P.PageBook.numbers c.args.book.now)) fails;
+      range = λ same. absurd (c.in_err-put_patched.ensures.no_other (ap Err (the_fault r fault Range fails same)));
+      past = not_past (held c.args.objects.now c.args.id) (at + n) (IsErrOf r Range) c.in_ok-check_range.ensures.within;
+      unchanged = λ same. absurd (c.in_err-put_patched.ensures.no_other (ap Err (the_fault r fault Range fails same)));
+      stands = e.stands;
+      same = (e.same.0 ∙ i.same_place, e.same.1 ∙ i.same_numbers, e.same.2 ∙ i.same_spare);
+      moment = e.moment ∙ i.moment;
+      alone = Touches-append i.alone (subst (λ (u : ℕ). Touches u mid new) i.same_place e.alone);
+      costs = spends_part unit at n part c.parts_met.result old mid new c.parts_met.ensures c.loop-part.auto.part c.loop-part-test.true i.costs
+          (subst (λ (u : ℕ). Spends u 0 512 mid new) i.same_place e.costs);
+      cause = λ same. rose_later (old.dev_faults unit) (mid.dev_faults unit) (new.dev_faults unit) i.alone.faults_later
+          (subst (λ (u : ℕ). Rose (mid.dev_faults u) (new.dev_faults u)) i.same_place (c.in_err-put_patched.ensures.cause (ap Err (the_fault r fault Device fails same))));
+    }
+
+pub returns : goal.returns
+returns g c =
+    let i = c.loop-part.invariant in
+    let o = g.H.Host.outside c.args.host.now in
+    let unit : ℕ = g.P.PageBook.place c.args.book.now in
     let at : ℕ = c.args.at in
     let bytes : List ℕ = c.args.bytes.now in
     let n : ℕ = length bytes in
-    let high : c.loop-part.part ≤ at / 500 + c.parts_met.result = c.loop-part.auto.part-end (omega arith) in
-    let last : c.loop-part.part ≡ at / 500 + parts_met at n = omega (arith, high, c.loop-part-test.false, c.parts_met.ensures) in
-    let all : take (before_part c.loop-part.part at (at + n)) bytes ≡ bytes = ap (λ (k : ℕ). take (before_part k at (at + n)) bytes) last ∙ ap (λ (k : ℕ). take k bytes) (before_end at n) ∙ take_all n bytes (omega arith) in
-    subst (λ (l : List ℕ). WouldPatch c.args.objects.now c.args.id at l c.args.batch.now c.loop-part.batch live) all (c.loop-part.invariant.so_far told live is)
-
-pub returns-clause-puts : goal.returns-clause-puts
-returns-clause-puts g c =
-    let at : ℕ = c.args.at in
-    let n : ℕ = length c.args.bytes.now in
-    let high : c.loop-part.part ≤ at / 500 + c.parts_met.result = c.loop-part.auto.part-end (omega arith) in
-    let last : c.loop-part.part - at / 500 ≡ parts_met at n = omega (arith, high, c.loop-part-test.false, c.parts_met.ensures) in
-    for_some (held c.args.objects.now c.args.id) (λ x. numbers_put c.loop-part.batch ≡ numbers_put c.args.batch.now ++ numbers_met x at n)
-    (λ x there. c.loop-part.invariant.put x there ∙ ap (λ (k : ℕ). numbers_put c.args.batch.now ++ take k (drop (at / 500) x.numbers)) last)
+    let part : ℕ = c.loop-part.part in
+    let last : part ≡ at / 500 + parts_met at n = all_met at n part c.parts_met.result c.parts_met.ensures c.loop-part.auto.part-end c.loop-part-test.false in
+    let count : part - at / 500 ≡ parts_met at n = count_met at n part last in
+    let all : take (before_part part at (at + n)) bytes ≡ bytes = ap (λ (k : ℕ). take (before_part k at (at + n)) bytes) last ∙ ap (λ (k : ℕ). take k bytes) (before_end at n) ∙ take_all n bytes (omega arith) in
+    record {
+      patched = λ told live is. subst (λ (l : List ℕ). WouldPatch c.args.objects.now c.args.id at l c.args.batch.now c.loop-part.batch live) all (i.so_far told live is);
+      puts = for_some (held c.args.objects.now c.args.id) (λ x. numbers_put c.loop-part.batch ≡ numbers_put c.args.batch.now ++ numbers_met x at n)
+          (λ x there. i.put x there ∙ ap (λ (k : ℕ). numbers_put c.args.batch.now ++ take k (drop (at / 500) x.numbers)) count);
+      few = omega (arith, i.count, count, met_few at n);
+      deletes = i.deletes;
+      numbers = i.same_live;
+      range = λ same. absurd (no_fault same);
+      past = not_past (held c.args.objects.now c.args.id) (at + n) (IsErrOf (Ok tt) Range) c.in_ok-check_range.ensures.within;
+      unchanged = λ same. absurd (no_fault same);
+      stands = i.stands;
+      same = (i.same_place, i.same_numbers, i.same_spare);
+      moment = i.moment;
+      alone = i.alone;
+      costs = subst (λ (k : ℕ). Spends unit 0 (512 * k) o (g.H.Host.outside c.loop-part.host)) count i.costs;
+      cause = λ same. absurd (no_fault same);
+    }
