@@ -100,6 +100,22 @@ fn expect_safe(
     Ok(())
 }
 
+/// The same for each pick.
+fn expect_each_safe(
+    alloc: Global,
+    host: &MemHost,
+    script: &[u8],
+    unit: Unit,
+    picks: &[Pick],
+    ask: &[u8],
+) -> Result<(), Fail> {
+    let looks = looks(alloc, script, ask, unit)?;
+    for pick in picks {
+        expect_safe(alloc, host, unit, *pick, ask, &looks)?;
+    }
+    Ok(())
+}
+
 /// Runs a table over the devices `a` and `b` of 13 blocks of zero bytes. A next run over what a crash within any of its calls leaves of these units by each pick, asked
 /// these lines, finds the store before or after the command whose reply is the next to begin.
 pub fn expect_all_safe(
@@ -112,10 +128,7 @@ pub fn expect_all_safe(
     let host = run_table(alloc, "run a b", table)?;
     let (script, _) = lines_of(alloc, table)?;
     for unit in units {
-        let looks = looks(alloc, &script, ask, *unit)?;
-        for pick in picks {
-            expect_safe(alloc, &host, *unit, *pick, ask, &looks)?;
-        }
+        expect_each_safe(alloc, &host, &script, *unit, picks, ask)?;
     }
     Ok(())
 }

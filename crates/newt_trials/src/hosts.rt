@@ -1,5 +1,5 @@
 //! Hosts before their run.
-ghost use Rattle.std.specs.Prelude.{◌≡◌, ◌*◌, IfOk, vec_len};
+ghost use Rattle.std.specs.Prelude.{◌≡◌, ◌*◌, ◌/◌, length, IfOk, OnOk, vec_len};
 ghost use Rattle.newt_memhost.specs.Outside.{outside_of};
 ghost use Rattle.newt_trials.specs.Free.{IsFree, HasNone};
 
@@ -27,17 +27,28 @@ pub fn host(alloc: Global, input: &[u8], piece: u32) -> Result<MemHost, AllocErr
     Ok(host)
 }
 
+/// Adds five devices `a` to `e` of the same bytes.
+fn add_five(host: &mut MemHost, bytes: &[u8]) -> Result<(), AllocError>
+    requires whole { length bytes.now ≡ length bytes.now / 4096 * 4096 }
+    requires free { IsFree (outside_of host.old) }
+    requires none { HasNone (outside_of host.old) }
+    ensures { OnOk result (IsFree (outside_of host.new)) }
+{
+    host.device("a", bytes)?;
+    host.device("b", bytes)?;
+    host.device("c", bytes)?;
+    host.device("d", bytes)?;
+    host.device("e", bytes)?;
+    Ok(())
+}
+
 /// A host with this input and five devices `a` to `e` of 13 blocks of zero bytes.
 pub fn over_blank(alloc: Global, input: &[u8]) -> Result<MemHost, AllocError>
     ensures { IfOk result (λ host. IsFree (outside_of host)) }
 {
     let blank = blocks(alloc, 13)?;
     let mut host = host(alloc, input, u32::MAX)?;
-    host.device("a", &blank)?;
-    host.device("b", &blank)?;
-    host.device("c", &blank)?;
-    host.device("d", &blank)?;
-    host.device("e", &blank)?;
+    add_five(&mut host, &blank)?;
     Ok(host)
 }
 
