@@ -12,10 +12,6 @@ use Rattle.newt_lit_read.specs.Reading.{Reader, items_at, after_value, behind}
 abbrev pub with_front : {A : Type 0} → List A → Option (List A × Built × List ℕ) → Option (List A × Built × List ℕ)
 with_front front read = read >>= λ x. Some (front ++ x.0, x.1, x.2)
 
-pub no_front : {A : Type 0} (read : Option (List A × Built × List ℕ)) → with_front [] read ≡ read
-no_front None = refl
-no_front (Some x) = refl
-
 regroup : {A : Type 0} (front : List A) (n : A) (read : Option (List A × Built × List ℕ)) → with_front front (behind n read) ≡ with_front (front ++ n ∷ []) read
 regroup {A} front n (Some x) = ap (λ (ns : List A). Some (ns, x.1, x.2)) (simp append_assoc)
 regroup front n None = refl
@@ -25,9 +21,6 @@ pub record Going {A : Type 0} (read : Reader A) (close : ℕ) (front : List A) (
   pub turns : ℕ
   pub enough : length rest ≤ turns
   pub same : with_front front (items_at read close turns b rest) ≡ total
-
-pub starts : {A : Type 0} (read : Reader A) (close : ℕ) (b : Built) (text : List ℕ) → Going read close [] b text (items_at read close (length text) b text)
-starts read close b text = record { turns = length text; enough = omega arith; same = no_front (items_at read close (length text) b text) }
 
 one_turn : {A : Type 0} (read : Reader A) (close turns : ℕ) (b : Built) (rest : List ℕ) (v : A) (then : Built) (after : List ℕ) (m : ℕ × List ℕ) → read b rest ≡ Some (v, then, after) → mark_at after ≡ Some m
     → items_at read close (suc turns) b rest ≡ after_value close (items_at read close turns) v then m

@@ -16,13 +16,6 @@ pub record Going (value : ℕ → List ℕ) (next : Next) (front rest : List ℕ
   pub enough : length rest ≤ turns
   pub same : with_front front (pieces_at value next turns rest) ≡ total
 
-pub starts : (value : ℕ → List ℕ) (next : Next) (text : List ℕ) → Going value next [] text (pieces_at value next (length text) text)
-starts value next text = record { turns = length text; enough = omega arith; same = go (pieces_at value next (length text) text) }
-  where
-    go : (read : Option (List ℕ × List ℕ)) → with_front [] read ≡ read
-    go None = refl
-    go (Some x) = refl
-
 regroup : (front us : List ℕ) (read : Option (List ℕ × List ℕ)) → with_front front (read >>= λ u. Some (us ++ u.0, u.1)) ≡ with_front (front ++ us) read
 regroup front us (Some x) = ap (λ (ns : List ℕ). Some (ns, x.1)) (sym (append_assoc front us x.0))
 regroup front us None = refl
