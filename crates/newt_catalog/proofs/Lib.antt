@@ -4,3 +4,4 @@ pub mod OpeningPlaces
 pub mod Owning
 pub mod ReadLarges
 pub mod Rows
+pub mod Exits

@@ -1,5 +1,5 @@
 -- What is found where a store is opened, and what it is read as.
-use Rattle.std.proofs.Common.{IsTrue, ◌≡◌, ◌≢◌, inl, inr, ℕ, ◌+◌, ◌<◌, ◌≤◌, ◌%◌, ◌==◌, Bool, true, false, cond, ◌&&◌, nat_le, nat_lt, ◌⊎◌, List, [], ◌∷◌, length, get_or, find, map as map_list, Option, Some, None, option_and_then, Result, Ok, Err, IfOk, IsSome, is_some, refl, sym, ◌∙◌, ap, subst, arith, ⊎_elim}
+use Rattle.std.proofs.Common.{IsTrue, ◌≡◌, ◌≢◌, inl, inr, ℕ, ◌+◌, ◌<◌, ◌≤◌, ◌%◌, ◌==◌, Bool, true, false, cond, ◌&&◌, nat_le, nat_lt, ◌⊎◌, List, [], ◌∷◌, length, get_or, find, map as map_list, Option, Some, None, option_and_then, Result, Ok, Err, IfOk, OnOk, IsSome, is_some, refl, sym, ◌∙◌, ap, subst, arith, ⊎_elim}
 use Rattle.std.specs.List.{list_all}
 use Rattle.std.specs.FinMap as map
 use Rattle.std.specs.Option.{option_map}
@@ -410,6 +410,18 @@ are-bytes bytes each = λ k d low. let P : ℕ → Type 0 = λ b. b < 256 in sub
 pub is-none : {X : Type 0} (o : Option X) → is_some o ≡ false → o ≡ None
 is-none None e = refl
 is-none (Some x) e = absurd (not_true true refl e)
+
+-- what is read as a directory is the root, if the bytes are those of object 0
+pub root-by : (told : Bool) (read_from bytes text : List ℕ) (r : Result Directory BookFault) → OfObjects told read_from (HasObject 0 bytes) → text ≡ bytes → IfOk r (λ d. directory_read text ≡ Some (bare_store d)) → OnOk r (AreBytes text)
+    → IfOk r (λ d. OfObjects told read_from (IsRoot d))
+root-by told read_from bytes text (Ok d) has same read are = λ tells texts h. record { bytes = text; object = has tells texts h ∙ ap (λ (b : List ℕ). let o : Option (List ℕ) = Some b in o) (sym same); read = read; are_bytes = are }
+root-by told read_from bytes text (Err e) has same read are = tt
+
+-- and what is read as a record is that of an object
+pub row-by : (told : Bool) (read_from bytes text : List ℕ) (id : ℕ) (r : Result EntryRow BookFault) → OfObjects told read_from (HasObject id bytes) → text ≡ bytes → IfOk r (λ row. record_read stream_graph text ≡ Some (said row)) → OnOk r (AreBytes text)
+    → IfOk r (λ row. OfObjects told read_from (IsRow id row))
+row-by told read_from bytes text id (Ok row) has same read are = λ tells texts h. record { bytes = text; object = has tells texts h ∙ ap (λ (b : List ℕ). let o : Option (List ℕ) = Some b in o) (sym same); read = read; are_bytes = are }
+row-by told read_from bytes text id (Err e) has same read are = tt
 
 pub formed-by : (bytes : List ℕ) (r : Result Directory BookFault) → IfOk r (λ d. directory_read bytes ≡ Some (bare_store d)) → IfOk r (λ d. IsTrue (well_formed (bare_store d)))
 formed-by bytes (Ok d) h = now-formed bytes (bare_store d) h

@@ -1,5 +1,6 @@
 -- What is found where a store is opened. This project's own.
-use Rattle.std.specs.Prelude.{◌≡◌, ◌≢◌, ℕ, ◌+◌, ◌%◌, ◌<◌, ◌==◌, Bool, false, IsTrue, List, map as list_map, Option, Some, None}
+use Rattle.std.specs.Prelude.{◌≡◌, ◌≢◌, ◌⊎◌, ℕ, ◌+◌, ◌%◌, ◌<◌, ◌==◌, Bool, true, false, IsTrue, List, map as list_map, Option, Some, None}
+use Rattle.std.specs.List.{list_all}
 use Rattle.std.specs.FinMap as map
 use Rattle.std.specs.BTreeMap as tree
 use Rattle.std.specs.BTreeMap.{BTreeMap}
@@ -11,7 +12,7 @@ use Rattle.newt_spec_graph.specs.Lists.{Among, Pairs}
 use Rattle.newt_spec_store.specs.Store.{Store, Entry}
 use Rattle.newt_spec_store.specs.Lies.{Places, directory_read, record_read}
 use Rattle.newt_laws_changes.specs.Written.{Names}
-use Rattle.newt_laws_images.specs.Found.{IsRecord, ids_named}
+use Rattle.newt_laws_images.specs.Found.{HasGiven, IsRecord, ids_named}
 use Rattle.newt_soupdir.specs.Bare.{bare_store}
 use Rattle.newt_soupdir.specs.declared.rows.Directory.{Directory}
 use Rattle.newt_entries.specs.Entry.{stream_graph, said}
@@ -75,6 +76,24 @@ pub record OwnsThese (ids : List ℕ) (id : ℕ) (old new : Owners) : Type 0 whe
 -- One of these objects has an owner, or one stands twice.
 abbrev pub AreOwned : List ℕ → Owners → Type 0
 AreOwned ids owner = ((o : ℕ) → Among ids o → owner o ≡ None) → Pairs (λ a b. a ≢ b) ids → ⊥
+
+-- ---- one record of an entry
+
+-- A soup of the directory has given its id, it had no place, and its large binaries are there and had no owner; it has this place and these names now, and owns what it names.
+pub record FindsRow (table : Table) (d : Store) (id : ℕ) (row : EntryRow) (place : Places) (names : Names) (owner : Owners) (place' : Places) (names' : Names) (owner' : Owners) : Type 0 where
+  pub given : HasGiven d row.soup row.uid
+  pub free : place row.soup row.uid ≡ None
+  pub there : list_all (λ l. has_length table l) row.larges ≡ true
+  pub owns : OwnsThese (objects_named row.larges) id owner owner'
+  pub placed : place' row.soup row.uid ≡ Some id
+  pub other_places : (sig uid : ℕ) → ((sig ≡ row.soup) → (uid ≡ row.uid) → ⊥) → place' sig uid ≡ place sig uid
+  pub named : names' id ≡ objects_named row.larges
+  pub other_names : (r : ℕ) → r ≢ id → names' r ≡ names r
+
+-- No soup has given its id, or it has a place, or one of its large binaries is not there or has an owner.
+abbrev pub IsNoRow : Table → Store → EntryRow → Places → Owners → Type 0
+IsNoRow table d row place owner =
+    (HasGiven d row.soup row.uid → ⊥) ⊎ (((other : ℕ) × (place row.soup row.uid ≡ Some other)) ⊎ ((list_all (λ l. has_length table l) row.larges ≡ false) ⊎ AreOwned (objects_named row.larges) owner))
 
 -- ---- what is found up to an id
 

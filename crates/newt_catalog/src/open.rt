@@ -18,7 +18,7 @@ ghost use Rattle.newt_shelf.specs.Names.{AreSoundNames, names_of};
 ghost use Rattle.newt_shelf.specs.Places.{AreSoundPlaces, place_of};
 ghost use Rattle.newt_catalog.specs.Readable.{readable};
 ghost use Rattle.newt_catalog.specs.Stands.{StandsFor, IsSound};
-ghost use Rattle.newt_catalog.specs.Opening.{OfObjects, HasObject, IsRoot, IsRow, has_length, objects_named, owner_of, OwnsThese, AreOwned, AreSoundTo, AreFoundTo};
+ghost use Rattle.newt_catalog.specs.Opening.{OfObjects, HasObject, IsRoot, IsRow, has_length, objects_named, owner_of, OwnsThese, AreOwned, FindsRow, IsNoRow, AreSoundTo, AreFoundTo};
 
 use crate::catalog::Catalog;
 use newt_entries::{EntryFault, EntryRow, LargeAt, read_entry};
@@ -270,6 +270,38 @@ struct Finding {
     owners: BTreeMap<u32, u32>,
 }
 
+/// Keeps what is found of the record of an entry. The entry must have no place yet, and its large binaries must be there and be named by no other.
+fn find_row(
+    alloc: Global,
+    objects: &Objects,
+    directory: &Directory,
+    finding: &mut Finding,
+    row: &EntryRow,
+    id: u32,
+) -> Result<(), BookFault>
+    requires formed { IsTrue (well_formed (bare_store directory.now)) }
+    ensures found { OnOk result (FindsRow (held objects.now) (bare_store directory.now) id row.now (place_of finding.old.places) (names_of finding.old.names) (owner_of finding.old.owners) (place_of finding.new.places) (names_of finding.new.names) (owner_of finding.new.owners)) }
+    ensures bad { IsErrOf result BookFault.NotStore → IsNoRow (held objects.now) (bare_store directory.now) row.now (place_of finding.old.places) (owner_of finding.old.owners) }
+    ensures no_device { IsErrOf result BookFault.Device → ⊥ }
+{
+    if !has_given(directory, row) {
+        return Err(BookFault::NotStore);
+    }
+    if finding.places.get(row.soup, row.uid).is_some() {
+        return Err(BookFault::NotStore);
+    }
+    if !are_there(objects, row.larges.list()) {
+        return Err(BookFault::NotStore);
+    }
+    let ids = named_by(alloc, row.larges.list())?;
+    let are_free = own_all(&mut finding.owners, &ids, id)?;
+    if !are_free {
+        return Err(BookFault::NotStore);
+    }
+    finding.names.insert(id, ids)?;
+    Ok(finding.places.insert(row.soup, row.uid, id)?)
+}
+
 /// Keeps what is found of the next object. One with an odd id must be a record of an entry that has no place yet, and whose large binaries are there and
 /// are named by no other.
 fn find_object<P: PageBook, H: Host>(
@@ -304,22 +336,7 @@ fn find_object<P: PageBook, H: Host>(
         return Ok(());
     }
     let row = read_record(alloc, host, book, objects, id)?;
-    if !has_given(directory, &row) {
-        return Err(BookFault::NotStore);
-    }
-    if finding.places.get(row.soup, row.uid).is_some() {
-        return Err(BookFault::NotStore);
-    }
-    if !are_there(objects, row.larges.list()) {
-        return Err(BookFault::NotStore);
-    }
-    let ids = named_by(alloc, row.larges.list())?;
-    let are_free = own_all(&mut finding.owners, &ids, id)?;
-    if !are_free {
-        return Err(BookFault::NotStore);
-    }
-    finding.names.insert(id, ids)?;
-    Ok(finding.places.insert(row.soup, row.uid, id)?)
+    find_row(alloc, objects, directory, finding, &row, id)
 }
 
 /// Finds the objects of all records of entries, and which objects they name: each with an even id above 0 must be named.
