@@ -1,0 +1,85 @@
+-- What an answer that is an error says, and what a call that fails has cost.
+use Rattle.std.proofs.Common.{◌≡◌, ℕ, ◌+◌, ◌<◌, ◌≤◌, Result, Ok, Err, IfOk, OnOk, OnErr, IsErr, IsErrAnd, IsErrOf, subst, arith}
+use Rattle.std.proofs.lemmas.Bool.{false≢true}
+use Rattle.newt_pagebook.specs.declared.book.BookFault.{BookFault}
+use Rattle.newt_pagebook.specs.declared.book.BookFault.TheVariants.{Memory, Device, NotStore}
+use Rattle.newt_host.specs.Outside.{Outside, Rose, Spends, Touches}
+
+-- an error is no value
+pub no-value : {T E : Type 0} (r : Result T E) (P : T → Type 0) → IsErr r → IfOk r P
+no-value (Ok x) P err = absurd (false≢true err)
+no-value (Err e) P err = tt
+
+pub no-ok : {T E : Type 0} (r : Result T E) (A : Type 0) → IsErr r → OnOk r A
+no-ok (Ok x) A err = absurd (false≢true err)
+no-ok (Err e) A err = tt
+
+-- what holds always holds of an error
+pub on-err : {T E : Type 0} (r : Result T E) {A : Type 0} → A → OnErr r A
+on-err (Ok x) a = tt
+on-err (Err e) a = a
+
+pub on-ok : {T E : Type 0} (r : Result T E) {A : Type 0} → A → OnOk r A
+on-ok (Ok x) a = a
+on-ok (Err e) a = tt
+
+-- an answer is one error
+pub same-err : {T E : Type 0} (r : Result T E) (e f : E) → IsErrAnd r (λ x. x ≡ e) → IsErrOf r f → e ≡ f
+same-err (Ok x) e f is so = absurd is
+same-err (Err x) e f is so = cc
+
+pub not-err : {T E : Type 0} {x : T} {e : E} → Ok x ≡ Err e → ⊥
+not-err is = (cc)
+
+-- want of memory, a fault of the device and what is no store are three errors
+pub memory-not-store : {T : Type 0} (r : Result T BookFault) → IsErrAnd r (λ x. x ≡ Memory) → IsErrOf r NotStore → ⊥
+memory-not-store r is so = let no = same-err r Memory NotStore is so in (cc)
+
+pub memory-not-device : {T : Type 0} (r : Result T BookFault) → IsErrAnd r (λ x. x ≡ Memory) → IsErrOf r Device → ⊥
+memory-not-device r is so = let no = same-err r Memory Device is so in (cc)
+
+pub device-not-store : {T : Type 0} (r : Result T BookFault) → IsErrAnd r (λ x. x ≡ Device) → IsErrOf r NotStore → ⊥
+device-not-store r is so = let no = same-err r Device NotStore is so in (cc)
+
+pub store-not-device : {T : Type 0} (r : Result T BookFault) → IsErrAnd r (λ x. x ≡ NotStore) → IsErrOf r Device → ⊥
+store-not-device r is so = let no = same-err r NotStore Device is so in (cc)
+
+-- a count that rose in a later call
+pub rose-before : (old mid new : ℕ) → old ≤ mid → Rose mid new → Rose old new
+rose-before old mid new low rose = omega (arith, low, rose)
+
+pub rose-over : (u v : ℕ) (a b c : Outside) → u ≡ v → Touches v a b → Rose (b.dev_faults u) (c.dev_faults u) → Rose (a.dev_faults v) (c.dev_faults v)
+rose-over u v a b c on touched rose = rose-before (a.dev_faults v) (b.dev_faults v) (c.dev_faults v) touched.faults_later (subst (λ (w : ℕ). Rose (b.dev_faults w) (c.dev_faults w)) on rose)
+
+pub spent-nothing : (u n : ℕ) (a : Outside) → Spends u n 0 a a
+spent-nothing u n a = record { programmed = omega arith; fetched = omega arith }
+
+-- what a record costs that was begun, written and finished
+pub spent-begun : (u p q : ℕ) (a b : Outside) → Spends u 4 0 a b → Spends u (9 + p + q) 0 a b
+spent-begun u p q a b s = record { programmed = omega (arith, s.programmed); fetched = s.fetched }
+
+pub spent-written : (u p q : ℕ) (a b c : Outside) → Spends u 4 0 a b → Spends u (4 + p + q) 0 b c → Spends u (9 + p + q) 0 a c
+spent-written u p q a b c s t = record { programmed = omega (arith, s.programmed, t.programmed); fetched = omega (arith, s.fetched, t.fetched) }
+
+pub spent-finished : (u p q : ℕ) (a b c d : Outside) → Spends u 4 0 a b → Spends u (4 + p + q) 0 b c → Spends u 1 0 c d → Spends u (9 + p + q) 0 a d
+spent-finished u p q a b c d s t f = record { programmed = omega (arith, s.programmed, t.programmed, f.programmed); fetched = omega (arith, s.fetched, t.fetched, f.fetched) }
+
+-- what was programmed has not grown
+pub below-both : (a b c : ℕ) → b ≤ a → c ≤ b → c ≤ a
+below-both a b c first second = omega (arith, first, second)
+
+pub nothing-more : (a b c : ℕ) → b ≤ a → c ≤ b + 0 → c ≤ a
+nothing-more a b c first second = omega (arith, first, second)
+
+pub at-most : (a b : ℕ) → b ≤ a + 0 → b ≤ a
+at-most a b first = omega (arith, first)
+
+pub same-le : (n : ℕ) → n ≤ n
+same-le n = omega arith
+
+-- two numbers are as their names are
+pub more-named : (live most l m : ℕ) → live ≡ l → most ≡ m → most < live → m < l
+more-named live most l m is limit more = omega (arith, is, limit, more)
+
+pub not-more : (live most l m : ℕ) → live ≡ l → most ≡ m → live ≤ most → m < l → ⊥
+not-more live most l m is limit few more = absurd (omega (arith, is, limit, few, more))
