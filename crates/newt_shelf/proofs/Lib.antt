@@ -1,4 +1,5 @@
 pub mod Committing
+pub mod Exits
 pub mod Lengths
 pub mod Counting
 pub mod Planning
