@@ -35,17 +35,15 @@ fn four(alloc: Global, order: Order) -> Result<IndexSpec, AllocError> {
     Ok(IndexSpec::new(parts))
 }
 
-/// The key that a literal writes down.
-fn key(alloc: Global, spec: &IndexSpec, text: &str) -> Result<Key, Fail> {
-    let graph = literal(alloc, text)?;
-    Ok(key_from(alloc, &graph, graph.root(), spec)?.ok_or("a key")?)
-}
-
 /// The keys that literals write down.
 fn keys(alloc: Global, spec: &IndexSpec, text: &str) -> Result<Vec<Key>, Fail> {
     let mut keys = Vec::new(alloc);
     for part in text.split(" < ") {
-        keys.push(key(alloc, spec, part)?)?;
+        let graph = literal(alloc, part)?;
+        match key_from(alloc, &graph, graph.root(), spec)? {
+            Some(key) => keys.push(key)?,
+            None => return Err("a key".into()),
+        }
     }
     Ok(keys)
 }

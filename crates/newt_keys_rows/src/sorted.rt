@@ -113,42 +113,6 @@ fn element(order: Order, key: &Key, uid: Uid) -> Option<(i32, u32)> {
     }
 }
 
-fn before_of(list: &[(i32, u32)], i: usize) -> Option<(i32, u32)> {
-    list.get(i.checked_sub(1)?).copied()
-}
-
-fn first_of(list: &[(i32, u32)], number: i32) -> Option<(i32, u32)> {
-    list.iter().find(|pair| pair.0 == number).copied()
-}
-
-fn last_of(list: &[(i32, u32)], number: i32) -> Option<(i32, u32)> {
-    list.iter().rev().find(|pair| pair.0 == number).copied()
-}
-
-/// Whether the pairs behind and before an id are these.
-fn has_neighbours(
-    index: &Index,
-    order: Order,
-    at: &mut Probe,
-    uid: u32,
-    after: Option<(i32, u32)>,
-    before: Option<(i32, u32)>,
-) -> bool {
-    shown(order, &index.after(at, Uid(uid))) == after
-        && shown(order, &index.before(at, Uid(uid))) == before
-}
-
-/// Whether the first and the last pair of a number are these.
-fn has_ends(
-    index: &Index,
-    order: Order,
-    at: &mut Probe,
-    first: Option<(i32, u32)>,
-    last: Option<(i32, u32)>,
-) -> bool {
-    shown(order, &index.at_or_after(at)) == first && shown(order, &index.at_or_before(at)) == last
-}
-
 /// Whether each search from a pair of the list finds its neighbours.
 fn finds(
     alloc: Global,
@@ -160,17 +124,20 @@ fn finds(
     let Some((number, uid)) = list.get(i).copied() else {
         return Ok(false);
     };
+    let before = if i == 0 {
+        None
+    } else {
+        list.get(i - 1).copied()
+    };
     let after = list.get(i.wrapping_add(1)).copied();
+    let first = list.iter().find(|pair| pair.0 == number).copied();
+    let last = list.iter().rev().find(|pair| pair.0 == number).copied();
     let mut at = probe(alloc, order, rising(order, number))?;
     Ok(
-        has_neighbours(index, order, &mut at, uid, after, before_of(list, i))
-            && has_ends(
-                index,
-                order,
-                &mut at,
-                first_of(list, number),
-                last_of(list, number),
-            ),
+        shown(order, &index.after(&mut at, Uid(uid))) == after
+            && shown(order, &index.before(&mut at, Uid(uid))) == before
+            && shown(order, &index.at_or_after(&mut at)) == first
+            && shown(order, &index.at_or_before(&mut at)) == last,
     )
 }
 

@@ -22,17 +22,12 @@ fn add(index: &mut Index, uid: u32, entry: &Graph) -> Result<(), Fail> {
     Ok(())
 }
 
-fn add_all(alloc: Global, index: &mut Index, entries: &str) -> Result<(), Fail> {
-    for (entry, uid) in entries.split(" | ").zip(0..100) {
-        add(index, uid, &literal(alloc, entry)?)?;
-    }
-    Ok(())
-}
-
 /// The index of entries, whose ids rise from 0.
 fn filled(alloc: Global, order: Order, entries: &str) -> Result<Index, Fail> {
     let mut index = Index::new(alloc, Some(strings(alloc, order)?));
-    add_all(alloc, &mut index, entries)?;
+    for (entry, uid) in entries.split(" | ").zip(0..100) {
+        add(&mut index, uid, &literal(alloc, entry)?)?;
+    }
     Ok(index)
 }
 
