@@ -107,11 +107,10 @@ fn remove_cards(rt: &HostRuntime) -> Result<(), Fail> {
 fn goes_on_with_the_stores_of_the_run_before(rt: HostRuntime) -> Result<(), Fail> {
     write_card(&rt, "internal")?;
     write_card(&rt, "card")?;
-    let (status, written) = session(&rt, FIRST)?;
-    assert_replies(&rt, status, &written, FIRST_REPLIES);
-    drop(written);
-    let (status, written) = session(&rt, SECOND)?;
+    let first = session(&rt, FIRST)?;
+    let second = session(&rt, SECOND)?;
     remove_cards(&rt)?;
-    assert_replies(&rt, status, &written, SECOND_REPLIES);
+    assert_replies(&rt, first.0, &first.1, FIRST_REPLIES);
+    assert_replies(&rt, second.0, &second.1, SECOND_REPLIES);
     Ok(())
 }
