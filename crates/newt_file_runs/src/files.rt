@@ -1,6 +1,7 @@
 //! The host over real files.
 ghost use Rattle.std.specs.Prelude.{◌≡◌, ℕ, IsFalse, IsSome, None};
 
+use crate::filled::write_filled;
 use newt_filehost::FileHost;
 use newt_host::{Host, Unit};
 use std::fs;
@@ -99,13 +100,6 @@ fn assert_bytes(rt: &impl Abort, bytes: &[u8]) {
     }
 }
 
-// Thirteen blocks and five bytes more, which are no part of any.
-fn write_card(rt: &HostRuntime) -> Result<(), Fail> {
-    let mut bytes = Vec::new(rt.alloc());
-    bytes.resize(53_253, 7)?;
-    Ok(fs::write(rt, "card", bytes)?)
-}
-
 // One host changes the card, and another one reads it.
 fn change_and_read(abort: &impl Abort, rt: &HostRuntime) {
     let mut host = FileHost::new(rt.alloc(), rt, rt.stdin(), rt.stdout());
@@ -116,7 +110,8 @@ fn change_and_read(abort: &impl Abort, rt: &HostRuntime) {
 
 #[test]
 fn keeps_what_was_written_and_leaves_the_rest(rt: HostRuntime) -> Result<(), Fail> {
-    write_card(&rt)?;
+    // Five bytes more than thirteen blocks, which are no part of any.
+    write_filled(&rt, "card", 53_253, 7)?;
     change_and_read(&rt, &rt);
     let after = fs::read(&rt, "card")?;
     fs::remove_file(&rt, "card")?;

@@ -1,5 +1,6 @@
 //! Runs over real files.
 
+use crate::filled::write_filled;
 use newt_filehost::FileHost;
 use newt_top::{Status, run};
 use std::alloc::{AllocError, Global};
@@ -90,11 +91,10 @@ fn assert_replies(rt: &impl Abort, status: Status, written: &[u8], wanted: &[u8]
     assert_eq!(rt; written, wanted);
 }
 
-// Thirteen blocks.
-fn write_card(rt: &HostRuntime, name: &str) -> Result<(), Fail> {
-    let mut bytes = Vec::new(rt.alloc());
-    bytes.resize(53_248, 0)?;
-    Ok(fs::write(rt, name, bytes)?)
+// The devices of a first run, of thirteen blocks each.
+fn write_cards(rt: &HostRuntime) -> Result<(), Fail> {
+    write_filled(rt, "internal", 53_248, 0)?;
+    write_filled(rt, "card", 53_248, 0)
 }
 
 fn remove_cards(rt: &HostRuntime) -> Result<(), Fail> {
@@ -105,8 +105,7 @@ fn remove_cards(rt: &HostRuntime) -> Result<(), Fail> {
 
 #[test]
 fn goes_on_with_the_stores_of_the_run_before(rt: HostRuntime) -> Result<(), Fail> {
-    write_card(&rt, "internal")?;
-    write_card(&rt, "card")?;
+    write_cards(&rt)?;
     let first = session(&rt, FIRST)?;
     let second = session(&rt, SECOND)?;
     remove_cards(&rt)?;

@@ -10,4 +10,6 @@ mod lines;
 #[cfg(test)]
 mod replies;
 #[cfg(test)]
+mod rows;
+#[cfg(test)]
 mod told;

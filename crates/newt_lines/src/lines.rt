@@ -1,5 +1,6 @@
 //! Lines, and the commands or refusals that the table of commands gives them.
 
+use crate::rows::sides;
 use crate::told::told;
 use std::alloc::{AllocError, Global};
 use std::test::Fail;
@@ -12,15 +13,12 @@ fn expect_told(alloc: Global, line: &str, wanted: &str) -> Result<(), Fail> {
     Ok(())
 }
 
-/// Looks for what each line of a table gives. A row is a line and, behind ` => `, its command in words, its refusal, or that it gives none. Rows that begin
-/// with `#` are comments.
+/// Looks for what each line of a table gives. A row is a line and, behind ` => `, its command in words, its refusal, or that it gives none.
 fn expect_each(alloc: Global, table: &str) -> Result<(), Fail> {
     for row in table.lines() {
-        if row.is_empty() || row.starts_with('#') {
-            continue;
+        if let Some((line, wanted)) = sides(row)? {
+            expect_told(alloc, line, wanted)?;
         }
-        let (line, wanted) = row.split_once(" => ").ok_or("a row without an answer")?;
-        expect_told(alloc, line, wanted)?;
     }
     Ok(())
 }

@@ -1,6 +1,7 @@
 //! Replies, and their lines.
 ghost use Rattle.std.specs.Prelude.{◌≡◌, ◌∷◌, [], IfOk};
 
+use crate::rows::sides;
 use newt_base::{Name, Refusal, Sig, Uid, hex_read};
 use newt_graph::Bytes;
 use newt_host::Unit;
@@ -196,16 +197,20 @@ fn reply(alloc: Global, text: &str) -> Result<Reply, Fail> {
     }
 }
 
+/// Looks for the line of a reply.
+fn expect_line(alloc: Global, text: &str, wanted: &str) -> Result<(), Fail> {
+    let line = write_reply(alloc, &reply(alloc, text)?)?;
+    if line.strip_suffix(b"\n") != Some(wanted.as_bytes()) {
+        return Err(Fail::new(format_args!("another line: {text}")));
+    }
+    Ok(())
+}
+
 /// Looks for the line of each reply. A row is a reply and, behind ` => `, its line.
 fn expect_each(alloc: Global, table: &str) -> Result<(), Fail> {
     for row in table.lines() {
-        if row.is_empty() || row.starts_with('#') {
-            continue;
-        }
-        let (text, wanted) = row.split_once(" => ").ok_or("a row without a line")?;
-        let line = write_reply(alloc, &reply(alloc, text)?)?;
-        if line.strip_suffix(b"\n") != Some(wanted.as_bytes()) {
-            return Err(Fail::new(format_args!("another line: {row}")));
+        if let Some((text, wanted)) = sides(row)? {
+            expect_line(alloc, text, wanted)?;
         }
     }
     Ok(())
