@@ -76,9 +76,7 @@ fn obey<H: Host, I: Interpreter>(
     let flow = flow_after(&command);
     match interpreter.apply(host, command) {
         Ok(reply) => {
-            let put = put_reply(alloc, host, &reply);
-            drop(reply);
-            put?;
+            put_reply(alloc, host, &reply)?;
             Ok(flow)
         }
         Err(stop) => Err(halted_by(stop)),
@@ -97,9 +95,7 @@ fn refuse<H: Host>(alloc: Global, host: &mut H, refusal: Refusal) -> Result<Flow
     ensures stays { StaysAttached (H.outside host.old) (H.outside host.new) }
 {
     let reply = Reply::Refused(refusal);
-    let put = put_reply(alloc, host, &reply);
-    drop(reply);
-    put?;
+    put_reply(alloc, host, &reply)?;
     Ok(Flow::Go)
 }
 

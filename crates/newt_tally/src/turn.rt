@@ -65,9 +65,7 @@ fn obey<H: Host, I: Interpreter>(
     let quits = quits(&command);
     match interpreter.apply(host, command) {
         Ok(reply) => {
-            let counted = count(alloc, tally, &reply);
-            drop(reply);
-            counted?;
+            count(alloc, tally, &reply)?;
             Ok(quits)
         }
         Err(stop) => Err(halted_by(stop)),
@@ -83,9 +81,7 @@ fn refuse(alloc: Global, tally: &mut Tally, refusal: Refusal) -> Result<bool, Ha
     ensures memory { IfErr result (λ halt. halt ≡ Halt.Memory) }
 {
     let reply = Reply::Refused(refusal);
-    let counted = count(alloc, tally, &reply);
-    drop(reply);
-    counted?;
+    count(alloc, tally, &reply)?;
     Ok(false)
 }
 

@@ -75,13 +75,11 @@ fn keyed(
     ensures cause { IfErr result NoDevice }
 {
     match shape.bind(alloc, graph, index) {
-        Ok(spec) => match name.copy() {
-            Ok(name) => Ok(Query { scope, name, spec }),
-            Err(_) => {
-                drop(spec);
-                Err(Fault::Stop(Stop::Memory))
-            }
-        },
+        Ok(spec) => Ok(Query {
+            scope,
+            name: name.copy()?,
+            spec,
+        }),
         Err(BindFault::KeyType) => Err(Fault::Refused(Refusal::Key)),
         Err(BindFault::Memory) => Err(Fault::Stop(Stop::Memory)),
     }

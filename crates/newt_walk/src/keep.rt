@@ -76,9 +76,7 @@ fn keeps_read<C: Card, H: Host>(
     match units.entry_on(host, unit, spot.soup, spot.uid)? {
         Some(entry) => {
             let table = table_on(units, unit, spot.soup);
-            let kept = is_kept(units.alloc(), &query.spec, &spot.key, table, &entry.graph);
-            drop(entry);
-            Ok(kept?)
+            Ok(is_kept(units.alloc(), &query.spec, &spot.key, table, &entry.graph)?)
         }
         None => Ok(false),
     }

@@ -127,13 +127,7 @@ fn open<C: Card, H: Host>(
         Opens w (world_with C.reads units.new desk.new (H.outside host.new)) (query_of query) result }
     ensures cause { IfErr result (λ fault. HasFaultCause fault (H.outside host.old) (H.outside host.new)) }
 {
-    let first = match outermost(units, host, &query, Way::On) {
-        Ok(first) => first,
-        Err(stop) => {
-            drop(query);
-            return Err(Fault::Stop(stop));
-        }
-    };
+    let first = outermost(units, host, &query, Way::On)?;
     match desk.open(query, first) {
         Ok(cursor) => {
             settle(units, desk, host)?;

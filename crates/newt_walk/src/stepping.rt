@@ -212,7 +212,6 @@ fn steer<C: Card, H: Host>(
     ensures cause { IfErr result (λ fault. HasFaultCause fault (H.outside host.old) (H.outside host.new)) }
 {
     let Some((query, place)) = open_cursor(desk, cursor) else {
-        drop(motion);
         return Err(Fault::Refused(Refusal::Cursor));
     };
     let place = target(units, host, query, place, motion)?;
