@@ -1,0 +1,93 @@
+"""Plays scripts to the program and to this reference, and compares the replies and the stores that are left.
+
+usage: python3 reference/compare.py [PROGRAM [FIRST [COUNT]]]
+
+PROGRAM is the built program, crates/newton/out/newton if left out. First come the scripts at the limits, and then random
+ones: FIRST is their first seed, 0 if left out, and COUNT their number, 100 if left out. They run over one to five new
+files, and half of them go on with a second run. It stops at the first difference, with status 1.
+"""
+
+import subprocess
+import sys
+import tempfile
+from contextlib import contextmanager
+from pathlib import Path
+from random import Random
+from typing import Iterator
+
+from commands import answer
+from edges import EDGES
+from images import is_same_store, store_of_image
+from scripts import written
+from world import Unit, World
+
+BLOCKS = (12, 13, 13, 14, 16, 20, 40)
+
+
+def replies_of(program: Path, script: list[bytes], files: list[Path]) -> list[str]:
+    ran = subprocess.run([program, "run", *files], input=b"\n".join(script) + b"\n", capture_output=True, check=True)
+    return ran.stdout.decode().splitlines()
+
+
+def is_same_run(program: Path, script: list[bytes], wanted: list[str], units: list[Unit], files: list[Path]) -> bool:
+    """Whether the program answers as is wanted, and leaves the stores that the units have."""
+    found = replies_of(program, script, files)
+    if found != wanted:
+        asked = [it for it in script if it.lstrip(b" \t")[:1] not in (b"", b"%")]
+        at = next(
+            (at for at, (one, other) in enumerate(zip(found, wanted)) if one != other), min(len(found), len(wanted))
+        )
+        print(f"  {asked[at].decode()}\n  program:   {found[at:][:1]}\n  reference: {wanted[at:][:1]}")
+        return False
+    for unit, file in zip(units, files):
+        store = store_of_image(file.read_bytes())
+        if (store is None) != (unit.store is None) or store and not is_same_store(store, unit.store):
+            print(f"  another store is left on {file.name}")
+            return False
+    return True
+
+
+@contextmanager
+def blank_files(units: list[Unit]) -> Iterator[list[Path]]:
+    with tempfile.TemporaryDirectory() as folder:
+        files = [Path(folder, f"unit{at}") for at in range(len(units))]
+        for file, unit in zip(files, units):
+            file.write_bytes(bytes(4096 * unit.blocks))
+        yield files
+
+
+def is_same_at_limits(program: Path, lines: list[str], blocks: tuple) -> bool:
+    units = [Unit(it) for it in blocks]
+    world, script = World(units), [it.encode() for it in lines]
+    replies = [answer(world, it) for it in script]
+    with blank_files(units) as files:
+        return is_same_run(program, script, [it for it in replies if it is not None], units, files)
+
+
+def is_same_at_random(program: Path, seed: int) -> bool:
+    random = Random(seed)
+    units = [Unit(random.choice(BLOCKS)) for _ in range(random.choice((1, 2, 3, 3, 5)))]
+    with blank_files(units) as files:
+        for _ in range(random.choice((1, 2))):
+            script, wanted = written(random, World(units), len(units), random.choice((60, 150, 400)))
+            if not is_same_run(program, script, wanted, units, files):
+                return False
+    return True
+
+
+def main(program: str = "", first: str = "0", count: str = "100") -> int:
+    path = (Path(program) if program else Path(__file__).parent.parent / "crates/newton/out/newton").resolve()
+    for lines, blocks in EDGES:
+        if not is_same_at_limits(path, lines(), blocks):
+            print(f"{lines.__name__}: the program and the reference differ")
+            return 1
+    for seed in range(int(first), int(first) + int(count)):
+        if not is_same_at_random(path, seed):
+            print(f"seed {seed}: the program and the reference differ")
+            return 1
+    print(f"{len(EDGES)} scripts at the limits, and {count} from seed {first} on: no difference")
+    return 0
+
+
+if __name__ == "__main__":
+    sys.exit(main(*sys.argv[1:]))

@@ -1,0 +1,133 @@
+"""Scripts at the limits: for each a name, the numbers of blocks of its units, and its lines."""
+
+START = ["format 0 C 1", "mount 0", "soup 0 S"]
+ZEROS = "<<w:*1000000>>"
+
+
+def nested(count: int, inner: str = "1") -> str:
+    return "[" * count + inner + "]" * count
+
+
+def nested_frames(count: int) -> str:
+    return "{a: " * count + "1" + "}" * count
+
+
+def array(value: str, count: int) -> str:
+    return "[" + ",".join([value] * count) + "]"
+
+
+def string(length: int) -> str:
+    return '"' + "a" * length + '"'
+
+
+def stores() -> list[str]:
+    lines = [f"format {unit} C{unit} {unit}" for unit in range(6)] + [f"mount {unit}" for unit in range(6)]
+    lines += [
+        "stores",
+        "default 3",
+        "unmount 3",
+        "stores",
+        "mount 4",
+        "addu S {}",
+        "unmount 0",
+        "soup 1 S",
+        "addu S {}",
+    ]
+    return lines + ["unmount 1", "unmount 2", "unmount 4", "addu S {}", "stores"]
+
+
+def cursors() -> list[str]:
+    lines = [*START, "add 0 S {}", *["query 0 S {}"] * 34, "clone 0", "close 5", "clone 31", "close 31"]
+    return lines + ["query * S {}", "query * S {}", "count 31", "clone 31"]
+
+
+def soups() -> list[str]:
+    lines = [*START[:2], *[f"soup 0 s{number}" for number in range(66)], "soup 0 s1", "drop 0 s3"]
+    return lines + ["soup 0 s3", "soup 0 s4", "soup 0 x", "soups 0"]
+
+
+def indexes() -> list[str]:
+    four = " ".join(f"{name}:int:ascend" for name in "abcd")
+    lines = [*START, *[f"index 0 S p{number}:int:ascend" for number in range(18)]]
+    lines += ["index 0 S p3:string:descend", "index 0 S q:real:ascend", "index 0 S p3:real:ascend", "unindex 0 S P4"]
+    lines += [
+        "index 0 S q:int:ascend",
+        "indexes 0 S",
+        "unindex 0 S q",
+        f"index 0 S {four}",
+        f"index 0 S {four} e:int:ascend",
+    ]
+    lines += ["unindex 0 S a b c d", "unindex 0 S a b c d e", "index 0 S a.b.c.d.e.f.g.h:char:descend a:int:ascend"]
+    return lines + ["index 0 S a.b.c.d.e.f.g.h.i:char:descend", "indexes 0 S"]
+
+
+def tags() -> list[str]:
+    symbols = [f"t{number}" for number in range(65)]
+    lines = [*START, "tags 0 S p " + " ".join(symbols[:-1]), "tags 0 S", "tags 0 S p " + " ".join(symbols)]
+    lines += ["tags 0 S p a A", "tags 0 S p a b", "tags 0 S", "tags 0 S p"]
+    return lines + ["tags 0 S p " + "x" * 254, "tags 0 S p " + "x" * 255, "tags 0 S p |a b|"]
+
+
+def lines() -> list[str]:
+    long = [f"lit {string(length)}" for length in range(139_992, 139_997)]
+    long += ["% " + "a" * 150_000, " " * 150_000, "x" * 140_001, "x" * 140_000]
+    padded = ["lit 1" + " " * 139_995, "lit 1" + " " * 139_996]
+    numbers = [f"time {number}" for number in ("4294967295", "4294967296", "0000000001", "00000000001", "-1", "+1", "")]
+    return [*long, *padded, *[line + "\r" for line in padded], "lit\t1", "lit", "lit ", "LIT 1", *numbers]
+
+
+def depths() -> list[str]:
+    inner = ("1", "[1]", '"a"', "<a:00>", "[]")
+    read = [f"lit {nested(count, it)}" for it in inner for count in (199, 200, 201)]
+    read += [f"lit {nested_frames(count)}" for count in (199, 200, 201)]
+    read += ["nsof 02" + "0501" * count + end for count in (198, 199, 200, 201) for end in ("0A", "0500", "0B01020304")]
+    changed = [*START, "add 0 S {a: {b: {c: 1}}}"]
+    changed += [f"set 0 S 0 {path} {nested(count)}" for path in ("a.b.c", "a.d", "e") for count in range(196, 202)]
+    deep = [f"add 0 S {nested_frames(200)}", "set 0 S 1 a.a.a.a.a.a.a.a 5", "set 0 S 1 a.a.a.a.a.a.a 5", "get 0 S 1"]
+    return [*read, *changed, "getx 0 S 0", *deep]
+
+
+def nodes() -> list[str]:
+    lines = [*START, f"lit {array('[]', 46_000)}", "add 0 S {a: 1}", f"set 0 S 0 b {array('[]', 30_000)}"]
+    lines += ["set 0 S 0 c [nil]", f"change 0 S 0 {{a: {array('[]', 30_000)}}}", f"set 0 S 0 d {array('[]', 45_000)}"]
+    lines += [f"add 0 S {{a: {array('1', count)}}}" for count in (21_328, 21_329, 21_330, 31_000)]
+    lines += [f"add 0 S {{t: {string(length)}}}" for length in range(31_986, 31_996)]
+    return lines + [f"set 0 S 0 t {string(length)}" for length in range(31_984, 31_990)] + ["soups 0"]
+
+
+def larges() -> list[str]:
+    four = ", ".join(f"{name}: {ZEROS}" for name in "vwxy")
+    lines = [*START, "lit <<w:*1000001>>", f"add 0 S {{v: {ZEROS}}}", f"add 0 S {{{four}}}"]
+    lines += [f"set 0 S 1 {path} {array(ZEROS, count)}" for path in "av" for count in (12, 13, 14)]
+    lines += [f"add 0 S {{a: {array(ZEROS, count)}}}" for count in (3, 16, 17)]
+    lines += ["add 0 S {v: <<w:*0>>}", "add 0 S {v: <<w:*0000001>>}", "add 0 S {v: <<w:*00000001>>}"]
+    ranges = ("0 60000", "0 60001", "999999 1", "1000000 0", "1000001 0", "4294967295 1")
+    lines += [f"vread 0 S 0 v {it}" for it in ranges]
+    lines += ["vwrite 0 S 0 v 999998 0102", "vread 0 S 0 v 999990 10", "vwrite 0 S 0 v 999999 0102", "remove 0 S 0"]
+    return lines + ["copy 0 S 1 0 S", "remove 0 S 1", "copy 0 S 2 0 S", "soups 0"]
+
+
+def blocks() -> list[str]:
+    lines = [f"{word} {unit}{behind}" for word, behind in (("format", " C 1"), ("mount", "")) for unit in range(7)]
+    return lines + ["unmount 0", "soups 0", "stores"]
+
+
+def names() -> list[str]:
+    lines = ['format 0 "A \\"b\\" \\\\" 536870911', "mount 0", "format 0 x 536870912"]
+    given = (string(39), string(40), "b" * 39, "b" * 40, "a,b", "{x}", '"x y" ', "A", "a", '"a"b', "a\\b")
+    return [*lines, *[f"soup 0 {it}" for it in given], "soups 0", "stores", 'drop 0 "A"', "soups 0"]
+
+
+EDGES = [
+    (stores, (13,) * 6),
+    (cursors, (13,)),
+    (soups, (40,)),
+    (indexes, (40,)),
+    (tags, (40,)),
+    (lines, ()),
+    (depths, (40,)),
+    (nodes, (600,)),
+    (larges, (4099,)),
+    (blocks, (12, 13, 4099, 4100, 0, 1)),
+    (names, (20,)),
+]

@@ -1,0 +1,213 @@
+"""What the image of a device is read as: votes, bank, records, pages, objects, and the store that they write down."""
+
+import struct
+from typing import Optional
+
+from graphs import Frame, Walk
+from lines import IDENTIFIER
+from stores import (
+    KINDS,
+    MOST_INDEXES,
+    MOST_SIGNATURE,
+    MOST_SOUPS,
+    MOST_TAGS,
+    ORDERS,
+    Entry,
+    Part,
+    Soup,
+    Store,
+    Tags,
+    capacity,
+    cost,
+    entry_of,
+    paths_of,
+)
+from streams import Malformed, decode, encode, pages
+
+BLOCK = 4096
+HEADER = b"NSTORE\x00\x01" + bytes(8)
+MOST_LARGE = 1_000_000
+MOST_SKELETON = 64_000
+
+
+class NoStore(Exception):
+    """The image is not that of a store."""
+
+
+def wants(holds) -> None:
+    if not holds:
+        raise NoStore
+
+
+class Bytes:
+    """Bytes that are taken from the front."""
+
+    def __init__(self, data: bytes):
+        self.data = data
+
+    def take(self, count: int) -> bytes:
+        wants(count <= len(self.data))
+        taken, self.data = self.data[:count], self.data[count:]
+        return taken
+
+    def number(self, count: int, most: int = 2**32 - 1) -> int:
+        number = int.from_bytes(self.take(count), "big")
+        wants(number <= most)
+        return number
+
+    def text(self) -> bytes:
+        return self.take(self.number(1))
+
+    def name(self) -> bytes:
+        name = self.text()
+        wants(1 <= len(name) <= 39 and all(32 <= it <= 126 for it in name))
+        return name
+
+    def identifier(self) -> bytes:
+        name = self.text()
+        wants(IDENTIFIER.fullmatch(name))
+        return name
+
+    def several(self, item, least: int, most: int) -> tuple:
+        count = self.number(1, most)
+        wants(count >= least)
+        return tuple(item() for _ in range(count))
+
+    def path(self) -> tuple:
+        return self.several(self.identifier, 1, 8)
+
+    def part(self) -> Part:
+        kind, order = self.number(1, len(KINDS) - 1), self.number(1, len(ORDERS) - 1)
+        return Part(self.path(), KINDS[kind], ORDERS[order])
+
+    def spec(self) -> tuple:
+        return self.several(self.part, 1, 4)
+
+    def tags(self) -> Optional[Tags]:
+        if not self.number(1, 1):
+            return None
+        tags = Tags(self.path(), self.several(self.identifier, 1, MOST_TAGS))
+        wants(len({it.lower() for it in tags.symbols}) == len(tags.symbols))
+        return tags
+
+    def soup(self) -> Soup:
+        soup = Soup(
+            self.name(),
+            self.number(2),
+            self.number(4, MOST_SIGNATURE),
+            self.several(self.spec, 0, MOST_INDEXES),
+            self.tags(),
+        )
+        wants(len({paths_of(it) for it in soup.specs}) == len(soup.specs))
+        return soup
+
+    def directory(self) -> Store:
+        store = Store(
+            self.name(), self.number(4, MOST_SIGNATURE), self.number(2), self.several(self.soup, 0, MOST_SOUPS)
+        )
+        numbers = [it.sig for it in store.soups]
+        wants(not self.data and len({it.name for it in store.soups}) == len(store.soups))
+        wants(all(one < other for one, other in zip(numbers, [*numbers[1:], store.next_soup])))
+        return store
+
+
+def bank_of(image: bytes) -> bytes:
+    """The bank that the votes choose."""
+    blocks = len(image) // BLOCK
+    wants(13 <= blocks <= 4099)
+    votes = [image[BLOCK * it] for it in range(3)]
+    chosen = [bank for bank in (0, 1) if votes.count(bank) >= 2] or votes[:1]
+    wants(chosen[0] in (0, 1))
+    size = (blocks - 3) // 2
+    return image[BLOCK * (3 + chosen[0] * size) : BLOCK * (3 + chosen[0] * size + size)]
+
+
+def payloads(image: bytes) -> list[bytes]:
+    bank = Bytes(bank_of(image))
+    wants(bank.take(len(HEADER)) == HEADER)
+    found = []
+    while bank.data and bank.data[0] == 0:
+        bank.take(1)
+        found.append(bank.take(bank.number(4)))
+    return found
+
+
+def pages_of(image: bytes) -> dict:
+    found: dict[int, bytes] = {}
+    for payload in map(Bytes, payloads(image)):
+        puts, deletes = payload.number(2), payload.number(2)
+        wants(len(payload.data) == 516 * puts + 4 * deletes)
+        put = [(payload.number(4, 65_535), payload.take(512)) for _ in range(puts)]
+        deleted = [payload.number(4, 65_535) for _ in range(deletes)]
+        wants(len({*dict(put), *deleted}) == puts + deletes)
+        found.update(put)
+        found = {number: page for number, page in found.items() if number not in deleted}
+    return found
+
+
+def objects_of(image: bytes) -> dict:
+    parts: dict[int, list] = {}
+    for page in pages_of(image).values():
+        number, part, length = struct.unpack(">III", page[:12])
+        parts.setdefault(number, []).append((part, length, page[12:]))
+    for found in parts.values():
+        found.sort(key=lambda it: it[0])
+        length = found[0][1]
+        wants([it[:2] for it in found] == [(part, length) for part in range(pages(length))])
+    return {number: b"".join(it[2] for it in found)[: found[0][1]] for number, found in parts.items()}
+
+
+def read_entry(record: bytes, objects: dict, named: list) -> tuple[int, Entry]:
+    """The soup and the entry of a record, whose large binaries are noted."""
+    wants(len(record) >= 12)
+    sig, count, uid, time = struct.unpack(">HHII", record[:12])
+    wants(len(record) >= 12 + 12 * count)
+    skeleton, places = record[12 : len(record) - 12 * count], record[len(record) - 12 * count :]
+    try:
+        graph, is_compressed = decode(skeleton)
+    except Malformed as fault:
+        raise NoStore from fault
+    wants(
+        len(skeleton) <= MOST_SKELETON and not is_compressed and isinstance(graph, Frame) and encode(graph) == skeleton
+    )
+    walk = Walk(graph)
+    wants(len(walk.larges()) == count and not any(it.data for it in walk.larges()))
+    for large, (node, number, length) in zip(walk.larges(), struct.iter_unpack(">III", places)):
+        wants(node == walk.numbers[id(large)] and number > 0 and number % 2 == 0 and number in objects)
+        wants(len(objects[number]) == length <= MOST_LARGE)
+        large.data = objects[number]
+        named.append(number)
+    return sig, entry_of(uid, time, graph)
+
+
+def store_of_image(image: bytes) -> Optional[Store]:
+    try:
+        objects = objects_of(image)
+        wants(0 in objects)
+        store, named = Bytes(objects[0]).directory(), []
+        for number in sorted(it for it in objects if it % 2):
+            sig, entry = read_entry(objects[number], objects, named)
+            soup = next((it for it in store.soups if it.sig == sig), None)
+            wants(soup and entry.uid < soup.next_uid and soup.entry(entry.uid) is None)
+            store = store.with_soup(soup.with_entry(entry))
+        wants(sorted(named) == sorted(it for it in objects if it > 0 and it % 2 == 0))
+        wants(cost(store) <= capacity(len(image) // BLOCK))
+        return store
+    except NoStore:
+        return None
+
+
+def is_same_store(one: Store, other: Store) -> bool:
+    """Whether two stores are equal, their graphs by what they print as streams."""
+
+    def told(store: Store) -> list:
+        entries = [(it.sig, [(at.uid, at.time, encode(at.graph)) for at in it.entries]) for it in store.soups]
+        return [
+            store.name,
+            store.sig,
+            store.next_soup,
+            [(it.name, it.sig, it.next_uid, it.specs, it.tags) for it in store.soups],
+            entries,
+        ]
+
+    return told(one) == told(other)

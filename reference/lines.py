@@ -1,0 +1,146 @@
+"""The lines of a script: their words, and the forms that these have."""
+
+import re
+
+from stores import KINDS, ORDERS, Part, Tags
+
+NAME = re.compile(rb"[!#-\[\]-~]+(?![^ \t])")
+QUOTED = re.compile(rb'"((?:[ !#-\[\]-~]|\\["\\])*)"(?![^ \t])')
+IDENTIFIER = re.compile(rb"[A-Za-z_][A-Za-z0-9_]{0,253}")
+
+
+class NoForm(Exception):
+    """The words have not the form of their command."""
+
+
+class Words:
+    """The words of a line, which are taken one by one."""
+
+    def __init__(self, line: bytes):
+        self.line, self.at = line, 0
+        self.blanks()
+
+    def wants(self, holds) -> None:
+        if not holds:
+            raise NoForm
+
+    def blanks(self) -> None:
+        self.at = re.compile(rb"[ \t]*").match(self.line, self.at).end()
+
+    def is_at_end(self) -> bool:
+        return self.at == len(self.line)
+
+    def end(self) -> None:
+        self.wants(self.is_at_end())
+
+    def found(self, form: re.Pattern) -> re.Match:
+        match = form.match(self.line, self.at)
+        self.wants(match)
+        self.at = match.end()
+        self.blanks()
+        return match
+
+    def word(self) -> bytes:
+        return self.found(re.compile(rb"[^ \t]+"))[0]
+
+    def rest(self) -> bytes:
+        rest = self.line[self.at :].rstrip(b" \t")
+        self.at = len(self.line)
+        return rest
+
+
+# Forms: each takes what it reads from the words.
+
+
+def decimal(most: int):
+    def form(words: Words) -> int:
+        word = words.word()
+        words.wants(re.fullmatch(rb"[0-9]{1,10}", word) and int(word) <= most)
+        return int(word)
+
+    return form
+
+
+NUMBER, SIGNATURE, LENGTH, CURSOR = decimal(2**32 - 1), decimal(536_870_911), decimal(60_000), decimal(31)
+
+
+def unit(words: Words) -> int:
+    word = words.word()
+    words.wants(re.fullmatch(rb"[0-7]", word))
+    return int(word)
+
+
+def scope(words: Words):
+    """A unit, or nothing for all of them."""
+    if words.line[words.at : words.at + 1] != b"*":
+        return unit(words)
+    words.wants(words.word() == b"*")
+    return None
+
+
+def steps(words: Words) -> int:
+    word = words.word()
+    words.wants(re.fullmatch(rb"-?[0-9]{1,10}", word) and -(2**31) <= int(word) < 2**31)
+    return int(word)
+
+
+def name(words: Words) -> bytes:
+    if words.line[words.at : words.at + 1] == b'"':
+        text = re.sub(rb"\\(.)", rb"\1", words.found(QUOTED)[1])
+    else:
+        text = words.found(NAME)[0]
+    words.wants(1 <= len(text) <= 39)
+    return text
+
+
+def identifiers(words: Words, text: bytes) -> tuple:
+    parts = text.split(b".")
+    words.wants(len(parts) <= 8 and all(IDENTIFIER.fullmatch(it) for it in parts))
+    return tuple(parts)
+
+
+def path(words: Words) -> tuple:
+    return identifiers(words, words.word())
+
+
+def part(words: Words) -> Part:
+    word = words.word()
+    words.wants(word.count(b":") == 2)
+    text, kind, direction = word.split(b":")
+    words.wants(kind.decode("latin-1") in (*KINDS, "real") and direction.decode("latin-1") in ORDERS)
+    return Part(identifiers(words, text), kind.decode(), direction.decode())
+
+
+def symbol(words: Words) -> bytes:
+    word = words.word()
+    words.wants(IDENTIFIER.fullmatch(word))
+    return word
+
+
+def several(form, most: int):
+    def all_of(words: Words) -> tuple:
+        items = [form(words)]
+        while not words.is_at_end():
+            items.append(form(words))
+        words.wants(len(items) <= most)
+        return tuple(items)
+
+    return all_of
+
+
+def declaration(words: Words):
+    """A declaration of tags, or nothing."""
+    if words.is_at_end():
+        return None
+    tags = Tags(path(words), several(symbol, 140_000)(words))
+    words.wants(len({it.lower() for it in tags.symbols}) == len(tags.symbols))
+    return tags
+
+
+def literal(words: Words) -> bytes:
+    words.wants(not words.is_at_end())
+    return words.rest()
+
+
+def hexadecimal(words: Words) -> bytes:
+    return words.rest()

@@ -1,0 +1,56 @@
+"""Refusals, and how names and lists are printed."""
+
+REFUSALS = {
+    1: "malformed",
+    2: "compressed",
+    3: "literal",
+    10: "command",
+    11: "line",
+    12: "longline",
+    20: "unit",
+    21: "mounted",
+    22: "nostore",
+    23: "stores",
+    24: "signature",
+    25: "notmounted",
+    26: "store",
+    27: "blocks",
+    30: "soup",
+    31: "exists",
+    32: "entry",
+    33: "full",
+    34: "size",
+    35: "ids",
+    36: "limit",
+    37: "notframe",
+    38: "path",
+    39: "range",
+    40: "index",
+    41: "spec",
+    42: "cursor",
+    43: "key",
+}
+
+
+class Refused(Exception):
+    """A command that is refused, with its number."""
+
+    def __init__(self, number: int):
+        super().__init__(number)
+        self.number = number
+
+
+def of_refusal(refused: Refused) -> str:
+    return f"error {refused.number} {REFUSALS[refused.number]}"
+
+
+def of_name(name: bytes) -> str:
+    """A name of a store or soup, in quotes where it has to be."""
+    text = name.decode()
+    if not set(text) & set(' "\\'):
+        return text
+    return '"' + text.replace("\\", "\\\\").replace('"', '\\"') + '"'
+
+
+def of_path(path: tuple) -> str:
+    return ".".join(name.decode() for name in path)

@@ -1,0 +1,124 @@
+"""Stores, soups and entries as plain values, the bytes of a store's directory, and what a store costs.
+
+A change makes a new value.
+"""
+
+from dataclasses import dataclass, replace
+from typing import NamedTuple, Optional
+
+from graphs import Ref
+from streams import entry_cost, pages
+
+KINDS = ("string", "int", "char", "symbol")
+ORDERS = ("ascend", "descend")
+MOST_SIGNATURE = 536_870_911
+MOST_SOUP_SIGNATURE = 65_535
+MOST_SOUPS, MOST_INDEXES, MOST_TAGS = 64, 16, 64
+
+Path = tuple
+
+
+class Part(NamedTuple):
+    path: Path
+    kind: str
+    order: str
+
+
+class Tags(NamedTuple):
+    path: Path
+    symbols: tuple
+
+
+class Entry(NamedTuple):
+    uid: int
+    time: int
+    graph: Ref
+    cost: int
+
+
+@dataclass(frozen=True)
+class Soup:
+    name: bytes
+    sig: int
+    next_uid: int = 0
+    specs: tuple = ()
+    tags: Optional[Tags] = None
+    entries: tuple = ()
+
+    def entry(self, uid: int) -> Optional[Entry]:
+        return next((it for it in self.entries if it.uid == uid), None)
+
+    def with_entry(self, entry: Entry) -> "Soup":
+        """The soup with an entry in the place of the one of its id, or behind the others."""
+        kept = [it for it in self.entries if it.uid < entry.uid]
+        behind = [it for it in self.entries if it.uid > entry.uid]
+        return replace(self, entries=(*kept, entry, *behind), next_uid=max(self.next_uid, entry.uid + 1))
+
+    def without_entry(self, uid: int) -> "Soup":
+        return replace(self, entries=tuple(it for it in self.entries if it.uid != uid))
+
+
+@dataclass(frozen=True)
+class Store:
+    name: bytes
+    sig: int
+    next_soup: int = 0
+    soups: tuple = ()
+
+    def soup(self, name: bytes) -> Optional[Soup]:
+        return next((it for it in self.soups if it.name == name), None)
+
+    def with_soup(self, soup: Soup) -> "Store":
+        """The store with a soup in the place of the one of its signature."""
+        return replace(self, soups=tuple(soup if it.sig == soup.sig else it for it in self.soups))
+
+
+def entry_of(uid: int, time: int, graph: Ref) -> Entry:
+    return Entry(uid, time, graph, entry_cost(graph))
+
+
+def folded(paths) -> tuple:
+    """Paths as they are compared, without regard to case."""
+    return tuple(tuple(name.lower() for name in path) for path in paths)
+
+
+def paths_of(spec: tuple) -> tuple:
+    return folded(part.path for part in spec)
+
+
+def text(of: bytes) -> bytes:
+    return bytes([len(of)]) + of
+
+
+def path_bytes(path: Path) -> bytes:
+    return bytes([len(path)]) + b"".join(map(text, path))
+
+
+def index_bytes(spec: tuple) -> bytes:
+    parts = [bytes([KINDS.index(it.kind), ORDERS.index(it.order)]) + path_bytes(it.path) for it in spec]
+    return bytes([len(parts)]) + b"".join(parts)
+
+
+def tags_bytes(tags: Optional[Tags]) -> bytes:
+    if tags is None:
+        return b"\x00"
+    return b"\x01" + path_bytes(tags.path) + bytes([len(tags.symbols)]) + b"".join(map(text, tags.symbols))
+
+
+def soup_bytes(soup: Soup) -> bytes:
+    start = text(soup.name) + soup.sig.to_bytes(2, "big") + soup.next_uid.to_bytes(4, "big")
+    return start + bytes([len(soup.specs)]) + b"".join(map(index_bytes, soup.specs)) + tags_bytes(soup.tags)
+
+
+def directory(store: Store) -> bytes:
+    start = text(store.name) + store.sig.to_bytes(4, "big") + store.next_soup.to_bytes(2, "big")
+    return start + bytes([len(store.soups)]) + b"".join(map(soup_bytes, store.soups))
+
+
+def cost(store: Store) -> int:
+    return pages(len(directory(store))) + sum(entry.cost for soup in store.soups for entry in soup.entries)
+
+
+def capacity(blocks: int) -> int:
+    """How many pages a unit of so many blocks has room for."""
+    return (4096 * ((blocks - 3) // 2) - 16) // 525

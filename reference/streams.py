@@ -1,0 +1,238 @@
+"""The streamed form of graphs (NSOF, version 2): what bytes spell, and the written text of a graph."""
+
+from typing import Optional
+
+from graphs import (
+    MOST_BYTES,
+    MOST_BYTES_TOGETHER,
+    MOST_NODES,
+    MOST_OPEN,
+    MOST_SLOTS,
+    NIL,
+    Array,
+    Binary,
+    Frame,
+    Large,
+    Ref,
+    String,
+    Symbol,
+    Walk,
+    character,
+)
+
+
+class Malformed(Exception):
+    """The bytes spell no graph."""
+
+
+class Reader:
+    """A stream that is read once, from its first byte on."""
+
+    def __init__(self, stream: bytes):
+        self.stream, self.at = stream, 0
+        self.numbered: list = []
+        self.symbols: dict[bytes, Symbol] = {}
+        self.nodes = self.bytes = 0
+        self.is_compressed = False
+
+    def wants(self, holds: bool) -> None:
+        if not holds:
+            raise Malformed
+
+    def take(self, count: int) -> bytes:
+        self.wants(self.at + count <= len(self.stream))
+        self.at += count
+        return self.stream[self.at - count : self.at]
+
+    def unsigned(self, count: int) -> int:
+        return int.from_bytes(self.take(count), "big")
+
+    def xlong(self) -> int:
+        short = self.unsigned(1)
+        return short if short < 255 else int.from_bytes(self.take(4), "big", signed=True)
+
+    def count(self, most: int) -> int:
+        found = self.xlong()
+        self.wants(0 <= found <= most)
+        return found
+
+    def met(self, node, is_numbered: bool = True):
+        self.nodes += 1
+        self.wants(self.nodes <= MOST_NODES)
+        if is_numbered:
+            self.numbered.append(node)
+        return node
+
+    def data(self, count: int) -> bytes:
+        self.bytes += count
+        self.wants(count <= MOST_BYTES and self.bytes <= MOST_BYTES_TOGETHER)
+        return self.take(count)
+
+    def precedent(self):
+        number = self.xlong()
+        self.wants(0 <= number < len(self.numbered))
+        return self.numbered[number]
+
+    def named(self, name: bytes, is_numbered: bool) -> Symbol:
+        """The symbol of a name, which is the one that was met before where there is one."""
+        self.wants(1 <= len(name) <= 254 and all(32 <= it <= 126 for it in name))
+        known = self.symbols.get(name.lower())
+        if known is None:
+            self.symbols[name.lower()] = self.met(Symbol(name), is_numbered)
+            return self.symbols[name.lower()]
+        if is_numbered:
+            self.numbered.append(known)
+        return known
+
+    def symbol(self) -> Symbol:
+        tag = self.unsigned(1)
+        self.wants(tag in (7, 9))
+        found = self.precedent() if tag == 9 else self.named(self.take(self.count(254)), True)
+        self.wants(isinstance(found, Symbol))
+        return found
+
+    def container(self, node, is_open: int):
+        self.wants(is_open < MOST_OPEN)
+        return self.met(node)
+
+    def values(self, node, count: int, is_open: int):
+        for _ in range(count):
+            node.values.append(self.object(is_open + 1))
+        return node
+
+    def array(self, has_class: bool, is_open: int) -> Array:
+        count = self.count(MOST_SLOTS)
+        array = self.container(Array(), is_open)
+        array.kind = self.symbol() if has_class else None
+        return self.values(array, count, is_open)
+
+    def frame(self, is_open: int) -> Frame:
+        count = self.count(MOST_SLOTS)
+        frame = self.container(Frame(), is_open)
+        for _ in range(count):
+            frame.tags.append(self.symbol())
+        self.wants(len({id(it) for it in frame.tags}) == count)
+        return self.values(frame, count, is_open)
+
+    def rectangle(self, is_open: int) -> Frame:
+        frame = self.container(Frame(), is_open)
+        sides = self.take(4)
+        frame.tags = [self.named(it, False) for it in (b"top", b"left", b"bottom", b"right")]
+        frame.values = [4 * it for it in sides]
+        return frame
+
+    def string(self) -> String:
+        count = self.count(MOST_BYTES)
+        self.wants(count >= 2 and count % 2 == 0)
+        string = self.met(String())
+        data = self.data(count)
+        units = [int.from_bytes(data[at : at + 2], "big") for at in range(0, count, 2)]
+        self.wants(units.pop() == 0)
+        string.units = units
+        return string
+
+    def binary(self) -> Binary:
+        count = self.count(MOST_BYTES)
+        binary = self.met(Binary())
+        binary.kind = self.symbol()
+        binary.data = self.data(count)
+        return binary
+
+    def large(self) -> Large:
+        large = self.met(Large())
+        large.kind = self.symbol()
+        self.is_compressed |= self.unsigned(1) != 0
+        length, name, parameters, _ = [self.unsigned(4) for _ in range(4)]
+        self.wants(length <= MOST_BYTES)
+        self.take(name)
+        self.take(parameters)
+        large.data = self.data(length)
+        return large
+
+    def immediate(self) -> int:
+        word = self.xlong() & 0xFFFF_FFFF
+        self.wants(word & 3 != 1)
+        return word
+
+    def object(self, is_open: int) -> Ref:
+        tag = self.unsigned(1)
+        self.wants(tag <= 12)
+        if tag == 7:
+            self.at -= 1
+        readers = [
+            self.immediate,
+            lambda: 16 * self.unsigned(1) + 6,
+            lambda: 16 * self.unsigned(2) + 6,
+            self.binary,
+            lambda: self.array(True, is_open),
+            lambda: self.array(False, is_open),
+            lambda: self.frame(is_open),
+            self.symbol,
+            self.string,
+            self.precedent,
+            lambda: NIL,
+            lambda: self.rectangle(is_open),
+            self.large,
+        ]
+        return readers[tag]()
+
+
+def decode(stream: bytes) -> tuple[Ref, bool]:
+    """The graph that a stream spells, and whether a large binary of it is marked as compressed."""
+    reader = Reader(stream)
+    reader.wants(reader.unsigned(1) == 2)
+    root = reader.object(0)
+    reader.wants(reader.at == len(stream))
+    return root, reader.is_compressed
+
+
+def xlong(number: int) -> bytes:
+    return bytes([number]) if number <= 254 else b"\xff" + number.to_bytes(4, "big")
+
+
+def of_immediate(word: int) -> bytes:
+    code = character(word)
+    if word == NIL:
+        return b"\x0a"
+    if code is None:
+        return b"\x00" + xlong(word)
+    return bytes([1, code]) if code < 256 else b"\x02" + code.to_bytes(2, "big")
+
+
+def encode(root: Ref, is_skeleton: bool = False) -> bytes:
+    """The written text of a graph; in that of its skeleton the large binaries are empty."""
+    numbers: dict[int, int] = {}
+
+    def text(node: Optional[Ref]) -> bytes:
+        if isinstance(node, int):
+            return of_immediate(node)
+        if id(node) in numbers:
+            return b"\x09" + xlong(numbers[id(node)])
+        numbers[id(node)] = len(numbers)
+        if isinstance(node, Symbol):
+            return b"\x07" + xlong(len(node.name)) + node.name
+        if isinstance(node, String):
+            return b"\x08" + xlong(node.size()) + b"".join(it.to_bytes(2, "big") for it in [*node.units, 0])
+        if isinstance(node, Large):
+            data = b"" if is_skeleton else node.data
+            return b"\x0c" + text(node.kind) + b"\x00" + len(data).to_bytes(4, "big") + bytes(12) + data
+        if isinstance(node, Binary):
+            return b"\x03" + xlong(len(node.data)) + text(node.kind) + node.data
+        if isinstance(node, Frame):
+            return b"\x06" + xlong(len(node.tags)) + b"".join(map(text, node.parts()))
+        tag = b"\x05" if node.kind is None else b"\x04"
+        return tag + xlong(len(node.values)) + b"".join(map(text, node.parts()))
+
+    return b"\x02" + text(root)
+
+
+def pages(length: int) -> int:
+    """How many pages an object of so many bytes takes."""
+    return max(1, -(-length // 500))
+
+
+def entry_cost(graph: Ref) -> int:
+    """How many pages an entry takes: its record, and each of its large binaries."""
+    larges = Walk(graph).larges()
+    record = 12 + len(encode(graph, is_skeleton=True)) + 12 * len(larges)
+    return pages(record) + sum(pages(len(it.data)) for it in larges)

@@ -1,0 +1,147 @@
+"""The world that commands are answered in: units with their stores, which are mounted, the minute, and cursors."""
+
+from dataclasses import dataclass
+from functools import cmp_to_key
+from typing import Iterator, Optional, Union
+
+from queries import Hit, Query, compare, key_of, passes
+from replies import Refused
+from stores import Entry, Soup, Store, capacity, cost, paths_of
+
+UNITS = 8
+MOST_MOUNTED = 4
+CURSORS = 32
+START, FINISH = "start", "finish"
+
+# A key and an identity, where a cursor is on one.
+Place = Union[str, tuple]
+
+
+@dataclass
+class Unit:
+    blocks: int
+    store: Optional[Store] = None
+
+
+@dataclass
+class Cursor:
+    query: Query
+    place: Place
+
+
+class World:
+    def __init__(self, units: list[Unit]):
+        self.units: list[Optional[Unit]] = [*units, *[None] * (UNITS - len(units))]
+        self.mounted: set[int] = set()
+        self.default: Optional[int] = None
+        self.minute = 0
+        self.cursors: list[Optional[Cursor]] = [None] * CURSORS
+
+    # What a command speaks of, or the refusal where it is not there.
+
+    def attached(self, *numbers: int) -> Unit:
+        if any(self.units[it] is None for it in numbers):
+            raise Refused(20)
+        return self.units[numbers[0]]
+
+    def with_blocks(self, number: int) -> Unit:
+        unit = self.attached(number)
+        if not 13 <= unit.blocks <= 4099:
+            raise Refused(27)
+        if number in self.mounted:
+            raise Refused(21)
+        return unit
+
+    def store(self, *numbers: int) -> Store:
+        self.attached(*numbers)
+        if any(it not in self.mounted for it in numbers):
+            raise Refused(25)
+        return self.units[numbers[0]].store
+
+    def soup(self, number: int, name: bytes) -> Soup:
+        soup = self.store(number).soup(name)
+        if soup is None:
+            raise Refused(30)
+        return soup
+
+    def entry(self, number: int, name: bytes, uid: int) -> tuple[Soup, Entry]:
+        soup = self.soup(number, name)
+        entry = soup.entry(uid)
+        if entry is None:
+            raise Refused(32)
+        return soup, entry
+
+    def cursor(self, number: int) -> Cursor:
+        cursor = self.cursors[number]
+        if cursor is None:
+            raise Refused(42)
+        return cursor
+
+    def free_cursor(self) -> int:
+        free = [at for at, it in enumerate(self.cursors) if it is None]
+        if not free:
+            raise Refused(36)
+        return free[0]
+
+    def keep(self, number: int, store: Store) -> None:
+        """Puts a changed store in the place of the unit's, where there is room for it."""
+        if cost(store) > capacity(self.units[number].blocks):
+            raise Refused(33)
+        self.units[number].store = store
+
+    # Hits and cursors.
+
+    def members(self, query: Query) -> Iterator[tuple[int, Store, Soup]]:
+        """The soups that a query takes, by unit, whether they have its index or not."""
+        for number in sorted(self.mounted):
+            store = self.units[number].store
+            soup = store.soup(query.name)
+            if soup is not None and query.scope in (None, store.sig):
+                yield number, store, soup
+
+    def hits(self, query: Query) -> list[Hit]:
+        """The entries that a query finds, in order."""
+        found = []
+        for number, store, soup in self.members(query):
+            if query.spec is not None and not any(is_carried(query.spec, it) for it in soup.specs):
+                continue
+            for entry in soup.entries:
+                key = key_of(entry.graph, query.spec)
+                if key is not None and passes(query, soup, entry.graph, key):
+                    found.append(Hit(key, (store.sig, soup.sig, entry.uid), number, entry))
+        return sorted(found, key=cmp_to_key(lambda one, other: order(query, one[:2], other[:2])))
+
+    def next(self, query: Query, place: Place) -> Place:
+        behind = [
+            it[:2] for it in self.hits(query) if place == START or place != FINISH and order(query, it[:2], place) > 0
+        ]
+        return behind[0] if behind else FINISH
+
+    def previous(self, query: Query, place: Place) -> Place:
+        before = [
+            it[:2] for it in self.hits(query) if place == FINISH or place != START and order(query, it[:2], place) < 0
+        ]
+        return before[-1] if before else START
+
+    def hit_at(self, cursor: Cursor) -> Optional[Hit]:
+        """The hit that a cursor is on."""
+        if cursor.place in (START, FINISH):
+            return None
+        return next((it for it in self.hits(cursor.query) if it.identity == cursor.place[1]), None)
+
+    def settle(self) -> None:
+        """Gives each cursor on a hit the key that the hit has now."""
+        for cursor in self.cursors:
+            hit = self.hit_at(cursor) if cursor else None
+            if hit:
+                cursor.place = hit[:2]
+
+
+def is_carried(spec: tuple, other: tuple) -> bool:
+    kinds = [(it.kind, it.order) for it in spec]
+    return paths_of(spec) == paths_of(other) and kinds == [(it.kind, it.order) for it in other]
+
+
+def order(query: Query, one: tuple, other: tuple) -> int:
+    """How a key with an identity stands to another one."""
+    return compare(one[0], other[0], query.spec) or (one[1] > other[1]) - (one[1] < other[1])
