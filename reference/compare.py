@@ -3,8 +3,9 @@
 usage: python3 reference/compare.py [PROGRAM [FIRST [COUNT]]]
 
 PROGRAM is the built program, crates/newton/out/newton if left out. First come the scripts at the limits, and then random
-ones: FIRST is their first seed, 0 if left out, and COUNT their number, 100 if left out. They run over one to five new
-files, and half of them go on with a second run. It stops at the first difference, with status 1.
+ones, each with an image made at random: FIRST is their first seed, 0 if left out, and COUNT their number, 100 if left
+out. The scripts run over one to five new files, and half of them go on with a second run. What an image is read as is
+asked with a script of its own. It stops at the first difference, with status 1.
 """
 
 import subprocess
@@ -13,12 +14,15 @@ import tempfile
 from contextlib import contextmanager
 from pathlib import Path
 from random import Random
-from typing import Iterator
+from typing import Iterator, Optional
 
 from commands import answer
 from edges import EDGES
 from images import is_same_store, store_of_image
+from layouts import random_image
+from replies import of_name
 from scripts import written
+from stores import Store
 from world import Unit, World
 
 BLOCKS = (12, 13, 13, 14, 16, 20, 40)
@@ -75,6 +79,36 @@ def is_same_at_random(program: Path, seed: int) -> bool:
     return True
 
 
+def reading(store: Optional[Store]) -> list[str]:
+    """A script that shows all of a store on unit 0, changes it, and shows it once more."""
+    names = [of_name(it.name) for it in store.soups] if store else ["S"]
+    entries = [f"{of_name(soup.name)} {entry.uid}" for soup in store.soups for entry in soup.entries] if store else []
+    shown = ["stores", "soups 0", *[f"{word} 0 {name}" for name in names for word in ("indexes", "tags")]]
+    shown += [f"getx 0 {it}" for it in entries]
+    changes = [f'add 0 {name} {{k: "new"}}' for name in names] + [
+        "soup 0 another",
+        "unmount 0",
+        "format 0 C 3",
+        "mount 0",
+    ]
+    return ["mount 0", *shown, *changes, *shown]
+
+
+def is_same_image(program: Path, seed: int) -> bool:
+    random = Random(seed)
+    unit = Unit(random.choice(BLOCKS[1:]))
+    written(random, World([unit]), 1, random.choice((12, 40, 90)))
+    image = random_image(random, unit.store, unit.blocks) if unit.store else None
+    if image is None:
+        return True
+    unit.store = store_of_image(image)
+    script = [it.encode() for it in reading(unit.store)]
+    with blank_files([unit]) as files:
+        files[0].write_bytes(image)
+        world = World([unit])
+        return is_same_run(program, script, [answer(world, it) for it in script], [unit], files)
+
+
 def main(program: str = "", first: str = "0", count: str = "100") -> int:
     path = (Path(program) if program else Path(__file__).parent.parent / "crates/newton/out/newton").resolve()
     for lines, blocks in EDGES:
@@ -82,7 +116,7 @@ def main(program: str = "", first: str = "0", count: str = "100") -> int:
             print(f"{lines.__name__}: the program and the reference differ")
             return 1
     for seed in range(int(first), int(first) + int(count)):
-        if not is_same_at_random(path, seed):
+        if not is_same_at_random(path, seed) or not is_same_image(path, seed):
             print(f"seed {seed}: the program and the reference differ")
             return 1
     print(f"{len(EDGES)} scripts at the limits, and {count} from seed {first} on: no difference")
