@@ -10,6 +10,7 @@ from queries import Query, key_from, read_shape
 from replies import Refused, of_name, of_path, of_refusal
 from stores import (
     MOST_INDEXES,
+    MOST_SKELETON,
     MOST_SIGNATURE,
     MOST_SOUP_SIGNATURE,
     MOST_SOUPS,
@@ -27,7 +28,6 @@ from streams import Malformed, decode, encode
 from world import FINISH, MOST_MOUNTED, START, Cursor, World
 
 MOST_LINE = 140_000
-MOST_SKELETON = 64_000
 COMMANDS = {}
 
 

@@ -16,42 +16,39 @@ MOST_BYTES = 1_000_000
 MOST_BYTES_TOGETHER = 16_777_216
 
 
-@dataclass(eq=False)
-class Symbol:
-    name: bytes
+class Node:
+    """An object of a graph. Equal objects are two unless they are one."""
 
     def parts(self) -> list:
+        """The references that it holds, in the order of the walk."""
         return []
 
     def size(self) -> int:
+        """Its bytes, as far as they count for the limits."""
         return 0
 
     def slots(self) -> int:
         return 0
 
     def renew(self, of: Callable) -> None:
-        pass
+        """Puts what a function gives of them in the place of its references."""
 
 
 @dataclass(eq=False)
-class String:
-    units: list[int] = field(default_factory=list)
+class Symbol(Node):
+    name: bytes
 
-    def parts(self) -> list:
-        return []
+
+@dataclass(eq=False)
+class String(Node):
+    units: list[int] = field(default_factory=list)
 
     def size(self) -> int:
         return 2 * len(self.units) + 2
 
-    def slots(self) -> int:
-        return 0
-
-    def renew(self, of: Callable) -> None:
-        pass
-
 
 @dataclass(eq=False)
-class Binary:
+class Binary(Node):
     kind: Optional[Symbol] = None
     data: bytes = b""
 
@@ -60,9 +57,6 @@ class Binary:
 
     def size(self) -> int:
         return len(self.data)
-
-    def slots(self) -> int:
-        return 0
 
     def renew(self, of: Callable) -> None:
         self.kind = of(self.kind)
@@ -73,15 +67,12 @@ class Large(Binary):
 
 
 @dataclass(eq=False)
-class Array:
+class Array(Node):
     kind: Optional[Symbol] = None
     values: list = field(default_factory=list)
 
     def parts(self) -> list:
         return ([] if self.kind is None else [self.kind]) + self.values
-
-    def size(self) -> int:
-        return 0
 
     def slots(self) -> int:
         return len(self.values)
@@ -92,15 +83,12 @@ class Array:
 
 
 @dataclass(eq=False)
-class Frame:
+class Frame(Node):
     tags: list[Symbol] = field(default_factory=list)
     values: list = field(default_factory=list)
 
     def parts(self) -> list:
         return self.tags + self.values
-
-    def size(self) -> int:
-        return 0
 
     def slots(self) -> int:
         return len(self.values)
@@ -115,7 +103,6 @@ class Frame:
         return found[0] if found else None
 
 
-Node = Union[Symbol, String, Binary, Array, Frame]
 Ref = Union[int, Node]
 
 

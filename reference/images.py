@@ -3,12 +3,14 @@
 import struct
 from typing import Optional
 
-from graphs import Frame, Walk
+from graphs import MOST_BYTES, Frame, Walk
 from lines import IDENTIFIER
+from scanner import Scanner
 from stores import (
     KINDS,
     MOST_INDEXES,
     MOST_SIGNATURE,
+    MOST_SKELETON,
     MOST_SOUPS,
     MOST_TAGS,
     ORDERS,
@@ -20,14 +22,13 @@ from stores import (
     capacity,
     cost,
     entry_of,
+    is_name,
     paths_of,
 )
 from streams import Malformed, decode, encode, pages
 
 BLOCK = 4096
 HEADER = b"NSTORE\x00\x01" + bytes(8)
-MOST_LARGE = 1_000_000
-MOST_SKELETON = 64_000
 
 
 class NoStore(Exception):
@@ -39,38 +40,27 @@ def wants(holds) -> None:
         raise NoStore
 
 
-class Bytes:
-    """Bytes that are taken from the front."""
+class Record(Scanner):
+    """Bytes of an image, which are taken from the front."""
 
-    def __init__(self, data: bytes):
-        self.data = data
+    fault = NoStore
 
-    def take(self, count: int) -> bytes:
-        wants(count <= len(self.data))
-        taken, self.data = self.data[:count], self.data[count:]
-        return taken
-
-    def number(self, count: int, most: int = 2**32 - 1) -> int:
-        number = int.from_bytes(self.take(count), "big")
-        wants(number <= most)
-        return number
-
-    def text(self) -> bytes:
+    def short_text(self) -> bytes:
         return self.take(self.number(1))
 
     def name(self) -> bytes:
-        name = self.text()
-        wants(1 <= len(name) <= 39 and all(32 <= it <= 126 for it in name))
+        name = self.short_text()
+        self.wants(is_name(name))
         return name
 
     def identifier(self) -> bytes:
-        name = self.text()
-        wants(IDENTIFIER.fullmatch(name))
+        name = self.short_text()
+        self.wants(IDENTIFIER.fullmatch(name))
         return name
 
     def several(self, item, least: int, most: int) -> tuple:
         count = self.number(1, most)
-        wants(count >= least)
+        self.wants(count >= least)
         return tuple(item() for _ in range(count))
 
     def path(self) -> tuple:
@@ -87,7 +77,7 @@ class Bytes:
         if not self.number(1, 1):
             return None
         tags = Tags(self.path(), self.several(self.identifier, 1, MOST_TAGS))
-        wants(len({it.lower() for it in tags.symbols}) == len(tags.symbols))
+        self.wants(len({it.lower() for it in tags.symbols}) == len(tags.symbols))
         return tags
 
     def soup(self) -> Soup:
@@ -98,7 +88,7 @@ class Bytes:
             self.several(self.spec, 0, MOST_INDEXES),
             self.tags(),
         )
-        wants(len({paths_of(it) for it in soup.specs}) == len(soup.specs))
+        self.wants(len({paths_of(it) for it in soup.specs}) == len(soup.specs))
         return soup
 
     def directory(self) -> Store:
@@ -106,8 +96,8 @@ class Bytes:
             self.name(), self.number(4, MOST_SIGNATURE), self.number(2), self.several(self.soup, 0, MOST_SOUPS)
         )
         numbers = [it.sig for it in store.soups]
-        wants(not self.data and len({it.name for it in store.soups}) == len(store.soups))
-        wants(all(one < other for one, other in zip(numbers, [*numbers[1:], store.next_soup])))
+        self.wants(self.left() == 0 and len({it.name for it in store.soups}) == len(store.soups))
+        self.wants(all(one < other for one, other in zip(numbers, [*numbers[1:], store.next_soup])))
         return store
 
 
@@ -123,20 +113,19 @@ def bank_of(image: bytes) -> bytes:
 
 
 def payloads(image: bytes) -> list[bytes]:
-    bank = Bytes(bank_of(image))
+    bank = Record(bank_of(image))
     wants(bank.take(len(HEADER)) == HEADER)
     found = []
-    while bank.data and bank.data[0] == 0:
-        bank.take(1)
+    while bank.passes(b"\x00"):
         found.append(bank.take(bank.number(4)))
     return found
 
 
 def pages_of(image: bytes) -> dict:
     found: dict[int, bytes] = {}
-    for payload in map(Bytes, payloads(image)):
+    for payload in map(Record, payloads(image)):
         puts, deletes = payload.number(2), payload.number(2)
-        wants(len(payload.data) == 516 * puts + 4 * deletes)
+        wants(payload.left() == 516 * puts + 4 * deletes)
         put = [(payload.number(4, 65_535), payload.take(512)) for _ in range(puts)]
         deleted = [payload.number(4, 65_535) for _ in range(deletes)]
         wants(len({*dict(put), *deleted}) == puts + deletes)
@@ -174,7 +163,7 @@ def read_entry(record: bytes, objects: dict, named: list) -> tuple[int, Entry]:
     wants(len(walk.larges()) == count and not any(it.data for it in walk.larges()))
     for large, (node, number, length) in zip(walk.larges(), struct.iter_unpack(">III", places)):
         wants(node == walk.numbers[id(large)] and number > 0 and number % 2 == 0 and number in objects)
-        wants(len(objects[number]) == length <= MOST_LARGE)
+        wants(len(objects[number]) == length <= MOST_BYTES)
         large.data = objects[number]
         named.append(number)
     return sig, entry_of(uid, time, graph)
@@ -184,7 +173,7 @@ def store_of_image(image: bytes) -> Optional[Store]:
     try:
         objects = objects_of(image)
         wants(0 in objects)
-        store, named = Bytes(objects[0]).directory(), []
+        store, named = Record(objects[0]).directory(), []
         for number in sorted(it for it in objects if it % 2):
             sig, entry = read_entry(objects[number], objects, named)
             soup = next((it for it in store.soups if it.sig == sig), None)

@@ -2,10 +2,14 @@
 
 import re
 
-from stores import KINDS, ORDERS, Part, Tags
+from scanner import Scanner
+from stores import KINDS, ORDERS, Part, Tags, is_name
 
+BLANKS = re.compile(rb"[ \t]*")
+WORD = re.compile(rb"[^ \t]+")
 NAME = re.compile(rb"[!#-\[\]-~]+(?![^ \t])")
 QUOTED = re.compile(rb'"((?:[ !#-\[\]-~]|\\["\\])*)"(?![^ \t])')
+STAR = re.compile(rb"\*(?![^ \t])")
 IDENTIFIER = re.compile(rb"[A-Za-z_][A-Za-z0-9_]{0,253}")
 
 
@@ -13,40 +17,30 @@ class NoForm(Exception):
     """The words have not the form of their command."""
 
 
-class Words:
+class Words(Scanner):
     """The words of a line, which are taken one by one."""
 
+    fault = NoForm
+
     def __init__(self, line: bytes):
-        self.line, self.at = line, 0
-        self.blanks()
-
-    def wants(self, holds) -> None:
-        if not holds:
-            raise NoForm
-
-    def blanks(self) -> None:
-        self.at = re.compile(rb"[ \t]*").match(self.line, self.at).end()
-
-    def is_at_end(self) -> bool:
-        return self.at == len(self.line)
+        super().__init__(line)
+        self.found(BLANKS)
 
     def end(self) -> None:
-        self.wants(self.is_at_end())
+        self.wants(self.left() == 0)
 
-    def found(self, form: re.Pattern) -> re.Match:
-        match = form.match(self.line, self.at)
+    def wanted(self, form: re.Pattern) -> re.Match:
+        """What stands next and has a form, with the blanks behind it."""
+        match = self.found(form)
         self.wants(match)
-        self.at = match.end()
-        self.blanks()
+        self.found(BLANKS)
         return match
 
     def word(self) -> bytes:
-        return self.found(re.compile(rb"[^ \t]+"))[0]
+        return self.wanted(WORD)[0]
 
     def rest(self) -> bytes:
-        rest = self.line[self.at :].rstrip(b" \t")
-        self.at = len(self.line)
-        return rest
+        return self.take(self.left()).rstrip(b" \t")
 
 
 # Forms: each takes what it reads from the words.
@@ -72,9 +66,9 @@ def unit(words: Words) -> int:
 
 def scope(words: Words):
     """A unit, or nothing for all of them."""
-    if words.line[words.at : words.at + 1] != b"*":
+    if not words.found(STAR):
         return unit(words)
-    words.wants(words.word() == b"*")
+    words.found(BLANKS)
     return None
 
 
@@ -85,11 +79,11 @@ def steps(words: Words) -> int:
 
 
 def name(words: Words) -> bytes:
-    if words.line[words.at : words.at + 1] == b'"':
-        text = re.sub(rb"\\(.)", rb"\1", words.found(QUOTED)[1])
+    if words.text.startswith(b'"', words.at):
+        text = re.sub(rb"\\(.)", rb"\1", words.wanted(QUOTED)[1])
     else:
-        text = words.found(NAME)[0]
-    words.wants(1 <= len(text) <= 39)
+        text = words.wanted(NAME)[0]
+    words.wants(is_name(text))
     return text
 
 
@@ -120,7 +114,7 @@ def symbol(words: Words) -> bytes:
 def several(form, most: int):
     def all_of(words: Words) -> tuple:
         items = [form(words)]
-        while not words.is_at_end():
+        while words.left():
             items.append(form(words))
         words.wants(len(items) <= most)
         return tuple(items)
@@ -130,7 +124,7 @@ def several(form, most: int):
 
 def declaration(words: Words):
     """A declaration of tags, or nothing."""
-    if words.is_at_end():
+    if words.left() == 0:
         return None
     tags = Tags(path(words), several(symbol, 140_000)(words))
     words.wants(len({it.lower() for it in tags.symbols}) == len(tags.symbols))
@@ -138,7 +132,7 @@ def declaration(words: Words):
 
 
 def literal(words: Words) -> bytes:
-    words.wants(not words.is_at_end())
+    words.wants(words.left())
     return words.rest()
 
 

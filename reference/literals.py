@@ -19,6 +19,7 @@ from graphs import (
     character,
     integer,
 )
+from scanner import Scanner
 
 IDENTIFIER = re.compile(r"[A-Za-z_][A-Za-z0-9_]*")
 BARRED = re.compile(r"\|((?:[ -\[\]-{}~]|\\[\\|])*)\|")
@@ -40,28 +41,15 @@ class NoLiteral(Exception):
     """The text is no literal."""
 
 
-class Reader:
+class Reader(Scanner):
     """A text that is read once, from its first character on."""
 
+    fault = NoLiteral
+
     def __init__(self, text: str):
-        self.text, self.at = text, 0
+        super().__init__(text)
         self.symbols: dict[bytes, Symbol] = {}
         self.labels: dict[int, Ref] = {}
-
-    def wants(self, holds) -> None:
-        if not holds:
-            raise NoLiteral
-
-    def found(self, form: re.Pattern) -> Optional[re.Match]:
-        """What stands next, where it has a form; it is passed."""
-        match = form.match(self.text, self.at)
-        self.at = match.end() if match else self.at
-        return match
-
-    def passes(self, token: str) -> bool:
-        is_there = self.text.startswith(token, self.at)
-        self.at += len(token) if is_there else 0
-        return is_there
 
     def blanks(self) -> None:
         self.found(BLANKS)
@@ -212,7 +200,7 @@ def read_literal(text: bytes) -> Ref:
         raise NoLiteral from fault
     root = reader.value(0)
     reader.blanks()
-    reader.wants(reader.at == len(reader.text) and Walk(root).keeps_limits())
+    reader.wants(reader.left() == 0 and Walk(root).keeps_limits())
     return root
 
 

@@ -15,6 +15,8 @@ MOST_SIGNATURE = 536_870_911
 MOST_SOUP_SIGNATURE = 65_535
 MOST_SOUPS, MOST_INDEXES, MOST_TAGS = 64, 16, 64
 
+MOST_SKELETON = 64_000
+
 Path = tuple
 
 
@@ -75,6 +77,11 @@ class Store:
 
 def entry_of(uid: int, time: int, graph: Ref) -> Entry:
     return Entry(uid, time, graph, entry_cost(graph))
+
+
+def is_name(text: bytes) -> bool:
+    """Whether a text can be the name of a store or a soup."""
+    return 1 <= len(text) <= 39 and all(32 <= it <= 126 for it in text)
 
 
 def folded(paths) -> tuple:

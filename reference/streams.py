@@ -19,36 +19,27 @@ from graphs import (
     Walk,
     character,
 )
+from scanner import Scanner
 
 
 class Malformed(Exception):
     """The bytes spell no graph."""
 
 
-class Reader:
+class Reader(Scanner):
     """A stream that is read once, from its first byte on."""
 
+    fault = Malformed
+
     def __init__(self, stream: bytes):
-        self.stream, self.at = stream, 0
+        super().__init__(stream)
         self.numbered: list = []
         self.symbols: dict[bytes, Symbol] = {}
         self.nodes = self.bytes = 0
         self.is_compressed = False
 
-    def wants(self, holds: bool) -> None:
-        if not holds:
-            raise Malformed
-
-    def take(self, count: int) -> bytes:
-        self.wants(self.at + count <= len(self.stream))
-        self.at += count
-        return self.stream[self.at - count : self.at]
-
-    def unsigned(self, count: int) -> int:
-        return int.from_bytes(self.take(count), "big")
-
     def xlong(self) -> int:
-        short = self.unsigned(1)
+        short = self.number(1)
         return short if short < 255 else int.from_bytes(self.take(4), "big", signed=True)
 
     def count(self, most: int) -> int:
@@ -85,7 +76,7 @@ class Reader:
         return known
 
     def symbol(self) -> Symbol:
-        tag = self.unsigned(1)
+        tag = self.number(1)
         self.wants(tag in (7, 9))
         found = self.precedent() if tag == 9 else self.named(self.take(self.count(254)), True)
         self.wants(isinstance(found, Symbol))
@@ -141,8 +132,8 @@ class Reader:
     def large(self) -> Large:
         large = self.met(Large())
         large.kind = self.symbol()
-        self.is_compressed |= self.unsigned(1) != 0
-        length, name, parameters, _ = [self.unsigned(4) for _ in range(4)]
+        self.is_compressed |= self.number(1) != 0
+        length, name, parameters, _ = [self.number(4) for _ in range(4)]
         self.wants(length <= MOST_BYTES)
         self.take(name)
         self.take(parameters)
@@ -155,14 +146,14 @@ class Reader:
         return word
 
     def object(self, is_open: int) -> Ref:
-        tag = self.unsigned(1)
+        tag = self.number(1)
         self.wants(tag <= 12)
         if tag == 7:
             self.at -= 1
         readers = [
             self.immediate,
-            lambda: 16 * self.unsigned(1) + 6,
-            lambda: 16 * self.unsigned(2) + 6,
+            lambda: 16 * self.number(1) + 6,
+            lambda: 16 * self.number(2) + 6,
             self.binary,
             lambda: self.array(True, is_open),
             lambda: self.array(False, is_open),
@@ -180,9 +171,9 @@ class Reader:
 def decode(stream: bytes) -> tuple[Ref, bool]:
     """The graph that a stream spells, and whether a large binary of it is marked as compressed."""
     reader = Reader(stream)
-    reader.wants(reader.unsigned(1) == 2)
+    reader.wants(reader.number(1) == 2)
     root = reader.object(0)
-    reader.wants(reader.at == len(stream))
+    reader.wants(reader.left() == 0)
     return root, reader.is_compressed
 
 
