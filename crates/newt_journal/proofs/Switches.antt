@@ -133,6 +133,7 @@ module _ (s : Switching) (now : Moment) (held : IsSwitching s now) where
           so_far = held.so_far ++ bytes;
           bank = held.bank;
           ends = held.ends;
+          end = held.end;
           alike = held.alike;
           filled = filled_next;
           put = omega (arith, held.put, length-append held.so_far bytes);
@@ -244,6 +245,7 @@ module _ (j : Journal) (len : ℕ) (old : Moment) (held : IsHeld j old) (to_bank
         so_far = [];
         bank = held.bank;
         ends = held.ends;
+        end = held.end;
         alike = alike;
         filled = subst (λ (b : Bank). FilledBy (start_of j.blocks b) (bank_size j.blocks) (image j.unit old) (lead len ++ []) (bank_size j.blocks - 21 - 0) (changes j.unit now)) to_is
             (subst (λ (l : List ℕ). FilledBy (start_of j.blocks to_bank) (bank_size j.blocks) (image j.unit old) l (bank_size j.blocks - 21 - 0) (changes j.unit now)) (sym (append-nil (lead len)))

@@ -14,7 +14,7 @@ use Rattle.newt_journal.specs.declared.journal.Journal.{Journal}
 use Rattle.newt_journal.proofs.Records.{length-length_bytes, length_at-length_bytes, length-record, payloads-flat}
 use Rattle.newt_journal.proofs.Steps.{length-bank, holds-reads, holds-records, written-push}
 
-some-inj : {A : Type 0} (d : A) {x y : A} → Some x ≡ Some y → x ≡ y
+pub some-inj : {A : Type 0} (d : A) {x y : A} → Some x ≡ Some y → x ≡ y
 some-inj {A = A} d is = ap (λ (o : Option A). elim o as (λ _. A) [ Some z ↦ z | None ↦ d ]) is
 
 pub written-append : (passed others : List (List ℕ)) → written (passed ++ others) ≡ written passed ++ flat_map record_bytes others
@@ -34,7 +34,7 @@ module _ (j : Journal) (now : Moment) (held : IsHeld j now) where
   abbrev bytes : List ℕ
   bytes = image j.unit now
 
-  read : records bytes ≡ Some held.payloads
+  pub read : records bytes ≡ Some held.payloads
   read = holds-records j.blocks j.bank j.enough j.not_too_many held.payloads held.behind bytes held.bank held.ends
 
   -- all records from the first place on

@@ -5,7 +5,9 @@ use Rattle.newt_image.specs.Records.{bank_size}
 use Rattle.newt_journal.specs.Bank.{limit_of}
 use Rattle.newt_journal.specs.Journal.{appended}
 use Rattle.newt_journal.specs.Appending.{drafted, IsAppendingOf}
-use Rattle.newt_journal.specs.Switch.{switched, IsSwitchOf}
+use Rattle.newt_journal.specs.Places.{first_place}
+use Rattle.newt_journal.specs.Switch.{switch_start, switched, IsSwitchOf}
+use Rattle.newt_journal.specs.declared.journal.Journal.{Journal}
 use Rattle.newt_journal.specs.declared.draft.Draft.{Draft}
 use Rattle.newt_journal.specs.declared.draft.Draft.TheVariants.{Append, Switch}
 
@@ -17,6 +19,20 @@ IsDraftOf told (Switch s) outside = IsSwitchOf told s outside
 abbrev pub unit_of : Draft → ℕ
 unit_of (Append a) = a.journal.unit
 unit_of (Switch s) = s.journal.unit
+
+-- the journal that it holds, whose records it leaves alone
+abbrev pub journal_of : Draft → Journal
+journal_of (Append a) = a.journal
+journal_of (Switch s) = s.journal
+
+-- the place of the payload, and that of the first record once it is finished
+abbrev pub place_of : Draft → ℕ
+place_of (Append a) = a.journal.end + 5
+place_of (Switch s) = switch_start s + 21
+
+abbrev pub front_of : Draft → ℕ
+front_of (Append a) = first_place a.journal
+front_of (Switch s) = switch_start s + 16
 
 -- the length of the payload, and how much of it has been put
 abbrev pub len_of : Draft → ℕ

@@ -24,6 +24,7 @@ pub record SwitchedBy (s : Switching) (done : List Change) : Type 0 where
   pub so_far : List ℕ
   pub bank : Holds s.journal.blocks (bank_number s.journal.bank) (written payloads ++ behind) base
   pub ends : Ends behind
+  pub end : s.journal.end ≡ start_of s.journal.blocks s.journal.bank + length (written payloads)
   pub alike : AllVoteFor (bank_number s.journal.bank) base
   pub filled : FilledBy (switch_start s) (bank_size s.journal.blocks) base (lead s.len ++ so_far) (bank_size s.journal.blocks - 21 - s.put) done
   pub put : length so_far ≡ s.put

@@ -23,6 +23,7 @@ impl Appending {
     ghost use Rattle.newt_image.specs.Records.{records, tail};
     ghost use Rattle.newt_journal.specs.Journal.{room, Stands, appended, ReadsAs, ReadsAsEither};
     ghost use Rattle.newt_journal.specs.Appending.{IsAppendingOf, drafted};
+    ghost use Rattle.newt_journal.specs.Places.{first_place};
 
     /// Begins a record of so many bytes: its length is written behind a gate that stays FF.
     pub(crate) fn begin<H: Host>(
@@ -34,6 +35,7 @@ impl Appending {
         requires fits { len ≤ room journal }
         requires stands { Stands H.told journal (H.outside host.old) }
         ensures draft { IfOk result (λ draft. IsAppendingOf H.told draft (H.outside host.new) × (draft.journal.unit ≡ journal.unit) × (draft.len ≡ len) × (draft.put ≡ 0)) }
+        ensures holds { IfOk result (λ draft. draft.journal ≡ journal) }
         ensures same { IsTrue H.told → OnOk result (records (image journal.unit (H.outside host.new).now) ≡ records (image journal.unit (H.outside host.old).now)) }
         ensures rest { IsTrue H.told → IfOk result (λ draft. 5 + len + (limit_of draft.journal.blocks draft.journal.bank - (draft.journal.end + 5 + draft.len)) ≡ length (tail (image journal.unit (H.outside host.old).now))) }
         ensures any_moment { IsTrue H.told → Leaves journal.unit (ReadsAs (records (image journal.unit (H.outside host.old).now))) (H.outside host.old).now (H.outside host.new).now }
@@ -79,6 +81,7 @@ impl Appending {
         ensures journal { IfOk result (λ journal. Stands H.told journal (H.outside host.new) × (journal.unit ≡ self.journal.unit)) }
         ensures committed { IsTrue H.told → OnOk result (records (image self.journal.unit (H.outside host.new).now) ≡ appended (records (image self.journal.unit (H.outside host.old).now)) (drafted self (image self.journal.unit (H.outside host.old).now))) }
         ensures open { IfOk result (λ journal. journal.closed ≡ false) }
+        ensures places { IfOk result (λ journal. (journal.end ≡ self.journal.end + 5 + self.len) × (first_place journal ≡ first_place self.journal)) }
         ensures rest { IsTrue H.told → OnOk result (tail (image self.journal.unit (H.outside host.new).now) ≡ replicate (limit_of self.journal.blocks self.journal.bank - (self.journal.end + 5 + self.len)) 255) }
         ensures any_moment { IsTrue H.told → Leaves self.journal.unit (ReadsAsEither (records (image self.journal.unit (H.outside host.old).now))
             (appended (records (image self.journal.unit (H.outside host.old).now)) (drafted self (image self.journal.unit (H.outside host.old).now)))) (H.outside host.old).now (H.outside host.new).now }

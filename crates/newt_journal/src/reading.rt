@@ -14,11 +14,11 @@ pub struct Found {
 }
 
 impl Journal {
-    ghost use Rattle.std.specs.Prelude.{Bool, ◌+◌, ◌≤◌, [], length, take, drop, Some, OnErr, OnOk, IfOk, IfSome, MatchOption};
+    ghost use Rattle.std.specs.Prelude.{Bool, ℕ, List, ◌+◌, ◌≤◌, [], length, take, drop, Some, OnErr, OnOk, IfOk, IfSome, MatchOption};
     ghost use Rattle.newt_host.specs.Moments.{image};
     ghost use Rattle.newt_host.specs.Outside.{Outside, Touches, Spends, Rose};
     ghost use Rattle.newt_image.specs.Records.{records, with_first};
-    ghost use Rattle.newt_journal.specs.Places.{first_place, payloads_from, IsPlace};
+    ghost use Rattle.newt_journal.specs.Places.{first_place, payloads_from, recorded, IsPlace};
     ghost use Rattle.newt_journal.specs.Journal.{Stands};
 
     /// The place of the first record, a byte number in the unit's image.
@@ -30,6 +30,13 @@ impl Journal {
         ensures reads_all { (told : Bool) (outside : Outside) → Stands told self.now outside → IsTrue told → payloads_from self.now result (image self.now.unit outside.now) ≡ records (image self.now.unit outside.now) }
     {
         self.bank.start(self.blocks) + 16
+    }
+
+    /// The place behind the last record, where the next one begins.
+    pub fn end(&self) -> u32
+        ensures place { result ≡ self.now.end }
+    {
+        self.end
     }
 
     /// The record that begins at a place, or none at the end of the records. The place is the first one or one that `walk` gave.
@@ -70,6 +77,8 @@ impl Journal {
         requires high { at + length buf.old ≤ self.now.end }
         requires stands { Stands H.told self.now (H.outside host.old) }
         ensures bytes { IsTrue H.told → OnOk result (buf.new ≡ take (length buf.old) (drop at (image self.now.unit (H.outside host.old).now))) }
+        ensures of_records { IsTrue H.told → OnOk result ((payloads : List (List ℕ)) → records (image self.now.unit (H.outside host.old).now) ≡ Some payloads
+            → buf.new ≡ recorded self.now payloads at (length buf.old)) }
         ensures moment { (H.outside host.new).now ≡ (H.outside host.old).now }
         ensures alone { Touches self.now.unit (H.outside host.old) (H.outside host.new) }
         ensures costs { Spends self.now.unit 0 (length buf.old) (H.outside host.old) (H.outside host.new) }

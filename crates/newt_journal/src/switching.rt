@@ -24,7 +24,8 @@ impl Switching {
     ghost use Rattle.newt_host.specs.Outside.{Touches, Spends, Rose};
     ghost use Rattle.newt_image.specs.Records.{records, tail};
     ghost use Rattle.newt_journal.specs.Journal.{Stands, VotesAgree, ReadsAs, ReadsAsEither};
-    ghost use Rattle.newt_journal.specs.Switch.{IsSwitchOf, switched};
+    ghost use Rattle.newt_journal.specs.Switch.{IsSwitchOf, switched, switch_start};
+    ghost use Rattle.newt_journal.specs.Places.{first_place};
 
     /// Begins the record that alone will stand in the other bank.
     pub(crate) fn begin<H: Host>(
@@ -36,6 +37,7 @@ impl Switching {
         requires stands { Stands H.told journal (H.outside host.old) }
         requires alike { IsTrue H.told → VotesAgree journal (image journal.unit (H.outside host.old).now) }
         ensures draft { IfOk result (λ draft. IsSwitchOf H.told draft (H.outside host.new) × (draft.journal.unit ≡ journal.unit) × (draft.len ≡ len) × (draft.put ≡ 0)) }
+        ensures holds { IfOk result (λ draft. draft.journal ≡ journal) }
         ensures same { IsTrue H.told → OnOk result (records (image journal.unit (H.outside host.new).now) ≡ records (image journal.unit (H.outside host.old).now)) }
         ensures any_moment { IsTrue H.told → Leaves journal.unit (ReadsAs (records (image journal.unit (H.outside host.old).now))) (H.outside host.old).now (H.outside host.new).now }
         ensures alone { Touches journal.unit (H.outside host.old) (H.outside host.new) }
@@ -82,6 +84,7 @@ impl Switching {
         ensures journal { IfOk result (λ journal. Stands H.told journal (H.outside host.new) × (journal.unit ≡ self.journal.unit)) }
         ensures committed { IsTrue H.told → OnOk result (records (image self.journal.unit (H.outside host.new).now) ≡ Some (switched self (image self.journal.unit (H.outside host.old).now) ∷ [])) }
         ensures open { IfOk result (λ journal. journal.closed ≡ false) }
+        ensures places { IfOk result (λ journal. (journal.end ≡ switch_start self + 21 + self.len) × (first_place journal ≡ switch_start self + 16)) }
         ensures rest { IsTrue H.told → OnOk result (tail (image self.journal.unit (H.outside host.new).now) ≡ replicate (bank_size self.journal.blocks - (21 + self.len)) 255) }
         ensures alike { IsTrue H.told → IfOk result (λ journal. VotesAgree journal (image self.journal.unit (H.outside host.new).now)) }
         ensures any_moment { IsTrue H.told → Leaves self.journal.unit (ReadsAsEither (records (image self.journal.unit (H.outside host.old).now))

@@ -7,7 +7,7 @@ use Rattle.newt_image.specs.Pages.{pages}
 use Rattle.newt_journal.specs.Journal.{Stands, HeldBy}
 use Rattle.newt_journal.specs.declared.journal.Journal.{Journal}
 use Rattle.newt_pagebook.specs.Book.{PagesAre, IsSameFor}
-use Rattle.newt_pageplain.specs.Kept.{Entries, map_of, numbers_in, named_in}
+use Rattle.newt_pagelog.specs.Kept.{Entries, map_of, numbers_in, named_in}
 
 -- It has a journal of its unit, which stands for it, and where bytes are told the unit's image holds the pages that it keeps.
 pub record StandsWith (told : Bool) (unit : ℕ) (journal : Option Journal) (entries : Entries) (outside : Outside) : Type 0 where

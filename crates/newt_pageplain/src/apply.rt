@@ -1,16 +1,14 @@
 // A batch is applied to the pages in memory.
 ghost use Rattle.std.specs.Prelude.{◌≡◌, ℕ, ◌+◌, ◌≤◌, ◌<◌, if◌then◌else◌, length, nat_eq, Some};
 ghost use Rattle.std.specs.HashMap as hash;
-ghost use Rattle.std.specs.FinSet as set;
 ghost use Rattle.newt_image.specs.Pages.{after};
-ghost use Rattle.newt_pagebook.specs.Book.{changed_numbers};
-ghost use Rattle.newt_pageplain.specs.Kept.{map_of, numbers_in};
+ghost use Rattle.newt_pagelog.specs.Kept.{map_of};
 
 use newt_pagebook::{Batch, Page};
-use std::collections::HashMap;
+use newt_pagelog::Table;
 
 /// The pages of a book, by their numbers.
-pub(crate) type Kept = HashMap<u32, Page>;
+pub(crate) type Kept = Table<Page>;
 
 // Puts a page, for which there is room.
 fn put_page(pages: &mut Kept, number: u32, page: &Page)
@@ -40,23 +38,4 @@ pub(crate) fn apply(pages: &mut Kept, batch: &Batch)
     for number in batch.deletes() {
         pages.remove(number);
     }
-}
-
-/// How many pages will be live after a batch.
-pub(crate) fn live_after(pages: &Kept, batch: &Batch) -> usize
-    requires { hash.IsUnique nat_eq pages.now }
-    ensures { result ≡ set.len (changed_numbers batch.now (numbers_in pages.now.entries)) }
-{
-    let mut live = pages.len();
-    for put in batch.puts() {
-        if !pages.contains_key(&put.0) {
-            live += 1;
-        }
-    }
-    for number in batch.deletes() {
-        if pages.contains_key(number) {
-            live -= 1;
-        }
-    }
-    live
 }

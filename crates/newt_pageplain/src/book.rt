@@ -2,15 +2,15 @@
 ghost use Rattle.std.specs.Prelude.{◌≡◌, ◌≤◌, ◌⊎◌};
 ghost use Rattle.std.specs.HashMap as hash;
 ghost use Rattle.std.proofs.Props.{props};
-ghost use Rattle.newt_pageplain.specs.Kept.{AreSound};
+ghost use Rattle.newt_pagelog.specs.Kept.{AreSound};
 
-use crate::apply::{Kept, live_after};
+use crate::apply::Kept;
 use crate::change::commit_with;
-use crate::open::replay;
-use crate::write::written;
+use crate::open::read_pages;
 use newt_host::{Failed, Host, Unit};
 use newt_journal::{Journal, JournalFault};
 use newt_pagebook::{Batch, BookFault, CommitFault, Page, PageBook, Stop, cap};
+use newt_pagelog::live_after;
 use std::alloc::{AllocError, Global};
 
 /// A book that keeps all pages of its unit in memory. It is spent once its journal is gone.
@@ -37,7 +37,7 @@ fn larger(a: u32, b: u32) -> u32
 }
 
 impl PageBook for PlainBook {
-    ghost use Rattle.newt_pageplain.specs.Kept.{numbers_in, shown_in, small_with};
+    ghost use Rattle.newt_pagelog.specs.Kept.{numbers_in, shown_in, small_with};
     ghost use Rattle.newt_pageplain.specs.Plain.{StandsWith, tells_with, banks_with, kept_with};
 
     ghost place = { λ b. b.unit };
@@ -59,11 +59,7 @@ impl PageBook for PlainBook {
     ghost kept = { λ told b old new s. kept_with told b.unit b.journal b.pages.entries old new s };
 
     fn format<H: Host>(alloc: Global, host: &mut H, unit: Unit, batch: &Batch) -> Result<(), Stop> {
-        let payload = written(alloc, batch)?;
-        match Journal::format(host, unit, &payload) {
-            Ok(_) => Ok(()),
-            Err(Failed) => Err(Stop::Device(unit)),
-        }
+        newt_pagelog::format(alloc, host, unit, batch)
     }
 
     fn open<H: Host>(alloc: Global, host: &mut H, unit: Unit) -> Result<Self, BookFault> {
@@ -72,7 +68,7 @@ impl PageBook for PlainBook {
             Err(JournalFault::NotStore) => return Err(BookFault::NotStore),
             Err(JournalFault::Device) => return Err(BookFault::Device),
         };
-        let pages = replay(alloc, &journal, host)?;
+        let pages = read_pages(alloc, &journal, host)?;
         Ok(PlainBook {
             unit,
             journal: Some(journal),

@@ -9,13 +9,14 @@ ghost use Rattle.newt_image.specs.Pages.{pages as pages_of, after as pages_behin
 ghost use Rattle.newt_journal.specs.Journal.{room, Stands};
 ghost use Rattle.newt_pagebook.specs.Batch.{IsBatch};
 ghost use Rattle.newt_pagebook.specs.Book.{IsOpenFor, batch_bytes, changed_numbers, IsBeforeOrAfter, ReadsChanged};
-ghost use Rattle.newt_pageplain.specs.Kept.{AreSound, is_kept, map_of, numbers_in};
+ghost use Rattle.newt_pagelog.specs.Kept.{AreSound, is_kept, map_of, numbers_in};
 
 use crate::apply::{Kept, apply};
-use crate::write::{append_batch, kept_of, replace_all};
+use crate::write::replace_all;
 use newt_host::{Failed, Host};
 use newt_journal::Journal;
 use newt_pagebook::Batch;
+use newt_pagelog::{append_batch, kept_of};
 
 // Appends a batch, and then applies it to the pages in memory.
 fn commit_behind<H: Host>(

@@ -1,47 +1,69 @@
-// The records of a journal are replayed.
-ghost use Rattle.std.specs.Prelude.{IsTrue, ◌≡◌, ◌+◌, ◌≤◌, length, take, drop, None, Some, IfOk, IsErrOf};
+// All pages of a journal are read.
+ghost use Rattle.std.specs.Prelude.{IsTrue, ◌≡◌, ◌+◌, ◌≤◌, ℕ, List, false, length, nat_eq, None, Some, IfOk, OnOk, OnErr, IsErrOf};
+ghost use Rattle.std.specs.HashMap as hash;
 ghost use Rattle.newt_host.specs.Moments.{image};
-ghost use Rattle.newt_host.specs.Outside.{Touches, Rose};
+ghost use Rattle.newt_host.specs.Outside.{Rose};
 ghost use Rattle.newt_image.specs.Pages.{pages as pages_of};
 ghost use Rattle.newt_journal.specs.Journal.{Stands};
 ghost use Rattle.newt_journal.specs.Places.{first_place};
-ghost use Rattle.newt_pageplain.specs.Kept.{AreSound, map_of};
+ghost use Rattle.newt_pagelog.specs.Kept.{AreSound, is_kept, map_of, page_in};
+ghost use Rattle.newt_pagelog.specs.Placed.{ArePlaced, Looks, lifted, page_from};
 
-use crate::apply::{Kept, apply};
-use crate::replay::read_change;
+use crate::apply::Kept;
 use newt_host::{Failed, Host};
-use newt_journal::{Found, Journal};
-use newt_pagebook::BookFault;
+use newt_journal::Journal;
+use newt_pagebook::{BookFault, Page};
+use newt_pagelog::{Table, replay};
 use std::alloc::Global;
 use std::collections::HashMap;
 
-// Reads the payload of a record.
-fn read_payload<H: Host>(
-    alloc: Global,
+// Reads the page at a place.
+fn read_page<H: Host>(journal: &Journal, host: &mut H, at: u32) -> Result<Page, Failed>
+    requires low { first_place journal.now ≤ at }
+    requires high { at + 512 ≤ journal.now.end }
+    requires stands { Stands H.told journal.now (H.outside host.old) }
+    ensures page { IsTrue H.told → IfOk result (λ page. page ≡ page_from (image journal.now.unit (H.outside host.old).now) at) }
+    ensures looks { Looks journal.now.unit (H.outside host.old) (H.outside host.new) }
+    ensures cause { OnErr result (Rose ((H.outside host.old).dev_faults journal.now.unit) ((H.outside host.new).dev_faults journal.now.unit)) }
+{
+    let mut page = [0; 512];
+    journal.read_at(host, at, &mut page)?;
+    Ok(page)
+}
+
+// Reads the page of a number, if it has a place.
+fn read_number<H: Host>(
     journal: &Journal,
     host: &mut H,
-    found: Found,
-) -> Result<Vec<u8>, BookFault>
-    requires low { first_place journal.now ≤ found.at }
-    requires high { found.at + found.len ≤ journal.now.end }
+    places: &Table<u32>,
+    number: u32,
+    pages: &mut Kept,
+) -> Result<(), BookFault>
+    requires placed { ArePlaced journal.now places.now.entries }
     requires stands { Stands H.told journal.now (H.outside host.old) }
-    ensures size { IfOk result (λ payload. length payload.items ≡ found.len) }
-    ensures bytes { IsTrue H.told → IfOk result (λ payload. payload.items ≡ take found.len (drop found.at (image journal.now.unit (H.outside host.old).now))) }
+    requires unique { hash.IsUnique nat_eq pages.old }
+    requires fresh { page_in pages.old.entries number ≡ None }
+    ensures unique { OnOk result (hash.IsUnique nat_eq pages.new) }
+    ensures others { OnOk result ((q : ℕ) → nat_eq number q ≡ false → page_in pages.new.entries q ≡ page_in pages.old.entries q) }
+    ensures here { OnOk result (is_kept pages.new.entries number ≡ is_kept places.now.entries number) }
+    ensures whole { OnOk result ((page : List ℕ) → page_in pages.new.entries number ≡ Some page → length page ≡ 512) }
+    ensures page { IsTrue H.told → OnOk result (page_in pages.new.entries number ≡ page_in (lifted (page_from (image journal.now.unit (H.outside host.old).now)) places.now.entries) number) }
+    ensures looks { Looks journal.now.unit (H.outside host.old) (H.outside host.new) }
     ensures no_other { IsErrOf result BookFault.NotStore → ⊥ }
-    ensures moment { (H.outside host.new).now ≡ (H.outside host.old).now }
-    ensures programs_nothing { (H.outside host.new).programmed journal.now.unit ≤ (H.outside host.old).programmed journal.now.unit }
-    ensures alone { Touches journal.now.unit (H.outside host.old) (H.outside host.new) }
     ensures cause { IsErrOf result BookFault.Device → Rose ((H.outside host.old).dev_faults journal.now.unit) ((H.outside host.new).dev_faults journal.now.unit) }
 {
-    let mut payload = vec![in alloc; 0u8; found.len as usize]?;
-    match journal.read_at(host, found.at, &mut payload) {
-        Ok(()) => Ok(payload),
-        Err(Failed) => Err(BookFault::Device),
+    match places.get(&number) {
+        Some(place) => {
+            let page = read_page(journal, host, *place)?;
+            pages.insert(number, page)?;
+            Ok(())
+        }
+        None => Ok(()),
     }
 }
 
-/// The pages that the records of a journal leave.
-pub(crate) fn replay<H: Host>(
+/// All pages that the records of a journal leave.
+pub(crate) fn read_pages<H: Host>(
     alloc: Global,
     journal: &Journal,
     host: &mut H,
@@ -50,23 +72,13 @@ pub(crate) fn replay<H: Host>(
     ensures sound { IfOk result (λ kept. AreSound kept.entries) }
     ensures pages { IsTrue H.told → IfOk result (λ kept. pages_of (image journal.now.unit (H.outside host.old).now) ≡ Some (map_of kept.entries)) }
     ensures not_store { IsErrOf result BookFault.NotStore → IsTrue H.told → pages_of (image journal.now.unit (H.outside host.old).now) ≡ None }
-    ensures moment { (H.outside host.new).now ≡ (H.outside host.old).now }
-    ensures programs_nothing { (H.outside host.new).programmed journal.now.unit ≤ (H.outside host.old).programmed journal.now.unit }
-    ensures alone { Touches journal.now.unit (H.outside host.old) (H.outside host.new) }
+    ensures looks { Looks journal.now.unit (H.outside host.old) (H.outside host.new) }
     ensures cause { IsErrOf result BookFault.Device → Rose ((H.outside host.old).dev_faults journal.now.unit) ((H.outside host.new).dev_faults journal.now.unit) }
 {
+    let places = replay(alloc, journal, host)?;
     let mut pages = HashMap::new(alloc);
-    let mut at = journal.first();
-    while let Some(found) = journal.walk(host, at)? {
-        let payload = read_payload(alloc, journal, host, found)?;
-        match read_change(alloc, &payload)? {
-            Some(batch) => {
-                pages.reserve(batch.puts().len())?;
-                apply(&mut pages, &batch);
-            }
-            None => return Err(BookFault::NotStore),
-        }
-        at = found.next;
+    for number in 0..65536 {
+        read_number(journal, host, &places, number, &mut pages)?;
     }
     Ok(pages)
 }

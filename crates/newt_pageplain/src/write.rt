@@ -1,102 +1,20 @@
-// A record is written that says a change.
-ghost use Rattle.std.specs.Prelude.{IsTrue, ◌≡◌, ◌+◌, ◌*◌, ◌≤◌, ◌<◌, ◌++◌, ◌∷◌, [], length, OnOk, OnErr, IfOk, Some};
-ghost use Rattle.std.specs.Int.{to_be_bytes, w16};
-ghost use Rattle.std.specs.List.{flat_map, filter};
+// All pages are written as one record.
+ghost use Rattle.std.specs.Prelude.{IsTrue, ◌≡◌, ◌+◌, ◌*◌, ◌≤◌, ◌<◌, ◌∷◌, [], length, OnOk, OnErr, IfOk, Some};
+ghost use Rattle.std.specs.List.{flat_map};
 ghost use Rattle.newt_host.specs.Moments.{image, Leaves};
-ghost use Rattle.newt_host.specs.Outside.{Touches, Spends, Rose};
-ghost use Rattle.newt_image.specs.Pages.{written_put, written_delete, written_change};
+ghost use Rattle.newt_host.specs.Outside.{Touches, Rose};
+ghost use Rattle.newt_image.specs.Pages.{written_put, written_change};
 ghost use Rattle.newt_image.specs.Records.{records, bank_size};
-ghost use Rattle.newt_journal.specs.Journal.{room, Stands, appended, ReadsAsEither};
+ghost use Rattle.newt_journal.specs.Journal.{Stands, ReadsAsEither};
 ghost use Rattle.newt_journal.specs.Draft.{IsDraftOf, unit_of, len_of, put_of};
-ghost use Rattle.newt_pagebook.specs.Batch.{IsBatch};
 ghost use Rattle.newt_pagebook.specs.Book.{IsOpenFor};
-ghost use Rattle.newt_pageplain.specs.Kept.{is_kept, needed, all_of};
-ghost use Rattle.newt_pageplain.specs.Steps.{IsSteady, Keeps, WritesMore};
+ghost use Rattle.newt_pagelog.specs.Kept.{all_of};
+ghost use Rattle.newt_pagelog.specs.Steps.{IsSteady, Keeps, WritesMore};
 
 use crate::apply::Kept;
 use newt_host::{Failed, Host};
 use newt_journal::{Draft, Journal};
-use newt_pagebook::{Batch, Page};
-use std::alloc::{AllocError, Global};
-
-// A put, as a record has it.
-fn push_put(bytes: &mut Vec<u8>, number: u32, page: &Page) -> Result<(), AllocError>
-    ensures { OnOk result (bytes.new.items ≡ bytes.old.items ++ written_put (number, page.now)) }
-{
-    bytes.extend_from_slice(&number.to_be_bytes())?;
-    bytes.extend_from_slice(page)?;
-    Ok(())
-}
-
-/// The payload that says a batch without deletes.
-pub(crate) fn written(alloc: Global, batch: &Batch) -> Result<Vec<u8>, AllocError>
-    requires few { length batch.now.puts < 65536 }
-    requires none { batch.now.deletes ≡ [] }
-    ensures says { IfOk result (λ bytes. bytes.items ≡ written_change batch.now) }
-    // what holds of every batch holds of this one
-    ensures sound { IsBatch batch.now }
-{
-    let mut bytes = Vec::new(alloc);
-    bytes.extend_from_slice(&(batch.puts().len() as u16).to_be_bytes())?;
-    bytes.extend_from_slice(&0u16.to_be_bytes())?;
-    for put in batch.puts() {
-        push_put(&mut bytes, put.0, &put.1)?;
-    }
-    Ok(bytes)
-}
-
-// Writes how many puts and how many deletes follow.
-fn write_counts<H: Host>(
-    draft: &mut Draft,
-    host: &mut H,
-    puts: u16,
-    deletes: u16,
-) -> Result<(), Failed>
-    requires room { put_of draft.old + 4 ≤ len_of draft.old }
-    requires draft { IsDraftOf H.told draft.old (H.outside host.old) }
-    ensures ok { OnOk result (WritesMore H.told (unit_of draft.old) (to_be_bytes w16 puts ++ to_be_bytes w16 deletes) draft.old draft.new (H.outside host.old) (H.outside host.new)) }
-    ensures keeps { Keeps H.told (unit_of draft.old) 4 (H.outside host.old) (H.outside host.new) }
-    ensures cause { OnErr result (Rose ((H.outside host.old).dev_faults (unit_of draft.old)) ((H.outside host.new).dev_faults (unit_of draft.old))) }
-{
-    draft.put(host, &puts.to_be_bytes())?;
-    draft.put(host, &deletes.to_be_bytes())?;
-    Ok(())
-}
-
-// Writes one put.
-fn write_put<H: Host>(
-    draft: &mut Draft,
-    host: &mut H,
-    number: u32,
-    page: &Page,
-) -> Result<(), Failed>
-    requires room { put_of draft.old + 516 ≤ len_of draft.old }
-    requires draft { IsDraftOf H.told draft.old (H.outside host.old) }
-    ensures ok { OnOk result (WritesMore H.told (unit_of draft.old) (written_put (number, page.now)) draft.old draft.new (H.outside host.old) (H.outside host.new)) }
-    ensures keeps { Keeps H.told (unit_of draft.old) 516 (H.outside host.old) (H.outside host.new) }
-    ensures size { length page.now ≡ 512 }
-    ensures cause { OnErr result (Rose ((H.outside host.old).dev_faults (unit_of draft.old)) ((H.outside host.new).dev_faults (unit_of draft.old))) }
-{
-    draft.put(host, &number.to_be_bytes())?;
-    draft.put(host, page)?;
-    Ok(())
-}
-
-// Writes the puts of a batch.
-fn write_puts<H: Host>(draft: &mut Draft, host: &mut H, puts: &[(u32, Page)]) -> Result<(), Failed>
-    requires room { put_of draft.old + 516 * length puts.now ≤ len_of draft.old }
-    requires draft { IsDraftOf H.told draft.old (H.outside host.old) }
-    requires steady { IsTrue H.told → IsSteady (unit_of draft.old) (H.outside host.old).now }
-    ensures ok { OnOk result (WritesMore H.told (unit_of draft.old) (flat_map written_put puts.now) draft.old draft.new (H.outside host.old) (H.outside host.new)) }
-    ensures put { OnOk result (put_of draft.new ≡ put_of draft.old + 516 * length puts.now) }
-    ensures keeps { Keeps H.told (unit_of draft.old) (516 * length puts.now) (H.outside host.old) (H.outside host.new) }
-    ensures cause { OnErr result (Rose ((H.outside host.old).dev_faults (unit_of draft.old)) ((H.outside host.new).dev_faults (unit_of draft.old))) }
-{
-    for put in puts {
-        write_put(draft, host, put.0, &put.1)?;
-    }
-    Ok(())
-}
+use newt_pagelog::{write_counts, write_put};
 
 // Writes all pages as puts.
 fn write_pages<H: Host>(draft: &mut Draft, host: &mut H, pages: &Kept) -> Result<(), Failed>
@@ -114,71 +32,6 @@ fn write_pages<H: Host>(draft: &mut Draft, host: &mut H, pages: &Kept) -> Result
     Ok(())
 }
 
-// Writes the number of a page that is deleted, if it is there.
-fn write_delete<H: Host>(
-    draft: &mut Draft,
-    host: &mut H,
-    pages: &Kept,
-    number: u32,
-) -> Result<(), Failed>
-    requires room { put_of draft.old + 4 * length (filter (is_kept pages.now.entries) (number ∷ [])) ≤ len_of draft.old }
-    requires draft { IsDraftOf H.told draft.old (H.outside host.old) }
-    requires steady { IsTrue H.told → IsSteady (unit_of draft.old) (H.outside host.old).now }
-    ensures ok { OnOk result (WritesMore H.told (unit_of draft.old) (flat_map written_delete (filter (is_kept pages.now.entries) (number ∷ []))) draft.old draft.new (H.outside host.old) (H.outside host.new)) }
-    ensures keeps { Keeps H.told (unit_of draft.old) (4 * length (filter (is_kept pages.now.entries) (number ∷ []))) (H.outside host.old) (H.outside host.new) }
-    ensures cause { OnErr result (Rose ((H.outside host.old).dev_faults (unit_of draft.old)) ((H.outside host.new).dev_faults (unit_of draft.old))) }
-{
-    if pages.contains_key(&number) {
-        draft.put(host, &number.to_be_bytes())?;
-        return Ok(());
-    }
-    Ok(())
-}
-
-// Writes the numbers of the pages that are deleted, of those that are there.
-fn write_deletes<H: Host>(
-    draft: &mut Draft,
-    host: &mut H,
-    pages: &Kept,
-    deletes: &[u32],
-) -> Result<(), Failed>
-    requires room { put_of draft.old + 4 * length (filter (is_kept pages.now.entries) deletes.now) ≤ len_of draft.old }
-    requires draft { IsDraftOf H.told draft.old (H.outside host.old) }
-    requires steady { IsTrue H.told → IsSteady (unit_of draft.old) (H.outside host.old).now }
-    ensures ok { OnOk result (WritesMore H.told (unit_of draft.old) (flat_map written_delete (filter (is_kept pages.now.entries) deletes.now)) draft.old draft.new (H.outside host.old) (H.outside host.new)) }
-    ensures keeps { Keeps H.told (unit_of draft.old) (4 * length (filter (is_kept pages.now.entries) deletes.now)) (H.outside host.old) (H.outside host.new) }
-    ensures cause { OnErr result (Rose ((H.outside host.old).dev_faults (unit_of draft.old)) ((H.outside host.new).dev_faults (unit_of draft.old))) }
-{
-    for number in deletes {
-        write_delete(draft, host, pages, *number)?;
-    }
-    Ok(())
-}
-
-// Writes a batch: its puts, and the deletes of pages that are there.
-fn write_batch<H: Host>(
-    draft: &mut Draft,
-    host: &mut H,
-    pages: &Kept,
-    batch: &Batch,
-    deletes: u16,
-) -> Result<(), Failed>
-    requires few { length batch.now.puts < 65536 }
-    requires count { deletes ≡ length (filter (is_kept pages.now.entries) batch.now.deletes) }
-    requires room { put_of draft.old + (4 + 516 * length batch.now.puts + 4 * length (filter (is_kept pages.now.entries) batch.now.deletes)) ≤ len_of draft.old }
-    requires draft { IsDraftOf H.told draft.old (H.outside host.old) }
-    ensures ok { OnOk result (WritesMore H.told (unit_of draft.old) (written_change (needed pages.now.entries batch.now)) draft.old draft.new (H.outside host.old) (H.outside host.new)) }
-    ensures put { OnOk result (put_of draft.new ≡ put_of draft.old + (4 + 516 * length batch.now.puts + 4 * length (filter (is_kept pages.now.entries) batch.now.deletes))) }
-    ensures keeps { Keeps H.told (unit_of draft.old) (4 + 516 * length batch.now.puts + 4 * length (filter (is_kept pages.now.entries) batch.now.deletes)) (H.outside host.old) (H.outside host.new) }
-    ensures cause { OnErr result (Rose ((H.outside host.old).dev_faults (unit_of draft.old)) ((H.outside host.new).dev_faults (unit_of draft.old))) }
-{
-    let puts = batch.puts();
-    write_counts(draft, host, puts.len() as u16, deletes)?;
-    write_puts(draft, host, puts)?;
-    write_deletes(draft, host, pages, batch.deletes())?;
-    Ok(())
-}
-
 // Writes a batch that puts all pages.
 fn write_all<H: Host>(draft: &mut Draft, host: &mut H, pages: &Kept) -> Result<(), Failed>
     requires few { length pages.now.entries < 65536 }
@@ -192,44 +45,6 @@ fn write_all<H: Host>(draft: &mut Draft, host: &mut H, pages: &Kept) -> Result<(
     write_counts(draft, host, pages.len() as u16, 0)?;
     write_pages(draft, host, pages)?;
     Ok(())
-}
-
-/// How many of these pages are there.
-pub(crate) fn kept_of(pages: &Kept, numbers: &[u32]) -> usize
-    ensures { result ≡ length (filter (is_kept pages.now.entries) numbers.now) }
-{
-    numbers
-        .iter()
-        .filter(|number| pages.contains_key(*number))
-        .count()
-}
-
-/// Writes a batch behind the other records: its puts, and the deletes of pages that are there.
-pub(crate) fn append_batch<H: Host>(
-    journal: Journal,
-    host: &mut H,
-    pages: &Kept,
-    batch: &Batch,
-) -> Result<Journal, Failed>
-    requires stands { Stands H.told journal (H.outside host.old) }
-    requires few_puts { length batch.now.puts < 65536 }
-    requires few_deletes { length (filter (is_kept pages.now.entries) batch.now.deletes) < 65536 }
-    requires fits { 4 + 516 * length batch.now.puts + 4 * length (filter (is_kept pages.now.entries) batch.now.deletes) ≤ room journal }
-    ensures journal { IfOk result (λ after. Stands H.told after (H.outside host.new) × (after.unit ≡ journal.unit)) }
-    ensures committed { IsTrue H.told → OnOk result (records (image journal.unit (H.outside host.new).now) ≡ appended (records (image journal.unit (H.outside host.old).now)) (written_change (needed pages.now.entries batch.now))) }
-    ensures blank { IsTrue H.told → OnOk result (IsOpenFor 0 (image journal.unit (H.outside host.new).now)) }
-    ensures any_moment { IsTrue H.told → Leaves journal.unit (ReadsAsEither (records (image journal.unit (H.outside host.old).now))
-        (appended (records (image journal.unit (H.outside host.old).now)) (written_change (needed pages.now.entries batch.now)))) (H.outside host.old).now (H.outside host.new).now }
-    ensures alone { Touches journal.unit (H.outside host.old) (H.outside host.new) }
-    ensures costs { Spends journal.unit (9 + 516 * length batch.now.puts + 4 * length (filter (is_kept pages.now.entries) batch.now.deletes)) 0 (H.outside host.old) (H.outside host.new) }
-    ensures cause { OnErr result (Rose ((H.outside host.old).dev_faults journal.unit) ((H.outside host.new).dev_faults journal.unit)) }
-{
-    let deletes = kept_of(pages, batch.deletes());
-    let len = 4 + 516 * batch.puts().len() + 4 * deletes;
-    let mut draft = journal.append(host, len as u32)?;
-    write_batch(&mut draft, host, pages, batch, deletes as u16)?;
-    let journal = draft.finish(host)?;
-    Ok(journal)
 }
 
 /// Writes all pages as one record into the other bank, once the votes are mended.

@@ -46,7 +46,14 @@ fn add_five(host: &mut MemHost, bytes: &[u8]) -> Result<(), AllocError>
 pub fn over_blank(alloc: Global, input: &[u8]) -> Result<MemHost, AllocError>
     ensures { IfOk result (λ host. IsFree (outside_of host)) }
 {
-    let blank = blocks(alloc, 13)?;
+    over_blocks(alloc, input, 13)
+}
+
+/// The same with devices of so many blocks.
+pub fn over_blocks(alloc: Global, input: &[u8], count: u32) -> Result<MemHost, AllocError>
+    ensures { IfOk result (λ host. IsFree (outside_of host)) }
+{
+    let blank = blocks(alloc, count)?;
     let mut host = host(alloc, input, u32::MAX)?;
     add_five(&mut host, &blank)?;
     Ok(host)

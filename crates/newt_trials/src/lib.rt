@@ -11,6 +11,6 @@ mod tables;
 
 pub use crashes::expect_all_safe;
 pub use halts::expect_halts;
-pub use hosts::{blocks, host, over, over_blank};
-pub use runs::{expect, expect_end, image, run_on, run_table, run_table_on};
+pub use hosts::{blocks, host, over, over_blank, over_blocks};
+pub use runs::{expect, expect_end, expect_over, image, run_on, run_table, run_table_on};
 pub use tables::{expanded, lines_of};

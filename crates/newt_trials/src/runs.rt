@@ -4,7 +4,7 @@ ghost use Rattle.newt_host.specs.Meanings.{out_of};
 ghost use Rattle.newt_memhost.specs.Outside.{outside_of};
 ghost use Rattle.newt_trials.specs.Free.{IsFree};
 
-use crate::hosts::{over, over_blank};
+use crate::hosts::{over, over_blank, over_blocks};
 use crate::tables::lines_of;
 use newt_host::{Host, Unit};
 use newt_memhost::MemHost;
@@ -93,6 +93,13 @@ pub fn run_table(alloc: Global, text: &str, table: &str) -> Result<MemHost, Fail
 pub fn expect(alloc: Global, text: &str, table: &str) -> Result<(), Fail> {
     run_table(alloc, text, table)?;
     Ok(())
+}
+
+/// Runs a table over five devices `a` to `e` of so many blocks of zero bytes, and looks for its replies.
+pub fn expect_over(alloc: Global, text: &str, table: &str, count: u32) -> Result<(), Fail> {
+    let (script, output) = lines_of(alloc, table)?;
+    let mut host = over_blocks(alloc, &script, count)?;
+    expect_end(alloc, text, &mut host, Status::Ok, &output)
 }
 
 /// Whether the unit has a device.

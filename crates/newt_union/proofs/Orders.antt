@@ -1,5 +1,5 @@
 -- What a hit's order says of the pairs of one member.
-use Rattle.std.proofs.Common.{◌≡◌, refl, sym, ap, subst, ℕ, false, not, ◌<◌, ◌^◌, [], ◌∷◌, arith}
+use Rattle.std.proofs.Common.{◌≡◌, refl, sym, ap, subst, ℕ, false, not, ◌<◌, ◌^◌, [], ◌∷◌, ◌++◌, arith}
 use Rattle.std.specs.declared.cmp.Ordering.{Ordering}
 use Rattle.std.specs.declared.cmp.Ordering.TheVariants.{Less, Equal, Greater}
 use Rattle.std.specs.FinMap.{nat_cmp-IsAntisymmetric}
@@ -8,7 +8,7 @@ use Rattle.std.proofs.lemmas.Cmp.{nat_cmp_total, tied_itself, ranked, by_ranked}
 use Rattle.newt_spec_store.specs.Keys.{Key, IndexSpec, key_cmp, part_cmp}
 use Rattle.newt_spec_query.specs.Hits.{Hit, hit_cmp}
 use Rattle.newt_spec_query.proofs.Order.{key_total}
-use Rattle.newt_keys.specs.KeyForm.{IsKeyOf, AreParts, IsPartOf}
+use Rattle.newt_keys.specs.KeyForm.{IsKeyOf, AreParts, IsPartOf, key_bytes, part_bytes}
 use Rattle.newt_keys.proofs.OrderLaws.{equal_keys, tied}
 use Rattle.newt_index.specs.Pairs.{Pair, parts_of, pair_cmp}
 use Rattle.newt_union.specs.Merged.{Member, hit, Agree}
@@ -34,6 +34,14 @@ same_parts (p ∷ ps) (q ∷ qs) h (x ∷ k) f = (subst (λ t. IsPartOf t x) (sy
 
 pub same_keys : (a b : IndexSpec) → Agree a b → (k : Key) → IsKeyOf b k → IsKeyOf a k
 same_keys a b h k f = (same_parts a b h k f.0, f.1)
+
+-- and their keys have the same bytes
+pub same_bytes : (a b : IndexSpec) → Agree a b → (k : Key) → key_bytes a k ≡ key_bytes b k
+same_bytes [] [] h k = refl
+same_bytes [] (q ∷ qs) h k = absurd h
+same_bytes (p ∷ ps) [] h k = absurd h
+same_bytes (p ∷ ps) (q ∷ qs) h [] = refl
+same_bytes (p ∷ ps) (q ∷ qs) h (x ∷ k) = λ i. part_bytes (h.1 i) x ++ same_bytes ps qs h.2 k i
 
 pub same_hit_order : (a b : IndexSpec) → Agree a b → (g h : Hit) → hit_cmp a g h ≡ hit_cmp b g h
 same_hit_order a b s g h =

@@ -5,8 +5,8 @@ use Rattle.std.specs.Ordering.{is_lt, is_gt}
 use Rattle.newt_spec_store.specs.Keys.{Key, IndexSpec, key_cmp}
 use Rattle.newt_spec_store.specs.Sorted.{sorted_by}
 use Rattle.newt_spec_query.specs.Hits.{Hit, hit_cmp}
-use Rattle.newt_keys.specs.KeyForm.{IsKeyOf}
 use Rattle.newt_index.specs.Pairs.{Pair, Sorted, parts_of, first, last}
+use Rattle.newt_index.specs.Kept.{IsProbeOf}
 
 -- a soup that takes part: the signatures of its store and its own, and its range (Newton Programmer's Guide 2.0, union soups)
 pub record Member : Type 0 where
@@ -38,9 +38,9 @@ Agree _ _ = ⊥
 abbrev pub AllAgree : IndexSpec → List Member → Type 0
 AllAgree spec ms = All (λ (m : Member). Agree spec (parts_of m.range.spec)) ms
 
--- the key is one of each member's declaration (a word of these definitions)
-abbrev pub IsKeyIn : List Member → Key → Type 0
-IsKeyIn ms key = All (λ (m : Member). IsKeyOf (parts_of m.range.spec) key) ms
+-- bytes are those of a key of each member's declaration (this project's own)
+abbrev pub IsProbeIn : List Member → Key → List ℕ → Type 0
+IsProbeIn ms key bytes = All (λ (m : Member). IsProbeOf m.range.spec key bytes) ms
 
 -- ---- searches
 

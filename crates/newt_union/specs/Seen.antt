@@ -1,9 +1,9 @@
 -- How the hits and members of the code are seen as those of the definition.
-use Rattle.std.specs.Prelude.{List, All}
+use Rattle.std.specs.Prelude.{ℕ, List, [], Option, None, Some, All}
 use Rattle.newt_spec_query.specs.Hits as spec
 use Rattle.newt_spec_store.specs.Keys.{Key}
-use Rattle.newt_keys.specs.KeyForm.{IsKeyOf}
-use Rattle.newt_index.specs.Pairs.{parts_of, IsSorted}
+use Rattle.newt_index.specs.Pairs.{IsSorted}
+use Rattle.newt_index.specs.Kept.{IsProbeOf}
 use Rattle.newt_union.specs.Merged as merged
 use Rattle.newt_union.specs.declared.hit.Hit.{Hit}
 use Rattle.newt_union.specs.declared.member.Member.{Member}
@@ -16,10 +16,15 @@ shown h = record { key = h.key.now; store = h.store; soup = h.soup; uid = h.uid 
 abbrev pub seen : Member → merged.Member
 seen m = record { store = m.store; soup = m.soup; range = m.index.now }
 
+-- the member on a place; on a place that is not used it is a soup without a pair (a word of these definitions)
+abbrev pub seen_place : Option Member → merged.Member
+seen_place None = record { store = 0; soup = 0; range = record { spec = None; pairs = [] } }
+seen_place (Some m) = seen m
+
 -- each range is in order (a word of these definitions)
 abbrev pub AreSorted : List merged.Member → Type 0
 AreSorted ms = All (λ (m : merged.Member). IsSorted m.range) ms
 
--- the key is one of each member's declaration (a word of these definitions)
-abbrev pub HaveKey : Key → List Member → Type 0
-HaveKey key ms = All (λ (m : Member). IsKeyOf (parts_of m.index.now.spec) key) ms
+-- bytes are those of a key of the declaration of each member on these places (a word of these definitions)
+abbrev pub HaveProbe : Key → List ℕ → List (Option Member) → Type 0
+HaveProbe key bytes places = All (λ (p : Option Member). IsProbeOf (seen_place p).range.spec key bytes) places

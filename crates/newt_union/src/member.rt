@@ -1,8 +1,8 @@
 //! A member of a union, and what it has to offer to a search.
-ghost use Rattle.std.specs.Prelude.{◌≡◌, IfOk, option_map};
+ghost use Rattle.std.specs.Prelude.{◌≡◌, option_map};
 ghost use Rattle.newt_spec_store.specs.Keys.{key_cmp};
+ghost use Rattle.newt_spec_store.specs.Keys as keys;
 ghost use Rattle.newt_spec_query.specs.Hits.{hit_cmp};
-ghost use Rattle.newt_keys.specs.KeyForm.{IsKeyOf};
 ghost use Rattle.newt_index.specs.Pairs.{parts_of};
 ghost use Rattle.newt_index.specs.Kept.{IsProbeOf};
 ghost use Rattle.newt_index.specs.Kept as kept;
@@ -16,7 +16,6 @@ use crate::hit::Hit;
 use newt_base::{Sig, Uid};
 use newt_index::{Index, Probe, Spot};
 use newt_keys::{Key, compare};
-use std::alloc::{AllocError, Global};
 use std::cmp::Ordering;
 
 /// A soup that takes part, with its range.
@@ -43,17 +42,6 @@ impl<'a> Member<'a> {
         }
     }
 
-    /// The bytes of a key at hand.
-    fn probe(&self, alloc: Global, key: &Key) -> Result<Probe, AllocError>
-        requires { IsKeyOf (parts_of self.now.index.now.spec) key.now }
-        ensures { IfOk result (λ probe. IsProbeOf self.now.index.now.spec key.now probe) }
-    {
-        match self.index.spec() {
-            Some(spec) => Probe::new(alloc, key, spec),
-            None => Ok(Probe::empty(alloc)),
-        }
-    }
-
     /// How the store and the soup of a spot stand to its own.
     fn side(&self, spot: &Spot) -> Ordering
         ensures { result ≡ side (spot_hit spot.now) (seen self.now) }
@@ -76,18 +64,19 @@ impl<'a> Member<'a> {
         self.hit(&self.index.last())
     }
 
-    /// Its least hit after a spot.
-    pub(crate) fn after(&self, alloc: Global, spot: &Spot) -> Result<Option<Hit<'a>>, AllocError>
-        requires { IsKeyOf (parts_of self.now.index.now.spec) spot.now.key }
-        ensures { IfOk result (λ found. option_map shown found ≡ after_in (spot_hit spot.now) (seen self.now)) }
+    /// Its least hit after a spot. The probe was made for the spot's key.
+    pub(crate) fn after(&self, probe: &mut Probe, spot: &Spot) -> Option<Hit<'a>>
+        requires { IsProbeOf self.now.index.now.spec spot.now.key probe.old }
+        ensures found { option_map shown result ≡ after_in (spot_hit spot.now) (seen self.now) }
+        ensures kept { probe.new ≡ probe.old }
     {
-        let mut probe = self.probe(alloc, &spot.key)?;
-        Ok(self.hit(&self.pair_after(&mut probe, spot)))
+        self.hit(&self.pair_after(probe, spot))
     }
 
     fn pair_after(&self, probe: &mut Probe, spot: &Spot) -> Option<(&'a Key, Uid)>
         requires { IsProbeOf self.now.index.now.spec spot.now.key probe.old }
-        ensures { option_map kept.shown result ≡ candidates.pair_after (spot_hit spot.now) (seen self.now) }
+        ensures found { option_map kept.shown result ≡ candidates.pair_after (spot_hit spot.now) (seen self.now) }
+        ensures kept { probe.new ≡ probe.old }
     {
         match self.side(spot) {
             Ordering::Less => self.index.at_or_after(probe),
@@ -96,18 +85,19 @@ impl<'a> Member<'a> {
         }
     }
 
-    /// Its greatest hit before a spot.
-    pub(crate) fn before(&self, alloc: Global, spot: &Spot) -> Result<Option<Hit<'a>>, AllocError>
-        requires { IsKeyOf (parts_of self.now.index.now.spec) spot.now.key }
-        ensures { IfOk result (λ found. option_map shown found ≡ before_in (spot_hit spot.now) (seen self.now)) }
+    /// Its greatest hit before a spot. The condition is the same.
+    pub(crate) fn before(&self, probe: &mut Probe, spot: &Spot) -> Option<Hit<'a>>
+        requires { IsProbeOf self.now.index.now.spec spot.now.key probe.old }
+        ensures found { option_map shown result ≡ before_in (spot_hit spot.now) (seen self.now) }
+        ensures kept { probe.new ≡ probe.old }
     {
-        let mut probe = self.probe(alloc, &spot.key)?;
-        Ok(self.hit(&self.pair_before(&mut probe, spot)))
+        self.hit(&self.pair_before(probe, spot))
     }
 
     fn pair_before(&self, probe: &mut Probe, spot: &Spot) -> Option<(&'a Key, Uid)>
         requires { IsProbeOf self.now.index.now.spec spot.now.key probe.old }
-        ensures { option_map kept.shown result ≡ candidates.pair_before (spot_hit spot.now) (seen self.now) }
+        ensures found { option_map kept.shown result ≡ candidates.pair_before (spot_hit spot.now) (seen self.now) }
+        ensures kept { probe.new ≡ probe.old }
     {
         match self.side(spot) {
             Ordering::Less => self.index.before(probe, Uid(0)),
@@ -116,17 +106,12 @@ impl<'a> Member<'a> {
         }
     }
 
-    /// Its first hit whose key is not before the given one.
-    pub(crate) fn at_or_after(
-        &self,
-        alloc: Global,
-        key: &Key,
-    ) -> Result<Option<Hit<'a>>, AllocError>
-        requires { IsKeyOf (parts_of self.now.index.now.spec) key.now }
-        ensures { IfOk result (λ found. option_map shown found ≡ at_or_after_in key.now (seen self.now)) }
+    /// Its first hit whose key is not before the probe's.
+    pub(crate) fn at_or_after(&self, probe: &mut Probe) -> Option<Hit<'a>>
+        ensures found { (key : keys.Key) → IsProbeOf self.now.index.now.spec key probe.old → option_map shown result ≡ at_or_after_in key (seen self.now) }
+        ensures kept { probe.new ≡ probe.old }
     {
-        let mut probe = self.probe(alloc, key)?;
-        Ok(self.hit(&self.index.at_or_after(&mut probe)))
+        self.hit(&self.index.at_or_after(probe))
     }
 
     /// Compares two keys by its declaration.

@@ -5,6 +5,7 @@ pub mod Calls
 pub mod Answering
 pub mod Settings
 pub mod Shown
+pub mod Few
 pub mod Mounts
 pub mod Rows
 pub mod Resolving

@@ -1,5 +1,5 @@
 -- Stores that are mounted and unmounted.
-use Rattle.std.proofs.Common.{◌≡◌, refl, ap, sym, ◌∙◌, subst, ℕ, zero, suc, ◌<◌, List, [], ◌∷◌, ◌⊎◌, inl, inr, Bool, true, false, IsTrue, Option, Some, None, option_map, cond, unwrap_or, length, replicate, nat_le, get_or, ◌==◌}
+use Rattle.std.proofs.Common.{arith, ◌≤◌, ◌≡◌, refl, ap, sym, ◌∙◌, subst, ℕ, zero, suc, ◌<◌, List, [], ◌∷◌, ◌⊎◌, inl, inr, Bool, true, false, IsTrue, Option, Some, None, option_map, cond, unwrap_or, length, replicate, nat_le, get_or, ◌==◌}
 use Rattle.std.specs.Prelude.{slice_get, slice_set, is_some, Ok, Err}
 use Rattle.std.specs.List.{list_any}
 use Rattle.std.proofs.lemmas.Bool.{eq-eqb}
@@ -31,7 +31,8 @@ use Rattle.newt_units.specs.declared.units.Units.{Units}
 use Rattle.newt_units.specs.Answers.{Answers}
 use Rattle.newt_units.specs.Faces.{Admits, Opens, beside_checks, card_face, card_faces, default_after, with_card}
 use Rattle.newt_units.specs.Looks.{has_device, attached_in, IsFree}
-use Rattle.newt_units.specs.Stands.{card_of, card_at, mounted_in, world_of, Stands, Eight}
+use Rattle.newt_units.specs.Stands.{card_of, card_at, card_count, mounted_in, world_of, Stands, Eight}
+use Rattle.newt_units.proofs.Few.{count-put, count-taken, few-admitted}
 use Rattle.newt_units.proofs.Known.{Laws, ready-known}
 use Rattle.newt_units.proofs.Shown.{any-first, face-some, faces-known, position-passes}
 use Rattle.newt_units.proofs.Turns.{world-still}
@@ -97,10 +98,11 @@ module _ {C : Type 0} (units later : Units C) (u : ℕ) (card : Option C) (is : 
   mark-here slot at = ap (λ slots. mounted_in slots u) is ∙ ap (λ x. is_some (card_of x)) (get-same units.slots.items u card ∙ ap (option_map (with card)) at)
 
   module _ (place : C → ℕ) (stands : Bool → C → Outside → Type 0) (told : Bool) (o : Outside) (there : (c : C) → card ≡ Some c → stands told c o × (place c ≡ u))
-      (default : (v : ℕ) → later.default ≡ Some v → mounted_in later.slots.items v ≡ true) (s : Stands place stands told units o) where
+      (default : (v : ℕ) → later.default ≡ Some v → mounted_in later.slots.items v ≡ true) (few : card_count (with_card u card units.slots.items) ≤ 4) (s : Stands place stands told units o) where
     pub stands-with : Stands place stands told later o
     stands-with = record {
       eight = ap length is ∙ same-length units.slots.items u card ∙ s.eight;
+      few = subst (λ slots. card_count slots ≤ 4) (sym is) few;
       attached = λ j slot h. attached j slot h (same-or-not j u);
       cards = λ j c h. cards j c h (same-or-not j u);
       default = default;
@@ -167,10 +169,11 @@ module _ (w : World) (u blocks : ℕ) (s : Store) (ready : IsReady w u blocks (o
 module _ {C : Type 0} {reads : List ℕ → Option Store} {place : C → ℕ} {soups : C → Store} {stands : Bool → C → Outside → Type 0} (l : Laws reads place soups stands) (units : Units C) (u : ℕ) (card : C) where
   -- the units with the card that was opened
   pub mounted-stands : (told : Bool) (p : Outside) (later : Units C) → later.slots.items ≡ with_card u (Some card) units.slots.items → later.default ≡ Some (unwrap_or units.default u) → attached_in units.slots.items u ≡ true
-      → stands told card p → place card ≡ u → Stands place stands told units p → Stands place stands told later p
-  mounted-stands told p later is default attached there at s = stands-with units later u (Some card) is place stands told p
+      → (sig : ℕ) → first_of (beside_checks (card_faces soups units.slots.items) sig) ≡ None → stands told card p → place card ≡ u → Stands place stands told units p → Stands place stands told later p
+  mounted-stands told p later is default attached sig admitted there at s = stands-with units later u (Some card) is place stands told p
       (λ c h. subst (λ x. stands told x p × (place x ≡ u)) (same-card card c h) (there, at))
-      (λ v h. marked v (same-or-not v u) (go units.default refl v (sym default ∙ h))) s
+      (λ v h. marked v (same-or-not v u) (go units.default refl v (sym default ∙ h)))
+      (let a = few-admitted soups units.slots.items s.eight sig admitted in let b = count-put units.slots.items u card in omega (arith, a, b)) s
     where
       same-card : (a b : C) → Some a ≡ Some b → a ≡ b
       same-card a b h = some-same a b h
@@ -266,7 +269,8 @@ module _ {C : Type 0} (soups : C → Store) (units later : Units C) (u : ℕ) (i
       go (Some x) e k = test x e (u == x) refl k
 
   pub unmounted-stands : (place : C → ℕ) (stands : Bool → C → Outside → Type 0) (told : Bool) (o : Outside) → Stands place stands told units o → Stands place stands told later o
-  unmounted-stands place stands told o s = stands-with units later u None is place stands told o (λ c h. absurd (none-some c h)) (default-mounted s.default) s
+  unmounted-stands place stands told o s = stands-with units later u None is place stands told o (λ c h. absurd (none-some c h)) (default-mounted s.default)
+      (let a = count-taken units.slots.items u in let b = s.few in omega (arith, a, b)) s
 
   pub unmount-answers : {reads : List ℕ → Option Store} {place : C → ℕ} {stands : Bool → C → Outside → Type 0} → Laws reads place soups stands → (o : Outside) → Eight o → Stands place stands true units o
       → (blocks : ℕ) (s : Store) → OnUnit (world_of reads units o) u blocks s → mounted_in units.slots.items u ≡ true → later.minute ≡ units.minute

@@ -1,5 +1,5 @@
 -- The cards of the units, where one is another.
-use Rattle.std.proofs.Common.{◌≡◌, refl, ap, sym, ◌∙◌, subst, ℕ, zero, suc, List, [], ◌∷◌, ◌⊎◌, inl, inr, Bool, true, false, IsTrue, Some, None, map, take, length, length-set}
+use Rattle.std.proofs.Common.{arith, ◌≤◌, ◌≡◌, refl, ap, sym, ◌∙◌, subst, ℕ, zero, suc, List, [], ◌∷◌, ◌⊎◌, inl, inr, Bool, true, false, IsTrue, Some, None, map, take, length, length-set}
 use Rattle.std.specs.Prelude.{slice_get, slice_set, is_some, IsSome}
 use Rattle.newt_host.specs.Moments.{changes, IsDurable, LeftBy, bytes_after}
 use Rattle.newt_host.specs.Outside.{Outside, SameCards}
@@ -8,7 +8,8 @@ use Rattle.newt_laws.proofs.Units.{same-or-not}
 use Rattle.newt_pagebook.specs.Book.{IsSameFor}
 use Rattle.newt_units.specs.declared.units.Slot.{Slot}
 use Rattle.newt_units.specs.declared.units.Units.{Units}
-use Rattle.newt_units.specs.Stands.{card_of, card_at, mounted_in, unmounted, Stands}
+use Rattle.newt_units.specs.Stands.{card_of, card_at, card_count, mounted_in, unmounted, Stands}
+use Rattle.newt_units.proofs.Few.{count-replaced, count-unmounted}
 
 -- ---- lists
 
@@ -75,6 +76,7 @@ module _ {C : Type 0} (place : C → ℕ) (stands : Bool → C → Outside → T
   pub stands-still : (told : Bool) (units : Units C) (o p : Outside) → SameCards o p → (IsTrue told → (j : ℕ) → changes j p.now ≡ changes j o.now) → Stands place stands told units o → Stands place stands told units p
   stands-still told units o p cards same s = record {
     eight = s.eight;
+    few = s.few;
     attached = λ u slot h. s.attached u slot h ∙ ap is_some (sym (cards.card u));
     cards = λ u c h. let was = s.cards u c h in (kept told c o p was.0 (record { card = cards.card (place c); blocks = cards.blocks (place c); changes = λ t. same t (place c) }), was.1);
     default = s.default;
@@ -86,6 +88,7 @@ module _ {C : Type 0} (place : C → ℕ) (stands : Bool → C → Outside → T
       → mounted_in units.slots.items u ≡ false → (IsTrue told → IsDurable u p.now) → Stands place stands told units o → Stands place stands told units p
   stands-beside told units u o p cards others free there s = record {
     eight = s.eight;
+    few = s.few;
     attached = λ j slot h. s.attached j slot h ∙ ap is_some (sym (cards.card j));
     cards = λ j c h. let was = s.cards j c h in (
       kept told c o p was.0 (record {
@@ -111,6 +114,7 @@ module _ {C : Type 0} (place : C → ℕ) (stands : Bool → C → Outside → T
       → (IsTrue told → (j : ℕ) → (j ≡ u → ⊥) → changes j p.now ≡ changes j o.now) → stands told next p → place next ≡ u → Stands place stands told units o → Stands place stands told later p
   stands-replaced told units later u card next o p r cards others there on s = record {
     eight = ap length r.is ∙ length-set units.slots.items u _ ∙ s.eight;
+    few = subst (λ n. n ≤ 4) (sym (ap card_count r.is ∙ count-replaced units.slots.items u r.slot card next r.slot.attached r.at r.was)) s.few;
     attached = attached-same units later u card next r (λ j b. b ≡ is_some (p.card j)) (λ j slot h. s.attached j slot h ∙ ap is_some (sym (cards.card j)));
     cards = λ j c h. at j c h (same-or-not j u);
     default = λ j h. marks units later u card next r j ∙ s.default j (sym r.default ∙ h);
@@ -164,6 +168,7 @@ module _ {C : Type 0} (units : Units C) (xs : List Bool) (items : units.slots.it
       → (IsTrue told → (u : ℕ) → IsSome (o.card u) → IsDurable u o.now) → Stands place stands told units o
   fresh-stands place stands told o known durable = record {
     eight = size;
+    few = subst (λ n. n ≤ 4) (sym (ap card_count items ∙ count-unmounted C xs)) (omega arith);
     attached = λ u slot h. fresh-attached (λ u b. b ≡ is_some (o.card u)) xs known u slot (sym (ap (λ slots. slice_get slots u) items) ∙ h);
     cards = λ u card h. absurd (none-some card (sym (no-card u) ∙ h));
     default = λ u h. absurd (none-some u (sym default ∙ h));

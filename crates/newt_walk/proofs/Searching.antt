@@ -21,10 +21,11 @@ use Rattle.newt_laws_images.proofs.Chosen.{find-passes}
 use Rattle.newt_laws_hits.proofs.Agreeing.{kind-same, direction-same}
 use Rattle.newt_index.specs.Pairs.{Pair, IsPair, IsSorted, Sorted, parts_of}
 use Rattle.newt_index.specs.Range.{range_of}
+use Rattle.newt_index.specs.Kept.{IsProbeOf}
 use Rattle.newt_ranges.specs.Range.{range_in, range_of_soup}
-use Rattle.newt_union.specs.Merged.{Member, hit, hits_of, merged, Agree, AllAgree, IsKeyIn, at_or_after}
+use Rattle.newt_union.specs.Merged.{Member, hit, hits_of, merged, Agree, AllAgree, IsProbeIn, at_or_after}
 use Rattle.newt_union.specs.Seen.{AreSorted}
-use Rattle.newt_union.proofs.Orders.{same_keys}
+use Rattle.newt_union.proofs.Orders.{same_bytes, same_keys}
 use Rattle.newt_laws_answers.specs.WorldAt.{device_at}
 use Rattle.newt_laws_hits.specs.Taking.{declared, member_of, members_of}
 use Rattle.newt_laws_hits.proofs.Cuts.{first-among, last-among}
@@ -141,20 +142,30 @@ module _ (index : IndexSpec) (ms : List Member) (are : AreMembers index ms) (fou
   pub at-key : (key : Key) → option_map spot_hit found ≡ at_or_after index ms key → IfSome found (λ spot. IsKeyOf index spot.key)
   at-key key e = spot-key index found (at_or_after index ms key) e (λ h k. merged-key index ms are h (among-filter _ (merged index ms) h (first-among _ h k)).0)
 
--- a key of the index is one of each member
-abbrev OneKey : Key → Member → Type 0
-OneKey key m = IsKeyOf (parts_of m.range.spec) key
+-- bytes of a key of the index are those of a key of each member
+abbrev OneProbe : Key → List ℕ → Member → Type 0
+OneProbe key bytes m = IsProbeOf m.range.spec key bytes
 
-key-in : (index : IndexSpec) (key : Key) (ms : List Member) → AllAgree index ms → IsKeyOf index key → IsKeyIn ms key
-key-in index key [] a k = All-nil (OneKey key)
-key-in index key (m ∷ ms) a k =
-    All-cons (OneKey key) m ms (same_keys (parts_of m.range.spec) index (agree-back index (parts_of m.range.spec) (All-head (OneAgrees index) m ms a)) key k)
-    (key-in index key ms (All-tail (OneAgrees index) m ms a) k)
+declared-probe : (index : IndexSpec) (key : Key) (bytes : List ℕ) → IsProbeOf (declared index) key bytes → IsProbeOf (Some index) key bytes
+declared-probe [] key bytes p = record { is_key = p.is_key; same = p.same }
+declared-probe (i ∷ index) key bytes p = p
 
-pub members-key-in : (index : IndexSpec) (key : Key) (ms : List Member) → AreMembers index ms → IsKeyOf index key → IsKeyIn ms key
-members-key-in index key ms are k = key-in index key ms are.agree k
+probe-in : (index : IndexSpec) (key : Key) (bytes : List ℕ) (ms : List Member) → AllAgree index ms → IsProbeOf (Some index) key bytes → IsProbeIn ms key bytes
+probe-in index key bytes [] a p = All-nil (OneProbe key bytes)
+probe-in index key bytes (m ∷ ms) a p =
+    let agree = All-head (OneAgrees index) m ms a in
+    All-cons (OneProbe key bytes) m ms
+    (record { is_key = same_keys (parts_of m.range.spec) index (agree-back index (parts_of m.range.spec) agree) key p.is_key; same = p.same ∙ same_bytes index (parts_of m.range.spec) agree key })
+    (probe-in index key bytes ms (All-tail (OneAgrees index) m ms a) p)
 
--- ---- one member after another
+pub members-probe-in : (index : IndexSpec) (key : Key) (bytes : List ℕ) (ms : List Member) → AreMembers index ms → IsProbeOf (declared index) key bytes → IsProbeIn ms key bytes
+members-probe-in index key bytes ms are p = probe-in index key bytes ms are.agree (declared-probe index key bytes p)
+
+-- without an index the one key is empty
+pub empty-key : (index : IndexSpec) (key : Key) → None ≡ declared index → IsKeyOf index key → [] ≡ key
+empty-key [] [] e k = refl
+empty-key [] (x ∷ key) e k = absurd k.0
+empty-key (i ∷ index) key e k = absurd (none-some (i ∷ index) e)
 
 pub no-members : (index : IndexSpec) → AreMembers index []
 no-members index = record { agree = All-nil (OneAgrees index); sorted = All-nil OneSorted }

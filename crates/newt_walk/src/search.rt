@@ -3,12 +3,13 @@ ghost use Rattle.std.specs.Prelude.{◌≡◌, true, option_map, option_and_then
 ghost use Rattle.newt_host.specs.Outside.{Outside};
 ghost use Rattle.newt_keys.specs.KeyForm.{IsKeyOf};
 ghost use Rattle.newt_index.specs.Pairs.{IsSorted, parts_of};
+ghost use Rattle.newt_index.specs.Kept.{IsProbeOf};
 ghost use Rattle.newt_cursor.specs.Seen.{query_of};
 ghost use Rattle.newt_spec_world.specs.World.{mounted_store, mounted_stores};
 ghost use Rattle.newt_union.specs.Merged.{Agree, merged, at_or_after};
 ghost use Rattle.newt_union.specs.Seen.{shown};
-ghost use Rattle.newt_laws_hits.specs.Taking.{members_of};
-ghost use Rattle.newt_units.specs.Stands.{Eight, Stands, world_of};
+ghost use Rattle.newt_laws_hits.specs.Taking.{declared, members_of};
+ghost use Rattle.newt_units.specs.Stands.{AreFew, Eight, Stands, mounted_in, world_of};
 ghost use Rattle.newt_index.specs.Spots.{spot_hit};
 ghost use Rattle.newt_walk.specs.Searched.{AreMembers, agrees, member_in, seen_member};
 ghost use Rattle.newt_walk.specs.Ways.{met, beyond};
@@ -19,11 +20,11 @@ use newt_base::Sig;
 use newt_cardstore::Card;
 use newt_cursor::Query;
 use newt_host::{UNITS, Unit};
-use newt_index::{Index, Spot};
+use newt_index::{Index, Probe, Spot};
 use newt_keys::{IndexSpec, Key};
 use newt_union::{Hit, Members};
 use newt_units::Units;
-use std::alloc::AllocError;
+use std::alloc::{AllocError, Global};
 
 /// The hit that a way meets first.
 pub(crate) fn outermost<C: Card>(
@@ -31,11 +32,12 @@ pub(crate) fn outermost<C: Card>(
     query: &Query,
     way: Way,
 ) -> Result<Option<Spot>, AllocError>
+    requires { AreFew units.now }
     ensures key { IfOk result (λ found. IfSome found (λ spot. IsKeyOf query.now.spec.index spot.key)) }
     ensures found { (outside : Outside) → Eight outside → Stands C.place C.stands true units.now outside → let q = query_of query.now in
         IfOk result (λ found. option_map spot_hit found ≡ met way (merged q.spec.index (members_of (mounted_stores (world_of C.reads units.now outside)) q))) }
 {
-    let members = members(units, query)?;
+    let members = members(units, query);
     match way {
         Way::On => owned(&members.first()),
         Way::Back => owned(&members.last()),
@@ -49,21 +51,17 @@ pub(crate) fn beyond<C: Card>(
     way: Way,
     spot: &Spot,
 ) -> Result<Option<Spot>, AllocError>
-    requires { IsKeyOf query.now.spec.index spot.now.key }
+    requires few { AreFew units.now }
+    requires key { IsKeyOf query.now.spec.index spot.now.key }
     ensures key { IfOk result (λ found. IfSome found (λ spot. IsKeyOf query.now.spec.index spot.key)) }
     ensures found { (outside : Outside) → Eight outside → Stands C.place C.stands true units.now outside → let q = query_of query.now in
         IfOk result (λ found. option_map spot_hit found ≡ beyond way q.spec.index (members_of (mounted_stores (world_of C.reads units.now outside)) q) (spot_hit spot.now)) }
 {
-    let members = members(units, query)?;
+    let mut probe = probe_of(units.alloc(), query, &spot.key)?;
+    let members = members(units, query);
     match way {
-        Way::On => match members.after(spot) {
-            Ok(found) => owned(&found),
-            Err(error) => Err(error),
-        },
-        Way::Back => match members.before(spot) {
-            Ok(found) => owned(&found),
-            Err(error) => Err(error),
-        },
+        Way::On => owned(&members.after(&mut probe, spot)),
+        Way::Back => owned(&members.before(&mut probe, spot)),
     }
 }
 
@@ -73,31 +71,42 @@ pub(crate) fn at_or_after<C: Card>(
     query: &Query,
     key: &Key,
 ) -> Result<Option<Spot>, AllocError>
-    requires { IsKeyOf query.now.spec.index key.now }
+    requires few { AreFew units.now }
+    requires key { IsKeyOf query.now.spec.index key.now }
     ensures key { IfOk result (λ found. IfSome found (λ spot. IsKeyOf query.now.spec.index spot.key)) }
     ensures found { (outside : Outside) → Eight outside → Stands C.place C.stands true units.now outside → let q = query_of query.now in
         IfOk result (λ found. option_map spot_hit found ≡ at_or_after q.spec.index (members_of (mounted_stores (world_of C.reads units.now outside)) q) key.now) }
 {
-    let members = members(units, query)?;
-    match members.at_or_after(key) {
-        Ok(found) => owned(&found),
-        Err(error) => Err(error),
+    let mut probe = probe_of(units.alloc(), query, key)?;
+    let members = members(units, query);
+    owned(&members.at_or_after(&mut probe))
+}
+
+/// The bytes of a key of the query's index at hand, for one search of all the members.
+fn probe_of(alloc: Global, query: &Query, key: &Key) -> Result<Probe, AllocError>
+    requires { IsKeyOf query.now.spec.index key.now }
+    ensures { IfOk result (λ probe. IsProbeOf (declared query.now.spec.index) key.now probe) }
+{
+    match index_of(query) {
+        Some(spec) => Probe::new(alloc, key, spec),
+        None => Ok(Probe::empty(alloc)),
     }
 }
 
-/// The soups that take part in a query, with their ranges, in order of the units.
-fn members<'a, C: Card>(units: &'a Units<C>, query: &Query) -> Result<Members<'a>, AllocError>
-    ensures are { IfOk result (λ members. AreMembers query.now.spec.index members) }
+/// The soups that take part in a query, with their ranges, in order of the units. It takes no memory.
+fn members<'a, C: Card>(units: &'a Units<C>, query: &Query) -> Members<'a>
+    requires { AreFew units.now }
+    ensures are { AreMembers query.now.spec.index result }
     ensures all { (outside : Outside) → Eight outside → Stands C.place C.stands true units.now outside →
-        IfOk result (λ members. members ≡ members_of (mounted_stores (world_of C.reads units.now outside)) (query_of query.now)) }
+        result ≡ members_of (mounted_stores (world_of C.reads units.now outside)) (query_of query.now) }
 {
-    let mut members = Members::new(units.alloc());
+    let mut members = Members::new();
     for number in 0..UNITS {
         if let Some(member) = member_on(units, Unit(number), query) {
-            members.add(member.0, member.1, member.2)?;
+            members.add(member.0, member.1, member.2);
         }
     }
-    Ok(members)
+    members
 }
 
 /// The soup that takes part of the store that is mounted on a unit: the signatures of the store and the soup, and its range.
@@ -106,6 +115,7 @@ fn member_on<'a, C: Card>(
     unit: Unit,
     query: &Query,
 ) -> Option<(Sig, Sig, &'a Index)>
+    ensures mounted { IfSome result (λ _. mounted_in units.now.slots.items unit ≡ true) }
     ensures sorted { IfSome result (λ member. IsSorted member.2.now × Agree query.now.spec.index (parts_of member.2.now.spec)) }
     ensures found { (outside : Outside) → Eight outside → Stands C.place C.stands true units.now outside →
         option_map seen_member result ≡ option_and_then (member_in (query_of query.now)) (mounted_store (world_of C.reads units.now outside) unit) }

@@ -4,6 +4,8 @@
 #![tactic(auto)]
 
 #[cfg(test)]
+mod four;
+#[cfg(test)]
 mod more;
 #[cfg(test)]
 mod walks;

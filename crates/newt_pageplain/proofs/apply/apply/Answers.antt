@@ -2,8 +2,8 @@ use Rattle.std.proofs.Common.{◌≡◌, ℕ, ◌+◌, List, length, take, sym, 
 use Rattle.std.specs.FinMap as map
 use Rattle.std.proofs.lemmas.List.{take_all}
 use Rattle.newt_image.specs.Pages.{Pages, with_puts, without_numbers}
-use Rattle.newt_pageplain.specs.Kept.{page_in, map_of, get_map}
-use Rattle.newt_pageplain.proofs.Maps.{put-step, delete-step, map_is}
+use Rattle.newt_pagelog.specs.Kept.{page_in, map_of, get_map}
+use Rattle.newt_pagelog.proofs.Maps.{put-step, delete-step, map_is}
 use Rattle.newt_pageplain.proofs.apply.apply.Goals as goal
 
 pub loop-put-init : goal.loop-put-init

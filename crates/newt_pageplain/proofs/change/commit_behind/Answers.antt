@@ -9,9 +9,9 @@ use Rattle.newt_image.specs.Pages.{Pages, Change, pages, after, change_in, writt
 use Rattle.newt_journal.specs.Journal.{ReadsAsEither, appended}
 use Rattle.newt_pagebook.specs.Batch.{IsBatch}
 use Rattle.newt_pagebook.specs.Book.{IsBeforeOrAfter, ReadsChanged, batch_bytes}
-use Rattle.newt_pageplain.specs.Kept.{Entries, AreSound, map_of, is_kept, needed}
-use Rattle.newt_pageplain.proofs.Spelling.{written-says, fewer_deletes}
-use Rattle.newt_pageplain.proofs.Changing.{read-appended, read-same, needed-after, sound-after, live-after, few_kept, fewer, cap-few, room-few}
+use Rattle.newt_pagelog.specs.Kept.{Entries, AreSound, map_of, is_kept, needed}
+use Rattle.newt_pagelog.proofs.Spelling.{written-says, fewer_deletes}
+use Rattle.newt_pagelog.proofs.Changing.{read-appended, read-same, needed-after, sound-after, live-after, few_kept, fewer, cap-few, room-few}
 use Rattle.newt_pageplain.proofs.change.commit_behind.Goals as goal
 
 -- with a record more the pages are those after the batch

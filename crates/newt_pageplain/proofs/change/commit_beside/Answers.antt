@@ -11,9 +11,9 @@ use Rattle.newt_image.specs.Pages.{Pages, Change, pages, after, cap, change_in, 
 use Rattle.newt_journal.specs.Journal.{ReadsAsEither}
 use Rattle.newt_pagebook.specs.Batch.{IsBatch}
 use Rattle.newt_pagebook.specs.Book.{IsBeforeOrAfter, ReadsChanged, changed_numbers}
-use Rattle.newt_pageplain.specs.Kept.{Entries, AreSound, map_of, numbers_in, all_of}
-use Rattle.newt_pageplain.proofs.Spelling.{written-says}
-use Rattle.newt_pageplain.proofs.Changing.{read-alone, read-same, all-after, all_is_batch, sound-after, live-after, cap-few, cap-fits}
+use Rattle.newt_pagelog.specs.Kept.{Entries, AreSound, map_of, numbers_in, all_of}
+use Rattle.newt_pagelog.proofs.Spelling.{written-says}
+use Rattle.newt_pagelog.proofs.Changing.{read-alone, read-same, all-after, all_is_batch, sound-after, live-after, cap-few, cap-fits}
 use Rattle.newt_pageplain.proofs.change.commit_beside.Goals as goal
 
 -- once all pages after a batch are the one record, the pages are those after the batch

@@ -1,9 +1,9 @@
 use Rattle.std.proofs.Common.{ℕ, List, length, ap, arith}
 use Rattle.std.specs.List.{filter}
 use Rattle.newt_host.specs.Moments.{image}
-use Rattle.newt_pageplain.specs.Kept.{is_kept}
-use Rattle.newt_pageplain.proofs.Changing.{few_kept, few_puts, fewer}
-use Rattle.newt_pageplain.proofs.Failing.{on-ok}
+use Rattle.newt_pagelog.specs.Kept.{is_kept}
+use Rattle.newt_pagelog.proofs.Changing.{few_kept, few_puts, fewer}
+use Rattle.newt_pagelog.proofs.Failing.{on-ok}
 use Rattle.newt_pageplain.proofs.change.commit_with.Goals as goal
 
 pub overflow_mul-len-2 : goal.overflow_mul-len-2

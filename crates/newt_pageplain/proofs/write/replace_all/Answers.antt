@@ -4,11 +4,11 @@ use Rattle.newt_host.proofs.Outside.{Touches-append}
 use Rattle.newt_image.specs.Records.{records}
 use Rattle.newt_image.specs.Pages.{written_change}
 use Rattle.newt_journal.specs.Draft.{unit_of}
-use Rattle.newt_pageplain.specs.Kept.{all_of}
-use Rattle.newt_pageplain.proofs.Committing.{two-leaves, written-draft, first-either, finish-leaves, finish-records, finish-open, touches-on}
+use Rattle.newt_pagelog.specs.Kept.{all_of}
+use Rattle.newt_pagelog.proofs.Committing.{two-leaves, written-draft, first-either, finish-leaves, finish-records, finish-open, touches-on}
 use Rattle.newt_journal.specs.declared.journal.Journal.{Journal}
 use Rattle.std.proofs.Common.{Some}
-use Rattle.newt_pageplain.proofs.Stepping.{put-keeps}
+use Rattle.newt_pagelog.proofs.Stepping.{put-keeps}
 use Rattle.newt_pageplain.proofs.write.replace_all.Goals as goal
 
 pub returns-in_err-repair-clause-any_moment : goal.returns-in_err-repair-clause-any_moment

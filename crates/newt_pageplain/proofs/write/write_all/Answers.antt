@@ -3,8 +3,8 @@ use Rattle.std.specs.Int.{to_be_bytes, w16}
 use Rattle.std.specs.List.{flat_map}
 use Rattle.newt_image.specs.Pages.{written_put, written_change}
 use Rattle.newt_journal.specs.Draft.{unit_of}
-use Rattle.newt_pageplain.specs.Kept.{all_of}
-use Rattle.newt_pageplain.proofs.Stepping.{step, keeps-two, keeps-widen, keeps-on, written-all}
+use Rattle.newt_pagelog.specs.Kept.{all_of}
+use Rattle.newt_pagelog.proofs.Stepping.{step, keeps-two, keeps-widen, keeps-on, written-all}
 use Rattle.newt_pageplain.proofs.write.write_all.Goals as goal
 
 pub returns-in_err-write_counts-clause-keeps : goal.returns-in_err-write_counts-clause-keeps

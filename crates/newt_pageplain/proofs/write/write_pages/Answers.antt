@@ -4,9 +4,9 @@ use Rattle.std.proofs.lemmas.List.{map-append}
 use Rattle.std.specs.Map.Iter.{deref_pair}
 use Rattle.newt_image.specs.Pages.{written_put}
 use Rattle.newt_journal.specs.Draft.{unit_of}
-use Rattle.newt_pageplain.proofs.Stepping.{keeps-start, keeps-two, keeps-widen, keeps-on, writes-none, writes-same, flat-push, step, written-size}
+use Rattle.newt_pagelog.proofs.Stepping.{keeps-start, keeps-two, keeps-widen, keeps-on, writes-none, writes-same, flat-push, step, written-size}
 use Rattle.std.proofs.lemmas.Map.Iter.{iter_turn, iter_end}
-use Rattle.newt_pageplain.specs.Kept.{Entries}
+use Rattle.newt_pagelog.specs.Kept.{Entries}
 use Rattle.newt_pageplain.proofs.write.write_pages.Goals as goal
 
 pub loop-number-init : goal.loop-number-init

@@ -3,7 +3,7 @@ use Rattle.std.specs.List.{flat_map}
 use Rattle.std.specs.Map.Iter.{deref_pair}
 use Rattle.newt_image.specs.Pages.{written_put}
 use Rattle.newt_journal.specs.Draft.{unit_of, put_of}
-use Rattle.newt_pageplain.specs.Steps.{Keeps, WritesMore}
+use Rattle.newt_pagelog.specs.Steps.{Keeps, WritesMore}
 use Rattle.newt_pageplain.proofs.write.write_pages.Given as goal
 
 abbrev pub invariant-loop-number : goal.invariant-loop-number

@@ -1,8 +1,8 @@
 use Rattle.std.proofs.Common.{◌≡◌, fold, map, take, None}
 use Rattle.std.specs.Prelude.{option_map}
 use Rattle.newt_union.specs.Candidates.{last_in, with_greater}
-use Rattle.newt_union.specs.Seen.{shown, seen}
+use Rattle.newt_union.specs.Seen.{shown, seen_place}
 use Rattle.newt_union.proofs.searches.last_of.Given as goal
 
-abbrev pub invariant-loop-member : goal.invariant-loop-member
-invariant-loop-member l = option_map shown l.greatest ≡ fold (with_greater last_in) None (map seen (take l.member-index l.members))
+abbrev pub invariant-loop-place : goal.invariant-loop-place
+invariant-loop-place l = option_map shown l.greatest ≡ fold (with_greater last_in) None (map seen_place (take l.place-index l.places))

@@ -1,29 +1,42 @@
 -- One unit after another.
-use Rattle.std.proofs.Common.{arith, ◌∙◌, ap, sym, subst, List, ◌++◌, ◌+◌, drop}
+use Rattle.std.proofs.Common.{arith, ◌∙◌, ap, sym, subst, List, [], ◌∷◌, ◌++◌, ◌+◌, ◌≤◌, drop, length}
 use Rattle.std.specs.Prelude.{filter_map}
 use Rattle.newt_cursor.specs.Seen.{query_of}
 use Rattle.newt_spec_world.specs.First.{unit_numbers}
 use Rattle.newt_union.specs.Merged.{Member}
-use Rattle.newt_units.specs.Stands.{world_of}
+use Rattle.std.proofs.lemmas.List.{length-append}
+use Rattle.newt_units.specs.Stands.{card_count, world_of}
+use Rattle.newt_units.proofs.Few.{ahead-less, ahead-some}
 use Rattle.newt_units.proofs.Known.{Laws}
 use Rattle.newt_walk.specs.Searched.{AreMembers, seen_member}
 use Rattle.newt_walk.proofs.Searching.{unit_member, no-members, one-member, member-none, member-more, members-all, unit-members}
 use Rattle.newt_walk.proofs.search.members.Goals as goal
-use Rattle.newt_walk.proofs.search.members.Goals.{in-Some+in_ok-add, in_default}
+use Rattle.newt_walk.proofs.search.members.Goals.{in-Some, in_default}
 
 pub loop-number-init : goal.loop-number-init
 loop-number-init g c = record {
+  few = subst (λ (ms : List Member). length ms + card_count c.args.units.now.slots.items ≤ 4) (sym c.new-members.ensures) (let few = c.requires in omega (arith, few));
   are = subst (AreMembers c.args.query.now.spec.index) (sym c.new-members.ensures) (no-members c.args.query.now.spec.index);
   all = λ outside eight stands.
       ap (λ (ms : List Member). ms ++ filter_map (unit_member (query_of c.args.query.now) (world_of g.C.Card.reads c.args.units.now outside)) unit_numbers) c.new-members.ensures;
 }
 
+pub add-requires : goal.add-requires
+add-requires g c =
+    let here = ahead-some c.args.units.now.slots.items c.loop-number.number c.in-Some.ensures.mounted in
+    let few = c.loop-number.invariant.few in
+    omega (arith, few, here)
+
 pub loop-number-preserved : goal.loop-number-preserved
 loop-number-preserved g c = elim c.match-member_on.branch [
-  | in-Some+in_ok-add w ↦
+  | in-Some w ↦
       let m : Member = seen_member w.in-Some.member in
-      let is = w.members-is ∙ w.in_ok-add.ensures.ok in
+      let is = w.members-is ∙ w.add.ensures in
       record {
+        few =
+            let here = ahead-some c.args.units.now.slots.items c.loop-number.number w.in-Some.ensures.mounted in
+            subst (λ (ms : List Member). length ms + card_count (drop (c.loop-number.number + 1) c.args.units.now.slots.items) ≤ 4) (sym is)
+            (let more = length-append c.loop-number.members (m ∷ []) in let few = c.loop-number.invariant.few in omega (arith, few, here, more));
         are = subst (AreMembers c.args.query.now.spec.index) (sym is)
             (one-member c.args.query.now.spec.index c.loop-number.members m c.loop-number.invariant.are w.in-Some.ensures.sorted.1 w.in-Some.ensures.sorted.0);
         all = λ outside eight stands.
@@ -33,6 +46,9 @@ loop-number-preserved g c = elim c.match-member_on.branch [
             (sym (w.in-Some.ensures.found outside eight stands));
       }
   | in_default w ↦ record {
+    few =
+        subst (λ (ms : List Member). length ms + card_count (drop (c.loop-number.number + 1) c.args.units.now.slots.items) ≤ 4) (sym w.members-is)
+        (let less = ahead-less c.args.units.now.slots.items c.loop-number.number in let few = c.loop-number.invariant.few in omega (arith, few, less));
     are = subst (AreMembers c.args.query.now.spec.index) (sym w.members-is) c.loop-number.invariant.are;
     all = λ outside eight stands.
         let f = unit_member (query_of c.args.query.now) (world_of g.C.Card.reads c.args.units.now outside) in

@@ -70,8 +70,8 @@ returns-then-branch-clause-walked g c t apart =
     sym (c.steps.invariant.walked t apart ∙ ap (λ (o : Option Spot). comes_to w q c.args.way (option_map spot_hit o)) c.in-Some.is
     ∙ passed-goal w q apart (stores-formed laws c.args.units.now o eight stand) c.args.way (spot_hit c.in-Some.spot) kept)
 
-pub beyond-requires : goal.beyond-requires
-beyond-requires g c = subst (λ (o : Option Spot). IfSome o (λ spot. IsKeyOf c.args.query.now.spec.index spot.key)) c.in-Some.is c.steps.invariant.key
+pub beyond-requires-clause-key : goal.beyond-requires-clause-key
+beyond-requires-clause-key g c = subst (λ (o : Option Spot). IfSome o (λ spot. IsKeyOf c.args.query.now.spec.index spot.key)) c.in-Some.is c.steps.invariant.key
 
 pub returns-in_err-found-clause-read : goal.returns-in_err-found-clause-read
 returns-in_err-found-clause-read g c = read-then c.steps.invariant.read c.keeps.ensures.read

@@ -11,8 +11,8 @@ use Rattle.newt_pagebook.specs.declared.book.CommitFault.{CommitFault}
 use Rattle.newt_pagebook.specs.declared.book.CommitFault.TheVariants.{Full, Device}
 use Rattle.newt_pagebook.proofs.Tests.{some_inj}
 use Rattle.newt_pageplain.specs.Plain.{tells_with}
-use Rattle.newt_pageplain.proofs.Failing.{not-err, more-named, not-more, spent-nothing}
-use Rattle.newt_pageplain.proofs.Counts.{numbers-after}
+use Rattle.newt_pagelog.proofs.Failing.{not-err, more-named, not-more, spent-nothing}
+use Rattle.newt_pagelog.proofs.Counts.{numbers-after}
 use Rattle.newt_pageplain.proofs.book.PlainBookPageBook.commit.Goals as goal
 
 full-not-device : {T : Type 0} (r : Result T CommitFault) → r ≡ Err Full → r ≡ Err Device → ⊥

@@ -1,5 +1,5 @@
 use Rattle.std.proofs.Common.{sym, ◌∙◌}
-use Rattle.newt_pageplain.proofs.Counts.{live-is}
+use Rattle.newt_pagelog.proofs.Counts.{live-is}
 use Rattle.newt_pageplain.proofs.book.PlainBookPageBook.live.Goals as goal
 
 pub returns : goal.returns

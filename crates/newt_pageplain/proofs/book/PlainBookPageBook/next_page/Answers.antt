@@ -1,7 +1,7 @@
 use Rattle.std.proofs.Common.{◌≡◌, ℕ, ◌≤◌, ◌<◌, true, false, sym, ◌∙◌, subst, arith}
 use Rattle.std.specs.FinSet as set
 use Rattle.newt_pagebook.proofs.Tests.{some_inj}
-use Rattle.newt_pageplain.specs.Kept.{Entries, numbers_in, is_kept, kept_number, small_with}
+use Rattle.newt_pagelog.specs.Kept.{Entries, numbers_in, is_kept, kept_number, small_with}
 use Rattle.newt_pageplain.proofs.book.PlainBookPageBook.next_page.Goals as goal
 
 not_kept : (entries : Entries) (k : ℕ) → is_kept entries k ≡ false → set.contains (numbers_in entries) k ≡ true → ⊥

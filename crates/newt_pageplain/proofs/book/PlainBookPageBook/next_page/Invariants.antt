@@ -1,5 +1,5 @@
 use Rattle.std.proofs.Common.{◌≡◌, ℕ, ◌≤◌, ◌<◌, false}
-use Rattle.newt_pageplain.specs.Kept.{is_kept}
+use Rattle.newt_pagelog.specs.Kept.{is_kept}
 use Rattle.newt_pageplain.proofs.book.PlainBookPageBook.next_page.Given as goal
 
 abbrev pub invariant-loop-number : goal.invariant-loop-number

@@ -1,8 +1,8 @@
 use Rattle.std.proofs.Common.{◌≡◌, ℕ, Option, Some, None, refl, sym, ◌∙◌, ap, arith}
 use Rattle.newt_image.specs.Pages.{Pages}
-use Rattle.newt_pageplain.specs.Kept.{Entries, page_in, shown_in}
-use Rattle.newt_pageplain.proofs.Maps.{same_entries, same_numbers}
-use Rattle.newt_pageplain.proofs.Replaying.{sound-reordered}
+use Rattle.newt_pagelog.specs.Kept.{Entries, page_in, shown_in}
+use Rattle.newt_pagelog.proofs.Maps.{same_entries, same_numbers}
+use Rattle.newt_pagelog.proofs.Replaying.{sound-reordered}
 use Rattle.newt_pageplain.proofs.book.PlainBookPageBook.reserve.Goals as goal
 
 same_shown : (old new : Entries) (at : Option ℕ) → ((q : ℕ) → page_in new q ≡ page_in old q) → shown_in new at ≡ shown_in old at

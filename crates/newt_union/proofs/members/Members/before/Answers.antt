@@ -1,22 +1,13 @@
-use Rattle.std.proofs.Common.{◌≡◌, Option, None, fold, map}
 use Rattle.std.specs.Prelude.{option_map}
-use Rattle.std.proofs.lemmas.Result.{IfOk-weaker}
-use Rattle.newt_spec_store.specs.Keys.{IndexSpec}
 use Rattle.newt_index.specs.Spots.{spot_hit}
-use Rattle.newt_union.specs.declared.hit.Hit.{Hit}
-use Rattle.newt_union.specs.Merged as merged
-use Rattle.newt_union.specs.Candidates.{before_in, with_greater}
-use Rattle.newt_union.specs.Seen.{shown, seen}
-use Rattle.newt_union.proofs.View.{have_key, before_seen}
+use Rattle.newt_union.specs.Seen.{shown}
+use Rattle.newt_union.proofs.View.{have_probe, before_seen}
 use Rattle.newt_union.proofs.members.Members.before.Goals as goal
 
 pub before_of-requires : goal.before_of-requires
-before_of-requires c = have_key c.args.spot.now.key c.args.self.now c.self.inside.list.items c.deref.result.now c.self.view_is c.deref.ensures.value c.requires
+before_of-requires c = have_probe c.args.spot.now.key c.args.probe.now c.args.self.now c.self.inside.list.items c.as_slice.result.now c.self.view_is c.as_slice.ensures.value c.requires
 
-pub returns : goal.returns
-returns c =
-    IfOk-weaker c.before_of.result
-    (λ (found : Option Hit). option_map shown found ≡ fold (with_greater (before_in (spot_hit c.args.spot.now))) None (map seen c.deref.result.now))
-    (λ (found : Option Hit). (spec : IndexSpec) → merged.AllAgree spec c.args.self.now → option_map shown found ≡ merged.before spec c.args.self.now (spot_hit c.args.spot.now))
-    (λ found is. before_seen c.args.self.now c.self.inside.list.items c.deref.result.now (option_map shown found) c.self.view_is c.deref.ensures.value c.self.invariant (spot_hit c.args.spot.now) is)
-    c.before_of.ensures
+pub returns-clause-found : goal.returns-clause-found
+returns-clause-found c =
+    before_seen c.args.self.now c.self.inside.list.items c.as_slice.result.now (option_map shown c.before_of.result) c.self.view_is c.as_slice.ensures.value c.self.invariant
+    (spot_hit c.args.spot.now) c.before_of.ensures.found

@@ -88,7 +88,7 @@ returns-clause-stands g c goes =
     } in
     let w = world_of g.C.Card.reads c.args.self.now (g.H.Host.outside c.args.host.now) in
     let there = c.in_ok-card.ensures.opened in
-    mounted-stands at.laws c.args.self.now c.args.unit c.in_ok-card.card g.H.Host.told (g.H.Host.outside c.open_store.new.host) c.put.new.self c.put.ensures.slots c.put.ensures.default c.in_ok-find_ready.ensures.attached there.0 there.1
+    mounted-stands at.laws c.args.self.now c.args.unit c.in_ok-card.card g.H.Host.told (g.H.Host.outside c.open_store.new.host) c.put.new.self c.put.ensures.slots c.put.ensures.default c.in_ok-find_ready.ensures.attached _ c.in_ok-face.ensures.0 there.0 there.1
     c.in_ok-card.ensures.stands
 
 pub returns-clause-answered : goal.returns-clause-answered

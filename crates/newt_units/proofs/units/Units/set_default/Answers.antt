@@ -19,6 +19,7 @@ returns-in_err-find_unit-clause-answered g c outside eight stand =
 pub returns-clause-stands : goal.returns-clause-stands
 returns-clause-stands g c told outside s = record {
   eight = s.eight;
+  few = s.few;
   attached = s.attached;
   cards = s.cards;
   durable = s.durable;

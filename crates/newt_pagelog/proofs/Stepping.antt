@@ -1,0 +1,131 @@
+-- One write after another.
+use Rattle.std.proofs.Common.{IsTrue, ◌≡◌, ℕ, ◌+◌, ◌*◌, ◌≤◌, Bool, true, cond, List, [], ◌∷◌, ◌++◌, length, take, drop, take-append-drop, refl, sym, ◌∙◌, ap, subst, arith, append_assoc, append-nil, length-append}
+use Rattle.newt_host.specs.Moments.{Moment, image, Leaves}
+use Rattle.newt_host.specs.Outside.{Outside, Touches, Spends}
+use Rattle.std.specs.List.{flat_map, filter}
+use Rattle.std.specs.Int.{to_be_bytes, w16, w32}
+use Rattle.std.proofs.lemmas.List.Elements.{filter-append}
+use Rattle.newt_host.proofs.Outside.{Touches-refl, Touches-append, Spends-refl, Spends-append, Spends-widen}
+use Rattle.newt_host.proofs.Moments.{Always-last, Leaves-append, Leaves-weaken, Leaves-start}
+use Rattle.newt_image.specs.Records.{records}
+use Rattle.newt_image.specs.Pages.{Change, written_put, written_delete, written_change}
+use Rattle.newt_journal.specs.Journal.{ReadsAs}
+use Rattle.newt_journal.specs.Draft.{IsDraftOf, journal_of, unit_of, len_of, put_of, is_switch, payload_of, rest_of}
+use Rattle.newt_journal.specs.declared.draft.Draft.{Draft}
+use Rattle.newt_pagelog.specs.Steps.{IsSteady, Keeps, WritesMore}
+
+pub keeps-start : (told : Bool) (unit : ℕ) (o : Outside) → (IsTrue told → IsSteady unit o.now) → Keeps told unit 0 o o
+keeps-start told unit o steady = record { any_moment = λ tells. Leaves-start (steady tells); alone = Touches-refl unit o; costs = Spends-refl unit o }
+
+pub keeps-two : (told : Bool) (unit m n : ℕ) (a b c : Outside) → (IsTrue told → records (image unit b.now) ≡ records (image unit a.now)) → Keeps told unit m a b → Keeps told unit n b c → Keeps told unit (m + n) a c
+keeps-two told unit m n a b c same first second = record {
+  any_moment = λ tells. Leaves-append (first.any_moment tells) (Leaves-weaken (λ left e. e ∙ same tells) (second.any_moment tells));
+  alone = Touches-append first.alone second.alone;
+  costs = Spends-append m 0 n 0 first.costs second.costs;
+}
+
+pub keeps-widen : (told : Bool) (unit m n : ℕ) (a b : Outside) → m ≤ n → Keeps told unit m a b → Keeps told unit n a b
+keeps-widen told unit m n a b le k = record { any_moment = k.any_moment; alone = k.alone; costs = Spends-widen m 0 n 0 le (omega arith) k.costs }
+
+-- at the end of a call that kept the records, a crash leaves them
+pub steady-after : (unit : ℕ) (old new : Moment) → Leaves unit (ReadsAs (records (image unit old))) old new → records (image unit new) ≡ records (image unit old) → IsSteady unit new
+steady-after unit old new leaves same left may = (Always-last leaves).crash left may ∙ sym same
+
+pub writes-none : (told : Bool) (d : Draft) (o : Outside) → IsDraftOf told d o → (IsTrue told → IsSteady (unit_of d) o.now) → WritesMore told (unit_of d) [] d d o o
+writes-none told d o draft steady = record {
+  draft = draft;
+  put = omega arith;
+  on = refl;
+  holds = refl;
+  len = refl;
+  kind = refl;
+  rest = refl;
+  more = λ tells. sym (append-nil (payload_of d (image (unit_of d) o.now)));
+  same = λ tells. refl;
+  steady = steady;
+}
+
+pub writes-two : (told : Bool) (unit : ℕ) (first second : List ℕ) (x y z : Draft) (a b c : Outside) → WritesMore told unit first x y a b → WritesMore told (unit_of y) second y z b c → WritesMore told unit (first ++ second) x z a c
+writes-two told unit first second x y z a b c one other' =
+    let other : WritesMore told unit second y z b c = subst (λ (u : ℕ). WritesMore told u second y z b c) one.on other' in
+    record {
+      draft = other.draft;
+      put = omega (arith, one.put, other.put, length-append first second);
+      on = other.on;
+      holds = other.holds ∙ one.holds;
+      len = other.len ∙ one.len;
+      kind = other.kind ∙ one.kind;
+      rest = other.rest ∙ one.rest;
+      more = λ tells. other.more tells ∙ ap (λ (l : List ℕ). l ++ second) (one.more tells) ∙ append_assoc (payload_of x (image unit a.now)) first second;
+      same = λ tells. other.same tells ∙ one.same tells;
+      steady = other.steady;
+    }
+
+pub writes-same : (told : Bool) (unit : ℕ) (bytes other : List ℕ) (x y : Draft) (a b : Outside) → bytes ≡ other → WritesMore told unit bytes x y a b → WritesMore told unit other x y a b
+writes-same told unit bytes other x y a b is w = subst (λ (l : List ℕ). WritesMore told unit l x y a b) is w
+
+-- what `put` of a draft does
+pub put-keeps : (told : Bool) (unit size : ℕ) (a b : Outside) → (IsTrue told → Leaves unit (ReadsAs (records (image unit a.now))) a.now b.now) → Touches unit a b → Spends unit size 0 a b → Keeps told unit size a b
+put-keeps told unit size a b leaves alone costs = record { any_moment = leaves; alone = alone; costs = costs }
+
+pub put-writes : (told : Bool) (bytes : List ℕ) (x y : Draft) (a b : Outside) → IsDraftOf told y b × (put_of y ≡ put_of x + length bytes)
+    → (unit_of y ≡ unit_of x) × (len_of y ≡ len_of x) × (is_switch y ≡ is_switch x) × (rest_of y ≡ rest_of x) → journal_of y ≡ journal_of x
+    → (IsTrue told → payload_of y (image (unit_of x) b.now) ≡ payload_of x (image (unit_of x) a.now) ++ bytes)
+    → (IsTrue told → records (image (unit_of x) b.now) ≡ records (image (unit_of x) a.now))
+    → (IsTrue told → Leaves (unit_of x) (ReadsAs (records (image (unit_of x) a.now))) a.now b.now) → WritesMore told (unit_of x) bytes x y a b
+put-writes told bytes x y a b draft kept holds more same leaves = record {
+  draft = draft.0;
+  put = draft.1;
+  on = kept.0;
+  holds = holds;
+  len = kept.1;
+  kind = kept.2;
+  rest = kept.3;
+  more = more;
+  same = same;
+  steady = λ tells. steady-after (unit_of x) a.now b.now (leaves tells) (same tells);
+}
+
+-- a keeps of the unit that another draft is on
+pub keeps-on : (told : Bool) (u v size : ℕ) (a b : Outside) → u ≡ v → Keeps told u size a b → Keeps told v size a b
+keeps-on told u v size a b is k = subst (λ (w : ℕ). Keeps told w size a b) is k
+
+-- one more element of a list that is written
+pub flat-push : {A : Type 0} (f : A → List ℕ) (xs : List A) (x : A) → flat_map f (xs ++ x ∷ []) ≡ flat_map f xs ++ f x
+flat-push f [] x = append-nil (f x)
+flat-push f (y ∷ xs) x = ap (λ (l : List ℕ). f y ++ l) (flat-push f xs x) ∙ sym (append_assoc (f y) (flat_map f xs) (f x))
+
+-- so many bytes of a record have been written, and the next are
+pub record Stepped (told : Bool) (unit size : ℕ) (bytes : List ℕ) (x z : Draft) (a c : Outside) : Type 0 where
+  pub keeps : Keeps told unit size a c
+  pub writes : WritesMore told unit bytes x z a c
+
+pub step : (told : Bool) (unit m n total : ℕ) (bytes more all : List ℕ) (x y z : Draft) (a b c : Outside) → all ≡ bytes ++ more → m + n ≤ total → Keeps told unit m a b → WritesMore told unit bytes x y a b
+    → Keeps told (unit_of y) n b c → WritesMore told (unit_of y) more y z b c → Stepped told unit total all x z a c
+step told unit m n total bytes more all x y z a b c is le keeps writes next wrote = record {
+  keeps = keeps-widen told unit (m + n) total a c le (keeps-two told unit m n a b c writes.same keeps (keeps-on told (unit_of y) unit n b c writes.on next));
+  writes = writes-same told unit (bytes ++ more) all x z a c (sym is) (writes-two told unit bytes more x y z a b c writes wrote);
+}
+
+pub written-size : (n : ℕ) (page : List ℕ) → length page ≡ 512 → length (written_put (n, page)) ≡ 516
+written-size n page size = omega (arith, size)
+
+pub deletes-size : (ns : List ℕ) → length (flat_map written_delete ns) ≡ 4 * length ns
+deletes-size [] = refl
+deletes-size (n ∷ ns) = omega (arith, deletes-size ns, length-append (written_delete n) (flat_map written_delete ns))
+
+pub filter-take : (p : ℕ → Bool) (ns : List ℕ) (i : ℕ) → length (filter p (take i ns)) ≤ length (filter p ns)
+filter-take p ns i = omega (arith, ap (λ (l : List ℕ). length l) (ap (filter p) (sym (take-append-drop i ns)) ∙ filter-append p (take i ns) (drop i ns)), length-append (filter p (take i ns)) (filter p (drop i ns)))
+
+pub one_deleted : (b : Bool) (n : ℕ) → b ≡ true → to_be_bytes w32 n ≡ flat_map written_delete (cond b (n ∷ []) [])
+one_deleted b n e = sym (append-nil (to_be_bytes w32 n)) ∙ ap (λ (c : Bool). flat_map written_delete (cond c (n ∷ []) [])) (sym e)
+
+-- the pieces of a payload
+pub written-batch : (change : Change) (puts deletes : ℕ) → puts ≡ length change.puts → deletes ≡ length change.deletes
+    → (to_be_bytes w16 puts ++ to_be_bytes w16 deletes) ++ flat_map written_put change.puts ++ flat_map written_delete change.deletes ≡ written_change change
+unfolding written_change
+written-batch change puts deletes p d = ap (λ (n : ℕ). (to_be_bytes w16 n ++ to_be_bytes w16 deletes) ++ flat_map written_put change.puts ++ flat_map written_delete change.deletes) p
+    ∙ ap (λ (n : ℕ). (to_be_bytes w16 (length change.puts) ++ to_be_bytes w16 n) ++ flat_map written_put change.puts ++ flat_map written_delete change.deletes) d
+
+pub written-all : (puts : List (ℕ × List ℕ)) (count : ℕ) → count ≡ length puts → (to_be_bytes w16 count ++ to_be_bytes w16 0) ++ flat_map written_put puts ≡ written_change (record { puts = puts; deletes = [] })
+written-all puts count is = sym (append-nil ((to_be_bytes w16 count ++ to_be_bytes w16 0) ++ flat_map written_put puts)) ∙ written-batch (record { puts = puts; deletes = [] }) count 0 is refl

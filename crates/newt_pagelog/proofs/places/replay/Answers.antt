@@ -1,0 +1,166 @@
+use Rattle.std.proofs.Common.{◌≡◌, ℕ, nat_eq, List, [], take, drop, Option, Some, None, Err, refl, sym, ◌∙◌, ap, subst, arith}
+use Rattle.std.specs.FinMap as map
+use Rattle.std.specs.Map.{lookup}
+use Rattle.newt_host.specs.Moments.{Moment, image}
+use Rattle.newt_image.specs.Records.{and_then, with_first}
+use Rattle.newt_image.specs.Pages.{Pages, pages, pages_after, change_in}
+use Rattle.newt_journal.specs.Places.{payloads_from, IsPlace}
+use Rattle.newt_pagebook.specs.declared.book.BookFault.TheVariants.{Device}
+use Rattle.newt_pagelog.specs.Kept.{map_of}
+use Rattle.newt_pagelog.specs.Placed.{ReplaysRecord, lifted, page_from}
+use Rattle.newt_pagelog.proofs.Failing.{rose-over, same-err}
+use Rattle.newt_pagelog.proofs.Placing.{looks-refl, looks-append, looks-stands, looks-image, looks-spent, holds-from, numbered-placed, replay-step, replay-bad}
+use Rattle.newt_pagelog.proofs.Replaying.{near, at_some, at_none, if_some}
+use Rattle.newt_pagelog.proofs.places.replay.Goals as goal
+
+pub loop-places-init : goal.loop-places-init
+loop-places-init g c =
+    let o = g.H.Host.outside c.args.host.now in
+    let j = c.args.journal.now in
+    let u = j.unit in
+    let nothing = c.new-places.ensures.empty in
+    record {
+      low = omega (arith, c.first-at.ensures.place);
+      high = c.first-at.ensures.before_end;
+      looks = looks-refl u o;
+      place = λ tells. c.first-at.ensures.is_place g.H.Host.told o c.requires tells;
+      unique = c.new-places.ensures.unique;
+      placed = λ q at is. absurd (let none : Some at ≡ None = sym is ∙ ap (λ (es : List (ℕ × ℕ)). lookup (nat_eq q) es) nothing in cc);
+      many = omega (arith, c.first-at.ensures.place, c.new-places.ensures.len);
+      read = λ tells.
+          let img : List ℕ = image u o.now in
+          ap (λ (r : Option (List (List ℕ))). and_then r (λ ps. pages_after ps map.empty)) (sym (c.first-at.ensures.reads_all g.H.Host.told o c.requires tells))
+          ∙ ap (λ (es : List (ℕ × ℕ)). and_then (payloads_from j c.first-at.result img) (λ ps. pages_after ps (map_of (lifted (page_from img) es)))) (sym nothing);
+    }
+
+pub walk-requires-clause-low : goal.walk-requires-clause-low
+walk-requires-clause-low g c = c.loop-places.invariant.low
+
+pub walk-requires-clause-high : goal.walk-requires-clause-high
+walk-requires-clause-high g c = c.loop-places.invariant.high
+
+pub walk-requires-clause-stands : goal.walk-requires-clause-stands
+walk-requires-clause-stands g c = let o = g.H.Host.outside in looks-stands g.H.Host.told c.args.journal.now (o c.args.host.now) (o c.loop-places.host) c.loop-places.invariant.looks c.requires
+
+pub walk-requires-clause-place : goal.walk-requires-clause-place
+walk-requires-clause-place g c = λ tells. subst (λ (l : List ℕ). IsPlace c.args.journal.now c.loop-places.at l) (sym (looks-image c.args.journal.now.unit (g.H.Host.outside c.args.host.now) (g.H.Host.outside c.loop-places.host) c.loop-places.invariant.looks)) (c.loop-places.invariant.place tells)
+
+pub returns-in_err-found-clause-looks : goal.returns-in_err-found-clause-looks
+returns-in_err-found-clause-looks g c =
+    let o = g.H.Host.outside in
+    let u = c.args.journal.now.unit in
+    looks-append u (o c.args.host.now) (o c.loop-places.host) (o c.walk.new.host) c.loop-places.invariant.looks (looks-spent u 4 (o c.loop-places.host) (o c.walk.new.host) c.walk.ensures.moment c.walk.ensures.alone c.walk.ensures.costs)
+
+pub returns-in_err-found-clause-cause : goal.returns-in_err-found-clause-cause
+returns-in_err-found-clause-cause g c = λ bad.
+    let o = g.H.Host.outside in
+    let u = c.args.journal.now.unit in
+    rose-over u u (o c.args.host.now) (o c.loop-places.host) (o c.walk.new.host) refl c.loop-places.invariant.looks.alone c.in_err-found.ensures.cause
+
+pub replay_record-requires-clause-low : goal.replay_record-requires-clause-low
+replay_record-requires-clause-low g c = let inside = if_some _ c.in_ok-found.field-0 c.in-Some.found c.in-Some.is c.in_ok-found.ensures.inside in omega (arith, c.loop-places.invariant.low, inside.0)
+
+pub replay_record-requires-clause-stands : goal.replay_record-requires-clause-stands
+replay_record-requires-clause-stands g c =
+    let o = g.H.Host.outside in
+    let u = c.args.journal.now.unit in
+    looks-stands g.H.Host.told c.args.journal.now (o c.args.host.now) (o c.walk.new.host) (looks-append u (o c.args.host.now) (o c.loop-places.host) (o c.walk.new.host) c.loop-places.invariant.looks (looks-spent u 4 (o c.loop-places.host) (o c.walk.new.host) c.walk.ensures.moment c.walk.ensures.alone c.walk.ensures.costs)) c.requires
+
+pub replay_record-requires-clause-unique : goal.replay_record-requires-clause-unique
+replay_record-requires-clause-unique g c = c.loop-places.invariant.unique
+
+pub replay_record-requires-clause-placed : goal.replay_record-requires-clause-placed
+replay_record-requires-clause-placed g c = c.loop-places.invariant.placed
+
+pub returns-in_err-replay_record-clause-looks : goal.returns-in_err-replay_record-clause-looks
+returns-in_err-replay_record-clause-looks g c =
+    let o = g.H.Host.outside in
+    let u = c.args.journal.now.unit in
+    looks-append u (o c.args.host.now) (o c.walk.new.host) (o c.replay_record.new.host) (looks-append u (o c.args.host.now) (o c.loop-places.host) (o c.walk.new.host) c.loop-places.invariant.looks (looks-spent u 4 (o c.loop-places.host) (o c.walk.new.host) c.walk.ensures.moment c.walk.ensures.alone c.walk.ensures.costs)) c.replay_record.ensures.looks
+
+pub returns-in_err-replay_record-clause-cause : goal.returns-in_err-replay_record-clause-cause
+returns-in_err-replay_record-clause-cause g c = λ bad.
+    let o = g.H.Host.outside in
+    let u = c.args.journal.now.unit in
+    let before = looks-append u (o c.args.host.now) (o c.loop-places.host) (o c.walk.new.host) c.loop-places.invariant.looks (looks-spent u 4 (o c.loop-places.host) (o c.walk.new.host) c.walk.ensures.moment c.walk.ensures.alone c.walk.ensures.costs) in
+    rose-over u u (o c.args.host.now) (o c.walk.new.host) (o c.replay_record.new.host) refl before.alone
+    (c.in_err-replay_record.ensures.cause (ap Err (same-err c.from_residual-in_err-replay_record.result c.in_err-replay_record.field-0.0 Device c.from_residual-in_err-replay_record.ensures.1 bad)))
+
+pub returns-then-not-branch-clause-not_store : goal.returns-then-not-branch-clause-not_store
+returns-then-not-branch-clause-not_store g c = λ _ tells.
+    let o = g.H.Host.outside in
+    let j = c.args.journal.now in
+    let u = j.unit in
+    let inv = c.loop-places.invariant in
+    let f = c.in-Some.found in
+    let img : List ℕ = image u (o c.args.host.now).now in
+    let low : image u (o c.loop-places.host).now ≡ img = looks-image u (o c.args.host.now) (o c.loop-places.host) inv.looks in
+    let walked : image u (o c.walk.new.host).now ≡ img = ap (λ (m : Moment). image u m) c.walk.ensures.moment ∙ low in
+    let found : payloads_from j c.loop-places.at img ≡ with_first (take f.len (drop f.at img)) (payloads_from j f.next img) =
+    subst (λ (l : List ℕ). payloads_from j c.loop-places.at l ≡ with_first (take f.len (drop f.at l)) (payloads_from j f.next l)) low (at_some _ _ c.in_ok-found.field-0 f c.in-Some.is (c.in_ok-found.ensures.found tells)) in
+    let says : change_in (take f.len (drop f.at img)) ≡ None = subst (λ (l : List ℕ). change_in (take f.len (drop f.at l)) ≡ None) walked (c.in_ok-replay_record.ensures.bad tells c.if-not-branch.true) in
+    replay-bad (payloads_from j f.next img) (payloads_from j c.loop-places.at img) (take f.len (drop f.at img)) (map_of (lifted (page_from img) c.loop-places.places.entries)) (pages img) (inv.read tells) found says
+
+pub returns-then-not-branch-clause-looks : goal.returns-then-not-branch-clause-looks
+returns-then-not-branch-clause-looks g c =
+    let o = g.H.Host.outside in
+    let u = c.args.journal.now.unit in
+    looks-append u (o c.args.host.now) (o c.walk.new.host) (o c.replay_record.new.host) (looks-append u (o c.args.host.now) (o c.loop-places.host) (o c.walk.new.host) c.loop-places.invariant.looks (looks-spent u 4 (o c.loop-places.host) (o c.walk.new.host) c.walk.ensures.moment c.walk.ensures.alone c.walk.ensures.costs)) c.replay_record.ensures.looks
+
+pub loop-places-smaller : goal.loop-places-smaller
+loop-places-smaller g c = let inside = if_some _ c.in_ok-found.field-0 c.in-Some.found c.in-Some.is c.in_ok-found.ensures.inside in omega (arith, inside.0, inside.1, inside.2)
+
+pub loop-places-preserved : goal.loop-places-preserved
+loop-places-preserved g c =
+    let o = g.H.Host.outside in
+    let j = c.args.journal.now in
+    let u = j.unit in
+    let inv = c.loop-places.invariant in
+    let f = c.in-Some.found in
+    let inside = if_some _ c.in_ok-found.field-0 f c.in-Some.is c.in_ok-found.ensures.inside in
+    let e = c.in_ok-replay_record.ensures in
+    let img : List ℕ = image u (o c.args.host.now).now in
+    let low : image u (o c.loop-places.host).now ≡ img = looks-image u (o c.args.host.now) (o c.loop-places.host) inv.looks in
+    let walked : image u (o c.walk.new.host).now ≡ img = ap (λ (m : Moment). image u m) c.walk.ensures.moment ∙ low in
+    record {
+      low = omega (arith, inv.low, inside.0, inside.1);
+      high = inside.2;
+      looks = looks-append u (o c.args.host.now) (o c.walk.new.host) (o c.replay_record.new.host) (looks-append u (o c.args.host.now) (o c.loop-places.host) (o c.walk.new.host) inv.looks (looks-spent u 4 (o c.loop-places.host) (o c.walk.new.host) c.walk.ensures.moment c.walk.ensures.alone c.walk.ensures.costs)) c.replay_record.ensures.looks;
+      place = λ tells. subst (λ (l : List ℕ). IsPlace j f.next l) low (if_some _ c.in_ok-found.field-0 f c.in-Some.is (c.in_ok-found.ensures.next tells));
+      unique = e.unique;
+      placed = e.placed;
+      many = omega (arith, e.len, inside.0, inside.1, inv.many);
+      read = λ tells.
+          let found : payloads_from j c.loop-places.at img ≡ with_first (take f.len (drop f.at img)) (payloads_from j f.next img) =
+          subst (λ (l : List ℕ). payloads_from j c.loop-places.at l ≡ with_first (take f.len (drop f.at l)) (payloads_from j f.next l)) low (at_some _ _ c.in_ok-found.field-0 f c.in-Some.is (c.in_ok-found.ensures.found tells)) in
+          let replays : ReplaysRecord img (take f.len (drop f.at img)) c.loop-places.places.entries c.replay_record.new.places.entries =
+          subst (λ (l : List ℕ). ReplaysRecord l (take f.len (drop f.at l)) c.loop-places.places.entries c.replay_record.new.places.entries) walked (e.read tells c.if-not-branch.false) in
+          replay-step (payloads_from j f.next img) (payloads_from j c.loop-places.at img) img (take f.len (drop f.at img)) c.loop-places.places.entries c.replay_record.new.places.entries (pages img) (inv.read tells) found replays;
+    }
+
+pub returns-clause-numbered : goal.returns-clause-numbered
+returns-clause-numbered g c =
+    let j = c.args.journal.now in
+    let inv = c.loop-places.invariant in
+    numbered-placed j c.loop-places.places.entries inv.unique (omega (arith, inv.many, inv.high, near j j.high)) inv.placed
+
+pub returns-clause-placed : goal.returns-clause-placed
+returns-clause-placed g c = c.loop-places.invariant.placed
+
+pub returns-clause-pages : goal.returns-clause-pages
+returns-clause-pages g c = λ tells.
+    let o = g.H.Host.outside in
+    let j = c.args.journal.now in
+    let u = j.unit in
+    let inv = c.loop-places.invariant in
+    let img : List ℕ = image u (o c.args.host.now).now in
+    let low : image u (o c.loop-places.host).now ≡ img = looks-image u (o c.args.host.now) (o c.loop-places.host) inv.looks in
+    let m : Pages = map_of (lifted (page_from img) c.loop-places.places.entries) in
+    let end : payloads_from j c.loop-places.at img ≡ Some [] = subst (λ (l : List ℕ). payloads_from j c.loop-places.at l ≡ Some []) low (at_none _ _ c.in_ok-found.field-0 c.in_default.is (c.in_ok-found.ensures.found tells)) in
+    holds-from g.H.Host.told j (o c.args.host.now) c.loop-places.places.entries c.requires tells inv.placed (inv.read tells ∙ ap (λ (r : Option (List (List ℕ))). and_then r (λ ps. pages_after ps m)) end)
+
+pub returns-clause-looks : goal.returns-clause-looks
+returns-clause-looks g c =
+    let o = g.H.Host.outside in
+    let u = c.args.journal.now.unit in
+    looks-append u (o c.args.host.now) (o c.loop-places.host) (o c.walk.new.host) c.loop-places.invariant.looks (looks-spent u 4 (o c.loop-places.host) (o c.walk.new.host) c.walk.ensures.moment c.walk.ensures.alone c.walk.ensures.costs)

@@ -1,0 +1,21 @@
+use Rattle.std.proofs.Common.{IsTrue, ◌+◌, ◌*◌, ◌≤◌, nat_eq, [], length, take, drop}
+use Rattle.std.specs.HashSet.{contains}
+use Rattle.std.specs.HashMap as hash
+use Rattle.newt_host.specs.Moments.{image}
+use Rattle.newt_image.specs.Pages.{puts_from, deletes_from}
+use Rattle.newt_pagelog.specs.Placed.{Places, ArePlaced, Looks, Replayed}
+use Rattle.newt_pagelog.proofs.places.replay_deletes.Given as goal
+
+abbrev pub invariant-loop-i : goal.invariant-loop-i
+invariant-loop-i g l =
+    let outside = g.H.Host.outside in
+    let img = image l.journal.unit (outside l.fn.host).now in
+    let payload = take l.found.len (drop l.found.at img) in
+    record {
+      looks : Looks l.journal.unit (outside l.fn.host) (outside l.host);
+      unique : hash.IsUnique nat_eq l.places;
+      placed : ArePlaced l.journal l.places.entries;
+      len : length l.places.entries ≤ length l.fn.places.entries;
+      read : (before : Places) → IsTrue g.H.Host.told → Replayed img (record { puts = puts_from l.puts (drop 4 payload); deletes = [] }) before l.fn.places.entries (contains nat_eq l.fn.seen)
+          → Replayed img (record { puts = puts_from l.puts (drop 4 payload); deletes = deletes_from l.i (drop (4 + 516 * l.puts) payload) }) before l.places.entries (contains nat_eq l.seen);
+    }

@@ -1,0 +1,100 @@
+use Rattle.std.proofs.Common.{◌≡◌, ℕ, ◌+◌, ◌*◌, nat_eq, false, List, [], length, take, drop, sym, ◌∙◌, ap, subst, arith}
+use Rattle.std.specs.HashSet.{contains}
+use Rattle.std.proofs.lemmas.Result.{IfOk-weaker}
+use Rattle.newt_host.specs.Moments.{image}
+use Rattle.newt_image.specs.Pages.{Change, short_at, puts_from, said_by, is_change}
+use Rattle.newt_pagelog.specs.Placed.{Replayed}
+use Rattle.newt_pagelog.proofs.Placing.{looks-image, held-inside, length-piece, length-short, counts-there, bad-length, no_change_in, replayed-says}
+use Rattle.newt_pagelog.proofs.places.replay_record.Goals as goal
+
+pub returns-then-found-lt4-clause-bad : goal.returns-then-found-lt4-clause-bad
+returns-then-found-lt4-clause-bad g c = λ tells _.
+    let img = image c.args.journal.now.unit (g.H.Host.outside c.args.host.now).now in
+    let payload = take c.args.found.len (drop c.args.found.at img) in
+    bad-length payload (λ is. absurd (omega (arith, is, length-short img c.args.found.at c.args.found.len, c.if-found-lt4.true)))
+
+pub returns-then-found-puts-clause-bad : goal.returns-then-found-puts-clause-bad
+returns-then-found-puts-clause-bad g c = λ tells _.
+    let o = g.H.Host.outside in
+    let u = c.args.journal.now.unit in
+    let at = c.args.found.at in
+    let len = c.args.found.len in
+    let img = image u (o c.args.host.now).now in
+    let payload = take len (drop at img) in
+    let second = c.from-deletes.ensures ∙ c.in_ok-read_short-2.ensures.short tells ∙ ap (λ (l : List ℕ). short_at (at + 2) l) (looks-image u (o c.args.host.now) (o c.read_short.new.host) c.read_short.ensures.looks) in
+    let counts = counts-there img at len c.from-puts.result c.from-deletes.result (omega (arith, c.if-found-lt4.false)) (c.from-puts.ensures ∙ c.in_ok-read_short.ensures.short tells) second in
+    let size = length-piece img at len (omega (arith, c.requires.high, held-inside g.H.Host.told c.args.journal.now (o c.args.host.now) c.requires.stands tells)) in
+    bad-length payload (λ is. c.if-found-puts.true (sym size ∙ is ∙ (λ i. 4 + 516 * (sym counts.0 i) + 4 * (sym counts.1 i))))
+
+pub replay_puts-requires-clause-count : goal.replay_puts-requires-clause-count
+replay_puts-requires-clause-count g c = λ tells.
+    let o = g.H.Host.outside in
+    let u = c.args.journal.now.unit in
+    let at = c.args.found.at in
+    let len = c.args.found.len in
+    let img = image u (o c.args.host.now).now in
+    let first = looks-image u (o c.args.host.now) (o c.read_short.new.host) c.read_short.ensures.looks in
+    let both = looks-image u (o c.read_short.new.host) (o c.read_short-2.new.host) c.read_short-2.ensures.looks ∙ first in
+    let second = c.from-deletes.ensures ∙ c.in_ok-read_short-2.ensures.short tells ∙ ap (λ (l : List ℕ). short_at (at + 2) l) first in
+    (counts-there img at len c.from-puts.result c.from-deletes.result (omega (arith, c.if-found-lt4.false)) (c.from-puts.ensures ∙ c.in_ok-read_short.ensures.short tells) second).0
+    ∙ ap (λ (l : List ℕ). short_at 0 (take len (drop at l))) (sym both)
+
+pub replay_deletes-requires-clause-counts : goal.replay_deletes-requires-clause-counts
+replay_deletes-requires-clause-counts g c = λ tells.
+    let o = g.H.Host.outside in
+    let u = c.args.journal.now.unit in
+    let at = c.args.found.at in
+    let len = c.args.found.len in
+    let img = image u (o c.args.host.now).now in
+    let first = looks-image u (o c.args.host.now) (o c.read_short.new.host) c.read_short.ensures.looks in
+    let both = looks-image u (o c.read_short.new.host) (o c.read_short-2.new.host) c.read_short-2.ensures.looks ∙ first in
+    let all = looks-image u (o c.read_short-2.new.host) (o c.replay_puts.new.host) c.replay_puts.ensures.looks ∙ both in
+    let second = c.from-deletes.ensures ∙ c.in_ok-read_short-2.ensures.short tells ∙ ap (λ (l : List ℕ). short_at (at + 2) l) first in
+    subst (λ (l : List ℕ). (c.from-puts.result ≡ short_at 0 (take len (drop at l))) × (c.from-deletes.result ≡ short_at 2 (take len (drop at l)))) (sym all)
+    (counts-there img at len c.from-puts.result c.from-deletes.result (omega (arith, c.if-found-lt4.false)) (c.from-puts.ensures ∙ c.in_ok-read_short.ensures.short tells) second)
+
+pub returns-clause-read : goal.returns-clause-read
+returns-clause-read g c = λ tells.
+    let o = g.H.Host.outside in
+    let told = g.H.Host.told in
+    let j = c.args.journal.now in
+    let u = j.unit in
+    let at = c.args.found.at in
+    let len = c.args.found.len in
+    let img : List ℕ = image u (o c.args.host.now).now in
+    let mid : List ℕ = image u (o c.read_short-2.new.host).now in
+    let last : List ℕ = image u (o c.replay_puts.new.host).now in
+    let first = looks-image u (o c.args.host.now) (o c.read_short.new.host) c.read_short.ensures.looks in
+    let both : mid ≡ img = looks-image u (o c.read_short.new.host) (o c.read_short-2.new.host) c.read_short-2.ensures.looks ∙ first in
+    let more : last ≡ mid = looks-image u (o c.read_short-2.new.host) (o c.replay_puts.new.host) c.replay_puts.ensures.looks in
+    let second = c.from-deletes.ensures ∙ c.in_ok-read_short-2.ensures.short tells ∙ ap (λ (l : List ℕ). short_at (at + 2) l) first in
+    let counts = counts-there img at len c.from-puts.result c.from-deletes.result (omega (arith, c.if-found-lt4.false)) (c.from-puts.ensures ∙ c.in_ok-read_short.ensures.short tells) second in
+    let size = length-piece img at len (omega (arith, c.requires.high, held-inside told j (o c.args.host.now) c.requires.stands tells)) in
+    let whole : length (take len (drop at img)) ≡ 4 + 516 * short_at 0 (take len (drop at img)) + 4 * short_at 2 (take len (drop at img)) = size ∙ c.if-found-puts.false ∙ (λ i. 4 + 516 * (counts.0 i) + 4 * (counts.1 i)) in
+    let puts : Change = record { puts = puts_from c.from-puts.result (drop 4 (take len (drop at mid))); deletes = [] } in
+    let read : Replayed mid puts c.args.places.now.entries c.replay_puts.new.places.entries (contains nat_eq c.replay_puts.new.seen) = c.in_ok-replay_puts.ensures.read tells c.if-not-branch.false in
+    let again : Replayed last (record { puts = puts_from c.from-puts.result (drop 4 (take len (drop at last))); deletes = [] }) c.args.places.now.entries c.replay_puts.new.places.entries (contains nat_eq c.replay_puts.new.seen) =
+    subst (λ (l : List ℕ). Replayed l (record { puts = puts_from c.from-puts.result (drop 4 (take len (drop at l))); deletes = [] }) c.args.places.now.entries c.replay_puts.new.places.entries (contains nat_eq c.replay_puts.new.seen)) (sym more) read in
+    IfOk-weaker c.replay_deletes.result _ _ (λ good f yes. replayed-says img (take len (drop at img)) c.args.places.now.entries c.replay_deletes.new.places.entries (contains nat_eq c.replay_deletes.new.seen) whole
+    (subst (λ (l : List ℕ). Replayed l (said_by (take len (drop at l))) c.args.places.now.entries c.replay_deletes.new.places.entries (contains nat_eq c.replay_deletes.new.seen)) (more ∙ both) (f yes)))
+    (c.replay_deletes.ensures.read c.args.places.now.entries tells again)
+
+pub returns-clause-bad : goal.returns-clause-bad
+returns-clause-bad g c = λ tells.
+    let o = g.H.Host.outside in
+    let u = c.args.journal.now.unit in
+    let at = c.args.found.at in
+    let len = c.args.found.len in
+    let img : List ℕ = image u (o c.args.host.now).now in
+    let mid : List ℕ = image u (o c.read_short-2.new.host).now in
+    let last : List ℕ = image u (o c.replay_puts.new.host).now in
+    let first = looks-image u (o c.args.host.now) (o c.read_short.new.host) c.read_short.ensures.looks in
+    let both : mid ≡ img = looks-image u (o c.read_short.new.host) (o c.read_short-2.new.host) c.read_short-2.ensures.looks ∙ first in
+    let more : last ≡ mid = looks-image u (o c.read_short-2.new.host) (o c.replay_puts.new.host) c.replay_puts.ensures.looks in
+    let puts : Change = record { puts = puts_from c.from-puts.result (drop 4 (take len (drop at mid))); deletes = [] } in
+    let read : Replayed mid puts c.args.places.now.entries c.replay_puts.new.places.entries (contains nat_eq c.replay_puts.new.seen) = c.in_ok-replay_puts.ensures.read tells c.if-not-branch.false in
+    let again : Replayed last (record { puts = puts_from c.from-puts.result (drop 4 (take len (drop at last))); deletes = [] }) c.args.places.now.entries c.replay_puts.new.places.entries (contains nat_eq c.replay_puts.new.seen) =
+    subst (λ (l : List ℕ). Replayed l (record { puts = puts_from c.from-puts.result (drop 4 (take len (drop at l))); deletes = [] }) c.args.places.now.entries c.replay_puts.new.places.entries (contains nat_eq c.replay_puts.new.seen)) (sym more) read in
+    IfOk-weaker c.replay_deletes.result _ _ (λ good f no. no_change_in (take len (drop at img))
+    (subst (λ (l : List ℕ). is_change (take len (drop at l)) ≡ false) (more ∙ both) (f no)))
+    (c.replay_deletes.ensures.bad c.args.places.now.entries tells again)

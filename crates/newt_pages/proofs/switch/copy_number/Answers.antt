@@ -1,0 +1,30 @@
+use Rattle.std.proofs.Common.{nat_eq, sym, ◌∙◌, ap}
+use Rattle.std.proofs.lemmas.Result.{on_ok_weaker}
+use Rattle.std.specs.Map.{lookup}
+use Rattle.std.specs.Option.{option_copied}
+use Rattle.newt_journal.specs.Draft.{unit_of}
+use Rattle.newt_pages.specs.Copies.{place_at}
+use Rattle.newt_pages.proofs.Copying.{stays-start, copies-one, copies-none, copies-same, at-some, at-none}
+use Rattle.newt_pages.proofs.switch.copy_number.Goals as goal
+
+pub returns-in-Some-clause-ok : goal.returns-in-Some-clause-ok
+returns-in-Some-clause-ok g c =
+    let o = g.H.Host.outside in
+    let told = g.H.Host.told in
+    let u = unit_of c.args.draft.now in
+    let n = c.args.number in
+    on_ok_weaker c.copy_page.result (λ copied. copies-same told u _ (place_at n (lookup (nat_eq n) c.args.places.now.entries)) c.args.draft.now c.copy_page.new.draft (o c.args.host.now) (o c.copy_page.new.host)
+    (at-some n c.in-Some.place.now (lookup (nat_eq n) c.args.places.now.entries) (sym c.get.ensures.value ∙ ap option_copied c.in-Some.is))
+    (copies-one told u n c.in-Some.place.now c.args.draft.now c.copy_page.new.draft (o c.args.host.now) (o c.copy_page.new.host) copied)) c.copy_page.ensures.ok
+
+pub returns-in-None-clause-ok : goal.returns-in-None-clause-ok
+returns-in-None-clause-ok g c =
+    let o = g.H.Host.outside in
+    let told = g.H.Host.told in
+    let u = unit_of c.args.draft.now in
+    let n = c.args.number in
+    copies-same told u _ (place_at n (lookup (nat_eq n) c.args.places.now.entries)) c.args.draft.now c.args.draft.now (o c.args.host.now) (o c.args.host.now)
+    (at-none n (lookup (nat_eq n) c.args.places.now.entries) (sym c.get.ensures.value ∙ ap option_copied c.in-None.is)) (copies-none told c.args.draft.now (o c.args.host.now) c.requires.draft c.requires.steady)
+
+pub returns-in-None-clause-stays : goal.returns-in-None-clause-stays
+returns-in-None-clause-stays g c = stays-start g.H.Host.told (unit_of c.args.draft.now) (g.H.Host.outside c.args.host.now) c.requires.steady

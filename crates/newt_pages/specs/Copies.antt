@@ -1,0 +1,51 @@
+-- Pages that are copied into a record that is written.
+use Rattle.std.specs.Prelude.{IsTrue, ◌≡◌, ℕ, zero, suc, ◌+◌, ◌*◌, Bool, List, [], ◌∷◌, ◌++◌, length, nat_eq, Option, Some, None}
+use Rattle.std.specs.List.{flat_map}
+use Rattle.std.specs.Map.{lookup}
+use Rattle.newt_host.specs.Moments.{image, Leaves}
+use Rattle.newt_host.specs.Outside.{Outside, Touches}
+use Rattle.newt_image.specs.Records.{records}
+use Rattle.newt_image.specs.Pages.{Put, written_put, written_change}
+use Rattle.newt_journal.specs.Journal.{ReadsAs}
+use Rattle.newt_journal.specs.Places.{recorded}
+use Rattle.newt_journal.specs.Draft.{journal_of, put_of}
+use Rattle.newt_journal.specs.declared.draft.Draft.{Draft}
+use Rattle.newt_pagelog.specs.Kept.{Entries, all_of}
+use Rattle.newt_pagelog.specs.Placed.{Places, lifted, page_of}
+use Rattle.newt_pagelog.specs.Steps.{WritesMore}
+
+-- the place of one number, if it has one, and those of all numbers below another, in order
+abbrev pub place_at : ℕ → Option ℕ → Places
+place_at number None = []
+place_at number (Some at) = (number, at) ∷ []
+
+unfoldable pub below : ℕ → Places → Places
+below zero places = []
+below (suc n) places = below n places ++ place_at n (lookup (nat_eq n) places)
+
+-- Whatever its answer, a crash leaves the records as they were, and nothing else is touched.
+pub record Stays (told : Bool) (unit : ℕ) (old new : Outside) : Type 0 where
+  pub any_moment : IsTrue told → Leaves unit (ReadsAs (records (image unit old.now))) old.now new.now
+  pub alone : Touches unit old new
+
+-- A page was written behind what was written before: that at a place of the records.
+pub record CopiesPage (told : Bool) (unit number at : ℕ) (before after : Draft) (old new : Outside) : Type 0 where
+  pub page : List ℕ
+  pub size : length page ≡ 512
+  pub shows : IsTrue told → (payloads : List (List ℕ)) → records (image unit old.now) ≡ Some payloads → page ≡ recorded (journal_of before) payloads at 512
+  pub writes : WritesMore told unit (written_put (number, page)) before after old new
+
+-- And so were the pages at these places.
+pub record CopiesAll (told : Bool) (unit : ℕ) (places : Places) (before after : Draft) (old new : Outside) : Type 0 where
+  pub pages : Entries
+  pub count : length pages ≡ length places
+  pub shows : IsTrue told → (payloads : List (List ℕ)) → records (image unit old.now) ≡ Some payloads → pages ≡ lifted (page_of (journal_of before) payloads) places
+  pub put : put_of after ≡ put_of before + 516 * length places
+  pub writes : WritesMore told unit (flat_map written_put pages) before after old new
+
+-- A whole payload was written: the pages at these places, and puts behind them.
+pub record CopiesWhole (told : Bool) (unit : ℕ) (places : Places) (puts : List Put) (before after : Draft) (old new : Outside) : Type 0 where
+  pub pages : Entries
+  pub shows : IsTrue told → (payloads : List (List ℕ)) → records (image unit old.now) ≡ Some payloads → pages ≡ lifted (page_of (journal_of before) payloads) places
+  pub put : put_of after ≡ put_of before + (4 + 516 * (length places + length puts))
+  pub writes : WritesMore told unit (written_change (all_of (pages ++ puts))) before after old new

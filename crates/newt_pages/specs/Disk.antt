@@ -1,0 +1,88 @@
+-- A book on the device stands for the pages at the places that it keeps.
+use Rattle.std.specs.Prelude.{IsTrue, ◌≡◌, ℕ, ◌+◌, ◌*◌, ◌<◌, ◌≤◌, Bool, true, List, [], ◌∷◌, length, get_or, nat_eq, Contains, Option, Some, None, IsSome, refl}
+use Rattle.std.proofs.Common.{sym, ◌∙◌, ap, subst}
+use Rattle.std.specs.Map.{lookup, keys_of}
+use Rattle.std.specs.Ordering.{nat_cmp}
+use Rattle.std.specs.FinSet as set
+use Rattle.newt_host.specs.Moments.{Change as Event, image, bytes_after, IsDurable}
+use Rattle.newt_host.specs.Outside.{Outside}
+use Rattle.newt_image.specs.Records.{records}
+use Rattle.newt_image.specs.Pages.{Put}
+use Rattle.newt_journal.specs.Journal.{Stands, HeldBy}
+use Rattle.newt_journal.specs.Places.{first_place}
+use Rattle.newt_journal.specs.declared.journal.Journal.{Journal}
+use Rattle.newt_pagebook.specs.Book.{PagesAre, IsSameFor}
+use Rattle.newt_pagelog.specs.Kept.{map_of, numbers_in, named_in, kept_number}
+use Rattle.newt_pagelog.specs.Placed.{Places, lifted, page_of, AreNumbered, ArePlaced, HoldsAt}
+use Rattle.newt_pages.specs.declared.hand.AtHand.{AtHand}
+use Rattle.newt_pages.specs.declared.hand.AtHand.TheVariants.{Nothing, Cached, Spare}
+
+-- the numbers do not depend on what stands at the places
+pub keys-lifted : (page : ℕ → List ℕ) (places : Places) → keys_of (lifted page places) ≡ keys_of places
+keys-lifted page [] = refl
+keys-lifted page (e ∷ places) = ap (λ (l : List ℕ). e.0 ∷ l) (keys-lifted page places)
+
+-- the pages of these puts stand one behind the other, each behind its number
+abbrev pub StandAt : (ℕ → List ℕ) → ℕ → List Put → Type 0
+StandAt page first puts = (i : ℕ) → i < length puts → page (first + 516 * i) ≡ (get_or puts i (0, [])).1
+
+-- a page that is cached for a place of the records is the one that stands there
+pub record IsCached (j : Journal) (payloads : List (List ℕ)) (at : ℕ) (page : List ℕ) : Type 0 where
+  pub low : first_place j ≤ at
+  pub high : at + 512 ≤ j.end
+  pub is : page ≡ page_of j payloads at
+
+abbrev pub AreCached : Journal → List ℕ → List (ℕ × List ℕ) → Type 0
+AreCached j image cached = (payloads : List (List ℕ)) → records image ≡ Some payloads → (e : ℕ × List ℕ) → Contains cached e → IsCached j payloads e.0 e.1
+
+-- the page at hand: one in the cache, or the spare one
+abbrev pub shown_in : List (ℕ × List ℕ) → List ℕ → AtHand → Option (List ℕ)
+shown_in cached spare Nothing = None
+shown_in cached spare (Cached at) = lookup (nat_eq at) cached
+shown_in cached spare Spare = Some spare
+
+-- It has a journal of its unit, which stands for it, and the places lie within its records. Where bytes are told the pages of the unit's image are those
+-- at the places, and the cached pages are among them.
+pub record StandsWith (told : Bool) (unit : ℕ) (journal : Option Journal) (places : Places) (cached : List (ℕ × List ℕ)) (outside : Outside) : Type 0 where
+  pub its : Journal
+  pub is : journal ≡ Some its
+  pub stands : Stands told its outside
+  pub on : its.unit ≡ unit
+  pub placed : ArePlaced its places
+  pub holds : IsTrue told → HoldsAt its (image unit outside.now) places
+  pub caches : IsTrue told → AreCached its (image unit outside.now) cached
+
+pub tells_with : (told : Bool) (unit : ℕ) (journal : Option Journal) (places : Places) (cached : List (ℕ × List ℕ)) (outside : Outside) → StandsWith told unit journal places cached outside → IsTrue told
+    → PagesAre (numbers_in places) (image unit outside.now) × IsDurable unit outside.now
+tells_with told unit journal places cached outside s tells =
+    let h = s.holds tells in
+    let page = page_of s.its h.payloads in (
+      record { live = map_of (lifted page places); of_image = h.holds; named = λ number. named_in (lifted page places) number ∙ ap (λ (ns : List ℕ). set.contains (set.from_list {R = nat_cmp} ns) number) (keys-lifted page places) },
+      subst (λ (u : ℕ). IsDurable u outside.now) s.on (s.stands.held tells).durable,
+    )
+
+pub banks_with : (told : Bool) (unit : ℕ) (journal : Option Journal) (places : Places) (cached : List (ℕ × List ℕ)) (outside : Outside) → StandsWith told unit journal places cached outside → (13 ≤ outside.blocks unit) × (outside.blocks unit ≤ 4099)
+banks_with told unit journal places cached outside s =
+    let blocks : outside.blocks unit ≡ s.its.blocks = ap outside.blocks (sym s.on) ∙ s.stands.has.count in
+    subst (λ (n : ℕ). (13 ≤ n) × (n ≤ 4099)) (sym blocks) (s.its.enough, s.its.not_too_many)
+
+pub kept_with : (told : Bool) (unit : ℕ) (journal : Option Journal) (places : Places) (cached : List (ℕ × List ℕ)) (old new : Outside) → StandsWith told unit journal places cached old → IsSameFor told unit old new → StandsWith told unit journal places cached new
+kept_with told unit journal places cached old new s same =
+    let at = s.its.unit in
+    let its : IsSameFor told at old new = subst (λ (u : ℕ). IsSameFor told u old new) (sym s.on) same in
+    let still : IsTrue told → image unit old.now ≡ image unit new.now = λ tells. ap (λ (done : List Event). bytes_after done) (sym (same.changes tells)) in
+    record {
+      its = s.its;
+      is = s.is;
+      stands = record {
+        has = record { attached = subst (λ (c : Option (List ℕ)). IsSome c) (sym its.card) s.stands.has.attached; count = its.blocks ∙ s.stands.has.count };
+        held = λ tells. subst (λ (done : List Event). HeldBy s.its done) (sym (its.changes tells)) (s.stands.held tells);
+      };
+      on = s.on;
+      placed = s.placed;
+      holds = λ tells. subst (λ (l : List ℕ). HoldsAt s.its l places) (still tells) (s.holds tells);
+      caches = λ tells. subst (λ (l : List ℕ). AreCached s.its l cached) (still tells) (s.caches tells);
+    }
+
+pub small_with : (places : Places) → AreNumbered places → (number : ℕ) → set.contains (numbers_in places) number ≡ true → number < 65536
+small_with places numbered number is = numbered.small number (sym (kept_number places number) ∙ is)

@@ -1,0 +1,55 @@
+// The page at hand.
+ghost use Rattle.std.specs.Prelude.{IsTrue, ◌≡◌, ◌≤◌, ◌+◌, ◌⊎◌, ℕ, List, Some, IsSome, Contains, IfOk, OnErr};
+ghost use Rattle.newt_host.specs.Moments.{image};
+ghost use Rattle.newt_host.specs.Outside.{Touches, Spends, Rose};
+ghost use Rattle.newt_image.specs.Records.{records};
+ghost use Rattle.newt_journal.specs.Journal.{Stands};
+ghost use Rattle.newt_journal.specs.Places.{first_place};
+ghost use Rattle.newt_pagelog.specs.Placed.{page_of};
+ghost use Rattle.newt_pages.specs.Disk.{shown_in};
+
+use lru::LruCache;
+use newt_host::{Failed, Host};
+use newt_journal::Journal;
+use newt_pagebook::Page;
+
+/// Pages that were read last, by their places on the device.
+pub(crate) type Cache = LruCache<u32, Page>;
+
+/// Which page is at hand.
+#[derive(Clone, Copy)]
+pub(crate) enum AtHand {
+    Nothing,
+    /// The one of this place, in the cache.
+    Cached(u32),
+    /// The spare one, which the cache did not take.
+    Spare,
+}
+
+/// Reads the page at a place of the records: into the cache, or where there is no memory for it there, into the spare page.
+pub(crate) fn fetch<H: Host>(
+    journal: &Journal,
+    host: &mut H,
+    at: u32,
+    cache: &mut Cache,
+    spare: &mut Page,
+) -> Result<AtHand, Failed>
+    requires low { first_place journal.now ≤ at }
+    requires high { at + 512 ≤ journal.now.end }
+    requires stands { Stands H.told journal.now (H.outside host.old) }
+    ensures found { IfOk result (λ hand. IsSome (shown_in cache.new.entries spare.new hand)) }
+    ensures page { IsTrue H.told → IfOk result (λ hand. (payloads : List (List ℕ)) → records (image journal.now.unit (H.outside host.old).now) ≡ Some payloads
+        → shown_in cache.new.entries spare.new hand ≡ Some (page_of journal.now payloads at)) }
+    ensures cached { IsTrue H.told → (payloads : List (List ℕ)) → records (image journal.now.unit (H.outside host.old).now) ≡ Some payloads
+        → (e : ℕ × List ℕ) → Contains cache.new.entries e → Contains cache.old.entries e ⊎ ((e.0 ≡ at) × (e.1 ≡ page_of journal.now payloads at)) }
+    ensures moment { (H.outside host.new).now ≡ (H.outside host.old).now }
+    ensures alone { Touches journal.now.unit (H.outside host.old) (H.outside host.new) }
+    ensures costs { Spends journal.now.unit 0 512 (H.outside host.old) (H.outside host.new) }
+    ensures cause { OnErr result (Rose ((H.outside host.old).dev_faults journal.now.unit) ((H.outside host.new).dev_faults journal.now.unit)) }
+{
+    journal.read_at(host, at, spare)?;
+    match cache.put(at, *spare) {
+        Ok(_) => Ok(AtHand::Cached(at)),
+        Err(_) => Ok(AtHand::Spare),
+    }
+}

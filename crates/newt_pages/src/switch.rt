@@ -1,0 +1,127 @@
+// All pages after a batch are written into the other bank, each copied from where it stands.
+ghost use Rattle.std.specs.Prelude.{IsTrue, ◌≡◌, ℕ, ◌+◌, ◌*◌, ◌≤◌, ◌<◌, ◌∷◌, ◌++◌, [], List, length, nat_eq, Some, IfOk, OnOk, OnErr};
+ghost use Rattle.std.specs.Map.{lookup};
+ghost use Rattle.newt_host.specs.Moments.{image, Leaves};
+ghost use Rattle.newt_host.specs.Outside.{Touches, Rose};
+ghost use Rattle.newt_image.specs.Records.{records, bank_size};
+ghost use Rattle.newt_image.specs.Pages.{written_change};
+ghost use Rattle.newt_journal.specs.Journal.{Stands, ReadsAsEither};
+ghost use Rattle.newt_journal.specs.Places.{first_place};
+ghost use Rattle.newt_journal.specs.Draft.{IsDraftOf, journal_of, unit_of, len_of, put_of};
+ghost use Rattle.newt_pagebook.specs.Book.{IsOpenFor};
+ghost use Rattle.newt_pagelog.specs.Kept.{all_of};
+ghost use Rattle.newt_pagelog.specs.Placed.{ArePlaced, lifted, page_of};
+ghost use Rattle.newt_pagelog.specs.Steps.{IsSteady};
+ghost use Rattle.newt_pages.specs.Copies.{place_at, below, Stays, CopiesPage, CopiesAll, CopiesWhole};
+
+use newt_host::{Failed, Host};
+use newt_journal::{Draft, Journal};
+use newt_pagebook::Page;
+use newt_pagelog::{Table, write_counts, write_put, write_puts};
+
+// Copies the page at a place of the records into the record that is written.
+fn copy_page<H: Host>(draft: &mut Draft, host: &mut H, number: u32, at: u32) -> Result<(), Failed>
+    requires room { put_of draft.old + 516 ≤ len_of draft.old }
+    requires draft { IsDraftOf H.told draft.old (H.outside host.old) }
+    requires steady { IsTrue H.told → IsSteady (unit_of draft.old) (H.outside host.old).now }
+    requires low { first_place (journal_of draft.old) ≤ at }
+    requires high { at + 512 ≤ (journal_of draft.old).end }
+    ensures ok { OnOk result (CopiesPage H.told (unit_of draft.old) number at draft.old draft.new (H.outside host.old) (H.outside host.new)) }
+    ensures stays { Stays H.told (unit_of draft.old) (H.outside host.old) (H.outside host.new) }
+    ensures cause { OnErr result (Rose ((H.outside host.old).dev_faults (unit_of draft.old)) ((H.outside host.new).dev_faults (unit_of draft.old))) }
+{
+    let mut page = [0; 512];
+    draft.read_at(host, at, &mut page)?;
+    write_put(draft, host, number, &page)?;
+    Ok(())
+}
+
+// Copies the page of a number, if there is one.
+fn copy_number<H: Host>(
+    draft: &mut Draft,
+    host: &mut H,
+    places: &Table<u32>,
+    number: u32,
+) -> Result<(), Failed>
+    requires room { put_of draft.old + 516 * length (place_at number (lookup (nat_eq number) places.now.entries)) ≤ len_of draft.old }
+    requires draft { IsDraftOf H.told draft.old (H.outside host.old) }
+    requires steady { IsTrue H.told → IsSteady (unit_of draft.old) (H.outside host.old).now }
+    requires placed { ArePlaced (journal_of draft.old) places.now.entries }
+    ensures ok { OnOk result (CopiesAll H.told (unit_of draft.old) (place_at number (lookup (nat_eq number) places.now.entries)) draft.old draft.new (H.outside host.old) (H.outside host.new)) }
+    ensures stays { Stays H.told (unit_of draft.old) (H.outside host.old) (H.outside host.new) }
+    ensures cause { OnErr result (Rose ((H.outside host.old).dev_faults (unit_of draft.old)) ((H.outside host.new).dev_faults (unit_of draft.old))) }
+{
+    match places.get(&number) {
+        Some(place) => copy_page(draft, host, number, *place),
+        None => Ok(()),
+    }
+}
+
+// Copies all pages, in the order of their numbers.
+fn copy_pages<H: Host>(draft: &mut Draft, host: &mut H, places: &Table<u32>) -> Result<(), Failed>
+    requires room { put_of draft.old + 516 * length (below 65536 places.now.entries) ≤ len_of draft.old }
+    requires draft { IsDraftOf H.told draft.old (H.outside host.old) }
+    requires steady { IsTrue H.told → IsSteady (unit_of draft.old) (H.outside host.old).now }
+    requires placed { ArePlaced (journal_of draft.old) places.now.entries }
+    ensures ok { OnOk result (CopiesAll H.told (unit_of draft.old) (below 65536 places.now.entries) draft.old draft.new (H.outside host.old) (H.outside host.new)) }
+    ensures stays { Stays H.told (unit_of draft.old) (H.outside host.old) (H.outside host.new) }
+    ensures cause { OnErr result (Rose ((H.outside host.old).dev_faults (unit_of draft.old)) ((H.outside host.new).dev_faults (unit_of draft.old))) }
+{
+    for number in 0..65536 {
+        copy_number(draft, host, places, number)?;
+    }
+    Ok(())
+}
+
+// Writes all pages as one payload: those at the places, and the given ones behind them.
+fn copy_whole<H: Host>(
+    draft: &mut Draft,
+    host: &mut H,
+    places: &Table<u32>,
+    puts: &[(u32, Page)],
+    live: u16,
+) -> Result<(), Failed>
+    requires count { live ≡ length (below 65536 places.now.entries) + length puts.now }
+    requires room { put_of draft.old + (4 + 516 * live) ≤ len_of draft.old }
+    requires draft { IsDraftOf H.told draft.old (H.outside host.old) }
+    requires steady { IsTrue H.told → IsSteady (unit_of draft.old) (H.outside host.old).now }
+    requires placed { ArePlaced (journal_of draft.old) places.now.entries }
+    ensures ok { OnOk result (CopiesWhole H.told (unit_of draft.old) (below 65536 places.now.entries) puts.now draft.old draft.new (H.outside host.old) (H.outside host.new)) }
+    ensures stays { Stays H.told (unit_of draft.old) (H.outside host.old) (H.outside host.new) }
+    ensures cause { OnErr result (Rose ((H.outside host.old).dev_faults (unit_of draft.old)) ((H.outside host.new).dev_faults (unit_of draft.old))) }
+{
+    write_counts(draft, host, live, 0)?;
+    copy_pages(draft, host, places)?;
+    write_puts(draft, host, puts)?;
+    Ok(())
+}
+
+/// Writes all pages as one record into the other bank, once the votes are mended: those at the places, and the given ones behind them.
+pub(crate) fn replace_all<H: Host>(
+    mut journal: Journal,
+    host: &mut H,
+    places: &Table<u32>,
+    puts: &[(u32, Page)],
+    live: u16,
+) -> Result<Journal, Failed>
+    requires stands { Stands H.told journal (H.outside host.old) }
+    requires count { live ≡ length (below 65536 places.now.entries) + length puts.now }
+    requires fits { 25 + 516 * live ≤ bank_size journal.blocks }
+    requires placed { ArePlaced journal places.now.entries }
+    ensures journal { IfOk result (λ after. Stands H.told after (H.outside host.new) × (after.unit ≡ journal.unit)) }
+    ensures places { IfOk result (λ after. after.end ≡ first_place after + 5 + (4 + 516 * live)) }
+    ensures committed { IsTrue H.told → OnOk result ((payloads : List (List ℕ)) → records (image journal.unit (H.outside host.old).now) ≡ Some payloads
+        → records (image journal.unit (H.outside host.new).now) ≡ Some (written_change (all_of (lifted (page_of journal payloads) (below 65536 places.now.entries) ++ puts.now)) ∷ [])) }
+    ensures blank { IsTrue H.told → OnOk result (IsOpenFor 0 (image journal.unit (H.outside host.new).now)) }
+    ensures any_moment { IsTrue H.told → (payloads : List (List ℕ)) → records (image journal.unit (H.outside host.old).now) ≡ Some payloads
+        → Leaves journal.unit (ReadsAsEither (records (image journal.unit (H.outside host.old).now))
+        (Some (written_change (all_of (lifted (page_of journal payloads) (below 65536 places.now.entries) ++ puts.now)) ∷ []))) (H.outside host.old).now (H.outside host.new).now }
+    ensures alone { Touches journal.unit (H.outside host.old) (H.outside host.new) }
+    ensures cause { OnErr result (Rose ((H.outside host.old).dev_faults journal.unit) ((H.outside host.new).dev_faults journal.unit)) }
+{
+    journal.repair(host)?;
+    let mut draft = journal.switch(host, 4 + 516 * u32::from(live))?;
+    copy_whole(&mut draft, host, places, puts, live)?;
+    let journal = draft.finish(host)?;
+    Ok(journal)
+}
