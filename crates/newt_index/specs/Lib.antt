@@ -4,3 +4,4 @@ pub mod Pairs
 pub mod Kept
 pub mod Range
 pub mod Spots
+pub mod Noted

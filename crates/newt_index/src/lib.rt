@@ -6,6 +6,7 @@
 #![tactic(auto)]
 
 mod identity;
+mod noted;
 mod search;
 mod sorted;
 

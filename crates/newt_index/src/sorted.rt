@@ -6,6 +6,7 @@ ghost use Rattle.newt_index.specs.Pairs.{Sorted, parts_of, with_pair, removed, f
 ghost use Rattle.newt_index.specs.Pairs as pairs;
 ghost use Rattle.newt_index.specs.Kept.{IsProbeOf, shown, lent};
 
+use crate::noted::{drop_id, drop_slot, note};
 use crate::search::{Probe, Slot, slot_of};
 use newt_base::Uid;
 use newt_graph::Graph;
@@ -20,19 +21,23 @@ use std::ops::Bound;
 pub struct Index {
     spec: Option<IndexSpec>,
     entries: BTreeMap<Slot, Key>,
+    // The key bytes of each id, while no id has been given two keys.
+    noted: BTreeMap<u32, Vec<u8>>,
+    all_noted: bool,
     alloc: Global,
 }
 
 impl Model for Index {
     ghost use Rattle.std.specs.Prelude.{map};
     ghost use Rattle.newt_index.specs.Pairs.{Sorted};
-    ghost use Rattle.newt_index.specs.Kept.{pair_of, AreKept};
+    ghost use Rattle.newt_index.specs.Kept.{pair_of};
+    ghost use Rattle.newt_index.specs.Noted.{IsIndex};
 
     ghost Value = { Sorted };
 
     ghost view = { λ i. record { spec = i.spec; pairs = map pair_of i.entries.entries } };
 
-    ghost invariant = { λ i. AreKept i.spec i.entries.entries };
+    ghost invariant = { λ i. IsIndex i.spec i.entries.entries i.noted i.all_noted };
 }
 
 impl Index {
@@ -43,6 +48,8 @@ impl Index {
         Index {
             spec,
             entries: BTreeMap::new(alloc),
+            noted: BTreeMap::new(alloc),
+            all_noted: true,
             alloc,
         }
     }
@@ -66,6 +73,7 @@ impl Index {
         ensures err { IfErr result (λ _. self.new ≡ self.old) }
     {
         let slot = slot_of(self.alloc, &self.spec, &key, uid)?;
+        self.all_noted = note(self.alloc, &mut self.noted, self.all_noted, &slot)?;
         self.entries.insert(slot, key)?;
         Ok(())
     }
@@ -77,7 +85,7 @@ impl Index {
         ensures err { IfErr result (λ _. self.new ≡ self.old) }
     {
         let slot = slot_of(self.alloc, &self.spec, key, uid)?;
-        let _ = self.entries.remove(&slot);
+        drop_slot(&mut self.entries, &mut self.noted, self.all_noted, &slot);
         Ok(())
     }
 
@@ -85,7 +93,7 @@ impl Index {
     pub fn forget(&mut self, uid: Uid)
         ensures { self.new ≡ record self.old { pairs = filter (λ q. not (q.1 == uid)) self.old.pairs } }
     {
-        self.entries.retain(|slot, _key| slot.uid != uid.0);
+        drop_id(&mut self.entries, &mut self.noted, self.all_noted, uid.0);
     }
 
     /// The first pair.

@@ -30,10 +30,10 @@ all_false (suc n) zero low = refl
 all_false (suc n) (suc q) low = all_false n q (omega arith)
 
 -- flags that began as false
-pub flags-marked : (test : ℕ → Bool) (flags : List Bool) → MarksAlso test (replicate 65536 false) flags → AreFlags test flags
-flags-marked test flags marks = record {
-  size = marks.size ∙ length-replicate 65536 false;
-  each = λ q low. marks.each q false (all_false 65536 q low);
+pub flags-marked : (bound : ℕ) (test : ℕ → Bool) (flags : List Bool) → MarksAlso test (replicate bound false) flags → AreFlags bound test flags
+flags-marked bound test flags marks = record {
+  size = marks.size ∙ length-replicate bound false;
+  each = λ q low. marks.each q false (all_false bound q low);
 }
 
 -- what a call leaves behind a whole slice that was lent

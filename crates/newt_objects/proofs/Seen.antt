@@ -53,3 +53,10 @@ placed-push rows plans p are row none = record {
 
 nowhere : (k : ℕ) (p : Plan) → slice_get [] k ≡ Some p → ⊥
 nowhere k p e = cc
+
+-- no plans have rows
+pub placed-none : (rows : Rows) (plans : List Plan) → plans ≡ [] → ArePlaced rows plans
+placed-none rows plans none = subst (λ (l : List Plan). ArePlaced rows l) (sym none) (record {
+  placed = λ k p e. absurd (nowhere k p e);
+  once = λ k l p q e f same. absurd (nowhere k p e);
+})

@@ -49,12 +49,16 @@ pub record IsNextIn (table : Table) (from : ℕ) (next : Option ℕ) : Type 0 wh
   pub least : (id other : ℕ) → next ≡ Some id → from ≤ other → other < id → table other ≡ None
   pub none : (other : ℕ) → next ≡ None → from ≤ other → table other ≡ None
 
--- one flag for each page number, which is what the test says of it
-pub record AreFlags (test : ℕ → Bool) (flags : List Bool) : Type 0 where
-  pub size : length flags ≡ 65536
-  pub each : (number : ℕ) → number < 65536 → slice_get flags number ≡ Some (test number)
+-- one flag for each number below a bound, which is what the test says of it
+pub record AreFlags (bound : ℕ) (test : ℕ → Bool) (flags : List Bool) : Type 0 where
+  pub size : length flags ≡ bound
+  pub each : (number : ℕ) → number < bound → slice_get flags number ≡ Some (test number)
 
 -- the flags of these numbers were set, and no other was changed
 pub record MarksAlso (test : ℕ → Bool) (old new : List Bool) : Type 0 where
   pub size : length new ≡ length old
   pub each : (number : ℕ) (flag : Bool) → slice_get old number ≡ Some flag → slice_get new number ≡ Some (flag || test number)
+
+-- each flag that is there tells whether the change names its number
+abbrev pub TellNames : Change → List Bool → Type 0
+TellNames change flags = (number : ℕ) (flag : Bool) → slice_get flags number ≡ Some flag → flag ≡ names change number

@@ -2,6 +2,7 @@
 ghost use Rattle.std.specs.Prelude.{◌≡◌, ◌≢◌, ℕ, ◌+◌, IsSome, Some, OnOk};
 ghost use Rattle.std.specs.BTreeMap as tree;
 ghost use Rattle.std.specs.Ordering.{nat_cmp};
+ghost use Rattle.std.specs.Option.{option_copied};
 ghost use Rattle.newt_objects.specs.Headers.{held_in};
 ghost use Rattle.newt_objects.specs.Extents.{IsNextIn};
 
@@ -9,6 +10,16 @@ use crate::extent::Extent;
 use std::alloc::AllocError;
 use std::collections::BTreeMap;
 use std::ops::Bound;
+
+/// Where an object lies.
+pub(crate) fn row_of(rows: &BTreeMap<u32, Option<Extent>>, id: u32) -> Option<&Extent>
+    ensures { option_copied result ≡ held_in rows.now id }
+{
+    match rows.get(&id) {
+        Some(row) => row.as_ref(),
+        None => None,
+    }
+}
 
 /// Makes a row for an object, if there is none.
 pub(crate) fn keep_row(rows: &mut BTreeMap<u32, Option<Extent>>, id: u32) -> Result<(), AllocError>

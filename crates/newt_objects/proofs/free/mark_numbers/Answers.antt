@@ -8,5 +8,5 @@ pub loop-number-preserved : goal.loop-number-preserved
 loop-number-preserved c =
     let ns = c.args.numbers.now in
     let i = c.loop-number.number-index in
-    marks-more (λ q. list_any (λ n. q == n) (take i ns)) (λ q. q == get_or ns i 0) (λ q. list_any (λ n. q == n) (take (i + 1) ns)) c.args.taken.now c.loop-number.taken c.mark.new.taken
+    marks-more (λ q. list_any (λ n. q == n) (take i ns)) (λ q. q == get_or ns i 0) (λ q. list_any (λ n. q == n) (take (i + 1) ns)) c.args.taken.now.items c.loop-number.taken.items c.mark.new.taken.items
     (λ q. list_any_more (λ n. q == n) ns i 0 (omega arith)) c.loop-number.invariant c.mark.ensures

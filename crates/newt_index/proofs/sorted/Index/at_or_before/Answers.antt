@@ -8,7 +8,7 @@ returns-clause-found c key probe =
     c.pair.ensures
     ∙ back_seen c.args.self.now c.args.probe.now c.self.inside.spec c.self.inside.entries.entries c.range.result c.next_back.new.self
     (record { bytes = c.probe.inside.slot.bytes; uid = 4294967295 }) key c.next_back.result
-    c.self.view_is c.probe.view_is c.self.invariant probe refl (c.range.ensures.between tt) c.next_back.ensures.steps
+    c.self.view_is c.probe.view_is c.self.invariant.kept probe refl (c.range.ensures.between tt) c.next_back.ensures.steps
 
 pub returns-clause-sorted : goal.returns-clause-sorted
-returns-clause-sorted c = sorted_seen c.args.self.now c.self.inside.spec c.self.inside.entries.entries c.self.view_is c.self.invariant c.range.ensures.ordered
+returns-clause-sorted c = sorted_seen c.args.self.now c.self.inside.spec c.self.inside.entries.entries c.self.view_is c.self.invariant.kept c.range.ensures.ordered

@@ -9,4 +9,4 @@ pub returns-clause-found : goal.returns-clause-found
 returns-clause-found c = c.pair.ensures ∙ first_taken c.iter.result c.next.new.self c.next.result c.next.ensures.steps ∙ ap (λ es. first (map pair_of es)) c.iter.ensures.rest ∙ ap (λ v. first v.pairs) c.self.view_is
 
 pub returns-clause-sorted : goal.returns-clause-sorted
-returns-clause-sorted c = sorted_seen c.args.self.now c.self.inside.spec c.self.inside.entries.entries c.self.view_is c.self.invariant c.iter.ensures.ordered
+returns-clause-sorted c = sorted_seen c.args.self.now c.self.inside.spec c.self.inside.entries.entries c.self.view_is c.self.invariant.kept c.iter.ensures.ordered

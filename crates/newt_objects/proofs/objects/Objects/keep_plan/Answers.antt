@@ -8,7 +8,10 @@ use Rattle.newt_objects.proofs.objects.Objects.keep_plan.Goals as goal
 pub invariant_of-self-2 : goal.invariant_of-self-2
 invariant_of-self-2 c =
     let plan : Plan = record { id = c.args.id; next = c.args.next } in
-    subst (λ (plans : List Plan). ArePlaced c.self.inside.rows plans) (sym c.in_ok-push.ensures.items)
-    (placed-push c.self.inside.rows c.self.inside.plans.items plan c.self.invariant
-    (subst (λ (h : Held). HasRow c.args.id h) (sym c.self.view_is) c.requires.row)
-    (subst (λ (h : Held). IsUnplanned h c.args.id) (sym c.self.view_is) c.requires.no_plan))
+    record {
+      placed = subst (λ (plans : List Plan). ArePlaced c.self.inside.rows plans) (sym c.in_ok-push.ensures.items)
+          (placed-push c.self.inside.rows c.self.inside.plans.items plan c.self.invariant.placed
+          (subst (λ (h : Held). HasRow c.args.id h) (sym c.self.view_is) c.requires.row)
+          (subst (λ (h : Held). IsUnplanned h c.args.id) (sym c.self.view_is) c.requires.no_plan));
+      taken = c.self.invariant.taken;
+    }

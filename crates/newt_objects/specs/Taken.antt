@@ -1,0 +1,43 @@
+-- Which page numbers the objects have, as flags that are kept from one plan to the next.
+use Rattle.std.specs.Prelude.{◌≡◌, ◌≢◌, ◌⊎◌, ℕ, ◌<◌, ◌≤◌, ◌&&◌, Bool, true, not, List, length, slice_get, Option, Some}
+use Rattle.std.specs.Option.{option_flatten}
+use Rattle.newt_image.specs.Objects.{Extent, Table}
+use Rattle.newt_objects.specs.Extents.{has_number}
+use Rattle.newt_objects.specs.Headers.{Rows, held_in}
+use Rattle.newt_objects.specs.Plans.{ArePlaced}
+use Rattle.newt_objects.specs.declared.objects.Plan.{Plan}
+
+-- the flags of these numbers were cleared, and no other was changed
+pub record ClearsAlso (test : ℕ → Bool) (old new : List Bool) : Type 0 where
+  pub size : length new ≡ length old
+  pub each : (number : ℕ) (flag : Bool) → slice_get old number ≡ Some flag → slice_get new number ≡ Some (flag && not (test number))
+
+-- one flag for each page number: whether an object has it; and no number is had by two
+pub record IsLive (table : Table) (flags : List Bool) : Type 0 where
+  pub size : length flags ≡ 65536
+  pub marked : (id number : ℕ) → has_number number (table id) ≡ true → slice_get flags number ≡ Some true
+  pub real : (number : ℕ) → slice_get flags number ≡ Some true → (id : ℕ) × (has_number number (table id) ≡ true)
+  pub apart : (id other number : ℕ) → has_number number (table id) ≡ true → has_number number (table other) ≡ true → id ≡ other
+
+-- without flags it is not known which numbers are had
+abbrev pub IsKnown : Table → List Bool → Type 0
+IsKnown table flags = (length flags ≡ 0) ⊎ IsLive table flags
+
+-- what is kept: the flags, and a number below which all are had
+pub record IsTaken (table : Table) (flags : List Bool) (least : ℕ) : Type 0 where
+  pub known : IsKnown table flags
+  pub small : least ≤ 65536
+  pub below : (number : ℕ) → number < least → slice_get flags number ≡ Some true
+
+-- the tables are the same but for one id
+abbrev pub AreSameBut : ℕ → Table → Table → Type 0
+AreSameBut id table more = (other : ℕ) → other ≢ id → more other ≡ table other
+
+-- what holds of all objects
+pub record AreSound (rows : Rows) (plans : List Plan) (flags : List Bool) (least : ℕ) : Type 0 where
+  pub placed : ArePlaced rows plans
+  pub taken : IsTaken (held_in rows) flags least
+
+-- the table of a list of rows, by their places
+abbrev pub row_at : List (Option Extent) → Table
+row_at rows i = option_flatten (slice_get rows i)
