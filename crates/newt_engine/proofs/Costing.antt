@@ -13,9 +13,9 @@ use Rattle.newt_spec_world.specs.World.{World}
 use Rattle.newt_laws_answers.specs.Bounds.{most_programmed}
 use Rattle.newt_laws_answers.proofs.Most.{cursors-cost-nothing}
 use Rattle.newt_laws_cursors.specs.Cursors.{with_cursors, uses_cursors}
-use Rattle.newt_cardstore.specs.declared.fault.Fault.{Fault}
-use Rattle.newt_cardstore.specs.Bounds.{Costs, IsOpenOrSame, ProgramsAtMost}
-use Rattle.newt_cardstore.specs.Faults.{GoesOn}
+use Rattle.newt_engine_card.specs.declared.fault.Fault.{Fault}
+use Rattle.newt_engine_card.specs.Bounds.{Costs, IsOpenOrSame, ProgramsAtMost}
+use Rattle.newt_engine_card.specs.Faults.{GoesOn}
 use Rattle.newt_engine.specs.Bounds.{CommandCosts, is_format}
 use Rattle.newt_engine.specs.Handed.{HandsOn}
 use Rattle.newt_engine.proofs.Handed.{goes_back}

@@ -12,15 +12,15 @@ use Rattle.newt_spec_world.specs.Reply as plain
 use Rattle.newt_spec_world.specs.World.{World}
 use Rattle.newt_laws_answers.specs.Answering.{Answering}
 use Rattle.newt_laws_answers.specs.Spoken.{answer_now}
-use Rattle.newt_cardstore.specs.declared.fault.Fault.{Fault}
-use Rattle.newt_cardstore.specs.declared.fault.Fault.TheVariants.{Refused, Stop}
-use Rattle.newt_units.specs.declared.units.Units.{Units}
-use Rattle.newt_units.specs.Answers.{Answers}
-use Rattle.newt_cardstore.specs.Faults.{GoesOn, HasFaultCause, IsRefusal, NoDevice}
-use Rattle.newt_units.specs.Stands.{Eight, Stands, world_of}
-use Rattle.newt_units.proofs.Known.{Laws}
-use Rattle.newt_units.proofs.Turns.{still-moments}
-use Rattle.newt_walk.specs.Replies as walk
+use Rattle.newt_engine_card.specs.declared.fault.Fault.{Fault}
+use Rattle.newt_engine_card.specs.declared.fault.Fault.TheVariants.{Refused, Stop}
+use Rattle.newt_engine_units.specs.declared.units.Units.{Units}
+use Rattle.newt_engine_units.specs.Answers.{Answers}
+use Rattle.newt_engine_card.specs.Faults.{GoesOn, HasFaultCause, IsRefusal, NoDevice}
+use Rattle.newt_engine_units.specs.Stands.{Eight, Stands, world_of}
+use Rattle.newt_engine_units.proofs.Known.{Laws}
+use Rattle.newt_engine_units.proofs.Turns.{still-moments}
+use Rattle.newt_engine_cursors.specs.Replies as walk
 use Rattle.newt_engine.specs.Handed.{HandsOn, IsHanded}
 
 module _ {T : Type 0} {made : T → plain.Reply} {found : Result T Fault} {result : Result Reply Fault} (on : HandsOn made found result) where

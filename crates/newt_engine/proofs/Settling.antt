@@ -15,23 +15,23 @@ use Rattle.newt_spec_world.specs.declared.command.Command.TheVariants as command
 use Rattle.newt_spec_world.specs.First.{media_of}
 use Rattle.newt_spec_world.specs.Reply as plain
 use Rattle.newt_spec_world.specs.World.{World, Device, settle}
-use Rattle.newt_laws.specs.Settled.{IsSettled, MountedApart, moves_keys}
-use Rattle.newt_laws.specs.Worlds.{OnMedia}
-use Rattle.newt_laws.proofs.Kept.{Every, Wf}
+use Rattle.newt_laws_world.specs.Settled.{IsSettled, MountedApart, moves_keys}
+use Rattle.newt_laws_world.specs.Worlds.{OnMedia}
+use Rattle.newt_laws_world.proofs.Kept.{Every, Wf}
 use Rattle.newt_laws_cursors.specs.Cursors.{with_cursors, uses_cursors}
 use Rattle.newt_laws_answers.specs.Answering.{Answering}
 use Rattle.newt_laws_answers.specs.Spoken.{answer_now}
 use Rattle.newt_laws_answers.proofs.Spoken.{now-apart, now-mounted-apart, now-on-cursors, now-settled, now-still}
-use Rattle.newt_cardstore.specs.declared.fault.Fault.{Fault}
-use Rattle.newt_cardstore.specs.declared.fault.Fault.TheVariants.{Refused, Stop as Ends}
-use Rattle.newt_units.specs.declared.units.Units.{Units}
-use Rattle.newt_units.specs.Answers.{Answers}
-use Rattle.newt_cardstore.specs.Faults.{GoesOn, IsEnd}
-use Rattle.newt_units.specs.Stands.{Eight, Stands, world_of}
-use Rattle.newt_units.proofs.Known.{Laws, at-card, at-none}
-use Rattle.newt_walk.specs.Fits.{DeskFits}
-use Rattle.newt_walk.specs.Replies as walk
-use Rattle.newt_walk.specs.World.{world_with}
+use Rattle.newt_engine_card.specs.declared.fault.Fault.{Fault}
+use Rattle.newt_engine_card.specs.declared.fault.Fault.TheVariants.{Refused, Stop as Ends}
+use Rattle.newt_engine_units.specs.declared.units.Units.{Units}
+use Rattle.newt_engine_units.specs.Answers.{Answers}
+use Rattle.newt_engine_card.specs.Faults.{GoesOn, IsEnd}
+use Rattle.newt_engine_units.specs.Stands.{Eight, Stands, world_of}
+use Rattle.newt_engine_units.proofs.Known.{Laws, at-card, at-none}
+use Rattle.newt_engine_cursors.specs.Fits.{DeskFits}
+use Rattle.newt_engine_cursors.specs.Replies as walk
+use Rattle.newt_engine_cursors.specs.World.{world_with}
 use Rattle.newt_engine.specs.Ends.{takes_memory, uses_device}
 use Rattle.newt_engine.specs.Standing.{Standing}
 use Rattle.newt_engine.proofs.Handed.{quiet}

@@ -1,20 +1,20 @@
 -- The world before the first command.
 use Rattle.std.proofs.Common.{◌≡◌, refl, ap, sym, ◌∙◌, ℕ, List, map, false, replicate, Option, Some, None, option_map}
 use Rattle.newt_host.specs.Outside.{Outside}
-use Rattle.newt_session.specs.First.{device_now, unmounted}
+use Rattle.newt_script_session.specs.First.{device_now, unmounted}
 use Rattle.newt_spec_graph.proofs.Lists.{none-some, some-same}
 use Rattle.newt_spec_query.specs.Cursor.{Cursor}
 use Rattle.newt_spec_store.specs.Store.{Store}
 use Rattle.newt_spec_world.specs.First.{unit_numbers}
 use Rattle.newt_spec_world.specs.World.{Device}
-use Rattle.newt_laws.specs.Settled.{IsSettled, MountedApart}
-use Rattle.newt_laws.proofs.Runs.{first-apart, first-settled, mapped-at}
+use Rattle.newt_laws_world.specs.Settled.{IsSettled, MountedApart}
+use Rattle.newt_laws_world.proofs.Runs.{first-apart, first-settled, mapped-at}
 use Rattle.newt_laws_answers.specs.WorldAt.{world_at}
 use Rattle.newt_laws_cursors.specs.Cursors.{with_cursors}
-use Rattle.newt_units.specs.declared.units.Units.{Units}
-use Rattle.newt_units.specs.Stands.{world_of}
-use Rattle.newt_walk.specs.Fits.{DeskFits}
-use Rattle.newt_walk.specs.World.{world_with}
+use Rattle.newt_engine_units.specs.declared.units.Units.{Units}
+use Rattle.newt_engine_units.specs.Stands.{world_of}
+use Rattle.newt_engine_cursors.specs.Fits.{DeskFits}
+use Rattle.newt_engine_cursors.specs.World.{world_with}
 
 pub first_world_is : {C : Type 0} (reads : List ℕ → Option Store) (units : Units C) (ks : List (Option Cursor)) (o : Outside) → world_of reads units o ≡ world_at reads (λ _. false) None 0 o → ks ≡ replicate 32 None
     → world_with reads units ks o ≡ unmounted reads o

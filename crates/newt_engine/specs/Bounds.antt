@@ -5,9 +5,9 @@ use Rattle.newt_spec_world.specs.World.{World}
 use Rattle.newt_spec_world.specs.declared.command.Command.{Command}
 use Rattle.newt_spec_world.specs.declared.command.Command.TheVariants as command
 use Rattle.newt_laws_answers.specs.Bounds.{most_programmed}
-use Rattle.newt_cardstore.specs.declared.fault.Fault.{Fault}
-use Rattle.newt_cardstore.specs.Bounds.{ProgramsAtMost, IsOpenOrSame}
-use Rattle.newt_cardstore.specs.Faults.{GoesOn}
+use Rattle.newt_engine_card.specs.declared.fault.Fault.{Fault}
+use Rattle.newt_engine_card.specs.Bounds.{ProgramsAtMost, IsOpenOrSame}
+use Rattle.newt_engine_card.specs.Faults.{GoesOn}
 
 -- a device is made one with a store
 abbrev pub is_format : Command → Bool

@@ -3,7 +3,7 @@ use Rattle.std.specs.Prelude.{◌≡◌, Result, Ok, Err}
 use Rattle.newt_reply.specs.Said.{said}
 use Rattle.newt_reply.specs.declared.reply.Reply.{Reply}
 use Rattle.newt_spec_world.specs.Reply as plain
-use Rattle.newt_cardstore.specs.declared.fault.Fault.{Fault}
+use Rattle.newt_engine_card.specs.declared.fault.Fault.{Fault}
 
 -- the reply is made of what was found, and a fault is the one that was found
 abbrev pub IsHanded : {T : Type 0} → (T → plain.Reply) → Result T Fault → Result Reply Fault → Type 0

@@ -3,7 +3,7 @@ use Rattle.std.proofs.Common.{◌≡◌, refl, ap, sym, ◌∙◌, subst, ℕ, z
 use Rattle.std.specs.Prelude.{is_some, slice_index_or, slice_get}
 use Rattle.newt_host.specs.Moments.{IsDurable, MayLeave, image}
 use Rattle.newt_host.specs.Outside.{Outside}
-use Rattle.newt_session.specs.Causes.{SameDevices}
+use Rattle.newt_script_session.specs.Causes.{SameDevices}
 use Rattle.newt_spec_graph.proofs.Lists.{none-some, some-same}
 use Rattle.newt_spec_query.specs.Cursor.{Cursor}
 use Rattle.newt_spec_store.specs.Laid.{bare}
@@ -11,17 +11,17 @@ use Rattle.newt_spec_store.specs.Store.{Store}
 use Rattle.newt_spec_store.specs.Valid.{well_formed}
 use Rattle.newt_spec_world.specs.declared.command.Command.{Command}
 use Rattle.newt_spec_world.specs.World.{World, store_on_unit}
-use Rattle.newt_laws.specs.Settled.{IsSettled, MountedApart}
+use Rattle.newt_laws_world.specs.Settled.{IsSettled, MountedApart}
 use Rattle.newt_laws_cursors.specs.Cursors.{with_cursors}
 use Rattle.newt_laws_answers.specs.Spoken.{answer_now}
 use Rattle.newt_laws_answers.proofs.Spoken.{now-later}
-use Rattle.newt_units.specs.declared.units.Units.{Units}
+use Rattle.newt_engine_units.specs.declared.units.Units.{Units}
 use Rattle.newt_pagebook.specs.Book.{IsSameFor}
-use Rattle.newt_units.specs.Stands.{Eight}
-use Rattle.newt_units.proofs.Known.{Laws}
-use Rattle.newt_units.proofs.Slots.{stands-still}
-use Rattle.newt_units.proofs.Turns.{world-still, left-alone}
-use Rattle.newt_walk.specs.World.{world_with}
+use Rattle.newt_engine_units.specs.Stands.{Eight}
+use Rattle.newt_engine_units.proofs.Known.{Laws}
+use Rattle.newt_engine_units.proofs.Slots.{stands-still}
+use Rattle.newt_engine_units.proofs.Turns.{world-still, left-alone}
+use Rattle.newt_engine_cursors.specs.World.{world_with}
 use Rattle.newt_engine.specs.Standing.{Standing}
 
 -- ---- between commands

@@ -1,13 +1,13 @@
 -- What it is to stand for a host.
 use Rattle.std.specs.Prelude.{ℕ, Bool, IsTrue, List, Option}
 use Rattle.newt_host.specs.Outside.{Outside}
-use Rattle.newt_laws.specs.Settled.{IsSettled, MountedApart}
+use Rattle.newt_laws_world.specs.Settled.{IsSettled, MountedApart}
 use Rattle.newt_spec_query.specs.Cursor.{Cursor}
 use Rattle.newt_spec_store.specs.Store.{Store}
-use Rattle.newt_units.specs.declared.units.Units.{Units}
-use Rattle.newt_units.specs.Stands.{Eight, Stands}
-use Rattle.newt_walk.specs.Fits.{DeskFits}
-use Rattle.newt_walk.specs.World.{world_with}
+use Rattle.newt_engine_units.specs.declared.units.Units.{Units}
+use Rattle.newt_engine_units.specs.Stands.{Eight, Stands}
+use Rattle.newt_engine_cursors.specs.Fits.{DeskFits}
+use Rattle.newt_engine_cursors.specs.World.{world_with}
 
 module _ {C : Type 0} (reads : List ℕ → Option Store) (place : C → ℕ) (stands : Bool → C → Outside → Type 0) where
   -- The units stand for a host of eight units, and the cursors with them for a world of its devices: no two mounted stores have one signature, and no cursor

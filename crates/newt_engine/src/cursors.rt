@@ -6,13 +6,13 @@ ghost use Rattle.newt_reply.specs.Said.{said};
 ghost use Rattle.newt_laws_cursors.specs.Cursors.{uses_cursors};
 ghost use Rattle.newt_laws_answers.specs.Answering.{Answering};
 ghost use Rattle.newt_laws_answers.specs.Spoken.{answer_now};
-ghost use Rattle.newt_units.specs.Answers as now;
-ghost use Rattle.newt_cardstore.specs.Faults.{GoesOn, HasFaultCause, IsRefusal, NoDevice};
-ghost use Rattle.newt_units.specs.Stands.{Stands};
-ghost use Rattle.newt_laws.specs.Settled.{MountedApart};
-ghost use Rattle.newt_walk.specs.Fits.{DeskFits};
-ghost use Rattle.newt_walk.specs.Replies.{Answers};
-ghost use Rattle.newt_walk.specs.World.{AreRead, world_with};
+ghost use Rattle.newt_engine_units.specs.Answers as now;
+ghost use Rattle.newt_engine_card.specs.Faults.{GoesOn, HasFaultCause, IsRefusal, NoDevice};
+ghost use Rattle.newt_engine_units.specs.Stands.{Stands};
+ghost use Rattle.newt_laws_world.specs.Settled.{MountedApart};
+ghost use Rattle.newt_engine_cursors.specs.Fits.{DeskFits};
+ghost use Rattle.newt_engine_cursors.specs.Replies.{Answers};
+ghost use Rattle.newt_engine_cursors.specs.World.{AreRead, world_with};
 ghost use Rattle.newt_engine.specs.Bounds.{CommandCosts};
 ghost use Rattle.newt_engine.specs.Ends.{takes_memory, uses_device};
 ghost use Rattle.newt_engine.specs.Groups.{on_place};
@@ -21,7 +21,7 @@ ghost use Rattle.newt_engine.specs.Standing.{Standing};
 use crate::replies::{done, numbered, opened, shown, sided};
 use crate::world::World;
 use newt_base::Refusal;
-use newt_cardstore::{Card, Fault};
+use newt_engine_card::{Card, Fault};
 use newt_host::Host;
 use newt_reply::Reply;
 use newt_script::Command;
@@ -61,19 +61,19 @@ impl<C: Card> World<C> {
     {
         let World { units, desk } = self;
         match command {
-            Command::Entry(cursor) => shown(newt_walk::entry(units, desk, host, *cursor)),
-            Command::Next(cursor) => shown(newt_walk::next(units, desk, host, *cursor)),
-            Command::Prev(cursor) => shown(newt_walk::prev(units, desk, host, *cursor)),
-            Command::Reset(cursor) => shown(newt_walk::reset(units, desk, host, *cursor)),
-            Command::End(cursor) => shown(newt_walk::end(units, desk, host, *cursor)),
+            Command::Entry(cursor) => shown(newt_engine_cursors::entry(units, desk, host, *cursor)),
+            Command::Next(cursor) => shown(newt_engine_cursors::next(units, desk, host, *cursor)),
+            Command::Prev(cursor) => shown(newt_engine_cursors::prev(units, desk, host, *cursor)),
+            Command::Reset(cursor) => shown(newt_engine_cursors::reset(units, desk, host, *cursor)),
+            Command::End(cursor) => shown(newt_engine_cursors::end(units, desk, host, *cursor)),
             Command::Moveby(cursor, by) => {
-                shown(newt_walk::moveby(units, desk, host, *cursor, *by))
+                shown(newt_engine_cursors::moveby(units, desk, host, *cursor, *by))
             }
             Command::Goto(cursor, unit, uid) => {
-                shown(newt_walk::go_to(units, desk, host, *cursor, *unit, *uid))
+                shown(newt_engine_cursors::go_to(units, desk, host, *cursor, *unit, *uid))
             }
             Command::Gotokey(cursor, graph) => {
-                shown(newt_walk::go_to_key(units, desk, host, *cursor, graph))
+                shown(newt_engine_cursors::go_to_key(units, desk, host, *cursor, graph))
             }
             _ => self.change_places(host, command),
         }
@@ -93,15 +93,19 @@ impl<C: Card> World<C> {
         let World { units, desk } = self;
         match command {
             Command::Query(unit, name, graph) => {
-                opened(newt_walk::query(units, desk, host, *unit, name, graph))
+                opened(newt_engine_cursors::query(units, desk, host, *unit, name, graph))
             }
             Command::QueryAll(name, graph) => {
-                opened(newt_walk::query_all(units, desk, host, name, graph))
+                opened(newt_engine_cursors::query_all(units, desk, host, name, graph))
             }
-            Command::Count(cursor) => numbered(newt_walk::count(units, desk, host, *cursor)),
-            Command::Which(cursor) => sided(newt_walk::which(units, desk, host, *cursor)),
-            Command::Clone(cursor) => opened(newt_walk::clone_of(units, desk, host, *cursor)),
-            Command::Close(cursor) => done(newt_walk::close(units, desk, host, *cursor)),
+            Command::Count(cursor) => numbered(newt_engine_cursors::count(
+                units, desk, host, *cursor,
+            )),
+            Command::Which(cursor) => sided(newt_engine_cursors::which(units, desk, host, *cursor)),
+            Command::Clone(cursor) => opened(newt_engine_cursors::clone_of(
+                units, desk, host, *cursor,
+            )),
+            Command::Close(cursor) => done(newt_engine_cursors::close(units, desk, host, *cursor)),
             _ => Err(Fault::Refused(Refusal::Command)),
         }
     }

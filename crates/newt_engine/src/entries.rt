@@ -6,16 +6,16 @@ ghost use Rattle.newt_reply.specs.Said.{said};
 ghost use Rattle.newt_laws_cursors.specs.Cursors.{uses_cursors};
 ghost use Rattle.newt_laws_answers.specs.Answering.{Answering};
 ghost use Rattle.newt_laws_answers.specs.Spoken.{answer_now};
-ghost use Rattle.newt_units.specs.Answers.{Answers};
-ghost use Rattle.newt_cardstore.specs.Faults.{GoesOn, HasFaultCause, IsRefusal, NoDevice};
-ghost use Rattle.newt_units.specs.Stands.{Stands, world_of};
+ghost use Rattle.newt_engine_units.specs.Answers.{Answers};
+ghost use Rattle.newt_engine_card.specs.Faults.{GoesOn, HasFaultCause, IsRefusal, NoDevice};
+ghost use Rattle.newt_engine_units.specs.Stands.{Stands, world_of};
 ghost use Rattle.newt_engine.specs.Bounds.{CommandCosts};
 ghost use Rattle.newt_engine.specs.Ends.{takes_memory, uses_device};
 ghost use Rattle.newt_engine.specs.Groups.{on_graph};
 
 use crate::replies::{done, hex, numbered, timed, timed_nsof};
 use crate::world::World;
-use newt_cardstore::{Card, Fault};
+use newt_engine_card::{Card, Fault};
 use newt_host::Host;
 use newt_reply::Reply;
 use newt_script::Command;
@@ -44,25 +44,36 @@ impl<C: Card> World<C> {
         let World { units, .. } = self;
         match command {
             Command::Get(unit, name, uid) => {
-                timed(newt_commands::get(units, host, *unit, name, *uid))
+                timed(newt_engine_commands::get(units, host, *unit, name, *uid))
             }
             Command::Getx(unit, name, uid) => {
-                timed_nsof(newt_commands::get(units, host, *unit, name, *uid))
+                timed_nsof(newt_engine_commands::get(units, host, *unit, name, *uid))
             }
             Command::Remove(unit, name, uid) => {
-                done(newt_commands::remove(units, host, *unit, name, *uid))
+                done(newt_engine_commands::remove(units, host, *unit, name, *uid))
             }
             Command::Copy(unit, name, uid, to, target) => {
-                numbered(newt_commands::copy(units, host, *unit, name, *uid, *to, target))
+                numbered(newt_engine_commands::copy(units, host, *unit, name, *uid, *to, target))
             }
             Command::Move(unit, name, uid, to, target) => {
-                numbered(newt_commands::move_entry(units, host, *unit, name, *uid, *to, target))
+                numbered(newt_engine_commands::move_entry(
+                    units, host, *unit, name, *uid, *to, target,
+                ))
             }
             Command::Vread(unit, name, uid, path, at, len) => {
-                hex(newt_commands::vread(units, host, *unit, name, *uid, path, *at, *len))
+                hex(newt_engine_commands::vread(units, host, *unit, name, *uid, path, *at, *len))
             }
             Command::Vwrite(unit, name, uid, path, at, bytes) => {
-                done(newt_commands::vwrite(units, host, *unit, name, *uid, path, *at, bytes.list()))
+                done(newt_engine_commands::vwrite(
+                    units,
+                    host,
+                    *unit,
+                    name,
+                    *uid,
+                    path,
+                    *at,
+                    bytes.list(),
+                ))
             }
             _ => self.obey_on_store(host, command),
         }

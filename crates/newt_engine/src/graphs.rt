@@ -6,15 +6,15 @@ ghost use Rattle.newt_reply.specs.Said.{said};
 ghost use Rattle.newt_laws_cursors.specs.Cursors.{uses_cursors};
 ghost use Rattle.newt_laws_answers.specs.Answering.{Answering};
 ghost use Rattle.newt_laws_answers.specs.Spoken.{answer_now};
-ghost use Rattle.newt_units.specs.Answers.{Answers};
-ghost use Rattle.newt_cardstore.specs.Faults.{GoesOn, HasFaultCause, IsRefusal, NoDevice};
-ghost use Rattle.newt_units.specs.Stands.{Stands, world_of};
+ghost use Rattle.newt_engine_units.specs.Answers.{Answers};
+ghost use Rattle.newt_engine_card.specs.Faults.{GoesOn, HasFaultCause, IsRefusal, NoDevice};
+ghost use Rattle.newt_engine_units.specs.Stands.{Stands, world_of};
 ghost use Rattle.newt_engine.specs.Bounds.{CommandCosts};
 ghost use Rattle.newt_engine.specs.Ends.{takes_memory, uses_device};
 
 use crate::replies::{added, done, numbered};
 use crate::world::World;
-use newt_cardstore::{Card, Fault};
+use newt_engine_card::{Card, Fault};
 use newt_host::Host;
 use newt_reply::Reply;
 use newt_script::Command;
@@ -40,19 +40,19 @@ impl<C: Card> World<C> {
             Command::Nsof(graph) => Ok(Reply::Nsof(graph)),
             Command::Lit(graph) => Ok(Reply::Literal(graph)),
             Command::Add(unit, name, graph) => {
-                numbered(newt_commands::add(units, host, unit, &name, graph))
+                numbered(newt_engine_commands::add(units, host, unit, &name, graph))
             }
             Command::Addx(unit, name, graph) => {
-                numbered(newt_commands::add(units, host, unit, &name, graph))
+                numbered(newt_engine_commands::add(units, host, unit, &name, graph))
             }
             Command::Addu(name, graph) => {
-                added(newt_commands::add_to_default(units, host, &name, graph))
+                added(newt_engine_commands::add_to_default(units, host, &name, graph))
             }
             Command::Set(unit, name, uid, path, value) => {
-                done(newt_commands::set(units, host, unit, &name, uid, &path, &value))
+                done(newt_engine_commands::set(units, host, unit, &name, uid, &path, &value))
             }
             Command::Change(unit, name, uid, graph) => {
-                done(newt_commands::change(units, host, unit, &name, uid, graph))
+                done(newt_engine_commands::change(units, host, unit, &name, uid, graph))
             }
             other => {
                 let obeyed = self.obey_on_entry(host, &other);

@@ -2,16 +2,16 @@
 ghost use Rattle.std.specs.Prelude.{◌≡◌, Bool, true, false, IfErr};
 ghost use Rattle.newt_host.specs.Outside.{Outside};
 ghost use Rattle.newt_reply.specs.Said.{said};
-ghost use Rattle.newt_units.specs.Answers.{Answers};
-ghost use Rattle.newt_cardstore.specs.Faults.{IsRefusal, NoDevice};
-ghost use Rattle.newt_units.specs.Stands.{Eight, Stands, world_of};
+ghost use Rattle.newt_engine_units.specs.Answers.{Answers};
+ghost use Rattle.newt_engine_card.specs.Faults.{IsRefusal, NoDevice};
+ghost use Rattle.newt_engine_units.specs.Stands.{Eight, Stands, world_of};
 ghost use Rattle.newt_engine.specs.Ends.{takes_memory, uses_device};
 ghost use Rattle.newt_engine.specs.Groups.{on_graph};
 
 use crate::replies::{alias_of, done, place, soup_rows, spec_rows, tag_row};
 use crate::world::World;
 use newt_base::Refusal;
-use newt_cardstore::{Card, Fault};
+use newt_engine_card::{Card, Fault};
 use newt_reply::Reply;
 use newt_script::Command;
 
@@ -38,11 +38,18 @@ impl<C: Card> World<C> {
             Command::Default(unit) => done(self.units.set_default(*unit)),
             Command::Soups(unit) => soup_rows(self.units.soups(*unit)),
             Command::Indexes(unit, name) => {
-                spec_rows(newt_commands::indexes(&self.units, *unit, name))
+                spec_rows(newt_engine_commands::indexes(&self.units, *unit, name))
             }
-            Command::Tags(unit, name) => tag_row(newt_commands::tags(&self.units, *unit, name)),
+            Command::Tags(unit, name) => tag_row(newt_engine_commands::tags(
+                &self.units,
+                *unit,
+                name,
+            )),
             Command::Alias(unit, name, uid) => {
-                alias_of(newt_commands::alias(&self.units, *unit, name, *uid), *uid)
+                alias_of(
+                    newt_engine_commands::alias(&self.units, *unit, name, *uid),
+                    *uid,
+                )
             }
             Command::Resolve(graph) => place(self.units.resolve(graph)),
             _ => Err(Fault::Refused(Refusal::Command)),

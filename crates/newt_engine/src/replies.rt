@@ -3,16 +3,16 @@ ghost use Rattle.std.specs.Prelude.{◌≡◌, map};
 ghost use Rattle.newt_reply.specs.Said.{said, soup_row};
 ghost use Rattle.newt_spec_world.specs.Answer.{or_nil};
 ghost use Rattle.newt_spec_world.specs.Reply as plain;
-ghost use Rattle.newt_walk.specs.Replies.{shown_reply, side_reply};
+ghost use Rattle.newt_engine_cursors.specs.Replies.{shown_reply, side_reply};
 ghost use Rattle.newt_engine.specs.Handed.{HandsOn};
 
 use newt_base::{Name, Sig, Uid};
-use newt_cardstore::{Entry, Fault};
+use newt_engine_card::{Entry, Fault};
+use newt_engine_cursors::{Shown, Side};
 use newt_graph::Bytes;
 use newt_host::Unit;
 use newt_reply::{Alias, Reply, SoupRows, SpecRows, TagRow};
 use newt_tags::TagTable;
-use newt_walk::{Shown, Side};
 
 /// That it was done.
 pub(crate) fn done(found: Result<(), Fault>) -> Result<Reply, Fault>

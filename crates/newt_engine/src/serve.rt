@@ -5,24 +5,24 @@ ghost use Rattle.newt_host.specs.Moments.{Always};
 ghost use Rattle.newt_reply.specs.Said.{said};
 ghost use Rattle.newt_laws_answers.specs.Answering.{Answering};
 ghost use Rattle.newt_laws_answers.specs.Spoken.{answer_now};
-ghost use Rattle.newt_laws.specs.Settled.{MountedApart, moves_keys};
+ghost use Rattle.newt_laws_world.specs.Settled.{MountedApart, moves_keys};
 ghost use Rattle.newt_laws_cursors.specs.Cursors.{uses_cursors};
 ghost use Rattle.newt_spec_world.specs.World.{settle};
-ghost use Rattle.newt_units.specs.Answers.{Answers};
-ghost use Rattle.newt_cardstore.specs.Faults.{GoesOn, HasFaultCause, IsEnd, IsRefusal, NoDevice};
-ghost use Rattle.newt_units.specs.Stands.{Stands};
-ghost use Rattle.newt_walk.specs.Fits.{DeskFits};
-ghost use Rattle.newt_walk.specs.World.{AreRead, world_with};
+ghost use Rattle.newt_engine_units.specs.Answers.{Answers};
+ghost use Rattle.newt_engine_card.specs.Faults.{GoesOn, HasFaultCause, IsEnd, IsRefusal, NoDevice};
+ghost use Rattle.newt_engine_units.specs.Stands.{Stands};
+ghost use Rattle.newt_engine_cursors.specs.Fits.{DeskFits};
+ghost use Rattle.newt_engine_cursors.specs.World.{AreRead, world_with};
 ghost use Rattle.newt_engine.specs.Bounds.{CommandCosts};
 ghost use Rattle.newt_engine.specs.Ends.{takes_memory, uses_device};
 ghost use Rattle.newt_engine.specs.Standing.{Standing};
 
 use crate::world::World;
-use newt_cardstore::{Card, Fault};
+use newt_engine_card::{Card, Fault};
+use newt_engine_cursors::settle;
 use newt_host::Host;
 use newt_reply::Reply;
 use newt_script::Command;
-use newt_walk::settle;
 
 impl<C: Card> World<C> {
     /// Obeys a command, with the cursors. A fault is its refusal, or the end of the run.
@@ -98,7 +98,7 @@ impl<C: Card> World<C> {
 }
 
 /// Whether the keys of entries may be others after a command.
-#[tactic(auto, unfolding(newt_laws::specs::Settled::moves_keys))]
+#[tactic(auto, unfolding(newt_laws_world::specs::Settled::moves_keys))]
 fn settles(command: &Command) -> bool
     ensures { result ≡ moves_keys command.now }
 {

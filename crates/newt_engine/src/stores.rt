@@ -6,16 +6,16 @@ ghost use Rattle.newt_reply.specs.Said.{said};
 ghost use Rattle.newt_laws_cursors.specs.Cursors.{uses_cursors};
 ghost use Rattle.newt_laws_answers.specs.Answering.{Answering};
 ghost use Rattle.newt_laws_answers.specs.Spoken.{answer_now};
-ghost use Rattle.newt_units.specs.Answers.{Answers};
-ghost use Rattle.newt_cardstore.specs.Faults.{GoesOn, HasFaultCause, IsRefusal, NoDevice};
-ghost use Rattle.newt_units.specs.Stands.{Stands, world_of};
+ghost use Rattle.newt_engine_units.specs.Answers.{Answers};
+ghost use Rattle.newt_engine_card.specs.Faults.{GoesOn, HasFaultCause, IsRefusal, NoDevice};
+ghost use Rattle.newt_engine_units.specs.Stands.{Stands, world_of};
 ghost use Rattle.newt_engine.specs.Bounds.{CommandCosts};
 ghost use Rattle.newt_engine.specs.Ends.{takes_memory, uses_device};
 ghost use Rattle.newt_engine.specs.Groups.{on_entry, on_graph};
 
 use crate::replies::{done, mounted, numbered};
 use crate::world::World;
-use newt_cardstore::{Card, Fault};
+use newt_engine_card::{Card, Fault};
 use newt_host::Host;
 use newt_reply::Reply;
 use newt_script::Command;
@@ -46,16 +46,20 @@ impl<C: Card> World<C> {
         match command {
             Command::Format(unit, name, sig) => done(units.format(host, *unit, name, *sig)),
             Command::Mount(unit) => mounted(units.mount(host, *unit)),
-            Command::Soup(unit, name) => numbered(newt_commands::soup(units, host, *unit, name)),
-            Command::Drop(unit, name) => done(newt_commands::drop_soup(units, host, *unit, name)),
+            Command::Soup(unit, name) => numbered(newt_engine_commands::soup(
+                units, host, *unit, name,
+            )),
+            Command::Drop(unit, name) => done(newt_engine_commands::drop_soup(
+                units, host, *unit, name,
+            )),
             Command::Index(unit, name, parts) => {
-                done(newt_commands::index(units, host, *unit, name, parts))
+                done(newt_engine_commands::index(units, host, *unit, name, parts))
             }
             Command::Unindex(unit, name, paths) => {
-                done(newt_commands::unindex(units, host, *unit, name, paths))
+                done(newt_engine_commands::unindex(units, host, *unit, name, paths))
             }
             Command::SetTags(unit, name, path, symbols) => {
-                done(newt_commands::set_tags(units, host, *unit, name, path, symbols))
+                done(newt_engine_commands::set_tags(units, host, *unit, name, path, symbols))
             }
             _ => self.obey_in_memory(command),
         }

@@ -8,21 +8,21 @@ ghost use Rattle.newt_reply.specs.Said.{said};
 ghost use Rattle.newt_laws_answers.specs.Answering.{Answering};
 ghost use Rattle.newt_laws_answers.specs.Bounds.{most_programmed};
 ghost use Rattle.newt_laws_answers.specs.Spoken.{answer_now};
-ghost use Rattle.newt_cardstore.specs.Bounds.{ProgramsAtMost, IsOpenOrSame};
-ghost use Rattle.newt_walk.specs.World.{world_with};
+ghost use Rattle.newt_engine_card.specs.Bounds.{ProgramsAtMost, IsOpenOrSame};
+ghost use Rattle.newt_engine_cursors.specs.World.{world_with};
 ghost use Rattle.newt_engine.specs.Bounds.{is_format};
 ghost use Rattle.newt_engine.specs.Ends.{takes_memory, uses_device};
 ghost use Rattle.newt_engine.specs.Standing.{Standing};
 ghost use Rattle.newt_engine.specs.Laws.{laws_of, still_stands, same_world, leaves_store, stays_there};
 
-use newt_cardstore::{Card, Fault};
 use newt_cursor::Desk;
+use newt_engine_card::{Card, Fault};
+use newt_engine_units::Units;
 use newt_host::Host;
 use newt_pagebook::Stop;
 use newt_reply::Reply;
 use newt_script::Command;
-use newt_session::Interpreter;
-use newt_units::Units;
+use newt_script_session::Interpreter;
 use std::alloc::{AllocError, Global};
 
 /// The eight units with their cards and the 32 places for cursors, which with the devices of a host stand for one world.

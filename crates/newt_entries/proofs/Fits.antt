@@ -12,8 +12,8 @@ use Rattle.newt_graph.specs.declared.node.Ref.TheVariants as refs
 use Rattle.newt_graph.specs.declared.node.Node.{Node}
 use Rattle.newt_graph.specs.declared.node.Node.TheVariants.{Large}
 use Rattle.newt_graph.specs.Graph.{RawGraph, IsGraph, payload}
-use Rattle.newt_nsof.specs.Lengths.{skeleton, bare as bare_node}
-use Rattle.newt_nsof.specs.Written.{nsof}
+use Rattle.newt_spec_nsof.specs.Lengths.{skeleton, bare as bare_node}
+use Rattle.newt_spec_nsof.specs.Written.{nsof}
 use Rattle.newt_spec_graph.specs.Graph.{object, is_frame}
 use Rattle.newt_spec_graph.specs.Limits.{within_limits}
 use Rattle.newt_spec_store.specs.Lies.{may_be_large, stretched}

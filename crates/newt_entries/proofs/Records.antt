@@ -3,7 +3,7 @@ use Rattle.std.proofs.Common.{◌≡◌, ℕ, ◌-◌, ◌*◌, ◌<◌, ◌≤�
 use Rattle.std.proofs.lemmas.List.{drop-drop}
 use Rattle.newt_base.specs.Text.{be16_at, be32_at}
 use Rattle.newt_graph.specs.Graph.{RawGraph}
-use Rattle.newt_nsof.specs.Written.{nsof}
+use Rattle.newt_spec_nsof.specs.Written.{nsof}
 use Rattle.newt_spec_store.specs.Lies.{only, is_record, record_read}
 use Rattle.newt_spec_store.specs.StoreOf.{LargeRow, EntryRow, written}
 use Rattle.newt_entries.specs.Entry.{stream_graph, row_at, rows_in, fits}

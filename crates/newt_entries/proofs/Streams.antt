@@ -7,9 +7,9 @@ use Rattle.std.proofs.lemmas.Slice.Eq.{bytes_eq-Decides}
 use Rattle.std.proofs.lemmas.Cmp.{nat_list_eq_equiv}
 use Rattle.std.proofs.lemmas.List.Elements.{All-from_recursion}
 use Rattle.newt_graph.specs.Graph.{RawGraph, IsGraph}
-use Rattle.newt_nsof.specs.Text.{AreBytes, Spells}
-use Rattle.newt_nsof.specs.Written.{nsof}
-use Rattle.newt_nsof.proofs.Normal.{spelled_is_graph}
+use Rattle.newt_spec_nsof.specs.Text.{AreBytes, Spells}
+use Rattle.newt_spec_nsof.specs.Written.{nsof}
+use Rattle.newt_spec_nsof.proofs.Normal.{spelled_is_graph}
 use Rattle.newt_nsof_read.specs.declared.fault.NsofFault.{NsofFault}
 use Rattle.newt_nsof_read.specs.Reading.{decoded}
 use Rattle.newt_nsof_read.proofs.Decoded.{read_as_spelled, written_is_read_again}

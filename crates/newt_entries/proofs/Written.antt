@@ -6,7 +6,7 @@ use Rattle.std.proofs.lemmas.List.Folds.{flat_map-map}
 use Rattle.std.proofs.lemmas.Slice.Zip.{length-zip}
 use Rattle.newt_base.specs.Text.{be16, be32}
 use Rattle.newt_graph.specs.Graph.{RawGraph}
-use Rattle.newt_nsof.specs.Written.{nsof}
+use Rattle.newt_spec_nsof.specs.Written.{nsof}
 use Rattle.newt_spec_store.specs.Image.{larges, large_row, entry_bytes}
 use Rattle.newt_spec_store.specs.Laid.{Named, row_of_large}
 use Rattle.newt_spec_store.specs.Store.{Entry}

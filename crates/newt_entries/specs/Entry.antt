@@ -4,8 +4,8 @@ use Rattle.std.specs.List.{list_all, enumerate_from}
 use Rattle.newt_base.specs.Text.{be32, be32_at}
 use Rattle.newt_graph.specs.declared.node.Node.{Node}
 use Rattle.newt_graph.specs.Graph.{RawGraph}
-use Rattle.newt_nsof.specs.Written.{nsof}
-use Rattle.newt_nsof.specs.Lengths.{skeleton}
+use Rattle.newt_spec_nsof.specs.Written.{nsof}
+use Rattle.newt_spec_nsof.specs.Lengths.{skeleton}
 use Rattle.newt_nsof_read.specs.declared.fault.NsofFault.{NsofFault}
 use Rattle.newt_nsof_read.specs.Reading.{decoded}
 use Rattle.newt_spec_store.specs.Image.{larges, large_in}

@@ -2,8 +2,8 @@
 ghost use Rattle.std.specs.Prelude.{◌≡◌, ◌≤◌, ◌*◌, ◌&&◌, true, nat_le, length, map};
 ghost use Rattle.std.specs.List.{list_all, sum_by};
 ghost use Rattle.newt_graph.specs.Graph.{IsGraph, payload};
-ghost use Rattle.newt_nsof.specs.Lengths.{skeleton as skeleton_of};
-ghost use Rattle.newt_nsof.specs.Written.{nsof};
+ghost use Rattle.newt_spec_nsof.specs.Lengths.{skeleton as skeleton_of};
+ghost use Rattle.newt_spec_nsof.specs.Written.{nsof};
 ghost use Rattle.newt_spec_graph.specs.Graph as words;
 ghost use Rattle.newt_spec_graph.specs.Limits.{within_limits};
 ghost use Rattle.newt_spec_store.specs.Lies.{may_be_large, stretched};

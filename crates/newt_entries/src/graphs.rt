@@ -4,7 +4,7 @@ ghost use Rattle.std.specs.List.{enumerate_from};
 ghost use Rattle.std.specs.Vec.Iter.{into_iter_items, into_iter_len};
 ghost use Rattle.newt_graph.specs.declared.node.Node.TheVariants.{Large};
 ghost use Rattle.newt_graph.specs.Graph.{payload};
-ghost use Rattle.newt_nsof.specs.Lengths.{bare, skeleton};
+ghost use Rattle.newt_spec_nsof.specs.Lengths.{bare, skeleton};
 ghost use Rattle.newt_spec_store.specs.Image.{large_in, larges};
 ghost use Rattle.newt_spec_store.specs.Laid.{row_of_large};
 ghost use Rattle.newt_spec_store.specs.Valid.{valid_entry};

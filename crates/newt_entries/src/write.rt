@@ -1,7 +1,7 @@
 //! Writing an entry record.
 ghost use Rattle.std.specs.Prelude.{◌≡◌, ◌<◌, ◌++◌, ℕ, List, length, flat_map, OnOk, IfOk};
 ghost use Rattle.newt_base.specs.Text.{be16, be32};
-ghost use Rattle.newt_nsof.specs.Written.{nsof};
+ghost use Rattle.newt_spec_nsof.specs.Written.{nsof};
 ghost use Rattle.newt_spec_store.specs.Image.{entry_bytes};
 ghost use Rattle.newt_spec_store.specs.Store.{Entry};
 ghost use Rattle.newt_entries.specs.Entry.{large_bytes, AreRowsOf};

@@ -3,7 +3,7 @@ use Rattle.std.proofs.Common.{◌≡◌, ℕ, ◌+◌, ◌-◌, ◌*◌, ◌≤�
 use Rattle.newt_host.specs.Moments.{Moment, image, changes, SameOutside, Leaves}
 use Rattle.newt_host.specs.Outside.{IsBlank, Writes, Syncs}
 use Rattle.newt_host.proofs.Moments.{Leaves-weaken}
-use Rattle.newt_image.specs.Records.{bank_size, bank_blocks, header, length_bytes}
+use Rattle.newt_spec_image.specs.Records.{bank_size, bank_blocks, header, length_bytes}
 use Rattle.newt_journal.specs.Bank.{bank_number, start_of}
 use Rattle.newt_journal.specs.Fresh.{lead, FilledBy}
 use Rattle.newt_journal.specs.declared.bank.Bank.{Bank}

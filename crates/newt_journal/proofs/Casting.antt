@@ -5,7 +5,7 @@ use Rattle.newt_host.specs.Moments.{SameOutside, overwritten}
 use Rattle.newt_host.specs.Outside.{blank}
 use Rattle.newt_host.proofs.Outside.{length-blank}
 use Rattle.newt_host.proofs.Ranges.{get_or-same, same-trans, same-widen, same-overwritten}
-use Rattle.newt_image.specs.Records.{chosen, chosen_bank, AllVoteFor}
+use Rattle.newt_spec_image.specs.Records.{chosen, chosen_bank, AllVoteFor}
 use Rattle.newt_journal.specs.Turns.{Turns}
 use Rattle.newt_journal.proofs.Votes.{first_torn, middle_torn, last_torn}
 

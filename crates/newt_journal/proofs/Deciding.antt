@@ -1,7 +1,7 @@
 -- What three votes choose while one that differs is rewritten.
 use Rattle.std.proofs.Common.{◌≡◌, ◌≢◌, ℕ, zero, suc, ◌≤◌, Some, arith}
 use Rattle.std.proofs.lemmas.Bool.Decides.{nat_tests}
-use Rattle.newt_image.specs.Records.{chosen}
+use Rattle.newt_spec_image.specs.Records.{chosen}
 
 -- where the second or the third vote is not for the chosen bank, the first one is
 pub first_if_second : (a b c k : ℕ) → chosen a b c ≡ Some k → b ≢ k → a ≡ k

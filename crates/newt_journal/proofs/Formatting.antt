@@ -4,7 +4,7 @@ use Rattle.std.proofs.lemmas.List.{length-replicate}
 use Rattle.newt_host.specs.Moments.{Moment, image, changes, IsDurable, SameOutside, Leaves, Anything}
 use Rattle.newt_host.specs.Outside.{IsBlank, Writes, Syncs}
 use Rattle.newt_host.proofs.Moments.{Leaves-start, Leaves-sync, Leaves-weaken}
-use Rattle.newt_image.specs.Records.{bank_size, records, tail, AllVoteFor}
+use Rattle.newt_spec_image.specs.Records.{bank_size, records, tail, AllVoteFor}
 use Rattle.newt_journal.specs.Bank.{bank_number, start_of}
 use Rattle.newt_journal.specs.Fresh.{lead, FilledBy}
 use Rattle.newt_journal.specs.Journal.{Holds, written, HeldBy}

@@ -7,7 +7,7 @@ use Rattle.std.proofs.lemmas.Bool.Decides.{nat_tests}
 use Rattle.std.specs.List.{flat_map}
 use Rattle.newt_host.specs.Outside.{Outside, HasBlocks}
 use Rattle.newt_host.specs.Moments.{Change, Moment, image, bytes_after, LeftBy}
-use Rattle.newt_image.specs.Records.{bank_size, bank_bytes, chosen_bank, header, without, payloads_after, and_then, has_banks, body, records, record_bytes}
+use Rattle.newt_spec_image.specs.Records.{bank_size, bank_bytes, chosen_bank, header, without, payloads_after, and_then, has_banks, body, records, record_bytes}
 use Rattle.newt_journal.specs.Bank.{bank_number, start_of, limit_of}
 use Rattle.newt_journal.specs.Journal.{Holds, written, HeldBy}
 use Rattle.newt_journal.specs.Scan.{IsEnd, between}

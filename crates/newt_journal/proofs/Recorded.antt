@@ -2,7 +2,7 @@
 use Rattle.std.proofs.Common.{IsTrue, Bool, ◌≡◌, ℕ, ◌+◌, ◌-◌, ◌≤◌, List, [], ◌∷◌, ◌++◌, length, take, drop, take-append-drop, replicate, Some, Result, Ok, Err, OnOk, refl, sym, ◌∙◌, ap, subst, arith, append_assoc, length-append, length-take, length-drop}
 use Rattle.newt_host.specs.Moments.{Moment, image}
 use Rattle.newt_host.specs.Outside.{Outside}
-use Rattle.newt_image.specs.Records.{records, length_bytes, record_bytes, header}
+use Rattle.newt_spec_image.specs.Records.{records, length_bytes, record_bytes, header}
 use Rattle.std.proofs.lemmas.List.{drop-drop, drop_at, drop-append-le, take-append-le}
 use Rattle.newt_journal.proofs.Records.{length-length_bytes}
 use Rattle.newt_journal.specs.Bank.{bank_number, start_of}

@@ -3,7 +3,7 @@ use Rattle.std.proofs.Common.{◌≡◌, ℕ, ◌+◌, ◌≤◌, ◌==◌, ◌-
 use Rattle.std.proofs.lemmas.List.{drop-drop}
 use Rattle.newt_host.specs.Moments.{Moment, image, IsDurable, SameOutside, Leaves}
 use Rattle.newt_host.proofs.Moments.{Leaves-append, Leaves-weaken, Leaves-start, Leaves-same}
-use Rattle.newt_image.specs.Records.{chosen_bank, bank_size, records, vote_of, AllVoteFor}
+use Rattle.newt_spec_image.specs.Records.{chosen_bank, bank_size, records, vote_of, AllVoteFor}
 use Rattle.newt_journal.specs.Bank.{bank_number, other_bank, start_of}
 use Rattle.newt_journal.specs.Repairs.{Settling, Repairs}
 use Rattle.newt_journal.specs.Journal.{Holds, written, IsHeld}

@@ -6,7 +6,7 @@ use Rattle.newt_host.specs.Moments.{Moment, image, IsDurable, SameOutside, overw
 use Rattle.newt_host.specs.Outside.{blank}
 use Rattle.newt_host.proofs.Moments.{Leaves-start, Leaves-same, Leaves-append, Leaves-weaken}
 use Rattle.newt_host.proofs.Ranges.{get_or-same, same-refl, same-trans, same-widen, same-overwritten}
-use Rattle.newt_image.specs.Records.{chosen, chosen_bank, vote_of, AllVoteFor}
+use Rattle.newt_spec_image.specs.Records.{chosen, chosen_bank, vote_of, AllVoteFor}
 use Rattle.newt_journal.specs.Bank.{bank_number, other_bank}
 use Rattle.newt_journal.specs.Repairs.{Settling, Repairs}
 use Rattle.newt_journal.specs.declared.bank.Bank.{Bank}

@@ -5,7 +5,7 @@ use Rattle.newt_host.specs.Moments.{Moment, image, changes, IsDurable, SameOutsi
 use Rattle.newt_host.specs.Outside.{IsBlank, Writes, Syncs}
 use Rattle.newt_host.proofs.Moments.{Leaves-start, Leaves-sync, Leaves-append, Leaves-weaken, image-sync}
 use Rattle.newt_host.proofs.Ranges.{get_or-same, same-refl, part-reads}
-use Rattle.newt_image.specs.Records.{bank_size, bank_bytes, chosen, chosen_bank, header, records, record_bytes, length_bytes, AllVoteFor}
+use Rattle.newt_spec_image.specs.Records.{bank_size, bank_bytes, chosen, chosen_bank, header, records, record_bytes, length_bytes, AllVoteFor}
 use Rattle.newt_journal.specs.Bank.{bank_number, other_bank, start_of}
 use Rattle.newt_journal.specs.Turns.{Turns}
 use Rattle.newt_journal.specs.Fresh.{lead, FilledBy}

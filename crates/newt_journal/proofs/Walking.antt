@@ -5,7 +5,7 @@ use Rattle.std.proofs.lemmas.Grind.{flat_map-append}
 use Rattle.std.specs.List.{flat_map}
 use Rattle.newt_host.specs.Moments.{Moment, image}
 use Rattle.newt_host.specs.Outside.{Outside}
-use Rattle.newt_image.specs.Records.{records, payloads_after, with_first, header, record_bytes, length_bytes, length_at, bank_size}
+use Rattle.newt_spec_image.specs.Records.{records, payloads_after, with_first, header, record_bytes, length_bytes, length_at, bank_size}
 use Rattle.newt_journal.specs.Bank.{bank_number, start_of, limit_of}
 use Rattle.newt_journal.specs.Scan.{between}
 use Rattle.newt_journal.specs.Journal.{Holds, written, IsHeld, Stands}

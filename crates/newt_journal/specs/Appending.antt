@@ -2,7 +2,7 @@
 use Rattle.std.specs.Prelude.{IsTrue, Bool, ◌≡◌, ℕ, ◌+◌, ◌-◌, List, [], ◌∷◌, ◌++◌, length, take, drop, replicate}
 use Rattle.newt_host.specs.Moments.{Change, Moment, changes, bytes_after, LeftBy, SameOutside}
 use Rattle.newt_host.specs.Outside.{Outside, HasBlocks}
-use Rattle.newt_image.specs.Records.{length_bytes}
+use Rattle.newt_spec_image.specs.Records.{length_bytes}
 use Rattle.newt_journal.specs.Bank.{bank_number, start_of}
 use Rattle.newt_journal.specs.Journal.{Holds, written}
 use Rattle.newt_journal.specs.declared.appending.Appending.{Appending}

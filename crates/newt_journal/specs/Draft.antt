@@ -1,7 +1,7 @@
 -- What the draft of a record stands for, behind the others or alone in the other bank.
 use Rattle.std.specs.Prelude.{ℕ, Bool, true, false, ◌+◌, ◌-◌, List, [], ◌∷◌, Option, Some}
 use Rattle.newt_host.specs.Outside.{Outside}
-use Rattle.newt_image.specs.Records.{bank_size}
+use Rattle.newt_spec_image.specs.Records.{bank_size}
 use Rattle.newt_journal.specs.Bank.{limit_of}
 use Rattle.newt_journal.specs.Journal.{appended}
 use Rattle.newt_journal.specs.Appending.{drafted, IsAppendingOf}

@@ -1,7 +1,7 @@
 -- What a bank holds that is written anew.
 use Rattle.std.specs.Prelude.{◌≡◌, ℕ, List, [], ◌∷◌, ◌++◌, take, drop, replicate}
 use Rattle.newt_host.specs.Moments.{Change, bytes_after, LeftBy, SameOutside}
-use Rattle.newt_image.specs.Records.{length_bytes, header}
+use Rattle.newt_spec_image.specs.Records.{length_bytes, header}
 
 -- a header, an open gate and a length
 unfoldable pub lead : ℕ → List ℕ

@@ -1,6 +1,6 @@
 -- The places of records in a bank.
 use Rattle.std.specs.Prelude.{◌≡◌, ℕ, ◌+◌, ◌-◌, List, ◌++◌, length, take, drop, Option, Some}
-use Rattle.newt_image.specs.Records.{records, payloads_after}
+use Rattle.newt_spec_image.specs.Records.{records, payloads_after}
 use Rattle.newt_journal.specs.Bank.{start_of, limit_of}
 use Rattle.newt_journal.specs.Scan.{between}
 use Rattle.newt_journal.specs.Journal.{written}

@@ -1,7 +1,7 @@
 -- Votes that are made equal to the bank that they choose.
 use Rattle.std.specs.Prelude.{◌≡◌, ◌≢◌, ◌⊎◌, ℕ, ◌*◌, List, Some}
 use Rattle.newt_host.specs.Moments.{SameOutside}
-use Rattle.newt_image.specs.Records.{chosen_bank, vote_of}
+use Rattle.newt_spec_image.specs.Records.{chosen_bank, vote_of}
 
 -- A block that votes for this bank already is left alone, and of another one only the block itself may change.
 abbrev pub Settling : ℕ → ℕ → List ℕ → List ℕ → Type 0

@@ -2,7 +2,7 @@
 use Rattle.std.specs.Prelude.{IsTrue, Bool, ◌≡◌, ℕ, ◌+◌, ◌-◌, List, ◌++◌, length, take, drop}
 use Rattle.newt_host.specs.Moments.{Change, Moment, changes}
 use Rattle.newt_host.specs.Outside.{Outside, HasBlocks}
-use Rattle.newt_image.specs.Records.{bank_size, Ends, AllVoteFor}
+use Rattle.newt_spec_image.specs.Records.{bank_size, Ends, AllVoteFor}
 use Rattle.newt_journal.specs.Bank.{bank_number, other_bank, start_of}
 use Rattle.newt_journal.specs.Fresh.{lead, FilledBy}
 use Rattle.newt_journal.specs.Journal.{Holds, written}

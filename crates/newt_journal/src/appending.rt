@@ -20,7 +20,7 @@ impl Appending {
     ghost use Rattle.std.specs.Prelude.{OnErr, OnOk, IfOk, ◌-◌, ◌++◌, length, replicate, false};
     ghost use Rattle.newt_host.specs.Moments.{image, Leaves};
     ghost use Rattle.newt_host.specs.Outside.{Touches, Spends, Rose};
-    ghost use Rattle.newt_image.specs.Records.{records, tail};
+    ghost use Rattle.newt_spec_image.specs.Records.{records, tail};
     ghost use Rattle.newt_journal.specs.Journal.{room, Stands, appended, ReadsAs, ReadsAsEither};
     ghost use Rattle.newt_journal.specs.Appending.{IsAppendingOf, drafted};
     ghost use Rattle.newt_journal.specs.Places.{first_place};

@@ -2,7 +2,7 @@
 ghost use Rattle.std.specs.Prelude.{IsTrue, ◌≤◌, ◌+◌, ◌-◌, OnErr, OnOk};
 ghost use Rattle.newt_host.specs.Moments.{image, changes, IsDurable, SameOutside, Leaves};
 ghost use Rattle.newt_host.specs.Outside.{HasBlocks, Touches, Spends, Rose};
-ghost use Rattle.newt_image.specs.Records.{bank_size};
+ghost use Rattle.newt_spec_image.specs.Records.{bank_size};
 ghost use Rattle.newt_journal.specs.Bank.{start_of};
 ghost use Rattle.newt_journal.specs.Fresh.{lead, FilledBy};
 

@@ -2,7 +2,7 @@
 ghost use Rattle.std.specs.Prelude.{IsTrue, ◌≡◌, ◌≤◌, OnErr, OnOk};
 ghost use Rattle.newt_host.specs.Moments.{image, IsDurable, Leaves, Anything};
 ghost use Rattle.newt_host.specs.Outside.{Touches, Spends, Rose};
-ghost use Rattle.newt_image.specs.Records.{AllVoteFor};
+ghost use Rattle.newt_spec_image.specs.Records.{AllVoteFor};
 
 use crate::fresh::begin_bank;
 use crate::piece::program_piece;
@@ -12,7 +12,7 @@ use newt_host::{Failed, Host, Unit};
 
 impl Journal {
     ghost use Rattle.std.specs.Prelude.{◌+◌, ◌-◌, ◌∷◌, [], false, length, replicate, Some, IfOk};
-    ghost use Rattle.newt_image.specs.Records.{records, tail, bank_size};
+    ghost use Rattle.newt_spec_image.specs.Records.{records, tail, bank_size};
     ghost use Rattle.newt_journal.specs.Journal.{Stands};
     ghost use Rattle.newt_journal.specs.declared.bank.Bank.TheVariants.{First};
 

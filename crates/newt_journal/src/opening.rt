@@ -2,7 +2,7 @@
 ghost use Rattle.std.specs.Prelude.{IsTrue, ◌≡◌, ◌≤◌, None, OnErr, IfOk, MatchOption, Some};
 ghost use Rattle.newt_host.specs.Moments.{image};
 ghost use Rattle.newt_host.specs.Outside.{HasBlocks, Touches, Spends, Rose};
-ghost use Rattle.newt_image.specs.Records.{chosen_bank};
+ghost use Rattle.newt_spec_image.specs.Records.{chosen_bank};
 ghost use Rattle.newt_journal.specs.Bank.{bank_number};
 
 use crate::choose::choose;
@@ -29,7 +29,7 @@ fn read_votes<H: Host>(host: &mut H, unit: Unit, blocks: u32) -> Result<Option<B
 impl Journal {
     ghost use Rattle.std.specs.Prelude.{◌+◌, IsSome, IsErrOf};
     ghost use Rattle.newt_host.specs.Moments.{IsDurable};
-    ghost use Rattle.newt_image.specs.Records.{records, bank_size};
+    ghost use Rattle.newt_spec_image.specs.Records.{records, bank_size};
     ghost use Rattle.newt_journal.specs.Journal.{Stands};
 
     /// Reads the journal of a unit on which nothing is pending: its votes may differ, and a record may be torn.

@@ -17,7 +17,7 @@ impl Journal {
     ghost use Rattle.std.specs.Prelude.{Bool, ℕ, List, ◌+◌, ◌≤◌, [], length, take, drop, Some, OnErr, OnOk, IfOk, IfSome, MatchOption};
     ghost use Rattle.newt_host.specs.Moments.{image};
     ghost use Rattle.newt_host.specs.Outside.{Outside, Touches, Spends, Rose};
-    ghost use Rattle.newt_image.specs.Records.{records, with_first};
+    ghost use Rattle.newt_spec_image.specs.Records.{records, with_first};
     ghost use Rattle.newt_journal.specs.Places.{first_place, payloads_from, recorded, IsPlace};
     ghost use Rattle.newt_journal.specs.Journal.{Stands};
 

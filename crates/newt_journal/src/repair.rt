@@ -4,7 +4,7 @@ ghost use Rattle.newt_host.specs.Moments.{image, IsDurable, Leaves};
 ghost use Rattle.newt_host.specs.Outside.{HasBlocks, Touches, Spends, Rose};
 ghost use Rattle.newt_journal.specs.Bank.{bank_number, other_bank};
 ghost use Rattle.newt_journal.specs.Repairs.{Settling, Repairs};
-ghost use Rattle.newt_image.specs.Records.{vote_of, chosen_bank, AllVoteFor};
+ghost use Rattle.newt_spec_image.specs.Records.{vote_of, chosen_bank, AllVoteFor};
 
 use crate::scan::read_byte;
 use crate::vote::rewrite_vote;
@@ -76,7 +76,7 @@ pub(crate) fn settle_votes<H: Host>(
 }
 
 impl Journal {
-    ghost use Rattle.newt_image.specs.Records.{records};
+    ghost use Rattle.newt_spec_image.specs.Records.{records};
     ghost use Rattle.newt_journal.specs.Journal.{Stands, VotesAgree, ReadsAs};
 
     /// Makes all three votes equal to the bank that they choose. Whenever it is cut off, the same bank is chosen, so that it may be begun again.

@@ -1,6 +1,6 @@
 // A record that is being written alone into the other bank.
 ghost use Rattle.std.specs.Prelude.{IsTrue, ◌≡◌, ◌≤◌, ◌+◌};
-ghost use Rattle.newt_image.specs.Records.{bank_size};
+ghost use Rattle.newt_spec_image.specs.Records.{bank_size};
 
 use crate::Journal;
 use crate::fresh::begin_bank;
@@ -22,7 +22,7 @@ impl Switching {
     ghost use Rattle.std.specs.Prelude.{OnErr, OnOk, IfOk, ◌++◌, ◌-◌, ◌∷◌, [], length, replicate, Some, false};
     ghost use Rattle.newt_host.specs.Moments.{image, Leaves};
     ghost use Rattle.newt_host.specs.Outside.{Touches, Spends, Rose};
-    ghost use Rattle.newt_image.specs.Records.{records, tail};
+    ghost use Rattle.newt_spec_image.specs.Records.{records, tail};
     ghost use Rattle.newt_journal.specs.Journal.{Stands, VotesAgree, ReadsAs, ReadsAsEither};
     ghost use Rattle.newt_journal.specs.Switch.{IsSwitchOf, switched, switch_start};
     ghost use Rattle.newt_journal.specs.Places.{first_place};

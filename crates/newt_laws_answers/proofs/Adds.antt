@@ -5,7 +5,7 @@ use Rattle.newt_base.specs.Refusals.{Checks, first_of}
 use Rattle.newt_base.specs.declared.Refusal.{Refusal}
 use Rattle.newt_base.specs.declared.Refusal.TheVariants.{Notmounted, Notframe, Size, Ids, Full}
 use Rattle.newt_graph.specs.Graph.{RawGraph}
-use Rattle.newt_image.specs.Pages.{cap}
+use Rattle.newt_spec_image.specs.Pages.{cap}
 use Rattle.newt_spec_graph.specs.Graph.{is_frame, object}
 use Rattle.newt_spec_store.specs.Cost.{cost, skeleton_length}
 use Rattle.newt_spec_store.specs.Store.{Store, Soup, soup_named}

@@ -3,7 +3,7 @@ use Rattle.std.proofs.Common.{◌≡◌, ap, ◌∙◌, ℕ, List, ◌∷◌, �
 use Rattle.std.specs.Option.{is_none}
 use Rattle.newt_base.specs.Refusals.{Checks, first_of}
 use Rattle.newt_base.specs.declared.Refusal.{Refusal}
-use Rattle.newt_image.specs.Pages.{cap}
+use Rattle.newt_spec_image.specs.Pages.{cap}
 use Rattle.newt_spec_store.specs.Cost.{cost}
 use Rattle.newt_spec_store.specs.Store.{Store, Soup, soup_named, entry_of}
 use Rattle.newt_spec_world.specs.declared.command.Command.{Command}

@@ -3,11 +3,11 @@ use Rattle.std.proofs.Common.{◌≡◌, ap, ◌∙◌, ℕ, List, [], ◌∷◌
 use Rattle.std.specs.Option.{is_none}
 use Rattle.newt_spec_graph.specs.Limits.{within_limits}
 use Rattle.std.proofs.lemmas.Bool.{le-ltb, leb-true}
-use Rattle.newt_laws.proofs.Rows.{and-left, and-right}
+use Rattle.newt_laws_world.proofs.Rows.{and-left, and-right}
 use Rattle.newt_base.specs.Refusals.{Checks, first_of}
 use Rattle.newt_base.specs.declared.Refusal.{Refusal}
 use Rattle.newt_base.specs.declared.Refusal.TheVariants.{Unit as NoUnit, Notmounted, Soup as NoSoup, Entry as NoEntry, Notframe, Size, Ids, Full}
-use Rattle.newt_image.specs.Pages.{cap}
+use Rattle.newt_spec_image.specs.Pages.{cap}
 use Rattle.newt_spec_graph.specs.Graph.{is_frame, object}
 use Rattle.newt_spec_store.specs.Cost.{cost, skeleton_length}
 use Rattle.newt_spec_store.specs.Valid.{valid_entry}

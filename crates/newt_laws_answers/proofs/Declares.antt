@@ -4,7 +4,7 @@ use Rattle.std.specs.List.{list_any}
 use Rattle.newt_base.specs.Refusals.{Checks, first_of}
 use Rattle.newt_base.specs.declared.Refusal.{Refusal}
 use Rattle.newt_base.specs.declared.Refusal.TheVariants.{Command as NoCommand, Index as BadIndex, Key as BadKey, Limit, Full}
-use Rattle.newt_image.specs.Pages.{cap}
+use Rattle.newt_spec_image.specs.Pages.{cap}
 use Rattle.newt_spec_store.specs.Cost.{cost}
 use Rattle.newt_spec_store.specs.Keys.{Path, paths_of, same_paths, has_paths}
 use Rattle.newt_spec_store.specs.Store.{Store, Soup, soup_named, change_soup, with_index, without_index}
@@ -15,7 +15,7 @@ use Rattle.newt_spec_world.specs.Reply.{Reply}
 use Rattle.newt_spec_world.specs.Changed.{changed, spec_of_words}
 use Rattle.newt_spec_world.specs.Refused.{checks, on_some, no_unit, not_mounted, no_soup, has_index, index_exists, no_index, real_part, index_limit, full}
 use Rattle.newt_spec_world.specs.Answer.{fields, or_nil}
-use Rattle.newt_laws.specs.Worlds.{parts_fit, tags_fit}
+use Rattle.newt_laws_world.specs.Worlds.{parts_fit, tags_fit}
 use Rattle.newt_laws_answers.specs.Tests.{soup_checks, index_tests, tagged, tags_tests}
 use Rattle.newt_laws_answers.specs.Spoken.{checks_now, answer_now}
 use Rattle.newt_laws_answers.specs.There.{OnUnit}

@@ -20,8 +20,8 @@ use Rattle.newt_spec_world.specs.declared.command.PartWord.{PartWord}
 use Rattle.newt_spec_world.specs.World.{World, default_unit, store_on_unit, soup_in, entry_in, change_store}
 use Rattle.newt_spec_world.specs.Changed.{changed, spec_of_words, large_at}
 use Rattle.newt_spec_world.specs.Refused.{checks, real_part}
-use Rattle.newt_laws.specs.Worlds.{parts_fit, tags_fit}
-use Rattle.newt_laws.proofs.Settled.{find-passes}
+use Rattle.newt_laws_world.specs.Worlds.{parts_fit, tags_fit}
+use Rattle.newt_laws_world.proofs.Settled.{find-passes}
 use Rattle.newt_laws_cursors.specs.Cursors.{with_cursors, uses_cursors}
 use Rattle.newt_laws_cursors.proofs.Rows.{changed-apart}
 use Rattle.newt_spec_store.specs.Cost.{patch_bytes}

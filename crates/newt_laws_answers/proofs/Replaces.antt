@@ -7,7 +7,7 @@ use Rattle.newt_base.specs.declared.Refusal.{Refusal}
 use Rattle.newt_base.specs.declared.Refusal.TheVariants.{Notframe, Path as NoPath, Limit, Size, Full}
 use Rattle.newt_graph.specs.Graph.{RawGraph}
 use Rattle.newt_graph.specs.Meeting.{normal_form}
-use Rattle.newt_image.specs.Pages.{cap}
+use Rattle.newt_spec_image.specs.Pages.{cap}
 use Rattle.newt_spec_graph.specs.Graph.{is_frame, object}
 use Rattle.newt_spec_graph.specs.Limits.{within_limits, is_within}
 use Rattle.newt_spec_graph.specs.Slots.{put}
@@ -23,8 +23,8 @@ use Rattle.newt_spec_world.specs.Reply.{Reply}
 use Rattle.newt_spec_world.specs.Changed.{changed, graph_after_set}
 use Rattle.newt_spec_world.specs.Refused.{checks, on_some, no_unit, not_mounted, no_soup, no_entry, full}
 use Rattle.newt_spec_world.specs.Answer.{fields}
-use Rattle.newt_laws.proofs.Frames.{set-frame, normal-frame}
-use Rattle.newt_laws.proofs.Rows.{and-left}
+use Rattle.newt_laws_world.proofs.Frames.{set-frame, normal-frame}
+use Rattle.newt_laws_world.proofs.Rows.{and-left}
 use Rattle.newt_laws_answers.specs.Tests.{entry_checks, replaced, replace_tests}
 use Rattle.newt_laws_answers.specs.Spoken.{checks_now, answer_now}
 use Rattle.newt_laws_answers.specs.There.{OnUnit}

@@ -8,7 +8,7 @@ use Rattle.newt_spec_store.specs.Store.{Store, Soup, soup_named}
 use Rattle.newt_spec_store.specs.Valid.{well_formed}
 use Rattle.newt_laws_images.proofs.Assembled.{one-sig}
 use Rattle.newt_laws_images.proofs.Placed.{soups-rise}
-use Rattle.newt_laws.proofs.Settled.{find-passes, find-some}
+use Rattle.newt_laws_world.proofs.Settled.{find-passes, find-some}
 
 -- it has that name
 pub named-name : (s : Store) (name : List ℕ) (p : Soup) → soup_named name s ≡ Some p → p.name ≡ name

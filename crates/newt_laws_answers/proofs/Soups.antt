@@ -4,7 +4,7 @@ use Rattle.std.specs.Option.{is_some}
 use Rattle.newt_base.specs.Refusals.{first_of}
 use Rattle.newt_base.specs.declared.Refusal.{Refusal}
 use Rattle.newt_base.specs.declared.Refusal.TheVariants.{Exists, Limit, Ids, Full}
-use Rattle.newt_image.specs.Pages.{cap}
+use Rattle.newt_spec_image.specs.Pages.{cap}
 use Rattle.newt_spec_store.specs.Cost.{cost}
 use Rattle.newt_spec_store.specs.Store.{Store, Soup, soup_named, make_soup, drop_soup}
 use Rattle.newt_spec_world.specs.declared.command.Command.TheVariants as command

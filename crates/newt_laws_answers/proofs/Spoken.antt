@@ -13,13 +13,13 @@ use Rattle.newt_spec_world.specs.World.{World, settle}
 use Rattle.newt_spec_world.specs.Changed.{changed}
 use Rattle.newt_spec_world.specs.Refused.{checks}
 use Rattle.newt_spec_world.specs.Answer.{answer, answered}
-use Rattle.newt_laws.specs.Later.{WorldLater}
-use Rattle.newt_laws.specs.Settled.{IsSettled, MountedApart, moves_keys}
-use Rattle.newt_laws.proofs.Fewer.{row-settled}
-use Rattle.newt_laws.proofs.Kept.{Every, Wf}
-use Rattle.newt_laws.proofs.Later.{answer-later, world-not}
-use Rattle.newt_laws.proofs.Mounted.{answer-apart}
-use Rattle.newt_laws.proofs.Settled.{answer-settled}
+use Rattle.newt_laws_world.specs.Later.{WorldLater}
+use Rattle.newt_laws_world.specs.Settled.{IsSettled, MountedApart, moves_keys}
+use Rattle.newt_laws_world.proofs.Fewer.{row-settled}
+use Rattle.newt_laws_world.proofs.Kept.{Every, Wf}
+use Rattle.newt_laws_world.proofs.Later.{answer-later, world-not}
+use Rattle.newt_laws_world.proofs.Mounted.{answer-apart}
+use Rattle.newt_laws_world.proofs.Settled.{answer-settled}
 use Rattle.newt_laws_cursors.specs.Cursors.{with_cursors, all_closed, uses_cursors}
 use Rattle.newt_laws_cursors.proofs.Rows.{answered-apart, changed-apart, checks-apart, closed-settled, kept-apart}
 use Rattle.newt_laws_answers.specs.Spoken.{answer_now, checks_now, is_spoken}

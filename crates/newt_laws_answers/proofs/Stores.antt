@@ -15,7 +15,7 @@ use Rattle.newt_spec_world.specs.Refused.{checks, no_unit, bad_blocks, is_mounte
 use Rattle.newt_spec_world.specs.Answer.{fields, or_nil}
 use Rattle.newt_laws_answers.specs.Tests.{formatted, ready_checks, unit_checks}
 use Rattle.newt_laws_answers.specs.Spoken.{checks_now, answer_now}
-use Rattle.newt_laws.proofs.Units.{device-same}
+use Rattle.newt_laws_world.proofs.Units.{device-same}
 use Rattle.newt_laws_answers.proofs.Firsts.{first-true, first-false, first-found}
 use Rattle.newt_laws_answers.specs.There.{OnUnit, IsReady}
 use Rattle.newt_laws_answers.proofs.Answers.{done, refused, unit-passes}

@@ -5,7 +5,7 @@ use Rattle.newt_spec_store.specs.Store.{Store, soup_named}
 use Rattle.newt_spec_world.specs.World.{World, Device, one, device, flat, change_at, store_of, store_if_mounted, mounted_store, store_on_unit, soup_in, change_device, change_store, change_media}
 use Rattle.newt_spec_graph.proofs.Lists.{some-same}
 use Rattle.newt_laws_answers.specs.There.{OnUnit}
-use Rattle.newt_laws.proofs.Units.{device-same, device-other}
+use Rattle.newt_laws_world.proofs.Units.{device-same, device-other}
 
 pub is-mounted : (w : World) (u blocks : ℕ) (s : Store) → OnUnit w u blocks s → mounted_store w u ≡ Some s
 is-mounted w u blocks s h = ap (option_and_then store_if_mounted) h.device_is

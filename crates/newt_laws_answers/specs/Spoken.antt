@@ -8,7 +8,7 @@ use Rattle.newt_spec_world.specs.World.{World}
 use Rattle.newt_spec_world.specs.Reply.{Reply}
 use Rattle.newt_spec_world.specs.Refused.{checks}
 use Rattle.newt_spec_world.specs.Answer.{answered}
-use Rattle.newt_laws.specs.Worlds.{sig_fits, parts_fit, tags_fit}
+use Rattle.newt_laws_world.specs.Worlds.{sig_fits, parts_fit, tags_fit}
 
 -- A command as a line can give it: no line gives a signature above the largest, or parts or tags of another form.
 abbrev pub is_spoken : Command → Bool

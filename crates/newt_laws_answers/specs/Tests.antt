@@ -3,7 +3,7 @@ use Rattle.std.specs.Prelude.{ℕ, ◌+◌, false, not, ◌==◌, nat_lt, nat_le
 use Rattle.newt_base.specs.Refusals.{Checks}
 use Rattle.newt_base.specs.declared.Refusal.TheVariants.{Exists, Notframe, Path as NoPath, Range, Limit, Size, Ids, Full, Index as BadIndex}
 use Rattle.newt_graph.specs.Graph.{RawGraph}
-use Rattle.newt_image.specs.Pages.{cap}
+use Rattle.newt_spec_image.specs.Pages.{cap}
 use Rattle.newt_spec_graph.specs.Graph.{is_frame, object}
 use Rattle.newt_spec_store.specs.Cost.{cost, skeleton_length}
 use Rattle.newt_spec_store.specs.Keys.{IndexSpec, Path, paths_of, has_paths}

@@ -4,7 +4,7 @@ use lib.ListN.{length-append}
 use Rattle.newt_base.specs.Text.{be16, be32}
 use Rattle.newt_base.specs.Names.{equal_text}
 use Rattle.newt_spec_store.specs.Store.{Store, Soup, Entry, change_first, change_soup, change_entry, drop_soup, remove_entry, entry_of, soup_named}
-use Rattle.newt_image.specs.Objects.{pages_for}
+use Rattle.newt_spec_image.specs.Objects.{pages_for}
 use Rattle.newt_spec_store.specs.Cost.{cost, directory_bytes, soup_bytes, text_bytes, counted, part_bytes, tags_bytes, entry_pages, soup_pages}
 use Rattle.newt_spec_store.specs.Valid.{fits}
 use Rattle.newt_laws_images.proofs.Totals.{total, sum-total}

@@ -7,7 +7,7 @@ use Rattle.newt_graph.specs.Graph.{RawGraph}
 use Rattle.newt_spec_graph.specs.Lists.{Each}
 use Rattle.newt_spec_graph.proofs.Lists.{each-at, each-from, some-same, none-some}
 use Rattle.newt_spec_store.specs.Store.{Store, Soup, Entry, change_first, change_soup, change_entry, make_soup, drop_soup, add_entry, remove_entry, entry_of, soup_named}
-use Rattle.newt_image.specs.Objects.{pages_for}
+use Rattle.newt_spec_image.specs.Objects.{pages_for}
 use Rattle.newt_spec_store.specs.Cost.{cost, directory_bytes, soup_bytes, entry_pages, soup_pages}
 use Rattle.newt_spec_store.specs.Valid.{well_formed, valid_soup}
 use Rattle.newt_laws_images.proofs.Stores.{is-store, is-soup}

@@ -1,7 +1,7 @@
 -- A new store, and what is known of an entry that is in a store.
 use Rattle.std.proofs.Common.{arith, ◌≡◌, refl, sym, ◌∙◌, subst, ℕ, ◌≤◌, ◌<◌, List, [], IsTrue, true, Some, None}
 use Rattle.newt_base.specs.Names.{is_name}
-use Rattle.newt_image.specs.Objects.{Objects}
+use Rattle.newt_spec_image.specs.Objects.{Objects}
 use Rattle.newt_spec_graph.specs.Lists.{Among}
 use Rattle.newt_spec_graph.proofs.Lists.{each-at, each-list_all, none-some}
 use Rattle.newt_spec_store.specs.Cost.{directory_bytes}

@@ -6,9 +6,9 @@ use Rattle.newt_base.specs.Text.{be16, be32}
 use Rattle.newt_graph.specs.declared.node.Node.{Node}
 use Rattle.newt_graph.specs.declared.node.Node.TheVariants.{Symbol, Str, Binary, Large, Array, Frame}
 use Rattle.newt_graph.specs.Graph.{RawGraph}
-use Rattle.newt_image.specs.Objects.{Objects, pages_for}
-use Rattle.newt_nsof.specs.Written.{nsof}
-use Rattle.newt_nsof.specs.Lengths.{skeleton, bare as bare_node}
+use Rattle.newt_spec_image.specs.Objects.{Objects, pages_for}
+use Rattle.newt_spec_nsof.specs.Written.{nsof}
+use Rattle.newt_spec_nsof.specs.Lengths.{skeleton, bare as bare_node}
 use Rattle.newt_spec_graph.specs.Graph.{change_nth}
 use Rattle.newt_spec_graph.specs.Lists.{Each, Pairs, Among}
 use Rattle.newt_spec_graph.proofs.Lists.{each-at, each-more, get-among, some-same, none-some}

@@ -1,7 +1,7 @@
 -- Where the entries of a store and their large binaries lie: no two entries in one object.
 use Rattle.std.proofs.Common.{arith, ◌≡◌, ◌≢◌, ap, sym, ◌∙◌, subst, ℕ, ◌%◌, ◌<◌, List, IsTrue, Some}
 use Rattle.std.specs.FinMap as map
-use Rattle.newt_image.specs.Objects.{Objects}
+use Rattle.newt_spec_image.specs.Objects.{Objects}
 use Rattle.newt_spec_graph.specs.Lists.{Among}
 use Rattle.newt_spec_graph.proofs.Lists.{some-same}
 use Rattle.newt_spec_store.specs.Image.{entry_bytes}

@@ -3,8 +3,8 @@ use Rattle.std.proofs.Common.{◌≡◌, ◌≢◌, refl, ap, sym, ◌∙◌, su
 use Rattle.std.specs.FinMap as map
 use Rattle.std.proofs.lemmas.Bool.{eqb-true, eq-eqb}
 use Rattle.newt_graph.specs.Graph.{IsGraph}
-use Rattle.newt_image.specs.Objects.{Objects}
-use Rattle.newt_nsof.specs.Lengths.{skeleton}
+use Rattle.newt_spec_image.specs.Objects.{Objects}
+use Rattle.newt_spec_nsof.specs.Lengths.{skeleton}
 use Rattle.newt_spec_graph.specs.Lists.{Among}
 use Rattle.newt_spec_graph.proofs.Lists.{get-among, some-same, none-some}
 use Rattle.newt_spec_store.specs.Cost.{directory_bytes}

@@ -3,10 +3,10 @@ ghost use Rattle.std.specs.Prelude.{ℕ, ◌≡◌, ◌<◌, ◌≤◌, List, []
 ghost use Rattle.newt_base.specs.Names.{is_name};
 ghost use Rattle.newt_graph.specs.Graph.{RawGraph, IsGraph};
 ghost use Rattle.newt_graph.specs.declared.node.Node.TheVariants.{Large};
-ghost use Rattle.newt_image.specs.Objects.{Objects};
+ghost use Rattle.newt_spec_image.specs.Objects.{Objects};
 ghost use Rattle.newt_spec_store.specs.Cost.{directory_bytes};
 ghost use Rattle.newt_spec_store.specs.Laid.{bare};
-ghost use Rattle.newt_nsof.specs.Lengths.{skeleton};
+ghost use Rattle.newt_spec_nsof.specs.Lengths.{skeleton};
 ghost use Rattle.newt_spec_store.specs.Lies.{Places, IsIn, LiesIn};
 ghost use Rattle.newt_spec_store.specs.StoreOf.{fill};
 ghost use Rattle.newt_spec_store.specs.Store.{Store, Soup, Entry, soup_named, entry_of, change_soup, change_entry, make_soup, add_entry, remove_entry, drop_soup, soup_of, without_soup, take_uid_of};

@@ -2,7 +2,7 @@
 ghost use Rattle.std.specs.Prelude.{ℕ, ◌≡◌, ◌+◌, List, IsTrue, length, slice_get, Some};
 ghost use Rattle.newt_graph.specs.Graph.{RawGraph};
 ghost use Rattle.newt_graph.specs.declared.node.Node.TheVariants.{Large};
-ghost use Rattle.newt_image.specs.Objects.{pages_for};
+ghost use Rattle.newt_spec_image.specs.Objects.{pages_for};
 ghost use Rattle.newt_spec_store.specs.Cost.{directory_bytes, cost, entry_pages, soup_pages};
 ghost use Rattle.newt_spec_store.specs.Store.{Store, Entry, Soup, soup_named, entry_of, change_soup, change_entry, make_soup, add_entry, remove_entry, drop_soup};
 ghost use Rattle.newt_spec_store.specs.StoreOf.{fill};

@@ -23,7 +23,7 @@ use Rattle.newt_spec_query.specs.Hits.{carries}
 use Rattle.newt_laws_images.proofs.Chosen.{find-passes}
 use Rattle.newt_index.specs.Pairs.{Sorted, parts_of}
 use Rattle.newt_index.specs.Range.{range_of}
-use Rattle.newt_ranges.specs.Range.{range_of_soup}
+use Rattle.newt_index_ranges.specs.Range.{range_of_soup}
 use Rattle.newt_union.specs.Merged.{Agree}
 use Rattle.newt_laws_hits.specs.Taking.{declared}
 

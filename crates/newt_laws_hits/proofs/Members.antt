@@ -14,11 +14,11 @@ use Rattle.newt_spec_query.specs.Hits.{Query, Hit, hits, hit_cmp, hit_of, kept, 
 use Rattle.newt_spec_query.proofs.Order.{hit_total}
 use Rattle.newt_laws_images.proofs.Assembled.{map-among, among-map}
 use Rattle.newt_laws_images.proofs.Chosen.{find-passes, find-one, one-name, there-soup, soup-good}
-use Rattle.newt_laws.proofs.Found.{Apart, Other, other-untied, hits-rise}
-use Rattle.newt_laws.proofs.Units.{mapped}
+use Rattle.newt_laws_world.proofs.Found.{Apart, Other, other-untied, hits-rise}
+use Rattle.newt_laws_world.proofs.Units.{mapped}
 use Rattle.newt_index.specs.Pairs.{Pair, Sorted, parts_of, pair_cmp}
 use Rattle.newt_index.specs.Range.{entry_pair, entry_pairs, range_of}
-use Rattle.newt_ranges.specs.Range.{range_of_soup, range_in}
+use Rattle.newt_index_ranges.specs.Range.{range_of_soup, range_in}
 use Rattle.newt_union.specs.Merged.{Member, hit, hits_of, merged, Agree, AllAgree}
 use Rattle.newt_laws_hits.specs.Stripped.{stripped}
 use Rattle.newt_laws_hits.specs.Taking.{declared, member_of, members_of}

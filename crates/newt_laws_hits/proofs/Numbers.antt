@@ -9,7 +9,7 @@ use Rattle.newt_spec_store.specs.Valid.{well_formed}
 use Rattle.newt_spec_query.specs.Hits.{Query, Hit, hits, hit_cmp, in_scope}
 use Rattle.newt_laws_images.proofs.Chosen.{soup-good}
 use Rattle.newt_laws_changes.proofs.Soups.{filter-length, rising-length}
-use Rattle.newt_laws.proofs.Found.{Apart}
+use Rattle.newt_laws_world.proofs.Found.{Apart}
 use Rattle.newt_index.specs.Pairs.{Pair, Sorted, parts_of, pair_cmp}
 use Rattle.newt_index.specs.Range.{entry_pair, entry_pairs, range_of}
 use Rattle.newt_union.specs.Merged.{Member, hit, hits_of}

@@ -15,7 +15,7 @@ use Rattle.newt_spec_world.specs.World.{World, hits_of, mounted_stores}
 use Rattle.newt_spec_world.specs.Alias.{resolved}
 use Rattle.newt_spec_world.specs.Answer.{spot_of}
 use Rattle.newt_laws_images.proofs.Chosen.{OnePasses, find-passes, find-one, there-soup, there-entry, soup-good}
-use Rattle.newt_laws.proofs.Found.{Apart, Other, hits-apart}
+use Rattle.newt_laws_world.proofs.Found.{Apart, Other, hits-apart}
 use Rattle.newt_laws_hits.specs.Located.{Located, located, takes_part, located_hit, looked_up}
 
 -- a located entry of the stores that is a hit

@@ -13,7 +13,7 @@ use Rattle.newt_spec_store.proofs.Sorting.{Rise}
 use Rattle.newt_spec_query.specs.Hits.{Query, Hit, hits, hit_cmp, hit_of, kept, above, below, passes}
 use Rattle.newt_spec_query.proofs.Order.{hit_total}
 use Rattle.newt_laws_images.proofs.Assembled.{rising-same}
-use Rattle.newt_laws.proofs.Found.{Apart, hits-rise}
+use Rattle.newt_laws_world.proofs.Found.{Apart, hits-rise}
 use Rattle.newt_laws_hits.specs.Located.{Located}
 use Rattle.newt_laws_hits.specs.Stripped.{stripped, entry_passes, passing}
 use Rattle.newt_laws_hits.proofs.Origins.{origin, among-hits, taken, hit-located}

@@ -7,7 +7,7 @@ use Rattle.newt_spec_store.specs.Valid.{well_formed}
 use Rattle.newt_spec_store.proofs.Sorting.{Rise}
 use Rattle.newt_spec_query.specs.Hits.{Query, Hit, hits, hit_cmp}
 use Rattle.newt_spec_query.specs.Cursor.{start, finish, on, first_place, last_place, next_place, previous_place, place_at_key}
-use Rattle.newt_laws.proofs.Found.{Apart, hits-rise}
+use Rattle.newt_laws_world.proofs.Found.{Apart, hits-rise}
 use Rattle.newt_index.specs.Pairs.{first, last}
 use Rattle.newt_union.specs.Merged.{merged, after, before, at_or_after}
 use Rattle.newt_laws_hits.specs.Stripped.{stripped, passing}

@@ -4,7 +4,7 @@ use Rattle.newt_spec_store.specs.Keys.{IndexSpec}
 use Rattle.newt_spec_store.specs.Store.{Soup, Store, soup_named}
 use Rattle.newt_spec_query.specs.Hits.{Query, in_scope}
 use Rattle.newt_union.specs.Merged.{Member}
-use Rattle.newt_ranges.specs.Range.{range_in}
+use Rattle.newt_index_ranges.specs.Range.{range_in}
 
 -- the declaration that a query's index stands for: none where it asks for no index (this project's own)
 abbrev pub declared : IndexSpec → Option IndexSpec

@@ -10,8 +10,8 @@ ghost use Rattle.newt_spec_world.specs.Alias.{resolved};
 ghost use Rattle.newt_spec_world.specs.Answer.{answered, fields, spot_of};
 ghost use Rattle.newt_spec_world.specs.Changed.{changed};
 ghost use Rattle.newt_spec_world.specs.declared.command.Command.{Command as IsCommand};
-ghost use Rattle.newt_laws.specs.Settled.{IsSettled, MountedApart, moves_keys};
-ghost use Rattle.newt_laws.specs.Worlds.{AllValid};
+ghost use Rattle.newt_laws_world.specs.Settled.{IsSettled, MountedApart, moves_keys};
+ghost use Rattle.newt_laws_world.specs.Worlds.{AllValid};
 ghost use Rattle.newt_laws_hits.specs.Located.{located, looked_up};
 
 /// A hit is found by looking up its store, its soup and its entry; none is found where one of them is missing or takes no part.

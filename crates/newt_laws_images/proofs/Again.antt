@@ -3,9 +3,9 @@ use Rattle.std.proofs.Common.{arith, ◌≡◌, ◌≢◌, refl, ap, sym, ◌∙
 use Rattle.std.specs.FinMap as map
 use Rattle.std.proofs.lemmas.Bool.{eqb-true, eq-eqb, and_parts, and_from, leb-true}
 use Rattle.newt_graph.specs.Graph.{RawGraph}
-use Rattle.newt_image.specs.Objects.{pages_for, Objects}
-use Rattle.newt_image.specs.Pages.{cap}
-use Rattle.newt_nsof.specs.Text.{AreBytes}
+use Rattle.newt_spec_image.specs.Objects.{pages_for, Objects}
+use Rattle.newt_spec_image.specs.Pages.{cap}
+use Rattle.newt_spec_nsof.specs.Text.{AreBytes}
 use Rattle.newt_spec_graph.specs.Lists.{Pairs, Among}
 use Rattle.newt_spec_graph.proofs.Lists.{each-at, some-same, none-some, among-filter, filter-among, pairs-more}
 use Rattle.newt_spec_store.specs.Lies.{LiesIn, Places, ReadsGraphs}

@@ -6,11 +6,11 @@ use Rattle.std.specs.FinMap as map
 use Rattle.std.proofs.lemmas.Bool.{eq-eqb, lt-ltb, and_parts}
 use Rattle.std.proofs.lemmas.List.{length-replicate}
 use Rattle.newt_graph.specs.Graph.{RawGraph}
-use Rattle.newt_image.specs.Objects.{Objects}
+use Rattle.newt_spec_image.specs.Objects.{Objects}
 use Rattle.newt_spec_graph.specs.Graph.{every, object, is_frame}
 use Rattle.newt_spec_graph.specs.Limits.{within_limits}
-use Rattle.newt_nsof.specs.Lengths.{skeleton}
-use Rattle.newt_nsof.specs.Written.{nsof}
+use Rattle.newt_spec_nsof.specs.Lengths.{skeleton}
+use Rattle.newt_spec_nsof.specs.Written.{nsof}
 use Rattle.newt_spec_graph.proofs.Lists.{some-same, none-some}
 use Rattle.newt_spec_store.specs.Cost.{skeleton_length}
 use Rattle.newt_spec_store.specs.Image.{larges}

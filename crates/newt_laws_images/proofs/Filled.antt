@@ -6,7 +6,7 @@ use Rattle.std.proofs.lemmas.List.{append_assoc}
 use Rattle.newt_graph.specs.declared.node.Node.{Node}
 use Rattle.newt_graph.specs.declared.node.Node.TheVariants.{Symbol, Str, Binary, Large, Array, Frame}
 use Rattle.newt_graph.specs.Graph.{RawGraph}
-use Rattle.newt_nsof.specs.Lengths.{skeleton, bare as bare_node}
+use Rattle.newt_spec_nsof.specs.Lengths.{skeleton, bare as bare_node}
 use Rattle.newt_spec_store.specs.Image.{larges}
 use Rattle.newt_spec_store.specs.StoreOf.{with_bytes, fill}
 use Rattle.newt_spec_graph.specs.Graph.{object, is_frame}

@@ -4,7 +4,7 @@ use Rattle.std.specs.Ordering.{nat_cmp, eq_by_cmp, is_lt}
 use Rattle.std.specs.FinMap as map
 use Rattle.std.proofs.lemmas.Bool.{and_parts}
 use lib.Dec.{T}
-use Rattle.newt_image.specs.Objects.{Objects as Texts}
+use Rattle.newt_spec_image.specs.Objects.{Objects as Texts}
 use Rattle.newt_spec_store.specs.Image.{Objects}
 use Rattle.newt_spec_store.specs.StoreOf.{object_bytes}
 use Rattle.newt_spec_graph.specs.Lists.{Each, Pairs, Among}

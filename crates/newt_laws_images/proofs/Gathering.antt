@@ -8,8 +8,8 @@ use Rattle.std.proofs.lemmas.Cmp.{nat_cmp_total}
 use Rattle.std.proofs.lemmas.Bool.{eqb-true, eq-eqb, and_parts, and_from, cases_eq}
 use Rattle.std.proofs.lemmas.Option.{slice_get-get_or}
 use Rattle.newt_graph.specs.Graph.{RawGraph}
-use Rattle.newt_image.specs.Objects.{Extent, Table, IsTableOf, Objects, AreObjectsOf, joined, pages_for}
-use Rattle.newt_image.specs.Pages.{Pages, pages, object_id, part_number, object_length}
+use Rattle.newt_spec_image.specs.Objects.{Extent, Table, IsTableOf, Objects, AreObjectsOf, joined, pages_for}
+use Rattle.newt_spec_image.specs.Pages.{Pages, pages, object_id, part_number, object_length}
 use Rattle.newt_spec_graph.specs.Graph.{every}
 use Rattle.newt_spec_graph.specs.Lists.{Among}
 use Rattle.newt_spec_graph.proofs.Lists.{each-at, each-from, each-list_all, list_all-each, some-same, none-some}

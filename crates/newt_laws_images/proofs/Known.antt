@@ -5,7 +5,7 @@ use Rattle.std.specs.FinMap as map
 use Rattle.std.proofs.lemmas.Bool.{eqb-true, eq-eqb, and_parts, or_cases}
 use Rattle.newt_base.specs.Names.{equal_text}
 use Rattle.newt_graph.specs.Graph.{RawGraph}
-use Rattle.newt_image.specs.Objects.{Objects}
+use Rattle.newt_spec_image.specs.Objects.{Objects}
 use Rattle.newt_spec_graph.specs.Lists.{Each, Pairs, Among, rises, all_apart}
 use Rattle.newt_spec_graph.proofs.Lists.{each-at, each-from, each-list_all, some-same, none-some, pairs-more, pairs-map, among-left, among-right, among-filter, filter-among, among-flat_map, flat_map-among, rises-pairs}
 use Rattle.newt_spec_store.specs.Laid.{ApartIds, bare, bare_soup}

@@ -9,10 +9,10 @@ use Rattle.std.proofs.lemmas.List.Elements.{All-head, All-tail}
 use Rattle.newt_base.specs.Text.{be16, be32}
 use Rattle.newt_base.specs.Names.{equal_text}
 use Rattle.newt_graph.specs.Graph.{RawGraph}
-use Rattle.newt_image.specs.Objects.{Objects}
-use Rattle.newt_nsof.specs.Text.{AreBytes}
-use Rattle.newt_nsof.specs.Written.{nsof}
-use Rattle.newt_nsof.specs.Lengths.{skeleton}
+use Rattle.newt_spec_image.specs.Objects.{Objects}
+use Rattle.newt_spec_nsof.specs.Text.{AreBytes}
+use Rattle.newt_spec_nsof.specs.Written.{nsof}
+use Rattle.newt_spec_nsof.specs.Lengths.{skeleton}
 use Rattle.newt_spec_graph.specs.Lists.{Each, Pairs, Among, rises, all_apart}
 use Rattle.newt_spec_graph.proofs.Lists.{each-at, each-from, each-list_all, list_all-each, among-filter, filter-among, some-same, pairs-more, pairs-filter}
 use Rattle.newt_spec_store.proofs.Sorting.{Untied, sorted-rises, among-fold, fold-among}

@@ -9,8 +9,8 @@ use Rattle.newt_graph.specs.declared.node.Node.{Node}
 use Rattle.newt_graph.specs.declared.node.Node.TheVariants.{Symbol, Str, Binary, Large, Array, Frame}
 use Rattle.newt_graph.specs.Graph.{RawGraph}
 use Rattle.newt_graph.specs.Meeting.{normal_form}
-use Rattle.newt_image.specs.Objects.{Objects}
-use Rattle.newt_nsof.specs.Lengths.{bare as bare_node}
+use Rattle.newt_spec_image.specs.Objects.{Objects}
+use Rattle.newt_spec_nsof.specs.Lengths.{bare as bare_node}
 use Rattle.newt_spec_graph.specs.Graph.{is_frame, object}
 use Rattle.newt_spec_graph.specs.Limits.{within_limits}
 use Rattle.newt_spec_graph.specs.Lists.{Each, Pairs, Among}

@@ -11,8 +11,8 @@ use Rattle.newt_graph.specs.declared.node.Node.{Node}
 use Rattle.newt_graph.specs.declared.node.Node.TheVariants.{Symbol, Str, Binary, Large, Array, Frame}
 use Rattle.newt_graph.specs.Graph.{RawGraph}
 use Rattle.newt_spec_graph.specs.Graph.{change_nth}
-use Rattle.newt_nsof.specs.Written.{nsof}
-use Rattle.newt_nsof.specs.Lengths.{skeleton, bare as bare_node}
+use Rattle.newt_spec_nsof.specs.Written.{nsof}
+use Rattle.newt_spec_nsof.specs.Lengths.{skeleton, bare as bare_node}
 use Rattle.newt_spec_store.specs.Store.{Entry}
 use Rattle.newt_spec_store.specs.Image as image
 use Rattle.newt_spec_store.specs.Image.{Objects, larges, large_in, entry_bytes}

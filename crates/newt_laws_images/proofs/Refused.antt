@@ -3,7 +3,7 @@ use Rattle.std.proofs.Common.{◌≡◌, ◌≢◌, refl, ap, sym, ◌∙◌, su
 use Rattle.std.specs.FinMap as map
 use Rattle.std.proofs.lemmas.Bool.{eqb-true, eq-eqb}
 use Rattle.newt_graph.specs.Graph.{RawGraph}
-use Rattle.newt_image.specs.Objects.{Objects}
+use Rattle.newt_spec_image.specs.Objects.{Objects}
 use Rattle.newt_spec_graph.specs.Lists.{Pairs, Among}
 use Rattle.newt_spec_graph.proofs.Lists.{some-same, none-some, among-filter, filter-among}
 use Rattle.newt_spec_store.specs.Laid.{bare}

@@ -8,7 +8,7 @@ use Rattle.newt_graph.specs.declared.node.Ref.TheVariants as refs
 use Rattle.newt_graph.specs.declared.node.Node.{Node}
 use Rattle.newt_graph.specs.declared.node.Node.TheVariants.{Symbol, Str, Binary, Large, Array, Frame}
 use Rattle.newt_graph.specs.Graph.{RawGraph, WalkLabel, WalkLabels, Walk, Walks, IsNamed, IsSymbol, AreLight, IsData, IsNode, IsGraph, payload}
-use Rattle.newt_nsof.specs.Lengths.{skeleton, bare as bare_node}
+use Rattle.newt_spec_nsof.specs.Lengths.{skeleton, bare as bare_node}
 use Rattle.newt_laws_images.proofs.Both.{Both}
 
 -- the same node, but for the bytes of a large binary

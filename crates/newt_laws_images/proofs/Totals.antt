@@ -5,7 +5,7 @@ use Rattle.std.proofs.lemmas.List.Sums.{sum_by-cons}
 use Rattle.std.specs.FinMap as map
 use Rattle.newt_graph.specs.declared.node.Node.{Node}
 use Rattle.newt_graph.specs.declared.node.Node.TheVariants.{Symbol, Str, Binary, Large, Array, Frame}
-use Rattle.newt_image.specs.Objects.{pages_for, Objects}
+use Rattle.newt_spec_image.specs.Objects.{pages_for, Objects}
 use Rattle.newt_spec_graph.specs.Lists.{Each, Pairs, Among}
 use Rattle.newt_spec_graph.proofs.Lists.{each-at, each-from, among-filter, filter-among, among-flat_map, flat_map-among, some-same, pairs-more, pairs-map, pairs-filter, pairs-flat_map, rises-pairs, each-list_all}
 use Rattle.newt_spec_store.specs.Store.{Entry, Soup, Store}

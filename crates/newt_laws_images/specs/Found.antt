@@ -2,8 +2,8 @@
 use Rattle.std.specs.Prelude.{◌≡◌, ◌≢◌, [], ℕ, ◌%◌, ◌<◌, List, map as list_map, Option, Some, None}
 use Rattle.std.specs.FinMap as map
 use Rattle.newt_graph.specs.Graph.{RawGraph}
-use Rattle.newt_image.specs.Objects.{Objects}
-use Rattle.newt_nsof.specs.Text.{AreBytes}
+use Rattle.newt_spec_image.specs.Objects.{Objects}
+use Rattle.newt_spec_nsof.specs.Text.{AreBytes}
 use Rattle.newt_spec_graph.specs.Lists.{Pairs, Among}
 use Rattle.newt_spec_store.specs.Lies.{Places, directory_read, entry_read}
 use Rattle.newt_spec_store.specs.Store.{Entry, Soup, Store}

@@ -2,8 +2,8 @@
 ghost use Rattle.std.specs.Prelude.{ℕ, ◌≡◌, List, IsTrue, Option, Some, None};
 ghost use Rattle.std.specs.FinMap as map;
 ghost use Rattle.newt_graph.specs.Graph.{RawGraph};
-ghost use Rattle.newt_image.specs.Objects.{Objects, Table, IsTableOf, AreObjectsOf};
-ghost use Rattle.newt_image.specs.Pages.{Pages, pages};
+ghost use Rattle.newt_spec_image.specs.Objects.{Objects, Table, IsTableOf, AreObjectsOf};
+ghost use Rattle.newt_spec_image.specs.Pages.{Pages, pages};
 ghost use Rattle.newt_spec_store.specs.ImageStore.{objects_of, store_of_image};
 ghost use Rattle.newt_spec_store.specs.OfImage.{IsStoreOf, blocks_of};
 ghost use Rattle.newt_spec_store.specs.Store.{Store};

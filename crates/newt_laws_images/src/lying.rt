@@ -2,9 +2,9 @@
 ghost use Rattle.std.specs.Prelude.{ℕ, ◌≡◌, ◌⊎◌, ◌%◌, List, IsTrue, length, sum_by, fold, zip, map as list_map, Option, Some, None};
 ghost use Rattle.std.specs.FinMap as map;
 ghost use Rattle.newt_graph.specs.Graph.{RawGraph, IsGraph};
-ghost use Rattle.newt_image.specs.Objects.{Objects, pages_for};
-ghost use Rattle.newt_nsof.specs.Text.{AreBytes};
-ghost use Rattle.newt_nsof.specs.Lengths.{skeleton};
+ghost use Rattle.newt_spec_image.specs.Objects.{Objects, pages_for};
+ghost use Rattle.newt_spec_nsof.specs.Text.{AreBytes};
+ghost use Rattle.newt_spec_nsof.specs.Lengths.{skeleton};
 ghost use Rattle.newt_spec_graph.specs.Graph.{every};
 ghost use Rattle.newt_laws_images.specs.Found.{IsFound};
 ghost use Rattle.newt_spec_store.specs.Store.{Store};

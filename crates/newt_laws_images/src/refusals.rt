@@ -2,9 +2,9 @@
 ghost use Rattle.std.specs.Prelude.{ℕ, ◌≡◌, ◌≢◌, ◌⊎◌, ◌%◌, ◌<◌, List, length, sum_by, Option, Some, None};
 ghost use Rattle.std.specs.FinMap as map;
 ghost use Rattle.newt_graph.specs.Graph.{RawGraph};
-ghost use Rattle.newt_image.specs.Objects.{Objects, pages_for};
-ghost use Rattle.newt_image.specs.Pages.{cap};
-ghost use Rattle.newt_nsof.specs.Text.{AreBytes};
+ghost use Rattle.newt_spec_image.specs.Objects.{Objects, pages_for};
+ghost use Rattle.newt_spec_image.specs.Pages.{cap};
+ghost use Rattle.newt_spec_nsof.specs.Text.{AreBytes};
 ghost use Rattle.newt_spec_graph.specs.Lists.{Pairs, Among};
 ghost use Rattle.newt_laws_images.specs.Found.{HasGiven, ids_named};
 ghost use Rattle.newt_spec_store.specs.Store.{Entry, Store};

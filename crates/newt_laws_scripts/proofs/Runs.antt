@@ -2,16 +2,16 @@
 use Rattle.std.proofs.Common.{ℕ, ◌≡◌, refl, ap, sym, ◌∙◌, subst, List, [], ◌∷◌, ◌⊎◌, inl, inr, true, Some, Ok, Err}
 use Rattle.newt_base.specs.declared.Refusal.TheVariants.{Command as NoCommand}
 use Rattle.newt_base.specs.Names.{is_name}
-use Rattle.newt_laws.specs.Later.{WorldLater}
-use Rattle.newt_laws.specs.Scripts.{ItemHasForm}
-use Rattle.newt_laws.specs.Worlds.{has_form}
-use Rattle.newt_laws.proofs.Rows.{and-right}
-use Rattle.newt_laws.proofs.Later.{run-later}
-use Rattle.newt_laws.proofs.Aliases.{gone-for-good}
+use Rattle.newt_laws_world.specs.Later.{WorldLater}
+use Rattle.newt_laws_world.specs.Scripts.{ItemHasForm}
+use Rattle.newt_laws_world.specs.Worlds.{has_form}
+use Rattle.newt_laws_world.proofs.Rows.{and-right}
+use Rattle.newt_laws_world.proofs.Later.{run-later}
+use Rattle.newt_laws_world.proofs.Aliases.{gone-for-good}
 use Rattle.newt_laws_answers.proofs.Spoken.{now-is, spoken-is}
 use Rattle.newt_laws_answers.specs.Spoken.{answer_now, is_spoken}
 use Rattle.newt_laws_changes.specs.Later.{EntryGone}
-use Rattle.newt_session.specs.Script.{replies, world_behind}
+use Rattle.newt_script_session.specs.Script.{replies, world_behind}
 use Rattle.newt_spec_graph.specs.Lists.{Each}
 use Rattle.newt_spec_script.specs.Script.{Item}
 use Rattle.newt_spec_store.specs.Store.{Store}

@@ -1,11 +1,11 @@
 //! Laws of the worlds of a script.
 ghost use Rattle.std.specs.Prelude.{ℕ, ◌≡◌, false, List, Some, IsTrue};
 ghost use Rattle.newt_base.specs.declared.Refusal.TheVariants.{Command as NoCommand};
-ghost use Rattle.newt_laws.specs.Later.{WorldLater};
-ghost use Rattle.newt_laws.specs.Scripts.{ItemHasForm};
+ghost use Rattle.newt_laws_world.specs.Later.{WorldLater};
+ghost use Rattle.newt_laws_world.specs.Scripts.{ItemHasForm};
 ghost use Rattle.newt_laws_answers.specs.Spoken.{answer_now, is_spoken};
 ghost use Rattle.newt_laws_changes.specs.Later.{EntryGone};
-ghost use Rattle.newt_session.specs.Script.{replies, world_behind};
+ghost use Rattle.newt_script_session.specs.Script.{replies, world_behind};
 ghost use Rattle.newt_spec_graph.specs.Lists.{Each};
 ghost use Rattle.newt_spec_script.specs.Script.{Item};
 ghost use Rattle.newt_spec_store.specs.Store.{Store};

@@ -7,7 +7,7 @@ use Rattle.std.proofs.lemmas.List.Sums.{sum_by-cons}
 use Rattle.newt_graph.specs.declared.node.Node.{Node}
 use Rattle.newt_graph.specs.declared.node.Ref.{Ref}
 use Rattle.newt_graph.specs.declared.node.Ref.TheVariants as refs
-use Rattle.newt_lit.specs.Printed.{leads_to, is_symbol, is_shared, labels_from}
+use Rattle.newt_spec_literal.specs.Printed.{leads_to, is_symbol, is_shared, labels_from}
 use Rattle.newt_lit_print.specs.Meetings.{met, met_by, is_more}
 use Rattle.newt_lit_print.specs.declared.labels.Meetings.{Meetings}
 use Rattle.newt_lit_print.specs.declared.labels.Meetings.TheVariants.{None as NoMeeting, More}

@@ -1,7 +1,7 @@
 //! The labels of a graph's objects.
 ghost use Rattle.std.specs.Prelude.{◌≡◌, ◌≤◌, ◌++◌, IfOk, fold, length, map, replicate, slice_index_or};
 ghost use Rattle.newt_graph.specs.Raw.{labels_of, values_of};
-ghost use Rattle.newt_lit.specs.Printed as printed;
+ghost use Rattle.newt_spec_literal.specs.Printed as printed;
 ghost use Rattle.newt_lit_print.specs.Meetings.{is_more, met, met_by};
 ghost use Rattle.newt_graph.specs.declared.node.Ref.TheVariants as refs;
 

@@ -2,8 +2,8 @@
 ghost use Rattle.std.specs.Prelude.{◌<◌, ◌≤◌, All};
 ghost use Rattle.std.specs.Str.{chars};
 ghost use Rattle.newt_graph.specs.Graph.{RawGraph, IsGraph};
-ghost use Rattle.newt_lit.specs.Grammar.{Reads};
-ghost use Rattle.newt_lit.specs.Printed.{literal};
+ghost use Rattle.newt_spec_literal.specs.Grammar.{Reads};
+ghost use Rattle.newt_spec_literal.specs.Printed.{literal};
 
 /// The printed text of a graph is a literal of this graph, so nothing is lost on the way out and back.
 pub fn printed_reads()

@@ -1,8 +1,8 @@
 //! The page that a graph is printed on.
 ghost use Rattle.std.specs.Prelude.{◌≡◌, ◌+◌, [], nat_lt, OnOk};
 ghost use Rattle.newt_base.specs.Text.{hex_text};
-ghost use Rattle.newt_lit.specs.Spelling.{plain, spelled};
-ghost use Rattle.newt_lit.specs.Printed as printed;
+ghost use Rattle.newt_spec_literal.specs.Spelling.{plain, spelled};
+ghost use Rattle.newt_spec_literal.specs.Printed as printed;
 
 use crate::tokens;
 use std::alloc::{AllocError, Global};
@@ -16,7 +16,7 @@ pub struct Page {
 }
 
 impl Model for Page {
-    ghost use Rattle.newt_lit.specs.Spelling.{Page as Spelled};
+    ghost use Rattle.newt_spec_literal.specs.Spelling.{Page as Spelled};
 
     ghost Value = { Spelled };
 

@@ -1,7 +1,7 @@
 //! Names, words, strings and binaries as they are printed.
 ghost use Rattle.std.specs.Prelude.{◌≡◌, ◌++◌, OnOk, decimal, flat_map, codes};
 ghost use Rattle.newt_base.specs.Text as text;
-ghost use Rattle.newt_lit.specs.Printed as printed;
+ghost use Rattle.newt_spec_literal.specs.Printed as printed;
 ghost use Rattle.std.specs.Fmt.{signed_decimal};
 
 use newt_base::{hex_text, is_identifier};

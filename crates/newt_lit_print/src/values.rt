@@ -1,7 +1,7 @@
 //! The values of a graph, each object in full where it is met first.
 ghost use Rattle.std.specs.Prelude.{◌≡◌, ◌<◌, ◌≤◌, length, map, zip, slice_get, OnOk, IfOk, Some};
-ghost use Rattle.newt_lit.specs.Spelling.{plain, spelled};
-ghost use Rattle.newt_lit.specs.Printed as printed;
+ghost use Rattle.newt_spec_literal.specs.Spelling.{plain, spelled};
+ghost use Rattle.newt_spec_literal.specs.Printed as printed;
 
 use crate::labels::{is_symbol, labels};
 use crate::page::Page;

@@ -3,8 +3,8 @@ use Rattle.std.proofs.Common.{◌≡◌, ◌≤◌, ◌-◌, ℕ, zero, suc, Lis
 use Rattle.std.specs.Prelude.{ℤ}
 use Rattle.newt_graph.specs.declared.node.Ref.{Ref}
 use Rattle.newt_graph.specs.declared.node.Ref.TheVariants as refs
-use Rattle.newt_lit.specs.Built.{Built}
-use Rattle.newt_lit.specs.Words.{skip}
+use Rattle.newt_spec_literal.specs.Built.{Built}
+use Rattle.newt_spec_literal.specs.Words.{skip}
 use Rattle.newt_lit_read.specs.Answers.{Fails, Gives}
 use Rattle.newt_lit_read.specs.declared.fault.LitFault.{LitFault}
 use Rattle.newt_lit_read.specs.declared.fault.LitFault.TheVariants.{Literal, Memory}

@@ -9,8 +9,8 @@ use Rattle.std.proofs.lemmas.List.Elements.{All-nil, All-cons, All-append, All-r
 use Rattle.std.proofs.lemmas.Int.Digits.{digits_value-lt}
 use Rattle.newt_base.specs.Names.{is_word, begins_name}
 use Rattle.newt_graph.specs.Graph.{IsName}
-use Rattle.newt_lit.specs.Words.{hex_number, units_of, number}
-use Rattle.newt_lit.specs.Grammar.{Pieces, Hex, HexByte, InName, InString, Name, LargeBytes, Tag}
+use Rattle.newt_spec_literal.specs.Words.{hex_number, units_of, number}
+use Rattle.newt_spec_literal.specs.Grammar.{Pieces, Hex, HexByte, InName, InString, Name, LargeBytes, Tag}
 
 pub one_of : (a b : Bool) → (a || b) ≡ true → (a ≡ true) ⊎ (b ≡ true)
 one_of true b e = inl refl

@@ -7,7 +7,7 @@ use Rattle.std.proofs.lemmas.Int.{of_z-to_z}
 use Rattle.std.proofs.Math.Facts.{sfits_to_z}
 use Rattle.newt_graph.specs.Graph.{IsWord}
 use Rattle.newt_graph.proofs.Words.{integer_word, character_word}
-use Rattle.newt_lit.specs.Grammar.{Immediate}
+use Rattle.newt_spec_literal.specs.Grammar.{Immediate}
 use Rattle.newt_lit_read.proofs.Characters.{hex_below}
 
 negative_word : (n : ℕ) → n ≤ 536870912 → IsWord (neg_ℤ (pos (4 * n)))

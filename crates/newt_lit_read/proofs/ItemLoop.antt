@@ -2,7 +2,7 @@
 use Rattle.std.proofs.Common.{◌≡◌, ℕ, zero, suc, ◌≤◌, ◌<◌, true, false, eqb, List, [], ◌∷◌, ◌++◌, length, Option, Some, None, refl, sym, ap, ◌∙◌, append_assoc, arith}
 use Rattle.newt_lit_read.specs.declared.fault.LitFault.{LitFault}
 use Rattle.newt_lit_read.specs.declared.fault.LitFault.TheVariants.{Literal, Memory}
-use Rattle.newt_lit.specs.Built.{Built}
+use Rattle.newt_spec_literal.specs.Built.{Built}
 use Rattle.newt_graph.specs.Steps.{◌>>=◌}
 use Rattle.newt_lit_read.specs.Answers.{Fails}
 use Rattle.newt_lit_read.specs.Tokens.{mark_at}

@@ -18,8 +18,8 @@ use Rattle.newt_graph.specs.Draft.{IsPart, IsDraft, IsJoinedNode, IsJoined, IsFi
 use Rattle.newt_graph.proofs.Options.{bind_some, provided, some_is}
 use Rattle.newt_graph.proofs.Elements.{get_append, get_seam}
 use Rattle.newt_graph.proofs.Drafts.{held_push, symbol_push, alike_found, part_of_filling, once_set}
-use Rattle.newt_lit.specs.Built.{Built, symbol_in, held, filled, node_of, labelled, tags_of, values_of}
-use Rattle.newt_lit.specs.Grammar.{Kind, Items, Several, Class, Field, Array, Frame, Classed, Leaf, Object, Form, Nothing, Value, Writes}
+use Rattle.newt_spec_literal.specs.Built.{Built, symbol_in, held, filled, node_of, labelled, tags_of, values_of}
+use Rattle.newt_spec_literal.specs.Grammar.{Kind, Items, Several, Class, Field, Array, Frame, Classed, Leaf, Object, Form, Nothing, Value, Writes}
 use Rattle.newt_graph.proofs.Distinct.{all_distinct_tells}
 use Rattle.newt_lit_read.proofs.Characters.{name_is, tag_is, bytes_fit, large_bytes_fit, units_fit}
 use Rattle.newt_lit_read.proofs.Immediates.{immediate_is}

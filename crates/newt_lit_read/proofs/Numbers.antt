@@ -7,7 +7,7 @@ use Rattle.std.proofs.lemmas.List.{length-drop, get_or_default}
 use Rattle.std.proofs.lemmas.Int.Digits.{digits_value_more}
 use Rattle.std.proofs.Math.Nat.{pow-le-pow_right, pow-succ'}
 use Rattle.newt_base.specs.Names.{is_word}
-use Rattle.newt_lit.specs.Words.{word_len}
+use Rattle.newt_spec_literal.specs.Words.{word_len}
 use Rattle.newt_lit_read.specs.Tokens.{word_value}
 
 -- one more digit stays below the next power

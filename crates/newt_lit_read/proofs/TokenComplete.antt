@@ -9,8 +9,8 @@ use Rattle.std.proofs.lemmas.List.{take_at, drop_at, length-append}
 use Rattle.newt_base.specs.Names.{is_word, begins_name, is_identifier}
 use Rattle.newt_graph.specs.Steps.{◌>>=◌}
 use Rattle.newt_lit_read.specs.declared.tokens.Start.TheVariants as start
-use Rattle.newt_lit.specs.Words.{is_blank, skip, word_len, is_number, number, is_shown, are_digits, is_label, is_count, units_of}
-use Rattle.newt_lit.specs.Grammar.{Mark, Pieces, Hex, HexByte, InName, InString, Name, Label, Tag, LargeBytes}
+use Rattle.newt_spec_literal.specs.Words.{is_blank, skip, word_len, is_number, number, is_shown, are_digits, is_label, is_count, units_of}
+use Rattle.newt_spec_literal.specs.Grammar.{Mark, Pieces, Hex, HexByte, InName, InString, Name, Label, Tag, LargeBytes}
 use Rattle.newt_lit_read.specs.Tokens.{first_of, behind_mark, mark_at, word_at, word_value, negative_at, label_at, hex_at, code_word_at, character_at, Next, pieces_at, single, piece, next_in_name, next_in_string, next_byte, identifier_at, barred_at, name_at, tag_at, bytes_at, zeros_at, large_bytes_at}
 use Rattle.newt_lit_read.specs.Reading.{start_of}
 use Rattle.newt_lit_read.proofs.Characters.{one_of, small_units}

@@ -8,8 +8,8 @@ use Rattle.std.proofs.lemmas.List.{take-append-drop, length-take-le}
 use Rattle.std.proofs.lemmas.Slice.Eq.{bytes_eq-Decides}
 use Rattle.newt_base.specs.Names.{is_identifier}
 use Rattle.newt_graph.specs.Steps.{◌>>=◌}
-use Rattle.newt_lit.specs.Words.{is_blank, skip, word_len, is_number, number, is_shown, is_barred, is_quoted, is_label, is_count, units_of}
-use Rattle.newt_lit.specs.Grammar.{Mark, Pieces, Hex, HexByte, InName, InString, Name, Immediate, Label, Tag, LargeBytes}
+use Rattle.newt_spec_literal.specs.Words.{is_blank, skip, word_len, is_number, number, is_shown, is_barred, is_quoted, is_label, is_count, units_of}
+use Rattle.newt_spec_literal.specs.Grammar.{Mark, Pieces, Hex, HexByte, InName, InString, Name, Immediate, Label, Tag, LargeBytes}
 use Rattle.newt_lit_read.specs.Tokens.{first_of, behind_mark, mark_at, word_at, word_value, plain_at, negative_at, label_at, hex_at, code_word_at, character_at, Next, after_next, pieces_at, single, piece, escaped_in_name, next_in_name, escaped_in_string, next_in_string, next_byte, barred_at, name_at, if_colon, tag_at, bytes_at, zeros_at, large_bytes_at}
 use Rattle.newt_graph.proofs.Options.{bind_some, chosen, provided, some_is}
 use Rattle.newt_lit_read.proofs.Characters.{one_of, small_units}

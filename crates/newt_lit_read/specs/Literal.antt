@@ -4,7 +4,7 @@ use Rattle.newt_graph.specs.declared.node.Ref.{Ref}
 use Rattle.newt_graph.specs.Graph.{RawGraph}
 use Rattle.newt_graph.specs.Meeting.{normal_form}
 use Rattle.newt_graph.specs.Steps.{◌>>=◌}
-use Rattle.newt_lit.specs.Built.{Built}
+use Rattle.newt_spec_literal.specs.Built.{Built}
 use Rattle.newt_lit_read.specs.declared.fault.LitFault.{LitFault}
 use Rattle.newt_lit_read.specs.declared.fault.LitFault.TheVariants.{Literal}
 use Rattle.newt_lit_read.specs.Reading.{draft_at}

@@ -6,7 +6,7 @@ use Rattle.std.specs.Char.{is_ascii_hexdigit}
 use Rattle.newt_base.specs.Names.{is_identifier}
 use Rattle.newt_graph.specs.Limits.{most_data}
 use Rattle.newt_graph.specs.Steps.{◌>>=◌}
-use Rattle.newt_lit.specs.Words.{skip, word_len, is_number, number, hex_number, is_barred, is_shown, is_label, is_count}
+use Rattle.newt_spec_literal.specs.Words.{skip, word_len, is_number, number, hex_number, is_barred, is_shown, is_label, is_count}
 
 -- the first character, and what follows it
 abbrev pub first_of : List ℕ → Option (ℕ × List ℕ)

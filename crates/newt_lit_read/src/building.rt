@@ -3,7 +3,7 @@ ghost use Rattle.std.specs.Prelude.{◌≡◌, ◌<◌, ◌≤◌, [], None, len
 ghost use Rattle.newt_graph.specs.Graph.{IsName};
 ghost use Rattle.newt_graph.specs.Meeting.{normal_form};
 ghost use Rattle.newt_graph.specs.Draft.{IsFilling, IsJoined};
-ghost use Rattle.newt_lit.specs.Built.{symbol_in, held, filled, node_of, labelled};
+ghost use Rattle.newt_spec_literal.specs.Built.{symbol_in, held, filled, node_of, labelled};
 ghost use Rattle.newt_lit_read.specs.Answers.{Gives};
 ghost use Rattle.newt_lit_read.specs.declared.fault.LitFault.TheVariants.{Memory};
 
@@ -21,7 +21,7 @@ pub(crate) struct Building {
 }
 
 impl Model for Building {
-    ghost use Rattle.newt_lit.specs.Built.{Built};
+    ghost use Rattle.newt_spec_literal.specs.Built.{Built};
 
     ghost Value = { Built };
 
@@ -39,7 +39,7 @@ impl Building {
     }
 
     /// The symbol of this name but for ASCII case: the first one in the text, or a new one.
-    #[tactic(auto, unfolding(newt_lit::specs::Built::symbol_in))]
+    #[tactic(auto, unfolding(newt_spec_literal::specs::Built::symbol_in))]
     pub(crate) fn symbol(&mut self, name: &[u8]) -> Result<u32, LitFault>
         requires { IsName name.now }
         ensures gives { Gives (λ n. (n, self.new)) result (symbol_in self.old name.now) }
@@ -49,7 +49,7 @@ impl Building {
     }
 
     /// A new node, to be filled when its parts have been read.
-    #[tactic(auto, unfolding(newt_lit::specs::Built::held))]
+    #[tactic(auto, unfolding(newt_spec_literal::specs::Built::held))]
     pub(crate) fn hold(&mut self) -> Result<u32, LitFault>
         ensures gives { Gives (λ n. (n, self.new)) result (held self.old) }
         ensures inside { IfOk result (λ n. n < length self.new.nodes) }
@@ -59,7 +59,7 @@ impl Building {
     }
 
     /// Fills a node that was held.
-    #[tactic(auto, unfolding(newt_lit::specs::Built::filled))]
+    #[tactic(auto, unfolding(newt_spec_literal::specs::Built::filled))]
     pub(crate) fn fill(&mut self, n: u32, node: Node) -> Result<(), LitFault>
         requires inside { n < length self.old.nodes }
         requires filling { IsFilling node }

@@ -1,7 +1,7 @@
 //! Laws of literals.
 ghost use Rattle.std.specs.Prelude.{◌≡◌, ℕ, List, Ok, Err};
 ghost use Rattle.newt_graph.specs.Graph.{RawGraph};
-ghost use Rattle.newt_lit.specs.Grammar.{Reads};
+ghost use Rattle.newt_spec_literal.specs.Grammar.{Reads};
 ghost use Rattle.newt_lit_read.specs.declared.fault.LitFault.TheVariants.{Literal};
 ghost use Rattle.newt_lit_read.specs.Literal.{literal_read};
 

@@ -2,7 +2,7 @@
 ghost use Rattle.std.specs.Prelude.{◌≡◌, ◌≢◌, IfOk, Err};
 ghost use Rattle.std.specs.Str.{chars};
 ghost use Rattle.newt_graph.specs.Graph.{RawGraph};
-ghost use Rattle.newt_lit.specs.Grammar.{Reads};
+ghost use Rattle.newt_spec_literal.specs.Grammar.{Reads};
 ghost use Rattle.newt_lit_read.specs.Answers.{Gives};
 ghost use Rattle.newt_lit_read.specs.Literal.{graph_read, literal_read};
 

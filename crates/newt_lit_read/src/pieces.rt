@@ -1,6 +1,6 @@
 //! Names between bars, strings and bytes in hexadecimal: pieces up to a closing mark.
 ghost use Rattle.std.specs.Prelude.{◌≡◌, ◌<◌, ◌≤◌, ◌+◌, ◌^◌, ◌++◌, length, IfOk, OnOk, IfSome};
-ghost use Rattle.newt_lit.specs.Words.{units_of};
+ghost use Rattle.newt_spec_literal.specs.Words.{units_of};
 ghost use Rattle.newt_lit_read.specs.Answers.{Gives};
 ghost use Rattle.newt_lit_read.specs.Tokens.{hex_at, pieces_at, single, escaped_in_name, next_in_name, escaped_in_string, next_in_string, next_byte, bytes_at};
 

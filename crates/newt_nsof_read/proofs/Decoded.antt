@@ -4,10 +4,10 @@ use Rattle.std.specs.Prelude.{Result, Ok, Err, ◌↔◌}
 use Rattle.std.proofs.lemmas.Bool.{cases_lt}
 use Rattle.std.proofs.lemmas.List.{get_or_past}
 use Rattle.newt_graph.specs.Graph.{RawGraph, IsGraph}
-use Rattle.newt_nsof.specs.Text.{AreBytes, Spells, SpellsWide}
-use Rattle.newt_nsof.specs.Written.{nsof}
-use Rattle.newt_nsof.proofs.Wider.{spelled_wider}
-use Rattle.newt_nsof.proofs.Spelled.{written_spells}
+use Rattle.newt_spec_nsof.specs.Text.{AreBytes, Spells, SpellsWide}
+use Rattle.newt_spec_nsof.specs.Written.{nsof}
+use Rattle.newt_spec_nsof.proofs.Wider.{spelled_wider}
+use Rattle.newt_spec_nsof.proofs.Spelled.{written_spells}
 use Rattle.newt_nsof_read.specs.declared.fault.NsofFault.{NsofFault}
 use Rattle.newt_nsof_read.specs.declared.fault.NsofFault.TheVariants.{Malformed, Compressed, Memory}
 use Rattle.newt_nsof_read.specs.Reading.{graph_at, decoded}

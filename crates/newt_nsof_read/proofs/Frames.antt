@@ -8,7 +8,7 @@ use Rattle.newt_graph.specs.declared.node.Node.{Node}
 use Rattle.newt_graph.specs.declared.node.Node.TheVariants.{Array, Frame}
 use Rattle.newt_graph.specs.declared.node.Ref.{Ref}
 use Rattle.newt_graph.specs.declared.node.Ref.TheVariants as refs
-use Rattle.newt_nsof.specs.Text.{Count, Label, Labels, Object, Objects}
+use Rattle.newt_spec_nsof.specs.Text.{Count, Label, Labels, Object, Objects}
 use Rattle.newt_nsof_read.specs.Met.{Met}
 use Rattle.newt_nsof_read.specs.Reading.{Reader, count_at, add, label_at, many_at, filled, frame_at, plain_array_at, array_at}
 use Rattle.newt_graph.specs.Graph.{all_distinct}

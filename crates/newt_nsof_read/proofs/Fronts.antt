@@ -8,7 +8,7 @@ use Rattle.newt_graph.specs.declared.node.Node.TheVariants.{Array, Frame}
 use Rattle.newt_graph.specs.declared.node.Ref.{Ref}
 use Rattle.newt_graph.specs.Graph.{all_distinct}
 use Rattle.newt_graph.specs.Steps.{◌>>=◌}
-use Rattle.newt_nsof.specs.Text.{SymbolText, Again, Object}
+use Rattle.newt_spec_nsof.specs.Text.{SymbolText, Again, Object}
 use Rattle.newt_graph.proofs.Options.{bind_some, unless, provided, some_is}
 use Rattle.newt_graph.proofs.Elements.{get_append}
 use Rattle.newt_nsof_read.specs.declared.tag.Tag.{Tag}

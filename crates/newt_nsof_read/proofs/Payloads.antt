@@ -11,7 +11,7 @@ use Rattle.newt_graph.specs.declared.node.Ref.{Ref}
 use Rattle.newt_graph.specs.declared.node.Ref.TheVariants as refs
 use Rattle.newt_graph.specs.Graph.{IsText, IsData}
 use Rattle.newt_graph.specs.Steps.{◌>>=◌}
-use Rattle.newt_nsof.specs.Text.{Count, units_text, sides, corners, Label, Object}
+use Rattle.newt_spec_nsof.specs.Text.{Count, units_text, sides, corners, Label, Object}
 use Rattle.newt_nsof_read.specs.Met.{Met}
 use Rattle.newt_nsof_read.specs.Reading.{count_at, add, intern_each, rectangle_at, label_at, many_at, filled, unit_at, is_text_count, behind_zero, string_at, binary_at, large_data_at, large_at}
 use Rattle.newt_graph.proofs.Options.{bind_some, unless, provided, some_is}

@@ -7,7 +7,7 @@ use Rattle.newt_graph.specs.declared.node.Node.{Node}
 use Rattle.newt_graph.specs.declared.node.Node.TheVariants.{Symbol}
 use Rattle.newt_graph.specs.Steps.{◌>>=◌}
 use Rattle.newt_graph.specs.Draft.{find_alike}
-use Rattle.newt_nsof.specs.Text.{Interned, InternedEach, SymbolText, Again, Label, Labels}
+use Rattle.newt_spec_nsof.specs.Text.{Interned, InternedEach, SymbolText, Again, Label, Labels}
 use Rattle.newt_graph.proofs.Options.{bind_some, chosen, provided, some_is}
 use Rattle.newt_graph.proofs.Elements.{get_append, get_seam}
 use Rattle.newt_graph.proofs.Drafts.{none_alike, alike_found}

@@ -1,8 +1,8 @@
 //! Laws of reading, as contracts of functions that do nothing.
 ghost use Rattle.std.specs.Prelude.{◌≡◌, ◌≢◌, ◌++◌, ◌↔◌, List, ℕ, []};
 ghost use Rattle.newt_graph.specs.Graph.{RawGraph, IsGraph};
-ghost use Rattle.newt_nsof.specs.Text.{AreBytes, Spells, SpellsWide};
-ghost use Rattle.newt_nsof.specs.Written.{nsof};
+ghost use Rattle.newt_spec_nsof.specs.Text.{AreBytes, Spells, SpellsWide};
+ghost use Rattle.newt_spec_nsof.specs.Written.{nsof};
 ghost use Rattle.newt_nsof_read.specs.declared.fault.NsofFault.TheVariants.{Malformed, Compressed, Memory};
 ghost use Rattle.newt_nsof_read.specs.Reading.{decoded};
 

@@ -1,7 +1,7 @@
 //! Small rectangles: frames of four sides whose symbols take no numbers.
 ghost use Rattle.std.specs.Prelude.{◌≡◌};
 ghost use Rattle.newt_graph.specs.Graph.{integer};
-ghost use Rattle.newt_nsof.specs.Text.{sides};
+ghost use Rattle.newt_spec_nsof.specs.Text.{sides};
 ghost use Rattle.newt_nsof_read.specs.Reading.{Gives, intern_each, rectangle_at};
 
 use crate::fault::NsofFault;

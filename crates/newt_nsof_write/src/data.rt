@@ -1,9 +1,9 @@
 //! Strings, binaries and large binaries in full.
 ghost use Rattle.std.specs.Prelude.{[], ◌≡◌, ◌++◌, ◌+◌, ◌*◌, ◌≤◌, length, IfOk, OnOk, All};
 ghost use Rattle.newt_graph.specs.Graph.{IsNode};
-ghost use Rattle.newt_nsof.specs.Place.{Ahead, BinaryWalk, LargeWalk};
-ghost use Rattle.newt_nsof.specs.Text.{units_text, large_text};
-ghost use Rattle.newt_nsof.specs.Written.{string_text, binary_text, plain_large_text};
+ghost use Rattle.newt_spec_nsof.specs.Place.{Ahead, BinaryWalk, LargeWalk};
+ghost use Rattle.newt_spec_nsof.specs.Text.{units_text, large_text};
+ghost use Rattle.newt_spec_nsof.specs.Written.{string_text, binary_text, plain_large_text};
 ghost use Rattle.newt_nsof_write.specs.Writing.{Adds};
 
 use crate::labels::label;

@@ -10,8 +10,8 @@ use Rattle.std.proofs.lemmas.List.Folds.{list_any-append}
 use Rattle.newt_host.specs.Moments.{Moment, bytes_after, changes, image, Leaves}
 use Rattle.newt_host.specs.Outside.{Outside}
 use Rattle.newt_host.proofs.Moments.{Leaves-weaken}
-use Rattle.newt_image.specs.Pages.{Pages, Change, pages, after}
-use Rattle.newt_image.specs.Objects.{Extent, Table, IsTableOf, AreObjectsOf, joined, pages_for, written_parts, Objects}
+use Rattle.newt_spec_image.specs.Pages.{Pages, Change, pages, after}
+use Rattle.newt_spec_image.specs.Objects.{Extent, Table, IsTableOf, AreObjectsOf, joined, pages_for, written_parts, Objects}
 use Rattle.newt_pagebook.specs.Batch.{names, no_change}
 use Rattle.newt_pagebook.specs.Book.{Numbers, changed_numbers, ReadsChanged, IsBeforeOrAfter}
 use Rattle.newt_pagebook.proofs.Tests.{some_inj, true_or_false, neither, equal_true, equal_false}

@@ -9,8 +9,8 @@ use Rattle.std.specs.FinMap.Entries.{below_all}
 use Rattle.std.specs.FinSet as set
 use Rattle.std.specs.Option.{option_map, unwrap_or, is_some}
 use Rattle.std.proofs.lemmas.List.Sums.{sum_by-cons}
-use Rattle.newt_image.specs.Pages.{Pages, Change, without_numbers, after, object_id}
-use Rattle.newt_image.specs.Objects.{Extent, Table, IsTableOf, AreObjectsOf, pages_for, joined, data_at, Objects}
+use Rattle.newt_spec_image.specs.Pages.{Pages, Change, without_numbers, after, object_id}
+use Rattle.newt_spec_image.specs.Objects.{Extent, Table, IsTableOf, AreObjectsOf, pages_for, joined, data_at, Objects}
 use Rattle.newt_pagebook.specs.Batch.{IsBatch}
 use Rattle.newt_pagebook.specs.Book.{Numbers, without_deleted, changed_numbers}
 use Rattle.newt_pagebook.proofs.Tests.{some_inj, true_or_false, is_same, equal_true, equal_false, same_test}

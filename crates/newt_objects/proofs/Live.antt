@@ -11,7 +11,7 @@ use Rattle.std.proofs.lemmas.List.{length-replicate}
 use Rattle.std.proofs.lemmas.Option.{slice_get_within}
 use Rattle.std.proofs.lemmas.Map.Entries.{place_from_lookup, btree_map_get_place}
 use Rattle.std.proofs.lemmas.Map.Lookups.{exact_unsigned}
-use Rattle.newt_image.specs.Objects.{Extent, Table}
+use Rattle.newt_spec_image.specs.Objects.{Extent, Table}
 use Rattle.newt_pagebook.proofs.Tests.{some_inj, true_or_false, is_equal, equal_true, equal_false}
 use Rattle.newt_objects.specs.Headers.{Rows, held_in}
 use Rattle.newt_objects.specs.Extents.{has_number, AreFlags, MarksAlso}

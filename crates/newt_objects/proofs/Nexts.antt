@@ -16,7 +16,7 @@ use Rattle.std.proofs.lemmas.Bool.{cases_lt}
 use Rattle.std.proofs.lemmas.Map.Entries.{lookup-filter-keys}
 use Rattle.std.proofs.lemmas.Map.Keys.{sorted_head, sorted_tail}
 use Rattle.std.proofs.lemmas.List.Kept.{IsStrictlySortedBy-filter}
-use Rattle.newt_image.specs.Objects.{Extent}
+use Rattle.newt_spec_image.specs.Objects.{Extent}
 use Rattle.newt_pagebook.proofs.Tests.{same_test, is_same, true_or_false}
 use Rattle.newt_objects.specs.Headers.{Rows, held_in}
 use Rattle.newt_objects.specs.Extents.{IsNextIn}

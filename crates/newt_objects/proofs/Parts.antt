@@ -5,8 +5,8 @@ use Rattle.std.proofs.lemmas.Bool.{cases_lt}
 use Rattle.std.proofs.lemmas.List.{take_all, take_at, drop_all, drop_at, drop-drop, length-replicate, drop-replicate}
 use Rattle.std.proofs.lemmas.Nat.{from_be_bytes-to_be_bytes_4}
 use Rattle.newt_host.specs.Moments.{overwritten}
-use Rattle.newt_image.specs.Pages.{object_id, part_number, object_length, page_data, word_at}
-use Rattle.newt_image.specs.Objects.{IsPart, written_page, written_parts, part_bytes}
+use Rattle.newt_spec_image.specs.Pages.{object_id, part_number, object_length, page_data, word_at}
+use Rattle.newt_spec_image.specs.Objects.{IsPart, written_page, written_parts, part_bytes}
 use Rattle.newt_objects.specs.Held.{BeginsWith}
 
 pub part_slice : (bytes : List ℕ) (at start end : ℕ) → start ≡ min (length bytes) at → end ≡ min (length bytes) (start + 500) → take (end - start) (drop start bytes) ≡ take 500 (drop at bytes)

@@ -3,8 +3,8 @@ use Rattle.std.proofs.Common.{◌≡◌, ℕ, zero, suc, ◌≤◌, List, [], �
 use Rattle.std.specs.FinMap as map
 use Rattle.std.specs.Option.{option_map}
 use Rattle.std.proofs.lemmas.Option.{slice_get-get_or}
-use Rattle.newt_image.specs.Pages.{Pages, object_id, part_number, object_length}
-use Rattle.newt_image.specs.Objects.{Extent, Table, IsTableOf, AreObjectsOf, pages_for, joined, Objects}
+use Rattle.newt_spec_image.specs.Pages.{Pages, object_id, part_number, object_length}
+use Rattle.newt_spec_image.specs.Objects.{Extent, Table, IsTableOf, AreObjectsOf, pages_for, joined, Objects}
 use Rattle.newt_pagebook.proofs.Tests.{some_inj}
 
 pub one_page : (n : ℕ) → 1 ≤ pages_for n

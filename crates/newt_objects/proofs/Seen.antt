@@ -4,7 +4,7 @@ use Rattle.std.specs.BTreeMap as tree
 use Rattle.std.specs.Ordering.{nat_cmp}
 use Rattle.newt_host.specs.Moments.{image}
 use Rattle.newt_host.specs.Outside.{Outside}
-use Rattle.newt_image.specs.Objects.{Extent}
+use Rattle.newt_spec_image.specs.Objects.{Extent}
 use Rattle.newt_pagebook.specs.Book.{Numbers}
 use Rattle.newt_pagebook.proofs.Tests.{some_inj, equal_true}
 use Rattle.newt_objects.specs.declared.header.Header.{Header}

@@ -7,8 +7,8 @@ use Rattle.std.specs.FinMap as map
 use Rattle.std.specs.Option.{option_map, unwrap_or, is_some}
 use Rattle.std.proofs.lemmas.Bool.{or_right}
 use Rattle.std.proofs.lemmas.Option.{slice_get-get_or}
-use Rattle.newt_image.specs.Pages.{Pages, object_id}
-use Rattle.newt_image.specs.Objects.{Extent, Table, IsTableOf, AreObjectsOf, pages_for, joined, Objects}
+use Rattle.newt_spec_image.specs.Pages.{Pages, object_id}
+use Rattle.newt_spec_image.specs.Objects.{Extent, Table, IsTableOf, AreObjectsOf, pages_for, joined, Objects}
 use Rattle.newt_pagebook.proofs.Tests.{true_or_false, the_some, is_same, equal_true, same_test}
 
 abbrev page_of : Pages → ℕ → List ℕ

@@ -4,8 +4,8 @@ use Rattle.std.specs.List.{All}
 use Rattle.std.specs.Ordering.{nat_cmp}
 use Rattle.std.specs.FinMap as map
 use Rattle.std.proofs.lemmas.List.Elements.{All-cons, All-head, All-tail}
-use Rattle.newt_image.specs.Records.{and_then, records}
-use Rattle.newt_image.specs.Pages.{Pages, Put, Change, short_at, word_at, said_by, is_change, change_in, puts_from, with_puts, without_numbers, after, pages_after, pages}
+use Rattle.newt_spec_image.specs.Records.{and_then, records}
+use Rattle.newt_spec_image.specs.Pages.{Pages, Put, Change, short_at, word_at, said_by, is_change, change_in, puts_from, with_puts, without_numbers, after, pages_after, pages}
 use Rattle.newt_pagebook.proofs.Tests.{some_inj, true_or_false, is_same}
 use Rattle.newt_pagebook.proofs.Changes.{get_insert, get_remove}
 use Rattle.newt_objects.specs.Changing.{AreWhole}

@@ -1,8 +1,8 @@
 -- The way of a change: planned, committed, taken over.
 use Rattle.std.specs.Prelude.{◌≡◌, ℕ, List, length, sum_by, Some}
 use Rattle.std.specs.FinMap as map
-use Rattle.newt_image.specs.Pages.{Pages, Change, pages}
-use Rattle.newt_image.specs.Objects.{Extent, IsTableOf, AreObjectsOf, pages_for, Objects}
+use Rattle.newt_spec_image.specs.Pages.{Pages, Change, pages}
+use Rattle.newt_spec_image.specs.Objects.{Extent, IsTableOf, AreObjectsOf, pages_for, Objects}
 use Rattle.newt_objects.specs.Extents.{IsUnnamed}
 use Rattle.newt_objects.specs.Held.{Held, held, WouldHold, IsUnplanned}
 

@@ -2,8 +2,8 @@
 use Rattle.std.specs.Prelude.{◌≡◌, ℕ, zero, suc, ◌<◌, ◌≤◌, ◌==◌, ◌||◌, Bool, false, if◌then◌else◌, List, [], ◌∷◌, ◌++◌, length, slice_get, Option, Some, None, IsSome}
 use Rattle.std.specs.List.{list_any}
 use Rattle.std.specs.Map.{values_of}
-use Rattle.newt_image.specs.Pages.{Change}
-use Rattle.newt_image.specs.Objects.{Extent, Table}
+use Rattle.newt_spec_image.specs.Pages.{Change}
+use Rattle.newt_spec_image.specs.Objects.{Extent, Table}
 use Rattle.newt_pagebook.specs.Batch.{names}
 
 -- What holds of each extent: no page stands in it twice, and all of them have page numbers.

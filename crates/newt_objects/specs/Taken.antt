@@ -1,7 +1,7 @@
 -- Which page numbers the objects have, as flags that are kept from one plan to the next.
 use Rattle.std.specs.Prelude.{◌≡◌, ◌≢◌, ◌⊎◌, ℕ, ◌<◌, ◌≤◌, ◌&&◌, Bool, true, not, List, length, slice_get, Option, Some}
 use Rattle.std.specs.Option.{option_flatten}
-use Rattle.newt_image.specs.Objects.{Extent, Table}
+use Rattle.newt_spec_image.specs.Objects.{Extent, Table}
 use Rattle.newt_objects.specs.Extents.{has_number}
 use Rattle.newt_objects.specs.Headers.{Rows, held_in}
 use Rattle.newt_objects.specs.Plans.{ArePlaced}

@@ -2,7 +2,7 @@
 ghost use Rattle.std.specs.Prelude.{◌≡◌, ℕ, [], ◌==◌, ◌<◌, ◌≤◌, true, false, IsTrue, IfOk, None, Some, length, slice_get};
 ghost use Rattle.std.specs.List.{list_any};
 ghost use Rattle.std.specs.Option.{option_copied};
-ghost use Rattle.newt_image.specs.Objects.{Table};
+ghost use Rattle.newt_spec_image.specs.Objects.{Table};
 ghost use Rattle.newt_objects.specs.Headers.{held_in};
 ghost use Rattle.newt_objects.specs.Extents.{has_number};
 ghost use Rattle.newt_objects.specs.Taken.{ClearsAlso, IsLive, IsKnown, IsTaken, AreSameBut, row_at};

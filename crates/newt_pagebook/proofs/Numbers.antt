@@ -4,7 +4,7 @@ use Rattle.std.specs.Cmp.{nat_cmp_total}
 use Rattle.std.specs.FinMap as map
 use Rattle.std.specs.FinSet as set
 use Rattle.std.specs.Option.{is_some}
-use Rattle.newt_image.specs.Pages.{Pages, Put, Change, after, with_puts, without_numbers}
+use Rattle.newt_spec_image.specs.Pages.{Pages, Put, Change, after, with_puts, without_numbers}
 use Rattle.newt_pagebook.specs.Book.{Numbers, with_put_numbers, without_deleted, changed_numbers}
 use Rattle.newt_pagebook.proofs.Tests.{same_test}
 use Rattle.newt_pagebook.proofs.Changes.{get_insert, get_remove}

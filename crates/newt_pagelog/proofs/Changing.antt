@@ -16,8 +16,8 @@ use Rattle.std.proofs.lemmas.List.Folds.{list_any-append}
 use Rattle.std.proofs.lemmas.Map.Keys.{IsDistinct-head, IsDistinct-tail}
 use Rattle.std.proofs.lemmas.Map.Steps.{length-le_from_keys}
 use Rattle.newt_host.specs.Moments.{image}
-use Rattle.newt_image.specs.Records.{and_then, records, bank_size}
-use Rattle.newt_image.specs.Pages.{Pages, Put, Change, change_numbers, all_distinct, change_in, with_puts, without_numbers, after, pages, pages_after, cap}
+use Rattle.newt_spec_image.specs.Records.{and_then, records, bank_size}
+use Rattle.newt_spec_image.specs.Pages.{Pages, Put, Change, change_numbers, all_distinct, change_in, with_puts, without_numbers, after, pages, pages_after, cap}
 use Rattle.newt_journal.specs.Journal.{appended, room}
 use Rattle.newt_journal.specs.Bank.{limit_of}
 use Rattle.newt_journal.specs.declared.journal.Journal.{Journal}

@@ -4,7 +4,7 @@ use Rattle.std.proofs.lemmas.List.{length-replicate}
 use Rattle.newt_host.specs.Moments.{Moment, image, Leaves}
 use Rattle.newt_host.specs.Outside.{Outside, Touches, Spends}
 use Rattle.newt_host.proofs.Moments.{Leaves-append, Leaves-weaken}
-use Rattle.newt_image.specs.Records.{records, tail}
+use Rattle.newt_spec_image.specs.Records.{records, tail}
 use Rattle.newt_journal.specs.Journal.{ReadsAs, ReadsAsEither}
 use Rattle.newt_journal.specs.Draft.{journal_of, place_of, front_of, unit_of, is_switch, payload_of, outcome}
 use Rattle.newt_journal.specs.Places.{first_place}

@@ -10,7 +10,7 @@ use Rattle.std.specs.FinMap as map
 use Rattle.std.specs.FinSet as set
 use Rattle.std.proofs.lemmas.List.{take_more}
 use Rattle.std.proofs.lemmas.List.Folds.{list_any-append}
-use Rattle.newt_image.specs.Pages.{Pages, Put, Change, change_numbers, all_distinct, after}
+use Rattle.newt_spec_image.specs.Pages.{Pages, Put, Change, change_numbers, all_distinct, after}
 use Rattle.newt_pagebook.specs.Book.{Numbers, with_put_numbers, without_deleted, changed_numbers}
 use Rattle.newt_pagebook.proofs.Tests.{true_or_false, is_same, equal_true, neither}
 use Rattle.newt_pagebook.proofs.Numbers.{contains_insert, contains_remove, changed_named}

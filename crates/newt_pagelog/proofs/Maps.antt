@@ -5,7 +5,7 @@ use Rattle.std.specs.Cmp.{nat_cmp_total}
 use Rattle.std.specs.FinMap as map
 use Rattle.std.specs.FinSet as set
 use Rattle.std.proofs.lemmas.List.{take_more}
-use Rattle.newt_image.specs.Pages.{Pages, Put, with_puts, without_numbers}
+use Rattle.newt_spec_image.specs.Pages.{Pages, Put, with_puts, without_numbers}
 use Rattle.newt_pagebook.proofs.Tests.{true_or_false, is_same, equal_true, equal_false}
 use Rattle.newt_pagebook.proofs.Changes.{get_insert, get_remove}
 use Rattle.newt_pagelog.specs.Kept.{Entries, page_in, map_of, numbers_in, get_map, kept_number}

@@ -5,7 +5,7 @@ use Rattle.std.proofs.lemmas.Bool.{or_right}
 use Rattle.std.proofs.lemmas.List.{drop-drop, append-nil, map-append}
 use Rattle.std.proofs.lemmas.List.Elements.{All-head, All-tail}
 use Rattle.std.proofs.lemmas.Bool.Decides.{nat_tests}
-use Rattle.newt_image.specs.Pages.{Put, Change, change_numbers, all_distinct, word_at, short_at, puts_from, deletes_from, said_by, is_change, change_in}
+use Rattle.newt_spec_image.specs.Pages.{Put, Change, change_numbers, all_distinct, word_at, short_at, puts_from, deletes_from, said_by, is_change, change_in}
 use Rattle.newt_pagebook.specs.Batch.{IsBatch, names, puts_one, deletes_one}
 use Rattle.newt_pagebook.proofs.Tests.{some_inj, true_or_false, is_same, equal_true}
 use Rattle.newt_pagebook.proofs.Changes.{names_put, names_delete}

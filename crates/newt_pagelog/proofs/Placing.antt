@@ -10,13 +10,13 @@ use Rattle.std.specs.Option.{option_map}
 use Rattle.newt_host.specs.Moments.{Moment, image}
 use Rattle.newt_host.specs.Outside.{Outside, Touches, Spends}
 use Rattle.newt_host.proofs.Outside.{Touches-append, Touches-refl}
-use Rattle.newt_image.specs.Pages.{Pages, Change, change_numbers, all_distinct, word_at, short_at, after, puts_from, deletes_from, said_by, is_change, change_in, pages as pages_of_image, pages_after}
+use Rattle.newt_spec_image.specs.Pages.{Pages, Change, change_numbers, all_distinct, word_at, short_at, after, puts_from, deletes_from, said_by, is_change, change_in, pages as pages_of_image, pages_after}
 use Rattle.newt_journal.specs.Journal.{Stands}
 use Rattle.newt_journal.specs.declared.journal.Journal.{Journal}
 use Rattle.newt_journal.proofs.Steps.{bank-fits}
 use Rattle.newt_journal.proofs.Walking.{read}
 use Rattle.newt_journal.proofs.Recorded.{recorded-told}
-use Rattle.newt_image.specs.Records.{and_then, with_first}
+use Rattle.newt_spec_image.specs.Records.{and_then, with_first}
 use Rattle.newt_pagebook.specs.Batch.{names, puts_one, deletes_one}
 use Rattle.newt_pagebook.proofs.Batches.{is_batch-put, is_batch-delete}
 use Rattle.newt_pagebook.proofs.Changes.{after_put, after_delete}

@@ -8,8 +8,8 @@ use Rattle.std.proofs.lemmas.List.Sorted.{IsPermutation-map}
 use Rattle.std.proofs.lemmas.Map.Keys.{IsDistinct-IsPermutation}
 use Rattle.newt_host.specs.Moments.{Moment, changes}
 use Rattle.newt_host.specs.Outside.{Outside, Touches}
-use Rattle.newt_image.specs.Records.{and_then, with_first}
-use Rattle.newt_image.specs.Pages.{Pages, Change, change_in, after, pages_after}
+use Rattle.newt_spec_image.specs.Records.{and_then, with_first}
+use Rattle.newt_spec_image.specs.Pages.{Pages, Change, change_in, after, pages_after}
 use Rattle.newt_journal.specs.Journal.{Stands}
 use Rattle.newt_journal.specs.Bank.{limit_of}
 use Rattle.newt_journal.specs.declared.journal.Journal.{Journal}

@@ -8,7 +8,7 @@ use Rattle.std.proofs.lemmas.List.Folds.{list_any-append}
 use Rattle.std.proofs.lemmas.List.Elements.{All-head, All-tail, All-cons, All-nil}
 use Rattle.std.proofs.lemmas.Nat.{from_be_bytes-to_be_bytes_2, from_be_bytes-to_be_bytes_4}
 use Rattle.std.proofs.lemmas.Map.Keys.{IsDistinct-head, IsDistinct-tail}
-use Rattle.newt_image.specs.Pages.{Put, Change, all_distinct, short_at, word_at, puts_from, deletes_from, said_by, change_in, written_put, written_delete, written_change}
+use Rattle.newt_spec_image.specs.Pages.{Put, Change, all_distinct, short_at, word_at, puts_from, deletes_from, said_by, change_in, written_put, written_delete, written_change}
 use Rattle.newt_pagebook.specs.Batch.{IsBatch}
 use Rattle.newt_pagebook.proofs.Tests.{true_or_false, neither, is_same}
 use Rattle.newt_pagelog.proofs.Payloads.{batch_is_change, the_change_in}

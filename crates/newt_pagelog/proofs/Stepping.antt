@@ -7,8 +7,8 @@ use Rattle.std.specs.Int.{to_be_bytes, w16, w32}
 use Rattle.std.proofs.lemmas.List.Elements.{filter-append}
 use Rattle.newt_host.proofs.Outside.{Touches-refl, Touches-append, Spends-refl, Spends-append, Spends-widen}
 use Rattle.newt_host.proofs.Moments.{Always-last, Leaves-append, Leaves-weaken, Leaves-start}
-use Rattle.newt_image.specs.Records.{records}
-use Rattle.newt_image.specs.Pages.{Change, written_put, written_delete, written_change}
+use Rattle.newt_spec_image.specs.Records.{records}
+use Rattle.newt_spec_image.specs.Pages.{Change, written_put, written_delete, written_change}
 use Rattle.newt_journal.specs.Journal.{ReadsAs}
 use Rattle.newt_journal.specs.Draft.{IsDraftOf, journal_of, unit_of, len_of, put_of, is_switch, payload_of, rest_of}
 use Rattle.newt_journal.specs.declared.draft.Draft.{Draft}

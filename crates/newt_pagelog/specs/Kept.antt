@@ -9,7 +9,7 @@ use Rattle.std.specs.List.{filter, IsDistinct}
 use Rattle.std.specs.Ordering.{nat_cmp, eq_by_cmp}
 use Rattle.std.specs.FinMap as map
 use Rattle.std.specs.FinSet as set
-use Rattle.newt_image.specs.Pages.{Pages, Change}
+use Rattle.newt_spec_image.specs.Pages.{Pages, Change}
 use Rattle.newt_pagebook.specs.Book.{Numbers}
 
 abbrev pub Entries : Type 0

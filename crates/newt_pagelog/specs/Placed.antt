@@ -4,8 +4,8 @@ use Rattle.std.specs.Map.{lookup, keys_of}
 use Rattle.std.specs.List.{IsDistinct}
 use Rattle.std.specs.FinMap as map
 use Rattle.newt_host.specs.Outside.{Outside, Touches}
-use Rattle.newt_image.specs.Records.{records}
-use Rattle.newt_image.specs.Pages.{Change, pages, after, change_in}
+use Rattle.newt_spec_image.specs.Records.{records}
+use Rattle.newt_spec_image.specs.Pages.{Change, pages, after, change_in}
 use Rattle.newt_journal.specs.Places.{first_place, recorded}
 use Rattle.newt_journal.specs.declared.journal.Journal.{Journal}
 use Rattle.newt_pagebook.specs.Batch.{IsBatch}

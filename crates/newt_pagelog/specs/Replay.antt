@@ -1,6 +1,6 @@
 -- What is read of a payload, number by number.
 use Rattle.std.specs.Prelude.{◌≡◌, ◌⊎◌, ℕ, ◌<◌, ◌≤◌, ◌==◌, ◌||◌, Bool, true, false}
-use Rattle.newt_image.specs.Pages.{Change}
+use Rattle.newt_spec_image.specs.Pages.{Change}
 use Rattle.newt_pagebook.specs.Batch.{names}
 
 -- the numbers that were seen are those that the change names

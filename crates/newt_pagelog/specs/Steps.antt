@@ -2,7 +2,7 @@
 use Rattle.std.specs.Prelude.{IsTrue, ◌≡◌, ℕ, ◌+◌, Bool, List, ◌++◌, length}
 use Rattle.newt_host.specs.Moments.{Moment, MayLeave, image, Leaves}
 use Rattle.newt_host.specs.Outside.{Outside, Touches, Spends}
-use Rattle.newt_image.specs.Records.{records}
+use Rattle.newt_spec_image.specs.Records.{records}
 use Rattle.newt_journal.specs.Journal.{ReadsAs}
 use Rattle.newt_journal.specs.Draft.{IsDraftOf, journal_of, unit_of, len_of, put_of, is_switch, payload_of, rest_of}
 use Rattle.newt_journal.specs.declared.draft.Draft.{Draft}

@@ -2,7 +2,7 @@
 ghost use Rattle.std.specs.Prelude.{◌≡◌, ◌≤◌, [], length, IsTrue, OnOk, IfErr, IsErrOf};
 ghost use Rattle.newt_host.specs.Moments.{image, IsDurable, Leaves, Anything};
 ghost use Rattle.newt_host.specs.Outside.{Touches};
-ghost use Rattle.newt_image.specs.Pages.{cap as cap_of};
+ghost use Rattle.newt_spec_image.specs.Pages.{cap as cap_of};
 ghost use Rattle.newt_pagebook.specs.Book.{IsFormatted};
 ghost use Rattle.newt_pagebook.specs.Stops.{StopsAt};
 

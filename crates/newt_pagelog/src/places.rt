@@ -4,7 +4,7 @@ ghost use Rattle.std.specs.HashSet.{contains};
 ghost use Rattle.std.specs.HashMap as hash;
 ghost use Rattle.newt_host.specs.Moments.{image};
 ghost use Rattle.newt_host.specs.Outside.{Touches, Rose};
-ghost use Rattle.newt_image.specs.Pages.{pages as pages_of, short_at, word_at, puts_from, said_by, is_change, change_in};
+ghost use Rattle.newt_spec_image.specs.Pages.{pages as pages_of, short_at, word_at, puts_from, said_by, is_change, change_in};
 ghost use Rattle.newt_journal.specs.Journal.{Stands};
 ghost use Rattle.newt_journal.specs.Places.{first_place};
 ghost use Rattle.newt_pagelog.specs.Placed.{AreNumbered, Places, ArePlaced, HoldsAt, Looks, Replayed, ReplaysRecord};

@@ -3,7 +3,7 @@ use Rattle.std.specs.Prelude.{IsTrue, ◌≡◌, ℕ, ◌≤◌, Bool, List, Opt
 use Rattle.std.proofs.Common.{sym, ◌∙◌, ap, subst}
 use Rattle.newt_host.specs.Moments.{Change as Event, image, bytes_after, IsDurable}
 use Rattle.newt_host.specs.Outside.{Outside}
-use Rattle.newt_image.specs.Pages.{pages}
+use Rattle.newt_spec_image.specs.Pages.{pages}
 use Rattle.newt_journal.specs.Journal.{Stands, HeldBy}
 use Rattle.newt_journal.specs.declared.journal.Journal.{Journal}
 use Rattle.newt_pagebook.specs.Book.{PagesAre, IsSameFor}

@@ -1,7 +1,7 @@
 // A batch is applied to the pages in memory.
 ghost use Rattle.std.specs.Prelude.{◌≡◌, ℕ, ◌+◌, ◌≤◌, ◌<◌, if◌then◌else◌, length, nat_eq, Some};
 ghost use Rattle.std.specs.HashMap as hash;
-ghost use Rattle.newt_image.specs.Pages.{after};
+ghost use Rattle.newt_spec_image.specs.Pages.{after};
 ghost use Rattle.newt_pagelog.specs.Kept.{map_of};
 
 use newt_pagebook::{Batch, Page};

@@ -3,7 +3,7 @@ ghost use Rattle.std.specs.Prelude.{IsTrue, ◌≡◌, ◌+◌, ◌≤◌, ℕ, 
 ghost use Rattle.std.specs.HashMap as hash;
 ghost use Rattle.newt_host.specs.Moments.{image};
 ghost use Rattle.newt_host.specs.Outside.{Rose};
-ghost use Rattle.newt_image.specs.Pages.{pages as pages_of};
+ghost use Rattle.newt_spec_image.specs.Pages.{pages as pages_of};
 ghost use Rattle.newt_journal.specs.Journal.{Stands};
 ghost use Rattle.newt_journal.specs.Places.{first_place};
 ghost use Rattle.newt_pagelog.specs.Kept.{AreSound, is_kept, map_of, page_in};

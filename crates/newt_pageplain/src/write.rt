@@ -3,8 +3,8 @@ ghost use Rattle.std.specs.Prelude.{IsTrue, ◌≡◌, ◌+◌, ◌*◌, ◌≤�
 ghost use Rattle.std.specs.List.{flat_map};
 ghost use Rattle.newt_host.specs.Moments.{image, Leaves};
 ghost use Rattle.newt_host.specs.Outside.{Touches, Rose};
-ghost use Rattle.newt_image.specs.Pages.{written_put, written_change};
-ghost use Rattle.newt_image.specs.Records.{records, bank_size};
+ghost use Rattle.newt_spec_image.specs.Pages.{written_put, written_change};
+ghost use Rattle.newt_spec_image.specs.Records.{records, bank_size};
 ghost use Rattle.newt_journal.specs.Journal.{Stands, ReadsAsEither};
 ghost use Rattle.newt_journal.specs.Draft.{IsDraftOf, unit_of, len_of, put_of};
 ghost use Rattle.newt_pagebook.specs.Book.{IsOpenFor};

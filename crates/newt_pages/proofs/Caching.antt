@@ -6,9 +6,9 @@ use Rattle.std.specs.Option.{option_map, option_map_or, is_some}
 use Rattle.std.specs.FinMap as map
 use Rattle.newt_host.specs.Moments.{Moment, image}
 use Rattle.newt_host.specs.Outside.{Outside, Touches}
-use Rattle.newt_image.specs.Pages.{Pages}
+use Rattle.newt_spec_image.specs.Pages.{Pages}
 use Rattle.newt_pagebook.specs.Book.{HasPage}
-use Rattle.newt_image.specs.Records.{records}
+use Rattle.newt_spec_image.specs.Records.{records}
 use Rattle.newt_journal.specs.Journal.{Stands, appended}
 use Rattle.newt_journal.specs.Places.{first_place}
 use Rattle.newt_journal.specs.declared.journal.Journal.{Journal}

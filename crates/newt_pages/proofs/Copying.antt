@@ -8,8 +8,8 @@ use Rattle.newt_host.specs.Moments.{Moment, image, Leaves}
 use Rattle.newt_host.specs.Outside.{Outside, Touches}
 use Rattle.newt_host.proofs.Outside.{Touches-append, Touches-refl, same_cards}
 use Rattle.newt_host.proofs.Moments.{Leaves-append, Leaves-weaken, Leaves-start}
-use Rattle.newt_image.specs.Records.{records}
-use Rattle.newt_image.specs.Pages.{written_put}
+use Rattle.newt_spec_image.specs.Records.{records}
+use Rattle.newt_spec_image.specs.Pages.{written_put}
 use Rattle.newt_journal.specs.Journal.{ReadsAs}
 use Rattle.newt_journal.specs.Appending.{IsDrafted}
 use Rattle.newt_journal.specs.Switch.{IsSwitching}

@@ -4,7 +4,7 @@ use Rattle.std.specs.Map.{lookup}
 use Rattle.std.specs.Option.{option_map, is_some}
 use Rattle.std.proofs.lemmas.Bool.{cases_eq}
 use Rattle.std.proofs.lemmas.List.{map-append, get_or_append_left}
-use Rattle.newt_image.specs.Pages.{Put}
+use Rattle.newt_spec_image.specs.Pages.{Put}
 use Rattle.newt_journal.specs.declared.journal.Journal.{Journal}
 use Rattle.newt_pagebook.proofs.Tests.{none_is, true_or_false, is_same, equal_true, equal_false, some_inj}
 use Rattle.newt_pagelog.specs.Kept.{page_in, is_kept}

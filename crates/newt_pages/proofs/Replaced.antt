@@ -11,8 +11,8 @@ use Rattle.std.proofs.lemmas.List.Folds.{list_any-append}
 use Rattle.std.proofs.lemmas.Map.Made.{is_some-lookup}
 use Rattle.newt_host.specs.Moments.{image}
 use Rattle.newt_host.specs.Outside.{Outside}
-use Rattle.newt_image.specs.Records.{records}
-use Rattle.newt_image.specs.Pages.{Pages, Put, Change, all_distinct, pages, with_puts, after, change_in, written_change}
+use Rattle.newt_spec_image.specs.Records.{records}
+use Rattle.newt_spec_image.specs.Pages.{Pages, Put, Change, all_distinct, pages, with_puts, after, change_in, written_change}
 use Rattle.newt_journal.specs.Journal.{written, Stands, ReadsAsEither}
 use Rattle.newt_journal.specs.Bank.{start_of}
 use Rattle.newt_journal.specs.Places.{first_place}

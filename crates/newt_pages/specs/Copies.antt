@@ -4,8 +4,8 @@ use Rattle.std.specs.List.{flat_map}
 use Rattle.std.specs.Map.{lookup}
 use Rattle.newt_host.specs.Moments.{image, Leaves}
 use Rattle.newt_host.specs.Outside.{Outside, Touches}
-use Rattle.newt_image.specs.Records.{records}
-use Rattle.newt_image.specs.Pages.{Put, written_put, written_change}
+use Rattle.newt_spec_image.specs.Records.{records}
+use Rattle.newt_spec_image.specs.Pages.{Put, written_put, written_change}
 use Rattle.newt_journal.specs.Journal.{ReadsAs}
 use Rattle.newt_journal.specs.Places.{recorded}
 use Rattle.newt_journal.specs.Draft.{journal_of, put_of}

@@ -6,8 +6,8 @@ use Rattle.std.specs.Ordering.{nat_cmp}
 use Rattle.std.specs.FinSet as set
 use Rattle.newt_host.specs.Moments.{Change as Event, image, bytes_after, IsDurable}
 use Rattle.newt_host.specs.Outside.{Outside}
-use Rattle.newt_image.specs.Records.{records}
-use Rattle.newt_image.specs.Pages.{Put}
+use Rattle.newt_spec_image.specs.Records.{records}
+use Rattle.newt_spec_image.specs.Pages.{Put}
 use Rattle.newt_journal.specs.Journal.{Stands, HeldBy}
 use Rattle.newt_journal.specs.Places.{first_place}
 use Rattle.newt_journal.specs.declared.journal.Journal.{Journal}

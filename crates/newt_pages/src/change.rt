@@ -4,7 +4,7 @@ ghost use Rattle.std.specs.HashMap as hash;
 ghost use Rattle.std.specs.FinSet as set;
 ghost use Rattle.newt_host.specs.Moments.{image, Leaves};
 ghost use Rattle.newt_host.specs.Outside.{Touches, Spends, Rose};
-ghost use Rattle.newt_image.specs.Pages.{cap};
+ghost use Rattle.newt_spec_image.specs.Pages.{cap};
 ghost use Rattle.newt_journal.specs.Journal.{Stands};
 ghost use Rattle.newt_pagebook.specs.Batch.{IsBatch};
 ghost use Rattle.newt_pagebook.specs.Book.{IsOpenFor, batch_bytes, changed_numbers, IsBeforeOrAfter, ReadsChanged};

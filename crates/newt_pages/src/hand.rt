@@ -2,7 +2,7 @@
 ghost use Rattle.std.specs.Prelude.{IsTrue, ◌≡◌, ◌≤◌, ◌+◌, ◌⊎◌, ℕ, List, Some, IsSome, Contains, IfOk, OnErr};
 ghost use Rattle.newt_host.specs.Moments.{image};
 ghost use Rattle.newt_host.specs.Outside.{Touches, Spends, Rose};
-ghost use Rattle.newt_image.specs.Records.{records};
+ghost use Rattle.newt_spec_image.specs.Records.{records};
 ghost use Rattle.newt_journal.specs.Journal.{Stands};
 ghost use Rattle.newt_journal.specs.Places.{first_place};
 ghost use Rattle.newt_pagelog.specs.Placed.{page_of};

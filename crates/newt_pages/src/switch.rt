@@ -3,8 +3,8 @@ ghost use Rattle.std.specs.Prelude.{IsTrue, ◌≡◌, ℕ, ◌+◌, ◌*◌, �
 ghost use Rattle.std.specs.Map.{lookup};
 ghost use Rattle.newt_host.specs.Moments.{image, Leaves};
 ghost use Rattle.newt_host.specs.Outside.{Touches, Rose};
-ghost use Rattle.newt_image.specs.Records.{records, bank_size};
-ghost use Rattle.newt_image.specs.Pages.{written_change};
+ghost use Rattle.newt_spec_image.specs.Records.{records, bank_size};
+ghost use Rattle.newt_spec_image.specs.Pages.{written_change};
 ghost use Rattle.newt_journal.specs.Journal.{Stands, ReadsAsEither};
 ghost use Rattle.newt_journal.specs.Places.{first_place};
 ghost use Rattle.newt_journal.specs.Draft.{IsDraftOf, journal_of, unit_of, len_of, put_of};

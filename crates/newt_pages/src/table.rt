@@ -4,7 +4,7 @@ ghost use Rattle.std.specs.List.{All, list_any};
 ghost use Rattle.std.specs.Map.{lookup};
 ghost use Rattle.std.specs.HashMap as hash;
 ghost use Rattle.std.specs.FinMap as map;
-ghost use Rattle.newt_image.specs.Pages.{Put, with_puts, after};
+ghost use Rattle.newt_spec_image.specs.Pages.{Put, with_puts, after};
 ghost use Rattle.newt_journal.specs.Places.{first_place};
 ghost use Rattle.newt_journal.specs.declared.journal.Journal.{Journal};
 ghost use Rattle.newt_pagelog.specs.Kept.{page_in, map_of, numbers_in, is_kept};

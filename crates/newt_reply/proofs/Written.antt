@@ -3,8 +3,8 @@ use Rattle.std.proofs.Common.{◌≡◌, ℕ, List, [], ◌∷◌, ◌++◌, map
 use Rattle.newt_base.specs.Text.{decimal_text, hex_text}
 use Rattle.newt_base.proofs.Numerals.{decimal_written}
 use Rattle.newt_graph.specs.Graph.{RawGraph}
-use Rattle.newt_lit.specs.Printed as printed
-use Rattle.newt_nsof.specs.Written.{nsof}
+use Rattle.newt_spec_literal.specs.Printed as printed
+use Rattle.newt_spec_nsof.specs.Written.{nsof}
 use Rattle.newt_spec_store.specs.Keys.{IndexSpec}
 use Rattle.newt_spec_store.specs.Store.{TagTable}
 use Rattle.newt_spec_world.specs.Reply as world

@@ -1,6 +1,6 @@
 -- Parts of the texts of replies, with std's decimals. The text of a whole reply stays closed in proofs.
 use Rattle.std.specs.Prelude.{ℕ, List, [], ◌∷◌, ◌++◌, map, flat_map, codes, decimal}
-use Rattle.newt_lit.specs.Printed.{escaped}
+use Rattle.newt_spec_literal.specs.Printed.{escaped}
 use Rattle.newt_spec_store.specs.Keys.{IndexSpec, IndexPart}
 use Rattle.newt_spec_world.specs.Reply.{Reply, reply_text, ok, items, spaced, name_field, part_field}
 use Rattle.newt_reply.specs.declared.rows.StoreLine.{StoreLine}

@@ -3,8 +3,8 @@ ghost use Rattle.std.specs.Prelude.{◌≡◌, ◌++◌, IfOk, OnOk, codes, deci
 ghost use Rattle.std.specs.List.{list_any};
 ghost use Rattle.newt_base.specs.Names.{needs_quotes};
 ghost use Rattle.newt_base.specs.Text.{hex_text as hex_of};
-ghost use Rattle.newt_lit.specs.Printed.{escaped};
-ghost use Rattle.newt_nsof.specs.Written.{nsof};
+ghost use Rattle.newt_spec_literal.specs.Printed.{escaped};
+ghost use Rattle.newt_spec_nsof.specs.Written.{nsof};
 ghost use Rattle.newt_spec_world.specs.Reply.{name_field};
 ghost use Rattle.newt_reply.specs.Fields.{quoted, alias_item};
 

@@ -7,7 +7,7 @@ use Rattle.newt_spec_world.specs.declared.command.Command.TheVariants as command
 use Rattle.newt_spec_script.specs.Words.{Reader, of1, of2, of3, word, name}
 use Rattle.newt_spec_script.specs.Line.{unit, number, cursor, star, ended, with_literal, whole, query_by}
 use Rattle.newt_script.specs.Graphs.{literal_word}
-use Rattle.newt_words.specs.Readers.{unit_of, number_of, name_of, soup_of, cursor_of, steps_of, star_of, rest_of}
+use Rattle.newt_script_words.specs.Readers.{unit_of, number_of, name_of, soup_of, cursor_of, steps_of, star_of, rest_of}
 use Rattle.newt_script.specs.Rows.{Reading, reading, row_reading}
 use Rattle.newt_script.proofs.RowTable.{after, finished, with_graph, after_same, then_after, one_word, one_literal, literal_after, two}
 

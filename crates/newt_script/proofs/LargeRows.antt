@@ -8,7 +8,7 @@ use Rattle.newt_spec_world.specs.declared.command.Command.TheVariants as command
 use Rattle.newt_spec_script.specs.Words.{Reader, then_read, trimmed, of1, of2, of3, word, name}
 use Rattle.newt_spec_script.specs.Line.{unit, number, len, ended, with_bytes}
 use Rattle.newt_script.specs.Graphs.{bytes_word}
-use Rattle.newt_words.specs.Readers.{unit_of, number_of, length_of, name_of, entry_of, path_word, rest_of}
+use Rattle.newt_script_words.specs.Readers.{unit_of, number_of, length_of, name_of, entry_of, path_word, rest_of}
 use Rattle.newt_script.specs.Rows.{Reading, reading, row_reading}
 use Rattle.newt_script.specs.declared.fault.LineFault.{LineFault}
 use Rattle.newt_script.proofs.RowTable.{after, finished, after_same, then_after, three_then, mapped, one}

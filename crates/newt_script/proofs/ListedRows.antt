@@ -8,10 +8,10 @@ use Rattle.newt_spec_world.specs.declared.command.Command.{Command}
 use Rattle.newt_spec_world.specs.declared.command.Command.TheVariants as command
 use Rattle.newt_spec_script.specs.Words.{then_read, trimmed, of1, of2, of3, of4, word, words, name, part, symbol, several, all_words, or_not_the_form}
 use Rattle.newt_spec_script.specs.Line.{Parsed, unit, ended, whole, distinct, if_distinct, or_row}
-use Rattle.newt_words.specs.Listed.{of_form, in_number, values, apart, parts_in, paths_in, symbols_in}
-use Rattle.newt_words.specs.Readers.{unit_of, name_of, soup_of, path_word, rest_of, is_ended}
+use Rattle.newt_script_words.specs.Listed.{of_form, in_number, values, apart, parts_in, paths_in, symbols_in}
+use Rattle.newt_script_words.specs.Readers.{unit_of, name_of, soup_of, path_word, rest_of, is_ended}
 use Rattle.newt_script.specs.Rows.{Reading, reading, row_reading}
-use Rattle.newt_words.specs.declared.fault.WordFault.{WordFault}
+use Rattle.newt_script_words.specs.declared.fault.WordFault.{WordFault}
 use Rattle.newt_script.specs.Faults.{of_words}
 use Rattle.newt_script.proofs.RowTable.{after, finished, mapped, after_same, two_words, soup_and_word, one_word, then_after, two, two_then}
 

@@ -2,7 +2,7 @@
 use Rattle.std.proofs.Common.{◌≡◌, ◌≢◌, ℕ, ◌-◌, ◌<◌, ◌≤◌, Bool, true, false, ◌==◌, cond, List, [], ◌∷◌, ◌++◌, length, take, get_or, refl, sym, ◌∙◌, ap, arith}
 use Rattle.std.proofs.lemmas.Bool.{ne_eqb, eq-eqb}
 use Rattle.newt_spec_script.specs.Script.{without_return}
-use Rattle.newt_words.proofs.Trimming.{front_and_last}
+use Rattle.newt_script_words.proofs.Trimming.{front_and_last}
 
 -- a text and one byte more
 ends_in : (xs : List ℕ) (x : ℕ) → without_return (xs ++ x ∷ []) ≡ cond (x == 13) xs (xs ++ x ∷ [])

@@ -10,7 +10,7 @@ use Rattle.newt_spec_world.specs.declared.command.Command.TheVariants as command
 use Rattle.newt_spec_script.specs.Words.{Reader, then_read, trimmed, of1, of2, of3, of5, word, name}
 use Rattle.newt_spec_script.specs.Line.{unit, number, sig, ended, with_literal, with_stream, whole}
 use Rattle.newt_script.specs.Graphs.{literal_in, stream_of, stream_word, literal_word}
-use Rattle.newt_words.specs.Readers.{unit_of, number_of, sig_of, name_of, soup_of, entry_of, path_word, rest_of, is_ended}
+use Rattle.newt_script_words.specs.Readers.{unit_of, number_of, sig_of, name_of, soup_of, entry_of, path_word, rest_of, is_ended}
 use Rattle.newt_script.specs.Rows.{Reading, reading, row_reading}
 use Rattle.newt_script.specs.declared.fault.LineFault.{LineFault}
 use Rattle.newt_script.specs.declared.fault.LineFault.TheVariants.{Refused}

@@ -1,7 +1,7 @@
 -- The faults of a line that come of its words.
 use Rattle.newt_base.specs.declared.Refusal.TheVariants.{Line as NotTheForm}
-use Rattle.newt_words.specs.declared.fault.WordFault.{WordFault}
-use Rattle.newt_words.specs.declared.fault.WordFault.TheVariants as word_fault
+use Rattle.newt_script_words.specs.declared.fault.WordFault.{WordFault}
+use Rattle.newt_script_words.specs.declared.fault.WordFault.TheVariants as word_fault
 use Rattle.newt_script.specs.declared.fault.LineFault.{LineFault}
 use Rattle.newt_script.specs.declared.fault.LineFault.TheVariants as line_fault
 

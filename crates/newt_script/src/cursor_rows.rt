@@ -5,8 +5,8 @@ ghost use Rattle.newt_script.specs.Rows.{row_reading};
 use crate::fault::LineFault;
 use crate::graphs::last_literal;
 use newt_base::Uid;
+use newt_script_words::Words;
 use newt_spec_world::Command;
-use newt_words::Words;
 use std::alloc::Global;
 
 /// `query U S LIT` and `query * S LIT`

@@ -3,8 +3,8 @@ ghost use Rattle.std.specs.Prelude.{◌≡◌, ◌≢◌, codes};
 ghost use Rattle.newt_script.specs.Rows.{row_reading};
 
 use crate::fault::LineFault;
+use newt_script_words::Words;
 use newt_spec_world::Command;
-use newt_words::Words;
 use std::alloc::Global;
 
 /// `index U S PART..`

@@ -4,8 +4,8 @@ ghost use Rattle.newt_script.specs.Rows.{row_reading};
 
 use crate::fault::LineFault;
 use crate::graphs::{last_literal, last_stream};
+use newt_script_words::Words;
 use newt_spec_world::Command;
-use newt_words::Words;
 use std::alloc::Global;
 
 /// `add U S LIT`

@@ -3,7 +3,7 @@ ghost use Rattle.std.specs.Prelude.{◌≡◌};
 ghost use Rattle.newt_script.specs.Faults.{of_words};
 
 use newt_base::Refusal;
-use newt_words::WordFault;
+use newt_script_words::WordFault;
 
 /// Why a line is not taken for a command.
 #[derive(Clone, Copy, PartialEq, Eq, Debug)]

@@ -2,7 +2,7 @@
 ghost use Rattle.std.specs.Prelude.{◌≡◌, ◌≢◌, Some, None, IfOk, IfErr};
 ghost use Rattle.newt_base.specs.Text.{hex_bytes};
 ghost use Rattle.newt_base.specs.declared.Refusal.TheVariants.{Malformed};
-ghost use Rattle.newt_words.specs.Readers.{rest_of};
+ghost use Rattle.newt_script_words.specs.Readers.{rest_of};
 ghost use Rattle.newt_script.specs.Graphs as spec;
 
 use crate::fault::LineFault;
@@ -10,7 +10,7 @@ use newt_base::{HexFault, Refusal, hex_read};
 use newt_graph::{Bytes, Graph};
 use newt_lit_read::{LitFault, read_literal};
 use newt_nsof_read::{NsofFault, decode};
-use newt_words::Words;
+use newt_script_words::Words;
 use std::alloc::Global;
 use std::str;
 

@@ -8,8 +8,8 @@ use crate::fault::LineFault;
 use crate::table::row;
 use crate::verbs::named;
 use newt_base::Refusal;
+use newt_script_words::{LONGEST, Words, skip_blanks};
 use newt_spec_world::Command;
-use newt_words::{LONGEST, Words, skip_blanks};
 use std::alloc::Global;
 
 /// A line without the byte 13 at its end.

@@ -6,8 +6,8 @@ ghost use Rattle.newt_script.specs.Verbs.{word_of, is_memory_word};
 use crate::fault::LineFault;
 use crate::verbs::Verb;
 use crate::{cursor_rows, declaring_rows, entry_rows, large_rows, store_rows};
+use newt_script_words::Words;
 use newt_spec_world::Command;
-use newt_words::Words;
 use std::alloc::Global;
 
 /// The command of the words behind the first one.

@@ -1,12 +1,12 @@
 -- What a store costs in pages, and the bytes of its directory. This project's own.
 use Rattle.std.specs.Prelude.{ℕ, ◌+◌, ◌*◌, ◌/◌, List, [], ◌∷◌, ◌++◌, map, length, flat_map, sum_by, sum, Option, Some, None}
 use Rattle.newt_base.specs.Text.{be16, be32}
-use Rattle.newt_image.specs.Objects.{pages_for}
+use Rattle.newt_spec_image.specs.Objects.{pages_for}
 use Rattle.newt_graph.specs.Graph.{RawGraph}
 use Rattle.newt_graph.specs.declared.node.Node.{Node}
 use Rattle.newt_graph.specs.declared.node.Node.TheVariants.{Large}
-use Rattle.newt_nsof.specs.Written.{nsof}
-use Rattle.newt_nsof.specs.Lengths.{skeleton}
+use Rattle.newt_spec_nsof.specs.Written.{nsof}
+use Rattle.newt_spec_nsof.specs.Lengths.{skeleton}
 use Rattle.newt_spec_store.specs.declared.Kind.{Kind}
 use Rattle.newt_spec_store.specs.declared.Kind.TheVariants as kind
 use Rattle.newt_spec_store.specs.declared.Order.{Order}

@@ -4,8 +4,8 @@ use Rattle.std.specs.List.{list_all, range_with_len}
 use Rattle.std.specs.Option.{unwrap_or}
 use Rattle.std.specs.FinMap as map
 use Rattle.newt_graph.specs.Graph.{RawGraph}
-use Rattle.newt_image.specs.Pages.{Pages, pages, object_id, part_number, object_length}
-use Rattle.newt_image.specs.Objects.{Extent, Table, Objects, joined, pages_for}
+use Rattle.newt_spec_image.specs.Pages.{Pages, pages, object_id, part_number, object_length}
+use Rattle.newt_spec_image.specs.Objects.{Extent, Table, Objects, joined, pages_for}
 use Rattle.newt_spec_graph.specs.Graph.{every}
 use Rattle.newt_spec_store.specs.OfImage.{blocks_of}
 use Rattle.newt_spec_store.specs.Store.{Store}

@@ -1,8 +1,8 @@
 -- Objects that write down a store, with the records of its entries in any order. This project's own format.
 use Rattle.std.specs.Prelude.{◌≡◌, [], ℕ, ◌%◌, ◌<◌, true, ◌==◌, List, length, map, filter, zip, Option, Some}
 use Rattle.newt_graph.specs.Graph.{RawGraph}
-use Rattle.newt_nsof.specs.Written.{nsof}
-use Rattle.newt_nsof.specs.Lengths.{skeleton}
+use Rattle.newt_spec_nsof.specs.Written.{nsof}
+use Rattle.newt_spec_nsof.specs.Lengths.{skeleton}
 use Rattle.newt_spec_store.specs.Store.{Entry, Soup, Store}
 use Rattle.newt_spec_store.specs.Cost.{directory_bytes}
 use Rattle.newt_spec_store.specs.Image.{Objects, larges, entry_bytes, all_entries}

@@ -3,8 +3,8 @@
 use Rattle.std.specs.Prelude.{◌≡◌, ℕ, ◌/◌, List, length, Option, Some}
 use Rattle.std.specs.FinMap.{entries}
 use Rattle.newt_graph.specs.Graph.{RawGraph}
-use Rattle.newt_image.specs.Pages.{Pages, pages}
-use Rattle.newt_image.specs.Objects.{Objects, AreObjectsOf}
+use Rattle.newt_spec_image.specs.Pages.{Pages, pages}
+use Rattle.newt_spec_image.specs.Objects.{Objects, AreObjectsOf}
 use Rattle.newt_spec_store.specs.Store.{Store}
 use Rattle.newt_spec_store.specs.StoreOf.{store_of}
 

@@ -8,7 +8,7 @@ use Rattle.newt_spec_graph.specs.Graph.{is_frame, object}
 use Rattle.newt_spec_graph.specs.Limits.{within_limits}
 use Rattle.newt_spec_store.specs.Keys.{IndexSpec, paths_of, same_paths}
 use Rattle.newt_spec_store.specs.Store.{Entry, TagTable, Soup, Store}
-use Rattle.newt_image.specs.Pages.{cap}
+use Rattle.newt_spec_image.specs.Pages.{cap}
 use Rattle.newt_spec_store.specs.Cost.{cost, skeleton_length}
 
 -- one to four parts, each with a path (this project's own)

@@ -11,7 +11,7 @@ use Rattle.newt_graph.specs.Meeting.{normal_form}
 use Rattle.newt_spec_graph.specs.Limits.{is_within}
 use Rattle.newt_spec_graph.specs.Slots.{put}
 use Rattle.newt_spec_store.specs.Keys.{Path, has_paths}
-use Rattle.newt_image.specs.Pages.{cap}
+use Rattle.newt_spec_image.specs.Pages.{cap}
 use Rattle.newt_spec_store.specs.Cost.{cost, skeleton_length}
 use Rattle.newt_spec_query.specs.Spec.{is_query, keys_fit}
 use Rattle.newt_spec_world.specs.declared.command.Command.{Command}

@@ -6,8 +6,8 @@ use Rattle.newt_base.specs.Text.{decimal_text, hex_text}
 use Rattle.newt_base.specs.declared.Refusal.{Refusal}
 use Rattle.newt_base.specs.Refusals.{refusal_text}
 use Rattle.newt_graph.specs.Graph.{RawGraph}
-use Rattle.newt_nsof.specs.Written.{nsof}
-use Rattle.newt_lit.specs.Printed.{literal, escaped}
+use Rattle.newt_spec_nsof.specs.Written.{nsof}
+use Rattle.newt_spec_literal.specs.Printed.{literal, escaped}
 use Rattle.newt_spec_store.specs.declared.Kind.{Kind}
 use Rattle.newt_spec_store.specs.declared.Kind.TheVariants as kind
 use Rattle.newt_spec_store.specs.declared.Order.{Order}

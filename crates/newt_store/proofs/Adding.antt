@@ -6,8 +6,8 @@ use Rattle.std.proofs.lemmas.Bool.Decides.{nat_tests}
 use Rattle.newt_base.specs.Refusals.{Checks, first_of}
 use Rattle.newt_base.specs.declared.Refusal.TheVariants.{Soup as NoSoup, Notframe, Size, Ids}
 use Rattle.newt_graph.specs.Graph.{RawGraph, IsGraph}
-use Rattle.newt_nsof.specs.Lengths.{skeleton}
-use Rattle.newt_image.specs.Objects.{Objects}
+use Rattle.newt_spec_nsof.specs.Lengths.{skeleton}
+use Rattle.newt_spec_image.specs.Objects.{Objects}
 use Rattle.newt_pagebook.proofs.Tests.{some_inj}
 use Rattle.newt_objects.specs.Held.{held}
 use Rattle.newt_spec_graph.specs.Graph.{is_frame, object}
@@ -32,18 +32,18 @@ use Rattle.newt_laws_changes.proofs.Lying.{added_lies}
 use Rattle.newt_laws_changes.proofs.Places.{above-is-not, odd-is-not, place-there}
 use Rattle.newt_laws_changes.proofs.Members.{in-below}
 use Rattle.newt_laws_images.proofs.Chosen.{soup-there, soup-good}
-use Rattle.newt_shelf.specs.Batch.{large_ids, new_pages}
-use Rattle.newt_shelf.specs.declared.batch.NewEntry.{NewEntry}
-use Rattle.newt_shelf.specs.Names.{names_of, AreSoundNames}
-use Rattle.newt_shelf.specs.Places.{place_of, AreSoundPlaces}
-use Rattle.newt_catalog.specs.declared.catalog.Catalog.{Catalog}
+use Rattle.newt_objects_commit.specs.Batch.{large_ids, new_pages}
+use Rattle.newt_objects_commit.specs.declared.batch.NewEntry.{NewEntry}
+use Rattle.newt_objects_commit.specs.Names.{names_of, AreSoundNames}
+use Rattle.newt_objects_commit.specs.Places.{place_of, AreSoundPlaces}
+use Rattle.newt_store_catalog.specs.declared.catalog.Catalog.{Catalog}
 use Rattle.newt_store.specs.declared.change.Change.TheVariants.{Add}
 use Rattle.newt_store.specs.declared.next.Next.{Next}
 use Rattle.newt_store.specs.declared.next.Gone.{Gone}
 use Rattle.newt_store.specs.declared.next.Gone.TheVariants.{Nothing}
 use Rattle.newt_store.specs.Change.{first_checks, is_too_large, has_no_ids, changed_soup, pages_of_entry}
 use Rattle.newt_store.specs.Next.{Goes, IsNew, LosesNames, IsGoing, Turns, IsAdding, IsPlanOf, goes_pages, replaced_pages}
-use Rattle.newt_catalog.specs.Stands.{Describes}
+use Rattle.newt_store_catalog.specs.Stands.{Describes}
 use Rattle.newt_store.proofs.Found.{soup-same, soup-some, emptied-some}
 use Rattle.newt_store.proofs.Ids.{is-none, free-in, free-names, are-larges, entry-pages}
 use Rattle.newt_store.proofs.Turning.{bytes-of, describes}

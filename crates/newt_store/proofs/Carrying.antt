@@ -4,8 +4,8 @@ use Rattle.std.proofs.lemmas.Bool.{cases_eq}
 use Rattle.newt_pagebook.proofs.Tests.{some_inj, true_or_false}
 use Rattle.newt_host.specs.Moments.{Moment, image, IsDurable, Leaves}
 use Rattle.newt_host.proofs.Moments.{Leaves-start, Leaves-weaken}
-use Rattle.newt_image.specs.Objects.{Extent, Table, Objects}
-use Rattle.newt_image.specs.Pages.{cap}
+use Rattle.newt_spec_image.specs.Objects.{Extent, Table, Objects}
+use Rattle.newt_spec_image.specs.Pages.{cap}
 use Rattle.newt_objects.specs.Held.{held}
 use Rattle.newt_objects.specs.Changing.{HoldsObjects, total_pages}
 use Rattle.newt_spec_store.specs.Store.{Store}
@@ -16,18 +16,18 @@ use Rattle.newt_spec_graph.specs.Lists.{Each, Pairs, Among}
 use Rattle.newt_spec_graph.proofs.Lists.{each-from, among-left, among-right, among-append, among-flat_map, flat_map-among, pairs-more, pairs-append, pairs-flat_map}
 use Rattle.newt_laws_changes.specs.Written.{Names}
 use Rattle.newt_laws_changes.proofs.Lying.{among-or-not}
-use Rattle.newt_shelf.specs.Batch.{AreOnce, HasIds, IsApart, large_ids}
-use Rattle.newt_shelf.specs.Names.{names_of, AreSoundNames}
-use Rattle.newt_shelf.specs.declared.batch.NewEntry.{NewEntry}
-use Rattle.newt_shelf.specs.Places.{place_of, AreSoundPlaces}
-use Rattle.newt_catalog.specs.declared.catalog.Catalog.{Catalog}
-use Rattle.newt_shelf.proofs.Planning.{odd_even}
+use Rattle.newt_objects_commit.specs.Batch.{AreOnce, HasIds, IsApart, large_ids}
+use Rattle.newt_objects_commit.specs.Names.{names_of, AreSoundNames}
+use Rattle.newt_objects_commit.specs.declared.batch.NewEntry.{NewEntry}
+use Rattle.newt_objects_commit.specs.Places.{place_of, AreSoundPlaces}
+use Rattle.newt_store_catalog.specs.declared.catalog.Catalog.{Catalog}
+use Rattle.newt_objects_commit.proofs.Planning.{odd_even}
 use Rattle.newt_store.specs.declared.next.Gone.{Gone}
 use Rattle.newt_store.specs.declared.next.Gone.TheVariants.{Nothing, OneEntry, AllOf}
 use Rattle.newt_store.specs.declared.next.Next.{Next}
 use Rattle.newt_store.specs.Next.{Goes, GoesAt, LosesNames, IsGoing, IsNew, IsNextOf, AreNext, ArePlacesNext, AreNamesNext, Turns, WritesNext, HoldsEither, IsEitherStore, names_replaced, all_gone}
-use Rattle.newt_catalog.specs.Readable.{readable}
-use Rattle.newt_catalog.specs.Stands.{Describes, StandsFor}
+use Rattle.newt_store_catalog.specs.Readable.{readable}
+use Rattle.newt_store_catalog.specs.Stands.{Describes, StandsFor}
 use Rattle.newt_store.proofs.Reading.{read-back, total-cost, same-cap}
 
 -- ---- what goes

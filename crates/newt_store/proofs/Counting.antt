@@ -7,7 +7,7 @@ use Rattle.std.specs.Ordering.{nat_cmp}
 use Rattle.std.specs.Set.{is_member}
 use Rattle.std.specs.declared.cmp.Ordering.TheVariants.{Less}
 use Rattle.std.proofs.lemmas.Bool.{cases_lt}
-use Rattle.newt_image.specs.Objects.{Objects}
+use Rattle.newt_spec_image.specs.Objects.{Objects}
 use Rattle.newt_pagebook.proofs.Tests.{true_or_false, is_same, equal_true, equal_false}
 use Rattle.newt_spec_graph.specs.Lists.{Each, Pairs, rises}
 use Rattle.newt_spec_graph.proofs.Lists.{each-more, rises-pairs}
@@ -21,7 +21,7 @@ use Rattle.newt_laws_changes.specs.Written.{Names}
 use Rattle.newt_laws_changes.proofs.Soups.{found-good, rising-length}
 use Rattle.newt_soupdir.specs.declared.rows.Directory.{Directory}
 use Rattle.newt_store.specs.Change.{uids_in}
-use Rattle.newt_catalog.specs.Stands.{Describes}
+use Rattle.newt_store_catalog.specs.Stands.{Describes}
 use Rattle.newt_store.proofs.Entries.{has-entry}
 use Rattle.newt_store.proofs.Sums.{same_number, other-way}
 

@@ -6,7 +6,7 @@ use Rattle.std.proofs.lemmas.Bool.Decides.{nat_tests}
 use Rattle.newt_base.specs.Names.{equal_text}
 use Rattle.newt_base.specs.Refusals.{Checks, first_of}
 use Rattle.newt_base.specs.declared.Refusal.TheVariants.{Soup as NoSoup, Limit, Index as BadIndex}
-use Rattle.newt_image.specs.Objects.{Objects}
+use Rattle.newt_spec_image.specs.Objects.{Objects}
 use Rattle.newt_pagebook.proofs.Tests.{some_inj, the_some}
 use Rattle.newt_spec_graph.specs.Lists.{Each}
 use Rattle.newt_spec_graph.proofs.Lists.{each-from}
@@ -24,14 +24,14 @@ use Rattle.newt_laws_changes.proofs.Costs.{costs-less, directory-length, soup-le
 use Rattle.newt_laws_changes.proofs.Members.{same-sig, same-name}
 use Rattle.newt_laws_changes.proofs.Replaced.{declared_lies}
 use Rattle.newt_laws_changes.proofs.Soups.{with-soup, with-index, without-index, with-tags}
-use Rattle.newt_shelf.specs.Names.{names_of}
-use Rattle.newt_shelf.specs.Places.{place_of}
-use Rattle.newt_catalog.specs.declared.catalog.Catalog.{Catalog}
+use Rattle.newt_objects_commit.specs.Names.{names_of}
+use Rattle.newt_objects_commit.specs.Places.{place_of}
+use Rattle.newt_store_catalog.specs.declared.catalog.Catalog.{Catalog}
 use Rattle.newt_store.specs.declared.change.Change.TheVariants.{AddIndex, DropIndex, SetTags}
 use Rattle.newt_store.specs.declared.next.Gone.TheVariants.{Nothing}
 use Rattle.newt_store.specs.Change.{first_checks, changed_soup, specs_of}
 use Rattle.newt_store.specs.Next.{Turns, IsPlanOf}
-use Rattle.newt_catalog.specs.Stands.{Describes}
+use Rattle.newt_store_catalog.specs.Stands.{Describes}
 use Rattle.newt_store.proofs.Found.{emptied-some, soup-same, soup-some}
 use Rattle.newt_store.proofs.Planned.{first-holds, first-not, none-over, none-some, bare-bare}
 use Rattle.newt_store.proofs.Turning.{bytes-of, next-alone, others-alone, names-alone, lies-over, names-over, describes}

@@ -2,8 +2,8 @@
 use Rattle.std.proofs.Common.{◌≡◌, ℕ, ◌%◌, true, Bool, cond, List, zip, Option, Some, None, refl, sym, ◌∙◌, ap, subst}
 use Rattle.std.specs.FinMap as map
 use Rattle.std.specs.Option.{is_some, option_and_then}
-use Rattle.newt_image.specs.Objects.{Objects}
-use Rattle.newt_nsof.specs.Lengths.{skeleton}
+use Rattle.newt_spec_image.specs.Objects.{Objects}
+use Rattle.newt_spec_nsof.specs.Lengths.{skeleton}
 use Rattle.newt_spec_graph.proofs.Lists.{each-more}
 use Rattle.newt_spec_store.specs.Image.{entry_bytes, larges}
 use Rattle.newt_spec_store.specs.Laid.{IsThere}
@@ -21,8 +21,8 @@ use Rattle.newt_laws_changes.proofs.Places.{place-there}
 use Rattle.newt_soupdir.specs.declared.rows.Directory.{Directory}
 use Rattle.newt_entries.specs.Entry.{stream_graph}
 use Rattle.newt_entries.proofs.Streams.{reads_graphs}
-use Rattle.newt_catalog.specs.Reading.{IsLaidAt}
-use Rattle.newt_catalog.specs.Stands.{Describes}
+use Rattle.newt_store_catalog.specs.Reading.{IsLaidAt}
+use Rattle.newt_store_catalog.specs.Stands.{Describes}
 use Rattle.newt_store.proofs.Found.{placed-entry, entry-placed}
 
 module _ (directory : Directory) (place : Places) (names : Names) (texts : Objects) (s : Store) (d : Describes directory place names texts s) where

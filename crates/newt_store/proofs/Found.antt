@@ -3,7 +3,7 @@ use Rattle.std.proofs.Common.{◌≡◌, ℕ, ◌==◌, Bool, true, false, cond,
 use Rattle.std.specs.List.{find}
 use Rattle.std.specs.Option.{is_some, option_map, option_and_then}
 use Rattle.newt_base.specs.Names.{equal_text}
-use Rattle.newt_image.specs.Objects.{Objects}
+use Rattle.newt_spec_image.specs.Objects.{Objects}
 use Rattle.newt_spec_store.specs.Laid.{bare_soup as emptied}
 use Rattle.newt_spec_store.specs.Store.{Soup, Store, Entry, soup_named, entry_of, soup_of, entry_at}
 use Rattle.newt_spec_store.specs.Lies.{Places, IsIn}
@@ -13,7 +13,7 @@ use Rattle.newt_laws_images.proofs.Made.{map-length}
 use Rattle.newt_laws_changes.proofs.Members.{entry_is_in, is_in_found}
 use Rattle.newt_laws_changes.proofs.Places.{place-there}
 use Rattle.newt_laws_changes.specs.Written.{Names}
-use Rattle.newt_catalog.specs.Stands.{Describes}
+use Rattle.newt_store_catalog.specs.Stands.{Describes}
 
 find-emptied : (test : Soup → Bool) → ((p : Soup) → test (emptied p) ≡ test p) → (soups : List Soup) → find test (map emptied soups) ≡ option_map emptied (find test soups)
 find-emptied test same [] = refl

@@ -5,9 +5,9 @@ use Rattle.std.proofs.lemmas.Bool.Decides.{nat_tests}
 use Rattle.std.specs.Ordering.{nat_cmp}
 use Rattle.std.specs.Option.{option_map}
 use Rattle.newt_base.specs.Names.{is_name}
-use Rattle.newt_image.specs.Records.{and_then}
-use Rattle.newt_image.specs.Pages.{Change, pages_after, after, cap}
-use Rattle.newt_image.specs.Objects.{IsTableOf, joined, pages_for, Objects}
+use Rattle.newt_spec_image.specs.Records.{and_then}
+use Rattle.newt_spec_image.specs.Pages.{Change, pages_after, after, cap}
+use Rattle.newt_spec_image.specs.Objects.{IsTableOf, joined, pages_for, Objects}
 use Rattle.newt_pagebook.specs.Batch.{no_change}
 use Rattle.newt_pagebook.specs.Book.{IsFormatted}
 use Rattle.newt_objects.specs.Held.{Held, held}

@@ -8,7 +8,7 @@ use Rattle.std.proofs.lemmas.List.{length-map}
 use Rattle.std.proofs.lemmas.List.Sums.{sum_by-append, sum_by-cons}
 use Rattle.newt_host.specs.Moments.{image}
 use Rattle.newt_host.specs.Outside.{Outside}
-use Rattle.newt_image.specs.Objects.{pages_for}
+use Rattle.newt_spec_image.specs.Objects.{pages_for}
 use Rattle.newt_pagebook.specs.Book.{Numbers}
 use Rattle.newt_pagebook.proofs.Tests.{is_same, equal_true, equal_false}
 use Rattle.newt_objects.specs.Extents.{numbers_of}
@@ -25,22 +25,22 @@ use Rattle.newt_laws_changes.specs.Written.{Names}
 use Rattle.newt_laws_images.proofs.Chosen.{soup-there, soup-good}
 use Rattle.newt_laws_changes.proofs.Members.{in-one, one-in}
 use Rattle.newt_soupdir.specs.Bare.{bare_store}
-use Rattle.newt_shelf.specs.Batch.{AreOnce, large_ids, pages_held, all_pages_held, new_pages, over_pages}
-use Rattle.newt_shelf.specs.Names.{names_of, AreSoundNames}
-use Rattle.newt_shelf.specs.Commit.{AreKept}
-use Rattle.newt_shelf.specs.declared.batch.NewEntry.{NewEntry}
-use Rattle.newt_shelf.specs.Places.{place_of, AreSoundPlaces}
-use Rattle.newt_catalog.specs.declared.catalog.Catalog.{Catalog}
+use Rattle.newt_objects_commit.specs.Batch.{AreOnce, large_ids, pages_held, all_pages_held, new_pages, over_pages}
+use Rattle.newt_objects_commit.specs.Names.{names_of, AreSoundNames}
+use Rattle.newt_objects_commit.specs.Commit.{AreKept}
+use Rattle.newt_objects_commit.specs.declared.batch.NewEntry.{NewEntry}
+use Rattle.newt_objects_commit.specs.Places.{place_of, AreSoundPlaces}
+use Rattle.newt_store_catalog.specs.declared.catalog.Catalog.{Catalog}
 use Rattle.newt_store.specs.declared.next.Gone.{Gone}
 use Rattle.newt_store.specs.declared.next.Gone.TheVariants.{Nothing, OneEntry, AllOf}
 use Rattle.newt_store.specs.declared.next.Next.{Next}
 use Rattle.newt_store.specs.Change.{pages_of_entry, pages_of_soup}
 use Rattle.newt_store.specs.Next.{Goes, IsFree, IsNextOf, Turns, goes_pages, replaced_pages, names_replaced, all_gone, next_bytes, turn_bytes}
-use Rattle.newt_catalog.specs.Stands.{StandsFor}
+use Rattle.newt_store_catalog.specs.Stands.{StandsFor}
 use Rattle.newt_store.proofs.Carrying.{AreGone, no-object}
 use Rattle.newt_store.proofs.Entries.{found-at, no-entry-at}
 use Rattle.newt_store.proofs.Found.{placed-entry, entry-placed}
-use Rattle.newt_catalog.proofs.Rows.{pages-are}
+use Rattle.newt_store_catalog.proofs.Rows.{pages-are}
 use Rattle.newt_store.proofs.Sums.{same_number, among-member, member-among, once-distinct, sums-agree}
 use Rattle.newt_store.proofs.Ids.{lengths-from}
 use Rattle.newt_store.proofs.Turning.{bytes-of}

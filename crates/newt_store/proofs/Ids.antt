@@ -6,7 +6,7 @@ use Rattle.std.proofs.lemmas.List.Sums.{sum_by-cons}
 use Rattle.newt_graph.specs.Graph.{RawGraph}
 use Rattle.newt_graph.specs.declared.node.Node.{Node}
 use Rattle.newt_graph.specs.declared.node.Node.TheVariants.{Symbol, Str, Binary, Large, Array, Frame}
-use Rattle.newt_image.specs.Objects.{Extent, Objects, pages_for}
+use Rattle.newt_spec_image.specs.Objects.{Extent, Objects, pages_for}
 use Rattle.newt_objects.specs.Held.{Held, held}
 use Rattle.newt_spec_graph.specs.Lists.{Among, Each}
 use Rattle.newt_spec_graph.proofs.Lists.{among-append, each-from, pairs-append}
@@ -15,14 +15,14 @@ use Rattle.newt_spec_store.specs.Image.{larges}
 use Rattle.newt_spec_store.specs.Lies.{AreLarges, HasLarge}
 use Rattle.newt_spec_store.specs.Store.{Entry, Store}
 use Rattle.newt_laws_images.proofs.Records.{larges_from, entry-length}
-use Rattle.newt_shelf.specs.Batch.{AreOnce, large_ids, new_pages}
-use Rattle.newt_shelf.specs.Names.{names_of, AreSoundNames}
-use Rattle.newt_shelf.specs.Places.{place_of, AreSoundPlaces}
-use Rattle.newt_shelf.specs.declared.batch.NewEntry.{NewEntry}
-use Rattle.newt_shelf.specs.declared.batch.NewLarge.{NewLarge}
-use Rattle.newt_catalog.specs.declared.catalog.Catalog.{Catalog}
+use Rattle.newt_objects_commit.specs.Batch.{AreOnce, large_ids, new_pages}
+use Rattle.newt_objects_commit.specs.Names.{names_of, AreSoundNames}
+use Rattle.newt_objects_commit.specs.Places.{place_of, AreSoundPlaces}
+use Rattle.newt_objects_commit.specs.declared.batch.NewEntry.{NewEntry}
+use Rattle.newt_objects_commit.specs.declared.batch.NewLarge.{NewLarge}
+use Rattle.newt_store_catalog.specs.declared.catalog.Catalog.{Catalog}
 use Rattle.newt_store.specs.Next.{IsEntryOf}
-use Rattle.newt_catalog.specs.Stands.{Describes}
+use Rattle.newt_store_catalog.specs.Stands.{Describes}
 use Rattle.newt_store.proofs.Turning.{is-named}
 
 -- ---- ids that are given in rising order

@@ -3,7 +3,7 @@ use Rattle.std.proofs.Common.{◌≡◌, ◌≢◌, ◌⊎◌, inl, inr, ℕ, �
 use Rattle.std.specs.Option.{is_some, is_none, option_map}
 use Rattle.newt_base.specs.Refusals.{Checks, first_of}
 use Rattle.newt_base.specs.declared.Refusal.TheVariants.{Soup as NoSoup, Entry as NoEntry, Ids}
-use Rattle.newt_image.specs.Objects.{Objects}
+use Rattle.newt_spec_image.specs.Objects.{Objects}
 use Rattle.newt_pagebook.proofs.Tests.{some_inj, the_some}
 use Rattle.newt_objects.specs.Held.{held}
 use Rattle.newt_spec_graph.specs.Lists.{Among}
@@ -18,18 +18,18 @@ use Rattle.newt_laws_changes.proofs.Fresh.{moved_formed, in_valid}
 use Rattle.newt_laws_changes.proofs.Members.{in-below}
 use Rattle.newt_laws_changes.proofs.Moved.{moved_lies}
 use Rattle.newt_laws_changes.proofs.Places.{above-is-not, odd-is-not}
-use Rattle.newt_shelf.specs.Batch.{large_ids}
-use Rattle.newt_shelf.specs.declared.batch.NewEntry.{NewEntry}
-use Rattle.newt_shelf.specs.Names.{names_of, AreSoundNames}
-use Rattle.newt_shelf.specs.Places.{place_of, AreSoundPlaces}
-use Rattle.newt_catalog.specs.declared.catalog.Catalog.{Catalog}
+use Rattle.newt_objects_commit.specs.Batch.{large_ids}
+use Rattle.newt_objects_commit.specs.declared.batch.NewEntry.{NewEntry}
+use Rattle.newt_objects_commit.specs.Names.{names_of, AreSoundNames}
+use Rattle.newt_objects_commit.specs.Places.{place_of, AreSoundPlaces}
+use Rattle.newt_store_catalog.specs.declared.catalog.Catalog.{Catalog}
 use Rattle.newt_store.specs.declared.change.Change.TheVariants.{Move}
 use Rattle.newt_store.specs.declared.next.Next.{Next}
 use Rattle.newt_store.specs.declared.next.Gone.{Gone}
 use Rattle.newt_store.specs.declared.next.Gone.TheVariants.{OneEntry}
 use Rattle.newt_store.specs.Change.{first_checks, has_no_ids, moved_entry, pages_of_entry}
 use Rattle.newt_store.specs.Next.{Goes, GoesAt, IsNew, LosesNames, IsGoing, Turns, IsAdding, IsPlanOf, goes_pages}
-use Rattle.newt_catalog.specs.Stands.{Describes}
+use Rattle.newt_store_catalog.specs.Stands.{Describes}
 use Rattle.newt_store.proofs.Found.{soup-some}
 use Rattle.newt_store.proofs.Ids.{free-in, free-names, are-larges}
 use Rattle.newt_store.proofs.Turning.{bytes-of, describes, is-named, named-is}

@@ -19,10 +19,10 @@ use Rattle.newt_host.specs.Outside.{Outside, Spends}
 use Rattle.newt_host.proofs.Moments.{Leaves-weaken}
 use Rattle.newt_host.proofs.Outside.{Spends-append, Spends-widen}
 use Rattle.newt_host.proofs.Ranges.{length-overwritten}
-use Rattle.newt_image.specs.Pages.{cap}
-use Rattle.newt_image.specs.Objects.{Objects, Extent, pages_for}
-use Rattle.newt_nsof.specs.Lengths.{skeleton}
-use Rattle.newt_nsof.specs.Written.{nsof}
+use Rattle.newt_spec_image.specs.Pages.{cap}
+use Rattle.newt_spec_image.specs.Objects.{Objects, Extent, pages_for}
+use Rattle.newt_spec_nsof.specs.Lengths.{skeleton}
+use Rattle.newt_spec_nsof.specs.Written.{nsof}
 use Rattle.newt_pagebook.specs.Book.{Numbers, IsOpenFor}
 use Rattle.newt_objects.specs.Changing.{HoldsObjects}
 use Rattle.newt_vbo.specs.Ranges.{parts_met}
@@ -47,24 +47,24 @@ use Rattle.newt_soupdir.specs.Bare.{bare_store}
 use Rattle.newt_entries.specs.Entry.{stream_graph, row_at, said}
 use Rattle.newt_entries.specs.declared.row.EntryRow.{EntryRow}
 use Rattle.newt_entries.specs.declared.row.LargeAt.{LargeAt}
-use Rattle.newt_shelf.specs.Commit.{AreKept}
-use Rattle.newt_shelf.specs.Names.{names_of}
-use Rattle.newt_shelf.specs.Patch.{IsBeforeOrPatched, IsRangeOrFull}
-use Rattle.newt_shelf.specs.Places.{place_of}
-use Rattle.newt_shelf.specs.declared.fault.StoreFault.{StoreFault}
-use Rattle.newt_shelf.specs.declared.fault.StoreFault.TheVariants.{Refused, Stop}
-use Rattle.newt_shelf.proofs.Committing.{blocks-are}
-use Rattle.newt_catalog.specs.declared.catalog.Catalog.{Catalog}
+use Rattle.newt_objects_commit.specs.Commit.{AreKept}
+use Rattle.newt_objects_commit.specs.Names.{names_of}
+use Rattle.newt_objects_commit.specs.Patch.{IsBeforeOrPatched, IsRangeOrFull}
+use Rattle.newt_objects_commit.specs.Places.{place_of}
+use Rattle.newt_objects_commit.specs.declared.fault.StoreFault.{StoreFault}
+use Rattle.newt_objects_commit.specs.declared.fault.StoreFault.TheVariants.{Refused, Stop}
+use Rattle.newt_objects_commit.proofs.Committing.{blocks-are}
+use Rattle.newt_store_catalog.specs.declared.catalog.Catalog.{Catalog}
 use Rattle.newt_store.specs.declared.change.Change.TheVariants.{Patch}
 use Rattle.newt_store.specs.Change.{changed_by, changed_soup, bytes_in, large_of, large_in_entry, patched_entry, ends_behind, first_checks, refusal_of, pages_of_entry, most_bytes}
 use Rattle.newt_store.specs.Patch.{IsLargeOf, record_pages}
-use Rattle.newt_catalog.specs.Stands.{Describes, StandsFor}
+use Rattle.newt_store_catalog.specs.Stands.{Describes, StandsFor}
 use Rattle.newt_store.specs.Stands.{GoesOn, RefusesWith, IsBeforeOrChanged}
 use Rattle.newt_store.proofs.Applying.{more-than, not-more, leaves-before}
 use Rattle.newt_store.proofs.Entries.{FoundAt, found-at}
 use Rattle.newt_store.proofs.Found.{soup-some, entry-placed}
 use Rattle.newt_store.proofs.Ids.{lengths-from}
-use Rattle.newt_catalog.proofs.OpeningPlaces.{counted}
+use Rattle.newt_store_catalog.proofs.OpeningPlaces.{counted}
 use Rattle.newt_store.proofs.Planned.{first-holds, first-not, no-entry, an-entry}
 use Rattle.newt_store.proofs.Reading.{read-back, total-cost, same-cap}
 

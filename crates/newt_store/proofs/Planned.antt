@@ -6,7 +6,7 @@ use Rattle.newt_base.specs.Names.{is_name}
 use Rattle.newt_base.specs.Refusals.{Checks, first_of}
 use Rattle.newt_base.specs.declared.Refusal.{Refusal}
 use Rattle.newt_base.specs.declared.Refusal.TheVariants.{Soup as NoSoup, Exists, Entry as NoEntry, Limit, Ids}
-use Rattle.newt_image.specs.Objects.{Objects}
+use Rattle.newt_spec_image.specs.Objects.{Objects}
 use Rattle.newt_pagebook.proofs.Tests.{the_some, none_is}
 use Rattle.newt_spec_store.specs.Store.{Soup, Store, Entry, soup_named, make_soup, drop_soup, remove_entry, soup_of, without_soup, entry_at}
 use Rattle.newt_spec_store.specs.Laid.{bare, bare_soup as emptied}
@@ -25,13 +25,13 @@ use Rattle.newt_store.specs.declared.next.Gone.{Gone}
 use Rattle.newt_store.specs.declared.next.Gone.TheVariants.{Nothing, OneEntry, AllOf}
 use Rattle.newt_laws_changes.proofs.Bare.{dropped_bare}
 use Rattle.newt_laws_changes.proofs.Formed.{dropped_formed, made_formed}
-use Rattle.newt_shelf.specs.Names.{names_of}
-use Rattle.newt_shelf.specs.Places.{place_of}
-use Rattle.newt_catalog.specs.declared.catalog.Catalog.{Catalog}
+use Rattle.newt_objects_commit.specs.Names.{names_of}
+use Rattle.newt_objects_commit.specs.Places.{place_of}
+use Rattle.newt_store_catalog.specs.declared.catalog.Catalog.{Catalog}
 use Rattle.newt_store.specs.declared.change.Change.TheVariants.{MakeSoup, DropSoup, Remove}
 use Rattle.newt_store.specs.Change.{first_checks, dropped_soup, changed_soup}
 use Rattle.newt_store.specs.Next.{IsNextOf, IsPlanOf, Turns}
-use Rattle.newt_catalog.specs.Stands.{Describes}
+use Rattle.newt_store_catalog.specs.Stands.{Describes}
 use Rattle.newt_store.proofs.Found.{named-some, soup-some, as-many, next-same, placed-entry, entry-placed}
 use Rattle.newt_store.proofs.Turning.{turns-made, turns-dropped, turns-removed, next-dropped, next-removed}
 

@@ -7,8 +7,8 @@ use Rattle.newt_base.specs.Names.{equal_text}
 use Rattle.newt_base.specs.Refusals.{Checks, first_of}
 use Rattle.newt_base.specs.declared.Refusal.TheVariants.{Soup as NoSoup, Entry as NoEntry, Notframe, Size}
 use Rattle.newt_graph.specs.Graph.{RawGraph, IsGraph}
-use Rattle.newt_nsof.specs.Lengths.{skeleton}
-use Rattle.newt_image.specs.Objects.{Objects}
+use Rattle.newt_spec_nsof.specs.Lengths.{skeleton}
+use Rattle.newt_spec_image.specs.Objects.{Objects}
 use Rattle.newt_pagebook.proofs.Tests.{some_inj}
 use Rattle.newt_objects.specs.Held.{held}
 use Rattle.newt_spec_graph.specs.Graph.{is_frame, object}
@@ -28,17 +28,17 @@ use Rattle.newt_laws_changes.proofs.Members.{entry_is_in}
 use Rattle.newt_laws_changes.proofs.Places.{above-is-not}
 use Rattle.newt_laws_changes.proofs.Replaced.{replaced_lies}
 use Rattle.newt_laws_changes.proofs.Soups.{first-map, with-change, with-soup}
-use Rattle.newt_shelf.specs.Batch.{large_ids}
-use Rattle.newt_shelf.specs.declared.batch.NewEntry.{NewEntry}
-use Rattle.newt_shelf.specs.Names.{names_of, AreSoundNames}
-use Rattle.newt_shelf.specs.Places.{place_of, AreSoundPlaces}
-use Rattle.newt_catalog.specs.declared.catalog.Catalog.{Catalog}
+use Rattle.newt_objects_commit.specs.Batch.{large_ids}
+use Rattle.newt_objects_commit.specs.declared.batch.NewEntry.{NewEntry}
+use Rattle.newt_objects_commit.specs.Names.{names_of, AreSoundNames}
+use Rattle.newt_objects_commit.specs.Places.{place_of, AreSoundPlaces}
+use Rattle.newt_store_catalog.specs.declared.catalog.Catalog.{Catalog}
 use Rattle.newt_store.specs.declared.change.Change.TheVariants.{Replace}
 use Rattle.newt_store.specs.declared.next.Gone.TheVariants.{Nothing}
 use Rattle.newt_store.specs.declared.next.Next.{Next}
 use Rattle.newt_store.specs.Change.{first_checks, is_too_large, changed_soup, pages_of_entry}
 use Rattle.newt_store.specs.Next.{LosesNames, IsGoing, AreNext, ArePlacesNext, Turns, IsPlanOf, IsEntryOf}
-use Rattle.newt_catalog.specs.Stands.{Describes}
+use Rattle.newt_store_catalog.specs.Stands.{Describes}
 use Rattle.newt_store.proofs.Adding.{is-valid-graph, small-is}
 use Rattle.newt_store.proofs.Found.{soup-some, placed-entry, entry-placed}
 use Rattle.newt_store.proofs.Ids.{free-in, are-larges, entry-pages}

@@ -5,7 +5,7 @@ use Rattle.std.specs.Set.{is_member}
 use Rattle.std.proofs.lemmas.List.Sums.{sum_by-cons}
 use Rattle.newt_pagebook.proofs.Tests.{true_or_false, is_same, equal_true, equal_false}
 use Rattle.newt_spec_graph.specs.Lists.{Each, Among}
-use Rattle.newt_shelf.specs.Batch.{AreOnce}
+use Rattle.newt_objects_commit.specs.Batch.{AreOnce}
 
 abbrev pub same_number : ℕ → ℕ → Bool
 same_number a b = a == b

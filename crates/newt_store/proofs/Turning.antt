@@ -6,7 +6,7 @@ use Rattle.std.proofs.lemmas.Bool.{cases_eq}
 use Rattle.newt_base.specs.Names.{is_name}
 use Rattle.newt_base.specs.Text.{be16, be32}
 use Rattle.newt_pagebook.proofs.Tests.{some_inj}
-use Rattle.newt_image.specs.Objects.{Objects}
+use Rattle.newt_spec_image.specs.Objects.{Objects}
 use Rattle.newt_spec_graph.specs.Lists.{Among}
 use Rattle.newt_spec_graph.proofs.Lists.{none-some}
 use Rattle.newt_spec_store.specs.Store.{Soup, Store, soup_named, change_soup, make_soup, drop_soup, remove_entry, soup_of, without_soup}
@@ -21,13 +21,13 @@ use Rattle.newt_laws_changes.proofs.Lying.{made_lies, dropped_lies, removed_lies
 use Rattle.newt_laws_changes.proofs.Formed.{made_formed, dropped_formed, removed_formed}
 use Rattle.newt_laws_changes.proofs.Bare.{made_bare, dropped_bare, removed_bare}
 use Rattle.newt_laws_images.proofs.Made.{map-length}
-use Rattle.newt_shelf.specs.Names.{names_of}
-use Rattle.newt_shelf.specs.Places.{place_of}
-use Rattle.newt_catalog.specs.declared.catalog.Catalog.{Catalog}
+use Rattle.newt_objects_commit.specs.Names.{names_of}
+use Rattle.newt_objects_commit.specs.Places.{place_of}
+use Rattle.newt_store_catalog.specs.declared.catalog.Catalog.{Catalog}
 use Rattle.newt_store.specs.declared.next.Gone.TheVariants.{Nothing, OneEntry, AllOf}
 use Rattle.newt_store.specs.declared.next.Next.{Next}
 use Rattle.newt_store.specs.Next.{IsGoing, LosesNames, AreNext, AreNamesNext, Turns}
-use Rattle.newt_catalog.specs.Stands.{Describes}
+use Rattle.newt_store_catalog.specs.Stands.{Describes}
 
 -- the bytes of a directory are those of the store without its entries
 each-soup : (soups : List Soup) → flat_map soup_bytes (map_list bare_soup soups) ≡ flat_map soup_bytes soups

@@ -2,9 +2,9 @@
 use Rattle.std.proofs.Common.{◌≡◌, ℕ, Result, Ok, Err, IfOk, IfErr, OnOk, IsErr, IsErrAnd, IsErrOf, sym, subst}
 use Rattle.newt_base.specs.declared.Refusal.TheVariants.{Full}
 use Rattle.newt_pagebook.specs.declared.book.Stop.TheVariants.{Memory, Device}
-use Rattle.newt_shelf.specs.declared.fault.StoreFault.{StoreFault}
-use Rattle.newt_shelf.specs.declared.fault.StoreFault.TheVariants.{Refused, Stop}
-use Rattle.newt_shelf.specs.Faults.{FaultsAt}
+use Rattle.newt_objects_commit.specs.declared.fault.StoreFault.{StoreFault}
+use Rattle.newt_objects_commit.specs.declared.fault.StoreFault.TheVariants.{Refused, Stop}
+use Rattle.newt_objects_commit.specs.Faults.{FaultsAt}
 use Rattle.newt_host.specs.Outside.{Outside}
 use Rattle.newt_store.specs.Next.{IsNoDevice}
 use Rattle.newt_store.specs.Stands.{GoesOn, IsRefused}

@@ -11,8 +11,8 @@ use Rattle.newt_host.proofs.Outside.{Spends-refl, Spends-widen}
 use Rattle.newt_spec_store.specs.Cost.{directory_bytes, pages_bytes}
 use Rattle.newt_soupdir.specs.Bare.{bare_store}
 use Rattle.newt_host.proofs.Moments.{Leaves-start, Leaves-weaken}
-use Rattle.newt_image.specs.Pages.{Pages, Change}
-use Rattle.newt_image.specs.Objects.{AreObjectsOf, joined, pages_for, Objects}
+use Rattle.newt_spec_image.specs.Pages.{Pages, Change}
+use Rattle.newt_spec_image.specs.Objects.{AreObjectsOf, joined, pages_for, Objects}
 use Rattle.newt_pagebook.specs.Batch.{no_change}
 use Rattle.newt_pagebook.specs.Book.{Numbers, batch_bytes}
 use Rattle.newt_pagebook.proofs.Tests.{some_inj}
@@ -22,13 +22,13 @@ use Rattle.newt_objects.proofs.Changing.{start_under_way}
 use Rattle.newt_objects.proofs.Same.{texts_by}
 use Rattle.newt_spec_graph.specs.Lists.{Among}
 use Rattle.newt_laws_changes.proofs.Lying.{among-or-not}
-use Rattle.newt_shelf.specs.declared.batch.NewEntry.{NewEntry}
-use Rattle.newt_shelf.specs.declared.batch.NewLarge.{NewLarge}
-use Rattle.newt_shelf.specs.declared.fault.StoreFault.{StoreFault}
-use Rattle.newt_shelf.specs.declared.fault.StoreFault.TheVariants.{Refused, Stop}
-use Rattle.newt_shelf.specs.Batch.{AreWritten, AddsPages, large_ids, new_pages, over_pages, pages_held, all_pages_held}
-use Rattle.newt_shelf.specs.Commit.{AreKept, IsPlanned, IsEither}
-use Rattle.newt_shelf.specs.Faults.{RefusesOnly}
+use Rattle.newt_objects_commit.specs.declared.batch.NewEntry.{NewEntry}
+use Rattle.newt_objects_commit.specs.declared.batch.NewLarge.{NewLarge}
+use Rattle.newt_objects_commit.specs.declared.fault.StoreFault.{StoreFault}
+use Rattle.newt_objects_commit.specs.declared.fault.StoreFault.TheVariants.{Refused, Stop}
+use Rattle.newt_objects_commit.specs.Batch.{AreWritten, AddsPages, large_ids, new_pages, over_pages, pages_held, all_pages_held}
+use Rattle.newt_objects_commit.specs.Commit.{AreKept, IsPlanned, IsEither}
+use Rattle.newt_objects_commit.specs.Faults.{RefusesOnly}
 use Rattle.newt_store.specs.declared.next.Next.{Next}
 use Rattle.newt_store.specs.Next.{WritesNext, HoldsEither, next_bytes}
 use Rattle.newt_store.specs.Stands.{GoesOn, IsRefused}

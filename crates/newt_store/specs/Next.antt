@@ -1,9 +1,9 @@
 -- What a change makes of a store, before it is written.
 use Rattle.std.specs.Prelude.{◌≡◌, ◌≢◌, ◌⊎◌, ℕ, ◌+◌, ◌<◌, ◌≤◌, IsTrue, List, [], ◌∷◌, ◌++◌, length, flat_map, map as map_list, Option, Some, None}
 use Rattle.std.specs.FinMap as map
-use Rattle.newt_image.specs.Objects.{Objects}
+use Rattle.newt_spec_image.specs.Objects.{Objects}
 use Rattle.newt_spec_store.specs.Store.{Store, take_uid_of, soup_of, entry_at}
-use Rattle.newt_image.specs.Pages.{cap}
+use Rattle.newt_spec_image.specs.Pages.{cap}
 use Rattle.newt_spec_store.specs.Cost.{cost, directory_bytes, directory_pages, pages_bytes}
 use Rattle.newt_spec_store.specs.Laid.{bare}
 use Rattle.newt_spec_store.specs.OfImage.{blocks_of}
@@ -16,24 +16,24 @@ use Rattle.newt_soupdir.specs.Bare.{bare_store}
 use Rattle.newt_objects.specs.Changing.{HoldsObjects}
 use Rattle.newt_base.specs.Refusals.{first_of}
 use Rattle.newt_pagebook.specs.declared.book.Stop.TheVariants.{Memory, Device}
-use Rattle.newt_shelf.specs.declared.fault.StoreFault.{StoreFault}
-use Rattle.newt_shelf.specs.declared.fault.StoreFault.TheVariants.{Refused, Stop}
+use Rattle.newt_objects_commit.specs.declared.fault.StoreFault.{StoreFault}
+use Rattle.newt_objects_commit.specs.declared.fault.StoreFault.TheVariants.{Refused, Stop}
 use Rattle.newt_store.specs.declared.change.Change.{Change}
 use Rattle.newt_store.specs.Change.{changed_by, answer_of, first_checks, entry_added, pages_of_entry, pages_of_soup, pages_removed}
-use Rattle.newt_shelf.specs.Commit.{Fit}
-use Rattle.newt_shelf.specs.Batch.{AreWritten, HasIds, large_ids, new_pages, over_pages, pages_held, all_pages_held}
-use Rattle.newt_shelf.specs.Names.{names_of}
-use Rattle.newt_shelf.specs.declared.batch.NewLarge.{NewLarge}
+use Rattle.newt_objects_commit.specs.Commit.{Fit}
+use Rattle.newt_objects_commit.specs.Batch.{AreWritten, HasIds, large_ids, new_pages, over_pages, pages_held, all_pages_held}
+use Rattle.newt_objects_commit.specs.Names.{names_of}
+use Rattle.newt_objects_commit.specs.declared.batch.NewLarge.{NewLarge}
 use Rattle.newt_spec_graph.specs.Lists.{Among}
 use Rattle.newt_laws_changes.specs.Written.{Names}
-use Rattle.newt_catalog.specs.Readable.{readable}
-use Rattle.newt_catalog.specs.declared.catalog.Catalog.{Catalog}
+use Rattle.newt_store_catalog.specs.Readable.{readable}
+use Rattle.newt_store_catalog.specs.declared.catalog.Catalog.{Catalog}
 use Rattle.newt_store.specs.declared.next.Next.{Next}
-use Rattle.newt_shelf.specs.declared.batch.NewEntry.{NewEntry}
+use Rattle.newt_objects_commit.specs.declared.batch.NewEntry.{NewEntry}
 use Rattle.newt_store.specs.declared.next.Gone.{Gone}
 use Rattle.newt_store.specs.declared.next.Gone.TheVariants.{Nothing, OneEntry, AllOf}
-use Rattle.newt_shelf.specs.Places.{place_of}
-use Rattle.newt_catalog.specs.Stands.{Describes}
+use Rattle.newt_objects_commit.specs.Places.{place_of}
+use Rattle.newt_store_catalog.specs.Stands.{Describes}
 
 -- the entry goes
 abbrev pub Goes : Gone → ℕ → ℕ → Type 0

@@ -1,12 +1,12 @@
 -- Where a patch goes. This project's own.
 use Rattle.std.specs.Prelude.{◌≡◌, ℕ, ◌+◌, ◌*◌, List, length, slice_get, Option, Some, None}
-use Rattle.newt_image.specs.Objects.{pages_for}
+use Rattle.newt_spec_image.specs.Objects.{pages_for}
 use Rattle.newt_spec_store.specs.Cost.{large_lengths, skeleton_length}
 use Rattle.newt_spec_store.specs.Image.{larges}
 use Rattle.newt_spec_store.specs.Store.{Store, Soup, Entry, entry_of, soup_of}
-use Rattle.newt_shelf.specs.Names.{names_of}
-use Rattle.newt_shelf.specs.Places.{place_of}
-use Rattle.newt_catalog.specs.declared.catalog.Catalog.{Catalog}
+use Rattle.newt_objects_commit.specs.Names.{names_of}
+use Rattle.newt_objects_commit.specs.Places.{place_of}
+use Rattle.newt_store_catalog.specs.declared.catalog.Catalog.{Catalog}
 
 -- the pages of an entry's record alone, none where there is no entry
 abbrev pub record_pages : Option Entry → ℕ

@@ -2,9 +2,9 @@
 use Rattle.std.specs.Prelude.{◌≡◌, ◌⊎◌, ℕ, List, Option, Some, None, Result, Ok, Err}
 use Rattle.newt_base.specs.declared.Refusal.{Refusal}
 use Rattle.newt_spec_store.specs.Store.{Store}
-use Rattle.newt_shelf.specs.declared.fault.StoreFault.{StoreFault}
-use Rattle.newt_shelf.specs.declared.fault.StoreFault.TheVariants.{Refused, Stop}
-use Rattle.newt_catalog.specs.Readable.{readable}
+use Rattle.newt_objects_commit.specs.declared.fault.StoreFault.{StoreFault}
+use Rattle.newt_objects_commit.specs.declared.fault.StoreFault.TheVariants.{Refused, Stop}
+use Rattle.newt_store_catalog.specs.Readable.{readable}
 use Rattle.newt_store.specs.Change.{changed_by, refusal_of}
 use Rattle.newt_store.specs.declared.change.Change.{Change}
 

@@ -3,8 +3,8 @@ ghost use Rattle.std.specs.Prelude.{IsTrue, ◌≡◌, ◌≢◌, ◌++◌, [], 
 ghost use Rattle.newt_base.specs.declared.Refusal.TheVariants.{Full};
 ghost use Rattle.newt_host.specs.Moments.{image, Leaves};
 ghost use Rattle.newt_host.specs.Outside.{Touches, Spends};
-ghost use Rattle.newt_image.specs.Pages.{cap};
-ghost use Rattle.newt_image.specs.Objects.{Objects as Texts};
+ghost use Rattle.newt_spec_image.specs.Pages.{cap};
+ghost use Rattle.newt_spec_image.specs.Objects.{Objects as Texts};
 ghost use Rattle.newt_pagebook.specs.Book.{IsOpenFor};
 ghost use Rattle.newt_objects.specs.Held.{held};
 ghost use Rattle.newt_objects.specs.Changing.{HoldsObjects, total_pages};
@@ -13,27 +13,29 @@ ghost use Rattle.newt_spec_store.specs.Cost.{cost};
 ghost use Rattle.newt_spec_store.specs.OfImage.{blocks_of};
 ghost use Rattle.newt_spec_store.specs.Valid.{well_formed};
 ghost use Rattle.newt_soupdir.specs.Bare.{bare_store};
-ghost use Rattle.newt_shelf.specs.declared.batch.NewEntry.{NewEntry as NewOne};
+ghost use Rattle.newt_objects_commit.specs.declared.batch.NewEntry.{NewEntry as NewOne};
 ghost use Rattle.newt_laws_changes.specs.Written.{Names};
 ghost use Rattle.newt_spec_graph.specs.Lists.{Among};
-ghost use Rattle.newt_shelf.specs.Batch.{AreOnce, HasIds, IsApart, large_ids};
-ghost use Rattle.newt_shelf.specs.Names.{names_of, IsReady};
-ghost use Rattle.newt_shelf.specs.Commit.{AreKept, Fit};
-ghost use Rattle.newt_shelf.specs.Faults.{FaultsAt, RefusesOnly};
+ghost use Rattle.newt_objects_commit.specs.Batch.{AreOnce, HasIds, IsApart, large_ids};
+ghost use Rattle.newt_objects_commit.specs.Names.{names_of, IsReady};
+ghost use Rattle.newt_objects_commit.specs.Commit.{AreKept, Fit};
+ghost use Rattle.newt_objects_commit.specs.Faults.{FaultsAt, RefusesOnly};
 ghost use Rattle.newt_store.specs.Next.{Goes, IsNew, names_replaced, all_gone, IsNextOf, WritesNext, Turns, HoldsEither, IsEitherStore, next_bytes, turn_bytes};
-ghost use Rattle.newt_catalog.specs.Stands.{StandsFor, IsSound};
+ghost use Rattle.newt_store_catalog.specs.Stands.{StandsFor, IsSound};
 ghost use Rattle.newt_store.specs.Stands.{GoesOn, IsRefused};
-ghost use Rattle.newt_shelf.specs.Places.{place_of};
+ghost use Rattle.newt_objects_commit.specs.Places.{place_of};
 
 use crate::next::{Gone, Next};
 use crate::plan::ids_of;
 use newt_base::Refusal;
-use newt_catalog::Catalog;
 use newt_host::Host;
 use newt_objects::Objects;
+use newt_objects_commit::{
+    NameTable, NewEntry, PlaceTable, StoreFault, commit_plans, plan_objects,
+};
 use newt_pagebook::{Batch, PageBook};
-use newt_shelf::{NameTable, NewEntry, PlaceTable, StoreFault, commit_plans, plan_objects};
 use newt_soupdir::{Directory, write_directory};
+use newt_store_catalog::Catalog;
 use std::alloc::{AllocError, Global};
 
 // The one object, or none.

@@ -1,25 +1,25 @@
 // What each change of a soup's declarations makes of a store, or why it is refused.
 ghost use Rattle.std.specs.Prelude.{IsTrue, ◌≡◌, ℕ, Some, nat_le, length, IfOk, IfErr};
 ghost use Rattle.newt_base.specs.Refusals.{first_of};
-ghost use Rattle.newt_image.specs.Objects.{Objects};
-ghost use Rattle.newt_shelf.specs.Places.{place_of};
-ghost use Rattle.newt_shelf.specs.Names.{names_of};
+ghost use Rattle.newt_spec_image.specs.Objects.{Objects};
+ghost use Rattle.newt_objects_commit.specs.Places.{place_of};
+ghost use Rattle.newt_objects_commit.specs.Names.{names_of};
 ghost use Rattle.newt_soupdir.specs.Bare.{bare_store};
 ghost use Rattle.newt_spec_store.specs.Keys.{has_paths, paths_of};
 ghost use Rattle.newt_spec_store.specs.Store.{Store as PlainStore};
 ghost use Rattle.newt_spec_store.specs.Valid.{well_formed, valid_spec};
 ghost use Rattle.newt_store.specs.Change.{first_checks};
 ghost use Rattle.newt_store.specs.Next.{IsNextOf, IsPlanOf, IsNoDevice};
-ghost use Rattle.newt_catalog.specs.Stands.{Describes};
+ghost use Rattle.newt_store_catalog.specs.Stands.{Describes};
 ghost use Rattle.newt_store.specs.Stands.{RefusesWith};
 
 use crate::change::Change;
 use crate::next::{Gone, Next};
 use crate::paths::Paths;
 use newt_base::{Refusal, Sig};
-use newt_catalog::Catalog;
 use newt_keys::IndexSpec;
-use newt_shelf::StoreFault;
+use newt_objects_commit::StoreFault;
+use newt_store_catalog::Catalog;
 use newt_tags::TagTable;
 
 /// The most indexes of a soup.

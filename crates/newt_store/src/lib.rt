@@ -16,7 +16,7 @@ mod plan;
 mod store;
 
 pub use change::Change;
-pub use newt_catalog::Entry;
-pub use newt_shelf::StoreFault;
+pub use newt_objects_commit::StoreFault;
+pub use newt_store_catalog::Entry;
 pub use paths::Paths;
 pub use store::Store;

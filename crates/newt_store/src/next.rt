@@ -1,6 +1,6 @@
 // What a change makes of a store, before it is written.
 use newt_base::{Sig, Uid};
-use newt_shelf::NewEntry;
+use newt_objects_commit::NewEntry;
 use newt_soupdir::Directory;
 
 /// Which entries go.

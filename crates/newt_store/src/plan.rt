@@ -3,7 +3,7 @@ ghost use Rattle.std.specs.Prelude.{IsTrue, ◌≡◌, ◌*◌, ◌+◌, ◌%◌
 ghost use Rattle.newt_base.specs.Refusals.{first_of};
 ghost use Rattle.newt_host.specs.Moments.{image};
 ghost use Rattle.newt_host.specs.Outside.{Touches, Spends};
-ghost use Rattle.newt_image.specs.Objects.{Objects as Texts};
+ghost use Rattle.newt_spec_image.specs.Objects.{Objects as Texts};
 ghost use Rattle.newt_objects.specs.Held.{held};
 ghost use Rattle.newt_spec_graph.specs.Lists.{Among};
 ghost use Rattle.newt_spec_store.specs.Image.{entry_bytes, larges as larges_in};
@@ -11,27 +11,27 @@ ghost use Rattle.newt_spec_store.specs.Store.{Store as PlainStore, soup_of, entr
 ghost use Rattle.newt_spec_store.specs.Valid.{well_formed, valid_entry};
 ghost use Rattle.newt_soupdir.specs.Bare.{bare_soup, bare_store};
 ghost use Rattle.newt_store.specs.Change.{first_checks, entry_fetched, is_patch, pages_of_entry, is_too_large as too_large};
-ghost use Rattle.newt_shelf.specs.Batch.{AreOnce, large_ids};
-ghost use Rattle.newt_shelf.specs.Faults.{FaultsAt};
-ghost use Rattle.newt_shelf.specs.Names.{names_of, AreSoundNames};
+ghost use Rattle.newt_objects_commit.specs.Batch.{AreOnce, large_ids};
+ghost use Rattle.newt_objects_commit.specs.Faults.{FaultsAt};
+ghost use Rattle.newt_objects_commit.specs.Names.{names_of, AreSoundNames};
 ghost use Rattle.newt_store.specs.Next.{IsNextOf, IsPlanOf, IsAdding, IsEntryOf, IsNoDevice};
-ghost use Rattle.newt_catalog.specs.Stands.{Describes, StandsFor, IsSound};
+ghost use Rattle.newt_store_catalog.specs.Stands.{Describes, StandsFor, IsSound};
 ghost use Rattle.newt_store.specs.Stands.{RefusesWith};
-ghost use Rattle.newt_shelf.specs.Places.{place_of, AreSoundPlaces};
+ghost use Rattle.newt_objects_commit.specs.Places.{place_of, AreSoundPlaces};
 
 use crate::change::Change;
 use crate::declare::{plan_add_index, plan_drop_index, plan_set_tags};
 use crate::next::{Gone, Next};
 use newt_base::{Name, Refusal, Sig, Uid};
-use newt_catalog::{Catalog, read_whole};
 use newt_entries::{MOST_TEXT, is_frame, larges_of, row_of, write_entry};
 use newt_graph::Graph;
 use newt_host::Host;
 use newt_nsof_write::skeleton_len;
 use newt_objects::Objects;
+use newt_objects_commit::{NewEntry, NewLarge, StoreFault};
 use newt_pagebook::{PageBook, Stop};
-use newt_shelf::{NewEntry, NewLarge, StoreFault};
 use newt_soupdir::SoupRow;
+use newt_store_catalog::{Catalog, read_whole};
 use std::alloc::{AllocError, Global};
 
 /// The last next entry id: the soup has no further id to give.

@@ -9,11 +9,11 @@ ghost use Rattle.newt_spec_store.specs.Store.{Store as PlainStore, soup_of, entr
 ghost use Rattle.newt_spec_store.specs.OfImage.{blocks_of};
 ghost use Rattle.newt_entries.specs.Entry.{stream_graph};
 ghost use Rattle.newt_spec_store.specs.ImageStore.{store_of_image};
-ghost use Rattle.newt_catalog.specs.Readable.{readable};
+ghost use Rattle.newt_store_catalog.specs.Readable.{readable};
 ghost use Rattle.newt_store.specs.Change.{changed_by, answer_of, refusal_of, uids_in, entry_fetched, pages_of_entry, most_bytes};
-ghost use Rattle.newt_catalog.specs.Stands.{StandsFor, IsSound, plain_entry};
+ghost use Rattle.newt_store_catalog.specs.Stands.{StandsFor, IsSound, plain_entry};
 ghost use Rattle.newt_store.specs.Stands.{GoesOn, IsRefused, RefusesWith, IsBeforeOrChanged};
-ghost use Rattle.newt_shelf.specs.Faults.{FaultsAt};
+ghost use Rattle.newt_objects_commit.specs.Faults.{FaultsAt};
 
 use crate::carry::carry_out;
 use crate::change::Change;
@@ -21,11 +21,11 @@ use crate::format::format_unit;
 use crate::patch::patch_entry;
 use crate::plan::plan_change;
 use newt_base::{Name, Sig, Uid};
-use newt_catalog::{Catalog, Entry, open_catalog, read_whole};
 use newt_host::{Host, Unit};
+use newt_objects_commit::StoreFault;
 use newt_pagebook::{BookFault, PageBook, Stop};
-use newt_shelf::StoreFault;
 use newt_soupdir::Directory;
+use newt_store_catalog::{Catalog, Entry, open_catalog, read_whole};
 use std::alloc::{AllocError, Global};
 
 /// A store on one unit. It stands for one plain store, which its unit's image is read as, until a call stops.

@@ -5,11 +5,11 @@ use Rattle.std.specs.Option.{is_none}
 use Rattle.std.proofs.lemmas.Bool.{eqb-false}
 use Rattle.newt_base.specs.Refusals.{first_of}
 use Rattle.newt_base.specs.declared.Refusal.{Refusal}
-use Rattle.newt_laws.proofs.Kept.{changed-units, on_units}
-use Rattle.newt_laws.proofs.Units.{same-or-not, device-other, device-same}
+use Rattle.newt_laws_world.proofs.Kept.{changed-units, on_units}
+use Rattle.newt_laws_world.proofs.Units.{same-or-not, device-other, device-same}
 use Rattle.newt_laws_answers.specs.Spoken.{answer_now, checks_now}
-use Rattle.newt_session.specs.Moments.{HasLeft, replies_begun, world_at}
-use Rattle.newt_session.specs.Script.{step, world_behind}
+use Rattle.newt_script_session.specs.Moments.{HasLeft, replies_begun, world_at}
+use Rattle.newt_script_session.specs.Script.{step, world_behind}
 use Rattle.newt_spec_graph.proofs.Lists.{none-some}
 use Rattle.newt_spec_script.specs.Script.{Item}
 use Rattle.newt_spec_store.specs.Store.{Store}
@@ -19,9 +19,9 @@ use Rattle.newt_spec_world.specs.Answer.{answered}
 use Rattle.newt_spec_world.specs.Changed.{changed, copy_to}
 use Rattle.newt_spec_world.specs.World.{World, Device, Media, blank, one, device, default_unit, entry_in, store_of, store_on_unit, change_device, change_store, change_media}
 use Rattle.newt_spec_store.specs.Store as plain
-use Rattle.newt_catalog.specs.Readable.{readable}
+use Rattle.newt_store_catalog.specs.Readable.{readable}
 use Rattle.newt_engine.specs.Laws.{stays_there}
-use Rattle.newt_tally.specs.Moments.{HasLeftCounted}
+use Rattle.newt_script_tally.specs.Moments.{HasLeftCounted}
 use Rattle.newt_top.specs.Crash.{formats, formats_next, IsOneOf, IsLeft, IsLeftCounted}
 
 -- ---- only a format gives a unit a store

@@ -6,7 +6,7 @@ use Rattle.std.specs.List.{list_any}
 use Rattle.std.specs.Str.{bytes_eq}
 use Rattle.std.proofs.lemmas.Slice.Eq.{bytes_eq-Decides}
 use Rattle.std.proofs.lemmas.Bool.{false≢true}
-use Rattle.newt_attach.specs.Named.{AreDistinct}
+use Rattle.newt_host_attach.specs.Named.{AreDistinct}
 use Rattle.newt_spec_graph.specs.Lists.{all_apart}
 use Rattle.newt_top.specs.Words.{are_names, script_over, conversion_named, alone, generated, mode_of, names_of}
 use Rattle.newt_top.specs.declared.status.Mode.{Mode}

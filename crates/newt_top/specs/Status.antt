@@ -1,8 +1,8 @@
 -- Statuses, their numbers and their causes.
 use Rattle.std.specs.Prelude.{ℕ}
 use Rattle.newt_host.specs.Outside.{Outside, Rose}
-use Rattle.newt_session.specs.declared.halt.Halt.{Halt}
-use Rattle.newt_session.specs.declared.halt.Halt.TheVariants.{Memory as NoMemory, Device as BadDevice, Source as BadSource, Sink as BadSink, TooLong as LongInput}
+use Rattle.newt_script_session.specs.declared.halt.Halt.{Halt}
+use Rattle.newt_script_session.specs.declared.halt.Halt.TheVariants.{Memory as NoMemory, Device as BadDevice, Source as BadSource, Sink as BadSink, TooLong as LongInput}
 use Rattle.newt_top.specs.declared.status.Status.{Status}
 use Rattle.newt_top.specs.declared.status.Status.TheVariants.{Ok, Usage, Memory, Device, Source, Sink, TooLong}
 

@@ -4,16 +4,16 @@ use Rattle.newt_base.specs.declared.Refusal.TheVariants as refusals
 use Rattle.newt_graph.specs.Graph.{RawGraph}
 use Rattle.newt_lit_read.specs.declared.fault.LitFault.{LitFault}
 use Rattle.newt_lit_read.specs.declared.fault.LitFault.TheVariants as lit_faults
-use Rattle.newt_nsof.specs.Written.{nsof}
+use Rattle.newt_spec_nsof.specs.Written.{nsof}
 use Rattle.newt_nsof_read.specs.Reading.{decoded}
 use Rattle.newt_nsof_read.specs.declared.fault.NsofFault.{NsofFault}
 use Rattle.newt_nsof_read.specs.declared.fault.NsofFault.TheVariants as nsof_faults
 use Rattle.newt_spec_world.specs.Reply as replies
 use Rattle.newt_script.specs.Graphs.{literal_of}
 use Rattle.newt_host.specs.Outside.{Outside, Rose}
-use Rattle.newt_session.specs.Stream.{WroteSome}
-use Rattle.newt_session.specs.declared.halt.Halt.{Halt}
-use Rattle.newt_session.specs.declared.halt.Halt.TheVariants.{Memory, Device, Source, Sink, TooLong}
+use Rattle.newt_script_session.specs.Stream.{WroteSome}
+use Rattle.newt_script_session.specs.declared.halt.Halt.{Halt}
+use Rattle.newt_script_session.specs.declared.halt.Halt.TheVariants.{Memory, Device, Source, Sink, TooLong}
 use Rattle.newt_top.specs.declared.status.Conversion.{Conversion}
 use Rattle.newt_top.specs.declared.status.Conversion.TheVariants.{Show, Pack}
 

@@ -5,8 +5,8 @@ use Rattle.std.specs.FinSet as set
 use Rattle.std.specs.Option.{option_map}
 use Rattle.newt_host.specs.Moments.{image, overwritten}
 use Rattle.newt_host.specs.Outside.{Outside}
-use Rattle.newt_image.specs.Pages.{Pages, Change, pages, after}
-use Rattle.newt_image.specs.Objects.{IsTableOf, AreObjectsOf, Objects}
+use Rattle.newt_spec_image.specs.Pages.{Pages, Change, pages, after}
+use Rattle.newt_spec_image.specs.Objects.{IsTableOf, AreObjectsOf, Objects}
 use Rattle.newt_pagebook.specs.Batch.{no_change}
 use Rattle.newt_pagebook.specs.Book.{Numbers, changed_numbers, ReadsChanged}
 use Rattle.newt_objects.specs.Held.{Held, held, planned, AreOf, WouldHold}

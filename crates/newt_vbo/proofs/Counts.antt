@@ -1,6 +1,6 @@
 -- How many parts a range meets, and how many of its bytes lie before each.
 use Rattle.std.proofs.Common.{◌≡◌, ℕ, zero, suc, ◌+◌, ◌-◌, ◌*◌, ◌/◌, ◌<◌, ◌≤◌, arith}
-use Rattle.newt_image.specs.Objects.{pages_for}
+use Rattle.newt_spec_image.specs.Objects.{pages_for}
 use Rattle.newt_vbo.specs.Ranges.{parts_met, before_part}
 
 pub met_is : (at n : ℕ) → 1 ≤ n → parts_met at n ≡ (at + n - 1) / 500 - at / 500 + 1

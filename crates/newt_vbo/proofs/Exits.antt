@@ -3,7 +3,7 @@ use Rattle.std.proofs.Common.{◌≡◌, ℕ, ◌+◌, ◌-◌, ◌*◌, ◌/◌
 use Rattle.std.proofs.lemmas.Result.{err_from_is_err_and}
 use Rattle.newt_host.specs.Outside.{Outside, Rose, Spends}
 use Rattle.newt_host.proofs.Outside.{Spends-refl, Spends-widen}
-use Rattle.newt_image.specs.Objects.{Extent}
+use Rattle.newt_spec_image.specs.Objects.{Extent}
 use Rattle.newt_vbo.specs.declared.fault.RangeFault.{RangeFault}
 use Rattle.newt_vbo.specs.declared.fault.RangeFault.TheVariants.{Range, Memory, Device}
 use Rattle.newt_vbo.specs.Ranges.{parts_met}

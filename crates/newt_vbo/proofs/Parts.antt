@@ -6,8 +6,8 @@ use Rattle.std.specs.Option.{option_and_then, unwrap_or, is_some}
 use Rattle.std.proofs.lemmas.Option.{slice_get-get_or}
 use Rattle.newt_host.specs.Outside.{Outside, Spends}
 use Rattle.newt_host.proofs.Outside.{Spends-append, Spends-widen}
-use Rattle.newt_image.specs.Pages.{Pages, Change, after, page_data}
-use Rattle.newt_image.specs.Objects.{Extent, Table, IsTableOf, pages_for, joined, data_at}
+use Rattle.newt_spec_image.specs.Pages.{Pages, Change, after, page_data}
+use Rattle.newt_spec_image.specs.Objects.{Extent, Table, IsTableOf, pages_for, joined, data_at}
 use Rattle.newt_pagebook.specs.Book.{Numbers}
 use Rattle.newt_pagebook.proofs.Changes.{unnamed}
 use Rattle.newt_objects.specs.Extents.{IsUnnamed}

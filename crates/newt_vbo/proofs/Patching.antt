@@ -8,8 +8,8 @@ use Rattle.std.proofs.lemmas.Bool.{cases_eq}
 use Rattle.std.proofs.lemmas.List.{drop_at, take-append-le, drop-append-le}
 use Rattle.std.proofs.lemmas.Option.{slice_get-get_or}
 use Rattle.newt_host.specs.Moments.{overwritten}
-use Rattle.newt_image.specs.Pages.{Pages, Change, after, object_id, part_number, object_length, page_data, word_at}
-use Rattle.newt_image.specs.Objects.{Extent, IsPart, IsTableOf, pages_for, joined, data_at, Objects}
+use Rattle.newt_spec_image.specs.Pages.{Pages, Change, after, object_id, part_number, object_length, page_data, word_at}
+use Rattle.newt_spec_image.specs.Objects.{Extent, IsPart, IsTableOf, pages_for, joined, data_at, Objects}
 use Rattle.newt_pagebook.specs.Batch.{names, puts_one}
 use Rattle.newt_pagebook.proofs.Tests.{some_inj, equal_true, equal_false}
 use Rattle.newt_pagebook.proofs.Changes.{after_put, unnamed, get_insert}

@@ -9,8 +9,8 @@ use Rattle.std.proofs.lemmas.Option.{slice_get_within, slice_get-get_or}
 use Rattle.std.proofs.lemmas.List.{map-append, take_more, get_or-drop}
 use Rattle.std.proofs.Math.Seq.{take-add}
 use Rattle.newt_host.specs.Moments.{overwritten}
-use Rattle.newt_image.specs.Pages.{Pages, Change, after}
-use Rattle.newt_image.specs.Objects.{Extent, IsTableOf, joined, Objects}
+use Rattle.newt_spec_image.specs.Pages.{Pages, Change, after}
+use Rattle.newt_spec_image.specs.Objects.{Extent, IsTableOf, joined, Objects}
 use Rattle.newt_pagebook.specs.Batch.{names, puts_one}
 use Rattle.newt_pagebook.specs.Book.{Numbers, with_put_numbers, without_deleted, changed_numbers}
 use Rattle.newt_pagebook.proofs.Tests.{some_inj, equal_true, equal_false, is_same, true_or_false}

@@ -2,8 +2,8 @@
 use Rattle.std.specs.Prelude.{IsTrue, ◌≡◌, ℕ, ◌+◌, Bool, List, map as map_list, Some}
 use Rattle.std.specs.FinMap as map
 use Rattle.newt_host.specs.Moments.{overwritten}
-use Rattle.newt_image.specs.Pages.{Change, Pages, pages}
-use Rattle.newt_image.specs.Objects.{Objects}
+use Rattle.newt_spec_image.specs.Pages.{Change, Pages, pages}
+use Rattle.newt_spec_image.specs.Objects.{Objects}
 use Rattle.newt_pagebook.specs.Batch.{puts_one}
 use Rattle.newt_objects.specs.Held.{Held, WouldHold}
 

@@ -1,6 +1,6 @@
 -- Ranges of an object's bytes, and the parts that they lie in. This project's own.
 use Rattle.std.specs.Prelude.{◌≡◌, ℕ, zero, suc, ◌+◌, ◌-◌, ◌*◌, ◌/◌, ◌≤◌, min, List, take, drop}
-use Rattle.newt_image.specs.Objects.{Extent}
+use Rattle.newt_spec_image.specs.Objects.{Extent}
 use Rattle.newt_vbo.specs.declared.range.Piece.{Piece}
 
 -- How many parts they lie in, from that of the first byte to that of the last; none where there are no bytes.

@@ -3,8 +3,8 @@ ghost use Rattle.std.specs.Prelude.{IsTrue, ◌≡◌, ◌+◌, ◌*◌, ◌/◌
 ghost use Rattle.std.specs.FinSet as set;
 ghost use Rattle.newt_host.specs.Moments.{image, overwritten};
 ghost use Rattle.newt_host.specs.Outside.{Touches, Spends, Rose};
-ghost use Rattle.newt_image.specs.Pages.{Pages, pages};
-ghost use Rattle.newt_image.specs.Objects.{Extent};
+ghost use Rattle.newt_spec_image.specs.Pages.{Pages, pages};
+ghost use Rattle.newt_spec_image.specs.Objects.{Extent};
 ghost use Rattle.newt_pagebook.specs.Batch.{names};
 ghost use Rattle.newt_pagebook.specs.Book.{changed_numbers};
 ghost use Rattle.newt_objects.specs.Extents.{IsUnnamed};

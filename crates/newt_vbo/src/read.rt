@@ -3,8 +3,8 @@ ghost use Rattle.std.specs.Prelude.{IsTrue, ◌≡◌, ◌+◌, ◌*◌, ◌<◌
 ghost use Rattle.std.specs.FinSet as set;
 ghost use Rattle.newt_host.specs.Moments.{image, bytes_from};
 ghost use Rattle.newt_host.specs.Outside.{Touches, Spends, Rose};
-ghost use Rattle.newt_image.specs.Pages.{Pages, pages, page_data};
-ghost use Rattle.newt_image.specs.Objects.{joined, data_at};
+ghost use Rattle.newt_spec_image.specs.Pages.{Pages, pages, page_data};
+ghost use Rattle.newt_spec_image.specs.Objects.{joined, data_at};
 ghost use Rattle.newt_objects.specs.Held.{held, AreOf};
 ghost use Rattle.newt_vbo.specs.Ranges.{parts_met as parts_of};
 

@@ -1,6 +1,6 @@
 use Rattle.std.proofs.Common.{◌∙◌, ap, subst, sym, map}
 use Rattle.newt_graph.specs.Graph.{IsGraph}
-use Rattle.newt_nsof.specs.Lengths.{bare}
+use Rattle.newt_spec_nsof.specs.Lengths.{bare}
 use Rattle.newt_laws_images.proofs.Skeletons.{skeleton-graph}
 use Rattle.newt_entries.proofs.graphs.skeleton.Goals as goal
 

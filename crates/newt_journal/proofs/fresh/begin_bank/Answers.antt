@@ -1,5 +1,5 @@
 use Rattle.std.proofs.Common.{◌*◌, ℕ, refl, ◌∙◌, ap}
-use Rattle.newt_image.specs.Records.{header, length_bytes}
+use Rattle.newt_spec_image.specs.Records.{header, length_bytes}
 use Rattle.newt_journal.proofs.Beginning.{leaves_1, leaves_2, leaves_3, leaves_4, blank_2, blank_3, filled_4}
 use Rattle.newt_journal.proofs.fresh.begin_bank.Goals as goal
 

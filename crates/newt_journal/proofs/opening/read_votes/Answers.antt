@@ -1,6 +1,6 @@
 use Rattle.std.proofs.Common.{◌≡◌, ℕ, get_or, take, drop, sym, ◌∙◌, ap, subst, Option, Some, None, MatchOption}
 use Rattle.newt_host.specs.Moments.{Moment, image}
-use Rattle.newt_image.specs.Records.{chosen, chosen_bank}
+use Rattle.newt_spec_image.specs.Records.{chosen, chosen_bank}
 use Rattle.newt_journal.specs.Bank.{bank_number}
 use Rattle.newt_journal.proofs.Opened.{byte_at}
 use Rattle.newt_journal.proofs.opening.read_votes.Goals as goal

@@ -1,7 +1,7 @@
 use Rattle.std.proofs.Common.{ap}
 use Rattle.newt_spec_world.specs.World.{World}
 use Rattle.newt_spec_world.specs.Answer.{fields}
-use Rattle.newt_laws.proofs.Fewer.{row-settled, wf-from}
+use Rattle.newt_laws_world.proofs.Fewer.{row-settled, wf-from}
 use Rattle.newt_laws_hits.proofs.identity.few_commands_settle.Goals as goal
 
 pub returns : goal.returns

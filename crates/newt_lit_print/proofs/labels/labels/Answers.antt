@@ -2,7 +2,7 @@ use Rattle.std.proofs.Common.{◌≡◌, ℕ, ◌+◌, List, length, true, false
 use Rattle.std.specs.Prelude.{not, ◌&&◌}
 use Rattle.newt_graph.specs.declared.node.Ref.{Ref}
 use Rattle.newt_graph.specs.declared.node.Node.{Node}
-use Rattle.newt_lit.specs.Printed.{references, is_symbol, is_shared}
+use Rattle.newt_spec_literal.specs.Printed.{references, is_symbol, is_shared}
 use Rattle.newt_lit_print.specs.Meetings.{is_more}
 use Rattle.newt_lit_print.specs.declared.labels.Meetings.{Meetings}
 use Rattle.newt_lit_print.specs.declared.labels.Meetings.TheVariants.{None as NoMeeting}

@@ -1,5 +1,5 @@
 use Rattle.std.proofs.Common.{◌≡◌, ◌++◌, ◌≤◌, drop}
-use Rattle.newt_lit.specs.Printed as printed
+use Rattle.newt_spec_literal.specs.Printed as printed
 use Rattle.newt_lit_print.proofs.labels.labels.Given as goal
 
 -- the labels so far and those of the nodes that are left

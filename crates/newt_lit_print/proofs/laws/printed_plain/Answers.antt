@@ -1,4 +1,4 @@
-use Rattle.newt_lit.proofs.Plain.{literal_plain}
+use Rattle.newt_spec_literal.proofs.Plain.{literal_plain}
 use Rattle.newt_lit_print.proofs.laws.printed_plain.Goals as goal
 
 pub returns : goal.returns

@@ -1,4 +1,4 @@
-use Rattle.newt_lit.proofs.Literal.{text_reads}
+use Rattle.newt_spec_literal.proofs.Literal.{text_reads}
 use Rattle.newt_lit_print.proofs.laws.printed_reads.Goals as goal
 
 pub returns : goal.returns

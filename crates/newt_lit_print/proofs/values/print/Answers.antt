@@ -1,6 +1,6 @@
 use Rattle.std.proofs.Common.{ℕ, List, [], Option, ap, ◌∙◌}
-use Rattle.newt_lit.specs.Spelling.{Page, spelled}
-use Rattle.newt_lit.specs.Printed.{value_at}
+use Rattle.newt_spec_literal.specs.Spelling.{Page, spelled}
+use Rattle.newt_spec_literal.specs.Printed.{value_at}
 use Rattle.newt_lit_print.proofs.values.print.Goals as goal
 
 pub returns : goal.returns

@@ -1,6 +1,6 @@
 use Rattle.std.proofs.Common.{◌≡◌, ℕ, Option, Some, None, ap, ◌∙◌, arith}
 use Rattle.std.proofs.lemmas.Result.{err_from_is_err_and}
-use Rattle.newt_lit.specs.Words.{units_of}
+use Rattle.newt_spec_literal.specs.Words.{units_of}
 use Rattle.newt_lit_read.specs.Tokens.{next_in_string}
 use Rattle.newt_lit_read.proofs.PieceLoop.{goes_on, is_done, no_piece}
 use Rattle.newt_lit_read.proofs.pieces.units.Goals as goal

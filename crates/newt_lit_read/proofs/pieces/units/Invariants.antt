@@ -1,5 +1,5 @@
 use Rattle.std.proofs.Common.{◌≤◌, length}
-use Rattle.newt_lit.specs.Words.{units_of}
+use Rattle.newt_spec_literal.specs.Words.{units_of}
 use Rattle.newt_lit_read.specs.Tokens.{next_in_string, pieces_at}
 use Rattle.newt_lit_read.proofs.PieceLoop.{Going}
 use Rattle.newt_lit_read.proofs.pieces.units.Given as goal

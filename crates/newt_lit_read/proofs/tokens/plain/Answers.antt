@@ -1,5 +1,5 @@
 use Rattle.std.proofs.Common.{◌≡◌, ℕ, List, take, drop, Some, ap, sym, ◌∙◌}
-use Rattle.newt_lit.specs.Words.{word_len}
+use Rattle.newt_spec_literal.specs.Words.{word_len}
 use Rattle.newt_lit_read.specs.Tokens.{word_value}
 use Rattle.newt_lit_read.proofs.Numbers.{word_takes}
 use Rattle.newt_lit_read.proofs.tokens.plain.Goals as goal

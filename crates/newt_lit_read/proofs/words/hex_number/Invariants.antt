@@ -1,5 +1,5 @@
 use Rattle.std.proofs.Common.{◌≡◌, ◌<◌, ◌^◌, take}
-use Rattle.newt_lit.specs.Words.{hex_number}
+use Rattle.newt_spec_literal.specs.Words.{hex_number}
 use Rattle.newt_lit_read.proofs.words.hex_number.Given as goal
 
 abbrev pub invariant-loop-c : goal.invariant-loop-c

@@ -2,7 +2,7 @@ use Rattle.std.proofs.Common.{map, ◌∙◌, ap, ◌++◌, ◌∷◌, [], List,
 use Rattle.std.specs.List.{list_any}
 use Rattle.std.specs.Map.Iter.{deref}
 use Rattle.std.proofs.lemmas.List.{map-append}
-use Rattle.newt_image.specs.Objects.{Extent}
+use Rattle.newt_spec_image.specs.Objects.{Extent}
 use Rattle.newt_objects.specs.Extents.{has_number}
 use Rattle.newt_objects.proofs.Flags.{marks-more, any_push}
 use Rattle.newt_objects.proofs.free.mark_rows.Goals as goal

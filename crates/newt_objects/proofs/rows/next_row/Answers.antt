@@ -7,7 +7,7 @@ use Rattle.std.specs.BTreeMap.Range.{entries_between, IsEntryInRange}
 use Rattle.std.proofs.lemmas.List.{map-append}
 use Rattle.std.proofs.lemmas.Map.Iter.{rest_so_far, iter_end}
 use Rattle.std.proofs.lemmas.Map.Views.{All-turn}
-use Rattle.newt_image.specs.Objects.{Extent}
+use Rattle.newt_spec_image.specs.Objects.{Extent}
 use Rattle.newt_pagebook.proofs.Tests.{the_some, none_is}
 use Rattle.newt_objects.proofs.Nexts.{Entries, Vacant, vacant-push, at_least, next-found, next-none, not_above}
 use Rattle.newt_objects.proofs.rows.next_row.Goals as goal

@@ -1,7 +1,7 @@
 use Rattle.std.proofs.Common.{◌≡◌, ℕ, ◌==◌, ◌≤◌, List, Option, Some, slice_get, sym, ◌∙◌, ap, subst}
 use Rattle.std.specs.List.{list_any}
 use Rattle.std.specs.Option.{option_copied}
-use Rattle.newt_image.specs.Objects.{Extent}
+use Rattle.newt_spec_image.specs.Objects.{Extent}
 use Rattle.newt_objects.specs.Extents.{has_number}
 use Rattle.newt_objects.specs.Taken.{ClearsAlso}
 use Rattle.newt_objects.proofs.Live.{live-without, clears-below}

@@ -1,6 +1,6 @@
 use Rattle.std.proofs.Common.{◌≡◌, ℕ, ◌==◌, false, List, Some, slice_get, ◌∙◌, ap, subst}
 use Rattle.std.specs.List.{list_any}
-use Rattle.newt_image.specs.Objects.{Extent}
+use Rattle.newt_spec_image.specs.Objects.{Extent}
 use Rattle.newt_objects.specs.Extents.{MarksAlso}
 use Rattle.newt_objects.proofs.Live.{live-with, free-each}
 use Rattle.newt_objects.proofs.taken.take_row.Goals as goal

@@ -1,7 +1,7 @@
 use Rattle.std.proofs.Common.{List, [], ◌∷◌, ◌++◌, Option, map, length, sym, subst}
 use Rattle.std.specs.Map.Iter.{deref}
 use Rattle.std.proofs.lemmas.List.{map-append}
-use Rattle.newt_image.specs.Objects.{Extent}
+use Rattle.newt_spec_image.specs.Objects.{Extent}
 use Rattle.newt_objects.specs.Taken.{IsLive, row_at}
 use Rattle.newt_objects.proofs.Live.{row_past, row_pushed, rows_same}
 use Rattle.newt_objects.proofs.taken.take_rows.Goals as goal

@@ -1,8 +1,8 @@
 use Rattle.std.proofs.Common.{◌≡◌, ℕ, ◌-◌, ◌<◌, List, length, replicate, Some, sym, ◌∙◌, ap, arith}
 use Rattle.std.proofs.lemmas.List.{length-replicate}
 use Rattle.newt_host.proofs.Moments.{Leaves-start}
-use Rattle.newt_image.specs.Records.{bank_size}
-use Rattle.newt_image.specs.Pages.{change_in, written_change}
+use Rattle.newt_spec_image.specs.Records.{bank_size}
+use Rattle.newt_spec_image.specs.Pages.{change_in, written_change}
 use Rattle.newt_host.specs.Moments.{Anything}
 use Rattle.newt_pagelog.proofs.Spelling.{written-says, written-length}
 use Rattle.newt_pagelog.proofs.Changing.{cap-few, cap-fits}

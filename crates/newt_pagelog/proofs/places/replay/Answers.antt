@@ -2,8 +2,8 @@ use Rattle.std.proofs.Common.{◌≡◌, ℕ, nat_eq, List, [], take, drop, Opti
 use Rattle.std.specs.FinMap as map
 use Rattle.std.specs.Map.{lookup}
 use Rattle.newt_host.specs.Moments.{Moment, image}
-use Rattle.newt_image.specs.Records.{and_then, with_first}
-use Rattle.newt_image.specs.Pages.{Pages, pages, pages_after, change_in}
+use Rattle.newt_spec_image.specs.Records.{and_then, with_first}
+use Rattle.newt_spec_image.specs.Pages.{Pages, pages, pages_after, change_in}
 use Rattle.newt_journal.specs.Places.{payloads_from, IsPlace}
 use Rattle.newt_pagebook.specs.declared.book.BookFault.TheVariants.{Device}
 use Rattle.newt_pagelog.specs.Kept.{map_of}

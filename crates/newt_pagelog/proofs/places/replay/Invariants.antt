@@ -2,8 +2,8 @@ use Rattle.std.proofs.Common.{IsTrue, ◌≡◌, ◌+◌, ◌-◌, ◌*◌, ◌�
 use Rattle.std.specs.FinMap as map
 use Rattle.std.specs.HashMap as hash
 use Rattle.newt_host.specs.Moments.{image}
-use Rattle.newt_image.specs.Records.{and_then, records}
-use Rattle.newt_image.specs.Pages.{pages_after}
+use Rattle.newt_spec_image.specs.Records.{and_then, records}
+use Rattle.newt_spec_image.specs.Pages.{pages_after}
 use Rattle.newt_journal.specs.Places.{first_place, payloads_from, IsPlace}
 use Rattle.newt_pagelog.specs.Kept.{map_of}
 use Rattle.newt_pagelog.specs.Placed.{ArePlaced, Looks, lifted, page_from}

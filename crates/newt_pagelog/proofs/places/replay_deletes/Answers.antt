@@ -2,7 +2,7 @@ use Rattle.std.proofs.Common.{◌≡◌, ℕ, ◌+◌, ◌*◌, nat_eq, List, le
 use Rattle.std.specs.HashSet.{contains}
 use Rattle.std.specs.Option.{is_some}
 use Rattle.newt_host.specs.Moments.{image}
-use Rattle.newt_image.specs.Pages.{Change, short_at, word_at, puts_from, deletes_from}
+use Rattle.newt_spec_image.specs.Pages.{Change, short_at, word_at, puts_from, deletes_from}
 use Rattle.newt_pagebook.specs.Batch.{deletes_one}
 use Rattle.newt_pagebook.specs.declared.book.BookFault.TheVariants.{Device}
 use Rattle.newt_pagelog.specs.Placed.{Replayed}

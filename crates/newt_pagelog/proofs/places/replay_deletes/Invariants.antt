@@ -2,7 +2,7 @@ use Rattle.std.proofs.Common.{IsTrue, ◌+◌, ◌*◌, ◌≤◌, nat_eq, [], l
 use Rattle.std.specs.HashSet.{contains}
 use Rattle.std.specs.HashMap as hash
 use Rattle.newt_host.specs.Moments.{image}
-use Rattle.newt_image.specs.Pages.{puts_from, deletes_from}
+use Rattle.newt_spec_image.specs.Pages.{puts_from, deletes_from}
 use Rattle.newt_pagelog.specs.Placed.{Places, ArePlaced, Looks, Replayed}
 use Rattle.newt_pagelog.proofs.places.replay_deletes.Given as goal
 

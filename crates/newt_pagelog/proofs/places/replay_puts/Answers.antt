@@ -3,7 +3,7 @@ use Rattle.std.specs.HashSet.{contains}
 use Rattle.std.specs.Option.{is_some}
 use Rattle.newt_pagebook.specs.declared.book.BookFault.TheVariants.{Device}
 use Rattle.newt_host.specs.Moments.{image}
-use Rattle.newt_image.specs.Pages.{Change, word_at, puts_from}
+use Rattle.newt_spec_image.specs.Pages.{Change, word_at, puts_from}
 use Rattle.newt_pagebook.specs.Batch.{puts_one}
 use Rattle.newt_pagelog.specs.Placed.{Replayed, page_from}
 use Rattle.newt_pagelog.specs.Replay.{IsRefused}

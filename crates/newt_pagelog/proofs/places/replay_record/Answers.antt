@@ -2,7 +2,7 @@ use Rattle.std.proofs.Common.{◌≡◌, ℕ, ◌+◌, ◌*◌, nat_eq, false, L
 use Rattle.std.specs.HashSet.{contains}
 use Rattle.std.proofs.lemmas.Result.{IfOk-weaker}
 use Rattle.newt_host.specs.Moments.{image}
-use Rattle.newt_image.specs.Pages.{Change, short_at, puts_from, said_by, is_change}
+use Rattle.newt_spec_image.specs.Pages.{Change, short_at, puts_from, said_by, is_change}
 use Rattle.newt_pagelog.specs.Placed.{Replayed}
 use Rattle.newt_pagelog.proofs.Placing.{looks-image, held-inside, length-piece, length-short, counts-there, bad-length, no_change_in, replayed-says}
 use Rattle.newt_pagelog.proofs.places.replay_record.Goals as goal

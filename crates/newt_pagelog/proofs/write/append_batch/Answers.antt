@@ -3,8 +3,8 @@ use Rattle.std.specs.List.{filter}
 use Rattle.newt_host.specs.Moments.{image}
 use Rattle.newt_host.specs.Outside.{Spends}
 use Rattle.newt_host.proofs.Outside.{Touches-append}
-use Rattle.newt_image.specs.Records.{records}
-use Rattle.newt_image.specs.Pages.{written_change}
+use Rattle.newt_spec_image.specs.Records.{records}
+use Rattle.newt_spec_image.specs.Pages.{written_change}
 use Rattle.newt_journal.specs.Journal.{appended}
 use Rattle.newt_journal.specs.Draft.{commit_costs, journal_of, place_of, unit_of}
 use Rattle.newt_journal.specs.Places.{first_place}

@@ -1,7 +1,7 @@
 use Rattle.std.proofs.Common.{◌≡◌, ℕ, ◌+◌, ◌*◌, List, ◌++◌, length, refl, sym, ◌∙◌, ap, arith}
 use Rattle.std.specs.Int.{to_be_bytes, w16}
 use Rattle.std.specs.List.{flat_map, filter}
-use Rattle.newt_image.specs.Pages.{written_put, written_delete, written_change}
+use Rattle.newt_spec_image.specs.Pages.{written_put, written_delete, written_change}
 use Rattle.newt_journal.specs.Draft.{unit_of}
 use Rattle.newt_pagelog.specs.Kept.{is_kept, needed}
 use Rattle.newt_pagelog.proofs.Stepping.{step, keeps-two, keeps-widen, keeps-on, written-batch, deletes-size}

@@ -1,6 +1,6 @@
 use Rattle.std.proofs.Common.{◌*◌, length, take}
 use Rattle.std.specs.List.{flat_map, filter}
-use Rattle.newt_image.specs.Pages.{written_delete}
+use Rattle.newt_spec_image.specs.Pages.{written_delete}
 use Rattle.newt_journal.specs.Draft.{unit_of}
 use Rattle.newt_pagelog.specs.Kept.{is_kept}
 use Rattle.newt_pagelog.specs.Steps.{Keeps, WritesMore}

@@ -1,7 +1,7 @@
 use Rattle.std.proofs.Common.{IsTrue, ◌≡◌, ℕ, ◌+◌, List, ◌++◌, length, ap, arith}
 use Rattle.std.specs.Int.{to_be_bytes, w32}
 use Rattle.newt_host.specs.Moments.{image}
-use Rattle.newt_image.specs.Records.{records}
+use Rattle.newt_spec_image.specs.Records.{records}
 use Rattle.newt_journal.specs.Draft.{unit_of}
 use Rattle.newt_pagelog.proofs.Stepping.{keeps-two, keeps-widen, keeps-on, put-keeps, put-writes, writes-two, writes-same}
 use Rattle.newt_pagelog.proofs.write.write_put.Goals as goal

@@ -1,7 +1,7 @@
 use Rattle.std.proofs.Common.{◌≡◌, ◌+◌, ◌*◌, [], ◌∷◌, ◌++◌, length, take, get_or, ◌∙◌, ap, arith}
 use Rattle.std.specs.List.{flat_map}
 use Rattle.std.proofs.lemmas.List.{take_more}
-use Rattle.newt_image.specs.Pages.{written_put}
+use Rattle.newt_spec_image.specs.Pages.{written_put}
 use Rattle.newt_journal.specs.Draft.{unit_of}
 use Rattle.newt_pagelog.proofs.Stepping.{keeps-start, keeps-two, keeps-widen, keeps-on, writes-none, flat-push, step, written-size}
 use Rattle.newt_pagelog.proofs.Maps.{no_put}

@@ -1,6 +1,6 @@
 use Rattle.std.proofs.Common.{◌≡◌, ◌+◌, ◌*◌, take}
 use Rattle.std.specs.List.{flat_map}
-use Rattle.newt_image.specs.Pages.{written_put}
+use Rattle.newt_spec_image.specs.Pages.{written_put}
 use Rattle.newt_journal.specs.Draft.{unit_of, put_of}
 use Rattle.newt_pagelog.specs.Steps.{Keeps, WritesMore}
 use Rattle.newt_pagelog.proofs.write.write_puts.Given as goal

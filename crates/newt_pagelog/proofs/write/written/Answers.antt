@@ -2,7 +2,7 @@ use Rattle.std.proofs.Common.{◌≡◌, ℕ, ◌++◌, List, length, take, sym,
 use Rattle.std.specs.List.{flat_map}
 use Rattle.std.specs.Int.{to_be_bytes, w16}
 use Rattle.std.proofs.lemmas.List.{take_all}
-use Rattle.newt_image.specs.Pages.{written_put, written_change}
+use Rattle.newt_spec_image.specs.Pages.{written_put, written_change}
 use Rattle.newt_pagelog.proofs.Stepping.{written-all}
 use Rattle.newt_pagelog.proofs.write.written.Goals as goal
 

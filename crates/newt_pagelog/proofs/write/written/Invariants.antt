@@ -1,7 +1,7 @@
 use Rattle.std.proofs.Common.{◌≡◌, ◌++◌, length, take}
 use Rattle.std.specs.List.{flat_map}
 use Rattle.std.specs.Int.{to_be_bytes, w16}
-use Rattle.newt_image.specs.Pages.{written_put}
+use Rattle.newt_spec_image.specs.Pages.{written_put}
 use Rattle.newt_pagelog.proofs.write.written.Given as goal
 
 abbrev pub invariant-loop-put : goal.invariant-loop-put

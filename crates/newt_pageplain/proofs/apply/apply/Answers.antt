@@ -1,7 +1,7 @@
 use Rattle.std.proofs.Common.{◌≡◌, ℕ, ◌+◌, List, length, take, sym, ◌∙◌, ap, subst, arith}
 use Rattle.std.specs.FinMap as map
 use Rattle.std.proofs.lemmas.List.{take_all}
-use Rattle.newt_image.specs.Pages.{Pages, with_puts, without_numbers}
+use Rattle.newt_spec_image.specs.Pages.{Pages, with_puts, without_numbers}
 use Rattle.newt_pagelog.specs.Kept.{page_in, map_of, get_map}
 use Rattle.newt_pagelog.proofs.Maps.{put-step, delete-step, map_is}
 use Rattle.newt_pageplain.proofs.apply.apply.Goals as goal

@@ -1,7 +1,7 @@
 use Rattle.std.proofs.Common.{◌≡◌, ℕ, ◌+◌, ◌≤◌, nat_eq, length, take}
 use Rattle.std.specs.FinMap as map
 use Rattle.std.specs.HashMap as hash
-use Rattle.newt_image.specs.Pages.{with_puts, without_numbers}
+use Rattle.newt_spec_image.specs.Pages.{with_puts, without_numbers}
 use Rattle.newt_pagelog.specs.Kept.{page_in, map_of}
 use Rattle.newt_pageplain.proofs.apply.apply.Given as goal
 

@@ -4,8 +4,8 @@ use Rattle.std.specs.Option.{option_map}
 use Rattle.newt_host.specs.Moments.{image}
 use Rattle.newt_host.proofs.Moments.{Leaves-weaken}
 use Rattle.newt_host.proofs.Outside.{Spends-widen}
-use Rattle.newt_image.specs.Records.{records}
-use Rattle.newt_image.specs.Pages.{Pages, Change, pages, after, change_in, written_change}
+use Rattle.newt_spec_image.specs.Records.{records}
+use Rattle.newt_spec_image.specs.Pages.{Pages, Change, pages, after, change_in, written_change}
 use Rattle.newt_journal.specs.Journal.{ReadsAsEither, appended}
 use Rattle.newt_pagebook.specs.Batch.{IsBatch}
 use Rattle.newt_pagebook.specs.Book.{IsBeforeOrAfter, ReadsChanged, batch_bytes}

@@ -6,8 +6,8 @@ use Rattle.std.specs.FinSet as set
 use Rattle.std.proofs.Common.{nat_eq}
 use Rattle.newt_host.specs.Moments.{image}
 use Rattle.newt_host.proofs.Moments.{Leaves-weaken}
-use Rattle.newt_image.specs.Records.{records}
-use Rattle.newt_image.specs.Pages.{Pages, Change, pages, after, cap, change_in, written_change}
+use Rattle.newt_spec_image.specs.Records.{records}
+use Rattle.newt_spec_image.specs.Pages.{Pages, Change, pages, after, cap, change_in, written_change}
 use Rattle.newt_journal.specs.Journal.{ReadsAsEither}
 use Rattle.newt_pagebook.specs.Batch.{IsBatch}
 use Rattle.newt_pagebook.specs.Book.{IsBeforeOrAfter, ReadsChanged, changed_numbers}

@@ -7,7 +7,7 @@ use Rattle.std.specs.FinSet as set
 use Rattle.std.proofs.lemmas.Bool.{cases_lt}
 use Rattle.std.proofs.lemmas.Bool.Decides.{nat_tests}
 use Rattle.newt_host.specs.Moments.{image}
-use Rattle.newt_image.specs.Pages.{Pages}
+use Rattle.newt_spec_image.specs.Pages.{Pages}
 use Rattle.newt_pagebook.specs.Book.{Numbers}
 use Rattle.newt_pagebook.proofs.Tests.{true_or_false, is_same, equal_false, none_is}
 use Rattle.newt_pagelog.specs.Kept.{Entries, page_in, numbers_in, is_kept, kept_number}

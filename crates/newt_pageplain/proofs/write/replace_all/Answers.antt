@@ -1,8 +1,8 @@
 use Rattle.std.proofs.Common.{IsTrue, ◌≡◌, ℕ, true, List, [], ◌∷◌, ◌∙◌, ap, subst}
 use Rattle.newt_host.specs.Moments.{image}
 use Rattle.newt_host.proofs.Outside.{Touches-append}
-use Rattle.newt_image.specs.Records.{records}
-use Rattle.newt_image.specs.Pages.{written_change}
+use Rattle.newt_spec_image.specs.Records.{records}
+use Rattle.newt_spec_image.specs.Pages.{written_change}
 use Rattle.newt_journal.specs.Draft.{unit_of}
 use Rattle.newt_pagelog.specs.Kept.{all_of}
 use Rattle.newt_pagelog.proofs.Committing.{two-leaves, written-draft, first-either, finish-leaves, finish-records, finish-open, touches-on}

@@ -1,7 +1,7 @@
 use Rattle.std.proofs.Common.{ℕ, ◌+◌, ◌*◌, List, ◌++◌, length, sym, arith}
 use Rattle.std.specs.Int.{to_be_bytes, w16}
 use Rattle.std.specs.List.{flat_map}
-use Rattle.newt_image.specs.Pages.{written_put, written_change}
+use Rattle.newt_spec_image.specs.Pages.{written_put, written_change}
 use Rattle.newt_journal.specs.Draft.{unit_of}
 use Rattle.newt_pagelog.specs.Kept.{all_of}
 use Rattle.newt_pagelog.proofs.Stepping.{step, keeps-two, keeps-widen, keeps-on, written-all}

@@ -2,7 +2,7 @@ use Rattle.std.proofs.Common.{◌≡◌, ℕ, ◌+◌, ◌*◌, List, [], ◌∷
 use Rattle.std.specs.List.{flat_map}
 use Rattle.std.proofs.lemmas.List.{map-append}
 use Rattle.std.specs.Map.Iter.{deref_pair}
-use Rattle.newt_image.specs.Pages.{written_put}
+use Rattle.newt_spec_image.specs.Pages.{written_put}
 use Rattle.newt_journal.specs.Draft.{unit_of}
 use Rattle.newt_pagelog.proofs.Stepping.{keeps-start, keeps-two, keeps-widen, keeps-on, writes-none, writes-same, flat-push, step, written-size}
 use Rattle.std.proofs.lemmas.Map.Iter.{iter_turn, iter_end}

@@ -1,7 +1,7 @@
 use Rattle.std.proofs.Common.{◌≡◌, ◌+◌, ◌*◌, length, map}
 use Rattle.std.specs.List.{flat_map}
 use Rattle.std.specs.Map.Iter.{deref_pair}
-use Rattle.newt_image.specs.Pages.{written_put}
+use Rattle.newt_spec_image.specs.Pages.{written_put}
 use Rattle.newt_journal.specs.Draft.{unit_of, put_of}
 use Rattle.newt_pagelog.specs.Steps.{Keeps, WritesMore}
 use Rattle.newt_pageplain.proofs.write.write_pages.Given as goal

@@ -5,8 +5,8 @@ use Rattle.std.specs.FinMap as map
 use Rattle.std.specs.FinSet as set
 use Rattle.newt_host.specs.Moments.{image}
 use Rattle.newt_host.proofs.Moments.{Leaves-weaken}
-use Rattle.newt_image.specs.Records.{records}
-use Rattle.newt_image.specs.Pages.{Pages, Put, with_puts, after, written_change}
+use Rattle.newt_spec_image.specs.Records.{records}
+use Rattle.newt_spec_image.specs.Pages.{Pages, Put, with_puts, after, written_change}
 use Rattle.newt_journal.specs.Journal.{ReadsAsEither}
 use Rattle.newt_journal.specs.declared.journal.Journal.{Journal}
 use Rattle.newt_pagebook.specs.Book.{Numbers, IsBeforeOrAfter, changed_numbers}

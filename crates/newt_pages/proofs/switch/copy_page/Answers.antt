@@ -1,7 +1,7 @@
 use Rattle.std.proofs.Common.{ap}
 use Rattle.newt_host.specs.Moments.{Moment, image}
-use Rattle.newt_image.specs.Pages.{written_put}
-use Rattle.newt_image.specs.Records.{records}
+use Rattle.newt_spec_image.specs.Pages.{written_put}
+use Rattle.newt_spec_image.specs.Records.{records}
 use Rattle.newt_journal.specs.Draft.{unit_of}
 use Rattle.newt_pages.proofs.Copying.{stays-looked, stays-kept, stays-two, draft-looked, writes-looked}
 use Rattle.newt_pages.proofs.switch.copy_page.Goals as goal

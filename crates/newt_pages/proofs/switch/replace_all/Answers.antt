@@ -1,8 +1,8 @@
 use Rattle.std.proofs.Common.{IsTrue, ◌≡◌, ℕ, true, List, [], ◌∷◌, ◌++◌, Some, sym, ◌∙◌, ap, subst}
 use Rattle.newt_host.specs.Moments.{image, Leaves}
 use Rattle.newt_host.proofs.Outside.{Touches-append}
-use Rattle.newt_image.specs.Records.{records}
-use Rattle.newt_image.specs.Pages.{written_change}
+use Rattle.newt_spec_image.specs.Records.{records}
+use Rattle.newt_spec_image.specs.Pages.{written_change}
 use Rattle.newt_journal.specs.Journal.{ReadsAsEither}
 use Rattle.newt_journal.specs.Draft.{unit_of, journal_of}
 use Rattle.newt_journal.specs.declared.journal.Journal.{Journal}

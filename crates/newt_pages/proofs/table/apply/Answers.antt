@@ -1,7 +1,7 @@
 use Rattle.std.proofs.Common.{◌≡◌, ℕ, ◌==◌, ◌<◌, ◌++◌, Bool, cond, List, length, map as map_list, Option, None, sym, ◌∙◌, ap, subst, arith}
 use Rattle.std.specs.List.{All, list_any}
 use Rattle.std.specs.FinMap as map
-use Rattle.newt_image.specs.Pages.{Pages, Put, with_puts, after}
+use Rattle.newt_spec_image.specs.Pages.{Pages, Put, with_puts, after}
 use Rattle.newt_pagebook.proofs.Changes.{get_without}
 use Rattle.newt_pagelog.specs.Kept.{page_in, map_of}
 use Rattle.newt_pagelog.specs.Placed.{lifted}

@@ -2,7 +2,7 @@ use Rattle.std.proofs.Common.{◌≡◌, ℕ, ◌+◌, ◌*◌, ◌<◌, ◌≤�
 use Rattle.std.specs.List.{All}
 use Rattle.std.specs.FinMap as map
 use Rattle.std.specs.HashMap as hash
-use Rattle.newt_image.specs.Pages.{with_puts}
+use Rattle.newt_spec_image.specs.Pages.{with_puts}
 use Rattle.newt_journal.specs.Places.{first_place}
 use Rattle.newt_journal.specs.declared.journal.Journal.{Journal}
 use Rattle.newt_pagelog.specs.Kept.{page_in, map_of}

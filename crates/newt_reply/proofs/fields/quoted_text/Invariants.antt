@@ -1,5 +1,5 @@
 use Rattle.std.proofs.Common.{◌≡◌, ◌++◌, codes, flat_map, take}
-use Rattle.newt_lit.specs.Printed.{escaped}
+use Rattle.newt_spec_literal.specs.Printed.{escaped}
 use Rattle.newt_reply.proofs.fields.quoted_text.Given as goal
 
 abbrev pub invariant-loop-byte : goal.invariant-loop-byte

@@ -1,6 +1,6 @@
 use Rattle.std.proofs.Common.{◌≡◌, ◌++◌, OnOk, Option, append-nil, sym, subst}
-use Rattle.newt_shelf.specs.Names.{names_of}
-use Rattle.newt_shelf.specs.declared.batch.NewEntry.{NewEntry}
+use Rattle.newt_objects_commit.specs.Names.{names_of}
+use Rattle.newt_objects_commit.specs.declared.batch.NewEntry.{NewEntry}
 use Rattle.newt_store.specs.Next.{names_replaced}
 use Rattle.newt_store.proofs.carry.append_replaced.Goals as goal
 

@@ -4,8 +4,8 @@ use Rattle.newt_host.specs.Outside.{Spends}
 use Rattle.newt_host.proofs.Outside.{Touches-refl}
 use Rattle.newt_base.specs.declared.Refusal.TheVariants.{Full}
 use Rattle.newt_pagebook.specs.Book.{IsOpenFor}
-use Rattle.newt_image.specs.Objects.{Extent}
-use Rattle.newt_image.specs.Pages.{cap}
+use Rattle.newt_spec_image.specs.Objects.{Extent}
+use Rattle.newt_spec_image.specs.Pages.{cap}
 use Rattle.newt_objects.specs.Held.{held}
 use Rattle.newt_spec_graph.specs.Lists.{Among}
 use Rattle.newt_spec_store.specs.Cost.{cost}
@@ -15,12 +15,12 @@ use Rattle.newt_spec_store.specs.Valid.{well_formed}
 use Rattle.newt_soupdir.specs.Bare.{bare_store}
 use Rattle.newt_soupdir.specs.declared.rows.Directory.{Directory}
 use Rattle.newt_laws_changes.specs.Written.{Names}
-use Rattle.newt_shelf.specs.Batch.{AreOnce, IsApart}
-use Rattle.newt_shelf.specs.Faults.{FaultsAt, RefusesOnly}
-use Rattle.newt_shelf.specs.Names.{names_of}
-use Rattle.newt_shelf.specs.declared.fault.StoreFault.{StoreFault}
-use Rattle.newt_shelf.specs.Places.{place_of}
-use Rattle.newt_catalog.specs.Stands.{Describes}
+use Rattle.newt_objects_commit.specs.Batch.{AreOnce, IsApart}
+use Rattle.newt_objects_commit.specs.Faults.{FaultsAt, RefusesOnly}
+use Rattle.newt_objects_commit.specs.Names.{names_of}
+use Rattle.newt_objects_commit.specs.declared.fault.StoreFault.{StoreFault}
+use Rattle.newt_objects_commit.specs.Places.{place_of}
+use Rattle.newt_store_catalog.specs.Stands.{Describes}
 use Rattle.newt_store.specs.Next.{HoldsEither, WritesNext, all_gone, next_bytes, turn_bytes}
 use Rattle.newt_store.proofs.Going.{bytes-turn}
 use Rattle.newt_store.proofs.Unanswered.{IsMemory, memory-on, memory-if, memory-err, memory-stops, memory-refuses}

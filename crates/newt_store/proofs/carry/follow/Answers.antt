@@ -1,5 +1,5 @@
 use Rattle.std.proofs.Common.{ℕ, List, sym, subst}
-use Rattle.newt_shelf.specs.Names.{names_of}
+use Rattle.newt_objects_commit.specs.Names.{names_of}
 use Rattle.newt_spec_graph.specs.Lists.{Among}
 use Rattle.newt_store.proofs.carry.follow.Goals as goal
 

@@ -3,7 +3,7 @@ use Rattle.std.proofs.lemmas.Bool.{cases_eq}
 use Rattle.std.proofs.lemmas.List.{take_all, take_more}
 use Rattle.newt_spec_graph.specs.Lists.{Among}
 use Rattle.newt_spec_graph.proofs.Lists.{among-append, among-left, among-right}
-use Rattle.newt_shelf.specs.Names.{names_of}
+use Rattle.newt_objects_commit.specs.Names.{names_of}
 use Rattle.newt_store.proofs.carry.forget_names.Goals as goal
 
 -- one of these, or the last

@@ -1,6 +1,6 @@
 use Rattle.std.proofs.Common.{◌≡◌, ℕ, [], take}
 use Rattle.newt_spec_graph.specs.Lists.{Among}
-use Rattle.newt_shelf.specs.Names.{names_of, IsReady}
+use Rattle.newt_objects_commit.specs.Names.{names_of, IsReady}
 use Rattle.newt_store.proofs.carry.forget_names.Given as goal
 
 abbrev pub invariant-loop-id : goal.invariant-loop-id

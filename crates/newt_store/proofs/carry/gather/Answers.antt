@@ -1,5 +1,5 @@
 use Rattle.std.proofs.Common.{ℕ, List, ◌∙◌, ap}
-use Rattle.newt_shelf.specs.Names.{names_of}
+use Rattle.newt_objects_commit.specs.Names.{names_of}
 use Rattle.newt_store.specs.Next.{all_gone}
 use Rattle.newt_store.proofs.carry.gather.Goals as goal
 

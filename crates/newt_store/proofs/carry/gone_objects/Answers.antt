@@ -1,7 +1,7 @@
 use Rattle.std.proofs.Common.{◌≡◌, ◌++◌, ◌∷◌, [], ℕ, List, take, get_or, flat_map, sym, ◌∙◌, ap, append_assoc}
 use Rattle.std.proofs.lemmas.Grind.{flat_map-append}
 use Rattle.std.proofs.lemmas.List.{take_more}
-use Rattle.newt_shelf.specs.Names.{names_of}
+use Rattle.newt_objects_commit.specs.Names.{names_of}
 use Rattle.newt_store.proofs.carry.gone_objects.Goals as goal
 
 -- the objects of one record more

@@ -1,5 +1,5 @@
 use Rattle.std.proofs.Common.{◌≡◌, ◌∷◌, ℕ, take, flat_map}
-use Rattle.newt_shelf.specs.Names.{names_of}
+use Rattle.newt_objects_commit.specs.Names.{names_of}
 use Rattle.newt_store.proofs.carry.gone_objects.Given as goal
 
 abbrev pub invariant-loop-id : goal.invariant-loop-id

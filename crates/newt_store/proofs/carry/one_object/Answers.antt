@@ -1,6 +1,6 @@
 use Rattle.std.proofs.Common.{◌≡◌, inl, ℕ, List, [], ◌∷◌, ◌++◌, Some, sym, ◌∙◌, ap, subst}
 use Rattle.newt_pagebook.proofs.Tests.{some_inj}
-use Rattle.newt_shelf.specs.Batch.{AreOnce}
+use Rattle.newt_objects_commit.specs.Batch.{AreOnce}
 use Rattle.newt_spec_graph.specs.Lists.{Among}
 use Rattle.newt_store.proofs.Carrying.{none-some, one-among, once-one}
 use Rattle.newt_store.proofs.Unanswered.{no-value}

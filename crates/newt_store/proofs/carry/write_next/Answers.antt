@@ -4,16 +4,16 @@ use Rattle.newt_host.specs.Outside.{Spends}
 use Rattle.newt_host.proofs.Outside.{Touches-refl}
 use Rattle.newt_base.specs.declared.Refusal.TheVariants.{Full}
 use Rattle.newt_pagebook.specs.Book.{IsOpenFor, batch_bytes}
-use Rattle.newt_image.specs.Objects.{Extent}
-use Rattle.newt_image.specs.Pages.{Change}
+use Rattle.newt_spec_image.specs.Objects.{Extent}
+use Rattle.newt_spec_image.specs.Pages.{Change}
 use Rattle.newt_objects.specs.Held.{held}
 use Rattle.newt_objects.specs.Changing.{IsUnderWay}
 use Rattle.newt_objects.proofs.TextsOf.{texts_of}
-use Rattle.newt_shelf.specs.Batch.{AreWritten}
-use Rattle.newt_shelf.specs.Commit.{AreKept}
-use Rattle.newt_shelf.specs.Faults.{FaultsAt, RefusesOnly}
+use Rattle.newt_objects_commit.specs.Batch.{AreWritten}
+use Rattle.newt_objects_commit.specs.Commit.{AreKept}
+use Rattle.newt_objects_commit.specs.Faults.{FaultsAt, RefusesOnly}
 use Rattle.newt_store.specs.Next.{WritesNext, next_bytes}
-use Rattle.newt_catalog.proofs.Kept.{held-are}
+use Rattle.newt_store_catalog.proofs.Kept.{held-are}
 use Rattle.newt_store.proofs.Unanswered.{memory-on, memory-err, memory-stops, memory-refuses, memory-fits}
 use Rattle.newt_store.proofs.Writing.{spends-nothing, bytes-planned, full-goes-on, full-refused, the-fault, start-way, planned-made, planned-new, planned-larges, planned-there, leaves-next, leaves-none}
 use Rattle.newt_store.proofs.carry.write_next.Goals as goal

@@ -1,7 +1,7 @@
 use Rattle.std.proofs.Common.{◌≡◌, ◌≤◌, ℕ, List, refl, sym, ◌∙◌, subst, arith}
 use Rattle.std.specs.FinMap as map
 use Rattle.newt_host.specs.Moments.{image, Anything}
-use Rattle.newt_image.specs.Pages.{Change}
+use Rattle.newt_spec_image.specs.Pages.{Change}
 use Rattle.newt_host.proofs.Moments.{Leaves-start}
 use Rattle.newt_host.proofs.Outside.{Touches-refl}
 use Rattle.newt_pagebook.specs.Stops.{StopsAt}
@@ -10,7 +10,7 @@ use Rattle.newt_objects.specs.Changing.{IsUnderWay, HoldsObjects}
 use Rattle.newt_spec_store.specs.Cost.{directory_bytes}
 use Rattle.newt_spec_store.specs.OfImage.{blocks_of}
 use Rattle.newt_spec_store.specs.Store.{new_store}
-use Rattle.newt_shelf.proofs.Committing.{blocks-are}
+use Rattle.newt_objects_commit.proofs.Committing.{blocks-are}
 use Rattle.newt_store.proofs.Fresh.{start-empty, formatted-holds, fresh-read, short-name}
 use Rattle.newt_store.proofs.Unanswered.{no-value, by-error}
 use Rattle.newt_store.proofs.format.format_unit.Goals as goal

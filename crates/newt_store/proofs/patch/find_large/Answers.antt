@@ -7,8 +7,8 @@ use Rattle.newt_objects.specs.Held.{held}
 use Rattle.newt_entries.specs.declared.row.LargeAt.{LargeAt}
 use Rattle.newt_soupdir.specs.Bare.{bare_store}
 use Rattle.newt_spec_store.specs.Store.{soup_of, entry_at}
-use Rattle.newt_shelf.specs.Faults.{FaultsAt}
-use Rattle.newt_shelf.specs.declared.fault.StoreFault.TheVariants.{Stop}
+use Rattle.newt_objects_commit.specs.Faults.{FaultsAt}
+use Rattle.newt_objects_commit.specs.declared.fault.StoreFault.TheVariants.{Stop}
 use Rattle.newt_store.specs.Change.{first_checks}
 use Rattle.newt_store.specs.Patch.{record_pages}
 use Rattle.newt_store.specs.Stands.{RefusesWith}

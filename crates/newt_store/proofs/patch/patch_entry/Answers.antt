@@ -5,25 +5,25 @@ use Rattle.newt_base.specs.declared.Refusal.TheVariants.{Range}
 use Rattle.newt_host.specs.Moments.{Moment, image, overwritten, Leaves}
 use Rattle.newt_host.specs.Outside.{Touches, Spends}
 use Rattle.newt_host.proofs.Outside.{Touches-append}
-use Rattle.newt_shelf.specs.Faults.{FaultsAt}
-use Rattle.newt_image.specs.Pages.{cap}
-use Rattle.newt_image.specs.Objects.{Objects}
+use Rattle.newt_objects_commit.specs.Faults.{FaultsAt}
+use Rattle.newt_spec_image.specs.Pages.{cap}
+use Rattle.newt_spec_image.specs.Objects.{Objects}
 use Rattle.newt_pagebook.specs.Book.{IsOpenFor}
 use Rattle.newt_objects.specs.Changing.{HoldsObjects}
 use Rattle.newt_vbo.specs.Ranges.{parts_met}
 use Rattle.newt_spec_store.specs.OfImage.{blocks_of}
-use Rattle.newt_shelf.specs.Commit.{AreKept}
+use Rattle.newt_objects_commit.specs.Commit.{AreKept}
 use Rattle.newt_spec_store.specs.Cost.{patch_bytes}
-use Rattle.newt_shelf.specs.Patch.{IsBeforeOrPatched}
+use Rattle.newt_objects_commit.specs.Patch.{IsBeforeOrPatched}
 use Rattle.newt_store.specs.declared.change.Change.TheVariants.{Patch}
 use Rattle.newt_spec_store.specs.Store.{entry_at}
 use Rattle.newt_store.specs.Change.{changed_by, refusal_of, pages_of_entry, most_bytes}
 use Rattle.newt_store.specs.Patch.{IsLargeOf}
-use Rattle.newt_catalog.specs.Stands.{StandsFor}
+use Rattle.newt_store_catalog.specs.Stands.{StandsFor}
 use Rattle.newt_store.specs.Stands.{RefusesWith, IsBeforeOrChanged}
-use Rattle.newt_catalog.proofs.Opening.{same-image}
+use Rattle.newt_store_catalog.proofs.Opening.{same-image}
 use Rattle.newt_store.proofs.Applying.{from-err, faults-over, sound-over, leaves-before}
-use Rattle.newt_catalog.proofs.Kept.{kept-over}
+use Rattle.newt_store_catalog.proofs.Kept.{kept-over}
 use Rattle.newt_store.proofs.Unanswered.{no-value}
 use Rattle.newt_store.proofs.Writing.{failed}
 use Rattle.newt_store.proofs.Patching.{text-there, past-due, none-due, stands-after, spends-record, not-full, patch-leaves, patch-spends, patch-refuses, goes-error, less-over}

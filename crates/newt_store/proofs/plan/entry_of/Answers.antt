@@ -1,5 +1,5 @@
 use Rattle.std.proofs.Common.{◌≡◌, map as map_list, refl, ◌∙◌, ap}
-use Rattle.newt_shelf.specs.declared.batch.NewLarge.{NewLarge}
+use Rattle.newt_objects_commit.specs.declared.batch.NewLarge.{NewLarge}
 use Rattle.newt_spec_store.specs.Image.{entry_bytes}
 use Rattle.newt_spec_store.specs.Store.{Entry}
 use Rattle.newt_store.proofs.plan.entry_of.Goals as goal

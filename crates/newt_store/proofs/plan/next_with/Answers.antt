@@ -5,8 +5,8 @@ use Rattle.newt_spec_graph.specs.Lists.{Among}
 use Rattle.newt_soupdir.specs.Bare.{bare_soup, bare_store}
 use Rattle.newt_spec_store.specs.Store.{take_uid_of}
 use Rattle.newt_soupdir.specs.declared.rows.Directory.{Directory}
-use Rattle.newt_shelf.specs.Batch.{HasIds, large_ids}
-use Rattle.newt_shelf.specs.declared.batch.NewEntry.{NewEntry}
+use Rattle.newt_objects_commit.specs.Batch.{HasIds, large_ids}
+use Rattle.newt_objects_commit.specs.declared.batch.NewEntry.{NewEntry}
 use Rattle.newt_store.proofs.Adding.{formed-taken, soup-small}
 use Rattle.newt_store.proofs.plan.next_with.Goals as goal
 

@@ -6,10 +6,10 @@ use Rattle.newt_host.proofs.Outside.{Touches-refl}
 use Rattle.newt_spec_store.specs.Store.{Entry, soup_of, entry_at}
 use Rattle.newt_soupdir.specs.Bare.{bare_soup, bare_store}
 use Rattle.newt_base.specs.Refusals.{first_of}
-use Rattle.newt_shelf.specs.Faults.{FaultsAt}
-use Rattle.newt_shelf.specs.Names.{names_of}
-use Rattle.newt_shelf.specs.declared.fault.StoreFault.TheVariants.{Stop}
-use Rattle.newt_shelf.specs.Places.{place_of}
+use Rattle.newt_objects_commit.specs.Faults.{FaultsAt}
+use Rattle.newt_objects_commit.specs.Names.{names_of}
+use Rattle.newt_objects_commit.specs.declared.fault.StoreFault.TheVariants.{Stop}
+use Rattle.newt_objects_commit.specs.Places.{place_of}
 use Rattle.newt_store.specs.declared.next.Gone.TheVariants.{OneEntry}
 use Rattle.newt_store.specs.Change.{first_checks, pages_of_entry}
 use Rattle.newt_store.specs.Stands.{RefusesWith}

@@ -3,9 +3,9 @@ use Rattle.std.specs.Option.{is_some}
 use Rattle.newt_pagebook.proofs.Tests.{some_inj, the_some}
 use Rattle.newt_spec_graph.specs.Lists.{Among}
 use Rattle.newt_spec_store.specs.Valid.{well_formed}
-use Rattle.newt_shelf.specs.Batch.{HasIds, large_ids}
-use Rattle.newt_shelf.specs.Places.{place_of}
-use Rattle.newt_shelf.specs.declared.batch.NewEntry.{NewEntry}
+use Rattle.newt_objects_commit.specs.Batch.{HasIds, large_ids}
+use Rattle.newt_objects_commit.specs.Places.{place_of}
+use Rattle.newt_objects_commit.specs.declared.batch.NewEntry.{NewEntry}
 use Rattle.newt_soupdir.specs.Bare.{bare_store}
 use Rattle.newt_spec_store.specs.Store.{soup_of}
 use Rattle.newt_soupdir.specs.declared.rows.Directory.{Directory}

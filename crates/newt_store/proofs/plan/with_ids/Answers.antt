@@ -1,6 +1,6 @@
 use Rattle.std.proofs.Common.{◌≡◌, List, [], ◌∷◌, ◌++◌, map as map_list, sym, ◌∙◌, ap, subst}
 use Rattle.std.proofs.lemmas.List.{map-append}
-use Rattle.newt_shelf.specs.declared.batch.NewLarge.{NewLarge}
+use Rattle.newt_objects_commit.specs.declared.batch.NewLarge.{NewLarge}
 use Rattle.newt_store.proofs.Ids.{AreIdsTo, larges-more}
 use Rattle.newt_store.proofs.plan.with_ids.Goals as goal
 

@@ -3,9 +3,9 @@ use Rattle.std.proofs.lemmas.Grind.{common_steps}
 use Rattle.newt_host.proofs.Histories.{untouched-attached}
 use Rattle.newt_host.specs.Meanings.{out_of}
 use Rattle.newt_laws_answers.specs.Spoken.{answer_now}
-use Rattle.newt_session.proofs.Writing.{wrote_nothing}
+use Rattle.newt_script_session.proofs.Writing.{wrote_nothing}
 use Rattle.newt_spec_script.specs.Generator.{gen_script}
-use Rattle.newt_tally.specs.Counts.{summary_of}
+use Rattle.newt_script_tally.specs.Counts.{summary_of}
 use Rattle.newt_top.specs.Modes.{first, LeavesCounted, RanCounted}
 use Rattle.newt_top.proofs.Halting.{none_attached}
 use Rattle.newt_top.proofs.top.run_generated.Goals as goal

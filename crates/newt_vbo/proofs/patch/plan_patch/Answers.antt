@@ -5,8 +5,8 @@ use Rattle.std.proofs.lemmas.List.{append-nil, length_push, take_all}
 use Rattle.newt_host.specs.Moments.{Moment, image, overwritten}
 use Rattle.newt_host.specs.Outside.{Rose, Touches, Spends}
 use Rattle.newt_host.proofs.Outside.{Touches-refl, Touches-append}
-use Rattle.newt_image.specs.Pages.{Change, pages, after}
-use Rattle.newt_image.specs.Objects.{Extent, IsTableOf}
+use Rattle.newt_spec_image.specs.Pages.{Change, pages, after}
+use Rattle.newt_spec_image.specs.Objects.{Extent, IsTableOf}
 use Rattle.newt_pagebook.specs.Batch.{names, puts_one}
 use Rattle.newt_pagebook.specs.Book.{Numbers, changed_numbers}
 use Rattle.newt_pagebook.proofs.Tests.{the_some}

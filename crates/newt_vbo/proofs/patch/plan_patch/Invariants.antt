@@ -1,8 +1,8 @@
 use Rattle.std.proofs.Common.{IsTrue, ◌≡◌, ◌+◌, ◌-◌, ◌*◌, ◌/◌, ◌≤◌, ◌++◌, ℕ, false, Some, length, take, drop, slice_get}
 use Rattle.newt_host.specs.Moments.{image}
 use Rattle.newt_host.specs.Outside.{Touches, Spends}
-use Rattle.newt_image.specs.Pages.{Pages, pages, after}
-use Rattle.newt_image.specs.Objects.{Extent}
+use Rattle.newt_spec_image.specs.Pages.{Pages, pages, after}
+use Rattle.newt_spec_image.specs.Objects.{Extent}
 use Rattle.newt_pagebook.specs.Batch.{names}
 use Rattle.newt_pagebook.specs.Book.{changed_numbers}
 use Rattle.newt_objects.specs.Held.{held}

@@ -1,8 +1,8 @@
 use Rattle.std.proofs.Common.{◌≡◌, ℕ, ◌+◌, ◌++◌, List, [], length, Option, sym, ◌∙◌, ap, length-append, Result}
 use Rattle.std.specs.Option.{unwrap_or}
 use Rattle.newt_host.specs.Moments.{bytes_from}
-use Rattle.newt_image.specs.Pages.{page_data}
-use Rattle.newt_image.specs.Objects.{data_at}
+use Rattle.newt_spec_image.specs.Pages.{page_data}
+use Rattle.newt_spec_image.specs.Objects.{data_at}
 use Rattle.newt_vbo.specs.declared.fault.RangeFault.{RangeFault}
 use Rattle.newt_vbo.specs.declared.fault.RangeFault.TheVariants.{Range, Memory, Device}
 use Rattle.newt_vbo.proofs.Exits.{Fails, no_done, no_fault, the_fault, device_range, memory_range, memory_device}

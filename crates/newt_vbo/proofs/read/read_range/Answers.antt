@@ -4,8 +4,8 @@ use Rattle.std.specs.Option.{option_and_then}
 use Rattle.newt_host.specs.Moments.{Moment, image, bytes_from}
 use Rattle.newt_host.specs.Outside.{Rose, Touches, Spends}
 use Rattle.newt_host.proofs.Outside.{Touches-refl, Touches-append}
-use Rattle.newt_image.specs.Pages.{Pages, pages}
-use Rattle.newt_image.specs.Objects.{Extent, IsTableOf, joined}
+use Rattle.newt_spec_image.specs.Pages.{Pages, pages}
+use Rattle.newt_spec_image.specs.Objects.{Extent, IsTableOf, joined}
 use Rattle.newt_pagebook.specs.Book.{Numbers}
 use Rattle.newt_pagebook.proofs.Tests.{the_some}
 use Rattle.newt_objects.specs.Held.{held}

@@ -1,8 +1,8 @@
 use Rattle.std.proofs.Common.{IsTrue, ◌≡◌, ◌+◌, ◌-◌, ◌*◌, ◌/◌, Some, length}
 use Rattle.newt_host.specs.Moments.{image, bytes_from}
 use Rattle.newt_host.specs.Outside.{Touches, Spends}
-use Rattle.newt_image.specs.Pages.{Pages, pages}
-use Rattle.newt_image.specs.Objects.{Extent, joined}
+use Rattle.newt_spec_image.specs.Pages.{Pages, pages}
+use Rattle.newt_spec_image.specs.Objects.{Extent, joined}
 use Rattle.newt_objects.specs.Held.{held}
 use Rattle.newt_vbo.specs.Ranges.{before_part}
 use Rattle.newt_vbo.proofs.read.read_range.Given as goal

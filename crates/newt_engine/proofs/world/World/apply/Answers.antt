@@ -4,10 +4,10 @@ use Rattle.std.specs.Prelude.{Ok}
 use Rattle.newt_reply.specs.Said.{said}
 use Rattle.newt_reply.specs.declared.reply.Reply.{Reply}
 use Rattle.newt_reply.specs.declared.reply.Reply.TheVariants as reply
-use Rattle.newt_cardstore.specs.declared.fault.Fault.{Fault}
-use Rattle.newt_cardstore.specs.Faults.{GoesOn}
-use Rattle.newt_units.specs.Answers.{Answers}
-use Rattle.newt_walk.specs.World.{world_with}
+use Rattle.newt_engine_card.specs.declared.fault.Fault.{Fault}
+use Rattle.newt_engine_card.specs.Faults.{GoesOn}
+use Rattle.newt_engine_units.specs.Answers.{Answers}
+use Rattle.newt_engine_cursors.specs.World.{world_with}
 use Rattle.newt_engine.proofs.Refusing.{refusal_stays}
 use Rattle.newt_engine.proofs.world.World.apply.Goals as goal
 

@@ -6,7 +6,7 @@ use Rattle.newt_reply.specs.declared.reply.Reply.TheVariants as reply
 use Rattle.newt_spec_graph.proofs.Lists.{both-ways}
 use Rattle.newt_laws_answers.specs.Spoken.{answer_now}
 use Rattle.newt_laws_answers.proofs.Stores.{nsof-done, lit-done}
-use Rattle.newt_units.specs.Stands.{world_of}
+use Rattle.newt_engine_units.specs.Stands.{world_of}
 use Rattle.newt_engine.specs.Ends.{takes_memory, uses_device}
 use Rattle.newt_engine.specs.Laws.{laws_of}
 use Rattle.newt_engine.proofs.Costing.{costs_on, still_costs}

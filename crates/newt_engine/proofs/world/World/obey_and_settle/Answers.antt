@@ -4,9 +4,9 @@ use Rattle.newt_host.specs.Moments.{Always}
 use Rattle.newt_reply.specs.Said.{said}
 use Rattle.newt_laws_answers.specs.Answering.{Answering}
 use Rattle.newt_laws_answers.specs.Spoken.{answer_now}
-use Rattle.newt_units.specs.Stands.{world_of}
-use Rattle.newt_walk.specs.Fits.{DeskFits}
-use Rattle.newt_walk.specs.World.{world_with}
+use Rattle.newt_engine_units.specs.Stands.{world_of}
+use Rattle.newt_engine_cursors.specs.Fits.{DeskFits}
+use Rattle.newt_engine_cursors.specs.World.{world_with}
 use Rattle.newt_engine.specs.Laws.{laws_of}
 use Rattle.newt_engine.proofs.Costing.{settled_costs}
 use Rattle.newt_engine.proofs.Settling.{apart_after, done_answers, fault_answers, moments_with, moves_in_memory, moves_on_devices, settled_answers, stands_after}

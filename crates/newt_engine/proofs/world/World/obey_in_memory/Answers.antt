@@ -7,9 +7,9 @@ use Rattle.newt_spec_graph.proofs.Lists.{both-ways}
 use Rattle.newt_spec_world.specs.Reply.{Reply as plain}
 use Rattle.newt_laws_answers.specs.Spoken.{answer_now}
 use Rattle.newt_laws_answers.proofs.Stores.{quit-done}
-use Rattle.newt_cardstore.specs.Faults.{NoDevice}
-use Rattle.newt_units.specs.Answers.{Answers}
-use Rattle.newt_units.specs.Stands.{world_of}
+use Rattle.newt_engine_card.specs.Faults.{NoDevice}
+use Rattle.newt_engine_units.specs.Answers.{Answers}
+use Rattle.newt_engine_units.specs.Stands.{world_of}
 use Rattle.newt_engine.specs.Ends.{takes_memory}
 use Rattle.newt_engine.proofs.Groups.{no_other}
 use Rattle.newt_engine.proofs.Handed.{answered_on, blameless, err_on, for_memory}

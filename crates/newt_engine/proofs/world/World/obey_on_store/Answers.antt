@@ -2,7 +2,7 @@
 use Rattle.std.proofs.Common.{arith, ap, refl, sym, ◌∙◌}
 use Rattle.newt_host.proofs.Outside.{OnDevices-refl}
 use Rattle.newt_spec_graph.proofs.Lists.{both-ways}
-use Rattle.newt_units.specs.Stands.{Eight}
+use Rattle.newt_engine_units.specs.Stands.{Eight}
 use Rattle.newt_engine.specs.Ends.{takes_memory, uses_device}
 use Rattle.newt_engine.specs.Laws.{laws_of}
 use Rattle.newt_engine.proofs.Costing.{costs_on, format_costs, still_costs}

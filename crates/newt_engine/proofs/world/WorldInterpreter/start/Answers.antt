@@ -1,7 +1,7 @@
 -- Nothing is mounted yet, and no cursor is open.
 use Rattle.std.proofs.Common.{sym, subst}
-use Rattle.newt_laws.specs.Settled.{IsSettled, MountedApart}
-use Rattle.newt_walk.specs.Fits.{DeskFits}
+use Rattle.newt_laws_world.specs.Settled.{IsSettled, MountedApart}
+use Rattle.newt_engine_cursors.specs.Fits.{DeskFits}
 use Rattle.newt_engine.specs.Laws.{known_attached}
 use Rattle.newt_engine.proofs.Starting.{all_free, first_world_is, none_mounted, none_open}
 use Rattle.newt_engine.proofs.world.WorldInterpreter.start.Goals as goal

@@ -1,5 +1,5 @@
 use Rattle.std.proofs.Common.{refl}
-use Rattle.newt_image.specs.Records.{length_bytes}
+use Rattle.newt_spec_image.specs.Records.{length_bytes}
 use Rattle.newt_host.proofs.Outside.{same_cards}
 use Rattle.newt_journal.proofs.Append.{blank, any_moment, same_records, drafted_now, rest_left}
 use Rattle.newt_journal.proofs.appending.Appending.begin.Goals as goal

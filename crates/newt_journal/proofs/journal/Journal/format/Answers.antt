@@ -2,7 +2,7 @@ use Rattle.std.proofs.Common.{◌≤◌, ◌+◌, ◌-◌, ◌*◌, ℕ, length,
 use Rattle.newt_host.specs.Moments.{image}
 use Rattle.newt_host.proofs.Moments.{Leaves-append}
 use Rattle.newt_host.proofs.Outside.{same_cards}
-use Rattle.newt_image.specs.Records.{bank_size}
+use Rattle.newt_spec_image.specs.Records.{bank_size}
 use Rattle.newt_journal.proofs.Opened.{has_blocks}
 use Rattle.newt_journal.proofs.Formatting.{anything, no_call, a_sync, format_blank, format_any, format_one, format_tail, format_stands}
 use Rattle.newt_journal.proofs.journal.Journal.format.Goals as goal

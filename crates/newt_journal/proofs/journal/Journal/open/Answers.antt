@@ -1,7 +1,7 @@
 use Rattle.std.proofs.Common.{◌≡◌, ◌≢◌, ◌≤◌, IsSome, ℕ, ◌+◌, ◌*◌, ◌-◌, replicate, List, length, take, drop, refl, arith, sym, ◌∙◌, ap, subst, Option, Some, None, MatchOption}
 use Rattle.newt_host.specs.Moments.{Moment, image, changes}
 use Rattle.newt_host.proofs.Outside.{same_cards}
-use Rattle.newt_image.specs.Records.{chosen_bank, header, payloads_after, records}
+use Rattle.newt_spec_image.specs.Records.{chosen_bank, header, payloads_after, records}
 use Rattle.newt_journal.specs.Bank.{bank_number, start_of, limit_of}
 use Rattle.newt_journal.specs.Scan.{IsEnd, between}
 use Rattle.newt_journal.specs.declared.bank.Bank.{Bank}

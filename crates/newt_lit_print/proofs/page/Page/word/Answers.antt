@@ -1,7 +1,7 @@
 use Rattle.std.proofs.Common.{◌∙◌, ◌++◌, List, ℕ, ℤ, ap}
 use Rattle.std.specs.Int.{w32}
 use Rattle.std.proofs.lemmas.Int.{to_z-of_z}
-use Rattle.newt_lit.specs.Printed.{word_text}
+use Rattle.newt_spec_literal.specs.Printed.{word_text}
 use Rattle.std.proofs.lemmas.Result.{on_ok_weaker}
 use Rattle.newt_lit_print.proofs.page.Page.word.Goals as goal
 

@@ -4,8 +4,8 @@ use Rattle.std.proofs.lemmas.Result.{on_ok_weaker}
 use Rattle.std.proofs.lemmas.Slice.Zip.{either_empty_from_Zip}
 use Rattle.newt_graph.specs.declared.node.Node.{Node}
 use Rattle.newt_graph.specs.declared.node.Ref.{Ref}
-use Rattle.newt_lit.specs.Spelling.{Spelling, Page, spelled}
-use Rattle.newt_lit.specs.Printed.{field_text, more_text, object_text, label_of, label_text, node_at, value_at}
+use Rattle.newt_spec_literal.specs.Spelling.{Spelling, Page, spelled}
+use Rattle.newt_spec_literal.specs.Printed.{field_text, more_text, object_text, label_of, label_text, node_at, value_at}
 use Rattle.newt_lit_print.proofs.Printing.{absent, new_object, symbol_node, zip_empty}
 use Rattle.newt_lit_print.proofs.values.Source.+value.Goals.{found-then-levels-eq0-via-then-levels-eq0, found-then-levels-eq0-via-else-levels-eq0+then-n-self, found-then-not-is_symbol+else-has_met+in_ok-label, found-else-not-is_symbol}
 use Rattle.newt_lit_print.proofs.values.Source.+value.Goals as goal

@@ -1,7 +1,7 @@
 use Rattle.std.proofs.Common.{◌≡◌, ◌+◌, ◌*◌, map, drop}
 use Rattle.std.specs.Prelude.{zip}
-use Rattle.newt_lit.specs.Printed.{more_text, list_text, field_text, value_at}
-use Rattle.newt_lit.specs.Spelling.{spelled}
+use Rattle.newt_spec_literal.specs.Printed.{more_text, list_text, field_text, value_at}
+use Rattle.newt_spec_literal.specs.Spelling.{spelled}
 use Rattle.newt_lit_print.proofs.values.Source.+value.Given as goal
 
 abbrev pub decreases-found : goal.decreases-found

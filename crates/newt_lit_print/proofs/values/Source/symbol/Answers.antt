@@ -1,6 +1,6 @@
 use Rattle.std.proofs.Common.{sym}
 use Rattle.std.proofs.lemmas.Option.{slice_get_past}
-use Rattle.newt_lit.proofs.Spelled.{spelled_nothing}
+use Rattle.newt_spec_literal.proofs.Spelled.{spelled_nothing}
 use Rattle.newt_lit_print.proofs.values.Source.symbol.Goals as goal
 
 pub returns-then-n-self : goal.returns-then-n-self

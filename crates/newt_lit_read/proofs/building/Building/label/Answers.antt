@@ -1,7 +1,7 @@
 use Rattle.std.proofs.Common.{◌≡◌, ◌∙◌, ◌∷◌, ◌++◌, [], None, eqb, ap, refl}
 use Rattle.std.specs.Map.{lookup}
 use Rattle.indexmap.proofs.CallerLemmas.{insert_entry-new}
-use Rattle.newt_lit.specs.Built.{Built, node_of}
+use Rattle.newt_spec_literal.specs.Built.{Built, node_of}
 use Rattle.newt_lit_read.proofs.Labels.{label_found}
 use Rattle.newt_lit_read.proofs.building.Building.label.Goals as goal
 

@@ -1,5 +1,5 @@
 use Rattle.std.proofs.Common.{◌+◌, subst, ap}
-use Rattle.newt_image.specs.Objects.{Table}
+use Rattle.newt_spec_image.specs.Objects.{Table}
 use Rattle.newt_objects.specs.Extents.{IsNextIn}
 use Rattle.newt_objects.specs.Held.{held}
 use Rattle.newt_objects.proofs.objects.Objects.next_after.Goals as goal

@@ -4,7 +4,7 @@ use Rattle.newt_host.specs.Moments.{Moment, image, Leaves}
 use Rattle.newt_host.specs.Outside.{Outside, Rose, Spends, Touches}
 use Rattle.newt_host.proofs.Outside.{Spends-refl, Touches-refl}
 use Rattle.newt_host.proofs.Moments.{Leaves-start}
-use Rattle.newt_image.specs.Pages.{Change, Pages, pages, after, cap}
+use Rattle.newt_spec_image.specs.Pages.{Change, Pages, pages, after, cap}
 use Rattle.newt_journal.specs.declared.journal.Journal.{Journal}
 use Rattle.newt_pagebook.specs.Book.{IsBeforeOrAfter, IsOpenFor, ReadsChanged, batch_bytes}
 use Rattle.newt_pagebook.specs.declared.book.CommitFault.{CommitFault}

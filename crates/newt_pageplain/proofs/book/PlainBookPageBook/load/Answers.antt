@@ -1,6 +1,6 @@
 use Rattle.std.proofs.Common.{sym, ◌∙◌, ap}
 use Rattle.std.specs.FinMap as map
-use Rattle.newt_image.specs.Pages.{Pages}
+use Rattle.newt_spec_image.specs.Pages.{Pages}
 use Rattle.newt_pagebook.proofs.Tests.{some_inj}
 use Rattle.newt_pagelog.specs.Kept.{map_of, get_map, kept_number}
 use Rattle.newt_pageplain.proofs.book.PlainBookPageBook.load.Goals as goal

@@ -2,8 +2,8 @@ use Rattle.std.proofs.Common.{◌≡◌, ◌≤◌, ℕ, Option, Some, None, Err
 use Rattle.std.specs.FinMap as map
 use Rattle.newt_host.specs.Moments.{Moment, image}
 use Rattle.newt_host.proofs.Outside.{Touches-append}
-use Rattle.newt_image.specs.Records.{and_then}
-use Rattle.newt_image.specs.Pages.{pages, pages_after}
+use Rattle.newt_spec_image.specs.Records.{and_then}
+use Rattle.newt_spec_image.specs.Pages.{pages, pages_after}
 use Rattle.newt_pagebook.specs.declared.book.BookFault.TheVariants.{Device, NotStore}
 use Rattle.newt_pagelog.specs.Kept.{map_of}
 use Rattle.newt_pagelog.proofs.Committing.{touches-on}

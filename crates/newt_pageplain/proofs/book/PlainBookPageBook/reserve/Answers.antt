@@ -1,5 +1,5 @@
 use Rattle.std.proofs.Common.{◌≡◌, ℕ, Option, Some, None, refl, sym, ◌∙◌, ap, arith}
-use Rattle.newt_image.specs.Pages.{Pages}
+use Rattle.newt_spec_image.specs.Pages.{Pages}
 use Rattle.newt_pagelog.specs.Kept.{Entries, page_in, shown_in}
 use Rattle.newt_pagelog.proofs.Maps.{same_entries, same_numbers}
 use Rattle.newt_pagelog.proofs.Replaying.{sound-reordered}

@@ -1,7 +1,7 @@
 use Rattle.std.proofs.Common.{◌≡◌, inl, ℕ, List, refl, sym, ◌∙◌, ap, subst}
 use Rattle.newt_host.specs.Moments.{image}
 use Rattle.newt_host.proofs.Moments.{Leaves-start}
-use Rattle.newt_image.specs.Pages.{pages}
+use Rattle.newt_spec_image.specs.Pages.{pages}
 use Rattle.newt_pagebook.specs.Book.{IsBeforeOrAfter}
 use Rattle.newt_pagelog.specs.Placed.{HoldsAt}
 use Rattle.newt_pages.specs.Disk.{AreCached, tells_with}

@@ -2,7 +2,7 @@ use Rattle.std.proofs.Common.{◌≡◌, ℕ, true, false, nat_eq, List, Some, s
 use Rattle.std.specs.Map.{lookup}
 use Rattle.std.specs.Option.{is_some, option_copied}
 use Rattle.newt_host.specs.Moments.{image}
-use Rattle.newt_image.specs.Records.{records}
+use Rattle.newt_spec_image.specs.Records.{records}
 use Rattle.newt_pagebook.proofs.Tests.{the_some}
 use Rattle.newt_pagelog.specs.Kept.{is_kept, kept_number}
 use Rattle.lru.specs.LruCache.{LruCache, promoted}

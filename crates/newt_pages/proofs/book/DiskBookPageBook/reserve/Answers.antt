@@ -1,5 +1,5 @@
 use Rattle.std.proofs.Common.{refl, sym, ◌∙◌, ap}
-use Rattle.newt_image.specs.Pages.{Pages}
+use Rattle.newt_spec_image.specs.Pages.{Pages}
 use Rattle.newt_pagelog.specs.Placed.{page_of}
 use Rattle.newt_pages.proofs.Tables.{numbers-same, pages-same}
 use Rattle.std.proofs.Common.{Some}

@@ -1,7 +1,7 @@
 use Rattle.std.proofs.Common.{◌≡◌, ◌*◌, ℕ, Some, sym, ◌∙◌, ap, subst}
 use Rattle.newt_host.specs.Outside.{Spends}
-use Rattle.newt_shelf.specs.Names.{names_of}
-use Rattle.newt_shelf.specs.Places.{place_of}
+use Rattle.newt_objects_commit.specs.Names.{names_of}
+use Rattle.newt_objects_commit.specs.Places.{place_of}
 use Rattle.newt_store.specs.Change.{pages_of_entry}
 use Rattle.newt_store.proofs.Entries.{found-at, no-entry-at}
 use Rattle.newt_store.proofs.store.Store.entry.Goals as goal

@@ -1,7 +1,7 @@
 use Rattle.std.proofs.Common.{◌∙◌, ap}
 use Rattle.std.specs.Option.{is_some}
-use Rattle.newt_shelf.specs.Names.{names_of}
-use Rattle.newt_shelf.specs.Places.{place_of}
+use Rattle.newt_objects_commit.specs.Names.{names_of}
+use Rattle.newt_objects_commit.specs.Places.{place_of}
 use Rattle.newt_store.proofs.Entries.{has-entry}
 use Rattle.newt_store.proofs.store.Store.has.Goals as goal
 

@@ -1,5 +1,5 @@
-use Rattle.newt_shelf.specs.Names.{names_of}
-use Rattle.newt_shelf.specs.Places.{place_of}
+use Rattle.newt_objects_commit.specs.Names.{names_of}
+use Rattle.newt_objects_commit.specs.Places.{place_of}
 use Rattle.newt_store.proofs.Counting.{uids-listed}
 use Rattle.newt_store.proofs.store.Store.uids.Goals as goal
 

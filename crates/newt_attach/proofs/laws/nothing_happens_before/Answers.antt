@@ -1,5 +1,0 @@
-use Rattle.newt_attach.proofs.Since.{since_attached}
-use Rattle.newt_attach.proofs.laws.nothing_happens_before.Goals as goal
-
-pub returns : goal.returns
-returns c = since_attached

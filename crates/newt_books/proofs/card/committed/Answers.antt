@@ -1,9 +1,0 @@
-use Rattle.std.proofs.Common.{◌∙◌, true}
-use Rattle.newt_memhost.specs.Outside.{outside_of}
-use Rattle.newt_books.proofs.card.committed.Goals as goal
-
-pub commit-requires-clause-book : goal.commit-requires-clause-book
-commit-requires-clause-book g c = c.in_ok-reserve.ensures.book true (outside_of c.args.host.now) c.requires.book.0
-
-pub returns : goal.returns
-returns g c = (c.in_ok-commit.ensures.book, c.in_ok-commit.ensures.place ∙ c.in_ok-reserve.ensures.same.0 ∙ c.requires.book.1)

@@ -1,8 +1,0 @@
-use Rattle.std.specs.FinMap as map
-use Rattle.newt_image.specs.Objects.{Objects}
-use Rattle.newt_books.proofs.Carried.{planned_alone}
-use Rattle.newt_books.proofs.changes.delete_plan.Goals as goal
-
-pub returns-clause-plan : goal.returns-clause-plan
-returns-clause-plan c = planned_alone c.args.objects.now c.plan_delete.new.self c.new-batch.result c.plan_delete.new.batch (λ (texts : Objects). map.remove texts c.args.id) c.new-batch.ensures c.requires.none
-    c.in_ok-plan_delete.ensures.kept c.in_ok-plan_delete.ensures.under_way

@@ -1,9 +1,0 @@
-use Rattle.std.proofs.Common.{◌≡◌, ℕ, ◌≤◌, false, length}
-use Rattle.newt_pagebook.specs.Batch.{names}
-use Rattle.newt_books.proofs.objects.parts_of.Given as goal
-
-abbrev pub invariant-loop-number : goal.invariant-loop-number
-invariant-loop-number l = record {
-  new : (n : ℕ) → l.number ≤ n → names l.batch n ≡ false;
-  size : length l.batch.puts ≡ l.number;
-}

@@ -1,6 +1,0 @@
-use Rattle.std.proofs.Common.{arith}
-use Rattle.newt_catalog.proofs.Opening.{are-bytes}
-use Rattle.newt_catalog.proofs.open.record_of.Goals as goal
-
-pub returns-in-Ok-clause-are_bytes : goal.returns-in-Ok-clause-are_bytes
-returns-in-Ok-clause-are_bytes c = are-bytes c.args.bytes.now (λ k. omega (arith, c.type_inv.bytes k))

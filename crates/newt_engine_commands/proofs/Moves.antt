@@ -1,0 +1,210 @@
+-- Entries that are moved.
+use Rattle.std.proofs.Common.{◌≡◌, refl, ap, sym, ◌∙◌, subst, ℕ, List, [], ◌⊎◌, inl, inr, false, Option, Some, None, option_and_then, replicate}
+use Rattle.std.specs.Bool.{⊤}
+use Rattle.std.specs.Prelude.{Result, Ok, Err, is_some}
+use Rattle.newt_base.specs.Refusals.{Checks, first_of}
+use Rattle.newt_base.specs.declared.Refusal.{Refusal}
+use Rattle.newt_base.specs.declared.Refusal.TheVariants.{Entry as NoEntry}
+use Rattle.newt_host.specs.Moments.{Moment, Always, MayLeave}
+use Rattle.newt_host.proofs.Moments.{Always-append, Always-map, Always-last}
+use Rattle.newt_spec_graph.proofs.Lists.{some-same, none-some, both-ways}
+use Rattle.newt_laws_world.proofs.Units.{same-or-not, device-other}
+use Rattle.newt_spec_store.specs.Store.{Store, Entry, soup_named, entry_of, change_soup, add_entry, remove_entry, soup_of, entry_at}
+use Rattle.newt_spec_world.specs.declared.command.Command.{Command}
+use Rattle.newt_spec_world.specs.declared.command.Command.TheVariants as command
+use Rattle.newt_spec_world.specs.Reply.{Reply}
+use Rattle.newt_spec_world.specs.World.{World, Device, store_of, store_on_unit, change_store, change_media}
+use Rattle.newt_laws_answers.specs.Answering.{Answering}
+use Rattle.newt_laws_answers.specs.Spoken.{answer_now}
+use Rattle.newt_laws_answers.specs.Tests.{add_tests, room_tests, move_tests, moved_within, with_added}
+use Rattle.newt_laws_answers.specs.There.{OnUnit}
+use Rattle.newt_laws_answers.proofs.Copies.{graph-passes, move-no-entry, move-done, move-refused, within-done, within-refused}
+use Rattle.newt_laws_answers.proofs.Units.{is-there, on-changed, on-other}
+use Rattle.newt_engine_card.specs.declared.fault.Fault.{Fault}
+use Rattle.newt_engine_card.specs.declared.fault.Fault.TheVariants.{Refused, Stop}
+use Rattle.newt_engine_units.specs.Answers.{Answers}
+use Rattle.newt_engine_card.specs.Cards.{ReadsEntry}
+use Rattle.newt_engine_card.specs.Faults.{Does}
+use Rattle.newt_engine_units.specs.Found.{HasSoup, HasEntry}
+use Rattle.newt_engine_units.proofs.Answering.{does-answers, makes}
+use Rattle.newt_engine_commands.proofs.Commands.{entry-fits}
+
+-- one unit has one store
+pub same-unit : (w : World) (u a b : ℕ) (s t : Store) → OnUnit w u a s → OnUnit w u b t → (a ≡ b) × (s ≡ t)
+same-unit w u a b s t h k =
+    let d = some-same _ _ (sym h.device_is ∙ k.device_is) in
+    (ap (λ (d : Device). d.blocks) d, some-same s t (ap (λ (d : Device). store_of d.media) d))
+
+-- the command by the names of the soups
+pub move-named : (w : World) (u to : ℕ) (name target : List ℕ) (sig into uid : ℕ) → (h : HasSoup w u name sig) → (k : HasSoup w to target into)
+    → command.Move u h.soup.name uid to k.soup.name ≡ command.Move u name uid to target
+move-named w u to name target sig into uid h k = ap {B = Command} (λ n. command.Move u n uid to k.soup.name) h.name_is ∙ ap {B = Command} (λ n. command.Move u name uid to n) k.name_is
+
+-- the entry is not there
+pub move-missing : (w v : World) (u to : ℕ) (name target : List ℕ) (sig into uid : ℕ) (h : HasSoup w u name sig) → HasSoup w to target into → v ≡ w → (fault : Fault) → ReadsEntry (entry_at sig uid h.store) (Err fault)
+    → Answers {T = ℕ} w v (command.Move u name uid to target) (λ n. Reply.number n) (Err fault)
+move-missing w v u to name target sig into uid h k same (Refused r) x =
+    move-no-entry w u h.blocks h.store name h.soup uid h.on h.named to k.blocks k.store target k.soup k.on k.named (sym (ap (option_and_then (entry_of uid)) h.by_sig) ∙ x.0)
+    ∙ ap {B = World × Reply} (λ q. (w, Reply.refused q)) (sym x.1) ∙ ap {B = World × Reply} (λ y. (y, Reply.refused r)) (sym same)
+move-missing w v u to name target sig into uid h k same (Stop stop) x = tt
+
+pub inside-missing : (w : World) (u : ℕ) (name target : List ℕ) (sig into uid : ℕ) (h : HasSoup w u name sig) → HasSoup w u target into → is_some (entry_at sig uid h.store) ≡ false
+    → answer_now w (command.Move u name uid u target) ≡ (w, Reply.refused NoEntry)
+inside-missing w u name target sig into uid h k gone =
+    move-no-entry w u h.blocks h.store name h.soup uid h.on h.named u k.blocks k.store target k.soup k.on k.named (go (entry_of uid h.soup) (sym (ap (λ p. is_some (option_and_then (entry_of uid) p)) h.by_sig) ∙ gone))
+  where
+    go : (e : Option Entry) → is_some e ≡ false → e ≡ None
+    go None x = refl
+    go (Some e) x = absurd (both-ways (sym x))
+
+-- a removal is not refused
+pub never-refused : (w x a b v : World) (c : Command) (fault : Fault) → Does {T = Unit {0}} [] (λ _. ⊤) a b v (Err fault) → Answers {T = ℕ} w x c (λ n. Reply.number n) (Err fault)
+never-refused w x a b v c (Refused r) d = absurd (none-some r d.0)
+never-refused w x a b v c (Stop stop) d = tt
+
+-- ---- within one store
+
+module _ (w : World) (u : ℕ) (name target : List ℕ) (sig into uid : ℕ) (x : HasEntry w u name sig uid) (k : HasSoup w u target into) where
+  abbrev h : HasSoup w u name sig
+  h = x.of
+
+  same-store : h.store ≡ k.store
+  same-store = (same-unit w u h.blocks k.blocks h.store k.store h.on k.on).1
+
+  pub inside-by-sig : soup_of into h.store ≡ Some k.soup
+  inside-by-sig = subst (λ s. soup_of into s ≡ Some k.soup) (sym same-store) k.by_sig
+
+  pub inside-named : soup_named k.soup.name h.store ≡ Some k.soup
+  inside-named = subst (λ s. soup_named k.soup.name s ≡ Some k.soup) (sym same-store) k.self_named
+
+  module _ (none : w.cursors ≡ replicate 32 None) where
+    abbrev inside : Store → Store
+    inside = moved_within w.minute h.soup.name uid k.soup.name x.entry.graph
+
+    abbrev inside_tests : Checks
+    inside_tests = move_tests h.blocks w.minute h.soup.name uid k.soup.name x.entry.graph h.store k.soup
+
+    abbrev inside_answer : World × Reply
+    inside_answer = answer_now w (command.Move u name uid u target)
+
+    named : answer_now w (command.Move u h.soup.name uid u k.soup.name) ≡ inside_answer
+    named = ap (answer_now w) (move-named w u u name target sig into uid h k)
+
+    inside-done : first_of inside_tests ≡ None → inside_answer ≡ (change_store w u inside, Reply.number k.soup.next_uid)
+    inside-done d = sym named ∙ within-done w u h.blocks h.store h.soup.name h.soup uid h.on h.self_named k.soup.name k.soup inside-named x.entry x.found d none
+
+    inside-refused : (r : Refusal) → first_of inside_tests ≡ Some r → inside_answer ≡ (w, Reply.refused r)
+    inside-refused r d = sym named ∙ within-refused w u h.blocks h.store h.soup.name h.soup uid h.on h.self_named k.soup.name k.soup inside-named x.entry x.found r d
+
+    pub inside-answers : (v : World) (result : Result ℕ Fault) → Does inside_tests (λ n. n ≡ k.soup.next_uid) w (change_store w u inside) v result → Answers w v (command.Move u name uid u target) (λ n. Reply.number n) result
+    inside-answers v result d = does-answers w v (change_store w u inside) (command.Move u name uid u target) (λ n. Reply.number n) inside_tests (λ n. n ≡ k.soup.next_uid)
+        (λ t n good. inside-done t ∙ ap {B = World × Reply} (λ m. (change_store w u inside, Reply.number m)) (sym good)) inside-refused result d
+
+    pub inside-makes : first_of inside_tests ≡ None → store_on_unit inside_answer.0 u ≡ Some (inside h.store)
+    inside-makes t = makes w u h.blocks h.store inside inside_answer (Reply.number k.soup.next_uid) h.on (inside-done t)
+
+-- ---- between two stores
+
+module _ (w : World) (u to : ℕ) (name target : List ℕ) (sig into uid : ℕ) (h : HasSoup w u name sig) (k : HasSoup w to target into) (none : w.cursors ≡ replicate 32 None)
+    (e : Entry) (found : entry_of uid h.soup ≡ Some e) (differ : to ≡ u → ⊥) where
+  abbrev add : Store → Store
+  add = change_soup k.soup.name (add_entry w.minute e.graph)
+
+  abbrev without : Store → Store
+  without = change_soup h.soup.name (remove_entry uid)
+
+  abbrev added : World
+  added = with_added w to k.soup.name e.graph
+
+  abbrev tests : World → Checks
+  tests x = add_tests k.blocks x.minute k.soup.name e.graph k.store k.soup
+
+  abbrev answer : World × Reply
+  answer = answer_now w (command.Move u name uid to target)
+
+  by-name : answer_now w (command.Move u h.soup.name uid to k.soup.name) ≡ answer
+  by-name = ap (answer_now w) (move-named w u to name target sig into uid h k)
+
+  room : first_of (tests w) ≡ first_of (room_tests k.blocks w.minute k.soup.name e.graph k.store k.soup)
+  room = let f = entry-fits h.store name h.soup uid e h.formed h.named found in graph-passes k.blocks w.minute k.soup.name e k.store k.soup f
+
+  pub on-added : OnUnit added u h.blocks h.store
+  on-added = on-other w u to h.blocks h.store add (λ i. differ (sym i)) h.on
+
+  there-added : OnUnit added to k.blocks (add k.store)
+  there-added = on-changed w to k.blocks k.store add k.on
+
+  between-refused : (r : Refusal) → first_of (tests w) ≡ Some r → answer ≡ (w, Reply.refused r)
+  between-refused r t = sym by-name ∙ move-refused w u h.blocks h.store h.soup.name h.soup uid h.on h.self_named to k.blocks k.store k.soup.name k.soup k.on k.self_named e found differ r (sym room ∙ t)
+
+  between-done : first_of (tests w) ≡ None → answer ≡ (change_store added u without, Reply.number k.soup.next_uid)
+  between-done t = sym by-name ∙ move-done w u h.blocks h.store h.soup.name h.soup uid h.on h.self_named to k.blocks k.store k.soup.name k.soup k.on k.self_named e found differ (sym room ∙ t) none
+
+  -- the entry was not added
+  pub between-fails : (x v : World) → x ≡ w → (fault : Fault) → Does {T = ℕ} (tests x) (λ n. n ≡ k.soup.next_uid) x (with_added x to k.soup.name e.graph) v (Err fault)
+      → Answers {T = ℕ} w v (command.Move u name uid to target) (λ n. Reply.number n) (Err fault)
+  between-fails x v is (Refused r) d = between-refused r (ap (λ y. first_of (tests y)) (sym is) ∙ d.0) ∙ ap {B = World × Reply} (λ y. (y, Reply.refused r)) (sym (d.1 ∙ is))
+  between-fails x v is (Stop stop) d = tt
+
+  -- it was added
+  pub record WasAdded (now : World) (n : ℕ) : Type 0 where
+    pub passed : first_of (tests w) ≡ None
+    pub number : n ≡ k.soup.next_uid
+    pub world : now ≡ added
+
+  pub was-added : (x now : World) (n : ℕ) → x ≡ w → Does (tests x) (λ n. n ≡ k.soup.next_uid) x (with_added x to k.soup.name e.graph) now (Ok n) → WasAdded now n
+  was-added x now n is d = record {
+    passed = ap (λ y. first_of (tests y)) (sym is) ∙ d.0;
+    number = d.1;
+    world = d.2 ∙ ap (λ y. with_added y to k.soup.name e.graph) is;
+  }
+
+  -- and removed
+  pub between-answers : (now v : World) (n : ℕ) → WasAdded now n → v ≡ change_store now u without → answer ≡ (v, Reply.number n)
+  between-answers now v n a is = between-done a.passed ∙ ap {B = World × Reply} (λ z. (change_store z u without, Reply.number k.soup.next_uid)) (sym a.world)
+      ∙ ap {B = World × Reply} (λ z. (z, Reply.number k.soup.next_uid)) (sym is) ∙ ap {B = World × Reply} (λ m. (v, Reply.number m)) (sym a.number)
+
+  pub on-then : (now : World) (n : ℕ) → WasAdded now n → OnUnit now u h.blocks h.store
+  on-then now n a = subst (λ x. OnUnit x u h.blocks h.store) (sym a.world) on-added
+
+  -- ---- moments
+
+  pub added-makes : (x : World) → x ≡ w → first_of (tests x) ≡ None → store_on_unit answer.0 to ≡ Some (change_soup k.soup.name (add_entry x.minute e.graph) k.store)
+  added-makes x is t =
+      ap {A = World × Reply} (λ y. store_on_unit y.0 to) (between-done (ap (λ y. first_of (tests y)) (sym is) ∙ t))
+      ∙ is-there (change_store added u without) to k.blocks (add k.store) (on-other added to u k.blocks (add k.store) without differ there-added)
+      ∙ ap (λ (y : World). Some (change_soup k.soup.name (add_entry y.minute e.graph) k.store)) (sym is)
+
+  pub removed-makes : (now : World) (n : ℕ) → WasAdded now n → store_on_unit answer.0 u ≡ Some (without h.store)
+  removed-makes now n a = makes added u h.blocks h.store without answer (Reply.number k.soup.next_uid) on-added (between-done a.passed)
+
+  -- up to the end of the first change
+  pub first-moments : (reads : List ℕ → Option Store) (x : World) (a b c : Moment) → x ≡ w → b ≡ a → Always (Answering reads x answer.0 b) b c → Always (Answering reads w answer.0 a) a c
+  first-moments reads x a b c is start way = subst (λ (m : Moment). Always (Answering reads w answer.0 m) m c) start (subst (λ (y : World). Always (Answering reads y answer.0 b) b c) is way)
+
+  -- and of the second
+  pub both-moments : (reads : List ℕ → Option Store) (now : World) (n : ℕ) (a b c : Moment) → WasAdded now n
+      → Always (Answering reads w answer.0 a) a b → Always (Answering reads now answer.0 b) b c → Always (Answering reads w answer.0 a) a c
+  both-moments reads now n a b c was first second = Always-append first (Always-map (λ m at. record {
+    quiet = at.quiet ∙ last.quiet;
+    stores = λ j y left d may. stores m at j y left d may (same-or-not j to);
+    others = λ j d i. at.others j (none-there j d (same-or-not j to)) i ∙ last.others j d i;
+  }) (subst (λ (y : World). Always (Answering reads y answer.0 b) b c) was.world second))
+    where
+      last : Answering reads w answer.0 a b
+      last = Always-last first
+
+      elsewhere : (j : ℕ) → (j ≡ to → ⊥) → store_on_unit added j ≡ store_on_unit w j
+      elsewhere j d = ap (option_and_then (λ (d : Device). store_of d.media)) (device-other w to (λ d. record d { media = change_media add d.media }) j d)
+
+      none-there : (j : ℕ) → store_on_unit w j ≡ None → (j ≡ to) ⊎ (j ≡ to → ⊥) → store_on_unit added j ≡ None
+      none-there j d (inl i) = absurd (none-some k.store (sym d ∙ ap (store_on_unit w) i ∙ is-there w to k.blocks k.store k.on))
+      none-there j d (inr i) = elsewhere j i ∙ d
+
+      stores : (m : Moment) → Answering reads added answer.0 b m → (j : ℕ) (y : Store) (left : List ℕ) → store_on_unit w j ≡ Some y → MayLeave j m left → (j ≡ to) ⊎ (j ≡ to → ⊥)
+          → (reads left ≡ Some y) ⊎ (reads left ≡ store_on_unit answer.0 j)
+      stores m at j y left d may (inl i) = elim (at.stores j (add k.store) left (ap (store_on_unit added) i ∙ is-there added to k.blocks (add k.store) there-added) may) [
+        | inl r ↦ inr (r ∙ sym (added-makes w refl was.passed) ∙ ap (store_on_unit answer.0) (sym i))
+        | inr r ↦ inr r
+      ]
+      stores m at j y left d may (inr i) = at.stores j y left (elsewhere j i ∙ d) may

@@ -1,0 +1,107 @@
+-- What a query asks: its frame, its index and its keys.
+use Rattle.std.proofs.Common.{◌≡◌, refl, ap, sym, ◌∙◌, ℕ, ◌+◌, ◌<◌, List, [], ◌∷◌, Bool, true, false, cond, drop, Option, Some, None, option_map, option_and_then}
+use Rattle.std.specs.Prelude.{Result, Ok, Err, not, is_none, unwrap_or, filter_map}
+use Rattle.std.specs.List.{cons_option}
+use Rattle.newt_base.specs.Refusals.{Checks, first_of}
+use Rattle.newt_base.specs.declared.Refusal.TheVariants.{Spec as BadSpec, Index as BadIndex, Key as BadKey}
+use Rattle.newt_graph.specs.Graph.{RawGraph}
+use Rattle.newt_spec_graph.proofs.Lists.{none-some}
+use Rattle.newt_spec_store.specs.Keys.{IndexSpec, Path}
+use Rattle.newt_spec_query.specs.Hits.{Query}
+use Rattle.newt_spec_query.specs.Spec.{is_query, keys_fit, query_paths, spec_of}
+use Rattle.newt_spec_world.specs.Changed.{index_of, query_of}
+use Rattle.newt_spec_world.specs.Refused.{on_some}
+use Rattle.newt_spec_world.specs.World.{World}
+use Rattle.newt_cursor.specs.declared.query.Query as code
+use Rattle.newt_engine_card.specs.declared.fault.Fault.{Fault}
+use Rattle.newt_engine_card.specs.declared.fault.Fault.TheVariants.{Refused, Stop}
+use Rattle.newt_host.specs.Outside.{Outside}
+use Rattle.newt_spec_store.specs.Store.{Store, Soup, soup_named}
+use Rattle.newt_spec_query.specs.Hits.{in_scope}
+use Rattle.newt_spec_world.specs.Changed.{first_of_list, index_for, index_in_soup}
+use Rattle.newt_spec_world.specs.First.{unit_numbers}
+use Rattle.newt_spec_world.specs.World.{mounted_store, mounted_stores, on_unit}
+use Rattle.newt_laws_answers.specs.WorldAt.{device_at}
+use Rattle.newt_engine_units.specs.declared.units.Units.{Units}
+use Rattle.newt_engine_units.specs.Stands.{Stands, Eight, mounted_in, world_of}
+use Rattle.newt_engine_units.proofs.Known.{Laws, at-device}
+use Rattle.newt_engine_units.proofs.Shown.{drop-step}
+use Rattle.newt_engine_cursors.proofs.Searching.{chosen-kept, chosen-twice}
+use Rattle.newt_engine_cursors.proofs.Stores.{chosen-map}
+use Rattle.newt_engine_cursors.specs.Opening.{index_in}
+use Rattle.newt_engine_cursors.specs.Opening.{Binds, Indexes, bind_tests}
+
+-- ---- the tests
+
+pub binds-same : (xs ys : Checks) (p q : Query) → first_of xs ≡ first_of ys → p ≡ q → (r : Result code.Query Fault) → Binds xs p r → Binds ys q r
+binds-same xs ys p q e is (Ok query) h = (sym e ∙ h.0, h.1 ∙ is)
+binds-same xs ys p q e is (Err (Refused refusal)) h = sym e ∙ h
+binds-same xs ys p q e is (Err (Stop stop)) h = tt
+
+module _ (w : World) (scope : Option ℕ) (name : List ℕ) (g : RawGraph) where
+  -- the frame has not the form of a query
+  pub no-form : is_query g ≡ false → first_of (bind_tests w scope name g) ≡ Some BadSpec
+  no-form e = ap (λ b. first_of ((BadSpec, not b) ∷ (BadIndex, is_none (index_of w scope name g)) ∷ (BadKey, on_some (index_of w scope name g) (λ spec. not (keys_fit g spec))) ∷ [])) e
+
+  abbrev tests_by : Bool → Option IndexSpec → Checks
+  tests_by form index = (BadSpec, not form) ∷ (BadIndex, is_none index) ∷ (BadKey, on_some index (λ spec. not (keys_fit g spec))) ∷ []
+
+  module _ (form : is_query g ≡ true) where
+    -- its index is found
+    pub bound-goal : (spec : IndexSpec) → index_of w scope name g ≡ Some spec → (r : Result code.Query Fault)
+        → Binds ((BadKey, not (keys_fit g spec)) ∷ []) (record { scope = scope; name = name; spec = spec_of g spec }) r → Binds (bind_tests w scope name g) (query_of w scope name g) r
+    bound-goal spec e r h = binds-same ((BadKey, not (keys_fit g spec)) ∷ []) (bind_tests w scope name g) (record { scope = scope; name = name; spec = spec_of g spec }) (query_of w scope name g)
+        (sym (λ i. first_of (tests_by (form i) (e i))))
+        (ap {A = Option IndexSpec} {B = Query} (λ o. record { scope = scope; name = name; spec = spec_of g (unwrap_or o []) }) (sym e)) r h
+
+    -- it is not
+    pub index-goal : (fault : Fault) → Indexes w scope name (query_paths g) (Err fault) → Binds (bind_tests w scope name g) (query_of w scope name g) (Err fault)
+    index-goal (Refused refusal) h = (λ i. first_of (tests_by (form i) (h.0 i))) ∙ ap Some (sym h.1)
+    index-goal (Stop stop) h = tt
+
+-- ---- the index of the soups
+
+-- the index of a unit
+abbrev pub unit_index : Option ℕ → List ℕ → List Path → World → ℕ → Option IndexSpec
+unit_index scope name paths w u = option_and_then (index_in scope name paths) (mounted_store w u)
+
+module _ {C : Type 0} {reads : List ℕ → Option Store} {place : C → ℕ} {soups : C → Store} {stands : Bool → C → Outside → Type 0} (l : Laws reads place soups stands)
+    (units : Units C) (o : Outside) (e : Eight o) (s : Stands place stands true units o) where
+  -- the first of all units is that of the mounted stores
+  pub unit-indexes : (scope : Option ℕ) (name : List ℕ) (paths : List Path)
+      → first_of_list (filter_map (unit_index scope name paths (world_of reads units o)) unit_numbers) ≡ index_for (world_of reads units o) scope name paths
+  unit-indexes scope name paths = ap first_of_list (
+      (λ i. filter_map (λ u. option_and_then (index_in scope name paths) (on_unit (at-device l units o e s u i))) unit_numbers)
+      ∙ sym (ap (filter_map (index_in scope name paths)) (chosen-map on_unit (device_at reads (mounted_in units.slots.items) o) unit_numbers)
+      ∙ chosen-twice (index_in scope name paths) (λ u. on_unit (device_at reads (mounted_in units.slots.items) o u)) unit_numbers)
+      ∙ sym (chosen-kept (λ (s : Store). index_in_soup paths (soup_named name s)) (in_scope scope) (mounted_stores (world_of reads units o))))
+
+-- a unit more
+module _ (f : ℕ → Option IndexSpec) (all : Option IndexSpec) (n : ℕ) (h : first_of_list (filter_map f (drop n unit_numbers)) ≡ all) where
+  next-unit : (o : Option IndexSpec) → n < 8 → f n ≡ o → first_of_list (cons_option o (filter_map f (drop (n + 1) unit_numbers))) ≡ all
+  next-unit o lt e = sym (ap (λ (us : List ℕ). first_of_list (filter_map f us)) (drop-step (λ u. u) n lt) ∙ ap (λ o. first_of_list (cons_option o (filter_map f (drop (n + 1) unit_numbers)))) e) ∙ h
+
+  pub index-none : n < 8 → f n ≡ None → first_of_list (filter_map f (drop (n + 1) unit_numbers)) ≡ all
+  index-none lt e = next-unit None lt e
+
+  pub index-some : (x : IndexSpec) → n < 8 → f n ≡ Some x → Some x ≡ all
+  index-some x lt e = next-unit (Some x) lt e
+
+  pub index-end : n ≡ 8 → None ≡ all
+  index-end is = sym (ap (λ n. first_of_list (filter_map f (drop n unit_numbers))) is) ∙ h
+
+-- a store without the soup
+pub no-soup-index : (scope : Option ℕ) (name : List ℕ) (paths : List Path) (o : Option Store) → None ≡ option_map (λ p. p.sig) (option_and_then (soup_named name) o)
+    → None ≡ option_and_then (index_in scope name paths) o
+no-soup-index scope name paths None e = refl
+no-soup-index scope name paths (Some s) e = go (soup_named name s) (in_scope scope s) e
+  where
+    go : (p : Option Soup) (b : Bool) → None ≡ option_map (λ p. p.sig) p → None ≡ cond b (index_in_soup paths p) None
+    go None true e = refl
+    go None false e = refl
+    go (Some p) b e = absurd (none-some p.sig e)
+
+-- a store that is in scope or is not
+pub scoped-index : (scope : Option ℕ) (name : List ℕ) (paths : List Path) (s : Store) (b : Bool) → b ≡ in_scope scope s → (o : Option Store) → o ≡ Some s
+    → option_and_then (index_in scope name paths) o ≡ cond b (index_in_soup paths (soup_named name s)) None
+scoped-index scope name paths s b e o is = ap (option_and_then (index_in scope name paths)) is ∙ ap (λ b. cond b (index_in_soup paths (soup_named name s)) None) (sym e)

@@ -1,0 +1,119 @@
+-- The places for cursors, where some change.
+use Rattle.std.proofs.Common.{arith, ◌≡◌, refl, ap, sym, ◌∙◌, ℕ, zero, suc, ◌+◌, ◌≤◌, List, [], ◌∷◌, length, map, find, Option, Some, None, option_map, unwrap_or, add-one}
+use Rattle.std.specs.Prelude.{slice_get}
+use Rattle.newt_spec_graph.specs.Lists.{Each}
+use Rattle.newt_spec_graph.proofs.Lists.{some-same, none-some}
+use Rattle.newt_spec_store.specs.Keys.{Key}
+use Rattle.newt_spec_query.specs.Hits.{Hit}
+use Rattle.newt_spec_query.specs.Cursor.{Place, start, finish, on, Cursor, hit_at, settled, same_identity}
+use Rattle.newt_spec_world.specs.World.{World, change_at, flat, hits_of, settle_cursor}
+use Rattle.newt_laws_images.proofs.Chosen.{find-passes}
+use Rattle.newt_laws_world.proofs.Settled.{three-equal}
+use Rattle.newt_cursor.specs.Desk.{keyed, with_key}
+use Rattle.newt_keys.specs.KeyForm.{IsKeyOf}
+use Rattle.newt_engine_cursors.specs.Fits.{DeskFits, KeyFits, PlaceFits}
+use Rattle.newt_engine_cursors.specs.Keyed.{key_now}
+
+-- ---- one place
+
+pub change-one : (f g : Cursor → Cursor) (xs : List (Option Cursor)) (c : ℕ) → ((k : Cursor) → flat (slice_get xs c) ≡ Some k → f k ≡ g k) → change_at c f xs ≡ change_at c g xs
+change-one f g [] c h = refl
+change-one f g (x ∷ xs) zero h = ap (λ (y : Option Cursor). y ∷ xs) (go x h)
+  where
+    go : (x : Option Cursor) → ((k : Cursor) → x ≡ Some k → f k ≡ g k) → option_map f x ≡ option_map g x
+    go None h = refl
+    go (Some k) h = ap Some (h k refl)
+change-one f g (x ∷ xs) (suc c) h = ap (λ (ys : List (Option Cursor)). x ∷ ys) (change-one f g xs c h)
+
+pub change-none : (f : Cursor → Cursor) (xs : List (Option Cursor)) (c : ℕ) → ((k : Cursor) → flat (slice_get xs c) ≡ Some k → f k ≡ k) → change_at c f xs ≡ xs
+change-none f [] c h = refl
+change-none f (x ∷ xs) zero h = ap (λ (y : Option Cursor). y ∷ xs) (go x h)
+  where
+    go : (x : Option Cursor) → ((k : Cursor) → x ≡ Some k → f k ≡ k) → option_map f x ≡ x
+    go None h = refl
+    go (Some k) h = ap Some (h k refl)
+change-none f (x ∷ xs) (suc c) h = ap (λ (ys : List (Option Cursor)). x ∷ ys) (change-none f xs c h)
+
+change-length : (f : Cursor → Cursor) (xs : List (Option Cursor)) (c : ℕ) → length (change_at c f xs) ≡ length xs
+change-length f [] c = refl
+change-length f (x ∷ xs) zero = refl
+change-length f (x ∷ xs) (suc c) = ap suc (change-length f xs c)
+
+change-each : (P : Option Cursor → Type 0) (f : Cursor → Cursor) (xs : List (Option Cursor)) (c : ℕ) → Each P xs → ((k : Cursor) → flat (slice_get xs c) ≡ Some k → P (Some (f k)))
+    → Each P (change_at c f xs)
+change-each P f [] c e h = tt
+change-each P f (x ∷ xs) zero e h = (go x e.0 h, e.1)
+  where
+    go : (x : Option Cursor) → P x → ((k : Cursor) → x ≡ Some k → P (Some (f k))) → P (option_map f x)
+    go None p h = p
+    go (Some k) p h = h k refl
+change-each P f (x ∷ xs) (suc c) e h = (e.0, change-each P f xs c e.1 h)
+
+pub change-fits : (f : Cursor → Cursor) (xs : List (Option Cursor)) (c : ℕ) → DeskFits xs → ((k : Cursor) → flat (slice_get xs c) ≡ Some k → KeyFits (Some (f k)))
+    → DeskFits (change_at c f xs)
+change-fits f xs c d h = record { places = change-length f xs c ∙ d.places; keys = change-each KeyFits f xs c d.keys h }
+
+-- ---- the present key
+
+settled-none : (hs : List Hit) (place : Place) → option_map (λ (h : Hit). h.key) (hit_at hs place) ≡ None → settled hs place ≡ place
+settled-none hs place e = go (hit_at hs place) refl e
+  where
+    go : (o : Option Hit) → hit_at hs place ≡ o → option_map (λ (h : Hit). h.key) o ≡ None → settled hs place ≡ place
+    go None i e = ap (λ (o : Option Hit). unwrap_or (option_map on o) place) i
+    go (Some h) i e = absurd (none-some h.key (sym e))
+
+settled-some : (hs : List Hit) (place : Place) (key : Key) → option_map (λ (h : Hit). h.key) (hit_at hs place) ≡ Some key → settled hs place ≡ with_key key place
+settled-some hs start key e = absurd (none-some key e)
+settled-some hs finish key e = absurd (none-some key e)
+settled-some hs (on at) key e = go (find (same_identity at) hs) refl e
+  where
+    go : (o : Option Hit) → find (same_identity at) hs ≡ o → option_map (λ (h : Hit). h.key) o ≡ Some key → unwrap_or (option_map on (find (same_identity at) hs)) (on at) ≡ on (record at { key = key })
+    go None i e = absurd (none-some key e)
+    go (Some h) i e =
+        let same = three-equal at h (find-passes (same_identity at) hs h i).0 in
+        ap (λ (o : Option Hit). unwrap_or (option_map on o) (on at)) i
+        ∙ (λ i. on (record { key = some-same h.key key e i; store = sym same.0 i; soup = sym same.1 i; uid = sym same.2 i }))
+
+pub no-key : (w : World) (k : Cursor) → key_now w k ≡ None → settle_cursor w k ≡ k
+no-key w k e = ap {A = Place} {B = Cursor} (λ p. record k { place = p }) (settled-none (hits_of w k.query) k.place e)
+
+pub one-key : (w : World) (k : Cursor) (key : Key) → key_now w k ≡ Some key → settle_cursor w k ≡ keyed key k
+one-key w k key e = ap {A = Place} {B = Cursor} (λ p. record k { place = p }) (settled-some (hits_of w k.query) k.place key e)
+
+-- a place that takes a key of the index
+pub keyed-fits : (k : Cursor) (key : Key) → IsKeyOf k.query.spec.index key → KeyFits (Some (keyed key k))
+keyed-fits k key h = go k.place
+  where
+    go : (p : Place) → PlaceFits k.query.spec.index (with_key key p)
+    go start = tt
+    go finish = tt
+    go (on at) = h
+
+-- ---- one place after another
+
+-- the first so many places changed
+pub below : ℕ → (Cursor → Cursor) → List (Option Cursor) → List (Option Cursor)
+below zero f xs = xs
+below (suc n) f [] = []
+below (suc n) f (x ∷ xs) = option_map f x ∷ below n f xs
+
+pub below-none : (f : Cursor → Cursor) (xs : List (Option Cursor)) → below 0 f xs ≡ xs
+unfolding below
+below-none f xs = refl
+
+below-suc : (n : ℕ) (f : Cursor → Cursor) (xs : List (Option Cursor)) → change_at n f (below n f xs) ≡ below (suc n) f xs
+unfolding below
+below-suc zero f [] = refl
+below-suc zero f (x ∷ xs) = refl
+below-suc (suc n) f [] = refl
+below-suc (suc n) f (x ∷ xs) = ap (λ (ys : List (Option Cursor)). option_map f x ∷ ys) (below-suc n f xs)
+
+pub below-more : (n : ℕ) (f : Cursor → Cursor) (xs ys : List (Option Cursor)) → ys ≡ below n f xs → change_at n f ys ≡ below (n + 1) f xs
+below-more n f xs ys e = ap (change_at n f) e ∙ below-suc n f xs ∙ ap (λ m. below m f xs) (sym (add-one n))
+
+pub below-all : (n : ℕ) (f : Cursor → Cursor) (xs : List (Option Cursor)) → length xs ≤ n → below n f xs ≡ map (option_map f) xs
+unfolding below
+below-all zero f [] h = refl
+below-all zero f (x ∷ xs) h = absurd (omega (arith, h))
+below-all (suc n) f [] h = refl
+below-all (suc n) f (x ∷ xs) h = ap (λ (ys : List (Option Cursor)). option_map f x ∷ ys) (below-all n f xs (omega (arith, h)))

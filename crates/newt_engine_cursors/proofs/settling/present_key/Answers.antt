@@ -1,0 +1,30 @@
+-- The key of the hit.
+use Rattle.std.proofs.Common.{◌∙◌, ap, sym, subst, option_map, true}
+use Rattle.newt_cursor.specs.Seen.{query_of}
+use Rattle.newt_engine_units.specs.Stands.{Stands, Eight, world_of}
+use Rattle.newt_engine_units.proofs.Known.{Laws}
+use Rattle.newt_index.specs.Spots.{spot_hit}
+use Rattle.newt_engine_cursors.specs.Present.{present_of}
+use Rattle.newt_engine_cursors.proofs.Standing.{key-present}
+use Rattle.newt_engine_cursors.proofs.Stores.{stores-formed}
+use Rattle.newt_engine_cursors.proofs.settling.present_key.Goals as goal
+
+pub returns-in-Some-2-clause-found : goal.returns-in-Some-2-clause-found
+returns-in-Some-2-clause-found g c t apart =
+    let laws : Laws g.C.Card.reads g.C.Card.place g.C.Card.soups g.C.Card.stands = record { formed = g.met.C.Card.formed; plain = g.met.C.Card.plain; durable = g.met.C.Card.durable; banks = g.met.C.Card.banks; kept = g.met.C.Card.kept } in
+    let o = g.H.Host.outside c.args.host.now in
+    let eight : Eight (g.H.Host.outside c.args.host.now) = record { eight = g.met.H.Host.eight c.args.host.now; none = g.met.H.Host.none c.args.host.now } in
+    let stand : Stands g.C.Card.place g.C.Card.stands true c.args.units.now o = subst (λ b. Stands g.C.Card.place g.C.Card.stands b c.args.units.now o) t c.requires in
+    let w = world_of g.C.Card.reads c.args.units.now o in
+    let r = ap (option_map present_of) (sym c.in-Some-2.is) ∙ c.in_ok-present.ensures.found t apart in
+    key-present w apart (stores-formed laws c.args.units.now o eight stand) _ (query_of c.in-Some.query.now) (spot_hit c.in-Some.spot.now) c.in-Some.ensures _ r
+
+pub returns-in-None-clause-found : goal.returns-in-None-clause-found
+returns-in-None-clause-found g c t apart =
+    let laws : Laws g.C.Card.reads g.C.Card.place g.C.Card.soups g.C.Card.stands = record { formed = g.met.C.Card.formed; plain = g.met.C.Card.plain; durable = g.met.C.Card.durable; banks = g.met.C.Card.banks; kept = g.met.C.Card.kept } in
+    let o = g.H.Host.outside c.args.host.now in
+    let eight : Eight (g.H.Host.outside c.args.host.now) = record { eight = g.met.H.Host.eight c.args.host.now; none = g.met.H.Host.none c.args.host.now } in
+    let stand : Stands g.C.Card.place g.C.Card.stands true c.args.units.now o = subst (λ b. Stands g.C.Card.place g.C.Card.stands b c.args.units.now o) t c.requires in
+    let w = world_of g.C.Card.reads c.args.units.now o in
+    let r = ap (option_map present_of) (sym c.in-None.is) ∙ c.in_ok-present.ensures.found t apart in
+    key-present w apart (stores-formed laws c.args.units.now o eight stand) _ (query_of c.in-Some.query.now) (spot_hit c.in-Some.spot.now) c.in-Some.ensures _ r

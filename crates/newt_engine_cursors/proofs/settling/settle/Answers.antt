@@ -1,0 +1,58 @@
+-- One place after another.
+use Rattle.std.proofs.Common.{arith, ◌∙◌, ap, sym, subst, List, Option, ◌≤◌, length}
+use Rattle.std.proofs.lemmas.Result.{err_from_is_err_and}
+use Rattle.newt_spec_query.specs.Cursor.{Cursor}
+use Rattle.newt_spec_world.specs.World.{World, change_at, settle_cursor}
+use Rattle.newt_laws_world.specs.Settled.{MountedApart}
+use Rattle.newt_laws_cursors.specs.Cursors.{with_cursors}
+use Rattle.newt_engine_units.specs.Stands.{world_of}
+use Rattle.newt_engine_cursors.proofs.Cursors.{below-none, below-more, below-all}
+use Rattle.newt_engine_cursors.proofs.Reading.{not-read, read-then, cause-since, handed}
+use Rattle.newt_engine_cursors.proofs.settling.settle.Goals as goal
+
+pub loop-cursor-init : goal.loop-cursor-init
+loop-cursor-init g c = record {
+  read = not-read c.requires.stands;
+  desk = c.requires.desk;
+  settled = λ t apart. sym (below-none _ c.args.desk.now);
+}
+
+pub settle_one-requires-clause-stands : goal.settle_one-requires-clause-stands
+settle_one-requires-clause-stands g c = c.loop-cursor.invariant.read.stand
+
+pub settle_one-requires-clause-desk : goal.settle_one-requires-clause-desk
+settle_one-requires-clause-desk g c = c.loop-cursor.invariant.desk
+
+pub returns-in_err-settle_one-clause-read : goal.returns-in_err-settle_one-clause-read
+returns-in_err-settle_one-clause-read g c = read-then c.loop-cursor.invariant.read c.settle_one.ensures.read
+
+pub returns-in_err-settle_one-clause-cause : goal.returns-in_err-settle_one-clause-cause
+returns-in_err-settle_one-clause-cause g c =
+    handed _ _ _ (cause-since _ _ _ _ c.loop-cursor.invariant.read.alone c.in_err-settle_one.ensures.cause) c.from_residual.result (err_from_is_err_and c.from_residual.result c.from_residual.ensures.1)
+
+pub loop-cursor-preserved : goal.loop-cursor-preserved
+loop-cursor-preserved g c = record {
+  read = read-then c.loop-cursor.invariant.read c.settle_one.ensures.read;
+  desk = c.settle_one.ensures.desk;
+  settled = λ t apart.
+      let w = world_of g.C.Card.reads c.args.units.now (g.H.Host.outside c.args.host.now) in
+      let same = c.loop-cursor.invariant.read.world t in
+      c.in_ok-settle_one.ensures.settled t (subst MountedApart (sym same) apart)
+      ∙ ap (λ (v : World). change_at c.loop-cursor.cursor (settle_cursor v) c.loop-cursor.desk) same
+      ∙ below-more c.loop-cursor.cursor (settle_cursor w) c.args.desk.now c.loop-cursor.desk (c.loop-cursor.invariant.settled t apart);
+}
+
+pub returns-clause-read : goal.returns-clause-read
+returns-clause-read g c = c.loop-cursor.invariant.read
+
+pub returns-clause-desk : goal.returns-clause-desk
+returns-clause-desk g c = c.loop-cursor.invariant.desk
+
+pub returns-clause-settled : goal.returns-clause-settled
+returns-clause-settled g c t apart =
+    let w = world_of g.C.Card.reads c.args.units.now (g.H.Host.outside c.args.host.now) in
+    let test = c.loop-cursor-test.false in
+    let places = c.requires.desk.places in
+    let all : length c.args.desk.now ≤ c.loop-cursor.cursor = omega (arith, test, places) in
+    ap (λ (v : World). with_cursors c.loop-cursor.desk v) (c.loop-cursor.invariant.read.world t)
+    ∙ ap (λ (ks : List (Option Cursor)). with_cursors ks w) (c.loop-cursor.invariant.settled t apart ∙ below-all c.loop-cursor.cursor (settle_cursor w) c.args.desk.now all)

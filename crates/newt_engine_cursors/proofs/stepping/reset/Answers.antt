@@ -1,0 +1,6 @@
+-- The command steps so.
+use Rattle.newt_engine_cursors.proofs.Answering.{steered-answers, reset-steps}
+use Rattle.newt_engine_cursors.proofs.stepping.reset.Goals as goal
+
+pub returns-clause-answered : goal.returns-clause-answered
+returns-clause-answered g c t apart = steered-answers _ _ _ _ _ (reset-steps c.args.cursor) c.steer.result (c.steer.ensures.steered t apart)

@@ -1,0 +1,35 @@
+-- How a cursor is moved. All of it is this project's own.
+use Rattle.std.specs.Prelude.{◌≡◌, ℕ, true, false, is_none, Result, Ok, Err}
+use Rattle.newt_base.specs.declared.Refusal.TheVariants.{Cursor as NoCursor}
+use Rattle.newt_spec_store.specs.Keys.{IndexSpec}
+use Rattle.newt_spec_query.specs.Cursor.{moved, place_at_key}
+use Rattle.newt_spec_world.specs.Answer.{current, or_nil}
+use Rattle.newt_spec_world.specs.Changed.{Step, stepped}
+use Rattle.newt_spec_world.specs.World.{World, cursor, settle}
+use Rattle.newt_keys.specs.KeyForm.{IsKeyOf}
+use Rattle.newt_engine_card.specs.declared.fault.Fault.{Fault}
+use Rattle.newt_engine_card.specs.declared.fault.Fault.TheVariants.{Refused, Stop}
+use Rattle.newt_engine_cursors.specs.declared.show.Shown.{Shown}
+use Rattle.newt_engine_cursors.specs.declared.stepping.Motion.{Motion}
+use Rattle.newt_engine_cursors.specs.declared.stepping.Motion.TheVariants as motion
+use Rattle.newt_engine_cursors.specs.Replies.{shown_reply}
+use Rattle.newt_engine_cursors.specs.Ways.{outermost, stepping}
+
+-- how a cursor steps that is moved so (a word of these definitions)
+abbrev pub step_of : Motion → Step
+step_of (motion.Step way) hs index place = stepping way hs index place
+step_of (motion.Leap way) hs index place = outermost way hs
+step_of (motion.By n) hs index place = moved n hs index place
+step_of (motion.Key key) hs index place = place_at_key hs index key
+
+-- a key that is moved to is one of the declaration (this project's own)
+abbrev pub MotionFits : IndexSpec → Motion → Type 0
+MotionFits index (motion.Key key) = IsKeyOf index key
+MotionFits index _ = Unit {0}
+
+-- A cursor of the world w that is open is stepped, all are settled, which makes the world v, and it is shown. One that is not open is refused, and nothing has
+-- changed. (this project's own)
+abbrev pub Steers : World → World → ℕ → Step → Result Shown Fault → Type 0
+Steers w v n step (Ok shown) = (is_none (cursor w n) ≡ false) × (v ≡ settle (stepped w n step)) × (shown_reply shown ≡ or_nil (current v) (cursor v n))
+Steers w v n step (Err (Refused refusal)) = (is_none (cursor w n) ≡ true) × (refusal ≡ NoCursor) × (v ≡ w)
+Steers w v n step (Err (Stop stop)) = Unit {0}

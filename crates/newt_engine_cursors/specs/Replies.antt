@@ -1,0 +1,36 @@
+-- What the commands of cursors answer.
+use Rattle.std.specs.Prelude.{◌≡◌, Result, Ok, Err}
+use Rattle.newt_spec_world.specs.declared.command.Command.{Command}
+use Rattle.newt_spec_world.specs.Reply.{Reply}
+use Rattle.newt_spec_world.specs.World.{World}
+use Rattle.newt_spec_world.specs.Answer.{answer}
+use Rattle.newt_spec_query.specs.Cursor.{Place, start, finish, on}
+use Rattle.newt_engine_card.specs.declared.fault.Fault.{Fault}
+use Rattle.newt_engine_card.specs.declared.fault.Fault.TheVariants.{Refused, Stop}
+use Rattle.newt_engine_cursors.specs.declared.show.Shown.{Shown}
+use Rattle.newt_engine_cursors.specs.declared.show.Shown.TheVariants.{Nil, Deleted, Entry}
+use Rattle.newt_engine_cursors.specs.declared.show.Side.{Side}
+use Rattle.newt_engine_cursors.specs.declared.show.Side.TheVariants as at
+
+-- A command on the world w answers what is defined of it, and makes the world v. The reply to a command that is done is made of what is answered.
+-- (a word of these definitions)
+abbrev pub Answers : {T : Type 0} → World → World → Command → (T → Reply) → Result T Fault → Type 0
+Answers w v c reply (Ok value) = answer w c ≡ (v, reply value)
+Answers w v c reply (Err (Refused refusal)) = answer w c ≡ (v, Reply.refused refusal)
+Answers w v c reply (Err (Stop stop)) = Unit {0}
+
+-- the reply that shows where a cursor stands (a word of these definitions)
+abbrev pub shown_reply : Shown → Reply
+shown_reply Nil = Reply.nil
+shown_reply Deleted = Reply.deleted
+shown_reply (Entry unit e) = Reply.current unit e.uid e.time e.graph
+
+-- the reply that names the side of the hits (a word of these definitions)
+abbrev pub side_reply : Side → Reply
+side_reply at.Begin = Reply.begin
+side_reply at.End = Reply.«end»
+side_reply at.Nil = Reply.nil
+
+-- the reply that names the side on which a place is (this project's own)
+abbrev pub side_at : Place → Reply
+side_at p = elim p [ start ↦ Reply.begin | finish ↦ Reply.«end» | on _ ↦ Reply.nil ]

@@ -1,0 +1,173 @@
+//! The commands that show, count, clone and close a cursor. Where the number is of no open cursor, each is refused as `Cursor`.
+ghost use Rattle.std.specs.Prelude.{◌≡◌, IsTrue, IfErr, IfOk, OnOk, slice_get};
+ghost use Rattle.newt_pagebook.specs.Stops.{HasStopCause};
+ghost use Rattle.newt_cursor.specs.Seen.{place_of};
+ghost use Rattle.newt_spec_world.specs.Answer.{current, or_nil};
+ghost use Rattle.newt_spec_world.specs.Reply.{Reply};
+ghost use Rattle.newt_spec_world.specs.World.{flat, settle};
+ghost use Rattle.newt_spec_world.specs.declared.command.Command.{Command};
+ghost use Rattle.newt_laws_world.specs.Settled.{MountedApart};
+ghost use Rattle.newt_engine_card.specs.Faults.{HasFaultCause};
+ghost use Rattle.newt_engine_units.specs.Stands.{Stands};
+ghost use Rattle.newt_engine_cursors.specs.Fits.{DeskFits};
+ghost use Rattle.newt_engine_cursors.specs.Replies.{Answers, shown_reply, side_at, side_reply};
+ghost use Rattle.newt_engine_cursors.specs.World.{AreRead, world_with};
+
+use crate::counting::count_hits;
+use crate::settling::settle;
+use crate::show::{Shown, Side, show};
+use newt_base::Refusal;
+use newt_cursor::{Desk, DeskFault, Place};
+use newt_engine_card::{Card, Fault};
+use newt_engine_units::Units;
+use newt_host::Host;
+use newt_pagebook::Stop;
+
+/// Shows a cursor.
+pub fn entry<C: Card, H: Host>(
+    units: &mut Units<C>,
+    desk: &mut Desk,
+    host: &mut H,
+    cursor: u8,
+) -> Result<Shown, Fault>
+    requires stands { Stands C.place C.stands H.told units.old (H.outside host.old) }
+    requires desk { DeskFits desk.old }
+    ensures read { AreRead C.reads C.place C.stands H.told units.old units.new (H.outside host.old) (H.outside host.new) }
+    ensures desk { DeskFits desk.new }
+    ensures answered { IsTrue H.told → let w = world_with C.reads units.old desk.old (H.outside host.old) in MountedApart w →
+        Answers w (world_with C.reads units.new desk.new (H.outside host.new)) (Command.Entry cursor) shown_reply result }
+    ensures cause { IfErr result (λ fault. HasFaultCause fault (H.outside host.old) (H.outside host.new)) }
+{
+    if desk.place(cursor).is_none() {
+        return Err(Fault::Refused(Refusal::Cursor));
+    }
+    Ok(settle_and_show(units, desk, host, cursor)?)
+}
+
+/// The number of the hits of a cursor's query.
+pub fn count<C: Card, H: Host>(
+    units: &mut Units<C>,
+    desk: &mut Desk,
+    host: &mut H,
+    cursor: u8,
+) -> Result<u32, Fault>
+    requires stands { Stands C.place C.stands H.told units.old (H.outside host.old) }
+    requires desk { DeskFits desk.old }
+    ensures read { AreRead C.reads C.place C.stands H.told units.old units.new (H.outside host.old) (H.outside host.new) }
+    ensures desk { DeskFits desk.new }
+    ensures answered { IsTrue H.told → let w = world_with C.reads units.old desk.old (H.outside host.old) in MountedApart w →
+        Answers w (world_with C.reads units.new desk.new (H.outside host.new)) (Command.Count cursor) (λ n. Reply.number n) result }
+    ensures cause { IfErr result (λ fault. HasFaultCause fault (H.outside host.old) (H.outside host.new)) }
+{
+    let Some(query) = desk.query(cursor) else {
+        return Err(Fault::Refused(Refusal::Cursor));
+    };
+    let count = count_hits(units, host, query)?;
+    settle(units, desk, host)?;
+    Ok(count)
+}
+
+/// The side of the hits on which a cursor stands.
+pub fn which<C: Card, H: Host>(
+    units: &mut Units<C>,
+    desk: &mut Desk,
+    host: &mut H,
+    cursor: u8,
+) -> Result<Side, Fault>
+    requires stands { Stands C.place C.stands H.told units.old (H.outside host.old) }
+    requires desk { DeskFits desk.old }
+    ensures read { AreRead C.reads C.place C.stands H.told units.old units.new (H.outside host.old) (H.outside host.new) }
+    ensures desk { DeskFits desk.new }
+    ensures answered { IsTrue H.told → let w = world_with C.reads units.old desk.old (H.outside host.old) in MountedApart w →
+        Answers w (world_with C.reads units.new desk.new (H.outside host.new)) (Command.Which cursor) side_reply result }
+    ensures cause { IfErr result (λ fault. HasFaultCause fault (H.outside host.old) (H.outside host.new)) }
+{
+    let Some(place) = desk.place(cursor) else {
+        return Err(Fault::Refused(Refusal::Cursor));
+    };
+    let side = side_of(place);
+    settle(units, desk, host)?;
+    Ok(side)
+}
+
+/// Opens another cursor with the same query and place, and answers its number, from 0 to 31. Where all 32 places are taken it is refused as `Limit`.
+pub fn clone_of<C: Card, H: Host>(
+    units: &mut Units<C>,
+    desk: &mut Desk,
+    host: &mut H,
+    cursor: u8,
+) -> Result<u8, Fault>
+    requires stands { Stands C.place C.stands H.told units.old (H.outside host.old) }
+    requires desk { DeskFits desk.old }
+    ensures read { AreRead C.reads C.place C.stands H.told units.old units.new (H.outside host.old) (H.outside host.new) }
+    ensures desk { DeskFits desk.new }
+    ensures answered { IsTrue H.told → let w = world_with C.reads units.old desk.old (H.outside host.old) in MountedApart w →
+        Answers w (world_with C.reads units.new desk.new (H.outside host.new)) (Command.Clone cursor) (λ n. Reply.number n) result }
+    ensures cause { IfErr result (λ fault. HasFaultCause fault (H.outside host.old) (H.outside host.new)) }
+{
+    if desk.query(cursor).is_none() {
+        return Err(Fault::Refused(Refusal::Cursor));
+    }
+    match desk.clone_of(cursor) {
+        Ok(clone) => {
+            settle(units, desk, host)?;
+            Ok(clone)
+        }
+        Err(DeskFault::Limit) => Err(Fault::Refused(Refusal::Limit)),
+        Err(DeskFault::Memory) => Err(Fault::Stop(Stop::Memory)),
+    }
+}
+
+/// Closes a cursor.
+pub fn close<C: Card, H: Host>(
+    units: &mut Units<C>,
+    desk: &mut Desk,
+    host: &mut H,
+    cursor: u8,
+) -> Result<(), Fault>
+    requires stands { Stands C.place C.stands H.told units.old (H.outside host.old) }
+    requires desk { DeskFits desk.old }
+    ensures read { AreRead C.reads C.place C.stands H.told units.old units.new (H.outside host.old) (H.outside host.new) }
+    ensures desk { DeskFits desk.new }
+    ensures answered { IsTrue H.told → let w = world_with C.reads units.old desk.old (H.outside host.old) in MountedApart w →
+        Answers w (world_with C.reads units.new desk.new (H.outside host.new)) (Command.Close cursor) (λ _. Reply.done) result }
+    ensures cause { IfErr result (λ fault. HasFaultCause fault (H.outside host.old) (H.outside host.new)) }
+{
+    if desk.query(cursor).is_none() {
+        return Err(Fault::Refused(Refusal::Cursor));
+    }
+    desk.close(cursor);
+    Ok(settle(units, desk, host)?)
+}
+
+/// Settles all cursors and shows one.
+pub(crate) fn settle_and_show<C: Card, H: Host>(
+    units: &mut Units<C>,
+    desk: &mut Desk,
+    host: &mut H,
+    cursor: u8,
+) -> Result<Shown, Stop>
+    requires stands { Stands C.place C.stands H.told units.old (H.outside host.old) }
+    requires desk { DeskFits desk.old }
+    ensures read { AreRead C.reads C.place C.stands H.told units.old units.new (H.outside host.old) (H.outside host.new) }
+    ensures desk { DeskFits desk.new }
+    ensures settled { IsTrue H.told → let w = world_with C.reads units.old desk.old (H.outside host.old) in MountedApart w →
+        OnOk result (world_with C.reads units.new desk.new (H.outside host.new) ≡ settle w) }
+    ensures shown { IsTrue H.told → let w = world_with C.reads units.old desk.old (H.outside host.old) in let v = settle w in MountedApart w →
+        IfOk result (λ shown. shown_reply shown ≡ or_nil (current v) (flat (slice_get v.cursors cursor))) }
+    ensures cause { IfErr result (λ stop. HasStopCause stop (H.outside host.old) (H.outside host.new)) }
+{
+    settle(units, desk, host)?;
+    show(units, desk, host, cursor)
+}
+
+/// The side of the hits on which a place is.
+fn side_of(place: &Place) -> Side
+    ensures { side_reply result ≡ side_at (place_of place.now) }
+{
+    match place {
+        Place::Start => Side::Begin,
+        Place::Finish => Side::End,
+        Place::On(_) => Side::Nil,
+    }
+}

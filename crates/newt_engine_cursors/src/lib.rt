@@ -1,0 +1,31 @@
+//! The commands of cursors over the mounted stores.
+//!
+//! It stands on `newt_engine_units` for the stores, on `newt_cursor` for the 32 places of cursors, on `newt_union` for searches of the merged ranges, and on
+//! `newt_query_filter` for what a query keeps. The promise that it carries: units, cursors and devices stand for one world; each command of cursors is answered
+//! as that world answers it, and leaves what stands for the world after it; and nothing happens to a device but reading.
+//!
+//! Each call answers `Fault::Refused` with the refusal that its command is answered with, and then neither the stores nor the cursors have changed; or
+//! `Fault::Stop` where memory was refused or a device failed.
+#![tactic(auto)]
+
+mod asking;
+mod commands;
+mod counting;
+mod declared;
+mod desks;
+mod keep;
+mod opening;
+mod places;
+mod present;
+mod search;
+mod settling;
+mod show;
+mod stepping;
+mod walk;
+mod ways;
+
+pub use commands::{clone_of, close, count, entry, which};
+pub use opening::{query, query_all};
+pub use settling::settle;
+pub use show::{Shown, Side};
+pub use stepping::{end, go_to, go_to_key, moveby, next, prev, reset};

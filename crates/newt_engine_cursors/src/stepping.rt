@@ -1,0 +1,331 @@
+//! The commands that move a cursor. Where the number is of no open cursor, each is refused as `Cursor`.
+ghost use Rattle.std.specs.Prelude.{◌≡◌, true, IsTrue, Some, IfErr, IfOk, IfSome, OnOk, option_map, slice_get};
+ghost use Rattle.newt_host.specs.Outside.{Outside};
+ghost use Rattle.newt_pagebook.specs.Stops.{HasStopCause};
+ghost use Rattle.newt_keys.specs.KeyForm.{IsKeyOf};
+ghost use Rattle.newt_cursor.specs.Seen.{place_of, query_of};
+ghost use Rattle.newt_spec_store.specs.Store.{soup_named};
+ghost use Rattle.newt_spec_query.specs.Cursor.{Cursor};
+ghost use Rattle.newt_spec_world.specs.Answer.{current, or_nil};
+ghost use Rattle.newt_spec_world.specs.Changed.{hit_for, key_from, sig_of};
+ghost use Rattle.newt_spec_world.specs.World.{cursor, flat, hits_of, set_place, settle, soup_in};
+ghost use Rattle.newt_spec_world.specs.declared.command.Command.TheVariants as Command;
+ghost use Rattle.newt_laws_world.specs.Settled.{MountedApart};
+ghost use Rattle.newt_engine_card.specs.Faults.{HasFaultCause};
+ghost use Rattle.newt_engine_units.specs.Stands.{Eight, Stands, world_of};
+ghost use Rattle.newt_index.specs.Spots.{spot_hit};
+ghost use Rattle.newt_engine_cursors.specs.Fits.{DeskFits, PlaceFits};
+ghost use Rattle.newt_engine_cursors.specs.Motions.{MotionFits, Steers, step_of};
+ghost use Rattle.newt_engine_cursors.specs.Replies.{Answers, shown_reply};
+ghost use Rattle.newt_engine_cursors.specs.World.{AreRead, world_with};
+
+use crate::commands::settle_and_show;
+use crate::desks::open_cursor;
+use crate::places;
+use crate::present::find_hit;
+use crate::show::Shown;
+use crate::ways::Way;
+use newt_base::{Name, Refusal, Sig, Uid};
+use newt_cursor::{Desk, Place, Query};
+use newt_engine_card::{Card, Fault};
+use newt_engine_units::Units;
+use newt_graph::Graph;
+use newt_host::{Host, Unit};
+use newt_index::Spot;
+use newt_keys::{Key, key_from};
+use newt_pagebook::Stop;
+use std::alloc::{AllocError, Global};
+
+/// How a cursor is moved.
+#[derive(Drop)]
+enum Motion {
+    /// One step on a way.
+    Step(Way),
+    /// To the hit that a way meets first.
+    Leap(Way),
+    /// So many steps on, or back where the number is below zero.
+    By(i32),
+    /// To the first hit whose key is not before this one.
+    Key(Key),
+}
+
+/// Moves a cursor on to the next hit, or behind all.
+pub fn next<C: Card, H: Host>(
+    units: &mut Units<C>,
+    desk: &mut Desk,
+    host: &mut H,
+    cursor: u8,
+) -> Result<Shown, Fault>
+    requires stands { Stands C.place C.stands H.told units.old (H.outside host.old) }
+    requires desk { DeskFits desk.old }
+    ensures read { AreRead C.reads C.place C.stands H.told units.old units.new (H.outside host.old) (H.outside host.new) }
+    ensures desk { DeskFits desk.new }
+    ensures answered { IsTrue H.told → let w = world_with C.reads units.old desk.old (H.outside host.old) in MountedApart w →
+        Answers w (world_with C.reads units.new desk.new (H.outside host.new)) (Command.Next cursor) shown_reply result }
+    ensures cause { IfErr result (λ fault. HasFaultCause fault (H.outside host.old) (H.outside host.new)) }
+{
+    steer(units, desk, host, cursor, Motion::Step(Way::On))
+}
+
+/// Moves a cursor back to the hit before, or before all.
+pub fn prev<C: Card, H: Host>(
+    units: &mut Units<C>,
+    desk: &mut Desk,
+    host: &mut H,
+    cursor: u8,
+) -> Result<Shown, Fault>
+    requires stands { Stands C.place C.stands H.told units.old (H.outside host.old) }
+    requires desk { DeskFits desk.old }
+    ensures read { AreRead C.reads C.place C.stands H.told units.old units.new (H.outside host.old) (H.outside host.new) }
+    ensures desk { DeskFits desk.new }
+    ensures answered { IsTrue H.told → let w = world_with C.reads units.old desk.old (H.outside host.old) in MountedApart w →
+        Answers w (world_with C.reads units.new desk.new (H.outside host.new)) (Command.Prev cursor) shown_reply result }
+    ensures cause { IfErr result (λ fault. HasFaultCause fault (H.outside host.old) (H.outside host.new)) }
+{
+    steer(units, desk, host, cursor, Motion::Step(Way::Back))
+}
+
+/// Moves a cursor to the first hit, or behind all.
+pub fn reset<C: Card, H: Host>(
+    units: &mut Units<C>,
+    desk: &mut Desk,
+    host: &mut H,
+    cursor: u8,
+) -> Result<Shown, Fault>
+    requires stands { Stands C.place C.stands H.told units.old (H.outside host.old) }
+    requires desk { DeskFits desk.old }
+    ensures read { AreRead C.reads C.place C.stands H.told units.old units.new (H.outside host.old) (H.outside host.new) }
+    ensures desk { DeskFits desk.new }
+    ensures answered { IsTrue H.told → let w = world_with C.reads units.old desk.old (H.outside host.old) in MountedApart w →
+        Answers w (world_with C.reads units.new desk.new (H.outside host.new)) (Command.Reset cursor) shown_reply result }
+    ensures cause { IfErr result (λ fault. HasFaultCause fault (H.outside host.old) (H.outside host.new)) }
+{
+    steer(units, desk, host, cursor, Motion::Leap(Way::On))
+}
+
+/// Moves a cursor to the last hit, or before all.
+pub fn end<C: Card, H: Host>(
+    units: &mut Units<C>,
+    desk: &mut Desk,
+    host: &mut H,
+    cursor: u8,
+) -> Result<Shown, Fault>
+    requires stands { Stands C.place C.stands H.told units.old (H.outside host.old) }
+    requires desk { DeskFits desk.old }
+    ensures read { AreRead C.reads C.place C.stands H.told units.old units.new (H.outside host.old) (H.outside host.new) }
+    ensures desk { DeskFits desk.new }
+    ensures answered { IsTrue H.told → let w = world_with C.reads units.old desk.old (H.outside host.old) in MountedApart w →
+        Answers w (world_with C.reads units.new desk.new (H.outside host.new)) (Command.End cursor) shown_reply result }
+    ensures cause { IfErr result (λ fault. HasFaultCause fault (H.outside host.old) (H.outside host.new)) }
+{
+    steer(units, desk, host, cursor, Motion::Leap(Way::Back))
+}
+
+/// Moves a cursor by so many hits, back where the number is below zero.
+pub fn moveby<C: Card, H: Host>(
+    units: &mut Units<C>,
+    desk: &mut Desk,
+    host: &mut H,
+    cursor: u8,
+    by: i32,
+) -> Result<Shown, Fault>
+    requires stands { Stands C.place C.stands H.told units.old (H.outside host.old) }
+    requires desk { DeskFits desk.old }
+    ensures read { AreRead C.reads C.place C.stands H.told units.old units.new (H.outside host.old) (H.outside host.new) }
+    ensures desk { DeskFits desk.new }
+    ensures answered { IsTrue H.told → let w = world_with C.reads units.old desk.old (H.outside host.old) in MountedApart w →
+        Answers w (world_with C.reads units.new desk.new (H.outside host.new)) (Command.Moveby cursor by) shown_reply result }
+    ensures cause { IfErr result (λ fault. HasFaultCause fault (H.outside host.old) (H.outside host.new)) }
+{
+    steer(units, desk, host, cursor, Motion::By(by))
+}
+
+/// Moves a cursor to the first hit whose key is not before the one that a literal writes down, or behind all. Where the literal is no key of the query's
+/// index, or the query has none, it is refused as `Key`.
+pub fn go_to_key<C: Card, H: Host>(
+    units: &mut Units<C>,
+    desk: &mut Desk,
+    host: &mut H,
+    cursor: u8,
+    graph: &Graph,
+) -> Result<Shown, Fault>
+    requires stands { Stands C.place C.stands H.told units.old (H.outside host.old) }
+    requires desk { DeskFits desk.old }
+    ensures read { AreRead C.reads C.place C.stands H.told units.old units.new (H.outside host.old) (H.outside host.new) }
+    ensures desk { DeskFits desk.new }
+    ensures answered { IsTrue H.told → let w = world_with C.reads units.old desk.old (H.outside host.old) in MountedApart w →
+        Answers w (world_with C.reads units.new desk.new (H.outside host.new)) (Command.Gotokey cursor graph.now) shown_reply result }
+    ensures cause { IfErr result (λ fault. HasFaultCause fault (H.outside host.old) (H.outside host.new)) }
+{
+    let Some((query, _)) = open_cursor(desk, cursor) else {
+        return Err(Fault::Refused(Refusal::Cursor));
+    };
+    let Some(key) = key_given(units.alloc(), query, graph)? else {
+        return Err(Fault::Refused(Refusal::Key));
+    };
+    steer(units, desk, host, cursor, Motion::Key(key))
+}
+
+/// Moves a cursor to the hit of this id in the soup of its query's name on a unit. A unit that is none, or has no mounted store, is refused before the
+/// cursor is looked at; where the entry is no hit it is refused as `Entry`.
+pub fn go_to<C: Card, H: Host>(
+    units: &mut Units<C>,
+    desk: &mut Desk,
+    host: &mut H,
+    cursor: u8,
+    unit: Unit,
+    uid: Uid,
+) -> Result<Shown, Fault>
+    requires stands { Stands C.place C.stands H.told units.old (H.outside host.old) }
+    requires desk { DeskFits desk.old }
+    ensures read { AreRead C.reads C.place C.stands H.told units.old units.new (H.outside host.old) (H.outside host.new) }
+    ensures desk { DeskFits desk.new }
+    ensures answered { IsTrue H.told → let w = world_with C.reads units.old desk.old (H.outside host.old) in MountedApart w →
+        Answers w (world_with C.reads units.new desk.new (H.outside host.new)) (Command.Goto cursor unit uid) shown_reply result }
+    ensures cause { IfErr result (λ fault. HasFaultCause fault (H.outside host.old) (H.outside host.new)) }
+{
+    units.find_unit(unit)?;
+    let Some((query, _)) = open_cursor(desk, cursor) else {
+        return Err(Fault::Refused(Refusal::Cursor));
+    };
+    let Some(spot) = spot_on(units, host, query, unit, uid)? else {
+        return Err(Fault::Refused(Refusal::Entry));
+    };
+    Ok(move_to(units, desk, host, cursor, Place::On(spot))?)
+}
+
+/// Moves a cursor, settles all, and shows it. Only where it is not open is it refused.
+fn steer<C: Card, H: Host>(
+    units: &mut Units<C>,
+    desk: &mut Desk,
+    host: &mut H,
+    cursor: u8,
+    motion: Motion,
+) -> Result<Shown, Fault>
+    requires stands { Stands C.place C.stands H.told units.old (H.outside host.old) }
+    requires desk { DeskFits desk.old }
+    requires fits { (k : Cursor) → flat (slice_get desk.old cursor) ≡ Some k → MotionFits k.query.spec.index motion }
+    ensures read { AreRead C.reads C.place C.stands H.told units.old units.new (H.outside host.old) (H.outside host.new) }
+    ensures desk { DeskFits desk.new }
+    ensures steered { IsTrue H.told → let w = world_with C.reads units.old desk.old (H.outside host.old) in MountedApart w →
+        Steers w (world_with C.reads units.new desk.new (H.outside host.new)) cursor (step_of motion) result }
+    ensures cause { IfErr result (λ fault. HasFaultCause fault (H.outside host.old) (H.outside host.new)) }
+{
+    let Some((query, place)) = open_cursor(desk, cursor) else {
+        return Err(Fault::Refused(Refusal::Cursor));
+    };
+    let place = target(units, host, query, place, motion)?;
+    Ok(move_to(units, desk, host, cursor, place)?)
+}
+
+/// Where a cursor of a query comes to from a place.
+fn target<C: Card, H: Host>(
+    units: &mut Units<C>,
+    host: &mut H,
+    query: &Query,
+    place: &Place,
+    motion: Motion,
+) -> Result<Place, Stop>
+    requires stands { Stands C.place C.stands H.told units.old (H.outside host.old) }
+    requires fits { PlaceFits query.now.spec.index (place_of place.now) }
+    requires motion { MotionFits query.now.spec.index motion }
+    ensures read { AreRead C.reads C.place C.stands H.told units.old units.new (H.outside host.old) (H.outside host.new) }
+    ensures fits { IfOk result (λ place. PlaceFits query.now.spec.index (place_of place)) }
+    ensures place { IsTrue H.told → let w = world_of C.reads units.old (H.outside host.old) in let q = query_of query.now in MountedApart w →
+        IfOk result (λ next. place_of next ≡ step_of motion (hits_of w q) q.spec.index (place_of place.now)) }
+    ensures cause { IfErr result (λ stop. HasStopCause stop (H.outside host.old) (H.outside host.new)) }
+{
+    match motion {
+        Motion::Step(way) => places::step(units, host, query, way, place),
+        Motion::Leap(way) => places::outermost(units, host, query, way),
+        Motion::By(by) => {
+            let from = place.copy()?;
+            places::moved(units, host, query, by, from)
+        }
+        Motion::Key(key) => places::at_key(units, host, query, &key),
+    }
+}
+
+/// Puts a cursor at a place, settles all, and shows it.
+fn move_to<C: Card, H: Host>(
+    units: &mut Units<C>,
+    desk: &mut Desk,
+    host: &mut H,
+    cursor: u8,
+    place: Place,
+) -> Result<Shown, Stop>
+    requires stands { Stands C.place C.stands H.told units.old (H.outside host.old) }
+    requires desk { DeskFits desk.old }
+    requires fits { (k : Cursor) → flat (slice_get desk.old cursor) ≡ Some k → PlaceFits k.query.spec.index (place_of place) }
+    ensures read { AreRead C.reads C.place C.stands H.told units.old units.new (H.outside host.old) (H.outside host.new) }
+    ensures desk { DeskFits desk.new }
+    ensures settled { IsTrue H.told → let w = world_with C.reads units.old desk.old (H.outside host.old) in MountedApart w →
+        OnOk result (world_with C.reads units.new desk.new (H.outside host.new) ≡ settle (set_place w cursor (place_of place))) }
+    ensures shown { IsTrue H.told → let w = world_with C.reads units.old desk.old (H.outside host.old) in let v = settle (set_place w cursor (place_of place)) in MountedApart w →
+        IfOk result (λ shown. shown_reply shown ≡ or_nil (current v) (flat (slice_get v.cursors cursor))) }
+    ensures cause { IfErr result (λ stop. HasStopCause stop (H.outside host.old) (H.outside host.new)) }
+{
+    desk.step(cursor, place);
+    settle_and_show(units, desk, host, cursor)
+}
+
+/// The key that a literal writes down, if it is one of the query's index.
+fn key_given(alloc: Global, query: &Query, graph: &Graph) -> Result<Option<Key>, AllocError>
+    ensures value { IfOk result (λ found. found ≡ key_from query.now.spec.index graph.now) }
+    ensures of_index { IfOk result (λ found. IfSome found (IsKeyOf query.now.spec.index)) }
+{
+    match query.spec.index() {
+        Some(index) => key_from(alloc, graph, graph.root(), index),
+        None => Ok(None),
+    }
+}
+
+/// The hit of this id in the soup of the query's name on a unit.
+fn spot_on<C: Card, H: Host>(
+    units: &mut Units<C>,
+    host: &mut H,
+    query: &Query,
+    unit: Unit,
+    uid: Uid,
+) -> Result<Option<Spot>, Stop>
+    requires { Stands C.place C.stands H.told units.old (H.outside host.old) }
+    ensures read { AreRead C.reads C.place C.stands H.told units.old units.new (H.outside host.old) (H.outside host.new) }
+    ensures key { IfOk result (λ found. IfSome found (λ spot. IsKeyOf query.now.spec.index spot.key)) }
+    ensures found { IsTrue H.told → let w = world_of C.reads units.old (H.outside host.old) in MountedApart w →
+        (k : Cursor) → k.query ≡ query_of query.now → IfOk result (λ found. option_map spot_hit found ≡ hit_for w unit uid k) }
+    ensures cause { IfErr result (λ stop. HasStopCause stop (H.outside host.old) (H.outside host.new)) }
+{
+    let Some((store, soup)) = soup_on(units, unit, &query.name) else {
+        return Ok(None);
+    };
+    match find_hit(units, host, query, store, soup, uid)? {
+        Some(found) => Ok(Some(Spot {
+            key: found.key,
+            store,
+            soup,
+            uid,
+        })),
+        None => Ok(None),
+    }
+}
+
+/// The signatures of the store that is mounted on a unit and of its soup of a name.
+fn soup_on<C: Card>(units: &Units<C>, unit: Unit, name: &Name) -> Option<(Sig, Sig)>
+    ensures { (outside : Outside) → Eight outside → Stands C.place C.stands true units.now outside → let w = world_of C.reads units.now outside in
+        result ≡ option_map (λ p. (sig_of w unit, p.sig)) (soup_in w unit name.now) }
+{
+    match units.card(unit) {
+        Some(card) => soup_of_card(card, name),
+        None => None,
+    }
+}
+
+/// The signatures of the store of a card and of its soup of a name.
+fn soup_of_card<C: Card>(card: &C, name: &Name) -> Option<(Sig, Sig)>
+    ensures { result ≡ option_map (λ n. ((C.soups card.now).sig, n)) (option_map (λ p. p.sig) (soup_named name.now (C.soups card.now))) }
+{
+    match card.soup_named(name) {
+        Some(soup) => Some((card.sig(), soup)),
+        None => None,
+    }
+}

@@ -1,0 +1,179 @@
+-- A call on the card of one unit.
+use Rattle.std.proofs.Common.{arith, ◌≡◌, refl, ap, sym, ◌∙◌, subst, ℕ, ◌<◌, ◌≤◌, List, ◌⊎◌, inl, inr, Bool, true, IsTrue, Option, Some, None, length, get_or}
+use Rattle.std.specs.Prelude.{Result, Ok, Err, OnOk, IfErr, slice_get, is_some}
+use Rattle.std.specs.Vec.{with_item}
+use Rattle.std.proofs.lemmas.Option.{slice_get_read, slice_get_within}
+use Rattle.newt_base.specs.Refusals.{Checks, first_of}
+use Rattle.newt_host.specs.Moments.{changes, image, Always, Leaves}
+use Rattle.newt_host.specs.Outside.{Outside, Touches, Rose, OnDevices}
+use Rattle.newt_pagebook.specs.Book.{IsOpenFor}
+use Rattle.newt_pagebook.specs.Stops.{StopsAt, HasStopCause}
+use Rattle.newt_pagebook.specs.declared.book.Stop.{Stop as Ends}
+use Rattle.newt_pagebook.specs.declared.book.Stop.TheVariants as stops
+use Rattle.newt_spec_graph.proofs.Lists.{both-ways}
+use Rattle.newt_laws_world.proofs.Units.{same-or-not}
+use Rattle.newt_spec_store.specs.Store.{Store}
+use Rattle.newt_spec_world.specs.World.{World, store_on_unit, change_store}
+use Rattle.newt_laws_answers.specs.Answering.{Answering}
+use Rattle.newt_laws_answers.specs.There.{OnUnit}
+use Rattle.newt_laws_answers.proofs.Worlds.{world-alike, device-stays}
+use Rattle.newt_laws_answers.proofs.Units.{is-there}
+use Rattle.newt_engine_card.specs.declared.fault.Fault.{Fault}
+use Rattle.newt_engine_card.specs.declared.fault.Fault.TheVariants.{Refused, Stop}
+use Rattle.newt_engine_card.specs.Bounds.{CostsOn, IsOpenOrSame, ProgramsAtMost}
+use Rattle.newt_engine_card.specs.Cards.{LeavesEither, OthersSame}
+use Rattle.newt_engine_card.specs.Faults.{Does, FaultsAt, GoesOn, HasFaultCause, IsRefused}
+use Rattle.newt_engine_units.specs.declared.units.Slot.{Slot}
+use Rattle.newt_engine_units.specs.declared.units.Units.{Units}
+use Rattle.newt_engine_units.specs.Stands.{card_of, mounted_in, world_of, Stands}
+use Rattle.newt_engine_units.proofs.Slots.{Replaced, stands-replaced, card-was, marks}
+use Rattle.newt_engine_units.specs.Stands.{Eight}
+use Rattle.newt_engine_units.proofs.Known.{Laws, on-known}
+use Rattle.newt_engine_units.proofs.Turns.{does-world, either-moments}
+
+-- the units with another card in the place n, where a slot was
+abbrev pub later : {C : Type 0} → Units C → ℕ → Slot C → C → Units C
+later units n slot next = record units { slots = with_item units.slots n (record { attached = slot.attached; card = Some next }) }
+
+-- A call on the card of unit u, which stands in the place n, from o to p. It left another card.
+pub record Called {C : Type 0} (place : C → ℕ) (told : Bool) (units : Units C) (u n : ℕ) (slot : Slot C) (card next : C) (o p : Outside) : Type 0 where
+  pub unit_is : u ≡ n
+  pub bound : n < length units.slots.items
+  pub value : slot ≡ get_or units.slots.items n slot
+  pub was : slot.card ≡ Some card
+  pub place_is : place next ≡ place card
+  pub touches : Touches (place card) o p
+
+pub replaced : {C : Type 0} {place : C → ℕ} {told : Bool} {units : Units C} {u n : ℕ} {slot : Slot C} {card next : C} {o p : Outside}
+    → Called place told units u n slot card next o p → Replaced units (later units n slot next) u card next
+replaced {C} {place} {told} {units} {u} {n} {slot} {card} {next} c = subst (λ k. Replaced units (later units n slot next) k card next) (sym c.unit_is) (record {
+  slot = slot;
+  at = slice_get_read units.slots.items (length units.slots.items) n slot refl c.bound c.value;
+  was = c.was;
+  is = refl;
+  default = refl;
+  minute = refl;
+})
+
+-- a unit with a card is one of the units
+pub mounted-bound : {C : Type 0} (slots : List (Slot C)) (u n : ℕ) → u ≡ n → mounted_in slots u ≡ true → n < length slots
+mounted-bound slots u n is h = subst (λ k. k < length slots) is (go (slice_get slots u) refl)
+  where
+    go : (x : Option (Slot _)) → slice_get slots u ≡ x → u < length slots
+    go None e = absurd (both-ways (sym (ap (λ x. is_some (card_of x)) e) ∙ h))
+    go (Some slot) e = slice_get_within slots u slot e
+
+-- where a card is mounted, it is there
+pub not-there : {C : Type 0} (slots : List (Slot C)) (u n : ℕ) (slot : Slot C) → u ≡ n → slot ≡ get_or slots n slot → mounted_in slots u ≡ true → slot.card ≡ None → ⊥
+not-there slots u n slot is value h none =
+    let at = slice_get_read slots (length slots) n slot refl (mounted-bound slots u n is h) value in
+    both-ways (sym (ap (mounted_in slots) is ∙ ap (λ x. is_some (card_of x)) at ∙ ap is_some none) ∙ h)
+
+-- why a call did not answer
+pub cause-of : {T : Type 0} (u : ℕ) (o p : Outside) (result : Result T Fault) → IfErr result (FaultsAt u o p) → IfErr result (λ fault. HasFaultCause fault o p)
+cause-of u o p (Ok x) h = h
+cause-of u o p (Err (Refused refusal)) h = tt
+cause-of u o p (Err (Stop stops.Memory)) h = tt
+cause-of u o p (Err (Stop (stops.Device at))) h = subst (λ k. Rose (o.dev_faults k) (p.dev_faults k)) (sym h.0) h.1
+
+pub stop-cause : {T : Type 0} (u : ℕ) (o p : Outside) (result : Result T Ends) → IfErr result (StopsAt u o p) → IfErr result (λ stop. HasStopCause stop o p)
+stop-cause u o p (Ok x) h = h
+stop-cause u o p (Err stops.Memory) h = tt
+stop-cause u o p (Err (stops.Device at)) h = subst (λ k. Rose (o.dev_faults k) (p.dev_faults k)) (sym h.0) h.1
+
+-- no device has fewer faults
+pub on-devices : {u : ℕ} {o p : Outside} → Touches u o p → OnDevices o p
+on-devices {u} {o} {p} t = record {
+  input = t.input;
+  cards = t.cards;
+  in_faults = t.in_faults;
+  out_faults = t.out_faults;
+  dev_faults = λ j. go j (same-or-not j u);
+}
+  where
+    go : (j : ℕ) → (j ≡ u) ⊎ (j ≡ u → ⊥) → o.dev_faults j ≤ p.dev_faults j
+    go j (inl e) = subst (λ k. o.dev_faults k ≤ p.dev_faults k) (sym e) t.faults_later
+    go j (inr e) = let k = t.dev_faults j e in omega (arith, k)
+
+-- where its own unit is programmed no more, none is
+pub programs-no-more : {u : ℕ} {o p : Outside} → Touches u o p → p.programmed u ≤ o.programmed u → (j : ℕ) → p.programmed j ≤ o.programmed j
+programs-no-more {u} {o} {p} t less j = go (same-or-not j u)
+  where
+    go : (j ≡ u) ⊎ (j ≡ u → ⊥) → p.programmed j ≤ o.programmed j
+    go (inl e) = subst (λ k. p.programmed k ≤ o.programmed k) (sym e) less
+    go (inr e) = let k = t.programmed j e in omega (arith, k)
+
+-- a change leaves a bank that is not closed, and a refusal leaves the unit
+pub open-or-same : {T : Type 0} (u : ℕ) (o p : Outside) (result : Result T Fault) → OnOk result (IsOpenFor 0 (image u p.now)) → (IsRefused result → p.now ≡ o.now)
+    → GoesOn result → IsOpenOrSame u o.now p.now
+open-or-same u o p (Ok x) changed refused goes = inl changed
+open-or-same u o p (Err (Refused refusal)) changed refused goes = inr (ap (changes u) (refused tt))
+open-or-same u o p (Err (Stop stop)) changed refused goes = absurd goes
+
+-- a call after which nothing has happened leaves the world
+pub call-still : {C : Type 0} {place : C → ℕ} (reads : List ℕ → Option Store) {told : Bool} {units : Units C} {u n : ℕ} {slot : Slot C} {card next : C} {o p : Outside}
+    → Called place told units u n slot card next o p → p.now ≡ o.now → world_of reads (later units n slot next) p ≡ world_of reads units o
+call-still reads {told} {units} {u} {n} {slot} {card} {next} {o} {p} c same =
+    world-alike reads (mounted_in units.slots.items) (mounted_in (later units n slot next).slots.items) units.default units.default units.minute units.minute o p
+    (λ j. device-stays reads (mounted_in units.slots.items) (mounted_in (later units n slot next).slots.items) o p j c.touches.cards (marks units (later units n slot next) u card next (replaced c) j) (ap (changes j) same)) refl refl
+
+module _ {C : Type 0} {reads : List ℕ → Option Store} {place : C → ℕ} {soups : C → Store} {stands : Bool → C → Outside → Type 0} (l : Laws reads place soups stands)
+    {units : Units C} {u n : ℕ} {slot : Slot C} {card next : C} {o p : Outside} where
+  -- the card stands on the unit
+  place-is : {told : Bool} → Called place told units u n slot card next o p → Stands place stands told units o → place card ≡ u
+  place-is {told} c s = (s.cards u card (card-was units (later units n slot next) u card next (replaced c))).1
+
+  pub call-stands : {told : Bool} → Called place told units u n slot card next o p → Stands place stands told units o
+      → (IsTrue told → OthersSame (place card) o.now p.now) → stands told next p → Stands place stands told (later units n slot next) p
+  call-stands {told} c s others there =
+      stands-replaced place stands l.kept l.durable told units (later units n slot next) u card next o p (replaced c) c.touches.cards
+      (λ t j h. others t j (λ e. h (e ∙ place-is c s))) there (c.place_is ∙ place-is c s) s
+
+  -- what a store was read, and what the card does, on its unit
+  pub call-does : {told : Bool} → IsTrue told → Eight o → Called place told units u n slot card next o p → (s : Stands place stands told units o)
+      → OthersSame (place card) o.now p.now
+      → {T : Type 0} (blocks : ℕ) (a b : Store) (f : Store → Store) (tests : ℕ → Checks) (good : T → Type 0) (result : Result T Fault) → f a ≡ b
+      → (reads (image (place card) o.now) ≡ Some a → Does (tests (o.blocks (place card))) good (Some a) (Some b) (reads (image (place card) p.now)) result)
+      → OnUnit (world_of reads units o) u blocks a
+      → Does (tests blocks) good (world_of reads units o) (change_store (world_of reads units o) u f) (world_of reads (later units n slot next) p) result
+  call-does {told} t e c s others blocks a b f tests good result is does on =
+      let at = place-is c s in
+      let k = on-known l units o e (subst (λ x. Stands place stands x units o) t s) u blocks a on in
+      subst (λ m. Does (tests m) good (world_of reads units o) (change_store (world_of reads units o) u f) (world_of reads (later units n slot next) p) result) (sym k.2)
+      (does-world reads units (later units n slot next) u card next o p a (replaced c) c.touches.cards (λ j h. others j (λ i. h (i ∙ at))) k.3 (tests (o.blocks u)) good b f result is
+      (subst (λ m. Does (tests (o.blocks m)) good (Some a) (Some b) (reads (image m p.now)) result) at (does (ap (λ m. reads (image m o.now)) at ∙ k.3))))
+
+  pub call-moments : {told : Bool} → IsTrue told → Eight o → Called place told units u n slot card next o p → Stands place stands told units o
+      → (blocks : ℕ) (a b : Store) (tests : ℕ → Checks)
+      → (reads (image (place card) o.now) ≡ Some a → Leaves (place card) (LeavesEither reads (tests (o.blocks (place card))) a b) o.now p.now)
+      → OnUnit (world_of reads units o) u blocks a → (v : World) → (first_of (tests blocks) ≡ None → store_on_unit v u ≡ Some b)
+      → Always (Answering reads (world_of reads units o) v o.now) o.now p.now
+  call-moments {told} t e c s blocks a b tests leaves on v makes =
+      let st : Stands place stands true units o = subst (λ x. Stands place stands x units o) t s in
+      let at = place-is c s in
+      let k = on-known l units o e st u blocks a on in
+      either-moments l units o e st u a b (tests (o.blocks u)) v p.now (is-there (world_of reads units o) u blocks a on) (λ h. makes (ap (λ m. first_of (tests m)) k.2 ∙ h))
+      (subst (λ m. Leaves m (LeavesEither reads (tests (o.blocks m)) a b) o.now p.now) at (leaves (ap (λ m. reads (image m o.now)) at ∙ k.3)))
+
+  -- what the card programs, and what it leaves open
+  pub call-costs : {told : Bool} → IsTrue told → Eight o → Called place told units u n slot card next o p → Stands place stands told units o
+      → OthersSame (place card) o.now p.now
+      → {T : Type 0} (blocks : ℕ) (a : Store) (most : ℕ → ℕ) (result : Result T Fault)
+      → (reads (image (place card) o.now) ≡ Some a → ProgramsAtMost (most (o.blocks (place card))) (place card) o p)
+      → OnOk result (IsOpenFor 0 (image (place card) p.now)) → (IsRefused result → p.now ≡ o.now)
+      → OnUnit (world_of reads units o) u blocks a → CostsOn u (most blocks) result o p
+  call-costs {told} t e c s others blocks a most result bound changed refused on =
+      let at = place-is c s in
+      let k = on-known l units o e (subst (λ x. Stands place stands x units o) t s) u blocks a on in
+      subst (λ m. CostsOn u (most m) result o p) (sym k.2) (subst (λ m. CostsOn m (most (o.blocks m)) result o p) at (record {
+        bound = bound (ap (λ m. reads (image m o.now)) at ∙ k.3);
+        open_after = open-or-same (place card) o p result changed refused;
+        others = λ j h. (let same = c.touches.programmed j h in omega (arith, same), others j h);
+      }))
+
+  -- what was read of the store of the unit
+  pub call-reads : {told : Bool} → IsTrue told → Eight o → Called place told units u n slot card next o p → Stands place stands told units o
+      → (blocks : ℕ) (a : Store) → OnUnit (world_of reads units o) u blocks a → reads (image (place card) o.now) ≡ Some a
+  call-reads t e c s blocks a on =
+      let k = on-known l units o e (subst (λ x. Stands place stands x units o) t s) u blocks a on in
+      ap (λ m. reads (image m o.now)) (place-is c s) ∙ k.3

@@ -1,0 +1,42 @@
+-- A call on the card of the unit changes the unit's store alone.
+use Rattle.std.proofs.Common.{sym, refl, []}
+use Rattle.std.specs.Bool.{⊤}
+use Rattle.newt_spec_store.specs.Store.{drop_soup}
+use Rattle.newt_laws_answers.specs.Bounds.{change_bytes}
+use Rattle.newt_engine_units.proofs.Calls.{Called, mounted-bound, not-there, cause-of, on-devices, call-stands, call-does, call-moments, call-costs}
+use Rattle.newt_engine_units.specs.Stands.{Eight}
+use Rattle.newt_engine_units.proofs.Known.{Laws}
+use Rattle.newt_engine_units.proofs.units.Units.drop_soup_on.Goals as goal
+
+pub returns-in-Some : goal.returns-in-Some
+returns-in-Some g c =
+    let laws : Laws g.C.Card.reads g.C.Card.place g.C.Card.soups g.C.Card.stands = record {
+      formed = g.met.C.Card.formed;
+      plain = g.met.C.Card.plain;
+      durable = g.met.C.Card.durable;
+      banks = g.met.C.Card.banks;
+      kept = g.met.C.Card.kept;
+    } in
+    let eight : Eight (g.H.Host.outside c.args.host.now) = record { eight = g.met.H.Host.eight c.args.host.now; none = g.met.H.Host.none c.args.host.now } in
+    let call : Called g.C.Card.place g.H.Host.told c.args.self.now c.args.unit c.unit.inside.0 c.index_mut.result.now c.in-Some.card c.drop_soup.new.self (g.H.Host.outside c.args.host.now) (g.H.Host.outside c.drop_soup.new.host) = record {
+      unit_is = sym c.unit.view_is;
+      bound = mounted-bound _ c.args.unit _ (sym c.unit.view_is) c.requires.mounted;
+      value = c.index_mut.ensures.value;
+      was = c.in-Some.is;
+      place_is = c.drop_soup.ensures.place;
+      touches = c.drop_soup.ensures.alone;
+    } in record {
+      stands = λ goes. call-stands laws call c.requires.stands c.drop_soup.ensures.others (c.drop_soup.ensures.stands goes);
+      made = λ t blocks s p on by. call-does laws t eight call c.requires.stands (c.drop_soup.ensures.others t) blocks s _ (drop_soup p.name)
+          (λ blocks. []) (λ _. ⊤) _ refl (λ reads. c.drop_soup.ensures.made t s p reads by) on;
+      moments = λ t blocks s p on by. call-moments laws t eight call c.requires.stands blocks s (drop_soup p.name s)
+          (λ blocks. []) (λ reads. c.drop_soup.ensures.any_moment t s p reads by) on;
+      costs = λ t blocks s p on by. call-costs laws t eight call c.requires.stands (c.drop_soup.ensures.others t) blocks s
+          (λ blocks. change_bytes s (drop_soup p.name s) [] p.entries) _
+          (λ reads. c.drop_soup.ensures.bound t s p reads by) (c.drop_soup.ensures.open_after t) c.drop_soup.ensures.nothing_done on;
+      alone = on-devices c.drop_soup.ensures.alone;
+      cause = cause-of _ _ _ _ c.drop_soup.ensures.cause;
+    }
+
+pub returns-in-None : goal.returns-in-None
+returns-in-None g c = absurd (not-there _ c.args.unit _ _ (sym c.unit.view_is) c.index_mut.ensures.value c.requires.mounted c.in-None.is)

@@ -1,0 +1,48 @@
+-- What is known of the mounted stores from their cards. All of it is this project's own.
+use Rattle.std.specs.Prelude.{◌≡◌, ℕ, zero, suc, nat_le, cond, ◌==◌, List, [], ◌∷◌, map, Option, Some, None, is_some, option_map, Result, Ok, Err}
+use Rattle.newt_base.specs.Refusals.{Checks, first_of}
+use Rattle.newt_base.specs.declared.Refusal.TheVariants.{Nostore, Stores as ManyStores, Signature}
+use Rattle.newt_pagebook.specs.declared.book.Stop.TheVariants as stops
+use Rattle.newt_spec_store.specs.Store.{Store}
+use Rattle.newt_spec_world.specs.First.{unit_numbers}
+use Rattle.newt_laws_answers.specs.Faces.{Face, shown_count, first_shown, first_showing}
+use Rattle.newt_engine_card.specs.declared.fault.Fault.{Fault}
+use Rattle.newt_engine_card.specs.declared.fault.Fault.TheVariants.{Refused, Stop as Ends}
+use Rattle.newt_engine_units.specs.declared.units.Slot.{Slot}
+use Rattle.newt_engine_units.specs.Stands.{card_at}
+
+module _ {C : Type 0} (soups : C → Store) where
+  -- the face of a card, or of none
+  abbrev pub card_face : Option C → Face
+  card_face card = option_map (λ card. ((soups card).sig, (soups card).name)) card
+
+  -- the faces of the eight units
+  abbrev pub card_faces : List (Slot C) → List Face
+  card_faces slots = map (λ u. card_face (card_at slots u)) unit_numbers
+
+-- The default after a unit is no longer mounted: the first that is mounted where it was the default, else as before.
+abbrev pub default_after : List Face → Option ℕ → ℕ → Option ℕ
+default_after faces None u = None
+default_after faces (Some v) u = cond (u == v) (first_shown faces) (Some v)
+
+-- whether a store of this signature may not be mounted beside those that are
+abbrev pub beside_checks : List Face → ℕ → Checks
+beside_checks faces sig = (ManyStores, nat_le 4 (shown_count faces)) ∷ (Signature, is_some (first_showing sig faces)) ∷ []
+
+-- a store may be mounted, with its signature and its name, or the first test that holds
+abbrev pub Admits : List Face → Store → Result (ℕ × List ℕ) Fault → Type 0
+Admits faces s (Ok x) = (first_of (beside_checks faces s.sig) ≡ None) × (x.0 ≡ s.sig) × (x.1 ≡ s.name)
+Admits faces s (Err (Refused refusal)) = first_of (beside_checks faces s.sig) ≡ Some refusal
+Admits faces s (Err (Ends stop)) = stop ≡ stops.Memory
+
+-- the slots with this card, or none, on a unit
+abbrev pub with_card : {C : Type 0} → ℕ → Option C → List (Slot C) → List (Slot C)
+with_card u card [] = []
+with_card zero card (slot ∷ slots) = record slot { card = card } ∷ slots
+with_card (suc u) card (slot ∷ slots) = slot ∷ with_card u card slots
+
+-- a store is opened that is good, or none is there
+abbrev pub Opens : {C : Type 0} → (C → Type 0) → Type 0 → Result C Fault → Type 0
+Opens good gone (Ok card) = good card
+Opens good gone (Err (Refused refusal)) = gone × (refusal ≡ Nostore)
+Opens good gone (Err (Ends stop)) = Unit {0}

@@ -1,0 +1,66 @@
+-- What is known of the units in memory.
+use Rattle.std.specs.Prelude.{◌≡◌, ℕ, ◌≤◌, nat_lt, Bool, true, false, not, ◌||◌, List, [], ◌∷◌, slice_get, Option, Some, None, is_none, option_map, option_and_then, Result, Ok, Err}
+use Rattle.newt_base.specs.declared.Refusal.TheVariants.{Unit as NoUnit, Blocks, Mounted, Notmounted, Soup as NoSoup}
+use Rattle.newt_base.specs.Refusals.{Checks}
+use Rattle.newt_spec_store.specs.Store.{Store, soup_named}
+use Rattle.newt_engine_card.specs.declared.fault.Fault.{Fault}
+use Rattle.newt_engine_card.specs.Faults.{RefusesBy}
+use Rattle.newt_engine_units.specs.declared.units.Slot.{Slot}
+use Rattle.newt_engine_units.specs.Stands.{card_at, mounted_in}
+
+-- a unit has a device
+abbrev pub has_device : {C : Type 0} → Option (Slot C) → Bool
+has_device None = false
+has_device (Some slot) = slot.attached
+
+abbrev pub attached_in : {C : Type 0} → List (Slot C) → ℕ → Bool
+attached_in slots u = has_device (slice_get slots u)
+
+-- whether unit and card are there
+abbrev pub known_unit : {C : Type 0} → List (Slot C) → ℕ → Checks
+known_unit slots u = (NoUnit, not (attached_in slots u)) ∷ (Notmounted, not (mounted_in slots u)) ∷ []
+
+-- a card is mounted on a unit, or the first that is not there is answered
+abbrev pub FindsUnit : {C T : Type 0} → List (Slot C) → ℕ → Result T Fault → Type 0
+FindsUnit slots u (Ok _) = mounted_in slots u ≡ true
+FindsUnit slots u (Err fault) = RefusesBy (known_unit slots u) fault
+
+-- whether the unit has a device with banks, and no card is mounted there
+abbrev pub known_ready : {C : Type 0} → List (Slot C) → (blocks : ℕ) → ℕ → Checks
+known_ready slots blocks u = (NoUnit, not (attached_in slots u)) ∷ (Blocks, nat_lt blocks 13 || nat_lt 4099 blocks) ∷ (Mounted, mounted_in slots u) ∷ []
+
+-- a unit with a device that may be opened or formatted
+pub record IsFree {C : Type 0} (slots : List (Slot C)) (blocks u : ℕ) : Type 0 where
+  pub attached : attached_in slots u ≡ true
+  pub enough : 13 ≤ blocks
+  pub not_too_many : blocks ≤ 4099
+  pub free : mounted_in slots u ≡ false
+
+abbrev pub FindsReady : {C : Type 0} → List (Slot C) → (blocks : ℕ) → ℕ → Result (Unit {0}) Fault → Type 0
+FindsReady slots blocks u (Ok _) = IsFree slots blocks u
+FindsReady slots blocks u (Err fault) = RefusesBy (known_ready slots blocks u) fault
+
+module _ {C : Type 0} (soups : C → Store) where
+  -- the signature of a soup of the card that is mounted on a unit
+  abbrev pub known_soup : List (Slot C) → ℕ → List ℕ → Option ℕ
+  known_soup slots u name = option_and_then (λ card. option_map (λ p. p.sig) (soup_named name (soups card))) (card_at slots u)
+
+  -- whether unit, card and soup are there
+  abbrev pub known_checks : List (Slot C) → ℕ → List ℕ → Checks
+  known_checks slots u name = (NoUnit, not (attached_in slots u)) ∷ (Notmounted, not (mounted_in slots u)) ∷ (NoSoup, is_none (known_soup slots u name)) ∷ []
+
+  -- the signature of a soup that is looked up, or the first that is not there
+  abbrev pub LooksUp : List (Slot C) → ℕ → List ℕ → Result ℕ Fault → Type 0
+  LooksUp slots u name (Ok sig) = known_soup slots u name ≡ Some sig
+  LooksUp slots u name (Err fault) = RefusesBy (known_checks slots u name) fault
+
+  -- whether both units, cards and soups are there
+  abbrev pub known_both : List (Slot C) → ℕ → List ℕ → ℕ → List ℕ → Checks
+  known_both slots u name v target =
+      (NoUnit, not (attached_in slots u) || not (attached_in slots v)) ∷ (Notmounted, not (mounted_in slots u) || not (mounted_in slots v))
+      ∷ (NoSoup, is_none (known_soup slots u name) || is_none (known_soup slots v target)) ∷ []
+
+  -- the signatures of two soups that are looked up, or the first that is not there
+  abbrev pub LooksUpBoth : List (Slot C) → ℕ → List ℕ → ℕ → List ℕ → Result (ℕ × ℕ) Fault → Type 0
+  LooksUpBoth slots u name v target (Ok (a, b)) = (known_soup slots u name ≡ Some a) × (known_soup slots v target ≡ Some b)
+  LooksUpBoth slots u name v target (Err fault) = RefusesBy (known_both slots u name v target) fault

@@ -1,0 +1,129 @@
+//! What the units have.
+ghost use Rattle.std.specs.Prelude.{◌≡◌, ℕ, true, Some, is_some, IfOk, IfErr, option_map};
+ghost use Rattle.newt_spec_store.specs.Store.{Store as Plain, entry_at};
+ghost use Rattle.newt_laws_answers.specs.There.{OnUnit};
+ghost use Rattle.newt_host.specs.Outside.{Outside};
+ghost use Rattle.newt_engine_card.specs.Faults.{IsRefusal};
+ghost use Rattle.newt_engine_units.specs.Stands.{card_at, mounted_in, Stands, Eight, world_of};
+ghost use Rattle.newt_engine_units.specs.Found.{FindsEntry};
+ghost use Rattle.newt_engine_units.specs.Looks.{attached_in, known_soup, FindsUnit, LooksUp, LooksUpBoth};
+
+use crate::units::Units;
+use newt_base::{Name, Refusal, Sig, Uid};
+use newt_engine_card::{Card, Fault};
+use newt_host::Unit;
+
+impl<C: Card> Units<C> {
+    /// Whether the unit has a device.
+    pub(crate) fn is_attached(&self, unit: Unit) -> bool
+        ensures { result ≡ attached_in self.now.slots.items unit }
+    {
+        match self.slots.get(unit.0 as usize) {
+            Some(slot) => slot.attached,
+            None => false,
+        }
+    }
+
+    /// The card that is mounted on a unit.
+    pub fn card(&self, unit: Unit) -> Option<&C>
+        ensures { option_map (λ card. card.now) result ≡ card_at self.now.slots.items unit }
+    {
+        match self.slots.get(unit.0 as usize) {
+            Some(slot) => slot.card.as_ref(),
+            None => None,
+        }
+    }
+
+    /// Whether a store is mounted on a unit.
+    pub(crate) fn is_mounted(&self, unit: Unit) -> bool
+        ensures { result ≡ mounted_in self.now.slots.items unit }
+    {
+        self.card(unit).is_some()
+    }
+
+    /// The signature of a soup of the store that is mounted on a unit.
+    pub fn soup_sig(&self, unit: Unit, name: &Name) -> Option<Sig>
+        ensures { result ≡ known_soup C.soups self.now.slots.items unit name.now }
+    {
+        match self.card(unit) {
+            Some(card) => card.soup_named(name),
+            None => None,
+        }
+    }
+
+    /// Whether a store is mounted on the unit, or why there is none: it has no device, or no store is mounted there.
+    pub fn find_unit(&self, unit: Unit) -> Result<(), Fault>
+        ensures { FindsUnit self.now.slots.items unit result }
+    {
+        if !self.is_attached(unit) {
+            return Err(Fault::Refused(Refusal::Unit));
+        }
+        if self.card(unit).is_none() {
+            return Err(Fault::Refused(Refusal::Notmounted));
+        }
+        Ok(())
+    }
+
+    /// The signature of a soup, or why there is none: the unit has no device, no store is mounted there, or it has no such soup.
+    pub fn find_soup(&self, unit: Unit, name: &Name) -> Result<Sig, Fault>
+        ensures { LooksUp C.soups self.now.slots.items unit name.now result }
+    {
+        if !self.is_attached(unit) {
+            return Err(Fault::Refused(Refusal::Unit));
+        }
+        if self.card(unit).is_none() {
+            return Err(Fault::Refused(Refusal::Notmounted));
+        }
+        match self.soup_sig(unit, name) {
+            Some(sig) => Ok(sig),
+            None => Err(Fault::Refused(Refusal::Soup)),
+        }
+    }
+
+    /// Whether a soup of the store that is mounted on a unit has an entry.
+    pub fn has_entry(&self, unit: Unit, soup: Sig, uid: Uid) -> bool
+        ensures { (outside : Outside) → Eight outside → Stands C.place C.stands true self.now outside → (blocks : ℕ) (s : Plain) → OnUnit (world_of C.reads self.now outside) unit blocks s →
+            result ≡ is_some (entry_at soup uid s) }
+    {
+        match self.card(unit) {
+            Some(card) => card.has(soup, uid),
+            None => false,
+        }
+    }
+
+    /// The signature of a soup that has an entry, or why there is none: the soup is not there, or has no such entry.
+    pub fn find_entry(&self, unit: Unit, name: &Name, uid: Uid) -> Result<Sig, Fault>
+        ensures soup { IfOk result (λ sig. known_soup C.soups self.now.slots.items unit name.now ≡ Some sig) }
+        ensures only { IfErr result (λ fault. IsRefusal fault) }
+        ensures found { (outside : Outside) → Eight outside → Stands C.place C.stands true self.now outside → FindsEntry (world_of C.reads self.now outside) unit name.now uid result }
+    {
+        let soup = self.find_soup(unit, name)?;
+        if self.has_entry(unit, soup, uid) {
+            Ok(soup)
+        } else {
+            Err(Fault::Refused(Refusal::Entry))
+        }
+    }
+
+    /// The signatures of two soups, or why one is not there: each is tried for both before the next.
+    pub fn find_both(
+        &self,
+        unit: Unit,
+        name: &Name,
+        to: Unit,
+        target: &Name,
+    ) -> Result<(Sig, Sig), Fault>
+        ensures { LooksUpBoth C.soups self.now.slots.items unit name.now to target.now result }
+    {
+        if !self.is_attached(unit) || !self.is_attached(to) {
+            return Err(Fault::Refused(Refusal::Unit));
+        }
+        if self.card(unit).is_none() || self.card(to).is_none() {
+            return Err(Fault::Refused(Refusal::Notmounted));
+        }
+        match (self.soup_sig(unit, name), self.soup_sig(to, target)) {
+            (Some(soup), Some(into)) => Ok((soup, into)),
+            _ => Err(Fault::Refused(Refusal::Soup)),
+        }
+    }
+}

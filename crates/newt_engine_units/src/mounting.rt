@@ -1,0 +1,124 @@
+//! Stores: mounted and unmounted.
+ghost use Rattle.std.specs.Prelude.{◌≡◌, Bool, true, IsTrue, None, Some, unwrap_or, IfErr, ℕ, ◌≤◌};
+ghost use Rattle.newt_host.specs.Moments.{Always, image};
+ghost use Rattle.newt_host.specs.Outside.{Outside, OnDevices};
+ghost use Rattle.newt_spec_world.specs.Reply.{Reply};
+ghost use Rattle.newt_spec_world.specs.declared.command.Command.{Command};
+ghost use Rattle.newt_laws_answers.specs.Answering.{Answering};
+ghost use Rattle.newt_laws_answers.specs.Bounds.{most_programmed};
+ghost use Rattle.newt_laws_answers.specs.Spoken.{answer_now};
+ghost use Rattle.newt_engine_card.specs.Bounds.{Costs};
+ghost use Rattle.newt_engine_card.specs.Faults.{GoesOn, HasFaultCause, IsRefusal};
+ghost use Rattle.newt_engine_units.specs.Answers.{Answers};
+ghost use Rattle.newt_engine_units.specs.Faces.{Admits, Opens, card_faces, default_after, with_card};
+ghost use Rattle.newt_engine_units.specs.Looks.{attached_in, IsFree};
+ghost use Rattle.newt_engine_units.specs.Stands.{Eight, Stands, mounted_in, world_of};
+
+use crate::units::Units;
+use newt_base::{Name, Refusal, Sig};
+use newt_engine_card::{Card, Fault};
+use newt_host::{Host, Unit};
+
+/// The most stores that are mounted.
+const MOST_STORES: usize = 4;
+
+impl<C: Card> Units<C> {
+    /// Mounts the store of a unit, and answers its signature and its name. At most 4 stores are mounted, no two of one signature.
+    pub fn mount<H: Host>(&mut self, host: &mut H, unit: Unit) -> Result<(Sig, Name), Fault>
+        requires { Stands C.place C.stands H.told self.old (H.outside host.old) }
+        ensures stands { GoesOn result → Stands C.place C.stands H.told self.new (H.outside host.new) }
+        ensures answered { IsTrue H.told → Answers (world_of C.reads self.old (H.outside host.old)) (world_of C.reads self.new (H.outside host.new)) (Command.Mount unit) (λ x. Reply.store x.0 x.1) result }
+        ensures moments { IsTrue H.told → let w = world_of C.reads self.old (H.outside host.old) in
+            Always (Answering C.reads w (answer_now w (Command.Mount unit)).0 (H.outside host.old).now) (H.outside host.old).now (H.outside host.new).now }
+        ensures costs { IsTrue H.told → Costs (most_programmed (world_of C.reads self.old (H.outside host.old)) (Command.Mount unit)) result (H.outside host.old) (H.outside host.new) }
+        ensures alone { OnDevices (H.outside host.old) (H.outside host.new) }
+        ensures cause { IfErr result (λ fault. HasFaultCause fault (H.outside host.old) (H.outside host.new)) }
+    {
+        self.find_ready(host, unit)?;
+        let card = self.open_store(host, unit)?;
+        let face = self.admit(&card)?;
+        self.put(unit, card);
+        Ok(face)
+    }
+
+    /// Opens the store of a unit, or says that it has none.
+    fn open_store<H: Host>(&self, host: &mut H, unit: Unit) -> Result<C, Fault>
+        requires stands { Stands C.place C.stands H.told self.now (H.outside host.old) }
+        requires free { IsFree self.now.slots.items ((H.outside host.old).blocks unit) unit }
+        ensures stands { Stands C.place C.stands H.told self.now (H.outside host.new) }
+        ensures opened { Opens (λ card. C.stands H.told card (H.outside host.new) × (C.place card ≡ unit)) (IsTrue H.told → C.reads (image unit (H.outside host.old).now) ≡ None) result }
+        ensures moment { (H.outside host.new).now ≡ (H.outside host.old).now }
+        ensures programs_nothing { IsTrue H.told → (u : ℕ) → (H.outside host.new).programmed u ≤ (H.outside host.old).programmed u }
+        ensures alone { OnDevices (H.outside host.old) (H.outside host.new) }
+        ensures cause { IfErr result (λ fault. HasFaultCause fault (H.outside host.old) (H.outside host.new)) }
+    {
+        match self.open(host, unit) {
+            Ok(Some(card)) => Ok(card),
+            Ok(None) => Err(Fault::Refused(Refusal::Nostore)),
+            Err(fault) => Err(fault),
+        }
+    }
+
+    /// The signature and the name of a store that may be mounted, or why it may not.
+    fn admit(&self, card: &C) -> Result<(Sig, Name), Fault>
+        ensures { Admits (card_faces C.soups self.now.slots.items) (C.soups card.now) result }
+    {
+        if MOST_STORES <= self.count() {
+            return Err(Fault::Refused(Refusal::Stores));
+        }
+        let sig = card.sig();
+        if self.unit_of(sig).is_some() {
+            return Err(Fault::Refused(Refusal::Signature));
+        }
+        let name = card.name().copy()?;
+        Ok((sig, name))
+    }
+
+    /// Puts a card on a unit. Where no store was the default, it is.
+    fn put(&mut self, unit: Unit, card: C)
+        requires { attached_in self.old.slots.items unit ≡ true }
+        ensures slots { self.new.slots.items ≡ with_card unit (Some card) self.old.slots.items }
+        ensures default { self.new.default ≡ Some (unwrap_or self.old.default unit) }
+        ensures minute { self.new.minute ≡ self.old.minute }
+    {
+        self.slots[unit.0 as usize].card = Some(card);
+        if self.default.is_none() {
+            self.default = Some(unit);
+        }
+    }
+
+    /// Unmounts the store of a unit. Where it was the default one, the default is then the mounted store of the smallest unit, if one is left.
+    pub fn unmount(&mut self, unit: Unit) -> Result<(), Fault>
+        ensures stands { (told : Bool) (outside : Outside) → Stands C.place C.stands told self.old outside → Stands C.place C.stands told self.new outside }
+        ensures answered { (outside : Outside) → Eight outside → Stands C.place C.stands true self.old outside →
+            Answers (world_of C.reads self.old outside) (world_of C.reads self.new outside) (Command.Unmount unit) (λ _. Reply.done) result }
+        ensures only { IfErr result (λ fault. IsRefusal fault) }
+    {
+        self.find_unit(unit)?;
+        self.take(unit);
+        self.default = self.default_after(unit);
+        Ok(())
+    }
+
+    /// Takes the card from a unit.
+    fn take(&mut self, unit: Unit)
+        requires { mounted_in self.old.slots.items unit ≡ true }
+        ensures slots { self.new.slots.items ≡ with_card unit None self.old.slots.items }
+        ensures default { self.new.default ≡ self.old.default }
+        ensures minute { self.new.minute ≡ self.old.minute }
+    {
+        self.slots[unit.0 as usize].card = None;
+    }
+
+    /// The default unit after this one is no longer mounted.
+    fn default_after(&self, unit: Unit) -> Option<Unit>
+        ensures { result ≡ default_after (card_faces C.soups self.now.slots.items) self.now.default unit }
+    {
+        let default = self.default?;
+        if unit == default {
+            self.first_mounted()
+        } else {
+            Some(default)
+        }
+    }
+}

@@ -1,0 +1,22 @@
+use Rattle.std.proofs.Common.{ℕ, ◌<◌, subst}
+use Rattle.newt_host_files.specs.Laws.{untold}
+use Rattle.newt_host_files.proofs.Units.{card-inside, read-there, touches, spends, never_falls, cause-at}
+use Rattle.newt_host_files.proofs.files.FileHostHost.sync.Goals as goal
+
+pub listed : goal.listed
+listed g c = card-inside c.args.self.now.cards _ c.args.unit c.unit.view_is c.requires
+
+pub bounds-self-unit-inside : goal.bounds-self-unit-inside
+bounds-self-unit-inside g c = subst (λ (n : ℕ). c.unit.inside.0 < n) c.args.self.now.eight (card-inside c.args.self.now.cards _ c.args.unit c.unit.view_is c.requires)
+
+pub returns : goal.returns
+returns g c =
+    let cards = c.args.self.now.cards in
+    let there = read-there cards _ c.args.unit c.index-self-unit.result c.unit.view_is c.requires in
+    record {
+      synced = λ tells. untold tells;
+      alone = touches cards _ c.args.unit _ _ c.unit.view_is there.0 c.touched.ensures.card _ _;
+      costs = spends cards _ c.args.unit _ _ c.unit.view_is there.0 c.touched.ensures.card _ _;
+      later = never_falls cards _ c.args.unit _ _ c.unit.view_is there.0 c.touched.ensures.card _ _;
+      cause = cause-at cards _ c.args.unit _ _ c.unit.view_is there.0 c.touched.result c.touched.ensures.cause;
+    }

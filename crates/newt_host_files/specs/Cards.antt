@@ -1,0 +1,39 @@
+-- What the units tell.
+use Rattle.std.specs.Prelude.{◌≡◌, ℕ, ◌+◌, ◌≤◌, cond, List, Option, Some, None}
+use Rattle.newt_host_files.specs.declared.card.Card.{Card}
+
+-- the name of the file of a unit, where it has one
+abbrev pub name_of : Option Card → Option (List ℕ)
+name_of None = None
+name_of (Some c) = cond c.attached (Some c.name.items) None
+
+-- the number of its whole blocks, 0 where there is no unit
+abbrev pub blocks_of : Option Card → ℕ
+blocks_of None = 0
+blocks_of (Some c) = c.blocks
+
+-- how many of its calls failed, 0 where there is no unit
+abbrev pub faults_of : Option Card → ℕ
+faults_of None = 0
+faults_of (Some c) = c.faults
+
+-- how many bytes it was to program, 0 where there is no unit
+abbrev pub programmed_of : Option Card → ℕ
+programmed_of None = 0
+programmed_of (Some c) = c.programmed
+
+-- how many bytes it was to fetch, 0 where there is no unit
+abbrev pub fetched_of : Option Card → ℕ
+fetched_of None = 0
+fetched_of (Some c) = c.fetched
+
+-- a call on a unit leaves its file, and its counts do not fall
+pub record OnCard (programs fetches : ℕ) (old new : Card) : Type 0 where
+  pub attached : new.attached ≡ old.attached
+  pub name : new.name.items ≡ old.name.items
+  pub blocks : new.blocks ≡ old.blocks
+  pub faults : old.faults ≤ new.faults
+  pub programmed : old.programmed ≤ new.programmed
+  pub programmed_most : new.programmed ≤ old.programmed + programs
+  pub fetched : old.fetched ≤ new.fetched
+  pub fetched_most : new.fetched ≤ old.fetched + fetches

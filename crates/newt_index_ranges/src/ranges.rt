@@ -1,0 +1,194 @@
+//! The ranges of all soups of a store.
+ghost use Rattle.std.specs.Prelude.{◌≡◌, ◌==◌, ◌<◌, [], ◌∷◌, ◌++◌, not, length, option_map, IfSome, IsTrue, OnOk, OnErr};
+ghost use Rattle.std.specs.List.{position_from};
+ghost use Rattle.newt_index.specs.Pairs.{IsSorted};
+ghost use Rattle.newt_spec_store.specs.Store.{Store};
+ghost use Rattle.newt_spec_store.specs.Valid.{well_formed};
+ghost use Rattle.newt_index_ranges.specs.Range.{range_in};
+ghost use Rattle.newt_index_ranges.specs.Rows.{no_ranges, with_entry, without_entry, each_range, with_range, without_range, change_ranges, drop_ranges, range_found};
+ghost use Rattle.newt_index_ranges.specs.Stands.{AreRangesOf};
+
+use crate::rows::SoupRanges;
+use newt_base::{Sig, Uid};
+use newt_graph::Graph;
+use newt_index::Index;
+use newt_keys::IndexSpec;
+use newt_path::Path;
+use std::alloc::{AllocError, Global};
+use std::marker::Model;
+
+/// The ranges of a store's soups, in order of making. A call that fails for want of memory may leave some ranges changed and others not: the ranges are
+/// then spent, unless the call says otherwise. A call for a soup that is not there changes nothing.
+#[derive(Drop)]
+pub struct Ranges {
+    soups: Vec<SoupRanges>,
+}
+
+impl Model for Ranges {
+    ghost use Rattle.std.specs.Prelude.{List};
+    ghost use Rattle.newt_index_ranges.specs.declared.rows.SoupRanges.{SoupRanges};
+
+    ghost Value = { List SoupRanges };
+
+    ghost view = { λ r. r.soups.items };
+}
+
+impl Ranges {
+    /// No soups. It takes no memory.
+    pub fn new(alloc: Global) -> Ranges
+        ensures { result ≡ [] }
+    {
+        Ranges {
+            soups: Vec::new(alloc),
+        }
+    }
+
+    /// The sorted list of exactly the entries of a soup that have a key: by a declaration that agrees with this one, or with none of all entries by id.
+    /// None exactly where the soup is not there or does not carry the declaration. It takes no memory.
+    pub fn range_of(&self, soup: Sig, spec: Option<&IndexSpec>) -> Option<&Index>
+        ensures found { option_map (λ v. v.now) result ≡ range_found soup (option_map (λ s. s.now) spec.entry) self.now }
+        ensures sorted { IfSome result (λ v. IsSorted v.now) }
+        ensures stands { (s : Store) → IsTrue (well_formed s) → AreRangesOf s self.now → option_map (λ v. v.now) result ≡ range_in soup (option_map (λ s. s.now) spec.entry) s }
+    {
+        find_in(&self.soups, soup, spec)
+    }
+
+    /// A soup more at the end, of these declarations and without entries; a new soup has none. After an error nothing has changed.
+    pub fn make_soup(&mut self, soup: Sig, specs: &[IndexSpec]) -> Result<(), AllocError>
+        ensures ok { OnOk result (self.new ≡ self.old ++ no_ranges soup specs.now ∷ []) }
+        ensures err { OnErr result (self.new ≡ self.old) }
+    {
+        let row = SoupRanges::new(*self.soups.allocator(), soup, specs)?;
+        self.soups.push(row)?;
+        Ok(())
+    }
+
+    /// A soup gone. It takes no memory.
+    pub fn drop_soup(&mut self, soup: Sig)
+        ensures { self.new ≡ drop_ranges soup self.old }
+    {
+        keep_others(&mut self.soups, soup);
+    }
+
+    /// An entry more in a soup, of an id that none of its entries has. Entries may be added in any order.
+    pub fn add(&mut self, soup: Sig, uid: Uid, graph: &Graph) -> Result<(), AllocError>
+        ensures { OnOk result (self.new ≡ change_ranges soup (each_range (with_entry uid graph.now)) self.old) }
+    {
+        add_in(self.soups.as_mut_slice(), soup, uid, graph)
+    }
+
+    /// An entry of a soup gone. It takes no memory.
+    pub fn remove(&mut self, soup: Sig, uid: Uid)
+        ensures { self.new ≡ change_ranges soup (each_range (without_entry uid)) self.old }
+    {
+        remove_in(self.soups.as_mut_slice(), soup, uid);
+    }
+
+    /// An entry of a soup with another graph.
+    pub fn replace(&mut self, soup: Sig, uid: Uid, graph: &Graph) -> Result<(), AllocError>
+        ensures { OnOk result (self.new ≡ change_ranges soup (each_range (λ v. with_entry uid graph.now (without_entry uid v))) self.old) }
+    {
+        replace_in(self.soups.as_mut_slice(), soup, uid, graph)
+    }
+
+    /// A new declaration of a soup at the end, with its range. `add_entry` fills a range. After an error nothing has changed.
+    pub fn declare(&mut self, soup: Sig, range: Index) -> Result<(), AllocError>
+        ensures ok { OnOk result (self.new ≡ change_ranges soup (with_range range) self.old) }
+        ensures err { OnErr result (self.new ≡ self.old) }
+    {
+        declare_in(self.soups.as_mut_slice(), soup, range)
+    }
+
+    /// The declaration of a soup of these paths gone, with its range. It takes no memory.
+    pub fn undeclare(&mut self, soup: Sig, paths: &[Path])
+        ensures { self.new ≡ change_ranges soup (without_range paths.now) self.old }
+    {
+        undeclare_in(self.soups.as_mut_slice(), soup, paths);
+    }
+}
+
+fn find_in<'a>(rows: &'a [SoupRanges], sig: Sig, spec: Option<&IndexSpec>) -> Option<&'a Index>
+    ensures found { option_map (λ v. v.now) result ≡ range_found sig (option_map (λ s. s.now) spec.entry) rows.now }
+    ensures sorted { IfSome result (λ v. IsSorted v.now) }
+{
+    let mut left = rows;
+    while let [row, rest @ ..] = left {
+        if row.sig == sig {
+            return row.find(spec);
+        }
+        left = rest;
+    }
+    None
+}
+
+fn keep_others(rows: &mut Vec<SoupRanges>, sig: Sig)
+    ensures { rows.new.items ≡ drop_ranges sig rows.old.items }
+{
+    rows.retain(|row| row.sig != sig);
+}
+
+/// The place of the first row of this signature.
+fn place_of(rows: &[SoupRanges], sig: Sig) -> Option<usize>
+    ensures place { result ≡ position_from (λ row. row.sig == sig) 0 rows.now }
+    ensures within { IfSome result (λ at. at < length rows.now) }
+{
+    let mut at = 0;
+    let mut left = rows;
+    while let [row, rest @ ..] = left {
+        if row.sig == sig {
+            return Some(at);
+        }
+        at += 1;
+        left = rest;
+    }
+    None
+}
+
+fn declare_in(rows: &mut [SoupRanges], sig: Sig, range: Index) -> Result<(), AllocError>
+    ensures ok { OnOk result (rows.new ≡ change_ranges sig (with_range range) rows.old) }
+    ensures err { OnErr result (rows.new ≡ rows.old) }
+{
+    let Some(at) = place_of(rows, sig) else {
+        return Ok(());
+    };
+    rows[at].declare(range)?;
+    Ok(())
+}
+
+fn add_in(rows: &mut [SoupRanges], sig: Sig, uid: Uid, graph: &Graph) -> Result<(), AllocError>
+    ensures { OnOk result (rows.new ≡ change_ranges sig (each_range (with_entry uid graph.now)) rows.old) }
+{
+    let Some(at) = place_of(rows, sig) else {
+        return Ok(());
+    };
+    rows[at].add(uid, graph)?;
+    Ok(())
+}
+
+fn remove_in(rows: &mut [SoupRanges], sig: Sig, uid: Uid)
+    ensures { rows.new ≡ change_ranges sig (each_range (without_entry uid)) rows.old }
+{
+    let Some(at) = place_of(rows, sig) else {
+        return;
+    };
+    rows[at].remove(uid);
+}
+
+fn replace_in(rows: &mut [SoupRanges], sig: Sig, uid: Uid, graph: &Graph) -> Result<(), AllocError>
+    ensures { OnOk result (rows.new ≡ change_ranges sig (each_range (λ v. with_entry uid graph.now (without_entry uid v))) rows.old) }
+{
+    let Some(at) = place_of(rows, sig) else {
+        return Ok(());
+    };
+    rows[at].replace(uid, graph)?;
+    Ok(())
+}
+
+fn undeclare_in(rows: &mut [SoupRanges], sig: Sig, paths: &[Path])
+    ensures { rows.new ≡ change_ranges sig (without_range paths.now) rows.old }
+{
+    let Some(at) = place_of(rows, sig) else {
+        return;
+    };
+    rows[at].undeclare(paths);
+}

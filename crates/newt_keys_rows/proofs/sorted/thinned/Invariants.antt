@@ -1,7 +1,0 @@
--- the declaration stays
-use Rattle.std.proofs.Common.{◌≡◌, Some}
-use Rattle.newt_keys_rows.specs.Trials.{integers}
-use Rattle.newt_keys_rows.proofs.sorted.thinned.Given as goal
-
-abbrev pub invariant-loop-uid : goal.invariant-loop-uid
-invariant-loop-uid l = l.index.spec ≡ Some (integers l.fn.order)

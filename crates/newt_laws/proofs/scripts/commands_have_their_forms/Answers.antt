@@ -1,5 +1,0 @@
-use Rattle.newt_laws.proofs.ScriptRuns.{script-forms}
-use Rattle.newt_laws.proofs.scripts.commands_have_their_forms.Goals as goal
-
-pub returns : goal.returns
-returns c = script-forms

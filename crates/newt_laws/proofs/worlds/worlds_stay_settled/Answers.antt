@@ -1,5 +1,0 @@
-use Rattle.newt_laws.proofs.Settled.{answer-settled}
-use Rattle.newt_laws.proofs.worlds.worlds_stay_settled.Goals as goal
-
-pub returns : goal.returns
-returns c = answer-settled

@@ -1,0 +1,15 @@
+use Rattle.std.proofs.Common.{ℕ, List, [], ◌∷◌, ◌++◌, map, sym, ◌∙◌, ap, append_assoc}
+use Rattle.std.specs.Map.Iter.{deref_pair}
+use Rattle.std.proofs.lemmas.List.{map-append}
+use Rattle.newt_objects_commit.specs.Places.{uids_at}
+use Rattle.newt_objects_commit.proofs.Listing.{listed-append}
+use Rattle.newt_objects_commit.proofs.places.list_uids.Goals as goal
+
+pub loop-key-preserved : goal.loop-key-preserved
+loop-key-preserved c =
+    let done : List ((ℕ × ℕ) × ℕ) = map deref_pair c.loop-key.yielded in
+    let row : (ℕ × ℕ) × ℕ = (c.in-Some.key.now, c.in-Some.id.now) in
+    let old : List ℕ = c.args.uids.now.items in
+    c.in_ok-list_one.ensures ∙ ap (λ (l : List ℕ). l ++ uids_at c.args.sig (row ∷ [])) c.loop-key.invariant ∙ append_assoc old (uids_at c.args.sig done) (uids_at c.args.sig (row ∷ []))
+    ∙ ap (λ (l : List ℕ). old ++ l) (sym (listed-append c.args.sig done (row ∷ [])))
+    ∙ ap (λ (l : List ((ℕ × ℕ) × ℕ)). old ++ uids_at c.args.sig l) (sym (map-append deref_pair c.loop-key.yielded ((c.in-Some.key, c.in-Some.id) ∷ [])))

@@ -1,0 +1,219 @@
+-- A run over the devices of names.
+use Rattle.std.proofs.Common.{◌≡◌, inl, inr, ℕ, zero, suc, ◌⊎◌, ◌+◌, ◌*◌, ◌/◌, ◌<◌, Bool, true, false, IsTrue, IsSome, List, [], ◌∷◌, ◌++◌, length, map, Option, Some, None, MatchOption, refl, sym, ◌∙◌, ap, subst, arith}
+use Rattle.std.specs.Prelude.{slice_get, option_map, option_and_then}
+use Rattle.std.proofs.Math.Nat.{mul-div_cancel}
+use Rattle.std.proofs.lemmas.Bool.{cases_lt, false≢true}
+use Rattle.std.proofs.lemmas.Option.{slice_get-map}
+use Rattle.newt_host_attach.specs.Named.{AreAttached, if_known}
+use Rattle.newt_host_attach.proofs.Since.{since_attached}
+use Rattle.newt_host.specs.Meanings.{held, left_since, since}
+use Rattle.newt_host.specs.Moments.{Attached, Change, IsDurable, IsHistory, LeftBy, MayLeave, Moment, Always, here, later, bytes_after, changes, image, moment_at, output as printed}
+use Rattle.newt_host.specs.Outside.{Outside}
+use Rattle.newt_host.proofs.Extending.{extends-always}
+use Rattle.newt_host.proofs.Histories.{untouched-attached}
+use Rattle.newt_host.proofs.Since.{Always-at}
+use Rattle.newt_spec_script.specs.Script.{Item}
+use Rattle.newt_spec_store.specs.OfImage.{blocks_of}
+use Rattle.newt_spec_store.specs.Store.{Store}
+use Rattle.newt_spec_world.specs.First.{media_of, unit_numbers, unit_of, world_of}
+use Rattle.newt_spec_world.specs.World.{World, Device, flat, first_world, store_of, store_on_unit}
+use Rattle.newt_script_session.specs.Causes.{NeverLess}
+use Rattle.newt_script_session.specs.First.{device_now, unmounted}
+use Rattle.newt_script_session.specs.Moments.{CrashAt, HasLeft, replies_begun, world_at}
+use Rattle.newt_script_session.specs.Script.{Answers}
+use Rattle.newt_script_session.proofs.Crashing.{left_same, its_now, safe_here, crash_at}
+
+-- ---- the first world
+
+map_same : {A B : Type 0} (f g : A → B) (xs : List A) → ((x : A) → f x ≡ g x) → map f xs ≡ map g xs
+map_same f g [] each = refl
+map_same {A} {B} f g (x ∷ xs) each = ap {A = B} {B = List B} (λ y. y ∷ map f xs) (each x) ∙ ap {A = List B} {B = List B} (λ ys. g x ∷ ys) (map_same f g xs each)
+
+module _ (reads : List ℕ → Option Store) (names : List (List ℕ)) (old new : Outside) (a : AreAttached true names old new) (sized : (unit : ℕ) → length (image unit new.now) ≡ new.blocks unit * 4096) where
+  -- what a unit reads as, if a device was attached to it
+  pub image_is : (unit : ℕ) (bytes : List ℕ) → changes unit new.now ≡ Attached bytes ∷ [] → image unit new.now ≡ bytes
+  image_is unit bytes only = ap bytes_after only
+
+  blocks_are : (unit : ℕ) (bytes : List ℕ) → image unit new.now ≡ bytes → new.blocks unit ≡ blocks_of bytes
+  blocks_are unit bytes is =
+      let size : length bytes ≡ new.blocks unit * 4096 = ap length (sym is) ∙ sized unit in
+      let some : 0 < 4096 = omega arith in
+      sym (ap (λ (n : ℕ). n / 4096) size ∙ mul-div_cancel (new.blocks unit) some)
+
+  device_is : (unit : ℕ) (bytes : List ℕ) → image unit new.now ≡ bytes
+      → ◌≡◌ {A = Device} (record { blocks = new.blocks unit; media = media_of (reads (image unit new.now)); mounted = false }) (record { blocks = blocks_of bytes; media = media_of (reads bytes); mounted = false })
+  device_is unit bytes is =
+      ap {A = ℕ} {B = Device} (λ n. record { blocks = n; media = media_of (reads (image unit new.now)); mounted = false }) (blocks_are unit bytes is)
+      ∙ ap {A = List ℕ} {B = Device} (λ b. record { blocks = blocks_of bytes; media = media_of (reads b); mounted = false }) is
+
+  -- the device of a name
+  named : (unit : ℕ) (o : Option (List ℕ)) → slice_get names unit ≡ o → device_now reads new unit ≡ unit_of reads old.devices names unit
+  named unit None e =
+      let none : new.card unit ≡ None = a.cards refl unit ∙ ap (if_known old) e in
+      ap (option_map (λ (name : List ℕ). record { blocks = new.blocks unit; media = media_of (reads (image unit new.now)); mounted = false })) none
+      ∙ sym (ap (λ (o : Option (List ℕ)). option_map (λ (bytes : List ℕ). record { blocks = blocks_of bytes; media = media_of (reads bytes); mounted = false }) (option_and_then old.devices o)) e)
+  named unit (Some name) e = there (old.devices name) refl
+    where
+      there : (d : Option (List ℕ)) → old.devices name ≡ d → device_now reads new unit ≡ unit_of reads old.devices names unit
+      there None k =
+          let none : new.card unit ≡ None = a.cards refl unit ∙ (ap (if_known old) e ∙ ap (option_map (λ (bytes : List ℕ). name)) k) in
+          ap (option_map (λ (name : List ℕ). record { blocks = new.blocks unit; media = media_of (reads (image unit new.now)); mounted = false })) none
+          ∙ sym (ap (λ (o : Option (List ℕ)). option_map (λ (bytes : List ℕ). record { blocks = blocks_of bytes; media = media_of (reads bytes); mounted = false }) (option_and_then old.devices o)) e
+          ∙ ap (option_map (λ (bytes : List ℕ). record { blocks = blocks_of bytes; media = media_of (reads bytes); mounted = false })) k)
+      there (Some bytes) k =
+          let some : new.card unit ≡ Some name = a.cards refl unit ∙ (ap (if_known old) e ∙ ap (option_map (λ (bytes : List ℕ). name)) k) in
+          let was = a.begins refl unit name some in
+          let same : was.0 ≡ bytes = let both : Some was.0 ≡ Some bytes = sym was.1 ∙ k in cc in
+          ap (option_map (λ (name : List ℕ). record { blocks = new.blocks unit; media = media_of (reads (image unit new.now)); mounted = false })) some
+          ∙ (ap {A = Device} {B = Option Device} Some (device_is unit bytes (image_is unit was.0 was.2 ∙ same))
+          ∙ sym (ap (λ (o : Option (List ℕ)). option_map (λ (bytes : List ℕ). record { blocks = blocks_of bytes; media = media_of (reads bytes); mounted = false }) (option_and_then old.devices o)) e
+          ∙ ap (option_map (λ (bytes : List ℕ). record { blocks = blocks_of bytes; media = media_of (reads bytes); mounted = false })) k))
+
+  pub first_is : unmounted reads new ≡ world_of reads old.devices names
+  first_is = ap first_world (map_same (device_now reads new) (unit_of reads old.devices names) unit_numbers (λ unit. named unit (slice_get names unit) refl))
+
+-- a unit that was attached has nothing pending
+pub attached_durable : (unit : ℕ) (bytes : List ℕ) (now : Moment) → changes unit now ≡ Attached bytes ∷ [] → IsDurable unit now
+attached_durable unit bytes now only left may =
+    let is : LeftBy (Attached bytes ∷ []) left = subst (λ (done : List Change). LeftBy done left) only may in
+    is ∙ sym (ap bytes_after only)
+
+-- no count has fallen while the names were attached
+pub attached_never : (told : Bool) (names : List (List ℕ)) (old new : Outside) → AreAttached told names old new → NeverLess old new
+attached_never told names old new a = record {
+  in_faults = omega (arith, a.in_faults);
+  out_faults = omega (arith, a.out_faults);
+  dev_faults = λ unit. omega (arith, a.counts.dev_faults unit);
+}
+
+-- ---- what a crash leaves
+
+pub always_first : {Q : Moment → Type 0} {old now : Moment} → Always Q old now → Q old
+always_first (here q) = q
+always_first (later event now before q) = always_first before
+
+module _ (answer : Answers) (reads : List ℕ → Option Store) (items : List Item) (names : List (List ℕ)) (old mid new : Outside) (a : AreAttached true names old mid) where
+  -- what may be left between two worlds, where the unit was attached with these bytes
+  between : (o : Option Store) (N Q : Type 0) (unit : ℕ) (bytes left : List ℕ) (held : Option (List ℕ)) → held ≡ Some bytes → changes unit mid.now ≡ Attached bytes ∷ []
+      → MatchOption o (N → MayLeave unit mid.now left) (λ store. (reads left ≡ Some store) ⊎ Q)
+      → MatchOption o (N → held ≡ Some left) (λ store. (reads left ≡ Some store) ⊎ Q)
+  between None N Q unit bytes left held is only b = λ n.
+      let same : LeftBy (Attached bytes ∷ []) left = subst (λ (done : List Change). LeftBy done left) only (b n) in
+      is ∙ ap Some (sym same)
+  between (Some store) N Q unit bytes left held is only b = b
+
+  -- at a moment
+  has_left : (world : World) (now : Moment) (unit : ℕ) (bytes left : List ℕ) → option_and_then old.devices (slice_get names unit) ≡ Some bytes → changes unit mid.now ≡ Attached bytes ∷ []
+      → CrashAt answer reads mid.now world items (printed mid.now) now → MayLeave unit now left
+      → HasLeft answer reads world items (option_and_then old.devices (slice_get names unit)) (printed old.now) (printed now) unit left
+  has_left world now unit bytes left is only c may =
+      let m = replies_begun answer world items (length c.shown) in
+      record {
+        shown = c.shown;
+        grown = c.out ∙ ap (λ o. o ++ c.shown) (a.quiet refl);
+        leaves = between (store_on_unit (world_at answer world items m) unit) (store_on_unit (world_at answer world items (m + 1)) unit ≡ None)
+            (reads left ≡ store_on_unit (world_at answer world items (m + 1)) unit) unit bytes left (option_and_then old.devices (slice_get names unit)) is only (c.leaves unit left may);
+      }
+
+  pub crash_since : (world : World) → Always (CrashAt answer reads mid.now world items (printed mid.now)) mid.now new.now
+      → (unit t : ℕ) (bytes left shown : List ℕ) (size : ℕ) → changes unit old.now ≡ [] → option_and_then old.devices (slice_get names unit) ≡ Some bytes → changes unit mid.now ≡ Attached bytes ∷ []
+      → IsHistory size (changes unit new.now) → since new unit ≡ Some t → left_since new t unit left shown
+      → HasLeft answer reads world items (option_and_then old.devices (slice_get names unit)) (printed old.now) shown unit left
+  crash_since world always unit t bytes left shown size fresh is only history at (k, from, to, may, out_is) =
+      let held = option_and_then old.devices (slice_get names unit) in
+      let P : List ℕ → Type 0 = λ o. HasLeft answer reads world items held (printed old.now) o unit left in
+      subst P out_is (elim (cases_lt k (length mid.now)) [
+        | inl early ↦
+            let there = since_attached unit t k size bytes old.now mid.now new.now fresh (a.extends refl) (a.quiet refl) only (extends-always always) history at from (omega (arith, early)) in
+            let then = left_same unit left mid.now (moment_at k new.now) (there.0 ∙ sym only) may in
+            subst P (sym there.1) (has_left world mid.now unit bytes left is only (always_first always) then)
+        | inr late ↦ has_left world (moment_at k new.now) unit bytes left is only (Always-at always k late to) may
+      ])
+
+  known_name : (name bytes : List ℕ) (o : Option (List ℕ)) → if_known old o ≡ Some name → old.devices name ≡ Some bytes → option_and_then old.devices o ≡ Some bytes
+  known_name name bytes None is there = absurd (cc)
+  known_name name bytes (Some other) is there = go (old.devices other) is
+    where
+      go : (d : Option (List ℕ)) → option_map (λ (b : List ℕ). other) d ≡ Some name → old.devices other ≡ Some bytes
+      go None e = absurd (cc)
+      go (Some b) e = let same : other ≡ name = cc in ap old.devices same ∙ there
+
+  -- at each moment since a unit was attached, by what holds of every host
+  pub crash_named : (world : World) → Always (CrashAt answer reads mid.now world items (printed mid.now)) mid.now new.now
+      → ((unit : ℕ) → new.card unit ≡ mid.card unit) → ((unit : ℕ) → changes unit old.now ≡ []) → ((unit : ℕ) → new.card unit ≡ None → changes unit new.now ≡ [])
+      → ((unit : ℕ) → IsSome (new.card unit) → IsHistory (new.blocks unit * 4096) (changes unit new.now))
+      → (unit t : ℕ) (left shown : List ℕ) → since new unit ≡ Some t → left_since new t unit left shown
+      → HasLeft answer reads world items (option_and_then old.devices (slice_get names unit)) (printed old.now) shown unit left
+  crash_named world always cards fresh unknown history unit t left shown at might = go (new.card unit) refl
+    where
+      go : (o : Option (List ℕ)) → new.card unit ≡ o → HasLeft answer reads world items (option_and_then old.devices (slice_get names unit)) (printed old.now) shown unit left
+      go None e = let never : since new unit ≡ None = untouched-attached unit new.now (unknown unit e) in absurd (cc)
+      go (Some name) e =
+          let had : mid.card unit ≡ Some name = sym (cards unit) ∙ e in
+          let was = a.begins refl unit name had in
+          crash_since world always unit t was.0 left shown (new.blocks unit * 4096) (fresh unit)
+          (known_name name was.0 (slice_get names unit) (sym (a.cards refl unit) ∙ had) was.1) was.2
+          (history unit (subst (λ (o : Option (List ℕ)). IsSome o) (sym e) refl)) at might
+
+-- ---- where nothing has been done yet
+
+numbers_at : (unit : ℕ) → (slice_get unit_numbers unit ≡ Some unit) ⊎ (slice_get unit_numbers unit ≡ None)
+numbers_at zero = inl refl
+numbers_at (suc zero) = inl refl
+numbers_at (suc (suc zero)) = inl refl
+numbers_at (suc (suc (suc zero))) = inl refl
+numbers_at (suc (suc (suc (suc zero)))) = inl refl
+numbers_at (suc (suc (suc (suc (suc zero))))) = inl refl
+numbers_at (suc (suc (suc (suc (suc (suc zero)))))) = inl refl
+numbers_at (suc (suc (suc (suc (suc (suc (suc zero))))))) = inl refl
+numbers_at (suc (suc (suc (suc (suc (suc (suc (suc unit)))))))) = inr refl
+
+abbrev on : Option (Option Device) → Option Store
+on o = option_and_then (λ (d : Device). store_of d.media) (flat o)
+
+nothing : {A : Type 0} (x : A) → ◌≡◌ {A = Option A} None (Some x) → ⊥
+nothing x e = absurd (cc)
+
+media_store : (o : Option Store) (store : Store) → store_of (media_of o) ≡ Some store → o ≡ Some store
+media_store None store is = is
+media_store (Some s) store is = is
+
+-- the store of a unit is that of its image
+pub unmounted_store : (reads : List ℕ → Option Store) (outside : Outside) (unit : ℕ) (store : Store) → store_on_unit (unmounted reads outside) unit ≡ Some store
+    → IsSome (outside.card unit) × (reads (image unit outside.now) ≡ Some store)
+unmounted_store reads outside unit store is = elim (numbers_at unit) [
+  | inl there ↦ go (outside.card unit) refl (sym (ap on (slice_get-map (device_now reads outside) unit_numbers unit ∙ ap (option_map (device_now reads outside)) there)) ∙ is)
+  | inr none ↦ absurd (nothing store (sym (ap on (slice_get-map (device_now reads outside) unit_numbers unit ∙ ap (option_map (device_now reads outside)) none)) ∙ is))
+]
+  where
+    go : (o : Option (List ℕ)) → outside.card unit ≡ o
+        → option_and_then (λ (d : Device). store_of d.media) (option_map (λ (name : List ℕ). record { blocks = outside.blocks unit; media = media_of (reads (image unit outside.now)); mounted = false }) (outside.card unit)) ≡ Some store
+        → IsSome (outside.card unit) × (reads (image unit outside.now) ≡ Some store)
+    go None e k = absurd (nothing store (sym (ap (λ (c : Option (List ℕ)). option_and_then (λ (d : Device). store_of d.media) (option_map (λ (name : List ℕ). record { blocks = outside.blocks unit; media = media_of (reads (image unit outside.now)); mounted = false }) c)) e) ∙ k))
+    go (Some name) e k =
+        let there : store_of (media_of (reads (image unit outside.now))) ≡ Some store =
+        sym (ap (λ (c : Option (List ℕ)). option_and_then (λ (d : Device). store_of d.media) (option_map (λ (name : List ℕ). record { blocks = outside.blocks unit; media = media_of (reads (image unit outside.now)); mounted = false }) c)) e) ∙ k in
+        (subst (λ (o : Option (List ℕ)). IsSome o) (sym e) refl, media_store (reads (image unit outside.now)) store there)
+
+-- So a crash leaves it, where nothing is pending.
+pub unmounted_leaves : (reads : List ℕ → Option Store) (outside : Outside) → ((unit : ℕ) → IsSome (outside.card unit) → IsDurable unit outside.now)
+    → (unit : ℕ) (store : Store) (left : List ℕ) → store_on_unit (unmounted reads outside) unit ≡ Some store → MayLeave unit outside.now left → reads left ≡ Some store
+unmounted_leaves reads outside durable unit store left is may =
+    let there = unmounted_store reads outside unit store is in
+    ap reads (durable unit there.0 left may) ∙ there.1
+
+-- nothing is pending on the units that were attached
+pub attached_at_rest : (told : Bool) (names : List (List ℕ)) (old new : Outside) → AreAttached told names old new → IsTrue told → (unit : ℕ) → IsSome (new.card unit) → IsDurable unit new.now
+attached_at_rest told names old new a tells unit some = go (new.card unit) refl some
+  where
+    go : (o : Option (List ℕ)) → new.card unit ≡ o → IsSome o → IsDurable unit new.now
+    go None e s = absurd (false≢true s)
+    go (Some name) e s = let was = a.begins tells unit name e in attached_durable unit was.0 new.now was.2
+
+-- and a run that has not begun has left what it found
+pub crash_first : (answer : Answers) (reads : List ℕ → Option Store) (items : List Item) (mid : Outside) → ((unit : ℕ) → IsSome (mid.card unit) → IsDurable unit mid.now)
+    → Always (CrashAt answer reads mid.now (unmounted reads mid) items (printed mid.now)) mid.now mid.now
+crash_first answer reads items mid durable =
+    here (crash_at answer reads mid.now (unmounted reads mid) items (printed mid.now) mid.now
+    (safe_here answer reads mid.now (unmounted reads mid) items mid.now
+    (its_now reads mid.now (unmounted reads mid) mid.now (λ unit none. refl) (unmounted_leaves reads mid durable))))

@@ -1,0 +1,85 @@
+-- Items that are answered one after another.
+use Rattle.std.proofs.Common.{◌≡◌, true, false, cond, List, [], ◌∷◌, ◌++◌, flat_map, refl, sym, ◌∙◌, ap, append-nil}
+use Rattle.std.proofs.lemmas.Grind.{flat_map-append}
+use Rattle.newt_spec_script.specs.Script.{Item, is_quit, up_to_quit}
+use Rattle.newt_spec_world.specs.Reply.{reply_text}
+use Rattle.newt_spec_world.specs.World.{World}
+use Rattle.newt_script_session.specs.Script.{Answers, quits_among, step, replies, world_behind, texts}
+
+-- the first items do not quit
+pub up_to_go : (a b : List Item) → quits_among a ≡ false → up_to_quit (a ++ b) ≡ a ++ up_to_quit b
+unfolding quits_among
+up_to_go [] b h = refl
+up_to_go (item ∷ a) b h =
+    elim (is_quit item) as (λ v. cond v true (quits_among a) ≡ false → ◌≡◌ {A = List Item} (elim v [ true ↦ item ∷ [] | false ↦ item ∷ up_to_quit (a ++ b) ]) (item ∷ (a ++ up_to_quit b))) [
+      | true ↦ λ e. cc
+      | false ↦ λ e. ap (λ t. item ∷ t) (up_to_go a b e)
+    ] h
+
+-- they do
+pub up_to_stop : (a b : List Item) → quits_among a ≡ true → up_to_quit (a ++ b) ≡ up_to_quit a
+unfolding quits_among
+up_to_stop [] b h = cc
+up_to_stop (item ∷ a) b h =
+    elim (is_quit item) as (λ v. cond v true (quits_among a) ≡ true
+    → ◌≡◌ {A = List Item} (elim v [ true ↦ item ∷ [] | false ↦ item ∷ up_to_quit (a ++ b) ]) (elim v [ true ↦ item ∷ [] | false ↦ item ∷ up_to_quit a ])) [
+      | true ↦ λ e. refl
+      | false ↦ λ e. ap (λ t. item ∷ t) (up_to_stop a b e)
+    ] h
+
+pub among_go : (a b : List Item) → quits_among a ≡ false → quits_among (a ++ b) ≡ quits_among b
+unfolding quits_among
+among_go [] b h = refl
+among_go (item ∷ a) b h =
+    elim (is_quit item) as (λ v. cond v true (quits_among a) ≡ false → cond v true (quits_among (a ++ b)) ≡ quits_among b) [
+      | true ↦ λ e. cc
+      | false ↦ λ e. among_go a b e
+    ] h
+
+pub among_stop : (a b : List Item) → quits_among a ≡ true → quits_among (a ++ b) ≡ true
+unfolding quits_among
+among_stop [] b h = cc
+among_stop (item ∷ a) b h =
+    elim (is_quit item) as (λ v. cond v true (quits_among a) ≡ true → cond v true (quits_among (a ++ b)) ≡ true) [
+      | true ↦ λ e. refl
+      | false ↦ λ e. among_stop a b e
+    ] h
+
+-- where none quits
+pub up_to_same : (a : List Item) → quits_among a ≡ false → up_to_quit a ≡ a
+up_to_same a h = ap up_to_quit (sym (append-nil a)) ∙ (up_to_go a [] h ∙ append-nil a)
+
+module _ (answer : Answers) where
+  pub replies_append : (world : World) (a b : List Item) → replies answer world (a ++ b) ≡ replies answer world a ++ replies answer (world_behind answer world a) b
+  unfolding replies world_behind
+  replies_append world [] b = refl
+  replies_append world (item ∷ a) b = ap (λ t. (step answer world item).1 ∷ t) (replies_append (step answer world item).0 a b)
+
+  pub behind_append : (world : World) (a b : List Item) → world_behind answer world (a ++ b) ≡ world_behind answer (world_behind answer world a) b
+  unfolding world_behind
+  behind_append world [] b = refl
+  behind_append world (item ∷ a) b = behind_append (step answer world item).0 a b
+
+  pub texts_append : (world : World) (a b : List Item) → texts answer world (a ++ b) ≡ texts answer world a ++ texts answer (world_behind answer world a) b
+  unfolding texts
+  texts_append world a b = ap (flat_map reply_text) (replies_append world a b) ∙ flat_map-append reply_text (replies answer world a) (replies answer (world_behind answer world a) b)
+
+  pub texts_none : (world : World) → texts answer world [] ≡ []
+  unfolding texts replies
+  texts_none world = refl
+
+  -- one item
+  pub texts_one : (world : World) (item : Item) → texts answer world (item ∷ []) ≡ reply_text (step answer world item).1
+  unfolding texts replies
+  texts_one world item = append-nil (reply_text (step answer world item).1)
+
+  pub world_one : (world : World) (item : Item) → world_behind answer world (item ∷ []) ≡ (step answer world item).0
+  unfolding world_behind
+  world_one world item = refl
+
+pub up_to_one : (item : Item) → up_to_quit (item ∷ []) ≡ item ∷ []
+up_to_one item = elim (is_quit item) as (λ v. ◌≡◌ {A = List Item} (elim v [ true ↦ item ∷ [] | false ↦ item ∷ [] ]) (item ∷ [])) [ true ↦ refl | false ↦ refl ]
+
+pub quits_one : (item : Item) → quits_among (item ∷ []) ≡ is_quit item
+unfolding quits_among
+quits_one item = elim (is_quit item) as (λ v. cond v true false ≡ v) [ true ↦ refl | false ↦ refl ]

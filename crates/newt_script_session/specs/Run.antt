@@ -1,0 +1,70 @@
+-- What a run of a script reads and writes.
+use Rattle.std.specs.Prelude.{◌≡◌, ◌⊎◌, ℕ, ◌<◌, Bool, true, false, List, [], ◌++◌, length, take}
+use Rattle.newt_spec_world.specs.World.{World}
+use Rattle.newt_script_session.specs.Stream.{WroteSome}
+use Rattle.newt_script_session.specs.Lines.{ended_lines, lines_of}
+use Rattle.newt_script_session.specs.Script.{Answers, has_quit, output_of}
+use Rattle.newt_script_session.specs.declared.halt.Halt.{Halt}
+use Rattle.newt_script_session.specs.declared.halt.Halt.TheVariants.{Memory, Device, Source, Sink, TooLong}
+
+-- a line of it that ended is a well-formed quit
+abbrev pub quits : List ℕ → Bool
+quits script = has_quit (ended_lines [] script)
+
+-- More bytes came than are read, and no quit ended before.
+pub record IsTooLong (limit : ℕ) (script : List ℕ) : Type 0 where
+  pub long : limit < length script
+  pub no_quit : quits (take limit script) ≡ false
+
+-- The script was read to its end, or through the line of its quit.
+pub record IsReadThrough (limit : ℕ) (script left : List ℕ) : Type 0 where
+  pub taken : List ℕ
+  pub split : script ≡ taken ++ left
+  pub ends : (left ≡ []) ⊎ (quits taken ≡ true)
+  pub not_too_long : IsTooLong limit script → ⊥
+
+-- What is written of a reply where the run is halted in it: a first part, and nothing where a device failed.
+abbrev pub HaltedReply : Halt → (text old now : List ℕ) → Type 0
+HaltedReply Memory text old now = WroteSome text old now
+HaltedReply (Device unit) text old now = now ≡ old
+HaltedReply Sink text old now = WroteSome text old now
+HaltedReply Source text old now = ⊥
+HaltedReply TooLong text old now = ⊥
+
+module _ (answer : Answers) where
+  -- the output of a whole script
+  abbrev pub output : World → List ℕ → List ℕ
+  output world script = output_of answer world (lines_of script)
+
+  -- the output of the lines of it that ended
+  abbrev pub output_of_ended : World → List ℕ → List ℕ
+  output_of_ended world script = output_of answer world (ended_lines [] script)
+
+  -- The output is that of the lines that ended within the bytes taken.
+  pub record AnsweredTaken (world : World) (script left old now : List ℕ) : Type 0 where
+    pub taken : List ℕ
+    pub split : script ≡ taken ++ left
+    pub out : now ≡ old ++ output_of_ended world taken
+
+  -- The output is that of some first lines: whole replies.
+  pub record AnsweredLines (world : World) (lines : List (List ℕ)) (old now : List ℕ) : Type 0 where
+    pub first : List (List ℕ)
+    pub rest : List (List ℕ)
+    pub split : lines ≡ first ++ rest
+    pub out : now ≡ old ++ output_of answer world first
+
+  -- what is written of the output of lines where the run is halted in them: a first part, and whole replies where a device failed
+  abbrev pub HaltedIn : Halt → World → (lines : List (List ℕ)) → (old now : List ℕ) → Type 0
+  HaltedIn Memory world lines old now = WroteSome (output_of answer world lines) old now
+  HaltedIn (Device unit) world lines old now = AnsweredLines world lines old now
+  HaltedIn Sink world lines old now = WroteSome (output_of answer world lines) old now
+  HaltedIn Source world lines old now = ⊥
+  HaltedIn TooLong world lines old now = ⊥
+
+  -- what a run leaves that is halted before the script's end
+  abbrev pub Halted : ℕ → Halt → World → (script left old now : List ℕ) → Type 0
+  Halted limit Memory world script left old now = WroteSome (output world script) old now
+  Halted limit (Device unit) world script left old now = AnsweredLines world (lines_of script) old now
+  Halted limit Sink world script left old now = WroteSome (output world script) old now
+  Halted limit Source world script left old now = AnsweredTaken world script left old now
+  Halted limit TooLong world script left old now = IsTooLong limit script × (now ≡ old ++ output_of_ended world (take limit script))

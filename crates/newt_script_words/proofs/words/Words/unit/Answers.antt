@@ -1,0 +1,13 @@
+use Rattle.std.proofs.Common.{refl}
+use Rattle.newt_spec_script.specs.Words.{unit_digit}
+use Rattle.newt_script_words.specs.Readers.{unit_of}
+use Rattle.newt_script_words.proofs.Forms.{reads_word, refuses_word}
+use Rattle.newt_script_words.proofs.words.Words.unit.Goals as goal
+
+pub returns-clause-read : goal.returns-clause-read
+unfolding unit_of
+returns-clause-read c = reads_word unit_digit c.args.self.now c.word.result.now c.word.new.self c.unit_digit.result c.ok_or.result refl c.word.ensures.word c.word.ensures.rest c.unit_digit.ensures c.ok_or.ensures.value
+
+pub returns-clause-refused : goal.returns-clause-refused
+unfolding unit_of
+returns-clause-refused c = refuses_word unit_digit c.args.self.now c.word.result.now c.unit_digit.result c.ok_or.result refl c.word.ensures.word c.unit_digit.ensures c.ok_or.ensures.value

@@ -1,0 +1,144 @@
+//! Names in a line: bare, or in quotes.
+ghost use Rattle.std.specs.Prelude.{◌≡◌, ◌≢◌, ◌<◌, ◌||◌, ◌==◌, ◌∷◌, length, not, true, false, IfOk, IfErr, IfSome, MatchOption};
+ghost use Rattle.std.specs.List.{list_all};
+ghost use Rattle.newt_base.specs.Names.{is_name, needs_quotes};
+ghost use Rattle.newt_base.specs.declared.Refusal.TheVariants.{Line as NotTheForm};
+ghost use Rattle.newt_spec_script.specs.Words as spec;
+ghost use Rattle.newt_script_words.specs.Names.{goes_on};
+
+use crate::blanks::{is_blank, split_word};
+use crate::fault::WordFault;
+use newt_base::{Name, NameFault, needs_quotes};
+use std::alloc::Global;
+
+/// The name that these bytes are; `Form` where they are none.
+fn named(alloc: Global, bytes: &[u8]) -> Result<Name, WordFault>
+    ensures read { IfOk result (λ name. (is_name bytes.now ≡ true) × (name ≡ bytes.now)) }
+    ensures refused { result ≢ Err WordFault.Memory → IfErr result (λ fault. (fault ≡ WordFault.Form) × (is_name bytes.now ≡ false)) }
+{
+    match Name::read(alloc, bytes) {
+        Ok(name) => Ok(name),
+        Err(NameFault::Name) => Err(WordFault::Form),
+        Err(NameFault::Memory) => Err(WordFault::Memory),
+    }
+}
+
+/// Whether all these bytes may stand in a name without quotes.
+fn are_bare(bytes: &[u8]) -> bool
+    ensures { result ≡ list_all (λ byte. not (needs_quotes byte)) bytes.now }
+{
+    bytes.iter().all(|byte| !needs_quotes(*byte))
+}
+
+/// The name that a word without quotes is.
+pub fn bare_name(alloc: Global, word: &[u8]) -> Result<Name, WordFault>
+    ensures read { IfOk result (λ name. spec.bare_name word.now ≡ Some name) }
+    ensures refused { result ≢ Err WordFault.Memory → IfErr result (λ fault. (fault ≡ WordFault.Form) × (spec.bare_name word.now ≡ None)) }
+{
+    if !are_bare(word) {
+        return Err(WordFault::Form);
+    }
+    named(alloc, word)
+}
+
+/// Whether a backslash may stand before a byte.
+fn is_escaped(byte: u8) -> bool
+    ensures { result ≡ (byte == 34) || (byte == 92) }
+{
+    byte == b'"' || byte == b'\\'
+}
+
+/// The byte behind a backslash, and what follows it.
+#[tactic(auto, using(crate::proofs::Quotes::escaped, crate::proofs::Quotes::unmarked))]
+fn behind_backslash(text: &[u8]) -> Option<(Option<u8>, &[u8])>
+    ensures step { MatchOption result (spec.quoted (92 ∷ text.now) ≡ None) (λ found. spec.quoted (92 ∷ text.now) ≡ goes_on found.0 found.1.now) }
+    ensures shorter { IfSome result (λ found. length found.1.now < length text.now) }
+{
+    match text {
+        [byte, rest @ ..] if is_escaped(*byte) => Some((Some(*byte), rest)),
+        _ => None,
+    }
+}
+
+/// What a quoted text begins with: a byte, which a backslash may stand before, or none at the
+/// closing quote; and what follows it.
+#[tactic(auto, using(crate::proofs::Quotes::closed, crate::proofs::Quotes::one_more))]
+fn next_in_quotes(text: &[u8]) -> Option<(Option<u8>, &[u8])>
+    ensures step { MatchOption result (spec.quoted text.now ≡ None) (λ found. spec.quoted text.now ≡ goes_on found.0 found.1.now) }
+    ensures shorter { IfSome result (λ found. length found.1.now < length text.now) }
+{
+    let [byte, rest @ ..] = text else {
+        return None;
+    };
+    if *byte == b'"' {
+        Some((None, rest))
+    } else if *byte == b'\\' {
+        behind_backslash(rest)
+    } else {
+        Some((Some(*byte), rest))
+    }
+}
+
+/// The text up to the closing quote, without the backslashes before quotes and backslashes, and
+/// what follows the quote.
+fn unquoted(alloc: Global, text: &[u8]) -> Result<(Vec<u8>, &[u8]), WordFault>
+    ensures read { IfOk result (λ found. spec.quoted text.now ≡ Some (found.0.items, found.1.now)) }
+    ensures refused { result ≢ Err WordFault.Memory → IfErr result (λ fault. (fault ≡ WordFault.Form) × (spec.quoted text.now ≡ None)) }
+{
+    let mut name = Vec::new(alloc);
+    let mut rest = text;
+    loop {
+        let Some((next, after)) = next_in_quotes(rest) else {
+            return Err(WordFault::Form);
+        };
+        let Some(byte) = next else {
+            return Ok((name, after));
+        };
+        if name.push(byte).is_err() {
+            return Err(WordFault::Memory);
+        }
+        rest = after;
+    }
+}
+
+/// The name in a text behind its opening quote, and what follows the closing one, where the word
+/// ends.
+pub fn quoted_name(alloc: Global, text: &[u8]) -> Result<(Name, &[u8]), WordFault>
+    ensures read { IfOk result (λ found. spec.if_name (spec.quoted text.now) ≡ Ok (found.0, found.1.now)) }
+    ensures refused { result ≢ Err WordFault.Memory → IfErr result (λ fault. (fault ≡ WordFault.Form) × (spec.if_name (spec.quoted text.now) ≡ Err NotTheForm)) }
+{
+    let (bytes, rest) = unquoted(alloc, text)?;
+    let name = named(alloc, &bytes)?;
+    match rest {
+        [] => Ok((name, rest)),
+        [byte, ..] if is_blank(*byte) => Ok((name, rest)),
+        _ => Err(WordFault::Form),
+    }
+}
+
+/// The name in quotes or without them that a text begins with, which does not begin with a blank;
+/// and what follows it.
+#[tactic(auto, using(crate::proofs::Quotes::in_quotes, crate::proofs::Quotes::without_quotes))]
+pub fn name_from(alloc: Global, text: &[u8]) -> Result<(Name, &[u8]), WordFault>
+    ensures read { IfOk result (λ found. spec.name_from text.now ≡ Ok (found.0, found.1.now)) }
+    ensures refused { result ≢ Err WordFault.Memory → IfErr result (λ fault. (fault ≡ WordFault.Form) × (spec.name_from text.now ≡ Err NotTheForm)) }
+{
+    let [byte, rest @ ..] = text else {
+        return Err(WordFault::Form);
+    };
+    if *byte == b'"' {
+        quoted_name(alloc, rest)
+    } else {
+        bare_name_from(alloc, text)
+    }
+}
+
+/// The name without quotes that a text begins with, and what follows it.
+fn bare_name_from(alloc: Global, text: &[u8]) -> Result<(Name, &[u8]), WordFault>
+    ensures read { IfOk result (λ found. spec.word spec.bare_name text.now ≡ Ok (found.0, found.1.now)) }
+    ensures refused { result ≢ Err WordFault.Memory → IfErr result (λ fault. (fault ≡ WordFault.Form) × (spec.word spec.bare_name text.now ≡ Err NotTheForm)) }
+{
+    let (word, rest) = split_word(text);
+    let name = bare_name(alloc, word)?;
+    Ok((name, rest))
+}

@@ -1,7 +1,0 @@
-use Rattle.std.proofs.Common.{◌≡◌, ◌++◌, map}
-use Rattle.std.specs.Map.Iter.{deref_pair}
-use Rattle.newt_shelf.specs.Places.{uids_at}
-use Rattle.newt_shelf.proofs.places.list_uids.Given as goal
-
-abbrev pub invariant-loop-key : goal.invariant-loop-key
-invariant-loop-key l = l.uids.items ≡ l.fn.uids.items ++ uids_at l.sig (map deref_pair l.yielded)

@@ -1,0 +1,107 @@
+-- The pages that an image holds: what is left of its records, applied in order.
+use Rattle.std.specs.Prelude.{ℕ, suc, zero, ◌+◌, ◌*◌, ◌-◌, ◌/◌, ◌==◌, nat_le, ◌&&◌, not, Bool, true, if◌then◌else◌, List, [], ◌∷◌, ◌++◌, length, take, drop, map, Option, Some, None}
+use Rattle.std.specs.List.{list_all, list_any, flat_map}
+use Rattle.std.specs.Int.{to_be_bytes, from_be_bytes, w16, w32}
+use Rattle.std.specs.Ordering.{nat_cmp}
+use Rattle.std.specs.FinMap as map
+use Rattle.newt_spec_image.specs.Records.{and_then, records}
+
+-- the number that the bytes at a place spell
+abbrev pub short_at : ℕ → List ℕ → ℕ
+short_at at bytes = from_be_bytes w16 (take 2 (drop at bytes))
+
+abbrev pub word_at : ℕ → List ℕ → ℕ
+word_at at bytes = from_be_bytes w32 (take 4 (drop at bytes))
+
+-- A page: the id of its object, the number of the part, the length of the object, and 500 bytes.
+abbrev pub object_id : List ℕ → ℕ
+object_id page = word_at 0 page
+
+abbrev pub part_number : List ℕ → ℕ
+part_number page = word_at 4 page
+
+abbrev pub object_length : List ℕ → ℕ
+object_length page = word_at 8 page
+
+abbrev pub page_data : List ℕ → List ℕ
+page_data page = drop 12 page
+
+-- Pages by their numbers.
+abbrev pub Pages : Type 0
+Pages = map.FinMap nat_cmp (List ℕ)
+
+-- a page that is put, behind its number
+abbrev pub Put : Type 0
+Put = ℕ × List ℕ
+
+-- What a payload changes: pages that are put, and the numbers of pages that are deleted.
+pub record Change : Type 0 where
+  pub puts : List Put
+  pub deletes : List ℕ
+
+abbrev pub change_numbers : Change → List ℕ
+change_numbers change = map (λ put. put.0) change.puts ++ change.deletes
+
+-- no number twice
+abbrev pub all_distinct : List ℕ → Bool
+all_distinct [] = true
+all_distinct (n ∷ ns) = not (list_any (λ m. n == m) ns) && all_distinct ns
+
+-- so many puts from a place on, each a page number and 512 bytes, and so many deletes
+abbrev pub puts_from : ℕ → List ℕ → List Put
+puts_from zero bytes = []
+puts_from (suc n) bytes = (word_at 0 bytes, take 512 (drop 4 bytes)) ∷ puts_from n (drop 516 bytes)
+
+abbrev pub deletes_from : ℕ → List ℕ → List ℕ
+deletes_from zero bytes = []
+deletes_from (suc n) bytes = word_at 0 bytes ∷ deletes_from n (drop 4 bytes)
+
+-- what a payload says by its counts
+abbrev pub said_by : List ℕ → Change
+said_by payload = record {
+  puts = puts_from (short_at 0 payload) (drop 4 payload);
+  deletes = deletes_from (short_at 2 payload) (drop (4 + 516 * short_at 0 payload) payload);
+}
+
+-- it has exactly the bytes that its counts ask for, page numbers are below 65,536, and none stands twice
+abbrev pub is_change : List ℕ → Bool
+is_change payload =
+    (length payload == 4 + 516 * short_at 0 payload + 4 * short_at 2 payload)
+    && (list_all (λ n. nat_le n 65535) (change_numbers (said_by payload)) && all_distinct (change_numbers (said_by payload)))
+
+abbrev pub change_in : List ℕ → Option Change
+change_in payload = if is_change payload then Some (said_by payload) else None
+
+-- how a payload is written that says a change
+abbrev pub written_put : Put → List ℕ
+written_put put = to_be_bytes w32 put.0 ++ put.1
+
+abbrev pub written_delete : ℕ → List ℕ
+written_delete number = to_be_bytes w32 number
+
+unfoldable pub written_change : Change → List ℕ
+written_change change = (to_be_bytes w16 (length change.puts) ++ to_be_bytes w16 (length change.deletes)) ++ flat_map written_put change.puts ++ flat_map written_delete change.deletes
+
+-- Puts are set, and then deletes removed.
+abbrev pub with_puts : List Put → Pages → Pages
+with_puts [] pages = pages
+with_puts (put ∷ puts) pages = with_puts puts (map.insert pages put.0 put.1)
+
+abbrev pub without_numbers : List ℕ → Pages → Pages
+without_numbers [] pages = pages
+without_numbers (n ∷ ns) pages = without_numbers ns (map.remove pages n)
+
+abbrev pub after : Change → Pages → Pages
+after change pages = without_numbers change.deletes (with_puts change.puts pages)
+
+abbrev pub pages_after : List (List ℕ) → Pages → Option Pages
+pages_after [] pages = Some pages
+pages_after (payload ∷ payloads) pages = and_then (change_in payload) (λ change. pages_after payloads (after change pages))
+
+-- The pages of an image, or none where it holds none.
+abbrev pub pages : List ℕ → Option Pages
+pages image = and_then (records image) (λ payloads. pages_after payloads map.empty)
+
+-- how many live pages a unit of so many blocks takes
+abbrev pub cap : ℕ → ℕ
+cap blocks = (4096 * ((blocks - 3) / 2) - 16) / 525

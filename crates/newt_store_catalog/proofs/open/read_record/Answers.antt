@@ -1,0 +1,56 @@
+use Rattle.std.proofs.Common.{◌≡◌, ◌%◌, ◌<◌, ℕ, List, Result, Err, sym, ◌∙◌, ap}
+use Rattle.newt_host.specs.Moments.{image}
+use Rattle.newt_pagebook.specs.declared.book.BookFault.{BookFault}
+use Rattle.newt_pagebook.specs.declared.book.BookFault.TheVariants.{NotStore, Device}
+use Rattle.newt_spec_graph.specs.Lists.{Among}
+use Rattle.newt_spec_store.specs.Lies.{record_read}
+use Rattle.newt_entries.specs.Entry.{stream_graph}
+use Rattle.newt_entries.specs.declared.row.EntryRow.{EntryRow}
+use Rattle.newt_store_catalog.specs.Opening.{OfObjects, IsRow, objects_named}
+use Rattle.newt_store_catalog.proofs.Exits.{Fails, no-value, fault-is}
+use Rattle.newt_store_catalog.proofs.Opening.{record-bad, row-by, even-by}
+use Rattle.newt_store_catalog.proofs.open.read_record.Goals as goal
+
+pub returns-in_err-bytes : goal.returns-in_err-bytes
+returns-in_err-bytes g c =
+    let e = c.read_object.ensures in
+    let now : List ℕ = image (g.P.PageBook.place c.args.book.now) (g.H.Host.outside c.args.host.now).now in
+    let fault : BookFault = c.in_err-bytes.field-0.0 in
+    let r : Result EntryRow BookFault = c.from_residual.result in
+    let fails : Fails r fault = c.from_residual.ensures.1 in
+    record {
+      row = no-value r fault (λ row. OfObjects g.H.Host.told now (IsRow c.args.id row)) fails;
+      even = no-value r fault (λ row. (o : ℕ) → Among (objects_named row.larges) o → (o % 2 ≡ 0) × (0 < o)) fails;
+      not_store = λ is. absurd (c.in_err-bytes.ensures.some (ap Err (fault-is r fault NotStore fails is)));
+      stands = e.stands;
+      kept = e.kept;
+      same = e.same;
+      moment = e.moment;
+      programs_nothing = e.programs_nothing;
+      alone = e.alone;
+      cause = λ is. c.in_err-bytes.ensures.cause (ap Err (fault-is r fault Device fails is));
+    }
+
+pub returns : goal.returns
+returns g c =
+    let e = c.read_object.ensures in
+    let o = g.H.Host.outside c.args.host.now in
+    let u : ℕ = g.P.PageBook.place c.args.book.now in
+    let bytes : List ℕ = c.in_ok-bytes.bytes.items in
+    let text : List ℕ = c.deref.result.now in
+    let same : text ≡ bytes = c.deref.ensures.value in
+    let r : Result EntryRow BookFault = c.record_of.result in
+    record {
+      row = row-by g.H.Host.told (image u o.now) bytes text c.args.id r c.in_ok-bytes.ensures.bytes same c.record_of.ensures.read c.record_of.ensures.are_bytes;
+      even = even-by text r c.record_of.ensures.read;
+      not_store = λ is tells.
+          record-bad g.H.Host.told c.args.objects.now (g.P.PageBook.numbers c.args.book.now) u o c.requires.kept tells c.args.id bytes c.in_ok-bytes.ensures.bytes c.requires.odd
+          (ap (record_read stream_graph) (sym same) ∙ c.record_of.ensures.bad is);
+      stands = e.stands;
+      kept = e.kept;
+      same = e.same;
+      moment = e.moment;
+      programs_nothing = e.programs_nothing;
+      alone = e.alone;
+      cause = λ is. absurd (c.record_of.ensures.no_device is);
+    }

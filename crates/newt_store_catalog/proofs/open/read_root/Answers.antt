@@ -1,0 +1,76 @@
+use Rattle.std.proofs.Common.{◌≡◌, ℕ, List, IsTrue, Result, Err, refl, sym, ◌∙◌, ap, arith}
+use Rattle.newt_host.specs.Moments.{image}
+use Rattle.newt_host.proofs.Outside.{Touches-refl}
+use Rattle.newt_objects.specs.Held.{held}
+use Rattle.newt_pagebook.specs.declared.book.BookFault.{BookFault}
+use Rattle.newt_pagebook.specs.declared.book.BookFault.TheVariants.{NotStore, Device}
+use Rattle.newt_spec_store.specs.Lies.{directory_read}
+use Rattle.newt_spec_store.specs.Valid.{well_formed}
+use Rattle.newt_soupdir.specs.Bare.{bare_store}
+use Rattle.newt_soupdir.specs.declared.rows.Directory.{Directory}
+use Rattle.newt_store_catalog.specs.Opening.{OfObjects, IsRoot}
+use Rattle.newt_store_catalog.proofs.Exits.{Fails, no-value, no-device, fault-is}
+use Rattle.newt_store_catalog.proofs.Opening.{root-missing, root-bad, root-by, mapped-none, is-none, formed-by}
+use Rattle.newt_store_catalog.proofs.open.read_root.Goals as goal
+
+pub returns-then-is_none : goal.returns-then-is_none
+returns-then-is_none g c =
+    let o = g.H.Host.outside c.args.host.now in
+    let u : ℕ = g.P.PageBook.place c.args.book.now in
+    record {
+      root = tt;
+      formed = tt;
+      not_store = λ is tells.
+          root-missing g.H.Host.told c.args.objects.now (g.P.PageBook.numbers c.args.book.now) u o c.requires.kept tells
+          (mapped-none (λ x. x.length) (held c.args.objects.now 0) (sym c.length.ensures ∙ is-none c.length.result c.if-is_none.ensures));
+      stands = c.requires.stands;
+      kept = c.requires.kept;
+      same = (refl, refl);
+      moment = refl;
+      programs_nothing = omega arith;
+      alone = Touches-refl u o;
+      cause = λ is. absurd (no-device is);
+    }
+
+pub returns-in_err-bytes : goal.returns-in_err-bytes
+returns-in_err-bytes g c =
+    let e = c.read_object.ensures in
+    let now : List ℕ = image (g.P.PageBook.place c.args.book.now) (g.H.Host.outside c.args.host.now).now in
+    let fault : BookFault = c.in_err-bytes.field-0.0 in
+    let r : Result Directory BookFault = c.from_residual.result in
+    let fails : Fails r fault = c.from_residual.ensures.1 in
+    record {
+      root = no-value r fault (λ directory. OfObjects g.H.Host.told now (IsRoot directory)) fails;
+      formed = no-value r fault (λ directory. IsTrue (well_formed (bare_store directory))) fails;
+      not_store = λ is. absurd (c.in_err-bytes.ensures.some (ap Err (fault-is r fault NotStore fails is)));
+      stands = e.stands;
+      kept = e.kept;
+      same = e.same;
+      moment = e.moment;
+      programs_nothing = e.programs_nothing;
+      alone = e.alone;
+      cause = λ is. c.in_err-bytes.ensures.cause (ap Err (fault-is r fault Device fails is));
+    }
+
+pub returns : goal.returns
+returns g c =
+    let e = c.read_object.ensures in
+    let o = g.H.Host.outside c.args.host.now in
+    let u : ℕ = g.P.PageBook.place c.args.book.now in
+    let bytes : List ℕ = c.in_ok-bytes.bytes.items in
+    let text : List ℕ = c.deref.result.now in
+    let same : text ≡ bytes = c.deref.ensures.value in
+    let r : Result Directory BookFault = c.root_of.result in
+    record {
+      root = root-by g.H.Host.told (image u o.now) bytes text r c.in_ok-bytes.ensures.bytes same c.root_of.ensures.read c.root_of.ensures.are_bytes;
+      formed = formed-by text r c.root_of.ensures.read;
+      not_store = λ is tells.
+          root-bad g.H.Host.told c.args.objects.now (g.P.PageBook.numbers c.args.book.now) u o c.requires.kept tells bytes c.in_ok-bytes.ensures.bytes (ap directory_read (sym same) ∙ c.root_of.ensures.bad is);
+      stands = e.stands;
+      kept = e.kept;
+      same = e.same;
+      moment = e.moment;
+      programs_nothing = e.programs_nothing;
+      alone = e.alone;
+      cause = λ is. absurd (c.root_of.ensures.no_device is);
+    }

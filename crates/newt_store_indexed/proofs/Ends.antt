@@ -1,0 +1,45 @@
+-- The end of a list of ids, and the first of it.
+use Rattle.std.proofs.Common.{◌≡◌, ℕ, ◌+◌, ◌-◌, ◌<◌, ◌≤◌, List, [], ◌∷◌, length, take, drop, get_or, refl, sym, ◌∙◌, ap, arith}
+use Rattle.std.proofs.lemmas.Grind.{common_steps}
+use Rattle.newt_store.specs.Change.{pages_of_entry}
+use Rattle.newt_spec_store.specs.Store.{Store, entry_at}
+use Rattle.newt_index.specs.Pairs.{Sorted}
+use Rattle.newt_index_ranges.specs.declared.rows.SoupRanges.{SoupRanges}
+use Rattle.newt_store_indexed.specs.Filling.{with_read, with_all, rows_with_all, rows_of_soups, pages_listed}
+
+pub with-none : (sig : ℕ) (s : Store) (us : List ℕ) (v : Sorted) → length us < 1 → with_all sig s us v ≡ v
+with-none sig s [] v low = refl
+with-none sig s (u ∷ us) v low = absurd (omega (arith, low))
+
+pub rows-none : (sig : ℕ) (s : Store) (us : List ℕ) (rows : List SoupRanges) → length us < 1 → rows_with_all sig s us rows ≡ rows
+rows-none sig s [] rows low = refl
+rows-none sig s (u ∷ us) rows low = absurd (omega (arith, low))
+
+pub soups-none : (s : Store) (sigs : List ℕ) (rows : List SoupRanges) → length sigs < 1 → rows_of_soups s sigs rows ≡ rows
+soups-none s [] rows low = refl
+soups-none s (sig ∷ sigs) rows low = absurd (omega (arith, low))
+
+pub pages-none : (sig : ℕ) (s : Store) (us : List ℕ) (n total : ℕ) → length us < 1 → n + pages_listed sig s us ≡ total → n ≡ total
+pages-none sig s [] n total low is = omega (arith, is)
+pages-none sig s (u ∷ us) n total low is = absurd (omega (arith, low))
+
+-- what is behind the first
+abbrev pub behind : List ℕ → List ℕ
+behind us = take (length us - 1) (drop 1 us)
+
+behind-is : (u : ℕ) (us : List ℕ) → behind (u ∷ us) ≡ us
+behind-is u us = grind (arith, common_steps)
+
+pub pages-first : (sig : ℕ) (s : Store) (us : List ℕ) (u : ℕ) → 1 ≤ length us → u ≡ get_or us 0 u → pages_listed sig s us ≡ pages_of_entry (entry_at sig u s) + pages_listed sig s (behind us)
+pages-first sig s [] u some is = absurd (omega (arith, some))
+pages-first sig s (v ∷ us) u some is = ap (λ (w : ℕ). pages_of_entry (entry_at sig w s) + pages_listed sig s us) (sym is) ∙ ap (λ (ws : List ℕ). pages_of_entry (entry_at sig u s) + pages_listed sig s ws) (sym (behind-is v us))
+
+pub with-first : (sig : ℕ) (s : Store) (us : List ℕ) (u : ℕ) (v : Sorted) → 1 ≤ length us → u ≡ get_or us 0 u → with_all sig s us v ≡ with_all sig s (behind us) (with_read u (entry_at sig u s) v)
+with-first sig s [] u v some is = absurd (omega (arith, some))
+with-first sig s (x ∷ us) u v some is = ap (λ (w : ℕ). with_all sig s us (with_read w (entry_at sig w s) v)) (sym is) ∙ ap (λ (ws : List ℕ). with_all sig s ws (with_read u (entry_at sig u s) v)) (sym (behind-is x us))
+
+pub sum-next : (n left total k rest : ℕ) → n + left ≡ total → left ≡ k + rest → (n + k) + rest ≡ total
+sum-next n left total k rest e f = omega (arith, e, f)
+
+pub sum-below : (n left total k rest : ℕ) → n + left ≡ total → left ≡ k + rest → n + k ≤ total
+sum-below n left total k rest e f = omega (arith, e, f)

@@ -1,0 +1,86 @@
+//! What a change of the store will be to its ranges. All that has to be read or copied for that is read and copied before the change.
+ghost use Rattle.std.specs.Prelude.{◌≡◌, ◌*◌, IsTrue, IfOk, IfErr, Some};
+ghost use Rattle.newt_host.specs.Outside.{Spends};
+ghost use Rattle.newt_pagebook.specs.Stops.{StopsAt};
+ghost use Rattle.newt_spec_store.specs.Store.{Store as PlainStore, Entry as PlainEntry, soup_of, entry_at};
+ghost use Rattle.newt_store.specs.Change.{uids_in, pages_of_entry};
+ghost use Rattle.newt_store_indexed.specs.Calls.{Shows, IsOpen, Reads};
+ghost use Rattle.newt_store_indexed.specs.Filling.{pages_listed};
+ghost use Rattle.newt_store_indexed.specs.Steps.{IsStepOf, IsDeclaring, pages_read};
+ghost use Rattle.newt_store_indexed.specs.declared.step.Step.TheVariants as step;
+
+use crate::fill::filled;
+use crate::step::Step;
+use newt_base::{Sig, Uid};
+use newt_host::Host;
+use newt_keys::IndexSpec;
+use newt_pagebook::{PageBook, Stop};
+use newt_store::{Change, Paths, Store};
+
+/// The step of an entry that is moved. Where it is not there the change is refused, and nothing is to be done.
+fn moving<P: PageBook, H: Host>(
+    store: &mut Store<P>,
+    host: &mut H,
+    source: Sig,
+    uid: Uid,
+    target: Sig,
+) -> Result<Step, Stop>
+    requires { IsOpen P.place P.numbers P.stands H.told store.old (H.outside host.old) }
+    ensures moved { IsTrue H.told → (s : PlainStore) (e : PlainEntry) → Shows P.place store.old (H.outside host.old) s → entry_at source uid s ≡ Some e → IfOk result (λ made. made ≡ step.Moved source uid target e.graph) }
+    ensures reads { Reads P.place P.numbers P.stands H.told store.old store.new (H.outside host.old) (H.outside host.new) }
+    ensures costs { IsTrue H.told → (s : PlainStore) → Shows P.place store.old (H.outside host.old) s → Spends (P.place store.old.book) 0 (512 * pages_of_entry (entry_at source uid s)) (H.outside host.old) (H.outside host.new) }
+    ensures cause { IfErr result (StopsAt (P.place store.old.book) (H.outside host.old) (H.outside host.new)) }
+{
+    match store.entry(host, source, uid) {
+        Ok(Some(entry)) => Ok(Step::Moved(source, uid, target, entry.graph)),
+        Ok(None) => Ok(Step::Untouched),
+        Err(stop) => Err(stop),
+    }
+}
+
+/// The step of a new declaration, with its range.
+fn declaring<P: PageBook, H: Host>(
+    store: &mut Store<P>,
+    host: &mut H,
+    soup: Sig,
+    spec: &IndexSpec,
+) -> Result<Step, Stop>
+    requires { IsOpen P.place P.numbers P.stands H.told store.old (H.outside host.old) }
+    ensures declared { IsTrue H.told → (s : PlainStore) → Shows P.place store.old (H.outside host.old) s → IfOk result (IsDeclaring soup spec.now s) }
+    ensures reads { Reads P.place P.numbers P.stands H.told store.old store.new (H.outside host.old) (H.outside host.new) }
+    ensures costs { IsTrue H.told → (s : PlainStore) → Shows P.place store.old (H.outside host.old) s → Spends (P.place store.old.book) 0 (512 * pages_listed soup s (uids_in (soup_of soup s))) (H.outside host.old) (H.outside host.new) }
+    ensures cause { IfErr result (StopsAt (P.place store.old.book) (H.outside host.old) (H.outside host.new)) }
+{
+    match filled(store, host, soup, spec) {
+        Ok(range) => Ok(Step::Declared(soup, range)),
+        Err(stop) => Err(stop),
+    }
+}
+
+/// What a change will be to the ranges.
+pub(crate) fn step_of<P: PageBook, H: Host>(
+    store: &mut Store<P>,
+    host: &mut H,
+    change: &Change,
+) -> Result<Step, Stop>
+    requires { IsOpen P.place P.numbers P.stands H.told store.old (H.outside host.old) }
+    ensures step { IsTrue H.told → (s : PlainStore) → Shows P.place store.old (H.outside host.old) s → IfOk result (IsStepOf change.now s) }
+    ensures reads { Reads P.place P.numbers P.stands H.told store.old store.new (H.outside host.old) (H.outside host.new) }
+    ensures costs { IsTrue H.told → (s : PlainStore) → Shows P.place store.old (H.outside host.old) s → Spends (P.place store.old.book) 0 (512 * pages_read change.now s) (H.outside host.old) (H.outside host.new) }
+    ensures cause { IfErr result (StopsAt (P.place store.old.book) (H.outside host.old) (H.outside host.new)) }
+{
+    match change {
+        Change::MakeSoup(_) => Ok(Step::Made),
+        Change::DropSoup(soup) => Ok(Step::Dropped(*soup)),
+        Change::Add(soup, graph) => Ok(Step::Added(*soup, graph.copy()?)),
+        Change::Remove(soup, uid) => Ok(Step::Removed(*soup, *uid)),
+        Change::Move(source, uid, target) => moving(store, host, *source, *uid, *target),
+        Change::Replace(soup, uid, graph) => Ok(Step::Replaced(*soup, *uid, graph.copy()?)),
+        Change::Patch(..) => Ok(Step::Untouched),
+        Change::AddIndex(soup, spec) => declaring(store, host, *soup, spec),
+        Change::DropIndex(soup, paths) => {
+            Ok(Step::Undeclared(*soup, Paths::copied(store.alloc(), paths.list())?))
+        }
+        Change::SetTags(..) => Ok(Step::Untouched),
+    }
+}

@@ -1,0 +1,127 @@
+// Tables and how they are played.
+ghost use Rattle.std.specs.Prelude.{true, OnOk};
+ghost use Rattle.newt_host.specs.Moments.{IsDurable};
+ghost use Rattle.newt_memhost.specs.Outside.{outside_of};
+ghost use Rattle.newt_store_catalog.specs.Stands.{IsSound};
+
+use crate::asked::asked;
+use crate::card::{card_bytes, formatted, host_of, opened};
+use crate::made::{changed, fill, rows};
+use crate::modes::{mode_reply, split_mode, vote};
+use newt_memhost::MemHost;
+use newt_pagebook::PageBook;
+use newt_store::Store;
+use std::alloc::Global;
+use std::test::Fail;
+
+// The reply to a line that is a change.
+fn change_reply<P: PageBook>(
+    alloc: Global,
+    host: &mut MemHost,
+    store: &mut Store<P>,
+    line: &str,
+) -> Result<Vec<u8>, Fail>
+    requires stands { P.stands true store.old.book (outside_of host.old) }
+    requires sound { IsSound true store.old.catalog (P.numbers store.old.book) (P.place store.old.book) (outside_of host.old) }
+    ensures stands { OnOk result (P.stands true store.new.book (outside_of host.new)) }
+    ensures sound { OnOk result (IsSound true store.new.catalog (P.numbers store.new.book) (P.place store.new.book) (outside_of host.new)) }
+{
+    let (mode, line) = split_mode(alloc, host, line)?;
+    let trace = changed(alloc, host, store, line)?;
+    mode_reply::<P>(alloc, host, mode, &trace)
+}
+
+// The reply to a line.
+fn reply_to<P: PageBook>(
+    alloc: Global,
+    host: &mut MemHost,
+    store: &mut Store<P>,
+    line: &str,
+) -> Result<Vec<u8>, Fail>
+    requires stands { P.stands true store.old.book (outside_of host.old) }
+    requires sound { IsSound true store.old.catalog (P.numbers store.old.book) (P.place store.old.book) (outside_of host.old) }
+    ensures stands { OnOk result (P.stands true store.new.book (outside_of host.new)) }
+    ensures sound { OnOk result (IsSound true store.new.catalog (P.numbers store.new.book) (P.place store.new.book) (outside_of host.new)) }
+{
+    let (word, rest) = line.split_once(' ').unwrap_or((line, ""));
+    match word {
+        "rows" => rows(alloc, host, store),
+        "vote" => vote(alloc, host),
+        "fill" => fill(alloc, host, store, rest),
+        "has" | "count" | "uids" | "declared" => asked(alloc, store, word, rest),
+        _ => change_reply(alloc, host, store, line),
+    }
+}
+
+fn another_reply(line: &str, reply: &[u8]) -> Fail {
+    Fail::new(format_args!("another reply: {line:.200} => {reply:?}"))
+}
+
+// Plays a row, which is answered as it says.
+fn play_row<P: PageBook>(
+    alloc: Global,
+    host: &mut MemHost,
+    store: &mut Store<P>,
+    row: &str,
+) -> Result<(), Fail>
+    requires stands { P.stands true store.old.book (outside_of host.old) }
+    requires sound { IsSound true store.old.catalog (P.numbers store.old.book) (P.place store.old.book) (outside_of host.old) }
+    ensures stands { OnOk result (P.stands true store.new.book (outside_of host.new)) }
+    ensures sound { OnOk result (IsSound true store.new.catalog (P.numbers store.new.book) (P.place store.new.book) (outside_of host.new)) }
+{
+    let (line, wanted) = row.split_once(" => ").unwrap_or((row, ""));
+    let reply = reply_to(alloc, host, store, line)?;
+    if reply.as_slice() != wanted.as_bytes() {
+        return Err(another_reply(line, &reply));
+    }
+    Ok(())
+}
+
+// Plays the rows of one run, behind which another run finds what the store has.
+fn play_rows<P: PageBook>(
+    alloc: Global,
+    host: &mut MemHost,
+    store: &mut Store<P>,
+    table: &str,
+) -> Result<(), Fail>
+    requires stands { P.stands true store.old.book (outside_of host.old) }
+    requires sound { IsSound true store.old.catalog (P.numbers store.old.book) (P.place store.old.book) (outside_of host.old) }
+{
+    for row in table.lines() {
+        if !row.is_empty() {
+            play_row(alloc, host, store, row)?;
+        }
+    }
+    rows(alloc, host, store)?;
+    Ok(())
+}
+
+// Plays the rows of one run on the card.
+fn play_run<P: PageBook>(alloc: Global, host: &mut MemHost, rows: &str) -> Result<(), Fail>
+    requires { IsDurable 0 (outside_of host.old).now }
+{
+    let mut store: Store<P> = opened(alloc, host)?;
+    play_rows(alloc, host, &mut store, rows)
+}
+
+// Plays the rows of one run on a card of these bytes, and answers what the card has then.
+fn run<P: PageBook>(alloc: Global, bytes: &[u8], rows: &str) -> Result<Vec<u8>, Fail> {
+    let mut host = host_of(alloc, bytes)?;
+    play_run::<P>(alloc, &mut host, rows)?;
+    card_bytes(alloc, &host)
+}
+
+/// Plays a table on a card of these bytes.
+pub fn play_on<P: PageBook>(alloc: Global, bytes: &[u8], table: &str) -> Result<(), Fail> {
+    let mut bytes = bytes.to_vec(alloc)?;
+    for rows in table.split("reopen\n") {
+        bytes = run::<P>(alloc, &bytes, rows)?;
+    }
+    Ok(())
+}
+
+/// Plays a table on a card of so many blocks, formatted as the store `Internal` of signature 7.
+pub fn play<P: PageBook>(alloc: Global, blocks: u32, table: &str) -> Result<(), Fail> {
+    let host = formatted::<P>(alloc, blocks)?;
+    play_on::<P>(alloc, &card_bytes(alloc, &host)?, table)
+}

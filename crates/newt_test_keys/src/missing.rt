@@ -1,0 +1,85 @@
+//! The order of keys of four parts with missing ones, in both directions, with ample memory.
+ghost use Rattle.std.specs.Prelude.{◌≡◌, ◌∷◌, [], IfOk};
+ghost use Rattle.newt_keys.specs.declared.types.IndexPart.{IndexPart};
+ghost use Rattle.newt_spec_store.specs.declared.Kind.TheVariants as kind;
+
+use crate::calls::Call;
+use crate::keys::literal;
+use newt_graph::Bytes;
+use newt_keys::{IndexPart, IndexSpec, Key, Kind, Order, compare, key_from};
+use newt_path::Path;
+use newt_test_tables::expect_rows;
+use std::alloc::{AllocError, Global};
+use std::test::*;
+
+/// The integers at the path `a`, in this order.
+fn integers(alloc: Global, order: Order) -> Result<IndexPart, AllocError>
+    ensures { IfOk result (λ p. p ≡ record { path = (97 ∷ []) ∷ []; kind = kind.Int; order = order }) }
+{
+    let name = Bytes::of(vec![in alloc; b'a']?);
+    let path = Path::of(vec![in alloc; name]?);
+    Ok(IndexPart {
+        path,
+        kind: Kind::Int,
+        order,
+    })
+}
+
+/// A declaration of four such parts.
+fn four(alloc: Global, order: Order) -> Result<IndexSpec, AllocError> {
+    let mut parts = Vec::new(alloc);
+    parts.push(integers(alloc, order)?)?;
+    parts.push(integers(alloc, order)?)?;
+    parts.push(integers(alloc, order)?)?;
+    parts.push(integers(alloc, order)?)?;
+    Ok(IndexSpec::new(parts))
+}
+
+/// The keys that literals write down.
+fn keys(alloc: Global, spec: &IndexSpec, text: &str) -> Result<Vec<Key>, Fail> {
+    let mut keys = Vec::new(alloc);
+    for part in text.split(" < ") {
+        let graph = literal(alloc, part)?;
+        match key_from(alloc, &graph, graph.root(), spec)? {
+            Some(key) => keys.push(key)?,
+            None => return Err("a key".into()),
+        }
+    }
+    Ok(keys)
+}
+
+/// Whether each key stands before those behind it, and ties with itself.
+fn rise(keys: &[Key], spec: &IndexSpec) -> bool {
+    keys.iter().enumerate().all(|(i, a)| {
+        keys.iter()
+            .enumerate()
+            .all(|(j, b)| compare(a, b, spec) == i.cmp(&j))
+    })
+}
+
+fn are_rising(alloc: Global, keys: &[Key], spec: &IndexSpec) -> Result<String, Fail> {
+    Ok(format!(in alloc; "{}", rise(keys, spec))?)
+}
+
+/// Whether keys of four integers rise.
+pub(crate) fn rising(alloc: Global, order: Order, text: &str) -> Result<String, Fail> {
+    let spec = four(alloc, order)?;
+    let keys = keys(alloc, &spec, text)?;
+    are_rising(alloc, &keys, &spec)
+}
+
+const ASCENDING: &str = "
+[-5] < [1] < [1, nil, nil, 7] < [1, nil, 2] < [1, 2] < [1, 2, 3] < [1, 2, 3, 4] < [1, 2, 3, 5] < [1, 3] < [2] => true
+[1] < [1] => false
+";
+
+const DESCENDING: &str = "
+[2] < [1] < [1, nil, nil, 7] < [1, nil, 2] < [1, 3] < [1, 2] < [1, 2, 3] < [1, 2, 3, 5] < [1, 2, 3, 4] < [-5] => true
+[1] < [2] => false
+";
+
+#[test]
+fn missing_parts_stand_first_in_both_orders(rt: HostRuntime) -> Result<(), Fail> {
+    expect_rows(rt.alloc(), &Call::Rising(Order::Ascend), ASCENDING)?;
+    expect_rows(rt.alloc(), &Call::Rising(Order::Descend), DESCENDING)
+}

@@ -1,0 +1,28 @@
+//! What is answered of bytes.
+use crate::directories::{directory, soup};
+use crate::entries::entry;
+use newt_test_tables::{Asks, bytes_of};
+use std::alloc::Global;
+use std::test::Fail;
+
+/// What bytes are read as. They stand in words: `'foo` for its letters, and others are hexadecimal digits.
+#[derive(Clone, Copy)]
+pub(crate) enum Record {
+    /// A directory.
+    Directory,
+    /// The directory of the store `S` of signature 1 with the soup `A` alone, behind that soup's next entry id: its indexes and tags.
+    Soup,
+    /// An entry.
+    Entry,
+}
+
+impl Asks for Record {
+    fn answer(&self, alloc: Global, text: &str) -> Result<String, Fail> {
+        let bytes = bytes_of(alloc, text)?;
+        match self {
+            Record::Directory => directory(alloc, &bytes),
+            Record::Soup => soup(alloc, &bytes),
+            Record::Entry => entry(alloc, &bytes),
+        }
+    }
+}

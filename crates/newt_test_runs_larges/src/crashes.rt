@@ -1,0 +1,102 @@
+//! What a next run finds where the power failed while entries with large binaries were changed.
+
+use newt_host::Unit;
+use newt_memhost::Pick;
+use newt_test_scripts::{expect_all_safe, expect_halts, image, run_table};
+use std::test::Fail;
+
+/// What a next run is asked, and told to go on with.
+const LOOK: &[u8] = b"mount 0
+soups 0
+get 0 S 0
+get 0 S 1
+get 0 S 2
+vread 0 S 0 v 495 10
+vwrite 0 S 0 v 499 5152
+get 0 S 0
+add 0 S {v: <<wave:07>>}
+unmount 0
+mount 0
+get 0 S 0
+soups 0
+";
+
+const PICKS: &[Pick] = &[Pick::Old, Pick::New, Pick::Half, Pick::Fill(0xFF)];
+
+/// Every change of an entry with a large binary of three pages.
+const LINES: &str = "
+format 0 A 7 => ok
+mount 0 => ok 7 A
+soup 0 S => ok 0
+add 0 S {v: <<wave:*1200>>} => ok 0
+vwrite 0 S 0 v 499 4142 => ok
+vwrite 0 S 0 v 100 => ok
+vwrite 0 S 0 v 1000 43 => ok
+set 0 S 0 w <<wave:0102>> => ok
+copy 0 S 0 0 S => ok 1
+vwrite 0 S 1 w 1 FF => ok
+move 0 S 0 0 S => ok 2
+change 0 S 1 {v: <<wave:*600>>} => ok
+remove 0 S 2 => ok
+drop 0 S => ok
+";
+
+#[test]
+fn leaves_a_store_before_or_after_each_change(rt: HostRuntime) -> Result<(), Fail> {
+    expect_all_safe(rt.alloc(), LINES, LOOK, &[Unit(0)], PICKS)
+}
+
+/// Patches that fill the first bank, so that one of them goes on in the other bank.
+const PATCHES: &str = "
+format 0 A 7 => ok
+mount 0 => ok 7 A
+soup 0 S => ok 0
+add 0 S {v: <<wave:*1200>>} => ok 0
+vwrite 0 S 0 v 499 0101 => ok
+vwrite 0 S 0 v 499 0202 => ok
+vwrite 0 S 0 v 499 0303 => ok
+vwrite 0 S 0 v 499 0404 => ok
+vwrite 0 S 0 v 499 0505 => ok
+vwrite 0 S 0 v 499 0606 => ok
+vwrite 0 S 0 v 499 0707 => ok
+vwrite 0 S 0 v 499 0808 => ok
+vwrite 0 S 0 v 499 0909 => ok
+vwrite 0 S 0 v 499 0A0A => ok
+vwrite 0 S 0 v 499 0B0B => ok
+vwrite 0 S 0 v 499 0C0C => ok
+vwrite 0 S 0 v 499 0D0D => ok
+vwrite 0 S 0 v 499 0E0E => ok
+vwrite 0 S 0 v 499 0F0F => ok
+vwrite 0 S 0 v 499 1010 => ok
+vwrite 0 S 0 v 499 1111 => ok
+vwrite 0 S 0 v 499 1212 => ok
+";
+
+#[test]
+fn leaves_a_store_before_or_after_a_patch_while_banks_change(rt: HostRuntime) -> Result<(), Fail> {
+    let alloc = rt.alloc();
+    let card = image(alloc, &run_table(alloc, "run a b", PATCHES)?, Unit(0))?;
+    if card.first() != Some(&1) {
+        return Err(Fail::new("no vote for the second bank"));
+    }
+    expect_all_safe(alloc, PATCHES, LOOK, &[Unit(0)], PICKS)
+}
+
+/// A store with a large binary, that is read and overwritten.
+const SHORT: &str = "
+format 0 A 7 => ok
+mount 0 => ok 7 A
+soup 0 S => ok 0
+add 0 S {v: <<wave:*1200>>} => ok 0
+unmount 0 => ok
+mount 0 => ok 7 A
+vread 0 S 0 v 498 4 => ok 00000000
+vwrite 0 S 0 v 499 4142 => ok
+get 0 S 1 => error 32 entry
+vread 0 S 0 v 498 4 => ok 00414200
+";
+
+#[test]
+fn halts_at_each_call_that_fails(rt: HostRuntime) -> Result<(), Fail> {
+    expect_halts(rt.alloc(), SHORT, LOOK)
+}

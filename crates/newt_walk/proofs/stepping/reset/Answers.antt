@@ -1,6 +1,0 @@
--- The command steps so.
-use Rattle.newt_walk.proofs.Answering.{steered-answers, reset-steps}
-use Rattle.newt_walk.proofs.stepping.reset.Goals as goal
-
-pub returns-clause-answered : goal.returns-clause-answered
-returns-clause-answered g c t apart = steered-answers _ _ _ _ _ (reset-steps c.args.cursor) c.steer.result (c.steer.ensures.steered t apart)
