@@ -1,0 +1,105 @@
+"""Plays the examples of the documents, to this reference and, where one is given, to the program.
+
+usage: python3 reference/examples.py [PROGRAM]
+
+The examples: each line and reply of docs/COMMANDS.md, those behind the heading "Units and stores" as one session over
+two units of 13 blocks; and the streams, literals and the fresh image of docs/FORMATS.md. It ends with 0 where all agree.
+"""
+
+import re
+import subprocess
+import sys
+import tempfile
+from pathlib import Path
+from typing import Callable
+
+from commands import answer
+from images import store_of_image
+from world import Unit, World
+
+DOCS = Path(__file__).resolve().parent.parent / "docs"
+BLOCKS = 13
+MALFORMED, NO_LITERAL = "error 1 malformed", "error 3 literal"
+
+Example = tuple[str, str]
+
+
+def of_commands() -> tuple[list[Example], list[Example]]:
+    """The lines and replies before the session, and those of the session. `quit` is left out, since it ends a script."""
+    before, _, session = (DOCS / "COMMANDS.md").read_text().partition("\n## Units and stores\n")
+    session = session.partition("\n## Modes\n")[0]
+
+    def pairs(text: str) -> list[Example]:
+        shown = re.findall(r"^    (\S.*)$", text, re.MULTILINE)
+        return [pair for pair in zip(shown[::2], shown[1::2], strict=True) if pair[0] != "quit"]
+
+    return pairs(before), pairs(session)
+
+
+def of_formats() -> list[Example]:
+    """The streams and literals of the lists and tables, each with its reply."""
+    text = (DOCS / "FORMATS.md").read_text()
+    examples = []
+    for stream, said in re.findall(r"^- `(02[0-9A-F]*)`: ((?:.*\n)(?:  .*\n)*)", text, re.MULTILINE):
+        last = said.rpartition(";")[2].strip().strip("`")
+        reply = {"the same": f"ok {stream}", "malformed": MALFORMED}.get(last, f"ok {last}")
+        examples.append((f"nsof {stream}", reply))
+    for cells in re.findall(r"^\| (`.*`) \| (?:`(.*)`|no literal) \|$", text, re.MULTILINE):
+        for literal in re.findall(r"`([^`]*)`", cells[0]):
+            examples.append((f"lit {literal}", f"ok {cells[1]}" if cells[1] else NO_LITERAL))
+    return examples
+
+
+def fresh_image() -> bytes:
+    """The image that docs/FORMATS.md spells of a fresh unit."""
+    spelt = (DOCS / "FORMATS.md").read_text().partition("from byte 12,288 on:\n")[2].partition("\n## ")[0]
+    rows = re.findall(r"^    ((?:[0-9A-F]{2,} ?)+)", spelt, re.MULTILINE)
+    image = bytearray(b"\xff" * (BLOCKS * 4096))
+    record = bytes.fromhex("".join(rows)) + bytes(484)
+    image[12_288 : 12_288 + len(record)] = record
+    for block in range(3):
+        image[4096 * block] = 0
+    return bytes(image)
+
+
+def differing(examples: list[Example], replies: list[str]) -> list[str]:
+    found = [f"{line}\n  wanted {want}\n  found  {reply}" for (line, want), reply in zip(examples, replies) if want != reply]
+    return found + ([] if len(examples) == len(replies) else [f"{len(examples)} lines, {len(replies)} replies"])
+
+
+def by_reference(units: int) -> Callable[[list[Example]], list[str]]:
+    world = World([Unit(BLOCKS) for _ in range(units)])
+    return lambda examples: [answer(world, line.encode()) for line, _ in examples]
+
+
+def by_program(program: Path, units: int) -> Callable[[list[Example]], list[str]]:
+    def replies(examples: list[Example]) -> list[str]:
+        with tempfile.TemporaryDirectory() as folder:
+            files = [Path(folder, f"unit{at}") for at in range(units)]
+            for file in files:
+                file.write_bytes(bytes(4096 * BLOCKS))
+            script = "".join(f"{line}\n" for line, _ in examples).encode()
+            ran = subprocess.run([program, "run", *files], input=script, capture_output=True, check=True)
+            return ran.stdout.decode().splitlines()
+
+    return replies
+
+
+def main(program: str = "") -> int:
+    single, session = of_commands()
+    wrong = []
+    for examples, units in ((single, 0), (session, 2), (of_formats(), 0)):
+        wrong += differing(examples, by_reference(units)(examples))
+        if program:
+            wrong += differing(examples, by_program(Path(program).resolve(), units)(examples))
+    store = store_of_image(fresh_image())
+    if store is None or (store.name, store.sig, len(store.soups)) != (b"Internal", 7, 0):
+        wrong.append(f"the fresh image is read as {store}")
+    for line in wrong:
+        print(line)
+    print(f"{len(single) + len(session) + len(of_formats())} examples and an image: {len(wrong)} differ")
+    return 1 if wrong else 0
+
+
+if __name__ == "__main__":
+    sys.exit(main(*sys.argv[1:]))
