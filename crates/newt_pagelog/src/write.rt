@@ -1,16 +1,16 @@
 // A record is written that says a change.
-ghost use Rattle.std.specs.Prelude.{IsTrue, ◌≡◌, ◌+◌, ◌*◌, ◌≤◌, ◌<◌, ◌++◌, ◌∷◌, [], length, OnOk, OnErr, IfOk};
+ghost use Rattle.std.specs.Prelude.{Bool, IsTrue, ◌≡◌, ◌+◌, ◌*◌, ◌≤◌, ◌<◌, ◌++◌, ◌∷◌, [], length, OnOk, OnErr, IfOk};
 ghost use Rattle.std.specs.Int.{to_be_bytes, w16};
 ghost use Rattle.std.specs.List.{flat_map, filter};
 ghost use Rattle.newt_host.specs.Moments.{image, Leaves};
-ghost use Rattle.newt_host.specs.Outside.{Touches, Spends, Rose};
+ghost use Rattle.newt_host.specs.Outside.{Outside, Touches, Spends, Rose};
 ghost use Rattle.newt_spec_image.specs.Pages.{written_put, written_delete, written_change};
 ghost use Rattle.newt_spec_image.specs.Records.{records};
 ghost use Rattle.newt_journal.specs.Journal.{room, Stands, appended, ReadsAsEither};
 ghost use Rattle.newt_journal.specs.Draft.{IsDraftOf, unit_of, len_of, put_of};
 ghost use Rattle.newt_journal.specs.Places.{first_place};
 ghost use Rattle.newt_pagebook.specs.Batch.{IsBatch};
-ghost use Rattle.newt_pagebook.specs.Book.{IsOpenFor};
+ghost use Rattle.newt_pagebook.specs.Book.{IsOpenFor, batch_bytes};
 ghost use Rattle.newt_pagelog.specs.Kept.{is_kept, needed};
 ghost use Rattle.newt_pagelog.specs.Steps.{IsSteady, Keeps, WritesMore};
 
@@ -27,6 +27,26 @@ fn push_put(bytes: &mut Vec<u8>, number: u32, page: &Page) -> Result<(), AllocEr
     bytes.extend_from_slice(&number.to_be_bytes())?;
     bytes.extend_from_slice(page)?;
     Ok(())
+}
+
+// A put, as a record has it, in one piece.
+fn put_piece(number: u32, page: &Page) -> [u8; 516]
+    ensures { result ≡ written_put (number, page.now) }
+{
+    let mut piece = [0; 516];
+    piece[..4].copy_from_slice(&number.to_be_bytes());
+    piece[4..].copy_from_slice(page);
+    piece
+}
+
+// The two counts at the front of a record, in one piece.
+fn counts_piece(puts: u16, deletes: u16) -> [u8; 4]
+    ensures { result ≡ to_be_bytes w16 puts ++ to_be_bytes w16 deletes }
+{
+    let mut piece = [0; 4];
+    piece[..2].copy_from_slice(&puts.to_be_bytes());
+    piece[2..].copy_from_slice(&deletes.to_be_bytes());
+    piece
 }
 
 /// The payload that says a batch without deletes.
@@ -59,8 +79,7 @@ pub fn write_counts<H: Host>(
     ensures keeps { Keeps H.told (unit_of draft.old) 4 (H.outside host.old) (H.outside host.new) }
     ensures cause { OnErr result (Rose ((H.outside host.old).dev_faults (unit_of draft.old)) ((H.outside host.new).dev_faults (unit_of draft.old))) }
 {
-    draft.put(host, &puts.to_be_bytes())?;
-    draft.put(host, &deletes.to_be_bytes())?;
+    draft.put(host, &counts_piece(puts, deletes))?;
     Ok(())
 }
 
@@ -78,8 +97,7 @@ pub fn write_put<H: Host>(
     ensures size { length page.now ≡ 512 }
     ensures cause { OnErr result (Rose ((H.outside host.old).dev_faults (unit_of draft.old)) ((H.outside host.new).dev_faults (unit_of draft.old))) }
 {
-    draft.put(host, &number.to_be_bytes())?;
-    draft.put(host, page)?;
+    draft.put(host, &put_piece(number, page))?;
     Ok(())
 }
 
@@ -166,6 +184,19 @@ fn write_batch<V, H: Host>(
     write_puts(draft, host, puts)?;
     write_deletes(draft, host, pages, batch.deletes())?;
     Ok(())
+}
+
+/// Whether the bank of a journal has room for a batch behind the other records.
+pub fn has_room<V>(journal: &Journal, pages: &Table<V>, batch: &Batch) -> bool
+    requires { length pages.now.entries < 65536 }
+    ensures fits { IsTrue result → 4 + 516 * length batch.now.puts + 4 * length (filter (is_kept pages.now.entries) batch.now.deletes) ≤ room journal.now }
+    ensures open { (told : Bool) (outside : Outside) → Stands told journal.now outside → IsTrue told → IsOpenFor (batch_bytes batch.now) (image journal.now.unit outside.now) → IsTrue result }
+    // what holds of every batch holds of this one
+    ensures sound { IsBatch batch.now }
+{
+    let deletes = kept_of(pages, batch.deletes());
+    let len = 4 + 516 * batch.puts().len() + 4 * deletes;
+    len <= journal.room() as usize
 }
 
 /// Writes a batch behind the other records: its puts, and the deletes of pages that are there.

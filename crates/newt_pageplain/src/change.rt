@@ -16,7 +16,7 @@ use crate::write::replace_all;
 use newt_host::{Failed, Host};
 use newt_journal::Journal;
 use newt_pagebook::Batch;
-use newt_pagelog::{append_batch, kept_of};
+use newt_pagelog::{append_batch, has_room};
 
 // Appends a batch, and then applies it to the pages in memory.
 fn commit_behind<H: Host>(
@@ -96,9 +96,7 @@ pub(crate) fn commit_with<H: Host>(
     ensures alone { Touches journal.unit (H.outside host.old) (H.outside host.new) }
     ensures cause { OnErr result (Rose ((H.outside host.old).dev_faults journal.unit) ((H.outside host.new).dev_faults journal.unit)) }
 {
-    let deletes = kept_of(pages, batch.deletes());
-    let len = 4 + 516 * batch.puts().len() + 4 * deletes;
-    if len <= journal.room() as usize {
+    if has_room(&journal, pages, batch) {
         commit_behind(journal, host, pages, batch)
     } else {
         commit_beside(journal, host, pages, batch)

@@ -1,34 +1,17 @@
-use Rattle.std.proofs.Common.{◌≡◌, inl, inr, ℕ, ◌+◌, ◌*◌, ◌<◌, List, length, Some, sym, ◌∙◌, ap, arith, ⊎_elim}
+use Rattle.std.proofs.Common.{◌+◌, ◌*◌, ◌<◌, length, arith}
 use Rattle.std.specs.List.{filter}
-use Rattle.std.specs.Option.{option_map}
 use Rattle.newt_host.specs.Moments.{image}
 use Rattle.newt_host.proofs.Moments.{Leaves-weaken}
 use Rattle.newt_host.proofs.Outside.{Spends-widen}
 use Rattle.newt_spec_image.specs.Records.{records}
-use Rattle.newt_spec_image.specs.Pages.{Pages, Change, pages, after, change_in, written_change}
+use Rattle.newt_spec_image.specs.Pages.{written_change}
 use Rattle.newt_journal.specs.Journal.{ReadsAsEither, appended}
-use Rattle.newt_pagebook.specs.Batch.{IsBatch}
-use Rattle.newt_pagebook.specs.Book.{IsBeforeOrAfter, ReadsChanged, batch_bytes}
-use Rattle.newt_pagelog.specs.Kept.{Entries, AreSound, map_of, is_kept, needed}
-use Rattle.newt_pagelog.proofs.Spelling.{written-says, fewer_deletes}
-use Rattle.newt_pagelog.proofs.Changing.{read-appended, read-same, needed-after, sound-after, live-after, few_kept, fewer, cap-few, room-few}
+use Rattle.newt_pagebook.specs.Book.{IsBeforeOrAfter, batch_bytes}
+use Rattle.newt_pagelog.specs.Kept.{is_kept, needed}
+use Rattle.newt_pagelog.proofs.Changing.{sound-after, live-after, few_kept, fewer, cap-few}
+use Rattle.newt_pagelog.proofs.Committed.{appended-reads, appended-either}
+use Rattle.newt_pagelog.proofs.Near.{room-few}
 use Rattle.newt_pageplain.proofs.change.commit_behind.Goals as goal
-
--- with a record more the pages are those after the batch
-appended-reads : (entries : Entries) (batch : Change) (old new : List ℕ) → AreSound entries → IsBatch batch → length batch.puts < 65536 → pages old ≡ Some (map_of entries)
-    → records new ≡ appended (records old) (written_change (needed entries batch)) → ReadsChanged batch old new
-appended-reads entries batch old new sound is few holds added =
-    let low : length (filter (is_kept entries) batch.deletes) < 65536 = omega (arith, few_kept entries batch is, sound.few) in
-    let says : change_in (written_change (needed entries batch)) ≡ Some (needed entries batch) = written-says (needed entries batch) (fewer_deletes (is_kept entries) batch is) few low in
-    read-appended (records old) (written_change (needed entries batch)) (map_of entries) (needed entries batch) new added holds says ∙ ap (λ (m : Pages). Some m) (needed-after entries batch is.distinct)
-    ∙ sym (ap (option_map (after batch)) holds)
-
-either-reads : (entries : Entries) (batch : Change) (old left : List ℕ) → AreSound entries → IsBatch batch → length batch.puts < 65536 → pages old ≡ Some (map_of entries)
-    → ReadsAsEither (records old) (appended (records old) (written_change (needed entries batch))) left → IsBeforeOrAfter batch old left
-either-reads entries batch old left sound is few holds either = ⊎_elim
-    (λ (same : records left ≡ records old). inl (read-same left old same))
-    (λ (more : records left ≡ appended (records old) (written_change (needed entries batch))). inr (appended-reads entries batch old left sound is few holds more))
-    either
 
 pub append_batch-requires-clause-few_deletes : goal.append_batch-requires-clause-few_deletes
 append_batch-requires-clause-few_deletes g c = omega (arith, few_kept c.args.pages.now.entries c.args.batch.now c.requires.batch, c.requires.sound.few)
@@ -40,8 +23,9 @@ returns-in_err-journal-clause-any_moment g c =
     let entries = c.args.pages.now.entries in
     let batch = c.args.batch.now in
     let few : length batch.puts < 65536 = room-few c.args.journal (length batch.puts) (omega (arith, c.requires.fits)) in
+    let low : length (filter (is_kept entries) batch.deletes) < 65536 = omega (arith, few_kept entries batch c.requires.batch, c.requires.sound.few) in
     λ tells. Leaves-weaken {P = ReadsAsEither (records old) (appended (records old) (written_change (needed entries batch)))} {Q = IsBeforeOrAfter batch old}
-    (λ left. either-reads entries batch old left c.requires.sound c.requires.batch few (c.requires.holds tells)) (c.append_batch.ensures.any_moment tells)
+    (λ left. appended-either entries batch old left c.requires.batch few low (c.requires.holds tells)) (c.append_batch.ensures.any_moment tells)
 
 pub returns-in_err-journal-clause-costs : goal.returns-in_err-journal-clause-costs
 returns-in_err-journal-clause-costs g c =
@@ -67,7 +51,8 @@ returns-clause-committed g c =
     let u = c.args.journal.unit in
     let batch = c.args.batch.now in
     let few : length batch.puts < 65536 = room-few c.args.journal (length batch.puts) (omega (arith, c.requires.fits)) in
-    λ tells. appended-reads c.args.pages.now.entries batch (image u (o c.args.host.now).now) (image u (o c.append_batch.new.host).now) c.requires.sound c.requires.batch few (c.requires.holds tells) (c.in_ok-journal.ensures.committed tells)
+    let low : length (filter (is_kept c.args.pages.now.entries) batch.deletes) < 65536 = omega (arith, few_kept c.args.pages.now.entries batch c.requires.batch, c.requires.sound.few) in
+    λ tells. appended-reads c.args.pages.now.entries batch (image u (o c.args.host.now).now) (image u (o c.append_batch.new.host).now) c.requires.batch few low (c.requires.holds tells) (c.in_ok-journal.ensures.committed tells)
 
 pub returns-clause-any_moment : goal.returns-clause-any_moment
 returns-clause-any_moment g c =
@@ -76,5 +61,6 @@ returns-clause-any_moment g c =
     let entries = c.args.pages.now.entries in
     let batch = c.args.batch.now in
     let few : length batch.puts < 65536 = room-few c.args.journal (length batch.puts) (omega (arith, c.requires.fits)) in
+    let low : length (filter (is_kept entries) batch.deletes) < 65536 = omega (arith, few_kept entries batch c.requires.batch, c.requires.sound.few) in
     λ tells. Leaves-weaken {P = ReadsAsEither (records old) (appended (records old) (written_change (needed entries batch)))} {Q = IsBeforeOrAfter batch old}
-    (λ left. either-reads entries batch old left c.requires.sound c.requires.batch few (c.requires.holds tells)) (c.append_batch.ensures.any_moment tells)
+    (λ left. appended-either entries batch old left c.requires.batch few low (c.requires.holds tells)) (c.append_batch.ensures.any_moment tells)
