@@ -11,7 +11,7 @@ ghost use Rattle.newt_pagebook.specs.Batch.{IsBatch};
 ghost use Rattle.newt_pagebook.specs.Book.{IsOpenFor, batch_bytes, changed_numbers, IsBeforeOrAfter, ReadsChanged};
 ghost use Rattle.newt_pagelog.specs.Kept.{is_kept, numbers_in};
 ghost use Rattle.newt_pagelog.specs.Placed.{AreNumbered, ArePlaced, HoldsAt};
-ghost use Rattle.newt_pages.specs.Disk.{AreCached};
+ghost use Rattle.newt_pages.specs.Disk.{EachIsPageAtPlace};
 
 use crate::table::{FIRST_PAGE, apply};
 use newt_host::{Failed, Host};
@@ -38,7 +38,7 @@ pub(crate) fn commit_behind<H: Host>(
     ensures holds { IsTrue H.told → IfOk result (λ after. HoldsAt after (image journal.unit (H.outside host.new).now) places.new.entries) }
     ensures placed { IfOk result (λ after. ArePlaced after places.new.entries) }
     // what was cached of the records before is still what stands there
-    ensures caches { IsTrue H.told → IfOk result (λ after. (cached : List (ℕ × List ℕ)) → AreCached journal (image journal.unit (H.outside host.old).now) cached → AreCached after (image journal.unit (H.outside host.new).now) cached) }
+    ensures caches { IsTrue H.told → IfOk result (λ after. (cached : List (ℕ × List ℕ)) → EachIsPageAtPlace journal (image journal.unit (H.outside host.old).now) cached → EachIsPageAtPlace after (image journal.unit (H.outside host.new).now) cached) }
     ensures numbered { AreNumbered places.new.entries }
     ensures numbers { OnOk result (numbers_in places.new.entries ≡ changed_numbers batch.now (numbers_in places.old.entries)) }
     ensures committed { IsTrue H.told → OnOk result (ReadsChanged batch.now (image journal.unit (H.outside host.old).now) (image journal.unit (H.outside host.new).now)) }

@@ -10,7 +10,7 @@ ghost use Rattle.newt_pagebook.specs.Batch.{IsBatch};
 ghost use Rattle.newt_pagebook.specs.Book.{IsOpenFor, batch_bytes, changed_numbers, IsBeforeOrAfter, ReadsChanged};
 ghost use Rattle.newt_pagelog.specs.Kept.{numbers_in};
 ghost use Rattle.newt_pagelog.specs.Placed.{AreNumbered, ArePlaced, HoldsAt};
-ghost use Rattle.newt_pages.specs.Disk.{AreCached};
+ghost use Rattle.newt_pages.specs.Disk.{EachIsPageAtPlace};
 
 use crate::append::commit_behind;
 use crate::hand::Cache;
@@ -19,7 +19,7 @@ use crate::table::{FIRST_PAGE, move_pages, place_puts, remove_numbers, remove_pu
 use newt_host::{Failed, Host};
 use newt_journal::Journal;
 use newt_pagebook::Batch;
-use newt_pagelog::{Table, kept_of};
+use newt_pagelog::{Table, has_room};
 
 // Writes all pages after a batch into the other bank, and then notes where they stand.
 fn commit_beside<H: Host>(
@@ -69,14 +69,14 @@ pub(crate) fn commit_with<H: Host>(
     requires holds { IsTrue H.told → HoldsAt journal (image journal.unit (H.outside host.old).now) places.old.entries }
     requires placed { ArePlaced journal places.old.entries }
     requires numbered { AreNumbered places.old.entries }
-    requires caches { IsTrue H.told → AreCached journal (image journal.unit (H.outside host.old).now) cache.old.entries }
+    requires caches { IsTrue H.told → EachIsPageAtPlace journal (image journal.unit (H.outside host.old).now) cache.old.entries }
     requires spare { length batch.now.puts ≤ hash.spare places.old }
     requires live { live ≡ set.len (changed_numbers batch.now (numbers_in places.old.entries)) }
     requires few { live ≤ cap journal.blocks }
     ensures journal { IfOk result (λ after. Stands H.told after (H.outside host.new) × (after.unit ≡ journal.unit)) }
     ensures holds { IsTrue H.told → IfOk result (λ after. HoldsAt after (image journal.unit (H.outside host.new).now) places.new.entries) }
     ensures placed { IfOk result (λ after. ArePlaced after places.new.entries) }
-    ensures caches { IsTrue H.told → IfOk result (λ after. AreCached after (image journal.unit (H.outside host.new).now) cache.new.entries) }
+    ensures caches { IsTrue H.told → IfOk result (λ after. EachIsPageAtPlace after (image journal.unit (H.outside host.new).now) cache.new.entries) }
     ensures numbered { AreNumbered places.new.entries }
     ensures numbers { OnOk result (numbers_in places.new.entries ≡ changed_numbers batch.now (numbers_in places.old.entries)) }
     ensures committed { IsTrue H.told → OnOk result (ReadsChanged batch.now (image journal.unit (H.outside host.old).now) (image journal.unit (H.outside host.new).now)) }
@@ -86,9 +86,7 @@ pub(crate) fn commit_with<H: Host>(
     ensures alone { Touches journal.unit (H.outside host.old) (H.outside host.new) }
     ensures cause { OnErr result (Rose ((H.outside host.old).dev_faults journal.unit) ((H.outside host.new).dev_faults journal.unit)) }
 {
-    let deletes = kept_of(places, batch.deletes());
-    let len = 4 + 516 * batch.puts().len() + 4 * deletes;
-    if len <= journal.room() as usize {
+    if has_room(&journal, places, batch) {
         commit_behind(journal, host, places, batch)
     } else {
         cache.clear();

@@ -12,16 +12,18 @@ use Rattle.newt_pagebook.specs.Book.{IsBeforeOrAfter, batch_bytes}
 use Rattle.newt_pagelog.specs.Kept.{is_kept, needed}
 use Rattle.newt_pagelog.specs.Placed.{lifted, page_of}
 use Rattle.newt_pagelog.proofs.Counts.{live-is}
-use Rattle.newt_pagelog.proofs.Changing.{fewer, cap-few, room-few}
+use Rattle.newt_pagelog.proofs.Changing.{few_kept, fewer, cap-few}
+use Rattle.newt_pagelog.proofs.Committed.{appended-either}
+use Rattle.newt_pagelog.proofs.Near.{room-few}
 use Rattle.newt_pagelog.proofs.Placing.{numbered-placed}
 use Rattle.newt_pages.specs.Disk.{StandAt}
-use Rattle.newt_pages.proofs.Tables.{few-needed, needed-lifted}
+use Rattle.newt_pages.proofs.Tables.{needed-lifted}
 use Rattle.newt_pages.proofs.Caching.{cached-appended}
-use Rattle.newt_pages.proofs.Committed.{appended-either, holds-appended, placed-wider}
+use Rattle.newt_pages.proofs.Committed.{holds-appended, placed-wider}
 use Rattle.newt_pages.proofs.append.commit_behind.Goals as goal
 
 pub append_batch-requires-clause-few_deletes : goal.append_batch-requires-clause-few_deletes
-append_batch-requires-clause-few_deletes g c = omega (arith, few-needed c.args.places.now.entries c.args.batch.now c.requires.batch, c.requires.numbered.few)
+append_batch-requires-clause-few_deletes g c = omega (arith, few_kept c.args.places.now.entries c.args.batch.now c.requires.batch, c.requires.numbered.few)
 
 pub returns-in_err-journal-clause-any_moment : goal.returns-in_err-journal-clause-any_moment
 returns-in_err-journal-clause-any_moment g c =
@@ -35,7 +37,7 @@ returns-in_err-journal-clause-any_moment g c =
     let f = page_of c.args.journal h.payloads in
     let entries = lifted f places in
     let same : needed places batch ≡ needed entries batch = sym (needed-lifted f places batch) in
-    let low : length (filter (is_kept entries) batch.deletes) < 65536 = omega (arith, few-needed places batch c.requires.batch, c.requires.numbered.few, ap (λ (ch : Change). length ch.deletes) same) in
+    let low : length (filter (is_kept entries) batch.deletes) < 65536 = omega (arith, few_kept places batch c.requires.batch, c.requires.numbered.few, ap (λ (ch : Change). length ch.deletes) same) in
     Leaves-weaken {P = ReadsAsEither (records old) (appended (records old) (written_change (needed places batch)))} {Q = IsBeforeOrAfter batch old}
     (λ left either. appended-either entries batch old left c.requires.batch few low h.holds (subst (λ (ch : Change). ReadsAsEither (records old) (appended (records old) (written_change ch)) left) same either)) (c.append_batch.ensures.any_moment tells)
 
@@ -51,7 +53,7 @@ returns-clause-holds g c = λ tells.
     let batch = c.args.batch.now in
     let places = c.args.places.now.entries in
     let few : length batch.puts < 65536 = room-few j (length batch.puts) (omega (arith, c.requires.fits)) in
-    let low : length (filter (is_kept places) batch.deletes) < 65536 = omega (arith, few-needed places batch c.requires.batch, c.requires.numbered.few) in
+    let low : length (filter (is_kept places) batch.deletes) < 65536 = omega (arith, few_kept places batch c.requires.batch, c.requires.numbered.few) in
     (holds-appended g.H.Host.told j c.in_ok-journal.journal (o c.args.host.now) (image j.unit (o c.append_batch.new.host).now) places c.apply.new.places.entries batch c.requires.stands tells c.requires.batch few low
     c.in_ok-journal.ensures.places.1 c.requires.placed (c.requires.holds tells) (c.in_ok-journal.ensures.committed tells)
     (λ page stand. c.apply.ensures.pages page (subst (λ (k : ℕ). StandAt page (k + 13) batch.puts) (sym c.end-first.ensures.place) stand))).0
@@ -77,7 +79,7 @@ returns-clause-committed g c = λ tells.
     let batch = c.args.batch.now in
     let places = c.args.places.now.entries in
     let few : length batch.puts < 65536 = room-few j (length batch.puts) (omega (arith, c.requires.fits)) in
-    let low : length (filter (is_kept places) batch.deletes) < 65536 = omega (arith, few-needed places batch c.requires.batch, c.requires.numbered.few) in
+    let low : length (filter (is_kept places) batch.deletes) < 65536 = omega (arith, few_kept places batch c.requires.batch, c.requires.numbered.few) in
     (holds-appended g.H.Host.told j c.in_ok-journal.journal (o c.args.host.now) (image j.unit (o c.append_batch.new.host).now) places c.apply.new.places.entries batch c.requires.stands tells c.requires.batch few low
     c.in_ok-journal.ensures.places.1 c.requires.placed (c.requires.holds tells) (c.in_ok-journal.ensures.committed tells)
     (λ page stand. c.apply.ensures.pages page (subst (λ (k : ℕ). StandAt page (k + 13) batch.puts) (sym c.end-first.ensures.place) stand))).1
@@ -94,7 +96,7 @@ returns-clause-any_moment g c =
     let f = page_of c.args.journal h.payloads in
     let entries = lifted f places in
     let same : needed places batch ≡ needed entries batch = sym (needed-lifted f places batch) in
-    let low : length (filter (is_kept entries) batch.deletes) < 65536 = omega (arith, few-needed places batch c.requires.batch, c.requires.numbered.few, ap (λ (ch : Change). length ch.deletes) same) in
+    let low : length (filter (is_kept entries) batch.deletes) < 65536 = omega (arith, few_kept places batch c.requires.batch, c.requires.numbered.few, ap (λ (ch : Change). length ch.deletes) same) in
     Leaves-weaken {P = ReadsAsEither (records old) (appended (records old) (written_change (needed places batch)))} {Q = IsBeforeOrAfter batch old}
     (λ left either. appended-either entries batch old left c.requires.batch few low h.holds (subst (λ (ch : Change). ReadsAsEither (records old) (appended (records old) (written_change ch)) left) same either)) (c.append_batch.ensures.any_moment tells)
 

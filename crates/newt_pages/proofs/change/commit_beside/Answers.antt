@@ -14,13 +14,14 @@ use Rattle.newt_pagelog.specs.Kept.{Entries, map_of, all_of}
 use Rattle.newt_pagelog.specs.Placed.{lifted, page_of, ArePlaced}
 use Rattle.newt_pagelog.proofs.Counts.{live-is, numbers-after}
 use Rattle.newt_pagelog.proofs.Changing.{cap-few}
+use Rattle.newt_pagelog.proofs.Committed.{alone-reads, alone-either}
+use Rattle.newt_pagelog.proofs.Near.{end-near}
 use Rattle.newt_pagelog.proofs.Placing.{numbered-placed}
 use Rattle.newt_pages.specs.Copies.{below}
 use Rattle.newt_pages.specs.Disk.{StandAt}
 use Rattle.newt_pages.proofs.Tables.{length-lifted, numbers-lifted, small-puts, any_pages, any_stand}
 use Rattle.newt_pages.proofs.Moving.{stand-front, stand-behind, all-moved}
-use Rattle.newt_pages.proofs.Committed.{end-near}
-use Rattle.newt_pages.proofs.Replaced.{AreLeft, left-of, left-small, whole, whole-after, whole-count, moved-after, sound-whole, alone-reads, alone-either, stand-alone}
+use Rattle.newt_pages.proofs.Replaced.{AreLeft, left-of, left-small, whole, whole-after, whole-count, moved-after, sound-whole, stand-alone}
 use Rattle.newt_pages.proofs.change.commit_beside.Goals as goal
 
 pub replace_all-requires-clause-count : goal.replace_all-requires-clause-count
