@@ -14,7 +14,7 @@ use Rattle.newt_spec_image.specs.Pages.{Pages, Change, change_in, after, pages_a
 use Rattle.newt_journal.specs.Journal.{Stands}
 use Rattle.newt_journal.specs.declared.journal.Journal.{Journal}
 use Rattle.newt_journal.proofs.Elsewhere.{stands_elsewhere}
-use Rattle.newt_pagelog.specs.Kept.{Entries, AreSound, page_in, map_of}
+use Rattle.newt_pagelog.specs.Kept.{Entries, AreSound, page_in}
 use Rattle.newt_pagelog.specs.Placed.{Looks}
 use Rattle.newt_pagelog.proofs.Maps.{turned}
 
@@ -53,18 +53,6 @@ sound-reordered old new moved same_len same s = record {
   small = λ q page e. s.small q page (sym (same q) ∙ e);
   whole = λ q page e. s.whole q page (sym (same q) ∙ e);
 }
-
-pub read-step : (rest at_rest : Option (List (List ℕ))) (payload bytes : List ℕ) (batch : Change) (old mid new : Entries) (whole : Option Pages) → whole ≡ and_then at_rest (λ ps. pages_after ps (map_of old))
-    → at_rest ≡ with_first payload rest → bytes ≡ payload → change_in bytes ≡ Some batch → map_of mid ≡ map_of old → map_of new ≡ after batch (map_of mid)
-    → whole ≡ and_then rest (λ ps. pages_after ps (map_of new))
-read-step rest at_rest payload bytes batch old mid new whole read found is says same applied =
-    read ∙ ap (λ (r : Option (List (List ℕ))). and_then r (λ ps. pages_after ps (map_of old))) found ∙ step-read rest payload batch (map_of old) (ap change_in (sym is) ∙ says)
-    ∙ ap (λ (m : Pages). and_then rest (λ ps. pages_after ps m)) (ap (after batch) (sym same) ∙ sym applied)
-
-pub read-bad : (rest at_rest : Option (List (List ℕ))) (payload bytes : List ℕ) (old : Entries) (whole : Option Pages) → whole ≡ and_then at_rest (λ ps. pages_after ps (map_of old))
-    → at_rest ≡ with_first payload rest → bytes ≡ payload → change_in bytes ≡ None → whole ≡ None
-read-bad rest at_rest payload bytes old whole read found is says =
-    read ∙ ap (λ (r : Option (List (List ℕ))). and_then r (λ ps. pages_after ps (map_of old))) found ∙ step-none rest payload (map_of old) (ap change_in (sym is) ∙ says)
 
 -- what is said of an option, at what it is
 pub at_some : {A : Type 0} (P : Type 0) (Q : A → Type 0) (o : Option A) (x : A) → o ≡ Some x → MatchOption o P Q → Q x

@@ -11,4 +11,6 @@ pub use live::{Table, kept_of, live_after, next_page};
 pub use make::format;
 pub use opening::open_journal;
 pub use places::replay;
-pub use write::{append_batch, has_room, write_counts, write_put, write_puts, written};
+pub use write::{
+    append_batch, begin_alone, has_room, write_counts, write_put, write_puts, written,
+};

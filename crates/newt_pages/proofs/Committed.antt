@@ -1,5 +1,5 @@
 -- Where the pages stand once a record is committed behind the others.
-use Rattle.std.proofs.Common.{IsTrue, ◌≡◌, ℕ, ◌+◌, ◌*◌, ◌<◌, ◌≤◌, Bool, nat_eq, List, [], ◌∷◌, ◌++◌, length, Option, Some, sym, ◌∙◌, ap, arith}
+use Rattle.std.proofs.Common.{IsTrue, ◌≡◌, ℕ, ◌+◌, ◌*◌, ◌<◌, ◌≤◌, Bool, true, false, nat_eq, List, [], ◌∷◌, ◌++◌, length, Option, Some, refl, sym, ◌∙◌, ap, arith}
 use Rattle.std.specs.List.{filter}
 use Rattle.std.specs.Map.{lookup}
 use Rattle.std.specs.Option.{option_map}
@@ -23,6 +23,11 @@ use Rattle.newt_pagelog.proofs.Committed.{appended-reads}
 use Rattle.newt_pagelog.proofs.Placing.{lifted-same}
 use Rattle.newt_pages.specs.Disk.{StandAt}
 use Rattle.newt_pages.proofs.Tables.{needed-lifted}
+
+-- the payloads of the records, where bytes are told
+pub payloads_of : (told : Bool) (j : Journal) (places : Places) (o : Outside) → (IsTrue told → HoldsAt j (image j.unit o.now) places) → (payloads : List (List ℕ)) × (IsTrue told → records (image j.unit o.now) ≡ Some payloads)
+payloads_of true j places o holds = ((holds refl).payloads, λ _. (holds refl).read)
+payloads_of false j places o holds = ([], λ tells. absurd (cc))
 
 -- where the pages of a record stand that is behind others
 pub stand-appended : (j : Journal) (passed : List (List ℕ)) (payload : List ℕ) (change : Change) (first : ℕ) → change_in payload ≡ Some change → first ≡ start_of j.blocks j.bank + length (written passed) + 13

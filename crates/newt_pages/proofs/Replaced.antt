@@ -207,9 +207,6 @@ module _ (batch : Change) (is : IsBatch batch) (old left : Places) (numbered : A
         ∙ ap (λ (o : Option (List ℕ)). cond (is_some (page_in batch.puts q)) (page_in batch.puts q) o) (get_map (lifted g moved) q ∙ same q ∙ left-pages f q)
         ∙ other_way (put_there batch q) (gone_there batch q) (page_in batch.puts q) (page_in (lifted f old) q) (put_some batch q) (not_both batch is q) ∙ sym (after-at f q))
 
-  pub numbers-left : (few : length left ≤ length old) → IsDistinct nat_eq (keys_of left) → AreNumbered left
-  numbers-left few unique = record { unique = unique; few = omega (arith, few, numbered.few); small = left-small }
-
 -- the pages at places of the records are whole
 pub length-recorded : (j : Journal) (payloads : List (List ℕ)) (at : ℕ) → j.end ≡ start_of j.blocks j.bank + length (written payloads) → first_place j ≤ at → at + 512 ≤ j.end → length (page_of j payloads at) ≡ 512
 length-recorded j payloads at end low high =

@@ -50,6 +50,13 @@ shown_in cached spare Nothing = None
 shown_in cached spare (Cached at) = lookup (nat_eq at) cached
 shown_in cached spare Spare = Some spare
 
+-- The journal stands for its unit, the places lie within its records, and where bytes are told the pages of the unit's image are those at the places (this
+-- project's own).
+pub record IsPlacedBy (told : Bool) (journal : Journal) (places : Places) (outside : Outside) : Type 0 where
+  pub stands : Stands told journal outside
+  pub placed : ArePlaced journal places
+  pub holds : IsTrue told → HoldsAt journal (image journal.unit outside.now) places
+
 -- It has a journal of its unit, which stands for it, and the places lie within its records. Where bytes are told the pages of the unit's image are those
 -- at the places, and the cached pages are among them.
 pub record StandsWith (told : Bool) (unit : ℕ) (journal : Option Journal) (places : Places) (cached : List (ℕ × List ℕ)) (outside : Outside) : Type 0 where

@@ -1,5 +1,5 @@
 // The page at hand.
-ghost use Rattle.std.specs.Prelude.{IsTrue, ◌≡◌, ◌≤◌, ◌+◌, ℕ, List, Some, IsSome, IfOk, OnErr};
+ghost use Rattle.std.specs.Prelude.{IsTrue, ◌≡◌, ◌≤◌, ◌+◌, ℕ, List, [], Some, IsSome, IfOk, OnErr};
 ghost use Rattle.newt_host.specs.Moments.{image};
 ghost use Rattle.newt_host.specs.Outside.{Touches, Spends, Rose};
 ghost use Rattle.newt_spec_image.specs.Records.{records};
@@ -57,4 +57,11 @@ pub(crate) fn bring<H: Host>(
         Ok(_) => Ok(AtHand::Cached(at)),
         Err(_) => Ok(AtHand::Spare),
     }
+}
+
+/// Forgets all cached pages: in the other bank other pages stand at their places.
+pub(crate) fn forget_all(cache: &mut Cache)
+    ensures { cache.new.entries ≡ [] }
+{
+    cache.clear();
 }

@@ -1,18 +1,16 @@
-use Rattle.std.proofs.Common.{◌≡◌, ℕ, ◌≤◌, [], ◌∷◌, length, Some, arith}
+use Rattle.std.proofs.Common.{◌≡◌, ℕ, ◌≤◌, length, arith}
 use Rattle.std.specs.List.{IsDistinct}
 use Rattle.std.specs.Map.{keys_of}
 use Rattle.std.specs.FinSet as set
 use Rattle.std.proofs.Common.{nat_eq}
 use Rattle.newt_host.specs.Moments.{image}
-use Rattle.newt_host.proofs.Moments.{Leaves-weaken}
-use Rattle.newt_spec_image.specs.Records.{records}
-use Rattle.newt_spec_image.specs.Pages.{Change, after, cap, written_change}
-use Rattle.newt_journal.specs.Journal.{ReadsAsEither}
+use Rattle.newt_spec_image.specs.Pages.{Change, after, cap}
 use Rattle.newt_pagebook.specs.Batch.{IsBatch}
-use Rattle.newt_pagebook.specs.Book.{IsBeforeOrAfter, changed_numbers}
-use Rattle.newt_pagelog.specs.Kept.{Entries, AreSound, map_of, numbers_in, all_of}
+use Rattle.newt_pagebook.specs.Book.{changed_numbers}
+use Rattle.newt_pagelog.specs.Kept.{Entries, AreSound, map_of, numbers_in}
 use Rattle.newt_pagelog.proofs.Changing.{sound-after, live-after, cap-few, cap-fits}
-use Rattle.newt_pagelog.proofs.Committed.{alone-reads, alone-either}
+use Rattle.newt_pagelog.proofs.Committed.{alone-reads}
+use Rattle.newt_pagelog.proofs.Committing.{commits, commits-failed}
 use Rattle.newt_pageplain.proofs.change.commit_beside.Goals as goal
 
 few-after : (old new : Entries) (batch : Change) (blocks : ℕ) → blocks ≤ 4099 → map_of new ≡ after batch (map_of old) → IsDistinct nat_eq (keys_of new) → set.len (changed_numbers batch (numbers_in old)) ≤ cap blocks → length new ≤ cap blocks
@@ -24,46 +22,41 @@ sound-new old new batch blocks sound is_batch few is unique low = sound-after ol
 pub replace_all-requires-clause-few : goal.replace_all-requires-clause-few
 replace_all-requires-clause-few g c =
     let new = c.apply.new.pages.entries in
-    cap-few c.args.journal.blocks (length new) c.args.journal.not_too_many (few-after c.args.pages.now.entries new c.args.batch.now c.args.journal.blocks c.args.journal.not_too_many c.apply.ensures.pages c.apply.ensures.unique c.requires.live)
+    cap-few c.args.journal.blocks (length new) c.args.journal.not_too_many (few-after c.args.pages.now.entries new c.args.batch.now c.args.journal.blocks c.args.journal.not_too_many c.apply.ensures.pages c.apply.ensures.unique c.requires.ready.live)
 
 pub replace_all-requires-clause-fits : goal.replace_all-requires-clause-fits
 replace_all-requires-clause-fits g c =
     let new = c.apply.new.pages.entries in
-    cap-fits c.args.journal.blocks (length new) c.args.journal.enough (few-after c.args.pages.now.entries new c.args.batch.now c.args.journal.blocks c.args.journal.not_too_many c.apply.ensures.pages c.apply.ensures.unique c.requires.live)
+    cap-fits c.args.journal.blocks (length new) c.args.journal.enough (few-after c.args.pages.now.entries new c.args.batch.now c.args.journal.blocks c.args.journal.not_too_many c.apply.ensures.pages c.apply.ensures.unique c.requires.ready.live)
 
 pub returns-in_err-journal-clause-sound : goal.returns-in_err-journal-clause-sound
 returns-in_err-journal-clause-sound g c =
-    sound-new c.args.pages.now.entries c.apply.new.pages.entries c.args.batch.now c.args.journal.blocks c.requires.sound c.requires.batch c.args.journal.not_too_many c.apply.ensures.pages c.apply.ensures.unique c.requires.live
+    sound-new c.args.pages.now.entries c.apply.new.pages.entries c.args.batch.now c.args.journal.blocks c.requires.sound c.requires.batch c.args.journal.not_too_many c.apply.ensures.pages c.apply.ensures.unique c.requires.ready.live
 
 pub returns-clause-sound : goal.returns-clause-sound
 returns-clause-sound g c =
-    sound-new c.args.pages.now.entries c.apply.new.pages.entries c.args.batch.now c.args.journal.blocks c.requires.sound c.requires.batch c.args.journal.not_too_many c.apply.ensures.pages c.apply.ensures.unique c.requires.live
+    sound-new c.args.pages.now.entries c.apply.new.pages.entries c.args.batch.now c.args.journal.blocks c.requires.sound c.requires.batch c.args.journal.not_too_many c.apply.ensures.pages c.apply.ensures.unique c.requires.ready.live
 
-pub returns-in_err-journal-clause-any_moment : goal.returns-in_err-journal-clause-any_moment
-returns-in_err-journal-clause-any_moment g c =
+pub returns-in_err-journal-clause-commits : goal.returns-in_err-journal-clause-commits
+returns-in_err-journal-clause-commits g c =
     let o = g.H.Host.outside in
-    let old = image c.args.journal.unit (o c.args.host.now).now in
+    let told = g.H.Host.told in
+    let j = c.args.journal in
     let new = c.apply.new.pages.entries in
     let batch = c.args.batch.now in
-    let sound = sound-new c.args.pages.now.entries new batch c.args.journal.blocks c.requires.sound c.requires.batch c.args.journal.not_too_many c.apply.ensures.pages c.apply.ensures.unique c.requires.live in
-    λ tells. Leaves-weaken {P = ReadsAsEither (records old) (Some (written_change (all_of new) ∷ []))} {Q = IsBeforeOrAfter batch old}
-    (λ left. alone-either new batch (map_of c.args.pages.now.entries) old left sound c.apply.ensures.pages (c.requires.holds tells)) (c.replace_all.ensures.any_moment tells)
+    let a = o c.args.host.now in
+    let b = o c.replace_all.new.host in
+    let sound = sound-new c.args.pages.now.entries new batch j.blocks c.requires.sound c.requires.batch j.not_too_many c.apply.ensures.pages c.apply.ensures.unique c.requires.ready.live in
+    commits-failed told j batch _ c.from_residual.result a b c.from_residual.ensures.0
+    (commits told j batch _ _ a b (λ tells left alone. alone-reads new batch (map_of c.args.pages.now.entries) (image j.unit a.now) left sound c.apply.ensures.pages (c.requires.book.holds tells) alone) c.in_err-journal.ensures)
 
-pub returns-clause-any_moment : goal.returns-clause-any_moment
-returns-clause-any_moment g c =
+pub returns-clause-commits : goal.returns-clause-commits
+returns-clause-commits g c =
     let o = g.H.Host.outside in
-    let old = image c.args.journal.unit (o c.args.host.now).now in
+    let told = g.H.Host.told in
+    let j = c.args.journal in
     let new = c.apply.new.pages.entries in
     let batch = c.args.batch.now in
-    let sound = sound-new c.args.pages.now.entries new batch c.args.journal.blocks c.requires.sound c.requires.batch c.args.journal.not_too_many c.apply.ensures.pages c.apply.ensures.unique c.requires.live in
-    λ tells. Leaves-weaken {P = ReadsAsEither (records old) (Some (written_change (all_of new) ∷ []))} {Q = IsBeforeOrAfter batch old}
-    (λ left. alone-either new batch (map_of c.args.pages.now.entries) old left sound c.apply.ensures.pages (c.requires.holds tells)) (c.replace_all.ensures.any_moment tells)
-
-pub returns-clause-committed : goal.returns-clause-committed
-returns-clause-committed g c =
-    let o = g.H.Host.outside in
-    let u = c.args.journal.unit in
-    let new = c.apply.new.pages.entries in
-    let batch = c.args.batch.now in
-    let sound = sound-new c.args.pages.now.entries new batch c.args.journal.blocks c.requires.sound c.requires.batch c.args.journal.not_too_many c.apply.ensures.pages c.apply.ensures.unique c.requires.live in
-    λ tells. alone-reads new batch (map_of c.args.pages.now.entries) (image u (o c.args.host.now).now) (image u (o c.replace_all.new.host).now) sound c.apply.ensures.pages (c.requires.holds tells) (c.in_ok-journal.ensures.committed tells)
+    let a = o c.args.host.now in
+    let sound = sound-new c.args.pages.now.entries new batch j.blocks c.requires.sound c.requires.batch j.not_too_many c.apply.ensures.pages c.apply.ensures.unique c.requires.ready.live in
+    commits told j batch _ _ a (o c.replace_all.new.host) (λ tells left alone. alone-reads new batch (map_of c.args.pages.now.entries) (image j.unit a.now) left sound c.apply.ensures.pages (c.requires.book.holds tells) alone) c.in_ok-journal.ensures

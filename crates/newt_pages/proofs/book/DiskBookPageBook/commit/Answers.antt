@@ -29,9 +29,9 @@ returns-in-Ok-clause-book g c =
     record {
       its = k;
       is = refl;
-      stands = c.in-Ok.ensures.journal.0;
-      on = c.in-Ok.ensures.journal.1 ∙ on;
-      placed = c.in-Ok.ensures.placed;
-      holds = λ tells. subst (λ (u : ℕ). HoldsAt k (image u (o c.commit_with.new.host).now) c.commit_with.new.places.entries) on (c.in-Ok.ensures.holds tells);
+      stands = c.in-Ok.ensures.book.stands;
+      on = c.in-Ok.ensures.commits.stands.1 ∙ on;
+      placed = c.in-Ok.ensures.book.placed;
+      holds = λ tells. subst (λ (u : ℕ). HoldsAt k (image u (o c.commit_with.new.host).now) c.commit_with.new.places.entries) (c.in-Ok.ensures.commits.stands.1 ∙ on) (c.in-Ok.ensures.book.holds tells);
       caches = λ tells. subst (λ (u : ℕ). EachIsPageAtPlace k (image u (o c.commit_with.new.host).now) c.commit_with.new.cache.entries) on (c.in-Ok.ensures.caches tells);
     }
