@@ -1,9 +1,9 @@
 -- What the pages are once a record is committed.
-use Rattle.std.proofs.Common.{◌≡◌, ◌⊎◌, inl, inr, ℕ, zero, suc, ◌+◌, ◌-◌, ◌*◌, ◌<◌, ◌≤◌, ◌==◌, Bool, true, false, not, cond, ◌||◌, ◌&&◌, nat_eq, List, [], ◌∷◌, ◌++◌, map as map_list, length, slice_get, Option, Some, None, IsSome, refl, sym, ◌∙◌, ap, subst, arith, ⊎_elim}
+use Rattle.std.proofs.Common.{◌≡◌, ◌⊎◌, inl, inr, ℕ, zero, suc, ◌+◌, ◌*◌, ◌<◌, ◌≤◌, ◌==◌, Bool, true, false, not, cond, ◌||◌, ◌&&◌, nat_eq, List, [], ◌∷◌, ◌++◌, map as map_list, length, slice_get, Option, Some, None, IsSome, refl, sym, ◌∙◌, ap, subst, arith, ⊎_elim}
 use Rattle.std.specs.List.{All, list_any, filter, IsDistinct, AllByRecursion}
 use Rattle.std.proofs.lemmas.List.Elements.{All-head, All-tail, All-cons, All-nil}
 use Rattle.std.proofs.lemmas.Map.Entries.{lookup_from_place}
-use Rattle.std.specs.Map.{keys_of}
+use Rattle.std.specs.Map.{keys_of, lookup}
 use Rattle.std.proofs.lemmas.Bool.{and_parts, not-true}
 use Rattle.std.proofs.lemmas.Bool.Decides.{nat_tests}
 use Rattle.std.specs.Option.{is_some}
@@ -18,11 +18,7 @@ use Rattle.std.proofs.lemmas.Map.Steps.{length-le_from_keys}
 use Rattle.newt_host.specs.Moments.{image}
 use Rattle.newt_spec_image.specs.Records.{and_then, records, bank_size}
 use Rattle.newt_spec_image.specs.Pages.{Pages, Put, Change, change_numbers, all_distinct, change_in, with_puts, without_numbers, after, pages, pages_after, cap}
-use Rattle.newt_journal.specs.Journal.{appended, room}
-use Rattle.newt_journal.specs.Bank.{limit_of}
-use Rattle.newt_journal.specs.declared.journal.Journal.{Journal}
-use Rattle.newt_journal.specs.declared.bank.Bank.{Bank}
-use Rattle.newt_journal.specs.declared.bank.Bank.TheVariants.{First, Second}
+use Rattle.newt_journal.specs.Journal.{appended}
 use Rattle.newt_pagebook.specs.Batch.{IsBatch}
 use Rattle.newt_pagebook.specs.Book.{Numbers, changed_numbers}
 use Rattle.newt_pagebook.proofs.Tests.{true_or_false, is_same, some_inj, none_is, neither}
@@ -197,13 +193,13 @@ pub live-after : (old new : Entries) (change : Change) → map_of new ≡ after 
 live-after old new change is unique = sym (live-is new unique) ∙ ap (λ (s : Numbers). set.len s) (numbers-after old new change is)
 
 -- of distinct numbers, those that are there are no more than the pages
-pub few_kept : (entries : Entries) (change : Change) → IsBatch change → length (filter (is_kept entries) change.deletes) ≤ length entries
+pub few_kept : {V : Type 0} (entries : List (ℕ × V)) (change : Change) → IsBatch change → length (filter (is_kept entries) change.deletes) ≤ length entries
 few_kept entries change batch =
     let less = fewer_deletes (is_kept entries) change batch in
     let gone : List ℕ = filter (is_kept entries) change.deletes in
     let distinct : IsDistinct nat_eq gone = distinct_is gone (back_distinct (map_list (λ (put : Put). put.0) change.puts) gone less.distinct) in
     length-le_from_keys nat_eq_equiv gone entries distinct (λ q there. kept_there q (sym (any_filtered q (is_kept entries) change.deletes) ∙ there)) where
-      kept_there : (q : ℕ) → (list_any (λ n. q == n) change.deletes && is_kept entries q) ≡ true → IsSome (page_in entries q)
+      kept_there : (q : ℕ) → (list_any (λ n. q == n) change.deletes && is_kept entries q) ≡ true → IsSome (lookup (nat_eq q) entries)
       kept_there q e = right (list_any (λ n. q == n) change.deletes) (is_kept entries q) e where
         right : (a b : Bool) → (a && b) ≡ true → b ≡ true
         right true b h = h
@@ -268,17 +264,3 @@ cap-few blocks n few low = omega (arith, few, low)
 
 pub cap-fits : (blocks n : ℕ) → 13 ≤ blocks → n ≤ cap blocks → 25 + 516 * n ≤ bank_size blocks
 cap-fits blocks n enough low = omega (arith, enough, low)
-
--- a payload for which a bank has room has few puts
-pub room-few : (j : Journal) (n : ℕ) → 4 + 516 * n ≤ room j → n < 65536
-room-few j n fits =
-    let low : room j ≤ limit_of j.blocks j.bank = choose j.closed ((limit_of j.blocks j.bank - j.end) - 5) (limit_of j.blocks j.bank) (omega arith) in
-    omega (arith, fits, low, below j.blocks j.bank j.not_too_many)
-  where
-    choose : (b : Bool) (m limit : ℕ) → m ≤ limit → cond b 0 m ≤ limit
-    choose true m limit low = omega arith
-    choose false m limit low = low
-
-    below : (blocks : ℕ) (bank : Bank) → blocks ≤ 4099 → limit_of blocks bank ≤ 16789504
-    below blocks First few = omega (arith, few)
-    below blocks Second few = omega (arith, few)

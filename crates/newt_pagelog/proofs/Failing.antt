@@ -2,7 +2,7 @@
 use Rattle.std.proofs.Common.{◌≡◌, ℕ, ◌+◌, ◌<◌, ◌≤◌, Result, Ok, Err, IfOk, OnOk, OnErr, IsErr, IsErrAnd, IsErrOf, subst, arith}
 use Rattle.std.proofs.lemmas.Bool.{false≢true}
 use Rattle.newt_pagebook.specs.declared.book.BookFault.{BookFault}
-use Rattle.newt_pagebook.specs.declared.book.BookFault.TheVariants.{Memory, Device, NotStore}
+use Rattle.newt_pagebook.specs.declared.book.BookFault.TheVariants.{Device, NotStore}
 use Rattle.newt_host.specs.Outside.{Outside, Rose, Spends, Touches}
 
 -- an error is no value
@@ -31,13 +31,7 @@ same-err (Err x) e f is so = cc
 pub not-err : {T E : Type 0} {x : T} {e : E} → Ok x ≡ Err e → ⊥
 not-err is = (cc)
 
--- want of memory, a fault of the device and what is no store are three errors
-pub memory-not-store : {T : Type 0} (r : Result T BookFault) → IsErrAnd r (λ x. x ≡ Memory) → IsErrOf r NotStore → ⊥
-memory-not-store r is so = let no = same-err r Memory NotStore is so in (cc)
-
-pub memory-not-device : {T : Type 0} (r : Result T BookFault) → IsErrAnd r (λ x. x ≡ Memory) → IsErrOf r Device → ⊥
-memory-not-device r is so = let no = same-err r Memory Device is so in (cc)
-
+-- a fault of the device and what is no store are two errors
 pub device-not-store : {T : Type 0} (r : Result T BookFault) → IsErrAnd r (λ x. x ≡ Device) → IsErrOf r NotStore → ⊥
 device-not-store r is so = let no = same-err r Device NotStore is so in (cc)
 
@@ -65,17 +59,8 @@ pub spent-finished : (u p q : ℕ) (a b c d : Outside) → Spends u 4 0 a b → 
 spent-finished u p q a b c d s t f = record { programmed = omega (arith, s.programmed, t.programmed, f.programmed); fetched = omega (arith, s.fetched, t.fetched, f.fetched) }
 
 -- what was programmed has not grown
-pub below-both : (a b c : ℕ) → b ≤ a → c ≤ b → c ≤ a
-below-both a b c first second = omega (arith, first, second)
-
-pub nothing-more : (a b c : ℕ) → b ≤ a → c ≤ b + 0 → c ≤ a
-nothing-more a b c first second = omega (arith, first, second)
-
 pub at-most : (a b : ℕ) → b ≤ a + 0 → b ≤ a
 at-most a b first = omega (arith, first)
-
-pub same-le : (n : ℕ) → n ≤ n
-same-le n = omega arith
 
 -- two numbers are as their names are
 pub more-named : (live most l m : ℕ) → live ≡ l → most ≡ m → most < live → m < l

@@ -8,3 +8,5 @@ pub mod Spelling
 pub mod Changing
 pub mod Replaying
 pub mod Placing
+pub mod Near
+pub mod Committed

@@ -1,5 +1,5 @@
 -- The records are replayed one by one.
-use Rattle.std.proofs.Common.{◌≡◌, ℕ, ◌≤◌, Bool, nat_eq, List, length, Option, Some, None, refl, sym, ◌∙◌, ap, subst, arith}
+use Rattle.std.proofs.Common.{◌≡◌, ℕ, Bool, nat_eq, List, length, Option, Some, None, refl, sym, ◌∙◌, ap, subst, arith}
 use Rattle.std.specs.Option.{MatchOption, IfSome}
 use Rattle.std.specs.List.{IsDistinct}
 use Rattle.std.specs.Map.{keys_of}
@@ -8,20 +8,29 @@ use Rattle.std.proofs.lemmas.List.Sorted.{IsPermutation-map}
 use Rattle.std.proofs.lemmas.Map.Keys.{IsDistinct-IsPermutation}
 use Rattle.newt_host.specs.Moments.{Moment, changes}
 use Rattle.newt_host.specs.Outside.{Outside, Touches}
+use Rattle.newt_host.proofs.Outside.{Touches-append}
 use Rattle.newt_spec_image.specs.Records.{and_then, with_first}
 use Rattle.newt_spec_image.specs.Pages.{Pages, Change, change_in, after, pages_after}
 use Rattle.newt_journal.specs.Journal.{Stands}
-use Rattle.newt_journal.specs.Bank.{limit_of}
 use Rattle.newt_journal.specs.declared.journal.Journal.{Journal}
-use Rattle.newt_journal.specs.declared.bank.Bank.{Bank}
-use Rattle.newt_journal.specs.declared.bank.Bank.TheVariants.{First, Second}
 use Rattle.newt_journal.proofs.Elsewhere.{stands_elsewhere}
-use Rattle.newt_pagelog.specs.Kept.{Entries, AreSound, page_in, map_of}
+use Rattle.newt_pagelog.specs.Kept.{Entries, AreSound, page_in}
+use Rattle.newt_pagelog.specs.Placed.{Looks}
 use Rattle.newt_pagelog.proofs.Maps.{turned}
 
 -- a journal stands on after what changed nothing
 pub stands-on : (told : Bool) (j : Journal) (old new : Outside) → Touches j.unit old new → new.now ≡ old.now → Stands told j old → Stands told j new
 stands-on told j old new touches moment stands = stands_elsewhere told j old new touches.cards (λ tells. ap (λ (m : Moment). changes j.unit m) moment) stands
+
+-- one look after another
+pub looks-two : (u v : ℕ) (a b c : Outside) → v ≡ u → Looks u a b → Looks v b c → Looks u a c
+looks-two u v a b c on first second' =
+    let second : Looks u b c = subst (λ (w : ℕ). Looks w b c) on second' in
+    record {
+      moment = second.moment ∙ first.moment;
+      programs_nothing = omega (arith, first.programs_nothing, second.programs_nothing);
+      alone = Touches-append first.alone second.alone;
+    }
 
 -- the map of what is left, once a record was read
 pub step-read : (rest : Option (List (List ℕ))) (payload : List ℕ) (change : Change) (live : Pages) → change_in payload ≡ Some change
@@ -44,25 +53,6 @@ sound-reordered old new moved same_len same s = record {
   small = λ q page e. s.small q page (sym (same q) ∙ e);
   whole = λ q page e. s.whole q page (sym (same q) ∙ e);
 }
-
--- a place in a bank is not far
-pub near : (j : Journal) → j.end ≤ limit_of j.blocks j.bank → j.end ≤ 16789504
-near j high = omega (arith, high, below j.blocks j.bank j.not_too_many) where
-  below : (blocks : ℕ) (bank : Bank) → blocks ≤ 4099 → limit_of blocks bank ≤ 16789504
-  below blocks First few = omega (arith, few)
-  below blocks Second few = omega (arith, few)
-
-pub read-step : (rest at_rest : Option (List (List ℕ))) (payload bytes : List ℕ) (batch : Change) (old mid new : Entries) (whole : Option Pages) → whole ≡ and_then at_rest (λ ps. pages_after ps (map_of old))
-    → at_rest ≡ with_first payload rest → bytes ≡ payload → change_in bytes ≡ Some batch → map_of mid ≡ map_of old → map_of new ≡ after batch (map_of mid)
-    → whole ≡ and_then rest (λ ps. pages_after ps (map_of new))
-read-step rest at_rest payload bytes batch old mid new whole read found is says same applied =
-    read ∙ ap (λ (r : Option (List (List ℕ))). and_then r (λ ps. pages_after ps (map_of old))) found ∙ step-read rest payload batch (map_of old) (ap change_in (sym is) ∙ says)
-    ∙ ap (λ (m : Pages). and_then rest (λ ps. pages_after ps m)) (ap (after batch) (sym same) ∙ sym applied)
-
-pub read-bad : (rest at_rest : Option (List (List ℕ))) (payload bytes : List ℕ) (old : Entries) (whole : Option Pages) → whole ≡ and_then at_rest (λ ps. pages_after ps (map_of old))
-    → at_rest ≡ with_first payload rest → bytes ≡ payload → change_in bytes ≡ None → whole ≡ None
-read-bad rest at_rest payload bytes old whole read found is says =
-    read ∙ ap (λ (r : Option (List (List ℕ))). and_then r (λ ps. pages_after ps (map_of old))) found ∙ step-none rest payload (map_of old) (ap change_in (sym is) ∙ says)
 
 -- what is said of an option, at what it is
 pub at_some : {A : Type 0} (P : Type 0) (Q : A → Type 0) (o : Option A) (x : A) → o ≡ Some x → MatchOption o P Q → Q x

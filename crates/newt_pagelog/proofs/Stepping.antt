@@ -1,7 +1,7 @@
 -- One write after another.
 use Rattle.std.proofs.Common.{IsTrue, ◌≡◌, ℕ, ◌+◌, ◌*◌, ◌≤◌, Bool, true, cond, List, [], ◌∷◌, ◌++◌, length, take, drop, take-append-drop, refl, sym, ◌∙◌, ap, subst, arith, append_assoc, append-nil, length-append}
 use Rattle.newt_host.specs.Moments.{Moment, image, Leaves}
-use Rattle.newt_host.specs.Outside.{Outside, Touches, Spends}
+use Rattle.newt_host.specs.Outside.{Outside}
 use Rattle.std.specs.List.{flat_map, filter}
 use Rattle.std.specs.Int.{to_be_bytes, w16, w32}
 use Rattle.std.proofs.lemmas.List.Elements.{filter-append}
@@ -12,7 +12,22 @@ use Rattle.newt_spec_image.specs.Pages.{Change, written_put, written_delete, wri
 use Rattle.newt_journal.specs.Journal.{ReadsAs}
 use Rattle.newt_journal.specs.Draft.{IsDraftOf, journal_of, unit_of, len_of, put_of, is_switch, payload_of, rest_of}
 use Rattle.newt_journal.specs.declared.draft.Draft.{Draft}
-use Rattle.newt_pagelog.specs.Steps.{IsSteady, Keeps, WritesMore}
+use Rattle.newt_pagelog.specs.Steps.{IsSteady, Stays, Keeps, WritesMore}
+
+pub stays-kept : (told : Bool) (unit size : ℕ) (a b : Outside) → Keeps told unit size a b → Stays told unit a b
+stays-kept told unit size a b k = record { any_moment = k.any_moment; alone = k.alone }
+
+pub stays-two : (told : Bool) (unit : ℕ) (a b c : Outside) → (IsTrue told → records (image unit b.now) ≡ records (image unit a.now)) → Stays told unit a b → Stays told unit b c → Stays told unit a c
+stays-two told unit a b c same first second = record {
+  any_moment = λ tells. Leaves-append (first.any_moment tells) (Leaves-weaken (λ left e. e ∙ same tells) (second.any_moment tells));
+  alone = Touches-append first.alone second.alone;
+}
+
+pub stays-on : (told : Bool) (u v : ℕ) (a b : Outside) → u ≡ v → Stays told u a b → Stays told v a b
+stays-on told u v a b is s = subst (λ (w : ℕ). Stays told w a b) is s
+
+pub steady-on : (u v : ℕ) (now : Moment) → u ≡ v → IsSteady u now → IsSteady v now
+steady-on u v now is s = subst (λ (w : ℕ). IsSteady w now) is s
 
 pub keeps-start : (told : Bool) (unit : ℕ) (o : Outside) → (IsTrue told → IsSteady unit o.now) → Keeps told unit 0 o o
 keeps-start told unit o steady = record { any_moment = λ tells. Leaves-start (steady tells); alone = Touches-refl unit o; costs = Spends-refl unit o }
@@ -63,10 +78,6 @@ writes-two told unit first second x y z a b c one other' =
 
 pub writes-same : (told : Bool) (unit : ℕ) (bytes other : List ℕ) (x y : Draft) (a b : Outside) → bytes ≡ other → WritesMore told unit bytes x y a b → WritesMore told unit other x y a b
 writes-same told unit bytes other x y a b is w = subst (λ (l : List ℕ). WritesMore told unit l x y a b) is w
-
--- what `put` of a draft does
-pub put-keeps : (told : Bool) (unit size : ℕ) (a b : Outside) → (IsTrue told → Leaves unit (ReadsAs (records (image unit a.now))) a.now b.now) → Touches unit a b → Spends unit size 0 a b → Keeps told unit size a b
-put-keeps told unit size a b leaves alone costs = record { any_moment = leaves; alone = alone; costs = costs }
 
 pub put-writes : (told : Bool) (bytes : List ℕ) (x y : Draft) (a b : Outside) → IsDraftOf told y b × (put_of y ≡ put_of x + length bytes)
     → (unit_of y ≡ unit_of x) × (len_of y ≡ len_of x) × (is_switch y ≡ is_switch x) × (rest_of y ≡ rest_of x) → journal_of y ≡ journal_of x

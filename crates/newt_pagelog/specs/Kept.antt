@@ -26,6 +26,10 @@ map_of entries = map.from_entries entries
 abbrev pub numbers_in : {V : Type 0} → List (ℕ × V) → Numbers
 numbers_in entries = set.from_list (keys_of entries)
 
+-- each of them is a page number
+abbrev pub ArePageNumbers : Numbers → Type 0
+ArePageNumbers numbers = (number : ℕ) → set.contains numbers number ≡ true → number < 65536
+
 -- the page at hand, if one is
 abbrev pub shown_in : Entries → Option ℕ → Option (List ℕ)
 shown_in entries at = option_and_then (page_in entries) at
@@ -72,5 +76,5 @@ kept_number [] q = set.contains-empty nat_cmp q
 kept_number (e ∷ es) q = set.contains-insert nat_cmp_total (set.from_list (keys_of es)) e.0 q ∙ (λ i. unsigned_tied q e.0 i || kept_number es q i) ∙ sym (some_or (nat_eq q e.0) e.1 (lookup (nat_eq q) es))
 
 -- so the numbers are page numbers
-pub small_with : (entries : Entries) → AreSound entries → (number : ℕ) → set.contains (numbers_in entries) number ≡ true → number < 65536
+pub small_with : (entries : Entries) → AreSound entries → ArePageNumbers (numbers_in entries)
 small_with entries sound number is = let page = the_some (page_in entries number) (sym (kept_number entries number) ∙ is) in sound.small number page.0 page.1

@@ -3,10 +3,14 @@
 
 mod live;
 mod make;
+mod opening;
 mod places;
 mod write;
 
-pub use live::{Table, kept_of, live_after};
+pub use live::{Table, kept_of, live_after, next_page};
 pub use make::format;
+pub use opening::open_journal;
 pub use places::replay;
-pub use write::{append_batch, write_counts, write_put, write_puts, written};
+pub use write::{
+    append_batch, begin_alone, has_room, write_counts, write_put, write_puts, written,
+};

@@ -1,10 +1,10 @@
-// How many pages there are after a batch, and which of some numbers are there, whatever is kept of a page.
+// Which pages there are, and how many after a batch, whatever is kept of a page.
 ghost use Rattle.std.specs.Prelude.{◌≡◌, length, nat_eq};
 ghost use Rattle.std.specs.List.{filter};
 ghost use Rattle.std.specs.HashMap as hash;
 ghost use Rattle.std.specs.FinSet as set;
-ghost use Rattle.newt_pagebook.specs.Book.{changed_numbers};
-ghost use Rattle.newt_pagelog.specs.Kept.{is_kept, numbers_in};
+ghost use Rattle.newt_pagebook.specs.Book.{IsNext, changed_numbers};
+ghost use Rattle.newt_pagelog.specs.Kept.{ArePageNumbers, is_kept, numbers_in};
 
 use newt_pagebook::Batch;
 use std::collections::HashMap;
@@ -39,4 +39,17 @@ pub fn kept_of<V>(pages: &Table<V>, numbers: &[u32]) -> usize
         .iter()
         .filter(|number| pages.contains_key(*number))
         .count()
+}
+
+/// The least number that is not below a number and has a page.
+pub fn next_page<V>(pages: &Table<V>, from: u32) -> Option<u32>
+    requires { ArePageNumbers (numbers_in pages.now.entries) }
+    ensures { IsNext (numbers_in pages.now.entries) from result }
+{
+    for number in from..65536 {
+        if pages.contains_key(&number) {
+            return Some(number);
+        }
+    }
+    None
 }

@@ -1,18 +1,19 @@
 // A record is written that says a change.
-ghost use Rattle.std.specs.Prelude.{IsTrue, ◌≡◌, ◌+◌, ◌*◌, ◌≤◌, ◌<◌, ◌++◌, ◌∷◌, [], length, OnOk, OnErr, IfOk};
+ghost use Rattle.std.specs.Prelude.{Bool, IsTrue, true, ◌≡◌, ◌+◌, ◌*◌, ◌≤◌, ◌<◌, ◌++◌, ◌∷◌, [], length, OnOk, OnErr, IfOk};
 ghost use Rattle.std.specs.Int.{to_be_bytes, w16};
 ghost use Rattle.std.specs.List.{flat_map, filter};
 ghost use Rattle.newt_host.specs.Moments.{image, Leaves};
-ghost use Rattle.newt_host.specs.Outside.{Touches, Spends, Rose};
+ghost use Rattle.newt_host.specs.Outside.{Outside, Touches, Spends, Rose};
 ghost use Rattle.newt_spec_image.specs.Pages.{written_put, written_delete, written_change};
-ghost use Rattle.newt_spec_image.specs.Records.{records};
+ghost use Rattle.newt_spec_image.specs.Records.{bank_size, records};
 ghost use Rattle.newt_journal.specs.Journal.{room, Stands, appended, ReadsAsEither};
 ghost use Rattle.newt_journal.specs.Draft.{IsDraftOf, unit_of, len_of, put_of};
 ghost use Rattle.newt_journal.specs.Places.{first_place};
 ghost use Rattle.newt_pagebook.specs.Batch.{IsBatch};
-ghost use Rattle.newt_pagebook.specs.Book.{IsOpenFor};
+ghost use Rattle.newt_pagebook.specs.Book.{IsOpenFor, batch_bytes};
 ghost use Rattle.newt_pagelog.specs.Kept.{is_kept, needed};
-ghost use Rattle.newt_pagelog.specs.Steps.{IsSteady, Keeps, WritesMore};
+ghost use Rattle.newt_pagelog.specs.Commits.{Rewrites};
+ghost use Rattle.newt_pagelog.specs.Steps.{IsSteady, Stays, Keeps, Begins, WritesMore};
 
 use crate::live::{Table, kept_of};
 use newt_host::{Failed, Host};
@@ -27,6 +28,26 @@ fn push_put(bytes: &mut Vec<u8>, number: u32, page: &Page) -> Result<(), AllocEr
     bytes.extend_from_slice(&number.to_be_bytes())?;
     bytes.extend_from_slice(page)?;
     Ok(())
+}
+
+// A put, as a record has it, in one piece.
+fn put_piece(number: u32, page: &Page) -> [u8; 516]
+    ensures { result ≡ written_put (number, page.now) }
+{
+    let mut piece = [0; 516];
+    piece[..4].copy_from_slice(&number.to_be_bytes());
+    piece[4..].copy_from_slice(page);
+    piece
+}
+
+// The two counts at the front of a record, in one piece.
+fn counts_piece(puts: u16, deletes: u16) -> [u8; 4]
+    ensures { result ≡ to_be_bytes w16 puts ++ to_be_bytes w16 deletes }
+{
+    let mut piece = [0; 4];
+    piece[..2].copy_from_slice(&puts.to_be_bytes());
+    piece[2..].copy_from_slice(&deletes.to_be_bytes());
+    piece
 }
 
 /// The payload that says a batch without deletes.
@@ -59,8 +80,7 @@ pub fn write_counts<H: Host>(
     ensures keeps { Keeps H.told (unit_of draft.old) 4 (H.outside host.old) (H.outside host.new) }
     ensures cause { OnErr result (Rose ((H.outside host.old).dev_faults (unit_of draft.old)) ((H.outside host.new).dev_faults (unit_of draft.old))) }
 {
-    draft.put(host, &puts.to_be_bytes())?;
-    draft.put(host, &deletes.to_be_bytes())?;
+    draft.put(host, &counts_piece(puts, deletes))?;
     Ok(())
 }
 
@@ -78,8 +98,7 @@ pub fn write_put<H: Host>(
     ensures size { length page.now ≡ 512 }
     ensures cause { OnErr result (Rose ((H.outside host.old).dev_faults (unit_of draft.old)) ((H.outside host.new).dev_faults (unit_of draft.old))) }
 {
-    draft.put(host, &number.to_be_bytes())?;
-    draft.put(host, page)?;
+    draft.put(host, &put_piece(number, page))?;
     Ok(())
 }
 
@@ -168,6 +187,19 @@ fn write_batch<V, H: Host>(
     Ok(())
 }
 
+/// Whether the bank of a journal has room for a batch behind the other records.
+pub fn has_room<V>(journal: &Journal, pages: &Table<V>, batch: &Batch) -> bool
+    requires { length pages.now.entries < 65536 }
+    ensures fits { IsTrue result → 4 + 516 * length batch.now.puts + 4 * length (filter (is_kept pages.now.entries) batch.now.deletes) ≤ room journal.now }
+    ensures open { (told : Bool) (outside : Outside) → Stands told journal.now outside → IsTrue told → IsOpenFor (batch_bytes batch.now) (image journal.now.unit outside.now) → IsTrue result }
+    // what holds of every batch holds of this one
+    ensures sound { IsBatch batch.now }
+{
+    let deletes = kept_of(pages, batch.deletes());
+    let len = 4 + 516 * batch.puts().len() + 4 * deletes;
+    len <= journal.room() as usize
+}
+
 /// Writes a batch behind the other records: its puts, and the deletes of pages that are there.
 pub fn append_batch<V, H: Host>(
     journal: Journal,
@@ -179,15 +211,9 @@ pub fn append_batch<V, H: Host>(
     requires few_puts { length batch.now.puts < 65536 }
     requires few_deletes { length (filter (is_kept pages.now.entries) batch.now.deletes) < 65536 }
     requires fits { 4 + 516 * length batch.now.puts + 4 * length (filter (is_kept pages.now.entries) batch.now.deletes) ≤ room journal }
-    ensures journal { IfOk result (λ after. Stands H.told after (H.outside host.new) × (after.unit ≡ journal.unit)) }
+    ensures rewrites { Rewrites H.told journal (appended (records (image journal.unit (H.outside host.old).now)) (written_change (needed pages.now.entries batch.now))) result (H.outside host.old) (H.outside host.new) }
     ensures places { IfOk result (λ after. (after.end ≡ journal.end + (9 + 516 * length batch.now.puts + 4 * length (filter (is_kept pages.now.entries) batch.now.deletes))) × (first_place after ≡ first_place journal)) }
-    ensures committed { IsTrue H.told → OnOk result (records (image journal.unit (H.outside host.new).now) ≡ appended (records (image journal.unit (H.outside host.old).now)) (written_change (needed pages.now.entries batch.now))) }
-    ensures blank { IsTrue H.told → OnOk result (IsOpenFor 0 (image journal.unit (H.outside host.new).now)) }
-    ensures any_moment { IsTrue H.told → Leaves journal.unit (ReadsAsEither (records (image journal.unit (H.outside host.old).now))
-        (appended (records (image journal.unit (H.outside host.old).now)) (written_change (needed pages.now.entries batch.now)))) (H.outside host.old).now (H.outside host.new).now }
-    ensures alone { Touches journal.unit (H.outside host.old) (H.outside host.new) }
     ensures costs { Spends journal.unit (9 + 516 * length batch.now.puts + 4 * length (filter (is_kept pages.now.entries) batch.now.deletes)) 0 (H.outside host.old) (H.outside host.new) }
-    ensures cause { OnErr result (Rose ((H.outside host.old).dev_faults journal.unit) ((H.outside host.new).dev_faults journal.unit)) }
 {
     let deletes = kept_of(pages, batch.deletes());
     let len = 4 + 516 * batch.puts().len() + 4 * deletes;
@@ -195,4 +221,17 @@ pub fn append_batch<V, H: Host>(
     write_batch(&mut draft, host, pages, batch, deletes as u16)?;
     let journal = draft.finish(host)?;
     Ok(journal)
+}
+
+/// Begins a record of so many bytes that alone will stand in the other bank, once the votes are mended.
+pub fn begin_alone<H: Host>(mut journal: Journal, host: &mut H, len: u32) -> Result<Draft, Failed>
+    requires fits { 21 + len ≤ bank_size journal.blocks }
+    requires stands { Stands H.told journal (H.outside host.old) }
+    ensures begins { IfOk result (λ draft. Begins H.told journal len true draft (H.outside host.old) (H.outside host.new)) }
+    ensures stays { Stays H.told journal.unit (H.outside host.old) (H.outside host.new) }
+    ensures cause { OnErr result (Rose ((H.outside host.old).dev_faults journal.unit) ((H.outside host.new).dev_faults journal.unit)) }
+{
+    journal.repair(host)?;
+    let draft = journal.switch(host, len)?;
+    Ok(draft)
 }

@@ -9,7 +9,13 @@ use Rattle.newt_journal.specs.declared.journal.Journal.{Journal}
 use Rattle.newt_pagebook.specs.Book.{PagesAre, IsSameFor}
 use Rattle.newt_pagelog.specs.Kept.{Entries, map_of, numbers_in, named_in}
 
--- It has a journal of its unit, which stands for it, and where bytes are told the unit's image holds the pages that it keeps.
+-- The journal stands for its unit, whose image holds these pages where bytes are told (this project's own).
+pub record IsHeldBy (told : Bool) (journal : Journal) (entries : Entries) (outside : Outside) : Type 0 where
+  pub stands : Stands told journal outside
+  pub holds : IsTrue told → pages (image journal.unit outside.now) ≡ Some (map_of entries)
+
+-- It has a journal of its unit, which stands for it, and where bytes are told the unit's image holds the pages that it keeps (this
+-- project's own).
 pub record StandsWith (told : Bool) (unit : ℕ) (journal : Option Journal) (entries : Entries) (outside : Outside) : Type 0 where
   pub its : Journal
   pub is : journal ≡ Some its

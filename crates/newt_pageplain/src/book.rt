@@ -1,5 +1,5 @@
 // The book.
-ghost use Rattle.std.specs.Prelude.{◌≡◌, ◌≤◌, ◌⊎◌};
+ghost use Rattle.std.specs.Prelude.{◌≤◌};
 ghost use Rattle.std.specs.HashMap as hash;
 ghost use Rattle.std.proofs.Props.{props};
 ghost use Rattle.newt_pagelog.specs.Kept.{AreSound};
@@ -8,9 +8,9 @@ use crate::apply::Kept;
 use crate::change::commit_with;
 use crate::open::read_pages;
 use newt_host::{Failed, Host, Unit};
-use newt_journal::{Journal, JournalFault};
+use newt_journal::Journal;
 use newt_pagebook::{Batch, BookFault, CommitFault, Page, PageBook, Stop, cap};
-use newt_pagelog::live_after;
+use newt_pagelog::{live_after, open_journal};
 use std::alloc::{AllocError, Global};
 
 /// A book that keeps all pages of its unit in memory. It is spent once its journal is gone.
@@ -25,15 +25,6 @@ pub struct PlainBook {
     room: u32,
     ghost sound: { AreSound pages.entries } by { Prim.hlevel props },
     ghost fits: { room ≤ hash.spare pages },
-}
-
-// The larger one of two numbers.
-fn larger(a: u32, b: u32) -> u32
-    ensures first { a ≤ result }
-    ensures second { b ≤ result }
-    ensures one { (result ≡ a) ⊎ (result ≡ b) }
-{
-    if a < b { b } else { a }
 }
 
 impl PageBook for PlainBook {
@@ -63,11 +54,7 @@ impl PageBook for PlainBook {
     }
 
     fn open<H: Host>(alloc: Global, host: &mut H, unit: Unit) -> Result<Self, BookFault> {
-        let journal = match Journal::open(host, unit) {
-            Ok(journal) => journal,
-            Err(JournalFault::NotStore) => return Err(BookFault::NotStore),
-            Err(JournalFault::Device) => return Err(BookFault::Device),
-        };
+        let journal = open_journal(host, unit)?;
         let pages = read_pages(alloc, &journal, host)?;
         Ok(PlainBook {
             unit,
@@ -94,12 +81,7 @@ impl PageBook for PlainBook {
     }
 
     fn next_page(&self, from: u32) -> Option<u32> {
-        for number in from..65536 {
-            if self.pages.contains_key(&number) {
-                return Some(number);
-            }
-        }
-        None
+        newt_pagelog::next_page(&self.pages, from)
     }
 
     fn live(&self) -> u32 {
@@ -112,7 +94,7 @@ impl PageBook for PlainBook {
 
     fn reserve(&mut self, puts: u32) -> Result<(), AllocError> {
         self.pages.reserve(puts as usize)?;
-        self.room = larger(self.room, puts);
+        self.room = self.room.max(puts);
         Ok(())
     }
 

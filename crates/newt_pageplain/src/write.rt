@@ -9,12 +9,13 @@ ghost use Rattle.newt_journal.specs.Journal.{Stands, ReadsAsEither};
 ghost use Rattle.newt_journal.specs.Draft.{IsDraftOf, unit_of, len_of, put_of};
 ghost use Rattle.newt_pagebook.specs.Book.{IsOpenFor};
 ghost use Rattle.newt_pagelog.specs.Kept.{all_of};
+ghost use Rattle.newt_pagelog.specs.Commits.{Rewrites};
 ghost use Rattle.newt_pagelog.specs.Steps.{IsSteady, Keeps, WritesMore};
 
 use crate::apply::Kept;
 use newt_host::{Failed, Host};
 use newt_journal::{Draft, Journal};
-use newt_pagelog::{write_counts, write_put};
+use newt_pagelog::{begin_alone, write_counts, write_put};
 
 // Writes all pages as puts.
 fn write_pages<H: Host>(draft: &mut Draft, host: &mut H, pages: &Kept) -> Result<(), Failed>
@@ -49,24 +50,17 @@ fn write_all<H: Host>(draft: &mut Draft, host: &mut H, pages: &Kept) -> Result<(
 
 /// Writes all pages as one record into the other bank, once the votes are mended.
 pub(crate) fn replace_all<H: Host>(
-    mut journal: Journal,
+    journal: Journal,
     host: &mut H,
     pages: &Kept,
 ) -> Result<Journal, Failed>
     requires stands { Stands H.told journal (H.outside host.old) }
     requires few { length pages.now.entries < 65536 }
     requires fits { 25 + 516 * length pages.now.entries ≤ bank_size journal.blocks }
-    ensures journal { IfOk result (λ after. Stands H.told after (H.outside host.new) × (after.unit ≡ journal.unit)) }
-    ensures committed { IsTrue H.told → OnOk result (records (image journal.unit (H.outside host.new).now) ≡ Some (written_change (all_of pages.now.entries) ∷ [])) }
-    ensures blank { IsTrue H.told → OnOk result (IsOpenFor 0 (image journal.unit (H.outside host.new).now)) }
-    ensures any_moment { IsTrue H.told → Leaves journal.unit (ReadsAsEither (records (image journal.unit (H.outside host.old).now))
-        (Some (written_change (all_of pages.now.entries) ∷ []))) (H.outside host.old).now (H.outside host.new).now }
-    ensures alone { Touches journal.unit (H.outside host.old) (H.outside host.new) }
-    ensures cause { OnErr result (Rose ((H.outside host.old).dev_faults journal.unit) ((H.outside host.new).dev_faults journal.unit)) }
+    ensures { Rewrites H.told journal (Some (written_change (all_of pages.now.entries) ∷ [])) result (H.outside host.old) (H.outside host.new) }
 {
     let len = 4 + 516 * pages.len();
-    journal.repair(host)?;
-    let mut draft = journal.switch(host, len as u32)?;
+    let mut draft = begin_alone(journal, host, len as u32)?;
     write_all(&mut draft, host, pages)?;
     let journal = draft.finish(host)?;
     Ok(journal)

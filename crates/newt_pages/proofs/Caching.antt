@@ -1,11 +1,11 @@
 -- The cache: what is in it is what stands on the device.
-use Rattle.std.proofs.Common.{IsTrue, Bool, ◌≡◌, ◌⊎◌, inl, inr, ℕ, ◌+◌, ◌≤◌, true, cond, nat_eq, List, [], ◌∷◌, ◌++◌, Contains, Option, Some, None, Result, Ok, Err, IfOk, refl, sym, ◌∙◌, ap, subst, arith, ⊎_elim}
+use Rattle.std.proofs.Common.{IsTrue, Bool, ◌≡◌, ◌⊎◌, inl, inr, ℕ, ◌≤◌, true, false, if◌then◌else◌, cond, nat_eq, List, [], ◌∷◌, ◌++◌, Contains, Option, Some, None, Result, Ok, Err, IfOk, refl, sym, ◌∙◌, ap, subst, arith, ⊎_elim}
 use Rattle.std.specs.Cmp.{nat_eq_equiv}
 use Rattle.std.specs.Map.{lookup, lookup_entry, remove_entry}
 use Rattle.std.specs.Option.{option_map, option_map_or, is_some}
 use Rattle.std.specs.FinMap as map
 use Rattle.newt_host.specs.Moments.{Moment, image}
-use Rattle.newt_host.specs.Outside.{Outside, Touches}
+use Rattle.newt_host.specs.Outside.{Outside, Touches, Spends}
 use Rattle.newt_spec_image.specs.Pages.{Pages}
 use Rattle.newt_pagebook.specs.Book.{HasPage}
 use Rattle.newt_spec_image.specs.Records.{records}
@@ -18,7 +18,7 @@ use Rattle.newt_pagelog.specs.Kept.{map_of, get_map}
 use Rattle.newt_pagelog.specs.Placed.{Places, lifted, page_of, ArePlaced, HoldsAt}
 use Rattle.newt_pagelog.proofs.Placing.{lookup-lifted}
 use Rattle.newt_pagelog.proofs.Replaying.{stands-on}
-use Rattle.newt_pages.specs.Disk.{AreCached, StandsWith}
+use Rattle.newt_pages.specs.Disk.{EachIsPageAtPlace, StandsWith, is_cached, bytes_fetched}
 use Rattle.lru.specs.LruCache.{LruCache, lru_cache, promoted, put_entries}
 use Rattle.lru.proofs.Splits.{Contains-nil}
 use Rattle.lru.proofs.CallerLemmas.{Contains-lookup_entry, Contains-lookup, Contains-promoted, Contains-put_entries, lookup-put_entries}
@@ -42,17 +42,17 @@ pub promoted-found : (t : ℕ → Bool) (es : List (ℕ × List ℕ)) → is_som
 promoted-found t es there = found_first t es (lookup_entry t es) refl there
 
 -- what is found is the page of its place
-pub cached-at : (j : Journal) (img : List ℕ) (cached : List (ℕ × List ℕ)) (payloads : List (List ℕ)) (at : ℕ) (page : List ℕ) → AreCached j img cached → records img ≡ Some payloads → lookup (nat_eq at) cached ≡ Some page → page ≡ page_of j payloads at
+pub cached-at : (j : Journal) (img : List ℕ) (cached : List (ℕ × List ℕ)) (payloads : List (List ℕ)) (at : ℕ) (page : List ℕ) → EachIsPageAtPlace j img cached → records img ≡ Some payloads → lookup (nat_eq at) cached ≡ Some page → page ≡ page_of j payloads at
 cached-at j img cached payloads at page are is there =
     let found = Contains-lookup (nat_eq at) cached page there in
     (are payloads is (found.0, page) found.1).is ∙ ap (page_of j payloads) (sym (is_same at found.0 found.2))
 
-pub cached-promoted : (j : Journal) (img : List ℕ) (t : ℕ → Bool) (old new : List (ℕ × List ℕ)) → new ≡ promoted t old → AreCached j img old → AreCached j img new
+pub cached-promoted : (j : Journal) (img : List ℕ) (t : ℕ → Bool) (old new : List (ℕ × List ℕ)) → new ≡ promoted t old → EachIsPageAtPlace j img old → EachIsPageAtPlace j img new
 cached-promoted j img t old new is are payloads all e there = are payloads all e (Contains-promoted t old e (subst (λ (es : List (ℕ × List ℕ)). Contains es e) is there))
 
 -- more records behind those that were cached
 pub cached-appended : (told : Bool) (j k : Journal) (o : Outside) (now : List ℕ) (payload : List ℕ) → Stands told j o → IsTrue told → first_place k ≡ first_place j → j.end ≤ k.end → records now ≡ appended (records (image j.unit o.now)) payload
-    → (payloads : List (List ℕ)) → records (image j.unit o.now) ≡ Some payloads → (cached : List (ℕ × List ℕ)) → AreCached j (image j.unit o.now) cached → AreCached k now cached
+    → (payloads : List (List ℕ)) → records (image j.unit o.now) ≡ Some payloads → (cached : List (ℕ × List ℕ)) → EachIsPageAtPlace j (image j.unit o.now) cached → EachIsPageAtPlace k now cached
 cached-appended told j k o now payload stands tells same more added payloads is cached are others all e there =
     let c = are payloads is e there in
     let end = end-told told j o stands tells payloads is in
@@ -63,8 +63,14 @@ cached-appended told j k o now payload stands tells same more added payloads is 
       is = c.is ∙ sym (recorded-front j payloads payload e.0 512 c.low (omega (arith, c.high, end))) ∙ ap (λ (ps : List (List ℕ)). page_of j ps e.0) (sym others_are) ∙ sym (recorded-moved k j same others e.0 512);
     }
 
+-- a page that is not cached is fetched whole
+pub fetch-costs : (unit size at : ℕ) (cached : List (ℕ × List ℕ)) (a b : Outside) → is_cached at cached ≡ false → size ≡ 512 → Spends unit 0 size a b → Spends unit 0 (bytes_fetched at cached) a b
+fetch-costs unit size at cached a b missed size_is s =
+    let all : size ≡ bytes_fetched at cached = size_is ∙ sym (ap (λ (b : Bool). if b then 0 else 512) missed) in
+    subst (λ (n : ℕ). Spends unit 0 n a b) all s
+
 -- an empty cache
-pub cached-none : (j : Journal) (img : List ℕ) (cached : List (ℕ × List ℕ)) → cached ≡ [] → AreCached j img cached
+pub cached-none : (j : Journal) (img : List ℕ) (cached : List (ℕ × List ℕ)) → cached ≡ [] → EachIsPageAtPlace j img cached
 cached-none j img cached is payloads all e there = absurd (Contains-nil e (subst (λ (es : List (ℕ × List ℕ)). Contains es e) is there))
 
 pub all-ok : {T E : Type 0} {P : T → Type 0} (r : Result T E) → ((x : T) → P x) → IfOk r P
@@ -88,11 +94,11 @@ module _ (told : Bool) (unit : ℕ) (journal : Option Journal) (places : Places)
   pub its-holds : IsTrue told → HoldsAt j (image unit o.now) places
   its-holds tells = subst (λ (k : Journal). HoldsAt k (image unit o.now) places) same_journal (s.holds tells)
 
-  pub its-caches : IsTrue told → AreCached j (image unit o.now) cached
-  its-caches tells = subst (λ (k : Journal). AreCached k (image unit o.now) cached) same_journal (s.caches tells)
+  pub its-caches : IsTrue told → EachIsPageAtPlace j (image unit o.now) cached
+  its-caches tells = subst (λ (k : Journal). EachIsPageAtPlace k (image unit o.now) cached) same_journal (s.caches tells)
 
-  pub its-caches-on : IsTrue told → AreCached j (image j.unit o.now) cached
-  its-caches-on tells = subst (λ (u : ℕ). AreCached j (image u o.now) cached) (sym its-on) (its-caches tells)
+  pub its-caches-on : IsTrue told → EachIsPageAtPlace j (image j.unit o.now) cached
+  its-caches-on tells = subst (λ (u : ℕ). EachIsPageAtPlace j (image u o.now) cached) (sym its-on) (its-caches tells)
 
   -- the page of a number
   pub has-page : (number at : ℕ) (shown : Option (List ℕ)) → lookup (nat_eq number) places ≡ Some at → is_some shown ≡ true
@@ -105,11 +111,9 @@ module _ (told : Bool) (unit : ℕ) (journal : Option Journal) (places : Places)
         ap (λ (m : Pages). map.get m number) (some_inj live (map_of (lifted page places)) (sym of_image ∙ h.holds)) ∙ get_map (lifted page places) number ∙ lookup-lifted page places number ∙ ap (option_map page) there ∙ sym (is_page tells h.payloads h.read);
   }
 
-  -- after a page of it was fetched
-  pub stands-fetched : (after : List (ℕ × List ℕ)) (new : Outside) (at : ℕ) → new.now ≡ o.now → Touches j.unit o new → first_place j ≤ at → at + 512 ≤ j.end
-      → (IsTrue told → (payloads : List (List ℕ)) → records (image j.unit o.now) ≡ Some payloads → (e : ℕ × List ℕ) → Contains after e → Contains cached e ⊎ ((e.0 ≡ at) × (e.1 ≡ page_of j payloads at)))
-      → StandsWith told unit journal places after new
-  stands-fetched after new at moment alone low high more =
+  -- after a page of it was brought to hand
+  pub stands-brought : (after : List (ℕ × List ℕ)) (new : Outside) → new.now ≡ o.now → Touches j.unit o new → (IsTrue told → EachIsPageAtPlace j (image j.unit o.now) after) → StandsWith told unit journal places after new
+  stands-brought after new moment alone caches =
       let still : image unit o.now ≡ image unit new.now = ap (λ (m : Moment). image unit m) (sym moment) in
       record {
         its = j;
@@ -118,26 +122,5 @@ module _ (told : Bool) (unit : ℕ) (journal : Option Journal) (places : Places)
         on = its-on;
         placed = its-placed;
         holds = λ tells. subst (λ (l : List ℕ). HoldsAt j l places) still (its-holds tells);
-        caches = λ tells payloads all e there.
-            let before : records (image unit o.now) ≡ Some payloads = ap records still ∙ all in
-            ⊎_elim
-            (λ (was : Contains cached e). its-caches tells payloads before e was)
-            (λ (put : (e.0 ≡ at) × (e.1 ≡ page_of j payloads at)). record {
-              low = subst (λ (k : ℕ). first_place j ≤ k) (sym put.0) low;
-              high = subst (λ (k : ℕ). k + 512 ≤ j.end) (sym put.0) high;
-              is = put.1 ∙ ap (page_of j payloads) (sym put.0);
-            })
-            (more tells payloads (ap (λ (u : ℕ). records (image u o.now)) its-on ∙ before) e there);
+        caches = λ tells. subst (λ (l : List ℕ). EachIsPageAtPlace j l after) (ap (λ (u : ℕ). image u o.now) its-on ∙ still) (caches tells);
       }
-
--- after one of its pages went first
-pub stands-promoted : (told : Bool) (unit : ℕ) (journal : Option Journal) (places : Places) (cached after : List (ℕ × List ℕ)) (o : Outside) (at : ℕ) → after ≡ promoted (nat_eq at) cached → StandsWith told unit journal places cached o → StandsWith told unit journal places after o
-stands-promoted told unit journal places cached after o at moved s = record {
-  its = s.its;
-  is = s.is;
-  stands = s.stands;
-  on = s.on;
-  placed = s.placed;
-  holds = s.holds;
-  caches = λ tells. cached-promoted s.its (image unit o.now) (nat_eq at) cached after moved (s.caches tells);
-}

@@ -1,45 +1,33 @@
--- What the pages are once a record is committed, and where they stand.
-use Rattle.std.proofs.Common.{IsTrue, ◌≡◌, inl, inr, ℕ, ◌+◌, ◌-◌, ◌*◌, ◌^◌, ◌<◌, ◌≤◌, Bool, true, false, cond, nat_eq, List, [], ◌∷◌, ◌++◌, length, Option, Some, sym, ◌∙◌, ap, arith, ⊎_elim}
+-- Where the pages stand once a record is committed behind the others.
+use Rattle.std.proofs.Common.{IsTrue, ◌≡◌, ℕ, ◌+◌, ◌*◌, ◌<◌, ◌≤◌, Bool, true, false, nat_eq, List, [], ◌∷◌, ◌++◌, length, Option, Some, refl, sym, ◌∙◌, ap, arith}
 use Rattle.std.specs.List.{filter}
 use Rattle.std.specs.Map.{lookup}
 use Rattle.std.specs.Option.{option_map}
 use Rattle.newt_host.specs.Moments.{image}
 use Rattle.newt_host.specs.Outside.{Outside}
 use Rattle.newt_spec_image.specs.Records.{records}
-use Rattle.newt_spec_image.specs.Pages.{Pages, Change, pages, after, change_in, written_change}
-use Rattle.newt_journal.specs.Journal.{room, written, Stands, appended, ReadsAsEither}
-use Rattle.newt_journal.specs.Bank.{start_of, limit_of}
+use Rattle.newt_spec_image.specs.Pages.{Pages, Change, after, change_in, written_change}
+use Rattle.newt_journal.specs.Journal.{written, Stands, appended}
+use Rattle.newt_journal.specs.Bank.{start_of}
 use Rattle.newt_journal.specs.Places.{first_place}
 use Rattle.newt_journal.specs.declared.journal.Journal.{Journal}
-use Rattle.newt_journal.specs.declared.bank.Bank.{Bank}
-use Rattle.newt_journal.specs.declared.bank.Bank.TheVariants.{First, Second}
 use Rattle.newt_journal.proofs.Recorded.{recorded-front, recorded-last, recorded-moved, end-told}
 use Rattle.newt_pagebook.specs.Batch.{IsBatch}
-use Rattle.newt_pagebook.specs.Book.{IsBeforeOrAfter, ReadsChanged}
-use Rattle.newt_pagelog.specs.Kept.{Entries, map_of, needed, is_kept}
+use Rattle.newt_pagebook.specs.Book.{ReadsChanged}
+use Rattle.newt_pagelog.specs.Kept.{map_of, needed, is_kept}
 use Rattle.newt_pagelog.specs.Placed.{Places, lifted, page_of, ArePlaced, HoldsAt}
 use Rattle.newt_pagelog.proofs.Maps.{no_put}
 use Rattle.newt_pagelog.proofs.Payloads.{page-put}
 use Rattle.newt_pagelog.proofs.Spelling.{written-says, fewer_deletes}
-use Rattle.newt_pagelog.proofs.Changing.{read-appended, read-same, needed-after}
+use Rattle.newt_pagelog.proofs.Committed.{appended-reads}
 use Rattle.newt_pagelog.proofs.Placing.{lifted-same}
 use Rattle.newt_pages.specs.Disk.{StandAt}
 use Rattle.newt_pages.proofs.Tables.{needed-lifted}
 
--- once a batch is appended, the pages are those after the batch
-pub appended-reads : (entries : Entries) (batch : Change) (old new : List ℕ) → IsBatch batch → length batch.puts < 65536 → length (filter (is_kept entries) batch.deletes) < 65536 → pages old ≡ Some (map_of entries)
-    → records new ≡ appended (records old) (written_change (needed entries batch)) → ReadsChanged batch old new
-appended-reads entries batch old new is few low holds added =
-    let says : change_in (written_change (needed entries batch)) ≡ Some (needed entries batch) = written-says (needed entries batch) (fewer_deletes (is_kept entries) batch is) few low in
-    read-appended (records old) (written_change (needed entries batch)) (map_of entries) (needed entries batch) new added holds says ∙ ap (λ (m : Pages). Some m) (needed-after entries batch is.distinct)
-    ∙ sym (ap (option_map (after batch)) holds)
-
-pub appended-either : (entries : Entries) (batch : Change) (old left : List ℕ) → IsBatch batch → length batch.puts < 65536 → length (filter (is_kept entries) batch.deletes) < 65536 → pages old ≡ Some (map_of entries)
-    → ReadsAsEither (records old) (appended (records old) (written_change (needed entries batch))) left → IsBeforeOrAfter batch old left
-appended-either entries batch old left is few low holds either = ⊎_elim
-    (λ (same : records left ≡ records old). inl (read-same left old same))
-    (λ (more : records left ≡ appended (records old) (written_change (needed entries batch))). inr (appended-reads entries batch old left is few low holds more))
-    either
+-- the payloads of the records, where bytes are told
+pub payloads_of : (told : Bool) (j : Journal) (places : Places) (o : Outside) → (IsTrue told → HoldsAt j (image j.unit o.now) places) → (payloads : List (List ℕ)) × (IsTrue told → records (image j.unit o.now) ≡ Some payloads)
+payloads_of true j places o holds = ((holds refl).payloads, λ _. (holds refl).read)
+payloads_of false j places o holds = ([], λ tells. absurd (cc))
 
 -- where the pages of a record stand that is behind others
 pub stand-appended : (j : Journal) (passed : List (List ℕ)) (payload : List ℕ) (change : Change) (first : ℕ) → change_in payload ≡ Some change → first ≡ start_of j.blocks j.bank + length (written passed) + 13
@@ -59,23 +47,6 @@ moved-same j k same payloads places = lifted-same (page_of j payloads) (page_of 
 -- more records behind them
 pub placed-wider : (j k : Journal) (places : Places) → first_place k ≡ first_place j → j.end ≤ k.end → ArePlaced j places → ArePlaced k places
 placed-wider j k places same more placed q at there = let p = placed q at there in record { small = p.small; low = omega (arith, same, p.low); high = omega (arith, more, p.high) }
-
--- a record fits its bank, so its pages are near
-below : (blocks : ℕ) (bank : Bank) → blocks ≤ 4099 → limit_of blocks bank ≤ 16789504
-below blocks First few = omega (arith, few)
-below blocks Second few = omega (arith, few)
-
-pub end-near : (j : Journal) → j.end ≤ 16789504
-end-near j = omega (arith, j.high, below j.blocks j.bank j.not_too_many)
-
-pub room-near : (j : Journal) (n : ℕ) → 4 + 516 * n ≤ room j → j.end + 13 + 516 * n < 2 ^ 32
-room-near j n fits =
-    let low : room j ≤ limit_of j.blocks j.bank = choose j.closed ((limit_of j.blocks j.bank - j.end) - 5) (limit_of j.blocks j.bank) (omega arith) in
-    omega (arith, fits, low, below j.blocks j.bank j.not_too_many, end-near j)
-  where
-    choose : (b : Bool) (m limit : ℕ) → m ≤ limit → cond b 0 m ≤ limit
-    choose true m limit low = omega arith
-    choose false m limit low = low
 
 -- all of it together: the places after a batch was appended
 pub holds-appended : (told : Bool) (j k : Journal) (o : Outside) (now : List ℕ) (old new : Places) (batch : Change) → Stands told j o → IsTrue told → IsBatch batch → length batch.puts < 65536 → length (filter (is_kept old) batch.deletes) < 65536

@@ -6,8 +6,8 @@ use Rattle.std.proofs.lemmas.List.{map-append}
 use Rattle.std.proofs.lemmas.Grind.{flat_map-append}
 use Rattle.newt_host.specs.Moments.{Moment, image, Leaves}
 use Rattle.newt_host.specs.Outside.{Outside, Touches}
-use Rattle.newt_host.proofs.Outside.{Touches-append, Touches-refl, same_cards}
-use Rattle.newt_host.proofs.Moments.{Leaves-append, Leaves-weaken, Leaves-start}
+use Rattle.newt_host.proofs.Outside.{Touches-refl, same_cards}
+use Rattle.newt_host.proofs.Moments.{Leaves-start}
 use Rattle.newt_spec_image.specs.Records.{records}
 use Rattle.newt_spec_image.specs.Pages.{written_put}
 use Rattle.newt_journal.specs.Journal.{ReadsAs}
@@ -18,9 +18,9 @@ use Rattle.newt_journal.specs.declared.draft.Draft.{Draft}
 use Rattle.newt_journal.specs.declared.draft.Draft.TheVariants.{Append, Switch}
 use Rattle.newt_journal.specs.declared.journal.Journal.{Journal}
 use Rattle.newt_pagelog.specs.Placed.{Places, lifted, page_of}
-use Rattle.newt_pagelog.specs.Steps.{IsSteady, Keeps, WritesMore}
+use Rattle.newt_pagelog.specs.Steps.{IsSteady, Stays, WritesMore}
 use Rattle.newt_pagelog.proofs.Stepping.{writes-none, writes-two, writes-same}
-use Rattle.newt_pages.specs.Copies.{place_at, below, Stays, CopiesPage, CopiesAll}
+use Rattle.newt_pages.specs.Copies.{place_at, below, CopiesPage, CopiesAll}
 
 pub stays-start : (told : Bool) (unit : ℕ) (o : Outside) → (IsTrue told → IsSteady unit o.now) → Stays told unit o o
 stays-start told unit o steady = record { any_moment = λ tells. Leaves-start (steady tells); alone = Touches-refl unit o }
@@ -31,21 +31,6 @@ stays-looked told unit a b steady moment alone = record {
   any_moment = λ tells. subst (λ (m : Moment). Leaves unit (ReadsAs (records (image unit a.now))) a.now m) (sym moment) (Leaves-start (steady tells));
   alone = alone;
 }
-
-pub stays-kept : (told : Bool) (unit size : ℕ) (a b : Outside) → Keeps told unit size a b → Stays told unit a b
-stays-kept told unit size a b k = record { any_moment = k.any_moment; alone = k.alone }
-
-pub stays-two : (told : Bool) (unit : ℕ) (a b c : Outside) → (IsTrue told → records (image unit b.now) ≡ records (image unit a.now)) → Stays told unit a b → Stays told unit b c → Stays told unit a c
-stays-two told unit a b c same first second = record {
-  any_moment = λ tells. Leaves-append (first.any_moment tells) (Leaves-weaken (λ left e. e ∙ same tells) (second.any_moment tells));
-  alone = Touches-append first.alone second.alone;
-}
-
-pub stays-on : (told : Bool) (u v : ℕ) (a b : Outside) → u ≡ v → Stays told u a b → Stays told v a b
-stays-on told u v a b is s = subst (λ (w : ℕ). Stays told w a b) is s
-
-pub steady-on : (u v : ℕ) (now : Moment) → u ≡ v → IsSteady u now → IsSteady v now
-steady-on u v now is s = subst (λ (w : ℕ). IsSteady w now) is s
 
 -- a draft stands on after a read
 pub draft-looked : (told : Bool) (d : Draft) (a b : Outside) → Touches (unit_of d) a b → b.now ≡ a.now → IsDraftOf told d a → IsDraftOf told d b

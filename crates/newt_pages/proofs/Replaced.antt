@@ -1,5 +1,5 @@
 -- What the pages are once all of them are one record, and where they stand.
-use Rattle.std.proofs.Common.{IsTrue, ◌≡◌, inl, inr, ℕ, zero, suc, ◌+◌, ◌-◌, ◌<◌, ◌≤◌, ◌==◌, ◌||◌, Bool, true, false, cond, nat_eq, List, [], ◌∷◌, ◌++◌, length, map as map_list, drop, Option, Some, None, refl, sym, ◌∙◌, ap, subst, arith, ⊎_elim, append-nil, append_assoc, length-append, length-take, length-drop}
+use Rattle.std.proofs.Common.{IsTrue, ◌≡◌, ℕ, zero, suc, ◌+◌, ◌-◌, ◌<◌, ◌≤◌, ◌==◌, ◌||◌, Bool, true, false, cond, nat_eq, List, [], ◌∷◌, ◌++◌, length, map as map_list, drop, Option, Some, None, refl, sym, ◌∙◌, ap, subst, arith, ⊎_elim, append-nil, append_assoc, length-append, length-take, length-drop}
 use Rattle.std.specs.List.{list_any, IsDistinct}
 use Rattle.std.specs.Map.{lookup, keys_of}
 use Rattle.std.specs.Option.{option_map, is_some}
@@ -12,14 +12,14 @@ use Rattle.std.proofs.lemmas.Map.Made.{is_some-lookup}
 use Rattle.newt_host.specs.Moments.{image}
 use Rattle.newt_host.specs.Outside.{Outside}
 use Rattle.newt_spec_image.specs.Records.{records}
-use Rattle.newt_spec_image.specs.Pages.{Pages, Put, Change, all_distinct, pages, with_puts, after, change_in, written_change}
-use Rattle.newt_journal.specs.Journal.{written, Stands, ReadsAsEither}
+use Rattle.newt_spec_image.specs.Pages.{Pages, Put, Change, all_distinct, with_puts, after, change_in, written_change}
+use Rattle.newt_journal.specs.Journal.{written, Stands}
 use Rattle.newt_journal.specs.Bank.{start_of}
 use Rattle.newt_journal.specs.Places.{first_place}
 use Rattle.newt_journal.specs.declared.journal.Journal.{Journal}
 use Rattle.newt_journal.proofs.Recorded.{end-told, first-written}
 use Rattle.newt_pagebook.specs.Batch.{IsBatch}
-use Rattle.newt_pagebook.specs.Book.{Numbers, IsBeforeOrAfter, ReadsChanged, changed_numbers}
+use Rattle.newt_pagebook.specs.Book.{Numbers, changed_numbers}
 use Rattle.newt_pagebook.proofs.Batches.{distinct-middle}
 use Rattle.newt_pagebook.proofs.Changes.{get_without}
 use Rattle.newt_pagebook.proofs.Tests.{some_inj, true_or_false, the_some, none_is, equal_true, equal_false}
@@ -28,7 +28,7 @@ use Rattle.newt_pagelog.specs.Placed.{Places, lifted, page_of, AreNumbered, AreP
 use Rattle.newt_pagelog.proofs.Maps.{map_is}
 use Rattle.newt_pagelog.proofs.Counts.{any_numbers}
 use Rattle.newt_pagelog.proofs.Spelling.{written-says, not_put, distinct_is}
-use Rattle.newt_pagelog.proofs.Changing.{read-alone, read-same, all-after, all_is_batch, sound-after, live-after, put_all, front_distinct}
+use Rattle.newt_pagelog.proofs.Changing.{all_is_batch, sound-after, live-after, put_all, front_distinct}
 use Rattle.newt_pagelog.proofs.Placing.{lookup-lifted}
 use Rattle.newt_pages.specs.Copies.{below, place_at}
 use Rattle.newt_pages.specs.Disk.{StandAt, keys-lifted}
@@ -207,9 +207,6 @@ module _ (batch : Change) (is : IsBatch batch) (old left : Places) (numbered : A
         ∙ ap (λ (o : Option (List ℕ)). cond (is_some (page_in batch.puts q)) (page_in batch.puts q) o) (get_map (lifted g moved) q ∙ same q ∙ left-pages f q)
         ∙ other_way (put_there batch q) (gone_there batch q) (page_in batch.puts q) (page_in (lifted f old) q) (put_some batch q) (not_both batch is q) ∙ sym (after-at f q))
 
-  pub numbers-left : (few : length left ≤ length old) → IsDistinct nat_eq (keys_of left) → AreNumbered left
-  numbers-left few unique = record { unique = unique; few = omega (arith, few, numbered.few); small = left-small }
-
 -- the pages at places of the records are whole
 pub length-recorded : (j : Journal) (payloads : List (List ℕ)) (at : ℕ) → j.end ≡ start_of j.blocks j.bank + length (written payloads) → first_place j ≤ at → at + 512 ≤ j.end → length (page_of j payloads at) ≡ 512
 length-recorded j payloads at end low high =
@@ -230,20 +227,6 @@ sound-lifted told j o payloads places stands tells is numbered placed =
           let is_page : f at.0 ≡ page = some_inj (f at.0) page (sym (lookup-lifted f places q ∙ ap (option_map f) at.1) ∙ there) in
           ap (λ (l : List ℕ). length l) (sym is_page) ∙ length-recorded j payloads at.0 end p.low p.high;
     }
-
--- once all pages after a batch are the one record, the pages are those after the batch
-pub alone-reads : (entries : Entries) (batch : Change) (live : Pages) (old new : List ℕ) → AreSound entries → map_of entries ≡ after batch live → pages old ≡ Some live
-    → records new ≡ Some (written_change (all_of entries) ∷ []) → ReadsChanged batch old new
-alone-reads entries batch live old new sound is holds alone =
-    let says : change_in (written_change (all_of entries)) ≡ Some (all_of entries) = written-says (all_of entries) (all_is_batch entries sound) sound.few (omega arith) in
-    read-alone (written_change (all_of entries)) (all_of entries) new alone says ∙ ap (λ (m : Pages). Some m) (all-after entries sound.unique ∙ is) ∙ sym (ap (option_map (after batch)) holds)
-
-pub alone-either : (entries : Entries) (batch : Change) (live : Pages) (old left : List ℕ) → AreSound entries → map_of entries ≡ after batch live → pages old ≡ Some live
-    → ReadsAsEither (records old) (Some (written_change (all_of entries) ∷ [])) left → IsBeforeOrAfter batch old left
-alone-either entries batch live old left sound is holds either = ⊎_elim
-    (λ (same : records left ≡ records old). inl (read-same left old same))
-    (λ (more : records left ≡ Some (written_change (all_of entries) ∷ [])). inr (alone-reads entries batch live old left sound is holds more))
-    either
 
 -- where its pages stand
 pub stand-alone : (k : Journal) (entries : Entries) (first : ℕ) → AreSound entries → first ≡ first_place k + 13 → StandAt (page_of k (written_change (all_of entries) ∷ [])) first entries

@@ -1,5 +1,5 @@
 -- The table of places, step by step.
-use Rattle.std.proofs.Common.{◌≡◌, ℕ, zero, suc, ◌+◌, ◌*◌, ◌<◌, ◌≤◌, ◌==◌, Bool, true, false, cond, ◌||◌, nat_eq, List, [], ◌∷◌, ◌++◌, length, map as map_list, take, get_or, ◌-◌, ◌/◌, Option, Some, None, refl, sym, ◌∙◌, ap, arith}
+use Rattle.std.proofs.Common.{◌≡◌, ℕ, zero, suc, ◌+◌, ◌*◌, ◌<◌, ◌==◌, Bool, true, false, cond, ◌||◌, nat_eq, List, [], ◌∷◌, ◌++◌, length, map as map_list, take, get_or, ◌-◌, ◌/◌, Option, Some, None, refl, sym, ◌∙◌, ap, arith}
 use Rattle.std.specs.List.{All, list_any, filter}
 use Rattle.std.specs.Option.{option_map, is_some}
 use Rattle.std.specs.Ordering.{nat_cmp}
@@ -12,13 +12,11 @@ use Rattle.std.proofs.lemmas.List.Folds.{list_any-append}
 use Rattle.std.proofs.lemmas.List.Elements.{All-head, All-tail, All-cons, All-nil}
 use Rattle.newt_spec_image.specs.Pages.{Pages, Put, Change, with_puts, after}
 use Rattle.newt_journal.specs.declared.journal.Journal.{Journal}
-use Rattle.newt_pagebook.specs.Batch.{IsBatch}
 use Rattle.newt_pagebook.specs.Book.{Numbers, changed_numbers}
 use Rattle.newt_pagebook.proofs.Changes.{get_insert}
 use Rattle.newt_pagelog.specs.Kept.{page_in, map_of, numbers_in, is_kept, needed, kept_number}
 use Rattle.newt_pagelog.specs.Placed.{Places, lifted, IsPlaced, ArePlaced}
 use Rattle.newt_pagelog.proofs.Counts.{numbers-after}
-use Rattle.newt_pagelog.proofs.Changing.{few_kept}
 use Rattle.newt_pages.specs.Disk.{StandAt, keys-lifted}
 use Rattle.newt_pagelog.proofs.Maps.{turned, no_put, same_entries}
 use Rattle.newt_pagelog.proofs.Placing.{lifted-put, lookup-lifted}
@@ -96,9 +94,6 @@ kept-lifted page places q = ap is_some (lookup-lifted page places q) ∙ some_ma
 
 pub needed-lifted : (page : ℕ → List ℕ) (places : Places) (change : Change) → needed (lifted page places) change ≡ needed places change
 needed-lifted page places change = λ i. record { puts = change.puts; deletes = filter (λ q. kept-lifted page places q i) change.deletes }
-
-pub few-needed : (places : Places) (change : Change) → IsBatch change → length (filter (is_kept places) change.deletes) ≤ length places
-few-needed places change is = omega (arith, few_kept (lifted (λ _. []) places) change is, ap (λ (ch : Change). length ch.deletes) (needed-lifted (λ _. []) places change), length-lifted (λ _. []) places)
 
 -- pages that stand one behind the other, whatever they are
 abbrev pub any_pages : ℕ → List Put → ℕ → List ℕ

@@ -2,11 +2,10 @@
 use Rattle.std.specs.Prelude.{IsTrue, ◌≡◌, ℕ, zero, suc, ◌+◌, ◌*◌, Bool, List, [], ◌∷◌, ◌++◌, length, nat_eq, Option, Some, None}
 use Rattle.std.specs.List.{flat_map}
 use Rattle.std.specs.Map.{lookup}
-use Rattle.newt_host.specs.Moments.{image, Leaves}
-use Rattle.newt_host.specs.Outside.{Outside, Touches}
+use Rattle.newt_host.specs.Moments.{image}
+use Rattle.newt_host.specs.Outside.{Outside}
 use Rattle.newt_spec_image.specs.Records.{records}
 use Rattle.newt_spec_image.specs.Pages.{Put, written_put, written_change}
-use Rattle.newt_journal.specs.Journal.{ReadsAs}
 use Rattle.newt_journal.specs.Places.{recorded}
 use Rattle.newt_journal.specs.Draft.{journal_of, put_of}
 use Rattle.newt_journal.specs.declared.draft.Draft.{Draft}
@@ -22,11 +21,6 @@ place_at number (Some at) = (number, at) ∷ []
 unfoldable pub below : ℕ → Places → Places
 below zero places = []
 below (suc n) places = below n places ++ place_at n (lookup (nat_eq n) places)
-
--- Whatever its answer, a crash leaves the records as they were, and nothing else is touched.
-pub record Stays (told : Bool) (unit : ℕ) (old new : Outside) : Type 0 where
-  pub any_moment : IsTrue told → Leaves unit (ReadsAs (records (image unit old.now))) old.now new.now
-  pub alone : Touches unit old new
 
 -- A page was written behind what was written before: that at a place of the records.
 pub record CopiesPage (told : Bool) (unit number at : ℕ) (before after : Draft) (old new : Outside) : Type 0 where

@@ -1,7 +1,8 @@
 -- A book on the device stands for the pages at the places that it keeps.
-use Rattle.std.specs.Prelude.{IsTrue, ◌≡◌, ℕ, ◌+◌, ◌*◌, ◌<◌, ◌≤◌, Bool, true, List, [], ◌∷◌, length, get_or, nat_eq, Contains, Option, Some, None, IsSome, refl}
+use Rattle.std.specs.Prelude.{IsTrue, ◌≡◌, ℕ, ◌+◌, ◌*◌, ◌<◌, ◌≤◌, Bool, if◌then◌else◌, List, [], ◌∷◌, length, get_or, nat_eq, Contains, Option, Some, None, IsSome, refl}
 use Rattle.std.proofs.Common.{sym, ◌∙◌, ap, subst}
 use Rattle.std.specs.Map.{lookup, keys_of}
+use Rattle.std.specs.Option.{is_some}
 use Rattle.std.specs.Ordering.{nat_cmp}
 use Rattle.std.specs.FinSet as set
 use Rattle.newt_host.specs.Moments.{Change as Event, image, bytes_after, IsDurable}
@@ -12,7 +13,7 @@ use Rattle.newt_journal.specs.Journal.{Stands, HeldBy}
 use Rattle.newt_journal.specs.Places.{first_place}
 use Rattle.newt_journal.specs.declared.journal.Journal.{Journal}
 use Rattle.newt_pagebook.specs.Book.{PagesAre, IsSameFor}
-use Rattle.newt_pagelog.specs.Kept.{map_of, numbers_in, named_in, kept_number}
+use Rattle.newt_pagelog.specs.Kept.{ArePageNumbers, map_of, numbers_in, named_in, kept_number}
 use Rattle.newt_pagelog.specs.Placed.{Places, lifted, page_of, AreNumbered, ArePlaced, HoldsAt}
 use Rattle.newt_pages.specs.declared.hand.AtHand.{AtHand}
 use Rattle.newt_pages.specs.declared.hand.AtHand.TheVariants.{Nothing, Cached, Spare}
@@ -26,20 +27,35 @@ keys-lifted page (e ∷ places) = ap (λ (l : List ℕ). e.0 ∷ l) (keys-lifted
 abbrev pub StandAt : (ℕ → List ℕ) → ℕ → List Put → Type 0
 StandAt page first puts = (i : ℕ) → i < length puts → page (first + 516 * i) ≡ (get_or puts i (0, [])).1
 
--- a page that is cached for a place of the records is the one that stands there
-pub record IsCached (j : Journal) (payloads : List (List ℕ)) (at : ℕ) (page : List ℕ) : Type 0 where
+-- the page of a pair is the one that stands at the place of the pair, which is one of the records
+pub record IsPageAtPlace (j : Journal) (payloads : List (List ℕ)) (at : ℕ) (page : List ℕ) : Type 0 where
   pub low : first_place j ≤ at
   pub high : at + 512 ≤ j.end
   pub is : page ≡ page_of j payloads at
 
-abbrev pub AreCached : Journal → List ℕ → List (ℕ × List ℕ) → Type 0
-AreCached j image cached = (payloads : List (List ℕ)) → records image ≡ Some payloads → (e : ℕ × List ℕ) → Contains cached e → IsCached j payloads e.0 e.1
+-- each page that is cached is the page at its place: a page that was replaced or moved is none of them under the place where its number stands now
+abbrev pub EachIsPageAtPlace : Journal → List ℕ → List (ℕ × List ℕ) → Type 0
+EachIsPageAtPlace j image cached = (payloads : List (List ℕ)) → records image ≡ Some payloads → (e : ℕ × List ℕ) → Contains cached e → IsPageAtPlace j payloads e.0 e.1
+
+-- the page at a place is cached, and how many bytes are fetched to bring it to hand
+abbrev pub is_cached : ℕ → List (ℕ × List ℕ) → Bool
+is_cached at cached = is_some (lookup (nat_eq at) cached)
+
+abbrev pub bytes_fetched : ℕ → List (ℕ × List ℕ) → ℕ
+bytes_fetched at cached = if is_cached at cached then 0 else 512
 
 -- the page at hand: one in the cache, or the spare one
 abbrev pub shown_in : List (ℕ × List ℕ) → List ℕ → AtHand → Option (List ℕ)
 shown_in cached spare Nothing = None
 shown_in cached spare (Cached at) = lookup (nat_eq at) cached
 shown_in cached spare Spare = Some spare
+
+-- The journal stands for its unit, the places lie within its records, and where bytes are told the pages of the unit's image are those at the places (this
+-- project's own).
+pub record IsPlacedBy (told : Bool) (journal : Journal) (places : Places) (outside : Outside) : Type 0 where
+  pub stands : Stands told journal outside
+  pub placed : ArePlaced journal places
+  pub holds : IsTrue told → HoldsAt journal (image journal.unit outside.now) places
 
 -- It has a journal of its unit, which stands for it, and the places lie within its records. Where bytes are told the pages of the unit's image are those
 -- at the places, and the cached pages are among them.
@@ -50,7 +66,7 @@ pub record StandsWith (told : Bool) (unit : ℕ) (journal : Option Journal) (pla
   pub on : its.unit ≡ unit
   pub placed : ArePlaced its places
   pub holds : IsTrue told → HoldsAt its (image unit outside.now) places
-  pub caches : IsTrue told → AreCached its (image unit outside.now) cached
+  pub caches : IsTrue told → EachIsPageAtPlace its (image unit outside.now) cached
 
 pub tells_with : (told : Bool) (unit : ℕ) (journal : Option Journal) (places : Places) (cached : List (ℕ × List ℕ)) (outside : Outside) → StandsWith told unit journal places cached outside → IsTrue told
     → PagesAre (numbers_in places) (image unit outside.now) × IsDurable unit outside.now
@@ -81,8 +97,8 @@ kept_with told unit journal places cached old new s same =
       on = s.on;
       placed = s.placed;
       holds = λ tells. subst (λ (l : List ℕ). HoldsAt s.its l places) (still tells) (s.holds tells);
-      caches = λ tells. subst (λ (l : List ℕ). AreCached s.its l cached) (still tells) (s.caches tells);
+      caches = λ tells. subst (λ (l : List ℕ). EachIsPageAtPlace s.its l cached) (still tells) (s.caches tells);
     }
 
-pub small_with : (places : Places) → AreNumbered places → (number : ℕ) → set.contains (numbers_in places) number ≡ true → number < 65536
+pub small_with : (places : Places) → AreNumbered places → ArePageNumbers (numbers_in places)
 small_with places numbered number is = numbered.small number (sym (kept_number places number) ∙ is)

@@ -1,16 +1,16 @@
 // The book.
-ghost use Rattle.std.specs.Prelude.{◌≡◌, ◌≤◌, ◌⊎◌, [], IfOk};
+ghost use Rattle.std.specs.Prelude.{◌≡◌, ◌≤◌, [], IfOk};
 ghost use Rattle.std.specs.HashMap as hash;
 ghost use Rattle.std.proofs.Props.{props};
 ghost use Rattle.newt_pagelog.specs.Placed.{AreNumbered};
 
 use crate::change::commit_with;
-use crate::hand::{AtHand, Cache, fetch};
+use crate::hand::{AtHand, Cache, bring};
 use lru::LruCache;
 use newt_host::{Failed, Host, Unit};
-use newt_journal::{Journal, JournalFault};
+use newt_journal::Journal;
 use newt_pagebook::{Batch, BookFault, CommitFault, Page, PageBook, Stop, cap};
-use newt_pagelog::{Table, live_after, replay};
+use newt_pagelog::{Table, live_after, open_journal, replay};
 use std::alloc::{AllocError, Global};
 use std::num::NonZeroUsize;
 
@@ -32,15 +32,6 @@ pub struct DiskBook {
     room: u32,
     ghost numbered: { AreNumbered places.entries } by { Prim.hlevel props },
     ghost fits: { room ≤ hash.spare places },
-}
-
-// The larger one of two numbers.
-fn larger(a: u32, b: u32) -> u32
-    ensures first { a ≤ result }
-    ensures second { b ≤ result }
-    ensures one { (result ≡ a) ⊎ (result ≡ b) }
-{
-    if a < b { b } else { a }
 }
 
 impl PageBook for DiskBook {
@@ -70,11 +61,7 @@ impl PageBook for DiskBook {
     }
 
     fn open<H: Host>(alloc: Global, host: &mut H, unit: Unit) -> Result<Self, BookFault> {
-        let journal = match Journal::open(host, unit) {
-            Ok(journal) => journal,
-            Err(JournalFault::NotStore) => return Err(BookFault::NotStore),
-            Err(JournalFault::Device) => return Err(BookFault::Device),
-        };
+        let journal = open_journal(host, unit)?;
         let places = replay(alloc, &journal, host)?;
         let cache = empty_cache(alloc)?;
         Ok(DiskBook {
@@ -93,14 +80,10 @@ impl PageBook for DiskBook {
             Some(place) => *place,
             None => unreachable!(),
         };
-        if self.cache.promote(&place) {
-            self.at = AtHand::Cached(place);
-            return Ok(());
-        }
         self.at = AtHand::Nothing;
         match &self.journal {
             Some(journal) => {
-                self.at = fetch(journal, host, place, &mut self.cache, &mut self.spare)?;
+                self.at = bring(journal, host, place, &mut self.cache, &mut self.spare)?;
                 Ok(())
             }
             None => unreachable!(),
@@ -119,12 +102,7 @@ impl PageBook for DiskBook {
     }
 
     fn next_page(&self, from: u32) -> Option<u32> {
-        for number in from..65536 {
-            if self.places.contains_key(&number) {
-                return Some(number);
-            }
-        }
-        None
+        newt_pagelog::next_page(&self.places, from)
     }
 
     fn live(&self) -> u32 {
@@ -137,7 +115,7 @@ impl PageBook for DiskBook {
 
     fn reserve(&mut self, puts: u32) -> Result<(), AllocError> {
         self.places.reserve(puts as usize)?;
-        self.room = larger(self.room, puts);
+        self.room = self.room.max(puts);
         Ok(())
     }
 

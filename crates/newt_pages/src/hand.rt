@@ -1,12 +1,12 @@
 // The page at hand.
-ghost use Rattle.std.specs.Prelude.{IsTrue, ◌≡◌, ◌≤◌, ◌+◌, ◌⊎◌, ℕ, List, Some, IsSome, Contains, IfOk, OnErr};
+ghost use Rattle.std.specs.Prelude.{IsTrue, ◌≡◌, ◌≤◌, ◌+◌, ℕ, List, [], Some, IsSome, IfOk, OnErr};
 ghost use Rattle.newt_host.specs.Moments.{image};
 ghost use Rattle.newt_host.specs.Outside.{Touches, Spends, Rose};
 ghost use Rattle.newt_spec_image.specs.Records.{records};
 ghost use Rattle.newt_journal.specs.Journal.{Stands};
 ghost use Rattle.newt_journal.specs.Places.{first_place};
 ghost use Rattle.newt_pagelog.specs.Placed.{page_of};
-ghost use Rattle.newt_pages.specs.Disk.{shown_in};
+ghost use Rattle.newt_pages.specs.Disk.{EachIsPageAtPlace, bytes_fetched, shown_in};
 
 use lru::LruCache;
 use newt_host::{Failed, Host};
@@ -26,8 +26,9 @@ pub(crate) enum AtHand {
     Spare,
 }
 
-/// Reads the page at a place of the records: into the cache, or where there is no memory for it there, into the spare page.
-pub(crate) fn fetch<H: Host>(
+/// Brings the page at a place of the records to hand. One that is cached is not read again; another one is read into the cache, or where there is no memory
+/// for it there, into the spare page.
+pub(crate) fn bring<H: Host>(
     journal: &Journal,
     host: &mut H,
     at: u32,
@@ -37,19 +38,30 @@ pub(crate) fn fetch<H: Host>(
     requires low { first_place journal.now ≤ at }
     requires high { at + 512 ≤ journal.now.end }
     requires stands { Stands H.told journal.now (H.outside host.old) }
+    requires caches { IsTrue H.told → EachIsPageAtPlace journal.now (image journal.now.unit (H.outside host.old).now) cache.old.entries }
     ensures found { IfOk result (λ hand. IsSome (shown_in cache.new.entries spare.new hand)) }
     ensures page { IsTrue H.told → IfOk result (λ hand. (payloads : List (List ℕ)) → records (image journal.now.unit (H.outside host.old).now) ≡ Some payloads
         → shown_in cache.new.entries spare.new hand ≡ Some (page_of journal.now payloads at)) }
-    ensures cached { IsTrue H.told → (payloads : List (List ℕ)) → records (image journal.now.unit (H.outside host.old).now) ≡ Some payloads
-        → (e : ℕ × List ℕ) → Contains cache.new.entries e → Contains cache.old.entries e ⊎ ((e.0 ≡ at) × (e.1 ≡ page_of journal.now payloads at)) }
+    ensures caches { IsTrue H.told → EachIsPageAtPlace journal.now (image journal.now.unit (H.outside host.old).now) cache.new.entries }
     ensures moment { (H.outside host.new).now ≡ (H.outside host.old).now }
     ensures alone { Touches journal.now.unit (H.outside host.old) (H.outside host.new) }
-    ensures costs { Spends journal.now.unit 0 512 (H.outside host.old) (H.outside host.new) }
+    // for a page that is cached nothing is fetched
+    ensures costs { Spends journal.now.unit 0 (bytes_fetched at cache.old.entries) (H.outside host.old) (H.outside host.new) }
     ensures cause { OnErr result (Rose ((H.outside host.old).dev_faults journal.now.unit) ((H.outside host.new).dev_faults journal.now.unit)) }
 {
+    if cache.promote(&at) {
+        return Ok(AtHand::Cached(at));
+    }
     journal.read_at(host, at, spare)?;
     match cache.put(at, *spare) {
         Ok(_) => Ok(AtHand::Cached(at)),
         Err(_) => Ok(AtHand::Spare),
     }
+}
+
+/// Forgets all cached pages: in the other bank other pages stand at their places.
+pub(crate) fn forget_all(cache: &mut Cache)
+    ensures { cache.new.entries ≡ [] }
+{
+    cache.clear();
 }

@@ -1,23 +1,23 @@
 // All pages after a batch are written into the other bank, each copied from where it stands.
 ghost use Rattle.std.specs.Prelude.{IsTrue, ◌≡◌, ℕ, ◌+◌, ◌*◌, ◌≤◌, ◌<◌, ◌∷◌, ◌++◌, [], List, length, nat_eq, Some, IfOk, OnOk, OnErr};
 ghost use Rattle.std.specs.Map.{lookup};
-ghost use Rattle.newt_host.specs.Moments.{image, Leaves};
-ghost use Rattle.newt_host.specs.Outside.{Touches, Rose};
+ghost use Rattle.newt_host.specs.Moments.{image};
+ghost use Rattle.newt_host.specs.Outside.{Rose};
 ghost use Rattle.newt_spec_image.specs.Records.{records, bank_size};
 ghost use Rattle.newt_spec_image.specs.Pages.{written_change};
-ghost use Rattle.newt_journal.specs.Journal.{Stands, ReadsAsEither};
+ghost use Rattle.newt_journal.specs.Journal.{Stands};
 ghost use Rattle.newt_journal.specs.Places.{first_place};
 ghost use Rattle.newt_journal.specs.Draft.{IsDraftOf, journal_of, unit_of, len_of, put_of};
-ghost use Rattle.newt_pagebook.specs.Book.{IsOpenFor};
+ghost use Rattle.newt_pagelog.specs.Commits.{Rewrites};
 ghost use Rattle.newt_pagelog.specs.Kept.{all_of};
 ghost use Rattle.newt_pagelog.specs.Placed.{ArePlaced, lifted, page_of};
-ghost use Rattle.newt_pagelog.specs.Steps.{IsSteady};
-ghost use Rattle.newt_pages.specs.Copies.{place_at, below, Stays, CopiesPage, CopiesAll, CopiesWhole};
+ghost use Rattle.newt_pagelog.specs.Steps.{IsSteady, Stays};
+ghost use Rattle.newt_pages.specs.Copies.{place_at, below, CopiesPage, CopiesAll, CopiesWhole};
 
 use newt_host::{Failed, Host};
 use newt_journal::{Draft, Journal};
 use newt_pagebook::Page;
-use newt_pagelog::{Table, write_counts, write_put, write_puts};
+use newt_pagelog::{Table, begin_alone, write_counts, write_put, write_puts};
 
 // Copies the page at a place of the records into the record that is written.
 fn copy_page<H: Host>(draft: &mut Draft, host: &mut H, number: u32, at: u32) -> Result<(), Failed>
@@ -98,7 +98,7 @@ fn copy_whole<H: Host>(
 
 /// Writes all pages as one record into the other bank, once the votes are mended: those at the places, and the given ones behind them.
 pub(crate) fn replace_all<H: Host>(
-    mut journal: Journal,
+    journal: Journal,
     host: &mut H,
     places: &Table<u32>,
     puts: &[(u32, Page)],
@@ -108,19 +108,11 @@ pub(crate) fn replace_all<H: Host>(
     requires count { live ≡ length (below 65536 places.now.entries) + length puts.now }
     requires fits { 25 + 516 * live ≤ bank_size journal.blocks }
     requires placed { ArePlaced journal places.now.entries }
-    ensures journal { IfOk result (λ after. Stands H.told after (H.outside host.new) × (after.unit ≡ journal.unit)) }
+    ensures rewrites { (payloads : List (List ℕ)) → (IsTrue H.told → records (image journal.unit (H.outside host.old).now) ≡ Some payloads)
+        → Rewrites H.told journal (Some (written_change (all_of (lifted (page_of journal payloads) (below 65536 places.now.entries) ++ puts.now)) ∷ [])) result (H.outside host.old) (H.outside host.new) }
     ensures places { IfOk result (λ after. after.end ≡ first_place after + 5 + (4 + 516 * live)) }
-    ensures committed { IsTrue H.told → OnOk result ((payloads : List (List ℕ)) → records (image journal.unit (H.outside host.old).now) ≡ Some payloads
-        → records (image journal.unit (H.outside host.new).now) ≡ Some (written_change (all_of (lifted (page_of journal payloads) (below 65536 places.now.entries) ++ puts.now)) ∷ [])) }
-    ensures blank { IsTrue H.told → OnOk result (IsOpenFor 0 (image journal.unit (H.outside host.new).now)) }
-    ensures any_moment { IsTrue H.told → (payloads : List (List ℕ)) → records (image journal.unit (H.outside host.old).now) ≡ Some payloads
-        → Leaves journal.unit (ReadsAsEither (records (image journal.unit (H.outside host.old).now))
-        (Some (written_change (all_of (lifted (page_of journal payloads) (below 65536 places.now.entries) ++ puts.now)) ∷ []))) (H.outside host.old).now (H.outside host.new).now }
-    ensures alone { Touches journal.unit (H.outside host.old) (H.outside host.new) }
-    ensures cause { OnErr result (Rose ((H.outside host.old).dev_faults journal.unit) ((H.outside host.new).dev_faults journal.unit)) }
 {
-    journal.repair(host)?;
-    let mut draft = journal.switch(host, 4 + 516 * u32::from(live))?;
+    let mut draft = begin_alone(journal, host, 4 + 516 * u32::from(live))?;
     copy_whole(&mut draft, host, places, puts, live)?;
     let journal = draft.finish(host)?;
     Ok(journal)

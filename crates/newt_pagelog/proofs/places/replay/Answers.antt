@@ -10,7 +10,8 @@ use Rattle.newt_pagelog.specs.Kept.{map_of}
 use Rattle.newt_pagelog.specs.Placed.{ReplaysRecord, lifted, page_from}
 use Rattle.newt_pagelog.proofs.Failing.{rose-over, same-err}
 use Rattle.newt_pagelog.proofs.Placing.{looks-refl, looks-append, looks-stands, looks-image, looks-spent, holds-from, numbered-placed, replay-step, replay-bad}
-use Rattle.newt_pagelog.proofs.Replaying.{near, at_some, at_none, if_some}
+use Rattle.newt_pagelog.proofs.Near.{end-near}
+use Rattle.newt_pagelog.proofs.Replaying.{at_some, at_none, if_some}
 use Rattle.newt_pagelog.proofs.places.replay.Goals as goal
 
 pub loop-places-init : goal.loop-places-init
@@ -142,7 +143,7 @@ pub returns-clause-numbered : goal.returns-clause-numbered
 returns-clause-numbered g c =
     let j = c.args.journal.now in
     let inv = c.loop-places.invariant in
-    numbered-placed j c.loop-places.places.entries inv.unique (omega (arith, inv.many, inv.high, near j j.high)) inv.placed
+    numbered-placed j c.loop-places.places.entries inv.unique (omega (arith, inv.many, inv.high, end-near j)) inv.placed
 
 pub returns-clause-placed : goal.returns-clause-placed
 returns-clause-placed g c = c.loop-places.invariant.placed

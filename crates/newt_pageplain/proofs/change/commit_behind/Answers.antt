@@ -1,47 +1,52 @@
-use Rattle.std.proofs.Common.{◌≡◌, inl, inr, ℕ, ◌+◌, ◌*◌, ◌<◌, List, length, Some, sym, ◌∙◌, ap, arith, ⊎_elim}
+use Rattle.std.proofs.Common.{IsTrue, Bool, ◌≡◌, ℕ, ◌+◌, ◌*◌, ◌<◌, ◌≤◌, List, length, arith}
 use Rattle.std.specs.List.{filter}
-use Rattle.std.specs.Option.{option_map}
 use Rattle.newt_host.specs.Moments.{image}
-use Rattle.newt_host.proofs.Moments.{Leaves-weaken}
+use Rattle.newt_host.specs.Outside.{Outside}
 use Rattle.newt_host.proofs.Outside.{Spends-widen}
 use Rattle.newt_spec_image.specs.Records.{records}
-use Rattle.newt_spec_image.specs.Pages.{Pages, Change, pages, after, change_in, written_change}
-use Rattle.newt_journal.specs.Journal.{ReadsAsEither, appended}
+use Rattle.newt_spec_image.specs.Pages.{Change, written_change}
+use Rattle.newt_journal.specs.Journal.{appended, room}
+use Rattle.newt_journal.specs.declared.journal.Journal.{Journal}
 use Rattle.newt_pagebook.specs.Batch.{IsBatch}
-use Rattle.newt_pagebook.specs.Book.{IsBeforeOrAfter, ReadsChanged, batch_bytes}
-use Rattle.newt_pagelog.specs.Kept.{Entries, AreSound, map_of, is_kept, needed}
-use Rattle.newt_pagelog.proofs.Spelling.{written-says, fewer_deletes}
-use Rattle.newt_pagelog.proofs.Changing.{read-appended, read-same, needed-after, sound-after, live-after, few_kept, fewer, cap-few, room-few}
+use Rattle.newt_pagebook.specs.Book.{ReadsChanged, batch_bytes}
+use Rattle.newt_pagelog.specs.Kept.{Entries, AreSound, is_kept, needed}
+use Rattle.newt_pagelog.proofs.Changing.{sound-after, live-after, few_kept, fewer, cap-few}
+use Rattle.newt_pagelog.proofs.Committed.{appended-reads}
+use Rattle.newt_pagelog.proofs.Committing.{commits, commits-failed}
+use Rattle.newt_pagelog.proofs.Near.{room-few}
+use Rattle.newt_pageplain.specs.Plain.{IsHeldBy}
 use Rattle.newt_pageplain.proofs.change.commit_behind.Goals as goal
 
 -- with a record more the pages are those after the batch
-appended-reads : (entries : Entries) (batch : Change) (old new : List ℕ) → AreSound entries → IsBatch batch → length batch.puts < 65536 → pages old ≡ Some (map_of entries)
-    → records new ≡ appended (records old) (written_change (needed entries batch)) → ReadsChanged batch old new
-appended-reads entries batch old new sound is few holds added =
+reads : (told : Bool) (j : Journal) (entries : Entries) (batch : Change) (o : Outside) → IsHeldBy told j entries o → AreSound entries → IsBatch batch → 4 + 516 * length batch.puts + 4 * length (filter (is_kept entries) batch.deletes) ≤ room j
+    → IsTrue told → (left : List ℕ) → records left ≡ appended (records (image j.unit o.now)) (written_change (needed entries batch)) → ReadsChanged batch (image j.unit o.now) left
+reads told j entries batch o book sound is fits tells left added =
+    let few : length batch.puts < 65536 = room-few j (length batch.puts) (omega (arith, fits)) in
     let low : length (filter (is_kept entries) batch.deletes) < 65536 = omega (arith, few_kept entries batch is, sound.few) in
-    let says : change_in (written_change (needed entries batch)) ≡ Some (needed entries batch) = written-says (needed entries batch) (fewer_deletes (is_kept entries) batch is) few low in
-    read-appended (records old) (written_change (needed entries batch)) (map_of entries) (needed entries batch) new added holds says ∙ ap (λ (m : Pages). Some m) (needed-after entries batch is.distinct)
-    ∙ sym (ap (option_map (after batch)) holds)
-
-either-reads : (entries : Entries) (batch : Change) (old left : List ℕ) → AreSound entries → IsBatch batch → length batch.puts < 65536 → pages old ≡ Some (map_of entries)
-    → ReadsAsEither (records old) (appended (records old) (written_change (needed entries batch))) left → IsBeforeOrAfter batch old left
-either-reads entries batch old left sound is few holds either = ⊎_elim
-    (λ (same : records left ≡ records old). inl (read-same left old same))
-    (λ (more : records left ≡ appended (records old) (written_change (needed entries batch))). inr (appended-reads entries batch old left sound is few holds more))
-    either
+    appended-reads entries batch (image j.unit o.now) left is few low (book.holds tells) added
 
 pub append_batch-requires-clause-few_deletes : goal.append_batch-requires-clause-few_deletes
 append_batch-requires-clause-few_deletes g c = omega (arith, few_kept c.args.pages.now.entries c.args.batch.now c.requires.batch, c.requires.sound.few)
 
-pub returns-in_err-journal-clause-any_moment : goal.returns-in_err-journal-clause-any_moment
-returns-in_err-journal-clause-any_moment g c =
+pub returns-in_err-journal-clause-commits : goal.returns-in_err-journal-clause-commits
+returns-in_err-journal-clause-commits g c =
     let o = g.H.Host.outside in
-    let old = image c.args.journal.unit (o c.args.host.now).now in
-    let entries = c.args.pages.now.entries in
+    let told = g.H.Host.told in
+    let j = c.args.journal in
     let batch = c.args.batch.now in
-    let few : length batch.puts < 65536 = room-few c.args.journal (length batch.puts) (omega (arith, c.requires.fits)) in
-    λ tells. Leaves-weaken {P = ReadsAsEither (records old) (appended (records old) (written_change (needed entries batch)))} {Q = IsBeforeOrAfter batch old}
-    (λ left. either-reads entries batch old left c.requires.sound c.requires.batch few (c.requires.holds tells)) (c.append_batch.ensures.any_moment tells)
+    let a = o c.args.host.now in
+    let b = o c.append_batch.new.host in
+    commits-failed told j batch _ c.from_residual.result a b c.from_residual.ensures.0
+    (commits told j batch _ _ a b (reads told j c.args.pages.now.entries batch a c.requires.book c.requires.sound c.requires.batch c.requires.fits) c.in_err-journal.ensures.rewrites)
+
+pub returns-clause-commits : goal.returns-clause-commits
+returns-clause-commits g c =
+    let o = g.H.Host.outside in
+    let told = g.H.Host.told in
+    let j = c.args.journal in
+    let batch = c.args.batch.now in
+    let a = o c.args.host.now in
+    commits told j batch _ _ a (o c.append_batch.new.host) (reads told j c.args.pages.now.entries batch a c.requires.book c.requires.sound c.requires.batch c.requires.fits) c.in_ok-journal.ensures.rewrites
 
 pub returns-in_err-journal-clause-costs : goal.returns-in_err-journal-clause-costs
 returns-in_err-journal-clause-costs g c =
@@ -58,23 +63,5 @@ returns-clause-sound g c =
     let old = c.args.pages.now.entries in
     let new = c.apply.new.pages.entries in
     let batch = c.args.batch.now in
-    let few : length new < 65536 = cap-few c.args.journal.blocks (length new) c.args.journal.not_too_many (omega (arith, live-after old new batch c.apply.ensures.pages c.apply.ensures.unique, c.requires.live)) in
+    let few : length new < 65536 = cap-few c.args.journal.blocks (length new) c.args.journal.not_too_many (omega (arith, live-after old new batch c.apply.ensures.pages c.apply.ensures.unique, c.requires.ready.live)) in
     sound-after old new batch c.requires.sound c.requires.batch c.apply.ensures.pages c.apply.ensures.unique few
-
-pub returns-clause-committed : goal.returns-clause-committed
-returns-clause-committed g c =
-    let o = g.H.Host.outside in
-    let u = c.args.journal.unit in
-    let batch = c.args.batch.now in
-    let few : length batch.puts < 65536 = room-few c.args.journal (length batch.puts) (omega (arith, c.requires.fits)) in
-    λ tells. appended-reads c.args.pages.now.entries batch (image u (o c.args.host.now).now) (image u (o c.append_batch.new.host).now) c.requires.sound c.requires.batch few (c.requires.holds tells) (c.in_ok-journal.ensures.committed tells)
-
-pub returns-clause-any_moment : goal.returns-clause-any_moment
-returns-clause-any_moment g c =
-    let o = g.H.Host.outside in
-    let old = image c.args.journal.unit (o c.args.host.now).now in
-    let entries = c.args.pages.now.entries in
-    let batch = c.args.batch.now in
-    let few : length batch.puts < 65536 = room-few c.args.journal (length batch.puts) (omega (arith, c.requires.fits)) in
-    λ tells. Leaves-weaken {P = ReadsAsEither (records old) (appended (records old) (written_change (needed entries batch)))} {Q = IsBeforeOrAfter batch old}
-    (λ left. either-reads entries batch old left c.requires.sound c.requires.batch few (c.requires.holds tells)) (c.append_batch.ensures.any_moment tells)

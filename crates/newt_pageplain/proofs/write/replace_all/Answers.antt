@@ -1,162 +1,59 @@
-use Rattle.std.proofs.Common.{IsTrue, ◌≡◌, ℕ, true, List, [], ◌∷◌, ◌∙◌, ap, subst}
-use Rattle.newt_host.specs.Moments.{image}
+use Rattle.std.proofs.Common.{ℕ, true, List, [], ◌∷◌, Some}
 use Rattle.newt_host.proofs.Outside.{Touches-append}
-use Rattle.newt_spec_image.specs.Records.{records}
 use Rattle.newt_spec_image.specs.Pages.{written_change}
 use Rattle.newt_journal.specs.Draft.{unit_of}
 use Rattle.newt_pagelog.specs.Kept.{all_of}
-use Rattle.newt_pagelog.proofs.Committing.{two-leaves, written-draft, first-either, finish-leaves, finish-records, finish-open, touches-on}
-use Rattle.newt_journal.specs.declared.journal.Journal.{Journal}
-use Rattle.std.proofs.Common.{Some}
-use Rattle.newt_pagelog.proofs.Stepping.{put-keeps}
+use Rattle.newt_pagelog.proofs.Committing.{stays-begun, written, stopped, stopped-late, finished, finish-leaves, touches-on}
+use Rattle.newt_pagelog.proofs.Failing.{rose-over}
+use Rattle.newt_pagelog.proofs.Stepping.{stays-kept}
 use Rattle.newt_pageplain.proofs.write.replace_all.Goals as goal
 
-pub returns-in_err-repair-clause-any_moment : goal.returns-in_err-repair-clause-any_moment
-returns-in_err-repair-clause-any_moment g c =
+pub returns-in_err-draft : goal.returns-in_err-draft
+returns-in_err-draft g c =
     let o = g.H.Host.outside in
-    let told = g.H.Host.told in
-    let u = c.args.journal.unit in
-    let before = records (image u (o c.args.host.now).now) in
-    λ tells. first-either u before (Some (written_change (all_of c.args.pages.now.entries) ∷ [])) (o c.args.host.now).now (o c.repair.new.host).now (c.repair.ensures.reads_at_any_moment tells)
+    stopped g.H.Host.told c.args.journal _ c.from_residual.result (o c.args.host.now) (o c.begin_alone.new.host) c.from_residual.ensures.0 c.in_err-draft.ensures.cause c.begin_alone.ensures.stays
 
-pub returns-in_err-draft-clause-any_moment : goal.returns-in_err-draft-clause-any_moment
-returns-in_err-draft-clause-any_moment g c =
+pub returns-in_err-write_all : goal.returns-in_err-write_all
+returns-in_err-write_all g c =
     let o = g.H.Host.outside in
     let told = g.H.Host.told in
-    let u = c.args.journal.unit in
-    let j = c.repair.new.self in
-    let its : j.unit ≡ u = ap (λ (j : Journal). j.unit) c.repair.ensures.same in
-    let begun = two-leaves told u j.unit 21 (o c.args.host.now) (o c.repair.new.host) (o c.switch.new.host) its c.repair.ensures.reads_at_any_moment c.in_ok-repair.ensures.reads
-    (put-keeps told j.unit 21 (o c.repair.new.host) (o c.switch.new.host) c.switch.ensures.any_moment c.switch.ensures.alone c.switch.ensures.costs) in
-    let payload : List ℕ = written_change (all_of c.args.pages.now.entries) in
-    let before = records (image u (o c.args.host.now).now) in
-    λ tells. first-either u before (Some (payload ∷ [])) (o c.args.host.now).now (o c.switch.new.host).now (begun tells)
+    let j = c.args.journal in
+    let d = c.in_ok-draft.draft in
+    let a = o c.args.host.now in
+    let b = o c.begin_alone.new.host in
+    let m = o c.write_all.new.host in
+    let begins = c.in_ok-draft.ensures.begins in
+    let begun = c.begin_alone.ensures.stays in
+    stopped told j _ c.from_residual-in_err-write_all.result a m c.from_residual-in_err-write_all.ensures.0 (rose-over (unit_of d) j.unit a b m begins.on begun.alone c.in_err-write_all.ensures.cause)
+    (stays-begun told j _ true d a b m begins begun (stays-kept told (unit_of d) _ b m c.write_all.ensures.keeps))
 
-pub returns-in_err-write_all-clause-any_moment : goal.returns-in_err-write_all-clause-any_moment
-returns-in_err-write_all-clause-any_moment g c =
+pub returns-in_err-journal : goal.returns-in_err-journal
+returns-in_err-journal g c =
     let o = g.H.Host.outside in
     let told = g.H.Host.told in
-    let u = c.args.journal.unit in
-    let j = c.repair.new.self in
-    let its : j.unit ≡ u = ap (λ (j : Journal). j.unit) c.repair.ensures.same in
-    let begun = two-leaves told u j.unit 21 (o c.args.host.now) (o c.repair.new.host) (o c.switch.new.host) its c.repair.ensures.reads_at_any_moment c.in_ok-repair.ensures.reads
-    (put-keeps told j.unit 21 (o c.repair.new.host) (o c.switch.new.host) c.switch.ensures.any_moment c.switch.ensures.alone c.switch.ensures.costs) in
+    let j = c.args.journal in
+    let d = c.in_ok-draft.draft in
+    let y = c.write_all.new.draft in
     let payload : List ℕ = written_change (all_of c.args.pages.now.entries) in
-    let before = records (image u (o c.args.host.now).now) in
-    let dr = c.in_ok-draft.ensures.draft in
-    let same : IsTrue told → records (image u (o c.switch.new.host).now) ≡ before = λ tells.
-    subst (λ (v : ℕ). records (image v (o c.switch.new.host).now) ≡ records (image v (o c.repair.new.host).now)) its (c.in_ok-draft.ensures.same tells) ∙ c.in_ok-repair.ensures.reads tells in
-    λ tells. first-either u before (Some (payload ∷ [])) (o c.args.host.now).now (o c.write_all.new.host).now
-    (two-leaves told u (unit_of c.in_ok-draft.draft) _ (o c.args.host.now) (o c.switch.new.host) (o c.write_all.new.host) (dr.1 ∙ its) begun same c.write_all.ensures.keeps tells)
+    let a = o c.args.host.now in
+    let b = o c.begin_alone.new.host in
+    let m = o c.write_all.new.host in
+    let n = o c.finish.new.host in
+    let w = written told j _ true payload d y a b m c.in_ok-draft.ensures.begins c.begin_alone.ensures.stays (stays-kept told (unit_of d) _ b m c.write_all.ensures.keeps) c.in_ok-write_all.ensures.ok in
+    stopped-late told j (Some (payload ∷ [])) c.from_residual-in_err-journal.result a n c.from_residual-in_err-journal.ensures.0 (rose-over (unit_of y) j.unit a m n w.on w.stays.alone c.in_err-journal.ensures.cause)
+    (λ tells. finish-leaves told j.unit true payload y a m n w tells (c.finish.ensures.any_moment tells)) (Touches-append w.stays.alone (touches-on (unit_of y) j.unit m n w.on c.finish.ensures.alone))
 
-pub returns-in_err-journal-clause-any_moment : goal.returns-in_err-journal-clause-any_moment
-returns-in_err-journal-clause-any_moment g c =
+pub returns : goal.returns
+returns g c =
     let o = g.H.Host.outside in
     let told = g.H.Host.told in
-    let u = c.args.journal.unit in
-    let j = c.repair.new.self in
-    let its : j.unit ≡ u = ap (λ (j : Journal). j.unit) c.repair.ensures.same in
-    let begun = two-leaves told u j.unit 21 (o c.args.host.now) (o c.repair.new.host) (o c.switch.new.host) its c.repair.ensures.reads_at_any_moment c.in_ok-repair.ensures.reads
-    (put-keeps told j.unit 21 (o c.repair.new.host) (o c.switch.new.host) c.switch.ensures.any_moment c.switch.ensures.alone c.switch.ensures.costs) in
+    let j = c.args.journal in
+    let d = c.in_ok-draft.draft in
+    let y = c.write_all.new.draft in
     let payload : List ℕ = written_change (all_of c.args.pages.now.entries) in
-    let before = records (image u (o c.args.host.now).now) in
-    let dr = c.in_ok-draft.ensures.draft in
-    let same : IsTrue told → records (image u (o c.switch.new.host).now) ≡ before = λ tells.
-    subst (λ (v : ℕ). records (image v (o c.switch.new.host).now) ≡ records (image v (o c.repair.new.host).now)) its (c.in_ok-draft.ensures.same tells) ∙ c.in_ok-repair.ensures.reads tells in
-    let w = written-draft told u true _ payload c.in_ok-draft.draft c.write_all.new.draft (o c.args.host.now) (o c.switch.new.host) (o c.write_all.new.host) (dr.1 ∙ its) dr.4 c.in_ok-draft.ensures.empty same
-    begun c.write_all.ensures.keeps c.in_ok-write_all.ensures.ok in
-    λ tells. finish-leaves told u true payload c.write_all.new.draft (o c.args.host.now) (o c.write_all.new.host) (o c.finish.new.host) w tells (c.finish.ensures.any_moment tells)
-
-pub returns-clause-any_moment : goal.returns-clause-any_moment
-returns-clause-any_moment g c =
-    let o = g.H.Host.outside in
-    let told = g.H.Host.told in
-    let u = c.args.journal.unit in
-    let j = c.repair.new.self in
-    let its : j.unit ≡ u = ap (λ (j : Journal). j.unit) c.repair.ensures.same in
-    let begun = two-leaves told u j.unit 21 (o c.args.host.now) (o c.repair.new.host) (o c.switch.new.host) its c.repair.ensures.reads_at_any_moment c.in_ok-repair.ensures.reads
-    (put-keeps told j.unit 21 (o c.repair.new.host) (o c.switch.new.host) c.switch.ensures.any_moment c.switch.ensures.alone c.switch.ensures.costs) in
-    let payload : List ℕ = written_change (all_of c.args.pages.now.entries) in
-    let before = records (image u (o c.args.host.now).now) in
-    let dr = c.in_ok-draft.ensures.draft in
-    let same : IsTrue told → records (image u (o c.switch.new.host).now) ≡ before = λ tells.
-    subst (λ (v : ℕ). records (image v (o c.switch.new.host).now) ≡ records (image v (o c.repair.new.host).now)) its (c.in_ok-draft.ensures.same tells) ∙ c.in_ok-repair.ensures.reads tells in
-    let w = written-draft told u true _ payload c.in_ok-draft.draft c.write_all.new.draft (o c.args.host.now) (o c.switch.new.host) (o c.write_all.new.host) (dr.1 ∙ its) dr.4 c.in_ok-draft.ensures.empty same
-    begun c.write_all.ensures.keeps c.in_ok-write_all.ensures.ok in
-    λ tells. finish-leaves told u true payload c.write_all.new.draft (o c.args.host.now) (o c.write_all.new.host) (o c.finish.new.host) w tells (c.finish.ensures.any_moment tells)
-
-pub returns-in_err-journal-clause-alone : goal.returns-in_err-journal-clause-alone
-returns-in_err-journal-clause-alone g c =
-    let o = g.H.Host.outside in
-    let told = g.H.Host.told in
-    let u = c.args.journal.unit in
-    let j = c.repair.new.self in
-    let its : j.unit ≡ u = ap (λ (j : Journal). j.unit) c.repair.ensures.same in
-    let begun = two-leaves told u j.unit 21 (o c.args.host.now) (o c.repair.new.host) (o c.switch.new.host) its c.repair.ensures.reads_at_any_moment c.in_ok-repair.ensures.reads
-    (put-keeps told j.unit 21 (o c.repair.new.host) (o c.switch.new.host) c.switch.ensures.any_moment c.switch.ensures.alone c.switch.ensures.costs) in
-    let payload : List ℕ = written_change (all_of c.args.pages.now.entries) in
-    let before = records (image u (o c.args.host.now).now) in
-    let dr = c.in_ok-draft.ensures.draft in
-    let same : IsTrue told → records (image u (o c.switch.new.host).now) ≡ before = λ tells.
-    subst (λ (v : ℕ). records (image v (o c.switch.new.host).now) ≡ records (image v (o c.repair.new.host).now)) its (c.in_ok-draft.ensures.same tells) ∙ c.in_ok-repair.ensures.reads tells in
-    let w = written-draft told u true _ payload c.in_ok-draft.draft c.write_all.new.draft (o c.args.host.now) (o c.switch.new.host) (o c.write_all.new.host) (dr.1 ∙ its) dr.4 c.in_ok-draft.ensures.empty same
-    begun c.write_all.ensures.keeps c.in_ok-write_all.ensures.ok in
-    Touches-append c.repair.ensures.alone (Touches-append (touches-on j.unit u (o c.repair.new.host) (o c.switch.new.host) its c.switch.ensures.alone) (Touches-append
-    (touches-on (unit_of c.in_ok-draft.draft) u (o c.switch.new.host) (o c.write_all.new.host) (dr.1 ∙ its) c.write_all.ensures.keeps.alone)
-    (touches-on (unit_of c.write_all.new.draft) u (o c.write_all.new.host) (o c.finish.new.host) w.on c.finish.ensures.alone)))
-
-pub returns-clause-alone : goal.returns-clause-alone
-returns-clause-alone g c =
-    let o = g.H.Host.outside in
-    let told = g.H.Host.told in
-    let u = c.args.journal.unit in
-    let j = c.repair.new.self in
-    let its : j.unit ≡ u = ap (λ (j : Journal). j.unit) c.repair.ensures.same in
-    let begun = two-leaves told u j.unit 21 (o c.args.host.now) (o c.repair.new.host) (o c.switch.new.host) its c.repair.ensures.reads_at_any_moment c.in_ok-repair.ensures.reads
-    (put-keeps told j.unit 21 (o c.repair.new.host) (o c.switch.new.host) c.switch.ensures.any_moment c.switch.ensures.alone c.switch.ensures.costs) in
-    let payload : List ℕ = written_change (all_of c.args.pages.now.entries) in
-    let before = records (image u (o c.args.host.now).now) in
-    let dr = c.in_ok-draft.ensures.draft in
-    let same : IsTrue told → records (image u (o c.switch.new.host).now) ≡ before = λ tells.
-    subst (λ (v : ℕ). records (image v (o c.switch.new.host).now) ≡ records (image v (o c.repair.new.host).now)) its (c.in_ok-draft.ensures.same tells) ∙ c.in_ok-repair.ensures.reads tells in
-    let w = written-draft told u true _ payload c.in_ok-draft.draft c.write_all.new.draft (o c.args.host.now) (o c.switch.new.host) (o c.write_all.new.host) (dr.1 ∙ its) dr.4 c.in_ok-draft.ensures.empty same
-    begun c.write_all.ensures.keeps c.in_ok-write_all.ensures.ok in
-    Touches-append c.repair.ensures.alone (Touches-append (touches-on j.unit u (o c.repair.new.host) (o c.switch.new.host) its c.switch.ensures.alone) (Touches-append
-    (touches-on (unit_of c.in_ok-draft.draft) u (o c.switch.new.host) (o c.write_all.new.host) (dr.1 ∙ its) c.write_all.ensures.keeps.alone)
-    (touches-on (unit_of c.write_all.new.draft) u (o c.write_all.new.host) (o c.finish.new.host) w.on c.finish.ensures.alone)))
-
-pub returns-clause-committed : goal.returns-clause-committed
-returns-clause-committed g c =
-    let o = g.H.Host.outside in
-    let told = g.H.Host.told in
-    let u = c.args.journal.unit in
-    let j = c.repair.new.self in
-    let its : j.unit ≡ u = ap (λ (j : Journal). j.unit) c.repair.ensures.same in
-    let begun = two-leaves told u j.unit 21 (o c.args.host.now) (o c.repair.new.host) (o c.switch.new.host) its c.repair.ensures.reads_at_any_moment c.in_ok-repair.ensures.reads
-    (put-keeps told j.unit 21 (o c.repair.new.host) (o c.switch.new.host) c.switch.ensures.any_moment c.switch.ensures.alone c.switch.ensures.costs) in
-    let payload : List ℕ = written_change (all_of c.args.pages.now.entries) in
-    let before = records (image u (o c.args.host.now).now) in
-    let dr = c.in_ok-draft.ensures.draft in
-    let same : IsTrue told → records (image u (o c.switch.new.host).now) ≡ before = λ tells.
-    subst (λ (v : ℕ). records (image v (o c.switch.new.host).now) ≡ records (image v (o c.repair.new.host).now)) its (c.in_ok-draft.ensures.same tells) ∙ c.in_ok-repair.ensures.reads tells in
-    let w = written-draft told u true _ payload c.in_ok-draft.draft c.write_all.new.draft (o c.args.host.now) (o c.switch.new.host) (o c.write_all.new.host) (dr.1 ∙ its) dr.4 c.in_ok-draft.ensures.empty same
-    begun c.write_all.ensures.keeps c.in_ok-write_all.ensures.ok in
-    λ tells. finish-records told u true payload c.write_all.new.draft (o c.args.host.now) (o c.write_all.new.host) (o c.finish.new.host) w tells (c.in_ok-journal.ensures.committed tells)
-
-pub returns-clause-blank : goal.returns-clause-blank
-returns-clause-blank g c =
-    let o = g.H.Host.outside in
-    let told = g.H.Host.told in
-    let u = c.args.journal.unit in
-    let j = c.repair.new.self in
-    let its : j.unit ≡ u = ap (λ (j : Journal). j.unit) c.repair.ensures.same in
-    let begun = two-leaves told u j.unit 21 (o c.args.host.now) (o c.repair.new.host) (o c.switch.new.host) its c.repair.ensures.reads_at_any_moment c.in_ok-repair.ensures.reads
-    (put-keeps told j.unit 21 (o c.repair.new.host) (o c.switch.new.host) c.switch.ensures.any_moment c.switch.ensures.alone c.switch.ensures.costs) in
-    let payload : List ℕ = written_change (all_of c.args.pages.now.entries) in
-    let before = records (image u (o c.args.host.now).now) in
-    let dr = c.in_ok-draft.ensures.draft in
-    let same : IsTrue told → records (image u (o c.switch.new.host).now) ≡ before = λ tells.
-    subst (λ (v : ℕ). records (image v (o c.switch.new.host).now) ≡ records (image v (o c.repair.new.host).now)) its (c.in_ok-draft.ensures.same tells) ∙ c.in_ok-repair.ensures.reads tells in
-    let w = written-draft told u true _ payload c.in_ok-draft.draft c.write_all.new.draft (o c.args.host.now) (o c.switch.new.host) (o c.write_all.new.host) (dr.1 ∙ its) dr.4 c.in_ok-draft.ensures.empty same
-    begun c.write_all.ensures.keeps c.in_ok-write_all.ensures.ok in
-    λ tells. finish-open told u true payload c.write_all.new.draft (o c.args.host.now) (o c.write_all.new.host) (o c.finish.new.host) w tells _ (c.in_ok-journal.ensures.rest tells)
+    let a = o c.args.host.now in
+    let b = o c.begin_alone.new.host in
+    let m = o c.write_all.new.host in
+    let w = written told j _ true payload d y a b m c.in_ok-draft.ensures.begins c.begin_alone.ensures.stays (stays-kept told (unit_of d) _ b m c.write_all.ensures.keeps) c.in_ok-write_all.ensures.ok in
+    let f = c.in_ok-journal.ensures in
+    finished told j true payload y a m (o c.finish.new.host) w c.in_ok-journal.journal (f.journal.0, f.journal.1) f.committed _ f.rest c.finish.ensures.any_moment c.finish.ensures.alone

@@ -1,102 +1,97 @@
-use Rattle.std.proofs.Common.{◌≡◌, ℕ, ◌+◌, ◌*◌, ◌<◌, length, sym, ap, subst, arith}
+use Rattle.std.proofs.Common.{IsTrue, ◌≡◌, Bool, ℕ, ◌+◌, ◌*◌, ◌<◌, ◌≤◌, List, length, sym, ◌∙◌, ap, subst, arith}
 use Rattle.std.specs.List.{filter}
 use Rattle.std.specs.FinSet as set
 use Rattle.newt_host.specs.Moments.{image}
+use Rattle.newt_host.specs.Outside.{Outside}
 use Rattle.newt_host.proofs.Outside.{Spends-widen}
-use Rattle.newt_host.proofs.Moments.{Leaves-weaken}
 use Rattle.newt_spec_image.specs.Records.{records}
 use Rattle.newt_spec_image.specs.Pages.{Change, written_change}
-use Rattle.newt_journal.specs.Journal.{appended, ReadsAsEither}
+use Rattle.newt_journal.specs.Journal.{appended, room}
 use Rattle.newt_journal.specs.declared.journal.Journal.{Journal}
-use Rattle.newt_pagebook.specs.Book.{IsBeforeOrAfter, batch_bytes}
+use Rattle.newt_pagebook.specs.Batch.{IsBatch}
+use Rattle.newt_pagebook.specs.Book.{ReadsChanged, batch_bytes}
 use Rattle.newt_pagelog.specs.Kept.{is_kept, needed}
-use Rattle.newt_pagelog.specs.Placed.{lifted, page_of}
+use Rattle.newt_pagelog.specs.Placed.{Places, AreNumbered, HoldsAt, lifted, page_of}
 use Rattle.newt_pagelog.proofs.Counts.{live-is}
-use Rattle.newt_pagelog.proofs.Changing.{fewer, cap-few, room-few}
+use Rattle.newt_pagelog.proofs.Changing.{few_kept, fewer, cap-few}
+use Rattle.newt_pagelog.proofs.Committed.{appended-reads}
+use Rattle.newt_pagelog.proofs.Committing.{commits, commits-failed}
+use Rattle.newt_pagelog.proofs.Near.{room-few}
 use Rattle.newt_pagelog.proofs.Placing.{numbered-placed}
-use Rattle.newt_pages.specs.Disk.{StandAt}
-use Rattle.newt_pages.proofs.Tables.{few-needed, needed-lifted}
+use Rattle.newt_pages.specs.Disk.{IsPlacedBy, StandAt}
+use Rattle.newt_pages.proofs.Tables.{needed-lifted}
 use Rattle.newt_pages.proofs.Caching.{cached-appended}
-use Rattle.newt_pages.proofs.Committed.{appended-either, holds-appended, placed-wider}
+use Rattle.newt_pages.proofs.Committed.{holds-appended, placed-wider}
 use Rattle.newt_pages.proofs.append.commit_behind.Goals as goal
 
-pub append_batch-requires-clause-few_deletes : goal.append_batch-requires-clause-few_deletes
-append_batch-requires-clause-few_deletes g c = omega (arith, few-needed c.args.places.now.entries c.args.batch.now c.requires.batch, c.requires.numbered.few)
+-- with a record more the pages are those after the batch
+reads : (told : Bool) (j : Journal) (places : Places) (batch : Change) (o : Outside) → IsPlacedBy told j places o → AreNumbered places → IsBatch batch → 4 + 516 * length batch.puts + 4 * length (filter (is_kept places) batch.deletes) ≤ room j
+    → IsTrue told → (left : List ℕ) → records left ≡ appended (records (image j.unit o.now)) (written_change (needed places batch)) → ReadsChanged batch (image j.unit o.now) left
+reads told j places batch o book numbered is fits tells left added =
+    let img = image j.unit o.now in
+    let h = book.holds tells in
+    let entries = lifted (page_of j h.payloads) places in
+    let same : needed places batch ≡ needed entries batch = sym (needed-lifted (page_of j h.payloads) places batch) in
+    let few : length batch.puts < 65536 = room-few j (length batch.puts) (omega (arith, fits)) in
+    let low : length (filter (is_kept entries) batch.deletes) < 65536 = omega (arith, few_kept places batch is, numbered.few, ap (λ (ch : Change). length ch.deletes) same) in
+    appended-reads entries batch img left is few low h.holds (added ∙ ap (λ (ch : Change). appended (records img) (written_change ch)) same)
 
-pub returns-in_err-journal-clause-any_moment : goal.returns-in_err-journal-clause-any_moment
-returns-in_err-journal-clause-any_moment g c =
+pub returns-in_err-journal-clause-commits : goal.returns-in_err-journal-clause-commits
+returns-in_err-journal-clause-commits g c =
     let o = g.H.Host.outside in
-    let old = image c.args.journal.unit (o c.args.host.now).now in
-    let places = c.args.places.now.entries in
+    let told = g.H.Host.told in
+    let j = c.args.journal in
     let batch = c.args.batch.now in
-    let few : length batch.puts < 65536 = room-few c.args.journal (length batch.puts) (omega (arith, c.requires.fits)) in
-    λ tells.
-    let h = c.requires.holds tells in
-    let f = page_of c.args.journal h.payloads in
-    let entries = lifted f places in
-    let same : needed places batch ≡ needed entries batch = sym (needed-lifted f places batch) in
-    let low : length (filter (is_kept entries) batch.deletes) < 65536 = omega (arith, few-needed places batch c.requires.batch, c.requires.numbered.few, ap (λ (ch : Change). length ch.deletes) same) in
-    Leaves-weaken {P = ReadsAsEither (records old) (appended (records old) (written_change (needed places batch)))} {Q = IsBeforeOrAfter batch old}
-    (λ left either. appended-either entries batch old left c.requires.batch few low h.holds (subst (λ (ch : Change). ReadsAsEither (records old) (appended (records old) (written_change ch)) left) same either)) (c.append_batch.ensures.any_moment tells)
+    let a = o c.args.host.now in
+    let b = o c.append_batch.new.host in
+    commits-failed told j batch _ c.from_residual.result a b c.from_residual.ensures.0
+    (commits told j batch _ _ a b (reads told j c.args.places.now.entries batch a c.requires.book c.requires.numbered c.requires.batch c.requires.fits) c.in_err-journal.ensures.rewrites)
+
+pub returns-clause-commits : goal.returns-clause-commits
+returns-clause-commits g c =
+    let o = g.H.Host.outside in
+    let told = g.H.Host.told in
+    let j = c.args.journal in
+    let batch = c.args.batch.now in
+    let a = o c.args.host.now in
+    commits told j batch _ _ a (o c.append_batch.new.host) (reads told j c.args.places.now.entries batch a c.requires.book c.requires.numbered c.requires.batch c.requires.fits) c.in_ok-journal.ensures.rewrites
+
+pub append_batch-requires-clause-few_deletes : goal.append_batch-requires-clause-few_deletes
+append_batch-requires-clause-few_deletes g c = omega (arith, few_kept c.args.places.now.entries c.args.batch.now c.requires.batch, c.requires.numbered.few)
 
 pub returns-in_err-journal-clause-costs : goal.returns-in_err-journal-clause-costs
 returns-in_err-journal-clause-costs g c =
     let less = fewer (is_kept c.args.places.now.entries) c.args.batch.now.deletes in
     Spends-widen (9 + 516 * length c.args.batch.now.puts + 4 * length (filter (is_kept c.args.places.now.entries) c.args.batch.now.deletes)) 0 (batch_bytes c.args.batch.now) 0 (omega (arith, less)) (omega arith) c.append_batch.ensures.costs
 
-pub returns-clause-holds : goal.returns-clause-holds
-returns-clause-holds g c = λ tells.
+pub returns-clause-book : goal.returns-clause-book
+returns-clause-book g c =
     let o = g.H.Host.outside in
     let j = c.args.journal in
-    let batch = c.args.batch.now in
-    let places = c.args.places.now.entries in
-    let few : length batch.puts < 65536 = room-few j (length batch.puts) (omega (arith, c.requires.fits)) in
-    let low : length (filter (is_kept places) batch.deletes) < 65536 = omega (arith, few-needed places batch c.requires.batch, c.requires.numbered.few) in
-    (holds-appended g.H.Host.told j c.in_ok-journal.journal (o c.args.host.now) (image j.unit (o c.append_batch.new.host).now) places c.apply.new.places.entries batch c.requires.stands tells c.requires.batch few low
-    c.in_ok-journal.ensures.places.1 c.requires.placed (c.requires.holds tells) (c.in_ok-journal.ensures.committed tells)
-    (λ page stand. c.apply.ensures.pages page (subst (λ (k : ℕ). StandAt page (k + 13) batch.puts) (sym c.end-first.ensures.place) stand))).0
-
-pub returns-clause-placed : goal.returns-clause-placed
-returns-clause-placed g c =
-    let j = c.args.journal in
     let k : Journal = c.in_ok-journal.journal in
+    let batch = c.args.batch.now in
+    let old = c.args.places.now.entries in
+    let new = c.apply.new.places.entries in
     let ends = c.in_ok-journal.ensures.places in
-    c.apply.ensures.placed k (placed-wider j k c.args.places.now.entries ends.1 (omega (arith, ends.0)) c.requires.placed) (omega (arith, ends.1, j.low, c.end-first.ensures.place)) (omega (arith, ends.0, c.end-first.ensures.place))
+    let w = c.in_ok-journal.ensures.rewrites in
+    record {
+      stands = w.stands.0;
+      placed = c.apply.ensures.placed k (placed-wider j k old ends.1 (omega (arith, ends.0)) c.requires.book.placed) (omega (arith, ends.1, j.low, c.end-first.ensures.place)) (omega (arith, ends.0, c.end-first.ensures.place));
+      holds = λ tells.
+          let few : length batch.puts < 65536 = room-few j (length batch.puts) (omega (arith, c.requires.fits)) in
+          let low : length (filter (is_kept old) batch.deletes) < 65536 = omega (arith, few_kept old batch c.requires.batch, c.requires.numbered.few) in
+          subst (λ (u : ℕ). HoldsAt k (image u (o c.append_batch.new.host).now) new) (sym w.stands.1)
+          (holds-appended g.H.Host.told j k (o c.args.host.now) (image j.unit (o c.append_batch.new.host).now) old new batch c.requires.book.stands tells c.requires.batch few low
+          ends.1 c.requires.book.placed (c.requires.book.holds tells) (w.committed tells)
+          (λ page stand. c.apply.ensures.pages page (subst (λ (k : ℕ). StandAt page (k + 13) batch.puts) (sym c.end-first.ensures.place) stand))).0;
+    }
 
 pub returns-clause-numbered : goal.returns-clause-numbered
 returns-clause-numbered g c =
     let new = c.apply.new.places.entries in
     let size = live-is new c.apply.ensures.unique in
-    let few : length new < 65536 = cap-few c.args.journal.blocks (length new) c.args.journal.not_too_many (omega (arith, size, ap (λ s. set.len s) c.apply.ensures.numbers, c.requires.live)) in
-    numbered-placed c.in_ok-journal.journal new c.apply.ensures.unique few (returns-clause-placed g c)
-
-pub returns-clause-committed : goal.returns-clause-committed
-returns-clause-committed g c = λ tells.
-    let o = g.H.Host.outside in
-    let j = c.args.journal in
-    let batch = c.args.batch.now in
-    let places = c.args.places.now.entries in
-    let few : length batch.puts < 65536 = room-few j (length batch.puts) (omega (arith, c.requires.fits)) in
-    let low : length (filter (is_kept places) batch.deletes) < 65536 = omega (arith, few-needed places batch c.requires.batch, c.requires.numbered.few) in
-    (holds-appended g.H.Host.told j c.in_ok-journal.journal (o c.args.host.now) (image j.unit (o c.append_batch.new.host).now) places c.apply.new.places.entries batch c.requires.stands tells c.requires.batch few low
-    c.in_ok-journal.ensures.places.1 c.requires.placed (c.requires.holds tells) (c.in_ok-journal.ensures.committed tells)
-    (λ page stand. c.apply.ensures.pages page (subst (λ (k : ℕ). StandAt page (k + 13) batch.puts) (sym c.end-first.ensures.place) stand))).1
-
-pub returns-clause-any_moment : goal.returns-clause-any_moment
-returns-clause-any_moment g c =
-    let o = g.H.Host.outside in
-    let old = image c.args.journal.unit (o c.args.host.now).now in
-    let places = c.args.places.now.entries in
-    let batch = c.args.batch.now in
-    let few : length batch.puts < 65536 = room-few c.args.journal (length batch.puts) (omega (arith, c.requires.fits)) in
-    λ tells.
-    let h = c.requires.holds tells in
-    let f = page_of c.args.journal h.payloads in
-    let entries = lifted f places in
-    let same : needed places batch ≡ needed entries batch = sym (needed-lifted f places batch) in
-    let low : length (filter (is_kept entries) batch.deletes) < 65536 = omega (arith, few-needed places batch c.requires.batch, c.requires.numbered.few, ap (λ (ch : Change). length ch.deletes) same) in
-    Leaves-weaken {P = ReadsAsEither (records old) (appended (records old) (written_change (needed places batch)))} {Q = IsBeforeOrAfter batch old}
-    (λ left either. appended-either entries batch old left c.requires.batch few low h.holds (subst (λ (ch : Change). ReadsAsEither (records old) (appended (records old) (written_change ch)) left) same either)) (c.append_batch.ensures.any_moment tells)
+    let few : length new < 65536 = cap-few c.args.journal.blocks (length new) c.args.journal.not_too_many (omega (arith, size, ap (λ s. set.len s) c.apply.ensures.numbers, c.requires.ready.live)) in
+    numbered-placed c.in_ok-journal.journal new c.apply.ensures.unique few (returns-clause-book g c).placed
 
 pub returns-clause-costs : goal.returns-clause-costs
 returns-clause-costs g c =
@@ -108,6 +103,6 @@ returns-clause-caches g c = λ tells.
     let o = g.H.Host.outside in
     let j = c.args.journal in
     let ends = c.in_ok-journal.ensures.places in
-    let h = c.requires.holds tells in
-    cached-appended g.H.Host.told j c.in_ok-journal.journal (o c.args.host.now) (image j.unit (o c.append_batch.new.host).now) (written_change (needed c.args.places.now.entries c.args.batch.now)) c.requires.stands tells ends.1 (omega (arith, ends.0))
-    (c.in_ok-journal.ensures.committed tells) h.payloads h.read
+    let h = c.requires.book.holds tells in
+    cached-appended g.H.Host.told j c.in_ok-journal.journal (o c.args.host.now) (image j.unit (o c.append_batch.new.host).now) (written_change (needed c.args.places.now.entries c.args.batch.now)) c.requires.book.stands tells ends.1 (omega (arith, ends.0))
+    (c.in_ok-journal.ensures.rewrites.committed tells) h.payloads h.read

@@ -3,7 +3,8 @@ use Rattle.newt_host.specs.Moments.{Moment, image}
 use Rattle.newt_spec_image.specs.Pages.{written_put}
 use Rattle.newt_spec_image.specs.Records.{records}
 use Rattle.newt_journal.specs.Draft.{unit_of}
-use Rattle.newt_pages.proofs.Copying.{stays-looked, stays-kept, stays-two, draft-looked, writes-looked}
+use Rattle.newt_pagelog.proofs.Stepping.{stays-kept, stays-two}
+use Rattle.newt_pages.proofs.Copying.{stays-looked, draft-looked, writes-looked}
 use Rattle.newt_pages.proofs.switch.copy_page.Goals as goal
 
 pub returns-in_err-read_at-clause-stays : goal.returns-in_err-read_at-clause-stays

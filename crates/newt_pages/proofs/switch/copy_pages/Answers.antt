@@ -4,8 +4,9 @@ use Rattle.newt_journal.specs.Draft.{unit_of}
 use Rattle.newt_journal.specs.declared.journal.Journal.{Journal}
 use Rattle.newt_pagelog.specs.Placed.{ArePlaced}
 use Rattle.newt_pagelog.proofs.Failing.{on-err, rose-over}
+use Rattle.newt_pagelog.proofs.Stepping.{stays-two, stays-on, steady-on}
 use Rattle.newt_pages.specs.Copies.{below, place_at, CopiesAll}
-use Rattle.newt_pages.proofs.Copying.{stays-start, stays-two, stays-on, steady-on, copies-none, copies-two, copies-same, below-none, below-more, below-room}
+use Rattle.newt_pages.proofs.Copying.{stays-start, copies-none, copies-two, copies-same, below-none, below-more, below-room}
 use Rattle.newt_pages.proofs.switch.copy_pages.Goals as goal
 
 pub loop-number-init : goal.loop-number-init

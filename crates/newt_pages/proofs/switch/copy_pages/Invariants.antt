@@ -1,5 +1,6 @@
 use Rattle.newt_journal.specs.Draft.{unit_of}
-use Rattle.newt_pages.specs.Copies.{below, Stays, CopiesAll}
+use Rattle.newt_pagelog.specs.Steps.{Stays}
+use Rattle.newt_pages.specs.Copies.{below, CopiesAll}
 use Rattle.newt_pages.proofs.switch.copy_pages.Given as goal
 
 abbrev pub invariant-loop-number : goal.invariant-loop-number

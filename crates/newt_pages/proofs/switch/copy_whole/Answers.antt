@@ -9,9 +9,8 @@ use Rattle.newt_journal.specs.Draft.{unit_of}
 use Rattle.newt_journal.specs.declared.journal.Journal.{Journal}
 use Rattle.newt_pagelog.specs.Kept.{all_of}
 use Rattle.newt_pagelog.specs.Placed.{lifted, page_of}
-use Rattle.newt_pagelog.proofs.Stepping.{writes-two, writes-same, written-all}
+use Rattle.newt_pagelog.proofs.Stepping.{writes-two, writes-same, written-all, stays-kept, stays-two, stays-on}
 use Rattle.newt_pages.specs.Copies.{below}
-use Rattle.newt_pages.proofs.Copying.{stays-kept, stays-two, stays-on}
 use Rattle.newt_pages.proofs.switch.copy_whole.Goals as goal
 
 pub returns-in_err-copy_pages-clause-stays : goal.returns-in_err-copy_pages-clause-stays

@@ -1,205 +1,84 @@
-use Rattle.std.proofs.Common.{IsTrue, ◌≡◌, ℕ, true, List, [], ◌∷◌, ◌++◌, Some, sym, ◌∙◌, ap, subst}
-use Rattle.newt_host.specs.Moments.{image, Leaves}
+use Rattle.std.proofs.Common.{IsTrue, Bool, ◌≡◌, ℕ, true, List, [], ◌∷◌, ◌++◌, Some, sym, ◌∙◌, ap, subst}
+use Rattle.newt_host.specs.Moments.{image}
+use Rattle.newt_host.specs.Outside.{Outside}
 use Rattle.newt_host.proofs.Outside.{Touches-append}
 use Rattle.newt_spec_image.specs.Records.{records}
-use Rattle.newt_spec_image.specs.Pages.{written_change}
-use Rattle.newt_journal.specs.Journal.{ReadsAsEither}
-use Rattle.newt_journal.specs.Draft.{unit_of, journal_of}
+use Rattle.newt_spec_image.specs.Pages.{Put, written_change}
+use Rattle.newt_journal.specs.Draft.{unit_of}
+use Rattle.newt_journal.specs.declared.draft.Draft.{Draft}
 use Rattle.newt_journal.specs.declared.journal.Journal.{Journal}
 use Rattle.newt_pagelog.specs.Kept.{Entries, all_of}
-use Rattle.newt_pagelog.specs.Placed.{lifted, page_of, ArePlaced}
-use Rattle.newt_pagelog.proofs.Committing.{two-leaves, two-moments, written-moments, first-either, finish-leaves, finish-records, finish-open, touches-on}
-use Rattle.newt_pagelog.proofs.Stepping.{put-keeps, steady-after}
-use Rattle.newt_pages.specs.Copies.{below}
-use Rattle.newt_pages.proofs.Copying.{steady-on}
+use Rattle.newt_pagelog.specs.Placed.{Places, lifted, page_of, ArePlaced}
+use Rattle.newt_pagelog.specs.Steps.{Begins}
+use Rattle.newt_pagelog.proofs.Committing.{stays-begun, written, stopped, stopped-late, finished, finish-leaves, rewrites-same, touches-on}
+use Rattle.newt_pagelog.proofs.Failing.{rose-over}
+use Rattle.newt_pages.specs.Copies.{CopiesWhole}
 use Rattle.newt_pages.proofs.switch.replace_all.Goals as goal
 
-pub returns-in_err-repair-clause-any_moment : goal.returns-in_err-repair-clause-any_moment
-returns-in_err-repair-clause-any_moment g c =
-    let o = g.H.Host.outside in
-    let told = g.H.Host.told in
-    let u = c.args.journal.unit in
-    let j = c.repair.new.self in
-    let its : j.unit ≡ u = ap (λ (j : Journal). j.unit) c.repair.ensures.same in
-    let before = records (image u (o c.args.host.now).now) in
-    λ tells payloads is. first-either u before _ (o c.args.host.now).now (o c.repair.new.host).now (c.repair.ensures.reads_at_any_moment tells)
-
-pub returns-in_err-draft-clause-any_moment : goal.returns-in_err-draft-clause-any_moment
-returns-in_err-draft-clause-any_moment g c =
-    let o = g.H.Host.outside in
-    let told = g.H.Host.told in
-    let u = c.args.journal.unit in
-    let j = c.repair.new.self in
-    let its : j.unit ≡ u = ap (λ (j : Journal). j.unit) c.repair.ensures.same in
-    let before = records (image u (o c.args.host.now).now) in
-    let begun = two-leaves told u j.unit 21 (o c.args.host.now) (o c.repair.new.host) (o c.switch.new.host) its c.repair.ensures.reads_at_any_moment c.in_ok-repair.ensures.reads
-    (put-keeps told j.unit 21 (o c.repair.new.host) (o c.switch.new.host) c.switch.ensures.any_moment c.switch.ensures.alone c.switch.ensures.costs) in
-    λ tells payloads is. first-either u before _ (o c.args.host.now).now (o c.switch.new.host).now (begun tells)
-
-pub copy_whole-requires-clause-steady : goal.copy_whole-requires-clause-steady
-copy_whole-requires-clause-steady g c = λ tells.
-    let o = g.H.Host.outside in
-    let j = c.repair.new.self in
-    steady-on j.unit (unit_of c.in_ok-draft.draft) (o c.switch.new.host).now (sym c.in_ok-draft.ensures.draft.1)
-    (steady-after j.unit (o c.repair.new.host).now (o c.switch.new.host).now (c.switch.ensures.any_moment tells) (c.in_ok-draft.ensures.same tells))
+-- the record that was written, where the payloads of the records are known
+payload_is : (told : Bool) (j : Journal) (len : ℕ) (places : Places) (puts : List Put) (payloads : List (List ℕ)) (x y : Draft) (a b c : Outside) → Begins told j len true x a b
+    → (whole : CopiesWhole told (unit_of x) places puts x y b c) → (IsTrue told → records (image j.unit a.now) ≡ Some payloads)
+    → IsTrue told → Some (written_change (all_of (whole.pages ++ puts)) ∷ []) ≡ Some (written_change (all_of (lifted (page_of j payloads) places ++ puts)) ∷ [])
+payload_is told j len places puts payloads x y a b c begins whole read tells =
+    let there : records (image (unit_of x) b.now) ≡ Some payloads = ap (λ (v : ℕ). records (image v b.now)) begins.on ∙ begins.same tells ∙ read tells in
+    ap (λ (es : Entries). Some (written_change (all_of (es ++ puts)) ∷ [])) (whole.shows tells payloads there ∙ ap (λ (j : Journal). lifted (page_of j payloads) places) begins.holds)
 
 pub copy_whole-requires-clause-placed : goal.copy_whole-requires-clause-placed
-copy_whole-requires-clause-placed g c = subst (λ (j : Journal). ArePlaced j c.args.places.now.entries) (sym (c.in_ok-draft.ensures.holds ∙ c.repair.ensures.same)) c.requires.placed
+copy_whole-requires-clause-placed g c = subst (λ (j : Journal). ArePlaced j c.args.places.now.entries) (sym c.in_ok-draft.ensures.begins.holds) c.requires.placed
 
-pub returns-in_err-copy_whole-clause-any_moment : goal.returns-in_err-copy_whole-clause-any_moment
-returns-in_err-copy_whole-clause-any_moment g c =
+pub returns-in_err-draft-clause-rewrites : goal.returns-in_err-draft-clause-rewrites
+returns-in_err-draft-clause-rewrites g c = λ payloads read.
+    let o = g.H.Host.outside in
+    stopped g.H.Host.told c.args.journal _ c.from_residual.result (o c.args.host.now) (o c.begin_alone.new.host) c.from_residual.ensures.0 c.in_err-draft.ensures.cause c.begin_alone.ensures.stays
+
+pub returns-in_err-copy_whole-clause-rewrites : goal.returns-in_err-copy_whole-clause-rewrites
+returns-in_err-copy_whole-clause-rewrites g c = λ payloads read.
     let o = g.H.Host.outside in
     let told = g.H.Host.told in
-    let u = c.args.journal.unit in
-    let j = c.repair.new.self in
-    let its : j.unit ≡ u = ap (λ (j : Journal). j.unit) c.repair.ensures.same in
-    let before = records (image u (o c.args.host.now).now) in
-    let begun = two-leaves told u j.unit 21 (o c.args.host.now) (o c.repair.new.host) (o c.switch.new.host) its c.repair.ensures.reads_at_any_moment c.in_ok-repair.ensures.reads
-    (put-keeps told j.unit 21 (o c.repair.new.host) (o c.switch.new.host) c.switch.ensures.any_moment c.switch.ensures.alone c.switch.ensures.costs) in
-    let dr = c.in_ok-draft.ensures.draft in
+    let j = c.args.journal in
     let d = c.in_ok-draft.draft in
-    let same : IsTrue told → records (image u (o c.switch.new.host).now) ≡ before = λ tells.
-    subst (λ (v : ℕ). records (image v (o c.switch.new.host).now) ≡ records (image v (o c.repair.new.host).now)) its (c.in_ok-draft.ensures.same tells) ∙ c.in_ok-repair.ensures.reads tells in
-    λ tells payloads is. first-either u before _ (o c.args.host.now).now (o c.copy_whole.new.host).now
-    (two-moments told u (unit_of d) (o c.args.host.now) (o c.switch.new.host) (o c.copy_whole.new.host) (dr.1 ∙ its) begun same c.copy_whole.ensures.stays.any_moment tells)
+    let a = o c.args.host.now in
+    let b = o c.begin_alone.new.host in
+    let m = o c.copy_whole.new.host in
+    let begins = c.in_ok-draft.ensures.begins in
+    let begun = c.begin_alone.ensures.stays in
+    stopped told j _ c.from_residual-in_err-copy_whole.result a m c.from_residual-in_err-copy_whole.ensures.0 (rose-over (unit_of d) j.unit a b m begins.on begun.alone c.in_err-copy_whole.ensures.cause)
+    (stays-begun told j _ true d a b m begins begun c.copy_whole.ensures.stays)
 
-pub returns-in_err-journal-clause-any_moment : goal.returns-in_err-journal-clause-any_moment
-returns-in_err-journal-clause-any_moment g c =
+pub returns-in_err-journal-clause-rewrites : goal.returns-in_err-journal-clause-rewrites
+returns-in_err-journal-clause-rewrites g c = λ payloads read.
     let o = g.H.Host.outside in
     let told = g.H.Host.told in
-    let u = c.args.journal.unit in
-    let j = c.repair.new.self in
-    let its : j.unit ≡ u = ap (λ (j : Journal). j.unit) c.repair.ensures.same in
-    let before = records (image u (o c.args.host.now).now) in
-    let begun = two-leaves told u j.unit 21 (o c.args.host.now) (o c.repair.new.host) (o c.switch.new.host) its c.repair.ensures.reads_at_any_moment c.in_ok-repair.ensures.reads
-    (put-keeps told j.unit 21 (o c.repair.new.host) (o c.switch.new.host) c.switch.ensures.any_moment c.switch.ensures.alone c.switch.ensures.costs) in
-    let dr = c.in_ok-draft.ensures.draft in
+    let j = c.args.journal in
     let d = c.in_ok-draft.draft in
-    let same : IsTrue told → records (image u (o c.switch.new.host).now) ≡ before = λ tells.
-    subst (λ (v : ℕ). records (image v (o c.switch.new.host).now) ≡ records (image v (o c.repair.new.host).now)) its (c.in_ok-draft.ensures.same tells) ∙ c.in_ok-repair.ensures.reads tells in
+    let y = c.copy_whole.new.draft in
     let whole = c.in_ok-copy_whole.ensures.ok in
     let payload : List ℕ = written_change (all_of (whole.pages ++ c.args.puts.now)) in
-    let e = c.copy_whole.new.draft in
-    let w = written-moments told u true payload d e (o c.args.host.now) (o c.switch.new.host) (o c.copy_whole.new.host) (dr.1 ∙ its) dr.4 c.in_ok-draft.ensures.empty same begun c.copy_whole.ensures.stays.any_moment whole.writes in
-    λ tells payloads is.
-    let held : journal_of d ≡ c.args.journal = c.in_ok-draft.ensures.holds ∙ c.repair.ensures.same in
-    let shown : payload ≡ written_change (all_of (lifted (page_of c.args.journal payloads) (below 65536 c.args.places.now.entries) ++ c.args.puts.now)) =
-    ap (λ (es : Entries). written_change (all_of (es ++ c.args.puts.now)))
-    (whole.shows tells payloads (ap (λ (v : ℕ). records (image v (o c.switch.new.host).now)) (dr.1 ∙ its) ∙ same tells ∙ is) ∙ ap (λ (j : Journal). lifted (page_of j payloads) (below 65536 c.args.places.now.entries)) held) in
-    subst (λ (l : List ℕ). Leaves u (ReadsAsEither before (Some (l ∷ []))) (o c.args.host.now).now (o c.finish.new.host).now) shown
-    (finish-leaves told u true payload e (o c.args.host.now) (o c.copy_whole.new.host) (o c.finish.new.host) w tells (c.finish.ensures.any_moment tells))
+    let a = o c.args.host.now in
+    let b = o c.begin_alone.new.host in
+    let m = o c.copy_whole.new.host in
+    let n = o c.finish.new.host in
+    let begins = c.in_ok-draft.ensures.begins in
+    let w = written told j _ true payload d y a b m begins c.begin_alone.ensures.stays c.copy_whole.ensures.stays whole.writes in
+    rewrites-same told j (Some (payload ∷ [])) _ c.from_residual-in_err-journal.result a n (payload_is told j _ _ c.args.puts.now payloads d y a b m begins whole read)
+    (stopped-late told j (Some (payload ∷ [])) c.from_residual-in_err-journal.result a n c.from_residual-in_err-journal.ensures.0 (rose-over (unit_of y) j.unit a m n w.on w.stays.alone c.in_err-journal.ensures.cause)
+    (λ tells. finish-leaves told j.unit true payload y a m n w tells (c.finish.ensures.any_moment tells)) (Touches-append w.stays.alone (touches-on (unit_of y) j.unit m n w.on c.finish.ensures.alone)))
 
-pub returns-clause-any_moment : goal.returns-clause-any_moment
-returns-clause-any_moment g c =
+pub returns-clause-rewrites : goal.returns-clause-rewrites
+returns-clause-rewrites g c = λ payloads read.
     let o = g.H.Host.outside in
     let told = g.H.Host.told in
-    let u = c.args.journal.unit in
-    let j = c.repair.new.self in
-    let its : j.unit ≡ u = ap (λ (j : Journal). j.unit) c.repair.ensures.same in
-    let before = records (image u (o c.args.host.now).now) in
-    let begun = two-leaves told u j.unit 21 (o c.args.host.now) (o c.repair.new.host) (o c.switch.new.host) its c.repair.ensures.reads_at_any_moment c.in_ok-repair.ensures.reads
-    (put-keeps told j.unit 21 (o c.repair.new.host) (o c.switch.new.host) c.switch.ensures.any_moment c.switch.ensures.alone c.switch.ensures.costs) in
-    let dr = c.in_ok-draft.ensures.draft in
+    let j = c.args.journal in
     let d = c.in_ok-draft.draft in
-    let same : IsTrue told → records (image u (o c.switch.new.host).now) ≡ before = λ tells.
-    subst (λ (v : ℕ). records (image v (o c.switch.new.host).now) ≡ records (image v (o c.repair.new.host).now)) its (c.in_ok-draft.ensures.same tells) ∙ c.in_ok-repair.ensures.reads tells in
+    let y = c.copy_whole.new.draft in
     let whole = c.in_ok-copy_whole.ensures.ok in
     let payload : List ℕ = written_change (all_of (whole.pages ++ c.args.puts.now)) in
-    let e = c.copy_whole.new.draft in
-    let w = written-moments told u true payload d e (o c.args.host.now) (o c.switch.new.host) (o c.copy_whole.new.host) (dr.1 ∙ its) dr.4 c.in_ok-draft.ensures.empty same begun c.copy_whole.ensures.stays.any_moment whole.writes in
-    λ tells payloads is.
-    let held : journal_of d ≡ c.args.journal = c.in_ok-draft.ensures.holds ∙ c.repair.ensures.same in
-    let shown : payload ≡ written_change (all_of (lifted (page_of c.args.journal payloads) (below 65536 c.args.places.now.entries) ++ c.args.puts.now)) =
-    ap (λ (es : Entries). written_change (all_of (es ++ c.args.puts.now)))
-    (whole.shows tells payloads (ap (λ (v : ℕ). records (image v (o c.switch.new.host).now)) (dr.1 ∙ its) ∙ same tells ∙ is) ∙ ap (λ (j : Journal). lifted (page_of j payloads) (below 65536 c.args.places.now.entries)) held) in
-    subst (λ (l : List ℕ). Leaves u (ReadsAsEither before (Some (l ∷ []))) (o c.args.host.now).now (o c.finish.new.host).now) shown
-    (finish-leaves told u true payload e (o c.args.host.now) (o c.copy_whole.new.host) (o c.finish.new.host) w tells (c.finish.ensures.any_moment tells))
-
-pub returns-clause-committed : goal.returns-clause-committed
-returns-clause-committed g c =
-    let o = g.H.Host.outside in
-    let told = g.H.Host.told in
-    let u = c.args.journal.unit in
-    let j = c.repair.new.self in
-    let its : j.unit ≡ u = ap (λ (j : Journal). j.unit) c.repair.ensures.same in
-    let before = records (image u (o c.args.host.now).now) in
-    let begun = two-leaves told u j.unit 21 (o c.args.host.now) (o c.repair.new.host) (o c.switch.new.host) its c.repair.ensures.reads_at_any_moment c.in_ok-repair.ensures.reads
-    (put-keeps told j.unit 21 (o c.repair.new.host) (o c.switch.new.host) c.switch.ensures.any_moment c.switch.ensures.alone c.switch.ensures.costs) in
-    let dr = c.in_ok-draft.ensures.draft in
-    let d = c.in_ok-draft.draft in
-    let same : IsTrue told → records (image u (o c.switch.new.host).now) ≡ before = λ tells.
-    subst (λ (v : ℕ). records (image v (o c.switch.new.host).now) ≡ records (image v (o c.repair.new.host).now)) its (c.in_ok-draft.ensures.same tells) ∙ c.in_ok-repair.ensures.reads tells in
-    let whole = c.in_ok-copy_whole.ensures.ok in
-    let payload : List ℕ = written_change (all_of (whole.pages ++ c.args.puts.now)) in
-    let e = c.copy_whole.new.draft in
-    let w = written-moments told u true payload d e (o c.args.host.now) (o c.switch.new.host) (o c.copy_whole.new.host) (dr.1 ∙ its) dr.4 c.in_ok-draft.ensures.empty same begun c.copy_whole.ensures.stays.any_moment whole.writes in
-    λ tells payloads is.
-    let held : journal_of d ≡ c.args.journal = c.in_ok-draft.ensures.holds ∙ c.repair.ensures.same in
-    let shown : payload ≡ written_change (all_of (lifted (page_of c.args.journal payloads) (below 65536 c.args.places.now.entries) ++ c.args.puts.now)) =
-    ap (λ (es : Entries). written_change (all_of (es ++ c.args.puts.now)))
-    (whole.shows tells payloads (ap (λ (v : ℕ). records (image v (o c.switch.new.host).now)) (dr.1 ∙ its) ∙ same tells ∙ is) ∙ ap (λ (j : Journal). lifted (page_of j payloads) (below 65536 c.args.places.now.entries)) held) in
-    finish-records told u true payload e (o c.args.host.now) (o c.copy_whole.new.host) (o c.finish.new.host) w tells (c.in_ok-journal.ensures.committed tells) ∙ ap (λ (l : List ℕ). Some (l ∷ [])) shown
-
-pub returns-clause-blank : goal.returns-clause-blank
-returns-clause-blank g c =
-    let o = g.H.Host.outside in
-    let told = g.H.Host.told in
-    let u = c.args.journal.unit in
-    let j = c.repair.new.self in
-    let its : j.unit ≡ u = ap (λ (j : Journal). j.unit) c.repair.ensures.same in
-    let before = records (image u (o c.args.host.now).now) in
-    let begun = two-leaves told u j.unit 21 (o c.args.host.now) (o c.repair.new.host) (o c.switch.new.host) its c.repair.ensures.reads_at_any_moment c.in_ok-repair.ensures.reads
-    (put-keeps told j.unit 21 (o c.repair.new.host) (o c.switch.new.host) c.switch.ensures.any_moment c.switch.ensures.alone c.switch.ensures.costs) in
-    let dr = c.in_ok-draft.ensures.draft in
-    let d = c.in_ok-draft.draft in
-    let same : IsTrue told → records (image u (o c.switch.new.host).now) ≡ before = λ tells.
-    subst (λ (v : ℕ). records (image v (o c.switch.new.host).now) ≡ records (image v (o c.repair.new.host).now)) its (c.in_ok-draft.ensures.same tells) ∙ c.in_ok-repair.ensures.reads tells in
-    let whole = c.in_ok-copy_whole.ensures.ok in
-    let payload : List ℕ = written_change (all_of (whole.pages ++ c.args.puts.now)) in
-    let e = c.copy_whole.new.draft in
-    let w = written-moments told u true payload d e (o c.args.host.now) (o c.switch.new.host) (o c.copy_whole.new.host) (dr.1 ∙ its) dr.4 c.in_ok-draft.ensures.empty same begun c.copy_whole.ensures.stays.any_moment whole.writes in
-    λ tells. finish-open told u true payload e (o c.args.host.now) (o c.copy_whole.new.host) (o c.finish.new.host) w tells _ (c.in_ok-journal.ensures.rest tells)
-
-pub returns-in_err-journal-clause-alone : goal.returns-in_err-journal-clause-alone
-returns-in_err-journal-clause-alone g c =
-    let o = g.H.Host.outside in
-    let told = g.H.Host.told in
-    let u = c.args.journal.unit in
-    let j = c.repair.new.self in
-    let its : j.unit ≡ u = ap (λ (j : Journal). j.unit) c.repair.ensures.same in
-    let before = records (image u (o c.args.host.now).now) in
-    let begun = two-leaves told u j.unit 21 (o c.args.host.now) (o c.repair.new.host) (o c.switch.new.host) its c.repair.ensures.reads_at_any_moment c.in_ok-repair.ensures.reads
-    (put-keeps told j.unit 21 (o c.repair.new.host) (o c.switch.new.host) c.switch.ensures.any_moment c.switch.ensures.alone c.switch.ensures.costs) in
-    let dr = c.in_ok-draft.ensures.draft in
-    let d = c.in_ok-draft.draft in
-    let same : IsTrue told → records (image u (o c.switch.new.host).now) ≡ before = λ tells.
-    subst (λ (v : ℕ). records (image v (o c.switch.new.host).now) ≡ records (image v (o c.repair.new.host).now)) its (c.in_ok-draft.ensures.same tells) ∙ c.in_ok-repair.ensures.reads tells in
-    let whole = c.in_ok-copy_whole.ensures.ok in
-    let payload : List ℕ = written_change (all_of (whole.pages ++ c.args.puts.now)) in
-    let e = c.copy_whole.new.draft in
-    let w = written-moments told u true payload d e (o c.args.host.now) (o c.switch.new.host) (o c.copy_whole.new.host) (dr.1 ∙ its) dr.4 c.in_ok-draft.ensures.empty same begun c.copy_whole.ensures.stays.any_moment whole.writes in
-    Touches-append c.repair.ensures.alone (Touches-append (touches-on j.unit u (o c.repair.new.host) (o c.switch.new.host) its c.switch.ensures.alone) (Touches-append
-    (touches-on (unit_of d) u (o c.switch.new.host) (o c.copy_whole.new.host) (dr.1 ∙ its) c.copy_whole.ensures.stays.alone)
-    (touches-on (unit_of e) u (o c.copy_whole.new.host) (o c.finish.new.host) w.on c.finish.ensures.alone)))
-
-pub returns-clause-alone : goal.returns-clause-alone
-returns-clause-alone g c =
-    let o = g.H.Host.outside in
-    let told = g.H.Host.told in
-    let u = c.args.journal.unit in
-    let j = c.repair.new.self in
-    let its : j.unit ≡ u = ap (λ (j : Journal). j.unit) c.repair.ensures.same in
-    let before = records (image u (o c.args.host.now).now) in
-    let begun = two-leaves told u j.unit 21 (o c.args.host.now) (o c.repair.new.host) (o c.switch.new.host) its c.repair.ensures.reads_at_any_moment c.in_ok-repair.ensures.reads
-    (put-keeps told j.unit 21 (o c.repair.new.host) (o c.switch.new.host) c.switch.ensures.any_moment c.switch.ensures.alone c.switch.ensures.costs) in
-    let dr = c.in_ok-draft.ensures.draft in
-    let d = c.in_ok-draft.draft in
-    let same : IsTrue told → records (image u (o c.switch.new.host).now) ≡ before = λ tells.
-    subst (λ (v : ℕ). records (image v (o c.switch.new.host).now) ≡ records (image v (o c.repair.new.host).now)) its (c.in_ok-draft.ensures.same tells) ∙ c.in_ok-repair.ensures.reads tells in
-    let whole = c.in_ok-copy_whole.ensures.ok in
-    let payload : List ℕ = written_change (all_of (whole.pages ++ c.args.puts.now)) in
-    let e = c.copy_whole.new.draft in
-    let w = written-moments told u true payload d e (o c.args.host.now) (o c.switch.new.host) (o c.copy_whole.new.host) (dr.1 ∙ its) dr.4 c.in_ok-draft.ensures.empty same begun c.copy_whole.ensures.stays.any_moment whole.writes in
-    Touches-append c.repair.ensures.alone (Touches-append (touches-on j.unit u (o c.repair.new.host) (o c.switch.new.host) its c.switch.ensures.alone) (Touches-append
-    (touches-on (unit_of d) u (o c.switch.new.host) (o c.copy_whole.new.host) (dr.1 ∙ its) c.copy_whole.ensures.stays.alone)
-    (touches-on (unit_of e) u (o c.copy_whole.new.host) (o c.finish.new.host) w.on c.finish.ensures.alone)))
+    let a = o c.args.host.now in
+    let b = o c.begin_alone.new.host in
+    let m = o c.copy_whole.new.host in
+    let n = o c.finish.new.host in
+    let begins = c.in_ok-draft.ensures.begins in
+    let w = written told j _ true payload d y a b m begins c.begin_alone.ensures.stays c.copy_whole.ensures.stays whole.writes in
+    let f = c.in_ok-journal.ensures in
+    rewrites-same told j (Some (payload ∷ [])) _ _ a n (payload_is told j _ _ c.args.puts.now payloads d y a b m begins whole read)
+    (finished told j true payload y a m n w c.in_ok-journal.journal (f.journal.0, f.journal.1) f.committed _ f.rest c.finish.ensures.any_moment c.finish.ensures.alone)

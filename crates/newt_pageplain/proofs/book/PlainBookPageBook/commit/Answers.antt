@@ -58,28 +58,29 @@ returns-in-Ok g c =
     let before : Outside = o c.args.host.now in
     let behind : Outside = o c.commit_with.new.host in
     let old : Moment = before.now in
+    let e = c.commit_with.ensures in
     let new : Moment = behind.now in
-    let done = same-done g.H.Host.told c.in-Some.journal.unit c.args.self.now.unit batch before behind on (record { any_moment = c.commit_with.ensures.any_moment; bound = c.commit_with.ensures.bound; alone = c.commit_with.ensures.alone }) in
+    let done = same-done g.H.Host.told c.in-Some.journal.unit c.args.self.now.unit batch before behind on (record { any_moment = e.commits.any_moment; bound = e.bound; alone = e.commits.alone }) in
     let limit : c.cap.result ≡ cap (before.blocks c.args.self.now.unit) = c.cap.ensures ∙ ap cap c.blocks-2.ensures in
     record {
       book = record {
         its = c.in-Ok.journal;
         is = refl;
-        stands = c.in-Ok.ensures.journal.0;
-        on = c.in-Ok.ensures.journal.1 ∙ on;
-        holds = λ tells. subst (λ (v : ℕ). pages (image v new) ≡ option_map (after batch) (pages (image v old))) on (c.in-Ok.ensures.committed tells)
+        stands = c.in-Ok.ensures.commits.stands.0;
+        on = c.in-Ok.ensures.commits.stands.1 ∙ on;
+        holds = λ tells. subst (λ (v : ℕ). pages (image v new) ≡ option_map (after batch) (pages (image v old))) on (c.in-Ok.ensures.commits.committed tells)
             ∙ ap (option_map (after batch)) (s.holds tells) ∙ ap (λ (m : Pages). Some m) (sym c.in-Ok.ensures.pages);
       };
       place = refl;
       numbers = numbers-after c.args.self.now.pages.entries c.commit_with.new.pages.entries batch c.in-Ok.ensures.pages;
-      committed = λ tells. subst (λ (v : ℕ). ReadsChanged batch (image v old) (image v new)) on (c.in-Ok.ensures.committed tells);
+      committed = λ tells. subst (λ (v : ℕ). ReadsChanged batch (image v old) (image v new)) on (c.in-Ok.ensures.commits.committed tells);
       any_moment = done.any_moment;
       full = λ bad. absurd (not-err bad);
       fits = λ more. absurd (not-more c.live_after.result c.cap.result _ _ c.live_after.ensures limit c.if-live_after-cap.false more);
       unchanged = λ bad. absurd (not-err bad);
       nothing_done = λ bad. absurd (not-err bad);
       bound = done.bound;
-      open_after = λ tells. subst (λ (v : ℕ). IsOpenFor 0 (image v new)) on (c.in-Ok.ensures.open_after tells);
+      open_after = λ tells. subst (λ (v : ℕ). IsOpenFor 0 (image v new)) on (c.in-Ok.ensures.commits.open_after tells);
       alone = done.alone;
       cause = λ bad. absurd (not-err bad);
     }
@@ -94,8 +95,9 @@ returns-in-Err g c =
     let before : Outside = o c.args.host.now in
     let behind : Outside = o c.commit_with.new.host in
     let old : Moment = before.now in
+    let e = c.commit_with.ensures in
     let new : Moment = behind.now in
-    let done = same-done g.H.Host.told c.in-Some.journal.unit c.args.self.now.unit batch before behind on (record { any_moment = c.commit_with.ensures.any_moment; bound = c.commit_with.ensures.bound; alone = c.commit_with.ensures.alone }) in
+    let done = same-done g.H.Host.told c.in-Some.journal.unit c.args.self.now.unit batch before behind on (record { any_moment = e.commits.any_moment; bound = e.bound; alone = e.commits.alone }) in
     let limit : c.cap.result ≡ cap (before.blocks c.args.self.now.unit) = c.cap.ensures ∙ ap cap c.blocks-2.ensures in
     record {
       book = tt;
@@ -110,5 +112,5 @@ returns-in-Err g c =
       bound = done.bound;
       open_after = λ tells. tt;
       alone = done.alone;
-      cause = λ bad. subst (λ (v : ℕ). Rose (before.dev_faults v) (behind.dev_faults v)) on c.in-Err.ensures.cause;
+      cause = λ bad. subst (λ (v : ℕ). Rose (before.dev_faults v) (behind.dev_faults v)) on c.in-Err.ensures.commits.cause;
     }

@@ -1,32 +1,5 @@
-use Rattle.std.proofs.Common.{◌≡◌, ℕ, ◌≤◌, ◌<◌, true, false, sym, ◌∙◌, subst, arith}
-use Rattle.std.specs.FinSet as set
-use Rattle.newt_pagebook.proofs.Tests.{some_inj}
-use Rattle.newt_pagelog.specs.Kept.{Entries, numbers_in, is_kept, kept_number, small_with}
+use Rattle.newt_pagelog.specs.Kept.{small_with}
 use Rattle.newt_pageplain.proofs.book.PlainBookPageBook.next_page.Goals as goal
 
-not_kept : (entries : Entries) (k : ℕ) → is_kept entries k ≡ false → set.contains (numbers_in entries) k ≡ true → ⊥
-not_kept entries k gone there = let t : is_kept entries k ≡ true = sym (kept_number entries k) ∙ there in cc
-
-pub returns-then-contains_key : goal.returns-then-contains_key
-returns-then-contains_key c =
-    let entries = c.args.self.now.pages.entries in
-    let n = c.loop-number.number-counter in
-    let inv = c.loop-number.invariant in
-    let there : set.contains (numbers_in entries) n ≡ true = kept_number entries n ∙ sym c.contains_key.ensures ∙ c.if-contains_key.true in
-    record {
-      found = λ k e. subst (λ (k : ℕ). (set.contains (numbers_in entries) k ≡ true) × (c.args.from ≤ k)) (some_inj n k e) (there, inv.low);
-      small = λ k e. subst (λ (k : ℕ). k < 65536) (some_inj n k e) (small_with entries c.args.self.now.sound n there);
-      least = λ m k e low below is. not_kept entries k (inv.passed k low (subst (λ (m : ℕ). k < m) (sym (some_inj n m e)) below)) is;
-      none = λ k e. absurd (cc);
-    }
-
-pub returns : goal.returns
-returns c =
-    let entries = c.args.self.now.pages.entries in
-    let inv = c.loop-number.invariant in
-    record {
-      found = λ k e. absurd (cc);
-      small = λ k e. absurd (cc);
-      least = λ m k e. absurd (cc);
-      none = λ k e low is. not_kept entries k (inv.passed k low (let small : k < 65536 = small_with entries c.args.self.now.sound k is in omega (arith, small, c.loop-number-test.false))) is;
-    }
+pub next_page-requires : goal.next_page-requires
+next_page-requires c = small_with c.args.self.now.pages.entries c.args.self.now.sound

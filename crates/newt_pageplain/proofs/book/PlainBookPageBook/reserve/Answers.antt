@@ -14,7 +14,7 @@ invariant_of-self-2 c =
     let moved = c.reserve.ensures.entries in
     record {
       sound = sound-reordered c.args.self.now.pages.entries c.reserve.new.self.entries moved.0 moved.1 moved.2 c.args.self.now.sound;
-      fits = omega (arith, c.larger-self.ensures.one, c.in_ok-reserve.ensures.ok, c.reserve.ensures.spare, c.args.self.now.fits);
+      fits = omega (arith, c.max-self.ensures, c.in_ok-reserve.ensures.ok, c.reserve.ensures.spare, c.args.self.now.fits);
     }
 
 pub returns-clause-same : goal.returns-clause-same

@@ -4,7 +4,7 @@ use Rattle.newt_host.proofs.Moments.{Leaves-start}
 use Rattle.newt_spec_image.specs.Pages.{pages}
 use Rattle.newt_pagebook.specs.Book.{IsBeforeOrAfter}
 use Rattle.newt_pagelog.specs.Placed.{HoldsAt}
-use Rattle.newt_pages.specs.Disk.{AreCached, tells_with}
+use Rattle.newt_pages.specs.Disk.{EachIsPageAtPlace, tells_with}
 use Rattle.newt_pages.proofs.Caching.{its-on, its-caches-on}
 use Rattle.newt_pages.proofs.book.DiskBookPageBook.commit.Goals as goal
 
@@ -29,9 +29,9 @@ returns-in-Ok-clause-book g c =
     record {
       its = k;
       is = refl;
-      stands = c.in-Ok.ensures.journal.0;
-      on = c.in-Ok.ensures.journal.1 ∙ on;
-      placed = c.in-Ok.ensures.placed;
-      holds = λ tells. subst (λ (u : ℕ). HoldsAt k (image u (o c.commit_with.new.host).now) c.commit_with.new.places.entries) on (c.in-Ok.ensures.holds tells);
-      caches = λ tells. subst (λ (u : ℕ). AreCached k (image u (o c.commit_with.new.host).now) c.commit_with.new.cache.entries) on (c.in-Ok.ensures.caches tells);
+      stands = c.in-Ok.ensures.book.stands;
+      on = c.in-Ok.ensures.commits.stands.1 ∙ on;
+      placed = c.in-Ok.ensures.book.placed;
+      holds = λ tells. subst (λ (u : ℕ). HoldsAt k (image u (o c.commit_with.new.host).now) c.commit_with.new.places.entries) (c.in-Ok.ensures.commits.stands.1 ∙ on) (c.in-Ok.ensures.book.holds tells);
+      caches = λ tells. subst (λ (u : ℕ). EachIsPageAtPlace k (image u (o c.commit_with.new.host).now) c.commit_with.new.cache.entries) on (c.in-Ok.ensures.caches tells);
     }

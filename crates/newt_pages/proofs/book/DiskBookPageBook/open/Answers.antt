@@ -10,15 +10,15 @@ use Rattle.newt_pages.proofs.book.DiskBookPageBook.open.Goals as goal
 pub returns-clause-book : goal.returns-clause-book
 returns-clause-book g c =
     let o = g.H.Host.outside in
-    let j = c.in-Ok.journal in
+    let j = c.in_ok-journal.journal in
     let u = c.args.unit in
-    let its = c.in-Ok.ensures.journal in
+    let its = c.in_ok-journal.ensures.journal in
     let looks = c.replay.ensures.looks in
     let places = c.in_ok-places.places.entries in (
       record {
         its = j;
         is = refl;
-        stands = stands-on g.H.Host.told j (o c.open.new.host) (o c.replay.new.host) looks.alone looks.moment its.0;
+        stands = stands-on g.H.Host.told j (o c.open_journal.new.host) (o c.replay.new.host) looks.alone looks.moment its.0;
         on = its.1;
         placed = c.in_ok-places.ensures.placed;
         holds = λ tells. subst (λ (l : List ℕ). HoldsAt j l places) (ap (λ (m : Moment). image j.unit m) (sym looks.moment) ∙ ap (λ (v : ℕ). image v (o c.replay.new.host).now) its.1) (c.in_ok-places.ensures.pages tells);
@@ -30,4 +30,4 @@ returns-clause-book g c =
 pub returns-clause-alone : goal.returns-clause-alone
 returns-clause-alone g c =
     let o = g.H.Host.outside in
-    Touches-append c.open.ensures.alone (touches-on c.in-Ok.journal.unit c.args.unit (o c.open.new.host) (o c.replay.new.host) c.in-Ok.ensures.journal.1 c.replay.ensures.looks.alone)
+    Touches-append c.open_journal.ensures.looks.alone (touches-on c.in_ok-journal.journal.unit c.args.unit (o c.open_journal.new.host) (o c.replay.new.host) c.in_ok-journal.ensures.journal.1 c.replay.ensures.looks.alone)

@@ -1,0 +1,29 @@
+// The journal of a book is opened.
+ghost use Rattle.std.specs.Prelude.{IsTrue, ◌≡◌, ◌≤◌, None, IfOk, IsErrOf};
+ghost use Rattle.newt_host.specs.Moments.{image, IsDurable};
+ghost use Rattle.newt_host.specs.Outside.{Rose};
+ghost use Rattle.newt_spec_image.specs.Pages.{pages as pages_of};
+ghost use Rattle.newt_journal.specs.Journal.{Stands};
+ghost use Rattle.newt_pagelog.specs.Placed.{Looks};
+
+use newt_host::{Host, Unit};
+use newt_journal::{Journal, JournalFault};
+use newt_pagebook::BookFault;
+
+/// Opens the journal of a unit on which nothing is pending. It takes no memory.
+pub fn open_journal<H: Host>(host: &mut H, unit: Unit) -> Result<Journal, BookFault>
+    requires enough { 13 ≤ (H.outside host.old).blocks unit }
+    requires few { (H.outside host.old).blocks unit ≤ 4099 }
+    requires at_rest { IsTrue H.told → IsDurable unit (H.outside host.old).now }
+    ensures journal { IfOk result (λ journal. Stands H.told journal (H.outside host.new) × (journal.unit ≡ unit)) }
+    ensures not_store { IsErrOf result BookFault.NotStore → IsTrue H.told → pages_of (image unit (H.outside host.old).now) ≡ None }
+    ensures no_other { IsErrOf result BookFault.Memory → ⊥ }
+    ensures looks { Looks unit (H.outside host.old) (H.outside host.new) }
+    ensures cause { IsErrOf result BookFault.Device → Rose ((H.outside host.old).dev_faults unit) ((H.outside host.new).dev_faults unit) }
+{
+    match Journal::open(host, unit) {
+        Ok(journal) => Ok(journal),
+        Err(JournalFault::NotStore) => Err(BookFault::NotStore),
+        Err(JournalFault::Device) => Err(BookFault::Device),
+    }
+}
