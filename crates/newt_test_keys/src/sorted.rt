@@ -55,7 +55,7 @@ fn add_next(alloc: Global, index: &mut Index, order: Order, uid: u32) -> Result<
     requires { index.old.spec ≡ Some (integers order) }
     ensures { OnOk result (index.new.spec ≡ Some (integers order)) }
 {
-    index.put(key(alloc, number_of(uid))?, Uid(uid))
+    index.add(key(alloc, number_of(uid))?, Uid(uid))
 }
 
 /// An index of the entries below a number.
@@ -207,7 +207,7 @@ fn assert_seven(rt: &impl Abort, index: &Index, at: &mut Probe) {
 fn put_and_remove(rt: &impl Abort, alloc: Global, index: &mut Index) -> Result<(), AllocError>
     requires { index.old.spec ≡ None }
 {
-    index.put(Key::empty(alloc), Uid(7))?;
+    index.add(Key::empty(alloc), Uid(7))?;
     assert_seven(rt, index, &mut Probe::empty(alloc));
     index.remove(&Key::empty(alloc), Uid(7))?;
     assert!(rt; index.len() == 0);

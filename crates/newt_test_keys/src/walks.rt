@@ -3,7 +3,7 @@ use crate::calls::Call;
 use crate::keys::{literal, part};
 use newt_base::Uid;
 use newt_graph::Graph;
-use newt_index::{Index, Probe};
+use newt_index::{Index, Probe, key_in};
 use newt_keys::{IndexSpec, Key, Kind, Order, key_of};
 use newt_test_tables::expect_rows;
 use std::alloc::Global;
@@ -16,8 +16,8 @@ fn strings(alloc: Global, order: Order) -> Result<IndexSpec, Fail> {
 
 /// Adds an entry where it has a key.
 fn add(index: &mut Index, uid: u32, entry: &Graph) -> Result<(), Fail> {
-    if let Some(key) = index.key_in(entry)? {
-        index.put(key, Uid(uid))?;
+    if let Some(key) = key_in(index.allocator(), index.spec(), entry)? {
+        index.add(key, Uid(uid))?;
     }
     Ok(())
 }
