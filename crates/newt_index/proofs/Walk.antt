@@ -14,17 +14,17 @@ use Rattle.newt_keys.proofs.KeyLaw.{bytes_order}
 use Rattle.newt_keys.proofs.OrderLaws.{turns}
 use Rattle.newt_index.specs.declared.search.Slot.{Slot}
 use Rattle.newt_index.specs.Pairs.{Pair, Sorted, parts_of, pair_cmp, first, last, after, before, at_or_after, at_or_before}
-use Rattle.newt_index.specs.Kept.{pair_of, IsKept, AreKept, IsProbeOf, slot_cmp, lent}
+use Rattle.newt_index.specs.Kept.{Entry, pair_of, IsKept, AreKept, IsProbeOf, slot_cmp, lent}
 
 -- the order of the map is that of the pairs
-pub kept_cmp : (spec : Option IndexSpec) (a : Slot) (k : Key) (e : Slot × Key) → IsProbeOf spec k a.bytes.items → IsKept spec e
+pub kept_cmp : (spec : Option IndexSpec) (a : Slot) (k : Key) (e : Entry) → IsProbeOf spec k a.bytes.items → IsKept spec e
     → slot_cmp a e.0 ≡ pair_cmp (parts_of spec) (k, a.uid) (pair_of e)
 kept_cmp spec a k e ha he =
     (λ i. ordering_then (slice_cmp nat_cmp (ha.same i) (he.bytes i)) (nat_cmp a.uid e.0.uid))
     ∙ ap (λ o. ordering_then o (nat_cmp a.uid e.0.uid)) (bytes_order (parts_of spec) k e.1 ha.is_key he.is_key)
 
-filtered : (spec : Option IndexSpec) (p : Slot × Key → Bool) (q : Pair → Bool) (es : List (Slot × Key))
-    → ((e : Slot × Key) → IsKept spec e → p e ≡ q (pair_of e)) → AreKept spec es → map pair_of (filter p es) ≡ filter q (map pair_of es)
+filtered : (spec : Option IndexSpec) (p : Entry → Bool) (q : Pair → Bool) (es : List Entry)
+    → ((e : Entry) → IsKept spec e → p e ≡ q (pair_of e)) → AreKept spec es → map pair_of (filter p es) ≡ filter q (map pair_of es)
 filtered spec p q [] same kept = refl
 filtered spec p q (e ∷ es) same kept =
     let rest = filtered spec p q es same (All-tail (IsKept spec) e es kept) in
@@ -37,17 +37,17 @@ filtered spec p q (e ∷ es) same kept =
     by true false h r = cc
     by false true h r = cc
 
-pub first_taken : (es rest : List (Slot × Key)) (found : Option (Bor Slot × Bor Key)) → TakesFirst deref_pair es found rest
+pub first_taken : (es rest : List Entry) (found : Option (Bor Slot × Bor Key)) → TakesFirst deref_pair es found rest
     → option_map lent found ≡ first (map pair_of es)
 first_taken es rest None h = ap (λ xs. first (map pair_of xs)) (sym h.0)
 first_taken es rest (Some x) h = ap (λ xs. first (map pair_of xs)) (sym h)
 
-last_of : (es : List (Slot × Key)) (x : Slot × Key) → last (map pair_of (es ++ x ∷ [])) ≡ Some (pair_of x)
+last_of : (es : List Entry) (x : Slot × Key) → last (map pair_of (es ++ x ∷ [])) ≡ Some (pair_of x)
 last_of [] x = refl
 last_of (e ∷ []) x = refl
 last_of (e ∷ f ∷ es) x = last_of (f ∷ es) x
 
-pub last_taken : (es rest : List (Slot × Key)) (found : Option (Bor Slot × Bor Key)) → TakesLast deref_pair es found rest
+pub last_taken : (es rest : List Entry) (found : Option (Bor Slot × Bor Key)) → TakesLast deref_pair es found rest
     → option_map lent found ≡ last (map pair_of es)
 last_taken es rest None h = ap (λ xs. last (map pair_of xs)) (sym h.0)
 last_taken es rest (Some x) h = sym (ap (λ xs. last (map pair_of xs)) h ∙ last_of rest (deref_pair x))
@@ -61,7 +61,7 @@ not_le Less = refl
 not_le Equal = refl
 not_le Greater = refl
 
-pub after_is : (spec : Option IndexSpec) (es walk rest : List (Slot × Key)) (a : Slot) (k : Key) (found : Option (Bor Slot × Bor Key))
+pub after_is : (spec : Option IndexSpec) (es walk rest : List Entry) (a : Slot) (k : Key) (found : Option (Bor Slot × Bor Key))
     → AreKept spec es → IsProbeOf spec k a.bytes.items → walk ≡ filter (λ e. is_lt (slot_cmp a e.0) && not false) es → TakesFirst deref_pair walk found rest
     → option_map lent found ≡ after (parts_of spec) (map pair_of es) (k, a.uid)
 after_is spec es walk rest a k found kept probe w t =
@@ -70,7 +70,7 @@ after_is spec es walk rest a k found kept probe w t =
     ∙ ap first (filtered spec (λ e. is_lt (slot_cmp a e.0) && not false) (λ q. is_lt (pair_cmp (parts_of spec) (k, a.uid) q)) es
     (λ e he. and_true (is_lt (slot_cmp a e.0)) ∙ ap is_lt (kept_cmp spec a k e probe he)) kept)
 
-pub before_is : (spec : Option IndexSpec) (es walk rest : List (Slot × Key)) (a : Slot) (k : Key) (found : Option (Bor Slot × Bor Key))
+pub before_is : (spec : Option IndexSpec) (es walk rest : List Entry) (a : Slot) (k : Key) (found : Option (Bor Slot × Bor Key))
     → AreKept spec es → IsProbeOf spec k a.bytes.items → walk ≡ filter (λ e. true && not (is_le (slot_cmp a e.0))) es → TakesLast deref_pair walk found rest
     → option_map lent found ≡ before (parts_of spec) (map pair_of es) (k, a.uid)
 before_is spec es walk rest a k found kept probe w t =
@@ -86,7 +86,7 @@ from_least Greater n = refl
 from_least Equal zero = refl
 from_least Equal (suc n) = ap is_le (sym (nat_cmp_is 0 (suc n) Less (omega arith)))
 
-pub at_is : (spec : Option IndexSpec) (es walk rest : List (Slot × Key)) (a : Slot) (k : Key) (found : Option (Bor Slot × Bor Key))
+pub at_is : (spec : Option IndexSpec) (es walk rest : List Entry) (a : Slot) (k : Key) (found : Option (Bor Slot × Bor Key))
     → AreKept spec es → IsProbeOf spec k a.bytes.items → a.uid ≡ 0 → walk ≡ filter (λ e. is_le (slot_cmp a e.0) && not false) es → TakesFirst deref_pair walk found rest
     → option_map lent found ≡ at_or_after (parts_of spec) (map pair_of es) k
 at_is spec es walk rest a k found kept probe z w t =
@@ -111,7 +111,7 @@ to_greatest Equal n h = upto (4294967295) n (omega (arith, h))
         (λ e g. ap (λ o. not (is_lt o)) e)
         (λ e g. ap (λ o. not (is_lt o)) e)
 
-pub back_is : (spec : Option IndexSpec) (es walk rest : List (Slot × Key)) (a : Slot) (k : Key) (found : Option (Bor Slot × Bor Key))
+pub back_is : (spec : Option IndexSpec) (es walk rest : List Entry) (a : Slot) (k : Key) (found : Option (Bor Slot × Bor Key))
     → AreKept spec es → IsProbeOf spec k a.bytes.items → a.uid ≡ 4294967295 → walk ≡ filter (λ e. true && not (is_lt (slot_cmp a e.0))) es → TakesLast deref_pair walk found rest
     → option_map lent found ≡ at_or_before (parts_of spec) (map pair_of es) k
 back_is spec es walk rest a k found kept probe z w t =
@@ -124,34 +124,46 @@ back_is spec es walk rest a k found kept probe z w t =
     ∙ to_greatest (key_cmp (parts_of spec) k e.1) e.0.uid he.uid
     ∙ ap (λ o. not (is_gt o)) (sym (turns (parts_of spec) e.1 k he.is_key probe.is_key))) kept)
 
-pub after_seen : (v : Sorted) (bytes : List ℕ) (spec : Option IndexSpec) (es walk rest : List (Slot × Key)) (a : Slot) (k : Key) (found : Option (Bor Slot × Bor Key))
-    → record { spec = spec; pairs = map pair_of es } ≡ v → a.bytes.items ≡ bytes → AreKept spec es → IsProbeOf v.spec k bytes → walk ≡ filter (λ e. is_lt (slot_cmp a e.0) && not false) es → TakesFirst deref_pair walk found rest
+-- ---- the same over the value that a caller sees
+
+-- the entries are those of an index
+pub record Holds (v : Sorted) (spec : Option IndexSpec) (es : List Entry) : Type 0 where
+  pub seen : record { spec = spec; pairs = map pair_of es } ≡ v
+  pub kept : AreKept spec es
+
+-- entries that are lent
+pub lent_holds : (v : Sorted) (spec : Option IndexSpec) (slots es : List Entry) → es ≡ slots → record { spec = spec; pairs = map pair_of slots } ≡ v → AreKept spec slots → Holds v spec es
+lent_holds v spec slots es same seen kept =
+    subst (λ (l : List Entry). Holds v spec l) (sym same) (record { seen = seen; kept = kept })
+
+pub after_seen : (v : Sorted) (bytes : List ℕ) (spec : Option IndexSpec) (es walk rest : List Entry) (a : Slot) (k : Key) (found : Option (Bor Slot × Bor Key))
+    → Holds v spec es → a.bytes.items ≡ bytes → IsProbeOf v.spec k bytes → walk ≡ filter (λ e. is_lt (slot_cmp a e.0) && not false) es → TakesFirst deref_pair walk found rest
     → option_map lent found ≡ after (parts_of v.spec) v.pairs (k, a.uid)
-after_seen v bytes spec es walk rest a k found seen held kept probe w t =
+after_seen v bytes spec es walk rest a k found holds held probe w t =
     let Q : Sorted → Type 0 = λ u. IsProbeOf u.spec k a.bytes.items → option_map lent found ≡ after (parts_of u.spec) u.pairs (k, a.uid) in
     let R : List ℕ → Type 0 = λ bs. IsProbeOf v.spec k bs in
-    subst Q seen (λ p. after_is spec es walk rest a k found kept p w t) (subst R (sym held) probe)
+    subst Q holds.seen (λ p. after_is spec es walk rest a k found holds.kept p w t) (subst R (sym held) probe)
 
-pub before_seen : (v : Sorted) (bytes : List ℕ) (spec : Option IndexSpec) (es walk rest : List (Slot × Key)) (a : Slot) (k : Key) (found : Option (Bor Slot × Bor Key))
-    → record { spec = spec; pairs = map pair_of es } ≡ v → a.bytes.items ≡ bytes → AreKept spec es → IsProbeOf v.spec k bytes → walk ≡ filter (λ e. true && not (is_le (slot_cmp a e.0))) es → TakesLast deref_pair walk found rest
+pub before_seen : (v : Sorted) (bytes : List ℕ) (spec : Option IndexSpec) (es walk rest : List Entry) (a : Slot) (k : Key) (found : Option (Bor Slot × Bor Key))
+    → Holds v spec es → a.bytes.items ≡ bytes → IsProbeOf v.spec k bytes → walk ≡ filter (λ e. true && not (is_le (slot_cmp a e.0))) es → TakesLast deref_pair walk found rest
     → option_map lent found ≡ before (parts_of v.spec) v.pairs (k, a.uid)
-before_seen v bytes spec es walk rest a k found seen held kept probe w t =
+before_seen v bytes spec es walk rest a k found holds held probe w t =
     let Q : Sorted → Type 0 = λ u. IsProbeOf u.spec k a.bytes.items → option_map lent found ≡ before (parts_of u.spec) u.pairs (k, a.uid) in
     let R : List ℕ → Type 0 = λ bs. IsProbeOf v.spec k bs in
-    subst Q seen (λ p. before_is spec es walk rest a k found kept p w t) (subst R (sym held) probe)
+    subst Q holds.seen (λ p. before_is spec es walk rest a k found holds.kept p w t) (subst R (sym held) probe)
 
-pub at_seen : (v : Sorted) (bytes : List ℕ) (spec : Option IndexSpec) (es walk rest : List (Slot × Key)) (a : Slot) (k : Key) (found : Option (Bor Slot × Bor Key))
-    → record { spec = spec; pairs = map pair_of es } ≡ v → a.bytes.items ≡ bytes → AreKept spec es → IsProbeOf v.spec k bytes → a.uid ≡ 0 → walk ≡ filter (λ e. is_le (slot_cmp a e.0) && not false) es → TakesFirst deref_pair walk found rest
+pub at_seen : (v : Sorted) (bytes : List ℕ) (spec : Option IndexSpec) (es walk rest : List Entry) (a : Slot) (k : Key) (found : Option (Bor Slot × Bor Key))
+    → Holds v spec es → a.bytes.items ≡ bytes → IsProbeOf v.spec k bytes → a.uid ≡ 0 → walk ≡ filter (λ e. is_le (slot_cmp a e.0) && not false) es → TakesFirst deref_pair walk found rest
     → option_map lent found ≡ at_or_after (parts_of v.spec) v.pairs k
-at_seen v bytes spec es walk rest a k found seen held kept probe z w t =
+at_seen v bytes spec es walk rest a k found holds held probe z w t =
     let Q : Sorted → Type 0 = λ u. IsProbeOf u.spec k a.bytes.items → option_map lent found ≡ at_or_after (parts_of u.spec) u.pairs k in
     let R : List ℕ → Type 0 = λ bs. IsProbeOf v.spec k bs in
-    subst Q seen (λ p. at_is spec es walk rest a k found kept p z w t) (subst R (sym held) probe)
+    subst Q holds.seen (λ p. at_is spec es walk rest a k found holds.kept p z w t) (subst R (sym held) probe)
 
-pub back_seen : (v : Sorted) (bytes : List ℕ) (spec : Option IndexSpec) (es walk rest : List (Slot × Key)) (a : Slot) (k : Key) (found : Option (Bor Slot × Bor Key))
-    → record { spec = spec; pairs = map pair_of es } ≡ v → a.bytes.items ≡ bytes → AreKept spec es → IsProbeOf v.spec k bytes → a.uid ≡ 4294967295 → walk ≡ filter (λ e. true && not (is_lt (slot_cmp a e.0))) es → TakesLast deref_pair walk found rest
+pub back_seen : (v : Sorted) (bytes : List ℕ) (spec : Option IndexSpec) (es walk rest : List Entry) (a : Slot) (k : Key) (found : Option (Bor Slot × Bor Key))
+    → Holds v spec es → a.bytes.items ≡ bytes → IsProbeOf v.spec k bytes → a.uid ≡ 4294967295 → walk ≡ filter (λ e. true && not (is_lt (slot_cmp a e.0))) es → TakesLast deref_pair walk found rest
     → option_map lent found ≡ at_or_before (parts_of v.spec) v.pairs k
-back_seen v bytes spec es walk rest a k found seen held kept probe z w t =
+back_seen v bytes spec es walk rest a k found holds held probe z w t =
     let Q : Sorted → Type 0 = λ u. IsProbeOf u.spec k a.bytes.items → option_map lent found ≡ at_or_before (parts_of u.spec) u.pairs k in
     let R : List ℕ → Type 0 = λ bs. IsProbeOf v.spec k bs in
-    subst Q seen (λ p. back_is spec es walk rest a k found kept p z w t) (subst R (sym held) probe)
+    subst Q holds.seen (λ p. back_is spec es walk rest a k found holds.kept p z w t) (subst R (sym held) probe)

@@ -9,18 +9,22 @@ use Rattle.newt_keys.specs.KeyForm.{IsKeyOf, key_bytes}
 use Rattle.newt_index.specs.declared.search.Slot.{Slot}
 use Rattle.newt_index.specs.Pairs.{Pair, parts_of}
 
+-- an entry of the map (a word of these definitions)
+abbrev pub Entry : Type 0
+Entry = Slot × Key
+
 -- the pair that an entry of the map is (a word of these definitions)
-abbrev pub pair_of : Slot × Key → Pair
+abbrev pub pair_of : Entry → Pair
 pair_of e = (e.1, e.0.uid)
 
 -- an entry of the map is under the bytes of its key, which is one of the declaration (this project's own)
-pub record IsKept (spec : Option IndexSpec) (e : Slot × Key) : Type 0 where
+pub record IsKept (spec : Option IndexSpec) (e : Entry) : Type 0 where
   pub is_key : IsKeyOf (parts_of spec) e.1
   pub bytes : e.0.bytes.items ≡ key_bytes (parts_of spec) e.1
   pub uid : e.0.uid < 2 ^ 32
 
 -- each entry is (a word of these definitions)
-abbrev pub AreKept : Option IndexSpec → List (Slot × Key) → Type 0
+abbrev pub AreKept : Option IndexSpec → List Entry → Type 0
 AreKept spec es = All (IsKept spec) es
 
 -- bytes are those of a key of the declaration (this project's own)

@@ -1,21 +1,32 @@
--- The key bytes that are noted of each id.
-use Rattle.std.specs.Prelude.{◌≡◌, ℕ, Bool, IsTrue, List, Option, Some, option_map, Vec, All}
+-- The slot that is noted of each id.
+use Rattle.std.specs.Prelude.{◌≡◌, ℕ, List, Option, Some, None, Vec, option_map, IfSome, All}
 use Rattle.std.specs.Global.{Global}
 use Rattle.std.specs.Ordering.{nat_cmp}
 use Rattle.std.specs.BTreeMap as tree
-use Rattle.newt_spec_store.specs.Keys.{Key, IndexSpec}
 use Rattle.newt_index.specs.declared.search.Slot.{Slot}
-use Rattle.newt_index.specs.Kept.{AreKept}
+use Rattle.newt_index.specs.Kept.{Entry}
 
--- the bytes that are noted under an id, if some are (this project's own)
-abbrev pub bytes_at : tree.BTreeMap ℕ (Vec ℕ Global) → ℕ → Option (List ℕ)
-bytes_at noted uid = option_map (λ bytes. bytes.items) (tree.get nat_cmp noted uid)
+-- the slots by their ids (a word of these definitions)
+abbrev pub Notes : Type 0
+Notes = tree.BTreeMap ℕ Slot
 
--- the key bytes of the pair are noted under its id (this project's own)
-abbrev pub IsNoted : tree.BTreeMap ℕ (Vec ℕ Global) → Slot × Key → Type 0
-IsNoted noted e = bytes_at noted e.0.uid ≡ Some e.0.bytes.items
+-- the key bytes that are noted of an id, if some are (a word of these definitions)
+abbrev pub bytes_at : Notes → ℕ → Option (List ℕ)
+bytes_at notes uid = option_map (λ slot. slot.bytes.items) (tree.get nat_cmp notes uid)
 
--- what holds of every index: its entries are kept under their bytes, and where all pairs are noted, each is (this project's own)
-pub record IsIndex (spec : Option IndexSpec) (es : List (Slot × Key)) (noted : tree.BTreeMap ℕ (Vec ℕ Global)) (all_noted : Bool) : Type 0 where
-  pub kept : AreKept spec es
-  pub each : IsTrue all_noted → All (IsNoted noted) es
+-- the slot is noted under its id (this project's own)
+abbrev pub IsNoted : Notes → Slot → Type 0
+IsNoted notes slot = bytes_at notes slot.uid ≡ Some slot.bytes.items
+
+-- what holds of the notes of some entries: under an id stands a slot of that id, and each entry's is noted (this project's own)
+pub record AreNotes (notes : Notes) (es : List Entry) : Type 0 where
+  pub of_id : (uid : ℕ) → IfSome (tree.get nat_cmp notes uid) (λ slot. slot.uid ≡ uid)
+  pub each : All (λ e. IsNoted notes e.0) es
+
+-- the same where there are notes (a word of these definitions)
+abbrev pub AreNoted : Option Notes → List Entry → Type 0
+AreNoted notes es = IfSome notes (λ n. AreNotes n es)
+
+-- the slot is noted where there are notes (a word of these definitions)
+abbrev pub HasNote : Option Notes → Slot → Type 0
+HasNote notes slot = IfSome notes (λ n. IsNoted n slot)

@@ -1,5 +1,5 @@
 -- An index as a sorted list of keys with the ids of their entries.
-use Rattle.std.specs.Prelude.{◌≡◌, ◌<◌, ◌^◌, ℕ, not, List, [], ◌∷◌, filter, Option, Some, None, cond, All}
+use Rattle.std.specs.Prelude.{◌≡◌, ◌<◌, ◌^◌, ℕ, not, ◌==◌, List, [], ◌∷◌, filter, Option, Some, None, cond, All}
 use Rattle.std.specs.declared.cmp.Ordering.{Ordering}
 use Rattle.std.specs.declared.cmp.Ordering.TheVariants.{Less}
 use Rattle.std.specs.Ordering.{nat_cmp, ordering_then, match_ordering, is_lt, is_eq, is_gt}
@@ -58,6 +58,11 @@ at_or_after spec pairs k = first (filter (λ q. not (is_lt (key_cmp spec q.0 k))
 -- the last pair whose key is not after the given one (a word of these definitions)
 abbrev pub at_or_before : IndexSpec → List Pair → Key → Option Pair
 at_or_before spec pairs k = last (filter (λ q. not (is_gt (key_cmp spec q.0 k))) pairs)
+
+-- the key of the first pair with this id (a word of these definitions)
+abbrev pub key_at : List Pair → ℕ → Option Key
+key_at [] uid = None
+key_at (q ∷ qs) uid = cond (q.1 == uid) (Some q.0) (key_at qs uid)
 
 -- ---- the value of an index
 

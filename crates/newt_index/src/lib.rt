@@ -5,11 +5,13 @@
 //! searches take no memory.
 #![tactic(auto)]
 
+mod declared;
 mod identity;
-mod noted;
 mod search;
+mod slots;
 mod sorted;
 
+pub use declared::key_in;
 pub use identity::Spot;
 pub use search::Probe;
 pub use sorted::Index;

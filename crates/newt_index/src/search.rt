@@ -22,6 +22,21 @@ pub struct Probe {
     pub(crate) slot: Slot,
 }
 
+impl Slot {
+    /// An equal slot.
+    pub(crate) fn copy(&self) -> Result<Slot, AllocError>
+        ensures bytes { IfOk result (λ slot. slot.bytes.items ≡ self.now.bytes.items) }
+        ensures uid { IfOk result (λ slot. slot.uid ≡ self.now.uid) }
+    {
+        let mut bytes = Vec::new(*self.bytes.allocator());
+        bytes.extend_from_slice(&self.bytes)?;
+        Ok(Slot {
+            bytes,
+            uid: self.uid,
+        })
+    }
+}
+
 impl Model for Probe {
     ghost use Rattle.std.specs.Prelude.{List, ℕ};
 

@@ -1,18 +1,16 @@
 //! An index and its calls.
-ghost use Rattle.std.specs.Prelude.{◌≡◌, ◌==◌, [], not, filter, IfOk, IfErr, IfSome, length, option_map};
+ghost use Rattle.std.specs.Prelude.{◌≡◌, ◌==◌, [], not, filter, IfOk, IfErr, length, option_map};
 ghost use Rattle.newt_keys.specs.KeyForm.{IsKeyOf};
 ghost use Rattle.newt_spec_store.specs.Keys as keys;
-ghost use Rattle.newt_index.specs.Pairs.{Sorted, parts_of, with_pair, removed, first, last, IsSorted};
+ghost use Rattle.newt_index.specs.Pairs.{Sorted, parts_of, with_pair, removed, first, last, key_at, IsSorted};
 ghost use Rattle.newt_index.specs.Pairs as pairs;
 ghost use Rattle.newt_index.specs.Kept.{IsProbeOf, shown, lent};
 
-use crate::noted::{drop_id, drop_slot, note};
 use crate::search::{Probe, Slot, slot_of};
+use crate::slots::Slots;
 use newt_base::Uid;
-use newt_graph::Graph;
-use newt_keys::{IndexSpec, Key, key_of};
+use newt_keys::{IndexSpec, Key};
 use std::alloc::{AllocError, Global};
-use std::collections::BTreeMap;
 use std::marker::Model;
 use std::ops::Bound;
 
@@ -20,24 +18,20 @@ use std::ops::Bound;
 #[derive(Drop)]
 pub struct Index {
     spec: Option<IndexSpec>,
-    entries: BTreeMap<Slot, Key>,
-    // The key bytes of each id, while no id has been given two keys.
-    noted: BTreeMap<u32, Vec<u8>>,
-    all_noted: bool,
+    slots: Slots,
     alloc: Global,
 }
 
 impl Model for Index {
     ghost use Rattle.std.specs.Prelude.{map};
     ghost use Rattle.newt_index.specs.Pairs.{Sorted};
-    ghost use Rattle.newt_index.specs.Kept.{pair_of};
-    ghost use Rattle.newt_index.specs.Noted.{IsIndex};
+    ghost use Rattle.newt_index.specs.Kept.{pair_of, AreKept};
 
     ghost Value = { Sorted };
 
-    ghost view = { λ i. record { spec = i.spec; pairs = map pair_of i.entries.entries } };
+    ghost view = { λ i. record { spec = i.spec; pairs = map pair_of i.slots } };
 
-    ghost invariant = { λ i. IsIndex i.spec i.entries.entries i.noted i.all_noted };
+    ghost invariant = { λ i. AreKept i.spec i.slots };
 }
 
 impl Index {
@@ -47,34 +41,19 @@ impl Index {
     {
         Index {
             spec,
-            entries: BTreeMap::new(alloc),
-            noted: BTreeMap::new(alloc),
-            all_noted: true,
+            slots: Slots::new(alloc),
             alloc,
         }
     }
 
-    /// The key that a graph has in this index: by its declaration, or with none the empty key. None where the first part is missing; the graph's entry is
-    /// then not in the index.
-    pub fn key_in(&self, graph: &Graph) -> Result<Option<Key>, AllocError>
-        ensures value { IfOk result (λ found. found ≡ keys.key graph.now (parts_of self.now.spec)) }
-        ensures of_spec { IfOk result (λ found. IfSome found (IsKeyOf (parts_of self.now.spec))) }
-    {
-        match &self.spec {
-            Some(spec) => key_of(self.alloc, graph, spec),
-            None => Ok(Some(Key::empty(self.alloc))),
-        }
-    }
-
     /// Adds a pair. Where it is there nothing changes.
-    pub fn put(&mut self, key: Key, uid: Uid) -> Result<(), AllocError>
+    pub fn add(&mut self, key: Key, uid: Uid) -> Result<(), AllocError>
         requires { IsKeyOf (parts_of self.old.spec) key }
         ensures ok { IfOk result (λ _. self.new ≡ record self.old { pairs = with_pair (parts_of self.old.spec) self.old.pairs (key, uid) }) }
         ensures err { IfErr result (λ _. self.new ≡ self.old) }
     {
         let slot = slot_of(self.alloc, &self.spec, &key, uid)?;
-        self.all_noted = note(self.alloc, &mut self.noted, self.all_noted, &slot)?;
-        self.entries.insert(slot, key)?;
+        self.slots.insert(slot, key)?;
         Ok(())
     }
 
@@ -85,7 +64,7 @@ impl Index {
         ensures err { IfErr result (λ _. self.new ≡ self.old) }
     {
         let slot = slot_of(self.alloc, &self.spec, key, uid)?;
-        drop_slot(&mut self.entries, &mut self.noted, self.all_noted, &slot);
+        self.slots.remove(&slot);
         Ok(())
     }
 
@@ -93,7 +72,7 @@ impl Index {
     pub fn forget(&mut self, uid: Uid)
         ensures { self.new ≡ record self.old { pairs = filter (λ q. not (q.1 == uid)) self.old.pairs } }
     {
-        drop_id(&mut self.entries, &mut self.noted, self.all_noted, uid.0);
+        self.slots.remove_id(uid.0);
     }
 
     /// The first pair.
@@ -101,7 +80,7 @@ impl Index {
         ensures found { option_map shown result ≡ first self.now.pairs }
         ensures sorted { IsSorted self.now }
     {
-        pair(self.entries.iter().next())
+        pair(self.slots.keys().iter().next())
     }
 
     /// The last pair.
@@ -109,7 +88,7 @@ impl Index {
         ensures found { option_map shown result ≡ last self.now.pairs }
         ensures sorted { IsSorted self.now }
     {
-        pair(self.entries.iter().next_back())
+        pair(self.slots.keys().iter().next_back())
     }
 
     /// The least pair after the probe's key with this id. The probe was made for a key of the index's declaration; its key bytes stay.
@@ -120,7 +99,8 @@ impl Index {
     {
         probe.slot.uid = uid.0;
         pair(
-            self.entries
+            self.slots
+                .keys()
                 .range((Bound::Excluded(&probe.slot), Bound::Unbounded))
                 .next(),
         )
@@ -134,7 +114,8 @@ impl Index {
     {
         probe.slot.uid = uid.0;
         pair(
-            self.entries
+            self.slots
+                .keys()
                 .range((Bound::Unbounded, Bound::Excluded(&probe.slot)))
                 .next_back(),
         )
@@ -148,7 +129,8 @@ impl Index {
     {
         probe.slot.uid = 0;
         pair(
-            self.entries
+            self.slots
+                .keys()
                 .range((Bound::Included(&probe.slot), Bound::Unbounded))
                 .next(),
         )
@@ -162,7 +144,8 @@ impl Index {
     {
         probe.slot.uid = u32::MAX;
         pair(
-            self.entries
+            self.slots
+                .keys()
                 .range((Bound::Unbounded, Bound::Included(&probe.slot)))
                 .next_back(),
         )
@@ -172,7 +155,7 @@ impl Index {
     pub fn len(&self) -> usize
         ensures { result ≡ length self.now.pairs }
     {
-        self.entries.len()
+        self.slots.keys().len()
     }
 
     /// The declaration that was given to `new`.
@@ -180,9 +163,21 @@ impl Index {
         ensures spec { option_map (λ s. s.now) result ≡ self.now.spec }
         ensures sorted { IsSorted self.now }
     {
-        // Its contract tells that the map's entries rise, which the clause `sorted` is proved from.
-        let _count = self.entries.len();
+        // Its contract tells that the map's keys rise, which the clause `sorted` is proved from.
+        let _count = self.slots.keys().len();
         self.spec.as_ref()
+    }
+
+    /// The key of the first pair with this id.
+    pub fn key_of(&self, uid: Uid) -> Option<&Key>
+        ensures { option_map (λ k. k.now) result ≡ key_at self.now.pairs uid }
+    {
+        self.slots.key_of(uid.0)
+    }
+
+    /// The allocator that was given to `new`.
+    pub fn allocator(&self) -> Global {
+        self.alloc
     }
 }
 

@@ -8,8 +8,7 @@ use Rattle.newt_spec_graph.specs.Lists.{Each, Pairs, Among}
 use Rattle.newt_spec_graph.proofs.Lists.{each-at, pairs-filter, some-same, none-some, both-ways}
 use Rattle.newt_spec_store.specs.Keys.{Key, IndexSpec}
 use Rattle.newt_spec_store.specs.Store.{Entry, change_first}
-use Rattle.newt_index.specs.Pairs.{Pair, pair_cmp, with_pair}
-use Rattle.newt_index_ranges.specs.Stands.{key_at}
+use Rattle.newt_index.specs.Pairs.{key_at, Pair, pair_cmp, with_pair}
 use Rattle.newt_index_ranges.proofs.Ordered.{same_uid}
 
 abbrev pub Once : List Pair → Type 0

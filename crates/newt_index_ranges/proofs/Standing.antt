@@ -6,11 +6,11 @@ use Rattle.std.proofs.lemmas.Bool.{eq-eqb}
 use Rattle.newt_spec_graph.proofs.Lists.{each-at, both-ways}
 use Rattle.newt_spec_store.specs.Keys.{Key, IndexSpec, Path, paths_of, same_paths}
 use Rattle.newt_spec_store.specs.Store.{Soup, change_first}
-use Rattle.newt_index.specs.Pairs.{Sorted, parts_of, with_pair}
+use Rattle.newt_index.specs.Pairs.{key_at, Sorted, parts_of, with_pair}
 use Rattle.newt_index_ranges.specs.Range.{key_by}
 use Rattle.newt_index_ranges.specs.declared.rows.SoupRanges.{SoupRanges}
 use Rattle.newt_index_ranges.specs.Rows.{no_pairs, with_entry, without_entry, has_paths, each_range, with_range, without_range, ranges_of, change_ranges, drop_ranges}
-use Rattle.newt_index_ranges.specs.Stands.{Graphs, key_at, IsRange, AreIndexes, IsRangesOf, AreRanges}
+use Rattle.newt_index_ranges.specs.Stands.{Graphs, IsRange, AreIndexes, IsRangesOf, AreRanges}
 use Rattle.newt_index_ranges.proofs.Lookups.{agree, key_added, key_filtered, once_added, once_filtered}
 
 -- ---- graphs that change

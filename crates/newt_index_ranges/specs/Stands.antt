@@ -1,10 +1,10 @@
 -- What ranges stand for. An entry's graph is looked up by its id, so it does not matter in what order entries are added.
-use Rattle.std.specs.Prelude.{◌≡◌, ◌==◌, ℕ, List, [], ◌∷◌, Option, Some, None, cond, option_map, option_and_then}
+use Rattle.std.specs.Prelude.{◌≡◌, ℕ, List, [], ◌∷◌, Option, Some, None, option_map, option_and_then}
 use Rattle.newt_graph.specs.Graph.{RawGraph}
 use Rattle.newt_spec_graph.specs.Lists.{Pairs}
 use Rattle.newt_spec_store.specs.Keys.{Key, IndexSpec}
 use Rattle.newt_spec_store.specs.Store.{Soup, Store, entry_of}
-use Rattle.newt_index.specs.Pairs.{Pair, Sorted}
+use Rattle.newt_index.specs.Pairs.{Sorted, key_at}
 use Rattle.newt_index_ranges.specs.Range.{key_by}
 use Rattle.newt_index_ranges.specs.declared.rows.SoupRanges.{SoupRanges}
 
@@ -15,11 +15,6 @@ Graphs = ℕ → Option RawGraph
 -- the graphs of the entries of a soup (a word of these definitions)
 abbrev pub graphs_of : Soup → Graphs
 graphs_of p uid = option_map (λ e. e.graph) (entry_of uid p)
-
--- the key of the first pair with this id (a word of these definitions)
-abbrev pub key_at : List Pair → ℕ → Option Key
-key_at [] uid = None
-key_at (q ∷ qs) uid = cond (q.1 == uid) (Some q.0) (key_at qs uid)
 
 -- The range is by this declaration, has each id once, and has for an id the key of its graph, if there are a graph and a key. (this project's own)
 pub record IsRange (spec : Option IndexSpec) (graphs : Graphs) (v : Sorted) : Type 0 where

@@ -4,7 +4,7 @@ ghost use Rattle.newt_index_ranges.specs.Rows.{with_entry, has_paths, carries};
 
 use newt_base::Uid;
 use newt_graph::Graph;
-use newt_index::Index;
+use newt_index::{Index, key_in};
 use newt_keys::IndexSpec;
 use newt_path::Path;
 use std::alloc::AllocError;
@@ -14,8 +14,8 @@ pub fn add_entry(range: &mut Index, uid: Uid, graph: &Graph) -> Result<(), Alloc
     ensures ok { OnOk result (range.new ≡ with_entry uid graph.now range.old) }
     ensures err { OnErr result (range.new ≡ range.old) }
 {
-    match range.key_in(graph)? {
-        Some(key) => range.put(key, uid),
+    match key_in(range.allocator(), range.spec(), graph)? {
+        Some(key) => range.add(key, uid),
         None => Ok(()),
     }
 }

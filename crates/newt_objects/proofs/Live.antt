@@ -1,5 +1,5 @@
 -- The flags of the numbers that objects have.
-use Rattle.std.proofs.Common.{◌≡◌, ◌≢◌, inl, ℕ, zero, suc, ◌<◌, ◌≤◌, ◌==◌, ◌||◌, ◌&&◌, Bool, true, false, not, cond, List, [], ◌∷◌, ◌++◌, length, slice_get, replicate, Option, Some, None, refl, sym, ◌∙◌, ap, subst, arith, ⊎_elim}
+use Rattle.std.proofs.Common.{◌≡◌, ◌≢◌, ℕ, zero, suc, ◌<◌, ◌≤◌, ◌==◌, ◌||◌, ◌&&◌, Bool, true, false, not, cond, List, [], ◌∷◌, ◌++◌, length, slice_get, replicate, Option, Some, None, refl, sym, ◌∙◌, ap, subst, arith, ⊎_elim}
 use Rattle.std.specs.List.{list_any}
 use Rattle.std.specs.Map.{values_of}
 use Rattle.std.specs.Ordering.{nat_cmp}
@@ -15,7 +15,7 @@ use Rattle.newt_spec_image.specs.Objects.{Extent, Table}
 use Rattle.newt_pagebook.proofs.Tests.{some_inj, true_or_false, is_equal, equal_true, equal_false}
 use Rattle.newt_objects.specs.Headers.{Rows, held_in}
 use Rattle.newt_objects.specs.Extents.{has_number, AreFlags, MarksAlso}
-use Rattle.newt_objects.specs.Taken.{ClearsAlso, IsLive, IsKnown, IsTaken, AreSameBut, row_at}
+use Rattle.newt_objects.specs.Taken.{ClearsAlso, IsLive, AreSameBut, row_at}
 use Rattle.newt_objects.proofs.Plans.{slice_get-among}
 use Rattle.newt_objects.proofs.Pushed.{push_last}
 
@@ -272,20 +272,6 @@ module _ (rows : Rows) (ordered : tree.IsOrdered nat_cmp rows) where
         (true_or_false w.0))
         (true_or_false (list_any (has_number number) values));
   }
-
--- flags that are there are known
-pub is_live : (table : Table) (flags : List Bool) → IsKnown table flags → (length flags ≡ 0 → ⊥) → IsLive table flags
-is_live table flags known some = ⊎_elim
-    (λ (empty : length flags ≡ 0). absurd (some empty))
-    (λ (live : IsLive table flags). live)
-    known
-
-pub taken-none : (table : Table) (flags : List Bool) → length flags ≡ 0 → IsTaken table flags 0
-taken-none table flags empty = record { known = inl empty; small = omega arith; below = λ number less. absurd (omega arith) }
-
--- the same table, told otherwise
-pub taken-same : (table more : Table) (flags : List Bool) (least : ℕ) → ((id : ℕ) → more id ≡ table id) → IsTaken table flags least → IsTaken more flags least
-taken-same table more flags least same taken = subst (λ (t : Table). IsTaken t flags least) (λ i id. sym (same id) i) taken
 
 -- an object goes to other pages
 module _ (table more : Table) (id : ℕ) (flags between new : List Bool) (was next : Option Extent)

@@ -1,11 +1,12 @@
 -- Which page numbers the objects have, as flags that are kept from one plan to the next.
-use Rattle.std.specs.Prelude.{◌≡◌, ◌≢◌, ◌⊎◌, ℕ, ◌<◌, ◌≤◌, ◌&&◌, Bool, true, not, List, length, slice_get, Option, Some}
+use Rattle.std.specs.Prelude.{◌≡◌, ◌≢◌, ℕ, ◌<◌, ◌≤◌, ◌&&◌, Bool, true, not, List, length, slice_get, Option, Some, IfSome}
 use Rattle.std.specs.Option.{option_flatten}
 use Rattle.newt_spec_image.specs.Objects.{Extent, Table}
 use Rattle.newt_objects.specs.Extents.{has_number}
 use Rattle.newt_objects.specs.Headers.{Rows, held_in}
 use Rattle.newt_objects.specs.Plans.{ArePlaced}
 use Rattle.newt_objects.specs.declared.objects.Plan.{Plan}
+use Rattle.newt_objects.specs.declared.taken.Taken.{Taken}
 
 -- the flags of these numbers were cleared, and no other was changed
 pub record ClearsAlso (test : ℕ → Bool) (old new : List Bool) : Type 0 where
@@ -19,24 +20,24 @@ pub record IsLive (table : Table) (flags : List Bool) : Type 0 where
   pub real : (number : ℕ) → slice_get flags number ≡ Some true → (id : ℕ) × (has_number number (table id) ≡ true)
   pub apart : (id other number : ℕ) → has_number number (table id) ≡ true → has_number number (table other) ≡ true → id ≡ other
 
--- without flags it is not known which numbers are had
-abbrev pub IsKnown : Table → List Bool → Type 0
-IsKnown table flags = (length flags ≡ 0) ⊎ IsLive table flags
+-- what is known of the numbers that objects have: the flags, and a number below which all are had
+pub record IsTaken (table : Table) (taken : Taken) : Type 0 where
+  pub live : IsLive table taken.flags.items
+  pub small : taken.least ≤ 65536
+  pub below : (number : ℕ) → number < taken.least → slice_get taken.flags.items number ≡ Some true
 
--- what is kept: the flags, and a number below which all are had
-pub record IsTaken (table : Table) (flags : List Bool) (least : ℕ) : Type 0 where
-  pub known : IsKnown table flags
-  pub small : least ≤ 65536
-  pub below : (number : ℕ) → number < least → slice_get flags number ≡ Some true
+-- the same, where it is known
+abbrev pub IsKnown : Table → Option Taken → Type 0
+IsKnown table taken = IfSome taken (λ t. IsTaken table t)
 
 -- the tables are the same but for one id
 abbrev pub AreSameBut : ℕ → Table → Table → Type 0
 AreSameBut id table more = (other : ℕ) → other ≢ id → more other ≡ table other
 
 -- what holds of all objects
-pub record AreSound (rows : Rows) (plans : List Plan) (flags : List Bool) (least : ℕ) : Type 0 where
+pub record AreSound (rows : Rows) (plans : List Plan) (taken : Option Taken) : Type 0 where
   pub placed : ArePlaced rows plans
-  pub taken : IsTaken (held_in rows) flags least
+  pub known : IsKnown (held_in rows) taken
 
 -- the table of a list of rows, by their places
 abbrev pub row_at : List (Option Extent) → Table

@@ -1,11 +1,11 @@
 // Which page numbers the objects have, kept from one plan to the next.
-ghost use Rattle.std.specs.Prelude.{◌≡◌, ℕ, [], ◌==◌, ◌<◌, ◌≤◌, true, false, IsTrue, IfOk, None, Some, length, slice_get};
+ghost use Rattle.std.specs.Prelude.{◌≡◌, ℕ, [], ◌==◌, ◌<◌, ◌≤◌, true, false, IsTrue, IfOk, None, Some, slice_get};
 ghost use Rattle.std.specs.List.{list_any};
 ghost use Rattle.std.specs.Option.{option_copied};
 ghost use Rattle.newt_spec_image.specs.Objects.{Table};
 ghost use Rattle.newt_objects.specs.Headers.{held_in};
 ghost use Rattle.newt_objects.specs.Extents.{has_number};
-ghost use Rattle.newt_objects.specs.Taken.{ClearsAlso, IsLive, IsKnown, IsTaken, AreSameBut, row_at};
+ghost use Rattle.newt_objects.specs.Taken.{ClearsAlso, IsLive, IsTaken, IsKnown, AreSameBut, row_at};
 ghost use Rattle.std.specs.BTreeMap as tree;
 
 use crate::extent::Extent;
@@ -13,21 +13,13 @@ use crate::free::{PAGE_NUMBERS, mark_numbers};
 use std::alloc::{AllocError, Global};
 use std::collections::BTreeMap;
 
-/// A flag for each page number, whether an object has it, and a number below which all are had. No flags: it is not known.
+/// Which page numbers the objects have.
 #[derive(Drop)]
 pub(crate) struct Taken {
+    /// For each page number whether an object has it.
     pub(crate) flags: Vec<bool>,
+    /// A number below which all are had.
     pub(crate) least: u32,
-}
-
-/// Nothing is known. It takes no memory.
-pub(crate) fn unknown(alloc: Global) -> Taken
-    ensures { (table : Table) → IsTaken table result.flags.items result.least }
-{
-    Taken {
-        flags: Vec::new(alloc),
-        least: 0,
-    }
 }
 
 // Clears the flag of a number, if it has one.
@@ -102,18 +94,22 @@ fn give_row(taken: &mut Taken, was: Option<&Extent>)
     }
 }
 
-/// Keeps what is known while an object goes to other pages, or goes. It takes no memory.
-pub(crate) fn move_row(taken: &mut Taken, was: Option<&Extent>, next: &Option<Extent>)
-    ensures { (table more : Table) (id : ℕ) → table id ≡ option_copied was.entry → more id ≡ next.now → AreSameBut id table more → IsTaken table taken.old.flags.items taken.old.least → IsTaken more taken.new.flags.items taken.new.least }
+// Gives numbers of an object back and takes others. False where another object has one of these.
+fn exchange(taken: &mut Taken, was: Option<&Extent>, next: &Option<Extent>) -> bool
+    ensures { IsTrue result → (table more : Table) (id : ℕ) → table id ≡ option_copied was.entry → more id ≡ next.now → AreSameBut id table more → IsTaken table taken.old → IsTaken more taken.new }
 {
-    if taken.flags.is_empty() {
-        taken.least = 0;
-        return;
-    }
     give_row(taken, was);
-    if !take_row(&mut taken.flags, next) {
-        taken.flags.clear();
-        taken.least = 0;
+    take_row(&mut taken.flags, next)
+}
+
+/// Keeps what is known while an object goes to other pages, or goes. It takes no memory.
+pub(crate) fn move_row(known: &mut Option<Taken>, was: Option<&Extent>, next: &Option<Extent>)
+    ensures { (table more : Table) (id : ℕ) → table id ≡ option_copied was.entry → more id ≡ next.now → AreSameBut id table more → IsKnown table known.old → IsKnown more known.new }
+{
+    if let Some(taken) = known {
+        if !exchange(taken, was, next) {
+            *known = None;
+        }
     }
 }
 
@@ -129,17 +125,20 @@ fn take_rows(flags: &mut Vec<bool>, rows: &BTreeMap<u32, Option<Extent>>) -> boo
     true
 }
 
-// The flags of all objects. None where two objects have one number.
-fn flags_of(alloc: Global, rows: &BTreeMap<u32, Option<Extent>>) -> Result<Vec<bool>, AllocError>
-    ensures { IfOk result (λ flags. IsKnown (held_in rows.now) flags.items) }
+// Which page numbers all objects have. None where two of them have one number.
+fn taken_by(
+    alloc: Global,
+    rows: &BTreeMap<u32, Option<Extent>>,
+) -> Result<Option<Taken>, AllocError>
+    ensures { IfOk result (λ taken. IsKnown (held_in rows.now) taken) }
 {
     // Its contract tells that the rows rise.
     let _count = rows.len();
     let mut flags = vec![in alloc; false; PAGE_NUMBERS as usize]?;
     if take_rows(&mut flags, rows) {
-        return Ok(flags);
+        return Ok(Some(Taken { flags, least: 0 }));
     }
-    Ok(Vec::new(alloc))
+    Ok(None)
 }
 
 // The first number from one on that is not had, where all below that one are.
@@ -156,19 +155,20 @@ fn first_free(flags: &[bool], least: u32) -> u32
     at
 }
 
-/// Makes known which numbers the objects have, as far as there is none that two of them have.
+/// Makes known which page numbers the objects have, unless two of them have one number.
 pub(crate) fn make_known(
     alloc: Global,
     rows: &BTreeMap<u32, Option<Extent>>,
-    taken: &mut Taken,
+    known: &mut Option<Taken>,
 ) -> Result<(), AllocError>
-    requires { IsTaken (held_in rows.now) taken.old.flags.items taken.old.least }
-    ensures { IsTaken (held_in rows.now) taken.new.flags.items taken.new.least }
+    requires { IsKnown (held_in rows.now) known.old }
+    ensures { IsKnown (held_in rows.now) known.new }
 {
-    if taken.flags.is_empty() {
-        taken.least = 0;
-        taken.flags = flags_of(alloc, rows)?;
+    if known.is_none() {
+        *known = taken_by(alloc, rows)?;
     }
-    taken.least = first_free(&taken.flags, taken.least);
+    if let Some(taken) = known {
+        taken.least = first_free(&taken.flags, taken.least);
+    }
     Ok(())
 }

@@ -1,6 +1,7 @@
 //! An index of 200 pairs against the list sorted afresh, in both orders, with ample memory.
 ghost use Rattle.std.specs.Prelude.{◌≡◌, ◌∷◌, [], None, Some, IfOk, OnOk};
 ghost use Rattle.newt_spec_store.specs.Keys.{whole};
+ghost use Rattle.newt_spec_store.specs.declared.Order.TheVariants as order;
 ghost use Rattle.newt_test_keys.specs.Trials.{integers};
 
 use newt_base::Uid;
@@ -55,7 +56,7 @@ fn add_next(alloc: Global, index: &mut Index, order: Order, uid: u32) -> Result<
     requires { index.old.spec ≡ Some (integers order) }
     ensures { OnOk result (index.new.spec ≡ Some (integers order)) }
 {
-    index.put(key(alloc, number_of(uid))?, Uid(uid))
+    index.add(key(alloc, number_of(uid))?, Uid(uid))
 }
 
 /// An index of the entries below a number.
@@ -113,6 +114,14 @@ fn element(order: Order, key: &Key, uid: Uid) -> Option<(i32, u32)> {
     }
 }
 
+/// The pair of an id as an element of the list.
+fn key_of(index: &Index, order: Order, uid: u32) -> Option<(i32, u32)> {
+    match index.key_of(Uid(uid)) {
+        Some(key) => element(order, key, Uid(uid)),
+        None => None,
+    }
+}
+
 /// Whether each search from a pair of the list finds its neighbours.
 fn finds(
     alloc: Global,
@@ -137,7 +146,8 @@ fn finds(
         shown(order, &index.after(&mut at, Uid(uid))) == after
             && shown(order, &index.before(&mut at, Uid(uid))) == before
             && shown(order, &index.at_or_after(&mut at)) == first
-            && shown(order, &index.at_or_before(&mut at)) == last,
+            && shown(order, &index.at_or_before(&mut at)) == last
+            && key_of(index, order, uid) == Some((number, uid)),
     )
 }
 
@@ -204,18 +214,42 @@ fn assert_seven(rt: &impl Abort, index: &Index, at: &mut Probe) {
 }
 
 /// The id 7 is added, is found, and is removed.
-fn put_and_remove(rt: &impl Abort, alloc: Global, index: &mut Index) -> Result<(), AllocError>
+fn add_and_remove(rt: &impl Abort, alloc: Global, index: &mut Index) -> Result<(), AllocError>
     requires { index.old.spec ≡ None }
 {
-    index.put(Key::empty(alloc), Uid(7))?;
+    index.add(Key::empty(alloc), Uid(7))?;
     assert_seven(rt, index, &mut Probe::empty(alloc));
+    assert!(rt; index.key_of(Uid(7)).is_some());
     index.remove(&Key::empty(alloc), Uid(7))?;
-    assert!(rt; index.len() == 0);
+    assert!(rt; index.key_of(Uid(7)).is_none() && index.len() == 0);
     Ok(())
+}
+
+/// The id 7 gets two keys and loses both.
+#[tactic(auto, using(crate::proofs::Integers::int_key))]
+fn add_two_and_forget(rt: &impl Abort, alloc: Global, index: &mut Index) -> Result<(), AllocError>
+    requires { index.old.spec ≡ Some (integers order.Ascend) }
+{
+    index.add(key(alloc, 2)?, Uid(7))?;
+    index.add(key(alloc, 1)?, Uid(7))?;
+    assert!(rt; key_of(index, Order::Ascend, 7) == Some((1, 7)) && index.len() == 2);
+    index.remove(&key(alloc, 1)?, Uid(7))?;
+    assert!(rt; key_of(index, Order::Ascend, 7) == Some((2, 7)) && index.len() == 1);
+    index.add(key(alloc, 1)?, Uid(7))?;
+    index.forget(Uid(7));
+    assert!(rt; index.key_of(Uid(7)).is_none() && index.len() == 0);
+    Ok(())
+}
+
+#[test]
+fn an_id_may_have_two_keys(rt: HostRuntime) -> Result<(), Fail> {
+    let spec = declaration(rt.alloc(), Order::Ascend)?;
+    let mut index = Index::new(rt.alloc(), Some(spec));
+    Ok(add_two_and_forget(&rt, rt.alloc(), &mut index)?)
 }
 
 #[test]
 fn with_no_declaration_the_ids_decide(rt: HostRuntime) -> Result<(), Fail> {
     let mut index = Index::new(rt.alloc(), None);
-    Ok(put_and_remove(&rt, rt.alloc(), &mut index)?)
+    Ok(add_and_remove(&rt, rt.alloc(), &mut index)?)
 }

@@ -3,44 +3,56 @@ use crate::calls::Call;
 use crate::keys::{literal, part};
 use newt_base::Uid;
 use newt_graph::Graph;
-use newt_index::{Index, Probe};
-use newt_keys::{IndexSpec, Key, Kind, Order, key_of};
+use newt_index::{Index, Probe, key_in};
+use newt_keys::{IndexSpec, Key, Kind, Order, compare, key_of};
 use newt_test_tables::expect_rows;
 use std::alloc::Global;
+use std::cmp::Ordering;
 use std::test::*;
 
-/// The strings at `k`.
-fn strings(alloc: Global, order: Order) -> Result<IndexSpec, Fail> {
-    Ok(IndexSpec::new(vec![in alloc; part(alloc, "k", Kind::Text, order)?]?))
+/// Three parts of one type and order, at `k`, `l` and `m`.
+fn declaration(alloc: Global, kind: Kind, order: Order) -> Result<IndexSpec, Fail> {
+    let first = part(alloc, "k", kind, order)?;
+    let second = part(alloc, "l", kind, order)?;
+    let third = part(alloc, "m", kind, order)?;
+    Ok(IndexSpec::new(vec![in alloc; first, second, third]?))
+}
+
+/// The entries that a row has.
+fn entries_of(alloc: Global, text: &str) -> Result<Vec<Graph>, Fail> {
+    let mut entries = Vec::new(alloc);
+    for entry in text.split(" | ") {
+        entries.push(literal(alloc, entry)?)?;
+    }
+    Ok(entries)
 }
 
 /// Adds an entry where it has a key.
 fn add(index: &mut Index, uid: u32, entry: &Graph) -> Result<(), Fail> {
-    if let Some(key) = index.key_in(entry)? {
-        index.put(key, Uid(uid))?;
+    if let Some(key) = key_in(index.allocator(), index.spec(), entry)? {
+        index.add(key, Uid(uid))?;
     }
     Ok(())
 }
 
 /// The index of entries, whose ids rise from 0.
-fn filled(alloc: Global, order: Order, entries: &str) -> Result<Index, Fail> {
-    let mut index = Index::new(alloc, Some(strings(alloc, order)?));
-    for (entry, uid) in entries.split(" | ").zip(0..100) {
-        add(&mut index, uid, &literal(alloc, entry)?)?;
+fn filled(alloc: Global, spec: IndexSpec, entries: &[Graph]) -> Result<Index, Fail> {
+    let mut index = Index::new(alloc, Some(spec));
+    for (entry, uid) in entries.iter().zip(0..100) {
+        add(&mut index, uid, entry)?;
     }
     Ok(index)
 }
 
-fn probe_of(alloc: Global, graph: &Graph, spec: &IndexSpec) -> Result<Probe, Fail> {
-    let key = key_of(alloc, graph, spec)?.ok_or("a key")?;
-    Ok(Probe::new(alloc, &key, spec)?)
+/// The key of an entry.
+fn key(alloc: Global, spec: &IndexSpec, entry: &Graph) -> Result<Key, Fail> {
+    Ok(key_of(alloc, entry, spec)?.ok_or("a key")?)
 }
 
 /// The probe of an entry's key.
-fn probe(alloc: Global, order: Order, entry: &str) -> Result<Probe, Fail> {
-    let spec = strings(alloc, order)?;
-    let graph = literal(alloc, entry)?;
-    probe_of(alloc, &graph, &spec)
+fn probe(alloc: Global, spec: &IndexSpec, entry: &Graph) -> Result<Probe, Fail> {
+    let key = key_of(alloc, entry, spec)?.ok_or("a key")?;
+    Ok(Probe::new(alloc, &key, spec)?)
 }
 
 /// The id of a pair.
@@ -51,17 +63,20 @@ fn id(found: &Option<(&Key, Uid)>) -> Option<u32> {
     }
 }
 
+fn entry(entries: &[Graph], uid: u32) -> Result<&Graph, Fail> {
+    Ok(entries.get(uid as usize).ok_or("an entry")?)
+}
+
 /// The id of the pair behind that of an entry, or before it.
 fn next(
     alloc: Global,
     index: &Index,
-    order: Order,
-    entries: &str,
+    spec: &IndexSpec,
+    entries: &[Graph],
     uid: u32,
     forward: bool,
 ) -> Result<Option<u32>, Fail> {
-    let entry = entries.split(" | ").nth(uid as usize).ok_or("an entry")?;
-    let mut at = probe(alloc, order, entry)?;
+    let mut at = probe(alloc, spec, entry(entries, uid)?)?;
     Ok(if forward {
         id(&index.after(&mut at, Uid(uid)))
     } else {
@@ -69,15 +84,15 @@ fn next(
     })
 }
 
-/// Appends the ids of an index, from the first to the last, or back.
-fn push_ids(
+/// The ids of an index, from the first to the last, or back.
+fn ids(
     alloc: Global,
-    to: &mut String,
     index: &Index,
-    order: Order,
-    entries: &str,
+    spec: &IndexSpec,
+    entries: &[Graph],
     forward: bool,
-) -> Result<(), Fail> {
+) -> Result<Vec<u32>, Fail> {
+    let mut ids = Vec::new(alloc);
     let mut at = if forward {
         id(&index.first())
     } else {
@@ -85,25 +100,70 @@ fn push_ids(
     };
     for _ in 0..100 {
         let Some(uid) = at else {
-            return Ok(());
+            return Ok(ids);
         };
-        to.push_str(&format!(in alloc; "{uid} ")?)?;
-        at = next(alloc, index, order, entries, uid, forward)?;
+        ids.push(uid)?;
+        at = next(alloc, index, spec, entries, uid, forward)?;
     }
     Err("an end".into())
 }
 
-fn walked_in(alloc: Global, index: &Index, order: Order, entries: &str) -> Result<String, Fail> {
-    let mut ids = String::new(alloc);
-    push_ids(alloc, &mut ids, index, order, entries, true)?;
-    push_ids(alloc, &mut ids, index, order, entries, false)?;
-    Ok(format!(in alloc; "{ids}of {}", index.len())?)
+/// Whether an entry stands before another by the order of keys, and then by their ids.
+fn is_before(
+    alloc: Global,
+    spec: &IndexSpec,
+    entries: &[Graph],
+    one: u32,
+    other: u32,
+) -> Result<bool, Fail> {
+    let key_of_one = key(alloc, spec, entry(entries, one)?)?;
+    let key_of_other = key(alloc, spec, entry(entries, other)?)?;
+    Ok(match compare(&key_of_one, &key_of_other, spec) {
+        Ordering::Less => true,
+        Ordering::Equal => one < other,
+        Ordering::Greater => false,
+    })
 }
 
-/// The ids of entries, from the first of the index of their strings to its last, and back.
-pub(crate) fn walked(alloc: Global, order: Order, entries: &str) -> Result<String, Fail> {
-    let index = filled(alloc, order, entries)?;
-    walked_in(alloc, &index, order, entries)
+/// Fails where ids do not rise by the order of keys.
+fn expect_rising(
+    alloc: Global,
+    spec: &IndexSpec,
+    entries: &[Graph],
+    ids: &[u32],
+) -> Result<(), Fail> {
+    for pair in ids.windows(2) {
+        if let [one, other] = pair {
+            if !is_before(alloc, spec, entries, *one, *other)? {
+                return Err("the order of keys".into());
+            }
+        }
+    }
+    Ok(())
+}
+
+fn push_ids(alloc: Global, to: &mut String, ids: &[u32]) -> Result<(), Fail> {
+    for uid in ids {
+        to.push_str(&format!(in alloc; "{uid} ")?)?;
+    }
+    Ok(())
+}
+
+fn walked_in(alloc: Global, index: &Index, entries: &[Graph]) -> Result<String, Fail> {
+    let spec = index.spec().ok_or("a declaration")?;
+    let on = ids(alloc, index, spec, entries, true)?;
+    expect_rising(alloc, spec, entries, &on)?;
+    let mut text = String::new(alloc);
+    push_ids(alloc, &mut text, &on)?;
+    push_ids(alloc, &mut text, &ids(alloc, index, spec, entries, false)?)?;
+    Ok(format!(in alloc; "{text}of {}", index.len())?)
+}
+
+/// The ids of entries, from the first of the index of their keys to its last, and back. They rise by the order of keys.
+pub(crate) fn walked(alloc: Global, kind: Kind, order: Order, text: &str) -> Result<String, Fail> {
+    let entries = entries_of(alloc, text)?;
+    let index = filled(alloc, declaration(alloc, kind, order)?, &entries)?;
+    walked_in(alloc, &index, &entries)
 }
 
 fn near_in(alloc: Global, index: &Index, at: &mut Probe) -> Result<String, Fail> {
@@ -113,9 +173,10 @@ fn near_in(alloc: Global, index: &Index, at: &mut Probe) -> Result<String, Fail>
 }
 
 /// The ids behind and before a pair of the string `d` and the id 1.
-pub(crate) fn near(alloc: Global, entries: &str) -> Result<String, Fail> {
-    let index = filled(alloc, Order::Ascend, entries)?;
-    let mut d = probe(alloc, Order::Ascend, "{k: \"d\"}")?;
+pub(crate) fn near(alloc: Global, text: &str) -> Result<String, Fail> {
+    let spec = declaration(alloc, Kind::Text, Order::Ascend)?;
+    let mut d = probe(alloc, &spec, &literal(alloc, "{k: \"d\"}")?)?;
+    let index = filled(alloc, spec, &entries_of(alloc, text)?)?;
     near_in(alloc, &index, &mut d)
 }
 
@@ -130,6 +191,50 @@ const DESCENDING: &str = "
 {k: \"x\"} | {k: \"y\"} | {k: \"x\"} => 1 0 2 2 0 1 of 3
 ";
 
+/// Keys that begin one another, each before those on its left: so none is told from another by its id.
+const BEGINNINGS: [(Kind, Order, &str); 8] = [
+    (
+        Kind::Text,
+        Order::Ascend,
+        "{k: \"ab\"} | {k: \"a \"} | {k: \"a\\u0000b\"} | {k: \"a\\u0000\"} | {k: \"a\", l: \"b\"} | {k: \"a\", l: \"\"} | {k: \"a\", m: \"\"} | {k: \"a\"} | {k: \"\\u0000\"} | {k: \"\"} => 9 8 7 6 5 4 3 2 1 0 0 1 2 3 4 5 6 7 8 9 of 10",
+    ),
+    (
+        Kind::Text,
+        Order::Descend,
+        "{k: \"\"} | {k: \"\\u0000\"} | {k: \"a\", l: \"\"} | {k: \"a\", l: \"b\"} | {k: \"a\", m: \"\"} | {k: \"a\"} | {k: \"a\\u0000\"} | {k: \"a\\u0000b\"} | {k: \"a \"} | {k: \"ab\"} => 9 8 7 6 5 4 3 2 1 0 0 1 2 3 4 5 6 7 8 9 of 10",
+    ),
+    (
+        Kind::Symbol,
+        Order::Ascend,
+        "{k: 'ab} | {k: '|a b|} | {k: 'a, l: 'b} | {k: 'a, l: 'a} | {k: 'a, m: 'a} | {k: 'A} => 5 4 3 2 1 0 0 1 2 3 4 5 of 6",
+    ),
+    (
+        Kind::Symbol,
+        Order::Descend,
+        "{k: 'a, l: 'a} | {k: 'a, l: 'b} | {k: 'a, m: 'a} | {k: 'A} | {k: '|a b|} | {k: 'ab} => 5 4 3 2 1 0 0 1 2 3 4 5 of 6",
+    ),
+    (
+        Kind::Int,
+        Order::Ascend,
+        "{k: 256} | {k: 1, l: 0} | {k: 1, l: -536870912} | {k: 1, m: 1} | {k: 1} | {k: 0} | {k: -1} | {k: -536870912} => 7 6 5 4 3 2 1 0 0 1 2 3 4 5 6 7 of 8",
+    ),
+    (
+        Kind::Int,
+        Order::Descend,
+        "{k: -536870912} | {k: -1} | {k: 0} | {k: 1, l: -536870912} | {k: 1, l: 0} | {k: 1, m: 1} | {k: 1} | {k: 256} => 7 6 5 4 3 2 1 0 0 1 2 3 4 5 6 7 of 8",
+    ),
+    (
+        Kind::Char,
+        Order::Ascend,
+        "{k: $\\0100} | {k: $b} | {k: $a, l: $b} | {k: $a, l: $a} | {k: $a, m: $a} | {k: $a} => 5 4 3 2 1 0 0 1 2 3 4 5 of 6",
+    ),
+    (
+        Kind::Char,
+        Order::Descend,
+        "{k: $a, l: $a} | {k: $a, l: $b} | {k: $a, m: $a} | {k: $a} | {k: $b} | {k: $\\0100} => 5 4 3 2 1 0 0 1 2 3 4 5 of 6",
+    ),
+];
+
 /// The ids behind and before a pair that is there, and one that is not.
 const NEAR: &str = "
 {k: \"a\"} | {k: \"d\"} | {k: \"c\"} | {k: \"e\"} => Some(3) Some(2) of 4
@@ -140,8 +245,18 @@ const NEAR: &str = "
 
 #[test]
 fn ties_rise_by_id_in_both_orders(rt: HostRuntime) -> Result<(), Fail> {
-    expect_rows(rt.alloc(), &Call::Walked(Order::Ascend), ASCENDING)?;
-    expect_rows(rt.alloc(), &Call::Walked(Order::Descend), DESCENDING)
+    let ascending = Call::Walked(Kind::Text, Order::Ascend);
+    expect_rows(rt.alloc(), &ascending, ASCENDING)?;
+    let descending = Call::Walked(Kind::Text, Order::Descend);
+    expect_rows(rt.alloc(), &descending, DESCENDING)
+}
+
+#[test]
+fn keys_that_begin_others_stand_as_they_compare(rt: HostRuntime) -> Result<(), Fail> {
+    for (kind, order, rows) in BEGINNINGS {
+        expect_rows(rt.alloc(), &Call::Walked(kind, order), rows)?;
+    }
+    Ok(())
 }
 
 #[test]

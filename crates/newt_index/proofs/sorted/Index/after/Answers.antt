@@ -1,16 +1,16 @@
 use Rattle.std.proofs.Common.{◌∙◌, ap}
 use Rattle.newt_index.specs.Pairs.{parts_of, after}
 use Rattle.newt_index.proofs.Change.{sorted_seen}
-use Rattle.newt_index.proofs.Walk.{after_seen}
+use Rattle.newt_index.proofs.Walk.{lent_holds, after_seen}
 use Rattle.newt_index.proofs.sorted.Index.after.Goals as goal
 
 pub returns-clause-found : goal.returns-clause-found
 returns-clause-found c key probe =
     c.pair.ensures
-    ∙ after_seen c.args.self.now c.args.probe.now c.self.inside.spec c.self.inside.entries.entries c.range.result c.next.new.self
+    ∙ after_seen c.args.self.now c.args.probe.now c.self.inside.spec c.keys.result.now.entries c.range.result c.next.new.self
     (record { bytes = c.probe.inside.slot.bytes; uid = c.uid.inside.0 }) key c.next.result
-    c.self.view_is c.probe.view_is c.self.invariant.kept probe (c.range.ensures.between tt) c.next.ensures.steps
+    (lent_holds c.args.self.now c.self.inside.spec c.self.inside.slots c.keys.result.now.entries c.keys.ensures c.self.view_is c.self.invariant) c.probe.view_is probe (c.range.ensures.between tt) c.next.ensures.steps
     ∙ ap (λ u. after (parts_of c.args.self.now.spec) c.args.self.now.pairs (key, u)) c.uid.view_is
 
 pub returns-clause-sorted : goal.returns-clause-sorted
-returns-clause-sorted c = sorted_seen c.args.self.now c.self.inside.spec c.self.inside.entries.entries c.self.view_is c.self.invariant.kept c.range.ensures.ordered
+returns-clause-sorted c = sorted_seen c.args.self.now c.self.inside.spec c.keys.result.now.entries (lent_holds c.args.self.now c.self.inside.spec c.self.inside.slots c.keys.result.now.entries c.keys.ensures c.self.view_is c.self.invariant) c.range.ensures.ordered

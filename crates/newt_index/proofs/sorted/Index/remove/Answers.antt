@@ -3,12 +3,10 @@ use Rattle.newt_index.proofs.sorted.Index.remove.Goals as goal
 
 pub returns-clause-ok : goal.returns-clause-ok
 returns-clause-ok c =
-    (removed_seen c.args.self.now c.self.inside.spec c.self.inside.entries.entries c.drop_slot.new.entries.entries c.in_ok-slot.slot c.args.key.now c.args.uid
-    c.self.view_is c.self.invariant.kept c.requires c.in_ok-slot.ensures.bytes c.in_ok-slot.ensures.uid c.drop_slot.ensures.entries).0
+    (removed_seen c.args.self.now c.self.inside.spec c.self.inside.slots c.remove.new.self c.in_ok-slot.slot c.args.key.now c.args.uid
+    c.self.view_is c.self.invariant c.requires c.in_ok-slot.ensures.bytes c.in_ok-slot.ensures.uid c.remove.ensures).0
 
 pub invariant_of-self : goal.invariant_of-self
-invariant_of-self c = record {
-  kept = (removed_seen c.args.self.now c.self.inside.spec c.self.inside.entries.entries c.drop_slot.new.entries.entries c.in_ok-slot.slot c.args.key.now c.args.uid
-      c.self.view_is c.self.invariant.kept c.requires c.in_ok-slot.ensures.bytes c.in_ok-slot.ensures.uid c.drop_slot.ensures.entries).1;
-  each = c.drop_slot.ensures.noted;
-}
+invariant_of-self c =
+    (removed_seen c.args.self.now c.self.inside.spec c.self.inside.slots c.remove.new.self c.in_ok-slot.slot c.args.key.now c.args.uid
+    c.self.view_is c.self.invariant c.requires c.in_ok-slot.ensures.bytes c.in_ok-slot.ensures.uid c.remove.ensures).1

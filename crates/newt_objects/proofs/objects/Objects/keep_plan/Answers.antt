@@ -13,5 +13,5 @@ invariant_of-self-2 c =
           (placed-push c.self.inside.rows c.self.inside.plans.items plan c.self.invariant.placed
           (subst (λ (h : Held). HasRow c.args.id h) (sym c.self.view_is) c.requires.row)
           (subst (λ (h : Held). IsUnplanned h c.args.id) (sym c.self.view_is) c.requires.no_plan));
-      taken = c.self.invariant.taken;
+      known = c.self.invariant.known;
     }

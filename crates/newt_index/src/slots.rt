@@ -1,0 +1,139 @@
+//! Keys by their slots, and the slot of each id, so that an id finds its pair without a walk.
+ghost use Rattle.std.specs.Prelude.{◌≡◌, ◌==◌, List, [], not, map, filter, option_map, IfOk, OnOk, OnErr};
+ghost use Rattle.std.specs.BTreeMap.{insert_entry, is_at};
+ghost use Rattle.std.specs.Map.{remove_entry};
+ghost use Rattle.newt_index.specs.Pairs.{key_at};
+ghost use Rattle.newt_index.specs.Kept.{Entry, pair_of, slot_cmp};
+ghost use Rattle.newt_index.specs.Noted.{AreNotes, AreNoted, HasNote};
+
+use crate::search::Slot;
+use newt_keys::Key;
+use std::alloc::{AllocError, Global};
+use std::collections::BTreeMap;
+use std::marker::Model;
+
+/// The slot of each id, so that an id finds its pair without a walk. None once an id has been given two.
+type Notes = Option<BTreeMap<u32, Slot>>;
+
+/// Keys by their slots.
+#[derive(Drop)]
+pub(crate) struct Slots {
+    keys: BTreeMap<Slot, Key>,
+    notes: Notes,
+}
+
+impl Model for Slots {
+    ghost use Rattle.std.specs.Prelude.{List};
+    ghost use Rattle.newt_index.specs.Kept.{Entry};
+    ghost use Rattle.newt_index.specs.Noted.{AreNoted};
+
+    ghost Value = { List Entry };
+
+    ghost view = { λ s. s.keys.entries };
+
+    ghost invariant = { λ s. AreNoted s.notes s.keys.entries };
+}
+
+impl Slots {
+    /// No slots. It takes no memory.
+    pub(crate) fn new(alloc: Global) -> Slots
+        ensures { result ≡ [] }
+    {
+        Slots {
+            keys: BTreeMap::new(alloc),
+            notes: Some(BTreeMap::new(alloc)),
+        }
+    }
+
+    /// The keys, by which searches walk.
+    pub(crate) fn keys(&self) -> &BTreeMap<Slot, Key>
+        ensures { result.now.entries ≡ self.now }
+    {
+        &self.keys
+    }
+
+    /// Adds a key.
+    pub(crate) fn insert(&mut self, slot: Slot, key: Key) -> Result<(), AllocError>
+        ensures ok { OnOk result (self.new ≡ insert_entry slot_cmp self.old slot key) }
+        ensures err { OnErr result (self.new ≡ self.old) }
+    {
+        note(&mut self.notes, &slot)?;
+        self.keys.insert(slot, key)?;
+        Ok(())
+    }
+
+    /// Removes the key of a slot.
+    pub(crate) fn remove(&mut self, slot: &Slot)
+        ensures { self.new ≡ remove_entry (is_at (slot_cmp slot.now)) self.old }
+    {
+        if self.keys.remove(slot).is_some() {
+            if let Some(notes) = &mut self.notes {
+                notes.remove(&slot.uid);
+            }
+        }
+    }
+
+    /// Removes all keys of an id.
+    pub(crate) fn remove_id(&mut self, uid: u32)
+        ensures { self.new ≡ filter (λ e. not (e.0.uid == uid)) self.old }
+    {
+        match &mut self.notes {
+            Some(notes) => take_out(&mut self.keys, notes, uid),
+            None => self.keys.retain(|slot, _key| slot.uid != uid),
+        }
+    }
+
+    /// The first key of an id.
+    pub(crate) fn key_of(&self, uid: u32) -> Option<&Key>
+        ensures { option_map (λ k. k.now) result ≡ key_at (map pair_of self.now) uid }
+    {
+        match &self.notes {
+            Some(notes) => self.keys.get(notes.get(&uid)?),
+            None => first_of(&self.keys, uid),
+        }
+    }
+}
+
+/// Notes a slot under its id. Where another is noted there, all notes are given up.
+fn note(notes: &mut Notes, slot: &Slot) -> Result<(), AllocError>
+    ensures kept { (es : List Entry) → AreNoted notes.old es → AreNoted notes.new es }
+    ensures noted { IfOk result (λ _. HasNote notes.new slot.now) }
+{
+    let Some(of_ids) = notes else {
+        return Ok(());
+    };
+    match of_ids.get(&slot.uid) {
+        None => {
+            of_ids.insert(slot.uid, slot.copy()?)?;
+        }
+        Some(noted) => {
+            if noted != slot {
+                *notes = None;
+            }
+        }
+    }
+    Ok(())
+}
+
+/// Takes the one key of an id out, by its note.
+fn take_out(keys: &mut BTreeMap<Slot, Key>, notes: &mut BTreeMap<u32, Slot>, uid: u32)
+    requires { AreNotes notes.old keys.old.entries }
+    ensures keys { keys.new.entries ≡ filter (λ e. not (e.0.uid == uid)) keys.old.entries }
+    ensures notes { AreNotes notes.new keys.new.entries }
+{
+    if let Some(slot) = notes.remove(&uid) {
+        keys.remove(&slot);
+    }
+}
+
+/// The first key of an id, which a walk over all finds.
+fn first_of(keys: &BTreeMap<Slot, Key>, uid: u32) -> Option<&Key>
+    ensures { option_map (λ k. k.now) result ≡ key_at (map pair_of keys.now.entries) uid }
+{
+    for (slot, key) in keys {
+        if slot.uid == uid {
+            return Some(key);
+        }
+    }
+    None
+}
