@@ -9,6 +9,9 @@ use Rattle.newt_spec_script.specs.Line.{unit, number, cursor, star, ended, with_
 use Rattle.newt_script.specs.Graphs.{literal_word}
 use Rattle.newt_script_words.specs.Readers.{unit_of, number_of, name_of, soup_of, cursor_of, steps_of, star_of, rest_of}
 use Rattle.newt_script.specs.Rows.{Reading, reading, row_reading}
+use Rattle.newt_script.specs.Verbs.{cursor_word, cursor_command}
+use Rattle.newt_script.specs.declared.verbs.CursorVerb.{CursorVerb}
+use Rattle.newt_script.specs.declared.verbs.CursorVerb.TheVariants as cursor_verb
 use Rattle.newt_script.proofs.RowTable.{after, finished, with_graph, after_same, then_after, one_word, one_literal, literal_after, two}
 
 -- ---- words one after another
@@ -28,41 +31,18 @@ three_chained p q s f cs =
 
 -- ---- the rows
 
-pub row_entry : (cs : List ℕ) → row_reading (codes "entry") cs ≡ after (cursor_of cs) (λ c rest. finished rest (command.Entry c))
+-- C
+pub row_cursor : (v : CursorVerb) (cs : List ℕ) → row_reading (cursor_word v) cs ≡ after (cursor_of cs) (λ c rest. finished rest (cursor_command v c))
 unfolding row_reading cursor_of
-row_entry cs = one_word cursor command.Entry cs
-
-pub row_next : (cs : List ℕ) → row_reading (codes "next") cs ≡ after (cursor_of cs) (λ c rest. finished rest (command.Next c))
-unfolding row_reading cursor_of
-row_next cs = one_word cursor command.Next cs
-
-pub row_prev : (cs : List ℕ) → row_reading (codes "prev") cs ≡ after (cursor_of cs) (λ c rest. finished rest (command.Prev c))
-unfolding row_reading cursor_of
-row_prev cs = one_word cursor command.Prev cs
-
-pub row_reset : (cs : List ℕ) → row_reading (codes "reset") cs ≡ after (cursor_of cs) (λ c rest. finished rest (command.Reset c))
-unfolding row_reading cursor_of
-row_reset cs = one_word cursor command.Reset cs
-
-pub row_end : (cs : List ℕ) → row_reading (codes "end") cs ≡ after (cursor_of cs) (λ c rest. finished rest (command.End c))
-unfolding row_reading cursor_of
-row_end cs = one_word cursor command.End cs
-
-pub row_count : (cs : List ℕ) → row_reading (codes "count") cs ≡ after (cursor_of cs) (λ c rest. finished rest (command.Count c))
-unfolding row_reading cursor_of
-row_count cs = one_word cursor command.Count cs
-
-pub row_which : (cs : List ℕ) → row_reading (codes "which") cs ≡ after (cursor_of cs) (λ c rest. finished rest (command.Which c))
-unfolding row_reading cursor_of
-row_which cs = one_word cursor command.Which cs
-
-pub row_clone : (cs : List ℕ) → row_reading (codes "clone") cs ≡ after (cursor_of cs) (λ c rest. finished rest (command.Clone c))
-unfolding row_reading cursor_of
-row_clone cs = one_word cursor command.Clone cs
-
-pub row_close : (cs : List ℕ) → row_reading (codes "close") cs ≡ after (cursor_of cs) (λ c rest. finished rest (command.Close c))
-unfolding row_reading cursor_of
-row_close cs = one_word cursor command.Close cs
+row_cursor cursor_verb.Entry cs = one_word cursor command.Entry cs
+row_cursor cursor_verb.Next cs = one_word cursor command.Next cs
+row_cursor cursor_verb.Prev cs = one_word cursor command.Prev cs
+row_cursor cursor_verb.Reset cs = one_word cursor command.Reset cs
+row_cursor cursor_verb.End cs = one_word cursor command.End cs
+row_cursor cursor_verb.Count cs = one_word cursor command.Count cs
+row_cursor cursor_verb.Which cs = one_word cursor command.Which cs
+row_cursor cursor_verb.Clone cs = one_word cursor command.Clone cs
+row_cursor cursor_verb.Close cs = one_word cursor command.Close cs
 
 pub row_moveby : (cs : List ℕ) → row_reading (codes "moveby") cs ≡ after (cursor_of cs) (λ c rest. after (steps_of rest) (λ k rest. finished rest (command.Moveby c k)))
 unfolding row_reading cursor_of steps_of

@@ -13,7 +13,7 @@ use Rattle.newt_script_words.specs.Readers.{unit_of, name_of, soup_of, path_word
 use Rattle.newt_script.specs.Rows.{Reading, reading, row_reading}
 use Rattle.newt_script_words.specs.declared.fault.WordFault.{WordFault}
 use Rattle.newt_script.specs.Faults.{of_words}
-use Rattle.newt_script.proofs.RowTable.{after, finished, mapped, after_same, two_words, soup_and_word, one_word, then_after, two, two_then}
+use Rattle.newt_script.proofs.RowTable.{after, finished, mapped, after_same, soup_and_word, one_word, then_after, two, two_then}
 
 -- the command with a list
 abbrev pub with_list : {A : Type 0} → Result A WordFault → (A → Command) → Reading
@@ -60,10 +60,6 @@ row_index cs = soup_and_list 4 part command.Index cs
 pub row_unindex : (cs : List ℕ) → row_reading (codes "unindex") cs ≡ after (soup_of cs) (λ x rest. with_list (paths_in rest) (command.Unindex x.0 x.1))
 unfolding row_reading soup_of unit_of name_of paths_in
 row_unindex cs = soup_and_list 4 path_of command.Unindex cs
-
-pub row_indexes : (cs : List ℕ) → row_reading (codes "indexes") cs ≡ after (soup_of cs) (λ x rest. finished rest (command.Indexes x.0 x.1))
-unfolding row_reading soup_of unit_of name_of
-row_indexes cs = two_words unit name command.Indexes cs
 
 -- ---- the two rows of `tags`
 

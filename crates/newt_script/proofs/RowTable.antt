@@ -12,6 +12,15 @@ use Rattle.newt_spec_script.specs.Line.{unit, number, sig, ended, with_literal, 
 use Rattle.newt_script.specs.Graphs.{literal_in, stream_of, stream_word, literal_word}
 use Rattle.newt_script_words.specs.Readers.{unit_of, number_of, sig_of, name_of, soup_of, entry_of, path_word, rest_of, is_ended}
 use Rattle.newt_script.specs.Rows.{Reading, reading, row_reading}
+use Rattle.newt_script.specs.Verbs.{unit_word, unit_command, soup_word, soup_command, entry_word, entry_command, transfer_word, transfer_command}
+use Rattle.newt_script.specs.declared.verbs.UnitVerb.{UnitVerb}
+use Rattle.newt_script.specs.declared.verbs.UnitVerb.TheVariants as unit_verb
+use Rattle.newt_script.specs.declared.verbs.SoupVerb.{SoupVerb}
+use Rattle.newt_script.specs.declared.verbs.SoupVerb.TheVariants as soup_verb
+use Rattle.newt_script.specs.declared.verbs.EntryVerb.{EntryVerb}
+use Rattle.newt_script.specs.declared.verbs.EntryVerb.TheVariants as entry_verb
+use Rattle.newt_script.specs.declared.verbs.TransferVerb.{TransferVerb}
+use Rattle.newt_script.specs.declared.verbs.TransferVerb.TheVariants as transfer_verb
 use Rattle.newt_script.specs.declared.fault.LineFault.{LineFault}
 use Rattle.newt_script.specs.declared.fault.LineFault.TheVariants.{Refused}
 
@@ -178,22 +187,6 @@ pub row_time : (cs : List ℕ) → row_reading (codes "time") cs ≡ after (numb
 unfolding row_reading number_of
 row_time cs = one_word number command.Time cs
 
-pub row_mount : (cs : List ℕ) → row_reading (codes "mount") cs ≡ after (unit_of cs) (λ a rest. finished rest (command.Mount a))
-unfolding row_reading unit_of
-row_mount cs = one_word unit command.Mount cs
-
-pub row_unmount : (cs : List ℕ) → row_reading (codes "unmount") cs ≡ after (unit_of cs) (λ a rest. finished rest (command.Unmount a))
-unfolding row_reading unit_of
-row_unmount cs = one_word unit command.Unmount cs
-
-pub row_default : (cs : List ℕ) → row_reading (codes "default") cs ≡ after (unit_of cs) (λ a rest. finished rest (command.Default a))
-unfolding row_reading unit_of
-row_default cs = one_word unit command.Default cs
-
-pub row_soups : (cs : List ℕ) → row_reading (codes "soups") cs ≡ after (unit_of cs) (λ a rest. finished rest (command.Soups a))
-unfolding row_reading unit_of
-row_soups cs = one_word unit command.Soups cs
-
 pub row_addu : (cs : List ℕ) → row_reading (codes "addu") cs ≡ after (name_of cs) (λ s rest. with_graph (literal_word (rest_of rest)) (command.Addu s))
 unfolding row_reading name_of
 row_addu cs = ap (λ r. reading (with_literal r)) (one name name (λ s g. command.Addu s g) cs) ∙ literal_after (λ s g. command.Addu s g) (name cs)
@@ -202,14 +195,6 @@ row_addu cs = ap (λ r. reading (with_literal r)) (one name name (λ s g. comman
 pub two_words : {A B : Type 0} (p : Reader A) (q : Reader B) (f : A → B → Command) (cs : List ℕ)
     → reading (whole (of2 p q f) cs) ≡ after (of2 p q (λ a b. (a, b)) cs) (λ (x : A × B) rest. finished rest (f x.0 x.1))
 two_words {A} {B} p q f cs = ap (λ r. reading (ended r)) (two p q f cs) ∙ whole_after (λ (x : A × B). f x.0 x.1) (of2 p q (λ a b. (a, b)) cs)
-
-pub row_soup : (cs : List ℕ) → row_reading (codes "soup") cs ≡ after (soup_of cs) (λ x rest. finished rest (command.Soup x.0 x.1))
-unfolding row_reading soup_of unit_of name_of
-row_soup cs = two_words unit name command.Soup cs
-
-pub row_drop : (cs : List ℕ) → row_reading (codes "drop") cs ≡ after (soup_of cs) (λ x rest. finished rest (command.Drop x.0 x.1))
-unfolding row_reading soup_of unit_of name_of
-row_drop cs = two_words unit name command.Drop cs
 
 pub row_add : (cs : List ℕ) → row_reading (codes "add") cs ≡ after (soup_of cs) (λ x rest. with_graph (literal_word (rest_of rest)) (command.Add x.0 x.1))
 unfolding row_reading soup_of unit_of name_of
@@ -263,14 +248,6 @@ five_words {A} {B} {C} {D} {E} p q s t u f cs =
     (λ (x : A × B × C) rest. after (of2 t u (λ d e. (d, e)) rest) (λ (y : D × E) rest. finished rest (f x.0 x.1 x.2 y.0 y.1)))
     (λ x rest. two_words t u (f x.0 x.1 x.2) rest) (of3 p q s (λ a b c. (a, b, c)) cs))
 
-pub row_get : (cs : List ℕ) → row_reading (codes "get") cs ≡ after (entry_of cs) (λ x rest. finished rest (command.Get x.0 x.1 x.2))
-unfolding row_reading entry_of unit_of name_of number_of
-row_get cs = three_words unit name number command.Get cs
-
-pub row_getx : (cs : List ℕ) → row_reading (codes "getx") cs ≡ after (entry_of cs) (λ x rest. finished rest (command.Getx x.0 x.1 x.2))
-unfolding row_reading entry_of unit_of name_of number_of
-row_getx cs = three_words unit name number command.Getx cs
-
 -- rows of an entry that end in a literal
 literal_value : {A : Type 0} (f : A → RawGraph → Command) (r : Result (A × List ℕ) Refusal)
     → reading (with_literal (then_read r (λ a rest. Ok (f a, rest)))) ≡ after r (λ a rest. with_graph (literal_word (rest_of rest)) (f a))
@@ -304,20 +281,34 @@ row_set cs =
     (λ (x : ℕ × List ℕ × ℕ) rest. after (word path_of rest) (λ p rest. with_graph (literal_word (rest_of rest)) (command.Set x.0 x.1 x.2 p)))
     (λ x rest. one_literal (word path_of) (λ p g. command.Set x.0 x.1 x.2 p g) rest) (of3 unit name number (λ a b c. (a, b, c)) cs))
 
-pub row_remove : (cs : List ℕ) → row_reading (codes "remove") cs ≡ after (entry_of cs) (λ x rest. finished rest (command.Remove x.0 x.1 x.2))
+-- ---- rows with equal words
+
+-- U
+pub row_unit : (v : UnitVerb) (cs : List ℕ) → row_reading (unit_word v) cs ≡ after (unit_of cs) (λ u rest. finished rest (unit_command v u))
+unfolding row_reading unit_of
+row_unit unit_verb.Mount cs = one_word unit command.Mount cs
+row_unit unit_verb.Unmount cs = one_word unit command.Unmount cs
+row_unit unit_verb.Default cs = one_word unit command.Default cs
+row_unit unit_verb.Soups cs = one_word unit command.Soups cs
+
+-- U S
+pub row_soup : (v : SoupVerb) (cs : List ℕ) → row_reading (soup_word v) cs ≡ after (soup_of cs) (λ x rest. finished rest (soup_command v x.0 x.1))
+unfolding row_reading soup_of unit_of name_of
+row_soup soup_verb.Soup cs = two_words unit name command.Soup cs
+row_soup soup_verb.Drop cs = two_words unit name command.Drop cs
+row_soup soup_verb.Indexes cs = two_words unit name command.Indexes cs
+
+-- U S UID
+pub row_entry : (v : EntryVerb) (cs : List ℕ) → row_reading (entry_word v) cs ≡ after (entry_of cs) (λ x rest. finished rest (entry_command v x.0 x.1 x.2))
 unfolding row_reading entry_of unit_of name_of number_of
-row_remove cs = three_words unit name number command.Remove cs
+row_entry entry_verb.Get cs = three_words unit name number command.Get cs
+row_entry entry_verb.Getx cs = three_words unit name number command.Getx cs
+row_entry entry_verb.Remove cs = three_words unit name number command.Remove cs
+row_entry entry_verb.Alias cs = three_words unit name number command.Alias cs
 
-pub row_alias : (cs : List ℕ) → row_reading (codes "alias") cs ≡ after (entry_of cs) (λ x rest. finished rest (command.Alias x.0 x.1 x.2))
-unfolding row_reading entry_of unit_of name_of number_of
-row_alias cs = three_words unit name number command.Alias cs
-
-pub row_copy : (cs : List ℕ)
-    → row_reading (codes "copy") cs ≡ after (entry_of cs) (λ x rest. after (soup_of rest) (λ y rest. finished rest (command.Copy x.0 x.1 x.2 y.0 y.1)))
+-- U S UID U S
+pub row_transfer : (v : TransferVerb) (cs : List ℕ)
+    → row_reading (transfer_word v) cs ≡ after (entry_of cs) (λ x rest. after (soup_of rest) (λ y rest. finished rest (transfer_command v x.0 x.1 x.2 y.0 y.1)))
 unfolding row_reading entry_of soup_of unit_of name_of number_of
-row_copy cs = five_words unit name number unit name command.Copy cs
-
-pub row_move : (cs : List ℕ)
-    → row_reading (codes "move") cs ≡ after (entry_of cs) (λ x rest. after (soup_of rest) (λ y rest. finished rest (command.Move x.0 x.1 x.2 y.0 y.1)))
-unfolding row_reading entry_of soup_of unit_of name_of number_of
-row_move cs = five_words unit name number unit name command.Move cs
+row_transfer transfer_verb.Copy cs = five_words unit name number unit name command.Copy cs
+row_transfer transfer_verb.Move cs = five_words unit name number unit name command.Move cs

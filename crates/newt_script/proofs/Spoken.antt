@@ -2,7 +2,7 @@
 use Rattle.std.proofs.Common.{◌≡◌, ◌≢◌, ℕ, Bool, true, false, not, ◌&&◌, nat_lt, ◌<◌, ◌≤◌, List, [], ◌∷◌, length, option_map, Option, Some, None, Result, Ok, Err, refl, sym, ◌∙◌, ap}
 use Rattle.std.proofs.lemmas.Bool.{lt-ltb, le-ltb}
 use Rattle.std.proofs.lemmas.Slice.Eq.{bytes_eq-Decides}
-use Rattle.std.specs.List.{list_all, find}
+use Rattle.std.specs.List.{list_all, list_any, find}
 use Rattle.std.specs.Prelude.{bytes_eq}
 use Rattle.newt_base.specs.declared.Refusal.TheVariants as refusals
 use Rattle.newt_spec_world.specs.declared.command.Command.{Command}
@@ -11,10 +11,17 @@ use Rattle.newt_spec_script.specs.Script.{Item, item_of, without_return}
 use Rattle.newt_script.specs.Graphs.{readers}
 use Rattle.newt_script.specs.Rows.{Reading, as_read, reading, row_reading}
 use Rattle.newt_script.specs.Lines.{line_answer, line_command, spoken, takes_memory}
-use Rattle.newt_script.specs.Verbs.{word_of, is_command_word, is_memory_word}
+use Rattle.newt_script.specs.Verbs.{word_of, is_memory_word, soup_word, entry_word, transfer_word}
 use Rattle.newt_script.specs.declared.fault.LineFault.{LineFault}
 use Rattle.newt_script.specs.declared.fault.LineFault.TheVariants.{Refused, Memory}
+use Rattle.newt_script.specs.declared.verbs.TheConstants.{VERBS}
 use Rattle.newt_script.specs.declared.verbs.Verb.{Verb}
+use Rattle.newt_script.specs.declared.verbs.SoupVerb.{SoupVerb}
+use Rattle.newt_script.specs.declared.verbs.SoupVerb.TheVariants as soup_verb
+use Rattle.newt_script.specs.declared.verbs.EntryVerb.{EntryVerb}
+use Rattle.newt_script.specs.declared.verbs.EntryVerb.TheVariants as entry_verb
+use Rattle.newt_script.specs.declared.verbs.TransferVerb.{TransferVerb}
+use Rattle.newt_script.specs.declared.verbs.TransferVerb.TheVariants as transfer_verb
 
 -- by its length
 spoken_by : (line : List ℕ) (long : Bool) → nat_lt 140_000 (length line) ≡ long → spoken line ≡ reading (within_length long line)
@@ -52,33 +59,81 @@ unfolding takes_memory
 no_memory_word line v short word none =
     ap is_memory_word (sym word) ∙ (ap (λ (b : Bool). not b && is_memory_word (first_word line).0) (sym (le-ltb 140_000 (length line) short)) ∙ none)
 
--- ---- a word that no row has
+-- the words of all verbs in a group
+pub soup_takes : (v : SoupVerb) → is_memory_word (soup_word v) ≡ true
+soup_takes soup_verb.Soup = refl
+soup_takes soup_verb.Drop = refl
+soup_takes soup_verb.Indexes = refl
+
+pub entry_takes : (v : EntryVerb) → is_memory_word (entry_word v) ≡ true
+entry_takes entry_verb.Get = refl
+entry_takes entry_verb.Getx = refl
+entry_takes entry_verb.Remove = refl
+entry_takes entry_verb.Alias = refl
+
+pub transfer_takes : (v : TransferVerb) → is_memory_word (transfer_word v) ≡ true
+transfer_takes transfer_verb.Copy = refl
+transfer_takes transfer_verb.Move = refl
+
+-- ---- words that are found, and words that no row has
 
 both : (a b : Bool) → (a && b) ≡ true → (a ≡ true) × (b ≡ true)
 both true b is = (refl, is)
 both false b is = cc
 
-none_of : (w : List ℕ) (rs : List Row) → is_command_word w ≡ false → list_all (λ (r : Row). is_command_word r.0) rs ≡ true → find (λ (r : Row). bytes_eq r.0 w) rs ≡ None
+found_in : (w : List ℕ) (vs : List Verb) (v : Verb) → find (λ (u : Verb). bytes_eq (word_of u) w) vs ≡ Some v → word_of v ≡ w
+found_in w [] v is = absurd (cc)
+found_in w (u ∷ vs) v is = go (λ k. found_in w vs v k) (bytes_eq (word_of u) w) refl
+  where
+    go : (find (λ (q : Verb). bytes_eq (word_of q) w) vs ≡ Some v → word_of v ≡ w) → (b : Bool) → bytes_eq (word_of u) w ≡ b → word_of v ≡ w
+    go later true e =
+        let here : Some u ≡ Some v = rw e at is in
+        let same : u ≡ v = cc in
+        ap word_of (sym same) ∙ (bytes_eq-Decides (word_of u) w).0 e
+    go later false e = later (rw e at is)
+
+-- the word that a verb was found by
+pub found : (w : List ℕ) (v : Verb) → Some v ≡ find (λ (u : Verb). bytes_eq (word_of u) w) VERBS → w ≡ word_of v
+found w v is = sym (found_in w VERBS v (sym is))
+
+-- none of the verbs has the word
+unknown_in : (w : List ℕ) (vs : List Verb) → find (λ (u : Verb). bytes_eq (word_of u) w) vs ≡ None → list_any (λ (u : Verb). bytes_eq (word_of u) w) vs ≡ false
+unknown_in w [] is = refl
+unknown_in w (u ∷ vs) is = go (λ k. unknown_in w vs k) (bytes_eq (word_of u) w) refl
+  where
+    go : (find (λ (q : Verb). bytes_eq (word_of q) w) vs ≡ None → list_any (λ (q : Verb). bytes_eq (word_of q) w) vs ≡ false) → (b : Bool) → bytes_eq (word_of u) w ≡ b
+        → list_any (λ (q : Verb). bytes_eq (word_of q) w) (u ∷ vs) ≡ false
+    go later true e =
+        let there : Some u ≡ None = rw e at is in
+        absurd (cc)
+    go later false e = rw e (later (rw e at is))
+
+is_known : List ℕ → Bool
+is_known w = list_any (λ (u : Verb). bytes_eq (word_of u) w) VERBS
+
+none_of : (w : List ℕ) (rs : List Row) → is_known w ≡ false → list_all (λ (r : Row). is_known r.0) rs ≡ true → find (λ (r : Row). bytes_eq r.0 w) rs ≡ None
 none_of w [] unknown all = refl
 none_of w (r ∷ rs) unknown all =
-    let is : (is_command_word r.0 ≡ true) × (list_all (λ (q : Row). is_command_word q.0) rs ≡ true) = both (is_command_word r.0) (list_all (λ (q : Row). is_command_word q.0) rs) all in
+    let is : (is_known r.0 ≡ true) × (list_all (λ (q : Row). is_known q.0) rs ≡ true) = both (is_known r.0) (list_all (λ (q : Row). is_known q.0) rs) all in
     go is.0 (none_of w rs unknown is.1) (bytes_eq r.0 w) refl
   where
     apart : (b : Bool) → b ≡ false → b ≡ true → ⊥
     apart b f t = cc
 
-    go : is_command_word r.0 ≡ true → find (λ (q : Row). bytes_eq q.0 w) rs ≡ None → (b : Bool) → bytes_eq r.0 w ≡ b → find (λ (q : Row). bytes_eq q.0 w) (r ∷ rs) ≡ None
+    go : is_known r.0 ≡ true → find (λ (q : Row). bytes_eq q.0 w) rs ≡ None → (b : Bool) → bytes_eq r.0 w ≡ b → find (λ (q : Row). bytes_eq q.0 w) (r ∷ rs) ≡ None
     go here rest false is = rw is rest
-    go here rest true is = absurd (apart (is_command_word w) unknown (ap is_command_word (sym ((bytes_eq-Decides r.0 w).0 is)) ∙ here))
+    go here rest true is = absurd (apart (is_known w) unknown (ap is_known (sym ((bytes_eq-Decides r.0 w).0 is)) ∙ here))
 
--- each row of the table has the word of a command
-rows_known : list_all (λ (r : Row). is_command_word r.0) rows ≡ true
+-- each row of the table has the word of a verb
+rows_known : list_all (λ (r : Row). is_known r.0) rows ≡ true
+unfolding is_known
 rows_known = refl
 
-pub no_command : (line : List ℕ) → length line ≤ 140_000 → is_command_word (first_word line).0 ≡ false → Err (Refused refusals.Command) ≡ spoken line
-no_command line short word =
+pub no_command : (line : List ℕ) → length line ≤ 140_000 → None ≡ find (λ (u : Verb). bytes_eq (word_of u) (first_word line).0) VERBS → Err (Refused refusals.Command) ≡ spoken line
+unfolding is_known
+no_command line short none =
     sym (spoken_by line false (le-ltb 140_000 (length line) short)
-    ∙ ap (λ r. reading (read_row r (first_word line).1)) (none_of (first_word line).0 rows word rows_known))
+    ∙ ap (λ r. reading (read_row r (first_word line).1)) (none_of (first_word line).0 rows (unknown_in (first_word line).0 VERBS (sym none)) rows_known))
 
 -- ---- whole lines
 

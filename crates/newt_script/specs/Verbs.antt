@@ -1,111 +1,130 @@
--- The words of commands: of each verb, and all of them, in groups.
-use Rattle.std.specs.Prelude.{ℕ, Bool, ◌||◌, List, [], ◌∷◌, ◌++◌, codes, bytes_eq}
+-- The words of commands, and the commands that they begin.
+use Rattle.std.specs.Prelude.{ℕ, Bool, List, [], ◌∷◌, codes, bytes_eq}
 use Rattle.std.specs.List.{list_any}
+use Rattle.newt_spec_world.specs.declared.command.Command.{Command}
+use Rattle.newt_spec_world.specs.declared.command.Command.TheVariants as command
 use Rattle.newt_script.specs.declared.verbs.Verb.{Verb}
 use Rattle.newt_script.specs.declared.verbs.Verb.TheVariants as verb
+use Rattle.newt_script.specs.declared.verbs.UnitVerb.{UnitVerb}
+use Rattle.newt_script.specs.declared.verbs.UnitVerb.TheVariants as unit_verb
+use Rattle.newt_script.specs.declared.verbs.SoupVerb.{SoupVerb}
+use Rattle.newt_script.specs.declared.verbs.SoupVerb.TheVariants as soup_verb
+use Rattle.newt_script.specs.declared.verbs.EntryVerb.{EntryVerb}
+use Rattle.newt_script.specs.declared.verbs.EntryVerb.TheVariants as entry_verb
+use Rattle.newt_script.specs.declared.verbs.TransferVerb.{TransferVerb}
+use Rattle.newt_script.specs.declared.verbs.TransferVerb.TheVariants as transfer_verb
+use Rattle.newt_script.specs.declared.verbs.CursorVerb.{CursorVerb}
+use Rattle.newt_script.specs.declared.verbs.CursorVerb.TheVariants as cursor_verb
+
+-- ---- those whose rows have equal words behind them
+
+-- U behind them
+abbrev pub unit_word : UnitVerb → List ℕ
+unit_word unit_verb.Mount = codes "mount"
+unit_word unit_verb.Unmount = codes "unmount"
+unit_word unit_verb.Default = codes "default"
+unit_word unit_verb.Soups = codes "soups"
+
+abbrev pub unit_command : UnitVerb → ℕ → Command
+unit_command unit_verb.Mount u = command.Mount u
+unit_command unit_verb.Unmount u = command.Unmount u
+unit_command unit_verb.Default u = command.Default u
+unit_command unit_verb.Soups u = command.Soups u
+
+-- U S behind them
+abbrev pub soup_word : SoupVerb → List ℕ
+soup_word soup_verb.Soup = codes "soup"
+soup_word soup_verb.Drop = codes "drop"
+soup_word soup_verb.Indexes = codes "indexes"
+
+abbrev pub soup_command : SoupVerb → ℕ → List ℕ → Command
+soup_command soup_verb.Soup u s = command.Soup u s
+soup_command soup_verb.Drop u s = command.Drop u s
+soup_command soup_verb.Indexes u s = command.Indexes u s
+
+-- U S UID behind them
+abbrev pub entry_word : EntryVerb → List ℕ
+entry_word entry_verb.Get = codes "get"
+entry_word entry_verb.Getx = codes "getx"
+entry_word entry_verb.Remove = codes "remove"
+entry_word entry_verb.Alias = codes "alias"
+
+abbrev pub entry_command : EntryVerb → ℕ → List ℕ → ℕ → Command
+entry_command entry_verb.Get u s uid = command.Get u s uid
+entry_command entry_verb.Getx u s uid = command.Getx u s uid
+entry_command entry_verb.Remove u s uid = command.Remove u s uid
+entry_command entry_verb.Alias u s uid = command.Alias u s uid
+
+-- U S UID U S behind them
+abbrev pub transfer_word : TransferVerb → List ℕ
+transfer_word transfer_verb.Copy = codes "copy"
+transfer_word transfer_verb.Move = codes "move"
+
+abbrev pub transfer_command : TransferVerb → ℕ → List ℕ → ℕ → ℕ → List ℕ → Command
+transfer_command transfer_verb.Copy u s uid v q = command.Copy u s uid v q
+transfer_command transfer_verb.Move u s uid v q = command.Move u s uid v q
+
+-- C behind them
+abbrev pub cursor_word : CursorVerb → List ℕ
+cursor_word cursor_verb.Entry = codes "entry"
+cursor_word cursor_verb.Next = codes "next"
+cursor_word cursor_verb.Prev = codes "prev"
+cursor_word cursor_verb.Reset = codes "reset"
+cursor_word cursor_verb.End = codes "end"
+cursor_word cursor_verb.Count = codes "count"
+cursor_word cursor_verb.Which = codes "which"
+cursor_word cursor_verb.Clone = codes "clone"
+cursor_word cursor_verb.Close = codes "close"
+
+abbrev pub cursor_command : CursorVerb → ℕ → Command
+cursor_command cursor_verb.Entry c = command.Entry c
+cursor_command cursor_verb.Next c = command.Next c
+cursor_command cursor_verb.Prev c = command.Prev c
+cursor_command cursor_verb.Reset c = command.Reset c
+cursor_command cursor_verb.End c = command.End c
+cursor_command cursor_verb.Count c = command.Count c
+cursor_command cursor_verb.Which c = command.Which c
+cursor_command cursor_verb.Clone c = command.Clone c
+cursor_command cursor_verb.Close c = command.Close c
+
+-- ---- all of them
 
 -- the word of a verb
 abbrev pub word_of : Verb → List ℕ
+word_of verb.Quit = codes "quit"
+word_of verb.Stores = codes "stores"
+word_of verb.Time = codes "time"
 word_of verb.Nsof = codes "nsof"
 word_of verb.Lit = codes "lit"
-word_of verb.Time = codes "time"
-word_of verb.Quit = codes "quit"
+word_of verb.Resolve = codes "resolve"
 word_of verb.Format = codes "format"
-word_of verb.Mount = codes "mount"
-word_of verb.Unmount = codes "unmount"
-word_of verb.Stores = codes "stores"
-word_of verb.Default = codes "default"
-word_of verb.Soup = codes "soup"
-word_of verb.Soups = codes "soups"
-word_of verb.Drop = codes "drop"
 word_of verb.Add = codes "add"
 word_of verb.Addx = codes "addx"
 word_of verb.Addu = codes "addu"
-word_of verb.Get = codes "get"
-word_of verb.Getx = codes "getx"
 word_of verb.Set = codes "set"
 word_of verb.Change = codes "change"
-word_of verb.Remove = codes "remove"
-word_of verb.Copy = codes "copy"
-word_of verb.Move = codes "move"
-word_of verb.Alias = codes "alias"
-word_of verb.Resolve = codes "resolve"
 word_of verb.Vread = codes "vread"
 word_of verb.Vwrite = codes "vwrite"
 word_of verb.Index = codes "index"
 word_of verb.Unindex = codes "unindex"
-word_of verb.Indexes = codes "indexes"
 word_of verb.Tags = codes "tags"
 word_of verb.Query = codes "query"
-word_of verb.Entry = codes "entry"
-word_of verb.Next = codes "next"
-word_of verb.Prev = codes "prev"
-word_of verb.Reset = codes "reset"
-word_of verb.End = codes "end"
 word_of verb.Moveby = codes "moveby"
 word_of verb.Goto = codes "goto"
 word_of verb.Gotokey = codes "gotokey"
-word_of verb.Count = codes "count"
-word_of verb.Which = codes "which"
-word_of verb.Clone = codes "clone"
-word_of verb.Close = codes "close"
-
--- ---- all words
-
--- the first words of the commands on graphs and stores
-abbrev pub store_words : List (List ℕ)
-store_words =
-    codes "nsof" ∷ codes "lit" ∷ codes "time" ∷ codes "quit" ∷ codes "format" ∷ codes "mount" ∷ codes "unmount" ∷ codes "stores" ∷ codes "default"
-    ∷ codes "soup" ∷ codes "soups" ∷ codes "drop" ∷ []
-
--- and those on entries
-abbrev pub entry_words : List (List ℕ)
-entry_words =
-    codes "add" ∷ codes "addx" ∷ codes "addu" ∷ codes "get" ∷ codes "getx" ∷ codes "set" ∷ codes "change" ∷ codes "remove" ∷ codes "copy"
-    ∷ codes "move" ∷ codes "alias" ∷ codes "resolve" ∷ []
-
--- and those on the bytes of a large binary
-abbrev pub large_words : List (List ℕ)
-large_words = codes "vread" ∷ codes "vwrite" ∷ []
-
--- and those on the indexes and tags of a soup
-abbrev pub declaring_words : List (List ℕ)
-declaring_words = codes "index" ∷ codes "unindex" ∷ codes "indexes" ∷ codes "tags" ∷ []
-
--- and those that make a cursor, tell of one, or end one
-abbrev pub cursor_words : List (List ℕ)
-cursor_words = codes "query" ∷ codes "entry" ∷ codes "count" ∷ codes "which" ∷ codes "clone" ∷ codes "close" ∷ []
-
--- and those that move a cursor
-abbrev pub moving_words : List (List ℕ)
-moving_words = codes "next" ∷ codes "prev" ∷ codes "reset" ∷ codes "end" ∷ codes "moveby" ∷ codes "goto" ∷ codes "gotokey" ∷ []
+word_of (verb.Unit v) = unit_word v
+word_of (verb.Soup v) = soup_word v
+word_of (verb.Entry v) = entry_word v
+word_of (verb.Transfer v) = transfer_word v
+word_of (verb.Cursor v) = cursor_word v
 
 -- those of the commands that hold a name, a path, a list, a graph or bytes: the rows of all other words take no memory
 abbrev pub memory_words : List (List ℕ)
 memory_words =
-    codes "nsof" ∷ codes "lit" ∷ codes "format" ∷ codes "soup" ∷ codes "drop" ∷ codes "query" ∷ codes "gotokey" ∷ entry_words ++ large_words ++ declaring_words
-
-abbrev pub is_store_word : List ℕ → Bool
-is_store_word word = list_any (bytes_eq word) store_words
-
-abbrev pub is_entry_word : List ℕ → Bool
-is_entry_word word = list_any (bytes_eq word) entry_words
-
-abbrev pub is_large_word : List ℕ → Bool
-is_large_word word = list_any (bytes_eq word) large_words
-
-abbrev pub is_declaring_word : List ℕ → Bool
-is_declaring_word word = list_any (bytes_eq word) declaring_words
-
-abbrev pub is_cursor_word : List ℕ → Bool
-is_cursor_word word = list_any (bytes_eq word) cursor_words
-
-abbrev pub is_moving_word : List ℕ → Bool
-is_moving_word word = list_any (bytes_eq word) moving_words
+    codes "nsof" ∷ codes "lit" ∷ codes "format" ∷ codes "soup" ∷ codes "drop" ∷ codes "query" ∷ codes "gotokey"
+    ∷ codes "add" ∷ codes "addx" ∷ codes "addu" ∷ codes "get" ∷ codes "getx" ∷ codes "set" ∷ codes "change" ∷ codes "remove"
+    ∷ codes "copy" ∷ codes "move" ∷ codes "alias" ∷ codes "resolve" ∷ codes "vread" ∷ codes "vwrite"
+    ∷ codes "index" ∷ codes "unindex" ∷ codes "indexes" ∷ codes "tags" ∷ []
 
 abbrev pub is_memory_word : List ℕ → Bool
 is_memory_word word = list_any (bytes_eq word) memory_words
-
--- the word of a command
-abbrev pub is_command_word : List ℕ → Bool
-is_command_word word = is_store_word word || is_entry_word word || is_large_word word || is_declaring_word word || is_cursor_word word || is_moving_word word

@@ -25,16 +25,6 @@ pub fn unindex(alloc: Global, words: &mut Words) -> Result<Command, LineFault>
     Ok(Command::Unindex(unit, name, words.paths(alloc)?))
 }
 
-/// `indexes U S`
-#[tactic(auto, using(crate::proofs::ListedRows::row_indexes))]
-pub fn indexes(alloc: Global, words: &mut Words) -> Result<Command, LineFault>
-    ensures { result ≢ Err LineFault.Memory → result ≡ row_reading (codes "indexes") words.old }
-{
-    let (unit, name) = words.soup(alloc)?;
-    words.end()?;
-    Ok(Command::Indexes(unit, name))
-}
-
 /// `tags U S` and `tags U S PATH SYM..`
 #[tactic(auto, using(crate::proofs::ListedRows::row_tags))]
 pub fn tags(alloc: Global, words: &mut Words) -> Result<Command, LineFault>

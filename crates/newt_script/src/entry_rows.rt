@@ -1,9 +1,11 @@
 //! The rows of the table of commands that speak of entries.
 ghost use Rattle.std.specs.Prelude.{◌≡◌, ◌≢◌, codes};
 ghost use Rattle.newt_script.specs.Rows.{row_reading};
+ghost use Rattle.newt_script.specs.Verbs.{entry_word, transfer_word};
 
 use crate::fault::LineFault;
 use crate::graphs::{last_literal, last_stream};
+use crate::verbs::{EntryVerb, TransferVerb};
 use newt_script_words::Words;
 use newt_spec_world::Command;
 use std::alloc::Global;
@@ -35,26 +37,6 @@ pub fn addu(alloc: Global, words: &mut Words) -> Result<Command, LineFault>
     Ok(Command::Addu(name, last_literal(alloc, words)?))
 }
 
-/// `get U S UID`
-#[tactic(auto, using(crate::proofs::RowTable::row_get))]
-pub fn get(alloc: Global, words: &mut Words) -> Result<Command, LineFault>
-    ensures { result ≢ Err LineFault.Memory → result ≡ row_reading (codes "get") words.old }
-{
-    let (unit, name, uid) = words.entry(alloc)?;
-    words.end()?;
-    Ok(Command::Get(unit, name, uid))
-}
-
-/// `getx U S UID`
-#[tactic(auto, using(crate::proofs::RowTable::row_getx))]
-pub fn getx(alloc: Global, words: &mut Words) -> Result<Command, LineFault>
-    ensures { result ≢ Err LineFault.Memory → result ≡ row_reading (codes "getx") words.old }
-{
-    let (unit, name, uid) = words.entry(alloc)?;
-    words.end()?;
-    Ok(Command::Getx(unit, name, uid))
-}
-
 /// `set U S UID PATH LIT`
 #[tactic(auto, using(crate::proofs::RowTable::row_set))]
 pub fn set(alloc: Global, words: &mut Words) -> Result<Command, LineFault>
@@ -74,52 +56,27 @@ pub fn change(alloc: Global, words: &mut Words) -> Result<Command, LineFault>
     Ok(Command::Change(unit, name, uid, last_literal(alloc, words)?))
 }
 
-/// `remove U S UID`
-#[tactic(auto, using(crate::proofs::RowTable::row_remove))]
-pub fn remove(alloc: Global, words: &mut Words) -> Result<Command, LineFault>
-    ensures { result ≢ Err LineFault.Memory → result ≡ row_reading (codes "remove") words.old }
+/// `get U S UID`, `getx U S UID`, `remove U S UID` and `alias U S UID`
+#[tactic(auto, using(crate::proofs::RowTable::row_entry))]
+pub fn of_entry(alloc: Global, words: &mut Words, verb: EntryVerb) -> Result<Command, LineFault>
+    ensures { result ≢ Err LineFault.Memory → result ≡ row_reading (entry_word verb) words.old }
 {
-    let (unit, name, uid) = words.entry(alloc)?;
+    let (unit, soup, uid) = words.entry(alloc)?;
     words.end()?;
-    Ok(Command::Remove(unit, name, uid))
+    Ok(verb.command(unit, soup, uid))
 }
 
-/// `copy U S UID U S`
-#[tactic(auto, using(crate::proofs::RowTable::row_copy))]
-pub fn copy(alloc: Global, words: &mut Words) -> Result<Command, LineFault>
-    ensures { result ≢ Err LineFault.Memory → result ≡ row_reading (codes "copy") words.old }
+/// `copy U S UID U S` and `move U S UID U S`
+#[tactic(auto, using(crate::proofs::RowTable::row_transfer))]
+pub fn of_transfer(
+    alloc: Global,
+    words: &mut Words,
+    verb: TransferVerb,
+) -> Result<Command, LineFault>
+    ensures { result ≢ Err LineFault.Memory → result ≡ row_reading (transfer_word verb) words.old }
 {
-    let (unit, name, uid) = words.entry(alloc)?;
-    let (to, soup) = words.soup(alloc)?;
+    let from = words.entry(alloc)?;
+    let to = words.soup(alloc)?;
     words.end()?;
-    Ok(Command::Copy(unit, name, uid, to, soup))
-}
-
-/// `move U S UID U S`
-#[tactic(auto, using(crate::proofs::RowTable::row_move))]
-pub fn move_(alloc: Global, words: &mut Words) -> Result<Command, LineFault>
-    ensures { result ≢ Err LineFault.Memory → result ≡ row_reading (codes "move") words.old }
-{
-    let (unit, name, uid) = words.entry(alloc)?;
-    let (to, soup) = words.soup(alloc)?;
-    words.end()?;
-    Ok(Command::Move(unit, name, uid, to, soup))
-}
-
-/// `alias U S UID`
-#[tactic(auto, using(crate::proofs::RowTable::row_alias))]
-pub fn alias(alloc: Global, words: &mut Words) -> Result<Command, LineFault>
-    ensures { result ≢ Err LineFault.Memory → result ≡ row_reading (codes "alias") words.old }
-{
-    let (unit, name, uid) = words.entry(alloc)?;
-    words.end()?;
-    Ok(Command::Alias(unit, name, uid))
-}
-
-/// `resolve LIT`
-#[tactic(auto, using(crate::proofs::RowTable::row_resolve))]
-pub fn resolve(alloc: Global, words: &mut Words) -> Result<Command, LineFault>
-    ensures { result ≢ Err LineFault.Memory → result ≡ row_reading (codes "resolve") words.old }
-{
-    Ok(Command::Resolve(last_literal(alloc, words)?))
+    Ok(verb.command(from, to))
 }

@@ -1,9 +1,11 @@
 //! The rows of the table of commands, as far as they speak of graphs, stores and soups.
 ghost use Rattle.std.specs.Prelude.{◌≡◌, ◌≢◌, codes};
 ghost use Rattle.newt_script.specs.Rows.{row_reading};
+ghost use Rattle.newt_script.specs.Verbs.{soup_word, unit_word};
 
 use crate::fault::LineFault;
 use crate::graphs::{last_literal, last_stream};
+use crate::verbs::{SoupVerb, UnitVerb};
 use newt_script_words::Words;
 use newt_spec_world::Command;
 use std::alloc::Global;
@@ -22,6 +24,14 @@ pub fn lit(alloc: Global, words: &mut Words) -> Result<Command, LineFault>
     ensures { result ≢ Err LineFault.Memory → result ≡ row_reading (codes "lit") words.old }
 {
     Ok(Command::Lit(last_literal(alloc, words)?))
+}
+
+/// `resolve LIT`
+#[tactic(auto, using(crate::proofs::RowTable::row_resolve))]
+pub fn resolve(alloc: Global, words: &mut Words) -> Result<Command, LineFault>
+    ensures { result ≢ Err LineFault.Memory → result ≡ row_reading (codes "resolve") words.old }
+{
+    Ok(Command::Resolve(last_literal(alloc, words)?))
 }
 
 /// `time T`
@@ -54,26 +64,6 @@ pub fn format(alloc: Global, words: &mut Words) -> Result<Command, LineFault>
     Ok(Command::Format(unit, name, sig))
 }
 
-/// `mount U`
-#[tactic(auto, using(crate::proofs::RowTable::row_mount))]
-pub fn mount(words: &mut Words) -> Result<Command, LineFault>
-    ensures { result ≡ row_reading (codes "mount") words.old }
-{
-    let unit = words.unit()?;
-    words.end()?;
-    Ok(Command::Mount(unit))
-}
-
-/// `unmount U`
-#[tactic(auto, using(crate::proofs::RowTable::row_unmount))]
-pub fn unmount(words: &mut Words) -> Result<Command, LineFault>
-    ensures { result ≡ row_reading (codes "unmount") words.old }
-{
-    let unit = words.unit()?;
-    words.end()?;
-    Ok(Command::Unmount(unit))
-}
-
 /// `stores`
 #[tactic(auto, using(crate::proofs::RowTable::row_stores))]
 pub fn stores(words: &mut Words) -> Result<Command, LineFault>
@@ -83,42 +73,22 @@ pub fn stores(words: &mut Words) -> Result<Command, LineFault>
     Ok(Command::Stores)
 }
 
-/// `default U`
-#[tactic(auto, using(crate::proofs::RowTable::row_default))]
-pub fn default(words: &mut Words) -> Result<Command, LineFault>
-    ensures { result ≡ row_reading (codes "default") words.old }
+/// `mount U`, `unmount U`, `default U` and `soups U`
+#[tactic(auto, using(crate::proofs::RowTable::row_unit))]
+pub fn of_unit(words: &mut Words, verb: UnitVerb) -> Result<Command, LineFault>
+    ensures { result ≡ row_reading (unit_word verb) words.old }
 {
     let unit = words.unit()?;
     words.end()?;
-    Ok(Command::Default(unit))
+    Ok(verb.command(unit))
 }
 
-/// `soup U NAME`
+/// `soup U NAME`, `drop U S` and `indexes U S`
 #[tactic(auto, using(crate::proofs::RowTable::row_soup))]
-pub fn soup(alloc: Global, words: &mut Words) -> Result<Command, LineFault>
-    ensures { result ≢ Err LineFault.Memory → result ≡ row_reading (codes "soup") words.old }
+pub fn of_soup(alloc: Global, words: &mut Words, verb: SoupVerb) -> Result<Command, LineFault>
+    ensures { result ≢ Err LineFault.Memory → result ≡ row_reading (soup_word verb) words.old }
 {
-    let (unit, name) = words.soup(alloc)?;
+    let (unit, soup) = words.soup(alloc)?;
     words.end()?;
-    Ok(Command::Soup(unit, name))
-}
-
-/// `soups U`
-#[tactic(auto, using(crate::proofs::RowTable::row_soups))]
-pub fn soups(words: &mut Words) -> Result<Command, LineFault>
-    ensures { result ≡ row_reading (codes "soups") words.old }
-{
-    let unit = words.unit()?;
-    words.end()?;
-    Ok(Command::Soups(unit))
-}
-
-/// `drop U S`
-#[tactic(auto, using(crate::proofs::RowTable::row_drop))]
-pub fn drop(alloc: Global, words: &mut Words) -> Result<Command, LineFault>
-    ensures { result ≢ Err LineFault.Memory → result ≡ row_reading (codes "drop") words.old }
-{
-    let (unit, name) = words.soup(alloc)?;
-    words.end()?;
-    Ok(Command::Drop(unit, name))
+    Ok(verb.command(unit, soup))
 }

@@ -1,208 +1,311 @@
-//! The first words of commands.
-ghost use Rattle.std.specs.Prelude.{◌≡◌, ◌||◌, MatchOption, false};
-ghost use Rattle.newt_script.specs.Verbs.{word_of, is_command_word, is_entry_word, is_large_word, is_declaring_word, is_cursor_word, is_moving_word};
+//! The first words of commands, in one table.
+ghost use Rattle.std.specs.Prelude.{◌≡◌, bytes_eq};
+ghost use Rattle.std.specs.List.{find};
+ghost use Rattle.newt_script.specs.Verbs.{word_of, unit_word, soup_word, entry_word, transfer_word, cursor_word};
+ghost use Rattle.newt_script.specs.Verbs.{unit_command, soup_command, entry_command, transfer_command, cursor_command};
 
-/// The first word of a command.
+use newt_base::{Name, Uid};
+use newt_host::Unit;
+use newt_spec_world::Command;
+
+/// The first word of a command. Those whose rows have equal words behind them stand together.
 #[derive(Clone, Copy)]
 pub enum Verb {
+    Quit,
+    Stores,
+    Time,
     Nsof,
     Lit,
-    Time,
-    Quit,
+    Resolve,
     Format,
-    Mount,
-    Unmount,
-    Stores,
-    Default,
-    Soup,
-    Soups,
-    Drop,
     Add,
     Addx,
     Addu,
-    Get,
-    Getx,
     Set,
     Change,
-    Remove,
-    Copy,
-    Move,
-    Alias,
-    Resolve,
     Vread,
     Vwrite,
     Index,
     Unindex,
-    Indexes,
     Tags,
     Query,
+    Moveby,
+    Goto,
+    Gotokey,
+    Unit(UnitVerb),
+    Soup(SoupVerb),
+    Entry(EntryVerb),
+    Transfer(TransferVerb),
+    Cursor(CursorVerb),
+}
+
+/// Those with `U` behind them.
+#[derive(Clone, Copy)]
+pub enum UnitVerb {
+    Mount,
+    Unmount,
+    Default,
+    Soups,
+}
+
+/// Those with `U S` behind them.
+#[derive(Clone, Copy)]
+pub enum SoupVerb {
+    Soup,
+    Drop,
+    Indexes,
+}
+
+/// Those with `U S UID` behind them.
+#[derive(Clone, Copy)]
+pub enum EntryVerb {
+    Get,
+    Getx,
+    Remove,
+    Alias,
+}
+
+/// Those with `U S UID U S` behind them.
+#[derive(Clone, Copy)]
+pub enum TransferVerb {
+    Copy,
+    Move,
+}
+
+/// Those with `C` behind them.
+#[derive(Clone, Copy)]
+pub enum CursorVerb {
     Entry,
     Next,
     Prev,
     Reset,
     End,
-    Moveby,
-    Goto,
-    Gotokey,
     Count,
     Which,
     Clone,
     Close,
 }
 
+/// All first words.
+const VERBS: [Verb; 43] = [
+    Verb::Nsof,
+    Verb::Lit,
+    Verb::Time,
+    Verb::Quit,
+    Verb::Format,
+    Verb::Unit(UnitVerb::Mount),
+    Verb::Unit(UnitVerb::Unmount),
+    Verb::Stores,
+    Verb::Unit(UnitVerb::Default),
+    Verb::Soup(SoupVerb::Soup),
+    Verb::Unit(UnitVerb::Soups),
+    Verb::Soup(SoupVerb::Drop),
+    Verb::Add,
+    Verb::Addx,
+    Verb::Addu,
+    Verb::Entry(EntryVerb::Get),
+    Verb::Entry(EntryVerb::Getx),
+    Verb::Set,
+    Verb::Change,
+    Verb::Entry(EntryVerb::Remove),
+    Verb::Transfer(TransferVerb::Copy),
+    Verb::Transfer(TransferVerb::Move),
+    Verb::Entry(EntryVerb::Alias),
+    Verb::Resolve,
+    Verb::Vread,
+    Verb::Vwrite,
+    Verb::Index,
+    Verb::Unindex,
+    Verb::Soup(SoupVerb::Indexes),
+    Verb::Tags,
+    Verb::Query,
+    Verb::Cursor(CursorVerb::Entry),
+    Verb::Cursor(CursorVerb::Next),
+    Verb::Cursor(CursorVerb::Prev),
+    Verb::Cursor(CursorVerb::Reset),
+    Verb::Cursor(CursorVerb::End),
+    Verb::Moveby,
+    Verb::Goto,
+    Verb::Gotokey,
+    Verb::Cursor(CursorVerb::Count),
+    Verb::Cursor(CursorVerb::Which),
+    Verb::Cursor(CursorVerb::Clone),
+    Verb::Cursor(CursorVerb::Close),
+];
+
 /// The command that a word names.
 pub fn named(word: &[u8]) -> Option<Verb>
-    ensures { MatchOption result (is_command_word word.now ≡ false) (λ verb. word.now ≡ word_of verb) }
+    ensures { result ≡ find (λ verb. bytes_eq (word_of verb) word.now) VERBS }
 {
-    if word == b"nsof".as_slice() {
-        Some(Verb::Nsof)
-    } else if word == b"lit".as_slice() {
-        Some(Verb::Lit)
-    } else if word == b"time".as_slice() {
-        Some(Verb::Time)
-    } else if word == b"quit".as_slice() {
-        Some(Verb::Quit)
-    } else if word == b"format".as_slice() {
-        Some(Verb::Format)
-    } else if word == b"mount".as_slice() {
-        Some(Verb::Mount)
-    } else if word == b"unmount".as_slice() {
-        Some(Verb::Unmount)
-    } else if word == b"stores".as_slice() {
-        Some(Verb::Stores)
-    } else if word == b"default".as_slice() {
-        Some(Verb::Default)
-    } else if word == b"soup".as_slice() {
-        Some(Verb::Soup)
-    } else if word == b"soups".as_slice() {
-        Some(Verb::Soups)
-    } else if word == b"drop".as_slice() {
-        Some(Verb::Drop)
-    } else {
-        named_below(word)
+    VERBS.iter().copied().find(|verb| verb.word() == word)
+}
+
+impl Verb {
+    /// Its word.
+    fn word(self) -> &'static [u8]
+        ensures { result.now ≡ word_of self }
+    {
+        match self {
+            Verb::Quit => b"quit",
+            Verb::Stores => b"stores",
+            Verb::Time => b"time",
+            Verb::Nsof => b"nsof",
+            Verb::Lit => b"lit",
+            Verb::Resolve => b"resolve",
+            Verb::Format => b"format",
+            Verb::Add => b"add",
+            Verb::Addx => b"addx",
+            Verb::Addu => b"addu",
+            Verb::Set => b"set",
+            Verb::Change => b"change",
+            Verb::Vread => b"vread",
+            Verb::Vwrite => b"vwrite",
+            Verb::Index => b"index",
+            Verb::Unindex => b"unindex",
+            Verb::Tags => b"tags",
+            Verb::Query => b"query",
+            Verb::Moveby => b"moveby",
+            Verb::Goto => b"goto",
+            Verb::Gotokey => b"gotokey",
+            Verb::Unit(verb) => verb.word(),
+            Verb::Soup(verb) => verb.word(),
+            Verb::Entry(verb) => verb.word(),
+            Verb::Transfer(verb) => verb.word(),
+            Verb::Cursor(verb) => verb.word(),
+        }
     }
 }
 
-/// The same of the commands on entries and their large binaries, on what a soup declares, and on cursors.
-fn named_below(word: &[u8]) -> Option<Verb>
-    ensures { MatchOption result ((is_entry_word word.now || is_large_word word.now || is_declaring_word word.now || is_cursor_word word.now || is_moving_word word.now) ≡ false) (λ verb. word.now ≡ word_of verb) }
-{
-    if let Some(verb) = named_entry(word) {
-        Some(verb)
-    } else if let Some(verb) = named_large(word) {
-        Some(verb)
-    } else if let Some(verb) = named_declaring(word) {
-        Some(verb)
-    } else if let Some(verb) = named_cursor(word) {
-        Some(verb)
-    } else {
-        named_moving(word)
+impl UnitVerb {
+    /// Its word.
+    fn word(self) -> &'static [u8]
+        ensures { result.now ≡ unit_word self }
+    {
+        match self {
+            UnitVerb::Mount => b"mount",
+            UnitVerb::Unmount => b"unmount",
+            UnitVerb::Default => b"default",
+            UnitVerb::Soups => b"soups",
+        }
+    }
+
+    /// The command that it begins.
+    pub fn command(self, unit: Unit) -> Command
+        ensures { result ≡ unit_command self unit }
+    {
+        match self {
+            UnitVerb::Mount => Command::Mount(unit),
+            UnitVerb::Unmount => Command::Unmount(unit),
+            UnitVerb::Default => Command::Default(unit),
+            UnitVerb::Soups => Command::Soups(unit),
+        }
     }
 }
 
-/// The same of the commands on entries.
-fn named_entry(word: &[u8]) -> Option<Verb>
-    ensures { MatchOption result (is_entry_word word.now ≡ false) (λ verb. word.now ≡ word_of verb) }
-{
-    if word == b"add".as_slice() {
-        Some(Verb::Add)
-    } else if word == b"addx".as_slice() {
-        Some(Verb::Addx)
-    } else if word == b"addu".as_slice() {
-        Some(Verb::Addu)
-    } else if word == b"get".as_slice() {
-        Some(Verb::Get)
-    } else if word == b"getx".as_slice() {
-        Some(Verb::Getx)
-    } else if word == b"set".as_slice() {
-        Some(Verb::Set)
-    } else if word == b"change".as_slice() {
-        Some(Verb::Change)
-    } else if word == b"remove".as_slice() {
-        Some(Verb::Remove)
-    } else if word == b"copy".as_slice() {
-        Some(Verb::Copy)
-    } else if word == b"move".as_slice() {
-        Some(Verb::Move)
-    } else if word == b"alias".as_slice() {
-        Some(Verb::Alias)
-    } else if word == b"resolve".as_slice() {
-        Some(Verb::Resolve)
-    } else {
-        None
+impl SoupVerb {
+    /// Its word.
+    fn word(self) -> &'static [u8]
+        ensures { result.now ≡ soup_word self }
+    {
+        match self {
+            SoupVerb::Soup => b"soup",
+            SoupVerb::Drop => b"drop",
+            SoupVerb::Indexes => b"indexes",
+        }
+    }
+
+    /// The command that it begins.
+    pub fn command(self, unit: Unit, soup: Name) -> Command
+        ensures { result ≡ soup_command self unit soup }
+    {
+        match self {
+            SoupVerb::Soup => Command::Soup(unit, soup),
+            SoupVerb::Drop => Command::Drop(unit, soup),
+            SoupVerb::Indexes => Command::Indexes(unit, soup),
+        }
     }
 }
 
-/// The same of the commands on the bytes of a large binary.
-fn named_large(word: &[u8]) -> Option<Verb>
-    ensures { MatchOption result (is_large_word word.now ≡ false) (λ verb. word.now ≡ word_of verb) }
-{
-    if word == b"vread".as_slice() {
-        Some(Verb::Vread)
-    } else if word == b"vwrite".as_slice() {
-        Some(Verb::Vwrite)
-    } else {
-        None
+impl EntryVerb {
+    /// Its word.
+    fn word(self) -> &'static [u8]
+        ensures { result.now ≡ entry_word self }
+    {
+        match self {
+            EntryVerb::Get => b"get",
+            EntryVerb::Getx => b"getx",
+            EntryVerb::Remove => b"remove",
+            EntryVerb::Alias => b"alias",
+        }
+    }
+
+    /// The command that it begins.
+    pub fn command(self, unit: Unit, soup: Name, uid: Uid) -> Command
+        ensures { result ≡ entry_command self unit soup uid }
+    {
+        match self {
+            EntryVerb::Get => Command::Get(unit, soup, uid),
+            EntryVerb::Getx => Command::Getx(unit, soup, uid),
+            EntryVerb::Remove => Command::Remove(unit, soup, uid),
+            EntryVerb::Alias => Command::Alias(unit, soup, uid),
+        }
     }
 }
 
-/// The same of the commands on the indexes and tags of a soup.
-fn named_declaring(word: &[u8]) -> Option<Verb>
-    ensures { MatchOption result (is_declaring_word word.now ≡ false) (λ verb. word.now ≡ word_of verb) }
-{
-    if word == b"index".as_slice() {
-        Some(Verb::Index)
-    } else if word == b"unindex".as_slice() {
-        Some(Verb::Unindex)
-    } else if word == b"indexes".as_slice() {
-        Some(Verb::Indexes)
-    } else if word == b"tags".as_slice() {
-        Some(Verb::Tags)
-    } else {
-        None
+impl TransferVerb {
+    /// Its word.
+    fn word(self) -> &'static [u8]
+        ensures { result.now ≡ transfer_word self }
+    {
+        match self {
+            TransferVerb::Copy => b"copy",
+            TransferVerb::Move => b"move",
+        }
+    }
+
+    /// The command that it begins.
+    pub fn command(self, from: (Unit, Name, Uid), to: (Unit, Name)) -> Command
+        ensures { result ≡ transfer_command self from.0 from.1 from.2 to.0 to.1 }
+    {
+        match self {
+            TransferVerb::Copy => Command::Copy(from.0, from.1, from.2, to.0, to.1),
+            TransferVerb::Move => Command::Move(from.0, from.1, from.2, to.0, to.1),
+        }
     }
 }
 
-/// The same of the commands that make a cursor, tell of one, or end one.
-fn named_cursor(word: &[u8]) -> Option<Verb>
-    ensures { MatchOption result (is_cursor_word word.now ≡ false) (λ verb. word.now ≡ word_of verb) }
-{
-    if word == b"query".as_slice() {
-        Some(Verb::Query)
-    } else if word == b"entry".as_slice() {
-        Some(Verb::Entry)
-    } else if word == b"count".as_slice() {
-        Some(Verb::Count)
-    } else if word == b"which".as_slice() {
-        Some(Verb::Which)
-    } else if word == b"clone".as_slice() {
-        Some(Verb::Clone)
-    } else if word == b"close".as_slice() {
-        Some(Verb::Close)
-    } else {
-        None
+impl CursorVerb {
+    /// Its word.
+    fn word(self) -> &'static [u8]
+        ensures { result.now ≡ cursor_word self }
+    {
+        match self {
+            CursorVerb::Entry => b"entry",
+            CursorVerb::Next => b"next",
+            CursorVerb::Prev => b"prev",
+            CursorVerb::Reset => b"reset",
+            CursorVerb::End => b"end",
+            CursorVerb::Count => b"count",
+            CursorVerb::Which => b"which",
+            CursorVerb::Clone => b"clone",
+            CursorVerb::Close => b"close",
+        }
     }
-}
 
-/// The same of the commands that move a cursor.
-fn named_moving(word: &[u8]) -> Option<Verb>
-    ensures { MatchOption result (is_moving_word word.now ≡ false) (λ verb. word.now ≡ word_of verb) }
-{
-    if word == b"next".as_slice() {
-        Some(Verb::Next)
-    } else if word == b"prev".as_slice() {
-        Some(Verb::Prev)
-    } else if word == b"reset".as_slice() {
-        Some(Verb::Reset)
-    } else if word == b"end".as_slice() {
-        Some(Verb::End)
-    } else if word == b"moveby".as_slice() {
-        Some(Verb::Moveby)
-    } else if word == b"goto".as_slice() {
-        Some(Verb::Goto)
-    } else if word == b"gotokey".as_slice() {
-        Some(Verb::Gotokey)
-    } else {
-        None
+    /// The command that it begins.
+    pub fn command(self, cursor: u8) -> Command
+        ensures { result ≡ cursor_command self cursor }
+    {
+        match self {
+            CursorVerb::Entry => Command::Entry(cursor),
+            CursorVerb::Next => Command::Next(cursor),
+            CursorVerb::Prev => Command::Prev(cursor),
+            CursorVerb::Reset => Command::Reset(cursor),
+            CursorVerb::End => Command::End(cursor),
+            CursorVerb::Count => Command::Count(cursor),
+            CursorVerb::Which => Command::Which(cursor),
+            CursorVerb::Clone => Command::Clone(cursor),
+            CursorVerb::Close => Command::Close(cursor),
+        }
     }
 }

@@ -18,10 +18,11 @@ use Rattle.newt_spec_store.specs.Store.{Store}
 use Rattle.newt_spec_world.specs.First.{media_of, unit_numbers, unit_of, world_of}
 use Rattle.newt_spec_world.specs.World.{World, Device, flat, first_world, store_of, store_on_unit}
 use Rattle.newt_script_session.specs.Causes.{NeverLess}
+use Rattle.newt_script_session.specs.Counted.{CountedAt, HasLeftCounted}
 use Rattle.newt_script_session.specs.First.{device_now, unmounted}
 use Rattle.newt_script_session.specs.Moments.{CrashAt, HasLeft, replies_begun, world_at}
 use Rattle.newt_script_session.specs.Script.{Answers}
-use Rattle.newt_script_session.proofs.Crashing.{left_same, its_now, safe_here, crash_at}
+use Rattle.newt_script_session.proofs.Crashing.{AtRest, at_rest, left_same}
 
 -- ---- the first world
 
@@ -92,43 +93,16 @@ pub always_first : {Q : Moment → Type 0} {old now : Moment} → Always Q old n
 always_first (here q) = q
 always_first (later event now before q) = always_first before
 
-module _ (answer : Answers) (reads : List ℕ → Option Store) (items : List Item) (names : List (List ℕ)) (old mid new : Outside) (a : AreAttached true names old mid) where
-  -- what may be left between two worlds, where the unit was attached with these bytes
-  between : (o : Option Store) (N Q : Type 0) (unit : ℕ) (bytes left : List ℕ) (held : Option (List ℕ)) → held ≡ Some bytes → changes unit mid.now ≡ Attached bytes ∷ []
-      → MatchOption o (N → MayLeave unit mid.now left) (λ store. (reads left ≡ Some store) ⊎ Q)
-      → MatchOption o (N → held ≡ Some left) (λ store. (reads left ≡ Some store) ⊎ Q)
-  between None N Q unit bytes left held is only b = λ n.
-      let same : LeftBy (Attached bytes ∷ []) left = subst (λ (done : List Change). LeftBy done left) only (b n) in
-      is ∙ ap Some (sym same)
-  between (Some store) N Q unit bytes left held is only b = b
-
-  -- at a moment
-  has_left : (world : World) (now : Moment) (unit : ℕ) (bytes left : List ℕ) → option_and_then old.devices (slice_get names unit) ≡ Some bytes → changes unit mid.now ≡ Attached bytes ∷ []
-      → CrashAt answer reads mid.now world items (printed mid.now) now → MayLeave unit now left
-      → HasLeft answer reads world items (option_and_then old.devices (slice_get names unit)) (printed old.now) (printed now) unit left
-  has_left world now unit bytes left is only c may =
-      let m = replies_begun answer world items (length c.shown) in
-      record {
-        shown = c.shown;
-        grown = c.out ∙ ap (λ o. o ++ c.shown) (a.quiet refl);
-        leaves = between (store_on_unit (world_at answer world items m) unit) (store_on_unit (world_at answer world items (m + 1)) unit ≡ None)
-            (reads left ≡ store_on_unit (world_at answer world items (m + 1)) unit) unit bytes left (option_and_then old.devices (slice_get names unit)) is only (c.leaves unit left may);
-      }
-
-  pub crash_since : (world : World) → Always (CrashAt answer reads mid.now world items (printed mid.now)) mid.now new.now
-      → (unit t : ℕ) (bytes left shown : List ℕ) (size : ℕ) → changes unit old.now ≡ [] → option_and_then old.devices (slice_get names unit) ≡ Some bytes → changes unit mid.now ≡ Attached bytes ∷ []
-      → IsHistory size (changes unit new.now) → since new unit ≡ Some t → left_since new t unit left shown
-      → HasLeft answer reads world items (option_and_then old.devices (slice_get names unit)) (printed old.now) shown unit left
-  crash_since world always unit t bytes left shown size fresh is only history at (k, from, to, may, out_is) =
-      let held = option_and_then old.devices (slice_get names unit) in
-      let P : List ℕ → Type 0 = λ o. HasLeft answer reads world items held (printed old.now) o unit left in
-      subst P out_is (elim (cases_lt k (length mid.now)) [
-        | inl early ↦
-            let there = since_attached unit t k size bytes old.now mid.now new.now fresh (a.extends refl) (a.quiet refl) only (extends-always always) history at from (omega (arith, early)) in
-            let then = left_same unit left mid.now (moment_at k new.now) (there.0 ∙ sym only) may in
-            subst P (sym there.1) (has_left world mid.now unit bytes left is only (always_first always) then)
-        | inr late ↦ has_left world (moment_at k new.now) unit bytes left is only (Always-at always k late to) may
-      ])
+module _ (names : List (List ℕ)) (old mid new : Outside) (a : AreAttached true names old mid) where
+  -- at some moment a crash might have left this on the unit, which was attached with these bytes, while that was the output
+  pub record Seen (Q : Moment → Type 0) (unit : ℕ) (left shown : List ℕ) : Type 0 where
+    pub bytes : List ℕ
+    pub held_is : option_and_then old.devices (slice_get names unit) ≡ Some bytes
+    pub only : changes unit mid.now ≡ Attached bytes ∷ []
+    pub moment : Moment
+    pub holds : Q moment
+    pub may : MayLeave unit moment left
+    pub out_is : printed moment ≡ shown
 
   known_name : (name bytes : List ℕ) (o : Option (List ℕ)) → if_known old o ≡ Some name → old.devices name ≡ Some bytes → option_and_then old.devices o ≡ Some bytes
   known_name name bytes None is there = absurd (cc)
@@ -138,22 +112,77 @@ module _ (answer : Answers) (reads : List ℕ → Option Store) (items : List It
       go None e = absurd (cc)
       go (Some b) e = let same : other ≡ name = cc in ap old.devices same ∙ there
 
+  seen_since : (Q : Moment → Type 0) → Always Q mid.now new.now → (unit t : ℕ) (bytes left shown : List ℕ) (size : ℕ) → changes unit old.now ≡ []
+      → option_and_then old.devices (slice_get names unit) ≡ Some bytes → changes unit mid.now ≡ Attached bytes ∷ []
+      → IsHistory size (changes unit new.now) → since new unit ≡ Some t → left_since new t unit left shown → Seen Q unit left shown
+  seen_since Q always unit t bytes left shown size fresh is only history at (k, from, to, may, out_is) = elim (cases_lt k (length mid.now)) [
+    | inl early ↦
+        let there = since_attached unit t k size bytes old.now mid.now new.now fresh (a.extends refl) (a.quiet refl) only (extends-always always) history at from (omega (arith, early)) in
+        record {
+          bytes = bytes;
+          held_is = is;
+          only = only;
+          moment = mid.now;
+          holds = always_first always;
+          may = left_same unit left mid.now (moment_at k new.now) (there.0 ∙ sym only) may;
+          out_is = sym there.1 ∙ out_is;
+        }
+    | inr late ↦ record { bytes = bytes; held_is = is; only = only; moment = moment_at k new.now; holds = Always-at always k late to; may = may; out_is = out_is }
+  ]
+
   -- at each moment since a unit was attached, by what holds of every host
-  pub crash_named : (world : World) → Always (CrashAt answer reads mid.now world items (printed mid.now)) mid.now new.now
+  pub seen_named : (Q : Moment → Type 0) → Always Q mid.now new.now
       → ((unit : ℕ) → new.card unit ≡ mid.card unit) → ((unit : ℕ) → changes unit old.now ≡ []) → ((unit : ℕ) → new.card unit ≡ None → changes unit new.now ≡ [])
       → ((unit : ℕ) → IsSome (new.card unit) → IsHistory (new.blocks unit * 4096) (changes unit new.now))
-      → (unit t : ℕ) (left shown : List ℕ) → since new unit ≡ Some t → left_since new t unit left shown
-      → HasLeft answer reads world items (option_and_then old.devices (slice_get names unit)) (printed old.now) shown unit left
-  crash_named world always cards fresh unknown history unit t left shown at might = go (new.card unit) refl
+      → (unit t : ℕ) (left shown : List ℕ) → since new unit ≡ Some t → left_since new t unit left shown → Seen Q unit left shown
+  seen_named Q always cards fresh unknown history unit t left shown at might = go (new.card unit) refl
     where
-      go : (o : Option (List ℕ)) → new.card unit ≡ o → HasLeft answer reads world items (option_and_then old.devices (slice_get names unit)) (printed old.now) shown unit left
+      go : (o : Option (List ℕ)) → new.card unit ≡ o → Seen Q unit left shown
       go None e = let never : since new unit ≡ None = untouched-attached unit new.now (unknown unit e) in absurd (cc)
       go (Some name) e =
           let had : mid.card unit ≡ Some name = sym (cards unit) ∙ e in
           let was = a.begins refl unit name had in
-          crash_since world always unit t was.0 left shown (new.blocks unit * 4096) (fresh unit)
+          seen_since Q always unit t was.0 left shown (new.blocks unit * 4096) (fresh unit)
           (known_name name was.0 (slice_get names unit) (sym (a.cards refl unit) ∙ had) was.1) was.2
           (history unit (subst (λ (o : Option (List ℕ)). IsSome o) (sym e) refl)) at might
+
+  -- what may be left between two worlds, where the unit was attached with these bytes
+  between : (reads : List ℕ → Option Store) (o : Option Store) (N Q : Type 0) (unit : ℕ) (bytes left : List ℕ) (held : Option (List ℕ)) → held ≡ Some bytes → changes unit mid.now ≡ Attached bytes ∷ []
+      → MatchOption o (N → MayLeave unit mid.now left) (λ store. (reads left ≡ Some store) ⊎ Q)
+      → MatchOption o (N → held ≡ Some left) (λ store. (reads left ≡ Some store) ⊎ Q)
+  between reads None N Q unit bytes left held is only b = λ n.
+      let same : LeftBy (Attached bytes ∷ []) left = subst (λ (done : List Change). LeftBy done left) only (b n) in
+      is ∙ ap Some (sym same)
+  between reads (Some store) N Q unit bytes left held is only b = b
+
+  pub has_left_counted : (answer : Answers) (reads : List ℕ → Option Store) (world : World) (items : List Item) (unit : ℕ) (left shown : List ℕ)
+      → Seen (CountedAt answer reads mid.now world items (printed mid.now)) unit left shown
+      → HasLeftCounted answer reads world items (option_and_then old.devices (slice_get names unit)) (printed old.now) shown unit left
+  has_left_counted answer reads world items unit left shown s =
+      let c = s.holds in
+      let next : Option Store = store_on_unit (world_at answer world items (c.done + 1)) unit in
+      record {
+        shown = c.shown;
+        grown = sym s.out_is ∙ (c.out ∙ ap (λ o. o ++ c.shown) (a.quiet refl));
+        done = c.done;
+        all = c.all;
+        leaves = between reads (store_on_unit (world_at answer world items c.done) unit) (next ≡ None) (reads left ≡ next) unit s.bytes left
+            (option_and_then old.devices (slice_get names unit)) s.held_is s.only (c.leaves unit left s.may);
+      }
+
+  pub has_left : (answer : Answers) (reads : List ℕ → Option Store) (world : World) (items : List Item) (unit : ℕ) (left shown : List ℕ)
+      → Seen (CrashAt answer reads mid.now world items (printed mid.now)) unit left shown
+      → HasLeft answer reads world items (option_and_then old.devices (slice_get names unit)) (printed old.now) shown unit left
+  has_left answer reads world items unit left shown s =
+      let c = s.holds in
+      let m = replies_begun answer world items (length c.shown) in
+      let next : Option Store = store_on_unit (world_at answer world items (m + 1)) unit in
+      record {
+        shown = c.shown;
+        grown = sym s.out_is ∙ (c.out ∙ ap (λ o. o ++ c.shown) (a.quiet refl));
+        leaves = between reads (store_on_unit (world_at answer world items m) unit) (next ≡ None) (reads left ≡ next) unit s.bytes left
+            (option_and_then old.devices (slice_get names unit)) s.held_is s.only (c.leaves unit left s.may);
+      }
 
 -- ---- where nothing has been done yet
 
@@ -210,10 +239,6 @@ attached_at_rest told names old new a tells unit some = go (new.card unit) refl 
     go None e s = absurd (false≢true s)
     go (Some name) e s = let was = a.begins tells unit name e in attached_durable unit was.0 new.now was.2
 
--- and a run that has not begun has left what it found
-pub crash_first : (answer : Answers) (reads : List ℕ → Option Store) (items : List Item) (mid : Outside) → ((unit : ℕ) → IsSome (mid.card unit) → IsDurable unit mid.now)
-    → Always (CrashAt answer reads mid.now (unmounted reads mid) items (printed mid.now)) mid.now mid.now
-crash_first answer reads items mid durable =
-    here (crash_at answer reads mid.now (unmounted reads mid) items (printed mid.now) mid.now
-    (safe_here answer reads mid.now (unmounted reads mid) items mid.now
-    (its_now reads mid.now (unmounted reads mid) mid.now (λ unit none. refl) (unmounted_leaves reads mid durable))))
+-- and so a run begins
+pub rests_first : (reads : List ℕ → Option Store) (mid : Outside) → ((unit : ℕ) → IsSome (mid.card unit) → IsDurable unit mid.now) → AtRest reads (unmounted reads mid) mid.now
+rests_first reads mid durable = at_rest reads (unmounted reads mid) mid.now (unmounted_leaves reads mid durable)

@@ -2,7 +2,7 @@
 use Rattle.std.proofs.Common.{Bool, refl, ◌∙◌, arith}
 use Rattle.newt_host.specs.Outside.{Outside, OnDevices}
 use Rattle.newt_host.proofs.Outside.{SameCards-refl, SameCards-append}
-use Rattle.newt_script_session.specs.Causes.{SameDevices, NeverLess, StaysAttached}
+use Rattle.newt_script_session.specs.Causes.{Keeps, SameDevices, NeverLess, StaysAttached}
 
 -- over a part of the run in which devices were attached
 pub never-then : {a b c : Outside} → NeverLess a b → StaysAttached b c → NeverLess a c
@@ -29,3 +29,12 @@ same-refl told a = record { cards = SameCards-refl a; changes = λ tells unit. r
 
 pub same-trans : {told : Bool} {a b c : Outside} → SameDevices told a b → SameDevices told b c → SameDevices told a c
 same-trans s t = record { cards = SameCards-append s.cards t.cards; changes = λ tells unit. t.changes tells unit ∙ s.changes tells unit }
+
+pub keeps-refl : (a : Outside) → Keeps a a
+keeps-refl a = record { input = refl; stays = stays-refl a }
+
+pub keeps-trans : {a b c : Outside} → Keeps a b → Keeps b c → Keeps a c
+keeps-trans s t = record { input = t.input ∙ s.input; stays = stays-trans s.stays t.stays }
+
+pub keeps-on_devices : {a b : Outside} → OnDevices a b → Keeps a b
+keeps-on_devices on = record { input = on.input; stays = stays-on_devices on }

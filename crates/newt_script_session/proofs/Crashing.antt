@@ -1,16 +1,18 @@
 -- From what a crash leaves in one command to what it leaves in a script.
-use Rattle.std.proofs.Common.{◌≡◌, ◌⊎◌, inl, ℕ, zero, suc, ◌+◌, ◌-◌, ◌<◌, ◌≤◌, List, [], ◌∷◌, ◌++◌, length, Option, Some, None, MatchOption, refl, sym, ◌∙◌, ap, subst, append_assoc, append-nil, arith}
+use Rattle.std.proofs.Common.{◌≡◌, ◌⊎◌, inl, ℕ, zero, suc, ◌+◌, ◌-◌, ◌<◌, ◌≤◌, Bool, true, false, List, [], ◌∷◌, ◌++◌, length, Option, Some, None, MatchOption, refl, sym, ◌∙◌, ap, subst, append_assoc, append-nil, arith}
 use Rattle.std.proofs.lemmas.List.{length-append}
 use Rattle.newt_host.specs.Moments.{Moment, Change, LeftBy, MayLeave, Always, here, changes, output as printed}
 use Rattle.newt_host.specs.Outside.{PrintsSome}
-use Rattle.newt_host.proofs.Moments.{Always-append, Always-map}
+use Rattle.newt_host.proofs.Moments.{Always-map}
 use Rattle.newt_host.proofs.Printing.{changes-printed, output-printed}
 use Rattle.newt_spec_script.specs.Script.{Item}
 use Rattle.newt_spec_store.specs.Store.{Store}
 use Rattle.newt_spec_world.specs.Reply.{Reply, reply_line, reply_text}
 use Rattle.newt_spec_world.specs.World.{World, store_on_unit}
 use Rattle.newt_script_session.specs.Moments.{Answering, begun, world_at, replies_begun, BeforeOrAfter, CrashAt, Leaves, SafeAt, Untouched}
+use Rattle.newt_script_session.specs.Counted.{CountedAt}
 use Rattle.newt_script_session.specs.Script.{Answers, step, replies, texts, world_behind}
+use Rattle.newt_script_session.specs.Stream.{put_out}
 
 some_text : (r : Reply) → 0 < length (reply_text r)
 some_text r = subst (λ n. 0 < n) (sym (length-append (reply_line r) (10 ∷ []))) (omega arith)
@@ -18,6 +20,29 @@ some_text r = subst (λ n. 0 < n) (sym (length-append (reply_line r) (10 ∷ [])
 -- what a crash may leave goes by what has happened to the unit
 pub left_same : (unit : ℕ) (left : List ℕ) (old now : Moment) → changes unit now ≡ changes unit old → MayLeave unit now left → MayLeave unit old left
 left_same unit left old now same may = subst (λ (done : List Change). LeftBy done left) same may
+
+-- ---- what is put out
+
+-- of nothing
+pub none_put : (shows : Bool) (out : List ℕ) → out ++ put_out shows [] ≡ out
+none_put true out = append-nil out
+none_put false out = append-nil out
+
+-- of one text behind another
+pub both_put : (shows : Bool) (a b : List ℕ) → put_out shows (a ++ b) ≡ put_out shows a ++ put_out shows b
+both_put true a b = refl
+both_put false a b = refl
+
+-- of a first part
+part_put : (shows : Bool) (text done rest : List ℕ) → put_out shows text ≡ done ++ rest → (part : List ℕ) × (done ≡ put_out shows part) × (length part ≤ length text)
+part_put true text done rest e =
+    let sizes : length text ≡ length done + length rest = ap length e ∙ length-append done rest in
+    (done, refl, omega arith)
+part_put false text done rest e = ([], nil done e, omega arith)
+  where
+    nil : (d : List ℕ) → [] ≡ d ++ rest → d ≡ []
+    nil [] k = refl
+    nil (x ∷ xs) k = absurd (cc)
 
 module _ (reads : List ℕ → Option Store) (start : Moment) where
   -- a crash leaves the unit as it is in the world
@@ -57,6 +82,20 @@ module _ (reads : List ℕ → Option Store) (start : Moment) where
       → ((unit : ℕ) → store_on_unit next unit ≡ None → store_on_unit world unit ≡ None) → Untouched start next now
   untouched_next world next old now untouched a stays = λ unit none. a.others unit (stays unit none) none ∙ untouched unit (stays unit none)
 
+-- a crash leaves each unit as it is in the world, whenever the script began
+abbrev pub AtRest : (List ℕ → Option Store) → World → Moment → Type 0
+AtRest reads world now = (start : Moment) → Untouched start world now → (unit : ℕ) (left : List ℕ) → MayLeave unit now left → LeavesIts reads start world unit left
+
+pub at_rest : (reads : List ℕ → Option Store) (world : World) (now : Moment)
+    → ((unit : ℕ) (store : Store) (left : List ℕ) → store_on_unit world unit ≡ Some store → MayLeave unit now left → reads left ≡ Some store) → AtRest reads world now
+at_rest reads world now leaves = λ start u. its_now reads start world now u leaves
+
+-- nothing is done to the world, and nothing is put out
+pub answering_nothing : (reads : List ℕ → Option Store) (world : World) (now : Moment)
+    → ((unit : ℕ) (store : Store) (left : List ℕ) → store_on_unit world unit ≡ Some store → MayLeave unit now left → reads left ≡ Some store) → Always (Answering reads world world now) now now
+answering_nothing reads world now leaves =
+    here (record { quiet = refl; stores = λ unit store left e may. inl (leaves unit store left e may); others = λ unit none same. refl })
+
 -- nothing has happened to any unit since
 pub untouched_same : (start : Moment) (world : World) (old now : Moment) → ((unit : ℕ) → changes unit now ≡ changes unit old) → Untouched start world old → Untouched start world now
 untouched_same start world old now same untouched = λ unit none. same unit ∙ untouched unit none
@@ -91,44 +130,43 @@ module _ (answer : Answers) (reads : List ℕ → Option Store) (start : Moment)
   leaves_within world item items (suc n) unit left fits b its =
       leaves_behind world item items (suc n) 0 unit left (omega arith) (omega arith) (leaves_first (step answer world item).0 items unit left its)
 
-  -- ---- moments
-
+module _ (shows : Bool) (answer : Answers) (reads : List ℕ → Option Store) (start : Moment) where
   -- between two commands
   pub safe_here : (world : World) (items : List Item) (now : Moment) → ((unit : ℕ) (left : List ℕ) → MayLeave unit now left → LeavesIts reads start world unit left)
-      → SafeAt answer reads start world items (printed now) now
+      → SafeAt shows answer reads start world items (printed now) now
   safe_here world items now its = record {
     shown = [];
-    out = sym (append-nil (printed now));
-    safe = λ more unit left may. leaves_first world (items ++ more) unit left (its unit left may);
+    out = sym (none_put shows (printed now));
+    safe = λ more unit left may. leaves_first answer reads start world (items ++ more) unit left (its unit left may);
   }
 
   -- while an item is answered
   pub safe_answering : (world : World) (item : Item) (old now : Moment) → Untouched start world old → Answering reads world (step answer world item).0 old now
-      → SafeAt answer reads start world (item ∷ []) (printed old) now
+      → SafeAt shows answer reads start world (item ∷ []) (printed old) now
   safe_answering world item old now untouched a = record {
     shown = [];
-    out = a.quiet ∙ sym (append-nil (printed old));
-    safe = λ more unit left may. leaves_next world item more unit left (answering_leaves reads start world (step answer world item).0 old now untouched a unit left may);
+    out = a.quiet ∙ sym (none_put shows (printed old));
+    safe = λ more unit left may. leaves_next answer reads start world item more unit left (answering_leaves reads start world (step answer world item).0 old now untouched a unit left may);
   }
 
-  -- while its reply is written
+  -- while its reply is put out, or kept
   pub safe_writing : (world : World) (item : Item) (old mid now : Moment) → printed mid ≡ printed old
       → ((unit : ℕ) (left : List ℕ) → MayLeave unit mid left → BeforeOrAfter reads start world (step answer world item).0 unit left)
       → ((unit : ℕ) (left : List ℕ) → MayLeave unit mid left → LeavesIts reads start (step answer world item).0 unit left)
-      → PrintsSome (reply_text (step answer world item).1) mid now → SafeAt answer reads start world (item ∷ []) (printed old) now
+      → PrintsSome (put_out shows (reply_text (step answer world item).1)) mid now → SafeAt shows answer reads start world (item ∷ []) (printed old) now
   safe_writing world item old mid now same before its some =
       let text = reply_text (step answer world item).1 in
-      let sizes : length text ≡ length some.done + length some.rest = ap length some.split ∙ length-append some.done some.rest in
+      let part = part_put shows text some.done some.rest some.split in
       record {
-        shown = some.done;
-        out = ap printed some.moment ∙ (output-printed some.done mid ∙ ap (λ o. o ++ some.done) same);
+        shown = part.0;
+        out = ap printed some.moment ∙ (output-printed some.done mid ∙ (ap (λ o. o ++ some.done) same ∙ ap (λ t. printed old ++ t) part.1));
         safe = λ more unit left may.
-            let then = left_same unit left mid now (prints_changes text mid now some unit) may in
-            leaves_within world item more (length some.done) unit left (omega arith) (before unit left then) (its unit left then);
+            let then = left_same unit left mid now (prints_changes (put_out shows text) mid now some unit) may in
+            leaves_within answer reads start world item more (length part.0) unit left part.2 (before unit left then) (its unit left then);
       }
 
   -- more items follow
-  pub safe_more : (world : World) (items more : List Item) (old : List ℕ) (now : Moment) → SafeAt answer reads start world items old now → SafeAt answer reads start world (items ++ more) old now
+  pub safe_more : (world : World) (items more : List Item) (old : List ℕ) (now : Moment) → SafeAt shows answer reads start world items old now → SafeAt shows answer reads start world (items ++ more) old now
   safe_more world items more old now s = record {
     shown = s.shown;
     out = s.out;
@@ -138,65 +176,31 @@ module _ (answer : Answers) (reads : List ℕ → Option Store) (start : Moment)
 
   -- the moments of later items
   safe_later : (world : World) (item : Item) (items : List Item) (old : List ℕ) (now : Moment)
-      → SafeAt answer reads start (step answer world item).0 items (old ++ reply_text (step answer world item).1) now → SafeAt answer reads start world (item ∷ items) old now
+      → SafeAt shows answer reads start (step answer world item).0 items (old ++ put_out shows (reply_text (step answer world item).1)) now → SafeAt shows answer reads start world (item ∷ items) old now
   safe_later world item items old now s =
       let text = reply_text (step answer world item).1 in
       let size : length (text ++ s.shown) ≡ length text + length s.shown = length-append text s.shown in
       let some = some_text (step answer world item).1 in
       record {
         shown = text ++ s.shown;
-        out = s.out ∙ append_assoc old text s.shown;
+        out = s.out ∙ (append_assoc old (put_out shows text) (put_out shows s.shown) ∙ ap (λ t. old ++ t) (sym (both_put shows text s.shown)));
         safe = λ more unit left may.
-            leaves_behind world item (items ++ more) (length (text ++ s.shown)) (length s.shown) unit left (omega (arith, some, size)) (omega (arith, size)) (s.safe more unit left may);
+            leaves_behind answer reads start world item (items ++ more) (length (text ++ s.shown)) (length s.shown) unit left (omega (arith, some, size)) (omega (arith, size)) (s.safe more unit left may);
       }
 
   pub safe_laters : (world : World) (first more : List Item) (old : List ℕ) (now : Moment)
-      → SafeAt answer reads start (world_behind answer world first) more (old ++ texts answer world first) now → SafeAt answer reads start world (first ++ more) old now
+      → SafeAt shows answer reads start (world_behind answer world first) more (old ++ put_out shows (texts answer world first)) now → SafeAt shows answer reads start world (first ++ more) old now
   unfolding world_behind texts replies
-  safe_laters world [] more old now s = subst (λ (o : List ℕ). SafeAt answer reads start world more o now) (append-nil old) s
+  safe_laters world [] more old now s = subst (λ (o : List ℕ). SafeAt shows answer reads start world more o now) (none_put shows old) s
   safe_laters world (item ∷ first) more old now s =
       let text = reply_text (step answer world item).1 in
       let next = (step answer world item).0 in
       safe_later world item (first ++ more) old now
-      (safe_laters next first more (old ++ text) now
-      (subst (λ (o : List ℕ). SafeAt answer reads start (world_behind answer next first) more o now) (sym (append_assoc old text (texts answer next first))) s))
+      (safe_laters next first more (old ++ put_out shows text) now
+      (subst (λ (o : List ℕ). SafeAt shows answer reads start (world_behind answer next first) more o now)
+      (ap (λ t. old ++ t) (both_put shows text (texts answer next first)) ∙ sym (append_assoc old (put_out shows text) (put_out shows (texts answer next first)))) s))
 
-  -- Some items were answered: these are left, and a moment that is safe for them is safe for all.
-  pub record Kept (world : World) (all : List Item) (old : Moment) (later : World) (rest : List Item) (now : Moment) : Type 0 where
-    pub untouched : Untouched start later now
-    pub always : Always (SafeAt answer reads start world all (printed old)) old now
-    pub lift : (m : Moment) → SafeAt answer reads start later rest (printed now) m → SafeAt answer reads start world all (printed old) m
-
-  pub kept_start : (world : World) (items : List Item) (now : Moment) → Untouched start world now
-      → ((unit : ℕ) (left : List ℕ) → MayLeave unit now left → LeavesIts reads start world unit left) → Kept world items now world items now
-  kept_start world items now untouched its = record { untouched = untouched; always = here (safe_here world items now its); lift = λ m s. s }
-
-  -- some of what is left is answered, whole or not
-  pub kept_part : (world : World) (all : List Item) (old : Moment) (later : World) (rest : List Item) (mid : Moment) (part more : List Item) (now : Moment)
-      → Kept world all old later rest mid → rest ≡ part ++ more → Always (SafeAt answer reads start later part (printed mid)) mid now
-      → Always (SafeAt answer reads start world all (printed old)) old now
-  kept_part world all old later rest mid part more now k e a =
-      let P : List Item → Moment → Type 0 = λ items m. SafeAt answer reads start later items (printed mid) m in
-      Always-append k.always (Always-map (λ m s. k.lift m (subst (λ (items : List Item). P items m) (sym e) (safe_more later part more (printed mid) m s))) a)
-
-  -- all of that part was answered
-  pub kept_after : (world : World) (all : List Item) (old : Moment) (later : World) (rest : List Item) (mid : Moment) (part more : List Item) (now : Moment) (next : World)
-      → Kept world all old later rest mid → rest ≡ part ++ more → Always (SafeAt answer reads start later part (printed mid)) mid now
-      → printed now ≡ printed mid ++ texts answer later part → next ≡ world_behind answer later part → Untouched start next now → Kept world all old next more now
-  kept_after world all old later rest mid part more now next k e a out is untouched = record {
-    untouched = untouched;
-    always = kept_part world all old later rest mid part more now k e a;
-    lift = λ m s. k.lift m (subst (λ (items : List Item). SafeAt answer reads start later items (printed mid) m) (sym e)
-        (safe_laters later part more (printed mid) m
-        (subst (λ (o : List ℕ). SafeAt answer reads start (world_behind answer later part) more o m) out (subst (λ (v : World). SafeAt answer reads start v more (printed now) m) is s))));
-  }
-
-  -- the same moment, and the same world under another name
-  pub kept_moved : (world : World) (all : List Item) (old : Moment) (later same : World) (rest : List Item) (mid now : Moment)
-      → now ≡ mid → same ≡ later → Kept world all old later rest mid → Kept world all old same rest now
-  kept_moved world all old later same rest mid now e f k =
-      subst (λ (v : World). Kept world all old v rest now) (sym f) (subst (λ (m : Moment). Kept world all old later rest m) (sym e) k)
-
+module _ (answer : Answers) (reads : List ℕ → Option Store) (start : Moment) where
   -- ---- what is said of a whole script
 
   counted : (world : World) (items : List Item) (n unit : ℕ) (left : List ℕ) → Leaves answer reads start world items n unit left
@@ -211,7 +215,7 @@ module _ (answer : Answers) (reads : List ℕ → Option Store) (start : Moment)
       let P : ℕ → Type 0 = λ j. BeforeOrAfter reads start (world_at answer next items k) (world_at answer world (item ∷ items) j) unit left in
       subst P (sym e) (counted next items (suc n - length (reply_text (step answer world item).1)) unit left l)
 
-  pub crash_at : (world : World) (items : List Item) (old : List ℕ) (now : Moment) → SafeAt answer reads start world items old now → CrashAt answer reads start world items old now
+  pub crash_at : (world : World) (items : List Item) (old : List ℕ) (now : Moment) → SafeAt true answer reads start world items old now → CrashAt answer reads start world items old now
   crash_at world items old now s = record {
     shown = s.shown;
     out = s.out;
@@ -219,9 +223,27 @@ module _ (answer : Answers) (reads : List ℕ → Option Store) (start : Moment)
         (subst (λ (is : List Item). Leaves answer reads start world is (length s.shown) unit left) (append-nil items) (s.safe [] unit left may));
   }
 
-  pub crash_always : (world : World) (items : List Item) (old now : Moment) → Always (SafeAt answer reads start world items (printed old)) old now
+  pub crash_always : (world : World) (items : List Item) (old now : Moment) → Always (SafeAt true answer reads start world items (printed old)) old now
       → Always (CrashAt answer reads start world items (printed old)) old now
   crash_always world items old now a = Always-map (λ m s. crash_at world items (printed old) m s) a
+
+  -- where the replies are not put out, so many of the items have been answered as have replies that have begun
+  pub counted_at : (world : World) (items : List Item) (old : List ℕ) (now : Moment) → SafeAt false answer reads start world items old now → CountedAt answer reads start world items old now
+  counted_at world items old now s = record {
+    shown = [];
+    out = s.out;
+    done = replies_begun answer world items (length s.shown);
+    all = λ some. absurd (omega (arith, some));
+    leaves = λ unit left may. counted world items (length s.shown) unit left
+        (subst (λ (is : List Item). Leaves answer reads start world is (length s.shown) unit left) (append-nil items) (s.safe [] unit left may));
+  }
+
+  -- before the first
+  pub crash_here : (world : World) (items : List Item) → AtRest reads world start → CrashAt answer reads start world items (printed start) start
+  crash_here world items its = crash_at world items (printed start) start (safe_here true answer reads start world items start (its start (λ unit none. refl)))
+
+  pub counted_here : (world : World) (items : List Item) → AtRest reads world start → CountedAt answer reads start world items (printed start) start
+  counted_here world items its = counted_at world items (printed start) start (safe_here false answer reads start world items start (its start (λ unit none. refl)))
 
 -- the same world under another name
 pub untouched_world : (start : Moment) (world same : World) (now : Moment) → same ≡ world → Untouched start world now → Untouched start same now

@@ -1,10 +1,11 @@
 -- Items that are answered one after another.
-use Rattle.std.proofs.Common.{◌≡◌, true, false, cond, List, [], ◌∷◌, ◌++◌, flat_map, refl, sym, ◌∙◌, ap, append-nil}
+use Rattle.std.proofs.Common.{◌≡◌, true, false, cond, List, [], ◌∷◌, ◌++◌, flat_map, map, refl, sym, ◌∙◌, ap, append-nil}
 use Rattle.std.proofs.lemmas.Grind.{flat_map-append}
+use Rattle.std.proofs.lemmas.List.{map-append}
 use Rattle.newt_spec_script.specs.Script.{Item, is_quit, up_to_quit}
 use Rattle.newt_spec_world.specs.Reply.{reply_text}
 use Rattle.newt_spec_world.specs.World.{World}
-use Rattle.newt_script_session.specs.Script.{Answers, quits_among, step, replies, world_behind, texts}
+use Rattle.newt_script_session.specs.Script.{Answers, quits_among, step, replies, world_behind, texts, reply_texts}
 
 -- the first items do not quit
 pub up_to_go : (a b : List Item) → quits_among a ≡ false → up_to_quit (a ++ b) ≡ a ++ up_to_quit b
@@ -63,6 +64,17 @@ module _ (answer : Answers) where
   pub texts_append : (world : World) (a b : List Item) → texts answer world (a ++ b) ≡ texts answer world a ++ texts answer (world_behind answer world a) b
   unfolding texts
   texts_append world a b = ap (flat_map reply_text) (replies_append world a b) ∙ flat_map-append reply_text (replies answer world a) (replies answer (world_behind answer world a) b)
+
+  pub reply_texts_append : (world : World) (a b : List Item) → reply_texts answer world (a ++ b) ≡ reply_texts answer world a ++ reply_texts answer (world_behind answer world a) b
+  reply_texts_append world a b = ap (map reply_text) (replies_append world a b) ∙ map-append reply_text (replies answer world a) (replies answer (world_behind answer world a) b)
+
+  pub reply_texts_none : (world : World) → reply_texts answer world [] ≡ []
+  unfolding replies
+  reply_texts_none world = refl
+
+  pub reply_texts_one : (world : World) (item : Item) → reply_texts answer world (item ∷ []) ≡ reply_text (step answer world item).1 ∷ []
+  unfolding replies
+  reply_texts_one world item = refl
 
   pub texts_none : (world : World) → texts answer world [] ≡ []
   unfolding texts replies

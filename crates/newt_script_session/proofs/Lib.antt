@@ -4,9 +4,12 @@ pub mod Cutting
 pub mod Items
 pub mod Replying
 pub mod Turning
+pub mod Crashing
+pub mod Progress
+pub mod Obeying
 pub mod Feeding
 pub mod Going
-pub mod Ending
 pub mod Halting
-pub mod Crashing
+pub mod Texts
+pub mod Summing
 pub mod Beginning

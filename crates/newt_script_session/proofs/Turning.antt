@@ -1,17 +1,13 @@
 -- What one line gives.
 use Rattle.std.proofs.Common.{◌≡◌, ◌≢◌, ℕ, false, List, [], ◌∷◌, Option, Some, None, Result, Ok, Err, refl, sym, ◌∙◌, ap, append-nil}
 use Rattle.newt_base.specs.declared.Refusal.{Refusal}
-use Rattle.newt_reply.specs.Said.{said}
-use Rattle.newt_reply.specs.declared.reply.Reply.TheVariants as replies
 use Rattle.newt_script.specs.Lines.{line_command}
 use Rattle.newt_script.specs.declared.fault.LineFault.{LineFault}
 use Rattle.newt_script.specs.declared.fault.LineFault.TheVariants.{Refused, Memory}
 use Rattle.newt_spec_script.specs.Script.{Item, is_quit, up_to_quit}
 use Rattle.newt_spec_world.specs.declared.command.Command.{Command}
-use Rattle.newt_spec_world.specs.Reply as reply
-use Rattle.newt_spec_world.specs.World.{World}
-use Rattle.newt_script_session.specs.Script.{Answers, given, items_of, quits_among, has_quit, commands_of, world_behind, texts, world_after, output_of}
-use Rattle.newt_script_session.proofs.Items.{texts_none, texts_one, world_one, up_to_one, quits_one}
+use Rattle.newt_script_session.specs.Script.{given, items_of, quits_among, has_quit, commands_of}
+use Rattle.newt_script_session.proofs.Items.{up_to_one, quits_one}
 
 -- the reading that a call answered is the line's, where memory was not wanting
 pub said_nothing : (answered : Result (Option Command) LineFault) (found : Option Command) (line : List ℕ)
@@ -66,34 +62,3 @@ commands_refused line refusal e = item_one line (Err (Refused refusal)) (Err ref
 pub quit_refused : (line : List ℕ) (refusal : Refusal) → Err (Refused refusal) ≡ line_command line → has_quit (line ∷ []) ≡ false
 unfolding has_quit
 quit_refused line refusal e = ap quits_among (items_one line (Err (Refused refusal)) e) ∙ quits_one (Err refusal)
-
-module _ (answer : Answers) where
-  pub output_silent : (world : World) (line : List ℕ) → Ok None ≡ line_command line → output_of answer world (line ∷ []) ≡ []
-  unfolding output_of
-  output_silent world line e = ap (texts answer world) (commands_silent line e) ∙ texts_none answer world
-
-  pub world_silent : (world : World) (line : List ℕ) → Ok None ≡ line_command line → world_after answer world (line ∷ []) ≡ world
-  unfolding world_after world_behind
-  world_silent world line e = ap (world_behind answer world) (items_one line (Ok None) e)
-
-  pub output_command : (world : World) (line : List ℕ) (command : Command) → Ok (Some command) ≡ line_command line
-      → output_of answer world (line ∷ []) ≡ reply.reply_text (answer world command).1
-  unfolding output_of
-  output_command world line command e = ap (texts answer world) (commands_command line command e) ∙ texts_one answer world (Ok command)
-
-  pub world_command : (world : World) (line : List ℕ) (command : Command) → Ok (Some command) ≡ line_command line → world_after answer world (line ∷ []) ≡ (answer world command).0
-  unfolding world_after
-  world_command world line command e = ap (world_behind answer world) (items_one line (Ok (Some command)) e) ∙ world_one answer world (Ok command)
-
-  pub output_refused : (world : World) (line : List ℕ) (refusal : Refusal) → Err (Refused refusal) ≡ line_command line
-      → output_of answer world (line ∷ []) ≡ reply.reply_text (reply.Reply.refused refusal)
-  unfolding output_of
-  output_refused world line refusal e = ap (texts answer world) (commands_refused line refusal e) ∙ texts_one answer world (Err refusal)
-
-  pub world_refused : (world : World) (line : List ℕ) (refusal : Refusal) → Err (Refused refusal) ≡ line_command line → world_after answer world (line ∷ []) ≡ world
-  unfolding world_after
-  world_refused world line refusal e = ap (world_behind answer world) (items_one line (Err (Refused refusal)) e) ∙ world_one answer world (Err refusal)
-
--- what a refusal says
-pub said_refused : (refusal : Refusal) → said (replies.Refused refusal) ≡ reply.Reply.refused refusal
-said_refused refusal = refl

@@ -4,10 +4,10 @@ use Rattle.std.proofs.lemmas.List.{append-nil, take-append-drop}
 use Rattle.newt_host.specs.Moments.{Moment, Always, here, changes, output}
 use Rattle.newt_host.specs.Outside.{Outside, PrintsSome, SameCards, SameCounts, printed}
 use Rattle.newt_host.proofs.Extending.{Always-prints_some}
-use Rattle.newt_host.proofs.Moments.{Always-append, Always-map}
+use Rattle.newt_host.proofs.Moments.{Always-append, Always-last, Always-map}
 use Rattle.newt_host.proofs.Printing.{changes-printed, output-printed, printed-append}
-use Rattle.newt_script_session.specs.Causes.{StaysAttached, SameDevices}
-use Rattle.newt_script_session.specs.Stream.{Wrote, WroteSome}
+use Rattle.newt_script_session.specs.Causes.{Keeps, SameDevices}
+use Rattle.newt_script_session.specs.Stream.{Wrote, WroteSome, Puts}
 
 pub nothing_wrote : (text out : List ℕ) → Wrote text text out out
 nothing_wrote text out = record { done = []; split = refl; out = sym (append-nil out) }
@@ -68,10 +68,10 @@ prints_devices told bytes old new cards prints = record {
 }
 
 -- no count has fallen, and no other device is attached
-pub prints_counts : (old new : Outside) → SameCards old new → SameCounts old new → new.in_faults ≡ old.in_faults → old.out_faults ≤ new.out_faults → StaysAttached old new
-prints_counts old new cards same inputs outputs = record {
-  cards = cards;
-  counts = record { in_faults = omega (arith, inputs); out_faults = outputs; dev_faults = λ unit. omega (arith, same.dev_faults unit) };
+pub prints_keeps : (old new : Outside) → SameCards old new → SameCounts old new → new.input ≡ old.input → new.in_faults ≡ old.in_faults → old.out_faults ≤ new.out_faults → Keeps old new
+prints_keeps old new cards same input inputs outputs = record {
+  input = input;
+  stays = record { cards = cards; counts = record { in_faults = omega (arith, inputs); out_faults = outputs; dev_faults = λ unit. omega (arith, same.dev_faults unit) } };
 }
 
 -- after a first part of the bytes, a first part of those that are left
@@ -112,3 +112,23 @@ printing_more n bytes rest left old mid new e p is = subst (λ (l : List ℕ). P
 
 pub printed_none : (bytes : List ℕ) (old : Moment) → Always (PrintsSome bytes old) old old
 printed_none bytes old = (printing_start bytes old).always
+
+-- all of it was printed
+pub puts_ok : {T E : Type 0} (x : T) (bytes rest : List ℕ) (old now : Moment) → Printing bytes rest old now → rest ≡ [] → Puts {T = T} {E = E} (Ok x) bytes old now
+puts_ok x bytes rest old now p none = record {
+  whole = grown_printed p.done old now p.moment ∙ ap (λ t. output old ++ t) (sym (p.split ∙ (ap (λ r. p.done ++ r) none ∙ append-nil p.done)));
+  failed = tt;
+  moments = p.always;
+}
+
+-- a first part of it was
+pub puts_err : {T E : Type 0} (result : Result T E) (error : E) (bytes : List ℕ) (old now : Moment) → result ≡ Err error → Always (PrintsSome bytes old) old now → Puts result bytes old now
+puts_err {T} {E} result error bytes old now is always =
+    subst (λ (v : Result T E). Puts v bytes old now) (sym is) (record { whole = tt; failed = wrote_printed bytes old now (Always-last always); moments = always })
+
+pub puts_nothing : {T E : Type 0} (error : E) (bytes : List ℕ) (old : Moment) → Puts {T = T} {E = E} (Err error) bytes old old
+puts_nothing error bytes old = puts_err (Err error) error bytes old old refl (printed_none bytes old)
+
+-- nothing was to be written
+pub puts_none : {T E : Type 0} (x : T) (old : Moment) → Puts {T = T} {E = E} (Ok x) [] old old
+puts_none x old = puts_ok x [] [] old old (printing_start [] old) refl

@@ -58,3 +58,8 @@ pub record NeverLess (old new : Outside) : Type 0 where
 pub record StaysAttached (old new : Outside) : Type 0 where
   pub cards : SameCards old new
   pub counts : NeverLess old new
+
+-- No byte is read, the same devices are attached, and no count of faults has fallen.
+pub record Keeps (old new : Outside) : Type 0 where
+  pub input : new.input ≡ old.input
+  pub stays : StaysAttached old new

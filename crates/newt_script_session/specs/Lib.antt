@@ -4,4 +4,8 @@ pub mod Script
 pub mod Causes
 pub mod Run
 pub mod Moments
+pub mod Answered
+pub mod Session
+pub mod Counts
+pub mod Counted
 pub mod First

@@ -1,11 +1,12 @@
 -- What a crash leaves at each moment of a script.
-use Rattle.std.specs.Prelude.{◌≡◌, ◌⊎◌, ℕ, zero, suc, ◌+◌, ◌-◌, List, [], ◌∷◌, ◌++◌, length, map, take, Option, Some, None, MatchOption}
+use Rattle.std.specs.Prelude.{◌≡◌, ◌⊎◌, ℕ, zero, suc, ◌+◌, ◌-◌, Bool, List, [], ◌∷◌, ◌++◌, length, map, take, Option, Some, None, MatchOption}
 use Rattle.newt_host.specs.Moments.{Moment, MayLeave, changes, output as printed}
 use Rattle.newt_spec_script.specs.Script.{Item}
 use Rattle.newt_spec_store.specs.Store.{Store}
 use Rattle.newt_spec_world.specs.Reply.{reply_text}
 use Rattle.newt_spec_world.specs.World.{World, store_on_unit}
 use Rattle.newt_script_session.specs.Script.{Answers, step, replies, world_behind}
+use Rattle.newt_script_session.specs.Stream.{put_out}
 
 -- While a command turns one world into the next, from a moment on: nothing is put out; a unit with a store is left as that store or as its store in the next
 -- world; a unit without a store in both is not touched.
@@ -53,11 +54,11 @@ module _ (answer : Answers) (store_of_image : List ℕ → Option Store) (start 
   Leaves world (item ∷ items) zero unit left = BeforeOrAfter store_of_image start world (step answer world item).0 unit left
   Leaves world (item ∷ items) (suc n) unit left = Leaves (step answer world item).0 items (suc n - length (reply_text (step answer world item).1)) unit left
 
-  -- A crash at this moment leaves what it may, whatever items follow these.
-  pub record SafeAt (world : World) (items : List Item) (old : List ℕ) (now : Moment) : Type 0 where
-    pub shown : List ℕ
-    pub out : printed now ≡ old ++ shown
-    pub safe : (more : List Item) (unit : ℕ) (left : List ℕ) → MayLeave unit now left → Leaves world (items ++ more) (length shown) unit left
+-- A crash at this moment leaves what it may, whatever items follow these: of the replies so many bytes were taken, and put out where the sink shows them.
+pub record SafeAt (shows : Bool) (answer : Answers) (store_of_image : List ℕ → Option Store) (start : Moment) (world : World) (items : List Item) (old : List ℕ) (now : Moment) : Type 0 where
+  pub shown : List ℕ
+  pub out : printed now ≡ old ++ put_out shows shown
+  pub safe : (more : List Item) (unit : ℕ) (left : List ℕ) → MayLeave unit now left → Leaves answer store_of_image start world (items ++ more) (length shown) unit left
 
 -- what has happened to a unit without a store is what had at the start
 abbrev pub Untouched : Moment → World → Moment → Type 0

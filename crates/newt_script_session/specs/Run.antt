@@ -1,9 +1,10 @@
 -- What a run of a script reads and writes.
 use Rattle.std.specs.Prelude.{◌≡◌, ◌⊎◌, ℕ, ◌<◌, Bool, true, false, List, [], ◌++◌, length, take}
+use Rattle.newt_spec_script.specs.Script.{Item}
 use Rattle.newt_spec_world.specs.World.{World}
 use Rattle.newt_script_session.specs.Stream.{WroteSome}
 use Rattle.newt_script_session.specs.Lines.{ended_lines, lines_of}
-use Rattle.newt_script_session.specs.Script.{Answers, has_quit, output_of}
+use Rattle.newt_script_session.specs.Script.{Answers, has_quit, output_of, texts}
 use Rattle.newt_script_session.specs.declared.halt.Halt.{Halt}
 use Rattle.newt_script_session.specs.declared.halt.Halt.TheVariants.{Memory, Device, Source, Sink, TooLong}
 
@@ -53,13 +54,20 @@ module _ (answer : Answers) where
     pub split : lines ≡ first ++ rest
     pub out : now ≡ old ++ output_of answer world first
 
-  -- what is written of the output of lines where the run is halted in them: a first part, and whole replies where a device failed
-  abbrev pub HaltedIn : Halt → World → (lines : List (List ℕ)) → (old now : List ℕ) → Type 0
-  HaltedIn Memory world lines old now = WroteSome (output_of answer world lines) old now
-  HaltedIn (Device unit) world lines old now = AnsweredLines world lines old now
-  HaltedIn Sink world lines old now = WroteSome (output_of answer world lines) old now
-  HaltedIn Source world lines old now = ⊥
-  HaltedIn TooLong world lines old now = ⊥
+  -- The output is that of some first items: whole replies.
+  pub record AnsweredFirst (world : World) (items : List Item) (old now : List ℕ) : Type 0 where
+    pub first : List Item
+    pub rest : List Item
+    pub split : items ≡ first ++ rest
+    pub out : now ≡ old ++ texts answer world first
+
+  -- what is written of the replies to items where the run is halted in them: a first part, and whole replies where a device failed
+  abbrev pub HaltedIn : Halt → World → (items : List Item) → (old now : List ℕ) → Type 0
+  HaltedIn Memory world items old now = WroteSome (texts answer world items) old now
+  HaltedIn (Device unit) world items old now = AnsweredFirst world items old now
+  HaltedIn Sink world items old now = WroteSome (texts answer world items) old now
+  HaltedIn Source world items old now = ⊥
+  HaltedIn TooLong world items old now = ⊥
 
   -- what a run leaves that is halted before the script's end
   abbrev pub Halted : ℕ → Halt → World → (script left old now : List ℕ) → Type 0

@@ -1,5 +1,5 @@
 -- A script: the items of its lines, and what is answered to them one after another. All of it is this project's own.
-use Rattle.std.specs.Prelude.{ℕ, Bool, true, false, List, [], ◌∷◌, flat_map, Option, Some, None, Result, Ok, Err, if◌then◌else◌}
+use Rattle.std.specs.Prelude.{ℕ, Bool, true, false, List, [], ◌∷◌, flat_map, map, Option, Some, None, Result, Ok, Err, if◌then◌else◌}
 use Rattle.newt_spec_script.specs.Script.{Item, is_quit, up_to_quit}
 use Rattle.newt_spec_world.specs.declared.command.Command.{Command}
 use Rattle.newt_spec_world.specs.Reply as reply
@@ -52,14 +52,14 @@ module _ (answer : Answers) where
   world_behind world [] = world
   world_behind world (item ∷ items) = world_behind (step world item).0 items
 
-  -- the texts of the replies to items
+  -- the texts of the replies to items, one for each
+  abbrev pub reply_texts : World → List Item → List (List ℕ)
+  reply_texts world items = map reply.reply_text (replies world items)
+
+  -- and behind one another
   unfoldable pub texts : World → List Item → List ℕ
   texts world items = flat_map reply.reply_text (replies world items)
 
   -- the output of lines: the texts of the replies to their items, none after a quit
   unfoldable pub output_of : World → List (List ℕ) → List ℕ
   output_of world lines = texts world (commands_of lines)
-
-  -- the world after lines
-  unfoldable pub world_after : World → List (List ℕ) → World
-  world_after world lines = world_behind world (items_of lines)

@@ -1,23 +1,21 @@
-//! The lines that end in one piece of a script.
-ghost use Rattle.std.specs.Prelude.{IsTrue, ◌≡◌, ◌++◌, IfOk, OnOk, IfErr, MatchOption};
-ghost use Rattle.newt_host.specs.Meanings.{out_of};
-ghost use Rattle.newt_host.specs.Moments.{Always, Moment};
-ghost use Rattle.newt_script_session.specs.Moments.{SafeAt, Untouched};
-ghost use Rattle.newt_script_session.specs.Lines.{BeginsWith, HasNoEnd, ended_lines, unended};
-ghost use Rattle.newt_script_session.specs.Run.{HaltedIn};
-ghost use Rattle.newt_script_session.specs.Script.{commands_of, has_quit, output_of, world_after};
-ghost use Rattle.newt_script_session.specs.Causes.{flow_of, HasWriteCause, StaysAttached};
+//! The lines that end in one piece of a script: the one loop over lines.
+ghost use Rattle.std.specs.Prelude.{IsTrue, ◌≡◌, IfOk, OnOk, IfErr, MatchOption};
+ghost use Rattle.newt_script_session.specs.Answered.{Ran};
+ghost use Rattle.newt_script_session.specs.Causes.{flow_of, HasWriteCause, Keeps};
+ghost use Rattle.newt_script_session.specs.Lines.{BeginsWith, HasNoEnd, ended_lines, last_line, lines_of, unended};
+ghost use Rattle.newt_script_session.specs.Script.{commands_of, has_quit};
 ghost use Rattle.newt_script_session.specs.declared.halt.Flow.TheVariants.{Go};
 
 use crate::halt::{Flow, Halt};
 use crate::interpreter::Interpreter;
+use crate::sink::Sink;
 use crate::turn::turn;
 use memchr::memchr;
 use newt_host::Host;
 use std::alloc::Global;
 
 /// The first line that ends in a text, without its end, and what follows it.
-pub fn first_line(text: &[u8]) -> Option<(&[u8], &[u8])>
+fn first_line(text: &[u8]) -> Option<(&[u8], &[u8])>
     ensures { MatchOption result (HasNoEnd text.now) (λ found. BeginsWith text.now found.0.now found.1.now) }
 {
     let end = memchr(b'\n', text)?;
@@ -26,38 +24,31 @@ pub fn first_line(text: &[u8]) -> Option<(&[u8], &[u8])>
 
 /// Answers each line that ends in the piece, up to one that quits. The line is the one begun before
 /// it, and is left at the one begun in it.
-pub fn feed<H: Host, I: Interpreter>(
+pub fn feed<H: Host, I: Interpreter, S: Sink>(
     alloc: Global,
     host: &mut H,
     interpreter: &mut I,
+    sink: &mut S,
     line: &mut Vec<u8>,
     piece: &[u8],
 ) -> Result<Flow, Halt>
     requires { I.stands H.told interpreter.old (H.outside host.old) }
     ensures stands { OnOk result (I.stands H.told interpreter.new (H.outside host.new)) }
-    ensures flow { let lines = ended_lines line.old.items piece.now in IfOk result (λ flow. flow ≡ flow_of (has_quit lines)) }
-    ensures world { let lines = ended_lines line.old.items piece.now in
-        IsTrue H.told → IfOk result (λ flow. flow ≡ Go → I.world interpreter.new (H.outside host.new) ≡ world_after I.answer (I.world interpreter.old (H.outside host.old)) lines) }
+    ensures flow { IfOk result (λ flow. flow ≡ flow_of (has_quit (ended_lines line.old.items piece.now))) }
     ensures line { IfOk result (λ flow. flow ≡ Go → line.new.items ≡ unended line.old.items piece.now) }
-    ensures put { let lines = ended_lines line.old.items piece.now in
-        IsTrue H.told → OnOk result (out_of (H.outside host.new) ≡ out_of (H.outside host.old) ++ output_of I.answer (I.world interpreter.old (H.outside host.old)) lines) }
-    ensures halted { let lines = ended_lines line.old.items piece.now in
-        IsTrue H.told → IfErr result (λ halt. HaltedIn I.answer halt (I.world interpreter.old (H.outside host.old)) lines (out_of (H.outside host.old)) (out_of (H.outside host.new))) }
-    ensures untouched { IsTrue H.told → (start : Moment) → Untouched start (I.world interpreter.old (H.outside host.old)) (H.outside host.old).now
-        → IfOk result (λ flow. flow ≡ Go → Untouched start (I.world interpreter.new (H.outside host.new)) (H.outside host.new).now) }
-    ensures moments { let commands = commands_of (ended_lines line.old.items piece.now) in
-        IsTrue H.told → (start : Moment) → Untouched start (I.world interpreter.old (H.outside host.old)) (H.outside host.old).now
-        → Always (SafeAt I.answer I.store_of_image start (I.world interpreter.old (H.outside host.old)) commands (out_of (H.outside host.old))) (H.outside host.old).now (H.outside host.new).now }
+    ensures ran { IsTrue H.told → Ran S.shows I.answer I.store_of_image result
+        (I.world interpreter.old (H.outside host.old)) (I.world interpreter.new (H.outside host.new))
+        (commands_of (ended_lines line.old.items piece.now)) (S.has sink.old) (S.has sink.new)
+        (H.outside host.old).now (H.outside host.new).now }
     ensures cause { IfErr result (λ halt. HasWriteCause halt (H.outside host.old) (H.outside host.new)) }
-    ensures left { (H.outside host.new).input ≡ (H.outside host.old).input }
-    ensures stays { StaysAttached (H.outside host.old) (H.outside host.new) }
+    ensures keeps { Keeps (H.outside host.old) (H.outside host.new) }
 {
     let mut rest = piece;
     while let Some((ended, more)) = first_line(rest) {
         if line.extend_from_slice(ended).is_err() {
             return Err(Halt::Memory);
         }
-        match turn(alloc, host, interpreter, line)? {
+        match turn(alloc, host, interpreter, sink, line)? {
             Flow::Go => line.clear(),
             Flow::Quit => return Ok(Flow::Quit),
         }
@@ -67,4 +58,52 @@ pub fn feed<H: Host, I: Interpreter>(
         return Err(Halt::Memory);
     }
     Ok(Flow::Go)
+}
+
+/// Answers what follows the last line end, where it is not empty.
+pub fn finish<H: Host, I: Interpreter, S: Sink>(
+    alloc: Global,
+    host: &mut H,
+    interpreter: &mut I,
+    sink: &mut S,
+    line: &[u8],
+) -> Result<(), Halt>
+    requires { I.stands H.told interpreter.old (H.outside host.old) }
+    ensures stands { OnOk result (I.stands H.told interpreter.new (H.outside host.new)) }
+    ensures ran { IsTrue H.told → Ran S.shows I.answer I.store_of_image result
+        (I.world interpreter.old (H.outside host.old)) (I.world interpreter.new (H.outside host.new))
+        (commands_of (last_line line.now)) (S.has sink.old) (S.has sink.new)
+        (H.outside host.old).now (H.outside host.new).now }
+    ensures cause { IfErr result (λ halt. HasWriteCause halt (H.outside host.old) (H.outside host.new)) }
+    ensures keeps { Keeps (H.outside host.old) (H.outside host.new) }
+{
+    if line.is_empty() {
+        return Ok(());
+    }
+    turn(alloc, host, interpreter, sink, line)?;
+    Ok(())
+}
+
+/// Answers the lines of a whole text, up to one that quits: all of it is one piece.
+pub fn answer_text<H: Host, I: Interpreter, S: Sink>(
+    alloc: Global,
+    host: &mut H,
+    interpreter: &mut I,
+    sink: &mut S,
+    text: &[u8],
+) -> Result<(), Halt>
+    requires { I.stands H.told interpreter.old (H.outside host.old) }
+    ensures stands { OnOk result (I.stands H.told interpreter.new (H.outside host.new)) }
+    ensures ran { IsTrue H.told → Ran S.shows I.answer I.store_of_image result
+        (I.world interpreter.old (H.outside host.old)) (I.world interpreter.new (H.outside host.new))
+        (commands_of (lines_of text.now)) (S.has sink.old) (S.has sink.new)
+        (H.outside host.old).now (H.outside host.new).now }
+    ensures cause { IfErr result (λ halt. HasWriteCause halt (H.outside host.old) (H.outside host.new)) }
+    ensures keeps { Keeps (H.outside host.old) (H.outside host.new) }
+{
+    let mut line = Vec::new(alloc);
+    match feed(alloc, host, interpreter, sink, &mut line, text)? {
+        Flow::Go => finish(alloc, host, interpreter, sink, &line),
+        Flow::Quit => Ok(()),
+    }
 }

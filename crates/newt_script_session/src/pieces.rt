@@ -1,18 +1,13 @@
 //! A script from the input to the output.
-ghost use Rattle.std.specs.Prelude.{IsTrue, ◌≡◌, ◌<◌, ◌≤◌, ◌++◌, [], take, length, IfOk, OnOk, OnErr, IfErr, vec_len};
-ghost use Rattle.newt_host.specs.Meanings.{out_of};
+ghost use Rattle.std.specs.Prelude.{IsTrue, ◌≡◌, ◌<◌, ◌≤◌, ◌++◌, [], take, length, IfOk, OnErr, IfErr, vec_len};
 ghost use Rattle.newt_host.specs.Outside.{Rose};
-ghost use Rattle.newt_host.specs.Moments.{Always, Moment};
-ghost use Rattle.newt_script_session.specs.Moments.{CrashAt, SafeAt, Untouched};
-ghost use Rattle.newt_script_session.specs.Lines.{last_line, lines_of};
-ghost use Rattle.newt_script_session.specs.Run.{output, IsReadThrough, Halted, HaltedIn};
-ghost use Rattle.newt_script_session.specs.Script.{commands_of, output_of};
-ghost use Rattle.newt_script_session.specs.Causes.{HasCause, HasWriteCause, StaysAttached, SameDevices};
+ghost use Rattle.newt_script_session.specs.Causes.{HasCause, StaysAttached, SameDevices};
+ghost use Rattle.newt_script_session.specs.Session.{Session};
 
-use crate::feed::feed;
+use crate::feed::{feed, finish};
 use crate::halt::{Flow, Halt};
 use crate::interpreter::Interpreter;
-use crate::turn::turn;
+use crate::sink::Output;
 use newt_host::Host;
 use std::alloc::{AllocError, Global};
 
@@ -40,31 +35,6 @@ pub fn read_piece<H: Host>(host: &mut H, buffer: &mut [u8], most: usize) -> Resu
     }
 }
 
-/// Answers what follows the last line end, where it is not empty.
-fn finish<H: Host, I: Interpreter>(
-    alloc: Global,
-    host: &mut H,
-    interpreter: &mut I,
-    line: &[u8],
-) -> Result<(), Halt>
-    requires { I.stands H.told interpreter.old (H.outside host.old) }
-    ensures stands { OnOk result (I.stands H.told interpreter.new (H.outside host.new)) }
-    ensures put { IsTrue H.told → OnOk result (out_of (H.outside host.new) ≡ out_of (H.outside host.old) ++ output_of I.answer (I.world interpreter.old (H.outside host.old)) (last_line line.now)) }
-    ensures halted { IsTrue H.told → IfErr result (λ halt.
-        HaltedIn I.answer halt (I.world interpreter.old (H.outside host.old)) (last_line line.now) (out_of (H.outside host.old)) (out_of (H.outside host.new))) }
-    ensures moments { IsTrue H.told → (start : Moment) → Untouched start (I.world interpreter.old (H.outside host.old)) (H.outside host.old).now
-        → Always (SafeAt I.answer I.store_of_image start (I.world interpreter.old (H.outside host.old)) (commands_of (last_line line.now)) (out_of (H.outside host.old))) (H.outside host.old).now (H.outside host.new).now }
-    ensures cause { IfErr result (λ halt. HasWriteCause halt (H.outside host.old) (H.outside host.new)) }
-    ensures left { (H.outside host.new).input ≡ (H.outside host.old).input }
-    ensures stays { StaysAttached (H.outside host.old) (H.outside host.new) }
-{
-    if line.is_empty() {
-        return Ok(());
-    }
-    turn(alloc, host, interpreter, line)?;
-    Ok(())
-}
-
 /// Reads a script and answers its lines as they come, up to one that quits. The line is empty at first.
 fn answer_pieces<H: Host, I: Interpreter>(
     alloc: Global,
@@ -77,13 +47,8 @@ fn answer_pieces<H: Host, I: Interpreter>(
     requires empty { line.old.items ≡ [] }
     requires room { 0 < length buffer.old }
     requires stands { I.stands H.told interpreter.old (H.outside host.old) }
-    ensures out { IsTrue H.told → OnOk result (out_of (H.outside host.new) ≡ out_of (H.outside host.old) ++ output I.answer (I.world interpreter.old (H.outside host.old)) (H.outside host.old).input) }
-    ensures read { IsTrue H.told → OnOk result (IsReadThrough limit (H.outside host.old).input (H.outside host.new).input) }
-    ensures halted { IsTrue H.told → IfErr result (λ halt.
-        Halted I.answer limit halt (I.world interpreter.old (H.outside host.old)) (H.outside host.old).input (H.outside host.new).input (out_of (H.outside host.old)) (out_of (H.outside host.new))) }
-    // at each moment a crash leaves each unit as it is after some first commands, every command among them whose reply has begun
-    ensures crash { IsTrue H.told → Always (CrashAt I.answer I.store_of_image (H.outside host.old).now (I.world interpreter.old (H.outside host.old)) (commands_of (lines_of (H.outside host.old).input)) (out_of (H.outside host.old)))
-        (H.outside host.old).now (H.outside host.new).now }
+    ensures session { IsTrue H.told → Session I.answer I.store_of_image limit result
+        (I.world interpreter.old (H.outside host.old)) (H.outside host.old) (H.outside host.new) }
     ensures cause { IfErr result (λ halt. HasCause halt (H.outside host.old) (H.outside host.new)) }
     ensures stays { StaysAttached (H.outside host.old) (H.outside host.new) }
 {
@@ -97,13 +62,20 @@ fn answer_pieces<H: Host, I: Interpreter>(
         if taken == limit {
             return Err(Halt::TooLong);
         }
-        match feed(alloc, host, interpreter, line, &buffer[..moved])? {
+        match feed(
+            alloc,
+            host,
+            interpreter,
+            &mut Output,
+            line,
+            &buffer[..moved],
+        )? {
             Flow::Go => {}
             Flow::Quit => return Ok(()),
         }
         taken += moved;
     }
-    finish(alloc, host, interpreter, line)
+    finish(alloc, host, interpreter, &mut Output, line)
 }
 
 /// A buffer of 65,536 bytes for the pieces of the input.
@@ -121,13 +93,8 @@ pub fn run_script<H: Host, I: Interpreter>(
     limit: usize,
 ) -> Result<(), Halt>
     requires { I.stands H.told interpreter.old (H.outside host.old) }
-    ensures out { IsTrue H.told → OnOk result (out_of (H.outside host.new) ≡ out_of (H.outside host.old) ++ output I.answer (I.world interpreter.old (H.outside host.old)) (H.outside host.old).input) }
-    ensures read { IsTrue H.told → OnOk result (IsReadThrough limit (H.outside host.old).input (H.outside host.new).input) }
-    ensures halted { IsTrue H.told → IfErr result (λ halt.
-        Halted I.answer limit halt (I.world interpreter.old (H.outside host.old)) (H.outside host.old).input (H.outside host.new).input (out_of (H.outside host.old)) (out_of (H.outside host.new))) }
-    // at each moment a crash leaves each unit as it is after some first commands, every command among them whose reply has begun
-    ensures crash { IsTrue H.told → Always (CrashAt I.answer I.store_of_image (H.outside host.old).now (I.world interpreter.old (H.outside host.old)) (commands_of (lines_of (H.outside host.old).input)) (out_of (H.outside host.old)))
-        (H.outside host.old).now (H.outside host.new).now }
+    ensures session { IsTrue H.told → Session I.answer I.store_of_image limit result
+        (I.world interpreter.old (H.outside host.old)) (H.outside host.old) (H.outside host.new) }
     ensures cause { IfErr result (λ halt. HasCause halt (H.outside host.old) (H.outside host.new)) }
     ensures stays { StaysAttached (H.outside host.old) (H.outside host.new) }
 {

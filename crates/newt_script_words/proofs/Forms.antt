@@ -1,5 +1,5 @@
 -- Single words.
-use Rattle.std.proofs.Common.{◌≡◌, ℕ, Bool, true, false, not, ◌==◌, List, [], take, Option, Some, None, Result, Ok, Err, if◌then◌else◌, codes, refl, sym, ◌∙◌, ap, IfOk, IfErr}
+use Rattle.std.proofs.Common.{◌≡◌, ◌≢◌, ℕ, Bool, true, false, not, ◌==◌, List, [], take, Option, Some, None, Result, Ok, Err, if◌then◌else◌, codes, refl, sym, ◌∙◌, ap}
 use Rattle.std.proofs.lemmas.Bool.{eqb-true}
 use Rattle.std.specs.List.{prefix_len}
 use Rattle.std.specs.Option.{ok_or}
@@ -9,8 +9,9 @@ use Rattle.newt_spec_script.specs.Words.{word, or_not_the_form, is_blank, skip_b
 use Rattle.newt_spec_script.specs.Line.{first_word, star}
 use Rattle.newt_path.specs.Names.{path_of}
 use Rattle.newt_script_words.specs.Readers.{path_word, star_of}
+use Rattle.newt_script_words.specs.Reads.{Reads}
 use Rattle.newt_script_words.specs.declared.fault.WordFault.{WordFault}
-use Rattle.newt_script_words.specs.declared.fault.WordFault.TheVariants.{Form}
+use Rattle.newt_script_words.specs.declared.fault.WordFault.TheVariants.{Form, Memory}
 
 -- a form that does not hold of no bytes needs no look at the length
 formed : {A : Type 0} (form : List ℕ → Option A) (n : ℕ) (text : List ℕ) → form [] ≡ None → (if n == 0 then None else form (take n text)) ≡ form (take n text)
@@ -30,17 +31,24 @@ word_is form cs empty =
 -- what the code reads of a word is what the definition reads
 pub reads_word : {A : Type 0} (form : List ℕ → Option A) (cs w rest : List ℕ) (o : Option A) (r : Result A WordFault)
     → form [] ≡ None → w ≡ (first_word cs).0 → rest ≡ (first_word cs).1 → o ≡ form w → r ≡ ok_or o Form
-    → IfOk r (λ a. word form cs ≡ Ok (a, rest))
-reads_word form cs w rest None r empty word_ok rest_ok is given = rw given tt
-reads_word form cs w rest (Some a) r empty word_ok rest_ok is given =
-    rw given (word_is form cs empty ∙ (ap (λ v. or_not_the_form (form v) (first_word cs).1) (sym word_ok) ∙ (ap (λ v. or_not_the_form v (first_word cs).1) (sym is) ∙ ap (λ v. Ok (a, v)) (sym rest_ok))))
+    → Reads {A = A × List ℕ} {B = A} (word form cs) r (λ a. (a, rest))
+reads_word form cs w rest None r empty word_ok rest_ok is given = record {
+  read = rw given tt;
+  refused = λ apart. rw given (
+    refl,
+    word_is form cs empty ∙ (ap (λ v. or_not_the_form (form v) (first_word cs).1) (sym word_ok) ∙ ap (λ v. or_not_the_form v (first_word cs).1) (sym is)),
+  );
+}
+reads_word form cs w rest (Some a) r empty word_ok rest_ok is given = record {
+  read = rw given (word_is form cs empty
+      ∙ (ap (λ v. or_not_the_form (form v) (first_word cs).1) (sym word_ok) ∙ (ap (λ v. or_not_the_form v (first_word cs).1) (sym is) ∙ ap (λ v. Ok (a, v)) (sym rest_ok))));
+  refused = λ apart. rw given tt;
+}
 
-pub refuses_word : {A : Type 0} (form : List ℕ → Option A) (cs w : List ℕ) (o : Option A) (r : Result A WordFault)
-    → form [] ≡ None → w ≡ (first_word cs).0 → o ≡ form w → r ≡ ok_or o Form
-    → IfErr r (λ fault. (fault ≡ Form) × (word form cs ≡ Err NotTheForm))
-refuses_word form cs w None r empty word_ok is given =
-    rw given (refl, word_is form cs empty ∙ (ap (λ v. or_not_the_form (form v) (first_word cs).1) (sym word_ok) ∙ ap (λ v. or_not_the_form v (first_word cs).1) (sym is)))
-refuses_word form cs w (Some a) r empty word_ok is given = rw given tt
+-- and never for want of memory
+pub never_wants : {A : Type 0} (o : Option A) (r : Result A WordFault) → r ≡ ok_or o Form → r ≢ Err Memory
+never_wants None r given = λ e. cc
+never_wants (Some a) r given = λ e. cc
 
 -- ---- a path
 

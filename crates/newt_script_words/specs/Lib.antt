@@ -1,3 +1,4 @@
 pub mod Names
 pub mod Listed
 pub mod Readers
+pub mod Reads

@@ -5,6 +5,7 @@ ghost use Rattle.newt_base.specs.Names.{is_name, needs_quotes};
 ghost use Rattle.newt_base.specs.declared.Refusal.TheVariants.{Line as NotTheForm};
 ghost use Rattle.newt_spec_script.specs.Words as spec;
 ghost use Rattle.newt_script_words.specs.Names.{goes_on};
+ghost use Rattle.newt_script_words.specs.Reads.{Reads, Spells};
 
 use crate::blanks::{is_blank, split_word};
 use crate::fault::WordFault;
@@ -32,8 +33,7 @@ fn are_bare(bytes: &[u8]) -> bool
 
 /// The name that a word without quotes is.
 pub fn bare_name(alloc: Global, word: &[u8]) -> Result<Name, WordFault>
-    ensures read { IfOk result (λ name. spec.bare_name word.now ≡ Some name) }
-    ensures refused { result ≢ Err WordFault.Memory → IfErr result (λ fault. (fault ≡ WordFault.Form) × (spec.bare_name word.now ≡ None)) }
+    ensures { Spells (spec.bare_name word.now) result (λ name. name) }
 {
     if !are_bare(word) {
         return Err(WordFault::Form);
@@ -82,8 +82,7 @@ fn next_in_quotes(text: &[u8]) -> Option<(Option<u8>, &[u8])>
 /// The text up to the closing quote, without the backslashes before quotes and backslashes, and
 /// what follows the quote.
 fn unquoted(alloc: Global, text: &[u8]) -> Result<(Vec<u8>, &[u8]), WordFault>
-    ensures read { IfOk result (λ found. spec.quoted text.now ≡ Some (found.0.items, found.1.now)) }
-    ensures refused { result ≢ Err WordFault.Memory → IfErr result (λ fault. (fault ≡ WordFault.Form) × (spec.quoted text.now ≡ None)) }
+    ensures { Spells (spec.quoted text.now) result (λ found. (found.0.items, found.1.now)) }
 {
     let mut name = Vec::new(alloc);
     let mut rest = text;
@@ -104,8 +103,7 @@ fn unquoted(alloc: Global, text: &[u8]) -> Result<(Vec<u8>, &[u8]), WordFault>
 /// The name in a text behind its opening quote, and what follows the closing one, where the word
 /// ends.
 pub fn quoted_name(alloc: Global, text: &[u8]) -> Result<(Name, &[u8]), WordFault>
-    ensures read { IfOk result (λ found. spec.if_name (spec.quoted text.now) ≡ Ok (found.0, found.1.now)) }
-    ensures refused { result ≢ Err WordFault.Memory → IfErr result (λ fault. (fault ≡ WordFault.Form) × (spec.if_name (spec.quoted text.now) ≡ Err NotTheForm)) }
+    ensures { Reads (spec.if_name (spec.quoted text.now)) result (λ found. (found.0, found.1.now)) }
 {
     let (bytes, rest) = unquoted(alloc, text)?;
     let name = named(alloc, &bytes)?;
@@ -120,8 +118,7 @@ pub fn quoted_name(alloc: Global, text: &[u8]) -> Result<(Name, &[u8]), WordFaul
 /// and what follows it.
 #[tactic(auto, using(crate::proofs::Quotes::in_quotes, crate::proofs::Quotes::without_quotes))]
 pub fn name_from(alloc: Global, text: &[u8]) -> Result<(Name, &[u8]), WordFault>
-    ensures read { IfOk result (λ found. spec.name_from text.now ≡ Ok (found.0, found.1.now)) }
-    ensures refused { result ≢ Err WordFault.Memory → IfErr result (λ fault. (fault ≡ WordFault.Form) × (spec.name_from text.now ≡ Err NotTheForm)) }
+    ensures { Reads (spec.name_from text.now) result (λ found. (found.0, found.1.now)) }
 {
     let [byte, rest @ ..] = text else {
         return Err(WordFault::Form);
@@ -135,8 +132,7 @@ pub fn name_from(alloc: Global, text: &[u8]) -> Result<(Name, &[u8]), WordFault>
 
 /// The name without quotes that a text begins with, and what follows it.
 fn bare_name_from(alloc: Global, text: &[u8]) -> Result<(Name, &[u8]), WordFault>
-    ensures read { IfOk result (λ found. spec.word spec.bare_name text.now ≡ Ok (found.0, found.1.now)) }
-    ensures refused { result ≢ Err WordFault.Memory → IfErr result (λ fault. (fault ≡ WordFault.Form) × (spec.word spec.bare_name text.now ≡ Err NotTheForm)) }
+    ensures { Reads (spec.word spec.bare_name text.now) result (λ found. (found.0, found.1.now)) }
 {
     let (word, rest) = split_word(text);
     let name = bare_name(alloc, word)?;

@@ -4,6 +4,7 @@ ghost use Rattle.newt_base.specs.declared.Refusal.TheVariants.{Line as NotTheFor
 ghost use Rattle.newt_spec_script.specs.Line.{first_word};
 ghost use Rattle.newt_script_words.specs.Readers.{unit_of, number_of, sig_of, length_of, cursor_of, steps_of, star_of, name_of, soup_of, entry_of, path_word, rest_of, is_ended};
 ghost use Rattle.newt_script_words.specs.Listed.{parts_in, paths_in, symbols_in};
+ghost use Rattle.newt_script_words.specs.Reads.{Reads};
 
 use crate::blanks::{skip_blanks, split_word, trimmed};
 use crate::fault::WordFault;
@@ -78,48 +79,48 @@ impl<'a> Words<'a> {
 
     /// U: the number of a unit.
     pub fn unit(&mut self) -> Result<Unit, WordFault>
-        ensures read { IfOk result (λ unit. unit_of self.old ≡ Ok (unit, self.new)) }
-        ensures refused { IfErr result (λ fault. (fault ≡ WordFault.Form) × (unit_of self.old ≡ Err NotTheForm)) }
+        ensures reads { Reads (unit_of self.old) result (λ unit. (unit, self.new)) }
+        ensures no_memory { result ≢ Err WordFault.Memory }
     {
         unit_digit(self.word()).ok_or(WordFault::Form)
     }
 
     /// UID, T or AT: a number of 32 bits.
     pub fn number(&mut self) -> Result<u32, WordFault>
-        ensures read { IfOk result (λ number. number_of self.old ≡ Ok (number, self.new)) }
-        ensures refused { IfErr result (λ fault. (fault ≡ WordFault.Form) × (number_of self.old ≡ Err NotTheForm)) }
+        ensures reads { Reads (number_of self.old) result (λ number. (number, self.new)) }
+        ensures no_memory { result ≢ Err WordFault.Memory }
     {
         decimal(self.word()).ok_or(WordFault::Form)
     }
 
     /// SIG: the signature of a store.
     pub fn sig(&mut self) -> Result<Sig, WordFault>
-        ensures read { IfOk result (λ sig. sig_of self.old ≡ Ok (sig, self.new)) }
-        ensures refused { IfErr result (λ fault. (fault ≡ WordFault.Form) × (sig_of self.old ≡ Err NotTheForm)) }
+        ensures reads { Reads (sig_of self.old) result (λ sig. (sig, self.new)) }
+        ensures no_memory { result ≢ Err WordFault.Memory }
     {
         signature(self.word()).ok_or(WordFault::Form)
     }
 
     /// LEN: how many bytes are read, at most 60,000.
     pub fn length(&mut self) -> Result<u32, WordFault>
-        ensures read { IfOk result (λ length. length_of self.old ≡ Ok (length, self.new)) }
-        ensures refused { IfErr result (λ fault. (fault ≡ WordFault.Form) × (length_of self.old ≡ Err NotTheForm)) }
+        ensures reads { Reads (length_of self.old) result (λ length. (length, self.new)) }
+        ensures no_memory { result ≢ Err WordFault.Memory }
     {
         read_length(self.word()).ok_or(WordFault::Form)
     }
 
     /// C: the number of a cursor.
     pub fn cursor(&mut self) -> Result<u8, WordFault>
-        ensures read { IfOk result (λ cursor. cursor_of self.old ≡ Ok (cursor, self.new)) }
-        ensures refused { IfErr result (λ fault. (fault ≡ WordFault.Form) × (cursor_of self.old ≡ Err NotTheForm)) }
+        ensures reads { Reads (cursor_of self.old) result (λ cursor. (cursor, self.new)) }
+        ensures no_memory { result ≢ Err WordFault.Memory }
     {
         cursor_number(self.word()).ok_or(WordFault::Form)
     }
 
     /// K: how many steps a cursor is moved, down to the lowest and up to the highest number of 32 bits with a sign.
     pub fn steps(&mut self) -> Result<i32, WordFault>
-        ensures read { IfOk result (λ steps. steps_of self.old ≡ Ok (steps, self.new)) }
-        ensures refused { IfErr result (λ fault. (fault ≡ WordFault.Form) × (steps_of self.old ≡ Err NotTheForm)) }
+        ensures reads { Reads (steps_of self.old) result (λ steps. (steps, self.new)) }
+        ensures no_memory { result ≢ Err WordFault.Memory }
     {
         signed(self.word()).ok_or(WordFault::Form)
     }
@@ -141,8 +142,7 @@ impl<'a> Words<'a> {
     /// S or NAME: a name, bare or in quotes.
     #[tactic(auto, unfolding(crate::specs::Readers::name_of))]
     pub fn name(&mut self, alloc: Global) -> Result<Name, WordFault>
-        ensures read { IfOk result (λ name. name_of self.old ≡ Ok (name, self.new)) }
-        ensures refused { result ≢ Err WordFault.Memory → IfErr result (λ fault. (fault ≡ WordFault.Form) × (name_of self.old ≡ Err NotTheForm)) }
+        ensures { Reads (name_of self.old) result (λ name. (name, self.new)) }
     {
         let (name, rest) = name_from(alloc, skip_blanks(self.rest))?;
         self.rest = rest;
@@ -152,8 +152,7 @@ impl<'a> Words<'a> {
     /// U S
     #[tactic(auto, unfolding(crate::specs::Readers::soup_of))]
     pub fn soup(&mut self, alloc: Global) -> Result<(Unit, Name), WordFault>
-        ensures read { IfOk result (λ found. soup_of self.old ≡ Ok ((found.0, found.1), self.new)) }
-        ensures refused { result ≢ Err WordFault.Memory → IfErr result (λ fault. (fault ≡ WordFault.Form) × (soup_of self.old ≡ Err NotTheForm)) }
+        ensures { Reads (soup_of self.old) result (λ found. ((found.0, found.1), self.new)) }
     {
         let unit = self.unit()?;
         let name = self.name(alloc)?;
@@ -163,8 +162,7 @@ impl<'a> Words<'a> {
     /// U S UID
     #[tactic(auto, unfolding(crate::specs::Readers::entry_of))]
     pub fn entry(&mut self, alloc: Global) -> Result<(Unit, Name, Uid), WordFault>
-        ensures read { IfOk result (λ found. entry_of self.old ≡ Ok ((found.0, found.1, found.2), self.new)) }
-        ensures refused { result ≢ Err WordFault.Memory → IfErr result (λ fault. (fault ≡ WordFault.Form) × (entry_of self.old ≡ Err NotTheForm)) }
+        ensures { Reads (entry_of self.old) result (λ found. ((found.0, found.1, found.2), self.new)) }
     {
         let unit = self.unit()?;
         let name = self.name(alloc)?;
@@ -174,8 +172,7 @@ impl<'a> Words<'a> {
 
     /// PATH: the names of slots from the root down.
     pub fn path(&mut self, alloc: Global) -> Result<Path, WordFault>
-        ensures read { IfOk result (λ path. path_word self.old ≡ Ok (path, self.new)) }
-        ensures refused { result ≢ Err WordFault.Memory → IfErr result (λ fault. (fault ≡ WordFault.Form) × (path_word self.old ≡ Err NotTheForm)) }
+        ensures { Reads (path_word self.old) result (λ path. (path, self.new)) }
     {
         match Path::read(alloc, self.word()) {
             Ok(path) => Ok(path),

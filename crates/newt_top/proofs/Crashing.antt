@@ -21,7 +21,7 @@ use Rattle.newt_spec_world.specs.World.{World, Device, Media, blank, one, device
 use Rattle.newt_spec_store.specs.Store as plain
 use Rattle.newt_store_catalog.specs.Readable.{readable}
 use Rattle.newt_engine.specs.Laws.{stays_there}
-use Rattle.newt_script_tally.specs.Moments.{HasLeftCounted}
+use Rattle.newt_script_session.specs.Counted.{HasLeftCounted}
 use Rattle.newt_top.specs.Crash.{formats, formats_next, IsOneOf, IsLeft, IsLeftCounted}
 
 -- ---- only a format gives a unit a store

@@ -7,7 +7,7 @@ use Rattle.newt_script_session.specs.Causes.{HasWriteCause}
 use Rattle.newt_script_session.specs.Run.{HaltedReply}
 use Rattle.newt_script_session.specs.declared.halt.Halt.{Halt}
 use Rattle.newt_script_session.specs.declared.halt.Halt.TheVariants.{Memory, Device, Source, Sink, TooLong}
-use Rattle.newt_script_tally.specs.Counts.{summary_of}
+use Rattle.newt_script_session.specs.Counts.{summary_of}
 use Rattle.newt_top.specs.Modes.{first, LeavesCounted, RanCounted}
 use Rattle.newt_top.specs.Status.{HasStatusCause, status_of}
 use Rattle.newt_top.specs.Whole.{converted, HaltedWhole, HasReadCause}

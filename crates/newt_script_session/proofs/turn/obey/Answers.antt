@@ -1,85 +1,68 @@
-use Rattle.std.proofs.Common.{◌++◌, Bool, Ok, ap, subst, ◌∙◌}
-use Rattle.newt_host.specs.Meanings.{out_of}
-use Rattle.newt_host.specs.Moments.{Always}
-use Rattle.newt_host.specs.Outside.{PrintsSome}
+use Rattle.std.proofs.Common.{◌++◌, [], ◌∷◌, ℕ, List, Bool, Ok, Err, ap, subst, ◌∙◌}
 use Rattle.std.proofs.lemmas.Result.{err_from_is_err_and}
-use Rattle.newt_host.proofs.Moments.{Always-append, Always-last, Always-map}
-use Rattle.newt_reply.specs.Said.{said}
 use Rattle.newt_spec_world.specs.Reply.{Reply, reply_text}
 use Rattle.newt_spec_world.specs.World.{store_on_unit}
 use Rattle.newt_script_session.specs.Causes.{SameDevices}
-use Rattle.newt_script_session.proofs.Crashing.{its_now, answering_leaves, untouched_next, untouched_same, untouched_world, safe_answering, safe_writing}
-use Rattle.newt_script_session.proofs.Halting.{reply_halted, stop_reply}
+use Rattle.newt_script_session.specs.Stream.{Puts, put_out}
+use Rattle.newt_script_session.proofs.Counting.{keeps-on_devices, keeps-trans}
+use Rattle.newt_script_session.proofs.Crashing.{at_rest}
+use Rattle.newt_script_session.proofs.Halting.{sink_cause}
+use Rattle.newt_script_session.proofs.Obeying.{ran_item, ran_stopped, ran_untaken}
 use Rattle.newt_script_session.proofs.turn.obey.Goals as goal
 
-pub returns-in_err-put_reply-in-Ok-clause-halted : goal.returns-in_err-put_reply-in-Ok-clause-halted
-returns-in_err-put_reply-in-Ok-clause-halted g c = λ told.
+pub returns-in_err-put_reply-in-Ok-clause-ran : goal.returns-in_err-put_reply-in-Ok-clause-ran
+returns-in_err-put_reply-in-Ok-clause-ran g c = λ told.
+    let it = g.I.Interpreter in
+    let shows = g.S.Sink.shows in
+    let before = g.H.Host.outside c.args.host.now in
+    let mid = g.H.Host.outside c.apply.new.host in
+    let new = g.H.Host.outside c.put_reply.new.host in
+    let w = it.world c.args.interpreter.now before in
     let p = err_from_is_err_and c.from_residual.result c.from_residual.ensures.1 in
-    rw (p.1, p.2) (reply_halted c.in_err-put_reply-in-Ok.field-0.0 _ _ _ _ _ _ _ c.in_err-put_reply-in-Ok.ensures.cause (ap reply_text (c.in-Ok.ensures.reply told))
-    (Always-last (c.apply.ensures.moments told)).quiet (c.in_err-put_reply-in-Ok.ensures.failed told))
-
-pub returns-in-Err-clause-halted : goal.returns-in-Err-clause-halted
-returns-in-Err-clause-halted g c = λ told.
-    rw c.halted_by.ensures (stop_reply c.in-Err.stop _ _ _ (Always-last (c.apply.ensures.moments told)).quiet)
-
-pub returns-in-Err-clause-moments : goal.returns-in-Err-clause-moments
-returns-in-Err-clause-moments g c = λ told start untouched.
-    let it = g.I.Interpreter in
-    let before = g.H.Host.outside c.args.host.now in
-    let w = it.world c.args.interpreter.now before in
-    Always-map (λ m a. safe_answering it.answer it.store_of_image start w (Ok c.args.command) before.now m untouched a) (c.apply.ensures.moments told)
-
-pub returns-in_err-put_reply-in-Ok-clause-moments : goal.returns-in_err-put_reply-in-Ok-clause-moments
-returns-in_err-put_reply-in-Ok-clause-moments g c = λ told start untouched.
-    let it = g.I.Interpreter in
-    let before = g.H.Host.outside c.args.host.now in
-    let w = it.world c.args.interpreter.now before in
-    let mid = g.H.Host.outside c.apply.new.host in
-    let next = (it.answer w c.args.command).0 in
-    let last = Always-last (c.apply.ensures.moments told) in
-    let later = untouched_next it.store_of_image start w next before.now mid.now untouched last (λ unit none. g.met.I.Interpreter.stays w c.args.command unit none) in
     let stands = subst (λ (t : Bool). it.stands t c.apply.new.self mid) told c.in-Ok.ensures.stands in
-    let its = its_now it.store_of_image start next mid.now later
+    let its = at_rest it.store_of_image (it.answer w c.args.command).0 mid.now
     (λ unit store left e may. g.met.I.Interpreter.leaves c.apply.new.self mid stands unit store left (ap (λ v. store_on_unit v unit) (c.in-Ok.ensures.world told) ∙ e) may) in
-    let R : Reply → Type 0 = λ r. Always (PrintsSome (reply_text r) mid.now) mid.now (g.H.Host.outside c.put_reply.new.host).now in
-    Always-append (Always-map (λ m a. safe_answering it.answer it.store_of_image start w (Ok c.args.command) before.now m untouched a) (c.apply.ensures.moments told))
-    (Always-map (λ m some. safe_writing it.answer it.store_of_image start w (Ok c.args.command) before.now mid.now m last.quiet
-    (λ unit left may. answering_leaves it.store_of_image start w next before.now mid.now untouched last unit left may) its some)
-    (subst R (c.in-Ok.ensures.reply told) (c.put_reply.ensures.moments told)))
+    let R : Reply → Type 0 = λ r. Puts c.put_reply.result (put_out shows (reply_text r)) mid.now new.now in
+    ran_untaken shows it.answer it.store_of_image w (Ok c.args.command) before.now mid.now (c.apply.ensures.moments told) (λ unit none. g.met.I.Interpreter.stays w c.args.command unit none)
+    _ _ _ _ _ new.now mid new (p.1 ∙ ap Err p.2) its c.in_err-put_reply-in-Ok.ensures.cause
+    (rw c.in_err-put_reply-in-Ok.was at (subst R (c.in-Ok.ensures.reply told) (c.put_reply.ensures.puts told)))
 
-pub returns-in_ok-put_reply-in-Ok-clause-moments : goal.returns-in_ok-put_reply-in-Ok-clause-moments
-returns-in_ok-put_reply-in-Ok-clause-moments g c = λ told start untouched.
+pub returns-in_err-put_reply-in-Ok-clause-cause : goal.returns-in_err-put_reply-in-Ok-clause-cause
+returns-in_err-put_reply-in-Ok-clause-cause g c =
+    let p = err_from_is_err_and c.from_residual.result c.from_residual.ensures.1 in
+    rw (p.1, p.2) (sink_cause c.in_err-put_reply-in-Ok.field-0.0 _ _ _ c.in_err-put_reply-in-Ok.ensures.cause (keeps-on_devices c.apply.ensures.alone).stays)
+
+pub returns-in_err-put_reply-in-Ok-clause-keeps : goal.returns-in_err-put_reply-in-Ok-clause-keeps
+returns-in_err-put_reply-in-Ok-clause-keeps g c = keeps-trans (keeps-on_devices c.apply.ensures.alone) c.put_reply.ensures.keeps
+
+pub returns-in_ok-put_reply-in-Ok-clause-ran : goal.returns-in_ok-put_reply-in-Ok-clause-ran
+returns-in_ok-put_reply-in-Ok-clause-ran g c = λ told.
     let it = g.I.Interpreter in
+    let shows = g.S.Sink.shows in
     let before = g.H.Host.outside c.args.host.now in
-    let w = it.world c.args.interpreter.now before in
     let mid = g.H.Host.outside c.apply.new.host in
-    let next = (it.answer w c.args.command).0 in
-    let last = Always-last (c.apply.ensures.moments told) in
-    let later = untouched_next it.store_of_image start w next before.now mid.now untouched last (λ unit none. g.met.I.Interpreter.stays w c.args.command unit none) in
+    let new = g.H.Host.outside c.put_reply.new.host in
+    let w = it.world c.args.interpreter.now before in
     let stands = subst (λ (t : Bool). it.stands t c.apply.new.self mid) told c.in-Ok.ensures.stands in
-    let its = its_now it.store_of_image start next mid.now later
+    let its = at_rest it.store_of_image (it.answer w c.args.command).0 mid.now
     (λ unit store left e may. g.met.I.Interpreter.leaves c.apply.new.self mid stands unit store left (ap (λ v. store_on_unit v unit) (c.in-Ok.ensures.world told) ∙ e) may) in
-    let R : Reply → Type 0 = λ r. Always (PrintsSome (reply_text r) mid.now) mid.now (g.H.Host.outside c.put_reply.new.host).now in
-    Always-append (Always-map (λ m a. safe_answering it.answer it.store_of_image start w (Ok c.args.command) before.now m untouched a) (c.apply.ensures.moments told))
-    (Always-map (λ m some. safe_writing it.answer it.store_of_image start w (Ok c.args.command) before.now mid.now m last.quiet
-    (λ unit left may. answering_leaves it.store_of_image start w next before.now mid.now untouched last unit left may) its some)
-    (subst R (c.in-Ok.ensures.reply told) (c.put_reply.ensures.moments told)))
+    let same = g.met.I.Interpreter.same_world c.apply.new.self mid new (subst (λ (t : Bool). SameDevices t mid new) told c.put_reply.ensures.devices) in
+    let R : Reply → Type 0 = λ r. Puts c.put_reply.result (put_out shows (reply_text r)) mid.now new.now in
+    let T : Reply → Type 0 = λ r. (texts : List (List ℕ)) → g.S.Sink.has c.args.sink.now texts → g.S.Sink.has c.put_reply.new.sink (texts ++ reply_text r ∷ []) in
+    ran_item shows it.answer it.store_of_image w (Ok c.args.command) before.now mid.now (c.apply.ensures.moments told) (λ unit none. g.met.I.Interpreter.stays w c.args.command unit none)
+    _ _ _ _ _ new.now its (rw c.in_ok-put_reply-in-Ok.was at (subst R (c.in-Ok.ensures.reply told) (c.put_reply.ensures.puts told)))
+    (same ∙ c.in-Ok.ensures.world told) (c.put_reply.ensures.devices.changes told) (subst T (c.in-Ok.ensures.reply told) c.in_ok-put_reply-in-Ok.ensures.took)
 
-pub returns-in_ok-put_reply-in-Ok-clause-untouched : goal.returns-in_ok-put_reply-in-Ok-clause-untouched
-returns-in_ok-put_reply-in-Ok-clause-untouched g c = λ told start untouched.
+pub returns-in_ok-put_reply-in-Ok-clause-keeps : goal.returns-in_ok-put_reply-in-Ok-clause-keeps
+returns-in_ok-put_reply-in-Ok-clause-keeps g c = keeps-trans (keeps-on_devices c.apply.ensures.alone) c.put_reply.ensures.keeps
+
+pub returns-in-Err-clause-ran : goal.returns-in-Err-clause-ran
+returns-in-Err-clause-ran g c = λ told.
     let it = g.I.Interpreter in
     let before = g.H.Host.outside c.args.host.now in
     let w = it.world c.args.interpreter.now before in
-    let mid = g.H.Host.outside c.apply.new.host in
-    let next = (it.answer w c.args.command).0 in
-    let last = Always-last (c.apply.ensures.moments told) in
-    let later = untouched_next it.store_of_image start w next before.now mid.now untouched last (λ unit none. g.met.I.Interpreter.stays w c.args.command unit none) in
-    let after = g.H.Host.outside c.put_reply.new.host in
-    let same = g.met.I.Interpreter.same_world c.apply.new.self mid after (subst (λ (t : Bool). SameDevices t mid after) told c.put_reply.ensures.devices) in
-    untouched_world start next _ after.now (same ∙ c.in-Ok.ensures.world told) (untouched_same start next mid.now after.now (c.put_reply.ensures.devices.changes told) later)
+    ran_stopped g.S.Sink.shows it.answer it.store_of_image w (Ok c.args.command) before.now _ (c.apply.ensures.moments told) (λ unit none. g.met.I.Interpreter.stays w c.args.command unit none)
+    c.in-Err.stop _ _ _ _ c.halted_by.ensures
 
-pub returns-in_ok-put_reply-in-Ok-clause-put : goal.returns-in_ok-put_reply-in-Ok-clause-put
-returns-in_ok-put_reply-in-Ok-clause-put g c = λ told.
-    let before = out_of (g.H.Host.outside c.args.host.now) in
-    c.in_ok-put_reply-in-Ok.ensures.put told
-    ∙ (ap (λ o. o ++ reply_text (said c.in-Ok.reply)) (Always-last (c.apply.ensures.moments told)).quiet ∙ ap (λ r. before ++ reply_text r) (c.in-Ok.ensures.reply told))
+pub returns-in-Err-clause-keeps : goal.returns-in-Err-clause-keeps
+returns-in-Err-clause-keeps g c = keeps-on_devices c.apply.ensures.alone

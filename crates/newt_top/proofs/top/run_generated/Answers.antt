@@ -5,7 +5,7 @@ use Rattle.newt_host.specs.Meanings.{out_of}
 use Rattle.newt_laws_answers.specs.Spoken.{answer_now}
 use Rattle.newt_script_session.proofs.Writing.{wrote_nothing}
 use Rattle.newt_spec_script.specs.Generator.{gen_script}
-use Rattle.newt_script_tally.specs.Counts.{summary_of}
+use Rattle.newt_script_session.specs.Counts.{summary_of}
 use Rattle.newt_top.specs.Modes.{first, LeavesCounted, RanCounted}
 use Rattle.newt_top.proofs.Halting.{none_attached}
 use Rattle.newt_top.proofs.top.run_generated.Goals as goal

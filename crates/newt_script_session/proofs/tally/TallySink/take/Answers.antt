@@ -1,0 +1,5 @@
+use Rattle.newt_script_session.proofs.Writing.{puts_none}
+use Rattle.newt_script_session.proofs.tally.TallySink.take.Goals as goal
+
+pub returns-clause-puts : goal.returns-clause-puts
+returns-clause-puts g c = λ told. puts_none _ _
