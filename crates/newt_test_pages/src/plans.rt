@@ -12,6 +12,7 @@ use newt_memhost::MemHost;
 use newt_objects::Objects;
 use newt_pagebook::{Batch, PageBook};
 use newt_pageplain::PlainBook;
+use newt_pages::DiskBook;
 use std::alloc::{AllocError, Global};
 use std::process::Abort;
 use std::test::Fail;
@@ -69,7 +70,8 @@ fn keeps<P: PageBook>(
 #[test]
 fn objects_are_put_and_found_again(rt: HostRuntime) -> Result<(), Fail> {
     let all = [(3u8, 0u32), (5, 1), (6, 500), (8, 501), (9, 1_000_000)];
-    keeps::<PlainBook>(&rt, rt.alloc(), 520, &all, 2005)
+    keeps::<PlainBook>(&rt, rt.alloc(), 520, &all, 2005)?;
+    keeps::<DiskBook>(&rt, rt.alloc(), 520, &all, 2005)
 }
 
 fn shorten<P: PageBook>(
@@ -99,7 +101,8 @@ fn shortens<P: PageBook>(rt: &impl Abort, alloc: Global) -> Result<(), Fail> {
 
 #[test]
 fn a_shorter_object_leaves_no_old_part(rt: HostRuntime) -> Result<(), Fail> {
-    shortens::<PlainBook>(&rt, rt.alloc())
+    shortens::<PlainBook>(&rt, rt.alloc())?;
+    shortens::<DiskBook>(&rt, rt.alloc())
 }
 
 fn delete_and_put<P: PageBook>(
@@ -131,7 +134,8 @@ fn deletes<P: PageBook>(rt: &impl Abort, alloc: Global) -> Result<(), Fail> {
 
 #[test]
 fn a_deleted_object_is_gone(rt: HostRuntime) -> Result<(), Fail> {
-    deletes::<PlainBook>(&rt, rt.alloc())
+    deletes::<PlainBook>(&rt, rt.alloc())?;
+    deletes::<DiskBook>(&rt, rt.alloc())
 }
 
 // Plans to put an object, and forgets the plan.
@@ -212,7 +216,8 @@ fn forgets<P: PageBook>(rt: &impl Abort, alloc: Global) -> Result<(), Fail> {
 
 #[test]
 fn a_forgotten_plan_changes_nothing(rt: HostRuntime) -> Result<(), Fail> {
-    forgets::<PlainBook>(&rt, rt.alloc())
+    forgets::<PlainBook>(&rt, rt.alloc())?;
+    forgets::<DiskBook>(&rt, rt.alloc())
 }
 
 // The batch with one put and one delete.

@@ -12,6 +12,7 @@ use newt_memhost::MemHost;
 use newt_objects::Objects;
 use newt_pagebook::{Batch, PageBook};
 use newt_pageplain::PlainBook;
+use newt_pages::DiskBook;
 use newt_vbo::{RangeFault, plan_patch, read_range};
 use std::alloc::Global;
 use std::process::Abort;
@@ -281,5 +282,6 @@ fn patches<P: PageBook>(rt: &impl Abort, alloc: Global) -> Result<(), Fail> {
 
 #[test]
 fn a_large_object_is_patched_and_read_by_ranges(rt: HostRuntime) -> Result<(), Fail> {
-    patches::<PlainBook>(&rt, rt.alloc())
+    patches::<PlainBook>(&rt, rt.alloc())?;
+    patches::<DiskBook>(&rt, rt.alloc())
 }

@@ -9,6 +9,7 @@ use newt_host::Host;
 use newt_memhost::MemHost;
 use newt_pagebook::{Batch, Page, PageBook};
 use newt_pageplain::PlainBook;
+use newt_pages::DiskBook;
 use std::alloc::Global;
 use std::process::Abort;
 use std::test::Fail;
@@ -230,7 +231,10 @@ fn goes_on<P: PageBook>(rt: &impl Abort, alloc: Global) -> Result<u32, Fail> {
 
 #[test]
 fn refused_room_changes_nothing(rt: HostRuntime) -> Result<(), Fail> {
-    let refused = goes_on::<PlainBook>(&rt, rt.alloc())?;
-    println!(rt; "room that could be had was refused {refused} times")?;
+    let plain = goes_on::<PlainBook>(&rt, rt.alloc())?;
+    let disk = goes_on::<DiskBook>(&rt, rt.alloc())?;
+    println!(rt;
+        "room that could be had was refused {plain} times, and {disk} times on the device"
+    )?;
     Ok(())
 }

@@ -10,6 +10,7 @@ use newt_host::Host;
 use newt_memhost::MemHost;
 use newt_pagebook::{Batch, CommitFault, PageBook};
 use newt_pageplain::PlainBook;
+use newt_pages::DiskBook;
 use std::alloc::Global;
 use std::process::Abort;
 use std::test::Fail;
@@ -165,7 +166,8 @@ fn switches<P: PageBook>(rt: &impl Abort, alloc: Global) -> Result<(), Fail> {
 
 #[test]
 fn a_crash_leaves_the_pages_before_or_after(rt: HostRuntime) -> Result<(), Fail> {
-    switches::<PlainBook>(&rt, rt.alloc())
+    switches::<PlainBook>(&rt, rt.alloc())?;
+    switches::<DiskBook>(&rt, rt.alloc())
 }
 
 fn fill<P: PageBook>(
@@ -194,7 +196,8 @@ fn fills<P: PageBook>(rt: &impl Abort, alloc: Global) -> Result<(), Fail> {
 
 #[test]
 fn a_batch_fills_the_unit_exactly(rt: HostRuntime) -> Result<(), Fail> {
-    fills::<PlainBook>(&rt, rt.alloc())
+    fills::<PlainBook>(&rt, rt.alloc())?;
+    fills::<DiskBook>(&rt, rt.alloc())
 }
 
 // The bytes of a card with so many parts of an object of this size.
@@ -241,7 +244,8 @@ fn reads<P: PageBook>(rt: &impl Abort, alloc: Global) -> Result<(), Fail> {
 
 #[test]
 fn objects_are_joined_parts(rt: HostRuntime) -> Result<(), Fail> {
-    reads::<PlainBook>(&rt, rt.alloc())
+    reads::<PlainBook>(&rt, rt.alloc())?;
+    reads::<DiskBook>(&rt, rt.alloc())
 }
 
 // One part too few, and one too many.
@@ -262,5 +266,6 @@ fn refuses<P: PageBook>(rt: &impl Abort, alloc: Global) -> Result<(), Fail> {
 
 #[test]
 fn a_part_more_or_less_is_no_object(rt: HostRuntime) -> Result<(), Fail> {
-    refuses::<PlainBook>(&rt, rt.alloc())
+    refuses::<PlainBook>(&rt, rt.alloc())?;
+    refuses::<DiskBook>(&rt, rt.alloc())
 }
