@@ -24,6 +24,7 @@ impl Appending {
     ghost use Rattle.newt_journal.specs.Journal.{room, Stands, appended, ReadsAs, ReadsAsEither};
     ghost use Rattle.newt_journal.specs.Appending.{IsAppendingOf, drafted};
     ghost use Rattle.newt_journal.specs.Places.{first_place};
+    ghost use Rattle.newt_journal.specs.Calls.{Programs};
 
     /// Begins a record of so many bytes: its length is written behind a gate that stays FF.
     pub(crate) fn begin<H: Host>(
@@ -38,10 +39,7 @@ impl Appending {
         ensures holds { IfOk result (λ draft. draft.journal ≡ journal) }
         ensures same { IsTrue H.told → OnOk result (records (image journal.unit (H.outside host.new).now) ≡ records (image journal.unit (H.outside host.old).now)) }
         ensures rest { IsTrue H.told → IfOk result (λ draft. 5 + len + (limit_of draft.journal.blocks draft.journal.bank - (draft.journal.end + 5 + draft.len)) ≡ length (tail (image journal.unit (H.outside host.old).now))) }
-        ensures any_moment { IsTrue H.told → Leaves journal.unit (ReadsAs (records (image journal.unit (H.outside host.old).now))) (H.outside host.old).now (H.outside host.new).now }
-        ensures alone { Touches journal.unit (H.outside host.old) (H.outside host.new) }
-        ensures costs { Spends journal.unit 4 0 (H.outside host.old) (H.outside host.new) }
-        ensures cause { OnErr result (Rose ((H.outside host.old).dev_faults journal.unit) ((H.outside host.new).dev_faults journal.unit)) }
+        ensures writes { Programs H.told journal.unit 4 (ReadsAs (records (image journal.unit (H.outside host.old).now))) result (H.outside host.old) (H.outside host.new) }
     {
         program_piece(host, journal.unit, journal.end + 1, &len.to_be_bytes())?;
         Ok(Appending {
@@ -59,10 +57,7 @@ impl Appending {
         ensures kept { (self.new.journal ≡ self.old.journal) × (self.new.len ≡ self.old.len) }
         ensures more { IsTrue H.told → OnOk result (drafted self.new (image self.old.journal.unit (H.outside host.new).now) ≡ drafted self.old (image self.old.journal.unit (H.outside host.old).now) ++ bytes.now) }
         ensures same { IsTrue H.told → OnOk result (records (image self.old.journal.unit (H.outside host.new).now) ≡ records (image self.old.journal.unit (H.outside host.old).now)) }
-        ensures any_moment { IsTrue H.told → Leaves self.old.journal.unit (ReadsAs (records (image self.old.journal.unit (H.outside host.old).now))) (H.outside host.old).now (H.outside host.new).now }
-        ensures alone { Touches self.old.journal.unit (H.outside host.old) (H.outside host.new) }
-        ensures costs { Spends self.old.journal.unit (length bytes.now) 0 (H.outside host.old) (H.outside host.new) }
-        ensures cause { OnErr result (Rose ((H.outside host.old).dev_faults self.old.journal.unit) ((H.outside host.new).dev_faults self.old.journal.unit)) }
+        ensures writes { Programs H.told self.old.journal.unit (length bytes.now) (ReadsAs (records (image self.old.journal.unit (H.outside host.old).now))) result (H.outside host.old) (H.outside host.new) }
     {
         program_piece(
             host,
@@ -83,11 +78,8 @@ impl Appending {
         ensures open { IfOk result (λ journal. journal.closed ≡ false) }
         ensures places { IfOk result (λ journal. (journal.end ≡ self.journal.end + 5 + self.len) × (first_place journal ≡ first_place self.journal)) }
         ensures rest { IsTrue H.told → OnOk result (tail (image self.journal.unit (H.outside host.new).now) ≡ replicate (limit_of self.journal.blocks self.journal.bank - (self.journal.end + 5 + self.len)) 255) }
-        ensures any_moment { IsTrue H.told → Leaves self.journal.unit (ReadsAsEither (records (image self.journal.unit (H.outside host.old).now))
-            (appended (records (image self.journal.unit (H.outside host.old).now)) (drafted self (image self.journal.unit (H.outside host.old).now)))) (H.outside host.old).now (H.outside host.new).now }
-        ensures alone { Touches self.journal.unit (H.outside host.old) (H.outside host.new) }
-        ensures costs { Spends self.journal.unit 1 0 (H.outside host.old) (H.outside host.new) }
-        ensures cause { OnErr result (Rose ((H.outside host.old).dev_faults self.journal.unit) ((H.outside host.new).dev_faults self.journal.unit)) }
+        ensures writes { Programs H.told self.journal.unit 1 (ReadsAsEither (records (image self.journal.unit (H.outside host.old).now))
+            (appended (records (image self.journal.unit (H.outside host.old).now)) (drafted self (image self.journal.unit (H.outside host.old).now)))) result (H.outside host.old) (H.outside host.new) }
     {
         let Appending { journal, len, .. } = self;
         let Journal {

@@ -5,6 +5,7 @@ ghost use Rattle.newt_host.specs.Outside.{HasBlocks, Touches, Spends, Rose};
 ghost use Rattle.newt_spec_image.specs.Records.{bank_size};
 ghost use Rattle.newt_journal.specs.Bank.{start_of};
 ghost use Rattle.newt_journal.specs.Fresh.{lead, FilledBy};
+ghost use Rattle.newt_journal.specs.Calls.{Programs};
 
 use crate::Bank;
 use crate::erase::erase_blocks;
@@ -29,10 +30,7 @@ pub(crate) fn begin_bank<H: Host>(
     requires durable { IsTrue H.told → IsDurable unit (H.outside host.old).now }
     ensures begun { IsTrue H.told → OnOk result (FilledBy (start_of blocks bank) (bank_size blocks) (image unit (H.outside host.old).now) (lead len) (bank_size blocks - 21) (changes unit (H.outside host.new).now)) }
     // Whenever it is cut off, all but this bank is as it was.
-    ensures any_moment { IsTrue H.told → Leaves unit (λ left. SameOutside (start_of blocks bank) (bank_size blocks) (image unit (H.outside host.old).now) left) (H.outside host.old).now (H.outside host.new).now }
-    ensures alone { Touches unit (H.outside host.old) (H.outside host.new) }
-    ensures costs { Spends unit 21 0 (H.outside host.old) (H.outside host.new) }
-    ensures cause { OnErr result (Rose ((H.outside host.old).dev_faults unit) ((H.outside host.new).dev_faults unit)) }
+    ensures writes { Programs H.told unit 21 (λ left. SameOutside (start_of blocks bank) (bank_size blocks) (image unit (H.outside host.old).now) left) result (H.outside host.old) (H.outside host.new) }
 {
     let start = bank.start(blocks);
     erase_blocks(

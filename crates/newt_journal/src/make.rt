@@ -15,6 +15,7 @@ impl Journal {
     ghost use Rattle.newt_spec_image.specs.Records.{records, tail, bank_size};
     ghost use Rattle.newt_journal.specs.Journal.{Stands};
     ghost use Rattle.newt_journal.specs.declared.bank.Bank.TheVariants.{First};
+    ghost use Rattle.newt_journal.specs.Calls.{Programs};
 
     /// Makes a unit a journal of one record, in the first bank, whatever it held before. While it runs nothing is said of what a crash leaves on the unit.
     pub fn format<H: Host>(host: &mut H, unit: Unit, first: &[u8]) -> Result<Journal, Failed>
@@ -27,10 +28,7 @@ impl Journal {
         ensures blank { IsTrue H.told → OnOk result (tail (image unit (H.outside host.new).now) ≡ replicate (bank_size ((H.outside host.old).blocks unit) - 21 - length first.now) 255) }
         ensures durable { IsTrue H.told → OnOk result (IsDurable unit (H.outside host.new).now) }
         // All else is as it was, whenever it is cut off.
-        ensures any_moment { IsTrue H.told → Leaves unit Anything (H.outside host.old).now (H.outside host.new).now }
-        ensures alone { Touches unit (H.outside host.old) (H.outside host.new) }
-        ensures costs { Spends unit (24 + length first.now) 0 (H.outside host.old) (H.outside host.new) }
-        ensures cause { OnErr result (Rose ((H.outside host.old).dev_faults unit) ((H.outside host.new).dev_faults unit)) }
+        ensures writes { Programs H.told unit (24 + length first.now) Anything result (H.outside host.old) (H.outside host.new) }
     {
         let blocks = host.blocks(unit);
         let len = first.len() as u32;

@@ -4,6 +4,7 @@ ghost use Rattle.newt_host.specs.Moments.{image};
 ghost use Rattle.newt_host.specs.Outside.{HasBlocks, Touches, Spends, Rose};
 ghost use Rattle.newt_spec_image.specs.Records.{chosen_bank};
 ghost use Rattle.newt_journal.specs.Bank.{bank_number};
+ghost use Rattle.newt_journal.specs.Calls.{Reads};
 
 use crate::choose::choose;
 use crate::scan::{find_end, has_header, is_blank, read_byte};
@@ -15,10 +16,7 @@ fn read_votes<H: Host>(host: &mut H, unit: Unit, blocks: u32) -> Result<Option<B
     requires has { HasBlocks unit blocks (H.outside host.old) }
     requires enough { 13 ≤ blocks }
     ensures bank { IsTrue H.told → IfOk result (λ found. MatchOption found (chosen_bank (image unit (H.outside host.old).now) ≡ None) (λ bank. chosen_bank (image unit (H.outside host.old).now) ≡ Some (bank_number bank))) }
-    ensures moment { (H.outside host.new).now ≡ (H.outside host.old).now }
-    ensures alone { Touches unit (H.outside host.old) (H.outside host.new) }
-    ensures costs { Spends unit 0 3 (H.outside host.old) (H.outside host.new) }
-    ensures cause { OnErr result (Rose ((H.outside host.old).dev_faults unit) ((H.outside host.new).dev_faults unit)) }
+    ensures reads { Reads unit 3 result (H.outside host.old) (H.outside host.new) }
 {
     let first = read_byte(host, unit, 0)?;
     let second = read_byte(host, unit, BLOCK)?;

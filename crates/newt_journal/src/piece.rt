@@ -3,6 +3,7 @@ ghost use Rattle.std.specs.Prelude.{IsTrue, ◌+◌, ◌*◌, ◌<◌, ◌≤◌
 ghost use Rattle.newt_host.specs.Moments.{image, Leaves};
 ghost use Rattle.newt_host.specs.Outside.{blank, IsBlank, Writes, Touches, Spends, Rose};
 ghost use Rattle.newt_journal.specs.Pieces.{IsTornIn};
+ghost use Rattle.newt_journal.specs.Calls.{Programs};
 
 use newt_host::{Failed, Host, Unit};
 
@@ -12,10 +13,7 @@ pub(crate) fn erase_block<H: Host>(host: &mut H, unit: Unit, block: u32) -> Resu
     requires inside { block < (H.outside host.old).blocks unit }
     ensures wrote { IsTrue H.told → Writes unit (block * 4096) (blank 4096) result (H.outside host.old).now (H.outside host.new).now }
     // Whenever it is cut off, nothing but this block is torn.
-    ensures any_moment { IsTrue H.told → Leaves unit (IsTornIn unit (block * 4096) 4096 (H.outside host.old).now) (H.outside host.old).now (H.outside host.new).now }
-    ensures alone { Touches unit (H.outside host.old) (H.outside host.new) }
-    ensures costs { Spends unit 0 0 (H.outside host.old) (H.outside host.new) }
-    ensures cause { OnErr result (Rose ((H.outside host.old).dev_faults unit) ((H.outside host.new).dev_faults unit)) }
+    ensures writes { Programs H.told unit 0 (IsTornIn unit (block * 4096) 4096 (H.outside host.old).now) result (H.outside host.old) (H.outside host.new) }
 {
     host.erase(unit, block)
 }
@@ -32,10 +30,7 @@ pub(crate) fn program_piece<H: Host>(
     requires blank { IsTrue H.told → IsBlank at (length bytes.now) (image unit (H.outside host.old).now) }
     ensures wrote { IsTrue H.told → Writes unit at bytes.now result (H.outside host.old).now (H.outside host.new).now }
     // Whenever it is cut off, nothing but these bytes is torn.
-    ensures any_moment { IsTrue H.told → Leaves unit (IsTornIn unit at (length bytes.now) (H.outside host.old).now) (H.outside host.old).now (H.outside host.new).now }
-    ensures alone { Touches unit (H.outside host.old) (H.outside host.new) }
-    ensures costs { Spends unit (length bytes.now) 0 (H.outside host.old) (H.outside host.new) }
-    ensures cause { OnErr result (Rose ((H.outside host.old).dev_faults unit) ((H.outside host.new).dev_faults unit)) }
+    ensures writes { Programs H.told unit (length bytes.now) (IsTornIn unit at (length bytes.now) (H.outside host.old).now) result (H.outside host.old) (H.outside host.new) }
 {
     host.program(unit, at, bytes)
 }

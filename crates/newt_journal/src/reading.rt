@@ -20,6 +20,7 @@ impl Journal {
     ghost use Rattle.newt_spec_image.specs.Records.{records, with_first};
     ghost use Rattle.newt_journal.specs.Places.{first_place, payloads_from, recorded, IsPlace};
     ghost use Rattle.newt_journal.specs.Journal.{Stands};
+    ghost use Rattle.newt_journal.specs.Calls.{Reads};
 
     /// The place of the first record, a byte number in the unit's image.
     pub fn first(&self) -> u32
@@ -52,10 +53,7 @@ impl Journal {
         ensures next { IsTrue H.told → IfOk result (λ found. IfSome found (λ record_is. IsPlace self.now record_is.next (image self.now.unit (H.outside host.old).now))) }
         ensures end { IsTrue H.told → IfOk result (λ found. MatchOption found (at ≡ self.now.end) (λ record_is. at + 5 ≤ self.now.end)) }
         ensures inside { IfOk result (λ found. IfSome found (λ record_is. (record_is.at ≡ at + 5) × (record_is.next ≡ record_is.at + record_is.len) × (record_is.next ≤ self.now.end))) }
-        ensures moment { (H.outside host.new).now ≡ (H.outside host.old).now }
-        ensures alone { Touches self.now.unit (H.outside host.old) (H.outside host.new) }
-        ensures costs { Spends self.now.unit 0 4 (H.outside host.old) (H.outside host.new) }
-        ensures cause { OnErr result (Rose ((H.outside host.old).dev_faults self.now.unit) ((H.outside host.new).dev_faults self.now.unit)) }
+        ensures reads { Reads self.now.unit 4 result (H.outside host.old) (H.outside host.new) }
     {
         if self.end - at < 5 {
             return Ok(None);
@@ -79,10 +77,7 @@ impl Journal {
         ensures bytes { IsTrue H.told → OnOk result (buf.new ≡ take (length buf.old) (drop at (image self.now.unit (H.outside host.old).now))) }
         ensures of_records { IsTrue H.told → OnOk result ((payloads : List (List ℕ)) → records (image self.now.unit (H.outside host.old).now) ≡ Some payloads
             → buf.new ≡ recorded self.now payloads at (length buf.old)) }
-        ensures moment { (H.outside host.new).now ≡ (H.outside host.old).now }
-        ensures alone { Touches self.now.unit (H.outside host.old) (H.outside host.new) }
-        ensures costs { Spends self.now.unit 0 (length buf.old) (H.outside host.old) (H.outside host.new) }
-        ensures cause { OnErr result (Rose ((H.outside host.old).dev_faults self.now.unit) ((H.outside host.new).dev_faults self.now.unit)) }
+        ensures reads { Reads self.now.unit (length buf.old) result (H.outside host.old) (H.outside host.new) }
     {
         host.read(self.unit, at, buf)
     }

@@ -26,6 +26,7 @@ impl Switching {
     ghost use Rattle.newt_journal.specs.Journal.{Stands, VotesAgree, ReadsAs, ReadsAsEither};
     ghost use Rattle.newt_journal.specs.Switch.{IsSwitchOf, switched, switch_start};
     ghost use Rattle.newt_journal.specs.Places.{first_place};
+    ghost use Rattle.newt_journal.specs.Calls.{Programs};
 
     /// Begins the record that alone will stand in the other bank.
     pub(crate) fn begin<H: Host>(
@@ -39,10 +40,7 @@ impl Switching {
         ensures draft { IfOk result (λ draft. IsSwitchOf H.told draft (H.outside host.new) × (draft.journal.unit ≡ journal.unit) × (draft.len ≡ len) × (draft.put ≡ 0)) }
         ensures holds { IfOk result (λ draft. draft.journal ≡ journal) }
         ensures same { IsTrue H.told → OnOk result (records (image journal.unit (H.outside host.new).now) ≡ records (image journal.unit (H.outside host.old).now)) }
-        ensures any_moment { IsTrue H.told → Leaves journal.unit (ReadsAs (records (image journal.unit (H.outside host.old).now))) (H.outside host.old).now (H.outside host.new).now }
-        ensures alone { Touches journal.unit (H.outside host.old) (H.outside host.new) }
-        ensures costs { Spends journal.unit 21 0 (H.outside host.old) (H.outside host.new) }
-        ensures cause { OnErr result (Rose ((H.outside host.old).dev_faults journal.unit) ((H.outside host.new).dev_faults journal.unit)) }
+        ensures writes { Programs H.told journal.unit 21 (ReadsAs (records (image journal.unit (H.outside host.old).now))) result (H.outside host.old) (H.outside host.new) }
     {
         begin_bank(
             host,
@@ -66,10 +64,7 @@ impl Switching {
         ensures kept { (self.new.journal ≡ self.old.journal) × (self.new.len ≡ self.old.len) }
         ensures more { IsTrue H.told → OnOk result (switched self.new (image self.old.journal.unit (H.outside host.new).now) ≡ switched self.old (image self.old.journal.unit (H.outside host.old).now) ++ bytes.now) }
         ensures same { IsTrue H.told → OnOk result (records (image self.old.journal.unit (H.outside host.new).now) ≡ records (image self.old.journal.unit (H.outside host.old).now)) }
-        ensures any_moment { IsTrue H.told → Leaves self.old.journal.unit (ReadsAs (records (image self.old.journal.unit (H.outside host.old).now))) (H.outside host.old).now (H.outside host.new).now }
-        ensures alone { Touches self.old.journal.unit (H.outside host.old) (H.outside host.new) }
-        ensures costs { Spends self.old.journal.unit (length bytes.now) 0 (H.outside host.old) (H.outside host.new) }
-        ensures cause { OnErr result (Rose ((H.outside host.old).dev_faults self.old.journal.unit) ((H.outside host.new).dev_faults self.old.journal.unit)) }
+        ensures writes { Programs H.told self.old.journal.unit (length bytes.now) (ReadsAs (records (image self.old.journal.unit (H.outside host.old).now))) result (H.outside host.old) (H.outside host.new) }
     {
         let start = self.journal.bank.other().start(self.journal.blocks);
         program_piece(host, self.journal.unit, start + 21 + self.put, bytes)?;
@@ -87,11 +82,8 @@ impl Switching {
         ensures places { IfOk result (λ journal. (journal.end ≡ switch_start self + 21 + self.len) × (first_place journal ≡ switch_start self + 16)) }
         ensures rest { IsTrue H.told → OnOk result (tail (image self.journal.unit (H.outside host.new).now) ≡ replicate (bank_size self.journal.blocks - (21 + self.len)) 255) }
         ensures alike { IsTrue H.told → IfOk result (λ journal. VotesAgree journal (image self.journal.unit (H.outside host.new).now)) }
-        ensures any_moment { IsTrue H.told → Leaves self.journal.unit (ReadsAsEither (records (image self.journal.unit (H.outside host.old).now))
-            (Some (switched self (image self.journal.unit (H.outside host.old).now) ∷ []))) (H.outside host.old).now (H.outside host.new).now }
-        ensures alone { Touches self.journal.unit (H.outside host.old) (H.outside host.new) }
-        ensures costs { Spends self.journal.unit 3 0 (H.outside host.old) (H.outside host.new) }
-        ensures cause { OnErr result (Rose ((H.outside host.old).dev_faults self.journal.unit) ((H.outside host.new).dev_faults self.journal.unit)) }
+        ensures writes { Programs H.told self.journal.unit 3 (ReadsAsEither (records (image self.journal.unit (H.outside host.old).now))
+            (Some (switched self (image self.journal.unit (H.outside host.old).now) ∷ []))) result (H.outside host.old) (H.outside host.new) }
     {
         let Switching { journal, len, .. } = self;
         let Journal {

@@ -1,6 +1,11 @@
-use Rattle.std.proofs.Common.{refl}
+use Rattle.std.proofs.Common.{refl, rules}
 use Rattle.newt_journal.proofs.Piecing.{torn_in}
 use Rattle.newt_journal.proofs.piece.program_piece.Goals as goal
 
-pub returns-clause-any_moment : goal.returns-clause-any_moment
-returns-clause-any_moment g c t = torn_in _ refl (c.program.ensures.wrote t)
+pub returns-clause-writes : goal.returns-clause-writes
+returns-clause-writes g c = record {
+  any_moment = λ t. torn_in _ refl (c.program.ensures.wrote t);
+  alone = search rules;
+  costs = search rules;
+  cause = search rules;
+}

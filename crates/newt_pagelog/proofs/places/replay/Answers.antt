@@ -50,13 +50,13 @@ pub returns-in_err-found-clause-looks : goal.returns-in_err-found-clause-looks
 returns-in_err-found-clause-looks g c =
     let o = g.H.Host.outside in
     let u = c.args.journal.now.unit in
-    looks-append u (o c.args.host.now) (o c.loop-places.host) (o c.walk.new.host) c.loop-places.invariant.looks (looks-spent u 4 (o c.loop-places.host) (o c.walk.new.host) c.walk.ensures.moment c.walk.ensures.alone c.walk.ensures.costs)
+    looks-append u (o c.args.host.now) (o c.loop-places.host) (o c.walk.new.host) c.loop-places.invariant.looks (looks-spent u 4 (o c.loop-places.host) (o c.walk.new.host) c.walk.ensures.reads.moment c.walk.ensures.reads.alone c.walk.ensures.reads.costs)
 
 pub returns-in_err-found-clause-cause : goal.returns-in_err-found-clause-cause
 returns-in_err-found-clause-cause g c = λ bad.
     let o = g.H.Host.outside in
     let u = c.args.journal.now.unit in
-    rose-over u u (o c.args.host.now) (o c.loop-places.host) (o c.walk.new.host) refl c.loop-places.invariant.looks.alone c.in_err-found.ensures.cause
+    rose-over u u (o c.args.host.now) (o c.loop-places.host) (o c.walk.new.host) refl c.loop-places.invariant.looks.alone c.in_err-found.ensures.reads.cause
 
 pub replay_record-requires-clause-low : goal.replay_record-requires-clause-low
 replay_record-requires-clause-low g c = let inside = if_some _ c.in_ok-found.field-0 c.in-Some.found c.in-Some.is c.in_ok-found.ensures.inside in omega (arith, c.loop-places.invariant.low, inside.0)
@@ -65,7 +65,7 @@ pub replay_record-requires-clause-stands : goal.replay_record-requires-clause-st
 replay_record-requires-clause-stands g c =
     let o = g.H.Host.outside in
     let u = c.args.journal.now.unit in
-    looks-stands g.H.Host.told c.args.journal.now (o c.args.host.now) (o c.walk.new.host) (looks-append u (o c.args.host.now) (o c.loop-places.host) (o c.walk.new.host) c.loop-places.invariant.looks (looks-spent u 4 (o c.loop-places.host) (o c.walk.new.host) c.walk.ensures.moment c.walk.ensures.alone c.walk.ensures.costs)) c.requires
+    looks-stands g.H.Host.told c.args.journal.now (o c.args.host.now) (o c.walk.new.host) (looks-append u (o c.args.host.now) (o c.loop-places.host) (o c.walk.new.host) c.loop-places.invariant.looks (looks-spent u 4 (o c.loop-places.host) (o c.walk.new.host) c.walk.ensures.reads.moment c.walk.ensures.reads.alone c.walk.ensures.reads.costs)) c.requires
 
 pub replay_record-requires-clause-unique : goal.replay_record-requires-clause-unique
 replay_record-requires-clause-unique g c = c.loop-places.invariant.unique
@@ -77,13 +77,13 @@ pub returns-in_err-replay_record-clause-looks : goal.returns-in_err-replay_recor
 returns-in_err-replay_record-clause-looks g c =
     let o = g.H.Host.outside in
     let u = c.args.journal.now.unit in
-    looks-append u (o c.args.host.now) (o c.walk.new.host) (o c.replay_record.new.host) (looks-append u (o c.args.host.now) (o c.loop-places.host) (o c.walk.new.host) c.loop-places.invariant.looks (looks-spent u 4 (o c.loop-places.host) (o c.walk.new.host) c.walk.ensures.moment c.walk.ensures.alone c.walk.ensures.costs)) c.replay_record.ensures.looks
+    looks-append u (o c.args.host.now) (o c.walk.new.host) (o c.replay_record.new.host) (looks-append u (o c.args.host.now) (o c.loop-places.host) (o c.walk.new.host) c.loop-places.invariant.looks (looks-spent u 4 (o c.loop-places.host) (o c.walk.new.host) c.walk.ensures.reads.moment c.walk.ensures.reads.alone c.walk.ensures.reads.costs)) c.replay_record.ensures.looks
 
 pub returns-in_err-replay_record-clause-cause : goal.returns-in_err-replay_record-clause-cause
 returns-in_err-replay_record-clause-cause g c = λ bad.
     let o = g.H.Host.outside in
     let u = c.args.journal.now.unit in
-    let before = looks-append u (o c.args.host.now) (o c.loop-places.host) (o c.walk.new.host) c.loop-places.invariant.looks (looks-spent u 4 (o c.loop-places.host) (o c.walk.new.host) c.walk.ensures.moment c.walk.ensures.alone c.walk.ensures.costs) in
+    let before = looks-append u (o c.args.host.now) (o c.loop-places.host) (o c.walk.new.host) c.loop-places.invariant.looks (looks-spent u 4 (o c.loop-places.host) (o c.walk.new.host) c.walk.ensures.reads.moment c.walk.ensures.reads.alone c.walk.ensures.reads.costs) in
     rose-over u u (o c.args.host.now) (o c.walk.new.host) (o c.replay_record.new.host) refl before.alone
     (c.in_err-replay_record.ensures.cause (ap Err (same-err c.from_residual-in_err-replay_record.result c.in_err-replay_record.field-0.0 Device c.from_residual-in_err-replay_record.ensures.1 bad)))
 
@@ -96,7 +96,7 @@ returns-then-not-branch-clause-not_store g c = λ _ tells.
     let f = c.in-Some.found in
     let img : List ℕ = image u (o c.args.host.now).now in
     let low : image u (o c.loop-places.host).now ≡ img = looks-image u (o c.args.host.now) (o c.loop-places.host) inv.looks in
-    let walked : image u (o c.walk.new.host).now ≡ img = ap (λ (m : Moment). image u m) c.walk.ensures.moment ∙ low in
+    let walked : image u (o c.walk.new.host).now ≡ img = ap (λ (m : Moment). image u m) c.walk.ensures.reads.moment ∙ low in
     let found : payloads_from j c.loop-places.at img ≡ with_first (take f.len (drop f.at img)) (payloads_from j f.next img) =
     subst (λ (l : List ℕ). payloads_from j c.loop-places.at l ≡ with_first (take f.len (drop f.at l)) (payloads_from j f.next l)) low (at_some _ _ c.in_ok-found.field-0 f c.in-Some.is (c.in_ok-found.ensures.found tells)) in
     let says : change_in (take f.len (drop f.at img)) ≡ None = subst (λ (l : List ℕ). change_in (take f.len (drop f.at l)) ≡ None) walked (c.in_ok-replay_record.ensures.bad tells c.if-not-branch.true) in
@@ -106,7 +106,7 @@ pub returns-then-not-branch-clause-looks : goal.returns-then-not-branch-clause-l
 returns-then-not-branch-clause-looks g c =
     let o = g.H.Host.outside in
     let u = c.args.journal.now.unit in
-    looks-append u (o c.args.host.now) (o c.walk.new.host) (o c.replay_record.new.host) (looks-append u (o c.args.host.now) (o c.loop-places.host) (o c.walk.new.host) c.loop-places.invariant.looks (looks-spent u 4 (o c.loop-places.host) (o c.walk.new.host) c.walk.ensures.moment c.walk.ensures.alone c.walk.ensures.costs)) c.replay_record.ensures.looks
+    looks-append u (o c.args.host.now) (o c.walk.new.host) (o c.replay_record.new.host) (looks-append u (o c.args.host.now) (o c.loop-places.host) (o c.walk.new.host) c.loop-places.invariant.looks (looks-spent u 4 (o c.loop-places.host) (o c.walk.new.host) c.walk.ensures.reads.moment c.walk.ensures.reads.alone c.walk.ensures.reads.costs)) c.replay_record.ensures.looks
 
 pub loop-places-smaller : goal.loop-places-smaller
 loop-places-smaller g c = let inside = if_some _ c.in_ok-found.field-0 c.in-Some.found c.in-Some.is c.in_ok-found.ensures.inside in omega (arith, inside.0, inside.1, inside.2)
@@ -122,11 +122,11 @@ loop-places-preserved g c =
     let e = c.in_ok-replay_record.ensures in
     let img : List ℕ = image u (o c.args.host.now).now in
     let low : image u (o c.loop-places.host).now ≡ img = looks-image u (o c.args.host.now) (o c.loop-places.host) inv.looks in
-    let walked : image u (o c.walk.new.host).now ≡ img = ap (λ (m : Moment). image u m) c.walk.ensures.moment ∙ low in
+    let walked : image u (o c.walk.new.host).now ≡ img = ap (λ (m : Moment). image u m) c.walk.ensures.reads.moment ∙ low in
     record {
       low = omega (arith, inv.low, inside.0, inside.1);
       high = inside.2;
-      looks = looks-append u (o c.args.host.now) (o c.walk.new.host) (o c.replay_record.new.host) (looks-append u (o c.args.host.now) (o c.loop-places.host) (o c.walk.new.host) inv.looks (looks-spent u 4 (o c.loop-places.host) (o c.walk.new.host) c.walk.ensures.moment c.walk.ensures.alone c.walk.ensures.costs)) c.replay_record.ensures.looks;
+      looks = looks-append u (o c.args.host.now) (o c.walk.new.host) (o c.replay_record.new.host) (looks-append u (o c.args.host.now) (o c.loop-places.host) (o c.walk.new.host) inv.looks (looks-spent u 4 (o c.loop-places.host) (o c.walk.new.host) c.walk.ensures.reads.moment c.walk.ensures.reads.alone c.walk.ensures.reads.costs)) c.replay_record.ensures.looks;
       place = λ tells. subst (λ (l : List ℕ). IsPlace j f.next l) low (if_some _ c.in_ok-found.field-0 f c.in-Some.is (c.in_ok-found.ensures.next tells));
       unique = e.unique;
       placed = e.placed;
@@ -164,4 +164,4 @@ pub returns-clause-looks : goal.returns-clause-looks
 returns-clause-looks g c =
     let o = g.H.Host.outside in
     let u = c.args.journal.now.unit in
-    looks-append u (o c.args.host.now) (o c.loop-places.host) (o c.walk.new.host) c.loop-places.invariant.looks (looks-spent u 4 (o c.loop-places.host) (o c.walk.new.host) c.walk.ensures.moment c.walk.ensures.alone c.walk.ensures.costs)
+    looks-append u (o c.args.host.now) (o c.loop-places.host) (o c.walk.new.host) c.loop-places.invariant.looks (looks-spent u 4 (o c.loop-places.host) (o c.walk.new.host) c.walk.ensures.reads.moment c.walk.ensures.reads.alone c.walk.ensures.reads.costs)

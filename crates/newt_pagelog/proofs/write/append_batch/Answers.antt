@@ -21,9 +21,9 @@ returns-in_err-draft g c =
     let a = o c.args.host.now in
     let b = o c.append.new.host in
     record {
-      rewrites = stopped g.H.Host.told j _ r a b failed c.in_err-draft.ensures.cause (record { any_moment = c.append.ensures.any_moment; alone = c.append.ensures.alone });
+      rewrites = stopped g.H.Host.told j _ r a b failed c.in_err-draft.ensures.writes.cause (record { any_moment = c.append.ensures.writes.any_moment; alone = c.append.ensures.writes.alone });
       places = no-value r _ failed;
-      costs = spent-begun j.unit (516 * length c.args.batch.now.puts) (4 * length (filter (is_kept c.args.pages.now.entries) c.args.batch.now.deletes)) a b c.append.ensures.costs;
+      costs = spent-begun j.unit (516 * length c.args.batch.now.puts) (4 * length (filter (is_kept c.args.pages.now.entries) c.args.batch.now.deletes)) a b c.append.ensures.writes.costs;
     }
 
 pub returns-in_err-write_batch : goal.returns-in_err-write_batch
@@ -38,12 +38,12 @@ returns-in_err-write_batch g c =
     let a = o c.args.host.now in
     let b = o c.append.new.host in
     let m = o c.write_batch.new.host in
-    let begins = begun told j _ d a b e.draft.0 e.draft.1 e.holds e.draft.2 e.draft.3 e.draft.4 e.empty e.same c.append.ensures.any_moment in
-    let stays = stays-begun told j _ false d a b m begins (record { any_moment = c.append.ensures.any_moment; alone = c.append.ensures.alone }) (stays-kept told (unit_of d) _ b m c.write_batch.ensures.keeps) in
+    let begins = begun told j _ d a b e.draft.0 e.draft.1 e.holds e.draft.2 e.draft.3 e.draft.4 e.empty e.same c.append.ensures.writes.any_moment in
+    let stays = stays-begun told j _ false d a b m begins (record { any_moment = c.append.ensures.writes.any_moment; alone = c.append.ensures.writes.alone }) (stays-kept told (unit_of d) _ b m c.write_batch.ensures.keeps) in
     record {
-      rewrites = stopped told j _ r a m failed (rose-over (unit_of d) j.unit a b m e.draft.1 c.append.ensures.alone c.in_err-write_batch.ensures.cause) stays;
+      rewrites = stopped told j _ r a m failed (rose-over (unit_of d) j.unit a b m e.draft.1 c.append.ensures.writes.alone c.in_err-write_batch.ensures.cause) stays;
       places = no-value r _ failed;
-      costs = spent-written j.unit (516 * length c.args.batch.now.puts) (4 * length (filter (is_kept c.args.pages.now.entries) c.args.batch.now.deletes)) a b m c.append.ensures.costs
+      costs = spent-written j.unit (516 * length c.args.batch.now.puts) (4 * length (filter (is_kept c.args.pages.now.entries) c.args.batch.now.deletes)) a b m c.append.ensures.writes.costs
           (spends-on (unit_of d) j.unit _ 0 b m e.draft.1 c.write_batch.ensures.keeps.costs);
     }
 
@@ -62,14 +62,14 @@ returns-in_err-journal g c =
     let b = o c.append.new.host in
     let m = o c.write_batch.new.host in
     let n = o c.finish.new.host in
-    let begins = begun told j _ d a b e.draft.0 e.draft.1 e.holds e.draft.2 e.draft.3 e.draft.4 e.empty e.same c.append.ensures.any_moment in
-    let w = written told j _ false payload d y a b m begins (record { any_moment = c.append.ensures.any_moment; alone = c.append.ensures.alone }) (stays-kept told (unit_of d) _ b m c.write_batch.ensures.keeps) c.in_ok-write_batch.ensures.ok in
-    let ended : Spends (unit_of y) 1 0 m n = subst (λ (k : Bool). Spends (unit_of y) (commit_costs k) 0 m n) w.kind_is c.finish.ensures.costs in
+    let begins = begun told j _ d a b e.draft.0 e.draft.1 e.holds e.draft.2 e.draft.3 e.draft.4 e.empty e.same c.append.ensures.writes.any_moment in
+    let w = written told j _ false payload d y a b m begins (record { any_moment = c.append.ensures.writes.any_moment; alone = c.append.ensures.writes.alone }) (stays-kept told (unit_of d) _ b m c.write_batch.ensures.keeps) c.in_ok-write_batch.ensures.ok in
+    let ended : Spends (unit_of y) 1 0 m n = subst (λ (k : Bool). Spends (unit_of y) (commit_costs k) 0 m n) w.kind_is c.finish.ensures.writes.costs in
     record {
-      rewrites = stopped-late told j _ r a n failed (rose-over (unit_of y) j.unit a m n w.on w.stays.alone c.in_err-journal.ensures.cause)
-          (λ tells. finish-leaves told j.unit false payload y a m n w tells (c.finish.ensures.any_moment tells)) (Touches-append w.stays.alone (touches-on (unit_of y) j.unit m n w.on c.finish.ensures.alone));
+      rewrites = stopped-late told j _ r a n failed (rose-over (unit_of y) j.unit a m n w.on w.stays.alone c.in_err-journal.ensures.writes.cause)
+          (λ tells. finish-leaves told j.unit false payload y a m n w tells (c.finish.ensures.writes.any_moment tells)) (Touches-append w.stays.alone (touches-on (unit_of y) j.unit m n w.on c.finish.ensures.writes.alone));
       places = no-value r _ failed;
-      costs = spent-finished j.unit (516 * length c.args.batch.now.puts) (4 * length (filter (is_kept c.args.pages.now.entries) c.args.batch.now.deletes)) a b m n c.append.ensures.costs
+      costs = spent-finished j.unit (516 * length c.args.batch.now.puts) (4 * length (filter (is_kept c.args.pages.now.entries) c.args.batch.now.deletes)) a b m n c.append.ensures.writes.costs
           (spends-on (unit_of d) j.unit _ 0 b m e.draft.1 c.write_batch.ensures.keeps.costs) (spends-on (unit_of y) j.unit 1 0 m n w.on ended);
     }
 
@@ -87,11 +87,11 @@ returns g c =
     let b = o c.append.new.host in
     let m = o c.write_batch.new.host in
     let n = o c.finish.new.host in
-    let begins = begun told j _ d a b e.draft.0 e.draft.1 e.holds e.draft.2 e.draft.3 e.draft.4 e.empty e.same c.append.ensures.any_moment in
-    let w = written told j _ false payload d y a b m begins (record { any_moment = c.append.ensures.any_moment; alone = c.append.ensures.alone }) (stays-kept told (unit_of d) _ b m c.write_batch.ensures.keeps) c.in_ok-write_batch.ensures.ok in
-    let ended : Spends (unit_of y) 1 0 m n = subst (λ (k : Bool). Spends (unit_of y) (commit_costs k) 0 m n) w.kind_is c.finish.ensures.costs in
+    let begins = begun told j _ d a b e.draft.0 e.draft.1 e.holds e.draft.2 e.draft.3 e.draft.4 e.empty e.same c.append.ensures.writes.any_moment in
+    let w = written told j _ false payload d y a b m begins (record { any_moment = c.append.ensures.writes.any_moment; alone = c.append.ensures.writes.alone }) (stays-kept told (unit_of d) _ b m c.write_batch.ensures.keeps) c.in_ok-write_batch.ensures.ok in
+    let ended : Spends (unit_of y) 1 0 m n = subst (λ (k : Bool). Spends (unit_of y) (commit_costs k) 0 m n) w.kind_is c.finish.ensures.writes.costs in
     record {
-      rewrites = finished told j false payload y a m n w c.in_ok-journal.journal (f.journal.0, f.journal.1) f.committed _ f.rest c.finish.ensures.any_moment c.finish.ensures.alone;
+      rewrites = finished told j false payload y a m n w c.in_ok-journal.journal (f.journal.0, f.journal.1) f.committed _ f.rest c.finish.ensures.writes.any_moment c.finish.ensures.writes.alone;
       places =
           let y_places = append-place y w.kind_is in
           let its : journal_of y ≡ j = c.in_ok-write_batch.ensures.ok.holds ∙ e.holds in
@@ -109,7 +109,7 @@ returns g c =
             ) in is),
             f.places.1 ∙ y_places.1 ∙ ap first_place its,
           );
-      costs = spent-finished j.unit (516 * length c.args.batch.now.puts) (4 * length (filter (is_kept c.args.pages.now.entries) c.args.batch.now.deletes)) a b m n c.append.ensures.costs
+      costs = spent-finished j.unit (516 * length c.args.batch.now.puts) (4 * length (filter (is_kept c.args.pages.now.entries) c.args.batch.now.deletes)) a b m n c.append.ensures.writes.costs
           (spends-on (unit_of d) j.unit _ 0 b m e.draft.1 c.write_batch.ensures.keeps.costs) (spends-on (unit_of y) j.unit 1 0 m n w.on ended);
     }
 

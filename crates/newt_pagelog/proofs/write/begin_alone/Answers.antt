@@ -15,7 +15,7 @@ returns-in_err-draft-clause-stays g c =
     let its : c.repair.new.self.unit ≡ u = ap (λ (j : Journal). j.unit) c.repair.ensures.same in
     stays-two told u (o c.args.host.now) (o c.repair.new.host) (o c.switch.new.host) c.in_ok-repair.ensures.reads
     (record { any_moment = c.repair.ensures.reads_at_any_moment; alone = c.repair.ensures.alone })
-    (stays-on told c.repair.new.self.unit u (o c.repair.new.host) (o c.switch.new.host) its (record { any_moment = c.switch.ensures.any_moment; alone = c.switch.ensures.alone }))
+    (stays-on told c.repair.new.self.unit u (o c.repair.new.host) (o c.switch.new.host) its (record { any_moment = c.switch.ensures.writes.any_moment; alone = c.switch.ensures.writes.alone }))
 
 pub returns-clause-stays : goal.returns-clause-stays
 returns-clause-stays g c =
@@ -25,7 +25,7 @@ returns-clause-stays g c =
     let its : c.repair.new.self.unit ≡ u = ap (λ (j : Journal). j.unit) c.repair.ensures.same in
     stays-two told u (o c.args.host.now) (o c.repair.new.host) (o c.switch.new.host) c.in_ok-repair.ensures.reads
     (record { any_moment = c.repair.ensures.reads_at_any_moment; alone = c.repair.ensures.alone })
-    (stays-on told c.repair.new.self.unit u (o c.repair.new.host) (o c.switch.new.host) its (record { any_moment = c.switch.ensures.any_moment; alone = c.switch.ensures.alone }))
+    (stays-on told c.repair.new.self.unit u (o c.repair.new.host) (o c.switch.new.host) its (record { any_moment = c.switch.ensures.writes.any_moment; alone = c.switch.ensures.writes.alone }))
 
 pub returns-clause-begins : goal.returns-clause-begins
 returns-clause-begins g c =
@@ -43,5 +43,5 @@ returns-clause-begins g c =
       empty = e.empty;
       same = λ tells. subst (λ (v : ℕ). records (image v (o c.switch.new.host).now) ≡ records (image v (o c.repair.new.host).now)) its (e.same tells) ∙ c.in_ok-repair.ensures.reads tells;
       steady = λ tells. steady-on j.unit (unit_of c.in_ok-draft.draft) (o c.switch.new.host).now (sym e.draft.1)
-          (steady-after j.unit (o c.repair.new.host).now (o c.switch.new.host).now (c.switch.ensures.any_moment tells) (e.same tells));
+          (steady-after j.unit (o c.repair.new.host).now (o c.switch.new.host).now (c.switch.ensures.writes.any_moment tells) (e.same tells));
     }

@@ -40,8 +40,8 @@ returns-in_err-journal g c =
     let m = o c.write_all.new.host in
     let n = o c.finish.new.host in
     let w = written told j _ true payload d y a b m c.in_ok-draft.ensures.begins c.begin_alone.ensures.stays (stays-kept told (unit_of d) _ b m c.write_all.ensures.keeps) c.in_ok-write_all.ensures.ok in
-    stopped-late told j (Some (payload ∷ [])) c.from_residual-in_err-journal.result a n c.from_residual-in_err-journal.ensures.0 (rose-over (unit_of y) j.unit a m n w.on w.stays.alone c.in_err-journal.ensures.cause)
-    (λ tells. finish-leaves told j.unit true payload y a m n w tells (c.finish.ensures.any_moment tells)) (Touches-append w.stays.alone (touches-on (unit_of y) j.unit m n w.on c.finish.ensures.alone))
+    stopped-late told j (Some (payload ∷ [])) c.from_residual-in_err-journal.result a n c.from_residual-in_err-journal.ensures.0 (rose-over (unit_of y) j.unit a m n w.on w.stays.alone c.in_err-journal.ensures.writes.cause)
+    (λ tells. finish-leaves told j.unit true payload y a m n w tells (c.finish.ensures.writes.any_moment tells)) (Touches-append w.stays.alone (touches-on (unit_of y) j.unit m n w.on c.finish.ensures.writes.alone))
 
 pub returns : goal.returns
 returns g c =
@@ -56,4 +56,4 @@ returns g c =
     let m = o c.write_all.new.host in
     let w = written told j _ true payload d y a b m c.in_ok-draft.ensures.begins c.begin_alone.ensures.stays (stays-kept told (unit_of d) _ b m c.write_all.ensures.keeps) c.in_ok-write_all.ensures.ok in
     let f = c.in_ok-journal.ensures in
-    finished told j true payload y a m (o c.finish.new.host) w c.in_ok-journal.journal (f.journal.0, f.journal.1) f.committed _ f.rest c.finish.ensures.any_moment c.finish.ensures.alone
+    finished told j true payload y a m (o c.finish.new.host) w c.in_ok-journal.journal (f.journal.0, f.journal.1) f.committed _ f.rest c.finish.ensures.writes.any_moment c.finish.ensures.writes.alone

@@ -35,7 +35,7 @@ returns-in_err-read_at-clause-caches g c = λ tells.
 pub returns-in_err-read_at-clause-costs : goal.returns-in_err-read_at-clause-costs
 returns-in_err-read_at-clause-costs g c =
     let o = g.H.Host.outside in
-    fetch-costs c.args.journal.now.unit _ c.args.at c.args.cache.now.entries (o c.args.host.now) (o c.read_at.new.host) (sym c.promote.ensures.value ∙ c.if-promote.false) c.told-spare c.read_at.ensures.costs
+    fetch-costs c.args.journal.now.unit _ c.args.at c.args.cache.now.entries (o c.args.host.now) (o c.read_at.new.host) (sym c.promote.ensures.value ∙ c.if-promote.false) c.told-spare c.read_at.ensures.reads.costs
 
 pub returns-in-Ok-clause-found : goal.returns-in-Ok-clause-found
 returns-in-Ok-clause-found g c = ap is_some (put-found c.promote.new.self c.put.new.self c.args.at c.read_at.new.buf c.in-Ok.ensures.entries)
@@ -61,7 +61,7 @@ returns-in-Ok-clause-caches g c = λ tells payloads is e there.
 pub returns-in-Ok-clause-costs : goal.returns-in-Ok-clause-costs
 returns-in-Ok-clause-costs g c =
     let o = g.H.Host.outside in
-    fetch-costs c.args.journal.now.unit _ c.args.at c.args.cache.now.entries (o c.args.host.now) (o c.read_at.new.host) (sym c.promote.ensures.value ∙ c.if-promote.false) c.told-spare c.read_at.ensures.costs
+    fetch-costs c.args.journal.now.unit _ c.args.at c.args.cache.now.entries (o c.args.host.now) (o c.read_at.new.host) (sym c.promote.ensures.value ∙ c.if-promote.false) c.told-spare c.read_at.ensures.reads.costs
 
 pub returns-in-Err-clause-caches : goal.returns-in-Err-clause-caches
 returns-in-Err-clause-caches g c = λ tells.
@@ -71,4 +71,4 @@ returns-in-Err-clause-caches g c = λ tells.
 pub returns-in-Err-clause-costs : goal.returns-in-Err-clause-costs
 returns-in-Err-clause-costs g c =
     let o = g.H.Host.outside in
-    fetch-costs c.args.journal.now.unit _ c.args.at c.args.cache.now.entries (o c.args.host.now) (o c.read_at.new.host) (sym c.promote.ensures.value ∙ c.if-promote.false) c.told-spare c.read_at.ensures.costs
+    fetch-costs c.args.journal.now.unit _ c.args.at c.args.cache.now.entries (o c.args.host.now) (o c.read_at.new.host) (sym c.promote.ensures.value ∙ c.if-promote.false) c.told-spare c.read_at.ensures.reads.costs

@@ -10,28 +10,28 @@ use Rattle.newt_pages.proofs.switch.copy_page.Goals as goal
 pub returns-in_err-read_at-clause-stays : goal.returns-in_err-read_at-clause-stays
 returns-in_err-read_at-clause-stays g c =
     let o = g.H.Host.outside in
-    stays-looked g.H.Host.told (unit_of c.args.draft.now) (o c.args.host.now) (o c.read_at.new.host) c.requires.steady c.read_at.ensures.moment c.read_at.ensures.alone
+    stays-looked g.H.Host.told (unit_of c.args.draft.now) (o c.args.host.now) (o c.read_at.new.host) c.requires.steady c.read_at.ensures.reads.moment c.read_at.ensures.reads.alone
 
 pub write_put-requires-clause-draft : goal.write_put-requires-clause-draft
 write_put-requires-clause-draft g c =
     let o = g.H.Host.outside in
-    draft-looked g.H.Host.told c.args.draft.now (o c.args.host.now) (o c.read_at.new.host) c.read_at.ensures.alone c.read_at.ensures.moment c.requires.draft
+    draft-looked g.H.Host.told c.args.draft.now (o c.args.host.now) (o c.read_at.new.host) c.read_at.ensures.reads.alone c.read_at.ensures.reads.moment c.requires.draft
 
 pub returns-in_err-write_put-clause-stays : goal.returns-in_err-write_put-clause-stays
 returns-in_err-write_put-clause-stays g c =
     let o = g.H.Host.outside in
     let told = g.H.Host.told in
     let u = unit_of c.args.draft.now in
-    stays-two told u (o c.args.host.now) (o c.read_at.new.host) (o c.write_put.new.host) (λ tells. ap (λ (m : Moment). records (image u m)) c.read_at.ensures.moment)
-    (stays-looked told u (o c.args.host.now) (o c.read_at.new.host) c.requires.steady c.read_at.ensures.moment c.read_at.ensures.alone) (stays-kept told u 516 (o c.read_at.new.host) (o c.write_put.new.host) c.write_put.ensures.keeps)
+    stays-two told u (o c.args.host.now) (o c.read_at.new.host) (o c.write_put.new.host) (λ tells. ap (λ (m : Moment). records (image u m)) c.read_at.ensures.reads.moment)
+    (stays-looked told u (o c.args.host.now) (o c.read_at.new.host) c.requires.steady c.read_at.ensures.reads.moment c.read_at.ensures.reads.alone) (stays-kept told u 516 (o c.read_at.new.host) (o c.write_put.new.host) c.write_put.ensures.keeps)
 
 pub returns-clause-stays : goal.returns-clause-stays
 returns-clause-stays g c =
     let o = g.H.Host.outside in
     let told = g.H.Host.told in
     let u = unit_of c.args.draft.now in
-    stays-two told u (o c.args.host.now) (o c.read_at.new.host) (o c.write_put.new.host) (λ tells. ap (λ (m : Moment). records (image u m)) c.read_at.ensures.moment)
-    (stays-looked told u (o c.args.host.now) (o c.read_at.new.host) c.requires.steady c.read_at.ensures.moment c.read_at.ensures.alone) (stays-kept told u 516 (o c.read_at.new.host) (o c.write_put.new.host) c.write_put.ensures.keeps)
+    stays-two told u (o c.args.host.now) (o c.read_at.new.host) (o c.write_put.new.host) (λ tells. ap (λ (m : Moment). records (image u m)) c.read_at.ensures.reads.moment)
+    (stays-looked told u (o c.args.host.now) (o c.read_at.new.host) c.requires.steady c.read_at.ensures.reads.moment c.read_at.ensures.reads.alone) (stays-kept told u 516 (o c.read_at.new.host) (o c.write_put.new.host) c.write_put.ensures.keeps)
 
 pub returns-clause-ok : goal.returns-clause-ok
 returns-clause-ok g c =
@@ -42,5 +42,5 @@ returns-clause-ok g c =
       page = c.read_at.new.buf;
       size = c.write_put.ensures.size;
       shows = λ tells payloads is. c.in_ok-read_at.ensures.of_records tells payloads is;
-      writes = writes-looked told u (written_put (c.args.number, c.read_at.new.buf)) c.args.draft.now c.write_put.new.draft (o c.args.host.now) (o c.read_at.new.host) (o c.write_put.new.host) c.read_at.ensures.moment c.in_ok-write_put.ensures.ok;
+      writes = writes-looked told u (written_put (c.args.number, c.read_at.new.buf)) c.args.draft.now c.write_put.new.draft (o c.args.host.now) (o c.read_at.new.host) (o c.write_put.new.host) c.read_at.ensures.reads.moment c.in_ok-write_put.ensures.ok;
     }

@@ -61,8 +61,8 @@ returns-in_err-journal-clause-rewrites g c = λ payloads read.
     let begins = c.in_ok-draft.ensures.begins in
     let w = written told j _ true payload d y a b m begins c.begin_alone.ensures.stays c.copy_whole.ensures.stays whole.writes in
     rewrites-same told j (Some (payload ∷ [])) _ c.from_residual-in_err-journal.result a n (payload_is told j _ _ c.args.puts.now payloads d y a b m begins whole read)
-    (stopped-late told j (Some (payload ∷ [])) c.from_residual-in_err-journal.result a n c.from_residual-in_err-journal.ensures.0 (rose-over (unit_of y) j.unit a m n w.on w.stays.alone c.in_err-journal.ensures.cause)
-    (λ tells. finish-leaves told j.unit true payload y a m n w tells (c.finish.ensures.any_moment tells)) (Touches-append w.stays.alone (touches-on (unit_of y) j.unit m n w.on c.finish.ensures.alone)))
+    (stopped-late told j (Some (payload ∷ [])) c.from_residual-in_err-journal.result a n c.from_residual-in_err-journal.ensures.0 (rose-over (unit_of y) j.unit a m n w.on w.stays.alone c.in_err-journal.ensures.writes.cause)
+    (λ tells. finish-leaves told j.unit true payload y a m n w tells (c.finish.ensures.writes.any_moment tells)) (Touches-append w.stays.alone (touches-on (unit_of y) j.unit m n w.on c.finish.ensures.writes.alone)))
 
 pub returns-clause-rewrites : goal.returns-clause-rewrites
 returns-clause-rewrites g c = λ payloads read.
@@ -81,4 +81,4 @@ returns-clause-rewrites g c = λ payloads read.
     let w = written told j _ true payload d y a b m begins c.begin_alone.ensures.stays c.copy_whole.ensures.stays whole.writes in
     let f = c.in_ok-journal.ensures in
     rewrites-same told j (Some (payload ∷ [])) _ _ a n (payload_is told j _ _ c.args.puts.now payloads d y a b m begins whole read)
-    (finished told j true payload y a m n w c.in_ok-journal.journal (f.journal.0, f.journal.1) f.committed _ f.rest c.finish.ensures.any_moment c.finish.ensures.alone)
+    (finished told j true payload y a m n w c.in_ok-journal.journal (f.journal.0, f.journal.1) f.committed _ f.rest c.finish.ensures.writes.any_moment c.finish.ensures.writes.alone)

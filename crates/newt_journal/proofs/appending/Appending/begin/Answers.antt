@@ -1,4 +1,4 @@
-use Rattle.std.proofs.Common.{refl}
+use Rattle.std.proofs.Common.{refl, rules}
 use Rattle.newt_spec_image.specs.Records.{length_bytes}
 use Rattle.newt_host.proofs.Outside.{same_cards}
 use Rattle.newt_journal.proofs.Append.{blank, any_moment, same_records, drafted_now, rest_left}
@@ -8,15 +8,20 @@ pub program_piece-requires-clause-blank : goal.program_piece-requires-clause-bla
 unfolding length_bytes
 program_piece-requires-clause-blank g c t = blank c.args.journal c.args.len c.requires.some c.requires.fits (g.H.Host.outside c.args.host.now).now (c.requires.stands.held t) _ c.to_be_bytes.ensures
 
-pub returns-in_err-program_piece-clause-any_moment : goal.returns-in_err-program_piece-clause-any_moment
+pub returns-in_err-program_piece-clause-writes : goal.returns-in_err-program_piece-clause-writes
 unfolding length_bytes
-returns-in_err-program_piece-clause-any_moment g c t = any_moment c.args.journal c.args.len c.requires.some c.requires.fits _ (c.requires.stands.held t) _ c.to_be_bytes.ensures (c.program_piece.ensures.wrote t)
+returns-in_err-program_piece-clause-writes g c = record {
+  any_moment = λ t. any_moment c.args.journal c.args.len c.requires.some c.requires.fits _ (c.requires.stands.held t) _ c.to_be_bytes.ensures (c.program_piece.ensures.wrote t);
+  alone = search rules;
+  costs = search rules;
+  cause = search rules;
+}
 
 pub returns-clause-draft : goal.returns-clause-draft
 unfolding length_bytes
 returns-clause-draft g c = (
   record {
-    has = same_cards c.program_piece.ensures.alone.cards c.requires.stands.has;
+    has = same_cards c.program_piece.ensures.writes.alone.cards c.requires.stands.has;
     held = λ t. drafted_now c.args.journal c.args.len c.requires.some c.requires.fits _ (c.requires.stands.held t) _ c.to_be_bytes.ensures (c.in_ok-program_piece.ensures.wrote t) _ _;
   },
   refl,
@@ -28,9 +33,14 @@ pub returns-clause-same : goal.returns-clause-same
 unfolding length_bytes
 returns-clause-same g c t = same_records c.args.journal c.args.len c.requires.some c.requires.fits _ (c.requires.stands.held t) _ c.to_be_bytes.ensures (c.in_ok-program_piece.ensures.wrote t)
 
-pub returns-clause-any_moment : goal.returns-clause-any_moment
+pub returns-clause-writes : goal.returns-clause-writes
 unfolding length_bytes
-returns-clause-any_moment g c t = any_moment c.args.journal c.args.len c.requires.some c.requires.fits _ (c.requires.stands.held t) _ c.to_be_bytes.ensures (c.program_piece.ensures.wrote t)
+returns-clause-writes g c = record {
+  any_moment = λ t. any_moment c.args.journal c.args.len c.requires.some c.requires.fits _ (c.requires.stands.held t) _ c.to_be_bytes.ensures (c.program_piece.ensures.wrote t);
+  alone = search rules;
+  costs = search rules;
+  cause = search rules;
+}
 
 pub returns-clause-rest : goal.returns-clause-rest
 returns-clause-rest g c t = rest_left c.args.journal c.args.len c.requires.some c.requires.fits (g.H.Host.outside c.args.host.now).now (c.requires.stands.held t)

@@ -1,4 +1,4 @@
-use Rattle.std.proofs.Common.{◌≤◌, ◌+◌, ◌-◌, ◌*◌, ℕ, length, replicate, refl, arith, sym, ◌∙◌, ap, subst}
+use Rattle.std.proofs.Common.{◌≤◌, ◌+◌, ◌-◌, ◌*◌, ℕ, length, replicate, refl, arith, sym, ◌∙◌, ap, subst, rules}
 use Rattle.newt_host.specs.Moments.{image}
 use Rattle.newt_host.proofs.Moments.{Leaves-append}
 use Rattle.newt_host.proofs.Outside.{same_cards}
@@ -7,11 +7,21 @@ use Rattle.newt_journal.proofs.Opened.{has_blocks}
 use Rattle.newt_journal.proofs.Formatting.{anything, no_call, a_sync, format_blank, format_any, format_one, format_tail, format_stands}
 use Rattle.newt_journal.proofs.journal.Journal.format.Goals as goal
 
-pub returns-in_err-sync-clause-any_moment : goal.returns-in_err-sync-clause-any_moment
-returns-in_err-sync-clause-any_moment g c t = a_sync (no_call c.args.unit (g.H.Host.outside c.args.host.now).now) (c.sync.ensures.synced t)
+pub returns-in_err-sync-clause-writes : goal.returns-in_err-sync-clause-writes
+returns-in_err-sync-clause-writes g c = record {
+  any_moment = λ t. a_sync (no_call c.args.unit (g.H.Host.outside c.args.host.now).now) (c.sync.ensures.synced t);
+  alone = search rules;
+  costs = search rules;
+  cause = search rules;
+}
 
-pub returns-in_err-begin_bank-clause-any_moment : goal.returns-in_err-begin_bank-clause-any_moment
-returns-in_err-begin_bank-clause-any_moment g c t = Leaves-append (a_sync (no_call c.args.unit (g.H.Host.outside c.args.host.now).now) (c.sync.ensures.synced t)) (anything (c.begin_bank.ensures.any_moment t))
+pub returns-in_err-begin_bank-clause-writes : goal.returns-in_err-begin_bank-clause-writes
+returns-in_err-begin_bank-clause-writes g c = record {
+  any_moment = λ t. Leaves-append (a_sync (no_call c.args.unit (g.H.Host.outside c.args.host.now).now) (c.sync.ensures.synced t)) (anything (c.begin_bank.ensures.writes.any_moment t));
+  alone = search rules;
+  costs = search rules;
+  cause = search rules;
+}
 
 pub program_piece-requires-clause-blank : goal.program_piece-requires-clause-blank
 program_piece-requires-clause-blank g c t =
@@ -20,33 +30,53 @@ program_piece-requires-clause-blank g c t =
     let fits : 21 + length c.args.first.now ≤ bank_size c.blocks-blocks.result = subst (λ (n : ℕ). 21 + length c.args.first.now ≤ bank_size n) (sym c.blocks-blocks.ensures) c.requires.fits in
     format_blank c.args.unit c.blocks-blocks.result enough few (image c.args.unit (g.H.Host.outside c.sync.new.self).now) c.args.first.now (g.met.H.Host.sized c.sync.new.self c.args.unit t ∙ ap (λ (n : ℕ). n * 4096) (c.sync.ensures.alone.cards.blocks c.args.unit ∙ sym c.blocks-blocks.ensures)) fits _ c.start-start.ensures (g.H.Host.outside c.begin_bank.new.host).now (c.in_ok-begin_bank.ensures.begun t)
 
-pub returns-in_err-program_piece-clause-any_moment : goal.returns-in_err-program_piece-clause-any_moment
-returns-in_err-program_piece-clause-any_moment g c t =
-    let enough : 13 ≤ c.blocks-blocks.result = omega (arith, c.blocks-blocks.ensures, c.requires.enough) in
-    let few : c.blocks-blocks.result ≤ 4099 = omega (arith, c.blocks-blocks.ensures, c.requires.few) in
-    let fits : 21 + length c.args.first.now ≤ bank_size c.blocks-blocks.result = subst (λ (n : ℕ). 21 + length c.args.first.now ≤ bank_size n) (sym c.blocks-blocks.ensures) c.requires.fits in
-    Leaves-append (Leaves-append (a_sync (no_call c.args.unit (g.H.Host.outside c.args.host.now).now) (c.sync.ensures.synced t)) (anything (c.begin_bank.ensures.any_moment t))) (format_any c.args.unit c.blocks-blocks.result enough few (image c.args.unit (g.H.Host.outside c.sync.new.self).now) c.args.first.now (g.met.H.Host.sized c.sync.new.self c.args.unit t ∙ ap (λ (n : ℕ). n * 4096) (c.sync.ensures.alone.cards.blocks c.args.unit ∙ sym c.blocks-blocks.ensures)) fits _ c.start-start.ensures (g.H.Host.outside c.begin_bank.new.host).now (c.in_ok-begin_bank.ensures.begun t) (c.program_piece.ensures.wrote t))
+pub returns-in_err-program_piece-clause-writes : goal.returns-in_err-program_piece-clause-writes
+returns-in_err-program_piece-clause-writes g c = record {
+  any_moment = λ t.
+      let enough : 13 ≤ c.blocks-blocks.result = omega (arith, c.blocks-blocks.ensures, c.requires.enough) in
+      let few : c.blocks-blocks.result ≤ 4099 = omega (arith, c.blocks-blocks.ensures, c.requires.few) in
+      let fits : 21 + length c.args.first.now ≤ bank_size c.blocks-blocks.result = subst (λ (n : ℕ). 21 + length c.args.first.now ≤ bank_size n) (sym c.blocks-blocks.ensures) c.requires.fits in
+      Leaves-append (Leaves-append (a_sync (no_call c.args.unit (g.H.Host.outside c.args.host.now).now) (c.sync.ensures.synced t)) (anything (c.begin_bank.ensures.writes.any_moment t))) (format_any c.args.unit c.blocks-blocks.result enough few (image c.args.unit (g.H.Host.outside c.sync.new.self).now) c.args.first.now (g.met.H.Host.sized c.sync.new.self c.args.unit t ∙ ap (λ (n : ℕ). n * 4096) (c.sync.ensures.alone.cards.blocks c.args.unit ∙ sym c.blocks-blocks.ensures)) fits _ c.start-start.ensures (g.H.Host.outside c.begin_bank.new.host).now (c.in_ok-begin_bank.ensures.begun t) (c.program_piece.ensures.wrote t));
+  alone = search rules;
+  costs = search rules;
+  cause = search rules;
+}
 
-pub returns-in_err-sync-2-clause-any_moment : goal.returns-in_err-sync-2-clause-any_moment
-returns-in_err-sync-2-clause-any_moment g c t =
-    let enough : 13 ≤ c.blocks-blocks.result = omega (arith, c.blocks-blocks.ensures, c.requires.enough) in
-    let few : c.blocks-blocks.result ≤ 4099 = omega (arith, c.blocks-blocks.ensures, c.requires.few) in
-    let fits : 21 + length c.args.first.now ≤ bank_size c.blocks-blocks.result = subst (λ (n : ℕ). 21 + length c.args.first.now ≤ bank_size n) (sym c.blocks-blocks.ensures) c.requires.fits in
-    a_sync (Leaves-append (Leaves-append (a_sync (no_call c.args.unit (g.H.Host.outside c.args.host.now).now) (c.sync.ensures.synced t)) (anything (c.begin_bank.ensures.any_moment t))) (format_any c.args.unit c.blocks-blocks.result enough few (image c.args.unit (g.H.Host.outside c.sync.new.self).now) c.args.first.now (g.met.H.Host.sized c.sync.new.self c.args.unit t ∙ ap (λ (n : ℕ). n * 4096) (c.sync.ensures.alone.cards.blocks c.args.unit ∙ sym c.blocks-blocks.ensures)) fits _ c.start-start.ensures (g.H.Host.outside c.begin_bank.new.host).now (c.in_ok-begin_bank.ensures.begun t) (c.program_piece.ensures.wrote t))) (c.sync-2.ensures.synced t)
+pub returns-in_err-sync-2-clause-writes : goal.returns-in_err-sync-2-clause-writes
+returns-in_err-sync-2-clause-writes g c = record {
+  any_moment = λ t.
+      let enough : 13 ≤ c.blocks-blocks.result = omega (arith, c.blocks-blocks.ensures, c.requires.enough) in
+      let few : c.blocks-blocks.result ≤ 4099 = omega (arith, c.blocks-blocks.ensures, c.requires.few) in
+      let fits : 21 + length c.args.first.now ≤ bank_size c.blocks-blocks.result = subst (λ (n : ℕ). 21 + length c.args.first.now ≤ bank_size n) (sym c.blocks-blocks.ensures) c.requires.fits in
+      a_sync (Leaves-append (Leaves-append (a_sync (no_call c.args.unit (g.H.Host.outside c.args.host.now).now) (c.sync.ensures.synced t)) (anything (c.begin_bank.ensures.writes.any_moment t))) (format_any c.args.unit c.blocks-blocks.result enough few (image c.args.unit (g.H.Host.outside c.sync.new.self).now) c.args.first.now (g.met.H.Host.sized c.sync.new.self c.args.unit t ∙ ap (λ (n : ℕ). n * 4096) (c.sync.ensures.alone.cards.blocks c.args.unit ∙ sym c.blocks-blocks.ensures)) fits _ c.start-start.ensures (g.H.Host.outside c.begin_bank.new.host).now (c.in_ok-begin_bank.ensures.begun t) (c.program_piece.ensures.wrote t))) (c.sync-2.ensures.synced t);
+  alone = search rules;
+  costs = search rules;
+  cause = search rules;
+}
 
-pub returns-in_err-cast_votes-clause-any_moment : goal.returns-in_err-cast_votes-clause-any_moment
-returns-in_err-cast_votes-clause-any_moment g c t =
-    let enough : 13 ≤ c.blocks-blocks.result = omega (arith, c.blocks-blocks.ensures, c.requires.enough) in
-    let few : c.blocks-blocks.result ≤ 4099 = omega (arith, c.blocks-blocks.ensures, c.requires.few) in
-    let fits : 21 + length c.args.first.now ≤ bank_size c.blocks-blocks.result = subst (λ (n : ℕ). 21 + length c.args.first.now ≤ bank_size n) (sym c.blocks-blocks.ensures) c.requires.fits in
-    Leaves-append (a_sync (Leaves-append (Leaves-append (a_sync (no_call c.args.unit (g.H.Host.outside c.args.host.now).now) (c.sync.ensures.synced t)) (anything (c.begin_bank.ensures.any_moment t))) (format_any c.args.unit c.blocks-blocks.result enough few (image c.args.unit (g.H.Host.outside c.sync.new.self).now) c.args.first.now (g.met.H.Host.sized c.sync.new.self c.args.unit t ∙ ap (λ (n : ℕ). n * 4096) (c.sync.ensures.alone.cards.blocks c.args.unit ∙ sym c.blocks-blocks.ensures)) fits _ c.start-start.ensures (g.H.Host.outside c.begin_bank.new.host).now (c.in_ok-begin_bank.ensures.begun t) (c.program_piece.ensures.wrote t))) (c.sync-2.ensures.synced t)) (anything (c.cast_votes.ensures.any_moment t))
+pub returns-in_err-cast_votes-clause-writes : goal.returns-in_err-cast_votes-clause-writes
+returns-in_err-cast_votes-clause-writes g c = record {
+  any_moment = λ t.
+      let enough : 13 ≤ c.blocks-blocks.result = omega (arith, c.blocks-blocks.ensures, c.requires.enough) in
+      let few : c.blocks-blocks.result ≤ 4099 = omega (arith, c.blocks-blocks.ensures, c.requires.few) in
+      let fits : 21 + length c.args.first.now ≤ bank_size c.blocks-blocks.result = subst (λ (n : ℕ). 21 + length c.args.first.now ≤ bank_size n) (sym c.blocks-blocks.ensures) c.requires.fits in
+      Leaves-append (a_sync (Leaves-append (Leaves-append (a_sync (no_call c.args.unit (g.H.Host.outside c.args.host.now).now) (c.sync.ensures.synced t)) (anything (c.begin_bank.ensures.writes.any_moment t))) (format_any c.args.unit c.blocks-blocks.result enough few (image c.args.unit (g.H.Host.outside c.sync.new.self).now) c.args.first.now (g.met.H.Host.sized c.sync.new.self c.args.unit t ∙ ap (λ (n : ℕ). n * 4096) (c.sync.ensures.alone.cards.blocks c.args.unit ∙ sym c.blocks-blocks.ensures)) fits _ c.start-start.ensures (g.H.Host.outside c.begin_bank.new.host).now (c.in_ok-begin_bank.ensures.begun t) (c.program_piece.ensures.wrote t))) (c.sync-2.ensures.synced t)) (anything (c.cast_votes.ensures.writes.any_moment t));
+  alone = search rules;
+  costs = search rules;
+  cause = search rules;
+}
 
-pub returns-clause-any_moment : goal.returns-clause-any_moment
-returns-clause-any_moment g c t =
-    let enough : 13 ≤ c.blocks-blocks.result = omega (arith, c.blocks-blocks.ensures, c.requires.enough) in
-    let few : c.blocks-blocks.result ≤ 4099 = omega (arith, c.blocks-blocks.ensures, c.requires.few) in
-    let fits : 21 + length c.args.first.now ≤ bank_size c.blocks-blocks.result = subst (λ (n : ℕ). 21 + length c.args.first.now ≤ bank_size n) (sym c.blocks-blocks.ensures) c.requires.fits in
-    Leaves-append (a_sync (Leaves-append (Leaves-append (a_sync (no_call c.args.unit (g.H.Host.outside c.args.host.now).now) (c.sync.ensures.synced t)) (anything (c.begin_bank.ensures.any_moment t))) (format_any c.args.unit c.blocks-blocks.result enough few (image c.args.unit (g.H.Host.outside c.sync.new.self).now) c.args.first.now (g.met.H.Host.sized c.sync.new.self c.args.unit t ∙ ap (λ (n : ℕ). n * 4096) (c.sync.ensures.alone.cards.blocks c.args.unit ∙ sym c.blocks-blocks.ensures)) fits _ c.start-start.ensures (g.H.Host.outside c.begin_bank.new.host).now (c.in_ok-begin_bank.ensures.begun t) (c.program_piece.ensures.wrote t))) (c.sync-2.ensures.synced t)) (anything (c.cast_votes.ensures.any_moment t))
+pub returns-clause-writes : goal.returns-clause-writes
+returns-clause-writes g c = record {
+  any_moment = λ t.
+      let enough : 13 ≤ c.blocks-blocks.result = omega (arith, c.blocks-blocks.ensures, c.requires.enough) in
+      let few : c.blocks-blocks.result ≤ 4099 = omega (arith, c.blocks-blocks.ensures, c.requires.few) in
+      let fits : 21 + length c.args.first.now ≤ bank_size c.blocks-blocks.result = subst (λ (n : ℕ). 21 + length c.args.first.now ≤ bank_size n) (sym c.blocks-blocks.ensures) c.requires.fits in
+      Leaves-append (a_sync (Leaves-append (Leaves-append (a_sync (no_call c.args.unit (g.H.Host.outside c.args.host.now).now) (c.sync.ensures.synced t)) (anything (c.begin_bank.ensures.writes.any_moment t))) (format_any c.args.unit c.blocks-blocks.result enough few (image c.args.unit (g.H.Host.outside c.sync.new.self).now) c.args.first.now (g.met.H.Host.sized c.sync.new.self c.args.unit t ∙ ap (λ (n : ℕ). n * 4096) (c.sync.ensures.alone.cards.blocks c.args.unit ∙ sym c.blocks-blocks.ensures)) fits _ c.start-start.ensures (g.H.Host.outside c.begin_bank.new.host).now (c.in_ok-begin_bank.ensures.begun t) (c.program_piece.ensures.wrote t))) (c.sync-2.ensures.synced t)) (anything (c.cast_votes.ensures.writes.any_moment t));
+  alone = search rules;
+  costs = search rules;
+  cause = search rules;
+}
 
 pub returns-clause-one : goal.returns-clause-one
 returns-clause-one g c t =
@@ -68,7 +98,7 @@ returns-clause-journal g c =
     let few : c.blocks-blocks.result ≤ 4099 = omega (arith, c.blocks-blocks.ensures, c.requires.few) in
     let fits : 21 + length c.args.first.now ≤ bank_size c.blocks-blocks.result = subst (λ (n : ℕ). 21 + length c.args.first.now ≤ bank_size n) (sym c.blocks-blocks.ensures) c.requires.fits in (
       record {
-        has = same_cards c.cast_votes.ensures.alone.cards (same_cards c.sync-2.ensures.alone.cards (same_cards c.program_piece.ensures.alone.cards (same_cards c.begin_bank.ensures.alone.cards (same_cards c.sync.ensures.alone.cards (has_blocks c.args.unit c.blocks-blocks.result (g.H.Host.outside c.args.host.now) (g.met.H.Host.none c.args.host.now c.args.unit) c.blocks-blocks.ensures enough)))));
+        has = same_cards c.cast_votes.ensures.writes.alone.cards (same_cards c.sync-2.ensures.alone.cards (same_cards c.program_piece.ensures.writes.alone.cards (same_cards c.begin_bank.ensures.writes.alone.cards (same_cards c.sync.ensures.alone.cards (has_blocks c.args.unit c.blocks-blocks.result (g.H.Host.outside c.args.host.now) (g.met.H.Host.none c.args.host.now c.args.unit) c.blocks-blocks.ensures enough)))));
         held = λ t. format_stands c.args.unit c.blocks-blocks.result enough few (image c.args.unit (g.H.Host.outside c.sync.new.self).now) c.args.first.now (g.met.H.Host.sized c.sync.new.self c.args.unit t ∙ ap (λ (n : ℕ). n * 4096) (c.sync.ensures.alone.cards.blocks c.args.unit ∙ sym c.blocks-blocks.ensures)) fits _ c.start-start.ensures (g.H.Host.outside c.begin_bank.new.host).now (c.in_ok-begin_bank.ensures.begun t) (c.in_ok-program_piece.ensures.wrote t) (c.in_ok-sync-2.ensures.synced t) (g.H.Host.outside c.cast_votes.new.host).now (c.in_ok-cast_votes.ensures.alike t) (c.in_ok-cast_votes.ensures.kept t) _ refl refl refl refl (c.in_ok-cast_votes.ensures.durable t);
       },
       refl,

@@ -18,7 +18,7 @@ returns-then-not-branch-clause-not_store g c fault t =
     let voted : chosen_bank (image u old) ≡ Some (bank_number c.in-Some.bank) = subst (λ (o : Option Bank). MatchOption o (chosen_bank (image u old) ≡ None) (λ bank. chosen_bank (image u old) ≡ Some (bank_number bank))) c.in-Some.is (c.in_ok-bank.ensures.bank t) in
     let no = c.in_ok-has_header.ensures.no t c.if-not-branch.true in
     no_header c.blocks-blocks.result (image u old) size enough few c.in-Some.bank voted
-    (subst (λ (k : ℕ). take 16 (drop k (image u old)) ≢ header) c.start-start.ensures (subst (λ (m : Moment). take 16 (drop c.start-start.result (image u m)) ≢ header) c.in_ok-bank.ensures.moment no))
+    (subst (λ (k : ℕ). take 16 (drop k (image u old)) ≢ header) c.start-start.ensures (subst (λ (m : Moment). take 16 (drop c.start-start.result (image u m)) ≢ header) c.in_ok-bank.ensures.reads.moment no))
 
 pub returns-in_default-2-clause-not_store : goal.returns-in_default-2-clause-not_store
 returns-in_default-2-clause-not_store g c fault t =
@@ -29,9 +29,9 @@ returns-in_default-2-clause-not_store g c fault t =
     let size : length (image u old) ≡ c.blocks-blocks.result * 4096 = g.met.H.Host.sized c.args.host.now u t ∙ ap (λ (n : ℕ). n * 4096) (sym c.blocks-blocks.ensures) in
     let voted : chosen_bank (image u old) ≡ Some (bank_number c.in-Some.bank) = subst (λ (o : Option Bank). MatchOption o (chosen_bank (image u old) ≡ None) (λ bank. chosen_bank (image u old) ≡ Some (bank_number bank))) c.in-Some.is (c.in_ok-bank.ensures.bank t) in
     let yes = c.in_ok-has_header.ensures.yes t c.if-not-branch.false in
-    let headed : take 16 (drop (start_of c.blocks-blocks.result c.in-Some.bank) (image u old)) ≡ header = subst (λ (k : ℕ). take 16 (drop k (image u old)) ≡ header) c.start-start.ensures (subst (λ (m : Moment). take 16 (drop c.start-start.result (image u m)) ≡ header) c.in_ok-bank.ensures.moment yes) in
+    let headed : take 16 (drop (start_of c.blocks-blocks.result c.in-Some.bank) (image u old)) ≡ header = subst (λ (k : ℕ). take 16 (drop k (image u old)) ≡ header) c.start-start.ensures (subst (λ (m : Moment). take 16 (drop c.start-start.result (image u m)) ≡ header) c.in_ok-bank.ensures.reads.moment yes) in
     no_end c.blocks-blocks.result (image u old) size enough few c.in-Some.bank voted headed
-    (moved (λ (l : List ℕ). payloads_after 0 l ≡ None) u (c.in_ok-has_header.ensures.moment ∙ c.in_ok-bank.ensures.moment) (ap (λ (k : ℕ). k + 16) c.start-start.ensures) c.limit-limit.ensures
+    (moved (λ (l : List ℕ). payloads_after 0 l ≡ None) u (c.in_ok-has_header.ensures.reads.moment ∙ c.in_ok-bank.ensures.reads.moment) (ap (λ (k : ℕ). k + 16) c.start-start.ensures) c.limit-limit.ensures
     (at_none _ _ c.in_ok-end.field-0 (c.in_ok-end.ensures.end t) c.in_default-2.not-Some))
 
 pub returns-clause-journal : goal.returns-clause-journal
@@ -40,16 +40,16 @@ returns-clause-journal g c =
     let old = (g.H.Host.outside c.args.host.now).now in
     let enough : 13 ≤ c.blocks-blocks.result = omega (arith, c.blocks-blocks.ensures, c.requires.enough) in
     let few : c.blocks-blocks.result ≤ 4099 = omega (arith, c.blocks-blocks.ensures, c.requires.few) in
-    let to_end = c.in_ok-has_header.ensures.moment ∙ c.in_ok-bank.ensures.moment in
-    let to_blank = c.in_ok-end.ensures.moment ∙ to_end in
-    let to_last = c.in_ok-blank.ensures.moment ∙ to_blank in (
+    let to_end = c.in_ok-has_header.ensures.reads.moment ∙ c.in_ok-bank.ensures.reads.moment in
+    let to_blank = c.in_ok-end.ensures.reads.moment ∙ to_end in
+    let to_last = c.in_ok-blank.ensures.reads.moment ∙ to_blank in (
       record {
-        has = same_cards c.in_ok-blank.ensures.alone.cards (same_cards c.in_ok-end.ensures.alone.cards (same_cards c.in_ok-has_header.ensures.alone.cards (same_cards c.in_ok-bank.ensures.alone.cards (has_blocks c.args.unit c.blocks-blocks.result (g.H.Host.outside c.args.host.now) (g.met.H.Host.none c.args.host.now c.args.unit) c.blocks-blocks.ensures enough))));
+        has = same_cards c.in_ok-blank.ensures.reads.alone.cards (same_cards c.in_ok-end.ensures.reads.alone.cards (same_cards c.in_ok-has_header.ensures.reads.alone.cards (same_cards c.in_ok-bank.ensures.reads.alone.cards (has_blocks c.args.unit c.blocks-blocks.result (g.H.Host.outside c.args.host.now) (g.met.H.Host.none c.args.host.now c.args.unit) c.blocks-blocks.ensures enough))));
         held = λ t.
             let size : length (image u old) ≡ c.blocks-blocks.result * 4096 = g.met.H.Host.sized c.args.host.now u t ∙ ap (λ (n : ℕ). n * 4096) (sym c.blocks-blocks.ensures) in
             let voted : chosen_bank (image u old) ≡ Some (bank_number c.in-Some.bank) = at_some (chosen_bank (image u old) ≡ None) (λ bank. chosen_bank (image u old) ≡ Some (bank_number bank)) c.in-Some.is (c.in_ok-bank.ensures.bank t) in
             let yes = c.in_ok-has_header.ensures.yes t c.if-not-branch.false in
-            let headed : take 16 (drop (start_of c.blocks-blocks.result c.in-Some.bank) (image u old)) ≡ header = subst (λ (k : ℕ). take 16 (drop k (image u old)) ≡ header) c.start-start.ensures (subst (λ (m : Moment). take 16 (drop c.start-start.result (image u m)) ≡ header) c.in_ok-bank.ensures.moment yes) in
+            let headed : take 16 (drop (start_of c.blocks-blocks.result c.in-Some.bank) (image u old)) ≡ header = subst (λ (k : ℕ). take 16 (drop k (image u old)) ≡ header) c.start-start.ensures (subst (λ (m : Moment). take 16 (drop c.start-start.result (image u m)) ≡ header) c.in_ok-bank.ensures.reads.moment yes) in
             let found : IsEnd (start_of c.blocks-blocks.result c.in-Some.bank + 16) c.in-Some-2.end (between (start_of c.blocks-blocks.result c.in-Some.bank + 16) (limit_of c.blocks-blocks.result c.in-Some.bank) (image u old)) =
             subst (λ (k : ℕ). IsEnd (k + 16) c.in-Some-2.end (between (start_of c.blocks-blocks.result c.in-Some.bank + 16) (limit_of c.blocks-blocks.result c.in-Some.bank) (image u old))) c.start-start.ensures
             (moved (λ (l : List ℕ). IsEnd (c.start-start.result + 16) c.in-Some-2.end l) u to_end (ap (λ (k : ℕ). k + 16) c.start-start.ensures) c.limit-limit.ensures
@@ -68,5 +68,5 @@ returns-clause-journal g c =
 pub returns-clause-store : goal.returns-clause-store
 returns-clause-store g c t =
     let u = c.args.unit in
-    let to_last = c.in_ok-blank.ensures.moment ∙ c.in_ok-end.ensures.moment ∙ c.in_ok-has_header.ensures.moment ∙ c.in_ok-bank.ensures.moment in
+    let to_last = c.in_ok-blank.ensures.reads.moment ∙ c.in_ok-end.ensures.reads.moment ∙ c.in_ok-has_header.ensures.reads.moment ∙ c.in_ok-bank.ensures.reads.moment in
     subst (λ (m : Moment). IsSome (records (image u m))) to_last (holds-some _ _ ((returns-clause-journal g c).0.held t))
