@@ -28,9 +28,13 @@ pub(crate) fn begin_bank<H: Host>(
     requires fits { 21 + len ≤ bank_size blocks }
     requires has { HasBlocks unit blocks (H.outside host.old) }
     requires durable { IsTrue H.told → IsDurable unit (H.outside host.old).now }
-    ensures begun { IsTrue H.told → OnOk result (FilledBy (start_of blocks bank) (bank_size blocks) (image unit (H.outside host.old).now) (lead len) (bank_size blocks - 21) (changes unit (H.outside host.new).now)) }
+    ensures begun { IsTrue H.told → OnOk result
+        (FilledBy (start_of blocks bank) (bank_size blocks) (image unit (H.outside host.old).now)
+        (lead len) (bank_size blocks - 21) (changes unit (H.outside host.new).now)) }
     // Whenever it is cut off, all but this bank is as it was.
-    ensures writes { Programs H.told unit 21 (λ left. SameOutside (start_of blocks bank) (bank_size blocks) (image unit (H.outside host.old).now) left) result (H.outside host.old) (H.outside host.new) }
+    ensures writes { Programs H.told unit 21 (λ left. SameOutside (start_of blocks bank)
+        (bank_size blocks) (image unit (H.outside host.old).now) left) result
+        (H.outside host.old) (H.outside host.new) }
 {
     let start = bank.start(blocks);
     erase_blocks(

@@ -17,18 +17,26 @@ impl Journal {
     ghost use Rattle.newt_journal.specs.declared.bank.Bank.TheVariants.{First};
     ghost use Rattle.newt_journal.specs.Calls.{Programs};
 
-    /// Makes a unit a journal of one record, in the first bank, whatever it held before. While it runs nothing is said of what a crash leaves on the unit.
+    /// Makes a unit a journal of one record, in the first bank, whatever it held before. While it
+    /// runs nothing is said of what a crash leaves on the unit.
     pub fn format<H: Host>(host: &mut H, unit: Unit, first: &[u8]) -> Result<Journal, Failed>
         requires enough { 13 ≤ (H.outside host.old).blocks unit }
         requires few { (H.outside host.old).blocks unit ≤ 4099 }
         requires fits { 21 + length first.now ≤ bank_size ((H.outside host.old).blocks unit) }
-        ensures journal { IfOk result (λ journal. Stands H.told journal (H.outside host.new) × (journal.unit ≡ unit) × (journal.bank ≡ First) × (journal.closed ≡ false)) }
-        ensures one { IsTrue H.told → OnOk result (records (image unit (H.outside host.new).now) ≡ Some (first.now ∷ [])) }
-        ensures alike { IsTrue H.told → OnOk result (AllVoteFor 0 (image unit (H.outside host.new).now)) }
-        ensures blank { IsTrue H.told → OnOk result (tail (image unit (H.outside host.new).now) ≡ replicate (bank_size ((H.outside host.old).blocks unit) - 21 - length first.now) 255) }
+        ensures journal { IfOk result (λ journal. Stands H.told journal (H.outside host.new)
+            × (journal.unit ≡ unit) × (journal.bank ≡ First) × (journal.closed ≡ false)) }
+        ensures one { IsTrue H.told → OnOk result
+            (records (image unit (H.outside host.new).now) ≡ Some (first.now ∷ [])) }
+        ensures alike { IsTrue H.told → OnOk result
+            (AllVoteFor 0 (image unit (H.outside host.new).now)) }
+        ensures blank { IsTrue H.told → OnOk result
+            (tail (image unit (H.outside host.new).now)
+            ≡ replicate (bank_size ((H.outside host.old).blocks unit) - 21 - length first.now)
+            255) }
         ensures durable { IsTrue H.told → OnOk result (IsDurable unit (H.outside host.new).now) }
         // All else is as it was, whenever it is cut off.
-        ensures writes { Programs H.told unit (24 + length first.now) Anything result (H.outside host.old) (H.outside host.new) }
+        ensures writes { Programs H.told unit (24 + length first.now) Anything result
+            (H.outside host.old) (H.outside host.new) }
     {
         let blocks = host.blocks(unit);
         let len = first.len() as u32;

@@ -15,7 +15,9 @@ use newt_host::{BLOCK, Failed, Host, Unit};
 fn read_votes<H: Host>(host: &mut H, unit: Unit, blocks: u32) -> Result<Option<Bank>, Failed>
     requires has { HasBlocks unit blocks (H.outside host.old) }
     requires enough { 13 ≤ blocks }
-    ensures bank { IsTrue H.told → IfOk result (λ found. MatchOption found (chosen_bank (image unit (H.outside host.old).now) ≡ None) (λ bank. chosen_bank (image unit (H.outside host.old).now) ≡ Some (bank_number bank))) }
+    ensures bank { IsTrue H.told → IfOk result
+        (λ found. MatchOption found (chosen_bank (image unit (H.outside host.old).now) ≡ None)
+        (λ bank. chosen_bank (image unit (H.outside host.old).now) ≡ Some (bank_number bank))) }
     ensures reads { Reads unit 3 result (H.outside host.old) (H.outside host.new) }
 {
     let first = read_byte(host, unit, 0)?;
@@ -30,18 +32,24 @@ impl Journal {
     ghost use Rattle.newt_spec_image.specs.Records.{records, bank_size};
     ghost use Rattle.newt_journal.specs.Journal.{Stands};
 
-    /// Reads the journal of a unit on which nothing is pending: its votes may differ, and a record may be torn.
+    /// Reads the journal of a unit on which nothing is pending: its votes may differ, and a record
+    /// may be torn.
     pub fn open<H: Host>(host: &mut H, unit: Unit) -> Result<Journal, JournalFault>
         requires enough { 13 ≤ (H.outside host.old).blocks unit }
         requires few { (H.outside host.old).blocks unit ≤ 4099 }
         requires durable { IsTrue H.told → IsDurable unit (H.outside host.old).now }
-        ensures journal { IfOk result (λ journal. Stands H.told journal (H.outside host.new) × (journal.unit ≡ unit)) }
-        ensures store { IsTrue H.told → IfOk result (λ journal. IsSome (records (image unit (H.outside host.old).now))) }
-        ensures not_store { IsErrOf result JournalFault.NotStore → IsTrue H.told → records (image unit (H.outside host.old).now) ≡ None }
-        ensures device { IsErrOf result JournalFault.Device → Rose ((H.outside host.old).dev_faults unit) ((H.outside host.new).dev_faults unit) }
+        ensures journal { IfOk result (λ journal. Stands H.told journal (H.outside host.new)
+            × (journal.unit ≡ unit)) }
+        ensures store { IsTrue H.told → IfOk result
+            (λ journal. IsSome (records (image unit (H.outside host.old).now))) }
+        ensures not_store { IsErrOf result JournalFault.NotStore → IsTrue H.told
+            → records (image unit (H.outside host.old).now) ≡ None }
+        ensures device { IsErrOf result JournalFault.Device
+            → Rose ((H.outside host.old).dev_faults unit) ((H.outside host.new).dev_faults unit) }
         ensures moment { (H.outside host.new).now ≡ (H.outside host.old).now }
         ensures alone { Touches unit (H.outside host.old) (H.outside host.new) }
-        ensures costs { Spends unit 0 (4 + bank_size ((H.outside host.old).blocks unit)) (H.outside host.old) (H.outside host.new) }
+        ensures costs { Spends unit 0 (4 + bank_size ((H.outside host.old).blocks unit))
+            (H.outside host.old) (H.outside host.new) }
     {
         let blocks = host.blocks(unit);
         let Some(bank) = read_votes(host, unit, blocks)? else {

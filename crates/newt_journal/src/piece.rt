@@ -11,9 +11,11 @@ use newt_host::{Failed, Host, Unit};
 pub(crate) fn erase_block<H: Host>(host: &mut H, unit: Unit, block: u32) -> Result<(), Failed>
     requires attached { IsSome ((H.outside host.old).card unit) }
     requires inside { block < (H.outside host.old).blocks unit }
-    ensures wrote { IsTrue H.told → Writes unit (block * 4096) (blank 4096) result (H.outside host.old).now (H.outside host.new).now }
+    ensures wrote { IsTrue H.told → Writes unit (block * 4096) (blank 4096) result
+        (H.outside host.old).now (H.outside host.new).now }
     // Whenever it is cut off, nothing but this block is torn.
-    ensures writes { Programs H.told unit 0 (IsTornIn unit (block * 4096) 4096 (H.outside host.old).now) result (H.outside host.old) (H.outside host.new) }
+    ensures writes { Programs H.told unit 0 (IsTornIn unit (block * 4096) 4096
+        (H.outside host.old).now) result (H.outside host.old) (H.outside host.new) }
 {
     host.erase(unit, block)
 }
@@ -27,10 +29,14 @@ pub(crate) fn program_piece<H: Host>(
 ) -> Result<(), Failed>
     requires attached { IsSome ((H.outside host.old).card unit) }
     requires inside { at + length bytes.now ≤ (H.outside host.old).blocks unit * 4096 }
-    requires blank { IsTrue H.told → IsBlank at (length bytes.now) (image unit (H.outside host.old).now) }
-    ensures wrote { IsTrue H.told → Writes unit at bytes.now result (H.outside host.old).now (H.outside host.new).now }
+    requires blank { IsTrue H.told → IsBlank at (length bytes.now)
+        (image unit (H.outside host.old).now) }
+    ensures wrote { IsTrue H.told → Writes unit at bytes.now result (H.outside host.old).now
+        (H.outside host.new).now }
     // Whenever it is cut off, nothing but these bytes is torn.
-    ensures writes { Programs H.told unit (length bytes.now) (IsTornIn unit at (length bytes.now) (H.outside host.old).now) result (H.outside host.old) (H.outside host.new) }
+    ensures writes { Programs H.told unit (length bytes.now)
+        (IsTornIn unit at (length bytes.now) (H.outside host.old).now) result
+        (H.outside host.old) (H.outside host.new) }
 {
     host.program(unit, at, bytes)
 }

@@ -5,7 +5,8 @@ use crate::Journal;
 use crate::scan::read_length;
 use newt_host::{Failed, Host};
 
-/// A record that was found: the place of its payload, the payload's length in bytes, and the place behind it, where the next record begins.
+/// A record that was found: the place of its payload, the payload's length in bytes, and the place
+/// behind it, where the next record begins.
 #[derive(Clone, Copy, Debug, PartialEq, Eq)]
 pub struct Found {
     pub at: u32,
@@ -27,8 +28,11 @@ impl Journal {
         ensures place { result ≡ first_place self.now }
         ensures before_end { result ≤ self.now.end }
         // From it on stand all records of the image.
-        ensures is_place { (told : Bool) (outside : Outside) → Stands told self.now outside → IsTrue told → IsPlace self.now result (image self.now.unit outside.now) }
-        ensures reads_all { (told : Bool) (outside : Outside) → Stands told self.now outside → IsTrue told → payloads_from self.now result (image self.now.unit outside.now) ≡ records (image self.now.unit outside.now) }
+        ensures is_place { (told : Bool) (outside : Outside) → Stands told self.now outside
+            → IsTrue told → IsPlace self.now result (image self.now.unit outside.now) }
+        ensures reads_all { (told : Bool) (outside : Outside) → Stands told self.now outside
+            → IsTrue told → payloads_from self.now result (image self.now.unit outside.now)
+            ≡ records (image self.now.unit outside.now) }
     {
         self.bank.start(self.blocks) + 16
     }
@@ -40,19 +44,30 @@ impl Journal {
         self.end
     }
 
-    /// The record that begins at a place, or none at the end of the records. The place is the first one or one that `walk` gave.
+    /// The record that begins at a place, or none at the end of the records. The place is the first
+    /// one or one that `walk` gave.
     pub fn walk<H: Host>(&self, host: &mut H, at: u32) -> Result<Option<Found>, Failed>
         requires low { first_place self.now ≤ at }
         requires high { at ≤ self.now.end }
         requires stands { Stands H.told self.now (H.outside host.old) }
-        requires place { IsTrue H.told → IsPlace self.now at (image self.now.unit (H.outside host.old).now) }
-        ensures found { IsTrue H.told → IfOk result (λ found. MatchOption found
+        requires place { IsTrue H.told → IsPlace self.now at
+            (image self.now.unit (H.outside host.old).now) }
+        ensures found { IsTrue H.told → IfOk result
+            (λ found. MatchOption found
             (payloads_from self.now at (image self.now.unit (H.outside host.old).now) ≡ Some [])
             (λ record_is. payloads_from self.now at (image self.now.unit (H.outside host.old).now)
-            ≡ with_first (take record_is.len (drop record_is.at (image self.now.unit (H.outside host.old).now))) (payloads_from self.now record_is.next (image self.now.unit (H.outside host.old).now)))) }
-        ensures next { IsTrue H.told → IfOk result (λ found. IfSome found (λ record_is. IsPlace self.now record_is.next (image self.now.unit (H.outside host.old).now))) }
-        ensures end { IsTrue H.told → IfOk result (λ found. MatchOption found (at ≡ self.now.end) (λ record_is. at + 5 ≤ self.now.end)) }
-        ensures inside { IfOk result (λ found. IfSome found (λ record_is. (record_is.at ≡ at + 5) × (record_is.next ≡ record_is.at + record_is.len) × (record_is.next ≤ self.now.end))) }
+            ≡ with_first (take record_is.len
+            (drop record_is.at (image self.now.unit (H.outside host.old).now)))
+            (payloads_from self.now record_is.next
+            (image self.now.unit (H.outside host.old).now)))) }
+        ensures next { IsTrue H.told → IfOk result
+            (λ found. IfSome found (λ record_is. IsPlace self.now record_is.next
+            (image self.now.unit (H.outside host.old).now))) }
+        ensures end { IsTrue H.told → IfOk result
+            (λ found. MatchOption found (at ≡ self.now.end) (λ record_is. at + 5 ≤ self.now.end)) }
+        ensures inside { IfOk result (λ found. IfSome found
+            (λ record_is. (record_is.at ≡ at + 5) × (record_is.next ≡ record_is.at + record_is.len)
+            × (record_is.next ≤ self.now.end))) }
         ensures reads { Reads self.now.unit 4 result (H.outside host.old) (H.outside host.new) }
     {
         if self.end - at < 5 {
@@ -74,10 +89,14 @@ impl Journal {
         requires low { first_place self.now ≤ at }
         requires high { at + length buf.old ≤ self.now.end }
         requires stands { Stands H.told self.now (H.outside host.old) }
-        ensures bytes { IsTrue H.told → OnOk result (buf.new ≡ take (length buf.old) (drop at (image self.now.unit (H.outside host.old).now))) }
-        ensures of_records { IsTrue H.told → OnOk result ((payloads : List (List ℕ)) → records (image self.now.unit (H.outside host.old).now) ≡ Some payloads
+        ensures bytes { IsTrue H.told → OnOk result
+            (buf.new ≡ take (length buf.old)
+            (drop at (image self.now.unit (H.outside host.old).now))) }
+        ensures of_records { IsTrue H.told → OnOk result ((payloads : List (List ℕ))
+            → records (image self.now.unit (H.outside host.old).now) ≡ Some payloads
             → buf.new ≡ recorded self.now payloads at (length buf.old)) }
-        ensures reads { Reads self.now.unit (length buf.old) result (H.outside host.old) (H.outside host.new) }
+        ensures reads { Reads self.now.unit (length buf.old) result
+            (H.outside host.old) (H.outside host.new) }
     {
         host.read(self.unit, at, buf)
     }

@@ -23,13 +23,19 @@ pub(crate) fn settle_vote<H: Host>(
     requires few { blocks ≤ 4099 }
     requires has { HasBlocks unit blocks (H.outside host.old) }
     requires durable { IsTrue H.told → IsDurable unit (H.outside host.old).now }
-    ensures settled { IsTrue H.told → OnOk result (vote_of block (image unit (H.outside host.new).now) ≡ bank_number bank) }
-    ensures kept { IsTrue H.told → OnOk result (Settling block (bank_number bank) (image unit (H.outside host.old).now) (image unit (H.outside host.new).now)) }
+    ensures settled { IsTrue H.told → OnOk result
+        (vote_of block (image unit (H.outside host.new).now) ≡ bank_number bank) }
+    ensures kept { IsTrue H.told → OnOk result
+        (Settling block (bank_number bank) (image unit (H.outside host.old).now)
+        (image unit (H.outside host.new).now)) }
     ensures durable { IsTrue H.told → OnOk result (IsDurable unit (H.outside host.new).now) }
-    ensures any_moment { IsTrue H.told → Leaves unit (Settling block (bank_number bank) (image unit (H.outside host.old).now)) (H.outside host.old).now (H.outside host.new).now }
+    ensures any_moment { IsTrue H.told → Leaves unit
+        (Settling block (bank_number bank) (image unit (H.outside host.old).now))
+        (H.outside host.old).now (H.outside host.new).now }
     ensures alone { Touches unit (H.outside host.old) (H.outside host.new) }
     ensures costs { Spends unit 1 1 (H.outside host.old) (H.outside host.new) }
-    ensures cause { OnErr result (Rose ((H.outside host.old).dev_faults unit) ((H.outside host.new).dev_faults unit)) }
+    ensures cause { OnErr result (Rose ((H.outside host.old).dev_faults unit)
+        ((H.outside host.new).dev_faults unit)) }
 {
     let vote = read_byte(host, unit, block * BLOCK)?;
     if vote == bank.number() {
@@ -39,7 +45,8 @@ pub(crate) fn settle_vote<H: Host>(
     Ok(())
 }
 
-/// Of the second and the third block, the one whose vote is rewritten first: one that votes for the other bank.
+/// Of the second and the third block, the one whose vote is rewritten first: one that votes for the
+/// other bank.
 fn first_to_settle(third: u8, bank: Bank) -> u32
     ensures { result ≡ (if third == bank_number (other_bank bank) then 2 else 1) }
 {
@@ -57,15 +64,22 @@ pub(crate) fn settle_votes<H: Host>(
     requires few { blocks ≤ 4099 }
     requires has { HasBlocks unit blocks (H.outside host.old) }
     requires durable { IsTrue H.told → IsDurable unit (H.outside host.old).now }
-    requires voted { IsTrue H.told → chosen_bank (image unit (H.outside host.old).now) ≡ Some (bank_number bank) }
-    ensures alike { IsTrue H.told → OnOk result (AllVoteFor (bank_number bank) (image unit (H.outside host.new).now)) }
-    ensures kept { IsTrue H.told → OnOk result (Repairs (bank_number bank) (image unit (H.outside host.old).now) (image unit (H.outside host.new).now)) }
+    requires voted { IsTrue H.told → chosen_bank (image unit (H.outside host.old).now)
+        ≡ Some (bank_number bank) }
+    ensures alike { IsTrue H.told → OnOk result
+        (AllVoteFor (bank_number bank) (image unit (H.outside host.new).now)) }
+    ensures kept { IsTrue H.told → OnOk result
+        (Repairs (bank_number bank) (image unit (H.outside host.old).now)
+        (image unit (H.outside host.new).now)) }
     ensures durable { IsTrue H.told → OnOk result (IsDurable unit (H.outside host.new).now) }
     // Whenever it is cut off, the same bank is chosen, and both are as they were.
-    ensures any_moment { IsTrue H.told → Leaves unit (Repairs (bank_number bank) (image unit (H.outside host.old).now)) (H.outside host.old).now (H.outside host.new).now }
+    ensures any_moment { IsTrue H.told → Leaves unit
+        (Repairs (bank_number bank) (image unit (H.outside host.old).now)) (H.outside host.old).now
+        (H.outside host.new).now }
     ensures alone { Touches unit (H.outside host.old) (H.outside host.new) }
     ensures costs { Spends unit 3 4 (H.outside host.old) (H.outside host.new) }
-    ensures cause { OnErr result (Rose ((H.outside host.old).dev_faults unit) ((H.outside host.new).dev_faults unit)) }
+    ensures cause { OnErr result (Rose ((H.outside host.old).dev_faults unit)
+        ((H.outside host.new).dev_faults unit)) }
 {
     let third = read_byte(host, unit, 2 * BLOCK)?;
     let near = first_to_settle(third, bank);
@@ -79,18 +93,28 @@ impl Journal {
     ghost use Rattle.newt_spec_image.specs.Records.{records};
     ghost use Rattle.newt_journal.specs.Journal.{Stands, VotesAgree, ReadsAs};
 
-    /// Makes all three votes equal to the bank that they choose. Whenever it is cut off, the same bank is chosen, so that it may be begun again.
+    /// Makes all three votes equal to the bank that they choose. Whenever it is cut off, the same
+    /// bank is chosen, so that it may be begun again.
     pub fn repair<H: Host>(&mut self, host: &mut H) -> Result<(), Failed>
         requires stands { Stands H.told self.old (H.outside host.old) }
         ensures same { self.new ≡ self.old }
         ensures stands { OnOk result (Stands H.told self.new (H.outside host.new)) }
-        ensures alike { IsTrue H.told → OnOk result (VotesAgree self.old (image self.old.unit (H.outside host.new).now)) }
-        ensures reads { IsTrue H.told → OnOk result (records (image self.old.unit (H.outside host.new).now) ≡ records (image self.old.unit (H.outside host.old).now)) }
-        ensures any_moment { IsTrue H.told → Leaves self.old.unit (Repairs (bank_number self.old.bank) (image self.old.unit (H.outside host.old).now)) (H.outside host.old).now (H.outside host.new).now }
-        ensures reads_at_any_moment { IsTrue H.told → Leaves self.old.unit (ReadsAs (records (image self.old.unit (H.outside host.old).now))) (H.outside host.old).now (H.outside host.new).now }
+        ensures alike { IsTrue H.told → OnOk result
+            (VotesAgree self.old (image self.old.unit (H.outside host.new).now)) }
+        ensures reads { IsTrue H.told → OnOk result
+            (records (image self.old.unit (H.outside host.new).now)
+            ≡ records (image self.old.unit (H.outside host.old).now)) }
+        ensures any_moment { IsTrue H.told → Leaves self.old.unit
+            (Repairs (bank_number self.old.bank) (image self.old.unit (H.outside host.old).now))
+            (H.outside host.old).now (H.outside host.new).now }
+        ensures reads_at_any_moment { IsTrue H.told
+            → Leaves self.old.unit (ReadsAs
+            (records (image self.old.unit (H.outside host.old).now))) (H.outside host.old).now
+            (H.outside host.new).now }
         ensures alone { Touches self.old.unit (H.outside host.old) (H.outside host.new) }
         ensures costs { Spends self.old.unit 3 4 (H.outside host.old) (H.outside host.new) }
-        ensures cause { OnErr result (Rose ((H.outside host.old).dev_faults self.old.unit) ((H.outside host.new).dev_faults self.old.unit)) }
+        ensures cause { OnErr result (Rose ((H.outside host.old).dev_faults self.old.unit)
+            ((H.outside host.new).dev_faults self.old.unit)) }
     {
         settle_votes(host, self.unit, self.bank, self.blocks)?;
         Ok(())

@@ -39,6 +39,9 @@ looks-append u a b c first second = record {
   alone = Touches-append first.alone second.alone;
 }
 
+pub looks-two : (u v : ℕ) (a b c : Outside) → v ≡ u → Looks u a b → Looks v b c → Looks u a c
+looks-two u v a b c on first second = looks-append u a b c first (subst (λ (w : ℕ). Looks w b c) on second)
+
 pub looks-stands : (told : Bool) (j : Journal) (a b : Outside) → Looks j.unit a b → Stands told j a → Stands told j b
 looks-stands told j a b looks stands = stands-on told j a b looks.alone looks.moment stands
 

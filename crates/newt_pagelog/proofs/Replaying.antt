@@ -8,29 +8,17 @@ use Rattle.std.proofs.lemmas.List.Sorted.{IsPermutation-map}
 use Rattle.std.proofs.lemmas.Map.Keys.{IsDistinct-IsPermutation}
 use Rattle.newt_host.specs.Moments.{Moment, changes}
 use Rattle.newt_host.specs.Outside.{Outside, Touches}
-use Rattle.newt_host.proofs.Outside.{Touches-append}
 use Rattle.newt_spec_image.specs.Records.{and_then, with_first}
 use Rattle.newt_spec_image.specs.Pages.{Pages, Change, change_in, after, pages_after}
 use Rattle.newt_journal.specs.Journal.{Stands}
 use Rattle.newt_journal.specs.declared.journal.Journal.{Journal}
 use Rattle.newt_journal.proofs.Elsewhere.{stands_elsewhere}
 use Rattle.newt_pagelog.specs.Kept.{Entries, AreSound, page_in}
-use Rattle.newt_pagelog.specs.Placed.{Looks}
 use Rattle.newt_pagelog.proofs.Maps.{turned}
 
 -- a journal stands on after what changed nothing
 pub stands-on : (told : Bool) (j : Journal) (old new : Outside) → Touches j.unit old new → new.now ≡ old.now → Stands told j old → Stands told j new
 stands-on told j old new touches moment stands = stands_elsewhere told j old new touches.cards (λ tells. ap (λ (m : Moment). changes j.unit m) moment) stands
-
--- one look after another
-pub looks-two : (u v : ℕ) (a b c : Outside) → v ≡ u → Looks u a b → Looks v b c → Looks u a c
-looks-two u v a b c on first second' =
-    let second : Looks u b c = subst (λ (w : ℕ). Looks w b c) on second' in
-    record {
-      moment = second.moment ∙ first.moment;
-      programs_nothing = omega (arith, first.programs_nothing, second.programs_nothing);
-      alone = Touches-append first.alone second.alone;
-    }
 
 -- the map of what is left, once a record was read
 pub step-read : (rest : Option (List (List ℕ))) (payload : List ℕ) (change : Change) (live : Pages) → change_in payload ≡ Some change

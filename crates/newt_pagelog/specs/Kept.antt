@@ -1,5 +1,5 @@
 -- The pages that a book keeps in memory.
-use Rattle.std.specs.Prelude.{◌≡◌, ℕ, ◌<◌, Bool, true, false, cond, ◌||◌, List, [], ◌∷◌, length, nat_eq, Option, Some, refl}
+use Rattle.std.specs.Prelude.{◌≡◌, ℕ, ◌+◌, ◌*◌, ◌<◌, Bool, true, false, cond, ◌||◌, List, [], ◌∷◌, length, nat_eq, Option, Some, refl}
 use Rattle.std.proofs.Common.{sym, ◌∙◌, ap}
 use Rattle.std.specs.Cmp.{nat_cmp_total, unsigned_tied}
 use Rattle.newt_pagebook.proofs.Tests.{the_some}
@@ -48,6 +48,10 @@ is_kept entries number = is_some (lookup (nat_eq number) entries)
 -- a change without the deletes of pages that are not there
 abbrev pub needed : {V : Type 0} → List (ℕ × V) → Change → Change
 needed entries change = record { puts = change.puts; deletes = filter (is_kept entries) change.deletes }
+
+-- the bytes of a payload that says a change
+abbrev pub payload_bytes : Change → ℕ
+payload_bytes change = 4 + 516 * length change.puts + 4 * length change.deletes
 
 -- the change that puts all pages
 abbrev pub all_of : Entries → Change

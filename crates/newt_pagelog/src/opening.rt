@@ -15,11 +15,14 @@ pub fn open_journal<H: Host>(host: &mut H, unit: Unit) -> Result<Journal, BookFa
     requires enough { 13 ≤ (H.outside host.old).blocks unit }
     requires few { (H.outside host.old).blocks unit ≤ 4099 }
     requires at_rest { IsTrue H.told → IsDurable unit (H.outside host.old).now }
-    ensures journal { IfOk result (λ journal. Stands H.told journal (H.outside host.new) × (journal.unit ≡ unit)) }
-    ensures not_store { IsErrOf result BookFault.NotStore → IsTrue H.told → pages_of (image unit (H.outside host.old).now) ≡ None }
+    ensures journal { IfOk result (λ journal. Stands H.told journal (H.outside host.new)
+        × (journal.unit ≡ unit)) }
+    ensures not_store { IsErrOf result BookFault.NotStore → IsTrue H.told
+        → pages_of (image unit (H.outside host.old).now) ≡ None }
     ensures no_other { IsErrOf result BookFault.Memory → ⊥ }
     ensures looks { Looks unit (H.outside host.old) (H.outside host.new) }
-    ensures cause { IsErrOf result BookFault.Device → Rose ((H.outside host.old).dev_faults unit) ((H.outside host.new).dev_faults unit) }
+    ensures cause { IsErrOf result BookFault.Device
+        → Rose ((H.outside host.old).dev_faults unit) ((H.outside host.new).dev_faults unit) }
 {
     match Journal::open(host, unit) {
         Ok(journal) => Ok(journal),

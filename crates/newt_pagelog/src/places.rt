@@ -7,7 +7,7 @@ ghost use Rattle.newt_host.specs.Outside.{Touches, Rose};
 ghost use Rattle.newt_spec_image.specs.Pages.{pages as pages_of, short_at, word_at, puts_from, said_by, is_change, change_in};
 ghost use Rattle.newt_journal.specs.Journal.{Stands};
 ghost use Rattle.newt_journal.specs.Places.{first_place};
-ghost use Rattle.newt_pagelog.specs.Placed.{AreNumbered, Places, ArePlaced, HoldsAt, Looks, Replayed, ReplaysRecord};
+ghost use Rattle.newt_pagelog.specs.Placed.{AreNumbered, Places, ArePlaced, HoldsAt, Looks, ReadsUnit, Replayed, ReplaysRecord, payload_found};
 ghost use Rattle.newt_pagelog.specs.Replay.{IsSeen, IsTaken, IsRefused};
 
 use crate::live::Table;
@@ -22,9 +22,11 @@ fn read_word<H: Host>(journal: &Journal, host: &mut H, at: u32) -> Result<u32, F
     requires low { first_place journal.now ≤ at }
     requires high { at + 4 ≤ journal.now.end }
     requires stands { Stands H.told journal.now (H.outside host.old) }
-    ensures word { IsTrue H.told → IfOk result (λ word. word ≡ word_at at (image journal.now.unit (H.outside host.old).now)) }
+    ensures word { IsTrue H.told → IfOk result
+        (λ word. word ≡ word_at at (image journal.now.unit (H.outside host.old).now)) }
     ensures looks { Looks journal.now.unit (H.outside host.old) (H.outside host.new) }
-    ensures cause { OnErr result (Rose ((H.outside host.old).dev_faults journal.now.unit) ((H.outside host.new).dev_faults journal.now.unit)) }
+    ensures cause { OnErr result (Rose ((H.outside host.old).dev_faults journal.now.unit)
+        ((H.outside host.new).dev_faults journal.now.unit)) }
 {
     let mut bytes = [0u8; 4];
     journal.read_at(host, at, &mut bytes)?;
@@ -36,9 +38,11 @@ fn read_short<H: Host>(journal: &Journal, host: &mut H, at: u32) -> Result<u16, 
     requires low { first_place journal.now ≤ at }
     requires high { at + 2 ≤ journal.now.end }
     requires stands { Stands H.told journal.now (H.outside host.old) }
-    ensures short { IsTrue H.told → IfOk result (λ short. short ≡ short_at at (image journal.now.unit (H.outside host.old).now)) }
+    ensures short { IsTrue H.told → IfOk result
+        (λ short. short ≡ short_at at (image journal.now.unit (H.outside host.old).now)) }
     ensures looks { Looks journal.now.unit (H.outside host.old) (H.outside host.new) }
-    ensures cause { OnErr result (Rose ((H.outside host.old).dev_faults journal.now.unit) ((H.outside host.new).dev_faults journal.now.unit)) }
+    ensures cause { OnErr result (Rose ((H.outside host.old).dev_faults journal.now.unit)
+        ((H.outside host.new).dev_faults journal.now.unit)) }
 {
     let mut bytes = [0u8; 2];
     journal.read_at(host, at, &mut bytes)?;
@@ -47,7 +51,8 @@ fn read_short<H: Host>(journal: &Journal, host: &mut H, at: u32) -> Result<u16, 
 
 // Whether this is a page number that was not seen before. Then it is seen.
 fn take_number(seen: &mut HashSet<u32>, number: u32) -> Result<bool, AllocError>
-    ensures yes { IfOk result (λ new. new ≡ true → IsTaken number (contains nat_eq seen.old) (contains nat_eq seen.new)) }
+    ensures yes { IfOk result (λ new. new ≡ true
+        → IsTaken number (contains nat_eq seen.old) (contains nat_eq seen.new)) }
     ensures no { IfOk result (λ new. new ≡ false → IsRefused number (contains nat_eq seen.old)) }
 {
     if number >= 65536 {
@@ -56,7 +61,8 @@ fn take_number(seen: &mut HashSet<u32>, number: u32) -> Result<bool, AllocError>
     Ok(seen.insert(number)?)
 }
 
-// Reads the number at a place and marks it as seen. None where it is no page number, or was seen before.
+// Reads the number at a place and marks it as seen. None where it is no page number, or was seen
+// before.
 fn next_number<H: Host>(
     journal: &Journal,
     host: &mut H,
@@ -66,13 +72,14 @@ fn next_number<H: Host>(
     requires low { first_place journal.now ≤ at }
     requires high { at + 4 ≤ journal.now.end }
     requires stands { Stands H.told journal.now (H.outside host.old) }
-    ensures number { IsTrue H.told → IfOk result (λ found. MatchOption found
-        (IsRefused (word_at at (image journal.now.unit (H.outside host.old).now)) (contains nat_eq seen.old))
+    ensures number { IsTrue H.told → IfOk result
+        (λ found. MatchOption found
+        (IsRefused (word_at at (image journal.now.unit (H.outside host.old).now))
+        (contains nat_eq seen.old))
         (λ number. number ≡ word_at at (image journal.now.unit (H.outside host.old).now))) }
-    ensures taken { IfOk result (λ found. IfSome found (λ number. IsTaken number (contains nat_eq seen.old) (contains nat_eq seen.new))) }
-    ensures looks { Looks journal.now.unit (H.outside host.old) (H.outside host.new) }
-    ensures no_other { IsErrOf result BookFault.NotStore → ⊥ }
-    ensures cause { IsErrOf result BookFault.Device → Rose ((H.outside host.old).dev_faults journal.now.unit) ((H.outside host.new).dev_faults journal.now.unit) }
+    ensures taken { IfOk result (λ found. IfSome found
+        (λ number. IsTaken number (contains nat_eq seen.old) (contains nat_eq seen.new))) }
+    ensures reads { ReadsUnit journal.now.unit result (H.outside host.old) (H.outside host.new) }
 {
     let number = read_word(journal, host, at)?;
     if !take_number(seen, number)? {
@@ -81,7 +88,8 @@ fn next_number<H: Host>(
     Ok(Some(number))
 }
 
-// Takes over the puts of a record, which stand from the fifth byte of its payload on. False where one breaks a rule.
+// Takes over the puts of a record, which stand from the fifth byte of its payload on. False where
+// one breaks a rule.
 fn replay_puts<H: Host>(
     journal: &Journal,
     host: &mut H,
@@ -94,19 +102,25 @@ fn replay_puts<H: Host>(
     requires inside { 4 + 516 * puts ≤ found.len }
     requires high { found.at + found.len ≤ journal.now.end }
     requires stands { Stands H.told journal.now (H.outside host.old) }
-    requires count { IsTrue H.told → puts ≡ short_at 0 (take found.len (drop found.at (image journal.now.unit (H.outside host.old).now))) }
+    requires count { IsTrue H.told → puts ≡ short_at 0
+        (payload_found found journal.now.unit (H.outside host.old)) }
     requires unique { hash.IsUnique nat_eq places.old }
     requires placed { ArePlaced journal.now places.old.entries }
     requires seen { IsSeen (contains nat_eq seen.old) (record { puts = []; deletes = [] }) }
-    ensures read { IsTrue H.told → IfOk result (λ good. good ≡ true → Replayed (image journal.now.unit (H.outside host.old).now)
-        (record { puts = puts_from puts (drop 4 (take found.len (drop found.at (image journal.now.unit (H.outside host.old).now)))); deletes = [] }) places.old.entries places.new.entries (contains nat_eq seen.new)) }
-    ensures bad { IsTrue H.told → IfOk result (λ good. good ≡ false → is_change (take found.len (drop found.at (image journal.now.unit (H.outside host.old).now))) ≡ false) }
+    ensures read { IsTrue H.told → IfOk result (λ good. good ≡ true
+        → Replayed (image journal.now.unit (H.outside host.old).now)
+        (record {
+          puts = puts_from puts
+              (drop 4 (payload_found found journal.now.unit (H.outside host.old)));
+          deletes = [];
+        })
+        places.old.entries places.new.entries (contains nat_eq seen.new)) }
+    ensures bad { IsTrue H.told → IfOk result (λ good. good ≡ false
+        → is_change (payload_found found journal.now.unit (H.outside host.old)) ≡ false) }
     ensures unique { IfOk result (λ _. hash.IsUnique nat_eq places.new) }
     ensures placed { IfOk result (λ _. ArePlaced journal.now places.new.entries) }
     ensures len { IfOk result (λ _. length places.new.entries ≤ length places.old.entries + puts) }
-    ensures looks { Looks journal.now.unit (H.outside host.old) (H.outside host.new) }
-    ensures no_other { IsErrOf result BookFault.NotStore → ⊥ }
-    ensures cause { IsErrOf result BookFault.Device → Rose ((H.outside host.old).dev_faults journal.now.unit) ((H.outside host.new).dev_faults journal.now.unit) }
+    ensures reads { ReadsUnit journal.now.unit result (H.outside host.old) (H.outside host.new) }
 {
     for i in 0..puts {
         let at = found.at + 4 + 516 * i;
@@ -134,21 +148,37 @@ fn replay_deletes<H: Host>(
     requires inside { 4 + 516 * puts + 4 * deletes ≤ found.len }
     requires high { found.at + found.len ≤ journal.now.end }
     requires stands { Stands H.told journal.now (H.outside host.old) }
-    requires counts { IsTrue H.told → (puts ≡ short_at 0 (take found.len (drop found.at (image journal.now.unit (H.outside host.old).now)))) × (deletes ≡ short_at 2 (take found.len (drop found.at (image journal.now.unit (H.outside host.old).now)))) }
+    requires counts { IsTrue H.told → (puts ≡ short_at 0
+        (payload_found found journal.now.unit (H.outside host.old)))
+        × (deletes ≡ short_at 2 (payload_found found journal.now.unit (H.outside host.old))) }
     requires unique { hash.IsUnique nat_eq places.old }
     requires placed { ArePlaced journal.now places.old.entries }
     ensures read { (before : Places) → IsTrue H.told
-        → Replayed (image journal.now.unit (H.outside host.old).now) (record { puts = puts_from puts (drop 4 (take found.len (drop found.at (image journal.now.unit (H.outside host.old).now)))); deletes = [] }) before places.old.entries (contains nat_eq seen.old)
-        → IfOk result (λ good. good ≡ true → Replayed (image journal.now.unit (H.outside host.old).now) (said_by (take found.len (drop found.at (image journal.now.unit (H.outside host.old).now)))) before places.new.entries (contains nat_eq seen.new)) }
+        → Replayed (image journal.now.unit (H.outside host.old).now)
+        (record {
+          puts = puts_from puts
+              (drop 4 (payload_found found journal.now.unit (H.outside host.old)));
+          deletes = [];
+        }) before
+        places.old.entries (contains nat_eq seen.old)
+        → IfOk result (λ good. good ≡ true
+        → Replayed (image journal.now.unit (H.outside host.old).now)
+        (said_by (payload_found found journal.now.unit (H.outside host.old))) before
+        places.new.entries (contains nat_eq seen.new)) }
     ensures bad { (before : Places) → IsTrue H.told
-        → Replayed (image journal.now.unit (H.outside host.old).now) (record { puts = puts_from puts (drop 4 (take found.len (drop found.at (image journal.now.unit (H.outside host.old).now)))); deletes = [] }) before places.old.entries (contains nat_eq seen.old)
-        → IfOk result (λ good. good ≡ false → is_change (take found.len (drop found.at (image journal.now.unit (H.outside host.old).now))) ≡ false) }
+        → Replayed (image journal.now.unit (H.outside host.old).now)
+        (record {
+          puts = puts_from puts
+              (drop 4 (payload_found found journal.now.unit (H.outside host.old)));
+          deletes = [];
+        }) before
+        places.old.entries (contains nat_eq seen.old)
+        → IfOk result (λ good. good ≡ false
+        → is_change (payload_found found journal.now.unit (H.outside host.old)) ≡ false) }
     ensures unique { IfOk result (λ _. hash.IsUnique nat_eq places.new) }
     ensures placed { IfOk result (λ _. ArePlaced journal.now places.new.entries) }
     ensures len { IfOk result (λ _. length places.new.entries ≤ length places.old.entries) }
-    ensures looks { Looks journal.now.unit (H.outside host.old) (H.outside host.new) }
-    ensures no_other { IsErrOf result BookFault.NotStore → ⊥ }
-    ensures cause { IsErrOf result BookFault.Device → Rose ((H.outside host.old).dev_faults journal.now.unit) ((H.outside host.new).dev_faults journal.now.unit) }
+    ensures reads { ReadsUnit journal.now.unit result (H.outside host.old) (H.outside host.new) }
 {
     for i in 0..deletes {
         match next_number(journal, host, found.at + 4 + 516 * puts + 4 * i, seen)? {
@@ -175,14 +205,16 @@ fn replay_record<H: Host>(
     requires unique { hash.IsUnique nat_eq places.old }
     requires placed { ArePlaced journal.now places.old.entries }
     ensures read { IsTrue H.told → IfOk result (λ good. good ≡ true
-        → ReplaysRecord (image journal.now.unit (H.outside host.old).now) (take found.len (drop found.at (image journal.now.unit (H.outside host.old).now))) places.old.entries places.new.entries) }
-    ensures bad { IsTrue H.told → IfOk result (λ good. good ≡ false → change_in (take found.len (drop found.at (image journal.now.unit (H.outside host.old).now))) ≡ None) }
+        → ReplaysRecord (image journal.now.unit (H.outside host.old).now)
+        (payload_found found journal.now.unit (H.outside host.old)) places.old.entries
+        places.new.entries) }
+    ensures bad { IsTrue H.told → IfOk result (λ good. good ≡ false
+        → change_in (payload_found found journal.now.unit (H.outside host.old)) ≡ None) }
     ensures unique { IfOk result (λ _. hash.IsUnique nat_eq places.new) }
     ensures placed { IfOk result (λ _. ArePlaced journal.now places.new.entries) }
-    ensures len { IfOk result (λ _. 516 * length places.new.entries ≤ 516 * length places.old.entries + found.len) }
-    ensures looks { Looks journal.now.unit (H.outside host.old) (H.outside host.new) }
-    ensures no_other { IsErrOf result BookFault.NotStore → ⊥ }
-    ensures cause { IsErrOf result BookFault.Device → Rose ((H.outside host.old).dev_faults journal.now.unit) ((H.outside host.new).dev_faults journal.now.unit) }
+    ensures len { IfOk result (λ _. 516 * length places.new.entries
+        ≤ 516 * length places.old.entries + found.len) }
+    ensures reads { ReadsUnit journal.now.unit result (H.outside host.old) (H.outside host.new) }
 {
     if found.len < 4 {
         return Ok(false);
@@ -208,10 +240,15 @@ pub fn replay<H: Host>(
     requires { Stands H.told journal.now (H.outside host.old) }
     ensures numbered { IfOk result (λ places. AreNumbered places.entries) }
     ensures placed { IfOk result (λ places. ArePlaced journal.now places.entries) }
-    ensures pages { IsTrue H.told → IfOk result (λ places. HoldsAt journal.now (image journal.now.unit (H.outside host.old).now) places.entries) }
-    ensures not_store { IsErrOf result BookFault.NotStore → IsTrue H.told → pages_of (image journal.now.unit (H.outside host.old).now) ≡ None }
+    ensures pages { IsTrue H.told → IfOk result
+        (λ places. HoldsAt journal.now
+        (image journal.now.unit (H.outside host.old).now) places.entries) }
+    ensures not_store { IsErrOf result BookFault.NotStore → IsTrue H.told
+        → pages_of (image journal.now.unit (H.outside host.old).now) ≡ None }
     ensures looks { Looks journal.now.unit (H.outside host.old) (H.outside host.new) }
-    ensures cause { IsErrOf result BookFault.Device → Rose ((H.outside host.old).dev_faults journal.now.unit) ((H.outside host.new).dev_faults journal.now.unit) }
+    ensures cause { IsErrOf result BookFault.Device
+        → Rose ((H.outside host.old).dev_faults journal.now.unit)
+        ((H.outside host.new).dev_faults journal.now.unit) }
 {
     let mut places = HashMap::new(alloc);
     let mut at = journal.first();

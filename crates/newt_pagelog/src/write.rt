@@ -11,7 +11,7 @@ ghost use Rattle.newt_journal.specs.Draft.{IsDraftOf, unit_of, len_of, put_of};
 ghost use Rattle.newt_journal.specs.Places.{first_place};
 ghost use Rattle.newt_pagebook.specs.Batch.{IsBatch};
 ghost use Rattle.newt_pagebook.specs.Book.{IsOpenFor, batch_bytes};
-ghost use Rattle.newt_pagelog.specs.Kept.{is_kept, needed};
+ghost use Rattle.newt_pagelog.specs.Kept.{is_kept, needed, payload_bytes};
 ghost use Rattle.newt_pagelog.specs.Commits.{Rewrites};
 ghost use Rattle.newt_pagelog.specs.Steps.{IsSteady, Stays, Keeps, Begins, WritesMore};
 
@@ -76,9 +76,12 @@ pub fn write_counts<H: Host>(
 ) -> Result<(), Failed>
     requires room { put_of draft.old + 4 ≤ len_of draft.old }
     requires draft { IsDraftOf H.told draft.old (H.outside host.old) }
-    ensures ok { OnOk result (WritesMore H.told (unit_of draft.old) (to_be_bytes w16 puts ++ to_be_bytes w16 deletes) draft.old draft.new (H.outside host.old) (H.outside host.new)) }
+    ensures ok { OnOk result (WritesMore H.told (unit_of draft.old)
+        (to_be_bytes w16 puts ++ to_be_bytes w16 deletes) draft.old draft.new
+        (H.outside host.old) (H.outside host.new)) }
     ensures keeps { Keeps H.told (unit_of draft.old) 4 (H.outside host.old) (H.outside host.new) }
-    ensures cause { OnErr result (Rose ((H.outside host.old).dev_faults (unit_of draft.old)) ((H.outside host.new).dev_faults (unit_of draft.old))) }
+    ensures cause { OnErr result (Rose ((H.outside host.old).dev_faults (unit_of draft.old))
+        ((H.outside host.new).dev_faults (unit_of draft.old))) }
 {
     draft.put(host, &counts_piece(puts, deletes))?;
     Ok(())
@@ -93,10 +96,13 @@ pub fn write_put<H: Host>(
 ) -> Result<(), Failed>
     requires room { put_of draft.old + 516 ≤ len_of draft.old }
     requires draft { IsDraftOf H.told draft.old (H.outside host.old) }
-    ensures ok { OnOk result (WritesMore H.told (unit_of draft.old) (written_put (number, page.now)) draft.old draft.new (H.outside host.old) (H.outside host.new)) }
+    ensures ok { OnOk result (WritesMore H.told (unit_of draft.old)
+        (written_put (number, page.now)) draft.old draft.new
+        (H.outside host.old) (H.outside host.new)) }
     ensures keeps { Keeps H.told (unit_of draft.old) 516 (H.outside host.old) (H.outside host.new) }
     ensures size { length page.now ≡ 512 }
-    ensures cause { OnErr result (Rose ((H.outside host.old).dev_faults (unit_of draft.old)) ((H.outside host.new).dev_faults (unit_of draft.old))) }
+    ensures cause { OnErr result (Rose ((H.outside host.old).dev_faults (unit_of draft.old))
+        ((H.outside host.new).dev_faults (unit_of draft.old))) }
 {
     draft.put(host, &put_piece(number, page))?;
     Ok(())
@@ -111,10 +117,14 @@ pub fn write_puts<H: Host>(
     requires room { put_of draft.old + 516 * length puts.now ≤ len_of draft.old }
     requires draft { IsDraftOf H.told draft.old (H.outside host.old) }
     requires steady { IsTrue H.told → IsSteady (unit_of draft.old) (H.outside host.old).now }
-    ensures ok { OnOk result (WritesMore H.told (unit_of draft.old) (flat_map written_put puts.now) draft.old draft.new (H.outside host.old) (H.outside host.new)) }
+    ensures ok { OnOk result (WritesMore H.told (unit_of draft.old)
+        (flat_map written_put puts.now) draft.old draft.new
+        (H.outside host.old) (H.outside host.new)) }
     ensures put { OnOk result (put_of draft.new ≡ put_of draft.old + 516 * length puts.now) }
-    ensures keeps { Keeps H.told (unit_of draft.old) (516 * length puts.now) (H.outside host.old) (H.outside host.new) }
-    ensures cause { OnErr result (Rose ((H.outside host.old).dev_faults (unit_of draft.old)) ((H.outside host.new).dev_faults (unit_of draft.old))) }
+    ensures keeps { Keeps H.told (unit_of draft.old) (516 * length puts.now)
+        (H.outside host.old) (H.outside host.new) }
+    ensures cause { OnErr result (Rose ((H.outside host.old).dev_faults (unit_of draft.old))
+        ((H.outside host.new).dev_faults (unit_of draft.old))) }
 {
     for put in puts {
         write_put(draft, host, put.0, &put.1)?;
@@ -129,12 +139,18 @@ fn write_delete<V, H: Host>(
     pages: &Table<V>,
     number: u32,
 ) -> Result<(), Failed>
-    requires room { put_of draft.old + 4 * length (filter (is_kept pages.now.entries) (number ∷ [])) ≤ len_of draft.old }
+    requires room { put_of draft.old + 4 * length (filter (is_kept pages.now.entries) (number ∷ []))
+        ≤ len_of draft.old }
     requires draft { IsDraftOf H.told draft.old (H.outside host.old) }
     requires steady { IsTrue H.told → IsSteady (unit_of draft.old) (H.outside host.old).now }
-    ensures ok { OnOk result (WritesMore H.told (unit_of draft.old) (flat_map written_delete (filter (is_kept pages.now.entries) (number ∷ []))) draft.old draft.new (H.outside host.old) (H.outside host.new)) }
-    ensures keeps { Keeps H.told (unit_of draft.old) (4 * length (filter (is_kept pages.now.entries) (number ∷ []))) (H.outside host.old) (H.outside host.new) }
-    ensures cause { OnErr result (Rose ((H.outside host.old).dev_faults (unit_of draft.old)) ((H.outside host.new).dev_faults (unit_of draft.old))) }
+    ensures ok { OnOk result (WritesMore H.told (unit_of draft.old)
+        (flat_map written_delete (filter (is_kept pages.now.entries) (number ∷ []))) draft.old
+        draft.new (H.outside host.old) (H.outside host.new)) }
+    ensures keeps { Keeps H.told (unit_of draft.old)
+        (4 * length (filter (is_kept pages.now.entries) (number ∷ [])))
+        (H.outside host.old) (H.outside host.new) }
+    ensures cause { OnErr result (Rose ((H.outside host.old).dev_faults (unit_of draft.old))
+        ((H.outside host.new).dev_faults (unit_of draft.old))) }
 {
     if pages.contains_key(&number) {
         draft.put(host, &number.to_be_bytes())?;
@@ -150,12 +166,18 @@ fn write_deletes<V, H: Host>(
     pages: &Table<V>,
     deletes: &[u32],
 ) -> Result<(), Failed>
-    requires room { put_of draft.old + 4 * length (filter (is_kept pages.now.entries) deletes.now) ≤ len_of draft.old }
+    requires room { put_of draft.old + 4 * length (filter (is_kept pages.now.entries) deletes.now)
+        ≤ len_of draft.old }
     requires draft { IsDraftOf H.told draft.old (H.outside host.old) }
     requires steady { IsTrue H.told → IsSteady (unit_of draft.old) (H.outside host.old).now }
-    ensures ok { OnOk result (WritesMore H.told (unit_of draft.old) (flat_map written_delete (filter (is_kept pages.now.entries) deletes.now)) draft.old draft.new (H.outside host.old) (H.outside host.new)) }
-    ensures keeps { Keeps H.told (unit_of draft.old) (4 * length (filter (is_kept pages.now.entries) deletes.now)) (H.outside host.old) (H.outside host.new) }
-    ensures cause { OnErr result (Rose ((H.outside host.old).dev_faults (unit_of draft.old)) ((H.outside host.new).dev_faults (unit_of draft.old))) }
+    ensures ok { OnOk result (WritesMore H.told (unit_of draft.old)
+        (flat_map written_delete (filter (is_kept pages.now.entries) deletes.now)) draft.old
+        draft.new (H.outside host.old) (H.outside host.new)) }
+    ensures keeps { Keeps H.told (unit_of draft.old)
+        (4 * length (filter (is_kept pages.now.entries) deletes.now))
+        (H.outside host.old) (H.outside host.new) }
+    ensures cause { OnErr result (Rose ((H.outside host.old).dev_faults (unit_of draft.old))
+        ((H.outside host.new).dev_faults (unit_of draft.old))) }
 {
     for number in deletes {
         write_delete(draft, host, pages, *number)?;
@@ -173,12 +195,19 @@ fn write_batch<V, H: Host>(
 ) -> Result<(), Failed>
     requires few { length batch.now.puts < 65536 }
     requires count { deletes ≡ length (filter (is_kept pages.now.entries) batch.now.deletes) }
-    requires room { put_of draft.old + (4 + 516 * length batch.now.puts + 4 * length (filter (is_kept pages.now.entries) batch.now.deletes)) ≤ len_of draft.old }
+    requires room { put_of draft.old + (payload_bytes (needed pages.now.entries batch.now))
+        ≤ len_of draft.old }
     requires draft { IsDraftOf H.told draft.old (H.outside host.old) }
-    ensures ok { OnOk result (WritesMore H.told (unit_of draft.old) (written_change (needed pages.now.entries batch.now)) draft.old draft.new (H.outside host.old) (H.outside host.new)) }
-    ensures put { OnOk result (put_of draft.new ≡ put_of draft.old + (4 + 516 * length batch.now.puts + 4 * length (filter (is_kept pages.now.entries) batch.now.deletes))) }
-    ensures keeps { Keeps H.told (unit_of draft.old) (4 + 516 * length batch.now.puts + 4 * length (filter (is_kept pages.now.entries) batch.now.deletes)) (H.outside host.old) (H.outside host.new) }
-    ensures cause { OnErr result (Rose ((H.outside host.old).dev_faults (unit_of draft.old)) ((H.outside host.new).dev_faults (unit_of draft.old))) }
+    ensures ok { OnOk result (WritesMore H.told (unit_of draft.old)
+        (written_change (needed pages.now.entries batch.now)) draft.old draft.new
+        (H.outside host.old) (H.outside host.new)) }
+    ensures put { OnOk result (put_of draft.new
+        ≡ put_of draft.old + (payload_bytes (needed pages.now.entries batch.now))) }
+    ensures keeps { Keeps H.told (unit_of draft.old)
+        (payload_bytes (needed pages.now.entries batch.now))
+        (H.outside host.old) (H.outside host.new) }
+    ensures cause { OnErr result (Rose ((H.outside host.old).dev_faults (unit_of draft.old))
+        ((H.outside host.new).dev_faults (unit_of draft.old))) }
 {
     let puts = batch.puts();
     write_counts(draft, host, puts.len() as u16, deletes)?;
@@ -190,8 +219,10 @@ fn write_batch<V, H: Host>(
 /// Whether the bank of a journal has room for a batch behind the other records.
 pub fn has_room<V>(journal: &Journal, pages: &Table<V>, batch: &Batch) -> bool
     requires { length pages.now.entries < 65536 }
-    ensures fits { IsTrue result → 4 + 516 * length batch.now.puts + 4 * length (filter (is_kept pages.now.entries) batch.now.deletes) ≤ room journal.now }
-    ensures open { (told : Bool) (outside : Outside) → Stands told journal.now outside → IsTrue told → IsOpenFor (batch_bytes batch.now) (image journal.now.unit outside.now) → IsTrue result }
+    ensures fits { IsTrue result → payload_bytes (needed pages.now.entries batch.now)
+        ≤ room journal.now }
+    ensures open { (told : Bool) (outside : Outside) → Stands told journal.now outside → IsTrue told
+        → IsOpenFor (batch_bytes batch.now) (image journal.now.unit outside.now) → IsTrue result }
     // what holds of every batch holds of this one
     ensures sound { IsBatch batch.now }
 {
@@ -210,10 +241,16 @@ pub fn append_batch<V, H: Host>(
     requires stands { Stands H.told journal (H.outside host.old) }
     requires few_puts { length batch.now.puts < 65536 }
     requires few_deletes { length (filter (is_kept pages.now.entries) batch.now.deletes) < 65536 }
-    requires fits { 4 + 516 * length batch.now.puts + 4 * length (filter (is_kept pages.now.entries) batch.now.deletes) ≤ room journal }
-    ensures rewrites { Rewrites H.told journal (appended (records (image journal.unit (H.outside host.old).now)) (written_change (needed pages.now.entries batch.now))) result (H.outside host.old) (H.outside host.new) }
-    ensures places { IfOk result (λ after. (after.end ≡ journal.end + (9 + 516 * length batch.now.puts + 4 * length (filter (is_kept pages.now.entries) batch.now.deletes))) × (first_place after ≡ first_place journal)) }
-    ensures costs { Spends journal.unit (9 + 516 * length batch.now.puts + 4 * length (filter (is_kept pages.now.entries) batch.now.deletes)) 0 (H.outside host.old) (H.outside host.new) }
+    requires fits { payload_bytes (needed pages.now.entries batch.now) ≤ room journal }
+    ensures rewrites { Rewrites H.told journal
+        (appended (records (image journal.unit (H.outside host.old).now))
+        (written_change (needed pages.now.entries batch.now))) result
+        (H.outside host.old) (H.outside host.new) }
+    ensures places { IfOk result (λ after. (after.end
+        ≡ journal.end + (batch_bytes (needed pages.now.entries batch.now)))
+        × (first_place after ≡ first_place journal)) }
+    ensures costs { Spends journal.unit (batch_bytes (needed pages.now.entries batch.now)) 0
+        (H.outside host.old) (H.outside host.new) }
 {
     let deletes = kept_of(pages, batch.deletes());
     let len = 4 + 516 * batch.puts().len() + 4 * deletes;
@@ -223,13 +260,16 @@ pub fn append_batch<V, H: Host>(
     Ok(journal)
 }
 
-/// Begins a record of so many bytes that alone will stand in the other bank, once the votes are mended.
+/// Begins a record of so many bytes that alone will stand in the other bank, once the votes are
+/// mended.
 pub fn begin_alone<H: Host>(mut journal: Journal, host: &mut H, len: u32) -> Result<Draft, Failed>
     requires fits { 21 + len ≤ bank_size journal.blocks }
     requires stands { Stands H.told journal (H.outside host.old) }
-    ensures begins { IfOk result (λ draft. Begins H.told journal len true draft (H.outside host.old) (H.outside host.new)) }
+    ensures begins { IfOk result (λ draft. Begins H.told journal len true draft
+        (H.outside host.old) (H.outside host.new)) }
     ensures stays { Stays H.told journal.unit (H.outside host.old) (H.outside host.new) }
-    ensures cause { OnErr result (Rose ((H.outside host.old).dev_faults journal.unit) ((H.outside host.new).dev_faults journal.unit)) }
+    ensures cause { OnErr result (Rose ((H.outside host.old).dev_faults journal.unit)
+        ((H.outside host.new).dev_faults journal.unit)) }
 {
     journal.repair(host)?;
     let draft = journal.switch(host, len)?;

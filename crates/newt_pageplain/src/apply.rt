@@ -13,7 +13,8 @@ pub(crate) type Kept = Table<Page>;
 // Puts a page, for which there is room.
 fn put_page(pages: &mut Kept, number: u32, page: &Page)
     requires { 0 < hash.spare pages.old }
-    ensures updates { (q : ℕ) → hash.get nat_eq pages.new q ≡ (if nat_eq number q then Some page.now else hash.get nat_eq pages.old q) }
+    ensures updates { (q : ℕ) → hash.get nat_eq pages.new q
+        ≡ (if nat_eq number q then Some page.now else hash.get nat_eq pages.old q) }
     ensures spare { hash.spare pages.old ≤ hash.spare pages.new + 1 }
     ensures len { hash.hash_map_len pages.new ≤ hash.hash_map_len pages.old + 1 }
     ensures unique { hash.IsUnique nat_eq pages.new }
@@ -29,7 +30,8 @@ pub(crate) fn apply(pages: &mut Kept, batch: &Batch)
     requires room { length batch.now.puts ≤ hash.spare pages.old }
     requires unique { hash.IsUnique nat_eq pages.old }
     ensures pages { map_of pages.new.entries ≡ after batch.now (map_of pages.old.entries) }
-    ensures len { hash.hash_map_len pages.new ≤ hash.hash_map_len pages.old + length batch.now.puts }
+    ensures len { hash.hash_map_len pages.new
+        ≤ hash.hash_map_len pages.old + length batch.now.puts }
     ensures unique { hash.IsUnique nat_eq pages.new }
 {
     for put in batch.puts() {

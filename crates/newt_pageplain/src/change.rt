@@ -1,6 +1,6 @@
-// A batch is committed: appended where the bank has room and is not closed, and else written with all pages into the other bank.
+// A batch is committed: appended where the bank has room and is not closed, and else written with
+// all pages into the other bank.
 ghost use Rattle.std.specs.Prelude.{IsTrue, ◌≡◌, ◌≤◌, ◌+◌, ◌*◌, ◌<◌, length, Some, IfOk, OnOk, OnErr};
-ghost use Rattle.std.specs.List.{filter};
 ghost use Rattle.newt_host.specs.Moments.{image};
 ghost use Rattle.newt_host.specs.Outside.{Spends};
 ghost use Rattle.newt_spec_image.specs.Pages.{after as pages_behind};
@@ -8,7 +8,7 @@ ghost use Rattle.newt_journal.specs.Journal.{room};
 ghost use Rattle.newt_pagebook.specs.Batch.{IsBatch};
 ghost use Rattle.newt_pagebook.specs.Book.{IsOpenFor, batch_bytes};
 ghost use Rattle.newt_pagelog.specs.Commits.{HasRoomFor, Commits};
-ghost use Rattle.newt_pagelog.specs.Kept.{AreSound, is_kept, map_of};
+ghost use Rattle.newt_pagelog.specs.Kept.{AreSound, map_of, needed, payload_bytes};
 ghost use Rattle.newt_pageplain.specs.Plain.{IsHeldBy};
 
 use crate::apply::{Kept, apply};
@@ -29,11 +29,14 @@ fn commit_behind<H: Host>(
     requires sound { AreSound pages.old.entries }
     requires batch { IsBatch batch.now }
     requires ready { HasRoomFor batch.now journal.blocks pages.old }
-    requires fits { 4 + 516 * length batch.now.puts + 4 * length (filter (is_kept pages.old.entries) batch.now.deletes) ≤ room journal }
-    ensures commits { Commits H.told journal batch.now result (H.outside host.old) (H.outside host.new) }
-    ensures pages { OnOk result (map_of pages.new.entries ≡ pages_behind batch.now (map_of pages.old.entries)) }
+    requires fits { payload_bytes (needed pages.old.entries batch.now) ≤ room journal }
+    ensures commits { Commits H.told journal batch.now result
+        (H.outside host.old) (H.outside host.new) }
+    ensures pages { OnOk result (map_of pages.new.entries
+        ≡ pages_behind batch.now (map_of pages.old.entries)) }
     ensures sound { AreSound pages.new.entries }
-    ensures costs { Spends journal.unit (batch_bytes batch.now) 0 (H.outside host.old) (H.outside host.new) }
+    ensures costs { Spends journal.unit (batch_bytes batch.now) 0
+        (H.outside host.old) (H.outside host.new) }
 {
     let journal = append_batch(journal, host, pages, batch)?;
     apply(pages, batch);
@@ -51,7 +54,8 @@ fn commit_beside<H: Host>(
     requires sound { AreSound pages.old.entries }
     requires batch { IsBatch batch.now }
     requires ready { HasRoomFor batch.now journal.blocks pages.old }
-    ensures commits { Commits H.told journal batch.now result (H.outside host.old) (H.outside host.new) }
+    ensures commits { Commits H.told journal batch.now result
+        (H.outside host.old) (H.outside host.new) }
     ensures pages { map_of pages.new.entries ≡ pages_behind batch.now (map_of pages.old.entries) }
     ensures sound { AreSound pages.new.entries }
 {
@@ -70,10 +74,14 @@ pub(crate) fn commit_with<H: Host>(
     requires book { IsHeldBy H.told journal pages.old.entries (H.outside host.old) }
     requires sound { AreSound pages.old.entries }
     requires ready { HasRoomFor batch.now journal.blocks pages.old }
-    ensures commits { Commits H.told journal batch.now result (H.outside host.old) (H.outside host.new) }
-    ensures pages { OnOk result (map_of pages.new.entries ≡ pages_behind batch.now (map_of pages.old.entries)) }
+    ensures commits { Commits H.told journal batch.now result
+        (H.outside host.old) (H.outside host.new) }
+    ensures pages { OnOk result (map_of pages.new.entries
+        ≡ pages_behind batch.now (map_of pages.old.entries)) }
     ensures sound { AreSound pages.new.entries }
-    ensures bound { IsTrue H.told → IsOpenFor (batch_bytes batch.now) (image journal.unit (H.outside host.old).now) → Spends journal.unit (batch_bytes batch.now) 0 (H.outside host.old) (H.outside host.new) }
+    ensures bound { IsTrue H.told → IsOpenFor (batch_bytes batch.now)
+        (image journal.unit (H.outside host.old).now)
+        → Spends journal.unit (batch_bytes batch.now) 0 (H.outside host.old) (H.outside host.new) }
 {
     if has_room(&journal, pages, batch) {
         commit_behind(journal, host, pages, batch)

@@ -7,7 +7,7 @@ ghost use Rattle.newt_spec_image.specs.Pages.{pages as pages_of};
 ghost use Rattle.newt_journal.specs.Journal.{Stands};
 ghost use Rattle.newt_journal.specs.Places.{first_place};
 ghost use Rattle.newt_pagelog.specs.Kept.{AreSound, is_kept, map_of, page_in};
-ghost use Rattle.newt_pagelog.specs.Placed.{ArePlaced, Looks, lifted, page_from};
+ghost use Rattle.newt_pagelog.specs.Placed.{ArePlaced, Looks, ReadsUnit, lifted, page_from};
 
 use crate::apply::Kept;
 use newt_host::{Failed, Host};
@@ -22,9 +22,11 @@ fn read_page<H: Host>(journal: &Journal, host: &mut H, at: u32) -> Result<Page, 
     requires low { first_place journal.now ≤ at }
     requires high { at + 512 ≤ journal.now.end }
     requires stands { Stands H.told journal.now (H.outside host.old) }
-    ensures page { IsTrue H.told → IfOk result (λ page. page ≡ page_from (image journal.now.unit (H.outside host.old).now) at) }
+    ensures page { IsTrue H.told → IfOk result
+        (λ page. page ≡ page_from (image journal.now.unit (H.outside host.old).now) at) }
     ensures looks { Looks journal.now.unit (H.outside host.old) (H.outside host.new) }
-    ensures cause { OnErr result (Rose ((H.outside host.old).dev_faults journal.now.unit) ((H.outside host.new).dev_faults journal.now.unit)) }
+    ensures cause { OnErr result (Rose ((H.outside host.old).dev_faults journal.now.unit)
+        ((H.outside host.new).dev_faults journal.now.unit)) }
 {
     let mut page = [0; 512];
     journal.read_at(host, at, &mut page)?;
@@ -44,13 +46,17 @@ fn read_number<H: Host>(
     requires unique { hash.IsUnique nat_eq pages.old }
     requires fresh { page_in pages.old.entries number ≡ None }
     ensures unique { OnOk result (hash.IsUnique nat_eq pages.new) }
-    ensures others { OnOk result ((q : ℕ) → nat_eq number q ≡ false → page_in pages.new.entries q ≡ page_in pages.old.entries q) }
-    ensures here { OnOk result (is_kept pages.new.entries number ≡ is_kept places.now.entries number) }
-    ensures whole { OnOk result ((page : List ℕ) → page_in pages.new.entries number ≡ Some page → length page ≡ 512) }
-    ensures page { IsTrue H.told → OnOk result (page_in pages.new.entries number ≡ page_in (lifted (page_from (image journal.now.unit (H.outside host.old).now)) places.now.entries) number) }
-    ensures looks { Looks journal.now.unit (H.outside host.old) (H.outside host.new) }
-    ensures no_other { IsErrOf result BookFault.NotStore → ⊥ }
-    ensures cause { IsErrOf result BookFault.Device → Rose ((H.outside host.old).dev_faults journal.now.unit) ((H.outside host.new).dev_faults journal.now.unit) }
+    ensures others { OnOk result ((q : ℕ) → nat_eq number q ≡ false
+        → page_in pages.new.entries q ≡ page_in pages.old.entries q) }
+    ensures here { OnOk result (is_kept pages.new.entries number
+        ≡ is_kept places.now.entries number) }
+    ensures whole { OnOk result ((page : List ℕ) → page_in pages.new.entries number ≡ Some page
+        → length page ≡ 512) }
+    ensures page { IsTrue H.told → OnOk result
+        (page_in pages.new.entries number
+        ≡ page_in (lifted (page_from (image journal.now.unit (H.outside host.old).now))
+        places.now.entries) number) }
+    ensures reads { ReadsUnit journal.now.unit result (H.outside host.old) (H.outside host.new) }
 {
     match places.get(&number) {
         Some(place) => {
@@ -70,10 +76,15 @@ pub(crate) fn read_pages<H: Host>(
 ) -> Result<Kept, BookFault>
     requires { Stands H.told journal.now (H.outside host.old) }
     ensures sound { IfOk result (λ kept. AreSound kept.entries) }
-    ensures pages { IsTrue H.told → IfOk result (λ kept. pages_of (image journal.now.unit (H.outside host.old).now) ≡ Some (map_of kept.entries)) }
-    ensures not_store { IsErrOf result BookFault.NotStore → IsTrue H.told → pages_of (image journal.now.unit (H.outside host.old).now) ≡ None }
+    ensures pages { IsTrue H.told → IfOk result
+        (λ kept. pages_of (image journal.now.unit (H.outside host.old).now)
+        ≡ Some (map_of kept.entries)) }
+    ensures not_store { IsErrOf result BookFault.NotStore → IsTrue H.told
+        → pages_of (image journal.now.unit (H.outside host.old).now) ≡ None }
     ensures looks { Looks journal.now.unit (H.outside host.old) (H.outside host.new) }
-    ensures cause { IsErrOf result BookFault.Device → Rose ((H.outside host.old).dev_faults journal.now.unit) ((H.outside host.new).dev_faults journal.now.unit) }
+    ensures cause { IsErrOf result BookFault.Device
+        → Rose ((H.outside host.old).dev_faults journal.now.unit)
+        ((H.outside host.new).dev_faults journal.now.unit) }
 {
     let places = replay(alloc, journal, host)?;
     let mut pages = HashMap::new(alloc);

@@ -22,10 +22,15 @@ fn write_pages<H: Host>(draft: &mut Draft, host: &mut H, pages: &Kept) -> Result
     requires room { put_of draft.old + 516 * length pages.now.entries ≤ len_of draft.old }
     requires draft { IsDraftOf H.told draft.old (H.outside host.old) }
     requires steady { IsTrue H.told → IsSteady (unit_of draft.old) (H.outside host.old).now }
-    ensures ok { OnOk result (WritesMore H.told (unit_of draft.old) (flat_map written_put pages.now.entries) draft.old draft.new (H.outside host.old) (H.outside host.new)) }
-    ensures put { OnOk result (put_of draft.new ≡ put_of draft.old + 516 * length pages.now.entries) }
-    ensures keeps { Keeps H.told (unit_of draft.old) (516 * length pages.now.entries) (H.outside host.old) (H.outside host.new) }
-    ensures cause { OnErr result (Rose ((H.outside host.old).dev_faults (unit_of draft.old)) ((H.outside host.new).dev_faults (unit_of draft.old))) }
+    ensures ok { OnOk result (WritesMore H.told (unit_of draft.old)
+        (flat_map written_put pages.now.entries) draft.old draft.new
+        (H.outside host.old) (H.outside host.new)) }
+    ensures put { OnOk result (put_of draft.new
+        ≡ put_of draft.old + 516 * length pages.now.entries) }
+    ensures keeps { Keeps H.told (unit_of draft.old) (516 * length pages.now.entries)
+        (H.outside host.old) (H.outside host.new) }
+    ensures cause { OnErr result (Rose ((H.outside host.old).dev_faults (unit_of draft.old))
+        ((H.outside host.new).dev_faults (unit_of draft.old))) }
 {
     for (number, page) in pages.iter() {
         write_put(draft, host, *number, page)?;
@@ -38,10 +43,15 @@ fn write_all<H: Host>(draft: &mut Draft, host: &mut H, pages: &Kept) -> Result<(
     requires few { length pages.now.entries < 65536 }
     requires room { put_of draft.old + (4 + 516 * length pages.now.entries) ≤ len_of draft.old }
     requires draft { IsDraftOf H.told draft.old (H.outside host.old) }
-    ensures ok { OnOk result (WritesMore H.told (unit_of draft.old) (written_change (all_of pages.now.entries)) draft.old draft.new (H.outside host.old) (H.outside host.new)) }
-    ensures put { OnOk result (put_of draft.new ≡ put_of draft.old + (4 + 516 * length pages.now.entries)) }
-    ensures keeps { Keeps H.told (unit_of draft.old) (4 + 516 * length pages.now.entries) (H.outside host.old) (H.outside host.new) }
-    ensures cause { OnErr result (Rose ((H.outside host.old).dev_faults (unit_of draft.old)) ((H.outside host.new).dev_faults (unit_of draft.old))) }
+    ensures ok { OnOk result (WritesMore H.told (unit_of draft.old)
+        (written_change (all_of pages.now.entries)) draft.old draft.new
+        (H.outside host.old) (H.outside host.new)) }
+    ensures put { OnOk result (put_of draft.new
+        ≡ put_of draft.old + (4 + 516 * length pages.now.entries)) }
+    ensures keeps { Keeps H.told (unit_of draft.old) (4 + 516 * length pages.now.entries)
+        (H.outside host.old) (H.outside host.new) }
+    ensures cause { OnErr result (Rose ((H.outside host.old).dev_faults (unit_of draft.old))
+        ((H.outside host.new).dev_faults (unit_of draft.old))) }
 {
     write_counts(draft, host, pages.len() as u16, 0)?;
     write_pages(draft, host, pages)?;
@@ -57,7 +67,8 @@ pub(crate) fn replace_all<H: Host>(
     requires stands { Stands H.told journal (H.outside host.old) }
     requires few { length pages.now.entries < 65536 }
     requires fits { 25 + 516 * length pages.now.entries ≤ bank_size journal.blocks }
-    ensures { Rewrites H.told journal (Some (written_change (all_of pages.now.entries) ∷ [])) result (H.outside host.old) (H.outside host.new) }
+    ensures { Rewrites H.told journal (Some (written_change (all_of pages.now.entries) ∷ [])) result
+        (H.outside host.old) (H.outside host.new) }
 {
     let len = 4 + 516 * pages.len();
     let mut draft = begin_alone(journal, host, len as u32)?;

@@ -17,13 +17,15 @@ use std::num::NonZeroUsize;
 /// How many pages are cached.
 const CACHED_PAGES: usize = 64;
 
-/// A book that leaves the pages on its unit and keeps their places in memory. It is spent once its journal is gone.
+/// A book that leaves the pages on its unit and keeps their places in memory. It is spent once its
+/// journal is gone.
 #[derive(Drop)]
 pub struct DiskBook {
     unit: Unit,
     journal: Option<Journal>,
     places: Table<u32>,
-    /// Pages that were read last, by their places. A record is never written over, so that they stay what they are until the other bank is taken.
+    /// Pages that were read last, by their places. A record is never written over, so that they
+    /// stay what they are until the other bank is taken.
     cache: Cache,
     /// A page that the cache did not take.
     spare: Page,

@@ -1,4 +1,5 @@
-// A batch is committed: appended where the bank has room and is not closed, and else written with all pages into the other bank.
+// A batch is committed: appended where the bank has room and is not closed, and else written with
+// all pages into the other bank.
 ghost use Rattle.std.specs.Prelude.{IsTrue, ◌≡◌, IfOk, OnOk};
 ghost use Rattle.std.specs.FinSet as set;
 ghost use Rattle.newt_host.specs.Moments.{image};
@@ -32,10 +33,13 @@ fn commit_beside<H: Host>(
     requires batch { IsBatch batch.now }
     requires ready { HasRoomFor batch.now journal.blocks places.old }
     requires live { live ≡ set.len (changed_numbers batch.now (numbers_in places.old.entries)) }
-    ensures commits { Commits H.told journal batch.now result (H.outside host.old) (H.outside host.new) }
-    ensures book { IfOk result (λ after. IsPlacedBy H.told after places.new.entries (H.outside host.new)) }
+    ensures commits { Commits H.told journal batch.now result
+        (H.outside host.old) (H.outside host.new) }
+    ensures book { IfOk result (λ after. IsPlacedBy H.told after places.new.entries
+        (H.outside host.new)) }
     ensures numbered { AreNumbered places.new.entries }
-    ensures numbers { OnOk result (numbers_in places.new.entries ≡ changed_numbers batch.now (numbers_in places.old.entries)) }
+    ensures numbers { OnOk result (numbers_in places.new.entries
+        ≡ changed_numbers batch.now (numbers_in places.old.entries)) }
 {
     remove_puts(places, batch.puts());
     remove_numbers(places, batch.deletes());
@@ -56,15 +60,23 @@ pub(crate) fn commit_with<H: Host>(
 ) -> Result<Journal, Failed>
     requires book { IsPlacedBy H.told journal places.old.entries (H.outside host.old) }
     requires numbered { AreNumbered places.old.entries }
-    requires caches { IsTrue H.told → EachIsPageAtPlace journal (image journal.unit (H.outside host.old).now) cache.old.entries }
+    requires caches { IsTrue H.told → EachIsPageAtPlace journal
+        (image journal.unit (H.outside host.old).now) cache.old.entries }
     requires ready { HasRoomFor batch.now journal.blocks places.old }
     requires live { live ≡ set.len (changed_numbers batch.now (numbers_in places.old.entries)) }
-    ensures commits { Commits H.told journal batch.now result (H.outside host.old) (H.outside host.new) }
-    ensures book { IfOk result (λ after. IsPlacedBy H.told after places.new.entries (H.outside host.new)) }
-    ensures caches { IsTrue H.told → IfOk result (λ after. EachIsPageAtPlace after (image journal.unit (H.outside host.new).now) cache.new.entries) }
+    ensures commits { Commits H.told journal batch.now result
+        (H.outside host.old) (H.outside host.new) }
+    ensures book { IfOk result (λ after. IsPlacedBy H.told after places.new.entries
+        (H.outside host.new)) }
+    ensures caches { IsTrue H.told → IfOk result
+        (λ after. EachIsPageAtPlace after
+        (image journal.unit (H.outside host.new).now) cache.new.entries) }
     ensures numbered { AreNumbered places.new.entries }
-    ensures numbers { OnOk result (numbers_in places.new.entries ≡ changed_numbers batch.now (numbers_in places.old.entries)) }
-    ensures bound { IsTrue H.told → IsOpenFor (batch_bytes batch.now) (image journal.unit (H.outside host.old).now) → Spends journal.unit (batch_bytes batch.now) 0 (H.outside host.old) (H.outside host.new) }
+    ensures numbers { OnOk result (numbers_in places.new.entries
+        ≡ changed_numbers batch.now (numbers_in places.old.entries)) }
+    ensures bound { IsTrue H.told → IsOpenFor (batch_bytes batch.now)
+        (image journal.unit (H.outside host.old).now)
+        → Spends journal.unit (batch_bytes batch.now) 0 (H.outside host.old) (H.outside host.new) }
 {
     if has_room(&journal, places, batch) {
         commit_behind(journal, host, places, batch)

@@ -26,8 +26,8 @@ pub(crate) enum AtHand {
     Spare,
 }
 
-/// Brings the page at a place of the records to hand. One that is cached is not read again; another one is read into the cache, or where there is no memory
-/// for it there, into the spare page.
+/// Brings the page at a place of the records to hand. One that is cached is not read again; another
+/// one is read into the cache, or where there is no memory for it there, into the spare page.
 pub(crate) fn bring<H: Host>(
     journal: &Journal,
     host: &mut H,
@@ -38,16 +38,21 @@ pub(crate) fn bring<H: Host>(
     requires low { first_place journal.now ≤ at }
     requires high { at + 512 ≤ journal.now.end }
     requires stands { Stands H.told journal.now (H.outside host.old) }
-    requires caches { IsTrue H.told → EachIsPageAtPlace journal.now (image journal.now.unit (H.outside host.old).now) cache.old.entries }
+    requires caches { IsTrue H.told → EachIsPageAtPlace journal.now
+        (image journal.now.unit (H.outside host.old).now) cache.old.entries }
     ensures found { IfOk result (λ hand. IsSome (shown_in cache.new.entries spare.new hand)) }
-    ensures page { IsTrue H.told → IfOk result (λ hand. (payloads : List (List ℕ)) → records (image journal.now.unit (H.outside host.old).now) ≡ Some payloads
+    ensures page { IsTrue H.told → IfOk result (λ hand. (payloads : List (List ℕ))
+        → records (image journal.now.unit (H.outside host.old).now) ≡ Some payloads
         → shown_in cache.new.entries spare.new hand ≡ Some (page_of journal.now payloads at)) }
-    ensures caches { IsTrue H.told → EachIsPageAtPlace journal.now (image journal.now.unit (H.outside host.old).now) cache.new.entries }
+    ensures caches { IsTrue H.told → EachIsPageAtPlace journal.now
+        (image journal.now.unit (H.outside host.old).now) cache.new.entries }
     ensures moment { (H.outside host.new).now ≡ (H.outside host.old).now }
     ensures alone { Touches journal.now.unit (H.outside host.old) (H.outside host.new) }
     // for a page that is cached nothing is fetched
-    ensures costs { Spends journal.now.unit 0 (bytes_fetched at cache.old.entries) (H.outside host.old) (H.outside host.new) }
-    ensures cause { OnErr result (Rose ((H.outside host.old).dev_faults journal.now.unit) ((H.outside host.new).dev_faults journal.now.unit)) }
+    ensures costs { Spends journal.now.unit 0 (bytes_fetched at cache.old.entries)
+        (H.outside host.old) (H.outside host.new) }
+    ensures cause { OnErr result (Rose ((H.outside host.old).dev_faults journal.now.unit)
+        ((H.outside host.new).dev_faults journal.now.unit)) }
 {
     if cache.promote(&at) {
         return Ok(AtHand::Cached(at));

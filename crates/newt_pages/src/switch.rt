@@ -26,9 +26,11 @@ fn copy_page<H: Host>(draft: &mut Draft, host: &mut H, number: u32, at: u32) -> 
     requires steady { IsTrue H.told → IsSteady (unit_of draft.old) (H.outside host.old).now }
     requires low { first_place (journal_of draft.old) ≤ at }
     requires high { at + 512 ≤ (journal_of draft.old).end }
-    ensures ok { OnOk result (CopiesPage H.told (unit_of draft.old) number at draft.old draft.new (H.outside host.old) (H.outside host.new)) }
+    ensures ok { OnOk result (CopiesPage H.told (unit_of draft.old) number at draft.old draft.new
+        (H.outside host.old) (H.outside host.new)) }
     ensures stays { Stays H.told (unit_of draft.old) (H.outside host.old) (H.outside host.new) }
-    ensures cause { OnErr result (Rose ((H.outside host.old).dev_faults (unit_of draft.old)) ((H.outside host.new).dev_faults (unit_of draft.old))) }
+    ensures cause { OnErr result (Rose ((H.outside host.old).dev_faults (unit_of draft.old))
+        ((H.outside host.new).dev_faults (unit_of draft.old))) }
 {
     let mut page = [0; 512];
     draft.read_at(host, at, &mut page)?;
@@ -43,13 +45,17 @@ fn copy_number<H: Host>(
     places: &Table<u32>,
     number: u32,
 ) -> Result<(), Failed>
-    requires room { put_of draft.old + 516 * length (place_at number (lookup (nat_eq number) places.now.entries)) ≤ len_of draft.old }
+    requires room { put_of draft.old + 516 * length
+        (place_at number (lookup (nat_eq number) places.now.entries)) ≤ len_of draft.old }
     requires draft { IsDraftOf H.told draft.old (H.outside host.old) }
     requires steady { IsTrue H.told → IsSteady (unit_of draft.old) (H.outside host.old).now }
     requires placed { ArePlaced (journal_of draft.old) places.now.entries }
-    ensures ok { OnOk result (CopiesAll H.told (unit_of draft.old) (place_at number (lookup (nat_eq number) places.now.entries)) draft.old draft.new (H.outside host.old) (H.outside host.new)) }
+    ensures ok { OnOk result (CopiesAll H.told (unit_of draft.old)
+        (place_at number (lookup (nat_eq number) places.now.entries)) draft.old draft.new
+        (H.outside host.old) (H.outside host.new)) }
     ensures stays { Stays H.told (unit_of draft.old) (H.outside host.old) (H.outside host.new) }
-    ensures cause { OnErr result (Rose ((H.outside host.old).dev_faults (unit_of draft.old)) ((H.outside host.new).dev_faults (unit_of draft.old))) }
+    ensures cause { OnErr result (Rose ((H.outside host.old).dev_faults (unit_of draft.old))
+        ((H.outside host.new).dev_faults (unit_of draft.old))) }
 {
     match places.get(&number) {
         Some(place) => copy_page(draft, host, number, *place),
@@ -59,13 +65,17 @@ fn copy_number<H: Host>(
 
 // Copies all pages, in the order of their numbers.
 fn copy_pages<H: Host>(draft: &mut Draft, host: &mut H, places: &Table<u32>) -> Result<(), Failed>
-    requires room { put_of draft.old + 516 * length (below 65536 places.now.entries) ≤ len_of draft.old }
+    requires room { put_of draft.old + 516 * length (below 65536 places.now.entries)
+        ≤ len_of draft.old }
     requires draft { IsDraftOf H.told draft.old (H.outside host.old) }
     requires steady { IsTrue H.told → IsSteady (unit_of draft.old) (H.outside host.old).now }
     requires placed { ArePlaced (journal_of draft.old) places.now.entries }
-    ensures ok { OnOk result (CopiesAll H.told (unit_of draft.old) (below 65536 places.now.entries) draft.old draft.new (H.outside host.old) (H.outside host.new)) }
+    ensures ok { OnOk result (CopiesAll H.told (unit_of draft.old)
+        (below 65536 places.now.entries) draft.old draft.new
+        (H.outside host.old) (H.outside host.new)) }
     ensures stays { Stays H.told (unit_of draft.old) (H.outside host.old) (H.outside host.new) }
-    ensures cause { OnErr result (Rose ((H.outside host.old).dev_faults (unit_of draft.old)) ((H.outside host.new).dev_faults (unit_of draft.old))) }
+    ensures cause { OnErr result (Rose ((H.outside host.old).dev_faults (unit_of draft.old))
+        ((H.outside host.new).dev_faults (unit_of draft.old))) }
 {
     for number in 0..65536 {
         copy_number(draft, host, places, number)?;
@@ -86,9 +96,12 @@ fn copy_whole<H: Host>(
     requires draft { IsDraftOf H.told draft.old (H.outside host.old) }
     requires steady { IsTrue H.told → IsSteady (unit_of draft.old) (H.outside host.old).now }
     requires placed { ArePlaced (journal_of draft.old) places.now.entries }
-    ensures ok { OnOk result (CopiesWhole H.told (unit_of draft.old) (below 65536 places.now.entries) puts.now draft.old draft.new (H.outside host.old) (H.outside host.new)) }
+    ensures ok { OnOk result (CopiesWhole H.told (unit_of draft.old)
+        (below 65536 places.now.entries) puts.now draft.old draft.new
+        (H.outside host.old) (H.outside host.new)) }
     ensures stays { Stays H.told (unit_of draft.old) (H.outside host.old) (H.outside host.new) }
-    ensures cause { OnErr result (Rose ((H.outside host.old).dev_faults (unit_of draft.old)) ((H.outside host.new).dev_faults (unit_of draft.old))) }
+    ensures cause { OnErr result (Rose ((H.outside host.old).dev_faults (unit_of draft.old))
+        ((H.outside host.new).dev_faults (unit_of draft.old))) }
 {
     write_counts(draft, host, live, 0)?;
     copy_pages(draft, host, places)?;
@@ -96,7 +109,8 @@ fn copy_whole<H: Host>(
     Ok(())
 }
 
-/// Writes all pages as one record into the other bank, once the votes are mended: those at the places, and the given ones behind them.
+/// Writes all pages as one record into the other bank, once the votes are mended: those at the
+/// places, and the given ones behind them.
 pub(crate) fn replace_all<H: Host>(
     journal: Journal,
     host: &mut H,
@@ -108,8 +122,12 @@ pub(crate) fn replace_all<H: Host>(
     requires count { live ≡ length (below 65536 places.now.entries) + length puts.now }
     requires fits { 25 + 516 * live ≤ bank_size journal.blocks }
     requires placed { ArePlaced journal places.now.entries }
-    ensures rewrites { (payloads : List (List ℕ)) → (IsTrue H.told → records (image journal.unit (H.outside host.old).now) ≡ Some payloads)
-        → Rewrites H.told journal (Some (written_change (all_of (lifted (page_of journal payloads) (below 65536 places.now.entries) ++ puts.now)) ∷ [])) result (H.outside host.old) (H.outside host.new) }
+    ensures rewrites { (payloads : List (List ℕ))
+        → (IsTrue H.told → records (image journal.unit (H.outside host.old).now) ≡ Some payloads)
+        → Rewrites H.told journal
+        (Some (written_change (all_of
+        (lifted (page_of journal payloads) (below 65536 places.now.entries) ++ puts.now)) ∷ []))
+        result (H.outside host.old) (H.outside host.new) }
     ensures places { IfOk result (λ after. after.end ≡ first_place after + 5 + (4 + 516 * live)) }
 {
     let mut draft = begin_alone(journal, host, 4 + 516 * u32::from(live))?;

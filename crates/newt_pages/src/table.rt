@@ -19,13 +19,15 @@ use newt_pagelog::Table;
 /// The bytes of a put in a record: the number of the page, and the page.
 pub(crate) const PUT: u32 = 516;
 
-/// How far behind the beginning of a record its first page stands: behind a gate, a length, two counts and a number.
+/// How far behind the beginning of a record its first page stands: behind a gate, a length, two
+/// counts and a number.
 pub(crate) const FIRST_PAGE: u32 = 13;
 
 // Notes where a page stands. There is room for it.
 fn place_page(places: &mut Table<u32>, number: u32, at: u32)
     requires { 0 < hash.spare places.old }
-    ensures updates { (q : ℕ) → lookup (nat_eq q) places.new.entries ≡ cond (nat_eq number q) (Some at) (lookup (nat_eq q) places.old.entries) }
+    ensures updates { (q : ℕ) → lookup (nat_eq q) places.new.entries
+        ≡ cond (nat_eq number q) (Some at) (lookup (nat_eq q) places.old.entries) }
     ensures spare { hash.spare places.old ≤ hash.spare places.new + 1 }
     ensures len { hash.hash_map_len places.new ≤ hash.hash_map_len places.old + 1 }
     ensures unique { hash.IsUnique nat_eq places.new }
@@ -36,15 +38,18 @@ fn place_page(places: &mut Table<u32>, number: u32, at: u32)
     }
 }
 
-/// Notes where pages stand that were put one behind the other, the first at this place. There is room for them.
+/// Notes where pages stand that were put one behind the other, the first at this place. There is
+/// room for them.
 pub(crate) fn place_puts(places: &mut Table<u32>, puts: &[(u32, Page)], first: u32)
     requires room { length puts.now ≤ hash.spare places.old }
     requires unique { hash.IsUnique nat_eq places.old }
     requires near { first + 516 * length puts.now < 2 ^ 32 }
-    ensures pages { (page : ℕ → List ℕ) → StandAt page first puts.now
-        → (q : ℕ) → page_in (lifted page places.new.entries) q ≡ map.get (with_puts puts.now (map_of (lifted page places.old.entries))) q }
-    ensures placed { (j : Journal) → ArePlaced j places.old.entries → All (λ put. put.0 < 65536) puts.now → first_place j ≤ first → first + 516 * length puts.now ≤ j.end + 4
-        → ArePlaced j places.new.entries }
+    ensures pages { (page : ℕ → List ℕ) → StandAt page first puts.now → (q : ℕ)
+        → page_in (lifted page places.new.entries) q
+        ≡ map.get (with_puts puts.now (map_of (lifted page places.old.entries))) q }
+    ensures placed { (j : Journal) → ArePlaced j places.old.entries
+        → All (λ put. put.0 < 65536) puts.now → first_place j ≤ first
+        → first + 516 * length puts.now ≤ j.end + 4 → ArePlaced j places.new.entries }
     ensures len { hash.hash_map_len places.new ≤ hash.hash_map_len places.old + length puts.now }
     ensures unique { hash.IsUnique nat_eq places.new }
 {
@@ -58,7 +63,8 @@ pub(crate) fn place_puts(places: &mut Table<u32>, puts: &[(u32, Page)], first: u
 /// Forgets the places of these numbers.
 pub(crate) fn remove_numbers(places: &mut Table<u32>, numbers: &[u32])
     requires { hash.IsUnique nat_eq places.old }
-    ensures updates { (q : ℕ) → lookup (nat_eq q) places.new.entries ≡ cond (list_any (λ n. q == n) numbers.now) None (lookup (nat_eq q) places.old.entries) }
+    ensures updates { (q : ℕ) → lookup (nat_eq q) places.new.entries
+        ≡ cond (list_any (λ n. q == n) numbers.now) None (lookup (nat_eq q) places.old.entries) }
     ensures spare { hash.spare places.old ≤ hash.spare places.new }
     ensures len { hash.hash_map_len places.new ≤ hash.hash_map_len places.old }
     ensures unique { hash.IsUnique nat_eq places.new }
@@ -71,7 +77,8 @@ pub(crate) fn remove_numbers(places: &mut Table<u32>, numbers: &[u32])
 /// Forgets the places of the numbers of these puts.
 pub(crate) fn remove_puts(places: &mut Table<u32>, puts: &[(u32, Page)])
     requires { hash.IsUnique nat_eq places.old }
-    ensures updates { (q : ℕ) → lookup (nat_eq q) places.new.entries ≡ cond (list_any (λ put. q == put.0) puts.now) None (lookup (nat_eq q) places.old.entries) }
+    ensures updates { (q : ℕ) → lookup (nat_eq q) places.new.entries
+        ≡ cond (list_any (λ put. q == put.0) puts.now) None (lookup (nat_eq q) places.old.entries) }
     ensures spare { hash.spare places.old ≤ hash.spare places.new }
     ensures len { hash.hash_map_len places.new ≤ hash.hash_map_len places.old }
     ensures unique { hash.IsUnique nat_eq places.new }
@@ -81,14 +88,19 @@ pub(crate) fn remove_puts(places: &mut Table<u32>, puts: &[(u32, Page)])
     }
 }
 
-/// Takes over a batch whose pages were put one behind the other, the first at this place. There is room for them.
+/// Takes over a batch whose pages were put one behind the other, the first at this place. There is
+/// room for them.
 pub(crate) fn apply(places: &mut Table<u32>, batch: &Batch, first: u32)
     requires room { length batch.now.puts ≤ hash.spare places.old }
     requires unique { hash.IsUnique nat_eq places.old }
     requires near { first + 516 * length batch.now.puts < 2 ^ 32 }
-    ensures pages { (page : ℕ → List ℕ) → StandAt page first batch.now.puts → map_of (lifted page places.new.entries) ≡ after batch.now (map_of (lifted page places.old.entries)) }
-    ensures numbers { numbers_in places.new.entries ≡ changed_numbers batch.now (numbers_in places.old.entries) }
-    ensures placed { (j : Journal) → ArePlaced j places.old.entries → first_place j ≤ first → first + 516 * length batch.now.puts ≤ j.end + 4 → ArePlaced j places.new.entries }
+    ensures pages { (page : ℕ → List ℕ) → StandAt page first batch.now.puts
+        → map_of (lifted page places.new.entries)
+        ≡ after batch.now (map_of (lifted page places.old.entries)) }
+    ensures numbers { numbers_in places.new.entries
+        ≡ changed_numbers batch.now (numbers_in places.old.entries) }
+    ensures placed { (j : Journal) → ArePlaced j places.old.entries → first_place j ≤ first
+        → first + 516 * length batch.now.puts ≤ j.end + 4 → ArePlaced j places.new.entries }
     ensures unique { hash.IsUnique nat_eq places.new }
 {
     place_puts(places, batch.puts(), first);
@@ -98,7 +110,8 @@ pub(crate) fn apply(places: &mut Table<u32>, batch: &Batch, first: u32)
 // Notes another place for the page of a number that has one.
 fn move_page(places: &mut Table<u32>, number: u32, at: u32)
     requires { is_kept places.old.entries number ≡ true }
-    ensures updates { (q : ℕ) → lookup (nat_eq q) places.new.entries ≡ cond (nat_eq number q) (Some at) (lookup (nat_eq q) places.old.entries) }
+    ensures updates { (q : ℕ) → lookup (nat_eq q) places.new.entries
+        ≡ cond (nat_eq number q) (Some at) (lookup (nat_eq q) places.old.entries) }
     ensures spare { hash.spare places.new ≡ hash.spare places.old }
     ensures len { hash.hash_map_len places.new ≡ hash.hash_map_len places.old }
     ensures unique { hash.IsUnique nat_eq places.new }
@@ -109,14 +122,19 @@ fn move_page(places: &mut Table<u32>, number: u32, at: u32)
     }
 }
 
-/// Notes that all pages stand one behind the other, in the order of their numbers, the first at this place. Answers the place behind the last.
+/// Notes that all pages stand one behind the other, in the order of their numbers, the first at
+/// this place. Answers the place behind the last.
 pub(crate) fn move_pages(places: &mut Table<u32>, first: u32) -> u32
     requires unique { hash.IsUnique nat_eq places.old }
     requires near { first + 516 * length (below 65536 places.old.entries) < 2 ^ 32 }
     ensures next { result ≡ first + 516 * length (below 65536 places.old.entries) }
-    ensures moved { (old new : ℕ → List ℕ) → StandAt new first (lifted old (below 65536 places.old.entries)) → (q : ℕ) → q < 65536 → page_in (lifted new places.new.entries) q ≡ page_in (lifted old places.old.entries) q }
+    ensures moved { (old new : ℕ → List ℕ) → StandAt new first
+        (lifted old (below 65536 places.old.entries)) → (q : ℕ) → q < 65536
+        → page_in (lifted new places.new.entries) q ≡ page_in (lifted old places.old.entries) q }
     ensures kept { (q : ℕ) → is_kept places.new.entries q ≡ is_kept places.old.entries q }
-    ensures placed { (j : Journal) → first_place j ≤ first → first + 516 * length (below 65536 places.old.entries) ≤ j.end + 4 → (q at : ℕ) → q < 65536 → lookup (nat_eq q) places.new.entries ≡ Some at → IsPlaced j q at }
+    ensures placed { (j : Journal) → first_place j ≤ first
+        → first + 516 * length (below 65536 places.old.entries) ≤ j.end + 4 → (q at : ℕ) → q < 65536
+        → lookup (nat_eq q) places.new.entries ≡ Some at → IsPlaced j q at }
     ensures spare { hash.spare places.new ≡ hash.spare places.old }
     ensures len { hash.hash_map_len places.new ≡ hash.hash_map_len places.old }
     ensures unique { hash.IsUnique nat_eq places.new }

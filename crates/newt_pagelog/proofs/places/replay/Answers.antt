@@ -77,7 +77,7 @@ pub returns-in_err-replay_record-clause-looks : goal.returns-in_err-replay_recor
 returns-in_err-replay_record-clause-looks g c =
     let o = g.H.Host.outside in
     let u = c.args.journal.now.unit in
-    looks-append u (o c.args.host.now) (o c.walk.new.host) (o c.replay_record.new.host) (looks-append u (o c.args.host.now) (o c.loop-places.host) (o c.walk.new.host) c.loop-places.invariant.looks (looks-spent u 4 (o c.loop-places.host) (o c.walk.new.host) c.walk.ensures.reads.moment c.walk.ensures.reads.alone c.walk.ensures.reads.costs)) c.replay_record.ensures.looks
+    looks-append u (o c.args.host.now) (o c.walk.new.host) (o c.replay_record.new.host) (looks-append u (o c.args.host.now) (o c.loop-places.host) (o c.walk.new.host) c.loop-places.invariant.looks (looks-spent u 4 (o c.loop-places.host) (o c.walk.new.host) c.walk.ensures.reads.moment c.walk.ensures.reads.alone c.walk.ensures.reads.costs)) c.replay_record.ensures.reads.looks
 
 pub returns-in_err-replay_record-clause-cause : goal.returns-in_err-replay_record-clause-cause
 returns-in_err-replay_record-clause-cause g c = λ bad.
@@ -85,7 +85,7 @@ returns-in_err-replay_record-clause-cause g c = λ bad.
     let u = c.args.journal.now.unit in
     let before = looks-append u (o c.args.host.now) (o c.loop-places.host) (o c.walk.new.host) c.loop-places.invariant.looks (looks-spent u 4 (o c.loop-places.host) (o c.walk.new.host) c.walk.ensures.reads.moment c.walk.ensures.reads.alone c.walk.ensures.reads.costs) in
     rose-over u u (o c.args.host.now) (o c.walk.new.host) (o c.replay_record.new.host) refl before.alone
-    (c.in_err-replay_record.ensures.cause (ap Err (same-err c.from_residual-in_err-replay_record.result c.in_err-replay_record.field-0.0 Device c.from_residual-in_err-replay_record.ensures.1 bad)))
+    (c.in_err-replay_record.ensures.reads.cause (ap Err (same-err c.from_residual-in_err-replay_record.result c.in_err-replay_record.field-0.0 Device c.from_residual-in_err-replay_record.ensures.1 bad)))
 
 pub returns-then-not-branch-clause-not_store : goal.returns-then-not-branch-clause-not_store
 returns-then-not-branch-clause-not_store g c = λ _ tells.
@@ -106,7 +106,7 @@ pub returns-then-not-branch-clause-looks : goal.returns-then-not-branch-clause-l
 returns-then-not-branch-clause-looks g c =
     let o = g.H.Host.outside in
     let u = c.args.journal.now.unit in
-    looks-append u (o c.args.host.now) (o c.walk.new.host) (o c.replay_record.new.host) (looks-append u (o c.args.host.now) (o c.loop-places.host) (o c.walk.new.host) c.loop-places.invariant.looks (looks-spent u 4 (o c.loop-places.host) (o c.walk.new.host) c.walk.ensures.reads.moment c.walk.ensures.reads.alone c.walk.ensures.reads.costs)) c.replay_record.ensures.looks
+    looks-append u (o c.args.host.now) (o c.walk.new.host) (o c.replay_record.new.host) (looks-append u (o c.args.host.now) (o c.loop-places.host) (o c.walk.new.host) c.loop-places.invariant.looks (looks-spent u 4 (o c.loop-places.host) (o c.walk.new.host) c.walk.ensures.reads.moment c.walk.ensures.reads.alone c.walk.ensures.reads.costs)) c.replay_record.ensures.reads.looks
 
 pub loop-places-smaller : goal.loop-places-smaller
 loop-places-smaller g c = let inside = if_some _ c.in_ok-found.field-0 c.in-Some.found c.in-Some.is c.in_ok-found.ensures.inside in omega (arith, inside.0, inside.1, inside.2)
@@ -126,7 +126,7 @@ loop-places-preserved g c =
     record {
       low = omega (arith, inv.low, inside.0, inside.1);
       high = inside.2;
-      looks = looks-append u (o c.args.host.now) (o c.walk.new.host) (o c.replay_record.new.host) (looks-append u (o c.args.host.now) (o c.loop-places.host) (o c.walk.new.host) inv.looks (looks-spent u 4 (o c.loop-places.host) (o c.walk.new.host) c.walk.ensures.reads.moment c.walk.ensures.reads.alone c.walk.ensures.reads.costs)) c.replay_record.ensures.looks;
+      looks = looks-append u (o c.args.host.now) (o c.walk.new.host) (o c.replay_record.new.host) (looks-append u (o c.args.host.now) (o c.loop-places.host) (o c.walk.new.host) inv.looks (looks-spent u 4 (o c.loop-places.host) (o c.walk.new.host) c.walk.ensures.reads.moment c.walk.ensures.reads.alone c.walk.ensures.reads.costs)) c.replay_record.ensures.reads.looks;
       place = λ tells. subst (λ (l : List ℕ). IsPlace j f.next l) low (if_some _ c.in_ok-found.field-0 f c.in-Some.is (c.in_ok-found.ensures.next tells));
       unique = e.unique;
       placed = e.placed;

@@ -1,4 +1,4 @@
-use Rattle.std.proofs.Common.{◌≡◌, ℕ, ◌+◌, ◌*◌, ◌≤◌, nat_eq, List, [], length, take, drop, Err, refl, sym, ◌∙◌, ap, subst, arith}
+use Rattle.std.proofs.Common.{◌≡◌, ℕ, ◌+◌, ◌*◌, ◌≤◌, nat_eq, List, [], length, take, drop, Err, refl, sym, ◌∙◌, ap, subst, arith, rules}
 use Rattle.std.specs.HashSet.{contains}
 use Rattle.std.specs.Option.{is_some}
 use Rattle.newt_pagebook.specs.declared.book.BookFault.TheVariants.{Device}
@@ -25,18 +25,23 @@ loop-i-init g c = record {
 pub next_number-requires-clause-stands : goal.next_number-requires-clause-stands
 next_number-requires-clause-stands g c = looks-stands g.H.Host.told c.args.journal.now (g.H.Host.outside c.args.host.now) (g.H.Host.outside c.loop-i.host) c.loop-i.invariant.looks c.requires.stands
 
-pub returns-in_err-number-clause-looks : goal.returns-in_err-number-clause-looks
-returns-in_err-number-clause-looks g c = let o = g.H.Host.outside in looks-append c.args.journal.now.unit (o c.args.host.now) (o c.loop-i.host) (o c.next_number.new.host) c.loop-i.invariant.looks c.next_number.ensures.looks
+pub returns-in_err-number-clause-reads : goal.returns-in_err-number-clause-reads
+returns-in_err-number-clause-reads g c = record {
+  looks = let o = g.H.Host.outside in looks-append c.args.journal.now.unit (o c.args.host.now) (o c.loop-i.host) (o c.next_number.new.host) c.loop-i.invariant.looks c.next_number.ensures.reads.looks;
+  no_other = search rules;
+  cause = λ bad.
+      let o = g.H.Host.outside in
+      let u = c.args.journal.now.unit in
+      rose-over u u (o c.args.host.now) (o c.loop-i.host) (o c.next_number.new.host) refl c.loop-i.invariant.looks.alone
+      (c.in_err-number.ensures.reads.cause (ap Err (same-err c.from_residual.result c.in_err-number.field-0.0 Device c.from_residual.ensures.1 bad)));
+}
 
-pub returns-in_err-number-clause-cause : goal.returns-in_err-number-clause-cause
-returns-in_err-number-clause-cause g c = λ bad.
-    let o = g.H.Host.outside in
-    let u = c.args.journal.now.unit in
-    rose-over u u (o c.args.host.now) (o c.loop-i.host) (o c.next_number.new.host) refl c.loop-i.invariant.looks.alone
-    (c.in_err-number.ensures.cause (ap Err (same-err c.from_residual.result c.in_err-number.field-0.0 Device c.from_residual.ensures.1 bad)))
-
-pub returns-in_err-insert-in-Some-clause-looks : goal.returns-in_err-insert-in-Some-clause-looks
-returns-in_err-insert-in-Some-clause-looks g c = let o = g.H.Host.outside in looks-append c.args.journal.now.unit (o c.args.host.now) (o c.loop-i.host) (o c.next_number.new.host) c.loop-i.invariant.looks c.next_number.ensures.looks
+pub returns-in_err-insert-in-Some-clause-reads : goal.returns-in_err-insert-in-Some-clause-reads
+returns-in_err-insert-in-Some-clause-reads g c = record {
+  looks = let o = g.H.Host.outside in looks-append c.args.journal.now.unit (o c.args.host.now) (o c.loop-i.host) (o c.next_number.new.host) c.loop-i.invariant.looks c.next_number.ensures.reads.looks;
+  no_other = search rules;
+  cause = search rules;
+}
 
 pub returns-in-None-clause-bad : goal.returns-in-None-clause-bad
 returns-in-None-clause-bad g c = λ tells _.
@@ -64,8 +69,12 @@ returns-in-None-clause-placed g c = c.loop-i.invariant.placed
 pub returns-in-None-clause-len : goal.returns-in-None-clause-len
 returns-in-None-clause-len g c = omega (arith, c.loop-i.invariant.len, c.loop-i-test.true)
 
-pub returns-in-None-clause-looks : goal.returns-in-None-clause-looks
-returns-in-None-clause-looks g c = let o = g.H.Host.outside in looks-append c.args.journal.now.unit (o c.args.host.now) (o c.loop-i.host) (o c.next_number.new.host) c.loop-i.invariant.looks c.next_number.ensures.looks
+pub returns-in-None-clause-reads : goal.returns-in-None-clause-reads
+returns-in-None-clause-reads g c = record {
+  looks = let o = g.H.Host.outside in looks-append c.args.journal.now.unit (o c.args.host.now) (o c.loop-i.host) (o c.next_number.new.host) c.loop-i.invariant.looks c.next_number.ensures.reads.looks;
+  no_other = search rules;
+  cause = search rules;
+}
 
 pub loop-i-preserved : goal.loop-i-preserved
 loop-i-preserved g c =
@@ -79,7 +88,7 @@ loop-i-preserved g c =
     let updates = c.in_ok-insert-in-Some.ensures.updates.0 in
     let taken = if_some _ c.in_ok-number.field-0 n c.in-Some.is c.in_ok-number.ensures.taken in
     record {
-      looks = looks-append u (o c.args.host.now) (o c.loop-i.host) (o c.next_number.new.host) inv.looks c.next_number.ensures.looks;
+      looks = looks-append u (o c.args.host.now) (o c.loop-i.host) (o c.next_number.new.host) inv.looks c.next_number.ensures.reads.looks;
       unique = c.insert.ensures.unique;
       placed = placed-put j c.loop-i.places.entries c.insert.new.self.entries n (at + 4) inv.placed
           (record { small = taken.small; low = omega (arith, c.requires.low); high = omega (arith, c.requires.inside, c.requires.high, c.loop-i-test.true) }) updates;
@@ -112,5 +121,9 @@ returns-clause-placed g c = c.loop-i.invariant.placed
 pub returns-clause-len : goal.returns-clause-len
 returns-clause-len g c = omega (arith, c.loop-i.invariant.len, c.loop-i-test.false, c.loop-i.auto.i-end)
 
-pub returns-clause-looks : goal.returns-clause-looks
-returns-clause-looks g c = c.loop-i.invariant.looks
+pub returns-clause-reads : goal.returns-clause-reads
+returns-clause-reads g c = record {
+  looks = c.loop-i.invariant.looks;
+  no_other = search rules;
+  cause = search rules;
+}

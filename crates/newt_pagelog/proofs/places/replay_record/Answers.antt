@@ -1,10 +1,11 @@
-use Rattle.std.proofs.Common.{◌≡◌, ℕ, ◌+◌, ◌*◌, nat_eq, false, List, [], length, take, drop, sym, ◌∙◌, ap, subst, arith}
+use Rattle.std.proofs.Common.{◌≡◌, ℕ, ◌+◌, ◌*◌, nat_eq, false, List, [], length, take, drop, sym, ◌∙◌, ap, subst, arith, refl}
 use Rattle.std.specs.HashSet.{contains}
 use Rattle.std.proofs.lemmas.Result.{IfOk-weaker}
 use Rattle.newt_host.specs.Moments.{image}
 use Rattle.newt_spec_image.specs.Pages.{Change, short_at, puts_from, said_by, is_change}
 use Rattle.newt_pagelog.specs.Placed.{Replayed}
-use Rattle.newt_pagelog.proofs.Placing.{looks-image, held-inside, length-piece, length-short, counts-there, bad-length, no_change_in, replayed-says}
+use Rattle.newt_pagelog.proofs.Failing.{rose-over}
+use Rattle.newt_pagelog.proofs.Placing.{looks-image, held-inside, length-piece, length-short, counts-there, bad-length, no_change_in, replayed-says, looks-append}
 use Rattle.newt_pagelog.proofs.places.replay_record.Goals as goal
 
 pub returns-then-found-lt4-clause-bad : goal.returns-then-found-lt4-clause-bad
@@ -48,7 +49,7 @@ replay_deletes-requires-clause-counts g c = λ tells.
     let img = image u (o c.args.host.now).now in
     let first = looks-image u (o c.args.host.now) (o c.read_short.new.host) c.read_short.ensures.looks in
     let both = looks-image u (o c.read_short.new.host) (o c.read_short-2.new.host) c.read_short-2.ensures.looks ∙ first in
-    let all = looks-image u (o c.read_short-2.new.host) (o c.replay_puts.new.host) c.replay_puts.ensures.looks ∙ both in
+    let all = looks-image u (o c.read_short-2.new.host) (o c.replay_puts.new.host) c.replay_puts.ensures.reads.looks ∙ both in
     let second = c.from-deletes.ensures ∙ c.in_ok-read_short-2.ensures.short tells ∙ ap (λ (l : List ℕ). short_at (at + 2) l) first in
     subst (λ (l : List ℕ). (c.from-puts.result ≡ short_at 0 (take len (drop at l))) × (c.from-deletes.result ≡ short_at 2 (take len (drop at l)))) (sym all)
     (counts-there img at len c.from-puts.result c.from-deletes.result (omega (arith, c.if-found-lt4.false)) (c.from-puts.ensures ∙ c.in_ok-read_short.ensures.short tells) second)
@@ -66,7 +67,7 @@ returns-clause-read g c = λ tells.
     let last : List ℕ = image u (o c.replay_puts.new.host).now in
     let first = looks-image u (o c.args.host.now) (o c.read_short.new.host) c.read_short.ensures.looks in
     let both : mid ≡ img = looks-image u (o c.read_short.new.host) (o c.read_short-2.new.host) c.read_short-2.ensures.looks ∙ first in
-    let more : last ≡ mid = looks-image u (o c.read_short-2.new.host) (o c.replay_puts.new.host) c.replay_puts.ensures.looks in
+    let more : last ≡ mid = looks-image u (o c.read_short-2.new.host) (o c.replay_puts.new.host) c.replay_puts.ensures.reads.looks in
     let second = c.from-deletes.ensures ∙ c.in_ok-read_short-2.ensures.short tells ∙ ap (λ (l : List ℕ). short_at (at + 2) l) first in
     let counts = counts-there img at len c.from-puts.result c.from-deletes.result (omega (arith, c.if-found-lt4.false)) (c.from-puts.ensures ∙ c.in_ok-read_short.ensures.short tells) second in
     let size = length-piece img at len (omega (arith, c.requires.high, held-inside told j (o c.args.host.now) c.requires.stands tells)) in
@@ -90,7 +91,7 @@ returns-clause-bad g c = λ tells.
     let last : List ℕ = image u (o c.replay_puts.new.host).now in
     let first = looks-image u (o c.args.host.now) (o c.read_short.new.host) c.read_short.ensures.looks in
     let both : mid ≡ img = looks-image u (o c.read_short.new.host) (o c.read_short-2.new.host) c.read_short-2.ensures.looks ∙ first in
-    let more : last ≡ mid = looks-image u (o c.read_short-2.new.host) (o c.replay_puts.new.host) c.replay_puts.ensures.looks in
+    let more : last ≡ mid = looks-image u (o c.read_short-2.new.host) (o c.replay_puts.new.host) c.replay_puts.ensures.reads.looks in
     let puts : Change = record { puts = puts_from c.from-puts.result (drop 4 (take len (drop at mid))); deletes = [] } in
     let read : Replayed mid puts c.args.places.now.entries c.replay_puts.new.places.entries (contains nat_eq c.replay_puts.new.seen) = c.in_ok-replay_puts.ensures.read tells c.if-not-branch.false in
     let again : Replayed last (record { puts = puts_from c.from-puts.result (drop 4 (take len (drop at last))); deletes = [] }) c.args.places.now.entries c.replay_puts.new.places.entries (contains nat_eq c.replay_puts.new.seen) =
@@ -98,3 +99,19 @@ returns-clause-bad g c = λ tells.
     IfOk-weaker c.replay_deletes.result _ _ (λ good f no. no_change_in (take len (drop at img))
     (subst (λ (l : List ℕ). is_change (take len (drop at l)) ≡ false) (more ∙ both) (f no)))
     (c.replay_deletes.ensures.bad c.args.places.now.entries tells again)
+
+pub returns-clause-reads : goal.returns-clause-reads
+returns-clause-reads g c =
+    let o = g.H.Host.outside in
+    let u = c.args.journal.now.unit in
+    let a = o c.args.host.now in
+    let mid = o c.read_short-2.new.host in
+    let last = o c.replay_puts.new.host in
+    let counts = looks-append u a (o c.read_short.new.host) mid c.read_short.ensures.looks c.read_short-2.ensures.looks in
+    let before = looks-append u a mid last counts c.replay_puts.ensures.reads.looks in
+    let e = c.replay_deletes.ensures.reads in
+    record {
+      looks = looks-append u a last (o c.replay_deletes.new.host) before e.looks;
+      no_other = e.no_other;
+      cause = λ bad. rose-over u u a last (o c.replay_deletes.new.host) refl before.alone (e.cause bad);
+    }

@@ -36,7 +36,7 @@ loop-number-preserved g c =
     let inv = c.loop-number.invariant in
     let e = c.in_ok-read_number.ensures in
     record {
-      looks = looks-append u (o c.args.host.now) (o c.loop-number.host) (o c.read_number.new.host) inv.looks c.read_number.ensures.looks;
+      looks = looks-append u (o c.args.host.now) (o c.loop-number.host) (o c.read_number.new.host) inv.looks c.read_number.ensures.reads.looks;
       unique = e.unique;
       above = λ q low. e.others q (equal_false n q (λ is. omega (arith, is, low))) ∙ inv.above q (omega (arith, low));
       kept = λ q low. ⊎_elim

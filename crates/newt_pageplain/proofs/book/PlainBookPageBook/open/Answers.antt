@@ -4,7 +4,8 @@ use Rattle.newt_spec_image.specs.Pages.{pages}
 use Rattle.newt_pagebook.specs.declared.book.BookFault.TheVariants.{Device, NotStore}
 use Rattle.newt_pagelog.specs.Kept.{map_of}
 use Rattle.newt_pagelog.proofs.Failing.{no-value, same-err, not-err, rose-over}
-use Rattle.newt_pagelog.proofs.Replaying.{looks-two, stands-on}
+use Rattle.newt_pagelog.proofs.Placing.{looks-two}
+use Rattle.newt_pagelog.proofs.Replaying.{stands-on}
 use Rattle.newt_pageplain.proofs.book.PlainBookPageBook.open.Goals as goal
 
 pub returns-in_err-journal : goal.returns-in_err-journal
