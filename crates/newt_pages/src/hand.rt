@@ -1,8 +1,8 @@
 // The page at hand.
-ghost use Rattle.std.specs.Prelude.{IsTrue, ◌≡◌, ◌≤◌, ◌+◌, ℕ, List, [], Some, IsSome, IfOk, OnErr};
+ghost use Rattle.std.specs.Prelude.{IsTrue, ◌≡◌, ◌≤◌, ◌+◌, ℕ, List, [], Some, IsSome, IfOk};
 ghost use Rattle.newt_host.specs.Moments.{image};
-ghost use Rattle.newt_host.specs.Outside.{Touches, Spends, Rose};
 ghost use Rattle.newt_spec_image.specs.Records.{records};
+ghost use Rattle.newt_journal.specs.Calls.{Reads};
 ghost use Rattle.newt_journal.specs.Journal.{Stands};
 ghost use Rattle.newt_journal.specs.Places.{first_place};
 ghost use Rattle.newt_pagelog.specs.Placed.{page_of};
@@ -46,13 +46,9 @@ pub(crate) fn bring<H: Host>(
         → shown_in cache.new.entries spare.new hand ≡ Some (page_of journal.now payloads at)) }
     ensures caches { IsTrue H.told → EachIsPageAtPlace journal.now
         (image journal.now.unit (H.outside host.old).now) cache.new.entries }
-    ensures moment { (H.outside host.new).now ≡ (H.outside host.old).now }
-    ensures alone { Touches journal.now.unit (H.outside host.old) (H.outside host.new) }
     // for a page that is cached nothing is fetched
-    ensures costs { Spends journal.now.unit 0 (bytes_fetched at cache.old.entries)
+    ensures reads { Reads journal.now.unit (bytes_fetched at cache.old.entries) result
         (H.outside host.old) (H.outside host.new) }
-    ensures cause { OnErr result (Rose ((H.outside host.old).dev_faults journal.now.unit)
-        ((H.outside host.new).dev_faults journal.now.unit)) }
 {
     if cache.promote(&at) {
         return Ok(AtHand::Cached(at));

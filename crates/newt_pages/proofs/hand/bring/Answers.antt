@@ -1,4 +1,4 @@
-use Rattle.std.proofs.Common.{◌≡◌, ℕ, ◌+◌, ◌≤◌, List, Contains, Some, nat_eq, sym, ◌∙◌, ap, subst, ⊎_elim}
+use Rattle.std.proofs.Common.{◌≡◌, ℕ, ◌+◌, ◌≤◌, List, Contains, Some, nat_eq, sym, ◌∙◌, ap, subst, ⊎_elim, rules}
 use Rattle.std.specs.Map.{lookup}
 use Rattle.std.specs.Option.{is_some}
 use Rattle.newt_host.specs.Moments.{image}
@@ -32,10 +32,15 @@ returns-in_err-read_at-clause-caches g c = λ tells.
     let img = image c.args.journal.now.unit (g.H.Host.outside c.args.host.now).now in
     cached-promoted c.args.journal.now img (nat_eq c.args.at) c.args.cache.now.entries c.promote.new.self.entries (ap (λ (k : LruCache ℕ (List ℕ)). k.entries) c.promote.ensures.entries) (c.requires.caches tells)
 
-pub returns-in_err-read_at-clause-costs : goal.returns-in_err-read_at-clause-costs
-returns-in_err-read_at-clause-costs g c =
-    let o = g.H.Host.outside in
-    fetch-costs c.args.journal.now.unit _ c.args.at c.args.cache.now.entries (o c.args.host.now) (o c.read_at.new.host) (sym c.promote.ensures.value ∙ c.if-promote.false) c.told-spare c.read_at.ensures.reads.costs
+pub returns-in_err-read_at-clause-reads : goal.returns-in_err-read_at-clause-reads
+returns-in_err-read_at-clause-reads g c = record {
+  moment = c.read_at.ensures.reads.moment;
+  alone = c.read_at.ensures.reads.alone;
+  costs =
+      let o = g.H.Host.outside in
+      fetch-costs c.args.journal.now.unit _ c.args.at c.args.cache.now.entries (o c.args.host.now) (o c.read_at.new.host) (sym c.promote.ensures.value ∙ c.if-promote.false) c.told-spare c.read_at.ensures.reads.costs;
+  cause = search rules;
+}
 
 pub returns-in-Ok-clause-found : goal.returns-in-Ok-clause-found
 returns-in-Ok-clause-found g c = ap is_some (put-found c.promote.new.self c.put.new.self c.args.at c.read_at.new.buf c.in-Ok.ensures.entries)
@@ -58,17 +63,27 @@ returns-in-Ok-clause-caches g c = λ tells payloads is e there.
     })
     (put-cached c.promote.new.self c.put.new.self c.args.at c.read_at.new.buf c.in-Ok.ensures.entries e there)
 
-pub returns-in-Ok-clause-costs : goal.returns-in-Ok-clause-costs
-returns-in-Ok-clause-costs g c =
-    let o = g.H.Host.outside in
-    fetch-costs c.args.journal.now.unit _ c.args.at c.args.cache.now.entries (o c.args.host.now) (o c.read_at.new.host) (sym c.promote.ensures.value ∙ c.if-promote.false) c.told-spare c.read_at.ensures.reads.costs
+pub returns-in-Ok-clause-reads : goal.returns-in-Ok-clause-reads
+returns-in-Ok-clause-reads g c = record {
+  moment = c.read_at.ensures.reads.moment;
+  alone = c.read_at.ensures.reads.alone;
+  costs =
+      let o = g.H.Host.outside in
+      fetch-costs c.args.journal.now.unit _ c.args.at c.args.cache.now.entries (o c.args.host.now) (o c.read_at.new.host) (sym c.promote.ensures.value ∙ c.if-promote.false) c.told-spare c.read_at.ensures.reads.costs;
+  cause = search rules;
+}
 
 pub returns-in-Err-clause-caches : goal.returns-in-Err-clause-caches
 returns-in-Err-clause-caches g c = λ tells.
     let img = image c.args.journal.now.unit (g.H.Host.outside c.args.host.now).now in
     cached-promoted c.args.journal.now img (nat_eq c.args.at) c.args.cache.now.entries c.put.new.self.entries (ap (λ (k : LruCache ℕ (List ℕ)). k.entries) (c.in-Err.ensures.err ∙ c.promote.ensures.entries)) (c.requires.caches tells)
 
-pub returns-in-Err-clause-costs : goal.returns-in-Err-clause-costs
-returns-in-Err-clause-costs g c =
-    let o = g.H.Host.outside in
-    fetch-costs c.args.journal.now.unit _ c.args.at c.args.cache.now.entries (o c.args.host.now) (o c.read_at.new.host) (sym c.promote.ensures.value ∙ c.if-promote.false) c.told-spare c.read_at.ensures.reads.costs
+pub returns-in-Err-clause-reads : goal.returns-in-Err-clause-reads
+returns-in-Err-clause-reads g c = record {
+  moment = c.read_at.ensures.reads.moment;
+  alone = c.read_at.ensures.reads.alone;
+  costs =
+      let o = g.H.Host.outside in
+      fetch-costs c.args.journal.now.unit _ c.args.at c.args.cache.now.entries (o c.args.host.now) (o c.read_at.new.host) (sym c.promote.ensures.value ∙ c.if-promote.false) c.told-spare c.read_at.ensures.reads.costs;
+  cause = search rules;
+}

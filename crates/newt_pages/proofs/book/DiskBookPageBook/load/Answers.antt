@@ -24,14 +24,14 @@ returns-in_err-self-in-Some-journal-clause-book g c =
     let o = g.H.Host.outside in
     let b = c.args.self.now in
     let e = c.bring.ensures in
-    stands-brought g.H.Host.told b.unit b.journal b.places.entries b.cache.entries (o c.args.host.now) c.requires.book c.in-Some-journal.journal c.in-Some-journal.is c.bring.new.cache.entries (o c.bring.new.host) e.moment e.alone e.caches
+    stands-brought g.H.Host.told b.unit b.journal b.places.entries b.cache.entries (o c.args.host.now) c.requires.book c.in-Some-journal.journal c.in-Some-journal.is c.bring.new.cache.entries (o c.bring.new.host) e.reads.moment e.reads.alone e.caches
 
 pub returns-clause-book : goal.returns-clause-book
 returns-clause-book g c =
     let o = g.H.Host.outside in
     let b = c.args.self.now in
     let e = c.bring.ensures in
-    stands-brought g.H.Host.told b.unit b.journal b.places.entries b.cache.entries (o c.args.host.now) c.requires.book c.in-Some-journal.journal c.in-Some-journal.is c.bring.new.cache.entries (o c.bring.new.host) e.moment e.alone e.caches
+    stands-brought g.H.Host.told b.unit b.journal b.places.entries b.cache.entries (o c.args.host.now) c.requires.book c.in-Some-journal.journal c.in-Some-journal.is c.bring.new.cache.entries (o c.bring.new.host) e.reads.moment e.reads.alone e.caches
 
 pub returns-clause-shown : goal.returns-clause-shown
 returns-clause-shown g c =
