@@ -41,7 +41,9 @@ pub fn literal(alloc: Global, bytes: &[u8]) -> Result<Graph, LitFault>
 /// HEX: the bytes of the hexadecimal digits that are left of a line.
 fn last_digits(alloc: Global, words: &Words) -> Result<Vec<u8>, LineFault>
     ensures read { IfOk result (λ bytes. hex_bytes (rest_of words.now) ≡ Some bytes.items) }
-    ensures refused { result ≢ Err LineFault.Memory → IfErr result (λ fault. (fault ≡ LineFault.Refused Malformed) × (hex_bytes (rest_of words.now) ≡ None)) }
+    ensures refused { result ≢ Err LineFault.Memory
+        → IfErr result (λ fault.
+        (fault ≡ LineFault.Refused Malformed) × (hex_bytes (rest_of words.now) ≡ None)) }
 {
     match hex_read(alloc, words.rest()) {
         Ok(bytes) => Ok(bytes),

@@ -13,7 +13,8 @@ use std::alloc::Global;
 /// The command of the words behind the first one.
 #[tactic(auto, using(crate::proofs::Spoken::never_memory, crate::proofs::Spoken::soup_takes, crate::proofs::Spoken::entry_takes, crate::proofs::Spoken::transfer_takes))]
 pub fn row(alloc: Global, verb: Verb, words: &mut Words) -> Result<Command, LineFault>
-    ensures reading { result ≢ Err LineFault.Memory → result ≡ row_reading (word_of verb) words.old }
+    ensures reading { result ≢ Err LineFault.Memory
+        → result ≡ row_reading (word_of verb) words.old }
     ensures no_memory { is_memory_word (word_of verb) ≡ false → result ≢ Err LineFault.Memory }
 {
     match verb {

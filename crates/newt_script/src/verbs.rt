@@ -1,8 +1,10 @@
 //! The first words of commands, in one table.
 ghost use Rattle.std.specs.Prelude.{◌≡◌, bytes_eq};
 ghost use Rattle.std.specs.List.{find};
-ghost use Rattle.newt_script.specs.Verbs.{word_of, unit_word, soup_word, entry_word, transfer_word, cursor_word};
-ghost use Rattle.newt_script.specs.Verbs.{unit_command, soup_command, entry_command, transfer_command, cursor_command};
+ghost use Rattle.newt_script.specs.Verbs.{word_of, unit_word, soup_word, entry_word, transfer_word};
+ghost use Rattle.newt_script.specs.Verbs.{cursor_word};
+ghost use Rattle.newt_script.specs.Verbs.{unit_command, soup_command, entry_command};
+ghost use Rattle.newt_script.specs.Verbs.{transfer_command, cursor_command};
 
 use newt_base::{Name, Uid};
 use newt_host::Unit;

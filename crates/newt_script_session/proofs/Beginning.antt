@@ -1,12 +1,13 @@
 -- A run over the devices of names.
-use Rattle.std.proofs.Common.{◌≡◌, inl, inr, ℕ, zero, suc, ◌⊎◌, ◌+◌, ◌*◌, ◌/◌, ◌<◌, Bool, true, false, IsTrue, IsSome, List, [], ◌∷◌, ◌++◌, length, map, Option, Some, None, MatchOption, refl, sym, ◌∙◌, ap, subst, arith}
+use Rattle.std.proofs.Common.{◌≡◌, inl, inr, ℕ, zero, suc, ◌⊎◌, ◌+◌, ◌*◌, ◌/◌, ◌<◌, Bool, true, false, IsTrue, IsSome, List, [], ◌∷◌, ◌++◌, length, map, Option, Some, None, MatchOption, Result, OnOk, IfErr, refl, sym, ◌∙◌, ap, subst, arith}
 use Rattle.std.specs.Prelude.{slice_get, option_map, option_and_then}
 use Rattle.std.proofs.Math.Nat.{mul-div_cancel}
 use Rattle.std.proofs.lemmas.Bool.{cases_lt, false≢true}
 use Rattle.std.proofs.lemmas.Option.{slice_get-map}
 use Rattle.newt_host_attach.specs.Named.{AreAttached, if_known}
 use Rattle.newt_host_attach.proofs.Since.{since_attached}
-use Rattle.newt_host.specs.Meanings.{held, left_since, since}
+use Rattle.std.proofs.lemmas.Result.{on_ok_weaker}
+use Rattle.newt_host.specs.Meanings.{left_since, out_of, since}
 use Rattle.newt_host.specs.Moments.{Attached, Change, IsDurable, IsHistory, LeftBy, MayLeave, Moment, Always, here, later, bytes_after, changes, image, moment_at, output as printed}
 use Rattle.newt_host.specs.Outside.{Outside}
 use Rattle.newt_host.proofs.Extending.{extends-always}
@@ -18,10 +19,16 @@ use Rattle.newt_spec_store.specs.Store.{Store}
 use Rattle.newt_spec_world.specs.First.{media_of, unit_numbers, unit_of, world_of}
 use Rattle.newt_spec_world.specs.World.{World, Device, flat, first_world, store_of, store_on_unit}
 use Rattle.newt_script_session.specs.Causes.{NeverLess}
-use Rattle.newt_script_session.specs.Counted.{CountedAt, HasLeftCounted}
+use Rattle.newt_script_session.specs.Counted.{Counted, CountedAt, HasLeftCounted}
+use Rattle.newt_script_session.specs.Counts.{summary_of}
+use Rattle.newt_script_session.specs.Lines.{lines_of}
+use Rattle.newt_script_session.specs.Named.{CountedNamed, RanNamed, first}
+use Rattle.newt_script_session.specs.Run.{output, Halted, HaltedReply, IsReadThrough}
+use Rattle.newt_script_session.specs.Session.{Session}
+use Rattle.newt_script_session.specs.declared.halt.Halt.{Halt}
 use Rattle.newt_script_session.specs.First.{device_now, unmounted}
 use Rattle.newt_script_session.specs.Moments.{CrashAt, HasLeft, replies_begun, world_at}
-use Rattle.newt_script_session.specs.Script.{Answers}
+use Rattle.newt_script_session.specs.Script.{Answers, commands_of}
 use Rattle.newt_script_session.proofs.Crashing.{AtRest, at_rest, left_same}
 
 -- ---- the first world
@@ -131,7 +138,7 @@ module _ (names : List (List ℕ)) (old mid new : Outside) (a : AreAttached true
   ]
 
   -- at each moment since a unit was attached, by what holds of every host
-  pub seen_named : (Q : Moment → Type 0) → Always Q mid.now new.now
+  seen_named : (Q : Moment → Type 0) → Always Q mid.now new.now
       → ((unit : ℕ) → new.card unit ≡ mid.card unit) → ((unit : ℕ) → changes unit old.now ≡ []) → ((unit : ℕ) → new.card unit ≡ None → changes unit new.now ≡ [])
       → ((unit : ℕ) → IsSome (new.card unit) → IsHistory (new.blocks unit * 4096) (changes unit new.now))
       → (unit t : ℕ) (left shown : List ℕ) → since new unit ≡ Some t → left_since new t unit left shown → Seen Q unit left shown
@@ -155,7 +162,7 @@ module _ (names : List (List ℕ)) (old mid new : Outside) (a : AreAttached true
       is ∙ ap Some (sym same)
   between reads (Some store) N Q unit bytes left held is only b = b
 
-  pub has_left_counted : (answer : Answers) (reads : List ℕ → Option Store) (world : World) (items : List Item) (unit : ℕ) (left shown : List ℕ)
+  has_left_counted : (answer : Answers) (reads : List ℕ → Option Store) (world : World) (items : List Item) (unit : ℕ) (left shown : List ℕ)
       → Seen (CountedAt answer reads mid.now world items (printed mid.now)) unit left shown
       → HasLeftCounted answer reads world items (option_and_then old.devices (slice_get names unit)) (printed old.now) shown unit left
   has_left_counted answer reads world items unit left shown s =
@@ -170,7 +177,7 @@ module _ (names : List (List ℕ)) (old mid new : Outside) (a : AreAttached true
             (option_and_then old.devices (slice_get names unit)) s.held_is s.only (c.leaves unit left s.may);
       }
 
-  pub has_left : (answer : Answers) (reads : List ℕ → Option Store) (world : World) (items : List Item) (unit : ℕ) (left shown : List ℕ)
+  has_left : (answer : Answers) (reads : List ℕ → Option Store) (world : World) (items : List Item) (unit : ℕ) (left shown : List ℕ)
       → Seen (CrashAt answer reads mid.now world items (printed mid.now)) unit left shown
       → HasLeft answer reads world items (option_and_then old.devices (slice_get names unit)) (printed old.now) shown unit left
   has_left answer reads world items unit left shown s =
@@ -183,6 +190,37 @@ module _ (names : List (List ℕ)) (old mid new : Outside) (a : AreAttached true
         leaves = between reads (store_on_unit (world_at answer world items m) unit) (next ≡ None) (reads left ≡ next) unit s.bytes left
             (option_and_then old.devices (slice_get names unit)) s.held_is s.only (c.leaves unit left s.may);
       }
+
+  module _ (answer : Answers) (reads : List ℕ → Option Store) (cards : (unit : ℕ) → new.card unit ≡ mid.card unit) (fresh : (unit : ℕ) → changes unit old.now ≡ [])
+      (unknown : (unit : ℕ) → new.card unit ≡ None → changes unit new.now ≡ [])
+      (history : (unit : ℕ) → IsSome (new.card unit) → IsHistory (new.blocks unit * 4096) (changes unit new.now)) where
+    -- so it is said of a script from before the names were attached
+    pub named_ran : {T : Type 0} (limit : ℕ) (result : Result T Halt) → Session answer reads limit result (first reads names old) mid new → RanNamed answer reads limit result names old new
+    named_ran limit result s =
+        let w = first reads names old in
+        let Q : List ℕ → Type 0 = λ i. IfErr result (λ halt. Halted answer limit halt w i new.input (out_of mid) (out_of new)) in
+        let R : List ℕ → Type 0 = λ o. IfErr result (λ halt. Halted answer limit halt w old.input new.input o (out_of new)) in
+        let C : List ℕ → Type 0 = λ i. Always (CrashAt answer reads mid.now w (commands_of (lines_of i)) (printed mid.now)) mid.now new.now in
+        let items = commands_of (lines_of old.input) in
+        record {
+          out = on_ok_weaker result (λ put. put ∙ (ap (λ o. o ++ output answer w mid.input) (a.quiet refl) ∙ ap (λ i. out_of old ++ output answer w i) a.input)) s.out;
+          read = subst (λ (i : List ℕ). OnOk result (IsReadThrough limit i new.input)) a.input s.read;
+          halted = subst R (a.quiet refl) (subst Q a.input s.halted);
+          crash = λ unit t left shown at might. has_left answer reads w items unit left shown
+              (seen_named (CrashAt answer reads mid.now w items (printed mid.now)) (subst C a.input s.crash) cards fresh unknown history unit t left shown at might);
+        }
+
+    pub named_counted : {T : Type 0} (script : List ℕ) (result : Result T Halt) → Counted answer reads script result (first reads names old) mid new → CountedNamed answer reads script result names old new
+    named_counted script result s =
+        let w = first reads names old in
+        let R : List ℕ → Type 0 = λ o. IfErr result (λ halt. HaltedReply halt (summary_of answer w script) o (out_of new)) in
+        let items = commands_of (lines_of script) in
+        record {
+          out = on_ok_weaker result (λ put. put ∙ ap (λ o. o ++ summary_of answer w script) (a.quiet refl)) s.out;
+          halted = subst R (a.quiet refl) s.halted;
+          crash = λ unit t left shown at might. has_left_counted answer reads w items unit left shown
+              (seen_named (CountedAt answer reads mid.now w items (printed mid.now)) s.crash cards fresh unknown history unit t left shown at might);
+        }
 
 -- ---- where nothing has been done yet
 

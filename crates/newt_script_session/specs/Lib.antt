@@ -9,3 +9,4 @@ pub mod Session
 pub mod Counts
 pub mod Counted
 pub mod First
+pub mod Named

@@ -18,7 +18,8 @@ fn put_tally<H: Host>(alloc: Global, host: &mut H, tally: &Tally) -> Result<(), 
     ensures puts { IsTrue H.told → Puts result (lines_of_tally tally.now)
         (H.outside host.old).now (H.outside host.new).now }
     ensures devices { SameDevices H.told (H.outside host.old) (H.outside host.new) }
-    ensures cause { IfErr result (λ halt. HasSinkCause halt (H.outside host.old) (H.outside host.new)) }
+    ensures cause { IfErr result (λ halt.
+        HasSinkCause halt (H.outside host.old) (H.outside host.new)) }
     ensures keeps { Keeps (H.outside host.old) (H.outside host.new) }
 {
     let Ok(text) = tally.lines(alloc) else {
@@ -40,7 +41,8 @@ pub fn tally_script<H: Host, I: Interpreter>(
     requires { I.stands H.told interpreter.old (H.outside host.old) }
     ensures counted { IsTrue H.told → Counted I.answer I.store_of_image script.now result
         (I.world interpreter.old (H.outside host.old)) (H.outside host.old) (H.outside host.new) }
-    ensures cause { IfErr result (λ halt. HasWriteCause halt (H.outside host.old) (H.outside host.new)) }
+    ensures cause { IfErr result (λ halt.
+        HasWriteCause halt (H.outside host.old) (H.outside host.new)) }
     ensures keeps { Keeps (H.outside host.old) (H.outside host.new) }
 {
     let mut tally = Tally::new();

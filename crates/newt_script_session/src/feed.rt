@@ -2,7 +2,8 @@
 ghost use Rattle.std.specs.Prelude.{IsTrue, ◌≡◌, IfOk, OnOk, IfErr, MatchOption};
 ghost use Rattle.newt_script_session.specs.Answered.{Ran};
 ghost use Rattle.newt_script_session.specs.Causes.{flow_of, HasWriteCause, Keeps};
-ghost use Rattle.newt_script_session.specs.Lines.{BeginsWith, HasNoEnd, ended_lines, last_line, lines_of, unended};
+ghost use Rattle.newt_script_session.specs.Lines.{BeginsWith, HasNoEnd, ended_lines, last_line};
+ghost use Rattle.newt_script_session.specs.Lines.{lines_of, unended};
 ghost use Rattle.newt_script_session.specs.Script.{commands_of, has_quit};
 ghost use Rattle.newt_script_session.specs.declared.halt.Flow.TheVariants.{Go};
 
@@ -16,7 +17,8 @@ use std::alloc::Global;
 
 /// The first line that ends in a text, without its end, and what follows it.
 fn first_line(text: &[u8]) -> Option<(&[u8], &[u8])>
-    ensures { MatchOption result (HasNoEnd text.now) (λ found. BeginsWith text.now found.0.now found.1.now) }
+    ensures { MatchOption result (HasNoEnd text.now) (λ found.
+        BeginsWith text.now found.0.now found.1.now) }
 {
     let end = memchr(b'\n', text)?;
     Some((&text[..end], &text[end + 1..]))
@@ -34,13 +36,17 @@ pub fn feed<H: Host, I: Interpreter, S: Sink>(
 ) -> Result<Flow, Halt>
     requires { I.stands H.told interpreter.old (H.outside host.old) }
     ensures stands { OnOk result (I.stands H.told interpreter.new (H.outside host.new)) }
-    ensures flow { IfOk result (λ flow. flow ≡ flow_of (has_quit (ended_lines line.old.items piece.now))) }
-    ensures line { IfOk result (λ flow. flow ≡ Go → line.new.items ≡ unended line.old.items piece.now) }
+    ensures flow { IfOk result (λ flow.
+        flow ≡ flow_of (has_quit (ended_lines line.old.items piece.now))) }
+    ensures line { IfOk result (λ flow. flow ≡ Go
+        → line.new.items ≡ unended line.old.items piece.now) }
     ensures ran { IsTrue H.told → Ran S.shows I.answer I.store_of_image result
-        (I.world interpreter.old (H.outside host.old)) (I.world interpreter.new (H.outside host.new))
+        (I.world interpreter.old (H.outside host.old))
+        (I.world interpreter.new (H.outside host.new))
         (commands_of (ended_lines line.old.items piece.now)) (S.has sink.old) (S.has sink.new)
         (H.outside host.old).now (H.outside host.new).now }
-    ensures cause { IfErr result (λ halt. HasWriteCause halt (H.outside host.old) (H.outside host.new)) }
+    ensures cause { IfErr result (λ halt.
+        HasWriteCause halt (H.outside host.old) (H.outside host.new)) }
     ensures keeps { Keeps (H.outside host.old) (H.outside host.new) }
 {
     let mut rest = piece;
@@ -71,10 +77,12 @@ pub fn finish<H: Host, I: Interpreter, S: Sink>(
     requires { I.stands H.told interpreter.old (H.outside host.old) }
     ensures stands { OnOk result (I.stands H.told interpreter.new (H.outside host.new)) }
     ensures ran { IsTrue H.told → Ran S.shows I.answer I.store_of_image result
-        (I.world interpreter.old (H.outside host.old)) (I.world interpreter.new (H.outside host.new))
+        (I.world interpreter.old (H.outside host.old))
+        (I.world interpreter.new (H.outside host.new))
         (commands_of (last_line line.now)) (S.has sink.old) (S.has sink.new)
         (H.outside host.old).now (H.outside host.new).now }
-    ensures cause { IfErr result (λ halt. HasWriteCause halt (H.outside host.old) (H.outside host.new)) }
+    ensures cause { IfErr result (λ halt.
+        HasWriteCause halt (H.outside host.old) (H.outside host.new)) }
     ensures keeps { Keeps (H.outside host.old) (H.outside host.new) }
 {
     if line.is_empty() {
@@ -95,10 +103,12 @@ pub fn answer_text<H: Host, I: Interpreter, S: Sink>(
     requires { I.stands H.told interpreter.old (H.outside host.old) }
     ensures stands { OnOk result (I.stands H.told interpreter.new (H.outside host.new)) }
     ensures ran { IsTrue H.told → Ran S.shows I.answer I.store_of_image result
-        (I.world interpreter.old (H.outside host.old)) (I.world interpreter.new (H.outside host.new))
+        (I.world interpreter.old (H.outside host.old))
+        (I.world interpreter.new (H.outside host.new))
         (commands_of (lines_of text.now)) (S.has sink.old) (S.has sink.new)
         (H.outside host.old).now (H.outside host.new).now }
-    ensures cause { IfErr result (λ halt. HasWriteCause halt (H.outside host.old) (H.outside host.new)) }
+    ensures cause { IfErr result (λ halt.
+        HasWriteCause halt (H.outside host.old) (H.outside host.new)) }
     ensures keeps { Keeps (H.outside host.old) (H.outside host.new) }
 {
     let mut line = Vec::new(alloc);

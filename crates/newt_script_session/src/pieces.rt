@@ -1,5 +1,6 @@
 //! A script from the input to the output.
-ghost use Rattle.std.specs.Prelude.{IsTrue, ◌≡◌, ◌<◌, ◌≤◌, ◌++◌, [], take, length, IfOk, OnErr, IfErr, vec_len};
+ghost use Rattle.std.specs.Prelude.{IsTrue, ◌≡◌, ◌<◌, ◌≤◌, ◌++◌, [], take, length, IfOk, OnErr};
+ghost use Rattle.std.specs.Prelude.{IfErr, vec_len};
 ghost use Rattle.newt_host.specs.Outside.{Rose};
 ghost use Rattle.newt_script_session.specs.Causes.{HasCause, StaysAttached, SameDevices};
 ghost use Rattle.newt_script_session.specs.Session.{Session};
@@ -14,18 +15,22 @@ use std::alloc::{AllocError, Global};
 /// The most bytes that are read at once.
 const PIECE: usize = 65536;
 
-/// Moves the next bytes of the input to the front of the buffer, at most so many, and answers how many: none only at the end of the input,
-/// or where none are asked for.
+/// Moves the next bytes of the input to the front of the buffer, at most so many, and answers how
+/// many: none only at the end of the input, or where none are asked for.
 pub fn read_piece<H: Host>(host: &mut H, buffer: &mut [u8], most: usize) -> Result<usize, Halt>
     requires { most ≤ length buffer.old }
     ensures within { IfOk result (λ n. n ≤ most) }
-    ensures took { IsTrue H.told → IfOk result (λ n. (H.outside host.old).input ≡ take n buffer.new ++ (H.outside host.new).input) }
-    ensures end { IsTrue H.told → IfOk result (λ n. n ≡ 0 → 0 < most → (H.outside host.old).input ≡ []) }
+    ensures took { IsTrue H.told
+        → IfOk result (λ n. (H.outside host.old).input ≡ take n buffer.new
+        ++ (H.outside host.new).input) }
+    ensures end { IsTrue H.told
+        → IfOk result (λ n. n ≡ 0 → 0 < most → (H.outside host.old).input ≡ []) }
     ensures failed { OnErr result ((H.outside host.new).input ≡ (H.outside host.old).input) }
     ensures moment { (H.outside host.new).now ≡ (H.outside host.old).now }
     ensures devices { SameDevices H.told (H.outside host.old) (H.outside host.new) }
     ensures source { IfErr result (λ halt. halt ≡ Halt.Source) }
-    ensures cause { OnErr result (Rose (H.outside host.old).in_faults (H.outside host.new).in_faults) }
+    ensures cause { OnErr result
+        (Rose (H.outside host.old).in_faults (H.outside host.new).in_faults) }
     ensures stays { StaysAttached (H.outside host.old) (H.outside host.new) }
     ensures out_count { (H.outside host.new).out_faults ≡ (H.outside host.old).out_faults }
 {
@@ -35,7 +40,8 @@ pub fn read_piece<H: Host>(host: &mut H, buffer: &mut [u8], most: usize) -> Resu
     }
 }
 
-/// Reads a script and answers its lines as they come, up to one that quits. The line is empty at first.
+/// Reads a script and answers its lines as they come, up to one that quits. The line is empty at
+/// first.
 fn answer_pieces<H: Host, I: Interpreter>(
     alloc: Global,
     host: &mut H,
@@ -85,7 +91,8 @@ pub fn piece_buffer(alloc: Global) -> Result<Vec<u8>, AllocError>
     vec![in alloc; 0u8; PIECE]
 }
 
-/// Reads a script of at most so many bytes and answers its lines as they come, up to one that quits.
+/// Reads a script of at most so many bytes and answers its lines as they come, up to one that
+/// quits.
 pub fn run_script<H: Host, I: Interpreter>(
     alloc: Global,
     host: &mut H,

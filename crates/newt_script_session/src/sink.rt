@@ -1,5 +1,6 @@
 //! Where the replies to a script go.
-ghost use Rattle.std.specs.Prelude.{IsTrue, ◌≡◌, ◌++◌, ℕ, Bool, List, [], ◌∷◌, IfErr, OnOk, OnErr, true};
+ghost use Rattle.std.specs.Prelude.{IsTrue, ◌≡◌, ◌++◌, ℕ, Bool, List, [], ◌∷◌, IfErr, OnOk, OnErr};
+ghost use Rattle.std.specs.Prelude.{true};
 ghost use Rattle.newt_host.specs.Outside.{Rose};
 ghost use Rattle.newt_reply.specs.Said.{said};
 ghost use Rattle.newt_spec_world.specs.Reply.{reply_text};
@@ -22,10 +23,14 @@ pub trait Sink: Sized {
 
     /// Takes the text of a reply.
     fn take<H: Host>(&mut self, host: &mut H, text: &[u8]) -> Result<(), Failed>
-        ensures took { OnOk result ((texts : List (List ℕ)) → has self.old texts → has self.new (texts ++ text.now ∷ [])) }
-        ensures puts { IsTrue H.told → Puts result (put_out shows text.now) (H.outside host.old).now (H.outside host.new).now }
+        ensures took { OnOk result ((texts : List (List ℕ)) → has self.old texts
+            → has self.new (texts ++ text.now ∷ [])) }
+        ensures puts { IsTrue H.told
+            → Puts result (put_out shows text.now) (H.outside host.old).now
+            (H.outside host.new).now }
         ensures devices { SameDevices H.told (H.outside host.old) (H.outside host.new) }
-        ensures cause { OnErr result (Rose (H.outside host.old).out_faults (H.outside host.new).out_faults) }
+        ensures cause { OnErr result
+            (Rose (H.outside host.old).out_faults (H.outside host.new).out_faults) }
         ensures keeps { Keeps (H.outside host.old) (H.outside host.new) };
 }
 
@@ -55,7 +60,8 @@ pub fn put_reply<H: Host, S: Sink>(
     ensures puts { IsTrue H.told → Puts result (put_out S.shows (reply_text (said reply.now)))
         (H.outside host.old).now (H.outside host.new).now }
     ensures devices { SameDevices H.told (H.outside host.old) (H.outside host.new) }
-    ensures cause { IfErr result (λ halt. HasSinkCause halt (H.outside host.old) (H.outside host.new)) }
+    ensures cause { IfErr result (λ halt.
+        HasSinkCause halt (H.outside host.old) (H.outside host.new)) }
     ensures keeps { Keeps (H.outside host.old) (H.outside host.new) }
 {
     let Ok(text) = write_reply(alloc, reply) else {

@@ -35,7 +35,8 @@ impl Tally {
 
     /// Counts a reply with this text.
     fn add(&mut self, text: &[u8])
-        ensures { (texts : List (List ℕ)) → Tallies self.old texts → Tallies self.new (texts ++ text.now ∷ []) }
+        ensures { (texts : List (List ℕ)) → Tallies self.old texts
+            → Tallies self.new (texts ++ text.now ∷ []) }
     {
         let ok = u64::from(text.starts_with(b"ok"));
         let error = u64::from(text.starts_with(b"error"));
@@ -47,7 +48,8 @@ impl Tally {
         };
     }
 
-    /// The lines that tell the replies, those that are ok, those that are refusals, and the bytes of all (this project's own).
+    /// The lines that tell the replies, those that are ok, those that are refusals, and the bytes
+    /// of all (this project's own).
     pub fn lines(&self, alloc: Global) -> Result<Vec<u8>, AllocError>
         ensures { IfOk result (λ text. text.items ≡ lines_of_tally self.now) }
     {

@@ -36,10 +36,12 @@ fn obey<H: Host, I: Interpreter, S: Sink>(
     ensures stands { OnOk result (I.stands H.told interpreter.new (H.outside host.new)) }
     ensures flow { IfOk result (λ flow. flow ≡ flow_of (is_quit (Ok command))) }
     ensures ran { IsTrue H.told → Ran S.shows I.answer I.store_of_image result
-        (I.world interpreter.old (H.outside host.old)) (I.world interpreter.new (H.outside host.new))
+        (I.world interpreter.old (H.outside host.old))
+        (I.world interpreter.new (H.outside host.new))
         (Ok command ∷ []) (S.has sink.old) (S.has sink.new)
         (H.outside host.old).now (H.outside host.new).now }
-    ensures cause { IfErr result (λ halt. HasWriteCause halt (H.outside host.old) (H.outside host.new)) }
+    ensures cause { IfErr result (λ halt.
+        HasWriteCause halt (H.outside host.old) (H.outside host.new)) }
     ensures keeps { Keeps (H.outside host.old) (H.outside host.new) }
 {
     let flow = flow_after(&command);
@@ -64,10 +66,12 @@ fn refuse<H: Host, I: Interpreter, S: Sink>(
     ensures stands { OnOk result (I.stands H.told interpreter.now (H.outside host.new)) }
     ensures flow { IfOk result (λ flow. flow ≡ Flow.Go) }
     ensures ran { IsTrue H.told → Ran S.shows I.answer I.store_of_image result
-        (I.world interpreter.now (H.outside host.old)) (I.world interpreter.now (H.outside host.new))
+        (I.world interpreter.now (H.outside host.old))
+        (I.world interpreter.now (H.outside host.new))
         (Err refusal ∷ []) (S.has sink.old) (S.has sink.new)
         (H.outside host.old).now (H.outside host.new).now }
-    ensures cause { IfErr result (λ halt. HasWriteCause halt (H.outside host.old) (H.outside host.new)) }
+    ensures cause { IfErr result (λ halt.
+        HasWriteCause halt (H.outside host.old) (H.outside host.new)) }
     ensures keeps { Keeps (H.outside host.old) (H.outside host.new) }
 {
     let reply = Reply::Refused(refusal);
@@ -87,10 +91,12 @@ pub fn turn<H: Host, I: Interpreter, S: Sink>(
     ensures stands { OnOk result (I.stands H.told interpreter.new (H.outside host.new)) }
     ensures flow { IfOk result (λ flow. flow ≡ flow_of (has_quit (bytes.now ∷ []))) }
     ensures ran { IsTrue H.told → Ran S.shows I.answer I.store_of_image result
-        (I.world interpreter.old (H.outside host.old)) (I.world interpreter.new (H.outside host.new))
+        (I.world interpreter.old (H.outside host.old))
+        (I.world interpreter.new (H.outside host.new))
         (commands_of (bytes.now ∷ [])) (S.has sink.old) (S.has sink.new)
         (H.outside host.old).now (H.outside host.new).now }
-    ensures cause { IfErr result (λ halt. HasWriteCause halt (H.outside host.old) (H.outside host.new)) }
+    ensures cause { IfErr result (λ halt.
+        HasWriteCause halt (H.outside host.old) (H.outside host.new)) }
     ensures keeps { Keeps (H.outside host.old) (H.outside host.new) }
 {
     match line(alloc, bytes) {

@@ -10,10 +10,14 @@ use newt_host::{Failed, Host};
 fn write_part<H: Host>(host: &mut H, bytes: &[u8]) -> Result<usize, Failed>
     ensures within { IfOk result (λ n. n ≤ length bytes.now) }
     ensures moves { IfOk result (λ n. 0 < length bytes.now → 0 < n) }
-    ensures grown { IsTrue H.told → IfOk result (λ n. (H.outside host.new).now ≡ printed (take n bytes.now) (H.outside host.old).now) }
-    ensures prints { IsTrue H.told → PrintsSome bytes.now (H.outside host.old).now (H.outside host.new).now }
+    ensures grown { IsTrue H.told
+        → IfOk result (λ n. (H.outside host.new).now
+        ≡ printed (take n bytes.now) (H.outside host.old).now) }
+    ensures prints { IsTrue H.told
+        → PrintsSome bytes.now (H.outside host.old).now (H.outside host.new).now }
     ensures devices { SameDevices H.told (H.outside host.old) (H.outside host.new) }
-    ensures cause { OnErr result (Rose (H.outside host.old).out_faults (H.outside host.new).out_faults) }
+    ensures cause { OnErr result
+        (Rose (H.outside host.old).out_faults (H.outside host.new).out_faults) }
     ensures keeps { Keeps (H.outside host.old) (H.outside host.new) }
 {
     host.write_out(bytes)
@@ -21,9 +25,11 @@ fn write_part<H: Host>(host: &mut H, bytes: &[u8]) -> Result<usize, Failed>
 
 /// Writes all the bytes.
 pub fn write_all<H: Host>(host: &mut H, bytes: &[u8]) -> Result<(), Failed>
-    ensures puts { IsTrue H.told → Puts result bytes.now (H.outside host.old).now (H.outside host.new).now }
+    ensures puts { IsTrue H.told
+        → Puts result bytes.now (H.outside host.old).now (H.outside host.new).now }
     ensures devices { SameDevices H.told (H.outside host.old) (H.outside host.new) }
-    ensures cause { OnErr result (Rose (H.outside host.old).out_faults (H.outside host.new).out_faults) }
+    ensures cause { OnErr result
+        (Rose (H.outside host.old).out_faults (H.outside host.new).out_faults) }
     ensures keeps { Keeps (H.outside host.old) (H.outside host.new) }
 {
     let mut rest = bytes;

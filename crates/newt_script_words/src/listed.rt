@@ -35,8 +35,12 @@ fn words_of(alloc: Global, text: &[u8]) -> Result<Vec<&[u8]>, AllocError>
 
 /// The words of a text, which are at least one and at most so many.
 fn words_in_number(alloc: Global, text: &[u8], most: usize) -> Result<Vec<&[u8]>, WordFault>
-    ensures read { IfOk result (λ words. (map (λ word. word.now) words.items ≡ spec.words text.now) × (in_number most (spec.words text.now) ≡ true)) }
-    ensures refused { result ≢ Err WordFault.Memory → IfErr result (λ fault. (fault ≡ WordFault.Form) × (in_number most (spec.words text.now) ≡ false)) }
+    ensures read { IfOk result (λ words.
+        (map (λ word. word.now) words.items ≡ spec.words text.now)
+        × (in_number most (spec.words text.now) ≡ true)) }
+    ensures refused { result ≢ Err WordFault.Memory
+        → IfErr result (λ fault.
+        (fault ≡ WordFault.Form) × (in_number most (spec.words text.now) ≡ false)) }
 {
     let words = words_of(alloc, text)?;
     if is_in_number(words.len(), most) {
@@ -56,7 +60,8 @@ fn is_in_number(number: usize, most: usize) -> bool
 /// The parts that words are.
 #[tactic(auto, using(crate::proofs::WordLists::one_more, crate::proofs::WordLists::whole, crate::proofs::WordLists::refused))]
 fn all_parts(alloc: Global, words: &[&[u8]]) -> Result<Parts, WordFault>
-    ensures { result ≢ Err WordFault.Memory → result ≡ of_form (spec.all_words spec.part (map (λ word. word.now) words.now)) }
+    ensures { result ≢ Err WordFault.Memory
+        → result ≡ of_form (spec.all_words spec.part (map (λ word. word.now) words.now)) }
 {
     let mut parts = Vec::new(alloc);
     for word in words {
@@ -68,7 +73,8 @@ fn all_parts(alloc: Global, words: &[&[u8]]) -> Result<Parts, WordFault>
 /// The paths that words are.
 #[tactic(auto, using(crate::proofs::WordLists::one_more, crate::proofs::WordLists::whole, crate::proofs::WordLists::refused))]
 fn all_paths(alloc: Global, words: &[&[u8]]) -> Result<Paths, WordFault>
-    ensures { result ≢ Err WordFault.Memory → result ≡ of_form (spec.all_words path_of (map (λ word. word.now) words.now)) }
+    ensures { result ≢ Err WordFault.Memory
+        → result ≡ of_form (spec.all_words path_of (map (λ word. word.now) words.now)) }
 {
     let mut paths = Vec::new(alloc);
     for word in words {
@@ -80,7 +86,8 @@ fn all_paths(alloc: Global, words: &[&[u8]]) -> Result<Paths, WordFault>
 /// The symbols that words are.
 #[tactic(auto, using(crate::proofs::WordLists::one_more, crate::proofs::WordLists::whole, crate::proofs::WordLists::refused))]
 fn all_symbols(alloc: Global, words: &[&[u8]]) -> Result<Syms, WordFault>
-    ensures { result ≢ Err WordFault.Memory → result ≡ of_form (spec.all_words spec.symbol (map (λ word. word.now) words.now)) }
+    ensures { result ≢ Err WordFault.Memory
+        → result ≡ of_form (spec.all_words spec.symbol (map (λ word. word.now) words.now)) }
 {
     let mut symbols = Vec::new(alloc);
     for word in words {
@@ -107,8 +114,9 @@ pub fn paths_in(alloc: Global, text: &[u8]) -> Result<Paths, WordFault>
     all_paths(alloc, &words)
 }
 
-/// SYM..: one or more symbols, no two of them one but for ASCII case. A line has fewer words than `LONGEST`, which is no limit of its own here; how many tags a
-/// soup may declare is the command's to say.
+/// SYM..: one or more symbols, no two of them one but for ASCII case. A line has fewer words than
+/// `LONGEST`, which is no limit of its own here; how many tags a soup may declare is the command's
+/// to say.
 #[tactic(auto, unfolding(crate::specs::Listed::symbols_in))]
 pub fn symbols_in(alloc: Global, text: &[u8]) -> Result<Syms, WordFault>
     ensures { result ≢ Err WordFault.Memory → result ≡ listed.symbols_in text.now }

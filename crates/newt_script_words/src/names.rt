@@ -1,5 +1,6 @@
 //! Names in a line: bare, or in quotes.
-ghost use Rattle.std.specs.Prelude.{◌≡◌, ◌≢◌, ◌<◌, ◌||◌, ◌==◌, ◌∷◌, length, not, true, false, IfOk, IfErr, IfSome, MatchOption};
+ghost use Rattle.std.specs.Prelude.{◌≡◌, ◌≢◌, ◌<◌, ◌||◌, ◌==◌, ◌∷◌, length, not, true, false, IfOk};
+ghost use Rattle.std.specs.Prelude.{IfErr, IfSome, MatchOption};
 ghost use Rattle.std.specs.List.{list_all};
 ghost use Rattle.newt_base.specs.Names.{is_name, needs_quotes};
 ghost use Rattle.newt_base.specs.declared.Refusal.TheVariants.{Line as NotTheForm};
@@ -15,7 +16,8 @@ use std::alloc::Global;
 /// The name that these bytes are; `Form` where they are none.
 fn named(alloc: Global, bytes: &[u8]) -> Result<Name, WordFault>
     ensures read { IfOk result (λ name. (is_name bytes.now ≡ true) × (name ≡ bytes.now)) }
-    ensures refused { result ≢ Err WordFault.Memory → IfErr result (λ fault. (fault ≡ WordFault.Form) × (is_name bytes.now ≡ false)) }
+    ensures refused { result ≢ Err WordFault.Memory
+        → IfErr result (λ fault. (fault ≡ WordFault.Form) × (is_name bytes.now ≡ false)) }
 {
     match Name::read(alloc, bytes) {
         Ok(name) => Ok(name),
@@ -51,7 +53,8 @@ fn is_escaped(byte: u8) -> bool
 /// The byte behind a backslash, and what follows it.
 #[tactic(auto, using(crate::proofs::Quotes::escaped, crate::proofs::Quotes::unmarked))]
 fn behind_backslash(text: &[u8]) -> Option<(Option<u8>, &[u8])>
-    ensures step { MatchOption result (spec.quoted (92 ∷ text.now) ≡ None) (λ found. spec.quoted (92 ∷ text.now) ≡ goes_on found.0 found.1.now) }
+    ensures step { MatchOption result (spec.quoted (92 ∷ text.now) ≡ None) (λ found.
+        spec.quoted (92 ∷ text.now) ≡ goes_on found.0 found.1.now) }
     ensures shorter { IfSome result (λ found. length found.1.now < length text.now) }
 {
     match text {
@@ -64,7 +67,8 @@ fn behind_backslash(text: &[u8]) -> Option<(Option<u8>, &[u8])>
 /// closing quote; and what follows it.
 #[tactic(auto, using(crate::proofs::Quotes::closed, crate::proofs::Quotes::one_more))]
 fn next_in_quotes(text: &[u8]) -> Option<(Option<u8>, &[u8])>
-    ensures step { MatchOption result (spec.quoted text.now ≡ None) (λ found. spec.quoted text.now ≡ goes_on found.0 found.1.now) }
+    ensures step { MatchOption result (spec.quoted text.now ≡ None) (λ found.
+        spec.quoted text.now ≡ goes_on found.0 found.1.now) }
     ensures shorter { IfSome result (λ found. length found.1.now < length text.now) }
 {
     let [byte, rest @ ..] = text else {

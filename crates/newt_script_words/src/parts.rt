@@ -74,7 +74,8 @@ fn order(word: &[u8]) -> Option<Order>
 /// The pieces of a text with two colons.
 #[tactic(auto, using(crate::proofs::Pieces::one_piece, crate::proofs::Pieces::two_pieces, crate::proofs::Pieces::three, crate::proofs::Pieces::too_many))]
 fn three_pieces(text: &[u8]) -> Option<(&[u8], &[u8], &[u8])>
-    ensures { MatchOption result (spec.part text.now ≡ None) (λ found. spec.split_at 58 text.now ≡ found.0.now ∷ found.1.now ∷ found.2.now ∷ []) }
+    ensures { MatchOption result (spec.part text.now ≡ None) (λ found.
+        spec.split_at 58 text.now ≡ found.0.now ∷ found.1.now ∷ found.2.now ∷ []) }
 {
     let (first, rest) = at_colon(text)?;
     let (second, third) = at_colon(rest)?;
@@ -87,7 +88,8 @@ fn three_pieces(text: &[u8]) -> Option<(&[u8], &[u8], &[u8])>
 /// What stands before and behind the first colon.
 #[tactic(auto, using(crate::proofs::Pieces::cut_at, crate::proofs::Pieces::within, crate::proofs::Pieces::no_cut))]
 fn at_colon(text: &[u8]) -> Option<(&[u8], &[u8])>
-    ensures { MatchOption result (spec.split_at 58 text.now ≡ text.now ∷ []) (λ found. spec.split_at 58 text.now ≡ found.0.now ∷ spec.split_at 58 found.1.now) }
+    ensures { MatchOption result (spec.split_at 58 text.now ≡ text.now ∷ []) (λ found.
+        spec.split_at 58 text.now ≡ found.0.now ∷ spec.split_at 58 found.1.now) }
 {
     let at = first_colon(text)?;
     Some((&text[..at], &text[at + 1..]))

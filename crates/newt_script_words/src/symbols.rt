@@ -33,7 +33,8 @@ pub fn are_apart(alloc: Global, symbols: &[Bytes]) -> Result<bool, AllocError>
 
 /// Whether no two texts are one.
 fn are_different(alloc: Global, texts: Vec<Vec<u8>>) -> Result<bool, AllocError>
-    ensures { IfOk result (λ different. different ≡ all_apart bytes_eq (map (λ text. text.items) texts.items)) }
+    ensures { IfOk result (λ different.
+        different ≡ all_apart bytes_eq (map (λ text. text.items) texts.items)) }
 {
     let number = texts.len();
     let set = set_of(alloc, texts)?;
@@ -42,14 +43,16 @@ fn are_different(alloc: Global, texts: Vec<Vec<u8>>) -> Result<bool, AllocError>
 
 /// Each text once.
 fn set_of(alloc: Global, texts: Vec<Vec<u8>>) -> Result<HashSet<Vec<u8>>, AllocError>
-    ensures { IfOk result (λ set. IsFromIterResult (λ a b. bytes_eq a.items b.items) texts.items set) }
+    ensures { IfOk result (λ set.
+        IsFromIterResult (λ a b. bytes_eq a.items b.items) texts.items set) }
 {
     texts.into_iter().collect(alloc)
 }
 
 /// Texts in ASCII lower case.
 fn all_in_lower_case(alloc: Global, texts: &[Bytes]) -> Result<Vec<Vec<u8>>, AllocError>
-    ensures { IfOk result (λ lower. map (λ text. text.items) lower.items ≡ map str_to_ascii_lowercase texts.now) }
+    ensures { IfOk result (λ lower.
+        map (λ text. text.items) lower.items ≡ map str_to_ascii_lowercase texts.now) }
 {
     let mut lower = Vec::new(alloc);
     for text in texts {

@@ -2,7 +2,9 @@
 ghost use Rattle.std.specs.Prelude.{◌≡◌, ◌≢◌, true, false, IfOk, IfErr, MatchResult, MatchBool};
 ghost use Rattle.newt_base.specs.declared.Refusal.TheVariants.{Line as NotTheForm};
 ghost use Rattle.newt_spec_script.specs.Line.{first_word};
-ghost use Rattle.newt_script_words.specs.Readers.{unit_of, number_of, sig_of, length_of, cursor_of, steps_of, star_of, name_of, soup_of, entry_of, path_word, rest_of, is_ended};
+ghost use Rattle.newt_script_words.specs.Readers.{unit_of, number_of, sig_of, length_of, cursor_of};
+ghost use Rattle.newt_script_words.specs.Readers.{steps_of, star_of, name_of, soup_of, entry_of};
+ghost use Rattle.newt_script_words.specs.Readers.{path_word, rest_of, is_ended};
 ghost use Rattle.newt_script_words.specs.Listed.{parts_in, paths_in, symbols_in};
 ghost use Rattle.newt_script_words.specs.Reads.{Reads};
 
@@ -58,7 +60,8 @@ impl<'a> Words<'a> {
 
     /// Ok where nothing but blanks is left.
     pub fn end(&self) -> Result<(), WordFault>
-        ensures { MatchResult result (λ _. is_ended self.now ≡ true) (λ fault. (fault ≡ WordFault.Form) × (is_ended self.now ≡ false)) }
+        ensures { MatchResult result (λ _. is_ended self.now ≡ true) (λ fault.
+            (fault ≡ WordFault.Form) × (is_ended self.now ≡ false)) }
     {
         if self.is_ended() {
             Ok(())
@@ -117,7 +120,8 @@ impl<'a> Words<'a> {
         cursor_number(self.word()).ok_or(WordFault::Form)
     }
 
-    /// K: how many steps a cursor is moved, down to the lowest and up to the highest number of 32 bits with a sign.
+    /// K: how many steps a cursor is moved, down to the lowest and up to the highest number of 32
+    /// bits with a sign.
     pub fn steps(&mut self) -> Result<i32, WordFault>
         ensures reads { Reads (steps_of self.old) result (λ steps. (steps, self.new)) }
         ensures no_memory { result ≢ Err WordFault.Memory }
@@ -128,7 +132,8 @@ impl<'a> Words<'a> {
     /// Whether the next word is a star, which is passed.
     #[tactic(auto, using(crate::proofs::Forms::passes_star, crate::proofs::Forms::stays_at_no_star))]
     pub fn star(&mut self) -> bool
-        ensures { MatchBool result (star_of self.old ≡ Ok (0, self.new)) ((star_of self.old ≡ Err NotTheForm) × (self.new ≡ self.old)) }
+        ensures { MatchBool result (star_of self.old ≡ Ok (0, self.new))
+            ((star_of self.old ≡ Err NotTheForm) × (self.new ≡ self.old)) }
     {
         let (word, rest) = split_word(self.rest);
         if word == b"*".as_slice() {
@@ -162,7 +167,8 @@ impl<'a> Words<'a> {
     /// U S UID
     #[tactic(auto, unfolding(crate::specs::Readers::entry_of))]
     pub fn entry(&mut self, alloc: Global) -> Result<(Unit, Name, Uid), WordFault>
-        ensures { Reads (entry_of self.old) result (λ found. ((found.0, found.1, found.2), self.new)) }
+        ensures { Reads (entry_of self.old) result (λ found.
+            ((found.0, found.1, found.2), self.new)) }
     {
         let unit = self.unit()?;
         let name = self.name(alloc)?;

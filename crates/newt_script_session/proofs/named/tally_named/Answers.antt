@@ -1,22 +1,17 @@
-use Rattle.std.proofs.Common.{◌++◌, ℕ, Bool, Global, List, IfErr, map, string_bytes, refl, sym, ◌∙◌, ap, subst}
-use Rattle.std.proofs.lemmas.Result.{on_ok_weaker}
+use Rattle.std.proofs.Common.{ℕ, false, Bool, Global, Result, Err, List, map, string_bytes, refl, ◌∙◌, subst}
 use Rattle.newt_host_attach.specs.Named.{AreAttached}
-use Rattle.newt_host.specs.Meanings.{out_of}
-use Rattle.newt_host.specs.Moments.{Always, here}
-use Rattle.newt_spec_world.specs.First.{world_of}
 use Rattle.newt_spec_world.specs.World.{World}
+use Rattle.newt_script_session.specs.Counted.{Counted}
 use Rattle.newt_script_session.specs.First.{unmounted}
 use Rattle.newt_script_session.specs.Lines.{lines_of}
-use Rattle.newt_script_session.specs.Run.{HaltedReply}
 use Rattle.newt_script_session.specs.Script.{commands_of}
-use Rattle.newt_script_session.specs.Stream.{WroteSome}
-use Rattle.newt_script_session.proofs.Beginning.{first_is, attached_at_rest, attached_never, has_left_counted, rests_first, seen_named}
+use Rattle.newt_script_session.specs.declared.halt.Halt.{Halt}
+use Rattle.newt_script_session.specs.declared.halt.Halt.TheVariants.{Memory}
+use Rattle.newt_script_session.proofs.Beginning.{first_is, attached_at_rest, attached_never, named_counted, rests_first}
 use Rattle.newt_script_session.proofs.Counting.{never-then}
-use Rattle.newt_script_session.proofs.Crashing.{counted_here}
 use Rattle.newt_script_session.proofs.Halting.{writes_later}
-use Rattle.newt_script_session.proofs.Writing.{wrote_nothing}
-use Rattle.newt_script_session.specs.Counts.{summary_of}
-use Rattle.newt_script_session.specs.Counted.{CountedAt}
+use Rattle.newt_script_session.proofs.Progress.{ran_nothing}
+use Rattle.newt_script_session.proofs.Summing.{counted_halted}
 use Rattle.newt_script_session.proofs.named.tally_named.Goals as goal
 
 pub start-requires-clause-at_rest : goal.start-requires-clause-at_rest
@@ -24,16 +19,24 @@ start-requires-clause-at_rest g c = attached_at_rest g.H.Host.told _ _ _ c.attac
 
 -- ---- want of memory at the start
 
-pub returns-in_default-clause-halted : goal.returns-in_default-clause-halted
-returns-in_default-clause-halted g c = λ told.
+pub returns-in_default-clause-counted : goal.returns-in_default-clause-counted
+returns-in_default-clause-counted g c = λ told.
     let it = g.I.Interpreter in
     let names = map (string_bytes {Z = Global}) c.args.names.now in
     let old = g.H.Host.outside c.args.host.now in
     let mid = g.H.Host.outside c.attach_names-attached.new.host in
     let a = subst (λ (t : Bool). AreAttached t names old mid) told c.attach_names-attached.ensures.attached in
-    let first = world_of it.store_of_image old.devices names in
-    let P : List ℕ → Type 0 = λ now. WroteSome (summary_of it.answer first c.args.script.now) (out_of old) now in
-    subst P (sym (a.quiet refl)) (wrote_nothing (summary_of it.answer first c.args.script.now) (out_of old))
+    let found = first_is it.store_of_image names old mid a (λ unit. g.met.H.Host.sized c.attach_names-attached.new.host unit told) in
+    let its = rests_first it.store_of_image mid (attached_at_rest g.H.Host.told _ _ _ c.attach_names-attached.ensures.attached told) in
+    let result : Result (Unit {0}) Halt = Err Memory in
+    let S : World → Type 0 = λ w. Counted it.answer it.store_of_image c.args.script.now result w mid mid in
+    named_counted names old mid mid a it.answer it.store_of_image
+    (λ unit. refl) (λ unit. g.met.H.Host.untouched c.args.host.now unit told (c.requires.free unit))
+    (λ unit none. g.met.H.Host.untouched c.attach_names-attached.new.host unit told none) (λ unit some. g.met.H.Host.history c.attach_names-attached.new.host unit told some)
+    c.args.script.now result
+    (subst S found (counted_halted it.answer it.store_of_image c.args.script.now (unmounted it.store_of_image mid) mid mid {T = Unit {0}} {U = Unit {0}} result Memory (unmounted it.store_of_image mid)
+    (λ texts. Unit {0}) (λ texts. Unit {0}) refl tt
+    (ran_nothing false it.answer it.store_of_image (unmounted it.store_of_image mid) (commands_of (lines_of c.args.script.now)) _ mid.now its)))
 
 pub returns-in_default-clause-left : goal.returns-in_default-clause-left
 returns-in_default-clause-left g c = c.attach_names-attached.ensures.attached.input
@@ -41,76 +44,25 @@ returns-in_default-clause-left g c = c.attach_names-attached.ensures.attached.in
 pub returns-in_default-clause-counts : goal.returns-in_default-clause-counts
 returns-in_default-clause-counts g c = attached_never _ _ _ _ c.attach_names-attached.ensures.attached
 
-pub returns-in_default-clause-crash : goal.returns-in_default-clause-crash
-returns-in_default-clause-crash g c = λ told unit t left shown at might.
-    let it = g.I.Interpreter in
-    let names = map (string_bytes {Z = Global}) c.args.names.now in
-    let old = g.H.Host.outside c.args.host.now in
-    let mid = g.H.Host.outside c.attach_names-attached.new.host in
-    let a = subst (λ (t : Bool). AreAttached t names old mid) told c.attach_names-attached.ensures.attached in
-    let found = first_is it.store_of_image names old mid a (λ unit. g.met.H.Host.sized c.attach_names-attached.new.host unit told) in
-    let first = world_of it.store_of_image old.devices names in
-    let items = commands_of (lines_of c.args.script.now) in
-    let its = rests_first it.store_of_image mid (attached_at_rest g.H.Host.told _ _ _ c.attach_names-attached.ensures.attached told) in
-    let P : World → Type 0 = λ world. CountedAt it.answer it.store_of_image mid.now world items (out_of mid) mid.now in
-    has_left_counted names old mid mid a it.answer it.store_of_image first items unit left shown
-    (seen_named names old mid mid a (CountedAt it.answer it.store_of_image mid.now first items (out_of mid))
-    (here (subst P found (counted_here it.answer it.store_of_image mid.now (unmounted it.store_of_image mid) items its)))
-    (λ unit. refl) (λ unit. g.met.H.Host.untouched c.args.host.now unit told (c.requires.free unit))
-    (λ unit none. g.met.H.Host.untouched c.attach_names-attached.new.host unit told none) (λ unit some. g.met.H.Host.history c.attach_names-attached.new.host unit told some)
-    unit t left shown at might)
-
 -- ---- the script
 
-pub returns-clause-out : goal.returns-clause-out
-returns-clause-out g c = λ told.
+pub returns-clause-counted : goal.returns-clause-counted
+returns-clause-counted g c = λ told.
     let it = g.I.Interpreter in
     let names = map (string_bytes {Z = Global}) c.args.names.now in
     let old = g.H.Host.outside c.args.host.now in
     let mid = g.H.Host.outside c.attach_names-attached.new.host in
+    let new = g.H.Host.outside c.tally_script.new.host in
     let a = subst (λ (t : Bool). AreAttached t names old mid) told c.attach_names-attached.ensures.attached in
     let found = first_is it.store_of_image names old mid a (λ unit. g.met.H.Host.sized c.attach_names-attached.new.host unit told) in
-    let same = c.in-Ok.ensures.world told ∙ found in
-    on_ok_weaker c.tally_script.result (λ put. put
-    ∙ (ap (λ o. o ++ summary_of it.answer (it.world c.in-Ok.interpreter mid) c.args.script.now) (a.quiet refl)
-    ∙ ap (λ v. out_of old ++ summary_of it.answer v c.args.script.now) same)) ((c.tally_script.ensures.counted told).out)
+    let S : World → Type 0 = λ w. Counted it.answer it.store_of_image c.args.script.now c.tally_script.result w mid new in
+    named_counted names old mid new a it.answer it.store_of_image
+    c.tally_script.ensures.keeps.stays.cards.card (λ unit. g.met.H.Host.untouched c.args.host.now unit told (c.requires.free unit))
+    (λ unit none. g.met.H.Host.untouched c.tally_script.new.host unit told none) (λ unit some. g.met.H.Host.history c.tally_script.new.host unit told some)
+    c.args.script.now c.tally_script.result (subst S (c.in-Ok.ensures.world told ∙ found) (c.tally_script.ensures.counted told))
 
 pub returns-clause-left : goal.returns-clause-left
 returns-clause-left g c = c.tally_script.ensures.keeps.input ∙ c.attach_names-attached.ensures.attached.input
-
-pub returns-clause-halted : goal.returns-clause-halted
-returns-clause-halted g c = λ told.
-    let it = g.I.Interpreter in
-    let names = map (string_bytes {Z = Global}) c.args.names.now in
-    let old = g.H.Host.outside c.args.host.now in
-    let mid = g.H.Host.outside c.attach_names-attached.new.host in
-    let a = subst (λ (t : Bool). AreAttached t names old mid) told c.attach_names-attached.ensures.attached in
-    let found = first_is it.store_of_image names old mid a (λ unit. g.met.H.Host.sized c.attach_names-attached.new.host unit told) in
-    let first = world_of it.store_of_image old.devices names in
-    let new = g.H.Host.outside c.tally_script.new.host in
-    let same = c.in-Ok.ensures.world told ∙ found in
-    let P : World → Type 0 = λ v. IfErr c.tally_script.result (λ halt. HaltedReply halt (summary_of it.answer v c.args.script.now) (out_of mid) (out_of new)) in
-    let R : List ℕ → Type 0 = λ o. IfErr c.tally_script.result (λ halt. HaltedReply halt (summary_of it.answer first c.args.script.now) o (out_of new)) in
-    subst R (a.quiet refl) (subst P same ((c.tally_script.ensures.counted told).halted))
-
-pub returns-clause-crash : goal.returns-clause-crash
-returns-clause-crash g c = λ told unit t left shown at might.
-    let it = g.I.Interpreter in
-    let names = map (string_bytes {Z = Global}) c.args.names.now in
-    let old = g.H.Host.outside c.args.host.now in
-    let mid = g.H.Host.outside c.attach_names-attached.new.host in
-    let a = subst (λ (t : Bool). AreAttached t names old mid) told c.attach_names-attached.ensures.attached in
-    let found = first_is it.store_of_image names old mid a (λ unit. g.met.H.Host.sized c.attach_names-attached.new.host unit told) in
-    let first = world_of it.store_of_image old.devices names in
-    let items = commands_of (lines_of c.args.script.now) in
-    let new = g.H.Host.outside c.tally_script.new.host in
-    let same = c.in-Ok.ensures.world told ∙ found in
-    let P : World → Type 0 = λ v. Always (CountedAt it.answer it.store_of_image mid.now v items (out_of mid)) mid.now new.now in
-    has_left_counted names old mid new a it.answer it.store_of_image first items unit left shown
-    (seen_named names old mid new a (CountedAt it.answer it.store_of_image mid.now first items (out_of mid)) (subst P same ((c.tally_script.ensures.counted told).crash))
-    c.tally_script.ensures.keeps.stays.cards.card (λ unit. g.met.H.Host.untouched c.args.host.now unit told (c.requires.free unit))
-    (λ unit none. g.met.H.Host.untouched c.tally_script.new.host unit told none) (λ unit some. g.met.H.Host.history c.tally_script.new.host unit told some)
-    unit t left shown at might)
 
 pub returns-clause-cause : goal.returns-clause-cause
 returns-clause-cause g c = writes_later c.tally_script.result _ _ _ c.tally_script.ensures.cause (attached_never _ _ _ _ c.attach_names-attached.ensures.attached)

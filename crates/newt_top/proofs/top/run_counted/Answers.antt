@@ -14,14 +14,17 @@ pub tally_named-requires-clause-distinct : goal.tally_named-requires-clause-dist
 tally_named-requires-clause-distinct g c = distinct_names (map (string_bytes {Z = Global}) c.args.names.now) c.requires.names
 
 pub returns-in-Ok-clause-leaves : goal.returns-in-Ok-clause-leaves
-returns-in-Ok-clause-leaves g c = λ told unit t left out at some. is_left_counted _ _ _ _ _ unit left (c.tally_named.ensures.crash told unit t left out at some)
+returns-in-Ok-clause-leaves g c = λ told unit t left out at some. is_left_counted _ _ _ _ _ unit left ((c.tally_named.ensures.counted told).crash unit t left out at some)
 
 pub returns-in-Err-clause-leaves : goal.returns-in-Err-clause-leaves
-returns-in-Err-clause-leaves g c = λ told unit t left out at some. is_left_counted _ _ _ _ _ unit left (c.tally_named.ensures.crash told unit t left out at some)
+returns-in-Err-clause-leaves g c = λ told unit t left out at some. is_left_counted _ _ _ _ _ unit left ((c.tally_named.ensures.counted told).crash unit t left out at some)
+
+pub returns-in-Ok-clause-ran : goal.returns-in-Ok-clause-ran
+returns-in-Ok-clause-ran g c = λ told. (c.in-Ok.ensures.counted told).out
 
 pub returns-in-Err-clause-ran : goal.returns-in-Err-clause-ran
 returns-in-Err-clause-ran g c = λ told.
-    rw c.halted.ensures (halted_counting c.in-Err.halt c.args.script.now (map (string_bytes {Z = Global}) c.args.names.now) _ _ (c.in-Err.ensures.halted told))
+    rw c.halted.ensures (halted_counting c.in-Err.halt c.args.script.now (map (string_bytes {Z = Global}) c.args.names.now) _ _ (c.in-Err.ensures.counted told).halted)
 
 pub returns-in-Err-clause-cause : goal.returns-in-Err-clause-cause
 returns-in-Err-clause-cause g c = rw c.halted.ensures (cause_counting c.in-Err.halt _ _ c.in-Err.ensures.cause)

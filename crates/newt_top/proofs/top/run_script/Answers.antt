@@ -1,6 +1,7 @@
 use Rattle.std.proofs.Common.{map, Global, string_bytes, arith}
 use Rattle.std.proofs.lemmas.List.{length-map}
 use Rattle.newt_top.proofs.Crashing.{is_left}
+use Rattle.newt_top.proofs.Halting.{halted_running}
 use Rattle.newt_top.proofs.Naming.{few_names, distinct_names}
 use Rattle.newt_top.proofs.top.run_script.Goals as goal
 
@@ -13,7 +14,16 @@ pub run_named-requires-clause-distinct : goal.run_named-requires-clause-distinct
 run_named-requires-clause-distinct g c = distinct_names (map (string_bytes {Z = Global}) c.args.names.now) c.requires.names
 
 pub returns-in-Ok-clause-leaves : goal.returns-in-Ok-clause-leaves
-returns-in-Ok-clause-leaves g c = λ told unit t left out at some. is_left _ _ _ _ _ unit left (c.run_named.ensures.crash told unit t left out at some)
+returns-in-Ok-clause-leaves g c = λ told unit t left out at some. is_left _ _ _ _ _ unit left ((c.run_named.ensures.ran told).crash unit t left out at some)
 
 pub returns-in-Err-clause-leaves : goal.returns-in-Err-clause-leaves
-returns-in-Err-clause-leaves g c = λ told unit t left out at some. is_left _ _ _ _ _ unit left (c.run_named.ensures.crash told unit t left out at some)
+returns-in-Err-clause-leaves g c = λ told unit t left out at some. is_left _ _ _ _ _ unit left ((c.run_named.ensures.ran told).crash unit t left out at some)
+
+pub returns-in-Ok-clause-ran : goal.returns-in-Ok-clause-ran
+returns-in-Ok-clause-ran g c = λ told.
+    let r = c.in-Ok.ensures.ran told in
+    (r.out, r.read)
+
+pub returns-in-Err-clause-ran : goal.returns-in-Err-clause-ran
+returns-in-Err-clause-ran g c = λ told.
+    rw c.halted.ensures (halted_running c.in-Err.halt c.args.limit (map (string_bytes {Z = Global}) c.args.names.now) _ _ (c.in-Err.ensures.ran told).halted)
