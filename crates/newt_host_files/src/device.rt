@@ -4,7 +4,7 @@ ghost use Rattle.std.specs.Prelude.{◌≡◌, true};
 use crate::card::Card;
 use newt_host::Unit;
 use std::fs::{OpenFile, OpenOptions};
-use std::io::{Read, Seek, SeekFrom, Write};
+use std::os::unix::fs::FileExt;
 use std::rt::Files;
 
 /// Opens a file for reading and writing and syncs it, and answers it with the number of its whole blocks of 4,096 bytes, at most `u32::MAX`. None where
@@ -38,38 +38,24 @@ pub(crate) fn keep<F: Drop>(files: &mut Vec<Option<F>>, unit: Unit, file: F) -> 
 }
 
 /// Fills a buffer from a place of the file, and answers whether that was done.
-pub(crate) fn get<F: Read + Seek>(
-    files: &mut Vec<Option<F>>,
-    unit: Unit,
-    at: u64,
-    buf: &mut [u8],
-) -> bool {
-    match files.get_mut(unit.0 as usize) {
-        Some(Some(file)) => {
-            file.seek(SeekFrom::Start(at)).is_ok() && file.read_exact(buf).is_ok()
-        }
+pub(crate) fn get<F: FileExt>(files: &[Option<F>], unit: Unit, at: u64, buf: &mut [u8]) -> bool {
+    match files.get(unit.0 as usize) {
+        Some(Some(file)) => file.read_exact_at(buf, at).is_ok(),
         _ => false,
     }
 }
 
 /// Writes all the bytes at a place of the file and no others, and answers whether that was done.
-pub(crate) fn put<F: Write + Seek>(
-    files: &mut Vec<Option<F>>,
-    unit: Unit,
-    at: u64,
-    bytes: &[u8],
-) -> bool {
-    match files.get_mut(unit.0 as usize) {
-        Some(Some(file)) => {
-            file.seek(SeekFrom::Start(at)).is_ok() && file.write_all(bytes).is_ok()
-        }
+pub(crate) fn put<F: FileExt>(files: &[Option<F>], unit: Unit, at: u64, bytes: &[u8]) -> bool {
+    match files.get(unit.0 as usize) {
+        Some(Some(file)) => file.write_all_at(bytes, at).is_ok(),
         _ => false,
     }
 }
 
 /// Syncs the file: what was written is on the disk. Answers whether that was done.
-pub(crate) fn sync<F: OpenFile>(files: &mut Vec<Option<F>>, unit: Unit) -> bool {
-    match files.get_mut(unit.0 as usize) {
+pub(crate) fn sync<F: OpenFile>(files: &[Option<F>], unit: Unit) -> bool {
+    match files.get(unit.0 as usize) {
         Some(Some(file)) => file.sync_all().is_ok(),
         _ => false,
     }

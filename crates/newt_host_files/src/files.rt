@@ -7,6 +7,7 @@ use crate::{counts, device, edge};
 use newt_host::{Failed, Host, Unit};
 use std::alloc::Global;
 use std::io::{Read, Write};
+use std::os::unix::fs::FileExt;
 use std::rt::Files;
 
 /// Standard input and output, and up to eight files.
@@ -51,7 +52,10 @@ impl<S: Files + Drop, R: Read + Drop, W: Write + Drop> FileHost<S, R, W> {
     }
 }
 
-impl<S: Files + Drop, R: Read + Drop, W: Write + Drop> Host for FileHost<S, R, W> {
+impl<S: Files + Drop, R: Read + Drop, W: Write + Drop> Host for FileHost<S, R, W>
+where
+    S::File: FileExt,
+{
     ghost use Rattle.std.specs.Prelude.{false};
     ghost use Rattle.newt_host_files.specs.Outside.{told_by};
     ghost use Rattle.newt_host_files.specs.Laws.{eight_of, few_of, none_of, untold};
@@ -119,25 +123,25 @@ impl<S: Files + Drop, R: Read + Drop, W: Write + Drop> Host for FileHost<S, R, W
 
     fn read(&mut self, unit: Unit, at: u32, buf: &mut [u8]) -> Result<(), Failed> {
         let bytes = buf.len() as u64;
-        let done = device::get(&mut self.files, unit, at as u64, buf);
+        let done = device::get(&self.files, unit, at as u64, buf);
         let card = &mut self.cards[unit.0 as usize];
         counts::fetched(card, bytes, done)
     }
 
     fn program(&mut self, unit: Unit, at: u32, bytes: &[u8]) -> Result<(), Failed> {
-        let done = device::put(&mut self.files, unit, at as u64, bytes);
+        let done = device::put(&self.files, unit, at as u64, bytes);
         let card = &mut self.cards[unit.0 as usize];
         counts::programmed(card, bytes.len() as u64, done)
     }
 
     fn erase(&mut self, unit: Unit, block: u32) -> Result<(), Failed> {
-        let done = device::put(&mut self.files, unit, 4096 * block as u64, &[255; 4096]);
+        let done = device::put(&self.files, unit, 4096 * block as u64, &[255; 4096]);
         let card = &mut self.cards[unit.0 as usize];
         counts::touched(card, done)
     }
 
     fn sync(&mut self, unit: Unit) -> Result<(), Failed> {
-        let done = device::sync(&mut self.files, unit);
+        let done = device::sync(&self.files, unit);
         let card = &mut self.cards[unit.0 as usize];
         counts::touched(card, done)
     }
