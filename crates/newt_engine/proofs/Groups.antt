@@ -3,11 +3,11 @@ use Rattle.std.proofs.Common.{◌≡◌, refl, true, false}
 use Rattle.newt_spec_world.specs.declared.command.Command.{Command}
 use Rattle.newt_spec_world.specs.declared.command.Command.TheVariants as command
 use Rattle.newt_laws_cursors.specs.Cursors.{uses_cursors}
-use Rattle.newt_engine.specs.Ends.{uses_device}
-use Rattle.newt_engine.specs.Groups.{on_entry, on_graph, on_place}
+use Rattle.newt_engine.specs.Ends.{takes_memory, uses_device}
+use Rattle.newt_engine.specs.Groups.{is_shown, on_place}
 
 -- there are no others
-pub no_other : (c : Command) → on_graph c ≡ false → uses_device c ≡ false → ((t : _) → c ≡ command.Time t → ⊥) → (c ≡ command.Quit → ⊥) → ((u : _) → c ≡ command.Unmount u → ⊥) → (c ≡ command.Stores → ⊥)
+pub no_other : (c : Command) → is_shown c ≡ false → uses_device c ≡ false → ((t : _) → c ≡ command.Time t → ⊥) → (c ≡ command.Quit → ⊥) → ((u : _) → c ≡ command.Unmount u → ⊥) → (c ≡ command.Stores → ⊥)
     → ((u : _) → c ≡ command.Default u → ⊥) → ((u : _) → c ≡ command.Soups u → ⊥) → ((u s : _) → c ≡ command.Indexes u s → ⊥) → ((u s : _) → c ≡ command.Tags u s → ⊥) → ((u s i : _) → c ≡ command.Alias u s i → ⊥) → ((g : _) → c ≡ command.Resolve g → ⊥) → ⊥
 unfolding uses_cursors
 no_other (command.Time t) g d time quit unmount stores default soups indexes tags alias resolve = time t refl
@@ -22,39 +22,39 @@ no_other (command.Alias u s i) g d time quit unmount stores default soups indexe
 no_other (command.Resolve x) g d time quit unmount stores default soups indexes tags alias resolve = resolve x refl
 no_other _ g d time quit unmount stores default soups indexes tags alias resolve = cc
 
--- a command that is none of these takes no graph
-pub no_graph : (k : Command) → ((a : _) → k ≡ command.Nsof a → ⊥) → ((a : _) → k ≡ command.Lit a → ⊥) → ((a b c : _) → k ≡ command.Add a b c → ⊥) → ((a b c : _) → k ≡ command.Addx a b c → ⊥) → ((a b : _) → k ≡ command.Addu a b → ⊥) → ((a b c d e : _) → k ≡ command.Set a b c d e → ⊥) → ((a b c d : _) → k ≡ command.Change a b c d → ⊥) → on_graph k ≡ false
-no_graph (command.Nsof a) nsof lit add addx addu set change = absurd (nsof a refl)
-no_graph (command.Lit a) nsof lit add addx addu set change = absurd (lit a refl)
-no_graph (command.Add a b c) nsof lit add addx addu set change = absurd (add a b c refl)
-no_graph (command.Addx a b c) nsof lit add addx addu set change = absurd (addx a b c refl)
-no_graph (command.Addu a b) nsof lit add addx addu set change = absurd (addu a b refl)
-no_graph (command.Set a b c d e) nsof lit add addx addu set change = absurd (set a b c d e refl)
-no_graph (command.Change a b c d) nsof lit add addx addu set change = absurd (change a b c d refl)
-no_graph _ nsof lit add addx addu set change = refl
-
--- a command that is none of these is on no entry
-pub no_entry : (k : Command) → ((a b c : _) → k ≡ command.Get a b c → ⊥) → ((a b c : _) → k ≡ command.Getx a b c → ⊥) → ((a b c : _) → k ≡ command.Remove a b c → ⊥) → ((a b c d e : _) → k ≡ command.Copy a b c d e → ⊥) → ((a b c d e : _) → k ≡ command.Move a b c d e → ⊥) → ((a b c d e f : _) → k ≡ command.Vread a b c d e f → ⊥) → ((a b c d e f : _) → k ≡ command.Vwrite a b c d e f → ⊥) → on_entry k ≡ false
-no_entry (command.Get a b c) get getx remove copy move vread vwrite = absurd (get a b c refl)
-no_entry (command.Getx a b c) get getx remove copy move vread vwrite = absurd (getx a b c refl)
-no_entry (command.Remove a b c) get getx remove copy move vread vwrite = absurd (remove a b c refl)
-no_entry (command.Copy a b c d e) get getx remove copy move vread vwrite = absurd (copy a b c d e refl)
-no_entry (command.Move a b c d e) get getx remove copy move vread vwrite = absurd (move a b c d e refl)
-no_entry (command.Vread a b c d e f) get getx remove copy move vread vwrite = absurd (vread a b c d e f refl)
-no_entry (command.Vwrite a b c d e f) get getx remove copy move vread vwrite = absurd (vwrite a b c d e f refl)
-no_entry _ get getx remove copy move vread vwrite = refl
-
--- one that is none of these either uses no device
-pub no_device : (k : Command) → uses_cursors k ≡ false → on_graph k ≡ false → on_entry k ≡ false → ((a b c : _) → k ≡ command.Format a b c → ⊥) → ((a : _) → k ≡ command.Mount a → ⊥) → ((a b : _) → k ≡ command.Soup a b → ⊥) → ((a b : _) → k ≡ command.Drop a b → ⊥) → ((a b c : _) → k ≡ command.Index a b c → ⊥) → ((a b c : _) → k ≡ command.Unindex a b c → ⊥) → ((a b c d : _) → k ≡ command.SetTags a b c d → ⊥) → uses_device k ≡ false
+-- a command that uses no cursor and is none of these shows no graph and uses no device
+pub in_memory : (k : Command) → uses_cursors k ≡ false
+    → ((a : _) → k ≡ command.Nsof a → ⊥) → ((a : _) → k ≡ command.Lit a → ⊥) → ((a b c : _) → k ≡ command.Format a b c → ⊥)
+    → ((a : _) → k ≡ command.Mount a → ⊥) → ((a b : _) → k ≡ command.Soup a b → ⊥) → ((a b : _) → k ≡ command.Drop a b → ⊥)
+    → ((a b c : _) → k ≡ command.Index a b c → ⊥) → ((a b c : _) → k ≡ command.Unindex a b c → ⊥) → ((a b c d : _) → k ≡ command.SetTags a b c d → ⊥)
+    → ((a b c : _) → k ≡ command.Add a b c → ⊥) → ((a b c : _) → k ≡ command.Addx a b c → ⊥) → ((a b : _) → k ≡ command.Addu a b → ⊥)
+    → ((a b c : _) → k ≡ command.Get a b c → ⊥) → ((a b c : _) → k ≡ command.Getx a b c → ⊥) → ((a b c d e : _) → k ≡ command.Set a b c d e → ⊥)
+    → ((a b c d : _) → k ≡ command.Change a b c d → ⊥) → ((a b c : _) → k ≡ command.Remove a b c → ⊥) → ((a b c d e : _) → k ≡ command.Copy a b c d e → ⊥)
+    → ((a b c d e : _) → k ≡ command.Move a b c d e → ⊥) → ((a b c d e f : _) → k ≡ command.Vread a b c d e f → ⊥) → ((a b c d e f : _) → k ≡ command.Vwrite a b c d e f → ⊥)
+    → (is_shown k ≡ false) × (uses_device k ≡ false)
 unfolding uses_cursors
-no_device (command.Format a b c) cursors graph entry format mount soup drop index unindex settags = absurd (format a b c refl)
-no_device (command.Mount a) cursors graph entry format mount soup drop index unindex settags = absurd (mount a refl)
-no_device (command.Soup a b) cursors graph entry format mount soup drop index unindex settags = absurd (soup a b refl)
-no_device (command.Drop a b) cursors graph entry format mount soup drop index unindex settags = absurd (drop a b refl)
-no_device (command.Index a b c) cursors graph entry format mount soup drop index unindex settags = absurd (index a b c refl)
-no_device (command.Unindex a b c) cursors graph entry format mount soup drop index unindex settags = absurd (unindex a b c refl)
-no_device (command.SetTags a b c d) cursors graph entry format mount soup drop index unindex settags = absurd (settags a b c d refl)
-no_device _ cursors graph entry format mount soup drop index unindex settags = cc
+in_memory (command.Nsof a) cursors nsof lit format mount soup drop index unindex settags add addx addu get getx set change remove copy move vread vwrite = absurd (nsof a refl)
+in_memory (command.Lit a) cursors nsof lit format mount soup drop index unindex settags add addx addu get getx set change remove copy move vread vwrite = absurd (lit a refl)
+in_memory (command.Format a b c) cursors nsof lit format mount soup drop index unindex settags add addx addu get getx set change remove copy move vread vwrite = absurd (format a b c refl)
+in_memory (command.Mount a) cursors nsof lit format mount soup drop index unindex settags add addx addu get getx set change remove copy move vread vwrite = absurd (mount a refl)
+in_memory (command.Soup a b) cursors nsof lit format mount soup drop index unindex settags add addx addu get getx set change remove copy move vread vwrite = absurd (soup a b refl)
+in_memory (command.Drop a b) cursors nsof lit format mount soup drop index unindex settags add addx addu get getx set change remove copy move vread vwrite = absurd (drop a b refl)
+in_memory (command.Index a b c) cursors nsof lit format mount soup drop index unindex settags add addx addu get getx set change remove copy move vread vwrite = absurd (index a b c refl)
+in_memory (command.Unindex a b c) cursors nsof lit format mount soup drop index unindex settags add addx addu get getx set change remove copy move vread vwrite = absurd (unindex a b c refl)
+in_memory (command.SetTags a b c d) cursors nsof lit format mount soup drop index unindex settags add addx addu get getx set change remove copy move vread vwrite = absurd (settags a b c d refl)
+in_memory (command.Add a b c) cursors nsof lit format mount soup drop index unindex settags add addx addu get getx set change remove copy move vread vwrite = absurd (add a b c refl)
+in_memory (command.Addx a b c) cursors nsof lit format mount soup drop index unindex settags add addx addu get getx set change remove copy move vread vwrite = absurd (addx a b c refl)
+in_memory (command.Addu a b) cursors nsof lit format mount soup drop index unindex settags add addx addu get getx set change remove copy move vread vwrite = absurd (addu a b refl)
+in_memory (command.Get a b c) cursors nsof lit format mount soup drop index unindex settags add addx addu get getx set change remove copy move vread vwrite = absurd (get a b c refl)
+in_memory (command.Getx a b c) cursors nsof lit format mount soup drop index unindex settags add addx addu get getx set change remove copy move vread vwrite = absurd (getx a b c refl)
+in_memory (command.Set a b c d e) cursors nsof lit format mount soup drop index unindex settags add addx addu get getx set change remove copy move vread vwrite = absurd (set a b c d e refl)
+in_memory (command.Change a b c d) cursors nsof lit format mount soup drop index unindex settags add addx addu get getx set change remove copy move vread vwrite = absurd (change a b c d refl)
+in_memory (command.Remove a b c) cursors nsof lit format mount soup drop index unindex settags add addx addu get getx set change remove copy move vread vwrite = absurd (remove a b c refl)
+in_memory (command.Copy a b c d e) cursors nsof lit format mount soup drop index unindex settags add addx addu get getx set change remove copy move vread vwrite = absurd (copy a b c d e refl)
+in_memory (command.Move a b c d e) cursors nsof lit format mount soup drop index unindex settags add addx addu get getx set change remove copy move vread vwrite = absurd (move a b c d e refl)
+in_memory (command.Vread a b c d e f) cursors nsof lit format mount soup drop index unindex settags add addx addu get getx set change remove copy move vread vwrite = absurd (vread a b c d e f refl)
+in_memory (command.Vwrite a b c d e f) cursors nsof lit format mount soup drop index unindex settags add addx addu get getx set change remove copy move vread vwrite = absurd (vwrite a b c d e f refl)
+in_memory _ cursors nsof lit format mount soup drop index unindex settags add addx addu get getx set change remove copy move vread vwrite = (cc, cc)
 
 -- a command on cursors that is none of these is on their places
 pub on_places : (k : Command) → uses_cursors k ≡ true → ((a : _) → k ≡ command.Entry a → ⊥) → ((a : _) → k ≡ command.Next a → ⊥) → ((a : _) → k ≡ command.Prev a → ⊥) → ((a : _) → k ≡ command.Reset a → ⊥) → ((a : _) → k ≡ command.End a → ⊥) → ((a b : _) → k ≡ command.Moveby a b → ⊥) → ((a b c : _) → k ≡ command.Goto a b c → ⊥) → ((a b : _) → k ≡ command.Gotokey a b → ⊥) → on_place k ≡ true
@@ -78,3 +78,9 @@ no_place (command.Which a) place query all count which clone close = which a ref
 no_place (command.Clone a) place query all count which clone close = clone a refl
 no_place (command.Close a) place query all count which clone close = close a refl
 no_place _ place query all count which clone close = cc
+
+-- a command on cursors may take memory and use a device
+pub cursors_use_all : (k : Command) → uses_cursors k ≡ true → (takes_memory k ≡ false → ⊥) × (uses_device k ≡ false → ⊥)
+unfolding uses_cursors
+cursors_use_all (command.Nsof _) cursors = (λ none. cc, λ none. cc)
+cursors_use_all _ cursors = (λ none. cc, λ none. cc)

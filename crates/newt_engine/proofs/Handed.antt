@@ -12,36 +12,36 @@ use Rattle.newt_spec_world.specs.Reply as plain
 use Rattle.newt_spec_world.specs.World.{World}
 use Rattle.newt_laws_answers.specs.Answering.{Answering}
 use Rattle.newt_laws_answers.specs.Spoken.{answer_now}
-use Rattle.newt_engine_card.specs.declared.fault.Fault.{Fault}
-use Rattle.newt_engine_card.specs.declared.fault.Fault.TheVariants.{Refused, Stop}
+use Rattle.newt_store_change.specs.declared.fault.StoreFault.{StoreFault}
+use Rattle.newt_store_change.specs.declared.fault.StoreFault.TheVariants.{Refused, Stop}
 use Rattle.newt_engine_units.specs.declared.units.Units.{Units}
 use Rattle.newt_engine_units.specs.Answers.{Answers}
-use Rattle.newt_engine_card.specs.Faults.{GoesOn, HasFaultCause, IsRefusal, NoDevice}
+use Rattle.newt_store_change.specs.Faults.{GoesOn, HasFaultCause, IsRefusal, NoDevice}
 use Rattle.newt_engine_units.specs.Stands.{Eight, Stands, world_of}
 use Rattle.newt_engine_units.proofs.Known.{Laws}
 use Rattle.newt_engine_units.proofs.Turns.{still-moments}
 use Rattle.newt_engine_cursors.specs.Replies as walk
 use Rattle.newt_engine.specs.Handed.{HandsOn, IsHanded}
 
-module _ {T : Type 0} {made : T → plain.Reply} {found : Result T Fault} {result : Result Reply Fault} (on : HandsOn made found result) where
+module _ {T : Type 0} {made : T → plain.Reply} {found : Result T StoreFault} {result : Result Reply StoreFault} (on : HandsOn made found result) where
   -- where the command goes on, so did the call
   pub goes_back : GoesOn result → GoesOn found
   goes_back h = go found result on.same h
     where
-      fault : (f : Fault) → GoesOn {T = Reply} (Err f) → GoesOn {T = T} (Err f)
+      fault : (f : StoreFault) → GoesOn {T = Reply} (Err f) → GoesOn {T = T} (Err f)
       fault (Refused r) h = tt
       fault (Stop stop) h = absurd h
 
-      go : (f : Result T Fault) (r : Result Reply Fault) → IsHanded made f r → GoesOn r → GoesOn f
+      go : (f : Result T StoreFault) (r : Result Reply StoreFault) → IsHanded made f r → GoesOn r → GoesOn f
       go (Ok x) _ s h = tt
       go (Err f) (Err g) s h = fault f (subst (λ e. GoesOn {T = Reply} (Err e)) s h)
       go (Err f) (Ok y) s h = absurd s
 
   -- what holds of the call's fault holds of the command's
-  pub err_on : (P : Fault → Type 0) → IfErr found P → IfErr result P
+  pub err_on : (P : StoreFault → Type 0) → IfErr found P → IfErr result P
   err_on P h = go found result on.same h
     where
-      go : (f : Result T Fault) (r : Result Reply Fault) → IsHanded made f r → IfErr f P → IfErr r P
+      go : (f : Result T StoreFault) (r : Result Reply StoreFault) → IsHanded made f r → IfErr f P → IfErr r P
       go (Ok x) (Ok y) s h = tt
       go (Err f) (Err g) s h = subst P (sym s) h
       go (Ok x) (Err g) s h = absurd s
@@ -51,11 +51,11 @@ module _ {T : Type 0} {made : T → plain.Reply} {found : Result T Fault} {resul
   pub answered_on : (w v : World) {c d : Command} → c ≡ d → Answers w v d made found → Answers w v c said result
   answered_on w v {c} {d} is h = go found result on.same (subst (λ x. Answers w v x made found) (sym is) h)
     where
-      fault : (f : Fault) → Answers {T = T} w v c made (Err f) → Answers w v c said (Err f)
+      fault : (f : StoreFault) → Answers {T = T} w v c made (Err f) → Answers w v c said (Err f)
       fault (Refused r) k = k
       fault (Stop stop) k = tt
 
-      go : (f : Result T Fault) (r : Result Reply Fault) → IsHanded made f r → Answers w v c made f → Answers w v c said r
+      go : (f : Result T StoreFault) (r : Result Reply StoreFault) → IsHanded made f r → Answers w v c made f → Answers w v c said r
       go (Ok x) (Ok y) s h = h ∙ ap (λ r. (v, r)) (sym s)
       go (Err f) (Err g) s h = subst (λ e. Answers w v c said (Err e)) (sym s) (fault f h)
       go (Ok x) (Err g) s h = absurd s
@@ -65,11 +65,11 @@ module _ {T : Type 0} {made : T → plain.Reply} {found : Result T Fault} {resul
   pub walked_on : (w v : World) {c d : Command} → c ≡ d → walk.Answers w v d made found → walk.Answers w v c said result
   walked_on w v {c} {d} is h = go found result on.same (subst (λ x. walk.Answers w v x made found) (sym is) h)
     where
-      fault : (f : Fault) → walk.Answers {T = T} w v c made (Err f) → walk.Answers w v c said (Err f)
+      fault : (f : StoreFault) → walk.Answers {T = T} w v c made (Err f) → walk.Answers w v c said (Err f)
       fault (Refused r) k = k
       fault (Stop stop) k = tt
 
-      go : (f : Result T Fault) (r : Result Reply Fault) → IsHanded made f r → walk.Answers w v c made f → walk.Answers w v c said r
+      go : (f : Result T StoreFault) (r : Result Reply StoreFault) → IsHanded made f r → walk.Answers w v c made f → walk.Answers w v c said r
       go (Ok x) (Ok y) s h = h ∙ ap (λ r. (v, r)) (sym s)
       go (Err f) (Err g) s h = subst (λ e. walk.Answers w v c said (Err e)) (sym s) (fault f h)
       go (Ok x) (Err g) s h = absurd s
@@ -90,18 +90,18 @@ told_stands {C} {place} {stands} told units o s t = subst (λ b. Stands place st
 
 -- ---- causes
 
-pub has_cause : {T : Type 0} (o p : Outside) (result : Result T Fault) → IfErr result (λ fault. NoDevice fault) → IfErr result (λ fault. HasFaultCause fault o p)
+pub has_cause : {T : Type 0} (o p : Outside) (result : Result T StoreFault) → IfErr result (λ fault. NoDevice fault) → IfErr result (λ fault. HasFaultCause fault o p)
 has_cause o p (Ok x) h = tt
 has_cause o p (Err (Refused r)) h = tt
 has_cause o p (Err (Stop stops.Memory)) h = tt
 has_cause o p (Err (Stop (stops.Device unit))) h = absurd h
 
 -- a refusal has no device to blame
-pub blameless : {T : Type 0} (result : Result T Fault) → IfErr result (λ fault. IsRefusal fault) → IfErr result (λ fault. NoDevice fault)
+pub blameless : {T : Type 0} (result : Result T StoreFault) → IfErr result (λ fault. IsRefusal fault) → IfErr result (λ fault. NoDevice fault)
 blameless (Ok x) h = tt
 blameless (Err (Refused r)) h = tt
 blameless (Err (Stop stop)) h = absurd h
 
 -- want of memory that was handed on is the answer
-pub for_memory : (P : Result Reply Fault → Type 0) (result : Result Reply Fault) → (e : Fault) × (result ≡ Err e) × (e ≡ Stop stops.Memory) → P (Err (Stop stops.Memory)) → P result
-for_memory P result e h = subst P (sym (e.1 ∙ ap {B = Result Reply Fault} (λ f. Err f) e.2)) h
+pub for_memory : (P : Result Reply StoreFault → Type 0) (result : Result Reply StoreFault) → (e : StoreFault) × (result ≡ Err e) × (e ≡ Stop stops.Memory) → P (Err (Stop stops.Memory)) → P result
+for_memory P result e h = subst P (sym (e.1 ∙ ap {B = Result Reply StoreFault} (λ f. Err f) e.2)) h

@@ -4,3 +4,4 @@ pub mod Handed
 pub mod Refusing
 pub mod Settling
 pub mod Starting
+pub mod Obeying

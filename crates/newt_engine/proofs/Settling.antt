@@ -22,11 +22,11 @@ use Rattle.newt_laws_cursors.specs.Cursors.{with_cursors, uses_cursors}
 use Rattle.newt_laws_answers.specs.Answering.{Answering}
 use Rattle.newt_laws_answers.specs.Spoken.{answer_now}
 use Rattle.newt_laws_answers.proofs.Spoken.{now-apart, now-mounted-apart, now-on-cursors, now-settled, now-still}
-use Rattle.newt_engine_card.specs.declared.fault.Fault.{Fault}
-use Rattle.newt_engine_card.specs.declared.fault.Fault.TheVariants.{Refused, Stop as Ends}
+use Rattle.newt_store_change.specs.declared.fault.StoreFault.{StoreFault}
+use Rattle.newt_store_change.specs.declared.fault.StoreFault.TheVariants.{Refused, Stop as Ends}
 use Rattle.newt_engine_units.specs.declared.units.Units.{Units}
 use Rattle.newt_engine_units.specs.Answers.{Answers}
-use Rattle.newt_engine_card.specs.Faults.{GoesOn, IsEnd}
+use Rattle.newt_store_change.specs.Faults.{GoesOn, IsEnd}
 use Rattle.newt_engine_units.specs.Stands.{Eight, Stands, world_of}
 use Rattle.newt_engine_units.proofs.Known.{Laws, at-card, at-none}
 use Rattle.newt_engine_cursors.specs.Fits.{DeskFits}
@@ -54,18 +54,18 @@ moves_in_memory _ h k = cc
 -- ---- one command
 
 -- what holds of the world after a command that goes on
-pub goes_apart : {T : Type 0} (w v : World) (c : Command) (made : T → plain.Reply) (result : Result T Fault) → MountedApart w → Answers w v c made result → GoesOn result → MountedApart v
+pub goes_apart : {T : Type 0} (w v : World) (c : Command) (made : T → plain.Reply) (result : Result T StoreFault) → MountedApart w → Answers w v c made result → GoesOn result → MountedApart v
 goes_apart w v c made (Ok x) h a goes = subst MountedApart (ap (λ (a : World × plain.Reply). a.0) a) (now-mounted-apart w c h)
 goes_apart w v c made (Err (Refused r)) h a goes = subst MountedApart (ap (λ (a : World × plain.Reply). a.0) a) (now-mounted-apart w c h)
 goes_apart w v c made (Err (Ends s)) h a goes = absurd goes
 
-pub goes_settled : {T : Type 0} (w v : World) (c : Command) (made : T → plain.Reply) (result : Result T Fault) → IsSettled w → Answers w v c made result → GoesOn result → IsSettled v
+pub goes_settled : {T : Type 0} (w v : World) (c : Command) (made : T → plain.Reply) (result : Result T StoreFault) → IsSettled w → Answers w v c made result → GoesOn result → IsSettled v
 goes_settled w v c made (Ok x) h a goes = subst IsSettled (ap (λ (a : World × plain.Reply). a.0) a) (now-settled w c h)
 goes_settled w v c made (Err (Refused r)) h a goes = subst IsSettled (ap (λ (a : World × plain.Reply). a.0) a) (now-settled w c h)
 goes_settled w v c made (Err (Ends s)) h a goes = absurd goes
 
 -- the commands of cursors are answered by the world of all commands
-pub walked_answers : {T : Type 0} (w v : World) (c : Command) (made : T → plain.Reply) (result : Result T Fault) → uses_cursors c ≡ true → walk.Answers w v c made result → Answers w v c made result
+pub walked_answers : {T : Type 0} (w v : World) (c : Command) (made : T → plain.Reply) (result : Result T StoreFault) → uses_cursors c ≡ true → walk.Answers w v c made result → Answers w v c made result
 walked_answers w v c made (Ok x) h a = now-on-cursors w c h ∙ a
 walked_answers w v c made (Err (Refused r)) h a = now-on-cursors w c h ∙ a
 walked_answers w v c made (Err (Ends s)) h a = tt
@@ -113,11 +113,11 @@ module _ {C : Type 0} {reads : List ℕ → Option Store} {place : C → ℕ} {s
   pub done_answers : (v : World) (reply : Reply) → moves_keys c ≡ false → answer_now w c ≡ (v, said reply) → (ls : List (Option Cursor)) → ls ≡ ks → Answers (with_cursors ks w) (with_cursors ls v) c said (Ok reply)
   done_answers v reply few done ls same = still v (said reply) few done ∙ ap (λ xs. (with_cursors xs v, said reply)) (sym same)
 
-  pub fault_answers : (v : World) (fault : Fault) → Answers w v c said (Err fault) → (ls : List (Option Cursor)) → ls ≡ ks → Answers (with_cursors ks w) (with_cursors ls v) c said (Err fault)
+  pub fault_answers : (v : World) (fault : StoreFault) → Answers w v c said (Err fault) → (ls : List (Option Cursor)) → ls ≡ ks → Answers (with_cursors ks w) (with_cursors ls v) c said (Err fault)
   fault_answers v (Refused r) h ls same = refuses v r h ∙ ap (λ xs. (with_cursors xs v, plain.Reply.refused r)) (sym same)
   fault_answers v (Ends stop) h ls same = tt
 
-  pub settled_answers : (v later : World) (reply : Reply) (result : Result Reply Fault) → answer_now w c ≡ (v, said reply) → (ls : List (Option Cursor)) → ls ≡ ks → OnOk result (later ≡ settle (with_cursors ls v))
+  pub settled_answers : (v later : World) (reply : Reply) (result : Result Reply StoreFault) → answer_now w c ≡ (v, said reply) → (ls : List (Option Cursor)) → ls ≡ ks → OnOk result (later ≡ settle (with_cursors ls v))
       → IfOk result (λ same. same ≡ reply) → IfErr result (λ fault. IsEnd fault) → Answers (with_cursors ks w) later c said result
   settled_answers v later reply (Ok x) done ls desk on same ends =
       settled_after v later (said x) (done ∙ ap (λ r. (v, said r)) (sym same)) (on ∙ ap (λ xs. settle (with_cursors xs v)) desk)
@@ -133,7 +133,7 @@ module _ {C : Type 0} {reads : List ℕ → Option Store} {place : C → ℕ} {s
 
 -- units and cursors stand after a command as they did before
 pub stands_after : {T C : Type 0} {reads : List ℕ → Option Store} {place : C → ℕ} {stands : Bool → C → Outside → Type 0} (told : Bool) (units later : Units C) (ks ls : List (Option Cursor)) (o p : Outside)
-    → Standing reads place stands told units ks o → Stands place stands told later p → Eight p → DeskFits ls → (c : Command) (made : T → plain.Reply) (result : Result T Fault)
+    → Standing reads place stands told units ks o → Stands place stands told later p → Eight p → DeskFits ls → (c : Command) (made : T → plain.Reply) (result : Result T StoreFault)
     → (IsTrue told → Answers (world_with reads units ks o) (world_with reads later ls p) c made result) → GoesOn result → Standing reads place stands told later ls p
 stands_after {T} {C} {reads} told units later ks ls o p s stand eight desk c made result answers goes = record {
   stand = stand;

@@ -5,9 +5,9 @@ use Rattle.newt_spec_world.specs.World.{World}
 use Rattle.newt_spec_world.specs.declared.command.Command.{Command}
 use Rattle.newt_spec_world.specs.declared.command.Command.TheVariants as command
 use Rattle.newt_laws_answers.specs.Bounds.{most_programmed}
-use Rattle.newt_engine_card.specs.declared.fault.Fault.{Fault}
+use Rattle.newt_store_change.specs.declared.fault.StoreFault.{StoreFault}
 use Rattle.newt_engine_card.specs.Bounds.{ProgramsAtMost, IsOpenOrSame}
-use Rattle.newt_engine_card.specs.Faults.{GoesOn}
+use Rattle.newt_store_change.specs.Faults.{GoesOn}
 
 -- a device is made one with a store
 abbrev pub is_format : Command → Bool
@@ -16,6 +16,6 @@ is_format _ = false
 
 -- What a command costs: but for a format, each unit is programmed by no more than the command may where there is room for that; and where the run goes on,
 -- each bank is not closed or is as it was.
-pub record CommandCosts {T : Type 0} (w : World) (c : Command) (result : Result T Fault) (old new : Outside) : Type 0 where
+pub record CommandCosts {T : Type 0} (w : World) (c : Command) (result : Result T StoreFault) (old new : Outside) : Type 0 where
   pub bound : is_format c ≡ false → (u : ℕ) → ProgramsAtMost (most_programmed w c u) u old new
   pub open_after : GoesOn result → (u : ℕ) → IsOpenOrSame u old.now new.now

@@ -4,3 +4,4 @@ pub mod Ends
 pub mod Handed
 pub mod Standing
 pub mod Laws
+pub mod Calls

@@ -1,27 +1,22 @@
 //! Commands that open, move, show or close a cursor.
-ghost use Rattle.std.specs.Prelude.{◌≡◌, true, false, IsTrue, IfErr};
-ghost use Rattle.newt_host.specs.Outside.{OnDevices};
-ghost use Rattle.newt_host.specs.Moments.{Always};
+ghost use Rattle.std.specs.Prelude.{◌≡◌, true, IsTrue, IfErr};
 ghost use Rattle.newt_reply.specs.Said.{said};
 ghost use Rattle.newt_laws_cursors.specs.Cursors.{uses_cursors};
-ghost use Rattle.newt_laws_answers.specs.Answering.{Answering};
-ghost use Rattle.newt_laws_answers.specs.Spoken.{answer_now};
-ghost use Rattle.newt_engine_units.specs.Answers as now;
-ghost use Rattle.newt_engine_card.specs.Faults.{GoesOn, HasFaultCause, IsRefusal, NoDevice};
+ghost use Rattle.newt_store_change.specs.Faults.{HasFaultCause};
 ghost use Rattle.newt_engine_units.specs.Stands.{Stands};
 ghost use Rattle.newt_laws_world.specs.Settled.{MountedApart};
 ghost use Rattle.newt_engine_cursors.specs.Fits.{DeskFits};
 ghost use Rattle.newt_engine_cursors.specs.Replies.{Answers};
 ghost use Rattle.newt_engine_cursors.specs.World.{AreRead, world_with};
-ghost use Rattle.newt_engine.specs.Bounds.{CommandCosts};
-ghost use Rattle.newt_engine.specs.Ends.{takes_memory, uses_device};
+ghost use Rattle.newt_engine.specs.Calls.{Served};
 ghost use Rattle.newt_engine.specs.Groups.{on_place};
 ghost use Rattle.newt_engine.specs.Standing.{Standing};
 
 use crate::replies::{done, numbered, opened, shown, sided};
 use crate::world::World;
 use newt_base::Refusal;
-use newt_engine_card::{Card, Fault};
+use newt_engine_card::Card;
+use newt_store_change::StoreFault;
 use newt_host::Host;
 use newt_reply::Reply;
 use newt_script::Command;
@@ -32,24 +27,17 @@ impl<C: Card> World<C> {
         &mut self,
         host: &mut H,
         command: &Command,
-    ) -> Result<Reply, Fault>
+    ) -> Result<Reply, StoreFault>
         requires stands { Standing C.reads C.place C.stands H.told self.old.units self.old.desk (H.outside host.old) }
         requires on_cursor { uses_cursors command.now ≡ true }
-        ensures stands { GoesOn result → Standing C.reads C.place C.stands H.told self.new.units self.new.desk (H.outside host.new) }
-        ensures answered { IsTrue H.told → now.Answers (world_with C.reads self.old.units self.old.desk (H.outside host.old)) (world_with C.reads self.new.units self.new.desk (H.outside host.new)) command.now said result }
-        ensures moments { IsTrue H.told → let w = world_with C.reads self.old.units self.old.desk (H.outside host.old) in
-            Always (Answering C.reads w (answer_now w command.now).0 (H.outside host.old).now) (H.outside host.old).now (H.outside host.new).now }
-        ensures costs { IsTrue H.told → CommandCosts (world_with C.reads self.old.units self.old.desk (H.outside host.old)) command.now result (H.outside host.old) (H.outside host.new) }
-        ensures alone { OnDevices (H.outside host.old) (H.outside host.new) }
-        ensures cause { IfErr result (λ fault. HasFaultCause fault (H.outside host.old) (H.outside host.new)) }
-        ensures ends { takes_memory command.now ≡ false → IfErr result (λ fault. IsRefusal fault) }
-        ensures device { uses_device command.now ≡ false → IfErr result (λ fault. NoDevice fault) }
+        ensures { Served C.reads C.place C.stands H.told command.now self.old self.new
+            (H.outside host.old) (H.outside host.new) result }
     {
         self.walk(host, command)
     }
 
     /// Moves or shows a cursor, or opens or closes one.
-    fn walk<H: Host>(&mut self, host: &mut H, command: &Command) -> Result<Reply, Fault>
+    fn walk<H: Host>(&mut self, host: &mut H, command: &Command) -> Result<Reply, StoreFault>
         requires desk { DeskFits self.old.desk }
         requires stands { Stands C.place C.stands H.told self.old.units (H.outside host.old) }
         requires on_cursor { uses_cursors command.now ≡ true }
@@ -80,7 +68,7 @@ impl<C: Card> World<C> {
     }
 
     /// Opens, counts, clones or closes a cursor, or tells its side.
-    fn change_places<H: Host>(&mut self, host: &mut H, command: &Command) -> Result<Reply, Fault>
+    fn change_places<H: Host>(&mut self, host: &mut H, command: &Command) -> Result<Reply, StoreFault>
         requires desk { DeskFits self.old.desk }
         requires stands { Stands C.place C.stands H.told self.old.units (H.outside host.old) }
         requires on_place { on_place command.now ≡ true }
@@ -106,7 +94,7 @@ impl<C: Card> World<C> {
                 units, desk, host, *cursor,
             )),
             Command::Close(cursor) => done(newt_engine_cursors::close(units, desk, host, *cursor)),
-            _ => Err(Fault::Refused(Refusal::Command)),
+            _ => Err(StoreFault::Refused(Refusal::Command)),
         }
     }
 }

@@ -8,12 +8,10 @@
 #![tactic(auto)]
 
 mod cursors;
-mod entries;
-mod graphs;
 mod memory;
+mod obey;
 mod replies;
 mod serve;
-mod stores;
 mod world;
 
 pub use world::World;

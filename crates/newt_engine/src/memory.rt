@@ -3,22 +3,24 @@ ghost use Rattle.std.specs.Prelude.{◌≡◌, Bool, true, false, IfErr};
 ghost use Rattle.newt_host.specs.Outside.{Outside};
 ghost use Rattle.newt_reply.specs.Said.{said};
 ghost use Rattle.newt_engine_units.specs.Answers.{Answers};
-ghost use Rattle.newt_engine_card.specs.Faults.{IsRefusal, NoDevice};
+ghost use Rattle.newt_store_change.specs.Faults.{IsRefusal, NoDevice};
 ghost use Rattle.newt_engine_units.specs.Stands.{Eight, Stands, world_of};
 ghost use Rattle.newt_engine.specs.Ends.{takes_memory, uses_device};
-ghost use Rattle.newt_engine.specs.Groups.{on_graph};
+ghost use Rattle.newt_engine.specs.Groups.{is_shown};
 
 use crate::replies::{alias_of, done, place, soup_rows, spec_rows, tag_row};
 use crate::world::World;
 use newt_base::Refusal;
-use newt_engine_card::{Card, Fault};
+use newt_engine_card::Card;
+use newt_engine_commands as commands;
+use newt_store_change::StoreFault;
 use newt_reply::Reply;
 use newt_script::Command;
 
 impl<C: Card> World<C> {
-    /// Obeys a command that uses no device and takes no graph.
-    pub(crate) fn obey_in_memory(&mut self, command: &Command) -> Result<Reply, Fault>
-        requires no_graph { on_graph command.now ≡ false }
+    /// Obeys a command that uses no device and shows no graph.
+    pub(crate) fn obey_in_memory(&mut self, command: &Command) -> Result<Reply, StoreFault>
+        requires not_shown { is_shown command.now ≡ false }
         requires no_device { uses_device command.now ≡ false }
         ensures stands { (told : Bool) (outside : Outside) → Stands C.place C.stands told self.old.units outside → Stands C.place C.stands told self.new.units outside }
         ensures answered { (outside : Outside) → Eight outside → Stands C.place C.stands true self.old.units outside →
@@ -38,21 +40,21 @@ impl<C: Card> World<C> {
             Command::Default(unit) => done(self.units.set_default(*unit)),
             Command::Soups(unit) => soup_rows(self.units.soups(*unit)),
             Command::Indexes(unit, name) => {
-                spec_rows(newt_engine_commands::indexes(&self.units, *unit, name))
+                spec_rows(commands::indexes(&self.units, *unit, name))
             }
-            Command::Tags(unit, name) => tag_row(newt_engine_commands::tags(
+            Command::Tags(unit, name) => tag_row(commands::tags(
                 &self.units,
                 *unit,
                 name,
             )),
             Command::Alias(unit, name, uid) => {
                 alias_of(
-                    newt_engine_commands::alias(&self.units, *unit, name, *uid),
+                    commands::alias(&self.units, *unit, name, *uid),
                     *uid,
                 )
             }
             Command::Resolve(graph) => place(self.units.resolve(graph)),
-            _ => Err(Fault::Refused(Refusal::Command)),
+            _ => Err(StoreFault::Refused(Refusal::Command)),
         }
     }
 }

@@ -7,7 +7,7 @@ ghost use Rattle.newt_engine_cursors.specs.Replies.{shown_reply, side_reply};
 ghost use Rattle.newt_engine.specs.Handed.{HandsOn};
 
 use newt_base::{Name, Sig, Uid};
-use newt_engine_card::{Entry, Fault};
+use newt_store_change::{Entry, StoreFault};
 use newt_engine_cursors::{Shown, Side};
 use newt_graph::Bytes;
 use newt_host::Unit;
@@ -15,7 +15,7 @@ use newt_reply::{Alias, Reply, SoupRows, SpecRows, TagRow};
 use newt_tags::TagTable;
 
 /// That it was done.
-pub(crate) fn done(found: Result<(), Fault>) -> Result<Reply, Fault>
+pub(crate) fn done(found: Result<(), StoreFault>) -> Result<Reply, StoreFault>
     ensures { HandsOn (λ _. plain.Reply.done) found result }
 {
     match found {
@@ -25,7 +25,7 @@ pub(crate) fn done(found: Result<(), Fault>) -> Result<Reply, Fault>
 }
 
 /// A signature, an id or a count.
-pub(crate) fn numbered(found: Result<u32, Fault>) -> Result<Reply, Fault>
+pub(crate) fn numbered(found: Result<u32, StoreFault>) -> Result<Reply, StoreFault>
     ensures { HandsOn (λ n. plain.Reply.number n) found result }
 {
     match found {
@@ -35,7 +35,7 @@ pub(crate) fn numbered(found: Result<u32, Fault>) -> Result<Reply, Fault>
 }
 
 /// The number of a cursor that was opened.
-pub(crate) fn opened(found: Result<u8, Fault>) -> Result<Reply, Fault>
+pub(crate) fn opened(found: Result<u8, StoreFault>) -> Result<Reply, StoreFault>
     ensures { HandsOn (λ n. plain.Reply.number n) found result }
 {
     match found {
@@ -45,7 +45,7 @@ pub(crate) fn opened(found: Result<u8, Fault>) -> Result<Reply, Fault>
 }
 
 /// The unit and the id of an entry that was added.
-pub(crate) fn added(found: Result<(Unit, u32), Fault>) -> Result<Reply, Fault>
+pub(crate) fn added(found: Result<(Unit, u32), StoreFault>) -> Result<Reply, StoreFault>
     ensures { HandsOn (λ x. plain.Reply.added x.0 x.1) found result }
 {
     match found {
@@ -55,7 +55,7 @@ pub(crate) fn added(found: Result<(Unit, u32), Fault>) -> Result<Reply, Fault>
 }
 
 /// The signature and the name of a store that was mounted.
-pub(crate) fn mounted(found: Result<(Sig, Name), Fault>) -> Result<Reply, Fault>
+pub(crate) fn mounted(found: Result<(Sig, Name), StoreFault>) -> Result<Reply, StoreFault>
     ensures { HandsOn (λ x. plain.Reply.store x.0 x.1) found result }
 {
     match found {
@@ -65,7 +65,7 @@ pub(crate) fn mounted(found: Result<(Sig, Name), Fault>) -> Result<Reply, Fault>
 }
 
 /// An entry, its graph as a literal.
-pub(crate) fn timed(found: Result<Entry, Fault>) -> Result<Reply, Fault>
+pub(crate) fn timed(found: Result<Entry, StoreFault>) -> Result<Reply, StoreFault>
     ensures { HandsOn (λ e. plain.Reply.timed e.time e.graph) found result }
 {
     match found {
@@ -75,7 +75,7 @@ pub(crate) fn timed(found: Result<Entry, Fault>) -> Result<Reply, Fault>
 }
 
 /// An entry, its graph as an object stream.
-pub(crate) fn timed_nsof(found: Result<Entry, Fault>) -> Result<Reply, Fault>
+pub(crate) fn timed_nsof(found: Result<Entry, StoreFault>) -> Result<Reply, StoreFault>
     ensures { HandsOn (λ e. plain.Reply.timed_nsof e.time e.graph) found result }
 {
     match found {
@@ -85,7 +85,7 @@ pub(crate) fn timed_nsof(found: Result<Entry, Fault>) -> Result<Reply, Fault>
 }
 
 /// Bytes.
-pub(crate) fn hex(found: Result<Bytes, Fault>) -> Result<Reply, Fault>
+pub(crate) fn hex(found: Result<Bytes, StoreFault>) -> Result<Reply, StoreFault>
     ensures { HandsOn (λ bytes. plain.Reply.hex bytes) found result }
 {
     match found {
@@ -95,7 +95,7 @@ pub(crate) fn hex(found: Result<Bytes, Fault>) -> Result<Reply, Fault>
 }
 
 /// The soups of a store.
-pub(crate) fn soup_rows(found: Result<SoupRows, Fault>) -> Result<Reply, Fault>
+pub(crate) fn soup_rows(found: Result<SoupRows, StoreFault>) -> Result<Reply, StoreFault>
     ensures { HandsOn (λ rows. plain.Reply.soups (map soup_row rows)) found result }
 {
     match found {
@@ -105,7 +105,7 @@ pub(crate) fn soup_rows(found: Result<SoupRows, Fault>) -> Result<Reply, Fault>
 }
 
 /// The indexes of a soup.
-pub(crate) fn spec_rows(found: Result<SpecRows, Fault>) -> Result<Reply, Fault>
+pub(crate) fn spec_rows(found: Result<SpecRows, StoreFault>) -> Result<Reply, StoreFault>
     ensures { HandsOn (λ specs. plain.Reply.indexes specs) found result }
 {
     match found {
@@ -115,7 +115,7 @@ pub(crate) fn spec_rows(found: Result<SpecRows, Fault>) -> Result<Reply, Fault>
 }
 
 /// The tags declaration of a soup.
-pub(crate) fn tag_row(found: Result<Option<TagTable>, Fault>) -> Result<Reply, Fault>
+pub(crate) fn tag_row(found: Result<Option<TagTable>, StoreFault>) -> Result<Reply, StoreFault>
     ensures { HandsOn (λ table. plain.Reply.tags table) found result }
 {
     match found {
@@ -125,7 +125,7 @@ pub(crate) fn tag_row(found: Result<Option<TagTable>, Fault>) -> Result<Reply, F
 }
 
 /// The alias of the entry of this id, by the signatures of its store and soup.
-pub(crate) fn alias_of(found: Result<(Sig, Sig), Fault>, uid: Uid) -> Result<Reply, Fault>
+pub(crate) fn alias_of(found: Result<(Sig, Sig), StoreFault>, uid: Uid) -> Result<Reply, StoreFault>
     ensures { HandsOn (λ x. plain.Reply.alias x.0 x.1 uid) found result }
 {
     match found {
@@ -135,7 +135,7 @@ pub(crate) fn alias_of(found: Result<(Sig, Sig), Fault>, uid: Uid) -> Result<Rep
 }
 
 /// Where the entry of an alias is, or that there is none.
-pub(crate) fn place(found: Result<Option<(Unit, Name, Uid)>, Fault>) -> Result<Reply, Fault>
+pub(crate) fn place(found: Result<Option<(Unit, Name, Uid)>, StoreFault>) -> Result<Reply, StoreFault>
     ensures { HandsOn (λ spot. or_nil (λ x. plain.Reply.where_is x.0 x.1 x.2) spot) found result }
 {
     match found {
@@ -146,7 +146,7 @@ pub(crate) fn place(found: Result<Option<(Unit, Name, Uid)>, Fault>) -> Result<R
 }
 
 /// What a cursor shows.
-pub(crate) fn shown(found: Result<Shown, Fault>) -> Result<Reply, Fault>
+pub(crate) fn shown(found: Result<Shown, StoreFault>) -> Result<Reply, StoreFault>
     ensures { HandsOn shown_reply found result }
 {
     match found {
@@ -167,7 +167,7 @@ fn shown_reply(shown: Shown) -> Reply
 }
 
 /// The side of the hits on which a cursor stands.
-pub(crate) fn sided(found: Result<Side, Fault>) -> Result<Reply, Fault>
+pub(crate) fn sided(found: Result<Side, StoreFault>) -> Result<Reply, StoreFault>
     ensures { HandsOn side_reply found result }
 {
     match found {

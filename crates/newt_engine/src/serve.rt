@@ -1,24 +1,18 @@
 //! Commands with the cursors settled after them.
 ghost use Rattle.std.specs.Prelude.{◌≡◌, false, IsTrue, IfErr, OnOk, IfOk};
-ghost use Rattle.newt_host.specs.Outside.{OnDevices};
-ghost use Rattle.newt_host.specs.Moments.{Always};
-ghost use Rattle.newt_reply.specs.Said.{said};
-ghost use Rattle.newt_laws_answers.specs.Answering.{Answering};
-ghost use Rattle.newt_laws_answers.specs.Spoken.{answer_now};
 ghost use Rattle.newt_laws_world.specs.Settled.{MountedApart, moves_keys};
 ghost use Rattle.newt_laws_cursors.specs.Cursors.{uses_cursors};
 ghost use Rattle.newt_spec_world.specs.World.{settle};
-ghost use Rattle.newt_engine_units.specs.Answers.{Answers};
-ghost use Rattle.newt_engine_card.specs.Faults.{GoesOn, HasFaultCause, IsEnd, IsRefusal, NoDevice};
+ghost use Rattle.newt_store_change.specs.Faults.{HasFaultCause, IsEnd};
 ghost use Rattle.newt_engine_units.specs.Stands.{Stands};
 ghost use Rattle.newt_engine_cursors.specs.Fits.{DeskFits};
 ghost use Rattle.newt_engine_cursors.specs.World.{AreRead, world_with};
-ghost use Rattle.newt_engine.specs.Bounds.{CommandCosts};
-ghost use Rattle.newt_engine.specs.Ends.{takes_memory, uses_device};
+ghost use Rattle.newt_engine.specs.Calls.{Served};
 ghost use Rattle.newt_engine.specs.Standing.{Standing};
 
 use crate::world::World;
-use newt_engine_card::{Card, Fault};
+use newt_engine_card::Card;
+use newt_store_change::StoreFault;
 use newt_engine_cursors::settle;
 use newt_host::Host;
 use newt_reply::Reply;
@@ -26,17 +20,10 @@ use newt_script::Command;
 
 impl<C: Card> World<C> {
     /// Obeys a command, with the cursors. A fault is its refusal, or the end of the run.
-    pub(crate) fn serve<H: Host>(&mut self, host: &mut H, command: Command) -> Result<Reply, Fault>
+    pub(crate) fn serve<H: Host>(&mut self, host: &mut H, command: Command) -> Result<Reply, StoreFault>
         requires { Standing C.reads C.place C.stands H.told self.old.units self.old.desk (H.outside host.old) }
-        ensures stands { GoesOn result → Standing C.reads C.place C.stands H.told self.new.units self.new.desk (H.outside host.new) }
-        ensures answered { IsTrue H.told → Answers (world_with C.reads self.old.units self.old.desk (H.outside host.old)) (world_with C.reads self.new.units self.new.desk (H.outside host.new)) command said result }
-        ensures moments { IsTrue H.told → let w = world_with C.reads self.old.units self.old.desk (H.outside host.old) in
-            Always (Answering C.reads w (answer_now w command).0 (H.outside host.old).now) (H.outside host.old).now (H.outside host.new).now }
-        ensures costs { IsTrue H.told → CommandCosts (world_with C.reads self.old.units self.old.desk (H.outside host.old)) command result (H.outside host.old) (H.outside host.new) }
-        ensures alone { OnDevices (H.outside host.old) (H.outside host.new) }
-        ensures cause { IfErr result (λ fault. HasFaultCause fault (H.outside host.old) (H.outside host.new)) }
-        ensures ends { takes_memory command ≡ false → IfErr result (λ fault. IsRefusal fault) }
-        ensures device { uses_device command ≡ false → IfErr result (λ fault. NoDevice fault) }
+        ensures { Served C.reads C.place C.stands H.told command self.old self.new
+            (H.outside host.old) (H.outside host.new) result }
     {
         if is_on_cursor(&command) {
             let served = self.obey_on_cursor(host, &command);
@@ -49,18 +36,11 @@ impl<C: Card> World<C> {
     }
 
     /// Obeys a command that uses no cursor, and settles the cursors where keys may have changed.
-    fn obey_and_settle<H: Host>(&mut self, host: &mut H, command: Command) -> Result<Reply, Fault>
+    fn obey_and_settle<H: Host>(&mut self, host: &mut H, command: Command) -> Result<Reply, StoreFault>
         requires stands { Standing C.reads C.place C.stands H.told self.old.units self.old.desk (H.outside host.old) }
         requires no_cursor { uses_cursors command ≡ false }
-        ensures stands { GoesOn result → Standing C.reads C.place C.stands H.told self.new.units self.new.desk (H.outside host.new) }
-        ensures answered { IsTrue H.told → Answers (world_with C.reads self.old.units self.old.desk (H.outside host.old)) (world_with C.reads self.new.units self.new.desk (H.outside host.new)) command said result }
-        ensures moments { IsTrue H.told → let w = world_with C.reads self.old.units self.old.desk (H.outside host.old) in
-            Always (Answering C.reads w (answer_now w command).0 (H.outside host.old).now) (H.outside host.old).now (H.outside host.new).now }
-        ensures costs { IsTrue H.told → CommandCosts (world_with C.reads self.old.units self.old.desk (H.outside host.old)) command result (H.outside host.old) (H.outside host.new) }
-        ensures alone { OnDevices (H.outside host.old) (H.outside host.new) }
-        ensures cause { IfErr result (λ fault. HasFaultCause fault (H.outside host.old) (H.outside host.new)) }
-        ensures ends { takes_memory command ≡ false → IfErr result (λ fault. IsRefusal fault) }
-        ensures device { uses_device command ≡ false → IfErr result (λ fault. NoDevice fault) }
+        ensures { Served C.reads C.place C.stands H.told command self.old self.new
+            (H.outside host.old) (H.outside host.new) result }
     {
         let settles = settles(&command);
         match self.obey(host, command) {
@@ -76,7 +56,7 @@ impl<C: Card> World<C> {
     }
 
     /// Settles the cursors, and hands a reply on.
-    fn settled<H: Host>(&mut self, host: &mut H, reply: Reply) -> Result<Reply, Fault>
+    fn settled<H: Host>(&mut self, host: &mut H, reply: Reply) -> Result<Reply, StoreFault>
         requires stands { Stands C.place C.stands H.told self.old.units (H.outside host.old) }
         requires desk { DeskFits self.old.desk }
         ensures read { AreRead C.reads C.place C.stands H.told self.old.units self.new.units (H.outside host.old) (H.outside host.new) }
@@ -91,7 +71,7 @@ impl<C: Card> World<C> {
             Ok(()) => Ok(reply),
             Err(stop) => {
                 drop(reply);
-                Err(Fault::Stop(stop))
+                Err(StoreFault::Stop(stop))
             }
         }
     }

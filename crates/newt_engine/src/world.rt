@@ -16,7 +16,8 @@ ghost use Rattle.newt_engine.specs.Standing.{Standing};
 ghost use Rattle.newt_engine.specs.Laws.{laws_of, still_stands, same_world, leaves_store, stays_there};
 
 use newt_cursor::Desk;
-use newt_engine_card::{Card, Fault};
+use newt_engine_card::Card;
+use newt_store_change::StoreFault;
 use newt_engine_units::Units;
 use newt_host::Host;
 use newt_pagebook::Stop;
@@ -52,8 +53,8 @@ impl<C: Card> World<C> {
     {
         match self.serve(host, command) {
             Ok(reply) => Ok(reply),
-            Err(Fault::Refused(refusal)) => Ok(Reply::Refused(refusal)),
-            Err(Fault::Stop(stop)) => Err(stop),
+            Err(StoreFault::Refused(refusal)) => Ok(Reply::Refused(refusal)),
+            Err(StoreFault::Stop(stop)) => Err(stop),
         }
     }
 }

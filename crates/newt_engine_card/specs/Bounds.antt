@@ -3,8 +3,8 @@ use Rattle.std.specs.Prelude.{◌≡◌, ◌≢◌, ◌⊎◌, ℕ, ◌+◌, ◌
 use Rattle.newt_host.specs.Moments.{Moment, changes, image}
 use Rattle.newt_host.specs.Outside.{Outside}
 use Rattle.newt_pagebook.specs.Book.{IsOpenFor}
-use Rattle.newt_engine_card.specs.declared.fault.Fault.{Fault}
-use Rattle.newt_engine_card.specs.Faults.{GoesOn}
+use Rattle.newt_store_change.specs.declared.fault.StoreFault.{StoreFault}
+use Rattle.newt_store_change.specs.Faults.{GoesOn}
 
 -- A unit whose bank is not closed and has room for so many bytes is programmed by no more.
 abbrev pub ProgramsAtMost : ℕ → ℕ → Outside → Outside → Type 0
@@ -16,13 +16,13 @@ IsOpenOrSame unit old new = IsOpenFor 0 (image unit new) ⊎ (changes unit new �
 
 -- What a call on one unit costs: it programs so many bytes at most where there is room for them, it leaves a bank that is not closed or is as it was, and it
 -- leaves the other units alone.
-pub record CostsOn {T : Type 0} (unit n : ℕ) (result : Result T Fault) (old new : Outside) : Type 0 where
+pub record CostsOn {T : Type 0} (unit n : ℕ) (result : Result T StoreFault) (old new : Outside) : Type 0 where
   pub bound : ProgramsAtMost n unit old new
   pub open_after : GoesOn result → IsOpenOrSame unit old.now new.now
   pub others : (u : ℕ) → u ≢ unit → (new.programmed u ≤ old.programmed u) × (changes u new.now ≡ changes u old.now)
 
 -- What a command costs: each unit is programmed by so many bytes at most where there is room for them, and where the run goes on, each bank is not closed or is
 -- as it was.
-pub record Costs {T : Type 0} (most : ℕ → ℕ) (result : Result T Fault) (old new : Outside) : Type 0 where
+pub record Costs {T : Type 0} (most : ℕ → ℕ) (result : Result T StoreFault) (old new : Outside) : Type 0 where
   pub bound : (u : ℕ) → ProgramsAtMost (most u) u old new
   pub open_after : GoesOn result → (u : ℕ) → IsOpenOrSame u old.now new.now

@@ -1,3 +1,3 @@
 pub mod Cards
-pub mod Faults
 pub mod Bounds
+pub mod Calls

@@ -24,11 +24,11 @@ use Rattle.newt_laws_answers.specs.Tests.{entry_checks, patch_tests, patched_wit
 use Rattle.newt_laws_answers.specs.There.{OnUnit}
 use Rattle.newt_laws_answers.proofs.Entries.{no-entry}
 use Rattle.newt_laws_answers.proofs.Larges.{vread-done, vread-refused, vwrite-done, vwrite-no-path, vwrite-refused}
-use Rattle.newt_engine_card.specs.declared.fault.Fault.{Fault}
-use Rattle.newt_engine_card.specs.declared.fault.Fault.TheVariants.{Refused, Stop}
+use Rattle.newt_store_change.specs.declared.fault.StoreFault.{StoreFault}
+use Rattle.newt_store_change.specs.declared.fault.StoreFault.TheVariants.{Refused, Stop}
 use Rattle.newt_engine_units.specs.Answers.{Answers}
-use Rattle.newt_engine_card.specs.Cards.{ReadsEntry}
-use Rattle.newt_engine_card.specs.Faults.{Does}
+use Rattle.newt_store_change.specs.Entries.{ReadsEntry}
+use Rattle.newt_store_change.specs.Faults.{Does}
 use Rattle.newt_engine_commands.specs.Larges.{ReadsLarge}
 use Rattle.newt_engine_units.proofs.Answering.{does-answers, makes}
 
@@ -50,10 +50,10 @@ reached g path n h = value (value_at g path) h
 
 pub missing : {T : Type 0} (w v : World) (u blocks : ℕ) (s : Store) (name : List ℕ) (p : Soup) (uid : ℕ) → OnUnit w u blocks s → soup_named name s ≡ Some p → (c : Command) (reply : T → Reply)
     → ((r : Refusal) → first_of (entry_checks w u name uid) ≡ Some r → answer_now w c ≡ (w, Reply.refused r)) → v ≡ w
-    → (fault : Fault) → ReadsEntry (entry_of uid p) (Err fault) → (result : Result T Fault) → result ≡ Err fault → Answers w v c reply result
+    → (fault : StoreFault) → ReadsEntry (entry_of uid p) (Err fault) → (result : Result T StoreFault) → result ≡ Err fault → Answers w v c reply result
 missing {T} w v u blocks s name p uid on named c reply refused same fault h result err = subst (λ r. Answers w v c reply r) (sym err) (go fault h)
   where
-    go : (fault : Fault) → ReadsEntry (entry_of uid p) (Err fault) → Answers {T = T} w v c reply (Err fault)
+    go : (fault : StoreFault) → ReadsEntry (entry_of uid p) (Err fault) → Answers {T = T} w v c reply (Err fault)
     go (Refused r) h = refused NoEntry (no-entry w u blocks s name p uid on named h.0)
         ∙ ap {B = World × Reply} (λ q. (w, Reply.refused q)) (sym h.1) ∙ ap {B = World × Reply} (λ x. (x, Reply.refused r)) (sym same)
     go (Stop stop) h = tt
@@ -62,7 +62,7 @@ missing {T} w v u blocks s name p uid on named c reply refused same fault h resu
 
 module _ (w v : World) (u blocks : ℕ) (s : Store) (on : OnUnit w u blocks s) (none : w.cursors ≡ replicate 32 None) (name : List ℕ) (p : Soup) (named : soup_named name s ≡ Some p) (is : p.name ≡ name)
     (uid : ℕ) (e : Entry) (found : entry_of uid p ≡ Some e) (path : Path) (at : ℕ) where
-  pub vread-answers : (many : ℕ) → v ≡ w → (result : Result (List ℕ) Fault) → ReadsLarge path at many e.graph result → Answers w v (command.Vread u name uid path at many) (λ bytes. Reply.hex bytes) result
+  pub vread-answers : (many : ℕ) → v ≡ w → (result : Result (List ℕ) StoreFault) → ReadsLarge path at many e.graph result → Answers w v (command.Vread u name uid path at many) (λ bytes. Reply.hex bytes) result
   vread-answers many same (Ok bytes) r = vread-done w u blocks s name p uid on named e found path at many r.0 none
       ∙ ap {B = World × Reply} (λ xs. (w, Reply.hex xs)) (sym r.1) ∙ ap {B = World × Reply} (λ x. (x, Reply.hex bytes)) (sym same)
   vread-answers many same (Err (Refused q)) r = vread-refused w u blocks s name p uid on named e found path at many q r ∙ ap {B = World × Reply} (λ x. (x, Reply.refused q)) (sym same)
@@ -77,7 +77,7 @@ module _ (w v : World) (u blocks : ℕ) (s : Store) (on : OnUnit w u blocks s) (
       vwrite-is k = vwrite-done w u blocks s name p uid on named e found path at node reach bytes k none
           ∙ ap {B = World × Reply} (λ m. (change_store w u (patched_within m uid node at bytes), Reply.done)) (sym is)
 
-      pub vwrite-answers : (result : Result (Unit {0}) Fault) → Does (patch_tests node at (length bytes) e) (λ _. ⊤) w (change_store w u (patched_within p.name uid node at bytes)) v result
+      pub vwrite-answers : (result : Result (Unit {0}) StoreFault) → Does (patch_tests node at (length bytes) e) (λ _. ⊤) w (change_store w u (patched_within p.name uid node at bytes)) v result
           → Answers w v (command.Vwrite u name uid path at bytes) (λ _. Reply.done) result
       vwrite-answers result d = does-answers w v (change_store w u (patched_within p.name uid node at bytes)) (command.Vwrite u name uid path at bytes) (λ _. Reply.done)
           (patch_tests node at (length bytes) e) (λ _. ⊤) (λ k n good. vwrite-is k) (λ r k. vwrite-refused w u blocks s name p uid on named e found path at node reach bytes r k) result d

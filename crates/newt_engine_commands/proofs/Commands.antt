@@ -21,19 +21,19 @@ use Rattle.newt_laws_images.proofs.Stores.{is-store, is-soup}
 use Rattle.newt_laws_world.proofs.Soups.{found-good}
 use Rattle.newt_laws_answers.proofs.Copies.{graph-passes, copy-done, copy-refused, copy-no-entry}
 use Rattle.newt_laws_answers.proofs.Entries.{remove-done, no-entry, get-done, getx-done, get-refused, getx-refused, alias-done}
-use Rattle.newt_engine_card.specs.declared.fault.Fault.{Fault}
-use Rattle.newt_engine_card.specs.declared.fault.Fault.TheVariants.{Refused, Stop}
+use Rattle.newt_store_change.specs.declared.fault.StoreFault.{StoreFault}
+use Rattle.newt_store_change.specs.declared.fault.StoreFault.TheVariants.{Refused, Stop}
 use Rattle.newt_base.specs.declared.Refusal.TheVariants.{Entry as NoEntry}
-use Rattle.newt_engine_card.specs.declared.card.Entry.{Entry as Shown}
+use Rattle.newt_store_change.specs.declared.entry.Entry.{Entry as Shown}
 use Rattle.newt_engine_units.specs.Answers.{Answers}
-use Rattle.newt_engine_card.specs.Cards.{ReadsEntry, entry_said}
-use Rattle.newt_engine_card.specs.Faults.{Does}
+use Rattle.newt_store_change.specs.Entries.{ReadsEntry, entry_said}
+use Rattle.newt_store_change.specs.Faults.{Does}
 use Rattle.newt_engine_units.proofs.Answering.{does-answers, makes}
 
 module _ (w v : World) (u blocks : ℕ) (s : Store) (on : OnUnit w u blocks s) (none : w.cursors ≡ replicate 32 None) where
   -- ---- soups
 
-  pub soup-answers : (name : List ℕ) (result : Result ℕ Fault) → Does (make_tests blocks name s) (λ n. n ≡ s.next_soup) w (change_store w u (make_soup name)) v result
+  pub soup-answers : (name : List ℕ) (result : Result ℕ StoreFault) → Does (make_tests blocks name s) (λ n. n ≡ s.next_soup) w (change_store w u (make_soup name)) v result
       → Answers w v (command.Soup u name) (λ n. Reply.number n) result
   soup-answers name result d = does-answers w v (change_store w u (make_soup name)) (command.Soup u name) (λ n. Reply.number n) (make_tests blocks name s) (λ n. n ≡ s.next_soup)
       (λ k n is. soup-done w u blocks s name on k none ∙ ap {B = World × Reply} (λ m. (change_store w u (make_soup name), Reply.number m)) (sym is))
@@ -43,7 +43,7 @@ module _ (w v : World) (u blocks : ℕ) (s : Store) (on : OnUnit w u blocks s) (
   soup-makes name k = makes w u blocks s (make_soup name) (answer_now w (command.Soup u name)) (Reply.number s.next_soup) on (soup-done w u blocks s name on k none)
 
   module _ (name : List ℕ) (p : Soup) (named : soup_named name s ≡ Some p) (is : p.name ≡ name) where
-    pub drop-answers : (result : Result (Unit {0}) Fault) → Does [] (λ _. ⊤) w (change_store w u (drop_soup p.name)) v result → Answers w v (command.Drop u name) (λ _. Reply.done) result
+    pub drop-answers : (result : Result (Unit {0}) StoreFault) → Does [] (λ _. ⊤) w (change_store w u (drop_soup p.name)) v result → Answers w v (command.Drop u name) (λ _. Reply.done) result
     drop-answers result d = does-answers w v (change_store w u (drop_soup p.name)) (command.Drop u name) (λ _. Reply.done) [] (λ _. ⊤)
         (λ k n good. drop-done w u blocks s name on p named none ∙ ap {B = World × Reply} (λ m. (change_store w u (drop_soup m), Reply.done)) (sym is)) (λ r k. cc) result d
 
@@ -65,11 +65,11 @@ module _ (w v : World) (u blocks : ℕ) (s : Store) (on : OnUnit w u blocks s) (
       addx-is : (k : first_of tests ≡ None) → (n : ℕ) → n ≡ p.next_uid → answer_now w (command.Addx u name g) ≡ (with_added w u p.name g, Reply.number n)
       addx-is k n good = addx-done w u blocks s name p g on named (ap first_of same-tests ∙ k) none ∙ ap {B = World × Reply} (λ m. (with_added w u m g, Reply.number p.next_uid)) (sym is) ∙ ap {B = World × Reply} (λ m. (with_added w u p.name g, Reply.number m)) (sym good)
 
-      pub add-answers : (result : Result ℕ Fault) → Does tests (λ n. n ≡ p.next_uid) w (with_added w u p.name g) v result → Answers w v (command.Add u name g) (λ n. Reply.number n) result
+      pub add-answers : (result : Result ℕ StoreFault) → Does tests (λ n. n ≡ p.next_uid) w (with_added w u p.name g) v result → Answers w v (command.Add u name g) (λ n. Reply.number n) result
       add-answers result d = does-answers w v (with_added w u p.name g) (command.Add u name g) (λ n. Reply.number n) tests (λ n. n ≡ p.next_uid) add-is
           (λ r k. add-refused w u blocks s name p g on named r (ap first_of same-tests ∙ k)) result d
 
-      pub addx-answers : (result : Result ℕ Fault) → Does tests (λ n. n ≡ p.next_uid) w (with_added w u p.name g) v result → Answers w v (command.Addx u name g) (λ n. Reply.number n) result
+      pub addx-answers : (result : Result ℕ StoreFault) → Does tests (λ n. n ≡ p.next_uid) w (with_added w u p.name g) v result → Answers w v (command.Addx u name g) (λ n. Reply.number n) result
       addx-answers result d = does-answers w v (with_added w u p.name g) (command.Addx u name g) (λ n. Reply.number n) tests (λ n. n ≡ p.next_uid) addx-is
           (λ r k. addx-refused w u blocks s name p g on named r (ap first_of same-tests ∙ k)) result d
 
@@ -85,7 +85,7 @@ module _ (w v : World) (u blocks : ℕ) (s : Store) (on : OnUnit w u blocks s) (
         addu-is k n good = addu-done w u blocks s name p g default on named (ap first_of same-tests ∙ k) none ∙ ap {B = World × Reply} (λ m. (with_added w u m g, Reply.added u p.next_uid)) (sym is)
             ∙ ap {B = World × Reply} (λ m. (with_added w u p.name g, Reply.added u m)) (sym good)
 
-        pub addu-answers : (result : Result ℕ Fault) → Does tests (λ n. n ≡ p.next_uid) w (with_added w u p.name g) v result → Answers w v (command.Addu name g) (λ n. Reply.added u n) result
+        pub addu-answers : (result : Result ℕ StoreFault) → Does tests (λ n. n ≡ p.next_uid) w (with_added w u p.name g) v result → Answers w v (command.Addu name g) (λ n. Reply.added u n) result
         addu-answers result d = does-answers w v (with_added w u p.name g) (command.Addu name g) (λ n. Reply.added u n) tests (λ n. n ≡ p.next_uid) addu-is
             (λ r k. addu-refused w u blocks s name p g default on named r (ap first_of same-tests ∙ k)) result d
 
@@ -98,7 +98,7 @@ module _ (w v : World) (u blocks : ℕ) (s : Store) (on : OnUnit w u blocks s) (
       remove-is : answer_now w (command.Remove u name uid) ≡ (change_store w u (change_soup p.name (remove_entry uid)), Reply.done)
       remove-is = remove-done w u blocks s name p uid on named e found none ∙ ap {B = World × Reply} (λ m. (change_store w u (change_soup m (remove_entry uid)), Reply.done)) (sym is)
 
-      pub remove-answers : (result : Result (Unit {0}) Fault) → Does [] (λ _. ⊤) w (change_store w u (change_soup p.name (remove_entry uid))) v result → Answers w v (command.Remove u name uid) (λ _. Reply.done) result
+      pub remove-answers : (result : Result (Unit {0}) StoreFault) → Does [] (λ _. ⊤) w (change_store w u (change_soup p.name (remove_entry uid))) v result → Answers w v (command.Remove u name uid) (λ _. Reply.done) result
       remove-answers result d = does-answers w v (change_store w u (change_soup p.name (remove_entry uid))) (command.Remove u name uid) (λ _. Reply.done) [] (λ _. ⊤) (λ k n good. remove-is) (λ r k. cc) result d
 
       pub remove-makes : store_on_unit (answer_now w (command.Remove u name uid)).0 u ≡ Some (change_soup p.name (remove_entry uid) s)
@@ -111,12 +111,12 @@ module _ (w v : World) (u blocks : ℕ) (s : Store) (name : List ℕ) (p : Soup)
       → answer_now w c ≡ (v, Reply.refused r)
   as-refused c r refused h is = refused NoEntry (no-entry w u blocks s name p uid on named h) ∙ ap {B = World × Reply} (λ q. (w, Reply.refused q)) (sym is) ∙ ap {B = World × Reply} (λ x. (x, Reply.refused r)) (sym same)
 
-  pub get-answers : (result : Result Shown Fault) → ReadsEntry (entry_of uid p) result → Answers w v (command.Get u name uid) (λ e. Reply.timed e.time e.graph) result
+  pub get-answers : (result : Result Shown StoreFault) → ReadsEntry (entry_of uid p) result → Answers w v (command.Get u name uid) (λ e. Reply.timed e.time e.graph) result
   get-answers (Ok e) h = get-done w u blocks s name p uid on named _ (sym h) none ∙ ap {B = World × Reply} (λ x. (x, Reply.timed e.time e.graph)) (sym same)
   get-answers (Err (Refused r)) h = as-refused (command.Get u name uid) r (get-refused w u name uid) h.0 h.1
   get-answers (Err (Stop stop)) h = tt
 
-  pub getx-answers : (result : Result Shown Fault) → ReadsEntry (entry_of uid p) result → Answers w v (command.Getx u name uid) (λ e. Reply.timed_nsof e.time e.graph) result
+  pub getx-answers : (result : Result Shown StoreFault) → ReadsEntry (entry_of uid p) result → Answers w v (command.Getx u name uid) (λ e. Reply.timed_nsof e.time e.graph) result
   getx-answers (Ok e) h = getx-done w u blocks s name p uid on named _ (sym h) none ∙ ap {B = World × Reply} (λ x. (x, Reply.timed_nsof e.time e.graph)) (sym same)
   getx-answers (Err (Refused r)) h = as-refused (command.Getx u name uid) r (getx-refused w u name uid) h.0 h.1
   getx-answers (Err (Stop stop)) h = tt
@@ -134,7 +134,7 @@ pub read-found : (sig uid : ℕ) (s : Store) (p : Soup) (x : Shown) (g : RawGrap
     → entry_of uid p ≡ Some (record { uid = x.uid; time = x.time; graph = g })
 read-found sig uid s p x g is by h = sym (h ∙ ap (option_and_then (entry_of uid)) by) ∙ ap {A = RawGraph} {B = Option Entry} (λ y. Some (record { uid = x.uid; time = x.time; graph = y })) (sym is)
 
-pub does-tests : {T A : Type 0} (xs ys : Checks) (good : T → Type 0) (a b now : A) → first_of xs ≡ first_of ys → (result : Result T Fault) → Does xs good a b now result → Does ys good a b now result
+pub does-tests : {T A : Type 0} (xs ys : Checks) (good : T → Type 0) (a b now : A) → first_of xs ≡ first_of ys → (result : Result T StoreFault) → Does xs good a b now result → Does ys good a b now result
 does-tests xs ys good a b now same (Ok x) d = (sym same ∙ d.0, d.1, d.2)
 does-tests xs ys good a b now same (Err (Refused r)) d = (sym same ∙ d.0, d.1)
 does-tests xs ys good a b now same (Err (Stop stop)) d = tt
@@ -142,11 +142,11 @@ does-tests xs ys good a b now same (Err (Stop stop)) d = tt
 module _ (w v : World) (u blocks : ℕ) (s : Store) (name : List ℕ) (p : Soup) (uid : ℕ) (on : OnUnit w u blocks s) (named : soup_named name s ≡ Some p) (none : w.cursors ≡ replicate 32 None)
     (to other : ℕ) (t : Store) (target : List ℕ) (q : Soup) (there : OnUnit w to other t) (into : soup_named target t ≡ Some q) (is : q.name ≡ target) where
   -- it is not there
-  pub copy-missing : {T : Type 0} (reply : T → Reply) → v ≡ w → (fault : Fault) → ReadsEntry (entry_of uid p) (Err fault) → (result : Result T Fault) → result ≡ Err fault
+  pub copy-missing : {T : Type 0} (reply : T → Reply) → v ≡ w → (fault : StoreFault) → ReadsEntry (entry_of uid p) (Err fault) → (result : Result T StoreFault) → result ≡ Err fault
       → Answers w v (command.Copy u name uid to target) reply result
   copy-missing reply same fault h result err = subst (λ r. Answers w v (command.Copy u name uid to target) reply r) (sym err) (go fault h)
     where
-      go : (fault : Fault) → ReadsEntry (entry_of uid p) (Err fault) → Answers w v (command.Copy u name uid to target) reply (Err fault)
+      go : (fault : StoreFault) → ReadsEntry (entry_of uid p) (Err fault) → Answers w v (command.Copy u name uid to target) reply (Err fault)
       go (Refused r) h = copy-no-entry w u blocks s name p uid on named to other t target q there into h.0 ∙ ap {B = World × Reply} (λ q. (w, Reply.refused q)) (sym h.1) ∙ ap {B = World × Reply} (λ x. (x, Reply.refused r)) (sym same)
       go (Stop stop) h = tt
 
@@ -158,7 +158,7 @@ module _ (w v : World) (u blocks : ℕ) (s : Store) (name : List ℕ) (p : Soup)
     copy-is k n good = copy-done w u blocks s name p uid on named to other t target q there into e found k none
         ∙ ap {B = World × Reply} (λ m. (with_added w to m e.graph, Reply.number q.next_uid)) (sym is) ∙ ap {B = World × Reply} (λ m. (with_added w to q.name e.graph, Reply.number m)) (sym good)
 
-    pub copy-answers : (result : Result ℕ Fault) → Does (add_tests other w.minute q.name e.graph t q) (λ n. n ≡ q.next_uid) w (with_added w to q.name e.graph) v result
+    pub copy-answers : (result : Result ℕ StoreFault) → Does (add_tests other w.minute q.name e.graph t q) (λ n. n ≡ q.next_uid) w (with_added w to q.name e.graph) v result
         → Answers w v (command.Copy u name uid to target) (λ n. Reply.number n) result
     copy-answers result d = does-answers w v (with_added w to q.name e.graph) (command.Copy u name uid to target) (λ n. Reply.number n) (room_tests other w.minute target e.graph t q) (λ n. n ≡ q.next_uid) copy-is
         (λ r k. copy-refused w u blocks s name p uid on named to other t target q there into e found r k) result

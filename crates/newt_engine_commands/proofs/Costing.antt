@@ -20,10 +20,10 @@ use Rattle.newt_spec_store.specs.Cost.{patch_bytes}
 use Rattle.newt_laws_answers.specs.Bounds.{change_bytes, unless, most_programmed}
 use Rattle.newt_laws_answers.specs.Tests.{add_tests, replace_tests, replaced, patch_tests, move_tests, moved_within, index_tests, tagged, tags_tests}
 use Rattle.newt_laws_answers.proofs.Most.{drop-most, add-most, addx-most, addu-most, remove-most, change-most, set-most, vwrite-most, copy-most, move-to-most, move-from-most, within-most, index-most, unindex-most, set-tags-most}
-use Rattle.newt_engine_card.specs.declared.fault.Fault.{Fault}
-use Rattle.newt_engine_card.specs.declared.fault.Fault.TheVariants.{Refused, Stop}
+use Rattle.newt_store_change.specs.declared.fault.StoreFault.{StoreFault}
+use Rattle.newt_store_change.specs.declared.fault.StoreFault.TheVariants.{Refused, Stop}
 use Rattle.newt_engine_card.specs.Bounds.{Costs, CostsOn}
-use Rattle.newt_engine_card.specs.Faults.{GoesOn}
+use Rattle.newt_store_change.specs.Faults.{GoesOn}
 use Rattle.newt_engine_units.specs.Found.{HasSoup, HasEntry}
 use Rattle.newt_engine_units.proofs.Costs.{on-costs, costs-of, after-read, both-costs}
 use Rattle.newt_engine_commands.specs.Declares.{has_parts, has_real}
@@ -32,7 +32,7 @@ use Rattle.newt_engine_commands.proofs.Replacing.{raw-of}
 use Rattle.newt_engine_commands.proofs.Moves.{move-named, inside-named}
 
 -- by the name that a soup has
-named-costs : {T : Type 0} {w : World} {u v n : ℕ} {name : List ℕ} {sig : ℕ} {result : Result T Fault} {o p : Outside} (h : HasSoup w v name sig) (c : List ℕ → Command)
+named-costs : {T : Type 0} {w : World} {u v n : ℕ} {name : List ℕ} {sig : ℕ} {result : Result T StoreFault} {o p : Outside} (h : HasSoup w v name sig) (c : List ℕ → Command)
     → CostsOn u n result o p → n ≤ most_programmed w (c h.soup.name) u → Costs (most_programmed w (c name)) result o p
 named-costs {w = w} {u} {n = n} h c costs low = on-costs costs (subst (λ m. n ≤ most_programmed w (c m) u) h.name_is low)
 
@@ -66,7 +66,7 @@ fits {name = name} h uid e found = entry-fits h.store name h.soup uid e h.formed
 
 -- ---- one change of one store
 
-module _ {w : World} {u : ℕ} {name : List ℕ} {sig : ℕ} (h : HasSoup w u name sig) {T : Type 0} {result : Result T Fault} {o p : Outside} where
+module _ {w : World} {u : ℕ} {name : List ℕ} {sig : ℕ} (h : HasSoup w u name sig) {T : Type 0} {result : Result T StoreFault} {o p : Outside} where
   pub drop-costs : CostsOn u (change_bytes h.store (drop_soup h.soup.name h.store) [] h.soup.entries) result o p → Costs (most_programmed w (command.Drop u name)) result o p
   drop-costs k = named-costs h (command.Drop u) k (drop-most w u h.blocks h.store h.soup.name h.on h.soup h.self_named)
 
@@ -94,7 +94,7 @@ module _ {w : World} {u : ℕ} {name : List ℕ} {sig : ℕ} (h : HasSoup w u na
   tags-costs path symbols fit few table words k = named-costs h (λ m. command.SetTags u m path symbols) (subst (λ x. CostsOn u (tags_bytes h.blocks h.store h.soup x) result o p) words k)
       (set-tags-most w u h.soup.name path symbols fit h.blocks h.store h.soup h.on h.self_named few)
 
-module _ {w : World} {u : ℕ} {name : List ℕ} {sig uid : ℕ} (x : HasEntry w u name sig uid) {T : Type 0} {result : Result T Fault} {o p : Outside} where
+module _ {w : World} {u : ℕ} {name : List ℕ} {sig uid : ℕ} (x : HasEntry w u name sig uid) {T : Type 0} {result : Result T StoreFault} {o p : Outside} where
   pub remove-costs : CostsOn u (removed_bytes x.of.store x.of.soup x.entry uid) result o p → Costs (most_programmed w (command.Remove u name uid)) result o p
   remove-costs k = named-costs x.of (λ m. command.Remove u m uid) k (remove-most w u x.of.blocks x.of.store x.of.soup.name x.of.soup uid x.of.on x.of.self_named x.entry x.found)
 
@@ -112,7 +112,7 @@ module _ {w : World} {u : ℕ} {name : List ℕ} {sig uid : ℕ} (x : HasEntry w
 -- ---- after the entry was read
 
 module _ {w : World} {u : ℕ} {name : List ℕ} {sig : ℕ} (h : HasSoup w u name sig) (uid : ℕ) (e : Entry) (found : entry_of uid h.soup ≡ Some e)
-    (x : World) (same : x ≡ w) {o p q : Outside} (still : p.now ≡ o.now) (less : (j : ℕ) → p.programmed j ≤ o.programmed j) {T : Type 0} {result : Result T Fault} where
+    (x : World) (same : x ≡ w) {o p q : Outside} (still : p.now ≡ o.now) (less : (j : ℕ) → p.programmed j ≤ o.programmed j) {T : Type 0} {result : Result T StoreFault} where
   -- what the second call costs, the two cost in the world before
   pub before : {v : ℕ} (n : World → ℕ) → CostsOn v (n x) result p q → CostsOn v (n w) result o q
   before {v} n k = after-read still less (subst (λ (y : World). CostsOn v (n y) result p q) same k)
@@ -148,20 +148,20 @@ module _ (w : World) (u to : ℕ) (name target : List ℕ) (sig into uid : ℕ) 
   from-most passed = subst (λ c. removed_bytes h.store h.soup e uid ≤ most_programmed w c u) (move-named w u to name target sig into uid h k)
       (move-from-most w u h.blocks h.store h.soup.name h.soup uid h.on h.self_named to k.blocks k.store k.soup.name k.soup k.on k.self_named e found (fits h uid e found) differ passed)
 
-  module _ (x : World) (same : x ≡ w) {o p q : Outside} (still : p.now ≡ o.now) (less : (j : ℕ) → p.programmed j ≤ o.programmed j) {T : Type 0} {first : Result T Fault} where
+  module _ (x : World) (same : x ≡ w) {o p q : Outside} (still : p.now ≡ o.now) (less : (j : ℕ) → p.programmed j ≤ o.programmed j) {T : Type 0} {first : Result T StoreFault} where
     -- it was added, or was not
     pub first-costs : CostsOn to (added_bytes k.blocks e.graph k.store k.soup x) first p q → Costs most first o q
     first-costs costs = on-costs (before h uid e found x same still less (added_bytes k.blocks e.graph k.store k.soup) costs) to-most
 
     -- and removed
-    pub whole-costs : {S : Type 0} {second : Result S Fault} {r : Outside} → CostsOn to (added_bytes k.blocks e.graph k.store k.soup x) first p q → GoesOn first
+    pub whole-costs : {S : Type 0} {second : Result S StoreFault} {r : Outside} → CostsOn to (added_bytes k.blocks e.graph k.store k.soup x) first p q → GoesOn first
         → first_of (add_tests k.blocks w.minute k.soup.name e.graph k.store k.soup) ≡ None → CostsOn u (removed_bytes h.store h.soup e uid) second q r → Costs most second o r
     whole-costs added goes passed removed = both-costs (before h uid e found x same still less (added_bytes k.blocks e.graph k.store k.soup) added) removed differ to-most (from-most passed) goes
 
 -- the fault of a call is handed on
-pub handed-costs : {S T : Type 0} {most : ℕ → ℕ} {fault : Fault} {result : Result T Fault} {o p : Outside} → result ≡ Err fault → Costs {T = S} most (Err fault) o p → Costs most result o p
+pub handed-costs : {S T : Type 0} {most : ℕ → ℕ} {fault : StoreFault} {result : Result T StoreFault} {o p : Outside} → result ≡ Err fault → Costs {T = S} most (Err fault) o p → Costs most result o p
 handed-costs {S} {T} {fault = fault} is costs = costs-of costs (λ goes. go fault (subst (λ r. GoesOn r) is goes))
   where
-    go : (f : Fault) → GoesOn {T = T} (Err f) → GoesOn {T = S} (Err f)
+    go : (f : StoreFault) → GoesOn {T = T} (Err f) → GoesOn {T = S} (Err f)
     go (Refused refusal) h = tt
     go (Stop stop) h = h

@@ -20,12 +20,12 @@ use Rattle.newt_laws_answers.specs.Spoken.{answer_now}
 use Rattle.newt_laws_answers.specs.Tests.{index_tests, tagged, tags_tests}
 use Rattle.newt_laws_answers.specs.There.{OnUnit}
 use Rattle.newt_laws_answers.proofs.Declares.{index-exists, index-real, index-refused, index-done, unindex-done, set-tags-refused, set-tags-done}
-use Rattle.newt_engine_card.specs.declared.fault.Fault.{Fault}
-use Rattle.newt_engine_card.specs.declared.fault.Fault.TheVariants.{Refused, Stop}
+use Rattle.newt_store_change.specs.declared.fault.StoreFault.{StoreFault}
+use Rattle.newt_store_change.specs.declared.fault.StoreFault.TheVariants.{Refused, Stop}
 use Rattle.newt_engine_units.specs.declared.units.Units.{Units}
 use Rattle.newt_engine_units.specs.Answers.{Answers}
 use Rattle.newt_engine_commands.specs.Declares.{has_parts, has_real, MayDeclare}
-use Rattle.newt_engine_card.specs.Faults.{Does}
+use Rattle.newt_store_change.specs.Faults.{Does}
 use Rattle.newt_engine_units.specs.Stands.{card_at, world_of}
 use Rattle.newt_engine_units.proofs.Answering.{does-answers, makes}
 use Rattle.newt_engine_units.proofs.Known.{on-known, card-known}
@@ -67,7 +67,7 @@ module _ {C : Type 0} {reads : List ℕ → Option Store} {place : C → ℕ} {s
 module _ (w v : World) (u blocks : ℕ) (s : Store) (on : OnUnit w u blocks s) (none : w.cursors ≡ replicate 32 None) (name : List ℕ) (p : Soup) (named : soup_named name s ≡ Some p) (is : p.name ≡ name) where
   module _ (parts : List PartWord) (fit : parts_fit parts ≡ true) where
     -- the parts may not be declared
-    pub index-fails : (T : Type 0) (fault : Fault) → MayDeclare {T = T} parts p (Err fault) → (result : Result (Unit {0}) Fault) → result ≡ Err fault → Answers w w (command.Index u name parts) (λ _. Reply.done) result
+    pub index-fails : (T : Type 0) (fault : StoreFault) → MayDeclare {T = T} parts p (Err fault) → (result : Result (Unit {0}) StoreFault) → result ≡ Err fault → Answers w w (command.Index u name parts) (λ _. Reply.done) result
     index-fails T fault h result err = subst (λ r. Answers w w (command.Index u name parts) (λ _. Reply.done) r) (sym err) (go fault h)
       where
         first : (a b : Bool) (r : Refusal) → has_parts parts p ≡ a → has_real parts ≡ b → first_of ((BadIndex, a) ∷ (BadKey, b) ∷ []) ≡ Some r → answer_now w (command.Index u name parts) ≡ (w, Reply.refused r)
@@ -75,7 +75,7 @@ module _ (w v : World) (u blocks : ℕ) (s : Store) (on : OnUnit w u blocks s) (
         first false true r x y k = index-real w u blocks s name p on named parts fit x y ∙ ap {B = World × Reply} (λ q. (w, Reply.refused q)) (some-same BadKey r k)
         first false false r x y k = absurd (none-some r k)
 
-        go : (fault : Fault) → MayDeclare {T = T} parts p (Err fault) → Answers {T = Unit {0}} w w (command.Index u name parts) (λ _. Reply.done) (Err fault)
+        go : (fault : StoreFault) → MayDeclare {T = T} parts p (Err fault) → Answers {T = Unit {0}} w w (command.Index u name parts) (λ _. Reply.done) (Err fault)
         go (Refused r) h = first (has_parts parts p) (has_real parts) r refl refl h
         go (Stop stop) h = tt
 
@@ -88,7 +88,7 @@ module _ (w v : World) (u blocks : ℕ) (s : Store) (on : OnUnit w u blocks s) (
           ∙ ap {B = World × Reply} (λ m. (change_store w u (change_soup m (with_index (spec_of_words parts))), Reply.done)) (sym is)
           ∙ ap {B = World × Reply} (λ x. (change_store w u (change_soup p.name (with_index x)), Reply.done)) (sym words)
 
-      pub index-answers : (result : Result (Unit {0}) Fault) → Does (index_tests blocks p.name spec s p) (λ _. ⊤) w (change_store w u (change_soup p.name (with_index spec))) v result
+      pub index-answers : (result : Result (Unit {0}) StoreFault) → Does (index_tests blocks p.name spec s p) (λ _. ⊤) w (change_store w u (change_soup p.name (with_index spec))) v result
           → Answers w v (command.Index u name parts) (λ _. Reply.done) result
       index-answers result d = does-answers w v (change_store w u (change_soup p.name (with_index spec))) (command.Index u name parts) (λ _. Reply.done) (index_tests blocks p.name spec s p) (λ _. ⊤)
           (λ k n good. index-is k) (λ r k. index-refused w u blocks s name p on named parts fit new typed r (own-tests ∙ k)) result d
@@ -102,7 +102,7 @@ module _ (w v : World) (u blocks : ℕ) (s : Store) (on : OnUnit w u blocks s) (
     unindex-is : answer_now w (command.Unindex u name paths) ≡ (change_store w u (change_soup p.name (without_index paths)), Reply.done)
     unindex-is = unindex-done w u blocks s name p on named paths there none ∙ ap {B = World × Reply} (λ m. (change_store w u (change_soup m (without_index paths)), Reply.done)) (sym is)
 
-    pub unindex-answers : (result : Result (Unit {0}) Fault) → Does [] (λ _. ⊤) w (change_store w u (change_soup p.name (without_index paths))) v result
+    pub unindex-answers : (result : Result (Unit {0}) StoreFault) → Does [] (λ _. ⊤) w (change_store w u (change_soup p.name (without_index paths))) v result
         → Answers w v (command.Unindex u name paths) (λ _. Reply.done) result
     unindex-answers result d = does-answers w v (change_store w u (change_soup p.name (without_index paths))) (command.Unindex u name paths) (λ _. Reply.done) [] (λ _. ⊤)
         (λ k n good. unindex-is) (λ r k. cc) result d
@@ -121,7 +121,7 @@ module _ (w v : World) (u blocks : ℕ) (s : Store) (on : OnUnit w u blocks s) (
         ∙ ap {B = World × Reply} (λ m. (change_store w u (tagged m (record { path = path; symbols = symbols })), Reply.done)) (sym is)
         ∙ ap {B = World × Reply} (λ x. (change_store w u (tagged p.name x), Reply.done)) (sym words)
 
-    pub tags-answers : (result : Result (Unit {0}) Fault) → Does (tags_tests blocks p.name table s) (λ _. ⊤) w (change_store w u (tagged p.name table)) v result
+    pub tags-answers : (result : Result (Unit {0}) StoreFault) → Does (tags_tests blocks p.name table s) (λ _. ⊤) w (change_store w u (tagged p.name table)) v result
         → Answers w v (command.SetTags u name path symbols) (λ _. Reply.done) result
     tags-answers result d = does-answers w v (change_store w u (tagged p.name table)) (command.SetTags u name path symbols) (λ _. Reply.done) (tags_tests blocks p.name table s) (λ _. ⊤)
         (λ k n good. tags-is k) (λ r k. set-tags-refused w u name path symbols fit blocks s p on named few r (own-table ∙ k)) result d

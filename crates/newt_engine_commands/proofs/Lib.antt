@@ -5,3 +5,5 @@ pub mod Costing
 pub mod Declaring
 pub mod Moves
 pub mod Replacing
+pub mod Said
+pub mod Obeying

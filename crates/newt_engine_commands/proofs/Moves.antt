@@ -20,11 +20,11 @@ use Rattle.newt_laws_answers.specs.Tests.{add_tests, room_tests, move_tests, mov
 use Rattle.newt_laws_answers.specs.There.{OnUnit}
 use Rattle.newt_laws_answers.proofs.Copies.{graph-passes, move-no-entry, move-done, move-refused, within-done, within-refused}
 use Rattle.newt_laws_answers.proofs.Units.{is-there, on-changed, on-other}
-use Rattle.newt_engine_card.specs.declared.fault.Fault.{Fault}
-use Rattle.newt_engine_card.specs.declared.fault.Fault.TheVariants.{Refused, Stop}
+use Rattle.newt_store_change.specs.declared.fault.StoreFault.{StoreFault}
+use Rattle.newt_store_change.specs.declared.fault.StoreFault.TheVariants.{Refused, Stop}
 use Rattle.newt_engine_units.specs.Answers.{Answers}
-use Rattle.newt_engine_card.specs.Cards.{ReadsEntry}
-use Rattle.newt_engine_card.specs.Faults.{Does}
+use Rattle.newt_store_change.specs.Entries.{ReadsEntry}
+use Rattle.newt_store_change.specs.Faults.{Does}
 use Rattle.newt_engine_units.specs.Found.{HasSoup, HasEntry}
 use Rattle.newt_engine_units.proofs.Answering.{does-answers, makes}
 use Rattle.newt_engine_commands.proofs.Commands.{entry-fits}
@@ -41,7 +41,7 @@ pub move-named : (w : World) (u to : ℕ) (name target : List ℕ) (sig into uid
 move-named w u to name target sig into uid h k = ap {B = Command} (λ n. command.Move u n uid to k.soup.name) h.name_is ∙ ap {B = Command} (λ n. command.Move u name uid to n) k.name_is
 
 -- the entry is not there
-pub move-missing : (w v : World) (u to : ℕ) (name target : List ℕ) (sig into uid : ℕ) (h : HasSoup w u name sig) → HasSoup w to target into → v ≡ w → (fault : Fault) → ReadsEntry (entry_at sig uid h.store) (Err fault)
+pub move-missing : (w v : World) (u to : ℕ) (name target : List ℕ) (sig into uid : ℕ) (h : HasSoup w u name sig) → HasSoup w to target into → v ≡ w → (fault : StoreFault) → ReadsEntry (entry_at sig uid h.store) (Err fault)
     → Answers {T = ℕ} w v (command.Move u name uid to target) (λ n. Reply.number n) (Err fault)
 move-missing w v u to name target sig into uid h k same (Refused r) x =
     move-no-entry w u h.blocks h.store name h.soup uid h.on h.named to k.blocks k.store target k.soup k.on k.named (sym (ap (option_and_then (entry_of uid)) h.by_sig) ∙ x.0)
@@ -58,7 +58,7 @@ inside-missing w u name target sig into uid h k gone =
     go (Some e) x = absurd (both-ways (sym x))
 
 -- a removal is not refused
-pub never-refused : (w x a b v : World) (c : Command) (fault : Fault) → Does {T = Unit {0}} [] (λ _. ⊤) a b v (Err fault) → Answers {T = ℕ} w x c (λ n. Reply.number n) (Err fault)
+pub never-refused : (w x a b v : World) (c : Command) (fault : StoreFault) → Does {T = ℕ} [] (λ _. ⊤) a b v (Err fault) → Answers {T = ℕ} w x c (λ n. Reply.number n) (Err fault)
 never-refused w x a b v c (Refused r) d = absurd (none-some r d.0)
 never-refused w x a b v c (Stop stop) d = tt
 
@@ -96,7 +96,7 @@ module _ (w : World) (u : ℕ) (name target : List ℕ) (sig into uid : ℕ) (x 
     inside-refused : (r : Refusal) → first_of inside_tests ≡ Some r → inside_answer ≡ (w, Reply.refused r)
     inside-refused r d = sym named ∙ within-refused w u h.blocks h.store h.soup.name h.soup uid h.on h.self_named k.soup.name k.soup inside-named x.entry x.found r d
 
-    pub inside-answers : (v : World) (result : Result ℕ Fault) → Does inside_tests (λ n. n ≡ k.soup.next_uid) w (change_store w u inside) v result → Answers w v (command.Move u name uid u target) (λ n. Reply.number n) result
+    pub inside-answers : (v : World) (result : Result ℕ StoreFault) → Does inside_tests (λ n. n ≡ k.soup.next_uid) w (change_store w u inside) v result → Answers w v (command.Move u name uid u target) (λ n. Reply.number n) result
     inside-answers v result d = does-answers w v (change_store w u inside) (command.Move u name uid u target) (λ n. Reply.number n) inside_tests (λ n. n ≡ k.soup.next_uid)
         (λ t n good. inside-done t ∙ ap {B = World × Reply} (λ m. (change_store w u inside, Reply.number m)) (sym good)) inside-refused result d
 
@@ -141,7 +141,7 @@ module _ (w : World) (u to : ℕ) (name target : List ℕ) (sig into uid : ℕ) 
   between-done t = sym by-name ∙ move-done w u h.blocks h.store h.soup.name h.soup uid h.on h.self_named to k.blocks k.store k.soup.name k.soup k.on k.self_named e found differ (sym room ∙ t) none
 
   -- the entry was not added
-  pub between-fails : (x v : World) → x ≡ w → (fault : Fault) → Does {T = ℕ} (tests x) (λ n. n ≡ k.soup.next_uid) x (with_added x to k.soup.name e.graph) v (Err fault)
+  pub between-fails : (x v : World) → x ≡ w → (fault : StoreFault) → Does {T = ℕ} (tests x) (λ n. n ≡ k.soup.next_uid) x (with_added x to k.soup.name e.graph) v (Err fault)
       → Answers {T = ℕ} w v (command.Move u name uid to target) (λ n. Reply.number n) (Err fault)
   between-fails x v is (Refused r) d = between-refused r (ap (λ y. first_of (tests y)) (sym is) ∙ d.0) ∙ ap {B = World × Reply} (λ y. (y, Reply.refused r)) (sym (d.1 ∙ is))
   between-fails x v is (Stop stop) d = tt

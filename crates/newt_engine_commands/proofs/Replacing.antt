@@ -22,11 +22,11 @@ use Rattle.newt_laws_answers.specs.Tests.{replace_tests, replaced}
 use Rattle.newt_laws_answers.specs.There.{OnUnit}
 use Rattle.newt_laws_answers.proofs.Replaces.{change-done, change-refused, set-done, set-refused, set-no-path, set-past-limits, set-not-found}
 use Rattle.newt_laws_answers.proofs.Entries.{no-entry}
-use Rattle.newt_engine_card.specs.declared.fault.Fault.{Fault}
-use Rattle.newt_engine_card.specs.declared.fault.Fault.TheVariants.{Refused, Stop}
+use Rattle.newt_store_change.specs.declared.fault.StoreFault.{StoreFault}
+use Rattle.newt_store_change.specs.declared.fault.StoreFault.TheVariants.{Refused, Stop}
 use Rattle.newt_engine_units.specs.Answers.{Answers}
-use Rattle.newt_engine_card.specs.Cards.{ReadsEntry}
-use Rattle.newt_engine_card.specs.Faults.{Does, set_fault}
+use Rattle.newt_store_change.specs.Entries.{ReadsEntry}
+use Rattle.newt_store_change.specs.Faults.{Does, set_fault}
 use Rattle.newt_engine_units.proofs.Answering.{does-answers, makes}
 
 -- what was put, of which this is the normal form
@@ -49,7 +49,7 @@ module _ (w v : World) (u blocks : ℕ) (s : Store) (on : OnUnit w u blocks s) (
     change-is : first_of (replace_tests blocks w.minute p.name uid g s) ≡ None → answer_now w (command.Change u name uid g) ≡ (change_store w u (replaced w.minute p.name uid g), Reply.done)
     change-is k = change-done w u blocks s name p uid on named e found g (own-tests g ∙ k) none ∙ own-world g
 
-    pub change-answers : (result : Result (Unit {0}) Fault) → Does (replace_tests blocks w.minute p.name uid g s) (λ _. ⊤) w (change_store w u (replaced w.minute p.name uid g)) v result
+    pub change-answers : (result : Result (Unit {0}) StoreFault) → Does (replace_tests blocks w.minute p.name uid g s) (λ _. ⊤) w (change_store w u (replaced w.minute p.name uid g)) v result
         → Answers w v (command.Change u name uid g) (λ _. Reply.done) result
     change-answers result d = does-answers w v (change_store w u (replaced w.minute p.name uid g)) (command.Change u name uid g) (λ _. Reply.done) (replace_tests blocks w.minute p.name uid g s) (λ _. ⊤)
         (λ k n good. change-is k) (λ r k. change-refused w u blocks s name p uid on named e found g r (own-tests g ∙ k)) result d
@@ -67,7 +67,7 @@ module _ (w v : World) (u blocks : ℕ) (s : Store) (on : OnUnit w u blocks s) (
           let r = raw-of new (put e.graph path g) form in
           set-done w u blocks s name p uid on named e found path g r.0 r.1 new r.2 (graph-within new r.3) ok (own-tests new ∙ k) none ∙ own-world new
 
-      pub set-answers : (result : Result (Unit {0}) Fault) → Does (replace_tests blocks w.minute p.name uid new s) (λ _. ⊤) w (change_store w u (replaced w.minute p.name uid new)) v result
+      pub set-answers : (result : Result (Unit {0}) StoreFault) → Does (replace_tests blocks w.minute p.name uid new s) (λ _. ⊤) w (change_store w u (replaced w.minute p.name uid new)) v result
           → Answers w v (command.Set u name uid path g) (λ _. Reply.done) result
       set-answers result d =
           let r = raw-of new (put e.graph path g) form in
@@ -79,7 +79,7 @@ module _ (w v : World) (u blocks : ℕ) (s : Store) (on : OnUnit w u blocks s) (
 
     -- it is not, and nothing is changed
     pub set-fails : v ≡ w → (error : SetFault) → (error ≡ put_fault.NoPath → put e.graph path g ≡ None) → (error ≡ put_fault.Limit → PassesALimit (put e.graph path g))
-        → (result : Result (Unit {0}) Fault) → result ≡ Err (set_fault error) → Answers w v (command.Set u name uid path g) (λ _. Reply.done) result
+        → (result : Result (Unit {0}) StoreFault) → result ≡ Err (set_fault error) → Answers w v (command.Set u name uid path g) (λ _. Reply.done) result
     set-fails same error no_path limit result err = subst (λ r. Answers w v (command.Set u name uid path g) (λ _. Reply.done) r) (sym err) (go error no_path limit)
       where
         past : (o : Option RawGraph) → put e.graph path g ≡ o → PassesALimit o → answer_now w (command.Set u name uid path g) ≡ (w, Reply.refused Limit)
@@ -95,10 +95,10 @@ module _ (w v : World) (u blocks : ℕ) (s : Store) (on : OnUnit w u blocks s) (
 -- ---- the entry is not there
 
 pub set-missing : (w v : World) (u blocks : ℕ) (s : Store) (name : List ℕ) (p : Soup) (uid : ℕ) → OnUnit w u blocks s → soup_named name s ≡ Some p → (path : Path) (g : RawGraph) → v ≡ w
-    → (fault : Fault) → ReadsEntry (entry_of uid p) (Err fault) → (result : Result (Unit {0}) Fault) → result ≡ Err fault → Answers w v (command.Set u name uid path g) (λ _. Reply.done) result
+    → (fault : StoreFault) → ReadsEntry (entry_of uid p) (Err fault) → (result : Result (Unit {0}) StoreFault) → result ≡ Err fault → Answers w v (command.Set u name uid path g) (λ _. Reply.done) result
 set-missing w v u blocks s name p uid on named path g same fault h result err = subst (λ r. Answers w v (command.Set u name uid path g) (λ _. Reply.done) r) (sym err) (go fault h)
   where
-    go : (fault : Fault) → ReadsEntry (entry_of uid p) (Err fault) → Answers {T = Unit {0}} w v (command.Set u name uid path g) (λ _. Reply.done) (Err fault)
+    go : (fault : StoreFault) → ReadsEntry (entry_of uid p) (Err fault) → Answers {T = Unit {0}} w v (command.Set u name uid path g) (λ _. Reply.done) (Err fault)
     go (Refused r) h = set-not-found w u name uid NoEntry (no-entry w u blocks s name p uid on named h.0) path g
         ∙ ap {B = World × Reply} (λ q. (w, Reply.refused q)) (sym h.1) ∙ ap {B = World × Reply} (λ x. (x, Reply.refused r)) (sym same)
     go (Stop stop) h = tt

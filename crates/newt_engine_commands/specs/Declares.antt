@@ -6,8 +6,8 @@ use Rattle.newt_base.specs.declared.Refusal.TheVariants.{Index as BadIndex, Key 
 use Rattle.newt_spec_store.specs.Store.{Soup}
 use Rattle.newt_spec_world.specs.declared.command.PartWord.{PartWord}
 use Rattle.newt_spec_store.specs.Keys.{has_paths}
-use Rattle.newt_engine_card.specs.declared.fault.Fault.{Fault}
-use Rattle.newt_engine_card.specs.declared.fault.Fault.TheVariants.{Refused, Stop}
+use Rattle.newt_store_change.specs.declared.fault.StoreFault.{StoreFault}
+use Rattle.newt_store_change.specs.declared.fault.StoreFault.TheVariants.{Refused, Stop}
 
 -- the soup has an index of the paths of these parts
 abbrev pub has_parts : List PartWord → Soup → Bool
@@ -22,7 +22,7 @@ abbrev pub part_tests : List PartWord → Soup → Checks
 part_tests parts p = (BadIndex, has_parts parts p) ∷ (BadKey, has_real parts) ∷ []
 
 -- the parts may be declared, or the first test that holds is answered
-abbrev pub MayDeclare : {T : Type 0} → List PartWord → Soup → Result T Fault → Type 0
+abbrev pub MayDeclare : {T : Type 0} → List PartWord → Soup → Result T StoreFault → Type 0
 MayDeclare parts p (Ok _) = (has_parts parts p ≡ false) × (has_real parts ≡ false)
 MayDeclare parts p (Err (Refused refusal)) = first_of (part_tests parts p) ≡ Some refusal
 MayDeclare parts p (Err (Stop stop)) = Unit {0}

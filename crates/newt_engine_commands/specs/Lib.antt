@@ -1,2 +1,3 @@
 pub mod Larges
 pub mod Declares
+pub mod Done

@@ -9,14 +9,16 @@ ghost use Rattle.newt_laws_answers.specs.Bounds.{most_programmed};
 ghost use Rattle.newt_laws_answers.specs.Spoken.{answer_now};
 ghost use Rattle.newt_engine_card.specs.Bounds.{Costs};
 ghost use Rattle.newt_engine_units.specs.Answers.{Answers};
-ghost use Rattle.newt_engine_card.specs.Faults.{GoesOn, HasFaultCause};
+ghost use Rattle.newt_store_change.specs.Faults.{GoesOn, HasFaultCause};
 ghost use Rattle.newt_engine_units.specs.Found.{HasSoup};
+ghost use Rattle.newt_engine_units.specs.Calls.{Obeys};
 ghost use Rattle.newt_engine_units.specs.Stands.{Stands, mounted_in, world_of};
 
 use newt_base::{Name, Refusal, Sig, Uid};
-use newt_engine_card::{Card, Entry, Fault};
+use newt_engine_card::Card;
 use newt_engine_units::Units;
 use newt_host::{Host, Unit};
+use newt_store_change::{Change, Entry, StoreFault};
 
 /// Adds the graph of an entry to another soup, at the present minute, and answers the new id.
 pub fn copy<C: Card, H: Host>(
@@ -27,19 +29,14 @@ pub fn copy<C: Card, H: Host>(
     uid: Uid,
     to: Unit,
     target: &Name,
-) -> Result<u32, Fault>
+) -> Result<u32, StoreFault>
     requires { Stands C.place C.stands H.told units.old (H.outside host.old) }
-    ensures stands { GoesOn result → Stands C.place C.stands H.told units.new (H.outside host.new) }
-    ensures answered { IsTrue H.told → Answers (world_of C.reads units.old (H.outside host.old)) (world_of C.reads units.new (H.outside host.new)) (Command.Copy unit name.now uid to target.now) (λ n. Reply.number n) result }
-    ensures moments { IsTrue H.told → let w = world_of C.reads units.old (H.outside host.old) in
-        Always (Answering C.reads w (answer_now w (Command.Copy unit name.now uid to target.now)).0 (H.outside host.old).now) (H.outside host.old).now (H.outside host.new).now }
-    ensures costs { IsTrue H.told → Costs (most_programmed (world_of C.reads units.old (H.outside host.old)) (Command.Copy unit name.now uid to target.now)) result (H.outside host.old) (H.outside host.new) }
-    ensures alone { OnDevices (H.outside host.old) (H.outside host.new) }
-    ensures cause { IfErr result (λ fault. HasFaultCause fault (H.outside host.old) (H.outside host.new)) }
+    ensures { Obeys C.reads C.place C.stands H.told (Command.Copy unit name.now uid to target.now) (λ n. Reply.number n)
+        units.old units.new (H.outside host.old) (H.outside host.new) result }
 {
     let (soup, into) = units.find_both(unit, name, to, target)?;
     let Entry { graph, .. } = units.read_entry(host, unit, soup, uid)?;
-    units.add_to(host, to, into, graph)
+    units.change(host, to, Change::Add(into, graph))
 }
 
 /// Adds the graph of an entry to another soup, at the present minute, removes it from its own, and answers the new id.
@@ -51,15 +48,10 @@ pub fn move_entry<C: Card, H: Host>(
     uid: Uid,
     to: Unit,
     target: &Name,
-) -> Result<u32, Fault>
+) -> Result<u32, StoreFault>
     requires { Stands C.place C.stands H.told units.old (H.outside host.old) }
-    ensures stands { GoesOn result → Stands C.place C.stands H.told units.new (H.outside host.new) }
-    ensures answered { IsTrue H.told → Answers (world_of C.reads units.old (H.outside host.old)) (world_of C.reads units.new (H.outside host.new)) (Command.Move unit name.now uid to target.now) (λ n. Reply.number n) result }
-    ensures moments { IsTrue H.told → let w = world_of C.reads units.old (H.outside host.old) in
-        Always (Answering C.reads w (answer_now w (Command.Move unit name.now uid to target.now)).0 (H.outside host.old).now) (H.outside host.old).now (H.outside host.new).now }
-    ensures costs { IsTrue H.told → Costs (most_programmed (world_of C.reads units.old (H.outside host.old)) (Command.Move unit name.now uid to target.now)) result (H.outside host.old) (H.outside host.new) }
-    ensures alone { OnDevices (H.outside host.old) (H.outside host.new) }
-    ensures cause { IfErr result (λ fault. HasFaultCause fault (H.outside host.old) (H.outside host.new)) }
+    ensures { Obeys C.reads C.place C.stands H.told (Command.Move unit name.now uid to target.now) (λ n. Reply.number n)
+        units.old units.new (H.outside host.old) (H.outside host.new) result }
 {
     let (soup, into) = units.find_both(unit, name, to, target)?;
     if unit == to {
@@ -77,7 +69,7 @@ fn move_inside<C: Card, H: Host>(
     soup: Sig,
     uid: Uid,
     into: Sig,
-) -> Result<u32, Fault>
+) -> Result<u32, StoreFault>
     requires stands { Stands C.place C.stands H.told units.old (H.outside host.old) }
     requires mounted { mounted_in units.old.slots.items unit ≡ true }
     ensures stands { GoesOn result → Stands C.place C.stands H.told units.new (H.outside host.new) }
@@ -91,9 +83,9 @@ fn move_inside<C: Card, H: Host>(
     ensures cause { IfErr result (λ fault. HasFaultCause fault (H.outside host.old) (H.outside host.new)) }
 {
     if units.has_entry(unit, soup, uid) {
-        units.move_within(host, unit, soup, uid, into)
+        units.change(host, unit, Change::Move(soup, uid, into))
     } else {
-        Err(Fault::Refused(Refusal::Entry))
+        Err(StoreFault::Refused(Refusal::Entry))
     }
 }
 
@@ -106,7 +98,7 @@ fn move_between<C: Card, H: Host>(
     uid: Uid,
     to: Unit,
     into: Sig,
-) -> Result<u32, Fault>
+) -> Result<u32, StoreFault>
     requires stands { Stands C.place C.stands H.told units.old (H.outside host.old) }
     requires mounted { mounted_in units.old.slots.items unit ≡ true }
     requires target { mounted_in units.old.slots.items to ≡ true }
@@ -122,7 +114,7 @@ fn move_between<C: Card, H: Host>(
     ensures cause { IfErr result (λ fault. HasFaultCause fault (H.outside host.old) (H.outside host.new)) }
 {
     let Entry { graph, .. } = units.read_entry(host, unit, soup, uid)?;
-    let added = units.add_to(host, to, into, graph)?;
-    units.remove_from(host, unit, soup, uid)?;
+    let added = units.change(host, to, Change::Add(into, graph))?;
+    units.change(host, unit, Change::Remove(soup, uid))?;
     Ok(added)
 }

@@ -1,25 +1,22 @@
 //! Large binaries of entries: read and written over.
-ghost use Rattle.std.specs.Prelude.{◌≡◌, ◌+◌, IsTrue, IfErr, MatchOption, true, false, length, nat_lt, slice_get};
-ghost use Rattle.newt_host.specs.Outside.{OnDevices};
-ghost use Rattle.newt_host.specs.Moments.{Always, bytes_from};
+ghost use Rattle.std.specs.Prelude.{◌≡◌, ◌+◌, IfErr, MatchOption, true, false, length, nat_lt, slice_get};
+ghost use Rattle.newt_host.specs.Moments.{bytes_from};
 ghost use Rattle.newt_spec_world.specs.Changed.{bytes_of_large, large_at};
 ghost use Rattle.newt_spec_world.specs.Reply.{Reply};
 ghost use Rattle.newt_spec_world.specs.declared.command.Command.{Command};
-ghost use Rattle.newt_laws_answers.specs.Answering.{Answering};
-ghost use Rattle.newt_laws_answers.specs.Bounds.{most_programmed};
-ghost use Rattle.newt_laws_answers.specs.Spoken.{answer_now};
-ghost use Rattle.newt_engine_card.specs.Bounds.{Costs};
-ghost use Rattle.newt_engine_units.specs.Answers.{Answers};
-ghost use Rattle.newt_engine_card.specs.Faults.{GoesOn, HasFaultCause, NoDevice};
+ghost use Rattle.newt_store_change.specs.Faults.{NoDevice};
 ghost use Rattle.newt_engine_commands.specs.Larges.{ReadsLarge};
-ghost use Rattle.newt_engine_units.specs.Stands.{Stands, world_of};
+ghost use Rattle.newt_engine_units.specs.Calls.{Obeys};
+ghost use Rattle.newt_engine_units.specs.Stands.{Stands};
 
+use crate::done::done;
 use newt_base::{Name, Refusal, Uid};
-use newt_engine_card::{Card, Entry, Fault};
+use newt_engine_card::Card;
 use newt_engine_units::Units;
 use newt_graph::{Bytes, Graph, Node, Ref};
 use newt_host::{Host, Unit};
 use newt_path::{Path, value_at};
+use newt_store_change::{Change, Entry, StoreFault};
 use std::alloc::Global;
 
 /// So many bytes of the large binary that a path of an entry's graph reaches, from a place on. Places and lengths are in bytes.
@@ -32,15 +29,10 @@ pub fn vread<C: Card, H: Host>(
     path: &Path,
     at: u32,
     len: u32,
-) -> Result<Bytes, Fault>
+) -> Result<Bytes, StoreFault>
     requires { Stands C.place C.stands H.told units.old (H.outside host.old) }
-    ensures stands { GoesOn result → Stands C.place C.stands H.told units.new (H.outside host.new) }
-    ensures answered { IsTrue H.told → Answers (world_of C.reads units.old (H.outside host.old)) (world_of C.reads units.new (H.outside host.new)) (Command.Vread unit name.now uid path.now at len) (λ bytes. Reply.hex bytes) result }
-    ensures moments { IsTrue H.told → let w = world_of C.reads units.old (H.outside host.old) in
-        Always (Answering C.reads w (answer_now w (Command.Vread unit name.now uid path.now at len)).0 (H.outside host.old).now) (H.outside host.old).now (H.outside host.new).now }
-    ensures costs { IsTrue H.told → Costs (most_programmed (world_of C.reads units.old (H.outside host.old)) (Command.Vread unit name.now uid path.now at len)) result (H.outside host.old) (H.outside host.new) }
-    ensures alone { OnDevices (H.outside host.old) (H.outside host.new) }
-    ensures cause { IfErr result (λ fault. HasFaultCause fault (H.outside host.old) (H.outside host.new)) }
+    ensures { Obeys C.reads C.place C.stands H.told (Command.Vread unit name.now uid path.now at len) (λ bytes. Reply.hex bytes)
+        units.old units.new (H.outside host.old) (H.outside host.new) result }
 {
     let soup = units.find_soup(unit, name)?;
     let Entry { graph, .. } = units.read_entry(host, unit, soup, uid)?;
@@ -56,22 +48,20 @@ pub fn vwrite<C: Card, H: Host>(
     uid: Uid,
     path: &Path,
     at: u32,
-    bytes: &[u8],
-) -> Result<(), Fault>
+    bytes: Bytes,
+) -> Result<(), StoreFault>
     requires { Stands C.place C.stands H.told units.old (H.outside host.old) }
-    ensures stands { GoesOn result → Stands C.place C.stands H.told units.new (H.outside host.new) }
-    ensures answered { IsTrue H.told → Answers (world_of C.reads units.old (H.outside host.old)) (world_of C.reads units.new (H.outside host.new)) (Command.Vwrite unit name.now uid path.now at bytes.now) (λ _. Reply.done) result }
-    ensures moments { IsTrue H.told → let w = world_of C.reads units.old (H.outside host.old) in
-        Always (Answering C.reads w (answer_now w (Command.Vwrite unit name.now uid path.now at bytes.now)).0 (H.outside host.old).now) (H.outside host.old).now (H.outside host.new).now }
-    ensures costs { IsTrue H.told → Costs (most_programmed (world_of C.reads units.old (H.outside host.old)) (Command.Vwrite unit name.now uid path.now at bytes.now)) result (H.outside host.old) (H.outside host.new) }
-    ensures alone { OnDevices (H.outside host.old) (H.outside host.new) }
-    ensures cause { IfErr result (λ fault. HasFaultCause fault (H.outside host.old) (H.outside host.new)) }
+    ensures { Obeys C.reads C.place C.stands H.told (Command.Vwrite unit name.now uid path.now at bytes) (λ _. Reply.done)
+        units.old units.new (H.outside host.old) (H.outside host.new) result }
 {
     let soup = units.find_soup(unit, name)?;
     let Entry { graph, .. } = units.read_entry(host, unit, soup, uid)?;
     match large_at(&graph, path) {
-        Some(node) => units.patch_in(host, unit, soup, uid, node, at, bytes),
-        None => Err(Fault::Refused(Refusal::Path)),
+        Some(node) => {
+            let change = Change::Patch(soup, uid, node, at, bytes);
+            done(units.change(host, unit, change))
+        }
+        None => Err(StoreFault::Refused(Refusal::Path)),
     }
 }
 
@@ -107,15 +97,15 @@ fn bytes_from(bytes: &[u8], at: u32, len: u32) -> Option<&[u8]>
 }
 
 /// So many bytes of the large binary that a path of a graph reaches, from a place on.
-fn read_large(alloc: Global, graph: &Graph, path: &Path, at: u32, len: u32) -> Result<Bytes, Fault>
+fn read_large(alloc: Global, graph: &Graph, path: &Path, at: u32, len: u32) -> Result<Bytes, StoreFault>
     ensures read { ReadsLarge path.now at len graph.now result }
     ensures only { IfErr result (λ fault. NoDevice fault) }
 {
     let Some(node) = large_at(graph, path) else {
-        return Err(Fault::Refused(Refusal::Path));
+        return Err(StoreFault::Refused(Refusal::Path));
     };
     match bytes_from(bytes_of_large(graph, node), at, len) {
         Some(part) => Ok(Bytes::of(Vec::from_slice(alloc, part)?)),
-        None => Err(Fault::Refused(Refusal::Range)),
+        None => Err(StoreFault::Refused(Refusal::Range)),
     }
 }

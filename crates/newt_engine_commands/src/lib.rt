@@ -8,6 +8,7 @@
 
 mod copies;
 mod declarations;
+mod done;
 mod entries;
 mod forms;
 mod indexing;

@@ -15,8 +15,8 @@ use Rattle.newt_spec_world.specs.Changed.{Step, changed, step_from, stepped, go_
 use Rattle.newt_spec_world.specs.Refused.{checks, no_cursor, bad_key, on_some}
 use Rattle.newt_spec_world.specs.Answer.{answer, current, fields, or_nil}
 use Rattle.newt_pagebook.specs.declared.book.Stop.{Stop as End}
-use Rattle.newt_engine_card.specs.declared.fault.Fault.{Fault}
-use Rattle.newt_engine_card.specs.declared.fault.Fault.TheVariants.{Refused, Stop}
+use Rattle.newt_store_change.specs.declared.fault.StoreFault.{StoreFault}
+use Rattle.newt_store_change.specs.declared.fault.StoreFault.TheVariants.{Refused, Stop}
 use Rattle.newt_engine_cursors.specs.Motions.{Steers, step_of}
 use Rattle.newt_engine_cursors.specs.Replies.{Answers, shown_reply}
 use Rattle.newt_engine_cursors.specs.declared.show.Shown.{Shown}
@@ -57,8 +57,8 @@ unfolding checks changed fields
 moveby-steps n by = record { tests = λ w. refl; does = λ w. refl; shows = λ w v. refl }
 
 -- a run that ends says nothing of a step
-pub steers-end : (w v : World) (n : ℕ) (step : Step) (stop : End) (r : Result Shown Fault) → r ≡ Err (Stop stop) → Steers w v n step r
-steers-end w v n step stop r is = subst (λ (r : Result Shown Fault). Steers w v n step r) (sym is) tt
+pub steers-end : (w v : World) (n : ℕ) (step : Step) (stop : End) (r : Result Shown StoreFault) → r ≡ Err (Stop stop) → Steers w v n step r
+steers-end w v n step stop r is = subst (λ (r : Result Shown StoreFault). Steers w v n step r) (sym is) tt
 
 -- a cursor that is open steps to where it comes, and is shown there
 pub steers-there : (w mid v : World) (n : ℕ) (step : Step) (k : Cursor) (next : Place) (shown : Shown) → Some k ≡ cursor w n → mid ≡ w → next ≡ step (hits_of w k.query) k.query.spec.index k.place
@@ -76,7 +76,7 @@ no-cursor w n more e = ap (λ b. first_of ((NoCursor, b) ∷ more)) e
 pub one-cursor : (w : World) (n : ℕ) (more : Checks) → is_none (cursor w n) ≡ false → first_of (no_cursor w n ∷ more) ≡ first_of more
 one-cursor w n more e = ap (λ b. first_of ((NoCursor, b) ∷ more)) e
 
-pub steered-answers : (w v : World) (c : Command) (n : ℕ) (step : Step) → IsStepping c n step → (r : Result Shown Fault) → Steers w v n step r → Answers w v c shown_reply r
+pub steered-answers : (w v : World) (c : Command) (n : ℕ) (step : Step) → IsStepping c n step → (r : Result Shown StoreFault) → Steers w v n step r → Answers w v c shown_reply r
 steered-answers w v c n step s (Ok shown) d =
     shown-answers w v (stepped w n step) c n shown (ap first_of (s.tests w) ∙ one-cursor w n [] d.0) (s.does w) (s.shows w) d.1 d.2
 steered-answers w v c n step s (Err (Refused r)) d =
@@ -84,7 +84,7 @@ steered-answers w v c n step s (Err (Refused r)) d =
     ∙ ap {A = World} {B = World × Reply} (λ v. (v, Reply.refused NoCursor)) (sym d.2) ∙ ap {A = Refusal} {B = World × Reply} (λ r. (v, Reply.refused r)) (sym d.1)
 steered-answers w v c n step s (Err (Stop stop)) d = tt
 
-pub moveby-answers : (w v : World) (n : ℕ) (by z : ℤ) → z ≡ by → (r : Result Shown Fault) → Steers w v n (step_of (motion.By z)) r → Answers w v (command.Moveby n by) shown_reply r
+pub moveby-answers : (w v : World) (n : ℕ) (by z : ℤ) → z ≡ by → (r : Result Shown StoreFault) → Steers w v n (step_of (motion.By z)) r → Answers w v (command.Moveby n by) shown_reply r
 moveby-answers w v n by z e r d =
     steered-answers w v (command.Moveby n by) n (step_of (motion.By by)) (moveby-steps n by) r (subst (λ (z : ℤ). Steers w v n (step_of (motion.By z)) r) e d)
 
@@ -119,7 +119,7 @@ module _ (w : World) (n : ℕ) (g : RawGraph) where
     pub bad-key : key_from k.query.spec.index g ≡ None → answer w (command.Gotokey n g) ≡ (w, Reply.refused BadKey)
     bad-key e = refused-answer w (command.Gotokey n g) BadKey (tested ∙ ap (λ (o : Option Key). first_of ((BadKey, is_none o) ∷ [])) e)
 
-    pub key-answers : (key : Key) → key_from k.query.spec.index g ≡ Some key → (v : World) (r : Result Shown Fault) → Steers w v n (step_of (motion.Key key)) r
+    pub key-answers : (key : Key) → key_from k.query.spec.index g ≡ Some key → (v : World) (r : Result Shown StoreFault) → Steers w v n (step_of (motion.Key key)) r
         → Answers w v (command.Gotokey n g) shown_reply r
     key-answers key e v (Ok shown) d =
         shown-answers w v (stepped w n (step_of (motion.Key key))) (command.Gotokey n g) n shown (tested ∙ ap (λ (o : Option Key). first_of ((BadKey, is_none o) ∷ [])) e)

@@ -13,8 +13,8 @@ use Rattle.newt_spec_world.specs.Changed.{index_of, query_of}
 use Rattle.newt_spec_world.specs.Refused.{on_some}
 use Rattle.newt_spec_world.specs.World.{World}
 use Rattle.newt_cursor.specs.declared.query.Query as code
-use Rattle.newt_engine_card.specs.declared.fault.Fault.{Fault}
-use Rattle.newt_engine_card.specs.declared.fault.Fault.TheVariants.{Refused, Stop}
+use Rattle.newt_store_change.specs.declared.fault.StoreFault.{StoreFault}
+use Rattle.newt_store_change.specs.declared.fault.StoreFault.TheVariants.{Refused, Stop}
 use Rattle.newt_host.specs.Outside.{Outside}
 use Rattle.newt_spec_store.specs.Store.{Store, Soup, soup_named}
 use Rattle.newt_spec_query.specs.Hits.{in_scope}
@@ -33,7 +33,7 @@ use Rattle.newt_engine_cursors.specs.Opening.{Binds, Indexes, bind_tests}
 
 -- ---- the tests
 
-pub binds-same : (xs ys : Checks) (p q : Query) → first_of xs ≡ first_of ys → p ≡ q → (r : Result code.Query Fault) → Binds xs p r → Binds ys q r
+pub binds-same : (xs ys : Checks) (p q : Query) → first_of xs ≡ first_of ys → p ≡ q → (r : Result code.Query StoreFault) → Binds xs p r → Binds ys q r
 binds-same xs ys p q e is (Ok query) h = (sym e ∙ h.0, h.1 ∙ is)
 binds-same xs ys p q e is (Err (Refused refusal)) h = sym e ∙ h
 binds-same xs ys p q e is (Err (Stop stop)) h = tt
@@ -48,14 +48,14 @@ module _ (w : World) (scope : Option ℕ) (name : List ℕ) (g : RawGraph) where
 
   module _ (form : is_query g ≡ true) where
     -- its index is found
-    pub bound-goal : (spec : IndexSpec) → index_of w scope name g ≡ Some spec → (r : Result code.Query Fault)
+    pub bound-goal : (spec : IndexSpec) → index_of w scope name g ≡ Some spec → (r : Result code.Query StoreFault)
         → Binds ((BadKey, not (keys_fit g spec)) ∷ []) (record { scope = scope; name = name; spec = spec_of g spec }) r → Binds (bind_tests w scope name g) (query_of w scope name g) r
     bound-goal spec e r h = binds-same ((BadKey, not (keys_fit g spec)) ∷ []) (bind_tests w scope name g) (record { scope = scope; name = name; spec = spec_of g spec }) (query_of w scope name g)
         (sym (λ i. first_of (tests_by (form i) (e i))))
         (ap {A = Option IndexSpec} {B = Query} (λ o. record { scope = scope; name = name; spec = spec_of g (unwrap_or o []) }) (sym e)) r h
 
     -- it is not
-    pub index-goal : (fault : Fault) → Indexes w scope name (query_paths g) (Err fault) → Binds (bind_tests w scope name g) (query_of w scope name g) (Err fault)
+    pub index-goal : (fault : StoreFault) → Indexes w scope name (query_paths g) (Err fault) → Binds (bind_tests w scope name g) (query_of w scope name g) (Err fault)
     index-goal (Refused refusal) h = (λ i. first_of (tests_by (form i) (h.0 i))) ∙ ap Some (sym h.1)
     index-goal (Stop stop) h = tt
 

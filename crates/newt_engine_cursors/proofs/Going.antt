@@ -25,10 +25,10 @@ use Rattle.newt_laws_answers.proofs.Answers.{unit-passes}
 use Rattle.newt_laws_answers.proofs.Units.{is-mounted}
 use Rattle.newt_laws_hits.specs.Located.{Located, located, looked_up, located_hit as hit_at}
 use Rattle.newt_laws_hits.proofs.Origins.{looked-up-is, same-looked-up, named-looked-up}
-use Rattle.newt_engine_card.specs.declared.fault.Fault.{Fault}
-use Rattle.newt_engine_card.specs.declared.fault.Fault.TheVariants.{Refused, Stop}
+use Rattle.newt_store_change.specs.declared.fault.StoreFault.{StoreFault}
+use Rattle.newt_store_change.specs.declared.fault.StoreFault.TheVariants.{Refused, Stop}
 use Rattle.newt_engine_units.specs.declared.units.Units.{Units}
-use Rattle.newt_engine_card.specs.Faults.{RefusesBy}
+use Rattle.newt_store_change.specs.Faults.{RefusesBy}
 use Rattle.newt_engine_units.specs.Stands.{Stands, Eight, card_at, world_of}
 use Rattle.newt_engine_units.proofs.Known.{Laws, bare-sig, card-known, none-mounted}
 use Rattle.newt_engine_cursors.specs.Present.{Present, identity, present_in, with_entry}
@@ -63,10 +63,10 @@ module _ (w : World) (n u uid : ℕ) where
       (ap first_of goto-tests ∙ first-early (no_unit w u).1 (not_mounted w u).1 (no_unit w u).0 (not_mounted w u).0 r (no_cursor w n ∷ not_a_hit w n u uid ∷ []) h)
 
   -- no store is mounted on the unit
-  pub unit-faults : (known : Checks) → known ≡ unit_checks w u → (fault : Fault) → RefusesBy known fault → (r : Result Shown Fault) → r ≡ Err fault → Answers w w (command.Goto n u uid) shown_reply r
+  pub unit-faults : (known : Checks) → known ≡ unit_checks w u → (fault : StoreFault) → RefusesBy known fault → (r : Result Shown StoreFault) → r ≡ Err fault → Answers w w (command.Goto n u uid) shown_reply r
   unit-faults known same fault h r is = subst (λ r. Answers w w (command.Goto n u uid) shown_reply r) (sym is) (go fault h)
     where
-      go : (fault : Fault) → RefusesBy known fault → Answers w w (command.Goto n u uid) shown_reply (Err fault)
+      go : (fault : StoreFault) → RefusesBy known fault → Answers w w (command.Goto n u uid) shown_reply (Err fault)
       go (Refused r) h = no-unit-goto r (ap first_of (sym same) ∙ h)
       go (Stop stop) h = tt
 

@@ -20,9 +20,9 @@ use Rattle.newt_laws_answers.specs.Tests.{soup_checks}
 use Rattle.newt_laws_answers.proofs.Firsts.{first-found}
 use Rattle.newt_cursor.specs.declared.query.Query as code
 use Rattle.newt_cursor.specs.Seen.{query_of as seen}
-use Rattle.newt_engine_card.specs.declared.fault.Fault.{Fault}
-use Rattle.newt_engine_card.specs.declared.fault.Fault.TheVariants.{Refused, Stop}
-use Rattle.newt_engine_card.specs.Faults.{RefusesBy}
+use Rattle.newt_store_change.specs.declared.fault.StoreFault.{StoreFault}
+use Rattle.newt_store_change.specs.declared.fault.StoreFault.TheVariants.{Refused, Stop}
+use Rattle.newt_store_change.specs.Faults.{RefusesBy}
 use Rattle.newt_engine_units.proofs.Shown.{drop-step}
 use Rattle.newt_engine_cursors.specs.Opening.{Binds, Opens, bind_tests}
 use Rattle.newt_engine_cursors.specs.Replies.{Answers}
@@ -39,7 +39,7 @@ first-on ((r, false) ∷ xs) ys e = first-on xs ys e
 -- ---- a cursor that is opened
 
 module _ (w : World) (c : Command) (tests : Checks) (are : checks w c ≡ tests ++ no_free_cursor w ∷ []) where
-  pub refused-asked : (q : Query) (fault : Fault) → Binds tests q (Err fault) → Answers {T = ℕ} w w c (λ n. Reply.number n) (Err fault)
+  pub refused-asked : (q : Query) (fault : StoreFault) → Binds tests q (Err fault) → Answers {T = ℕ} w w c (λ n. Reply.number n) (Err fault)
   refused-asked q (Refused r) h = refused-answer w c r (ap first_of are ∙ first-found tests (no_free_cursor w ∷ []) r h)
   refused-asked q (Stop stop) h = tt
 
@@ -47,7 +47,7 @@ module _ (w : World) (c : Command) (tests : Checks) (are : checks w c ≡ tests 
     free : (o : Option ℕ) → free_cursor w ≡ o → first_of (checks w c) ≡ first_of ((Limit, is_none o) ∷ [])
     free o e = ap first_of are ∙ first-on tests (no_free_cursor w ∷ []) passed ∙ ap (λ (o : Option ℕ). first_of ((Limit, is_none o) ∷ [])) e
 
-    pub opens-answer : (v : World) (r : Result ℕ Fault) → Opens w v p r → Answers w v c (λ n. Reply.number n) r
+    pub opens-answer : (v : World) (r : Result ℕ StoreFault) → Opens w v p r → Answers w v c (λ n. Reply.number n) r
     opens-answer v (Ok n) h =
         done-goal w (opened w q) v c (Reply.number n) (free (Some n) h.0) does (h.1 ∙ ap (λ q. settle (opened w q)) is)
         (sym (says (settle (opened w q)) ∙ ap (or_nil Reply.number) h.0))
@@ -76,10 +76,10 @@ module _ (w : World) (u : ℕ) (name : List ℕ) (g : RawGraph) where
   unfolding fields
   query-says v = refl
 
-  pub query-refused : (fault : Fault) → Binds (query_tests w u name g) (query_of w (Some (sig_of w u)) name g) (Err fault) → Answers {T = ℕ} w w (command.Query u name g) (λ n. Reply.number n) (Err fault)
+  pub query-refused : (fault : StoreFault) → Binds (query_tests w u name g) (query_of w (Some (sig_of w u)) name g) (Err fault) → Answers {T = ℕ} w w (command.Query u name g) (λ n. Reply.number n) (Err fault)
   query-refused fault h = refused-asked w (command.Query u name g) (query_tests w u name g) query-are (query_of w (Some (sig_of w u)) name g) fault h
 
-  pub query-opens : (v : World) (asked : code.Query) → Binds (query_tests w u name g) (query_of w (Some (sig_of w u)) name g) (Ok asked) → (r : Result ℕ Fault) → Opens w v (seen asked) r
+  pub query-opens : (v : World) (asked : code.Query) → Binds (query_tests w u name g) (query_of w (Some (sig_of w u)) name g) (Ok asked) → (r : Result ℕ StoreFault) → Opens w v (seen asked) r
       → Answers w v (command.Query u name g) (λ n. Reply.number n) r
   query-opens v asked h r o =
       opens-answer w (command.Query u name g) (query_tests w u name g) query-are (seen asked) (query_of w (Some (sig_of w u)) name g) query-does query-says h.0 h.1 v r o
@@ -105,11 +105,11 @@ module _ (w : World) (name : List ℕ) (g : RawGraph) where
     there : first_of (bind_tests w None name g) ≡ first_of (all_tests w name g)
     there = ap (λ b. first_of ((NoSoup, not b) ∷ bind_tests w None name g)) (sym is ∙ e)
 
-    pub all-refused : (fault : Fault) → Binds (bind_tests w None name g) (query_of w None name g) (Err fault) → Answers {T = ℕ} w w (command.QueryAll name g) (λ n. Reply.number n) (Err fault)
+    pub all-refused : (fault : StoreFault) → Binds (bind_tests w None name g) (query_of w None name g) (Err fault) → Answers {T = ℕ} w w (command.QueryAll name g) (λ n. Reply.number n) (Err fault)
     all-refused fault h = refused-asked w (command.QueryAll name g) (all_tests w name g) all-are (query_of w None name g) fault
         (binds-same (bind_tests w None name g) (all_tests w name g) (query_of w None name g) (query_of w None name g) there refl (Err fault) h)
 
-    pub all-opens : (v : World) (asked : code.Query) → Binds (bind_tests w None name g) (query_of w None name g) (Ok asked) → (r : Result ℕ Fault) → Opens w v (seen asked) r
+    pub all-opens : (v : World) (asked : code.Query) → Binds (bind_tests w None name g) (query_of w None name g) (Ok asked) → (r : Result ℕ StoreFault) → Opens w v (seen asked) r
         → Answers w v (command.QueryAll name g) (λ n. Reply.number n) r
     all-opens v asked h r o =
         opens-answer w (command.QueryAll name g) (all_tests w name g) all-are (seen asked) (query_of w None name g) all-does all-says (sym there ∙ h.0) h.1 v r o
@@ -117,7 +117,7 @@ module _ (w : World) (name : List ℕ) (g : RawGraph) where
 -- ---- the soup of a unit
 
 module _ (w : World) (u : ℕ) (name : List ℕ) (g : RawGraph) where
-  pub fails-asked : (known : Checks) → known ≡ soup_checks w u name → (fault : Fault) → RefusesBy known fault
+  pub fails-asked : (known : Checks) → known ≡ soup_checks w u name → (fault : StoreFault) → RefusesBy known fault
       → Binds (query_tests w u name g) (query_of w (Some (sig_of w u)) name g) (Err fault)
   fails-asked known is (Refused r) h = first-found (soup_checks w u name) (bind_tests w (Some (sig_of w u)) name g) r (ap first_of (sym is) ∙ h)
   fails-asked known is (Stop stop) h = absurd h
@@ -133,7 +133,7 @@ module _ (w : World) (u : ℕ) (name : List ℕ) (g : RawGraph) where
     sig-is : sig_of w u ≡ s.sig
     sig-is = ap (λ (o : Option Store). elim o [ None ↦ 0 | Some s ↦ s.sig ]) m
 
-    pub asked-on : (sig : ℕ) → sig ≡ s.sig → (r : Result code.Query Fault) → Binds (bind_tests w (Some sig) name g) (query_of w (Some sig) name g) r
+    pub asked-on : (sig : ℕ) → sig ≡ s.sig → (r : Result code.Query StoreFault) → Binds (bind_tests w (Some sig) name g) (query_of w (Some sig) name g) r
         → Binds (query_tests w u name g) (query_of w (Some (sig_of w u)) name g) r
     asked-on sig e r h =
         let is : sig ≡ sig_of w u = e ∙ sym sig-is in

@@ -8,9 +8,9 @@ use Rattle.newt_pagebook.specs.declared.book.Stop.{Stop}
 use Rattle.newt_pagebook.specs.declared.book.Stop.TheVariants.{Memory, Device}
 use Rattle.newt_spec_store.specs.Store.{Store}
 use Rattle.newt_engine_units.specs.declared.units.Units.{Units}
-use Rattle.newt_engine_card.specs.Faults.{HasFaultCause}
-use Rattle.newt_engine_card.specs.declared.fault.Fault.{Fault}
-use Rattle.newt_engine_card.specs.declared.fault.Fault.TheVariants.{Stop as Ends}
+use Rattle.newt_store_change.specs.Faults.{HasFaultCause}
+use Rattle.newt_store_change.specs.declared.fault.StoreFault.{StoreFault}
+use Rattle.newt_store_change.specs.declared.fault.StoreFault.TheVariants.{Stop as Ends}
 use Rattle.newt_engine_units.specs.Stands.{Stands}
 use Rattle.newt_engine_cursors.specs.World.{AreRead}
 
@@ -40,9 +40,9 @@ pub handed : {T : Type 0} (o q : Outside) (stop : Stop) → HasStopCause stop o 
 handed {T} o q stop h r p = subst (λ (r : Result T Stop). IfErr r (λ stop. HasStopCause stop o q)) (sym (p.1 ∙ ap {B = Result T Stop} (λ e. Err e) p.2)) h
 
 -- an end of the run that was handed on is the same end
-pub ended : {T : Type 0} (stop : Stop) (r : Result T Fault) → (e : Fault) × (r ≡ Err e) × (e ≡ Ends stop) → r ≡ Err (Ends stop)
-ended {T} stop r p = p.1 ∙ ap {B = Result T Fault} (λ e. Err e) p.2
+pub ended : {T : Type 0} (stop : Stop) (r : Result T StoreFault) → (e : StoreFault) × (r ≡ Err e) × (e ≡ Ends stop) → r ≡ Err (Ends stop)
+ended {T} stop r p = p.1 ∙ ap {B = Result T StoreFault} (λ e. Err e) p.2
 
 -- and has its cause
-pub ended-cause : {T : Type 0} (o q : Outside) (stop : Stop) → HasStopCause stop o q → (r : Result T Fault) → r ≡ Err (Ends stop) → IfErr r (λ fault. HasFaultCause fault o q)
-ended-cause {T} o q stop h r is = subst (λ (r : Result T Fault). IfErr r (λ fault. HasFaultCause fault o q)) (sym is) h
+pub ended-cause : {T : Type 0} (o q : Outside) (stop : Stop) → HasStopCause stop o q → (r : Result T StoreFault) → r ≡ Err (Ends stop) → IfErr r (λ fault. HasFaultCause fault o q)
+ended-cause {T} o q stop h r is = subst (λ (r : Result T StoreFault). IfErr r (λ fault. HasFaultCause fault o q)) (sym is) h

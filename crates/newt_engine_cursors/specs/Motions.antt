@@ -7,8 +7,8 @@ use Rattle.newt_spec_world.specs.Answer.{current, or_nil}
 use Rattle.newt_spec_world.specs.Changed.{Step, stepped}
 use Rattle.newt_spec_world.specs.World.{World, cursor, settle}
 use Rattle.newt_keys.specs.KeyForm.{IsKeyOf}
-use Rattle.newt_engine_card.specs.declared.fault.Fault.{Fault}
-use Rattle.newt_engine_card.specs.declared.fault.Fault.TheVariants.{Refused, Stop}
+use Rattle.newt_store_change.specs.declared.fault.StoreFault.{StoreFault}
+use Rattle.newt_store_change.specs.declared.fault.StoreFault.TheVariants.{Refused, Stop}
 use Rattle.newt_engine_cursors.specs.declared.show.Shown.{Shown}
 use Rattle.newt_engine_cursors.specs.declared.stepping.Motion.{Motion}
 use Rattle.newt_engine_cursors.specs.declared.stepping.Motion.TheVariants as motion
@@ -29,7 +29,7 @@ MotionFits index _ = Unit {0}
 
 -- A cursor of the world w that is open is stepped, all are settled, which makes the world v, and it is shown. One that is not open is refused, and nothing has
 -- changed. (this project's own)
-abbrev pub Steers : World → World → ℕ → Step → Result Shown Fault → Type 0
+abbrev pub Steers : World → World → ℕ → Step → Result Shown StoreFault → Type 0
 Steers w v n step (Ok shown) = (is_none (cursor w n) ≡ false) × (v ≡ settle (stepped w n step)) × (shown_reply shown ≡ or_nil (current v) (cursor v n))
 Steers w v n step (Err (Refused refusal)) = (is_none (cursor w n) ≡ true) × (refusal ≡ NoCursor) × (v ≡ w)
 Steers w v n step (Err (Stop stop)) = Unit {0}

@@ -11,8 +11,8 @@ use Rattle.newt_spec_world.specs.Refused.{bad_query, no_query_index, bad_keys}
 use Rattle.newt_spec_world.specs.World.{World, free_cursor, settle}
 use Rattle.newt_cursor.specs.declared.query.Query as code
 use Rattle.newt_cursor.specs.Seen.{query_of}
-use Rattle.newt_engine_card.specs.declared.fault.Fault.{Fault}
-use Rattle.newt_engine_card.specs.declared.fault.Fault.TheVariants.{Refused, Stop}
+use Rattle.newt_store_change.specs.declared.fault.StoreFault.{StoreFault}
+use Rattle.newt_store_change.specs.declared.fault.StoreFault.TheVariants.{Refused, Stop}
 
 -- the declaration of these paths in the soup of this name of a store in scope (a word of these definitions)
 abbrev pub index_in : Option ℕ → List ℕ → List Path → Store → Option IndexSpec
@@ -28,19 +28,19 @@ abbrev pub bind_tests : World → Option ℕ → List ℕ → RawGraph → Check
 bind_tests w scope name g = bad_query g ∷ no_query_index w scope name g ∷ bad_keys w scope name g ∷ []
 
 -- the index that is asked for is found, or no soup has it (this project's own)
-abbrev pub Indexes : World → Option ℕ → List ℕ → Option (List Path) → Result (Option IndexSpec) Fault → Type 0
+abbrev pub Indexes : World → Option ℕ → List ℕ → Option (List Path) → Result (Option IndexSpec) StoreFault → Type 0
 Indexes w scope name paths (Ok index) = index_asked w scope name paths ≡ Some (unwrap_or index [])
 Indexes w scope name paths (Err (Refused refusal)) = (index_asked w scope name paths ≡ None) × (refusal ≡ BadIndex)
 Indexes w scope name paths (Err (Stop stop)) = Unit {0}
 
 -- the query is made, or the first test that holds is answered (this project's own)
-abbrev pub Binds : Checks → Query → Result code.Query Fault → Type 0
+abbrev pub Binds : Checks → Query → Result code.Query StoreFault → Type 0
 Binds tests q (Ok query) = (first_of tests ≡ None) × (query_of query ≡ q)
 Binds tests q (Err (Refused refusal)) = first_of tests ≡ Some refusal
 Binds tests q (Err (Stop stop)) = Unit {0}
 
 -- a cursor of the query is opened on its first hit and all cursors settle, or no number is free and nothing has changed (this project's own)
-abbrev pub Opens : World → World → Query → Result ℕ Fault → Type 0
+abbrev pub Opens : World → World → Query → Result ℕ StoreFault → Type 0
 Opens w v q (Ok c) = (free_cursor w ≡ Some c) × (v ≡ settle (opened w q))
 Opens w v q (Err (Refused refusal)) = (refusal ≡ Limit) × (free_cursor w ≡ None) × (v ≡ w)
 Opens w v q (Err (Stop stop)) = Unit {0}

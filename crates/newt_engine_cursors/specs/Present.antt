@@ -6,7 +6,7 @@ use Rattle.newt_spec_query.specs.Hits.{Query, Hit}
 use Rattle.newt_spec_query.specs.Cursor.{same_identity}
 use Rattle.newt_spec_world.specs.World.{World, hits_of}
 use Rattle.newt_spec_world.specs.Answer.{spot_of}
-use Rattle.newt_engine_card.specs.Cards.{plain_entry}
+use Rattle.newt_store_change.specs.Entries.{plain_entry}
 use Rattle.newt_engine_cursors.specs.declared.present.Present as found
 
 -- a hit with its entry: its unit, the key that it has, and the entry (a word of these definitions)

@@ -6,14 +6,15 @@ ghost use Rattle.newt_cursor.specs.Seen.{scope_of};
 ghost use Rattle.newt_query.specs.Shape.{shape_of};
 ghost use Rattle.newt_spec_query.specs.Spec.{is_query, keys_fit, spec_of};
 ghost use Rattle.newt_spec_world.specs.Changed.{query_of};
-ghost use Rattle.newt_engine_card.specs.Faults.{NoDevice};
+ghost use Rattle.newt_store_change.specs.Faults.{NoDevice};
 ghost use Rattle.newt_engine_units.specs.Stands.{Eight, Stands, world_of};
 ghost use Rattle.newt_engine_cursors.specs.Opening.{Binds, Indexes, bind_tests};
 
 use crate::declared::index_for;
 use newt_base::{Name, Refusal};
 use newt_cursor::{Query, Scope};
-use newt_engine_card::{Card, Fault};
+use newt_engine_card::Card;
+use newt_store_change::StoreFault;
 use newt_engine_units::Units;
 use newt_graph::Graph;
 use newt_keys::IndexSpec;
@@ -27,15 +28,15 @@ pub(crate) fn query_for<C: Card>(
     scope: Scope,
     name: &Name,
     graph: &Graph,
-) -> Result<Query, Fault>
+) -> Result<Query, StoreFault>
     ensures bound { (outside : Outside) → Eight outside → Stands C.place C.stands true units.now outside → let w = world_of C.reads units.now outside in
         Binds (bind_tests w (scope_of scope) name.now graph.now) (query_of w (scope_of scope) name.now graph.now) result }
     ensures cause { IfErr result NoDevice }
 {
     match Shape::read(units.alloc(), graph) {
         Ok(shape) => bound(units, scope, name, graph, shape),
-        Err(ShapeFault::Spec) => Err(Fault::Refused(Refusal::Spec)),
-        Err(ShapeFault::Memory) => Err(Fault::Stop(Stop::Memory)),
+        Err(ShapeFault::Spec) => Err(StoreFault::Refused(Refusal::Spec)),
+        Err(ShapeFault::Memory) => Err(StoreFault::Stop(Stop::Memory)),
     }
 }
 
@@ -46,7 +47,7 @@ fn bound<C: Card>(
     name: &Name,
     graph: &Graph,
     shape: Shape,
-) -> Result<Query, Fault>
+) -> Result<Query, StoreFault>
     requires form { is_query graph.now ≡ true }
     requires shape { shape ≡ shape_of graph.now }
     ensures bound { (outside : Outside) → Eight outside → Stands C.place C.stands true units.now outside → let w = world_of C.reads units.now outside in
@@ -68,7 +69,7 @@ fn keyed(
     graph: &Graph,
     shape: Shape,
     index: Option<IndexSpec>,
-) -> Result<Query, Fault>
+) -> Result<Query, StoreFault>
     requires { shape ≡ shape_of graph.now }
     ensures bound { let spec = unwrap_or index [] in
         Binds ((BadKey, not (keys_fit graph.now spec)) ∷ []) (record { scope = scope_of scope; name = name.now; spec = spec_of graph.now spec }) result }
@@ -80,8 +81,8 @@ fn keyed(
             name: name.copy()?,
             spec,
         }),
-        Err(BindFault::KeyType) => Err(Fault::Refused(Refusal::Key)),
-        Err(BindFault::Memory) => Err(Fault::Stop(Stop::Memory)),
+        Err(BindFault::KeyType) => Err(StoreFault::Refused(Refusal::Key)),
+        Err(BindFault::Memory) => Err(StoreFault::Stop(Stop::Memory)),
     }
 }
 
@@ -91,7 +92,7 @@ fn find_index<C: Card>(
     scope: &Scope,
     name: &Name,
     shape: &Shape,
-) -> Result<Option<IndexSpec>, Fault>
+) -> Result<Option<IndexSpec>, StoreFault>
     ensures found { (outside : Outside) → Eight outside → Stands C.place C.stands true units.now outside →
         Indexes (world_of C.reads units.now outside) (scope_of scope.now) name.now shape.now.paths result }
     ensures cause { IfErr result NoDevice }
@@ -101,6 +102,6 @@ fn find_index<C: Card>(
     };
     match index_for(units, scope, name, paths) {
         Some(index) => Ok(Some(index.copy()?)),
-        None => Err(Fault::Refused(Refusal::Index)),
+        None => Err(StoreFault::Refused(Refusal::Index)),
     }
 }

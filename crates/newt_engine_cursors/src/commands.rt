@@ -7,7 +7,7 @@ ghost use Rattle.newt_spec_world.specs.Reply.{Reply};
 ghost use Rattle.newt_spec_world.specs.World.{flat, settle};
 ghost use Rattle.newt_spec_world.specs.declared.command.Command.{Command};
 ghost use Rattle.newt_laws_world.specs.Settled.{MountedApart};
-ghost use Rattle.newt_engine_card.specs.Faults.{HasFaultCause};
+ghost use Rattle.newt_store_change.specs.Faults.{HasFaultCause};
 ghost use Rattle.newt_engine_units.specs.Stands.{Stands};
 ghost use Rattle.newt_engine_cursors.specs.Fits.{DeskFits};
 ghost use Rattle.newt_engine_cursors.specs.Replies.{Answers, shown_reply, side_at, side_reply};
@@ -18,7 +18,8 @@ use crate::settling::settle;
 use crate::show::{Shown, Side, show};
 use newt_base::Refusal;
 use newt_cursor::{Desk, DeskFault, Place};
-use newt_engine_card::{Card, Fault};
+use newt_engine_card::Card;
+use newt_store_change::StoreFault;
 use newt_engine_units::Units;
 use newt_host::Host;
 use newt_pagebook::Stop;
@@ -29,7 +30,7 @@ pub fn entry<C: Card, H: Host>(
     desk: &mut Desk,
     host: &mut H,
     cursor: u8,
-) -> Result<Shown, Fault>
+) -> Result<Shown, StoreFault>
     requires stands { Stands C.place C.stands H.told units.old (H.outside host.old) }
     requires desk { DeskFits desk.old }
     ensures read { AreRead C.reads C.place C.stands H.told units.old units.new (H.outside host.old) (H.outside host.new) }
@@ -39,7 +40,7 @@ pub fn entry<C: Card, H: Host>(
     ensures cause { IfErr result (λ fault. HasFaultCause fault (H.outside host.old) (H.outside host.new)) }
 {
     if desk.place(cursor).is_none() {
-        return Err(Fault::Refused(Refusal::Cursor));
+        return Err(StoreFault::Refused(Refusal::Cursor));
     }
     Ok(settle_and_show(units, desk, host, cursor)?)
 }
@@ -50,7 +51,7 @@ pub fn count<C: Card, H: Host>(
     desk: &mut Desk,
     host: &mut H,
     cursor: u8,
-) -> Result<u32, Fault>
+) -> Result<u32, StoreFault>
     requires stands { Stands C.place C.stands H.told units.old (H.outside host.old) }
     requires desk { DeskFits desk.old }
     ensures read { AreRead C.reads C.place C.stands H.told units.old units.new (H.outside host.old) (H.outside host.new) }
@@ -60,7 +61,7 @@ pub fn count<C: Card, H: Host>(
     ensures cause { IfErr result (λ fault. HasFaultCause fault (H.outside host.old) (H.outside host.new)) }
 {
     let Some(query) = desk.query(cursor) else {
-        return Err(Fault::Refused(Refusal::Cursor));
+        return Err(StoreFault::Refused(Refusal::Cursor));
     };
     let count = count_hits(units, host, query)?;
     settle(units, desk, host)?;
@@ -73,7 +74,7 @@ pub fn which<C: Card, H: Host>(
     desk: &mut Desk,
     host: &mut H,
     cursor: u8,
-) -> Result<Side, Fault>
+) -> Result<Side, StoreFault>
     requires stands { Stands C.place C.stands H.told units.old (H.outside host.old) }
     requires desk { DeskFits desk.old }
     ensures read { AreRead C.reads C.place C.stands H.told units.old units.new (H.outside host.old) (H.outside host.new) }
@@ -83,7 +84,7 @@ pub fn which<C: Card, H: Host>(
     ensures cause { IfErr result (λ fault. HasFaultCause fault (H.outside host.old) (H.outside host.new)) }
 {
     let Some(place) = desk.place(cursor) else {
-        return Err(Fault::Refused(Refusal::Cursor));
+        return Err(StoreFault::Refused(Refusal::Cursor));
     };
     let side = side_of(place);
     settle(units, desk, host)?;
@@ -96,7 +97,7 @@ pub fn clone_of<C: Card, H: Host>(
     desk: &mut Desk,
     host: &mut H,
     cursor: u8,
-) -> Result<u8, Fault>
+) -> Result<u8, StoreFault>
     requires stands { Stands C.place C.stands H.told units.old (H.outside host.old) }
     requires desk { DeskFits desk.old }
     ensures read { AreRead C.reads C.place C.stands H.told units.old units.new (H.outside host.old) (H.outside host.new) }
@@ -106,15 +107,15 @@ pub fn clone_of<C: Card, H: Host>(
     ensures cause { IfErr result (λ fault. HasFaultCause fault (H.outside host.old) (H.outside host.new)) }
 {
     if desk.query(cursor).is_none() {
-        return Err(Fault::Refused(Refusal::Cursor));
+        return Err(StoreFault::Refused(Refusal::Cursor));
     }
     match desk.clone_of(cursor) {
         Ok(clone) => {
             settle(units, desk, host)?;
             Ok(clone)
         }
-        Err(DeskFault::Limit) => Err(Fault::Refused(Refusal::Limit)),
-        Err(DeskFault::Memory) => Err(Fault::Stop(Stop::Memory)),
+        Err(DeskFault::Limit) => Err(StoreFault::Refused(Refusal::Limit)),
+        Err(DeskFault::Memory) => Err(StoreFault::Stop(Stop::Memory)),
     }
 }
 
@@ -124,7 +125,7 @@ pub fn close<C: Card, H: Host>(
     desk: &mut Desk,
     host: &mut H,
     cursor: u8,
-) -> Result<(), Fault>
+) -> Result<(), StoreFault>
     requires stands { Stands C.place C.stands H.told units.old (H.outside host.old) }
     requires desk { DeskFits desk.old }
     ensures read { AreRead C.reads C.place C.stands H.told units.old units.new (H.outside host.old) (H.outside host.new) }
@@ -134,7 +135,7 @@ pub fn close<C: Card, H: Host>(
     ensures cause { IfErr result (λ fault. HasFaultCause fault (H.outside host.old) (H.outside host.new)) }
 {
     if desk.query(cursor).is_none() {
-        return Err(Fault::Refused(Refusal::Cursor));
+        return Err(StoreFault::Refused(Refusal::Cursor));
     }
     desk.close(cursor);
     Ok(settle(units, desk, host)?)

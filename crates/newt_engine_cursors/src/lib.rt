@@ -4,8 +4,8 @@
 //! `newt_query_filter` for what a query keeps. The promise that it carries: units, cursors and devices stand for one world; each command of cursors is answered
 //! as that world answers it, and leaves what stands for the world after it; and nothing happens to a device but reading.
 //!
-//! Each call answers `Fault::Refused` with the refusal that its command is answered with, and then neither the stores nor the cursors have changed; or
-//! `Fault::Stop` where memory was refused or a device failed.
+//! Each call answers `StoreFault::Refused` with the refusal that its command is answered with, and then neither the stores nor the cursors have changed; or
+//! `StoreFault::Stop` where memory was refused or a device failed.
 #![tactic(auto)]
 
 mod asking;

@@ -9,7 +9,7 @@ ghost use Rattle.newt_spec_world.specs.World.{mounted, soup_in};
 ghost use Rattle.newt_spec_world.specs.declared.command.Command.{Command};
 ghost use Rattle.newt_laws_world.specs.Settled.{MountedApart};
 ghost use Rattle.newt_laws_answers.specs.Tests.{soup_checks};
-ghost use Rattle.newt_engine_card.specs.Faults.{HasFaultCause, NoDevice};
+ghost use Rattle.newt_store_change.specs.Faults.{HasFaultCause, NoDevice};
 ghost use Rattle.newt_engine_units.specs.Stands.{Eight, Stands, world_of};
 ghost use Rattle.newt_engine_cursors.specs.Fits.{DeskFits};
 ghost use Rattle.newt_engine_cursors.specs.Opening.{Binds, Opens, bind_tests};
@@ -22,7 +22,8 @@ use crate::settling::settle;
 use crate::ways::Way;
 use newt_base::{Name, Refusal};
 use newt_cursor::{Desk, DeskFault, Query, Scope};
-use newt_engine_card::{Card, Fault};
+use newt_engine_card::Card;
+use newt_store_change::StoreFault;
 use newt_engine_units::Units;
 use newt_graph::Graph;
 use newt_host::{Host, UNITS, Unit};
@@ -37,7 +38,7 @@ pub fn query<C: Card, H: Host>(
     unit: Unit,
     name: &Name,
     graph: &Graph,
-) -> Result<u8, Fault>
+) -> Result<u8, StoreFault>
     requires stands { Stands C.place C.stands H.told units.old (H.outside host.old) }
     requires desk { DeskFits desk.old }
     ensures read { AreRead C.reads C.place C.stands H.told units.old units.new (H.outside host.old) (H.outside host.new) }
@@ -60,7 +61,7 @@ pub fn query_all<C: Card, H: Host>(
     host: &mut H,
     name: &Name,
     graph: &Graph,
-) -> Result<u8, Fault>
+) -> Result<u8, StoreFault>
     requires stands { Stands C.place C.stands H.told units.old (H.outside host.old) }
     requires desk { DeskFits desk.old }
     ensures read { AreRead C.reads C.place C.stands H.told units.old units.new (H.outside host.old) (H.outside host.new) }
@@ -70,7 +71,7 @@ pub fn query_all<C: Card, H: Host>(
     ensures cause { IfErr result (λ fault. HasFaultCause fault (H.outside host.old) (H.outside host.new)) }
 {
     if !has_soup(units, name) {
-        return Err(Fault::Refused(Refusal::Soup));
+        return Err(StoreFault::Refused(Refusal::Soup));
     }
     let asked = query_for(units, Scope::All, name, graph);
     match asked {
@@ -85,7 +86,7 @@ fn query_on<C: Card>(
     unit: Unit,
     name: &Name,
     graph: &Graph,
-) -> Result<Query, Fault>
+) -> Result<Query, StoreFault>
     ensures bound { (outside : Outside) → Eight outside → Stands C.place C.stands true units.now outside → let w = world_of C.reads units.now outside in let scope = Some (sig_of w unit) in
         Binds (soup_checks w unit name.now ++ bind_tests w scope name.now graph.now) (asked_query w scope name.now graph.now) result }
     ensures cause { IfErr result NoDevice }
@@ -93,7 +94,7 @@ fn query_on<C: Card>(
     match units.find_soup(unit, name) {
         Ok(_) => match units.card(unit) {
             Some(card) => query_for(units, Scope::One(card.sig()), name, graph),
-            None => Err(Fault::Refused(Refusal::Notmounted)),
+            None => Err(StoreFault::Refused(Refusal::Notmounted)),
         },
         Err(fault) => Err(fault),
     }
@@ -118,7 +119,7 @@ fn open<C: Card, H: Host>(
     desk: &mut Desk,
     host: &mut H,
     query: Query,
-) -> Result<u8, Fault>
+) -> Result<u8, StoreFault>
     requires stands { Stands C.place C.stands H.told units.old (H.outside host.old) }
     requires desk { DeskFits desk.old }
     ensures read { AreRead C.reads C.place C.stands H.told units.old units.new (H.outside host.old) (H.outside host.new) }
@@ -133,7 +134,7 @@ fn open<C: Card, H: Host>(
             settle(units, desk, host)?;
             Ok(cursor)
         }
-        Err(DeskFault::Limit) => Err(Fault::Refused(Refusal::Limit)),
-        Err(DeskFault::Memory) => Err(Fault::Stop(Stop::Memory)),
+        Err(DeskFault::Limit) => Err(StoreFault::Refused(Refusal::Limit)),
+        Err(DeskFault::Memory) => Err(StoreFault::Stop(Stop::Memory)),
     }
 }

@@ -14,13 +14,14 @@ ghost use Rattle.newt_laws_hits.specs.Located.{takes_part};
 ghost use Rattle.newt_laws_hits.specs.Taking.{declared};
 ghost use Rattle.newt_engine_units.specs.Stands.{Eight, Stands, world_of};
 ghost use Rattle.newt_query_filter.specs.Kept.{kept_key};
-ghost use Rattle.newt_engine_card.specs.Cards.{plain_entry};
+ghost use Rattle.newt_store_change.specs.Entries.{plain_entry};
 ghost use Rattle.newt_engine_cursors.specs.Present.{identity, present_in, present_of};
 ghost use Rattle.newt_engine_cursors.specs.World.{AreRead};
 
 use newt_base::{Sig, Uid};
 use newt_cursor::{Query, Scope};
-use newt_engine_card::{Card, Entry};
+use newt_engine_card::Card;
+use newt_store_change::Entry;
 use newt_engine_units::Units;
 use newt_host::{Host, Unit};
 use newt_keys::{IndexSpec, Key};

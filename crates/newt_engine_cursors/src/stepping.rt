@@ -11,7 +11,7 @@ ghost use Rattle.newt_spec_world.specs.Changed.{hit_for, key_from, sig_of};
 ghost use Rattle.newt_spec_world.specs.World.{cursor, flat, hits_of, set_place, settle, soup_in};
 ghost use Rattle.newt_spec_world.specs.declared.command.Command.TheVariants as Command;
 ghost use Rattle.newt_laws_world.specs.Settled.{MountedApart};
-ghost use Rattle.newt_engine_card.specs.Faults.{HasFaultCause};
+ghost use Rattle.newt_store_change.specs.Faults.{HasFaultCause};
 ghost use Rattle.newt_engine_units.specs.Stands.{Eight, Stands, world_of};
 ghost use Rattle.newt_index.specs.Spots.{spot_hit};
 ghost use Rattle.newt_engine_cursors.specs.Fits.{DeskFits, PlaceFits};
@@ -27,7 +27,8 @@ use crate::show::Shown;
 use crate::ways::Way;
 use newt_base::{Name, Refusal, Sig, Uid};
 use newt_cursor::{Desk, Place, Query};
-use newt_engine_card::{Card, Fault};
+use newt_engine_card::Card;
+use newt_store_change::StoreFault;
 use newt_engine_units::Units;
 use newt_graph::Graph;
 use newt_host::{Host, Unit};
@@ -55,7 +56,7 @@ pub fn next<C: Card, H: Host>(
     desk: &mut Desk,
     host: &mut H,
     cursor: u8,
-) -> Result<Shown, Fault>
+) -> Result<Shown, StoreFault>
     requires stands { Stands C.place C.stands H.told units.old (H.outside host.old) }
     requires desk { DeskFits desk.old }
     ensures read { AreRead C.reads C.place C.stands H.told units.old units.new (H.outside host.old) (H.outside host.new) }
@@ -73,7 +74,7 @@ pub fn prev<C: Card, H: Host>(
     desk: &mut Desk,
     host: &mut H,
     cursor: u8,
-) -> Result<Shown, Fault>
+) -> Result<Shown, StoreFault>
     requires stands { Stands C.place C.stands H.told units.old (H.outside host.old) }
     requires desk { DeskFits desk.old }
     ensures read { AreRead C.reads C.place C.stands H.told units.old units.new (H.outside host.old) (H.outside host.new) }
@@ -91,7 +92,7 @@ pub fn reset<C: Card, H: Host>(
     desk: &mut Desk,
     host: &mut H,
     cursor: u8,
-) -> Result<Shown, Fault>
+) -> Result<Shown, StoreFault>
     requires stands { Stands C.place C.stands H.told units.old (H.outside host.old) }
     requires desk { DeskFits desk.old }
     ensures read { AreRead C.reads C.place C.stands H.told units.old units.new (H.outside host.old) (H.outside host.new) }
@@ -109,7 +110,7 @@ pub fn end<C: Card, H: Host>(
     desk: &mut Desk,
     host: &mut H,
     cursor: u8,
-) -> Result<Shown, Fault>
+) -> Result<Shown, StoreFault>
     requires stands { Stands C.place C.stands H.told units.old (H.outside host.old) }
     requires desk { DeskFits desk.old }
     ensures read { AreRead C.reads C.place C.stands H.told units.old units.new (H.outside host.old) (H.outside host.new) }
@@ -128,7 +129,7 @@ pub fn moveby<C: Card, H: Host>(
     host: &mut H,
     cursor: u8,
     by: i32,
-) -> Result<Shown, Fault>
+) -> Result<Shown, StoreFault>
     requires stands { Stands C.place C.stands H.told units.old (H.outside host.old) }
     requires desk { DeskFits desk.old }
     ensures read { AreRead C.reads C.place C.stands H.told units.old units.new (H.outside host.old) (H.outside host.new) }
@@ -148,7 +149,7 @@ pub fn go_to_key<C: Card, H: Host>(
     host: &mut H,
     cursor: u8,
     graph: &Graph,
-) -> Result<Shown, Fault>
+) -> Result<Shown, StoreFault>
     requires stands { Stands C.place C.stands H.told units.old (H.outside host.old) }
     requires desk { DeskFits desk.old }
     ensures read { AreRead C.reads C.place C.stands H.told units.old units.new (H.outside host.old) (H.outside host.new) }
@@ -158,10 +159,10 @@ pub fn go_to_key<C: Card, H: Host>(
     ensures cause { IfErr result (λ fault. HasFaultCause fault (H.outside host.old) (H.outside host.new)) }
 {
     let Some((query, _)) = open_cursor(desk, cursor) else {
-        return Err(Fault::Refused(Refusal::Cursor));
+        return Err(StoreFault::Refused(Refusal::Cursor));
     };
     let Some(key) = key_given(units.alloc(), query, graph)? else {
-        return Err(Fault::Refused(Refusal::Key));
+        return Err(StoreFault::Refused(Refusal::Key));
     };
     steer(units, desk, host, cursor, Motion::Key(key))
 }
@@ -175,7 +176,7 @@ pub fn go_to<C: Card, H: Host>(
     cursor: u8,
     unit: Unit,
     uid: Uid,
-) -> Result<Shown, Fault>
+) -> Result<Shown, StoreFault>
     requires stands { Stands C.place C.stands H.told units.old (H.outside host.old) }
     requires desk { DeskFits desk.old }
     ensures read { AreRead C.reads C.place C.stands H.told units.old units.new (H.outside host.old) (H.outside host.new) }
@@ -186,10 +187,10 @@ pub fn go_to<C: Card, H: Host>(
 {
     units.find_unit(unit)?;
     let Some((query, _)) = open_cursor(desk, cursor) else {
-        return Err(Fault::Refused(Refusal::Cursor));
+        return Err(StoreFault::Refused(Refusal::Cursor));
     };
     let Some(spot) = spot_on(units, host, query, unit, uid)? else {
-        return Err(Fault::Refused(Refusal::Entry));
+        return Err(StoreFault::Refused(Refusal::Entry));
     };
     Ok(move_to(units, desk, host, cursor, Place::On(spot))?)
 }
@@ -201,7 +202,7 @@ fn steer<C: Card, H: Host>(
     host: &mut H,
     cursor: u8,
     motion: Motion,
-) -> Result<Shown, Fault>
+) -> Result<Shown, StoreFault>
     requires stands { Stands C.place C.stands H.told units.old (H.outside host.old) }
     requires desk { DeskFits desk.old }
     requires fits { (k : Cursor) → flat (slice_get desk.old cursor) ≡ Some k → MotionFits k.query.spec.index motion }
@@ -212,7 +213,7 @@ fn steer<C: Card, H: Host>(
     ensures cause { IfErr result (λ fault. HasFaultCause fault (H.outside host.old) (H.outside host.new)) }
 {
     let Some((query, place)) = open_cursor(desk, cursor) else {
-        return Err(Fault::Refused(Refusal::Cursor));
+        return Err(StoreFault::Refused(Refusal::Cursor));
     };
     let place = target(units, host, query, place, motion)?;
     Ok(move_to(units, desk, host, cursor, place)?)

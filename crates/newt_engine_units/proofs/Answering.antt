@@ -16,22 +16,22 @@ use Rattle.newt_spec_graph.proofs.Lists.{both-ways}
 use Rattle.newt_spec_world.specs.First.{media_of}
 use Rattle.newt_laws_world.proofs.Units.{device-same}
 use Rattle.newt_laws_answers.proofs.Stores.{format-has-store, format-done}
-use Rattle.newt_engine_card.specs.declared.fault.Fault.{Fault}
-use Rattle.newt_engine_card.specs.declared.fault.Fault.TheVariants.{Refused, Stop}
+use Rattle.newt_store_change.specs.declared.fault.StoreFault.{StoreFault}
+use Rattle.newt_store_change.specs.declared.fault.StoreFault.TheVariants.{Refused, Stop}
 use Rattle.newt_base.specs.declared.Refusal.TheVariants.{Store as HasStore}
-use Rattle.newt_engine_card.specs.Faults.{Does, RefusesBy, IsEnd}
+use Rattle.newt_store_change.specs.Faults.{Does, RefusesBy, IsEnd}
 use Rattle.newt_engine_units.specs.Answers.{Answers}
 
 -- refused before anything is done
 pub refuses : {T : Type 0} (w : World) (c : Command) (reply : T → Reply) (checks known : Checks) → known ≡ checks → ((r : Refusal) → first_of checks ≡ Some r → answer_now w c ≡ (w, Reply.refused r))
-    → (fault : Fault) → RefusesBy known fault → Answers w w c reply (Err fault)
+    → (fault : StoreFault) → RefusesBy known fault → Answers w w c reply (Err fault)
 refuses w c reply checks known same refused (Refused r) h = refused r (sym (ap first_of same) ∙ h)
 refuses w c reply checks known same refused (Stop stop) h = absurd h
 
 -- what is done to the world is what is answered
 pub does-answers : {T : Type 0} (w v after : World) (c : Command) (reply : T → Reply) (tests : Checks) (good : T → Type 0)
     → (first_of tests ≡ None → (x : T) → good x → answer_now w c ≡ (after, reply x)) → ((r : Refusal) → first_of tests ≡ Some r → answer_now w c ≡ (w, Reply.refused r))
-    → (result : Result T Fault) → Does tests good w after v result → Answers w v c reply result
+    → (result : Result T StoreFault) → Does tests good w after v result → Answers w v c reply result
 does-answers w v after c reply tests good done refused (Ok x) d = done d.0 x d.1 ∙ ap {B = World × Reply} (λ y. (y, reply x)) (sym d.2)
 does-answers w v after c reply tests good done refused (Err (Refused r)) d = refused r d.0 ∙ ap {B = World × Reply} (λ y. (y, Reply.refused r)) (sym d.1)
 does-answers w v after c reply tests good done refused (Err (Stop stop)) d = tt
@@ -58,7 +58,7 @@ module _ (w v : World) (u blocks : ℕ) (found : Option Store) (name : List ℕ)
       go None e x = format-done w u blocks name sig fits (subst (λ o. IsReady w u blocks (media_of o)) e h) none
       go (Some s) e x = absurd (both-ways (sym x))
 
-  pub format-answers : is_some found ≡ false → (result : Result (Unit {0}) Fault) → OnOk result (v ≡ formatted w u name sig) → IfErr result (λ fault. IsEnd fault) → Answers w v (command.Format u name sig) (λ _. Reply.done) result
+  pub format-answers : is_some found ≡ false → (result : Result (Unit {0}) StoreFault) → OnOk result (v ≡ formatted w u name sig) → IfErr result (λ fault. IsEnd fault) → Answers w v (command.Format u name sig) (λ _. Reply.done) result
   format-answers k (Ok x) made end = format-is k ∙ ap {B = World × Reply} (λ y. (y, Reply.done)) (sym made)
   format-answers k (Err (Refused r)) made end = absurd end
   format-answers k (Err (Stop stop)) made end = tt

@@ -18,11 +18,11 @@ use Rattle.newt_laws_answers.specs.Answering.{Answering}
 use Rattle.newt_laws_answers.specs.There.{OnUnit}
 use Rattle.newt_laws_answers.proofs.Worlds.{world-alike, device-stays}
 use Rattle.newt_laws_answers.proofs.Units.{is-there}
-use Rattle.newt_engine_card.specs.declared.fault.Fault.{Fault}
-use Rattle.newt_engine_card.specs.declared.fault.Fault.TheVariants.{Refused, Stop}
+use Rattle.newt_store_change.specs.declared.fault.StoreFault.{StoreFault}
+use Rattle.newt_store_change.specs.declared.fault.StoreFault.TheVariants.{Refused, Stop}
 use Rattle.newt_engine_card.specs.Bounds.{CostsOn, IsOpenOrSame, ProgramsAtMost}
 use Rattle.newt_engine_card.specs.Cards.{LeavesEither, OthersSame}
-use Rattle.newt_engine_card.specs.Faults.{Does, FaultsAt, GoesOn, HasFaultCause, IsRefused}
+use Rattle.newt_store_change.specs.Faults.{Does, FaultsAt, GoesOn, HasFaultCause, IsRefused}
 use Rattle.newt_engine_units.specs.declared.units.Slot.{Slot}
 use Rattle.newt_engine_units.specs.declared.units.Units.{Units}
 use Rattle.newt_engine_units.specs.Stands.{card_of, mounted_in, world_of, Stands}
@@ -70,7 +70,7 @@ not-there slots u n slot is value h none =
     both-ways (sym (ap (mounted_in slots) is ∙ ap (λ x. is_some (card_of x)) at ∙ ap is_some none) ∙ h)
 
 -- why a call did not answer
-pub cause-of : {T : Type 0} (u : ℕ) (o p : Outside) (result : Result T Fault) → IfErr result (FaultsAt u o p) → IfErr result (λ fault. HasFaultCause fault o p)
+pub cause-of : {T : Type 0} (u : ℕ) (o p : Outside) (result : Result T StoreFault) → IfErr result (FaultsAt u o p) → IfErr result (λ fault. HasFaultCause fault o p)
 cause-of u o p (Ok x) h = h
 cause-of u o p (Err (Refused refusal)) h = tt
 cause-of u o p (Err (Stop stops.Memory)) h = tt
@@ -104,7 +104,7 @@ programs-no-more {u} {o} {p} t less j = go (same-or-not j u)
     go (inr e) = let k = t.programmed j e in omega (arith, k)
 
 -- a change leaves a bank that is not closed, and a refusal leaves the unit
-pub open-or-same : {T : Type 0} (u : ℕ) (o p : Outside) (result : Result T Fault) → OnOk result (IsOpenFor 0 (image u p.now)) → (IsRefused result → p.now ≡ o.now)
+pub open-or-same : {T : Type 0} (u : ℕ) (o p : Outside) (result : Result T StoreFault) → OnOk result (IsOpenFor 0 (image u p.now)) → (IsRefused result → p.now ≡ o.now)
     → GoesOn result → IsOpenOrSame u o.now p.now
 open-or-same u o p (Ok x) changed refused goes = inl changed
 open-or-same u o p (Err (Refused refusal)) changed refused goes = inr (ap (changes u) (refused tt))
@@ -132,7 +132,7 @@ module _ {C : Type 0} {reads : List ℕ → Option Store} {place : C → ℕ} {s
   -- what a store was read, and what the card does, on its unit
   pub call-does : {told : Bool} → IsTrue told → Eight o → Called place told units u n slot card next o p → (s : Stands place stands told units o)
       → OthersSame (place card) o.now p.now
-      → {T : Type 0} (blocks : ℕ) (a b : Store) (f : Store → Store) (tests : ℕ → Checks) (good : T → Type 0) (result : Result T Fault) → f a ≡ b
+      → {T : Type 0} (blocks : ℕ) (a b : Store) (f : Store → Store) (tests : ℕ → Checks) (good : T → Type 0) (result : Result T StoreFault) → f a ≡ b
       → (reads (image (place card) o.now) ≡ Some a → Does (tests (o.blocks (place card))) good (Some a) (Some b) (reads (image (place card) p.now)) result)
       → OnUnit (world_of reads units o) u blocks a
       → Does (tests blocks) good (world_of reads units o) (change_store (world_of reads units o) u f) (world_of reads (later units n slot next) p) result
@@ -158,7 +158,7 @@ module _ {C : Type 0} {reads : List ℕ → Option Store} {place : C → ℕ} {s
   -- what the card programs, and what it leaves open
   pub call-costs : {told : Bool} → IsTrue told → Eight o → Called place told units u n slot card next o p → Stands place stands told units o
       → OthersSame (place card) o.now p.now
-      → {T : Type 0} (blocks : ℕ) (a : Store) (most : ℕ → ℕ) (result : Result T Fault)
+      → {T : Type 0} (blocks : ℕ) (a : Store) (most : ℕ → ℕ) (result : Result T StoreFault)
       → (reads (image (place card) o.now) ≡ Some a → ProgramsAtMost (most (o.blocks (place card))) (place card) o p)
       → OnOk result (IsOpenFor 0 (image (place card) p.now)) → (IsRefused result → p.now ≡ o.now)
       → OnUnit (world_of reads units o) u blocks a → CostsOn u (most blocks) result o p

@@ -5,9 +5,9 @@ use Rattle.newt_host.specs.Moments.{Moment, bytes_after, changes, image}
 use Rattle.newt_host.specs.Outside.{Outside}
 use Rattle.newt_pagebook.specs.Book.{IsOpenFor}
 use Rattle.newt_laws_world.proofs.Units.{same-or-not}
-use Rattle.newt_engine_card.specs.declared.fault.Fault.{Fault}
+use Rattle.newt_store_change.specs.declared.fault.StoreFault.{StoreFault}
 use Rattle.newt_engine_card.specs.Bounds.{Costs, CostsOn, IsOpenOrSame, ProgramsAtMost}
-use Rattle.newt_engine_card.specs.Faults.{GoesOn}
+use Rattle.newt_store_change.specs.Faults.{GoesOn}
 
 -- a bank with room for so many bytes has room for fewer
 room-for-less : {n m : ℕ} {bytes : List ℕ} → n ≤ m → IsOpenFor m bytes → IsOpenFor n bytes
@@ -36,21 +36,21 @@ opened-alone u a b h others j = go (same-or-not j u)
 -- ---- one call
 
 -- nothing is programmed by none
-pub idle-costs : {T : Type 0} (most : ℕ → ℕ) (result : Result T Fault) (o : Outside) → Costs most result o o
+pub idle-costs : {T : Type 0} (most : ℕ → ℕ) (result : Result T StoreFault) (o : Outside) → Costs most result o o
 idle-costs most result o = record {
   bound = λ u room. omega arith;
   open_after = λ goes u. inr refl;
 }
 
 -- a call that reads costs nothing
-pub read-costs : {T : Type 0} (most : ℕ → ℕ) (result : Result T Fault) {o p : Outside} → p.now ≡ o.now → ((u : ℕ) → p.programmed u ≤ o.programmed u) → Costs most result o p
+pub read-costs : {T : Type 0} (most : ℕ → ℕ) (result : Result T StoreFault) {o p : Outside} → p.now ≡ o.now → ((u : ℕ) → p.programmed u ≤ o.programmed u) → Costs most result o p
 read-costs most result {o} {p} same less = record {
   bound = λ u room. let h = less u in omega (arith, h);
   open_after = λ goes u. inr (ap (changes u) same);
 }
 
 -- a call on one unit is a call
-pub on-costs : {T : Type 0} {most : ℕ → ℕ} {u n : ℕ} {result : Result T Fault} {o p : Outside} → CostsOn u n result o p → n ≤ most u → Costs most result o p
+pub on-costs : {T : Type 0} {most : ℕ → ℕ} {u n : ℕ} {result : Result T StoreFault} {o p : Outside} → CostsOn u n result o p → n ≤ most u → Costs most result o p
 on-costs {most} {u} {n} {result} {o} {p} c less = record {
   bound = λ j. bound j (same-or-not j u);
   open_after = λ goes j. opened goes j (same-or-not j u);
@@ -65,13 +65,13 @@ on-costs {most} {u} {n} {result} {o} {p} c less = record {
     opened goes j (inr not) = inr (c.others j not).1
 
 -- another result of the same call
-pub costs-of : {T S : Type 0} {most : ℕ → ℕ} {first : Result T Fault} {second : Result S Fault} {o p : Outside} → Costs most first o p → (GoesOn second → GoesOn first) → Costs most second o p
+pub costs-of : {T S : Type 0} {most : ℕ → ℕ} {first : Result T StoreFault} {second : Result S StoreFault} {o p : Outside} → Costs most first o p → (GoesOn second → GoesOn first) → Costs most second o p
 costs-of c goes = record { bound = c.bound; open_after = λ on. c.open_after (goes on) }
 
 -- ---- two calls
 
 -- after a call that reads
-pub after-read : {T : Type 0} {u n : ℕ} {result : Result T Fault} {o p q : Outside} → p.now ≡ o.now → ((j : ℕ) → p.programmed j ≤ o.programmed j) → CostsOn u n result p q → CostsOn u n result o q
+pub after-read : {T : Type 0} {u n : ℕ} {result : Result T StoreFault} {o p q : Outside} → p.now ≡ o.now → ((j : ℕ) → p.programmed j ≤ o.programmed j) → CostsOn u n result p q → CostsOn u n result o q
 after-read {u} {n} {result} {o} {p} {q} same less c = record {
   bound = λ room. let h = c.bound (still-open u n p.now o.now (ap (changes u) same) room) in let k = less u in omega (arith, h, k);
   open_after = λ goes. same-before u o.now p.now q.now (ap (changes u) same) (c.open_after goes);
@@ -79,7 +79,7 @@ after-read {u} {n} {result} {o} {p} {q} same less c = record {
 }
 
 -- two calls on two units
-pub both-costs : {T S : Type 0} {most : ℕ → ℕ} {v u n m : ℕ} {first : Result T Fault} {second : Result S Fault} {o p q : Outside}
+pub both-costs : {T S : Type 0} {most : ℕ → ℕ} {v u n m : ℕ} {first : Result T StoreFault} {second : Result S StoreFault} {o p q : Outside}
     → CostsOn v n first o p → CostsOn u m second p q → v ≢ u → n ≤ most v → m ≤ most u → GoesOn first → Costs most second o q
 both-costs {most} {v} {u} {n} {m} {first} {second} {o} {p} {q} a b apart less_v less_u goes_a = record {
   bound = λ j. bound j (same-or-not j v) (same-or-not j u);

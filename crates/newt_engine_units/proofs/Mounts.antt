@@ -24,8 +24,8 @@ use Rattle.newt_laws_answers.specs.There.{OnUnit, IsReady}
 use Rattle.newt_laws_answers.proofs.Faces.{count-is, any-is, first-is}
 use Rattle.newt_laws_answers.proofs.Stores.{mount-no-store, mount-four, mount-same, mount-done, unmount-done}
 use Rattle.newt_laws_answers.proofs.Worlds.{device-here, world-changed}
-use Rattle.newt_engine_card.specs.declared.fault.Fault.{Fault}
-use Rattle.newt_engine_card.specs.declared.fault.Fault.TheVariants.{Refused, Stop}
+use Rattle.newt_store_change.specs.declared.fault.StoreFault.{StoreFault}
+use Rattle.newt_store_change.specs.declared.fault.StoreFault.TheVariants.{Refused, Stop}
 use Rattle.newt_engine_units.specs.declared.units.Slot.{Slot}
 use Rattle.newt_engine_units.specs.declared.units.Units.{Units}
 use Rattle.newt_engine_units.specs.Answers.{Answers}
@@ -214,7 +214,7 @@ module _ {C : Type 0} {reads : List ℕ → Option Store} {place : C → ℕ} {s
     still = world-still reads units o p cards (λ j. ap (changes j) moment)
 
     -- the store may not be mounted
-    pub mount-refuses : (fault : Fault) → Admits fs (soups card) (Err fault) → Answers {T = ℕ × List ℕ} w (world_of reads units p) (command.Mount u) (λ x. Reply.store x.0 x.1) (Err fault)
+    pub mount-refuses : (fault : StoreFault) → Admits fs (soups card) (Err fault) → Answers {T = ℕ × List ℕ} w (world_of reads units p) (command.Mount u) (λ x. Reply.store x.0 x.1) (Err fault)
     mount-refuses (Refused r) h = mount-refused w u (o.blocks u) held.0 ready refl fs (faces-known l units o e s) r (ap (λ n. first_of (beside_checks fs n)) (sym sig-is) ∙ h) ∙ ap {B = World × Reply} (λ x. (x, Reply.refused r)) (sym still)
     mount-refuses (Stop stop) h = tt
 
@@ -231,7 +231,7 @@ module _ {C : Type 0} {reads : List ℕ → Option Store} {place : C → ℕ} {s
 
 -- there is no store
 pub mount-unopened : {C : Type 0} {reads : List ℕ → Option Store} {place : C → ℕ} {soups : C → Store} {stands : Bool → C → Outside → Type 0} → Laws reads place soups stands → (units : Units C) (u : ℕ) (o p : Outside)
-    → Eight o → Stands place stands true units o → IsFree units.slots.items (o.blocks u) u → p.now ≡ o.now → SameCards o p → (told : Bool) → IsTrue told → (good : C → Type 0) (fault : Fault) → Opens good (IsTrue told → reads (image u o.now) ≡ None) (Err fault)
+    → Eight o → Stands place stands true units o → IsFree units.slots.items (o.blocks u) u → p.now ≡ o.now → SameCards o p → (told : Bool) → IsTrue told → (good : C → Type 0) (fault : StoreFault) → Opens good (IsTrue told → reads (image u o.now) ≡ None) (Err fault)
     → Answers {T = ℕ × List ℕ} (world_of reads units o) (world_of reads units p) (command.Mount u) (λ x. Reply.store x.0 x.1) (Err fault)
 mount-unopened {reads = reads} l units u o p e s free moment cards told t good (Refused r) h =
     mount-no-store (world_of reads units o) u (o.blocks u) (subst (λ m. IsReady (world_of reads units o) u (o.blocks u) (media_of m)) (h.0 t) (ready-known l units o e s u free))

@@ -17,9 +17,9 @@ use Rattle.newt_laws_answers.specs.Tests.{unit_checks, soup_checks, entry_checks
 use Rattle.newt_laws_answers.specs.There.{OnUnit, IsReady}
 use Rattle.newt_laws_answers.proofs.Entries.{no-entry, no-soup}
 use Rattle.newt_base.specs.declared.Refusal.TheVariants.{Entry as NoEntry}
-use Rattle.newt_engine_card.specs.declared.fault.Fault.{Fault}
-use Rattle.newt_engine_card.specs.declared.fault.Fault.TheVariants.{Refused, Stop}
-use Rattle.newt_engine_card.specs.Faults.{RefusesBy, IsEnd}
+use Rattle.newt_store_change.specs.declared.fault.StoreFault.{StoreFault}
+use Rattle.newt_store_change.specs.declared.fault.StoreFault.TheVariants.{Refused, Stop}
+use Rattle.newt_store_change.specs.Faults.{RefusesBy, IsEnd}
 use Rattle.newt_engine_units.specs.Found.{HasSoup, HasEntry, FindsEntry}
 use Rattle.newt_engine_units.specs.declared.units.Units.{Units}
 use Rattle.newt_engine_units.specs.Answers.{Answers}
@@ -36,16 +36,16 @@ pub record Setting {C : Type 0} (reads : List ℕ → Option Store) (place : C �
   pub stand : Stands place stands told units o
 
 -- the run ends
-pub ends : {T : Type 0} (w v : World) (c : Command) (reply : T → Reply) (fault : Fault) → IsEnd fault → (result : Result T Fault) → (e : Fault) × (result ≡ Err e) × (e ≡ fault) → Answers w v c reply result
-ends w v c reply fault h result p = subst (λ r. Answers w v c reply r) (sym (p.1 ∙ ap {B = Result _ Fault} (λ e. Err e) p.2)) (go fault h)
+pub ends : {T : Type 0} (w v : World) (c : Command) (reply : T → Reply) (fault : StoreFault) → IsEnd fault → (result : Result T StoreFault) → (e : StoreFault) × (result ≡ Err e) × (e ≡ fault) → Answers w v c reply result
+ends w v c reply fault h result p = subst (λ r. Answers w v c reply r) (sym (p.1 ∙ ap {B = Result _ StoreFault} (λ e. Err e) p.2)) (go fault h)
   where
-    go : (fault : Fault) → IsEnd fault → Answers w v c reply (Err fault)
+    go : (fault : StoreFault) → IsEnd fault → Answers w v c reply (Err fault)
     go (Refused r) h = absurd h
     go (Stop stop) h = tt
 
 -- an error that was handed on
-pub is-err : {T : Type 0} (result : Result T Fault) (fault : Fault) → (e : Fault) × (result ≡ Err e) × (e ≡ fault) → result ≡ Err fault
-is-err result fault p = p.1 ∙ ap {B = Result _ Fault} (λ e. Err e) p.2
+pub is-err : {T : Type 0} (result : Result T StoreFault) (fault : StoreFault) → (e : StoreFault) × (result ≡ Err e) × (e ≡ fault) → result ≡ Err fault
+is-err result fault p = p.1 ∙ ap {B = Result _ StoreFault} (λ e. Err e) p.2
 
 module _ {C : Type 0} {reads : List ℕ → Option Store} {place : C → ℕ} {soups : C → Store} {stands : Bool → C → Outside → Type 0} {told : Bool} {units : Units C} {o : Outside}
     (at : Setting reads place soups stands told units o) (t : IsTrue told) where
@@ -65,7 +65,7 @@ module _ {C : Type 0} {reads : List ℕ → Option Store} {place : C → ℕ} {s
 
   -- there is no unit with a store
   pub unit-refused : {T : Type 0} (u : ℕ) (c : Command) (reply : T → Reply) → ((r : Refusal) → first_of (unit_checks (world_of reads units o) u) ≡ Some r → answer_now (world_of reads units o) c ≡ (world_of reads units o, Reply.refused r))
-      → (fault : Fault) → RefusesBy (known_unit units.slots.items u) fault → (result : Result T Fault) → (e : Fault) × (result ≡ Err e) × (e ≡ fault)
+      → (fault : StoreFault) → RefusesBy (known_unit units.slots.items u) fault → (result : Result T StoreFault) → (e : StoreFault) × (result ≡ Err e) × (e ≡ fault)
       → Answers (world_of reads units o) (world_of reads units o) c reply result
   unit-refused u c reply refused fault h result p = subst (λ r. Answers (world_of reads units o) (world_of reads units o) c reply r) (sym (is-err result fault p))
       (refuses (world_of reads units o) c reply (unit_checks (world_of reads units o) u) (known_unit units.slots.items u) (unit-checks-are at.laws units o at.eight stand-told u) refused fault h)
@@ -73,7 +73,7 @@ module _ {C : Type 0} {reads : List ℕ → Option Store} {place : C → ℕ} {s
   -- there is no such soup
   pub soup-refused : {T : Type 0} (u : ℕ) (name : List ℕ) (c : Command) (reply : T → Reply)
       → ((r : Refusal) → first_of (soup_checks (world_of reads units o) u name) ≡ Some r → answer_now (world_of reads units o) c ≡ (world_of reads units o, Reply.refused r))
-      → (fault : Fault) → RefusesBy (known_checks soups units.slots.items u name) fault → (result : Result T Fault) → (e : Fault) × (result ≡ Err e) × (e ≡ fault)
+      → (fault : StoreFault) → RefusesBy (known_checks soups units.slots.items u name) fault → (result : Result T StoreFault) → (e : StoreFault) × (result ≡ Err e) × (e ≡ fault)
       → Answers (world_of reads units o) (world_of reads units o) c reply result
   soup-refused u name c reply refused fault h result p = subst (λ r. Answers (world_of reads units o) (world_of reads units o) c reply r) (sym (is-err result fault p))
       (refuses (world_of reads units o) c reply (soup_checks (world_of reads units o) u name) (known_checks soups units.slots.items u name) (checks-are at.laws units o at.eight stand-told u name) refused fault h)
@@ -81,7 +81,7 @@ module _ {C : Type 0} {reads : List ℕ → Option Store} {place : C → ℕ} {s
   -- the unit may not be opened or formatted
   pub ready-refused : {T : Type 0} (u : ℕ) (c : Command) (reply : T → Reply)
       → ((r : Refusal) → first_of (ready_checks (world_of reads units o) u) ≡ Some r → answer_now (world_of reads units o) c ≡ (world_of reads units o, Reply.refused r))
-      → (fault : Fault) → RefusesBy (known_ready units.slots.items (o.blocks u) u) fault → (result : Result T Fault) → (e : Fault) × (result ≡ Err e) × (e ≡ fault)
+      → (fault : StoreFault) → RefusesBy (known_ready units.slots.items (o.blocks u) u) fault → (result : Result T StoreFault) → (e : StoreFault) × (result ≡ Err e) × (e ≡ fault)
       → Answers (world_of reads units o) (world_of reads units o) c reply result
   ready-refused u c reply refused fault h result p = subst (λ r. Answers (world_of reads units o) (world_of reads units o) c reply r) (sym (is-err result fault p))
       (refuses (world_of reads units o) c reply (ready_checks (world_of reads units o) u) (known_ready units.slots.items (o.blocks u) u) (ready-checks-are at.laws units o at.eight stand-told u) refused fault h)
@@ -92,7 +92,7 @@ module _ {C : Type 0} {reads : List ℕ → Option Store} {place : C → ℕ} {s
   -- one of two soups is not there
   pub both-refused : {T : Type 0} (u : ℕ) (name : List ℕ) (v : ℕ) (target : List ℕ) (c : Command) (reply : T → Reply)
       → ((r : Refusal) → first_of (both_checks (world_of reads units o) u name v target) ≡ Some r → answer_now (world_of reads units o) c ≡ (world_of reads units o, Reply.refused r))
-      → (fault : Fault) → RefusesBy (known_both soups units.slots.items u name v target) fault → (result : Result T Fault) → (e : Fault) × (result ≡ Err e) × (e ≡ fault)
+      → (fault : StoreFault) → RefusesBy (known_both soups units.slots.items u name v target) fault → (result : Result T StoreFault) → (e : StoreFault) × (result ≡ Err e) × (e ≡ fault)
       → Answers (world_of reads units o) (world_of reads units o) c reply result
   both-refused u name v target c reply refused fault h result p = subst (λ r. Answers (world_of reads units o) (world_of reads units o) c reply r) (sym (is-err result fault p))
       (refuses (world_of reads units o) c reply (both_checks (world_of reads units o) u name v target) (known_both soups units.slots.items u name v target) (both-checks-are at.laws units o at.eight stand-told u name v target) refused fault h)
@@ -148,18 +148,18 @@ module _ {C : Type 0} {reads : List ℕ → Option Store} {place : C → ℕ} {s
       go (Some e) x = absurd (both-ways (sym x))
 
   -- no soup, so no entry
-  pub soup-missing : (u : ℕ) (name : List ℕ) (uid : ℕ) (fault : Fault) → RefusesBy (known_checks soups units.slots.items u name) fault
-      → (result : Result ℕ Fault) → (e : Fault) × (result ≡ Err e) × (e ≡ fault) → FindsEntry (world_of reads units o) u name uid result
+  pub soup-missing : (u : ℕ) (name : List ℕ) (uid : ℕ) (fault : StoreFault) → RefusesBy (known_checks soups units.slots.items u name) fault
+      → (result : Result ℕ StoreFault) → (e : StoreFault) × (result ≡ Err e) × (e ≡ fault) → FindsEntry (world_of reads units o) u name uid result
   soup-missing u name uid fault h result p = subst (λ r. FindsEntry (world_of reads units o) u name uid r) (sym (is-err result fault p)) (go fault h)
     where
-      go : (fault : Fault) → RefusesBy (known_checks soups units.slots.items u name) fault → RefusesBy (entry_checks (world_of reads units o) u name uid) fault
+      go : (fault : StoreFault) → RefusesBy (known_checks soups units.slots.items u name) fault → RefusesBy (entry_checks (world_of reads units o) u name uid) fault
       go (Refused r) h = no-soup (world_of reads units o) u name uid r (sym (ap first_of (checks-are at.laws units o at.eight (stand-told at t) u name)) ∙ h)
       go (Stop stop) h = absurd h
 
   -- there is no such entry
   pub entry-refused : {T : Type 0} (u : ℕ) (name : List ℕ) (uid : ℕ) (c : Command) (reply : T → Reply)
       → ((r : Refusal) → first_of (entry_checks (world_of reads units o) u name uid) ≡ Some r → answer_now (world_of reads units o) c ≡ (world_of reads units o, Reply.refused r))
-      → (fault : Fault) → RefusesBy (entry_checks (world_of reads units o) u name uid) fault → (result : Result T Fault) → (e : Fault) × (result ≡ Err e) × (e ≡ fault)
+      → (fault : StoreFault) → RefusesBy (entry_checks (world_of reads units o) u name uid) fault → (result : Result T StoreFault) → (e : StoreFault) × (result ≡ Err e) × (e ≡ fault)
       → Answers (world_of reads units o) (world_of reads units o) c reply result
   entry-refused u name uid c reply refused fault h result p = subst (λ r. Answers (world_of reads units o) (world_of reads units o) c reply r) (sym (is-err result fault p))
       (refuses (world_of reads units o) c reply (entry_checks (world_of reads units o) u name uid) (entry_checks (world_of reads units o) u name uid) refl refused fault h)

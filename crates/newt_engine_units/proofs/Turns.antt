@@ -14,10 +14,10 @@ use Rattle.newt_laws_answers.specs.Answering.{Answering}
 use Rattle.newt_laws_answers.specs.Tests.{formatted}
 use Rattle.newt_laws_answers.specs.WorldAt.{device_at, world_at}
 use Rattle.newt_laws_answers.proofs.Worlds.{device-here, device-stays, world-changed, world-alike}
-use Rattle.newt_engine_card.specs.declared.fault.Fault.{Fault}
-use Rattle.newt_engine_card.specs.declared.fault.Fault.TheVariants.{Refused, Stop}
+use Rattle.newt_store_change.specs.declared.fault.StoreFault.{StoreFault}
+use Rattle.newt_store_change.specs.declared.fault.StoreFault.TheVariants.{Refused, Stop}
 use Rattle.newt_engine_card.specs.Cards.{LeavesEither}
-use Rattle.newt_engine_card.specs.Faults.{Does}
+use Rattle.newt_store_change.specs.Faults.{Does}
 use Rattle.newt_engine_units.specs.declared.units.Units.{Units}
 use Rattle.newt_engine_units.specs.Stands.{mounted_in, world_of, Stands}
 use Rattle.newt_engine_units.proofs.Slots.{Replaced, marks}
@@ -61,7 +61,7 @@ module _ {C : Type 0} (reads : List ℕ → Option Store) (units later : Units C
       go j (inr e) = device-stays reads (mounted_in units.slots.items) (mounted_in later.slots.items) o p j cards (marks units later u card next r j) (others j e)
 
   -- what the card does, the world does
-  pub does-world : {T : Type 0} (tests : Checks) (good : T → Type 0) (t : Store) (f : Store → Store) (result : Result T Fault) → f s ≡ t
+  pub does-world : {T : Type 0} (tests : Checks) (good : T → Type 0) (t : Store) (f : Store → Store) (result : Result T StoreFault) → f s ≡ t
       → Does tests good (Some s) (Some t) (reads (image u p.now)) result → Does tests good (world_of reads units o) (change_store (world_of reads units o) u f) (world_of reads later p) result
   does-world tests good t f (Ok x) is d = (d.0, d.1, world-made t f is d.2)
   does-world tests good t f (Err (Refused refusal)) is d = (d.0, world-kept d.1)

@@ -6,8 +6,8 @@ use Rattle.newt_pagebook.specs.declared.book.Stop.TheVariants as stops
 use Rattle.newt_spec_store.specs.Store.{Store}
 use Rattle.newt_spec_world.specs.First.{unit_numbers}
 use Rattle.newt_laws_answers.specs.Faces.{Face, shown_count, first_shown, first_showing}
-use Rattle.newt_engine_card.specs.declared.fault.Fault.{Fault}
-use Rattle.newt_engine_card.specs.declared.fault.Fault.TheVariants.{Refused, Stop as Ends}
+use Rattle.newt_store_change.specs.declared.fault.StoreFault.{StoreFault}
+use Rattle.newt_store_change.specs.declared.fault.StoreFault.TheVariants.{Refused, Stop as Ends}
 use Rattle.newt_engine_units.specs.declared.units.Slot.{Slot}
 use Rattle.newt_engine_units.specs.Stands.{card_at}
 
@@ -30,7 +30,7 @@ abbrev pub beside_checks : List Face → ℕ → Checks
 beside_checks faces sig = (ManyStores, nat_le 4 (shown_count faces)) ∷ (Signature, is_some (first_showing sig faces)) ∷ []
 
 -- a store may be mounted, with its signature and its name, or the first test that holds
-abbrev pub Admits : List Face → Store → Result (ℕ × List ℕ) Fault → Type 0
+abbrev pub Admits : List Face → Store → Result (ℕ × List ℕ) StoreFault → Type 0
 Admits faces s (Ok x) = (first_of (beside_checks faces s.sig) ≡ None) × (x.0 ≡ s.sig) × (x.1 ≡ s.name)
 Admits faces s (Err (Refused refusal)) = first_of (beside_checks faces s.sig) ≡ Some refusal
 Admits faces s (Err (Ends stop)) = stop ≡ stops.Memory
@@ -42,7 +42,7 @@ with_card zero card (slot ∷ slots) = record slot { card = card } ∷ slots
 with_card (suc u) card (slot ∷ slots) = slot ∷ with_card u card slots
 
 -- a store is opened that is good, or none is there
-abbrev pub Opens : {C : Type 0} → (C → Type 0) → Type 0 → Result C Fault → Type 0
+abbrev pub Opens : {C : Type 0} → (C → Type 0) → Type 0 → Result C StoreFault → Type 0
 Opens good gone (Ok card) = good card
 Opens good gone (Err (Refused refusal)) = gone × (refusal ≡ Nostore)
 Opens good gone (Err (Ends stop)) = Unit {0}

@@ -5,8 +5,8 @@ use Rattle.newt_spec_store.specs.Valid.{well_formed}
 use Rattle.newt_spec_world.specs.World.{World}
 use Rattle.newt_laws_answers.specs.Tests.{entry_checks}
 use Rattle.newt_laws_answers.specs.There.{OnUnit}
-use Rattle.newt_engine_card.specs.declared.fault.Fault.{Fault}
-use Rattle.newt_engine_card.specs.Faults.{RefusesBy}
+use Rattle.newt_store_change.specs.declared.fault.StoreFault.{StoreFault}
+use Rattle.newt_store_change.specs.Faults.{RefusesBy}
 
 -- A soup of a mounted store, by its name and by its signature. The store is one that is read.
 pub record HasSoup (w : World) (u : ℕ) (name : List ℕ) (sig : ℕ) : Type 0 where
@@ -28,6 +28,6 @@ pub record HasEntry (w : World) (u : ℕ) (name : List ℕ) (sig uid : ℕ) : Ty
   pub found : entry_of uid of.soup ≡ Some entry
 
 -- the signature of a soup that has the entry, or the first that is not there
-abbrev pub FindsEntry : World → ℕ → List ℕ → ℕ → Result ℕ Fault → Type 0
+abbrev pub FindsEntry : World → ℕ → List ℕ → ℕ → Result ℕ StoreFault → Type 0
 FindsEntry w u name uid (Ok sig) = HasEntry w u name sig uid
 FindsEntry w u name uid (Err fault) = RefusesBy (entry_checks w u name uid) fault

@@ -3,8 +3,8 @@ use Rattle.std.specs.Prelude.{◌≡◌, ℕ, ◌≤◌, nat_lt, Bool, true, fal
 use Rattle.newt_base.specs.declared.Refusal.TheVariants.{Unit as NoUnit, Blocks, Mounted, Notmounted, Soup as NoSoup}
 use Rattle.newt_base.specs.Refusals.{Checks}
 use Rattle.newt_spec_store.specs.Store.{Store, soup_named}
-use Rattle.newt_engine_card.specs.declared.fault.Fault.{Fault}
-use Rattle.newt_engine_card.specs.Faults.{RefusesBy}
+use Rattle.newt_store_change.specs.declared.fault.StoreFault.{StoreFault}
+use Rattle.newt_store_change.specs.Faults.{RefusesBy}
 use Rattle.newt_engine_units.specs.declared.units.Slot.{Slot}
 use Rattle.newt_engine_units.specs.Stands.{card_at, mounted_in}
 
@@ -21,7 +21,7 @@ abbrev pub known_unit : {C : Type 0} → List (Slot C) → ℕ → Checks
 known_unit slots u = (NoUnit, not (attached_in slots u)) ∷ (Notmounted, not (mounted_in slots u)) ∷ []
 
 -- a card is mounted on a unit, or the first that is not there is answered
-abbrev pub FindsUnit : {C T : Type 0} → List (Slot C) → ℕ → Result T Fault → Type 0
+abbrev pub FindsUnit : {C T : Type 0} → List (Slot C) → ℕ → Result T StoreFault → Type 0
 FindsUnit slots u (Ok _) = mounted_in slots u ≡ true
 FindsUnit slots u (Err fault) = RefusesBy (known_unit slots u) fault
 
@@ -36,7 +36,7 @@ pub record IsFree {C : Type 0} (slots : List (Slot C)) (blocks u : ℕ) : Type 0
   pub not_too_many : blocks ≤ 4099
   pub free : mounted_in slots u ≡ false
 
-abbrev pub FindsReady : {C : Type 0} → List (Slot C) → (blocks : ℕ) → ℕ → Result (Unit {0}) Fault → Type 0
+abbrev pub FindsReady : {C : Type 0} → List (Slot C) → (blocks : ℕ) → ℕ → Result (Unit {0}) StoreFault → Type 0
 FindsReady slots blocks u (Ok _) = IsFree slots blocks u
 FindsReady slots blocks u (Err fault) = RefusesBy (known_ready slots blocks u) fault
 
@@ -50,7 +50,7 @@ module _ {C : Type 0} (soups : C → Store) where
   known_checks slots u name = (NoUnit, not (attached_in slots u)) ∷ (Notmounted, not (mounted_in slots u)) ∷ (NoSoup, is_none (known_soup slots u name)) ∷ []
 
   -- the signature of a soup that is looked up, or the first that is not there
-  abbrev pub LooksUp : List (Slot C) → ℕ → List ℕ → Result ℕ Fault → Type 0
+  abbrev pub LooksUp : List (Slot C) → ℕ → List ℕ → Result ℕ StoreFault → Type 0
   LooksUp slots u name (Ok sig) = known_soup slots u name ≡ Some sig
   LooksUp slots u name (Err fault) = RefusesBy (known_checks slots u name) fault
 
@@ -61,6 +61,6 @@ module _ {C : Type 0} (soups : C → Store) where
       ∷ (NoSoup, is_none (known_soup slots u name) || is_none (known_soup slots v target)) ∷ []
 
   -- the signatures of two soups that are looked up, or the first that is not there
-  abbrev pub LooksUpBoth : List (Slot C) → ℕ → List ℕ → ℕ → List ℕ → Result (ℕ × ℕ) Fault → Type 0
+  abbrev pub LooksUpBoth : List (Slot C) → ℕ → List ℕ → ℕ → List ℕ → Result (ℕ × ℕ) StoreFault → Type 0
   LooksUpBoth slots u name v target (Ok (a, b)) = (known_soup slots u name ≡ Some a) × (known_soup slots v target ≡ Some b)
   LooksUpBoth slots u name v target (Err fault) = RefusesBy (known_both slots u name v target) fault

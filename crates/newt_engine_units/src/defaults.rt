@@ -4,12 +4,13 @@ ghost use Rattle.newt_host.specs.Outside.{Outside};
 ghost use Rattle.newt_spec_world.specs.Reply.{Reply};
 ghost use Rattle.newt_spec_world.specs.declared.command.Command.{Command};
 ghost use Rattle.newt_laws_answers.specs.Spoken.{answer_now};
-ghost use Rattle.newt_engine_card.specs.Faults.{IsRefusal};
+ghost use Rattle.newt_store_change.specs.Faults.{IsRefusal};
 ghost use Rattle.newt_engine_units.specs.Answers.{Answers};
 ghost use Rattle.newt_engine_units.specs.Stands.{Eight, Stands, world_of};
 
 use crate::units::Units;
-use newt_engine_card::{Card, Fault};
+use newt_engine_card::Card;
+use newt_store_change::StoreFault;
 use newt_host::Unit;
 
 impl<C: Card> Units<C> {
@@ -29,7 +30,7 @@ impl<C: Card> Units<C> {
     }
 
     /// Makes the store of a unit the default one.
-    pub fn set_default(&mut self, unit: Unit) -> Result<(), Fault>
+    pub fn set_default(&mut self, unit: Unit) -> Result<(), StoreFault>
         ensures stands { (told : Bool) (outside : Outside) → Stands C.place C.stands told self.old outside → Stands C.place C.stands told self.new outside }
         ensures answered { (outside : Outside) → Eight outside → Stands C.place C.stands true self.old outside →
             Answers (world_of C.reads self.old outside) (world_of C.reads self.new outside) (Command.Default unit) (λ _. Reply.done) result }

@@ -7,7 +7,6 @@
 #![tactic(auto)]
 
 mod changes;
-mod declares;
 mod defaults;
 mod faces;
 mod lists;

@@ -8,13 +8,14 @@ ghost use Rattle.newt_spec_world.specs.declared.command.Command.{Command};
 ghost use Rattle.newt_laws_answers.specs.Spoken.{answer_now};
 ghost use Rattle.newt_reply.specs.Said.{store_row, soup_row};
 ghost use Rattle.newt_engine_card.specs.Cards.{soup_rows};
-ghost use Rattle.newt_engine_card.specs.Faults.{NoDevice};
+ghost use Rattle.newt_store_change.specs.Faults.{NoDevice};
 ghost use Rattle.newt_engine_units.specs.Answers.{Answers};
 ghost use Rattle.newt_engine_units.specs.Stands.{Eight, Stands, world_of};
 
 use crate::units::Units;
 use newt_base::{Name, Refusal, Sig};
-use newt_engine_card::{Card, Fault};
+use newt_engine_card::Card;
+use newt_store_change::StoreFault;
 use newt_host::Unit;
 use newt_reply::{SoupLine, SoupRows, StoreRows};
 use std::alloc::AllocError;
@@ -32,7 +33,7 @@ impl<C: Card> Units<C> {
     }
 
     /// The soups of a store, in order of making.
-    pub fn soups(&self, unit: Unit) -> Result<SoupRows, Fault>
+    pub fn soups(&self, unit: Unit) -> Result<SoupRows, StoreFault>
         ensures answered { (outside : Outside) → Eight outside → Stands C.place C.stands true self.now outside →
             Answers (world_of C.reads self.now outside) (world_of C.reads self.now outside) (Command.Soups unit) (λ rows. Reply.soups (map soup_row rows)) result }
         ensures only { IfErr result (λ fault. NoDevice fault) }
@@ -40,7 +41,7 @@ impl<C: Card> Units<C> {
         self.find_unit(unit)?;
         match self.card(unit) {
             Some(card) => Ok(self.soup_lines(card)?),
-            None => Err(Fault::Refused(Refusal::Notmounted)),
+            None => Err(StoreFault::Refused(Refusal::Notmounted)),
         }
     }
 

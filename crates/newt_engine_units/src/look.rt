@@ -3,14 +3,15 @@ ghost use Rattle.std.specs.Prelude.{◌≡◌, ℕ, true, Some, is_some, IfOk, I
 ghost use Rattle.newt_spec_store.specs.Store.{Store as Plain, entry_at};
 ghost use Rattle.newt_laws_answers.specs.There.{OnUnit};
 ghost use Rattle.newt_host.specs.Outside.{Outside};
-ghost use Rattle.newt_engine_card.specs.Faults.{IsRefusal};
+ghost use Rattle.newt_store_change.specs.Faults.{IsRefusal};
 ghost use Rattle.newt_engine_units.specs.Stands.{card_at, mounted_in, Stands, Eight, world_of};
 ghost use Rattle.newt_engine_units.specs.Found.{FindsEntry};
 ghost use Rattle.newt_engine_units.specs.Looks.{attached_in, known_soup, FindsUnit, LooksUp, LooksUpBoth};
 
 use crate::units::Units;
 use newt_base::{Name, Refusal, Sig, Uid};
-use newt_engine_card::{Card, Fault};
+use newt_engine_card::Card;
+use newt_store_change::StoreFault;
 use newt_host::Unit;
 
 impl<C: Card> Units<C> {
@@ -52,31 +53,31 @@ impl<C: Card> Units<C> {
     }
 
     /// Whether a store is mounted on the unit, or why there is none: it has no device, or no store is mounted there.
-    pub fn find_unit(&self, unit: Unit) -> Result<(), Fault>
+    pub fn find_unit(&self, unit: Unit) -> Result<(), StoreFault>
         ensures { FindsUnit self.now.slots.items unit result }
     {
         if !self.is_attached(unit) {
-            return Err(Fault::Refused(Refusal::Unit));
+            return Err(StoreFault::Refused(Refusal::Unit));
         }
         if self.card(unit).is_none() {
-            return Err(Fault::Refused(Refusal::Notmounted));
+            return Err(StoreFault::Refused(Refusal::Notmounted));
         }
         Ok(())
     }
 
     /// The signature of a soup, or why there is none: the unit has no device, no store is mounted there, or it has no such soup.
-    pub fn find_soup(&self, unit: Unit, name: &Name) -> Result<Sig, Fault>
+    pub fn find_soup(&self, unit: Unit, name: &Name) -> Result<Sig, StoreFault>
         ensures { LooksUp C.soups self.now.slots.items unit name.now result }
     {
         if !self.is_attached(unit) {
-            return Err(Fault::Refused(Refusal::Unit));
+            return Err(StoreFault::Refused(Refusal::Unit));
         }
         if self.card(unit).is_none() {
-            return Err(Fault::Refused(Refusal::Notmounted));
+            return Err(StoreFault::Refused(Refusal::Notmounted));
         }
         match self.soup_sig(unit, name) {
             Some(sig) => Ok(sig),
-            None => Err(Fault::Refused(Refusal::Soup)),
+            None => Err(StoreFault::Refused(Refusal::Soup)),
         }
     }
 
@@ -92,7 +93,7 @@ impl<C: Card> Units<C> {
     }
 
     /// The signature of a soup that has an entry, or why there is none: the soup is not there, or has no such entry.
-    pub fn find_entry(&self, unit: Unit, name: &Name, uid: Uid) -> Result<Sig, Fault>
+    pub fn find_entry(&self, unit: Unit, name: &Name, uid: Uid) -> Result<Sig, StoreFault>
         ensures soup { IfOk result (λ sig. known_soup C.soups self.now.slots.items unit name.now ≡ Some sig) }
         ensures only { IfErr result (λ fault. IsRefusal fault) }
         ensures found { (outside : Outside) → Eight outside → Stands C.place C.stands true self.now outside → FindsEntry (world_of C.reads self.now outside) unit name.now uid result }
@@ -101,7 +102,7 @@ impl<C: Card> Units<C> {
         if self.has_entry(unit, soup, uid) {
             Ok(soup)
         } else {
-            Err(Fault::Refused(Refusal::Entry))
+            Err(StoreFault::Refused(Refusal::Entry))
         }
     }
 
@@ -112,18 +113,18 @@ impl<C: Card> Units<C> {
         name: &Name,
         to: Unit,
         target: &Name,
-    ) -> Result<(Sig, Sig), Fault>
+    ) -> Result<(Sig, Sig), StoreFault>
         ensures { LooksUpBoth C.soups self.now.slots.items unit name.now to target.now result }
     {
         if !self.is_attached(unit) || !self.is_attached(to) {
-            return Err(Fault::Refused(Refusal::Unit));
+            return Err(StoreFault::Refused(Refusal::Unit));
         }
         if self.card(unit).is_none() || self.card(to).is_none() {
-            return Err(Fault::Refused(Refusal::Notmounted));
+            return Err(StoreFault::Refused(Refusal::Notmounted));
         }
         match (self.soup_sig(unit, name), self.soup_sig(to, target)) {
             (Some(soup), Some(into)) => Ok((soup, into)),
-            _ => Err(Fault::Refused(Refusal::Soup)),
+            _ => Err(StoreFault::Refused(Refusal::Soup)),
         }
     }
 }

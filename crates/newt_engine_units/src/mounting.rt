@@ -8,7 +8,7 @@ ghost use Rattle.newt_laws_answers.specs.Answering.{Answering};
 ghost use Rattle.newt_laws_answers.specs.Bounds.{most_programmed};
 ghost use Rattle.newt_laws_answers.specs.Spoken.{answer_now};
 ghost use Rattle.newt_engine_card.specs.Bounds.{Costs};
-ghost use Rattle.newt_engine_card.specs.Faults.{GoesOn, HasFaultCause, IsRefusal};
+ghost use Rattle.newt_store_change.specs.Faults.{GoesOn, HasFaultCause, IsRefusal};
 ghost use Rattle.newt_engine_units.specs.Answers.{Answers};
 ghost use Rattle.newt_engine_units.specs.Faces.{Admits, Opens, card_faces, default_after, with_card};
 ghost use Rattle.newt_engine_units.specs.Looks.{attached_in, IsFree};
@@ -16,7 +16,8 @@ ghost use Rattle.newt_engine_units.specs.Stands.{Eight, Stands, mounted_in, worl
 
 use crate::units::Units;
 use newt_base::{Name, Refusal, Sig};
-use newt_engine_card::{Card, Fault};
+use newt_engine_card::Card;
+use newt_store_change::StoreFault;
 use newt_host::{Host, Unit};
 
 /// The most stores that are mounted.
@@ -24,7 +25,7 @@ const MOST_STORES: usize = 4;
 
 impl<C: Card> Units<C> {
     /// Mounts the store of a unit, and answers its signature and its name. At most 4 stores are mounted, no two of one signature.
-    pub fn mount<H: Host>(&mut self, host: &mut H, unit: Unit) -> Result<(Sig, Name), Fault>
+    pub fn mount<H: Host>(&mut self, host: &mut H, unit: Unit) -> Result<(Sig, Name), StoreFault>
         requires { Stands C.place C.stands H.told self.old (H.outside host.old) }
         ensures stands { GoesOn result → Stands C.place C.stands H.told self.new (H.outside host.new) }
         ensures answered { IsTrue H.told → Answers (world_of C.reads self.old (H.outside host.old)) (world_of C.reads self.new (H.outside host.new)) (Command.Mount unit) (λ x. Reply.store x.0 x.1) result }
@@ -42,7 +43,7 @@ impl<C: Card> Units<C> {
     }
 
     /// Opens the store of a unit, or says that it has none.
-    fn open_store<H: Host>(&self, host: &mut H, unit: Unit) -> Result<C, Fault>
+    fn open_store<H: Host>(&self, host: &mut H, unit: Unit) -> Result<C, StoreFault>
         requires stands { Stands C.place C.stands H.told self.now (H.outside host.old) }
         requires free { IsFree self.now.slots.items ((H.outside host.old).blocks unit) unit }
         ensures stands { Stands C.place C.stands H.told self.now (H.outside host.new) }
@@ -54,21 +55,21 @@ impl<C: Card> Units<C> {
     {
         match self.open(host, unit) {
             Ok(Some(card)) => Ok(card),
-            Ok(None) => Err(Fault::Refused(Refusal::Nostore)),
+            Ok(None) => Err(StoreFault::Refused(Refusal::Nostore)),
             Err(fault) => Err(fault),
         }
     }
 
     /// The signature and the name of a store that may be mounted, or why it may not.
-    fn admit(&self, card: &C) -> Result<(Sig, Name), Fault>
+    fn admit(&self, card: &C) -> Result<(Sig, Name), StoreFault>
         ensures { Admits (card_faces C.soups self.now.slots.items) (C.soups card.now) result }
     {
         if MOST_STORES <= self.count() {
-            return Err(Fault::Refused(Refusal::Stores));
+            return Err(StoreFault::Refused(Refusal::Stores));
         }
         let sig = card.sig();
         if self.unit_of(sig).is_some() {
-            return Err(Fault::Refused(Refusal::Signature));
+            return Err(StoreFault::Refused(Refusal::Signature));
         }
         let name = card.name().copy()?;
         Ok((sig, name))
@@ -88,7 +89,7 @@ impl<C: Card> Units<C> {
     }
 
     /// Unmounts the store of a unit. Where it was the default one, the default is then the mounted store of the smallest unit, if one is left.
-    pub fn unmount(&mut self, unit: Unit) -> Result<(), Fault>
+    pub fn unmount(&mut self, unit: Unit) -> Result<(), StoreFault>
         ensures stands { (told : Bool) (outside : Outside) → Stands C.place C.stands told self.old outside → Stands C.place C.stands told self.new outside }
         ensures answered { (outside : Outside) → Eight outside → Stands C.place C.stands true self.old outside →
             Answers (world_of C.reads self.old outside) (world_of C.reads self.new outside) (Command.Unmount unit) (λ _. Reply.done) result }

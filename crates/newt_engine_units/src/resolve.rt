@@ -9,14 +9,15 @@ ghost use Rattle.newt_spec_world.specs.Answer.{or_nil};
 ghost use Rattle.newt_spec_world.specs.Reply.{Reply};
 ghost use Rattle.newt_spec_world.specs.declared.command.Command.{Command};
 ghost use Rattle.newt_laws_answers.specs.There.{OnUnit};
-ghost use Rattle.newt_engine_card.specs.Faults.{NoDevice};
+ghost use Rattle.newt_store_change.specs.Faults.{NoDevice};
 ghost use Rattle.newt_engine_units.specs.Answers.{Answers};
 ghost use Rattle.newt_engine_units.specs.Spots.{spot_in, spot_reply};
 ghost use Rattle.newt_engine_units.specs.Stands.{Eight, Stands, world_of};
 
 use crate::units::Units;
 use newt_base::{Name, Refusal, Sig, Uid};
-use newt_engine_card::{Card, Fault};
+use newt_engine_card::Card;
+use newt_store_change::StoreFault;
 use newt_entries_alias::Alias;
 use newt_graph::Graph;
 use newt_host::Unit;
@@ -24,14 +25,14 @@ use std::alloc::AllocError;
 
 impl<C: Card> Units<C> {
     /// The unit, the soup and the id of the entry that an alias names; none where it is not in a mounted store. A graph that is no alias is refused.
-    pub fn resolve(&self, graph: &Graph) -> Result<Option<(Unit, Name, Uid)>, Fault>
+    pub fn resolve(&self, graph: &Graph) -> Result<Option<(Unit, Name, Uid)>, StoreFault>
         ensures answered { (outside : Outside) → Eight outside → Stands C.place C.stands true self.now outside →
             Answers (world_of C.reads self.now outside) (world_of C.reads self.now outside) (Command.Resolve graph.now) (λ found. or_nil (λ x. Reply.where_is x.0 x.1 x.2) found) result }
         ensures only { IfErr result (λ fault. NoDevice fault) }
     {
         match Alias::read(graph) {
             Some(alias) => Ok(self.find_alias(alias)?),
-            None => Err(Fault::Refused(Refusal::Spec)),
+            None => Err(StoreFault::Refused(Refusal::Spec)),
         }
     }
 

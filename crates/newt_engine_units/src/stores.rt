@@ -10,14 +10,15 @@ ghost use Rattle.newt_laws_answers.specs.Answering.{Answering};
 ghost use Rattle.newt_laws_answers.specs.Spoken.{answer_now};
 ghost use Rattle.newt_laws_answers.specs.Tests.{formatted};
 ghost use Rattle.newt_engine_card.specs.Bounds.{IsOpenOrSame};
-ghost use Rattle.newt_engine_card.specs.Faults.{GoesOn, HasFaultCause, IsEnd};
+ghost use Rattle.newt_store_change.specs.Faults.{GoesOn, HasFaultCause, IsEnd};
 ghost use Rattle.newt_engine_units.specs.Answers.{Answers};
 ghost use Rattle.newt_engine_units.specs.Looks.{FindsReady, IsFree};
 ghost use Rattle.newt_engine_units.specs.Stands.{Stands, world_of};
 
 use crate::units::Units;
 use newt_base::{Name, Refusal, Sig};
-use newt_engine_card::{Card, Fault};
+use newt_engine_card::Card;
+use newt_store_change::StoreFault;
 use newt_host::{Host, Unit};
 use newt_pagebook::{BookFault, LEAST_BLOCKS, MOST_BLOCKS, Stop};
 
@@ -26,24 +27,24 @@ const MOST_SIG: u32 = 536_870_911;
 
 impl<C: Card> Units<C> {
     /// Whether the unit has a device with banks and is not mounted, or why not.
-    pub(crate) fn find_ready<H: Host>(&self, host: &H, unit: Unit) -> Result<(), Fault>
+    pub(crate) fn find_ready<H: Host>(&self, host: &H, unit: Unit) -> Result<(), StoreFault>
         ensures { FindsReady self.now.slots.items ((H.outside host.now).blocks unit) unit result }
     {
         if !self.is_attached(unit) {
-            return Err(Fault::Refused(Refusal::Unit));
+            return Err(StoreFault::Refused(Refusal::Unit));
         }
         let blocks = host.blocks(unit);
         if blocks < LEAST_BLOCKS || MOST_BLOCKS < blocks {
-            return Err(Fault::Refused(Refusal::Blocks));
+            return Err(StoreFault::Refused(Refusal::Blocks));
         }
         if self.card(unit).is_some() {
-            return Err(Fault::Refused(Refusal::Mounted));
+            return Err(StoreFault::Refused(Refusal::Mounted));
         }
         Ok(())
     }
 
     /// Opens the store of a unit, if it has a readable one.
-    pub(crate) fn open<H: Host>(&self, host: &mut H, unit: Unit) -> Result<Option<C>, Fault>
+    pub(crate) fn open<H: Host>(&self, host: &mut H, unit: Unit) -> Result<Option<C>, StoreFault>
         requires stands { Stands C.place C.stands H.told self.now (H.outside host.old) }
         requires free { IsFree self.now.slots.items ((H.outside host.old).blocks unit) unit }
         ensures stands { Stands C.place C.stands H.told self.now (H.outside host.new) }
@@ -57,13 +58,13 @@ impl<C: Card> Units<C> {
         match C::open(self.alloc, host, unit) {
             Ok(card) => Ok(Some(card)),
             Err(BookFault::NotStore) => Ok(None),
-            Err(BookFault::Memory) => Err(Fault::Stop(Stop::Memory)),
-            Err(BookFault::Device) => Err(Fault::Stop(Stop::Device(unit))),
+            Err(BookFault::Memory) => Err(StoreFault::Stop(Stop::Memory)),
+            Err(BookFault::Device) => Err(StoreFault::Stop(Stop::Device(unit))),
         }
     }
 
     /// Whether the unit has a readable store.
-    fn has_store<H: Host>(&self, host: &mut H, unit: Unit) -> Result<bool, Fault>
+    fn has_store<H: Host>(&self, host: &mut H, unit: Unit) -> Result<bool, StoreFault>
         requires stands { Stands C.place C.stands H.told self.now (H.outside host.old) }
         requires free { IsFree self.now.slots.items ((H.outside host.old).blocks unit) unit }
         ensures stands { Stands C.place C.stands H.told self.now (H.outside host.new) }
@@ -87,7 +88,7 @@ impl<C: Card> Units<C> {
         unit: Unit,
         name: &Name,
         sig: Sig,
-    ) -> Result<(), Fault>
+    ) -> Result<(), StoreFault>
         requires { Stands C.place C.stands H.told self.old (H.outside host.old) }
         ensures stands { GoesOn result → Stands C.place C.stands H.told self.new (H.outside host.new) }
         ensures answered { IsTrue H.told → Answers (world_of C.reads self.old (H.outside host.old)) (world_of C.reads self.new (H.outside host.new)) (Command.Format unit name.now sig) (λ _. Reply.done) result }
@@ -98,17 +99,17 @@ impl<C: Card> Units<C> {
         ensures cause { IfErr result (λ fault. HasFaultCause fault (H.outside host.old) (H.outside host.new)) }
     {
         if MOST_SIG < sig.0 {
-            return Err(Fault::Refused(Refusal::Command));
+            return Err(StoreFault::Refused(Refusal::Command));
         }
         self.find_ready(host, unit)?;
         if self.has_store(host, unit)? {
-            return Err(Fault::Refused(Refusal::Store));
+            return Err(StoreFault::Refused(Refusal::Store));
         }
         self.make(host, unit, name, sig)
     }
 
     /// Formats the device of a unit that has no store.
-    fn make<H: Host>(&self, host: &mut H, unit: Unit, name: &Name, sig: Sig) -> Result<(), Fault>
+    fn make<H: Host>(&self, host: &mut H, unit: Unit, name: &Name, sig: Sig) -> Result<(), StoreFault>
         requires stands { Stands C.place C.stands H.told self.now (H.outside host.old) }
         requires free { IsFree self.now.slots.items ((H.outside host.old).blocks unit) unit }
         requires sig { sig ≤ 536_870_911 }
@@ -123,7 +124,7 @@ impl<C: Card> Units<C> {
     {
         match C::format(self.alloc, host, unit, name, sig) {
             Ok(()) => Ok(()),
-            Err(stop) => Err(Fault::Stop(stop)),
+            Err(stop) => Err(StoreFault::Stop(stop)),
         }
     }
 }

@@ -15,3 +15,6 @@ pub mod Resolves
 pub mod Faces
 pub mod Spoken
 pub mod Most
+pub mod Refusals
+pub mod Programs
+pub mod Changes

@@ -10,9 +10,10 @@ use Rattle.newt_pagebook.specs.declared.book.Stop.TheVariants.{Memory, Device}
 use Rattle.newt_base.specs.declared.Refusal.{Refusal}
 use Rattle.newt_base.specs.declared.Refusal.TheVariants.{Full, Range}
 use Rattle.newt_spec_store.specs.Cost.{patch_bytes}
-use Rattle.newt_objects_commit.specs.declared.fault.StoreFault.{StoreFault}
-use Rattle.newt_objects_commit.specs.declared.fault.StoreFault.TheVariants.{Refused, Stop}
-use Rattle.newt_objects_commit.specs.Faults.{FaultsAt, RefusesOnly}
+use Rattle.newt_store_change.specs.declared.fault.StoreFault.{StoreFault}
+use Rattle.newt_store_change.specs.declared.fault.StoreFault.TheVariants.{Refused, Stop}
+use Rattle.newt_store_change.specs.Faults.{FaultsAt}
+use Rattle.newt_objects_commit.specs.Faults.{RefusesOnly}
 use Rattle.newt_objects_commit.specs.Patch.{IsRangeOrFull}
 
 -- the answer is this fault

@@ -1,15 +1,8 @@
 -- Why a call on a store does not answer.
-use Rattle.std.specs.Prelude.{◌≡◌, ℕ}
-use Rattle.newt_host.specs.Outside.{Outside}
-use Rattle.newt_pagebook.specs.Stops.{StopsAt}
+use Rattle.std.specs.Prelude.{◌≡◌}
 use Rattle.newt_base.specs.declared.Refusal.{Refusal}
-use Rattle.newt_objects_commit.specs.declared.fault.StoreFault.{StoreFault}
-use Rattle.newt_objects_commit.specs.declared.fault.StoreFault.TheVariants.{Refused, Stop}
-
--- a device fault is one of this unit, and was counted
-abbrev pub FaultsAt : ℕ → Outside → Outside → StoreFault → Type 0
-FaultsAt unit old new (Refused refusal) = Unit {0}
-FaultsAt unit old new (Stop stop) = StopsAt unit old new stop
+use Rattle.newt_store_change.specs.declared.fault.StoreFault.{StoreFault}
+use Rattle.newt_store_change.specs.declared.fault.StoreFault.TheVariants.{Refused, Stop}
 
 -- the only refusal is this one
 abbrev pub RefusesOnly : Refusal → StoreFault → Type 0

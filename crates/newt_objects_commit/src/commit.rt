@@ -10,13 +10,14 @@ ghost use Rattle.newt_objects.specs.Held.{held, planned};
 ghost use Rattle.newt_objects.specs.Changing.{HoldsObjects, total_pages};
 ghost use Rattle.newt_spec_store.specs.OfImage.{blocks_of};
 ghost use Rattle.newt_objects_commit.specs.Commit.{AreKept, IsPlanned, IsEither, Fit};
-ghost use Rattle.newt_objects_commit.specs.Faults.{FaultsAt, RefusesOnly};
+ghost use Rattle.newt_store_change.specs.Faults.{FaultsAt};
+ghost use Rattle.newt_objects_commit.specs.Faults.{RefusesOnly};
 
-use crate::StoreFault;
 use newt_base::Refusal;
 use newt_host::Host;
 use newt_objects::Objects;
 use newt_pagebook::{Batch, CommitFault, PageBook, Stop};
+use newt_store_change::StoreFault;
 
 /// Commits what is planned. Full where the objects would take more pages than the unit has, and then nothing is changed and nothing is planned; after
 /// any other fault book and objects are spent.

@@ -6,14 +6,12 @@
 
 mod batch;
 mod commit;
-mod fault;
 mod names;
 mod patch;
 mod places;
 
 pub use batch::{NewEntry, NewLarge, plan_objects};
 pub use commit::commit_plans;
-pub use fault::StoreFault;
 pub use names::NameTable;
 pub use patch::patch_object;
 pub use places::PlaceTable;

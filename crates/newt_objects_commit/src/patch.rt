@@ -1,5 +1,5 @@
 // Bytes of an object are overwritten, as one batch.
-ghost use Rattle.std.specs.Prelude.{IsTrue, ◌≡◌, ◌+◌, ◌*◌, ◌/◌, ◌<◌, ◌≤◌, ℕ, List, length, Some, IsSome, OnOk, IfErr, IsErrOf};
+ghost use Rattle.std.specs.Prelude.{IsTrue, ◌≡◌, ◌+◌, ◌*◌, ◌<◌, ◌≤◌, ℕ, List, length, Some, IsSome, OnOk, IfErr, IsErrOf};
 ghost use Rattle.std.specs.FinMap as map;
 ghost use Rattle.std.specs.FinSet as set;
 ghost use Rattle.newt_base.specs.declared.Refusal.{Refusal as RefusedFor};
@@ -13,15 +13,16 @@ ghost use Rattle.newt_objects.specs.Held.{held, WouldHold};
 ghost use Rattle.newt_objects.specs.Changing.{HoldsObjects};
 ghost use Rattle.newt_vbo.specs.Ranges.{parts_met};
 ghost use Rattle.newt_objects_commit.specs.Commit.{AreKept};
-ghost use Rattle.newt_objects_commit.specs.Faults.{FaultsAt, RefusesOnly};
+ghost use Rattle.newt_store_change.specs.Faults.{FaultsAt};
+ghost use Rattle.newt_objects_commit.specs.Faults.{RefusesOnly};
 ghost use Rattle.newt_spec_store.specs.Cost.{patch_bytes};
 ghost use Rattle.newt_objects_commit.specs.Patch.{IsBeforeOrPatched, IsRangeOrFull};
 
-use crate::StoreFault;
 use newt_base::Refusal;
 use newt_host::Host;
 use newt_objects::Objects;
 use newt_pagebook::{Batch, CommitFault, PageBook, Stop};
+use newt_store_change::StoreFault;
 use newt_vbo::{RangeFault, plan_patch};
 use std::alloc::Global;
 

@@ -5,10 +5,12 @@
 
 mod fault;
 mod path;
+mod paths;
 mod set;
 mod value;
 
 pub use fault::{PathFault, SetFault};
 pub use path::Path;
+pub use paths::Paths;
 pub use set::set_at;
 pub use value::{has_name, slot_value, value_at};

@@ -15,6 +15,6 @@ mod text;
 
 pub use fault::{BindFault, ShapeFault};
 pub use laws::what_is_at_hand_decides;
-pub use paths::Paths;
+pub use newt_path::Paths;
 pub use shape::Shape;
 pub use spec::Spec;

@@ -7,40 +7,15 @@ ghost use Rattle.newt_spec_query.specs.Tags.{symbol_name, if_given};
 ghost use Rattle.newt_spec_query.specs.Spec.{index_paths, keep, path_of, path_values, plain_values, within};
 
 use newt_graph::{Graph, Node, Ref};
-use newt_path::Path;
+use newt_path::{Path, Paths};
 use newt_tags::every_symbol;
 use std::alloc::{AllocError, Global};
-use std::marker::Model;
 
 /// The most names of a path.
 const MOST_NAMES: usize = 8;
 
 /// The most paths of an index.
 const MOST_PATHS: usize = 4;
-
-/// The paths of an index: 1 to 4 where a query was read.
-#[derive(Drop)]
-pub struct Paths {
-    items: Vec<Path>,
-}
-
-impl Model for Paths {
-    ghost use Rattle.std.specs.Prelude.{List};
-    ghost use Rattle.newt_spec_store.specs.Keys.{Path};
-
-    ghost Value = { List Path };
-
-    ghost view = { λ paths. paths.items.items };
-}
-
-impl Paths {
-    /// The paths in order.
-    pub fn list(&self) -> &[Path]
-        ensures { result.now ≡ self.now }
-    {
-        self.items.as_slice()
-    }
-}
 
 /// One path, or those of an array without class of 1 to 4. None exactly where the value is neither.
 #[tactic(auto, using(crate::proofs::Given::one_or, crate::proofs::Given::none_or))]
@@ -52,9 +27,7 @@ pub(crate) fn index_paths(
     ensures { IfOk result (λ paths. paths ≡ index_paths graph.now.nodes value) }
 {
     if let Some(path) = path_of(alloc, graph, value)? {
-        return Ok(Some(Paths {
-            items: vec![in alloc; path]?,
-        }));
+        return Ok(Some(Paths::of(vec![in alloc; path]?)));
     }
     match few_values(graph.nodes(), value) {
         Some(values) => every_path(alloc, graph, values),
@@ -90,7 +63,7 @@ fn every_path(alloc: Global, graph: &Graph, values: &[Ref]) -> Result<Option<Pat
         };
         items.push(path)?;
     }
-    Ok(Some(Paths { items }))
+    Ok(Some(Paths::of(items)))
 }
 
 /// The path that a value is: a symbol, or an array with class `pathExpr` of 1 to 8 symbols.

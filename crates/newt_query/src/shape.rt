@@ -6,10 +6,10 @@ ghost use Rattle.newt_query.specs.Form.{is_framed};
 ghost use Rattle.newt_query.specs.declared.fault.ShapeFault.{ShapeFault};
 
 use crate::fault::ShapeFault;
-use crate::paths::{Paths, index_paths};
+use crate::paths::index_paths;
 use crate::text::{Texts, texts_of};
 use newt_graph::{Graph, Ref};
-use newt_path::Path;
+use newt_path::{Path, Paths};
 use newt_tags::{TagFault, TagSpec, given_slot, has_only_slots};
 use std::alloc::Global;
 use std::marker::Model;

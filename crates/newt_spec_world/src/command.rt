@@ -1,10 +1,10 @@
 //! The commands of a script.
 
-use crate::list::{Parts, Paths, Syms};
+use crate::list::{Parts, Syms};
 use newt_base::{Name, Sig, Uid};
 use newt_graph::{Bytes, Graph};
 use newt_host::Unit;
-use newt_path::Path;
+use newt_path::{Path, Paths};
 use newt_spec_store::{Kind, Order};
 
 /// A part of an index declaration as it is written. Its kind is none for a real.

@@ -17,21 +17,23 @@ use Rattle.newt_spec_store.specs.Cost.{cost, directory_pages, pages_bytes}
 use Rattle.newt_spec_store.specs.OfImage.{blocks_of}
 use Rattle.newt_spec_store.specs.Keys.{Path}
 use Rattle.newt_laws_changes.proofs.Costs.{dropped_cost, removed_cost}
-use Rattle.newt_objects_commit.specs.declared.fault.StoreFault.{StoreFault}
-use Rattle.newt_objects_commit.specs.declared.fault.StoreFault.TheVariants.{Refused, Stop}
-use Rattle.newt_objects_commit.specs.Faults.{RefusesOnly, FaultsAt}
+use Rattle.newt_store_change.specs.declared.fault.StoreFault.{StoreFault}
+use Rattle.newt_store_change.specs.declared.fault.StoreFault.TheVariants.{Refused, Stop}
+use Rattle.newt_objects_commit.specs.Faults.{RefusesOnly}
+use Rattle.newt_store_change.specs.Faults.{FaultsAt}
 use Rattle.newt_objects_commit.specs.Batch.{new_pages}
 use Rattle.newt_objects_commit.specs.Names.{names_of}
 use Rattle.newt_objects_commit.specs.Places.{place_of}
 use Rattle.newt_store_catalog.specs.declared.catalog.Catalog.{Catalog}
-use Rattle.newt_store.specs.declared.change.Change.{Change}
-use Rattle.newt_store.specs.declared.change.Change.TheVariants.{MakeSoup, DropSoup, Add, Remove, Move, Replace, Patch, AddIndex, DropIndex, SetTags}
-use Rattle.newt_store.specs.Change.{changed_by, first_checks, full_check, refusal_of, dropped_soup, changed_soup, pages_put, pages_gone, is_patch, bytes_of, most_bytes}
+use Rattle.newt_store_change.specs.declared.change.Change.{Change}
+use Rattle.newt_store_change.specs.declared.change.Change.TheVariants.{MakeSoup, DropSoup, Add, Remove, Move, Replace, Patch, AddIndex, DropIndex, SetTags}
+use Rattle.newt_store_change.specs.Change.{changed_by, first_checks, full_check, refusal_of, dropped_soup, changed_soup, pages_put, pages_gone, is_patch, bytes_of, most_bytes}
 use Rattle.newt_store.specs.declared.next.Next.{Next}
 use Rattle.newt_store.specs.Next.{IsEitherStore, IsPlanOf, goes_pages, replaced_pages, turn_bytes}
 use Rattle.newt_store_catalog.specs.Readable.{readable}
 use Rattle.newt_store_catalog.specs.Stands.{StandsFor, IsSound}
-use Rattle.newt_store.specs.Stands.{IsRefused, RefusesWith, IsBeforeOrChanged}
+use Rattle.newt_store_change.specs.Faults.{IsRefused, RefusesWith}
+use Rattle.newt_store.specs.Stands.{IsBeforeOrChanged}
 use Rattle.newt_store_catalog.proofs.Kept.{kept-over}
 use Rattle.newt_store.proofs.Writing.{failed}
 use Rattle.newt_store.proofs.Reading.{read-back}

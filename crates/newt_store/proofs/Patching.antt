@@ -51,15 +51,16 @@ use Rattle.newt_objects_commit.specs.Commit.{AreKept}
 use Rattle.newt_objects_commit.specs.Names.{names_of}
 use Rattle.newt_objects_commit.specs.Patch.{IsBeforeOrPatched, IsRangeOrFull}
 use Rattle.newt_objects_commit.specs.Places.{place_of}
-use Rattle.newt_objects_commit.specs.declared.fault.StoreFault.{StoreFault}
-use Rattle.newt_objects_commit.specs.declared.fault.StoreFault.TheVariants.{Refused, Stop}
+use Rattle.newt_store_change.specs.declared.fault.StoreFault.{StoreFault}
+use Rattle.newt_store_change.specs.declared.fault.StoreFault.TheVariants.{Refused, Stop}
 use Rattle.newt_objects_commit.proofs.Committing.{blocks-are}
 use Rattle.newt_store_catalog.specs.declared.catalog.Catalog.{Catalog}
-use Rattle.newt_store.specs.declared.change.Change.TheVariants.{Patch}
-use Rattle.newt_store.specs.Change.{changed_by, changed_soup, bytes_in, large_of, large_in_entry, patched_entry, ends_behind, first_checks, refusal_of, pages_of_entry, most_bytes}
+use Rattle.newt_store_change.specs.declared.change.Change.TheVariants.{Patch}
+use Rattle.newt_store_change.specs.Change.{changed_by, changed_soup, bytes_in, large_of, large_in_entry, patched_entry, ends_behind, first_checks, refusal_of, pages_of_entry, most_bytes}
 use Rattle.newt_store.specs.Patch.{IsLargeOf, record_pages}
 use Rattle.newt_store_catalog.specs.Stands.{Describes, StandsFor}
-use Rattle.newt_store.specs.Stands.{GoesOn, RefusesWith, IsBeforeOrChanged}
+use Rattle.newt_store_change.specs.Faults.{GoesOn, RefusesWith}
+use Rattle.newt_store.specs.Stands.{IsBeforeOrChanged}
 use Rattle.newt_store.proofs.Applying.{more-than, not-more, leaves-before}
 use Rattle.newt_store.proofs.Entries.{FoundAt, found-at}
 use Rattle.newt_store.proofs.Found.{soup-some, entry-placed}

@@ -2,12 +2,12 @@
 use Rattle.std.proofs.Common.{◌≡◌, ℕ, Result, Ok, Err, IfOk, IfErr, OnOk, IsErr, IsErrAnd, IsErrOf, sym, subst}
 use Rattle.newt_base.specs.declared.Refusal.TheVariants.{Full}
 use Rattle.newt_pagebook.specs.declared.book.Stop.TheVariants.{Memory, Device}
-use Rattle.newt_objects_commit.specs.declared.fault.StoreFault.{StoreFault}
-use Rattle.newt_objects_commit.specs.declared.fault.StoreFault.TheVariants.{Refused, Stop}
-use Rattle.newt_objects_commit.specs.Faults.{FaultsAt}
+use Rattle.newt_store_change.specs.declared.fault.StoreFault.{StoreFault}
+use Rattle.newt_store_change.specs.declared.fault.StoreFault.TheVariants.{Refused, Stop}
+use Rattle.newt_store_change.specs.Faults.{FaultsAt}
 use Rattle.newt_host.specs.Outside.{Outside}
 use Rattle.newt_store.specs.Next.{IsNoDevice}
-use Rattle.newt_store.specs.Stands.{GoesOn, IsRefused}
+use Rattle.newt_store_change.specs.Faults.{GoesOn, IsRefused}
 
 -- an error is no value
 pub no-value : {T E : Type 0} (r : Result T E) (P : T → Type 0) → IsErr r → IfOk r P

@@ -24,14 +24,14 @@ use Rattle.newt_spec_graph.specs.Lists.{Among}
 use Rattle.newt_laws_changes.proofs.Lying.{among-or-not}
 use Rattle.newt_objects_commit.specs.declared.batch.NewEntry.{NewEntry}
 use Rattle.newt_objects_commit.specs.declared.batch.NewLarge.{NewLarge}
-use Rattle.newt_objects_commit.specs.declared.fault.StoreFault.{StoreFault}
-use Rattle.newt_objects_commit.specs.declared.fault.StoreFault.TheVariants.{Refused, Stop}
+use Rattle.newt_store_change.specs.declared.fault.StoreFault.{StoreFault}
+use Rattle.newt_store_change.specs.declared.fault.StoreFault.TheVariants.{Refused, Stop}
 use Rattle.newt_objects_commit.specs.Batch.{AreWritten, AddsPages, large_ids, new_pages, over_pages, pages_held, all_pages_held}
 use Rattle.newt_objects_commit.specs.Commit.{AreKept, IsPlanned, IsEither}
 use Rattle.newt_objects_commit.specs.Faults.{RefusesOnly}
 use Rattle.newt_store.specs.declared.next.Next.{Next}
 use Rattle.newt_store.specs.Next.{WritesNext, HoldsEither, next_bytes}
-use Rattle.newt_store.specs.Stands.{GoesOn, IsRefused}
+use Rattle.newt_store_change.specs.Faults.{GoesOn, IsRefused}
 
 -- ---- answers
 

@@ -1,4 +1,3 @@
-pub mod Change
 pub mod Stands
 pub mod Next
 pub mod Patch

@@ -16,10 +16,10 @@ use Rattle.newt_soupdir.specs.Bare.{bare_store}
 use Rattle.newt_objects.specs.Changing.{HoldsObjects}
 use Rattle.newt_base.specs.Refusals.{first_of}
 use Rattle.newt_pagebook.specs.declared.book.Stop.TheVariants.{Memory, Device}
-use Rattle.newt_objects_commit.specs.declared.fault.StoreFault.{StoreFault}
-use Rattle.newt_objects_commit.specs.declared.fault.StoreFault.TheVariants.{Refused, Stop}
-use Rattle.newt_store.specs.declared.change.Change.{Change}
-use Rattle.newt_store.specs.Change.{changed_by, answer_of, first_checks, entry_added, pages_of_entry, pages_of_soup, pages_removed}
+use Rattle.newt_store_change.specs.declared.fault.StoreFault.{StoreFault}
+use Rattle.newt_store_change.specs.declared.fault.StoreFault.TheVariants.{Refused, Stop}
+use Rattle.newt_store_change.specs.declared.change.Change.{Change}
+use Rattle.newt_store_change.specs.Change.{changed_by, answer_of, first_checks, entry_added, pages_of_entry, pages_of_soup, pages_removed}
 use Rattle.newt_objects_commit.specs.Commit.{Fit}
 use Rattle.newt_objects_commit.specs.Batch.{AreWritten, HasIds, large_ids, new_pages, over_pages, pages_held, all_pages_held}
 use Rattle.newt_objects_commit.specs.Names.{names_of}

@@ -19,10 +19,11 @@ ghost use Rattle.newt_spec_graph.specs.Lists.{Among};
 ghost use Rattle.newt_objects_commit.specs.Batch.{AreOnce, HasIds, IsApart, large_ids};
 ghost use Rattle.newt_objects_commit.specs.Names.{names_of, IsReady};
 ghost use Rattle.newt_objects_commit.specs.Commit.{AreKept, Fit};
-ghost use Rattle.newt_objects_commit.specs.Faults.{FaultsAt, RefusesOnly};
+ghost use Rattle.newt_store_change.specs.Faults.{FaultsAt};
+ghost use Rattle.newt_objects_commit.specs.Faults.{RefusesOnly};
 ghost use Rattle.newt_store.specs.Next.{Goes, IsNew, names_replaced, all_gone, IsNextOf, WritesNext, Turns, HoldsEither, IsEitherStore, next_bytes, turn_bytes};
 ghost use Rattle.newt_store_catalog.specs.Stands.{StandsFor, IsSound};
-ghost use Rattle.newt_store.specs.Stands.{GoesOn, IsRefused};
+ghost use Rattle.newt_store_change.specs.Faults.{GoesOn, IsRefused};
 ghost use Rattle.newt_objects_commit.specs.Places.{place_of};
 
 use crate::next::{Gone, Next};
@@ -31,11 +32,12 @@ use newt_base::Refusal;
 use newt_host::Host;
 use newt_objects::Objects;
 use newt_objects_commit::{
-    NameTable, NewEntry, PlaceTable, StoreFault, commit_plans, plan_objects,
+    NameTable, NewEntry, PlaceTable, commit_plans, plan_objects,
 };
 use newt_pagebook::{Batch, PageBook};
 use newt_soupdir::{Directory, write_directory};
 use newt_store_catalog::Catalog;
+use newt_store_change::StoreFault;
 use std::alloc::{AllocError, Global};
 
 // The one object, or none.

@@ -8,18 +8,17 @@ ghost use Rattle.newt_soupdir.specs.Bare.{bare_store};
 ghost use Rattle.newt_spec_store.specs.Keys.{has_paths, paths_of};
 ghost use Rattle.newt_spec_store.specs.Store.{Store as PlainStore};
 ghost use Rattle.newt_spec_store.specs.Valid.{well_formed, valid_spec};
-ghost use Rattle.newt_store.specs.Change.{first_checks};
+ghost use Rattle.newt_store_change.specs.Change.{first_checks};
 ghost use Rattle.newt_store.specs.Next.{IsNextOf, IsPlanOf, IsNoDevice};
 ghost use Rattle.newt_store_catalog.specs.Stands.{Describes};
-ghost use Rattle.newt_store.specs.Stands.{RefusesWith};
+ghost use Rattle.newt_store_change.specs.Faults.{RefusesWith};
 
-use crate::change::Change;
 use crate::next::{Gone, Next};
-use crate::paths::Paths;
 use newt_base::{Refusal, Sig};
 use newt_keys::IndexSpec;
-use newt_objects_commit::StoreFault;
+use newt_path::Paths;
 use newt_store_catalog::Catalog;
+use newt_store_change::{Change, StoreFault};
 use newt_tags::TagTable;
 
 /// The most indexes of a soup.

@@ -6,17 +6,13 @@
 #![tactic(auto)]
 
 mod carry;
-mod change;
 mod declare;
 mod format;
 mod next;
 mod patch;
-mod paths;
 mod plan;
 mod store;
 
-pub use change::Change;
-pub use newt_objects_commit::StoreFault;
-pub use newt_store_catalog::Entry;
-pub use paths::Paths;
+pub use newt_path::Paths;
+pub use newt_store_change::{Change, Entry, StoreFault};
 pub use store::Store;

@@ -9,20 +9,21 @@ ghost use Rattle.newt_host.specs.Outside.{Touches, Spends};
 ghost use Rattle.newt_pagebook.specs.Book.{IsOpenFor};
 ghost use Rattle.newt_spec_store.specs.Store.{Store as PlainStore, entry_at};
 ghost use Rattle.newt_spec_store.specs.OfImage.{blocks_of};
-ghost use Rattle.newt_objects_commit.specs.Faults.{FaultsAt};
-ghost use Rattle.newt_store.specs.Change.{changed_by, answer_of, first_checks, refusal_of, pages_of_entry, most_bytes};
+ghost use Rattle.newt_store_change.specs.Faults.{FaultsAt};
+ghost use Rattle.newt_store_change.specs.Change.{changed_by, answer_of, first_checks, refusal_of, pages_of_entry, most_bytes};
 ghost use Rattle.newt_store.specs.Patch.{IsLargeOf, record_pages};
 ghost use Rattle.newt_store_catalog.specs.Stands.{StandsFor, IsSound};
-ghost use Rattle.newt_store.specs.Stands.{GoesOn, IsRefused, RefusesWith, IsBeforeOrChanged};
+ghost use Rattle.newt_store_change.specs.Faults.{GoesOn, IsRefused, RefusesWith};
+ghost use Rattle.newt_store.specs.Stands.{IsBeforeOrChanged};
 
-use crate::change::Change;
 use newt_base::{Refusal, Sig, Uid};
 use newt_entries::LargeAt;
 use newt_graph::Bytes;
 use newt_host::Host;
-use newt_objects_commit::{StoreFault, patch_object};
+use newt_objects_commit::patch_object;
 use newt_pagebook::{PageBook, Stop};
 use newt_store_catalog::{Catalog, read_row};
+use newt_store_change::{Change, StoreFault};
 use std::alloc::Global;
 
 // The row of the large binary with this node, if there is one.

@@ -10,16 +10,15 @@ ghost use Rattle.newt_spec_store.specs.Image.{entry_bytes, larges as larges_in};
 ghost use Rattle.newt_spec_store.specs.Store.{Store as PlainStore, soup_of, entry_at};
 ghost use Rattle.newt_spec_store.specs.Valid.{well_formed, valid_entry};
 ghost use Rattle.newt_soupdir.specs.Bare.{bare_soup, bare_store};
-ghost use Rattle.newt_store.specs.Change.{first_checks, entry_fetched, is_patch, pages_of_entry, is_too_large as too_large};
+ghost use Rattle.newt_store_change.specs.Change.{first_checks, entry_fetched, is_patch, pages_of_entry, is_too_large as too_large};
 ghost use Rattle.newt_objects_commit.specs.Batch.{AreOnce, large_ids};
-ghost use Rattle.newt_objects_commit.specs.Faults.{FaultsAt};
+ghost use Rattle.newt_store_change.specs.Faults.{FaultsAt};
 ghost use Rattle.newt_objects_commit.specs.Names.{names_of, AreSoundNames};
 ghost use Rattle.newt_store.specs.Next.{IsNextOf, IsPlanOf, IsAdding, IsEntryOf, IsNoDevice};
 ghost use Rattle.newt_store_catalog.specs.Stands.{Describes, StandsFor, IsSound};
-ghost use Rattle.newt_store.specs.Stands.{RefusesWith};
+ghost use Rattle.newt_store_change.specs.Faults.{RefusesWith};
 ghost use Rattle.newt_objects_commit.specs.Places.{place_of, AreSoundPlaces};
 
-use crate::change::Change;
 use crate::declare::{plan_add_index, plan_drop_index, plan_set_tags};
 use crate::next::{Gone, Next};
 use newt_base::{Name, Refusal, Sig, Uid};
@@ -28,10 +27,11 @@ use newt_graph::Graph;
 use newt_host::Host;
 use newt_nsof_write::skeleton_len;
 use newt_objects::Objects;
-use newt_objects_commit::{NewEntry, NewLarge, StoreFault};
+use newt_objects_commit::{NewEntry, NewLarge};
 use newt_pagebook::{PageBook, Stop};
 use newt_soupdir::SoupRow;
 use newt_store_catalog::{Catalog, read_whole};
+use newt_store_change::{Change, StoreFault};
 use std::alloc::{AllocError, Global};
 
 /// The last next entry id: the soup has no further id to give.

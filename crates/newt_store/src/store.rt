@@ -10,22 +10,23 @@ ghost use Rattle.newt_spec_store.specs.OfImage.{blocks_of};
 ghost use Rattle.newt_entries.specs.Entry.{stream_graph};
 ghost use Rattle.newt_spec_store.specs.ImageStore.{store_of_image};
 ghost use Rattle.newt_store_catalog.specs.Readable.{readable};
-ghost use Rattle.newt_store.specs.Change.{changed_by, answer_of, refusal_of, uids_in, entry_fetched, pages_of_entry, most_bytes};
-ghost use Rattle.newt_store_catalog.specs.Stands.{StandsFor, IsSound, plain_entry};
-ghost use Rattle.newt_store.specs.Stands.{GoesOn, IsRefused, RefusesWith, IsBeforeOrChanged};
-ghost use Rattle.newt_objects_commit.specs.Faults.{FaultsAt};
+ghost use Rattle.newt_store_change.specs.Change.{changed_by, answer_of, refusal_of, uids_in, entry_fetched, pages_of_entry, most_bytes};
+ghost use Rattle.newt_store_catalog.specs.Stands.{StandsFor, IsSound};
+ghost use Rattle.newt_store_change.specs.Entries.{plain_entry};
+ghost use Rattle.newt_store_change.specs.Faults.{GoesOn, IsRefused, RefusesWith};
+ghost use Rattle.newt_store.specs.Stands.{IsBeforeOrChanged};
+ghost use Rattle.newt_store_change.specs.Faults.{FaultsAt};
 
 use crate::carry::carry_out;
-use crate::change::Change;
 use crate::format::format_unit;
 use crate::patch::patch_entry;
 use crate::plan::plan_change;
 use newt_base::{Name, Sig, Uid};
 use newt_host::{Host, Unit};
-use newt_objects_commit::StoreFault;
 use newt_pagebook::{BookFault, PageBook, Stop};
 use newt_soupdir::Directory;
-use newt_store_catalog::{Catalog, Entry, open_catalog, read_whole};
+use newt_store_catalog::{Catalog, open_catalog, read_whole};
+use newt_store_change::{Change, Entry, StoreFault};
 use std::alloc::{AllocError, Global};
 
 /// A store on one unit. It stands for one plain store, which its unit's image is read as, until a call stops.

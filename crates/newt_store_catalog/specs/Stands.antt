@@ -6,8 +6,7 @@ use Rattle.newt_spec_image.specs.Objects.{Objects}
 use Rattle.newt_pagebook.specs.Book.{Numbers}
 use Rattle.newt_objects.specs.Held.{held}
 use Rattle.newt_objects.specs.Changing.{HoldsObjects}
-use Rattle.newt_spec_store.specs.Store.{Store, Entry as PlainEntry}
-use Rattle.newt_store_catalog.specs.declared.entry.Entry.{Entry}
+use Rattle.newt_spec_store.specs.Store.{Store}
 use Rattle.newt_spec_store.specs.Cost.{cost}
 use Rattle.newt_spec_store.specs.Laid.{bare}
 use Rattle.newt_spec_store.specs.Lies.{LiesIn, Places}
@@ -41,7 +40,3 @@ pub record IsSound (told : Bool) (catalog : Catalog) (numbers : Numbers) (unit :
   pub places : AreSoundPlaces (held catalog.objects) (place_of catalog.places)
   pub names : AreSoundNames (held catalog.objects) (names_of catalog.names)
   pub formed : IsTrue (well_formed (bare_store catalog.directory))
-
--- an entry that was read, as the plain store has it
-abbrev pub plain_entry : Entry → PlainEntry
-plain_entry e = record { uid = e.uid; time = e.time; graph = e.graph }

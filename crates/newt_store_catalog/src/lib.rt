@@ -5,11 +5,9 @@
 #![tactic(auto)]
 
 mod catalog;
-mod entry;
 mod open;
 mod read;
 
 pub use catalog::Catalog;
-pub use entry::Entry;
 pub use open::open_catalog;
 pub use read::{read_row, read_whole};

@@ -15,13 +15,13 @@ ghost use Rattle.newt_spec_store.specs.Valid.{valid_entry};
 ghost use Rattle.newt_entries.specs.Entry.{stream_graph, row_at, fits, said};
 ghost use Rattle.newt_objects_commit.specs.Commit.{AreKept};
 ghost use Rattle.newt_store_catalog.specs.Reading.{IsLaidAt, HaveBytes, ReadsOf};
-ghost use Rattle.newt_store_catalog.specs.Stands.{plain_entry};
+ghost use Rattle.newt_store_change.specs.Entries.{plain_entry};
 
-use crate::entry::Entry;
 use newt_entries::{EntryFault, EntryRow, LargeAt, filled, read_entry};
 use newt_host::Host;
 use newt_objects::Objects;
 use newt_pagebook::{PageBook, Stop};
+use newt_store_change::Entry;
 use std::alloc::Global;
 
 /// Reads the record of an entry that is there. What is no record is not there, so it is answered like want of memory.

@@ -11,16 +11,17 @@ use Rattle.newt_pagebook.specs.Stops.{StopsAt}
 use Rattle.newt_pagebook.specs.declared.book.Stop.{Stop as StopOf}
 use Rattle.newt_objects_commit.specs.Places.{place_of}
 use Rattle.newt_objects_commit.specs.Names.{names_of}
-use Rattle.newt_objects_commit.specs.Faults.{FaultsAt}
-use Rattle.newt_objects_commit.specs.declared.fault.StoreFault.{StoreFault}
-use Rattle.newt_objects_commit.specs.declared.fault.StoreFault.TheVariants.{Refused, Stop}
+use Rattle.newt_store_change.specs.Faults.{FaultsAt}
+use Rattle.newt_store_change.specs.declared.fault.StoreFault.{StoreFault}
+use Rattle.newt_store_change.specs.declared.fault.StoreFault.TheVariants.{Refused, Stop}
 use Rattle.newt_spec_store.specs.OfImage.{blocks_of}
 use Rattle.newt_spec_store.specs.Store.{Store as PlainStore}
-use Rattle.newt_store.specs.Change.{changed_by, refusal_of}
+use Rattle.newt_store_change.specs.Change.{changed_by, refusal_of}
 use Rattle.newt_store_catalog.specs.Stands.{StandsFor}
-use Rattle.newt_store.specs.Stands.{IsRefused, RefusesWith, IsBeforeOrChanged}
+use Rattle.newt_store_change.specs.Faults.{IsRefused, RefusesWith}
+use Rattle.newt_store.specs.Stands.{IsBeforeOrChanged}
 use Rattle.newt_store_catalog.specs.declared.catalog.Catalog.{Catalog}
-use Rattle.newt_store.specs.declared.change.Change.{Change}
+use Rattle.newt_store_change.specs.declared.change.Change.{Change}
 use Rattle.newt_store_catalog.specs.Readable.{readable}
 use Rattle.newt_store_catalog.proofs.Opening.{same-image}
 use Rattle.newt_store.proofs.Reading.{read-back}
@@ -90,6 +91,15 @@ module _ {B : Type 0} (place : B → ℕ) (numbers : B → Numbers) (stands : Bo
   costs-over a b before between after most reads moved x one two =
       Spends-widen (0 + most) (512 * reads + 512 * moved) most (512 * reads + 512 * moved) (omega arith) (omega arith)
       (Spends-append 0 (512 * reads) most (512 * moved) one (subst (λ (u : ℕ). Spends u most (512 * moved) between after) x.same_place two))
+
+  -- the same of a bound that is told by the image
+  pub costs-after : (a b : Store B) (before between after : Outside) (most : List ℕ → ℕ) (reads moved : ℕ) → Reads place numbers stands told a b before between
+      → Spends (place a.book) 0 (512 * reads) before between
+      → (IsOpenFor (most (image (place b.book) between.now)) (image (place b.book) between.now) → Spends (place b.book) (most (image (place b.book) between.now)) (512 * moved) between after)
+      → IsOpenFor (most (image (place a.book) before.now)) (image (place a.book) before.now) → Spends (place a.book) (most (image (place a.book) before.now)) (512 * reads + 512 * moved) before after
+  costs-after a b before between after most reads moved x one two room =
+      let P : List ℕ → Type 0 = λ img. IsOpenFor (most img) img → Spends (place b.book) (most img) (512 * moved) between after in
+      costs-over a b before between after (most (image (place a.book) before.now)) reads moved x one (subst P (same-image (place a.book) (place b.book) before.now between.now x.same_place x.moment) two room)
 
   -- what is fetched before it
   pub costs-stopped : (unit most reads moved : ℕ) (before between : Outside) → Spends unit 0 (512 * reads) before between → Spends unit most (512 * reads + 512 * moved) before between

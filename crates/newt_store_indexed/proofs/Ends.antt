@@ -1,11 +1,12 @@
 -- The end of a list of ids, and the first of it.
 use Rattle.std.proofs.Common.{◌≡◌, ℕ, ◌+◌, ◌-◌, ◌<◌, ◌≤◌, List, [], ◌∷◌, length, take, drop, get_or, refl, sym, ◌∙◌, ap, arith}
 use Rattle.std.proofs.lemmas.Grind.{common_steps}
-use Rattle.newt_store.specs.Change.{pages_of_entry}
+use Rattle.newt_store_change.specs.Change.{pages_of_entry}
 use Rattle.newt_spec_store.specs.Store.{Store, entry_at}
 use Rattle.newt_index.specs.Pairs.{Sorted}
 use Rattle.newt_index_ranges.specs.declared.rows.SoupRanges.{SoupRanges}
-use Rattle.newt_store_indexed.specs.Filling.{with_read, with_all, rows_with_all, rows_of_soups, pages_listed}
+use Rattle.newt_store_indexed.specs.Filling.{with_read, with_all, rows_with_all, rows_of_soups}
+use Rattle.newt_store_change.specs.Change.{pages_listed}
 
 pub with-none : (sig : ℕ) (s : Store) (us : List ℕ) (v : Sorted) → length us < 1 → with_all sig s us v ≡ v
 with-none sig s [] v low = refl

@@ -3,7 +3,7 @@ use Rattle.std.proofs.Common.{◌≡◌, ℕ, ◌<◌, true, List, [], ◌∷◌
 use Rattle.std.specs.Option.{option_and_then}
 use Rattle.std.specs.Prelude.{Result, Ok, Err, IfOk}
 use Rattle.newt_pagebook.specs.declared.book.Stop.{Stop}
-use Rattle.newt_store.specs.declared.change.Change.TheVariants as change
+use Rattle.newt_store_change.specs.declared.change.Change.TheVariants as change
 use Rattle.newt_spec_graph.specs.Lists.{Each, Pairs}
 use Rattle.newt_spec_graph.proofs.Lists.{each-from}
 use Rattle.newt_spec_store.specs.Keys.{IndexSpec}
@@ -13,7 +13,7 @@ use Rattle.newt_index.specs.Pairs.{Sorted}
 use Rattle.newt_index_ranges.specs.Rows.{no_pairs}
 use Rattle.newt_index_ranges.specs.Stands.{graphs_of, IsRange}
 use Rattle.newt_index_ranges.proofs.Standing.{range_none, range_added, same_graphs}
-use Rattle.newt_store.specs.Change.{uids_in}
+use Rattle.newt_store_change.specs.Change.{uids_in}
 use Rattle.newt_store_indexed.specs.Filling.{with_read, with_all}
 use Rattle.newt_store_indexed.specs.Steps.{IsDeclaring, IsStepOf}
 use Rattle.newt_store_indexed.specs.declared.step.Step.{Step}

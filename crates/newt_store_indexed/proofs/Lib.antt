@@ -6,3 +6,6 @@ pub mod Listed
 pub mod Ends
 pub mod Reading
 pub mod Changing
+pub mod Turns
+pub mod Carded
+pub mod Opened

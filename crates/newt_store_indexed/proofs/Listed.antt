@@ -18,7 +18,7 @@ use Rattle.newt_index_ranges.specs.Rows.{no_ranges}
 use Rattle.newt_index_ranges.specs.Stands.{graphs_of, IsRangesOf, AreRanges, AreRangesOf}
 use Rattle.newt_index_ranges.proofs.Laws.{soup_listed, entry_listed, opened}
 use Rattle.newt_index_ranges.proofs.Standing.{of_sig}
-use Rattle.newt_store.specs.Change.{uids_in}
+use Rattle.newt_store_change.specs.Change.{uids_in}
 use Rattle.newt_store_indexed.specs.Filling.{rows_with, rows_with_all, rows_of_soups}
 use Rattle.newt_store_indexed.proofs.Told.{Told, graph_in, nothing, told_one, told_all, told_soups, other_sig, other_soup, still_none, soup-told, ids-rise, ids-there, IsThere}
 

@@ -5,13 +5,14 @@ use Rattle.newt_host.specs.Outside.{Outside, Touches}
 use Rattle.newt_pagebook.specs.Book.{Numbers, IsOpenFor}
 use Rattle.newt_spec_store.specs.Store.{Store as PlainStore}
 use Rattle.newt_spec_store.specs.OfImage.{blocks_of}
-use Rattle.newt_objects_commit.specs.Faults.{FaultsAt}
-use Rattle.newt_objects_commit.specs.declared.fault.StoreFault.{StoreFault}
-use Rattle.newt_store.specs.declared.change.Change.{Change}
+use Rattle.newt_store_change.specs.Faults.{FaultsAt}
+use Rattle.newt_store_change.specs.declared.fault.StoreFault.{StoreFault}
+use Rattle.newt_store_change.specs.declared.change.Change.{Change}
 use Rattle.newt_store.specs.declared.store.Store.{Store}
-use Rattle.newt_store.specs.Change.{changed_by, answer_of, refusal_of}
+use Rattle.newt_store_change.specs.Change.{changed_by, answer_of, refusal_of}
 use Rattle.newt_store_catalog.specs.Stands.{StandsFor, IsSound}
-use Rattle.newt_store.specs.Stands.{GoesOn, IsRefused, RefusesWith, IsBeforeOrChanged}
+use Rattle.newt_store_change.specs.Faults.{GoesOn, IsRefused, RefusesWith}
+use Rattle.newt_store.specs.Stands.{IsBeforeOrChanged}
 
 -- the store of this image is the plain one
 abbrev pub Shows : {B : Type 0} → (B → ℕ) → Store B → Outside → PlainStore → Type 0

@@ -1,10 +1,10 @@
 -- What is added to ranges where entries are read one after another.
-use Rattle.std.specs.Prelude.{ℕ, ◌+◌, List, [], ◌∷◌, Option, Some, None}
+use Rattle.std.specs.Prelude.{ℕ, List, [], ◌∷◌, Option, Some, None}
 use Rattle.newt_spec_store.specs.Store.{Entry, Store, soup_of, entry_at}
 use Rattle.newt_index.specs.Pairs.{Sorted}
 use Rattle.newt_index_ranges.specs.declared.rows.SoupRanges.{SoupRanges}
 use Rattle.newt_index_ranges.specs.Rows.{with_entry, each_range, change_ranges}
-use Rattle.newt_store.specs.Change.{uids_in, pages_of_entry}
+use Rattle.newt_store_change.specs.Change.{uids_in}
 
 -- a range with the entry that was read under an id, if there is one (this project's own)
 abbrev pub with_read : ℕ → Option Entry → Sorted → Sorted
@@ -30,8 +30,3 @@ rows_with_all sig s (uid ∷ uids) rows = rows_with_all sig s uids (rows_with si
 abbrev pub rows_of_soups : Store → List ℕ → List SoupRanges → List SoupRanges
 rows_of_soups s [] rows = rows
 rows_of_soups s (sig ∷ sigs) rows = rows_of_soups s sigs (rows_with_all sig s (uids_in (soup_of sig s)) rows)
-
--- the pages of the entries of a soup that have these ids (this project's own)
-abbrev pub pages_listed : ℕ → Store → List ℕ → ℕ
-pages_listed sig s [] = 0
-pages_listed sig s (uid ∷ uids) = pages_of_entry (entry_at sig uid s) + pages_listed sig s uids

@@ -3,3 +3,5 @@
 pub mod Calls
 pub mod Filling
 pub mod Steps
+pub mod Stands
+pub mod Laws

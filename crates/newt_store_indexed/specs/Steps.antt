@@ -5,10 +5,8 @@ use Rattle.newt_index.specs.Pairs.{Sorted}
 use Rattle.newt_index_ranges.specs.declared.rows.SoupRanges.{SoupRanges}
 use Rattle.newt_index_ranges.specs.Rows.{no_ranges, with_entry, without_entry, each_range, with_range, without_range, change_ranges, drop_ranges}
 use Rattle.newt_index_ranges.specs.Stands.{graphs_of, IsRange}
-use Rattle.newt_store.specs.Change.{uids_in, pages_of_entry}
-use Rattle.newt_store.specs.declared.change.Change.{Change}
-use Rattle.newt_store.specs.declared.change.Change.TheVariants.{MakeSoup, DropSoup, Add, Remove, Move, Replace, Patch, AddIndex, DropIndex, SetTags}
-use Rattle.newt_store_indexed.specs.Filling.{pages_listed}
+use Rattle.newt_store_change.specs.declared.change.Change.{Change}
+use Rattle.newt_store_change.specs.declared.change.Change.TheVariants.{MakeSoup, DropSoup, Add, Remove, Move, Replace, Patch, AddIndex, DropIndex, SetTags}
 use Rattle.newt_store_indexed.specs.declared.step.Step.{Step}
 use Rattle.newt_store_indexed.specs.declared.step.Step.TheVariants.{Untouched, Made, Dropped, Added, Removed, Moved, Replaced, Declared, Undeclared}
 
@@ -42,9 +40,3 @@ IsStepOf (Patch sig uid node at bytes) s step = step ≡ Untouched
 IsStepOf (AddIndex sig spec) s step = IsDeclaring sig spec s step
 IsStepOf (DropIndex sig paths) s step = step ≡ Undeclared sig paths
 IsStepOf (SetTags sig table) s step = step ≡ Untouched
-
--- The pages that are read for the ranges' sake: those of the entry that is moved, and of the entries of a soup that gets an index. (this project's own)
-abbrev pub pages_read : Change → Store → ℕ
-pages_read (Move source uid target) s = pages_of_entry (entry_at source uid s)
-pages_read (AddIndex sig spec) s = pages_listed sig s (uids_in (soup_of sig s))
-pages_read change s = 0

@@ -4,9 +4,10 @@ ghost use Rattle.newt_host.specs.Outside.{Spends};
 ghost use Rattle.newt_pagebook.specs.Stops.{StopsAt};
 ghost use Rattle.newt_spec_store.specs.Store.{Store as PlainStore, soup_of, entry_at};
 ghost use Rattle.newt_index_ranges.specs.Rows.{no_pairs};
-ghost use Rattle.newt_store.specs.Change.{uids_in, pages_of_entry};
+ghost use Rattle.newt_store_change.specs.Change.{uids_in, pages_of_entry};
 ghost use Rattle.newt_store_indexed.specs.Calls.{Shows, IsOpen, Reads};
-ghost use Rattle.newt_store_indexed.specs.Filling.{with_read, with_all, pages_listed};
+ghost use Rattle.newt_store_indexed.specs.Filling.{with_read, with_all};
+ghost use Rattle.newt_store_change.specs.Change.{pages_listed};
 
 use newt_base::{Sig, Uid};
 use newt_host::Host;

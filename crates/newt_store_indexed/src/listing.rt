@@ -4,7 +4,7 @@ ghost use Rattle.newt_pagebook.specs.Stops.{StopsAt};
 ghost use Rattle.newt_spec_store.specs.Store.{Store as PlainStore, soup_of, entry_at};
 ghost use Rattle.newt_index_ranges.specs.Rows.{no_ranges};
 ghost use Rattle.newt_index_ranges.specs.Stands.{AreRangesOf};
-ghost use Rattle.newt_store.specs.Change.{uids_in};
+ghost use Rattle.newt_store_change.specs.Change.{uids_in};
 ghost use Rattle.newt_store_indexed.specs.Calls.{Shows, IsOpen, Reads};
 ghost use Rattle.newt_store_indexed.specs.Filling.{rows_with, rows_with_all, rows_of_soups};
 

@@ -3,10 +3,11 @@ ghost use Rattle.std.specs.Prelude.{◌≡◌, ◌*◌, IsTrue, IfOk, IfErr, Som
 ghost use Rattle.newt_host.specs.Outside.{Spends};
 ghost use Rattle.newt_pagebook.specs.Stops.{StopsAt};
 ghost use Rattle.newt_spec_store.specs.Store.{Store as PlainStore, Entry as PlainEntry, soup_of, entry_at};
-ghost use Rattle.newt_store.specs.Change.{uids_in, pages_of_entry};
+ghost use Rattle.newt_store_change.specs.Change.{uids_in, pages_of_entry};
 ghost use Rattle.newt_store_indexed.specs.Calls.{Shows, IsOpen, Reads};
-ghost use Rattle.newt_store_indexed.specs.Filling.{pages_listed};
-ghost use Rattle.newt_store_indexed.specs.Steps.{IsStepOf, IsDeclaring, pages_read};
+ghost use Rattle.newt_store_change.specs.Change.{pages_listed};
+ghost use Rattle.newt_store_indexed.specs.Steps.{IsStepOf, IsDeclaring};
+ghost use Rattle.newt_store_change.specs.Change.{pages_read};
 ghost use Rattle.newt_store_indexed.specs.declared.step.Step.TheVariants as step;
 
 use crate::fill::filled;
@@ -15,7 +16,8 @@ use newt_base::{Sig, Uid};
 use newt_host::Host;
 use newt_keys::IndexSpec;
 use newt_pagebook::{PageBook, Stop};
-use newt_store::{Change, Paths, Store};
+use newt_store::Store;
+use newt_store_change::Change;
 
 /// The step of an entry that is moved. Where it is not there the change is refused, and nothing is to be done.
 fn moving<P: PageBook, H: Host>(
@@ -78,9 +80,7 @@ pub(crate) fn step_of<P: PageBook, H: Host>(
         Change::Replace(soup, uid, graph) => Ok(Step::Replaced(*soup, *uid, graph.copy()?)),
         Change::Patch(..) => Ok(Step::Untouched),
         Change::AddIndex(soup, spec) => declaring(store, host, *soup, spec),
-        Change::DropIndex(soup, paths) => {
-            Ok(Step::Undeclared(*soup, Paths::copied(store.alloc(), paths.list())?))
-        }
+        Change::DropIndex(soup, paths) => Ok(Step::Undeclared(*soup, paths.copy()?)),
         Change::SetTags(..) => Ok(Step::Untouched),
     }
 }

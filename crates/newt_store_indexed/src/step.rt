@@ -1,7 +1,7 @@
 //! What a change of the store is to its ranges.
 ghost use Rattle.std.specs.Prelude.{◌≡◌, IfOk, OnOk, IfErr};
 ghost use Rattle.newt_pagebook.specs.declared.book.Stop.TheVariants.{Memory};
-ghost use Rattle.newt_objects_commit.specs.declared.fault.StoreFault.TheVariants as fault;
+ghost use Rattle.newt_store_change.specs.declared.fault.StoreFault.TheVariants as fault;
 ghost use Rattle.newt_store_indexed.specs.Steps.{rows_after};
 
 use newt_base::{Sig, Uid};
@@ -9,7 +9,8 @@ use newt_graph::Graph;
 use newt_index::Index;
 use newt_index_ranges::Ranges;
 use newt_pagebook::Stop;
-use newt_store::{Paths, StoreFault};
+use newt_path::Paths;
+use newt_store_change::StoreFault;
 use std::alloc::AllocError;
 
 /// What is made of the ranges after a change.

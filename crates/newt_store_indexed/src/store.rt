@@ -1,34 +1,29 @@
 //! A store on one unit with its ranges.
-ghost use Rattle.std.specs.Prelude.{IsTrue, ◌≡◌, ◌≤◌, ◌+◌, ◌*◌, ℕ, Some, None, IfOk, IfErr, IfSome, OnOk, IsErrOf, is_some, List};
-ghost use Rattle.std.specs.Option.{option_map};
-ghost use Rattle.newt_host.specs.Moments.{image, IsDurable};
-ghost use Rattle.newt_host.specs.Outside.{Touches, Spends, Rose};
-ghost use Rattle.newt_index.specs.Pairs.{IsSorted};
-ghost use Rattle.newt_pagebook.specs.Stops.{StopsAt};
+ghost use Rattle.std.specs.Prelude.{◌≡◌, ◌*◌, IsTrue, OnOk};
+ghost use Rattle.newt_host.specs.Moments.{image};
+ghost use Rattle.newt_host.specs.Outside.{Spends};
 ghost use Rattle.newt_pagebook.specs.Book.{IsOpenFor};
-ghost use Rattle.newt_index_ranges.specs.Range.{range_in};
 ghost use Rattle.newt_index_ranges.specs.Stands.{AreRangesOf};
-ghost use Rattle.newt_spec_store.specs.Store.{Store as PlainStore, soup_of, entry_at, count_in};
+ghost use Rattle.newt_spec_store.specs.Store.{Store as PlainStore};
 ghost use Rattle.newt_spec_store.specs.OfImage.{blocks_of};
-ghost use Rattle.newt_spec_store.specs.Valid.{well_formed};
-ghost use Rattle.newt_store_catalog.specs.Readable.{readable};
-ghost use Rattle.newt_store.specs.Change.{changed_by, entry_fetched, pages_of_entry, most_bytes};
-ghost use Rattle.newt_store_catalog.specs.Stands.{StandsFor, plain_entry};
-ghost use Rattle.newt_store.specs.Stands.{IsRefused};
-ghost use Rattle.newt_store_indexed.specs.Calls.{Shows, IsOpen, Reads, Changes};
-ghost use Rattle.newt_store_indexed.specs.Steps.{IsStepOf, pages_read};
+ghost use Rattle.newt_store_change.specs.Change.{changed_by, entry_fetched, pages_of_entry, most_bytes};
+ghost use Rattle.newt_store_change.specs.Faults.{IsRefused};
+ghost use Rattle.newt_store_indexed.specs.Calls.{Shows, IsOpen, Changes};
+ghost use Rattle.newt_store_indexed.specs.Steps.{IsStepOf};
 
 use crate::listing::ranges_of;
 use crate::plan::step_of;
 use crate::step::{Step, follow};
-use newt_base::{Sig, Uid};
+use newt_base::{Name, Sig, Uid};
+use newt_engine_card::Card;
 use newt_host::{Host, Unit};
 use newt_index::Index;
 use newt_index_ranges::Ranges;
 use newt_keys::IndexSpec;
 use newt_pagebook::{BookFault, PageBook, Stop};
-use newt_soupdir::Directory;
-use newt_store::{Change, Entry, Store, StoreFault};
+use newt_store::Store;
+use newt_store_change::{Change, Entry, StoreFault};
+use newt_tags::TagTable;
 use std::alloc::Global;
 
 /// A store on one unit, with the sorted lists of its soups' entries. It stands for one plain store, which its unit's image is read as, until a call stops.
@@ -38,26 +33,42 @@ pub struct IndexedStore<P: PageBook> {
     ranges: Ranges,
 }
 
-impl<P: PageBook> IndexedStore<P> {
-    /// Opens the store of a unit on which nothing is pending, and reads all its entries.
-    pub fn open<H: Host>(
+impl<P: PageBook> Card for IndexedStore<P> {
+    ghost use Rattle.std.specs.Prelude.{true, refl};
+    ghost use Rattle.newt_soupdir.specs.Bare.{bare_store};
+    ghost use Rattle.newt_store_catalog.specs.Readable.{readable};
+    ghost use Rattle.newt_store_indexed.specs.Stands.{StandsOn};
+    ghost use Rattle.newt_store_indexed.specs.Laws.{formed_read, plain_read, kept_on};
+
+    ghost reads = { readable };
+
+    ghost place = { λ card. P.place card.store.book };
+
+    ghost soups = { λ card. bare_store card.store.catalog.directory };
+
+    ghost stands = { λ told card outside. StandsOn P.place P.numbers P.stands told card outside };
+
+    ghost formed = { formed_read };
+
+    ghost plain = { λ card outside stands. plain_read P.place P.numbers P.stands card outside stands };
+
+    ghost durable = { λ card outside stands. (P.tells true card.store.book outside stands.is_open.book refl).1 };
+
+    ghost banks = { λ told card outside stands. (P.has_banks told card.store.book outside stands.is_open.book).0 };
+
+    ghost kept = { λ told card old new stands same. kept_on P.place P.numbers P.stands P.kept told card old new stands same };
+
+    fn format<H: Host>(
         alloc: Global,
         host: &mut H,
         unit: Unit,
-    ) -> Result<IndexedStore<P>, BookFault>
-        requires enough { 13 ≤ (H.outside host.old).blocks unit }
-        requires not_too_many { (H.outside host.old).blocks unit ≤ 4099 }
-        requires at_rest { IsTrue H.told → IsDurable unit (H.outside host.old).now }
-        ensures is_open { IfOk result (λ opened. IsOpen P.place P.numbers P.stands H.told opened.store (H.outside host.new)) }
-        ensures place { IfOk result (λ opened. P.place opened.store.book ≡ unit) }
-        ensures found { IsTrue H.told → IfOk result (λ opened. (s : PlainStore) × (readable (image unit (H.outside host.old).now) ≡ Some s)
-            × StandsFor opened.store.catalog s (image unit (H.outside host.old).now) × AreRangesOf s opened.ranges) }
-        ensures not_store { IsErrOf result BookFault.NotStore → IsTrue H.told → readable (image unit (H.outside host.old).now) ≡ None }
-        ensures moment { (H.outside host.new).now ≡ (H.outside host.old).now }
-        ensures programs_nothing { (H.outside host.new).programmed unit ≤ (H.outside host.old).programmed unit }
-        ensures alone { Touches unit (H.outside host.old) (H.outside host.new) }
-        ensures cause { IsErrOf result BookFault.Device → Rose ((H.outside host.old).dev_faults unit) ((H.outside host.new).dev_faults unit) }
-    {
+        name: &Name,
+        sig: Sig,
+    ) -> Result<(), Stop> {
+        Store::<P>::format(alloc, host, unit, name, sig)
+    }
+
+    fn open<H: Host>(alloc: Global, host: &mut H, unit: Unit) -> Result<Self, BookFault> {
         let mut store: Store<P> = Store::open(alloc, host, unit)?;
         match ranges_of(&mut store, host) {
             Ok(ranges) => Ok(IndexedStore { store, ranges }),
@@ -66,85 +77,75 @@ impl<P: PageBook> IndexedStore<P> {
         }
     }
 
-    /// Makes a change at a minute, and answers the new id or soup signature, else 0. After a refusal all is as it was; after a stop the store is spent.
-    pub fn apply<H: Host>(
+    fn apply<H: Host>(
         &mut self,
         host: &mut H,
         change: Change,
         now: u32,
-    ) -> Result<u32, StoreFault>
-        requires { IsOpen P.place P.numbers P.stands H.told self.old.store (H.outside host.old) }
-        ensures changes { Changes P.place P.numbers P.stands H.told change now self.old.store self.new.store (H.outside host.old) (H.outside host.new) result }
-        // the ranges are those of the changed store, and after a refusal they are what they were
-        ensures ranges { IsTrue H.told → (s : PlainStore) → Shows P.place self.old.store (H.outside host.old) s → AreRangesOf s self.old.ranges → OnOk result (AreRangesOf (changed_by change now s) self.new.ranges) }
-        ensures same_ranges { IsRefused result → self.new.ranges ≡ self.old.ranges }
-        // what it programs and fetches, whatever the answer, while the bank is not closed and has room for that
-        ensures costs { IsTrue H.told → (s : PlainStore) → Shows P.place self.old.store (H.outside host.old) s → IsOpenFor (most_bytes change (blocks_of (image (P.place self.old.store.book) (H.outside host.old).now)) now s) (image (P.place self.old.store.book) (H.outside host.old).now)
-            → Spends (P.place self.old.store.book) (most_bytes change (blocks_of (image (P.place self.old.store.book) (H.outside host.old).now)) now s) (512 * pages_read change s + 512 * pages_of_entry (entry_fetched change s)) (H.outside host.old) (H.outside host.new) }
-    {
+    ) -> Result<u32, StoreFault> {
         match step_of(&mut self.store, host, &change) {
             Ok(step) => change_with(&mut self.store, &mut self.ranges, host, change, now, step),
             Err(stop) => Err(StoreFault::Stop(stop)),
         }
     }
 
-    /// Reads an entry. None where there is no such soup, or it has no such entry.
-    pub fn entry<H: Host>(
-        &mut self,
-        host: &mut H,
-        soup: Sig,
-        uid: Uid,
-    ) -> Result<Option<Entry>, Stop>
-        requires { IsOpen P.place P.numbers P.stands H.told self.old.store (H.outside host.old) }
-        ensures entry { IsTrue H.told → (s : PlainStore) → Shows P.place self.old.store (H.outside host.old) s → IfOk result (λ found. option_map plain_entry found ≡ entry_at soup uid s) }
-        ensures reads { Reads P.place P.numbers P.stands H.told self.old.store self.new.store (H.outside host.old) (H.outside host.new) }
-        ensures ranges { self.new.ranges ≡ self.old.ranges }
-        ensures costs { IsTrue H.told → (s : PlainStore) → Shows P.place self.old.store (H.outside host.old) s → Spends (P.place self.old.store.book) 0 (512 * pages_of_entry (entry_at soup uid s)) (H.outside host.old) (H.outside host.new) }
-        ensures cause { IfErr result (StopsAt (P.place self.old.store.book) (H.outside host.old) (H.outside host.new)) }
-    {
+    fn entry<H: Host>(&mut self, host: &mut H, soup: Sig, uid: Uid) -> Result<Option<Entry>, Stop> {
         self.store.entry(host, soup, uid)
     }
 
-    /// The sorted list of exactly the entries of a soup that have a key: by its declaration that agrees with this one, or with none of all entries by id.
-    /// None exactly where the soup is not there or does not carry the declaration. It takes no memory.
-    pub fn range_of(&self, soup: Sig, spec: Option<&IndexSpec>) -> Option<&Index>
-        ensures sorted { IfSome result (λ v. IsSorted v.now) }
-        ensures stands { (s : PlainStore) → IsTrue (well_formed s) → AreRangesOf s self.now.ranges → option_map (λ v. v.now) result ≡ range_in soup (option_map (λ s. s.now) spec.entry) s }
-    {
+    fn name(&self) -> &Name {
+        &self.store.directory().name
+    }
+
+    fn sig(&self) -> Sig {
+        self.store.directory().sig
+    }
+
+    fn soup_named(&self, name: &Name) -> Option<Sig> {
+        match self.store.directory().soup_named(name.list()) {
+            Some(row) => Some(row.sig),
+            None => None,
+        }
+    }
+
+    fn soup_name(&self, soup: Sig) -> Option<&Name> {
+        match self.store.directory().soup_of(soup) {
+            Some(row) => Some(&row.name),
+            None => None,
+        }
+    }
+
+    fn soup_at(&self, at: usize) -> Option<(&Name, Sig)> {
+        match self.store.directory().soups.list().get(at) {
+            Some(row) => Some((&row.name, row.sig)),
+            None => None,
+        }
+    }
+
+    fn specs(&self, soup: Sig) -> Option<&[IndexSpec]> {
+        match self.store.directory().soup_of(soup) {
+            Some(row) => Some(row.specs.list()),
+            None => None,
+        }
+    }
+
+    fn tags(&self, soup: Sig) -> Option<&TagTable> {
+        match self.store.directory().soup_of(soup) {
+            Some(row) => row.tags.as_ref(),
+            None => None,
+        }
+    }
+
+    fn range(&self, soup: Sig, spec: Option<&IndexSpec>) -> Option<&Index> {
         self.ranges.range_of(soup, spec)
     }
 
-    /// The directory: name and signature of the store, and its soups.
-    pub fn directory(&self) -> &Directory
-        ensures { result.now ≡ self.now.store.catalog.directory }
-    {
-        self.store.directory()
-    }
-
-    /// Whether the soup has the entry.
-    pub fn has(&self, soup: Sig, uid: Uid) -> bool
-        ensures { (now : List ℕ) (s : PlainStore) → StandsFor self.now.store.catalog s now → result ≡ is_some (entry_at soup uid s) }
-    {
-        self.store.has(soup, uid)
-    }
-
-    /// How many entries the soup has, 0 where there is no such soup.
-    pub fn count(&self, soup: Sig) -> u32
-        ensures { (now : List ℕ) (s : PlainStore) → StandsFor self.now.store.catalog s now → result ≡ count_in (soup_of soup s) }
-    {
+    fn count(&self, soup: Sig) -> u32 {
         self.store.count(soup)
     }
 
-    /// Where its memory is from.
-    pub fn alloc(&self) -> Global {
-        self.store.alloc()
-    }
-
-    /// The unit that it is on.
-    pub fn unit(&self) -> Unit
-        ensures { result ≡ P.place self.now.store.book }
-    {
-        self.store.unit()
+    fn has(&self, soup: Sig, uid: Uid) -> bool {
+        self.store.has(soup, uid)
     }
 }
 

@@ -11,16 +11,16 @@ use newt_pages::DiskBook;
 use newt_reply::write_reply;
 use newt_script::line;
 use newt_script_session::{Interpreter, run_named};
-use newt_store_card::Kept;
+use newt_store_indexed::IndexedStore;
 use newt_test_scripts::{lines_of, over};
 use std::alloc::{AllocError, Global};
 use std::test::Fail;
 
 /// The engine over pages in memory.
-pub(crate) type InMemory = World<Kept<PlainBook>>;
+pub(crate) type InMemory = World<IndexedStore<PlainBook>>;
 
 /// The engine over pages on the device.
-pub(crate) type OnDevice = World<Kept<DiskBook>>;
+pub(crate) type OnDevice = World<IndexedStore<DiskBook>>;
 
 /// More bytes than the input of any test here.
 const LIMIT: usize = 1 << 24;

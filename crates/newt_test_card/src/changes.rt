@@ -54,7 +54,7 @@ fn paths_in(alloc: Global, index: &IndexSpec) -> Result<Paths, Fail> {
     for part in index.list() {
         paths.push(part.path.copy()?)?;
     }
-    Ok(Paths::copied(alloc, &paths)?)
+    Ok(Paths::of(paths))
 }
 
 // The paths of the first of these indexes.

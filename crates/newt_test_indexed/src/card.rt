@@ -2,12 +2,14 @@
 ghost use Rattle.std.specs.Prelude.{true, IfOk, OnOk};
 ghost use Rattle.newt_host.specs.Moments.{IsDurable};
 ghost use Rattle.newt_memhost.specs.Outside.{outside_of};
-ghost use Rattle.newt_store_indexed.specs.Calls.{IsOpen};
+ghost use Rattle.newt_store_indexed.specs.Stands.{StandsOn};
 
+use newt_engine_card::Card;
 use newt_host::Host;
 use newt_memhost::MemHost;
 use newt_pagebook::{LEAST_BLOCKS, MOST_BLOCKS, PageBook};
-use newt_store_indexed::{Change, IndexedStore};
+use newt_store_change::Change;
+use newt_store_indexed::IndexedStore;
 use newt_test_card::CARD;
 use std::alloc::Global;
 use std::test::Fail;
@@ -18,12 +20,12 @@ pub(crate) fn opened<P: PageBook>(
     host: &mut MemHost,
 ) -> Result<IndexedStore<P>, Fail>
     requires { IsDurable 0 (outside_of host.old).now }
-    ensures { IfOk result (λ store. IsOpen P.place P.numbers P.stands true store.store (outside_of host.new)) }
+    ensures { IfOk result (λ store. StandsOn P.place P.numbers P.stands true store (outside_of host.new)) }
 {
     if host.blocks(CARD) < LEAST_BLOCKS || host.blocks(CARD) > MOST_BLOCKS {
         return Err(Fail::new("too few blocks, or too many"));
     }
-    match IndexedStore::open(alloc, host, CARD) {
+    match IndexedStore::<P>::open(alloc, host, CARD) {
         Ok(store) => Ok(store),
         Err(fault) => Err(Fail::from(fault)),
     }
@@ -35,8 +37,8 @@ pub(crate) fn accept<P: PageBook>(
     store: &mut IndexedStore<P>,
     change: Change,
 ) -> Result<(), Fail>
-    requires { IsOpen P.place P.numbers P.stands true store.old.store (outside_of host.old) }
-    ensures { OnOk result (IsOpen P.place P.numbers P.stands true store.new.store (outside_of host.new)) }
+    requires { StandsOn P.place P.numbers P.stands true store.old (outside_of host.old) }
+    ensures { OnOk result (StandsOn P.place P.numbers P.stands true store.new (outside_of host.new)) }
 {
     match store.apply(host, change, 0) {
         Ok(_) => Ok(()),

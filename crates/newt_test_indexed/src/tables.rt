@@ -2,7 +2,7 @@
 //! steps; or `range BY STATE`, behind which ` => ` and the ids of a range stand, by `id` or the number of an index, `before` or `after` each third was changed.
 ghost use Rattle.std.specs.Prelude.{true, OnOk};
 ghost use Rattle.newt_memhost.specs.Outside.{outside_of};
-ghost use Rattle.newt_store_indexed.specs.Calls.{IsOpen};
+ghost use Rattle.newt_store_indexed.specs.Stands.{StandsOn};
 
 use crate::card::{accept, opened};
 use crate::entries::change_by;
@@ -36,8 +36,8 @@ fn change_each<P: PageBook>(
     store: &mut IndexedStore<P>,
     text: &str,
 ) -> Result<(), Fail>
-    requires { IsOpen P.place P.numbers P.stands true store.old.store (outside_of host.old) }
-    ensures { OnOk result (IsOpen P.place P.numbers P.stands true store.new.store (outside_of host.new)) }
+    requires { StandsOn P.place P.numbers P.stands true store.old (outside_of host.old) }
+    ensures { OnOk result (StandsOn P.place P.numbers P.stands true store.new (outside_of host.new)) }
 {
     let (word, first, count, step) = steps(text)?;
     for place in 0..count {
@@ -69,8 +69,8 @@ fn play_row<P: PageBook>(
     store: &mut IndexedStore<P>,
     row: &str,
 ) -> Result<(), Fail>
-    requires { IsOpen P.place P.numbers P.stands true store.old.store (outside_of host.old) }
-    ensures { OnOk result (IsOpen P.place P.numbers P.stands true store.new.store (outside_of host.new)) }
+    requires { StandsOn P.place P.numbers P.stands true store.old (outside_of host.old) }
+    ensures { OnOk result (StandsOn P.place P.numbers P.stands true store.new (outside_of host.new)) }
 {
     match row.split_once(' ') {
         Some(("range", rest)) => expect_range(alloc, store, rest),
@@ -89,7 +89,7 @@ fn play_rows<P: PageBook>(
     store: &mut IndexedStore<P>,
     rows: &str,
 ) -> Result<(), Fail>
-    requires { IsOpen P.place P.numbers P.stands true store.old.store (outside_of host.old) }
+    requires { StandsOn P.place P.numbers P.stands true store.old (outside_of host.old) }
 {
     for row in rows.lines() {
         if !row.is_empty() {

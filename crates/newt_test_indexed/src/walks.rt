@@ -1,11 +1,11 @@
 //! The ids of a range, in its order.
 use crate::entries::graph_in;
 use newt_base::{Sig, Uid};
+use newt_engine_card::Card;
 use newt_graph::Graph;
 use newt_index::{Index, Probe};
 use newt_keys::{IndexSpec, Key, key_of};
 use newt_pagebook::PageBook;
-use newt_soupdir::Directory;
 use newt_store_indexed::IndexedStore;
 use std::alloc::{AllocError, Global};
 use std::test::Fail;
@@ -67,13 +67,12 @@ fn walked(
 }
 
 /// The index of the soup of signature 0 by its number, and none for `id`.
-fn index_at<'a>(directory: &'a Directory, by: &str) -> Result<Option<&'a IndexSpec>, Fail> {
+fn index_at<'a>(specs: &'a [IndexSpec], by: &str) -> Result<Option<&'a IndexSpec>, Fail> {
     if by == "id" {
         return Ok(None);
     }
     let number: usize = by.parse()?;
-    let soup = directory.soup_of(Sig(0)).ok_or("no soup")?;
-    Ok(Some(soup.specs.list().get(number).ok_or("no index")?))
+    Ok(Some(specs.get(number).ok_or("no index")?))
 }
 
 /// The ids of the range of the soup of signature 0 by `id` or by the index of a number, as a text.
@@ -83,8 +82,8 @@ pub(crate) fn range_text<P: PageBook>(
     by: &str,
     after: bool,
 ) -> Result<String, Fail> {
-    let spec = index_at(store.directory(), by)?;
-    let range = store.range_of(Sig(0), spec).ok_or("no range")?;
+    let spec = index_at(store.specs(Sig(0)).ok_or("no soup")?, by)?;
+    let range = store.range(Sig(0), spec).ok_or("no range")?;
     let uids = walked(alloc, range, spec, after)?;
     Ok(format!(in alloc; "{uids:?}")?)
 }

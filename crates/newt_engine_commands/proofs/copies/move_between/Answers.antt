@@ -1,5 +1,5 @@
 -- The entry is read, its graph is added to the target, and then it is removed.
-use Rattle.std.proofs.Common.{refl, sym, subst}
+use Rattle.std.proofs.Common.{refl, sym, subst, ◌≡◌, ◌∙◌}
 use Rattle.std.proofs.lemmas.Result.{err_from_is_err_and}
 use Rattle.newt_spec_store.specs.Store.{Entry, change_soup, remove_entry}
 use Rattle.newt_spec_world.specs.Reply.{Reply}
@@ -14,6 +14,10 @@ use Rattle.newt_engine_commands.proofs.Moves.{move-missing, never-refused, betwe
 use Rattle.newt_engine_commands.proofs.Costing.{handed-costs, first-costs, whole-costs}
 use Rattle.newt_engine_units.proofs.Costs.{read-costs, costs-of}
 use Rattle.newt_engine_units.proofs.Settings.{Setting, is-err, still}
+use Rattle.std.specs.Bool.{⊤}
+use Rattle.newt_laws_answers.proofs.Changes.{add-said, remove-said}
+use Rattle.newt_laws_answers.proofs.Refusals.{added-uid}
+use Rattle.newt_engine_commands.proofs.Said.{said-made, said-moments, said-costs}
 use Rattle.newt_engine_commands.proofs.copies.move_between.Given.{Over}
 use Rattle.newt_engine_commands.proofs.copies.move_between.Goals as goal
 
@@ -46,9 +50,9 @@ returns-in_err-added-clause-answered g c t name target h k =
     let entry : Entry = record { uid = c.in_ok-graph.field-0.uid; time = c.in_ok-graph.field-0.time; graph = c.in_ok-graph.field-0.graph } in
     let same = c.in_ok-graph.ensures.world t in
     let there = subst (λ x. OnUnit x c.args.to k.blocks k.store) (sym same) k.on in
-    subst (λ r. Answers w (world_of g.C.Card.reads c.add_to.new.self (g.H.Host.outside c.add_to.new.host)) (command.Move c.args.unit name c.args.uid c.args.to target) (λ n. Reply.number n) r)
+    subst (λ r. Answers w (world_of g.C.Card.reads c.change.new.self (g.H.Host.outside c.change.new.host)) (command.Move c.args.unit name c.args.uid c.args.to target) (λ n. Reply.number n) r)
     (sym (is-err _ _ (err_from_is_err_and c.from_residual-in_err-added.result c.from_residual-in_err-added.ensures.1)))
-    (between-fails w c.args.unit c.args.to name target c.args.soup c.args.into c.args.uid h k refl entry found c.requires.apart _ _ same _ (c.in_err-added.ensures.made t k.blocks k.store k.soup there k.by_sig))
+    (between-fails w c.args.unit c.args.to name target c.args.soup c.args.into c.args.uid h k refl entry found c.requires.apart _ _ same _ (said-made c.in_err-added.ensures t there (add-said k.blocks c.read_entry.new.self.minute c.args.into k.store k.soup k.by_sig entry.graph) (λ n. n ≡ k.soup.next_uid) (λ n is. is ∙ added-uid k.blocks c.read_entry.new.self.minute c.args.into k.store k.soup k.by_sig entry.graph)))
 
 pub returns-in_err-added-clause-moments : goal.returns-in_err-added-clause-moments
 returns-in_err-added-clause-moments g c t name target h k =
@@ -57,8 +61,8 @@ returns-in_err-added-clause-moments g c t name target h k =
     let entry : Entry = record { uid = c.in_ok-graph.field-0.uid; time = c.in_ok-graph.field-0.time; graph = c.in_ok-graph.field-0.graph } in
     let same = c.in_ok-graph.ensures.world t in
     let there = subst (λ x. OnUnit x c.args.to k.blocks k.store) (sym same) k.on in
-    first-moments w c.args.unit c.args.to name target c.args.soup c.args.into c.args.uid h k refl entry found c.requires.apart g.C.Card.reads _ (g.H.Host.outside c.args.host.now).now (g.H.Host.outside c.read_entry.new.host).now (g.H.Host.outside c.add_to.new.host).now same c.in_ok-graph.ensures.moment
-    (c.in_err-added.ensures.moments t k.blocks k.store k.soup there k.by_sig (answer_now w (command.Move c.args.unit name c.args.uid c.args.to target)).0 (added-makes w c.args.unit c.args.to name target c.args.soup c.args.into c.args.uid h k refl entry found c.requires.apart _ same))
+    first-moments w c.args.unit c.args.to name target c.args.soup c.args.into c.args.uid h k refl entry found c.requires.apart g.C.Card.reads _ (g.H.Host.outside c.args.host.now).now (g.H.Host.outside c.read_entry.new.host).now (g.H.Host.outside c.change.new.host).now same c.in_ok-graph.ensures.moment
+    (said-moments c.in_err-added.ensures t there (add-said k.blocks c.read_entry.new.self.minute c.args.into k.store k.soup k.by_sig entry.graph) (answer_now w (command.Move c.args.unit name c.args.uid c.args.to target)).0 (added-makes w c.args.unit c.args.to name target c.args.soup c.args.into c.args.uid h k refl entry found c.requires.apart _ same))
 
 pub returns-in_err-added-clause-costs : goal.returns-in_err-added-clause-costs
 returns-in_err-added-clause-costs g c t name target h k =
@@ -69,45 +73,45 @@ returns-in_err-added-clause-costs g c t name target h k =
     let there = subst (λ x. OnUnit x c.args.to k.blocks k.store) (sym same) k.on in
     handed-costs (is-err _ _ (err_from_is_err_and c.from_residual-in_err-added.result c.from_residual-in_err-added.ensures.1))
     (first-costs w c.args.unit c.args.to name target c.args.soup c.args.into c.args.uid h k entry found c.requires.apart _ same c.in_ok-graph.ensures.moment (c.in_ok-graph.ensures.programs_nothing t)
-    (c.in_err-added.ensures.costs t k.blocks k.store k.soup there k.by_sig))
+    (said-costs c.in_err-added.ensures t there (add-said k.blocks c.read_entry.new.self.minute c.args.into k.store k.soup k.by_sig entry.graph)))
 
-pub returns-in_err-remove_from-clause-answered : goal.returns-in_err-remove_from-clause-answered
-returns-in_err-remove_from-clause-answered g c t name target h k =
+pub returns-in_err-change-clause-answered : goal.returns-in_err-change-clause-answered
+returns-in_err-change-clause-answered g c t name target h k =
     let w = world_of g.C.Card.reads c.args.units.now (g.H.Host.outside c.args.host.now) in
     let found = read-found c.args.soup c.args.uid h.store h.soup c.in_ok-graph.field-0 c.in_ok-graph.field-0.graph refl h.by_sig (c.in_ok-graph.ensures.read t h.blocks h.store h.on) in
     let entry : Entry = record { uid = c.in_ok-graph.field-0.uid; time = c.in_ok-graph.field-0.time; graph = c.in_ok-graph.field-0.graph } in
     let same = c.in_ok-graph.ensures.world t in
     let there = subst (λ x. OnUnit x c.args.to k.blocks k.store) (sym same) k.on in
-    let was = was-added w c.args.unit c.args.to name target c.args.soup c.args.into c.args.uid h k refl entry found c.requires.apart _ _ _ same (c.in_ok-added.ensures.made t k.blocks k.store k.soup there k.by_sig) in
-    subst (λ r. Answers w (world_of g.C.Card.reads c.remove_from.new.self (g.H.Host.outside c.remove_from.new.host)) (command.Move c.args.unit name c.args.uid c.args.to target) (λ n. Reply.number n) r)
-    (sym (is-err _ _ (err_from_is_err_and c.from_residual-in_err-remove_from.result c.from_residual-in_err-remove_from.ensures.1)))
-    (never-refused w _ _ (change_store (world_of g.C.Card.reads c.add_to.new.self (g.H.Host.outside c.add_to.new.host)) c.args.unit (change_soup h.soup.name (remove_entry c.args.uid))) _ (command.Move c.args.unit name c.args.uid c.args.to target) _ (c.in_err-remove_from.ensures.made t h.blocks h.store h.soup entry (on-then w c.args.unit c.args.to name target c.args.soup c.args.into c.args.uid h k refl entry found c.requires.apart _ _ was) h.by_sig found))
+    let was = was-added w c.args.unit c.args.to name target c.args.soup c.args.into c.args.uid h k refl entry found c.requires.apart _ _ _ same (said-made c.in_ok-added.ensures t there (add-said k.blocks c.read_entry.new.self.minute c.args.into k.store k.soup k.by_sig entry.graph) (λ n. n ≡ k.soup.next_uid) (λ n is. is ∙ added-uid k.blocks c.read_entry.new.self.minute c.args.into k.store k.soup k.by_sig entry.graph)) in
+    subst (λ r. Answers w (world_of g.C.Card.reads c.change-2.new.self (g.H.Host.outside c.change-2.new.host)) (command.Move c.args.unit name c.args.uid c.args.to target) (λ n. Reply.number n) r)
+    (sym (is-err _ _ (err_from_is_err_and c.from_residual-in_err-change.result c.from_residual-in_err-change.ensures.1)))
+    (never-refused w _ _ (change_store (world_of g.C.Card.reads c.change.new.self (g.H.Host.outside c.change.new.host)) c.args.unit (change_soup h.soup.name (remove_entry c.args.uid))) _ (command.Move c.args.unit name c.args.uid c.args.to target) _ (said-made c.in_err-change.ensures t (on-then w c.args.unit c.args.to name target c.args.soup c.args.into c.args.uid h k refl entry found c.requires.apart _ _ was) (remove-said h.blocks c.change.new.self.minute c.args.soup h.store h.soup h.by_sig c.args.uid entry found) (λ _. ⊤) (λ n is. tt)))
 
-pub returns-in_err-remove_from-clause-moments : goal.returns-in_err-remove_from-clause-moments
-returns-in_err-remove_from-clause-moments g c t name target h k =
+pub returns-in_err-change-clause-moments : goal.returns-in_err-change-clause-moments
+returns-in_err-change-clause-moments g c t name target h k =
     let w = world_of g.C.Card.reads c.args.units.now (g.H.Host.outside c.args.host.now) in
     let found = read-found c.args.soup c.args.uid h.store h.soup c.in_ok-graph.field-0 c.in_ok-graph.field-0.graph refl h.by_sig (c.in_ok-graph.ensures.read t h.blocks h.store h.on) in
     let entry : Entry = record { uid = c.in_ok-graph.field-0.uid; time = c.in_ok-graph.field-0.time; graph = c.in_ok-graph.field-0.graph } in
     let same = c.in_ok-graph.ensures.world t in
     let there = subst (λ x. OnUnit x c.args.to k.blocks k.store) (sym same) k.on in
-    let was = was-added w c.args.unit c.args.to name target c.args.soup c.args.into c.args.uid h k refl entry found c.requires.apart _ _ _ same (c.in_ok-added.ensures.made t k.blocks k.store k.soup there k.by_sig) in
-    let way = first-moments w c.args.unit c.args.to name target c.args.soup c.args.into c.args.uid h k refl entry found c.requires.apart g.C.Card.reads _ (g.H.Host.outside c.args.host.now).now (g.H.Host.outside c.read_entry.new.host).now (g.H.Host.outside c.add_to.new.host).now same c.in_ok-graph.ensures.moment
-    (c.in_ok-added.ensures.moments t k.blocks k.store k.soup there k.by_sig (answer_now w (command.Move c.args.unit name c.args.uid c.args.to target)).0 (added-makes w c.args.unit c.args.to name target c.args.soup c.args.into c.args.uid h k refl entry found c.requires.apart _ same)) in
-    both-moments w c.args.unit c.args.to name target c.args.soup c.args.into c.args.uid h k refl entry found c.requires.apart g.C.Card.reads _ _ (g.H.Host.outside c.args.host.now).now (g.H.Host.outside c.add_to.new.host).now (g.H.Host.outside c.remove_from.new.host).now was way
-    (c.in_err-remove_from.ensures.moments t h.blocks h.store h.soup entry (on-then w c.args.unit c.args.to name target c.args.soup c.args.into c.args.uid h k refl entry found c.requires.apart _ _ was) h.by_sig found (answer_now w (command.Move c.args.unit name c.args.uid c.args.to target)).0 (λ _. removed-makes w c.args.unit c.args.to name target c.args.soup c.args.into c.args.uid h k refl entry found c.requires.apart _ _ was))
+    let was = was-added w c.args.unit c.args.to name target c.args.soup c.args.into c.args.uid h k refl entry found c.requires.apart _ _ _ same (said-made c.in_ok-added.ensures t there (add-said k.blocks c.read_entry.new.self.minute c.args.into k.store k.soup k.by_sig entry.graph) (λ n. n ≡ k.soup.next_uid) (λ n is. is ∙ added-uid k.blocks c.read_entry.new.self.minute c.args.into k.store k.soup k.by_sig entry.graph)) in
+    let way = first-moments w c.args.unit c.args.to name target c.args.soup c.args.into c.args.uid h k refl entry found c.requires.apart g.C.Card.reads _ (g.H.Host.outside c.args.host.now).now (g.H.Host.outside c.read_entry.new.host).now (g.H.Host.outside c.change.new.host).now same c.in_ok-graph.ensures.moment
+    (said-moments c.in_ok-added.ensures t there (add-said k.blocks c.read_entry.new.self.minute c.args.into k.store k.soup k.by_sig entry.graph) (answer_now w (command.Move c.args.unit name c.args.uid c.args.to target)).0 (added-makes w c.args.unit c.args.to name target c.args.soup c.args.into c.args.uid h k refl entry found c.requires.apart _ same)) in
+    both-moments w c.args.unit c.args.to name target c.args.soup c.args.into c.args.uid h k refl entry found c.requires.apart g.C.Card.reads _ _ (g.H.Host.outside c.args.host.now).now (g.H.Host.outside c.change.new.host).now (g.H.Host.outside c.change-2.new.host).now was way
+    (said-moments c.in_err-change.ensures t (on-then w c.args.unit c.args.to name target c.args.soup c.args.into c.args.uid h k refl entry found c.requires.apart _ _ was) (remove-said h.blocks c.change.new.self.minute c.args.soup h.store h.soup h.by_sig c.args.uid entry found) (answer_now w (command.Move c.args.unit name c.args.uid c.args.to target)).0 (λ _. removed-makes w c.args.unit c.args.to name target c.args.soup c.args.into c.args.uid h k refl entry found c.requires.apart _ _ was))
 
-pub returns-in_err-remove_from-clause-costs : goal.returns-in_err-remove_from-clause-costs
-returns-in_err-remove_from-clause-costs g c t name target h k =
+pub returns-in_err-change-clause-costs : goal.returns-in_err-change-clause-costs
+returns-in_err-change-clause-costs g c t name target h k =
     let w = world_of g.C.Card.reads c.args.units.now (g.H.Host.outside c.args.host.now) in
     let found = read-found c.args.soup c.args.uid h.store h.soup c.in_ok-graph.field-0 c.in_ok-graph.field-0.graph refl h.by_sig (c.in_ok-graph.ensures.read t h.blocks h.store h.on) in
     let entry : Entry = record { uid = c.in_ok-graph.field-0.uid; time = c.in_ok-graph.field-0.time; graph = c.in_ok-graph.field-0.graph } in
     let same = c.in_ok-graph.ensures.world t in
     let there = subst (λ x. OnUnit x c.args.to k.blocks k.store) (sym same) k.on in
-    let was = was-added w c.args.unit c.args.to name target c.args.soup c.args.into c.args.uid h k refl entry found c.requires.apart _ _ _ same (c.in_ok-added.ensures.made t k.blocks k.store k.soup there k.by_sig) in
-    handed-costs (is-err _ _ (err_from_is_err_and c.from_residual-in_err-remove_from.result c.from_residual-in_err-remove_from.ensures.1))
+    let was = was-added w c.args.unit c.args.to name target c.args.soup c.args.into c.args.uid h k refl entry found c.requires.apart _ _ _ same (said-made c.in_ok-added.ensures t there (add-said k.blocks c.read_entry.new.self.minute c.args.into k.store k.soup k.by_sig entry.graph) (λ n. n ≡ k.soup.next_uid) (λ n is. is ∙ added-uid k.blocks c.read_entry.new.self.minute c.args.into k.store k.soup k.by_sig entry.graph)) in
+    handed-costs (is-err _ _ (err_from_is_err_and c.from_residual-in_err-change.result c.from_residual-in_err-change.ensures.1))
     (whole-costs w c.args.unit c.args.to name target c.args.soup c.args.into c.args.uid h k entry found c.requires.apart _ same c.in_ok-graph.ensures.moment (c.in_ok-graph.ensures.programs_nothing t)
-    (c.in_ok-added.ensures.costs t k.blocks k.store k.soup there k.by_sig) tt was.passed
-    (c.in_err-remove_from.ensures.costs t h.blocks h.store h.soup entry (on-then w c.args.unit c.args.to name target c.args.soup c.args.into c.args.uid h k refl entry found c.requires.apart _ _ was) h.by_sig found))
+    (said-costs c.in_ok-added.ensures t there (add-said k.blocks c.read_entry.new.self.minute c.args.into k.store k.soup k.by_sig entry.graph)) tt was.passed
+    (said-costs c.in_err-change.ensures t (on-then w c.args.unit c.args.to name target c.args.soup c.args.into c.args.uid h k refl entry found c.requires.apart _ _ was) (remove-said h.blocks c.change.new.self.minute c.args.soup h.store h.soup h.by_sig c.args.uid entry found)))
 
 pub returns-clause-answered : goal.returns-clause-answered
 returns-clause-answered g c t name target h k =
@@ -116,8 +120,8 @@ returns-clause-answered g c t name target h k =
     let entry : Entry = record { uid = c.in_ok-graph.field-0.uid; time = c.in_ok-graph.field-0.time; graph = c.in_ok-graph.field-0.graph } in
     let same = c.in_ok-graph.ensures.world t in
     let there = subst (λ x. OnUnit x c.args.to k.blocks k.store) (sym same) k.on in
-    let was = was-added w c.args.unit c.args.to name target c.args.soup c.args.into c.args.uid h k refl entry found c.requires.apart _ _ _ same (c.in_ok-added.ensures.made t k.blocks k.store k.soup there k.by_sig) in
-    between-answers w c.args.unit c.args.to name target c.args.soup c.args.into c.args.uid h k refl entry found c.requires.apart _ _ _ was (c.in_ok-remove_from.ensures.made t h.blocks h.store h.soup entry (on-then w c.args.unit c.args.to name target c.args.soup c.args.into c.args.uid h k refl entry found c.requires.apart _ _ was) h.by_sig found).2
+    let was = was-added w c.args.unit c.args.to name target c.args.soup c.args.into c.args.uid h k refl entry found c.requires.apart _ _ _ same (said-made c.in_ok-added.ensures t there (add-said k.blocks c.read_entry.new.self.minute c.args.into k.store k.soup k.by_sig entry.graph) (λ n. n ≡ k.soup.next_uid) (λ n is. is ∙ added-uid k.blocks c.read_entry.new.self.minute c.args.into k.store k.soup k.by_sig entry.graph)) in
+    between-answers w c.args.unit c.args.to name target c.args.soup c.args.into c.args.uid h k refl entry found c.requires.apart _ _ _ was (said-made c.in_ok-change.ensures t (on-then w c.args.unit c.args.to name target c.args.soup c.args.into c.args.uid h k refl entry found c.requires.apart _ _ was) (remove-said h.blocks c.change.new.self.minute c.args.soup h.store h.soup h.by_sig c.args.uid entry found) (λ _. ⊤) (λ n is. tt)).2
 
 pub returns-clause-moments : goal.returns-clause-moments
 returns-clause-moments g c t name target h k =
@@ -126,11 +130,11 @@ returns-clause-moments g c t name target h k =
     let entry : Entry = record { uid = c.in_ok-graph.field-0.uid; time = c.in_ok-graph.field-0.time; graph = c.in_ok-graph.field-0.graph } in
     let same = c.in_ok-graph.ensures.world t in
     let there = subst (λ x. OnUnit x c.args.to k.blocks k.store) (sym same) k.on in
-    let was = was-added w c.args.unit c.args.to name target c.args.soup c.args.into c.args.uid h k refl entry found c.requires.apart _ _ _ same (c.in_ok-added.ensures.made t k.blocks k.store k.soup there k.by_sig) in
-    let way = first-moments w c.args.unit c.args.to name target c.args.soup c.args.into c.args.uid h k refl entry found c.requires.apart g.C.Card.reads _ (g.H.Host.outside c.args.host.now).now (g.H.Host.outside c.read_entry.new.host).now (g.H.Host.outside c.add_to.new.host).now same c.in_ok-graph.ensures.moment
-    (c.in_ok-added.ensures.moments t k.blocks k.store k.soup there k.by_sig (answer_now w (command.Move c.args.unit name c.args.uid c.args.to target)).0 (added-makes w c.args.unit c.args.to name target c.args.soup c.args.into c.args.uid h k refl entry found c.requires.apart _ same)) in
-    both-moments w c.args.unit c.args.to name target c.args.soup c.args.into c.args.uid h k refl entry found c.requires.apart g.C.Card.reads _ _ (g.H.Host.outside c.args.host.now).now (g.H.Host.outside c.add_to.new.host).now (g.H.Host.outside c.remove_from.new.host).now was way
-    (c.in_ok-remove_from.ensures.moments t h.blocks h.store h.soup entry (on-then w c.args.unit c.args.to name target c.args.soup c.args.into c.args.uid h k refl entry found c.requires.apart _ _ was) h.by_sig found (answer_now w (command.Move c.args.unit name c.args.uid c.args.to target)).0 (λ _. removed-makes w c.args.unit c.args.to name target c.args.soup c.args.into c.args.uid h k refl entry found c.requires.apart _ _ was))
+    let was = was-added w c.args.unit c.args.to name target c.args.soup c.args.into c.args.uid h k refl entry found c.requires.apart _ _ _ same (said-made c.in_ok-added.ensures t there (add-said k.blocks c.read_entry.new.self.minute c.args.into k.store k.soup k.by_sig entry.graph) (λ n. n ≡ k.soup.next_uid) (λ n is. is ∙ added-uid k.blocks c.read_entry.new.self.minute c.args.into k.store k.soup k.by_sig entry.graph)) in
+    let way = first-moments w c.args.unit c.args.to name target c.args.soup c.args.into c.args.uid h k refl entry found c.requires.apart g.C.Card.reads _ (g.H.Host.outside c.args.host.now).now (g.H.Host.outside c.read_entry.new.host).now (g.H.Host.outside c.change.new.host).now same c.in_ok-graph.ensures.moment
+    (said-moments c.in_ok-added.ensures t there (add-said k.blocks c.read_entry.new.self.minute c.args.into k.store k.soup k.by_sig entry.graph) (answer_now w (command.Move c.args.unit name c.args.uid c.args.to target)).0 (added-makes w c.args.unit c.args.to name target c.args.soup c.args.into c.args.uid h k refl entry found c.requires.apart _ same)) in
+    both-moments w c.args.unit c.args.to name target c.args.soup c.args.into c.args.uid h k refl entry found c.requires.apart g.C.Card.reads _ _ (g.H.Host.outside c.args.host.now).now (g.H.Host.outside c.change.new.host).now (g.H.Host.outside c.change-2.new.host).now was way
+    (said-moments c.in_ok-change.ensures t (on-then w c.args.unit c.args.to name target c.args.soup c.args.into c.args.uid h k refl entry found c.requires.apart _ _ was) (remove-said h.blocks c.change.new.self.minute c.args.soup h.store h.soup h.by_sig c.args.uid entry found) (answer_now w (command.Move c.args.unit name c.args.uid c.args.to target)).0 (λ _. removed-makes w c.args.unit c.args.to name target c.args.soup c.args.into c.args.uid h k refl entry found c.requires.apart _ _ was))
 
 pub returns-clause-costs : goal.returns-clause-costs
 returns-clause-costs g c t name target h k =
@@ -139,9 +143,9 @@ returns-clause-costs g c t name target h k =
     let entry : Entry = record { uid = c.in_ok-graph.field-0.uid; time = c.in_ok-graph.field-0.time; graph = c.in_ok-graph.field-0.graph } in
     let same = c.in_ok-graph.ensures.world t in
     let there = subst (λ x. OnUnit x c.args.to k.blocks k.store) (sym same) k.on in
-    let was = was-added w c.args.unit c.args.to name target c.args.soup c.args.into c.args.uid h k refl entry found c.requires.apart _ _ _ same (c.in_ok-added.ensures.made t k.blocks k.store k.soup there k.by_sig) in
+    let was = was-added w c.args.unit c.args.to name target c.args.soup c.args.into c.args.uid h k refl entry found c.requires.apart _ _ _ same (said-made c.in_ok-added.ensures t there (add-said k.blocks c.read_entry.new.self.minute c.args.into k.store k.soup k.by_sig entry.graph) (λ n. n ≡ k.soup.next_uid) (λ n is. is ∙ added-uid k.blocks c.read_entry.new.self.minute c.args.into k.store k.soup k.by_sig entry.graph)) in
     costs-of
     (whole-costs w c.args.unit c.args.to name target c.args.soup c.args.into c.args.uid h k entry found c.requires.apart _ same c.in_ok-graph.ensures.moment (c.in_ok-graph.ensures.programs_nothing t)
-    (c.in_ok-added.ensures.costs t k.blocks k.store k.soup there k.by_sig) tt was.passed
-    (c.in_ok-remove_from.ensures.costs t h.blocks h.store h.soup entry (on-then w c.args.unit c.args.to name target c.args.soup c.args.into c.args.uid h k refl entry found c.requires.apart _ _ was) h.by_sig found))
+    (said-costs c.in_ok-added.ensures t there (add-said k.blocks c.read_entry.new.self.minute c.args.into k.store k.soup k.by_sig entry.graph)) tt was.passed
+    (said-costs c.in_ok-change.ensures t (on-then w c.args.unit c.args.to name target c.args.soup c.args.into c.args.uid h k refl entry found c.requires.apart _ _ was) (remove-said h.blocks c.change.new.self.minute c.args.soup h.store h.soup h.by_sig c.args.uid entry found)))
     (λ _. tt)

@@ -1,10 +1,13 @@
 -- The entry is looked for, and its card moves it.
-use Rattle.std.proofs.Common.{refl, sym}
+use Rattle.std.proofs.Common.{refl, sym, ◌≡◌, ◌∙◌}
 use Rattle.newt_engine_units.specs.Stands.{Stands, world_of}
 use Rattle.newt_engine_commands.proofs.Moves.{inside-answers, inside-by-sig, inside-makes, inside-missing}
 use Rattle.newt_engine_commands.proofs.Costing.{inside-costs}
 use Rattle.newt_engine_units.proofs.Costs.{idle-costs}
 use Rattle.newt_engine_units.proofs.Settings.{Setting, still, stand-told, has-entry}
+use Rattle.newt_laws_answers.proofs.Changes.{move-said}
+use Rattle.newt_laws_answers.proofs.Refusals.{moved-uid}
+use Rattle.newt_engine_commands.proofs.Said.{said-made, said-moments, said-costs}
 use Rattle.newt_engine_commands.proofs.copies.move_inside.Given.{Over}
 use Rattle.newt_engine_commands.proofs.copies.move_inside.Goals as goal
 
@@ -23,14 +26,14 @@ returns-then-has_entry-clause-answered g c t name target h k =
     let w = world_of g.C.Card.reads c.args.units.now (g.H.Host.outside c.args.host.now) in
     let x = has-entry at t c.args.unit name c.args.soup c.args.uid h (sym (c.if-has_entry.ensures (g.H.Host.outside c.args.host.now) at.eight (stand-told at t) h.blocks h.store h.on)) in
     inside-answers w c.args.unit name target c.args.soup c.args.into c.args.uid x k refl _ _
-    (c.move_within.ensures.made t x.of.blocks x.of.store x.of.soup k.soup x.entry x.of.on x.of.by_sig x.found (inside-by-sig w c.args.unit name target c.args.soup c.args.into c.args.uid x k))
+    (said-made c.change.ensures t x.of.on (move-said x.of.blocks w.minute c.args.soup x.of.store x.of.soup x.of.by_sig c.args.uid x.entry x.found c.args.into k.soup (inside-by-sig w c.args.unit name target c.args.soup c.args.into c.args.uid x k)) (λ n. n ≡ k.soup.next_uid) (λ n is. is ∙ moved-uid x.of.blocks w.minute c.args.soup x.of.store x.of.soup x.of.by_sig c.args.uid x.entry x.found c.args.into k.soup (inside-by-sig w c.args.unit name target c.args.soup c.args.into c.args.uid x k)))
 
 pub returns-then-has_entry-clause-moments : goal.returns-then-has_entry-clause-moments
 returns-then-has_entry-clause-moments g c t name target h k =
     let at = begins g c.requires.stands in
     let w = world_of g.C.Card.reads c.args.units.now (g.H.Host.outside c.args.host.now) in
     let x = has-entry at t c.args.unit name c.args.soup c.args.uid h (sym (c.if-has_entry.ensures (g.H.Host.outside c.args.host.now) at.eight (stand-told at t) h.blocks h.store h.on)) in
-    c.move_within.ensures.moments t x.of.blocks x.of.store x.of.soup k.soup x.entry x.of.on x.of.by_sig x.found (inside-by-sig w c.args.unit name target c.args.soup c.args.into c.args.uid x k) _
+    said-moments c.change.ensures t x.of.on (move-said x.of.blocks w.minute c.args.soup x.of.store x.of.soup x.of.by_sig c.args.uid x.entry x.found c.args.into k.soup (inside-by-sig w c.args.unit name target c.args.soup c.args.into c.args.uid x k)) _
     (inside-makes w c.args.unit name target c.args.soup c.args.into c.args.uid x k refl)
 
 pub returns-then-has_entry-clause-costs : goal.returns-then-has_entry-clause-costs
@@ -38,7 +41,7 @@ returns-then-has_entry-clause-costs g c t name target h k =
     let at = begins g c.requires.stands in
     let w = world_of g.C.Card.reads c.args.units.now (g.H.Host.outside c.args.host.now) in
     let x = has-entry at t c.args.unit name c.args.soup c.args.uid h (sym (c.if-has_entry.ensures (g.H.Host.outside c.args.host.now) at.eight (stand-told at t) h.blocks h.store h.on)) in
-    inside-costs x k (c.move_within.ensures.costs t x.of.blocks x.of.store x.of.soup k.soup x.entry x.of.on x.of.by_sig x.found (inside-by-sig w c.args.unit name target c.args.soup c.args.into c.args.uid x k))
+    inside-costs x k (said-costs c.change.ensures t x.of.on (move-said x.of.blocks w.minute c.args.soup x.of.store x.of.soup x.of.by_sig c.args.uid x.entry x.found c.args.into k.soup (inside-by-sig w c.args.unit name target c.args.soup c.args.into c.args.uid x k)))
 
 pub returns-else-has_entry-clause-answered : goal.returns-else-has_entry-clause-answered
 returns-else-has_entry-clause-answered g c t name target h k =

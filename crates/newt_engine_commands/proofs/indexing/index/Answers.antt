@@ -1,17 +1,22 @@
 -- The words are tried, the soup is looked up, its indexes are looked through, and its card declares one more.
-use Rattle.std.proofs.Common.{◌≡◌, refl, ap, sym, ◌∙◌, subst, true}
-use Rattle.std.specs.Prelude.{Ok, Err}
+use Rattle.std.proofs.Common.{ap, refl, subst, sym, true, ◌∙◌, ◌≡◌}
+use Rattle.newt_engine_units.specs.Looks.{known_checks}
 use Rattle.std.proofs.lemmas.Result.{err_from_is_err_and}
-use Rattle.newt_laws_world.specs.Worlds.{parts_fit}
-use Rattle.newt_laws_answers.proofs.Declares.{index-unbuilt, index-not-found}
+use Rattle.newt_engine_units.specs.Stands.{Stands, world_of}
+use Rattle.newt_spec_world.specs.Reply.{Reply}
+use Rattle.newt_spec_world.specs.declared.command.Command.TheVariants as command
+use Rattle.std.specs.Prelude.{Ok, Err}
 use Rattle.newt_spec_store.specs.Keys.{IndexSpec}
 use Rattle.newt_spec_world.specs.Changed.{spec_of_words}
+use Rattle.newt_laws_world.specs.Worlds.{parts_fit}
+use Rattle.newt_laws_answers.proofs.Changes.{index-said}
+use Rattle.newt_laws_answers.proofs.Declares.{index-unbuilt, index-not-found}
 use Rattle.newt_engine_commands.specs.Declares.{MayDeclare}
-use Rattle.newt_engine_units.specs.Stands.{Stands, world_of}
 use Rattle.newt_engine_commands.proofs.Declaring.{index-fails, index-answers, index-makes}
 use Rattle.newt_engine_commands.proofs.Costing.{index-costs}
-use Rattle.newt_engine_units.proofs.Costs.{idle-costs}
-use Rattle.newt_engine_units.proofs.Settings.{Setting, still, stand-told, soup-refused, has-soup, is-err}
+use Rattle.newt_engine_commands.proofs.Obeying.{none-refused, refused-obeys, still-obeys}
+use Rattle.newt_engine_commands.proofs.Said.{said-done, said-moments, said-costs, done-goes, done-cause, done-costs}
+use Rattle.newt_engine_units.proofs.Settings.{Setting, is-err, stand-told, soup-refused, has-soup}
 use Rattle.newt_engine_commands.proofs.indexing.index.Given.{Over}
 use Rattle.newt_engine_commands.proofs.indexing.index.Goals as goal
 
@@ -24,74 +29,56 @@ begins g {units} {host} stand = record {
   stand = stand;
 }
 
-pub returns-then-not-are_parts-clause-answered : goal.returns-then-not-are_parts-clause-answered
-returns-then-not-are_parts-clause-answered g c t =
+pub returns-then-not-are_parts : goal.returns-then-not-are_parts
+returns-then-not-are_parts g c =
     let w = world_of g.C.Card.reads c.args.units.now (g.H.Host.outside c.args.host.now) in
-    index-unbuilt w c.args.unit c.args.name.now c.args.parts.now (ap parts_fit (sym c.list-words.ensures) ∙ sym c.are_parts.ensures ∙ c.if-not-are_parts.true)
+    still-obeys (begins g c.requires) (command.Index c.args.unit c.args.name.now c.args.parts.now) (λ _. Reply.done) _ tt
+    (λ t. index-unbuilt w c.args.unit c.args.name.now c.args.parts.now (ap parts_fit (sym c.list-words.ensures) ∙ sym c.are_parts.ensures ∙ c.if-not-are_parts.true))
 
-pub returns-then-not-are_parts-clause-moments : goal.returns-then-not-are_parts-clause-moments
-returns-then-not-are_parts-clause-moments g c t = still (begins g c.requires) t _ _ refl
-
-pub returns-then-not-are_parts-clause-costs : goal.returns-then-not-are_parts-clause-costs
-returns-then-not-are_parts-clause-costs g c t = idle-costs _ _ _
-
-pub returns-in_err-soup-clause-answered : goal.returns-in_err-soup-clause-answered
-returns-in_err-soup-clause-answered g c t =
-    let w = world_of g.C.Card.reads c.args.units.now (g.H.Host.outside c.args.host.now) in
-    let fit : parts_fit c.args.parts.now ≡ true = ap parts_fit (sym c.list-words.ensures) ∙ sym c.are_parts.ensures ∙ c.if-not-are_parts.false in
-    soup-refused (begins g c.requires) t c.args.unit c.args.name.now _ _ (index-not-found w c.args.unit c.args.name.now c.args.parts.now fit) _ c.in_err-soup.ensures _ (err_from_is_err_and c.from_residual.result c.from_residual.ensures.1)
-
-pub returns-in_err-soup-clause-moments : goal.returns-in_err-soup-clause-moments
-returns-in_err-soup-clause-moments g c t = still (begins g c.requires) t _ _ refl
-
-pub returns-in_err-soup-clause-costs : goal.returns-in_err-soup-clause-costs
-returns-in_err-soup-clause-costs g c t = idle-costs _ _ _
-
-pub returns-in_err-spec-clause-answered : goal.returns-in_err-spec-clause-answered
-returns-in_err-spec-clause-answered g c t =
+pub returns-in_err-soup : goal.returns-in_err-soup
+returns-in_err-soup g c =
     let at = begins g c.requires in
     let w = world_of g.C.Card.reads c.args.units.now (g.H.Host.outside c.args.host.now) in
     let fit : parts_fit c.args.parts.now ≡ true = ap parts_fit (sym c.list-words.ensures) ∙ sym c.are_parts.ensures ∙ c.if-not-are_parts.false in
-    let h = has-soup at t c.args.unit c.args.name.now c.in_ok-soup.soup c.in_ok-soup.ensures in
-    index-fails w w c.args.unit h.blocks h.store h.on refl c.args.name.now h.soup h.named h.name_is c.args.parts.now fit IndexSpec _
-    (subst (λ x. MayDeclare {T = IndexSpec} x h.soup (Err c.in_err-spec.field-0.0)) c.list-words.ensures (c.in_err-spec.ensures.may (g.H.Host.outside c.args.host.now) at.eight (stand-told at t) h.blocks h.store h.soup h.on h.by_sig)) _
-    (is-err _ _ (err_from_is_err_and c.from_residual-in_err-spec.result c.from_residual-in_err-spec.ensures.1))
+    refused-obeys at (command.Index c.args.unit c.args.name.now c.args.parts.now) (λ _. Reply.done) _ (none-refused (known_checks g.C.Card.soups c.args.units.now.slots.items c.args.unit c.args.name.now) _ c.in_err-soup.ensures) _ (err_from_is_err_and c.from_residual.result c.from_residual.ensures.1)
+    (λ t. soup-refused at t c.args.unit c.args.name.now _ _ (index-not-found w c.args.unit c.args.name.now c.args.parts.now fit) _ c.in_err-soup.ensures _ (err_from_is_err_and c.from_residual.result c.from_residual.ensures.1))
 
-pub returns-in_err-spec-clause-moments : goal.returns-in_err-spec-clause-moments
-returns-in_err-spec-clause-moments g c t = still (begins g c.requires) t _ _ refl
-
-pub returns-in_err-spec-clause-costs : goal.returns-in_err-spec-clause-costs
-returns-in_err-spec-clause-costs g c t = idle-costs _ _ _
-
-pub returns-clause-answered : goal.returns-clause-answered
-returns-clause-answered g c t =
+pub returns-in_err-spec : goal.returns-in_err-spec
+returns-in_err-spec g c =
     let at = begins g c.requires in
     let w = world_of g.C.Card.reads c.args.units.now (g.H.Host.outside c.args.host.now) in
     let fit : parts_fit c.args.parts.now ≡ true = ap parts_fit (sym c.list-words.ensures) ∙ sym c.are_parts.ensures ∙ c.if-not-are_parts.false in
-    let h = has-soup at t c.args.unit c.args.name.now c.in_ok-soup.soup c.in_ok-soup.ensures in
-    let may : MayDeclare {T = IndexSpec} c.args.parts.now h.soup (Ok c.in_ok-spec.spec) = subst (λ x. MayDeclare {T = IndexSpec} x h.soup (Ok c.in_ok-spec.spec)) c.list-words.ensures
-    (c.in_ok-spec.ensures.may (g.H.Host.outside c.args.host.now) at.eight (stand-told at t) h.blocks h.store h.soup h.on h.by_sig) in
+    refused-obeys at (command.Index c.args.unit c.args.name.now c.args.parts.now) (λ _. Reply.done) _ c.in_err-spec.ensures.only _ (err_from_is_err_and c.from_residual-in_err-spec.result c.from_residual-in_err-spec.ensures.1) (λ t.
+        let h = has-soup at t c.args.unit c.args.name.now c.in_ok-soup.soup c.in_ok-soup.ensures in
+        index-fails w w c.args.unit h.blocks h.store h.on refl c.args.name.now h.soup h.named h.name_is c.args.parts.now fit IndexSpec _
+        (subst (λ x. MayDeclare {T = IndexSpec} x h.soup (Err c.in_err-spec.field-0.0)) c.list-words.ensures (c.in_err-spec.ensures.may (g.H.Host.outside c.args.host.now) at.eight (stand-told at t) h.blocks h.store h.soup h.on h.by_sig)) _
+        (is-err _ _ (err_from_is_err_and c.from_residual-in_err-spec.result c.from_residual-in_err-spec.ensures.1)))
+
+pub returns : goal.returns
+returns g c =
+    let at = begins g c.requires in
+    let w = world_of g.C.Card.reads c.args.units.now (g.H.Host.outside c.args.host.now) in
+    let e = c.change.ensures in
+    let is = c.done.ensures in
+    let fit : parts_fit c.args.parts.now ≡ true = ap parts_fit (sym c.list-words.ensures) ∙ sym c.are_parts.ensures ∙ c.if-not-are_parts.false in
     let words : c.in_ok-spec.spec ≡ spec_of_words c.args.parts.now = c.in_ok-spec.ensures.made ∙ ap spec_of_words c.list-words.ensures in
-    index-answers w _ c.args.unit h.blocks h.store h.on refl c.args.name.now h.soup h.named h.name_is c.args.parts.now fit c.in_ok-spec.spec words may.0 may.1 _
-    (c.add_index_to.ensures.made t h.blocks h.store h.soup h.on h.by_sig)
-
-pub returns-clause-moments : goal.returns-clause-moments
-returns-clause-moments g c t =
-    let at = begins g c.requires in
-    let w = world_of g.C.Card.reads c.args.units.now (g.H.Host.outside c.args.host.now) in
-    let fit : parts_fit c.args.parts.now ≡ true = ap parts_fit (sym c.list-words.ensures) ∙ sym c.are_parts.ensures ∙ c.if-not-are_parts.false in
-    let h = has-soup at t c.args.unit c.args.name.now c.in_ok-soup.soup c.in_ok-soup.ensures in
-    let may : MayDeclare {T = IndexSpec} c.args.parts.now h.soup (Ok c.in_ok-spec.spec) = subst (λ x. MayDeclare {T = IndexSpec} x h.soup (Ok c.in_ok-spec.spec)) c.list-words.ensures
-    (c.in_ok-spec.ensures.may (g.H.Host.outside c.args.host.now) at.eight (stand-told at t) h.blocks h.store h.soup h.on h.by_sig) in
-    let words : c.in_ok-spec.spec ≡ spec_of_words c.args.parts.now = c.in_ok-spec.ensures.made ∙ ap spec_of_words c.list-words.ensures in
-    c.add_index_to.ensures.moments t h.blocks h.store h.soup h.on h.by_sig _
-    (index-makes w w c.args.unit h.blocks h.store h.on refl c.args.name.now h.soup h.named h.name_is c.args.parts.now fit c.in_ok-spec.spec words may.0 may.1)
-
-pub returns-clause-costs : goal.returns-clause-costs
-returns-clause-costs g c t =
-    let at = begins g c.requires in
-    let fit : parts_fit c.args.parts.now ≡ true = ap parts_fit (sym c.list-words.ensures) ∙ sym c.are_parts.ensures ∙ c.if-not-are_parts.false in
-    let h = has-soup at t c.args.unit c.args.name.now c.in_ok-soup.soup c.in_ok-soup.ensures in
-    let may : MayDeclare {T = IndexSpec} c.args.parts.now h.soup (Ok c.in_ok-spec.spec) = subst (λ x. MayDeclare {T = IndexSpec} x h.soup (Ok c.in_ok-spec.spec)) c.list-words.ensures
-    (c.in_ok-spec.ensures.may (g.H.Host.outside c.args.host.now) at.eight (stand-told at t) h.blocks h.store h.soup h.on h.by_sig) in
-    index-costs h c.args.parts.now fit may.0 may.1 c.in_ok-spec.spec (c.in_ok-spec.ensures.made ∙ ap spec_of_words c.list-words.ensures) (c.add_index_to.ensures.costs t h.blocks h.store h.soup h.on h.by_sig)
+    record {
+      stands = λ goes. e.stands (done-goes c.change.result is goes);
+      answered = λ t.
+          let h = has-soup at t c.args.unit c.args.name.now c.in_ok-soup.soup c.in_ok-soup.ensures in
+          let may : MayDeclare {T = IndexSpec} c.args.parts.now h.soup (Ok c.in_ok-spec.spec) = subst (λ x. MayDeclare {T = IndexSpec} x h.soup (Ok c.in_ok-spec.spec)) c.list-words.ensures
+              (c.in_ok-spec.ensures.may (g.H.Host.outside c.args.host.now) at.eight (stand-told at t) h.blocks h.store h.soup h.on h.by_sig) in
+          index-answers w _ c.args.unit h.blocks h.store h.on refl c.args.name.now h.soup h.named h.name_is c.args.parts.now fit c.in_ok-spec.spec words may.0 may.1 _ (said-done e t h.on (index-said h.blocks w.minute c.in_ok-soup.soup h.store h.soup h.by_sig c.in_ok-spec.spec) _ is);
+      moments = λ t.
+          let h = has-soup at t c.args.unit c.args.name.now c.in_ok-soup.soup c.in_ok-soup.ensures in
+          let may : MayDeclare {T = IndexSpec} c.args.parts.now h.soup (Ok c.in_ok-spec.spec) = subst (λ x. MayDeclare {T = IndexSpec} x h.soup (Ok c.in_ok-spec.spec)) c.list-words.ensures
+              (c.in_ok-spec.ensures.may (g.H.Host.outside c.args.host.now) at.eight (stand-told at t) h.blocks h.store h.soup h.on h.by_sig) in
+          said-moments e t h.on (index-said h.blocks w.minute c.in_ok-soup.soup h.store h.soup h.by_sig c.in_ok-spec.spec) _ (index-makes w w c.args.unit h.blocks h.store h.on refl c.args.name.now h.soup h.named h.name_is c.args.parts.now fit c.in_ok-spec.spec words may.0 may.1);
+      costs = λ t.
+          let h = has-soup at t c.args.unit c.args.name.now c.in_ok-soup.soup c.in_ok-soup.ensures in
+          let may : MayDeclare {T = IndexSpec} c.args.parts.now h.soup (Ok c.in_ok-spec.spec) = subst (λ x. MayDeclare {T = IndexSpec} x h.soup (Ok c.in_ok-spec.spec)) c.list-words.ensures
+              (c.in_ok-spec.ensures.may (g.H.Host.outside c.args.host.now) at.eight (stand-told at t) h.blocks h.store h.soup h.on h.by_sig) in
+          index-costs h c.args.parts.now fit may.0 may.1 c.in_ok-spec.spec words (done-costs c.change.result is (said-costs e t h.on (index-said h.blocks w.minute c.in_ok-soup.soup h.store h.soup h.by_sig c.in_ok-spec.spec)));
+      alone = e.alone;
+      cause = done-cause c.change.result is _ e.cause;
+    }

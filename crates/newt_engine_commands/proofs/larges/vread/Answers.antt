@@ -1,18 +1,20 @@
--- The soup is looked up, the entry is read, and so are bytes of its graph.
-use Rattle.std.proofs.Common.{◌≡◌, refl, subst, Some, option_and_then}
-use Rattle.std.specs.Prelude.{Err}
+-- The soup is looked up, the entry is read, and its large binary.
+use Rattle.std.proofs.Common.{Some, refl, subst, ◌≡◌}
+use Rattle.newt_engine_units.specs.Looks.{known_checks}
 use Rattle.std.proofs.lemmas.Result.{err_from_is_err_and}
-use Rattle.newt_spec_store.specs.Store.{Entry, entry_of}
+use Rattle.newt_engine_units.specs.Stands.{Stands, world_of}
 use Rattle.newt_spec_world.specs.Reply.{Reply}
 use Rattle.newt_spec_world.specs.declared.command.Command.TheVariants as command
+use Rattle.std.specs.Prelude.{Err}
+use Rattle.std.specs.Option.{option_and_then}
+use Rattle.newt_spec_store.specs.Store.{Entry, entry_of}
+use Rattle.newt_store_change.specs.Entries.{ReadsEntry}
 use Rattle.newt_laws_answers.proofs.Entries.{no-soup}
 use Rattle.newt_laws_answers.proofs.Larges.{vread-not-found}
-use Rattle.newt_engine_card.specs.Cards.{ReadsEntry}
-use Rattle.newt_engine_units.specs.Stands.{Stands, world_of}
-use Rattle.newt_engine_commands.proofs.Commands.{read-found}
 use Rattle.newt_engine_commands.proofs.Binaries.{missing, vread-answers}
-use Rattle.newt_engine_units.proofs.Costs.{idle-costs, read-costs}
-use Rattle.newt_engine_units.proofs.Settings.{Setting, is-err, still, soup-refused, has-soup}
+use Rattle.newt_engine_commands.proofs.Commands.{read-found}
+use Rattle.newt_engine_commands.proofs.Obeying.{handed, none-cause, none-refused, refused-obeys, read-obeys}
+use Rattle.newt_engine_units.proofs.Settings.{Setting, is-err, soup-refused, has-soup}
 use Rattle.newt_engine_commands.proofs.larges.vread.Given.{Over}
 use Rattle.newt_engine_commands.proofs.larges.vread.Goals as goal
 
@@ -25,42 +27,32 @@ begins g {units} {host} stand = record {
   stand = stand;
 }
 
-pub returns-in_err-soup-clause-answered : goal.returns-in_err-soup-clause-answered
-returns-in_err-soup-clause-answered g c t =
+pub returns-in_err-soup : goal.returns-in_err-soup
+returns-in_err-soup g c =
+    let at = begins g c.requires in
     let w = world_of g.C.Card.reads c.args.units.now (g.H.Host.outside c.args.host.now) in
-    soup-refused (begins g c.requires) t c.args.unit c.args.name.now _ _ (λ r k. vread-not-found w c.args.unit c.args.name.now c.args.uid r (no-soup w c.args.unit c.args.name.now c.args.uid r k) c.args.path.now c.args.at c.args.len) _ c.in_err-soup.ensures _ (err_from_is_err_and c.from_residual.result c.from_residual.ensures.1)
+    refused-obeys at (command.Vread c.args.unit c.args.name.now c.args.uid c.args.path.now c.args.at c.args.len) (λ bytes. Reply.hex bytes) _ (none-refused (known_checks g.C.Card.soups c.args.units.now.slots.items c.args.unit c.args.name.now) _ c.in_err-soup.ensures) _ (err_from_is_err_and c.from_residual.result c.from_residual.ensures.1)
+    (λ t. soup-refused at t c.args.unit c.args.name.now _ _ (λ r k. vread-not-found w c.args.unit c.args.name.now c.args.uid r (no-soup w c.args.unit c.args.name.now c.args.uid r k) c.args.path.now c.args.at c.args.len) _ c.in_err-soup.ensures _ (err_from_is_err_and c.from_residual.result c.from_residual.ensures.1))
 
-pub returns-in_err-soup-clause-moments : goal.returns-in_err-soup-clause-moments
-returns-in_err-soup-clause-moments g c t = still (begins g c.requires) t _ _ refl
-
-pub returns-in_err-soup-clause-costs : goal.returns-in_err-soup-clause-costs
-returns-in_err-soup-clause-costs g c t = idle-costs _ _ _
-
-pub returns-in_err-graph-clause-answered : goal.returns-in_err-graph-clause-answered
-returns-in_err-graph-clause-answered g c t =
+pub returns-in_err-graph : goal.returns-in_err-graph
+returns-in_err-graph g c =
+    let at = begins g c.requires in
     let w = world_of g.C.Card.reads c.args.units.now (g.H.Host.outside c.args.host.now) in
-    let h = has-soup (begins g c.requires) t c.args.unit c.args.name.now c.in_ok-soup.soup c.in_ok-soup.ensures in
-    missing w _ c.args.unit h.blocks h.store c.args.name.now h.soup c.args.uid h.on h.named (command.Vread c.args.unit c.args.name.now c.args.uid c.args.path.now c.args.at c.args.len) (λ bytes. Reply.hex bytes)
-    (λ r k. vread-not-found w c.args.unit c.args.name.now c.args.uid r k c.args.path.now c.args.at c.args.len) (c.in_err-graph.ensures.world t) c.in_err-graph.field-0.0
-    (subst (λ p. ReadsEntry (option_and_then (entry_of c.args.uid) p) (Err c.in_err-graph.field-0.0)) h.by_sig (c.in_err-graph.ensures.read t h.blocks h.store h.on)) _ (is-err _ _ (err_from_is_err_and c.from_residual-in_err-graph.result c.from_residual-in_err-graph.ensures.1))
+    let e = c.in_err-graph.ensures in
+    read-obeys at (command.Vread c.args.unit c.args.name.now c.args.uid c.args.path.now c.args.at c.args.len) (λ bytes. Reply.hex bytes) e.stands e.moment e.programs_nothing e.alone _ (handed _ _ _ (err_from_is_err_and c.from_residual-in_err-graph.result c.from_residual-in_err-graph.ensures.1) e.cause)
+    (λ t. 
+        let h = has-soup at t c.args.unit c.args.name.now c.in_ok-soup.soup c.in_ok-soup.ensures in
+        missing w _ c.args.unit h.blocks h.store c.args.name.now h.soup c.args.uid h.on h.named (command.Vread c.args.unit c.args.name.now c.args.uid c.args.path.now c.args.at c.args.len) (λ bytes. Reply.hex bytes)
+        (λ r k. vread-not-found w c.args.unit c.args.name.now c.args.uid r k c.args.path.now c.args.at c.args.len) (e.world t) c.in_err-graph.field-0.0
+        (subst (λ p. ReadsEntry (option_and_then (entry_of c.args.uid) p) (Err c.in_err-graph.field-0.0)) h.by_sig (e.read t h.blocks h.store h.on)) _ (is-err _ _ (err_from_is_err_and c.from_residual-in_err-graph.result c.from_residual-in_err-graph.ensures.1)))
 
-pub returns-in_err-graph-clause-moments : goal.returns-in_err-graph-clause-moments
-returns-in_err-graph-clause-moments g c t = still (begins g c.requires) t _ _ c.in_err-graph.ensures.moment
-
-pub returns-in_err-graph-clause-costs : goal.returns-in_err-graph-clause-costs
-returns-in_err-graph-clause-costs g c t = read-costs _ _ c.in_err-graph.ensures.moment (c.in_err-graph.ensures.programs_nothing t)
-
-pub returns-clause-answered : goal.returns-clause-answered
-returns-clause-answered g c t =
+pub returns : goal.returns
+returns g c =
+    let at = begins g c.requires in
     let w = world_of g.C.Card.reads c.args.units.now (g.H.Host.outside c.args.host.now) in
-    let h = has-soup (begins g c.requires) t c.args.unit c.args.name.now c.in_ok-soup.soup c.in_ok-soup.ensures in
-    let e : Entry = record { uid = c.in_ok-graph.field-0.uid; time = c.in_ok-graph.field-0.time; graph = c.in_ok-graph.field-0.graph } in
-    let found : entry_of c.args.uid h.soup ≡ Some e = read-found c.in_ok-soup.soup c.args.uid h.store h.soup c.in_ok-graph.field-0 c.in_ok-graph.field-0.graph refl h.by_sig (c.in_ok-graph.ensures.read t h.blocks h.store h.on) in
-    let same = c.in_ok-graph.ensures.world t in
-    vread-answers w _ c.args.unit h.blocks h.store h.on refl c.args.name.now h.soup h.named h.name_is c.args.uid e found c.args.path.now c.args.at c.args.len same _ c.read_large.ensures.read
-
-pub returns-clause-moments : goal.returns-clause-moments
-returns-clause-moments g c t = still (begins g c.requires) t _ _ c.in_ok-graph.ensures.moment
-
-pub returns-clause-costs : goal.returns-clause-costs
-returns-clause-costs g c t = read-costs _ _ c.in_ok-graph.ensures.moment (c.in_ok-graph.ensures.programs_nothing t)
+    let e = c.in_ok-graph.ensures in
+    read-obeys at (command.Vread c.args.unit c.args.name.now c.args.uid c.args.path.now c.args.at c.args.len) (λ bytes. Reply.hex bytes) e.stands e.moment e.programs_nothing e.alone _ (none-cause _ _ _ c.read_large.ensures.only) (λ t.
+        let h = has-soup at t c.args.unit c.args.name.now c.in_ok-soup.soup c.in_ok-soup.ensures in
+        let x : Entry = record { uid = c.in_ok-graph.field-0.uid; time = c.in_ok-graph.field-0.time; graph = c.in_ok-graph.field-0.graph } in
+        let found : entry_of c.args.uid h.soup ≡ Some x = read-found c.in_ok-soup.soup c.args.uid h.store h.soup c.in_ok-graph.field-0 c.in_ok-graph.field-0.graph refl h.by_sig (c.in_ok-graph.ensures.read t h.blocks h.store h.on) in
+        vread-answers w _ c.args.unit h.blocks h.store h.on refl c.args.name.now h.soup h.named h.name_is c.args.uid x found c.args.path.now c.args.at c.args.len (e.world t) _ c.read_large.ensures.read)

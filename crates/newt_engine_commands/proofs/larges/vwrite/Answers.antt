@@ -1,27 +1,32 @@
--- The soup is looked up, the entry is read, and its card writes over the large binary that the path reaches.
-use Rattle.std.proofs.Common.{◌≡◌, refl, sym, subst, Some, option_and_then, length}
-use Rattle.std.specs.Prelude.{Err}
-use Rattle.std.specs.Bool.{⊤}
+-- The soup is looked up, the entry is read, its large binary is found, and its card puts the bytes over it.
+use Rattle.std.proofs.Common.{Some, length, refl, subst, sym, ◌≡◌}
+use Rattle.newt_engine_units.specs.Looks.{known_checks}
 use Rattle.std.proofs.lemmas.Result.{err_from_is_err_and}
-use Rattle.newt_host.specs.Moments.{Moment, Always}
-use Rattle.newt_spec_store.specs.Store.{Entry, entry_of}
+use Rattle.newt_engine_units.specs.Stands.{Stands, world_of}
 use Rattle.newt_spec_world.specs.Reply.{Reply}
-use Rattle.newt_spec_world.specs.World.{World, change_store}
 use Rattle.newt_spec_world.specs.declared.command.Command.TheVariants as command
+use Rattle.std.specs.Prelude.{Err}
+use Rattle.std.specs.Option.{option_and_then}
+use Rattle.newt_spec_store.specs.Store.{Entry, entry_of}
+use Rattle.newt_store_change.specs.Entries.{ReadsEntry}
+use Rattle.std.specs.Bool.{⊤}
+use Rattle.newt_host.specs.Moments.{Moment, Always}
+use Rattle.newt_host.proofs.Outside.{OnDevices-append}
+use Rattle.newt_spec_world.specs.World.{World, change_store}
+use Rattle.newt_store_change.specs.Faults.{Does}
 use Rattle.newt_laws_answers.specs.Answering.{Answering}
 use Rattle.newt_laws_answers.specs.Spoken.{answer_now}
 use Rattle.newt_laws_answers.specs.Tests.{patch_tests, patched_within}
 use Rattle.newt_laws_answers.specs.There.{OnUnit}
+use Rattle.newt_laws_answers.proofs.Changes.{patch-said}
 use Rattle.newt_laws_answers.proofs.Entries.{no-soup}
 use Rattle.newt_laws_answers.proofs.Larges.{vwrite-not-found}
-use Rattle.newt_engine_card.specs.Cards.{ReadsEntry}
-use Rattle.newt_engine_card.specs.Faults.{Does}
-use Rattle.newt_engine_units.specs.Stands.{Stands, world_of}
-use Rattle.newt_engine_commands.proofs.Commands.{read-found}
 use Rattle.newt_engine_commands.proofs.Binaries.{missing, reached, vwrite-answers, vwrite-makes, vwrite-nowhere}
+use Rattle.newt_engine_commands.proofs.Commands.{read-found}
 use Rattle.newt_engine_commands.proofs.Costing.{vwrite-costs}
-use Rattle.newt_engine_units.proofs.Costs.{idle-costs, read-costs}
-use Rattle.newt_engine_units.proofs.Settings.{Setting, is-err, still, soup-refused, has-soup}
+use Rattle.newt_engine_commands.proofs.Obeying.{cause-after, handed, none-refused, refused-obeys, read-obeys}
+use Rattle.newt_engine_commands.proofs.Said.{said-done, said-moments, said-costs, done-goes, done-cause, done-costs}
+use Rattle.newt_engine_units.proofs.Settings.{Setting, is-err, soup-refused, has-soup}
 use Rattle.newt_engine_commands.proofs.larges.vwrite.Given.{Over}
 use Rattle.newt_engine_commands.proofs.larges.vwrite.Goals as goal
 
@@ -34,81 +39,74 @@ begins g {units} {host} stand = record {
   stand = stand;
 }
 
-pub returns-in_err-soup-clause-answered : goal.returns-in_err-soup-clause-answered
-returns-in_err-soup-clause-answered g c t =
+pub returns-in_err-soup : goal.returns-in_err-soup
+returns-in_err-soup g c =
+    let at = begins g c.requires in
     let w = world_of g.C.Card.reads c.args.units.now (g.H.Host.outside c.args.host.now) in
-    soup-refused (begins g c.requires) t c.args.unit c.args.name.now _ _ (λ r k. vwrite-not-found w c.args.unit c.args.name.now c.args.uid r (no-soup w c.args.unit c.args.name.now c.args.uid r k) c.args.path.now c.args.at c.args.bytes.now) _ c.in_err-soup.ensures _ (err_from_is_err_and c.from_residual.result c.from_residual.ensures.1)
+    refused-obeys at (command.Vwrite c.args.unit c.args.name.now c.args.uid c.args.path.now c.args.at c.args.bytes) (λ _. Reply.done) _ (none-refused (known_checks g.C.Card.soups c.args.units.now.slots.items c.args.unit c.args.name.now) _ c.in_err-soup.ensures) _ (err_from_is_err_and c.from_residual.result c.from_residual.ensures.1)
+    (λ t. soup-refused at t c.args.unit c.args.name.now _ _ (λ r k. vwrite-not-found w c.args.unit c.args.name.now c.args.uid r (no-soup w c.args.unit c.args.name.now c.args.uid r k) c.args.path.now c.args.at c.args.bytes) _ c.in_err-soup.ensures _ (err_from_is_err_and c.from_residual.result c.from_residual.ensures.1))
 
-pub returns-in_err-soup-clause-moments : goal.returns-in_err-soup-clause-moments
-returns-in_err-soup-clause-moments g c t = still (begins g c.requires) t _ _ refl
-
-pub returns-in_err-soup-clause-costs : goal.returns-in_err-soup-clause-costs
-returns-in_err-soup-clause-costs g c t = idle-costs _ _ _
-
-pub returns-in_err-graph-clause-answered : goal.returns-in_err-graph-clause-answered
-returns-in_err-graph-clause-answered g c t =
+pub returns-in_err-graph : goal.returns-in_err-graph
+returns-in_err-graph g c =
+    let at = begins g c.requires in
     let w = world_of g.C.Card.reads c.args.units.now (g.H.Host.outside c.args.host.now) in
-    let h = has-soup (begins g c.requires) t c.args.unit c.args.name.now c.in_ok-soup.soup c.in_ok-soup.ensures in
-    missing w _ c.args.unit h.blocks h.store c.args.name.now h.soup c.args.uid h.on h.named (command.Vwrite c.args.unit c.args.name.now c.args.uid c.args.path.now c.args.at c.args.bytes.now) (λ _. Reply.done)
-    (λ r k. vwrite-not-found w c.args.unit c.args.name.now c.args.uid r k c.args.path.now c.args.at c.args.bytes.now) (c.in_err-graph.ensures.world t) c.in_err-graph.field-0.0
-    (subst (λ p. ReadsEntry (option_and_then (entry_of c.args.uid) p) (Err c.in_err-graph.field-0.0)) h.by_sig (c.in_err-graph.ensures.read t h.blocks h.store h.on)) _ (is-err _ _ (err_from_is_err_and c.from_residual-in_err-graph.result c.from_residual-in_err-graph.ensures.1))
+    let e = c.in_err-graph.ensures in
+    read-obeys at (command.Vwrite c.args.unit c.args.name.now c.args.uid c.args.path.now c.args.at c.args.bytes) (λ _. Reply.done) e.stands e.moment e.programs_nothing e.alone _ (handed _ _ _ (err_from_is_err_and c.from_residual-in_err-graph.result c.from_residual-in_err-graph.ensures.1) e.cause)
+    (λ t. 
+        let h = has-soup at t c.args.unit c.args.name.now c.in_ok-soup.soup c.in_ok-soup.ensures in
+        missing w _ c.args.unit h.blocks h.store c.args.name.now h.soup c.args.uid h.on h.named (command.Vwrite c.args.unit c.args.name.now c.args.uid c.args.path.now c.args.at c.args.bytes) (λ _. Reply.done)
+        (λ r k. vwrite-not-found w c.args.unit c.args.name.now c.args.uid r k c.args.path.now c.args.at c.args.bytes) (e.world t) c.in_err-graph.field-0.0
+        (subst (λ p. ReadsEntry (option_and_then (entry_of c.args.uid) p) (Err c.in_err-graph.field-0.0)) h.by_sig (e.read t h.blocks h.store h.on)) _ (is-err _ _ (err_from_is_err_and c.from_residual-in_err-graph.result c.from_residual-in_err-graph.ensures.1)))
 
-pub returns-in_err-graph-clause-moments : goal.returns-in_err-graph-clause-moments
-returns-in_err-graph-clause-moments g c t = still (begins g c.requires) t _ _ c.in_err-graph.ensures.moment
-
-pub returns-in_err-graph-clause-costs : goal.returns-in_err-graph-clause-costs
-returns-in_err-graph-clause-costs g c t = read-costs _ _ c.in_err-graph.ensures.moment (c.in_err-graph.ensures.programs_nothing t)
-
-pub returns-in-Some-clause-answered : goal.returns-in-Some-clause-answered
-returns-in-Some-clause-answered g c t =
+pub returns-in-Some : goal.returns-in-Some
+returns-in-Some g c =
+    let at = begins g c.requires in
+    let o = g.H.Host.outside in
     let w = world_of g.C.Card.reads c.args.units.now (g.H.Host.outside c.args.host.now) in
-    let h = has-soup (begins g c.requires) t c.args.unit c.args.name.now c.in_ok-soup.soup c.in_ok-soup.ensures in
-    let e : Entry = record { uid = c.in_ok-graph.field-0.uid; time = c.in_ok-graph.field-0.time; graph = c.in_ok-graph.field-0.graph } in
-    let found : entry_of c.args.uid h.soup ≡ Some e = read-found c.in_ok-soup.soup c.args.uid h.store h.soup c.in_ok-graph.field-0 c.in_ok-graph.field-0.graph refl h.by_sig (c.in_ok-graph.ensures.read t h.blocks h.store h.on) in
-    let same = c.in_ok-graph.ensures.world t in
+    let read = c.in_ok-graph.ensures in
+    let e = c.change.ensures in
+    let is = c.done.ensures in
     let reach = sym c.in-Some.ensures in
-    let binary = reached e.graph c.args.path.now c.in-Some.node reach in
-    vwrite-answers w _ c.args.unit h.blocks h.store h.on refl c.args.name.now h.soup h.named h.name_is c.args.uid e found c.args.path.now c.args.at c.args.bytes.now c.in-Some.node reach _
-    (subst (λ (x : World). Does (patch_tests c.in-Some.node c.args.at (length c.args.bytes.now) e) (λ _. ⊤) x (change_store x c.args.unit (patched_within h.soup.name c.args.uid c.in-Some.node c.args.at c.args.bytes.now)) (world_of g.C.Card.reads c.patch_in.new.self (g.H.Host.outside c.patch_in.new.host)) c.patch_in.result) same
-    (c.patch_in.ensures.made t h.blocks h.store h.soup e binary.0 binary.1 (subst (λ x. OnUnit x c.args.unit h.blocks h.store) (sym same) h.on) h.by_sig found binary.2))
+    let binary = reached c.in_ok-graph.field-0.graph c.args.path.now c.in-Some.node reach in
+    record {
+      stands = λ goes. e.stands (done-goes c.change.result is goes);
+      answered = λ t.
+          let h = has-soup at t c.args.unit c.args.name.now c.in_ok-soup.soup c.in_ok-soup.ensures in
+          let x : Entry = record { uid = c.in_ok-graph.field-0.uid; time = c.in_ok-graph.field-0.time; graph = c.in_ok-graph.field-0.graph } in
+          let found : entry_of c.args.uid h.soup ≡ Some x = read-found c.in_ok-soup.soup c.args.uid h.store h.soup c.in_ok-graph.field-0 c.in_ok-graph.field-0.graph refl h.by_sig (c.in_ok-graph.ensures.read t h.blocks h.store h.on) in
+          let same = read.world t in
+          vwrite-answers w _ c.args.unit h.blocks h.store h.on refl c.args.name.now h.soup h.named h.name_is c.args.uid x found c.args.path.now c.args.at c.args.bytes c.in-Some.node reach _
+          (subst (λ (y : World). Does (patch_tests c.in-Some.node c.args.at (length c.args.bytes) x) (λ _. ⊤) y (change_store y c.args.unit (patched_within h.soup.name c.args.uid c.in-Some.node c.args.at c.args.bytes)) (world_of g.C.Card.reads c.change.new.self (o c.change.new.host)) c.done.result) same
+          (said-done e t (subst (λ y. OnUnit y c.args.unit h.blocks h.store) (sym same) h.on) (patch-said h.blocks c.read_entry.new.self.minute c.in_ok-soup.soup h.store h.soup h.by_sig c.args.uid x found c.in-Some.node c.args.at c.args.bytes binary.0 binary.1 binary.2) _ is));
+      moments = λ t.
+          let h = has-soup at t c.args.unit c.args.name.now c.in_ok-soup.soup c.in_ok-soup.ensures in
+          let x : Entry = record { uid = c.in_ok-graph.field-0.uid; time = c.in_ok-graph.field-0.time; graph = c.in_ok-graph.field-0.graph } in
+          let found : entry_of c.args.uid h.soup ≡ Some x = read-found c.in_ok-soup.soup c.args.uid h.store h.soup c.in_ok-graph.field-0 c.in_ok-graph.field-0.graph refl h.by_sig (c.in_ok-graph.ensures.read t h.blocks h.store h.on) in
+          let same = read.world t in
+          let v = (answer_now w (command.Vwrite c.args.unit c.args.name.now c.args.uid c.args.path.now c.args.at c.args.bytes)).0 in
+          subst (λ (m : Moment). Always (Answering g.C.Card.reads w v m) m (o c.change.new.host).now) read.moment
+          (subst (λ (y : World). Always (Answering g.C.Card.reads y v (o c.read_entry.new.host).now) (o c.read_entry.new.host).now (o c.change.new.host).now) same
+          (said-moments e t (subst (λ y. OnUnit y c.args.unit h.blocks h.store) (sym same) h.on) (patch-said h.blocks c.read_entry.new.self.minute c.in_ok-soup.soup h.store h.soup h.by_sig c.args.uid x found c.in-Some.node c.args.at c.args.bytes binary.0 binary.1 binary.2) v
+          (vwrite-makes w w c.args.unit h.blocks h.store h.on refl c.args.name.now h.soup h.named h.name_is c.args.uid x found c.args.path.now c.args.at c.args.bytes c.in-Some.node reach)));
+      costs = λ t.
+          let h = has-soup at t c.args.unit c.args.name.now c.in_ok-soup.soup c.in_ok-soup.ensures in
+          let x : Entry = record { uid = c.in_ok-graph.field-0.uid; time = c.in_ok-graph.field-0.time; graph = c.in_ok-graph.field-0.graph } in
+          let found : entry_of c.args.uid h.soup ≡ Some x = read-found c.in_ok-soup.soup c.args.uid h.store h.soup c.in_ok-graph.field-0 c.in_ok-graph.field-0.graph refl h.by_sig (c.in_ok-graph.ensures.read t h.blocks h.store h.on) in
+          let same = read.world t in
+          vwrite-costs h c.args.uid x found _ same read.moment (read.programs_nothing t) c.args.path.now c.args.at c.in-Some.node reach c.args.bytes
+          (done-costs c.change.result is (said-costs e t (subst (λ y. OnUnit y c.args.unit h.blocks h.store) (sym same) h.on) (patch-said h.blocks c.read_entry.new.self.minute c.in_ok-soup.soup h.store h.soup h.by_sig c.args.uid x found c.in-Some.node c.args.at c.args.bytes binary.0 binary.1 binary.2)));
+      alone = OnDevices-append read.alone e.alone;
+      cause = cause-after _ _ read.alone (done-cause c.change.result is _ e.cause);
+    }
 
-pub returns-in-Some-clause-moments : goal.returns-in-Some-clause-moments
-returns-in-Some-clause-moments g c t =
+pub returns-in-None : goal.returns-in-None
+returns-in-None g c =
+    let at = begins g c.requires in
     let w = world_of g.C.Card.reads c.args.units.now (g.H.Host.outside c.args.host.now) in
-    let h = has-soup (begins g c.requires) t c.args.unit c.args.name.now c.in_ok-soup.soup c.in_ok-soup.ensures in
-    let e : Entry = record { uid = c.in_ok-graph.field-0.uid; time = c.in_ok-graph.field-0.time; graph = c.in_ok-graph.field-0.graph } in
-    let found : entry_of c.args.uid h.soup ≡ Some e = read-found c.in_ok-soup.soup c.args.uid h.store h.soup c.in_ok-graph.field-0 c.in_ok-graph.field-0.graph refl h.by_sig (c.in_ok-graph.ensures.read t h.blocks h.store h.on) in
-    let same = c.in_ok-graph.ensures.world t in
-    let reach = sym c.in-Some.ensures in
-    let binary = reached e.graph c.args.path.now c.in-Some.node reach in
-    let v = (answer_now w (command.Vwrite c.args.unit c.args.name.now c.args.uid c.args.path.now c.args.at c.args.bytes.now)).0 in
-    let way = c.patch_in.ensures.moments t h.blocks h.store h.soup e binary.0 binary.1 (subst (λ x. OnUnit x c.args.unit h.blocks h.store) (sym same) h.on) h.by_sig found binary.2 v
-    (vwrite-makes w w c.args.unit h.blocks h.store h.on refl c.args.name.now h.soup h.named h.name_is c.args.uid e found c.args.path.now c.args.at c.args.bytes.now c.in-Some.node reach) in
-    subst (λ (m : Moment). Always (Answering g.C.Card.reads w v m) m (g.H.Host.outside c.patch_in.new.host).now) c.in_ok-graph.ensures.moment
-    (subst (λ (x : World). Always (Answering g.C.Card.reads x v (g.H.Host.outside c.read_entry.new.host).now) (g.H.Host.outside c.read_entry.new.host).now (g.H.Host.outside c.patch_in.new.host).now) same way)
-
-pub returns-in-Some-clause-costs : goal.returns-in-Some-clause-costs
-returns-in-Some-clause-costs g c t =
-    let h = has-soup (begins g c.requires) t c.args.unit c.args.name.now c.in_ok-soup.soup c.in_ok-soup.ensures in
-    let e : Entry = record { uid = c.in_ok-graph.field-0.uid; time = c.in_ok-graph.field-0.time; graph = c.in_ok-graph.field-0.graph } in
-    let found : entry_of c.args.uid h.soup ≡ Some e = read-found c.in_ok-soup.soup c.args.uid h.store h.soup c.in_ok-graph.field-0 c.in_ok-graph.field-0.graph refl h.by_sig (c.in_ok-graph.ensures.read t h.blocks h.store h.on) in
-    let same = c.in_ok-graph.ensures.world t in
-    let reach = sym c.in-Some.ensures in
-    let binary = reached e.graph c.args.path.now c.in-Some.node reach in
-    vwrite-costs h c.args.uid e found _ same c.in_ok-graph.ensures.moment (c.in_ok-graph.ensures.programs_nothing t) c.args.path.now c.args.at c.in-Some.node reach c.args.bytes.now
-    (c.patch_in.ensures.costs t h.blocks h.store h.soup e binary.0 binary.1 (subst (λ x. OnUnit x c.args.unit h.blocks h.store) (sym same) h.on) h.by_sig found binary.2)
-
-pub returns-clause-answered : goal.returns-clause-answered
-returns-clause-answered g c t =
-    let w = world_of g.C.Card.reads c.args.units.now (g.H.Host.outside c.args.host.now) in
-    let h = has-soup (begins g c.requires) t c.args.unit c.args.name.now c.in_ok-soup.soup c.in_ok-soup.ensures in
-    let e : Entry = record { uid = c.in_ok-graph.field-0.uid; time = c.in_ok-graph.field-0.time; graph = c.in_ok-graph.field-0.graph } in
-    let found : entry_of c.args.uid h.soup ≡ Some e = read-found c.in_ok-soup.soup c.args.uid h.store h.soup c.in_ok-graph.field-0 c.in_ok-graph.field-0.graph refl h.by_sig (c.in_ok-graph.ensures.read t h.blocks h.store h.on) in
-    let same = c.in_ok-graph.ensures.world t in
-    vwrite-nowhere w _ c.args.unit h.blocks h.store h.on refl c.args.name.now h.soup h.named h.name_is c.args.uid e found c.args.path.now c.args.at c.args.bytes.now same (sym c.in-None.ensures)
-
-pub returns-clause-moments : goal.returns-clause-moments
-returns-clause-moments g c t = still (begins g c.requires) t _ _ c.in_ok-graph.ensures.moment
-
-pub returns-clause-costs : goal.returns-clause-costs
-returns-clause-costs g c t = read-costs _ _ c.in_ok-graph.ensures.moment (c.in_ok-graph.ensures.programs_nothing t)
+    let read = c.in_ok-graph.ensures in
+    read-obeys at (command.Vwrite c.args.unit c.args.name.now c.args.uid c.args.path.now c.args.at c.args.bytes) (λ _. Reply.done) read.stands read.moment read.programs_nothing read.alone _ tt (λ t.
+        let h = has-soup at t c.args.unit c.args.name.now c.in_ok-soup.soup c.in_ok-soup.ensures in
+          let x : Entry = record { uid = c.in_ok-graph.field-0.uid; time = c.in_ok-graph.field-0.time; graph = c.in_ok-graph.field-0.graph } in
+          let found : entry_of c.args.uid h.soup ≡ Some x = read-found c.in_ok-soup.soup c.args.uid h.store h.soup c.in_ok-graph.field-0 c.in_ok-graph.field-0.graph refl h.by_sig (c.in_ok-graph.ensures.read t h.blocks h.store h.on) in
+          let same = read.world t in
+        vwrite-nowhere w _ c.args.unit h.blocks h.store h.on refl c.args.name.now h.soup h.named h.name_is c.args.uid x found c.args.path.now c.args.at c.args.bytes same (sym c.in-None.ensures))

@@ -1,12 +1,16 @@
 -- The entry is looked up, and its card puts the graph in its place.
 use Rattle.std.proofs.Common.{refl}
 use Rattle.std.proofs.lemmas.Result.{err_from_is_err_and}
-use Rattle.newt_laws_answers.proofs.Replaces.{change-not-found}
 use Rattle.newt_engine_units.specs.Stands.{Stands, world_of}
+use Rattle.newt_spec_world.specs.Reply.{Reply}
+use Rattle.newt_spec_world.specs.declared.command.Command.TheVariants as command
+use Rattle.newt_laws_answers.proofs.Changes.{replace-said}
+use Rattle.newt_laws_answers.proofs.Replaces.{change-not-found}
 use Rattle.newt_engine_commands.proofs.Replacing.{change-answers, change-makes}
 use Rattle.newt_engine_commands.proofs.Costing.{change-costs}
-use Rattle.newt_engine_units.proofs.Costs.{idle-costs}
-use Rattle.newt_engine_units.proofs.Settings.{Setting, still, stand-told, entry-refused}
+use Rattle.newt_engine_commands.proofs.Obeying.{none-only, refused-obeys}
+use Rattle.newt_engine_commands.proofs.Said.{said-done, said-moments, said-costs, done-goes, done-cause, done-costs}
+use Rattle.newt_engine_units.proofs.Settings.{Setting, stand-told, entry-refused}
 use Rattle.newt_engine_commands.proofs.replaces.change.Given.{Over}
 use Rattle.newt_engine_commands.proofs.replaces.change.Goals as goal
 
@@ -19,36 +23,36 @@ begins g {units} {host} stand = record {
   stand = stand;
 }
 
-pub returns-in_err-soup-clause-answered : goal.returns-in_err-soup-clause-answered
-returns-in_err-soup-clause-answered g c t =
+pub returns-in_err-soup : goal.returns-in_err-soup
+returns-in_err-soup g c =
     let at = begins g c.requires in
     let w = world_of g.C.Card.reads c.args.units.now (g.H.Host.outside c.args.host.now) in
-    entry-refused at t c.args.unit c.args.name.now c.args.uid _ _ (λ r k. change-not-found w c.args.unit c.args.name.now c.args.uid r k c.args.graph) _ (c.in_err-soup.ensures.found (g.H.Host.outside c.args.host.now) at.eight (stand-told at t)) _ (err_from_is_err_and c.from_residual.result c.from_residual.ensures.1)
+    refused-obeys at (command.Change c.args.unit c.args.name.now c.args.uid c.args.graph) (λ _. Reply.done) _ (none-only _ c.in_err-soup.ensures.only) _ (err_from_is_err_and c.from_residual.result c.from_residual.ensures.1)
+    (λ t. entry-refused at t c.args.unit c.args.name.now c.args.uid _ _ (λ r k. change-not-found w c.args.unit c.args.name.now c.args.uid r k c.args.graph) _ (c.in_err-soup.ensures.found (g.H.Host.outside c.args.host.now) at.eight (stand-told at t)) _ (err_from_is_err_and c.from_residual.result c.from_residual.ensures.1))
 
-pub returns-in_err-soup-clause-moments : goal.returns-in_err-soup-clause-moments
-returns-in_err-soup-clause-moments g c t = still (begins g c.requires) t _ _ refl
-
-pub returns-in_err-soup-clause-costs : goal.returns-in_err-soup-clause-costs
-returns-in_err-soup-clause-costs g c t = idle-costs _ _ _
-
-pub returns-clause-answered : goal.returns-clause-answered
-returns-clause-answered g c t =
+pub returns : goal.returns
+returns g c =
     let at = begins g c.requires in
     let w = world_of g.C.Card.reads c.args.units.now (g.H.Host.outside c.args.host.now) in
-    let k = c.in_ok-soup.ensures.found (g.H.Host.outside c.args.host.now) at.eight (stand-told at t) in
-    let h = k.of in
-    change-answers w _ c.args.unit h.blocks h.store h.on refl c.args.name.now h.soup h.named h.name_is c.args.uid k.entry k.found c.args.graph _ (c.replace_in.ensures.made t h.blocks h.store h.soup k.entry h.on h.by_sig k.found)
-
-pub returns-clause-moments : goal.returns-clause-moments
-returns-clause-moments g c t =
-    let at = begins g c.requires in
-    let w = world_of g.C.Card.reads c.args.units.now (g.H.Host.outside c.args.host.now) in
-    let k = c.in_ok-soup.ensures.found (g.H.Host.outside c.args.host.now) at.eight (stand-told at t) in
-    let h = k.of in
-    c.replace_in.ensures.moments t h.blocks h.store h.soup k.entry h.on h.by_sig k.found _ (change-makes w w c.args.unit h.blocks h.store h.on refl c.args.name.now h.soup h.named h.name_is c.args.uid k.entry k.found c.args.graph)
-
-pub returns-clause-costs : goal.returns-clause-costs
-returns-clause-costs g c t =
-    let at = begins g c.requires in
-    let k = c.in_ok-soup.ensures.found (g.H.Host.outside c.args.host.now) at.eight (stand-told at t) in
-    change-costs k c.args.graph (c.replace_in.ensures.costs t k.of.blocks k.of.store k.of.soup k.entry k.of.on k.of.by_sig k.found)
+    let e = c.change.ensures in
+    let is = c.done.ensures in
+    record {
+      stands = λ goes. e.stands (done-goes c.change.result is goes);
+      answered = λ t.
+          let k = c.in_ok-soup.ensures.found (g.H.Host.outside c.args.host.now) at.eight (stand-told at t) in
+          let h = k.of in
+          change-answers w _ c.args.unit h.blocks h.store h.on refl c.args.name.now h.soup h.named h.name_is c.args.uid k.entry k.found c.args.graph _
+          (said-done e t h.on (replace-said h.blocks w.minute c.in_ok-soup.soup h.store h.soup h.by_sig c.args.uid k.entry k.found c.args.graph) _ is);
+      moments = λ t.
+          let k = c.in_ok-soup.ensures.found (g.H.Host.outside c.args.host.now) at.eight (stand-told at t) in
+          let h = k.of in
+          said-moments e t h.on (replace-said h.blocks w.minute c.in_ok-soup.soup h.store h.soup h.by_sig c.args.uid k.entry k.found c.args.graph) _
+          (change-makes w w c.args.unit h.blocks h.store h.on refl c.args.name.now h.soup h.named h.name_is c.args.uid k.entry k.found c.args.graph);
+      costs = λ t.
+          let k = c.in_ok-soup.ensures.found (g.H.Host.outside c.args.host.now) at.eight (stand-told at t) in
+          let h = k.of in
+          change-costs k c.args.graph
+          (done-costs c.change.result is (said-costs e t h.on (replace-said h.blocks w.minute c.in_ok-soup.soup h.store h.soup h.by_sig c.args.uid k.entry k.found c.args.graph)));
+      alone = e.alone;
+      cause = done-cause c.change.result is _ e.cause;
+    }

@@ -1,12 +1,18 @@
--- The unit is looked up, and the card makes the soup.
-use Rattle.std.proofs.Common.{refl}
+-- The unit is looked up, and its card makes the soup.
+use Rattle.std.proofs.Common.{refl, ◌≡◌}
+use Rattle.newt_engine_units.specs.Looks.{known_unit}
 use Rattle.std.proofs.lemmas.Result.{err_from_is_err_and}
-use Rattle.newt_laws_answers.proofs.Soups.{soup-not-mounted}
-use Rattle.newt_laws_answers.proofs.Most.{soup-most}
 use Rattle.newt_engine_units.specs.Stands.{Stands, world_of}
+use Rattle.newt_spec_world.specs.Reply.{Reply}
+use Rattle.newt_spec_world.specs.declared.command.Command.TheVariants as command
+use Rattle.newt_laws_answers.proofs.Changes.{make-said}
+use Rattle.newt_laws_answers.proofs.Soups.{soup-not-mounted}
 use Rattle.newt_engine_commands.proofs.Commands.{soup-answers, soup-makes}
-use Rattle.newt_engine_units.proofs.Costs.{idle-costs, on-costs}
-use Rattle.newt_engine_units.proofs.Settings.{Setting, still, unit-there, unit-refused}
+use Rattle.newt_laws_answers.proofs.Most.{soup-most}
+use Rattle.newt_engine_commands.proofs.Obeying.{none-refused, refused-obeys}
+use Rattle.newt_engine_commands.proofs.Said.{said-made, said-moments, said-costs}
+use Rattle.newt_engine_units.proofs.Costs.{on-costs}
+use Rattle.newt_engine_units.proofs.Settings.{Setting, unit-refused, unit-there}
 use Rattle.newt_engine_commands.proofs.soups.soup.Given.{Over}
 use Rattle.newt_engine_commands.proofs.soups.soup.Goals as goal
 
@@ -19,29 +25,28 @@ begins g {units} {host} stand = record {
   stand = stand;
 }
 
-pub returns-in_err-find_unit-clause-answered : goal.returns-in_err-find_unit-clause-answered
-returns-in_err-find_unit-clause-answered g c t =
-    unit-refused (begins g c.requires) t c.args.unit _ _ (soup-not-mounted (world_of g.C.Card.reads c.args.units.now (g.H.Host.outside c.args.host.now)) c.args.unit c.args.name.now) _ c.in_err-find_unit.ensures _
-    (err_from_is_err_and c.from_residual.result c.from_residual.ensures.1)
+pub returns-in_err-find_unit : goal.returns-in_err-find_unit
+returns-in_err-find_unit g c =
+    let at = begins g c.requires in
+    refused-obeys at (command.Soup c.args.unit c.args.name) (λ n. Reply.number n) _ (none-refused (known_unit c.args.units.now.slots.items c.args.unit) _ c.in_err-find_unit.ensures) _ (err_from_is_err_and c.from_residual.result c.from_residual.ensures.1)
+    (λ t. unit-refused at t c.args.unit _ _ (soup-not-mounted (world_of g.C.Card.reads c.args.units.now (g.H.Host.outside c.args.host.now)) c.args.unit c.args.name) _ c.in_err-find_unit.ensures _ (err_from_is_err_and c.from_residual.result c.from_residual.ensures.1))
 
-pub returns-in_err-find_unit-clause-moments : goal.returns-in_err-find_unit-clause-moments
-returns-in_err-find_unit-clause-moments g c t = still (begins g c.requires) t _ _ refl
-
-pub returns-in_err-find_unit-clause-costs : goal.returns-in_err-find_unit-clause-costs
-returns-in_err-find_unit-clause-costs g c t = idle-costs _ _ _
-
-pub returns-clause-answered : goal.returns-clause-answered
-returns-clause-answered g c t =
-    let p = (unit-there (begins g c.requires) t c.args.unit c.in_ok-find_unit.ensures).1 in
-    soup-answers _ _ c.args.unit _ p.store p.on refl c.args.name.now _ (c.make_soup_on.ensures.made t _ p.store p.on)
-
-pub returns-clause-moments : goal.returns-clause-moments
-returns-clause-moments g c t =
-    let p = (unit-there (begins g c.requires) t c.args.unit c.in_ok-find_unit.ensures).1 in
+pub returns : goal.returns
+returns g c =
+    let at = begins g c.requires in
     let w = world_of g.C.Card.reads c.args.units.now (g.H.Host.outside c.args.host.now) in
-    c.make_soup_on.ensures.moments t _ p.store p.on _ (soup-makes w w c.args.unit _ p.store p.on refl c.args.name.now)
-
-pub returns-clause-costs : goal.returns-clause-costs
-returns-clause-costs g c t =
-    let p = (unit-there (begins g c.requires) t c.args.unit c.in_ok-find_unit.ensures).1 in
-    on-costs (c.make_soup_on.ensures.costs t _ p.store p.on) (soup-most _ c.args.unit _ p.store c.args.name.now p.on)
+    let e = c.change.ensures in
+    record {
+      stands = e.stands;
+      answered = λ t.
+          let p = (unit-there at t c.args.unit c.in_ok-find_unit.ensures).1 in
+          soup-answers w _ c.args.unit _ p.store p.on refl c.args.name _ (said-made e t p.on (make-said _ w.minute c.args.name p.store) (λ n. n ≡ p.store.next_soup) (λ n is. is));
+      moments = λ t.
+          let p = (unit-there at t c.args.unit c.in_ok-find_unit.ensures).1 in
+          said-moments e t p.on (make-said _ w.minute c.args.name p.store) _ (soup-makes w w c.args.unit _ p.store p.on refl c.args.name);
+      costs = λ t.
+          let p = (unit-there at t c.args.unit c.in_ok-find_unit.ensures).1 in
+          on-costs (said-costs e t p.on (make-said _ w.minute c.args.name p.store)) (soup-most w c.args.unit _ p.store c.args.name p.on);
+      alone = e.alone;
+      cause = e.cause;
+    }

@@ -6,7 +6,7 @@ use Rattle.newt_spec_store.specs.Store.{TagTable}
 use Rattle.newt_spec_query.specs.Hits.{passes}
 use Rattle.newt_spec_world.specs.World.{World}
 use Rattle.newt_laws_answers.specs.There.{OnUnit}
-use Rattle.newt_engine_card.specs.Cards.{entry_said, plain_entry}
+use Rattle.newt_store_change.specs.Entries.{entry_said, plain_entry}
 use Rattle.newt_engine_units.specs.Stands.{Stands, Eight}
 use Rattle.newt_index.specs.Spots.{spot_hit}
 use Rattle.newt_engine_cursors.proofs.Keeping.{there-kept, gone-not-kept}

@@ -4,7 +4,7 @@ use Rattle.std.specs.Prelude.{is_some}
 use Rattle.newt_cursor.specs.Seen.{query_of}
 use Rattle.newt_spec_world.specs.World.{World}
 use Rattle.newt_laws_answers.specs.There.{OnUnit}
-use Rattle.newt_engine_card.specs.Cards.{entry_said, plain_entry}
+use Rattle.newt_store_change.specs.Entries.{entry_said, plain_entry}
 use Rattle.newt_engine_units.specs.Stands.{Stands, Eight, world_of}
 use Rattle.newt_engine_units.proofs.Known.{Laws}
 use Rattle.newt_engine_units.proofs.Resolving.{showing-card}

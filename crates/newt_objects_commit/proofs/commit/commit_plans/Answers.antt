@@ -10,9 +10,10 @@ use Rattle.newt_objects_commit.specs.Commit.{IsEither, AreKept, Fit}
 use Rattle.newt_host.proofs.Outside.{Touches-refl}
 use Rattle.newt_pagebook.specs.declared.book.Stop.TheVariants.{Memory}
 use Rattle.newt_base.specs.declared.Refusal.TheVariants.{Full as RefusalFull}
-use Rattle.newt_objects_commit.specs.declared.fault.StoreFault.{StoreFault}
-use Rattle.newt_objects_commit.specs.declared.fault.StoreFault.TheVariants.{Stop}
-use Rattle.newt_objects_commit.specs.Faults.{FaultsAt, RefusesOnly}
+use Rattle.newt_store_change.specs.declared.fault.StoreFault.{StoreFault}
+use Rattle.newt_store_change.specs.declared.fault.StoreFault.TheVariants.{Stop}
+use Rattle.newt_store_change.specs.Faults.{FaultsAt}
+use Rattle.newt_objects_commit.specs.Faults.{RefusesOnly}
 use Rattle.newt_objects.specs.Changing.{HoldsObjects}
 use Rattle.newt_objects.specs.Held.{held, planned}
 use Rattle.newt_objects_commit.proofs.Exits.{Fails, no-value, by-fault, no-refusal, not-refused, spends-nothing}

@@ -14,8 +14,8 @@ use Rattle.newt_objects.proofs.Changing.{told_table}
 use Rattle.newt_vbo.specs.Patches.{WouldPatch}
 use Rattle.newt_vbo.specs.Ranges.{parts_met}
 use Rattle.newt_spec_store.specs.Cost.{patch_bytes}
-use Rattle.newt_objects_commit.specs.declared.fault.StoreFault.{StoreFault}
-use Rattle.newt_objects_commit.specs.declared.fault.StoreFault.TheVariants.{Refused, Stop}
+use Rattle.newt_store_change.specs.declared.fault.StoreFault.{StoreFault}
+use Rattle.newt_store_change.specs.declared.fault.StoreFault.TheVariants.{Refused, Stop}
 use Rattle.newt_objects_commit.specs.Faults.{RefusesOnly}
 use Rattle.newt_objects_commit.specs.Commit.{AreKept}
 use Rattle.newt_base.specs.declared.Refusal.{Refusal}

@@ -16,9 +16,10 @@ use Rattle.newt_soupdir.specs.Bare.{bare_store}
 use Rattle.newt_soupdir.specs.declared.rows.Directory.{Directory}
 use Rattle.newt_laws_changes.specs.Written.{Names}
 use Rattle.newt_objects_commit.specs.Batch.{AreOnce, IsApart}
-use Rattle.newt_objects_commit.specs.Faults.{FaultsAt, RefusesOnly}
+use Rattle.newt_store_change.specs.Faults.{FaultsAt}
+use Rattle.newt_objects_commit.specs.Faults.{RefusesOnly}
 use Rattle.newt_objects_commit.specs.Names.{names_of}
-use Rattle.newt_objects_commit.specs.declared.fault.StoreFault.{StoreFault}
+use Rattle.newt_store_change.specs.declared.fault.StoreFault.{StoreFault}
 use Rattle.newt_objects_commit.specs.Places.{place_of}
 use Rattle.newt_store_catalog.specs.Stands.{Describes}
 use Rattle.newt_store.specs.Next.{HoldsEither, WritesNext, all_gone, next_bytes, turn_bytes}

@@ -11,7 +11,8 @@ use Rattle.newt_objects.specs.Changing.{IsUnderWay}
 use Rattle.newt_objects.proofs.TextsOf.{texts_of}
 use Rattle.newt_objects_commit.specs.Batch.{AreWritten}
 use Rattle.newt_objects_commit.specs.Commit.{AreKept}
-use Rattle.newt_objects_commit.specs.Faults.{FaultsAt, RefusesOnly}
+use Rattle.newt_store_change.specs.Faults.{FaultsAt}
+use Rattle.newt_objects_commit.specs.Faults.{RefusesOnly}
 use Rattle.newt_store.specs.Next.{WritesNext, next_bytes}
 use Rattle.newt_store_catalog.proofs.Kept.{held-are}
 use Rattle.newt_store.proofs.Unanswered.{memory-on, memory-err, memory-stops, memory-refuses, memory-fits}

@@ -5,7 +5,7 @@ use Rattle.newt_base.specs.declared.Refusal.TheVariants.{Range}
 use Rattle.newt_host.specs.Moments.{Moment, image, overwritten, Leaves}
 use Rattle.newt_host.specs.Outside.{Touches, Spends}
 use Rattle.newt_host.proofs.Outside.{Touches-append}
-use Rattle.newt_objects_commit.specs.Faults.{FaultsAt}
+use Rattle.newt_store_change.specs.Faults.{FaultsAt}
 use Rattle.newt_spec_image.specs.Pages.{cap}
 use Rattle.newt_spec_image.specs.Objects.{Objects}
 use Rattle.newt_pagebook.specs.Book.{IsOpenFor}
@@ -15,12 +15,13 @@ use Rattle.newt_spec_store.specs.OfImage.{blocks_of}
 use Rattle.newt_objects_commit.specs.Commit.{AreKept}
 use Rattle.newt_spec_store.specs.Cost.{patch_bytes}
 use Rattle.newt_objects_commit.specs.Patch.{IsBeforeOrPatched}
-use Rattle.newt_store.specs.declared.change.Change.TheVariants.{Patch}
+use Rattle.newt_store_change.specs.declared.change.Change.TheVariants.{Patch}
 use Rattle.newt_spec_store.specs.Store.{entry_at}
-use Rattle.newt_store.specs.Change.{changed_by, refusal_of, pages_of_entry, most_bytes}
+use Rattle.newt_store_change.specs.Change.{changed_by, refusal_of, pages_of_entry, most_bytes}
 use Rattle.newt_store.specs.Patch.{IsLargeOf}
 use Rattle.newt_store_catalog.specs.Stands.{StandsFor}
-use Rattle.newt_store.specs.Stands.{RefusesWith, IsBeforeOrChanged}
+use Rattle.newt_store_change.specs.Faults.{RefusesWith}
+use Rattle.newt_store.specs.Stands.{IsBeforeOrChanged}
 use Rattle.newt_store_catalog.proofs.Opening.{same-image}
 use Rattle.newt_store.proofs.Applying.{from-err, faults-over, sound-over, leaves-before}
 use Rattle.newt_store_catalog.proofs.Kept.{kept-over}

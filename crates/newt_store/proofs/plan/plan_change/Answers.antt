@@ -2,10 +2,10 @@ use Rattle.std.proofs.Common.{◌*◌, refl, sym, subst, IfOk, IfErr}
 use Rattle.newt_host.specs.Outside.{Spends}
 use Rattle.newt_host.proofs.Outside.{Touches-refl}
 use Rattle.newt_base.specs.Refusals.{first_of}
-use Rattle.newt_store.specs.declared.change.Change.{Change}
-use Rattle.newt_store.specs.Change.{first_checks, entry_fetched, pages_of_entry}
+use Rattle.newt_store_change.specs.declared.change.Change.{Change}
+use Rattle.newt_store_change.specs.Change.{first_checks, entry_fetched, pages_of_entry}
 use Rattle.newt_store.specs.Next.{IsPlanOf}
-use Rattle.newt_store.specs.Stands.{RefusesWith}
+use Rattle.newt_store_change.specs.Faults.{RefusesWith}
 use Rattle.newt_store.proofs.Planned.{reads-nothing}
 use Rattle.newt_store.proofs.Unanswered.{no-device}
 use Rattle.newt_store.proofs.plan.plan_change.Goals as goal

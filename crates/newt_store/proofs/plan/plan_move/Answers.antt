@@ -6,14 +6,14 @@ use Rattle.newt_host.proofs.Outside.{Touches-refl}
 use Rattle.newt_spec_store.specs.Store.{Entry, soup_of, entry_at}
 use Rattle.newt_soupdir.specs.Bare.{bare_soup, bare_store}
 use Rattle.newt_base.specs.Refusals.{first_of}
-use Rattle.newt_objects_commit.specs.Faults.{FaultsAt}
+use Rattle.newt_store_change.specs.Faults.{FaultsAt}
 use Rattle.newt_objects_commit.specs.Names.{names_of}
-use Rattle.newt_objects_commit.specs.declared.fault.StoreFault.TheVariants.{Stop}
+use Rattle.newt_store_change.specs.declared.fault.StoreFault.TheVariants.{Stop}
 use Rattle.newt_objects_commit.specs.Places.{place_of}
 use Rattle.newt_store.specs.declared.next.Gone.TheVariants.{OneEntry}
-use Rattle.newt_store.specs.Change.{first_checks, pages_of_entry}
-use Rattle.newt_store.specs.Stands.{RefusesWith}
-use Rattle.newt_store.specs.declared.change.Change.TheVariants.{Move}
+use Rattle.newt_store_change.specs.Change.{first_checks, pages_of_entry}
+use Rattle.newt_store_change.specs.Faults.{RefusesWith}
+use Rattle.newt_store_change.specs.declared.change.Change.TheVariants.{Move}
 use Rattle.newt_store.proofs.Unanswered.{no-value, by-error}
 use Rattle.newt_store.specs.Next.{IsAdding}
 use Rattle.newt_store.proofs.Planned.{reads-nothing, seen-some}

@@ -2,8 +2,9 @@ use Rattle.std.proofs.Common.{ℕ, ◌+◌, ◌*◌, List, sym, ◌∙◌, ap, s
 use Rattle.newt_host.specs.Outside.{Spends}
 use Rattle.newt_index.specs.Pairs.{Sorted}
 use Rattle.newt_spec_store.specs.Store.{entry_at}
-use Rattle.newt_store.specs.Change.{pages_of_entry}
-use Rattle.newt_store_indexed.specs.Filling.{with_all, pages_listed}
+use Rattle.newt_store_change.specs.Change.{pages_of_entry}
+use Rattle.newt_store_indexed.specs.Filling.{with_all}
+use Rattle.newt_store_change.specs.Change.{pages_listed}
 use Rattle.newt_store_indexed.proofs.Ends.{with-none, pages-none, behind, pages-first, with-first, sum-next, sum-below}
 use Rattle.newt_store_indexed.proofs.Reading.{shows-on, reads-more, spends-on, fetches-more}
 use Rattle.newt_store_indexed.proofs.fill.fill_all.Goals as goal

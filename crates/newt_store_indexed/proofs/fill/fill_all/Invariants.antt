@@ -2,7 +2,8 @@ use Rattle.std.proofs.Common.{◌≡◌, ◌+◌, ◌*◌, ℕ, IsTrue, length}
 use Rattle.newt_host.specs.Outside.{Spends}
 use Rattle.newt_spec_store.specs.Store.{Store as PlainStore}
 use Rattle.newt_store_indexed.specs.Calls.{Shows, Reads}
-use Rattle.newt_store_indexed.specs.Filling.{with_all, pages_listed}
+use Rattle.newt_store_indexed.specs.Filling.{with_all}
+use Rattle.newt_store_change.specs.Change.{pages_listed}
 use Rattle.newt_store_indexed.proofs.fill.fill_all.Given as goal
 
 abbrev pub invariant-loop-left : goal.invariant-loop-left

@@ -5,8 +5,9 @@ use Rattle.newt_index.specs.Pairs.{Sorted}
 use Rattle.newt_spec_store.specs.Keys.{IndexSpec}
 use Rattle.newt_spec_store.specs.Store.{soup_of}
 use Rattle.newt_index_ranges.specs.Rows.{no_pairs}
-use Rattle.newt_store.specs.Change.{uids_in}
-use Rattle.newt_store_indexed.specs.Filling.{with_all, pages_listed}
+use Rattle.newt_store_change.specs.Change.{uids_in}
+use Rattle.newt_store_indexed.specs.Filling.{with_all}
+use Rattle.newt_store_change.specs.Change.{pages_listed}
 use Rattle.newt_store_indexed.proofs.fill.filled.Goals as goal
 
 pub returns-in_err-fill_all-clause-costs : goal.returns-in_err-fill_all-clause-costs

@@ -4,8 +4,8 @@ use Rattle.std.specs.Prelude.{Ok}
 use Rattle.newt_reply.specs.Said.{said}
 use Rattle.newt_reply.specs.declared.reply.Reply.{Reply}
 use Rattle.newt_reply.specs.declared.reply.Reply.TheVariants as reply
-use Rattle.newt_engine_card.specs.declared.fault.Fault.{Fault}
-use Rattle.newt_engine_card.specs.Faults.{GoesOn}
+use Rattle.newt_store_change.specs.declared.fault.StoreFault.{StoreFault}
+use Rattle.newt_store_change.specs.Faults.{GoesOn}
 use Rattle.newt_engine_units.specs.Answers.{Answers}
 use Rattle.newt_engine_cursors.specs.World.{world_with}
 use Rattle.newt_engine.proofs.Refusing.{refusal_stays}
@@ -18,14 +18,14 @@ pub returns-in-Err-Refused-clause-answered : goal.returns-in-Err-Refused-clause-
 returns-in-Err-Refused-clause-answered g c t =
     let w = world_with g.C.Card.reads c.args.self.now.units c.args.self.now.desk (g.H.Host.outside c.args.host.now) in
     let v = world_with g.C.Card.reads c.serve.new.self.units c.serve.new.self.desk (g.H.Host.outside c.serve.new.host) in
-    subst (λ (f : Fault). Answers w v c.args.command said (Err f)) c.in-Err-Refused.field-0-is (c.in-Err-Refused.ensures.answered t)
+    subst (λ (f : StoreFault). Answers w v c.args.command said (Err f)) c.in-Err-Refused.field-0-is (c.in-Err-Refused.ensures.answered t)
 
 pub returns-in-Err-Refused-clause-refused : goal.returns-in-Err-Refused-clause-refused
 returns-in-Err-Refused-clause-refused g c t r is =
     let w = world_with g.C.Card.reads c.args.self.now.units c.args.self.now.desk (g.H.Host.outside c.args.host.now) in
     let v = world_with g.C.Card.reads c.serve.new.self.units c.serve.new.self.desk (g.H.Host.outside c.serve.new.host) in
     refusal_stays w v c.args.command c.in-Err-Refused.refusal (Ok (reply.Refused c.in-Err-Refused.refusal))
-    (subst (λ (f : Fault). Answers w v c.args.command said (Err f)) c.in-Err-Refused.field-0-is (c.in-Err-Refused.ensures.answered t)) refl
+    (subst (λ (f : StoreFault). Answers w v c.args.command said (Err f)) c.in-Err-Refused.field-0-is (c.in-Err-Refused.ensures.answered t)) refl
 
 pub returns-in-Ok-clause-bound : goal.returns-in-Ok-clause-bound
 returns-in-Ok-clause-bound g c t other = (c.serve.ensures.costs t).bound other
@@ -37,7 +37,7 @@ pub returns-in-Err-Refused-clause-bound : goal.returns-in-Err-Refused-clause-bou
 returns-in-Err-Refused-clause-bound g c t other = (c.serve.ensures.costs t).bound other
 
 pub returns-in-Err-Refused-clause-open_after : goal.returns-in-Err-Refused-clause-open_after
-returns-in-Err-Refused-clause-open_after g c t = (c.in-Err-Refused.ensures.costs t).open_after (subst (λ (f : Fault). GoesOn {T = Reply} (Err f)) (sym c.in-Err-Refused.field-0-is) tt)
+returns-in-Err-Refused-clause-open_after g c t = (c.in-Err-Refused.ensures.costs t).open_after (subst (λ (f : StoreFault). GoesOn {T = Reply} (Err f)) (sym c.in-Err-Refused.field-0-is) tt)
 
 pub returns-in-Err-Stop-clause-bound : goal.returns-in-Err-Stop-clause-bound
 returns-in-Err-Stop-clause-bound g c t other = (c.serve.ensures.costs t).bound other

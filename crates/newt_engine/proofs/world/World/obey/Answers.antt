@@ -1,4 +1,4 @@
--- A graph is shown, or becomes an entry or a part of one.
+-- The units do it, or a graph is shown.
 use Rattle.std.proofs.Common.{arith, ◌≡◌, ap, refl, subst, sym, ◌∙◌}
 use Rattle.newt_host.proofs.Outside.{OnDevices-refl}
 use Rattle.newt_reply.specs.Said.{said}
@@ -6,12 +6,13 @@ use Rattle.newt_reply.specs.declared.reply.Reply.TheVariants as reply
 use Rattle.newt_spec_graph.proofs.Lists.{both-ways}
 use Rattle.newt_laws_answers.specs.Spoken.{answer_now}
 use Rattle.newt_laws_answers.proofs.Stores.{nsof-done, lit-done}
-use Rattle.newt_engine_units.specs.Stands.{world_of}
+use Rattle.newt_engine_units.specs.Stands.{Eight, world_of}
 use Rattle.newt_engine.specs.Ends.{takes_memory, uses_device}
 use Rattle.newt_engine.specs.Laws.{laws_of}
-use Rattle.newt_engine.proofs.Costing.{costs_on, still_costs}
-use Rattle.newt_engine.proofs.Groups.{no_graph}
-use Rattle.newt_engine.proofs.Handed.{answered_on, err_on, goes_back, moments_same, quiet}
+use Rattle.newt_engine.proofs.Costing.{format_costs, still_costs}
+use Rattle.newt_engine.proofs.Groups.{in_memory}
+use Rattle.newt_engine.proofs.Handed.{answered_on, err_on, goes_back, has_cause, moments_same, quiet, told_stands}
+use Rattle.newt_engine.proofs.Obeying.{handed_obeyed}
 use Rattle.newt_engine.proofs.world.World.obey.Goals as goal
 
 pub returns-in-Nsof : goal.returns-in-Nsof
@@ -44,99 +45,93 @@ returns-in-Lit g c =
       device = λ none. tt;
     }
 
-pub returns-in-Add : goal.returns-in-Add
-returns-in-Add g c =
-    let call = c.add.ensures in
-    let on = c.numbered.ensures in record {
-      stands = λ goes. call.stands (goes_back on goes);
-      answered = λ t. answered_on on _ _ c.in-Add.is (call.answered t);
-      moments = λ t. moments_same g.C.Card.reads _ _ _ c.args.command _ c.in-Add.is (call.moments t);
-      desk = refl;
-      costs = λ t. costs_on on c.in-Add.is (call.costs t);
-      alone = call.alone;
-      cause = err_on on _ call.cause;
-      ends = λ none. absurd (both-ways (sym none ∙ ap takes_memory c.in-Add.is));
-      device = λ none. absurd (both-ways (sym none ∙ ap uses_device c.in-Add.is));
-    }
-
-pub returns-in-Addx : goal.returns-in-Addx
-returns-in-Addx g c =
-    let call = c.add-in-Addx.ensures in
-    let on = c.numbered-in-Addx.ensures in record {
-      stands = λ goes. call.stands (goes_back on goes);
-      answered = λ t. answered_on on _ _ c.in-Addx.is (call.answered_as_stream t);
-      moments = λ t. moments_same g.C.Card.reads _ _ _ c.args.command _ c.in-Addx.is (call.moments_as_stream t);
-      desk = refl;
-      costs = λ t. costs_on on c.in-Addx.is (call.costs_as_stream t);
-      alone = call.alone;
-      cause = err_on on _ call.cause;
-      ends = λ none. absurd (both-ways (sym none ∙ ap takes_memory c.in-Addx.is));
-      device = λ none. absurd (both-ways (sym none ∙ ap uses_device c.in-Addx.is));
-    }
-
-pub returns-in-Addu : goal.returns-in-Addu
-returns-in-Addu g c =
-    let call = c.add_to_default.ensures in
-    let on = c.added.ensures in record {
-      stands = λ goes. call.stands (goes_back on goes);
-      answered = λ t. answered_on on _ _ c.in-Addu.is (call.answered t);
-      moments = λ t. moments_same g.C.Card.reads _ _ _ c.args.command _ c.in-Addu.is (call.moments t);
-      desk = refl;
-      costs = λ t. costs_on on c.in-Addu.is (call.costs t);
-      alone = call.alone;
-      cause = err_on on _ call.cause;
-      ends = λ none. absurd (both-ways (sym none ∙ ap takes_memory c.in-Addu.is));
-      device = λ none. absurd (both-ways (sym none ∙ ap uses_device c.in-Addu.is));
-    }
-
-pub returns-in-Set : goal.returns-in-Set
-returns-in-Set g c =
-    let call = c.set.ensures in
+pub returns-in-Format : goal.returns-in-Format
+returns-in-Format g c =
+    let call = c.format.ensures in
     let on = c.done.ensures in record {
       stands = λ goes. call.stands (goes_back on goes);
-      answered = λ t. answered_on on _ _ c.in-Set.is (call.answered t);
-      moments = λ t. moments_same g.C.Card.reads _ _ _ c.args.command _ c.in-Set.is (call.moments t);
+      answered = λ t. answered_on on _ _ c.in-Format.is (call.answered t);
+      moments = λ t. moments_same g.C.Card.reads _ _ _ c.args.command _ c.in-Format.is (call.moments t);
       desk = refl;
-      costs = λ t. costs_on on c.in-Set.is (call.costs t);
+      costs = λ t. format_costs c.in-Format.is (λ goes. call.open_after t (goes_back on goes));
       alone = call.alone;
       cause = err_on on _ call.cause;
-      ends = λ none. absurd (both-ways (sym none ∙ ap takes_memory c.in-Set.is));
-      device = λ none. absurd (both-ways (sym none ∙ ap uses_device c.in-Set.is));
+      ends = λ none. absurd (both-ways (sym none ∙ ap takes_memory c.in-Format.is));
+      device = λ none. absurd (both-ways (sym none ∙ ap uses_device c.in-Format.is));
     }
+
+pub returns-in-Mount : goal.returns-in-Mount
+returns-in-Mount g c = handed_obeyed c.mounted.ensures c.in-Mount.is refl refl c.mount.ensures refl
+
+pub returns-in-Soup : goal.returns-in-Soup
+returns-in-Soup g c = handed_obeyed c.numbered.ensures c.in-Soup.is refl refl c.soup.ensures refl
+
+pub returns-in-Drop : goal.returns-in-Drop
+returns-in-Drop g c = handed_obeyed c.done-in-Drop.ensures c.in-Drop.is refl refl c.drop_soup.ensures refl
+
+pub returns-in-Index : goal.returns-in-Index
+returns-in-Index g c = handed_obeyed c.done-in-Index.ensures c.in-Index.is refl refl c.index.ensures refl
+
+pub returns-in-Unindex : goal.returns-in-Unindex
+returns-in-Unindex g c = handed_obeyed c.done-in-Unindex.ensures c.in-Unindex.is refl refl c.unindex.ensures refl
+
+pub returns-in-SetTags : goal.returns-in-SetTags
+returns-in-SetTags g c = handed_obeyed c.done-in-SetTags.ensures c.in-SetTags.is refl refl c.set_tags.ensures refl
+
+pub returns-in-Add : goal.returns-in-Add
+returns-in-Add g c = handed_obeyed c.numbered-in-Add.ensures c.in-Add.is refl refl c.add.ensures.obeyed refl
+
+pub returns-in-Addx : goal.returns-in-Addx
+returns-in-Addx g c = handed_obeyed c.numbered-in-Addx.ensures c.in-Addx.is refl refl c.add-in-Addx.ensures.as_stream refl
+
+pub returns-in-Addu : goal.returns-in-Addu
+returns-in-Addu g c = handed_obeyed c.added.ensures c.in-Addu.is refl refl c.add_to_default.ensures refl
+
+pub returns-in-Get : goal.returns-in-Get
+returns-in-Get g c = handed_obeyed c.timed.ensures c.in-Get.is refl refl c.get.ensures.obeyed refl
+
+pub returns-in-Getx : goal.returns-in-Getx
+returns-in-Getx g c = handed_obeyed c.timed_nsof.ensures c.in-Getx.is refl refl c.get-in-Getx.ensures.as_stream refl
+
+pub returns-in-Set : goal.returns-in-Set
+returns-in-Set g c = handed_obeyed c.done-in-Set.ensures c.in-Set.is refl refl c.set.ensures refl
 
 pub returns-in-Change : goal.returns-in-Change
-returns-in-Change g c =
-    let call = c.change.ensures in
-    let on = c.done-in-Change.ensures in record {
-      stands = λ goes. call.stands (goes_back on goes);
-      answered = λ t. answered_on on _ _ c.in-Change.is (call.answered t);
-      moments = λ t. moments_same g.C.Card.reads _ _ _ c.args.command _ c.in-Change.is (call.moments t);
-      desk = refl;
-      costs = λ t. costs_on on c.in-Change.is (call.costs t);
-      alone = call.alone;
-      cause = err_on on _ call.cause;
-      ends = λ none. absurd (both-ways (sym none ∙ ap takes_memory c.in-Change.is));
-      device = λ none. absurd (both-ways (sym none ∙ ap uses_device c.in-Change.is));
-    }
+returns-in-Change g c = handed_obeyed c.done-in-Change.ensures c.in-Change.is refl refl c.change.ensures refl
 
-pub obey_on_entry-obeyed-requires : goal.obey_on_entry-obeyed-requires
-obey_on_entry-obeyed-requires g c =
-    let d = c.in_default in record {
-      stands = c.requires.stands;
-      no_cursor = c.requires.no_cursor;
-      no_graph = no_graph c.args.command d.not-Nsof d.not-Lit d.not-Add d.not-Addx d.not-Addu d.not-Set d.not-Change;
-    }
+pub returns-in-Remove : goal.returns-in-Remove
+returns-in-Remove g c = handed_obeyed c.done-in-Remove.ensures c.in-Remove.is refl refl c.remove.ensures refl
+
+pub returns-in-Copy : goal.returns-in-Copy
+returns-in-Copy g c = handed_obeyed c.numbered-in-Copy.ensures c.in-Copy.is refl refl c.copy.ensures refl
+
+pub returns-in-Move : goal.returns-in-Move
+returns-in-Move g c = handed_obeyed c.numbered-in-Move.ensures c.in-Move.is refl refl c.move_entry.ensures refl
+
+pub returns-in-Vread : goal.returns-in-Vread
+returns-in-Vread g c = handed_obeyed c.hex.ensures c.in-Vread.is refl refl c.vread.ensures refl
+
+pub returns-in-Vwrite : goal.returns-in-Vwrite
+returns-in-Vwrite g c = handed_obeyed c.done-in-Vwrite.ensures c.in-Vwrite.is refl refl c.vwrite.ensures refl
+
+pub obey_in_memory-obeyed-requires : goal.obey_in_memory-obeyed-requires
+obey_in_memory-obeyed-requires g c =
+    let d = c.in_default in
+    let is = in_memory c.args.command c.requires.no_cursor d.not-Nsof d.not-Lit d.not-Format d.not-Mount d.not-Soup d.not-Drop d.not-Index d.not-Unindex d.not-SetTags d.not-Add d.not-Addx d.not-Addu d.not-Get d.not-Getx d.not-Set d.not-Change d.not-Remove d.not-Copy d.not-Move d.not-Vread d.not-Vwrite in
+    record { not_shown = is.0; no_device = is.1 }
 
 pub returns-in_default : goal.returns-in_default
 returns-in_default g c =
-    let call = c.obey_on_entry-obeyed.ensures in record {
-      stands = call.stands;
-      answered = call.answered;
-      moments = call.moments;
+    let o = g.H.Host.outside c.args.host.now in
+    let eight : Eight o = record { eight = g.met.H.Host.eight c.args.host.now; none = g.met.H.Host.none c.args.host.now } in
+    let call = c.obey_in_memory-obeyed.ensures in record {
+      stands = λ goes. call.stands g.H.Host.told o c.requires.stands;
+      answered = λ t. call.answered o eight (told_stands g.H.Host.told c.args.self.now.units o c.requires.stands t);
+      moments = λ t. quiet (laws_of g.met.C.Card.formed g.met.C.Card.plain g.met.C.Card.durable g.met.C.Card.banks g.met.C.Card.kept) g.H.Host.told c.args.self.now.units o eight c.requires.stands t _;
       desk = call.desk;
-      costs = call.costs;
-      alone = call.alone;
-      cause = call.cause;
+      costs = λ t. still_costs refl (λ u. omega arith);
+      alone = OnDevices-refl o;
+      cause = has_cause _ _ _ call.device;
       ends = call.ends;
-      device = call.device;
+      device = λ uses_none. call.device;
     }

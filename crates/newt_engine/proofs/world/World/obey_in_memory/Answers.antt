@@ -7,7 +7,7 @@ use Rattle.newt_spec_graph.proofs.Lists.{both-ways}
 use Rattle.newt_spec_world.specs.Reply.{Reply as plain}
 use Rattle.newt_laws_answers.specs.Spoken.{answer_now}
 use Rattle.newt_laws_answers.proofs.Stores.{quit-done}
-use Rattle.newt_engine_card.specs.Faults.{NoDevice}
+use Rattle.newt_store_change.specs.Faults.{NoDevice}
 use Rattle.newt_engine_units.specs.Answers.{Answers}
 use Rattle.newt_engine_units.specs.Stands.{world_of}
 use Rattle.newt_engine.specs.Ends.{takes_memory}
@@ -138,4 +138,4 @@ returns-in-Resolve g c =
 pub returns-in_default : goal.returns-in_default
 returns-in_default g c =
     let d = c.in_default in
-    absurd (no_other c.args.command.now c.requires.no_graph c.requires.no_device d.not-Time d.not-Quit d.not-Unmount d.not-Stores d.not-Default d.not-Soups d.not-Indexes d.not-Tags d.not-Alias d.not-Resolve)
+    absurd (no_other c.args.command.now c.requires.not_shown c.requires.no_device d.not-Time d.not-Quit d.not-Unmount d.not-Stores d.not-Default d.not-Soups d.not-Indexes d.not-Tags d.not-Alias d.not-Resolve)

@@ -1,23 +1,31 @@
 -- Devices are read alone, and the world of all commands answers.
+use Rattle.std.proofs.Common.{◌≡◌, IsTrue}
 use Rattle.newt_reply.specs.Said.{said}
+use Rattle.newt_engine_units.specs.Answers.{Answers}
+use Rattle.newt_engine_cursors.specs.World.{world_with}
 use Rattle.newt_engine.specs.Laws.{laws_of}
 use Rattle.newt_engine.proofs.Costing.{still_costs}
+use Rattle.newt_engine.proofs.Groups.{cursors_use_all}
 use Rattle.newt_engine.proofs.Settling.{quiet_with, stands_after, walked_answers}
 use Rattle.newt_engine.proofs.world.World.obey_on_cursor.Goals as goal
 
-pub returns-clause-answered : goal.returns-clause-answered
-returns-clause-answered g c t = walked_answers _ _ c.args.command.now said _ c.requires.on_cursor (c.walk.ensures.answered t (c.requires.stands.apart t))
-
-pub returns-clause-stands : goal.returns-clause-stands
-returns-clause-stands g c goes =
-    let o = g.H.Host.outside c.args.host.now in let p = g.H.Host.outside c.walk.new.host in
-    stands_after g.H.Host.told c.args.self.now.units c.walk.new.self.units c.args.self.now.desk c.walk.new.self.desk o p c.requires.stands c.walk.ensures.read.stand
-    (record { eight = g.met.H.Host.eight c.walk.new.host; none = g.met.H.Host.none c.walk.new.host }) c.walk.ensures.desk c.args.command.now said _
-    (λ t. walked_answers _ _ c.args.command.now said _ c.requires.on_cursor (c.walk.ensures.answered t (c.requires.stands.apart t))) goes
-
-pub returns-clause-moments : goal.returns-clause-moments
-returns-clause-moments g c t = quiet_with (laws_of g.met.C.Card.formed g.met.C.Card.plain g.met.C.Card.durable g.met.C.Card.banks g.met.C.Card.kept) g.H.Host.told c.args.self.now.units c.args.self.now.desk
-    (g.H.Host.outside c.args.host.now) (g.H.Host.outside c.walk.new.host) c.requires.stands t c.walk.ensures.read.moment _
-
-pub returns-clause-costs : goal.returns-clause-costs
-returns-clause-costs g c t = still_costs c.walk.ensures.read.moment (c.walk.ensures.read.programs t)
+pub returns : goal.returns
+returns g c =
+    let o = g.H.Host.outside in
+    let a = c.args.self.now in
+    let e = c.walk.ensures in
+    let w = world_with g.C.Card.reads a.units a.desk (o c.args.host.now) in
+    let answers : IsTrue g.H.Host.told → Answers w (world_with g.C.Card.reads c.walk.new.self.units c.walk.new.self.desk (o c.walk.new.host)) c.args.command.now said c.walk.result = λ t.
+        walked_answers _ _ c.args.command.now said _ c.requires.on_cursor (e.answered t (c.requires.stands.apart t)) in
+    record {
+      stands = stands_after g.H.Host.told a.units c.walk.new.self.units a.desk c.walk.new.self.desk (o c.args.host.now) (o c.walk.new.host) c.requires.stands e.read.stand
+          (record { eight = g.met.H.Host.eight c.walk.new.host; none = g.met.H.Host.none c.walk.new.host }) e.desk c.args.command.now said _ answers;
+      answered = answers;
+      moments = λ t. quiet_with (laws_of g.met.C.Card.formed g.met.C.Card.plain g.met.C.Card.durable g.met.C.Card.banks g.met.C.Card.kept) g.H.Host.told a.units a.desk (o c.args.host.now) (o c.walk.new.host)
+          c.requires.stands t e.read.moment _;
+      costs = λ t. still_costs e.read.moment (e.read.programs t);
+      alone = e.read.alone;
+      cause = e.cause;
+      ends = λ none. absurd ((cursors_use_all c.args.command.now c.requires.on_cursor).0 none);
+      device = λ none. absurd ((cursors_use_all c.args.command.now c.requires.on_cursor).1 none);
+    }

@@ -22,7 +22,7 @@ returns-in-Some g c =
       bound = mounted-bound _ c.args.unit _ (sym c.unit.view_is) c.requires.mounted;
       value = c.index_mut.ensures.value;
       was = c.in-Some.is;
-      place_is = c.entry.ensures.same.0;
+      place_is = c.entry.ensures.same_place;
       touches = c.entry.ensures.alone;
     } in record {
       stands = call-stands laws call c.requires.stands (λ t j h. ap (changes j) c.entry.ensures.moment) c.entry.ensures.stands;

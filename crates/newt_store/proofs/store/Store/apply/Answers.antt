@@ -4,16 +4,17 @@ use Rattle.newt_spec_image.specs.Pages.{cap}
 use Rattle.newt_spec_store.specs.Cost.{cost}
 use Rattle.newt_spec_store.specs.Store.{Store as PlainStore}
 use Rattle.newt_spec_store.specs.OfImage.{blocks_of}
-use Rattle.newt_store.specs.declared.change.Change.{Change}
-use Rattle.newt_store.specs.Change.{changed_by, answer_of, refusal_of}
+use Rattle.newt_store_change.specs.declared.change.Change.{Change}
+use Rattle.newt_store_change.specs.Change.{changed_by, answer_of, refusal_of}
 use Rattle.newt_store.specs.Next.{IsEitherStore}
 use Rattle.newt_store_catalog.specs.Stands.{StandsFor}
-use Rattle.newt_store.specs.Stands.{RefusesWith, IsBeforeOrChanged}
+use Rattle.newt_store_change.specs.Faults.{RefusesWith}
+use Rattle.newt_store.specs.Stands.{IsBeforeOrChanged}
 use Rattle.newt_host.specs.Outside.{Touches, Spends}
 use Rattle.newt_host.proofs.Outside.{Touches-append}
-use Rattle.newt_objects_commit.specs.Faults.{FaultsAt}
+use Rattle.newt_store_change.specs.Faults.{FaultsAt}
 use Rattle.newt_pagebook.specs.Book.{IsOpenFor}
-use Rattle.newt_store.specs.Change.{entry_fetched, pages_of_entry, most_bytes}
+use Rattle.newt_store_change.specs.Change.{entry_fetched, pages_of_entry, most_bytes}
 use Rattle.newt_store.specs.Next.{turn_bytes}
 use Rattle.newt_store_catalog.proofs.Opening.{same-image}
 use Rattle.newt_store.proofs.Applying.{no-patch, spends-more, spends-both, none-due, full-due, refuses-full, refuses-first, from-err, faults-over, sound-over, leaves-changed, leaves-before}

@@ -2,7 +2,7 @@ use Rattle.std.proofs.Common.{◌≡◌, ◌*◌, ℕ, Some, sym, ◌∙◌, ap,
 use Rattle.newt_host.specs.Outside.{Spends}
 use Rattle.newt_objects_commit.specs.Names.{names_of}
 use Rattle.newt_objects_commit.specs.Places.{place_of}
-use Rattle.newt_store.specs.Change.{pages_of_entry}
+use Rattle.newt_store_change.specs.Change.{pages_of_entry}
 use Rattle.newt_store.proofs.Entries.{found-at, no-entry-at}
 use Rattle.newt_store.proofs.store.Store.entry.Goals as goal
 

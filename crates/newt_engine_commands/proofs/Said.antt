@@ -1,0 +1,75 @@
+-- A change of the store of a unit in the words of a command.
+use Rattle.std.proofs.Common.{◌≡◌, sym, ◌∙◌, ap, subst, ℕ, Bool, IsTrue, List, Option, Some, None}
+use Rattle.std.specs.Prelude.{Result, Ok, Err, IfErr}
+use Rattle.std.specs.Bool.{⊤}
+use Rattle.newt_base.specs.Refusals.{Checks, first_of}
+use Rattle.newt_host.specs.Moments.{Always}
+use Rattle.newt_host.specs.Outside.{Outside}
+use Rattle.newt_spec_store.specs.Store.{Store}
+use Rattle.newt_spec_world.specs.World.{World, store_on_unit, change_store}
+use Rattle.newt_laws_answers.specs.Answering.{Answering}
+use Rattle.newt_laws_answers.specs.There.{OnUnit}
+use Rattle.newt_laws_answers.proofs.Changes.{SaidAs}
+use Rattle.newt_laws_answers.proofs.Units.{store-alike}
+use Rattle.newt_store_change.specs.Change.{changed_by, answer_of, refusals, most_bytes}
+use Rattle.newt_store_change.specs.Faults.{Does, GoesOn}
+use Rattle.newt_store_change.specs.declared.change.Change.{Change}
+use Rattle.newt_store_change.specs.declared.fault.StoreFault.{StoreFault}
+use Rattle.newt_store_change.specs.declared.fault.StoreFault.TheVariants.{Refused, Stop}
+use Rattle.newt_engine_card.specs.Bounds.{CostsOn}
+use Rattle.newt_engine_units.specs.Calls.{Changes}
+use Rattle.newt_engine_units.specs.Stands.{world_of}
+use Rattle.newt_engine_units.specs.declared.units.Units.{Units}
+use Rattle.newt_engine_commands.specs.Done.{done_of}
+
+-- the same tests in other words, the same store after, and what is good of an answer
+does-as : {T : Type 0} (w v : World) (u blocks : ℕ) (s : Store) → OnUnit w u blocks s → (xs ys : Checks) (good fine : T → Type 0) (f g : Store → Store) → first_of xs ≡ first_of ys
+    → ((x : T) → good x → fine x) → f s ≡ g s → (result : Result T StoreFault) → Does xs good w (change_store w u f) v result → Does ys fine w (change_store w u g) v result
+does-as w v u blocks s on xs ys good fine f g same better is (Ok x) d = (sym same ∙ d.0, better x d.1, d.2 ∙ store-alike w u blocks s f g on is)
+does-as w v u blocks s on xs ys good fine f g same better is (Err (Refused refusal)) d = (sym same ∙ d.0, d.1)
+does-as w v u blocks s on xs ys good fine f g same better is (Err (Stop stop)) d = tt
+
+does-done : (tests : Checks) (good : ℕ → Type 0) (w after v : World) (result : Result ℕ StoreFault) → Does tests good w after v result → Does tests (λ _. ⊤) w after v (done_of result)
+does-done tests good w after v (Ok n) d = (d.0, tt, d.2)
+does-done tests good w after v (Err (Refused refusal)) d = d
+does-done tests good w after v (Err (Stop stop)) d = tt
+
+goes-back : (result : Result ℕ StoreFault) → GoesOn (done_of result) → GoesOn result
+goes-back (Ok n) h = tt
+goes-back (Err (Refused refusal)) h = tt
+goes-back (Err (Stop stop)) h = absurd h
+
+-- where nothing is told but that it was done
+module _ (result : Result ℕ StoreFault) {r : Result (Unit {0}) StoreFault} (is : r ≡ done_of result) where
+  pub done-goes : GoesOn r → GoesOn result
+  done-goes h = goes-back result (subst (λ x. GoesOn x) is h)
+
+  pub done-cause : (P : StoreFault → Type 0) → IfErr result P → IfErr r P
+  done-cause P h = subst (λ x. IfErr x P) (sym is) (go result h)
+    where
+      go : (x : Result ℕ StoreFault) → IfErr x P → IfErr (done_of x) P
+      go (Ok n) h = tt
+      go (Err fault) h = h
+
+  pub done-costs : {u n : ℕ} {o p : Outside} → CostsOn u n result o p → CostsOn u n r o p
+  done-costs c = record { bound = c.bound; open_after = λ goes. c.open_after (done-goes goes); others = c.others }
+
+module _ {C : Type 0} {reads : List ℕ → Option Store} {place : C → ℕ} {standing : Bool → C → Outside → Type 0} {told : Bool} {u : ℕ} {change : Change} {units later : Units C} {o p : Outside}
+    {result : Result ℕ StoreFault} (e : Changes reads place standing told u change units later o p result) (t : IsTrue told) {blocks : ℕ} {s : Store} (on : OnUnit (world_of reads units o) u blocks s)
+    {tests : Checks} {made : Store → Store} {most : ℕ} (said : SaidAs change blocks units.minute s tests made most) where
+  -- what is done to the world
+  pub said-made : (good : ℕ → Type 0) → ((n : ℕ) → n ≡ answer_of change s → good n) → Does tests good (world_of reads units o) (change_store (world_of reads units o) u made) (world_of reads later p) result
+  said-made good fine = does-as (world_of reads units o) (world_of reads later p) u blocks s on (refusals change blocks units.minute s) tests (λ n. n ≡ answer_of change s) good
+      (changed_by change units.minute) made said.tests_are fine said.made_is result (e.made t blocks s on)
+
+  pub said-done : (r : Result (Unit {0}) StoreFault) → r ≡ done_of result → Does tests (λ _. ⊤) (world_of reads units o) (change_store (world_of reads units o) u made) (world_of reads later p) r
+  said-done r is = subst (λ x. Does tests (λ _. ⊤) (world_of reads units o) (change_store (world_of reads units o) u made) (world_of reads later p) x) (sym is)
+      (does-done tests (λ n. n ≡ answer_of change s) (world_of reads units o) (change_store (world_of reads units o) u made) (world_of reads later p) result (said-made (λ n. n ≡ answer_of change s) (λ n k. k)))
+
+  -- what a crash leaves
+  pub said-moments : (v : World) → (first_of tests ≡ None → store_on_unit v u ≡ Some (made s)) → Always (Answering reads (world_of reads units o) v o.now) o.now p.now
+  said-moments v makes = e.moments t blocks s on v (λ passed. makes (sym said.tests_are ∙ passed) ∙ ap {B = Option Store} (λ x. Some x) (sym said.made_is))
+
+  -- what it costs
+  pub said-costs : CostsOn u most result o p
+  said-costs = subst (λ n. CostsOn u n result o p) said.most_is (e.costs t blocks s on)

@@ -1,4 +1,0 @@
-pub mod Turns
-pub mod Tests
-pub mod Commands
-pub mod Bounds

@@ -1,9 +1,0 @@
-use Rattle.newt_host.specs.Moments.{image}
-use Rattle.std.proofs.Common.{ℕ, List, refl}
-use Rattle.newt_store_card.proofs.Turns.{stands-for}
-use Rattle.newt_store_card.proofs.kept.KeptCard.count.Goals as goal
-
-pub returns : goal.returns
-returns g c = λ outside s on reads.
-    let now : List ℕ = image (g.P.PageBook.place c.args.self.now.store.store.book) outside.now in
-    c.count.ensures now s (stands-for c.args.self.now.store.store.catalog c.args.self.now.store.ranges s now (on.plain refl) reads)

@@ -1,0 +1,30 @@
+-- The store reads the entry, and stays what it was.
+use Rattle.std.proofs.Common.{ℕ, List, ap}
+use Rattle.newt_host.specs.Moments.{image}
+use Rattle.newt_soupdir.specs.Bare.{bare_store}
+use Rattle.newt_store_catalog.specs.declared.catalog.Catalog.{Catalog}
+use Rattle.newt_store_indexed.proofs.Carded.{one-after}
+use Rattle.newt_store_indexed.proofs.Turns.{stands-for}
+use Rattle.newt_store_indexed.proofs.store.IndexedStoreCard.entry.Goals as goal
+
+pub returns : goal.returns
+returns g c =
+    let o = g.H.Host.outside in
+    let place = g.P.PageBook.place in
+    let a = c.args.self.now in
+    let e = c.entry.ensures in
+    let img : List ℕ = image (place a.store.book) (o c.args.host.now).now in
+    record {
+      stands = record {
+        is_open = record { book = e.stands; sound = e.sound };
+        plain = λ tells. one-after place g.P.PageBook.numbers g.P.PageBook.stands g.H.Host.told a.store c.entry.new.self a.ranges (o c.args.host.now).now (o c.entry.new.host).now e.same.2 e.same.0 e.moment
+            (c.requires.plain tells);
+      };
+      same_place = e.same.0;
+      same_soups = ap (λ (catalog : Catalog). bare_store catalog.directory) e.same.2;
+      found = λ tells s reads. e.entry tells s (stands-for a.store.catalog a.ranges s img (c.requires.plain tells) reads);
+      moment = e.moment;
+      programs_nothing = e.programs_nothing;
+      alone = e.alone;
+      cause = e.cause;
+    }
