@@ -195,14 +195,14 @@ fn write_batch<V, H: Host>(
 ) -> Result<(), Failed>
     requires few { length batch.now.puts < 65536 }
     requires count { deletes ≡ length (filter (is_kept pages.now.entries) batch.now.deletes) }
-    requires room { put_of draft.old + (payload_bytes (needed pages.now.entries batch.now))
+    requires room { put_of draft.old + payload_bytes (needed pages.now.entries batch.now)
         ≤ len_of draft.old }
     requires draft { IsDraftOf H.told draft.old (H.outside host.old) }
     ensures ok { OnOk result (WritesMore H.told (unit_of draft.old)
         (written_change (needed pages.now.entries batch.now)) draft.old draft.new
         (H.outside host.old) (H.outside host.new)) }
     ensures put { OnOk result (put_of draft.new
-        ≡ put_of draft.old + (payload_bytes (needed pages.now.entries batch.now))) }
+        ≡ put_of draft.old + payload_bytes (needed pages.now.entries batch.now)) }
     ensures keeps { Keeps H.told (unit_of draft.old)
         (payload_bytes (needed pages.now.entries batch.now))
         (H.outside host.old) (H.outside host.new) }
@@ -247,7 +247,7 @@ pub fn append_batch<V, H: Host>(
         (written_change (needed pages.now.entries batch.now))) result
         (H.outside host.old) (H.outside host.new) }
     ensures places { IfOk result (λ after. (after.end
-        ≡ journal.end + (batch_bytes (needed pages.now.entries batch.now)))
+        ≡ journal.end + batch_bytes (needed pages.now.entries batch.now))
         × (first_place after ≡ first_place journal)) }
     ensures costs { Spends journal.unit (batch_bytes (needed pages.now.entries batch.now)) 0
         (H.outside host.old) (H.outside host.new) }
