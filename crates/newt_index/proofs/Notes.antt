@@ -64,7 +64,6 @@ true_or_false false = inr refl
 not_true : (b : Bool) → (b ≡ true → ⊥) → b ≡ false
 not_true b never = ⊎_elim (λ (t : b ≡ true). absurd (never t)) (λ (f : b ≡ false). f) (true_or_false b)
 
-
 -- a slot that is noted ties with each entry of its id
 noted_ties : (notes : Notes) (slot : Slot) (e : Entry) → IsNoted notes slot → Noted notes e → e.0.uid ≡ slot.uid → slot_cmp slot e.0 ≡ Equal
 noted_ties notes slot e known here same =

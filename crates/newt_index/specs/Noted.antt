@@ -1,6 +1,5 @@
 -- The slot that is noted of each id.
-use Rattle.std.specs.Prelude.{◌≡◌, ℕ, List, Option, Some, None, Vec, option_map, IfSome, All}
-use Rattle.std.specs.Global.{Global}
+use Rattle.std.specs.Prelude.{◌≡◌, ℕ, List, Option, Some, option_map, IfSome, All}
 use Rattle.std.specs.Ordering.{nat_cmp}
 use Rattle.std.specs.BTreeMap as tree
 use Rattle.newt_index.specs.declared.search.Slot.{Slot}

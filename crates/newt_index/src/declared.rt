@@ -9,7 +9,11 @@ use newt_keys::{IndexSpec, Key, key_of};
 use std::alloc::{AllocError, Global};
 
 /// The key that a graph has by a declaration, or with none the empty key. None where the first part is missing; the graph's entry is then in no such index.
-pub fn key_in(alloc: Global, spec: Option<&IndexSpec>, graph: &Graph) -> Result<Option<Key>, AllocError>
+pub fn key_in(
+    alloc: Global,
+    spec: Option<&IndexSpec>,
+    graph: &Graph,
+) -> Result<Option<Key>, AllocError>
     ensures value { IfOk result (λ found. found ≡ keys.key graph.now (parts_of (option_map (λ s. s.now) spec.entry))) }
     ensures of_spec { IfOk result (λ found. IfSome found (IsKeyOf (parts_of (option_map (λ s. s.now) spec.entry)))) }
 {

@@ -2,7 +2,7 @@
 use Rattle.std.specs.Prelude.{◌≡◌, ℕ, List, [], ◌∷◌, Option, Some, None, option_map, option_and_then}
 use Rattle.newt_graph.specs.Graph.{RawGraph}
 use Rattle.newt_spec_graph.specs.Lists.{Pairs}
-use Rattle.newt_spec_store.specs.Keys.{Key, IndexSpec}
+use Rattle.newt_spec_store.specs.Keys.{IndexSpec}
 use Rattle.newt_spec_store.specs.Store.{Soup, Store, entry_of}
 use Rattle.newt_index.specs.Pairs.{Sorted, key_at}
 use Rattle.newt_index_ranges.specs.Range.{key_by}

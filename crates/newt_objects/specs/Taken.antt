@@ -34,6 +34,10 @@ IsKnown table taken = IfSome taken (λ t. IsTaken table t)
 abbrev pub AreSameBut : ℕ → Table → Table → Type 0
 AreSameBut id table more = (other : ℕ) → other ≢ id → more other ≡ table other
 
+-- what is said of the objects is said of them as well when one of them is no longer there but here
+abbrev pub Follows : Option Extent → Option Extent → (Table → Type 0) → (Table → Type 0) → Type 0
+Follows was next Before After = (table more : Table) (id : ℕ) → table id ≡ was → more id ≡ next → AreSameBut id table more → Before table → After more
+
 -- what holds of all objects
 pub record AreSound (rows : Rows) (plans : List Plan) (taken : Option Taken) : Type 0 where
   pub placed : ArePlaced rows plans

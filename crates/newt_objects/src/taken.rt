@@ -2,10 +2,8 @@
 ghost use Rattle.std.specs.Prelude.{◌≡◌, ℕ, [], ◌==◌, ◌<◌, ◌≤◌, true, false, IsTrue, IfOk, None, Some, slice_get};
 ghost use Rattle.std.specs.List.{list_any};
 ghost use Rattle.std.specs.Option.{option_copied};
-ghost use Rattle.newt_spec_image.specs.Objects.{Table};
 ghost use Rattle.newt_objects.specs.Headers.{held_in};
-ghost use Rattle.newt_objects.specs.Extents.{has_number};
-ghost use Rattle.newt_objects.specs.Taken.{ClearsAlso, IsLive, IsTaken, IsKnown, AreSameBut, row_at};
+ghost use Rattle.newt_objects.specs.Taken.{ClearsAlso, IsLive, IsTaken, IsKnown, Follows, row_at};
 ghost use Rattle.std.specs.BTreeMap as tree;
 
 use crate::extent::Extent;
@@ -68,7 +66,7 @@ fn lowest(numbers: &[u32], least: u32) -> u32
 
 // Takes the numbers of an object, if there is one. False where another object has one of them.
 fn take_row(flags: &mut Vec<bool>, row: &Option<Extent>) -> bool
-    ensures { IsTrue result → (table more : Table) (id : ℕ) → table id ≡ None → more id ≡ row.now → AreSameBut id table more → IsLive table flags.old.items → IsLive more flags.new.items }
+    ensures { IsTrue result → Follows None row.now (λ t. IsLive t flags.old.items) (λ t. IsLive t flags.new.items) }
 {
     match row {
         Some(extent) => {
@@ -84,7 +82,7 @@ fn take_row(flags: &mut Vec<bool>, row: &Option<Extent>) -> bool
 
 // Gives the numbers of an object back, if there is one.
 fn give_row(taken: &mut Taken, was: Option<&Extent>)
-    ensures live { (table more : Table) (id : ℕ) → table id ≡ option_copied was.entry → more id ≡ None → AreSameBut id table more → IsLive table taken.old.flags.items → IsLive more taken.new.flags.items }
+    ensures live { Follows (option_copied was.entry) None (λ t. IsLive t taken.old.flags.items) (λ t. IsLive t taken.new.flags.items) }
     ensures below { (number : ℕ) → number < taken.new.least → slice_get taken.old.flags.items number ≡ Some true → slice_get taken.new.flags.items number ≡ Some true }
     ensures least { taken.new.least ≤ taken.old.least }
 {
@@ -96,7 +94,7 @@ fn give_row(taken: &mut Taken, was: Option<&Extent>)
 
 // Gives numbers of an object back and takes others. False where another object has one of these.
 fn exchange(taken: &mut Taken, was: Option<&Extent>, next: &Option<Extent>) -> bool
-    ensures { IsTrue result → (table more : Table) (id : ℕ) → table id ≡ option_copied was.entry → more id ≡ next.now → AreSameBut id table more → IsTaken table taken.old → IsTaken more taken.new }
+    ensures { IsTrue result → Follows (option_copied was.entry) next.now (λ t. IsTaken t taken.old) (λ t. IsTaken t taken.new) }
 {
     give_row(taken, was);
     take_row(&mut taken.flags, next)
@@ -104,7 +102,7 @@ fn exchange(taken: &mut Taken, was: Option<&Extent>, next: &Option<Extent>) -> b
 
 /// Keeps what is known while an object goes to other pages, or goes. It takes no memory.
 pub(crate) fn move_row(known: &mut Option<Taken>, was: Option<&Extent>, next: &Option<Extent>)
-    ensures { (table more : Table) (id : ℕ) → table id ≡ option_copied was.entry → more id ≡ next.now → AreSameBut id table more → IsKnown table known.old → IsKnown more known.new }
+    ensures { Follows (option_copied was.entry) next.now (λ t. IsKnown t known.old) (λ t. IsKnown t known.new) }
 {
     if let Some(taken) = known {
         if !exchange(taken, was, next) {

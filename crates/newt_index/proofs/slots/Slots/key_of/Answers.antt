@@ -1,5 +1,4 @@
 use Rattle.std.proofs.Common.{ℕ, List, Option, map, option_map, sym, ◌∙◌, ap, subst}
-use Rattle.newt_keys.specs.declared.types.Key.{Key}
 use Rattle.newt_index.specs.Pairs.{key_at}
 use Rattle.newt_index.specs.Kept.{Entry, pair_of}
 use Rattle.newt_index.specs.Noted.{Notes, AreNoted, AreNotes}

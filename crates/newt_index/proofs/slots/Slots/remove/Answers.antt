@@ -1,4 +1,4 @@
-use Rattle.std.proofs.Common.{List, Option, sym, ◌∙◌, ap, subst}
+use Rattle.std.proofs.Common.{Option, sym, ◌∙◌, ap, subst}
 use Rattle.std.specs.Option.{is_some}
 use Rattle.newt_index.specs.Noted.{Notes, AreNoted}
 use Rattle.newt_index.proofs.Notes.{slot_struck}
