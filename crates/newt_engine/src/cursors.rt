@@ -16,10 +16,10 @@ use crate::replies::{done, numbered, opened, shown, sided};
 use crate::world::World;
 use newt_base::Refusal;
 use newt_engine_card::Card;
-use newt_store_change::StoreFault;
 use newt_host::Host;
 use newt_reply::Reply;
 use newt_script::Command;
+use newt_store_change::StoreFault;
 
 impl<C: Card> World<C> {
     /// Obeys a command that opens, moves, shows or closes a cursor.
@@ -68,7 +68,11 @@ impl<C: Card> World<C> {
     }
 
     /// Opens, counts, clones or closes a cursor, or tells its side.
-    fn change_places<H: Host>(&mut self, host: &mut H, command: &Command) -> Result<Reply, StoreFault>
+    fn change_places<H: Host>(
+        &mut self,
+        host: &mut H,
+        command: &Command,
+    ) -> Result<Reply, StoreFault>
         requires desk { DeskFits self.old.desk }
         requires stands { Stands C.place C.stands H.told self.old.units (H.outside host.old) }
         requires on_place { on_place command.now ≡ true }

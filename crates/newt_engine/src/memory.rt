@@ -13,9 +13,9 @@ use crate::world::World;
 use newt_base::Refusal;
 use newt_engine_card::Card;
 use newt_engine_commands as commands;
-use newt_store_change::StoreFault;
 use newt_reply::Reply;
 use newt_script::Command;
+use newt_store_change::StoreFault;
 
 impl<C: Card> World<C> {
     /// Obeys a command that uses no device and shows no graph.
@@ -42,16 +42,9 @@ impl<C: Card> World<C> {
             Command::Indexes(unit, name) => {
                 spec_rows(commands::indexes(&self.units, *unit, name))
             }
-            Command::Tags(unit, name) => tag_row(commands::tags(
-                &self.units,
-                *unit,
-                name,
-            )),
+            Command::Tags(unit, name) => tag_row(commands::tags(&self.units, *unit, name)),
             Command::Alias(unit, name, uid) => {
-                alias_of(
-                    commands::alias(&self.units, *unit, name, *uid),
-                    *uid,
-                )
+                alias_of(commands::alias(&self.units, *unit, name, *uid), *uid)
             }
             Command::Resolve(graph) => place(self.units.resolve(graph)),
             _ => Err(StoreFault::Refused(Refusal::Command)),

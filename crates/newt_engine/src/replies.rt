@@ -7,11 +7,11 @@ ghost use Rattle.newt_engine_cursors.specs.Replies.{shown_reply, side_reply};
 ghost use Rattle.newt_engine.specs.Handed.{HandsOn};
 
 use newt_base::{Name, Sig, Uid};
-use newt_store_change::{Entry, StoreFault};
 use newt_engine_cursors::{Shown, Side};
 use newt_graph::Bytes;
 use newt_host::Unit;
 use newt_reply::{Alias, Reply, SoupRows, SpecRows, TagRow};
+use newt_store_change::{Entry, StoreFault};
 use newt_tags::TagTable;
 
 /// That it was done.
@@ -135,7 +135,9 @@ pub(crate) fn alias_of(found: Result<(Sig, Sig), StoreFault>, uid: Uid) -> Resul
 }
 
 /// Where the entry of an alias is, or that there is none.
-pub(crate) fn place(found: Result<Option<(Unit, Name, Uid)>, StoreFault>) -> Result<Reply, StoreFault>
+pub(crate) fn place(
+    found: Result<Option<(Unit, Name, Uid)>, StoreFault>,
+) -> Result<Reply, StoreFault>
     ensures { HandsOn (λ spot. or_nil (λ x. plain.Reply.where_is x.0 x.1 x.2) spot) found result }
 {
     match found {

@@ -12,15 +12,19 @@ ghost use Rattle.newt_engine.specs.Standing.{Standing};
 
 use crate::world::World;
 use newt_engine_card::Card;
-use newt_store_change::StoreFault;
 use newt_engine_cursors::settle;
 use newt_host::Host;
 use newt_reply::Reply;
 use newt_script::Command;
+use newt_store_change::StoreFault;
 
 impl<C: Card> World<C> {
     /// Obeys a command, with the cursors. A fault is its refusal, or the end of the run.
-    pub(crate) fn serve<H: Host>(&mut self, host: &mut H, command: Command) -> Result<Reply, StoreFault>
+    pub(crate) fn serve<H: Host>(
+        &mut self,
+        host: &mut H,
+        command: Command,
+    ) -> Result<Reply, StoreFault>
         requires { Standing C.reads C.place C.stands H.told self.old.units self.old.desk (H.outside host.old) }
         ensures { Served C.reads C.place C.stands H.told command self.old self.new
             (H.outside host.old) (H.outside host.new) result }
@@ -36,7 +40,11 @@ impl<C: Card> World<C> {
     }
 
     /// Obeys a command that uses no cursor, and settles the cursors where keys may have changed.
-    fn obey_and_settle<H: Host>(&mut self, host: &mut H, command: Command) -> Result<Reply, StoreFault>
+    fn obey_and_settle<H: Host>(
+        &mut self,
+        host: &mut H,
+        command: Command,
+    ) -> Result<Reply, StoreFault>
         requires stands { Standing C.reads C.place C.stands H.told self.old.units self.old.desk (H.outside host.old) }
         requires no_cursor { uses_cursors command ≡ false }
         ensures { Served C.reads C.place C.stands H.told command self.old self.new

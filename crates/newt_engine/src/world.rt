@@ -17,13 +17,13 @@ ghost use Rattle.newt_engine.specs.Laws.{laws_of, still_stands, same_world, leav
 
 use newt_cursor::Desk;
 use newt_engine_card::Card;
-use newt_store_change::StoreFault;
 use newt_engine_units::Units;
 use newt_host::Host;
 use newt_pagebook::Stop;
 use newt_reply::Reply;
 use newt_script::Command;
 use newt_script_session::Interpreter;
+use newt_store_change::StoreFault;
 use std::alloc::{AllocError, Global};
 
 /// The eight units with their cards and the 32 places for cursors, which with the devices of a host stand for one world.

@@ -97,7 +97,13 @@ fn bytes_from(bytes: &[u8], at: u32, len: u32) -> Option<&[u8]>
 }
 
 /// So many bytes of the large binary that a path of a graph reaches, from a place on.
-fn read_large(alloc: Global, graph: &Graph, path: &Path, at: u32, len: u32) -> Result<Bytes, StoreFault>
+fn read_large(
+    alloc: Global,
+    graph: &Graph,
+    path: &Path,
+    at: u32,
+    len: u32,
+) -> Result<Bytes, StoreFault>
     ensures read { ReadsLarge path.now at len graph.now result }
     ensures only { IfErr result (λ fault. NoDevice fault) }
 {

@@ -50,7 +50,11 @@ pub fn set_tags<C: Card, H: Host>(
 }
 
 /// The tags declaration of a soup, if it has one.
-pub fn tags<C: Card>(units: &Units<C>, unit: Unit, name: &Name) -> Result<Option<TagTable>, StoreFault>
+pub fn tags<C: Card>(
+    units: &Units<C>,
+    unit: Unit,
+    name: &Name,
+) -> Result<Option<TagTable>, StoreFault>
     ensures answered { (outside : Outside) → Eight outside → Stands C.place C.stands true units.now outside →
         Answers (world_of C.reads units.now outside) (world_of C.reads units.now outside) (Command.Tags unit name.now) (λ table. Reply.tags table) result }
     ensures only { IfErr result (λ fault. NoDevice fault) }

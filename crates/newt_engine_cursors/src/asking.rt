@@ -14,12 +14,12 @@ use crate::declared::index_for;
 use newt_base::{Name, Refusal};
 use newt_cursor::{Query, Scope};
 use newt_engine_card::Card;
-use newt_store_change::StoreFault;
 use newt_engine_units::Units;
 use newt_graph::Graph;
 use newt_keys::IndexSpec;
 use newt_pagebook::Stop;
 use newt_query::{BindFault, Shape, ShapeFault};
+use newt_store_change::StoreFault;
 use std::alloc::Global;
 
 /// What a frame asks of the soups of a name.

@@ -19,10 +19,10 @@ use crate::show::{Shown, Side, show};
 use newt_base::Refusal;
 use newt_cursor::{Desk, DeskFault, Place};
 use newt_engine_card::Card;
-use newt_store_change::StoreFault;
 use newt_engine_units::Units;
 use newt_host::Host;
 use newt_pagebook::Stop;
+use newt_store_change::StoreFault;
 
 /// Shows a cursor.
 pub fn entry<C: Card, H: Host>(

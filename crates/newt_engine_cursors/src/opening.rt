@@ -23,11 +23,11 @@ use crate::ways::Way;
 use newt_base::{Name, Refusal};
 use newt_cursor::{Desk, DeskFault, Query, Scope};
 use newt_engine_card::Card;
-use newt_store_change::StoreFault;
 use newt_engine_units::Units;
 use newt_graph::Graph;
 use newt_host::{Host, UNITS, Unit};
 use newt_pagebook::Stop;
+use newt_store_change::StoreFault;
 
 /// Opens a cursor on the first hit of a query in the soup of a name in one store, or behind all where it has no hits, and answers its number, from 0 to
 /// 31. Where all 32 places are taken it is refused as `Limit`.

@@ -21,12 +21,12 @@ ghost use Rattle.newt_engine_cursors.specs.World.{AreRead};
 use newt_base::{Sig, Uid};
 use newt_cursor::{Query, Scope};
 use newt_engine_card::Card;
-use newt_store_change::Entry;
 use newt_engine_units::Units;
 use newt_host::{Host, Unit};
 use newt_keys::{IndexSpec, Key};
 use newt_pagebook::Stop;
 use newt_query_filter::kept_key;
+use newt_store_change::Entry;
 use newt_tags::TagTable;
 use std::alloc::AllocError;
 

@@ -12,10 +12,10 @@ use crate::desks::standing;
 use crate::present::find_hit;
 use newt_cursor::Desk;
 use newt_engine_card::Card;
-use newt_store_change::Entry;
 use newt_engine_units::Units;
 use newt_host::{Host, Unit};
 use newt_pagebook::Stop;
+use newt_store_change::Entry;
 
 /// What a cursor shows.
 #[derive(Drop)]

@@ -28,13 +28,13 @@ use crate::ways::Way;
 use newt_base::{Name, Refusal, Sig, Uid};
 use newt_cursor::{Desk, Place, Query};
 use newt_engine_card::Card;
-use newt_store_change::StoreFault;
 use newt_engine_units::Units;
 use newt_graph::Graph;
 use newt_host::{Host, Unit};
 use newt_index::Spot;
 use newt_keys::{Key, key_from};
 use newt_pagebook::Stop;
+use newt_store_change::StoreFault;
 use std::alloc::{AllocError, Global};
 
 /// How a cursor is moved.

@@ -10,8 +10,8 @@ ghost use Rattle.newt_engine_units.specs.Stands.{Eight, Stands, world_of};
 
 use crate::units::Units;
 use newt_engine_card::Card;
-use newt_store_change::StoreFault;
 use newt_host::Unit;
+use newt_store_change::StoreFault;
 
 impl<C: Card> Units<C> {
     /// Sets the minute that later changes use.

@@ -15,9 +15,9 @@ ghost use Rattle.newt_engine_units.specs.Stands.{Eight, Stands, world_of};
 use crate::units::Units;
 use newt_base::{Name, Refusal, Sig};
 use newt_engine_card::Card;
-use newt_store_change::StoreFault;
 use newt_host::Unit;
 use newt_reply::{SoupLine, SoupRows, StoreRows};
+use newt_store_change::StoreFault;
 use std::alloc::AllocError;
 
 /// The most soups that a store has.

@@ -11,8 +11,8 @@ ghost use Rattle.newt_engine_units.specs.Looks.{attached_in, known_soup, FindsUn
 use crate::units::Units;
 use newt_base::{Name, Refusal, Sig, Uid};
 use newt_engine_card::Card;
-use newt_store_change::StoreFault;
 use newt_host::Unit;
+use newt_store_change::StoreFault;
 
 impl<C: Card> Units<C> {
     /// Whether the unit has a device.

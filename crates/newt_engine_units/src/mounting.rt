@@ -17,8 +17,8 @@ ghost use Rattle.newt_engine_units.specs.Stands.{Eight, Stands, mounted_in, worl
 use crate::units::Units;
 use newt_base::{Name, Refusal, Sig};
 use newt_engine_card::Card;
-use newt_store_change::StoreFault;
 use newt_host::{Host, Unit};
+use newt_store_change::StoreFault;
 
 /// The most stores that are mounted.
 const MOST_STORES: usize = 4;

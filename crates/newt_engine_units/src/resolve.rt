@@ -17,10 +17,10 @@ ghost use Rattle.newt_engine_units.specs.Stands.{Eight, Stands, world_of};
 use crate::units::Units;
 use newt_base::{Name, Refusal, Sig, Uid};
 use newt_engine_card::Card;
-use newt_store_change::StoreFault;
 use newt_entries_alias::Alias;
 use newt_graph::Graph;
 use newt_host::Unit;
+use newt_store_change::StoreFault;
 use std::alloc::AllocError;
 
 impl<C: Card> Units<C> {

@@ -18,9 +18,9 @@ ghost use Rattle.newt_engine_units.specs.Stands.{Stands, world_of};
 use crate::units::Units;
 use newt_base::{Name, Refusal, Sig};
 use newt_engine_card::Card;
-use newt_store_change::StoreFault;
 use newt_host::{Host, Unit};
 use newt_pagebook::{BookFault, LEAST_BLOCKS, MOST_BLOCKS, Stop};
+use newt_store_change::StoreFault;
 
 /// The largest signature of a store.
 const MOST_SIG: u32 = 536_870_911;
@@ -109,7 +109,13 @@ impl<C: Card> Units<C> {
     }
 
     /// Formats the device of a unit that has no store.
-    fn make<H: Host>(&self, host: &mut H, unit: Unit, name: &Name, sig: Sig) -> Result<(), StoreFault>
+    fn make<H: Host>(
+        &self,
+        host: &mut H,
+        unit: Unit,
+        name: &Name,
+        sig: Sig,
+    ) -> Result<(), StoreFault>
         requires stands { Stands C.place C.stands H.told self.now (H.outside host.old) }
         requires free { IsFree self.now.slots.items ((H.outside host.old).blocks unit) unit }
         requires sig { sig ≤ 536_870_911 }

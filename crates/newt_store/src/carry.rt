@@ -31,9 +31,7 @@ use crate::plan::ids_of;
 use newt_base::Refusal;
 use newt_host::Host;
 use newt_objects::Objects;
-use newt_objects_commit::{
-    NameTable, NewEntry, PlaceTable, commit_plans, plan_objects,
-};
+use newt_objects_commit::{NameTable, NewEntry, PlaceTable, commit_plans, plan_objects};
 use newt_pagebook::{Batch, PageBook};
 use newt_soupdir::{Directory, write_directory};
 use newt_store_catalog::Catalog;

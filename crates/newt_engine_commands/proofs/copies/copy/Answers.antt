@@ -52,11 +52,11 @@ returns-in_err-graph g c =
     let w = world_of g.C.Card.reads c.args.units.now (g.H.Host.outside c.args.host.now) in
     let e = c.in_err-graph.ensures in
     read-obeys at (command.Copy c.args.unit c.args.name.now c.args.uid c.args.to c.args.target.now) (λ n. Reply.number n) e.stands e.moment e.programs_nothing e.alone _ (handed _ _ _ (err_from_is_err_and c.from_residual-in_err-graph.result c.from_residual-in_err-graph.ensures.1) e.cause)
-    (λ t. 
-        let h = has-soup at t c.args.unit c.args.name.now c.in_ok-soup.soup c.in_ok-soup.ensures.0 in
-        let k = has-soup at t c.args.to c.args.target.now c.in_ok-soup.into c.in_ok-soup.ensures.1 in
-        copy-missing w _ c.args.unit h.blocks h.store c.args.name.now h.soup c.args.uid h.on h.named refl c.args.to k.blocks k.store c.args.target.now k.soup k.on k.named k.name_is _
-        (e.world t) c.in_err-graph.field-0.0 (subst (λ p. ReadsEntry (option_and_then (entry_of c.args.uid) p) (Err c.in_err-graph.field-0.0)) h.by_sig (e.read t h.blocks h.store h.on)) _ (is-err _ _ (err_from_is_err_and c.from_residual-in_err-graph.result c.from_residual-in_err-graph.ensures.1)))
+    (λ t.
+    let h = has-soup at t c.args.unit c.args.name.now c.in_ok-soup.soup c.in_ok-soup.ensures.0 in
+    let k = has-soup at t c.args.to c.args.target.now c.in_ok-soup.into c.in_ok-soup.ensures.1 in
+    copy-missing w _ c.args.unit h.blocks h.store c.args.name.now h.soup c.args.uid h.on h.named refl c.args.to k.blocks k.store c.args.target.now k.soup k.on k.named k.name_is _
+    (e.world t) c.in_err-graph.field-0.0 (subst (λ p. ReadsEntry (option_and_then (entry_of c.args.uid) p) (Err c.in_err-graph.field-0.0)) h.by_sig (e.read t h.blocks h.store h.on)) _ (is-err _ _ (err_from_is_err_and c.from_residual-in_err-graph.result c.from_residual-in_err-graph.ensures.1)))
 
 pub returns : goal.returns
 returns g c =

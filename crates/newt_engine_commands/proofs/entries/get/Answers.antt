@@ -37,9 +37,9 @@ returns-clause-obeyed g c =
     let w = world_of g.C.Card.reads c.args.units.now (g.H.Host.outside c.args.host.now) in
     let e = c.read_entry.ensures in
     read-obeys at (command.Get c.args.unit c.args.name.now c.args.uid) (λ e. Reply.timed e.time e.graph) e.stands e.moment e.programs_nothing e.alone _ e.cause (λ t.
-        let h = has-soup at t c.args.unit c.args.name.now c.in_ok-soup.soup c.in_ok-soup.ensures in
-        get-answers w _ c.args.unit h.blocks h.store c.args.name.now h.soup c.args.uid h.on h.named refl (e.world t) _
-        (subst (λ p. ReadsEntry (option_and_then (entry_of c.args.uid) p) c.read_entry.result) h.by_sig (e.read t h.blocks h.store h.on)))
+    let h = has-soup at t c.args.unit c.args.name.now c.in_ok-soup.soup c.in_ok-soup.ensures in
+    get-answers w _ c.args.unit h.blocks h.store c.args.name.now h.soup c.args.uid h.on h.named refl (e.world t) _
+    (subst (λ p. ReadsEntry (option_and_then (entry_of c.args.uid) p) c.read_entry.result) h.by_sig (e.read t h.blocks h.store h.on)))
 
 pub returns-in_err-soup-clause-as_stream : goal.returns-in_err-soup-clause-as_stream
 returns-in_err-soup-clause-as_stream g c =
@@ -54,6 +54,6 @@ returns-clause-as_stream g c =
     let w = world_of g.C.Card.reads c.args.units.now (g.H.Host.outside c.args.host.now) in
     let e = c.read_entry.ensures in
     read-obeys at (command.Getx c.args.unit c.args.name.now c.args.uid) (λ e. Reply.timed_nsof e.time e.graph) e.stands e.moment e.programs_nothing e.alone _ e.cause (λ t.
-        let h = has-soup at t c.args.unit c.args.name.now c.in_ok-soup.soup c.in_ok-soup.ensures in
-        getx-answers w _ c.args.unit h.blocks h.store c.args.name.now h.soup c.args.uid h.on h.named refl (e.world t) _
-        (subst (λ p. ReadsEntry (option_and_then (entry_of c.args.uid) p) c.read_entry.result) h.by_sig (e.read t h.blocks h.store h.on)))
+    let h = has-soup at t c.args.unit c.args.name.now c.in_ok-soup.soup c.in_ok-soup.ensures in
+    getx-answers w _ c.args.unit h.blocks h.store c.args.name.now h.soup c.args.uid h.on h.named refl (e.world t) _
+    (subst (λ p. ReadsEntry (option_and_then (entry_of c.args.uid) p) c.read_entry.result) h.by_sig (e.read t h.blocks h.store h.on)))

@@ -49,10 +49,10 @@ returns-in_err-spec g c =
     let w = world_of g.C.Card.reads c.args.units.now (g.H.Host.outside c.args.host.now) in
     let fit : parts_fit c.args.parts.now ≡ true = ap parts_fit (sym c.list-words.ensures) ∙ sym c.are_parts.ensures ∙ c.if-not-are_parts.false in
     refused-obeys at (command.Index c.args.unit c.args.name.now c.args.parts.now) (λ _. Reply.done) _ c.in_err-spec.ensures.only _ (err_from_is_err_and c.from_residual-in_err-spec.result c.from_residual-in_err-spec.ensures.1) (λ t.
-        let h = has-soup at t c.args.unit c.args.name.now c.in_ok-soup.soup c.in_ok-soup.ensures in
-        index-fails w w c.args.unit h.blocks h.store h.on refl c.args.name.now h.soup h.named h.name_is c.args.parts.now fit IndexSpec _
-        (subst (λ x. MayDeclare {T = IndexSpec} x h.soup (Err c.in_err-spec.field-0.0)) c.list-words.ensures (c.in_err-spec.ensures.may (g.H.Host.outside c.args.host.now) at.eight (stand-told at t) h.blocks h.store h.soup h.on h.by_sig)) _
-        (is-err _ _ (err_from_is_err_and c.from_residual-in_err-spec.result c.from_residual-in_err-spec.ensures.1)))
+    let h = has-soup at t c.args.unit c.args.name.now c.in_ok-soup.soup c.in_ok-soup.ensures in
+    index-fails w w c.args.unit h.blocks h.store h.on refl c.args.name.now h.soup h.named h.name_is c.args.parts.now fit IndexSpec _
+    (subst (λ x. MayDeclare {T = IndexSpec} x h.soup (Err c.in_err-spec.field-0.0)) c.list-words.ensures (c.in_err-spec.ensures.may (g.H.Host.outside c.args.host.now) at.eight (stand-told at t) h.blocks h.store h.soup h.on h.by_sig)) _
+    (is-err _ _ (err_from_is_err_and c.from_residual-in_err-spec.result c.from_residual-in_err-spec.ensures.1)))
 
 pub returns : goal.returns
 returns g c =
@@ -67,17 +67,17 @@ returns g c =
       answered = λ t.
           let h = has-soup at t c.args.unit c.args.name.now c.in_ok-soup.soup c.in_ok-soup.ensures in
           let may : MayDeclare {T = IndexSpec} c.args.parts.now h.soup (Ok c.in_ok-spec.spec) = subst (λ x. MayDeclare {T = IndexSpec} x h.soup (Ok c.in_ok-spec.spec)) c.list-words.ensures
-              (c.in_ok-spec.ensures.may (g.H.Host.outside c.args.host.now) at.eight (stand-told at t) h.blocks h.store h.soup h.on h.by_sig) in
+          (c.in_ok-spec.ensures.may (g.H.Host.outside c.args.host.now) at.eight (stand-told at t) h.blocks h.store h.soup h.on h.by_sig) in
           index-answers w _ c.args.unit h.blocks h.store h.on refl c.args.name.now h.soup h.named h.name_is c.args.parts.now fit c.in_ok-spec.spec words may.0 may.1 _ (said-done e t h.on (index-said h.blocks w.minute c.in_ok-soup.soup h.store h.soup h.by_sig c.in_ok-spec.spec) _ is);
       moments = λ t.
           let h = has-soup at t c.args.unit c.args.name.now c.in_ok-soup.soup c.in_ok-soup.ensures in
           let may : MayDeclare {T = IndexSpec} c.args.parts.now h.soup (Ok c.in_ok-spec.spec) = subst (λ x. MayDeclare {T = IndexSpec} x h.soup (Ok c.in_ok-spec.spec)) c.list-words.ensures
-              (c.in_ok-spec.ensures.may (g.H.Host.outside c.args.host.now) at.eight (stand-told at t) h.blocks h.store h.soup h.on h.by_sig) in
+          (c.in_ok-spec.ensures.may (g.H.Host.outside c.args.host.now) at.eight (stand-told at t) h.blocks h.store h.soup h.on h.by_sig) in
           said-moments e t h.on (index-said h.blocks w.minute c.in_ok-soup.soup h.store h.soup h.by_sig c.in_ok-spec.spec) _ (index-makes w w c.args.unit h.blocks h.store h.on refl c.args.name.now h.soup h.named h.name_is c.args.parts.now fit c.in_ok-spec.spec words may.0 may.1);
       costs = λ t.
           let h = has-soup at t c.args.unit c.args.name.now c.in_ok-soup.soup c.in_ok-soup.ensures in
           let may : MayDeclare {T = IndexSpec} c.args.parts.now h.soup (Ok c.in_ok-spec.spec) = subst (λ x. MayDeclare {T = IndexSpec} x h.soup (Ok c.in_ok-spec.spec)) c.list-words.ensures
-              (c.in_ok-spec.ensures.may (g.H.Host.outside c.args.host.now) at.eight (stand-told at t) h.blocks h.store h.soup h.on h.by_sig) in
+          (c.in_ok-spec.ensures.may (g.H.Host.outside c.args.host.now) at.eight (stand-told at t) h.blocks h.store h.soup h.on h.by_sig) in
           index-costs h c.args.parts.now fit may.0 may.1 c.in_ok-spec.spec words (done-costs c.change.result is (said-costs e t h.on (index-said h.blocks w.minute c.in_ok-soup.soup h.store h.soup h.by_sig c.in_ok-spec.spec)));
       alone = e.alone;
       cause = done-cause c.change.result is _ e.cause;

@@ -37,8 +37,8 @@ returns-then-not-has_index g c =
     let at = begins g c.requires in
     let w = world_of g.C.Card.reads c.args.units.now (g.H.Host.outside c.args.host.now) in
     still-obeys at (command.Unindex c.args.unit c.args.name.now c.args.paths) (λ _. Reply.done) _ tt (λ t.
-        let h = has-soup at t c.args.unit c.args.name.now c.in_ok-soup.soup c.in_ok-soup.ensures in
-        unindex-missing w c.args.unit h.blocks h.store c.args.name.now h.soup h.on h.named c.args.paths (ap (λ x. has_paths x h.soup.specs) (sym c.list.ensures) ∙ sym (c.has_index.ensures (g.H.Host.outside c.args.host.now) at.eight (stand-told at t) h.blocks h.store h.soup h.on h.by_sig) ∙ c.if-not-has_index.true))
+    let h = has-soup at t c.args.unit c.args.name.now c.in_ok-soup.soup c.in_ok-soup.ensures in
+    unindex-missing w c.args.unit h.blocks h.store c.args.name.now h.soup h.on h.named c.args.paths (ap (λ x. has_paths x h.soup.specs) (sym c.list.ensures) ∙ sym (c.has_index.ensures (g.H.Host.outside c.args.host.now) at.eight (stand-told at t) h.blocks h.store h.soup h.on h.by_sig) ∙ c.if-not-has_index.true))
 
 pub returns : goal.returns
 returns g c =

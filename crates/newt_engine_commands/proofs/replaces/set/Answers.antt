@@ -55,10 +55,10 @@ returns-in_err-graph g c =
     let w = world_of g.C.Card.reads c.args.units.now (g.H.Host.outside c.args.host.now) in
     let e = c.in_err-graph.ensures in
     read-obeys at (command.Set c.args.unit c.args.name.now c.args.uid c.args.path.now c.args.value.now) (λ _. Reply.done) e.stands e.moment e.programs_nothing e.alone _ (handed _ _ _ (err_from_is_err_and c.from_residual-in_err-graph.result c.from_residual-in_err-graph.ensures.1) e.cause)
-    (λ t. 
-        let h = has-soup at t c.args.unit c.args.name.now c.in_ok-soup.soup c.in_ok-soup.ensures in
-        set-missing w _ c.args.unit h.blocks h.store c.args.name.now h.soup c.args.uid h.on h.named c.args.path.now c.args.value.now (e.world t) c.in_err-graph.field-0.0
-        (subst (λ p. ReadsEntry (option_and_then (entry_of c.args.uid) p) (Err c.in_err-graph.field-0.0)) h.by_sig (e.read t h.blocks h.store h.on)) _ (is-err _ _ (err_from_is_err_and c.from_residual-in_err-graph.result c.from_residual-in_err-graph.ensures.1)))
+    (λ t.
+    let h = has-soup at t c.args.unit c.args.name.now c.in_ok-soup.soup c.in_ok-soup.ensures in
+    set-missing w _ c.args.unit h.blocks h.store c.args.name.now h.soup c.args.uid h.on h.named c.args.path.now c.args.value.now (e.world t) c.in_err-graph.field-0.0
+    (subst (λ p. ReadsEntry (option_and_then (entry_of c.args.uid) p) (Err c.in_err-graph.field-0.0)) h.by_sig (e.read t h.blocks h.store h.on)) _ (is-err _ _ (err_from_is_err_and c.from_residual-in_err-graph.result c.from_residual-in_err-graph.ensures.1)))
 
 pub returns-in_err-made : goal.returns-in_err-made
 returns-in_err-made g c =
@@ -67,12 +67,12 @@ returns-in_err-made g c =
     let read = c.in_ok-graph.ensures in
     read-obeys at (command.Set c.args.unit c.args.name.now c.args.uid c.args.path.now c.args.value.now) (λ _. Reply.done) read.stands read.moment read.programs_nothing read.alone _
     (none-cause _ _ _ (handed _ _ _ (err_from_is_err_and c.from_residual-in_err-made.result c.from_residual-in_err-made.ensures.1) (none-put c.in_err-made.field-0.0))) (λ t.
-        let h = has-soup at t c.args.unit c.args.name.now c.in_ok-soup.soup c.in_ok-soup.ensures in
-          let x : Entry = record { uid = c.in_ok-graph.field-0.uid; time = c.in_ok-graph.field-0.time; graph = c.in_ok-graph.field-0.graph } in
-          let found : entry_of c.args.uid h.soup ≡ Some x = read-found c.in_ok-soup.soup c.args.uid h.store h.soup c.in_ok-graph.field-0 c.in_ok-graph.field-0.graph refl h.by_sig (c.in_ok-graph.ensures.read t h.blocks h.store h.on) in
-          let same = read.world t in
-        set-fails w _ c.args.unit h.blocks h.store h.on refl c.args.name.now h.soup h.named h.name_is c.args.uid x found c.args.path.now c.args.value.now same c.in_err-made.field-0.0
-        (λ k. c.in_err-made.ensures.no_path.0 (ap {B = Result RawGraph SetFault} (λ x. Err x) k)) (λ k. c.in_err-made.ensures.limit (ap {B = Result RawGraph SetFault} (λ x. Err x) k)) _ (is-err _ _ (err_from_is_err_and c.from_residual-in_err-made.result c.from_residual-in_err-made.ensures.1)))
+    let h = has-soup at t c.args.unit c.args.name.now c.in_ok-soup.soup c.in_ok-soup.ensures in
+    let x : Entry = record { uid = c.in_ok-graph.field-0.uid; time = c.in_ok-graph.field-0.time; graph = c.in_ok-graph.field-0.graph } in
+    let found : entry_of c.args.uid h.soup ≡ Some x = read-found c.in_ok-soup.soup c.args.uid h.store h.soup c.in_ok-graph.field-0 c.in_ok-graph.field-0.graph refl h.by_sig (c.in_ok-graph.ensures.read t h.blocks h.store h.on) in
+    let same = read.world t in
+    set-fails w _ c.args.unit h.blocks h.store h.on refl c.args.name.now h.soup h.named h.name_is c.args.uid x found c.args.path.now c.args.value.now same c.in_err-made.field-0.0
+    (λ k. c.in_err-made.ensures.no_path.0 (ap {B = Result RawGraph SetFault} (λ x. Err x) k)) (λ k. c.in_err-made.ensures.limit (ap {B = Result RawGraph SetFault} (λ x. Err x) k)) _ (is-err _ _ (err_from_is_err_and c.from_residual-in_err-made.result c.from_residual-in_err-made.ensures.1)))
 
 pub returns : goal.returns
 returns g c =

@@ -49,9 +49,9 @@ returns-then-names-gt-MOST_TAGS g c =
     let w = world_of g.C.Card.reads c.args.units.now (g.H.Host.outside c.args.host.now) in
     let fit : tags_fit c.args.path.now c.args.symbols.now ≡ true = ap (tags_fit c.args.path.now) (sym c.list-names.ensures) ∙ sym c.are_tags.ensures ∙ c.if-not-are_tags.false in
     still-obeys at (command.SetTags c.args.unit c.args.name.now c.args.path.now c.args.symbols.now) (λ _. Reply.done) _ tt (λ t.
-        let h = has-soup at t c.args.unit c.args.name.now c.in_ok-soup.soup c.in_ok-soup.ensures in
-        set-tags-many w c.args.unit c.args.name.now c.args.path.now c.args.symbols.now fit h.blocks h.store h.soup h.on h.named
-        (lt-ltb 64 (length c.args.symbols.now) (subst (λ n. 64 < n) (ap (λ xs. length xs) c.list-names.ensures) c.if-names-gt-MOST_TAGS.true)))
+    let h = has-soup at t c.args.unit c.args.name.now c.in_ok-soup.soup c.in_ok-soup.ensures in
+    set-tags-many w c.args.unit c.args.name.now c.args.path.now c.args.symbols.now fit h.blocks h.store h.soup h.on h.named
+    (lt-ltb 64 (length c.args.symbols.now) (subst (λ n. 64 < n) (ap (λ xs. length xs) c.list-names.ensures) c.if-names-gt-MOST_TAGS.true)))
 
 pub returns-in_err-table : goal.returns-in_err-table
 returns-in_err-table g c =

@@ -25,8 +25,8 @@ returns-then-settles g c =
     let s = c.settled.ensures in
     let w = world_with g.C.Card.reads a.units a.desk (o c.args.host.now) in
     let answers : IsTrue g.H.Host.told → Answers w (world_with g.C.Card.reads c.settled.new.self.units c.settled.new.self.desk (o c.settled.new.host)) c.args.command said c.settled.result = λ t.
-        settled_answers laws g.H.Host.told a.units a.desk (o c.args.host.now) c.requires.stands t c.args.command c.requires.no_cursor v _ c.in-Ok.reply _ (c.in-Ok.ensures.answered t) c.obey.new.self.desk e.desk
-        (s.settled t (apart_after laws g.H.Host.told a.units a.desk (o c.args.host.now) c.requires.stands t c.args.command c.requires.no_cursor v (said c.in-Ok.reply) (c.in-Ok.ensures.answered t))) s.same s.ends in
+    settled_answers laws g.H.Host.told a.units a.desk (o c.args.host.now) c.requires.stands t c.args.command c.requires.no_cursor v _ c.in-Ok.reply _ (c.in-Ok.ensures.answered t) c.obey.new.self.desk e.desk
+    (s.settled t (apart_after laws g.H.Host.told a.units a.desk (o c.args.host.now) c.requires.stands t c.args.command c.requires.no_cursor v (said c.in-Ok.reply) (c.in-Ok.ensures.answered t))) s.same s.ends in
     record {
       stands = stands_after g.H.Host.told a.units c.settled.new.self.units a.desk c.settled.new.self.desk (o c.args.host.now) (o c.settled.new.host) c.requires.stands s.read.stand
           (record { eight = g.met.H.Host.eight c.settled.new.host; none = g.met.H.Host.none c.settled.new.host }) s.desk c.args.command said _ answers;
@@ -49,7 +49,7 @@ returns-else-settles g c =
     let e = c.obey.ensures in
     let w = world_with g.C.Card.reads a.units a.desk (o c.args.host.now) in
     let answers : IsTrue g.H.Host.told → Answers w (world_with g.C.Card.reads c.obey.new.self.units c.obey.new.self.desk (o c.obey.new.host)) c.args.command said (Ok c.in-Ok.reply) = λ t.
-        done_answers laws g.H.Host.told a.units a.desk (o c.args.host.now) c.requires.stands t c.args.command c.requires.no_cursor v c.in-Ok.reply (sym c.settles-settles.ensures ∙ c.if-settles.false) (c.in-Ok.ensures.answered t) c.obey.new.self.desk e.desk in
+    done_answers laws g.H.Host.told a.units a.desk (o c.args.host.now) c.requires.stands t c.args.command c.requires.no_cursor v c.in-Ok.reply (sym c.settles-settles.ensures ∙ c.if-settles.false) (c.in-Ok.ensures.answered t) c.obey.new.self.desk e.desk in
     record {
       stands = λ goes. stands_after g.H.Host.told a.units c.obey.new.self.units a.desk c.obey.new.self.desk (o c.args.host.now) (o c.obey.new.host) c.requires.stands (c.in-Ok.ensures.stands tt)
           (record { eight = g.met.H.Host.eight c.obey.new.host; none = g.met.H.Host.none c.obey.new.host }) (subst DeskFits (sym e.desk) c.requires.stands.desk) c.args.command said (Ok c.in-Ok.reply) answers goes;
@@ -71,7 +71,7 @@ returns-in-Err g c =
     let e = c.obey.ensures in
     let w = world_with g.C.Card.reads a.units a.desk (o c.args.host.now) in
     let answers : IsTrue g.H.Host.told → Answers w (world_with g.C.Card.reads c.obey.new.self.units c.obey.new.self.desk (o c.obey.new.host)) c.args.command said (Err c.in-Err.fault) = λ t.
-        fault_answers laws g.H.Host.told a.units a.desk (o c.args.host.now) c.requires.stands t c.args.command c.requires.no_cursor v c.in-Err.fault (c.in-Err.ensures.answered t) c.obey.new.self.desk e.desk in
+    fault_answers laws g.H.Host.told a.units a.desk (o c.args.host.now) c.requires.stands t c.args.command c.requires.no_cursor v c.in-Err.fault (c.in-Err.ensures.answered t) c.obey.new.self.desk e.desk in
     record {
       stands = λ goes. stands_after g.H.Host.told a.units c.obey.new.self.units a.desk c.obey.new.self.desk (o c.args.host.now) (o c.obey.new.host) c.requires.stands (c.in-Err.ensures.stands goes)
           (record { eight = g.met.H.Host.eight c.obey.new.host; none = g.met.H.Host.none c.obey.new.host }) (subst DeskFits (sym e.desk) c.requires.stands.desk) c.args.command said (Err c.in-Err.fault) answers goes;

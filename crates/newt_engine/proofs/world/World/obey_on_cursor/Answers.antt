@@ -16,7 +16,7 @@ returns g c =
     let e = c.walk.ensures in
     let w = world_with g.C.Card.reads a.units a.desk (o c.args.host.now) in
     let answers : IsTrue g.H.Host.told → Answers w (world_with g.C.Card.reads c.walk.new.self.units c.walk.new.self.desk (o c.walk.new.host)) c.args.command.now said c.walk.result = λ t.
-        walked_answers _ _ c.args.command.now said _ c.requires.on_cursor (e.answered t (c.requires.stands.apart t)) in
+    walked_answers _ _ c.args.command.now said _ c.requires.on_cursor (e.answered t (c.requires.stands.apart t)) in
     record {
       stands = stands_after g.H.Host.told a.units c.walk.new.self.units a.desk c.walk.new.self.desk (o c.args.host.now) (o c.walk.new.host) c.requires.stands e.read.stand
           (record { eight = g.met.H.Host.eight c.walk.new.host; none = g.met.H.Host.none c.walk.new.host }) e.desk c.args.command.now said _ answers;

@@ -29,7 +29,7 @@ returns-in_err-store g c =
     let p = err_from_is_err_and c.from_residual.result c.from_residual.ensures.1 in
     let Card : Type 0 = IndexedStore g.row.P.Denot in
     subst (λ (x : Result Card BookFault). Opens readable (λ card. g.P.PageBook.place card.store.book) (λ told card outside. StandsOn g.P.PageBook.place g.P.PageBook.numbers g.P.PageBook.stands told card outside)
-        g.H.Host.told c.args.unit (o c.args.host.now) (o c.open.new.host) x) (sym (p.1 ∙ ap {B = Result Card BookFault} (λ x. Err x) p.2)) (record {
+    g.H.Host.told c.args.unit (o c.args.host.now) (o c.open.new.host) x) (sym (p.1 ∙ ap {B = Result Card BookFault} (λ x. Err x) p.2)) (record {
       stands = tt;
       place_is = tt;
       not_store = λ is tells. e.not_store (same-fault f NotStore is) tells;
