@@ -61,7 +61,9 @@ returns-in-Format g c =
     }
 
 pub returns-in-Mount : goal.returns-in-Mount
-returns-in-Mount g c = handed_obeyed c.mounted.ensures c.in-Mount.is refl refl c.mount.ensures refl
+returns-in-Mount g c =
+    let e = c.mount.ensures in
+    handed_obeyed c.mounted.ensures c.in-Mount.is refl refl (record { stands = e.stands; answered = e.answered; moments = e.moments; costs = e.costs; alone = e.alone; cause = e.cause }) refl
 
 pub returns-in-Soup : goal.returns-in-Soup
 returns-in-Soup g c = handed_obeyed c.numbered.ensures c.in-Soup.is refl refl c.soup.ensures refl

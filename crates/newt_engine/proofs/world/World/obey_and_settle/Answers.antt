@@ -35,7 +35,7 @@ returns-then-settles g c =
           (moments_with laws g.H.Host.told a.units a.desk (o c.args.host.now) c.requires.stands t c.args.command c.requires.no_cursor (o c.obey.new.host).now (e.moments t));
       costs = λ t. settled_costs a.desk c.requires.no_cursor (c.in-Ok.ensures.costs t) (λ goes. tt) s.read.moment (s.read.programs t);
       alone = OnDevices-append e.alone s.read.alone;
-      cause = cause-after _ e.alone s.cause;
+      cause = cause-after _ _ e.alone s.cause;
       ends = λ none. absurd (moves_in_memory c.args.command (sym c.settles-settles.ensures ∙ c.if-settles.true) none);
       device = λ none. absurd (moves_on_devices c.args.command (sym c.settles-settles.ensures ∙ c.if-settles.true) none);
     }
