@@ -1,5 +1,7 @@
 //! The 32 places for cursors.
-ghost use Rattle.std.specs.Prelude.{◌≡◌, ◌<◌, ◌≤◌, ◌^◌, ◌↔◌, Some, None, IsSome, IfSome, IfOk, IfErr, IsErrOf, OnErr, length, map, option_map, is_none, replicate, slice_get, slice_set};
+ghost use Rattle.std.specs.Prelude.{◌≡◌, ◌<◌, ◌≤◌, ◌^◌, ◌↔◌, Some, None, IsSome, IfSome, IfOk};
+ghost use Rattle.std.specs.Prelude.{IfErr, IsErrOf, OnErr, length, map, option_map, is_none};
+ghost use Rattle.std.specs.Prelude.{replicate, slice_get, slice_set};
 ghost use Rattle.std.specs.List.{position};
 ghost use Rattle.newt_spec_world.specs.World.{change_at, flat};
 ghost use Rattle.newt_tags.specs.Masks.{number};
@@ -67,11 +69,13 @@ impl Desk {
         })
     }
 
-    /// Opens a cursor at the least free number, and answers this number. Limit exactly where 32 are open. The query's memory alone is taken.
+    /// Opens a cursor at the least free number, and answers this number. Limit exactly where 32 are
+    /// open. The query's memory alone is taken.
     #[tactic(auto, using(crate::proofs::Places::set_seen))]
     pub fn open(&mut self, query: Query, place: Place) -> Result<u8, DeskFault>
         ensures number { IfOk result (λ c. position is_none self.old ≡ Some c) }
-        ensures ok { IfOk result (λ c. self.new ≡ slice_set self.old c (Some (record { query = query_of query; place = place_of place }))) }
+        ensures ok { IfOk result (λ c. self.new ≡ slice_set self.old c
+            (Some (record { query = query_of query; place = place_of place }))) }
         ensures limit { IsErrOf result DeskFault.Limit ↔ (position is_none self.old ≡ None) }
         ensures err { OnErr result (self.new ≡ self.old) }
     {
@@ -81,13 +85,14 @@ impl Desk {
         Ok(free as u8)
     }
 
-    /// Opens another cursor with the query and the place of one that is open, at the least free number, and answers this number. Limit exactly where 32 are
-    /// open.
+    /// Opens another cursor with the query and the place of one that is open, at the least free
+    /// number, and answers this number. Limit exactly where 32 are open.
     #[tactic(auto, using(crate::proofs::Places::set_seen, crate::proofs::Places::seen_at))]
     pub fn clone_of(&mut self, cursor: u8) -> Result<u8, DeskFault>
         requires { IsSome (flat (slice_get self.old cursor)) }
         ensures number { IfOk result (λ c. position is_none self.old ≡ Some c) }
-        ensures ok { IfOk result (λ c. self.new ≡ slice_set self.old c (flat (slice_get self.old cursor))) }
+        ensures ok { IfOk result (λ c. self.new ≡ slice_set self.old c
+            (flat (slice_get self.old cursor))) }
         ensures limit { IsErrOf result DeskFault.Limit ↔ (position is_none self.old ≡ None) }
         ensures err { OnErr result (self.new ≡ self.old) }
     {
@@ -102,7 +107,8 @@ impl Desk {
 
     /// What a cursor walks. None exactly where no cursor of this number is open.
     pub fn query(&self, cursor: u8) -> Option<&Query>
-        ensures query { option_map (λ q. query_of q.now) result ≡ option_map (λ k. k.query) (flat (slice_get self.now cursor)) }
+        ensures query { option_map (λ q. query_of q.now) result
+            ≡ option_map (λ k. k.query) (flat (slice_get self.now cursor)) }
         ensures open { IsSome result → IsSome (flat (slice_get self.now cursor)) }
     {
         match self.at(cursor) {
@@ -113,7 +119,8 @@ impl Desk {
 
     /// Where a cursor stands. None exactly where no cursor of this number is open.
     pub fn place(&self, cursor: u8) -> Option<&Place>
-        ensures { option_map (λ p. place_of p.now) result ≡ option_map (λ k. k.place) (flat (slice_get self.now cursor)) }
+        ensures { option_map (λ p. place_of p.now) result
+            ≡ option_map (λ k. k.place) (flat (slice_get self.now cursor)) }
     {
         match self.at(cursor) {
             Some(open) => Some(&open.place),
@@ -121,7 +128,8 @@ impl Desk {
         }
     }
 
-    /// Puts a cursor at another place. Nothing changes where no cursor of this number is open. It takes no memory.
+    /// Puts a cursor at another place. Nothing changes where no cursor of this number is open. It
+    /// takes no memory.
     #[tactic(auto, using(crate::proofs::Places::changed_at, crate::proofs::Places::stays_at))]
     pub fn step(&mut self, cursor: u8, place: Place)
         ensures { self.new ≡ change_at cursor (put_on (place_of place)) self.old }
@@ -131,14 +139,16 @@ impl Desk {
         }
     }
 
-    /// Which cursors stand on an entry, whatever its key: bit c is that of cursor c. It takes no memory.
+    /// Which cursors stand on an entry, whatever its key: bit c is that of cursor c. It takes no
+    /// memory.
     pub fn watchers(&self, store: Sig, soup: Sig, uid: Uid) -> u32
         ensures { result ≡ number (map (stands_on store soup uid) self.now) }
     {
         watching(&self.cursors, store, soup, uid)
     }
 
-    /// Sets the key of the entry on which a cursor stands, whose graph has changed. Nothing changes where the cursor is not open or stands on no entry. It takes no memory.
+    /// Sets the key of the entry on which a cursor stands, whose graph has changed. Nothing changes
+    /// where the cursor is not open or stands on no entry. It takes no memory.
     #[tactic(auto, using(crate::proofs::Places::changed_at, crate::proofs::Places::stays_at))]
     pub fn changed(&mut self, cursor: u8, key: Key)
         ensures { self.new ≡ change_at cursor (keyed key) self.old }
@@ -148,7 +158,8 @@ impl Desk {
         }
     }
 
-    /// Frees the place of a cursor. Nothing changes where no cursor of this number is open. It takes no memory.
+    /// Frees the place of a cursor. Nothing changes where no cursor of this number is open. It
+    /// takes no memory.
     #[tactic(auto, using(crate::proofs::Places::set_seen, crate::proofs::Places::set_beyond))]
     pub fn close(&mut self, cursor: u8)
         ensures { self.new ≡ slice_set self.old cursor None }
@@ -204,7 +215,8 @@ fn first_free(cursors: &[Option<Cursor>]) -> Option<usize>
 
 /// Puts the cursor at a place, where there is a cursor.
 fn put_at(cursor: &mut Option<Cursor>, place: Place)
-    ensures { option_map cursor_of cursor.new ≡ option_map (put_on (place_of place)) (option_map cursor_of cursor.old) }
+    ensures { option_map cursor_of cursor.new
+        ≡ option_map (put_on (place_of place)) (option_map cursor_of cursor.old) }
 {
     if let Some(open) = cursor {
         open.place = place;
@@ -213,7 +225,8 @@ fn put_at(cursor: &mut Option<Cursor>, place: Place)
 
 /// Gives the place of the cursor this key, where there is a cursor that stands on an entry.
 fn key_at(cursor: &mut Option<Cursor>, key: Key)
-    ensures { option_map cursor_of cursor.new ≡ option_map (keyed key) (option_map cursor_of cursor.old) }
+    ensures { option_map cursor_of cursor.new
+        ≡ option_map (keyed key) (option_map cursor_of cursor.old) }
 {
     if let Some(open) = cursor {
         open.place.set_key(key);

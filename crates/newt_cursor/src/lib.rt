@@ -1,8 +1,9 @@
 //! The desk of cursors: 32 places, each free or with a query and a place among its hits.
 //!
-//! It stands on `newt_query` for what a query asks, on `newt_index` for identities with their keys, and on the definitions of cursors in
-//! `newt_spec_query` and of their places in `newt_spec_world`. The promise that it carries: the desk is the world's list of cursors, each call is that
-//! list's operation, and it knows which cursors stand on an entry.
+//! It stands on `newt_query` for what a query asks, on `newt_index` for identities with their keys,
+//! and on the definitions of cursors in `newt_spec_query` and of their places in `newt_spec_world`.
+//! The promise that it carries: the desk is the world's list of cursors, each call is that list's
+//! operation, and it knows which cursors stand on an entry.
 #![tactic(auto)]
 
 mod desk;

@@ -1,7 +1,6 @@
 -- What a command costs, by what a call on the units costs.
-use Rattle.std.proofs.Common.{arith, ◌≡◌, ap, sym, ◌∙◌, subst, ℕ, ◌≤◌, List, false, Option, inr}
+use Rattle.std.proofs.Common.{◌≡◌, ap, sym, ◌∙◌, subst, ℕ, List, false, Option, inr}
 use Rattle.std.specs.Prelude.{Result}
-use Rattle.newt_host.specs.Moments.{changes}
 use Rattle.newt_host.specs.Outside.{Outside}
 use Rattle.newt_reply.specs.declared.reply.Reply.{Reply}
 use Rattle.newt_spec_graph.proofs.Lists.{both-ways}
@@ -12,10 +11,11 @@ use Rattle.newt_spec_world.specs.Reply as plain
 use Rattle.newt_spec_world.specs.World.{World}
 use Rattle.newt_laws_answers.specs.Bounds.{most_programmed}
 use Rattle.newt_laws_answers.proofs.Most.{cursors-cost-nothing}
-use Rattle.newt_laws_cursors.specs.Cursors.{with_cursors, uses_cursors}
+use Rattle.newt_laws_world.specs.Cursors.{with_cursors, uses_cursors}
 use Rattle.newt_store_change.specs.declared.fault.StoreFault.{StoreFault}
-use Rattle.newt_engine_card.specs.Bounds.{Costs, IsOpenOrSame, ProgramsAtMost}
+use Rattle.newt_engine_card.specs.Bounds.{Costs, IsOpenOrSame, LeftAlone, ProgramsAtMost}
 use Rattle.newt_store_change.specs.Faults.{GoesOn}
+use Rattle.newt_engine_units.proofs.Costs.{alone-bound, bound-before}
 use Rattle.newt_engine.specs.Bounds.{CommandCosts, is_format}
 use Rattle.newt_engine.specs.Handed.{HandsOn}
 use Rattle.newt_engine.proofs.Handed.{goes_back}
@@ -34,14 +34,13 @@ pub format_costs : {T : Type 0} {w : World} {c : Command} {unit : ℕ} {name : L
 format_costs same leaves = record { bound = λ other. absurd (both-ways (sym other ∙ ap is_format same)); open_after = leaves }
 
 -- nothing is programmed, and nothing has happened
-pub still_costs : {T : Type 0} {w : World} {c : Command} {result : Result T StoreFault} {o p : Outside} → p.now ≡ o.now → ((u : ℕ) → p.programmed u ≤ o.programmed u) → CommandCosts w c result o p
-still_costs same programs = record { bound = λ _ u _. let x = programs u in omega arith; open_after = λ _ u. inr (ap (changes u) same) }
+pub still_costs : {T : Type 0} {w : World} {c : Command} {result : Result T StoreFault} {o p : Outside} → ((u : ℕ) → LeftAlone u o p) → CommandCosts w c result o p
+still_costs alone = record { bound = λ _ u. alone-bound _ (alone u); open_after = λ _ u. inr (alone u).changes }
 
 -- a command that uses no cursor costs the same with cursors, and to settle them costs nothing
 pub settled_costs : {S T : Type 0} (ks : List (Option Cursor)) {w : World} {c : Command} {call : Result S StoreFault} {result : Result T StoreFault} {o m p : Outside} → uses_cursors c ≡ false
-    → CommandCosts w c call o m → (GoesOn result → GoesOn call) → p.now ≡ m.now → ((u : ℕ) → p.programmed u ≤ m.programmed u) → CommandCosts (with_cursors ks w) c result o p
-settled_costs ks {w} {c} {call} {result} {o} {m} {p} none k goes same programs = record {
-  bound = λ other u. subst (λ n. ProgramsAtMost n u o p) (sym (cursors-cost-nothing ks w c u none))
-      (λ room. let x = k.bound other u room in let y = programs u in omega arith);
+    → CommandCosts w c call o m → (GoesOn result → GoesOn call) → p.now ≡ m.now → ((u : ℕ) → LeftAlone u m p) → CommandCosts (with_cursors ks w) c result o p
+settled_costs ks {w} {c} {call} {result} {o} {m} {p} none k goes same alone = record {
+  bound = λ other u. subst (λ n. ProgramsAtMost n u o p) (sym (cursors-cost-nothing ks w c u none)) (bound-before (k.bound other u) (alone u));
   open_after = λ h u. subst (λ now. IsOpenOrSame u o.now now) (sym same) (k.open_after (goes h) u);
 }

@@ -1,26 +1,31 @@
 -- The commands, told apart by the arms that took others.
-use Rattle.std.proofs.Common.{◌≡◌, refl, true, false}
+use Rattle.std.proofs.Common.{◌≡◌, refl, ap, sym, ◌∙◌, ℕ, List, true, false}
+use Rattle.std.proofs.lemmas.Bool.{and_parts}
+use Rattle.newt_base.specs.Names.{is_name}
+use Rattle.newt_spec_store.specs.Keys.{Path}
+use Rattle.newt_spec_world.specs.declared.command.PartWord.{PartWord}
+use Rattle.newt_laws_world.specs.Worlds.{has_form, parts_fit, sig_fits, tags_fit}
 use Rattle.newt_spec_world.specs.declared.command.Command.{Command}
 use Rattle.newt_spec_world.specs.declared.command.Command.TheVariants as command
-use Rattle.newt_laws_cursors.specs.Cursors.{uses_cursors}
-use Rattle.newt_engine.specs.Ends.{takes_memory, uses_device}
+use Rattle.newt_laws_world.specs.Cursors.{uses_cursors}
+use Rattle.newt_engine.specs.Ends.{uses_device}
 use Rattle.newt_engine.specs.Groups.{is_shown, on_place}
 
 -- there are no others
-pub no_other : (c : Command) → is_shown c ≡ false → uses_device c ≡ false → ((t : _) → c ≡ command.Time t → ⊥) → (c ≡ command.Quit → ⊥) → ((u : _) → c ≡ command.Unmount u → ⊥) → (c ≡ command.Stores → ⊥)
+pub no_other : (c : Command) → is_shown c ≡ false → uses_device c ≡ false → uses_cursors c ≡ false → ((t : _) → c ≡ command.Time t → ⊥) → (c ≡ command.Quit → ⊥) → ((u : _) → c ≡ command.Unmount u → ⊥) → (c ≡ command.Stores → ⊥)
     → ((u : _) → c ≡ command.Default u → ⊥) → ((u : _) → c ≡ command.Soups u → ⊥) → ((u s : _) → c ≡ command.Indexes u s → ⊥) → ((u s : _) → c ≡ command.Tags u s → ⊥) → ((u s i : _) → c ≡ command.Alias u s i → ⊥) → ((g : _) → c ≡ command.Resolve g → ⊥) → ⊥
 unfolding uses_cursors
-no_other (command.Time t) g d time quit unmount stores default soups indexes tags alias resolve = time t refl
-no_other command.Quit g d time quit unmount stores default soups indexes tags alias resolve = quit refl
-no_other (command.Unmount u) g d time quit unmount stores default soups indexes tags alias resolve = unmount u refl
-no_other command.Stores g d time quit unmount stores default soups indexes tags alias resolve = stores refl
-no_other (command.Default u) g d time quit unmount stores default soups indexes tags alias resolve = default u refl
-no_other (command.Soups u) g d time quit unmount stores default soups indexes tags alias resolve = soups u refl
-no_other (command.Indexes u s) g d time quit unmount stores default soups indexes tags alias resolve = indexes u s refl
-no_other (command.Tags u s) g d time quit unmount stores default soups indexes tags alias resolve = tags u s refl
-no_other (command.Alias u s i) g d time quit unmount stores default soups indexes tags alias resolve = alias u s i refl
-no_other (command.Resolve x) g d time quit unmount stores default soups indexes tags alias resolve = resolve x refl
-no_other _ g d time quit unmount stores default soups indexes tags alias resolve = cc
+no_other (command.Time t) g d n time quit unmount stores default soups indexes tags alias resolve = time t refl
+no_other command.Quit g d n time quit unmount stores default soups indexes tags alias resolve = quit refl
+no_other (command.Unmount u) g d n time quit unmount stores default soups indexes tags alias resolve = unmount u refl
+no_other command.Stores g d n time quit unmount stores default soups indexes tags alias resolve = stores refl
+no_other (command.Default u) g d n time quit unmount stores default soups indexes tags alias resolve = default u refl
+no_other (command.Soups u) g d n time quit unmount stores default soups indexes tags alias resolve = soups u refl
+no_other (command.Indexes u s) g d n time quit unmount stores default soups indexes tags alias resolve = indexes u s refl
+no_other (command.Tags u s) g d n time quit unmount stores default soups indexes tags alias resolve = tags u s refl
+no_other (command.Alias u s i) g d n time quit unmount stores default soups indexes tags alias resolve = alias u s i refl
+no_other (command.Resolve x) g d n time quit unmount stores default soups indexes tags alias resolve = resolve x refl
+no_other _ g d n time quit unmount stores default soups indexes tags alias resolve = cc
 
 -- a command that uses no cursor and is none of these shows no graph and uses no device
 pub in_memory : (k : Command) → uses_cursors k ≡ false
@@ -79,8 +84,15 @@ no_place (command.Clone a) place query all count which clone close = clone a ref
 no_place (command.Close a) place query all count which clone close = close a refl
 no_place _ place query all count which clone close = cc
 
--- a command on cursors may take memory and use a device
-pub cursors_use_all : (k : Command) → uses_cursors k ≡ true → (takes_memory k ≡ false → ⊥) × (uses_device k ≡ false → ⊥)
-unfolding uses_cursors
-cursors_use_all (command.Nsof _) cursors = (λ none. cc, λ none. cc)
-cursors_use_all _ cursors = (λ none. cc, λ none. cc)
+-- the words of a command that is of its form
+pub format_form : (c : Command) (u : ℕ) (name : List ℕ) (sig : ℕ) → c ≡ command.Format u name sig → has_form c ≡ true → sig_fits sig ≡ true
+unfolding has_form
+format_form c u name sig is h = (and_parts (is_name name) (sig_fits sig) (ap has_form (sym is) ∙ h)).1
+
+pub index_form : (c : Command) (u : ℕ) (name : List ℕ) (parts : List PartWord) → c ≡ command.Index u name parts → has_form c ≡ true → parts_fit parts ≡ true
+unfolding has_form
+index_form c u name parts is h = ap has_form (sym is) ∙ h
+
+pub tags_form : (c : Command) (u : ℕ) (name : List ℕ) (path : Path) (symbols : List (List ℕ)) → c ≡ command.SetTags u name path symbols → has_form c ≡ true → tags_fit path symbols ≡ true
+unfolding has_form
+tags_form c u name path symbols is h = ap has_form (sym is) ∙ h

@@ -3,6 +3,7 @@ use Rattle.std.proofs.Common.{◌≡◌, refl, sym, ◌∙◌, ap, subst, ℕ, L
 use Rattle.std.specs.Prelude.{Result, Ok, Err, IfErr}
 use Rattle.newt_host.specs.Moments.{Moment, Always}
 use Rattle.newt_host.specs.Outside.{Outside}
+use Rattle.newt_pagebook.specs.declared.book.Stop.{Stop as End}
 use Rattle.newt_pagebook.specs.declared.book.Stop.TheVariants as stops
 use Rattle.newt_reply.specs.Said.{said}
 use Rattle.newt_reply.specs.declared.reply.Reply.{Reply}
@@ -11,7 +12,7 @@ use Rattle.newt_spec_world.specs.declared.command.Command.{Command}
 use Rattle.newt_spec_world.specs.Reply as plain
 use Rattle.newt_spec_world.specs.World.{World}
 use Rattle.newt_laws_answers.specs.Answering.{Answering}
-use Rattle.newt_laws_answers.specs.Spoken.{answer_now}
+use Rattle.newt_spec_world.specs.Answer.{answer}
 use Rattle.newt_store_change.specs.declared.fault.StoreFault.{StoreFault}
 use Rattle.newt_store_change.specs.declared.fault.StoreFault.TheVariants.{Refused, Stop}
 use Rattle.newt_engine_units.specs.declared.units.Units.{Units}
@@ -20,7 +21,6 @@ use Rattle.newt_store_change.specs.Faults.{GoesOn, HasFaultCause, IsRefusal, NoD
 use Rattle.newt_engine_units.specs.Stands.{Eight, Stands, world_of}
 use Rattle.newt_engine_units.proofs.Known.{Laws}
 use Rattle.newt_engine_units.proofs.Turns.{still-moments}
-use Rattle.newt_engine_cursors.specs.Replies as walk
 use Rattle.newt_engine.specs.Handed.{HandsOn, IsHanded}
 
 module _ {T : Type 0} {made : T → plain.Reply} {found : Result T StoreFault} {result : Result Reply StoreFault} (on : HandsOn made found result) where
@@ -61,23 +61,9 @@ module _ {T : Type 0} {made : T → plain.Reply} {found : Result T StoreFault} {
       go (Ok x) (Err g) s h = absurd s
       go (Err f) (Ok y) s h = absurd s
 
-  -- the same of a call on cursors
-  pub walked_on : (w v : World) {c d : Command} → c ≡ d → walk.Answers w v d made found → walk.Answers w v c said result
-  walked_on w v {c} {d} is h = go found result on.same (subst (λ x. walk.Answers w v x made found) (sym is) h)
-    where
-      fault : (f : StoreFault) → walk.Answers {T = T} w v c made (Err f) → walk.Answers w v c said (Err f)
-      fault (Refused r) k = k
-      fault (Stop stop) k = tt
-
-      go : (f : Result T StoreFault) (r : Result Reply StoreFault) → IsHanded made f r → walk.Answers w v c made f → walk.Answers w v c said r
-      go (Ok x) (Ok y) s h = h ∙ ap (λ r. (v, r)) (sym s)
-      go (Err f) (Err g) s h = subst (λ e. walk.Answers w v c said (Err e)) (sym s) (fault f h)
-      go (Ok x) (Err g) s h = absurd s
-      go (Err f) (Ok y) s h = absurd s
-
 -- the moments of a call are those of the command
-pub moments_same : (reads : List ℕ → Option Store) (w : World) (start now : Moment) (c d : Command) → c ≡ d → Always (Answering reads w (answer_now w d).0 start) start now → Always (Answering reads w (answer_now w c).0 start) start now
-moments_same reads w start now c d same h = subst (λ x. Always (Answering reads w (answer_now w x).0 start) start now) (sym same) h
+pub moments_same : (reads : List ℕ → Option Store) (w : World) (start now : Moment) (c d : Command) → c ≡ d → Always (Answering reads w (answer w d).0 start) start now → Always (Answering reads w (answer w c).0 start) start now
+moments_same reads w start now c d same h = subst (λ x. Always (Answering reads w (answer w x).0 start) start now) (sym same) h
 
 -- ---- where no device is used
 
@@ -102,6 +88,11 @@ blameless (Ok x) h = tt
 blameless (Err (Refused r)) h = tt
 blameless (Err (Stop stop)) h = absurd h
 
--- want of memory that was handed on is the answer
+-- out of memory that was handed on is the answer
 pub for_memory : (P : Result Reply StoreFault → Type 0) (result : Result Reply StoreFault) → (e : StoreFault) × (result ≡ Err e) × (e ≡ Stop stops.Memory) → P (Err (Stop stops.Memory)) → P result
 for_memory P result e h = subst P (sym (e.1 ∙ ap {B = Result Reply StoreFault} (λ f. Err f) e.2)) h
+
+-- where no device is at fault, the run ends when out of memory
+pub only_memory : (stop : End) → NoDevice (Stop stop) → stop ≡ stops.Memory
+only_memory stops.Memory h = refl
+only_memory (stops.Device unit) h = absurd h

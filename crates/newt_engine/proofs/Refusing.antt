@@ -14,10 +14,10 @@ use Rattle.newt_spec_store.specs.Store.{Store, Soup, Entry}
 use Rattle.newt_spec_query.specs.Cursor.{Cursor, Place, start, finish, on, hit_at}
 use Rattle.newt_spec_world.specs.Alias.{Spot, alias_of, resolved}
 use Rattle.newt_spec_world.specs.World.{World, mounted_store, soup_in, entry_in, cursor, free_cursor, hits_of}
-use Rattle.newt_spec_world.specs.Changed.{large_bytes}
+use Rattle.newt_spec_graph.specs.Larges.{large_bytes}
 use Rattle.newt_host.specs.Moments.{bytes_from}
-use Rattle.newt_spec_world.specs.Answer.{answered, current, fields, or_nil, shown, side, spot_of}
-use Rattle.newt_laws_answers.specs.Spoken.{answer_now, checks_now}
+use Rattle.newt_spec_world.specs.Answer.{answer, answered, current, fields, or_nil, shown, side, spot_of}
+use Rattle.newt_spec_world.specs.Refused.{checks}
 
 nil_not : {X : Type 0} (shown : X → plain.Reply) (o : Option X) (r : Refusal) → ((x : X) → shown x ≡ plain.Reply.refused r → ⊥) → or_nil shown o ≡ plain.Reply.refused r → ⊥
 nil_not shown None r never h = cc
@@ -94,16 +94,16 @@ fields_not w v (command.Which c) r h = nil_not {X = Cursor} side (cursor w c) r 
 fields_not w v (command.Clone c) r h = nil_not {X = ℕ} (λ n. plain.Reply.number n) (free_cursor w) r (λ x k. cc) h
 fields_not w v (command.Close c) r h = cc
 
-pub refused_stays : (w : World) (c : Command) (r : Refusal) → (answer_now w c).1 ≡ plain.Reply.refused r → (answer_now w c).0 ≡ w
-unfolding answer_now
-refused_stays w c r h = go (first_of (checks_now w c)) h
+pub refused_stays : (w : World) (c : Command) (r : Refusal) → (answer w c).1 ≡ plain.Reply.refused r → (answer w c).0 ≡ w
+unfolding answer
+refused_stays w c r h = go (first_of (checks w c)) h
   where
     go : (o : Option Refusal) → (answered w c o).1 ≡ plain.Reply.refused r → (answered w c o).0 ≡ w
     go None k = absurd (fields_not w _ c r k)
     go (Some x) k = refl
 
 -- the same of what was answered
-pub refusal_stays : (w v : World) (c : Command) (r : Refusal) (result : Result Reply Stop) → IfOk result (λ said_it. answer_now w c ≡ (v, said said_it)) → result ≡ Ok (reply.Refused r) → v ≡ w
+pub refusal_stays : (w v : World) (c : Command) (r : Refusal) (result : Result Reply Stop) → IfOk result (λ said_it. answer w c ≡ (v, said said_it)) → result ≡ Ok (reply.Refused r) → v ≡ w
 refusal_stays w v c r (Ok x) h e = sym (ap {A = World × plain.Reply} (λ a. a.0) h) ∙ refused_stays w c r (ap {A = World × plain.Reply} (λ a. a.1) h ∙ ap said (ok_same x (reply.Refused r) e))
   where
     ok_same : (x y : Reply) → ◌≡◌ {A = Result Reply Stop} (Ok x) (Ok y) → x ≡ y

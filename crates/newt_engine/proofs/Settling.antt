@@ -18,10 +18,12 @@ use Rattle.newt_spec_world.specs.World.{World, Device, settle}
 use Rattle.newt_laws_world.specs.Settled.{IsSettled, MountedApart, moves_keys}
 use Rattle.newt_laws_world.specs.Worlds.{OnMedia}
 use Rattle.newt_laws_world.proofs.Kept.{Every, Wf}
-use Rattle.newt_laws_cursors.specs.Cursors.{with_cursors, uses_cursors}
+use Rattle.newt_laws_world.specs.Cursors.{with_cursors, uses_cursors}
 use Rattle.newt_laws_answers.specs.Answering.{Answering}
-use Rattle.newt_laws_answers.specs.Spoken.{answer_now}
-use Rattle.newt_laws_answers.proofs.Spoken.{now-apart, now-mounted-apart, now-on-cursors, now-settled, now-still}
+use Rattle.newt_spec_world.specs.Answer.{answer}
+use Rattle.newt_laws_world.proofs.Mounted.{answer-apart}
+use Rattle.newt_laws_world.proofs.Settled.{answer-settled}
+use Rattle.newt_laws_answers.proofs.Apart.{answer-beside, answer-still}
 use Rattle.newt_store_change.specs.declared.fault.StoreFault.{StoreFault}
 use Rattle.newt_store_change.specs.declared.fault.StoreFault.TheVariants.{Refused, Stop as Ends}
 use Rattle.newt_engine_units.specs.declared.units.Units.{Units}
@@ -30,7 +32,6 @@ use Rattle.newt_store_change.specs.Faults.{GoesOn, IsEnd}
 use Rattle.newt_engine_units.specs.Stands.{Eight, Stands, world_of}
 use Rattle.newt_engine_units.proofs.Known.{Laws, at-card, at-none}
 use Rattle.newt_engine_cursors.specs.Fits.{DeskFits}
-use Rattle.newt_engine_cursors.specs.Replies as walk
 use Rattle.newt_engine_cursors.specs.World.{world_with}
 use Rattle.newt_engine.specs.Ends.{takes_memory, uses_device}
 use Rattle.newt_engine.specs.Standing.{Standing}
@@ -55,20 +56,14 @@ moves_in_memory _ h k = cc
 
 -- what holds of the world after a command that goes on
 pub goes_apart : {T : Type 0} (w v : World) (c : Command) (made : T → plain.Reply) (result : Result T StoreFault) → MountedApart w → Answers w v c made result → GoesOn result → MountedApart v
-goes_apart w v c made (Ok x) h a goes = subst MountedApart (ap (λ (a : World × plain.Reply). a.0) a) (now-mounted-apart w c h)
-goes_apart w v c made (Err (Refused r)) h a goes = subst MountedApart (ap (λ (a : World × plain.Reply). a.0) a) (now-mounted-apart w c h)
+goes_apart w v c made (Ok x) h a goes = subst MountedApart (ap (λ (a : World × plain.Reply). a.0) a) (answer-apart w c h)
+goes_apart w v c made (Err (Refused r)) h a goes = subst MountedApart (ap (λ (a : World × plain.Reply). a.0) a) (answer-apart w c h)
 goes_apart w v c made (Err (Ends s)) h a goes = absurd goes
 
 pub goes_settled : {T : Type 0} (w v : World) (c : Command) (made : T → plain.Reply) (result : Result T StoreFault) → IsSettled w → Answers w v c made result → GoesOn result → IsSettled v
-goes_settled w v c made (Ok x) h a goes = subst IsSettled (ap (λ (a : World × plain.Reply). a.0) a) (now-settled w c h)
-goes_settled w v c made (Err (Refused r)) h a goes = subst IsSettled (ap (λ (a : World × plain.Reply). a.0) a) (now-settled w c h)
+goes_settled w v c made (Ok x) h a goes = subst IsSettled (ap (λ (a : World × plain.Reply). a.0) a) (answer-settled w c h)
+goes_settled w v c made (Err (Refused r)) h a goes = subst IsSettled (ap (λ (a : World × plain.Reply). a.0) a) (answer-settled w c h)
 goes_settled w v c made (Err (Ends s)) h a goes = absurd goes
-
--- the commands of cursors are answered by the world of all commands
-pub walked_answers : {T : Type 0} (w v : World) (c : Command) (made : T → plain.Reply) (result : Result T StoreFault) → uses_cursors c ≡ true → walk.Answers w v c made result → Answers w v c made result
-walked_answers w v c made (Ok x) h a = now-on-cursors w c h ∙ a
-walked_answers w v c made (Err (Refused r)) h a = now-on-cursors w c h ∙ a
-walked_answers w v c made (Err (Ends s)) h a = tt
 
 -- ---- commands that use no cursor
 
@@ -91,43 +86,43 @@ module _ {C : Type 0} {reads : List ℕ → Option Store} {place : C → ℕ} {s
       go None e = absurd (none-some d (sym (at-none l units o s.eight stand u e) ∙ is))
       go (Some name) e = subst (λ (x : Device). OnMedia Wf x.blocks x.media) (some-same _ d (sym (at-card l units o s.eight stand u name e) ∙ is)) (media (reads (image u o.now)) refl)
 
-  whole : answer_now (with_cursors ks w) c ≡ (settle (with_cursors ks (answer_now w c).0), (answer_now w c).1)
-  whole = now-apart ks w c none refl (s.settled t)
+  whole : answer (with_cursors ks w) c ≡ (settle (with_cursors ks (answer w c).0), (answer w c).1)
+  whole = answer-beside ks w c none refl (s.settled t)
 
   -- where keys are as before, nothing is left to settle
-  pub still : (v : World) (r : plain.Reply) → moves_keys c ≡ false → answer_now w c ≡ (v, r) → answer_now (with_cursors ks w) c ≡ (with_cursors ks v, r)
+  pub still : (v : World) (r : plain.Reply) → moves_keys c ≡ false → answer w c ≡ (v, r) → answer (with_cursors ks w) c ≡ (with_cursors ks v, r)
   still v r few done = whole
-      ∙ ap {A = World} (λ x. (x, (answer_now w c).1)) (now-still ks w c none few refl formed (s.apart t) (s.settled t))
+      ∙ ap {A = World} (λ x. (x, (answer w c).1)) (answer-still ks w c none few refl formed (s.apart t) (s.settled t))
       ∙ ap (λ (a : World × plain.Reply). (with_cursors ks a.0, a.1)) done
 
   -- a refusal leaves the cursors
-  pub refuses : (v : World) (r : Refusal) → answer_now w c ≡ (v, plain.Reply.refused r) → answer_now (with_cursors ks w) c ≡ (with_cursors ks v, plain.Reply.refused r)
-  refuses v r refusing = whole ∙ ap {A = World} (λ x. (x, (answer_now w c).1)) (subst (λ v. IsSettled (with_cursors ks v)) (sym (refused_stays w c r (ap (λ (a : World × plain.Reply). a.1) refusing))) (s.settled t))
+  pub refuses : (v : World) (r : Refusal) → answer w c ≡ (v, plain.Reply.refused r) → answer (with_cursors ks w) c ≡ (with_cursors ks v, plain.Reply.refused r)
+  refuses v r refusing = whole ∙ ap {A = World} (λ x. (x, (answer w c).1)) (subst (λ v. IsSettled (with_cursors ks v)) (sym (refused_stays w c r (ap (λ (a : World × plain.Reply). a.1) refusing))) (s.settled t))
       ∙ ap (λ (a : World × plain.Reply). (with_cursors ks a.0, a.1)) refusing
 
   -- and else they are settled
-  pub settled_after : (v later : World) (r : plain.Reply) → answer_now w c ≡ (v, r) → later ≡ settle (with_cursors ks v) → answer_now (with_cursors ks w) c ≡ (later, r)
+  pub settled_after : (v later : World) (r : plain.Reply) → answer w c ≡ (v, r) → later ≡ settle (with_cursors ks v) → answer (with_cursors ks w) c ≡ (later, r)
   settled_after v later r done is = whole ∙ ap (λ (a : World × plain.Reply). (settle (with_cursors ks a.0), a.1)) done ∙ ap {A = World} (λ x. (x, r)) (sym is)
 
   -- the same of what is answered
-  pub done_answers : (v : World) (reply : Reply) → moves_keys c ≡ false → answer_now w c ≡ (v, said reply) → (ls : List (Option Cursor)) → ls ≡ ks → Answers (with_cursors ks w) (with_cursors ls v) c said (Ok reply)
+  pub done_answers : (v : World) (reply : Reply) → moves_keys c ≡ false → answer w c ≡ (v, said reply) → (ls : List (Option Cursor)) → ls ≡ ks → Answers (with_cursors ks w) (with_cursors ls v) c said (Ok reply)
   done_answers v reply few done ls same = still v (said reply) few done ∙ ap (λ xs. (with_cursors xs v, said reply)) (sym same)
 
   pub fault_answers : (v : World) (fault : StoreFault) → Answers w v c said (Err fault) → (ls : List (Option Cursor)) → ls ≡ ks → Answers (with_cursors ks w) (with_cursors ls v) c said (Err fault)
   fault_answers v (Refused r) h ls same = refuses v r h ∙ ap (λ xs. (with_cursors xs v, plain.Reply.refused r)) (sym same)
   fault_answers v (Ends stop) h ls same = tt
 
-  pub settled_answers : (v later : World) (reply : Reply) (result : Result Reply StoreFault) → answer_now w c ≡ (v, said reply) → (ls : List (Option Cursor)) → ls ≡ ks → OnOk result (later ≡ settle (with_cursors ls v))
+  pub settled_answers : (v later : World) (reply : Reply) (result : Result Reply StoreFault) → answer w c ≡ (v, said reply) → (ls : List (Option Cursor)) → ls ≡ ks → OnOk result (later ≡ settle (with_cursors ls v))
       → IfOk result (λ same. same ≡ reply) → IfErr result (λ fault. IsEnd fault) → Answers (with_cursors ks w) later c said result
   settled_answers v later reply (Ok x) done ls desk on same ends =
       settled_after v later (said x) (done ∙ ap (λ r. (v, said r)) (sym same)) (on ∙ ap (λ xs. settle (with_cursors xs v)) desk)
   settled_answers v later reply (Err (Refused r)) done ls desk on same ends = absurd ends
   settled_answers v later reply (Err (Ends stop)) done ls desk on same ends = tt
 
-  pub apart_after : (v : World) (r : plain.Reply) → answer_now w c ≡ (v, r) → MountedApart v
-  apart_after v r done = subst MountedApart (ap (λ (a : World × plain.Reply). a.0) done) (now-mounted-apart w c (s.apart t))
+  pub apart_after : (v : World) (r : plain.Reply) → answer w c ≡ (v, r) → MountedApart v
+  apart_after v r done = subst MountedApart (ap (λ (a : World × plain.Reply). a.0) done) (answer-apart w c (s.apart t))
 
-  pub moments_with : (now : Moment) → Always (Answering reads w (answer_now w c).0 o.now) o.now now → Always (Answering reads (with_cursors ks w) (answer_now (with_cursors ks w) c).0 o.now) o.now now
+  pub moments_with : (now : Moment) → Always (Answering reads w (answer w c).0 o.now) o.now now → Always (Answering reads (with_cursors ks w) (answer (with_cursors ks w) c).0 o.now) o.now now
   moments_with now h = subst (λ (a : World × plain.Reply). Always (Answering reads (with_cursors ks w) a.0 o.now) o.now now) (sym whole)
       (Always-map (λ m a. record { quiet = a.quiet; stores = a.stores; others = a.others }) h)
 

@@ -10,7 +10,7 @@ use Rattle.newt_spec_world.specs.World.{Device}
 use Rattle.newt_laws_world.specs.Settled.{IsSettled, MountedApart}
 use Rattle.newt_laws_world.proofs.Runs.{first-apart, first-settled, mapped-at}
 use Rattle.newt_laws_answers.specs.WorldAt.{world_at}
-use Rattle.newt_laws_cursors.specs.Cursors.{with_cursors}
+use Rattle.newt_laws_world.specs.Cursors.{with_cursors}
 use Rattle.newt_engine_units.specs.declared.units.Units.{Units}
 use Rattle.newt_engine_units.specs.Stands.{world_of}
 use Rattle.newt_engine_cursors.specs.Fits.{DeskFits}

@@ -1,34 +1,56 @@
 -- What the world promises of a command. All of it is this project's own.
-use Rattle.std.specs.Prelude.{◌≡◌, ℕ, Bool, false, IsTrue, List, Option, Result, IfErr}
+use Rattle.std.specs.Prelude.{◌≡◌, ℕ, Bool, false, IsTrue, List, Option, Result, Ok, IfErr, IfOk, IsOk, OnOk}
+use Rattle.newt_base.specs.declared.Refusal.{Refusal}
 use Rattle.newt_host.specs.Moments.{Always}
-use Rattle.newt_host.specs.Outside.{Outside, OnDevices}
+use Rattle.newt_host.specs.Outside.{Outside, NoFault, OnDevices}
+use Rattle.newt_pagebook.specs.Stops.{HasStopCause}
+use Rattle.newt_pagebook.specs.declared.book.Stop.{Stop}
+use Rattle.newt_pagebook.specs.declared.book.Stop.TheVariants.{Memory}
 use Rattle.newt_reply.specs.Said.{said}
 use Rattle.newt_reply.specs.declared.reply.Reply.{Reply}
+use Rattle.newt_reply.specs.declared.reply.Reply.TheVariants as reply
 use Rattle.newt_spec_store.specs.Store.{Store}
+use Rattle.newt_spec_world.specs.Answer.{answer}
 use Rattle.newt_spec_world.specs.declared.command.Command.{Command}
 use Rattle.newt_laws_answers.specs.Answering.{Answering}
-use Rattle.newt_laws_answers.specs.Spoken.{answer_now}
+use Rattle.newt_laws_answers.specs.Bounds.{most_programmed}
+use Rattle.newt_laws_world.specs.Settled.{IsSettled, MountedApart}
 use Rattle.newt_store_change.specs.Faults.{GoesOn, HasFaultCause, IsRefusal, NoDevice}
 use Rattle.newt_store_change.specs.declared.fault.StoreFault.{StoreFault}
+use Rattle.newt_engine_card.specs.Bounds.{IsOpenOrSame, ProgramsAtMost}
 use Rattle.newt_engine_units.specs.Answers.{Answers}
+use Rattle.newt_engine_units.specs.Calls.{AreRead}
 use Rattle.newt_engine_units.specs.Stands.{Stands, world_of}
+use Rattle.newt_engine_cursors.specs.Fits.{DeskFits}
 use Rattle.newt_engine_cursors.specs.World.{world_with}
-use Rattle.newt_engine.specs.Bounds.{CommandCosts}
+use Rattle.newt_engine.specs.Bounds.{CommandCosts, is_format}
 use Rattle.newt_engine.specs.Ends.{takes_memory, uses_device}
 use Rattle.newt_engine.specs.Standing.{Standing}
 use Rattle.newt_engine.specs.declared.world.World.{World}
 
 module _ {C : Type 0} (reads : List ℕ → Option Store) (place : C → ℕ) (standing : Bool → C → Outside → Type 0) where
-  -- A command that uses no cursor, by the world without cursors: the units answer it, the cursors stay what they were, and only what may take memory or use a
-  -- device ends the run so.
+  -- A command that uses no cursor, by the world without cursors: the units answer it, the cursors
+  -- stay what they were, and only what may take memory or use a device ends the run so.
   pub record Obeyed (told : Bool) (command : Command) (old new : World C) (before after : Outside) (result : Result Reply StoreFault) : Type 0 where
     pub stands : GoesOn result → Stands place standing told new.units after
     pub answered : IsTrue told → Answers (world_of reads old.units before) (world_of reads new.units after) command said result
-    pub moments : IsTrue told → let w = world_of reads old.units before in Always (Answering reads w (answer_now w command).0 before.now) before.now after.now
+    pub moments : IsTrue told → let w = world_of reads old.units before in Always (Answering reads w (answer w command).0 before.now) before.now after.now
     pub desk : new.desk ≡ old.desk
     pub costs : IsTrue told → CommandCosts (world_of reads old.units before) command result before after
     pub alone : OnDevices before after
     pub cause : IfErr result (λ fault. HasFaultCause fault before after)
+    pub no_fault : GoesOn result → NoFault before after
+    pub ends : takes_memory command ≡ false → IfErr result (λ fault. IsRefusal fault)
+    pub device : uses_device command ≡ false → IfErr result (λ fault. NoDevice fault)
+
+  -- A command of cursors, in a world whose cursors are settled: devices are read alone.
+  pub record Walked (told : Bool) (command : Command) (old new : World C) (before after : Outside) (result : Result Reply StoreFault) : Type 0 where
+    pub read : AreRead reads place standing told old.units new.units before after
+    pub desk : DeskFits new.desk
+    pub answered : IsTrue told → let w = world_with reads old.units old.desk before in MountedApart w → IsSettled w
+        → Answers w (world_with reads new.units new.desk after) command said result
+    pub cause : IfErr result (λ fault. HasFaultCause fault before after)
+    pub no_fault : GoesOn result → NoFault before after
     pub ends : takes_memory command ≡ false → IfErr result (λ fault. IsRefusal fault)
     pub device : uses_device command ≡ false → IfErr result (λ fault. NoDevice fault)
 
@@ -36,9 +58,25 @@ module _ {C : Type 0} (reads : List ℕ → Option Store) (place : C → ℕ) (s
   pub record Served (told : Bool) (command : Command) (old new : World C) (before after : Outside) (result : Result Reply StoreFault) : Type 0 where
     pub stands : GoesOn result → Standing reads place standing told new.units new.desk after
     pub answered : IsTrue told → Answers (world_with reads old.units old.desk before) (world_with reads new.units new.desk after) command said result
-    pub moments : IsTrue told → let w = world_with reads old.units old.desk before in Always (Answering reads w (answer_now w command).0 before.now) before.now after.now
+    pub moments : IsTrue told → let w = world_with reads old.units old.desk before in Always (Answering reads w (answer w command).0 before.now) before.now after.now
     pub costs : IsTrue told → CommandCosts (world_with reads old.units old.desk before) command result before after
     pub alone : OnDevices before after
     pub cause : IfErr result (λ fault. HasFaultCause fault before after)
+    pub no_fault : GoesOn result → NoFault before after
     pub ends : takes_memory command ≡ false → IfErr result (λ fault. IsRefusal fault)
     pub device : uses_device command ≡ false → IfErr result (λ fault. NoDevice fault)
+
+module _ {C : Type 0} (reads : List ℕ → Option Store) where
+  -- How a command ends. What is attached, the input and the output are as they were. But for a
+  -- format each unit that has room is programmed by no more than the command may, is not erased, and
+  -- is synced twice at most; after a reply each bank is not closed or is as it was. A reply tells
+  -- that no fault was counted, an end of the run has its cause, and only what may take memory or use
+  -- a device ends the run so.
+  pub record Finished (told : Bool) (command : Command) (old : World C) (before after : Outside) (result : Result Reply Stop) : Type 0 where
+    pub alone : OnDevices before after
+    pub bound : IsTrue told → is_format command ≡ false → (u : ℕ) → ProgramsAtMost (most_programmed (world_with reads old.units old.desk before) command u) u before after
+    pub open_after : IsTrue told → OnOk result ((u : ℕ) → IsOpenOrSame u before.now after.now)
+    pub cause : IfErr result (λ stop. HasStopCause stop before after)
+    pub no_fault : OnOk result (NoFault before after)
+    pub never_memory : takes_memory command ≡ false → IsOk result
+    pub never_device : uses_device command ≡ false → IfErr result (λ stop. stop ≡ Memory)

@@ -1,10 +1,10 @@
 -- Which commands may end the run. This project's own.
-use Rattle.std.specs.Prelude.{Bool, true}
+use Rattle.std.specs.Prelude.{Bool, true, false}
 use Rattle.newt_spec_world.specs.declared.command.Command.{Command}
 use Rattle.newt_spec_world.specs.declared.command.Command.TheVariants as command
-use Rattle.newt_laws_cursors.specs.Cursors.{uses_cursors}
 
--- a device is read or written; a command of cursors settles them all, so it may read their entries
+-- A device is read or written. Most commands of cursors settle them all, so they may read entries;
+-- one that tells a side, or clones or closes a cursor, reads none.
 abbrev pub uses_device : Command → Bool
 uses_device (command.Format _ _ _) = true
 uses_device (command.Mount _) = true
@@ -25,7 +25,18 @@ uses_device (command.Copy _ _ _ _ _) = true
 uses_device (command.Move _ _ _ _ _) = true
 uses_device (command.Vread _ _ _ _ _ _) = true
 uses_device (command.Vwrite _ _ _ _ _ _) = true
-uses_device c = uses_cursors c
+uses_device (command.Query _ _ _) = true
+uses_device (command.QueryAll _ _) = true
+uses_device (command.Entry _) = true
+uses_device (command.Next _) = true
+uses_device (command.Prev _) = true
+uses_device (command.Reset _) = true
+uses_device (command.End _) = true
+uses_device (command.Moveby _ _) = true
+uses_device (command.Goto _ _ _) = true
+uses_device (command.Gotokey _ _) = true
+uses_device (command.Count _) = true
+uses_device _ = false
 
 -- memory is taken; whatever uses a device takes some
 abbrev pub takes_memory : Command → Bool
@@ -34,4 +45,5 @@ takes_memory (command.Soups _) = true
 takes_memory (command.Indexes _ _) = true
 takes_memory (command.Tags _ _) = true
 takes_memory (command.Resolve _) = true
+takes_memory (command.Clone _) = true
 takes_memory c = uses_device c

@@ -12,9 +12,10 @@ use Rattle.newt_spec_store.specs.Valid.{well_formed}
 use Rattle.newt_spec_world.specs.declared.command.Command.{Command}
 use Rattle.newt_spec_world.specs.World.{World, store_on_unit}
 use Rattle.newt_laws_world.specs.Settled.{IsSettled, MountedApart}
-use Rattle.newt_laws_cursors.specs.Cursors.{with_cursors}
-use Rattle.newt_laws_answers.specs.Spoken.{answer_now}
-use Rattle.newt_laws_answers.proofs.Spoken.{now-later}
+use Rattle.newt_laws_world.specs.Cursors.{with_cursors}
+use Rattle.newt_spec_world.specs.Answer.{answer}
+use Rattle.newt_laws_world.proofs.Later.{answer-later}
+use Rattle.newt_spec_world.specs.Reply.{Reply}
 use Rattle.newt_engine_units.specs.declared.units.Units.{Units}
 use Rattle.newt_pagebook.specs.Book.{IsSameFor}
 use Rattle.newt_engine_units.specs.Stands.{Eight}
@@ -68,12 +69,12 @@ leaves_store laws units cursors outside s unit store left is may = left-alone la
 
 -- ---- no command takes a unit's store away
 
-pub stays_there : (w : World) (c : Command) (unit : ℕ) → store_on_unit (answer_now w c).0 unit ≡ None → store_on_unit w unit ≡ None
-stays_there w c unit none = go (store_on_unit w unit) refl
+pub stays_there : (w next : World) (c : Command) (reply : Reply) (unit : ℕ) → answer w c ≡ (next, reply) → store_on_unit next unit ≡ None → store_on_unit w unit ≡ None
+stays_there w next c reply unit is none = go (store_on_unit w unit) refl
   where
     go : (o : Option Store) → store_on_unit w unit ≡ o → store_on_unit w unit ≡ None
     go None e = e
-    go (Some s) e = let k = now-later w c unit s e in absurd (none-some k.0 (sym none ∙ k.1))
+    go (Some s) e = let k = answer-later w c unit s e in absurd (none-some k.0 (sym none ∙ ap {A = World × Reply} (λ a. store_on_unit a.0 unit) (sym is) ∙ k.1))
 
 -- ---- at the start
 

@@ -1,14 +1,9 @@
 //! Commands that open, move, show or close a cursor.
-ghost use Rattle.std.specs.Prelude.{◌≡◌, true, IsTrue, IfErr};
-ghost use Rattle.newt_reply.specs.Said.{said};
-ghost use Rattle.newt_laws_cursors.specs.Cursors.{uses_cursors};
-ghost use Rattle.newt_store_change.specs.Faults.{HasFaultCause};
+ghost use Rattle.std.specs.Prelude.{◌≡◌, true};
+ghost use Rattle.newt_laws_world.specs.Cursors.{uses_cursors};
 ghost use Rattle.newt_engine_units.specs.Stands.{Stands};
-ghost use Rattle.newt_laws_world.specs.Settled.{MountedApart};
 ghost use Rattle.newt_engine_cursors.specs.Fits.{DeskFits};
-ghost use Rattle.newt_engine_cursors.specs.Replies.{Answers};
-ghost use Rattle.newt_engine_cursors.specs.World.{AreRead, world_with};
-ghost use Rattle.newt_engine.specs.Calls.{Served};
+ghost use Rattle.newt_engine.specs.Calls.{Served, Walked};
 ghost use Rattle.newt_engine.specs.Groups.{on_place};
 ghost use Rattle.newt_engine.specs.Standing.{Standing};
 
@@ -28,7 +23,8 @@ impl<C: Card> World<C> {
         host: &mut H,
         command: &Command,
     ) -> Result<Reply, StoreFault>
-        requires stands { Standing C.reads C.place C.stands H.told self.old.units self.old.desk (H.outside host.old) }
+        requires stands { Standing C.reads C.place C.stands H.told self.old.units self.old.desk
+            (H.outside host.old) }
         requires on_cursor { uses_cursors command.now ≡ true }
         ensures { Served C.reads C.place C.stands H.told command.now self.old self.new
             (H.outside host.old) (H.outside host.new) result }
@@ -41,11 +37,8 @@ impl<C: Card> World<C> {
         requires desk { DeskFits self.old.desk }
         requires stands { Stands C.place C.stands H.told self.old.units (H.outside host.old) }
         requires on_cursor { uses_cursors command.now ≡ true }
-        ensures read { AreRead C.reads C.place C.stands H.told self.old.units self.new.units (H.outside host.old) (H.outside host.new) }
-        ensures desk { DeskFits self.new.desk }
-        ensures answered { IsTrue H.told → let w = world_with C.reads self.old.units self.old.desk (H.outside host.old) in MountedApart w →
-            Answers w (world_with C.reads self.new.units self.new.desk (H.outside host.new)) command.now said result }
-        ensures cause { IfErr result (λ fault. HasFaultCause fault (H.outside host.old) (H.outside host.new)) }
+        ensures { Walked C.reads C.place C.stands H.told command.now self.old self.new
+            (H.outside host.old) (H.outside host.new) result }
     {
         let World { units, desk } = self;
         match command {
@@ -76,11 +69,8 @@ impl<C: Card> World<C> {
         requires desk { DeskFits self.old.desk }
         requires stands { Stands C.place C.stands H.told self.old.units (H.outside host.old) }
         requires on_place { on_place command.now ≡ true }
-        ensures read { AreRead C.reads C.place C.stands H.told self.old.units self.new.units (H.outside host.old) (H.outside host.new) }
-        ensures desk { DeskFits self.new.desk }
-        ensures answered { IsTrue H.told → let w = world_with C.reads self.old.units self.old.desk (H.outside host.old) in MountedApart w →
-            Answers w (world_with C.reads self.new.units self.new.desk (H.outside host.new)) command.now said result }
-        ensures cause { IfErr result (λ fault. HasFaultCause fault (H.outside host.old) (H.outside host.new)) }
+        ensures { Walked C.reads C.place C.stands H.told command.now self.old self.new
+            (H.outside host.old) (H.outside host.new) result }
     {
         let World { units, desk } = self;
         match command {
@@ -93,11 +83,9 @@ impl<C: Card> World<C> {
             Command::Count(cursor) => numbered(newt_engine_cursors::count(
                 units, desk, host, *cursor,
             )),
-            Command::Which(cursor) => sided(newt_engine_cursors::which(units, desk, host, *cursor)),
-            Command::Clone(cursor) => opened(newt_engine_cursors::clone_of(
-                units, desk, host, *cursor,
-            )),
-            Command::Close(cursor) => done(newt_engine_cursors::close(units, desk, host, *cursor)),
+            Command::Which(cursor) => sided(newt_engine_cursors::which(desk, *cursor)),
+            Command::Clone(cursor) => opened(newt_engine_cursors::clone_of(desk, *cursor)),
+            Command::Close(cursor) => done(newt_engine_cursors::close(desk, *cursor)),
             _ => Err(StoreFault::Refused(Refusal::Command)),
         }
     }

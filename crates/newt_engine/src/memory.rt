@@ -7,6 +7,7 @@ ghost use Rattle.newt_store_change.specs.Faults.{IsRefusal, NoDevice};
 ghost use Rattle.newt_engine_units.specs.Stands.{Eight, Stands, world_of};
 ghost use Rattle.newt_engine.specs.Ends.{takes_memory, uses_device};
 ghost use Rattle.newt_engine.specs.Groups.{is_shown};
+ghost use Rattle.newt_laws_world.specs.Cursors.{uses_cursors};
 
 use crate::replies::{alias_of, done, place, soup_rows, spec_rows, tag_row};
 use crate::world::World;
@@ -22,9 +23,14 @@ impl<C: Card> World<C> {
     pub(crate) fn obey_in_memory(&mut self, command: &Command) -> Result<Reply, StoreFault>
         requires not_shown { is_shown command.now ≡ false }
         requires no_device { uses_device command.now ≡ false }
-        ensures stands { (told : Bool) (outside : Outside) → Stands C.place C.stands told self.old.units outside → Stands C.place C.stands told self.new.units outside }
-        ensures answered { (outside : Outside) → Eight outside → Stands C.place C.stands true self.old.units outside →
-            Answers (world_of C.reads self.old.units outside) (world_of C.reads self.new.units outside) command.now said result }
+        requires no_cursor { uses_cursors command.now ≡ false }
+        ensures stands { (told : Bool) (outside : Outside)
+            → Stands C.place C.stands told self.old.units outside
+            → Stands C.place C.stands told self.new.units outside }
+        ensures answered { (outside : Outside) → Eight outside
+            → Stands C.place C.stands true self.old.units outside
+            → Answers (world_of C.reads self.old.units outside)
+            (world_of C.reads self.new.units outside) command.now said result }
         ensures desk { self.new.desk ≡ self.old.desk }
         ensures device { IfErr result (λ fault. NoDevice fault) }
         ensures ends { takes_memory command.now ≡ false → IfErr result (λ fault. IsRefusal fault) }

@@ -1,6 +1,7 @@
 //! Commands that use no cursor.
-ghost use Rattle.std.specs.Prelude.{◌≡◌, false};
-ghost use Rattle.newt_laws_cursors.specs.Cursors.{uses_cursors};
+ghost use Rattle.std.specs.Prelude.{◌≡◌, false, true};
+ghost use Rattle.newt_laws_world.specs.Worlds.{has_form};
+ghost use Rattle.newt_laws_world.specs.Cursors.{uses_cursors};
 ghost use Rattle.newt_engine_units.specs.Stands.{Stands};
 ghost use Rattle.newt_engine.specs.Calls.{Obeyed};
 
@@ -22,6 +23,7 @@ impl<C: Card> World<C> {
     ) -> Result<Reply, StoreFault>
         requires stands { Stands C.place C.stands H.told self.old.units (H.outside host.old) }
         requires no_cursor { uses_cursors command ≡ false }
+        requires form { has_form command ≡ true }
         ensures { Obeyed C.reads C.place C.stands H.told command self.old self.new
             (H.outside host.old) (H.outside host.new) result }
     {

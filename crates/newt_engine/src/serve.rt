@@ -1,12 +1,14 @@
 //! Commands with the cursors settled after them.
-ghost use Rattle.std.specs.Prelude.{◌≡◌, false, IsTrue, IfErr, OnOk, IfOk};
+ghost use Rattle.std.specs.Prelude.{◌≡◌, false, true, IsTrue, IfErr, OnOk, IfOk};
 ghost use Rattle.newt_laws_world.specs.Settled.{MountedApart, moves_keys};
-ghost use Rattle.newt_laws_cursors.specs.Cursors.{uses_cursors};
+ghost use Rattle.newt_laws_world.specs.Cursors.{uses_cursors};
 ghost use Rattle.newt_spec_world.specs.World.{settle};
-ghost use Rattle.newt_store_change.specs.Faults.{HasFaultCause, IsEnd};
+ghost use Rattle.newt_store_change.specs.Faults.{IsEnd};
 ghost use Rattle.newt_engine_units.specs.Stands.{Stands};
 ghost use Rattle.newt_engine_cursors.specs.Fits.{DeskFits};
-ghost use Rattle.newt_engine_cursors.specs.World.{AreRead, world_with};
+ghost use Rattle.newt_engine_units.specs.Calls.{AreRead, Ended};
+ghost use Rattle.newt_laws_world.specs.Worlds.{has_form};
+ghost use Rattle.newt_engine_cursors.specs.World.{world_with};
 ghost use Rattle.newt_engine.specs.Calls.{Served};
 ghost use Rattle.newt_engine.specs.Standing.{Standing};
 
@@ -25,7 +27,9 @@ impl<C: Card> World<C> {
         host: &mut H,
         command: Command,
     ) -> Result<Reply, StoreFault>
-        requires { Standing C.reads C.place C.stands H.told self.old.units self.old.desk (H.outside host.old) }
+        requires stands { Standing C.reads C.place C.stands H.told self.old.units self.old.desk
+            (H.outside host.old) }
+        requires form { has_form command ≡ true }
         ensures { Served C.reads C.place C.stands H.told command self.old self.new
             (H.outside host.old) (H.outside host.new) result }
     {
@@ -45,8 +49,10 @@ impl<C: Card> World<C> {
         host: &mut H,
         command: Command,
     ) -> Result<Reply, StoreFault>
-        requires stands { Standing C.reads C.place C.stands H.told self.old.units self.old.desk (H.outside host.old) }
+        requires stands { Standing C.reads C.place C.stands H.told self.old.units self.old.desk
+            (H.outside host.old) }
         requires no_cursor { uses_cursors command ≡ false }
+        requires form { has_form command ≡ true }
         ensures { Served C.reads C.place C.stands H.told command self.old self.new
             (H.outside host.old) (H.outside host.new) result }
     {
@@ -67,13 +73,16 @@ impl<C: Card> World<C> {
     fn settled<H: Host>(&mut self, host: &mut H, reply: Reply) -> Result<Reply, StoreFault>
         requires stands { Stands C.place C.stands H.told self.old.units (H.outside host.old) }
         requires desk { DeskFits self.old.desk }
-        ensures read { AreRead C.reads C.place C.stands H.told self.old.units self.new.units (H.outside host.old) (H.outside host.new) }
+        ensures read { AreRead C.reads C.place C.stands H.told self.old.units self.new.units
+            (H.outside host.old) (H.outside host.new) }
         ensures desk { DeskFits self.new.desk }
-        ensures settled { IsTrue H.told → let w = world_with C.reads self.old.units self.old.desk (H.outside host.old) in MountedApart w →
-            OnOk result (world_with C.reads self.new.units self.new.desk (H.outside host.new) ≡ settle w) }
+        ensures settled { IsTrue H.told
+            → let w = world_with C.reads self.old.units self.old.desk (H.outside host.old) in
+            MountedApart w → OnOk result
+            (world_with C.reads self.new.units self.new.desk (H.outside host.new) ≡ settle w) }
         ensures same { IfOk result (λ same. same ≡ reply) }
-        ensures cause { IfErr result (λ fault. HasFaultCause fault (H.outside host.old) (H.outside host.new)) }
-        ensures ends { IfErr result (λ fault. IsEnd fault) }
+        ensures ends { Ended result (H.outside host.old) (H.outside host.new) }
+        ensures only { IfErr result (λ fault. IsEnd fault) }
     {
         match settle(&mut self.units, &mut self.desk, host) {
             Ok(()) => Ok(reply),
@@ -107,7 +116,7 @@ fn settles(command: &Command) -> bool
 }
 
 /// Whether a command opens, moves, shows or closes a cursor.
-#[tactic(auto, unfolding(newt_laws_cursors::specs::Cursors::uses_cursors))]
+#[tactic(auto, unfolding(newt_laws_world::specs::Cursors::uses_cursors))]
 fn is_on_cursor(command: &Command) -> bool
     ensures { result ≡ uses_cursors command.now }
 {

@@ -1,25 +1,33 @@
--- How much a call programs, and that it leaves no bank closed.
+-- How much a call programs, erases and syncs, and that it leaves no bank closed.
 use Rattle.std.specs.Prelude.{◌≡◌, ◌≢◌, ◌⊎◌, ℕ, ◌+◌, ◌≤◌, Result}
 use Rattle.newt_host.specs.Moments.{Moment, changes, image}
-use Rattle.newt_host.specs.Outside.{Outside}
+use Rattle.newt_host.specs.Outside.{Outside, Wears}
 use Rattle.newt_pagebook.specs.Book.{IsOpenFor}
 use Rattle.newt_store_change.specs.declared.fault.StoreFault.{StoreFault}
 use Rattle.newt_store_change.specs.Faults.{GoesOn}
 
--- A unit whose bank is not closed and has room for so many bytes is programmed by no more.
-abbrev pub ProgramsAtMost : ℕ → ℕ → Outside → Outside → Type 0
-ProgramsAtMost n unit old new = IsOpenFor n (image unit old.now) → new.programmed unit ≤ old.programmed unit + n
+-- A unit whose bank is not closed and has room for so many bytes is programmed by no more, no block
+-- of it is erased, and it is synced twice at most.
+pub record ProgramsAtMost (n unit : ℕ) (old new : Outside) : Type 0 where
+  pub programmed : IsOpenFor n (image unit old.now) → new.programmed unit ≤ old.programmed unit + n
+  pub wears : IsOpenFor n (image unit old.now) → Wears unit 0 2 old new
 
 -- A unit's bank is not closed, or nothing has happened to the unit.
 abbrev pub IsOpenOrSame : ℕ → Moment → Moment → Type 0
 IsOpenOrSame unit old new = IsOpenFor 0 (image unit new) ⊎ (changes unit new ≡ changes unit old)
 
--- What a call on one unit costs: it programs so many bytes at most where there is room for them, it leaves a bank that is not closed or is as it was, and it
--- leaves the other units alone.
+-- nothing has happened to a unit, and it was not programmed, erased or synced
+pub record LeftAlone (unit : ℕ) (old new : Outside) : Type 0 where
+  pub programmed : new.programmed unit ≤ old.programmed unit
+  pub wears : Wears unit 0 0 old new
+  pub changes : changes unit new.now ≡ changes unit old.now
+
+-- What a call on one unit costs: it programs so many bytes at most where there is room for them, it
+-- leaves a bank that is not closed or is as it was, and it leaves the other units alone.
 pub record CostsOn {T : Type 0} (unit n : ℕ) (result : Result T StoreFault) (old new : Outside) : Type 0 where
   pub bound : ProgramsAtMost n unit old new
   pub open_after : GoesOn result → IsOpenOrSame unit old.now new.now
-  pub others : (u : ℕ) → u ≢ unit → (new.programmed u ≤ old.programmed u) × (changes u new.now ≡ changes u old.now)
+  pub others : (u : ℕ) → u ≢ unit → LeftAlone u old new
 
 -- What a command costs: each unit is programmed by so many bytes at most where there is room for them, and where the run goes on, each bank is not closed or is
 -- as it was.

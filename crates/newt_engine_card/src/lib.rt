@@ -1,8 +1,9 @@
 //! What is asked of a store on the card of one unit: the trait `Card`.
 //!
-//! It stands on the host and on `newt_store_change`, and has no store of its own. The promise that it carries upwards (`specs/Calls`): a card stands for the
-//! plain store that its unit's image is read as; a change is that store's change or its first refusal, leaves at every moment the store before or after it,
-//! and programs no more than the pages that come and go.
+//! It stands on the host and on `newt_store_change`, and has no store of its own. The promise that
+//! it carries upwards (`specs/Calls`): a card stands for the plain store that its unit's image is
+//! read as; a change is that store's change or its first refusal, leaves at every moment the store
+//! before or after it, and programs no more than the pages that come and go.
 #![tactic(auto)]
 
 mod card;

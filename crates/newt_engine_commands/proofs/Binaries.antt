@@ -10,26 +10,25 @@ use Rattle.newt_graph.specs.declared.node.Ref.TheVariants.{Node as At}
 use Rattle.newt_graph.specs.declared.node.Node.{Node}
 use Rattle.newt_graph.specs.declared.node.Node.TheVariants.{Large}
 use Rattle.newt_graph.specs.Graph.{RawGraph}
-use Rattle.newt_spec_graph.proofs.Lists.{some-same}
+use Rattle.newt_spec_graph.proofs.Lists.{none-some, some-same}
 use Rattle.newt_spec_graph.specs.Slots.{value_at}
 use Rattle.newt_spec_store.specs.Keys.{Path}
 use Rattle.newt_spec_store.specs.Store.{Store, Soup, Entry, soup_named, entry_of}
-use Rattle.newt_spec_world.specs.Changed.{large_at}
+use Rattle.newt_spec_graph.specs.Larges.{large_at}
 use Rattle.newt_spec_world.specs.declared.command.Command.{Command}
 use Rattle.newt_spec_world.specs.declared.command.Command.TheVariants as command
 use Rattle.newt_spec_world.specs.Reply.{Reply}
 use Rattle.newt_spec_world.specs.World.{World, store_on_unit, change_store}
-use Rattle.newt_laws_answers.specs.Spoken.{answer_now}
+use Rattle.newt_spec_world.specs.Answer.{answer}
 use Rattle.newt_laws_answers.specs.Tests.{entry_checks, patch_tests, patched_within}
 use Rattle.newt_laws_answers.specs.There.{OnUnit}
 use Rattle.newt_laws_answers.proofs.Entries.{no-entry}
-use Rattle.newt_laws_answers.proofs.Larges.{vread-done, vread-refused, vwrite-done, vwrite-no-path, vwrite-refused}
+use Rattle.newt_laws_answers.proofs.Larges.{vread-done, vread-not-found, vread-refused, vwrite-done, vwrite-no-path, vwrite-refused}
 use Rattle.newt_store_change.specs.declared.fault.StoreFault.{StoreFault}
 use Rattle.newt_store_change.specs.declared.fault.StoreFault.TheVariants.{Refused, Stop}
 use Rattle.newt_engine_units.specs.Answers.{Answers}
-use Rattle.newt_store_change.specs.Entries.{ReadsEntry}
+use Rattle.newt_store_change.specs.Entries.{ReadsEntry, ReadsLarge}
 use Rattle.newt_store_change.specs.Faults.{Does}
-use Rattle.newt_engine_commands.specs.Larges.{ReadsLarge}
 use Rattle.newt_engine_units.proofs.Answering.{does-answers, makes}
 
 -- what a path reaches is a large binary
@@ -49,7 +48,7 @@ reached g path n h = value (value_at g path) h
 -- ---- the entry is not there
 
 pub missing : {T : Type 0} (w v : World) (u blocks : ℕ) (s : Store) (name : List ℕ) (p : Soup) (uid : ℕ) → OnUnit w u blocks s → soup_named name s ≡ Some p → (c : Command) (reply : T → Reply)
-    → ((r : Refusal) → first_of (entry_checks w u name uid) ≡ Some r → answer_now w c ≡ (w, Reply.refused r)) → v ≡ w
+    → ((r : Refusal) → first_of (entry_checks w u name uid) ≡ Some r → answer w c ≡ (w, Reply.refused r)) → v ≡ w
     → (fault : StoreFault) → ReadsEntry (entry_of uid p) (Err fault) → (result : Result T StoreFault) → result ≡ Err fault → Answers w v c reply result
 missing {T} w v u blocks s name p uid on named c reply refused same fault h result err = subst (λ r. Answers w v c reply r) (sym err) (go fault h)
   where
@@ -58,22 +57,32 @@ missing {T} w v u blocks s name p uid on named c reply refused same fault h resu
         ∙ ap {B = World × Reply} (λ q. (w, Reply.refused q)) (sym h.1) ∙ ap {B = World × Reply} (λ x. (x, Reply.refused r)) (sym same)
     go (Stop stop) h = tt
 
+-- ---- bytes are read
+
+pub vread-answers : (w v : World) (u blocks : ℕ) (s : Store) (name : List ℕ) (p : Soup) (uid : ℕ) → OnUnit w u blocks s → soup_named name s ≡ Some p → w.cursors ≡ replicate 32 None → v ≡ w
+    → (path : Path) (at many : ℕ) (result : Result (List ℕ) StoreFault) → ReadsLarge path at many (entry_of uid p) result → Answers w v (command.Vread u name uid path at many) (λ bytes. Reply.hex bytes) result
+vread-answers w v u blocks s name p uid on named none same path at many result read = go (entry_of uid p) refl result read
+  where
+    go : (o : Option Entry) → entry_of uid p ≡ o → (result : Result (List ℕ) StoreFault) → ReadsLarge path at many o result → Answers w v (command.Vread u name uid path at many) (λ bytes. Reply.hex bytes) result
+    go (Some e) found (Ok bytes) r = vread-done w u blocks s name p uid on named e found path at many r.0 none
+        ∙ ap {B = World × Reply} (λ xs. (w, Reply.hex xs)) (sym r.1) ∙ ap {B = World × Reply} (λ x. (x, Reply.hex bytes)) (sym same)
+    go (Some e) found (Err (Refused q)) r = vread-refused w u blocks s name p uid on named e found path at many q r ∙ ap {B = World × Reply} (λ x. (x, Reply.refused q)) (sym same)
+    go (Some e) found (Err (Stop stop)) r = tt
+    go None gone (Ok bytes) r = absurd (none-some NoEntry (sym r.0))
+    go None gone (Err (Refused q)) r = vread-not-found w u name uid NoEntry (no-entry w u blocks s name p uid on named gone) path at many
+        ∙ ap {B = World × Reply} (λ x. (w, Reply.refused x)) (some-same NoEntry q r) ∙ ap {B = World × Reply} (λ x. (x, Reply.refused q)) (sym same)
+    go None gone (Err (Stop stop)) r = tt
+
 -- ---- it is there
 
 module _ (w v : World) (u blocks : ℕ) (s : Store) (on : OnUnit w u blocks s) (none : w.cursors ≡ replicate 32 None) (name : List ℕ) (p : Soup) (named : soup_named name s ≡ Some p) (is : p.name ≡ name)
     (uid : ℕ) (e : Entry) (found : entry_of uid p ≡ Some e) (path : Path) (at : ℕ) where
-  pub vread-answers : (many : ℕ) → v ≡ w → (result : Result (List ℕ) StoreFault) → ReadsLarge path at many e.graph result → Answers w v (command.Vread u name uid path at many) (λ bytes. Reply.hex bytes) result
-  vread-answers many same (Ok bytes) r = vread-done w u blocks s name p uid on named e found path at many r.0 none
-      ∙ ap {B = World × Reply} (λ xs. (w, Reply.hex xs)) (sym r.1) ∙ ap {B = World × Reply} (λ x. (x, Reply.hex bytes)) (sym same)
-  vread-answers many same (Err (Refused q)) r = vread-refused w u blocks s name p uid on named e found path at many q r ∙ ap {B = World × Reply} (λ x. (x, Reply.refused q)) (sym same)
-  vread-answers many same (Err (Stop stop)) r = tt
-
   module _ (bytes : List ℕ) where
     pub vwrite-nowhere : v ≡ w → large_at e.graph path ≡ None → Answers {T = Unit {0}} w v (command.Vwrite u name uid path at bytes) (λ _. Reply.done) (Err (Refused NoPath))
     vwrite-nowhere same nowhere = vwrite-no-path w u blocks s name p uid on named e found path at nowhere bytes ∙ ap {B = World × Reply} (λ x. (x, Reply.refused NoPath)) (sym same)
 
     module _ (node : ℕ) (reach : large_at e.graph path ≡ Some node) where
-      vwrite-is : first_of (patch_tests node at (length bytes) e) ≡ None → answer_now w (command.Vwrite u name uid path at bytes) ≡ (change_store w u (patched_within p.name uid node at bytes), Reply.done)
+      vwrite-is : first_of (patch_tests node at (length bytes) e) ≡ None → answer w (command.Vwrite u name uid path at bytes) ≡ (change_store w u (patched_within p.name uid node at bytes), Reply.done)
       vwrite-is k = vwrite-done w u blocks s name p uid on named e found path at node reach bytes k none
           ∙ ap {B = World × Reply} (λ m. (change_store w u (patched_within m uid node at bytes), Reply.done)) (sym is)
 
@@ -82,5 +91,5 @@ module _ (w v : World) (u blocks : ℕ) (s : Store) (on : OnUnit w u blocks s) (
       vwrite-answers result d = does-answers w v (change_store w u (patched_within p.name uid node at bytes)) (command.Vwrite u name uid path at bytes) (λ _. Reply.done)
           (patch_tests node at (length bytes) e) (λ _. ⊤) (λ k n good. vwrite-is k) (λ r k. vwrite-refused w u blocks s name p uid on named e found path at node reach bytes r k) result d
 
-      pub vwrite-makes : first_of (patch_tests node at (length bytes) e) ≡ None → store_on_unit (answer_now w (command.Vwrite u name uid path at bytes)).0 u ≡ Some (patched_within p.name uid node at bytes s)
-      vwrite-makes k = makes w u blocks s (patched_within p.name uid node at bytes) (answer_now w (command.Vwrite u name uid path at bytes)) Reply.done on (vwrite-is k)
+      pub vwrite-makes : first_of (patch_tests node at (length bytes) e) ≡ None → store_on_unit (answer w (command.Vwrite u name uid path at bytes)).0 u ≡ Some (patched_within p.name uid node at bytes s)
+      vwrite-makes k = makes w u blocks s (patched_within p.name uid node at bytes) (answer w (command.Vwrite u name uid path at bytes)) Reply.done on (vwrite-is k)

@@ -10,7 +10,7 @@ use Rattle.newt_spec_world.specs.declared.command.Command.{Command}
 use Rattle.newt_spec_world.specs.declared.command.Command.TheVariants as command
 use Rattle.newt_spec_world.specs.Reply.{Reply}
 use Rattle.newt_spec_world.specs.World.{World, default_unit, store_on_unit, change_store}
-use Rattle.newt_laws_answers.specs.Spoken.{answer_now}
+use Rattle.newt_spec_world.specs.Answer.{answer}
 use Rattle.newt_laws_answers.specs.Tests.{make_tests, add_tests, room_tests, with_added, entry_checks}
 use Rattle.newt_laws_answers.specs.There.{OnUnit}
 use Rattle.newt_laws_answers.proofs.Soups.{soup-done, soup-refused, drop-done}
@@ -39,16 +39,16 @@ module _ (w v : World) (u blocks : ℕ) (s : Store) (on : OnUnit w u blocks s) (
       (λ k n is. soup-done w u blocks s name on k none ∙ ap {B = World × Reply} (λ m. (change_store w u (make_soup name), Reply.number m)) (sym is))
       (soup-refused w u blocks s name on) result d
 
-  pub soup-makes : (name : List ℕ) → first_of (make_tests blocks name s) ≡ None → store_on_unit (answer_now w (command.Soup u name)).0 u ≡ Some (make_soup name s)
-  soup-makes name k = makes w u blocks s (make_soup name) (answer_now w (command.Soup u name)) (Reply.number s.next_soup) on (soup-done w u blocks s name on k none)
+  pub soup-makes : (name : List ℕ) → first_of (make_tests blocks name s) ≡ None → store_on_unit (answer w (command.Soup u name)).0 u ≡ Some (make_soup name s)
+  soup-makes name k = makes w u blocks s (make_soup name) (answer w (command.Soup u name)) (Reply.number s.next_soup) on (soup-done w u blocks s name on k none)
 
   module _ (name : List ℕ) (p : Soup) (named : soup_named name s ≡ Some p) (is : p.name ≡ name) where
     pub drop-answers : (result : Result (Unit {0}) StoreFault) → Does [] (λ _. ⊤) w (change_store w u (drop_soup p.name)) v result → Answers w v (command.Drop u name) (λ _. Reply.done) result
     drop-answers result d = does-answers w v (change_store w u (drop_soup p.name)) (command.Drop u name) (λ _. Reply.done) [] (λ _. ⊤)
         (λ k n good. drop-done w u blocks s name on p named none ∙ ap {B = World × Reply} (λ m. (change_store w u (drop_soup m), Reply.done)) (sym is)) (λ r k. cc) result d
 
-    pub drop-makes : store_on_unit (answer_now w (command.Drop u name)).0 u ≡ Some (drop_soup p.name s)
-    drop-makes = makes w u blocks s (drop_soup name) (answer_now w (command.Drop u name)) Reply.done on (drop-done w u blocks s name on p named none) ∙ ap (λ m. Some (drop_soup m s)) (sym is)
+    pub drop-makes : store_on_unit (answer w (command.Drop u name)).0 u ≡ Some (drop_soup p.name s)
+    drop-makes = makes w u blocks s (drop_soup name) (answer w (command.Drop u name)) Reply.done on (drop-done w u blocks s name on p named none) ∙ ap (λ m. Some (drop_soup m s)) (sym is)
 
     -- ---- entries that are added
 
@@ -59,10 +59,10 @@ module _ (w v : World) (u blocks : ℕ) (s : Store) (on : OnUnit w u blocks s) (
       same-tests : add_tests blocks w.minute name g s p ≡ tests
       same-tests = ap (λ m. add_tests blocks w.minute m g s p) (sym is)
 
-      add-is : (k : first_of tests ≡ None) → (n : ℕ) → n ≡ p.next_uid → answer_now w (command.Add u name g) ≡ (with_added w u p.name g, Reply.number n)
+      add-is : (k : first_of tests ≡ None) → (n : ℕ) → n ≡ p.next_uid → answer w (command.Add u name g) ≡ (with_added w u p.name g, Reply.number n)
       add-is k n good = add-done w u blocks s name p g on named (ap first_of same-tests ∙ k) none ∙ ap {B = World × Reply} (λ m. (with_added w u m g, Reply.number p.next_uid)) (sym is) ∙ ap {B = World × Reply} (λ m. (with_added w u p.name g, Reply.number m)) (sym good)
 
-      addx-is : (k : first_of tests ≡ None) → (n : ℕ) → n ≡ p.next_uid → answer_now w (command.Addx u name g) ≡ (with_added w u p.name g, Reply.number n)
+      addx-is : (k : first_of tests ≡ None) → (n : ℕ) → n ≡ p.next_uid → answer w (command.Addx u name g) ≡ (with_added w u p.name g, Reply.number n)
       addx-is k n good = addx-done w u blocks s name p g on named (ap first_of same-tests ∙ k) none ∙ ap {B = World × Reply} (λ m. (with_added w u m g, Reply.number p.next_uid)) (sym is) ∙ ap {B = World × Reply} (λ m. (with_added w u p.name g, Reply.number m)) (sym good)
 
       pub add-answers : (result : Result ℕ StoreFault) → Does tests (λ n. n ≡ p.next_uid) w (with_added w u p.name g) v result → Answers w v (command.Add u name g) (λ n. Reply.number n) result
@@ -73,15 +73,15 @@ module _ (w v : World) (u blocks : ℕ) (s : Store) (on : OnUnit w u blocks s) (
       addx-answers result d = does-answers w v (with_added w u p.name g) (command.Addx u name g) (λ n. Reply.number n) tests (λ n. n ≡ p.next_uid) addx-is
           (λ r k. addx-refused w u blocks s name p g on named r (ap first_of same-tests ∙ k)) result d
 
-      pub add-makes : first_of tests ≡ None → store_on_unit (answer_now w (command.Add u name g)).0 u ≡ Some (change_soup p.name (add_entry w.minute g) s)
-      add-makes k = makes w u blocks s (change_soup p.name (add_entry w.minute g)) (answer_now w (command.Add u name g)) (Reply.number p.next_uid) on (add-is k p.next_uid refl)
+      pub add-makes : first_of tests ≡ None → store_on_unit (answer w (command.Add u name g)).0 u ≡ Some (change_soup p.name (add_entry w.minute g) s)
+      add-makes k = makes w u blocks s (change_soup p.name (add_entry w.minute g)) (answer w (command.Add u name g)) (Reply.number p.next_uid) on (add-is k p.next_uid refl)
 
-      pub addx-makes : first_of tests ≡ None → store_on_unit (answer_now w (command.Addx u name g)).0 u ≡ Some (change_soup p.name (add_entry w.minute g) s)
-      addx-makes k = makes w u blocks s (change_soup p.name (add_entry w.minute g)) (answer_now w (command.Addx u name g)) (Reply.number p.next_uid) on (addx-is k p.next_uid refl)
+      pub addx-makes : first_of tests ≡ None → store_on_unit (answer w (command.Addx u name g)).0 u ≡ Some (change_soup p.name (add_entry w.minute g) s)
+      addx-makes k = makes w u blocks s (change_soup p.name (add_entry w.minute g)) (answer w (command.Addx u name g)) (Reply.number p.next_uid) on (addx-is k p.next_uid refl)
 
       -- to the default store
       module _ (default : default_unit w ≡ u) where
-        addu-is : (k : first_of tests ≡ None) → (n : ℕ) → n ≡ p.next_uid → answer_now w (command.Addu name g) ≡ (with_added w u p.name g, Reply.added u n)
+        addu-is : (k : first_of tests ≡ None) → (n : ℕ) → n ≡ p.next_uid → answer w (command.Addu name g) ≡ (with_added w u p.name g, Reply.added u n)
         addu-is k n good = addu-done w u blocks s name p g default on named (ap first_of same-tests ∙ k) none ∙ ap {B = World × Reply} (λ m. (with_added w u m g, Reply.added u p.next_uid)) (sym is)
             ∙ ap {B = World × Reply} (λ m. (with_added w u p.name g, Reply.added u m)) (sym good)
 
@@ -89,26 +89,26 @@ module _ (w v : World) (u blocks : ℕ) (s : Store) (on : OnUnit w u blocks s) (
         addu-answers result d = does-answers w v (with_added w u p.name g) (command.Addu name g) (λ n. Reply.added u n) tests (λ n. n ≡ p.next_uid) addu-is
             (λ r k. addu-refused w u blocks s name p g default on named r (ap first_of same-tests ∙ k)) result d
 
-        pub addu-makes : first_of tests ≡ None → store_on_unit (answer_now w (command.Addu name g)).0 u ≡ Some (change_soup p.name (add_entry w.minute g) s)
-        addu-makes k = makes w u blocks s (change_soup p.name (add_entry w.minute g)) (answer_now w (command.Addu name g)) (Reply.added u p.next_uid) on (addu-is k p.next_uid refl)
+        pub addu-makes : first_of tests ≡ None → store_on_unit (answer w (command.Addu name g)).0 u ≡ Some (change_soup p.name (add_entry w.minute g) s)
+        addu-makes k = makes w u blocks s (change_soup p.name (add_entry w.minute g)) (answer w (command.Addu name g)) (Reply.added u p.next_uid) on (addu-is k p.next_uid refl)
 
     -- ---- an entry that is removed
 
     module _ (uid : ℕ) (e : Entry) (found : entry_of uid p ≡ Some e) where
-      remove-is : answer_now w (command.Remove u name uid) ≡ (change_store w u (change_soup p.name (remove_entry uid)), Reply.done)
+      remove-is : answer w (command.Remove u name uid) ≡ (change_store w u (change_soup p.name (remove_entry uid)), Reply.done)
       remove-is = remove-done w u blocks s name p uid on named e found none ∙ ap {B = World × Reply} (λ m. (change_store w u (change_soup m (remove_entry uid)), Reply.done)) (sym is)
 
       pub remove-answers : (result : Result (Unit {0}) StoreFault) → Does [] (λ _. ⊤) w (change_store w u (change_soup p.name (remove_entry uid))) v result → Answers w v (command.Remove u name uid) (λ _. Reply.done) result
       remove-answers result d = does-answers w v (change_store w u (change_soup p.name (remove_entry uid))) (command.Remove u name uid) (λ _. Reply.done) [] (λ _. ⊤) (λ k n good. remove-is) (λ r k. cc) result d
 
-      pub remove-makes : store_on_unit (answer_now w (command.Remove u name uid)).0 u ≡ Some (change_soup p.name (remove_entry uid) s)
-      remove-makes = makes w u blocks s (change_soup p.name (remove_entry uid)) (answer_now w (command.Remove u name uid)) Reply.done on remove-is
+      pub remove-makes : store_on_unit (answer w (command.Remove u name uid)).0 u ≡ Some (change_soup p.name (remove_entry uid) s)
+      remove-makes = makes w u blocks s (change_soup p.name (remove_entry uid)) (answer w (command.Remove u name uid)) Reply.done on remove-is
 
 -- ---- an entry that is read
 
 module _ (w v : World) (u blocks : ℕ) (s : Store) (name : List ℕ) (p : Soup) (uid : ℕ) (on : OnUnit w u blocks s) (named : soup_named name s ≡ Some p) (none : w.cursors ≡ replicate 32 None) (same : v ≡ w) where
-  as-refused : (c : Command) (r : Refusal) → ((q : Refusal) → first_of (entry_checks w u name uid) ≡ Some q → answer_now w c ≡ (w, Reply.refused q)) → entry_of uid p ≡ None → r ≡ NoEntry
-      → answer_now w c ≡ (v, Reply.refused r)
+  as-refused : (c : Command) (r : Refusal) → ((q : Refusal) → first_of (entry_checks w u name uid) ≡ Some q → answer w c ≡ (w, Reply.refused q)) → entry_of uid p ≡ None → r ≡ NoEntry
+      → answer w c ≡ (v, Reply.refused r)
   as-refused c r refused h is = refused NoEntry (no-entry w u blocks s name p uid on named h) ∙ ap {B = World × Reply} (λ q. (w, Reply.refused q)) (sym is) ∙ ap {B = World × Reply} (λ x. (x, Reply.refused r)) (sym same)
 
   pub get-answers : (result : Result Shown StoreFault) → ReadsEntry (entry_of uid p) result → Answers w v (command.Get u name uid) (λ e. Reply.timed e.time e.graph) result
@@ -154,7 +154,7 @@ module _ (w v : World) (u blocks : ℕ) (s : Store) (name : List ℕ) (p : Soup)
     copy-tests : first_of (add_tests other w.minute q.name e.graph t q) ≡ first_of (room_tests other w.minute target e.graph t q)
     copy-tests = ap (λ m. first_of (add_tests other w.minute m e.graph t q)) is ∙ graph-passes other w.minute target e t q ok
 
-    copy-is : first_of (room_tests other w.minute target e.graph t q) ≡ None → (n : ℕ) → n ≡ q.next_uid → answer_now w (command.Copy u name uid to target) ≡ (with_added w to q.name e.graph, Reply.number n)
+    copy-is : first_of (room_tests other w.minute target e.graph t q) ≡ None → (n : ℕ) → n ≡ q.next_uid → answer w (command.Copy u name uid to target) ≡ (with_added w to q.name e.graph, Reply.number n)
     copy-is k n good = copy-done w u blocks s name p uid on named to other t target q there into e found k none
         ∙ ap {B = World × Reply} (λ m. (with_added w to m e.graph, Reply.number q.next_uid)) (sym is) ∙ ap {B = World × Reply} (λ m. (with_added w to q.name e.graph, Reply.number m)) (sym good)
 
@@ -164,8 +164,8 @@ module _ (w v : World) (u blocks : ℕ) (s : Store) (name : List ℕ) (p : Soup)
         (λ r k. copy-refused w u blocks s name p uid on named to other t target q there into e found r k) result
         (does-tests (add_tests other w.minute q.name e.graph t q) (room_tests other w.minute target e.graph t q) (λ n. n ≡ q.next_uid) w (with_added w to q.name e.graph) v copy-tests result d)
 
-    pub copy-makes : first_of (add_tests other w.minute q.name e.graph t q) ≡ None → store_on_unit (answer_now w (command.Copy u name uid to target)).0 to ≡ Some (change_soup q.name (add_entry w.minute e.graph) t)
-    copy-makes k = makes w to other t (change_soup q.name (add_entry w.minute e.graph)) (answer_now w (command.Copy u name uid to target)) (Reply.number q.next_uid) there (copy-is (sym copy-tests ∙ k) q.next_uid refl)
+    pub copy-makes : first_of (add_tests other w.minute q.name e.graph t q) ≡ None → store_on_unit (answer w (command.Copy u name uid to target)).0 to ≡ Some (change_soup q.name (add_entry w.minute e.graph) t)
+    copy-makes k = makes w to other t (change_soup q.name (add_entry w.minute e.graph)) (answer w (command.Copy u name uid to target)) (Reply.number q.next_uid) there (copy-is (sym copy-tests ∙ k) q.next_uid refl)
 
 -- ---- format
 

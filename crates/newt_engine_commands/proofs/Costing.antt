@@ -7,14 +7,14 @@ use Rattle.newt_host.specs.Outside.{Outside}
 use Rattle.newt_laws_images.proofs.Within.{graph-within}
 use Rattle.newt_path.specs.Put.{IsFormOf}
 use Rattle.newt_spec_graph.specs.Slots.{put}
-use Rattle.newt_laws_world.specs.Worlds.{parts_fit, tags_fit}
 use Rattle.newt_spec_store.specs.Keys.{Path, IndexSpec, has_paths}
 use Rattle.newt_spec_store.specs.Store.{Store, Soup, TagTable, Entry, entry_of, drop_soup, change_soup, add_entry, remove_entry, with_index, without_index, with_graph}
 use Rattle.newt_spec_store.specs.Valid.{valid_entry}
 use Rattle.newt_spec_world.specs.declared.command.Command.{Command}
 use Rattle.newt_spec_world.specs.declared.command.Command.TheVariants as command
 use Rattle.newt_spec_world.specs.declared.command.PartWord.{PartWord}
-use Rattle.newt_spec_world.specs.Changed.{spec_of_words, large_at}
+use Rattle.newt_spec_graph.specs.Larges.{large_at}
+use Rattle.newt_spec_world.specs.Changed.{spec_of_words}
 use Rattle.newt_spec_world.specs.World.{World, default_unit}
 use Rattle.newt_spec_store.specs.Cost.{patch_bytes}
 use Rattle.newt_laws_answers.specs.Bounds.{change_bytes, unless, most_programmed}
@@ -22,7 +22,7 @@ use Rattle.newt_laws_answers.specs.Tests.{add_tests, replace_tests, replaced, pa
 use Rattle.newt_laws_answers.proofs.Most.{drop-most, add-most, addx-most, addu-most, remove-most, change-most, set-most, vwrite-most, copy-most, move-to-most, move-from-most, within-most, index-most, unindex-most, set-tags-most}
 use Rattle.newt_store_change.specs.declared.fault.StoreFault.{StoreFault}
 use Rattle.newt_store_change.specs.declared.fault.StoreFault.TheVariants.{Refused, Stop}
-use Rattle.newt_engine_card.specs.Bounds.{Costs, CostsOn}
+use Rattle.newt_engine_card.specs.Bounds.{Costs, CostsOn, LeftAlone}
 use Rattle.newt_store_change.specs.Faults.{GoesOn}
 use Rattle.newt_engine_units.specs.Found.{HasSoup, HasEntry}
 use Rattle.newt_engine_units.proofs.Costs.{on-costs, costs-of, after-read, both-costs}
@@ -79,20 +79,20 @@ module _ {w : World} {u : ℕ} {name : List ℕ} {sig : ℕ} (h : HasSoup w u na
   pub addu-costs : (g : RawGraph) → default_unit w ≡ u → CostsOn u (added_bytes h.blocks g h.store h.soup w) result o p → Costs (most_programmed w (command.Addu name g)) result o p
   addu-costs g default k = named-costs h (λ m. command.Addu m g) k (addu-most w u h.blocks h.store h.soup.name h.soup g default h.on h.self_named)
 
-  pub index-costs : (parts : List PartWord) → parts_fit parts ≡ true → has_parts parts h.soup ≡ false → has_real parts ≡ false → (spec : IndexSpec) → spec ≡ spec_of_words parts
+  pub index-costs : (parts : List PartWord) → has_parts parts h.soup ≡ false → has_real parts ≡ false → (spec : IndexSpec) → spec ≡ spec_of_words parts
       → CostsOn u (index_bytes h.blocks h.store h.soup spec) result o p → Costs (most_programmed w (command.Index u name parts)) result o p
-  index-costs parts fit new typed spec words k = named-costs h (λ m. command.Index u m parts) (subst (λ x. CostsOn u (index_bytes h.blocks h.store h.soup x) result o p) words k)
-      (index-most w u h.blocks h.store h.soup.name h.soup h.on h.self_named parts fit new typed)
+  index-costs parts new typed spec words k = named-costs h (λ m. command.Index u m parts) (subst (λ x. CostsOn u (index_bytes h.blocks h.store h.soup x) result o p) words k)
+      (index-most w u h.blocks h.store h.soup.name h.soup h.on h.self_named parts new typed)
 
   pub unindex-costs : (paths shown : List Path) → has_paths paths h.soup.specs ≡ true → shown ≡ paths → CostsOn u (unindex_bytes h.store h.soup shown) result o p
       → Costs (most_programmed w (command.Unindex u name paths)) result o p
   unindex-costs paths shown there same k = named-costs h (λ m. command.Unindex u m paths) (subst (λ x. CostsOn u (unindex_bytes h.store h.soup x) result o p) same k)
       (unindex-most w u h.blocks h.store h.soup.name h.soup h.on h.self_named paths there)
 
-  pub tags-costs : (path : Path) (symbols : List (List ℕ)) → tags_fit path symbols ≡ true → nat_lt 64 (length symbols) ≡ false → (table : TagTable) → table ≡ record { path = path; symbols = symbols }
+  pub tags-costs : (path : Path) (symbols : List (List ℕ)) → nat_lt 64 (length symbols) ≡ false → (table : TagTable) → table ≡ record { path = path; symbols = symbols }
       → CostsOn u (tags_bytes h.blocks h.store h.soup table) result o p → Costs (most_programmed w (command.SetTags u name path symbols)) result o p
-  tags-costs path symbols fit few table words k = named-costs h (λ m. command.SetTags u m path symbols) (subst (λ x. CostsOn u (tags_bytes h.blocks h.store h.soup x) result o p) words k)
-      (set-tags-most w u h.soup.name path symbols fit h.blocks h.store h.soup h.on h.self_named few)
+  tags-costs path symbols few table words k = named-costs h (λ m. command.SetTags u m path symbols) (subst (λ x. CostsOn u (tags_bytes h.blocks h.store h.soup x) result o p) words k)
+      (set-tags-most w u h.soup.name path symbols h.blocks h.store h.soup h.on h.self_named few)
 
 module _ {w : World} {u : ℕ} {name : List ℕ} {sig uid : ℕ} (x : HasEntry w u name sig uid) {T : Type 0} {result : Result T StoreFault} {o p : Outside} where
   pub remove-costs : CostsOn u (removed_bytes x.of.store x.of.soup x.entry uid) result o p → Costs (most_programmed w (command.Remove u name uid)) result o p
@@ -112,10 +112,10 @@ module _ {w : World} {u : ℕ} {name : List ℕ} {sig uid : ℕ} (x : HasEntry w
 -- ---- after the entry was read
 
 module _ {w : World} {u : ℕ} {name : List ℕ} {sig : ℕ} (h : HasSoup w u name sig) (uid : ℕ) (e : Entry) (found : entry_of uid h.soup ≡ Some e)
-    (x : World) (same : x ≡ w) {o p q : Outside} (still : p.now ≡ o.now) (less : (j : ℕ) → p.programmed j ≤ o.programmed j) {T : Type 0} {result : Result T StoreFault} where
+    (x : World) (same : x ≡ w) {o p q : Outside} (alone : (j : ℕ) → LeftAlone j o p) {T : Type 0} {result : Result T StoreFault} where
   -- what the second call costs, the two cost in the world before
   pub before : {v : ℕ} (n : World → ℕ) → CostsOn v (n x) result p q → CostsOn v (n w) result o q
-  before {v} n k = after-read still less (subst (λ (y : World). CostsOn v (n y) result p q) same k)
+  before {v} n k = after-read alone (subst (λ (y : World). CostsOn v (n y) result p q) same k)
 
   pub set-costs : (path : Path) (g new : RawGraph) → IsFormOf (put e.graph path g) new → CostsOn u (replaced_bytes h.blocks new h.store h.soup e uid x) result p q
       → Costs (most_programmed w (command.Set u name uid path g)) result o q
@@ -125,7 +125,7 @@ module _ {w : World} {u : ℕ} {name : List ℕ} {sig : ℕ} (h : HasSoup w u na
 
   pub vwrite-costs : (path : Path) (at node : ℕ) → large_at e.graph path ≡ Some node → (bytes : List ℕ) → CostsOn u (unless (patch_tests node at (length bytes) e) (patch_bytes (length bytes))) result p q
       → Costs (most_programmed w (command.Vwrite u name uid path at bytes)) result o q
-  vwrite-costs path at node reach bytes k = named-costs h (λ m. command.Vwrite u m uid path at bytes) (after-read still less k)
+  vwrite-costs path at node reach bytes k = named-costs h (λ m. command.Vwrite u m uid path at bytes) (after-read alone k)
       (vwrite-most w u h.blocks h.store h.soup.name h.soup uid h.on h.self_named e found path at node reach bytes)
 
   module _ {to : ℕ} {target : List ℕ} {into : ℕ} (k : HasSoup w to target into) where
@@ -148,15 +148,15 @@ module _ (w : World) (u to : ℕ) (name target : List ℕ) (sig into uid : ℕ) 
   from-most passed = subst (λ c. removed_bytes h.store h.soup e uid ≤ most_programmed w c u) (move-named w u to name target sig into uid h k)
       (move-from-most w u h.blocks h.store h.soup.name h.soup uid h.on h.self_named to k.blocks k.store k.soup.name k.soup k.on k.self_named e found (fits h uid e found) differ passed)
 
-  module _ (x : World) (same : x ≡ w) {o p q : Outside} (still : p.now ≡ o.now) (less : (j : ℕ) → p.programmed j ≤ o.programmed j) {T : Type 0} {first : Result T StoreFault} where
+  module _ (x : World) (same : x ≡ w) {o p q : Outside} (alone : (j : ℕ) → LeftAlone j o p) {T : Type 0} {first : Result T StoreFault} where
     -- it was added, or was not
     pub first-costs : CostsOn to (added_bytes k.blocks e.graph k.store k.soup x) first p q → Costs most first o q
-    first-costs costs = on-costs (before h uid e found x same still less (added_bytes k.blocks e.graph k.store k.soup) costs) to-most
+    first-costs costs = on-costs (before h uid e found x same alone (added_bytes k.blocks e.graph k.store k.soup) costs) to-most
 
     -- and removed
     pub whole-costs : {S : Type 0} {second : Result S StoreFault} {r : Outside} → CostsOn to (added_bytes k.blocks e.graph k.store k.soup x) first p q → GoesOn first
         → first_of (add_tests k.blocks w.minute k.soup.name e.graph k.store k.soup) ≡ None → CostsOn u (removed_bytes h.store h.soup e uid) second q r → Costs most second o r
-    whole-costs added goes passed removed = both-costs (before h uid e found x same still less (added_bytes k.blocks e.graph k.store k.soup) added) removed differ to-most (from-most passed) goes
+    whole-costs added goes passed removed = both-costs (before h uid e found x same alone (added_bytes k.blocks e.graph k.store k.soup) added) removed differ to-most (from-most passed) goes
 
 -- the fault of a call is handed on
 pub handed-costs : {S T : Type 0} {most : ℕ → ℕ} {fault : StoreFault} {result : Result T StoreFault} {o p : Outside} → result ≡ Err fault → Costs {T = S} most (Err fault) o p → Costs most result o p

@@ -6,7 +6,6 @@ use Rattle.newt_base.specs.Refusals.{first_of}
 use Rattle.newt_base.specs.declared.Refusal.{Refusal}
 use Rattle.newt_base.specs.declared.Refusal.TheVariants.{Index as BadIndex, Key as BadKey}
 use Rattle.newt_host.specs.Outside.{Outside}
-use Rattle.newt_laws_world.specs.Worlds.{parts_fit, tags_fit}
 use Rattle.newt_spec_graph.proofs.Lists.{some-same, none-some}
 use Rattle.newt_spec_store.specs.Keys.{Path, IndexSpec, has_paths}
 use Rattle.newt_spec_store.specs.Laid.{bare, bare_soup}
@@ -16,7 +15,7 @@ use Rattle.newt_spec_world.specs.declared.command.PartWord.{PartWord}
 use Rattle.newt_spec_world.specs.Changed.{spec_of_words}
 use Rattle.newt_spec_world.specs.Reply.{Reply}
 use Rattle.newt_spec_world.specs.World.{World, store_on_unit, change_store}
-use Rattle.newt_laws_answers.specs.Spoken.{answer_now}
+use Rattle.newt_spec_world.specs.Answer.{answer}
 use Rattle.newt_laws_answers.specs.Tests.{index_tests, tagged, tags_tests}
 use Rattle.newt_laws_answers.specs.There.{OnUnit}
 use Rattle.newt_laws_answers.proofs.Declares.{index-exists, index-real, index-refused, index-done, unindex-done, set-tags-refused, set-tags-done}
@@ -65,14 +64,14 @@ module _ {C : Type 0} {reads : List ℕ → Option Store} {place : C → ℕ} {s
 -- ---- declared
 
 module _ (w v : World) (u blocks : ℕ) (s : Store) (on : OnUnit w u blocks s) (none : w.cursors ≡ replicate 32 None) (name : List ℕ) (p : Soup) (named : soup_named name s ≡ Some p) (is : p.name ≡ name) where
-  module _ (parts : List PartWord) (fit : parts_fit parts ≡ true) where
+  module _ (parts : List PartWord) where
     -- the parts may not be declared
     pub index-fails : (T : Type 0) (fault : StoreFault) → MayDeclare {T = T} parts p (Err fault) → (result : Result (Unit {0}) StoreFault) → result ≡ Err fault → Answers w w (command.Index u name parts) (λ _. Reply.done) result
     index-fails T fault h result err = subst (λ r. Answers w w (command.Index u name parts) (λ _. Reply.done) r) (sym err) (go fault h)
       where
-        first : (a b : Bool) (r : Refusal) → has_parts parts p ≡ a → has_real parts ≡ b → first_of ((BadIndex, a) ∷ (BadKey, b) ∷ []) ≡ Some r → answer_now w (command.Index u name parts) ≡ (w, Reply.refused r)
-        first true b r x y k = index-exists w u blocks s name p on named parts fit x ∙ ap {B = World × Reply} (λ q. (w, Reply.refused q)) (some-same BadIndex r k)
-        first false true r x y k = index-real w u blocks s name p on named parts fit x y ∙ ap {B = World × Reply} (λ q. (w, Reply.refused q)) (some-same BadKey r k)
+        first : (a b : Bool) (r : Refusal) → has_parts parts p ≡ a → has_real parts ≡ b → first_of ((BadIndex, a) ∷ (BadKey, b) ∷ []) ≡ Some r → answer w (command.Index u name parts) ≡ (w, Reply.refused r)
+        first true b r x y k = index-exists w u blocks s name p on named parts x ∙ ap {B = World × Reply} (λ q. (w, Reply.refused q)) (some-same BadIndex r k)
+        first false true r x y k = index-real w u blocks s name p on named parts x y ∙ ap {B = World × Reply} (λ q. (w, Reply.refused q)) (some-same BadKey r k)
         first false false r x y k = absurd (none-some r k)
 
         go : (fault : StoreFault) → MayDeclare {T = T} parts p (Err fault) → Answers {T = Unit {0}} w w (command.Index u name parts) (λ _. Reply.done) (Err fault)
@@ -83,23 +82,23 @@ module _ (w v : World) (u blocks : ℕ) (s : Store) (on : OnUnit w u blocks s) (
       own-tests : first_of (index_tests blocks name (spec_of_words parts) s p) ≡ first_of (index_tests blocks p.name spec s p)
       own-tests = ap (λ m. first_of (index_tests blocks m (spec_of_words parts) s p)) (sym is) ∙ ap (λ x. first_of (index_tests blocks p.name x s p)) (sym words)
 
-      index-is : first_of (index_tests blocks p.name spec s p) ≡ None → answer_now w (command.Index u name parts) ≡ (change_store w u (change_soup p.name (with_index spec)), Reply.done)
-      index-is k = index-done w u blocks s name p on named parts fit new typed (own-tests ∙ k) none
+      index-is : first_of (index_tests blocks p.name spec s p) ≡ None → answer w (command.Index u name parts) ≡ (change_store w u (change_soup p.name (with_index spec)), Reply.done)
+      index-is k = index-done w u blocks s name p on named parts new typed (own-tests ∙ k) none
           ∙ ap {B = World × Reply} (λ m. (change_store w u (change_soup m (with_index (spec_of_words parts))), Reply.done)) (sym is)
           ∙ ap {B = World × Reply} (λ x. (change_store w u (change_soup p.name (with_index x)), Reply.done)) (sym words)
 
       pub index-answers : (result : Result (Unit {0}) StoreFault) → Does (index_tests blocks p.name spec s p) (λ _. ⊤) w (change_store w u (change_soup p.name (with_index spec))) v result
           → Answers w v (command.Index u name parts) (λ _. Reply.done) result
       index-answers result d = does-answers w v (change_store w u (change_soup p.name (with_index spec))) (command.Index u name parts) (λ _. Reply.done) (index_tests blocks p.name spec s p) (λ _. ⊤)
-          (λ k n good. index-is k) (λ r k. index-refused w u blocks s name p on named parts fit new typed r (own-tests ∙ k)) result d
+          (λ k n good. index-is k) (λ r k. index-refused w u blocks s name p on named parts new typed r (own-tests ∙ k)) result d
 
-      pub index-makes : first_of (index_tests blocks p.name spec s p) ≡ None → store_on_unit (answer_now w (command.Index u name parts)).0 u ≡ Some (change_soup p.name (with_index spec) s)
-      index-makes k = makes w u blocks s (change_soup p.name (with_index spec)) (answer_now w (command.Index u name parts)) Reply.done on (index-is k)
+      pub index-makes : first_of (index_tests blocks p.name spec s p) ≡ None → store_on_unit (answer w (command.Index u name parts)).0 u ≡ Some (change_soup p.name (with_index spec) s)
+      index-makes k = makes w u blocks s (change_soup p.name (with_index spec)) (answer w (command.Index u name parts)) Reply.done on (index-is k)
 
   -- ---- removed
 
   module _ (paths : List Path) (there : has_paths paths p.specs ≡ true) where
-    unindex-is : answer_now w (command.Unindex u name paths) ≡ (change_store w u (change_soup p.name (without_index paths)), Reply.done)
+    unindex-is : answer w (command.Unindex u name paths) ≡ (change_store w u (change_soup p.name (without_index paths)), Reply.done)
     unindex-is = unindex-done w u blocks s name p on named paths there none ∙ ap {B = World × Reply} (λ m. (change_store w u (change_soup m (without_index paths)), Reply.done)) (sym is)
 
     pub unindex-answers : (result : Result (Unit {0}) StoreFault) → Does [] (λ _. ⊤) w (change_store w u (change_soup p.name (without_index paths))) v result
@@ -107,24 +106,24 @@ module _ (w v : World) (u blocks : ℕ) (s : Store) (on : OnUnit w u blocks s) (
     unindex-answers result d = does-answers w v (change_store w u (change_soup p.name (without_index paths))) (command.Unindex u name paths) (λ _. Reply.done) [] (λ _. ⊤)
         (λ k n good. unindex-is) (λ r k. cc) result d
 
-    pub unindex-makes : store_on_unit (answer_now w (command.Unindex u name paths)).0 u ≡ Some (change_soup p.name (without_index paths) s)
-    unindex-makes = makes w u blocks s (change_soup p.name (without_index paths)) (answer_now w (command.Unindex u name paths)) Reply.done on unindex-is
+    pub unindex-makes : store_on_unit (answer w (command.Unindex u name paths)).0 u ≡ Some (change_soup p.name (without_index paths) s)
+    unindex-makes = makes w u blocks s (change_soup p.name (without_index paths)) (answer w (command.Unindex u name paths)) Reply.done on unindex-is
 
   -- ---- tags
 
-  module _ (path : Path) (symbols : List (List ℕ)) (fit : tags_fit path symbols ≡ true) (few : nat_lt 64 (length symbols) ≡ false) (table : TagTable) (words : table ≡ record { path = path; symbols = symbols }) where
+  module _ (path : Path) (symbols : List (List ℕ)) (few : nat_lt 64 (length symbols) ≡ false) (table : TagTable) (words : table ≡ record { path = path; symbols = symbols }) where
     own-table : first_of (tags_tests blocks name (record { path = path; symbols = symbols }) s) ≡ first_of (tags_tests blocks p.name table s)
     own-table = ap (λ m. first_of (tags_tests blocks m (record { path = path; symbols = symbols }) s)) (sym is) ∙ ap (λ x. first_of (tags_tests blocks p.name x s)) (sym words)
 
-    tags-is : first_of (tags_tests blocks p.name table s) ≡ None → answer_now w (command.SetTags u name path symbols) ≡ (change_store w u (tagged p.name table), Reply.done)
-    tags-is k = set-tags-done w u name path symbols fit blocks s p on named few (own-table ∙ k) none
+    tags-is : first_of (tags_tests blocks p.name table s) ≡ None → answer w (command.SetTags u name path symbols) ≡ (change_store w u (tagged p.name table), Reply.done)
+    tags-is k = set-tags-done w u name path symbols blocks s p on named few (own-table ∙ k) none
         ∙ ap {B = World × Reply} (λ m. (change_store w u (tagged m (record { path = path; symbols = symbols })), Reply.done)) (sym is)
         ∙ ap {B = World × Reply} (λ x. (change_store w u (tagged p.name x), Reply.done)) (sym words)
 
     pub tags-answers : (result : Result (Unit {0}) StoreFault) → Does (tags_tests blocks p.name table s) (λ _. ⊤) w (change_store w u (tagged p.name table)) v result
         → Answers w v (command.SetTags u name path symbols) (λ _. Reply.done) result
     tags-answers result d = does-answers w v (change_store w u (tagged p.name table)) (command.SetTags u name path symbols) (λ _. Reply.done) (tags_tests blocks p.name table s) (λ _. ⊤)
-        (λ k n good. tags-is k) (λ r k. set-tags-refused w u name path symbols fit blocks s p on named few r (own-table ∙ k)) result d
+        (λ k n good. tags-is k) (λ r k. set-tags-refused w u name path symbols blocks s p on named few r (own-table ∙ k)) result d
 
-    pub tags-makes : first_of (tags_tests blocks p.name table s) ≡ None → store_on_unit (answer_now w (command.SetTags u name path symbols)).0 u ≡ Some (tagged p.name table s)
-    tags-makes k = makes w u blocks s (tagged p.name table) (answer_now w (command.SetTags u name path symbols)) Reply.done on (tags-is k)
+    pub tags-makes : first_of (tags_tests blocks p.name table s) ≡ None → store_on_unit (answer w (command.SetTags u name path symbols)).0 u ≡ Some (tagged p.name table s)
+    tags-makes k = makes w u blocks s (tagged p.name table) (answer w (command.SetTags u name path symbols)) Reply.done on (tags-is k)

@@ -6,4 +6,3 @@ pub mod Declaring
 pub mod Moves
 pub mod Replacing
 pub mod Said
-pub mod Obeying

@@ -15,7 +15,7 @@ use Rattle.newt_spec_world.specs.declared.command.Command.TheVariants as command
 use Rattle.newt_spec_world.specs.Reply.{Reply}
 use Rattle.newt_spec_world.specs.World.{World, Device, store_of, store_on_unit, change_store, change_media}
 use Rattle.newt_laws_answers.specs.Answering.{Answering}
-use Rattle.newt_laws_answers.specs.Spoken.{answer_now}
+use Rattle.newt_spec_world.specs.Answer.{answer}
 use Rattle.newt_laws_answers.specs.Tests.{add_tests, room_tests, move_tests, moved_within, with_added}
 use Rattle.newt_laws_answers.specs.There.{OnUnit}
 use Rattle.newt_laws_answers.proofs.Copies.{graph-passes, move-no-entry, move-done, move-refused, within-done, within-refused}
@@ -49,7 +49,7 @@ move-missing w v u to name target sig into uid h k same (Refused r) x =
 move-missing w v u to name target sig into uid h k same (Stop stop) x = tt
 
 pub inside-missing : (w : World) (u : ℕ) (name target : List ℕ) (sig into uid : ℕ) (h : HasSoup w u name sig) → HasSoup w u target into → is_some (entry_at sig uid h.store) ≡ false
-    → answer_now w (command.Move u name uid u target) ≡ (w, Reply.refused NoEntry)
+    → answer w (command.Move u name uid u target) ≡ (w, Reply.refused NoEntry)
 inside-missing w u name target sig into uid h k gone =
     move-no-entry w u h.blocks h.store name h.soup uid h.on h.named u k.blocks k.store target k.soup k.on k.named (go (entry_of uid h.soup) (sym (ap (λ p. is_some (option_and_then (entry_of uid) p)) h.by_sig) ∙ gone))
   where
@@ -85,10 +85,10 @@ module _ (w : World) (u : ℕ) (name target : List ℕ) (sig into uid : ℕ) (x 
     inside_tests = move_tests h.blocks w.minute h.soup.name uid k.soup.name x.entry.graph h.store k.soup
 
     abbrev inside_answer : World × Reply
-    inside_answer = answer_now w (command.Move u name uid u target)
+    inside_answer = answer w (command.Move u name uid u target)
 
-    named : answer_now w (command.Move u h.soup.name uid u k.soup.name) ≡ inside_answer
-    named = ap (answer_now w) (move-named w u u name target sig into uid h k)
+    named : answer w (command.Move u h.soup.name uid u k.soup.name) ≡ inside_answer
+    named = ap (answer w) (move-named w u u name target sig into uid h k)
 
     inside-done : first_of inside_tests ≡ None → inside_answer ≡ (change_store w u inside, Reply.number k.soup.next_uid)
     inside-done d = sym named ∙ within-done w u h.blocks h.store h.soup.name h.soup uid h.on h.self_named k.soup.name k.soup inside-named x.entry x.found d none
@@ -119,11 +119,11 @@ module _ (w : World) (u to : ℕ) (name target : List ℕ) (sig into uid : ℕ) 
   abbrev tests : World → Checks
   tests x = add_tests k.blocks x.minute k.soup.name e.graph k.store k.soup
 
-  abbrev answer : World × Reply
-  answer = answer_now w (command.Move u name uid to target)
+  abbrev between_answer : World × Reply
+  between_answer = answer w (command.Move u name uid to target)
 
-  by-name : answer_now w (command.Move u h.soup.name uid to k.soup.name) ≡ answer
-  by-name = ap (answer_now w) (move-named w u to name target sig into uid h k)
+  by-name : answer w (command.Move u h.soup.name uid to k.soup.name) ≡ between_answer
+  by-name = ap (answer w) (move-named w u to name target sig into uid h k)
 
   room : first_of (tests w) ≡ first_of (room_tests k.blocks w.minute k.soup.name e.graph k.store k.soup)
   room = let f = entry-fits h.store name h.soup uid e h.formed h.named found in graph-passes k.blocks w.minute k.soup.name e k.store k.soup f
@@ -134,10 +134,10 @@ module _ (w : World) (u to : ℕ) (name target : List ℕ) (sig into uid : ℕ) 
   there-added : OnUnit added to k.blocks (add k.store)
   there-added = on-changed w to k.blocks k.store add k.on
 
-  between-refused : (r : Refusal) → first_of (tests w) ≡ Some r → answer ≡ (w, Reply.refused r)
+  between-refused : (r : Refusal) → first_of (tests w) ≡ Some r → between_answer ≡ (w, Reply.refused r)
   between-refused r t = sym by-name ∙ move-refused w u h.blocks h.store h.soup.name h.soup uid h.on h.self_named to k.blocks k.store k.soup.name k.soup k.on k.self_named e found differ r (sym room ∙ t)
 
-  between-done : first_of (tests w) ≡ None → answer ≡ (change_store added u without, Reply.number k.soup.next_uid)
+  between-done : first_of (tests w) ≡ None → between_answer ≡ (change_store added u without, Reply.number k.soup.next_uid)
   between-done t = sym by-name ∙ move-done w u h.blocks h.store h.soup.name h.soup uid h.on h.self_named to k.blocks k.store k.soup.name k.soup k.on k.self_named e found differ (sym room ∙ t) none
 
   -- the entry was not added
@@ -160,7 +160,7 @@ module _ (w : World) (u to : ℕ) (name target : List ℕ) (sig into uid : ℕ) 
   }
 
   -- and removed
-  pub between-answers : (now v : World) (n : ℕ) → WasAdded now n → v ≡ change_store now u without → answer ≡ (v, Reply.number n)
+  pub between-answers : (now v : World) (n : ℕ) → WasAdded now n → v ≡ change_store now u without → between_answer ≡ (v, Reply.number n)
   between-answers now v n a is = between-done a.passed ∙ ap {B = World × Reply} (λ z. (change_store z u without, Reply.number k.soup.next_uid)) (sym a.world)
       ∙ ap {B = World × Reply} (λ z. (z, Reply.number k.soup.next_uid)) (sym is) ∙ ap {B = World × Reply} (λ m. (v, Reply.number m)) (sym a.number)
 
@@ -169,29 +169,29 @@ module _ (w : World) (u to : ℕ) (name target : List ℕ) (sig into uid : ℕ) 
 
   -- ---- moments
 
-  pub added-makes : (x : World) → x ≡ w → first_of (tests x) ≡ None → store_on_unit answer.0 to ≡ Some (change_soup k.soup.name (add_entry x.minute e.graph) k.store)
+  pub added-makes : (x : World) → x ≡ w → first_of (tests x) ≡ None → store_on_unit between_answer.0 to ≡ Some (change_soup k.soup.name (add_entry x.minute e.graph) k.store)
   added-makes x is t =
       ap {A = World × Reply} (λ y. store_on_unit y.0 to) (between-done (ap (λ y. first_of (tests y)) (sym is) ∙ t))
       ∙ is-there (change_store added u without) to k.blocks (add k.store) (on-other added to u k.blocks (add k.store) without differ there-added)
       ∙ ap (λ (y : World). Some (change_soup k.soup.name (add_entry y.minute e.graph) k.store)) (sym is)
 
-  pub removed-makes : (now : World) (n : ℕ) → WasAdded now n → store_on_unit answer.0 u ≡ Some (without h.store)
-  removed-makes now n a = makes added u h.blocks h.store without answer (Reply.number k.soup.next_uid) on-added (between-done a.passed)
+  pub removed-makes : (now : World) (n : ℕ) → WasAdded now n → store_on_unit between_answer.0 u ≡ Some (without h.store)
+  removed-makes now n a = makes added u h.blocks h.store without between_answer (Reply.number k.soup.next_uid) on-added (between-done a.passed)
 
   -- up to the end of the first change
-  pub first-moments : (reads : List ℕ → Option Store) (x : World) (a b c : Moment) → x ≡ w → b ≡ a → Always (Answering reads x answer.0 b) b c → Always (Answering reads w answer.0 a) a c
-  first-moments reads x a b c is start way = subst (λ (m : Moment). Always (Answering reads w answer.0 m) m c) start (subst (λ (y : World). Always (Answering reads y answer.0 b) b c) is way)
+  pub first-moments : (reads : List ℕ → Option Store) (x : World) (a b c : Moment) → x ≡ w → b ≡ a → Always (Answering reads x between_answer.0 b) b c → Always (Answering reads w between_answer.0 a) a c
+  first-moments reads x a b c is start way = subst (λ (m : Moment). Always (Answering reads w between_answer.0 m) m c) start (subst (λ (y : World). Always (Answering reads y between_answer.0 b) b c) is way)
 
   -- and of the second
   pub both-moments : (reads : List ℕ → Option Store) (now : World) (n : ℕ) (a b c : Moment) → WasAdded now n
-      → Always (Answering reads w answer.0 a) a b → Always (Answering reads now answer.0 b) b c → Always (Answering reads w answer.0 a) a c
+      → Always (Answering reads w between_answer.0 a) a b → Always (Answering reads now between_answer.0 b) b c → Always (Answering reads w between_answer.0 a) a c
   both-moments reads now n a b c was first second = Always-append first (Always-map (λ m at. record {
     quiet = at.quiet ∙ last.quiet;
     stores = λ j y left d may. stores m at j y left d may (same-or-not j to);
     others = λ j d i. at.others j (none-there j d (same-or-not j to)) i ∙ last.others j d i;
-  }) (subst (λ (y : World). Always (Answering reads y answer.0 b) b c) was.world second))
+  }) (subst (λ (y : World). Always (Answering reads y between_answer.0 b) b c) was.world second))
     where
-      last : Answering reads w answer.0 a b
+      last : Answering reads w between_answer.0 a b
       last = Always-last first
 
       elsewhere : (j : ℕ) → (j ≡ to → ⊥) → store_on_unit added j ≡ store_on_unit w j
@@ -201,10 +201,10 @@ module _ (w : World) (u to : ℕ) (name target : List ℕ) (sig into uid : ℕ) 
       none-there j d (inl i) = absurd (none-some k.store (sym d ∙ ap (store_on_unit w) i ∙ is-there w to k.blocks k.store k.on))
       none-there j d (inr i) = elsewhere j i ∙ d
 
-      stores : (m : Moment) → Answering reads added answer.0 b m → (j : ℕ) (y : Store) (left : List ℕ) → store_on_unit w j ≡ Some y → MayLeave j m left → (j ≡ to) ⊎ (j ≡ to → ⊥)
-          → (reads left ≡ Some y) ⊎ (reads left ≡ store_on_unit answer.0 j)
+      stores : (m : Moment) → Answering reads added between_answer.0 b m → (j : ℕ) (y : Store) (left : List ℕ) → store_on_unit w j ≡ Some y → MayLeave j m left → (j ≡ to) ⊎ (j ≡ to → ⊥)
+          → (reads left ≡ Some y) ⊎ (reads left ≡ store_on_unit between_answer.0 j)
       stores m at j y left d may (inl i) = elim (at.stores j (add k.store) left (ap (store_on_unit added) i ∙ is-there added to k.blocks (add k.store) there-added) may) [
-        | inl r ↦ inr (r ∙ sym (added-makes w refl was.passed) ∙ ap (store_on_unit answer.0) (sym i))
+        | inl r ↦ inr (r ∙ sym (added-makes w refl was.passed) ∙ ap (store_on_unit between_answer.0) (sym i))
         | inr r ↦ inr r
       ]
       stores m at j y left d may (inr i) = at.stores j y left (elsewhere j i ∙ d) may

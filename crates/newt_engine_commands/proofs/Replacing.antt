@@ -17,7 +17,7 @@ use Rattle.newt_spec_store.specs.Valid.{valid_entry}
 use Rattle.newt_spec_world.specs.declared.command.Command.TheVariants as command
 use Rattle.newt_spec_world.specs.Reply.{Reply}
 use Rattle.newt_spec_world.specs.World.{World, store_on_unit, change_store}
-use Rattle.newt_laws_answers.specs.Spoken.{answer_now}
+use Rattle.newt_spec_world.specs.Answer.{answer}
 use Rattle.newt_laws_answers.specs.Tests.{replace_tests, replaced}
 use Rattle.newt_laws_answers.specs.There.{OnUnit}
 use Rattle.newt_laws_answers.proofs.Replaces.{change-done, change-refused, set-done, set-refused, set-no-path, set-past-limits, set-not-found}
@@ -46,7 +46,7 @@ module _ (w v : World) (u blocks : ℕ) (s : Store) (on : OnUnit w u blocks s) (
   -- ---- change
 
   module _ (g : RawGraph) where
-    change-is : first_of (replace_tests blocks w.minute p.name uid g s) ≡ None → answer_now w (command.Change u name uid g) ≡ (change_store w u (replaced w.minute p.name uid g), Reply.done)
+    change-is : first_of (replace_tests blocks w.minute p.name uid g s) ≡ None → answer w (command.Change u name uid g) ≡ (change_store w u (replaced w.minute p.name uid g), Reply.done)
     change-is k = change-done w u blocks s name p uid on named e found g (own-tests g ∙ k) none ∙ own-world g
 
     pub change-answers : (result : Result (Unit {0}) StoreFault) → Does (replace_tests blocks w.minute p.name uid g s) (λ _. ⊤) w (change_store w u (replaced w.minute p.name uid g)) v result
@@ -54,15 +54,15 @@ module _ (w v : World) (u blocks : ℕ) (s : Store) (on : OnUnit w u blocks s) (
     change-answers result d = does-answers w v (change_store w u (replaced w.minute p.name uid g)) (command.Change u name uid g) (λ _. Reply.done) (replace_tests blocks w.minute p.name uid g s) (λ _. ⊤)
         (λ k n good. change-is k) (λ r k. change-refused w u blocks s name p uid on named e found g r (own-tests g ∙ k)) result d
 
-    pub change-makes : first_of (replace_tests blocks w.minute p.name uid g s) ≡ None → store_on_unit (answer_now w (command.Change u name uid g)).0 u ≡ Some (replaced w.minute p.name uid g s)
-    change-makes k = makes w u blocks s (replaced w.minute p.name uid g) (answer_now w (command.Change u name uid g)) Reply.done on (change-is k)
+    pub change-makes : first_of (replace_tests blocks w.minute p.name uid g s) ≡ None → store_on_unit (answer w (command.Change u name uid g)).0 u ≡ Some (replaced w.minute p.name uid g s)
+    change-makes k = makes w u blocks s (replaced w.minute p.name uid g) (answer w (command.Change u name uid g)) Reply.done on (change-is k)
 
   -- ---- set
 
   module _ (path : Path) (g : RawGraph) where
     -- the value is put
     module _ (new : RawGraph) (form : IsFormOf (put e.graph path g) new) (ok : valid_entry e ≡ true) where
-      set-is : first_of (replace_tests blocks w.minute p.name uid new s) ≡ None → answer_now w (command.Set u name uid path g) ≡ (change_store w u (replaced w.minute p.name uid new), Reply.done)
+      set-is : first_of (replace_tests blocks w.minute p.name uid new s) ≡ None → answer w (command.Set u name uid path g) ≡ (change_store w u (replaced w.minute p.name uid new), Reply.done)
       set-is k =
           let r = raw-of new (put e.graph path g) form in
           set-done w u blocks s name p uid on named e found path g r.0 r.1 new r.2 (graph-within new r.3) ok (own-tests new ∙ k) none ∙ own-world new
@@ -74,15 +74,15 @@ module _ (w v : World) (u blocks : ℕ) (s : Store) (on : OnUnit w u blocks s) (
           does-answers w v (change_store w u (replaced w.minute p.name uid new)) (command.Set u name uid path g) (λ _. Reply.done) (replace_tests blocks w.minute p.name uid new s) (λ _. ⊤)
           (λ k n good. set-is k) (λ q k. set-refused w u blocks s name p uid on named e found path g r.0 r.1 new r.2 (graph-within new r.3) ok q (own-tests new ∙ k)) result d
 
-      pub set-makes : first_of (replace_tests blocks w.minute p.name uid new s) ≡ None → store_on_unit (answer_now w (command.Set u name uid path g)).0 u ≡ Some (replaced w.minute p.name uid new s)
-      set-makes k = makes w u blocks s (replaced w.minute p.name uid new) (answer_now w (command.Set u name uid path g)) Reply.done on (set-is k)
+      pub set-makes : first_of (replace_tests blocks w.minute p.name uid new s) ≡ None → store_on_unit (answer w (command.Set u name uid path g)).0 u ≡ Some (replaced w.minute p.name uid new s)
+      set-makes k = makes w u blocks s (replaced w.minute p.name uid new) (answer w (command.Set u name uid path g)) Reply.done on (set-is k)
 
     -- it is not, and nothing is changed
     pub set-fails : v ≡ w → (error : SetFault) → (error ≡ put_fault.NoPath → put e.graph path g ≡ None) → (error ≡ put_fault.Limit → PassesALimit (put e.graph path g))
         → (result : Result (Unit {0}) StoreFault) → result ≡ Err (set_fault error) → Answers w v (command.Set u name uid path g) (λ _. Reply.done) result
     set-fails same error no_path limit result err = subst (λ r. Answers w v (command.Set u name uid path g) (λ _. Reply.done) r) (sym err) (go error no_path limit)
       where
-        past : (o : Option RawGraph) → put e.graph path g ≡ o → PassesALimit o → answer_now w (command.Set u name uid path g) ≡ (w, Reply.refused Limit)
+        past : (o : Option RawGraph) → put e.graph path g ≡ o → PassesALimit o → answer w (command.Set u name uid path g) ≡ (w, Reply.refused Limit)
         past None k l = absurd l
         past (Some raw) k l = set-past-limits w u blocks s name p uid on named e found path g raw k l.1
 

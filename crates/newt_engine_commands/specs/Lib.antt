@@ -1,3 +1,2 @@
-pub mod Larges
 pub mod Declares
 pub mod Done

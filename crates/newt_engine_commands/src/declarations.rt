@@ -15,7 +15,8 @@ use newt_spec_world::PartWord;
 use newt_tags::TagTable;
 use std::alloc::{AllocError, Global};
 
-/// The declaration of an index of these parts. The type of a part that has none becomes the integer's.
+/// The declaration of an index of these parts. The type of a part that has none becomes the
+/// integer's.
 #[tactic(auto, using(newt_laws_world::proofs::Rows::spec_valid))]
 pub(crate) fn new_spec(alloc: Global, parts: &[PartWord]) -> Result<IndexSpec, AllocError>
     requires { parts_fit parts.now ≡ true }
@@ -37,7 +38,12 @@ fn new_parts(alloc: Global, parts: &[PartWord]) -> Result<Vec<IndexPart>, AllocE
 }
 
 fn new_part(part: &PartWord) -> Result<IndexPart, AllocError>
-    ensures { IfOk result (λ made. declared made ≡ record { path = part.now.path; kind = kind_of part.now.kind; direction = part.now.order }) }
+    ensures { IfOk result (λ made. declared made ≡ record {
+      path = part.now.path;
+      kind = kind_of
+          part.now.kind;
+      direction = part.now.order;
+    }) }
 {
     Ok(IndexPart {
         path: part.path.copy()?,

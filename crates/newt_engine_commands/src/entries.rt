@@ -25,19 +25,23 @@ pub fn add<C: Card, H: Host>(
     graph: Graph,
 ) -> Result<u32, StoreFault>
     requires { Stands C.place C.stands H.told units.old (H.outside host.old) }
-    ensures obeyed { Obeys C.reads C.place C.stands H.told (Command.Add unit name.now graph) (λ n. Reply.number n)
+    ensures obeyed { Obeys C.reads C.place C.stands H.told (Command.Add unit name.now graph)
+        (λ n. Reply.number n)
         units.old units.new (H.outside host.old) (H.outside host.new) result }
-    ensures as_stream { Obeys C.reads C.place C.stands H.told (Command.Addx unit name.now graph) (λ n. Reply.number n)
+    ensures as_stream { Obeys C.reads C.place C.stands H.told (Command.Addx unit name.now graph)
+        (λ n. Reply.number n)
         units.old units.new (H.outside host.old) (H.outside host.new) result }
     ensures to_default { units.old.default ≡ Some unit →
-        Obeys C.reads C.place C.stands H.told (Command.Addu name.now graph) (λ n. Reply.added unit n)
+        Obeys C.reads C.place C.stands H.told (Command.Addu name.now graph)
+        (λ n. Reply.added unit n)
         units.old units.new (H.outside host.old) (H.outside host.new) result }
 {
     let soup = units.find_soup(unit, name)?;
     units.change(host, unit, Change::Add(soup, graph))
 }
 
-/// Adds an entry to a soup of the default store, at the present minute, and answers its unit and its id.
+/// Adds an entry to a soup of the default store, at the present minute, and answers its unit and
+/// its id.
 pub fn add_to_default<C: Card, H: Host>(
     units: &mut Units<C>,
     host: &mut H,
@@ -45,7 +49,8 @@ pub fn add_to_default<C: Card, H: Host>(
     graph: Graph,
 ) -> Result<(Unit, u32), StoreFault>
     requires { Stands C.place C.stands H.told units.old (H.outside host.old) }
-    ensures { Obeys C.reads C.place C.stands H.told (Command.Addu name.now graph) (λ x. Reply.added x.0 x.1)
+    ensures { Obeys C.reads C.place C.stands H.told (Command.Addu name.now graph)
+        (λ x. Reply.added x.0 x.1)
         units.old units.new (H.outside host.old) (H.outside host.new) result }
 {
     match units.default_unit() {
@@ -66,9 +71,11 @@ pub fn get<C: Card, H: Host>(
     uid: Uid,
 ) -> Result<Entry, StoreFault>
     requires { Stands C.place C.stands H.told units.old (H.outside host.old) }
-    ensures obeyed { Obeys C.reads C.place C.stands H.told (Command.Get unit name.now uid) (λ e. Reply.timed e.time e.graph)
+    ensures obeyed { Obeys C.reads C.place C.stands H.told (Command.Get unit name.now uid)
+        (λ e. Reply.timed e.time e.graph)
         units.old units.new (H.outside host.old) (H.outside host.new) result }
-    ensures as_stream { Obeys C.reads C.place C.stands H.told (Command.Getx unit name.now uid) (λ e. Reply.timed_nsof e.time e.graph)
+    ensures as_stream { Obeys C.reads C.place C.stands H.told (Command.Getx unit name.now uid)
+        (λ e. Reply.timed_nsof e.time e.graph)
         units.old units.new (H.outside host.old) (H.outside host.new) result }
 {
     let soup = units.find_soup(unit, name)?;
@@ -84,7 +91,8 @@ pub fn remove<C: Card, H: Host>(
     uid: Uid,
 ) -> Result<(), StoreFault>
     requires { Stands C.place C.stands H.told units.old (H.outside host.old) }
-    ensures { Obeys C.reads C.place C.stands H.told (Command.Remove unit name.now uid) (λ _. Reply.done)
+    ensures { Obeys C.reads C.place C.stands H.told (Command.Remove unit name.now uid)
+        (λ _. Reply.done)
         units.old units.new (H.outside host.old) (H.outside host.new) result }
 {
     let soup = units.find_entry(unit, name, uid)?;
@@ -98,8 +106,10 @@ pub fn alias<C: Card>(
     name: &Name,
     uid: Uid,
 ) -> Result<(Sig, Sig), StoreFault>
-    ensures answered { (outside : Outside) → Eight outside → Stands C.place C.stands true units.now outside →
-        Answers (world_of C.reads units.now outside) (world_of C.reads units.now outside) (Command.Alias unit name.now uid) (λ x. Reply.alias x.0 x.1 uid) result }
+    ensures answered { (outside : Outside) → Eight outside
+        → Stands C.place C.stands true units.now outside →
+        Answers (world_of C.reads units.now outside) (world_of C.reads units.now outside)
+        (Command.Alias unit name.now uid) (λ x. Reply.alias x.0 x.1 uid) result }
     ensures only { IfErr result (λ fault. IsRefusal fault) }
 {
     let soup = units.find_entry(unit, name, uid)?;

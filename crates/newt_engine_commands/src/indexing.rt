@@ -1,5 +1,6 @@
 //! Indexes: declared, removed and shown.
-ghost use Rattle.std.specs.Prelude.{◌≡◌, ℕ, true, Some, None, IfOk, IfErr, map, option_map, option_and_then};
+ghost use Rattle.std.specs.Prelude.{◌≡◌, ℕ, true, Some, None, IfOk, IfErr, map, option_map};
+ghost use Rattle.std.specs.Prelude.{option_and_then};
 ghost use Rattle.newt_host.specs.Outside.{Outside};
 ghost use Rattle.newt_spec_store.specs.Store.{Store as Plain, Soup, soup_of};
 ghost use Rattle.newt_spec_world.specs.Changed.{spec_of_words};
@@ -16,7 +17,7 @@ ghost use Rattle.newt_engine_units.specs.Stands.{card_at, Eight, Stands, world_o
 
 use crate::declarations::{copied_specs, has_paths, has_paths_of, new_spec};
 use crate::done::done;
-use crate::forms::{are_parts, has_real};
+use crate::forms::has_real;
 use newt_base::{Name, Refusal, Sig};
 use newt_engine_card::Card;
 use newt_engine_units::Units;
@@ -27,7 +28,7 @@ use newt_reply::SpecRows;
 use newt_spec_world::{PartWord, Parts};
 use newt_store_change::{Change, StoreFault};
 
-/// Declares an index of a soup. There are 1 to 4 parts, each with a path of identifiers.
+/// Declares an index of a soup.
 pub fn index<C: Card, H: Host>(
     units: &mut Units<C>,
     host: &mut H,
@@ -35,14 +36,12 @@ pub fn index<C: Card, H: Host>(
     name: &Name,
     parts: &Parts,
 ) -> Result<(), StoreFault>
-    requires { Stands C.place C.stands H.told units.old (H.outside host.old) }
-    ensures { Obeys C.reads C.place C.stands H.told (Command.Index unit name.now parts.now) (λ _. Reply.done)
-        units.old units.new (H.outside host.old) (H.outside host.new) result }
+    requires stands { Stands C.place C.stands H.told units.old (H.outside host.old) }
+    requires form { parts_fit parts.now ≡ true }
+    ensures { Obeys C.reads C.place C.stands H.told (Command.Index unit name.now parts.now)
+        (λ _. Reply.done) units.old units.new (H.outside host.old) (H.outside host.new) result }
 {
     let words = parts.list();
-    if !are_parts(words) {
-        return Err(StoreFault::Refused(Refusal::Command));
-    }
     let soup = units.find_soup(unit, name)?;
     let spec = spec_for(units, unit, soup, words)?;
     done(units.change(host, unit, Change::AddIndex(soup, spec)))
@@ -57,7 +56,8 @@ pub fn unindex<C: Card, H: Host>(
     paths: Paths,
 ) -> Result<(), StoreFault>
     requires { Stands C.place C.stands H.told units.old (H.outside host.old) }
-    ensures { Obeys C.reads C.place C.stands H.told (Command.Unindex unit name.now paths) (λ _. Reply.done)
+    ensures { Obeys C.reads C.place C.stands H.told (Command.Unindex unit name.now paths)
+        (λ _. Reply.done)
         units.old units.new (H.outside host.old) (H.outside host.new) result }
 {
     let soup = units.find_soup(unit, name)?;
@@ -69,8 +69,10 @@ pub fn unindex<C: Card, H: Host>(
 
 /// The indexes of a soup, in order of declaration.
 pub fn indexes<C: Card>(units: &Units<C>, unit: Unit, name: &Name) -> Result<SpecRows, StoreFault>
-    ensures answered { (outside : Outside) → Eight outside → Stands C.place C.stands true units.now outside →
-        Answers (world_of C.reads units.now outside) (world_of C.reads units.now outside) (Command.Indexes unit name.now) (λ specs. Reply.indexes specs) result }
+    ensures answered { (outside : Outside) → Eight outside
+        → Stands C.place C.stands true units.now outside →
+        Answers (world_of C.reads units.now outside) (world_of C.reads units.now outside)
+        (Command.Indexes unit name.now) (λ specs. Reply.indexes specs) result }
     ensures only { IfErr result (λ fault. NoDevice fault) }
 {
     let soup = units.find_soup(unit, name)?;
@@ -82,7 +84,9 @@ pub fn indexes<C: Card>(units: &Units<C>, unit: Unit, name: &Name) -> Result<Spe
 
 /// The indexes of a soup of the store that is mounted on a unit.
 fn specs<C: Card>(units: &Units<C>, unit: Unit, soup: Sig) -> Option<&[IndexSpec]>
-    ensures { option_map (λ specs. specs.now) result ≡ option_and_then (λ card. option_map (λ p. p.specs) (soup_of soup (C.soups card))) (card_at units.now.slots.items unit) }
+    ensures { option_map (λ specs. specs.now) result
+        ≡ option_and_then (λ card. option_map (λ p. p.specs) (soup_of soup (C.soups card)))
+        (card_at units.now.slots.items unit) }
 {
     match units.card(unit) {
         Some(card) => card.specs(soup),
@@ -92,7 +96,9 @@ fn specs<C: Card>(units: &Units<C>, unit: Unit, soup: Sig) -> Option<&[IndexSpec
 
 /// Whether a soup that is there has an index of these paths.
 fn has_index<C: Card>(units: &Units<C>, unit: Unit, soup: Sig, paths: &[Path]) -> bool
-    ensures { (outside : Outside) → Eight outside → Stands C.place C.stands true units.now outside → (blocks : ℕ) (s : Plain) (p : Soup) → OnUnit (world_of C.reads units.now outside) unit blocks s →
+    ensures { (outside : Outside) → Eight outside → Stands C.place C.stands true units.now outside
+        → (blocks : ℕ) (s : Plain) (p : Soup)
+        → OnUnit (world_of C.reads units.now outside) unit blocks s →
         soup_of soup s ≡ Some p → result ≡ has_paths paths.now p.specs }
 {
     match specs(units, unit, soup) {
@@ -103,7 +109,9 @@ fn has_index<C: Card>(units: &Units<C>, unit: Unit, soup: Sig, paths: &[Path]) -
 
 /// Whether a soup that is there has an index of the paths of these parts.
 fn has_index_of<C: Card>(units: &Units<C>, unit: Unit, soup: Sig, parts: &[PartWord]) -> bool
-    ensures { (outside : Outside) → Eight outside → Stands C.place C.stands true units.now outside → (blocks : ℕ) (s : Plain) (p : Soup) → OnUnit (world_of C.reads units.now outside) unit blocks s →
+    ensures { (outside : Outside) → Eight outside → Stands C.place C.stands true units.now outside
+        → (blocks : ℕ) (s : Plain) (p : Soup)
+        → OnUnit (world_of C.reads units.now outside) unit blocks s →
         soup_of soup s ≡ Some p → result ≡ has_paths (map (λ q. q.path) parts.now) p.specs }
 {
     match specs(units, unit, soup) {
@@ -112,7 +120,8 @@ fn has_index_of<C: Card>(units: &Units<C>, unit: Unit, soup: Sig, parts: &[PartW
     }
 }
 
-/// The declaration of these parts for a soup that is there, or why there is none: it has an index of their paths, or a part has no type.
+/// The declaration of these parts for a soup that is there, or why there is none: it has an index
+/// of their paths, or a part has no type.
 fn spec_for<C: Card>(
     units: &Units<C>,
     unit: Unit,
@@ -121,7 +130,9 @@ fn spec_for<C: Card>(
 ) -> Result<IndexSpec, StoreFault>
     requires { parts_fit parts.now ≡ true }
     ensures made { IfOk result (λ spec. spec ≡ spec_of_words parts.now) }
-    ensures may { (outside : Outside) → Eight outside → Stands C.place C.stands true units.now outside → (blocks : ℕ) (s : Plain) (p : Soup) → OnUnit (world_of C.reads units.now outside) unit blocks s →
+    ensures may { (outside : Outside) → Eight outside
+        → Stands C.place C.stands true units.now outside → (blocks : ℕ) (s : Plain) (p : Soup)
+        → OnUnit (world_of C.reads units.now outside) unit blocks s →
         soup_of soup s ≡ Some p → MayDeclare parts.now p result }
     ensures only { IfErr result (λ fault. NoDevice fault) }
 {

@@ -1,9 +1,11 @@
 //! The commands on the soups and entries of the stores that are mounted.
 //!
-//! It stands on `newt_engine_units`, which has the units, looks up what is on them and changes one store at a time. The promise that it carries upwards: each of these commands
-//! is answered as the world answers it that units and devices stand for, leaves units that stand for the world after it, programs no more than the command may,
-//! and at every moment a crash leaves each store as it was or as it is then: soup, drop, index, unindex, indexes, tags, add, addx, addu, get, getx, set, change, remove,
-//! copy, move, alias, vread, vwrite.
+//! It stands on `newt_engine_units`, which has the units, looks up what is on them and changes one
+//! store at a time. The promise that it carries upwards: each of these commands is answered as the
+//! world answers it that units and devices stand for, leaves units that stand for the world after
+//! it, programs no more than the command may, and at every moment a crash leaves each store as it
+//! was or as it is then: soup, drop, index, unindex, indexes, tags, add, addx, addu, get, getx,
+//! set, change, remove, copy, move, alias, vread, vwrite.
 #![tactic(auto)]
 
 mod copies;

@@ -13,7 +13,8 @@ use newt_host::{Host, Unit};
 use newt_path::{Path, set_at};
 use newt_store_change::{Change, Entry, StoreFault};
 
-/// Puts a value at a path of an entry's graph, at the present minute. The frame that the path reaches is changed where it stands.
+/// Puts a value at a path of an entry's graph, at the present minute. The frame that the path
+/// reaches is changed where it stands.
 pub fn set<C: Card, H: Host>(
     units: &mut Units<C>,
     host: &mut H,
@@ -24,7 +25,8 @@ pub fn set<C: Card, H: Host>(
     value: &Graph,
 ) -> Result<(), StoreFault>
     requires { Stands C.place C.stands H.told units.old (H.outside host.old) }
-    ensures { Obeys C.reads C.place C.stands H.told (Command.Set unit name.now uid path.now value.now) (λ _. Reply.done)
+    ensures { Obeys C.reads C.place C.stands H.told
+        (Command.Set unit name.now uid path.now value.now) (λ _. Reply.done)
         units.old units.new (H.outside host.old) (H.outside host.new) result }
 {
     let soup = units.find_soup(unit, name)?;
@@ -43,7 +45,8 @@ pub fn change<C: Card, H: Host>(
     graph: Graph,
 ) -> Result<(), StoreFault>
     requires { Stands C.place C.stands H.told units.old (H.outside host.old) }
-    ensures { Obeys C.reads C.place C.stands H.told (Command.Change unit name.now uid graph) (λ _. Reply.done)
+    ensures { Obeys C.reads C.place C.stands H.told (Command.Change unit name.now uid graph)
+        (λ _. Reply.done)
         units.old units.new (H.outside host.old) (H.outside host.new) result }
 {
     let soup = units.find_entry(unit, name, uid)?;

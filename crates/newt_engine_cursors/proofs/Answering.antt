@@ -18,7 +18,8 @@ use Rattle.newt_pagebook.specs.declared.book.Stop.{Stop as End}
 use Rattle.newt_store_change.specs.declared.fault.StoreFault.{StoreFault}
 use Rattle.newt_store_change.specs.declared.fault.StoreFault.TheVariants.{Refused, Stop}
 use Rattle.newt_engine_cursors.specs.Motions.{Steers, step_of}
-use Rattle.newt_engine_cursors.specs.Replies.{Answers, shown_reply}
+use Rattle.newt_engine_units.specs.Answers.{Answers}
+use Rattle.newt_engine_cursors.specs.Replies.{shown_reply}
 use Rattle.newt_engine_cursors.specs.declared.show.Shown.{Shown}
 use Rattle.newt_engine_cursors.specs.declared.stepping.Motion.TheVariants as motion
 use Rattle.newt_engine_cursors.specs.declared.ways.Way.TheVariants.{On, Back}

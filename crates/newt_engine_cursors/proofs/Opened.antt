@@ -25,7 +25,7 @@ use Rattle.newt_store_change.specs.declared.fault.StoreFault.TheVariants.{Refuse
 use Rattle.newt_store_change.specs.Faults.{RefusesBy}
 use Rattle.newt_engine_units.proofs.Shown.{drop-step}
 use Rattle.newt_engine_cursors.specs.Opening.{Binds, Opens, bind_tests}
-use Rattle.newt_engine_cursors.specs.Replies.{Answers}
+use Rattle.newt_engine_units.specs.Answers.{Answers}
 use Rattle.newt_engine_cursors.proofs.Answered.{refused-answer, done-goal}
 use Rattle.newt_engine_cursors.proofs.Asked.{binds-same}
 

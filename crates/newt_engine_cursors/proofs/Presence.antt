@@ -13,8 +13,8 @@ use Rattle.newt_laws_world.specs.Settled.{MountedApart}
 use Rattle.newt_laws_images.proofs.Chosen.{find-passes}
 use Rattle.newt_laws_hits.specs.Located.{Located, looked_up, located_hit, takes_part}
 use Rattle.newt_laws_hits.proofs.Origins.{same-looked-up}
-use Rattle.newt_query_filter.specs.Kept.{kept_key}
-use Rattle.newt_query_filter.proofs.Keeping.{kept-is}
+use Rattle.newt_query.specs.Kept.{kept_key}
+use Rattle.newt_query.proofs.Keeping.{kept-is}
 use Rattle.newt_engine_cursors.specs.Searched.{located_in}
 use Rattle.newt_engine_cursors.specs.Present.{Present, identity, with_entry, present_in}
 

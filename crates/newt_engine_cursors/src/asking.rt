@@ -93,8 +93,10 @@ fn find_index<C: Card>(
     name: &Name,
     shape: &Shape,
 ) -> Result<Option<IndexSpec>, StoreFault>
-    ensures found { (outside : Outside) → Eight outside → Stands C.place C.stands true units.now outside →
-        Indexes (world_of C.reads units.now outside) (scope_of scope.now) name.now shape.now.paths result }
+    ensures found { (outside : Outside) → Eight outside
+        → Stands C.place C.stands true units.now outside →
+        Indexes (world_of C.reads units.now outside) (scope_of scope.now) name.now shape.now.paths
+        result }
     ensures cause { IfErr result NoDevice }
 {
     let Some(paths) = shape.paths() else {

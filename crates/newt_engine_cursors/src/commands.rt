@@ -1,17 +1,22 @@
-//! The commands that show, count, clone and close a cursor. Where the number is of no open cursor, each is refused as `Cursor`.
+//! The commands that show, count, clone and close a cursor. Where the number is of no open cursor,
+//! each is refused as `Cursor`.
 ghost use Rattle.std.specs.Prelude.{◌≡◌, IsTrue, IfErr, IfOk, OnOk, slice_get};
+ghost use Rattle.newt_host.specs.Outside.{NoFault};
 ghost use Rattle.newt_pagebook.specs.Stops.{HasStopCause};
 ghost use Rattle.newt_cursor.specs.Seen.{place_of};
 ghost use Rattle.newt_spec_world.specs.Answer.{current, or_nil};
 ghost use Rattle.newt_spec_world.specs.Reply.{Reply};
-ghost use Rattle.newt_spec_world.specs.World.{flat, settle};
+ghost use Rattle.newt_spec_world.specs.World.{World, flat, settle};
 ghost use Rattle.newt_spec_world.specs.declared.command.Command.{Command};
-ghost use Rattle.newt_laws_world.specs.Settled.{MountedApart};
-ghost use Rattle.newt_store_change.specs.Faults.{HasFaultCause};
+ghost use Rattle.newt_laws_world.specs.Settled.{IsSettled, MountedApart};
+ghost use Rattle.newt_store_change.specs.Faults.{GoesOn, HasFaultCause, IsRefusal, NoDevice};
+ghost use Rattle.newt_laws_world.specs.Cursors.{with_cursors};
 ghost use Rattle.newt_engine_units.specs.Stands.{Stands};
 ghost use Rattle.newt_engine_cursors.specs.Fits.{DeskFits};
-ghost use Rattle.newt_engine_cursors.specs.Replies.{Answers, shown_reply, side_at, side_reply};
-ghost use Rattle.newt_engine_cursors.specs.World.{AreRead, world_with};
+ghost use Rattle.newt_engine_units.specs.Answers.{Answers};
+ghost use Rattle.newt_engine_cursors.specs.Replies.{shown_reply, side_at, side_reply};
+ghost use Rattle.newt_engine_units.specs.Calls.{AreRead};
+ghost use Rattle.newt_engine_cursors.specs.World.{world_with};
 
 use crate::counting::count_hits;
 use crate::settling::settle;
@@ -33,11 +38,16 @@ pub fn entry<C: Card, H: Host>(
 ) -> Result<Shown, StoreFault>
     requires stands { Stands C.place C.stands H.told units.old (H.outside host.old) }
     requires desk { DeskFits desk.old }
-    ensures read { AreRead C.reads C.place C.stands H.told units.old units.new (H.outside host.old) (H.outside host.new) }
+    ensures read { AreRead C.reads C.place C.stands H.told units.old units.new
+        (H.outside host.old) (H.outside host.new) }
     ensures desk { DeskFits desk.new }
-    ensures answered { IsTrue H.told → let w = world_with C.reads units.old desk.old (H.outside host.old) in MountedApart w →
-        Answers w (world_with C.reads units.new desk.new (H.outside host.new)) (Command.Entry cursor) shown_reply result }
-    ensures cause { IfErr result (λ fault. HasFaultCause fault (H.outside host.old) (H.outside host.new)) }
+    ensures answered { IsTrue H.told
+        → let w = world_with C.reads units.old desk.old (H.outside host.old) in MountedApart w
+        → Answers w (world_with C.reads units.new desk.new (H.outside host.new))
+        (Command.Entry cursor) shown_reply result }
+    ensures cause { IfErr result
+        (λ fault. HasFaultCause fault (H.outside host.old) (H.outside host.new)) }
+    ensures no_fault { GoesOn result → NoFault (H.outside host.old) (H.outside host.new) }
 {
     if desk.place(cursor).is_none() {
         return Err(StoreFault::Refused(Refusal::Cursor));
@@ -54,11 +64,16 @@ pub fn count<C: Card, H: Host>(
 ) -> Result<u32, StoreFault>
     requires stands { Stands C.place C.stands H.told units.old (H.outside host.old) }
     requires desk { DeskFits desk.old }
-    ensures read { AreRead C.reads C.place C.stands H.told units.old units.new (H.outside host.old) (H.outside host.new) }
+    ensures read { AreRead C.reads C.place C.stands H.told units.old units.new
+        (H.outside host.old) (H.outside host.new) }
     ensures desk { DeskFits desk.new }
-    ensures answered { IsTrue H.told → let w = world_with C.reads units.old desk.old (H.outside host.old) in MountedApart w →
-        Answers w (world_with C.reads units.new desk.new (H.outside host.new)) (Command.Count cursor) (λ n. Reply.number n) result }
-    ensures cause { IfErr result (λ fault. HasFaultCause fault (H.outside host.old) (H.outside host.new)) }
+    ensures answered { IsTrue H.told
+        → let w = world_with C.reads units.old desk.old (H.outside host.old) in MountedApart w
+        → Answers w (world_with C.reads units.new desk.new (H.outside host.new))
+        (Command.Count cursor) (λ n. Reply.number n) result }
+    ensures cause { IfErr result
+        (λ fault. HasFaultCause fault (H.outside host.old) (H.outside host.new)) }
+    ensures no_fault { GoesOn result → NoFault (H.outside host.old) (H.outside host.new) }
 {
     let Some(query) = desk.query(cursor) else {
         return Err(StoreFault::Refused(Refusal::Cursor));
@@ -69,76 +84,52 @@ pub fn count<C: Card, H: Host>(
 }
 
 /// The side of the hits on which a cursor stands.
-pub fn which<C: Card, H: Host>(
-    units: &mut Units<C>,
-    desk: &mut Desk,
-    host: &mut H,
-    cursor: u8,
-) -> Result<Side, StoreFault>
-    requires stands { Stands C.place C.stands H.told units.old (H.outside host.old) }
-    requires desk { DeskFits desk.old }
-    ensures read { AreRead C.reads C.place C.stands H.told units.old units.new (H.outside host.old) (H.outside host.new) }
-    ensures desk { DeskFits desk.new }
-    ensures answered { IsTrue H.told → let w = world_with C.reads units.old desk.old (H.outside host.old) in MountedApart w →
-        Answers w (world_with C.reads units.new desk.new (H.outside host.new)) (Command.Which cursor) side_reply result }
-    ensures cause { IfErr result (λ fault. HasFaultCause fault (H.outside host.old) (H.outside host.new)) }
+pub fn which(desk: &Desk, cursor: u8) -> Result<Side, StoreFault>
+    ensures answered { (w : World) → IsSettled (with_cursors desk.now w)
+        → Answers (with_cursors desk.now w) (with_cursors desk.now w)
+        (Command.Which cursor) side_reply result }
+    ensures only { IfErr result (λ fault. IsRefusal fault) }
 {
-    let Some(place) = desk.place(cursor) else {
-        return Err(StoreFault::Refused(Refusal::Cursor));
-    };
-    let side = side_of(place);
-    settle(units, desk, host)?;
-    Ok(side)
+    match desk.place(cursor) {
+        Some(place) => Ok(side_of(place)),
+        None => Err(StoreFault::Refused(Refusal::Cursor)),
+    }
 }
 
-/// Opens another cursor with the same query and place, and answers its number, from 0 to 31. Where all 32 places are taken it is refused as `Limit`.
-pub fn clone_of<C: Card, H: Host>(
-    units: &mut Units<C>,
-    desk: &mut Desk,
-    host: &mut H,
-    cursor: u8,
-) -> Result<u8, StoreFault>
-    requires stands { Stands C.place C.stands H.told units.old (H.outside host.old) }
-    requires desk { DeskFits desk.old }
-    ensures read { AreRead C.reads C.place C.stands H.told units.old units.new (H.outside host.old) (H.outside host.new) }
+/// Opens another cursor with the same query and place, and answers its number, from 0 to 31. Where
+/// all 32 places are taken it is refused as `Limit`.
+pub fn clone_of(desk: &mut Desk, cursor: u8) -> Result<u8, StoreFault>
+    requires { DeskFits desk.old }
     ensures desk { DeskFits desk.new }
-    ensures answered { IsTrue H.told → let w = world_with C.reads units.old desk.old (H.outside host.old) in MountedApart w →
-        Answers w (world_with C.reads units.new desk.new (H.outside host.new)) (Command.Clone cursor) (λ n. Reply.number n) result }
-    ensures cause { IfErr result (λ fault. HasFaultCause fault (H.outside host.old) (H.outside host.new)) }
+    ensures answered { (w : World) → IsSettled (with_cursors desk.old w)
+        → Answers (with_cursors desk.old w) (with_cursors desk.new w)
+        (Command.Clone cursor) (λ n. Reply.number n) result }
+    ensures only { IfErr result (λ fault. NoDevice fault) }
 {
     if desk.query(cursor).is_none() {
         return Err(StoreFault::Refused(Refusal::Cursor));
     }
     match desk.clone_of(cursor) {
-        Ok(clone) => {
-            settle(units, desk, host)?;
-            Ok(clone)
-        }
+        Ok(clone) => Ok(clone),
         Err(DeskFault::Limit) => Err(StoreFault::Refused(Refusal::Limit)),
         Err(DeskFault::Memory) => Err(StoreFault::Stop(Stop::Memory)),
     }
 }
 
 /// Closes a cursor.
-pub fn close<C: Card, H: Host>(
-    units: &mut Units<C>,
-    desk: &mut Desk,
-    host: &mut H,
-    cursor: u8,
-) -> Result<(), StoreFault>
-    requires stands { Stands C.place C.stands H.told units.old (H.outside host.old) }
-    requires desk { DeskFits desk.old }
-    ensures read { AreRead C.reads C.place C.stands H.told units.old units.new (H.outside host.old) (H.outside host.new) }
+pub fn close(desk: &mut Desk, cursor: u8) -> Result<(), StoreFault>
+    requires { DeskFits desk.old }
     ensures desk { DeskFits desk.new }
-    ensures answered { IsTrue H.told → let w = world_with C.reads units.old desk.old (H.outside host.old) in MountedApart w →
-        Answers w (world_with C.reads units.new desk.new (H.outside host.new)) (Command.Close cursor) (λ _. Reply.done) result }
-    ensures cause { IfErr result (λ fault. HasFaultCause fault (H.outside host.old) (H.outside host.new)) }
+    ensures answered { (w : World) → IsSettled (with_cursors desk.old w)
+        → Answers (with_cursors desk.old w) (with_cursors desk.new w)
+        (Command.Close cursor) (λ _. Reply.done) result }
+    ensures only { IfErr result (λ fault. IsRefusal fault) }
 {
     if desk.query(cursor).is_none() {
         return Err(StoreFault::Refused(Refusal::Cursor));
     }
     desk.close(cursor);
-    Ok(settle(units, desk, host)?)
+    Ok(())
 }
 
 /// Settles all cursors and shows one.
@@ -150,13 +141,16 @@ pub(crate) fn settle_and_show<C: Card, H: Host>(
 ) -> Result<Shown, Stop>
     requires stands { Stands C.place C.stands H.told units.old (H.outside host.old) }
     requires desk { DeskFits desk.old }
-    ensures read { AreRead C.reads C.place C.stands H.told units.old units.new (H.outside host.old) (H.outside host.new) }
+    ensures read { AreRead C.reads C.place C.stands H.told units.old units.new
+        (H.outside host.old) (H.outside host.new) }
     ensures desk { DeskFits desk.new }
     ensures settled { IsTrue H.told → let w = world_with C.reads units.old desk.old (H.outside host.old) in MountedApart w →
         OnOk result (world_with C.reads units.new desk.new (H.outside host.new) ≡ settle w) }
     ensures shown { IsTrue H.told → let w = world_with C.reads units.old desk.old (H.outside host.old) in let v = settle w in MountedApart w →
         IfOk result (λ shown. shown_reply shown ≡ or_nil (current v) (flat (slice_get v.cursors cursor))) }
-    ensures cause { IfErr result (λ stop. HasStopCause stop (H.outside host.old) (H.outside host.new)) }
+    ensures cause { IfErr result
+        (λ stop. HasStopCause stop (H.outside host.old) (H.outside host.new)) }
+    ensures no_fault { OnOk result (NoFault (H.outside host.old) (H.outside host.new)) }
 {
     settle(units, desk, host)?;
     show(units, desk, host, cursor)

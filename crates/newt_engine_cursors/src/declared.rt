@@ -18,7 +18,8 @@ use newt_host::{UNITS, Unit};
 use newt_keys::IndexSpec;
 use newt_path::Path;
 
-/// The declaration of these paths in the soup of a name on the first unit in scope whose soup has one.
+/// The declaration of these paths in the soup of a name on the first unit in scope whose soup has
+/// one.
 pub(crate) fn index_for<'a, C: Card>(
     units: &'a Units<C>,
     scope: &Scope,
@@ -26,7 +27,8 @@ pub(crate) fn index_for<'a, C: Card>(
     paths: &[Path],
 ) -> Option<&'a IndexSpec>
     ensures { (outside : Outside) → Eight outside → Stands C.place C.stands true units.now outside →
-        option_map (λ index. index.now) result ≡ index_for (world_of C.reads units.now outside) (scope_of scope.now) name.now paths.now }
+        option_map (λ index. index.now) result ≡ index_for (world_of C.reads units.now outside)
+        (scope_of scope.now) name.now paths.now }
 {
     for number in 0..UNITS {
         if let Some(index) = index_on(units, Unit(number), scope, name, paths) {
@@ -45,7 +47,9 @@ fn index_on<'a, C: Card>(
     paths: &[Path],
 ) -> Option<&'a IndexSpec>
     ensures { (outside : Outside) → Eight outside → Stands C.place C.stands true units.now outside →
-        option_map (λ index. index.now) result ≡ option_and_then (index_in (scope_of scope.now) name.now paths.now) (mounted_store (world_of C.reads units.now outside) unit) }
+        option_map (λ index. index.now) result ≡ option_and_then
+        (index_in (scope_of scope.now) name.now paths.now)
+        (mounted_store (world_of C.reads units.now outside) unit) }
 {
     let card = units.card(unit)?;
     let soup = card.soup_named(name)?;
@@ -58,7 +62,9 @@ fn index_on<'a, C: Card>(
 
 /// The declaration of these paths in a soup of the store of a card.
 fn index_of_soup<'a, C: Card>(card: &'a C, soup: Sig, paths: &[Path]) -> Option<&'a IndexSpec>
-    ensures { option_map (λ index. index.now) result ≡ option_and_then (λ p. find (λ spec. same_paths (paths_of spec) paths.now) p.specs) (soup_of soup (C.soups card.now)) }
+    ensures { option_map (λ index. index.now) result
+        ≡ option_and_then (λ p. find (λ spec. same_paths (paths_of spec) paths.now) p.specs)
+        (soup_of soup (C.soups card.now)) }
 {
     match card.specs(soup) {
         Some(specs) => of_paths(specs, paths),
@@ -68,7 +74,8 @@ fn index_of_soup<'a, C: Card>(card: &'a C, soup: Sig, paths: &[Path]) -> Option<
 
 /// The first of the declarations that has these paths, but for ASCII case.
 fn of_paths<'a>(specs: &'a [IndexSpec], paths: &[Path]) -> Option<&'a IndexSpec>
-    ensures { option_map (λ index. index.now) result ≡ find (λ spec. same_paths (paths_of spec) paths.now) specs.now }
+    ensures { option_map (λ index. index.now) result
+        ≡ find (λ spec. same_paths (paths_of spec) paths.now) specs.now }
 {
     specs.iter().find(|spec| spec.has_paths(paths))
 }

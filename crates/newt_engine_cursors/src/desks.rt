@@ -20,7 +20,8 @@ pub(crate) fn open_cursor<'a>(desk: &'a Desk, cursor: u8) -> Option<(&'a Query, 
 
 /// The query and the hit of a cursor that is open and stands on one.
 pub(crate) fn standing<'a>(desk: &'a Desk, cursor: u8) -> Option<(&'a Query, &'a Spot)>
-    ensures { option_map (λ x. (query_of x.0.now, spot_hit x.1.now)) result ≡ option_and_then stands_on (flat (slice_get desk.now cursor)) }
+    ensures { option_map (λ x. (query_of x.0.now, spot_hit x.1.now)) result
+        ≡ option_and_then stands_on (flat (slice_get desk.now cursor)) }
 {
     match open_cursor(desk, cursor) {
         Some((query, Place::On(spot))) => Some((query, spot)),

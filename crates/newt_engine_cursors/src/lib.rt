@@ -1,11 +1,14 @@
 //! The commands of cursors over the mounted stores.
 //!
-//! It stands on `newt_engine_units` for the stores, on `newt_cursor` for the 32 places of cursors, on `newt_union` for searches of the merged ranges, and on
-//! `newt_query_filter` for what a query keeps. The promise that it carries: units, cursors and devices stand for one world; each command of cursors is answered
-//! as that world answers it, and leaves what stands for the world after it; and nothing happens to a device but reading.
+//! It stands on `newt_engine_units` for the stores, on `newt_cursor` for the 32 places of cursors,
+//! on `newt_union` for searches of the merged ranges, and on `newt_query` for what a query keeps.
+//! The promise that it carries: units, cursors and devices stand for one world; each command of
+//! cursors is answered as that world answers it, and leaves what stands for the world after it; and
+//! nothing happens to a device but reading.
 //!
-//! Each call answers `StoreFault::Refused` with the refusal that its command is answered with, and then neither the stores nor the cursors have changed; or
-//! `StoreFault::Stop` where memory was refused or a device failed.
+//! Each call answers `StoreFault::Refused` with the refusal that its command is answered with, and
+//! then neither the stores nor the cursors have changed; or `StoreFault::Stop` where memory was
+//! refused or a device failed.
 #![tactic(auto)]
 
 mod asking;

@@ -1,7 +1,7 @@
 //! The commands that open a cursor.
 ghost use Rattle.std.specs.Prelude.{◌≡◌, true, IsTrue, IfErr, Some, ◌++◌, is_some};
 ghost use Rattle.std.specs.List.{list_any};
-ghost use Rattle.newt_host.specs.Outside.{Outside};
+ghost use Rattle.newt_host.specs.Outside.{NoFault, Outside};
 ghost use Rattle.newt_cursor.specs.Seen.{query_of};
 ghost use Rattle.newt_spec_world.specs.Changed.{query_of as asked_query, sig_of};
 ghost use Rattle.newt_spec_world.specs.Reply.{Reply};
@@ -9,12 +9,13 @@ ghost use Rattle.newt_spec_world.specs.World.{mounted, soup_in};
 ghost use Rattle.newt_spec_world.specs.declared.command.Command.{Command};
 ghost use Rattle.newt_laws_world.specs.Settled.{MountedApart};
 ghost use Rattle.newt_laws_answers.specs.Tests.{soup_checks};
-ghost use Rattle.newt_store_change.specs.Faults.{HasFaultCause, NoDevice};
+ghost use Rattle.newt_store_change.specs.Faults.{GoesOn, HasFaultCause, NoDevice};
 ghost use Rattle.newt_engine_units.specs.Stands.{Eight, Stands, world_of};
 ghost use Rattle.newt_engine_cursors.specs.Fits.{DeskFits};
 ghost use Rattle.newt_engine_cursors.specs.Opening.{Binds, Opens, bind_tests};
-ghost use Rattle.newt_engine_cursors.specs.Replies.{Answers};
-ghost use Rattle.newt_engine_cursors.specs.World.{AreRead, world_with};
+ghost use Rattle.newt_engine_units.specs.Answers.{Answers};
+ghost use Rattle.newt_engine_units.specs.Calls.{AreRead};
+ghost use Rattle.newt_engine_cursors.specs.World.{world_with};
 
 use crate::asking::query_for;
 use crate::places::outermost;
@@ -29,7 +30,8 @@ use newt_host::{Host, UNITS, Unit};
 use newt_pagebook::Stop;
 use newt_store_change::StoreFault;
 
-/// Opens a cursor on the first hit of a query in the soup of a name in one store, or behind all where it has no hits, and answers its number, from 0 to
+/// Opens a cursor on the first hit of a query in the soup of a name in one store, or behind all
+/// where it has no hits, and answers its number, from 0 to
 /// 31. Where all 32 places are taken it is refused as `Limit`.
 pub fn query<C: Card, H: Host>(
     units: &mut Units<C>,
@@ -41,11 +43,16 @@ pub fn query<C: Card, H: Host>(
 ) -> Result<u8, StoreFault>
     requires stands { Stands C.place C.stands H.told units.old (H.outside host.old) }
     requires desk { DeskFits desk.old }
-    ensures read { AreRead C.reads C.place C.stands H.told units.old units.new (H.outside host.old) (H.outside host.new) }
+    ensures read { AreRead C.reads C.place C.stands H.told units.old units.new
+        (H.outside host.old) (H.outside host.new) }
     ensures desk { DeskFits desk.new }
-    ensures answered { IsTrue H.told → let w = world_with C.reads units.old desk.old (H.outside host.old) in MountedApart w →
-        Answers w (world_with C.reads units.new desk.new (H.outside host.new)) (Command.Query unit name.now graph.now) (λ n. Reply.number n) result }
-    ensures cause { IfErr result (λ fault. HasFaultCause fault (H.outside host.old) (H.outside host.new)) }
+    ensures answered { IsTrue H.told
+        → let w = world_with C.reads units.old desk.old (H.outside host.old) in MountedApart w
+        → Answers w (world_with C.reads units.new desk.new (H.outside host.new))
+        (Command.Query unit name.now graph.now) (λ n. Reply.number n) result }
+    ensures cause { IfErr result
+        (λ fault. HasFaultCause fault (H.outside host.old) (H.outside host.new)) }
+    ensures no_fault { GoesOn result → NoFault (H.outside host.old) (H.outside host.new) }
 {
     let asked = query_on(units, unit, name, graph);
     match asked {
@@ -54,7 +61,8 @@ pub fn query<C: Card, H: Host>(
     }
 }
 
-/// The same over the soups of a name in all stores that are mounted, now and later; refused as `Soup` where none has one now.
+/// The same over the soups of a name in all stores that are mounted, now and later; refused as
+/// `Soup` where none has one now.
 pub fn query_all<C: Card, H: Host>(
     units: &mut Units<C>,
     desk: &mut Desk,
@@ -64,11 +72,16 @@ pub fn query_all<C: Card, H: Host>(
 ) -> Result<u8, StoreFault>
     requires stands { Stands C.place C.stands H.told units.old (H.outside host.old) }
     requires desk { DeskFits desk.old }
-    ensures read { AreRead C.reads C.place C.stands H.told units.old units.new (H.outside host.old) (H.outside host.new) }
+    ensures read { AreRead C.reads C.place C.stands H.told units.old units.new
+        (H.outside host.old) (H.outside host.new) }
     ensures desk { DeskFits desk.new }
-    ensures answered { IsTrue H.told → let w = world_with C.reads units.old desk.old (H.outside host.old) in MountedApart w →
-        Answers w (world_with C.reads units.new desk.new (H.outside host.new)) (Command.QueryAll name.now graph.now) (λ n. Reply.number n) result }
-    ensures cause { IfErr result (λ fault. HasFaultCause fault (H.outside host.old) (H.outside host.new)) }
+    ensures answered { IsTrue H.told
+        → let w = world_with C.reads units.old desk.old (H.outside host.old) in MountedApart w
+        → Answers w (world_with C.reads units.new desk.new (H.outside host.new))
+        (Command.QueryAll name.now graph.now) (λ n. Reply.number n) result }
+    ensures cause { IfErr result
+        (λ fault. HasFaultCause fault (H.outside host.old) (H.outside host.new)) }
+    ensures no_fault { GoesOn result → NoFault (H.outside host.old) (H.outside host.new) }
 {
     if !has_soup(units, name) {
         return Err(StoreFault::Refused(Refusal::Soup));
@@ -122,11 +135,14 @@ fn open<C: Card, H: Host>(
 ) -> Result<u8, StoreFault>
     requires stands { Stands C.place C.stands H.told units.old (H.outside host.old) }
     requires desk { DeskFits desk.old }
-    ensures read { AreRead C.reads C.place C.stands H.told units.old units.new (H.outside host.old) (H.outside host.new) }
+    ensures read { AreRead C.reads C.place C.stands H.told units.old units.new
+        (H.outside host.old) (H.outside host.new) }
     ensures desk { DeskFits desk.new }
     ensures opened { IsTrue H.told → let w = world_with C.reads units.old desk.old (H.outside host.old) in MountedApart w →
         Opens w (world_with C.reads units.new desk.new (H.outside host.new)) (query_of query) result }
-    ensures cause { IfErr result (λ fault. HasFaultCause fault (H.outside host.old) (H.outside host.new)) }
+    ensures cause { IfErr result
+        (λ fault. HasFaultCause fault (H.outside host.old) (H.outside host.new)) }
+    ensures no_fault { GoesOn result → NoFault (H.outside host.old) (H.outside host.new) }
 {
     let first = outermost(units, host, &query, Way::On)?;
     match desk.open(query, first) {

@@ -1,8 +1,9 @@
 //! Entries that are hits of a query, by their identity.
-ghost use Rattle.std.specs.Prelude.{◌≡◌, ◌&&◌, ℕ, true, IsTrue, Some, option_map, option_and_then, IfOk, IfErr, IfSome};
+ghost use Rattle.std.specs.Prelude.{◌≡◌, ◌&&◌, ℕ, true, IsTrue, Some, option_map, option_and_then};
+ghost use Rattle.std.specs.Prelude.{IfOk, IfErr, IfSome, OnOk};
 ghost use Rattle.newt_base.specs.Names.{equal_text};
 ghost use Rattle.newt_host.specs.Moments.{image};
-ghost use Rattle.newt_host.specs.Outside.{Outside};
+ghost use Rattle.newt_host.specs.Outside.{NoFault, Outside};
 ghost use Rattle.newt_pagebook.specs.Stops.{HasStopCause};
 ghost use Rattle.newt_keys.specs.KeyForm.{IsKeyOf};
 ghost use Rattle.newt_cursor.specs.Seen.{query_of, scope_of};
@@ -13,10 +14,10 @@ ghost use Rattle.newt_laws_answers.specs.There.{OnUnit};
 ghost use Rattle.newt_laws_hits.specs.Located.{takes_part};
 ghost use Rattle.newt_laws_hits.specs.Taking.{declared};
 ghost use Rattle.newt_engine_units.specs.Stands.{Eight, Stands, world_of};
-ghost use Rattle.newt_query_filter.specs.Kept.{kept_key};
+ghost use Rattle.newt_query.specs.Kept.{kept_key};
 ghost use Rattle.newt_store_change.specs.Entries.{plain_entry};
 ghost use Rattle.newt_engine_cursors.specs.Present.{identity, present_in, present_of};
-ghost use Rattle.newt_engine_cursors.specs.World.{AreRead};
+ghost use Rattle.newt_engine_units.specs.Calls.{AreRead};
 
 use newt_base::{Sig, Uid};
 use newt_cursor::{Query, Scope};
@@ -25,7 +26,7 @@ use newt_engine_units::Units;
 use newt_host::{Host, Unit};
 use newt_keys::{IndexSpec, Key};
 use newt_pagebook::Stop;
-use newt_query_filter::kept_key;
+use newt_query::kept_key;
 use newt_store_change::Entry;
 use newt_tags::TagTable;
 use std::alloc::AllocError;
@@ -38,7 +39,8 @@ pub(crate) struct Present {
     pub(crate) entry: Entry,
 }
 
-/// The hit of a query that has this identity, with its entry, which is read. None where the entry is no hit.
+/// The hit of a query that has this identity, with its entry, which is read. None where the entry
+/// is no hit.
 pub(crate) fn find_hit<C: Card, H: Host>(
     units: &mut Units<C>,
     host: &mut H,
@@ -48,11 +50,14 @@ pub(crate) fn find_hit<C: Card, H: Host>(
     uid: Uid,
 ) -> Result<Option<Present>, Stop>
     requires { Stands C.place C.stands H.told units.old (H.outside host.old) }
-    ensures read { AreRead C.reads C.place C.stands H.told units.old units.new (H.outside host.old) (H.outside host.new) }
+    ensures read { AreRead C.reads C.place C.stands H.told units.old units.new
+        (H.outside host.old) (H.outside host.new) }
     ensures found { IsTrue H.told → let w = world_of C.reads units.old (H.outside host.old) in MountedApart w →
         IfOk result (λ found. option_map present_of found ≡ present_in w (query_of query.now) (identity store soup uid)) }
     ensures key { IfOk result (λ found. IfSome found (λ p. IsKeyOf query.now.spec.index p.key)) }
-    ensures cause { IfErr result (λ stop. HasStopCause stop (H.outside host.old) (H.outside host.new)) }
+    ensures cause { IfErr result
+        (λ stop. HasStopCause stop (H.outside host.old) (H.outside host.new)) }
+    ensures no_fault { OnOk result (NoFault (H.outside host.old) (H.outside host.new)) }
 {
     let Some(unit) = units.unit_of(store) else {
         return Ok(None);
@@ -66,9 +71,12 @@ pub(crate) fn find_hit<C: Card, H: Host>(
     }
 }
 
-/// Whether the soup of a signature, in the store that is mounted on a unit, is one that a query looks into.
+/// Whether the soup of a signature, in the store that is mounted on a unit, is one that a query
+/// looks into.
 fn takes_part<C: Card>(units: &Units<C>, unit: Unit, query: &Query, soup: Sig) -> bool
-    ensures { (outside : Outside) → Eight outside → Stands C.place C.stands true units.now outside → (blocks : ℕ) (s : Store) (p : Soup) → OnUnit (world_of C.reads units.now outside) unit blocks s →
+    ensures { (outside : Outside) → Eight outside → Stands C.place C.stands true units.now outside
+        → (blocks : ℕ) (s : Store) (p : Soup)
+        → OnUnit (world_of C.reads units.now outside) unit blocks s →
         soup_of soup s ≡ Some p → result ≡ takes_part (query_of query.now) s p }
 {
     match units.card(unit) {
@@ -79,7 +87,8 @@ fn takes_part<C: Card>(units: &Units<C>, unit: Unit, query: &Query, soup: Sig) -
 
 /// Whether a soup of the store of a card is one that a query looks into.
 fn card_takes_part<C: Card>(card: &C, query: &Query, soup: Sig) -> bool
-    ensures { (outside : Outside) (s : Store) (p : Soup) → C.stands true card.now outside → C.reads (image (C.place card.now) outside.now) ≡ Some s → soup_of soup s ≡ Some p →
+    ensures { (outside : Outside) (s : Store) (p : Soup) → C.stands true card.now outside
+        → C.reads (image (C.place card.now) outside.now) ≡ Some s → soup_of soup s ≡ Some p →
         result ≡ takes_part (query_of query.now) s p }
 {
     let Some(name) = card.soup_name(soup) else {
@@ -130,7 +139,8 @@ pub(crate) fn index_of(query: &Query) -> Option<&IndexSpec>
 
 /// The tags declaration of a soup of the store that is mounted on a unit, if it has one.
 pub(crate) fn table_on<C: Card>(units: &Units<C>, unit: Unit, soup: Sig) -> Option<&TagTable>
-    ensures { (outside : Outside) → Eight outside → Stands C.place C.stands true units.now outside → (blocks : ℕ) (s : Store) → OnUnit (world_of C.reads units.now outside) unit blocks s →
+    ensures { (outside : Outside) → Eight outside → Stands C.place C.stands true units.now outside
+        → (blocks : ℕ) (s : Store) → OnUnit (world_of C.reads units.now outside) unit blocks s →
         option_map (λ t. t.now) result ≡ option_and_then (λ p. p.tags) (soup_of soup s) }
 {
     match units.card(unit) {
@@ -148,8 +158,12 @@ fn kept<C: Card>(
     entry: Entry,
 ) -> Result<Option<Present>, AllocError>
     ensures key { IfOk result (λ found. IfSome found (λ p. IsKeyOf query.now.spec.index p.key)) }
-    ensures found { (outside : Outside) → Eight outside → Stands C.place C.stands true units.now outside → (blocks : ℕ) (s : Store) → OnUnit (world_of C.reads units.now outside) unit blocks s →
-        IfOk result (λ found. option_map present_of found ≡ option_map (λ k. record { unit = unit; key = k; entry = plain_entry entry }) (kept_key query.now.spec (option_and_then (λ p. p.tags) (soup_of soup s)) entry.graph)) }
+    ensures found { (outside : Outside) → Eight outside
+        → Stands C.place C.stands true units.now outside → (blocks : ℕ) (s : Store)
+        → OnUnit (world_of C.reads units.now outside) unit blocks s →
+        IfOk result (λ found. option_map present_of found
+        ≡ option_map (λ k. record { unit = unit; key = k; entry = plain_entry entry })
+        (kept_key query.now.spec (option_and_then (λ p. p.tags) (soup_of soup s)) entry.graph)) }
 {
     let table = table_on(units, unit, soup);
     let found = kept_key(units.alloc(), &query.spec, table, &entry.graph)?;

@@ -33,7 +33,8 @@ pub(crate) fn outermost<C: Card>(
     way: Way,
 ) -> Result<Option<Spot>, AllocError>
     requires { AreFew units.now }
-    ensures key { IfOk result (λ found. IfSome found (λ spot. IsKeyOf query.now.spec.index spot.key)) }
+    ensures key { IfOk result (λ found. IfSome found (λ spot. IsKeyOf query.now.spec.index
+        spot.key)) }
     ensures found { (outside : Outside) → Eight outside → Stands C.place C.stands true units.now outside → let q = query_of query.now in
         IfOk result (λ found. option_map spot_hit found ≡ met way (merged q.spec.index (members_of (mounted_stores (world_of C.reads units.now outside)) q))) }
 {
@@ -53,7 +54,8 @@ pub(crate) fn beyond<C: Card>(
 ) -> Result<Option<Spot>, AllocError>
     requires few { AreFew units.now }
     requires key { IsKeyOf query.now.spec.index spot.now.key }
-    ensures key { IfOk result (λ found. IfSome found (λ spot. IsKeyOf query.now.spec.index spot.key)) }
+    ensures key { IfOk result (λ found. IfSome found (λ spot. IsKeyOf query.now.spec.index
+        spot.key)) }
     ensures found { (outside : Outside) → Eight outside → Stands C.place C.stands true units.now outside → let q = query_of query.now in
         IfOk result (λ found. option_map spot_hit found ≡ beyond way q.spec.index (members_of (mounted_stores (world_of C.reads units.now outside)) q) (spot_hit spot.now)) }
 {
@@ -73,7 +75,8 @@ pub(crate) fn at_or_after<C: Card>(
 ) -> Result<Option<Spot>, AllocError>
     requires few { AreFew units.now }
     requires key { IsKeyOf query.now.spec.index key.now }
-    ensures key { IfOk result (λ found. IfSome found (λ spot. IsKeyOf query.now.spec.index spot.key)) }
+    ensures key { IfOk result (λ found. IfSome found (λ spot. IsKeyOf query.now.spec.index
+        spot.key)) }
     ensures found { (outside : Outside) → Eight outside → Stands C.place C.stands true units.now outside → let q = query_of query.now in
         IfOk result (λ found. option_map spot_hit found ≡ at_or_after q.spec.index (members_of (mounted_stores (world_of C.reads units.now outside)) q) key.now) }
 {
@@ -93,12 +96,15 @@ fn probe_of(alloc: Global, query: &Query, key: &Key) -> Result<Probe, AllocError
     }
 }
 
-/// The soups that take part in a query, with their ranges, in order of the units. It takes no memory.
+/// The soups that take part in a query, with their ranges, in order of the units. It takes no
+/// memory.
 fn members<'a, C: Card>(units: &'a Units<C>, query: &Query) -> Members<'a>
     requires { AreFew units.now }
     ensures are { AreMembers query.now.spec.index result }
-    ensures all { (outside : Outside) → Eight outside → Stands C.place C.stands true units.now outside →
-        result ≡ members_of (mounted_stores (world_of C.reads units.now outside)) (query_of query.now) }
+    ensures all { (outside : Outside) → Eight outside
+        → Stands C.place C.stands true units.now outside →
+        result ≡ members_of (mounted_stores (world_of C.reads units.now outside))
+        (query_of query.now) }
 {
     let mut members = Members::new();
     for number in 0..UNITS {
@@ -109,16 +115,20 @@ fn members<'a, C: Card>(units: &'a Units<C>, query: &Query) -> Members<'a>
     members
 }
 
-/// The soup that takes part of the store that is mounted on a unit: the signatures of the store and the soup, and its range.
+/// The soup that takes part of the store that is mounted on a unit: the signatures of the store and
+/// the soup, and its range.
 fn member_on<'a, C: Card>(
     units: &'a Units<C>,
     unit: Unit,
     query: &Query,
 ) -> Option<(Sig, Sig, &'a Index)>
     ensures mounted { IfSome result (λ _. mounted_in units.now.slots.items unit ≡ true) }
-    ensures sorted { IfSome result (λ member. IsSorted member.2.now × Agree query.now.spec.index (parts_of member.2.now.spec)) }
-    ensures found { (outside : Outside) → Eight outside → Stands C.place C.stands true units.now outside →
-        option_map seen_member result ≡ option_and_then (member_in (query_of query.now)) (mounted_store (world_of C.reads units.now outside) unit) }
+    ensures sorted { IfSome result (λ member. IsSorted member.2.now × Agree query.now.spec.index
+        (parts_of member.2.now.spec)) }
+    ensures found { (outside : Outside) → Eight outside
+        → Stands C.place C.stands true units.now outside →
+        option_map seen_member result ≡ option_and_then (member_in (query_of query.now))
+        (mounted_store (world_of C.reads units.now outside) unit) }
 {
     let card = units.card(unit)?;
     if !in_scope(query.scope, card.sig()) {
@@ -133,7 +143,8 @@ fn member_on<'a, C: Card>(
     }
 }
 
-/// Whether a range is by a declaration that agrees with the given one. Each range that is found for a declaration is.
+/// Whether a range is by a declaration that agrees with the given one. Each range that is found for
+/// a declaration is.
 fn agrees(range: &Index, spec: Option<&IndexSpec>) -> bool
     ensures same { result ≡ agrees range.now.spec (option_map (λ s. s.now) spec.entry) }
     ensures sorted { IsSorted range.now }

@@ -1,5 +1,7 @@
 //! The cursors take the present keys of their entries.
-ghost use Rattle.std.specs.Prelude.{◌≡◌, IsTrue, Some, IfOk, IfErr, IfSome, OnOk, option_and_then, slice_get};
+ghost use Rattle.std.specs.Prelude.{◌≡◌, IsTrue, Some, IfOk, IfErr, IfSome, OnOk, option_and_then};
+ghost use Rattle.std.specs.Prelude.{slice_get};
+ghost use Rattle.newt_host.specs.Outside.{NoFault};
 ghost use Rattle.newt_pagebook.specs.Stops.{HasStopCause};
 ghost use Rattle.newt_keys.specs.KeyForm.{IsKeyOf};
 ghost use Rattle.newt_spec_query.specs.Cursor.{Cursor};
@@ -8,7 +10,8 @@ ghost use Rattle.newt_laws_world.specs.Settled.{MountedApart};
 ghost use Rattle.newt_engine_units.specs.Stands.{Stands, world_of};
 ghost use Rattle.newt_engine_cursors.specs.Fits.{DeskFits};
 ghost use Rattle.newt_engine_cursors.specs.Keyed.{key_now};
-ghost use Rattle.newt_engine_cursors.specs.World.{AreRead, world_with};
+ghost use Rattle.newt_engine_units.specs.Calls.{AreRead};
+ghost use Rattle.newt_engine_cursors.specs.World.{world_with};
 
 use crate::desks::standing;
 use crate::present::find_hit;
@@ -22,7 +25,8 @@ use newt_pagebook::Stop;
 /// How many places for cursors there are.
 const PLACES: u8 = 32;
 
-/// Each cursor that is on a hit takes that hit's present key. Only the entries on which cursors stand are read.
+/// Each cursor that is on a hit takes that hit's present key. Only the entries on which cursors
+/// stand are read.
 pub fn settle<C: Card, H: Host>(
     units: &mut Units<C>,
     desk: &mut Desk,
@@ -30,11 +34,14 @@ pub fn settle<C: Card, H: Host>(
 ) -> Result<(), Stop>
     requires stands { Stands C.place C.stands H.told units.old (H.outside host.old) }
     requires desk { DeskFits desk.old }
-    ensures read { AreRead C.reads C.place C.stands H.told units.old units.new (H.outside host.old) (H.outside host.new) }
+    ensures read { AreRead C.reads C.place C.stands H.told units.old units.new
+        (H.outside host.old) (H.outside host.new) }
     ensures desk { DeskFits desk.new }
     ensures settled { IsTrue H.told → let w = world_with C.reads units.old desk.old (H.outside host.old) in MountedApart w →
         OnOk result (world_with C.reads units.new desk.new (H.outside host.new) ≡ settle w) }
-    ensures cause { IfErr result (λ stop. HasStopCause stop (H.outside host.old) (H.outside host.new)) }
+    ensures cause { IfErr result
+        (λ stop. HasStopCause stop (H.outside host.old) (H.outside host.new)) }
+    ensures no_fault { OnOk result (NoFault (H.outside host.old) (H.outside host.new)) }
 {
     for cursor in 0..PLACES {
         settle_one(units, desk, host, cursor)?;
@@ -51,11 +58,14 @@ fn settle_one<C: Card, H: Host>(
 ) -> Result<(), Stop>
     requires stands { Stands C.place C.stands H.told units.old (H.outside host.old) }
     requires desk { DeskFits desk.old }
-    ensures read { AreRead C.reads C.place C.stands H.told units.old units.new (H.outside host.old) (H.outside host.new) }
+    ensures read { AreRead C.reads C.place C.stands H.told units.old units.new
+        (H.outside host.old) (H.outside host.new) }
     ensures desk { DeskFits desk.new }
     ensures settled { IsTrue H.told → let w = world_of C.reads units.old (H.outside host.old) in MountedApart w →
         OnOk result (desk.new ≡ change_at cursor (settle_cursor w) desk.old) }
-    ensures cause { IfErr result (λ stop. HasStopCause stop (H.outside host.old) (H.outside host.new)) }
+    ensures cause { IfErr result
+        (λ stop. HasStopCause stop (H.outside host.old) (H.outside host.new)) }
+    ensures no_fault { OnOk result (NoFault (H.outside host.old) (H.outside host.new)) }
 {
     if let Some(key) = present_key(units, desk, host, cursor)? {
         desk.changed(cursor, key);
@@ -63,7 +73,8 @@ fn settle_one<C: Card, H: Host>(
     Ok(())
 }
 
-/// The key that the entry on which a cursor stands has now. None where the cursor is not open, is on no entry, or its entry is no hit.
+/// The key that the entry on which a cursor stands has now. None where the cursor is not open, is
+/// on no entry, or its entry is no hit.
 fn present_key<C: Card, H: Host>(
     units: &mut Units<C>,
     desk: &Desk,
@@ -71,11 +82,15 @@ fn present_key<C: Card, H: Host>(
     cursor: u8,
 ) -> Result<Option<Key>, Stop>
     requires { Stands C.place C.stands H.told units.old (H.outside host.old) }
-    ensures read { AreRead C.reads C.place C.stands H.told units.old units.new (H.outside host.old) (H.outside host.new) }
-    ensures key { (k : Cursor) → flat (slice_get desk.now cursor) ≡ Some k → IfOk result (λ found. IfSome found (IsKeyOf k.query.spec.index)) }
+    ensures read { AreRead C.reads C.place C.stands H.told units.old units.new
+        (H.outside host.old) (H.outside host.new) }
+    ensures key { (k : Cursor) → flat (slice_get desk.now cursor) ≡ Some k
+        → IfOk result (λ found. IfSome found (IsKeyOf k.query.spec.index)) }
     ensures found { IsTrue H.told → let w = world_of C.reads units.old (H.outside host.old) in MountedApart w →
         IfOk result (λ found. found ≡ option_and_then (key_now w) (flat (slice_get desk.now cursor))) }
-    ensures cause { IfErr result (λ stop. HasStopCause stop (H.outside host.old) (H.outside host.new)) }
+    ensures cause { IfErr result
+        (λ stop. HasStopCause stop (H.outside host.old) (H.outside host.new)) }
+    ensures no_fault { OnOk result (NoFault (H.outside host.old) (H.outside host.new)) }
 {
     let Some((query, spot)) = standing(desk, cursor) else {
         return Ok(None);

@@ -1,6 +1,8 @@
-//! The commands that move a cursor. Where the number is of no open cursor, each is refused as `Cursor`.
-ghost use Rattle.std.specs.Prelude.{◌≡◌, true, IsTrue, Some, IfErr, IfOk, IfSome, OnOk, option_map, slice_get};
-ghost use Rattle.newt_host.specs.Outside.{Outside};
+//! The commands that move a cursor. Where the number is of no open cursor, each is refused as
+//! `Cursor`.
+ghost use Rattle.std.specs.Prelude.{◌≡◌, true, IsTrue, Some, IfErr, IfOk, IfSome, OnOk, option_map};
+ghost use Rattle.std.specs.Prelude.{slice_get};
+ghost use Rattle.newt_host.specs.Outside.{NoFault, Outside};
 ghost use Rattle.newt_pagebook.specs.Stops.{HasStopCause};
 ghost use Rattle.newt_keys.specs.KeyForm.{IsKeyOf};
 ghost use Rattle.newt_cursor.specs.Seen.{place_of, query_of};
@@ -11,13 +13,15 @@ ghost use Rattle.newt_spec_world.specs.Changed.{hit_for, key_from, sig_of};
 ghost use Rattle.newt_spec_world.specs.World.{cursor, flat, hits_of, set_place, settle, soup_in};
 ghost use Rattle.newt_spec_world.specs.declared.command.Command.TheVariants as Command;
 ghost use Rattle.newt_laws_world.specs.Settled.{MountedApart};
-ghost use Rattle.newt_store_change.specs.Faults.{HasFaultCause};
+ghost use Rattle.newt_store_change.specs.Faults.{GoesOn, HasFaultCause};
 ghost use Rattle.newt_engine_units.specs.Stands.{Eight, Stands, world_of};
 ghost use Rattle.newt_index.specs.Spots.{spot_hit};
 ghost use Rattle.newt_engine_cursors.specs.Fits.{DeskFits, PlaceFits};
 ghost use Rattle.newt_engine_cursors.specs.Motions.{MotionFits, Steers, step_of};
-ghost use Rattle.newt_engine_cursors.specs.Replies.{Answers, shown_reply};
-ghost use Rattle.newt_engine_cursors.specs.World.{AreRead, world_with};
+ghost use Rattle.newt_engine_units.specs.Answers.{Answers};
+ghost use Rattle.newt_engine_cursors.specs.Replies.{shown_reply};
+ghost use Rattle.newt_engine_units.specs.Calls.{AreRead};
+ghost use Rattle.newt_engine_cursors.specs.World.{world_with};
 
 use crate::commands::settle_and_show;
 use crate::desks::open_cursor;
@@ -59,11 +63,16 @@ pub fn next<C: Card, H: Host>(
 ) -> Result<Shown, StoreFault>
     requires stands { Stands C.place C.stands H.told units.old (H.outside host.old) }
     requires desk { DeskFits desk.old }
-    ensures read { AreRead C.reads C.place C.stands H.told units.old units.new (H.outside host.old) (H.outside host.new) }
+    ensures read { AreRead C.reads C.place C.stands H.told units.old units.new
+        (H.outside host.old) (H.outside host.new) }
     ensures desk { DeskFits desk.new }
-    ensures answered { IsTrue H.told → let w = world_with C.reads units.old desk.old (H.outside host.old) in MountedApart w →
-        Answers w (world_with C.reads units.new desk.new (H.outside host.new)) (Command.Next cursor) shown_reply result }
-    ensures cause { IfErr result (λ fault. HasFaultCause fault (H.outside host.old) (H.outside host.new)) }
+    ensures answered { IsTrue H.told
+        → let w = world_with C.reads units.old desk.old (H.outside host.old) in MountedApart w
+        → Answers w (world_with C.reads units.new desk.new (H.outside host.new))
+        (Command.Next cursor) shown_reply result }
+    ensures cause { IfErr result
+        (λ fault. HasFaultCause fault (H.outside host.old) (H.outside host.new)) }
+    ensures no_fault { GoesOn result → NoFault (H.outside host.old) (H.outside host.new) }
 {
     steer(units, desk, host, cursor, Motion::Step(Way::On))
 }
@@ -77,11 +86,16 @@ pub fn prev<C: Card, H: Host>(
 ) -> Result<Shown, StoreFault>
     requires stands { Stands C.place C.stands H.told units.old (H.outside host.old) }
     requires desk { DeskFits desk.old }
-    ensures read { AreRead C.reads C.place C.stands H.told units.old units.new (H.outside host.old) (H.outside host.new) }
+    ensures read { AreRead C.reads C.place C.stands H.told units.old units.new
+        (H.outside host.old) (H.outside host.new) }
     ensures desk { DeskFits desk.new }
-    ensures answered { IsTrue H.told → let w = world_with C.reads units.old desk.old (H.outside host.old) in MountedApart w →
-        Answers w (world_with C.reads units.new desk.new (H.outside host.new)) (Command.Prev cursor) shown_reply result }
-    ensures cause { IfErr result (λ fault. HasFaultCause fault (H.outside host.old) (H.outside host.new)) }
+    ensures answered { IsTrue H.told
+        → let w = world_with C.reads units.old desk.old (H.outside host.old) in MountedApart w
+        → Answers w (world_with C.reads units.new desk.new (H.outside host.new))
+        (Command.Prev cursor) shown_reply result }
+    ensures cause { IfErr result
+        (λ fault. HasFaultCause fault (H.outside host.old) (H.outside host.new)) }
+    ensures no_fault { GoesOn result → NoFault (H.outside host.old) (H.outside host.new) }
 {
     steer(units, desk, host, cursor, Motion::Step(Way::Back))
 }
@@ -95,11 +109,16 @@ pub fn reset<C: Card, H: Host>(
 ) -> Result<Shown, StoreFault>
     requires stands { Stands C.place C.stands H.told units.old (H.outside host.old) }
     requires desk { DeskFits desk.old }
-    ensures read { AreRead C.reads C.place C.stands H.told units.old units.new (H.outside host.old) (H.outside host.new) }
+    ensures read { AreRead C.reads C.place C.stands H.told units.old units.new
+        (H.outside host.old) (H.outside host.new) }
     ensures desk { DeskFits desk.new }
-    ensures answered { IsTrue H.told → let w = world_with C.reads units.old desk.old (H.outside host.old) in MountedApart w →
-        Answers w (world_with C.reads units.new desk.new (H.outside host.new)) (Command.Reset cursor) shown_reply result }
-    ensures cause { IfErr result (λ fault. HasFaultCause fault (H.outside host.old) (H.outside host.new)) }
+    ensures answered { IsTrue H.told
+        → let w = world_with C.reads units.old desk.old (H.outside host.old) in MountedApart w
+        → Answers w (world_with C.reads units.new desk.new (H.outside host.new))
+        (Command.Reset cursor) shown_reply result }
+    ensures cause { IfErr result
+        (λ fault. HasFaultCause fault (H.outside host.old) (H.outside host.new)) }
+    ensures no_fault { GoesOn result → NoFault (H.outside host.old) (H.outside host.new) }
 {
     steer(units, desk, host, cursor, Motion::Leap(Way::On))
 }
@@ -113,11 +132,16 @@ pub fn end<C: Card, H: Host>(
 ) -> Result<Shown, StoreFault>
     requires stands { Stands C.place C.stands H.told units.old (H.outside host.old) }
     requires desk { DeskFits desk.old }
-    ensures read { AreRead C.reads C.place C.stands H.told units.old units.new (H.outside host.old) (H.outside host.new) }
+    ensures read { AreRead C.reads C.place C.stands H.told units.old units.new
+        (H.outside host.old) (H.outside host.new) }
     ensures desk { DeskFits desk.new }
-    ensures answered { IsTrue H.told → let w = world_with C.reads units.old desk.old (H.outside host.old) in MountedApart w →
-        Answers w (world_with C.reads units.new desk.new (H.outside host.new)) (Command.End cursor) shown_reply result }
-    ensures cause { IfErr result (λ fault. HasFaultCause fault (H.outside host.old) (H.outside host.new)) }
+    ensures answered { IsTrue H.told
+        → let w = world_with C.reads units.old desk.old (H.outside host.old) in MountedApart w
+        → Answers w (world_with C.reads units.new desk.new (H.outside host.new))
+        (Command.End cursor) shown_reply result }
+    ensures cause { IfErr result
+        (λ fault. HasFaultCause fault (H.outside host.old) (H.outside host.new)) }
+    ensures no_fault { GoesOn result → NoFault (H.outside host.old) (H.outside host.new) }
 {
     steer(units, desk, host, cursor, Motion::Leap(Way::Back))
 }
@@ -132,17 +156,23 @@ pub fn moveby<C: Card, H: Host>(
 ) -> Result<Shown, StoreFault>
     requires stands { Stands C.place C.stands H.told units.old (H.outside host.old) }
     requires desk { DeskFits desk.old }
-    ensures read { AreRead C.reads C.place C.stands H.told units.old units.new (H.outside host.old) (H.outside host.new) }
+    ensures read { AreRead C.reads C.place C.stands H.told units.old units.new
+        (H.outside host.old) (H.outside host.new) }
     ensures desk { DeskFits desk.new }
-    ensures answered { IsTrue H.told → let w = world_with C.reads units.old desk.old (H.outside host.old) in MountedApart w →
-        Answers w (world_with C.reads units.new desk.new (H.outside host.new)) (Command.Moveby cursor by) shown_reply result }
-    ensures cause { IfErr result (λ fault. HasFaultCause fault (H.outside host.old) (H.outside host.new)) }
+    ensures answered { IsTrue H.told
+        → let w = world_with C.reads units.old desk.old (H.outside host.old) in MountedApart w
+        → Answers w (world_with C.reads units.new desk.new (H.outside host.new))
+        (Command.Moveby cursor by) shown_reply result }
+    ensures cause { IfErr result
+        (λ fault. HasFaultCause fault (H.outside host.old) (H.outside host.new)) }
+    ensures no_fault { GoesOn result → NoFault (H.outside host.old) (H.outside host.new) }
 {
     steer(units, desk, host, cursor, Motion::By(by))
 }
 
-/// Moves a cursor to the first hit whose key is not before the one that a literal writes down, or behind all. Where the literal is no key of the query's
-/// index, or the query has none, it is refused as `Key`.
+/// Moves a cursor to the first hit whose key is not before the one that a literal writes down, or
+/// behind all. Where the literal is no key of the query's index, or the query has none, it is
+/// refused as `Key`.
 pub fn go_to_key<C: Card, H: Host>(
     units: &mut Units<C>,
     desk: &mut Desk,
@@ -152,11 +182,16 @@ pub fn go_to_key<C: Card, H: Host>(
 ) -> Result<Shown, StoreFault>
     requires stands { Stands C.place C.stands H.told units.old (H.outside host.old) }
     requires desk { DeskFits desk.old }
-    ensures read { AreRead C.reads C.place C.stands H.told units.old units.new (H.outside host.old) (H.outside host.new) }
+    ensures read { AreRead C.reads C.place C.stands H.told units.old units.new
+        (H.outside host.old) (H.outside host.new) }
     ensures desk { DeskFits desk.new }
-    ensures answered { IsTrue H.told → let w = world_with C.reads units.old desk.old (H.outside host.old) in MountedApart w →
-        Answers w (world_with C.reads units.new desk.new (H.outside host.new)) (Command.Gotokey cursor graph.now) shown_reply result }
-    ensures cause { IfErr result (λ fault. HasFaultCause fault (H.outside host.old) (H.outside host.new)) }
+    ensures answered { IsTrue H.told
+        → let w = world_with C.reads units.old desk.old (H.outside host.old) in MountedApart w
+        → Answers w (world_with C.reads units.new desk.new (H.outside host.new))
+        (Command.Gotokey cursor graph.now) shown_reply result }
+    ensures cause { IfErr result
+        (λ fault. HasFaultCause fault (H.outside host.old) (H.outside host.new)) }
+    ensures no_fault { GoesOn result → NoFault (H.outside host.old) (H.outside host.new) }
 {
     let Some((query, _)) = open_cursor(desk, cursor) else {
         return Err(StoreFault::Refused(Refusal::Cursor));
@@ -167,8 +202,9 @@ pub fn go_to_key<C: Card, H: Host>(
     steer(units, desk, host, cursor, Motion::Key(key))
 }
 
-/// Moves a cursor to the hit of this id in the soup of its query's name on a unit. A unit that is none, or has no mounted store, is refused before the
-/// cursor is looked at; where the entry is no hit it is refused as `Entry`.
+/// Moves a cursor to the hit of this id in the soup of its query's name on a unit. A unit that is
+/// none, or has no mounted store, is refused before the cursor is looked at; where the entry is no
+/// hit it is refused as `Entry`.
 pub fn go_to<C: Card, H: Host>(
     units: &mut Units<C>,
     desk: &mut Desk,
@@ -179,11 +215,16 @@ pub fn go_to<C: Card, H: Host>(
 ) -> Result<Shown, StoreFault>
     requires stands { Stands C.place C.stands H.told units.old (H.outside host.old) }
     requires desk { DeskFits desk.old }
-    ensures read { AreRead C.reads C.place C.stands H.told units.old units.new (H.outside host.old) (H.outside host.new) }
+    ensures read { AreRead C.reads C.place C.stands H.told units.old units.new
+        (H.outside host.old) (H.outside host.new) }
     ensures desk { DeskFits desk.new }
-    ensures answered { IsTrue H.told → let w = world_with C.reads units.old desk.old (H.outside host.old) in MountedApart w →
-        Answers w (world_with C.reads units.new desk.new (H.outside host.new)) (Command.Goto cursor unit uid) shown_reply result }
-    ensures cause { IfErr result (λ fault. HasFaultCause fault (H.outside host.old) (H.outside host.new)) }
+    ensures answered { IsTrue H.told
+        → let w = world_with C.reads units.old desk.old (H.outside host.old) in MountedApart w
+        → Answers w (world_with C.reads units.new desk.new (H.outside host.new))
+        (Command.Goto cursor unit uid) shown_reply result }
+    ensures cause { IfErr result
+        (λ fault. HasFaultCause fault (H.outside host.old) (H.outside host.new)) }
+    ensures no_fault { GoesOn result → NoFault (H.outside host.old) (H.outside host.new) }
 {
     units.find_unit(unit)?;
     let Some((query, _)) = open_cursor(desk, cursor) else {
@@ -205,12 +246,16 @@ fn steer<C: Card, H: Host>(
 ) -> Result<Shown, StoreFault>
     requires stands { Stands C.place C.stands H.told units.old (H.outside host.old) }
     requires desk { DeskFits desk.old }
-    requires fits { (k : Cursor) → flat (slice_get desk.old cursor) ≡ Some k → MotionFits k.query.spec.index motion }
-    ensures read { AreRead C.reads C.place C.stands H.told units.old units.new (H.outside host.old) (H.outside host.new) }
+    requires fits { (k : Cursor) → flat (slice_get desk.old cursor) ≡ Some k
+        → MotionFits k.query.spec.index motion }
+    ensures read { AreRead C.reads C.place C.stands H.told units.old units.new
+        (H.outside host.old) (H.outside host.new) }
     ensures desk { DeskFits desk.new }
     ensures steered { IsTrue H.told → let w = world_with C.reads units.old desk.old (H.outside host.old) in MountedApart w →
         Steers w (world_with C.reads units.new desk.new (H.outside host.new)) cursor (step_of motion) result }
-    ensures cause { IfErr result (λ fault. HasFaultCause fault (H.outside host.old) (H.outside host.new)) }
+    ensures cause { IfErr result
+        (λ fault. HasFaultCause fault (H.outside host.old) (H.outside host.new)) }
+    ensures no_fault { GoesOn result → NoFault (H.outside host.old) (H.outside host.new) }
 {
     let Some((query, place)) = open_cursor(desk, cursor) else {
         return Err(StoreFault::Refused(Refusal::Cursor));
@@ -230,11 +275,14 @@ fn target<C: Card, H: Host>(
     requires stands { Stands C.place C.stands H.told units.old (H.outside host.old) }
     requires fits { PlaceFits query.now.spec.index (place_of place.now) }
     requires motion { MotionFits query.now.spec.index motion }
-    ensures read { AreRead C.reads C.place C.stands H.told units.old units.new (H.outside host.old) (H.outside host.new) }
+    ensures read { AreRead C.reads C.place C.stands H.told units.old units.new
+        (H.outside host.old) (H.outside host.new) }
     ensures fits { IfOk result (λ place. PlaceFits query.now.spec.index (place_of place)) }
     ensures place { IsTrue H.told → let w = world_of C.reads units.old (H.outside host.old) in let q = query_of query.now in MountedApart w →
         IfOk result (λ next. place_of next ≡ step_of motion (hits_of w q) q.spec.index (place_of place.now)) }
-    ensures cause { IfErr result (λ stop. HasStopCause stop (H.outside host.old) (H.outside host.new)) }
+    ensures cause { IfErr result
+        (λ stop. HasStopCause stop (H.outside host.old) (H.outside host.new)) }
+    ensures no_fault { OnOk result (NoFault (H.outside host.old) (H.outside host.new)) }
 {
     match motion {
         Motion::Step(way) => places::step(units, host, query, way, place),
@@ -257,14 +305,18 @@ fn move_to<C: Card, H: Host>(
 ) -> Result<Shown, Stop>
     requires stands { Stands C.place C.stands H.told units.old (H.outside host.old) }
     requires desk { DeskFits desk.old }
-    requires fits { (k : Cursor) → flat (slice_get desk.old cursor) ≡ Some k → PlaceFits k.query.spec.index (place_of place) }
-    ensures read { AreRead C.reads C.place C.stands H.told units.old units.new (H.outside host.old) (H.outside host.new) }
+    requires fits { (k : Cursor) → flat (slice_get desk.old cursor) ≡ Some k
+        → PlaceFits k.query.spec.index (place_of place) }
+    ensures read { AreRead C.reads C.place C.stands H.told units.old units.new
+        (H.outside host.old) (H.outside host.new) }
     ensures desk { DeskFits desk.new }
     ensures settled { IsTrue H.told → let w = world_with C.reads units.old desk.old (H.outside host.old) in MountedApart w →
         OnOk result (world_with C.reads units.new desk.new (H.outside host.new) ≡ settle (set_place w cursor (place_of place))) }
     ensures shown { IsTrue H.told → let w = world_with C.reads units.old desk.old (H.outside host.old) in let v = settle (set_place w cursor (place_of place)) in MountedApart w →
         IfOk result (λ shown. shown_reply shown ≡ or_nil (current v) (flat (slice_get v.cursors cursor))) }
-    ensures cause { IfErr result (λ stop. HasStopCause stop (H.outside host.old) (H.outside host.new)) }
+    ensures cause { IfErr result
+        (λ stop. HasStopCause stop (H.outside host.old) (H.outside host.new)) }
+    ensures no_fault { OnOk result (NoFault (H.outside host.old) (H.outside host.new)) }
 {
     desk.step(cursor, place);
     settle_and_show(units, desk, host, cursor)
@@ -290,11 +342,15 @@ fn spot_on<C: Card, H: Host>(
     uid: Uid,
 ) -> Result<Option<Spot>, Stop>
     requires { Stands C.place C.stands H.told units.old (H.outside host.old) }
-    ensures read { AreRead C.reads C.place C.stands H.told units.old units.new (H.outside host.old) (H.outside host.new) }
-    ensures key { IfOk result (λ found. IfSome found (λ spot. IsKeyOf query.now.spec.index spot.key)) }
+    ensures read { AreRead C.reads C.place C.stands H.told units.old units.new
+        (H.outside host.old) (H.outside host.new) }
+    ensures key { IfOk result (λ found. IfSome found (λ spot. IsKeyOf query.now.spec.index
+        spot.key)) }
     ensures found { IsTrue H.told → let w = world_of C.reads units.old (H.outside host.old) in MountedApart w →
         (k : Cursor) → k.query ≡ query_of query.now → IfOk result (λ found. option_map spot_hit found ≡ hit_for w unit uid k) }
-    ensures cause { IfErr result (λ stop. HasStopCause stop (H.outside host.old) (H.outside host.new)) }
+    ensures cause { IfErr result
+        (λ stop. HasStopCause stop (H.outside host.old) (H.outside host.new)) }
+    ensures no_fault { OnOk result (NoFault (H.outside host.old) (H.outside host.new)) }
 {
     let Some((store, soup)) = soup_on(units, unit, &query.name) else {
         return Ok(None);
@@ -323,7 +379,8 @@ fn soup_on<C: Card>(units: &Units<C>, unit: Unit, name: &Name) -> Option<(Sig, S
 
 /// The signatures of the store of a card and of its soup of a name.
 fn soup_of_card<C: Card>(card: &C, name: &Name) -> Option<(Sig, Sig)>
-    ensures { result ≡ option_map (λ n. ((C.soups card.now).sig, n)) (option_map (λ p. p.sig) (soup_named name.now (C.soups card.now))) }
+    ensures { result ≡ option_map (λ n. ((C.soups card.now).sig, n))
+        (option_map (λ p. p.sig) (soup_named name.now (C.soups card.now))) }
 {
     match card.soup_named(name) {
         Some(soup) => Some((card.sig(), soup)),

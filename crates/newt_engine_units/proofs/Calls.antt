@@ -4,10 +4,12 @@ use Rattle.std.specs.Prelude.{Result, Ok, Err, OnOk, IfErr, slice_get, is_some}
 use Rattle.std.specs.Vec.{with_item}
 use Rattle.std.proofs.lemmas.Option.{slice_get_read, slice_get_within}
 use Rattle.newt_base.specs.Refusals.{Checks, first_of}
-use Rattle.newt_host.specs.Moments.{changes, image, Always, Leaves}
-use Rattle.newt_host.specs.Outside.{Outside, Touches, Rose, OnDevices}
-use Rattle.newt_pagebook.specs.Book.{IsOpenFor}
-use Rattle.newt_pagebook.specs.Stops.{StopsAt, HasStopCause}
+use Rattle.newt_host.specs.Moments.{changes, image, Always, IsDurable, Leaves}
+use Rattle.newt_host.specs.Outside.{Outside, NoFault, OnlyReads, Touches, Rose, OnDevices, Spends, Wears}
+use Rattle.newt_pagebook.specs.Book.{IsOpenFor, IsSameFor}
+use Rattle.newt_pagebook.specs.Stops.{IsOpening, StopsAt, HasStopCause}
+use Rattle.newt_pagebook.specs.declared.book.BookFault.{BookFault}
+use Rattle.newt_pagebook.specs.declared.book.BookFault.TheVariants.{NotStore}
 use Rattle.newt_pagebook.specs.declared.book.Stop.{Stop as Ends}
 use Rattle.newt_pagebook.specs.declared.book.Stop.TheVariants as stops
 use Rattle.newt_spec_graph.proofs.Lists.{both-ways}
@@ -20,16 +22,17 @@ use Rattle.newt_laws_answers.proofs.Worlds.{world-alike, device-stays}
 use Rattle.newt_laws_answers.proofs.Units.{is-there}
 use Rattle.newt_store_change.specs.declared.fault.StoreFault.{StoreFault}
 use Rattle.newt_store_change.specs.declared.fault.StoreFault.TheVariants.{Refused, Stop}
-use Rattle.newt_engine_card.specs.Bounds.{CostsOn, IsOpenOrSame, ProgramsAtMost}
+use Rattle.newt_engine_card.specs.Bounds.{CostsOn, IsOpenOrSame, LeftAlone, ProgramsAtMost}
 use Rattle.newt_engine_card.specs.Cards.{LeavesEither, OthersSame}
 use Rattle.newt_store_change.specs.Faults.{Does, FaultsAt, GoesOn, HasFaultCause, IsRefused}
 use Rattle.newt_engine_units.specs.declared.units.Slot.{Slot}
 use Rattle.newt_engine_units.specs.declared.units.Units.{Units}
+use Rattle.newt_engine_units.specs.Calls.{AreRead, Ended}
 use Rattle.newt_engine_units.specs.Stands.{card_of, mounted_in, world_of, Stands}
-use Rattle.newt_engine_units.proofs.Slots.{Replaced, stands-replaced, card-was, marks}
+use Rattle.newt_engine_units.proofs.Slots.{Replaced, stands-replaced, stands-still, card-was, marks}
 use Rattle.newt_engine_units.specs.Stands.{Eight}
 use Rattle.newt_engine_units.proofs.Known.{Laws, on-known}
-use Rattle.newt_engine_units.proofs.Turns.{does-world, either-moments}
+use Rattle.newt_engine_units.proofs.Turns.{does-world, either-moments, world-still}
 
 -- the units with another card in the place n, where a slot was
 abbrev pub later : {C : Type 0} → Units C → ℕ → Slot C → C → Units C
@@ -95,13 +98,29 @@ on-devices {u} {o} {p} t = record {
     go j (inl e) = subst (λ k. o.dev_faults k ≤ p.dev_faults k) (sym e) t.faults_later
     go j (inr e) = let k = t.dev_faults j e in omega (arith, k)
 
--- where its own unit is programmed no more, none is
-pub programs-no-more : {u : ℕ} {o p : Outside} → Touches u o p → p.programmed u ≤ o.programmed u → (j : ℕ) → p.programmed j ≤ o.programmed j
-programs-no-more {u} {o} {p} t less j = go (same-or-not j u)
+-- no other unit is touched
+pub beside : {u : ℕ} {o p : Outside} → Touches u o p → OthersSame u o.now p.now → (j : ℕ) → (j ≡ u → ⊥) → LeftAlone j o p
+beside {u} {o} {p} t others j e = let same = t.others j e in record {
+  programmed = let k = same.programmed in omega (arith, k);
+  wears = record { erased = let k = same.erased in omega (arith, k); synced = let k = same.synced in omega (arith, k) };
+  changes = others j e;
+}
+
+-- a call that only reads its unit leaves each unit alone
+pub all-alone : {u : ℕ} {o p : Outside} → OnlyReads u o p → (j : ℕ) → LeftAlone j o p
+all-alone {u} {o} {p} r j = go (same-or-not j u)
   where
-    go : (j ≡ u) ⊎ (j ≡ u → ⊥) → p.programmed j ≤ o.programmed j
-    go (inl e) = subst (λ k. p.programmed k ≤ o.programmed k) (sym e) less
-    go (inr e) = let k = t.programmed j e in omega (arith, k)
+    go : (j ≡ u) ⊎ (j ≡ u → ⊥) → LeftAlone j o p
+    go (inl e) = subst (λ k. LeftAlone k o p) (sym e) (record { programmed = r.programmed; wears = r.wears; changes = ap (changes u) r.moment })
+    go (inr e) = beside r.alone (λ k h. ap (changes k) r.moment) j e
+
+-- an image that holds no store was opened
+pub is-opening : (T : Type 0) (fault : BookFault) → fault ≡ NotStore → IsOpening {T = T} (Err fault)
+is-opening T fault is = subst (λ (e : BookFault). IsOpening {T = T} (Err e)) (sym is) tt
+
+-- how a call on one unit ends
+pub ends-of : {T : Type 0} {u : ℕ} {o p : Outside} (result : Result T StoreFault) → Touches u o p → IfErr result (FaultsAt u o p) → (GoesOn result → NoFault o p) → Ended result o p
+ends-of {u = u} {o} {p} result t cause none = record { alone = on-devices t; cause = cause-of u o p result cause; no_fault = none }
 
 -- a change leaves a bank that is not closed, and a refusal leaves the unit
 pub open-or-same : {T : Type 0} (u : ℕ) (o p : Outside) (result : Result T StoreFault) → OnOk result (IsOpenFor 0 (image u p.now)) → (IsRefused result → p.now ≡ o.now)
@@ -168,8 +187,25 @@ module _ {C : Type 0} {reads : List ℕ → Option Store} {place : C → ℕ} {s
       subst (λ m. CostsOn u (most m) result o p) (sym k.2) (subst (λ m. CostsOn m (most (o.blocks m)) result o p) at (record {
         bound = bound (ap (λ m. reads (image m o.now)) at ∙ k.3);
         open_after = open-or-same (place card) o p result changed refused;
-        others = λ j h. (let same = c.touches.programmed j h in omega (arith, same), others j h);
+        others = λ j h. beside c.touches others j h;
       }))
+
+  -- what a call leaves that only reads
+  pub call-looks : {told : Bool} → Called place told units u n slot card next o p → Stands place stands told units o → stands told next p → OnlyReads (place card) o p
+      → AreRead reads place stands told units (later units n slot next) o p
+  call-looks {told} c s there looks = record {
+    stand = call-stands c s (λ t j h. ap (changes j) looks.moment) there;
+    world = λ t. call-still reads c looks.moment;
+    marks = λ j. marks units (later units n slot next) u card next (replaced c) j;
+    moment = looks.moment;
+    untouched = all-alone looks;
+    alone = on-devices looks.alone;
+  }
+
+  -- what a call costs its unit
+  pub call-spends : {told : Bool} → Called place told units u n slot card next o p → Stands place stands told units o → {programs fetches : ℕ}
+      → Spends (place card) programs fetches o p → Spends u programs fetches o p
+  call-spends c s {programs} {fetches} h = subst (λ k. Spends k programs fetches o p) (place-is c s) h
 
   -- what was read of the store of the unit
   pub call-reads : {told : Bool} → IsTrue told → Eight o → Called place told units u n slot card next o p → Stands place stands told units o
@@ -177,3 +213,17 @@ module _ {C : Type 0} {reads : List ℕ → Option Store} {place : C → ℕ} {s
   call-reads t e c s blocks a on =
       let k = on-known l units o e (subst (λ x. Stands place stands x units o) t s) u blocks a on in
       ap (λ m. reads (image m o.now)) (place-is c s) ∙ k.3
+
+-- a call after which nothing has happened leaves what stands
+pub read-still : {C : Type 0} (reads : List ℕ → Option Store) {place : C → ℕ} {stands : Bool → C → Outside → Type 0}
+    → ((told : Bool) (card : C) (old new : Outside) → stands told card old → IsSameFor told (place card) old new → stands told card new)
+    → ((card : C) (outside : Outside) → stands true card outside → IsDurable (place card) outside.now)
+    → {told : Bool} {units : Units C} {u : ℕ} {o p : Outside} → OnlyReads u o p → Stands place stands told units o → AreRead reads place stands told units units o p
+read-still reads {place} {stands} kept durable {told} {units} {u} {o} {p} looks s = record {
+  stand = stands-still place stands kept durable told units o p looks.alone.cards (λ t j. ap (changes j) looks.moment) s;
+  world = λ t. world-still reads units o p looks.alone.cards (λ j. ap (changes j) looks.moment);
+  marks = λ j. refl;
+  moment = looks.moment;
+  untouched = all-alone looks;
+  alone = on-devices looks.alone;
+}

@@ -2,11 +2,12 @@
 use Rattle.std.proofs.Common.{arith, ◌≡◌, ◌≢◌, refl, ap, sym, ◌∙◌, subst, ℕ, ◌≤◌, ◌⊎◌, inl, inr, List}
 use Rattle.std.specs.Prelude.{Result}
 use Rattle.newt_host.specs.Moments.{Moment, bytes_after, changes, image}
-use Rattle.newt_host.specs.Outside.{Outside}
+use Rattle.newt_host.specs.Outside.{Outside, Wears}
+use Rattle.newt_host.proofs.Outside.{Wears-append, Wears-refl, Wears-widen}
 use Rattle.newt_pagebook.specs.Book.{IsOpenFor}
 use Rattle.newt_laws_world.proofs.Units.{same-or-not}
 use Rattle.newt_store_change.specs.declared.fault.StoreFault.{StoreFault}
-use Rattle.newt_engine_card.specs.Bounds.{Costs, CostsOn, IsOpenOrSame, ProgramsAtMost}
+use Rattle.newt_engine_card.specs.Bounds.{Costs, CostsOn, IsOpenOrSame, LeftAlone, ProgramsAtMost}
 use Rattle.newt_store_change.specs.Faults.{GoesOn}
 
 -- a bank with room for so many bytes has room for fewer
@@ -35,18 +36,56 @@ opened-alone u a b h others j = go (same-or-not j u)
 
 -- ---- one call
 
+pub alone-refl : (u : ℕ) (o : Outside) → LeftAlone u o o
+alone-refl u o = record { programmed = omega arith; wears = Wears-refl u o; changes = refl }
+
+pub alone-append : {u : ℕ} {o p q : Outside} → LeftAlone u o p → LeftAlone u p q → LeftAlone u o q
+alone-append a b = record {
+  programmed = let x = a.programmed in let y = b.programmed in omega (arith, x, y);
+  wears = Wears-append 0 0 0 0 a.wears b.wears;
+  changes = b.changes ∙ a.changes;
+}
+
+-- a unit that was left alone costs no more than anything
+pub alone-bound : {u : ℕ} {o p : Outside} (n : ℕ) → LeftAlone u o p → ProgramsAtMost n u o p
+alone-bound n a = record {
+  programmed = λ room. let h = a.programmed in omega (arith, h);
+  wears = λ room. Wears-widen 0 0 0 2 (omega arith) (omega arith) a.wears;
+}
+
+-- a call costs no more than a higher bound
+widened : {u n m : ℕ} {o p : Outside} → n ≤ m → ProgramsAtMost n u o p → ProgramsAtMost m u o p
+widened less b = record {
+  programmed = λ room. let h = b.programmed (room-for-less less room) in omega (arith, h, less);
+  wears = λ room. b.wears (room-for-less less room);
+}
+
+-- a call behind one that left the unit alone
+bound-after : {u n : ℕ} {o p q : Outside} → LeftAlone u o p → ProgramsAtMost n u p q → ProgramsAtMost n u o q
+bound-after {u} {n} {o} {p} {q} a b = record {
+  programmed = λ room. let h = b.programmed (still-open u n p.now o.now a.changes room) in let k = a.programmed in omega (arith, h, k);
+  wears = λ room. Wears-append 0 0 0 2 a.wears (b.wears (still-open u n p.now o.now a.changes room));
+}
+
+-- and one before it
+pub bound-before : {u n : ℕ} {o p q : Outside} → ProgramsAtMost n u o p → LeftAlone u p q → ProgramsAtMost n u o q
+bound-before b a = record {
+  programmed = λ room. let h = b.programmed room in let k = a.programmed in omega (arith, h, k);
+  wears = λ room. Wears-append 0 2 0 0 (b.wears room) a.wears;
+}
+
 -- nothing is programmed by none
 pub idle-costs : {T : Type 0} (most : ℕ → ℕ) (result : Result T StoreFault) (o : Outside) → Costs most result o o
 idle-costs most result o = record {
-  bound = λ u room. omega arith;
+  bound = λ u. alone-bound (most u) (alone-refl u o);
   open_after = λ goes u. inr refl;
 }
 
 -- a call that reads costs nothing
-pub read-costs : {T : Type 0} (most : ℕ → ℕ) (result : Result T StoreFault) {o p : Outside} → p.now ≡ o.now → ((u : ℕ) → p.programmed u ≤ o.programmed u) → Costs most result o p
-read-costs most result {o} {p} same less = record {
-  bound = λ u room. let h = less u in omega (arith, h);
-  open_after = λ goes u. inr (ap (changes u) same);
+pub read-costs : {T : Type 0} (most : ℕ → ℕ) (result : Result T StoreFault) {o p : Outside} → ((u : ℕ) → LeftAlone u o p) → Costs most result o p
+read-costs most result {o} {p} alone = record {
+  bound = λ u. alone-bound (most u) (alone u);
+  open_after = λ goes u. inr (alone u).changes;
 }
 
 -- a call on one unit is a call
@@ -57,12 +96,12 @@ on-costs {most} {u} {n} {result} {o} {p} c less = record {
 }
   where
     bound : (j : ℕ) → (j ≡ u) ⊎ (j ≡ u → ⊥) → ProgramsAtMost (most j) j o p
-    bound j (inl is) = subst (λ k. ProgramsAtMost (most k) k o p) (sym is) (λ room. let h = c.bound (room-for-less less room) in omega (arith, h, less))
-    bound j (inr not) = λ room. let h = (c.others j not).0 in omega (arith, h)
+    bound j (inl is) = subst (λ k. ProgramsAtMost (most k) k o p) (sym is) (widened less c.bound)
+    bound j (inr not) = alone-bound (most j) (c.others j not)
 
     opened : GoesOn result → (j : ℕ) → (j ≡ u) ⊎ (j ≡ u → ⊥) → IsOpenOrSame j o.now p.now
     opened goes j (inl is) = subst (λ k. IsOpenOrSame k o.now p.now) (sym is) (c.open_after goes)
-    opened goes j (inr not) = inr (c.others j not).1
+    opened goes j (inr not) = inr (c.others j not).changes
 
 -- another result of the same call
 pub costs-of : {T S : Type 0} {most : ℕ → ℕ} {first : Result T StoreFault} {second : Result S StoreFault} {o p : Outside} → Costs most first o p → (GoesOn second → GoesOn first) → Costs most second o p
@@ -71,11 +110,11 @@ costs-of c goes = record { bound = c.bound; open_after = λ on. c.open_after (go
 -- ---- two calls
 
 -- after a call that reads
-pub after-read : {T : Type 0} {u n : ℕ} {result : Result T StoreFault} {o p q : Outside} → p.now ≡ o.now → ((j : ℕ) → p.programmed j ≤ o.programmed j) → CostsOn u n result p q → CostsOn u n result o q
-after-read {u} {n} {result} {o} {p} {q} same less c = record {
-  bound = λ room. let h = c.bound (still-open u n p.now o.now (ap (changes u) same) room) in let k = less u in omega (arith, h, k);
-  open_after = λ goes. same-before u o.now p.now q.now (ap (changes u) same) (c.open_after goes);
-  others = λ j not. (let h = (c.others j not).0 in let k = less j in omega (arith, h, k), (c.others j not).1 ∙ ap (changes j) same);
+pub after-read : {T : Type 0} {u n : ℕ} {result : Result T StoreFault} {o p q : Outside} → ((j : ℕ) → LeftAlone j o p) → CostsOn u n result p q → CostsOn u n result o q
+after-read {u} {n} {result} {o} {p} {q} alone c = record {
+  bound = bound-after (alone u) c.bound;
+  open_after = λ goes. same-before u o.now p.now q.now (alone u).changes (c.open_after goes);
+  others = λ j not. alone-append (alone j) (c.others j not);
 }
 
 -- two calls on two units
@@ -87,15 +126,11 @@ both-costs {most} {v} {u} {n} {m} {first} {second} {o} {p} {q} a b apart less_v 
 }
   where
     bound : (j : ℕ) → (j ≡ v) ⊎ (j ≡ v → ⊥) → (j ≡ u) ⊎ (j ≡ u → ⊥) → ProgramsAtMost (most j) j o q
-    bound j (inl is) x = subst (λ k. ProgramsAtMost (most k) k o q) (sym is)
-        (λ room. let h = a.bound (room-for-less less_v room) in let k = (b.others v apart).0 in omega (arith, h, k, less_v))
-    bound j (inr not) (inl is) = subst (λ k. ProgramsAtMost (most k) k o q) (sym is) (λ room.
-        let k = a.others u (λ e. apart (sym e)) in
-        let h = b.bound (still-open u m p.now o.now k.1 (room-for-less less_u room)) in
-        let g = k.0 in omega (arith, h, g, less_u))
-    bound j (inr not) (inr other) = λ room. let h = (a.others j not).0 in let k = (b.others j other).0 in omega (arith, h, k)
+    bound j (inl is) x = subst (λ k. ProgramsAtMost (most k) k o q) (sym is) (widened less_v (bound-before a.bound (b.others v apart)))
+    bound j (inr not) (inl is) = subst (λ k. ProgramsAtMost (most k) k o q) (sym is) (widened less_u (bound-after (a.others u (λ e. apart (sym e))) b.bound))
+    bound j (inr not) (inr other) = alone-bound (most j) (alone-append (a.others j not) (b.others j other))
 
     opened : GoesOn second → (j : ℕ) → (j ≡ v) ⊎ (j ≡ v → ⊥) → (j ≡ u) ⊎ (j ≡ u → ⊥) → IsOpenOrSame j o.now q.now
-    opened goes j (inl is) x = subst (λ k. IsOpenOrSame k o.now q.now) (sym is) (same-still v o.now p.now q.now (b.others v apart).1 (a.open_after goes_a))
-    opened goes j (inr not) (inl is) = subst (λ k. IsOpenOrSame k o.now q.now) (sym is) (same-before u o.now p.now q.now (a.others u (λ e. apart (sym e))).1 (b.open_after goes))
-    opened goes j (inr not) (inr other) = inr ((b.others j other).1 ∙ (a.others j not).1)
+    opened goes j (inl is) x = subst (λ k. IsOpenOrSame k o.now q.now) (sym is) (same-still v o.now p.now q.now (b.others v apart).changes (a.open_after goes_a))
+    opened goes j (inr not) (inl is) = subst (λ k. IsOpenOrSame k o.now q.now) (sym is) (same-before u o.now p.now q.now (a.others u (λ e. apart (sym e))).changes (b.open_after goes))
+    opened goes j (inr not) (inr other) = inr ((b.others j other).changes ∙ (a.others j not).changes)

@@ -10,3 +10,4 @@ pub mod Mounts
 pub mod Rows
 pub mod Resolving
 pub mod Costs
+pub mod Obeying

@@ -19,7 +19,7 @@ use Rattle.newt_spec_world.specs.First.{media_of}
 use Rattle.newt_spec_world.specs.Reply.{Reply}
 use Rattle.newt_spec_world.specs.World.{World, Device, one, mounted, mounted_stores}
 use Rattle.newt_laws_answers.specs.Faces.{Face, faces, shown_count, shows, first_shown, first_showing}
-use Rattle.newt_laws_answers.specs.Spoken.{answer_now}
+use Rattle.newt_spec_world.specs.Answer.{answer}
 use Rattle.newt_laws_answers.specs.There.{OnUnit, IsReady}
 use Rattle.newt_laws_answers.proofs.Faces.{count-is, any-is, first-is}
 use Rattle.newt_laws_answers.proofs.Stores.{mount-no-store, mount-four, mount-same, mount-done, unmount-done}
@@ -29,6 +29,8 @@ use Rattle.newt_store_change.specs.declared.fault.StoreFault.TheVariants.{Refuse
 use Rattle.newt_engine_units.specs.declared.units.Slot.{Slot}
 use Rattle.newt_engine_units.specs.declared.units.Units.{Units}
 use Rattle.newt_engine_units.specs.Answers.{Answers}
+use Rattle.newt_pagebook.specs.declared.book.Stop.{Stop as End}
+use Rattle.newt_store_change.specs.Faults.{NoDevice}
 use Rattle.newt_engine_units.specs.Faces.{Admits, Opens, beside_checks, card_face, card_faces, default_after, with_card}
 use Rattle.newt_engine_units.specs.Looks.{has_device, attached_in, IsFree}
 use Rattle.newt_engine_units.specs.Stands.{card_of, card_at, card_count, mounted_in, world_of, Stands, Eight}
@@ -148,20 +150,20 @@ module _ (w : World) (u blocks : ℕ) (s : Store) (ready : IsReady w u blocks (o
   any : list_any (λ t. t.sig == s.sig) (mounted_stores w) ≡ is_some (first_showing s.sig fs)
   any = any-is w s.sig ∙ ap (list_any (shows s.sig)) known ∙ any-first s.sig 0 fs
 
-  mount-refused : (r : Refusal) → first_of (beside_checks fs s.sig) ≡ Some r → answer_now w (command.Mount u) ≡ (w, Reply.refused r)
+  mount-refused : (r : Refusal) → first_of (beside_checks fs s.sig) ≡ Some r → answer w (command.Mount u) ≡ (w, Reply.refused r)
   mount-refused r = go (nat_le 4 (shown_count fs)) (is_some (first_showing s.sig fs)) four any
     where
       go : (a b : Bool) → nat_le 4 (length (mounted w)) ≡ a → list_any (λ t. t.sig == s.sig) (mounted_stores w) ≡ b → first_of ((ManyStores, a) ∷ (Signature, b) ∷ []) ≡ Some r
-          → answer_now w (command.Mount u) ≡ (w, Reply.refused r)
+          → answer w (command.Mount u) ≡ (w, Reply.refused r)
       go true b x y h = mount-four w u blocks s ready x ∙ ap {B = World × Reply} (λ q. (w, Reply.refused q)) (some-same ManyStores r h)
       go false true x y h = mount-same w u blocks s ready x y ∙ ap {B = World × Reply} (λ q. (w, Reply.refused q)) (some-same Signature r h)
       go false false x y h = absurd (none-some r h)
 
-  mount-does : first_of (beside_checks fs s.sig) ≡ None → answer_now w (command.Mount u) ≡ (record (mark w u true) { default = Some (unwrap_or w.default u) }, Reply.store s.sig s.name)
+  mount-does : first_of (beside_checks fs s.sig) ≡ None → answer w (command.Mount u) ≡ (record (mark w u true) { default = Some (unwrap_or w.default u) }, Reply.store s.sig s.name)
   mount-does = go (nat_le 4 (shown_count fs)) (is_some (first_showing s.sig fs)) four any
     where
       go : (a b : Bool) → nat_le 4 (length (mounted w)) ≡ a → list_any (λ t. t.sig == s.sig) (mounted_stores w) ≡ b → first_of ((ManyStores, a) ∷ (Signature, b) ∷ []) ≡ None
-          → answer_now w (command.Mount u) ≡ (record (mark w u true) { default = Some (unwrap_or w.default u) }, Reply.store s.sig s.name)
+          → answer w (command.Mount u) ≡ (record (mark w u true) { default = Some (unwrap_or w.default u) }, Reply.store s.sig s.name)
       go true b x y h = absurd (none-some ManyStores (sym h))
       go false true x y h = absurd (none-some Signature (sym h))
       go false false x y h = mount-done w u blocks s ready x y none
@@ -220,7 +222,7 @@ module _ {C : Type 0} {reads : List ℕ → Option Store} {place : C → ℕ} {s
 
     -- the store is mounted
     pub mount-answers : (later : Units C) (x : ℕ × List ℕ) → later.slots.items ≡ with_card u (Some card) units.slots.items → later.default ≡ Some (unwrap_or units.default u) → later.minute ≡ units.minute
-        → Admits fs (soups card) (Ok x) → answer_now w (command.Mount u) ≡ (world_of reads later p, Reply.store x.0 x.1)
+        → Admits fs (soups card) (Ok x) → answer w (command.Mount u) ≡ (world_of reads later p, Reply.store x.0 x.1)
     mount-answers later x is default minute h =
         let k = attached-slot units.slots.items u free.attached in
         mount-does w u (o.blocks u) held.0 ready refl fs (faces-known l units o e s) (ap (λ n. first_of (beside_checks fs n)) (sym sig-is) ∙ h.0)
@@ -274,7 +276,7 @@ module _ {C : Type 0} (soups : C → Store) (units later : Units C) (u : ℕ) (i
 
   pub unmount-answers : {reads : List ℕ → Option Store} {place : C → ℕ} {stands : Bool → C → Outside → Type 0} → Laws reads place soups stands → (o : Outside) → Eight o → Stands place stands true units o
       → (blocks : ℕ) (s : Store) → OnUnit (world_of reads units o) u blocks s → mounted_in units.slots.items u ≡ true → later.minute ≡ units.minute
-      → answer_now (world_of reads units o) (command.Unmount u) ≡ (world_of reads later o, Reply.done)
+      → answer (world_of reads units o) (command.Unmount u) ≡ (world_of reads later o, Reply.done)
   unmount-answers {reads} {place} {stands} l o e st blocks s on mounted minute =
       unmount-done w u blocks s on refl ∙ ap {A = World} {B = World × Reply} (λ v. (v, Reply.done)) (sym (marked (default_without (mark w u false) u) (default ∙ sym after)))
     where
@@ -287,3 +289,8 @@ module _ {C : Type 0} (soups : C → Store) (units later : Units C) (u : ℕ) (i
       after : default_without (mark w u false) u ≡ default_after (card_faces soups later.slots.items) units.default u
       after = default-is (mark w u false) u (card_faces soups later.slots.items) units.default refl
           (ap faces (sym (marked later.default refl)) ∙ faces-known l later o e (unmounted-stands place stands true o st))
+
+-- no device is at fault where a store may not be mounted
+pub admits-none : (faces : List Face) (s : Store) (fault : StoreFault) → Admits faces s (Err fault) → NoDevice fault
+admits-none faces s (Refused refusal) h = tt
+admits-none faces s (Stop stop) h = subst (λ (x : End). NoDevice (Stop x)) (sym h) tt

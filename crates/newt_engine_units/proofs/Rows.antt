@@ -17,7 +17,7 @@ use Rattle.newt_spec_world.specs.World.{World}
 use Rattle.newt_laws_world.proofs.Settled.{find-passes, find-some}
 use Rattle.newt_laws_images.proofs.Assembled.{one-sig}
 use Rattle.newt_laws_images.proofs.Stores.{is-store}
-use Rattle.newt_laws_answers.specs.Spoken.{answer_now}
+use Rattle.newt_spec_world.specs.Answer.{answer}
 use Rattle.newt_laws_answers.specs.There.{OnUnit}
 use Rattle.newt_laws_answers.proofs.Soups.{soups-done}
 use Rattle.newt_engine_card.specs.Cards.{soup_rows}
@@ -109,5 +109,5 @@ rows-whole s ok n h = take-whole (soup_rows s) n (omega (arith, h, length-rows s
 
 -- ---- the command
 
-pub soups-answers : (w : World) (u blocks : ℕ) (s : Store) → OnUnit w u blocks s → w.cursors ≡ replicate 32 None → (rows : List (List ℕ × ℕ × ℕ)) → rows ≡ soup_rows s → answer_now w (command.Soups u) ≡ (w, Reply.soups rows)
+pub soups-answers : (w : World) (u blocks : ℕ) (s : Store) → OnUnit w u blocks s → w.cursors ≡ replicate 32 None → (rows : List (List ℕ × ℕ × ℕ)) → rows ≡ soup_rows s → answer w (command.Soups u) ≡ (w, Reply.soups rows)
 soups-answers w u blocks s on none rows h = soups-done w u blocks s on none ∙ ap {A = List (List ℕ × ℕ × ℕ)} {B = World × Reply} (λ x. (w, Reply.soups x)) (sym h)

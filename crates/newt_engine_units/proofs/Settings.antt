@@ -12,7 +12,7 @@ use Rattle.newt_spec_world.specs.Reply.{Reply}
 use Rattle.newt_spec_world.specs.World.{World, Device, store_of}
 use Rattle.newt_spec_world.specs.First.{media_of}
 use Rattle.newt_laws_answers.specs.Answering.{Answering}
-use Rattle.newt_laws_answers.specs.Spoken.{answer_now}
+use Rattle.newt_spec_world.specs.Answer.{answer}
 use Rattle.newt_laws_answers.specs.Tests.{unit_checks, soup_checks, entry_checks, both_checks, ready_checks}
 use Rattle.newt_laws_answers.specs.There.{OnUnit, IsReady}
 use Rattle.newt_laws_answers.proofs.Entries.{no-entry, no-soup}
@@ -64,7 +64,7 @@ module _ {C : Type 0} {reads : List ℕ → Option Store} {place : C → ℕ} {s
   soup-there = soup-found at.laws units o at.eight stand-told
 
   -- there is no unit with a store
-  pub unit-refused : {T : Type 0} (u : ℕ) (c : Command) (reply : T → Reply) → ((r : Refusal) → first_of (unit_checks (world_of reads units o) u) ≡ Some r → answer_now (world_of reads units o) c ≡ (world_of reads units o, Reply.refused r))
+  pub unit-refused : {T : Type 0} (u : ℕ) (c : Command) (reply : T → Reply) → ((r : Refusal) → first_of (unit_checks (world_of reads units o) u) ≡ Some r → answer (world_of reads units o) c ≡ (world_of reads units o, Reply.refused r))
       → (fault : StoreFault) → RefusesBy (known_unit units.slots.items u) fault → (result : Result T StoreFault) → (e : StoreFault) × (result ≡ Err e) × (e ≡ fault)
       → Answers (world_of reads units o) (world_of reads units o) c reply result
   unit-refused u c reply refused fault h result p = subst (λ r. Answers (world_of reads units o) (world_of reads units o) c reply r) (sym (is-err result fault p))
@@ -72,7 +72,7 @@ module _ {C : Type 0} {reads : List ℕ → Option Store} {place : C → ℕ} {s
 
   -- there is no such soup
   pub soup-refused : {T : Type 0} (u : ℕ) (name : List ℕ) (c : Command) (reply : T → Reply)
-      → ((r : Refusal) → first_of (soup_checks (world_of reads units o) u name) ≡ Some r → answer_now (world_of reads units o) c ≡ (world_of reads units o, Reply.refused r))
+      → ((r : Refusal) → first_of (soup_checks (world_of reads units o) u name) ≡ Some r → answer (world_of reads units o) c ≡ (world_of reads units o, Reply.refused r))
       → (fault : StoreFault) → RefusesBy (known_checks soups units.slots.items u name) fault → (result : Result T StoreFault) → (e : StoreFault) × (result ≡ Err e) × (e ≡ fault)
       → Answers (world_of reads units o) (world_of reads units o) c reply result
   soup-refused u name c reply refused fault h result p = subst (λ r. Answers (world_of reads units o) (world_of reads units o) c reply r) (sym (is-err result fault p))
@@ -80,7 +80,7 @@ module _ {C : Type 0} {reads : List ℕ → Option Store} {place : C → ℕ} {s
 
   -- the unit may not be opened or formatted
   pub ready-refused : {T : Type 0} (u : ℕ) (c : Command) (reply : T → Reply)
-      → ((r : Refusal) → first_of (ready_checks (world_of reads units o) u) ≡ Some r → answer_now (world_of reads units o) c ≡ (world_of reads units o, Reply.refused r))
+      → ((r : Refusal) → first_of (ready_checks (world_of reads units o) u) ≡ Some r → answer (world_of reads units o) c ≡ (world_of reads units o, Reply.refused r))
       → (fault : StoreFault) → RefusesBy (known_ready units.slots.items (o.blocks u) u) fault → (result : Result T StoreFault) → (e : StoreFault) × (result ≡ Err e) × (e ≡ fault)
       → Answers (world_of reads units o) (world_of reads units o) c reply result
   ready-refused u c reply refused fault h result p = subst (λ r. Answers (world_of reads units o) (world_of reads units o) c reply r) (sym (is-err result fault p))
@@ -91,7 +91,7 @@ module _ {C : Type 0} {reads : List ℕ → Option Store} {place : C → ℕ} {s
 
   -- one of two soups is not there
   pub both-refused : {T : Type 0} (u : ℕ) (name : List ℕ) (v : ℕ) (target : List ℕ) (c : Command) (reply : T → Reply)
-      → ((r : Refusal) → first_of (both_checks (world_of reads units o) u name v target) ≡ Some r → answer_now (world_of reads units o) c ≡ (world_of reads units o, Reply.refused r))
+      → ((r : Refusal) → first_of (both_checks (world_of reads units o) u name v target) ≡ Some r → answer (world_of reads units o) c ≡ (world_of reads units o, Reply.refused r))
       → (fault : StoreFault) → RefusesBy (known_both soups units.slots.items u name v target) fault → (result : Result T StoreFault) → (e : StoreFault) × (result ≡ Err e) × (e ≡ fault)
       → Answers (world_of reads units o) (world_of reads units o) c reply result
   both-refused u name v target c reply refused fault h result p = subst (λ r. Answers (world_of reads units o) (world_of reads units o) c reply r) (sym (is-err result fault p))
@@ -158,7 +158,7 @@ module _ {C : Type 0} {reads : List ℕ → Option Store} {place : C → ℕ} {s
 
   -- there is no such entry
   pub entry-refused : {T : Type 0} (u : ℕ) (name : List ℕ) (uid : ℕ) (c : Command) (reply : T → Reply)
-      → ((r : Refusal) → first_of (entry_checks (world_of reads units o) u name uid) ≡ Some r → answer_now (world_of reads units o) c ≡ (world_of reads units o, Reply.refused r))
+      → ((r : Refusal) → first_of (entry_checks (world_of reads units o) u name uid) ≡ Some r → answer (world_of reads units o) c ≡ (world_of reads units o, Reply.refused r))
       → (fault : StoreFault) → RefusesBy (entry_checks (world_of reads units o) u name uid) fault → (result : Result T StoreFault) → (e : StoreFault) × (result ≡ Err e) × (e ≡ fault)
       → Answers (world_of reads units o) (world_of reads units o) c reply result
   entry-refused u name uid c reply refused fault h result p = subst (λ r. Answers (world_of reads units o) (world_of reads units o) c reply r) (sym (is-err result fault p))

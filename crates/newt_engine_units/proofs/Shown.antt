@@ -14,7 +14,7 @@ use Rattle.newt_spec_world.specs.declared.command.Command.TheVariants as command
 use Rattle.newt_spec_world.specs.Reply.{Reply}
 use Rattle.newt_spec_world.specs.World.{World, mounted_store}
 use Rattle.newt_laws_answers.specs.Faces.{Face, face_of, faces, shows, shown_count, face_rows}
-use Rattle.newt_laws_answers.specs.Spoken.{answer_now}
+use Rattle.newt_spec_world.specs.Answer.{answer}
 use Rattle.newt_laws_answers.specs.WorldAt.{device_at}
 use Rattle.newt_laws_answers.proofs.Faces.{rows-is}
 use Rattle.newt_laws_answers.proofs.Stores.{stores-done}
@@ -56,14 +56,14 @@ module _ {C : Type 0} {reads : List ℕ → Option Store} {place : C → ℕ} {s
 
 pub stores-answers : {C : Type 0} {reads : List ℕ → Option Store} {place : C → ℕ} {soups : C → Store} {stands : Bool → C → Outside → Type 0} → Laws reads place soups stands → (units : Units C) (o : Outside) → Eight o
     → Stands place stands true units o → (rows : List (ℕ × ℕ × List ℕ)) → rows ≡ face_rows 0 (card_faces soups units.slots.items)
-    → answer_now (world_of reads units o) command.Stores ≡ (world_of reads units o, Reply.stores rows)
+    → answer (world_of reads units o) command.Stores ≡ (world_of reads units o, Reply.stores rows)
 stores-answers {reads = reads} l units o e s rows h =
     stores-done (world_of reads units o) refl
     ∙ ap {A = List (ℕ × ℕ × List ℕ)} {B = World × Reply} (λ x. (world_of reads units o, Reply.stores x)) (rows-is (world_of reads units o) ∙ ap (face_rows 0) (faces-known l units o e s) ∙ sym h)
 
 pub stores-if-ok : {C : Type 0} {reads : List ℕ → Option Store} {place : C → ℕ} {soups : C → Store} {stands : Bool → C → Outside → Type 0} → Laws reads place soups stands → (units : Units C) (o : Outside) → Eight o
     → Stands place stands true units o → (result : Result (List StoreLine) AllocError) → IfOk result (λ rows. map store_row rows ≡ face_rows 0 (card_faces soups units.slots.items))
-    → IfOk result (λ rows. answer_now (world_of reads units o) command.Stores ≡ (world_of reads units o, Reply.stores (map store_row rows)))
+    → IfOk result (λ rows. answer (world_of reads units o) command.Stores ≡ (world_of reads units o, Reply.stores (map store_row rows)))
 stores-if-ok l units o e s (Ok rows) h = stores-answers l units o e s (map store_row rows) h
 stores-if-ok l units o e s (Err error) h = h
 

@@ -1,23 +1,26 @@
 //! A change of one store that is mounted, and what is read of one.
-ghost use Rattle.std.specs.Prelude.{◌≡◌, ℕ, true, IsTrue, IfOk, IfErr, ◌≤◌};
-ghost use Rattle.newt_host.specs.Outside.{OnDevices};
+ghost use Rattle.std.specs.Prelude.{◌≡◌, ◌*◌, ℕ, true, IsTrue, IfOk, IfErr, OnOk};
+ghost use Rattle.newt_host.specs.Outside.{NoFault, Spends};
 ghost use Rattle.newt_spec_store.specs.Store.{Store as Plain, entry_at};
 ghost use Rattle.newt_pagebook.specs.Stops.{HasStopCause};
 ghost use Rattle.newt_laws_answers.specs.There.{OnUnit};
-ghost use Rattle.newt_store_change.specs.Entries.{entry_said, ReadsEntry};
-ghost use Rattle.newt_store_change.specs.Faults.{HasFaultCause};
-ghost use Rattle.newt_engine_units.specs.Calls.{Changes};
+ghost use Rattle.newt_store_change.specs.Entries.{entry_said, large_fetches, ReadsEntry};
+ghost use Rattle.newt_store_change.specs.Entries.{ReadsLarge};
+ghost use Rattle.newt_engine_units.specs.Calls.{AreRead, Changes, Ended};
 ghost use Rattle.newt_engine_units.specs.Stands.{Stands, mounted_in, world_of};
 
 use crate::units::Units;
 use newt_base::{Refusal, Sig, Uid};
 use newt_engine_card::Card;
+use newt_graph::Bytes;
 use newt_host::{Host, Unit};
 use newt_pagebook::Stop;
+use newt_path::Path;
 use newt_store_change::{Change, Entry, StoreFault};
 
 impl<C: Card> Units<C> {
-    /// Makes a change of a store that is mounted, at the present minute, and answers the new id or soup signature, else 0.
+    /// Makes a change of a store that is mounted, at the present minute, and answers the new id or
+    /// soup signature, else 0.
     pub fn change<H: Host>(
         &mut self,
         host: &mut H,
@@ -26,7 +29,8 @@ impl<C: Card> Units<C> {
     ) -> Result<u32, StoreFault>
         requires stands { Stands C.place C.stands H.told self.old (H.outside host.old) }
         requires mounted { mounted_in self.old.slots.items unit ≡ true }
-        ensures { Changes C.reads C.place C.stands H.told unit change self.old self.new (H.outside host.old) (H.outside host.new) result }
+        ensures { Changes C.reads C.place C.stands H.told unit change self.old self.new
+            (H.outside host.old) (H.outside host.new) result }
     {
         let minute = self.minute;
         match &mut self.slots[unit.0 as usize].card {
@@ -45,14 +49,14 @@ impl<C: Card> Units<C> {
     ) -> Result<Option<Entry>, Stop>
         requires stands { Stands C.place C.stands H.told self.old (H.outside host.old) }
         requires mounted { mounted_in self.old.slots.items unit ≡ true }
-        ensures stands { Stands C.place C.stands H.told self.new (H.outside host.new) }
-        ensures read { IsTrue H.told → (blocks : ℕ) (s : Plain) → OnUnit (world_of C.reads self.old (H.outside host.old)) unit blocks s → IfOk result (λ found. entry_said found ≡ entry_at soup uid s) }
-        ensures world { IsTrue H.told → world_of C.reads self.new (H.outside host.new) ≡ world_of C.reads self.old (H.outside host.old) }
-        ensures marks { (u : ℕ) → mounted_in self.new.slots.items u ≡ mounted_in self.old.slots.items u }
-        ensures moment { (H.outside host.new).now ≡ (H.outside host.old).now }
-        ensures programs_nothing { IsTrue H.told → (u : ℕ) → (H.outside host.new).programmed u ≤ (H.outside host.old).programmed u }
-        ensures alone { OnDevices (H.outside host.old) (H.outside host.new) }
-        ensures cause { IfErr result (λ stop. HasStopCause stop (H.outside host.old) (H.outside host.new)) }
+        ensures looks { AreRead C.reads C.place C.stands H.told self.old self.new
+            (H.outside host.old) (H.outside host.new) }
+        ensures read { IsTrue H.told → (blocks : ℕ) (s : Plain)
+            → OnUnit (world_of C.reads self.old (H.outside host.old)) unit blocks s
+            → IfOk result (λ found. entry_said found ≡ entry_at soup uid s) }
+        ensures cause { IfErr result
+            (λ stop. HasStopCause stop (H.outside host.old) (H.outside host.new)) }
+        ensures no_fault { OnOk result (NoFault (H.outside host.old) (H.outside host.new)) }
     {
         match &mut self.slots[unit.0 as usize].card {
             Some(card) => card.entry(host, soup, uid),
@@ -70,19 +74,49 @@ impl<C: Card> Units<C> {
     ) -> Result<Entry, StoreFault>
         requires stands { Stands C.place C.stands H.told self.old (H.outside host.old) }
         requires mounted { mounted_in self.old.slots.items unit ≡ true }
-        ensures stands { Stands C.place C.stands H.told self.new (H.outside host.new) }
-        ensures read { IsTrue H.told → (blocks : ℕ) (s : Plain) → OnUnit (world_of C.reads self.old (H.outside host.old)) unit blocks s → ReadsEntry (entry_at soup uid s) result }
-        ensures world { IsTrue H.told → world_of C.reads self.new (H.outside host.new) ≡ world_of C.reads self.old (H.outside host.old) }
-        ensures marks { (u : ℕ) → mounted_in self.new.slots.items u ≡ mounted_in self.old.slots.items u }
-        ensures moment { (H.outside host.new).now ≡ (H.outside host.old).now }
-        ensures programs_nothing { IsTrue H.told → (u : ℕ) → (H.outside host.new).programmed u ≤ (H.outside host.old).programmed u }
-        ensures alone { OnDevices (H.outside host.old) (H.outside host.new) }
-        ensures cause { IfErr result (λ fault. HasFaultCause fault (H.outside host.old) (H.outside host.new)) }
+        ensures looks { AreRead C.reads C.place C.stands H.told self.old self.new
+            (H.outside host.old) (H.outside host.new) }
+        ensures read { IsTrue H.told → (blocks : ℕ) (s : Plain)
+            → OnUnit (world_of C.reads self.old (H.outside host.old)) unit blocks s
+            → ReadsEntry (entry_at soup uid s) result }
+        ensures ends { Ended result (H.outside host.old) (H.outside host.new) }
     {
         match self.entry_on(host, unit, soup, uid) {
             Ok(Some(entry)) => Ok(entry),
             Ok(None) => Err(StoreFault::Refused(Refusal::Entry)),
             Err(stop) => Err(StoreFault::Stop(stop)),
+        }
+    }
+
+    /// Reads so many bytes of the large binary that a path of an entry's graph reaches, from a
+    /// place on. Refused are, in this order: an entry that is not there, a path that reaches none,
+    /// a range that leaves it.
+    pub fn large_on<H: Host>(
+        &mut self,
+        host: &mut H,
+        unit: Unit,
+        soup: Sig,
+        uid: Uid,
+        path: &Path,
+        at: u32,
+        len: u32,
+    ) -> Result<Bytes, StoreFault>
+        requires stands { Stands C.place C.stands H.told self.old (H.outside host.old) }
+        requires mounted { mounted_in self.old.slots.items unit ≡ true }
+        ensures looks { AreRead C.reads C.place C.stands H.told self.old self.new
+            (H.outside host.old) (H.outside host.new) }
+        ensures read { IsTrue H.told → (blocks : ℕ) (s : Plain)
+            → OnUnit (world_of C.reads self.old (H.outside host.old)) unit blocks s
+            → ReadsLarge path.now at len (entry_at soup uid s) result }
+        ensures fetches { IsTrue H.told → (blocks : ℕ) (s : Plain)
+            → OnUnit (world_of C.reads self.old (H.outside host.old)) unit blocks s
+            → Spends unit 0 (512 * large_fetches len (entry_at soup uid s))
+            (H.outside host.old) (H.outside host.new) }
+        ensures ends { Ended result (H.outside host.old) (H.outside host.new) }
+    {
+        match &mut self.slots[unit.0 as usize].card {
+            Some(card) => card.large(host, soup, uid, path, at, len),
+            None => Err(StoreFault::Refused(Refusal::Notmounted)),
         }
     }
 }

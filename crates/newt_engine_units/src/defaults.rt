@@ -3,7 +3,7 @@ ghost use Rattle.std.specs.Prelude.{◌≡◌, Bool, true, IfErr};
 ghost use Rattle.newt_host.specs.Outside.{Outside};
 ghost use Rattle.newt_spec_world.specs.Reply.{Reply};
 ghost use Rattle.newt_spec_world.specs.declared.command.Command.{Command};
-ghost use Rattle.newt_laws_answers.specs.Spoken.{answer_now};
+ghost use Rattle.newt_spec_world.specs.Answer.{answer};
 ghost use Rattle.newt_store_change.specs.Faults.{IsRefusal};
 ghost use Rattle.newt_engine_units.specs.Answers.{Answers};
 ghost use Rattle.newt_engine_units.specs.Stands.{Eight, Stands, world_of};
@@ -16,8 +16,12 @@ use newt_store_change::StoreFault;
 impl<C: Card> Units<C> {
     /// Sets the minute that later changes use.
     pub fn set_minute(&mut self, minute: u32)
-        ensures stands { (told : Bool) (outside : Outside) → Stands C.place C.stands told self.old outside → Stands C.place C.stands told self.new outside }
-        ensures answered { (outside : Outside) → answer_now (world_of C.reads self.old outside) (Command.Time minute) ≡ (world_of C.reads self.new outside, Reply.done) }
+        ensures stands { (told : Bool) (outside : Outside)
+            → Stands C.place C.stands told self.old outside
+            → Stands C.place C.stands told self.new outside }
+        ensures answered { (outside : Outside)
+            → answer (world_of C.reads self.old outside) (Command.Time minute)
+            ≡ (world_of C.reads self.new outside, Reply.done) }
     {
         self.minute = minute;
     }
@@ -31,9 +35,13 @@ impl<C: Card> Units<C> {
 
     /// Makes the store of a unit the default one.
     pub fn set_default(&mut self, unit: Unit) -> Result<(), StoreFault>
-        ensures stands { (told : Bool) (outside : Outside) → Stands C.place C.stands told self.old outside → Stands C.place C.stands told self.new outside }
-        ensures answered { (outside : Outside) → Eight outside → Stands C.place C.stands true self.old outside →
-            Answers (world_of C.reads self.old outside) (world_of C.reads self.new outside) (Command.Default unit) (λ _. Reply.done) result }
+        ensures stands { (told : Bool) (outside : Outside)
+            → Stands C.place C.stands told self.old outside
+            → Stands C.place C.stands told self.new outside }
+        ensures answered { (outside : Outside) → Eight outside
+            → Stands C.place C.stands true self.old outside →
+            Answers (world_of C.reads self.old outside) (world_of C.reads self.new outside)
+            (Command.Default unit) (λ _. Reply.done) result }
         ensures only { IfErr result (λ fault. IsRefusal fault) }
     {
         self.find_unit(unit)?;

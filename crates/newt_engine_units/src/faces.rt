@@ -1,7 +1,8 @@
 //! What all the stores that are mounted show.
 ghost use Rattle.std.specs.Prelude.{◌≡◌, map, IfOk};
 ghost use Rattle.newt_reply.specs.Said.{store_row};
-ghost use Rattle.newt_laws_answers.specs.Faces.{shows, shown_count, first_shown, first_showing, face_rows};
+ghost use Rattle.newt_laws_answers.specs.Faces.{shows, shown_count, first_shown, first_showing};
+ghost use Rattle.newt_laws_answers.specs.Faces.{face_rows};
 ghost use Rattle.newt_engine_units.specs.Faces.{card_face, card_faces};
 ghost use Rattle.newt_engine_units.specs.Stands.{card_at};
 
@@ -62,7 +63,8 @@ impl<C: Card> Units<C> {
 
     /// The lines of the stores that are mounted.
     pub(crate) fn store_lines(&self) -> Result<StoreRows, AllocError>
-        ensures { IfOk result (λ rows. map store_row rows ≡ face_rows 0 (card_faces C.soups self.now.slots.items)) }
+        ensures { IfOk result (λ rows. map store_row rows ≡ face_rows 0
+            (card_faces C.soups self.now.slots.items)) }
     {
         let mut lines = Vec::new(self.alloc);
         for number in 0..UNITS {
@@ -77,7 +79,11 @@ impl<C: Card> Units<C> {
 
 /// The line of the store on a card.
 fn store_line<C: Card>(unit: Unit, card: &C) -> Result<StoreLine, AllocError>
-    ensures { IfOk result (λ line. store_row line ≡ (unit, (C.soups card.now).sig, (C.soups card.now).name)) }
+    ensures { IfOk result (λ line. store_row line ≡ (
+      unit,
+      (C.soups card.now).sig,
+      (C.soups card.now).name,
+    )) }
 {
     Ok(StoreLine {
         unit,

@@ -5,7 +5,7 @@ ghost use Rattle.newt_host.specs.Outside.{Outside};
 ghost use Rattle.newt_spec_store.specs.Store.{Store, count_in, soup_of};
 ghost use Rattle.newt_spec_world.specs.Reply.{Reply};
 ghost use Rattle.newt_spec_world.specs.declared.command.Command.{Command};
-ghost use Rattle.newt_laws_answers.specs.Spoken.{answer_now};
+ghost use Rattle.newt_spec_world.specs.Answer.{answer};
 ghost use Rattle.newt_reply.specs.Said.{store_row, soup_row};
 ghost use Rattle.newt_engine_card.specs.Cards.{soup_rows};
 ghost use Rattle.newt_store_change.specs.Faults.{NoDevice};
@@ -26,16 +26,20 @@ const MOST_SOUPS: usize = 64;
 impl<C: Card> Units<C> {
     /// The stores that are mounted, by unit.
     pub fn stores(&self) -> Result<StoreRows, AllocError>
-        ensures answered { (outside : Outside) → Eight outside → Stands C.place C.stands true self.now outside →
-            IfOk result (λ rows. answer_now (world_of C.reads self.now outside) Command.Stores ≡ (world_of C.reads self.now outside, Reply.stores (map store_row rows))) }
+        ensures answered { (outside : Outside) → Eight outside
+            → Stands C.place C.stands true self.now outside →
+            IfOk result (λ rows. answer (world_of C.reads self.now outside) Command.Stores
+            ≡ (world_of C.reads self.now outside, Reply.stores (map store_row rows))) }
     {
         self.store_lines()
     }
 
     /// The soups of a store, in order of making.
     pub fn soups(&self, unit: Unit) -> Result<SoupRows, StoreFault>
-        ensures answered { (outside : Outside) → Eight outside → Stands C.place C.stands true self.now outside →
-            Answers (world_of C.reads self.now outside) (world_of C.reads self.now outside) (Command.Soups unit) (λ rows. Reply.soups (map soup_row rows)) result }
+        ensures answered { (outside : Outside) → Eight outside
+            → Stands C.place C.stands true self.now outside →
+            Answers (world_of C.reads self.now outside) (world_of C.reads self.now outside)
+            (Command.Soups unit) (λ rows. Reply.soups (map soup_row rows)) result }
         ensures only { IfErr result (λ fault. NoDevice fault) }
     {
         self.find_unit(unit)?;
@@ -47,7 +51,9 @@ impl<C: Card> Units<C> {
 
     /// The lines of the soups of a card.
     fn soup_lines(&self, card: &C) -> Result<SoupRows, AllocError>
-        ensures { (outside : Outside) (s : Store) → C.stands true card.now outside → C.reads (image (C.place card.now) outside.now) ≡ Some s → IfOk result (λ rows. map soup_row rows ≡ soup_rows s) }
+        ensures { (outside : Outside) (s : Store) → C.stands true card.now outside
+            → C.reads (image (C.place card.now) outside.now) ≡ Some s
+            → IfOk result (λ rows. map soup_row rows ≡ soup_rows s) }
     {
         let mut lines = Vec::new(self.alloc);
         for at in 0..MOST_SOUPS {
@@ -64,7 +70,9 @@ impl<C: Card> Units<C> {
 fn soup_line<C: Card>(card: &C, soup: (&Name, Sig)) -> Result<SoupLine, AllocError>
     ensures name { IfOk result (λ line. line.name ≡ soup.entry.0.now) }
     ensures sig { IfOk result (λ line. line.sig ≡ soup.entry.1) }
-    ensures count { (outside : Outside) (s : Store) → C.stands true card.now outside → C.reads (image (C.place card.now) outside.now) ≡ Some s → IfOk result (λ line. line.count ≡ count_in (soup_of soup.entry.1 s)) }
+    ensures count { (outside : Outside) (s : Store) → C.stands true card.now outside
+        → C.reads (image (C.place card.now) outside.now) ≡ Some s
+        → IfOk result (λ line. line.count ≡ count_in (soup_of soup.entry.1 s)) }
 {
     Ok(SoupLine {
         name: soup.0.copy()?,

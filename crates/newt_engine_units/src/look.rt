@@ -6,7 +6,8 @@ ghost use Rattle.newt_host.specs.Outside.{Outside};
 ghost use Rattle.newt_store_change.specs.Faults.{IsRefusal};
 ghost use Rattle.newt_engine_units.specs.Stands.{card_at, mounted_in, Stands, Eight, world_of};
 ghost use Rattle.newt_engine_units.specs.Found.{FindsEntry};
-ghost use Rattle.newt_engine_units.specs.Looks.{attached_in, known_soup, FindsUnit, LooksUp, LooksUpBoth};
+ghost use Rattle.newt_engine_units.specs.Looks.{attached_in, known_soup, FindsUnit, LooksUp};
+ghost use Rattle.newt_engine_units.specs.Looks.{LooksUpBoth};
 
 use crate::units::Units;
 use newt_base::{Name, Refusal, Sig, Uid};
@@ -52,7 +53,8 @@ impl<C: Card> Units<C> {
         }
     }
 
-    /// Whether a store is mounted on the unit, or why there is none: it has no device, or no store is mounted there.
+    /// Whether a store is mounted on the unit, or why there is none: it has no device, or no store
+    /// is mounted there.
     pub fn find_unit(&self, unit: Unit) -> Result<(), StoreFault>
         ensures { FindsUnit self.now.slots.items unit result }
     {
@@ -65,7 +67,8 @@ impl<C: Card> Units<C> {
         Ok(())
     }
 
-    /// The signature of a soup, or why there is none: the unit has no device, no store is mounted there, or it has no such soup.
+    /// The signature of a soup, or why there is none: the unit has no device, no store is mounted
+    /// there, or it has no such soup.
     pub fn find_soup(&self, unit: Unit, name: &Name) -> Result<Sig, StoreFault>
         ensures { LooksUp C.soups self.now.slots.items unit name.now result }
     {
@@ -83,7 +86,9 @@ impl<C: Card> Units<C> {
 
     /// Whether a soup of the store that is mounted on a unit has an entry.
     pub fn has_entry(&self, unit: Unit, soup: Sig, uid: Uid) -> bool
-        ensures { (outside : Outside) → Eight outside → Stands C.place C.stands true self.now outside → (blocks : ℕ) (s : Plain) → OnUnit (world_of C.reads self.now outside) unit blocks s →
+        ensures { (outside : Outside) → Eight outside
+            → Stands C.place C.stands true self.now outside → (blocks : ℕ) (s : Plain)
+            → OnUnit (world_of C.reads self.now outside) unit blocks s →
             result ≡ is_some (entry_at soup uid s) }
     {
         match self.card(unit) {
@@ -92,11 +97,15 @@ impl<C: Card> Units<C> {
         }
     }
 
-    /// The signature of a soup that has an entry, or why there is none: the soup is not there, or has no such entry.
+    /// The signature of a soup that has an entry, or why there is none: the soup is not there, or
+    /// has no such entry.
     pub fn find_entry(&self, unit: Unit, name: &Name, uid: Uid) -> Result<Sig, StoreFault>
-        ensures soup { IfOk result (λ sig. known_soup C.soups self.now.slots.items unit name.now ≡ Some sig) }
+        ensures soup { IfOk result (λ sig. known_soup C.soups self.now.slots.items unit name.now ≡
+            Some sig) }
         ensures only { IfErr result (λ fault. IsRefusal fault) }
-        ensures found { (outside : Outside) → Eight outside → Stands C.place C.stands true self.now outside → FindsEntry (world_of C.reads self.now outside) unit name.now uid result }
+        ensures found { (outside : Outside) → Eight outside
+            → Stands C.place C.stands true self.now outside
+            → FindsEntry (world_of C.reads self.now outside) unit name.now uid result }
     {
         let soup = self.find_soup(unit, name)?;
         if self.has_entry(unit, soup, uid) {
@@ -106,7 +115,8 @@ impl<C: Card> Units<C> {
         }
     }
 
-    /// The signatures of two soups, or why one is not there: each is tried for both before the next.
+    /// The signatures of two soups, or why one is not there: each is tried for both before the
+    /// next.
     pub fn find_both(
         &self,
         unit: Unit,

@@ -1,16 +1,14 @@
 //! Stores: mounted and unmounted.
-ghost use Rattle.std.specs.Prelude.{◌≡◌, Bool, true, IsTrue, None, Some, unwrap_or, IfErr, ℕ, ◌≤◌};
-ghost use Rattle.newt_host.specs.Moments.{Always, image};
-ghost use Rattle.newt_host.specs.Outside.{Outside, OnDevices};
+ghost use Rattle.std.specs.Prelude.{◌≡◌, Bool, true, IsTrue, None, Some, unwrap_or, IfErr};
+ghost use Rattle.newt_host.specs.Moments.{image};
+ghost use Rattle.newt_host.specs.Outside.{Outside};
 ghost use Rattle.newt_spec_world.specs.Reply.{Reply};
 ghost use Rattle.newt_spec_world.specs.declared.command.Command.{Command};
-ghost use Rattle.newt_laws_answers.specs.Answering.{Answering};
-ghost use Rattle.newt_laws_answers.specs.Bounds.{most_programmed};
-ghost use Rattle.newt_laws_answers.specs.Spoken.{answer_now};
-ghost use Rattle.newt_engine_card.specs.Bounds.{Costs};
-ghost use Rattle.newt_store_change.specs.Faults.{GoesOn, HasFaultCause, IsRefusal};
+ghost use Rattle.newt_store_change.specs.Faults.{IsRefusal};
 ghost use Rattle.newt_engine_units.specs.Answers.{Answers};
-ghost use Rattle.newt_engine_units.specs.Faces.{Admits, Opens, card_faces, default_after, with_card};
+ghost use Rattle.newt_engine_units.specs.Calls.{AreRead, Ended, Obeys};
+ghost use Rattle.newt_engine_units.specs.Faces.{Admits, Opens, card_faces, default_after};
+ghost use Rattle.newt_engine_units.specs.Faces.{with_card};
 ghost use Rattle.newt_engine_units.specs.Looks.{attached_in, IsFree};
 ghost use Rattle.newt_engine_units.specs.Stands.{Eight, Stands, mounted_in, world_of};
 
@@ -24,16 +22,13 @@ use newt_store_change::StoreFault;
 const MOST_STORES: usize = 4;
 
 impl<C: Card> Units<C> {
-    /// Mounts the store of a unit, and answers its signature and its name. At most 4 stores are mounted, no two of one signature.
+    /// Mounts the store of a unit, and answers its signature and its name. At most 4 stores are
+    /// mounted, no two of one signature.
     pub fn mount<H: Host>(&mut self, host: &mut H, unit: Unit) -> Result<(Sig, Name), StoreFault>
         requires { Stands C.place C.stands H.told self.old (H.outside host.old) }
-        ensures stands { GoesOn result → Stands C.place C.stands H.told self.new (H.outside host.new) }
-        ensures answered { IsTrue H.told → Answers (world_of C.reads self.old (H.outside host.old)) (world_of C.reads self.new (H.outside host.new)) (Command.Mount unit) (λ x. Reply.store x.0 x.1) result }
-        ensures moments { IsTrue H.told → let w = world_of C.reads self.old (H.outside host.old) in
-            Always (Answering C.reads w (answer_now w (Command.Mount unit)).0 (H.outside host.old).now) (H.outside host.old).now (H.outside host.new).now }
-        ensures costs { IsTrue H.told → Costs (most_programmed (world_of C.reads self.old (H.outside host.old)) (Command.Mount unit)) result (H.outside host.old) (H.outside host.new) }
-        ensures alone { OnDevices (H.outside host.old) (H.outside host.new) }
-        ensures cause { IfErr result (λ fault. HasFaultCause fault (H.outside host.old) (H.outside host.new)) }
+        ensures { Obeys C.reads C.place C.stands H.told (Command.Mount unit)
+            (λ x. Reply.store x.0 x.1) self.old self.new
+            (H.outside host.old) (H.outside host.new) result }
     {
         self.find_ready(host, unit)?;
         let card = self.open_store(host, unit)?;
@@ -46,12 +41,12 @@ impl<C: Card> Units<C> {
     fn open_store<H: Host>(&self, host: &mut H, unit: Unit) -> Result<C, StoreFault>
         requires stands { Stands C.place C.stands H.told self.now (H.outside host.old) }
         requires free { IsFree self.now.slots.items ((H.outside host.old).blocks unit) unit }
-        ensures stands { Stands C.place C.stands H.told self.now (H.outside host.new) }
-        ensures opened { Opens (λ card. C.stands H.told card (H.outside host.new) × (C.place card ≡ unit)) (IsTrue H.told → C.reads (image unit (H.outside host.old).now) ≡ None) result }
-        ensures moment { (H.outside host.new).now ≡ (H.outside host.old).now }
-        ensures programs_nothing { IsTrue H.told → (u : ℕ) → (H.outside host.new).programmed u ≤ (H.outside host.old).programmed u }
-        ensures alone { OnDevices (H.outside host.old) (H.outside host.new) }
-        ensures cause { IfErr result (λ fault. HasFaultCause fault (H.outside host.old) (H.outside host.new)) }
+        ensures looks { AreRead C.reads C.place C.stands H.told self.now self.now
+            (H.outside host.old) (H.outside host.new) }
+        ensures opened { Opens
+            (λ card. C.stands H.told card (H.outside host.new) × (C.place card ≡ unit))
+            (IsTrue H.told → C.reads (image unit (H.outside host.old).now) ≡ None) result }
+        ensures ends { Ended result (H.outside host.old) (H.outside host.new) }
     {
         match self.open(host, unit) {
             Ok(Some(card)) => Ok(card),
@@ -88,11 +83,16 @@ impl<C: Card> Units<C> {
         }
     }
 
-    /// Unmounts the store of a unit. Where it was the default one, the default is then the mounted store of the smallest unit, if one is left.
+    /// Unmounts the store of a unit. Where it was the default one, the default is then the mounted
+    /// store of the smallest unit, if one is left.
     pub fn unmount(&mut self, unit: Unit) -> Result<(), StoreFault>
-        ensures stands { (told : Bool) (outside : Outside) → Stands C.place C.stands told self.old outside → Stands C.place C.stands told self.new outside }
-        ensures answered { (outside : Outside) → Eight outside → Stands C.place C.stands true self.old outside →
-            Answers (world_of C.reads self.old outside) (world_of C.reads self.new outside) (Command.Unmount unit) (λ _. Reply.done) result }
+        ensures stands { (told : Bool) (outside : Outside)
+            → Stands C.place C.stands told self.old outside
+            → Stands C.place C.stands told self.new outside }
+        ensures answered { (outside : Outside) → Eight outside
+            → Stands C.place C.stands true self.old outside →
+            Answers (world_of C.reads self.old outside) (world_of C.reads self.new outside)
+            (Command.Unmount unit) (λ _. Reply.done) result }
         ensures only { IfErr result (λ fault. IsRefusal fault) }
     {
         self.find_unit(unit)?;
@@ -113,7 +113,8 @@ impl<C: Card> Units<C> {
 
     /// The default unit after this one is no longer mounted.
     fn default_after(&self, unit: Unit) -> Option<Unit>
-        ensures { result ≡ default_after (card_faces C.soups self.now.slots.items) self.now.default unit }
+        ensures { result ≡ default_after (card_faces C.soups self.now.slots.items) self.now.default
+            unit }
     {
         let default = self.default?;
         if unit == default {

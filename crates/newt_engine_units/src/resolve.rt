@@ -24,10 +24,14 @@ use newt_store_change::StoreFault;
 use std::alloc::AllocError;
 
 impl<C: Card> Units<C> {
-    /// The unit, the soup and the id of the entry that an alias names; none where it is not in a mounted store. A graph that is no alias is refused.
+    /// The unit, the soup and the id of the entry that an alias names; none where it is not in a
+    /// mounted store. A graph that is no alias is refused.
     pub fn resolve(&self, graph: &Graph) -> Result<Option<(Unit, Name, Uid)>, StoreFault>
-        ensures answered { (outside : Outside) → Eight outside → Stands C.place C.stands true self.now outside →
-            Answers (world_of C.reads self.now outside) (world_of C.reads self.now outside) (Command.Resolve graph.now) (λ found. or_nil (λ x. Reply.where_is x.0 x.1 x.2) found) result }
+        ensures answered { (outside : Outside) → Eight outside
+            → Stands C.place C.stands true self.now outside →
+            Answers (world_of C.reads self.now outside) (world_of C.reads self.now outside)
+            (Command.Resolve graph.now) (λ found. or_nil (λ x. Reply.where_is x.0 x.1 x.2) found)
+            result }
         ensures only { IfErr result (λ fault. NoDevice fault) }
     {
         match Alias::read(graph) {
@@ -38,8 +42,10 @@ impl<C: Card> Units<C> {
 
     /// Where the entry of an alias is.
     fn find_alias(&self, alias: Alias) -> Result<Option<(Unit, Name, Uid)>, AllocError>
-        ensures { (outside : Outside) → Eight outside → Stands C.place C.stands true self.now outside →
-            IfOk result (λ found. or_nil (λ x. Reply.where_is x.0 x.1 x.2) found ≡ spot_reply (resolved (world_of C.reads self.now outside) (alias_said alias))) }
+        ensures { (outside : Outside) → Eight outside
+            → Stands C.place C.stands true self.now outside →
+            IfOk result (λ found. or_nil (λ x. Reply.where_is x.0 x.1 x.2) found
+            ≡ spot_reply (resolved (world_of C.reads self.now outside) (alias_said alias))) }
     {
         match self.unit_of(alias.store) {
             Some(unit) => self.find_there(unit, alias.soup, alias.uid),
@@ -54,8 +60,11 @@ impl<C: Card> Units<C> {
         soup: Sig,
         uid: Uid,
     ) -> Result<Option<(Unit, Name, Uid)>, AllocError>
-        ensures { (outside : Outside) → Eight outside → Stands C.place C.stands true self.now outside → (blocks : ℕ) (s : Store) → OnUnit (world_of C.reads self.now outside) unit blocks s →
-            IfOk result (λ found. or_nil (λ x. Reply.where_is x.0 x.1 x.2) found ≡ spot_reply (spot_in unit soup uid s)) }
+        ensures { (outside : Outside) → Eight outside
+            → Stands C.place C.stands true self.now outside → (blocks : ℕ) (s : Store)
+            → OnUnit (world_of C.reads self.now outside) unit blocks s →
+            IfOk result (λ found. or_nil (λ x. Reply.where_is x.0 x.1 x.2) found
+            ≡ spot_reply (spot_in unit soup uid s)) }
     {
         match self.card(unit) {
             Some(card) => place_on(card, unit, soup, uid),
@@ -71,8 +80,10 @@ fn place_on<C: Card>(
     soup: Sig,
     uid: Uid,
 ) -> Result<Option<(Unit, Name, Uid)>, AllocError>
-    ensures { (outside : Outside) (s : Store) → C.stands true card.now outside → C.reads (image (C.place card.now) outside.now) ≡ Some s →
-        IfOk result (λ found. or_nil (λ x. Reply.where_is x.0 x.1 x.2) found ≡ spot_reply (spot_in unit soup uid s)) }
+    ensures { (outside : Outside) (s : Store) → C.stands true card.now outside
+        → C.reads (image (C.place card.now) outside.now) ≡ Some s →
+        IfOk result (λ found. or_nil (λ x. Reply.where_is x.0 x.1 x.2) found
+        ≡ spot_reply (spot_in unit soup uid s)) }
 {
     if !card.has(soup, uid) {
         return Ok(None);

@@ -1,17 +1,19 @@
 //! Stores: made, and opened.
-ghost use Rattle.std.specs.Prelude.{◌≡◌, ◌≤◌, ℕ, IsTrue, None, Some, is_some, IfOk, OnOk, IfErr, MatchOption};
-ghost use Rattle.newt_host.specs.Outside.{OnDevices};
+ghost use Rattle.std.specs.Prelude.{◌≡◌, ℕ, true, IsTrue, None, Some, is_some, IfOk, OnOk, IfErr};
+ghost use Rattle.std.specs.Prelude.{MatchOption};
 ghost use Rattle.newt_host.specs.Moments.{Always, image};
 ghost use Rattle.newt_spec_store.specs.Store.{new_store};
 ghost use Rattle.newt_spec_world.specs.Reply.{Reply};
 ghost use Rattle.newt_spec_world.specs.World.{World, store_on_unit};
 ghost use Rattle.newt_spec_world.specs.declared.command.Command.{Command};
 ghost use Rattle.newt_laws_answers.specs.Answering.{Answering};
-ghost use Rattle.newt_laws_answers.specs.Spoken.{answer_now};
+ghost use Rattle.newt_spec_world.specs.Answer.{answer};
 ghost use Rattle.newt_laws_answers.specs.Tests.{formatted};
 ghost use Rattle.newt_engine_card.specs.Bounds.{IsOpenOrSame};
-ghost use Rattle.newt_store_change.specs.Faults.{GoesOn, HasFaultCause, IsEnd};
+ghost use Rattle.newt_store_change.specs.Faults.{GoesOn, IsEnd};
+ghost use Rattle.newt_laws_world.specs.Worlds.{sig_fits};
 ghost use Rattle.newt_engine_units.specs.Answers.{Answers};
+ghost use Rattle.newt_engine_units.specs.Calls.{AreRead, Ended};
 ghost use Rattle.newt_engine_units.specs.Looks.{FindsReady, IsFree};
 ghost use Rattle.newt_engine_units.specs.Stands.{Stands, world_of};
 
@@ -21,9 +23,6 @@ use newt_engine_card::Card;
 use newt_host::{Host, Unit};
 use newt_pagebook::{BookFault, LEAST_BLOCKS, MOST_BLOCKS, Stop};
 use newt_store_change::StoreFault;
-
-/// The largest signature of a store.
-const MOST_SIG: u32 = 536_870_911;
 
 impl<C: Card> Units<C> {
     /// Whether the unit has a device with banks and is not mounted, or why not.
@@ -47,13 +46,13 @@ impl<C: Card> Units<C> {
     pub(crate) fn open<H: Host>(&self, host: &mut H, unit: Unit) -> Result<Option<C>, StoreFault>
         requires stands { Stands C.place C.stands H.told self.now (H.outside host.old) }
         requires free { IsFree self.now.slots.items ((H.outside host.old).blocks unit) unit }
-        ensures stands { Stands C.place C.stands H.told self.now (H.outside host.new) }
-        ensures opened { IfOk result (λ found. MatchOption found (IsTrue H.told → C.reads (image unit (H.outside host.old).now) ≡ None) (λ card. C.stands H.told card (H.outside host.new) × (C.place card ≡ unit))) }
+        ensures looks { AreRead C.reads C.place C.stands H.told self.now self.now
+            (H.outside host.old) (H.outside host.new) }
+        ensures opened { IfOk result (λ found. MatchOption found
+            (IsTrue H.told → C.reads (image unit (H.outside host.old).now) ≡ None)
+            (λ card. C.stands H.told card (H.outside host.new) × (C.place card ≡ unit))) }
         ensures only { IfErr result (λ fault. IsEnd fault) }
-        ensures moment { (H.outside host.new).now ≡ (H.outside host.old).now }
-        ensures programs_nothing { IsTrue H.told → (u : ℕ) → (H.outside host.new).programmed u ≤ (H.outside host.old).programmed u }
-        ensures alone { OnDevices (H.outside host.old) (H.outside host.new) }
-        ensures cause { IfErr result (λ fault. HasFaultCause fault (H.outside host.old) (H.outside host.new)) }
+        ensures ends { Ended result (H.outside host.old) (H.outside host.new) }
     {
         match C::open(self.alloc, host, unit) {
             Ok(card) => Ok(Some(card)),
@@ -67,13 +66,12 @@ impl<C: Card> Units<C> {
     fn has_store<H: Host>(&self, host: &mut H, unit: Unit) -> Result<bool, StoreFault>
         requires stands { Stands C.place C.stands H.told self.now (H.outside host.old) }
         requires free { IsFree self.now.slots.items ((H.outside host.old).blocks unit) unit }
-        ensures stands { Stands C.place C.stands H.told self.now (H.outside host.new) }
-        ensures has { IsTrue H.told → IfOk result (λ has. has ≡ is_some (C.reads (image unit (H.outside host.old).now))) }
+        ensures looks { AreRead C.reads C.place C.stands H.told self.now self.now
+            (H.outside host.old) (H.outside host.new) }
+        ensures has { IsTrue H.told → IfOk result
+            (λ has. has ≡ is_some (C.reads (image unit (H.outside host.old).now))) }
         ensures only { IfErr result (λ fault. IsEnd fault) }
-        ensures moment { (H.outside host.new).now ≡ (H.outside host.old).now }
-        ensures programs_nothing { IsTrue H.told → (u : ℕ) → (H.outside host.new).programmed u ≤ (H.outside host.old).programmed u }
-        ensures alone { OnDevices (H.outside host.old) (H.outside host.new) }
-        ensures cause { IfErr result (λ fault. HasFaultCause fault (H.outside host.old) (H.outside host.new)) }
+        ensures ends { Ended result (H.outside host.old) (H.outside host.new) }
     {
         match self.open(host, unit) {
             Ok(found) => Ok(found.is_some()),
@@ -81,7 +79,8 @@ impl<C: Card> Units<C> {
         }
     }
 
-    /// Makes the device of a unit one with a store without soups. A signature above 536,870,911 is refused, and so is a unit that has a store.
+    /// Makes the device of a unit one with a store without soups. A unit that has a store is
+    /// refused.
     pub fn format<H: Host>(
         &mut self,
         host: &mut H,
@@ -89,18 +88,20 @@ impl<C: Card> Units<C> {
         name: &Name,
         sig: Sig,
     ) -> Result<(), StoreFault>
-        requires { Stands C.place C.stands H.told self.old (H.outside host.old) }
-        ensures stands { GoesOn result → Stands C.place C.stands H.told self.new (H.outside host.new) }
-        ensures answered { IsTrue H.told → Answers (world_of C.reads self.old (H.outside host.old)) (world_of C.reads self.new (H.outside host.new)) (Command.Format unit name.now sig) (λ _. Reply.done) result }
+        requires stands { Stands C.place C.stands H.told self.old (H.outside host.old) }
+        requires sig { sig_fits sig ≡ true }
+        ensures stands { GoesOn result
+            → Stands C.place C.stands H.told self.new (H.outside host.new) }
+        ensures answered { IsTrue H.told → let w = world_of C.reads self.old (H.outside host.old) in
+            Answers w (world_of C.reads self.new (H.outside host.new))
+            (Command.Format unit name.now sig) (λ _. Reply.done) result }
         ensures moments { IsTrue H.told → let w = world_of C.reads self.old (H.outside host.old) in
-            Always (Answering C.reads w (answer_now w (Command.Format unit name.now sig)).0 (H.outside host.old).now) (H.outside host.old).now (H.outside host.new).now }
-        ensures open_after { IsTrue H.told → GoesOn result → (u : ℕ) → IsOpenOrSame u (H.outside host.old).now (H.outside host.new).now }
-        ensures alone { OnDevices (H.outside host.old) (H.outside host.new) }
-        ensures cause { IfErr result (λ fault. HasFaultCause fault (H.outside host.old) (H.outside host.new)) }
+            Always (Answering C.reads w (answer w (Command.Format unit name.now sig)).0
+            (H.outside host.old).now) (H.outside host.old).now (H.outside host.new).now }
+        ensures open_after { IsTrue H.told → GoesOn result → (u : ℕ)
+            → IsOpenOrSame u (H.outside host.old).now (H.outside host.new).now }
+        ensures ends { Ended result (H.outside host.old) (H.outside host.new) }
     {
-        if MOST_SIG < sig.0 {
-            return Err(StoreFault::Refused(Refusal::Command));
-        }
         self.find_ready(host, unit)?;
         if self.has_store(host, unit)? {
             return Err(StoreFault::Refused(Refusal::Store));
@@ -118,15 +119,21 @@ impl<C: Card> Units<C> {
     ) -> Result<(), StoreFault>
         requires stands { Stands C.place C.stands H.told self.now (H.outside host.old) }
         requires free { IsFree self.now.slots.items ((H.outside host.old).blocks unit) unit }
-        requires sig { sig ≤ 536_870_911 }
-        ensures stands { GoesOn result → Stands C.place C.stands H.told self.now (H.outside host.new) }
-        ensures made { IsTrue H.told → OnOk result (world_of C.reads self.now (H.outside host.new) ≡ formatted (world_of C.reads self.now (H.outside host.old)) unit name.now sig) }
+        requires sig { sig_fits sig ≡ true }
+        ensures stands { GoesOn result
+            → Stands C.place C.stands H.told self.now (H.outside host.new) }
+        ensures made { IsTrue H.told → let w = world_of C.reads self.now (H.outside host.old) in
+            OnOk result (world_of C.reads self.now (H.outside host.new)
+            ≡ formatted w unit name.now sig) }
         ensures only { IfErr result (λ fault. IsEnd fault) }
-        ensures moments { IsTrue H.told → let w = world_of C.reads self.now (H.outside host.old) in (v : World) → store_on_unit w unit ≡ None → store_on_unit v unit ≡ Some (new_store name.now sig) →
-            Always (Answering C.reads w v (H.outside host.old).now) (H.outside host.old).now (H.outside host.new).now }
-        ensures open_after { IsTrue H.told → GoesOn result → (u : ℕ) → IsOpenOrSame u (H.outside host.old).now (H.outside host.new).now }
-        ensures alone { OnDevices (H.outside host.old) (H.outside host.new) }
-        ensures cause { IfErr result (λ fault. HasFaultCause fault (H.outside host.old) (H.outside host.new)) }
+        ensures moments { IsTrue H.told → let w = world_of C.reads self.now (H.outside host.old) in
+            (v : World) → store_on_unit w unit ≡ None
+            → store_on_unit v unit ≡ Some (new_store name.now sig)
+            → Always (Answering C.reads w v (H.outside host.old).now)
+            (H.outside host.old).now (H.outside host.new).now }
+        ensures open_after { IsTrue H.told → GoesOn result → (u : ℕ)
+            → IsOpenOrSame u (H.outside host.old).now (H.outside host.new).now }
+        ensures ends { Ended result (H.outside host.old) (H.outside host.new) }
     {
         match C::format(self.alloc, host, unit, name, sig) {
             Ok(()) => Ok(()),

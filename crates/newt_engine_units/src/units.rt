@@ -1,5 +1,6 @@
 //! The eight units.
-ghost use Rattle.std.specs.Prelude.{◌≡◌, ℕ, Bool, IsTrue, IsSome, None, Some, false, is_some, slice_get, IfOk};
+ghost use Rattle.std.specs.Prelude.{◌≡◌, ℕ, Bool, IsTrue, IsSome, None, Some, false, is_some};
+ghost use Rattle.std.specs.Prelude.{slice_get, IfOk};
 ghost use Rattle.newt_host.specs.Moments.{IsDurable};
 ghost use Rattle.newt_host.specs.Outside.{Outside};
 ghost use Rattle.newt_laws_answers.specs.WorldAt.{world_at};
@@ -26,11 +27,16 @@ pub struct Units<C: Card> {
 }
 
 impl<C: Card> Units<C> {
-    /// The units at the start of a run, by whether each has a device: nothing is mounted, and the minute is 0.
+    /// The units at the start of a run, by whether each has a device: nothing is mounted, and the
+    /// minute is 0.
     pub fn of(alloc: Global, attached: [bool; 8]) -> Result<Units<C>, AllocError>
-        ensures stands { IfOk result (λ units. (told : Bool) (outside : Outside) → ((u : ℕ) (has : Bool) → slice_get attached u ≡ Some has → has ≡ is_some (outside.card u)) →
-            (IsTrue told → (u : ℕ) → IsSome (outside.card u) → IsDurable u outside.now) → Stands C.place C.stands told units outside) }
-        ensures world { IfOk result (λ units. (outside : Outside) → world_of C.reads units outside ≡ world_at C.reads (λ _. false) None 0 outside) }
+        ensures stands { IfOk result (λ units. (told : Bool) (outside : Outside) →
+            ((u : ℕ) (has : Bool) → slice_get attached u ≡ Some has
+            → has ≡ is_some (outside.card u)) →
+            (IsTrue told → (u : ℕ) → IsSome (outside.card u) → IsDurable u outside.now)
+            → Stands C.place C.stands told units outside) }
+        ensures world { IfOk result (λ units. (outside : Outside) → world_of C.reads units outside ≡
+            world_at C.reads (λ _. false) None 0 outside) }
     {
         let mut slots = Vec::new(alloc);
         for has in attached {

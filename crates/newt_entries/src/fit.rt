@@ -97,7 +97,8 @@ fn lengths_of(rows: &[LargeAt]) -> usize
     total
 }
 
-/// Whether a skeleton with as many bytes in its large binaries as the rows say is within the limits of one graph.
+/// Whether a skeleton with as many bytes in its large binaries as the rows say is within the limits
+/// of one graph.
 fn is_within(skeleton: &Graph, rows: &[LargeAt]) -> bool
     requires { names_from 0 skeleton.now.nodes (map row_at rows.now) ≡ true }
     ensures { result ≡ within_limits (stretched (map row_at rows.now) skeleton.now) }
@@ -109,7 +110,10 @@ fn is_within(skeleton: &Graph, rows: &[LargeAt]) -> bool
 /// Whether a skeleton and rows that name its large binaries pass the other tests of an entry.
 fn passes(skeleton: &Graph, rows: &[LargeAt]) -> bool
     requires { names_from 0 skeleton.now.nodes (map row_at rows.now) ≡ true }
-    ensures { result ≡ (list_all (λ row. may_be_large (row_at row)) rows.now && (words.is_frame (words.object skeleton.now.nodes skeleton.now.root) && within_limits (stretched (map row_at rows.now) skeleton.now) && nat_le (length (nsof (skeleton_of skeleton.now))) 64000)) }
+    ensures { result ≡ (list_all (λ row. may_be_large (row_at row)) rows.now &&
+        (words.is_frame (words.object skeleton.now.nodes skeleton.now.root)
+        && within_limits (stretched (map row_at rows.now) skeleton.now)
+        && nat_le (length (nsof (skeleton_of skeleton.now))) 64000)) }
 {
     may_be_larges(rows)
         && is_frame(skeleton)

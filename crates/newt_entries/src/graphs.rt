@@ -1,5 +1,6 @@
 //! Graphs with and without the bytes of their large binaries.
-ghost use Rattle.std.specs.Prelude.{◌≡◌, ◌≤◌, ◌<◌, ◌++◌, true, All, length, map, flat_map, zip, IfOk, OnOk};
+ghost use Rattle.std.specs.Prelude.{◌≡◌, ◌≤◌, ◌<◌, ◌++◌, true, All, length, map, flat_map, zip};
+ghost use Rattle.std.specs.Prelude.{IfOk, OnOk};
 ghost use Rattle.std.specs.List.{enumerate_from};
 ghost use Rattle.std.specs.Vec.Iter.{into_iter_items, into_iter_len};
 ghost use Rattle.newt_graph.specs.declared.node.Node.TheVariants.{Large};
@@ -9,7 +10,8 @@ ghost use Rattle.newt_spec_store.specs.Image.{large_in, larges};
 ghost use Rattle.newt_spec_store.specs.Laid.{row_of_large};
 ghost use Rattle.newt_spec_store.specs.Valid.{valid_entry};
 ghost use Rattle.newt_entries.specs.Entry.{row_at, fits, filled, AreRowsOf};
-ghost use Rattle.newt_entries.specs.Filling.{bytes_in, length_in, next_of, put_node, put_in, HasBytes};
+ghost use Rattle.newt_entries.specs.Filling.{bytes_in, length_in, next_of, put_node, put_in};
+ghost use Rattle.newt_entries.specs.Filling.{HasBytes};
 
 use crate::row::{EntryRow, LargeAt, Larges};
 use newt_base::{Sig, Uid};
@@ -61,7 +63,8 @@ fn large(class: u32, bytes: Vec<u8>) -> Node
 /// The next of these bytes, or none where there are no more.
 fn next_bytes(alloc: Global, left: &mut IntoIter<Vec<u8>, Global>) -> Vec<u8>
     requires { into_iter_len left.old ≡ length (into_iter_items left.old) }
-    ensures value { next_of (map (λ bytes. bytes.items) (into_iter_items left.old)) ≡ (result.items, map (λ bytes. bytes.items) (into_iter_items left.new)) }
+    ensures value { next_of (map (λ bytes. bytes.items) (into_iter_items left.old))
+        ≡ (result.items, map (λ bytes. bytes.items) (into_iter_items left.new)) }
     ensures counted { into_iter_len left.new ≡ length (into_iter_items left.new) }
 {
     match left.next() {
@@ -77,7 +80,8 @@ fn put_node(
     left: &mut IntoIter<Vec<u8>, Global>,
 ) -> Result<Node, AllocError>
     requires { into_iter_len left.old ≡ length (into_iter_items left.old) }
-    ensures value { IfOk result (λ n. put_node node.now (map (λ bytes. bytes.items) (into_iter_items left.old)) ≡ (n, map (λ bytes. bytes.items) (into_iter_items left.new))) }
+    ensures value { IfOk result (λ n. put_node node.now (map (λ bytes. bytes.items)
+        (into_iter_items left.old)) ≡ (n, map (λ bytes. bytes.items) (into_iter_items left.new))) }
     ensures counted { OnOk result (into_iter_len left.new ≡ length (into_iter_items left.new)) }
     ensures bytes { IfOk result HasBytes }
 {
@@ -93,7 +97,8 @@ fn put_node(
 
 /// The nodes of a skeleton with these bytes in its large binaries.
 fn put_in(alloc: Global, nodes: &[Node], larges: Vec<Vec<u8>>) -> Result<Vec<Node>, AllocError>
-    ensures value { IfOk result (λ v. v.items ≡ put_in nodes.now (map (λ bytes. bytes.items) larges.items)) }
+    ensures value { IfOk result (λ v. v.items ≡ put_in nodes.now
+        (map (λ bytes. bytes.items) larges.items)) }
     ensures bytes { IfOk result (λ v. All HasBytes v.items) }
 {
     let mut out = Vec::new(alloc);
@@ -107,9 +112,15 @@ fn put_in(alloc: Global, nodes: &[Node], larges: Vec<Vec<u8>>) -> Result<Vec<Nod
 /// The graph of a row, with these bytes in its large binaries: those of its objects, in order.
 pub fn filled(alloc: Global, row: &EntryRow, larges: Vec<Vec<u8>>) -> Result<Graph, AllocError>
     requires fit { fits (map row_at row.now.larges) row.now.skeleton ≡ true }
-    requires lengths { map (λ bytes. length bytes.items) larges.items ≡ map (λ l. l.length) row.now.larges }
-    ensures value { IfOk result (λ g. g ≡ filled (map row_at row.now.larges) row.now.skeleton (map (λ bytes. bytes.items) larges.items)) }
-    ensures valid { IfOk result (λ g. valid_entry (record { uid = row.now.uid; time = row.now.time; graph = g }) ≡ true) }
+    requires lengths { map (λ bytes. length bytes.items) larges.items
+        ≡ map (λ l. l.length) row.now.larges }
+    ensures value { IfOk result (λ g. g ≡ filled (map row_at row.now.larges) row.now.skeleton
+        (map (λ bytes. bytes.items) larges.items)) }
+    ensures valid { IfOk result (λ g. valid_entry (record {
+      uid = row.now.uid;
+      time = row.now.time;
+      graph = g;
+    }) ≡ true) }
 {
     let nodes = put_in(alloc, row.skeleton.nodes(), larges)?;
     Ok(Graph::of(nodes, row.skeleton.root()))
@@ -117,7 +128,8 @@ pub fn filled(alloc: Global, row: &EntryRow, larges: Vec<Vec<u8>>) -> Result<Gra
 
 /// Puts a copy of the bytes of a large binary behind others.
 fn add_bytes(larges: &mut Vec<Vec<u8>>, alloc: Global, node: &Node) -> Result<(), AllocError>
-    ensures { OnOk result (map (λ bytes. bytes.items) larges.new.items ≡ map (λ bytes. bytes.items) larges.old.items ++ bytes_in node.now) }
+    ensures { OnOk result (map (λ bytes. bytes.items) larges.new.items ≡ map (λ bytes. bytes.items)
+        larges.old.items ++ bytes_in node.now) }
 {
     match node {
         Node::Large(_, bytes) => larges.push(Vec::from_slice(alloc, bytes.list())?)?,
@@ -143,7 +155,8 @@ fn larges_in(alloc: Global, nodes: &[Node]) -> Result<Vec<Vec<u8>>, AllocError>
 
 /// The bytes of each large binary of a graph, in the order of their nodes.
 pub fn larges_of(alloc: Global, graph: &Graph) -> Result<Vec<Vec<u8>>, AllocError>
-    ensures { IfOk result (λ v. map (λ bytes. bytes.items) v.items ≡ map (λ l. l.1) (larges graph.now)) }
+    ensures { IfOk result (λ v. map (λ bytes. bytes.items) v.items ≡ map (λ l. l.1)
+        (larges graph.now)) }
 {
     let larges = larges_in(alloc, graph.nodes())?;
     Ok(larges)
@@ -168,7 +181,8 @@ fn length_in(node: &Node) -> Option<u32>
 fn rows_of(alloc: Global, nodes: &[Node], ids: &[u32]) -> Result<Vec<LargeAt>, AllocError>
     requires few { length nodes.now ≤ 65535 }
     requires short { All (λ node. payload node ≤ 1000000) nodes.now }
-    ensures { IfOk result (λ rows. map row_at rows.items ≡ map row_of_large (zip (flat_map large_in (enumerate_from 0 nodes.now)) ids.now)) }
+    ensures { IfOk result (λ rows. map row_at rows.items ≡ map row_of_large
+        (zip (flat_map large_in (enumerate_from 0 nodes.now)) ids.now)) }
 {
     let mut rows = Vec::new(alloc);
     let mut left = nodes;

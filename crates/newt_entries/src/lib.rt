@@ -1,8 +1,9 @@
 //! Entry records as bytes.
 //!
-//! It stands on `newt_graph`, on the reader and the writer of the streamed form, and on the definitions of stores. It carries this promise: a record
-//! is read from exactly the bytes that have one by the store's reading, and is written as the store's definition says. The bytes of large binaries
-//! are no part of a record: it has the graph without them, and names their objects.
+//! It stands on `newt_graph`, on the reader and the writer of the streamed form, and on the
+//! definitions of stores. It carries this promise: a record is read from exactly the bytes that
+//! have one by the store's reading, and is written as the store's definition says. The bytes of
+//! large binaries are no part of a record: it has the graph without them, and names their objects.
 #![tactic(auto)]
 
 mod fault;

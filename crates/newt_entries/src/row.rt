@@ -6,8 +6,8 @@ use newt_graph::Graph;
 use std::alloc::{AllocError, Global};
 use std::marker::Model;
 
-/// A large binary in a record: the number of its node, from 0 in the order of the graph's nodes; the object that has its bytes, even and not 0; and how many
-/// bytes these are, at most 1,000,000.
+/// A large binary in a record: the number of its node, from 0 in the order of the graph's nodes;
+/// the object that has its bytes, even and not 0; and how many bytes these are, at most 1,000,000.
 #[derive(Clone, Copy, Debug, PartialEq, Eq)]
 pub struct LargeAt {
     pub node: u32,
@@ -71,8 +71,9 @@ impl Larges {
     }
 }
 
-/// An entry's record: the signature of its soup, at most 65,535; its id; the minute of its last change; its graph without the bytes of large binaries; and
-/// what is said of each large binary, at most 65,535 of them. What `read_entry` gives keeps these limits.
+/// An entry's record: the signature of its soup, at most 65,535; its id; the minute of its last
+/// change; its graph without the bytes of large binaries; and what is said of each large binary, at
+/// most 65,535 of them. What `read_entry` gives keeps these limits.
 #[derive(Drop)]
 pub struct EntryRow {
     pub soup: Sig,

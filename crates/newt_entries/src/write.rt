@@ -34,7 +34,8 @@ fn put_larges(out: &mut Vec<u8>, larges: &[LargeAt]) -> Result<(), AllocError>
 fn head_and_text(alloc: Global, row: &EntryRow) -> Result<Vec<u8>, AllocError>
     requires soup { row.now.soup < 65536 }
     requires few { length row.now.larges < 65536 }
-    ensures { IfOk result (λ v. v.items ≡ be16 row.now.soup ++ be16 (length row.now.larges) ++ be32 row.now.uid ++ be32 row.now.time ++ nsof row.now.skeleton) }
+    ensures { IfOk result (λ v. v.items ≡ be16 row.now.soup ++ be16 (length row.now.larges) ++ be32
+        row.now.uid ++ be32 row.now.time ++ nsof row.now.skeleton) }
 {
     let mut out = Vec::new(alloc);
     push16(&mut out, row.soup.0 as u16)?;
@@ -46,11 +47,14 @@ fn head_and_text(alloc: Global, row: &EntryRow) -> Result<Vec<u8>, AllocError>
     Ok(out)
 }
 
-/// The bytes of an entry's record: of the entry that has this skeleton, and whose large binaries have these objects and lengths.
+/// The bytes of an entry's record: of the entry that has this skeleton, and whose large binaries
+/// have these objects and lengths.
 pub fn write_entry(alloc: Global, row: &EntryRow) -> Result<Vec<u8>, AllocError>
     requires soup { row.now.soup < 65536 }
     requires few { length row.now.larges < 65536 }
-    ensures { (e : Entry) (ids : List ℕ) → e.uid ≡ row.now.uid → e.time ≡ row.now.time → AreRowsOf row.now.skeleton row.now.larges e.graph ids → IfOk result (λ v. v.items ≡ entry_bytes row.now.soup e ids) }
+    ensures { (e : Entry) (ids : List ℕ) → e.uid ≡ row.now.uid → e.time ≡ row.now.time
+        → AreRowsOf row.now.skeleton row.now.larges e.graph ids
+        → IfOk result (λ v. v.items ≡ entry_bytes row.now.soup e ids) }
 {
     let mut out = head_and_text(alloc, row)?;
     put_larges(&mut out, row.larges.list())?;

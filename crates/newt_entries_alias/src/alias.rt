@@ -1,9 +1,12 @@
 //! Aliases of entries.
-ghost use Rattle.std.specs.Prelude.{◌≡◌, ◌≤◌, ◌*◌, ◌∷◌, [], Option, Some, None, codes, option_map, IfOk};
+ghost use Rattle.std.specs.Prelude.{◌≡◌, ◌≤◌, ◌*◌, ◌∷◌, [], Option, Some, None, codes, option_map};
+ghost use Rattle.std.specs.Prelude.{IfOk};
 ghost use Rattle.newt_base.specs.Names.{same_name};
 ghost use Rattle.newt_spec_world.specs.Alias as plain;
 ghost use Rattle.newt_graph.specs.Graph.{integer};
-ghost use Rattle.newt_entries_alias.specs.Alias.{alias_said, alias_nodes, alias_graph, Fits, is_alias_class, array_alias, node_alias, IsPrinted};
+ghost use Rattle.newt_entries_alias.specs.Alias.{alias_said, alias_nodes, alias_graph, Fits};
+ghost use Rattle.newt_entries_alias.specs.Alias.{is_alias_class, array_alias, node_alias};
+ghost use Rattle.newt_entries_alias.specs.Alias.{IsPrinted};
 
 use newt_base::{Sig, Uid};
 use newt_graph::{Bytes, Graph, Node, Ref, Refs};
@@ -61,7 +64,8 @@ fn integer(number: u32) -> Ref
 }
 
 impl Alias {
-    /// The alias that a graph is: an array with class `alias` and three integers that are not negative.
+    /// The alias that a graph is: an array with class `alias` and three integers that are not
+    /// negative.
     pub fn read(graph: &Graph) -> Option<Alias>
         ensures { option_map alias_said result ≡ plain.alias_of graph.now }
     {
@@ -127,7 +131,8 @@ impl Alias {
     /// The signatures of store and soup and the id, in this order.
     fn values(&self, alloc: Global) -> Result<Vec<Ref>, AllocError>
         requires { Fits self.now }
-        ensures { IfOk result (λ v. v.items ≡ integer self.now.store ∷ integer self.now.soup ∷ integer self.now.uid ∷ []) }
+        ensures { IfOk result (λ v. v.items ≡ integer self.now.store ∷ integer self.now.soup ∷
+            integer self.now.uid ∷ []) }
     {
         let mut values = Vec::new(alloc);
         values.push(integer(self.store.0))?;

@@ -1,11 +1,13 @@
 //! Folding of texts, and search in folded texts.
 //!
-//! It stands on `caseless` for the tables of folding, on `memchr` for the search, and on the definition of words. It carries this promise: units
-//! are read as UTF-16 with each lone surrogate as U+FFFD, case is folded by Unicode's default table, and a word or a part is found exactly where
-//! the definition has it, character by character.
+//! It stands on `caseless` for the tables of folding, on `memchr` for the search, and on the
+//! definition of words. It carries this promise: units are read as UTF-16 with each lone surrogate
+//! as U+FFFD, case is folded by Unicode's default table, and a word or a part is found exactly
+//! where the definition has it, character by character.
 #![tactic(auto)]
 
-ghost use Rattle.std.specs.Prelude.{◌≡◌, ◌∷◌, [], IfOk, IfSome, MatchOption, not, ◌&&◌, chars, string_bytes, encode_utf8_all};
+ghost use Rattle.std.specs.Prelude.{◌≡◌, ◌∷◌, [], IfOk, IfSome, MatchOption, not, ◌&&◌, chars};
+ghost use Rattle.std.specs.Prelude.{string_bytes, encode_utf8_all};
 ghost use Rattle.std.specs.Str.{IsUtf8};
 ghost use Rattle.std.specs.Char.Utf16.{utf16_lossy_chars};
 ghost use Rattle.caseless.specs.Caseless.{default_case_fold};
@@ -17,7 +19,8 @@ use std::alloc::{AllocError, Global};
 
 /// The text of UTF-16 units, in which a surrogate without its partner is U+FFFD.
 pub fn units_to_text(alloc: Global, units: &[u16]) -> Result<String, AllocError>
-    ensures bytes { IfOk result (λ text. string_bytes text ≡ encode_utf8_all (utf16_lossy_chars units.now)) }
+    ensures bytes { IfOk result (λ text. string_bytes text ≡ encode_utf8_all
+        (utf16_lossy_chars units.now)) }
     ensures chars { IfOk result (λ text. chars (string_bytes text) ≡ utf16_lossy_chars units.now) }
 {
     let text = String::from_utf16_lossy(alloc, units)?;
@@ -26,8 +29,10 @@ pub fn units_to_text(alloc: Global, units: &[u16]) -> Result<String, AllocError>
 
 /// The text with its case folded by Unicode's default table.
 pub fn folded(alloc: Global, text: &str) -> Result<String, AllocError>
-    ensures bytes { IfOk result (λ folded. string_bytes folded ≡ encode_utf8_all (default_case_fold (chars text.now))) }
-    ensures chars { IfOk result (λ folded. chars (string_bytes folded) ≡ default_case_fold (chars text.now)) }
+    ensures bytes { IfOk result (λ folded. string_bytes folded ≡ encode_utf8_all
+        (default_case_fold (chars text.now))) }
+    ensures chars { IfOk result (λ folded. chars (string_bytes folded) ≡ default_case_fold
+        (chars text.now)) }
 {
     let folded = default_case_fold_str(alloc, text)?;
     Ok(folded)
@@ -40,7 +45,8 @@ pub fn has_text(folded_text: &str, folded_part: &str) -> bool
     memmem::find(folded_text.as_bytes(), folded_part.as_bytes()).is_some()
 }
 
-/// Whether a word of the text begins with the given one or, where that is entire, is it. Both are folded.
+/// Whether a word of the text begins with the given one or, where that is entire, is it. Both are
+/// folded.
 pub fn has_word(folded_text: &str, folded_word: &str, entire: bool) -> bool
     ensures { result ≡ spec.has_word (chars folded_text.now) (chars folded_word.now) entire }
 {
@@ -58,7 +64,8 @@ pub fn has_word(folded_text: &str, folded_word: &str, entire: bool) -> bool
 
 /// The first character of a text, and what follows it.
 fn split_first(text: &str) -> Option<(char, &str)>
-    ensures parts { MatchOption result (chars text.now ≡ []) (λ x. chars text.now ≡ x.0 ∷ chars x.1.now) }
+    ensures parts { MatchOption result (chars text.now ≡ [])
+        (λ x. chars text.now ≡ x.0 ∷ chars x.1.now) }
     ensures text { IfSome result (λ x. IsUtf8 x.1.now) }
 {
     let mut left = text.chars();

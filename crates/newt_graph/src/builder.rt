@@ -5,7 +5,8 @@ ghost use Rattle.newt_graph.specs.Graph.{RawGraph, IsName, payload};
 ghost use Rattle.newt_graph.specs.Raw.{IsNormalForm};
 ghost use Rattle.newt_graph.specs.Meeting.{Gives, place, normal_form};
 ghost use Rattle.newt_graph.specs.Import.{with_graph};
-ghost use Rattle.newt_graph.specs.Draft.{IsJoined, IsFilling, is_small, with_symbol, with_held, with_filled, with_slot, with_set};
+ghost use Rattle.newt_graph.specs.Draft.{IsJoined, IsFilling, is_small, with_symbol, with_held};
+ghost use Rattle.newt_graph.specs.Draft.{with_filled, with_slot, with_set};
 
 use crate::copies::{copied_ref, copies, numbers};
 use crate::fault::GraphFault;
@@ -18,10 +19,11 @@ use crate::normal::{left, normal, payload};
 use std::alloc::Global;
 use std::marker::Model;
 
-/// Nodes in any order, at most 131,072, with at most 33,554,432 bytes in strings and binaries together. No two symbols are alike but for ASCII case.
+/// Nodes in any order, at most 131,072, with at most 33,554,432 bytes in strings and binaries
+/// together. No two symbols are alike but for ASCII case.
 ///
-/// `Limit` comes exactly where a limit of the builder or of a node would be passed, in `finish` one of a graph. A call that answers an error leaves
-/// the builder as it was; `finish` spends it.
+/// `Limit` comes exactly where a limit of the builder or of a node would be passed, in `finish` one
+/// of a graph. A call that answers an error leaves the builder as it was; `finish` spends it.
 #[derive(Drop)]
 pub struct Builder {
     nodes: Vec<Node>,
@@ -66,7 +68,8 @@ impl Builder {
         self.nodes.len() as u32
     }
 
-    /// The number of the symbol of this name but for ASCII case: the first one, which keeps its spelling, or a new one.
+    /// The number of the symbol of this name but for ASCII case: the first one, which keeps its
+    /// spelling, or a new one.
     #[tactic(auto, unfolding(crate::specs::Draft::with_symbol))]
     pub fn symbol(&mut self, name: &[u8]) -> Result<u32, GraphFault>
         requires { IsName name.now }
@@ -88,7 +91,8 @@ impl Builder {
         Ok(n as u32)
     }
 
-    /// The number of a new node, to be filled when its parts are known. Until then it is an empty array.
+    /// The number of a new node, to be filled when its parts are known. Until then it is an empty
+    /// array.
     #[tactic(auto, unfolding(crate::specs::Draft::with_held))]
     pub fn hold(&mut self) -> Result<u32, GraphFault>
         ensures value { Gives (λ n. (n, self.new)) result (with_held self.old) }
@@ -127,7 +131,8 @@ impl Builder {
         Ok(())
     }
 
-    /// Copies a graph in, and answers its root. A symbol that folds alike one that is there becomes that one.
+    /// Copies a graph in, and answers its root. A symbol that folds alike one that is there becomes
+    /// that one.
     #[tactic(auto, unfolding(crate::specs::Import::with_graph))]
     pub fn import(&mut self, graph: &Graph) -> Result<Ref, GraphFault>
         ensures value { Gives (λ root. (root, self.new)) result (with_graph self.old graph.now) }
@@ -147,7 +152,8 @@ impl Builder {
         Ok(copied_ref(&table, graph.root()))
     }
 
-    /// Gives the frame n this value in its slot of this tag, where the slot stands, or in a new last slot. Another node stays as it is.
+    /// Gives the frame n this value in its slot of this tag, where the slot stands, or in a new
+    /// last slot. Another node stays as it is.
     #[tactic(auto, unfolding(crate::specs::Draft::with_set))]
     pub fn set(&mut self, n: u32, tag: u32, value: Ref) -> Result<(), GraphFault>
         requires { n < length self.old }
@@ -162,13 +168,14 @@ impl Builder {
         Ok(())
     }
 
-    /// The graph of what the root reaches, in the order of the walk. References lead to nodes, classes and tags to symbols, and the tags of a
-    /// frame are distinct.
+    /// The graph of what the root reaches, in the order of the walk. References lead to nodes,
+    /// classes and tags to symbols, and the tags of a frame are distinct.
     pub fn finish(self, root: Ref) -> Result<Graph, GraphFault>
         requires { IsJoined self root }
         ensures is_form { IfOk result (λ g. IsNormalForm (record { nodes = self; root = root }) g) }
         ensures value { Gives (λ g. g) result (normal_form (record { nodes = self; root = root })) }
-        ensures limit { IsErrOf result GraphFault.Limit → (g : RawGraph) → IsNormalForm (record { nodes = self; root = root }) g → ⊥ }
+        ensures limit { IsErrOf result GraphFault.Limit → (g : RawGraph)
+            → IsNormalForm (record { nodes = self; root = root }) g → ⊥ }
     {
         normal(self.alloc, self.nodes, root)
     }

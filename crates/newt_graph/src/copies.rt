@@ -132,7 +132,8 @@ pub(crate) fn copies(
     new: &[Node],
 ) -> Result<Vec<Node>, AllocError>
     requires { Knows names.now.numbers old.now }
-    ensures { IfOk result (λ v. v.items ≡ map (renamed (looked_up table.now)) (kept_of old.now new.now)) }
+    ensures { IfOk result (λ v. v.items ≡ map (renamed (looked_up table.now))
+        (kept_of old.now new.now)) }
 {
     let mut out = Vec::new(alloc);
     for node in new {

@@ -10,7 +10,8 @@ use std::collections::HashMap;
 
 /// Numbers of symbols by their names in lower case.
 ///
-/// A number is looked at before it is answered, so one that no longer leads to its symbol does no harm.
+/// A number is looked at before it is answered, so one that no longer leads to its symbol does no
+/// harm.
 #[derive(Drop)]
 pub(crate) struct Names {
     numbers: HashMap<Vec<u8>, u32>,

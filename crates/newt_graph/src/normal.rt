@@ -1,9 +1,11 @@
 //! The walk over nodes in any order.
-ghost use Rattle.std.specs.Prelude.{◌≡◌, ◌<◌, ◌+◌, ◌^◌, OnOk, IfOk, map, ◌-◌, nat_le, length, All, Some, None, if◌then◌else◌};
+ghost use Rattle.std.specs.Prelude.{◌≡◌, ◌<◌, ◌+◌, ◌^◌, OnOk, IfOk, map, ◌-◌, nat_le, length, All};
+ghost use Rattle.std.specs.Prelude.{Some, None, if◌then◌else◌};
 ghost use Rattle.std.specs.List.{sum_by};
 ghost use Rattle.newt_graph.specs.Graph.{payload, are_light};
 ghost use Rattle.newt_graph.specs.Raw.{renamed_ref, renamed_class, renamed, IsRaw, IsNormalForm};
-ghost use Rattle.newt_graph.specs.Meeting.{Gives, meet_label, meet_labels, meet_class, meet_each, meet, number, moved, Once, normal_form};
+ghost use Rattle.newt_graph.specs.Meeting.{Gives, meet_label, meet_labels, meet_class, meet_each};
+ghost use Rattle.newt_graph.specs.Meeting.{meet, number, moved, Once, normal_form};
 
 use crate::fault::GraphFault;
 use crate::graph::Graph;
@@ -46,7 +48,8 @@ fn class(seen: &mut Walker, class: Option<u32>) -> Result<(), AllocError>
 /// Meets values one after another.
 #[cycle(value)]
 fn each(seen: &mut Walker, nodes: &[Node], values: &[Ref], room: u8) -> Result<(), GraphFault>
-    ensures { Gives (λ done. seen.new) result (meet_each (λ seen value. meet nodes.now room seen value) seen.old values.now) }
+    ensures { Gives (λ done. seen.new) result
+        (meet_each (λ seen value. meet nodes.now room seen value) seen.old values.now) }
 {
     for one in values {
         value(seen, nodes, *one, room)?;
@@ -175,7 +178,8 @@ pub fn payload(node: &Node) -> usize
 
 /// How many of so many bytes the nodes leave. None where they have more.
 pub(crate) fn left(nodes: &[Node], most: usize) -> Option<usize>
-    ensures { result ≡ (if nat_le (sum_by payload nodes.now) most then Some (most - sum_by payload nodes.now) else None) }
+    ensures { result ≡ (if nat_le (sum_by payload nodes.now) most then Some
+        (most - sum_by payload nodes.now) else None) }
 {
     let mut left = most;
     for node in nodes {
@@ -200,8 +204,10 @@ pub fn are_light(nodes: &[Node]) -> bool
 pub(crate) fn normal(alloc: Global, nodes: Vec<Node>, root: Ref) -> Result<Graph, GraphFault>
     requires count { length nodes.items < 2 ^ 32 }
     requires raw { IsRaw (record { nodes = nodes.items; root = root }) }
-    ensures form { Gives (λ g. g) result (normal_form (record { nodes = nodes.items; root = root })) }
-    ensures is_form { IfOk result (λ g. IsNormalForm (record { nodes = nodes.items; root = root }) g) }
+    ensures form { Gives (λ g. g) result (normal_form (record
+        { nodes = nodes.items; root = root })) }
+    ensures is_form { IfOk result (λ g. IsNormalForm (record { nodes = nodes.items; root = root })
+        g) }
 {
     let mut seen = Walker::new(alloc, nodes.len() as u32)?;
     value(&mut seen, &nodes, root, MOST_OPEN)?;

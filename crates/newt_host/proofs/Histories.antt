@@ -2,7 +2,7 @@
 use Rattle.std.proofs.Common.{◌≡◌, ℕ, ◌+◌, ◌≤◌, Bool, true, false, cond, eqb, List, [], ◌∷◌, length, Option, Some, None, IsSome, refl, sym, ◌∙◌, ap, subst, arith}
 use Rattle.std.proofs.lemmas.Bool.Decides.{nat_tests}
 use Rattle.newt_host.specs.Meanings.{Begins}
-use Rattle.newt_host.specs.Moments.{Change, Attached, Wrote, Synced, On, Printed, Moment, bytes_after, LeftBy, changes, image, IsHistory, attached_at}
+use Rattle.newt_host.specs.Moments.{Change, Attached, Wrote, Synced, On, Printed, Took, Moment, bytes_after, LeftBy, changes, image, IsHistory, attached_at}
 use Rattle.newt_host.specs.Outside.{Outside, Attaches, printed}
 use Rattle.newt_host.proofs.Moments.{changes-same}
 use Rattle.newt_host.proofs.Ranges.{length-overwritten, same-overwritten}
@@ -45,6 +45,7 @@ history-attached size unit (On u (Attached bytes) ∷ before) h =
 history-attached size unit (On u (Wrote at now) ∷ before) h = history-attached size unit before (wrote_more (eqb u unit) size at now (changes unit before) h)
 history-attached size unit (On u Synced ∷ before) h = history-attached size unit before (synced_more (eqb u unit) size (changes unit before) h)
 history-attached size unit (Printed byte ∷ before) h = history-attached size unit before h
+history-attached size unit (Took bytes ∷ before) h = history-attached size unit before h
 
 no_change : (b : Bool) (change : Change) (before : List Change) → cond b (change ∷ before) before ≡ [] → (b ≡ false) × (before ≡ [])
 no_change true change before h = absurd (cc)
@@ -59,6 +60,7 @@ untouched-attached unit (On u (Attached bytes) ∷ before) none =
 untouched-attached unit (On u (Wrote at now) ∷ before) none = untouched-attached unit before (no_change (eqb u unit) (Wrote at now) (changes unit before) none).1
 untouched-attached unit (On u Synced ∷ before) none = untouched-attached unit before (no_change (eqb u unit) Synced (changes unit before) none).1
 untouched-attached unit (Printed byte ∷ before) none = untouched-attached unit before none
+untouched-attached unit (Took bytes ∷ before) none = untouched-attached unit before none
 
 one_or_other : (b : Bool) (n t : ℕ) (o : Option ℕ) (most : ℕ) → n ≤ most → (o ≡ Some t → t ≤ most) → cond b (Some n) o ≡ Some t → t ≤ most
 one_or_other true n t o most low else is = let same : n ≡ t = cc in omega (arith, same, low)
@@ -74,6 +76,7 @@ attached-early unit t (On u (Attached bytes) ∷ before) is =
 attached-early unit t (On u (Wrote at now) ∷ before) is = let low = attached-early unit t before is in omega (arith, low)
 attached-early unit t (On u Synced ∷ before) is = let low = attached-early unit t before is in omega (arith, low)
 attached-early unit t (Printed byte ∷ before) is = let low = attached-early unit t before is in omega (arith, low)
+attached-early unit t (Took bytes ∷ before) is = let low = attached-early unit t before is in omega (arith, low)
 
 pub attached-same : (unit : ℕ) (bytes : List ℕ) (m : Moment) → attached_at unit (On unit (Attached bytes) ∷ m) ≡ Some (length m + 1)
 attached-same unit bytes m = grind (arith, nat_tests)

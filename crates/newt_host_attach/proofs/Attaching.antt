@@ -6,7 +6,8 @@ use Rattle.std.proofs.lemmas.List.{get_or-set_same, get_or-set_other}
 use Rattle.std.proofs.lemmas.Option.{slice_get_past, slice_get-map, slice_get_read}
 use Rattle.newt_host.specs.Meanings.{known}
 use Rattle.newt_host.specs.Moments.{Attached, On, Moment, Change, Extends, changes, output}
-use Rattle.newt_host.specs.Outside.{Outside, Attaches, SameCards, SameCounts}
+use Rattle.newt_host.specs.Outside.{Outside, AttachCall, Attaches, SameCards, SameCounts}
+use Rattle.newt_host.proofs.Outside.{SameCounts-append, SameWork-refl}
 use Rattle.newt_host.proofs.Extending.{extends-refl, extends-trans}
 use Rattle.newt_host.proofs.Moments.{changes-same, changes-other}
 use Rattle.newt_host_attach.specs.Named.{AreDistinct, AreAttached, if_known}
@@ -41,7 +42,7 @@ attaching_start told names old free = record {
   input = refl;
   in_faults = refl;
   out_faults = refl;
-  counts = record { dev_faults = λ unit. refl; programmed = λ unit. refl; fetched = λ unit. refl };
+  counts = record { dev_faults = λ unit. refl; work = λ unit. SameWork-refl unit old };
 }
 
 -- no unit has the next name yet
@@ -57,19 +58,12 @@ equal_or_not a b = elim (cases_lt a b) [
   | inr le ↦ elim (cases_lt b a) [ inl more ↦ inr (λ e. absurd (omega (arith, more, e))) | inr same ↦ inl (omega (arith, le, same)) ]
 ]
 
-same_counts : {a b c : Outside} → SameCounts a b → SameCounts b c → SameCounts a c
-same_counts s t = record {
-  dev_faults = λ unit. t.dev_faults unit ∙ s.dev_faults unit;
-  programmed = λ unit. t.programmed unit ∙ s.programmed unit;
-  fetched = λ unit. t.fetched unit ∙ s.fetched unit;
-}
-
 not_known : (name : List ℕ) (o : Option (List ℕ)) → is_some o ≡ false → option_map (λ (bytes : List ℕ). name) o ≡ None
 not_known name None e = refl
 not_known name (Some bytes) e = absurd (cc)
 
 module _ (told : Bool) (names : List (List ℕ)) (done : ℕ) (old mid now : Outside) (name : List ℕ) (at : slice_get names done ≡ Some name) (a : Attaching told names done old mid)
-    (input : now.input ≡ mid.input) (in_faults : now.in_faults ≡ mid.in_faults) (out_faults : now.out_faults ≡ mid.out_faults) (counts : SameCounts mid now) where
+    (call : AttachCall mid now) where
   -- there is a device of the next name
   attaching_yes : (IsTrue told → changes done mid.now ≡ []) → Attaches told done name mid now → Attaching told names (done + 1) old now
   attaching_yes fresh fits = record {
@@ -80,10 +74,10 @@ module _ (told : Bool) (names : List (List ℕ)) (done : ℕ) (old mid now : Out
     begins = λ tells unit other is. begins tells unit other is (equal_or_not unit done);
     extends = λ tells. extends-trans (a.extends tells) (record { more = On done (Attached (fits.moment tells).0) ∷ []; is = (fits.moment tells).2 });
     quiet = λ tells. ap output (fits.moment tells).2 ∙ a.quiet tells;
-    input = input ∙ a.input;
-    in_faults = in_faults ∙ a.in_faults;
-    out_faults = out_faults ∙ a.out_faults;
-    counts = same_counts a.counts counts;
+    input = call.input ∙ a.input;
+    in_faults = call.in_faults ∙ a.in_faults;
+    out_faults = call.out_faults ∙ a.out_faults;
+    counts = SameCounts-append a.counts call.counts;
   }
     where
       named : (unit : ℕ) (other : List ℕ) → now.card unit ≡ Some other → unit ≡ done → name ≡ other
@@ -122,10 +116,10 @@ module _ (told : Bool) (names : List (List ℕ)) (done : ℕ) (old mid now : Out
     begins = λ tells unit other is. let was = a.begins tells unit other (sym (same.card unit) ∙ is) in (was.0, was.1, ap (λ (m : Moment). changes unit m) (moment tells) ∙ was.2);
     extends = λ tells. subst (λ (m : Moment). Extends old.now m) (sym (moment tells)) (a.extends tells);
     quiet = λ tells. ap output (moment tells) ∙ a.quiet tells;
-    input = input ∙ a.input;
-    in_faults = in_faults ∙ a.in_faults;
-    out_faults = out_faults ∙ a.out_faults;
-    counts = same_counts a.counts counts;
+    input = call.input ∙ a.input;
+    in_faults = call.in_faults ∙ a.in_faults;
+    out_faults = call.out_faults ∙ a.out_faults;
+    counts = SameCounts-append a.counts call.counts;
   }
     where
       cards : IsTrue told → (unit : ℕ) → unit < done + 1 → (unit ≡ done) ⊎ (unit ≢ done) → now.card unit ≡ if_known old (slice_get names unit)

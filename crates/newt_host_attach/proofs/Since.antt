@@ -2,7 +2,7 @@
 use Rattle.std.proofs.Common.{◌≡◌, inl, inr, ℕ, suc, ◌+◌, ◌-◌, ◌<◌, ◌≤◌, Bool, true, false, cond, eqb, List, [], ◌∷◌, ◌++◌, length, drop, Option, Some, None, sym, ◌∙◌, ap, subst, arith}
 use Rattle.std.proofs.lemmas.Bool.{cases_lt}
 use Rattle.std.proofs.lemmas.List.{length-append}
-use Rattle.newt_host.specs.Moments.{Event, On, Printed, Change, Attached, Wrote, Synced, Moment, Extends, IsHistory, changes, output, attached_at, moment_at}
+use Rattle.newt_host.specs.Moments.{Event, On, Printed, Took, Change, Attached, Wrote, Synced, Moment, Extends, IsHistory, changes, output, attached_at, moment_at}
 use Rattle.newt_host.proofs.Extending.{moment-stays}
 use Rattle.newt_host.proofs.Histories.{untouched-attached}
 
@@ -50,6 +50,10 @@ only_attached unit t k bytes (Printed byte ∷ before) only at from to = elim (c
   | inl late ↦ ap (λ (m : Moment). changes unit m) (whole_moment (Printed byte ∷ before) k (omega (arith, late))) ∙ only
   | inr early ↦ ap (λ (m : Moment). changes unit m) (step_moment (Printed byte) before k early) ∙ only_attached unit t k bytes before only at from early
 ]
+only_attached unit t k bytes (Took got ∷ before) only at from to = elim (cases_lt (length before) k) [
+  | inl late ↦ ap (λ (m : Moment). changes unit m) (whole_moment (Took got ∷ before) k (omega (arith, late))) ∙ only
+  | inr early ↦ ap (λ (m : Moment). changes unit m) (step_moment (Took got) before k early) ∙ only_attached unit t k bytes before only at from early
+]
 
 -- ---- it is attached once
 
@@ -61,6 +65,7 @@ longer unit (On u change ∷ more) mid = both (eqb u unit) (longer unit more mid
     both true le = omega (arith, le)
     both false le = le
 longer unit (Printed byte ∷ more) mid = longer unit more mid
+longer unit (Took got ∷ more) mid = longer unit more mid
 
 history_wrote : (b : Bool) (size at : ℕ) (now : List ℕ) (cs : List Change) → IsHistory size (cond b (Wrote at now ∷ cs) cs) → IsHistory size cs
 history_wrote true size at now cs h = h.0
@@ -83,6 +88,7 @@ attached_once unit size t (On u (Attached bytes) ∷ more) mid some h at =
 attached_once unit size t (On u (Wrote place now) ∷ more) mid some h at = attached_once unit size t more mid some (history_wrote (eqb u unit) size place now (changes unit (more ++ mid)) h) at
 attached_once unit size t (On u Synced ∷ more) mid some h at = attached_once unit size t more mid some (history_synced (eqb u unit) size (changes unit (more ++ mid)) h) at
 attached_once unit size t (Printed byte ∷ more) mid some h at = attached_once unit size t more mid some h at
+attached_once unit size t (Took got ∷ more) mid some h at = attached_once unit size t more mid some h at
 
 -- ---- and not before
 
@@ -97,6 +103,7 @@ attached_after unit t (On u (Attached bytes) ∷ more) old none at =
 attached_after unit t (On u (Wrote place now) ∷ more) old none at = attached_after unit t more old none at
 attached_after unit t (On u Synced ∷ more) old none at = attached_after unit t more old none at
 attached_after unit t (Printed byte ∷ more) old none at = attached_after unit t more old none at
+attached_after unit t (Took got ∷ more) old none at = attached_after unit t more old none at
 
 -- ---- where nothing was printed
 
@@ -104,12 +111,17 @@ no_less : (more old : Moment) → length (output old) ≤ length (output (more +
 no_less [] old = omega arith
 no_less (On u change ∷ more) old = no_less more old
 no_less (Printed byte ∷ more) old = omega (arith, no_less more old, length-append (output (more ++ old)) (byte ∷ []))
+no_less (Took got ∷ more) old = no_less more old
 
 quiet_at : (k : ℕ) (more old : Moment) → output (more ++ old) ≡ output old → length old ≤ k → k ≤ length (more ++ old) → output (moment_at k (more ++ old)) ≡ output old
 quiet_at k [] old same from to = ap output (whole_moment old k from)
 quiet_at k (On u change ∷ more) old same from to = elim (cases_lt (length (more ++ old)) k) [
   | inl late ↦ ap output (whole_moment (On u change ∷ (more ++ old)) k (omega (arith, late))) ∙ same
   | inr early ↦ ap output (step_moment (On u change) (more ++ old) k early) ∙ quiet_at k more old same from early
+]
+quiet_at k (Took got ∷ more) old same from to = elim (cases_lt (length (more ++ old)) k) [
+  | inl late ↦ ap output (whole_moment (Took got ∷ (more ++ old)) k (omega (arith, late))) ∙ same
+  | inr early ↦ ap output (step_moment (Took got) (more ++ old) k early) ∙ quiet_at k more old same from early
 ]
 quiet_at k (Printed byte ∷ more) old same from to =
     absurd (omega (arith, no_less more old, length-append (output (more ++ old)) (byte ∷ []), ap length same))

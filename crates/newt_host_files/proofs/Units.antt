@@ -1,10 +1,10 @@
 -- One unit of several changes.
-use Rattle.std.proofs.Common.{◌≡◌, ◌≢◌, ℕ, zero, suc, ◌<◌, ◌≤◌, Bool, true, false, cond, List, [], ◌∷◌, length, get_or, Option, Some, None, IsSome, Result, OnErr, slice_get, slice_set, refl, sym, ◌∙◌, ap, subst, arith}
+use Rattle.std.proofs.Common.{◌≡◌, ◌≢◌, ℕ, zero, suc, ◌+◌, ◌<◌, ◌≤◌, Bool, true, false, cond, List, [], ◌∷◌, length, get_or, Option, Some, None, IsSome, Result, slice_get, slice_set, refl, sym, ◌∙◌, ap, subst, arith}
 use Rattle.std.proofs.lemmas.Bool.{false≢true}
 use Rattle.std.proofs.lemmas.Option.{get_or_from_slice_get}
 use Rattle.std.proofs.Math.ListN.{length-set}
-use Rattle.newt_host.specs.Outside.{Attaches, Rose, SameCounts, Touches, Spends, NeverFalls}
-use Rattle.newt_host_files.specs.Cards.{OnCard, name_of, blocks_of, faults_of, programmed_of, fetched_of}
+use Rattle.newt_host.specs.Outside.{AttachCall, Attaches, Counted, SameCards, SameCounts, Touches, UnitCall, Work}
+use Rattle.newt_host_files.specs.Cards.{OnCard, SameCard, name_of, blocks_of, faults_of, programmed_of, fetched_of, erased_of, synced_of}
 use Rattle.newt_host_files.specs.Laws.{untold}
 use Rattle.newt_host_files.specs.Outside.{told_by}
 use Rattle.newt_host_files.specs.declared.card.Card.{Card}
@@ -69,11 +69,19 @@ module _ (cards : List Card) (i unit : ℕ) (b c : Card) (same : i ≡ unit) (is
   elsewhere : {A : Type 0} (g : Option Card → A) (u : ℕ) → u ≢ unit → g (slice_get (slice_set cards i c) u) ≡ g (slice_get cards u)
   elsewhere g u other = ap g (get-set-other cards i u c (λ e. other (e ∙ same)))
 
-  module _ {p f : ℕ} (on : OnCard p f b c) (in_faults out_faults : ℕ) where
-    faults-at : faults_of (slice_get cards unit) ≤ faults_of (slice_get (slice_set cards i c) unit)
-    faults-at = omega (arith, on.faults, ap faults_of at-old, ap faults_of at-new)
+  -- a count of the unit that is one of the card
+  count-later : (g : Option Card → ℕ) → g (Some b) ≤ g (Some c) → g (slice_get cards unit) ≤ g (slice_get (slice_set cards i c) unit)
+  count-later g later = omega (arith, later, ap g at-old, ap g at-new)
 
-    pub touches : Touches unit (told_by cards in_faults out_faults) (told_by (slice_set cards i c) in_faults out_faults)
+  count-most : (g : Option Card → ℕ) (more : ℕ) → g (Some c) ≤ g (Some b) + more → g (slice_get (slice_set cards i c) unit) ≤ g (slice_get cards unit) + more
+  count-most g more most = omega (arith, most, ap g at-old, ap g at-new)
+
+  faults-at : {T E : Type 0} (r : Result T E) → Counted r b.faults c.faults → Counted r (faults_of (slice_get cards unit)) (faults_of (slice_get (slice_set cards i c) unit))
+  faults-at r counted = subst (λ (o : Option Card). Counted r (faults_of o) (faults_of (slice_get (slice_set cards i c) unit))) (sym at-old)
+      (subst (λ (o : Option Card). Counted r b.faults (faults_of o)) (sym at-new) counted)
+
+  module _ {work : Work} (on : OnCard work b c) (in_faults out_faults : ℕ) where
+    touches : Touches unit (told_by cards in_faults out_faults) (told_by (slice_set cards i c) in_faults out_faults)
     touches = record {
       input = refl;
       cards = record {
@@ -84,26 +92,35 @@ module _ (cards : List Card) (i unit : ℕ) (b c : Card) (same : i ≡ unit) (is
       in_faults = refl;
       out_faults = refl;
       dev_faults = λ u other. elsewhere faults_of u other;
-      programmed = λ u other. elsewhere programmed_of u other;
-      fetched = λ u other. elsewhere fetched_of u other;
-      faults_later = faults-at;
+      others = λ u other. record {
+        programmed = elsewhere programmed_of u other;
+        fetched = elsewhere fetched_of u other;
+        erased = elsewhere erased_of u other;
+        synced = elsewhere synced_of u other;
+      };
+      faults_later = count-later faults_of on.faults;
+      later = record {
+        programmed = count-later programmed_of on.programmed;
+        fetched = count-later fetched_of on.fetched;
+        erased = count-later erased_of on.erased;
+        synced = count-later synced_of on.synced;
+      };
     }
 
-    pub spends : Spends unit p f (told_by cards in_faults out_faults) (told_by (slice_set cards i c) in_faults out_faults)
-    spends = record {
-      programmed = omega (arith, on.programmed_most, ap programmed_of at-old, ap programmed_of at-new);
-      fetched = omega (arith, on.fetched_most, ap fetched_of at-old, ap fetched_of at-new);
+    -- what every call on a unit promises
+    pub unit-call : {T E : Type 0} (r : Result T E) → Counted r b.faults c.faults → UnitCall unit work r (told_by cards in_faults out_faults) (told_by (slice_set cards i c) in_faults out_faults)
+    unit-call r counted = record {
+      alone = touches;
+      costs = record {
+        programmed = count-most programmed_of work.programs on.programmed_most;
+        fetched = count-most fetched_of work.fetches on.fetched_most;
+      };
+      wears = record {
+        erased = count-most erased_of work.erases on.erased_most;
+        synced = count-most synced_of work.syncs on.synced_most;
+      };
+      faults = faults-at r counted;
     }
-
-    pub never_falls : NeverFalls unit (told_by cards in_faults out_faults) (told_by (slice_set cards i c) in_faults out_faults)
-    never_falls = record {
-      programmed = omega (arith, on.programmed, ap programmed_of at-old, ap programmed_of at-new);
-      fetched = omega (arith, on.fetched, ap fetched_of at-old, ap fetched_of at-new);
-    }
-
-  pub cause-at : {T E : Type 0} (r : Result T E) → OnErr r (Rose b.faults c.faults) → OnErr r (Rose (faults_of (slice_get cards unit)) (faults_of (slice_get (slice_set cards i c) unit)))
-  cause-at r cause = subst (λ (o : Option Card). OnErr r (Rose (faults_of o) (faults_of (slice_get (slice_set cards i c) unit)))) (sym at-old)
-      (subst (λ (o : Option Card). OnErr r (Rose b.faults (faults_of o))) (sym at-new) cause)
 
   module _ (name : List ℕ) (attached : c.attached ≡ true) (named : c.name.items ≡ name) (in_faults out_faults : ℕ) where
     pub attaches : Attaches false unit name (told_by cards in_faults out_faults) (told_by (slice_set cards i c) in_faults out_faults)
@@ -115,9 +132,25 @@ module _ (cards : List Card) (i unit : ℕ) (b c : Card) (same : i ≡ unit) (is
       moment = λ told. untold told;
     }
 
-    pub same_counts : c.faults ≡ b.faults → c.programmed ≡ b.programmed → c.fetched ≡ b.fetched → SameCounts (told_by cards in_faults out_faults) (told_by (slice_set cards i c) in_faults out_faults)
-    same_counts faults programmed fetched = record {
-      dev_faults = λ u. same-field faults_of b c faults cards i is u;
-      programmed = λ u. same-field programmed_of b c programmed cards i is u;
-      fetched = λ u. same-field fetched_of b c fetched cards i is u;
+    pub attach_call : SameCard b c → AttachCall (told_by cards in_faults out_faults) (told_by (slice_set cards i c) in_faults out_faults)
+    attach_call same = record {
+      input = refl;
+      counts = record {
+        dev_faults = λ u. same-field faults_of b c same.faults cards i is u;
+        work = λ u. record {
+          programmed = same-field programmed_of b c same.programmed cards i is u;
+          fetched = same-field fetched_of b c same.fetched cards i is u;
+          erased = same-field erased_of b c same.erased cards i is u;
+          synced = same-field synced_of b c same.synced cards i is u;
+        };
+      };
+      in_faults = refl;
+      out_faults = refl;
     }
+
+-- where no card changes
+pub same-cards : (cards : List Card) {i j o p : ℕ} → SameCards (told_by cards i o) (told_by cards j p)
+same-cards cards = record { devices = λ name. refl; card = λ u. refl; blocks = λ u. refl }
+
+pub same-counts : (cards : List Card) {i j o p : ℕ} → SameCounts (told_by cards i o) (told_by cards j p)
+same-counts cards = record { dev_faults = λ u. refl; work = λ u. record { programmed = refl; fetched = refl; erased = refl; synced = refl } }

@@ -1,5 +1,6 @@
 -- What the units tell.
 use Rattle.std.specs.Prelude.{◌≡◌, ℕ, ◌+◌, ◌≤◌, cond, List, Option, Some, None}
+use Rattle.newt_host.specs.Outside.{Work}
 use Rattle.newt_host_files.specs.declared.card.Card.{Card}
 
 -- the name of the file of a unit, where it has one
@@ -27,13 +28,36 @@ abbrev pub fetched_of : Option Card → ℕ
 fetched_of None = 0
 fetched_of (Some c) = c.fetched
 
--- a call on a unit leaves its file, and its counts do not fall
-pub record OnCard (programs fetches : ℕ) (old new : Card) : Type 0 where
+-- how many blocks it was to erase, 0 where there is no unit
+abbrev pub erased_of : Option Card → ℕ
+erased_of None = 0
+erased_of (Some c) = c.erased
+
+-- how often it was to be synced, 0 where there is no unit
+abbrev pub synced_of : Option Card → ℕ
+synced_of None = 0
+synced_of (Some c) = c.synced
+
+-- A call on a unit leaves its file. No count falls, and none rises by more than what was to be
+-- done.
+pub record OnCard (work : Work) (old new : Card) : Type 0 where
   pub attached : new.attached ≡ old.attached
   pub name : new.name.items ≡ old.name.items
   pub blocks : new.blocks ≡ old.blocks
   pub faults : old.faults ≤ new.faults
   pub programmed : old.programmed ≤ new.programmed
-  pub programmed_most : new.programmed ≤ old.programmed + programs
+  pub programmed_most : new.programmed ≤ old.programmed + work.programs
   pub fetched : old.fetched ≤ new.fetched
-  pub fetched_most : new.fetched ≤ old.fetched + fetches
+  pub fetched_most : new.fetched ≤ old.fetched + work.fetches
+  pub erased : old.erased ≤ new.erased
+  pub erased_most : new.erased ≤ old.erased + work.erases
+  pub synced : old.synced ≤ new.synced
+  pub synced_most : new.synced ≤ old.synced + work.syncs
+
+-- the counts are as they were
+pub record SameCard (old new : Card) : Type 0 where
+  pub faults : new.faults ≡ old.faults
+  pub programmed : new.programmed ≡ old.programmed
+  pub fetched : new.fetched ≡ old.fetched
+  pub erased : new.erased ≡ old.erased
+  pub synced : new.synced ≡ old.synced

@@ -4,8 +4,9 @@ ghost use Rattle.newt_host.specs.Outside.{Rose};
 
 use std::alloc::Global;
 
-/// A unit: the name of its file, its whole blocks of 4,096 bytes, and its counts: of faults, and of bytes that it was to program and to fetch. Without a
-/// file it has no blocks.
+/// A unit: the name of its file, its whole blocks of 4,096 bytes, and its counts: of faults, of
+/// bytes that it was to program and to fetch, of blocks that it was to erase, and of syncs. Without
+/// a file it has no blocks.
 #[derive(Drop)]
 pub(crate) struct Card {
     pub attached: bool,
@@ -14,6 +15,8 @@ pub(crate) struct Card {
     pub faults: u64,
     pub programmed: u64,
     pub fetched: u64,
+    pub erased: u64,
+    pub synced: u64,
     ghost free: { attached ≡ false → blocks ≡ 0 },
     ghost few: { blocks < 2 ^ 32 },
 }
@@ -30,6 +33,8 @@ impl Card {
             faults: 0,
             programmed: 0,
             fetched: 0,
+            erased: 0,
+            synced: 0,
         }
     }
 }

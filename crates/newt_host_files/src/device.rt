@@ -1,5 +1,6 @@
 //! The file of a unit.
 ghost use Rattle.std.specs.Prelude.{◌≡◌, true};
+ghost use Rattle.newt_host_files.specs.Cards.{SameCard};
 
 use crate::card::Card;
 use newt_host::Unit;
@@ -7,8 +8,8 @@ use std::fs::{OpenFile, OpenOptions};
 use std::os::unix::fs::FileExt;
 use std::rt::Files;
 
-/// Opens a file for reading and writing and syncs it, and answers it with the number of its whole blocks of 4,096 bytes, at most `u32::MAX`. None where
-/// the system refuses one of these.
+/// Opens a file for reading and writing and syncs it, and answers it with the number of its whole
+/// blocks of 4,096 bytes, at most `u32::MAX`. None where the system refuses one of these.
 pub(crate) fn open<S: Files>(system: &S, name: &str) -> Option<(S::File, u32)> {
     let file = OpenOptions::new()
         .read(true)
@@ -65,9 +66,7 @@ pub(crate) fn sync<F: OpenFile>(files: &[Option<F>], unit: Unit) -> bool {
 pub(crate) fn attach(card: &mut Card, name: Vec<u8>, blocks: u32)
     ensures attached { card.new.attached ≡ true }
     ensures name { card.new.name.items ≡ name.items }
-    ensures faults { card.new.faults ≡ card.old.faults }
-    ensures programmed { card.new.programmed ≡ card.old.programmed }
-    ensures fetched { card.new.fetched ≡ card.old.fetched }
+    ensures counts { SameCard card.old card.new }
 {
     *card = Card {
         attached: true,
@@ -76,5 +75,7 @@ pub(crate) fn attach(card: &mut Card, name: Vec<u8>, blocks: u32)
         faults: card.faults,
         programmed: card.programmed,
         fetched: card.fetched,
+        erased: card.erased,
+        synced: card.synced,
     };
 }

@@ -137,12 +137,12 @@ where
     fn erase(&mut self, unit: Unit, block: u32) -> Result<(), Failed> {
         let done = device::put(&self.files, unit, 4096 * block as u64, &[255; 4096]);
         let card = &mut self.cards[unit.0 as usize];
-        counts::touched(card, done)
+        counts::erased(card, done)
     }
 
     fn sync(&mut self, unit: Unit) -> Result<(), Failed> {
         let done = device::sync(&self.files, unit);
         let card = &mut self.cards[unit.0 as usize];
-        counts::touched(card, done)
+        counts::synced(card, done)
     }
 }

@@ -1,5 +1,5 @@
 -- An index as a sorted list of keys with the ids of their entries.
-use Rattle.std.specs.Prelude.{◌≡◌, ◌<◌, ◌^◌, ℕ, not, ◌==◌, List, [], ◌∷◌, filter, Option, Some, None, cond, All}
+use Rattle.std.specs.Prelude.{◌≡◌, ◌<◌, ◌^◌, ℕ, not, ◌==◌, List, [], ◌∷◌, filter, Option, Some, None, cond, All, unwrap_or}
 use Rattle.std.specs.declared.cmp.Ordering.{Ordering}
 use Rattle.std.specs.declared.cmp.Ordering.TheVariants.{Less}
 use Rattle.std.specs.Ordering.{nat_cmp, ordering_then, match_ordering, is_lt, is_eq, is_gt}
@@ -13,8 +13,7 @@ Pair = Key × ℕ
 
 -- the parts of a declaration; with none every key is empty (this project's own)
 abbrev pub parts_of : Option IndexSpec → IndexSpec
-parts_of None = []
-parts_of (Some spec) = spec
+parts_of spec = unwrap_or spec []
 
 -- the order of pairs: by key, and then by id (this project's own)
 abbrev pub pair_cmp : IndexSpec → Pair → Pair → Ordering

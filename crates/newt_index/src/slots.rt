@@ -1,5 +1,6 @@
 //! Keys by their slots, and the slot of each id, so that an id finds its pair without a walk.
-ghost use Rattle.std.specs.Prelude.{◌≡◌, ◌==◌, List, [], not, map, filter, option_map, IfOk, OnOk, OnErr};
+ghost use Rattle.std.specs.Prelude.{◌≡◌, ◌==◌, List, [], not, map, filter, option_map, IfOk, OnOk};
+ghost use Rattle.std.specs.Prelude.{OnErr};
 ghost use Rattle.std.specs.BTreeMap.{insert_entry, is_at};
 ghost use Rattle.std.specs.Map.{remove_entry};
 ghost use Rattle.newt_index.specs.Pairs.{key_at};
@@ -12,7 +13,8 @@ use std::alloc::{AllocError, Global};
 use std::collections::BTreeMap;
 use std::marker::Model;
 
-/// The slot of each id, so that an id finds its pair without a walk. None once an id has been given two.
+/// The slot of each id, so that an id finds its pair without a walk. None once an id has been given
+/// two.
 type Notes = Option<BTreeMap<u32, Slot>>;
 
 /// Keys by their slots.

@@ -2,7 +2,8 @@
 ghost use Rattle.std.specs.Prelude.{◌≡◌, ◌==◌, [], not, filter, IfOk, IfErr, length, option_map};
 ghost use Rattle.newt_keys.specs.KeyForm.{IsKeyOf};
 ghost use Rattle.newt_spec_store.specs.Keys as keys;
-ghost use Rattle.newt_index.specs.Pairs.{Sorted, parts_of, with_pair, removed, first, last, key_at, IsSorted};
+ghost use Rattle.newt_index.specs.Pairs.{Sorted, parts_of, with_pair, removed, first, last, key_at};
+ghost use Rattle.newt_index.specs.Pairs.{IsSorted};
 ghost use Rattle.newt_index.specs.Pairs as pairs;
 ghost use Rattle.newt_index.specs.Kept.{IsProbeOf, shown, lent};
 
@@ -14,7 +15,8 @@ use std::alloc::{AllocError, Global};
 use std::marker::Model;
 use std::ops::Bound;
 
-/// An index: pairs of a key and an id, which rise by key and then by id. With no declaration every key is empty.
+/// An index: pairs of a key and an id, which rise by key and then by id. With no declaration every
+/// key is empty.
 #[derive(Drop)]
 pub struct Index {
     spec: Option<IndexSpec>,
@@ -49,7 +51,8 @@ impl Index {
     /// Adds a pair. Where it is there nothing changes.
     pub fn add(&mut self, key: Key, uid: Uid) -> Result<(), AllocError>
         requires { IsKeyOf (parts_of self.old.spec) key }
-        ensures ok { IfOk result (λ _. self.new ≡ record self.old { pairs = with_pair (parts_of self.old.spec) self.old.pairs (key, uid) }) }
+        ensures ok { IfOk result (λ _. self.new ≡ record self.old
+            { pairs = with_pair (parts_of self.old.spec) self.old.pairs (key, uid) }) }
         ensures err { IfErr result (λ _. self.new ≡ self.old) }
     {
         let slot = slot_of(self.alloc, &self.spec, &key, uid)?;
@@ -60,7 +63,8 @@ impl Index {
     /// Removes a pair. Where it is not there nothing changes.
     pub fn remove(&mut self, key: &Key, uid: Uid) -> Result<(), AllocError>
         requires { IsKeyOf (parts_of self.old.spec) key.now }
-        ensures ok { IfOk result (λ _. self.new ≡ record self.old { pairs = removed (parts_of self.old.spec) self.old.pairs (key.now, uid) }) }
+        ensures ok { IfOk result (λ _. self.new ≡ record self.old
+            { pairs = removed (parts_of self.old.spec) self.old.pairs (key.now, uid) }) }
         ensures err { IfErr result (λ _. self.new ≡ self.old) }
     {
         let slot = slot_of(self.alloc, &self.spec, key, uid)?;
@@ -70,7 +74,10 @@ impl Index {
 
     /// Removes all pairs of an id. It takes no memory.
     pub fn forget(&mut self, uid: Uid)
-        ensures { self.new ≡ record self.old { pairs = filter (λ q. not (q.1 == uid)) self.old.pairs } }
+        ensures { self.new ≡ record self.old {
+          pairs = filter (λ q. not (q.1 == uid))
+              self.old.pairs;
+        } }
     {
         self.slots.remove_id(uid.0);
     }
@@ -91,9 +98,12 @@ impl Index {
         pair(self.slots.keys().iter().next_back())
     }
 
-    /// The least pair after the probe's key with this id. The probe was made for a key of the index's declaration; its key bytes stay.
+    /// The least pair after the probe's key with this id. The probe was made for a key of the
+    /// index's declaration; its key bytes stay.
     pub fn after(&self, probe: &mut Probe, uid: Uid) -> Option<(&Key, Uid)>
-        ensures found { (key : keys.Key) → IsProbeOf self.now.spec key probe.old → option_map shown result ≡ pairs.after (parts_of self.now.spec) self.now.pairs (key, uid) }
+        ensures found { (key : keys.Key) → IsProbeOf self.now.spec key probe.old
+            → option_map shown result ≡ pairs.after (parts_of self.now.spec) self.now.pairs
+            (key, uid) }
         ensures kept { probe.new ≡ probe.old }
         ensures sorted { IsSorted self.now }
     {
@@ -108,7 +118,9 @@ impl Index {
 
     /// The greatest pair before the probe's key with this id. The condition is the same.
     pub fn before(&self, probe: &mut Probe, uid: Uid) -> Option<(&Key, Uid)>
-        ensures found { (key : keys.Key) → IsProbeOf self.now.spec key probe.old → option_map shown result ≡ pairs.before (parts_of self.now.spec) self.now.pairs (key, uid) }
+        ensures found { (key : keys.Key) → IsProbeOf self.now.spec key probe.old
+            → option_map shown result ≡ pairs.before (parts_of self.now.spec) self.now.pairs
+            (key, uid) }
         ensures kept { probe.new ≡ probe.old }
         ensures sorted { IsSorted self.now }
     {
@@ -123,7 +135,9 @@ impl Index {
 
     /// The first pair whose key is not before the probe's. The condition is the same.
     pub fn at_or_after(&self, probe: &mut Probe) -> Option<(&Key, Uid)>
-        ensures found { (key : keys.Key) → IsProbeOf self.now.spec key probe.old → option_map shown result ≡ pairs.at_or_after (parts_of self.now.spec) self.now.pairs key }
+        ensures found { (key : keys.Key) → IsProbeOf self.now.spec key probe.old
+            → option_map shown result ≡ pairs.at_or_after (parts_of self.now.spec) self.now.pairs
+            key }
         ensures kept { probe.new ≡ probe.old }
         ensures sorted { IsSorted self.now }
     {
@@ -138,7 +152,9 @@ impl Index {
 
     /// The last pair whose key is not after the probe's. The condition is the same.
     pub fn at_or_before(&self, probe: &mut Probe) -> Option<(&Key, Uid)>
-        ensures found { (key : keys.Key) → IsProbeOf self.now.spec key probe.old → option_map shown result ≡ pairs.at_or_before (parts_of self.now.spec) self.now.pairs key }
+        ensures found { (key : keys.Key) → IsProbeOf self.now.spec key probe.old
+            → option_map shown result ≡ pairs.at_or_before (parts_of self.now.spec) self.now.pairs
+            key }
         ensures kept { probe.new ≡ probe.old }
         ensures sorted { IsSorted self.now }
     {

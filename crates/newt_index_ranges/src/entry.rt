@@ -4,12 +4,13 @@ ghost use Rattle.newt_index_ranges.specs.Rows.{with_entry, has_paths, carries};
 
 use newt_base::Uid;
 use newt_graph::Graph;
-use newt_index::{Index, key_in};
-use newt_keys::IndexSpec;
+use newt_index::Index;
+use newt_keys::{IndexSpec, key_in};
 use newt_path::Path;
 use std::alloc::AllocError;
 
-/// Adds an entry to a range: its id with the key of its graph. Where the graph has no key nothing changes. After an error nothing has changed.
+/// Adds an entry to a range: its id with the key of its graph. Where the graph has no key nothing
+/// changes. After an error nothing has changed.
 pub fn add_entry(range: &mut Index, uid: Uid, graph: &Graph) -> Result<(), AllocError>
     ensures ok { OnOk result (range.new ≡ with_entry uid graph.now range.old) }
     ensures err { OnErr result (range.new ≡ range.old) }

@@ -1,8 +1,10 @@
 //! The ranges of a soup by its declarations.
-ghost use Rattle.std.specs.Prelude.{◌≡◌, [], ◌∷◌, ◌++◌, not, map, filter, Some, option_map, IfSome, IfOk, OnOk, OnErr};
+ghost use Rattle.std.specs.Prelude.{◌≡◌, [], ◌∷◌, ◌++◌, not, map, filter, Some, option_map, IfSome};
+ghost use Rattle.std.specs.Prelude.{IfOk, OnOk, OnErr};
 ghost use Rattle.std.specs.List.{find};
 ghost use Rattle.newt_index.specs.Pairs.{IsSorted};
-ghost use Rattle.newt_index_ranges.specs.Rows.{no_pairs, with_entry, without_entry, has_paths, carries};
+ghost use Rattle.newt_index_ranges.specs.Rows.{no_pairs, with_entry, without_entry, has_paths};
+ghost use Rattle.newt_index_ranges.specs.Rows.{carries};
 
 use crate::entry::{add_entry, carries, has_paths};
 use newt_base::Uid;

@@ -1,11 +1,14 @@
 //! The ranges of all soups of a store.
-ghost use Rattle.std.specs.Prelude.{◌≡◌, ◌==◌, ◌<◌, [], ◌∷◌, ◌++◌, not, length, option_map, IfSome, IsTrue, OnOk, OnErr};
+ghost use Rattle.std.specs.Prelude.{◌≡◌, ◌==◌, ◌<◌, [], ◌∷◌, ◌++◌, not, length, option_map, IfSome};
+ghost use Rattle.std.specs.Prelude.{IsTrue, OnOk, OnErr};
 ghost use Rattle.std.specs.List.{position_from};
 ghost use Rattle.newt_index.specs.Pairs.{IsSorted};
 ghost use Rattle.newt_spec_store.specs.Store.{Store};
 ghost use Rattle.newt_spec_store.specs.Valid.{well_formed};
 ghost use Rattle.newt_index_ranges.specs.Range.{range_in};
-ghost use Rattle.newt_index_ranges.specs.Rows.{no_ranges, with_entry, without_entry, each_range, with_range, without_range, change_ranges, drop_ranges, range_found};
+ghost use Rattle.newt_index_ranges.specs.Rows.{no_ranges, with_entry, without_entry, each_range};
+ghost use Rattle.newt_index_ranges.specs.Rows.{with_range, without_range, change_ranges};
+ghost use Rattle.newt_index_ranges.specs.Rows.{drop_ranges, range_found};
 ghost use Rattle.newt_index_ranges.specs.Stands.{AreRangesOf};
 
 use crate::rows::SoupRanges;
@@ -17,8 +20,9 @@ use newt_path::Path;
 use std::alloc::{AllocError, Global};
 use std::marker::Model;
 
-/// The ranges of a store's soups, in order of making. A call that fails for want of memory may leave some ranges changed and others not: the ranges are
-/// then spent, unless the call says otherwise. A call for a soup that is not there changes nothing.
+/// The ranges of a store's soups, in order of making. A call that fails when out of memory may
+/// leave some ranges changed and others not: the ranges are then spent, unless the call says
+/// otherwise. A call for a soup that is not there changes nothing.
 #[derive(Drop)]
 pub struct Ranges {
     soups: Vec<SoupRanges>,
@@ -43,17 +47,22 @@ impl Ranges {
         }
     }
 
-    /// The sorted list of exactly the entries of a soup that have a key: by a declaration that agrees with this one, or with none of all entries by id.
-    /// None exactly where the soup is not there or does not carry the declaration. It takes no memory.
+    /// The sorted list of exactly the entries of a soup that have a key: by a declaration that
+    /// agrees with this one, or with none of all entries by id. None exactly where the soup is not
+    /// there or does not carry the declaration. It takes no memory.
     pub fn range_of(&self, soup: Sig, spec: Option<&IndexSpec>) -> Option<&Index>
-        ensures found { option_map (λ v. v.now) result ≡ range_found soup (option_map (λ s. s.now) spec.entry) self.now }
+        ensures found { option_map (λ v. v.now) result
+            ≡ range_found soup (option_map (λ s. s.now) spec.entry) self.now }
         ensures sorted { IfSome result (λ v. IsSorted v.now) }
-        ensures stands { (s : Store) → IsTrue (well_formed s) → AreRangesOf s self.now → option_map (λ v. v.now) result ≡ range_in soup (option_map (λ s. s.now) spec.entry) s }
+        ensures stands { (s : Store) → IsTrue (well_formed s) → AreRangesOf s self.now
+            → option_map (λ v. v.now) result ≡ range_in soup (option_map (λ s. s.now) spec.entry)
+            s }
     {
         find_in(&self.soups, soup, spec)
     }
 
-    /// A soup more at the end, of these declarations and without entries; a new soup has none. After an error nothing has changed.
+    /// A soup more at the end, of these declarations and without entries; a new soup has none.
+    /// After an error nothing has changed.
     pub fn make_soup(&mut self, soup: Sig, specs: &[IndexSpec]) -> Result<(), AllocError>
         ensures ok { OnOk result (self.new ≡ self.old ++ no_ranges soup specs.now ∷ []) }
         ensures err { OnErr result (self.new ≡ self.old) }
@@ -70,9 +79,11 @@ impl Ranges {
         keep_others(&mut self.soups, soup);
     }
 
-    /// An entry more in a soup, of an id that none of its entries has. Entries may be added in any order.
+    /// An entry more in a soup, of an id that none of its entries has. Entries may be added in any
+    /// order.
     pub fn add(&mut self, soup: Sig, uid: Uid, graph: &Graph) -> Result<(), AllocError>
-        ensures { OnOk result (self.new ≡ change_ranges soup (each_range (with_entry uid graph.now)) self.old) }
+        ensures { OnOk result (self.new ≡ change_ranges soup (each_range (with_entry uid graph.now))
+            self.old) }
     {
         add_in(self.soups.as_mut_slice(), soup, uid, graph)
     }
@@ -86,12 +97,14 @@ impl Ranges {
 
     /// An entry of a soup with another graph.
     pub fn replace(&mut self, soup: Sig, uid: Uid, graph: &Graph) -> Result<(), AllocError>
-        ensures { OnOk result (self.new ≡ change_ranges soup (each_range (λ v. with_entry uid graph.now (without_entry uid v))) self.old) }
+        ensures { OnOk result (self.new ≡ change_ranges soup (each_range
+            (λ v. with_entry uid graph.now (without_entry uid v))) self.old) }
     {
         replace_in(self.soups.as_mut_slice(), soup, uid, graph)
     }
 
-    /// A new declaration of a soup at the end, with its range. `add_entry` fills a range. After an error nothing has changed.
+    /// A new declaration of a soup at the end, with its range. `add_entry` fills a range. After an
+    /// error nothing has changed.
     pub fn declare(&mut self, soup: Sig, range: Index) -> Result<(), AllocError>
         ensures ok { OnOk result (self.new ≡ change_ranges soup (with_range range) self.old) }
         ensures err { OnErr result (self.new ≡ self.old) }
@@ -108,7 +121,8 @@ impl Ranges {
 }
 
 fn find_in<'a>(rows: &'a [SoupRanges], sig: Sig, spec: Option<&IndexSpec>) -> Option<&'a Index>
-    ensures found { option_map (λ v. v.now) result ≡ range_found sig (option_map (λ s. s.now) spec.entry) rows.now }
+    ensures found { option_map (λ v. v.now) result
+        ≡ range_found sig (option_map (λ s. s.now) spec.entry) rows.now }
     ensures sorted { IfSome result (λ v. IsSorted v.now) }
 {
     let mut left = rows;
@@ -156,7 +170,8 @@ fn declare_in(rows: &mut [SoupRanges], sig: Sig, range: Index) -> Result<(), All
 }
 
 fn add_in(rows: &mut [SoupRanges], sig: Sig, uid: Uid, graph: &Graph) -> Result<(), AllocError>
-    ensures { OnOk result (rows.new ≡ change_ranges sig (each_range (with_entry uid graph.now)) rows.old) }
+    ensures { OnOk result (rows.new ≡ change_ranges sig (each_range (with_entry uid graph.now))
+        rows.old) }
 {
     let Some(at) = place_of(rows, sig) else {
         return Ok(());
@@ -175,7 +190,8 @@ fn remove_in(rows: &mut [SoupRanges], sig: Sig, uid: Uid)
 }
 
 fn replace_in(rows: &mut [SoupRanges], sig: Sig, uid: Uid, graph: &Graph) -> Result<(), AllocError>
-    ensures { OnOk result (rows.new ≡ change_ranges sig (each_range (λ v. with_entry uid graph.now (without_entry uid v))) rows.old) }
+    ensures { OnOk result (rows.new ≡ change_ranges sig (each_range
+        (λ v. with_entry uid graph.now (without_entry uid v))) rows.old) }
 {
     let Some(at) = place_of(rows, sig) else {
         return Ok(());

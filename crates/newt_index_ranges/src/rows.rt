@@ -1,7 +1,8 @@
 //! The ranges of one soup.
 ghost use Rattle.std.specs.Prelude.{◌≡◌, option_map, IfSome, IfOk, OnOk, OnErr};
 ghost use Rattle.newt_index.specs.Pairs.{IsSorted};
-ghost use Rattle.newt_index_ranges.specs.Rows.{no_ranges, with_entry, without_entry, each_range, with_range, without_range, find_range};
+ghost use Rattle.newt_index_ranges.specs.Rows.{no_ranges, with_entry, without_entry, each_range};
+ghost use Rattle.newt_index_ranges.specs.Rows.{with_range, without_range, find_range};
 
 use crate::entry::add_entry;
 use crate::indexes::Indexes;
@@ -12,7 +13,8 @@ use newt_keys::IndexSpec;
 use newt_path::Path;
 use std::alloc::{AllocError, Global};
 
-/// The ranges of one soup: that of all its entries, by id, and one for each of its declarations, in order.
+/// The ranges of one soup: that of all its entries, by id, and one for each of its declarations, in
+/// order.
 #[derive(Drop)]
 pub(crate) struct SoupRanges {
     pub(crate) sig: Sig,
@@ -36,9 +38,11 @@ impl SoupRanges {
         })
     }
 
-    /// The range by a declaration that agrees with this one, or with none that of all entries. It takes no memory.
+    /// The range by a declaration that agrees with this one, or with none that of all entries. It
+    /// takes no memory.
     pub(crate) fn find(&self, spec: Option<&IndexSpec>) -> Option<&Index>
-        ensures found { option_map (λ v. v.now) result ≡ find_range (option_map (λ s. s.now) spec.entry) self.now }
+        ensures found { option_map (λ v. v.now) result
+            ≡ find_range (option_map (λ s. s.now) spec.entry) self.now }
         ensures sorted { IfSome result (λ v. IsSorted v.now) }
     {
         match spec {
@@ -69,7 +73,8 @@ impl SoupRanges {
 
     /// An entry with another graph. After an error some ranges do not have it.
     pub(crate) fn replace(&mut self, uid: Uid, graph: &Graph) -> Result<(), AllocError>
-        ensures { OnOk result (self.new ≡ each_range (λ v. with_entry uid graph.now (without_entry uid v)) self.old) }
+        ensures { OnOk result (self.new ≡ each_range (λ v. with_entry uid graph.now
+            (without_entry uid v)) self.old) }
     {
         self.remove(uid);
         self.add(uid, graph)?;

@@ -5,7 +5,7 @@ use Rattle.newt_host.specs.Moments.{Moment, image, IsDurable, SameOutside, Leave
 use Rattle.newt_host.proofs.Moments.{Leaves-append, Leaves-weaken, Leaves-start, Leaves-same}
 use Rattle.newt_spec_image.specs.Records.{chosen_bank, bank_size, records, vote_of, AllVoteFor}
 use Rattle.newt_journal.specs.Bank.{bank_number, other_bank, start_of}
-use Rattle.newt_journal.specs.Repairs.{Settling, Repairs}
+use Rattle.newt_journal.specs.Repairs.{Settling, Repairs, Mends}
 use Rattle.newt_journal.specs.Journal.{Holds, written, IsHeld}
 use Rattle.newt_journal.specs.declared.bank.Bank.{Bank}
 use Rattle.newt_journal.specs.declared.journal.Journal.{Journal}
@@ -87,6 +87,10 @@ module _ (j : Journal) (old : Moment) (held : IsHeld j old) where
   same_reading left r =
       holds-records j.blocks j.bank j.enough j.not_too_many held.payloads held.behind left (bank-behind j.blocks j.bank (written held.payloads ++ held.behind) (image j.unit old) left held.bank r) held.ends
       ∙ sym (holds-records j.blocks j.bank j.enough j.not_too_many held.payloads held.behind (image j.unit old) held.bank held.ends)
+
+  pub mended : (left : List ℕ) → Repairs (bank_number j.bank) (image j.unit old) left
+      → Mends (bank_number j.bank) (image j.unit old) left
+  mended left r = record { repairs = r; same_records = same_reading left r }
 
   pub still_held : (now : Moment) → Repairs (bank_number j.bank) (image j.unit old) (image j.unit now) → IsDurable j.unit now → IsHeld j now
   still_held now r durable = record {

@@ -1,11 +1,13 @@
 -- What the draft of a record stands for, behind the others or alone in the other bank.
-use Rattle.std.specs.Prelude.{ℕ, Bool, true, false, ◌+◌, ◌-◌, List, [], ◌∷◌, Option, Some}
-use Rattle.newt_host.specs.Outside.{Outside}
-use Rattle.newt_spec_image.specs.Records.{bank_size}
+use Rattle.std.specs.Prelude.{IsTrue, ◌≡◌, ℕ, Bool, true, false, ◌+◌, ◌-◌, List, [], ◌∷◌, Option, Some}
+use Rattle.newt_host.specs.Moments.{image}
+use Rattle.newt_host.specs.Outside.{Outside, Work}
+use Rattle.newt_spec_image.specs.Records.{bank_size, records}
 use Rattle.newt_journal.specs.Bank.{limit_of}
 use Rattle.newt_journal.specs.Journal.{appended}
 use Rattle.newt_journal.specs.Appending.{drafted, IsAppendingOf}
 use Rattle.newt_journal.specs.Places.{first_place}
+use Rattle.newt_journal.specs.Calls.{writing}
 use Rattle.newt_journal.specs.Switch.{switch_start, switched, IsSwitchOf}
 use Rattle.newt_journal.specs.declared.journal.Journal.{Journal}
 use Rattle.newt_journal.specs.declared.draft.Draft.{Draft}
@@ -63,7 +65,21 @@ abbrev pub outcome : Bool → Option (List (List ℕ)) → List ℕ → Option (
 outcome false before payload = appended before payload
 outcome true before payload = Some (payload ∷ [])
 
--- the bytes that are programmed to commit it: the gate, or the votes
-abbrev pub commit_costs : Bool → ℕ
-commit_costs false = 1
-commit_costs true = 3
+-- what is done to commit it: the gate between two syncs, or a sync and the votes
+abbrev pub commit_work : Bool → Work
+commit_work false = writing 1 0 2
+commit_work true = writing 3 3 7
+
+-- A record of so many bytes was begun, behind the others or alone in the other bank, of which
+-- nothing is put yet; the records are what they were.
+pub record IsBegun (told : Bool) (journal : Journal) (len : ℕ) (alone : Bool) (draft : Draft)
+    (old new : Outside) : Type 0 where
+  pub draft_of : IsDraftOf told draft new
+  pub on : unit_of draft ≡ journal.unit
+  pub holds : journal_of draft ≡ journal
+  pub len_is : len_of draft ≡ len
+  pub put : put_of draft ≡ 0
+  pub kind : is_switch draft ≡ alone
+  pub empty : (image : List ℕ) → payload_of draft image ≡ []
+  pub same : IsTrue told → records (image journal.unit new.now)
+      ≡ records (image journal.unit old.now)

@@ -1,10 +1,11 @@
 -- The places of records in a bank.
-use Rattle.std.specs.Prelude.{◌≡◌, ℕ, ◌+◌, ◌-◌, List, ◌++◌, length, take, drop, Option, Some}
-use Rattle.newt_spec_image.specs.Records.{records, payloads_after}
+use Rattle.std.specs.Prelude.{IsTrue, ◌≡◌, ℕ, ◌+◌, ◌-◌, ◌≤◌, Bool, List, [], ◌++◌, length, take, drop, Option, Some, IfSome, MatchOption}
+use Rattle.newt_spec_image.specs.Records.{records, payloads_after, with_first}
 use Rattle.newt_journal.specs.Bank.{start_of, limit_of}
 use Rattle.newt_journal.specs.Scan.{between}
 use Rattle.newt_journal.specs.Journal.{written}
 use Rattle.newt_journal.specs.declared.journal.Journal.{Journal}
+use Rattle.newt_journal.specs.declared.reading.Found.{Found}
 
 -- the place of the first record, or of the end where there is none
 abbrev pub first_place : Journal → ℕ
@@ -24,3 +25,16 @@ pub record IsPlace (j : Journal) (at : ℕ) (image : List ℕ) : Type 0 where
   pub others : List (List ℕ)
   pub all : records image ≡ Some (passed ++ others)
   pub place : at ≡ start_of j.blocks j.bank + length (written passed)
+
+-- What is found at a place of the records: the record that begins there, behind which the others
+-- stand, or none at their end.
+pub record Finds (told : Bool) (j : Journal) (at : ℕ) (image : List ℕ) (found : Option Found)
+    : Type 0 where
+  pub told_of : IsTrue told → MatchOption found (payloads_from j at image ≡ Some [])
+      (λ record_is. payloads_from j at image
+      ≡ with_first (take record_is.len (drop record_is.at image))
+      (payloads_from j record_is.next image))
+  pub next : IsTrue told → IfSome found (λ record_is. IsPlace j record_is.next image)
+  pub end : IsTrue told → MatchOption found (at ≡ j.end) (λ record_is. at + 5 ≤ j.end)
+  pub inside : IfSome found (λ record_is. (record_is.at ≡ at + 5)
+      × (record_is.next ≡ record_is.at + record_is.len) × (record_is.next ≤ j.end))

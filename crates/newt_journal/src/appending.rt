@@ -17,14 +17,13 @@ pub struct Appending {
 }
 
 impl Appending {
-    ghost use Rattle.std.specs.Prelude.{OnErr, OnOk, IfOk, ◌-◌, ◌++◌, length, replicate, false};
-    ghost use Rattle.newt_host.specs.Moments.{image, Leaves};
-    ghost use Rattle.newt_host.specs.Outside.{Touches, Spends, Rose};
+    ghost use Rattle.std.specs.Prelude.{OnOk, IfOk, ◌-◌, ◌++◌, length, replicate, false};
+    ghost use Rattle.newt_host.specs.Moments.{image};
     ghost use Rattle.newt_spec_image.specs.Records.{records, tail};
     ghost use Rattle.newt_journal.specs.Journal.{room, Stands, appended, ReadsAs, ReadsAsEither};
     ghost use Rattle.newt_journal.specs.Appending.{IsAppendingOf, drafted};
     ghost use Rattle.newt_journal.specs.Places.{first_place};
-    ghost use Rattle.newt_journal.specs.Calls.{Programs};
+    ghost use Rattle.newt_journal.specs.Calls.{Programs, writing};
 
     /// Begins a record of so many bytes: its length is written behind a gate that stays FF.
     pub(crate) fn begin<H: Host>(
@@ -45,7 +44,7 @@ impl Appending {
             (λ draft. 5 + len + (limit_of draft.journal.blocks draft.journal.bank -
             (draft.journal.end + 5 + draft.len))
             ≡ length (tail (image journal.unit (H.outside host.old).now))) }
-        ensures writes { Programs H.told journal.unit 4
+        ensures writes { Programs H.told journal.unit (writing 4 0 0)
             (ReadsAs (records (image journal.unit (H.outside host.old).now))) result
             (H.outside host.old) (H.outside host.new) }
     {
@@ -71,7 +70,7 @@ impl Appending {
         ensures same { IsTrue H.told → OnOk result
             (records (image self.old.journal.unit (H.outside host.new).now)
             ≡ records (image self.old.journal.unit (H.outside host.old).now)) }
-        ensures writes { Programs H.told self.old.journal.unit (length bytes.now)
+        ensures writes { Programs H.told self.old.journal.unit (writing (length bytes.now) 0 0)
             (ReadsAs (records (image self.old.journal.unit (H.outside host.old).now))) result
             (H.outside host.old) (H.outside host.new) }
     {
@@ -102,7 +101,7 @@ impl Appending {
             (tail (image self.journal.unit (H.outside host.new).now)
             ≡ replicate (limit_of self.journal.blocks self.journal.bank -
             (self.journal.end + 5 + self.len)) 255) }
-        ensures writes { Programs H.told self.journal.unit 1
+        ensures writes { Programs H.told self.journal.unit (writing 1 0 2)
             (ReadsAsEither (records (image self.journal.unit (H.outside host.old).now))
             (appended (records (image self.journal.unit (H.outside host.old).now))
             (drafted self (image self.journal.unit (H.outside host.old).now)))) result

@@ -1,11 +1,10 @@
 // A bank is begun anew.
-ghost use Rattle.std.specs.Prelude.{IsTrue, ◌≤◌, ◌+◌, ◌-◌, OnErr, OnOk};
-ghost use Rattle.newt_host.specs.Moments.{image, changes, IsDurable, SameOutside, Leaves};
-ghost use Rattle.newt_host.specs.Outside.{HasBlocks, Touches, Spends, Rose};
-ghost use Rattle.newt_spec_image.specs.Records.{bank_size};
+ghost use Rattle.std.specs.Prelude.{IsTrue, ◌≤◌, ◌+◌, ◌-◌, OnOk};
+ghost use Rattle.newt_host.specs.Moments.{image, changes, SameOutside};
+ghost use Rattle.newt_spec_image.specs.Records.{bank_size, bank_blocks};
 ghost use Rattle.newt_journal.specs.Bank.{start_of};
 ghost use Rattle.newt_journal.specs.Fresh.{lead, FilledBy};
-ghost use Rattle.newt_journal.specs.Calls.{Programs};
+ghost use Rattle.newt_journal.specs.Calls.{IsAtRest, Programs, writing};
 
 use crate::Bank;
 use crate::erase::erase_blocks;
@@ -24,16 +23,15 @@ pub(crate) fn begin_bank<H: Host>(
     blocks: u32,
 ) -> Result<(), Failed>
     requires enough { 13 ≤ blocks }
-    requires few { blocks ≤ 4099 }
     requires fits { 21 + len ≤ bank_size blocks }
-    requires has { HasBlocks unit blocks (H.outside host.old) }
-    requires durable { IsTrue H.told → IsDurable unit (H.outside host.old).now }
+    requires rest { IsAtRest H.told unit blocks (H.outside host.old) }
     ensures begun { IsTrue H.told → OnOk result
         (FilledBy (start_of blocks bank) (bank_size blocks) (image unit (H.outside host.old).now)
         (lead len) (bank_size blocks - 21) (changes unit (H.outside host.new).now)) }
     // Whenever it is cut off, all but this bank is as it was.
-    ensures writes { Programs H.told unit 21 (λ left. SameOutside (start_of blocks bank)
-        (bank_size blocks) (image unit (H.outside host.old).now) left) result
+    ensures writes { Programs H.told unit (writing 21 (bank_blocks blocks) 1)
+        (SameOutside (start_of blocks bank) (bank_size blocks)
+        (image unit (H.outside host.old).now)) result
         (H.outside host.old) (H.outside host.new) }
 {
     let start = bank.start(blocks);

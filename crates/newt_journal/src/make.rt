@@ -1,8 +1,5 @@
 // A unit becomes a journal.
-ghost use Rattle.std.specs.Prelude.{IsTrue, ◌≡◌, ◌≤◌, OnErr, OnOk};
-ghost use Rattle.newt_host.specs.Moments.{image, IsDurable, Leaves, Anything};
-ghost use Rattle.newt_host.specs.Outside.{Touches, Spends, Rose};
-ghost use Rattle.newt_spec_image.specs.Records.{AllVoteFor};
+ghost use Rattle.std.specs.Prelude.{IsTrue, ◌≡◌, ◌≤◌, OnOk};
 
 use crate::fresh::begin_bank;
 use crate::piece::program_piece;
@@ -11,32 +8,29 @@ use crate::{Bank, Journal};
 use newt_host::{Failed, Host, Unit};
 
 impl Journal {
-    ghost use Rattle.std.specs.Prelude.{◌+◌, ◌-◌, ◌∷◌, [], false, length, replicate, Some, IfOk};
-    ghost use Rattle.newt_spec_image.specs.Records.{records, tail, bank_size};
+    ghost use Rattle.std.specs.Prelude.{◌+◌, false, length, IfOk};
+    ghost use Rattle.newt_spec_image.specs.Records.{bank_size, bank_blocks, bank_start};
     ghost use Rattle.newt_journal.specs.Journal.{Stands};
+    ghost use Rattle.newt_journal.specs.Pieces.{IsTornIn};
+    ghost use Rattle.newt_journal.specs.Fresh.{IsFresh};
     ghost use Rattle.newt_journal.specs.declared.bank.Bank.TheVariants.{First};
-    ghost use Rattle.newt_journal.specs.Calls.{Programs};
+    ghost use Rattle.newt_journal.specs.Calls.{Programs, writing};
 
     /// Makes a unit a journal of one record, in the first bank, whatever it held before. While it
-    /// runs nothing is said of what a crash leaves on the unit.
+    /// runs, the other bank stays what it was.
     pub fn format<H: Host>(host: &mut H, unit: Unit, first: &[u8]) -> Result<Journal, Failed>
         requires enough { 13 ≤ (H.outside host.old).blocks unit }
         requires few { (H.outside host.old).blocks unit ≤ 4099 }
         requires fits { 21 + length first.now ≤ bank_size ((H.outside host.old).blocks unit) }
         ensures journal { IfOk result (λ journal. Stands H.told journal (H.outside host.new)
             × (journal.unit ≡ unit) × (journal.bank ≡ First) × (journal.closed ≡ false)) }
-        ensures one { IsTrue H.told → OnOk result
-            (records (image unit (H.outside host.new).now) ≡ Some (first.now ∷ [])) }
-        ensures alike { IsTrue H.told → OnOk result
-            (AllVoteFor 0 (image unit (H.outside host.new).now)) }
-        ensures blank { IsTrue H.told → OnOk result
-            (tail (image unit (H.outside host.new).now)
-            ≡ replicate (bank_size ((H.outside host.old).blocks unit) - 21 - length first.now)
-            255) }
-        ensures durable { IsTrue H.told → OnOk result (IsDurable unit (H.outside host.new).now) }
-        // All else is as it was, whenever it is cut off.
-        ensures writes { Programs H.told unit (24 + length first.now) Anything result
-            (H.outside host.old) (H.outside host.new) }
+        ensures fresh { IsTrue H.told → OnOk result
+            (IsFresh ((H.outside host.old).blocks unit) first.now unit (H.outside host.new).now) }
+        // Whenever it is cut off, nothing but the votes and the first bank is torn.
+        ensures writes { Programs H.told unit
+            (writing (24 + length first.now) (bank_blocks ((H.outside host.old).blocks unit) + 3) 9)
+            (IsTornIn unit 0 (bank_start ((H.outside host.old).blocks unit) 1)
+            (H.outside host.old).now) result (H.outside host.old) (H.outside host.new) }
     {
         let blocks = host.blocks(unit);
         let len = first.len() as u32;

@@ -1,10 +1,10 @@
 // A journal is opened.
-ghost use Rattle.std.specs.Prelude.{IsTrue, ◌≡◌, ◌≤◌, None, OnErr, IfOk, MatchOption, Some};
+ghost use Rattle.std.specs.Prelude.{IsTrue, ◌≡◌, ◌≤◌, None, IfOk, MatchOption, Some};
 ghost use Rattle.newt_host.specs.Moments.{image};
-ghost use Rattle.newt_host.specs.Outside.{HasBlocks, Touches, Spends, Rose};
+ghost use Rattle.newt_host.specs.Outside.{HasBlocks};
 ghost use Rattle.newt_spec_image.specs.Records.{chosen_bank};
 ghost use Rattle.newt_journal.specs.Bank.{bank_number};
-ghost use Rattle.newt_journal.specs.Calls.{Reads};
+ghost use Rattle.newt_journal.specs.Calls.{Reads, OpensJournal};
 
 use crate::choose::choose;
 use crate::scan::{find_end, has_header, is_blank, read_byte};
@@ -44,11 +44,7 @@ impl Journal {
             (λ journal. IsSome (records (image unit (H.outside host.old).now))) }
         ensures not_store { IsErrOf result JournalFault.NotStore → IsTrue H.told
             → records (image unit (H.outside host.old).now) ≡ None }
-        ensures device { IsErrOf result JournalFault.Device
-            → Rose ((H.outside host.old).dev_faults unit) ((H.outside host.new).dev_faults unit) }
-        ensures moment { (H.outside host.new).now ≡ (H.outside host.old).now }
-        ensures alone { Touches unit (H.outside host.old) (H.outside host.new) }
-        ensures costs { Spends unit 0 (4 + bank_size ((H.outside host.old).blocks unit))
+        ensures looks { OpensJournal unit (4 + bank_size ((H.outside host.old).blocks unit)) result
             (H.outside host.old) (H.outside host.new) }
     {
         let blocks = host.blocks(unit);

@@ -15,11 +15,13 @@ pub struct Found {
 }
 
 impl Journal {
-    ghost use Rattle.std.specs.Prelude.{Bool, ℕ, List, ◌+◌, ◌≤◌, [], length, take, drop, Some, OnErr, OnOk, IfOk, IfSome, MatchOption};
+    ghost use Rattle.std.specs.Prelude.{Bool, ℕ, List, ◌+◌, ◌≤◌, [], length, take, drop, Some};
+    ghost use Rattle.std.specs.Prelude.{OnOk, IfOk};
     ghost use Rattle.newt_host.specs.Moments.{image};
-    ghost use Rattle.newt_host.specs.Outside.{Outside, Touches, Spends, Rose};
-    ghost use Rattle.newt_spec_image.specs.Records.{records, with_first};
-    ghost use Rattle.newt_journal.specs.Places.{first_place, payloads_from, recorded, IsPlace};
+    ghost use Rattle.newt_host.specs.Outside.{Outside};
+    ghost use Rattle.newt_spec_image.specs.Records.{records};
+    ghost use Rattle.newt_journal.specs.Places.{first_place, payloads_from, recorded, Finds};
+    ghost use Rattle.newt_journal.specs.Places.{IsPlace};
     ghost use Rattle.newt_journal.specs.Journal.{Stands};
     ghost use Rattle.newt_journal.specs.Calls.{Reads};
 
@@ -52,22 +54,8 @@ impl Journal {
         requires stands { Stands H.told self.now (H.outside host.old) }
         requires place { IsTrue H.told → IsPlace self.now at
             (image self.now.unit (H.outside host.old).now) }
-        ensures found { IsTrue H.told → IfOk result
-            (λ found. MatchOption found
-            (payloads_from self.now at (image self.now.unit (H.outside host.old).now) ≡ Some [])
-            (λ record_is. payloads_from self.now at (image self.now.unit (H.outside host.old).now)
-            ≡ with_first (take record_is.len
-            (drop record_is.at (image self.now.unit (H.outside host.old).now)))
-            (payloads_from self.now record_is.next
-            (image self.now.unit (H.outside host.old).now)))) }
-        ensures next { IsTrue H.told → IfOk result
-            (λ found. IfSome found (λ record_is. IsPlace self.now record_is.next
-            (image self.now.unit (H.outside host.old).now))) }
-        ensures end { IsTrue H.told → IfOk result
-            (λ found. MatchOption found (at ≡ self.now.end) (λ record_is. at + 5 ≤ self.now.end)) }
-        ensures inside { IfOk result (λ found. IfSome found
-            (λ record_is. (record_is.at ≡ at + 5) × (record_is.next ≡ record_is.at + record_is.len)
-            × (record_is.next ≤ self.now.end))) }
+        ensures finds { IfOk result (λ found. Finds H.told self.now at
+            (image self.now.unit (H.outside host.old).now) found) }
         ensures reads { Reads self.now.unit 4 result (H.outside host.old) (H.outside host.new) }
     {
         if self.end - at < 5 {

@@ -1,9 +1,9 @@
 // Votes that differ from the bank that they choose are rewritten.
-ghost use Rattle.std.specs.Prelude.{IsTrue, ◌≡◌, ◌≤◌, ◌<◌, ◌*◌, if◌then◌else◌, ◌==◌, Some, OnErr, OnOk};
-ghost use Rattle.newt_host.specs.Moments.{image, IsDurable, Leaves};
-ghost use Rattle.newt_host.specs.Outside.{HasBlocks, Touches, Spends, Rose};
+ghost use Rattle.std.specs.Prelude.{IsTrue, ◌≡◌, ◌≤◌, ◌<◌, ◌*◌, if◌then◌else◌, ◌==◌, Some, OnOk};
+ghost use Rattle.newt_host.specs.Moments.{image, IsDurable};
 ghost use Rattle.newt_journal.specs.Bank.{bank_number, other_bank};
-ghost use Rattle.newt_journal.specs.Repairs.{Settling, Repairs};
+ghost use Rattle.newt_journal.specs.Calls.{IsAtRest, Programs, one_vote, three_votes};
+ghost use Rattle.newt_journal.specs.Repairs.{Settling, Repairs, Mends};
 ghost use Rattle.newt_spec_image.specs.Records.{vote_of, chosen_bank, AllVoteFor};
 
 use crate::scan::read_byte;
@@ -20,22 +20,16 @@ pub(crate) fn settle_vote<H: Host>(
     blocks: u32,
 ) -> Result<(), Failed>
     requires inside { block < blocks }
-    requires few { blocks ≤ 4099 }
-    requires has { HasBlocks unit blocks (H.outside host.old) }
-    requires durable { IsTrue H.told → IsDurable unit (H.outside host.old).now }
+    requires rest { IsAtRest H.told unit blocks (H.outside host.old) }
     ensures settled { IsTrue H.told → OnOk result
         (vote_of block (image unit (H.outside host.new).now) ≡ bank_number bank) }
     ensures kept { IsTrue H.told → OnOk result
         (Settling block (bank_number bank) (image unit (H.outside host.old).now)
         (image unit (H.outside host.new).now)) }
     ensures durable { IsTrue H.told → OnOk result (IsDurable unit (H.outside host.new).now) }
-    ensures any_moment { IsTrue H.told → Leaves unit
-        (Settling block (bank_number bank) (image unit (H.outside host.old).now))
-        (H.outside host.old).now (H.outside host.new).now }
-    ensures alone { Touches unit (H.outside host.old) (H.outside host.new) }
-    ensures costs { Spends unit 1 1 (H.outside host.old) (H.outside host.new) }
-    ensures cause { OnErr result (Rose ((H.outside host.old).dev_faults unit)
-        ((H.outside host.new).dev_faults unit)) }
+    ensures writes { Programs H.told unit one_vote
+        (Settling block (bank_number bank) (image unit (H.outside host.old).now)) result
+        (H.outside host.old) (H.outside host.new) }
 {
     let vote = read_byte(host, unit, block * BLOCK)?;
     if vote == bank.number() {
@@ -61,9 +55,7 @@ pub(crate) fn settle_votes<H: Host>(
     blocks: u32,
 ) -> Result<(), Failed>
     requires enough { 13 ≤ blocks }
-    requires few { blocks ≤ 4099 }
-    requires has { HasBlocks unit blocks (H.outside host.old) }
-    requires durable { IsTrue H.told → IsDurable unit (H.outside host.old).now }
+    requires rest { IsAtRest H.told unit blocks (H.outside host.old) }
     requires voted { IsTrue H.told → chosen_bank (image unit (H.outside host.old).now)
         ≡ Some (bank_number bank) }
     ensures alike { IsTrue H.told → OnOk result
@@ -73,13 +65,9 @@ pub(crate) fn settle_votes<H: Host>(
         (image unit (H.outside host.new).now)) }
     ensures durable { IsTrue H.told → OnOk result (IsDurable unit (H.outside host.new).now) }
     // Whenever it is cut off, the same bank is chosen, and both are as they were.
-    ensures any_moment { IsTrue H.told → Leaves unit
-        (Repairs (bank_number bank) (image unit (H.outside host.old).now)) (H.outside host.old).now
-        (H.outside host.new).now }
-    ensures alone { Touches unit (H.outside host.old) (H.outside host.new) }
-    ensures costs { Spends unit 3 4 (H.outside host.old) (H.outside host.new) }
-    ensures cause { OnErr result (Rose ((H.outside host.old).dev_faults unit)
-        ((H.outside host.new).dev_faults unit)) }
+    ensures writes { Programs H.told unit three_votes
+        (Repairs (bank_number bank) (image unit (H.outside host.old).now)) result
+        (H.outside host.old) (H.outside host.new) }
 {
     let third = read_byte(host, unit, 2 * BLOCK)?;
     let near = first_to_settle(third, bank);
@@ -91,7 +79,7 @@ pub(crate) fn settle_votes<H: Host>(
 
 impl Journal {
     ghost use Rattle.newt_spec_image.specs.Records.{records};
-    ghost use Rattle.newt_journal.specs.Journal.{Stands, VotesAgree, ReadsAs};
+    ghost use Rattle.newt_journal.specs.Journal.{Stands, VotesAgree};
 
     /// Makes all three votes equal to the bank that they choose. Whenever it is cut off, the same
     /// bank is chosen, so that it may be begun again.
@@ -104,17 +92,9 @@ impl Journal {
         ensures reads { IsTrue H.told → OnOk result
             (records (image self.old.unit (H.outside host.new).now)
             ≡ records (image self.old.unit (H.outside host.old).now)) }
-        ensures any_moment { IsTrue H.told → Leaves self.old.unit
-            (Repairs (bank_number self.old.bank) (image self.old.unit (H.outside host.old).now))
-            (H.outside host.old).now (H.outside host.new).now }
-        ensures reads_at_any_moment { IsTrue H.told
-            → Leaves self.old.unit (ReadsAs
-            (records (image self.old.unit (H.outside host.old).now))) (H.outside host.old).now
-            (H.outside host.new).now }
-        ensures alone { Touches self.old.unit (H.outside host.old) (H.outside host.new) }
-        ensures costs { Spends self.old.unit 3 4 (H.outside host.old) (H.outside host.new) }
-        ensures cause { OnErr result (Rose ((H.outside host.old).dev_faults self.old.unit)
-            ((H.outside host.new).dev_faults self.old.unit)) }
+        ensures writes { Programs H.told self.old.unit three_votes
+            (Mends (bank_number self.old.bank) (image self.old.unit (H.outside host.old).now))
+            result (H.outside host.old) (H.outside host.new) }
     {
         settle_votes(host, self.unit, self.bank, self.blocks)?;
         Ok(())

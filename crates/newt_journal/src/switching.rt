@@ -20,14 +20,14 @@ pub struct Switching {
 }
 
 impl Switching {
-    ghost use Rattle.std.specs.Prelude.{OnErr, OnOk, IfOk, ◌++◌, ◌-◌, ◌∷◌, [], length, replicate, Some, false};
-    ghost use Rattle.newt_host.specs.Moments.{image, Leaves};
-    ghost use Rattle.newt_host.specs.Outside.{Touches, Spends, Rose};
-    ghost use Rattle.newt_spec_image.specs.Records.{records, tail};
+    ghost use Rattle.std.specs.Prelude.{OnOk, IfOk, ◌++◌, ◌-◌, ◌∷◌, [], length, replicate, Some};
+    ghost use Rattle.std.specs.Prelude.{false};
+    ghost use Rattle.newt_host.specs.Moments.{image};
+    ghost use Rattle.newt_spec_image.specs.Records.{records, tail, bank_blocks};
     ghost use Rattle.newt_journal.specs.Journal.{Stands, VotesAgree, ReadsAs, ReadsAsEither};
     ghost use Rattle.newt_journal.specs.Switch.{IsSwitchOf, switched, switch_start};
     ghost use Rattle.newt_journal.specs.Places.{first_place};
-    ghost use Rattle.newt_journal.specs.Calls.{Programs};
+    ghost use Rattle.newt_journal.specs.Calls.{Programs, writing};
 
     /// Begins the record that alone will stand in the other bank.
     pub(crate) fn begin<H: Host>(
@@ -45,7 +45,7 @@ impl Switching {
         ensures same { IsTrue H.told → OnOk result
             (records (image journal.unit (H.outside host.new).now)
             ≡ records (image journal.unit (H.outside host.old).now)) }
-        ensures writes { Programs H.told journal.unit 21
+        ensures writes { Programs H.told journal.unit (writing 21 (bank_blocks journal.blocks) 1)
             (ReadsAs (records (image journal.unit (H.outside host.old).now))) result
             (H.outside host.old) (H.outside host.new) }
     {
@@ -77,7 +77,7 @@ impl Switching {
         ensures same { IsTrue H.told → OnOk result
             (records (image self.old.journal.unit (H.outside host.new).now)
             ≡ records (image self.old.journal.unit (H.outside host.old).now)) }
-        ensures writes { Programs H.told self.old.journal.unit (length bytes.now)
+        ensures writes { Programs H.told self.old.journal.unit (writing (length bytes.now) 0 0)
             (ReadsAs (records (image self.old.journal.unit (H.outside host.old).now))) result
             (H.outside host.old) (H.outside host.new) }
     {
@@ -104,7 +104,7 @@ impl Switching {
             ≡ replicate (bank_size self.journal.blocks - (21 + self.len)) 255) }
         ensures alike { IsTrue H.told → IfOk result
             (λ journal. VotesAgree journal (image self.journal.unit (H.outside host.new).now)) }
-        ensures writes { Programs H.told self.journal.unit 3
+        ensures writes { Programs H.told self.journal.unit (writing 3 3 7)
             (ReadsAsEither (records (image self.journal.unit (H.outside host.old).now))
             (Some (switched self (image self.journal.unit (H.outside host.old).now) ∷ []))) result
             (H.outside host.old) (H.outside host.new) }

@@ -8,7 +8,8 @@ use crate::types::{IndexPart, IndexSpec, Key, Part};
 use newt_spec_store::Order;
 use std::alloc::{AllocError, Global};
 
-/// The bytes of a key. Those of two keys of the declaration order as the keys do, and where the keys differ, neither's bytes begin the other's.
+/// The bytes of a key. Those of two keys of the declaration order as the keys do, and where the
+/// keys differ, neither's bytes begin the other's.
 pub fn key_bytes(alloc: Global, key: &Key, spec: &IndexSpec) -> Result<Vec<u8>, AllocError>
     requires { IsKeyOf spec.now key.now }
     ensures bytes { IfOk result (λ bytes. bytes.items ≡ form.key_bytes spec.now key.now) }
@@ -20,7 +21,8 @@ pub fn key_bytes(alloc: Global, key: &Key, spec: &IndexSpec) -> Result<Vec<u8>, 
 }
 
 fn put_parts(bytes: &mut Vec<u8>, spec: &[IndexPart], key: &[Part]) -> Result<(), AllocError>
-    ensures { IfOk result (λ _. bytes.new.items ≡ bytes.old.items ++ form.key_bytes (declared_all spec.now) (said_all key.now)) }
+    ensures { IfOk result (λ _. bytes.new.items ≡ bytes.old.items ++ form.key_bytes
+        (declared_all spec.now) (said_all key.now)) }
 {
     let [part, spec @ ..] = spec else {
         return Ok(());
@@ -33,7 +35,8 @@ fn put_parts(bytes: &mut Vec<u8>, spec: &[IndexPart], key: &[Part]) -> Result<()
 }
 
 fn put_part(bytes: &mut Vec<u8>, order: Order, part: &Part) -> Result<(), AllocError>
-    ensures { IfOk result (λ _. bytes.new.items ≡ bytes.old.items ++ form.part_bytes order (said part.now)) }
+    ensures { IfOk result (λ _. bytes.new.items ≡ bytes.old.items ++ form.part_bytes order
+        (said part.now)) }
 {
     if let Part::Missing = part {
         bytes.push(0)?;
@@ -50,7 +53,8 @@ fn put_part(bytes: &mut Vec<u8>, order: Order, part: &Part) -> Result<(), AllocE
 
 /// A text ends in 0 0, and a 0 in it is 0 1.
 fn put_text(bytes: &mut Vec<u8>, order: Order, text: &[u8]) -> Result<(), AllocError>
-    ensures { IfOk result (λ _. bytes.new.items ≡ bytes.old.items ++ map (form.turned order) (form.text_bytes text.now)) }
+    ensures { IfOk result (λ _. bytes.new.items ≡ bytes.old.items ++ map (form.turned order)
+        (form.text_bytes text.now)) }
 {
     for &byte in text {
         bytes.push(turn(order, byte))?;
@@ -64,7 +68,8 @@ fn put_text(bytes: &mut Vec<u8>, order: Order, text: &[u8]) -> Result<(), AllocE
 }
 
 fn put_digits(bytes: &mut Vec<u8>, order: Order, digits: &[u8]) -> Result<(), AllocError>
-    ensures { IfOk result (λ _. bytes.new.items ≡ bytes.old.items ++ map (form.turned order) digits.now) }
+    ensures { IfOk result (λ _. bytes.new.items ≡ bytes.old.items ++ map (form.turned order)
+        digits.now) }
 {
     for &digit in digits {
         bytes.push(turn(order, digit))?;

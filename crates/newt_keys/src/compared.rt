@@ -8,7 +8,8 @@ use crate::types::{IndexPart, IndexSpec, Key, Part};
 use newt_spec_store::Order;
 use std::cmp::Ordering;
 
-/// Compares two keys of a declaration part by part. A missing part stands before all values in both orders; values follow the part's order.
+/// Compares two keys of a declaration part by part. A missing part stands before all values in both
+/// orders; values follow the part's order.
 pub fn compare(a: &Key, b: &Key, spec: &IndexSpec) -> Ordering
     ensures { result ≡ key_cmp spec.now a.now b.now }
 {

@@ -11,8 +11,10 @@ use crate::values::part_of;
 use newt_graph::{Graph, Node, Ref};
 use std::alloc::{AllocError, Global};
 
-/// The key that a value of a graph writes down: one value of the part's type for a declaration of one part, and an array without class of 1 to as
-/// many values for more, where nil and a value that is not given are missing parts and the first is there. None exactly where it is not of these types.
+/// The key that a value of a graph writes down: one value of the part's type for a declaration of
+/// one part, and an array without class of 1 to as many values for more, where nil and a value that
+/// is not given are missing parts and the first is there. None exactly where it is not of these
+/// types.
 pub fn key_from(
     alloc: Global,
     graph: &Graph,
@@ -34,7 +36,8 @@ pub fn key_from(
 
 /// The values of an array without class, where they are 1 to so many.
 fn several_values(nodes: &[Node], at: Ref, most: usize) -> Option<&[Ref]>
-    ensures { option_map (λ values. values.now) result ≡ option_and_then (query.keep (query.within most)) (query.plain_values nodes.now at) }
+    ensures { option_map (λ values. values.now) result
+        ≡ option_and_then (query.keep (query.within most)) (query.plain_values nodes.now at) }
 {
     let Ref::Node(n) = at else {
         return None;
@@ -56,7 +59,9 @@ fn key_given(
     spec: &[IndexPart],
     values: &[Ref],
 ) -> Result<Option<Key>, AllocError>
-    ensures value { IfOk result (λ found. found ≡ option_and_then (query.keep query.first_is_there) (every (map (query.given_part nodes.now) (query.padded (declared_all spec.now) values.now)))) }
+    ensures value { IfOk result (λ found. found ≡ option_and_then (query.keep query.first_is_there)
+        (every (map (query.given_part nodes.now)
+        (query.padded (declared_all spec.now) values.now)))) }
     ensures of_spec { IfOk result (λ found. IfSome found (IsKeyOf (declared_all spec.now))) }
 {
     match given_parts(alloc, nodes, spec, values)? {
@@ -82,8 +87,10 @@ fn given_parts(
     spec: &[IndexPart],
     values: &[Ref],
 ) -> Result<Option<Vec<Part>>, AllocError>
-    ensures value { IfOk result (λ found. option_map (λ parts. said_all parts.items) found ≡ every (map (query.given_part nodes.now) (query.padded (declared_all spec.now) values.now))) }
-    ensures are { IfOk result (λ found. IfSome found (λ parts. AreParts (declared_all spec.now) (said_all parts.items))) }
+    ensures value { IfOk result (λ found. option_map (λ parts. said_all parts.items) found ≡ every
+        (map (query.given_part nodes.now) (query.padded (declared_all spec.now) values.now))) }
+    ensures are { IfOk result (λ found. IfSome found (λ parts. AreParts (declared_all spec.now)
+        (said_all parts.items))) }
 {
     let mut parts = Vec::new(alloc);
     let mut left = spec;
@@ -102,7 +109,8 @@ fn given_parts(
 
 /// The first value, if one is given, and those behind it.
 fn split_given(values: &[Ref]) -> (Option<Ref>, &[Ref])
-    ensures { (p : keys.IndexPart) (ps : keys.IndexSpec) → query.padded (p ∷ ps) values.now ≡ (p, result.0) ∷ query.padded ps result.1.now }
+    ensures { (p : keys.IndexPart) (ps : keys.IndexSpec)
+        → query.padded (p ∷ ps) values.now ≡ (p, result.0) ∷ query.padded ps result.1.now }
 {
     match values {
         [first, rest @ ..] => (Some(*first), rest),
@@ -110,14 +118,16 @@ fn split_given(values: &[Ref]) -> (Option<Ref>, &[Ref])
     }
 }
 
-/// The part that a value is: missing where it is nil or not given, none where it is not of the part's type.
+/// The part that a value is: missing where it is nil or not given, none where it is not of the
+/// part's type.
 fn given_part(
     alloc: Global,
     nodes: &[Node],
     part: &IndexPart,
     value: Option<Ref>,
 ) -> Result<Option<Part>, AllocError>
-    ensures value { IfOk result (λ found. option_map said found ≡ query.given_part nodes.now (declared part.now, value)) }
+    ensures value { IfOk result (λ found. option_map said found ≡ query.given_part nodes.now
+        (declared part.now, value)) }
     ensures of_kind { IfOk result (λ found. IfSome found (λ p. IsPartOf part.now.kind (said p))) }
 {
     let Some(value) = value else {

@@ -1,12 +1,15 @@
-//! Keys of entries: declarations of indexes, the key that a graph has by one, the order of keys, and bytes that order as the keys do.
+//! Keys of entries: declarations of indexes, the key that a graph has by one, the order of keys,
+//! and bytes that order as the keys do.
 //!
-//! It stands on `newt_path` for the values at paths, on `newt_fold` for the folding of strings, and on the definition of keys. It carries this
-//! promise: the key of a graph, the key that a value writes down and the order of keys are the definition's, and the bytes of two keys of one
+//! It stands on `newt_path` for the values at paths, on `newt_fold` for the folding of strings, and
+//! on the definition of keys. It carries this promise: the key of a graph, the key that a value
+//! writes down and the order of keys are the definition's, and the bytes of two keys of one
 //! declaration order as the keys, where neither's begin those of another key.
 #![tactic(auto)]
 
 mod bytes;
 mod compared;
+mod declared;
 mod given;
 mod read;
 mod types;
@@ -14,6 +17,7 @@ mod values;
 
 pub use bytes::key_bytes;
 pub use compared::compare;
+pub use declared::key_in;
 pub use given::key_from;
 pub use newt_spec_store::{Kind, Order};
 pub use read::key_of;

@@ -11,8 +11,8 @@ use newt_graph::Graph;
 use newt_path::value_at;
 use std::alloc::{AllocError, Global};
 
-/// The key of a graph: the values at the paths of the declaration. A value that is absent or of another type is a missing part. None exactly where
-/// the first part is missing.
+/// The key of a graph: the values at the paths of the declaration. A value that is absent or of
+/// another type is a missing part. None exactly where the first part is missing.
 pub fn key_of(alloc: Global, graph: &Graph, spec: &IndexSpec) -> Result<Option<Key>, AllocError>
     ensures value { IfOk result (λ found. found ≡ keys.key graph.now spec.now) }
     ensures of_spec { IfOk result (λ found. IfSome found (IsKeyOf spec.now)) }
@@ -23,7 +23,9 @@ pub fn key_of(alloc: Global, graph: &Graph, spec: &IndexSpec) -> Result<Option<K
 
 /// The parts at the paths of a declaration.
 fn parts_of(alloc: Global, graph: &Graph, spec: &[IndexPart]) -> Result<Vec<Part>, AllocError>
-    ensures value { IfOk result (λ parts. said_all parts.items ≡ map (λ p. keys.part_of graph.now.nodes p.kind (value_at graph.now p.path)) (declared_all spec.now)) }
+    ensures value { IfOk result (λ parts. said_all parts.items ≡ map
+        (λ p. keys.part_of graph.now.nodes p.kind (value_at graph.now p.path))
+        (declared_all spec.now)) }
     ensures are { IfOk result (λ parts. AreParts (declared_all spec.now) (said_all parts.items)) }
 {
     let mut parts = Vec::new(alloc);

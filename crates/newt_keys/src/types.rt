@@ -77,7 +77,8 @@ impl IndexSpec {
         self.parts.as_slice()
     }
 
-    /// Whether two declarations agree in their paths, but for ASCII case, and in their types and orders.
+    /// Whether two declarations agree in their paths, but for ASCII case, and in their types and
+    /// orders.
     #[tactic(auto, using(crate::proofs::Agree::same_specs))]
     pub fn same(&self, other: &IndexSpec) -> bool
         ensures { result ≡ same_spec self.now other.now }
@@ -123,7 +124,8 @@ fn copied_declaration(alloc: Global, parts: &[IndexPart]) -> Result<Vec<IndexPar
 
 /// Whether the parts agree one by one, as far as the shorter list goes.
 fn all_same(parts: &[IndexPart], others: &[IndexPart]) -> bool
-    ensures { result ≡ list_all (λ p. same_part (declared p.0) (declared p.1)) (zip parts.now others.now) }
+    ensures { result ≡ list_all (λ p. same_part (declared p.0) (declared p.1))
+        (zip parts.now others.now) }
 {
     parts
         .iter()
@@ -151,7 +153,8 @@ fn all_have(parts: &[IndexPart], paths: &[Path]) -> bool
         .all(|(part, path)| part.path.same(path))
 }
 
-/// A part of a key: missing, the folded text of a string in UTF-8, an integer of 30 bits, a character, or a symbol in ASCII lower case.
+/// A part of a key: missing, the folded text of a string in UTF-8, an integer of 30 bits, a
+/// character, or a symbol in ASCII lower case.
 #[derive(Drop)]
 pub enum Part {
     Missing,
@@ -201,7 +204,8 @@ impl Key {
         }
     }
 
-    /// The key of these parts. That they are those of a declaration is for the caller to see (`IsKeyOf`).
+    /// The key of these parts. That they are those of a declaration is for the caller to see
+    /// (`IsKeyOf`).
     pub fn of(parts: Vec<Part>) -> Key
         ensures { result ≡ said_all parts.items }
     {

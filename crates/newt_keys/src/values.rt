@@ -69,7 +69,8 @@ fn symbol_part(alloc: Global, node: &Node) -> Result<Part, AllocError>
 
 /// The first units of a string, folded.
 fn text_part(alloc: Global, units: &[u16]) -> Result<Part, AllocError>
-    ensures value { IfOk result (λ part. said part ≡ spec.words (encode_utf8_all (spec.folded (take 39 units.now)))) }
+    ensures value { IfOk result (λ part. said part ≡ spec.words
+        (encode_utf8_all (spec.folded (take 39 units.now)))) }
     ensures of_kind { IfOk result (λ part. IsPartOf kind.Text (said part)) }
 {
     folded_part(alloc, first_units(units))
@@ -77,7 +78,8 @@ fn text_part(alloc: Global, units: &[u16]) -> Result<Part, AllocError>
 
 /// A string, folded.
 fn folded_part(alloc: Global, units: &[u16]) -> Result<Part, AllocError>
-    ensures value { IfOk result (λ part. said part ≡ spec.words (encode_utf8_all (spec.folded units.now))) }
+    ensures value { IfOk result (λ part. said part ≡ spec.words
+        (encode_utf8_all (spec.folded units.now))) }
     ensures of_kind { IfOk result (λ part. IsPartOf kind.Text (said part)) }
 {
     let text = units_to_text(alloc, units)?;
@@ -120,7 +122,8 @@ fn name_of(bytes: Vec<u8>) -> Part
     Part::Symbol(Bytes::of(bytes))
 }
 
-/// The part that an immediate word is: an integer ends in the bits 00, and the character c is 16 * c + 6.
+/// The part that an immediate word is: an integer ends in the bits 00, and the character c is 16 *
+/// c + 6.
 fn word_part(kind: Kind, word: i32) -> Part
     ensures value { said result ≡ spec.word_part kind word }
     ensures of_kind { IsPartOf kind (said result) }

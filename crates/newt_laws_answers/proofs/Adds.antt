@@ -15,9 +15,8 @@ use Rattle.newt_spec_world.specs.World.{World, device, store_of, default_unit, m
 use Rattle.newt_spec_world.specs.Reply.{Reply}
 use Rattle.newt_spec_world.specs.Changed.{changed}
 use Rattle.newt_spec_world.specs.Refused.{checks, on_some, not_mounted, no_soup, no_more_ids, full}
-use Rattle.newt_spec_world.specs.Answer.{fields, new_uid}
+use Rattle.newt_spec_world.specs.Answer.{answer, fields, new_uid}
 use Rattle.newt_laws_answers.specs.Tests.{add_tests, room_tests, soup_checks, with_added}
-use Rattle.newt_laws_answers.specs.Spoken.{checks_now, answer_now}
 use Rattle.newt_laws_answers.proofs.Firsts.{first-true}
 use Rattle.newt_laws_answers.specs.There.{OnUnit}
 use Rattle.newt_laws_answers.proofs.Units.{on-changed, soup-named}
@@ -43,34 +42,34 @@ module _ (w : World) (u blocks : ℕ) (s : Store) (name : List ℕ) (p : Soup) (
   pub uid-is : new_uid w u name ≡ p.next_uid
   uid-is = ap (λ (o : Option Soup). unwrap_or (option_map (λ p. p.next_uid) o) 0) (soup-named w u blocks s name h ∙ f)
 
-  pub add-checks : first_of (checks_now w (command.Add u name g)) ≡ first_of (add_tests blocks w.minute name g s p)
+  pub add-checks : first_of (checks w (command.Add u name g)) ≡ first_of (add_tests blocks w.minute name g s p)
   unfolding checks changed
   add-checks = all-pass w u blocks s name p (graph-tests g (no_more_ids w u name ∷ full w u (command.Add u name g) ∷ [])) h f ∙ tests-are (command.Add u name g) refl
 
-  pub addx-checks : first_of (checks_now w (command.Addx u name g)) ≡ first_of (add_tests blocks w.minute name g s p)
+  pub addx-checks : first_of (checks w (command.Addx u name g)) ≡ first_of (add_tests blocks w.minute name g s p)
   unfolding checks changed
   addx-checks = all-pass w u blocks s name p (graph-tests g (no_more_ids w u name ∷ full w u (command.Addx u name g) ∷ [])) h f ∙ tests-are (command.Addx u name g) refl
 
   -- ---- add
 
-  pub add-refused : (r : Refusal) → first_of (add_tests blocks w.minute name g s p) ≡ Some r → answer_now w (command.Add u name g) ≡ (w, Reply.refused r)
+  pub add-refused : (r : Refusal) → first_of (add_tests blocks w.minute name g s p) ≡ Some r → answer w (command.Add u name g) ≡ (w, Reply.refused r)
   add-refused r k = refused w (command.Add u name g) r (add-checks ∙ k)
 
-  pub add-done : first_of (add_tests blocks w.minute name g s p) ≡ None → w.cursors ≡ replicate 32 None → answer_now w (command.Add u name g) ≡ (with_added w u name g, Reply.number p.next_uid)
+  pub add-done : first_of (add_tests blocks w.minute name g s p) ≡ None → w.cursors ≡ replicate 32 None → answer w (command.Add u name g) ≡ (with_added w u name g, Reply.number p.next_uid)
   unfolding changed fields
   add-done k none = done w (command.Add u name g) (add-checks ∙ k) none ∙ ap {B = World × Reply} (λ n. (with_added w u name g, Reply.number n)) uid-is
 
-  pub addx-refused : (r : Refusal) → first_of (add_tests blocks w.minute name g s p) ≡ Some r → answer_now w (command.Addx u name g) ≡ (w, Reply.refused r)
+  pub addx-refused : (r : Refusal) → first_of (add_tests blocks w.minute name g s p) ≡ Some r → answer w (command.Addx u name g) ≡ (w, Reply.refused r)
   addx-refused r k = refused w (command.Addx u name g) r (addx-checks ∙ k)
 
-  pub addx-done : first_of (add_tests blocks w.minute name g s p) ≡ None → w.cursors ≡ replicate 32 None → answer_now w (command.Addx u name g) ≡ (with_added w u name g, Reply.number p.next_uid)
+  pub addx-done : first_of (add_tests blocks w.minute name g s p) ≡ None → w.cursors ≡ replicate 32 None → answer w (command.Addx u name g) ≡ (with_added w u name g, Reply.number p.next_uid)
   unfolding changed fields
   addx-done k none = done w (command.Addx u name g) (addx-checks ∙ k) none ∙ ap {B = World × Reply} (λ n. (with_added w u name g, Reply.number n)) uid-is
 
 -- ---- to the default store
 
 module _ (w : World) (u blocks : ℕ) (s : Store) (name : List ℕ) (p : Soup) (g : RawGraph) (d : default_unit w ≡ u) (h : OnUnit w u blocks s) (f : soup_named name s ≡ Some p) where
-  pub addu-checks : first_of (checks_now w (command.Addu name g)) ≡ first_of (add_tests blocks w.minute name g s p)
+  pub addu-checks : first_of (checks w (command.Addu name g)) ≡ first_of (add_tests blocks w.minute name g s p)
   unfolding checks changed
   addu-checks =
       ap (λ v. first_of (not_mounted w v ∷ no_soup w v name ∷ graph-tests g (no_more_ids w v name ∷ full w v (command.Addu name g) ∷ []))) d
@@ -78,10 +77,10 @@ module _ (w : World) (u blocks : ℕ) (s : Store) (name : List ℕ) (p : Soup) (
       ∙ soup-passes w u blocks s name p (graph-tests g (no_more_ids w u name ∷ full w u (command.Addu name g) ∷ [])) h f
       ∙ tests-are w u blocks s name p g h f (command.Addu name g) (ap (λ v. with_added w v name g) d)
 
-  pub addu-refused : (r : Refusal) → first_of (add_tests blocks w.minute name g s p) ≡ Some r → answer_now w (command.Addu name g) ≡ (w, Reply.refused r)
+  pub addu-refused : (r : Refusal) → first_of (add_tests blocks w.minute name g s p) ≡ Some r → answer w (command.Addu name g) ≡ (w, Reply.refused r)
   addu-refused r k = refused w (command.Addu name g) r (addu-checks ∙ k)
 
-  pub addu-done : first_of (add_tests blocks w.minute name g s p) ≡ None → w.cursors ≡ replicate 32 None → answer_now w (command.Addu name g) ≡ (with_added w u name g, Reply.added u p.next_uid)
+  pub addu-done : first_of (add_tests blocks w.minute name g s p) ≡ None → w.cursors ≡ replicate 32 None → answer w (command.Addu name g) ≡ (with_added w u name g, Reply.added u p.next_uid)
   unfolding changed fields
   addu-done k none = done w (command.Addu name g) (addu-checks ∙ k) none
       ∙ ap {B = World × Reply} (λ v. (with_added w v name g, Reply.added v (new_uid w v name))) d
@@ -90,23 +89,23 @@ module _ (w : World) (u blocks : ℕ) (s : Store) (name : List ℕ) (p : Soup) (
 -- ---- refused before
 
 module _ (w : World) (u : ℕ) (name : List ℕ) (g : RawGraph) (r : Refusal) (h : first_of (soup_checks w u name) ≡ Some r) where
-  pub add-not-found : answer_now w (command.Add u name g) ≡ (w, Reply.refused r)
+  pub add-not-found : answer w (command.Add u name g) ≡ (w, Reply.refused r)
   unfolding checks
-  add-not-found = refused-early w (command.Add u name g) (soup_checks w u name) (drop 3 (checks_now w (command.Add u name g))) r refl h
+  add-not-found = refused-early w (command.Add u name g) (soup_checks w u name) (drop 3 (checks w (command.Add u name g))) r refl h
 
-  pub addx-not-found : answer_now w (command.Addx u name g) ≡ (w, Reply.refused r)
+  pub addx-not-found : answer w (command.Addx u name g) ≡ (w, Reply.refused r)
   unfolding checks
-  addx-not-found = refused-early w (command.Addx u name g) (soup_checks w u name) (drop 3 (checks_now w (command.Addx u name g))) r refl h
+  addx-not-found = refused-early w (command.Addx u name g) (soup_checks w u name) (drop 3 (checks w (command.Addx u name g))) r refl h
 
 -- no store is the default
-pub addu-no-default : (w : World) (name : List ℕ) (g : RawGraph) → mounted_store w (default_unit w) ≡ None → answer_now w (command.Addu name g) ≡ (w, Reply.refused Notmounted)
+pub addu-no-default : (w : World) (name : List ℕ) (g : RawGraph) → mounted_store w (default_unit w) ≡ None → answer w (command.Addu name g) ≡ (w, Reply.refused Notmounted)
 unfolding checks
-addu-no-default w name g h = refused w (command.Addu name g) Notmounted (first-true Notmounted _ (drop 1 (checks_now w (command.Addu name g))) (ap is_none h))
+addu-no-default w name g h = refused w (command.Addu name g) Notmounted (first-true Notmounted _ (drop 1 (checks w (command.Addu name g))) (ap is_none h))
 
 -- the default store has no such soup
 pub addu-not-found : (w : World) (u blocks : ℕ) (s : Store) (name : List ℕ) (g : RawGraph) (r : Refusal) → default_unit w ≡ u → OnUnit w u blocks s → first_of (soup_checks w u name) ≡ Some r
-    → answer_now w (command.Addu name g) ≡ (w, Reply.refused r)
+    → answer w (command.Addu name g) ≡ (w, Reply.refused r)
 unfolding checks
 addu-not-found w u blocks s name g r d h k =
-    refused-early w (command.Addu name g) (not_mounted w (default_unit w) ∷ no_soup w (default_unit w) name ∷ []) (drop 2 (checks_now w (command.Addu name g))) r refl
+    refused-early w (command.Addu name g) (not_mounted w (default_unit w) ∷ no_soup w (default_unit w) name ∷ []) (drop 2 (checks w (command.Addu name g))) r refl
     (ap (λ v. first_of (not_mounted w v ∷ no_soup w v name ∷ [])) d ∙ mounted-passes w u blocks s (no_soup w u name ∷ []) h ∙ sym (unit-passes w u blocks s (no_soup w u name ∷ []) h) ∙ k)

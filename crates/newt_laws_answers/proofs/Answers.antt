@@ -10,9 +10,8 @@ use Rattle.newt_spec_world.specs.declared.command.Command.{Command}
 use Rattle.newt_spec_world.specs.World.{World, Device, device, store_of, entry_in}
 use Rattle.newt_spec_world.specs.Reply.{Reply}
 use Rattle.newt_spec_world.specs.Changed.{changed}
-use Rattle.newt_spec_world.specs.Refused.{no_unit, not_mounted, no_soup, on_some}
-use Rattle.newt_spec_world.specs.Answer.{answered, fields}
-use Rattle.newt_laws_answers.specs.Spoken.{checks_now, answer_now}
+use Rattle.newt_spec_world.specs.Refused.{checks, no_unit, not_mounted, no_soup, on_some}
+use Rattle.newt_spec_world.specs.Answer.{answer, answered, fields}
 use Rattle.newt_laws_answers.proofs.Worlds.{settle-none}
 use Rattle.newt_laws_answers.proofs.Firsts.{first-found, first-false}
 use Rattle.newt_laws_answers.specs.There.{OnUnit}
@@ -20,16 +19,16 @@ use Rattle.newt_laws_answers.proofs.Units.{is-mounted, soup-named}
 
 -- ---- done and refused
 
-pub refused : (w : World) (c : Command) (r : Refusal) → first_of (checks_now w c) ≡ Some r → answer_now w c ≡ (w, Reply.refused r)
-unfolding answer_now
+pub refused : (w : World) (c : Command) (r : Refusal) → first_of (checks w c) ≡ Some r → answer w c ≡ (w, Reply.refused r)
+unfolding answer
 refused w c r h = ap {B = World × Reply} (answered w c) h
 
-pub done : (w : World) (c : Command) → first_of (checks_now w c) ≡ None → (changed w c).cursors ≡ replicate 32 None → answer_now w c ≡ (changed w c, fields w (changed w c) c)
-unfolding answer_now
+pub done : (w : World) (c : Command) → first_of (checks w c) ≡ None → (changed w c).cursors ≡ replicate 32 None → answer w c ≡ (changed w c, fields w (changed w c) c)
+unfolding answer
 done w c h k = ap {B = World × Reply} (answered w c) h ∙ ap {B = World × Reply} (λ v. (v, fields w v c)) (settle-none (changed w c) k)
 
 -- a command is refused by the first of its tests
-pub refused-early : (w : World) (c : Command) (xs ys : Checks) (r : Refusal) → checks_now w c ≡ xs ++ ys → first_of xs ≡ Some r → answer_now w c ≡ (w, Reply.refused r)
+pub refused-early : (w : World) (c : Command) (xs ys : Checks) (r : Refusal) → checks w c ≡ xs ++ ys → first_of xs ≡ Some r → answer w c ≡ (w, Reply.refused r)
 refused-early w c xs ys r e h = refused w c r (ap first_of e ∙ first-found xs ys r h)
 
 -- ---- the first tests

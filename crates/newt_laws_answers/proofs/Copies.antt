@@ -17,9 +17,8 @@ use Rattle.newt_spec_world.specs.World.{World, device, store_of, entry_in, chang
 use Rattle.newt_spec_world.specs.Reply.{Reply}
 use Rattle.newt_spec_world.specs.Changed.{changed, copy_to}
 use Rattle.newt_spec_world.specs.Refused.{checks, on_some, either, no_unit, not_mounted, no_soup, no_entry, full}
-use Rattle.newt_spec_world.specs.Answer.{fields, new_uid}
+use Rattle.newt_spec_world.specs.Answer.{answer, fields, new_uid}
 use Rattle.newt_laws_answers.specs.Tests.{add_tests, both_checks, move_tests, moved_within, room_tests, with_added}
-use Rattle.newt_laws_answers.specs.Spoken.{checks_now, answer_now}
 use Rattle.newt_laws_answers.proofs.Firsts.{first-true, first-false, first-found}
 use Rattle.newt_laws_answers.specs.There.{OnUnit}
 use Rattle.newt_laws_answers.proofs.Units.{on-changed, on-other, is-mounted, soup-named, store-twice}
@@ -44,13 +43,13 @@ graph-passes blocks now name e s p ok =
 -- ---- the tests of both soups
 
 module _ (w : World) (u : ℕ) (name : List ℕ) (uid v : ℕ) (target : List ℕ) (r : Refusal) (h : first_of (both_checks w u name v target) ≡ Some r) where
-  pub copy-not-found : answer_now w (command.Copy u name uid v target) ≡ (w, Reply.refused r)
+  pub copy-not-found : answer w (command.Copy u name uid v target) ≡ (w, Reply.refused r)
   unfolding checks
-  copy-not-found = refused w (command.Copy u name uid v target) r (first-found (both_checks w u name v target) (drop 3 (checks_now w (command.Copy u name uid v target))) r h)
+  copy-not-found = refused w (command.Copy u name uid v target) r (first-found (both_checks w u name v target) (drop 3 (checks w (command.Copy u name uid v target))) r h)
 
-  pub move-not-found : answer_now w (command.Move u name uid v target) ≡ (w, Reply.refused r)
+  pub move-not-found : answer w (command.Move u name uid v target) ≡ (w, Reply.refused r)
   unfolding checks
-  move-not-found = refused w (command.Move u name uid v target) r (first-found (both_checks w u name v target) (drop 3 (checks_now w (command.Move u name uid v target))) r h)
+  move-not-found = refused w (command.Move u name uid v target) r (first-found (both_checks w u name v target) (drop 3 (checks w (command.Move u name uid v target))) r h)
 
 -- ---- both soups are there
 
@@ -68,15 +67,15 @@ module _ (w : World) (u blocks : ℕ) (s : Store) (name : List ℕ) (p : Soup) (
   fails : (rest : Checks) → entry_of uid p ≡ None → first_of (no_entry w u name uid ∷ rest) ≡ Some NoEntry
   fails rest none = first-true NoEntry _ rest (ap is_none (entry-named w u blocks s name p uid h f ∙ none))
 
-  pub copy-no-entry : entry_of uid p ≡ None → answer_now w (command.Copy u name uid v target) ≡ (w, Reply.refused NoEntry)
+  pub copy-no-entry : entry_of uid p ≡ None → answer w (command.Copy u name uid v target) ≡ (w, Reply.refused NoEntry)
   unfolding checks
   copy-no-entry none = refused w (command.Copy u name uid v target) NoEntry
-      (both-pass (drop 3 (checks_now w (command.Copy u name uid v target))) ∙ fails (drop 4 (checks_now w (command.Copy u name uid v target))) none)
+      (both-pass (drop 3 (checks w (command.Copy u name uid v target))) ∙ fails (drop 4 (checks w (command.Copy u name uid v target))) none)
 
-  pub move-no-entry : entry_of uid p ≡ None → answer_now w (command.Move u name uid v target) ≡ (w, Reply.refused NoEntry)
+  pub move-no-entry : entry_of uid p ≡ None → answer w (command.Move u name uid v target) ≡ (w, Reply.refused NoEntry)
   unfolding checks
   move-no-entry none = refused w (command.Move u name uid v target) NoEntry
-      (both-pass (drop 3 (checks_now w (command.Move u name uid v target))) ∙ fails (drop 4 (checks_now w (command.Move u name uid v target))) none)
+      (both-pass (drop 3 (checks w (command.Move u name uid v target))) ∙ fails (drop 4 (checks w (command.Move u name uid v target))) none)
 
   module _ (e : Entry) (here : entry_of uid p ≡ Some e) where
     there : entry_in w u name uid ≡ Some e
@@ -91,17 +90,17 @@ module _ (w : World) (u blocks : ℕ) (s : Store) (name : List ℕ) (p : Soup) (
     unfolding changed
     copied = ap (copy_to w v target) there
 
-    pub copy-checks : first_of (checks_now w (command.Copy u name uid v target)) ≡ first_of (room_tests other w.minute target e.graph t q)
+    pub copy-checks : first_of (checks w (command.Copy u name uid v target)) ≡ first_of (room_tests other w.minute target e.graph t q)
     unfolding checks
     copy-checks =
-        both-pass (drop 3 (checks_now w (command.Copy u name uid v target))) ∙ passes (drop 4 (checks_now w (command.Copy u name uid v target)))
+        both-pass (drop 3 (checks w (command.Copy u name uid v target))) ∙ passes (drop 4 (checks w (command.Copy u name uid v target)))
         ∙ ap first_of (room-is w v other t target q e.graph k g (command.Copy u name uid v target) copied)
 
-    pub copy-refused : (r : Refusal) → first_of (room_tests other w.minute target e.graph t q) ≡ Some r → answer_now w (command.Copy u name uid v target) ≡ (w, Reply.refused r)
+    pub copy-refused : (r : Refusal) → first_of (room_tests other w.minute target e.graph t q) ≡ Some r → answer w (command.Copy u name uid v target) ≡ (w, Reply.refused r)
     copy-refused r x = refused w (command.Copy u name uid v target) r (copy-checks ∙ x)
 
     pub copy-done : first_of (room_tests other w.minute target e.graph t q) ≡ None → w.cursors ≡ replicate 32 None
-        → answer_now w (command.Copy u name uid v target) ≡ (with_added w v target e.graph, Reply.number q.next_uid)
+        → answer w (command.Copy u name uid v target) ≡ (with_added w v target e.graph, Reply.number q.next_uid)
     unfolding fields
     copy-done x none = done w (command.Copy u name uid v target) (copy-checks ∙ x) (ap (λ (y : World). y.cursors) copied ∙ none)
         ∙ ap {B = World × Reply} (λ y. (y, Reply.number (new_uid w v target))) copied
@@ -117,16 +116,16 @@ module _ (w : World) (u blocks : ℕ) (s : Store) (name : List ℕ) (p : Soup) (
     unfolding changed
     moved = ap (λ y. change_store y u (change_soup name (remove_entry uid))) (ap (copy_to w v target) there)
 
-    pub ids-first : (n : ℕ) → (full w v (command.Move u name uid v target)).1 ≡ nat_lt (cap other) n → first_of (checks_now w (command.Move u name uid v target))
+    pub ids-first : (n : ℕ) → (full w v (command.Move u name uid v target)).1 ≡ nat_lt (cap other) n → first_of (checks w (command.Move u name uid v target))
         ≡ first_of ((Ids, q.next_uid == 536_870_911) ∷ (Full, nat_lt (cap other) n) ∷ [])
     unfolding checks
     ids-first n is =
-        both-pass (drop 3 (checks_now w (command.Move u name uid v target))) ∙ passes (drop 4 (checks_now w (command.Move u name uid v target)))
+        both-pass (drop 3 (checks w (command.Move u name uid v target))) ∙ passes (drop 4 (checks w (command.Move u name uid v target)))
         ∙ ap (λ b. first_of ((Ids, b) ∷ full w v (command.Move u name uid v target) ∷ [])) (ids-is w v other t target q e.graph k g)
         ∙ ap (λ b. first_of ((Ids, q.next_uid == 536_870_911) ∷ (Full, b) ∷ [])) is
 
-    move-ends : first_of (checks_now w (command.Move u name uid v target)) ≡ None → w.cursors ≡ replicate 32 None
-        → answer_now w (command.Move u name uid v target) ≡ (moved_world, Reply.number q.next_uid)
+    move-ends : first_of (checks w (command.Move u name uid v target)) ≡ None → w.cursors ≡ replicate 32 None
+        → answer w (command.Move u name uid v target) ≡ (moved_world, Reply.number q.next_uid)
     unfolding fields
     move-ends x none = done w (command.Move u name uid v target) x (ap (λ (y : World). y.cursors) moved ∙ none)
         ∙ ap {B = World × Reply} (λ y. (y, Reply.number (new_uid w v target))) moved
@@ -139,11 +138,11 @@ module _ (w : World) (u blocks : ℕ) (s : Store) (name : List ℕ) (p : Soup) (
           ∙ full-is moved_world v other (change_soup target (add_entry w.minute e.graph) t)
           (on-other (with_added w v target e.graph) v u other _ (change_soup name (remove_entry uid)) differ (on-changed w v other t (change_soup target (add_entry w.minute e.graph)) k))
 
-      pub move-refused : (r : Refusal) → first_of (room_tests other w.minute target e.graph t q) ≡ Some r → answer_now w (command.Move u name uid v target) ≡ (w, Reply.refused r)
+      pub move-refused : (r : Refusal) → first_of (room_tests other w.minute target e.graph t q) ≡ Some r → answer w (command.Move u name uid v target) ≡ (w, Reply.refused r)
       move-refused r x = refused w (command.Move u name uid v target) r (ids-first _ full-there ∙ x)
 
       pub move-done : first_of (room_tests other w.minute target e.graph t q) ≡ None → w.cursors ≡ replicate 32 None
-          → answer_now w (command.Move u name uid v target) ≡ (moved_world, Reply.number q.next_uid)
+          → answer w (command.Move u name uid v target) ≡ (moved_world, Reply.number q.next_uid)
       move-done x none = move-ends (ids-first _ full-there ∙ x) none
 
 -- ---- a move within one store
@@ -155,10 +154,10 @@ module _ (w : World) (u blocks : ℕ) (s : Store) (name : List ℕ) (p : Soup) (
       ∙ full-is _ u blocks (moved_within w.minute name uid target e.graph s)
       (on-changed (with_added w u target e.graph) u blocks _ (change_soup name (remove_entry uid)) (on-changed w u blocks s (change_soup target (add_entry w.minute e.graph)) h))
 
-  pub within-refused : (r : Refusal) → first_of (move_tests blocks w.minute name uid target e.graph s q) ≡ Some r → answer_now w (command.Move u name uid u target) ≡ (w, Reply.refused r)
+  pub within-refused : (r : Refusal) → first_of (move_tests blocks w.minute name uid target e.graph s q) ≡ Some r → answer w (command.Move u name uid u target) ≡ (w, Reply.refused r)
   within-refused r x = refused w (command.Move u name uid u target) r (ids-first w u blocks s name p uid h f u blocks s target q h g e here _ full-within ∙ x)
 
   pub within-done : first_of (move_tests blocks w.minute name uid target e.graph s q) ≡ None → w.cursors ≡ replicate 32 None
-      → answer_now w (command.Move u name uid u target) ≡ (change_store w u (moved_within w.minute name uid target e.graph), Reply.number q.next_uid)
+      → answer w (command.Move u name uid u target) ≡ (change_store w u (moved_within w.minute name uid target e.graph), Reply.number q.next_uid)
   within-done x none = move-ends w u blocks s name p uid h f u blocks s target q h g e here (ids-first w u blocks s name p uid h f u blocks s target q h g e here _ full-within ∙ x) none
       ∙ ap {B = World × Reply} (λ y. (y, Reply.number q.next_uid)) (store-twice w u blocks s (change_soup name (remove_entry uid)) (change_soup target (add_entry w.minute e.graph)) h)

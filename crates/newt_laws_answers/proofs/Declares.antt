@@ -3,7 +3,7 @@ use Rattle.std.proofs.Common.{◌≡◌, refl, ap, ◌∙◌, sym, ℕ, List, []
 use Rattle.std.specs.List.{list_any}
 use Rattle.newt_base.specs.Refusals.{Checks, first_of}
 use Rattle.newt_base.specs.declared.Refusal.{Refusal}
-use Rattle.newt_base.specs.declared.Refusal.TheVariants.{Command as NoCommand, Index as BadIndex, Key as BadKey, Limit, Full}
+use Rattle.newt_base.specs.declared.Refusal.TheVariants.{Index as BadIndex, Key as BadKey, Limit, Full}
 use Rattle.newt_spec_image.specs.Pages.{cap}
 use Rattle.newt_spec_store.specs.Cost.{cost}
 use Rattle.newt_spec_store.specs.Keys.{Path, paths_of, same_paths, has_paths}
@@ -14,10 +14,8 @@ use Rattle.newt_spec_world.specs.World.{World, change_store}
 use Rattle.newt_spec_world.specs.Reply.{Reply}
 use Rattle.newt_spec_world.specs.Changed.{changed, spec_of_words}
 use Rattle.newt_spec_world.specs.Refused.{checks, on_some, no_unit, not_mounted, no_soup, has_index, index_exists, no_index, real_part, index_limit, full}
-use Rattle.newt_spec_world.specs.Answer.{fields, or_nil}
-use Rattle.newt_laws_world.specs.Worlds.{parts_fit, tags_fit}
+use Rattle.newt_spec_world.specs.Answer.{answer, fields, or_nil}
 use Rattle.newt_laws_answers.specs.Tests.{soup_checks, index_tests, tagged, tags_tests}
-use Rattle.newt_laws_answers.specs.Spoken.{checks_now, answer_now}
 use Rattle.newt_laws_answers.specs.There.{OnUnit}
 use Rattle.newt_laws_answers.proofs.Firsts.{first-true, first-false, first-found}
 use Rattle.newt_laws_answers.proofs.Units.{on-changed, soup-named}
@@ -37,17 +35,12 @@ module _ (w : World) (u : ℕ) (name : List ℕ) (parts : List PartWord) where
   abbrev index-rows : Checks
   index-rows = no_unit w u ∷ not_mounted w u ∷ no_soup w u name ∷ index_exists w u name (paths_of_words parts) ∷ real_part parts ∷ index_limit w u name ∷ full w u (command.Index u name parts) ∷ []
 
-  pub index-unbuilt : parts_fit parts ≡ false → answer_now w (command.Index u name parts) ≡ (w, Reply.refused NoCommand)
+  index-table : first_of (checks w (command.Index u name parts)) ≡ first_of index-rows
   unfolding checks
-  index-unbuilt none = refused w (command.Index u name parts) NoCommand (ap (λ b. first_of (cond b index-rows ((NoCommand, true) ∷ []))) none)
+  index-table = refl
 
-  module _ (fit : parts_fit parts ≡ true) where
-    index-table : first_of (checks_now w (command.Index u name parts)) ≡ first_of index-rows
-    unfolding checks
-    index-table = ap (λ b. first_of (cond b index-rows ((NoCommand, true) ∷ []))) fit
-
-    pub index-not-found : (r : Refusal) → first_of (soup_checks w u name) ≡ Some r → answer_now w (command.Index u name parts) ≡ (w, Reply.refused r)
-    index-not-found r h = refused w (command.Index u name parts) r (index-table ∙ first-found (soup_checks w u name) (drop 3 index-rows) r h)
+  pub index-not-found : (r : Refusal) → first_of (soup_checks w u name) ≡ Some r → answer w (command.Index u name parts) ≡ (w, Reply.refused r)
+  index-not-found r h = refused w (command.Index u name parts) r (index-table ∙ first-found (soup_checks w u name) (drop 3 index-rows) r h)
 
 module _ (w : World) (u blocks : ℕ) (s : Store) (name : List ℕ) (p : Soup) (h : OnUnit w u blocks s) (f : soup_named name s ≡ Some p) where
   pub has-is : (paths : List Path) → has_index w u name paths ≡ has_paths paths p.specs
@@ -56,65 +49,65 @@ module _ (w : World) (u blocks : ℕ) (s : Store) (name : List ℕ) (p : Soup) (
   limit-is : (index_limit w u name).1 ≡ nat_le 16 (length p.specs)
   limit-is = ap (λ o. on_some o (λ (q : Soup). nat_le 16 (length q.specs))) (soup-named w u blocks s name h ∙ f)
 
-  module _ (parts : List PartWord) (fit : parts_fit parts ≡ true) where
+  module _ (parts : List PartWord) where
     room-is : (full w u (command.Index u name parts)).1 ≡ nat_lt (cap blocks) (cost (change_soup name (with_index (spec_of_words parts)) s))
     unfolding changed
     room-is = full-is (change_store w u (change_soup name (with_index (spec_of_words parts)))) u blocks (change_soup name (with_index (spec_of_words parts)) s)
         (on-changed w u blocks s (change_soup name (with_index (spec_of_words parts))) h)
 
     -- the soup is there
-    index-there : first_of (checks_now w (command.Index u name parts)) ≡ first_of (drop 3 (index-rows w u name parts))
-    index-there = index-table w u name parts fit ∙ all-pass w u blocks s name p (drop 3 (index-rows w u name parts)) h f
+    index-there : first_of (checks w (command.Index u name parts)) ≡ first_of (drop 3 (index-rows w u name parts))
+    index-there = index-table w u name parts ∙ all-pass w u blocks s name p (drop 3 (index-rows w u name parts)) h f
 
-    pub index-exists : has_paths (paths_of_words parts) p.specs ≡ true → answer_now w (command.Index u name parts) ≡ (w, Reply.refused BadIndex)
+    pub index-exists : has_paths (paths_of_words parts) p.specs ≡ true → answer w (command.Index u name parts) ≡ (w, Reply.refused BadIndex)
     index-exists there = refused w (command.Index u name parts) BadIndex (index-there ∙ first-true BadIndex _ (drop 4 (index-rows w u name parts)) (has-is (paths_of_words parts) ∙ there))
 
     module _ (new : has_paths (paths_of_words parts) p.specs ≡ false) where
-      index-new : first_of (checks_now w (command.Index u name parts)) ≡ first_of (drop 4 (index-rows w u name parts))
+      index-new : first_of (checks w (command.Index u name parts)) ≡ first_of (drop 4 (index-rows w u name parts))
       index-new = index-there ∙ first-false BadIndex _ (drop 4 (index-rows w u name parts)) (has-is (paths_of_words parts) ∙ new)
 
-      pub index-real : (real_part parts).1 ≡ true → answer_now w (command.Index u name parts) ≡ (w, Reply.refused BadKey)
+      pub index-real : (real_part parts).1 ≡ true → answer w (command.Index u name parts) ≡ (w, Reply.refused BadKey)
       index-real real = refused w (command.Index u name parts) BadKey (index-new ∙ first-true BadKey _ (drop 5 (index-rows w u name parts)) real)
 
       module _ (typed : (real_part parts).1 ≡ false) where
-        pub index-checks : first_of (checks_now w (command.Index u name parts)) ≡ first_of (index_tests blocks name (spec_of_words parts) s p)
+        pub index-checks : first_of (checks w (command.Index u name parts)) ≡ first_of (index_tests blocks name (spec_of_words parts) s p)
         index-checks =
             index-new ∙ first-false BadKey _ (drop 5 (index-rows w u name parts)) typed
             ∙ ap {A = Bool} (λ b. first_of ((Limit, b) ∷ full w u (command.Index u name parts) ∷ [])) limit-is
             ∙ ap {A = Bool} (λ b. first_of ((Limit, nat_le 16 (length p.specs)) ∷ (Full, b) ∷ [])) room-is
             ∙ sym (first-false BadIndex _ (drop 1 (index_tests blocks name (spec_of_words parts) s p)) (ap (λ paths. has_paths paths p.specs) (paths-same parts) ∙ new))
 
-        pub index-refused : (r : Refusal) → first_of (index_tests blocks name (spec_of_words parts) s p) ≡ Some r → answer_now w (command.Index u name parts) ≡ (w, Reply.refused r)
+        pub index-refused : (r : Refusal) → first_of (index_tests blocks name (spec_of_words parts) s p) ≡ Some r → answer w (command.Index u name parts) ≡ (w, Reply.refused r)
         index-refused r k = refused w (command.Index u name parts) r (index-checks ∙ k)
 
         pub index-done : first_of (index_tests blocks name (spec_of_words parts) s p) ≡ None → w.cursors ≡ replicate 32 None
-            → answer_now w (command.Index u name parts) ≡ (change_store w u (change_soup name (with_index (spec_of_words parts))), Reply.done)
+            → answer w (command.Index u name parts) ≡ (change_store w u (change_soup name (with_index (spec_of_words parts))), Reply.done)
         unfolding changed fields
         index-done k none = done w (command.Index u name parts) (index-checks ∙ k) none
 
   -- ---- an index is removed
 
   module _ (paths : List Path) where
-    pub unindex-there : first_of (checks_now w (command.Unindex u name paths)) ≡ first_of (no_index w u name paths ∷ [])
+    pub unindex-there : first_of (checks w (command.Unindex u name paths)) ≡ first_of (no_index w u name paths ∷ [])
     unfolding checks
     unindex-there = all-pass w u blocks s name p (no_index w u name paths ∷ []) h f
 
-    pub unindex-missing : has_paths paths p.specs ≡ false → answer_now w (command.Unindex u name paths) ≡ (w, Reply.refused BadIndex)
+    pub unindex-missing : has_paths paths p.specs ≡ false → answer w (command.Unindex u name paths) ≡ (w, Reply.refused BadIndex)
     unindex-missing none = refused w (command.Unindex u name paths) BadIndex (unindex-there ∙ first-true BadIndex _ [] (ap not (has-is paths ∙ none)))
 
     pub unindex-done : has_paths paths p.specs ≡ true → w.cursors ≡ replicate 32 None
-        → answer_now w (command.Unindex u name paths) ≡ (change_store w u (change_soup name (without_index paths)), Reply.done)
+        → answer w (command.Unindex u name paths) ≡ (change_store w u (change_soup name (without_index paths)), Reply.done)
     unfolding changed fields
     unindex-done there none = done w (command.Unindex u name paths) (unindex-there ∙ first-false BadIndex _ [] (ap not (has-is paths ∙ there))) none
 
   -- ---- shown
 
-  pub indexes-done : w.cursors ≡ replicate 32 None → answer_now w (command.Indexes u name) ≡ (w, Reply.indexes p.specs)
+  pub indexes-done : w.cursors ≡ replicate 32 None → answer w (command.Indexes u name) ≡ (w, Reply.indexes p.specs)
   unfolding checks changed fields
   indexes-done none = done w (command.Indexes u name) (all-pass w u blocks s name p [] h f) none
       ∙ ap {B = World × Reply} (λ o. (w, or_nil (λ (q : Soup). Reply.indexes q.specs) o)) (soup-named w u blocks s name h ∙ f)
 
-  pub tags-done : w.cursors ≡ replicate 32 None → answer_now w (command.Tags u name) ≡ (w, Reply.tags p.tags)
+  pub tags-done : w.cursors ≡ replicate 32 None → answer w (command.Tags u name) ≡ (w, Reply.tags p.tags)
   unfolding checks changed fields
   tags-done none = done w (command.Tags u name) (all-pass w u blocks s name p [] h f) none
       ∙ ap {B = World × Reply} (λ o. (w, or_nil (λ (q : Soup). Reply.tags q.tags) o)) (soup-named w u blocks s name h ∙ f)
@@ -122,15 +115,15 @@ module _ (w : World) (u blocks : ℕ) (s : Store) (name : List ℕ) (p : Soup) (
 -- ---- refused before
 
 module _ (w : World) (u : ℕ) (name : List ℕ) (r : Refusal) (h : first_of (soup_checks w u name) ≡ Some r) where
-  pub unindex-not-found : (paths : List Path) → answer_now w (command.Unindex u name paths) ≡ (w, Reply.refused r)
+  pub unindex-not-found : (paths : List Path) → answer w (command.Unindex u name paths) ≡ (w, Reply.refused r)
   unfolding checks
-  unindex-not-found paths = refused-early w (command.Unindex u name paths) (soup_checks w u name) (drop 3 (checks_now w (command.Unindex u name paths))) r refl h
+  unindex-not-found paths = refused-early w (command.Unindex u name paths) (soup_checks w u name) (drop 3 (checks w (command.Unindex u name paths))) r refl h
 
-  pub indexes-not-found : answer_now w (command.Indexes u name) ≡ (w, Reply.refused r)
+  pub indexes-not-found : answer w (command.Indexes u name) ≡ (w, Reply.refused r)
   unfolding checks
   indexes-not-found = refused w (command.Indexes u name) r h
 
-  pub tags-not-found : answer_now w (command.Tags u name) ≡ (w, Reply.refused r)
+  pub tags-not-found : answer w (command.Tags u name) ≡ (w, Reply.refused r)
   unfolding checks
   tags-not-found = refused w (command.Tags u name) r h
 
@@ -140,38 +133,33 @@ module _ (w : World) (u : ℕ) (name : List ℕ) (path : Path) (symbols : List (
   abbrev tags-rows : Checks
   tags-rows = no_unit w u ∷ not_mounted w u ∷ no_soup w u name ∷ (Limit, nat_lt 64 (length symbols)) ∷ full w u (command.SetTags u name path symbols) ∷ []
 
-  pub set-tags-unbuilt : tags_fit path symbols ≡ false → answer_now w (command.SetTags u name path symbols) ≡ (w, Reply.refused NoCommand)
+  tags-table : first_of (checks w (command.SetTags u name path symbols)) ≡ first_of tags-rows
   unfolding checks
-  set-tags-unbuilt none = refused w (command.SetTags u name path symbols) NoCommand (ap (λ b. first_of (cond b tags-rows ((NoCommand, true) ∷ []))) none)
+  tags-table = refl
 
-  module _ (fit : tags_fit path symbols ≡ true) where
-    tags-table : first_of (checks_now w (command.SetTags u name path symbols)) ≡ first_of tags-rows
-    unfolding checks
-    tags-table = ap (λ b. first_of (cond b tags-rows ((NoCommand, true) ∷ []))) fit
+  pub set-tags-not-found : (r : Refusal) → first_of (soup_checks w u name) ≡ Some r → answer w (command.SetTags u name path symbols) ≡ (w, Reply.refused r)
+  set-tags-not-found r h = refused w (command.SetTags u name path symbols) r (tags-table ∙ first-found (soup_checks w u name) (drop 3 tags-rows) r h)
 
-    pub set-tags-not-found : (r : Refusal) → first_of (soup_checks w u name) ≡ Some r → answer_now w (command.SetTags u name path symbols) ≡ (w, Reply.refused r)
-    set-tags-not-found r h = refused w (command.SetTags u name path symbols) r (tags-table ∙ first-found (soup_checks w u name) (drop 3 tags-rows) r h)
+  module _ (blocks : ℕ) (s : Store) (p : Soup) (h : OnUnit w u blocks s) (f : soup_named name s ≡ Some p) where
+    tags-there : first_of (checks w (command.SetTags u name path symbols)) ≡ first_of (drop 3 tags-rows)
+    tags-there = tags-table ∙ all-pass w u blocks s name p (drop 3 tags-rows) h f
 
-    module _ (blocks : ℕ) (s : Store) (p : Soup) (h : OnUnit w u blocks s) (f : soup_named name s ≡ Some p) where
-      tags-there : first_of (checks_now w (command.SetTags u name path symbols)) ≡ first_of (drop 3 tags-rows)
-      tags-there = tags-table ∙ all-pass w u blocks s name p (drop 3 tags-rows) h f
+    pub set-tags-many : nat_lt 64 (length symbols) ≡ true → answer w (command.SetTags u name path symbols) ≡ (w, Reply.refused Limit)
+    set-tags-many many = refused w (command.SetTags u name path symbols) Limit (tags-there ∙ first-true Limit _ (drop 4 tags-rows) many)
 
-      pub set-tags-many : nat_lt 64 (length symbols) ≡ true → answer_now w (command.SetTags u name path symbols) ≡ (w, Reply.refused Limit)
-      set-tags-many many = refused w (command.SetTags u name path symbols) Limit (tags-there ∙ first-true Limit _ (drop 4 tags-rows) many)
+    tags-room : (full w u (command.SetTags u name path symbols)).1 ≡ nat_lt (cap blocks) (cost (tagged name (record { path = path; symbols = symbols }) s))
+    unfolding changed
+    tags-room = full-is (change_store w u (tagged name (record { path = path; symbols = symbols }))) u blocks (tagged name (record { path = path; symbols = symbols }) s)
+        (on-changed w u blocks s (tagged name (record { path = path; symbols = symbols })) h)
 
-      tags-room : (full w u (command.SetTags u name path symbols)).1 ≡ nat_lt (cap blocks) (cost (tagged name (record { path = path; symbols = symbols }) s))
-      unfolding changed
-      tags-room = full-is (change_store w u (tagged name (record { path = path; symbols = symbols }))) u blocks (tagged name (record { path = path; symbols = symbols }) s)
-          (on-changed w u blocks s (tagged name (record { path = path; symbols = symbols })) h)
+    module _ (few : nat_lt 64 (length symbols) ≡ false) where
+      pub tags-checks : first_of (checks w (command.SetTags u name path symbols)) ≡ first_of (tags_tests blocks name (record { path = path; symbols = symbols }) s)
+      tags-checks = tags-there ∙ first-false Limit _ (drop 4 tags-rows) few ∙ ap {A = Bool} (λ b. first_of ((Full, b) ∷ [])) tags-room
 
-      module _ (few : nat_lt 64 (length symbols) ≡ false) where
-        pub tags-checks : first_of (checks_now w (command.SetTags u name path symbols)) ≡ first_of (tags_tests blocks name (record { path = path; symbols = symbols }) s)
-        tags-checks = tags-there ∙ first-false Limit _ (drop 4 tags-rows) few ∙ ap {A = Bool} (λ b. first_of ((Full, b) ∷ [])) tags-room
+      pub set-tags-refused : (r : Refusal) → first_of (tags_tests blocks name (record { path = path; symbols = symbols }) s) ≡ Some r → answer w (command.SetTags u name path symbols) ≡ (w, Reply.refused r)
+      set-tags-refused r k = refused w (command.SetTags u name path symbols) r (tags-checks ∙ k)
 
-        pub set-tags-refused : (r : Refusal) → first_of (tags_tests blocks name (record { path = path; symbols = symbols }) s) ≡ Some r → answer_now w (command.SetTags u name path symbols) ≡ (w, Reply.refused r)
-        set-tags-refused r k = refused w (command.SetTags u name path symbols) r (tags-checks ∙ k)
-
-        pub set-tags-done : first_of (tags_tests blocks name (record { path = path; symbols = symbols }) s) ≡ None → w.cursors ≡ replicate 32 None
-            → answer_now w (command.SetTags u name path symbols) ≡ (change_store w u (tagged name (record { path = path; symbols = symbols })), Reply.done)
-        unfolding changed fields
-        set-tags-done k none = done w (command.SetTags u name path symbols) (tags-checks ∙ k) none
+      pub set-tags-done : first_of (tags_tests blocks name (record { path = path; symbols = symbols }) s) ≡ None → w.cursors ≡ replicate 32 None
+          → answer w (command.SetTags u name path symbols) ≡ (change_store w u (tagged name (record { path = path; symbols = symbols })), Reply.done)
+      unfolding changed fields
+      set-tags-done k none = done w (command.SetTags u name path symbols) (tags-checks ∙ k) none

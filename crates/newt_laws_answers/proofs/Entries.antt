@@ -10,9 +10,8 @@ use Rattle.newt_spec_world.specs.World.{World, soup_in, change_store}
 use Rattle.newt_spec_world.specs.Reply.{Reply}
 use Rattle.newt_spec_world.specs.Changed.{changed}
 use Rattle.newt_spec_world.specs.Refused.{checks, no_entry}
-use Rattle.newt_spec_world.specs.Answer.{fields, or_nil}
+use Rattle.newt_spec_world.specs.Answer.{answer, fields, or_nil}
 use Rattle.newt_laws_answers.specs.Tests.{entry_checks, soup_checks}
-use Rattle.newt_laws_answers.specs.Spoken.{answer_now}
 use Rattle.newt_laws_answers.proofs.Firsts.{first-true, first-false, first-found}
 use Rattle.newt_laws_answers.specs.There.{OnUnit}
 use Rattle.newt_laws_answers.proofs.Units.{is-mounted, soup-named}
@@ -33,22 +32,22 @@ module _ (w : World) (u blocks : ℕ) (s : Store) (name : List ℕ) (p : Soup) (
   pub all-there : (e : Entry) → entry_of uid p ≡ Some e → first_of (entry_checks w u name uid) ≡ None
   all-there e k = all-pass w u blocks s name p (no_entry w u name uid ∷ []) h f ∙ entry-passes e k []
 
-  pub get-done : (e : Entry) → entry_of uid p ≡ Some e → w.cursors ≡ replicate 32 None → answer_now w (command.Get u name uid) ≡ (w, Reply.timed e.time e.graph)
+  pub get-done : (e : Entry) → entry_of uid p ≡ Some e → w.cursors ≡ replicate 32 None → answer w (command.Get u name uid) ≡ (w, Reply.timed e.time e.graph)
   unfolding checks changed fields
   get-done e k none = done w (command.Get u name uid) (all-there e k) none
       ∙ ap {B = World × Reply} (λ o. (w, or_nil (λ e. Reply.timed e.time e.graph) o)) (entry-named w u blocks s name p uid h f ∙ k)
 
-  pub getx-done : (e : Entry) → entry_of uid p ≡ Some e → w.cursors ≡ replicate 32 None → answer_now w (command.Getx u name uid) ≡ (w, Reply.timed_nsof e.time e.graph)
+  pub getx-done : (e : Entry) → entry_of uid p ≡ Some e → w.cursors ≡ replicate 32 None → answer w (command.Getx u name uid) ≡ (w, Reply.timed_nsof e.time e.graph)
   unfolding checks changed fields
   getx-done e k none = done w (command.Getx u name uid) (all-there e k) none
       ∙ ap {B = World × Reply} (λ o. (w, or_nil (λ e. Reply.timed_nsof e.time e.graph) o)) (entry-named w u blocks s name p uid h f ∙ k)
 
   pub remove-done : (e : Entry) → entry_of uid p ≡ Some e → w.cursors ≡ replicate 32 None
-      → answer_now w (command.Remove u name uid) ≡ (change_store w u (change_soup name (remove_entry uid)), Reply.done)
+      → answer w (command.Remove u name uid) ≡ (change_store w u (change_soup name (remove_entry uid)), Reply.done)
   unfolding checks changed fields
   remove-done e k none = done w (command.Remove u name uid) (all-there e k) none
 
-  pub alias-done : (e : Entry) → entry_of uid p ≡ Some e → w.cursors ≡ replicate 32 None → answer_now w (command.Alias u name uid) ≡ (w, Reply.alias s.sig p.sig uid)
+  pub alias-done : (e : Entry) → entry_of uid p ≡ Some e → w.cursors ≡ replicate 32 None → answer w (command.Alias u name uid) ≡ (w, Reply.alias s.sig p.sig uid)
   unfolding checks changed fields
   alias-done e k none = done w (command.Alias u name uid) (all-there e k) none
       ∙ ap {B = World × Reply} (λ o. (w, or_nil (λ (t : Store). or_nil (λ (p : Soup). Reply.alias t.sig p.sig uid) (soup_in w u name)) o)) (is-mounted w u blocks s h)
@@ -58,19 +57,19 @@ module _ (w : World) (u blocks : ℕ) (s : Store) (name : List ℕ) (p : Soup) (
 
 -- a command on an entry is refused where its soup is not there, or the entry is not
 module _ (w : World) (u : ℕ) (name : List ℕ) (uid : ℕ) (r : Refusal) (h : first_of (entry_checks w u name uid) ≡ Some r) where
-  pub get-refused : answer_now w (command.Get u name uid) ≡ (w, Reply.refused r)
+  pub get-refused : answer w (command.Get u name uid) ≡ (w, Reply.refused r)
   unfolding checks
   get-refused = refused w (command.Get u name uid) r h
 
-  pub getx-refused : answer_now w (command.Getx u name uid) ≡ (w, Reply.refused r)
+  pub getx-refused : answer w (command.Getx u name uid) ≡ (w, Reply.refused r)
   unfolding checks
   getx-refused = refused w (command.Getx u name uid) r h
 
-  pub remove-refused : answer_now w (command.Remove u name uid) ≡ (w, Reply.refused r)
+  pub remove-refused : answer w (command.Remove u name uid) ≡ (w, Reply.refused r)
   unfolding checks
   remove-refused = refused w (command.Remove u name uid) r h
 
-  pub alias-refused : answer_now w (command.Alias u name uid) ≡ (w, Reply.refused r)
+  pub alias-refused : answer w (command.Alias u name uid) ≡ (w, Reply.refused r)
   unfolding checks
   alias-refused = refused w (command.Alias u name uid) r h
 

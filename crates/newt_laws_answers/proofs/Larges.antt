@@ -10,12 +10,12 @@ use Rattle.newt_spec_store.specs.Store.{Store, Soup, Entry, soup_named, entry_of
 use Rattle.newt_spec_world.specs.declared.command.Command.TheVariants as command
 use Rattle.newt_spec_world.specs.World.{World, entry_in, change_store}
 use Rattle.newt_spec_world.specs.Reply.{Reply}
-use Rattle.newt_spec_world.specs.Changed.{changed, bytes_of_large, large_at, large_bytes, patched, patched_at}
+use Rattle.newt_spec_graph.specs.Larges.{bytes_of_large, large_at, large_bytes}
+use Rattle.newt_spec_world.specs.Changed.{changed, patched, patched_at}
 use Rattle.newt_spec_world.specs.Refused.{checks, on_some}
 use Rattle.newt_host.specs.Moments.{bytes_from}
-use Rattle.newt_spec_world.specs.Answer.{fields, or_nil}
+use Rattle.newt_spec_world.specs.Answer.{answer, fields, or_nil}
 use Rattle.newt_laws_answers.specs.Tests.{entry_checks, large_tests, patch_tests, patched_within}
-use Rattle.newt_laws_answers.specs.Spoken.{checks_now, answer_now}
 use Rattle.newt_laws_answers.specs.There.{OnUnit}
 use Rattle.newt_laws_answers.proofs.Firsts.{first-true, first-false}
 use Rattle.newt_laws_answers.proofs.Units.{store-alike}
@@ -25,13 +25,13 @@ use Rattle.newt_laws_answers.proofs.Replaces.{entry-alike, there-passes}
 -- ---- refused before
 
 module _ (w : World) (u : ℕ) (name : List ℕ) (uid : ℕ) (r : Refusal) (h : first_of (entry_checks w u name uid) ≡ Some r) (path : Path) (at : ℕ) where
-  pub vread-not-found : (many : ℕ) → answer_now w (command.Vread u name uid path at many) ≡ (w, Reply.refused r)
+  pub vread-not-found : (many : ℕ) → answer w (command.Vread u name uid path at many) ≡ (w, Reply.refused r)
   unfolding checks
-  vread-not-found many = refused-early w (command.Vread u name uid path at many) (entry_checks w u name uid) (drop 4 (checks_now w (command.Vread u name uid path at many))) r refl h
+  vread-not-found many = refused-early w (command.Vread u name uid path at many) (entry_checks w u name uid) (drop 4 (checks w (command.Vread u name uid path at many))) r refl h
 
-  pub vwrite-not-found : (bytes : List ℕ) → answer_now w (command.Vwrite u name uid path at bytes) ≡ (w, Reply.refused r)
+  pub vwrite-not-found : (bytes : List ℕ) → answer w (command.Vwrite u name uid path at bytes) ≡ (w, Reply.refused r)
   unfolding checks
-  vwrite-not-found bytes = refused-early w (command.Vwrite u name uid path at bytes) (entry_checks w u name uid) (drop 4 (checks_now w (command.Vwrite u name uid path at bytes))) r refl h
+  vwrite-not-found bytes = refused-early w (command.Vwrite u name uid path at bytes) (entry_checks w u name uid) (drop 4 (checks w (command.Vwrite u name uid path at bytes))) r refl h
 
 -- ---- the entry is there
 
@@ -48,36 +48,36 @@ module _ (w : World) (u blocks : ℕ) (s : Store) (name : List ℕ) (p : Soup) (
 
   -- ---- vread
 
-  vread-tests : (many : ℕ) → first_of (checks_now w (command.Vread u name uid path at many)) ≡ first_of (large_tests path (at + many) e.graph)
+  vread-tests : (many : ℕ) → first_of (checks w (command.Vread u name uid path at many)) ≡ first_of (large_tests path (at + many) e.graph)
   unfolding checks
-  vread-tests many = there-passes w u blocks s name p uid h f e here (drop 4 (checks_now w (command.Vread u name uid path at many))) ∙ ap (λ o. first_of (tests (at + many) o)) there
+  vread-tests many = there-passes w u blocks s name p uid h f e here (drop 4 (checks w (command.Vread u name uid path at many))) ∙ ap (λ o. first_of (tests (at + many) o)) there
 
-  pub vread-refused : (many : ℕ) (r : Refusal) → first_of (large_tests path (at + many) e.graph) ≡ Some r → answer_now w (command.Vread u name uid path at many) ≡ (w, Reply.refused r)
+  pub vread-refused : (many : ℕ) (r : Refusal) → first_of (large_tests path (at + many) e.graph) ≡ Some r → answer w (command.Vread u name uid path at many) ≡ (w, Reply.refused r)
   vread-refused many r k = refused w (command.Vread u name uid path at many) r (vread-tests many ∙ k)
 
   pub vread-done : (many : ℕ) → first_of (large_tests path (at + many) e.graph) ≡ None → w.cursors ≡ replicate 32 None
-      → answer_now w (command.Vread u name uid path at many) ≡ (w, Reply.hex (bytes_from at many (large_bytes e.graph path)))
+      → answer w (command.Vread u name uid path at many) ≡ (w, Reply.hex (bytes_from at many (large_bytes e.graph path)))
   unfolding changed fields
   vread-done many k none = done w (command.Vread u name uid path at many) (vread-tests many ∙ k) none
       ∙ ap {B = World × Reply} (λ o. (w, or_nil (λ e. Reply.hex (bytes_from at many (large_bytes e.graph path))) o)) there
 
   -- ---- vwrite
 
-  vwrite-tests : (bytes : List ℕ) → first_of (checks_now w (command.Vwrite u name uid path at bytes)) ≡ first_of (large_tests path (at + length bytes) e.graph)
+  vwrite-tests : (bytes : List ℕ) → first_of (checks w (command.Vwrite u name uid path at bytes)) ≡ first_of (large_tests path (at + length bytes) e.graph)
   unfolding checks
-  vwrite-tests bytes = there-passes w u blocks s name p uid h f e here (drop 4 (checks_now w (command.Vwrite u name uid path at bytes))) ∙ ap (λ o. first_of (tests (at + length bytes) o)) there
+  vwrite-tests bytes = there-passes w u blocks s name p uid h f e here (drop 4 (checks w (command.Vwrite u name uid path at bytes))) ∙ ap (λ o. first_of (tests (at + length bytes) o)) there
 
   -- no large binary is reached
-  pub vwrite-no-path : large_at e.graph path ≡ None → (bytes : List ℕ) → answer_now w (command.Vwrite u name uid path at bytes) ≡ (w, Reply.refused NoPath)
+  pub vwrite-no-path : large_at e.graph path ≡ None → (bytes : List ℕ) → answer w (command.Vwrite u name uid path at bytes) ≡ (w, Reply.refused NoPath)
   vwrite-no-path none bytes = refused w (command.Vwrite u name uid path at bytes) NoPath (vwrite-tests bytes ∙ first-true NoPath _ (drop 1 (large_tests path (at + length bytes) e.graph)) (ap is_none none))
 
   -- the node of one is reached
   module _ (node : ℕ) (is : large_at e.graph path ≡ Some node) (bytes : List ℕ) where
-    pub patch-checks : first_of (checks_now w (command.Vwrite u name uid path at bytes)) ≡ first_of (patch_tests node at (length bytes) e)
+    pub patch-checks : first_of (checks w (command.Vwrite u name uid path at bytes)) ≡ first_of (patch_tests node at (length bytes) e)
     patch-checks = vwrite-tests bytes ∙ first-false NoPath _ (drop 1 (large_tests path (at + length bytes) e.graph)) (ap is_none is)
         ∙ ap (λ o. first_of ((Range, nat_lt (length (bytes_of_large (option_and_then (slice_get e.graph.nodes) o))) (at + length bytes)) ∷ [])) is
 
-    pub vwrite-refused : (r : Refusal) → first_of (patch_tests node at (length bytes) e) ≡ Some r → answer_now w (command.Vwrite u name uid path at bytes) ≡ (w, Reply.refused r)
+    pub vwrite-refused : (r : Refusal) → first_of (patch_tests node at (length bytes) e) ≡ Some r → answer w (command.Vwrite u name uid path at bytes) ≡ (w, Reply.refused r)
     vwrite-refused r k = refused w (command.Vwrite u name uid path at bytes) r (patch-checks ∙ k)
 
     vwrite-changed : changed w (command.Vwrite u name uid path at bytes) ≡ change_store w u (patched_within name uid node at bytes)
@@ -87,7 +87,7 @@ module _ (w : World) (u blocks : ℕ) (s : Store) (name : List ℕ) (p : Soup) (
         (ap {A = Option ℕ} {B = Entry} (λ o. record e { graph = patched_at o at bytes e.graph }) is))
 
     pub vwrite-done : first_of (patch_tests node at (length bytes) e) ≡ None → w.cursors ≡ replicate 32 None
-        → answer_now w (command.Vwrite u name uid path at bytes) ≡ (change_store w u (patched_within name uid node at bytes), Reply.done)
+        → answer w (command.Vwrite u name uid path at bytes) ≡ (change_store w u (patched_within name uid node at bytes), Reply.done)
     unfolding fields
     vwrite-done k none = done w (command.Vwrite u name uid path at bytes) (patch-checks ∙ k) (ap (λ (y : World). y.cursors) vwrite-changed ∙ none)
         ∙ ap {B = World × Reply} (λ y. (y, Reply.done)) vwrite-changed

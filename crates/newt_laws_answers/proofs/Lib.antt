@@ -13,7 +13,7 @@ pub mod Declares
 pub mod Stores
 pub mod Resolves
 pub mod Faces
-pub mod Spoken
+pub mod Apart
 pub mod Most
 pub mod Refusals
 pub mod Programs

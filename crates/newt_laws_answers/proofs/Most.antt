@@ -18,15 +18,14 @@ use Rattle.newt_spec_world.specs.declared.command.Command.{Command}
 use Rattle.newt_spec_world.specs.declared.command.Command.TheVariants as command
 use Rattle.newt_spec_world.specs.declared.command.PartWord.{PartWord}
 use Rattle.newt_spec_world.specs.World.{World, default_unit, store_on_unit, soup_in, entry_in, change_store}
-use Rattle.newt_spec_world.specs.Changed.{changed, spec_of_words, large_at}
+use Rattle.newt_spec_graph.specs.Larges.{large_at}
+use Rattle.newt_spec_world.specs.Changed.{changed, spec_of_words}
 use Rattle.newt_spec_world.specs.Refused.{checks, real_part}
-use Rattle.newt_laws_world.specs.Worlds.{parts_fit, tags_fit}
 use Rattle.newt_laws_world.proofs.Settled.{find-passes}
-use Rattle.newt_laws_cursors.specs.Cursors.{with_cursors, uses_cursors}
-use Rattle.newt_laws_cursors.proofs.Rows.{changed-apart}
+use Rattle.newt_laws_world.specs.Cursors.{with_cursors, uses_cursors}
+use Rattle.newt_laws_world.proofs.Uncursored.{changed-apart, checks-apart}
 use Rattle.newt_spec_store.specs.Cost.{patch_bytes}
 use Rattle.newt_laws_answers.specs.Bounds.{change_bytes, unless, listed, entries_of, new_in, copied_in, touched, bytes_between, bytes_done, most_programmed}
-use Rattle.newt_laws_answers.specs.Spoken.{checks_now}
 use Rattle.newt_laws_answers.specs.There.{OnUnit}
 use Rattle.newt_laws_answers.specs.Tests.{make_tests, add_tests, move_tests, moved_within, replace_tests, replaced, patch_tests, index_tests, tagged, tags_tests, with_added}
 use Rattle.newt_laws_answers.proofs.Firsts.{first-false}
@@ -39,7 +38,6 @@ use Rattle.newt_laws_answers.proofs.Replaces.{change-checks, set-changed, set-ch
 use Rattle.newt_laws_answers.proofs.Larges.{patch-checks}
 use Rattle.newt_laws_answers.proofs.Copies.{graph-passes, copied, copy-checks, moved, moved_world, ids-first, full-there, full-within}
 use Rattle.newt_laws_answers.proofs.Declares.{paths_of_words, has-is, index-checks, unindex-there, tags-checks}
-use Rattle.newt_laws_answers.proofs.Spoken.{checks-now-apart}
 
 -- the entries that are put and let go
 abbrev Touch : Type 0
@@ -50,16 +48,16 @@ Touch = Option (List Entry × List Entry)
 at-least : (a b : ℕ) → a ≡ b → b ≤ a
 at-least a b e = omega (arith, e)
 
-most-of : (w : World) (c : Command) (u n : ℕ) (tests : Checks) → first_of (checks_now w c) ≡ first_of tests → bytes_done w (changed w c) c u ≡ n → unless tests n ≤ most_programmed w c u
+most-of : (w : World) (c : Command) (u n : ℕ) (tests : Checks) → first_of (checks w c) ≡ first_of tests → bytes_done w (changed w c) c u ≡ n → unless tests n ≤ most_programmed w c u
 unfolding most_programmed
 most-of w c u n tests same bytes =
-    at-least (cond (is_some (first_of (checks_now w c))) 0 (bytes_done w (changed w c) c u)) (unless tests n)
+    at-least (cond (is_some (first_of (checks w c))) 0 (bytes_done w (changed w c) c u)) (unless tests n)
     (ap (λ o. cond (is_some o) 0 (bytes_done w (changed w c) c u)) same ∙ ap (unless tests) bytes)
 
 -- a change of a store of which these entries are put and let go
 most-between : (w : World) (c : Command) (u blocks : ℕ) (a b : Store) (put gone : List Entry) (tests : Checks)
     → bytes_done w (changed w c) c u ≡ bytes_between (store_on_unit w u) (store_on_unit (changed w c) u) (touched w (changed w c) c u)
-    → first_of (checks_now w c) ≡ first_of tests → OnUnit w u blocks a → OnUnit (changed w c) u blocks b → touched w (changed w c) c u ≡ Some (put, gone)
+    → first_of (checks w c) ≡ first_of tests → OnUnit w u blocks a → OnUnit (changed w c) u blocks b → touched w (changed w c) c u ≡ Some (put, gone)
     → unless tests (change_bytes a b put gone) ≤ most_programmed w c u
 most-between w c u blocks a b put gone tests change same before after touch = most-of w c u (change_bytes a b put gone) tests same (change
     ∙ ap (λ s. bytes_between s (store_on_unit (changed w c) u) (touched w (changed w c) c u)) (is-there w u blocks a before)
@@ -200,7 +198,7 @@ module _ (w : World) (u blocks : ℕ) (s : Store) (name : List ℕ) (p : Soup) (
 
     -- between two units
     module _ (differ : v ≡ u → ⊥) where
-      move-checks : first_of (checks_now w (command.Move u name uid v target)) ≡ first_of (add_tests other w.minute target e.graph t q)
+      move-checks : first_of (checks w (command.Move u name uid v target)) ≡ first_of (add_tests other w.minute target e.graph t q)
       move-checks = ids-first w u blocks s name p uid h f v other t target q k g e here _ (full-there w u blocks s name p uid h f v other t target q k g e here differ)
           ∙ sym (graph-passes other w.minute target e t q ok)
 
@@ -244,12 +242,12 @@ module _ (w : World) (u blocks : ℕ) (s : Store) (name : List ℕ) (p : Soup) (
 -- ---- indexes and tags
 
 module _ (w : World) (u blocks : ℕ) (s : Store) (name : List ℕ) (p : Soup) (h : OnUnit w u blocks s) (f : soup_named name s ≡ Some p) where
-  pub index-most : (parts : List PartWord) → parts_fit parts ≡ true → has_paths (paths_of_words parts) p.specs ≡ false → (real_part parts).1 ≡ false
+  pub index-most : (parts : List PartWord) → has_paths (paths_of_words parts) p.specs ≡ false → (real_part parts).1 ≡ false
       → unless (index_tests blocks name (spec_of_words parts) s p) (change_bytes s (change_soup name (with_index (spec_of_words parts)) s) [] []) ≤ most_programmed w (command.Index u name parts) u
   unfolding changed
-  index-most parts fit new typed =
+  index-most parts new typed =
       most-between w (command.Index u name parts) u blocks s (change_soup name (with_index (spec_of_words parts)) s) [] [] (index_tests blocks name (spec_of_words parts) s p) refl
-      (index-checks w u blocks s name p h f parts fit new typed) h (on-changed w u blocks s (change_soup name (with_index (spec_of_words parts))) h) (if-same {X = Touch} u (Some ([], [])) None)
+      (index-checks w u blocks s name p h f parts new typed) h (on-changed w u blocks s (change_soup name (with_index (spec_of_words parts))) h) (if-same {X = Touch} u (Some ([], [])) None)
 
   pub unindex-most : (paths : List Path) → has_paths paths p.specs ≡ true → change_bytes s (change_soup name (without_index paths) s) [] [] ≤ most_programmed w (command.Unindex u name paths) u
   unfolding changed
@@ -257,14 +255,14 @@ module _ (w : World) (u blocks : ℕ) (s : Store) (name : List ℕ) (p : Soup) (
       (unindex-there w u blocks s name p h f paths ∙ first-false BadIndex _ [] (ap not (has-is w u blocks s name p h f paths ∙ has))) h
       (on-changed w u blocks s (change_soup name (without_index paths)) h) (if-same {X = Touch} u (Some ([], [])) None)
 
-pub set-tags-most : (w : World) (u : ℕ) (name : List ℕ) (path : Path) (symbols : List (List ℕ)) → tags_fit path symbols ≡ true → (blocks : ℕ) (s : Store) (p : Soup) → OnUnit w u blocks s
+pub set-tags-most : (w : World) (u : ℕ) (name : List ℕ) (path : Path) (symbols : List (List ℕ)) → (blocks : ℕ) (s : Store) (p : Soup) → OnUnit w u blocks s
     → soup_named name s ≡ Some p → nat_lt 64 (length symbols) ≡ false
     → unless (tags_tests blocks name (record { path = path; symbols = symbols }) s) (change_bytes s (tagged name (record { path = path; symbols = symbols }) s) [] [])
     ≤ most_programmed w (command.SetTags u name path symbols) u
 unfolding changed
-set-tags-most w u name path symbols fit blocks s p h f few =
+set-tags-most w u name path symbols blocks s p h f few =
     most-between w (command.SetTags u name path symbols) u blocks s (change_soup name (with_tags (Some (record { path = path; symbols = symbols }))) s) [] [] (tags_tests blocks name (record { path = path; symbols = symbols }) s) refl
-    (tags-checks w u name path symbols fit blocks s p h f few) h (on-changed w u blocks s (change_soup name (with_tags (Some (record { path = path; symbols = symbols })))) h) (if-same {X = Touch} u (Some ([], [])) None)
+    (tags-checks w u name path symbols blocks s p h f few) h (on-changed w u blocks s (change_soup name (with_tags (Some (record { path = path; symbols = symbols })))) h) (if-same {X = Touch} u (Some ([], [])) None)
 
 -- ---- cursors
 
@@ -276,6 +274,6 @@ done-apart ks w v _ u = refl
 pub cursors-cost-nothing : (ks : List (Option Cursor)) (w : World) (c : Command) (u : ℕ) → uses_cursors c ≡ false → most_programmed (with_cursors ks w) c u ≡ most_programmed w c u
 unfolding most_programmed
 cursors-cost-nothing ks w c u none =
-    ap (λ tests. unless tests (bytes_done (with_cursors ks w) (changed (with_cursors ks w) c) c u)) (checks-now-apart ks w c none)
-    ∙ ap (λ v. unless (checks_now w c) (bytes_done (with_cursors ks w) v c u)) (changed-apart ks w c none)
-    ∙ ap (unless (checks_now w c)) (done-apart ks w (changed w c) c u)
+    ap (λ tests. unless tests (bytes_done (with_cursors ks w) (changed (with_cursors ks w) c) c u)) (checks-apart ks w c none)
+    ∙ ap (λ v. unless (checks w c) (bytes_done (with_cursors ks w) v c u)) (changed-apart ks w c none)
+    ∙ ap (unless (checks w c)) (done-apart ks w (changed w c) c u)

@@ -14,7 +14,8 @@ use Rattle.newt_laws_answers.specs.Tests.{add_tests, move_tests, moved_within, r
 use Rattle.newt_spec_graph.specs.Graph.{change_nth, is_frame, object}
 use Rattle.newt_spec_store.specs.Cost.{cost}
 use Rattle.newt_spec_store.specs.Keys.{IndexSpec, Path, paths_of, has_paths}
-use Rattle.newt_spec_world.specs.Changed.{bytes_of_large, patch_node, patched_at}
+use Rattle.newt_spec_graph.specs.Larges.{bytes_of_large}
+use Rattle.newt_spec_world.specs.Changed.{patch_node, patched_at}
 use Rattle.newt_spec_store.specs.Store.{Store as Plain, Soup, Entry, TagTable, entry_of, change_soup, change_entry, drop_soup, add_entry, remove_entry, soup_of, entry_at, next_uid_of, with_index, without_index, with_graph, with_tags}
 use Rattle.newt_spec_store.specs.StoreOf.{with_bytes}
 use Rattle.newt_store_change.specs.Change.{changed_by, answer_of, refusals, changed_soup, dropped_soup, moved_entry, bytes_in, with_patch, patched_entry, large_in_entry, ends_behind, has_no_ids, is_too_large, specs_of}

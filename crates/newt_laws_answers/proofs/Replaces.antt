@@ -22,11 +22,10 @@ use Rattle.newt_spec_world.specs.World.{World, device, store_of, entry_in, chang
 use Rattle.newt_spec_world.specs.Reply.{Reply}
 use Rattle.newt_spec_world.specs.Changed.{changed, graph_after_set}
 use Rattle.newt_spec_world.specs.Refused.{checks, on_some, no_unit, not_mounted, no_soup, no_entry, full}
-use Rattle.newt_spec_world.specs.Answer.{fields}
+use Rattle.newt_spec_world.specs.Answer.{answer, fields}
 use Rattle.newt_laws_world.proofs.Frames.{set-frame, normal-frame}
 use Rattle.newt_laws_world.proofs.Rows.{and-left}
 use Rattle.newt_laws_answers.specs.Tests.{entry_checks, replaced, replace_tests}
-use Rattle.newt_laws_answers.specs.Spoken.{checks_now, answer_now}
 use Rattle.newt_laws_answers.specs.There.{OnUnit}
 use Rattle.newt_laws_answers.proofs.Firsts.{first-true, first-false}
 use Rattle.newt_laws_answers.proofs.Units.{on-changed, store-alike}
@@ -54,13 +53,13 @@ entry-alike name uid f g s p e named here same =
 -- ---- refused before
 
 module _ (w : World) (u : ℕ) (name : List ℕ) (uid : ℕ) (r : Refusal) (h : first_of (entry_checks w u name uid) ≡ Some r) where
-  pub change-not-found : (g : RawGraph) → answer_now w (command.Change u name uid g) ≡ (w, Reply.refused r)
+  pub change-not-found : (g : RawGraph) → answer w (command.Change u name uid g) ≡ (w, Reply.refused r)
   unfolding checks
-  change-not-found g = refused-early w (command.Change u name uid g) (entry_checks w u name uid) (drop 4 (checks_now w (command.Change u name uid g))) r refl h
+  change-not-found g = refused-early w (command.Change u name uid g) (entry_checks w u name uid) (drop 4 (checks w (command.Change u name uid g))) r refl h
 
-  pub set-not-found : (path : Path) (g : RawGraph) → answer_now w (command.Set u name uid path g) ≡ (w, Reply.refused r)
+  pub set-not-found : (path : Path) (g : RawGraph) → answer w (command.Set u name uid path g) ≡ (w, Reply.refused r)
   unfolding checks
-  set-not-found path g = refused-early w (command.Set u name uid path g) (entry_checks w u name uid) (drop 4 (checks_now w (command.Set u name uid path g))) r refl h
+  set-not-found path g = refused-early w (command.Set u name uid path g) (entry_checks w u name uid) (drop 4 (checks w (command.Set u name uid path g))) r refl h
 
 -- ---- the entry is there
 
@@ -75,18 +74,18 @@ module _ (w : World) (u blocks : ℕ) (s : Store) (name : List ℕ) (p : Soup) (
   -- ---- change
 
   module _ (g : RawGraph) where
-    pub change-checks : first_of (checks_now w (command.Change u name uid g)) ≡ first_of (replace_tests blocks w.minute name uid g s)
+    pub change-checks : first_of (checks w (command.Change u name uid g)) ≡ first_of (replace_tests blocks w.minute name uid g s)
     unfolding checks changed
     change-checks =
-        there-passes (drop 4 (checks_now w (command.Change u name uid g)))
+        there-passes (drop 4 (checks w (command.Change u name uid g)))
         ∙ ap {A = Bool} (λ b. first_of ((Notframe, not (is_frame (object g.nodes g.root))) ∷ (Size, nat_lt 64_000 (skeleton_length g)) ∷ (Full, b) ∷ []))
         (full-replaced (command.Change u name uid g) g refl)
 
-    pub change-refused : (r : Refusal) → first_of (replace_tests blocks w.minute name uid g s) ≡ Some r → answer_now w (command.Change u name uid g) ≡ (w, Reply.refused r)
+    pub change-refused : (r : Refusal) → first_of (replace_tests blocks w.minute name uid g s) ≡ Some r → answer w (command.Change u name uid g) ≡ (w, Reply.refused r)
     change-refused r k = refused w (command.Change u name uid g) r (change-checks ∙ k)
 
     pub change-done : first_of (replace_tests blocks w.minute name uid g s) ≡ None → w.cursors ≡ replicate 32 None
-        → answer_now w (command.Change u name uid g) ≡ (change_store w u (replaced w.minute name uid g), Reply.done)
+        → answer w (command.Change u name uid g) ≡ (change_store w u (replaced w.minute name uid g), Reply.done)
     unfolding changed fields
     change-done k none = done w (command.Change u name uid g) (change-checks ∙ k) none
 
@@ -104,12 +103,12 @@ module _ (w : World) (u blocks : ℕ) (s : Store) (name : List ℕ) (p : Soup) (
         ∷ (Size, on_some o (λ e. nat_lt 64_000 (skeleton_length (graph_after_set path g e.graph))))
         ∷ full w u (command.Set u name uid path g) ∷ []
 
-    set-tests : first_of (checks_now w (command.Set u name uid path g)) ≡ first_of (tests (Some e))
+    set-tests : first_of (checks w (command.Set u name uid path g)) ≡ first_of (tests (Some e))
     unfolding checks
-    set-tests = there-passes (drop 4 (checks_now w (command.Set u name uid path g))) ∙ ap (λ o. first_of (tests o)) there
+    set-tests = there-passes (drop 4 (checks w (command.Set u name uid path g))) ∙ ap (λ o. first_of (tests o)) there
 
     -- no frame is reached
-    pub set-no-path : put e.graph path g ≡ None → answer_now w (command.Set u name uid path g) ≡ (w, Reply.refused NoPath)
+    pub set-no-path : put e.graph path g ≡ None → answer w (command.Set u name uid path g) ≡ (w, Reply.refused NoPath)
     set-no-path none = refused w (command.Set u name uid path g) NoPath (set-tests ∙ first-true NoPath _ (drop 1 (tests (Some e))) (ap is_none none))
 
     module _ (raw : RawGraph) (is : put e.graph path g ≡ Some raw) where
@@ -117,7 +116,7 @@ module _ (w : World) (u blocks : ℕ) (s : Store) (name : List ℕ) (p : Soup) (
       path-passes = first-false NoPath _ (drop 1 (tests (Some e))) (ap is_none is)
 
       -- what would be the graph passes a limit
-      pub set-past-limits : is_within (normal_form raw) ≡ false → answer_now w (command.Set u name uid path g) ≡ (w, Reply.refused Limit)
+      pub set-past-limits : is_within (normal_form raw) ≡ false → answer w (command.Set u name uid path g) ≡ (w, Reply.refused Limit)
       set-past-limits past = refused w (command.Set u name uid path g) Limit (set-tests ∙ path-passes
           ∙ first-true Limit _ (drop 2 (tests (Some e))) (ap (λ o. on_some o (λ x. not (is_within (normal_form x)))) is ∙ ap not past))
 
@@ -134,7 +133,7 @@ module _ (w : World) (u blocks : ℕ) (s : Store) (name : List ℕ) (p : Soup) (
         set-changed = store-alike w u blocks s (change_soup name (change_entry uid (λ e. with_graph w.minute (graph_after_set path g e.graph) e))) (replaced w.minute name uid new) h
             (entry-alike name uid (λ e. with_graph w.minute (graph_after_set path g e.graph) e) (with_graph w.minute new) s p e f here (ap (λ x. with_graph w.minute x e) after))
 
-        pub set-checks : first_of (checks_now w (command.Set u name uid path g)) ≡ first_of (replace_tests blocks w.minute name uid new s)
+        pub set-checks : first_of (checks w (command.Set u name uid path g)) ≡ first_of (replace_tests blocks w.minute name uid new s)
         set-checks =
             set-tests ∙ path-passes
             ∙ first-false Limit _ (drop 2 (tests (Some e))) (ap (λ o. on_some o (λ x. not (is_within (normal_form x)))) is ∙ ap (λ o. not (is_within o)) form ∙ ap not within)
@@ -142,11 +141,11 @@ module _ (w : World) (u blocks : ℕ) (s : Store) (name : List ℕ) (p : Soup) (
             ∙ ap {A = Bool} (λ b. first_of ((Size, nat_lt 64_000 (skeleton_length new)) ∷ (Full, b) ∷ [])) (full-replaced (command.Set u name uid path g) new set-changed)
             ∙ sym (first-false Notframe _ (drop 1 (replace_tests blocks w.minute name uid new s)) (ap not framed))
 
-        pub set-refused : (r : Refusal) → first_of (replace_tests blocks w.minute name uid new s) ≡ Some r → answer_now w (command.Set u name uid path g) ≡ (w, Reply.refused r)
+        pub set-refused : (r : Refusal) → first_of (replace_tests blocks w.minute name uid new s) ≡ Some r → answer w (command.Set u name uid path g) ≡ (w, Reply.refused r)
         set-refused r k = refused w (command.Set u name uid path g) r (set-checks ∙ k)
 
         pub set-done : first_of (replace_tests blocks w.minute name uid new s) ≡ None → w.cursors ≡ replicate 32 None
-            → answer_now w (command.Set u name uid path g) ≡ (change_store w u (replaced w.minute name uid new), Reply.done)
+            → answer w (command.Set u name uid path g) ≡ (change_store w u (replaced w.minute name uid new), Reply.done)
         unfolding fields
         set-done k none = done w (command.Set u name uid path g) (set-checks ∙ k) (ap (λ (y : World). y.cursors) set-changed ∙ none)
             ∙ ap {B = World × Reply} (λ y. (y, Reply.done)) set-changed

@@ -12,9 +12,8 @@ use Rattle.newt_spec_world.specs.World.{World, mounted_store, soup_in, change_st
 use Rattle.newt_spec_world.specs.Reply.{Reply}
 use Rattle.newt_spec_world.specs.Changed.{changed}
 use Rattle.newt_spec_world.specs.Refused.{checks, on_some, soup_limit, no_more_soups, soup_exists, full}
-use Rattle.newt_spec_world.specs.Answer.{fields, or_nil}
+use Rattle.newt_spec_world.specs.Answer.{answer, fields, or_nil}
 use Rattle.newt_laws_answers.specs.Tests.{make_tests, soup_checks, unit_checks}
-use Rattle.newt_laws_answers.specs.Spoken.{checks_now, answer_now}
 use Rattle.newt_laws_answers.specs.There.{OnUnit}
 use Rattle.newt_laws_answers.proofs.Units.{on-changed, is-mounted, soup-named}
 use Rattle.newt_laws_answers.proofs.Answers.{done, refused, refused-early, unit-passes, all-pass, full-is}
@@ -33,7 +32,7 @@ module _ (w : World) (u blocks : ℕ) (s : Store) (name : List ℕ) (h : OnUnit 
   unfolding changed
   room-is = full-is (change_store w u (make_soup name)) u blocks (make_soup name s) (on-changed w u blocks s (make_soup name) h)
 
-  pub soup-checks : first_of (checks_now w (command.Soup u name)) ≡ first_of (make_tests blocks name s)
+  pub soup-checks : first_of (checks w (command.Soup u name)) ≡ first_of (make_tests blocks name s)
   unfolding checks
   soup-checks =
       unit-passes w u blocks s (soup_exists w u name ∷ soup_limit w u ∷ no_more_soups w u ∷ full w u (command.Soup u name) ∷ []) h
@@ -42,26 +41,26 @@ module _ (w : World) (u blocks : ℕ) (s : Store) (name : List ℕ) (h : OnUnit 
       ∙ ap {A = Bool} (λ b. first_of ((Exists, is_some (soup_named name s)) ∷ (Limit, nat_le 64 (length s.soups)) ∷ (Ids, b) ∷ full w u (command.Soup u name) ∷ [])) ids-is
       ∙ ap {A = Bool} (λ b. first_of ((Exists, is_some (soup_named name s)) ∷ (Limit, nat_le 64 (length s.soups)) ∷ (Ids, s.next_soup == 65_535) ∷ (Full, b) ∷ [])) room-is
 
-  pub soup-refused : (r : Refusal) → first_of (make_tests blocks name s) ≡ Some r → answer_now w (command.Soup u name) ≡ (w, Reply.refused r)
+  pub soup-refused : (r : Refusal) → first_of (make_tests blocks name s) ≡ Some r → answer w (command.Soup u name) ≡ (w, Reply.refused r)
   soup-refused r k = refused w (command.Soup u name) r (soup-checks ∙ k)
 
   pub soup-done : first_of (make_tests blocks name s) ≡ None → w.cursors ≡ replicate 32 None
-      → answer_now w (command.Soup u name) ≡ (change_store w u (make_soup name), Reply.number s.next_soup)
+      → answer w (command.Soup u name) ≡ (change_store w u (make_soup name), Reply.number s.next_soup)
   unfolding changed fields
   soup-done k none = done w (command.Soup u name) (soup-checks ∙ k) none
       ∙ ap {B = World × Reply} (λ o. (change_store w u (make_soup name), or_nil (λ t. Reply.number t.next_soup) o)) (is-mounted w u blocks s h)
 
-  pub drop-done : (p : Soup) → soup_named name s ≡ Some p → w.cursors ≡ replicate 32 None → answer_now w (command.Drop u name) ≡ (change_store w u (drop_soup name), Reply.done)
+  pub drop-done : (p : Soup) → soup_named name s ≡ Some p → w.cursors ≡ replicate 32 None → answer w (command.Drop u name) ≡ (change_store w u (drop_soup name), Reply.done)
   unfolding checks changed fields
   drop-done p f none = done w (command.Drop u name) (all-pass w u blocks s name p [] h f) none
 
 -- ---- refused before
 
-pub soup-not-mounted : (w : World) (u : ℕ) (name : List ℕ) (r : Refusal) → first_of (unit_checks w u) ≡ Some r → answer_now w (command.Soup u name) ≡ (w, Reply.refused r)
+pub soup-not-mounted : (w : World) (u : ℕ) (name : List ℕ) (r : Refusal) → first_of (unit_checks w u) ≡ Some r → answer w (command.Soup u name) ≡ (w, Reply.refused r)
 unfolding checks
-soup-not-mounted w u name r h = refused-early w (command.Soup u name) (unit_checks w u) (drop 2 (checks_now w (command.Soup u name))) r refl h
+soup-not-mounted w u name r h = refused-early w (command.Soup u name) (unit_checks w u) (drop 2 (checks w (command.Soup u name))) r refl h
 
-pub drop-not-found : (w : World) (u : ℕ) (name : List ℕ) (r : Refusal) → first_of (soup_checks w u name) ≡ Some r → answer_now w (command.Drop u name) ≡ (w, Reply.refused r)
+pub drop-not-found : (w : World) (u : ℕ) (name : List ℕ) (r : Refusal) → first_of (soup_checks w u name) ≡ Some r → answer w (command.Drop u name) ≡ (w, Reply.refused r)
 unfolding checks
 drop-not-found w u name r h = refused w (command.Drop u name) r h
 
@@ -71,11 +70,11 @@ drop-not-found w u name r h = refused w (command.Drop u name) r h
 abbrev pub soup_rows : Store → List (List ℕ × ℕ × ℕ)
 soup_rows s = map (λ p. (p.name, p.sig, length p.entries)) s.soups
 
-pub soups-refused : (w : World) (u : ℕ) (r : Refusal) → first_of (unit_checks w u) ≡ Some r → answer_now w (command.Soups u) ≡ (w, Reply.refused r)
+pub soups-refused : (w : World) (u : ℕ) (r : Refusal) → first_of (unit_checks w u) ≡ Some r → answer w (command.Soups u) ≡ (w, Reply.refused r)
 unfolding checks
 soups-refused w u r h = refused w (command.Soups u) r h
 
-pub soups-done : (w : World) (u blocks : ℕ) (s : Store) → OnUnit w u blocks s → w.cursors ≡ replicate 32 None → answer_now w (command.Soups u) ≡ (w, Reply.soups (soup_rows s))
+pub soups-done : (w : World) (u blocks : ℕ) (s : Store) → OnUnit w u blocks s → w.cursors ≡ replicate 32 None → answer w (command.Soups u) ≡ (w, Reply.soups (soup_rows s))
 unfolding checks changed fields
 soups-done w u blocks s h none = done w (command.Soups u) (unit-passes w u blocks s [] h) none
     ∙ ap {B = World × Reply} (λ o. (w, or_nil (λ t. Reply.soups (soup_rows t)) o)) (is-mounted w u blocks s h)

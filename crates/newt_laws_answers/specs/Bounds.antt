@@ -8,7 +8,7 @@ use Rattle.newt_spec_world.specs.World.{World, default_unit, store_on_unit, soup
 use Rattle.newt_spec_world.specs.declared.command.Command.{Command}
 use Rattle.newt_spec_world.specs.declared.command.Command.TheVariants as command
 use Rattle.newt_spec_world.specs.Changed.{changed}
-use Rattle.newt_laws_answers.specs.Spoken.{checks_now}
+use Rattle.newt_spec_world.specs.Refused.{checks}
 
 -- The bytes of the batch that makes one store of another: it puts the pages of the directory and of entries, and lets go those of the directory before and of the
 -- entries that were there. (this project's own)
@@ -70,4 +70,4 @@ bytes_done w v c u = bytes_between (store_on_unit w u) (store_on_unit v u) (touc
 
 -- The most bytes that a command but a format programs on a unit: none where it is refused or does not write the unit's store. (this project's own)
 unfoldable pub most_programmed : World → Command → ℕ → ℕ
-most_programmed w c u = unless (checks_now w c) (bytes_done w (changed w c) c u)
+most_programmed w c u = unless (checks w c) (bytes_done w (changed w c) c u)

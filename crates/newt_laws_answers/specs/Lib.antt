@@ -1,4 +1,3 @@
-pub mod Spoken
 pub mod WorldAt
 pub mod Answering
 pub mod Faces

@@ -9,7 +9,8 @@ use Rattle.newt_spec_store.specs.Cost.{cost, skeleton_length}
 use Rattle.newt_spec_store.specs.Keys.{IndexSpec, Path, paths_of, has_paths}
 use Rattle.newt_spec_store.specs.Store.{Store, Soup, Entry, TagTable, soup_named, change_soup, make_soup, change_entry, add_entry, remove_entry, new_store, with_index, with_graph, with_tags}
 use Rattle.newt_spec_world.specs.World.{World, one, change_device, change_store}
-use Rattle.newt_spec_world.specs.Changed.{bytes_of_large, large_at, large_bytes, patched_at}
+use Rattle.newt_spec_graph.specs.Larges.{bytes_of_large, large_at, large_bytes}
+use Rattle.newt_spec_world.specs.Changed.{patched_at}
 use Rattle.newt_spec_world.specs.Refused.{either, no_unit, bad_blocks, is_mounted, not_mounted, no_soup, no_entry}
 
 -- ---- whether things are there

@@ -1,7 +1,9 @@
-//! Laws of how a world answers each command, for the program that answers it from stores on devices.
+//! Laws of how a world answers each command, for the program that answers it from stores on
+//! devices.
 //!
-//! It stands on the crates of definitions and on the laws of the plain world. What a host and a few marks determine is a world (`specs/WorldAt`);
-//! what a world answers to the commands that lines can give is `answer_now` (`specs/Spoken`); what holds at each moment of a command is `Answering`;
-//! and how much a command programs at most is `most_programmed` (`specs/Bounds`). Its promise: where a call on one store changes that store as a
-//! command does, the world changes and answers as the table of commands has it. It has no functions: `proofs/` is what others cite.
+//! It stands on the crates of definitions and on the laws of the plain world. What a host and a few
+//! marks determine is a world (`specs/WorldAt`); what holds at each moment of a command is
+//! `Answering`; and how much a command programs at most is `most_programmed` (`specs/Bounds`). Its
+//! promise: where a call on one store changes that store as a command does, the world changes and
+//! answers as the table of commands has it. It has no functions: `proofs/` is what others cite.
 #![tactic(auto)]

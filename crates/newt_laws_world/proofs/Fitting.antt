@@ -12,7 +12,8 @@ use Rattle.newt_spec_store.specs.Valid.{valid, well_formed, fits}
 use Rattle.newt_spec_world.specs.declared.command.Command.{Command}
 use Rattle.newt_spec_world.specs.declared.command.Command.TheVariants as command
 use Rattle.newt_spec_world.specs.World.{World, Device, Media, blank, one, device, default_unit, store_of, entry_in, change_store, change_media, change_soup_in, settle}
-use Rattle.newt_spec_world.specs.Changed.{changed, spec_of_words, graph_after_set, copy_to, patched, large_at, large_bytes}
+use Rattle.newt_spec_graph.specs.Larges.{large_at, large_bytes}
+use Rattle.newt_spec_world.specs.Changed.{changed, spec_of_words, graph_after_set, copy_to, patched}
 use Rattle.newt_spec_world.specs.Refused.{checks, on_some}
 use Rattle.newt_spec_world.specs.Answer.{answer, answered}
 use Rattle.newt_laws_world.specs.Worlds.{OnMedia, AllValid, has_form}

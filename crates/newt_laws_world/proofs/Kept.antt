@@ -22,7 +22,8 @@ use Rattle.newt_spec_query.specs.Cursor.{Cursor}
 use Rattle.newt_spec_world.specs.declared.command.Command.{Command}
 use Rattle.newt_spec_world.specs.declared.command.Command.TheVariants as command
 use Rattle.newt_spec_world.specs.World.{World, Media, blank, one, mounted_store, soup_in, entry_in, flat, free_cursor, change_soup_in}
-use Rattle.newt_spec_world.specs.Changed.{changed, graph_after_set, patched_at, bytes_of_large, Step, step_from, open_at, put_on, cloned}
+use Rattle.newt_spec_graph.specs.Larges.{bytes_of_large}
+use Rattle.newt_spec_world.specs.Changed.{changed, graph_after_set, patched_at, Step, step_from, open_at, put_on, cloned}
 use Rattle.newt_spec_world.specs.Refused.{on_some}
 use Rattle.newt_laws_world.specs.Worlds.{OnMedia, OnUnits}
 use Rattle.newt_spec_graph.proofs.Lists.{none-some}

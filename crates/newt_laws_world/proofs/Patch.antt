@@ -9,7 +9,8 @@ use Rattle.newt_spec_graph.specs.Graph.{change_nth, object, is_frame}
 use Rattle.newt_spec_graph.specs.Limits.{within_limits}
 use Rattle.newt_spec_nsof.specs.Lengths.{skeleton, bare as bare_node}
 use Rattle.newt_spec_store.specs.Cost.{large_lengths, large_length}
-use Rattle.newt_spec_world.specs.Changed.{patch_node, patched_at, overwritten, bytes_of_large}
+use Rattle.newt_spec_graph.specs.Larges.{bytes_of_large}
+use Rattle.newt_spec_world.specs.Changed.{patch_node, patched_at, overwritten}
 use Rattle.newt_laws_images.proofs.Alike.{Alike, same-node, same-large, alike-limits, alike-frame}
 use Rattle.newt_laws_images.proofs.Both.{Both}
 

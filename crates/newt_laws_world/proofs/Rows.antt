@@ -13,7 +13,8 @@ use Rattle.newt_spec_world.specs.declared.command.Command.{Command}
 use Rattle.newt_spec_world.specs.declared.command.Command.TheVariants as command
 use Rattle.newt_spec_world.specs.declared.command.PartWord.{PartWord}
 use Rattle.newt_spec_world.specs.World.{World, one, default_unit, mounted_store, soup_in, entry_in, change_soup_in}
-use Rattle.newt_spec_world.specs.Changed.{changed, mark, spec_of_words, graph_after_set, copy_to, patched, large_at, large_bytes}
+use Rattle.newt_spec_graph.specs.Larges.{large_at, large_bytes}
+use Rattle.newt_spec_world.specs.Changed.{changed, mark, spec_of_words, graph_after_set, copy_to, patched}
 use Rattle.newt_spec_world.specs.Refused.{checks, on_some}
 use Rattle.newt_laws_world.specs.Worlds.{has_form, parts_fit}
 use Rattle.newt_laws_world.proofs.Units.{change-device, change-store, mounted-has, soup-has}

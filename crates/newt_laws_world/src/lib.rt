@@ -1,16 +1,20 @@
-//! Laws of the plain world: what holds of its definitions, each as the contract of a function without a body.
+//! Laws of the plain world: what holds of its definitions, each as the contract of a function
+//! without a body.
 //!
-//! It stands on the crates of definitions (`newt_spec_graph`, `newt_spec_store`, `newt_spec_query`, `newt_spec_world`). A store that is valid
-//! stays valid under each command, a world whose cursors show the present keys stays so, an id or signature is given once, and a store
-//! that counts its cost as it goes has the cost made afresh. What images are read as is in `newt_laws_images`.
+//! It stands on the crates of definitions (`newt_spec_graph`, `newt_spec_store`, `newt_spec_query`,
+//! `newt_spec_world`). A store that is valid stays valid under each command, a world whose cursors
+//! show the present keys stays so, an id or signature is given once, and a store that counts its
+//! cost as it goes has the cost made afresh. What images are read as is in `newt_laws_images`.
 #![tactic(auto)]
 
+mod cursors;
 mod graphs;
 mod identities;
 mod queries;
 mod scripts;
 mod worlds;
 
+pub use cursors::{other_commands_are_answered_without_cursors, other_commands_see_no_cursors};
 pub use graphs::graphs_are_within_limits;
 pub use identities::{aliases_name_their_entry, ids_are_given_once, removed_is_gone};
 pub use queries::{hits_are_found, hits_rise};

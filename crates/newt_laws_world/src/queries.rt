@@ -9,12 +9,15 @@ ghost use Rattle.newt_laws_world.specs.Found.{IsHit};
 
 /// The hits of a query are what it finds, and nothing else.
 pub fn hits_are_found()
-    ensures sound { (stores : List Store) (q : Query) (h : Hit) → Among (hits stores q) h → IsHit stores q h }
-    ensures complete { (stores : List Store) (q : Query) (h : Hit) → IsHit stores q h → Among (hits stores q) h }
+    ensures sound { (stores : List Store) (q : Query) (h : Hit) → Among (hits stores q) h
+        → IsHit stores q h }
+    ensures complete { (stores : List Store) (q : Query) (h : Hit) → IsHit stores q h
+        → Among (hits stores q) h }
 {}
 
 /// Each hit is before all later ones, so none is there twice.
 pub fn hits_rise()
-    ensures { (stores : List Store) (q : Query) → Pairs (λ s t. s.sig ≡ t.sig → ⊥) stores → Each (λ s. IsTrue (well_formed s)) stores
+    ensures { (stores : List Store) (q : Query) → Pairs (λ s t. s.sig ≡ t.sig → ⊥) stores
+        → Each (λ s. IsTrue (well_formed s)) stores
         → Pairs (λ a b. hit_cmp q.spec.index a b ≡ Less) (hits stores q) }
 {}

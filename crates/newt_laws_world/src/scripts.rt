@@ -7,14 +7,19 @@ ghost use Rattle.newt_laws_world.specs.Scripts.{ReadsWithin, ItemHasForm};
 ghost use Rattle.newt_laws_world.specs.Settled.{IsSettled, MountedApart};
 ghost use Rattle.newt_laws_world.specs.Worlds.{AllValid};
 
-/// The commands of a script have the forms of their words, where literals and streams are read as graphs within the limits.
+/// The commands of a script have the forms of their words, where literals and streams are read as
+/// graphs within the limits.
 pub fn commands_have_their_forms()
-    ensures { (rs : Readers) (script : List ℕ) → ReadsWithin rs → Each ItemHasForm (items_of rs script) }
+    ensures { (rs : Readers) (script : List ℕ) → ReadsWithin rs
+        → Each ItemHasForm (items_of rs script) }
 {}
 
 /// What holds of a world holds of all later worlds of a script.
 pub fn scripts_keep_all()
-    ensures valid { (w : World) (items : List IsItem) → AllValid w → Each ItemHasForm items → AllValid (world_after w items) }
-    ensures settled { (w : World) (items : List IsItem) → IsSettled w → IsSettled (world_after w items) }
-    ensures apart { (w : World) (items : List IsItem) → MountedApart w → MountedApart (world_after w items) }
+    ensures valid { (w : World) (items : List IsItem) → AllValid w → Each ItemHasForm items
+        → AllValid (world_after w items) }
+    ensures settled { (w : World) (items : List IsItem) → IsSettled w
+        → IsSettled (world_after w items) }
+    ensures apart { (w : World) (items : List IsItem) → MountedApart w
+        → MountedApart (world_after w items) }
 {}

@@ -14,7 +14,8 @@ ghost use Rattle.newt_spec_graph.specs.Lists.{Each};
 
 /// A command leaves every store valid.
 pub fn stores_stay_valid()
-    ensures { (w : World) (c : IsCommand) → AllValid w → IsTrue (has_form c) → AllValid (answer w c).0 }
+    ensures { (w : World) (c : IsCommand) → AllValid w → IsTrue (has_form c)
+        → AllValid (answer w c).0 }
 {}
 
 /// After each command the cursors show the present keys.
@@ -24,7 +25,8 @@ pub fn worlds_stay_settled()
 
 /// Most commands leave nothing to settle.
 pub fn few_commands_move_keys()
-    ensures { (w : World) (c : IsCommand) → AllValid w → MountedApart w → IsSettled w → moves_keys c ≡ false → IsSettled (changed w c) }
+    ensures { (w : World) (c : IsCommand) → AllValid w → MountedApart w → IsSettled w
+        → moves_keys c ≡ false → IsSettled (changed w c) }
 {}
 
 /// No two mounted stores have one signature.
@@ -34,15 +36,20 @@ pub fn signatures_stay_apart()
 
 /// What holds of a world holds of all later worlds of its run.
 pub fn runs_keep_all()
-    ensures valid { (w : World) (cs : List IsCommand) → AllValid w → Each (λ c. IsTrue (has_form c)) cs → AllValid (after w cs) }
+    ensures valid { (w : World) (cs : List IsCommand) → AllValid w
+        → Each (λ c. IsTrue (has_form c)) cs → AllValid (after w cs) }
     ensures settled { (w : World) (cs : List IsCommand) → IsSettled w → IsSettled (after w cs) }
     ensures apart { (w : World) (cs : List IsCommand) → MountedApart w → MountedApart (after w cs) }
 {}
 
 /// What holds of the first world of a run.
 pub fn first_worlds_keep_all()
-    ensures valid { (store_of_image : List ℕ → Option Store) (held : List ℕ → Option (List ℕ)) (names : List (List ℕ))
-        → ((image : List ℕ) (s : Store) → store_of_image image ≡ Some s → IsTrue (valid (blocks_of image) s)) → AllValid (world_of store_of_image held names) }
-    ensures settled { (store_of_image : List ℕ → Option Store) (held : List ℕ → Option (List ℕ)) (names : List (List ℕ)) → IsSettled (world_of store_of_image held names) }
-    ensures apart { (store_of_image : List ℕ → Option Store) (held : List ℕ → Option (List ℕ)) (names : List (List ℕ)) → MountedApart (world_of store_of_image held names) }
+    ensures valid { (store_of_image : List ℕ → Option Store) (held : List ℕ → Option (List ℕ))
+        (names : List (List ℕ))
+        → ((image : List ℕ) (s : Store) → store_of_image image ≡ Some s
+        → IsTrue (valid (blocks_of image) s)) → AllValid (world_of store_of_image held names) }
+    ensures settled { (store_of_image : List ℕ → Option Store) (held : List ℕ → Option (List ℕ))
+        (names : List (List ℕ)) → IsSettled (world_of store_of_image held names) }
+    ensures apart { (store_of_image : List ℕ → Option Store) (held : List ℕ → Option (List ℕ))
+        (names : List (List ℕ)) → MountedApart (world_of store_of_image held names) }
 {}

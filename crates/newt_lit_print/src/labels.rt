@@ -1,5 +1,6 @@
 //! The labels of a graph's objects.
-ghost use Rattle.std.specs.Prelude.{◌≡◌, ◌≤◌, ◌++◌, IfOk, fold, length, map, replicate, slice_index_or};
+ghost use Rattle.std.specs.Prelude.{◌≡◌, ◌≤◌, ◌++◌, IfOk, fold, length, map, replicate};
+ghost use Rattle.std.specs.Prelude.{slice_index_or};
 ghost use Rattle.newt_graph.specs.Raw.{labels_of, values_of};
 ghost use Rattle.newt_spec_literal.specs.Printed as printed;
 ghost use Rattle.newt_lit_print.specs.Meetings.{is_more, met, met_by};
@@ -63,7 +64,8 @@ fn meet_tags(meetings: &mut [Meetings], tags: &[u32])
 
 /// Counts the references of a node: its class or tags, then its values.
 fn meet_node(meetings: &mut [Meetings], node: &Node)
-    ensures { meetings.new ≡ fold met_by meetings.old (map refs.Node (labels_of node.now) ++ values_of node.now) }
+    ensures { meetings.new ≡ fold met_by meetings.old (map refs.Node (labels_of node.now) ++
+        values_of node.now) }
 {
     match node {
         Node::Symbol(_) | Node::Str(_) => {}
@@ -82,7 +84,8 @@ fn meet_node(meetings: &mut [Meetings], node: &Node)
 
 /// How many references lead to each node.
 fn count_meetings(alloc: Global, nodes: &[Node], root: Ref) -> Result<Vec<Meetings>, AllocError>
-    ensures { IfOk result (λ m. m.items ≡ fold met_by (replicate (length nodes.now) Meetings.None) (printed.references (record { nodes = nodes.now; root = root }))) }
+    ensures { IfOk result (λ m. m.items ≡ fold met_by (replicate (length nodes.now) Meetings.None)
+        (printed.references (record { nodes = nodes.now; root = root }))) }
 {
     let mut meetings = vec![in alloc; Meetings::None; nodes.len()]?;
     meet(&mut meetings, root);
@@ -99,10 +102,12 @@ fn is_met_again(meetings: &[Meetings], n: usize) -> bool
     n < meetings.len() && matches!(meetings[n], Meetings::More)
 }
 
-/// The label of each node: the next number from 0 on where more than one reference leads to it and it is no symbol, else none.
+/// The label of each node: the next number from 0 on where more than one reference leads to it and
+/// it is no symbol, else none.
 pub fn labels(alloc: Global, nodes: &[Node], root: Ref) -> Result<Vec<Option<u32>>, AllocError>
     requires { length nodes.now ≤ 65535 }
-    ensures { IfOk result (λ labels. labels.items ≡ printed.labels (record { nodes = nodes.now; root = root })) }
+    ensures { IfOk result (λ labels. labels.items ≡ printed.labels
+        (record { nodes = nodes.now; root = root })) }
 {
     let meetings = count_meetings(alloc, nodes, root)?;
     let mut labels = Vec::new(alloc);

@@ -5,7 +5,8 @@ ghost use Rattle.newt_graph.specs.Graph.{RawGraph, IsGraph};
 ghost use Rattle.newt_spec_literal.specs.Grammar.{Reads};
 ghost use Rattle.newt_spec_literal.specs.Printed.{literal};
 
-/// The printed text of a graph is a literal of this graph, so nothing is lost on the way out and back.
+/// The printed text of a graph is a literal of this graph, so nothing is lost on the way out and
+/// back.
 pub fn printed_reads()
     ensures { (g : RawGraph) → IsGraph g → Reads (chars (literal g)) g }
 {}

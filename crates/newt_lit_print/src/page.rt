@@ -73,7 +73,8 @@ impl Page {
     }
 
     pub fn string(&mut self, alloc: Global, units: &[u16]) -> Result<(), AllocError>
-        ensures { OnOk result (self.new ≡ spelled self.old (plain (printed.string_text units.now))) }
+        ensures { OnOk result (self.new ≡ spelled self.old (plain
+            (printed.string_text units.now))) }
     {
         tokens::string(alloc, &mut self.text, units)
     }
@@ -86,7 +87,8 @@ impl Page {
 
     /// A label and the mark behind it, or nothing.
     pub fn label(&mut self, alloc: Global, label: Option<u32>, mark: u8) -> Result<(), AllocError>
-        ensures { OnOk result (self.new ≡ spelled self.old (plain (printed.label_text label mark))) }
+        ensures { OnOk result (self.new ≡ spelled self.old (plain
+            (printed.label_text label mark))) }
     {
         if let Some(n) = label {
             self.text.push(b'#')?;

@@ -29,7 +29,8 @@ fn escaped(out: &mut Vec<u8>, marks: &[u8], c: u8) -> Result<(), AllocError>
 
 /// The characters of a name between bars.
 fn barred(out: &mut Vec<u8>, name: &[u8]) -> Result<(), AllocError>
-    ensures { OnOk result (out.new.items ≡ out.old.items ++ flat_map (printed.escaped (codes "|\\")) name.now) }
+    ensures { OnOk result (out.new.items ≡ out.old.items ++ flat_map (printed.escaped (codes "|\\"))
+        name.now) }
 {
     for c in name {
         escaped(out, b"|\\", *c)?;

@@ -8,7 +8,8 @@ use crate::page::Page;
 use newt_graph::{MOST_OPEN, Node, Ref};
 use std::alloc::{AllocError, Global};
 
-/// Containers are open within one another as far as the limit, and then comes an object without values.
+/// Containers are open within one another as far as the limit, and then comes an object without
+/// values.
 const LEVELS: u8 = MOST_OPEN + 1;
 
 /// The objects that are printed, and their labels.
@@ -35,7 +36,8 @@ impl Source<'_> {
 
     /// The name of a symbol.
     fn symbol(&self, page: &mut Page, n: u32) -> Result<(), AllocError>
-        ensures { OnOk result (page.new ≡ spelled page.old (plain (printed.symbol_text (slice_get self.now.nodes.now n)))) }
+        ensures { OnOk result (page.new ≡ spelled page.old (plain
+            (printed.symbol_text (slice_get self.now.nodes.now n)))) }
     {
         if n as usize >= self.nodes.len() {
             return Ok(());
@@ -55,7 +57,8 @@ impl Source<'_> {
         class: u32,
         bytes: &[u8],
     ) -> Result<(), AllocError>
-        ensures { OnOk result (page.new ≡ spelled page.old (plain (printed.binary_text self.now.nodes.now before.now after.now class bytes.now))) }
+        ensures { OnOk result (page.new ≡ spelled page.old (plain
+            (printed.binary_text self.now.nodes.now before.now after.now class bytes.now))) }
     {
         page.put(before)?;
         self.symbol(page, class)?;
@@ -66,7 +69,8 @@ impl Source<'_> {
 
     /// The class of an array and its colon, with a space where a value follows.
     fn class(&self, page: &mut Page, class: Option<u32>, values: &[Ref]) -> Result<(), AllocError>
-        ensures { OnOk result (page.new ≡ spelled page.old (plain (printed.class_text self.now.nodes.now class values.now))) }
+        ensures { OnOk result (page.new ≡ spelled page.old (plain
+            (printed.class_text self.now.nodes.now class values.now))) }
     {
         let Some(n) = class else {
             return Ok(());
@@ -78,7 +82,8 @@ impl Source<'_> {
     /// A value, with so many objects within one another at most.
     #[cycle(value)]
     fn value(&self, page: &mut Page, value: Ref, levels: u8) -> Result<(), AllocError>
-        ensures { OnOk result (page.new ≡ spelled page.old (printed.value_at self.now.nodes.now self.now.labels.now levels value)) }
+        ensures { OnOk result (page.new ≡ spelled page.old (printed.value_at self.now.nodes.now
+            self.now.labels.now levels value)) }
     {
         match value {
             Ref::Imm(word) => page.word(self.alloc, word),
@@ -86,10 +91,12 @@ impl Source<'_> {
         }
     }
 
-    /// Node n, with so many objects within one another at most: a symbol in full each time, any other object by its label where it has been met.
+    /// Node n, with so many objects within one another at most: a symbol in full each time, any
+    /// other object by its label where it has been met.
     #[cycle(value)]
     fn found(&self, page: &mut Page, n: u32, levels: u8) -> Result<(), AllocError>
-        ensures { OnOk result (page.new ≡ spelled page.old (printed.node_at self.now.nodes.now self.now.labels.now levels n)) }
+        ensures { OnOk result (page.new ≡ spelled page.old (printed.node_at self.now.nodes.now
+            self.now.labels.now levels n)) }
     {
         if levels == 0 || n as usize >= self.nodes.len() {
             return Ok(());
@@ -108,7 +115,8 @@ impl Source<'_> {
     /// An object in full.
     #[cycle(value)]
     fn object(&self, page: &mut Page, node: &Node, levels: u8) -> Result<(), AllocError>
-        ensures { OnOk result (page.new ≡ spelled page.old (printed.object_text self.now.nodes.now (printed.value_at self.now.nodes.now self.now.labels.now levels) node.now)) }
+        ensures { OnOk result (page.new ≡ spelled page.old (printed.object_text self.now.nodes.now
+            (printed.value_at self.now.nodes.now self.now.labels.now levels) node.now)) }
     {
         match node {
             Node::Symbol(name) => {
@@ -133,7 +141,8 @@ impl Source<'_> {
     /// The values of an array and its closing bracket.
     #[cycle(value)]
     fn values(&self, page: &mut Page, values: &[Ref], levels: u8) -> Result<(), AllocError>
-        ensures { OnOk result (page.new ≡ spelled page.old (printed.list_text 93 (map (printed.value_at self.now.nodes.now self.now.labels.now levels) values.now))) }
+        ensures { OnOk result (page.new ≡ spelled page.old (printed.list_text 93
+            (map (printed.value_at self.now.nodes.now self.now.labels.now levels) values.now))) }
     {
         if let [first, rest @ ..] = values {
             self.value(page, *first, levels)?;
@@ -148,7 +157,8 @@ impl Source<'_> {
     /// A tag, its colon, a space and the value.
     #[cycle(value)]
     fn field(&self, page: &mut Page, tag: u32, value: Ref, levels: u8) -> Result<(), AllocError>
-        ensures { OnOk result (page.new ≡ spelled page.old (printed.field_text self.now.nodes.now (printed.value_at self.now.nodes.now self.now.labels.now levels) (tag, value))) }
+        ensures { OnOk result (page.new ≡ spelled page.old (printed.field_text self.now.nodes.now
+            (printed.value_at self.now.nodes.now self.now.labels.now levels) (tag, value))) }
     {
         self.symbol(page, tag)?;
         page.put(b": ")?;
@@ -164,7 +174,10 @@ impl Source<'_> {
         values: &[Ref],
         levels: u8,
     ) -> Result<(), AllocError>
-        ensures { OnOk result (page.new ≡ spelled page.old (printed.list_text 125 (map (printed.field_text self.now.nodes.now (printed.value_at self.now.nodes.now self.now.labels.now levels)) (zip tags.now values.now)))) }
+        ensures { OnOk result (page.new ≡ spelled page.old (printed.list_text 125
+            (map (printed.field_text self.now.nodes.now
+            (printed.value_at self.now.nodes.now self.now.labels.now levels))
+            (zip tags.now values.now)))) }
     {
         let [tag, tags @ ..] = tags else {
             return page.put(b"}");
@@ -185,7 +198,10 @@ impl Source<'_> {
         values: &[Ref],
         levels: u8,
     ) -> Result<(), AllocError>
-        ensures { OnOk result (page.new ≡ spelled page.old (printed.more_text 125 (map (printed.field_text self.now.nodes.now (printed.value_at self.now.nodes.now self.now.labels.now levels)) (zip tags.now values.now)))) }
+        ensures { OnOk result (page.new ≡ spelled page.old (printed.more_text 125
+            (map (printed.field_text self.now.nodes.now
+            (printed.value_at self.now.nodes.now self.now.labels.now levels))
+            (zip tags.now values.now)))) }
     {
         for (tag, value) in tags.iter().zip(values) {
             page.put(b", ")?;
@@ -198,7 +214,8 @@ impl Source<'_> {
 /// The one text of a graph.
 pub fn print(alloc: Global, nodes: &[Node], root: Ref) -> Result<Vec<u8>, AllocError>
     requires { length nodes.now ≤ 65535 }
-    ensures { IfOk result (λ text. text.items ≡ printed.literal (record { nodes = nodes.now; root = root })) }
+    ensures { IfOk result (λ text. text.items ≡ printed.literal
+        (record { nodes = nodes.now; root = root })) }
 {
     let labels = labels(alloc, nodes, root)?;
     let source = Source {

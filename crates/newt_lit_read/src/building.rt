@@ -13,7 +13,8 @@ use newt_graph::{Builder, Graph, Node, Ref};
 use std::alloc::Global;
 use std::marker::Model;
 
-/// A builder whose nodes stand in the order in which the text meets them, and each label with its node.
+/// A builder whose nodes stand in the order in which the text meets them, and each label with its
+/// node.
 #[derive(Drop)]
 pub(crate) struct Building {
     builder: Builder,

@@ -13,8 +13,10 @@ pub fn reads_what_is_written()
 
 /// A text is refused exactly where it is a literal of no graph.
 pub fn refuses_the_rest()
-    ensures refused { (text : List ℕ) → ((g : RawGraph) → Reads text g → ⊥) → literal_read text ≡ Err Literal }
-    ensures nothing { (text : List ℕ) → literal_read text ≡ Err Literal → (g : RawGraph) → Reads text g → ⊥ }
+    ensures refused { (text : List ℕ) → ((g : RawGraph) → Reads text g → ⊥)
+        → literal_read text ≡ Err Literal }
+    ensures nothing { (text : List ℕ) → literal_read text ≡ Err Literal → (g : RawGraph)
+        → Reads text g → ⊥ }
 {}
 
 /// A text is a literal of one graph at most.

@@ -2,7 +2,8 @@
 ghost use Rattle.std.specs.Prelude.{◌<◌, ◌≤◌, length, IfOk, OnOk};
 ghost use Rattle.newt_lit_read.specs.Answers.{Gives};
 ghost use Rattle.newt_lit_read.specs.Tokens.{zeros_at, large_bytes_at};
-ghost use Rattle.newt_lit_read.specs.Reading.{symbol_at, string_at, classed_at, binary_at, large_at, angle_at};
+ghost use Rattle.newt_lit_read.specs.Reading.{symbol_at, string_at, classed_at, binary_at};
+ghost use Rattle.newt_lit_read.specs.Reading.{large_at, angle_at};
 
 use crate::building::Building;
 use crate::fault::LitFault;
@@ -20,7 +21,8 @@ pub(crate) fn symbol<'a>(
     building: &mut Building,
     text: &'a [char],
 ) -> Result<(Ref, &'a [char]), LitFault>
-    ensures gives { Gives (λ x. (x.0, building.new, x.1.now)) result (symbol_at building.old text.now) }
+    ensures gives { Gives (λ x. (x.0, building.new, x.1.now)) result
+        (symbol_at building.old text.now) }
     ensures shorter { IfOk result (λ x. length x.1.now ≤ length text.now) }
     ensures grows { OnOk result (length building.old.nodes ≤ length building.new.nodes) }
 {
@@ -36,7 +38,8 @@ pub(crate) fn string<'a>(
     building: &mut Building,
     text: &'a [char],
 ) -> Result<(Ref, &'a [char]), LitFault>
-    ensures gives { Gives (λ x. (x.0, building.new, x.1.now)) result (string_at building.old text.now) }
+    ensures gives { Gives (λ x. (x.0, building.new, x.1.now)) result
+        (string_at building.old text.now) }
     ensures shorter { IfOk result (λ x. length x.1.now < length text.now) }
     ensures grows { OnOk result (length building.old.nodes ≤ length building.new.nodes) }
 {
@@ -53,7 +56,8 @@ fn classed<'a>(
     building: &mut Building,
     text: &'a [char],
 ) -> Result<((u32, u32), &'a [char]), LitFault>
-    ensures gives { Gives (λ x. (x.0, building.new, x.1.now)) result (classed_at building.old text.now) }
+    ensures gives { Gives (λ x. (x.0, building.new, x.1.now)) result
+        (classed_at building.old text.now) }
     ensures inside { IfOk result (λ x. x.0.0 < length building.new.nodes) }
     ensures shorter { IfOk result (λ x. length x.1.now < length text.now) }
     ensures grows { OnOk result (length building.old.nodes ≤ length building.new.nodes) }
@@ -72,7 +76,8 @@ fn binary<'a>(
     building: &mut Building,
     text: &'a [char],
 ) -> Result<(Ref, &'a [char]), LitFault>
-    ensures gives { Gives (λ x. (x.0, building.new, x.1.now)) result (binary_at building.old text.now) }
+    ensures gives { Gives (λ x. (x.0, building.new, x.1.now)) result
+        (binary_at building.old text.now) }
     ensures shorter { IfOk result (λ x. length x.1.now < length text.now) }
     ensures grows { OnOk result (length building.old.nodes ≤ length building.new.nodes) }
 {
@@ -120,7 +125,8 @@ fn large<'a>(
     building: &mut Building,
     text: &'a [char],
 ) -> Result<(Ref, &'a [char]), LitFault>
-    ensures gives { Gives (λ x. (x.0, building.new, x.1.now)) result (large_at building.old text.now) }
+    ensures gives { Gives (λ x. (x.0, building.new, x.1.now)) result
+        (large_at building.old text.now) }
     ensures shorter { IfOk result (λ x. length x.1.now < length text.now) }
     ensures grows { OnOk result (length building.old.nodes ≤ length building.new.nodes) }
 {
@@ -138,7 +144,8 @@ pub(crate) fn angle<'a>(
     building: &mut Building,
     text: &'a [char],
 ) -> Result<(Ref, &'a [char]), LitFault>
-    ensures gives { Gives (λ x. (x.0, building.new, x.1.now)) result (angle_at building.old text.now) }
+    ensures gives { Gives (λ x. (x.0, building.new, x.1.now)) result
+        (angle_at building.old text.now) }
     ensures shorter { IfOk result (λ x. length x.1.now < length text.now) }
     ensures grows { OnOk result (length building.old.nodes ≤ length building.new.nodes) }
 {

@@ -27,13 +27,15 @@ fn read(alloc: Global, text: &[char]) -> Result<Graph, LitFault>
 
 /// The graph that a text is a literal of. Blanks may stand around it.
 ///
-/// `Literal` comes exactly where there is no such graph: the text is none of the forms, or its graph would pass a limit of graphs, as more than
-/// 200 containers open within one another, or more than 65,535 nodes. `Memory` may come in place of any answer.
+/// `Literal` comes exactly where there is no such graph: the text is none of the forms, or its
+/// graph would pass a limit of graphs, as more than 200 containers open within one another, or more
+/// than 65,535 nodes. `Memory` may come in place of any answer.
 pub fn read_literal(alloc: Global, text: &str) -> Result<Graph, LitFault>
     // What is read is written so.
     ensures found { IfOk result (λ g. Reads (chars text.now) g) }
     // A text is refused only where it is a literal of no graph.
-    ensures literal { result ≡ Err LitFault.Literal → (g : RawGraph) → Reads (chars text.now) g → ⊥ }
+    ensures literal { result ≡ Err LitFault.Literal → (g : RawGraph) → Reads (chars text.now) g
+        → ⊥ }
     // The same as a function of the text.
     ensures reading { result ≢ Err LitFault.Memory → result ≡ literal_read (chars text.now) }
 {

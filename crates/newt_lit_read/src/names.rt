@@ -60,7 +60,8 @@ pub(crate) fn name(alloc: Global, text: &[char]) -> Result<(Vec<u8>, &[char]), L
     }
 }
 
-/// A name with a colon behind it, and the text behind that. Literal where something else stands there.
+/// A name with a colon behind it, and the text behind that. Literal where something else stands
+/// there.
 #[tactic(auto, unfolding(crate::specs::Tokens::tag_at))]
 pub(crate) fn tag(alloc: Global, text: &[char]) -> Result<(Vec<u8>, &[char]), LitFault>
     ensures gives { Gives (λ x. (x.0.items, x.1.now)) result (tag_at text.now) }

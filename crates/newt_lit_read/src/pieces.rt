@@ -2,7 +2,9 @@
 ghost use Rattle.std.specs.Prelude.{◌≡◌, ◌<◌, ◌≤◌, ◌+◌, ◌^◌, ◌++◌, length, IfOk, OnOk, IfSome};
 ghost use Rattle.newt_spec_literal.specs.Words.{units_of};
 ghost use Rattle.newt_lit_read.specs.Answers.{Gives};
-ghost use Rattle.newt_lit_read.specs.Tokens.{hex_at, pieces_at, single, escaped_in_name, next_in_name, escaped_in_string, next_in_string, next_byte, bytes_at};
+ghost use Rattle.newt_lit_read.specs.Tokens.{hex_at, pieces_at, single, escaped_in_name};
+ghost use Rattle.newt_lit_read.specs.Tokens.{next_in_name, escaped_in_string, next_in_string};
+ghost use Rattle.newt_lit_read.specs.Tokens.{next_byte, bytes_at};
 
 use crate::fault::LitFault;
 use crate::words::{are_hex_digits, hex_number, is_barred};
@@ -62,7 +64,8 @@ fn next_in_name(text: &[char]) -> Result<(Option<u8>, &[char]), LitFault>
 
 /// The bytes of a name, behind its opening bar.
 pub(crate) fn between_bars(alloc: Global, text: &[char]) -> Result<(Vec<u8>, &[char]), LitFault>
-    ensures gives { Gives (λ x. (x.0.items, x.1.now)) result (pieces_at single next_in_name (length text.now) text.now) }
+    ensures gives { Gives (λ x. (x.0.items, x.1.now)) result
+        (pieces_at single next_in_name (length text.now) text.now) }
     ensures shorter { IfOk result (λ x. length x.1.now < length text.now) }
 {
     let mut name = Vec::new(alloc);
@@ -132,7 +135,8 @@ fn push_units(units: &mut Vec<u16>, code: u32) -> Result<(), AllocError>
 
 /// The units of a string, behind its opening quote.
 pub(crate) fn units(alloc: Global, text: &[char]) -> Result<(Vec<u16>, &[char]), LitFault>
-    ensures gives { Gives (λ x. (x.0.items, x.1.now)) result (pieces_at units_of next_in_string (length text.now) text.now) }
+    ensures gives { Gives (λ x. (x.0.items, x.1.now)) result
+        (pieces_at units_of next_in_string (length text.now) text.now) }
     ensures shorter { IfOk result (λ x. length x.1.now < length text.now) }
 {
     let mut units = Vec::new(alloc);

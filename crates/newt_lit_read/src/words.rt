@@ -3,7 +3,9 @@ ghost use Rattle.std.specs.Prelude.{◌≡◌, ◌<◌, ◌≤◌, ◌^◌, leng
 ghost use Rattle.std.specs.List.{list_all};
 ghost use Rattle.std.specs.Char.{is_ascii_digit, is_ascii_hexdigit, digit_value};
 ghost use Rattle.newt_base.specs.Names.{is_word, begins_name, is_identifier};
-ghost use Rattle.newt_spec_literal.specs.Words.{is_blank, skip, word_len, is_barred, number, hex_number, are_digits, is_number, is_label, is_count, is_shown};
+ghost use Rattle.newt_spec_literal.specs.Words.{is_blank, skip, word_len, is_barred, number};
+ghost use Rattle.newt_spec_literal.specs.Words.{hex_number, are_digits, is_number, is_label};
+ghost use Rattle.newt_spec_literal.specs.Words.{is_count, is_shown};
 ghost use Rattle.newt_lit_read.specs.Tokens.{word_at};
 
 fn is_blank(c: char) -> bool

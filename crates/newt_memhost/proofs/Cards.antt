@@ -5,11 +5,11 @@ use Rattle.std.proofs.lemmas.Option.{same_Some, get_or_from_slice_get, slice_get
 use Rattle.std.proofs.Math.ListN.{length-set}
 use Rattle.std.specs.Str.{bytes_eq}
 use Rattle.newt_host.specs.Moments.{Change, Attached, Wrote, Synced, On, Moment, bytes_after, changes, output, IsHistory}
-use Rattle.newt_host.specs.Outside.{Outside, Rose, Touches, Spends, NeverFalls, Writes, Syncs}
+use Rattle.newt_host.specs.Outside.{Outside, Counted, Rose, Touches, UnitCall, Work, Writes, Syncs}
 use Rattle.newt_host.proofs.Moments.{changes-same, changes-other}
-use Rattle.newt_memhost.specs.Calls.{OnCard, faults_after, moved_after, raised}
+use Rattle.newt_memhost.specs.Calls.{OnCard, faults_after, moved_after, raised, worn}
 use Rattle.newt_memhost.specs.Room.{IsCounted}
-use Rattle.newt_memhost.specs.Cards.{IsTold, Stands, StandsAs, name_of, blocks_of, faults_of, programmed_of, fetched_of, attached_device, free_device, or_else, device_of}
+use Rattle.newt_memhost.specs.Cards.{IsTold, Stands, StandsAs, name_of, blocks_of, faults_of, programmed_of, fetched_of, erased_of, synced_of, attached_device, free_device, or_else, device_of}
 use Rattle.newt_memhost.specs.declared.card.Card.{Card}
 use Rattle.newt_memhost.specs.declared.card.Device.{Device}
 
@@ -26,6 +26,8 @@ told-by cs now input shelf in_faults out_faults = record {
   dev_faults = λ u. faults_of (slice_get cs u);
   programmed = λ u. programmed_of (slice_get cs u);
   fetched = λ u. fetched_of (slice_get cs u);
+  erased = λ u. erased_of (slice_get cs u);
+  synced = λ u. synced_of (slice_get cs u);
 }
 
 pub get-set-same : (cards : List Card) (i : ℕ) (b c : Card) → slice_get cards i ≡ Some b → slice_get (slice_set cards i c) i ≡ Some c
@@ -133,13 +135,19 @@ moved-most : {T E : Type 0} (r : Result T E) (more count : ℕ) → moved_after 
 moved-most (Ok x) more count = omega arith
 moved-most (Err e) more count = omega arith
 
+-- nor are more calls counted than there were
+worn-most : (more count : ℕ) → worn more count ≤ count + more
+worn-most zero count = omega arith
+worn-most (suc n) count = omega arith
+
 -- a fault more is a count that rose
 pub rises : (before now : ℕ) → now ≡ raised 1 before → Rose before now
 rises before now is = omega (arith, is)
 
-faults-rise : {T E : Type 0} (r : Result T E) (before now : ℕ) → now ≡ faults_after r before → OnErr r (Rose before now)
-faults-rise (Ok x) before now is = tt
-faults-rise (Err e) before now is = rises before now is
+-- with an error a fault is counted, and with an answer none
+pub counted-fault : {T E : Type 0} (r : Result T E) (before now : ℕ) → before ≤ now → now ≡ faults_after r before → Counted r before now
+counted-fault (Ok x) before now later is = record { later = later; cause = tt; no_fault = is }
+counted-fault (Err e) before now later is = record { later = later; cause = rises before now is; no_fault = tt }
 
 module _ (cards : List Card) (i unit : ℕ) (b c : Card) (same : i ≡ unit) (is : slice_get cards i ≡ Some b) where
   at-old : slice_get cards unit ≡ Some b
@@ -210,66 +218,73 @@ module _ (cards : List Card) (i unit : ℕ) (b c : Card) (same : i ≡ unit) (is
       ) in
       told-set old now told held kept (λ other differ. ap (λ (m : Moment). changes other m) is) stands
 
-  module _ {T E : Type 0} {result : Result T E} {p f : ℕ} (on : OnCard p f result b c) where
-    pub names-same : (u : ℕ) → name_of (slice_get (slice_set cards i c) u) ≡ name_of (slice_get cards u)
+  module _ {T E : Type 0} {result : Result T E} {work : Work} (on : OnCard work result b c) where
+    names-same : (u : ℕ) → name_of (slice_get (slice_set cards i c) u) ≡ name_of (slice_get cards u)
     names-same u = same-field name_of b c
         (ap (λ (t : Bool). cond t (Some c.name.items) None) on.attached ∙ ap (λ (l : List ℕ). cond b.attached (Some l) None) on.name) cards i is u
 
-    pub blocks-same : (u : ℕ) → blocks_of (slice_get (slice_set cards i c) u) ≡ blocks_of (slice_get cards u)
+    blocks-same : (u : ℕ) → blocks_of (slice_get (slice_set cards i c) u) ≡ blocks_of (slice_get cards u)
     blocks-same u = same-field blocks_of b c (ap (λ (l : List ℕ). length l / 4096) on.first) cards i is u
 
-    pub devices-same : (shelf : List Device) (name : List ℕ) → device_of (slice_set cards i c) shelf name ≡ device_of cards shelf name
+    devices-same : (shelf : List Device) (name : List ℕ) → device_of (slice_set cards i c) shelf name ≡ device_of cards shelf name
     devices-same shelf name = ap (λ (o : Option (List ℕ)). or_else o (free_device name shelf)) (same-device b c on.attached on.name on.first name cards i is)
 
     elsewhere : {A : Type 0} (g : Option Card → A) (u : ℕ) → u ≢ unit → g (slice_get (slice_set cards i c) u) ≡ g (slice_get cards u)
     elsewhere g u other = ap g (get-set-other cards i u c (λ e. other (e ∙ same)))
 
-    faults-at : (u : ℕ) → u ≡ unit → faults_of (slice_get cards u) ≤ faults_of (slice_get (slice_set cards i c) u)
-    faults-at u here = omega (arith, on.faults, ap (λ (k : ℕ). faults_of (slice_get cards k)) here ∙ ap faults_of at-old, ap (λ (k : ℕ). faults_of (slice_get (slice_set cards i c) k)) here ∙ ap faults_of at-new)
+    -- a count of the unit that is one of the card
+    count-later : (g : Option Card → ℕ) → g (Some b) ≤ g (Some c) → g (slice_get cards unit) ≤ g (slice_get (slice_set cards i c) unit)
+    count-later g later = omega (arith, later, ap g at-old, ap g at-new)
 
-    pub cause-at : OnErr result (Rose (faults_of (slice_get cards unit)) (faults_of (slice_get (slice_set cards i c) unit)))
-    cause-at = faults-rise result _ _ (ap faults_of at-new ∙ on.faults_are ∙ ap (λ (o : Option Card). faults_after result (faults_of o)) (sym at-old))
+    count-most : (g : Option Card → ℕ) (more : ℕ) → g (Some c) ≤ g (Some b) + more → g (slice_get (slice_set cards i c) unit) ≤ g (slice_get cards unit) + more
+    count-most g more most = omega (arith, most, ap g at-old, ap g at-new)
 
-    programmed-old : programmed_of (slice_get cards unit) ≡ b.programmed
-    programmed-old = ap programmed_of at-old
-
-    programmed-new : programmed_of (slice_get (slice_set cards i c) unit) ≡ c.programmed
-    programmed-new = ap programmed_of at-new
-
-    fetched-old : fetched_of (slice_get cards unit) ≡ b.fetched
-    fetched-old = ap fetched_of at-old
-
-    fetched-new : fetched_of (slice_get (slice_set cards i c) unit) ≡ c.fetched
-    fetched-new = ap fetched_of at-new
+    count-is : (g : Option Card → ℕ) (after : ℕ → ℕ) → g (Some c) ≡ after (g (Some b)) → g (slice_get (slice_set cards i c) unit) ≡ after (g (slice_get cards unit))
+    count-is g after is = ap g at-new ∙ is ∙ ap (λ (o : Option Card). after (g o)) (sym at-old)
 
     module _ (old_now now : Moment) (input : List ℕ) (shelf : List Device) (in_faults out_faults : ℕ) where
-      pub touches : Touches unit (told-by cards old_now input shelf in_faults out_faults) (told-by (slice_set cards i c) now input shelf in_faults out_faults)
+      touches : Touches unit (told-by cards old_now input shelf in_faults out_faults) (told-by (slice_set cards i c) now input shelf in_faults out_faults)
       touches = record {
         input = refl;
         cards = record { devices = λ name. devices-same shelf name; card = names-same; blocks = blocks-same };
         in_faults = refl;
         out_faults = refl;
         dev_faults = λ u other. elsewhere faults_of u other;
-        programmed = λ u other. elsewhere programmed_of u other;
-        fetched = λ u other. elsewhere fetched_of u other;
-        faults_later = faults-at unit refl;
+        others = λ u other. record {
+          programmed = elsewhere programmed_of u other;
+          fetched = elsewhere fetched_of u other;
+          erased = elsewhere erased_of u other;
+          synced = elsewhere synced_of u other;
+        };
+        faults_later = count-later faults_of on.faults;
+        later = record {
+          programmed = count-later programmed_of on.programmed;
+          fetched = count-later fetched_of on.fetched;
+          erased = count-later erased_of on.erased;
+          synced = count-later synced_of on.synced;
+        };
       }
 
-      pub spends : Spends unit p f (told-by cards old_now input shelf in_faults out_faults) (told-by (slice_set cards i c) now input shelf in_faults out_faults)
-      spends = record {
-        programmed = omega (arith, moved-most result p b.programmed, on.programmed_is, programmed-old, programmed-new);
-        fetched = omega (arith, moved-most result f b.fetched, on.fetched_is, fetched-old, fetched-new);
+      -- what every call on a unit promises
+      pub unit-call : UnitCall unit work result (told-by cards old_now input shelf in_faults out_faults) (told-by (slice_set cards i c) now input shelf in_faults out_faults)
+      unit-call = record {
+        alone = touches;
+        costs = record {
+          programmed = count-most programmed_of work.programs (omega (arith, on.programmed_is, moved-most result work.programs b.programmed));
+          fetched = count-most fetched_of work.fetches (omega (arith, on.fetched_is, moved-most result work.fetches b.fetched));
+        };
+        wears = record {
+          erased = count-most erased_of work.erases (omega (arith, on.erased_is, worn-most work.erases b.erased));
+          synced = count-most synced_of work.syncs (omega (arith, on.synced_is, worn-most work.syncs b.synced));
+        };
+        faults = counted-fault result _ _ (count-later faults_of on.faults) (count-is faults_of (faults_after result) on.faults_are);
       }
 
-      pub counted : IsCounted unit p f result (told-by cards old_now input shelf in_faults out_faults) (told-by (slice_set cards i c) now input shelf in_faults out_faults)
+      pub counted : IsCounted unit work result (told-by cards old_now input shelf in_faults out_faults) (told-by (slice_set cards i c) now input shelf in_faults out_faults)
       counted = record {
-        faults = ap faults_of at-new ∙ on.faults_are ∙ ap (λ (o : Option Card). faults_after result (faults_of o)) (sym at-old);
-        programmed = programmed-new ∙ on.programmed_is ∙ ap (λ (n : ℕ). moved_after p result n) (sym programmed-old);
-        fetched = fetched-new ∙ on.fetched_is ∙ ap (λ (n : ℕ). moved_after f result n) (sym fetched-old);
-      }
-
-      pub never_falls : NeverFalls unit (told-by cards old_now input shelf in_faults out_faults) (told-by (slice_set cards i c) now input shelf in_faults out_faults)
-      never_falls = record {
-        programmed = omega (arith, on.programmed, programmed-old, programmed-new);
-        fetched = omega (arith, on.fetched, fetched-old, fetched-new);
+        faults = count-is faults_of (faults_after result) on.faults_are;
+        programmed = count-is programmed_of (moved_after work.programs result) on.programmed_is;
+        fetched = count-is fetched_of (moved_after work.fetches result) on.fetched_is;
+        erased = count-is erased_of (worn work.erases) on.erased_is;
+        synced = count-is synced_of (worn work.syncs) on.synced_is;
       }

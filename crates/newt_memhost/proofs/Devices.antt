@@ -6,9 +6,9 @@ use Rattle.std.proofs.lemmas.Option.{same_Some}
 use Rattle.std.proofs.lemmas.Slice.Eq.{bytes_eq-Decides}
 use Rattle.std.specs.Str.{bytes_eq}
 use Rattle.newt_memhost.specs.Calls.{HasMoved, IsPlaceOf}
-use Rattle.newt_memhost.specs.Cards.{name_of, blocks_of, faults_of, programmed_of, fetched_of, attached_device, free_device, or_else, device_of}
+use Rattle.newt_memhost.specs.Cards.{name_of, blocks_of, faults_of, programmed_of, fetched_of, erased_of, synced_of, attached_device, free_device, or_else, device_of}
 use Rattle.newt_host.specs.Moments.{Attached, On, Moment}
-use Rattle.newt_host.specs.Outside.{Attaches, SameCounts}
+use Rattle.newt_host.specs.Outside.{AttachCall, Attaches}
 use Rattle.newt_memhost.proofs.Cards.{told-by, get-set-same, get-set-other, same-field}
 use Rattle.newt_memhost.specs.declared.card.Card.{Card}
 use Rattle.newt_memhost.specs.declared.card.Device.{Device}
@@ -116,11 +116,20 @@ module _ (name : List ℕ) (cards : List Card) (shelf left : List Device) (i uni
       moment = λ told. ((get_or shelf k d).first.items, known_is, event);
     }
 
-    pub same_counts : SameCounts (told-by cards old input shelf in_faults out_faults) (told-by (slice_set cards i c) now input left in_faults out_faults)
-    same_counts = record {
-      dev_faults = λ u. same-field faults_of b c moved.faults cards i is u;
-      programmed = λ u. same-field programmed_of b c moved.programmed cards i is u;
-      fetched = λ u. same-field fetched_of b c moved.fetched cards i is u;
+    pub attach_call : AttachCall (told-by cards old input shelf in_faults out_faults) (told-by (slice_set cards i c) now input left in_faults out_faults)
+    attach_call = record {
+      input = refl;
+      counts = record {
+        dev_faults = λ u. same-field faults_of b c moved.faults cards i is u;
+        work = λ u. record {
+          programmed = same-field programmed_of b c moved.programmed cards i is u;
+          fetched = same-field fetched_of b c moved.fetched cards i is u;
+          erased = same-field erased_of b c moved.erased cards i is u;
+          synced = same-field synced_of b c moved.synced cards i is u;
+        };
+      };
+      in_faults = refl;
+      out_faults = refl;
     }
 
 pub unknown : (name : List ℕ) (cards : List Card) (shelf : List Device) → ((u : ℕ) → name_of (slice_get cards u) ≡ Some name → ⊥) → free_device name shelf ≡ None → false ≡ is_some (device_of cards shelf name)

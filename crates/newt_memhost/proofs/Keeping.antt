@@ -1,8 +1,8 @@
 -- What stays in a log, and a call for which there was no room.
-use Rattle.std.proofs.Common.{◌≡◌, inl, inr, ℕ, ◌+◌, ◌≤◌, Bool, false, IsTrue, Option, Some, List, [], ◌∷◌, ◌++◌, length, length-append, Result, Ok, Err, is_err, IfOk, OnOk, OnErr, IsErr, Vec, Global, refl, sym, ◌∙◌, ap, arith, vec_len, vec_capacity}
+use Rattle.std.proofs.Common.{◌≡◌, inl, inr, ℕ, ◌+◌, ◌≤◌, Bool, false, IsTrue, Option, Some, List, [], ◌∷◌, ◌++◌, length, length-append, Result, Ok, Err, is_err, IfOk, OnOk, OnErr, IsErr, Vec, Global, refl, sym, ◌∙◌, ap, arith, vec_len}
 use Rattle.std.proofs.lemmas.Bool.{false≢true}
 use Rattle.newt_memhost.specs.Calls.{Keeps}
-use Rattle.newt_memhost.specs.Log.{HasRoom}
+use Rattle.newt_memhost.specs.Log.{Adds, HasRoom, NoSmaller, SamePast}
 use Rattle.newt_memhost.specs.Past.{unit_at}
 use Rattle.newt_memhost.specs.declared.happened.Happened.{Happened}
 use Rattle.newt_memhost.specs.declared.log.Log.{Log}
@@ -27,54 +27,53 @@ pub same-most : (a b : Vec ℕ Global) (n : ℕ) → a.items ≡ b.items → vec
 same-most a b n same = omega (arith, a.ok.0, b.ok.0, ap length same)
 
 -- the same entries and bytes in no smaller room leave the same room
-pub still-room : (entries bytes : ℕ) (old new : Log) → new.entries.items ≡ old.entries.items → new.store.items ≡ old.store.items → vec_capacity old.entries ≤ vec_capacity new.entries → vec_capacity old.store ≤ vec_capacity new.store → HasRoom entries bytes old
-    → HasRoom entries bytes new
-still-room entries bytes old new same_entries same_store more_entries more_bytes has =
-    let entries_are : vec_len new.entries ≡ vec_len old.entries = omega (arith, old.entries.ok.0, new.entries.ok.0, ap length same_entries) in
-    let store_is : vec_len new.store ≡ vec_len old.store = omega (arith, old.store.ok.0, new.store.ok.0, ap length same_store) in
-    record { entries_fit = omega (arith, has.entries_fit, entries_are, more_entries); bytes_fit = omega (arith, has.bytes_fit, store_is, more_bytes) }
+pub still-room : (entries bytes : ℕ) (old new : Log) → SamePast old new → NoSmaller old new
+    → HasRoom entries bytes old → HasRoom entries bytes new
+still-room entries bytes old new same more has =
+    let entries_are : vec_len new.entries ≡ vec_len old.entries = omega (arith, old.entries.ok.0, new.entries.ok.0, ap length same.entries) in
+    let store_is : vec_len new.store ≡ vec_len old.store = omega (arith, old.store.ok.0, new.store.ok.0, ap length same.store) in
+    record { entries_fit = omega (arith, has.entries_fit, entries_are, more.entries); bytes_fit = omega (arith, has.bytes_fit, store_is, more.store) }
 
-pub keeps-none : {T E : Type 0} {e : E} (waiting bytes : ℕ) (unit : Option ℕ) (fails found : Bool) {room : Type 0} (old new : Log) → new.entries.items ≡ old.entries.items → new.store.items ≡ old.store.items
-    → vec_capacity old.entries ≤ vec_capacity new.entries → vec_capacity old.store ≤ vec_capacity new.store → HasRoom waiting 0 old → (room → IsTrue found) → found ≡ false
+pub keeps-none : {T E : Type 0} {e : E} (waiting bytes : ℕ) (unit : Option ℕ) (fails found : Bool) {room : Type 0} (old new : Log)
+    → SamePast old new → NoSmaller old new → HasRoom waiting 0 old → (room → IsTrue found) → found ≡ false
     → Keeps {T = T} {E = E} waiting bytes unit fails room (Err e) old new
-keeps-none waiting bytes unit fails found old new same_entries same_store more_entries more_bytes waits there none =
-    let entries : vec_len new.entries ≡ vec_len old.entries = omega (arith, old.entries.ok.0, new.entries.ok.0, ap length same_entries) in
-    let store : vec_len new.store ≡ vec_len old.store = omega (arith, old.store.ok.0, new.store.ok.0, ap length same_store) in
+keeps-none waiting bytes unit fails found old new same more waits there none =
+    let entries : vec_len new.entries ≡ vec_len old.entries = omega (arith, old.entries.ok.0, new.entries.ok.0, ap length same.entries) in
+    let store : vec_len new.store ≡ vec_len old.store = omega (arith, old.store.ok.0, new.store.ok.0, ap length same.store) in
     record {
-      became = inr (record { entries_are = same_entries; bytes_are = same_store; failed = refl; full = λ has. false≢true (sym none ∙ there has) });
-      waits = record { entries_fit = omega (arith, waits.entries_fit, entries, more_entries); bytes_fit = omega (arith, waits.bytes_fit, store, more_bytes) };
+      became = inr (record { entries_are = same.entries; bytes_are = same.store; failed = refl; full = λ has. false≢true (sym none ∙ there has) });
+      waits = still-room waiting 0 old new same more waits;
       entries_used = omega (arith, entries);
       bytes_used = omega (arith, store);
-      entries_left = more_entries;
-      bytes_left = more_bytes;
+      entries_left = more.entries;
+      bytes_left = more.store;
     }
 
 -- a call that was added to the log, for which there was room
-pub keeps-added : {T E : Type 0} (waiting bytes : ℕ) (unit : Option ℕ) (fails : Bool) {room : Type 0} (result : Result T E) (old mid new : Log) (entry : Happened) (added : List ℕ) → mid.entries.items ≡ old.entries.items → mid.store.items ≡ old.store.items
-    → mid.calls ≡ old.calls → vec_capacity old.entries ≤ vec_capacity mid.entries → vec_capacity old.store ≤ vec_capacity mid.store → HasRoom (waiting + 1) bytes mid → new.entries.items ≡ mid.entries.items ++ entry ∷ []
-    → new.store.items ≡ mid.store.items ++ added → new.calls ≡ mid.calls + 1 → vec_capacity mid.entries ≤ vec_capacity new.entries → vec_capacity mid.store ≤ vec_capacity new.store → length added ≤ bytes → unit_at (Some entry) ≡ unit
-    → is_err result ≡ fails → Keeps waiting bytes unit fails room result old new
-keeps-added waiting bytes unit fails result old mid new entry added same_entries same_store same_calls more_entries more_bytes has entries_are store_is calls_are entries_left bytes_left fits on failed =
+pub keeps-added : {T E : Type 0} (waiting bytes : ℕ) (unit : Option ℕ) (fails : Bool) {room : Type 0} (result : Result T E) (old mid new : Log) {entry : Happened} {added : List ℕ}
+    → SamePast old mid → NoSmaller old mid → HasRoom (waiting + 1) bytes mid → Adds entry added mid new → length added ≤ bytes
+    → unit_at (Some entry) ≡ unit → is_err result ≡ fails → Keeps waiting bytes unit fails room result old new
+keeps-added waiting bytes unit fails result old mid new {entry = entry} {added = added} same more has adds fits on failed =
     let one : length (entry ∷ []) ≡ 1 = refl in
-    let entries_mid : vec_len mid.entries ≡ vec_len old.entries = omega (arith, old.entries.ok.0, mid.entries.ok.0, ap length same_entries) in
-    let store_mid : vec_len mid.store ≡ vec_len old.store = omega (arith, old.store.ok.0, mid.store.ok.0, ap length same_store) in
-    let entries_new : vec_len new.entries ≡ vec_len mid.entries + 1 = omega (arith, new.entries.ok.0, mid.entries.ok.0, ap length entries_are ∙ length-append mid.entries.items (entry ∷ []), one) in
-    let store_new : vec_len new.store ≡ vec_len mid.store + length added = omega (arith, new.store.ok.0, mid.store.ok.0, ap length store_is ∙ length-append mid.store.items added) in
+    let entries_mid : vec_len mid.entries ≡ vec_len old.entries = omega (arith, old.entries.ok.0, mid.entries.ok.0, ap length same.entries) in
+    let store_mid : vec_len mid.store ≡ vec_len old.store = omega (arith, old.store.ok.0, mid.store.ok.0, ap length same.store) in
+    let entries_new : vec_len new.entries ≡ vec_len mid.entries + 1 = omega (arith, new.entries.ok.0, mid.entries.ok.0, ap length adds.entries ∙ length-append mid.entries.items (entry ∷ []), one) in
+    let store_new : vec_len new.store ≡ vec_len mid.store + length added = omega (arith, new.store.ok.0, mid.store.ok.0, ap length adds.store ∙ length-append mid.store.items added) in
     record {
       became = inl (record {
         entry = entry;
         bytes = added;
-        entries_are = entries_are ∙ ap (λ (l : List Happened). l ++ entry ∷ []) same_entries;
-        bytes_are = store_is ∙ ap (λ (l : List ℕ). l ++ added) same_store;
-        numbered = calls_are ∙ ap (λ (n : ℕ). n + 1) same_calls;
+        entries_are = adds.entries ∙ ap (λ (l : List Happened). l ++ entry ∷ []) same.entries;
+        bytes_are = adds.store ∙ ap (λ (l : List ℕ). l ++ added) same.store;
+        numbered = adds.calls ∙ ap (λ (n : ℕ). n + 1) same.calls;
         is_on = on;
         failed = failed;
       });
-      waits = record { entries_fit = omega (arith, has.entries_fit, entries_new, entries_left); bytes_fit = omega (arith, has.bytes_fit, store_new, bytes_left, fits) };
+      waits = record { entries_fit = omega (arith, has.entries_fit, entries_new, adds.more.entries); bytes_fit = omega (arith, has.bytes_fit, store_new, adds.more.store, fits) };
       entries_used = omega (arith, entries_new, entries_mid);
       bytes_used = omega (arith, store_new, store_mid, fits);
-      entries_left = omega (arith, more_entries, entries_left);
-      bytes_left = omega (arith, more_bytes, bytes_left);
+      entries_left = omega (arith, more.entries, adds.more.entries);
+      bytes_left = omega (arith, more.store, adds.more.store);
     }
 
 -- an answer that is an error where the other is keeps as much

@@ -36,7 +36,7 @@ calls-push (x ∷ log) h = let rest = calls-push log h in omega (arith, rest)
 
 counts-le : (h : Happened) → counts h ≤ 1
 counts-le (Attach u bytes) = omega arith
-counts-le Take = omega arith
+counts-le (Take o) = omega arith
 counts-le (Print n) = omega arith
 counts-le (Read u) = omega arith
 counts-le (Write u at n) = omega arith

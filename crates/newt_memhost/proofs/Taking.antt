@@ -1,7 +1,7 @@
 -- The input and the output.
-use Rattle.std.proofs.Common.{◌≡◌, ℕ, ◌+◌, ◌-◌, ◌≤◌, List, ◌++◌, length, take, drop, slice_get, sym, ◌∙◌, ap, subst, arith}
-use Rattle.std.proofs.lemmas.List.{take-append-drop, take_at, drop-drop, length-take-le, length-drop}
-use Rattle.newt_host.specs.Moments.{Change, Moment, changes, output}
+use Rattle.std.proofs.Common.{◌≡◌, ℕ, ◌+◌, ◌-◌, ◌≤◌, List, ◌∷◌, ◌++◌, length, take, drop, slice_get, sym, ◌∙◌, ap, subst, arith}
+use Rattle.std.proofs.lemmas.List.{take-append-drop, take_at, drop-drop, length-take, length-take-le, length-drop}
+use Rattle.newt_host.specs.Moments.{Change, Moment, Took, changes, output}
 use Rattle.newt_host.specs.Outside.{printed}
 use Rattle.newt_host.proofs.Printing.{changes-printed, output-printed}
 use Rattle.newt_memhost.specs.Cards.{IsTold, Stands}
@@ -17,6 +17,21 @@ took_front n taken input buffer copied inside fits is =
     sym (take-append-drop n (drop taken input))
     ∙ (ap (λ (t : List ℕ). t ++ drop n (drop taken input)) (sym is ∙ sym (take_at copied (drop n buffer) n size))
     ∙ ap (λ (t : List ℕ). take n (copied ++ drop n buffer) ++ t) (drop-drop n taken input))
+
+-- the front of the buffer is that piece
+pub took_piece : (n : ℕ) (piece buffer copied : List ℕ) → copied ≡ piece → length copied ≡ n → piece ≡ take n (copied ++ drop n buffer)
+took_piece n piece buffer copied is size = sym (take_at copied (drop n buffer) n size ∙ is)
+
+-- a part is no longer than what bounds it
+pub short : (n most : ℕ) (bytes : List ℕ) → n ≤ most → length (take n bytes) ≤ most
+short n most bytes low = omega (arith, length-take n bytes, low)
+
+-- what is taken from the input is nothing for a unit, nor for the output
+pub told-took : (cards : List Card) (piece : List ℕ) (old now : Moment) → IsTold cards old → now ≡ Took piece ∷ old → IsTold cards now
+told-took cards piece old now told is = subst (λ (m : Moment). IsTold cards m) (sym is) (record { each = told.each })
+
+pub out-took : (piece before : List ℕ) (old now : Moment) → output old ≡ before → now ≡ Took piece ∷ old → output now ≡ before
+out-took piece before old now out is = ap output is ∙ out
 
 -- what is printed is nothing for a unit
 pub told-printed : (cards : List Card) (bytes : List ℕ) (old now : Moment) → IsTold cards old → now ≡ printed bytes old → IsTold cards now

@@ -3,14 +3,15 @@ use Rattle.std.proofs.Common.{◌≡◌, ◌⊎◌, inl, inr, ℕ, ◌+◌, ◌-
 use Rattle.std.proofs.lemmas.List.{take_more, length-replicate, drop-drop}
 use Rattle.std.proofs.lemmas.List.Sums.{sum_by-cons}
 use Rattle.std.proofs.lemmas.Bool.{false≢true}
-use Rattle.newt_host.specs.Moments.{Change, Attached, Wrote, Synced, Moment, SameOutside, overwritten, bytes_after, LeftBy, changes, output, IsHistory}
+use Rattle.newt_host.specs.Moments.{Change, Attached, Wrote, Synced, Moment, SameOutside, overwritten, bytes_after, LeftBy, changes, output, taken, IsHistory, Printed}
+use Rattle.newt_host.specs.Outside.{printed}
 use Rattle.newt_host.proofs.Histories.{history-length}
 use Rattle.newt_host.proofs.Printing.{changes-printed, output-printed}
 use Rattle.newt_host.proofs.Ranges.{length-overwritten, same-overwritten, same-refl, same-widen}
 use Rattle.newt_memhost.specs.Happened.{bytes_of, total, after, moment_from, moment_of}
 use Rattle.newt_memhost.specs.Images.{FitsIn, HasPast, IsUpTo, torn_after, whole_after}
 use Rattle.std.proofs.lemmas.Option.{slice_get_read, slice_get_past}
-use Rattle.newt_memhost.specs.Past.{before, call_at, chosen, picked, printed_by, torn, within}
+use Rattle.newt_memhost.specs.Past.{before, call_at, chosen, picked, printed_by, taken_by, torn, within}
 use Rattle.newt_memhost.specs.Cards.{IsTold, Stands, StandsAs}
 use Rattle.newt_memhost.specs.declared.card.Card.{Card}
 use Rattle.newt_memhost.specs.declared.happened.Happened.{Happened}
@@ -76,7 +77,8 @@ older_one true size Synced done (inr h) = inr h
 
 older_after : (size unit : ℕ) (h : Happened) (bytes : List ℕ) (m : Moment) → (length (changes unit (after h bytes m)) ≡ 0) ⊎ IsHistory size (changes unit (after h bytes m)) → (length (changes unit m) ≡ 0) ⊎ IsHistory size (changes unit m)
 older_after size unit (Attach u first) bytes m old = older_one (eqb u unit) size (Attached first.items) (changes unit m) old
-older_after size unit Take bytes m old = old
+older_after size unit (Take None) bytes m old = old
+older_after size unit (Take (Some n)) bytes m old = old
 older_after size unit (Print n) bytes m old = subst (λ (done : List Change). (length done ≡ 0) ⊎ IsHistory size done) (changes-printed unit bytes m) old
 older_after size unit (Read u) bytes m old = old
 older_after size unit (Write u at n) bytes m old = older_one (eqb u unit) size (Wrote at bytes) (changes unit m) old
@@ -97,7 +99,8 @@ synced_one false whole done was = was
 
 pub whole-after : (unit : ℕ) (h : Happened) (bytes : List ℕ) (m : Moment) (whole : List ℕ) → whole ≡ bytes_after (changes unit m) → whole_after unit h bytes whole ≡ bytes_after (changes unit (after h bytes m))
 whole-after unit (Attach u first) bytes m whole was = whole_one (eqb u unit) (Attached first.items) first.items whole (changes unit m) refl was
-whole-after unit Take bytes m whole was = was
+whole-after unit (Take None) bytes m whole was = was
+whole-after unit (Take (Some n)) bytes m whole was = was
 whole-after unit (Print n) bytes m whole was = was ∙ sym (ap bytes_after (changes-printed unit bytes m))
 whole-after unit (Read u) bytes m whole was = was
 whole-after unit (Write u at n) bytes m whole was = whole_one (eqb u unit) (Wrote at bytes) (overwritten whole at bytes) whole (changes unit m) (ap (λ (l : List ℕ). overwritten l at bytes) was) was
@@ -111,7 +114,8 @@ torn_one false pick change next torn done is was = was
 pub torn-after : (unit : ℕ) (pick : Pick) (h : Happened) (bytes : List ℕ) (m : Moment) (whole torn : List ℕ) → whole ≡ bytes_after (changes unit m) → torn ≡ picked pick (changes unit m)
     → torn_after unit pick h bytes whole torn ≡ picked pick (changes unit (after h bytes m))
 torn-after unit pick (Attach u first) bytes m whole torn was left = torn_one (eqb u unit) pick (Attached first.items) first.items torn (changes unit m) refl left
-torn-after unit pick Take bytes m whole torn was left = left
+torn-after unit pick (Take None) bytes m whole torn was left = left
+torn-after unit pick (Take (Some n)) bytes m whole torn was left = left
 torn-after unit pick (Print n) bytes m whole torn was left = left ∙ sym (ap (picked pick) (changes-printed unit bytes m))
 torn-after unit pick (Read u) bytes m whole torn was left = left
 torn-after unit pick (Write u at n) bytes m whole torn was left = torn_one (eqb u unit) pick (Wrote at bytes) (chosen pick at bytes torn) torn (changes unit m) (ap (λ (l : List ℕ). chosen pick at bytes l) left) left
@@ -128,7 +132,7 @@ range_fits false size at bytes image done so h sized = absurd (false≢true so)
 pub fits-in : (unit size : ℕ) (h : Happened) (bytes image : List ℕ) (m : Moment) → (length (changes unit (after h bytes m)) ≡ 0) ⊎ IsHistory size (changes unit (after h bytes m)) → (IsHistory size (changes unit m) → length image ≡ size)
     → FitsIn unit h bytes image
 fits-in unit size (Attach u first) bytes image m past sized = tt
-fits-in unit size Take bytes image m past sized = tt
+fits-in unit size (Take o) bytes image m past sized = tt
 fits-in unit size (Print n) bytes image m past sized = tt
 fits-in unit size (Read u) bytes image m past sized = tt
 fits-in unit size (Write u at n) bytes image m past sized = λ same. range_fits (eqb u unit) size at bytes image (changes unit m) (eq-eqb u unit same) past sized
@@ -144,7 +148,8 @@ same-sizes pick size done (inr h) = picked-length pick size done h ∙ sym (hist
 
 pub out-after : (h : Happened) (bytes : List ℕ) (m : Moment) → length bytes ≡ bytes_of h → length (output (after h bytes m)) ≡ length (output m) + printed_by h
 out-after (Attach u first) bytes m its = omega arith
-out-after Take bytes m its = omega arith
+out-after (Take None) bytes m its = omega arith
+out-after (Take (Some n)) bytes m its = omega arith
 out-after (Print n) bytes m its = omega (arith, its, ap length (output-printed bytes m), length-append (output m) bytes)
 out-after (Read u) bytes m its = omega arith
 out-after (Write u at n) bytes m its = omega arith
@@ -153,7 +158,7 @@ out-after (Sync u false) bytes m its = omega arith
 
 pub printed-le : (h : Happened) → printed_by h ≤ bytes_of h
 printed-le (Attach u first) = omega arith
-printed-le Take = omega arith
+printed-le (Take o) = omega arith
 printed-le (Print n) = omega arith
 printed-le (Read u) = omega arith
 printed-le (Write u at n) = omega arith
@@ -220,7 +225,7 @@ module _ (log : List Happened) (store : List ℕ) (i : ℕ) (h : Happened) (low 
 
 torn_is_one : (h : Happened) → (torn (Some h) ≡ []) ⊎ (torn (Some h) ≡ h ∷ [])
 torn_is_one (Attach u first) = inl refl
-torn_is_one Take = inr refl
+torn_is_one (Take o) = inr refl
 torn_is_one (Print n) = inr refl
 torn_is_one (Read u) = inr refl
 torn_is_one (Write u at n) = inr refl
@@ -260,6 +265,43 @@ out-total m (h ∷ log) store fits =
 pub printed-total : (log : List Happened) → sum_by printed_by log ≤ total log
 printed-total [] = omega arith
 printed-total (h ∷ log) = let one = printed-le h in let rest = printed-total log in let sums = sum_by-cons printed_by h log in omega (arith, one, rest, sums)
+
+-- the same of the input that was taken
+taken-printed : (bytes : List ℕ) (m : Moment) → taken (printed bytes m) ≡ taken m
+taken-printed [] m = refl
+taken-printed (byte ∷ bytes) m = taken-printed bytes (Printed byte ∷ m)
+
+taken-after : (h : Happened) (bytes : List ℕ) (m : Moment) → length bytes ≡ bytes_of h → length (taken (after h bytes m)) ≡ length (taken m) + taken_by h
+taken-after (Attach u first) bytes m its = omega arith
+taken-after (Take None) bytes m its = omega arith
+taken-after (Take (Some n)) bytes m its = omega (arith, its, length-append (taken m) bytes)
+taken-after (Print n) bytes m its = omega (arith, ap length (taken-printed bytes m))
+taken-after (Read u) bytes m its = omega arith
+taken-after (Write u at n) bytes m its = omega arith
+taken-after (Sync u true) bytes m its = omega arith
+taken-after (Sync u false) bytes m its = omega arith
+
+taken-le : (h : Happened) → taken_by h ≤ bytes_of h
+taken-le (Attach u first) = omega arith
+taken-le (Take None) = omega arith
+taken-le (Take (Some n)) = omega arith
+taken-le (Print n) = omega arith
+taken-le (Read u) = omega arith
+taken-le (Write u at n) = omega arith
+taken-le (Sync u done) = omega arith
+
+pub taken-total : (m : Moment) (log : List Happened) (store : List ℕ) → total log ≤ length store → length (taken (moment_from m log store)) ≡ length (taken m) + sum_by taken_by log
+taken-total m [] store fits = omega arith
+taken-total m (h ∷ log) store fits =
+    let its : length (take (bytes_of h) store) ≡ bytes_of h = omega (arith, length-take (bytes_of h) store, fits) in
+    let rest = taken-total (after h (take (bytes_of h) store) m) log (drop (bytes_of h) store) (omega (arith, fits, length-drop (bytes_of h) store)) in
+    let one = taken-after h (take (bytes_of h) store) m its in
+    let sums = sum_by-cons taken_by h log in
+    omega (arith, rest, one, sums)
+
+pub taken-fits : (log : List Happened) → sum_by taken_by log ≤ total log
+taken-fits [] = omega arith
+taken-fits (h ∷ log) = let one = taken-le h in let rest = taken-fits log in let sums = sum_by-cons taken_by h log in omega (arith, one, rest, sums)
 
 pub total-take : (log : List Happened) (n : ℕ) → total (take n log) ≤ total log
 total-take log n = omega (arith, sym (ap total (take-append-drop n log)) ∙ total-append (take n log) (drop n log))

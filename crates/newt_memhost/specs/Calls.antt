@@ -1,10 +1,11 @@
 -- What one call does to the log and to the card of its unit.
-use Rattle.std.specs.Prelude.{◌≡◌, ◌⊎◌, ℕ, ◌+◌, ◌-◌, ◌^◌, ◌≤◌, ◌<◌, min, Option, Some, slice_index_or, Bool, true, List, [], ◌∷◌, ◌++◌, length, take, drop, Result, Ok, Err, IsErr, is_err, OnErr, vec_len, vec_capacity}
+use Rattle.std.specs.Prelude.{◌≡◌, ◌⊎◌, ℕ, ◌+◌, ◌-◌, ◌^◌, ◌≤◌, ◌<◌, zero, suc, min, Option, Some, slice_index_or, Bool, true, List, [], ◌∷◌, ◌++◌, length, take, drop, Result, Ok, Err, IsErr, is_err, OnErr, vec_len, vec_capacity}
 use Rattle.std.proofs.Common.{Vec, Global}
-use Rattle.newt_host.specs.Moments.{On, Wrote}
+use Rattle.newt_host.specs.Moments.{On, Wrote, changes}
+use Rattle.newt_host.specs.Outside.{Work, Writes}
 use Rattle.newt_memhost.specs.Log.{HasRoom, now_of}
 use Rattle.newt_memhost.specs.Past.{unit_at}
-use Rattle.newt_memhost.specs.Cards.{free_device}
+use Rattle.newt_memhost.specs.Cards.{StandsAs, free_device}
 use Rattle.newt_memhost.specs.declared.card.Card.{Card}
 use Rattle.newt_memhost.specs.declared.card.Device.{Device}
 use Rattle.newt_memhost.specs.declared.happened.Happened.{Happened}
@@ -23,6 +24,11 @@ faults_after (Err e) count = raised 1 count
 abbrev pub moved_after : {T E : Type 0} → ℕ → Result T E → ℕ → ℕ
 moved_after bytes (Ok x) count = raised bytes count
 moved_after bytes (Err e) count = count
+
+-- a count of calls after none or more of them, whether they failed or not
+abbrev pub worn : ℕ → ℕ → ℕ
+worn zero count = count
+worn (suc n) count = raised (suc n) count
 
 -- A call was kept, as one more entry that has a number, on its unit or on none. It failed exactly where it was to fail.
 pub record WasKept {T E : Type 0} (unit : Option ℕ) (fails : Bool) (result : Result T E) (old new : Log) : Type 0 where
@@ -54,17 +60,22 @@ pub record Keeps {T E : Type 0} (waiting bytes : ℕ) (unit : Option ℕ) (fails
   pub entries_left : vec_capacity old.entries ≤ vec_capacity new.entries
   pub bytes_left : vec_capacity old.store ≤ vec_capacity new.store
 
--- A call on a card leaves what is attached. It counts its fault where it failed, and else the bytes that it programmed and fetched; no count falls.
-pub record OnCard {T E : Type 0} (programs fetches : ℕ) (result : Result T E) (old new : Card) : Type 0 where
+-- A call on a card leaves what is attached. It counts its fault where it failed, and else the
+-- bytes that it programmed and fetched; and it counts an erase and a sync. No count falls.
+pub record OnCard {T E : Type 0} (work : Work) (result : Result T E) (old new : Card) : Type 0 where
   pub attached : new.attached ≡ old.attached
   pub name : new.name.items ≡ old.name.items
   pub first : new.first.items ≡ old.first.items
   pub faults : old.faults ≤ new.faults
   pub faults_are : new.faults ≡ faults_after result old.faults
   pub programmed : old.programmed ≤ new.programmed
-  pub programmed_is : new.programmed ≡ moved_after programs result old.programmed
+  pub programmed_is : new.programmed ≡ moved_after work.programs result old.programmed
   pub fetched : old.fetched ≤ new.fetched
-  pub fetched_is : new.fetched ≡ moved_after fetches result old.fetched
+  pub fetched_is : new.fetched ≡ moved_after work.fetches result old.fetched
+  pub erased : old.erased ≤ new.erased
+  pub erased_is : new.erased ≡ worn work.erases old.erased
+  pub synced : old.synced ≤ new.synced
+  pub synced_is : new.synced ≡ worn work.syncs old.synced
 
 -- the first device of this name stands there
 pub record IsPlaceOf (name : List ℕ) (shelf : List Device) (place : ℕ) : Type 0 where
@@ -81,6 +92,8 @@ pub record HasMoved (device : Device) (old new : Card) : Type 0 where
   pub faults : new.faults ≡ old.faults
   pub programmed : new.programmed ≡ old.programmed
   pub fetched : new.fetched ≡ old.fetched
+  pub erased : new.erased ≡ old.erased
+  pub synced : new.synced ≡ old.synced
 
 -- there is room for so many entries and bytes in the log, and for as many bytes in the output
 pub record HasRoomFor (entries bytes : ℕ) (output : Vec ℕ Global) (log : Log) : Type 0 where
@@ -90,3 +103,13 @@ pub record HasRoomFor (entries bytes : ℕ) (output : Vec ℕ Global) (log : Log
 -- A call that was to program or erase a range, was kept and failed has the range pending, as it reads.
 abbrev pub LeavesPending : {T E : Type 0} → ℕ → ℕ → ℕ → List ℕ → Result T E → Log → Log → Type 0
 LeavesPending unit at n held result old new = new.calls ≡ old.calls + 1 → OnErr result (now_of new ≡ On unit (Wrote at (take n (drop at held))) ∷ now_of old)
+
+-- What a call does that is to put n bytes into a range: it reads like that, what happened is what
+-- the card holds, and after an error the range is pending and reads as before.
+pub record Puts {T E : Type 0} (unit at n : ℕ) (bytes : List ℕ) (result : Result T E)
+    (old new : Card) (before now : Log) : Type 0 where
+  pub event : Writes unit at bytes result (now_of before) (now_of now)
+  pub stands : StandsAs true old (changes unit (now_of before))
+      → StandsAs true new (changes unit (now_of now))
+  pub pending : LeavesPending unit at n old.held.items result before now
+  pub unchanged : OnErr result (new.held.items ≡ old.held.items)

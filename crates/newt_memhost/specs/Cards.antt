@@ -26,6 +26,14 @@ abbrev pub fetched_of : Option Card → ℕ
 fetched_of None = 0
 fetched_of (Some c) = c.fetched
 
+abbrev pub erased_of : Option Card → ℕ
+erased_of None = 0
+erased_of (Some c) = c.erased
+
+abbrev pub synced_of : Option Card → ℕ
+synced_of None = 0
+synced_of (Some c) = c.synced
+
 -- the bytes that the device of a name had at first, where a unit has it, and where none has
 abbrev pub attached_device : List ℕ → List Card → Option (List ℕ)
 attached_device name [] = None

@@ -9,7 +9,7 @@ use Rattle.newt_memhost.specs.declared.past.Pick.{Pick}
 -- a range of the unit lies within the image
 abbrev pub FitsIn : ℕ → Happened → List ℕ → List ℕ → Type 0
 FitsIn unit (Attach u first) bytes image = Unit {0}
-FitsIn unit Take bytes image = Unit {0}
+FitsIn unit (Take o) bytes image = Unit {0}
 FitsIn unit (Print n) bytes image = Unit {0}
 FitsIn unit (Read u) bytes image = Unit {0}
 FitsIn unit (Write u at n) bytes image = u ≡ unit → at + length bytes ≤ length image
@@ -18,7 +18,7 @@ FitsIn unit (Sync u done) bytes image = Unit {0}
 -- the image as it reads after an entry with its bytes
 abbrev pub whole_after : ℕ → Happened → List ℕ → List ℕ → List ℕ
 whole_after unit (Attach u first) bytes whole = if u == unit then first.items else whole
-whole_after unit Take bytes whole = whole
+whole_after unit (Take o) bytes whole = whole
 whole_after unit (Print n) bytes whole = whole
 whole_after unit (Read u) bytes whole = whole
 whole_after unit (Write u at n) bytes whole = if u == unit then overwritten whole at bytes else whole
@@ -27,7 +27,7 @@ whole_after unit (Sync u done) bytes whole = whole
 -- and the one that a pick chooses
 abbrev pub torn_after : ℕ → Pick → Happened → List ℕ → List ℕ → List ℕ → List ℕ
 torn_after unit pick (Attach u first) bytes whole torn = if u == unit then first.items else torn
-torn_after unit pick Take bytes whole torn = torn
+torn_after unit pick (Take o) bytes whole torn = torn
 torn_after unit pick (Print n) bytes whole torn = torn
 torn_after unit pick (Read u) bytes whole torn = torn
 torn_after unit pick (Write u at n) bytes whole torn = if u == unit then chosen pick at bytes torn else torn

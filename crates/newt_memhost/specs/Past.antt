@@ -21,7 +21,7 @@ call_at call (h ∷ log) = if nat_lt call (counts h) then Some h else call_at (c
 abbrev pub torn : Option Happened → List Happened
 torn None = []
 torn (Some (Attach u bytes)) = []
-torn (Some Take) = Take ∷ []
+torn (Some (Take o)) = Take o ∷ []
 torn (Some (Print n)) = Print n ∷ []
 torn (Some (Read u)) = Read u ∷ []
 torn (Some (Write u at n)) = Write u at n ∷ []
@@ -34,7 +34,7 @@ within call log = before call log ++ torn (call_at call log)
 abbrev pub unit_at : Option Happened → Option ℕ
 unit_at None = None
 unit_at (Some (Attach u bytes)) = None
-unit_at (Some Take) = None
+unit_at (Some (Take o)) = None
 unit_at (Some (Print n)) = None
 unit_at (Some (Read u)) = Some u
 unit_at (Some (Write u at n)) = Some u
@@ -42,11 +42,20 @@ unit_at (Some (Sync u done)) = Some u
 
 abbrev pub printed_by : Happened → ℕ
 printed_by (Attach u bytes) = 0
-printed_by Take = 0
+printed_by (Take o) = 0
 printed_by (Print n) = n
 printed_by (Read u) = 0
 printed_by (Write u at n) = 0
 printed_by (Sync u done) = 0
+
+abbrev pub taken_by : Happened → ℕ
+taken_by (Attach u bytes) = 0
+taken_by (Take None) = 0
+taken_by (Take (Some n)) = n
+taken_by (Print n) = 0
+taken_by (Read u) = 0
+taken_by (Write u at n) = 0
+taken_by (Sync u done) = 0
 
 -- what is left of a range that now reads like this, over what was left before
 abbrev pub chosen : Pick → ℕ → List ℕ → List ℕ → List ℕ

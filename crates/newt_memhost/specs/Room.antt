@@ -1,8 +1,10 @@
--- The room of the host, and what a call does to it.
-use Rattle.std.specs.Prelude.{◌≡◌, ℕ, ◌+◌, ◌==◌, Bool, Option, Result, vec_len}
+-- The room of the host, and what its calls do beside what a host promises.
+use Rattle.std.specs.Prelude.{◌≡◌, ◌≢◌, ℕ, ◌+◌, ◌==◌, min, Bool, List, length, Option, Some, None, Result, IfOk, OnOk, OnErr, vec_len}
 use Rattle.std.specs.List.{list_any}
-use Rattle.newt_host.specs.Outside.{Outside, SameCounts}
-use Rattle.newt_memhost.specs.Calls.{Became, HasRoomFor, faults_after, moved_after}
+use Rattle.newt_host.specs.Meanings.{attached, held, left}
+use Rattle.newt_host.specs.Moments.{image}
+use Rattle.newt_host.specs.Outside.{Outside, SameCounts, Work}
+use Rattle.newt_memhost.specs.Calls.{Became, HasRoomFor, LeavesPending, faults_after, moved_after, worn}
 use Rattle.newt_memhost.specs.Outside.{outside_of}
 use Rattle.newt_memhost.specs.declared.host.MemHost.{MemHost}
 
@@ -19,26 +21,84 @@ pub record SamePlan (old new : MemHost) : Type 0 where
   pub failing : new.failing.items ≡ old.failing.items
   pub most : new.most ≡ old.most
 
--- A call that answers a Result was kept with the number that comes next, and failed exactly where that is listed; or there was less room than it uses, one
--- call and so many bytes, and then it failed and nothing has happened. It uses no more room than that.
-pub record IsKept {T E : Type 0} (bytes : ℕ) (unit : Option ℕ) (result : Result T E) (old new : MemHost) : Type 0 where
+-- A call that answers a Result was kept with the number that comes next, and failed exactly where
+-- that is listed; or there was less room than it uses, one call and so many bytes, and then it
+-- failed and nothing has happened. It uses no more room than that.
+pub record IsKept {T E : Type 0} (bytes : ℕ) (unit : Option ℕ) (result : Result T E)
+    (old new : MemHost) : Type 0 where
   pub became : Became unit (is_listed old) (HasRoomOf 1 bytes old) result old.log new.log
-  pub room : (calls more : ℕ) → HasRoomOf (calls + 1) (more + bytes) old → HasRoomOf calls more new
+  pub room : (calls more : ℕ)
+      → HasRoomOf (calls + 1) (more + bytes) old → HasRoomOf calls more new
   pub plan : SamePlan old new
 
--- A call on a unit counted its fault where it failed, and else the bytes that it programmed and fetched.
-pub record IsCounted {T E : Type 0} (unit programs fetches : ℕ) (result : Result T E) (old new : Outside) : Type 0 where
+-- A call on a unit counted its fault where it failed, and else the bytes that it programmed and
+-- fetched. It counted its erase or its sync in any case.
+pub record IsCounted {T E : Type 0} (unit : ℕ) (work : Work) (result : Result T E)
+    (old new : Outside) : Type 0 where
   pub faults : new.dev_faults unit ≡ faults_after result (old.dev_faults unit)
-  pub programmed : new.programmed unit ≡ moved_after programs result (old.programmed unit)
-  pub fetched : new.fetched unit ≡ moved_after fetches result (old.fetched unit)
+  pub programmed : new.programmed unit ≡ moved_after work.programs result (old.programmed unit)
+  pub fetched : new.fetched unit ≡ moved_after work.fetches result (old.fetched unit)
+  pub erased : new.erased unit ≡ worn work.erases (old.erased unit)
+  pub synced : new.synced unit ≡ worn work.syncs (old.synced unit)
 
--- a call that sets the host up: nothing has happened by it, and it has moved no count
-pub record IsQuiet (old new : MemHost) : Type 0 where
+-- What every call on a unit promises of this host: it is counted exactly, and kept.
+pub record UnitKept {T E : Type 0} (bytes unit : ℕ) (work : Work) (result : Result T E)
+    (old new : MemHost) : Type 0 where
+  pub counted : IsCounted unit work result (outside_of old) (outside_of new)
+  pub kept : IsKept bytes (Some unit) result old new
+
+-- What every call on the input promises of this host: it moves the longest piece that there is,
+-- counts its fault, and is kept.
+pub record InputKept {E : Type 0} (bytes : ℕ) (result : Result ℕ E)
+    (old new : MemHost) : Type 0 where
+  pub piece : IfOk result
+      (λ count. count ≡ min (min bytes (length (left (outside_of old)))) old.most)
+  pub faults : new.in_faults ≡ faults_after result old.in_faults
+  pub kept : IsKept bytes None result old new
+
+-- The same of the output. After an error nothing was printed.
+pub record OutputKept {E : Type 0} (bytes : ℕ) (result : Result ℕ E)
+    (old new : MemHost) : Type 0 where
+  pub piece : IfOk result (λ count. count ≡ min bytes old.most)
+  pub none : OnErr result ((outside_of new).now ≡ (outside_of old).now)
+  pub faults : new.out_faults ≡ faults_after result old.out_faults
+  pub kept : IsKept bytes None result old new
+
+-- An attach uses no room that was taken for calls, and has no number.
+pub record AttachKept (old new : MemHost) : Type 0 where
+  pub room : (calls more : ℕ) → HasRoomOf calls more old → HasRoomOf calls more new
+  pub numbers : new.log.calls ≡ old.log.calls
+  pub plan : SamePlan old new
+
+-- A range that was to be written has failed: it is pending, and reads as before.
+pub record LeavesRange {T E : Type 0} (unit at n : ℕ) (result : Result T E)
+    (old new : MemHost) : Type 0 where
+  pub pending : LeavesPending unit at n (image unit (outside_of old).now) result old.log new.log
+  pub unchanged : OnErr result
+      (image unit (outside_of new).now ≡ image unit (outside_of old).now)
+
+-- A call that sets the host up: nothing has happened by it, no unit got or lost its device, and no
+-- count moved.
+pub record SetsUp (old new : MemHost) : Type 0 where
   pub entries : new.log.entries.items ≡ old.log.entries.items
   pub bytes : new.log.store.items ≡ old.log.store.items
+  pub moment : (outside_of new).now ≡ (outside_of old).now
+  pub units : (unit : ℕ) → attached (outside_of new) unit ≡ attached (outside_of old) unit
   pub counts : SameCounts (outside_of old) (outside_of new)
   pub in_faults : new.in_faults ≡ old.in_faults
   pub out_faults : new.out_faults ≡ old.out_faults
+
+-- the same devices wait, each with the same bytes, and the same input
+pub record SameStock (old new : MemHost) : Type 0 where
+  pub devices : (name : List ℕ) → held (outside_of new) name ≡ held (outside_of old) name
+  pub input : left (outside_of new) ≡ left (outside_of old)
+
+-- There is a device of this name, and the others are as they were. After an error there is none.
+pub record AddsDevice {T E : Type 0} (name bytes : List ℕ) (result : Result T E)
+    (old new : Outside) : Type 0 where
+  pub ok : OnOk result (held new name ≡ Some bytes)
+  pub err : OnErr result (held new name ≡ None)
+  pub others : (other : List ℕ) → other ≢ name → held new other ≡ held old other
 
 -- nothing was counted yet
 pub record HasNoCounts (outside : Outside) : Type 0 where
@@ -47,3 +107,5 @@ pub record HasNoCounts (outside : Outside) : Type 0 where
   pub dev_faults : (unit : ℕ) → outside.dev_faults unit ≡ 0
   pub programmed : (unit : ℕ) → outside.programmed unit ≡ 0
   pub fetched : (unit : ℕ) → outside.fetched unit ≡ 0
+  pub erased : (unit : ℕ) → outside.erased unit ≡ 0
+  pub synced : (unit : ℕ) → outside.synced unit ≡ 0

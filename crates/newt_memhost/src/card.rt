@@ -3,7 +3,8 @@ ghost use Rattle.std.specs.Prelude.{◌≡◌, ◌*◌, ◌/◌, ◌<◌, ◌^�
 
 use std::alloc::{AllocError, Global};
 
-/// A device that no unit has yet: its name and its bytes, with a copy of them to be written and one for the log, so that an attach takes no memory.
+/// A device that no unit has yet: its name and its bytes, with a copy of them to be written and one
+/// for the log, so that an attach takes no memory.
 #[derive(Drop)]
 pub struct Device {
     pub name: Vec<u8>,
@@ -33,7 +34,8 @@ impl Device {
     }
 }
 
-/// A unit, with the bytes of its device at the attach and now, and with its counts. Without a device it has none.
+/// A unit, with the bytes of its device at the attach and now, and with its counts. Without a
+/// device it has none.
 #[derive(Drop)]
 pub struct Card {
     pub attached: bool,
@@ -43,6 +45,8 @@ pub struct Card {
     pub faults: u64,
     pub programmed: u64,
     pub fetched: u64,
+    pub erased: u64,
+    pub synced: u64,
     ghost size: { length held.items ≡ length first.items },
     ghost whole: { length first.items ≡ length first.items / 4096 * 4096 },
     ghost few: { length first.items / 4096 < 2 ^ 32 },
@@ -56,6 +60,8 @@ impl Card {
         ensures faults { result.faults ≡ 0 }
         ensures programmed { result.programmed ≡ 0 }
         ensures fetched { result.fetched ≡ 0 }
+        ensures erased { result.erased ≡ 0 }
+        ensures synced { result.synced ≡ 0 }
     {
         Card {
             attached: false,
@@ -65,6 +71,8 @@ impl Card {
             faults: 0,
             programmed: 0,
             fetched: 0,
+            erased: 0,
+            synced: 0,
         }
     }
 }

@@ -47,8 +47,10 @@ fn go_on(
     requires whole { FitsIn unit entry.now bytes.now whole.old.items }
     requires torn { FitsIn unit entry.now bytes.now torn.old.items }
     requires sizes { length torn.old.items ≡ length whole.old.items }
-    ensures whole { OnOk result (whole.new.items ≡ whole_after unit entry.now bytes.now whole.old.items) }
-    ensures torn { OnOk result (torn.new.items ≡ torn_after unit pick entry.now bytes.now whole.old.items torn.old.items) }
+    ensures whole { OnOk result (whole.new.items ≡ whole_after unit entry.now bytes.now
+        whole.old.items) }
+    ensures torn { OnOk result (torn.new.items ≡ torn_after unit pick entry.now bytes.now
+        whole.old.items torn.old.items) }
 {
     match entry {
         Happened::Attach(u, first) if u.0 == unit.0 => {
@@ -85,7 +87,8 @@ pub fn build(
 ) -> Result<Crash, AllocError>
     requires stored { total log.now ≤ length store.now }
     requires past { HasPast unit (moment_of log.now store.now) }
-    ensures image { IfOk result (λ crash. crash.image.items ≡ picked pick (changes unit (moment_of log.now store.now))) }
+    ensures image { IfOk result (λ crash. crash.image.items ≡ picked pick
+        (changes unit (moment_of log.now store.now))) }
     ensures out { IfOk result (λ crash. crash.out ≡ length (output (moment_of log.now store.now))) }
 {
     let mut whole = Vec::new(alloc);

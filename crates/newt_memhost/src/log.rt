@@ -1,12 +1,14 @@
 //! The host's past, in room that can be taken beforehand.
-ghost use Rattle.std.specs.Prelude.{◌≡◌, ◌+◌, ◌-◌, ◌≤◌, ◌<◌, ◌++◌, ◌∷◌, [], length, IsTrue, vec_len, vec_capacity};
+ghost use Rattle.std.specs.Prelude.{◌≡◌, ◌+◌, ◌-◌, ◌≤◌, ◌<◌, ◌++◌, ◌∷◌, [], length, IsTrue};
+ghost use Rattle.std.specs.Prelude.{vec_len, vec_capacity};
 ghost use Rattle.newt_memhost.specs.Happened.{after, bytes_of, calls_in, counts, total};
 
 use crate::happened::Happened;
 use newt_host::Unit;
 use std::alloc::Global;
 
-/// What has happened, the oldest first, and a store of the bytes that were written or printed.
+/// What has happened, the oldest first, and a store of the bytes that were taken, written or
+/// printed.
 #[derive(Drop)]
 pub struct Log {
     pub entries: Vec<Happened>,
@@ -36,7 +38,7 @@ fn extend(store: &mut Vec<u8>, bytes: &[u8])
 
 impl Log {
     ghost use Rattle.newt_host.specs.Moments.{Attached, On};
-    ghost use Rattle.newt_memhost.specs.Log.{HasRoom, now_of};
+    ghost use Rattle.newt_memhost.specs.Log.{Adds, HasRoom, NoSmaller, SamePast, now_of};
     ghost use Rattle.newt_memhost.specs.declared.happened.Happened.TheVariants.{Attach};
 
     /// Nothing has happened.
@@ -54,12 +56,8 @@ impl Log {
 
     /// Makes room for so many entries and bytes more, and answers whether there is that room.
     pub fn reserve(&mut self, entries: usize, bytes: usize) -> bool
-        ensures same_entries { self.new.entries.items ≡ self.old.entries.items }
-        ensures same_store { self.new.store.items ≡ self.old.store.items }
-        ensures calls { self.new.calls ≡ self.old.calls }
-        ensures moment { now_of self.new ≡ now_of self.old }
-        ensures more_entries { vec_capacity self.old.entries ≤ vec_capacity self.new.entries }
-        ensures more_bytes { vec_capacity self.old.store ≤ vec_capacity self.new.store }
+        ensures past { SamePast self.old self.new }
+        ensures more { NoSmaller self.old self.new }
         ensures room { IsTrue result → HasRoom entries bytes self.new }
         ensures there { HasRoom entries bytes self.old → IsTrue result }
     {
@@ -70,14 +68,8 @@ impl Log {
     pub fn add(&mut self, entry: Happened, bytes: &[u8])
         requires call { counts entry ≡ 1 }
         requires its { bytes_of entry ≡ length bytes.now }
-        requires room { vec_len self.old.entries < vec_capacity self.old.entries }
-        requires bytes { vec_len self.old.store + length bytes.now ≤ vec_capacity self.old.store }
-        ensures entries { self.new.entries.items ≡ self.old.entries.items ++ entry ∷ [] }
-        ensures store { self.new.store.items ≡ self.old.store.items ++ bytes.now }
-        ensures calls { self.new.calls ≡ self.old.calls + 1 }
-        ensures more_entries { vec_capacity self.old.entries ≤ vec_capacity self.new.entries }
-        ensures more_bytes { vec_capacity self.old.store ≤ vec_capacity self.new.store }
-        ensures moment { now_of self.new ≡ after entry bytes.now (now_of self.old) }
+        requires room { HasRoom 1 (length bytes.now) self.old }
+        ensures { Adds entry bytes.now self.old self.new }
     {
         push(&mut self.entries, entry);
         extend(&mut self.store, bytes);
@@ -87,7 +79,8 @@ impl Log {
     /// Adds an attach, for which there is room.
     pub fn attach(&mut self, unit: Unit, first: Vec<u8>)
         requires { vec_len self.old.entries < vec_capacity self.old.entries }
-        ensures entries { self.new.entries.items ≡ self.old.entries.items ++ Attach unit first ∷ [] }
+        ensures entries { self.new.entries.items ≡ self.old.entries.items ++ Attach unit first
+            ∷ [] }
         ensures store { self.new.store ≡ self.old.store }
         ensures calls { self.new.calls ≡ self.old.calls }
         ensures more_entries { vec_capacity self.old.entries ≤ vec_capacity self.new.entries }

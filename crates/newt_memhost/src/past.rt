@@ -1,12 +1,14 @@
 //! What a crash might have left, from the log alone.
 ghost use Rattle.std.specs.Prelude.{◌≡◌, ◌≤◌, ◌<◌, ◌^◌, Some, length, take, slice_get, sum_by};
 ghost use Rattle.newt_memhost.specs.Happened.{bytes_of, counts};
-ghost use Rattle.newt_memhost.specs.Past.{before, call_at, printed_by, torn, unit_at, within};
+ghost use Rattle.newt_memhost.specs.Past.{before, call_at, printed_by, taken_by, torn, unit_at};
+ghost use Rattle.newt_memhost.specs.Past.{within};
 
 use crate::happened::Happened;
 use newt_host::Unit;
 
-/// What a crash leaves of each range that is pending: the bytes before, the bytes after, the first half after and the rest before, or one byte everywhere.
+/// What a crash leaves of each range that is pending: the bytes before, the bytes after, the first
+/// half after and the rest before, or one byte everywhere.
 #[derive(Clone, Copy, Debug, PartialEq, Eq)]
 pub enum Pick {
     Old,
@@ -31,7 +33,7 @@ impl Happened {
         ensures { result ≡ bytes_of self.now }
     {
         match self {
-            Happened::Print(n) | Happened::Write(_, _, n) => *n,
+            Happened::Take(Some(n)) | Happened::Print(n) | Happened::Write(_, _, n) => *n,
             _ => 0,
         }
     }
@@ -52,6 +54,16 @@ impl Happened {
     {
         match self {
             Happened::Print(n) => *n,
+            _ => 0,
+        }
+    }
+
+    /// How many bytes of the input it took.
+    fn taken(&self) -> usize
+        ensures { result ≡ taken_by self.now }
+    {
+        match self {
+            Happened::Take(Some(n)) => *n,
             _ => 0,
         }
     }
@@ -86,7 +98,8 @@ pub fn place_of(log: &[Happened], call: u64) -> usize
     log.len()
 }
 
-/// How much of the log a crash within a call has behind it: the call itself too, but where it is a sync.
+/// How much of the log a crash within a call has behind it: the call itself too, but where it is a
+/// sync.
 pub fn end_of(log: &[Happened], call: u64) -> usize
     ensures within { take result log.now ≡ within call log.now }
     ensures inside { result ≤ length log.now }
@@ -109,4 +122,16 @@ pub fn printed_in(log: &[Happened]) -> u64
         out += entry.printed() as u64;
     }
     out
+}
+
+/// How many bytes of the input were taken.
+pub fn taken_in(log: &[Happened]) -> u64
+    requires { sum_by taken_by log.now < 2 ^ 64 }
+    ensures { result ≡ sum_by taken_by log.now }
+{
+    let mut taken = 0;
+    for entry in log {
+        taken += entry.taken() as u64;
+    }
+    taken
 }

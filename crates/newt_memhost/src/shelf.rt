@@ -1,5 +1,6 @@
 //! Devices that no unit has yet, and how a unit gets one.
-ghost use Rattle.std.specs.Prelude.{◌≡◌, ◌≤◌, ◌<◌, ◌+◌, ◌∷◌, None, MatchOption, vec_len, vec_capacity};
+ghost use Rattle.std.specs.Prelude.{◌≡◌, ◌≤◌, ◌<◌, ◌+◌, ◌∷◌, None, MatchOption, vec_len};
+ghost use Rattle.std.specs.Prelude.{vec_capacity};
 ghost use Rattle.newt_host.specs.Moments.{Attached, On};
 ghost use Rattle.newt_memhost.specs.Cards.{free_device};
 ghost use Rattle.newt_memhost.specs.Calls.{HasMoved, IsPlaceOf};
@@ -11,7 +12,8 @@ use newt_host::Unit;
 
 /// The place of the first device of a name.
 pub fn find(shelf: &[Device], name: &[u8]) -> Option<usize>
-    ensures { MatchOption result (free_device name.now shelf.now ≡ None) (IsPlaceOf name.now shelf.now) }
+    ensures { MatchOption result (free_device name.now shelf.now ≡ None)
+        (IsPlaceOf name.now shelf.now) }
 {
     for (place, device) in shelf.iter().enumerate() {
         if device.name.as_slice() == name {
@@ -46,5 +48,7 @@ pub fn give(card: &mut Card, log: &mut Log, unit: Unit, device: Device)
         faults: card.faults,
         programmed: card.programmed,
         fetched: card.fetched,
+        erased: card.erased,
+        synced: card.synced,
     };
 }

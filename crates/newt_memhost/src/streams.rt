@@ -1,27 +1,45 @@
 //! The input and the output.
-ghost use Rattle.std.specs.Prelude.{◌≡◌, ◌+◌, ◌≤◌, ◌++◌, None, length, IsTrue, OnOk, OnErr, vec_len, vec_capacity};
+ghost use Rattle.std.specs.Prelude.{◌≡◌, ◌+◌, ◌≤◌, ◌++◌, ◌∷◌, None, length, IsTrue, OnOk, OnErr};
+ghost use Rattle.std.specs.Prelude.{vec_len, vec_capacity};
+ghost use Rattle.newt_host.specs.Moments.{Took};
 ghost use Rattle.newt_host.specs.Outside.{printed};
 ghost use Rattle.newt_memhost.specs.Calls.{HasRoomFor, Keeps};
-ghost use Rattle.newt_memhost.specs.Log.{HasRoom, now_of};
+ghost use Rattle.newt_memhost.specs.Log.{HasRoom, NoSmaller, SamePast, now_of};
 
 use crate::happened::Happened;
 use crate::log::Log;
 use newt_host::Failed;
 
-/// Makes room for so many entries, and for so many bytes in the log and the output, and answers whether there is that room.
+/// Makes room for so many entries, and for so many bytes in the log and the output, and answers
+/// whether there is that room.
 pub fn reserve(output: &mut Vec<u8>, log: &mut Log, entries: usize, bytes: usize) -> bool
     ensures same_output { output.new.items ≡ output.old.items }
-    ensures same_entries { log.new.entries.items ≡ log.old.entries.items }
-    ensures same_store { log.new.store.items ≡ log.old.store.items }
-    ensures moment { now_of log.new ≡ now_of log.old }
-    ensures calls { log.new.calls ≡ log.old.calls }
+    ensures past { SamePast log.old log.new }
     ensures more { vec_capacity output.old ≤ vec_capacity output.new }
-    ensures more_entries { vec_capacity log.old.entries ≤ vec_capacity log.new.entries }
-    ensures more_bytes { vec_capacity log.old.store ≤ vec_capacity log.new.store }
+    ensures more_log { NoSmaller log.old log.new }
     ensures room { IsTrue result → HasRoomFor entries bytes output.new log.new }
     ensures there { HasRoomFor entries bytes output.old log.old → IsTrue result }
 {
     output.reserve(bytes).is_ok() && log.reserve(entries, bytes)
+}
+
+/// Keeps a call that takes a piece of the input, or that fails.
+pub fn take(log: &mut Log, waiting: usize, fails: bool, piece: &[u8]) -> Result<(), Failed>
+    requires { HasRoom waiting 0 log.old }
+    ensures took { OnOk result (now_of log.new ≡ Took piece.now ∷ now_of log.old) }
+    ensures same { OnErr result (now_of log.new ≡ now_of log.old) }
+    ensures kept { Keeps waiting (length piece.now) None fails
+        (HasRoom (waiting + 1) (length piece.now) log.old) result log.old log.new }
+{
+    if !log.reserve(waiting + 1, piece.len()) {
+        return Err(Failed);
+    }
+    if fails {
+        log.add(Happened::Take(None), &[]);
+        return Err(Failed);
+    }
+    log.add(Happened::Take(Some(piece.len())), piece);
+    Ok(())
 }
 
 /// Appends a piece to the output, or only keeps the call where it fails.
@@ -37,7 +55,8 @@ pub fn print(
     ensures appended { OnOk result (output.new.items ≡ output.old.items ++ piece.now) }
     ensures same { OnErr result (now_of log.new ≡ now_of log.old) }
     ensures unchanged { OnErr result (output.new.items ≡ output.old.items) }
-    ensures kept { Keeps waiting (length piece.now) None fails (HasRoomFor (waiting + 1) (length piece.now) output.old log.old) result log.old log.new }
+    ensures kept { Keeps waiting (length piece.now) None fails
+        (HasRoomFor (waiting + 1) (length piece.now) output.old log.old) result log.old log.new }
     ensures used { vec_len output.new ≤ vec_len output.old + length piece.now }
     ensures more { vec_capacity output.old ≤ vec_capacity output.new }
 {

@@ -1,8 +1,9 @@
 //! Calls on one unit that has a device.
-ghost use Rattle.std.specs.Prelude.{◌≡◌, ◌+◌, ◌*◌, ◌≤◌, ◌<◌, ◌⊎◌, [], Some, true, length, take, drop, OnOk, OnErr};
+ghost use Rattle.std.specs.Prelude.{◌≡◌, ◌+◌, ◌*◌, ◌≤◌, ◌<◌, ◌⊎◌, [], Some, true, length, take};
+ghost use Rattle.std.specs.Prelude.{drop, OnOk};
 ghost use Rattle.newt_host.specs.Moments.{changes};
-ghost use Rattle.newt_host.specs.Outside.{Syncs, Writes, blank};
-ghost use Rattle.newt_memhost.specs.Calls.{Keeps, LeavesPending, OnCard};
+ghost use Rattle.newt_host.specs.Outside.{Syncs, blank, fetching, one_erase, one_sync, programming};
+ghost use Rattle.newt_memhost.specs.Calls.{Keeps, OnCard, Puts};
 ghost use Rattle.newt_memhost.specs.Cards.{StandsAs};
 ghost use Rattle.newt_memhost.specs.Happened.{after, bytes_of, counts};
 ghost use Rattle.newt_memhost.specs.Log.{HasRoom, now_of};
@@ -19,8 +20,10 @@ pub fn keep(log: &mut Log, waiting: usize, fails: bool, entry: Happened) -> Resu
     requires call { counts entry ≡ 1 }
     requires quiet { bytes_of entry ≡ 0 }
     requires waits { HasRoom waiting 0 log.old }
-    ensures event { (now_of log.new ≡ now_of log.old) ⊎ (now_of log.new ≡ after entry [] (now_of log.old)) }
-    ensures kept { Keeps waiting 0 (unit_at (Some entry)) fails (HasRoom (waiting + 1) 0 log.old) result log.old log.new }
+    ensures event { (now_of log.new ≡ now_of log.old)
+        ⊎ (now_of log.new ≡ after entry [] (now_of log.old)) }
+    ensures kept { Keeps waiting 0 (unit_at (Some entry)) fails (HasRoom (waiting + 1) 0 log.old)
+        result log.old log.new }
 {
     if !log.reserve(waiting + 1, 0) {
         return Err(Failed);
@@ -44,12 +47,11 @@ fn write(
 ) -> Result<(), Failed>
     requires inside { at + length bytes.now ≤ length card.old.held.items }
     requires waits { HasRoom waiting 0 log.old }
-    ensures event { Writes unit at bytes.now result (now_of log.old) (now_of log.new) }
-    ensures stands { StandsAs true card.old (changes unit (now_of log.old)) → StandsAs true card.new (changes unit (now_of log.new)) }
-    ensures pending { LeavesPending unit at (length bytes.now) card.old.held.items result log.old log.new }
-    ensures unchanged { OnErr result (card.new.held.items ≡ card.old.held.items) }
-    ensures kept { Keeps waiting (length bytes.now) (Some unit) fails (HasRoom (waiting + 1) (length bytes.now) log.old) result log.old log.new }
-    ensures card { OnCard 0 0 result card.old card.new }
+    ensures put { Puts unit at (length bytes.now) bytes.now result
+        card.old card.new log.old log.new }
+    ensures kept { Keeps waiting (length bytes.now) (Some unit) fails
+        (HasRoom (waiting + 1) (length bytes.now) log.old) result log.old log.new }
+    ensures card { OnCard (fetching 0) result card.old card.new }
 {
     if !log.reserve(waiting + 1, bytes.len()) {
         count(&mut card.faults);
@@ -78,12 +80,11 @@ pub fn program(
 ) -> Result<(), Failed>
     requires inside { at + length bytes.now ≤ length card.old.held.items }
     requires waits { HasRoom waiting 0 log.old }
-    ensures event { Writes unit at bytes.now result (now_of log.old) (now_of log.new) }
-    ensures stands { StandsAs true card.old (changes unit (now_of log.old)) → StandsAs true card.new (changes unit (now_of log.new)) }
-    ensures pending { LeavesPending unit at (length bytes.now) card.old.held.items result log.old log.new }
-    ensures unchanged { OnErr result (card.new.held.items ≡ card.old.held.items) }
-    ensures kept { Keeps waiting (length bytes.now) (Some unit) fails (HasRoom (waiting + 1) (length bytes.now) log.old) result log.old log.new }
-    ensures card { OnCard (length bytes.now) 0 result card.old card.new }
+    ensures put { Puts unit at (length bytes.now) bytes.now result
+        card.old card.new log.old log.new }
+    ensures kept { Keeps waiting (length bytes.now) (Some unit) fails
+        (HasRoom (waiting + 1) (length bytes.now) log.old) result log.old log.new }
+    ensures card { OnCard (programming (length bytes.now)) result card.old card.new }
 {
     write(card, log, waiting, fails, unit, at, bytes)?;
     card.programmed = card.programmed.saturating_add(bytes.len() as u64);
@@ -101,13 +102,13 @@ pub fn erase(
 ) -> Result<(), Failed>
     requires inside { block * 4096 + 4096 ≤ length card.old.held.items }
     requires waits { HasRoom waiting 0 log.old }
-    ensures event { Writes unit (block * 4096) (blank 4096) result (now_of log.old) (now_of log.new) }
-    ensures stands { StandsAs true card.old (changes unit (now_of log.old)) → StandsAs true card.new (changes unit (now_of log.new)) }
-    ensures pending { LeavesPending unit (block * 4096) 4096 card.old.held.items result log.old log.new }
-    ensures unchanged { OnErr result (card.new.held.items ≡ card.old.held.items) }
-    ensures kept { Keeps waiting 4096 (Some unit) fails (HasRoom (waiting + 1) 4096 log.old) result log.old log.new }
-    ensures card { OnCard 0 0 result card.old card.new }
+    ensures put { Puts unit (block * 4096) 4096 (blank 4096) result
+        card.old card.new log.old log.new }
+    ensures kept { Keeps waiting 4096 (Some unit) fails
+        (HasRoom (waiting + 1) 4096 log.old) result log.old log.new }
+    ensures card { OnCard one_erase result card.old card.new }
 {
+    card.erased = card.erased.saturating_add(1);
     write(card, log, waiting, fails, unit, block * 4096, &[255; 4096])
 }
 
@@ -121,10 +122,13 @@ pub fn sync(
 ) -> Result<(), Failed>
     requires { HasRoom waiting 0 log.old }
     ensures event { Syncs unit result (now_of log.old) (now_of log.new) }
-    ensures stands { StandsAs true card.old (changes unit (now_of log.old)) → StandsAs true card.new (changes unit (now_of log.new)) }
-    ensures kept { Keeps waiting 0 (Some unit) fails (HasRoom (waiting + 1) 0 log.old) result log.old log.new }
-    ensures card { OnCard 0 0 result card.old card.new }
+    ensures stands { StandsAs true card.old (changes unit (now_of log.old))
+        → StandsAs true card.new (changes unit (now_of log.new)) }
+    ensures kept { Keeps waiting 0 (Some unit) fails
+        (HasRoom (waiting + 1) 0 log.old) result log.old log.new }
+    ensures card { OnCard one_sync result card.old card.new }
 {
+    card.synced = card.synced.saturating_add(1);
     if !log.reserve(waiting + 1, 0) {
         count(&mut card.faults);
         return Err(Failed);
@@ -152,8 +156,9 @@ pub fn read(
     ensures bytes { OnOk result (buf.new ≡ take (length buf.old) (drop at card.old.held.items)) }
     ensures moment { now_of log.new ≡ now_of log.old }
     ensures held { card.new.held.items ≡ card.old.held.items }
-    ensures kept { Keeps waiting 0 (Some unit) fails (HasRoom (waiting + 1) 0 log.old) result log.old log.new }
-    ensures card { OnCard 0 (length buf.old) result card.old card.new }
+    ensures kept { Keeps waiting 0 (Some unit) fails
+        (HasRoom (waiting + 1) 0 log.old) result log.old log.new }
+    ensures card { OnCard (fetching (length buf.old)) result card.old card.new }
 {
     if keep(log, waiting, fails, Happened::Read(unit)).is_err() {
         count(&mut card.faults);

@@ -1,6 +1,6 @@
 //! The log at one of its calls.
 ghost use Rattle.std.specs.Prelude.{◌≡◌, ◌<◌, IfOk, length};
-ghost use Rattle.newt_host.specs.Moments.{MayLeave, changes, output};
+ghost use Rattle.newt_host.specs.Moments.{MayLeave, changes, output, taken};
 ghost use Rattle.newt_memhost.specs.Images.{HasPast};
 ghost use Rattle.newt_memhost.specs.Log.{now_of};
 ghost use Rattle.newt_memhost.specs.Past.{call_at, picked, unit_at};
@@ -8,7 +8,7 @@ ghost use Rattle.newt_memhost.specs.Within.{moment_before, moment_within};
 
 use crate::images::{Crash, build};
 use crate::log::Log;
-use crate::past::{Pick, end_of, place_of, printed_in};
+use crate::past::{Pick, end_of, place_of, printed_in, taken_in};
 use newt_host::Unit;
 use std::alloc::{AllocError, Global};
 
@@ -21,8 +21,10 @@ pub fn image_within(
     pick: Pick,
 ) -> Result<Crash, AllocError>
     requires { HasPast unit (now_of log.now) }
-    ensures image { IfOk result (λ crash. crash.image.items ≡ picked pick (changes unit (moment_within call log.now))) }
-    ensures left { IfOk result (λ crash. 0 < length (changes unit (moment_within call log.now)) → MayLeave unit (moment_within call log.now) crash.image.items) }
+    ensures image { IfOk result (λ crash. crash.image.items ≡ picked pick
+        (changes unit (moment_within call log.now))) }
+    ensures left { IfOk result (λ crash. 0 < length (changes unit (moment_within call log.now)) →
+        MayLeave unit (moment_within call log.now) crash.image.items) }
     ensures out { IfOk result (λ crash. crash.out ≡ length (output (moment_within call log.now))) }
 {
     let entries = log.entries.as_slice();
@@ -49,4 +51,12 @@ pub fn printed_before(log: &Log, call: u64) -> u64
 {
     let entries = log.entries.as_slice();
     printed_in(&entries[..place_of(entries, call)])
+}
+
+/// How much of the input was taken when a call began.
+pub fn taken_before(log: &Log, call: u64) -> u64
+    ensures { result ≡ length (taken (moment_before call log.now)) }
+{
+    let entries = log.entries.as_slice();
+    taken_in(&entries[..place_of(entries, call)])
 }

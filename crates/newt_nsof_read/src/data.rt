@@ -1,7 +1,8 @@
 //! Strings, binaries and large binaries.
 ghost use Rattle.std.specs.Prelude.{◌≡◌};
 ghost use Rattle.newt_nsof_read.specs.Met.{Met};
-ghost use Rattle.newt_nsof_read.specs.Reading.{Gives, many_at, unit_at, is_text_count, string_at, binary_at, behind_flag, large_data_at, large_at};
+ghost use Rattle.newt_nsof_read.specs.Reading.{Gives, many_at, unit_at, is_text_count, string_at};
+ghost use Rattle.newt_nsof_read.specs.Reading.{binary_at, behind_flag, large_data_at, large_at};
 
 use crate::fault::NsofFault;
 use crate::labels::label;
@@ -22,7 +23,8 @@ fn unit(bytes: &[u8]) -> Result<(u16, &[u8]), NsofFault>
 
 /// So many units.
 fn units(alloc: Global, count: u32, bytes: &[u8]) -> Result<(Vec<u16>, &[u8]), NsofFault>
-    ensures { (met : Met) → Gives (λ x. (x.0.items, met, x.1.now)) result (many_at unit_at count met bytes.now) }
+    ensures { (met : Met) → Gives (λ x. (x.0.items, met, x.1.now)) result
+        (many_at unit_at count met bytes.now) }
 {
     let mut units = Vec::new(alloc);
     let mut rest = bytes;
@@ -104,7 +106,8 @@ fn behind_flag(bytes: &[u8], wide: bool) -> Result<&[u8], NsofFault>
     }
 }
 
-/// The bytes of a large binary, behind its class. The name of the compander, its parameters and a number are dropped.
+/// The bytes of a large binary, behind its class. The name of the compander, its parameters and a
+/// number are dropped.
 #[tactic(auto, unfolding(crate::specs::Reading::large_data_at))]
 fn large_data(bytes: &[u8], wide: bool) -> Result<(&[u8], &[u8]), NsofFault>
     ensures { Gives (λ x. (x.0.now, x.1.now)) result (large_data_at wide bytes.now) }

@@ -1,6 +1,7 @@
 //! Values that are words: integers, characters and others that stand for themselves.
 ghost use Rattle.newt_nsof_read.specs.Met.{Met};
-ghost use Rattle.newt_nsof_read.specs.Reading.{Gives, immediate_at, character_at, wide_character_at};
+ghost use Rattle.newt_nsof_read.specs.Reading.{Gives, immediate_at, character_at};
+ghost use Rattle.newt_nsof_read.specs.Reading.{wide_character_at};
 
 use crate::fault::NsofFault;
 use crate::numbers::xlong;
@@ -29,7 +30,8 @@ pub(crate) fn character(bytes: &[u8]) -> Result<(Ref, &[u8]), NsofFault>
 
 /// A character of two bytes, behind its tag.
 pub(crate) fn wide_character(bytes: &[u8]) -> Result<(Ref, &[u8]), NsofFault>
-    ensures { (met : Met) → Gives (λ x. (x.0, met, x.1.now)) result (wide_character_at met bytes.now) }
+    ensures { (met : Met) → Gives (λ x. (x.0, met, x.1.now)) result
+        (wide_character_at met bytes.now) }
 {
     match bytes {
         [high, low, rest @ ..] => {

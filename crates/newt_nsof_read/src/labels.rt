@@ -66,7 +66,8 @@ pub(crate) fn labels<'a>(
     count: u32,
     bytes: &'a [u8],
 ) -> Result<(Vec<u32>, &'a [u8]), NsofFault>
-    ensures { Gives (λ x. (x.0.items, seen.new, x.1.now)) result (many_at label_at count seen.old bytes.now) }
+    ensures { Gives (λ x. (x.0.items, seen.new, x.1.now)) result
+        (many_at label_at count seen.old bytes.now) }
 {
     let mut labels = Vec::new(alloc);
     let mut rest = bytes;

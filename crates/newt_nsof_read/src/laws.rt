@@ -3,22 +3,27 @@ ghost use Rattle.std.specs.Prelude.{◌≡◌, ◌≢◌, ◌++◌, ◌↔◌, L
 ghost use Rattle.newt_graph.specs.Graph.{RawGraph, IsGraph};
 ghost use Rattle.newt_spec_nsof.specs.Text.{AreBytes, Spells, SpellsWide};
 ghost use Rattle.newt_spec_nsof.specs.Written.{nsof};
-ghost use Rattle.newt_nsof_read.specs.declared.fault.NsofFault.TheVariants.{Malformed, Compressed, Memory};
+ghost use Rattle.newt_nsof_read.specs.declared.fault.NsofFault.TheVariants.{Malformed, Compressed};
+ghost use Rattle.newt_nsof_read.specs.declared.fault.NsofFault.TheVariants.{Memory};
 ghost use Rattle.newt_nsof_read.specs.Reading.{decoded};
 
 /// Bytes are read as a graph exactly where they spell it.
 pub fn read_as_spelled()
-    ensures { (bytes : List ℕ) (g : RawGraph) → AreBytes bytes → (decoded bytes ≡ Ok g) ↔ Spells bytes g }
+    ensures { (bytes : List ℕ) (g : RawGraph) → AreBytes bytes
+        → (decoded bytes ≡ Ok g) ↔ Spells bytes g }
 {}
 
 /// Bytes are malformed exactly where they spell no graph, not even widely.
 pub fn malformed_is_unspelled()
-    ensures { (bytes : List ℕ) → AreBytes bytes → (decoded bytes ≡ Err Malformed) ↔ ((g : RawGraph) → SpellsWide bytes g → ⊥) }
+    ensures { (bytes : List ℕ) → AreBytes bytes
+        → (decoded bytes ≡ Err Malformed) ↔ ((g : RawGraph) → SpellsWide bytes g → ⊥) }
 {}
 
 /// Bytes are compressed exactly where they spell a graph widely, and none narrowly.
 pub fn compressed_is_spelled_widely()
-    ensures { (bytes : List ℕ) → AreBytes bytes → (decoded bytes ≡ Err Compressed) ↔ (((g : RawGraph) × SpellsWide bytes g) × ((g : RawGraph) → Spells bytes g → ⊥)) }
+    ensures { (bytes : List ℕ) → AreBytes bytes
+        → (decoded bytes ≡ Err Compressed) ↔ (((g : RawGraph) × SpellsWide bytes g) ×
+        ((g : RawGraph) → Spells bytes g → ⊥)) }
 {}
 
 /// What bytes are read as does not turn on memory.
@@ -33,7 +38,8 @@ pub fn one_graph()
 
 /// No spelled text goes on as another one, also widely.
 pub fn no_prefix()
-    ensures { (bytes more : List ℕ) (g h : RawGraph) → SpellsWide bytes g → SpellsWide (bytes ++ more) h → more ≡ [] }
+    ensures { (bytes more : List ℕ) (g h : RawGraph) → SpellsWide bytes g
+        → SpellsWide (bytes ++ more) h → more ≡ [] }
 {}
 
 /// The written text of a graph is read as this very graph, with what it shares and with its cycles.

@@ -13,7 +13,8 @@ pub(crate) enum Kind {
     Array(Option<u32>),
 }
 
-/// A container of `count` values, of which those that were read stand in `values`. Its node `n` was added empty.
+/// A container of `count` values, of which those that were read stand in `values`. Its node `n` was
+/// added empty.
 #[derive(Drop)]
 pub(crate) struct Open {
     n: u32,

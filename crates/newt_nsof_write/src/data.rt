@@ -47,7 +47,8 @@ pub(crate) fn binary(
     requires named { All (IsNode nodes.now) nodes.now }
     requires bytes_few { length bytes.now ≤ 1000000 }
     requires ahead { Ahead (λ met new. BinaryWalk met class bytes.now new) nodes.now met }
-    ensures { IfOk result (λ n. Adds out.old.items out.new.items n (binary_text nodes.now class bytes.now met)) }
+    ensures { IfOk result (λ n. Adds out.old.items out.new.items n
+        (binary_text nodes.now class bytes.now met)) }
 {
     out.push(3)?;
     count(out, bytes.len() as u32)?;
@@ -82,7 +83,8 @@ pub(crate) fn large(
     requires named { All (IsNode nodes.now) nodes.now }
     requires bytes_few { length bytes.now ≤ 1000000 }
     requires ahead { Ahead (λ met new. LargeWalk met class bytes.now new) nodes.now met }
-    ensures { IfOk result (λ n. Adds out.old.items out.new.items n (plain_large_text nodes.now class bytes.now met)) }
+    ensures { IfOk result (λ n. Adds out.old.items out.new.items n
+        (plain_large_text nodes.now class bytes.now met)) }
 {
     out.push(12)?;
     let met = label(out, nodes, class, met + 1)?;

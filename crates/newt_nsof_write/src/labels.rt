@@ -9,7 +9,8 @@ use crate::numbers::count;
 use newt_graph::Node;
 use std::alloc::AllocError;
 
-/// A node that was met before: a precedent. In a written text the number of an object is that of its node.
+/// A node that was met before: a precedent. In a written text the number of an object is that of
+/// its node.
 pub(crate) fn again(out: &mut Vec<u8>, k: u32) -> Result<(), AllocError>
     requires { k < 65535 }
     ensures { OnOk result (out.new.items ≡ out.old.items ++ again_text k) }
@@ -29,7 +30,8 @@ pub(crate) fn symbol(out: &mut Vec<u8>, name: &[u8]) -> Result<(), AllocError>
     Ok(())
 }
 
-/// A class or a slot tag, after so many nodes: in full where it is met first. Answers how many are met afterwards.
+/// A class or a slot tag, after so many nodes: in full where it is met first. Answers how many are
+/// met afterwards.
 #[tactic(auto, unfolding(newt_spec_nsof::specs::Written::label_text))]
 pub(crate) fn label(out: &mut Vec<u8>, nodes: &[Node], k: u32, met: u32) -> Result<u32, AllocError>
     requires few { length nodes.now ≤ 65535 }
@@ -60,7 +62,8 @@ pub(crate) fn labels(
     requires few { length nodes.now ≤ 65535 }
     requires named { All (IsNode nodes.now) nodes.now }
     requires ahead { Ahead (λ met new. WalkLabels met tags.now new) nodes.now met }
-    ensures { IfOk result (λ n. Adds out.old.items out.new.items n (each_text (label_text nodes.now) tags.now met)) }
+    ensures { IfOk result (λ n. Adds out.old.items out.new.items n
+        (each_text (label_text nodes.now) tags.now met)) }
 {
     let mut met = met;
     for tag in tags {

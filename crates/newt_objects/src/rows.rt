@@ -24,7 +24,8 @@ pub(crate) fn row_of(rows: &BTreeMap<u32, Option<Extent>>, id: u32) -> Option<&E
 /// Makes a row for an object, if there is none.
 pub(crate) fn keep_row(rows: &mut BTreeMap<u32, Option<Extent>>, id: u32) -> Result<(), AllocError>
     ensures held { (other : ℕ) → held_in rows.new other ≡ held_in rows.old other }
-    ensures rows { (other : ℕ) → IsSome (tree.get nat_cmp rows.old other) → IsSome (tree.get nat_cmp rows.new other) }
+    ensures rows { (other : ℕ) → IsSome (tree.get nat_cmp rows.old other)
+        → IsSome (tree.get nat_cmp rows.new other) }
     ensures row { OnOk result (IsSome (tree.get nat_cmp rows.new id)) }
 {
     if !rows.contains_key(&id) {

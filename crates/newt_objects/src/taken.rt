@@ -1,5 +1,6 @@
 // Which page numbers the objects have, kept from one plan to the next.
-ghost use Rattle.std.specs.Prelude.{◌≡◌, ℕ, [], ◌==◌, ◌<◌, ◌≤◌, true, false, IsTrue, IfOk, None, Some, slice_get};
+ghost use Rattle.std.specs.Prelude.{◌≡◌, ℕ, [], ◌==◌, ◌<◌, ◌≤◌, true, false, IsTrue, IfOk, None};
+ghost use Rattle.std.specs.Prelude.{Some, slice_get};
 ghost use Rattle.std.specs.List.{list_any};
 ghost use Rattle.std.specs.Option.{option_copied};
 ghost use Rattle.newt_objects.specs.Headers.{held_in};
@@ -41,7 +42,8 @@ fn clear_numbers(flags: &mut Vec<bool>, numbers: &[u32])
 
 // Whether none of these numbers is had.
 fn are_free(flags: &[bool], numbers: &[u32]) -> bool
-    ensures { IsTrue result → (k number : ℕ) → slice_get numbers.now k ≡ Some number → slice_get flags.now number ≡ Some false }
+    ensures { IsTrue result → (k number : ℕ) → slice_get numbers.now k ≡ Some number
+        → slice_get flags.now number ≡ Some false }
 {
     for number in numbers {
         let place = *number as usize;
@@ -66,7 +68,8 @@ fn lowest(numbers: &[u32], least: u32) -> u32
 
 // Takes the numbers of an object, if there is one. False where another object has one of them.
 fn take_row(flags: &mut Vec<bool>, row: &Option<Extent>) -> bool
-    ensures { IsTrue result → Follows None row.now (λ t. IsLive t flags.old.items) (λ t. IsLive t flags.new.items) }
+    ensures { IsTrue result → Follows None row.now (λ t. IsLive t flags.old.items)
+        (λ t. IsLive t flags.new.items) }
 {
     match row {
         Some(extent) => {
@@ -82,8 +85,11 @@ fn take_row(flags: &mut Vec<bool>, row: &Option<Extent>) -> bool
 
 // Gives the numbers of an object back, if there is one.
 fn give_row(taken: &mut Taken, was: Option<&Extent>)
-    ensures live { Follows (option_copied was.entry) None (λ t. IsLive t taken.old.flags.items) (λ t. IsLive t taken.new.flags.items) }
-    ensures below { (number : ℕ) → number < taken.new.least → slice_get taken.old.flags.items number ≡ Some true → slice_get taken.new.flags.items number ≡ Some true }
+    ensures live { Follows (option_copied was.entry) None (λ t. IsLive t taken.old.flags.items)
+        (λ t. IsLive t taken.new.flags.items) }
+    ensures below { (number : ℕ) → number < taken.new.least
+        → slice_get taken.old.flags.items number ≡ Some true
+        → slice_get taken.new.flags.items number ≡ Some true }
     ensures least { taken.new.least ≤ taken.old.least }
 {
     if let Some(extent) = was {
@@ -94,7 +100,8 @@ fn give_row(taken: &mut Taken, was: Option<&Extent>)
 
 // Gives numbers of an object back and takes others. False where another object has one of these.
 fn exchange(taken: &mut Taken, was: Option<&Extent>, next: &Option<Extent>) -> bool
-    ensures { IsTrue result → Follows (option_copied was.entry) next.now (λ t. IsTaken t taken.old) (λ t. IsTaken t taken.new) }
+    ensures { IsTrue result → Follows (option_copied was.entry) next.now (λ t. IsTaken t taken.old)
+        (λ t. IsTaken t taken.new) }
 {
     give_row(taken, was);
     take_row(&mut taken.flags, next)
@@ -102,7 +109,8 @@ fn exchange(taken: &mut Taken, was: Option<&Extent>, next: &Option<Extent>) -> b
 
 /// Keeps what is known while an object goes to other pages, or goes. It takes no memory.
 pub(crate) fn move_row(known: &mut Option<Taken>, was: Option<&Extent>, next: &Option<Extent>)
-    ensures { Follows (option_copied was.entry) next.now (λ t. IsKnown t known.old) (λ t. IsKnown t known.new) }
+    ensures { Follows (option_copied was.entry) next.now (λ t. IsKnown t known.old)
+        (λ t. IsKnown t known.new) }
 {
     if let Some(taken) = known {
         if !exchange(taken, was, next) {
@@ -113,7 +121,8 @@ pub(crate) fn move_row(known: &mut Option<Taken>, was: Option<&Extent>, next: &O
 
 // Takes the numbers of all objects. False where two of them have one number.
 fn take_rows(flags: &mut Vec<bool>, rows: &BTreeMap<u32, Option<Extent>>) -> bool
-    ensures { IsTrue result → IsLive (row_at []) flags.old.items → IsLive (row_at (tree.values rows.now)) flags.new.items }
+    ensures { IsTrue result → IsLive (row_at []) flags.old.items
+        → IsLive (row_at (tree.values rows.now)) flags.new.items }
 {
     for row in rows.values() {
         if !take_row(flags, row) {

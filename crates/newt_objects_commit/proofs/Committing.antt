@@ -1,13 +1,13 @@
 -- What the clauses of a commit say together.
 use Rattle.std.proofs.Common.{IsTrue, ◌≡◌, inl, inr, ℕ, ◌*◌, ◌/◌, ◌<◌, ◌≤◌, Bool, List, length, Option, Some, None, IsSome, refl, sym, ◌∙◌, ap, arith, ⊎_elim}
 use Rattle.std.specs.FinSet as set
-use Rattle.newt_host.specs.Moments.{Moment, image, changes, IsDurable, IsHistory, Leaves}
+use Rattle.newt_host.specs.Moments.{Moment, image, changes, IsDurable, Leaves}
 use Rattle.newt_host.specs.Outside.{Outside}
 use Rattle.newt_host.proofs.Moments.{Leaves-weaken, Leaves-start}
 use Rattle.newt_spec_image.specs.Pages.{Change, pages, after, cap}
 use Rattle.newt_spec_image.specs.Objects.{Objects}
 use Rattle.newt_pagebook.specs.Batch.{IsBatch}
-use Rattle.newt_pagebook.specs.Book.{Numbers, changed_numbers, ReadsChanged, IsBeforeOrAfter}
+use Rattle.newt_pagebook.specs.Book.{Numbers, changed_numbers, ReadsChanged}
 use Rattle.newt_objects.specs.Held.{Held, held, planned, AreOf}
 use Rattle.newt_objects.specs.Changing.{HoldsObjects, total_pages}
 use Rattle.newt_objects.proofs.Changing.{adopted_are, are_still, changed_holds, left_holds}
@@ -15,7 +15,7 @@ use Rattle.newt_objects.proofs.Counting.{would_count}
 use Rattle.newt_objects.proofs.Whole.{image_whole}
 use Rattle.newt_spec_store.specs.OfImage.{blocks_of}
 use Rattle.newt_objects_commit.specs.Commit.{IsPlanned, IsEither, Fit}
-use Rattle.newt_objects_commit.proofs.Lengths.{Leaves-length}
+use Rattle.newt_objects_commit.specs.Calls.{IsEitherSide}
 
 pub blocks-are : (now : List ℕ) (blocks : ℕ) → length now ≡ blocks * 4096 → blocks_of now ≡ blocks
 blocks-are now blocks size = ap (λ (n : ℕ). n / 4096) size ∙ whole blocks where
@@ -39,14 +39,13 @@ module _ (told : Bool) (objects : Held) (change : Change) (numbers : Numbers) (n
         omega (arith, same, more, planned-count)
 
     -- what a crash leaves within a commit that fits
-    pub leaves-either : (unit : ℕ) (old new : Moment) → Fit after now → IsHistory (blocks * 4096) (changes unit old) → IsHistory (blocks * 4096) (changes unit new)
-        → Leaves unit (IsBeforeOrAfter change now) old new → Leaves unit (IsEither now before after) old new
-    leaves-either unit old new fits first last leaves = Leaves-weaken
+    pub leaves-either : (unit : ℕ) (old new : Moment) → Fit after now → Leaves unit (IsEitherSide change now) old new → Leaves unit (IsEither now before after) old new
+    leaves-either unit old new fits leaves = Leaves-weaken
         (λ left both. record {
-          size = both.0 ∙ sym size;
+          size = both.0;
           holds = ⊎_elim (λ was. inl was) (λ is. inr (is, fits)) (left_holds objects change p.live before after now left (p.are.of_image tells) p.were p.way.would both.1);
         })
-        (Leaves-length first last leaves)
+        leaves
 
   -- nothing has happened, and nothing is pending
   pub leaves-nothing : (unit : ℕ) (old : Moment) → now ≡ image unit old → IsDurable unit old → Leaves unit (IsEither now before after) old old

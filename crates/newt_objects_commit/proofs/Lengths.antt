@@ -1,6 +1,6 @@
 -- What a crash leaves of a device has as many bytes as the device.
 use Rattle.std.proofs.Common.{◌≡◌, ℕ, ◌≤◌, Bool, true, false, cond, eqb, List, [], ◌∷◌, length, ◌∙◌, ap, arith}
-use Rattle.newt_host.specs.Moments.{Change, Attached, Wrote, Synced, On, Printed, Moment, LeftBy, changes, IsHistory, Always, here, later, Leaves}
+use Rattle.newt_host.specs.Moments.{Change, Attached, Wrote, Synced, On, Printed, Took, Moment, LeftBy, changes, IsHistory, Always, here, later, Leaves}
 use Rattle.newt_host.proofs.Moments.{Always-map}
 use Rattle.newt_host.proofs.Histories.{history-length}
 
@@ -19,6 +19,7 @@ more_changes : {P : Moment → Type 0} (unit : ℕ) {old new : Moment} → Alway
 more_changes unit (here p) = omega arith
 more_changes unit (later (On u change) now so_far p) = fewer (eqb u unit) change _ (changes unit now) (more_changes unit so_far)
 more_changes unit (later (Printed byte) now so_far p) = more_changes unit so_far
+more_changes unit (later (Took bytes) now so_far p) = more_changes unit so_far
 
 begun : (size : ℕ) (done : List Change) → IsHistory size done → 1 ≤ length done
 begun size [] h = absurd h
@@ -36,6 +37,7 @@ each_history unit size {old = old} first last (later (On u change) now so_far p)
     let was = one_back (eqb u unit) size (length (changes unit old)) change (changes unit now) (begun size (changes unit old) first) (more_changes unit so_far) last in
     later (On u change) now (each_history unit size first was so_far) (p, last)
 each_history unit size first last (later (Printed byte) now so_far p) = later (Printed byte) now (each_history unit size first last so_far) (p, last)
+each_history unit size first last (later (Took bytes) now so_far p) = later (Took bytes) now (each_history unit size first last so_far) (p, last)
 
 -- so at each moment of a call what a crash leaves has as many bytes
 pub Leaves-length : {unit size : ℕ} {P : List ℕ → Type 0} {old new : Moment} → IsHistory size (changes unit old) → IsHistory size (changes unit new) → Leaves unit P old new → Leaves unit (λ left. (length left ≡ size) × P left) old new

@@ -6,3 +6,6 @@ pub mod Planning
 pub mod Placing
 pub mod Listing
 pub mod Patching
+pub mod Writing
+pub mod Calls
+pub mod Overwriting

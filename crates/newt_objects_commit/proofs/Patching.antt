@@ -1,16 +1,14 @@
 -- Bytes of one object that are overwritten: what the clauses of a plan and of its commit say together.
-use Rattle.std.proofs.Common.{◌≡◌, inl, ℕ, ◌*◌, Bool, List, [], length, Option, Some, None, IsSome, refl, sym, ◌∙◌, ap, subst}
+use Rattle.std.proofs.Common.{◌≡◌, inl, ℕ, List, [], length, Option, Some, None, IsSome, refl, sym, ◌∙◌, ap}
 use Rattle.std.specs.FinMap as map
 use Rattle.std.specs.Option.{option_map}
-use Rattle.newt_host.specs.Moments.{Moment, image, changes, overwritten, IsDurable, IsHistory, Leaves}
-use Rattle.newt_host.specs.Outside.{Outside}
+use Rattle.newt_host.specs.Moments.{Moment, image, overwritten, IsDurable, Leaves}
 use Rattle.newt_host.proofs.Moments.{Leaves-weaken, Leaves-start}
 use Rattle.newt_spec_image.specs.Pages.{Pages, Change, pages}
 use Rattle.newt_spec_image.specs.Objects.{Extent, IsTableOf, AreObjectsOf, joined, Objects}
 use Rattle.newt_pagebook.specs.Batch.{no_change}
-use Rattle.newt_pagebook.specs.Book.{Numbers, IsBeforeOrAfter}
-use Rattle.newt_objects.specs.Held.{Held, held, AreOf, WouldHold}
-use Rattle.newt_objects.proofs.Changing.{are_still, left_holds}
+use Rattle.newt_objects.specs.Held.{Held, held, WouldHold}
+use Rattle.newt_objects.proofs.Changing.{left_holds}
 use Rattle.newt_objects.proofs.Counting.{joined_size}
 use Rattle.newt_objects.proofs.Same.{texts_by}
 use Rattle.newt_objects.proofs.TextsOf.{texts_of}
@@ -18,9 +16,8 @@ use Rattle.newt_objects.proofs.Whole.{image_whole}
 use Rattle.newt_pagebook.proofs.Tests.{some_inj}
 use Rattle.newt_vbo.specs.Patches.{WouldPatch}
 use Rattle.newt_vbo.proofs.Committing.{patch_would}
-use Rattle.newt_objects_commit.specs.Commit.{AreKept}
 use Rattle.newt_objects_commit.specs.Patch.{IsBeforeOrPatched}
-use Rattle.newt_objects_commit.proofs.Lengths.{Leaves-length}
+use Rattle.newt_objects_commit.specs.Calls.{IsEitherSide}
 
 -- nothing has happened, and nothing is pending
 pub patch-nothing : (live : Pages) (before after : Objects) (unit : ℕ) (old : Moment) → pages (image unit old) ≡ Some live → AreObjectsOf live before → IsDurable unit old
@@ -33,20 +30,11 @@ patch-nothing live before after unit old of_image were durable = Leaves-start (�
     })
 
 -- what a crash leaves within the commit
-pub patch-leaves : (objects : Held) (change : Change) (live : Pages) (before after : Objects) (blocks unit : ℕ) (old new : Moment) → pages (image unit old) ≡ Some live → AreObjectsOf live before → WouldHold objects change live after
-    → length (image unit old) ≡ blocks * 4096 → IsHistory (blocks * 4096) (changes unit old) → IsHistory (blocks * 4096) (changes unit new) → Leaves unit (IsBeforeOrAfter change (image unit old)) old new
-    → Leaves unit (IsBeforeOrPatched (image unit old) before after) old new
-patch-leaves objects change live before after blocks unit old new of_image were would size first last leaves = Leaves-weaken
-    (λ left both. record { size = both.0 ∙ sym size; holds = left_holds objects change live before after (image unit old) left of_image were would both.1 })
-    (Leaves-length first last leaves)
-
--- the table stays where a call only read
-pub kept-read : (told : Bool) (objects : Held) (numbers numbers' : Numbers) (unit unit' : ℕ) (old new : Outside) → unit' ≡ unit → numbers' ≡ numbers → new.now ≡ old.now → AreKept told objects numbers unit old → AreKept told objects numbers' unit' new
-kept-read told objects numbers numbers' unit unit' old new at same now kept = record {
-  none = kept.none;
-  are = subst (λ (v : ℕ). AreOf told (held objects) numbers' v new) (sym at)
-      (are_still told (held objects) (held objects) numbers numbers' unit old new (λ id. refl) same (ap (λ (m : Moment). changes unit m) now) kept.are);
-}
+pub patch-leaves : (objects : Held) (change : Change) (live : Pages) (before after : Objects) (unit : ℕ) (old new : Moment) → pages (image unit old) ≡ Some live → AreObjectsOf live before → WouldHold objects change live after
+    → Leaves unit (IsEitherSide change (image unit old)) old new → Leaves unit (IsBeforeOrPatched (image unit old) before after) old new
+patch-leaves objects change live before after unit old new of_image were would leaves = Leaves-weaken
+    (λ left both. record { size = both.0; holds = left_holds objects change live before after (image unit old) left of_image were would both.1 })
+    leaves
 
 pub the-extent : (o : Option Extent) → IsSome o → (x : Extent) × (o ≡ Some x)
 the-extent (Some x) some = (x, refl)

@@ -1,10 +1,11 @@
 -- Objects as a change plans them.
-use Rattle.std.specs.Prelude.{◌≡◌, ◌≢◌, ℕ, ◌+◌, ◌%◌, ◌<◌, List, length, map as map_list, sum_by, Option, Some, None}
+use Rattle.std.specs.Prelude.{◌≡◌, ◌≢◌, ℕ, ◌+◌, ◌%◌, ◌<◌, List, [], length, map as map_list, sum_by, Option, Some, None, IsSome}
 use Rattle.std.specs.FinMap as map
-use Rattle.newt_spec_image.specs.Pages.{Change}
+use Rattle.newt_spec_image.specs.Pages.{Pages, Change}
 use Rattle.newt_spec_image.specs.Objects.{pages_for, Objects}
 use Rattle.newt_objects.specs.Extents.{numbers_of}
-use Rattle.newt_objects.specs.Held.{Held, held}
+use Rattle.newt_objects.specs.Held.{Held, held, IsUnplanned}
+use Rattle.newt_objects.specs.Changing.{IsUnderWay}
 use Rattle.newt_spec_graph.specs.Lists.{Among, Pairs}
 use Rattle.newt_objects_commit.specs.declared.batch.NewEntry.{NewEntry}
 use Rattle.newt_objects_commit.specs.declared.batch.NewLarge.{NewLarge}
@@ -80,3 +81,35 @@ pub record IsApart (entry : Option NewEntry) (gone : List ℕ) : Type 0 where
 pub record AddsPages (puts deletes : ℕ) (old new : Change) : Type 0 where
   pub more_puts : length new.puts ≡ length old.puts + puts
   pub more_deletes : length new.deletes ≡ length old.deletes + deletes
+
+-- The new entry has ids of its own, and the objects that go are others, each once, and no
+-- directory; nothing is planned yet.
+pub record CanBePlanned (objects : Held) (entry : Option NewEntry) (gone : List ℕ) : Type 0 where
+  pub none : objects.plans ≡ []
+  pub ids : (e : NewEntry) → entry ≡ Some e → HasIds e
+  pub apart : IsApart entry gone
+  pub there : (id : ℕ) → Among gone id → IsSome (held objects id)
+  pub behind : (id : ℕ) → Among gone id → 0 < id
+  pub once : AreOnce gone
+
+-- a new entry whose objects have no plans yet
+pub record IsFree (objects : Held) (e : NewEntry) : Type 0 where
+  pub ids : HasIds e
+  pub no_plan : IsUnplanned objects e.id
+  pub no_plans : (id : ℕ) → Among (large_ids e) id → IsUnplanned objects id
+
+-- some objects are under way
+abbrev pub IsOnTheWay : Held → Change → Type 0
+IsOnTheWay objects change =
+    (live : Pages) × (texts : Objects) × IsUnderWay objects change live texts
+
+-- whatever objects are under way, others are then, of which this is said
+abbrev pub LeadsTo : (Objects → Objects → Type 0) → (old : Held) → (before : Change) →
+    (new : Held) → (after : Change) → Type 0
+LeadsTo Becomes old before new after = (live : Pages) (texts : Objects) →
+    IsUnderWay old before live texts →
+    (next : Objects) × IsUnderWay new after live next × Becomes texts next
+
+-- all other ids that have no plan have none then
+abbrev pub LeavesUnplanned : (ℕ → Type 0) → Held → Held → Type 0
+LeavesUnplanned IsOther old new = (id : ℕ) → IsOther id → IsUnplanned old id → IsUnplanned new id

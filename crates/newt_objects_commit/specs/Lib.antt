@@ -4,3 +4,4 @@ pub mod Batch
 pub mod Places
 pub mod Names
 pub mod Patch
+pub mod Calls

@@ -1,12 +1,15 @@
 // The objects of a change, planned into one batch.
-ghost use Rattle.std.specs.Prelude.{◌≡◌, ◌≢◌, ◌+◌, ◌<◌, ℕ, [], length, map as map_list, sum_by, Some, IsSome, OnOk};
-ghost use Rattle.newt_spec_image.specs.Pages.{Pages};
-ghost use Rattle.newt_spec_image.specs.Objects.{pages_for, Objects as Texts};
+ghost use Rattle.std.specs.Prelude.{◌≡◌, ◌≢◌, ◌+◌, ℕ, length, map as map_list, sum_by, Some};
+ghost use Rattle.std.specs.Prelude.{IsSome, OnOk};
+ghost use Rattle.newt_spec_image.specs.Objects.{pages_for};
 ghost use Rattle.newt_objects.specs.Held.{held, IsUnplanned};
-ghost use Rattle.newt_objects.specs.Changing.{IsUnderWay};
 ghost use Rattle.newt_spec_graph.specs.Lists.{Among};
 ghost use Rattle.newt_objects_commit.specs.declared.batch.NewEntry.{NewEntry as NewOne};
-ghost use Rattle.newt_objects_commit.specs.Batch.{AreWritten, HasPut, HasNone, HasIds, IsApart, AreOnce, AddsPages, HasLarges, HasEntry, large_ids, pages_held, all_pages_held, new_pages, over_pages};
+ghost use Rattle.newt_objects_commit.specs.Batch.{AreOnce, CanBePlanned, IsFree, IsOnTheWay};
+ghost use Rattle.newt_objects_commit.specs.Batch.{large_ids, pages_held, all_pages_held, new_pages};
+ghost use Rattle.newt_objects_commit.specs.Batch.{over_pages};
+ghost use Rattle.newt_objects_commit.specs.Batch.{AddsPages, AreWritten, HasEntry, HasLarges};
+ghost use Rattle.newt_objects_commit.specs.Batch.{HasNone, HasPut, LeadsTo, LeavesUnplanned};
 
 use newt_base::{Sig, Uid};
 use newt_objects::Objects;
@@ -20,8 +23,9 @@ pub struct NewLarge {
     pub bytes: Vec<u8>,
 }
 
-/// A new entry: its soup, its id, the object that gets its record, the record, and the large binaries that the record names, in order. The object of the
-/// record may be one that is there: then the record is put over it.
+/// A new entry: its soup, its id, the object that gets its record, the record, and the large
+/// binaries that the record names, in order. The object of the record may be one that is there:
+/// then the record is put over it.
 #[derive(Drop)]
 pub struct NewEntry {
     pub sig: Sig,
@@ -39,11 +43,13 @@ fn plan_object(
     batch: &mut Batch,
 ) -> Result<(), AllocError>
     requires no_plan { IsUnplanned objects.old id }
-    requires way { (live : Pages) × (texts : Texts) × IsUnderWay objects.old batch.old live texts }
-    ensures way { OnOk result ((live : Pages) (texts : Texts) → IsUnderWay objects.old batch.old live texts → (after : Texts) × IsUnderWay objects.new batch.new live after × HasPut id bytes.now texts after) }
+    requires way { IsOnTheWay objects.old batch.old }
+    ensures way { OnOk result (LeadsTo (HasPut id bytes.now) objects.old batch.old
+        objects.new batch.new) }
     ensures held { (other : ℕ) → held objects.new other ≡ held objects.old other }
-    ensures others { OnOk result ((other : ℕ) → other ≢ id → IsUnplanned objects.old other → IsUnplanned objects.new other) }
-    ensures pages { OnOk result (AddsPages (pages_for (length bytes.now)) (pages_held objects.old id) batch.old batch.new) }
+    ensures others { OnOk result (LeavesUnplanned (λ other. other ≢ id) objects.old objects.new) }
+    ensures pages { OnOk result (AddsPages (pages_for (length bytes.now))
+        (pages_held objects.old id) batch.old batch.new) }
 {
     if u32::try_from(bytes.len()).is_err() {
         return Err(AllocError);
@@ -58,13 +64,18 @@ fn plan_larges(
     larges: &[NewLarge],
     batch: &mut Batch,
 ) -> Result<(), AllocError>
-    requires no_plan { (id : ℕ) → Among (map_list (λ l. l.id) larges.now) id → IsUnplanned objects.old id }
+    requires no_plan { (id : ℕ) → Among (map_list (λ l. l.id) larges.now) id →
+        IsUnplanned objects.old id }
     requires once { AreOnce (map_list (λ l. l.id) larges.now) }
-    requires way { (live : Pages) × (texts : Texts) × IsUnderWay objects.old batch.old live texts }
-    ensures way { OnOk result ((live : Pages) (texts : Texts) → IsUnderWay objects.old batch.old live texts → (after : Texts) × IsUnderWay objects.new batch.new live after × HasLarges larges.now texts after) }
+    requires way { IsOnTheWay objects.old batch.old }
+    ensures way { OnOk result (LeadsTo (HasLarges larges.now) objects.old batch.old
+        objects.new batch.new) }
     ensures held { (other : ℕ) → held objects.new other ≡ held objects.old other }
-    ensures others { OnOk result ((other : ℕ) → (Among (map_list (λ l. l.id) larges.now) other → ⊥) → IsUnplanned objects.old other → IsUnplanned objects.new other) }
-    ensures pages { OnOk result (AddsPages (sum_by (λ l. pages_for (length l.bytes.items)) larges.now) (all_pages_held objects.old (map_list (λ l. l.id) larges.now)) batch.old batch.new) }
+    ensures others { OnOk result (LeavesUnplanned
+        (λ other. Among (map_list (λ l. l.id) larges.now) other → ⊥) objects.old objects.new) }
+    ensures pages { OnOk result (AddsPages
+        (sum_by (λ l. pages_for (length l.bytes.items)) larges.now)
+        (all_pages_held objects.old (map_list (λ l. l.id) larges.now)) batch.old batch.new) }
 {
     for large in larges {
         plan_object(objects, large.id, &large.bytes, batch)?;
@@ -78,14 +89,15 @@ fn plan_entry(
     entry: &Option<NewEntry>,
     batch: &mut Batch,
 ) -> Result<(), AllocError>
-    requires no_plan { (e : NewOne) → entry.now ≡ Some e → IsUnplanned objects.old e.id }
-    requires no_plans { (e : NewOne) (id : ℕ) → entry.now ≡ Some e → Among (large_ids e) id → IsUnplanned objects.old id }
-    requires ids { (e : NewOne) → entry.now ≡ Some e → HasIds e }
-    requires way { (live : Pages) × (texts : Texts) × IsUnderWay objects.old batch.old live texts }
-    ensures way { OnOk result ((live : Pages) (texts : Texts) → IsUnderWay objects.old batch.old live texts → (after : Texts) × IsUnderWay objects.new batch.new live after × HasEntry entry.now texts after) }
+    requires free { (e : NewOne) → entry.now ≡ Some e → IsFree objects.old e }
+    requires way { IsOnTheWay objects.old batch.old }
+    ensures way { OnOk result (LeadsTo (HasEntry entry.now) objects.old batch.old
+        objects.new batch.new) }
     ensures held { (other : ℕ) → held objects.new other ≡ held objects.old other }
-    ensures others { OnOk result ((other : ℕ) → ((e : NewOne) → entry.now ≡ Some e → (other ≢ e.id) × (Among (large_ids e) other → ⊥)) → IsUnplanned objects.old other → IsUnplanned objects.new other) }
-    ensures pages { OnOk result (AddsPages (new_pages entry.now) (over_pages objects.old entry.now) batch.old batch.new) }
+    ensures others { OnOk result (LeavesUnplanned (λ other. (e : NewOne) → entry.now ≡ Some e →
+        (other ≢ e.id) × (Among (large_ids e) other → ⊥)) objects.old objects.new) }
+    ensures pages { OnOk result (AddsPages (new_pages entry.now)
+        (over_pages objects.old entry.now) batch.old batch.new) }
 {
     let Some(e) = entry else {
         return Ok(());
@@ -100,10 +112,12 @@ fn plan_gone(objects: &mut Objects, gone: &[u32], batch: &mut Batch) -> Result<(
     requires there { (id : ℕ) → Among gone.now id → IsSome (held objects.old id) }
     requires no_plan { (id : ℕ) → Among gone.now id → IsUnplanned objects.old id }
     requires once { AreOnce gone.now }
-    requires way { (live : Pages) × (texts : Texts) × IsUnderWay objects.old batch.old live texts }
-    ensures way { OnOk result ((live : Pages) (texts : Texts) → IsUnderWay objects.old batch.old live texts → (after : Texts) × IsUnderWay objects.new batch.new live after × HasNone gone.now texts after) }
+    requires way { IsOnTheWay objects.old batch.old }
+    ensures way { OnOk result (LeadsTo (HasNone gone.now) objects.old batch.old
+        objects.new batch.new) }
     ensures held { (other : ℕ) → held objects.new other ≡ held objects.old other }
-    ensures pages { OnOk result (AddsPages 0 (all_pages_held objects.old gone.now) batch.old batch.new) }
+    ensures pages { OnOk result (AddsPages 0 (all_pages_held objects.old gone.now)
+        batch.old batch.new) }
 {
     for id in gone {
         objects.plan_delete(*id, batch)?;
@@ -111,7 +125,8 @@ fn plan_gone(objects: &mut Objects, gone: &[u32], batch: &mut Batch) -> Result<(
     Ok(())
 }
 
-/// Plans all objects of a change: the directory, the record of the new entry and its large binaries, and the objects that go.
+/// Plans all objects of a change: the directory, the record of the new entry and its large
+/// binaries, and the objects that go.
 pub fn plan_objects(
     objects: &mut Objects,
     directory: &[u8],
@@ -119,16 +134,15 @@ pub fn plan_objects(
     gone: &[u32],
     batch: &mut Batch,
 ) -> Result<(), AllocError>
-    requires none { objects.old.plans ≡ [] }
-    requires way { (live : Pages) × (texts : Texts) × IsUnderWay objects.old batch.old live texts }
-    requires ids { (e : NewOne) → entry.now ≡ Some e → HasIds e }
-    requires apart { IsApart entry.now gone.now }
-    requires there { (id : ℕ) → Among gone.now id → IsSome (held objects.old id) }
-    requires behind { (id : ℕ) → Among gone.now id → 0 < id }
-    requires once { AreOnce gone.now }
-    ensures way { OnOk result ((live : Pages) (texts : Texts) → IsUnderWay objects.old batch.old live texts → (after : Texts) × IsUnderWay objects.new batch.new live after × AreWritten directory.now entry.now gone.now texts after) }
+    requires way { IsOnTheWay objects.old batch.old }
+    requires can { CanBePlanned objects.old entry.now gone.now }
+    ensures way { OnOk result (LeadsTo (AreWritten directory.now entry.now gone.now)
+        objects.old batch.old objects.new batch.new) }
     ensures held { (other : ℕ) → held objects.new other ≡ held objects.old other }
-    ensures pages { OnOk result (AddsPages (pages_for (length directory.now) + new_pages entry.now) (pages_held objects.old 0 + over_pages objects.old entry.now + all_pages_held objects.old gone.now) batch.old batch.new) }
+    ensures pages { OnOk result (AddsPages
+        (pages_for (length directory.now) + new_pages entry.now)
+        (pages_held objects.old 0 + over_pages objects.old entry.now
+        + all_pages_held objects.old gone.now) batch.old batch.new) }
 {
     plan_object(objects, 0, directory, batch)?;
     plan_entry(objects, entry, batch)?;

@@ -1,7 +1,8 @@
-//! Objects of one unit that change by whole batches, and the tables of where the records of entries are and which objects they name.
-//! It stands on a `PageBook` of `newt_pagebook`, whichever it is, and on the objects of `newt_objects`. The promise that it carries upwards: a batch of
-//! objects is put and removed as a whole or not at all, whenever the power fails, and it is refused exactly where the objects would take more pages
-//! than the unit has.
+//! Objects of one unit that change by whole batches, and the tables of where the records of entries
+//! are and which objects they name. It stands on a `PageBook` of `newt_pagebook`, whichever it is,
+//! and on the objects of `newt_objects`. The promise that it carries upwards: a batch of objects is
+//! put and removed as a whole or not at all, whenever the power fails, and it is refused exactly
+//! where the objects would take more pages than the unit has.
 #![tactic(auto)]
 
 mod batch;
@@ -9,6 +10,7 @@ mod commit;
 mod names;
 mod patch;
 mod places;
+mod write;
 
 pub use batch::{NewEntry, NewLarge, plan_objects};
 pub use commit::commit_plans;

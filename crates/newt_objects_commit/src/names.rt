@@ -5,7 +5,8 @@ ghost use Rattle.newt_objects_commit.specs.Names.{names_of, IsReady};
 use std::alloc::{AllocError, Global};
 use std::collections::BTreeMap;
 
-/// The ids of the objects that each record names, in the order in which it names them. Records are spoken of by the ids of their objects.
+/// The ids of the objects that each record names, in the order in which it names them. Records are
+/// spoken of by the ids of their objects.
 #[derive(Drop)]
 pub struct NameTable {
     rows: BTreeMap<u32, Vec<u32>>,
@@ -34,8 +35,10 @@ impl NameTable {
     /// Keeps what a record names. After an error each record names what it named.
     pub fn insert(&mut self, id: u32, ids: Vec<u32>) -> Result<(), AllocError>
         ensures kept { OnOk result (names_of self.new id ≡ ids.items) }
-        ensures others { OnOk result ((other : ℕ) → other ≢ id → names_of self.new other ≡ names_of self.old other) }
-        ensures err { OnErr result ((other : ℕ) → names_of self.new other ≡ names_of self.old other) }
+        ensures others { OnOk result ((other : ℕ) → other ≢ id → names_of self.new other ≡ names_of
+            self.old other) }
+        ensures err { OnErr result ((other : ℕ) → names_of self.new other ≡ names_of self.old
+            other) }
     {
         let _old = self.rows.insert(id, ids)?;
         Ok(())
@@ -57,7 +60,8 @@ impl NameTable {
     pub fn set(&mut self, id: u32, ids: Vec<u32>)
         requires ready { IsReady self.old id }
         ensures kept { names_of self.new id ≡ ids.items }
-        ensures others { (other : ℕ) → other ≢ id → names_of self.new other ≡ names_of self.old other }
+        ensures others { (other : ℕ) → other ≢ id
+            → names_of self.new other ≡ names_of self.old other }
     {
         if let Some(row) = self.rows.get_mut(&id) {
             *row = ids;
@@ -67,7 +71,8 @@ impl NameTable {
     /// Forgets what a record names.
     pub fn remove(&mut self, id: u32)
         ensures gone { names_of self.new id ≡ [] }
-        ensures others { (other : ℕ) → other ≢ id → names_of self.new other ≡ names_of self.old other }
+        ensures others { (other : ℕ) → other ≢ id
+            → names_of self.new other ≡ names_of self.old other }
         ensures ready { (other : ℕ) → other ≢ id → IsReady self.old other → IsReady self.new other }
     {
         self.rows.remove(&id);

@@ -1,5 +1,6 @@
 // Where the records of entries are.
-ghost use Rattle.std.specs.Prelude.{◌≡◌, ◌≢◌, ◌==◌, ◌++◌, ◌∷◌, [], ℕ, List, filter, length, Some, None, is_some, OnOk, OnErr, IfOk};
+ghost use Rattle.std.specs.Prelude.{◌≡◌, ◌≢◌, ◌==◌, ◌++◌, ◌∷◌, [], ℕ, List, filter, length, Some};
+ghost use Rattle.std.specs.Prelude.{None, is_some, OnOk, OnErr, IfOk};
 ghost use Rattle.std.specs.List.{IsDistinct};
 ghost use Rattle.std.specs.List.Sorted.{IsStrictlySortedBy};
 ghost use Rattle.std.specs.Ordering.{nat_cmp};
@@ -37,7 +38,8 @@ fn pick(rows: &BTreeMap<(u32, u32), u32>, sig: u32, ids: &mut Vec<u32>) -> Resul
 
 // Appends the id of the entry of a row, if it is one of the soup.
 fn list_one(key: &(u32, u32), id: &u32, sig: u32, uids: &mut Vec<Uid>) -> Result<(), AllocError>
-    ensures { OnOk result (uids.new.items ≡ uids.old.items ++ uids_at sig ((key.now, id.now) ∷ [])) }
+    ensures { OnOk result (uids.new.items ≡ uids.old.items ++ uids_at sig
+        ((key.now, id.now) ∷ [])) }
 {
     if key.0 == sig {
         uids.push(Uid(key.1))?;
@@ -94,7 +96,8 @@ impl PlaceTable {
     /// Keeps the object of an entry's record. After an error the table is as it was.
     pub fn insert(&mut self, sig: Sig, uid: Uid, id: u32) -> Result<(), AllocError>
         ensures kept { OnOk result (place_of self.new sig uid ≡ Some id) }
-        ensures others { OnOk result ((s u : ℕ) → ((s ≡ sig) → (u ≡ uid) → ⊥) → place_of self.new s u ≡ place_of self.old s u) }
+        ensures others { OnOk result ((s u : ℕ) → ((s ≡ sig) → (u ≡ uid) → ⊥) → place_of self.new s
+            u ≡ place_of self.old s u) }
         ensures err { OnErr result ((s u : ℕ) → place_of self.new s u ≡ place_of self.old s u) }
     {
         let _old = self.rows.insert((sig.0, uid.0), id)?;
@@ -104,16 +107,20 @@ impl PlaceTable {
     /// Forgets the place of an entry.
     pub fn remove(&mut self, sig: Sig, uid: Uid)
         ensures gone { place_of self.new sig uid ≡ None }
-        ensures others { (s u : ℕ) → ((s ≡ sig) → (u ≡ uid) → ⊥) → place_of self.new s u ≡ place_of self.old s u }
+        ensures others { (s u : ℕ) → ((s ≡ sig) → (u ≡ uid) → ⊥)
+            → place_of self.new s u ≡ place_of self.old s u }
     {
         self.rows.remove(&(sig.0, uid.0));
     }
 
     /// The objects of the records of a soup's entries.
     pub fn objects_of(&self, alloc: Global, sig: Sig) -> Result<Vec<u32>, AllocError>
-        requires { (u v id : ℕ) → place_of self.now sig u ≡ Some id → place_of self.now sig v ≡ Some id → u ≡ v }
-        ensures real { IfOk result (λ ids. (id : ℕ) → Among ids.items id → (uid : ℕ) × (place_of self.now sig uid ≡ Some id)) }
-        ensures all { IfOk result (λ ids. (uid id : ℕ) → place_of self.now sig uid ≡ Some id → Among ids.items id) }
+        requires { (u v id : ℕ) → place_of self.now sig u ≡ Some id
+            → place_of self.now sig v ≡ Some id → u ≡ v }
+        ensures real { IfOk result (λ ids. (id : ℕ) → Among ids.items id → (uid : ℕ) ×
+            (place_of self.now sig uid ≡ Some id)) }
+        ensures all { IfOk result (λ ids. (uid id : ℕ) → place_of self.now sig uid ≡ Some id → Among
+            ids.items id) }
         ensures once { IfOk result (λ ids. AreOnce ids.items) }
     {
         let mut ids = Vec::new(alloc);
@@ -123,7 +130,8 @@ impl PlaceTable {
 
     /// The ids of a soup's entries that have a place, in rising order.
     pub fn uids_of(&self, alloc: Global, sig: Sig) -> Result<Vec<Uid>, AllocError>
-        ensures there { IfOk result (λ uids. (uid : ℕ) → is_member (λ a b. a == b) uids.items uid ≡ is_some (place_of self.now sig uid)) }
+        ensures there { IfOk result (λ uids. (uid : ℕ) → is_member (λ a b. a == b) uids.items uid ≡
+            is_some (place_of self.now sig uid)) }
         ensures rising { IfOk result (λ uids. IsStrictlySortedBy nat_cmp uids.items) }
     {
         let mut uids = Vec::new(alloc);
@@ -133,7 +141,9 @@ impl PlaceTable {
 
     /// How many entries of a soup have a place.
     pub fn count(&self, sig: Sig) -> usize
-        ensures { (uids : List ℕ) → IsDistinct (λ a b. a == b) uids → ((uid : ℕ) → is_some (place_of self.now sig uid) ≡ is_member (λ a b. a == b) uids uid) → result ≡ length uids }
+        ensures { (uids : List ℕ) → IsDistinct (λ a b. a == b) uids
+            → ((uid : ℕ) → is_some (place_of self.now sig uid) ≡ is_member (λ a b. a == b) uids uid)
+            → result ≡ length uids }
     {
         count_rows(&self.rows, sig.0)
     }

@@ -3,31 +3,30 @@ use Rattle.std.proofs.Common.{IsTrue, ◌≡◌, inl, inr, ℕ, ◌+◌, Bool, t
 use Rattle.std.proofs.lemmas.List.{length-replicate}
 use Rattle.std.proofs.lemmas.Result.{IfOk-weaker}
 use Rattle.newt_host.specs.Moments.{Moment, image, Leaves}
-use Rattle.newt_host.specs.Outside.{Outside, Touches, Spends, Rose}
-use Rattle.newt_host.proofs.Outside.{Touches-append}
-use Rattle.newt_host.proofs.Moments.{Leaves-append, Leaves-weaken}
+use Rattle.newt_host.specs.Outside.{Outside, Work}
 use Rattle.newt_spec_image.specs.Records.{records, tail}
 use Rattle.newt_spec_image.specs.Pages.{Change}
+use Rattle.newt_journal.specs.Calls.{Programs}
 use Rattle.newt_journal.specs.Journal.{Stands, ReadsAs, ReadsAsEither}
-use Rattle.newt_journal.specs.Draft.{IsDraftOf, journal_of, len_of, put_of, place_of, front_of, unit_of, is_switch, payload_of, outcome}
+use Rattle.newt_journal.specs.Draft.{IsBegun, IsDraftOf, journal_of, len_of, put_of, place_of, front_of, unit_of, is_switch, payload_of, outcome, commit_work}
 use Rattle.newt_journal.specs.Places.{first_place}
 use Rattle.newt_journal.specs.declared.draft.Draft.TheVariants.{Append, Switch}
 use Rattle.newt_journal.specs.declared.draft.Draft.{Draft}
 use Rattle.newt_journal.specs.declared.journal.Journal.{Journal}
 use Rattle.newt_pagebook.specs.Book.{IsOpenFor, IsBeforeOrAfter, ReadsChanged}
-use Rattle.newt_pagelog.specs.Steps.{Stays, Begins, WritesMore}
+use Rattle.newt_pagelog.specs.Steps.{Stays, Begins, WritesMore, done}
 use Rattle.newt_pagelog.specs.Commits.{Rewrites, Commits}
 use Rattle.newt_pagelog.proofs.Changing.{read-same}
-use Rattle.newt_pagelog.proofs.Failing.{no-value, no-ok, on-err}
-use Rattle.newt_pagelog.proofs.Stepping.{stays-two, stays-on, steady-after, steady-on}
+use Rattle.newt_pagelog.proofs.Failing.{no-value, no-ok}
+use Rattle.newt_pagelog.proofs.Stepping.{NoMore, both, stays-two, stays-on, steady-after, steady-on, writes-failed, writes-two, writes-weaken, writes-widen}
 
 -- what is known of a draft that was begun and written
-pub record Written (told : Bool) (unit : ℕ) (kind : Bool) (payload : List ℕ) (draft : Draft) (old now : Outside) : Type 0 where
+pub record Written (told : Bool) (unit : ℕ) (work : Work) (kind : Bool) (payload : List ℕ) (draft : Draft) (old now : Outside) : Type 0 where
   pub on : unit_of draft ≡ unit
   pub kind_is : is_switch draft ≡ kind
   pub payload_is : IsTrue told → payload_of draft (image unit now.now) ≡ payload
   pub same : IsTrue told → records (image unit now.now) ≡ records (image unit old.now)
-  pub stays : Stays told unit old now
+  pub stays : Stays told unit work done old now
 
 -- where a record stands that is written behind the others, and one that is written alone
 pub append-place : (d : Draft) → is_switch d ≡ false → (place_of d ≡ (journal_of d).end + 5) × (front_of d ≡ first_place (journal_of d))
@@ -42,69 +41,74 @@ nothing_more : (a b : List ℕ) → a ≡ [] → a ++ b ≡ b
 nothing_more a b e = ap (λ (l : List ℕ). l ++ b) e
 
 -- a record behind the others that was begun
-pub begun : (told : Bool) (j : Journal) (len : ℕ) (d : Draft) (a b : Outside) → IsDraftOf told d b → unit_of d ≡ j.unit → journal_of d ≡ j → len_of d ≡ len → put_of d ≡ 0 → is_switch d ≡ false
-    → ((image : List ℕ) → payload_of d image ≡ []) → (IsTrue told → records (image j.unit b.now) ≡ records (image j.unit a.now))
-    → (IsTrue told → Leaves j.unit (ReadsAs (records (image j.unit a.now))) a.now b.now) → Begins told j len false d a b
-begun told j len d a b draft on holds len_is put kind empty same leaves = record {
-  draft_of = draft;
-  on = on;
-  holds = holds;
-  len_is = len_is;
-  put = put;
-  kind = kind;
-  empty = empty;
-  same = same;
-  steady = λ tells. steady-on j.unit (unit_of d) b.now (sym on) (steady-after j.unit a.now b.now (leaves tells) (same tells));
+pub begun : {told : Bool} {j : Journal} {len : ℕ} {alone : Bool} {d : Draft} {a b : Outside}
+    → IsBegun told j len alone d a b
+    → (IsTrue told → Leaves j.unit (ReadsAs (records (image j.unit a.now))) a.now b.now)
+    → Begins told j len alone d a b
+begun {j = j} {d = d} {a = a} {b = b} is leaves = record {
+  begun = is;
+  steady = λ tells. steady-on j.unit (unit_of d) b.now (sym is.on) (steady-after j.unit a.now b.now (leaves tells) (is.same tells));
 }
 
 -- a call on the draft that was begun
-pub stays-begun : (told : Bool) (j : Journal) (len : ℕ) (kind : Bool) (d : Draft) (a b c : Outside) → Begins told j len kind d a b → Stays told j.unit a b → Stays told (unit_of d) b c → Stays told j.unit a c
-stays-begun told j len kind d a b c begins begun more = stays-two told j.unit a b c begins.same begun (stays-on told (unit_of d) j.unit b c begins.on more)
+pub stays-begun : {T E : Type 0} {r : Result T E} (told : Bool) (j : Journal) (len : ℕ) (kind : Bool)
+    (d : Draft) (a b c : Outside) (w v : Work) → Begins told j len kind d a b
+    → Stays told j.unit w done a b → Stays told (unit_of d) v r b c
+    → Stays told j.unit (both w v) r a c
+stays-begun told j len kind d a b c w v begins begun more =
+    stays-two w v begins.begun.same begun (stays-on (unit_of d) j.unit begins.begun.on more)
 
-pub written : (told : Bool) (j : Journal) (len : ℕ) (kind : Bool) (bytes : List ℕ) (x y : Draft) (a b c : Outside) → Begins told j len kind x a b → Stays told j.unit a b → Stays told (unit_of x) b c
-    → WritesMore told (unit_of x) bytes x y b c → Written told j.unit kind bytes y a c
-written told j len kind bytes x y a b c begins begun more writes' =
-    let writes : WritesMore told j.unit bytes x y b c = subst (λ (u : ℕ). WritesMore told u bytes x y b c) begins.on writes' in
+pub written : (told : Bool) (j : Journal) (len : ℕ) (kind : Bool) (bytes : List ℕ) (x y : Draft)
+    (a b c : Outside) (w v : Work) → Begins told j len kind x a b → Stays told j.unit w done a b
+    → Stays told (unit_of x) v done b c → WritesMore told (unit_of x) bytes x y b c
+    → Written told j.unit (both w v) kind bytes y a c
+written told j len kind bytes x y a b c w v begins begun more writes' =
+    let writes : WritesMore told j.unit bytes x y b c = subst (λ (u : ℕ). WritesMore told u bytes x y b c) begins.begun.on writes' in
     record {
       on = writes.on;
-      kind_is = writes.kind ∙ begins.kind;
-      payload_is = λ tells. writes.more tells ∙ nothing_more (payload_of x (image j.unit b.now)) bytes (begins.empty (image j.unit b.now));
-      same = λ tells. writes.same tells ∙ begins.same tells;
-      stays = stays-begun told j len kind x a b c begins begun more;
+      kind_is = writes.kind ∙ begins.begun.kind;
+      payload_is = λ tells. writes.more tells ∙ nothing_more (payload_of x (image j.unit b.now)) bytes (begins.begun.empty (image j.unit b.now));
+      same = λ tells. writes.same tells ∙ begins.begun.same tells;
+      stays = stays-begun told j len kind x a b c w v begins begun more;
     }
 
-pub first-either : (unit : ℕ) (before after : Option (List (List ℕ))) (a b : Moment) → Leaves unit (ReadsAs before) a b → Leaves unit (ReadsAsEither before after) a b
-first-either unit before after a b leaves = Leaves-weaken {P = ReadsAs before} {Q = ReadsAsEither before after} (λ left e. inl e) leaves
+-- until a record is finished the records are those before
+pub first-either : {T E : Type 0} {r : Result T E} {told : Bool} {unit : ℕ} {w : Work}
+    {a b : Outside} (after : Option (List (List ℕ))) → Stays told unit w r a b
+    → Programs told unit w (ReadsAsEither (records (image unit a.now)) after) r a b
+first-either after stays = writes-weaken (λ tells left e. inl e) stays
 
-pub touches-on : (u v : ℕ) (a b : Outside) → u ≡ v → Touches u a b → Touches v a b
-touches-on u v a b is t = subst (λ (w : ℕ). Touches w a b) is t
-
-pub spends-on : (u v m n : ℕ) (a b : Outside) → u ≡ v → Spends u m n a b → Spends v m n a b
-spends-on u v m n a b is s = subst (λ (w : ℕ). Spends w m n a b) is s
-
-module _ (told : Bool) (unit : ℕ) (kind : Bool) (payload : List ℕ) (d : Draft) (a b c : Outside) (w : Written told unit kind payload d a b) (tells : IsTrue told) where
+module _ (told : Bool) (unit : ℕ) (work : Work) (kind : Bool) (payload : List ℕ) (d : Draft) (a b c : Outside) (w : Written told unit work kind payload d a b) where
   abbrev out : Option (List (List ℕ))
   out = outcome kind (records (image unit a.now)) payload
 
-  outcome_is : outcome (is_switch d) (records (image unit b.now)) (payload_of d (image unit b.now)) ≡ out
-  outcome_is = ap (λ (k : Bool). outcome k (records (image unit b.now)) (payload_of d (image unit b.now))) w.kind_is ∙ ap (λ (r : Option (List (List ℕ))). outcome kind r (payload_of d (image unit b.now))) (w.same tells)
+  -- what a draft reads as once it is finished
+  abbrev ends : ℕ → Option (List (List ℕ))
+  ends u = outcome (is_switch d) (records (image u b.now)) (payload_of d (image u b.now))
+
+  outcome_is : IsTrue told → ends unit ≡ out
+  outcome_is tells = ap (λ (k : Bool). outcome k (records (image unit b.now)) (payload_of d (image unit b.now))) w.kind_is ∙ ap (λ (r : Option (List (List ℕ))). outcome kind r (payload_of d (image unit b.now))) (w.same tells)
       ∙ ap (outcome kind (records (image unit a.now))) (w.payload_is tells)
 
   -- at each moment the records are those before, or with the new one
-  pub finish-leaves : Leaves (unit_of d) (ReadsAsEither (records (image (unit_of d) b.now)) (outcome (is_switch d) (records (image (unit_of d) b.now)) (payload_of d (image (unit_of d) b.now)))) b.now c.now
-      → Leaves unit (ReadsAsEither (records (image unit a.now)) out) a.now c.now
-  finish-leaves leaves =
-      let on_unit : Leaves unit (ReadsAsEither (records (image unit b.now)) (outcome (is_switch d) (records (image unit b.now)) (payload_of d (image unit b.now)))) b.now c.now =
-      subst (λ (u : ℕ). Leaves u (ReadsAsEither (records (image u b.now)) (outcome (is_switch d) (records (image u b.now)) (payload_of d (image u b.now)))) b.now c.now) w.on leaves in
-      Leaves-append (first-either unit (records (image unit a.now)) out a.now b.now (w.stays.any_moment tells))
-      (Leaves-weaken {P = ReadsAsEither (records (image unit b.now)) (outcome (is_switch d) (records (image unit b.now)) (payload_of d (image unit b.now)))} {Q = ReadsAsEither (records (image unit a.now)) out}
-      (λ left e. ⊎_elim
+  pub finish-writes : {T E : Type 0} {r : Result T E}
+      → Programs told (unit_of d) (commit_work (is_switch d))
+      (ReadsAsEither (records (image (unit_of d) b.now)) (ends (unit_of d))) r b c
+      → Programs told unit (both work (commit_work kind))
+      (ReadsAsEither (records (image unit a.now)) out) r a c
+  finish-writes {r = r} writes =
+      let on_unit : Programs told unit (commit_work (is_switch d)) (ReadsAsEither (records (image unit b.now)) (ends unit)) r b c =
+      subst (λ (u : ℕ). Programs told u (commit_work (is_switch d)) (ReadsAsEither (records (image u b.now)) (ends u)) r b c) w.on writes in
+      let of_kind : Programs told unit (commit_work kind) (ReadsAsEither (records (image unit b.now)) (ends unit)) r b c =
+      subst (λ (k : Bool). Programs told unit (commit_work k) (ReadsAsEither (records (image unit b.now)) (ends unit)) r b c) w.kind_is on_unit in
+      writes-two work (commit_work kind) (first-either out w.stays)
+      (writes-weaken (λ tells left e. ⊎_elim
       (λ (f : records left ≡ records (image unit b.now)). inl (f ∙ w.same tells))
-      (λ (s : records left ≡ outcome (is_switch d) (records (image unit b.now)) (payload_of d (image unit b.now))). inr (s ∙ outcome_is)) e) on_unit)
+      (λ (s : records left ≡ ends unit). inr (s ∙ outcome_is tells)) e) of_kind)
 
-  pub finish-records : records (image (unit_of d) c.now) ≡ outcome (is_switch d) (records (image (unit_of d) b.now)) (payload_of d (image (unit_of d) b.now)) → records (image unit c.now) ≡ out
-  finish-records is =
-      subst (λ (u : ℕ). records (image u c.now) ≡ outcome (is_switch d) (records (image u b.now)) (payload_of d (image u b.now))) w.on is ∙ outcome_is
+  pub finish-records : IsTrue told → records (image (unit_of d) c.now) ≡ ends (unit_of d) → records (image unit c.now) ≡ out
+  finish-records tells is =
+      subst (λ (u : ℕ). records (image u c.now) ≡ ends u) w.on is ∙ outcome_is tells
 
   pub finish-open : (n : ℕ) → tail (image (unit_of d) c.now) ≡ replicate n 255 → IsOpenFor 0 (image unit c.now)
   finish-open n is =
@@ -112,66 +116,62 @@ module _ (told : Bool) (unit : ℕ) (kind : Bool) (payload : List ℕ) (d : Draf
       record { room = omega arith; blank = blank ∙ ap (λ (k : ℕ). replicate k 255) (sym (ap (λ (l : List ℕ). length l) blank ∙ length-replicate n 255)) }
 
 -- a call that failed before the record was finished, and while it was
-module _ {E : Type 0} (told : Bool) (j : Journal) (after : Option (List (List ℕ))) (r : Result Journal E) (a b : Outside) (failed : IsErr r) (rose : Rose (a.dev_faults j.unit) (b.dev_faults j.unit)) where
-  pub stopped-late : (IsTrue told → Leaves j.unit (ReadsAsEither (records (image j.unit a.now)) after) a.now b.now) → Touches j.unit a b → Rewrites told j after r a b
-  stopped-late leaves alone = record {
+module _ {E : Type 0} (told : Bool) (j : Journal) (work : Work) (after : Option (List (List ℕ))) (r : Result Journal E) (a b : Outside) (failed : IsErr r) where
+  pub stopped-late : Programs told j.unit work (ReadsAsEither (records (image j.unit a.now)) after) r a b → Rewrites told j work after r a b
+  stopped-late writes = record {
     stands = no-value r _ failed;
     committed = λ tells. no-ok r _ failed;
     open_after = λ tells. no-ok r _ failed;
-    any_moment = leaves;
-    alone = alone;
-    cause = on-err r rose;
+    writes = writes;
   }
 
-  pub stopped : Stays told j.unit a b → Rewrites told j after r a b
-  stopped stays = stopped-late (λ tells. first-either j.unit (records (image j.unit a.now)) after a.now b.now (stays.any_moment tells)) stays.alone
+  pub stopped : Stays told j.unit work r a b → Rewrites told j work after r a b
+  stopped stays = stopped-late (first-either after stays)
 
 -- and one that finished it
-pub finished : {E : Type 0} (told : Bool) (j : Journal) (kind : Bool) (payload : List ℕ) (d : Draft) (a b c : Outside) → Written told j.unit kind payload d a b → (next : Journal) → Stands told next c × (next.unit ≡ unit_of d)
+pub finished : {E : Type 0} (told : Bool) (j : Journal) (work : Work) (kind : Bool) (payload : List ℕ) (d : Draft) (a b c : Outside) → Written told j.unit work kind payload d a b → (next : Journal) → Stands told next c × (next.unit ≡ unit_of d)
     → (IsTrue told → records (image (unit_of d) c.now) ≡ outcome (is_switch d) (records (image (unit_of d) b.now)) (payload_of d (image (unit_of d) b.now)))
     → (n : ℕ) → (IsTrue told → tail (image (unit_of d) c.now) ≡ replicate n 255)
-    → (IsTrue told → Leaves (unit_of d) (ReadsAsEither (records (image (unit_of d) b.now)) (outcome (is_switch d) (records (image (unit_of d) b.now)) (payload_of d (image (unit_of d) b.now)))) b.now c.now)
-    → Touches (unit_of d) b c → Rewrites {E = E} told j (outcome kind (records (image j.unit a.now)) payload) (Ok next) a c
-finished told j kind payload d a b c w next stands read n rest leaves alone = record {
+    → Programs {E = E} told (unit_of d) (commit_work (is_switch d)) (ReadsAsEither (records (image (unit_of d) b.now)) (outcome (is_switch d) (records (image (unit_of d) b.now)) (payload_of d (image (unit_of d) b.now)))) (Ok next) b c
+    → Rewrites {E = E} told j (both work (commit_work kind)) (outcome kind (records (image j.unit a.now)) payload) (Ok next) a c
+finished told j work kind payload d a b c w next stands read n rest writes = record {
   stands = (stands.0, stands.1 ∙ w.on);
-  committed = λ tells. finish-records told j.unit kind payload d a b c w tells (read tells);
-  open_after = λ tells. finish-open told j.unit kind payload d a b c w tells n (rest tells);
-  any_moment = λ tells. finish-leaves told j.unit kind payload d a b c w tells (leaves tells);
-  alone = Touches-append w.stays.alone (touches-on (unit_of d) j.unit b c w.on alone);
-  cause = tt;
+  committed = λ tells. finish-records told j.unit work kind payload d a b c w tells (read tells);
+  open_after = λ tells. finish-open told j.unit work kind payload d a b c w n (rest tells);
+  writes = finish-writes told j.unit work kind payload d a b c w writes;
 }
 
+pub rewrites-widen : {E : Type 0} {told : Bool} {j : Journal} {after : Option (List (List ℕ))} {r : Result Journal E} {a b : Outside} (w v : Work) → NoMore w v → Rewrites told j w after r a b → Rewrites told j v after r a b
+rewrites-widen w v more s = record { stands = s.stands; committed = s.committed; open_after = s.open_after; writes = writes-widen w v more s.writes }
+
 -- the same records
-pub rewrites-same : {E : Type 0} (told : Bool) (j : Journal) (after other : Option (List (List ℕ))) (r : Result Journal E) (a b : Outside) → (IsTrue told → after ≡ other) → Rewrites told j after r a b → Rewrites told j other r a b
-rewrites-same told j after other r a b same w = record {
+pub rewrites-same : {E : Type 0} (told : Bool) (j : Journal) (work : Work) (after other : Option (List (List ℕ))) (r : Result Journal E) (a b : Outside) → (IsTrue told → after ≡ other) → Rewrites told j work after r a b → Rewrites told j work other r a b
+rewrites-same told j work after other r a b same w = record {
   stands = w.stands;
   committed = λ tells. subst (λ (x : Option (List (List ℕ))). OnOk r (records (image j.unit b.now) ≡ x)) (same tells) (w.committed tells);
   open_after = w.open_after;
-  any_moment = λ tells. subst (λ (x : Option (List (List ℕ))). Leaves j.unit (ReadsAsEither (records (image j.unit a.now)) x) a.now b.now) (same tells) (w.any_moment tells);
-  alone = w.alone;
-  cause = w.cause;
+  writes = writes-weaken (λ tells left e. subst (λ (x : Option (List (List ℕ))). ReadsAsEither (records (image j.unit a.now)) x left) (same tells) e) w.writes;
 }
 
 -- what is read of the records is read of the pages
-pub commits : {E : Type 0} (told : Bool) (j : Journal) (batch : Change) (after : Option (List (List ℕ))) (r : Result Journal E) (a b : Outside) → (IsTrue told → (left : List ℕ) → records left ≡ after → ReadsChanged batch (image j.unit a.now) left)
-    → Rewrites told j after r a b → Commits told j batch r a b
-commits told j batch after r a b reads w = record {
+pub commits : {E : Type 0} (told : Bool) (j : Journal) (work : Work) (batch : Change) (after : Option (List (List ℕ))) (r : Result Journal E) (a b : Outside) → (IsTrue told → (left : List ℕ) → records left ≡ after → ReadsChanged batch (image j.unit a.now) left)
+    → Rewrites told j work after r a b → Commits told j work batch r a b
+commits told j work batch after r a b reads w = record {
   stands = w.stands;
   committed = λ tells. IfOk-weaker r _ _ (λ _ is. reads tells (image j.unit b.now) is) (w.committed tells);
   open_after = w.open_after;
-  any_moment = λ tells. Leaves-weaken {P = ReadsAsEither (records (image j.unit a.now)) after} {Q = IsBeforeOrAfter batch (image j.unit a.now)}
-      (λ left either. ⊎_elim (λ (same : records left ≡ records (image j.unit a.now)). inl (read-same left (image j.unit a.now) same)) (λ (more : records left ≡ after). inr (reads tells left more)) either) (w.any_moment tells);
-  alone = w.alone;
-  cause = w.cause;
+  writes = writes-weaken {P = ReadsAsEither (records (image j.unit a.now)) after} {Q = IsBeforeOrAfter batch (image j.unit a.now)}
+      (λ tells left either. ⊎_elim (λ (same : records left ≡ records (image j.unit a.now)). inl (read-same left (image j.unit a.now) same)) (λ (more : records left ≡ after). inr (reads tells left more)) either) w.writes;
 }
 
+pub commits-widen : {E : Type 0} {told : Bool} {j : Journal} {batch : Change} {r : Result Journal E} {a b : Outside} (w v : Work) → NoMore w v → Commits told j w batch r a b → Commits told j v batch r a b
+commits-widen w v more s = record { stands = s.stands; committed = s.committed; open_after = s.open_after; writes = writes-widen w v more s.writes }
+
 -- a failure that is handed on
-pub commits-failed : {E : Type 0} (told : Bool) (j : Journal) (batch : Change) (e : E) (r : Result Journal E) (a b : Outside) → IsErr r → Commits {E = E} told j batch (Err e) a b → Commits told j batch r a b
-commits-failed told j batch e r a b failed c = record {
+pub commits-failed : {E : Type 0} (told : Bool) (j : Journal) (work : Work) (batch : Change) (e : E) (r : Result Journal E) (a b : Outside) → IsErr r → Commits {E = E} told j work batch (Err e) a b → Commits told j work batch r a b
+commits-failed told j work batch e r a b failed c = record {
   stands = no-value r _ failed;
   committed = λ tells. no-ok r _ failed;
   open_after = λ tells. no-ok r _ failed;
-  any_moment = c.any_moment;
-  alone = c.alone;
-  cause = on-err r c.cause;
+  writes = writes-failed r failed c.writes;
 }

@@ -1,9 +1,10 @@
--- What an answer that is an error says, and what a call that fails has cost.
-use Rattle.std.proofs.Common.{◌≡◌, ℕ, ◌+◌, ◌<◌, ◌≤◌, Result, Ok, Err, IfOk, OnOk, OnErr, IsErr, IsErrAnd, IsErrOf, subst, arith}
+-- What an answer that is an error says.
+use Rattle.std.proofs.Common.{◌≡◌, ℕ, ◌+◌, ◌<◌, ◌≤◌, Result, Ok, Err, IfOk, OnOk, OnErr, IsErr, IsErrAnd, IsErrOf, refl, subst, arith}
 use Rattle.std.proofs.lemmas.Bool.{false≢true}
 use Rattle.newt_pagebook.specs.declared.book.BookFault.{BookFault}
-use Rattle.newt_pagebook.specs.declared.book.BookFault.TheVariants.{Device, NotStore}
-use Rattle.newt_host.specs.Outside.{Outside, Rose, Spends, Touches}
+use Rattle.newt_pagebook.specs.declared.book.BookFault.TheVariants.{Device, Memory, NotStore}
+use Rattle.newt_pagebook.specs.Stops.{IsOpening}
+use Rattle.newt_host.specs.Outside.{Outside, Rose, Touches}
 
 -- an error is no value
 pub no-value : {T E : Type 0} (r : Result T E) (P : T → Type 0) → IsErr r → IfOk r P
@@ -45,22 +46,17 @@ rose-before old mid new low rose = omega (arith, low, rose)
 pub rose-over : (u v : ℕ) (a b c : Outside) → u ≡ v → Touches v a b → Rose (b.dev_faults u) (c.dev_faults u) → Rose (a.dev_faults v) (c.dev_faults v)
 rose-over u v a b c on touched rose = rose-before (a.dev_faults v) (b.dev_faults v) (c.dev_faults v) touched.faults_later (subst (λ (w : ℕ). Rose (b.dev_faults w) (c.dev_faults w)) on rose)
 
-pub spent-nothing : (u n : ℕ) (a : Outside) → Spends u n 0 a a
-spent-nothing u n a = record { programmed = omega arith; fetched = omega arith }
+-- of an answer that is no error, once a count was what it is
+pub ok-over : {T E : Type 0} (r : Result T E) (a b c : ℕ) → b ≡ a → OnOk r (c ≡ b) → OnOk r (c ≡ a)
+ok-over r a b c is same = subst (λ (n : ℕ). OnOk r (c ≡ n)) is same
 
--- what a record costs that was begun, written and finished
-pub spent-begun : (u p q : ℕ) (a b : Outside) → Spends u 4 0 a b → Spends u (9 + p + q) 0 a b
-spent-begun u p q a b s = record { programmed = omega (arith, s.programmed); fetched = s.fetched }
-
-pub spent-written : (u p q : ℕ) (a b c : Outside) → Spends u 4 0 a b → Spends u (4 + p + q) 0 b c → Spends u (9 + p + q) 0 a c
-spent-written u p q a b c s t = record { programmed = omega (arith, s.programmed, t.programmed); fetched = omega (arith, s.fetched, t.fetched) }
-
-pub spent-finished : (u p q : ℕ) (a b c d : Outside) → Spends u 4 0 a b → Spends u (4 + p + q) 0 b c → Spends u 1 0 c d → Spends u (9 + p + q) 0 a d
-spent-finished u p q a b c d s t f = record { programmed = omega (arith, s.programmed, t.programmed, f.programmed); fetched = omega (arith, s.fetched, t.fetched, f.fetched) }
-
--- what was programmed has not grown
-pub at-most : (a b : ℕ) → b ≤ a + 0 → b ≤ a
-at-most a b first = omega (arith, first)
+-- a call that failed, and not because the unit is no store, has opened no book
+pub no-opening : {T : Type 0} {A : Type 0} (r : Result T BookFault) → IsErr r
+    → (IsErrOf r NotStore → ⊥) → IsOpening r → A
+no-opening (Ok x) err other opened = absurd (false≢true err)
+no-opening (Err NotStore) err other opened = absurd (other refl)
+no-opening (Err Memory) err other opened = absurd opened
+no-opening (Err Device) err other opened = absurd opened
 
 -- two numbers are as their names are
 pub more-named : (live most l m : ℕ) → live ≡ l → most ≡ m → most < live → m < l

@@ -10,3 +10,4 @@ pub mod Replaying
 pub mod Placing
 pub mod Near
 pub mod Committed
+pub mod Ending

@@ -1,5 +1,5 @@
 -- Places of pages, step by step.
-use Rattle.std.proofs.Common.{IsTrue, ◌≡◌, ℕ, ◌+◌, ◌-◌, ◌*◌, ◌<◌, ◌≤◌, ◌==◌, ◌&&◌, nat_le, Bool, true, false, cond, nat_eq, List, [], length, take, drop, Option, Some, None, refl, sym, ◌∙◌, ap, subst, arith, ⊎_elim, length-take, length-drop}
+use Rattle.std.proofs.Common.{IsTrue, Result, ◌≡◌, ℕ, ◌+◌, ◌-◌, ◌*◌, ◌<◌, ◌≤◌, ◌==◌, ◌&&◌, nat_le, Bool, true, false, cond, nat_eq, List, [], length, take, drop, Option, Some, None, refl, sym, ◌∙◌, ap, subst, arith, ⊎_elim, length-take, length-drop}
 use Rattle.std.proofs.lemmas.List.{drop-drop, drop-take, take-take}
 use Rattle.std.proofs.lemmas.Map.Made.{lookup-map_values}
 use Rattle.std.specs.Int.{from_be_bytes, w16, w32}
@@ -8,9 +8,11 @@ use Rattle.std.proofs.lemmas.List.Elements.{All-nil}
 use Rattle.std.specs.Map.{lookup, keys_of}
 use Rattle.std.specs.Option.{option_map}
 use Rattle.newt_host.specs.Moments.{Moment, image}
-use Rattle.newt_host.specs.Outside.{Outside, Touches, Spends}
+use Rattle.newt_host.specs.Outside.{Outside, OnlyReads}
 use Rattle.newt_host.proofs.Outside.{Touches-append, Touches-refl}
 use Rattle.newt_spec_image.specs.Pages.{Pages, Change, change_numbers, all_distinct, word_at, short_at, after, puts_from, deletes_from, said_by, is_change, change_in, pages as pages_of_image, pages_after}
+use Rattle.newt_journal.specs.Calls.{OpensJournal, Reads}
+use Rattle.newt_journal.specs.declared.fault.JournalFault.{JournalFault}
 use Rattle.newt_journal.specs.Journal.{Stands}
 use Rattle.newt_journal.specs.declared.journal.Journal.{Journal}
 use Rattle.newt_journal.proofs.Steps.{bank-fits}
@@ -23,33 +25,23 @@ use Rattle.newt_pagebook.proofs.Changes.{after_put, after_delete}
 use Rattle.newt_pagebook.proofs.Tests.{the_some, true_or_false, is_same, some_inj, equal_false}
 use Rattle.newt_pagelog.specs.Kept.{page_in, map_of, get_map}
 use Rattle.newt_pagelog.specs.Replay.{IsSeen, IsTaken}
-use Rattle.newt_pagelog.specs.Placed.{Places, lifted, page_from, page_of, AreNumbered, HoldsAt, IsPlaced, ArePlaced, Looks, Replayed, ReplaysRecord}
+use Rattle.newt_pagelog.specs.Placed.{Places, lifted, page_from, page_of, AreNumbered, HoldsAt, IsPlaced, ArePlaced, Replayed, ReplaysRecord}
 use Rattle.newt_pagelog.proofs.Maps.{turned, map_is, same_entries}
 use Rattle.newt_pagelog.proofs.Payloads.{batch_is_change, the_change_in, seen-put, seen-delete, puts-push, deletes-push}
 use Rattle.newt_pagelog.proofs.Replaying.{stands-on, step-read, step-none}
 
 -- reads, one after the other
-pub looks-refl : (u : ℕ) (o : Outside) → Looks u o o
-looks-refl u o = record { moment = refl; programs_nothing = omega arith; alone = Touches-refl u o }
-
-pub looks-append : (u : ℕ) (a b c : Outside) → Looks u a b → Looks u b c → Looks u a c
-looks-append u a b c first second = record {
-  moment = second.moment ∙ first.moment;
-  programs_nothing = omega (arith, first.programs_nothing, second.programs_nothing);
-  alone = Touches-append first.alone second.alone;
-}
-
-pub looks-two : (u v : ℕ) (a b c : Outside) → v ≡ u → Looks u a b → Looks v b c → Looks u a c
-looks-two u v a b c on first second = looks-append u a b c first (subst (λ (w : ℕ). Looks w b c) on second)
-
-pub looks-stands : (told : Bool) (j : Journal) (a b : Outside) → Looks j.unit a b → Stands told j a → Stands told j b
+pub looks-stands : (told : Bool) (j : Journal) (a b : Outside) → OnlyReads j.unit a b → Stands told j a → Stands told j b
 looks-stands told j a b looks stands = stands-on told j a b looks.alone looks.moment stands
 
-pub looks-image : (u : ℕ) (a b : Outside) → Looks u a b → image u b.now ≡ image u a.now
+pub looks-image : (u : ℕ) (a b : Outside) → OnlyReads u a b → image u b.now ≡ image u a.now
 looks-image u a b looks = ap (λ (m : Moment). image u m) looks.moment
 
-pub looks-spent : (u n : ℕ) (a b : Outside) → b.now ≡ a.now → Touches u a b → Spends u 0 n a b → Looks u a b
-looks-spent u n a b moment alone costs = record { moment = moment; programs_nothing = omega (arith, costs.programmed); alone = alone }
+pub looks-read : {T E : Type 0} {r : Result T E} {u n : ℕ} {a b : Outside} → Reads u n r a b → OnlyReads u a b
+looks-read reads = record { moment = reads.moment; alone = reads.alone; programmed = omega (arith, reads.costs.programmed); wears = reads.wears }
+
+pub opened-looks : {T : Type 0} {r : Result T JournalFault} {u n : ℕ} {a b : Outside} → OpensJournal u n r a b → OnlyReads u a b
+opened-looks opens = record { moment = opens.moment; alone = opens.alone; programmed = omega (arith, opens.costs.programmed); wears = opens.wears }
 
 -- what stands within a piece of an image
 pub held-inside : (told : Bool) (j : Journal) (o : Outside) → Stands told j o → IsTrue told → j.end ≤ length (image j.unit o.now)

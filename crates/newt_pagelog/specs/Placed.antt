@@ -1,16 +1,21 @@
 -- Where the pages of a book stand in its journal.
-use Rattle.std.specs.Prelude.{◌≡◌, ℕ, ◌+◌, ◌<◌, ◌≤◌, Bool, true, List, length, map as map_list, take, drop, nat_eq, Some, Result, IsErrOf}
+use Rattle.std.specs.Prelude.{◌≡◌, ℕ, ◌+◌, ◌<◌, ◌≤◌, Bool, true, false, List, [], length, map as map_list, take, drop, nat_eq, Some, Result, OnOk, IsErrOf}
 use Rattle.std.specs.Map.{lookup, keys_of}
 use Rattle.std.specs.List.{IsDistinct}
 use Rattle.std.specs.FinMap as map
+use Rattle.std.specs.HashMap.{HashMap}
+use Rattle.std.specs.HashMap as hash
+use Rattle.std.specs.declared.hash.FoldHasher.{FoldHasher}
+use Rattle.std.specs.declared.hash.BuildHasherDefault.{BuildHasherDefault}
 use Rattle.newt_host.specs.Moments.{image}
-use Rattle.newt_host.specs.Outside.{Outside, Touches, Rose}
+use Rattle.newt_host.specs.Outside.{Outside, OnlyReads, Rose}
 use Rattle.newt_spec_image.specs.Records.{records}
-use Rattle.newt_spec_image.specs.Pages.{Change, pages, after, change_in}
+use Rattle.newt_spec_image.specs.Pages.{Change, pages, puts_from, after, change_in}
 use Rattle.newt_journal.specs.Places.{first_place, recorded}
 use Rattle.newt_journal.specs.declared.journal.Journal.{Journal}
 use Rattle.newt_journal.specs.declared.reading.Found.{Found}
 use Rattle.newt_pagebook.specs.Batch.{IsBatch}
+use Rattle.newt_pagebook.specs.Stops.{IsOpening}
 use Rattle.newt_pagebook.specs.declared.book.BookFault.{BookFault}
 use Rattle.newt_pagebook.specs.declared.book.BookFault.TheVariants.{NotStore, Device}
 use Rattle.newt_pagelog.specs.Kept.{Entries, page_in, map_of, is_kept}
@@ -34,6 +39,10 @@ page_of j payloads at = recorded j payloads at 512
 abbrev pub payload_found : Found → ℕ → Outside → List ℕ
 payload_found found unit outside = take found.len (drop found.at (image unit outside.now))
 
+-- the change of the first so many puts of a payload
+abbrev pub puts_found : ℕ → List ℕ → Change
+puts_found puts payload = record { puts = puts_from puts (drop 4 payload); deletes = [] }
+
 -- each number stands once, they are fewer than there are page numbers, and they are page numbers
 pub record AreNumbered {V : Type 0} (entries : List (ℕ × V)) : Type 0 where
   pub unique : IsDistinct nat_eq (keys_of entries)
@@ -49,24 +58,47 @@ pub record IsPlaced (j : Journal) (number at : ℕ) : Type 0 where
 abbrev pub ArePlaced : Journal → Places → Type 0
 ArePlaced j places = (number at : ℕ) → lookup (nat_eq number) places ≡ Some at → IsPlaced j number at
 
+-- A table that is filled while records are replayed: each number stands once, and each place lies
+-- within the records.
+pub record IsFilling (j : Journal) (places : HashMap ℕ ℕ (BuildHasherDefault FoldHasher))
+    : Type 0 where
+  pub unique : hash.IsUnique nat_eq places
+  pub placed : ArePlaced j places.entries
+
+-- A record that was found stands within the records of a journal, and has so many bytes at least.
+pub record LiesWithin (j : Journal) (found : Found) (size : ℕ) : Type 0 where
+  pub low : first_place j ≤ found.at
+  pub inside : size ≤ found.len
+  pub high : found.at + found.len ≤ j.end
+
+-- an answer that says one thing where it is true, and another where it is false
+pub record Tells (good : Bool) (yes no : Type 0) : Type 0 where
+  pub true_says : good ≡ true → yes
+  pub false_says : good ≡ false → no
+
 -- the pages of an image are those at these places of its records
 pub record HoldsAt (j : Journal) (image : List ℕ) (places : Places) : Type 0 where
   pub payloads : List (List ℕ)
   pub read : records image ≡ Some payloads
   pub holds : pages image ≡ Some (map_of (lifted (page_of j payloads) places))
 
--- nothing has happened but reads of this unit (this project's own)
-pub record Looks (unit : ℕ) (old new : Outside) : Type 0 where
-  pub moment : new.now ≡ old.now
-  pub programs_nothing : new.programmed unit ≤ old.programmed unit
-  pub alone : Touches unit old new
+-- A call that reads a journal for a book: nothing has happened but reads of this unit. Where it
+-- names the device, a fault of it was counted, and where a book is opened or the unit holds none,
+-- no fault was (this project's own).
+pub record ReadsBook {T : Type 0} (unit : ℕ) (result : Result T BookFault) (old new : Outside)
+    : Type 0 where
+  pub looks : OnlyReads unit old new
+  pub cause : IsErrOf result Device → Rose (old.dev_faults unit) (new.dev_faults unit)
+  pub no_fault : IsOpening result → new.dev_faults unit ≡ old.dev_faults unit
 
--- A call that looks at records and may want memory: nothing has happened but reads of this unit, it never answers that the unit is no store, and where it names
--- the device, a fault of it was counted (this project's own).
-pub record ReadsUnit {T : Type 0} (unit : ℕ) (result : Result T BookFault) (old new : Outside) : Type 0 where
-  pub looks : Looks unit old new
+-- A call that reads a part of it, and may want memory: the same, and it never answers that the
+-- unit is no store (this project's own).
+pub record ReadsUnit {T : Type 0} (unit : ℕ) (result : Result T BookFault) (old new : Outside)
+    : Type 0 where
+  pub looks : OnlyReads unit old new
   pub no_other : IsErrOf result NotStore → ⊥
   pub cause : IsErrOf result Device → Rose (old.dev_faults unit) (new.dev_faults unit)
+  pub no_fault : OnOk result (new.dev_faults unit ≡ old.dev_faults unit)
 
 -- the places after a change are those of the pages after it, and these numbers were seen
 pub record Replayed (image : List ℕ) (change : Change) (old new : Places) (seen : ℕ → Bool) : Type 0 where

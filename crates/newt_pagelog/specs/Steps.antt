@@ -1,10 +1,11 @@
 -- What a call does that writes more of a record.
-use Rattle.std.specs.Prelude.{IsTrue, ◌≡◌, ℕ, ◌+◌, Bool, List, [], ◌++◌, length}
-use Rattle.newt_host.specs.Moments.{Moment, MayLeave, image, Leaves}
-use Rattle.newt_host.specs.Outside.{Outside, Touches, Spends}
-use Rattle.newt_spec_image.specs.Records.{records}
+use Rattle.std.specs.Prelude.{IsTrue, ◌≡◌, ℕ, ◌+◌, Bool, List, [], ◌++◌, length, Result, Ok}
+use Rattle.newt_host.specs.Moments.{Moment, MayLeave, image}
+use Rattle.newt_host.specs.Outside.{Outside, Work}
+use Rattle.newt_spec_image.specs.Records.{bank_blocks, records}
+use Rattle.newt_journal.specs.Calls.{Programs, writing}
 use Rattle.newt_journal.specs.Journal.{ReadsAs}
-use Rattle.newt_journal.specs.Draft.{IsDraftOf, journal_of, unit_of, len_of, put_of, is_switch, payload_of, rest_of}
+use Rattle.newt_journal.specs.Draft.{IsBegun, IsDraftOf, journal_of, unit_of, len_of, put_of, is_switch, payload_of, rest_of}
 use Rattle.newt_journal.specs.declared.draft.Draft.{Draft}
 use Rattle.newt_journal.specs.declared.journal.Journal.{Journal}
 
@@ -12,28 +13,31 @@ use Rattle.newt_journal.specs.declared.journal.Journal.{Journal}
 abbrev pub IsSteady : ℕ → Moment → Type 0
 IsSteady unit now = (left : List ℕ) → MayLeave unit now left → ReadsAs (records (image unit now)) left
 
--- Whatever its answer, a crash leaves the records as they were, and nothing else is touched (this project's own).
-pub record Stays (told : Bool) (unit : ℕ) (old new : Outside) : Type 0 where
-  pub any_moment : IsTrue told → Leaves unit (ReadsAs (records (image unit old.now))) old.now new.now
-  pub alone : Touches unit old new
+-- what calls answered so far that all went well (this project's own)
+abbrev pub done : Result (Unit {0}) (Unit {0})
+done = Ok tt
 
--- The same, and at most so many bytes are programmed (this project's own).
-pub record Keeps (told : Bool) (unit size : ℕ) (old new : Outside) : Type 0 where
-  pub any_moment : IsTrue told → Leaves unit (ReadsAs (records (image unit old.now))) old.now new.now
-  pub alone : Touches unit old new
-  pub costs : Spends unit size 0 old new
+-- Whatever the answer, a crash leaves the records as they were, at most so much is done to the
+-- unit, nothing else is touched, and a fault is counted and told (this project's own).
+abbrev pub Stays : {T E : Type 0} → Bool → ℕ → Work → Result T E → Outside → Outside → Type 0
+Stays told unit work result old new =
+    Programs told unit work (ReadsAs (records (image unit old.now))) result old new
 
--- A record of so many bytes was begun, behind the others or alone in the other bank, of which nothing is put yet; the records are what they were (this
--- project's own).
-pub record Begins (told : Bool) (journal : Journal) (len : ℕ) (alone : Bool) (draft : Draft) (old new : Outside) : Type 0 where
-  pub draft_of : IsDraftOf told draft new
-  pub on : unit_of draft ≡ journal.unit
-  pub holds : journal_of draft ≡ journal
-  pub len_is : len_of draft ≡ len
-  pub put : put_of draft ≡ 0
-  pub kind : is_switch draft ≡ alone
-  pub empty : (image : List ℕ) → payload_of draft image ≡ []
-  pub same : IsTrue told → records (image journal.unit new.now) ≡ records (image journal.unit old.now)
+-- The same of a call that programs so many bytes and does nothing else (this project's own).
+abbrev pub Keeps : {T E : Type 0} → Bool → ℕ → ℕ → Result T E → Outside → Outside → Type 0
+Keeps told unit size result old new = Stays told unit (writing size 0 0) result old new
+
+-- what is done once a record is begun that will stand alone: the votes are mended, the other bank
+-- is erased, and its header and the length are written (this project's own)
+abbrev pub begin_work : ℕ → Work
+begin_work blocks =
+    record { programs = 24; fetches = 4; erases = 3 + bank_blocks blocks; syncs = 7 }
+
+-- A record of so many bytes was begun, and a crash leaves the records as they were (this project's
+-- own).
+pub record Begins (told : Bool) (journal : Journal) (len : ℕ) (alone : Bool) (draft : Draft)
+    (old new : Outside) : Type 0 where
+  pub begun : IsBegun told journal len alone draft old new
   pub steady : IsTrue told → IsSteady (unit_of draft) new.now
 
 -- These bytes were written behind what was written before (this project's own).

@@ -1,10 +1,9 @@
 // The journal of a book is opened.
 ghost use Rattle.std.specs.Prelude.{IsTrue, ◌≡◌, ◌≤◌, None, IfOk, IsErrOf};
 ghost use Rattle.newt_host.specs.Moments.{image, IsDurable};
-ghost use Rattle.newt_host.specs.Outside.{Rose};
 ghost use Rattle.newt_spec_image.specs.Pages.{pages as pages_of};
 ghost use Rattle.newt_journal.specs.Journal.{Stands};
-ghost use Rattle.newt_pagelog.specs.Placed.{Looks};
+ghost use Rattle.newt_pagelog.specs.Placed.{ReadsBook};
 
 use newt_host::{Host, Unit};
 use newt_journal::{Journal, JournalFault};
@@ -20,9 +19,7 @@ pub fn open_journal<H: Host>(host: &mut H, unit: Unit) -> Result<Journal, BookFa
     ensures not_store { IsErrOf result BookFault.NotStore → IsTrue H.told
         → pages_of (image unit (H.outside host.old).now) ≡ None }
     ensures no_other { IsErrOf result BookFault.Memory → ⊥ }
-    ensures looks { Looks unit (H.outside host.old) (H.outside host.new) }
-    ensures cause { IsErrOf result BookFault.Device
-        → Rose ((H.outside host.old).dev_faults unit) ((H.outside host.new).dev_faults unit) }
+    ensures reads { ReadsBook unit result (H.outside host.old) (H.outside host.new) }
 {
     match Journal::open(host, unit) {
         Ok(journal) => Ok(journal),

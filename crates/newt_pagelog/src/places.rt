@@ -1,13 +1,17 @@
 // The records of a journal are replayed: where the pages stand that they leave. No page is read.
-ghost use Rattle.std.specs.Prelude.{IsTrue, ◌≡◌, ◌+◌, ◌*◌, ◌≤◌, ◌<◌, [], length, take, drop, nat_eq, true, false, None, Some, IfOk, IfSome, OnErr, IsErrOf, MatchOption};
+ghost use Rattle.std.specs.Prelude.{IsTrue, ◌≡◌, ◌+◌, ◌*◌, ◌≤◌, ◌<◌, [], length, nat_eq, true};
+ghost use Rattle.std.specs.Prelude.{false, None, Some, IfOk, IfSome, IsErrOf, MatchOption};
 ghost use Rattle.std.specs.HashSet.{contains};
 ghost use Rattle.std.specs.HashMap as hash;
 ghost use Rattle.newt_host.specs.Moments.{image};
-ghost use Rattle.newt_host.specs.Outside.{Touches, Rose};
-ghost use Rattle.newt_spec_image.specs.Pages.{pages as pages_of, short_at, word_at, puts_from, said_by, is_change, change_in};
+ghost use Rattle.newt_spec_image.specs.Pages.{pages as pages_of, short_at, word_at, said_by};
+ghost use Rattle.newt_spec_image.specs.Pages.{is_change, change_in};
+ghost use Rattle.newt_journal.specs.Calls.{Reads};
 ghost use Rattle.newt_journal.specs.Journal.{Stands};
 ghost use Rattle.newt_journal.specs.Places.{first_place};
-ghost use Rattle.newt_pagelog.specs.Placed.{AreNumbered, Places, ArePlaced, HoldsAt, Looks, ReadsUnit, Replayed, ReplaysRecord, payload_found};
+ghost use Rattle.newt_pagelog.specs.Placed.{AreNumbered, Places, ArePlaced, HoldsAt, IsFilling};
+ghost use Rattle.newt_pagelog.specs.Placed.{LiesWithin, Tells, puts_found, ReadsBook, ReadsUnit};
+ghost use Rattle.newt_pagelog.specs.Placed.{Replayed, ReplaysRecord, payload_found};
 ghost use Rattle.newt_pagelog.specs.Replay.{IsSeen, IsTaken, IsRefused};
 
 use crate::live::Table;
@@ -24,9 +28,7 @@ fn read_word<H: Host>(journal: &Journal, host: &mut H, at: u32) -> Result<u32, F
     requires stands { Stands H.told journal.now (H.outside host.old) }
     ensures word { IsTrue H.told → IfOk result
         (λ word. word ≡ word_at at (image journal.now.unit (H.outside host.old).now)) }
-    ensures looks { Looks journal.now.unit (H.outside host.old) (H.outside host.new) }
-    ensures cause { OnErr result (Rose ((H.outside host.old).dev_faults journal.now.unit)
-        ((H.outside host.new).dev_faults journal.now.unit)) }
+    ensures reads { Reads journal.now.unit 4 result (H.outside host.old) (H.outside host.new) }
 {
     let mut bytes = [0u8; 4];
     journal.read_at(host, at, &mut bytes)?;
@@ -40,9 +42,7 @@ fn read_short<H: Host>(journal: &Journal, host: &mut H, at: u32) -> Result<u16, 
     requires stands { Stands H.told journal.now (H.outside host.old) }
     ensures short { IsTrue H.told → IfOk result
         (λ short. short ≡ short_at at (image journal.now.unit (H.outside host.old).now)) }
-    ensures looks { Looks journal.now.unit (H.outside host.old) (H.outside host.new) }
-    ensures cause { OnErr result (Rose ((H.outside host.old).dev_faults journal.now.unit)
-        ((H.outside host.new).dev_faults journal.now.unit)) }
+    ensures reads { Reads journal.now.unit 2 result (H.outside host.old) (H.outside host.new) }
 {
     let mut bytes = [0u8; 2];
     journal.read_at(host, at, &mut bytes)?;
@@ -98,27 +98,18 @@ fn replay_puts<H: Host>(
     seen: &mut HashSet<u32>,
     places: &mut Table<u32>,
 ) -> Result<bool, BookFault>
-    requires low { first_place journal.now ≤ found.at }
-    requires inside { 4 + 516 * puts ≤ found.len }
-    requires high { found.at + found.len ≤ journal.now.end }
+    requires within { LiesWithin journal.now found (4 + 516 * puts) }
     requires stands { Stands H.told journal.now (H.outside host.old) }
     requires count { IsTrue H.told → puts ≡ short_at 0
         (payload_found found journal.now.unit (H.outside host.old)) }
-    requires unique { hash.IsUnique nat_eq places.old }
-    requires placed { ArePlaced journal.now places.old.entries }
+    requires table { IsFilling journal.now places.old }
     requires seen { IsSeen (contains nat_eq seen.old) (record { puts = []; deletes = [] }) }
-    ensures read { IsTrue H.told → IfOk result (λ good. good ≡ true
-        → Replayed (image journal.now.unit (H.outside host.old).now)
-        (record {
-          puts = puts_from puts
-              (drop 4 (payload_found found journal.now.unit (H.outside host.old)));
-          deletes = [];
-        })
-        places.old.entries places.new.entries (contains nat_eq seen.new)) }
-    ensures bad { IsTrue H.told → IfOk result (λ good. good ≡ false
-        → is_change (payload_found found journal.now.unit (H.outside host.old)) ≡ false) }
-    ensures unique { IfOk result (λ _. hash.IsUnique nat_eq places.new) }
-    ensures placed { IfOk result (λ _. ArePlaced journal.now places.new.entries) }
+    ensures replays { IsTrue H.told → IfOk result (λ good. Tells good
+        (Replayed (image journal.now.unit (H.outside host.old).now)
+        (puts_found puts (payload_found found journal.now.unit (H.outside host.old)))
+        places.old.entries places.new.entries (contains nat_eq seen.new))
+        (is_change (payload_found found journal.now.unit (H.outside host.old)) ≡ false)) }
+    ensures table { IfOk result (λ _. IsFilling journal.now places.new) }
     ensures len { IfOk result (λ _. length places.new.entries ≤ length places.old.entries + puts) }
     ensures reads { ReadsUnit journal.now.unit result (H.outside host.old) (H.outside host.new) }
 {
@@ -144,39 +135,22 @@ fn replay_deletes<H: Host>(
     seen: &mut HashSet<u32>,
     places: &mut Table<u32>,
 ) -> Result<bool, BookFault>
-    requires low { first_place journal.now ≤ found.at }
-    requires inside { 4 + 516 * puts + 4 * deletes ≤ found.len }
-    requires high { found.at + found.len ≤ journal.now.end }
+    requires within { LiesWithin journal.now found (4 + 516 * puts + 4 * deletes) }
     requires stands { Stands H.told journal.now (H.outside host.old) }
     requires counts { IsTrue H.told → (puts ≡ short_at 0
         (payload_found found journal.now.unit (H.outside host.old)))
         × (deletes ≡ short_at 2 (payload_found found journal.now.unit (H.outside host.old))) }
-    requires unique { hash.IsUnique nat_eq places.old }
-    requires placed { ArePlaced journal.now places.old.entries }
-    ensures read { (before : Places) → IsTrue H.told
+    requires table { IsFilling journal.now places.old }
+    ensures replays { (before : Places) → IsTrue H.told
         → Replayed (image journal.now.unit (H.outside host.old).now)
-        (record {
-          puts = puts_from puts
-              (drop 4 (payload_found found journal.now.unit (H.outside host.old)));
-          deletes = [];
-        }) before
-        places.old.entries (contains nat_eq seen.old)
-        → IfOk result (λ good. good ≡ true
-        → Replayed (image journal.now.unit (H.outside host.old).now)
+        (puts_found puts (payload_found found journal.now.unit (H.outside host.old)))
+        before places.old.entries (contains nat_eq seen.old)
+        → IfOk result (λ good. Tells good
+        (Replayed (image journal.now.unit (H.outside host.old).now)
         (said_by (payload_found found journal.now.unit (H.outside host.old))) before
-        places.new.entries (contains nat_eq seen.new)) }
-    ensures bad { (before : Places) → IsTrue H.told
-        → Replayed (image journal.now.unit (H.outside host.old).now)
-        (record {
-          puts = puts_from puts
-              (drop 4 (payload_found found journal.now.unit (H.outside host.old)));
-          deletes = [];
-        }) before
-        places.old.entries (contains nat_eq seen.old)
-        → IfOk result (λ good. good ≡ false
-        → is_change (payload_found found journal.now.unit (H.outside host.old)) ≡ false) }
-    ensures unique { IfOk result (λ _. hash.IsUnique nat_eq places.new) }
-    ensures placed { IfOk result (λ _. ArePlaced journal.now places.new.entries) }
+        places.new.entries (contains nat_eq seen.new))
+        (is_change (payload_found found journal.now.unit (H.outside host.old)) ≡ false)) }
+    ensures table { IfOk result (λ _. IsFilling journal.now places.new) }
     ensures len { IfOk result (λ _. length places.new.entries ≤ length places.old.entries) }
     ensures reads { ReadsUnit journal.now.unit result (H.outside host.old) (H.outside host.new) }
 {
@@ -199,19 +173,15 @@ fn replay_record<H: Host>(
     found: Found,
     places: &mut Table<u32>,
 ) -> Result<bool, BookFault>
-    requires low { first_place journal.now ≤ found.at }
-    requires high { found.at + found.len ≤ journal.now.end }
+    requires within { LiesWithin journal.now found 0 }
     requires stands { Stands H.told journal.now (H.outside host.old) }
-    requires unique { hash.IsUnique nat_eq places.old }
-    requires placed { ArePlaced journal.now places.old.entries }
-    ensures read { IsTrue H.told → IfOk result (λ good. good ≡ true
-        → ReplaysRecord (image journal.now.unit (H.outside host.old).now)
+    requires table { IsFilling journal.now places.old }
+    ensures replays { IsTrue H.told → IfOk result (λ good. Tells good
+        (ReplaysRecord (image journal.now.unit (H.outside host.old).now)
         (payload_found found journal.now.unit (H.outside host.old)) places.old.entries
-        places.new.entries) }
-    ensures bad { IsTrue H.told → IfOk result (λ good. good ≡ false
-        → change_in (payload_found found journal.now.unit (H.outside host.old)) ≡ None) }
-    ensures unique { IfOk result (λ _. hash.IsUnique nat_eq places.new) }
-    ensures placed { IfOk result (λ _. ArePlaced journal.now places.new.entries) }
+        places.new.entries)
+        (change_in (payload_found found journal.now.unit (H.outside host.old)) ≡ None)) }
+    ensures table { IfOk result (λ _. IsFilling journal.now places.new) }
     ensures len { IfOk result (λ _. 516 * length places.new.entries
         ≤ 516 * length places.old.entries + found.len) }
     ensures reads { ReadsUnit journal.now.unit result (H.outside host.old) (H.outside host.new) }
@@ -245,10 +215,7 @@ pub fn replay<H: Host>(
         (image journal.now.unit (H.outside host.old).now) places.entries) }
     ensures not_store { IsErrOf result BookFault.NotStore → IsTrue H.told
         → pages_of (image journal.now.unit (H.outside host.old).now) ≡ None }
-    ensures looks { Looks journal.now.unit (H.outside host.old) (H.outside host.new) }
-    ensures cause { IsErrOf result BookFault.Device
-        → Rose ((H.outside host.old).dev_faults journal.now.unit)
-        ((H.outside host.new).dev_faults journal.now.unit) }
+    ensures reads { ReadsBook journal.now.unit result (H.outside host.old) (H.outside host.new) }
 {
     let mut places = HashMap::new(alloc);
     let mut at = journal.first();

@@ -1,19 +1,20 @@
 // A record is written that says a change.
-ghost use Rattle.std.specs.Prelude.{Bool, IsTrue, true, ◌≡◌, ◌+◌, ◌*◌, ◌≤◌, ◌<◌, ◌++◌, ◌∷◌, [], length, OnOk, OnErr, IfOk};
+ghost use Rattle.std.specs.Prelude.{Bool, IsTrue, true, ◌≡◌, ◌+◌, ◌*◌, ◌≤◌, ◌<◌, ◌++◌, ◌∷◌, []};
+ghost use Rattle.std.specs.Prelude.{length, OnOk, IfOk};
 ghost use Rattle.std.specs.Int.{to_be_bytes, w16};
 ghost use Rattle.std.specs.List.{flat_map, filter};
-ghost use Rattle.newt_host.specs.Moments.{image, Leaves};
-ghost use Rattle.newt_host.specs.Outside.{Outside, Touches, Spends, Rose};
+ghost use Rattle.newt_host.specs.Moments.{image};
+ghost use Rattle.newt_host.specs.Outside.{Outside};
 ghost use Rattle.newt_spec_image.specs.Pages.{written_put, written_delete, written_change};
 ghost use Rattle.newt_spec_image.specs.Records.{bank_size, records};
-ghost use Rattle.newt_journal.specs.Journal.{room, Stands, appended, ReadsAsEither};
+ghost use Rattle.newt_journal.specs.Journal.{room, Stands, appended};
 ghost use Rattle.newt_journal.specs.Draft.{IsDraftOf, unit_of, len_of, put_of};
 ghost use Rattle.newt_journal.specs.Places.{first_place};
 ghost use Rattle.newt_pagebook.specs.Batch.{IsBatch};
 ghost use Rattle.newt_pagebook.specs.Book.{IsOpenFor, batch_bytes};
 ghost use Rattle.newt_pagelog.specs.Kept.{is_kept, needed, payload_bytes};
-ghost use Rattle.newt_pagelog.specs.Commits.{Rewrites};
-ghost use Rattle.newt_pagelog.specs.Steps.{IsSteady, Stays, Keeps, Begins, WritesMore};
+ghost use Rattle.newt_pagelog.specs.Commits.{Rewrites, append_work};
+ghost use Rattle.newt_pagelog.specs.Steps.{IsSteady, Stays, Keeps, Begins, WritesMore, begin_work};
 
 use crate::live::{Table, kept_of};
 use newt_host::{Failed, Host};
@@ -79,9 +80,8 @@ pub fn write_counts<H: Host>(
     ensures ok { OnOk result (WritesMore H.told (unit_of draft.old)
         (to_be_bytes w16 puts ++ to_be_bytes w16 deletes) draft.old draft.new
         (H.outside host.old) (H.outside host.new)) }
-    ensures keeps { Keeps H.told (unit_of draft.old) 4 (H.outside host.old) (H.outside host.new) }
-    ensures cause { OnErr result (Rose ((H.outside host.old).dev_faults (unit_of draft.old))
-        ((H.outside host.new).dev_faults (unit_of draft.old))) }
+    ensures keeps { Keeps H.told (unit_of draft.old) 4 result
+        (H.outside host.old) (H.outside host.new) }
 {
     draft.put(host, &counts_piece(puts, deletes))?;
     Ok(())
@@ -99,10 +99,9 @@ pub fn write_put<H: Host>(
     ensures ok { OnOk result (WritesMore H.told (unit_of draft.old)
         (written_put (number, page.now)) draft.old draft.new
         (H.outside host.old) (H.outside host.new)) }
-    ensures keeps { Keeps H.told (unit_of draft.old) 516 (H.outside host.old) (H.outside host.new) }
+    ensures keeps { Keeps H.told (unit_of draft.old) 516 result
+        (H.outside host.old) (H.outside host.new) }
     ensures size { length page.now ≡ 512 }
-    ensures cause { OnErr result (Rose ((H.outside host.old).dev_faults (unit_of draft.old))
-        ((H.outside host.new).dev_faults (unit_of draft.old))) }
 {
     draft.put(host, &put_piece(number, page))?;
     Ok(())
@@ -121,10 +120,8 @@ pub fn write_puts<H: Host>(
         (flat_map written_put puts.now) draft.old draft.new
         (H.outside host.old) (H.outside host.new)) }
     ensures put { OnOk result (put_of draft.new ≡ put_of draft.old + 516 * length puts.now) }
-    ensures keeps { Keeps H.told (unit_of draft.old) (516 * length puts.now)
+    ensures keeps { Keeps H.told (unit_of draft.old) (516 * length puts.now) result
         (H.outside host.old) (H.outside host.new) }
-    ensures cause { OnErr result (Rose ((H.outside host.old).dev_faults (unit_of draft.old))
-        ((H.outside host.new).dev_faults (unit_of draft.old))) }
 {
     for put in puts {
         write_put(draft, host, put.0, &put.1)?;
@@ -147,10 +144,8 @@ fn write_delete<V, H: Host>(
         (flat_map written_delete (filter (is_kept pages.now.entries) (number ∷ []))) draft.old
         draft.new (H.outside host.old) (H.outside host.new)) }
     ensures keeps { Keeps H.told (unit_of draft.old)
-        (4 * length (filter (is_kept pages.now.entries) (number ∷ [])))
+        (4 * length (filter (is_kept pages.now.entries) (number ∷ []))) result
         (H.outside host.old) (H.outside host.new) }
-    ensures cause { OnErr result (Rose ((H.outside host.old).dev_faults (unit_of draft.old))
-        ((H.outside host.new).dev_faults (unit_of draft.old))) }
 {
     if pages.contains_key(&number) {
         draft.put(host, &number.to_be_bytes())?;
@@ -174,10 +169,8 @@ fn write_deletes<V, H: Host>(
         (flat_map written_delete (filter (is_kept pages.now.entries) deletes.now)) draft.old
         draft.new (H.outside host.old) (H.outside host.new)) }
     ensures keeps { Keeps H.told (unit_of draft.old)
-        (4 * length (filter (is_kept pages.now.entries) deletes.now))
+        (4 * length (filter (is_kept pages.now.entries) deletes.now)) result
         (H.outside host.old) (H.outside host.new) }
-    ensures cause { OnErr result (Rose ((H.outside host.old).dev_faults (unit_of draft.old))
-        ((H.outside host.new).dev_faults (unit_of draft.old))) }
 {
     for number in deletes {
         write_delete(draft, host, pages, *number)?;
@@ -204,10 +197,8 @@ fn write_batch<V, H: Host>(
     ensures put { OnOk result (put_of draft.new
         ≡ put_of draft.old + payload_bytes (needed pages.now.entries batch.now)) }
     ensures keeps { Keeps H.told (unit_of draft.old)
-        (payload_bytes (needed pages.now.entries batch.now))
+        (payload_bytes (needed pages.now.entries batch.now)) result
         (H.outside host.old) (H.outside host.new) }
-    ensures cause { OnErr result (Rose ((H.outside host.old).dev_faults (unit_of draft.old))
-        ((H.outside host.new).dev_faults (unit_of draft.old))) }
 {
     let puts = batch.puts();
     write_counts(draft, host, puts.len() as u16, deletes)?;
@@ -243,14 +234,13 @@ pub fn append_batch<V, H: Host>(
     requires few_deletes { length (filter (is_kept pages.now.entries) batch.now.deletes) < 65536 }
     requires fits { payload_bytes (needed pages.now.entries batch.now) ≤ room journal }
     ensures rewrites { Rewrites H.told journal
+        (append_work (needed pages.now.entries batch.now))
         (appended (records (image journal.unit (H.outside host.old).now))
         (written_change (needed pages.now.entries batch.now))) result
         (H.outside host.old) (H.outside host.new) }
     ensures places { IfOk result (λ after. (after.end
         ≡ journal.end + batch_bytes (needed pages.now.entries batch.now))
         × (first_place after ≡ first_place journal)) }
-    ensures costs { Spends journal.unit (batch_bytes (needed pages.now.entries batch.now)) 0
-        (H.outside host.old) (H.outside host.new) }
 {
     let deletes = kept_of(pages, batch.deletes());
     let len = 4 + 516 * batch.puts().len() + 4 * deletes;
@@ -267,9 +257,8 @@ pub fn begin_alone<H: Host>(mut journal: Journal, host: &mut H, len: u32) -> Res
     requires stands { Stands H.told journal (H.outside host.old) }
     ensures begins { IfOk result (λ draft. Begins H.told journal len true draft
         (H.outside host.old) (H.outside host.new)) }
-    ensures stays { Stays H.told journal.unit (H.outside host.old) (H.outside host.new) }
-    ensures cause { OnErr result (Rose ((H.outside host.old).dev_faults journal.unit)
-        ((H.outside host.new).dev_faults journal.unit)) }
+    ensures stays { Stays H.told journal.unit (begin_work journal.blocks) result
+        (H.outside host.old) (H.outside host.new) }
 {
     journal.repair(host)?;
     let draft = journal.switch(host, len)?;

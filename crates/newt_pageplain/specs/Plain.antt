@@ -1,18 +1,40 @@
 -- A book in memory stands for the pages that it keeps.
-use Rattle.std.specs.Prelude.{IsTrue, ◌≡◌, ℕ, ◌≤◌, Bool, List, Option, Some, IsSome}
+use Rattle.std.specs.Prelude.{IsTrue, ◌≡◌, ℕ, ◌≤◌, Bool, false, List, length, nat_eq, Option, Some, IsSome}
+use Rattle.std.specs.HashMap.{HashMap}
+use Rattle.std.specs.HashMap as hash
+use Rattle.std.specs.declared.hash.FoldHasher.{FoldHasher}
+use Rattle.std.specs.declared.hash.BuildHasherDefault.{BuildHasherDefault}
 use Rattle.std.proofs.Common.{sym, ◌∙◌, ap, subst}
 use Rattle.newt_host.specs.Moments.{Change as Event, image, bytes_after, IsDurable}
 use Rattle.newt_host.specs.Outside.{Outside}
-use Rattle.newt_spec_image.specs.Pages.{pages}
+use Rattle.newt_spec_image.specs.Pages.{Change, pages}
 use Rattle.newt_journal.specs.Journal.{Stands, HeldBy}
 use Rattle.newt_journal.specs.declared.journal.Journal.{Journal}
 use Rattle.newt_pagebook.specs.Book.{PagesAre, IsSameFor}
-use Rattle.newt_pagelog.specs.Kept.{Entries, map_of, numbers_in, named_in}
+use Rattle.newt_pagelog.specs.Commits.{HasRoomFor}
+use Rattle.newt_pagelog.specs.Kept.{Entries, AreSound, is_kept, map_of, numbers_in, named_in, page_in}
+use Rattle.newt_pagelog.specs.Placed.{Places}
 
 -- The journal stands for its unit, whose image holds these pages where bytes are told (this project's own).
 pub record IsHeldBy (told : Bool) (journal : Journal) (entries : Entries) (outside : Outside) : Type 0 where
   pub stands : Stands told journal outside
   pub holds : IsTrue told → pages (image journal.unit outside.now) ≡ Some (map_of entries)
+
+-- A batch may be committed: the journal stands for the unit with these pages, and there is room for
+-- the puts and the live pages (this project's own).
+pub record IsReadyFor (told : Bool) (batch : Change) (journal : Journal)
+    (pages : HashMap ℕ (List ℕ) (BuildHasherDefault FoldHasher)) (outside : Outside) : Type 0 where
+  pub book : IsHeldBy told journal pages.entries outside
+  pub sound : AreSound pages.entries
+  pub room : HasRoomFor batch journal.blocks pages
+
+-- The page of a number was taken over from where it stands, and no other one (this project's own).
+pub record TakesNumber (number : ℕ) (places : Places)
+    (old new : HashMap ℕ (List ℕ) (BuildHasherDefault FoldHasher)) : Type 0 where
+  pub unique : hash.IsUnique nat_eq new
+  pub others : (q : ℕ) → nat_eq number q ≡ false → page_in new.entries q ≡ page_in old.entries q
+  pub here : is_kept new.entries number ≡ is_kept places number
+  pub whole : (page : List ℕ) → page_in new.entries number ≡ Some page → length page ≡ 512
 
 -- It has a journal of its unit, which stands for it, and where bytes are told the unit's image holds the pages that it keeps (this
 -- project's own).

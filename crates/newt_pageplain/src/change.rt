@@ -1,15 +1,15 @@
 // A batch is committed: appended where the bank has room and is not closed, and else written with
 // all pages into the other bank.
-ghost use Rattle.std.specs.Prelude.{IsTrue, ◌≡◌, ◌≤◌, ◌+◌, ◌*◌, ◌<◌, length, Some, IfOk, OnOk, OnErr};
-ghost use Rattle.newt_host.specs.Moments.{image};
-ghost use Rattle.newt_host.specs.Outside.{Spends};
+ghost use Rattle.std.specs.Prelude.{◌≡◌, ◌≤◌, OnOk};
+ghost use Rattle.std.specs.FinSet as set;
 ghost use Rattle.newt_spec_image.specs.Pages.{after as pages_behind};
 ghost use Rattle.newt_journal.specs.Journal.{room};
 ghost use Rattle.newt_pagebook.specs.Batch.{IsBatch};
-ghost use Rattle.newt_pagebook.specs.Book.{IsOpenFor, batch_bytes};
-ghost use Rattle.newt_pagelog.specs.Commits.{HasRoomFor, Commits};
-ghost use Rattle.newt_pagelog.specs.Kept.{AreSound, map_of, needed, payload_bytes};
-ghost use Rattle.newt_pageplain.specs.Plain.{IsHeldBy};
+ghost use Rattle.newt_pagebook.specs.Book.{changed_numbers};
+ghost use Rattle.newt_pagelog.specs.Commits.{AppendsWhereOpen, Commits, append_work, commit_work};
+ghost use Rattle.newt_pagelog.specs.Commits.{switch_work};
+ghost use Rattle.newt_pagelog.specs.Kept.{AreSound, map_of, needed, numbers_in, payload_bytes};
+ghost use Rattle.newt_pageplain.specs.Plain.{IsReadyFor};
 
 use crate::apply::{Kept, apply};
 use crate::write::replace_all;
@@ -25,18 +25,14 @@ fn commit_behind<H: Host>(
     pages: &mut Kept,
     batch: &Batch,
 ) -> Result<Journal, Failed>
-    requires book { IsHeldBy H.told journal pages.old.entries (H.outside host.old) }
-    requires sound { AreSound pages.old.entries }
+    requires ready { IsReadyFor H.told batch.now journal pages.old (H.outside host.old) }
     requires batch { IsBatch batch.now }
-    requires ready { HasRoomFor batch.now journal.blocks pages.old }
     requires fits { payload_bytes (needed pages.old.entries batch.now) ≤ room journal }
-    ensures commits { Commits H.told journal batch.now result
+    ensures commits { Commits H.told journal (append_work batch.now) batch.now result
         (H.outside host.old) (H.outside host.new) }
     ensures pages { OnOk result (map_of pages.new.entries
         ≡ pages_behind batch.now (map_of pages.old.entries)) }
     ensures sound { AreSound pages.new.entries }
-    ensures costs { Spends journal.unit (batch_bytes batch.now) 0
-        (H.outside host.old) (H.outside host.new) }
 {
     let journal = append_batch(journal, host, pages, batch)?;
     apply(pages, batch);
@@ -50,11 +46,10 @@ fn commit_beside<H: Host>(
     pages: &mut Kept,
     batch: &Batch,
 ) -> Result<Journal, Failed>
-    requires book { IsHeldBy H.told journal pages.old.entries (H.outside host.old) }
-    requires sound { AreSound pages.old.entries }
+    requires ready { IsReadyFor H.told batch.now journal pages.old (H.outside host.old) }
     requires batch { IsBatch batch.now }
-    requires ready { HasRoomFor batch.now journal.blocks pages.old }
-    ensures commits { Commits H.told journal batch.now result
+    ensures commits { Commits H.told journal (switch_work journal.blocks
+        (set.len (changed_numbers batch.now (numbers_in pages.old.entries)))) batch.now result
         (H.outside host.old) (H.outside host.new) }
     ensures pages { map_of pages.new.entries ≡ pages_behind batch.now (map_of pages.old.entries) }
     ensures sound { AreSound pages.new.entries }
@@ -71,17 +66,15 @@ pub(crate) fn commit_with<H: Host>(
     pages: &mut Kept,
     batch: &Batch,
 ) -> Result<Journal, Failed>
-    requires book { IsHeldBy H.told journal pages.old.entries (H.outside host.old) }
-    requires sound { AreSound pages.old.entries }
-    requires ready { HasRoomFor batch.now journal.blocks pages.old }
-    ensures commits { Commits H.told journal batch.now result
+    requires ready { IsReadyFor H.told batch.now journal pages.old (H.outside host.old) }
+    ensures commits { Commits H.told journal (commit_work journal.blocks batch.now
+        (set.len (changed_numbers batch.now (numbers_in pages.old.entries)))) batch.now result
         (H.outside host.old) (H.outside host.new) }
     ensures pages { OnOk result (map_of pages.new.entries
         ≡ pages_behind batch.now (map_of pages.old.entries)) }
     ensures sound { AreSound pages.new.entries }
-    ensures bound { IsTrue H.told → IsOpenFor (batch_bytes batch.now)
-        (image journal.unit (H.outside host.old).now)
-        → Spends journal.unit (batch_bytes batch.now) 0 (H.outside host.old) (H.outside host.new) }
+    ensures appends { AppendsWhereOpen H.told journal.unit batch.now
+        (H.outside host.old) (H.outside host.new) }
 {
     if has_room(&journal, pages, batch) {
         commit_behind(journal, host, pages, batch)

@@ -1,13 +1,14 @@
 // All pages of a journal are read.
-ghost use Rattle.std.specs.Prelude.{IsTrue, ◌≡◌, ◌+◌, ◌≤◌, ℕ, List, false, length, nat_eq, None, Some, IfOk, OnOk, OnErr, IsErrOf};
+ghost use Rattle.std.specs.Prelude.{IsTrue, ◌≡◌, ◌+◌, ◌≤◌, nat_eq, None, Some, IfOk, OnOk, IsErrOf};
 ghost use Rattle.std.specs.HashMap as hash;
 ghost use Rattle.newt_host.specs.Moments.{image};
-ghost use Rattle.newt_host.specs.Outside.{Rose};
 ghost use Rattle.newt_spec_image.specs.Pages.{pages as pages_of};
+ghost use Rattle.newt_journal.specs.Calls.{Reads};
 ghost use Rattle.newt_journal.specs.Journal.{Stands};
 ghost use Rattle.newt_journal.specs.Places.{first_place};
-ghost use Rattle.newt_pagelog.specs.Kept.{AreSound, is_kept, map_of, page_in};
-ghost use Rattle.newt_pagelog.specs.Placed.{ArePlaced, Looks, ReadsUnit, lifted, page_from};
+ghost use Rattle.newt_pagelog.specs.Kept.{AreSound, map_of, page_in};
+ghost use Rattle.newt_pagelog.specs.Placed.{ArePlaced, ReadsBook, ReadsUnit, lifted, page_from};
+ghost use Rattle.newt_pageplain.specs.Plain.{TakesNumber};
 
 use crate::apply::Kept;
 use newt_host::{Failed, Host};
@@ -24,9 +25,7 @@ fn read_page<H: Host>(journal: &Journal, host: &mut H, at: u32) -> Result<Page, 
     requires stands { Stands H.told journal.now (H.outside host.old) }
     ensures page { IsTrue H.told → IfOk result
         (λ page. page ≡ page_from (image journal.now.unit (H.outside host.old).now) at) }
-    ensures looks { Looks journal.now.unit (H.outside host.old) (H.outside host.new) }
-    ensures cause { OnErr result (Rose ((H.outside host.old).dev_faults journal.now.unit)
-        ((H.outside host.new).dev_faults journal.now.unit)) }
+    ensures reads { Reads journal.now.unit 512 result (H.outside host.old) (H.outside host.new) }
 {
     let mut page = [0; 512];
     journal.read_at(host, at, &mut page)?;
@@ -45,13 +44,7 @@ fn read_number<H: Host>(
     requires stands { Stands H.told journal.now (H.outside host.old) }
     requires unique { hash.IsUnique nat_eq pages.old }
     requires fresh { page_in pages.old.entries number ≡ None }
-    ensures unique { OnOk result (hash.IsUnique nat_eq pages.new) }
-    ensures others { OnOk result ((q : ℕ) → nat_eq number q ≡ false
-        → page_in pages.new.entries q ≡ page_in pages.old.entries q) }
-    ensures here { OnOk result (is_kept pages.new.entries number
-        ≡ is_kept places.now.entries number) }
-    ensures whole { OnOk result ((page : List ℕ) → page_in pages.new.entries number ≡ Some page
-        → length page ≡ 512) }
+    ensures took { OnOk result (TakesNumber number places.now.entries pages.old pages.new) }
     ensures page { IsTrue H.told → OnOk result
         (page_in pages.new.entries number
         ≡ page_in (lifted (page_from (image journal.now.unit (H.outside host.old).now))
@@ -81,10 +74,7 @@ pub(crate) fn read_pages<H: Host>(
         ≡ Some (map_of kept.entries)) }
     ensures not_store { IsErrOf result BookFault.NotStore → IsTrue H.told
         → pages_of (image journal.now.unit (H.outside host.old).now) ≡ None }
-    ensures looks { Looks journal.now.unit (H.outside host.old) (H.outside host.new) }
-    ensures cause { IsErrOf result BookFault.Device
-        → Rose ((H.outside host.old).dev_faults journal.now.unit)
-        ((H.outside host.new).dev_faults journal.now.unit) }
+    ensures reads { ReadsBook journal.now.unit result (H.outside host.old) (H.outside host.new) }
 {
     let places = replay(alloc, journal, host)?;
     let mut pages = HashMap::new(alloc);

@@ -1,15 +1,12 @@
 // All pages are written as one record.
-ghost use Rattle.std.specs.Prelude.{IsTrue, ◌≡◌, ◌+◌, ◌*◌, ◌≤◌, ◌<◌, ◌∷◌, [], length, OnOk, OnErr, IfOk, Some};
+ghost use Rattle.std.specs.Prelude.{IsTrue, ◌≡◌, ◌+◌, ◌*◌, ◌≤◌, ◌<◌, ◌∷◌, [], length, OnOk, Some};
 ghost use Rattle.std.specs.List.{flat_map};
-ghost use Rattle.newt_host.specs.Moments.{image, Leaves};
-ghost use Rattle.newt_host.specs.Outside.{Touches, Rose};
 ghost use Rattle.newt_spec_image.specs.Pages.{written_put, written_change};
-ghost use Rattle.newt_spec_image.specs.Records.{records, bank_size};
-ghost use Rattle.newt_journal.specs.Journal.{Stands, ReadsAsEither};
+ghost use Rattle.newt_spec_image.specs.Records.{bank_size};
+ghost use Rattle.newt_journal.specs.Journal.{Stands};
 ghost use Rattle.newt_journal.specs.Draft.{IsDraftOf, unit_of, len_of, put_of};
-ghost use Rattle.newt_pagebook.specs.Book.{IsOpenFor};
 ghost use Rattle.newt_pagelog.specs.Kept.{all_of};
-ghost use Rattle.newt_pagelog.specs.Commits.{Rewrites};
+ghost use Rattle.newt_pagelog.specs.Commits.{Rewrites, switch_work};
 ghost use Rattle.newt_pagelog.specs.Steps.{IsSteady, Keeps, WritesMore};
 
 use crate::apply::Kept;
@@ -27,10 +24,8 @@ fn write_pages<H: Host>(draft: &mut Draft, host: &mut H, pages: &Kept) -> Result
         (H.outside host.old) (H.outside host.new)) }
     ensures put { OnOk result (put_of draft.new
         ≡ put_of draft.old + 516 * length pages.now.entries) }
-    ensures keeps { Keeps H.told (unit_of draft.old) (516 * length pages.now.entries)
+    ensures keeps { Keeps H.told (unit_of draft.old) (516 * length pages.now.entries) result
         (H.outside host.old) (H.outside host.new) }
-    ensures cause { OnErr result (Rose ((H.outside host.old).dev_faults (unit_of draft.old))
-        ((H.outside host.new).dev_faults (unit_of draft.old))) }
 {
     for (number, page) in pages.iter() {
         write_put(draft, host, *number, page)?;
@@ -48,10 +43,8 @@ fn write_all<H: Host>(draft: &mut Draft, host: &mut H, pages: &Kept) -> Result<(
         (H.outside host.old) (H.outside host.new)) }
     ensures put { OnOk result (put_of draft.new
         ≡ put_of draft.old + (4 + 516 * length pages.now.entries)) }
-    ensures keeps { Keeps H.told (unit_of draft.old) (4 + 516 * length pages.now.entries)
+    ensures keeps { Keeps H.told (unit_of draft.old) (4 + 516 * length pages.now.entries) result
         (H.outside host.old) (H.outside host.new) }
-    ensures cause { OnErr result (Rose ((H.outside host.old).dev_faults (unit_of draft.old))
-        ((H.outside host.new).dev_faults (unit_of draft.old))) }
 {
     write_counts(draft, host, pages.len() as u16, 0)?;
     write_pages(draft, host, pages)?;
@@ -67,7 +60,8 @@ pub(crate) fn replace_all<H: Host>(
     requires stands { Stands H.told journal (H.outside host.old) }
     requires few { length pages.now.entries < 65536 }
     requires fits { 25 + 516 * length pages.now.entries ≤ bank_size journal.blocks }
-    ensures { Rewrites H.told journal (Some (written_change (all_of pages.now.entries) ∷ [])) result
+    ensures { Rewrites H.told journal (switch_work journal.blocks (length pages.now.entries))
+        (Some (written_change (all_of pages.now.entries) ∷ [])) result
         (H.outside host.old) (H.outside host.new) }
 {
     let len = 4 + 516 * pages.len();

@@ -124,3 +124,10 @@ module _ (told : Bool) (unit : ℕ) (journal : Option Journal) (places : Places)
         holds = λ tells. subst (λ (l : List ℕ). HoldsAt j l places) still (its-holds tells);
         caches = λ tells. subst (λ (l : List ℕ). EachIsPageAtPlace j l after) (ap (λ (u : ℕ). image u o.now) its-on ∙ still) (caches tells);
       }
+
+-- no more than a page is fetched
+pub few-fetched : (at : ℕ) (cached : List (ℕ × List ℕ)) → bytes_fetched at cached ≤ 512
+few-fetched at cached = by (is_cached at cached) where
+  by : (b : Bool) → (if b then 0 else 512) ≤ 512
+  by true = omega arith
+  by false = omega arith

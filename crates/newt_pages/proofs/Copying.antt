@@ -1,15 +1,16 @@
 -- Pages that are copied, one after the other.
-use Rattle.std.proofs.Common.{IsTrue, ◌≡◌, ℕ, zero, suc, ◌+◌, ◌-◌, ◌<◌, ◌≤◌, Bool, nat_eq, List, [], ◌∷◌, ◌++◌, length, Option, Some, None, refl, sym, ◌∙◌, ap, subst, arith, append-nil, length-append}
+use Rattle.std.proofs.Common.{IsTrue, ◌≡◌, ℕ, zero, suc, ◌+◌, ◌-◌, ◌<◌, ◌≤◌, Bool, nat_eq, List, [], ◌∷◌, ◌++◌, length, Option, Some, None, Result, refl, sym, ◌∙◌, ap, subst, arith, append-nil, length-append}
 use Rattle.std.specs.List.{flat_map}
 use Rattle.std.specs.Map.{lookup}
 use Rattle.std.proofs.lemmas.List.{map-append}
 use Rattle.std.proofs.lemmas.Grind.{flat_map-append}
 use Rattle.newt_host.specs.Moments.{Moment, image, Leaves}
-use Rattle.newt_host.specs.Outside.{Outside, Touches}
-use Rattle.newt_host.proofs.Outside.{Touches-refl, same_cards}
+use Rattle.newt_host.specs.Outside.{Outside, Touches, fetching}
+use Rattle.newt_host.proofs.Outside.{same_cards}
 use Rattle.newt_host.proofs.Moments.{Leaves-start}
 use Rattle.newt_spec_image.specs.Records.{records}
 use Rattle.newt_spec_image.specs.Pages.{written_put}
+use Rattle.newt_journal.specs.Calls.{Reads}
 use Rattle.newt_journal.specs.Journal.{ReadsAs}
 use Rattle.newt_journal.specs.Appending.{IsDrafted}
 use Rattle.newt_journal.specs.Switch.{IsSwitching}
@@ -18,18 +19,23 @@ use Rattle.newt_journal.specs.declared.draft.Draft.{Draft}
 use Rattle.newt_journal.specs.declared.draft.Draft.TheVariants.{Append, Switch}
 use Rattle.newt_journal.specs.declared.journal.Journal.{Journal}
 use Rattle.newt_pagelog.specs.Placed.{Places, lifted, page_of}
-use Rattle.newt_pagelog.specs.Steps.{IsSteady, Stays, WritesMore}
-use Rattle.newt_pagelog.proofs.Stepping.{writes-none, writes-two, writes-same}
-use Rattle.newt_pages.specs.Copies.{place_at, below, CopiesPage, CopiesAll}
+use Rattle.newt_pagelog.specs.Steps.{IsSteady, Stays, WritesMore, done}
+use Rattle.newt_pagelog.proofs.Stepping.{keeps-start, writes-none, more-two, writes-same}
+use Rattle.newt_pages.specs.Copies.{place_at, below, copying, CopiesPage, CopiesAll}
 
-pub stays-start : (told : Bool) (unit : ℕ) (o : Outside) → (IsTrue told → IsSteady unit o.now) → Stays told unit o o
-stays-start told unit o steady = record { any_moment = λ tells. Leaves-start (steady tells); alone = Touches-refl unit o }
+pub stays-start : (told : Bool) (unit : ℕ) (o : Outside) → (IsTrue told → IsSteady unit o.now)
+    → Stays told unit (copying 0) done o o
+stays-start told unit o steady = keeps-start told unit o steady
 
 -- a read of the unit
-pub stays-looked : (told : Bool) (unit : ℕ) (a b : Outside) → (IsTrue told → IsSteady unit a.now) → b.now ≡ a.now → Touches unit a b → Stays told unit a b
-stays-looked told unit a b steady moment alone = record {
-  any_moment = λ tells. subst (λ (m : Moment). Leaves unit (ReadsAs (records (image unit a.now))) a.now m) (sym moment) (Leaves-start (steady tells));
-  alone = alone;
+pub stays-looked : {T E : Type 0} {r : Result T E} (told : Bool) (unit n : ℕ) (a b : Outside)
+    → (IsTrue told → IsSteady unit a.now) → Reads unit n r a b → Stays told unit (fetching n) r a b
+stays-looked told unit n a b steady reads = record {
+  any_moment = λ tells. subst (λ (m : Moment). Leaves unit (ReadsAs (records (image unit a.now))) a.now m) (sym reads.moment) (Leaves-start (steady tells));
+  alone = reads.alone;
+  costs = reads.costs;
+  wears = reads.wears;
+  faults = reads.faults;
 }
 
 -- a draft stands on after a read
@@ -86,7 +92,7 @@ copies-two told unit first second all x y z a b c is one other =
           ∙ sym (map-append (λ (e : ℕ × ℕ). (e.0, f e.1)) first second) ∙ ap (λ (l : Places). lifted f l) (sym is);
       put = omega (arith, one.put, other.put, ap (λ (l : Places). length l) is, length-append first second);
       writes = writes-same told unit (flat_map written_put one.pages ++ flat_map written_put other.pages) (flat_map written_put (one.pages ++ other.pages)) x z a c
-          (sym (flat_map-append written_put one.pages other.pages)) (writes-two told unit (flat_map written_put one.pages) (flat_map written_put other.pages) x y z a b c front other.writes);
+          (sym (flat_map-append written_put one.pages other.pages)) (more-two told unit (flat_map written_put one.pages) (flat_map written_put other.pages) x y z a b c front other.writes);
     }
 
 -- one number more

@@ -3,7 +3,7 @@ use Rattle.std.specs.Prelude.{IsTrue, ◌≡◌, ℕ, zero, suc, ◌+◌, ◌*�
 use Rattle.std.specs.List.{flat_map}
 use Rattle.std.specs.Map.{lookup}
 use Rattle.newt_host.specs.Moments.{image}
-use Rattle.newt_host.specs.Outside.{Outside}
+use Rattle.newt_host.specs.Outside.{Outside, Work}
 use Rattle.newt_spec_image.specs.Records.{records}
 use Rattle.newt_spec_image.specs.Pages.{Put, written_put, written_change}
 use Rattle.newt_journal.specs.Places.{recorded}
@@ -21,6 +21,16 @@ place_at number (Some at) = (number, at) ∷ []
 unfoldable pub below : ℕ → Places → Places
 below zero places = []
 below (suc n) places = below n places ++ place_at n (lookup (nat_eq n) places)
+
+-- what is done to copy so many pages
+abbrev pub copying : ℕ → Work
+copying pages =
+    record { programs = 516 * pages; fetches = 512 * pages; erases = 0; syncs = 0 }
+
+-- and what is done at most to write a payload of so many pages
+abbrev pub writing_all : ℕ → Work
+writing_all pages =
+    record { programs = 4 + 516 * pages; fetches = 512 * pages; erases = 0; syncs = 0 }
 
 -- A page was written behind what was written before: that at a place of the records.
 pub record CopiesPage (told : Bool) (unit number at : ℕ) (before after : Draft) (old new : Outside) : Type 0 where

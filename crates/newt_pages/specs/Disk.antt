@@ -1,18 +1,23 @@
 -- A book on the device stands for the pages at the places that it keeps.
-use Rattle.std.specs.Prelude.{IsTrue, ◌≡◌, ℕ, ◌+◌, ◌*◌, ◌<◌, ◌≤◌, Bool, if◌then◌else◌, List, [], ◌∷◌, length, get_or, nat_eq, Contains, Option, Some, None, IsSome, refl}
+use Rattle.std.specs.Prelude.{IsTrue, ◌≡◌, ℕ, ◌+◌, ◌*◌, ◌<◌, ◌≤◌, Bool, if◌then◌else◌, List, [], ◌∷◌, length, get_or, nat_eq, Contains, Option, Some, None, IsSome, Result, IfOk, OnOk, refl}
 use Rattle.std.proofs.Common.{sym, ◌∙◌, ap, subst}
 use Rattle.std.specs.Map.{lookup, keys_of}
 use Rattle.std.specs.Option.{is_some}
 use Rattle.std.specs.Ordering.{nat_cmp}
 use Rattle.std.specs.FinSet as set
+use Rattle.std.specs.HashMap.{HashMap}
+use Rattle.std.specs.HashMap as hash
+use Rattle.std.specs.declared.hash.FoldHasher.{FoldHasher}
+use Rattle.std.specs.declared.hash.BuildHasherDefault.{BuildHasherDefault}
 use Rattle.newt_host.specs.Moments.{Change as Event, image, bytes_after, IsDurable}
 use Rattle.newt_host.specs.Outside.{Outside}
 use Rattle.newt_spec_image.specs.Records.{records}
-use Rattle.newt_spec_image.specs.Pages.{Put}
+use Rattle.newt_spec_image.specs.Pages.{Change, Put}
 use Rattle.newt_journal.specs.Journal.{Stands, HeldBy}
 use Rattle.newt_journal.specs.Places.{first_place}
 use Rattle.newt_journal.specs.declared.journal.Journal.{Journal}
-use Rattle.newt_pagebook.specs.Book.{PagesAre, IsSameFor}
+use Rattle.newt_pagebook.specs.Book.{PagesAre, IsSameFor, changed_numbers}
+use Rattle.newt_pagelog.specs.Commits.{HasRoomFor}
 use Rattle.newt_pagelog.specs.Kept.{ArePageNumbers, map_of, numbers_in, named_in, kept_number}
 use Rattle.newt_pagelog.specs.Placed.{Places, lifted, page_of, AreNumbered, ArePlaced, HoldsAt}
 use Rattle.newt_pages.specs.declared.hand.AtHand.{AtHand}
@@ -26,6 +31,12 @@ keys-lifted page (e ∷ places) = ap (λ (l : List ℕ). e.0 ∷ l) (keys-lifted
 -- the pages of these puts stand one behind the other, each behind its number
 abbrev pub StandAt : (ℕ → List ℕ) → ℕ → List Put → Type 0
 StandAt page first puts = (i : ℕ) → i < length puts → page (first + 516 * i) ≡ (get_or puts i (0, [])).1
+
+-- A table has as many numbers as before, each once, and as much room for others.
+pub record KeepsRoom (old new : HashMap ℕ ℕ (BuildHasherDefault FoldHasher)) : Type 0 where
+  pub spare : hash.spare new ≡ hash.spare old
+  pub len : hash.hash_map_len new ≡ hash.hash_map_len old
+  pub unique : hash.IsUnique nat_eq new
 
 -- the page of a pair is the one that stands at the place of the pair, which is one of the records
 pub record IsPageAtPlace (j : Journal) (payloads : List (List ℕ)) (at : ℕ) (page : List ℕ) : Type 0 where
@@ -56,6 +67,22 @@ pub record IsPlacedBy (told : Bool) (journal : Journal) (places : Places) (outsi
   pub stands : Stands told journal outside
   pub placed : ArePlaced journal places
   pub holds : IsTrue told → HoldsAt journal (image journal.unit outside.now) places
+
+-- A batch may be committed: the journal and the places stand for the unit, and there is room for
+-- the puts and the live pages (this project's own).
+pub record IsReadyFor (told : Bool) (batch : Change) (journal : Journal)
+    (places : HashMap ℕ ℕ (BuildHasherDefault FoldHasher)) (outside : Outside) : Type 0 where
+  pub book : IsPlacedBy told journal places.entries outside
+  pub numbered : AreNumbered places.entries
+  pub room : HasRoomFor batch journal.blocks places
+
+-- The places after a batch: those of the journal that is given back, under the changed numbers
+-- (this project's own).
+pub record TakesOver {E : Type 0} (told : Bool) (batch : Change) (old new : Places)
+    (result : Result Journal E) (outside : Outside) : Type 0 where
+  pub book : IfOk result (λ after. IsPlacedBy told after new outside)
+  pub numbered : AreNumbered new
+  pub numbers : OnOk result (numbers_in new ≡ changed_numbers batch (numbers_in old))
 
 -- It has a journal of its unit, which stands for it, and the places lie within its records. Where bytes are told the pages of the unit's image are those
 -- at the places, and the cached pages are among them.

@@ -38,7 +38,8 @@ pub struct DiskBook {
 
 impl PageBook for DiskBook {
     ghost use Rattle.newt_pagelog.specs.Kept.{numbers_in};
-    ghost use Rattle.newt_pages.specs.Disk.{StandsWith, shown_in, tells_with, banks_with, kept_with, small_with};
+    ghost use Rattle.newt_pages.specs.Disk.{StandsWith, shown_in, tells_with, banks_with};
+    ghost use Rattle.newt_pages.specs.Disk.{kept_with, small_with};
 
     ghost place = { λ b. b.unit };
 

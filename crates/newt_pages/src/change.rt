@@ -1,15 +1,13 @@
 // A batch is committed: appended where the bank has room and is not closed, and else written with
 // all pages into the other bank.
-ghost use Rattle.std.specs.Prelude.{IsTrue, ◌≡◌, IfOk, OnOk};
+ghost use Rattle.std.specs.Prelude.{IsTrue, ◌≡◌, IfOk};
 ghost use Rattle.std.specs.FinSet as set;
 ghost use Rattle.newt_host.specs.Moments.{image};
-ghost use Rattle.newt_host.specs.Outside.{Spends};
 ghost use Rattle.newt_pagebook.specs.Batch.{IsBatch};
-ghost use Rattle.newt_pagebook.specs.Book.{IsOpenFor, batch_bytes, changed_numbers};
-ghost use Rattle.newt_pagelog.specs.Commits.{HasRoomFor, Commits};
+ghost use Rattle.newt_pagebook.specs.Book.{changed_numbers};
+ghost use Rattle.newt_pagelog.specs.Commits.{AppendsWhereOpen, Commits, commit_work, switch_work};
 ghost use Rattle.newt_pagelog.specs.Kept.{numbers_in};
-ghost use Rattle.newt_pagelog.specs.Placed.{AreNumbered};
-ghost use Rattle.newt_pages.specs.Disk.{EachIsPageAtPlace, IsPlacedBy};
+ghost use Rattle.newt_pages.specs.Disk.{EachIsPageAtPlace, IsReadyFor, TakesOver};
 
 use crate::append::commit_behind;
 use crate::hand::{Cache, forget_all};
@@ -28,18 +26,13 @@ fn commit_beside<H: Host>(
     batch: &Batch,
     live: u16,
 ) -> Result<Journal, Failed>
-    requires book { IsPlacedBy H.told journal places.old.entries (H.outside host.old) }
-    requires numbered { AreNumbered places.old.entries }
+    requires ready { IsReadyFor H.told batch.now journal places.old (H.outside host.old) }
     requires batch { IsBatch batch.now }
-    requires ready { HasRoomFor batch.now journal.blocks places.old }
     requires live { live ≡ set.len (changed_numbers batch.now (numbers_in places.old.entries)) }
-    ensures commits { Commits H.told journal batch.now result
+    ensures commits { Commits H.told journal (switch_work journal.blocks live) batch.now result
         (H.outside host.old) (H.outside host.new) }
-    ensures book { IfOk result (λ after. IsPlacedBy H.told after places.new.entries
-        (H.outside host.new)) }
-    ensures numbered { AreNumbered places.new.entries }
-    ensures numbers { OnOk result (numbers_in places.new.entries
-        ≡ changed_numbers batch.now (numbers_in places.old.entries)) }
+    ensures takes { TakesOver H.told batch.now places.old.entries places.new.entries result
+        (H.outside host.new) }
 {
     remove_puts(places, batch.puts());
     remove_numbers(places, batch.deletes());
@@ -58,25 +51,20 @@ pub(crate) fn commit_with<H: Host>(
     batch: &Batch,
     live: u16,
 ) -> Result<Journal, Failed>
-    requires book { IsPlacedBy H.told journal places.old.entries (H.outside host.old) }
-    requires numbered { AreNumbered places.old.entries }
+    requires ready { IsReadyFor H.told batch.now journal places.old (H.outside host.old) }
     requires caches { IsTrue H.told → EachIsPageAtPlace journal
         (image journal.unit (H.outside host.old).now) cache.old.entries }
-    requires ready { HasRoomFor batch.now journal.blocks places.old }
     requires live { live ≡ set.len (changed_numbers batch.now (numbers_in places.old.entries)) }
-    ensures commits { Commits H.told journal batch.now result
+    ensures commits { Commits H.told journal (commit_work journal.blocks batch.now
+        (set.len (changed_numbers batch.now (numbers_in places.old.entries)))) batch.now result
         (H.outside host.old) (H.outside host.new) }
-    ensures book { IfOk result (λ after. IsPlacedBy H.told after places.new.entries
-        (H.outside host.new)) }
+    ensures takes { TakesOver H.told batch.now places.old.entries places.new.entries result
+        (H.outside host.new) }
     ensures caches { IsTrue H.told → IfOk result
         (λ after. EachIsPageAtPlace after
         (image journal.unit (H.outside host.new).now) cache.new.entries) }
-    ensures numbered { AreNumbered places.new.entries }
-    ensures numbers { OnOk result (numbers_in places.new.entries
-        ≡ changed_numbers batch.now (numbers_in places.old.entries)) }
-    ensures bound { IsTrue H.told → IsOpenFor (batch_bytes batch.now)
-        (image journal.unit (H.outside host.old).now)
-        → Spends journal.unit (batch_bytes batch.now) 0 (H.outside host.old) (H.outside host.new) }
+    ensures appends { AppendsWhereOpen H.told journal.unit batch.now
+        (H.outside host.old) (H.outside host.new) }
 {
     if has_room(&journal, places, batch) {
         commit_behind(journal, host, places, batch)

@@ -1,18 +1,19 @@
 // All pages after a batch are written into the other bank, each copied from where it stands.
-ghost use Rattle.std.specs.Prelude.{IsTrue, ◌≡◌, ℕ, ◌+◌, ◌*◌, ◌≤◌, ◌<◌, ◌∷◌, ◌++◌, [], List, length, nat_eq, Some, IfOk, OnOk, OnErr};
+ghost use Rattle.std.specs.Prelude.{IsTrue, ◌≡◌, ℕ, ◌+◌, ◌*◌, ◌≤◌, ◌<◌, ◌∷◌, ◌++◌, [], List};
+ghost use Rattle.std.specs.Prelude.{length, nat_eq, Some, IfOk, OnOk};
 ghost use Rattle.std.specs.Map.{lookup};
 ghost use Rattle.newt_host.specs.Moments.{image};
-ghost use Rattle.newt_host.specs.Outside.{Rose};
 ghost use Rattle.newt_spec_image.specs.Records.{records, bank_size};
 ghost use Rattle.newt_spec_image.specs.Pages.{written_change};
 ghost use Rattle.newt_journal.specs.Journal.{Stands};
 ghost use Rattle.newt_journal.specs.Places.{first_place};
 ghost use Rattle.newt_journal.specs.Draft.{IsDraftOf, journal_of, unit_of, len_of, put_of};
-ghost use Rattle.newt_pagelog.specs.Commits.{Rewrites};
+ghost use Rattle.newt_pagelog.specs.Commits.{Rewrites, switch_work};
 ghost use Rattle.newt_pagelog.specs.Kept.{all_of};
 ghost use Rattle.newt_pagelog.specs.Placed.{ArePlaced, lifted, page_of};
 ghost use Rattle.newt_pagelog.specs.Steps.{IsSteady, Stays};
-ghost use Rattle.newt_pages.specs.Copies.{place_at, below, CopiesPage, CopiesAll, CopiesWhole};
+ghost use Rattle.newt_pages.specs.Copies.{place_at, below, copying, writing_all, CopiesPage};
+ghost use Rattle.newt_pages.specs.Copies.{CopiesAll, CopiesWhole};
 
 use newt_host::{Failed, Host};
 use newt_journal::{Draft, Journal};
@@ -28,9 +29,8 @@ fn copy_page<H: Host>(draft: &mut Draft, host: &mut H, number: u32, at: u32) -> 
     requires high { at + 512 ≤ (journal_of draft.old).end }
     ensures ok { OnOk result (CopiesPage H.told (unit_of draft.old) number at draft.old draft.new
         (H.outside host.old) (H.outside host.new)) }
-    ensures stays { Stays H.told (unit_of draft.old) (H.outside host.old) (H.outside host.new) }
-    ensures cause { OnErr result (Rose ((H.outside host.old).dev_faults (unit_of draft.old))
-        ((H.outside host.new).dev_faults (unit_of draft.old))) }
+    ensures stays { Stays H.told (unit_of draft.old) (copying 1) result
+        (H.outside host.old) (H.outside host.new) }
 {
     let mut page = [0; 512];
     draft.read_at(host, at, &mut page)?;
@@ -53,9 +53,9 @@ fn copy_number<H: Host>(
     ensures ok { OnOk result (CopiesAll H.told (unit_of draft.old)
         (place_at number (lookup (nat_eq number) places.now.entries)) draft.old draft.new
         (H.outside host.old) (H.outside host.new)) }
-    ensures stays { Stays H.told (unit_of draft.old) (H.outside host.old) (H.outside host.new) }
-    ensures cause { OnErr result (Rose ((H.outside host.old).dev_faults (unit_of draft.old))
-        ((H.outside host.new).dev_faults (unit_of draft.old))) }
+    ensures stays { Stays H.told (unit_of draft.old) (copying
+        (length (place_at number (lookup (nat_eq number) places.now.entries)))) result
+        (H.outside host.old) (H.outside host.new) }
 {
     match places.get(&number) {
         Some(place) => copy_page(draft, host, number, *place),
@@ -73,9 +73,9 @@ fn copy_pages<H: Host>(draft: &mut Draft, host: &mut H, places: &Table<u32>) -> 
     ensures ok { OnOk result (CopiesAll H.told (unit_of draft.old)
         (below 65536 places.now.entries) draft.old draft.new
         (H.outside host.old) (H.outside host.new)) }
-    ensures stays { Stays H.told (unit_of draft.old) (H.outside host.old) (H.outside host.new) }
-    ensures cause { OnErr result (Rose ((H.outside host.old).dev_faults (unit_of draft.old))
-        ((H.outside host.new).dev_faults (unit_of draft.old))) }
+    ensures stays { Stays H.told (unit_of draft.old)
+        (copying (length (below 65536 places.now.entries))) result
+        (H.outside host.old) (H.outside host.new) }
 {
     for number in 0..65536 {
         copy_number(draft, host, places, number)?;
@@ -99,9 +99,8 @@ fn copy_whole<H: Host>(
     ensures ok { OnOk result (CopiesWhole H.told (unit_of draft.old)
         (below 65536 places.now.entries) puts.now draft.old draft.new
         (H.outside host.old) (H.outside host.new)) }
-    ensures stays { Stays H.told (unit_of draft.old) (H.outside host.old) (H.outside host.new) }
-    ensures cause { OnErr result (Rose ((H.outside host.old).dev_faults (unit_of draft.old))
-        ((H.outside host.new).dev_faults (unit_of draft.old))) }
+    ensures stays { Stays H.told (unit_of draft.old) (writing_all live) result
+        (H.outside host.old) (H.outside host.new) }
 {
     write_counts(draft, host, live, 0)?;
     copy_pages(draft, host, places)?;
@@ -124,7 +123,7 @@ pub(crate) fn replace_all<H: Host>(
     requires placed { ArePlaced journal places.now.entries }
     ensures rewrites { (payloads : List (List ℕ))
         → (IsTrue H.told → records (image journal.unit (H.outside host.old).now) ≡ Some payloads)
-        → Rewrites H.told journal
+        → Rewrites H.told journal (switch_work journal.blocks live)
         (Some (written_change (all_of
         (lifted (page_of journal payloads) (below 65536 places.now.entries) ++ puts.now)) ∷ []))
         result (H.outside host.old) (H.outside host.new) }

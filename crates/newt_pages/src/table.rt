@@ -1,5 +1,7 @@
 // The places of the pages.
-ghost use Rattle.std.specs.Prelude.{◌≡◌, ℕ, ◌+◌, ◌*◌, ◌^◌, ◌≤◌, ◌<◌, ◌==◌, Bool, cond, if◌then◌else◌, List, length, map as map_list, nat_eq, true, Some, None};
+ghost use Rattle.std.specs.Prelude.{◌≡◌, ℕ, ◌+◌, ◌*◌, ◌^◌, ◌≤◌, ◌<◌, ◌==◌, Bool, cond};
+ghost use Rattle.std.specs.Prelude.{if◌then◌else◌, List, length, map as map_list, nat_eq, true};
+ghost use Rattle.std.specs.Prelude.{Some, None};
 ghost use Rattle.std.specs.List.{All, list_any};
 ghost use Rattle.std.specs.Map.{lookup};
 ghost use Rattle.std.specs.HashMap as hash;
@@ -11,7 +13,7 @@ ghost use Rattle.newt_pagelog.specs.Kept.{page_in, map_of, numbers_in, is_kept};
 ghost use Rattle.newt_pagebook.specs.Book.{changed_numbers};
 ghost use Rattle.newt_pagelog.specs.Placed.{lifted, IsPlaced, ArePlaced};
 ghost use Rattle.newt_pages.specs.Copies.{below};
-ghost use Rattle.newt_pages.specs.Disk.{StandAt};
+ghost use Rattle.newt_pages.specs.Disk.{StandAt, KeepsRoom};
 
 use newt_pagebook::{Batch, Page};
 use newt_pagelog::Table;
@@ -112,9 +114,7 @@ fn move_page(places: &mut Table<u32>, number: u32, at: u32)
     requires { is_kept places.old.entries number ≡ true }
     ensures updates { (q : ℕ) → lookup (nat_eq q) places.new.entries
         ≡ cond (nat_eq number q) (Some at) (lookup (nat_eq q) places.old.entries) }
-    ensures spare { hash.spare places.new ≡ hash.spare places.old }
-    ensures len { hash.hash_map_len places.new ≡ hash.hash_map_len places.old }
-    ensures unique { hash.IsUnique nat_eq places.new }
+    ensures room { KeepsRoom places.old places.new }
 {
     match places.get_mut(&number) {
         Some(place) => *place = at,
@@ -135,9 +135,7 @@ pub(crate) fn move_pages(places: &mut Table<u32>, first: u32) -> u32
     ensures placed { (j : Journal) → first_place j ≤ first
         → first + 516 * length (below 65536 places.old.entries) ≤ j.end + 4 → (q at : ℕ) → q < 65536
         → lookup (nat_eq q) places.new.entries ≡ Some at → IsPlaced j q at }
-    ensures spare { hash.spare places.new ≡ hash.spare places.old }
-    ensures len { hash.hash_map_len places.new ≡ hash.hash_map_len places.old }
-    ensures unique { hash.IsUnique nat_eq places.new }
+    ensures room { KeepsRoom places.old places.new }
 {
     let mut at = first;
     for number in 0..65536 {

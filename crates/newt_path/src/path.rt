@@ -40,8 +40,8 @@ impl Path {
         Path { items }
     }
 
-    /// Reads 1 to 8 identifiers with points between them. `Path` comes only where the text is none; `Memory` may come in
-    /// place of any answer.
+    /// Reads 1 to 8 identifiers with points between them. `Path` comes only where the text is none;
+    /// `Memory` may come in place of any answer.
     pub fn read(alloc: Global, text: &[u8]) -> Result<Path, PathFault>
         ensures ok { IfOk result (λ path. path_of text.now ≡ Some path) }
         ensures path { IsErrOf result PathFault.Path → path_of text.now ≡ None }
@@ -83,7 +83,8 @@ impl Path {
     }
 }
 
-/// Whether the names of one list are those of another but for ASCII case, as far as the shorter one goes.
+/// Whether the names of one list are those of another but for ASCII case, as far as the shorter one
+/// goes.
 fn all_same(names: &[Bytes], others: &[Bytes]) -> bool
     ensures { result ≡ list_all (λ s. same_name s.0 s.1) (zip names.now others.now) }
 {

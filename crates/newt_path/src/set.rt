@@ -14,14 +14,16 @@ use crate::value::value_below;
 use newt_graph::{Builder, Bytes, Graph, GraphFault, Node, Ref};
 use std::alloc::Global;
 
-/// The graph with the value in the last slot of the path, in the frame that the slots before it lead to. That frame is changed where it stands, so that
-/// every other way to it shows the change. A missing last slot is added as the last one. Of symbols that differ in case alone the graph's spelling stays,
-/// then the path's. What the root no longer reaches is gone. `NoPath` comes exactly where there is no such frame; `Limit` only where the result would pass a
-/// limit of one graph.
+/// The graph with the value in the last slot of the path, in the frame that the slots before it
+/// lead to. That frame is changed where it stands, so that every other way to it shows the change.
+/// A missing last slot is added as the last one. Of symbols that differ in case alone the graph's
+/// spelling stays, then the path's. What the root no longer reaches is gone. `NoPath` comes exactly
+/// where there is no such frame; `Limit` only where the result would pass a limit of one graph.
 pub fn set_at(alloc: Global, graph: &Graph, path: &Path, value: &Graph) -> Result<Graph, SetFault>
     ensures form { IfOk result (λ g. IsFormOf (put graph.now path.now value.now) g) }
     ensures no_path { IsErrOf result SetFault.NoPath ↔ (put graph.now path.now value.now ≡ None) }
-    ensures limit { IsErrOf result SetFault.Limit → PassesALimit (put graph.now path.now value.now) }
+    ensures limit { IsErrOf result SetFault.Limit
+        → PassesALimit (put graph.now path.now value.now) }
 {
     let Some((last, before)) = path.list().split_last() else {
         return Err(SetFault::NoPath);
@@ -36,7 +38,8 @@ pub fn set_at(alloc: Global, graph: &Graph, path: &Path, value: &Graph) -> Resul
 
 /// The number of the frame that the names lead to.
 fn frame_below(nodes: &[Node], root: Ref, names: &[Bytes]) -> Option<u32>
-    ensures { result ≡ option_and_then (frame_number nodes.now) (value_below nodes.now root names.now) }
+    ensures { result ≡ option_and_then (frame_number nodes.now)
+        (value_below nodes.now root names.now) }
 {
     let Ref::Node(n) = value_below(nodes, root, names)? else {
         return None;
@@ -65,8 +68,10 @@ fn set_in(
     requires frame { IsFrameOf graph.now frame }
     requires graph { IsGraph graph.now }
     requires value { IsGraph value.now }
-    ensures form { IfOk result (λ g. IsFormOf (Some (put_into graph.now name.now value.now frame)) g) }
-    ensures limit { IsErrOf result GraphFault.Limit → PassesALimit (Some (put_into graph.now name.now value.now frame)) }
+    ensures form { IfOk result (λ g. IsFormOf (Some (put_into graph.now name.now value.now frame))
+        g) }
+    ensures limit { IsErrOf result GraphFault.Limit
+        → PassesALimit (Some (put_into graph.now name.now value.now frame)) }
 {
     let mut builder = Builder::new(alloc);
     builder.import(graph)?;

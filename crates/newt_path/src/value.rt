@@ -1,13 +1,14 @@
 //! The value that a path reaches.
 ghost use Rattle.std.specs.Prelude.{◌≡◌, None, Some, slice_get};
 ghost use Rattle.newt_spec_graph.specs.Graph.{object};
-ghost use Rattle.newt_spec_graph.specs.Slots.{is_named, slot_number, slot_value, value_at, value_below};
+ghost use Rattle.newt_spec_graph.specs.Slots.{is_named, slot_number, slot_value, value_at};
+ghost use Rattle.newt_spec_graph.specs.Slots.{value_below};
 
 use crate::path::Path;
 use newt_graph::{Bytes, Graph, Node, Ref};
 
-/// The value that the path reaches from the root, slot by slot. None exactly where a slot on the way, the last one included, is missing, or a step is
-/// not taken from a frame. It takes no memory.
+/// The value that the path reaches from the root, slot by slot. None exactly where a slot on the
+/// way, the last one included, is missing, or a step is not taken from a frame. It takes no memory.
 pub fn value_at(graph: &Graph, path: &Path) -> Option<Ref>
     ensures { result ≡ value_at graph.now path.now }
 {
@@ -25,7 +26,8 @@ pub(crate) fn value_below(nodes: &[Node], value: Ref, names: &[Bytes]) -> Option
     Some(value)
 }
 
-/// The value of a frame's slot of this name but for ASCII case. None exactly where the value is no frame, or has no such slot. It takes no memory.
+/// The value of a frame's slot of this name but for ASCII case. None exactly where the value is no
+/// frame, or has no such slot. It takes no memory.
 pub fn slot_value(nodes: &[Node], value: Ref, name: &[u8]) -> Option<Ref>
     ensures { result ≡ slot_value nodes.now name.now (object nodes.now value) }
 {

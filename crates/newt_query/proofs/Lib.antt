@@ -3,3 +3,4 @@ pub mod TextForms
 pub mod PathForms
 pub mod Form
 pub mod Passing
+pub mod Keeping

@@ -4,3 +4,4 @@ pub mod Shape
 pub mod Form
 pub mod Ends
 pub mod Filter
+pub mod Kept

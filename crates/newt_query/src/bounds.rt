@@ -2,7 +2,8 @@
 ghost use Rattle.std.specs.Prelude.{◌≡◌, [], true, false, unwrap_or, IfOk, IsErrOf};
 ghost use Rattle.newt_spec_store.specs.Keys.{key_cmp};
 ghost use Rattle.newt_spec_query.specs.Hits.{above, below};
-ghost use Rattle.newt_spec_query.specs.Spec.{bound, key_fits, key_given, key_value, keys_fit, spec_of};
+ghost use Rattle.newt_spec_query.specs.Spec.{bound, key_fits, key_given, key_value, keys_fit};
+ghost use Rattle.newt_spec_query.specs.Spec.{spec_of};
 ghost use Rattle.newt_query.specs.Ends.{end_of};
 ghost use Rattle.newt_query.specs.declared.fault.BindFault.{BindFault};
 
@@ -52,10 +53,13 @@ pub(crate) fn range_given(
     graph: &Graph,
     spec: &Option<IndexSpec>,
 ) -> Result<(Bound<Key>, Bound<Key>), BindFault>
-    ensures lower { IfOk result (λ ends. end_of ends.0 ≡ (spec_of graph.now (unwrap_or spec.now [])).lower) }
-    ensures upper { IfOk result (λ ends. end_of ends.1 ≡ (spec_of graph.now (unwrap_or spec.now [])).upper) }
+    ensures lower { IfOk result (λ ends. end_of ends.0 ≡ (spec_of graph.now
+        (unwrap_or spec.now [])).lower) }
+    ensures upper { IfOk result (λ ends. end_of ends.1 ≡ (spec_of graph.now
+        (unwrap_or spec.now [])).upper) }
     ensures fit { IfOk result (λ _. keys_fit graph.now (unwrap_or spec.now []) ≡ true) }
-    ensures key_type { IsErrOf result BindFault.KeyType → keys_fit graph.now (unwrap_or spec.now []) ≡ false }
+    ensures key_type { IsErrOf result BindFault.KeyType
+        → keys_fit graph.now (unwrap_or spec.now []) ≡ false }
 {
     let begin = key_given(alloc, graph, spec, b"beginKey")?;
     let behind = key_given(alloc, graph, spec, b"beginExclKey")?;
@@ -84,7 +88,8 @@ fn key_given(
 ) -> Result<Option<Key>, BindFault>
     ensures ok { IfOk result (λ key. key ≡ key_given graph.now (unwrap_or spec.now []) slot.now) }
     ensures fit { IfOk result (λ _. key_fits graph.now (unwrap_or spec.now []) slot.now ≡ true) }
-    ensures key_type { IsErrOf result BindFault.KeyType → key_fits graph.now (unwrap_or spec.now []) slot.now ≡ false }
+    ensures key_type { IsErrOf result BindFault.KeyType
+        → key_fits graph.now (unwrap_or spec.now []) slot.now ≡ false }
 {
     let Some(value) = given_slot(graph.nodes(), graph.root(), slot) else {
         return Ok(None);

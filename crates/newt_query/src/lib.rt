@@ -1,12 +1,14 @@
 //! What the frame of a query asks, and which keys and entries it lets pass.
 //!
-//! It stands on `newt_path` for paths, `newt_fold` for words and texts, `newt_keys` for keys, `newt_tags` for tags, and on the definitions of queries in
-//! `newt_spec_query`. The promise that it carries: a frame is taken exactly where it has the form of a query, what is read is what the frame says,
-//! and a key and an entry pass exactly where the query keeps them.
+//! It stands on `newt_path` for paths, `newt_fold` for words and texts, `newt_keys` for keys,
+//! `newt_tags` for tags, and on the definitions of queries in `newt_spec_query`. The promise that
+//! it carries: a frame is taken exactly where it has the form of a query, what is read is what the
+//! frame says, and a key and an entry pass exactly where the query keeps them.
 #![tactic(auto)]
 
 mod bounds;
 mod fault;
+mod kept;
 mod laws;
 mod paths;
 mod shape;
@@ -14,6 +16,7 @@ mod spec;
 mod text;
 
 pub use fault::{BindFault, ShapeFault};
+pub use kept::{is_kept, is_kept_unread, kept_key};
 pub use laws::what_is_at_hand_decides;
 pub use newt_path::Paths;
 pub use shape::Shape;

@@ -1,10 +1,12 @@
 //! The paths of the index that a query asks for.
-ghost use Rattle.std.specs.Prelude.{◌≡◌, ◌<◌, ◌≤◌, IfOk, IfSome, length, map, codes, option_map, option_and_then};
+ghost use Rattle.std.specs.Prelude.{◌≡◌, ◌<◌, ◌≤◌, IfOk, IfSome, length, map, codes, option_map};
+ghost use Rattle.std.specs.Prelude.{option_and_then};
 ghost use Rattle.newt_base.specs.Names.{same_name};
 ghost use Rattle.newt_graph.specs.declared.node.Ref.TheVariants.{Node as At};
 ghost use Rattle.newt_spec_graph.specs.Graph.{every};
 ghost use Rattle.newt_spec_query.specs.Tags.{symbol_name, if_given};
-ghost use Rattle.newt_spec_query.specs.Spec.{index_paths, keep, path_of, path_values, plain_values, within};
+ghost use Rattle.newt_spec_query.specs.Spec.{index_paths, keep, path_of, path_values, plain_values};
+ghost use Rattle.newt_spec_query.specs.Spec.{within};
 
 use newt_graph::{Graph, Node, Ref};
 use newt_path::{Path, Paths};
@@ -37,7 +39,8 @@ pub(crate) fn index_paths(
 
 /// The values of an array without class, where they are 1 to 4.
 fn few_values(nodes: &[Node], value: Ref) -> Option<&[Ref]>
-    ensures { option_map (λ values. values.now) result ≡ option_and_then (keep (within 4)) (plain_values nodes.now value) }
+    ensures { option_map (λ values. values.now) result
+        ≡ option_and_then (keep (within 4)) (plain_values nodes.now value) }
 {
     let Ref::Node(n) = value else {
         return None;

@@ -1,6 +1,8 @@
 //! How the frame of a query is read.
 ghost use Rattle.std.specs.Prelude.{◌≡◌, true, false, is_some, codes, option_map, IfOk, IsErrOf};
-ghost use Rattle.newt_spec_query.specs.Spec.{bound_is, given, has_slot, index_paths, is_query, is_tag_spec, is_text_list, is_true, query_paths, slot_is, tag_spec, texts_given};
+ghost use Rattle.newt_spec_query.specs.Spec.{bound_is, given, has_slot, index_paths, is_query};
+ghost use Rattle.newt_spec_query.specs.Spec.{is_tag_spec, is_text_list, is_true, query_paths};
+ghost use Rattle.newt_spec_query.specs.Spec.{slot_is, tag_spec, texts_given};
 ghost use Rattle.newt_query.specs.Shape.{shape_of};
 ghost use Rattle.newt_query.specs.Form.{is_framed};
 ghost use Rattle.newt_query.specs.declared.fault.ShapeFault.{ShapeFault};
@@ -27,7 +29,8 @@ const SLOTS: [&str; 9] = [
     "entireWords",
 ];
 
-/// What the frame of a query says but for its keys, which are read once the types of its index are known.
+/// What the frame of a query says but for its keys, which are read once the types of its index are
+/// known.
 #[derive(Drop)]
 pub struct Shape {
     paths: Option<Paths>,
@@ -46,7 +49,8 @@ impl Model for Shape {
 }
 
 impl Shape {
-    /// Reads a frame. A slot whose value is nil counts as missing. Spec exactly where the graph has not the form of a query.
+    /// Reads a frame. A slot whose value is nil counts as missing. Spec exactly where the graph has
+    /// not the form of a query.
     pub fn read(alloc: Global, graph: &Graph) -> Result<Shape, ShapeFault>
         ensures ok { IfOk result (λ shape. shape ≡ shape_of graph.now) }
         ensures form { IfOk result (λ _. is_query graph.now ≡ true) }
@@ -69,7 +73,8 @@ impl Shape {
         })
     }
 
-    /// The paths of the index that the query asks for. None exactly where it asks for no index. It takes no memory.
+    /// The paths of the index that the query asks for. None exactly where it asks for no index. It
+    /// takes no memory.
     pub fn paths(&self) -> Option<&[Path]>
         ensures { option_map (λ paths. paths.now) result ≡ self.now.paths }
     {
@@ -81,13 +86,15 @@ impl Shape {
 
     /// The tags, words, texts and the mark for entire words.
     pub(crate) fn into_parts(self) -> (TagSpec, Texts, Texts, bool)
-        ensures { (result.0 ≡ self.tags) × (result.1 ≡ self.words) × (result.2 ≡ self.texts) × (result.3 ≡ self.entire) }
+        ensures { (result.0 ≡ self.tags) × (result.1 ≡ self.words) × (result.2 ≡ self.texts)
+            × (result.3 ≡ self.entire) }
     {
         (self.tags, self.words, self.texts, self.entire)
     }
 }
 
-/// Whether the graph is a frame that has only slots of a query, whose keys stand beside an index path and whose mark for entire words is true.
+/// Whether the graph is a frame that has only slots of a query, whose keys stand beside an index
+/// path and whose mark for entire words is true.
 fn is_framed(graph: &Graph) -> bool
     ensures { result ≡ is_framed graph.now }
 {
@@ -125,8 +132,11 @@ fn is_true_if_given(graph: &Graph, slot: &[u8]) -> bool
 
 fn query_paths(alloc: Global, graph: &Graph) -> Result<Option<Paths>, ShapeFault>
     ensures ok { IfOk result (λ paths. paths ≡ query_paths graph.now) }
-    ensures form { IfOk result (λ _. slot_is graph.now (codes "indexPath") (λ r. is_some (index_paths graph.now.nodes r)) ≡ true) }
-    ensures spec { IsErrOf result ShapeFault.Spec → slot_is graph.now (codes "indexPath") (λ r. is_some (index_paths graph.now.nodes r)) ≡ false }
+    ensures form { IfOk result (λ _. slot_is graph.now (codes "indexPath")
+        (λ r. is_some (index_paths graph.now.nodes r)) ≡ true) }
+    ensures spec { IsErrOf result ShapeFault.Spec
+        → slot_is graph.now (codes "indexPath") (λ r. is_some (index_paths graph.now.nodes r))
+        ≡ false }
 {
     let Some(value) = given_slot(graph.nodes(), graph.root(), b"indexPath") else {
         return Ok(None);
@@ -138,9 +148,12 @@ fn query_paths(alloc: Global, graph: &Graph) -> Result<Option<Paths>, ShapeFault
 }
 
 fn tag_spec(alloc: Global, graph: &Graph) -> Result<TagSpec, ShapeFault>
-    ensures ok { IfOk result (λ tags. tags ≡ tag_spec graph.now.nodes (given graph.now.nodes graph.now.root (codes "tagSpec"))) }
-    ensures form { IfOk result (λ _. slot_is graph.now (codes "tagSpec") (is_tag_spec graph.now.nodes) ≡ true) }
-    ensures spec { IsErrOf result ShapeFault.Spec → slot_is graph.now (codes "tagSpec") (is_tag_spec graph.now.nodes) ≡ false }
+    ensures ok { IfOk result (λ tags. tags ≡ tag_spec graph.now.nodes
+        (given graph.now.nodes graph.now.root (codes "tagSpec"))) }
+    ensures form { IfOk result (λ _. slot_is graph.now (codes "tagSpec")
+        (is_tag_spec graph.now.nodes) ≡ true) }
+    ensures spec { IsErrOf result ShapeFault.Spec
+        → slot_is graph.now (codes "tagSpec") (is_tag_spec graph.now.nodes) ≡ false }
 {
     let Some(value) = given_slot(graph.nodes(), graph.root(), b"tagSpec") else {
         return Ok(TagSpec::empty());
@@ -156,7 +169,8 @@ fn tag_spec(alloc: Global, graph: &Graph) -> Result<TagSpec, ShapeFault>
 fn texts_given(alloc: Global, graph: &Graph, slot: &[u8]) -> Result<Texts, ShapeFault>
     ensures ok { IfOk result (λ texts. texts ≡ texts_given graph.now slot.now) }
     ensures form { IfOk result (λ _. slot_is graph.now slot.now (is_text_list graph.now) ≡ true) }
-    ensures spec { IsErrOf result ShapeFault.Spec → slot_is graph.now slot.now (is_text_list graph.now) ≡ false }
+    ensures spec { IsErrOf result ShapeFault.Spec
+        → slot_is graph.now slot.now (is_text_list graph.now) ≡ false }
 {
     let Some(value) = given_slot(graph.nodes(), graph.root(), slot) else {
         return Ok(Texts::empty(alloc));

@@ -1,5 +1,6 @@
 //! What a query asks once its index is known.
-ghost use Rattle.std.specs.Prelude.{◌≡◌, ◌&&◌, [], true, false, option_map, unwrap_or, IfOk, IsErrOf, IsSome};
+ghost use Rattle.std.specs.Prelude.{◌≡◌, ◌&&◌, [], true, false, option_map, unwrap_or, IfOk};
+ghost use Rattle.std.specs.Prelude.{IsErrOf, IsSome};
 ghost use Rattle.newt_spec_query.specs.Hits.{text_passes};
 ghost use Rattle.newt_spec_query.specs.Tags.{tags_pass};
 ghost use Rattle.newt_tags.specs.Masks.{tags_by};
@@ -42,8 +43,9 @@ impl Model for Spec {
 }
 
 impl Shape {
-    /// Binds the query to an index of its paths, or to none where it asks for none. The graph is the one that was read. KeyType exactly where a key that
-    /// it gives is not of the index's types.
+    /// Binds the query to an index of its paths, or to none where it asks for none. The graph is
+    /// the one that was read. KeyType exactly where a key that it gives is not of the index's
+    /// types.
     pub fn bind(
         self,
         alloc: Global,
@@ -53,7 +55,8 @@ impl Shape {
         requires { self ≡ shape_of graph.now }
         ensures ok { IfOk result (λ bound. bound ≡ spec_of graph.now (unwrap_or spec [])) }
         ensures fit { IfOk result (λ _. keys_fit graph.now (unwrap_or spec []) ≡ true) }
-        ensures key_type { IsErrOf result BindFault.KeyType → keys_fit graph.now (unwrap_or spec []) ≡ false }
+        ensures key_type { IsErrOf result BindFault.KeyType
+            → keys_fit graph.now (unwrap_or spec []) ≡ false }
     {
         let (lower, upper) = range_given(alloc, graph, &spec)?;
         let (tags, words, texts, entire) = self.into_parts();
@@ -84,14 +87,16 @@ impl Spec {
         is_above(&self.index, &self.lower, key) && is_below(&self.index, &self.upper, key)
     }
 
-    /// Whether words or texts are asked for, so that an entry's graph is needed. It takes no memory.
+    /// Whether words or texts are asked for, so that an entry's graph is needed. It takes no
+    /// memory.
     pub fn needs_graph(&self) -> bool
         ensures { result ≡ asks_texts self.now }
     {
         !self.words.list().is_empty() || !self.texts.list().is_empty()
     }
 
-    /// Whether an entry passes: by its key, its mask by the soup's tags declaration and, where words or texts are asked for, its graph.
+    /// Whether an entry passes: by its key, its mask by the soup's tags declaration and, where
+    /// words or texts are asked for, its graph.
     pub fn passes(
         &self,
         alloc: Global,
@@ -101,7 +106,8 @@ impl Spec {
         graph: Option<&Graph>,
     ) -> Result<bool, AllocError>
         requires { asks_texts self.now ≡ true → IsSome graph }
-        ensures { IfOk result (λ passed. passed ≡ passes_by self.now key.now (option_map (λ t. t.now) table.entry) mask (option_map (λ g. g.now) graph.entry)) }
+        ensures { IfOk result (λ passed. passed ≡ passes_by self.now key.now
+            (option_map (λ t. t.now) table.entry) mask (option_map (λ g. g.now) graph.entry)) }
     {
         if !self.takes(key, table, mask) {
             return Ok(false);
@@ -114,7 +120,8 @@ impl Spec {
 
     /// Whether the key is in the range and the tags pass.
     fn takes(&self, key: &Key, table: Option<&TagTable>, mask: u64) -> bool
-        ensures { result ≡ (in_range self.now key.now && tags_pass self.now.tags (tags_by (option_map (λ t. t.now) table.entry) mask)) }
+        ensures { result ≡ (in_range self.now key.now && tags_pass self.now.tags
+            (tags_by (option_map (λ t. t.now) table.entry) mask)) }
     {
         self.in_range(key) && self.tags.passes(table, mask)
     }

@@ -75,14 +75,16 @@ impl Texts {
     }
 }
 
-/// The text of a value that is a string and not empty, or the texts of an array of such. None exactly where the value is neither.
+/// The text of a value that is a string and not empty, or the texts of an array of such. None
+/// exactly where the value is neither.
 #[tactic(auto, using(crate::proofs::Given::one_first, crate::proofs::Given::none_first))]
 pub(crate) fn texts_of(
     alloc: Global,
     nodes: &[Node],
     value: Ref,
 ) -> Result<Option<Texts>, AllocError>
-    ensures { IfOk result (λ texts. texts ≡ option_map (map folded) (one_or_more nodes.now (string_units nodes.now) value)) }
+    ensures { IfOk result (λ texts. texts ≡ option_map (map folded)
+        (one_or_more nodes.now (string_units nodes.now) value)) }
 {
     if let Some(text) = text_of(alloc, nodes, value)? {
         return Ok(Some(Texts {
@@ -124,7 +126,8 @@ fn units_of(nodes: &[Node], value: Ref) -> Option<&[u16]>
 
 /// The texts of values that all are strings and not empty.
 fn every_text(alloc: Global, nodes: &[Node], values: &[Ref]) -> Result<Option<Texts>, AllocError>
-    ensures { IfOk result (λ texts. texts ≡ every (map (λ value. option_map folded (string_units nodes.now value)) values.now)) }
+    ensures { IfOk result (λ texts. texts ≡ every (map (λ value. option_map folded
+        (string_units nodes.now value)) values.now)) }
 {
     let mut items = Vec::new(alloc);
     for value in values {
@@ -161,7 +164,8 @@ fn push_string(items: &mut Vec<Text>, alloc: Global, node: &Node) -> Result<(), 
 
 /// Whether each word begins in at least one of the strings or, where they are entire, is there.
 pub(crate) fn has_words(strings: &[Text], words: &[Text], entire: bool) -> bool
-    ensures { result ≡ list_all (λ word. list_any (λ text. spec.has_word text word entire) strings.now) words.now }
+    ensures { result ≡ list_all (λ word. list_any (λ text. spec.has_word text word entire)
+        strings.now) words.now }
 {
     words.iter().all(|word| any_has_word(strings, word, entire))
 }
@@ -176,7 +180,8 @@ fn any_has_word(strings: &[Text], word: &Text, entire: bool) -> bool
 
 /// Whether each part stands in at least one of the strings.
 pub(crate) fn has_parts(strings: &[Text], parts: &[Text]) -> bool
-    ensures { result ≡ list_all (λ part. list_any (λ text. spec.has_text text part) strings.now) parts.now }
+    ensures { result ≡ list_all (λ part. list_any (λ text. spec.has_text text part) strings.now)
+        parts.now }
 {
     parts.iter().all(|part| any_has_part(strings, part))
 }

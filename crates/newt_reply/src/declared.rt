@@ -1,4 +1,5 @@
-//! Declarations of indexes and tags in replies: paths and symbols as they were spelt when they were declared.
+//! Declarations of indexes and tags in replies: paths and symbols as they were spelt when they were
+//! declared.
 ghost use Rattle.std.specs.Prelude.{◌≡◌, ◌∷◌, ◌++◌, IfOk, OnOk, flat_map};
 ghost use Rattle.newt_keys.specs.Seen.{declared, declared_all};
 ghost use Rattle.newt_spec_world.specs.Reply as spec;
@@ -34,7 +35,8 @@ fn direction_word(order: Order) -> &'static [u8]
 
 /// Names behind a first one, each behind a point.
 fn push_names(text: &mut Vec<u8>, names: &[Bytes]) -> Result<(), AllocError>
-    ensures { OnOk result (text.new.items ≡ text.old.items ++ flat_map (λ name. 46 ∷ name) names.now) }
+    ensures { OnOk result (text.new.items ≡ text.old.items ++ flat_map (λ name. 46 ∷ name)
+        names.now) }
 {
     for name in names {
         text.push(b'.')?;
@@ -70,7 +72,8 @@ fn part_text(alloc: Global, part: &IndexPart) -> Result<Vec<u8>, AllocError>
 
 /// Parts behind a first one, each behind a space.
 fn push_parts(alloc: Global, text: &mut Vec<u8>, parts: &[IndexPart]) -> Result<(), AllocError>
-    ensures { OnOk result (text.new.items ≡ text.old.items ++ flat_map (λ part. 32 ∷ part_item (declared part)) parts.now) }
+    ensures { OnOk result (text.new.items ≡ text.old.items ++ flat_map
+        (λ part. 32 ∷ part_item (declared part)) parts.now) }
 {
     for part in parts {
         text.push(b' ')?;

@@ -11,7 +11,8 @@ use std::alloc::{AllocError, Global};
 
 /// An item behind a comma and a space, unless it is the first.
 fn push_item(text: &mut Vec<u8>, first: bool, item: &[u8]) -> Result<(), AllocError>
-    ensures { OnOk result (text.new.items ≡ (if first then text.old.items ++ item.now else text.old.items ++ codes ", " ++ item.now)) }
+    ensures { OnOk result (text.new.items ≡ (if first then text.old.items ++ item.now else
+        text.old.items ++ codes ", " ++ item.now)) }
 {
     if !first {
         text.extend_from_slice(b", ")?;
@@ -65,7 +66,8 @@ fn push_store(
     first: bool,
     line: &StoreLine,
 ) -> Result<(), AllocError>
-    ensures { OnOk result (text.new.items ≡ (if first then text.old.items ++ store_item line.now else text.old.items ++ codes ", " ++ store_item line.now)) }
+    ensures { OnOk result (text.new.items ≡ (if first then text.old.items ++ store_item line.now
+        else text.old.items ++ codes ", " ++ store_item line.now)) }
 {
     push_item(text, first, &store_text(alloc, line)?)
 }
@@ -77,7 +79,8 @@ fn push_soup(
     first: bool,
     line: &SoupLine,
 ) -> Result<(), AllocError>
-    ensures { OnOk result (text.new.items ≡ (if first then text.old.items ++ soup_item line.now else text.old.items ++ codes ", " ++ soup_item line.now)) }
+    ensures { OnOk result (text.new.items ≡ (if first then text.old.items ++ soup_item line.now else
+        text.old.items ++ codes ", " ++ soup_item line.now)) }
 {
     push_item(text, first, &soup_text(alloc, line)?)
 }
@@ -89,7 +92,8 @@ fn push_spec(
     first: bool,
     spec: &IndexSpec,
 ) -> Result<(), AllocError>
-    ensures { OnOk result (text.new.items ≡ (if first then text.old.items ++ spec_item spec.now else text.old.items ++ codes ", " ++ spec_item spec.now)) }
+    ensures { OnOk result (text.new.items ≡ (if first then text.old.items ++ spec_item spec.now else
+        text.old.items ++ codes ", " ++ spec_item spec.now)) }
 {
     push_item(text, first, &spec_text(alloc, spec)?)
 }

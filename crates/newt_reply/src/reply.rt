@@ -5,7 +5,8 @@ use newt_base::{Name, Refusal, Sig, Uid};
 use newt_graph::{Bytes, Graph};
 use newt_host::Unit;
 
-/// What names an entry for as long as it is there: the signatures of its store and soup, and its id.
+/// What names an entry for as long as it is there: the signatures of its store and soup, and its
+/// id.
 #[derive(Clone, Copy, PartialEq, Eq, Debug)]
 pub struct Alias {
     pub store: Sig,

@@ -5,3 +5,4 @@ pub mod Spoken
 pub mod ListedRows
 pub mod CursorRows
 pub mod LargeRows
+pub mod Forms

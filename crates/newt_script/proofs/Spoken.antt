@@ -42,7 +42,7 @@ says_verb line v r short word read =
     read ∙ sym (spoken_by line false (le-ltb 140_000 (length line) short)
     ∙ (row_of_word (first_word line).0 (first_word line).1 ∙ ap (λ w. row_reading w (first_word line).1) word))
 
--- ---- want of memory
+-- ---- out of memory
 
 -- is never what a row reads
 pub never_memory : (word rest : List ℕ) → row_reading word rest ≢ Err Memory

@@ -24,7 +24,7 @@ abbrev pub if_read : Result RawGraph LitFault → Option RawGraph
 if_read (Ok graph) = Some graph
 if_read (Err fault) = None
 
--- the graph of a stream, or its refusal; want of memory is never among the answers
+-- the graph of a stream, or its refusal; out of memory is never among the answers
 abbrev pub or_refused : Result RawGraph NsofFault → Result RawGraph Refusal
 or_refused (Ok graph) = Ok graph
 or_refused (Err nsof_faults.Malformed) = Err refusals.Malformed

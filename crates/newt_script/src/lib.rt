@@ -13,6 +13,7 @@ mod entry_rows;
 mod fault;
 mod graphs;
 mod large_rows;
+mod laws;
 mod lines;
 mod store_rows;
 mod table;
@@ -20,6 +21,7 @@ mod verbs;
 
 pub use fault::LineFault;
 pub use graphs::literal;
+pub use laws::commands_have_their_forms;
 pub use lines::line;
 pub use newt_script_words::LONGEST;
 pub use newt_spec_world::Command;

@@ -1,5 +1,6 @@
 //! The text of the script.
-ghost use Rattle.std.specs.Prelude.{◌≡◌, ◌==◌, ◌%◌, ◌++◌, IfOk, OnOk, flat_map, replicate, codes, if◌then◌else◌};
+ghost use Rattle.std.specs.Prelude.{◌≡◌, ◌==◌, ◌%◌, ◌++◌, IfOk, OnOk, flat_map, replicate, codes};
+ghost use Rattle.std.specs.Prelude.{if◌then◌else◌};
 ghost use Rattle.std.specs.List.{enumerate_from};
 ghost use Rattle.newt_base.specs.Text.{decimal_text};
 ghost use Rattle.newt_spec_script.specs.Generator.{add_line, drawn, gen_script, line, next_state};
@@ -16,8 +17,8 @@ const QUERY: &[u8] = b"query 0 Names {indexPath: [pathExpr: 'name, 'last]}\n";
 /// One more than the largest state of the generator.
 const STATES: u64 = 1 << 31;
 
-/// The script of a seed, which adds so many names and walks over them in order of their last ones. Of the seed its low 31 bits count. The script
-/// has `2 * count + 10` lines.
+/// The script of a seed, which adds so many names and walks over them in order of their last ones.
+/// Of the seed its low 31 bits count. The script has `2 * count + 10` lines.
 pub fn gen_script(alloc: Global, seed: u32, count: u32) -> Result<Vec<u8>, AllocError>
     ensures { IfOk result (λ text. text.items ≡ gen_script seed count) }
 {
@@ -34,7 +35,8 @@ pub fn gen_script(alloc: Global, seed: u32, count: u32) -> Result<Vec<u8>, Alloc
 
 /// A line for each name, from a state of the generator.
 fn push_entries(alloc: Global, text: &mut Vec<u8>, state: u32, count: u32) -> Result<(), AllocError>
-    ensures { OnOk result (text.new.items ≡ text.old.items ++ flat_map add_line (enumerate_from 0 (drawn count state))) }
+    ensures { OnOk result (text.new.items ≡ text.old.items ++ flat_map add_line
+        (enumerate_from 0 (drawn count state))) }
 {
     let mut state = state;
     for i in 0..count {
@@ -100,7 +102,8 @@ fn push_number(alloc: Global, text: &mut Vec<u8>, number: u32) -> Result<(), All
 
 /// A line for each step to the next name.
 fn push_steps(text: &mut Vec<u8>, count: u32) -> Result<(), AllocError>
-    ensures { OnOk result (text.new.items ≡ text.old.items ++ flat_map line (replicate count (codes "next 0"))) }
+    ensures { OnOk result (text.new.items ≡ text.old.items ++ flat_map line
+        (replicate count (codes "next 0"))) }
 {
     for _ in 0..count {
         text.extend_from_slice(b"next 0\n")?;

@@ -9,7 +9,7 @@ use Rattle.newt_host_attach.proofs.Since.{since_attached}
 use Rattle.std.proofs.lemmas.Result.{on_ok_weaker}
 use Rattle.newt_host.specs.Meanings.{left_since, out_of, since}
 use Rattle.newt_host.specs.Moments.{Attached, Change, IsDurable, IsHistory, LeftBy, MayLeave, Moment, Always, here, later, bytes_after, changes, image, moment_at, output as printed}
-use Rattle.newt_host.specs.Outside.{Outside}
+use Rattle.newt_host.specs.Outside.{Outside, NoFault}
 use Rattle.newt_host.proofs.Extending.{extends-always}
 use Rattle.newt_host.proofs.Histories.{untouched-attached}
 use Rattle.newt_host.proofs.Since.{Always-at}
@@ -18,7 +18,6 @@ use Rattle.newt_spec_store.specs.OfImage.{blocks_of}
 use Rattle.newt_spec_store.specs.Store.{Store}
 use Rattle.newt_spec_world.specs.First.{media_of, unit_numbers, unit_of, world_of}
 use Rattle.newt_spec_world.specs.World.{World, Device, flat, first_world, store_of, store_on_unit}
-use Rattle.newt_script_session.specs.Causes.{NeverLess}
 use Rattle.newt_script_session.specs.Counted.{Counted, CountedAt, HasLeftCounted}
 use Rattle.newt_script_session.specs.Counts.{summary_of}
 use Rattle.newt_script_session.specs.Lines.{lines_of}
@@ -28,8 +27,9 @@ use Rattle.newt_script_session.specs.Session.{Session}
 use Rattle.newt_script_session.specs.declared.halt.Halt.{Halt}
 use Rattle.newt_script_session.specs.First.{device_now, unmounted}
 use Rattle.newt_script_session.specs.Moments.{CrashAt, HasLeft, replies_begun, world_at}
-use Rattle.newt_script_session.specs.Script.{Answers, commands_of}
+use Rattle.newt_script_session.specs.Script.{commands_of}
 use Rattle.newt_script_session.proofs.Crashing.{AtRest, at_rest, left_same}
+use Rattle.newt_script_session.proofs.Spelling.{script_items_are}
 
 -- ---- the first world
 
@@ -86,13 +86,9 @@ attached_durable unit bytes now only left may =
     let is : LeftBy (Attached bytes ∷ []) left = subst (λ (done : List Change). LeftBy done left) only may in
     is ∙ sym (ap bytes_after only)
 
--- no count has fallen while the names were attached
-pub attached_never : (told : Bool) (names : List (List ℕ)) (old new : Outside) → AreAttached told names old new → NeverLess old new
-attached_never told names old new a = record {
-  in_faults = omega (arith, a.in_faults);
-  out_faults = omega (arith, a.out_faults);
-  dev_faults = λ unit. omega (arith, a.counts.dev_faults unit);
-}
+-- no fault was counted while the names were attached
+pub attached_faultless : (told : Bool) (names : List (List ℕ)) (old new : Outside) → AreAttached told names old new → NoFault old new
+attached_faultless told names old new a = record { in_faults = a.in_faults; out_faults = a.out_faults; dev_faults = a.counts.dev_faults }
 
 -- ---- what a crash leaves
 
@@ -162,64 +158,66 @@ module _ (names : List (List ℕ)) (old mid new : Outside) (a : AreAttached true
       is ∙ ap Some (sym same)
   between reads (Some store) N Q unit bytes left held is only b = b
 
-  has_left_counted : (answer : Answers) (reads : List ℕ → Option Store) (world : World) (items : List Item) (unit : ℕ) (left shown : List ℕ)
-      → Seen (CountedAt answer reads mid.now world items (printed mid.now)) unit left shown
-      → HasLeftCounted answer reads world items (option_and_then old.devices (slice_get names unit)) (printed old.now) shown unit left
-  has_left_counted answer reads world items unit left shown s =
+  has_left_counted : (reads : List ℕ → Option Store) (world : World) (items : List Item) (unit : ℕ) (left shown : List ℕ)
+      → Seen (CountedAt reads mid.now world items (printed mid.now)) unit left shown
+      → HasLeftCounted reads world items (option_and_then old.devices (slice_get names unit)) (printed old.now) shown unit left
+  has_left_counted reads world items unit left shown s =
       let c = s.holds in
-      let next : Option Store = store_on_unit (world_at answer world items (c.done + 1)) unit in
+      let next : Option Store = store_on_unit (world_at world items (c.done + 1)) unit in
       record {
         shown = c.shown;
         grown = sym s.out_is ∙ (c.out ∙ ap (λ o. o ++ c.shown) (a.quiet refl));
         done = c.done;
         all = c.all;
-        leaves = between reads (store_on_unit (world_at answer world items c.done) unit) (next ≡ None) (reads left ≡ next) unit s.bytes left
+        leaves = between reads (store_on_unit (world_at world items c.done) unit) (next ≡ None) (reads left ≡ next) unit s.bytes left
             (option_and_then old.devices (slice_get names unit)) s.held_is s.only (c.leaves unit left s.may);
       }
 
-  has_left : (answer : Answers) (reads : List ℕ → Option Store) (world : World) (items : List Item) (unit : ℕ) (left shown : List ℕ)
-      → Seen (CrashAt answer reads mid.now world items (printed mid.now)) unit left shown
-      → HasLeft answer reads world items (option_and_then old.devices (slice_get names unit)) (printed old.now) shown unit left
-  has_left answer reads world items unit left shown s =
+  has_left : (reads : List ℕ → Option Store) (world : World) (items : List Item) (unit : ℕ) (left shown : List ℕ)
+      → Seen (CrashAt reads mid.now world items (printed mid.now)) unit left shown
+      → HasLeft reads world items (option_and_then old.devices (slice_get names unit)) (printed old.now) shown unit left
+  has_left reads world items unit left shown s =
       let c = s.holds in
-      let m = replies_begun answer world items (length c.shown) in
-      let next : Option Store = store_on_unit (world_at answer world items (m + 1)) unit in
+      let m = replies_begun world items (length c.shown) in
+      let next : Option Store = store_on_unit (world_at world items (m + 1)) unit in
       record {
         shown = c.shown;
         grown = sym s.out_is ∙ (c.out ∙ ap (λ o. o ++ c.shown) (a.quiet refl));
-        leaves = between reads (store_on_unit (world_at answer world items m) unit) (next ≡ None) (reads left ≡ next) unit s.bytes left
+        leaves = between reads (store_on_unit (world_at world items m) unit) (next ≡ None) (reads left ≡ next) unit s.bytes left
             (option_and_then old.devices (slice_get names unit)) s.held_is s.only (c.leaves unit left s.may);
       }
 
-  module _ (answer : Answers) (reads : List ℕ → Option Store) (cards : (unit : ℕ) → new.card unit ≡ mid.card unit) (fresh : (unit : ℕ) → changes unit old.now ≡ [])
+  module _ (reads : List ℕ → Option Store) (cards : (unit : ℕ) → new.card unit ≡ mid.card unit) (fresh : (unit : ℕ) → changes unit old.now ≡ [])
       (unknown : (unit : ℕ) → new.card unit ≡ None → changes unit new.now ≡ [])
       (history : (unit : ℕ) → IsSome (new.card unit) → IsHistory (new.blocks unit * 4096) (changes unit new.now)) where
     -- so it is said of a script from before the names were attached
-    pub named_ran : {T : Type 0} (limit : ℕ) (result : Result T Halt) → Session answer reads limit result (first reads names old) mid new → RanNamed answer reads limit result names old new
+    pub named_ran : {T : Type 0} (limit : ℕ) (result : Result T Halt) → Session reads limit result (first reads names old) mid new → RanNamed reads limit result names old new
     named_ran limit result s =
         let w = first reads names old in
-        let Q : List ℕ → Type 0 = λ i. IfErr result (λ halt. Halted answer limit halt w i new.input (out_of mid) (out_of new)) in
-        let R : List ℕ → Type 0 = λ o. IfErr result (λ halt. Halted answer limit halt w old.input new.input o (out_of new)) in
-        let C : List ℕ → Type 0 = λ i. Always (CrashAt answer reads mid.now w (commands_of (lines_of i)) (printed mid.now)) mid.now new.now in
+        let Q : List ℕ → Type 0 = λ i. IfErr result (λ halt. Halted limit halt w i new.input (out_of mid) (out_of new)) in
+        let R : List ℕ → Type 0 = λ o. IfErr result (λ halt. Halted limit halt w old.input new.input o (out_of new)) in
+        let C : List ℕ → Type 0 = λ i. Always (CrashAt reads mid.now w (commands_of (lines_of i)) (printed mid.now)) mid.now new.now in
         let items = commands_of (lines_of old.input) in
         record {
-          out = on_ok_weaker result (λ put. put ∙ (ap (λ o. o ++ output answer w mid.input) (a.quiet refl) ∙ ap (λ i. out_of old ++ output answer w i) a.input)) s.out;
+          out = on_ok_weaker result (λ put. put ∙ (ap (λ o. o ++ output w mid.input) (a.quiet refl) ∙ ap (λ i. out_of old ++ output w i) a.input)) s.out;
           read = subst (λ (i : List ℕ). OnOk result (IsReadThrough limit i new.input)) a.input s.read;
           halted = subst R (a.quiet refl) (subst Q a.input s.halted);
-          crash = λ unit t left shown at might. has_left answer reads w items unit left shown
-              (seen_named (CrashAt answer reads mid.now w items (printed mid.now)) (subst C a.input s.crash) cards fresh unknown history unit t left shown at might);
+          crash = λ unit t left shown at might.
+              subst (λ (is : List Item). HasLeft reads w is (option_and_then old.devices (slice_get names unit)) (printed old.now) shown unit left) (script_items_are old.input) (has_left reads w items unit left shown
+              (seen_named (CrashAt reads mid.now w items (printed mid.now)) (subst C a.input s.crash) cards fresh unknown history unit t left shown at might));
         }
 
-    pub named_counted : {T : Type 0} (script : List ℕ) (result : Result T Halt) → Counted answer reads script result (first reads names old) mid new → CountedNamed answer reads script result names old new
+    pub named_counted : {T : Type 0} (script : List ℕ) (result : Result T Halt) → Counted reads script result (first reads names old) mid new → CountedNamed reads script result names old new
     named_counted script result s =
         let w = first reads names old in
-        let R : List ℕ → Type 0 = λ o. IfErr result (λ halt. HaltedReply halt (summary_of answer w script) o (out_of new)) in
+        let R : List ℕ → Type 0 = λ o. IfErr result (λ halt. HaltedReply halt (summary_of w script) o (out_of new)) in
         let items = commands_of (lines_of script) in
         record {
-          out = on_ok_weaker result (λ put. put ∙ ap (λ o. o ++ summary_of answer w script) (a.quiet refl)) s.out;
+          out = on_ok_weaker result (λ put. put ∙ ap (λ o. o ++ summary_of w script) (a.quiet refl)) s.out;
           halted = subst R (a.quiet refl) s.halted;
-          crash = λ unit t left shown at might. has_left_counted answer reads w items unit left shown
-              (seen_named (CountedAt answer reads mid.now w items (printed mid.now)) s.crash cards fresh unknown history unit t left shown at might);
+          crash = λ unit t left shown at might.
+              subst (λ (is : List Item). HasLeftCounted reads w is (option_and_then old.devices (slice_get names unit)) (printed old.now) shown unit left) (script_items_are script) (has_left_counted reads w items unit left shown
+              (seen_named (CountedAt reads mid.now w items (printed mid.now)) s.crash cards fresh unknown history unit t left shown at might));
         }
 
 -- ---- where nothing has been done yet

@@ -1,11 +1,12 @@
 -- A script that comes piece by piece, and is answered so far.
-use Rattle.std.proofs.Common.{◌≡◌, inl, inr, ℕ, true, false, Option, Result, Ok, Err, OnOk, IfErr, ◌+◌, ◌-◌, ◌<◌, ◌≤◌, List, [], ◌++◌, length, take, refl, sym, ◌∙◌, ap, subst, append_assoc, arith}
+use Rattle.std.proofs.Common.{◌≡◌, inl, inr, ℕ, true, false, Option, Result, Ok, Err, OnOk, IfErr, ◌+◌, ◌-◌, ◌<◌, ◌≤◌, List, [], ◌∷◌, ◌++◌, length, take, refl, sym, ◌∙◌, ap, subst, append_assoc, arith}
 use Rattle.std.proofs.lemmas.List.{append-nil, take_at, length-append}
 use Rattle.std.proofs.lemmas.Result.{on_ok_weaker}
 use Rattle.std.proofs.Math.Seq.{take-append-add}
 use Rattle.newt_host.specs.Meanings.{out_of}
-use Rattle.newt_host.specs.Moments.{Moment, Always, here, output as printed}
+use Rattle.newt_host.specs.Moments.{Moment, Always, here, later as later_moment, Took, output as printed}
 use Rattle.newt_host.specs.Outside.{Outside}
+use Rattle.newt_host.proofs.Moments.{Always-last}
 use Rattle.newt_spec_script.specs.Script.{Item}
 use Rattle.newt_spec_store.specs.Store.{Store}
 use Rattle.newt_spec_world.specs.World.{World}
@@ -13,7 +14,7 @@ use Rattle.newt_script_session.specs.Answered.{Answered, Ran}
 use Rattle.newt_script_session.specs.Stream.{WroteSome}
 use Rattle.newt_script_session.specs.Lines.{ended_lines, unended, last_line, lines_of}
 use Rattle.newt_script_session.specs.Moments.{SafeAt, Untouched}
-use Rattle.newt_script_session.specs.Script.{Answers, has_quit, commands_of, output_of, texts}
+use Rattle.newt_script_session.specs.Script.{has_quit, commands_of, output_of}
 use Rattle.newt_script_session.specs.Session.{Session}
 use Rattle.newt_script_session.specs.Run.{output_of_ended, quits, IsTooLong, IsReadThrough, AnsweredTaken, Halted, HaltedIn}
 use Rattle.newt_script_session.specs.declared.halt.Halt.{Halt}
@@ -22,7 +23,9 @@ use Rattle.newt_script_session.proofs.Crashing.{AtRest, crash_always, safe_here}
 use Rattle.newt_script_session.proofs.Cutting.{cut_append, left_append}
 use Rattle.newt_script_session.proofs.Feeding.{lines_from}
 use Rattle.newt_script_session.proofs.Progress.{Progress, answered_both, answered_none, progress_part}
+use Rattle.newt_script_session.proofs.Spelling.{whole_output}
 use Rattle.newt_script_session.proofs.Replying.{commands_go, commands_none, commands_some, commands_stop, cut_lines, quit_go, quit_none, quit_stop}
+use Rattle.newt_spec_script.specs.Runs.{texts}
 
 lines_append : (begun p r : List ℕ) → lines_from begun (p ++ r) ≡ ended_lines begun p ++ lines_from (unended begun p) r
 lines_append begun p r =
@@ -64,40 +67,60 @@ quits_later taken rest limit stop size =
     ∙ (ap has_quit (cut_append [] taken (take n rest)) ∙ quit_stop (ended_lines [] taken) (ended_lines (unended [] taken) (take n rest)) stop))
 
 -- the output of lines is that of their commands
-output_commands : (answer : Answers) (world : World) (lines : List (List ℕ)) → output_of answer world lines ≡ texts answer world (commands_of lines)
+output_commands : (world : World) (lines : List (List ℕ)) → output_of world lines ≡ texts world (commands_of lines)
 unfolding output_of
-output_commands answer world lines = refl
+output_commands world lines = refl
 
 -- So far these bytes were taken, all lines that ended in them were answered, and none quits.
-pub record Going (answer : Answers) (reads : List ℕ → Option Store) (world : World) (script taken left : List ℕ) (later : World) (line : List ℕ) (had has : List (List ℕ) → Type 0) (old now : Moment) : Type 0 where
+pub record Going (reads : List ℕ → Option Store) (world : World) (script taken left : List ℕ) (later : World) (line : List ℕ) (had has : List (List ℕ) → Type 0) (old now : Moment) : Type 0 where
   pub whole : script ≡ taken ++ left
   pub line_is : line ≡ unended [] taken
   pub go : quits taken ≡ false
-  pub answered : Answered true answer world later (commands_of (ended_lines [] taken)) had has old now
-  pub moments : (start : Moment) → Untouched start world old → Always (SafeAt true answer reads start world (commands_of (lines_of script)) (printed old)) old now
+  pub answered : Answered true world later (commands_of (ended_lines [] taken)) had has old now
+  pub moments : (start : Moment) → Untouched start world old → Always (SafeAt true reads start world (commands_of (lines_of script)) (printed old)) old now
 
-module _ (answer : Answers) (reads : List ℕ → Option Store) where
+module _ (reads : List ℕ → Option Store) where
   -- nothing was taken yet
-  pub going_start : (world : World) (script line : List ℕ) (has : List (List ℕ) → Type 0) (now : Moment) → AtRest reads world now → line ≡ [] → Going answer reads world script [] script world line has has now now
+  pub going_start : (world : World) (script line : List ℕ) (has : List (List ℕ) → Type 0) (now : Moment) → AtRest reads world now → line ≡ [] → Going reads world script [] script world line has has now now
   unfolding ended_lines unended
   going_start world script line has now its empty = record {
     whole = refl;
     line_is = empty;
     go = quit_none;
-    answered = subst (λ (is : List Item). Answered true answer world world is has has now now) (sym commands_none) (answered_none true answer world has now);
-    moments = λ start u. here (safe_here true answer reads start world (commands_of (lines_of script)) now (its start u));
+    answered = subst (λ (is : List Item). Answered true world world is has has now now) (sym commands_none) (answered_none true world has now);
+    moments = λ start u. here (safe_here true reads start world (commands_of (lines_of script)) now (its start u));
   }
 
   -- the same moment, and the same world under another name
   pub going_moved : (world : World) (script taken left : List ℕ) (later same : World) (line : List ℕ) (had has : List (List ℕ) → Type 0) (old then now : Moment) → now ≡ then → same ≡ later
-      → Going answer reads world script taken left later line had has old then → Going answer reads world script taken left same line had has old now
+      → Going reads world script taken left later line had has old then → Going reads world script taken left same line had has old now
   going_moved world script taken left later same line had has old then now e f g =
-      subst (λ (v : World). Going answer reads world script taken left v line had has old now) (sym f)
-      (subst (λ (m : Moment). Going answer reads world script taken left later line had has old m) (sym e) g)
+      subst (λ (v : World). Going reads world script taken left v line had has old now) (sym f)
+      (subst (λ (m : Moment). Going reads world script taken left later line had has old m) (sym e) g)
 
-  module _ (world : World) (script taken left : List ℕ) (later : World) (line : List ℕ) (had has : List (List ℕ) → Type 0) (old then : Moment) (g : Going answer reads world script taken left later line had has old then) where
+  safe_took : (start : Moment) (world : World) (items : List Item) (old : List ℕ) (bytes : List ℕ) (then : Moment) → SafeAt true reads start world items old then
+      → SafeAt true reads start world items old (Took bytes ∷ then)
+  safe_took start world items old bytes then s = record { shown = s.shown; out = s.out; safe = s.safe }
+
+  -- bytes were read
+  pub going_took : (world : World) (script taken left : List ℕ) (next same : World) (line : List ℕ) (had has : List (List ℕ) → Type 0) (old then : Moment) (bytes : List ℕ) (now : Moment)
+      → now ≡ Took bytes ∷ then → same ≡ next
+      → Going reads world script taken left next line had has old then → Going reads world script taken left same line had has old now
+  going_took world script taken left next same line had has old then bytes now e f g =
+      let a = g.answered in
+      subst (λ (v : World). Going reads world script taken left v line had has old now) (sym f)
+      (subst (λ (m : Moment). Going reads world script taken left next line had has old m) (sym e) (record {
+        whole = g.whole;
+        line_is = g.line_is;
+        go = g.go;
+        answered = record { world_is = a.world_is; put = a.put; took = a.took; untouched = a.untouched };
+        moments = λ start u. let so_far = g.moments start u in
+            later_moment (Took bytes) then so_far (safe_took start world (commands_of (lines_of script)) (printed old) bytes then (Always-last so_far));
+      }))
+
+  module _ (world : World) (script taken left : List ℕ) (later : World) (line : List ℕ) (had has : List (List ℕ) → Type 0) (old then : Moment) (g : Going reads world script taken left later line had has old then) where
     -- the commands of what is left are still to be answered
-    pub going_progress : Progress true answer reads world (commands_of (lines_of script)) later (commands_of (lines_from line left)) had has old then
+    pub going_progress : Progress true reads world (commands_of (lines_of script)) later (commands_of (lines_from line left)) had has old then
     going_progress = record {
       done = commands_of (ended_lines [] taken);
       split = ap commands_of (ap lines_of g.whole ∙ (lines_append [] taken left ∙ ap (λ l. ended_lines [] taken ++ lines_from l left) (sym g.line_is)))
@@ -107,14 +130,14 @@ module _ (answer : Answers) (reads : List ℕ → Option Store) where
     }
 
     -- what was put out is the output of the lines that ended
-    out_taken : printed then ≡ printed old ++ output_of_ended answer world taken
-    out_taken = g.answered.put ∙ ap (λ t. printed old ++ t) (sym (output_commands answer world (ended_lines [] taken)))
+    out_taken : printed then ≡ printed old ++ output_of_ended world taken
+    out_taken = g.answered.put ∙ ap (λ t. printed old ++ t) (sym (output_commands world (ended_lines [] taken)))
 
     -- a piece more was answered
     pub going_more : (piece rest : List ℕ) (next : World) (begun : List ℕ) (more : List (List ℕ) → Type 0) (now : Moment) → left ≡ piece ++ rest → has_quit (ended_lines line piece) ≡ false
-        → begun ≡ unended line piece → Answered true answer later next (commands_of (ended_lines line piece)) has more then now
-        → ((start : Moment) → Untouched start later then → Always (SafeAt true answer reads start later (commands_of (ended_lines line piece)) (printed then)) then now)
-        → Going answer reads world script (taken ++ piece) rest next begun had more old now
+        → begun ≡ unended line piece → Answered true later next (commands_of (ended_lines line piece)) has more then now
+        → ((start : Moment) → Untouched start later then → Always (SafeAt true reads start later (commands_of (ended_lines line piece)) (printed then)) then now)
+        → Going reads world script (taken ++ piece) rest next begun had more old now
     going_more piece rest next begun more now split go begun_is a moments =
         let some = piece_then_some line left piece rest split in
         let items_are : commands_of (ended_lines [] (taken ++ piece)) ≡ commands_of (ended_lines [] taken) ++ commands_of (ended_lines line piece) =
@@ -123,20 +146,20 @@ module _ (answer : Answers) (reads : List ℕ → Option Store) where
           whole = g.whole ∙ (ap (λ t. taken ++ t) split ∙ sym (append_assoc taken piece rest));
           line_is = begun_is ∙ (ap (λ l. unended l piece) g.line_is ∙ sym (left_append [] taken piece));
           go = ap has_quit (taken_lines taken piece line g.line_is) ∙ (quit_go (ended_lines [] taken) (ended_lines line piece) g.go ∙ go);
-          answered = subst (λ (is : List Item). Answered true answer world next is had more old now) (sym items_are)
-              (answered_both true answer world later next (commands_of (ended_lines [] taken)) (commands_of (ended_lines line piece)) had has more old then now g.answered a);
-          moments = progress_part true answer reads world (commands_of (lines_of script)) later (commands_of (lines_from line left)) had has old then going_progress
+          answered = subst (λ (is : List Item). Answered true world next is had more old now) (sym items_are)
+              (answered_both true world later next (commands_of (ended_lines [] taken)) (commands_of (ended_lines line piece)) had has more old then now g.answered a);
+          moments = progress_part true reads world (commands_of (lines_of script)) later (commands_of (lines_from line left)) had has old then going_progress
               (commands_of (ended_lines line piece)) some.0 some.1 now moments;
         }
 
     -- more bytes come than are read
     pub going_too_long : (piece rest : List ℕ) (limit : ℕ) → length taken ≡ limit → left ≡ piece ++ rest → 0 < length piece
-        → IsTooLong limit script × (printed then ≡ printed old ++ output_of_ended answer world (take limit script))
+        → IsTooLong limit script × (printed then ≡ printed old ++ output_of_ended world (take limit script))
     going_too_long piece rest limit size split some =
         let cut : take limit script ≡ taken = ap (λ t. take limit t) g.whole ∙ take_at taken left limit size in
         let sizes : length script ≡ length taken + (length piece + length rest) =
         ap length g.whole ∙ (length-append taken left ∙ ap (λ n. length taken + n) (ap length split ∙ length-append piece rest)) in
-        (record { long = omega arith; no_quit = ap quits cut ∙ g.go }, out_taken ∙ ap (λ t. printed old ++ output_of_ended answer world t) (sym cut))
+        (record { long = omega arith; no_quit = ap quits cut ∙ g.go }, out_taken ∙ ap (λ t. printed old ++ output_of_ended world t) (sym cut))
 
     -- the script has ended
     pub through_end : (rest : List ℕ) (limit : ℕ) → length taken ≤ limit → left ≡ [] → rest ≡ [] → IsReadThrough limit script rest
@@ -168,49 +191,49 @@ module _ (answer : Answers) (reads : List ℕ → Option Store) where
         }
 
     -- the output is that of the bytes taken
-    pub answered_taken : (rest : List ℕ) → rest ≡ left → AnsweredTaken answer world script rest (printed old) (printed then)
+    pub answered_taken : (rest : List ℕ) → rest ≡ left → AnsweredTaken world script rest (printed old) (printed then)
     answered_taken rest same = record { taken = taken; split = g.whole ∙ ap (λ r. taken ++ r) (sym same); out = out_taken }
 
 -- ---- what is said of the whole
 
-halted_lines : (answer : Answers) (limit : ℕ) (halt : Halt) (world : World) (script left old now : List ℕ) → HaltedIn answer halt world (commands_of (lines_of script)) old now → Halted answer limit halt world script left old now
-halted_lines answer limit Memory world script left old now some = subst (λ (t : List ℕ). WroteSome t old now) (sym (output_commands answer world (lines_of script))) some
-halted_lines answer limit (Device unit) world script left old now some =
+halted_lines : (limit : ℕ) (halt : Halt) (world : World) (script left old now : List ℕ) → HaltedIn halt world (commands_of (lines_of script)) old now → Halted limit halt world script left old now
+halted_lines limit Memory world script left old now some = subst (λ (t : List ℕ). WroteSome t old now) (sym (whole_output world script)) some
+halted_lines limit (Device unit) world script left old now some =
     let cut = cut_lines (lines_of script) some.first some.rest some.split in
     record {
       first = cut.begun;
       rest = cut.more;
       split = cut.split;
-      out = some.out ∙ ap (λ t. old ++ t) (ap (texts answer world) (sym cut.commands) ∙ sym (output_commands answer world cut.begun));
+      out = some.out ∙ ap (λ t. old ++ t) (ap (texts world) (sym cut.commands) ∙ sym (output_commands world cut.begun));
     }
-halted_lines answer limit Sink world script left old now some = subst (λ (t : List ℕ). WroteSome t old now) (sym (output_commands answer world (lines_of script))) some
-halted_lines answer limit Source world script left old now some = absurd some
-halted_lines answer limit TooLong world script left old now some = absurd some
+halted_lines limit Sink world script left old now some = subst (λ (t : List ℕ). WroteSome t old now) (sym (whole_output world script)) some
+halted_lines limit Source world script left old now some = absurd some
+halted_lines limit TooLong world script left old now some = absurd some
 
-module _ {T : Type 0} (answer : Answers) (reads : List ℕ → Option Store) (limit : ℕ) (result : Result T Halt) (world : World) (old new : Outside) where
+module _ {T : Type 0} (reads : List ℕ → Option Store) (limit : ℕ) (result : Result T Halt) (world : World) (old new : Outside) where
   -- all of the script was answered, or the run was halted in it
-  pub session_ran : (next : World) (had has : List (List ℕ) → Type 0) → Ran true answer reads result world next (commands_of (lines_of old.input)) had has old.now new.now
-      → OnOk result (IsReadThrough limit old.input new.input) → Session answer reads limit result world old new
+  pub session_ran : (next : World) (had has : List (List ℕ) → Type 0) → Ran true reads result world next (commands_of (lines_of old.input)) had has old.now new.now
+      → OnOk result (IsReadThrough limit old.input new.input) → Session reads limit result world old new
   session_ran next had has r read = record {
-    out = on_ok_weaker result (λ a. a.put ∙ ap (λ t. out_of old ++ t) (sym (output_commands answer world (lines_of old.input)))) r.done;
+    out = on_ok_weaker result (λ a. a.put ∙ ap (λ t. out_of old ++ t) (sym (whole_output world old.input))) r.done;
     read = read;
     halted = lines result (r.halted refl);
-    crash = crash_always answer reads old.now world (commands_of (lines_of old.input)) old.now new.now (r.moments old.now (λ unit none. refl));
+    crash = crash_always reads old.now world (commands_of (lines_of old.input)) old.now new.now (r.moments old.now (λ unit none. refl));
   }
     where
-      lines : (v : Result T Halt) → IfErr v (λ halt. HaltedIn answer halt world (commands_of (lines_of old.input)) (printed old.now) (printed new.now))
-          → IfErr v (λ halt. Halted answer limit halt world old.input new.input (out_of old) (out_of new))
+      lines : (v : Result T Halt) → IfErr v (λ halt. HaltedIn halt world (commands_of (lines_of old.input)) (printed old.now) (printed new.now))
+          → IfErr v (λ halt. Halted limit halt world old.input new.input (out_of old) (out_of new))
       lines (Ok x) some = tt
-      lines (Err halt) some = halted_lines answer limit halt world old.input new.input (out_of old) (out_of new) some
+      lines (Err halt) some = halted_lines limit halt world old.input new.input (out_of old) (out_of new) some
 
   -- the run was halted between two lines
-  pub session_halted : (halt : Halt) → result ≡ Err halt → Halted answer limit halt world old.input new.input (out_of old) (out_of new)
-      → ((start : Moment) → Untouched start world old.now → Always (SafeAt true answer reads start world (commands_of (lines_of old.input)) (printed old.now)) old.now new.now)
-      → Session answer reads limit result world old new
+  pub session_halted : (halt : Halt) → result ≡ Err halt → Halted limit halt world old.input new.input (out_of old) (out_of new)
+      → ((start : Moment) → Untouched start world old.now → Always (SafeAt true reads start world (commands_of (lines_of old.input)) (printed old.now)) old.now new.now)
+      → Session reads limit result world old new
   session_halted halt is some moments =
-      subst (λ (v : Result T Halt). Session answer reads limit v world old new) (sym is) (record {
+      subst (λ (v : Result T Halt). Session reads limit v world old new) (sym is) (record {
         out = tt;
         read = tt;
         halted = some;
-        crash = crash_always answer reads old.now world (commands_of (lines_of old.input)) old.now new.now (moments old.now (λ unit none. refl));
+        crash = crash_always reads old.now world (commands_of (lines_of old.input)) old.now new.now (moments old.now (λ unit none. refl));
       })

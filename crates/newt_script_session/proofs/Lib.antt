@@ -13,3 +13,5 @@ pub mod Halting
 pub mod Texts
 pub mod Summing
 pub mod Beginning
+pub mod Stepping
+pub mod Spelling

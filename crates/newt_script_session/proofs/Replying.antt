@@ -6,8 +6,9 @@ use Rattle.newt_script.specs.declared.fault.LineFault.{LineFault}
 use Rattle.newt_script.specs.declared.fault.LineFault.TheVariants.{Refused, Memory}
 use Rattle.newt_spec_script.specs.Script.{Item, is_quit, up_to_quit}
 use Rattle.newt_spec_world.specs.declared.command.Command.{Command}
-use Rattle.newt_script_session.specs.Script.{given, items_of, quits_among, has_quit, commands_of}
+use Rattle.newt_script_session.specs.Script.{given, items_of, has_quit, commands_of}
 use Rattle.newt_script_session.proofs.Items.{up_to_go, up_to_stop, up_to_same, among_go, among_stop}
+use Rattle.newt_spec_script.specs.Runs.{quits_among}
 
 items_append : (a b : List (List ℕ)) → items_of (a ++ b) ≡ items_of a ++ items_of b
 items_append a b = flat_map-append (λ line. given (line_command line)) a b

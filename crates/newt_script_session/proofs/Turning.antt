@@ -6,8 +6,9 @@ use Rattle.newt_script.specs.declared.fault.LineFault.{LineFault}
 use Rattle.newt_script.specs.declared.fault.LineFault.TheVariants.{Refused, Memory}
 use Rattle.newt_spec_script.specs.Script.{Item, is_quit, up_to_quit}
 use Rattle.newt_spec_world.specs.declared.command.Command.{Command}
-use Rattle.newt_script_session.specs.Script.{given, items_of, quits_among, has_quit, commands_of}
+use Rattle.newt_script_session.specs.Script.{given, items_of, has_quit, commands_of}
 use Rattle.newt_script_session.proofs.Items.{up_to_one, quits_one}
+use Rattle.newt_spec_script.specs.Runs.{quits_among}
 
 -- the reading that a call answered is the line's, where memory was not wanting
 pub said_nothing : (answered : Result (Option Command) LineFault) (found : Option Command) (line : List ℕ)

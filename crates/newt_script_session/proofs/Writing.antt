@@ -1,12 +1,12 @@
 -- One piece of output after another.
-use Rattle.std.proofs.Common.{◌≡◌, ℕ, ◌≤◌, Bool, IsTrue, List, [], ◌++◌, take, drop, Result, Ok, Err, IfOk, OnErr, refl, sym, ◌∙◌, ap, subst, append_assoc, arith}
+use Rattle.std.proofs.Common.{◌≡◌, ℕ, Bool, IsTrue, List, [], ◌++◌, take, drop, Result, Ok, Err, IfOk, OnErr, refl, sym, ◌∙◌, ap, subst, append_assoc}
 use Rattle.std.proofs.lemmas.List.{append-nil, take-append-drop}
 use Rattle.newt_host.specs.Moments.{Moment, Always, here, changes, output}
 use Rattle.newt_host.specs.Outside.{Outside, PrintsSome, SameCards, SameCounts, printed}
 use Rattle.newt_host.proofs.Extending.{Always-prints_some}
 use Rattle.newt_host.proofs.Moments.{Always-append, Always-last, Always-map}
 use Rattle.newt_host.proofs.Printing.{changes-printed, output-printed, printed-append}
-use Rattle.newt_script_session.specs.Causes.{Keeps, SameDevices}
+use Rattle.newt_script_session.specs.Causes.{SameDevices}
 use Rattle.newt_script_session.specs.Stream.{Wrote, WroteSome, Puts}
 
 pub nothing_wrote : (text out : List ℕ) → Wrote text text out out
@@ -61,17 +61,11 @@ prints_either (Ok n) bytes old new is some = record { done = take n bytes; rest 
 prints_either (Err e) bytes old new is some = some
 
 -- and the devices are as they were
-pub prints_devices : (told : Bool) (bytes : List ℕ) (old new : Outside) → SameCards old new → (IsTrue told → PrintsSome bytes old.now new.now) → SameDevices told old new
-prints_devices told bytes old new cards prints = record {
+pub prints_devices : (told : Bool) (bytes : List ℕ) (old new : Outside) → SameCards old new → SameCounts old new → (IsTrue told → PrintsSome bytes old.now new.now) → SameDevices told old new
+prints_devices told bytes old new cards counts prints = record {
   cards = cards;
+  counts = counts;
   changes = λ tells unit. let some = prints tells in ap (λ (m : Moment). changes unit m) some.moment ∙ changes-printed unit some.done old.now;
-}
-
--- no count has fallen, and no other device is attached
-pub prints_keeps : (old new : Outside) → SameCards old new → SameCounts old new → new.input ≡ old.input → new.in_faults ≡ old.in_faults → old.out_faults ≤ new.out_faults → Keeps old new
-prints_keeps old new cards same input inputs outputs = record {
-  input = input;
-  stays = record { cards = cards; counts = record { in_faults = omega (arith, inputs); out_faults = outputs; dev_faults = λ unit. omega (arith, same.dev_faults unit) } };
 }
 
 -- after a first part of the bytes, a first part of those that are left

@@ -1,7 +1,7 @@
 -- Why the answering of lines halts.
 use Rattle.std.specs.Prelude.{◌≡◌, ℕ, ◌≤◌, Bool, true, false, IsTrue}
 use Rattle.newt_host.specs.Moments.{changes}
-use Rattle.newt_host.specs.Outside.{Outside, Rose, SameCards}
+use Rattle.newt_host.specs.Outside.{Outside, Rose, SameCards, SameCounts}
 use Rattle.newt_pagebook.specs.declared.book.Stop.{Stop}
 use Rattle.newt_pagebook.specs.declared.book.Stop.TheVariants as stops
 use Rattle.newt_script_session.specs.declared.halt.Flow.{Flow}
@@ -19,7 +19,7 @@ abbrev pub halt_of : Stop → Halt
 halt_of stops.Memory = Memory
 halt_of (stops.Device unit) = Device unit
 
--- what may halt the writing of a text: want of memory, or the output where it has failed
+-- what may halt the writing of a text: out of memory, or the output where it has failed
 abbrev pub HasSinkCause : Halt → (old new : Outside) → Type 0
 HasSinkCause Memory old new = Unit {0}
 HasSinkCause (Device unit) old new = ⊥
@@ -27,7 +27,7 @@ HasSinkCause Sink old new = Rose old.out_faults new.out_faults
 HasSinkCause Source old new = ⊥
 HasSinkCause TooLong old new = ⊥
 
--- what may halt an answer: want of memory, or a device or the output where it has failed
+-- what may halt an answer: out of memory, or a device or the output where it has failed
 abbrev pub HasWriteCause : Halt → (old new : Outside) → Type 0
 HasWriteCause Memory old new = Unit {0}
 HasWriteCause (Device unit) old new = Rose (old.dev_faults unit) (new.dev_faults unit)
@@ -43,9 +43,10 @@ HasCause (Device unit) old new = Rose (old.dev_faults unit) (new.dev_faults unit
 HasCause Source old new = Rose old.in_faults new.in_faults
 HasCause Sink old new = Rose old.out_faults new.out_faults
 
--- No device, and nothing that is told of one, is other than it was.
+-- No device, and nothing that is told of one, is other than it was, and nothing that is counted was done to one.
 pub record SameDevices (told : Bool) (old new : Outside) : Type 0 where
   pub cards : SameCards old new
+  pub counts : SameCounts old new
   pub changes : IsTrue told → (unit : ℕ) → changes unit new.now ≡ changes unit old.now
 
 -- no count of faults has fallen
@@ -53,13 +54,3 @@ pub record NeverLess (old new : Outside) : Type 0 where
   pub in_faults : old.in_faults ≤ new.in_faults
   pub out_faults : old.out_faults ≤ new.out_faults
   pub dev_faults : (unit : ℕ) → old.dev_faults unit ≤ new.dev_faults unit
-
--- the same devices are attached, and no count of faults has fallen
-pub record StaysAttached (old new : Outside) : Type 0 where
-  pub cards : SameCards old new
-  pub counts : NeverLess old new
-
--- No byte is read, the same devices are attached, and no count of faults has fallen.
-pub record Keeps (old new : Outside) : Type 0 where
-  pub input : new.input ≡ old.input
-  pub stays : StaysAttached old new

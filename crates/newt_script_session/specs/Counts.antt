@@ -1,10 +1,10 @@
 -- What the replies of a script come to. All of it is this project's own.
 use Rattle.std.specs.Prelude.{◌≡◌, ℕ, ◌≤◌, ◌<◌, ◌*◌, ◌^◌, ◌++◌, List, length, codes, count_by, sum_by}
-use Rattle.newt_script_session.specs.Lines.{lines_of}
-use Rattle.newt_script_session.specs.Script.{Answers, commands_of, reply_texts}
+use Rattle.newt_script_session.specs.Run.{script_items}
 use Rattle.newt_spec_script.specs.Generator.{begins, summary, summary_line}
 use Rattle.newt_spec_world.specs.World.{World}
 use Rattle.newt_script_session.specs.declared.tally.Tally.{Tally}
+use Rattle.newt_spec_script.specs.Runs.{reply_texts}
 
 -- The tally is that of these texts, each of which fits the memory.
 pub record Counts (tally : Tally) (texts : List (List ℕ)) : Type 0 where
@@ -25,5 +25,5 @@ lines_of_tally tally =
     ++ summary_line (codes "errors") tally.errors ++ summary_line (codes "bytes") tally.bytes
 
 -- the summary of the replies to a script
-unfoldable pub summary_of : Answers → World → List ℕ → List ℕ
-summary_of answer world script = summary (reply_texts answer world (commands_of (lines_of script)))
+unfoldable pub summary_of : World → List ℕ → List ℕ
+summary_of world script = summary (reply_texts world (script_items script))

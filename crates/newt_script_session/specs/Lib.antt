@@ -2,8 +2,10 @@ pub mod Stream
 pub mod Lines
 pub mod Script
 pub mod Causes
+pub mod Calls
 pub mod Run
 pub mod Moments
+pub mod Steps
 pub mod Answered
 pub mod Session
 pub mod Counts

@@ -7,10 +7,8 @@ use Rattle.newt_spec_world.specs.First.{world_of}
 use Rattle.newt_spec_world.specs.World.{World}
 use Rattle.newt_script_session.specs.Counted.{HasLeftCounted}
 use Rattle.newt_script_session.specs.Counts.{summary_of}
-use Rattle.newt_script_session.specs.Lines.{lines_of}
 use Rattle.newt_script_session.specs.Moments.{HasLeft}
-use Rattle.newt_script_session.specs.Run.{output, Halted, HaltedReply, IsReadThrough}
-use Rattle.newt_script_session.specs.Script.{Answers, commands_of}
+use Rattle.newt_script_session.specs.Run.{output, script_items, Halted, HaltedReply, IsReadThrough}
 use Rattle.newt_script_session.specs.declared.halt.Halt.{Halt}
 
 -- the world before the first command: the devices of the names as they are held, of which none is mounted
@@ -27,14 +25,14 @@ held_by names old unit = option_and_then (held old) (slice_get names unit)
 
 -- The script of the input was answered: what was written, what was read, how far the run came where it was halted, and what a crash might have left, whatever
 -- the result is.
-pub record RanNamed {T : Type 0} (answer : Answers) (store_of_image : List ℕ → Option Store) (limit : ℕ) (result : Result T Halt) (names : List (List ℕ)) (old new : Outside) : Type 0 where
-  pub out : OnOk result (out_of new ≡ out_of old ++ output answer (first store_of_image names old) old.input)
+pub record RanNamed {T : Type 0} (store_of_image : List ℕ → Option Store) (limit : ℕ) (result : Result T Halt) (names : List (List ℕ)) (old new : Outside) : Type 0 where
+  pub out : OnOk result (out_of new ≡ out_of old ++ output (first store_of_image names old) old.input)
   pub read : OnOk result (IsReadThrough limit old.input new.input)
-  pub halted : IfErr result (λ halt. Halted answer limit halt (first store_of_image names old) old.input new.input (out_of old) (out_of new))
-  pub crash : AtEachMoment new (λ unit left shown. HasLeft answer store_of_image (first store_of_image names old) (commands_of (lines_of old.input)) (held_by names old unit) (out_of old) shown unit left)
+  pub halted : IfErr result (λ halt. Halted limit halt (first store_of_image names old) old.input new.input (out_of old) (out_of new))
+  pub crash : AtEachMoment new (λ unit left shown. HasLeft store_of_image (first store_of_image names old) (script_items old.input) (held_by names old unit) (out_of old) shown unit left)
 
 -- A script in memory was answered and its replies counted: what was written is the summary, or a first part of it, and nothing where a device failed.
-pub record CountedNamed {T : Type 0} (answer : Answers) (store_of_image : List ℕ → Option Store) (script : List ℕ) (result : Result T Halt) (names : List (List ℕ)) (old new : Outside) : Type 0 where
-  pub out : OnOk result (out_of new ≡ out_of old ++ summary_of answer (first store_of_image names old) script)
-  pub halted : IfErr result (λ halt. HaltedReply halt (summary_of answer (first store_of_image names old) script) (out_of old) (out_of new))
-  pub crash : AtEachMoment new (λ unit left shown. HasLeftCounted answer store_of_image (first store_of_image names old) (commands_of (lines_of script)) (held_by names old unit) (out_of old) shown unit left)
+pub record CountedNamed {T : Type 0} (store_of_image : List ℕ → Option Store) (script : List ℕ) (result : Result T Halt) (names : List (List ℕ)) (old new : Outside) : Type 0 where
+  pub out : OnOk result (out_of new ≡ out_of old ++ summary_of (first store_of_image names old) script)
+  pub halted : IfErr result (λ halt. HaltedReply halt (summary_of (first store_of_image names old) script) (out_of old) (out_of new))
+  pub crash : AtEachMoment new (λ unit left shown. HasLeftCounted store_of_image (first store_of_image names old) (script_items script) (held_by names old unit) (out_of old) shown unit left)

@@ -1,8 +1,10 @@
 //! A script in memory whose replies are counted.
-ghost use Rattle.std.specs.Prelude.{IsTrue, IfErr, OnOk};
-ghost use Rattle.newt_script_session.specs.Causes.{HasSinkCause, HasWriteCause, Keeps, SameDevices};
+ghost use Rattle.std.specs.Prelude.{IsTrue};
+ghost use Rattle.newt_script_session.specs.Calls.{AnswerCall, WriteCall};
+ghost use Rattle.newt_script_session.specs.Causes.{HasSinkCause};
 ghost use Rattle.newt_script_session.specs.Counted.{Counted};
 ghost use Rattle.newt_script_session.specs.Counts.{lines_of_tally};
+ghost use Rattle.newt_script_session.specs.Steps.{IsPlain};
 ghost use Rattle.newt_script_session.specs.Stream.{Puts};
 
 use crate::feed::answer_text;
@@ -17,10 +19,8 @@ use std::alloc::Global;
 fn put_tally<H: Host>(alloc: Global, host: &mut H, tally: &Tally) -> Result<(), Halt>
     ensures puts { IsTrue H.told → Puts result (lines_of_tally tally.now)
         (H.outside host.old).now (H.outside host.new).now }
-    ensures devices { SameDevices H.told (H.outside host.old) (H.outside host.new) }
-    ensures cause { IfErr result (λ halt.
-        HasSinkCause halt (H.outside host.old) (H.outside host.new)) }
-    ensures keeps { Keeps (H.outside host.old) (H.outside host.new) }
+    ensures call { WriteCall H.told HasSinkCause result
+        (H.outside host.old) (H.outside host.new) }
 {
     let Ok(text) = tally.lines(alloc) else {
         return Err(Halt::Memory);
@@ -38,12 +38,11 @@ pub fn tally_script<H: Host, I: Interpreter>(
     interpreter: &mut I,
     script: &[u8],
 ) -> Result<(), Halt>
-    requires { I.stands H.told interpreter.old (H.outside host.old) }
-    ensures counted { IsTrue H.told → Counted I.answer I.store_of_image script.now result
+    requires stands { I.stands H.told interpreter.old (H.outside host.old) }
+    requires plain { IsPlain I.step }
+    ensures counted { IsTrue H.told → Counted I.store_of_image script.now result
         (I.world interpreter.old (H.outside host.old)) (H.outside host.old) (H.outside host.new) }
-    ensures cause { IfErr result (λ halt.
-        HasWriteCause halt (H.outside host.old) (H.outside host.new)) }
-    ensures keeps { Keeps (H.outside host.old) (H.outside host.new) }
+    ensures call { AnswerCall result (H.outside host.old) (H.outside host.new) }
 {
     let mut tally = Tally::new();
     answer_text(alloc, host, interpreter, &mut tally, script)?;

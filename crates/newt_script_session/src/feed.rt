@@ -1,7 +1,9 @@
 //! The lines that end in one piece of a script: the one loop over lines.
-ghost use Rattle.std.specs.Prelude.{IsTrue, ◌≡◌, IfOk, OnOk, IfErr, MatchOption};
+ghost use Rattle.std.specs.Prelude.{IsTrue, ◌≡◌, IfOk, OnOk, MatchOption};
 ghost use Rattle.newt_script_session.specs.Answered.{Ran};
-ghost use Rattle.newt_script_session.specs.Causes.{flow_of, HasWriteCause, Keeps};
+ghost use Rattle.newt_script_session.specs.Calls.{AnswerCall};
+ghost use Rattle.newt_script_session.specs.Steps.{IsPlain};
+ghost use Rattle.newt_script_session.specs.Causes.{flow_of};
 ghost use Rattle.newt_script_session.specs.Lines.{BeginsWith, HasNoEnd, ended_lines, last_line};
 ghost use Rattle.newt_script_session.specs.Lines.{lines_of, unended};
 ghost use Rattle.newt_script_session.specs.Script.{commands_of, has_quit};
@@ -34,20 +36,19 @@ pub fn feed<H: Host, I: Interpreter, S: Sink>(
     line: &mut Vec<u8>,
     piece: &[u8],
 ) -> Result<Flow, Halt>
-    requires { I.stands H.told interpreter.old (H.outside host.old) }
+    requires stands { I.stands H.told interpreter.old (H.outside host.old) }
+    requires plain { IsPlain I.step }
     ensures stands { OnOk result (I.stands H.told interpreter.new (H.outside host.new)) }
     ensures flow { IfOk result (λ flow.
         flow ≡ flow_of (has_quit (ended_lines line.old.items piece.now))) }
     ensures line { IfOk result (λ flow. flow ≡ Go
         → line.new.items ≡ unended line.old.items piece.now) }
-    ensures ran { IsTrue H.told → Ran S.shows I.answer I.store_of_image result
+    ensures ran { IsTrue H.told → Ran S.shows I.store_of_image result
         (I.world interpreter.old (H.outside host.old))
         (I.world interpreter.new (H.outside host.new))
         (commands_of (ended_lines line.old.items piece.now)) (S.has sink.old) (S.has sink.new)
         (H.outside host.old).now (H.outside host.new).now }
-    ensures cause { IfErr result (λ halt.
-        HasWriteCause halt (H.outside host.old) (H.outside host.new)) }
-    ensures keeps { Keeps (H.outside host.old) (H.outside host.new) }
+    ensures call { AnswerCall result (H.outside host.old) (H.outside host.new) }
 {
     let mut rest = piece;
     while let Some((ended, more)) = first_line(rest) {
@@ -74,16 +75,15 @@ pub fn finish<H: Host, I: Interpreter, S: Sink>(
     sink: &mut S,
     line: &[u8],
 ) -> Result<(), Halt>
-    requires { I.stands H.told interpreter.old (H.outside host.old) }
+    requires stands { I.stands H.told interpreter.old (H.outside host.old) }
+    requires plain { IsPlain I.step }
     ensures stands { OnOk result (I.stands H.told interpreter.new (H.outside host.new)) }
-    ensures ran { IsTrue H.told → Ran S.shows I.answer I.store_of_image result
+    ensures ran { IsTrue H.told → Ran S.shows I.store_of_image result
         (I.world interpreter.old (H.outside host.old))
         (I.world interpreter.new (H.outside host.new))
         (commands_of (last_line line.now)) (S.has sink.old) (S.has sink.new)
         (H.outside host.old).now (H.outside host.new).now }
-    ensures cause { IfErr result (λ halt.
-        HasWriteCause halt (H.outside host.old) (H.outside host.new)) }
-    ensures keeps { Keeps (H.outside host.old) (H.outside host.new) }
+    ensures call { AnswerCall result (H.outside host.old) (H.outside host.new) }
 {
     if line.is_empty() {
         return Ok(());
@@ -100,16 +100,15 @@ pub fn answer_text<H: Host, I: Interpreter, S: Sink>(
     sink: &mut S,
     text: &[u8],
 ) -> Result<(), Halt>
-    requires { I.stands H.told interpreter.old (H.outside host.old) }
+    requires stands { I.stands H.told interpreter.old (H.outside host.old) }
+    requires plain { IsPlain I.step }
     ensures stands { OnOk result (I.stands H.told interpreter.new (H.outside host.new)) }
-    ensures ran { IsTrue H.told → Ran S.shows I.answer I.store_of_image result
+    ensures ran { IsTrue H.told → Ran S.shows I.store_of_image result
         (I.world interpreter.old (H.outside host.old))
         (I.world interpreter.new (H.outside host.new))
         (commands_of (lines_of text.now)) (S.has sink.old) (S.has sink.new)
         (H.outside host.old).now (H.outside host.new).now }
-    ensures cause { IfErr result (λ halt.
-        HasWriteCause halt (H.outside host.old) (H.outside host.new)) }
-    ensures keeps { Keeps (H.outside host.old) (H.outside host.new) }
+    ensures call { AnswerCall result (H.outside host.old) (H.outside host.new) }
 {
     let mut line = Vec::new(alloc);
     match feed(alloc, host, interpreter, sink, &mut line, text)? {

@@ -1,15 +1,17 @@
 //! What an engine promises for one command.
-ghost use Rattle.std.specs.Prelude.{◌≡◌, ℕ, List, Bool, true, false, Option, Some, None, IsSome};
-ghost use Rattle.std.specs.Prelude.{IsTrue, IfOk, IfErr, OnOk, is_some, slice_index_or};
-ghost use Rattle.newt_host.specs.Moments.{Always, IsDurable, MayLeave};
-ghost use Rattle.newt_host.specs.Outside.{Outside, OnDevices};
+ghost use Rattle.std.specs.Prelude.{◌≡◌, ◌≤◌, ℕ, List, Bool, true, Option, Some, None, length, map};
+ghost use Rattle.std.specs.Prelude.{IsTrue, IfOk, IfErr, OnOk, string_bytes};
+ghost use Rattle.newt_host.specs.Meanings.{held};
+ghost use Rattle.newt_host.specs.Moments.{MayLeave};
+ghost use Rattle.newt_host.specs.Outside.{Outside, OnDevices, NoFault};
+ghost use Rattle.newt_host_attach.specs.Named.{AreAttached, AreDistinct};
+ghost use Rattle.newt_laws_world.specs.Worlds.{has_form};
 ghost use Rattle.newt_pagebook.specs.Stops.{HasStopCause};
-ghost use Rattle.newt_reply.specs.Said.{said};
 ghost use Rattle.newt_script_session.specs.Causes.{SameDevices};
-ghost use Rattle.newt_script_session.specs.First.{unmounted};
-ghost use Rattle.newt_script_session.specs.Moments.{Answering};
-ghost use Rattle.newt_script_session.specs.Script.{Answers};
+ghost use Rattle.newt_script_session.specs.Steps.{Stepped};
 ghost use Rattle.newt_spec_store.specs.Store.{Store};
+ghost use Rattle.newt_spec_world.specs.First.{world_of};
+ghost use Rattle.newt_spec_world.specs.Reply as plain;
 ghost use Rattle.newt_spec_world.specs.World.{World, store_on_unit};
 ghost use Rattle.newt_spec_world.specs.declared.command.Command as asked;
 
@@ -25,8 +27,8 @@ pub trait Interpreter: Sized + Drop {
     /// The store that an image is read as.
     ghost store_of_image: { List ℕ → Option Store };
 
-    /// What is answered to each command in each world.
-    ghost answer: { Answers };
+    /// How a command may turn one world into the next, and what is replied.
+    ghost step: { World → asked.Command → World → plain.Reply → Type 0 };
 
     /// It stands for the devices, of a host that tells bytes or of one that does not.
     ghost stands: { Bool → Self → Outside → Type 0 };
@@ -34,33 +36,30 @@ pub trait Interpreter: Sized + Drop {
     /// The world that it stands for.
     ghost world: { Self → Outside → World };
 
-    /// Begins with the devices that are attached, of which nothing is mounted.
-    fn start<H: Host>(alloc: Global, host: &H, attached: [bool; 8]) -> Result<Self, AllocError>
-        requires attached { (unit : ℕ)
-            → slice_index_or attached unit false ≡ is_some ((H.outside host.now).card unit) }
-        requires at_rest { IsTrue H.told → (unit : ℕ) → IsSome ((H.outside host.now).card unit)
-            → IsDurable unit (H.outside host.now).now }
-        ensures stands { IfOk result (λ it. stands H.told it (H.outside host.now)) }
-        ensures world { IsTrue H.told
-            → IfOk result (λ it. world it (H.outside host.now)
-            ≡ unmounted store_of_image (H.outside host.now)) };
+    /// Attaches the devices of the names, each to the unit of its place, and begins with them:
+    /// nothing is mounted.
+    fn new<H: Host>(alloc: Global, host: &mut H, names: &[String]) -> Result<Self, AllocError>
+        requires few { length names.now ≤ 8 }
+        requires distinct { AreDistinct (map string_bytes names.now) }
+        requires free { (unit : ℕ) → (H.outside host.old).card unit ≡ None }
+        ensures stands { IfOk result (λ it. stands H.told it (H.outside host.new)) }
+        ensures world { IsTrue H.told → IfOk result (λ it. world it (H.outside host.new)
+            ≡ world_of store_of_image (held (H.outside host.old)) (map string_bytes names.now)) }
+        ensures attached { AreAttached H.told (map string_bytes names.now)
+            (H.outside host.old) (H.outside host.new) };
 
-    /// Answers one command. After an error it is spent.
+    /// Answers one command, by a step. After an error it is spent.
     fn apply<H: Host>(&mut self, host: &mut H, command: Command) -> Result<Reply, Stop>
-        requires { stands H.told self.old (H.outside host.old) }
+        requires stands { stands H.told self.old (H.outside host.old) }
+        requires form { IsTrue (has_form command) }
         ensures stands { OnOk result (stands H.told self.new (H.outside host.new)) }
-        ensures reply { IsTrue H.told
-            → IfOk result (λ reply.
-            said reply ≡ (answer (world self.old (H.outside host.old)) command).1) }
-        ensures world { IsTrue H.told
-            → OnOk result (world self.new (H.outside host.new)
-            ≡ (answer (world self.old (H.outside host.old)) command).0) }
+        ensures stepped { IsTrue H.told → Stepped step store_of_image command result
+            (world self.old (H.outside host.old)) (world self.new (H.outside host.new))
+            (H.outside host.old).now (H.outside host.new).now }
         ensures cause { IfErr result (λ stop.
             HasStopCause stop (H.outside host.old) (H.outside host.new)) }
-        ensures alone { OnDevices (H.outside host.old) (H.outside host.new) }
-        ensures moments { IsTrue H.told → let w = world self.old (H.outside host.old) in
-            Always (Answering store_of_image w (answer w command).0 (H.outside host.old).now)
-            (H.outside host.old).now (H.outside host.new).now };
+        ensures no_fault { OnOk result (NoFault (H.outside host.old) (H.outside host.new)) }
+        ensures alone { OnDevices (H.outside host.old) (H.outside host.new) };
 
     /// Where no device is other than it was, it stands as before.
     ghost kept: { (told : Bool) (it : Self) (old new : Outside) → SameDevices told old new
@@ -77,6 +76,7 @@ pub trait Interpreter: Sized + Drop {
         → store_of_image left ≡ Some store };
 
     /// No command takes a unit's store away.
-    ghost stays: { (w : World) (command : asked.Command) (unit : ℕ)
-        → store_on_unit (answer w command).0 unit ≡ None → store_on_unit w unit ≡ None };
+    ghost stays: { (w next : World) (command : asked.Command) (reply : plain.Reply) (unit : ℕ)
+        → step w command next reply
+        → store_on_unit next unit ≡ None → store_on_unit w unit ≡ None };
 }

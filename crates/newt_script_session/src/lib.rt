@@ -14,6 +14,7 @@ mod count;
 mod feed;
 mod halt;
 mod interpreter;
+mod laws;
 mod named;
 mod pieces;
 mod sink;
@@ -23,6 +24,7 @@ mod write;
 
 pub use halt::Halt;
 pub use interpreter::Interpreter;
+pub use laws::lines_are_spelled;
 pub use named::{run_named, tally_named};
 pub use pieces::{piece_buffer, read_piece};
 pub use write::write_all;

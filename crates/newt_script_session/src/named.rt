@@ -1,15 +1,16 @@
 //! A script over the devices of names, whose replies are written or counted.
-ghost use Rattle.std.specs.Prelude.{IsTrue, ◌≡◌, ℕ, ◌≤◌, None, length, map, string_bytes, IfErr};
+ghost use Rattle.std.specs.Prelude.{IsTrue, ◌≡◌, ℕ, ◌≤◌, None, length, map, string_bytes};
 ghost use Rattle.newt_host_attach.specs.Named.{AreDistinct};
-ghost use Rattle.newt_script_session.specs.Causes.{HasCause, HasWriteCause, NeverLess};
+ghost use Rattle.newt_script_session.specs.Calls.{Faults};
+ghost use Rattle.newt_script_session.specs.Causes.{HasCause, HasWriteCause};
 ghost use Rattle.newt_script_session.specs.Named.{CountedNamed, RanNamed};
+ghost use Rattle.newt_script_session.specs.Steps.{IsPlain};
 
 use crate::count::tally_script;
 use crate::halt::Halt;
 use crate::interpreter::Interpreter;
 use crate::pieces::run_script;
 use newt_host::Host;
-use newt_host_attach::attach_names;
 use std::alloc::Global;
 
 /// Attaches the devices of the names, each to the unit of its place, and answers the script of the
@@ -24,13 +25,12 @@ pub fn run_named<H: Host, I: Interpreter>(
     requires few { length names.now ≤ 8 }
     requires distinct { AreDistinct (map string_bytes names.now) }
     requires free { (unit : ℕ) → (H.outside host.old).card unit ≡ None }
-    ensures ran { IsTrue H.told → RanNamed I.answer I.store_of_image limit result
+    requires plain { IsPlain I.step }
+    ensures ran { IsTrue H.told → RanNamed I.store_of_image limit result
         (map string_bytes names.now) (H.outside host.old) (H.outside host.new) }
-    ensures cause { IfErr result (λ halt. HasCause halt (H.outside host.old) (H.outside host.new)) }
-    ensures counts { NeverLess (H.outside host.old) (H.outside host.new) }
+    ensures faults { Faults HasCause result (H.outside host.old) (H.outside host.new) }
 {
-    let attached = attach_names(host, names);
-    let Ok(mut interpreter) = I::start(alloc, host, attached) else {
+    let Ok(mut interpreter) = I::new(alloc, host, names) else {
         return Err(Halt::Memory);
     };
     run_script(alloc, host, &mut interpreter, limit)
@@ -47,15 +47,13 @@ pub fn tally_named<H: Host, I: Interpreter>(
     requires few { length names.now ≤ 8 }
     requires distinct { AreDistinct (map string_bytes names.now) }
     requires free { (unit : ℕ) → (H.outside host.old).card unit ≡ None }
-    ensures counted { IsTrue H.told → CountedNamed I.answer I.store_of_image script.now result
+    requires plain { IsPlain I.step }
+    ensures counted { IsTrue H.told → CountedNamed I.store_of_image script.now result
         (map string_bytes names.now) (H.outside host.old) (H.outside host.new) }
     ensures left { (H.outside host.new).input ≡ (H.outside host.old).input }
-    ensures cause { IfErr result (λ halt.
-        HasWriteCause halt (H.outside host.old) (H.outside host.new)) }
-    ensures counts { NeverLess (H.outside host.old) (H.outside host.new) }
+    ensures faults { Faults HasWriteCause result (H.outside host.old) (H.outside host.new) }
 {
-    let attached = attach_names(host, names);
-    let Ok(mut interpreter) = I::start(alloc, host, attached) else {
+    let Ok(mut interpreter) = I::new(alloc, host, names) else {
         return Err(Halt::Memory);
     };
     tally_script(alloc, host, &mut interpreter, script)

@@ -1,8 +1,9 @@
 //! A script from the input to the output.
-ghost use Rattle.std.specs.Prelude.{IsTrue, ◌≡◌, ◌<◌, ◌≤◌, ◌++◌, [], take, length, IfOk, OnErr};
-ghost use Rattle.std.specs.Prelude.{IfErr, vec_len};
-ghost use Rattle.newt_host.specs.Outside.{Rose};
-ghost use Rattle.newt_script_session.specs.Causes.{HasCause, StaysAttached, SameDevices};
+ghost use Rattle.std.specs.Prelude.{IsTrue, ◌≡◌, ◌<◌, ◌≤◌, [], take, length, IfOk, OnErr};
+ghost use Rattle.std.specs.Prelude.{vec_len};
+ghost use Rattle.newt_host.specs.Outside.{Takes};
+ghost use Rattle.newt_script_session.specs.Calls.{ReadCall, RunCall};
+ghost use Rattle.newt_script_session.specs.Steps.{IsPlain};
 ghost use Rattle.newt_script_session.specs.Session.{Session};
 
 use crate::feed::{feed, finish};
@@ -20,19 +21,13 @@ const PIECE: usize = 65536;
 pub fn read_piece<H: Host>(host: &mut H, buffer: &mut [u8], most: usize) -> Result<usize, Halt>
     requires { most ≤ length buffer.old }
     ensures within { IfOk result (λ n. n ≤ most) }
-    ensures took { IsTrue H.told
-        → IfOk result (λ n. (H.outside host.old).input ≡ take n buffer.new
-        ++ (H.outside host.new).input) }
+    ensures took { IsTrue H.told → IfOk result (λ n.
+        Takes (take n buffer.new) (H.outside host.old) (H.outside host.new)) }
     ensures end { IsTrue H.told
         → IfOk result (λ n. n ≡ 0 → 0 < most → (H.outside host.old).input ≡ []) }
-    ensures failed { OnErr result ((H.outside host.new).input ≡ (H.outside host.old).input) }
-    ensures moment { (H.outside host.new).now ≡ (H.outside host.old).now }
-    ensures devices { SameDevices H.told (H.outside host.old) (H.outside host.new) }
-    ensures source { IfErr result (λ halt. halt ≡ Halt.Source) }
-    ensures cause { OnErr result
-        (Rose (H.outside host.old).in_faults (H.outside host.new).in_faults) }
-    ensures stays { StaysAttached (H.outside host.old) (H.outside host.new) }
-    ensures out_count { (H.outside host.new).out_faults ≡ (H.outside host.old).out_faults }
+    ensures failed { OnErr result (((H.outside host.new).input ≡ (H.outside host.old).input)
+        × ((H.outside host.new).now ≡ (H.outside host.old).now)) }
+    ensures call { ReadCall H.told result (H.outside host.old) (H.outside host.new) }
 {
     match host.read_in(&mut buffer[..most]) {
         Ok(moved) => Ok(moved),
@@ -53,10 +48,10 @@ fn answer_pieces<H: Host, I: Interpreter>(
     requires empty { line.old.items ≡ [] }
     requires room { 0 < length buffer.old }
     requires stands { I.stands H.told interpreter.old (H.outside host.old) }
-    ensures session { IsTrue H.told → Session I.answer I.store_of_image limit result
+    requires plain { IsPlain I.step }
+    ensures session { IsTrue H.told → Session I.store_of_image limit result
         (I.world interpreter.old (H.outside host.old)) (H.outside host.old) (H.outside host.new) }
-    ensures cause { IfErr result (λ halt. HasCause halt (H.outside host.old) (H.outside host.new)) }
-    ensures stays { StaysAttached (H.outside host.old) (H.outside host.new) }
+    ensures call { RunCall result (H.outside host.old) (H.outside host.new) }
 {
     let mut taken = 0;
     'pieces: loop {
@@ -86,7 +81,7 @@ fn answer_pieces<H: Host, I: Interpreter>(
 
 /// A buffer of 65,536 bytes for the pieces of the input.
 pub fn piece_buffer(alloc: Global) -> Result<Vec<u8>, AllocError>
-    ensures { IfOk result (λ buffer. vec_len buffer ≡ PIECE) }
+    ensures { IfOk result (λ buffer. vec_len buffer ≡ 65_536) }
 {
     vec![in alloc; 0u8; PIECE]
 }
@@ -99,11 +94,11 @@ pub fn run_script<H: Host, I: Interpreter>(
     interpreter: &mut I,
     limit: usize,
 ) -> Result<(), Halt>
-    requires { I.stands H.told interpreter.old (H.outside host.old) }
-    ensures session { IsTrue H.told → Session I.answer I.store_of_image limit result
+    requires stands { I.stands H.told interpreter.old (H.outside host.old) }
+    requires plain { IsPlain I.step }
+    ensures session { IsTrue H.told → Session I.store_of_image limit result
         (I.world interpreter.old (H.outside host.old)) (H.outside host.old) (H.outside host.new) }
-    ensures cause { IfErr result (λ halt. HasCause halt (H.outside host.old) (H.outside host.new)) }
-    ensures stays { StaysAttached (H.outside host.old) (H.outside host.new) }
+    ensures call { RunCall result (H.outside host.old) (H.outside host.new) }
 {
     let Ok(mut buffer) = piece_buffer(alloc) else {
         return Err(Halt::Memory);

@@ -1,10 +1,9 @@
 //! Where the replies to a script go.
-ghost use Rattle.std.specs.Prelude.{IsTrue, ◌≡◌, ◌++◌, ℕ, Bool, List, [], ◌∷◌, IfErr, OnOk, OnErr};
-ghost use Rattle.std.specs.Prelude.{true};
-ghost use Rattle.newt_host.specs.Outside.{Rose};
+ghost use Rattle.std.specs.Prelude.{IsTrue, ◌++◌, ℕ, Bool, List, [], ◌∷◌, OnOk, true, false};
 ghost use Rattle.newt_reply.specs.Said.{said};
 ghost use Rattle.newt_spec_world.specs.Reply.{reply_text};
-ghost use Rattle.newt_script_session.specs.Causes.{HasSinkCause, Keeps, SameDevices};
+ghost use Rattle.newt_script_session.specs.Calls.{OutputFailed, WriteCall};
+ghost use Rattle.newt_script_session.specs.Causes.{HasSinkCause};
 ghost use Rattle.newt_script_session.specs.Stream.{Puts, put_out};
 
 use crate::halt::Halt;
@@ -28,10 +27,8 @@ pub trait Sink: Sized {
         ensures puts { IsTrue H.told
             → Puts result (put_out shows text.now) (H.outside host.old).now
             (H.outside host.new).now }
-        ensures devices { SameDevices H.told (H.outside host.old) (H.outside host.new) }
-        ensures cause { OnErr result
-            (Rose (H.outside host.old).out_faults (H.outside host.new).out_faults) }
-        ensures keeps { Keeps (H.outside host.old) (H.outside host.new) };
+        ensures call { WriteCall H.told OutputFailed result
+            (H.outside host.old) (H.outside host.new) };
 }
 
 /// The output of the host.
@@ -59,10 +56,8 @@ pub fn put_reply<H: Host, S: Sink>(
         → S.has sink.new (texts ++ reply_text (said reply.now) ∷ [])) }
     ensures puts { IsTrue H.told → Puts result (put_out S.shows (reply_text (said reply.now)))
         (H.outside host.old).now (H.outside host.new).now }
-    ensures devices { SameDevices H.told (H.outside host.old) (H.outside host.new) }
-    ensures cause { IfErr result (λ halt.
-        HasSinkCause halt (H.outside host.old) (H.outside host.new)) }
-    ensures keeps { Keeps (H.outside host.old) (H.outside host.new) }
+    ensures call { WriteCall H.told HasSinkCause result
+        (H.outside host.old) (H.outside host.new) }
 {
     let Ok(text) = write_reply(alloc, reply) else {
         return Err(Halt::Memory);

@@ -1,8 +1,11 @@
 //! One line of a script.
-ghost use Rattle.std.specs.Prelude.{IsTrue, ◌≡◌, [], ◌∷◌, Ok, IfOk, OnOk, IfErr};
+ghost use Rattle.std.specs.Prelude.{IsTrue, ◌≡◌, [], ◌∷◌, Ok, IfOk, OnOk};
 ghost use Rattle.newt_script_session.specs.Answered.{Ran};
-ghost use Rattle.newt_script_session.specs.Causes.{flow_of, HasWriteCause, Keeps};
+ghost use Rattle.newt_script_session.specs.Calls.{AnswerCall};
+ghost use Rattle.newt_script_session.specs.Steps.{IsPlain};
+ghost use Rattle.newt_script_session.specs.Causes.{flow_of};
 ghost use Rattle.newt_script_session.specs.Script.{commands_of, has_quit};
+ghost use Rattle.newt_laws_world.specs.Worlds.{has_form};
 ghost use Rattle.newt_spec_script.specs.Script.{is_quit};
 
 use crate::halt::{Flow, Halt, halted_by};
@@ -32,17 +35,17 @@ fn obey<H: Host, I: Interpreter, S: Sink>(
     sink: &mut S,
     command: Command,
 ) -> Result<Flow, Halt>
-    requires { I.stands H.told interpreter.old (H.outside host.old) }
+    requires stands { I.stands H.told interpreter.old (H.outside host.old) }
+    requires plain { IsPlain I.step }
+    requires form { IsTrue (has_form command) }
     ensures stands { OnOk result (I.stands H.told interpreter.new (H.outside host.new)) }
     ensures flow { IfOk result (λ flow. flow ≡ flow_of (is_quit (Ok command))) }
-    ensures ran { IsTrue H.told → Ran S.shows I.answer I.store_of_image result
+    ensures ran { IsTrue H.told → Ran S.shows I.store_of_image result
         (I.world interpreter.old (H.outside host.old))
         (I.world interpreter.new (H.outside host.new))
         (Ok command ∷ []) (S.has sink.old) (S.has sink.new)
         (H.outside host.old).now (H.outside host.new).now }
-    ensures cause { IfErr result (λ halt.
-        HasWriteCause halt (H.outside host.old) (H.outside host.new)) }
-    ensures keeps { Keeps (H.outside host.old) (H.outside host.new) }
+    ensures call { AnswerCall result (H.outside host.old) (H.outside host.new) }
 {
     let flow = flow_after(&command);
     match interpreter.apply(host, command) {
@@ -62,17 +65,15 @@ fn refuse<H: Host, I: Interpreter, S: Sink>(
     sink: &mut S,
     refusal: Refusal,
 ) -> Result<Flow, Halt>
-    requires { I.stands H.told interpreter.now (H.outside host.old) }
+    requires stands { I.stands H.told interpreter.now (H.outside host.old) }
     ensures stands { OnOk result (I.stands H.told interpreter.now (H.outside host.new)) }
     ensures flow { IfOk result (λ flow. flow ≡ Flow.Go) }
-    ensures ran { IsTrue H.told → Ran S.shows I.answer I.store_of_image result
+    ensures ran { IsTrue H.told → Ran S.shows I.store_of_image result
         (I.world interpreter.now (H.outside host.old))
         (I.world interpreter.now (H.outside host.new))
         (Err refusal ∷ []) (S.has sink.old) (S.has sink.new)
         (H.outside host.old).now (H.outside host.new).now }
-    ensures cause { IfErr result (λ halt.
-        HasWriteCause halt (H.outside host.old) (H.outside host.new)) }
-    ensures keeps { Keeps (H.outside host.old) (H.outside host.new) }
+    ensures call { AnswerCall result (H.outside host.old) (H.outside host.new) }
 {
     let reply = Reply::Refused(refusal);
     put_reply(alloc, host, sink, &reply)?;
@@ -87,17 +88,16 @@ pub fn turn<H: Host, I: Interpreter, S: Sink>(
     sink: &mut S,
     bytes: &[u8],
 ) -> Result<Flow, Halt>
-    requires { I.stands H.told interpreter.old (H.outside host.old) }
+    requires stands { I.stands H.told interpreter.old (H.outside host.old) }
+    requires plain { IsPlain I.step }
     ensures stands { OnOk result (I.stands H.told interpreter.new (H.outside host.new)) }
     ensures flow { IfOk result (λ flow. flow ≡ flow_of (has_quit (bytes.now ∷ []))) }
-    ensures ran { IsTrue H.told → Ran S.shows I.answer I.store_of_image result
+    ensures ran { IsTrue H.told → Ran S.shows I.store_of_image result
         (I.world interpreter.old (H.outside host.old))
         (I.world interpreter.new (H.outside host.new))
         (commands_of (bytes.now ∷ [])) (S.has sink.old) (S.has sink.new)
         (H.outside host.old).now (H.outside host.new).now }
-    ensures cause { IfErr result (λ halt.
-        HasWriteCause halt (H.outside host.old) (H.outside host.new)) }
-    ensures keeps { Keeps (H.outside host.old) (H.outside host.new) }
+    ensures call { AnswerCall result (H.outside host.old) (H.outside host.new) }
 {
     match line(alloc, bytes) {
         Ok(None) => Ok(Flow::Go),

@@ -1,7 +1,7 @@
 //! Whole texts of output, by a host that may take a part of one at a time.
-ghost use Rattle.std.specs.Prelude.{◌≡◌, ◌<◌, ◌≤◌, length, take, IsTrue, IfOk, OnErr};
-ghost use Rattle.newt_host.specs.Outside.{PrintsSome, Rose, printed};
-ghost use Rattle.newt_script_session.specs.Causes.{Keeps, SameDevices};
+ghost use Rattle.std.specs.Prelude.{◌≡◌, ◌<◌, ◌≤◌, length, take, IsTrue, IfOk};
+ghost use Rattle.newt_host.specs.Outside.{PrintsSome, printed};
+ghost use Rattle.newt_script_session.specs.Calls.{OutputFailed, WriteCall};
 ghost use Rattle.newt_script_session.specs.Stream.{Puts};
 
 use newt_host::{Failed, Host};
@@ -15,10 +15,8 @@ fn write_part<H: Host>(host: &mut H, bytes: &[u8]) -> Result<usize, Failed>
         ≡ printed (take n bytes.now) (H.outside host.old).now) }
     ensures prints { IsTrue H.told
         → PrintsSome bytes.now (H.outside host.old).now (H.outside host.new).now }
-    ensures devices { SameDevices H.told (H.outside host.old) (H.outside host.new) }
-    ensures cause { OnErr result
-        (Rose (H.outside host.old).out_faults (H.outside host.new).out_faults) }
-    ensures keeps { Keeps (H.outside host.old) (H.outside host.new) }
+    ensures call { WriteCall H.told OutputFailed result
+        (H.outside host.old) (H.outside host.new) }
 {
     host.write_out(bytes)
 }
@@ -27,10 +25,8 @@ fn write_part<H: Host>(host: &mut H, bytes: &[u8]) -> Result<usize, Failed>
 pub fn write_all<H: Host>(host: &mut H, bytes: &[u8]) -> Result<(), Failed>
     ensures puts { IsTrue H.told
         → Puts result bytes.now (H.outside host.old).now (H.outside host.new).now }
-    ensures devices { SameDevices H.told (H.outside host.old) (H.outside host.new) }
-    ensures cause { OnErr result
-        (Rose (H.outside host.old).out_faults (H.outside host.new).out_faults) }
-    ensures keeps { Keeps (H.outside host.old) (H.outside host.new) }
+    ensures call { WriteCall H.told OutputFailed result
+        (H.outside host.old) (H.outside host.new) }
 {
     let mut rest = bytes;
     while !rest.is_empty() {

@@ -45,7 +45,7 @@ reads_word form cs w rest (Some a) r empty word_ok rest_ok is given = record {
   refused = λ apart. rw given tt;
 }
 
--- and never for want of memory
+-- and never when out of memory
 pub never_wants : {A : Type 0} (o : Option A) (r : Result A WordFault) → r ≡ ok_or o Form → r ≢ Err Memory
 never_wants None r given = λ e. cc
 never_wants (Some a) r given = λ e. cc

@@ -1,7 +1,10 @@
 //! To find soups in a directory, and to change it.
-ghost use Rattle.std.specs.Prelude.{◌≡◌, ◌+◌, ◌<◌, ◌≤◌, filter, length, map, not, ◌==◌, nat_le, option_map, option_and_then, OnErr, OnOk, IfOk, IfSome, IsTrue};
+ghost use Rattle.std.specs.Prelude.{◌≡◌, ◌+◌, ◌<◌, ◌≤◌, filter, length, map, not, ◌==◌, nat_le};
+ghost use Rattle.std.specs.Prelude.{option_map, option_and_then, OnErr, OnOk, IfOk, IfSome, IsTrue};
 ghost use Rattle.std.specs.List.{find, position_from};
-ghost use Rattle.newt_spec_store.specs.Store.{soup_named, make_soup, change_first, soup_of, without_soup, uid_taken, take_uid_of, with_index, without_index, change_soup_of, with_tags};
+ghost use Rattle.newt_spec_store.specs.Store.{soup_named, make_soup, change_first, soup_of};
+ghost use Rattle.newt_spec_store.specs.Store.{without_soup, uid_taken, take_uid_of, with_index};
+ghost use Rattle.newt_spec_store.specs.Store.{without_index, change_soup_of, with_tags};
 ghost use Rattle.newt_spec_store.specs.Valid.{well_formed};
 ghost use Rattle.newt_soupdir.specs.Bare.{bare_soup, bare_store};
 ghost use Rattle.newt_spec_store.specs.Keys.{paths_of, same_paths, same_spec};
@@ -18,7 +21,8 @@ use std::alloc::AllocError;
 impl Directory {
     /// The soup of this name.
     pub fn soup_named(&self, name: &[u8]) -> Option<&SoupRow>
-        ensures { option_map (λ row. bare_soup row.now) result ≡ soup_named name.now (bare_store self.now) }
+        ensures { option_map (λ row. bare_soup row.now) result
+            ≡ soup_named name.now (bare_store self.now) }
     {
         let mut left = self.soups.list();
         while let [row, rest @ ..] = left {
@@ -51,8 +55,8 @@ impl Directory {
         MOST_SOUPS <= self.soups.list().len()
     }
 
-    /// A new soup at the end, without entries, indexes and tags, with the next signature, which is the answer. That the name is new and `is_full` is false
-    /// is the caller's to see.
+    /// A new soup at the end, without entries, indexes and tags, with the next signature, which is
+    /// the answer. That the name is new and `is_full` is false is the caller's to see.
     #[tactic(auto, using(crate::proofs::Lists::next_fits))]
     pub fn make_soup(&mut self, name: Name) -> Result<Sig, AllocError>
         requires { IsTrue (well_formed (bare_store self.old)) }
@@ -80,44 +84,54 @@ impl Directory {
         drop_from(&mut self.soups.items, sig);
     }
 
-    /// The place, among the indexes of the soup of this signature, of the one that agrees with this declaration in its paths, but for ASCII case, and in
-    /// its types and orders.
+    /// The place, among the indexes of the soup of this signature, of the one that agrees with this
+    /// declaration in its paths, but for ASCII case, and in its types and orders.
     pub fn index_of(&self, sig: Sig, spec: &IndexSpec) -> Option<usize>
-        ensures { result ≡ option_and_then (λ p. position_from (λ other. same_spec other spec.now) 0 p.specs) (soup_of sig (bare_store self.now)) }
+        ensures { result ≡ option_and_then (λ p. position_from (λ other. same_spec other spec.now) 0
+            p.specs) (soup_of sig (bare_store self.now)) }
     {
         self.soup_of(sig)?.specs.place_of(spec)
     }
 
-    /// The place, among the indexes of the soup of this signature, of the one with these paths, in this order and but for ASCII case.
+    /// The place, among the indexes of the soup of this signature, of the one with these paths, in
+    /// this order and but for ASCII case.
     pub fn index_with_paths(&self, sig: Sig, paths: &[Path]) -> Option<usize>
-        ensures { result ≡ option_and_then (λ p. position_from (λ other. same_paths (paths_of other) paths.now) 0 p.specs) (soup_of sig (bare_store self.now)) }
+        ensures { result ≡ option_and_then (λ p. position_from
+            (λ other. same_paths (paths_of other) paths.now) 0 p.specs)
+            (soup_of sig (bare_store self.now)) }
     {
         self.soup_of(sig)?.specs.place_with_paths(paths)
     }
 
-    /// The soup of this signature has one index more, behind the others. Without such a soup nothing changes.
+    /// The soup of this signature has one index more, behind the others. Without such a soup
+    /// nothing changes.
     pub fn add_spec(&mut self, sig: Sig, spec: IndexSpec) -> Result<(), AllocError>
-        ensures added { OnOk result (bare_store self.new ≡ change_soup_of sig (with_index spec) (bare_store self.old)) }
+        ensures added { OnOk result (bare_store self.new ≡ change_soup_of sig (with_index spec)
+            (bare_store self.old)) }
         ensures err { OnErr result (self.new ≡ self.old) }
     {
         add_spec_in(self.soups.items.as_mut_slice(), sig, spec)
     }
 
-    /// The soup of this signature has no longer the index with these paths, in this order and but for ASCII case. Without such a soup nothing changes.
+    /// The soup of this signature has no longer the index with these paths, in this order and but
+    /// for ASCII case. Without such a soup nothing changes.
     pub fn drop_spec(&mut self, sig: Sig, paths: &[Path])
-        ensures { bare_store self.new ≡ change_soup_of sig (without_index paths.now) (bare_store self.old) }
+        ensures { bare_store self.new ≡ change_soup_of sig (without_index paths.now)
+            (bare_store self.old) }
     {
         drop_spec_in(self.soups.items.as_mut_slice(), sig, paths);
     }
 
-    /// The tags declaration of the soup of this signature is this one, or none. Without such a soup nothing changes.
+    /// The tags declaration of the soup of this signature is this one, or none. Without such a soup
+    /// nothing changes.
     pub fn set_tags(&mut self, sig: Sig, tags: Option<TagTable>)
         ensures { bare_store self.new ≡ change_soup_of sig (with_tags tags) (bare_store self.old) }
     {
         set_tags_in(self.soups.items.as_mut_slice(), sig, tags);
     }
 
-    /// Takes the next entry id of the soup of this signature, which is the answer; none where there is no such soup.
+    /// Takes the next entry id of the soup of this signature, which is the answer; none where there
+    /// is no such soup.
     #[tactic(auto, using(crate::proofs::Lists::next_uid_fits))]
     pub fn take_uid(&mut self, sig: Sig) -> Option<Uid>
         requires { IsTrue (well_formed (bare_store self.old)) }
@@ -127,7 +141,8 @@ impl Directory {
         self.take_small_uid(sig)
     }
 
-    /// The same, where the next id is at most 536,870,911, so that the one after it is a number of 32 bits.
+    /// The same, where the next id is at most 536,870,911, so that the one after it is a number of
+    /// 32 bits.
     fn take_small_uid(&mut self, sig: Sig) -> Option<Uid>
         requires { IfSome (soup_of sig (bare_store self.old)) (λ p. p.next_uid ≤ 536_870_911) }
         ensures uid { result ≡ option_map (λ p. p.next_uid) (soup_of sig (bare_store self.old)) }
@@ -139,7 +154,8 @@ impl Directory {
 
 /// The rows of this signature are gone.
 fn drop_from(rows: &mut Vec<SoupRow>, sig: Sig)
-    ensures { map bare_soup rows.new.items ≡ filter (λ p. not (p.sig == sig)) (map bare_soup rows.old.items) }
+    ensures { map bare_soup rows.new.items ≡ filter (λ p. not (p.sig == sig))
+        (map bare_soup rows.old.items) }
 {
     rows.retain(|row| row.sig != sig);
 }
@@ -174,9 +190,12 @@ fn take_next(row: &mut SoupRow) -> Uid
 
 /// Takes the next entry id of the first row of this signature.
 fn take_uid_in(rows: &mut [SoupRow], sig: Sig) -> Option<Uid>
-    requires { IfSome (find (λ p. p.sig == sig) (map bare_soup rows.old)) (λ p. p.next_uid ≤ 536_870_911) }
-    ensures uid { result ≡ option_map (λ p. p.next_uid) (find (λ p. p.sig == sig) (map bare_soup rows.old)) }
-    ensures taken { map bare_soup rows.new ≡ change_first (λ p. p.sig == sig) uid_taken (map bare_soup rows.old) }
+    requires { IfSome (find (λ p. p.sig == sig) (map bare_soup rows.old))
+        (λ p. p.next_uid ≤ 536_870_911) }
+    ensures uid { result ≡ option_map (λ p. p.next_uid)
+        (find (λ p. p.sig == sig) (map bare_soup rows.old)) }
+    ensures taken { map bare_soup rows.new ≡ change_first (λ p. p.sig == sig) uid_taken
+        (map bare_soup rows.old) }
 {
     let at = place_of(rows, sig)?;
     Some(take_next(&mut rows[at]))
@@ -192,7 +211,8 @@ fn add_to(row: &mut SoupRow, spec: IndexSpec) -> Result<(), AllocError>
 
 /// One index more in the first row of this signature.
 fn add_spec_in(rows: &mut [SoupRow], sig: Sig, spec: IndexSpec) -> Result<(), AllocError>
-    ensures added { OnOk result (map bare_soup rows.new ≡ change_first (λ p. p.sig == sig) (with_index spec) (map bare_soup rows.old)) }
+    ensures added { OnOk result (map bare_soup rows.new ≡ change_first (λ p. p.sig == sig)
+        (with_index spec) (map bare_soup rows.old)) }
     ensures err { OnErr result (rows.new ≡ rows.old) }
 {
     match place_of(rows, sig) {
@@ -210,7 +230,8 @@ fn drop_of(row: &mut SoupRow, paths: &[Path])
 
 /// The index with these paths is gone from the first row of this signature.
 fn drop_spec_in(rows: &mut [SoupRow], sig: Sig, paths: &[Path])
-    ensures { map bare_soup rows.new ≡ change_first (λ p. p.sig == sig) (without_index paths.now) (map bare_soup rows.old) }
+    ensures { map bare_soup rows.new ≡ change_first (λ p. p.sig == sig) (without_index paths.now)
+        (map bare_soup rows.old) }
 {
     if let Some(at) = place_of(rows, sig) {
         drop_of(&mut rows[at], paths);
@@ -226,7 +247,8 @@ fn set_tags_of(row: &mut SoupRow, tags: Option<TagTable>)
 
 /// The tags declaration of the first row of this signature is this one.
 fn set_tags_in(rows: &mut [SoupRow], sig: Sig, tags: Option<TagTable>)
-    ensures { map bare_soup rows.new ≡ change_first (λ p. p.sig == sig) (with_tags tags) (map bare_soup rows.old) }
+    ensures { map bare_soup rows.new ≡ change_first (λ p. p.sig == sig) (with_tags tags)
+        (map bare_soup rows.old) }
 {
     if let Some(at) = place_of(rows, sig) {
         set_tags_of(&mut rows[at], tags);

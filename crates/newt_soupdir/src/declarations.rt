@@ -1,6 +1,8 @@
-//! Declarations of indexes and tags, read from the front of bytes. A count is a byte before what it counts; paths, symbols and counts are tested as they are met.
+//! Declarations of indexes and tags, read from the front of bytes. A count is a byte before what it
+//! counts; paths, symbols and counts are tested as they are met.
 ghost use Rattle.newt_spec_store.specs.Reading.{times};
-ghost use Rattle.newt_soupdir.specs.Reading.{Gives, symbol_at, path_at, kind_at, order_at, part_at, spec_at, specs_at, tag_symbols_at, table_at, tags_at};
+ghost use Rattle.newt_soupdir.specs.Reading.{Gives, symbol_at, path_at, kind_at, order_at, part_at};
+ghost use Rattle.newt_soupdir.specs.Reading.{spec_at, specs_at, tag_symbols_at, table_at, tags_at};
 
 use crate::fault::DirFault;
 use crate::fields::{byte, text};
@@ -135,7 +137,8 @@ fn some_specs(alloc: Global, count: u8, bytes: &[u8]) -> Result<(Vec<IndexSpec>,
     Ok((specs, rest))
 }
 
-/// The indexes of a soup, behind their count. That they are at most 16 with paths of their own is tested with the whole directory.
+/// The indexes of a soup, behind their count. That they are at most 16 with paths of their own is
+/// tested with the whole directory.
 #[tactic(auto, unfolding(crate::specs::Reading::specs_at))]
 pub(crate) fn specs(alloc: Global, bytes: &[u8]) -> Result<(Specs, &[u8]), DirFault>
     ensures { Gives (λ x. (x.0, x.1.now)) result (specs_at bytes.now) }
@@ -145,7 +148,8 @@ pub(crate) fn specs(alloc: Global, bytes: &[u8]) -> Result<(Specs, &[u8]), DirFa
     Ok((Specs::of(specs), rest))
 }
 
-/// The symbols of a tags declaration: at most 64 behind their count, no two of which are one but for ASCII case.
+/// The symbols of a tags declaration: at most 64 behind their count, no two of which are one but
+/// for ASCII case.
 #[tactic(auto, unfolding(crate::specs::Reading::tag_symbols_at))]
 fn tag_symbols(alloc: Global, bytes: &[u8]) -> Result<(Vec<Bytes>, &[u8]), DirFault>
     ensures { Gives (λ x. (x.0.items, x.1.now)) result (tag_symbols_at bytes.now) }

@@ -1,5 +1,7 @@
-//! Numbers, texts and names, read from the front of bytes: each function gives the value and the bytes behind it, and is `Bad` where there are too few.
-ghost use Rattle.newt_soupdir.specs.Reading.{Gives, byte_at, number16_at, number32_at, text_at, name_at};
+//! Numbers, texts and names, read from the front of bytes: each function gives the value and the
+//! bytes behind it, and is `Bad` where there are too few.
+ghost use Rattle.newt_soupdir.specs.Reading.{Gives, byte_at, number16_at, number32_at, text_at};
+ghost use Rattle.newt_soupdir.specs.Reading.{name_at};
 
 use crate::fault::DirFault;
 use newt_base::{Name, NameFault, be16, be32};

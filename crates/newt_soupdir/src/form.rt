@@ -1,4 +1,5 @@
-//! Whether rows make a well formed store: the tests that are left to the whole directory. The forms of names, paths and symbols are kept by their types.
+//! Whether rows make a well formed store: the tests that are left to the whole directory. The forms
+//! of names, paths and symbols are kept by their types.
 ghost use Rattle.std.specs.Prelude.{◌≡◌, ◌&&◌, length, map, nat_le};
 ghost use Rattle.std.specs.List.{list_all, list_any};
 ghost use Rattle.newt_base.specs.Names.{equal_text, is_name};
@@ -30,7 +31,8 @@ pub(crate) const MOST_PARTS: usize = 4;
 pub(crate) const MOST_TAGS: usize = 64;
 
 impl Directory {
-    /// Whether the rows make a well formed store: names of their form and distinct, soup signatures that rise below the next one, and all limits.
+    /// Whether the rows make a well formed store: names of their form and distinct, soup signatures
+    /// that rise below the next one, and all limits.
     pub fn is_well_formed(&self) -> bool
         ensures { result ≡ well_formed (bare_store self.now) }
     {
@@ -50,7 +52,9 @@ impl Directory {
     /// The name and the limits of the store itself.
     #[tactic(auto, using(crate::proofs::Spelled::length_rows))]
     fn is_within_limits(&self) -> bool
-        ensures { result ≡ is_name self.now.name && nat_le self.now.sig 536_870_911 && nat_le self.now.next_soup 65_535 && nat_le (length (map bare_soup self.now.soups)) 64 }
+        ensures { result ≡ is_name self.now.name && nat_le self.now.sig 536_870_911
+            && nat_le self.now.next_soup 65_535
+            && nat_le (length (map bare_soup self.now.soups)) 64 }
     {
         let _name = self.name.list();
         self.sig.0 <= LARGEST_ID
@@ -77,7 +81,8 @@ fn rise(next: u32, soups: &[SoupRow]) -> bool
 
 /// Whether one of these soups has this name. Case counts.
 fn has_name(name: &[u8], soups: &[SoupRow]) -> bool
-    ensures { result ≡ list_any (equal_text name.now) (map (λ p. p.name) (map bare_soup soups.now)) }
+    ensures { result ≡ list_any (equal_text name.now)
+        (map (λ p. p.name) (map bare_soup soups.now)) }
 {
     let mut left = soups;
     while let [row, rest @ ..] = left {
@@ -113,7 +118,8 @@ fn is_valid(row: &SoupRow) -> bool
 
 /// At most 16 indexes, no two with the same paths.
 fn are_valid_specs(specs: &[IndexSpec]) -> bool
-    ensures { result ≡ (nat_le (length specs.now) 16 && list_all valid_spec specs.now && all_apart same_paths (map paths_of specs.now)) }
+    ensures { result ≡ (nat_le (length specs.now) 16 && list_all valid_spec specs.now && all_apart
+        same_paths (map paths_of specs.now)) }
 {
     specs.len() <= MOST_SPECS && have_few_parts(specs) && have_paths_apart(specs)
 }

@@ -65,7 +65,8 @@ impl Specs {
         Ok(Specs { items })
     }
 
-    /// One index more, behind the others. Whether one with the same paths is there, or 16 are, is not looked at.
+    /// One index more, behind the others. Whether one with the same paths is there, or 16 are, is
+    /// not looked at.
     pub fn add(&mut self, spec: IndexSpec) -> Result<(), AllocError>
         ensures added { OnOk result (self.new ≡ self.old ++ spec ∷ []) }
         ensures err { OnErr result (self.new ≡ self.old) }
@@ -81,7 +82,8 @@ impl Specs {
         remove_from(&mut self.items, paths);
     }
 
-    /// The place of the index that agrees with this declaration in its paths, but for ASCII case, and in its types and orders.
+    /// The place of the index that agrees with this declaration in its paths, but for ASCII case,
+    /// and in its types and orders.
     pub fn place_of(&self, spec: &IndexSpec) -> Option<usize>
         ensures { result ≡ position_from (λ other. same_spec other spec.now) 0 self.now }
     {
@@ -90,14 +92,16 @@ impl Specs {
 
     /// The place of the index with these paths, in this order and but for ASCII case.
     pub fn place_with_paths(&self, paths: &[Path]) -> Option<usize>
-        ensures { result ≡ position_from (λ other. same_paths (paths_of other) paths.now) 0 self.now }
+        ensures { result ≡ position_from (λ other. same_paths (paths_of other) paths.now) 0
+            self.now }
     {
         place_with_paths(self.items.as_slice(), paths)
     }
 }
 
 fn remove_from(specs: &mut Vec<IndexSpec>, paths: &[Path])
-    ensures { specs.new.items ≡ filter (λ spec. not (same_paths (paths_of spec) paths.now)) specs.old.items }
+    ensures { specs.new.items ≡ filter (λ spec. not (same_paths (paths_of spec) paths.now))
+        specs.old.items }
 {
     specs.retain(|spec| !spec.has_paths(paths));
 }

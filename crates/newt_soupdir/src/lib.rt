@@ -1,9 +1,10 @@
-//! The directory of a store, as bytes and as rows: the store's name and signature, and of each soup its name, signature, next entry id, indexes and
-//! tags declaration.
+//! The directory of a store, as bytes and as rows: the store's name and signature, and of each soup
+//! its name, signature, next entry id, indexes and tags declaration.
 //!
-//! It stands on `newt_base`, on `newt_keys` and `newt_tags` for the declarations, and on the definitions of `newt_spec_store`. It carries this promise:
-//! a directory is read from exactly the bytes that have one by the store's reading, and is written as the store's definition says; each change of rows
-//! is that change of the plain store.
+//! It stands on `newt_base`, on `newt_keys` and `newt_tags` for the declarations, and on the
+//! definitions of `newt_spec_store`. It carries this promise: a directory is read from exactly the
+//! bytes that have one by the store's reading, and is written as the store's definition says; each
+//! change of rows is that change of the plain store.
 #![tactic(auto)]
 
 mod changes;

@@ -1,5 +1,6 @@
-//! Reading a directory: its bytes from the front, field by field, in the layout of docs/FORMATS.md. What is left behind the last field, and rows that
-//! make no well formed store, are refused at the end.
+//! Reading a directory: its bytes from the front, field by field, in the layout of docs/FORMATS.md.
+//! What is left behind the last field, and rows that make no well formed store, are refused at the
+//! end.
 ghost use Rattle.std.specs.Prelude.{◌≡◌, Some, None, IfOk, IsErrOf};
 ghost use Rattle.newt_spec_store.specs.Reading.{times};
 ghost use Rattle.newt_spec_store.specs.Lies.{directory_read};
@@ -13,7 +14,8 @@ use crate::rows::{Directory, SoupRow, Soups};
 use newt_base::Sig;
 use std::alloc::Global;
 
-/// A soup: its name, two bytes of its signature, four of its next entry id, its indexes and its tags.
+/// A soup: its name, two bytes of its signature, four of its next entry id, its indexes and its
+/// tags.
 #[tactic(auto, unfolding(crate::specs::Reading::soup_at))]
 fn soup(alloc: Global, bytes: &[u8]) -> Result<(SoupRow, &[u8]), DirFault>
     ensures { Gives (λ x. (x.0, x.1.now)) result (soup_at bytes.now) }
@@ -93,7 +95,8 @@ fn whole(alloc: Global, bytes: &[u8]) -> Result<Directory, DirFault>
     Ok(directory)
 }
 
-/// The directory that all of the bytes are read as. `Bad` comes only where they are none: also where a name, a path or a limit has not its form.
+/// The directory that all of the bytes are read as. `Bad` comes only where they are none: also
+/// where a name, a path or a limit has not its form.
 pub fn read_directory(alloc: Global, bytes: &[u8]) -> Result<Directory, DirFault>
     ensures found { IfOk result (λ d. directory_read bytes.now ≡ Some (bare_store d)) }
     ensures bad { IsErrOf result DirFault.Bad → directory_read bytes.now ≡ None }

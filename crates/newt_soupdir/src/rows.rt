@@ -7,8 +7,9 @@ use newt_tags::TagTable;
 use std::alloc::AllocError;
 use std::marker::Model;
 
-/// A soup without its entries: its name, its signature, below the store's next one; the id of its next entry, at most 536,870,911; its indexes; and its
-/// tags declaration, or none. A row by itself may pass these limits: `Directory::is_well_formed` tests them.
+/// A soup without its entries: its name, its signature, below the store's next one; the id of its
+/// next entry, at most 536,870,911; its indexes; and its tags declaration, or none. A row by itself
+/// may pass these limits: `Directory::is_well_formed` tests them.
 #[derive(Drop)]
 pub struct SoupRow {
     pub name: Name,
@@ -92,8 +93,9 @@ impl Soups {
     }
 }
 
-/// The directory of a store: its name; its signature, at most 536,870,911; the signature of the next soup, at most 65,535; and at most 64 soups. As long as
-/// it is built of its fields nothing of this is sure: `is_well_formed` tests it, and what `read_directory` gives has it.
+/// The directory of a store: its name; its signature, at most 536,870,911; the signature of the
+/// next soup, at most 65,535; and at most 64 soups. As long as it is built of its fields nothing of
+/// this is sure: `is_well_formed` tests it, and what `read_directory` gives has it.
 #[derive(Drop)]
 pub struct Directory {
     pub name: Name,

@@ -1,6 +1,9 @@
 //! Writing a directory: what `read` reads, field by field, behind the bytes that are there.
-ghost use Rattle.std.specs.Prelude.{◌≡◌, ◌<◌, ◌^◌, ◌++◌, length, map, All, OnOk, IfOk, IsTrue, Some};
-ghost use Rattle.newt_spec_store.specs.Cost.{text_bytes, path_bytes, kind_byte, direction_byte, part_bytes, tags_bytes, soup_bytes, directory_bytes, counted};
+ghost use Rattle.std.specs.Prelude.{◌≡◌, ◌<◌, ◌^◌, ◌++◌, length, map, All, OnOk, IfOk, IsTrue};
+ghost use Rattle.std.specs.Prelude.{Some};
+ghost use Rattle.newt_spec_store.specs.Cost.{text_bytes, path_bytes, kind_byte, direction_byte};
+ghost use Rattle.newt_spec_store.specs.Cost.{part_bytes, tags_bytes, soup_bytes, directory_bytes};
+ghost use Rattle.newt_spec_store.specs.Cost.{counted};
 ghost use Rattle.newt_spec_store.specs.Valid.{well_formed};
 ghost use Rattle.newt_keys.specs.Seen.{declared};
 ghost use Rattle.newt_soupdir.specs.Bare.{bare_soup, bare_store};
@@ -90,7 +93,8 @@ fn put_spec(out: &mut Vec<u8>, spec: &IndexSpec) -> Result<(), AllocError>
 /// Indexes behind their count.
 fn put_specs(out: &mut Vec<u8>, specs: &[IndexSpec]) -> Result<(), AllocError>
     requires { length specs.now < 256 }
-    ensures { OnOk result (out.new.items ≡ out.old.items ++ counted (counted part_bytes) specs.now) }
+    ensures { OnOk result (out.new.items ≡ out.old.items ++ counted (counted part_bytes)
+        specs.now) }
 {
     out.push(specs.len() as u8)?;
     for spec in specs {
@@ -138,7 +142,8 @@ fn put_soup(out: &mut Vec<u8>, row: &SoupRow) -> Result<(), AllocError>
 fn put_soups(out: &mut Vec<u8>, soups: &[SoupRow]) -> Result<(), AllocError>
     requires few { length soups.now < 256 }
     requires fit { All (λ row. (row.sig < 2 ^ 16) × (length row.specs < 256)) soups.now }
-    ensures { OnOk result (out.new.items ≡ out.old.items ++ counted soup_bytes (map bare_soup soups.now)) }
+    ensures { OnOk result (out.new.items ≡ out.old.items ++ counted soup_bytes
+        (map bare_soup soups.now)) }
 {
     out.push(soups.len() as u8)?;
     for row in soups {

@@ -73,12 +73,13 @@ large_lengths g = flat_map large_length g.nodes
 abbrev pub skeleton_length : RawGraph → ℕ
 skeleton_length g = length (nsof (skeleton g))
 
--- The pages of an entry: those of its record, which is 12 bytes, the written skeleton and 12 bytes for each large binary; and those of each large binary.
--- (this project's own)
+-- the pages of an entry's record, which is 12 bytes, the written skeleton and 12 bytes for each large binary (this project's own)
+abbrev pub record_pages : Entry → ℕ
+record_pages e = pages_for (12 + skeleton_length e.graph + 12 * length (large_lengths e.graph))
+
+-- the pages of an entry: those of its record, and those of each large binary (this project's own)
 abbrev pub entry_pages : Entry → ℕ
-entry_pages e =
-    let larges = large_lengths e.graph in
-    pages_for (12 + skeleton_length e.graph + 12 * length larges) + sum (map pages_for larges)
+entry_pages e = record_pages e + sum (map pages_for (large_lengths e.graph))
 
 -- the pages of a soup's entries (this project's own)
 abbrev pub soup_pages : Soup → ℕ
@@ -97,6 +98,10 @@ cost s = directory_pages s + sum_by soup_pages s.soups
 abbrev pub pages_bytes : ℕ → ℕ → ℕ
 pages_bytes put gone = 9 + 516 * put + 4 * gone
 
--- the bytes of the batch that puts so many bytes in a large binary: it puts the pages that they fill and one more (this project's own)
+-- the most pages that so many bytes of an object, one after another, lie in (this project's own)
+abbrev pub range_pages : ℕ → ℕ
+range_pages count = (count + 499) / 500 + 1
+
+-- the bytes of the batch that puts so many bytes in a large binary: it puts the pages that they lie in (this project's own)
 abbrev pub patch_bytes : ℕ → ℕ
-patch_bytes count = pages_bytes ((count + 499) / 500 + 1) 0
+patch_bytes count = pages_bytes (range_pages count) 0

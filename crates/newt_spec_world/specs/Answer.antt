@@ -9,7 +9,8 @@ use Rattle.newt_spec_world.specs.declared.command.Command.{Command}
 use Rattle.newt_spec_world.specs.declared.command.Command.TheVariants as command
 use Rattle.newt_spec_world.specs.Reply.{Reply}
 use Rattle.newt_spec_world.specs.World.{World, default_unit, mounted, mounted_store, soup_in, entry_in, cursor, free_cursor, hits_of, settle}
-use Rattle.newt_spec_world.specs.Changed.{changed, large_bytes}
+use Rattle.newt_spec_graph.specs.Larges.{large_bytes}
+use Rattle.newt_spec_world.specs.Changed.{changed}
 use Rattle.newt_spec_world.specs.Refused.{checks}
 use Rattle.newt_spec_world.specs.Alias.{Spot, alias_of, resolved}
 

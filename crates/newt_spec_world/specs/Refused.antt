@@ -18,7 +18,8 @@ use Rattle.newt_spec_world.specs.declared.command.Command.{Command}
 use Rattle.newt_spec_world.specs.declared.command.Command.TheVariants as command
 use Rattle.newt_spec_world.specs.declared.command.PartWord.{PartWord}
 use Rattle.newt_spec_world.specs.World.{World, default_unit, store_of, store_on_unit, device, mounted, mounted_store, mounted_stores, soup_in, entry_in, cursor, free_cursor}
-use Rattle.newt_spec_world.specs.Changed.{changed, large_at, large_bytes, graph_after_set, index_of, hit_for, key_from, sig_of}
+use Rattle.newt_spec_graph.specs.Larges.{large_at, large_bytes}
+use Rattle.newt_spec_world.specs.Changed.{changed, graph_after_set, index_of, hit_for, key_from, sig_of}
 use Rattle.newt_spec_world.specs.Alias.{alias_of}
 
 -- a refusal with its test (a word of these definitions)

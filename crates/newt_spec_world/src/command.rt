@@ -15,7 +15,8 @@ pub struct PartWord {
     pub order: Order,
 }
 
-/// A command of a script: a variant for each row of the table of commands, with its words in their order. The commands are this project's own.
+/// A command of a script: a variant for each row of the table of commands, with its words in their
+/// order. The commands are this project's own.
 #[derive(Drop)]
 pub enum Command {
     Nsof(Graph),

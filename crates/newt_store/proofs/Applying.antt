@@ -6,7 +6,7 @@ use Rattle.newt_base.specs.Refusals.{Checks, first_of}
 use Rattle.newt_base.specs.declared.Refusal.{Refusal}
 use Rattle.newt_base.specs.declared.Refusal.TheVariants.{Full}
 use Rattle.newt_host.specs.Moments.{Moment, image, IsDurable, Leaves}
-use Rattle.newt_host.specs.Outside.{Outside, Rose, Touches, Spends}
+use Rattle.newt_host.specs.Outside.{Outside, Rose, Touches, Spends, Wears}
 use Rattle.newt_host.proofs.Outside.{Spends-append, Spends-widen}
 use Rattle.newt_pagebook.specs.declared.book.Stop.TheVariants.{Memory, Device}
 use Rattle.newt_host.proofs.Moments.{Leaves-start, Leaves-weaken}
@@ -217,3 +217,15 @@ spends-both catalog change now s next img unit fetches old mid new other plan fi
 
       either : (a b : ℕ) → (a ≤ b) ⊎ (b < a)
       either a b = ⊎_elim (λ (less : b < a). inr less) (λ (low : a ≤ b). inl low) (cases_lt b a)
+
+-- the same of erases and syncs
+pub wears-both : (catalog : Catalog) (change : Change) (now : ℕ) (s : Store) (next : Next) (img : List ℕ) (unit : ℕ) (old new : Outside) → is_patch change ≡ false → IsPlanOf catalog change now s next
+    → (IsOpenFor (turn_bytes next s (changed_by change now s)) img → Wears unit 0 2 old new)
+    → (cap (blocks_of img) < cost (changed_by change now s) → Wears unit 0 2 old new)
+    → IsOpenFor (most_bytes change (blocks_of img) now s) img → Wears unit 0 2 old new
+wears-both catalog change now s next img unit old new other plan bound none room = ⊎_elim
+    (λ (more : cap (blocks_of img) < cost (changed_by change now s)). none more)
+    (λ (low : cost (changed_by change now s) ≤ cap (blocks_of img)).
+    let same = planned-bytes catalog change (blocks_of img) now s next other plan (none-due change (blocks_of img) now s plan.accepted low) in
+    bound (subst (λ (n : ℕ). IsOpenFor n img) (sym same) room))
+    (cases_lt (cap (blocks_of img)) (cost (changed_by change now s)))

@@ -9,7 +9,7 @@ use Rattle.std.specs.declared.cmp.Ordering.TheVariants.{Less}
 use Rattle.std.proofs.lemmas.Bool.{cases_lt}
 use Rattle.newt_spec_image.specs.Objects.{Objects}
 use Rattle.newt_pagebook.proofs.Tests.{true_or_false, is_same, equal_true, equal_false}
-use Rattle.newt_spec_graph.specs.Lists.{Each, Pairs, rises}
+use Rattle.newt_spec_graph.specs.Lists.{Each, Pairs}
 use Rattle.newt_spec_graph.proofs.Lists.{each-more, rises-pairs}
 use Rattle.newt_spec_store.specs.Store.{Entry, Soup, Store, entry_of, soup_of, count_in}
 use Rattle.newt_spec_store.specs.Lies.{Places}

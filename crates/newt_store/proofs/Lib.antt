@@ -17,3 +17,6 @@ pub mod Going
 pub mod Counting
 pub mod Patching
 pub mod Unanswered
+pub mod Ends
+pub mod Larges
+pub mod Leaving

@@ -15,7 +15,7 @@ use Rattle.newt_graph.specs.declared.node.Node.{Node}
 use Rattle.newt_graph.specs.declared.node.Node.TheVariants.{Symbol, Str, Binary, Large, Array, Frame}
 use Rattle.newt_graph.specs.Graph.{RawGraph}
 use Rattle.newt_host.specs.Moments.{Moment, image, overwritten, IsDurable, Leaves}
-use Rattle.newt_host.specs.Outside.{Outside, Spends}
+use Rattle.newt_host.specs.Outside.{Outside, Spends, Wears}
 use Rattle.newt_host.proofs.Moments.{Leaves-weaken}
 use Rattle.newt_host.proofs.Outside.{Spends-append, Spends-widen}
 use Rattle.newt_host.proofs.Ranges.{length-overwritten}
@@ -108,7 +108,7 @@ node-large k (suc n) c bytes (Array d x ∷ nodes) h = let r = node-large (k + 1
 node-large k (suc n) c bytes (Frame t x ∷ nodes) h = let r = node-large (k + 1) n c bytes nodes h in (r.0, r.1 ∙ ap (numbered bytes) (one-more k n))
 
 -- the node of a large binary
-has-large : (g : RawGraph) (node at : ℕ) (bytes : List ℕ) → slice_get (larges g) at ≡ Some (node, bytes) → (c : ℕ) × (slice_get g.nodes node ≡ Some (Large c bytes))
+pub has-large : (g : RawGraph) (node at : ℕ) (bytes : List ℕ) → slice_get (larges g) at ≡ Some (node, bytes) → (c : ℕ) × (slice_get g.nodes node ≡ Some (Large c bytes))
 has-large g node at bytes h =
     let r = large-node 0 at node bytes g.nodes h in
     let same : node ≡ r.0 = omega (arith, r.1) in
@@ -185,7 +185,7 @@ large-row (r ∷ rows) (x ∷ ls) (i ∷ ids) zero l many e at =
 large-row (r ∷ rows) (x ∷ ls) (i ∷ ids) (suc k) l many e at =
     large-row rows ls ids k l (omega (arith, many)) (others-are {X = LargeRow} (row_at r) (row_of_large (x, i)) (map_list row_at rows) (map_list row_of_large (zip ls ids)) e) at
 
-only-some : {X : Type 0} (test : X → Bool) (o : Option X) (x : X) → only test o ≡ Some x → o ≡ Some x
+pub only-some : {X : Type 0} (test : X → Bool) (o : Option X) (x : X) → only test o ≡ Some x → o ≡ Some x
 only-some test None x h = h
 only-some test (Some y) x h = by (test y) h where
   by : (b : Bool) → cond b (Some y) None ≡ Some x → Some y ≡ Some x
@@ -495,6 +495,14 @@ patch-spends catalog s now stands sig uid node o l at bytes blocks minute unit o
     (λ (past : length l.bytes < at + length bytes). spends-record (most_bytes (Patch sig uid node at bytes) blocks minute s) unit (entry_at sig uid s) old new (spends-no-more unit (512 * record_pages (entry_at sig uid s)) old mid new first (third past)))
     (λ (low : at + length bytes ≤ length l.bytes). spends-both catalog s now stands sig uid node o l at bytes low blocks minute unit old mid new first
     (second (subst (λ (n : ℕ). IsOpenFor n now) (bytes-due catalog s now stands sig uid node o l at bytes low blocks minute) room)))
+    (cases_lt (length l.bytes) (at + length bytes))
+
+pub patch-wears : (catalog : Catalog) (s : Store) (now : List ℕ) (stands : StandsFor catalog s now) (sig uid node o : ℕ) (l : IsLargeOf catalog s sig uid node o) (at : ℕ) (bytes : List ℕ) (blocks minute unit : ℕ) (old new : Outside)
+    → (IsOpenFor (patch_bytes (length bytes)) now → Wears unit 0 2 old new) → (length l.bytes < at + length bytes → Wears unit 0 2 old new)
+    → IsOpenFor (most_bytes (Patch sig uid node at bytes) blocks minute s) now → Wears unit 0 2 old new
+patch-wears catalog s now stands sig uid node o l at bytes blocks minute unit old new first second room = ⊎_elim
+    (λ (past : length l.bytes < at + length bytes). second past)
+    (λ (low : at + length bytes ≤ length l.bytes). first (subst (λ (n : ℕ). IsOpenFor n now) (bytes-due catalog s now stands sig uid node o l at bytes low blocks minute) room))
     (cases_lt (length l.bytes) (at + length bytes))
 
 -- ---- refusals

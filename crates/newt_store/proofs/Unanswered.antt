@@ -1,4 +1,4 @@
--- An answer of want of memory, of which most clauses say nothing.
+-- An answer out of memory, of which most clauses say nothing.
 use Rattle.std.proofs.Common.{◌≡◌, ℕ, Result, Ok, Err, IfOk, IfErr, OnOk, IsErr, IsErrAnd, IsErrOf, sym, subst}
 use Rattle.newt_base.specs.declared.Refusal.TheVariants.{Full}
 use Rattle.newt_pagebook.specs.declared.book.Stop.TheVariants.{Memory, Device}

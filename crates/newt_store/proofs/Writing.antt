@@ -1,5 +1,5 @@
 -- What a change writes, from what is planned of it.
-use Rattle.std.proofs.Common.{◌≡◌, ◌≢◌, inl, inr, ℕ, ◌+◌, Bool, List, [], ◌∷◌, map as map_list, length, Option, Some, None, IsSome, Result, Err, refl, sym, ◌∙◌, ap, subst, arith, ⊎_elim}
+use Rattle.std.proofs.Common.{◌≡◌, ◌≢◌, inl, inr, ℕ, ◌+◌, Bool, List, [], ◌∷◌, map as map_list, length, Option, Some, None, IsSome, IsTrue, Result, Ok, Err, OnOk, refl, sym, ◌∙◌, ap, subst, arith, ⊎_elim}
 use Rattle.std.specs.FinMap as map
 use Rattle.std.specs.Option.{option_map}
 use Rattle.std.proofs.lemmas.Bool.{cases_eq}
@@ -7,7 +7,7 @@ use Rattle.newt_base.specs.declared.Refusal.{Refusal}
 use Rattle.newt_base.specs.declared.Refusal.TheVariants.{Full}
 use Rattle.newt_host.specs.Moments.{Moment, image, IsDurable, Leaves}
 use Rattle.newt_host.specs.Outside.{Outside, Spends}
-use Rattle.newt_host.proofs.Outside.{Spends-refl, Spends-widen}
+use Rattle.newt_host.proofs.Outside.{Spends-refl, Spends-widen, Touches-refl, Wears-refl}
 use Rattle.newt_spec_store.specs.Cost.{directory_bytes, pages_bytes}
 use Rattle.newt_soupdir.specs.Bare.{bare_store}
 use Rattle.newt_host.proofs.Moments.{Leaves-start, Leaves-weaken}
@@ -26,12 +26,19 @@ use Rattle.newt_objects_commit.specs.declared.batch.NewEntry.{NewEntry}
 use Rattle.newt_objects_commit.specs.declared.batch.NewLarge.{NewLarge}
 use Rattle.newt_store_change.specs.declared.fault.StoreFault.{StoreFault}
 use Rattle.newt_store_change.specs.declared.fault.StoreFault.TheVariants.{Refused, Stop}
-use Rattle.newt_objects_commit.specs.Batch.{AreWritten, AddsPages, large_ids, new_pages, over_pages, pages_held, all_pages_held}
-use Rattle.newt_objects_commit.specs.Commit.{AreKept, IsPlanned, IsEither}
+use Rattle.newt_objects_commit.specs.Batch.{AreWritten, AddsPages, LeadsTo, large_ids, new_pages, over_pages, pages_held, all_pages_held}
+use Rattle.newt_objects_commit.specs.Calls.{CommitsObjects}
+use Rattle.newt_objects_commit.specs.Commit.{AreKept, IsPlanned, IsEither, MakesPlanned}
 use Rattle.newt_objects_commit.specs.Faults.{RefusesOnly}
 use Rattle.newt_store.specs.declared.next.Next.{Next}
 use Rattle.newt_store.specs.Next.{WritesNext, HoldsEither, next_bytes}
-use Rattle.newt_store_change.specs.Faults.{GoesOn, IsRefused}
+use Rattle.newt_store.specs.Writes.{WritesObjects}
+use Rattle.newt_store_change.specs.Faults.{FaultsAt, GoesOn, IsRefused}
+use Rattle.newt_store_catalog.proofs.Kept.{held-are}
+use Rattle.newt_spec_image.specs.Objects.{Extent}
+use Rattle.newt_objects.proofs.TextsOf.{texts_of}
+use Rattle.newt_store.proofs.Ends.{wears-nothing}
+use Rattle.newt_store.proofs.Unanswered.{IsMemory, memory-on, memory-err, memory-stops, memory-refuses, memory-fits}
 
 -- ---- answers
 
@@ -153,3 +160,86 @@ bytes-planned next objects gone bytes first batch none is adds =
     let p : length batch.puts ≡ pages_for (length (directory_bytes (bare_store next.directory))) + new_pages next.entry = in-all _ _ _ _ _ _ adds.more_puts a (ap (λ (l : List ℕ). pages_for (length l)) is) refl in
     let q : length batch.deletes ≡ pages_held objects 0 + over_pages objects next.entry + all_pages_held objects gone = in-all _ _ _ _ _ _ adds.more_deletes b refl refl in
     λ i. pages_bytes (p i) (q i)
+
+-- ---- what is promised of it
+
+-- the plans lead from no plan to what a change writes
+abbrev pub LeadsOn : Next → List ℕ → Held → Held → Change → Type 0
+LeadsOn next gone objects planning batch = LeadsTo (WritesNext next gone) objects no_change planning batch
+
+pub leads-on : (next : Next) (gone bytes : List ℕ) (objects : Held) (first : Change) (planning : Held) (batch : Change) → first ≡ no_change → bytes ≡ directory_bytes (bare_store next.directory)
+    → LeadsTo (AreWritten bytes next.entry gone) objects first planning batch → LeadsOn next gone objects planning batch
+leads-on next gone bytes objects first planning batch none is leads =
+    subst (λ (l : List ℕ). LeadsTo (AreWritten l next.entry gone) objects no_change planning batch) is
+    (subst (λ (b : Change). LeadsTo (AreWritten bytes next.entry gone) objects b planning batch) none leads)
+
+on-ok : {T : Type 0} (r : Result T StoreFault) (A B : Type 0) → (A → B) → OnOk r A → OnOk r B
+on-ok (Ok x) A B f a = f a
+on-ok (Err e) A B f a = tt
+
+module _ (told : Bool) (objects : Held) (numbers : Numbers) (unit : ℕ) (outside : Outside) (kept : AreKept told objects numbers unit outside)
+    (next : Next) (gone : List ℕ) (planning new : Held) (batch : Change) (later : Outside) (r : Result (Unit {0}) StoreFault) where
+  -- objects that are held are planned, and then they are those after the change
+  led : LeadsOn next gone objects planning batch → (was : Objects) → AreObjectsOf kept.are.live was
+      → (will : Objects) × IsPlanned told planning batch numbers (image unit outside.now) was will × WritesNext next gone was will
+  led leads was are =
+      let made = leads kept.are.live was (start-way told objects numbers unit outside kept was are) in
+      (made.0, planned-made told objects numbers unit outside kept planning batch was made.0 are made.1, made.2)
+
+  pub writes-objects : LeadsOn next gone objects planning batch → ((id : ℕ) → held planning id ≡ held objects id)
+      → MakesPlanned told unit batch numbers planning new outside later r → WritesObjects told unit next gone objects new outside later r
+  writes-objects leads same makes =
+      let live : Pages = kept.are.live in
+      let texts = texts_of live (held objects) kept.are.is_table in
+      let start = start-way told objects numbers unit outside kept texts.0 texts.1 in
+      let made = leads live texts.0 start in
+      let some : (id : ℕ) → IsSome (planned planning id) → held new id ≡ planned planning id → IsSome (held new id) = λ id there is. subst (λ (x : Option Extent). IsSome x) (sym is) there in
+      record {
+        new = on-ok r _ _ (λ is e new-is. some e.id (planned-new objects planning batch live texts.0 made.0 _ next.entry gone start texts.1 made.1 made.2 e new-is) (is e.id)) makes.made;
+        new_larges = on-ok r _ _ (λ is e id new-is m. some id (planned-larges objects planning batch live texts.0 made.0 _ next.entry gone start texts.1 made.1 made.2 e id new-is m) (is id)) makes.made;
+        there = on-ok r _ _ (λ is id there stays. some id (planned-there objects planning batch live texts.0 made.0 _ next.entry gone start texts.1 made.1 made.2 id there stays) (is id)) makes.made;
+        holds = λ tells was holds.
+            let w = led leads was (held-are told objects numbers unit outside kept was tells holds) in
+            on-ok r _ _ (λ done. (w.0, done.0, w.2, done.1)) (makes.holds tells was w.0 w.1);
+        full = λ is tells was holds.
+            let w = led leads was (held-are told objects numbers unit outside kept was tells holds) in
+            (w.0, w.2, makes.full is tells was w.0 w.1);
+        only = makes.only;
+        still = λ is id. makes.still is id ∙ same id;
+        any_moment = λ tells was holds.
+            let w = led leads was (held-are told objects numbers unit outside kept was tells holds) in
+            leaves-next unit (image unit outside.now) next gone was w.0 outside.now later.now w.2 (makes.any_moment tells was w.0 w.1);
+        too_many = λ tells was holds each.
+            let w = led leads was (held-are told objects numbers unit outside kept was tells holds) in
+            (makes.too_many tells was w.0 w.1 (each w.0 w.2), makes.too_many_wears tells was w.0 w.1 (each w.0 w.2));
+      }
+
+-- memory was wanting before anything was written
+pub commits-memory : {B : Type 0} (place : B → ℕ) (numbers : B → Numbers) (standing : Bool → B → Outside → Type 0) (told : Bool) (objects : Held) (bytes fetches : ℕ) (book : B) (outside : Outside) (r : Result (Unit {0}) StoreFault)
+    → IsMemory r → standing told book outside → CommitsObjects place numbers standing told objects bytes fetches book book outside outside r
+commits-memory place numbers standing told objects bytes fetches book outside r memory stands = record {
+  stands = λ goes. stands;
+  kept = λ goes. absurd (memory-stops r memory goes);
+  same_place = refl;
+  nothing_done = λ is. refl;
+  bound = λ tells room. spends-nothing (place book) bytes fetches outside;
+  wears = λ tells room. wears-nothing (place book) outside;
+  open_after = λ tells. memory-on r _ memory;
+  alone = Touches-refl (place book) outside;
+  cause = memory-err r (FaultsAt (place book) outside outside) memory tt;
+  no_fault = λ goes. absurd (memory-stops r memory goes);
+}
+
+pub writes-memory : (told : Bool) (unit : ℕ) (next : Next) (gone : List ℕ) (old new : Held) (outside : Outside) (r : Result (Unit {0}) StoreFault)
+    → IsMemory r → (IsTrue told → IsDurable unit outside.now) → WritesObjects told unit next gone old new outside outside r
+writes-memory told unit next gone old new outside r memory durable = record {
+  new = memory-on r _ memory;
+  new_larges = memory-on r _ memory;
+  there = memory-on r _ memory;
+  holds = λ tells was holds. memory-on r _ memory;
+  full = λ is tells was holds. absurd (memory-fits r memory is);
+  only = memory-err r (RefusesOnly Full) memory tt;
+  still = λ is id. absurd (memory-refuses r memory is);
+  any_moment = λ tells was holds. leaves-none unit next gone was outside.now holds (durable tells);
+  too_many = λ tells was holds each. (spends-nothing unit 0 0 outside, Wears-refl unit outside);
+}

@@ -1,3 +1,5 @@
 pub mod Stands
 pub mod Next
 pub mod Patch
+pub mod Calls
+pub mod Writes

@@ -1,30 +1,21 @@
 // A change is written, and the memory follows.
-ghost use Rattle.std.specs.Prelude.{IsTrue, ◌≡◌, ◌≢◌, ◌++◌, [], ◌<◌, ◌≤◌, ℕ, true, false, Some, None, IsSome, OnOk, IfOk, IfErr, IsErrOf};
-ghost use Rattle.newt_base.specs.declared.Refusal.TheVariants.{Full};
-ghost use Rattle.newt_host.specs.Moments.{image, Leaves};
-ghost use Rattle.newt_host.specs.Outside.{Touches, Spends};
-ghost use Rattle.newt_spec_image.specs.Pages.{cap};
-ghost use Rattle.newt_spec_image.specs.Objects.{Objects as Texts};
-ghost use Rattle.newt_pagebook.specs.Book.{IsOpenFor};
-ghost use Rattle.newt_objects.specs.Held.{held};
-ghost use Rattle.newt_objects.specs.Changing.{HoldsObjects, total_pages};
-ghost use Rattle.newt_spec_store.specs.Store.{Store as PlainStore};
-ghost use Rattle.newt_spec_store.specs.Cost.{cost};
-ghost use Rattle.newt_spec_store.specs.OfImage.{blocks_of};
-ghost use Rattle.newt_spec_store.specs.Valid.{well_formed};
+ghost use Rattle.std.specs.Prelude.{IsTrue, ◌≡◌, ◌≢◌, ◌++◌, [], ℕ, true, false, Some, None, OnOk};
+ghost use Rattle.std.specs.Prelude.{IfOk};
 ghost use Rattle.newt_soupdir.specs.Bare.{bare_store};
-ghost use Rattle.newt_objects_commit.specs.declared.batch.NewEntry.{NewEntry as NewOne};
-ghost use Rattle.newt_laws_changes.specs.Written.{Names};
 ghost use Rattle.newt_spec_graph.specs.Lists.{Among};
-ghost use Rattle.newt_objects_commit.specs.Batch.{AreOnce, HasIds, IsApart, large_ids};
+ghost use Rattle.newt_spec_store.specs.Valid.{well_formed};
+ghost use Rattle.newt_objects_commit.specs.Batch.{AreOnce, CanBePlanned, large_ids};
+ghost use Rattle.newt_objects_commit.specs.Calls.{CommitsObjects};
+ghost use Rattle.newt_objects_commit.specs.Commit.{AreKept};
 ghost use Rattle.newt_objects_commit.specs.Names.{names_of, IsReady};
-ghost use Rattle.newt_objects_commit.specs.Commit.{AreKept, Fit};
-ghost use Rattle.newt_store_change.specs.Faults.{FaultsAt};
-ghost use Rattle.newt_objects_commit.specs.Faults.{RefusesOnly};
-ghost use Rattle.newt_store.specs.Next.{Goes, IsNew, names_replaced, all_gone, IsNextOf, WritesNext, Turns, HoldsEither, IsEitherStore, next_bytes, turn_bytes};
-ghost use Rattle.newt_store_catalog.specs.Stands.{StandsFor, IsSound};
-ghost use Rattle.newt_store_change.specs.Faults.{GoesOn, IsRefused};
 ghost use Rattle.newt_objects_commit.specs.Places.{place_of};
+ghost use Rattle.newt_objects_commit.specs.declared.batch.NewEntry.{NewEntry as NewOne};
+ghost use Rattle.newt_store_catalog.specs.Stands.{IsSound};
+ghost use Rattle.newt_store.specs.Calls.{LeavesStore};
+ghost use Rattle.newt_store.specs.Next.{Goes, IsNew, IsNextOf, all_gone, names_replaced};
+ghost use Rattle.newt_store.specs.Next.{next_bytes};
+ghost use Rattle.newt_store.specs.Writes.{FollowsNames, FollowsPlaces, MakesNext, TurnsUnit};
+ghost use Rattle.newt_store.specs.Writes.{WritesObjects};
 
 use crate::next::{Gone, Next};
 use crate::plan::ids_of;
@@ -54,9 +45,13 @@ fn one_object(alloc: Global, found: Option<u32>) -> Result<Vec<u32>, AllocError>
 
 // The objects of the records of the entries that go.
 fn gone_records(alloc: Global, places: &PlaceTable, gone: Gone) -> Result<Vec<u32>, AllocError>
-    requires { (sig uid other_sig other_uid id : ℕ) → place_of places.now sig uid ≡ Some id → place_of places.now other_sig other_uid ≡ Some id → (sig ≡ other_sig) × (uid ≡ other_uid) }
-    ensures real { IfOk result (λ ids. (id : ℕ) → Among ids.items id → (sig : ℕ) × (uid : ℕ) × Goes gone sig uid × (place_of places.now sig uid ≡ Some id)) }
-    ensures all { IfOk result (λ ids. (sig uid id : ℕ) → Goes gone sig uid → place_of places.now sig uid ≡ Some id → Among ids.items id) }
+    requires { (sig uid other_sig other_uid id : ℕ) → place_of places.now sig uid ≡ Some id
+        → place_of places.now other_sig other_uid ≡ Some id
+        → (sig ≡ other_sig) × (uid ≡ other_uid) }
+    ensures real { IfOk result (λ ids. (id : ℕ) → Among ids.items id → (sig : ℕ) × (uid : ℕ) × Goes
+        gone sig uid × (place_of places.now sig uid ≡ Some id)) }
+    ensures all { IfOk result (λ ids. (sig uid id : ℕ) → Goes gone sig uid → place_of places.now sig
+        uid ≡ Some id → Among ids.items id) }
     ensures once { IfOk result (λ ids. AreOnce ids.items) }
 {
     match gone {
@@ -75,7 +70,8 @@ fn append_replaced(
     entry: &Option<NewEntry>,
     ids: &mut Vec<u32>,
 ) -> Result<(), AllocError>
-    ensures { OnOk result (ids.new.items ≡ ids.old.items ++ names_replaced (names_of names.now) entry.now) }
+    ensures { OnOk result (ids.new.items ≡ ids.old.items ++ names_replaced (names_of names.now)
+        entry.now) }
 {
     match entry {
         Some(e) => names.append(e.id, ids),
@@ -83,7 +79,8 @@ fn append_replaced(
     }
 }
 
-// The objects that go: the records of the entries that go, and what these and a record that is put over another name no more.
+// The objects that go: the records of the entries that go, and what these and a record that is put
+// over another name no more.
 fn gone_objects(
     alloc: Global,
     names: &NameTable,
@@ -111,7 +108,8 @@ fn new_names(alloc: Global, entry: &Option<NewEntry>) -> Result<Vec<u32>, AllocE
     }
 }
 
-// What a change takes from memory before it is written: the records that go, all objects that go, and what the record of the new entry names.
+// What a change takes from memory before it is written: the records that go, all objects that go,
+// and what the record of the new entry names.
 #[derive(Drop)]
 struct Gathered {
     records: Vec<u32>,
@@ -126,12 +124,18 @@ fn gather(
     names: &NameTable,
     next: &Next,
 ) -> Result<Gathered, AllocError>
-    requires { (sig uid other_sig other_uid id : ℕ) → place_of places.now sig uid ≡ Some id → place_of places.now other_sig other_uid ≡ Some id → (sig ≡ other_sig) × (uid ≡ other_uid) }
-    ensures real { IfOk result (λ g. (id : ℕ) → Among g.records.items id → (sig : ℕ) × (uid : ℕ) × Goes next.now.gone sig uid × (place_of places.now sig uid ≡ Some id)) }
-    ensures all { IfOk result (λ g. (sig uid id : ℕ) → Goes next.now.gone sig uid → place_of places.now sig uid ≡ Some id → Among g.records.items id) }
+    requires { (sig uid other_sig other_uid id : ℕ) → place_of places.now sig uid ≡ Some id
+        → place_of places.now other_sig other_uid ≡ Some id
+        → (sig ≡ other_sig) × (uid ≡ other_uid) }
+    ensures real { IfOk result (λ g. (id : ℕ) → Among g.records.items id → (sig : ℕ) × (uid : ℕ) ×
+        Goes next.now.gone sig uid × (place_of places.now sig uid ≡ Some id)) }
+    ensures all { IfOk result (λ g. (sig uid id : ℕ) → Goes next.now.gone sig uid → place_of
+        places.now sig uid ≡ Some id → Among g.records.items id) }
     ensures once { IfOk result (λ g. AreOnce g.records.items) }
-    ensures gone { IfOk result (λ g. g.gone.items ≡ all_gone (names_of names.now) g.records.items next.now.entry) }
-    ensures named { IfOk result (λ g. (e : NewOne) → next.now.entry ≡ Some e → g.named.items ≡ large_ids e) }
+    ensures gone { IfOk result (λ g. g.gone.items ≡ all_gone (names_of names.now) g.records.items
+        next.now.entry) }
+    ensures named { IfOk result (λ g. (e : NewOne) → next.now.entry ≡ Some e → g.named.items ≡
+        large_ids e) }
 {
     let records = gone_records(alloc, places, next.gone)?;
     let gone = gone_objects(alloc, names, &records, &next.entry)?;
@@ -161,8 +165,10 @@ fn prepare_names(
 // Forgets what the records of the entries that go name.
 fn forget_names(names: &mut NameTable, records: &[u32])
     ensures gone { (r : ℕ) → Among records.now r → names_of names.new r ≡ [] }
-    ensures others { (r : ℕ) → (Among records.now r → ⊥) → names_of names.new r ≡ names_of names.old r }
-    ensures ready { (r : ℕ) → (Among records.now r → ⊥) → IsReady names.old r → IsReady names.new r }
+    ensures others { (r : ℕ) → (Among records.now r → ⊥)
+        → names_of names.new r ≡ names_of names.old r }
+    ensures ready { (r : ℕ) → (Among records.now r → ⊥) → IsReady names.old r
+        → IsReady names.new r }
 {
     for id in records {
         names.remove(*id);
@@ -173,7 +179,8 @@ fn forget_names(names: &mut NameTable, records: &[u32])
 fn name_new(names: &mut NameTable, entry: &Option<NewEntry>, ids: Vec<u32>)
     requires ready { (e : NewOne) → entry.now ≡ Some e → IsReady names.old e.id }
     ensures named { (e : NewOne) → entry.now ≡ Some e → names_of names.new e.id ≡ ids.items }
-    ensures others { (r : ℕ) → ((e : NewOne) → entry.now ≡ Some e → e.id ≢ r) → names_of names.new r ≡ names_of names.old r }
+    ensures others { (r : ℕ) → ((e : NewOne) → entry.now ≡ Some e → e.id ≢ r)
+        → names_of names.new r ≡ names_of names.old r }
 {
     if let Some(e) = entry {
         names.set(e.id, ids);
@@ -182,8 +189,7 @@ fn name_new(names: &mut NameTable, entry: &Option<NewEntry>, ids: Vec<u32>)
 
 // Forgets the places of the entries that go.
 fn forget_gone(places: &mut PlaceTable, gone: Gone)
-    ensures gone { (sig uid : ℕ) → Goes gone sig uid → place_of places.new sig uid ≡ None }
-    ensures others { (sig uid : ℕ) → (Goes gone sig uid → ⊥) → place_of places.new sig uid ≡ place_of places.old sig uid }
+    ensures { FollowsPlaces gone (place_of places.old) (place_of places.new) }
 {
     match gone {
         Gone::Nothing => {}
@@ -194,8 +200,10 @@ fn forget_gone(places: &mut PlaceTable, gone: Gone)
 
 // Keeps the place of the new entry, if there is one.
 fn keep_new(places: &mut PlaceTable, entry: &Option<NewEntry>) -> Result<(), AllocError>
-    ensures kept { OnOk result ((e : NewOne) → entry.now ≡ Some e → place_of places.new e.sig e.uid ≡ Some e.id) }
-    ensures others { OnOk result ((sig uid : ℕ) → (IsNew entry.now sig uid → ⊥) → place_of places.new sig uid ≡ place_of places.old sig uid) }
+    ensures kept { OnOk result ((e : NewOne) → entry.now ≡ Some e → place_of places.new e.sig e.uid
+        ≡ Some e.id) }
+    ensures others { OnOk result ((sig uid : ℕ) → (IsNew entry.now sig uid → ⊥) → place_of
+        places.new sig uid ≡ place_of places.old sig uid) }
 {
     match entry {
         Some(e) => places.insert(e.sig, e.uid, e.id),
@@ -205,8 +213,10 @@ fn keep_new(places: &mut PlaceTable, entry: &Option<NewEntry>) -> Result<(), All
 
 // Whether the new entry has its place already, since it is put in the place of another.
 fn is_placed(places: &PlaceTable, entry: &Option<NewEntry>) -> bool
-    ensures placed { result ≡ true → (e : NewOne) → entry.now ≡ Some e → place_of places.now e.sig e.uid ≡ Some e.id }
-    ensures not_placed { result ≡ false → (e : NewOne) → entry.now ≡ Some e → place_of places.now e.sig e.uid ≢ Some e.id }
+    ensures placed { result ≡ true → (e : NewOne) → entry.now ≡ Some e
+        → place_of places.now e.sig e.uid ≡ Some e.id }
+    ensures not_placed { result ≡ false → (e : NewOne) → entry.now ≡ Some e
+        → place_of places.now e.sig e.uid ≢ Some e.id }
 {
     match entry {
         Some(e) => places.get(e.sig, e.uid) == Some(e.id),
@@ -216,9 +226,12 @@ fn is_placed(places: &PlaceTable, entry: &Option<NewEntry>) -> bool
 
 // Forgets the place of the new entry, if there is one that had no place before.
 fn forget_new(places: &mut PlaceTable, entry: &Option<NewEntry>, was_placed: bool)
-    ensures gone { was_placed ≡ false → (sig uid : ℕ) → IsNew entry.now sig uid → place_of places.new sig uid ≡ None }
-    ensures stays { was_placed ≡ true → (sig uid : ℕ) → place_of places.new sig uid ≡ place_of places.old sig uid }
-    ensures others { (sig uid : ℕ) → (IsNew entry.now sig uid → ⊥) → place_of places.new sig uid ≡ place_of places.old sig uid }
+    ensures gone { was_placed ≡ false → (sig uid : ℕ) → IsNew entry.now sig uid
+        → place_of places.new sig uid ≡ None }
+    ensures stays { was_placed ≡ true → (sig uid : ℕ)
+        → place_of places.new sig uid ≡ place_of places.old sig uid }
+    ensures others { (sig uid : ℕ) → (IsNew entry.now sig uid → ⊥)
+        → place_of places.new sig uid ≡ place_of places.old sig uid }
 {
     if was_placed {
         return;
@@ -236,8 +249,9 @@ fn hint_after(entry: &Option<NewEntry>, was_placed: bool, hint: u32) -> u32 {
     }
 }
 
-// The memory follows what was written: the entries that go have no places, and their records name nothing; the new entry's record names its large binaries;
-// the directory is the new one. Answers the change's answer.
+// The memory follows what was written: the entries that go have no places, and their records name
+// nothing; the new entry's record names its large binaries; the directory is the new one. Answers
+// the change's answer.
 fn follow(
     names: &mut NameTable,
     places: &mut PlaceTable,
@@ -246,13 +260,13 @@ fn follow(
     gathered: Gathered,
 ) -> u32
     requires ready { (e : NewOne) → next.entry ≡ Some e → IsReady names.old e.id }
-    requires stays { (e : NewOne) → next.entry ≡ Some e → Among gathered.records.items e.id → ⊥ }
+    requires stays { (e : NewOne) → next.entry ≡ Some e →
+        Among gathered.records.items e.id → ⊥ }
     ensures answer { result ≡ next.answer }
     ensures directory { directory.new ≡ next.directory }
-    ensures gone { (sig uid : ℕ) → Goes next.gone sig uid → place_of places.new sig uid ≡ None }
-    ensures others { (sig uid : ℕ) → (Goes next.gone sig uid → ⊥) → place_of places.new sig uid ≡ place_of places.old sig uid }
-    ensures named { (e : NewOne) → next.entry ≡ Some e → names_of names.new e.id ≡ gathered.named.items }
-    ensures between { (forgotten : Names) × ((r : ℕ) → Among gathered.records.items r → forgotten r ≡ []) × ((r : ℕ) → (Among gathered.records.items r → ⊥) → forgotten r ≡ names_of names.old r) × ((r : ℕ) → ((e : NewOne) → next.entry ≡ Some e → e.id ≢ r) → names_of names.new r ≡ forgotten r) }
+    ensures places { FollowsPlaces next.gone (place_of places.old) (place_of places.new) }
+    ensures names { FollowsNames next.entry gathered.records.items gathered.named.items
+        (names_of names.old) (names_of names.new) }
 {
     forget_names(names, &gathered.records);
     name_new(names, &next.entry, gathered.named);
@@ -261,7 +275,8 @@ fn follow(
     next.answer
 }
 
-// Writes what a change makes, as one batch: the directory, the new entry's record and large binaries, and no object that goes.
+// Writes what a change makes, as one batch: the directory, the new entry's record and large
+// binaries, and no object that goes.
 fn write_next<P: PageBook, H: Host>(
     alloc: Global,
     host: &mut H,
@@ -271,30 +286,15 @@ fn write_next<P: PageBook, H: Host>(
     gone: &[u32],
 ) -> Result<(), StoreFault>
     requires stands { P.stands H.told book.old (H.outside host.old) }
-    requires kept { AreKept H.told objects.old (P.numbers book.old) (P.place book.old) (H.outside host.old) }
+    requires kept { AreKept H.told objects.old (P.numbers book.old) (P.place book.old)
+        (H.outside host.old) }
     requires formed { IsTrue (well_formed (bare_store next.now.directory)) }
-    requires ids { (e : NewOne) → next.now.entry ≡ Some e → HasIds e }
-    requires apart { IsApart next.now.entry gone.now }
-    requires there { (id : ℕ) → Among gone.now id → IsSome (held objects.old id) }
-    requires behind { (id : ℕ) → Among gone.now id → 0 < id }
-    requires once { AreOnce gone.now }
-    ensures stands { GoesOn result → P.stands H.told book.new (H.outside host.new) }
-    ensures kept { GoesOn result → AreKept H.told objects.new (P.numbers book.new) (P.place book.new) (H.outside host.new) }
-    ensures place { P.place book.new ≡ P.place book.old }
-    ensures new { OnOk result ((e : NewOne) → next.now.entry ≡ Some e → IsSome (held objects.new e.id)) }
-    ensures new_larges { OnOk result ((e : NewOne) (id : ℕ) → next.now.entry ≡ Some e → Among (large_ids e) id → IsSome (held objects.new id)) }
-    ensures there { OnOk result ((id : ℕ) → IsSome (held objects.old id) → (Among gone.now id → ⊥) → IsSome (held objects.new id)) }
-    ensures holds { IsTrue H.told → (before : Texts) → HoldsObjects (image (P.place book.old) (H.outside host.old).now) before → OnOk result ((after : Texts) × HoldsObjects (image (P.place book.old) (H.outside host.new).now) after × WritesNext next.now gone.now before after × Fit after (image (P.place book.old) (H.outside host.old).now)) }
-    ensures full { IsErrOf result (StoreFault.Refused Refusal.Full) → IsTrue H.told → (before : Texts) → HoldsObjects (image (P.place book.old) (H.outside host.old).now) before → (after : Texts) × WritesNext next.now gone.now before after × (cap (blocks_of (image (P.place book.old) (H.outside host.old).now)) < total_pages after) }
-    ensures only { IfErr result (RefusesOnly Full) }
-    ensures still { IsRefused result → (id : ℕ) → held objects.new id ≡ held objects.old id }
-    ensures nothing_done { IsRefused result → (H.outside host.new).now ≡ (H.outside host.old).now }
-    ensures any_moment { IsTrue H.told → (before : Texts) → HoldsObjects (image (P.place book.old) (H.outside host.old).now) before → Leaves (P.place book.old) (HoldsEither (image (P.place book.old) (H.outside host.old).now) next.now gone.now before) (H.outside host.old).now (H.outside host.new).now }
-    ensures bound { IsTrue H.told → IsOpenFor (next_bytes next.now objects.old gone.now) (image (P.place book.old) (H.outside host.old).now) → Spends (P.place book.old) (next_bytes next.now objects.old gone.now) 0 (H.outside host.old) (H.outside host.new) }
-    ensures too_many { IsTrue H.told → (before : Texts) → HoldsObjects (image (P.place book.old) (H.outside host.old).now) before → ((after : Texts) → WritesNext next.now gone.now before after → cap (blocks_of (image (P.place book.old) (H.outside host.old).now)) < total_pages after) → Spends (P.place book.old) 0 0 (H.outside host.old) (H.outside host.new) }
-    ensures open_after { IsTrue H.told → OnOk result (IsOpenFor 0 (image (P.place book.old) (H.outside host.new).now)) }
-    ensures alone { Touches (P.place book.old) (H.outside host.old) (H.outside host.new) }
-    ensures cause { IfErr result (FaultsAt (P.place book.old) (H.outside host.old) (H.outside host.new)) }
+    requires can { CanBePlanned objects.old next.now.entry gone.now }
+    ensures commits { CommitsObjects P.place P.numbers P.stands H.told objects.new
+        (next_bytes next.now objects.old gone.now) 0 book.old book.new
+        (H.outside host.old) (H.outside host.new) result }
+    ensures writes { WritesObjects H.told (P.place book.old) next.now gone.now
+        objects.old objects.new (H.outside host.old) (H.outside host.new) result }
 {
     let bytes = write_directory(alloc, &next.directory)?;
     let mut batch = Batch::new(alloc);
@@ -305,8 +305,8 @@ fn write_next<P: PageBook, H: Host>(
     }
 }
 
-/// Makes of a store what was planned, and answers the change's answer. Full where it would cost more pages than the unit has. All memory is taken before
-/// anything is written.
+/// Makes of a store what was planned, and answers the change's answer. Full where it would cost
+/// more pages than the unit has. All memory is taken before anything is written.
 pub(crate) fn carry_out<P: PageBook, H: Host>(
     alloc: Global,
     host: &mut H,
@@ -315,24 +315,15 @@ pub(crate) fn carry_out<P: PageBook, H: Host>(
     next: Next,
 ) -> Result<u32, StoreFault>
     requires stands { P.stands H.told book.old (H.outside host.old) }
-    requires sound { IsSound H.told catalog.old (P.numbers book.old) (P.place book.old) (H.outside host.old) }
+    requires sound { IsSound H.told catalog.old (P.numbers book.old) (P.place book.old)
+        (H.outside host.old) }
     requires next { IsNextOf catalog.old next }
-    ensures stands { GoesOn result → P.stands H.told book.new (H.outside host.new) }
-    ensures sound { GoesOn result → IsSound H.told catalog.new (P.numbers book.new) (P.place book.new) (H.outside host.new) }
-    ensures place { P.place book.new ≡ P.place book.old }
-    ensures answer { IfOk result (λ n. n ≡ next.answer) }
-    ensures changed { IsTrue H.told → (s t : PlainStore) → StandsFor catalog.old s (image (P.place book.old) (H.outside host.old).now) → Turns catalog.old next s t → OnOk result (StandsFor catalog.new t (image (P.place book.old) (H.outside host.new).now)) }
-    ensures fits { IsTrue H.told → (s t : PlainStore) → StandsFor catalog.old s (image (P.place book.old) (H.outside host.old).now) → Turns catalog.old next s t → OnOk result (cost t ≤ cap (blocks_of (image (P.place book.old) (H.outside host.old).now))) }
-    ensures full { IsRefused result → IsTrue H.told → (s t : PlainStore) → StandsFor catalog.old s (image (P.place book.old) (H.outside host.old).now) → Turns catalog.old next s t → cap (blocks_of (image (P.place book.old) (H.outside host.old).now)) < cost t }
-    ensures only { IfErr result (RefusesOnly Full) }
-    ensures still { IsRefused result → IsTrue H.told → (s t : PlainStore) → StandsFor catalog.old s (image (P.place book.old) (H.outside host.old).now) → Turns catalog.old next s t → StandsFor catalog.new s (image (P.place book.old) (H.outside host.old).now) }
-    ensures nothing_done { IsRefused result → (H.outside host.new).now ≡ (H.outside host.old).now }
-    ensures any_moment { IsTrue H.told → (s t : PlainStore) → StandsFor catalog.old s (image (P.place book.old) (H.outside host.old).now) → Turns catalog.old next s t → Leaves (P.place book.old) (IsEitherStore (image (P.place book.old) (H.outside host.old).now) s t) (H.outside host.old).now (H.outside host.new).now }
-    ensures bound { IsTrue H.told → (s t : PlainStore) → StandsFor catalog.old s (image (P.place book.old) (H.outside host.old).now) → Turns catalog.old next s t → IsOpenFor (turn_bytes next s t) (image (P.place book.old) (H.outside host.old).now) → Spends (P.place book.old) (turn_bytes next s t) 0 (H.outside host.old) (H.outside host.new) }
-    ensures too_many { IsTrue H.told → (s t : PlainStore) → StandsFor catalog.old s (image (P.place book.old) (H.outside host.old).now) → Turns catalog.old next s t → cap (blocks_of (image (P.place book.old) (H.outside host.old).now)) < cost t → Spends (P.place book.old) 0 0 (H.outside host.old) (H.outside host.new) }
-    ensures open_after { IsTrue H.told → OnOk result (IsOpenFor 0 (image (P.place book.old) (H.outside host.new).now)) }
-    ensures alone { Touches (P.place book.old) (H.outside host.old) (H.outside host.new) }
-    ensures cause { IfErr result (FaultsAt (P.place book.old) (H.outside host.old) (H.outside host.new)) }
+    ensures leaves { LeavesStore P.place P.numbers P.stands H.told catalog.new book.old book.new
+        (H.outside host.old) (H.outside host.new) result }
+    ensures makes { MakesNext H.told (P.place book.old) next catalog.old catalog.new
+        (H.outside host.old) (H.outside host.new) result }
+    ensures unit { TurnsUnit H.told (P.place book.old) next catalog.old
+        (H.outside host.old) (H.outside host.new) }
 {
     let gathered = gather(alloc, &catalog.places, &catalog.names, &next)?;
     prepare_names(alloc, &mut catalog.names, &next.entry)?;

@@ -24,7 +24,8 @@ use newt_tags::TagTable;
 /// The most indexes of a soup.
 const MOST_INDEXES: usize = 16;
 
-// Whether one of the indexes has the paths of the declaration, in this order and but for ASCII case.
+// Whether one of the indexes has the paths of the declaration, in this order and but for ASCII
+// case.
 fn has_paths_of(specs: &[IndexSpec], spec: &IndexSpec) -> bool
     ensures has { result ≡ has_paths (paths_of spec.now) specs.now }
     ensures valid { IsTrue (valid_spec spec.now) }
@@ -40,7 +41,8 @@ fn is_full(specs: &[IndexSpec]) -> bool
     MOST_INDEXES <= specs.len()
 }
 
-/// A soup gets an index behind its others. Soup where there is none, Index where one has its paths, Limit where it has as many as a soup takes.
+/// A soup gets an index behind its others. Soup where there is none, Index where one has its paths,
+/// Limit where it has as many as a soup takes.
 pub(crate) fn plan_add_index(
     catalog: &Catalog,
     sig: Sig,
@@ -48,8 +50,13 @@ pub(crate) fn plan_add_index(
 ) -> Result<Next, StoreFault>
     requires { IsTrue (well_formed (bare_store catalog.now.directory)) }
     ensures next { IfOk result (IsNextOf catalog.now) }
-    ensures planned { (now : ℕ) (texts : Objects) (s : PlainStore) → Describes catalog.now.directory (place_of catalog.now.places) (names_of catalog.now.names) texts s → IfOk result (IsPlanOf catalog.now (Change.AddIndex sig spec) now s) }
-    ensures refused { (texts : Objects) (s : PlainStore) → Describes catalog.now.directory (place_of catalog.now.places) (names_of catalog.now.names) texts s → IfErr result (RefusesWith (first_of (first_checks (Change.AddIndex sig spec) s))) }
+    ensures planned { (now : ℕ) (texts : Objects) (s : PlainStore)
+        → Describes catalog.now.directory (place_of catalog.now.places) (names_of catalog.now.names)
+        texts s → IfOk result (IsPlanOf catalog.now (Change.AddIndex sig spec) now s) }
+    ensures refused { (texts : Objects) (s : PlainStore)
+        → Describes catalog.now.directory (place_of catalog.now.places) (names_of catalog.now.names)
+        texts s → IfErr result (RefusesWith (first_of (first_checks (Change.AddIndex sig spec)
+        s))) }
     ensures cause { IfErr result IsNoDevice }
 {
     let Some(row) = catalog.directory.soup_of(sig) else {
@@ -80,8 +87,13 @@ pub(crate) fn plan_drop_index(
 ) -> Result<Next, StoreFault>
     requires { IsTrue (well_formed (bare_store catalog.now.directory)) }
     ensures next { IfOk result (IsNextOf catalog.now) }
-    ensures planned { (now : ℕ) (texts : Objects) (s : PlainStore) → Describes catalog.now.directory (place_of catalog.now.places) (names_of catalog.now.names) texts s → IfOk result (IsPlanOf catalog.now (Change.DropIndex sig paths.now) now s) }
-    ensures refused { (texts : Objects) (s : PlainStore) → Describes catalog.now.directory (place_of catalog.now.places) (names_of catalog.now.names) texts s → IfErr result (RefusesWith (first_of (first_checks (Change.DropIndex sig paths.now) s))) }
+    ensures planned { (now : ℕ) (texts : Objects) (s : PlainStore)
+        → Describes catalog.now.directory (place_of catalog.now.places) (names_of catalog.now.names)
+        texts s → IfOk result (IsPlanOf catalog.now (Change.DropIndex sig paths.now) now s) }
+    ensures refused { (texts : Objects) (s : PlainStore)
+        → Describes catalog.now.directory (place_of catalog.now.places) (names_of catalog.now.names)
+        texts s → IfErr result (RefusesWith (first_of (first_checks (Change.DropIndex sig paths.now)
+        s))) }
     ensures cause { IfErr result IsNoDevice }
 {
     if catalog.directory.soup_of(sig).is_none() {
@@ -105,8 +117,13 @@ pub(crate) fn plan_set_tags(
 ) -> Result<Next, StoreFault>
     requires { IsTrue (well_formed (bare_store catalog.now.directory)) }
     ensures next { IfOk result (IsNextOf catalog.now) }
-    ensures planned { (now : ℕ) (texts : Objects) (s : PlainStore) → Describes catalog.now.directory (place_of catalog.now.places) (names_of catalog.now.names) texts s → IfOk result (IsPlanOf catalog.now (Change.SetTags sig table) now s) }
-    ensures refused { (texts : Objects) (s : PlainStore) → Describes catalog.now.directory (place_of catalog.now.places) (names_of catalog.now.names) texts s → IfErr result (RefusesWith (first_of (first_checks (Change.SetTags sig table) s))) }
+    ensures planned { (now : ℕ) (texts : Objects) (s : PlainStore)
+        → Describes catalog.now.directory (place_of catalog.now.places) (names_of catalog.now.names)
+        texts s → IfOk result (IsPlanOf catalog.now (Change.SetTags sig table) now s) }
+    ensures refused { (texts : Objects) (s : PlainStore)
+        → Describes catalog.now.directory (place_of catalog.now.places) (names_of catalog.now.names)
+        texts s → IfErr result (RefusesWith (first_of (first_checks (Change.SetTags sig table)
+        s))) }
     ensures cause { IfErr result IsNoDevice }
 {
     if catalog.directory.soup_of(sig).is_none() {

@@ -1,15 +1,10 @@
 // A fresh store.
-ghost use Rattle.std.specs.Prelude.{IsTrue, ◌≡◌, ◌≤◌, Some, OnOk, IfOk, IfErr, IsErrOf};
+ghost use Rattle.std.specs.Prelude.{IsTrue, ◌≡◌, ◌≤◌, IfOk};
 ghost use Rattle.newt_base.specs.Names.{is_name};
-ghost use Rattle.newt_host.specs.Moments.{image, IsDurable, Leaves, Anything};
-ghost use Rattle.newt_host.specs.Outside.{Touches};
-ghost use Rattle.newt_pagebook.specs.Stops.{StopsAt};
-ghost use Rattle.newt_pagebook.specs.Book.{IsOpenFor};
-ghost use Rattle.newt_entries.specs.Entry.{stream_graph};
 ghost use Rattle.newt_soupdir.specs.Bare.{bare_store};
 ghost use Rattle.newt_spec_store.specs.Cost.{directory_bytes};
 ghost use Rattle.newt_spec_store.specs.Store.{new_store};
-ghost use Rattle.newt_spec_store.specs.ImageStore.{store_of_image};
+ghost use Rattle.newt_store.specs.Calls.{FormatsUnit};
 
 use newt_base::{Name, Sig};
 use newt_host::{Host, Unit};
@@ -53,13 +48,8 @@ pub(crate) fn format_unit<P: PageBook, H: Host>(
     requires enough { 13 ≤ (H.outside host.old).blocks unit }
     requires not_too_many { (H.outside host.old).blocks unit ≤ 4099 }
     requires few { sig ≤ 536_870_911 }
-    ensures formatted { IsTrue H.told → OnOk result (store_of_image stream_graph (image unit (H.outside host.new).now) ≡ Some (new_store name.now sig)) }
-    ensures durable { IsTrue H.told → OnOk result (IsDurable unit (H.outside host.new).now) }
-    ensures open_after { IsTrue H.told → OnOk result (IsOpenFor 0 (image unit (H.outside host.new).now)) }
-    ensures unchanged { IsErrOf result Stop.Memory → (H.outside host.new).now ≡ (H.outside host.old).now }
-    ensures any_moment { IsTrue H.told → Leaves unit Anything (H.outside host.old).now (H.outside host.new).now }
-    ensures alone { Touches unit (H.outside host.old) (H.outside host.new) }
-    ensures cause { IfErr result (StopsAt unit (H.outside host.old) (H.outside host.new)) }
+    ensures { FormatsUnit H.told unit (new_store name.now sig)
+        (H.outside host.old) (H.outside host.new) result }
 {
     let bytes = new_bytes(alloc, name, sig)?;
     let mut objects = Objects::empty(alloc);

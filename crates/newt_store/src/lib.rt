@@ -1,13 +1,16 @@
-//! A store on one unit: a plain list of soups and entries, which changes as that list does.
-//! It stands on a `PageBook` of `newt_pagebook`, whichever it is, on the objects of `newt_objects` and on the codecs of directory and entry records. The
-//! directory is object 0, each entry's record and each large binary is an object of its own, and a change is one batch. The promise that it carries upwards: a store stands
-//! for one plain store, which is what its unit's image is read as; a change is the plain store's change or its first refusal, and whenever the power
-//! fails the image is read as the store before it or after it.
+//! A store on one unit: a plain list of soups and entries, which changes as that list does. It
+//! stands on a `PageBook` of `newt_pagebook`, whichever it is, on the objects of `newt_objects` and
+//! on the codecs of directory and entry records. The directory is object 0, each entry's record and
+//! each large binary is an object of its own, and a change is one batch. The promise that it
+//! carries upwards: a store stands for one plain store, which is what its unit's image is read as;
+//! a change is the plain store's change or its first refusal, and whenever the power fails the
+//! image is read as the store before it or after it.
 #![tactic(auto)]
 
 mod carry;
 mod declare;
 mod format;
+mod large;
 mod next;
 mod patch;
 mod plan;

@@ -11,7 +11,8 @@ pub(crate) enum Gone {
     AllOf(Sig),
 }
 
-/// What a change makes of a store: its new directory, an entry that is written, entries that go, and the change's answer.
+/// What a change makes of a store: its new directory, an entry that is written, entries that go,
+/// and the change's answer.
 #[derive(Drop)]
 pub(crate) struct Next {
     pub(crate) directory: Directory,

@@ -1,8 +1,10 @@
 // What each change makes of a store, or why it is refused.
-ghost use Rattle.std.specs.Prelude.{IsTrue, ◌≡◌, ◌*◌, ◌+◌, ◌%◌, ◌<◌, ◌≤◌, ℕ, false, map as map_list, length, Some, None, IfOk, IfErr, IfSome, IsSome};
+ghost use Rattle.std.specs.Prelude.{IsTrue, ◌≡◌, ◌*◌, ◌+◌, ◌%◌, ◌<◌, ◌≤◌, ℕ, false};
+ghost use Rattle.std.specs.Prelude.{map as map_list, length, Some, None, IfOk, IfErr, IfSome};
+ghost use Rattle.std.specs.Prelude.{IsSome};
 ghost use Rattle.newt_base.specs.Refusals.{first_of};
 ghost use Rattle.newt_host.specs.Moments.{image};
-ghost use Rattle.newt_host.specs.Outside.{Touches, Spends};
+ghost use Rattle.newt_host.specs.Outside.{Spends};
 ghost use Rattle.newt_spec_image.specs.Objects.{Objects as Texts};
 ghost use Rattle.newt_objects.specs.Held.{held};
 ghost use Rattle.newt_spec_graph.specs.Lists.{Among};
@@ -10,12 +12,14 @@ ghost use Rattle.newt_spec_store.specs.Image.{entry_bytes, larges as larges_in};
 ghost use Rattle.newt_spec_store.specs.Store.{Store as PlainStore, soup_of, entry_at};
 ghost use Rattle.newt_spec_store.specs.Valid.{well_formed, valid_entry};
 ghost use Rattle.newt_soupdir.specs.Bare.{bare_soup, bare_store};
-ghost use Rattle.newt_store_change.specs.Change.{first_checks, entry_fetched, is_patch, pages_of_entry, is_too_large as too_large};
+ghost use Rattle.newt_store_change.specs.Change.{first_checks, entry_fetched, is_patch};
+ghost use Rattle.newt_store_change.specs.Change.{pages_of_entry, is_too_large as too_large};
 ghost use Rattle.newt_objects_commit.specs.Batch.{AreOnce, large_ids};
-ghost use Rattle.newt_store_change.specs.Faults.{FaultsAt};
 ghost use Rattle.newt_objects_commit.specs.Names.{names_of, AreSoundNames};
 ghost use Rattle.newt_store.specs.Next.{IsNextOf, IsPlanOf, IsAdding, IsEntryOf, IsNoDevice};
-ghost use Rattle.newt_store_catalog.specs.Stands.{Describes, StandsFor, IsSound};
+ghost use Rattle.newt_store_catalog.specs.Reading.{ReadsOf};
+ghost use Rattle.newt_store.specs.Calls.{AreOpen, CallEnds, ForStore, PlansChange};
+ghost use Rattle.newt_store_catalog.specs.Stands.{Describes};
 ghost use Rattle.newt_store_change.specs.Faults.{RefusesWith};
 ghost use Rattle.newt_objects_commit.specs.Places.{place_of, AreSoundPlaces};
 
@@ -43,14 +47,17 @@ const LAST_SIGNATURE: u32 = 65_535;
 /// How many odd ids there are, and how many even ones.
 const HALF_IDS: u32 = 2_147_483_648;
 
-// The least id that no object has of the odd ids (`parity` 1) or the even ones (0), from `2 * from + parity` on.
+// The least id that no object has of the odd ids (`parity` 1) or the even ones (0), from `2 * from
+// + parity` on.
 fn free_from(objects: &Objects, from: u32, parity: u32) -> Option<u32>
     requires parity { parity < 2 }
     ensures free { IfSome result (λ id. held objects.now id ≡ None) }
     ensures parity { IfSome result (λ id. id % 2 ≡ parity) }
     ensures from { IfSome result (λ id. 2 * from + parity ≤ id) }
     ensures fits { IfSome result (λ id. id < 4294967296) }
-    ensures least { (half : ℕ) → from ≤ half → half < 2147483648 → held objects.now (2 * half + parity) ≡ None → IsSome result × IfSome result (λ id. id ≤ 2 * half + parity) }
+    ensures least { (half : ℕ) → from ≤ half → half < 2147483648
+        → held objects.now (2 * half + parity) ≡ None
+        → IsSome result × IfSome result (λ id. id ≤ 2 * half + parity) }
 {
     for half in from..HALF_IDS {
         let id = 2 * half + parity;
@@ -65,7 +72,8 @@ fn free_from(objects: &Objects, from: u32, parity: u32) -> Option<u32>
 fn free_id(objects: &Objects, hint: u32) -> Option<u32>
     ensures free { IfSome result (λ id. held objects.now id ≡ None) }
     ensures odd { IfSome result (λ id. id % 2 ≡ 1) }
-    ensures none { (half : ℕ) → half < 2147483648 → held objects.now (2 * half + 1) ≡ None → IsSome result }
+    ensures none { (half : ℕ) → half < 2147483648 → held objects.now (2 * half + 1) ≡ None
+        → IsSome result }
 {
     match free_from(objects, hint, 1) {
         Some(id) => Some(id),
@@ -85,7 +93,8 @@ fn free_even(objects: &Objects, from: u32) -> Option<u32>
     ensures free { IfSome result (λ id. held objects.now id ≡ None) }
     ensures even { IfSome result (λ id. (id % 2 ≡ 0) × (from < id)) }
     ensures fits { IfSome result (λ id. id < 4294967296) }
-    ensures least { (half : ℕ) → from < 2 * half → half < 2147483648 → held objects.now (2 * half) ≡ None → IsSome result × IfSome result (λ id. id ≤ 2 * half) }
+    ensures least { (half : ℕ) → from < 2 * half → half < 2147483648
+        → held objects.now (2 * half) ≡ None → IsSome result × IfSome result (λ id. id ≤ 2 * half) }
 {
     free_from(objects, from / 2 + 1, 0)
 }
@@ -96,10 +105,14 @@ fn with_ids(
     objects: &Objects,
     larges: Vec<Vec<u8>>,
 ) -> Result<Vec<NewLarge>, StoreFault>
-    ensures bytes { IfOk result (λ new. map_list (λ l. l.bytes.items) new.items ≡ map_list (λ b. b.items) larges.items) }
-    ensures even { IfOk result (λ new. (id : ℕ) → Among (map_list (λ l. l.id) new.items) id → (id % 2 ≡ 0) × (0 < id)) }
-    ensures fit { IfOk result (λ new. (id : ℕ) → Among (map_list (λ l. l.id) new.items) id → id < 4294967296) }
-    ensures free { IfOk result (λ new. (id : ℕ) → Among (map_list (λ l. l.id) new.items) id → held objects.now id ≡ None) }
+    ensures bytes { IfOk result (λ new. map_list (λ l. l.bytes.items) new.items ≡ map_list
+        (λ b. b.items) larges.items) }
+    ensures even { IfOk result (λ new. (id : ℕ) → Among (map_list (λ l. l.id) new.items) id →
+        (id % 2 ≡ 0) × (0 < id)) }
+    ensures fit { IfOk result (λ new. (id : ℕ) → Among (map_list (λ l. l.id) new.items) id → id <
+        4294967296) }
+    ensures free { IfOk result (λ new. (id : ℕ) → Among (map_list (λ l. l.id) new.items) id → held
+        objects.now id ≡ None) }
     ensures once { IfOk result (λ new. AreOnce (map_list (λ l. l.id) new.items)) }
     ensures only { IfErr result (λ fault. fault ≡ StoreFault.Stop Stop.Memory) }
 {
@@ -137,13 +150,15 @@ fn record_of(
 ) -> Result<Vec<u8>, AllocError>
     requires small { sig < 65536 }
     requires named { length (larges_in graph.now) ≡ length ids.now }
-    ensures { IfOk result (λ bytes. bytes.items ≡ entry_bytes sig (record { uid = uid; time = now; graph = graph.now }) ids.now) }
+    ensures { IfOk result (λ bytes. bytes.items ≡ entry_bytes sig
+        (record { uid = uid; time = now; graph = graph.now }) ids.now) }
 {
     let row = row_of(alloc, sig, uid, now, graph, ids)?;
     write_entry(alloc, &row)
 }
 
-// The entry that is written for a graph: its record gets an object's id, each of its large binaries an even one that no object has.
+// The entry that is written for a graph: its record gets an object's id, each of its large binaries
+// an even one that no object has.
 fn entry_of(
     alloc: Global,
     objects: &Objects,
@@ -172,12 +187,18 @@ fn entry_of(
     })
 }
 
-// A new soup, behind the others. Exists where one has its name, Limit where there are as many as a store has, Ids where no signature is left.
+// A new soup, behind the others. Exists where one has its name, Limit where there are as many as a
+// store has, Ids where no signature is left.
 fn plan_make(alloc: Global, catalog: &Catalog, name: &Name) -> Result<Next, StoreFault>
     requires { IsTrue (well_formed (bare_store catalog.now.directory)) }
     ensures next { IfOk result (IsNextOf catalog.now) }
-    ensures planned { (now : ℕ) (texts : Texts) (s : PlainStore) → Describes catalog.now.directory (place_of catalog.now.places) (names_of catalog.now.names) texts s → IfOk result (IsPlanOf catalog.now (Change.MakeSoup name.now) now s) }
-    ensures refused { (texts : Texts) (s : PlainStore) → Describes catalog.now.directory (place_of catalog.now.places) (names_of catalog.now.names) texts s → IfErr result (RefusesWith (first_of (first_checks (Change.MakeSoup name.now) s))) }
+    ensures planned { (now : ℕ) (texts : Texts) (s : PlainStore)
+        → Describes catalog.now.directory (place_of catalog.now.places) (names_of catalog.now.names)
+        texts s → IfOk result (IsPlanOf catalog.now (Change.MakeSoup name.now) now s) }
+    ensures refused { (texts : Texts) (s : PlainStore)
+        → Describes catalog.now.directory (place_of catalog.now.places) (names_of catalog.now.names)
+        texts s → IfErr result (RefusesWith (first_of (first_checks (Change.MakeSoup name.now)
+        s))) }
     ensures cause { IfErr result IsNoDevice }
 {
     if catalog.directory.soup_named(name.list()).is_some() {
@@ -203,8 +224,12 @@ fn plan_make(alloc: Global, catalog: &Catalog, name: &Name) -> Result<Next, Stor
 fn plan_drop(catalog: &Catalog, sig: Sig) -> Result<Next, StoreFault>
     requires { IsTrue (well_formed (bare_store catalog.now.directory)) }
     ensures next { IfOk result (IsNextOf catalog.now) }
-    ensures planned { (now : ℕ) (texts : Texts) (s : PlainStore) → Describes catalog.now.directory (place_of catalog.now.places) (names_of catalog.now.names) texts s → IfOk result (IsPlanOf catalog.now (Change.DropSoup sig) now s) }
-    ensures refused { (texts : Texts) (s : PlainStore) → Describes catalog.now.directory (place_of catalog.now.places) (names_of catalog.now.names) texts s → IfErr result (RefusesWith (first_of (first_checks (Change.DropSoup sig) s))) }
+    ensures planned { (now : ℕ) (texts : Texts) (s : PlainStore)
+        → Describes catalog.now.directory (place_of catalog.now.places) (names_of catalog.now.names)
+        texts s → IfOk result (IsPlanOf catalog.now (Change.DropSoup sig) now s) }
+    ensures refused { (texts : Texts) (s : PlainStore)
+        → Describes catalog.now.directory (place_of catalog.now.places) (names_of catalog.now.names)
+        texts s → IfErr result (RefusesWith (first_of (first_checks (Change.DropSoup sig) s))) }
     ensures cause { IfErr result IsNoDevice }
 {
     if catalog.directory.soup_of(sig).is_none() {
@@ -230,11 +255,18 @@ fn next_with(
     gone: Gone,
 ) -> Result<Next, StoreFault>
     requires formed { IsTrue (well_formed (bare_store catalog.now.directory)) }
-    requires row { soup_of row.now.sig (bare_store catalog.now.directory) ≡ Some (bare_soup row.now) }
+    requires row { soup_of row.now.sig (bare_store catalog.now.directory)
+        ≡ Some (bare_soup row.now) }
     requires room { row.now.next_uid < 536_870_911 }
-    requires valid { IsTrue (valid_entry (record { uid = row.now.next_uid; time = now; graph = graph.now })) }
+    requires valid { IsTrue (valid_entry (record {
+      uid = row.now.next_uid;
+      time = now;
+      graph =
+          graph.now;
+    })) }
     ensures next { IfOk result (IsNextOf catalog.now) }
-    ensures adds { IfOk result (IsAdding catalog.now row.now.sig row.now.next_uid now graph.now gone) }
+    ensures adds { IfOk result (IsAdding catalog.now row.now.sig row.now.next_uid now graph.now
+        gone) }
     ensures only { IfErr result (λ fault. fault ≡ StoreFault.Stop Stop.Memory) }
 {
     let Some(id) = free_id(&catalog.objects, catalog.hint) else {
@@ -252,7 +284,8 @@ fn next_with(
     })
 }
 
-// A new entry in a soup. Soup where there is none, Notframe where the graph's root is no frame, Size where its text is too long, Ids where no id is left.
+// A new entry in a soup. Soup where there is none, Notframe where the graph's root is no frame,
+// Size where its text is too long, Ids where no id is left.
 fn plan_add(
     alloc: Global,
     catalog: &Catalog,
@@ -264,8 +297,13 @@ fn plan_add(
     requires places { AreSoundPlaces (held catalog.now.objects) (place_of catalog.now.places) }
     requires names { AreSoundNames (held catalog.now.objects) (names_of catalog.now.names) }
     ensures next { IfOk result (IsNextOf catalog.now) }
-    ensures planned { (texts : Texts) (s : PlainStore) → Describes catalog.now.directory (place_of catalog.now.places) (names_of catalog.now.names) texts s → IfOk result (IsPlanOf catalog.now (Change.Add sig graph.now) now s) }
-    ensures refused { (texts : Texts) (s : PlainStore) → Describes catalog.now.directory (place_of catalog.now.places) (names_of catalog.now.names) texts s → IfErr result (RefusesWith (first_of (first_checks (Change.Add sig graph.now) s))) }
+    ensures planned { (texts : Texts) (s : PlainStore)
+        → Describes catalog.now.directory (place_of catalog.now.places) (names_of catalog.now.names)
+        texts s → IfOk result (IsPlanOf catalog.now (Change.Add sig graph.now) now s) }
+    ensures refused { (texts : Texts) (s : PlainStore)
+        → Describes catalog.now.directory (place_of catalog.now.places) (names_of catalog.now.names)
+        texts s → IfErr result (RefusesWith (first_of (first_checks (Change.Add sig graph.now)
+        s))) }
     ensures cause { IfErr result IsNoDevice }
 {
     let Some(row) = catalog.directory.soup_of(sig) else {
@@ -288,8 +326,12 @@ fn plan_add(
 fn plan_remove(catalog: &Catalog, sig: Sig, uid: Uid) -> Result<Next, StoreFault>
     requires { IsTrue (well_formed (bare_store catalog.now.directory)) }
     ensures next { IfOk result (IsNextOf catalog.now) }
-    ensures planned { (now : ℕ) (texts : Texts) (s : PlainStore) → Describes catalog.now.directory (place_of catalog.now.places) (names_of catalog.now.names) texts s → IfOk result (IsPlanOf catalog.now (Change.Remove sig uid) now s) }
-    ensures refused { (texts : Texts) (s : PlainStore) → Describes catalog.now.directory (place_of catalog.now.places) (names_of catalog.now.names) texts s → IfErr result (RefusesWith (first_of (first_checks (Change.Remove sig uid) s))) }
+    ensures planned { (now : ℕ) (texts : Texts) (s : PlainStore)
+        → Describes catalog.now.directory (place_of catalog.now.places) (names_of catalog.now.names)
+        texts s → IfOk result (IsPlanOf catalog.now (Change.Remove sig uid) now s) }
+    ensures refused { (texts : Texts) (s : PlainStore)
+        → Describes catalog.now.directory (place_of catalog.now.places) (names_of catalog.now.names)
+        texts s → IfErr result (RefusesWith (first_of (first_checks (Change.Remove sig uid) s))) }
     ensures cause { IfErr result IsNoDevice }
 {
     if catalog.directory.soup_of(sig).is_none() {
@@ -306,7 +348,8 @@ fn plan_remove(catalog: &Catalog, sig: Sig, uid: Uid) -> Result<Next, StoreFault
     })
 }
 
-// An entry is read, added to another soup and gone from its own. Soup or Entry where it or the other soup is not there, Ids where that has no id left.
+// An entry is read, added to another soup and gone from its own. Soup or Entry where it or the
+// other soup is not there, Ids where that has no id left.
 fn plan_move<P: PageBook, H: Host>(
     alloc: Global,
     host: &mut H,
@@ -317,17 +360,16 @@ fn plan_move<P: PageBook, H: Host>(
     target: Sig,
     now: u32,
 ) -> Result<Next, StoreFault>
-    requires stands { P.stands H.told book.old (H.outside host.old) }
-    requires sound { IsSound H.told catalog.now (P.numbers book.old) (P.place book.old) (H.outside host.old) }
-    ensures stands { P.stands H.told book.new (H.outside host.new) }
-    ensures same { (P.place book.new ≡ P.place book.old) × (P.numbers book.new ≡ P.numbers book.old) }
-    ensures moment { (H.outside host.new).now ≡ (H.outside host.old).now }
-    ensures next { IfOk result (IsNextOf catalog.now) }
-    ensures planned { IsTrue H.told → (s : PlainStore) → StandsFor catalog.now s (image (P.place book.old) (H.outside host.old).now) → IfOk result (IsPlanOf catalog.now (Change.Move source uid target) now s) }
-    ensures refused { IsTrue H.told → (s : PlainStore) → StandsFor catalog.now s (image (P.place book.old) (H.outside host.old).now) → IfErr result (RefusesWith (first_of (first_checks (Change.Move source uid target) s))) }
-    ensures costs { IsTrue H.told → (s : PlainStore) → StandsFor catalog.now s (image (P.place book.old) (H.outside host.old).now) → Spends (P.place book.old) 0 (512 * pages_of_entry (entry_at source uid s)) (H.outside host.old) (H.outside host.new) }
-    ensures alone { Touches (P.place book.old) (H.outside host.old) (H.outside host.new) }
-    ensures cause { IfErr result (FaultsAt (P.place book.old) (H.outside host.old) (H.outside host.new)) }
+    requires is_open { AreOpen P.place P.numbers P.stands H.told book.old catalog.now
+        (H.outside host.old) }
+    ensures plans { PlansChange H.told (Change.Move source uid target) now catalog.now
+        (image (P.place book.old) (H.outside host.old).now) result }
+    ensures costs { ForStore H.told catalog.now (image (P.place book.old) (H.outside host.old).now)
+        (λ s. Spends (P.place book.old) 0 (512 * pages_of_entry (entry_at source uid s))
+        (H.outside host.old) (H.outside host.new)) }
+    ensures reads { ReadsOf P.place P.numbers P.stands H.told catalog.now.objects book.old book.new
+        (H.outside host.old) (H.outside host.new) }
+    ensures ends { CallEnds (P.place book.old) (H.outside host.old) (H.outside host.new) result }
 {
     if catalog.directory.soup_of(source).is_none() {
         return Err(StoreFault::Refused(Refusal::Soup));
@@ -353,7 +395,8 @@ fn plan_move<P: PageBook, H: Host>(
     Ok(next)
 }
 
-// An entry gets another graph under its id. Soup or Entry where it is not there, then as for a new entry, but no id is needed.
+// An entry gets another graph under its id. Soup or Entry where it is not there, then as for a new
+// entry, but no id is needed.
 fn plan_replace(
     alloc: Global,
     catalog: &Catalog,
@@ -366,8 +409,13 @@ fn plan_replace(
     requires places { AreSoundPlaces (held catalog.now.objects) (place_of catalog.now.places) }
     requires names { AreSoundNames (held catalog.now.objects) (names_of catalog.now.names) }
     ensures next { IfOk result (IsNextOf catalog.now) }
-    ensures planned { (texts : Texts) (s : PlainStore) → Describes catalog.now.directory (place_of catalog.now.places) (names_of catalog.now.names) texts s → IfOk result (IsPlanOf catalog.now (Change.Replace sig uid graph.now) now s) }
-    ensures refused { (texts : Texts) (s : PlainStore) → Describes catalog.now.directory (place_of catalog.now.places) (names_of catalog.now.names) texts s → IfErr result (RefusesWith (first_of (first_checks (Change.Replace sig uid graph.now) s))) }
+    ensures planned { (texts : Texts) (s : PlainStore)
+        → Describes catalog.now.directory (place_of catalog.now.places) (names_of catalog.now.names)
+        texts s → IfOk result (IsPlanOf catalog.now (Change.Replace sig uid graph.now) now s) }
+    ensures refused { (texts : Texts) (s : PlainStore)
+        → Describes catalog.now.directory (place_of catalog.now.places) (names_of catalog.now.names)
+        texts s → IfErr result (RefusesWith (first_of (first_checks
+        (Change.Replace sig uid graph.now) s))) }
     ensures cause { IfErr result IsNoDevice }
 {
     if catalog.directory.soup_of(sig).is_none() {
@@ -401,17 +449,16 @@ pub(crate) fn plan_change<P: PageBook, H: Host>(
     now: u32,
 ) -> Result<Next, StoreFault>
     requires no_patch { is_patch change ≡ false }
-    requires stands { P.stands H.told book.old (H.outside host.old) }
-    requires sound { IsSound H.told catalog.now (P.numbers book.old) (P.place book.old) (H.outside host.old) }
-    ensures stands { P.stands H.told book.new (H.outside host.new) }
-    ensures same { (P.place book.new ≡ P.place book.old) × (P.numbers book.new ≡ P.numbers book.old) }
-    ensures moment { (H.outside host.new).now ≡ (H.outside host.old).now }
-    ensures next { IfOk result (IsNextOf catalog.now) }
-    ensures planned { IsTrue H.told → (s : PlainStore) → StandsFor catalog.now s (image (P.place book.old) (H.outside host.old).now) → IfOk result (IsPlanOf catalog.now change now s) }
-    ensures refused { IsTrue H.told → (s : PlainStore) → StandsFor catalog.now s (image (P.place book.old) (H.outside host.old).now) → IfErr result (RefusesWith (first_of (first_checks change s))) }
-    ensures costs { IsTrue H.told → (s : PlainStore) → StandsFor catalog.now s (image (P.place book.old) (H.outside host.old).now) → Spends (P.place book.old) 0 (512 * pages_of_entry (entry_fetched change s)) (H.outside host.old) (H.outside host.new) }
-    ensures alone { Touches (P.place book.old) (H.outside host.old) (H.outside host.new) }
-    ensures cause { IfErr result (FaultsAt (P.place book.old) (H.outside host.old) (H.outside host.new)) }
+    requires is_open { AreOpen P.place P.numbers P.stands H.told book.old catalog.now
+        (H.outside host.old) }
+    ensures plans { PlansChange H.told change now catalog.now
+        (image (P.place book.old) (H.outside host.old).now) result }
+    ensures costs { ForStore H.told catalog.now (image (P.place book.old) (H.outside host.old).now)
+        (λ s. Spends (P.place book.old) 0 (512 * pages_of_entry (entry_fetched change s))
+        (H.outside host.old) (H.outside host.new)) }
+    ensures reads { ReadsOf P.place P.numbers P.stands H.told catalog.now.objects book.old book.new
+        (H.outside host.old) (H.outside host.new) }
+    ensures ends { CallEnds (P.place book.old) (H.outside host.old) (H.outside host.new) result }
 {
     match change {
         Change::MakeSoup(name) => plan_make(alloc, catalog, &name),

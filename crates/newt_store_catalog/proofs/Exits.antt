@@ -1,9 +1,20 @@
 -- What an exit by a fault says of its answer, and what the calls before an exit have done together.
-use Rattle.std.proofs.Common.{◌≡◌, ℕ, ◌≤◌, Result, Err, Ok, IfOk, OnOk, IsErrAnd, IsErrOf, sym, ◌∙◌, subst, arith}
-use Rattle.newt_host.specs.Outside.{Outside, Rose, Touches}
-use Rattle.newt_host.proofs.Outside.{Touches-append}
+use Rattle.std.proofs.Common.{◌≡◌, ℕ, Bool, IsTrue, None, Result, Err, Ok, IfOk, OnOk, IsErrAnd, IsErrOf, sym, ◌∙◌, ap, subst, arith}
+use Rattle.newt_host.specs.Moments.{image}
+use Rattle.newt_host.specs.Outside.{Outside, NoFault, OnlyReads, Rose}
+use Rattle.newt_host.proofs.Outside.{NoFault-append, OnlyReads-append, OnlyReads-refl}
+use Rattle.newt_pagebook.specs.Book.{Numbers}
+use Rattle.newt_pagebook.specs.Stops.{IsOpening, StopsAt}
 use Rattle.newt_pagebook.specs.declared.book.BookFault.{BookFault}
 use Rattle.newt_pagebook.specs.declared.book.BookFault.TheVariants.{NotStore, Memory, Device}
+use Rattle.newt_pagebook.specs.declared.book.Stop.{Stop}
+use Rattle.newt_pagebook.specs.declared.book.Stop.TheVariants as stops
+use Rattle.newt_objects.specs.Calls.{Looks}
+use Rattle.newt_objects.specs.Held.{Held}
+use Rattle.newt_objects_commit.specs.Commit.{AreKept}
+use Rattle.newt_store_catalog.specs.Readable.{readable}
+use Rattle.newt_store_catalog.specs.Reading.{BookReads, ReadsOf, ReadEnds, SearchEnds}
+use Rattle.newt_store_catalog.proofs.Kept.{kept-over}
 
 -- the answer is this fault
 abbrev pub Fails : {T : Type 0} → Result T BookFault → BookFault → Type 0
@@ -40,30 +51,130 @@ pub on-done : {T E : Type 0} (r : Result T E) (A B : Type 0) → OnOk r A → (A
 on-done (Ok x) A B done more = more done
 on-done (Err e) A B done more = tt
 
--- ---- calls that change nothing of the image
+-- ---- calls that only read, one after another
 
--- What calls have done that only read: the book is still of its unit, of which nothing was programmed, and nothing else was touched.
-pub record OnlyReads (unit unit' : ℕ) (old new : Outside) : Type 0 where
-  pub place : unit' ≡ unit
-  pub moment : new.now ≡ old.now
-  pub programs_nothing : new.programmed unit ≤ old.programmed unit
-  pub alone : Touches unit old new
-
-pub of-call : {unit unit' : ℕ} {old new : Outside} → unit' ≡ unit → new.now ≡ old.now → new.programmed unit ≤ old.programmed unit → Touches unit old new → OnlyReads unit unit' old new
-of-call place moment programs_nothing alone = record { place = place; moment = moment; programs_nothing = programs_nothing; alone = alone }
-
-pub reads-on : (unit mid unit' : ℕ) (old between new : Outside) → OnlyReads unit mid old between → OnlyReads mid unit' between new → OnlyReads unit unit' old new
-reads-on unit mid unit' old between new one two =
-    let low : new.programmed unit ≤ between.programmed unit = subst (λ (u : ℕ). new.programmed u ≤ between.programmed u) one.place two.programs_nothing in
-    record {
-      place = two.place ∙ one.place;
-      moment = two.moment ∙ one.moment;
-      programs_nothing = omega (arith, one.programs_nothing, low);
-      alone = Touches-append one.alone (subst (λ (u : ℕ). Touches u between new) one.place two.alone);
-    }
+pub looks-on : {unit unit' : ℕ} {old mid new : Outside} → unit' ≡ unit → OnlyReads unit old mid → OnlyReads unit' mid new → OnlyReads unit old new
+looks-on {mid = mid} {new = new} same one two = OnlyReads-append one (subst (λ (u : ℕ). OnlyReads u mid new) same two)
 
 -- a fault of the later ones was counted since the first
-pub rose-on : (unit mid : ℕ) (old between new : Outside) → OnlyReads unit mid old between → Rose (between.dev_faults mid) (new.dev_faults mid) → Rose (old.dev_faults unit) (new.dev_faults unit)
-rose-on unit mid old between new one rose = go (subst (λ (u : ℕ). Rose (between.dev_faults u) (new.dev_faults u)) one.place rose) where
-  go : Rose (between.dev_faults unit) (new.dev_faults unit) → Rose (old.dev_faults unit) (new.dev_faults unit)
+pub rose-on : {unit unit' : ℕ} {old mid : Outside} (new : Outside) → unit' ≡ unit → OnlyReads unit old mid → Rose (mid.dev_faults unit') (new.dev_faults unit') → Rose (old.dev_faults unit) (new.dev_faults unit)
+rose-on {unit = unit} {old = old} {mid = mid} new same one rose = go (subst (λ (u : ℕ). Rose (mid.dev_faults u) (new.dev_faults u)) same rose) where
+  go : Rose (mid.dev_faults unit) (new.dev_faults unit) → Rose (old.dev_faults unit) (new.dev_faults unit)
   go since = omega (arith, since, one.alone.faults_later)
+
+pub stops-on : (stop : Stop) {unit unit' : ℕ} {old mid : Outside} (new : Outside) → unit' ≡ unit → OnlyReads unit old mid → StopsAt unit' mid new stop → StopsAt unit old new stop
+stops-on stops.Memory new same one at = tt
+stops-on (stops.Device unit) new same one at = (at.0 ∙ same, rose-on new same one at.1)
+
+pub book-on : {B : Type 0} {place : B → ℕ} {numbers : B → Numbers} {stands : Bool → B → Outside → Type 0} {told : Bool} {a b c : B} {before between after : Outside}
+    → BookReads place numbers stands told a b before between → BookReads place numbers stands told b c between after → BookReads place numbers stands told a c before after
+book-on x y = record {
+  stood = y.stood;
+  same_place = y.same_place ∙ x.same_place;
+  same_numbers = y.same_numbers ∙ x.same_numbers;
+  looks = looks-on x.same_place x.looks y.looks;
+}
+
+pub of-book : {B : Type 0} {place : B → ℕ} {numbers : B → Numbers} {stands : Bool → B → Outside → Type 0} {told : Bool} {objects : Held} {a b : B} {before after : Outside}
+    → ReadsOf place numbers stands told objects a b before after → BookReads place numbers stands told a b before after
+of-book x = record { stood = x.stood; same_place = x.same_place; same_numbers = x.same_numbers; looks = x.looks }
+
+pub reads-on : {B : Type 0} {place : B → ℕ} {numbers : B → Numbers} {stands : Bool → B → Outside → Type 0} {told : Bool} {objects : Held} {a b c : B} {before between after : Outside}
+    → ReadsOf place numbers stands told objects a b before between → ReadsOf place numbers stands told objects b c between after → ReadsOf place numbers stands told objects a c before after
+reads-on x y = record {
+  stood = y.stood;
+  kept = y.kept;
+  same_place = y.same_place ∙ x.same_place;
+  same_numbers = y.same_numbers ∙ x.same_numbers;
+  looks = looks-on x.same_place x.looks y.looks;
+}
+
+-- what the objects promise
+pub of-looks : {B : Type 0} {place : B → ℕ} {numbers : B → Numbers} {spare : B → ℕ} {stands : Bool → B → Outside → Type 0} {told : Bool} {a b : B} {before after : Outside}
+    → Looks place numbers spare stands told a b before after → BookReads place numbers stands told a b before after
+of-looks x = record { stood = x.stands; same_place = x.same_place; same_numbers = x.same_numbers; looks = x.looks }
+
+pub with-kept : {B : Type 0} {place : B → ℕ} {numbers : B → Numbers} {spare : B → ℕ} {stands : Bool → B → Outside → Type 0} {told : Bool} {objects : Held} {a b : B} {before after : Outside}
+    → AreKept told objects (numbers a) (place a) before → Looks place numbers spare stands told a b before after → ReadsOf place numbers stands told objects a b before after
+with-kept {place = place} {numbers = numbers} {told = told} {objects = objects} {a = a} {b = b} {before = before} {after = after} kept x = record {
+  stood = x.stands;
+  kept = kept-over told objects (numbers a) (numbers b) (place a) (place b) before after x.same_place x.same_numbers x.looks.moment kept;
+  same_place = x.same_place;
+  same_numbers = x.same_numbers;
+  looks = x.looks;
+}
+
+-- nothing was read
+pub reads-none : {B : Type 0} (place : B → ℕ) (numbers : B → Numbers) (stands : Bool → B → Outside → Type 0) (told : Bool) (objects : Held) (book : B) (outside : Outside)
+    → stands told book outside → AreKept told objects (numbers book) (place book) outside → ReadsOf place numbers stands told objects book book outside outside
+reads-none place numbers stands told objects book outside is kept = record {
+  stood = is;
+  kept = kept;
+  same_place = λ i. place book;
+  same_numbers = λ i. numbers book;
+  looks = OnlyReads-refl (place book) outside;
+}
+
+-- ---- why a reading stops
+
+-- a fault that is handed on
+pub read-fails : {T U : Type 0} {unit : ℕ} {before after : Outside} (r : Result U Stop) (stop : Stop) → IsErrAnd r (λ s. s ≡ stop) → ReadEnds {T = T} unit before after (Err stop) → ReadEnds unit before after r
+read-fails (Ok x) stop fails e = absurd fails
+read-fails {unit = unit} {before = before} {after = after} (Err s) stop fails e = record { cause = subst (StopsAt unit before after) (sym fails) e.cause; no_fault = tt }
+
+-- out of memory
+pub read-memory : {T : Type 0} {unit : ℕ} {before after : Outside} (r : Result T Stop) → IsErrAnd r (λ s. s ≡ stops.Memory) → ReadEnds unit before after r
+read-memory r fails = read-fails {T = Unit {0}} r stops.Memory fails (record { cause = tt; no_fault = tt })
+
+-- after calls that only read
+pub read-after : {T : Type 0} {unit unit' : ℕ} {before mid after : Outside} (r : Result T Stop) → unit' ≡ unit → OnlyReads unit before mid → NoFault before mid → ReadEnds unit' mid after r → ReadEnds unit before after r
+read-after (Ok x) same looks none e = record { cause = tt; no_fault = NoFault-append none e.no_fault }
+read-after {after = after} (Err stop) same looks none e = record { cause = stops-on stop after same looks e.cause; no_fault = tt }
+
+-- ---- why a search ends
+
+pub search-value : {T : Type 0} {told : Bool} {unit : ℕ} {before after : Outside} {x : T} → NoFault before after → SearchEnds told unit before after (Ok x)
+search-value none = record { not_store = λ is. absurd (no-fault is); cause = λ is. absurd (no-fault is); no_fault = λ opening. none }
+
+pub search-none : {T : Type 0} {told : Bool} {unit : ℕ} {before after : Outside} → (IsTrue told → readable (image unit before.now) ≡ None) → NoFault before after → SearchEnds {T = T} told unit before after (Err NotStore)
+search-none reads none = record { not_store = λ is. reads; cause = λ is. absurd (no-device is); no_fault = λ opening. none }
+
+pub search-memory : {T : Type 0} {told : Bool} {unit : ℕ} {before after : Outside} → SearchEnds {T = T} told unit before after (Err Memory)
+search-memory {T = T} = record {
+  not_store = λ is. absurd (memory-store (fault-is {T = T} (Err Memory) Memory NotStore (λ i. Memory) is));
+  cause = λ is. absurd (memory-device (fault-is {T = T} (Err Memory) Memory Device (λ i. Memory) is));
+  no_fault = λ opening. absurd opening;
+}
+
+pub search-device : {T : Type 0} {told : Bool} {unit : ℕ} {before after : Outside} → Rose (before.dev_faults unit) (after.dev_faults unit) → SearchEnds {T = T} told unit before after (Err Device)
+search-device {T = T} rose = record {
+  not_store = λ is. absurd (store-device (sym (fault-is {T = T} (Err Device) Device NotStore (λ i. Device) is)));
+  cause = λ is. rose;
+  no_fault = λ opening. absurd opening;
+}
+
+pub opening-is : (T U : Type 0) (f : BookFault) → IsOpening {T = U} (Err f) → IsOpening {T = T} (Err f)
+opening-is T U NotStore opening = tt
+opening-is T U Memory opening = absurd opening
+opening-is T U Device opening = absurd opening
+
+opening-of : (T : Type 0) {U : Type 0} (r : Result U BookFault) (f : BookFault) → Fails r f → IsOpening r → IsOpening {T = T} (Err f)
+opening-of T (Ok x) f fails opening = absurd fails
+opening-of T {U = U} (Err e) f fails opening = subst (λ (x : BookFault). IsOpening {T = T} (Err x)) fails (opening-is T U e opening)
+
+-- a fault that is handed on
+pub search-fails : {T U : Type 0} {told : Bool} {unit : ℕ} {before after : Outside} (r : Result U BookFault) (f : BookFault) → Fails r f → SearchEnds {T = T} told unit before after (Err f) → SearchEnds told unit before after r
+search-fails {T = T} r f fails e = record {
+  not_store = λ is. e.not_store (ap Err (fault-is r f NotStore fails is));
+  cause = λ is. e.cause (ap Err (fault-is r f Device fails is));
+  no_fault = λ opening. e.no_fault (opening-of T r f fails opening);
+}
+
+-- after calls that only read
+pub search-after : {T : Type 0} {told : Bool} {unit unit' : ℕ} {before mid after : Outside} {r : Result T BookFault} → unit' ≡ unit → OnlyReads unit before mid → NoFault before mid
+    → SearchEnds told unit' mid after r → SearchEnds told unit before after r
+search-after {after = after} same looks none e = record {
+  not_store = λ is tells. (λ i. readable (image (sym same i) (sym looks.moment i))) ∙ e.not_store is tells;
+  cause = λ is. rose-on after same looks (e.cause is);
+  no_fault = λ opening. NoFault-append none (e.no_fault opening);
+}

@@ -1,5 +1,5 @@
 -- An entry that lies in objects is read from its record and its large binaries.
-use Rattle.std.proofs.Common.{arith, ◌≡◌, refl, ap, sym, ◌∙◌, subst, ℕ, suc, ◌+◌, ◌-◌, ◌*◌, ◌<◌, ◌≤◌, Bool, List, [], ◌∷◌, ◌++◌, length, take, drop, get_or, zip, sum_by, map as map_list, Some, append_assoc}
+use Rattle.std.proofs.Common.{arith, ◌≡◌, refl, ap, sym, ◌∙◌, subst, ℕ, suc, ◌+◌, ◌-◌, ◌*◌, ◌<◌, ◌≤◌, List, [], ◌∷◌, ◌++◌, length, take, drop, get_or, zip, sum_by, map as map_list, Some, append_assoc}
 use Rattle.std.specs.FinMap as map
 use Rattle.std.specs.List.{flat_map, sum}
 use Rattle.std.proofs.lemmas.List.{append-nil, map-append}
@@ -8,12 +8,10 @@ use Rattle.std.proofs.lemmas.Simd.{map-map}
 use Rattle.newt_graph.specs.declared.node.Node.{Node}
 use Rattle.newt_graph.specs.declared.node.Node.TheVariants.{Large}
 use Rattle.newt_host.specs.Moments.{Moment, image}
-use Rattle.newt_host.specs.Outside.{Outside, Touches, Spends}
-use Rattle.newt_host.proofs.Outside.{Touches-refl, Touches-append, Spends-append, Spends-widen}
+use Rattle.newt_host.specs.Outside.{Outside, Spends}
+use Rattle.newt_host.proofs.Outside.{Spends-append, Spends-widen}
 use Rattle.newt_spec_image.specs.Objects.{pages_for, Objects}
-use Rattle.newt_pagebook.specs.Book.{Numbers}
 use Rattle.newt_pagebook.proofs.Tests.{some_inj}
-use Rattle.newt_objects.specs.Held.{Held}
 use Rattle.newt_objects.specs.Changing.{HoldsObjects}
 use Rattle.newt_spec_graph.specs.Graph.{every}
 use Rattle.newt_spec_graph.specs.Lists.{Each}
@@ -31,8 +29,7 @@ use Rattle.newt_entries.specs.declared.row.EntryRow.{EntryRow}
 use Rattle.newt_entries.specs.declared.row.LargeAt.{LargeAt}
 use Rattle.newt_entries.specs.Entry.{stream_graph, row_at, said, filled}
 use Rattle.newt_entries.proofs.Steps.{rest-is}
-use Rattle.newt_objects_commit.specs.Commit.{AreKept}
-use Rattle.newt_store_catalog.specs.Reading.{IsLaidAt, HaveBytes, ReadsOf}
+use Rattle.newt_store_catalog.specs.Reading.{IsLaidAt, HaveBytes}
 
 -- ---- the row that is read
 
@@ -92,27 +89,7 @@ whole-pages sig e ids h =
     (λ i. pages_for (entry-length sig e ids h i) + (bytes-pages (larges e.graph) ids h ∙ ap (λ ns. sum (map_list pages_for ns)) lengths) i)
     ∙ ap (λ n. pages_for (12 + skeleton_length e.graph + 12 * n) + sum (map_list pages_for (large_lengths e.graph))) long
 
--- ---- calls that read, one after another
-
--- the one programs nothing, and then the other
-pub programs-over : (unit unit' : ℕ) (old mid new : Outside) → unit' ≡ unit → mid.programmed unit ≤ old.programmed unit → new.programmed unit' ≤ mid.programmed unit' → new.programmed unit ≤ old.programmed unit
-programs-over unit unit' old mid new place one two = omega (arith, one, subst (λ (u : ℕ). new.programmed u ≤ mid.programmed u) place two)
-
-module _ {B : Type 0} (place : B → ℕ) (numbers : B → Numbers) (stands : Bool → B → Outside → Type 0) (told : Bool) (objects : Held) where
-  pub reads-none : (book : B) (outside : Outside) → stands told book outside → AreKept told objects (numbers book) (place book) outside → ReadsOf place numbers stands told objects book book outside outside
-  reads-none book outside is kept = record { stood = is; kept = kept; same_place = refl; same_numbers = refl; moment = refl; programs_nothing = omega arith; alone = Touches-refl (place book) outside }
-
-  pub reads-more : (a b c : B) (before between after : Outside) → ReadsOf place numbers stands told objects a b before between → ReadsOf place numbers stands told objects b c between after
-      → ReadsOf place numbers stands told objects a c before after
-  reads-more a b c before between after x y = record {
-    stood = y.stood;
-    kept = y.kept;
-    same_place = y.same_place ∙ x.same_place;
-    same_numbers = y.same_numbers ∙ x.same_numbers;
-    moment = y.moment ∙ x.moment;
-    programs_nothing = programs-over (place a) (place b) before between after x.same_place x.programs_nothing y.programs_nothing;
-    alone = Touches-append x.alone (subst (λ (u : ℕ). Touches u between after) x.same_place y.alone);
-  }
+-- ---- large binaries, one after another
 
 -- Large binaries were read so far: these are done, and the others are as many as rows are left.
 pub record WentOn (texts : Objects) (left : List LargeAt) (bs done : List (List ℕ)) (unit : ℕ) (old new : Outside) : Type 0 where

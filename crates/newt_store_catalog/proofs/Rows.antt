@@ -1,5 +1,5 @@
 -- Records as they are read.
-use Rattle.std.proofs.Common.{IsTrue, ◌≡◌, ℕ, ◌*◌, ◌≤◌, Bool, true, false, List, length, Option, Some, None, IsSome, refl, sym, ◌∙◌, ap, subst, arith}
+use Rattle.std.proofs.Common.{IsTrue, ◌≡◌, ℕ, ◌*◌, Bool, List, length, Option, Some, None, refl, sym, ◌∙◌, ap, subst}
 use Rattle.std.specs.Option.{option_map, IfSome}
 use Rattle.std.specs.FinMap as map
 use Rattle.newt_host.specs.Moments.{image}
@@ -18,16 +18,6 @@ use Rattle.newt_objects.proofs.Whole.{image_whole}
 use Rattle.newt_objects_commit.specs.Batch.{pages_held}
 use Rattle.newt_objects_commit.specs.Commit.{AreKept}
 use Rattle.newt_store_catalog.proofs.Kept.{held-are}
-
--- an object with a length is there
-pub long-there : (o : Option Extent) (n : ℕ) → option_map (λ x. x.length) o ≡ Some n → IsSome o
-long-there None n is = cc
-long-there (Some x) n is = refl
-
--- an object that is there is read, and nothing is programmed
-pub only-fetched : (o : Option Extent) (unit : ℕ) (old new : Outside) → IsSome o → IfSome o (λ x. Spends unit 0 (512 * length x.numbers) old new) → new.programmed unit ≤ old.programmed unit
-only-fetched None unit old new some spends = absurd (let no : false ≡ true = some in cc)
-only-fetched (Some x) unit old new some spends = omega (arith, spends.programmed)
 
 module _ (told : Bool) (objects : Held) (numbers : Numbers) (unit : ℕ) (outside : Outside) (kept : AreKept told objects numbers unit outside) (tells : IsTrue told) (texts : Objects) (holds : HoldsObjects (image unit outside.now) texts)
     (id : ℕ) (bytes : List ℕ) (at : map.get texts id ≡ Some bytes) where

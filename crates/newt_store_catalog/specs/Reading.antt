@@ -1,10 +1,15 @@
 -- How an entry lies in objects where it is read. This project's own.
-use Rattle.std.specs.Prelude.{◌≡◌, ℕ, ◌≤◌, Bool, IsTrue, List, Some, map as list_map}
+use Rattle.std.specs.Prelude.{◌≡◌, ℕ, Bool, IsTrue, List, Some, None, map as list_map, Result, OnOk, IfErr, IsErrOf}
 use Rattle.std.specs.FinMap as map
-use Rattle.newt_host.specs.Outside.{Outside, Touches}
+use Rattle.newt_host.specs.Moments.{image}
+use Rattle.newt_host.specs.Outside.{Outside, NoFault, OnlyReads, Rose}
 use Rattle.newt_spec_image.specs.Objects.{Objects}
 use Rattle.newt_objects.specs.Held.{Held}
 use Rattle.newt_pagebook.specs.Book.{Numbers}
+use Rattle.newt_pagebook.specs.Stops.{IsOpening, StopsAt}
+use Rattle.newt_pagebook.specs.declared.book.BookFault.{BookFault}
+use Rattle.newt_pagebook.specs.declared.book.BookFault.TheVariants.{NotStore, Device as DeviceFault}
+use Rattle.newt_pagebook.specs.declared.book.Stop.{Stop}
 use Rattle.newt_spec_store.specs.Image.{entry_bytes}
 use Rattle.newt_spec_store.specs.Laid.{FitsRecord}
 use Rattle.newt_spec_store.specs.Lies.{AreLarges, entry_read}
@@ -13,6 +18,7 @@ use Rattle.newt_spec_store.specs.Valid.{valid_entry}
 use Rattle.newt_entries.specs.declared.row.LargeAt.{LargeAt}
 use Rattle.newt_entries.specs.Entry.{stream_graph}
 use Rattle.newt_objects_commit.specs.Commit.{AreKept}
+use Rattle.newt_store_catalog.specs.Readable.{readable}
 
 -- The object of this id is the record of this entry, in the soup of this signature; it names these objects, which are the entry's large binaries; and it is read as
 -- the entry.
@@ -28,12 +34,30 @@ abbrev pub HaveBytes : Objects → List LargeAt → List (List ℕ) → Type 0
 HaveBytes texts rows bs = list_map (λ l. map.get texts l.object) rows ≡ list_map (λ b. Some b) bs
 
 module _ {B : Type 0} (place : B → ℕ) (numbers : B → Numbers) (stands : Bool → B → Outside → Type 0) where
-  -- what was read leaves the book, the objects and the unit as they were
+  -- The book is what it was, but for the page at hand, and nothing happens to its unit.
+  pub record BookReads (told : Bool) (old new : B) (before after : Outside) : Type 0 where
+    pub stood : stands told new after
+    pub same_place : place new ≡ place old
+    pub same_numbers : numbers new ≡ numbers old
+    pub looks : OnlyReads (place old) before after
+
+  -- The same, and the objects are what they were.
   pub record ReadsOf (told : Bool) (objects : Held) (old new : B) (before after : Outside) : Type 0 where
     pub stood : stands told new after
     pub kept : AreKept told objects (numbers new) (place new) after
     pub same_place : place new ≡ place old
     pub same_numbers : numbers new ≡ numbers old
-    pub moment : after.now ≡ before.now
-    pub programs_nothing : after.programmed (place old) ≤ before.programmed (place old)
-    pub alone : Touches (place old) before after
+    pub looks : OnlyReads (place old) before after
+
+-- Why a reading of a unit stops: a device that failed is its own, and the fault was counted; and
+-- with an answer none was.
+pub record ReadEnds {T : Type 0} (unit : ℕ) (before after : Outside) (result : Result T Stop) : Type 0 where
+  pub cause : IfErr result (StopsAt unit before after)
+  pub no_fault : OnOk result (NoFault before after)
+
+-- Why a search for a unit's store ends: its image is read as none, or its device failed, and the
+-- fault was counted; and with an answer, or where there is no store, none was.
+pub record SearchEnds {T : Type 0} (told : Bool) (unit : ℕ) (before after : Outside) (result : Result T BookFault) : Type 0 where
+  pub not_store : IsErrOf result NotStore → IsTrue told → readable (image unit before.now) ≡ None
+  pub cause : IsErrOf result DeviceFault → Rose (before.dev_faults unit) (after.dev_faults unit)
+  pub no_fault : IsOpening result → NoFault before after

@@ -1,7 +1,10 @@
-//! What is kept in memory of a store: the catalog, how it is found when a unit is opened, and how an entry is read by it.
+//! What is kept in memory of a store: the catalog, how it is found when a unit is opened, and how
+//! an entry is read by it.
 //!
-//! It stands on a `PageBook` of `newt_pagebook`, whichever it is, on the objects of `newt_objects` and on the codecs of directory and entry records. The promise that it
-//! carries upwards: a unit is opened exactly where its image is read as a store, its catalog stands for that store, and an entry is read as it lies in the objects.
+//! It stands on a `PageBook` of `newt_pagebook`, whichever it is, on the objects of `newt_objects`
+//! and on the codecs of directory and entry records. The promise that it carries upwards: a unit is
+//! opened exactly where its image is read as a store, its catalog stands for that store, and an
+//! entry is read as it lies in the objects.
 #![tactic(auto)]
 
 mod catalog;

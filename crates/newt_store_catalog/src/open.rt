@@ -1,8 +1,9 @@
 // The store of an image is found.
-ghost use Rattle.std.specs.Prelude.{IsTrue, ◌≡◌, ◌≢◌, ◌+◌, ◌%◌, ◌<◌, ◌≤◌, ℕ, true, false, IsSome, Some, None, OnOk, IfOk, IsErrOf};
+ghost use Rattle.std.specs.Prelude.{IsTrue, ◌≡◌, ◌≢◌, ◌+◌, ◌%◌, ◌<◌, ◌≤◌, ℕ, true, false, IsSome};
+ghost use Rattle.std.specs.Prelude.{Some, None, OnOk, IfOk, IsErrOf};
 ghost use Rattle.std.specs.List.{list_all};
 ghost use Rattle.newt_host.specs.Moments.{image, IsDurable};
-ghost use Rattle.newt_host.specs.Outside.{Touches, Rose};
+ghost use Rattle.newt_host.specs.Outside.{OnlyReads};
 ghost use Rattle.newt_spec_nsof.specs.Text.{AreBytes};
 ghost use Rattle.newt_objects.specs.Extents.{IsNextIn};
 ghost use Rattle.newt_objects.specs.Held.{held};
@@ -17,8 +18,11 @@ ghost use Rattle.newt_objects_commit.specs.Commit.{AreKept};
 ghost use Rattle.newt_objects_commit.specs.Names.{AreSoundNames, names_of};
 ghost use Rattle.newt_objects_commit.specs.Places.{AreSoundPlaces, place_of};
 ghost use Rattle.newt_store_catalog.specs.Readable.{readable};
+ghost use Rattle.newt_store_catalog.specs.Reading.{BookReads, ReadsOf, SearchEnds};
 ghost use Rattle.newt_store_catalog.specs.Stands.{StandsFor, IsSound};
-ghost use Rattle.newt_store_catalog.specs.Opening.{OfObjects, HasObject, IsRoot, IsRow, has_length, objects_named, owner_of, OwnsThese, AreOwned, FindsRow, IsNoRow, AreSoundTo, AreFoundTo};
+ghost use Rattle.newt_store_catalog.specs.Opening.{OfObjects, HasObject, IsRoot, IsRow, has_length};
+ghost use Rattle.newt_store_catalog.specs.Opening.{objects_named, owner_of, OwnsThese, AreOwned};
+ghost use Rattle.newt_store_catalog.specs.Opening.{FindsRow, IsNoRow, AreSoundTo, AreFoundTo};
 
 use crate::catalog::Catalog;
 use newt_entries::{EntryFault, EntryRow, LargeAt, read_entry};
@@ -37,14 +41,12 @@ fn scan_objects<P: PageBook, H: Host>(
     book: &mut P,
 ) -> Result<Objects, BookFault>
     requires stands { P.stands H.told book.old (H.outside host.old) }
-    ensures kept { IfOk result (λ objects. AreKept H.told objects (P.numbers book.new) (P.place book.new) (H.outside host.new)) }
-    ensures not_store { IsErrOf result BookFault.NotStore → IsTrue H.told → readable (image (P.place book.old) (H.outside host.old).now) ≡ None }
-    ensures stands { P.stands H.told book.new (H.outside host.new) }
-    ensures same { (P.place book.new ≡ P.place book.old) × (P.numbers book.new ≡ P.numbers book.old) }
-    ensures moment { (H.outside host.new).now ≡ (H.outside host.old).now }
-    ensures programs_nothing { (H.outside host.new).programmed (P.place book.old) ≤ (H.outside host.old).programmed (P.place book.old) }
-    ensures alone { Touches (P.place book.old) (H.outside host.old) (H.outside host.new) }
-    ensures cause { IsErrOf result BookFault.Device → Rose ((H.outside host.old).dev_faults (P.place book.old)) ((H.outside host.new).dev_faults (P.place book.old)) }
+    ensures kept { IfOk result (λ objects.
+        AreKept H.told objects (P.numbers book.new) (P.place book.new) (H.outside host.new)) }
+    ensures reads { BookReads P.place P.numbers P.stands H.told book.old book.new
+        (H.outside host.old) (H.outside host.new) }
+    ensures ends { SearchEnds H.told (P.place book.old)
+        (H.outside host.old) (H.outside host.new) result }
 {
     match Objects::scan(alloc, host, book) {
         Ok(objects) => Ok(objects),
@@ -62,17 +64,16 @@ fn read_object<P: PageBook, H: Host>(
     id: u32,
 ) -> Result<Vec<u8>, BookFault>
     requires stands { P.stands H.told book.old (H.outside host.old) }
-    requires kept { AreKept H.told objects.now (P.numbers book.old) (P.place book.old) (H.outside host.old) }
+    requires kept { AreKept H.told objects.now (P.numbers book.old) (P.place book.old)
+        (H.outside host.old) }
     requires there { IsSome (held objects.now id) }
-    ensures bytes { IfOk result (λ bytes. OfObjects H.told (image (P.place book.old) (H.outside host.old).now) (HasObject id bytes.items)) }
+    ensures bytes { let now = image (P.place book.old) (H.outside host.old).now in
+        IfOk result (λ bytes. OfObjects H.told now (HasObject id bytes.items)) }
     ensures some { IsErrOf result BookFault.NotStore → ⊥ }
-    ensures stands { P.stands H.told book.new (H.outside host.new) }
-    ensures kept { AreKept H.told objects.now (P.numbers book.new) (P.place book.new) (H.outside host.new) }
-    ensures same { (P.place book.new ≡ P.place book.old) × (P.numbers book.new ≡ P.numbers book.old) }
-    ensures moment { (H.outside host.new).now ≡ (H.outside host.old).now }
-    ensures programs_nothing { (H.outside host.new).programmed (P.place book.old) ≤ (H.outside host.old).programmed (P.place book.old) }
-    ensures alone { Touches (P.place book.old) (H.outside host.old) (H.outside host.new) }
-    ensures cause { IsErrOf result BookFault.Device → Rose ((H.outside host.old).dev_faults (P.place book.old)) ((H.outside host.new).dev_faults (P.place book.old)) }
+    ensures reads { ReadsOf P.place P.numbers P.stands H.told objects.now book.old book.new
+        (H.outside host.old) (H.outside host.new) }
+    ensures ends { SearchEnds H.told (P.place book.old)
+        (H.outside host.old) (H.outside host.new) result }
 {
     match objects.read(host, book, id) {
         Ok(bytes) => Ok(bytes),
@@ -83,7 +84,8 @@ fn read_object<P: PageBook, H: Host>(
 
 /// The directory that an object's bytes are read as.
 fn root_of(alloc: Global, bytes: &[u8]) -> Result<Directory, BookFault>
-    ensures read { IfOk result (λ directory. directory_read bytes.now ≡ Some (bare_store directory)) }
+    ensures read { IfOk result (λ directory. directory_read bytes.now ≡ Some
+        (bare_store directory)) }
     ensures are_bytes { OnOk result (AreBytes bytes.now) }
     ensures bad { IsErrOf result BookFault.NotStore → directory_read bytes.now ≡ None }
     ensures no_device { IsErrOf result BookFault.Device → ⊥ }
@@ -103,17 +105,15 @@ fn read_root<P: PageBook, H: Host>(
     objects: &Objects,
 ) -> Result<Directory, BookFault>
     requires stands { P.stands H.told book.old (H.outside host.old) }
-    requires kept { AreKept H.told objects.now (P.numbers book.old) (P.place book.old) (H.outside host.old) }
-    ensures root { IfOk result (λ directory. OfObjects H.told (image (P.place book.old) (H.outside host.old).now) (IsRoot directory)) }
+    requires kept { AreKept H.told objects.now (P.numbers book.old) (P.place book.old)
+        (H.outside host.old) }
+    ensures root { let now = image (P.place book.old) (H.outside host.old).now in
+        IfOk result (λ directory. OfObjects H.told now (IsRoot directory)) }
     ensures formed { IfOk result (λ directory. IsTrue (well_formed (bare_store directory))) }
-    ensures not_store { IsErrOf result BookFault.NotStore → IsTrue H.told → readable (image (P.place book.old) (H.outside host.old).now) ≡ None }
-    ensures stands { P.stands H.told book.new (H.outside host.new) }
-    ensures kept { AreKept H.told objects.now (P.numbers book.new) (P.place book.new) (H.outside host.new) }
-    ensures same { (P.place book.new ≡ P.place book.old) × (P.numbers book.new ≡ P.numbers book.old) }
-    ensures moment { (H.outside host.new).now ≡ (H.outside host.old).now }
-    ensures programs_nothing { (H.outside host.new).programmed (P.place book.old) ≤ (H.outside host.old).programmed (P.place book.old) }
-    ensures alone { Touches (P.place book.old) (H.outside host.old) (H.outside host.new) }
-    ensures cause { IsErrOf result BookFault.Device → Rose ((H.outside host.old).dev_faults (P.place book.old)) ((H.outside host.new).dev_faults (P.place book.old)) }
+    ensures reads { ReadsOf P.place P.numbers P.stands H.told objects.now book.old book.new
+        (H.outside host.old) (H.outside host.new) }
+    ensures ends { SearchEnds H.told (P.place book.old)
+        (H.outside host.old) (H.outside host.new) result }
 {
     if objects.length(0).is_none() {
         return Err(BookFault::NotStore);
@@ -145,19 +145,18 @@ fn read_record<P: PageBook, H: Host>(
     id: u32,
 ) -> Result<EntryRow, BookFault>
     requires stands { P.stands H.told book.old (H.outside host.old) }
-    requires kept { AreKept H.told objects.now (P.numbers book.old) (P.place book.old) (H.outside host.old) }
+    requires kept { AreKept H.told objects.now (P.numbers book.old) (P.place book.old)
+        (H.outside host.old) }
     requires there { IsSome (held objects.now id) }
     requires odd { id % 2 ≡ 1 }
-    ensures row { IfOk result (λ row. OfObjects H.told (image (P.place book.old) (H.outside host.old).now) (IsRow id row)) }
-    ensures even { IfOk result (λ row. (o : ℕ) → Among (objects_named row.larges) o → (o % 2 ≡ 0) × (0 < o)) }
-    ensures not_store { IsErrOf result BookFault.NotStore → IsTrue H.told → readable (image (P.place book.old) (H.outside host.old).now) ≡ None }
-    ensures stands { P.stands H.told book.new (H.outside host.new) }
-    ensures kept { AreKept H.told objects.now (P.numbers book.new) (P.place book.new) (H.outside host.new) }
-    ensures same { (P.place book.new ≡ P.place book.old) × (P.numbers book.new ≡ P.numbers book.old) }
-    ensures moment { (H.outside host.new).now ≡ (H.outside host.old).now }
-    ensures programs_nothing { (H.outside host.new).programmed (P.place book.old) ≤ (H.outside host.old).programmed (P.place book.old) }
-    ensures alone { Touches (P.place book.old) (H.outside host.old) (H.outside host.new) }
-    ensures cause { IsErrOf result BookFault.Device → Rose ((H.outside host.old).dev_faults (P.place book.old)) ((H.outside host.new).dev_faults (P.place book.old)) }
+    ensures row { let now = image (P.place book.old) (H.outside host.old).now in
+        IfOk result (λ row. OfObjects H.told now (IsRow id row)) }
+    ensures even { IfOk result (λ row.
+        (o : ℕ) → Among (objects_named row.larges) o → (o % 2 ≡ 0) × (0 < o)) }
+    ensures reads { ReadsOf P.place P.numbers P.stands H.told objects.now book.old book.new
+        (H.outside host.old) (H.outside host.new) }
+    ensures ends { SearchEnds H.told (P.place book.old)
+        (H.outside host.old) (H.outside host.new) result }
 {
     let bytes = read_object(host, book, objects, id)?;
     record_of(alloc, &bytes)
@@ -167,7 +166,8 @@ fn read_record<P: PageBook, H: Host>(
 fn has_given(directory: &Directory, row: &EntryRow) -> bool
     requires { IsTrue (well_formed (bare_store directory.now)) }
     ensures given { result ≡ true → HasGiven (bare_store directory.now) row.now.soup row.now.uid }
-    ensures not_given { result ≡ false → HasGiven (bare_store directory.now) row.now.soup row.now.uid → ⊥ }
+    ensures not_given { result ≡ false → HasGiven (bare_store directory.now) row.now.soup
+        row.now.uid → ⊥ }
 {
     match directory.soup_of(row.soup) {
         Some(soup) => row.uid.0 < soup.next_uid,
@@ -207,14 +207,16 @@ fn named_by(alloc: Global, rows: &[LargeAt]) -> Result<Vec<u32>, AllocError>
 fn own(owners: &mut BTreeMap<u32, u32>, object: u32, id: u32) -> Result<Option<u32>, AllocError>
     ensures old { IfOk result (λ old. old ≡ owner_of owners.old object) }
     ensures owned { OnOk result (owner_of owners.new object ≡ Some id) }
-    ensures others { OnOk result ((other : ℕ) → other ≢ object → owner_of owners.new other ≡ owner_of owners.old other) }
+    ensures others { OnOk result ((other : ℕ) → other ≢ object → owner_of owners.new other ≡
+        owner_of owners.old other) }
 {
     Ok(owners.insert(object, id)?)
 }
 
 /// Keeps the owner of these objects. Whether none of them had one, nor stands twice.
 fn own_all(owners: &mut BTreeMap<u32, u32>, ids: &[u32], id: u32) -> Result<bool, AllocError>
-    ensures owned { IfOk result (λ all. all ≡ true → OwnsThese ids.now id (owner_of owners.old) (owner_of owners.new)) }
+    ensures owned { IfOk result (λ all. all ≡ true → OwnsThese ids.now id (owner_of owners.old)
+        (owner_of owners.new)) }
     ensures are_owned { IfOk result (λ all. all ≡ false → AreOwned ids.now (owner_of owners.old)) }
 {
     for object in ids {
@@ -239,8 +241,10 @@ fn is_owned(owners: &BTreeMap<u32, u32>, id: u32) -> bool
 
 /// Whether each object with an even id above 0 has an owner.
 fn are_owned(objects: &Objects, owners: &BTreeMap<u32, u32>) -> bool
-    ensures owned { result ≡ true → (id : ℕ) → IsSome (held objects.now id) → id ≢ 0 → id % 2 ≡ 0 → IsSome (owner_of owners.now id) }
-    ensures not_owned { result ≡ false → (id : ℕ) × IsSome (held objects.now id) × (id ≢ 0) × (id % 2 ≡ 0) × (owner_of owners.now id ≡ None) }
+    ensures owned { result ≡ true → (id : ℕ) → IsSome (held objects.now id) → id ≢ 0 → id % 2 ≡ 0
+        → IsSome (owner_of owners.now id) }
+    ensures not_owned { result ≡ false → (id : ℕ) × IsSome (held objects.now id) × (id ≢ 0) ×
+        (id % 2 ≡ 0) × (owner_of owners.now id ≡ None) }
 {
     let mut last = 0;
     while let Some(id) = objects.next_after(last) {
@@ -270,7 +274,8 @@ struct Finding {
     owners: BTreeMap<u32, u32>,
 }
 
-/// Keeps what is found of the record of an entry. The entry must have no place yet, and its large binaries must be there and be named by no other.
+/// Keeps what is found of the record of an entry. The entry must have no place yet, and its large
+/// binaries must be there and be named by no other.
 fn find_row(
     alloc: Global,
     objects: &Objects,
@@ -280,8 +285,12 @@ fn find_row(
     id: u32,
 ) -> Result<(), BookFault>
     requires formed { IsTrue (well_formed (bare_store directory.now)) }
-    ensures found { OnOk result (FindsRow (held objects.now) (bare_store directory.now) id row.now (place_of finding.old.places) (names_of finding.old.names) (owner_of finding.old.owners) (place_of finding.new.places) (names_of finding.new.names) (owner_of finding.new.owners)) }
-    ensures bad { IsErrOf result BookFault.NotStore → IsNoRow (held objects.now) (bare_store directory.now) row.now (place_of finding.old.places) (owner_of finding.old.owners) }
+    ensures found { OnOk result (FindsRow (held objects.now) (bare_store directory.now) id row.now
+        (place_of finding.old.places) (names_of finding.old.names) (owner_of finding.old.owners)
+        (place_of finding.new.places) (names_of finding.new.names) (owner_of finding.new.owners)) }
+    ensures bad { IsErrOf result BookFault.NotStore
+        → IsNoRow (held objects.now) (bare_store directory.now) row.now
+        (place_of finding.old.places) (owner_of finding.old.owners) }
     ensures no_device { IsErrOf result BookFault.Device → ⊥ }
 {
     if !has_given(directory, row) {
@@ -302,8 +311,8 @@ fn find_row(
     Ok(finding.places.insert(row.soup, row.uid, id)?)
 }
 
-/// Keeps what is found of the next object. One with an odd id must be a record of an entry that has no place yet, and whose large binaries are there and
-/// are named by no other.
+/// Keeps what is found of the next object. One with an odd id must be a record of an entry that has
+/// no place yet, and whose large binaries are there and are named by no other.
 fn find_object<P: PageBook, H: Host>(
     alloc: Global,
     host: &mut H,
@@ -315,22 +324,26 @@ fn find_object<P: PageBook, H: Host>(
     id: u32,
 ) -> Result<(), BookFault>
     requires stands { P.stands H.told book.old (H.outside host.old) }
-    requires kept { AreKept H.told objects.now (P.numbers book.old) (P.place book.old) (H.outside host.old) }
-    requires root { OfObjects H.told (image (P.place book.old) (H.outside host.old).now) (IsRoot directory.now) }
+    requires kept { AreKept H.told objects.now (P.numbers book.old) (P.place book.old)
+        (H.outside host.old) }
+    requires root { let now = image (P.place book.old) (H.outside host.old).now in
+        OfObjects H.told now (IsRoot directory.now) }
     requires formed { IsTrue (well_formed (bare_store directory.now)) }
     requires next { IsNextIn (held objects.now) (last + 1) (Some id) }
-    requires sound { AreSoundTo last (held objects.now) (place_of finding.old.places) (names_of finding.old.names) (owner_of finding.old.owners) }
-    requires found { OfObjects H.told (image (P.place book.old) (H.outside host.old).now) (AreFoundTo last (place_of finding.old.places) (names_of finding.old.names) (bare_store directory.now)) }
-    ensures sound { OnOk result (AreSoundTo id (held objects.now) (place_of finding.new.places) (names_of finding.new.names) (owner_of finding.new.owners)) }
-    ensures found { OnOk result (OfObjects H.told (image (P.place book.old) (H.outside host.old).now) (AreFoundTo id (place_of finding.new.places) (names_of finding.new.names) (bare_store directory.now))) }
-    ensures not_store { IsErrOf result BookFault.NotStore → IsTrue H.told → readable (image (P.place book.old) (H.outside host.old).now) ≡ None }
-    ensures stands { P.stands H.told book.new (H.outside host.new) }
-    ensures kept { AreKept H.told objects.now (P.numbers book.new) (P.place book.new) (H.outside host.new) }
-    ensures same { (P.place book.new ≡ P.place book.old) × (P.numbers book.new ≡ P.numbers book.old) }
-    ensures moment { (H.outside host.new).now ≡ (H.outside host.old).now }
-    ensures programs_nothing { (H.outside host.new).programmed (P.place book.old) ≤ (H.outside host.old).programmed (P.place book.old) }
-    ensures alone { Touches (P.place book.old) (H.outside host.old) (H.outside host.new) }
-    ensures cause { IsErrOf result BookFault.Device → Rose ((H.outside host.old).dev_faults (P.place book.old)) ((H.outside host.new).dev_faults (P.place book.old)) }
+    requires sound { AreSoundTo last (held objects.now) (place_of finding.old.places)
+        (names_of finding.old.names) (owner_of finding.old.owners) }
+    requires found { let now = image (P.place book.old) (H.outside host.old).now in
+        OfObjects H.told now (AreFoundTo last (place_of finding.old.places)
+        (names_of finding.old.names) (bare_store directory.now)) }
+    ensures sound { OnOk result (AreSoundTo id (held objects.now) (place_of finding.new.places)
+        (names_of finding.new.names) (owner_of finding.new.owners)) }
+    ensures found { let now = image (P.place book.old) (H.outside host.old).now in
+        OnOk result (OfObjects H.told now (AreFoundTo id (place_of finding.new.places)
+        (names_of finding.new.names) (bare_store directory.now))) }
+    ensures reads { ReadsOf P.place P.numbers P.stands H.told objects.now book.old book.new
+        (H.outside host.old) (H.outside host.new) }
+    ensures ends { SearchEnds H.told (P.place book.old)
+        (H.outside host.old) (H.outside host.new) result }
 {
     if id % 2 == 0 {
         return Ok(());
@@ -339,7 +352,8 @@ fn find_object<P: PageBook, H: Host>(
     find_row(alloc, objects, directory, finding, &row, id)
 }
 
-/// Finds the objects of all records of entries, and which objects they name: each with an even id above 0 must be named.
+/// Finds the objects of all records of entries, and which objects they name: each with an even id
+/// above 0 must be named.
 fn find_records<P: PageBook, H: Host>(
     alloc: Global,
     host: &mut H,
@@ -348,20 +362,22 @@ fn find_records<P: PageBook, H: Host>(
     directory: &Directory,
 ) -> Result<Finding, BookFault>
     requires stands { P.stands H.told book.old (H.outside host.old) }
-    requires kept { AreKept H.told objects.now (P.numbers book.old) (P.place book.old) (H.outside host.old) }
-    requires root { OfObjects H.told (image (P.place book.old) (H.outside host.old).now) (IsRoot directory.now) }
+    requires kept { AreKept H.told objects.now (P.numbers book.old) (P.place book.old)
+        (H.outside host.old) }
+    requires root { let now = image (P.place book.old) (H.outside host.old).now in
+        OfObjects H.told now (IsRoot directory.now) }
     requires formed { IsTrue (well_formed (bare_store directory.now)) }
-    ensures places { IfOk result (λ finding. AreSoundPlaces (held objects.now) (place_of finding.places)) }
-    ensures names { IfOk result (λ finding. AreSoundNames (held objects.now) (names_of finding.names)) }
-    ensures found { IfOk result (λ finding. OfObjects H.told (image (P.place book.old) (H.outside host.old).now) (λ texts. IsFound stream_graph texts (place_of finding.places) (names_of finding.names) (bare_store directory.now))) }
-    ensures not_store { IsErrOf result BookFault.NotStore → IsTrue H.told → readable (image (P.place book.old) (H.outside host.old).now) ≡ None }
-    ensures stands { P.stands H.told book.new (H.outside host.new) }
-    ensures kept { AreKept H.told objects.now (P.numbers book.new) (P.place book.new) (H.outside host.new) }
-    ensures same { (P.place book.new ≡ P.place book.old) × (P.numbers book.new ≡ P.numbers book.old) }
-    ensures moment { (H.outside host.new).now ≡ (H.outside host.old).now }
-    ensures programs_nothing { (H.outside host.new).programmed (P.place book.old) ≤ (H.outside host.old).programmed (P.place book.old) }
-    ensures alone { Touches (P.place book.old) (H.outside host.old) (H.outside host.new) }
-    ensures cause { IsErrOf result BookFault.Device → Rose ((H.outside host.old).dev_faults (P.place book.old)) ((H.outside host.new).dev_faults (P.place book.old)) }
+    ensures places { IfOk result (λ finding.
+        AreSoundPlaces (held objects.now) (place_of finding.places)) }
+    ensures names { IfOk result (λ finding.
+        AreSoundNames (held objects.now) (names_of finding.names)) }
+    ensures found { let now = image (P.place book.old) (H.outside host.old).now in
+        IfOk result (λ finding. OfObjects H.told now (λ texts. IsFound stream_graph texts
+        (place_of finding.places) (names_of finding.names) (bare_store directory.now))) }
+    ensures reads { ReadsOf P.place P.numbers P.stands H.told objects.now book.old book.new
+        (H.outside host.old) (H.outside host.new) }
+    ensures ends { SearchEnds H.told (P.place book.old)
+        (H.outside host.old) (H.outside host.new) result }
 {
     let places = PlaceTable::new(alloc);
     let names = NameTable::new(alloc);
@@ -398,15 +414,15 @@ fn find_catalog<P: PageBook, H: Host>(
     book: &mut P,
 ) -> Result<Catalog, BookFault>
     requires stands { P.stands H.told book.old (H.outside host.old) }
-    ensures sound { IfOk result (λ catalog. IsSound H.told catalog (P.numbers book.new) (P.place book.new) (H.outside host.new)) }
-    ensures found { IsTrue H.told → IfOk result (λ catalog. (s : PlainStore) × (readable (image (P.place book.old) (H.outside host.old).now) ≡ Some s) × StandsFor catalog s (image (P.place book.old) (H.outside host.old).now)) }
-    ensures not_store { IsErrOf result BookFault.NotStore → IsTrue H.told → readable (image (P.place book.old) (H.outside host.old).now) ≡ None }
-    ensures stands { P.stands H.told book.new (H.outside host.new) }
-    ensures same { P.place book.new ≡ P.place book.old }
-    ensures moment { (H.outside host.new).now ≡ (H.outside host.old).now }
-    ensures programs_nothing { (H.outside host.new).programmed (P.place book.old) ≤ (H.outside host.old).programmed (P.place book.old) }
-    ensures alone { Touches (P.place book.old) (H.outside host.old) (H.outside host.new) }
-    ensures cause { IsErrOf result BookFault.Device → Rose ((H.outside host.old).dev_faults (P.place book.old)) ((H.outside host.new).dev_faults (P.place book.old)) }
+    ensures sound { IfOk result (λ catalog.
+        IsSound H.told catalog (P.numbers book.new) (P.place book.new) (H.outside host.new)) }
+    ensures found { let now = image (P.place book.old) (H.outside host.old).now in
+        IsTrue H.told → IfOk result (λ catalog.
+        (s : PlainStore) × (readable now ≡ Some s) × StandsFor catalog s now) }
+    ensures reads { BookReads P.place P.numbers P.stands H.told book.old book.new
+        (H.outside host.old) (H.outside host.new) }
+    ensures ends { SearchEnds H.told (P.place book.old)
+        (H.outside host.old) (H.outside host.new) result }
 {
     let objects = scan_objects(alloc, host, book)?;
     let directory = read_root(alloc, host, book, &objects)?;
@@ -434,13 +450,13 @@ pub fn open_catalog<P: PageBook, H: Host>(
     requires at_rest { IsTrue H.told → IsDurable unit (H.outside host.old).now }
     ensures stands { IfOk result (λ found. P.stands H.told found.0 (H.outside host.new)) }
     ensures place { IfOk result (λ found. P.place found.0 ≡ unit) }
-    ensures sound { IfOk result (λ found. IsSound H.told found.1 (P.numbers found.0) unit (H.outside host.new)) }
-    ensures found { IsTrue H.told → IfOk result (λ found. (s : PlainStore) × (readable (image unit (H.outside host.old).now) ≡ Some s) × StandsFor found.1 s (image unit (H.outside host.old).now)) }
-    ensures not_store { IsErrOf result BookFault.NotStore → IsTrue H.told → readable (image unit (H.outside host.old).now) ≡ None }
-    ensures moment { (H.outside host.new).now ≡ (H.outside host.old).now }
-    ensures programs_nothing { (H.outside host.new).programmed unit ≤ (H.outside host.old).programmed unit }
-    ensures alone { Touches unit (H.outside host.old) (H.outside host.new) }
-    ensures cause { IsErrOf result BookFault.Device → Rose ((H.outside host.old).dev_faults unit) ((H.outside host.new).dev_faults unit) }
+    ensures sound { IfOk result (λ found.
+        IsSound H.told found.1 (P.numbers found.0) unit (H.outside host.new)) }
+    ensures found { let now = image unit (H.outside host.old).now in
+        IsTrue H.told → IfOk result (λ found.
+        (s : PlainStore) × (readable now ≡ Some s) × StandsFor found.1 s now) }
+    ensures looks { OnlyReads unit (H.outside host.old) (H.outside host.new) }
+    ensures ends { SearchEnds H.told unit (H.outside host.old) (H.outside host.new) result }
 {
     let mut book: P = P::open(alloc, host, unit)?;
     let catalog = find_catalog(alloc, host, &mut book)?;

@@ -60,13 +60,13 @@ abbrev pub IsEnd : StoreFault → Type 0
 IsEnd (Refused refusal) = ⊥
 IsEnd (Ends stop) = Unit {0}
 
--- no device is at fault: a refusal, or want of memory
+-- no device is at fault: a refusal, or out of memory
 abbrev pub NoDevice : StoreFault → Type 0
 NoDevice (Refused refusal) = Unit {0}
 NoDevice (Ends stops.Memory) = Unit {0}
 NoDevice (Ends (stops.Device unit)) = ⊥
 
--- why a value is not put at a path: a refusal, or want of memory
+-- why a value is not put at a path: a refusal, or out of memory
 abbrev pub set_fault : SetFault → StoreFault
 set_fault put.NoPath = Refused NoPath
 set_fault put.Limit = Refused Limit

@@ -20,7 +20,8 @@ pub enum Change {
     Move(Sig, Uid, Sig),
     /// The entry gets this graph in place of its own, and keeps its id.
     Replace(Sig, Uid, Graph),
-    /// These bytes stand in a large binary of the entry, the node of this number, in place of those from a place on. The entry's minute stays.
+    /// These bytes stand in a large binary of the entry, the node of this number, in place of those
+    /// from a place on. The entry's minute stays.
     Patch(Sig, Uid, u32, u32, Bytes),
     /// The soup gets an index, behind its others.
     AddIndex(Sig, IndexSpec),

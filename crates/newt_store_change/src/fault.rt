@@ -4,7 +4,8 @@ use newt_pagebook::Stop;
 use newt_path::SetFault;
 use std::alloc::{AllocError, AllocFailed};
 
-/// Why a change was not made: it is refused, and the store is as it was; or the run ends, and the store is spent.
+/// Why a change was not made: it is refused, and the store is as it was; or the run ends, and the
+/// store is spent.
 #[derive(Clone, Copy, Debug, PartialEq, Eq)]
 pub enum StoreFault {
     Refused(Refusal),

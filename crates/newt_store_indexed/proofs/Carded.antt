@@ -1,17 +1,15 @@
 -- A change of the store, and an entry that is read, as a card promises them.
-use Rattle.std.proofs.Common.{◌≡◌, ℕ, ◌+◌, ◌*◌, Bool, IsTrue, List, Some, None, sym, ◌∙◌, ap, subst, refl}
-use Rattle.std.specs.Prelude.{Result, Ok, Err, OnOk, IfErr}
-use Rattle.newt_host.specs.Moments.{Moment, image, IsDurable}
-use Rattle.newt_host.specs.Outside.{Outside, Spends}
+use Rattle.std.proofs.Common.{◌≡◌, ℕ, Bool, IsTrue, List, Some, None, sym, ◌∙◌, ap, subst}
+use Rattle.std.specs.Prelude.{Result, Ok, Err, OnOk}
+use Rattle.newt_host.specs.Moments.{Moment, image}
+use Rattle.newt_host.specs.Outside.{Outside, Spends, Wears}
 use Rattle.newt_host.proofs.Moments.{Leaves-others}
 use Rattle.newt_pagebook.specs.Book.{Numbers, IsOpenFor}
-use Rattle.newt_pagebook.specs.Stops.{StopsAt}
-use Rattle.newt_pagebook.specs.declared.book.Stop.{Stop as StopOf}
 use Rattle.newt_spec_store.specs.OfImage.{blocks_of}
 use Rattle.newt_spec_store.specs.Store.{Store as Plain}
 use Rattle.newt_index_ranges.specs.Stands.{AreRangesOf}
 use Rattle.newt_index_ranges.specs.declared.rows.SoupRanges.{SoupRanges}
-use Rattle.newt_store_change.specs.Change.{changed_by, answer_of, refusals, most_bytes, bytes_fetched, pages_read, entry_fetched, pages_of_entry}
+use Rattle.newt_store_change.specs.Change.{changed_by, answer_of, refusals, most_bytes, bytes_fetched}
 use Rattle.newt_store_change.specs.Faults.{Does, GoesOn, IsRefused}
 use Rattle.newt_store_change.specs.declared.change.Change.{Change}
 use Rattle.newt_store_change.specs.declared.fault.StoreFault.{StoreFault}
@@ -22,11 +20,9 @@ use Rattle.newt_store_catalog.specs.declared.catalog.Catalog.{Catalog}
 use Rattle.newt_store_catalog.proofs.Opening.{same-image}
 use Rattle.newt_store.specs.declared.store.Store.{Store}
 use Rattle.newt_engine_card.specs.Calls as card
-use Rattle.newt_store_indexed.specs.Calls.{Shows, Reads, Changes}
+use Rattle.newt_store.specs.Calls.{Shows, Changes}
 use Rattle.newt_store_indexed.specs.Stands.{StandsOn, StandsForOne}
 use Rattle.newt_store_indexed.specs.declared.store.IndexedStore.{IndexedStore}
-use Rattle.newt_store_indexed.proofs.Changing.{changes-over, changes-stopped, costs-over, costs-stopped}
-use Rattle.newt_store_indexed.proofs.Reading.{shows-on}
 use Rattle.newt_store_indexed.proofs.Turns.{reads-it, stands-for, by-blocks, leaves-either}
 
 module _ {B : Type 0} (place : B → ℕ) (numbers : B → Numbers) (stands : Bool → B → Outside → Type 0) (told : Bool) where
@@ -97,10 +93,14 @@ module _ {B : Type 0} (place : B → ℕ) (numbers : B → Numbers) (stands : Bo
     costs = λ tells s reads.
         let P : ℕ → Type 0 = λ blocks. IsOpenFor (most_bytes change blocks now s) img → Spends (on-unit a) (most_bytes change blocks now s) (bytes_fetched change s) before after in
         subst P (size tells) (e.costs tells s (at tells s reads));
+    wears = λ tells s reads.
+        let P : ℕ → Type 0 = λ blocks. IsOpenFor (most_bytes change blocks now s) img → Wears (on-unit a) 0 2 before after in
+        subst P (size tells) (e.of_store.wears tells s (at tells s reads));
     open_after = e.of_store.open_after;
     nothing_done = e.of_store.nothing_done;
     alone = e.of_store.alone;
     cause = e.of_store.cause;
+    no_fault = e.of_store.no_fault;
   }
     where
       img : List ℕ

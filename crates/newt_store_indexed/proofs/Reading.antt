@@ -1,30 +1,21 @@
 -- Calls that read, one after another.
-use Rattle.std.proofs.Common.{◌≡◌, ℕ, ◌+◌, ◌*◌, ◌≤◌, Bool, List, refl, sym, ◌∙◌, subst, arith}
+use Rattle.std.proofs.Common.{ℕ, ◌+◌, ◌*◌, ◌≤◌, Bool, List, refl, sym, ◌∙◌, subst, arith}
 use Rattle.newt_host.specs.Moments.{image}
-use Rattle.newt_host.specs.Outside.{Outside, Touches, Spends, Rose}
-use Rattle.newt_host.proofs.Outside.{Touches-refl, Touches-append, Spends-append, Spends-widen}
+use Rattle.newt_host.specs.Outside.{Outside, Spends}
+use Rattle.newt_host.proofs.Outside.{OnlyReads-refl, Spends-append, Spends-widen}
 use Rattle.newt_pagebook.specs.Book.{Numbers}
-use Rattle.newt_pagebook.specs.Stops.{StopsAt}
-use Rattle.newt_pagebook.specs.declared.book.Stop.{Stop}
-use Rattle.newt_pagebook.specs.declared.book.Stop.TheVariants.{Memory, Device}
 use Rattle.newt_spec_store.specs.Store.{Store as PlainStore}
 use Rattle.newt_store_catalog.specs.Stands.{StandsFor}
 use Rattle.newt_store_catalog.specs.declared.catalog.Catalog.{Catalog}
 use Rattle.newt_store.specs.declared.store.Store.{Store}
 use Rattle.newt_store_catalog.proofs.Opening.{same-image}
-use Rattle.newt_store_catalog.proofs.ReadLarges.{programs-over}
-use Rattle.newt_store.proofs.Applying.{rose-before}
-use Rattle.newt_store_indexed.specs.Calls.{Shows, IsOpen, Reads}
-
-pub stops-over : (stop : Stop) (unit unit' : ℕ) (old mid new : Outside) → unit' ≡ unit → Touches unit old mid → StopsAt unit' mid new stop → StopsAt unit old new stop
-stops-over Memory unit unit' old mid new place touches stops = tt
-stops-over (Device at) unit unit' old mid new place touches stops =
-    (stops.0 ∙ place, rose-before (old.dev_faults unit) (mid.dev_faults unit) (new.dev_faults unit) touches.faults_later (subst (λ (u : ℕ). Rose (mid.dev_faults u) (new.dev_faults u)) place stops.1))
+use Rattle.newt_store_catalog.proofs.Exits.{looks-on}
+use Rattle.newt_store.specs.Calls.{Shows, IsOpen, Reads}
 
 module _ {B : Type 0} (place : B → ℕ) (numbers : B → Numbers) (stands : Bool → B → Outside → Type 0) (told : Bool) where
   -- nothing was read
   pub reads-none : (store : Store B) (outside : Outside) → IsOpen place numbers stands told store outside → Reads place numbers stands told store store outside outside
-  reads-none store outside is = record { is_open = is; same_place = refl; same_numbers = refl; catalog = refl; moment = refl; programs_nothing = omega arith; alone = Touches-refl (place store.book) outside }
+  reads-none store outside is = record { is_open = is; same_place = refl; same_numbers = refl; catalog = refl; looks = OnlyReads-refl (place store.book) outside }
 
   -- one call after another
   pub reads-more : (a b c : Store B) (before between after : Outside) → Reads place numbers stands told a b before between → Reads place numbers stands told b c between after
@@ -34,19 +25,14 @@ module _ {B : Type 0} (place : B → ℕ) (numbers : B → Numbers) (stands : Bo
     same_place = y.same_place ∙ x.same_place;
     same_numbers = y.same_numbers ∙ x.same_numbers;
     catalog = y.catalog ∙ x.catalog;
-    moment = y.moment ∙ x.moment;
-    programs_nothing = programs-over (place a.book) (place b.book) before between after x.same_place x.programs_nothing y.programs_nothing;
-    alone = Touches-append x.alone (subst (λ (u : ℕ). Touches u between after) x.same_place y.alone);
+    looks = looks-on x.same_place x.looks y.looks;
   }
 
   -- the store still shows what it did
   pub shows-on : (a b : Store B) (before between : Outside) (s : PlainStore) → Reads place numbers stands told a b before between → Shows place a before s → Shows place b between s
   shows-on a b before between s x shows =
       subst (λ (catalog : Catalog). StandsFor catalog s (image (place b.book) between.now)) (sym x.catalog)
-      (subst (λ (img : List ℕ). StandsFor a.catalog s img) (sym (same-image (place a.book) (place b.book) before.now between.now x.same_place x.moment)) shows)
-
-  pub stops-on : (a b : Store B) (before between after : Outside) (stop : Stop) → Reads place numbers stands told a b before between → StopsAt (place b.book) between after stop → StopsAt (place a.book) before after stop
-  stops-on a b before between after stop x stops = stops-over stop (place a.book) (place b.book) before between after x.same_place x.alone stops
+      (subst (λ (img : List ℕ). StandsFor a.catalog s img) (sym (same-image (place a.book) (place b.book) before.now between.now x.same_place x.looks.moment)) shows)
 
   -- what both fetch
   pub spends-on : (a b : Store B) (before between after : Outside) (m n : ℕ) → Reads place numbers stands told a b before between → Spends (place a.book) 0 (512 * m) before between

@@ -8,7 +8,7 @@ use Rattle.newt_store_catalog.specs.declared.catalog.Catalog.{Catalog}
 use Rattle.newt_store_catalog.specs.Stands.{StandsFor}
 use Rattle.newt_index_ranges.specs.Stands.{AreRangesOf}
 use Rattle.newt_index_ranges.specs.declared.rows.SoupRanges.{SoupRanges}
-use Rattle.newt_store_indexed.specs.Calls.{IsOpen}
+use Rattle.newt_store.specs.Calls.{IsOpen}
 use Rattle.newt_store_indexed.specs.declared.store.IndexedStore.{IndexedStore}
 
 -- memory and image stand for a plain store, and the ranges are those of that store

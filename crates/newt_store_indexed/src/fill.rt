@@ -1,11 +1,11 @@
 //! A new range of the entries of a soup.
-ghost use Rattle.std.specs.Prelude.{◌≡◌, ◌*◌, IsTrue, OnOk, IfOk, IfErr, Some};
+ghost use Rattle.std.specs.Prelude.{◌≡◌, ◌*◌, IsTrue, OnOk, IfOk, Some};
 ghost use Rattle.newt_host.specs.Outside.{Spends};
-ghost use Rattle.newt_pagebook.specs.Stops.{StopsAt};
+ghost use Rattle.newt_store_catalog.specs.Reading.{ReadEnds};
 ghost use Rattle.newt_spec_store.specs.Store.{Store as PlainStore, soup_of, entry_at};
 ghost use Rattle.newt_index_ranges.specs.Rows.{no_pairs};
 ghost use Rattle.newt_store_change.specs.Change.{uids_in, pages_of_entry};
-ghost use Rattle.newt_store_indexed.specs.Calls.{Shows, IsOpen, Reads};
+ghost use Rattle.newt_store.specs.Calls.{Shows, IsOpen, Reads};
 ghost use Rattle.newt_store_indexed.specs.Filling.{with_read, with_all};
 ghost use Rattle.newt_store_change.specs.Change.{pages_listed};
 
@@ -26,10 +26,16 @@ fn fill_entry<P: PageBook, H: Host>(
     uid: Uid,
 ) -> Result<(), Stop>
     requires { IsOpen P.place P.numbers P.stands H.told store.old (H.outside host.old) }
-    ensures filled { IsTrue H.told → (s : PlainStore) → Shows P.place store.old (H.outside host.old) s → OnOk result (range.new ≡ with_read uid (entry_at soup uid s) range.old) }
-    ensures reads { Reads P.place P.numbers P.stands H.told store.old store.new (H.outside host.old) (H.outside host.new) }
-    ensures costs { IsTrue H.told → (s : PlainStore) → Shows P.place store.old (H.outside host.old) s → Spends (P.place store.old.book) 0 (512 * pages_of_entry (entry_at soup uid s)) (H.outside host.old) (H.outside host.new) }
-    ensures cause { IfErr result (StopsAt (P.place store.old.book) (H.outside host.old) (H.outside host.new)) }
+    ensures filled { IsTrue H.told → (s : PlainStore) →
+        Shows P.place store.old (H.outside host.old) s
+        → OnOk result (range.new ≡ with_read uid (entry_at soup uid s) range.old) }
+    ensures reads { Reads P.place P.numbers P.stands H.told store.old store.new
+        (H.outside host.old) (H.outside host.new) }
+    ensures costs { IsTrue H.told → (s : PlainStore) →
+        Shows P.place store.old (H.outside host.old) s → Spends (P.place store.old.book) 0
+        (512 * pages_of_entry (entry_at soup uid s)) (H.outside host.old) (H.outside host.new) }
+    ensures ends { ReadEnds (P.place store.old.book)
+        (H.outside host.old) (H.outside host.new) result }
 {
     match store.entry(host, soup, uid) {
         Ok(Some(entry)) => Ok(add_entry(range, uid, &entry.graph)?),
@@ -47,10 +53,16 @@ fn fill_all<P: PageBook, H: Host>(
     uids: &[Uid],
 ) -> Result<(), Stop>
     requires { IsOpen P.place P.numbers P.stands H.told store.old (H.outside host.old) }
-    ensures filled { IsTrue H.told → (s : PlainStore) → Shows P.place store.old (H.outside host.old) s → OnOk result (range.new ≡ with_all soup s uids.now range.old) }
-    ensures reads { Reads P.place P.numbers P.stands H.told store.old store.new (H.outside host.old) (H.outside host.new) }
-    ensures costs { IsTrue H.told → (s : PlainStore) → Shows P.place store.old (H.outside host.old) s → Spends (P.place store.old.book) 0 (512 * pages_listed soup s uids.now) (H.outside host.old) (H.outside host.new) }
-    ensures cause { IfErr result (StopsAt (P.place store.old.book) (H.outside host.old) (H.outside host.new)) }
+    ensures filled { IsTrue H.told → (s : PlainStore) →
+        Shows P.place store.old (H.outside host.old) s
+        → OnOk result (range.new ≡ with_all soup s uids.now range.old) }
+    ensures reads { Reads P.place P.numbers P.stands H.told store.old store.new
+        (H.outside host.old) (H.outside host.new) }
+    ensures costs { IsTrue H.told → (s : PlainStore) →
+        Shows P.place store.old (H.outside host.old) s → Spends (P.place store.old.book) 0
+        (512 * pages_listed soup s uids.now) (H.outside host.old) (H.outside host.new) }
+    ensures ends { ReadEnds (P.place store.old.book)
+        (H.outside host.old) (H.outside host.new) result }
 {
     let mut left = uids;
     while let [uid, rest @ ..] = left {
@@ -68,10 +80,18 @@ pub(crate) fn filled<P: PageBook, H: Host>(
     spec: &IndexSpec,
 ) -> Result<Index, Stop>
     requires { IsOpen P.place P.numbers P.stands H.told store.old (H.outside host.old) }
-    ensures filled { IsTrue H.told → (s : PlainStore) → Shows P.place store.old (H.outside host.old) s → IfOk result (λ range. range ≡ with_all soup s (uids_in (soup_of soup s)) (no_pairs (Some spec.now))) }
-    ensures reads { Reads P.place P.numbers P.stands H.told store.old store.new (H.outside host.old) (H.outside host.new) }
-    ensures costs { IsTrue H.told → (s : PlainStore) → Shows P.place store.old (H.outside host.old) s → Spends (P.place store.old.book) 0 (512 * pages_listed soup s (uids_in (soup_of soup s))) (H.outside host.old) (H.outside host.new) }
-    ensures cause { IfErr result (StopsAt (P.place store.old.book) (H.outside host.old) (H.outside host.new)) }
+    ensures filled { IsTrue H.told → (s : PlainStore) →
+        Shows P.place store.old (H.outside host.old) s
+        → IfOk result (λ range. range ≡ with_all soup s (uids_in (soup_of soup s))
+        (no_pairs (Some spec.now))) }
+    ensures reads { Reads P.place P.numbers P.stands H.told store.old store.new
+        (H.outside host.old) (H.outside host.new) }
+    ensures costs { IsTrue H.told → (s : PlainStore) →
+        Shows P.place store.old (H.outside host.old) s → Spends (P.place store.old.book) 0
+        (512 * pages_listed soup s (uids_in (soup_of soup s))) (H.outside host.old)
+        (H.outside host.new) }
+    ensures ends { ReadEnds (P.place store.old.book)
+        (H.outside host.old) (H.outside host.new) result }
 {
     let mut range = Index::new(store.alloc(), Some(spec.copy()?));
     let uids = store.uids(soup)?;

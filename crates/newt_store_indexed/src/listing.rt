@@ -1,11 +1,11 @@
 //! The ranges of a store that is opened.
-ghost use Rattle.std.specs.Prelude.{◌≡◌, IsTrue, OnOk, IfOk, IfErr, map};
-ghost use Rattle.newt_pagebook.specs.Stops.{StopsAt};
+ghost use Rattle.std.specs.Prelude.{◌≡◌, IsTrue, OnOk, IfOk, map};
+ghost use Rattle.newt_store_catalog.specs.Reading.{ReadEnds};
 ghost use Rattle.newt_spec_store.specs.Store.{Store as PlainStore, soup_of, entry_at};
 ghost use Rattle.newt_index_ranges.specs.Rows.{no_ranges};
 ghost use Rattle.newt_index_ranges.specs.Stands.{AreRangesOf};
 ghost use Rattle.newt_store_change.specs.Change.{uids_in};
-ghost use Rattle.newt_store_indexed.specs.Calls.{Shows, IsOpen, Reads};
+ghost use Rattle.newt_store.specs.Calls.{Shows, IsOpen, Reads};
 ghost use Rattle.newt_store_indexed.specs.Filling.{rows_with, rows_with_all, rows_of_soups};
 
 use newt_base::{Sig, Uid};
@@ -25,9 +25,13 @@ fn list_entry<P: PageBook, H: Host>(
     uid: Uid,
 ) -> Result<(), Stop>
     requires { IsOpen P.place P.numbers P.stands H.told store.old (H.outside host.old) }
-    ensures listed { IsTrue H.told → (s : PlainStore) → Shows P.place store.old (H.outside host.old) s → OnOk result (ranges.new ≡ rows_with soup uid (entry_at soup uid s) ranges.old) }
-    ensures reads { Reads P.place P.numbers P.stands H.told store.old store.new (H.outside host.old) (H.outside host.new) }
-    ensures cause { IfErr result (StopsAt (P.place store.old.book) (H.outside host.old) (H.outside host.new)) }
+    ensures listed { IsTrue H.told → (s : PlainStore) →
+        Shows P.place store.old (H.outside host.old) s
+        → OnOk result (ranges.new ≡ rows_with soup uid (entry_at soup uid s) ranges.old) }
+    ensures reads { Reads P.place P.numbers P.stands H.told store.old store.new
+        (H.outside host.old) (H.outside host.new) }
+    ensures ends { ReadEnds (P.place store.old.book)
+        (H.outside host.old) (H.outside host.new) result }
 {
     match store.entry(host, soup, uid) {
         Ok(Some(entry)) => Ok(ranges.add(soup, uid, &entry.graph)?),
@@ -45,9 +49,13 @@ fn list_all<P: PageBook, H: Host>(
     uids: &[Uid],
 ) -> Result<(), Stop>
     requires { IsOpen P.place P.numbers P.stands H.told store.old (H.outside host.old) }
-    ensures listed { IsTrue H.told → (s : PlainStore) → Shows P.place store.old (H.outside host.old) s → OnOk result (ranges.new ≡ rows_with_all soup s uids.now ranges.old) }
-    ensures reads { Reads P.place P.numbers P.stands H.told store.old store.new (H.outside host.old) (H.outside host.new) }
-    ensures cause { IfErr result (StopsAt (P.place store.old.book) (H.outside host.old) (H.outside host.new)) }
+    ensures listed { IsTrue H.told → (s : PlainStore) →
+        Shows P.place store.old (H.outside host.old) s
+        → OnOk result (ranges.new ≡ rows_with_all soup s uids.now ranges.old) }
+    ensures reads { Reads P.place P.numbers P.stands H.told store.old store.new
+        (H.outside host.old) (H.outside host.new) }
+    ensures ends { ReadEnds (P.place store.old.book)
+        (H.outside host.old) (H.outside host.new) result }
 {
     let mut left = uids;
     while let [uid, rest @ ..] = left {
@@ -65,9 +73,13 @@ fn list_soup<P: PageBook, H: Host>(
     soup: Sig,
 ) -> Result<(), Stop>
     requires { IsOpen P.place P.numbers P.stands H.told store.old (H.outside host.old) }
-    ensures listed { IsTrue H.told → (s : PlainStore) → Shows P.place store.old (H.outside host.old) s → OnOk result (ranges.new ≡ rows_with_all soup s (uids_in (soup_of soup s)) ranges.old) }
-    ensures reads { Reads P.place P.numbers P.stands H.told store.old store.new (H.outside host.old) (H.outside host.new) }
-    ensures cause { IfErr result (StopsAt (P.place store.old.book) (H.outside host.old) (H.outside host.new)) }
+    ensures listed { IsTrue H.told → (s : PlainStore) →
+        Shows P.place store.old (H.outside host.old) s
+        → OnOk result (ranges.new ≡ rows_with_all soup s (uids_in (soup_of soup s)) ranges.old) }
+    ensures reads { Reads P.place P.numbers P.stands H.told store.old store.new
+        (H.outside host.old) (H.outside host.new) }
+    ensures ends { ReadEnds (P.place store.old.book)
+        (H.outside host.old) (H.outside host.new) result }
 {
     let uids = store.uids(soup)?;
     list_all(store, host, ranges, soup, &uids)
@@ -81,9 +93,13 @@ fn list_soups<P: PageBook, H: Host>(
     soups: &[Sig],
 ) -> Result<(), Stop>
     requires { IsOpen P.place P.numbers P.stands H.told store.old (H.outside host.old) }
-    ensures listed { IsTrue H.told → (s : PlainStore) → Shows P.place store.old (H.outside host.old) s → OnOk result (ranges.new ≡ rows_of_soups s soups.now ranges.old) }
-    ensures reads { Reads P.place P.numbers P.stands H.told store.old store.new (H.outside host.old) (H.outside host.new) }
-    ensures cause { IfErr result (StopsAt (P.place store.old.book) (H.outside host.old) (H.outside host.new)) }
+    ensures listed { IsTrue H.told → (s : PlainStore) →
+        Shows P.place store.old (H.outside host.old) s
+        → OnOk result (ranges.new ≡ rows_of_soups s soups.now ranges.old) }
+    ensures reads { Reads P.place P.numbers P.stands H.told store.old store.new
+        (H.outside host.old) (H.outside host.new) }
+    ensures ends { ReadEnds (P.place store.old.book)
+        (H.outside host.old) (H.outside host.new) result }
 {
     let mut left = soups;
     while let [soup, rest @ ..] = left {
@@ -121,9 +137,13 @@ pub(crate) fn ranges_of<P: PageBook, H: Host>(
     host: &mut H,
 ) -> Result<Ranges, Stop>
     requires { IsOpen P.place P.numbers P.stands H.told store.old (H.outside host.old) }
-    ensures listed { IsTrue H.told → (s : PlainStore) → Shows P.place store.old (H.outside host.old) s → IfOk result (λ ranges. AreRangesOf s ranges) }
-    ensures reads { Reads P.place P.numbers P.stands H.told store.old store.new (H.outside host.old) (H.outside host.new) }
-    ensures cause { IfErr result (StopsAt (P.place store.old.book) (H.outside host.old) (H.outside host.new)) }
+    ensures listed { IsTrue H.told → (s : PlainStore) →
+        Shows P.place store.old (H.outside host.old) s
+        → IfOk result (λ ranges. AreRangesOf s ranges) }
+    ensures reads { Reads P.place P.numbers P.stands H.told store.old store.new
+        (H.outside host.old) (H.outside host.new) }
+    ensures ends { ReadEnds (P.place store.old.book)
+        (H.outside host.old) (H.outside host.new) result }
 {
     let soups = signatures(store.alloc(), store.directory().soups.list())?;
     let mut ranges = without_entries(store.alloc(), store.directory().soups.list())?;

@@ -1,10 +1,12 @@
-//! What a change of the store will be to its ranges. All that has to be read or copied for that is read and copied before the change.
-ghost use Rattle.std.specs.Prelude.{◌≡◌, ◌*◌, IsTrue, IfOk, IfErr, Some};
+//! What a change of the store will be to its ranges. All that has to be read or copied for that is
+//! read and copied before the change.
+ghost use Rattle.std.specs.Prelude.{◌≡◌, ◌*◌, IsTrue, IfOk, Some};
 ghost use Rattle.newt_host.specs.Outside.{Spends};
-ghost use Rattle.newt_pagebook.specs.Stops.{StopsAt};
-ghost use Rattle.newt_spec_store.specs.Store.{Store as PlainStore, Entry as PlainEntry, soup_of, entry_at};
+ghost use Rattle.newt_store_catalog.specs.Reading.{ReadEnds};
+ghost use Rattle.newt_spec_store.specs.Store.{Store as PlainStore, Entry as PlainEntry, soup_of};
+ghost use Rattle.newt_spec_store.specs.Store.{entry_at};
 ghost use Rattle.newt_store_change.specs.Change.{uids_in, pages_of_entry};
-ghost use Rattle.newt_store_indexed.specs.Calls.{Shows, IsOpen, Reads};
+ghost use Rattle.newt_store.specs.Calls.{Shows, IsOpen, Reads};
 ghost use Rattle.newt_store_change.specs.Change.{pages_listed};
 ghost use Rattle.newt_store_indexed.specs.Steps.{IsStepOf, IsDeclaring};
 ghost use Rattle.newt_store_change.specs.Change.{pages_read};
@@ -19,7 +21,8 @@ use newt_pagebook::{PageBook, Stop};
 use newt_store::Store;
 use newt_store_change::Change;
 
-/// The step of an entry that is moved. Where it is not there the change is refused, and nothing is to be done.
+/// The step of an entry that is moved. Where it is not there the change is refused, and nothing is
+/// to be done.
 fn moving<P: PageBook, H: Host>(
     store: &mut Store<P>,
     host: &mut H,
@@ -28,10 +31,16 @@ fn moving<P: PageBook, H: Host>(
     target: Sig,
 ) -> Result<Step, Stop>
     requires { IsOpen P.place P.numbers P.stands H.told store.old (H.outside host.old) }
-    ensures moved { IsTrue H.told → (s : PlainStore) (e : PlainEntry) → Shows P.place store.old (H.outside host.old) s → entry_at source uid s ≡ Some e → IfOk result (λ made. made ≡ step.Moved source uid target e.graph) }
-    ensures reads { Reads P.place P.numbers P.stands H.told store.old store.new (H.outside host.old) (H.outside host.new) }
-    ensures costs { IsTrue H.told → (s : PlainStore) → Shows P.place store.old (H.outside host.old) s → Spends (P.place store.old.book) 0 (512 * pages_of_entry (entry_at source uid s)) (H.outside host.old) (H.outside host.new) }
-    ensures cause { IfErr result (StopsAt (P.place store.old.book) (H.outside host.old) (H.outside host.new)) }
+    ensures moved { IsTrue H.told → (s : PlainStore) (e : PlainEntry)
+        → Shows P.place store.old (H.outside host.old) s → entry_at source uid s ≡ Some e
+        → IfOk result (λ made. made ≡ step.Moved source uid target e.graph) }
+    ensures reads { Reads P.place P.numbers P.stands H.told store.old store.new
+        (H.outside host.old) (H.outside host.new) }
+    ensures costs { IsTrue H.told → (s : PlainStore) →
+        Shows P.place store.old (H.outside host.old) s → Spends (P.place store.old.book) 0
+        (512 * pages_of_entry (entry_at source uid s)) (H.outside host.old) (H.outside host.new) }
+    ensures ends { ReadEnds (P.place store.old.book)
+        (H.outside host.old) (H.outside host.new) result }
 {
     match store.entry(host, source, uid) {
         Ok(Some(entry)) => Ok(Step::Moved(source, uid, target, entry.graph)),
@@ -48,10 +57,16 @@ fn declaring<P: PageBook, H: Host>(
     spec: &IndexSpec,
 ) -> Result<Step, Stop>
     requires { IsOpen P.place P.numbers P.stands H.told store.old (H.outside host.old) }
-    ensures declared { IsTrue H.told → (s : PlainStore) → Shows P.place store.old (H.outside host.old) s → IfOk result (IsDeclaring soup spec.now s) }
-    ensures reads { Reads P.place P.numbers P.stands H.told store.old store.new (H.outside host.old) (H.outside host.new) }
-    ensures costs { IsTrue H.told → (s : PlainStore) → Shows P.place store.old (H.outside host.old) s → Spends (P.place store.old.book) 0 (512 * pages_listed soup s (uids_in (soup_of soup s))) (H.outside host.old) (H.outside host.new) }
-    ensures cause { IfErr result (StopsAt (P.place store.old.book) (H.outside host.old) (H.outside host.new)) }
+    ensures declared { IsTrue H.told → (s : PlainStore) →
+        Shows P.place store.old (H.outside host.old) s → IfOk result (IsDeclaring soup spec.now s) }
+    ensures reads { Reads P.place P.numbers P.stands H.told store.old store.new
+        (H.outside host.old) (H.outside host.new) }
+    ensures costs { IsTrue H.told → (s : PlainStore) →
+        Shows P.place store.old (H.outside host.old) s → Spends (P.place store.old.book) 0
+        (512 * pages_listed soup s (uids_in (soup_of soup s))) (H.outside host.old)
+        (H.outside host.new) }
+    ensures ends { ReadEnds (P.place store.old.book)
+        (H.outside host.old) (H.outside host.new) result }
 {
     match filled(store, host, soup, spec) {
         Ok(range) => Ok(Step::Declared(soup, range)),
@@ -66,10 +81,15 @@ pub(crate) fn step_of<P: PageBook, H: Host>(
     change: &Change,
 ) -> Result<Step, Stop>
     requires { IsOpen P.place P.numbers P.stands H.told store.old (H.outside host.old) }
-    ensures step { IsTrue H.told → (s : PlainStore) → Shows P.place store.old (H.outside host.old) s → IfOk result (IsStepOf change.now s) }
-    ensures reads { Reads P.place P.numbers P.stands H.told store.old store.new (H.outside host.old) (H.outside host.new) }
-    ensures costs { IsTrue H.told → (s : PlainStore) → Shows P.place store.old (H.outside host.old) s → Spends (P.place store.old.book) 0 (512 * pages_read change.now s) (H.outside host.old) (H.outside host.new) }
-    ensures cause { IfErr result (StopsAt (P.place store.old.book) (H.outside host.old) (H.outside host.new)) }
+    ensures step { IsTrue H.told → (s : PlainStore) →
+        Shows P.place store.old (H.outside host.old) s → IfOk result (IsStepOf change.now s) }
+    ensures reads { Reads P.place P.numbers P.stands H.told store.old store.new
+        (H.outside host.old) (H.outside host.new) }
+    ensures costs { IsTrue H.told → (s : PlainStore) →
+        Shows P.place store.old (H.outside host.old) s → Spends (P.place store.old.book) 0
+        (512 * pages_read change.now s) (H.outside host.old) (H.outside host.new) }
+    ensures ends { ReadEnds (P.place store.old.book)
+        (H.outside host.old) (H.outside host.new) result }
 {
     match change {
         Change::MakeSoup(_) => Ok(Step::Made),

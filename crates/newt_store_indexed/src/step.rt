@@ -26,7 +26,8 @@ pub(crate) enum Step {
     Added(Sig, Graph),
     /// An entry gone.
     Removed(Sig, Uid),
-    /// An entry gone from the first soup, and its graph added to the second under the id that the change answers.
+    /// An entry gone from the first soup, and its graph added to the second under the id that the
+    /// change answers.
     Moved(Sig, Uid, Sig, Graph),
     /// An entry with another graph.
     Replaced(Sig, Uid, Graph),

@@ -6,9 +6,10 @@ ghost use Rattle.newt_pagebook.specs.Book.{IsOpenFor};
 ghost use Rattle.newt_index_ranges.specs.Stands.{AreRangesOf};
 ghost use Rattle.newt_spec_store.specs.Store.{Store as PlainStore};
 ghost use Rattle.newt_spec_store.specs.OfImage.{blocks_of};
-ghost use Rattle.newt_store_change.specs.Change.{changed_by, entry_fetched, pages_of_entry, most_bytes};
+ghost use Rattle.newt_store_change.specs.Change.{changed_by, entry_fetched, pages_of_entry};
+ghost use Rattle.newt_store_change.specs.Change.{most_bytes};
 ghost use Rattle.newt_store_change.specs.Faults.{IsRefused};
-ghost use Rattle.newt_store_indexed.specs.Calls.{Shows, IsOpen, Changes};
+ghost use Rattle.newt_store.specs.Calls.{Shows, IsOpen, Changes};
 ghost use Rattle.newt_store_indexed.specs.Steps.{IsStepOf};
 
 use crate::listing::ranges_of;
@@ -16,17 +17,20 @@ use crate::plan::step_of;
 use crate::step::{Step, follow};
 use newt_base::{Name, Sig, Uid};
 use newt_engine_card::Card;
+use newt_graph::Bytes;
 use newt_host::{Host, Unit};
 use newt_index::Index;
 use newt_index_ranges::Ranges;
 use newt_keys::IndexSpec;
 use newt_pagebook::{BookFault, PageBook, Stop};
+use newt_path::Path;
 use newt_store::Store;
 use newt_store_change::{Change, Entry, StoreFault};
 use newt_tags::TagTable;
 use std::alloc::Global;
 
-/// A store on one unit, with the sorted lists of its soups' entries. It stands for one plain store, which its unit's image is read as, until a call stops.
+/// A store on one unit, with the sorted lists of its soups' entries. It stands for one plain store,
+/// which its unit's image is read as, until a call stops.
 #[derive(Drop)]
 pub struct IndexedStore<P: PageBook> {
     store: Store<P>,
@@ -91,6 +95,18 @@ impl<P: PageBook> Card for IndexedStore<P> {
 
     fn entry<H: Host>(&mut self, host: &mut H, soup: Sig, uid: Uid) -> Result<Option<Entry>, Stop> {
         self.store.entry(host, soup, uid)
+    }
+
+    fn large<H: Host>(
+        &mut self,
+        host: &mut H,
+        soup: Sig,
+        uid: Uid,
+        path: &Path,
+        at: u32,
+        len: u32,
+    ) -> Result<Bytes, StoreFault> {
+        self.store.large(host, soup, uid, path, at, len)
     }
 
     fn name(&self) -> &Name {
@@ -159,11 +175,20 @@ fn change_with<P: PageBook, H: Host>(
     step: Step,
 ) -> Result<u32, StoreFault>
     requires { IsOpen P.place P.numbers P.stands H.told store.old (H.outside host.old) }
-    ensures changes { Changes P.place P.numbers P.stands H.told change now store.old store.new (H.outside host.old) (H.outside host.new) result }
-    ensures ranges { IsTrue H.told → (s : PlainStore) → Shows P.place store.old (H.outside host.old) s → IsStepOf change s step → AreRangesOf s ranges.old → OnOk result (AreRangesOf (changed_by change now s) ranges.new) }
+    ensures changes { Changes P.place P.numbers P.stands H.told change now store.old store.new
+        (H.outside host.old) (H.outside host.new) result }
+    ensures ranges { IsTrue H.told → (s : PlainStore)
+        → Shows P.place store.old (H.outside host.old) s → IsStepOf change s step
+        → AreRangesOf s ranges.old → OnOk result (AreRangesOf (changed_by change now s)
+        ranges.new) }
     ensures same_ranges { IsRefused result → ranges.new ≡ ranges.old }
-    ensures costs { IsTrue H.told → (s : PlainStore) → Shows P.place store.old (H.outside host.old) s → IsOpenFor (most_bytes change (blocks_of (image (P.place store.old.book) (H.outside host.old).now)) now s) (image (P.place store.old.book) (H.outside host.old).now)
-        → Spends (P.place store.old.book) (most_bytes change (blocks_of (image (P.place store.old.book) (H.outside host.old).now)) now s) (512 * pages_of_entry (entry_fetched change s)) (H.outside host.old) (H.outside host.new) }
+    ensures costs { IsTrue H.told → (s : PlainStore)
+        → Shows P.place store.old (H.outside host.old) s
+        → IsOpenFor (most_bytes change (blocks_of (image (P.place store.old.book)
+        (H.outside host.old).now)) now s) (image (P.place store.old.book) (H.outside host.old).now)
+        → Spends (P.place store.old.book) (most_bytes change
+        (blocks_of (image (P.place store.old.book) (H.outside host.old).now)) now s)
+        (512 * pages_of_entry (entry_fetched change s)) (H.outside host.old) (H.outside host.new) }
 {
     match store.apply(host, change, now) {
         Ok(answer) => follow(ranges, step, answer),

@@ -18,7 +18,8 @@ const SLOTS: [&str; 4] = ["equal", "all", "any", "none"];
 /// Why a value is not taken for a tag spec.
 #[derive(Clone, Copy, PartialEq, Eq, Debug)]
 pub enum TagFault {
-    /// It is not a frame with slots among `equal`, `all`, `any` and `none`, each nil, a symbol or an array of symbols.
+    /// It is not a frame with slots among `equal`, `all`, `any` and `none`, each nil, a symbol or
+    /// an array of symbols.
     Form,
     /// Memory was refused.
     Memory,
@@ -77,7 +78,8 @@ fn is_tag_spec(nodes: &[Node], value: Ref) -> bool
 
 /// Whether a slot is missing, or is a symbol or an array of symbols.
 fn has_symbols(nodes: &[Node], frame: Ref, slot: &[u8]) -> bool
-    ensures { result ≡ if_given (λ v. is_some (one_or_more nodes.now (symbol_name nodes.now) v)) (given nodes.now frame slot.now) }
+    ensures { result ≡ if_given (λ v. is_some (one_or_more nodes.now (symbol_name nodes.now) v))
+        (given nodes.now frame slot.now) }
 {
     match given_slot(nodes, frame, slot) {
         Some(value) => are_symbols(nodes, value),

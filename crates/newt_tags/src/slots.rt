@@ -9,7 +9,8 @@ ghost use Rattle.newt_spec_query.specs.Spec.{is_nil, given, has_only};
 use newt_graph::{Node, Ref};
 use newt_path::slot_value;
 
-/// The value of a frame's slot. None exactly where the slot is missing or its value is nil. It takes no memory.
+/// The value of a frame's slot. None exactly where the slot is missing or its value is nil. It
+/// takes no memory.
 pub fn given_slot(nodes: &[Node], frame: Ref, slot: &[u8]) -> Option<Ref>
     ensures { result ≡ given nodes.now frame slot.now }
 {
@@ -26,7 +27,8 @@ fn is_nil(value: Ref) -> bool
     }
 }
 
-/// Whether a value is a frame in which each slot that is not nil has one of these names but for ASCII case. It takes no memory.
+/// Whether a value is a frame in which each slot that is not nil has one of these names but for
+/// ASCII case. It takes no memory.
 pub fn has_only_slots(nodes: &[Node], value: Ref, names: &[&str]) -> bool
     ensures { result ≡ has_only nodes.now (map (λ n. n.now) names.now) value }
 {
@@ -43,13 +45,15 @@ pub fn has_only_slots(nodes: &[Node], value: Ref, names: &[&str]) -> bool
 }
 
 fn are_slots(nodes: &[Node], tags: &[u32], values: &[Ref], names: &[&str]) -> bool
-    ensures { result ≡ list_all (λ s. is_nil s.1 || if_given (λ tag. list_any (same_name tag) (map (λ n. n.now) names.now)) (symbol_name nodes.now (At s.0))) (zip tags.now values.now) }
+    ensures { result ≡ list_all (λ s. is_nil s.1 || if_given (λ tag. list_any (same_name tag)
+        (map (λ n. n.now) names.now)) (symbol_name nodes.now (At s.0))) (zip tags.now values.now) }
 {
     tags.iter().zip(values).all(|(tag, value)| is_nil(*value) || is_slot(nodes, *tag, names))
 }
 
 fn is_slot(nodes: &[Node], tag: u32, names: &[&str]) -> bool
-    ensures { result ≡ if_given (λ tag. list_any (same_name tag) (map (λ n. n.now) names.now)) (symbol_name nodes.now (At tag)) }
+    ensures { result ≡ if_given (λ tag. list_any (same_name tag) (map (λ n. n.now) names.now))
+        (symbol_name nodes.now (At tag)) }
 {
     match name_at(nodes, tag) {
         Some(name) => is_one_of(names, name),

@@ -10,7 +10,8 @@ use crate::table::TagTable;
 use newt_graph::Bytes;
 use std::marker::Model;
 
-/// Four lists of symbols that a query may give: exactly these tags, all of them, any of them, none of them.
+/// Four lists of symbols that a query may give: exactly these tags, all of them, any of them, none
+/// of them.
 #[derive(Drop)]
 pub struct TagSpec {
     equal: Option<Names>,
@@ -72,7 +73,8 @@ impl TagSpec {
 }
 
 fn equal_pass(names: &Option<Names>, symbols: &[Bytes], mask: u64) -> bool
-    ensures { result ≡ if_given (λ names. list_all (is_among (selected mask symbols.now)) names && list_all (is_among names) (selected mask symbols.now)) names.now }
+    ensures { result ≡ if_given (λ names. list_all (is_among (selected mask symbols.now)) names &&
+        list_all (is_among names) (selected mask symbols.now)) names.now }
 {
     match names {
         Some(names) => {
@@ -83,7 +85,8 @@ fn equal_pass(names: &Option<Names>, symbols: &[Bytes], mask: u64) -> bool
 }
 
 fn all_pass(names: &Option<Names>, symbols: &[Bytes], mask: u64) -> bool
-    ensures { result ≡ if_given (λ names. list_all (is_among (selected mask symbols.now)) names) names.now }
+    ensures { result ≡ if_given (λ names. list_all (is_among (selected mask symbols.now)) names)
+        names.now }
 {
     match names {
         Some(names) => has_all(symbols, mask, names.list()),
@@ -92,7 +95,8 @@ fn all_pass(names: &Option<Names>, symbols: &[Bytes], mask: u64) -> bool
 }
 
 fn any_pass(names: &Option<Names>, symbols: &[Bytes], mask: u64) -> bool
-    ensures { result ≡ if_given (λ names. list_any (is_among (selected mask symbols.now)) names) names.now }
+    ensures { result ≡ if_given (λ names. list_any (is_among (selected mask symbols.now)) names)
+        names.now }
 {
     match names {
         Some(names) => has_any(symbols, mask, names.list()),
@@ -101,7 +105,8 @@ fn any_pass(names: &Option<Names>, symbols: &[Bytes], mask: u64) -> bool
 }
 
 fn none_pass(names: &Option<Names>, symbols: &[Bytes], mask: u64) -> bool
-    ensures { result ≡ if_given (λ names. not (list_any (is_among (selected mask symbols.now)) names)) names.now }
+    ensures { result ≡ if_given (λ names. not (list_any (is_among (selected mask symbols.now))
+        names)) names.now }
 {
     match names {
         Some(names) => !has_any(symbols, mask, names.list()),

@@ -89,7 +89,8 @@ pub(crate) fn are_symbols(nodes: &[Node], value: Ref) -> bool
     }
 }
 
-/// The values of an array of any class. None exactly where the value is no array. It takes no memory.
+/// The values of an array of any class. None exactly where the value is no array. It takes no
+/// memory.
 pub fn array_values(nodes: &[Node], value: Ref) -> Option<&[Ref]>
     ensures { option_map (λ values. values.now) result ≡ values_of nodes.now value }
 {

@@ -11,8 +11,8 @@ use newt_path::{Path, value_at};
 use std::alloc::AllocError;
 use std::marker::Model;
 
-/// Which symbols at which path of an entry are its tags: at most 64, distinct but for ASCII case. They and the path's names are identifiers of at most
-/// 254 bytes.
+/// Which symbols at which path of an entry are its tags: at most 64, distinct but for ASCII case.
+/// They and the path's names are identifiers of at most 254 bytes.
 #[derive(Drop)]
 pub struct TagTable {
     path: Path,

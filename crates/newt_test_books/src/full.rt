@@ -1,4 +1,6 @@
-//! Units that are full to their last page: filled, walked and changed in one run, and again in the next.
+//! Units that are full to their last page: filled, walked and changed in one run, and again in the
+//! next.
+ghost use Rattle.newt_script_session.specs.Steps.{IsPlain};
 
 use crate::sessions::{InMemory, OnDevice, expect_over};
 use newt_host::Unit;
@@ -14,7 +16,8 @@ mount 0 => ok 9 Card
 soup 0 S => ok 0
 ";
 
-/// What is asked of a card once nothing more fits: the first entry goes, so that another one fits, under an id of its own.
+/// What is asked of a card once nothing more fits: the first entry goes, so that another one fits,
+/// under an id of its own.
 const FULL: &str = "
 add 0 S {} => error 33 full
 get 0 S 0 => ok 0 {}
@@ -75,7 +78,9 @@ fn walked(alloc: Global, count: u32) -> Result<String, Fail> {
 }
 
 /// Fills a unit of so many blocks with so many entries, and walks over them in a next run.
-fn fills<I: Interpreter>(alloc: Global, size: u32, count: u32) -> Result<(), Fail> {
+fn fills<I: Interpreter>(alloc: Global, size: u32, count: u32) -> Result<(), Fail>
+    requires { IsPlain I.step }
+{
     let blank = blocks(alloc, size)?;
     let table = filled(alloc, count)?;
     let host = expect_over::<I>(alloc, table.as_str(), &blank)?;

@@ -1,15 +1,16 @@
 //! Runs and single commands over whichever engine.
-ghost use Rattle.std.specs.Prelude.{true, IfOk, OnOk};
+ghost use Rattle.std.specs.Prelude.{true, IfOk, OnOk, IsTrue};
+ghost use Rattle.newt_laws_world.specs.Worlds.{has_form};
 ghost use Rattle.newt_memhost.specs.Outside.{outside_of};
+ghost use Rattle.newt_script_session.specs.Steps.{IsPlain};
 ghost use Rattle.newt_test_scripts.specs.Free.{IsFree};
 
 use newt_engine::World;
-use newt_host_attach::attach_names;
 use newt_memhost::MemHost;
 use newt_pageplain::PlainBook;
 use newt_pages::DiskBook;
 use newt_reply::write_reply;
-use newt_script::line;
+use newt_script::{Command, line};
 use newt_script_session::{Interpreter, run_named};
 use newt_store_indexed::IndexedStore;
 use newt_test_scripts::{lines_of, over};
@@ -32,7 +33,8 @@ fn names(alloc: Global) -> Result<[String; 1], AllocError> {
 
 /// Answers the input of a host over its device `a`, to its end.
 pub(crate) fn run<I: Interpreter>(alloc: Global, host: &mut MemHost) -> Result<(), Fail>
-    requires { IsFree (outside_of host.old) }
+    requires free { IsFree (outside_of host.old) }
+    requires plain { IsPlain I.step }
 {
     let names = names(alloc)?;
     match run_named::<MemHost, I>(alloc, host, &names, LIMIT) {
@@ -46,7 +48,9 @@ pub(crate) fn run_over<I: Interpreter>(
     alloc: Global,
     script: &[u8],
     bytes: &[u8],
-) -> Result<MemHost, Fail> {
+) -> Result<MemHost, Fail>
+    requires { IsPlain I.step }
+{
     let mut host = over(alloc, script, bytes, &[])?;
     run::<I>(alloc, &mut host)?;
     Ok(host)
@@ -57,7 +61,9 @@ pub(crate) fn expect_over<I: Interpreter>(
     alloc: Global,
     table: &str,
     bytes: &[u8],
-) -> Result<MemHost, Fail> {
+) -> Result<MemHost, Fail>
+    requires { IsPlain I.step }
+{
     let (script, output) = lines_of(alloc, table)?;
     let host = run_over::<I>(alloc, &script, bytes)?;
     if host.output() != output.as_slice() {
@@ -72,8 +78,24 @@ pub(crate) fn started<I: Interpreter>(alloc: Global, host: &mut MemHost) -> Resu
     ensures { IfOk result (λ it. I.stands true it (outside_of host.new)) }
 {
     let names = names(alloc)?;
-    let attached = attach_names(host, &names);
-    Ok(I::start(alloc, host, attached)?)
+    Ok(I::new(alloc, host, &names)?)
+}
+
+/// What is answered to a command.
+fn answered<I: Interpreter>(
+    alloc: Global,
+    host: &mut MemHost,
+    it: &mut I,
+    command: Command,
+) -> Result<Vec<u8>, Fail>
+    requires stands { I.stands true it.old (outside_of host.old) }
+    requires form { IsTrue (has_form command) }
+    ensures { OnOk result (I.stands true it.new (outside_of host.new)) }
+{
+    match it.apply(host, command) {
+        Ok(reply) => Ok(write_reply(alloc, &reply)?),
+        Err(_) => Err(Fail::new("no reply")),
+    }
 }
 
 /// What is answered to a line.
@@ -86,11 +108,8 @@ pub(crate) fn ask<I: Interpreter>(
     requires { I.stands true it.old (outside_of host.old) }
     ensures { OnOk result (I.stands true it.new (outside_of host.new)) }
 {
-    let Ok(Some(command)) = line(alloc, text.as_bytes()) else {
-        return Err(Fail::new("no command"));
-    };
-    match it.apply(host, command) {
-        Ok(reply) => Ok(write_reply(alloc, &reply)?),
-        Err(_) => Err(Fail::new("no reply")),
+    match line(alloc, text.as_bytes()) {
+        Ok(Some(command)) => answered(alloc, host, it, command),
+        _ => Err(Fail::new("no command")),
     }
 }

@@ -1,4 +1,5 @@
 //! What a stop within an add leaves, among 200 entries.
+ghost use Rattle.newt_script_session.specs.Steps.{IsPlain};
 
 use crate::names::card;
 use crate::sessions::{InMemory, OnDevice, run_over};
@@ -27,7 +28,9 @@ const ADD: &[u8] =
     b"mount 0\nadd 0 Names {name: {first: \"Ada\", last: \"Z\"}, labels: 'personal}\n";
 
 /// How many entries a next run finds on a card of these bytes.
-fn found<I: Interpreter>(alloc: Global, bytes: &[u8]) -> Result<u32, Fail> {
+fn found<I: Interpreter>(alloc: Global, bytes: &[u8]) -> Result<u32, Fail>
+    requires { IsPlain I.step }
+{
     let host = run_over::<I>(alloc, b"mount 0\nsoups 0\n", bytes)?;
     match host.output() {
         b"ok 1 Gen\nok Names 0 200\n" => Ok(200),
@@ -36,13 +39,16 @@ fn found<I: Interpreter>(alloc: Global, bytes: &[u8]) -> Result<u32, Fail> {
     }
 }
 
-/// A stop within a call leaves the card with all entries or all but the added one, and with that one where its reply had begun.
+/// A stop within a call leaves the card with all entries or all but the added one, and with that
+/// one where its reply had begun.
 fn expect_kept<I: Interpreter>(
     alloc: Global,
     host: &MemHost,
     call: u64,
     pick: Pick,
-) -> Result<(), Fail> {
+) -> Result<(), Fail>
+    requires { IsPlain I.step }
+{
     if host.blocks(Unit(0)) == 0 || call >= host.calls() {
         return Err(Fail::new("no such call"));
     }
@@ -54,7 +60,9 @@ fn expect_kept<I: Interpreter>(
 }
 
 /// The same of each call of the add, and each pick.
-fn stops<I: Interpreter>(alloc: Global) -> Result<(), Fail> {
+fn stops<I: Interpreter>(alloc: Global) -> Result<(), Fail>
+    requires { IsPlain I.step }
+{
     let bytes = card(alloc)?;
     let mounted = run_over::<I>(alloc, MOUNT, &bytes)?;
     let host = run_over::<I>(alloc, ADD, &bytes)?;

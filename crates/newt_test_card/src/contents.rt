@@ -104,9 +104,11 @@ fn push_entry<P: PageBook>(
     text: &mut Vec<u8>,
 ) -> Result<(), Fail>
     requires stands { P.stands true store.old.book (outside_of host.old) }
-    requires sound { IsSound true store.old.catalog (P.numbers store.old.book) (P.place store.old.book) (outside_of host.old) }
+    requires sound { IsSound true store.old.catalog (P.numbers store.old.book)
+        (P.place store.old.book) (outside_of host.old) }
     ensures stands { P.stands true store.new.book (outside_of host.new) }
-    ensures sound { IsSound true store.new.catalog (P.numbers store.new.book) (P.place store.new.book) (outside_of host.new) }
+    ensures sound { IsSound true store.new.catalog (P.numbers store.new.book)
+        (P.place store.new.book) (outside_of host.new) }
 {
     let is_there = store.has(soup, Uid(uid));
     let entry = store.entry(host, soup, Uid(uid))?;
@@ -122,9 +124,11 @@ fn push_entries<P: PageBook>(
     text: &mut Vec<u8>,
 ) -> Result<(), Fail>
     requires stands { P.stands true store.old.book (outside_of host.old) }
-    requires sound { IsSound true store.old.catalog (P.numbers store.old.book) (P.place store.old.book) (outside_of host.old) }
+    requires sound { IsSound true store.old.catalog (P.numbers store.old.book)
+        (P.place store.old.book) (outside_of host.old) }
     ensures stands { P.stands true store.new.book (outside_of host.new) }
-    ensures sound { IsSound true store.new.catalog (P.numbers store.new.book) (P.place store.new.book) (outside_of host.new) }
+    ensures sound { IsSound true store.new.catalog (P.numbers store.new.book)
+        (P.place store.new.book) (outside_of host.new) }
 {
     for uid in 0..soup.1.min(64) {
         push_entry(alloc, host, store, soup.0, uid, text)?;
@@ -132,16 +136,19 @@ fn push_entries<P: PageBook>(
     Ok(())
 }
 
-/// What a store has: a row for the store, one for each soup, and one for each entry with an id below 64, with `; ` between them.
+/// What a store has: a row for the store, one for each soup, and one for each entry with an id
+/// below 64, with `; ` between them.
 pub(crate) fn contents<P: PageBook>(
     alloc: Global,
     host: &mut MemHost,
     store: &mut Store<P>,
 ) -> Result<Vec<u8>, Fail>
     requires stands { P.stands true store.old.book (outside_of host.old) }
-    requires sound { IsSound true store.old.catalog (P.numbers store.old.book) (P.place store.old.book) (outside_of host.old) }
+    requires sound { IsSound true store.old.catalog (P.numbers store.old.book)
+        (P.place store.old.book) (outside_of host.old) }
     ensures stands { P.stands true store.new.book (outside_of host.new) }
-    ensures sound { IsSound true store.new.catalog (P.numbers store.new.book) (P.place store.new.book) (outside_of host.new) }
+    ensures sound { IsSound true store.new.catalog (P.numbers store.new.book)
+        (P.place store.new.book) (outside_of host.new) }
 {
     let mut text = directory_text(alloc, store.directory())?;
     for soup in soups_of(alloc, store.directory())? {

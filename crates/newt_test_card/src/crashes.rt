@@ -42,7 +42,8 @@ fn expect_one<P: PageBook>(
     Ok(())
 }
 
-/// Every image that a crash might have left within a change opens as the store before it or as the one after it, which is another.
+/// Every image that a crash might have left within a change opens as the store before it or as the
+/// one after it, which is another.
 pub(crate) fn expect_either<P: PageBook>(
     alloc: Global,
     host: &MemHost,
@@ -75,7 +76,8 @@ fn expect_one_more<P: PageBook>(
     store: &mut Store<P>,
 ) -> Result<(), Fail>
     requires stands { P.stands true store.old.book (outside_of host.old) }
-    requires sound { IsSound true store.old.catalog (P.numbers store.old.book) (P.place store.old.book) (outside_of host.old) }
+    requires sound { IsSound true store.old.catalog (P.numbers store.old.book)
+        (P.place store.old.book) (outside_of host.old) }
 {
     let trace = changed(alloc, host, store, "add 0 020600 @99")?;
     expect_taken::<P>(alloc, host, &trace)

@@ -22,7 +22,8 @@ pub(crate) enum Outcome {
     Refused(Refusal),
 }
 
-/// A change that was made: what it came to, the number of its first call on the card, and what the store had before it and after it.
+/// A change that was made: what it came to, the number of its first call on the card, and what the
+/// store had before it and after it.
 #[derive(Drop)]
 pub(crate) struct Trace {
     pub(crate) outcome: Outcome,
@@ -39,9 +40,11 @@ fn outcome_of<P: PageBook>(
     minute: u32,
 ) -> Result<Outcome, Fail>
     requires stands { P.stands true store.old.book (outside_of host.old) }
-    requires sound { IsSound true store.old.catalog (P.numbers store.old.book) (P.place store.old.book) (outside_of host.old) }
+    requires sound { IsSound true store.old.catalog (P.numbers store.old.book)
+        (P.place store.old.book) (outside_of host.old) }
     ensures stands { OnOk result (P.stands true store.new.book (outside_of host.new)) }
-    ensures sound { OnOk result (IsSound true store.new.catalog (P.numbers store.new.book) (P.place store.new.book) (outside_of host.new)) }
+    ensures sound { OnOk result (IsSound true store.new.catalog (P.numbers store.new.book)
+        (P.place store.new.book) (outside_of host.new)) }
 {
     match store.apply(host, change, minute) {
         Ok(answer) => Ok(Outcome::Done(answer)),
@@ -58,9 +61,11 @@ fn traced<P: PageBook>(
     line: &str,
 ) -> Result<Trace, Fail>
     requires stands { P.stands true store.old.book (outside_of host.old) }
-    requires sound { IsSound true store.old.catalog (P.numbers store.old.book) (P.place store.old.book) (outside_of host.old) }
+    requires sound { IsSound true store.old.catalog (P.numbers store.old.book)
+        (P.place store.old.book) (outside_of host.old) }
     ensures stands { OnOk result (P.stands true store.new.book (outside_of host.new)) }
-    ensures sound { OnOk result (IsSound true store.new.catalog (P.numbers store.new.book) (P.place store.new.book) (outside_of host.new)) }
+    ensures sound { OnOk result (IsSound true store.new.catalog (P.numbers store.new.book)
+        (P.place store.new.book) (outside_of host.new)) }
 {
     let before = contents(alloc, host, store)?;
     let from = host.calls();
@@ -96,9 +101,11 @@ pub(crate) fn changed<P: PageBook>(
     line: &str,
 ) -> Result<Trace, Fail>
     requires stands { P.stands true store.old.book (outside_of host.old) }
-    requires sound { IsSound true store.old.catalog (P.numbers store.old.book) (P.place store.old.book) (outside_of host.old) }
+    requires sound { IsSound true store.old.catalog (P.numbers store.old.book)
+        (P.place store.old.book) (outside_of host.old) }
     ensures stands { OnOk result (P.stands true store.new.book (outside_of host.new)) }
-    ensures sound { OnOk result (IsSound true store.new.catalog (P.numbers store.new.book) (P.place store.new.book) (outside_of host.new)) }
+    ensures sound { OnOk result (IsSound true store.new.catalog (P.numbers store.new.book)
+        (P.place store.new.book) (outside_of host.new)) }
 {
     let trace = traced(alloc, host, store, line)?;
     if matches!(trace.outcome, Outcome::Refused(_)) && trace.after != trace.before {
@@ -114,9 +121,11 @@ pub(crate) fn rows<P: PageBook>(
     store: &mut Store<P>,
 ) -> Result<Vec<u8>, Fail>
     requires stands { P.stands true store.old.book (outside_of host.old) }
-    requires sound { IsSound true store.old.catalog (P.numbers store.old.book) (P.place store.old.book) (outside_of host.old) }
+    requires sound { IsSound true store.old.catalog (P.numbers store.old.book)
+        (P.place store.old.book) (outside_of host.old) }
     ensures stands { P.stands true store.new.book (outside_of host.new) }
-    ensures sound { IsSound true store.new.catalog (P.numbers store.new.book) (P.place store.new.book) (outside_of host.new) }
+    ensures sound { IsSound true store.new.catalog (P.numbers store.new.book)
+        (P.place store.new.book) (outside_of host.new) }
 {
     let rows = contents(alloc, host, store)?;
     expect_found::<P>(alloc, host, &rows)?;
@@ -142,9 +151,11 @@ pub(crate) fn fill<P: PageBook>(
     line: &str,
 ) -> Result<Vec<u8>, Fail>
     requires stands { P.stands true store.old.book (outside_of host.old) }
-    requires sound { IsSound true store.old.catalog (P.numbers store.old.book) (P.place store.old.book) (outside_of host.old) }
+    requires sound { IsSound true store.old.catalog (P.numbers store.old.book)
+        (P.place store.old.book) (outside_of host.old) }
     ensures stands { OnOk result (P.stands true store.new.book (outside_of host.new)) }
-    ensures sound { OnOk result (IsSound true store.new.catalog (P.numbers store.new.book) (P.place store.new.book) (outside_of host.new)) }
+    ensures sound { OnOk result (IsSound true store.new.catalog (P.numbers store.new.book)
+        (P.place store.new.book) (outside_of host.new)) }
 {
     let (soup, first, count) = three_numbers(line)?;
     for uid in first..first.saturating_add(count) {

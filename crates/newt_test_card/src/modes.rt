@@ -70,7 +70,8 @@ fn reply_of(alloc: Global, outcome: Outcome) -> Result<Vec<u8>, AllocError> {
     }
 }
 
-// Appends how many bytes of bank 0 are used more than before, and the object of the second page that they put.
+// Appends how many bytes of bank 0 are used more than before, and the object of the second page
+// that they put.
 fn push_record(
     alloc: Global,
     host: &MemHost,

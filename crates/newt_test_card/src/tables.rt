@@ -22,9 +22,11 @@ fn change_reply<P: PageBook>(
     line: &str,
 ) -> Result<Vec<u8>, Fail>
     requires stands { P.stands true store.old.book (outside_of host.old) }
-    requires sound { IsSound true store.old.catalog (P.numbers store.old.book) (P.place store.old.book) (outside_of host.old) }
+    requires sound { IsSound true store.old.catalog (P.numbers store.old.book)
+        (P.place store.old.book) (outside_of host.old) }
     ensures stands { OnOk result (P.stands true store.new.book (outside_of host.new)) }
-    ensures sound { OnOk result (IsSound true store.new.catalog (P.numbers store.new.book) (P.place store.new.book) (outside_of host.new)) }
+    ensures sound { OnOk result (IsSound true store.new.catalog (P.numbers store.new.book)
+        (P.place store.new.book) (outside_of host.new)) }
 {
     let (mode, line) = split_mode(alloc, host, line)?;
     let trace = changed(alloc, host, store, line)?;
@@ -39,9 +41,11 @@ fn reply_to<P: PageBook>(
     line: &str,
 ) -> Result<Vec<u8>, Fail>
     requires stands { P.stands true store.old.book (outside_of host.old) }
-    requires sound { IsSound true store.old.catalog (P.numbers store.old.book) (P.place store.old.book) (outside_of host.old) }
+    requires sound { IsSound true store.old.catalog (P.numbers store.old.book)
+        (P.place store.old.book) (outside_of host.old) }
     ensures stands { OnOk result (P.stands true store.new.book (outside_of host.new)) }
-    ensures sound { OnOk result (IsSound true store.new.catalog (P.numbers store.new.book) (P.place store.new.book) (outside_of host.new)) }
+    ensures sound { OnOk result (IsSound true store.new.catalog (P.numbers store.new.book)
+        (P.place store.new.book) (outside_of host.new)) }
 {
     let (word, rest) = line.split_once(' ').unwrap_or((line, ""));
     match word {
@@ -65,9 +69,11 @@ fn play_row<P: PageBook>(
     row: &str,
 ) -> Result<(), Fail>
     requires stands { P.stands true store.old.book (outside_of host.old) }
-    requires sound { IsSound true store.old.catalog (P.numbers store.old.book) (P.place store.old.book) (outside_of host.old) }
+    requires sound { IsSound true store.old.catalog (P.numbers store.old.book)
+        (P.place store.old.book) (outside_of host.old) }
     ensures stands { OnOk result (P.stands true store.new.book (outside_of host.new)) }
-    ensures sound { OnOk result (IsSound true store.new.catalog (P.numbers store.new.book) (P.place store.new.book) (outside_of host.new)) }
+    ensures sound { OnOk result (IsSound true store.new.catalog (P.numbers store.new.book)
+        (P.place store.new.book) (outside_of host.new)) }
 {
     let (line, wanted) = row.split_once(" => ").unwrap_or((row, ""));
     let reply = reply_to(alloc, host, store, line)?;
@@ -85,7 +91,8 @@ fn play_rows<P: PageBook>(
     table: &str,
 ) -> Result<(), Fail>
     requires stands { P.stands true store.old.book (outside_of host.old) }
-    requires sound { IsSound true store.old.catalog (P.numbers store.old.book) (P.place store.old.book) (outside_of host.old) }
+    requires sound { IsSound true store.old.catalog (P.numbers store.old.book)
+        (P.place store.old.book) (outside_of host.old) }
 {
     for row in table.lines() {
         if !row.is_empty() {

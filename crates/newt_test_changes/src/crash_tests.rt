@@ -3,7 +3,8 @@ use newt_pageplain::PlainBook;
 use newt_test_card::play;
 use std::test::Fail;
 
-/// An entry gets a new id and minute where it moves to, and is gone where it was, by one record of 9 bytes, two pages put of 516 bytes and two let go of 4.
+/// An entry gets a new id and minute where it moves to, and is gone where it was, by one record of
+/// 9 bytes, two pages put of 516 bytes and two let go of 4.
 const MOVED: &str = "
 make S => 0
 make T => 1

@@ -1,11 +1,13 @@
-//! Indexes and tags that are declared, spelt as a directory has them: the number of indexes, each its number of parts, and of each part its kind, its order and
-//! its path; then whether there are tags, their path, their number and each.
+//! Indexes and tags that are declared, spelt as a directory has them: the number of indexes, each
+//! its number of parts, and of each part its kind, its order and its path; then whether there are
+//! tags, their path, their number and each.
 use newt_pageplain::PlainBook;
 use newt_test_card::play;
 use std::test::Fail;
 
-/// Sixteen indexes of paths of one letter, a path that is there but for ASCII case, and one too many. An index goes, once; then there is room for another, and
-/// for the tags business and personal.
+/// Sixteen indexes of paths of one letter, a path that is there but for ASCII case, and one too
+/// many. An index goes, once; then there is room for another, and for the tags business and
+/// personal.
 const DECLARED: &str = "
 index 0 01 010000010161 00 => soup
 make S => 0
@@ -43,7 +45,8 @@ fn indexes_and_tags_are_declared(rt: HostRuntime) -> Result<(), Fail> {
     play::<PlainBook>(rt.alloc(), 13, DECLARED)
 }
 
-/// Thirteen blocks take 38 pages: the directory and 37 entries, so the directory cannot grow to two pages, as by an index of a path of 510 bytes.
+/// Thirteen blocks take 38 pages: the directory and 37 entries, so the directory cannot grow to two
+/// pages, as by an index of a path of 510 bytes.
 const FILLED: &str = "
 make S => 0
 fill 0 0 37

@@ -5,7 +5,9 @@ ghost use Rattle.std.specs.Prelude.{◌≡◌, [], ◌∷◌, pos, negsuc, codes
 ghost use Rattle.newt_spec_nsof.specs.Written.{nsof};
 ghost use Rattle.newt_spec_literal.specs.Printed.{literal};
 ghost use Rattle.newt_graph.specs.Meeting.{normal_form};
-ghost use Rattle.newt_test_definitions.specs.Graphs.{one_slot, shared_string, knot, tangled, text_twice, number, shared_frame, symbol_x, printed_put};
+ghost use Rattle.newt_test_definitions.specs.Graphs.{one_slot, shared_string, knot, tangled};
+ghost use Rattle.newt_test_definitions.specs.Graphs.{text_twice, number, shared_frame, symbol_x};
+ghost use Rattle.newt_test_definitions.specs.Graphs.{printed_put};
 
 pub fn frame_of_one_slot()
     ensures { nsof one_slot ≡ 2 ∷ 6 ∷ 1 ∷ 7 ∷ 1 ∷ 97 ∷ 0 ∷ 4 ∷ [] }
@@ -36,13 +38,16 @@ pub fn least_integer()
 {}
 
 pub fn a_change_shows_in_both_slots()
-    ensures { printed_put shared_frame (codes "a" ∷ codes "x" ∷ []) (number (pos 8)) ≡ Some (codes "{a: #0={x: 2}, b: #0#}") }
+    ensures { printed_put shared_frame (codes "a" ∷ codes "x" ∷ []) (number (pos 8))
+        ≡ Some (codes "{a: #0={x: 2}, b: #0#}") }
 {}
 
 pub fn a_symbol_keeps_its_first_spelling()
-    ensures { printed_put shared_frame (codes "c" ∷ []) symbol_x ≡ Some (codes "{a: #0={x: 1}, b: #0#, c: 'x}") }
+    ensures { printed_put shared_frame (codes "c" ∷ []) symbol_x
+        ≡ Some (codes "{a: #0={x: 1}, b: #0#, c: 'x}") }
 {}
 
 pub fn no_such_slot()
-    ensures { is_none (printed_put shared_frame (codes "q" ∷ codes "x" ∷ []) (number (pos 4))) ≡ true }
+    ensures { is_none (printed_put shared_frame (codes "q" ∷ codes "x" ∷ []) (number (pos 4)))
+        ≡ true }
 {}

@@ -5,7 +5,8 @@ ghost use Rattle.std.specs.Prelude.{◌≡◌, [], ◌∷◌, codes, Some, None}
 ghost use Rattle.newt_base.specs.Text.{hex_text};
 ghost use Rattle.newt_spec_store.specs.Cost.{directory_bytes};
 ghost use Rattle.newt_spec_store.specs.StoreOf.{store_of};
-ghost use Rattle.newt_test_definitions.specs.Images.{internal, with_wave, objects_with_wave, reads_wave};
+ghost use Rattle.newt_test_definitions.specs.Images.{internal, with_wave, objects_with_wave};
+ghost use Rattle.newt_test_definitions.specs.Images.{reads_wave};
 
 pub fn a_new_directory()
     ensures { hex_text (directory_bytes internal) ≡ codes "08496E7465726E616C00000007000000" }

@@ -11,7 +11,8 @@ pub fn a_cycle_as_literal()
 {}
 
 pub fn a_generated_script_of_no_entries()
-    ensures { answers (blank_units 1) (gen_script 1 0) ≡ codes "ok\nok 1 Gen\nok 0\nok\nok\nok 0\nok nil\nok 0\nok\nok\n" }
+    ensures { answers (blank_units 1) (gen_script 1 0)
+        ≡ codes "ok\nok 1 Gen\nok 0\nok\nok\nok 0\nok nil\nok 0\nok\nok\n" }
 {}
 
 pub fn a_store_from_text()
@@ -20,7 +21,8 @@ pub fn a_store_from_text()
 {}
 
 pub fn a_line_that_is_too_long()
-    ensures { answers (blank_units 1) (line_of_x 140_001 ++ codes "\nget 0 S\nquit now\nlit nil\n") ≡ codes "error 12 longline\nerror 11 line\nerror 11 line\nok nil\n" }
+    ensures { answers (blank_units 1) (line_of_x 140_001 ++ codes "\nget 0 S\nquit now\nlit nil\n")
+        ≡ codes "error 12 longline\nerror 11 line\nerror 11 line\nok nil\n" }
 {}
 
 pub fn a_store_is_made_once_from_text()
@@ -59,23 +61,28 @@ pub fn ranges_from_text()
 {}
 
 pub fn no_generated_entries()
-    ensures { summary_of (blank_units 1) (gen_script 1 0) ≡ codes "commands 10\nok 10\nerrors 0\nbytes 46\n" }
+    ensures { summary_of (blank_units 1) (gen_script 1 0)
+        ≡ codes "commands 10\nok 10\nerrors 0\nbytes 46\n" }
 {}
 
 pub fn one_generated_entry()
-    ensures { summary_of (blank_units 1) (gen_script 1 1) ≡ codes "commands 12\nok 12\nerrors 0\nbytes 121\n" }
+    ensures { summary_of (blank_units 1) (gen_script 1 1)
+        ≡ codes "commands 12\nok 12\nerrors 0\nbytes 121\n" }
 {}
 
 pub fn ten_generated_entries()
-    ensures { summary_of (blank_units 1) (gen_script 1 10) ≡ codes "commands 30\nok 30\nerrors 0\nbytes 802\n" }
+    ensures { summary_of (blank_units 1) (gen_script 1 10)
+        ≡ codes "commands 30\nok 30\nerrors 0\nbytes 802\n" }
 {}
 
 pub fn forty_generated_entries()
-    ensures { summary_of (blank_units_64) (gen_script 1 40) ≡ codes "commands 90\nok 90\nerrors 0\nbytes 3160\n" }
+    ensures { summary_of (blank_units_64) (gen_script 1 40)
+        ≡ codes "commands 90\nok 90\nerrors 0\nbytes 3160\n" }
 {}
 
 pub fn many_generated_entries()
-    ensures { summary_of (blank_units_64) (gen_script 1 100) ≡ codes "commands 210\nok 210\nerrors 0\nbytes 7886\n" }
+    ensures { summary_of (blank_units_64) (gen_script 1 100)
+        ≡ codes "commands 210\nok 210\nerrors 0\nbytes 7886\n" }
 {}
 
 pub fn literals()

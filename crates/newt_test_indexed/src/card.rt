@@ -20,7 +20,8 @@ pub(crate) fn opened<P: PageBook>(
     host: &mut MemHost,
 ) -> Result<IndexedStore<P>, Fail>
     requires { IsDurable 0 (outside_of host.old).now }
-    ensures { IfOk result (λ store. StandsOn P.place P.numbers P.stands true store (outside_of host.new)) }
+    ensures { IfOk result (λ store. StandsOn P.place P.numbers P.stands true store
+        (outside_of host.new)) }
 {
     if host.blocks(CARD) < LEAST_BLOCKS || host.blocks(CARD) > MOST_BLOCKS {
         return Err(Fail::new("too few blocks, or too many"));
@@ -38,7 +39,8 @@ pub(crate) fn accept<P: PageBook>(
     change: Change,
 ) -> Result<(), Fail>
     requires { StandsOn P.place P.numbers P.stands true store.old (outside_of host.old) }
-    ensures { OnOk result (StandsOn P.place P.numbers P.stands true store.new (outside_of host.new)) }
+    ensures { OnOk result (StandsOn P.place P.numbers P.stands true store.new
+        (outside_of host.new)) }
 {
     match store.apply(host, change, 0) {
         Ok(_) => Ok(()),

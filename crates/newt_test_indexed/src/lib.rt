@@ -1,6 +1,8 @@
-//! A store of 200 entries on a card in memory, indexed, changed and opened again, against lists that were sorted outside the program.
+//! A store of 200 entries on a card in memory, indexed, changed and opened again, against lists
+//! that were sorted outside the program.
 //!
-//! It stands on `newt_store_indexed` over the plain book of pages and a host in memory, and has tests alone.
+//! It stands on `newt_store_indexed` over the plain book of pages and a host in memory, and has
+//! tests alone.
 #![tactic(auto)]
 
 #[cfg(test)]

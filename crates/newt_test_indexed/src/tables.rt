@@ -1,5 +1,7 @@
-//! Tables of what is done with the store. A row is a change of `newt_test_card`; `each WORD UID COUNT STEP` for changes of so many entries, from this id on in such
-//! steps; or `range BY STATE`, behind which ` => ` and the ids of a range stand, by `id` or the number of an index, `before` or `after` each third was changed.
+//! Tables of what is done with the store. A row is a change of `newt_test_card`; `each WORD UID
+//! COUNT STEP` for changes of so many entries, from this id on in such steps; or `range BY STATE`,
+//! behind which ` => ` and the ids of a range stand, by `id` or the number of an index, `before` or
+//! `after` each third was changed.
 ghost use Rattle.std.specs.Prelude.{true, OnOk};
 ghost use Rattle.newt_memhost.specs.Outside.{outside_of};
 ghost use Rattle.newt_store_indexed.specs.Stands.{StandsOn};
@@ -37,7 +39,8 @@ fn change_each<P: PageBook>(
     text: &str,
 ) -> Result<(), Fail>
     requires { StandsOn P.place P.numbers P.stands true store.old (outside_of host.old) }
-    ensures { OnOk result (StandsOn P.place P.numbers P.stands true store.new (outside_of host.new)) }
+    ensures { OnOk result (StandsOn P.place P.numbers P.stands true store.new
+        (outside_of host.new)) }
 {
     let (word, first, count, step) = steps(text)?;
     for place in 0..count {
@@ -70,7 +73,8 @@ fn play_row<P: PageBook>(
     row: &str,
 ) -> Result<(), Fail>
     requires { StandsOn P.place P.numbers P.stands true store.old (outside_of host.old) }
-    ensures { OnOk result (StandsOn P.place P.numbers P.stands true store.new (outside_of host.new)) }
+    ensures { OnOk result (StandsOn P.place P.numbers P.stands true store.new
+        (outside_of host.new)) }
 {
     match row.split_once(' ') {
         Some(("range", rest)) => expect_range(alloc, store, rest),
@@ -107,7 +111,8 @@ fn run<P: PageBook>(alloc: Global, bytes: &[u8], rows: &str) -> Result<Vec<u8>, 
     card_bytes(alloc, &host)
 }
 
-/// Plays a table on a card of so many blocks, formatted as a store. Behind a row `reopen` another run goes on.
+/// Plays a table on a card of so many blocks, formatted as a store. Behind a row `reopen` another
+/// run goes on.
 pub(crate) fn play<P: PageBook>(alloc: Global, blocks: u32, table: &str) -> Result<(), Fail> {
     let host = formatted::<P>(alloc, blocks)?;
     let mut bytes = card_bytes(alloc, &host)?;

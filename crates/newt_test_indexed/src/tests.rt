@@ -1,10 +1,12 @@
-//! Changes of a store, after each of which its ranges are lists that were sorted outside the program, also once it is opened again.
+//! Changes of a store, after each of which its ranges are lists that were sorted outside the
+//! program, also once it is opened again.
 use crate::tables::play;
 use newt_pageplain::PlainBook;
 use std::test::Fail;
 
-/// A soup of 200 entries: the index of symbols at `b`, the last first, and then of integers at `a`, is declared before them, the one of integers at `a` when half
-/// of them are there. Letters of paths and symbols are compared without their case.
+/// A soup of 200 entries: the index of symbols at `b`, the last first, and then of integers at `a`,
+/// is declared before them, the one of integers at `a` when half of them are there. Letters of
+/// paths and symbols are compared without their case.
 const MADE: &str = "
 make S
 index 0 01 02 0301010162 0100010141 00

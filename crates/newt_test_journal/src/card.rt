@@ -33,10 +33,29 @@ pub(crate) fn has_card(host: &MemHost) -> bool
     host.blocks(CARD) > 0
 }
 
+/// How many blocks of the card were erased, and how often it was synced.
+#[derive(Clone, Copy, Default)]
+pub(crate) struct Wear {
+    pub(crate) erased: u64,
+    pub(crate) synced: u64,
+}
+
+/// The same by now.
+pub(crate) fn wear_of(host: &MemHost) -> Wear {
+    if !has_card(host) {
+        return Wear::default();
+    }
+    Wear {
+        erased: host.erased(CARD),
+        synced: host.synced(CARD),
+    }
+}
+
 /// The journal of the card, or none where it holds no records.
 pub(crate) fn opened(host: &mut MemHost) -> Result<Option<Journal>, Halt>
     requires { IsDurable 0 (outside_of host.old).now }
-    ensures { IfOk result (λ found. IfSome found (λ journal. Stands true journal (outside_of host.new) × (journal.unit ≡ 0))) }
+    ensures { IfOk result (λ found. IfSome found (λ journal. Stands true journal
+        (outside_of host.new) × (journal.unit ≡ 0))) }
 {
     if host.blocks(CARD) < 13 || host.blocks(CARD) > 4099 {
         return Err(Halt::Row);

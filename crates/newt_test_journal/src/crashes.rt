@@ -25,7 +25,8 @@ pub(crate) struct Left {
     pub(crate) image: Vec<u8>,
 }
 
-/// The images that a crash might have left since a call: all that are tried, or but a few of each call.
+/// The images that a crash might have left since a call: all that are tried, or but a few of each
+/// call.
 pub(crate) fn images(
     alloc: Global,
     host: &MemHost,

@@ -41,7 +41,8 @@ fn append(journal: Journal, host: &mut MemHost, payload: &[u8]) -> Result<Journa
     requires some { 0 < length payload.now }
     requires fits { length payload.now ≤ room journal }
     requires stands { Stands true journal (outside_of host.old) }
-    ensures { IfOk result (λ after. Stands true after (outside_of host.new) × (after.unit ≡ journal.unit)) }
+    ensures { IfOk result (λ after. Stands true after (outside_of host.new) ×
+        (after.unit ≡ journal.unit)) }
 {
     let (front, back) = payload.split_at(payload.len() / 2);
     let mut draft = journal.append(host, payload.len() as u32)?;
@@ -53,7 +54,8 @@ fn append(journal: Journal, host: &mut MemHost, payload: &[u8]) -> Result<Journa
 // Mends the votes.
 fn repair(journal: Journal, host: &mut MemHost) -> Result<Journal, Failed>
     requires { Stands true journal (outside_of host.old) }
-    ensures { IfOk result (λ after. Stands true after (outside_of host.new) × (after.unit ≡ journal.unit)) }
+    ensures { IfOk result (λ after. Stands true after (outside_of host.new) ×
+        (after.unit ≡ journal.unit)) }
 {
     let mut journal = journal;
     journal.repair(host)?;
@@ -64,7 +66,8 @@ fn repair(journal: Journal, host: &mut MemHost) -> Result<Journal, Failed>
 fn replace(journal: Journal, host: &mut MemHost, payload: &[u8]) -> Result<Journal, Failed>
     requires short { length payload.now ≤ 4096 }
     requires stands { Stands true journal (outside_of host.old) }
-    ensures { IfOk result (λ after. Stands true after (outside_of host.new) × (after.unit ≡ journal.unit)) }
+    ensures { IfOk result (λ after. Stands true after (outside_of host.new) ×
+        (after.unit ≡ journal.unit)) }
 {
     let mut journal = journal;
     journal.repair(host)?;

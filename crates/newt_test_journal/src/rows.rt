@@ -1,15 +1,21 @@
 //! Tables of rows, each played on the journal of one card. A row is one of these:
 //!
-//! - `append PAYLOAD`, `replace PAYLOAD`, `repair`: a change, behind which the journal holds what it should.
-//! - `cut`, `cut few`: what a crash leaves within each device call of the last change reads as before it or as after it.
+//! - `append PAYLOAD`, `replace PAYLOAD`, `repair`: a change, behind which the journal holds what
+//!   it should.
+//! - `cut`, `cut few`: what a crash leaves within each device call of the last change reads as
+//!   before it or as after it.
 //! - `room => BYTES`: the longest payload that may be appended.
-//! - `reads PLACE=BYTE .. => PAYLOAD ..`: what is read where the card's bytes stand with these others: records, `no record` or `no journal`.
+//! - `erases => COUNT`, `syncs => COUNT`: how many blocks the last change erased, and how often it
+//!   synced. Before the first change that is the format.
+//! - `all FROM TO => BYTE`: each byte of the card between two places.
+//! - `reads PLACE=BYTE .. => PAYLOAD ..`: what is read where the card's bytes stand with these
+//!   others: records, `no record` or `no journal`.
 ghost use Rattle.std.specs.Prelude.{◌≡◌, true, IfOk};
 ghost use Rattle.newt_host.specs.Moments.{IsDurable};
 ghost use Rattle.newt_memhost.specs.Outside.{outside_of};
 ghost use Rattle.newt_journal.specs.Journal.{Stands};
 
-use crate::card::{CARD, has_card, host_of, opened, records_on};
+use crate::card::{CARD, Wear, has_card, host_of, opened, records_on, wear_of};
 use crate::crashes::{expect_either, images};
 use crate::halt::Halt;
 use crate::records::{Records, changed, payloads};
@@ -22,10 +28,12 @@ use std::mem;
 use std::process::Abort;
 use std::test::Fail;
 
-// The last change: the number of its first call, the records before it and after it, and the room behind it.
+// The last change: the number of its first call, what the card had gone through before it, the
+// records before it and after it, and the room behind it.
 #[derive(Drop)]
 struct Last {
     from: u64,
+    wear: Wear,
     before: Records,
     held: Records,
     room: u32,
@@ -36,6 +44,7 @@ impl Last {
     fn new(alloc: Global, held: Records, room: u32) -> Last {
         Last {
             from: 0,
+            wear: Wear::default(),
             before: Vec::new(alloc),
             held,
             room,
@@ -72,6 +81,7 @@ fn change(
     let held = after(alloc, &last.held, word, payload)?;
     last.before = mem::replace(&mut last.held, held);
     last.from = host.calls();
+    last.wear = wear_of(host);
     let journal = changed(journal, host, word, payload)?;
     last.room = journal.room();
     if payloads(alloc, &journal, host)? != last.held {
@@ -87,6 +97,35 @@ fn expect_room(last: &Last, want: &str) -> Result<(), Halt> {
         return Err(Halt::Other);
     }
     Ok(())
+}
+
+// What the last change took of the card: erases or syncs.
+fn expect_wear(host: &MemHost, last: &Last, word: &str, want: &str) -> Result<(), Halt> {
+    let now = wear_of(host);
+    let took = if word == "erases" {
+        now.erased.checked_sub(last.wear.erased)
+    } else {
+        now.synced.checked_sub(last.wear.synced)
+    };
+    if took != Some(want.parse()?) {
+        return Err(Halt::Other);
+    }
+    Ok(())
+}
+
+// Each byte between two places.
+fn expect_all(host: &MemHost, places: &str, want: &str) -> Result<(), Halt> {
+    if !has_card(host) {
+        return Err(Halt::Row);
+    }
+    let (from, to) = around(places, " ");
+    let (from, to): (usize, usize) = (from.parse()?, to.parse()?);
+    let byte: u8 = want.parse()?;
+    match host.bytes(CARD).get(from..to) {
+        Some(part) if part.iter().all(|held| *held == byte) => Ok(()),
+        Some(_) => Err(Halt::Other),
+        None => Err(Halt::Row),
+    }
 }
 
 // What is read where the card's bytes stand with some others.
@@ -122,6 +161,8 @@ fn look(
             expect_either(rt, alloc, &images, &last.before, &last.held)
         }
         "room" => expect_room(last, want),
+        "erases" | "syncs" => expect_wear(host, last, asked.0, want),
+        "all" => expect_all(host, asked.1, want),
         "reads" => expect_read(rt, alloc, host, asked.1, want),
         _ => Err(Halt::Row),
     }
@@ -174,7 +215,8 @@ fn play_rows(
     Ok(())
 }
 
-// Plays a table on a card that is formatted with one record, `first`. The answer is the number of the first call of its last change.
+// Plays a table on a card that is formatted with one record, `first`. The answer is the number of
+// the first call of its last change.
 fn play_formatted(
     rt: &impl Abort,
     alloc: Global,
@@ -216,7 +258,8 @@ fn blank(rt: &impl Abort, alloc: Global, blocks: u32, byte: u8) -> Result<MemHos
     Ok(host_of(rt, alloc, &bytes))
 }
 
-/// Plays a table on a card of so many blocks that is formatted with one record, `first`. Before that each byte of it was this one.
+/// Plays a table on a card of so many blocks that is formatted with one record, `first`. Before
+/// that each byte of it was this one.
 pub(crate) fn play(
     rt: &impl Abort,
     alloc: Global,
@@ -229,7 +272,8 @@ pub(crate) fn play(
     Ok(())
 }
 
-/// Plays a table on a card of 13 blocks, and another on each card that a crash might have left within its last change.
+/// Plays a table on a card of 13 blocks, and another on each card that a crash might have left
+/// within its last change.
 pub(crate) fn play_and_mend(
     rt: &impl Abort,
     alloc: Global,

@@ -19,7 +19,8 @@ reads 0=255 4096=1 8192=0 => no journal",
     )
 }
 
-// The second bank begins at block 8, which is at byte 32768; its one record has its gate at byte 16. The card ends at byte 53248.
+// The second bank begins at block 8, which is at byte 32768; its one record has its gate at byte
+// 16. The card ends at byte 53248.
 #[test]
 fn records_end_at_a_gate_that_is_not_open(rt: HostRuntime) -> Result<(), Fail> {
     play(
@@ -86,6 +87,57 @@ reads => third",
         "room => 8388577
 append second
 reads => first second
+replace third
+reads => third",
+    )
+}
+
+#[test]
+fn a_commit_with_room_syncs_twice_and_erases_nothing(rt: HostRuntime) -> Result<(), Fail> {
+    play(
+        &rt,
+        rt.alloc(),
+        13,
+        0x5A,
+        "append second
+erases => 0
+syncs => 2
+append 1*4096
+erases => 0
+syncs => 2",
+    )
+}
+
+// The least unit has three votes and two banks of five blocks.
+#[test]
+fn a_switch_and_a_format_erase_their_bank_and_the_votes_once(rt: HostRuntime) -> Result<(), Fail> {
+    play(
+        &rt,
+        rt.alloc(),
+        13,
+        0x5A,
+        "erases => 8
+replace second
+erases => 8
+replace third
+erases => 8
+append fourth
+replace fifth
+erases => 8",
+    )
+}
+
+// The second bank is from byte 32768 to the end of the card at byte 53248.
+#[test]
+fn a_format_leaves_the_other_bank(rt: HostRuntime) -> Result<(), Fail> {
+    play(
+        &rt,
+        rt.alloc(),
+        13,
+        0x5A,
+        "all 32768 53248 => 90
+append second
+all 32768 53248 => 90
 replace third
 reads => third",
     )

@@ -23,7 +23,8 @@ pub(crate) fn payload_of(alloc: Global, word: &str) -> Result<Vec<u8>, Halt> {
     }
 }
 
-/// The records of a text, one for each word; `no record` has none of them, and `no journal` is no such text.
+/// The records of a text, one for each word; `no record` has none of them, and `no journal` is no
+/// such text.
 pub(crate) fn records_of(alloc: Global, text: &str) -> Result<Option<Records>, Halt> {
     let mut records = Vec::new(alloc);
     match text {

@@ -17,7 +17,8 @@ pub(crate) enum Call {
     Folded,
     /// The text of the units of a string.
     Units,
-    /// Whether `the milkman, café 2nd` has a text, has a word that begins so, and has a word that is so.
+    /// Whether `the milkman, café 2nd` has a text, has a word that begins so, and has a word that
+    /// is so.
     Found,
     /// How many names a path has, and whether its copy is the same path.
     Names,

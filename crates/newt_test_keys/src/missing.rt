@@ -14,7 +14,12 @@ use std::test::*;
 
 /// The integers at the path `a`, in this order.
 fn integers(alloc: Global, order: Order) -> Result<IndexPart, AllocError>
-    ensures { IfOk result (λ p. p ≡ record { path = (97 ∷ []) ∷ []; kind = kind.Int; order = order }) }
+    ensures { IfOk result (λ p. p ≡ record {
+      path = (97 ∷ []) ∷ [];
+      kind = kind.Int;
+      order =
+          order;
+    }) }
 {
     let name = Bytes::of(vec![in alloc; b'a']?);
     let path = Path::of(vec![in alloc; name]?);

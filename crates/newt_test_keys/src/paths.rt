@@ -1,4 +1,5 @@
-//! What paths are read as, and what they reach, with ample memory. Paths into larger graphs are tested where literals are read.
+//! What paths are read as, and what they reach, with ample memory. Paths into larger graphs are
+//! tested where literals are read.
 use crate::calls::Call;
 use crate::keys::literal;
 use newt_graph::Graph;

@@ -10,7 +10,6 @@ use newt_index::{Index, Probe};
 use newt_keys::{IndexPart, IndexSpec, Key, Kind, Order, Part};
 use newt_path::Path;
 use std::alloc::{AllocError, Global};
-use std::process::Abort;
 use std::test::*;
 
 /// The declaration of the integers at the path `a`.
@@ -59,11 +58,18 @@ fn add_next(alloc: Global, index: &mut Index, order: Order, uid: u32) -> Result<
     index.add(key(alloc, number_of(uid))?, Uid(uid))
 }
 
+/// An index without entries.
+fn empty(alloc: Global, order: Order) -> Result<Index, AllocError>
+    ensures { IfOk result (λ index. index.spec ≡ Some (integers order)) }
+{
+    Ok(Index::new(alloc, Some(declaration(alloc, order)?)))
+}
+
 /// An index of the entries below a number.
 fn filled(alloc: Global, order: Order, count: u32) -> Result<Index, AllocError>
     ensures { IfOk result (λ index. index.spec ≡ Some (integers order)) }
 {
-    let mut index = Index::new(alloc, Some(declaration(alloc, order)?));
+    let mut index = empty(alloc, order)?;
     for uid in 0..count {
         add_next(alloc, &mut index, order, uid)?;
     }
@@ -122,6 +128,45 @@ fn key_of(index: &Index, order: Order, uid: u32) -> Option<(i32, u32)> {
     }
 }
 
+/// The first pair of a number.
+fn first_of(list: &[(i32, u32)], number: i32) -> Option<(i32, u32)> {
+    for pair in list {
+        if pair.0 == number {
+            return Some(*pair);
+        }
+    }
+    None
+}
+
+/// The last one.
+fn last_of(list: &[(i32, u32)], number: i32) -> Option<(i32, u32)> {
+    let mut last = None;
+    for pair in list {
+        if pair.0 == number {
+            last = Some(*pair);
+        }
+    }
+    last
+}
+
+/// What the searches from a pair of the list are to find: the pairs behind it and before it, and
+/// the first and the last of its number.
+fn wanted(list: &[(i32, u32)], i: usize, number: i32) -> [Option<(i32, u32)>; 4] {
+    let after = list.get(i.wrapping_add(1)).copied();
+    let before = list.get(i.wrapping_sub(1)).copied();
+    [after, before, first_of(list, number), last_of(list, number)]
+}
+
+/// What they find.
+fn found(index: &Index, order: Order, at: &mut Probe, uid: Uid) -> [Option<(i32, u32)>; 4] {
+    [
+        shown(order, &index.after(at, uid)),
+        shown(order, &index.before(at, uid)),
+        shown(order, &index.at_or_after(at)),
+        shown(order, &index.at_or_before(at)),
+    ]
+}
+
 /// Whether each search from a pair of the list finds its neighbours.
 fn finds(
     alloc: Global,
@@ -133,22 +178,16 @@ fn finds(
     let Some((number, uid)) = list.get(i).copied() else {
         return Ok(false);
     };
-    let before = if i == 0 {
-        None
-    } else {
-        list.get(i - 1).copied()
-    };
-    let after = list.get(i.wrapping_add(1)).copied();
-    let first = list.iter().find(|pair| pair.0 == number).copied();
-    let last = list.iter().rev().find(|pair| pair.0 == number).copied();
     let mut at = probe(alloc, order, rising(order, number))?;
-    Ok(
-        shown(order, &index.after(&mut at, Uid(uid))) == after
-            && shown(order, &index.before(&mut at, Uid(uid))) == before
-            && shown(order, &index.at_or_after(&mut at)) == first
-            && shown(order, &index.at_or_before(&mut at)) == last
-            && key_of(index, order, uid) == Some((number, uid)),
-    )
+    let same = found(index, order, &mut at, Uid(uid)) == wanted(list, i, number);
+    Ok(same && key_of(index, order, uid) == Some((number, uid)))
+}
+
+/// Whether the index has as many pairs as the list, and the same first and last one.
+fn has_ends(index: &Index, order: Order, list: &[(i32, u32)]) -> bool {
+    index.len() == list.len()
+        && shown(order, &index.first()) == list.first().copied()
+        && shown(order, &index.last()) == list.last().copied()
 }
 
 /// Whether the index is the list.
@@ -158,12 +197,7 @@ fn is_list(
     order: Order,
     list: &[(i32, u32)],
 ) -> Result<bool, AllocError> {
-    if index.len() != list.len() || index.spec().is_none() {
-        return Ok(false);
-    }
-    if shown(order, &index.first()) != list.first().copied()
-        || shown(order, &index.last()) != list.last().copied()
-    {
+    if index.spec().is_none() || !has_ends(index, order, list) {
         return Ok(false);
     }
     for i in 0..list.len() {
@@ -207,49 +241,93 @@ fn two_hundred_entries_are_the_sorted_list(rt: HostRuntime) {
     assert!(rt; matches!(is_sorted(rt.alloc(), Order::Descend), Ok(true)));
 }
 
-fn assert_seven(rt: &impl Abort, index: &Index, at: &mut Probe) {
-    assert!(rt; matches!(index.after(at, Uid(6)), Some((_, Uid(7)))));
-    assert!(rt; index.after(at, Uid(7)).is_none());
-    assert!(rt; matches!(index.at_or_after(at), Some((_, Uid(7)))));
+/// The id of a pair.
+fn id(found: &Option<(&Key, Uid)>) -> Option<u32> {
+    match found {
+        Some((_, uid)) => Some(uid.0),
+        None => None,
+    }
 }
 
-/// The id 7 is added, is found, and is removed.
-fn add_and_remove(rt: &impl Abort, alloc: Global, index: &mut Index) -> Result<(), AllocError>
+/// The ids behind 6 and 7, and the first one.
+fn around_seven(index: &Index, at: &mut Probe) -> [Option<u32>; 3] {
+    [
+        id(&index.after(at, Uid(6))),
+        id(&index.after(at, Uid(7))),
+        id(&index.at_or_after(at)),
+    ]
+}
+
+/// Whether the id 7 is found once it is added, and not once it is removed.
+fn adds_and_removes(alloc: Global, index: &mut Index) -> Result<bool, AllocError>
     requires { index.old.spec ≡ None }
 {
     index.add(Key::empty(alloc), Uid(7))?;
-    assert_seven(rt, index, &mut Probe::empty(alloc));
-    assert!(rt; index.key_of(Uid(7)).is_some());
+    let around = around_seven(index, &mut Probe::empty(alloc));
+    let there = index.key_of(Uid(7)).is_some();
     index.remove(&Key::empty(alloc), Uid(7))?;
-    assert!(rt; index.key_of(Uid(7)).is_none() && index.len() == 0);
-    Ok(())
+    let gone = index.key_of(Uid(7)).is_none() && index.len() == 0;
+    Ok(around == [Some(7), None, Some(7)] && there && gone)
 }
 
-/// The id 7 gets two keys and loses both.
+/// What is done with the id 7.
+#[derive(Clone, Copy)]
+enum Step {
+    Add(i32),
+    Remove(i32),
+    Forget,
+}
+
+/// Steps, and behind each the key by which the id is found, and how many pairs there are.
+const STEPS: [(Step, Option<(i32, u32)>, usize); 5] = [
+    (Step::Add(2), Some((2, 7)), 1),
+    (Step::Add(1), Some((1, 7)), 2),
+    (Step::Remove(1), Some((2, 7)), 1),
+    (Step::Add(1), Some((1, 7)), 2),
+    (Step::Forget, None, 0),
+];
+
 #[tactic(auto, using(crate::proofs::Integers::int_key))]
-fn add_two_and_forget(rt: &impl Abort, alloc: Global, index: &mut Index) -> Result<(), AllocError>
+fn take_step(alloc: Global, index: &mut Index, step: Step) -> Result<(), AllocError>
+    requires { index.old.spec ≡ Some (integers order.Ascend) }
+    ensures { OnOk result (index.new.spec ≡ Some (integers order.Ascend)) }
+{
+    match step {
+        Step::Add(number) => index.add(key(alloc, number)?, Uid(7)),
+        Step::Remove(number) => index.remove(&key(alloc, number)?, Uid(7)),
+        Step::Forget => {
+            index.forget(Uid(7));
+            Ok(())
+        }
+    }
+}
+
+/// Whether each step leaves what it should: the id 7 gets two keys and loses both.
+fn takes_steps(alloc: Global, index: &mut Index) -> Result<bool, AllocError>
     requires { index.old.spec ≡ Some (integers order.Ascend) }
 {
-    index.add(key(alloc, 2)?, Uid(7))?;
-    index.add(key(alloc, 1)?, Uid(7))?;
-    assert!(rt; key_of(index, Order::Ascend, 7) == Some((1, 7)) && index.len() == 2);
-    index.remove(&key(alloc, 1)?, Uid(7))?;
-    assert!(rt; key_of(index, Order::Ascend, 7) == Some((2, 7)) && index.len() == 1);
-    index.add(key(alloc, 1)?, Uid(7))?;
-    index.forget(Uid(7));
-    assert!(rt; index.key_of(Uid(7)).is_none() && index.len() == 0);
-    Ok(())
+    for (step, shown, count) in STEPS {
+        take_step(alloc, index, step)?;
+        if key_of(index, Order::Ascend, 7) != shown || index.len() != count {
+            return Ok(false);
+        }
+    }
+    Ok(true)
+}
+
+/// The same of an index that is empty at first.
+fn takes_steps_from_none(alloc: Global) -> Result<bool, AllocError> {
+    let mut index = empty(alloc, Order::Ascend)?;
+    takes_steps(alloc, &mut index)
 }
 
 #[test]
-fn an_id_may_have_two_keys(rt: HostRuntime) -> Result<(), Fail> {
-    let spec = declaration(rt.alloc(), Order::Ascend)?;
-    let mut index = Index::new(rt.alloc(), Some(spec));
-    Ok(add_two_and_forget(&rt, rt.alloc(), &mut index)?)
+fn an_id_may_have_two_keys(rt: HostRuntime) {
+    assert!(rt; matches!(takes_steps_from_none(rt.alloc()), Ok(true)));
 }
 
 #[test]
-fn with_no_declaration_the_ids_decide(rt: HostRuntime) -> Result<(), Fail> {
+fn with_no_declaration_the_ids_decide(rt: HostRuntime) {
     let mut index = Index::new(rt.alloc(), None);
-    Ok(add_and_remove(&rt, rt.alloc(), &mut index)?)
+    assert!(rt; matches!(adds_and_removes(rt.alloc(), &mut index), Ok(true)));
 }

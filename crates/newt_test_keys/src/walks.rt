@@ -3,8 +3,8 @@ use crate::calls::Call;
 use crate::keys::{literal, part};
 use newt_base::Uid;
 use newt_graph::Graph;
-use newt_index::{Index, Probe, key_in};
-use newt_keys::{IndexSpec, Key, Kind, Order, compare, key_of};
+use newt_index::{Index, Probe};
+use newt_keys::{IndexSpec, Key, Kind, Order, compare, key_in, key_of};
 use newt_test_tables::expect_rows;
 use std::alloc::Global;
 use std::cmp::Ordering;
@@ -159,7 +159,8 @@ fn walked_in(alloc: Global, index: &Index, entries: &[Graph]) -> Result<String, 
     Ok(format!(in alloc; "{text}of {}", index.len())?)
 }
 
-/// The ids of entries, from the first of the index of their keys to its last, and back. They rise by the order of keys.
+/// The ids of entries, from the first of the index of their keys to its last, and back. They rise
+/// by the order of keys.
 pub(crate) fn walked(alloc: Global, kind: Kind, order: Order, text: &str) -> Result<String, Fail> {
     let entries = entries_of(alloc, text)?;
     let index = filled(alloc, declaration(alloc, kind, order)?, &entries)?;
@@ -180,7 +181,8 @@ pub(crate) fn near(alloc: Global, text: &str) -> Result<String, Fail> {
     near_in(alloc, &index, &mut d)
 }
 
-/// The ids of a walk forward and of one back, and how many there are. Ties rise by id in both orders, and an entry without a key is not there.
+/// The ids of a walk forward and of one back, and how many there are. Ties rise by id in both
+/// orders, and an entry without a key is not there.
 const ASCENDING: &str = "
 {k: \"x\"} | {k: \"y\"} | {k: \"X\"} => 0 2 1 1 2 0 of 3
 {k: \"a\"} | {k: 5} | {k: \"c\"} | {k: \"e\"} => 0 2 3 3 2 0 of 3
@@ -191,7 +193,8 @@ const DESCENDING: &str = "
 {k: \"x\"} | {k: \"y\"} | {k: \"x\"} => 1 0 2 2 0 1 of 3
 ";
 
-/// Keys that begin one another, each before those on its left: so none is told from another by its id.
+/// Keys that begin one another, each before those on its left: so none is told from another by its
+/// id.
 const BEGINNINGS: [(Kind, Order, &str); 8] = [
     (
         Kind::Text,

@@ -13,7 +13,8 @@ fn expect_told(alloc: Global, line: &str, wanted: &str) -> Result<(), Fail> {
     Ok(())
 }
 
-/// Looks for what each line of a table gives. A row is a line and, behind ` => `, its command in words, its refusal, or that it gives none.
+/// Looks for what each line of a table gives. A row is a line and, behind ` => `, its command in
+/// words, its refusal, or that it gives none.
 fn expect_each(alloc: Global, table: &str) -> Result<(), Fail> {
     for row in table.lines() {
         if let Some((line, wanted)) = sides(row)? {

@@ -85,7 +85,11 @@ fn path(alloc: Global) -> Result<Path, AllocError>
 
 /// A part of an index at the path `a.B`.
 fn part(alloc: Global, kind: Kind, order: Order) -> Result<IndexPart, AllocError>
-    ensures { IfOk result (λ part. part ≡ record { path = (97 ∷ []) ∷ (66 ∷ []) ∷ []; kind = kind; order = order }) }
+    ensures { IfOk result (λ part. part ≡ record {
+      path = (97 ∷ []) ∷ (66 ∷ []) ∷ [];
+      kind = kind;
+      order = order;
+    }) }
 {
     let path = path(alloc)?;
     Ok(IndexPart { path, kind, order })

@@ -2,7 +2,8 @@
 
 use std::test::Fail;
 
-/// What stands before and behind ` => ` in a row; none for a blank row, and for a comment, which begins with `#`.
+/// What stands before and behind ` => ` in a row; none for a blank row, and for a comment, which
+/// begins with `#`.
 pub(crate) fn sides(row: &str) -> Result<Option<(&str, &str)>, Fail> {
     if row.is_empty() || row.starts_with('#') {
         return Ok(None);

@@ -1,4 +1,5 @@
-//! What a line gives, told in words. What memory is refused for is missing in the words, which are then others.
+//! What a line gives, told in words. What memory is refused for is missing in the words, which are
+//! then others.
 
 use newt_base::{Name, Refusal, Uid};
 use newt_graph::Graph;

@@ -1,4 +1,5 @@
-//! What builders make, with ample memory. What they make of a text, and of a path, is tested where these are read.
+//! What builders make, with ample memory. What they make of a text, and of a path, is tested where
+//! these are read.
 use newt_graph::{Builder, GraphFault, Node, Ref, Refs};
 use newt_test_tables::expect;
 use std::alloc::Global;

@@ -1,4 +1,5 @@
-//! Each pick at each call of one run, the calls that are to fail, and the unit and the output of each call.
+//! Each pick at each call of one run, the calls that are to fail, and the unit and the output of
+//! each call.
 ghost use Rattle.std.specs.Prelude.{IfOk, IsSome};
 ghost use Rattle.newt_memhost.specs.Outside.{outside_of};
 
@@ -11,7 +12,8 @@ use std::test::Fail;
 
 const PICKS: [Pick; 4] = [Pick::Old, Pick::New, Pick::Half, Pick::Fill(9)];
 
-// What is told of one call: its unit, the length of the output at its begin and at its crash, and what each pick leaves.
+// What is told of one call: its unit, the length of the output at its begin and at its crash, and
+// what each pick leaves.
 #[derive(Clone, Copy)]
 struct Row {
     unit: Option<Unit>,

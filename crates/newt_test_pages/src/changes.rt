@@ -22,7 +22,8 @@ pub(crate) fn scanned<P: PageBook>(
 ) -> Result<Objects, Fail>
     requires { P.stands true book.old (outside_of host.old) × (P.place book.old ≡ 0) }
     ensures book { P.stands true book.new (outside_of host.new) × (P.place book.new ≡ 0) }
-    ensures objects { IfOk result (λ objects. AreAtRest objects (P.numbers book.new) 0 (outside_of host.new)) }
+    ensures objects { IfOk result (λ objects. AreAtRest objects (P.numbers book.new) 0
+        (outside_of host.new)) }
 {
     Ok(Objects::scan(alloc, host, book)?)
 }
@@ -73,8 +74,10 @@ pub(crate) fn carry_out<P: PageBook>(
     requires table { AreOf true (held objects.old) (P.numbers book.old) 0 (outside_of host.old) }
     requires plan { IsPlanned objects.old batch.now }
     requires few { length batch.now.puts < 2 ^ 32 }
-    ensures book { OnOk result (P.stands true book.new (outside_of host.new) × (P.place book.new ≡ 0)) }
-    ensures objects { OnOk result (AreAtRest objects.new (P.numbers book.new) 0 (outside_of host.new)) }
+    ensures book { OnOk result (P.stands true book.new (outside_of host.new) ×
+        (P.place book.new ≡ 0)) }
+    ensures objects { OnOk result (AreAtRest objects.new (P.numbers book.new) 0
+        (outside_of host.new)) }
 {
     book.reserve(batch.puts().len() as u32)?;
     book.commit(host, batch)?;
@@ -93,8 +96,10 @@ pub(crate) fn put<P: PageBook>(
 ) -> Result<(), Fail>
     requires book { P.stands true book.old (outside_of host.old) × (P.place book.old ≡ 0) }
     requires objects { AreAtRest objects.old (P.numbers book.old) 0 (outside_of host.old) }
-    ensures book { OnOk result (P.stands true book.new (outside_of host.new) × (P.place book.new ≡ 0)) }
-    ensures objects { OnOk result (AreAtRest objects.new (P.numbers book.new) 0 (outside_of host.new)) }
+    ensures book { OnOk result (P.stands true book.new (outside_of host.new) ×
+        (P.place book.new ≡ 0)) }
+    ensures objects { OnOk result (AreAtRest objects.new (P.numbers book.new) 0
+        (outside_of host.new)) }
 {
     let bytes = text_from(alloc, id, size)?;
     let batch = put_plan(alloc, objects, u32::from(id), &bytes)?;
@@ -112,8 +117,10 @@ pub(crate) fn delete<P: PageBook>(
 ) -> Result<(), Fail>
     requires book { P.stands true book.old (outside_of host.old) × (P.place book.old ≡ 0) }
     requires objects { AreAtRest objects.old (P.numbers book.old) 0 (outside_of host.old) }
-    ensures book { OnOk result (P.stands true book.new (outside_of host.new) × (P.place book.new ≡ 0)) }
-    ensures objects { OnOk result (AreAtRest objects.new (P.numbers book.new) 0 (outside_of host.new)) }
+    ensures book { OnOk result (P.stands true book.new (outside_of host.new) ×
+        (P.place book.new ≡ 0)) }
+    ensures objects { OnOk result (AreAtRest objects.new (P.numbers book.new) 0
+        (outside_of host.new)) }
 {
     assert!(rt; objects.length(id).is_some());
     let batch = delete_plan(alloc, objects, id)?;
@@ -161,8 +168,10 @@ pub(crate) fn assert_held<P: PageBook>(
 ) -> Result<(), Fail>
     requires book { P.stands true book.old (outside_of host.old) × (P.place book.old ≡ 0) }
     requires objects { AreAtRest objects.now (P.numbers book.old) 0 (outside_of host.old) }
-    ensures book { OnOk result (P.stands true book.new (outside_of host.new) × (P.place book.new ≡ 0)) }
-    ensures objects { OnOk result (AreAtRest objects.now (P.numbers book.new) 0 (outside_of host.new)) }
+    ensures book { OnOk result (P.stands true book.new (outside_of host.new) ×
+        (P.place book.new ≡ 0)) }
+    ensures objects { OnOk result (AreAtRest objects.now (P.numbers book.new) 0
+        (outside_of host.new)) }
 {
     let mut from = 0;
     for (id, size) in want {
@@ -213,8 +222,10 @@ pub(crate) fn assert_kept<P: PageBook>(
 ) -> Result<(), Fail>
     requires book { P.stands true book.old (outside_of host.old) × (P.place book.old ≡ 0) }
     requires objects { AreAtRest objects.now (P.numbers book.old) 0 (outside_of host.old) }
-    ensures book { OnOk result (P.stands true book.new (outside_of host.new) × (P.place book.new ≡ 0)) }
-    ensures objects { OnOk result (AreAtRest objects.now (P.numbers book.new) 0 (outside_of host.new)) }
+    ensures book { OnOk result (P.stands true book.new (outside_of host.new) ×
+        (P.place book.new ≡ 0)) }
+    ensures objects { OnOk result (AreAtRest objects.now (P.numbers book.new) 0
+        (outside_of host.new)) }
 {
     assert_held(rt, alloc, host, book, objects, want)?;
     assert!(rt; has_card(host));

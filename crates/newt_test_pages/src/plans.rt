@@ -27,8 +27,10 @@ fn put_each<P: PageBook>(
 ) -> Result<(), Fail>
     requires book { P.stands true book.old (outside_of host.old) × (P.place book.old ≡ 0) }
     requires objects { AreAtRest objects.old (P.numbers book.old) 0 (outside_of host.old) }
-    ensures book { OnOk result (P.stands true book.new (outside_of host.new) × (P.place book.new ≡ 0)) }
-    ensures objects { OnOk result (AreAtRest objects.new (P.numbers book.new) 0 (outside_of host.new)) }
+    ensures book { OnOk result (P.stands true book.new (outside_of host.new) ×
+        (P.place book.new ≡ 0)) }
+    ensures objects { OnOk result (AreAtRest objects.new (P.numbers book.new) 0
+        (outside_of host.new)) }
 {
     for (id, size) in all {
         put(alloc, host, book, objects, *id, *size)?;
@@ -173,7 +175,8 @@ fn delete_and_forget(
 // Plans to put an object anew, to put another, and to delete one, and forgets each plan.
 fn plan_and_forget(rt: &impl Abort, alloc: Global, objects: &mut Objects) -> Result<(), Fail>
     requires { objects.old.plans ≡ [] }
-    ensures { OnOk result ((numbers : Numbers) (unit : ℕ) (outside : Outside) → AreAtRest objects.old numbers unit outside → AreAtRest objects.new numbers unit outside) }
+    ensures { OnOk result ((numbers : Numbers) (unit : ℕ) (outside : Outside) → AreAtRest
+        objects.old numbers unit outside → AreAtRest objects.new numbers unit outside) }
 {
     let bytes = text(alloc, 400)?;
     put_and_forget(alloc, objects, 7, &bytes)?;
@@ -230,7 +233,8 @@ fn begun(alloc: Global) -> Result<Batch, AllocError>
     Ok(batch)
 }
 
-// The numbers of the pages that are put for an object of so many bytes, behind those of the batch; none where page numbers are wanting.
+// The numbers of the pages that are put for an object of so many bytes, behind those of the batch;
+// none where page numbers are wanting.
 fn numbers_for(alloc: Global, size: u32) -> Result<Option<Vec<u32>>, AllocError> {
     let bytes = text(alloc, size)?;
     let mut objects = Objects::empty(alloc);

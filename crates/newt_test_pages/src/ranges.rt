@@ -51,7 +51,8 @@ const PAST: [(u32, u32); 4] = [
     (u32::MAX, u32::MAX),
 ];
 
-// Puts bytes in place of others of an object, in a batch of its own. The answer is how many pages were put.
+// Puts bytes in place of others of an object, in a batch of its own. The answer is how many pages
+// were put.
 fn patch<P: PageBook>(
     alloc: Global,
     host: &mut MemHost,
@@ -64,8 +65,10 @@ fn patch<P: PageBook>(
     requires short { length bytes.now < 2 ^ 31 }
     requires book { P.stands true book.old (outside_of host.old) × (P.place book.old ≡ 0) }
     requires objects { AreAtRest objects.now (P.numbers book.old) 0 (outside_of host.old) }
-    ensures book { OnOk result (P.stands true book.new (outside_of host.new) × (P.place book.new ≡ 0)) }
-    ensures objects { OnOk result (AreAtRest objects.now (P.numbers book.new) 0 (outside_of host.new)) }
+    ensures book { OnOk result (P.stands true book.new (outside_of host.new) ×
+        (P.place book.new ≡ 0)) }
+    ensures objects { OnOk result (AreAtRest objects.now (P.numbers book.new) 0
+        (outside_of host.new)) }
 {
     let mut batch = Batch::new(alloc);
     plan_patch(host, book, objects, 7, at, bytes, &mut batch)?;
@@ -75,7 +78,8 @@ fn patch<P: PageBook>(
     Ok(puts)
 }
 
-// Carries the patches out, each with bytes of its own, on the card and on the bytes that are wanted.
+// Carries the patches out, each with bytes of its own, on the card and on the bytes that are
+// wanted.
 fn patch_all<P: PageBook>(
     rt: &impl Abort,
     alloc: Global,
@@ -87,7 +91,8 @@ fn patch_all<P: PageBook>(
     requires there { IsSome (held objects.now 7) }
     requires book { P.stands true book.old (outside_of host.old) × (P.place book.old ≡ 0) }
     requires objects { AreAtRest objects.now (P.numbers book.old) 0 (outside_of host.old) }
-    ensures book { OnOk result (P.stands true book.new (outside_of host.new) × (P.place book.new ≡ 0)) }
+    ensures book { OnOk result (P.stands true book.new (outside_of host.new) ×
+        (P.place book.new ≡ 0)) }
 {
     for (at, count, pages) in PATCHES {
         assert!(rt; at as usize + count as usize <= want.len() && count < 10_000);
@@ -129,8 +134,10 @@ fn assert_read<P: PageBook>(
     requires there { IsSome (held objects.now 7) }
     requires book { P.stands true book.old (outside_of host.old) × (P.place book.old ≡ 0) }
     requires objects { AreAtRest objects.now (P.numbers book.old) 0 (outside_of host.old) }
-    ensures book { OnOk result (P.stands true book.new (outside_of host.new) × (P.place book.new ≡ 0)) }
-    ensures objects { OnOk result (AreAtRest objects.now (P.numbers book.new) 0 (outside_of host.new)) }
+    ensures book { OnOk result (P.stands true book.new (outside_of host.new) ×
+        (P.place book.new ≡ 0)) }
+    ensures objects { OnOk result (AreAtRest objects.now (P.numbers book.new) 0
+        (outside_of host.new)) }
 {
     for (at, len) in RANGES {
         let bytes = range(alloc, host, book, objects, at, len)?;
@@ -230,8 +237,10 @@ fn put_both<P: PageBook>(
 ) -> Result<(), Fail>
     requires book { P.stands true book.old (outside_of host.old) × (P.place book.old ≡ 0) }
     requires objects { AreAtRest objects.old (P.numbers book.old) 0 (outside_of host.old) }
-    ensures book { OnOk result (P.stands true book.new (outside_of host.new) × (P.place book.new ≡ 0)) }
-    ensures objects { OnOk result (AreAtRest objects.new (P.numbers book.new) 0 (outside_of host.new)) }
+    ensures book { OnOk result (P.stands true book.new (outside_of host.new) ×
+        (P.place book.new ≡ 0)) }
+    ensures objects { OnOk result (AreAtRest objects.new (P.numbers book.new) 0
+        (outside_of host.new)) }
 {
     put(alloc, host, book, objects, 7, 1_000_000)?;
     put(alloc, host, book, objects, 8, 1_200)
@@ -272,7 +281,8 @@ fn put_and_patch<P: PageBook>(
     patch_and_read(rt, alloc, host, book, objects, &mut want)
 }
 
-// A large object is patched across its pages, and read by ranges when the card is opened anew. Another object stays as it is.
+// A large object is patched across its pages, and read by ranges when the card is opened anew.
+// Another object stays as it is.
 fn patches<P: PageBook>(rt: &impl Abort, alloc: Global) -> Result<(), Fail> {
     let mut host = fresh::<P>(rt, alloc, 520)?;
     let mut book: P = opened(rt, alloc, &mut host)?;

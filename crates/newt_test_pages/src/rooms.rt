@@ -28,8 +28,8 @@ fn first_page<P: PageBook>(rt: &impl Abort, host: &mut MemHost, book: &mut P) ->
     Ok(*book.page())
 }
 
-// Asks for room for as many puts as there are numbers of 32 bits, which is more than memory is ever asked for: it is refused, and the book is as it was.
-// What room it had, it has.
+// Asks for room for as many puts as there are numbers of 32 bits, which is more than memory is ever
+// asked for: it is refused, and the book is as it was. What room it had, it has.
 fn refuse_room<P: PageBook>(
     rt: &impl Abort,
     alloc: Global,
@@ -64,7 +64,8 @@ fn refuse_room_of<P: PageBook>(
     assert_pages(rt, alloc, host, book, before)
 }
 
-// Makes room for so many puts. Where that is refused the book is as it was, and it is asked for once more. The answer is whether it was refused.
+// Makes room for so many puts. Where that is refused the book is as it was, and it is asked for
+// once more. The answer is whether it was refused.
 fn make_room<P: PageBook>(
     rt: &impl Abort,
     alloc: Global,
@@ -151,7 +152,8 @@ fn commit_to<P: PageBook>(
     assert_pages(rt, alloc, host, book, after)
 }
 
-// Commits a batch. More room is refused before and behind it. The answer is whether room was refused that could be had.
+// Commits a batch. More room is refused before and behind it. The answer is whether room was
+// refused that could be had.
 fn goes_on_with<P: PageBook>(
     rt: &impl Abort,
     alloc: Global,
@@ -221,8 +223,9 @@ fn goes_on_in<P: PageBook>(
     Ok(refused)
 }
 
-// Commits three batches. More room is refused before each and behind it, and the last pages are found again when the card is opened anew. The answer is how
-// often room was refused that could be had.
+// Commits three batches. More room is refused before each and behind it, and the last pages are
+// found again when the card is opened anew. The answer is how often room was refused that could be
+// had.
 fn goes_on<P: PageBook>(rt: &impl Abort, alloc: Global) -> Result<u32, Fail> {
     let mut host = fresh::<P>(rt, alloc, 13)?;
     let mut book: P = opened(rt, alloc, &mut host)?;

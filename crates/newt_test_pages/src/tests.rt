@@ -157,7 +157,8 @@ fn commit_ten<P: PageBook>(
     Ok(())
 }
 
-// Commits ten puts and two deletes at a time. A bank takes three such records, and behind a record of all pages one more.
+// Commits ten puts and two deletes at a time. A bank takes three such records, and behind a record
+// of all pages one more.
 fn switches<P: PageBook>(rt: &impl Abort, alloc: Global) -> Result<(), Fail> {
     let mut host = fresh::<P>(rt, alloc, 13)?;
     let mut book: P = opened(rt, alloc, &mut host)?;
@@ -226,7 +227,8 @@ fn assert_object<P: PageBook>(
     Ok(())
 }
 
-// Each object is read from the parts that are spelt by hand, 500 bytes to a page, and one page where there are no bytes.
+// Each object is read from the parts that are spelt by hand, 500 bytes to a page, and one page
+// where there are no bytes.
 fn reads<P: PageBook>(rt: &impl Abort, alloc: Global) -> Result<(), Fail> {
     for (size, parts, blocks) in [
         (0u32, 1u32, 13u32),

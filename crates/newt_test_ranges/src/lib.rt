@@ -1,4 +1,5 @@
-//! Ranges of entries that are read from literals: 200 entries added, changed and removed, against the list sorted afresh.
+//! Ranges of entries that are read from literals: 200 entries added, changed and removed, against
+//! the list sorted afresh.
 //!
 //! It stands on `newt_index_ranges` and the reader of literals, and has tests alone.
 #![tactic(auto)]

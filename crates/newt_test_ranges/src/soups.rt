@@ -59,7 +59,8 @@ fn two_hundred(alloc: Global, ranges: &mut Ranges, soup: u32) -> Result<(), Fail
     Ok(())
 }
 
-/// The same soup as it is opened: its declarations are known, and its entries come in another order.
+/// The same soup as it is opened: its declarations are known, and its entries come in another
+/// order.
 fn opened(alloc: Global, ranges: &mut Ranges, soup: u32) -> Result<(), Fail> {
     let name = by_name(alloc)?;
     let number = by_number(alloc)?;

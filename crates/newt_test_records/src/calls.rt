@@ -5,12 +5,14 @@ use newt_test_tables::{Asks, bytes_of};
 use std::alloc::Global;
 use std::test::Fail;
 
-/// What bytes are read as. They stand in words: `'foo` for its letters, and others are hexadecimal digits.
+/// What bytes are read as. They stand in words: `'foo` for its letters, and others are hexadecimal
+/// digits.
 #[derive(Clone, Copy)]
 pub(crate) enum Record {
     /// A directory.
     Directory,
-    /// The directory of the store `S` of signature 1 with the soup `A` alone, behind that soup's next entry id: its indexes and tags.
+    /// The directory of the store `S` of signature 1 with the soup `A` alone, behind that soup's
+    /// next entry id: its indexes and tags.
     Soup,
     /// An entry.
     Entry,

@@ -10,7 +10,8 @@ use std::alloc::Global;
 use std::process::Abort;
 use std::test::*;
 
-/// The name, the signature and the next soup of a directory, and whether it is written as the same bytes; or that there is none.
+/// The name, the signature and the next soup of a directory, and whether it is written as the same
+/// bytes; or that there is none.
 pub(crate) fn directory(alloc: Global, bytes: &[u8]) -> Result<String, Fail> {
     match read_directory(alloc, bytes) {
         Ok(read) => described(alloc, &read, bytes),
@@ -58,7 +59,8 @@ fn is_written(alloc: Global, directory: &Directory, bytes: &[u8]) -> bool {
     }
 }
 
-/// The name of the store, its signature, the next soup's signature, and the soups: the name of each, its signature, the next entry id, indexes and tags.
+/// The name of the store, its signature, the next soup's signature, and the soups: the name of
+/// each, its signature, the next entry id, indexes and tags.
 const DIRECTORIES: &str = "
 08 'Internal 00000007 0000 00 => Internal 7 0 true
 01 'S 00000001 0002 02 01 'A 0000 00000003 00 00 01 'a 0001 00000000 00 00 => S 1 2 true
@@ -68,7 +70,8 @@ const DIRECTORIES: &str = "
 01 'S 00000001 0000 01 01 'A 0000 00000000 00 00 => Bad
 ";
 
-/// The indexes, and whether there are tags: for an index how many parts, for each of them the type, the order and the path; the path of the tags, and the tags.
+/// The indexes, and whether there are tags: for an index how many parts, for each of them the type,
+/// the order and the path; the path of the tags, and the tags.
 const SOUPS: &str = "
 00 00 => S 1 1 true
 01 01 00 00 02 04 'name 04 'last 00 => S 1 1 true
@@ -180,7 +183,8 @@ fn first_tags(directory: &Directory) -> Option<TagTable> {
     }
 }
 
-/// Whether the second part of the first index of the first soup is an integer at this path, the greatest first.
+/// Whether the second part of the first index of the first soup is an integer at this path, the
+/// greatest first.
 fn has_part(directory: &Directory, path: &Path) -> Option<bool> {
     let row = directory.soup_of(Sig(0))?;
     let part = row.specs.list().first()?.list().get(1)?;

@@ -6,7 +6,8 @@ use newt_test_scripts::{expect_all_safe, expect_halts, image, run_table};
 use std::alloc::Global;
 use std::test::Fail;
 
-/// What a crash within any call of a run leaves of both units is the store before or after a command.
+/// What a crash within any call of a run leaves of both units is the store before or after a
+/// command.
 fn expect_both_safe(alloc: Global, table: &str) -> Result<(), Fail> {
     let picks = [Pick::New, Pick::Half];
     expect_all_safe(alloc, table, LOOK, &[Unit(0), Unit(1)], &picks)

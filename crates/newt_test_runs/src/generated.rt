@@ -6,7 +6,8 @@ use newt_top::Status;
 use std::alloc::Global;
 use std::test::Fail;
 
-/// Runs these words with an input over a device `a` of 64 blocks of zero bytes, and looks for the output.
+/// Runs these words with an input over a device `a` of 64 blocks of zero bytes, and looks for the
+/// output.
 fn expect_summary(alloc: Global, text: &str, input: &[u8], output: &[u8]) -> Result<(), Fail> {
     let mut host = over(alloc, input, &blocks(alloc, 64)?, &[])?;
     expect_end(alloc, text, &mut host, Status::Ok, output)

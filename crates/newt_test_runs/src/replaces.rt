@@ -75,7 +75,8 @@ fn refuses_in_order(rt: HostRuntime) -> Result<(), Fail> {
     expect(rt.alloc(), "run a b", REFUSED)
 }
 
-/// Graphs of 199 arrays within one another, alone and in two frames. What is refused leaves the entry.
+/// Graphs of 199 arrays within one another, alone and in two frames. What is refused leaves the
+/// entry.
 const DEEP: &str = "
 format 0 A 7 => ok
 mount 0 => ok 7 A

@@ -31,7 +31,8 @@ fn are_all(bytes: &[u8], byte: u8) -> bool {
     bytes.iter().all(|other| *other == byte)
 }
 
-/// Whether the first bank of a unit of 13 blocks has the first record alone, and the votes are for it.
+/// Whether the first bank of a unit of 13 blocks has the first record alone, and the votes are for
+/// it.
 fn is_fresh(image: &[u8]) -> bool {
     if image.len() != 53_248 {
         return false;
@@ -131,7 +132,8 @@ fn tells_which_device_failed(rt: HostRuntime) -> Result<(), Fail> {
     let alloc = rt.alloc();
     let script: &[u8] = b"nsof 020A\nmount 0\nnsof 020A\n";
     let mut host = over(alloc, script, &blocks(alloc, 13)?, &[])?;
-    // The first call takes the input, the second writes a reply, and the third is the first one on the device.
+    // The first call takes the input, the second writes a reply, and the third is the first one on
+    // the device.
     host.fail(2)?;
     let status = Status::Device(Unit(0));
     expect_end(alloc, "run a", &mut host, status, b"ok 020A\n")

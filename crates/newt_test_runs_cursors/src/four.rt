@@ -1,4 +1,5 @@
-//! A walk over four stores of 50 entries each, all of one key: by the signatures of the stores, and then by the ids.
+//! A walk over four stores of 50 entries each, all of one key: by the signatures of the stores, and
+//! then by the ids.
 
 use newt_test_scripts::expect_over;
 use std::alloc::Global;

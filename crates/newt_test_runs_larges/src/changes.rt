@@ -1,4 +1,5 @@
-//! Entries with large binaries that change, move and are walked over, with replies that were written by hand.
+//! Entries with large binaries that change, move and are walked over, with replies that were
+//! written by hand.
 
 use newt_test_scripts::expect;
 use std::test::Fail;

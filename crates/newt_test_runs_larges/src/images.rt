@@ -35,7 +35,8 @@ vread 0 S 0 v 0 2 => ok BBCC
 soups 0 => ok S 0 1
 ";
 
-/// Behind a record's text, which ends with the class of the large binary, its flag and four numbers, comes its number of node.
+/// Behind a record's text, which ends with the class of the large binary, its flag and four
+/// numbers, comes its number of node.
 const NAMED: &[u8] =
     b"wave\x00\x00\x00\x00\x00\x00\x00\x00\x00\x00\x00\x00\x00\x00\x00\x00\x00\x00\x00\x00\x02";
 

@@ -1,4 +1,5 @@
-//! Large binaries that are read, overwritten, shared and placed, with replies that were written by hand.
+//! Large binaries that are read, overwritten, shared and placed, with replies that were written by
+//! hand.
 
 use newt_test_scripts::expect;
 use std::test::Fail;

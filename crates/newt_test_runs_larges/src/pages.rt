@@ -1,4 +1,5 @@
-//! How many pages entries with large binaries take: a unit of 13 blocks has 38, of which the directory takes one.
+//! How many pages entries with large binaries take: a unit of 13 blocks has 38, of which the
+//! directory takes one.
 
 use newt_test_scripts::expect;
 use std::test::Fail;

@@ -22,12 +22,14 @@ add 0 S {v: <<wave:*1200>>} => ok 0
 vwrite 0 S 0 v 499 4142 => ok
 ";
 
-/// The gate, the length and the counts of a record that puts two pages and removes none, and its length.
+/// The gate, the length and the counts of a record that puts two pages and removes none, and its
+/// length.
 const HEAD: &[u8] = b"\x00\x00\x00\x04\x0C\x00\x02\x00\x00";
 
 const RECORD: usize = 1041;
 
-/// Where the records of the first bank of a unit of 13 blocks end. The last byte of a record is not FF.
+/// Where the records of the first bank of a unit of 13 blocks end. The last byte of a record is not
+/// FF.
 fn tail(image: &[u8]) -> usize {
     let mut tail = 0usize;
     for (place, byte) in image.iter().enumerate() {

@@ -51,7 +51,8 @@ fn begun(output: &[u8]) -> usize {
     }
 }
 
-/// What was found is the store before or after the next command; a device that has none in both is as it was, zero bytes.
+/// What was found is the store before or after the next command; a device that has none in both is
+/// as it was, zero bytes.
 pub(crate) fn expect_found(
     output: &[u8],
     left: &[u8],
@@ -116,8 +117,9 @@ fn expect_each_safe(
     Ok(())
 }
 
-/// Runs a table over the devices `a` and `b` of 13 blocks of zero bytes. A next run over what a crash within any of its calls leaves of these units by each pick, asked
-/// these lines, finds the store before or after the command whose reply is the next to begin.
+/// Runs a table over the devices `a` and `b` of 13 blocks of zero bytes. A next run over what a
+/// crash within any of its calls leaves of these units by each pick, asked these lines, finds the
+/// store before or after the command whose reply is the next to begin.
 pub fn expect_all_safe(
     alloc: Global,
     table: &str,

@@ -13,7 +13,8 @@ use newt_top::Status;
 use std::alloc::Global;
 use std::test::Fail;
 
-/// Whether a run ends as it should where a call fails that was on a unit, or on the input or the output. Behind a device's call there are whole replies.
+/// Whether a run ends as it should where a call fails that was on a unit, or on the input or the
+/// output. Behind a device's call there are whole replies.
 fn is_halted(host: &MemHost, status: Status, unit: Option<Unit>) -> bool {
     match unit {
         Some(unit) => {
@@ -35,7 +36,8 @@ fn expect_left(
     expect_found(host.output(), left, &found, looks)
 }
 
-/// Where the call of a number fails, the run of a host ends there, and what it leaves, with a crash and without one, is the store before or after the next command.
+/// Where the call of a number fails, the run of a host ends there, and what it leaves, with a crash
+/// and without one, is the store before or after the next command.
 fn expect_halted_on(
     alloc: Global,
     ask: &[u8],
@@ -89,8 +91,9 @@ fn expect_all_halted(
     Ok(())
 }
 
-/// Runs a table over the devices `a` and `b` of 13 blocks of zero bytes, once for each of its calls, which fails. The run ends there, and a next run that is asked these
-/// lines finds the store of the first unit before or after the command whose reply is the next to begin.
+/// Runs a table over the devices `a` and `b` of 13 blocks of zero bytes, once for each of its
+/// calls, which fails. The run ends there, and a next run that is asked these lines finds the store
+/// of the first unit before or after the command whose reply is the next to begin.
 pub fn expect_halts(alloc: Global, table: &str, ask: &[u8]) -> Result<(), Fail> {
     let sound = run_table(alloc, "run a b", table)?;
     let (script, _) = lines_of(alloc, table)?;

@@ -67,7 +67,8 @@ pub fn expect_end(
     Ok(())
 }
 
-/// Runs a table over the devices `a` and `b` of these bytes, which are whole blocks, and looks for its replies.
+/// Runs a table over the devices `a` and `b` of these bytes, which are whole blocks, and looks for
+/// its replies.
 pub fn run_table_on(
     alloc: Global,
     text: &str,
@@ -95,7 +96,8 @@ pub fn expect(alloc: Global, text: &str, table: &str) -> Result<(), Fail> {
     Ok(())
 }
 
-/// Runs a table over five devices `a` to `e` of so many blocks of zero bytes, and looks for its replies.
+/// Runs a table over five devices `a` to `e` of so many blocks of zero bytes, and looks for its
+/// replies.
 pub fn expect_over(alloc: Global, text: &str, table: &str, count: u32) -> Result<(), Fail> {
     let (script, output) = lines_of(alloc, table)?;
     let mut host = over_blocks(alloc, &script, count)?;

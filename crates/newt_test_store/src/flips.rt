@@ -8,8 +8,9 @@ use newt_test_card::contents_on;
 use std::alloc::Global;
 use std::test::Fail;
 
-/// The bytes of the bank's head and records and the first byte of the tail. A row is where some begin, where the next begin, and what the image opens as with all
-/// bits of any one of them changed, and with its last bit changed. Rows behind a `#` say what they are.
+/// The bytes of the bank's head and records and the first byte of the tail. A row is where some
+/// begin, where the next begin, and what the image opens as with all bits of any one of them
+/// changed, and with its last bit changed. Rows behind a `#` say what they are.
 const BYTES: &str = "
 # The magic word, the version and the zero bytes.
 12288 12304 none none
@@ -132,7 +133,8 @@ const PATCHES: &str = "
 4096 FF same
 ";
 
-/// What some bytes open as: the `same` store as the small image, the one `before` its second record, another, or none.
+/// What some bytes open as: the `same` store as the small image, the one `before` its second
+/// record, another, or none.
 fn opens_as(alloc: Global, bytes: &[u8]) -> Result<&'static str, Fail> {
     let found = contents_on::<PlainBook>(alloc, bytes)?;
     if found.as_slice() == SMALL.as_bytes() {
@@ -201,8 +203,8 @@ fn number(row: &str) -> Result<(usize, &str), Fail> {
     Ok((number.parse()?, rest))
 }
 
-/// A row of bytes that are changed, which goes on at a place, and where the next goes on. Of the long rows, which are of bytes that are not used, the last
-/// bits are not tried.
+/// A row of bytes that are changed, which goes on at a place, and where the next goes on. Of the
+/// long rows, which are of bytes that are not used, the last bits are not tried.
 fn expect_row(alloc: Global, image: &[u8], row: &str, begin: usize) -> Result<usize, Fail> {
     let (from, rest) = number(row)?;
     let (to, rest) = number(rest)?;

@@ -183,7 +183,8 @@ fn what_is_not_there_is_refused(rt: HostRuntime) -> Result<(), Fail> {
     play::<PlainBook>(rt.alloc(), 13, MISSED)
 }
 
-/// The text of a number, and of frames of one slot, whose string takes 63,988 bytes: with them it has 64,001 bytes, or 64,000.
+/// The text of a number, and of frames of one slot, whose string takes 63,988 bytes: with them it
+/// has 64,001 bytes, or 64,000.
 const LONGEST: &str = "
 make S => 0
 make T => 1
@@ -207,7 +208,8 @@ move 1 1 0 => ids
 move 0 2 1 => 2
 ";
 
-/// The small store with the last numbers given: the next soup signature, and the next id of the first soup.
+/// The small store with the last numbers given: the next soup signature, and the next id of the
+/// first soup.
 fn last_image(alloc: Global) -> Result<Vec<u8>, Fail> {
     let image = patched(alloc, &spelt(alloc, IMAGE)?, 13899, "FFFF")?;
     patched(alloc, &image, 13906, "1FFFFFFF")

@@ -1,4 +1,5 @@
-//! Small streams: what is read is written in its one form, and what is refused is refused for its reason. What is cut off anywhere is malformed.
+//! Small streams: what is read is written in its one form, and what is refused is refused for its
+//! reason. What is cut off anywhere is malformed.
 use crate::tables::expect_answers;
 use std::test::Fail;
 

@@ -28,7 +28,8 @@ fn bytes_of(alloc: Global, words: &str) -> Result<Vec<u8>, Fail> {
     Ok(bytes)
 }
 
-/// Whether the bytes spell a graph that is written so, in the length that is told beforehand, which is that of its skeleton and of so many bytes of large binaries.
+/// Whether the bytes spell a graph that is written so, in the length that is told beforehand, which
+/// is that of its skeleton and of so many bytes of large binaries.
 fn gives(alloc: Global, given: &[u8], wanted: &[u8], large: u64) -> bool {
     let Ok(graph) = decode(alloc, given) else {
         return false;
@@ -72,8 +73,10 @@ fn has_answer(alloc: Global, given: &[u8], answer: &str, large: u64) -> Result<b
     })
 }
 
-/// Looks for the answer of each row. A row is a stream and, behind ` => `, `kept` where it is written as it stands, its one form where it is written in
-/// another, or how it is refused. Behind another ` => ` stands how many bytes of large binaries it has, if any. Rows that begin with `#` are comments.
+/// Looks for the answer of each row. A row is a stream and, behind ` => `, `kept` where it is
+/// written as it stands, its one form where it is written in another, or how it is refused. Behind
+/// another ` => ` stands how many bytes of large binaries it has, if any. Rows that begin with `#`
+/// are comments.
 pub fn expect_answers(alloc: Global, table: &str) -> Result<(), Fail> {
     for row in table.lines() {
         if row.is_empty() || row.starts_with('#') {

@@ -1,5 +1,5 @@
-//! Tables of texts and what is answered of them, for tests, and words that stand for bytes. It carries no promise: what is wanted stands in the rows of
-//! those who use it.
+//! Tables of texts and what is answered of them, for tests, and words that stand for bytes. It
+//! carries no promise: what is wanted stands in the rows of those who use it.
 #![tactic(auto)]
 
 ghost use Rattle.std.specs.Prelude.{◌≡◌, IfOk};
@@ -67,7 +67,8 @@ fn push_shown(to: &mut String, text: &str) -> Result<(), AllocError> {
     Ok(())
 }
 
-/// The text that a row writes down. What stands in it between two `~` is a text and how often it stands there.
+/// The text that a row writes down. What stands in it between two `~` is a text and how often it
+/// stands there.
 fn expanded(alloc: Global, text: &str) -> Result<String, Fail> {
     let mut out = String::new(alloc);
     for (number, part) in text.split('~').enumerate() {
@@ -88,7 +89,8 @@ fn expect_row<A: Asks>(alloc: Global, asks: &A, row: &str) -> Result<(), Fail> {
     expect(row, &asks.answer(alloc, &text)?, wanted)
 }
 
-/// Fails where another answer is given than a row of the table says. A row is a text and, behind ` => `, its answer. Blank rows say nothing.
+/// Fails where another answer is given than a row of the table says. A row is a text and, behind `
+/// => `, its answer. Blank rows say nothing.
 pub fn expect_rows<A: Asks>(alloc: Global, asks: &A, table: &str) -> Result<(), Fail> {
     for row in table.lines() {
         if !row.is_empty() {

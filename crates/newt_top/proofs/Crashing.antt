@@ -5,22 +5,21 @@ use Rattle.std.specs.Option.{is_none}
 use Rattle.std.proofs.lemmas.Bool.{eqb-false}
 use Rattle.newt_base.specs.Refusals.{first_of}
 use Rattle.newt_base.specs.declared.Refusal.{Refusal}
+use Rattle.newt_laws_world.proofs.Later.{answer-later}
 use Rattle.newt_laws_world.proofs.Kept.{changed-units, on_units}
 use Rattle.newt_laws_world.proofs.Units.{same-or-not, device-other, device-same}
-use Rattle.newt_laws_answers.specs.Spoken.{answer_now, checks_now}
 use Rattle.newt_script_session.specs.Moments.{HasLeft, replies_begun, world_at}
-use Rattle.newt_script_session.specs.Script.{step, world_behind}
 use Rattle.newt_spec_graph.proofs.Lists.{none-some}
-use Rattle.newt_spec_script.specs.Script.{Item}
+use Rattle.newt_spec_script.specs.Script.{Item, step}
 use Rattle.newt_spec_store.specs.Store.{Store}
 use Rattle.newt_spec_world.specs.declared.command.Command.{Command}
 use Rattle.newt_spec_world.specs.declared.command.Command.TheVariants as command
-use Rattle.newt_spec_world.specs.Answer.{answered}
+use Rattle.newt_spec_world.specs.Answer.{answer, answered}
+use Rattle.newt_spec_world.specs.Refused.{checks}
 use Rattle.newt_spec_world.specs.Changed.{changed, copy_to}
 use Rattle.newt_spec_world.specs.World.{World, Device, Media, blank, one, device, default_unit, entry_in, store_of, store_on_unit, change_device, change_store, change_media}
 use Rattle.newt_spec_store.specs.Store as plain
 use Rattle.newt_store_catalog.specs.Readable.{readable}
-use Rattle.newt_engine.specs.Laws.{stays_there}
 use Rattle.newt_script_session.specs.Counted.{HasLeftCounted}
 use Rattle.newt_top.specs.Crash.{formats, formats_next, IsOneOf, IsLeft, IsLeftCounted}
 
@@ -81,48 +80,51 @@ both_true true b e k = k
 both_true false b e k = e
 
 -- an item that is no format of the unit, or one that is refused, leaves it without a store
-pub none_stepped : (w : World) (item : Item) (u : ℕ) → store_on_unit w u ≡ None → formats w u item ≡ false → store_on_unit (step answer_now w item).0 u ≡ None
-unfolding answer_now
+pub none_stepped : (w : World) (item : Item) (u : ℕ) → store_on_unit w u ≡ None → formats w u item ≡ false → store_on_unit (step w item).0 u ≡ None
+unfolding answer
 none_stepped w (Err refusal) u none not = none
-none_stepped w (Ok c) u none not = go (first_of (checks_now w c)) refl
+none_stepped w (Ok c) u none not = go (first_of (checks w c)) refl
   where
-    other : first_of (checks_now w c) ≡ None → (name : List ℕ) (sig : ℕ) → c ≡ command.Format u name sig → ⊥
+    other : first_of (checks w c) ≡ None → (name : List ℕ) (sig : ℕ) → c ≡ command.Format u name sig → ⊥
     other passes name sig e =
         let is : formats w u (Ok (command.Format u name sig)) ≡ false = subst (λ (x : Command). formats w u (Ok x) ≡ false) e not in
-        let passed : is_none (first_of (checks_now w (command.Format u name sig))) ≡ true = ap is_none (subst (λ (x : Command). first_of (checks_now w x) ≡ None) e passes) in
+        let passed : is_none (first_of (checks w (command.Format u name sig))) ≡ true = ap is_none (subst (λ (x : Command). first_of (checks w x) ≡ None) e passes) in
         let yes : formats w u (Ok (command.Format u name sig)) ≡ true = both_true (eqb u u) _ (same_number u) passed in
         absurd (cc)
 
-    go : (o : Option Refusal) → first_of (checks_now w c) ≡ o → store_on_unit (answered w c o).0 u ≡ None
+    go : (o : Option Refusal) → first_of (checks w c) ≡ o → store_on_unit (answered w c o).0 u ≡ None
     go None e = row_none w c u none (other e)
     go (Some r) e = none
 
 -- ---- the next world
 
-module _ (P : World → World → Option Item → Type 0) (same : (v : World) → P v v None) (stepped : (v : World) (item : Item) → P v (step answer_now v item).0 (Some item)) where
-  next_suc : (w : World) (items : List Item) (m : ℕ) → P (world_at answer_now w items m) (world_at answer_now w items (suc m)) (slice_get items m)
-  unfolding world_behind
+module _ (P : World → World → Option Item → Type 0) (same : (v : World) → P v v None) (stepped : (v : World) (item : Item) → P v (step v item).0 (Some item)) where
+  next_suc : (w : World) (items : List Item) (m : ℕ) → P (world_at w items m) (world_at w items (suc m)) (slice_get items m)
   next_suc w [] zero = same w
   next_suc w [] (suc m) = same w
   next_suc w (item ∷ items) zero = stepped w item
-  next_suc w (item ∷ items) (suc m) = next_suc (step answer_now w item).0 items m
+  next_suc w (item ∷ items) (suc m) = next_suc (step w item).0 items m
 
   -- the world behind m + 1 items is the one that the next item makes of the world behind m
-  pub next_world : (w : World) (items : List Item) (m : ℕ) → P (world_at answer_now w items m) (world_at answer_now w items (m + 1)) (slice_get items m)
+  pub next_world : (w : World) (items : List Item) (m : ℕ) → P (world_at w items m) (world_at w items (m + 1)) (slice_get items m)
   next_world w items m =
       let one_more : suc m ≡ m + 1 = omega arith in
-      subst (λ (n : ℕ). P (world_at answer_now w items m) (world_at answer_now w items n) (slice_get items m)) one_more (next_suc w items m)
+      subst (λ (n : ℕ). P (world_at w items m) (world_at w items n) (slice_get items m)) one_more (next_suc w items m)
 
 -- no item takes a unit's store away
-stays_stepped : (v : World) (item : Item) (u : ℕ) → store_on_unit (step answer_now v item).0 u ≡ None → store_on_unit v u ≡ None
-stays_stepped v (Ok c) u none = stays_there v c u none
+stays_stepped : (v : World) (item : Item) (u : ℕ) → store_on_unit (step v item).0 u ≡ None → store_on_unit v u ≡ None
+stays_stepped v (Ok c) u none = go (store_on_unit v u) refl
+  where
+    go : (o : Option Store) → store_on_unit v u ≡ o → store_on_unit v u ≡ None
+    go None e = e
+    go (Some s) e = let later = answer-later v c u s e in absurd (none-some later.0 (sym none ∙ later.1))
 stays_stepped v (Err refusal) u none = none
 
 module _ (w : World) (items : List Item) (m u : ℕ) where
-  pub still_there : store_on_unit (world_at answer_now w items (m + 1)) u ≡ None → store_on_unit (world_at answer_now w items m) u ≡ None
+  pub still_there : store_on_unit (world_at w items (m + 1)) u ≡ None → store_on_unit (world_at w items m) u ≡ None
   still_there = next_world (λ v x item. store_on_unit x u ≡ None → store_on_unit v u ≡ None) (λ v e. e) (λ v item e. stays_stepped v item u e) w items m
 
-  pub still_none : store_on_unit (world_at answer_now w items m) u ≡ None → formats_next w items m u ≡ false → store_on_unit (world_at answer_now w items (m + 1)) u ≡ None
+  pub still_none : store_on_unit (world_at w items m) u ≡ None → formats_next w items m u ≡ false → store_on_unit (world_at w items (m + 1)) u ≡ None
   still_none = next_world (λ v x found. store_on_unit v u ≡ None → elim found [ None ↦ false | Some item ↦ formats v u item ] ≡ false → store_on_unit x u ≡ None)
       (λ v e k. e) (λ v item e k. none_stepped v item u e k) w items m
 
@@ -130,13 +132,13 @@ module _ (w : World) (items : List Item) (m u : ℕ) where
 
 module _ (w : World) (items : List Item) (held : Option (List ℕ)) (m u : ℕ) (left : List ℕ) where
   abbrev next : Option Store
-  next = store_on_unit (world_at answer_now w items (m + 1)) u
+  next = store_on_unit (world_at w items (m + 1)) u
 
   -- what is found where this is the store behind m items
   abbrev pub Found : Option Store → Type 0
   Found o = MatchOption o (next ≡ None → held ≡ Some left) (λ store. (readable left ≡ Some store) ⊎ (readable left ≡ next))
 
-  stored : (store : Store) → store_on_unit (world_at answer_now w items m) u ≡ Some store → (readable left ≡ Some store) ⊎ (readable left ≡ next) → IsOneOf left store next
+  stored : (store : Store) → store_on_unit (world_at w items m) u ≡ Some store → (readable left ≡ Some store) ⊎ (readable left ≡ next) → IsOneOf left store next
   stored store is (inl e) = record { found = store; read = e; one = inl refl }
   stored store is (inr e) = go next refl
     where
@@ -144,15 +146,15 @@ module _ (w : World) (items : List Item) (held : Option (List ℕ)) (m u : ℕ) 
       go None k = absurd (none-some store (sym (still_there w items m u k) ∙ is))
       go (Some s) k = record { found = s; read = e ∙ k; one = inr k }
 
-  pub formatted_left : Found (store_on_unit (world_at answer_now w items m) u) → (store : Store) → store_on_unit (world_at answer_now w items m) u ≡ Some store → IsOneOf left store next
+  pub formatted_left : Found (store_on_unit (world_at w items m) u) → (store : Store) → store_on_unit (world_at w items m) u ≡ Some store → IsOneOf left store next
   formatted_left found store is = stored store is (subst (λ (o : Option Store). Found o) is found)
 
-  pub untouched_left : Found (store_on_unit (world_at answer_now w items m) u) → store_on_unit (world_at answer_now w items m) u ≡ None → formats_next w items m u ≡ false → held ≡ Some left
+  pub untouched_left : Found (store_on_unit (world_at w items m) u) → store_on_unit (world_at w items m) u ≡ None → formats_next w items m u ≡ false → held ≡ Some left
   untouched_left found none other = subst (λ (o : Option Store). Found o) none found (still_none w items m u none other)
 
-pub is_left : (w : World) (items : List Item) (held : Option (List ℕ)) (old out : List ℕ) (u : ℕ) (left : List ℕ) → HasLeft answer_now readable w items held old out u left → IsLeft w items held old out u left
+pub is_left : (w : World) (items : List Item) (held : Option (List ℕ)) (old out : List ℕ) (u : ℕ) (left : List ℕ) → HasLeft readable w items held old out u left → IsLeft w items held old out u left
 is_left w items held old out u left h =
-    let m = replies_begun answer_now w items (length h.shown) in
+    let m = replies_begun w items (length h.shown) in
     record {
       shown = h.shown;
       grown = h.grown;
@@ -160,7 +162,7 @@ is_left w items held old out u left h =
       untouched = λ none no. untouched_left w items held m u left h.leaves none no;
     }
 
-pub is_left_counted : (w : World) (items : List Item) (held : Option (List ℕ)) (old out : List ℕ) (u : ℕ) (left : List ℕ) → HasLeftCounted answer_now readable w items held old out u left
+pub is_left_counted : (w : World) (items : List Item) (held : Option (List ℕ)) (old out : List ℕ) (u : ℕ) (left : List ℕ) → HasLeftCounted readable w items held old out u left
     → IsLeftCounted w items held old out u left
 is_left_counted w items held old out u left h = record {
   shown = h.shown;

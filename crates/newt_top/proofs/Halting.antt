@@ -1,15 +1,17 @@
 -- Why a conversion halts, and a run of a script.
-use Rattle.std.proofs.Common.{◌≡◌, ℕ, ◌<◌, List, [], length, Some, None, refl, sym, ◌∙◌, append-nil}
+use Rattle.std.proofs.Common.{◌≡◌, ℕ, ◌<◌, List, [], length, Some, None, Ok, Err, refl, sym, ◌∙◌, append-nil}
 use Rattle.newt_host.specs.Meanings.{out_of, since}
-use Rattle.newt_host.specs.Outside.{Outside}
-use Rattle.newt_laws_answers.specs.Spoken.{answer_now}
-use Rattle.newt_script_session.specs.Causes.{HasWriteCause}
+use Rattle.newt_host.specs.Outside.{Outside, Rose}
+use Rattle.newt_script_session.specs.Calls.{Faults}
+use Rattle.newt_script_session.specs.Causes.{HasCause, HasWriteCause, NeverLess}
 use Rattle.newt_script_session.specs.Run.{Halted, HaltedReply}
 use Rattle.newt_script_session.specs.declared.halt.Halt.{Halt}
 use Rattle.newt_script_session.specs.declared.halt.Halt.TheVariants.{Memory, Device, Source, Sink, TooLong}
 use Rattle.newt_script_session.specs.Counts.{summary_of}
 use Rattle.newt_top.specs.Modes.{first, LeavesCounted, RanCounted, RanScript}
-use Rattle.newt_top.specs.Status.{HasStatusCause, status_of}
+use Rattle.newt_top.specs.Status.{HasStatusCause, IsFaultFree, IsFaultless, StatusFaults, status_of}
+use Rattle.newt_top.specs.declared.status.Status.{Status}
+use Rattle.newt_top.specs.declared.status.Status.TheVariants as statuses
 use Rattle.newt_top.specs.Whole.{converted, HaltedWhole, HasReadCause}
 use Rattle.newt_top.specs.declared.status.Conversion.{Conversion}
 
@@ -24,7 +26,7 @@ halted_reading conversion limit (Device unit) before after input old now cause l
 
 -- what was written where they are
 pub halted_running : (halt : Halt) (limit : ℕ) (names : List (List ℕ)) (old new : Outside)
-    → Halted answer_now limit halt (first names old) old.input new.input (out_of old) (out_of new) → RanScript names limit (status_of halt) old new
+    → Halted limit halt (first names old) old.input new.input (out_of old) (out_of new) → RanScript names limit (status_of halt) old new
 halted_running Memory limit names old new some = some
 halted_running (Device unit) limit names old new some = some
 halted_running Source limit names old new some = some
@@ -32,7 +34,7 @@ halted_running Sink limit names old new some = some
 halted_running TooLong limit names old new some = some
 
 -- what was written where the replies are counted
-pub halted_counting : (halt : Halt) (script : List ℕ) (names : List (List ℕ)) (old new : Outside) → HaltedReply halt (summary_of answer_now (first names old) script) (out_of old) (out_of new)
+pub halted_counting : (halt : Halt) (script : List ℕ) (names : List (List ℕ)) (old new : Outside) → HaltedReply halt (summary_of (first names old) script) (out_of old) (out_of new)
     → RanCounted script names (status_of halt) old new
 halted_counting Memory script names old new some = some
 halted_counting (Device unit) script names old new some = some
@@ -40,12 +42,39 @@ halted_counting Source script names old new some = some
 halted_counting Sink script names old new some = some
 halted_counting TooLong script names old new some = some
 
-pub cause_counting : (halt : Halt) (old new : Outside) → HasWriteCause halt old new → HasStatusCause (status_of halt) old new
-cause_counting Memory old new cause = tt
-cause_counting (Device unit) old new cause = cause
-cause_counting Source old new cause = absurd cause
-cause_counting Sink old new cause = cause
-cause_counting TooLong old new cause = tt
+-- ---- faults
+
+module _ (old new : Outside) where
+  complete_of : (status : Status) → HasStatusCause status old new → ¬ Rose old.in_faults new.in_faults → ¬ Rose old.out_faults new.out_faults
+      → ((unit : ℕ) → ¬ Rose (old.dev_faults unit) (new.dev_faults unit)) → IsFaultless status
+  complete_of statuses.Ok cause source sink device = tt
+  complete_of statuses.Usage cause source sink device = tt
+  complete_of statuses.Memory cause source sink device = tt
+  complete_of statuses.TooLong cause source sink device = tt
+  complete_of (statuses.Device unit) cause source sink device = absurd (device unit cause)
+  complete_of statuses.Source cause source sink device = absurd (source cause)
+  complete_of statuses.Sink cause source sink device = absurd (sink cause)
+
+  pub faults_ok : {T E : Type 0} {Cause : E → (old new : Outside) → Type 0} {x : T} → Faults Cause (Ok x) old new → StatusFaults statuses.Ok old new
+  faults_ok f = record { later = f.later; cause = tt; no_fault = f.no_fault; complete = complete_of statuses.Ok tt }
+
+  -- nothing was done
+  pub faults_quiet : (status : Status) → HasStatusCause status old new → IsFaultFree status old new → NeverLess old new → StatusFaults status old new
+  faults_quiet status cause free later = record { later = later; cause = cause; no_fault = free; complete = complete_of status cause }
+
+  pub faults_halted : {T : Type 0} (halt : Halt) → Faults {T = T} HasCause (Err halt) old new → StatusFaults (status_of halt) old new
+  faults_halted Memory f = faults_quiet statuses.Memory tt tt f.later
+  faults_halted (Device unit) f = faults_quiet (statuses.Device unit) f.cause tt f.later
+  faults_halted Source f = faults_quiet statuses.Source f.cause tt f.later
+  faults_halted Sink f = faults_quiet statuses.Sink f.cause tt f.later
+  faults_halted TooLong f = faults_quiet statuses.TooLong tt tt f.later
+
+  pub faults_counting : {T : Type 0} (halt : Halt) → Faults {T = T} HasWriteCause (Err halt) old new → StatusFaults (status_of halt) old new
+  faults_counting Memory f = faults_quiet statuses.Memory tt tt f.later
+  faults_counting (Device unit) f = faults_quiet (statuses.Device unit) f.cause tt f.later
+  faults_counting Source f = absurd f.cause
+  faults_counting Sink f = faults_quiet statuses.Sink f.cause tt f.later
+  faults_counting TooLong f = absurd f.cause
 
 -- nothing is left of devices that were not attached
 pub none_attached : (script : List ℕ) (names : List (List ℕ)) (old : Outside) → ((unit : ℕ) → since old unit ≡ None) → LeavesCounted script names old old

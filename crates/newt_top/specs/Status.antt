@@ -1,6 +1,7 @@
 -- Statuses, their numbers and their causes.
 use Rattle.std.specs.Prelude.{ℕ}
-use Rattle.newt_host.specs.Outside.{Outside, Rose}
+use Rattle.newt_host.specs.Outside.{Outside, NoFault, Rose}
+use Rattle.newt_script_session.specs.Causes.{NeverLess}
 use Rattle.newt_script_session.specs.declared.halt.Halt.{Halt}
 use Rattle.newt_script_session.specs.declared.halt.Halt.TheVariants.{Memory as NoMemory, Device as BadDevice, Source as BadSource, Sink as BadSink, TooLong as LongInput}
 use Rattle.newt_top.specs.declared.status.Status.{Status}
@@ -40,3 +41,17 @@ IsFaultless (Device unit) = ⊥
 IsFaultless Source = ⊥
 IsFaultless Sink = ⊥
 IsFaultless status = Unit {0}
+
+-- with these statuses no fault was counted
+abbrev pub IsFaultFree : Status → (old new : Outside) → Type 0
+IsFaultFree Ok old new = NoFault old new
+IsFaultFree Usage old new = NoFault old new
+IsFaultFree status old new = Unit {0}
+
+-- What a run promises of faults. No count has fallen. A fault is told only where it was counted; with Ok and with Usage none was counted at all; and where none was
+-- counted, none is told.
+pub record StatusFaults (status : Status) (old new : Outside) : Type 0 where
+  pub later : NeverLess old new
+  pub cause : HasStatusCause status old new
+  pub no_fault : IsFaultFree status old new
+  pub complete : ¬ Rose old.in_faults new.in_faults → ¬ Rose old.out_faults new.out_faults → ((unit : ℕ) → ¬ Rose (old.dev_faults unit) (new.dev_faults unit)) → IsFaultless status

@@ -1,5 +1,5 @@
 -- What is made of an input that is taken as a whole.
-use Rattle.std.specs.Prelude.{◌≡◌, ℕ, ◌<◌, List, [], length, Result, Ok, Err}
+use Rattle.std.specs.Prelude.{◌≡◌, ℕ, ◌<◌, Bool, List, [], length, Result, Ok, Err}
 use Rattle.newt_base.specs.declared.Refusal.TheVariants as refusals
 use Rattle.newt_graph.specs.Graph.{RawGraph}
 use Rattle.newt_lit_read.specs.declared.fault.LitFault.{LitFault}
@@ -11,6 +11,8 @@ use Rattle.newt_nsof_read.specs.declared.fault.NsofFault.TheVariants as nsof_fau
 use Rattle.newt_spec_world.specs.Reply as replies
 use Rattle.newt_script.specs.Graphs.{literal_of}
 use Rattle.newt_host.specs.Outside.{Outside, Rose}
+use Rattle.newt_script_session.specs.Calls.{Faults}
+use Rattle.newt_script_session.specs.Causes.{SameDevices}
 use Rattle.newt_script_session.specs.Stream.{WroteSome}
 use Rattle.newt_script_session.specs.declared.halt.Halt.{Halt}
 use Rattle.newt_script_session.specs.declared.halt.Halt.TheVariants.{Memory, Device, Source, Sink, TooLong}
@@ -43,10 +45,15 @@ HaltedWhole conversion limit (Device unit) input old now = ⊥
 HaltedWhole conversion limit Source input old now = now ≡ old
 HaltedWhole conversion limit TooLong input old now = (limit < length input) × (now ≡ old)
 
--- what may halt the reading of all the input: want of memory, too long an input, or the input where it has failed
+-- what may halt the reading of all the input: out of memory, too long an input, or the input where it has failed
 abbrev pub HasReadCause : Halt → (old new : Outside) → Type 0
 HasReadCause Memory old new = Unit {0}
 HasReadCause TooLong old new = Unit {0}
 HasReadCause Source old new = Rose old.in_faults new.in_faults
 HasReadCause Sink old new = ⊥
 HasReadCause (Device unit) old new = ⊥
+
+-- What every call of a conversion promises: no device is other than it was, and no fault is swallowed.
+pub record WholeCall {T : Type 0} (told : Bool) (Cause : Halt → (old new : Outside) → Type 0) (result : Result T Halt) (old new : Outside) : Type 0 where
+  pub devices : SameDevices told old new
+  pub faults : Faults Cause result old new

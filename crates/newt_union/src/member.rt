@@ -8,7 +8,8 @@ ghost use Rattle.newt_index.specs.Kept.{IsProbeOf};
 ghost use Rattle.newt_index.specs.Kept as kept;
 ghost use Rattle.newt_index.specs.Spots.{spot_hit};
 ghost use Rattle.newt_union.specs.Merged as merged;
-ghost use Rattle.newt_union.specs.Candidates.{side, first_in, last_in, after_in, before_in, at_or_after_in, lesser, greater};
+ghost use Rattle.newt_union.specs.Candidates.{side, first_in, last_in, after_in, before_in};
+ghost use Rattle.newt_union.specs.Candidates.{at_or_after_in, lesser, greater};
 ghost use Rattle.newt_union.specs.Candidates as candidates;
 ghost use Rattle.newt_union.specs.Seen.{shown, seen};
 
@@ -29,7 +30,8 @@ pub(crate) struct Member<'a> {
 impl<'a> Member<'a> {
     /// The hit that a pair of the range is.
     fn hit(&self, found: &Option<(&'a Key, Uid)>) -> Option<Hit<'a>>
-        ensures { option_map shown result ≡ option_map (merged.hit (seen self.now)) (option_map kept.shown found.now) }
+        ensures { option_map shown result ≡ option_map (merged.hit (seen self.now))
+            (option_map kept.shown found.now) }
     {
         match found {
             Some((key, uid)) => Some(Hit {
@@ -75,7 +77,8 @@ impl<'a> Member<'a> {
 
     fn pair_after(&self, probe: &mut Probe, spot: &Spot) -> Option<(&'a Key, Uid)>
         requires { IsProbeOf self.now.index.now.spec spot.now.key probe.old }
-        ensures found { option_map kept.shown result ≡ candidates.pair_after (spot_hit spot.now) (seen self.now) }
+        ensures found { option_map kept.shown result
+            ≡ candidates.pair_after (spot_hit spot.now) (seen self.now) }
         ensures kept { probe.new ≡ probe.old }
     {
         match self.side(spot) {
@@ -96,7 +99,8 @@ impl<'a> Member<'a> {
 
     fn pair_before(&self, probe: &mut Probe, spot: &Spot) -> Option<(&'a Key, Uid)>
         requires { IsProbeOf self.now.index.now.spec spot.now.key probe.old }
-        ensures found { option_map kept.shown result ≡ candidates.pair_before (spot_hit spot.now) (seen self.now) }
+        ensures found { option_map kept.shown result
+            ≡ candidates.pair_before (spot_hit spot.now) (seen self.now) }
         ensures kept { probe.new ≡ probe.old }
     {
         match self.side(spot) {
@@ -108,7 +112,8 @@ impl<'a> Member<'a> {
 
     /// Its first hit whose key is not before the probe's.
     pub(crate) fn at_or_after(&self, probe: &mut Probe) -> Option<Hit<'a>>
-        ensures found { (key : keys.Key) → IsProbeOf self.now.index.now.spec key probe.old → option_map shown result ≡ at_or_after_in key (seen self.now) }
+        ensures found { (key : keys.Key) → IsProbeOf self.now.index.now.spec key probe.old
+            → option_map shown result ≡ at_or_after_in key (seen self.now) }
         ensures kept { probe.new ≡ probe.old }
     {
         self.hit(&self.index.at_or_after(probe))
@@ -137,7 +142,8 @@ impl<'a> Member<'a> {
 
     /// The lesser of two hits, the first where they tie.
     pub(crate) fn lesser(&self, a: &Option<Hit<'a>>, b: &Option<Hit<'a>>) -> Option<Hit<'a>>
-        ensures { option_map shown result ≡ lesser (hit_cmp (parts_of self.now.index.now.spec)) (option_map shown a.now) (option_map shown b.now) }
+        ensures { option_map shown result ≡ lesser (hit_cmp (parts_of self.now.index.now.spec))
+            (option_map shown a.now) (option_map shown b.now) }
     {
         match (a, b) {
             (Some(a), Some(b)) => {
@@ -154,7 +160,8 @@ impl<'a> Member<'a> {
 
     /// The greater of two hits, the first where they tie.
     pub(crate) fn greater(&self, a: &Option<Hit<'a>>, b: &Option<Hit<'a>>) -> Option<Hit<'a>>
-        ensures { option_map shown result ≡ greater (hit_cmp (parts_of self.now.index.now.spec)) (option_map shown a.now) (option_map shown b.now) }
+        ensures { option_map shown result ≡ greater (hit_cmp (parts_of self.now.index.now.spec))
+            (option_map shown a.now) (option_map shown b.now) }
     {
         match (a, b) {
             (Some(a), Some(b)) => {

@@ -15,8 +15,9 @@ use newt_base::Sig;
 use newt_index::{Index, Probe, Spot};
 use std::marker::Model;
 
-/// The soups of a union, at most four, one for each mounted store. Their declarations agree in types and orders, which is all that the order of keys
-/// looks at; where they do not, nothing is promised of what a search answers. No call takes memory.
+/// The soups of a union, at most four, one for each mounted store. Their declarations agree in
+/// types and orders, which is all that the order of keys looks at; where they do not, nothing is
+/// promised of what a search answers. No call takes memory.
 #[derive(Drop)]
 pub struct Members<'a> {
     /// A place that is not used is none.
@@ -45,10 +46,12 @@ impl<'a> Members<'a> {
         }
     }
 
-    /// Adds a soup by the signatures of its store and its own, with its range. Fewer than four are there.
+    /// Adds a soup by the signatures of its store and its own, with its range. Fewer than four are
+    /// there.
     pub fn add(&mut self, store: Sig, soup: Sig, index: &'a Index)
         requires { length self.old < 4 }
-        ensures { self.new ≡ self.old ++ record { store = store; soup = soup; range = index.now } ∷ [] }
+        ensures { self.new ≡ self.old ++ record { store = store; soup = soup; range = index.now }
+            ∷ [] }
     {
         // Its contract tells that the range is in order, as those of all members are.
         let _spec = index.spec();
@@ -61,22 +64,26 @@ impl<'a> Members<'a> {
 
     /// The first hit.
     pub fn first(&self) -> Option<Hit<'a>>
-        ensures { (spec : IndexSpec) → AllAgree spec self.now → option_map shown result ≡ first (merged spec self.now) }
+        ensures { (spec : IndexSpec) → AllAgree spec self.now
+            → option_map shown result ≡ first (merged spec self.now) }
     {
         first_of(self.list.as_slice())
     }
 
     /// The last hit.
     pub fn last(&self) -> Option<Hit<'a>>
-        ensures { (spec : IndexSpec) → AllAgree spec self.now → option_map shown result ≡ last (merged spec self.now) }
+        ensures { (spec : IndexSpec) → AllAgree spec self.now
+            → option_map shown result ≡ last (merged spec self.now) }
     {
         last_of(self.list.as_slice())
     }
 
-    /// The first hit after a spot. The probe was made for the spot's key and the members' declarations; its key bytes stay.
+    /// The first hit after a spot. The probe was made for the spot's key and the members'
+    /// declarations; its key bytes stay.
     pub fn after(&self, probe: &mut Probe, spot: &Spot) -> Option<Hit<'a>>
         requires { IsProbeIn self.now spot.now.key probe.old }
-        ensures found { (spec : IndexSpec) → AllAgree spec self.now → option_map shown result ≡ of.after spec self.now (spot_hit spot.now) }
+        ensures found { (spec : IndexSpec) → AllAgree spec self.now
+            → option_map shown result ≡ of.after spec self.now (spot_hit spot.now) }
         ensures kept { probe.new ≡ probe.old }
     {
         after_of(self.list.as_slice(), probe, spot)
@@ -85,15 +92,19 @@ impl<'a> Members<'a> {
     /// The last hit before a spot. The condition is the same.
     pub fn before(&self, probe: &mut Probe, spot: &Spot) -> Option<Hit<'a>>
         requires { IsProbeIn self.now spot.now.key probe.old }
-        ensures found { (spec : IndexSpec) → AllAgree spec self.now → option_map shown result ≡ of.before spec self.now (spot_hit spot.now) }
+        ensures found { (spec : IndexSpec) → AllAgree spec self.now
+            → option_map shown result ≡ of.before spec self.now (spot_hit spot.now) }
         ensures kept { probe.new ≡ probe.old }
     {
         before_of(self.list.as_slice(), probe, spot)
     }
 
-    /// The first hit whose key is not before the probe's. The probe was made for a key of the members' declarations; its key bytes stay.
+    /// The first hit whose key is not before the probe's. The probe was made for a key of the
+    /// members' declarations; its key bytes stay.
     pub fn at_or_after(&self, probe: &mut Probe) -> Option<Hit<'a>>
-        ensures found { (spec : IndexSpec) (key : Key) → AllAgree spec self.now → IsProbeIn self.now key probe.old → option_map shown result ≡ of.at_or_after spec self.now key }
+        ensures found { (spec : IndexSpec) (key : Key) → AllAgree spec self.now
+            → IsProbeIn self.now key probe.old
+            → option_map shown result ≡ of.at_or_after spec self.now key }
         ensures kept { probe.new ≡ probe.old }
     {
         at_or_after_of(self.list.as_slice(), probe)

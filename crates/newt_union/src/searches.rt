@@ -3,7 +3,8 @@ ghost use Rattle.std.specs.Prelude.{◌≡◌, ◌-◌, ◌^◌, None, fold, len
 ghost use Rattle.std.specs.List.{sum_by};
 ghost use Rattle.newt_spec_store.specs.Keys.{Key};
 ghost use Rattle.newt_index.specs.Spots.{spot_hit};
-ghost use Rattle.newt_union.specs.Candidates.{first_in, last_in, after_in, before_in, at_or_after_in, with_lesser, with_greater};
+ghost use Rattle.newt_union.specs.Candidates.{first_in, last_in, after_in, before_in};
+ghost use Rattle.newt_union.specs.Candidates.{at_or_after_in, with_lesser, with_greater};
 ghost use Rattle.newt_union.specs.Seen.{shown, seen_place, HaveProbe};
 
 use crate::hit::Hit;
@@ -12,7 +13,8 @@ use newt_index::{Probe, Spot};
 
 /// The least of the members' first hits.
 pub(crate) fn first_of<'a>(places: &[Option<Member<'a>>]) -> Option<Hit<'a>>
-    ensures { option_map shown result ≡ fold (with_lesser first_in) None (map seen_place places.now) }
+    ensures { option_map shown result ≡ fold (with_lesser first_in) None
+        (map seen_place places.now) }
 {
     let mut least = None;
     for place in places {
@@ -25,7 +27,8 @@ pub(crate) fn first_of<'a>(places: &[Option<Member<'a>>]) -> Option<Hit<'a>>
 
 /// The greatest of the members' last hits.
 pub(crate) fn last_of<'a>(places: &[Option<Member<'a>>]) -> Option<Hit<'a>>
-    ensures { option_map shown result ≡ fold (with_greater last_in) None (map seen_place places.now) }
+    ensures { option_map shown result ≡ fold (with_greater last_in) None
+        (map seen_place places.now) }
 {
     let mut greatest = None;
     for place in places {
@@ -43,7 +46,8 @@ pub(crate) fn after_of<'a>(
     spot: &Spot,
 ) -> Option<Hit<'a>>
     requires { HaveProbe spot.now.key probe.old places.now }
-    ensures found { option_map shown result ≡ fold (with_lesser (after_in (spot_hit spot.now))) None (map seen_place places.now) }
+    ensures found { option_map shown result ≡ fold (with_lesser (after_in (spot_hit spot.now))) None
+        (map seen_place places.now) }
     ensures kept { probe.new ≡ probe.old }
 {
     let mut least = None;
@@ -62,7 +66,8 @@ pub(crate) fn before_of<'a>(
     spot: &Spot,
 ) -> Option<Hit<'a>>
     requires { HaveProbe spot.now.key probe.old places.now }
-    ensures found { option_map shown result ≡ fold (with_greater (before_in (spot_hit spot.now))) None (map seen_place places.now) }
+    ensures found { option_map shown result ≡ fold (with_greater (before_in (spot_hit spot.now)))
+        None (map seen_place places.now) }
     ensures kept { probe.new ≡ probe.old }
 {
     let mut greatest = None;
@@ -79,7 +84,9 @@ pub(crate) fn at_or_after_of<'a>(
     places: &[Option<Member<'a>>],
     probe: &mut Probe,
 ) -> Option<Hit<'a>>
-    ensures found { (key : Key) → HaveProbe key probe.old places.now → option_map shown result ≡ fold (with_lesser (at_or_after_in key)) None (map seen_place places.now) }
+    ensures found { (key : Key) → HaveProbe key probe.old places.now
+        → option_map shown result ≡ fold (with_lesser (at_or_after_in key)) None
+        (map seen_place places.now) }
     ensures kept { probe.new ≡ probe.old }
 {
     let mut least = None;
@@ -93,7 +100,8 @@ pub(crate) fn at_or_after_of<'a>(
 
 /// The number of the members' hits, at most `u64::MAX`.
 pub(crate) fn count_of(places: &[Option<Member<'_>>]) -> u64
-    ensures { result ≡ min (2 ^ 64 - 1) (sum_by (λ p. length (seen_place p).range.pairs) places.now) }
+    ensures { result ≡ min (2 ^ 64 - 1) (sum_by (λ p. length (seen_place p).range.pairs)
+        places.now) }
 {
     let mut count = 0u64;
     for place in places {

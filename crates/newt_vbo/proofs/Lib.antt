@@ -5,3 +5,4 @@ pub mod Exits
 pub mod Patching
 pub mod Putting
 pub mod Committing
+pub mod Calls

@@ -1,11 +1,13 @@
 -- What a patch puts and plans. This project's own.
-use Rattle.std.specs.Prelude.{IsTrue, ◌≡◌, ℕ, ◌+◌, Bool, List, map as map_list, Some}
+use Rattle.std.specs.Prelude.{IsTrue, ◌≡◌, ℕ, ◌+◌, ◌/◌, ◌≤◌, ◌++◌, Bool, List, length, map as map_list, Option, Some, IfSome}
 use Rattle.std.specs.FinMap as map
 use Rattle.newt_host.specs.Moments.{overwritten}
 use Rattle.newt_spec_image.specs.Pages.{Change, Pages, pages}
-use Rattle.newt_spec_image.specs.Objects.{Objects}
+use Rattle.newt_spec_image.specs.Objects.{Extent, Objects}
 use Rattle.newt_pagebook.specs.Batch.{puts_one}
+use Rattle.newt_pagebook.specs.Book.{Numbers, changed_numbers}
 use Rattle.newt_objects.specs.Held.{Held, WouldHold}
+use Rattle.newt_vbo.specs.Ranges.{numbers_met}
 
 -- the numbers that are put
 abbrev pub numbers_put : Change → List ℕ
@@ -21,3 +23,12 @@ pub record PutsPatched (told : Bool) (image : List ℕ) (number from : ℕ) (byt
   pub page : List ℕ
   pub was : IsTrue told → (live : Pages) → pages image ≡ Some live → map.get live number ≡ Some page
   pub put : new ≡ puts_one old number (overwritten page (12 + from) bytes)
+
+-- The pages of a range are put, each once, and no other; no page comes or goes.
+pub record PutsRange (object : Option Extent) (at count : ℕ) (numbers : Numbers)
+    (old new : Change) : Type 0 where
+  pub puts : IfSome object (λ x. numbers_put new ≡ numbers_put old ++ numbers_met x at count)
+  -- at most one more than the pages that so many bytes fill
+  pub few : length new.puts ≤ length old.puts + ((count + 499) / 500 + 1)
+  pub deletes : new.deletes ≡ old.deletes
+  pub same_numbers : changed_numbers new numbers ≡ changed_numbers old numbers

@@ -4,7 +4,8 @@ ghost use Rattle.std.specs.Prelude.{◌≡◌};
 use newt_host::Failed;
 use std::alloc::AllocError;
 
-/// Why the bytes of a range were not read or replaced: it ends past the object's end, want of memory, or a fault of the device.
+/// Why the bytes of a range were not read or replaced: it ends past the object's end, want of
+/// memory, or a fault of the device.
 #[derive(Clone, Copy, Debug, PartialEq, Eq)]
 pub enum RangeFault {
     Range,

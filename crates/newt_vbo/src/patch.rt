@@ -1,16 +1,15 @@
 // Bytes of an object are replaced.
-ghost use Rattle.std.specs.Prelude.{IsTrue, ◌≡◌, ◌+◌, ◌*◌, ◌/◌, ◌<◌, ◌≤◌, ◌++◌, true, false, length, Some, IsSome, IfSome, OnOk, IsErrOf};
+ghost use Rattle.std.specs.Prelude.{IsTrue, ◌≡◌, ◌+◌, ◌<◌, ◌≤◌, true, false, length, Some, IsSome};
+ghost use Rattle.std.specs.Prelude.{OnOk, IsErrOf};
 ghost use Rattle.std.specs.FinSet as set;
 ghost use Rattle.newt_host.specs.Moments.{image, overwritten};
-ghost use Rattle.newt_host.specs.Outside.{Touches, Spends, Rose};
 ghost use Rattle.newt_spec_image.specs.Pages.{Pages, pages};
 ghost use Rattle.newt_spec_image.specs.Objects.{Extent};
 ghost use Rattle.newt_pagebook.specs.Batch.{names};
-ghost use Rattle.newt_pagebook.specs.Book.{changed_numbers};
 ghost use Rattle.newt_objects.specs.Extents.{IsUnnamed};
 ghost use Rattle.newt_objects.specs.Held.{held, AreOf};
-ghost use Rattle.newt_vbo.specs.Ranges.{parts_met as parts_of, numbers_met};
-ghost use Rattle.newt_vbo.specs.Patches.{numbers_put, WouldPatch, PutsPatched};
+ghost use Rattle.newt_vbo.specs.Calls.{ReadsPart, ReadsRange};
+ghost use Rattle.newt_vbo.specs.Patches.{WouldPatch, PutsPatched, PutsRange};
 
 use crate::RangeFault;
 use crate::range::{check_range, parts_met, piece_in};
@@ -43,24 +42,23 @@ fn put_patched<P: PageBook, H: Host>(
     requires inside { from + length bytes.now ≤ 500 }
     requires small { number < 65536 }
     requires new { names batch.old number ≡ false }
-    ensures put { OnOk result (PutsPatched H.told (image (P.place book.old) (H.outside host.old).now) number from bytes.now batch.old batch.new) }
-    ensures stands { P.stands H.told book.new (H.outside host.new) }
-    ensures same { (P.place book.new ≡ P.place book.old) × (P.numbers book.new ≡ P.numbers book.old) × (P.spare book.new ≡ P.spare book.old) }
-    ensures moment { (H.outside host.new).now ≡ (H.outside host.old).now }
-    ensures alone { Touches (P.place book.old) (H.outside host.old) (H.outside host.new) }
-    ensures costs { Spends (P.place book.old) 0 512 (H.outside host.old) (H.outside host.new) }
-    ensures no_other { IsErrOf result RangeFault.Range → ⊥ }
-    ensures cause { IsErrOf result RangeFault.Device → Rose ((H.outside host.old).dev_faults (P.place book.old)) ((H.outside host.new).dev_faults (P.place book.old)) }
+    ensures put { OnOk result (PutsPatched H.told
+        (image (P.place book.old) (H.outside host.old).now) number from bytes.now
+        batch.old batch.new) }
+    ensures reads { ReadsPart P.place P.numbers P.spare P.stands H.told book.old book.new
+        (H.outside host.old) (H.outside host.new) result }
 {
     book.load(host, number)?;
     batch.put(number, &patched(book.page(), from, bytes))?;
     Ok(())
 }
 
-/// Plans that these bytes stand in an object in place of those from a place on, and takes it into the batch: for each part that the bytes lie in, its page
-/// is loaded once and put under its old number. That is at most one page more than the pages that the bytes fill. The object stays where it lies, so there
-/// is nothing for `adopt` to take over. Range where the bytes end past the object's end, and then nothing is planned or loaded. After want of memory or a
-/// fault of the device the batch is spent.
+/// Plans that these bytes stand in an object in place of those from a place on, and takes it into
+/// the batch: for each part that the bytes lie in, its page is loaded once and put under its old
+/// number. That is at most one page more than the pages that the bytes fill. The object stays where
+/// it lies, so there is nothing for `adopt` to take over. Range where the bytes end past the
+/// object's end, and then nothing is planned or loaded. After out of memory or a fault of the
+/// device the batch is spent.
 pub fn plan_patch<P: PageBook, H: Host>(
     host: &mut H,
     book: &mut P,
@@ -73,21 +71,17 @@ pub fn plan_patch<P: PageBook, H: Host>(
     requires there { IsSome (held objects.now id) }
     requires apart { (x : Extent) → held objects.now id ≡ Some x → IsUnnamed x batch.old }
     requires stands { P.stands H.told book.old (H.outside host.old) }
-    requires objects { AreOf H.told (held objects.now) (P.numbers book.old) (P.place book.old) (H.outside host.old) }
-    ensures patched { IsTrue H.told → (live : Pages) → pages (image (P.place book.old) (H.outside host.old).now) ≡ Some live → OnOk result (WouldPatch objects.now id at bytes.now batch.old batch.new live) }
-    ensures puts { OnOk result (IfSome (held objects.now id) (λ x. numbers_put batch.new ≡ numbers_put batch.old ++ numbers_met x at (length bytes.now))) }
-    ensures few { OnOk result (length batch.new.puts ≤ length batch.old.puts + ((length bytes.now + 499) / 500 + 1)) }
-    ensures deletes { OnOk result (batch.new.deletes ≡ batch.old.deletes) }
-    ensures numbers { OnOk result (changed_numbers batch.new (P.numbers book.old) ≡ changed_numbers batch.old (P.numbers book.old)) }
-    ensures range { IsErrOf result RangeFault.Range → IfSome (held objects.now id) (λ x. x.length < at + length bytes.now) }
-    ensures past { IfSome (held objects.now id) (λ x. x.length < at + length bytes.now → IsErrOf result RangeFault.Range) }
-    ensures unchanged { IsErrOf result RangeFault.Range → (book.new ≡ book.old) × (host.new ≡ host.old) × (batch.new ≡ batch.old) }
-    ensures stands { P.stands H.told book.new (H.outside host.new) }
-    ensures same { (P.place book.new ≡ P.place book.old) × (P.numbers book.new ≡ P.numbers book.old) × (P.spare book.new ≡ P.spare book.old) }
-    ensures moment { (H.outside host.new).now ≡ (H.outside host.old).now }
-    ensures alone { Touches (P.place book.old) (H.outside host.old) (H.outside host.new) }
-    ensures costs { Spends (P.place book.old) 0 (512 * parts_of at (length bytes.now)) (H.outside host.old) (H.outside host.new) }
-    ensures cause { IsErrOf result RangeFault.Device → Rose ((H.outside host.old).dev_faults (P.place book.old)) ((H.outside host.new).dev_faults (P.place book.old)) }
+    requires objects { AreOf H.told (held objects.now) (P.numbers book.old) (P.place book.old)
+        (H.outside host.old) }
+    ensures patched { IsTrue H.told → (live : Pages) →
+        pages (image (P.place book.old) (H.outside host.old).now) ≡ Some live →
+        OnOk result (WouldPatch objects.now id at bytes.now batch.old batch.new live) }
+    ensures puts { OnOk result (PutsRange (held objects.now id) at (length bytes.now)
+        (P.numbers book.old) batch.old batch.new) }
+    ensures unchanged { IsErrOf result RangeFault.Range →
+        (book.new ≡ book.old) × (host.new ≡ host.old) × (batch.new ≡ batch.old) }
+    ensures reads { ReadsRange P.place P.numbers P.spare P.stands H.told (held objects.now id)
+        at (length bytes.now) book.old book.new (H.outside host.old) (H.outside host.new) result }
 {
     check_range(objects, id, at, bytes.len())?;
     let count = bytes.len() as u32;

@@ -1,5 +1,6 @@
 // Where the bytes of a range lie.
-ghost use Rattle.std.specs.Prelude.{◌≡◌, ◌+◌, ◌*◌, ◌/◌, ◌<◌, ◌≤◌, ◌^◌, IsSome, IfSome, OnOk, OnErr, IfErr};
+ghost use Rattle.std.specs.Prelude.{◌≡◌, ◌+◌, ◌*◌, ◌/◌, ◌<◌, ◌≤◌, ◌^◌, IsSome, IfSome, OnOk, OnErr};
+ghost use Rattle.std.specs.Prelude.{IfErr};
 ghost use Rattle.newt_objects.specs.Held.{held};
 ghost use Rattle.newt_vbo.specs.Ranges.{parts_met as parts_of, IsPiece};
 
@@ -40,7 +41,8 @@ pub(crate) fn parts_met(at: u32, count: u32) -> u32
     (at + count - 1) / 500 - at / 500 + 1
 }
 
-/// The bytes of a range that lie in one part: so many, from a place in the part on, which are those of the range from `start` on.
+/// The bytes of a range that lie in one part: so many, from a place in the part on, which are those
+/// of the range from `start` on.
 #[derive(Clone, Copy)]
 pub(crate) struct Piece {
     pub(crate) from: usize,

@@ -1,12 +1,12 @@
 // Bytes of an object are read.
-ghost use Rattle.std.specs.Prelude.{IsTrue, ◌≡◌, ◌+◌, ◌*◌, ◌<◌, ◌≤◌, ◌++◌, true, length, Some, IsSome, IfSome, IfOk, OnOk, IsErrOf};
+ghost use Rattle.std.specs.Prelude.{IsTrue, ◌≡◌, ◌+◌, ◌≤◌, ◌++◌, true, length, Some, IsSome};
+ghost use Rattle.std.specs.Prelude.{IfSome, IfOk, OnOk, IsErrOf};
 ghost use Rattle.std.specs.FinSet as set;
 ghost use Rattle.newt_host.specs.Moments.{image, bytes_from};
-ghost use Rattle.newt_host.specs.Outside.{Touches, Spends, Rose};
 ghost use Rattle.newt_spec_image.specs.Pages.{Pages, pages, page_data};
 ghost use Rattle.newt_spec_image.specs.Objects.{joined, data_at};
 ghost use Rattle.newt_objects.specs.Held.{held, AreOf};
-ghost use Rattle.newt_vbo.specs.Ranges.{parts_met as parts_of};
+ghost use Rattle.newt_vbo.specs.Calls.{ReadsPart, ReadsRange};
 
 use crate::RangeFault;
 use crate::range::{Piece, check_range, parts_met, piece_in};
@@ -36,23 +36,22 @@ fn append_piece<P: PageBook, H: Host>(
     requires live { set.contains (P.numbers book.old) number ≡ true }
     requires stands { P.stands H.told book.old (H.outside host.old) }
     requires inside { piece.from + piece.count ≤ 500 }
-    ensures appended { IsTrue H.told → (live : Pages) → pages (image (P.place book.old) (H.outside host.old).now) ≡ Some live → OnOk result (bytes.new.items ≡ bytes.old.items ++ bytes_from piece.from piece.count (data_at live number)) }
+    ensures appended { IsTrue H.told → (live : Pages) →
+        pages (image (P.place book.old) (H.outside host.old).now) ≡ Some live →
+        OnOk result (bytes.new.items ≡ bytes.old.items
+        ++ bytes_from piece.from piece.count (data_at live number)) }
     ensures size { OnOk result (length bytes.new.items ≡ length bytes.old.items + piece.count) }
-    ensures stands { P.stands H.told book.new (H.outside host.new) }
-    ensures same { (P.place book.new ≡ P.place book.old) × (P.numbers book.new ≡ P.numbers book.old) × (P.spare book.new ≡ P.spare book.old) }
-    ensures moment { (H.outside host.new).now ≡ (H.outside host.old).now }
-    ensures alone { Touches (P.place book.old) (H.outside host.old) (H.outside host.new) }
-    ensures costs { Spends (P.place book.old) 0 512 (H.outside host.old) (H.outside host.new) }
-    ensures no_other { IsErrOf result RangeFault.Range → ⊥ }
-    ensures cause { IsErrOf result RangeFault.Device → Rose ((H.outside host.old).dev_faults (P.place book.old)) ((H.outside host.new).dev_faults (P.place book.old)) }
+    ensures reads { ReadsPart P.place P.numbers P.spare P.stands H.told book.old book.new
+        (H.outside host.old) (H.outside host.new) result }
 {
     book.load(host, number)?;
     bytes.extend_from_slice(bytes_in(book.page(), piece.from, piece.count))?;
     Ok(())
 }
 
-/// So many bytes of an object, from a place on. Each page of the parts that they lie in is loaded once, and no other. Range where they end past the
-/// object's end, and then nothing is loaded. The book stays as it is, whatever the answer, but for the page at hand.
+/// So many bytes of an object, from a place on. Each page of the parts that they lie in is loaded
+/// once, and no other. Range where they end past the object's end, and then nothing is loaded. The
+/// book stays as it is, whatever the answer, but for the page at hand.
 pub fn read_range<P: PageBook, H: Host>(
     alloc: Global,
     host: &mut H,
@@ -64,18 +63,16 @@ pub fn read_range<P: PageBook, H: Host>(
 ) -> Result<Vec<u8>, RangeFault>
     requires there { IsSome (held objects.now id) }
     requires stands { P.stands H.told book.old (H.outside host.old) }
-    requires objects { AreOf H.told (held objects.now) (P.numbers book.old) (P.place book.old) (H.outside host.old) }
-    ensures bytes { IfOk result (λ bytes. IsTrue H.told → (live : Pages) → pages (image (P.place book.old) (H.outside host.old).now) ≡ Some live → IfSome (held objects.now id) (λ x. bytes.items ≡ bytes_from at len (joined live x))) }
+    requires objects { AreOf H.told (held objects.now) (P.numbers book.old) (P.place book.old)
+        (H.outside host.old) }
+    ensures bytes { IfOk result (λ bytes. IsTrue H.told → (live : Pages) →
+        pages (image (P.place book.old) (H.outside host.old).now) ≡ Some live →
+        IfSome (held objects.now id) (λ x. bytes.items ≡ bytes_from at len (joined live x))) }
     ensures size { IfOk result (λ bytes. length bytes.items ≡ len) }
-    ensures range { IsErrOf result RangeFault.Range → IfSome (held objects.now id) (λ x. x.length < at + len) }
-    ensures past { IfSome (held objects.now id) (λ x. x.length < at + len → IsErrOf result RangeFault.Range) }
-    ensures unchanged { IsErrOf result RangeFault.Range → (book.new ≡ book.old) × (host.new ≡ host.old) }
-    ensures stands { P.stands H.told book.new (H.outside host.new) }
-    ensures same { (P.place book.new ≡ P.place book.old) × (P.numbers book.new ≡ P.numbers book.old) × (P.spare book.new ≡ P.spare book.old) }
-    ensures moment { (H.outside host.new).now ≡ (H.outside host.old).now }
-    ensures alone { Touches (P.place book.old) (H.outside host.old) (H.outside host.new) }
-    ensures costs { Spends (P.place book.old) 0 (512 * parts_of at len) (H.outside host.old) (H.outside host.new) }
-    ensures cause { IsErrOf result RangeFault.Device → Rose ((H.outside host.old).dev_faults (P.place book.old)) ((H.outside host.new).dev_faults (P.place book.old)) }
+    ensures unchanged { IsErrOf result RangeFault.Range →
+        (book.new ≡ book.old) × (host.new ≡ host.old) }
+    ensures reads { ReadsRange P.place P.numbers P.spare P.stands H.told (held objects.now id)
+        at len book.old book.new (H.outside host.old) (H.outside host.new) result }
 {
     check_range(objects, id, at, len as usize)?;
     let first = at / 500;

@@ -11,12 +11,12 @@ use Rattle.newt_spec_store.specs.Store.{Entry, entry_of}
 use Rattle.newt_store_change.specs.Entries.{ReadsEntry}
 use Rattle.newt_base.specs.Refusals.{first_of}
 use Rattle.newt_host.specs.Moments.{Moment, Always}
-use Rattle.newt_host.proofs.Outside.{OnDevices-append}
+use Rattle.newt_host.proofs.Outside.{NoFault-append, OnDevices-append}
 use Rattle.newt_spec_store.specs.Store.{change_soup, add_entry}
 use Rattle.newt_spec_world.specs.World.{World, store_on_unit}
 use Rattle.newt_store_change.specs.Faults.{Does}
 use Rattle.newt_laws_answers.specs.Answering.{Answering}
-use Rattle.newt_laws_answers.specs.Spoken.{answer_now}
+use Rattle.newt_spec_world.specs.Answer.{answer}
 use Rattle.newt_laws_answers.specs.Tests.{add_tests, with_added}
 use Rattle.newt_laws_answers.specs.There.{OnUnit}
 use Rattle.newt_laws_answers.proofs.Changes.{add-said}
@@ -24,7 +24,7 @@ use Rattle.newt_laws_answers.proofs.Copies.{copy-not-found}
 use Rattle.newt_laws_answers.proofs.Refusals.{added-uid}
 use Rattle.newt_engine_commands.proofs.Commands.{copy-missing, copy-answers, copy-makes, read-found, entry-fits}
 use Rattle.newt_engine_commands.proofs.Costing.{copy-costs}
-use Rattle.newt_engine_commands.proofs.Obeying.{cause-after, handed, none-refused, refused-obeys, read-obeys}
+use Rattle.newt_engine_units.proofs.Obeying.{cause-after, handed-ends, none-refused, read-obeys, refused-obeys}
 use Rattle.newt_engine_commands.proofs.Said.{said-made, said-moments, said-costs}
 use Rattle.newt_engine_units.proofs.Settings.{Setting, is-err, both-refused, has-soup}
 use Rattle.newt_engine_commands.proofs.copies.copy.Given.{Over}
@@ -51,12 +51,12 @@ returns-in_err-graph g c =
     let at = begins g c.requires in
     let w = world_of g.C.Card.reads c.args.units.now (g.H.Host.outside c.args.host.now) in
     let e = c.in_err-graph.ensures in
-    read-obeys at (command.Copy c.args.unit c.args.name.now c.args.uid c.args.to c.args.target.now) (λ n. Reply.number n) e.stands e.moment e.programs_nothing e.alone _ (handed _ _ _ (err_from_is_err_and c.from_residual-in_err-graph.result c.from_residual-in_err-graph.ensures.1) e.cause)
+    read-obeys at (command.Copy c.args.unit c.args.name.now c.args.uid c.args.to c.args.target.now) (λ n. Reply.number n) e.looks _ (handed-ends _ (err_from_is_err_and c.from_residual-in_err-graph.result c.from_residual-in_err-graph.ensures.1) e.ends)
     (λ t.
     let h = has-soup at t c.args.unit c.args.name.now c.in_ok-soup.soup c.in_ok-soup.ensures.0 in
     let k = has-soup at t c.args.to c.args.target.now c.in_ok-soup.into c.in_ok-soup.ensures.1 in
     copy-missing w _ c.args.unit h.blocks h.store c.args.name.now h.soup c.args.uid h.on h.named refl c.args.to k.blocks k.store c.args.target.now k.soup k.on k.named k.name_is _
-    (e.world t) c.in_err-graph.field-0.0 (subst (λ p. ReadsEntry (option_and_then (entry_of c.args.uid) p) (Err c.in_err-graph.field-0.0)) h.by_sig (e.read t h.blocks h.store h.on)) _ (is-err _ _ (err_from_is_err_and c.from_residual-in_err-graph.result c.from_residual-in_err-graph.ensures.1)))
+    (e.looks.world t) c.in_err-graph.field-0.0 (subst (λ p. ReadsEntry (option_and_then (entry_of c.args.uid) p) (Err c.in_err-graph.field-0.0)) h.by_sig (e.read t h.blocks h.store h.on)) _ (is-err _ _ (err_from_is_err_and c.from_residual-in_err-graph.result c.from_residual-in_err-graph.ensures.1)))
 
 pub returns : goal.returns
 returns g c =
@@ -72,7 +72,7 @@ returns g c =
           let k = has-soup at t c.args.to c.args.target.now c.in_ok-soup.into c.in_ok-soup.ensures.1 in
           let x : Entry = record { uid = c.in_ok-graph.field-0.uid; time = c.in_ok-graph.field-0.time; graph = c.in_ok-graph.field-0.graph } in
           let found : entry_of c.args.uid h.soup ≡ Some x = read-found c.in_ok-soup.soup c.args.uid h.store h.soup c.in_ok-graph.field-0 c.in_ok-graph.field-0.graph refl h.by_sig (c.in_ok-graph.ensures.read t h.blocks h.store h.on) in
-          let same = read.world t in
+          let same = read.looks.world t in
           let there = subst (λ y. OnUnit y c.args.to k.blocks k.store) (sym same) k.on in
           let fits = entry-fits h.store c.args.name.now h.soup c.args.uid x h.formed h.named found in
           copy-answers w _ c.args.unit h.blocks h.store c.args.name.now h.soup c.args.uid h.on h.named refl c.args.to k.blocks k.store c.args.target.now k.soup k.on k.named k.name_is x found fits _
@@ -83,11 +83,11 @@ returns g c =
           let k = has-soup at t c.args.to c.args.target.now c.in_ok-soup.into c.in_ok-soup.ensures.1 in
           let x : Entry = record { uid = c.in_ok-graph.field-0.uid; time = c.in_ok-graph.field-0.time; graph = c.in_ok-graph.field-0.graph } in
           let found : entry_of c.args.uid h.soup ≡ Some x = read-found c.in_ok-soup.soup c.args.uid h.store h.soup c.in_ok-graph.field-0 c.in_ok-graph.field-0.graph refl h.by_sig (c.in_ok-graph.ensures.read t h.blocks h.store h.on) in
-          let same = read.world t in
+          let same = read.looks.world t in
           let there = subst (λ y. OnUnit y c.args.to k.blocks k.store) (sym same) k.on in
           let fits = entry-fits h.store c.args.name.now h.soup c.args.uid x h.formed h.named found in
-          let v = (answer_now w (command.Copy c.args.unit c.args.name.now c.args.uid c.args.to c.args.target.now)).0 in
-          subst (λ (m : Moment). Always (Answering g.C.Card.reads w v m) m (o c.change.new.host).now) read.moment
+          let v = (answer w (command.Copy c.args.unit c.args.name.now c.args.uid c.args.to c.args.target.now)).0 in
+          subst (λ (m : Moment). Always (Answering g.C.Card.reads w v m) m (o c.change.new.host).now) read.looks.moment
           (subst (λ (y : World). Always (Answering g.C.Card.reads y v (o c.read_entry.new.host).now) (o c.read_entry.new.host).now (o c.change.new.host).now) same
           (said-moments e t there (add-said k.blocks c.read_entry.new.self.minute c.in_ok-soup.into k.store k.soup k.by_sig c.in_ok-graph.field-0.graph) v
           (λ tests. subst (λ (y : World). store_on_unit v c.args.to ≡ Some (change_soup k.soup.name (add_entry y.minute x.graph) k.store)) (sym same)
@@ -98,9 +98,10 @@ returns g c =
           let k = has-soup at t c.args.to c.args.target.now c.in_ok-soup.into c.in_ok-soup.ensures.1 in
           let x : Entry = record { uid = c.in_ok-graph.field-0.uid; time = c.in_ok-graph.field-0.time; graph = c.in_ok-graph.field-0.graph } in
           let found : entry_of c.args.uid h.soup ≡ Some x = read-found c.in_ok-soup.soup c.args.uid h.store h.soup c.in_ok-graph.field-0 c.in_ok-graph.field-0.graph refl h.by_sig (c.in_ok-graph.ensures.read t h.blocks h.store h.on) in
-          let same = read.world t in
+          let same = read.looks.world t in
           let there = subst (λ y. OnUnit y c.args.to k.blocks k.store) (sym same) k.on in
-          copy-costs h c.args.uid x found _ same read.moment (read.programs_nothing t) k (said-costs e t there (add-said k.blocks c.read_entry.new.self.minute c.in_ok-soup.into k.store k.soup k.by_sig c.in_ok-graph.field-0.graph));
-      alone = OnDevices-append read.alone e.alone;
-      cause = cause-after _ _ read.alone e.cause;
+          copy-costs h c.args.uid x found _ same read.looks.untouched k (said-costs e t there (add-said k.blocks c.read_entry.new.self.minute c.in_ok-soup.into k.store k.soup k.by_sig c.in_ok-graph.field-0.graph));
+      alone = OnDevices-append read.looks.alone e.alone;
+      cause = cause-after _ _ read.looks.alone e.cause;
+      no_fault = λ goes. NoFault-append (read.ends.no_fault tt) (e.no_fault goes);
     }

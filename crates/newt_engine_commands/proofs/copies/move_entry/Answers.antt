@@ -9,12 +9,12 @@ use Rattle.std.proofs.lemmas.Grind.{common_steps}
 use Rattle.newt_host.specs.Moments.{Always}
 use Rattle.newt_laws_answers.specs.Answering.{Answering}
 use Rattle.newt_laws_answers.specs.Bounds.{most_programmed}
-use Rattle.newt_laws_answers.specs.Spoken.{answer_now}
+use Rattle.newt_spec_world.specs.Answer.{answer}
 use Rattle.newt_laws_answers.proofs.Copies.{move-not-found}
 use Rattle.newt_engine_card.specs.Bounds.{Costs}
 use Rattle.newt_engine_units.specs.Answers.{Answers}
 use Rattle.newt_engine_units.specs.Found.{HasSoup}
-use Rattle.newt_engine_commands.proofs.Obeying.{none-refused, refused-obeys}
+use Rattle.newt_engine_units.proofs.Obeying.{none-refused, refused-obeys}
 use Rattle.newt_engine_units.proofs.Settings.{Setting, both-refused, has-soup}
 use Rattle.newt_engine_commands.proofs.copies.move_entry.Given.{Over}
 use Rattle.newt_engine_commands.proofs.copies.move_entry.Goals as goal
@@ -54,7 +54,7 @@ returns-then-eq g c =
           let h = has-soup at t c.args.unit c.args.name.now c.in_ok-soup.soup c.in_ok-soup.ensures.0 in
           let k = has-soup at t c.args.to c.args.target.now c.in_ok-soup.into c.in_ok-soup.ensures.1 in
           let there = subst (λ (n : ℕ). HasSoup w n c.args.target.now c.in_ok-soup.into) (sym same) k in
-          subst (λ (n : ℕ). Always (Answering g.C.Card.reads w (answer_now w (command.Move c.args.unit c.args.name.now c.args.uid n c.args.target.now)).0 (o c.args.host.now).now) (o c.args.host.now).now (o c.move_inside.new.host).now) same
+          subst (λ (n : ℕ). Always (Answering g.C.Card.reads w (answer w (command.Move c.args.unit c.args.name.now c.args.uid n c.args.target.now)).0 (o c.args.host.now).now) (o c.args.host.now).now (o c.move_inside.new.host).now) same
           (e.moments t c.args.name.now c.args.target.now h there);
       costs = λ t.
           let h = has-soup at t c.args.unit c.args.name.now c.in_ok-soup.soup c.in_ok-soup.ensures.0 in
@@ -62,8 +62,9 @@ returns-then-eq g c =
           let there = subst (λ (n : ℕ). HasSoup w n c.args.target.now c.in_ok-soup.into) (sym same) k in
           subst (λ (n : ℕ). Costs (most_programmed w (command.Move c.args.unit c.args.name.now c.args.uid n c.args.target.now)) c.move_inside.result (o c.args.host.now) (o c.move_inside.new.host)) same
           (e.costs t c.args.name.now c.args.target.now h there);
-      alone = e.alone;
-      cause = e.cause;
+      alone = e.ends.alone;
+      cause = e.ends.cause;
+      no_fault = e.ends.no_fault;
     }
 
 pub returns-else-eq : goal.returns-else-eq
@@ -84,6 +85,7 @@ returns-else-eq g c =
           let h = has-soup at t c.args.unit c.args.name.now c.in_ok-soup.soup c.in_ok-soup.ensures.0 in
           let k = has-soup at t c.args.to c.args.target.now c.in_ok-soup.into c.in_ok-soup.ensures.1 in
           e.costs t c.args.name.now c.args.target.now h k;
-      alone = e.alone;
-      cause = e.cause;
+      alone = e.ends.alone;
+      cause = e.ends.cause;
+      no_fault = e.ends.no_fault;
     }

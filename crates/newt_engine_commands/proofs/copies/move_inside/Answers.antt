@@ -1,9 +1,10 @@
 -- The entry is looked for, and its card moves it.
-use Rattle.std.proofs.Common.{refl, sym, ◌≡◌, ◌∙◌}
+use Rattle.std.proofs.Common.{refl, sym, ℕ, ◌≡◌, ◌∙◌}
 use Rattle.newt_engine_units.specs.Stands.{Stands, world_of}
 use Rattle.newt_engine_commands.proofs.Moves.{inside-answers, inside-by-sig, inside-makes, inside-missing}
 use Rattle.newt_engine_commands.proofs.Costing.{inside-costs}
 use Rattle.newt_engine_units.proofs.Costs.{idle-costs}
+use Rattle.newt_engine_units.proofs.Obeying.{ends-change, none-ends}
 use Rattle.newt_engine_units.proofs.Settings.{Setting, still, stand-told, has-entry}
 use Rattle.newt_laws_answers.proofs.Changes.{move-said}
 use Rattle.newt_laws_answers.proofs.Refusals.{moved-uid}
@@ -42,6 +43,12 @@ returns-then-has_entry-clause-costs g c t name target h k =
     let w = world_of g.C.Card.reads c.args.units.now (g.H.Host.outside c.args.host.now) in
     let x = has-entry at t c.args.unit name c.args.soup c.args.uid h (sym (c.if-has_entry.ensures (g.H.Host.outside c.args.host.now) at.eight (stand-told at t) h.blocks h.store h.on)) in
     inside-costs x k (said-costs c.change.ensures t x.of.on (move-said x.of.blocks w.minute c.args.soup x.of.store x.of.soup x.of.by_sig c.args.uid x.entry x.found c.args.into k.soup (inside-by-sig w c.args.unit name target c.args.soup c.args.into c.args.uid x k)))
+
+pub returns-then-has_entry-clause-ends : goal.returns-then-has_entry-clause-ends
+returns-then-has_entry-clause-ends g c = ends-change c.change.ensures
+
+pub returns-else-has_entry-clause-ends : goal.returns-else-has_entry-clause-ends
+returns-else-has_entry-clause-ends g c = none-ends {T = ℕ} _ tt
 
 pub returns-else-has_entry-clause-answered : goal.returns-else-has_entry-clause-answered
 returns-else-has_entry-clause-answered g c t name target h k =

@@ -11,7 +11,7 @@ use Rattle.newt_laws_answers.proofs.Changes.{add-said}
 use Rattle.newt_laws_answers.proofs.Refusals.{added-uid}
 use Rattle.newt_engine_commands.proofs.Commands.{add-answers, add-makes, addx-answers, addx-makes, addu-answers, addu-makes}
 use Rattle.newt_engine_commands.proofs.Costing.{add-costs, addx-costs, addu-costs}
-use Rattle.newt_engine_commands.proofs.Obeying.{none-refused, refused-obeys}
+use Rattle.newt_engine_units.proofs.Obeying.{none-refused, refused-obeys}
 use Rattle.newt_engine_commands.proofs.Said.{said-made, said-moments, said-costs}
 use Rattle.newt_engine_units.proofs.Settings.{Setting, unit-there, soup-refused, has-soup}
 use Rattle.newt_engine_commands.proofs.entries.add.Given.{Over}
@@ -51,6 +51,7 @@ returns-clause-obeyed g c =
           add-costs h c.args.graph (said-costs e t h.on (add-said h.blocks w.minute c.in_ok-soup.soup h.store h.soup h.by_sig c.args.graph));
       alone = e.alone;
       cause = e.cause;
+      no_fault = e.no_fault;
     }
 
 pub returns-in_err-soup-clause-as_stream : goal.returns-in_err-soup-clause-as_stream
@@ -78,6 +79,7 @@ returns-clause-as_stream g c =
           addx-costs h c.args.graph (said-costs e t h.on (add-said h.blocks w.minute c.in_ok-soup.soup h.store h.soup h.by_sig c.args.graph));
       alone = e.alone;
       cause = e.cause;
+      no_fault = e.no_fault;
     }
 
 pub returns-in_err-soup-clause-to_default : goal.returns-in_err-soup-clause-to_default
@@ -106,4 +108,5 @@ returns-clause-to_default g c d =
           addu-costs h c.args.graph (ap (λ o. unwrap_or o 8) d) (said-costs e t h.on (add-said h.blocks w.minute c.in_ok-soup.soup h.store h.soup h.by_sig c.args.graph));
       alone = e.alone;
       cause = e.cause;
+      no_fault = e.no_fault;
     }

@@ -6,7 +6,7 @@ use Rattle.newt_spec_world.specs.Reply.{Reply}
 use Rattle.newt_spec_world.specs.declared.command.Command.TheVariants as command
 use Rattle.newt_spec_world.specs.World.{mounted_store}
 use Rattle.newt_laws_answers.proofs.Adds.{addu-no-default}
-use Rattle.newt_engine_commands.proofs.Obeying.{fault-obeys, still-obeys}
+use Rattle.newt_engine_units.proofs.Obeying.{fault-obeys, still-obeys}
 use Rattle.newt_engine_units.proofs.Costs.{costs-of}
 use Rattle.newt_engine_units.proofs.Settings.{Setting}
 use Rattle.newt_engine_commands.proofs.entries.add_to_default.Given.{Over}
@@ -31,6 +31,7 @@ returns-in-Ok g c =
       costs = λ t. costs-of (e.costs t) (λ goes. tt);
       alone = e.alone;
       cause = tt;
+      no_fault = λ goes. e.no_fault tt;
     }
 
 pub returns-in-Err : goal.returns-in-Err

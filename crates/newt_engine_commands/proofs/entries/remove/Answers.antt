@@ -8,7 +8,7 @@ use Rattle.newt_laws_answers.proofs.Changes.{remove-said}
 use Rattle.newt_laws_answers.proofs.Entries.{remove-refused}
 use Rattle.newt_engine_commands.proofs.Commands.{remove-answers, remove-makes}
 use Rattle.newt_engine_commands.proofs.Costing.{remove-costs}
-use Rattle.newt_engine_commands.proofs.Obeying.{none-only, refused-obeys}
+use Rattle.newt_engine_units.proofs.Obeying.{none-only, refused-obeys}
 use Rattle.newt_engine_commands.proofs.Said.{said-done, said-moments, said-costs, done-goes, done-cause, done-costs}
 use Rattle.newt_engine_units.proofs.Settings.{Setting, stand-told, entry-refused}
 use Rattle.newt_engine_commands.proofs.entries.remove.Given.{Over}
@@ -54,4 +54,5 @@ returns g c =
           remove-costs k (done-costs c.change.result is (said-costs e t h.on (remove-said h.blocks w.minute c.in_ok-soup.soup h.store h.soup h.by_sig c.args.uid k.entry k.found)));
       alone = e.alone;
       cause = done-cause c.change.result is _ e.cause;
+      no_fault = λ goes. e.no_fault (done-goes c.change.result is goes);
     }

@@ -10,7 +10,7 @@ use Rattle.newt_laws_answers.proofs.Changes.{unindex-said}
 use Rattle.newt_laws_answers.proofs.Declares.{unindex-not-found, unindex-missing}
 use Rattle.newt_engine_commands.proofs.Declaring.{unindex-answers, unindex-makes}
 use Rattle.newt_engine_commands.proofs.Costing.{unindex-costs}
-use Rattle.newt_engine_commands.proofs.Obeying.{none-refused, refused-obeys, still-obeys}
+use Rattle.newt_engine_units.proofs.Obeying.{none-refused, refused-obeys, still-obeys}
 use Rattle.newt_engine_commands.proofs.Said.{said-done, said-moments, said-costs, done-goes, done-cause, done-costs}
 use Rattle.newt_engine_units.proofs.Settings.{Setting, stand-told, soup-refused, has-soup}
 use Rattle.newt_engine_commands.proofs.indexing.unindex.Given.{Over}
@@ -59,4 +59,5 @@ returns g c =
           unindex-costs h c.args.paths c.args.paths (ap (λ x. has_paths x h.soup.specs) (sym c.list.ensures) ∙ sym (c.has_index.ensures (g.H.Host.outside c.args.host.now) at.eight (stand-told at t) h.blocks h.store h.soup h.on h.by_sig) ∙ c.if-not-has_index.false) refl (done-costs c.change.result is (said-costs e t h.on (unindex-said h.blocks w.minute c.in_ok-soup.soup h.store h.soup h.by_sig c.args.paths)));
       alone = e.alone;
       cause = done-cause c.change.result is _ e.cause;
+      no_fault = λ goes. e.no_fault (done-goes c.change.result is goes);
     }

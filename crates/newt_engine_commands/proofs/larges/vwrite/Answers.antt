@@ -11,11 +11,11 @@ use Rattle.newt_spec_store.specs.Store.{Entry, entry_of}
 use Rattle.newt_store_change.specs.Entries.{ReadsEntry}
 use Rattle.std.specs.Bool.{⊤}
 use Rattle.newt_host.specs.Moments.{Moment, Always}
-use Rattle.newt_host.proofs.Outside.{OnDevices-append}
+use Rattle.newt_host.proofs.Outside.{NoFault-append, OnDevices-append}
 use Rattle.newt_spec_world.specs.World.{World, change_store}
 use Rattle.newt_store_change.specs.Faults.{Does}
 use Rattle.newt_laws_answers.specs.Answering.{Answering}
-use Rattle.newt_laws_answers.specs.Spoken.{answer_now}
+use Rattle.newt_spec_world.specs.Answer.{answer}
 use Rattle.newt_laws_answers.specs.Tests.{patch_tests, patched_within}
 use Rattle.newt_laws_answers.specs.There.{OnUnit}
 use Rattle.newt_laws_answers.proofs.Changes.{patch-said}
@@ -24,7 +24,7 @@ use Rattle.newt_laws_answers.proofs.Larges.{vwrite-not-found}
 use Rattle.newt_engine_commands.proofs.Binaries.{missing, reached, vwrite-answers, vwrite-makes, vwrite-nowhere}
 use Rattle.newt_engine_commands.proofs.Commands.{read-found}
 use Rattle.newt_engine_commands.proofs.Costing.{vwrite-costs}
-use Rattle.newt_engine_commands.proofs.Obeying.{cause-after, handed, none-refused, refused-obeys, read-obeys}
+use Rattle.newt_engine_units.proofs.Obeying.{cause-after, ends-after, handed-ends, none-ends, none-refused, read-obeys, refused-obeys}
 use Rattle.newt_engine_commands.proofs.Said.{said-done, said-moments, said-costs, done-goes, done-cause, done-costs}
 use Rattle.newt_engine_units.proofs.Settings.{Setting, is-err, soup-refused, has-soup}
 use Rattle.newt_engine_commands.proofs.larges.vwrite.Given.{Over}
@@ -51,11 +51,11 @@ returns-in_err-graph g c =
     let at = begins g c.requires in
     let w = world_of g.C.Card.reads c.args.units.now (g.H.Host.outside c.args.host.now) in
     let e = c.in_err-graph.ensures in
-    read-obeys at (command.Vwrite c.args.unit c.args.name.now c.args.uid c.args.path.now c.args.at c.args.bytes) (λ _. Reply.done) e.stands e.moment e.programs_nothing e.alone _ (handed _ _ _ (err_from_is_err_and c.from_residual-in_err-graph.result c.from_residual-in_err-graph.ensures.1) e.cause)
+    read-obeys at (command.Vwrite c.args.unit c.args.name.now c.args.uid c.args.path.now c.args.at c.args.bytes) (λ _. Reply.done) e.looks _ (handed-ends _ (err_from_is_err_and c.from_residual-in_err-graph.result c.from_residual-in_err-graph.ensures.1) e.ends)
     (λ t.
     let h = has-soup at t c.args.unit c.args.name.now c.in_ok-soup.soup c.in_ok-soup.ensures in
     missing w _ c.args.unit h.blocks h.store c.args.name.now h.soup c.args.uid h.on h.named (command.Vwrite c.args.unit c.args.name.now c.args.uid c.args.path.now c.args.at c.args.bytes) (λ _. Reply.done)
-    (λ r k. vwrite-not-found w c.args.unit c.args.name.now c.args.uid r k c.args.path.now c.args.at c.args.bytes) (e.world t) c.in_err-graph.field-0.0
+    (λ r k. vwrite-not-found w c.args.unit c.args.name.now c.args.uid r k c.args.path.now c.args.at c.args.bytes) (e.looks.world t) c.in_err-graph.field-0.0
     (subst (λ p. ReadsEntry (option_and_then (entry_of c.args.uid) p) (Err c.in_err-graph.field-0.0)) h.by_sig (e.read t h.blocks h.store h.on)) _ (is-err _ _ (err_from_is_err_and c.from_residual-in_err-graph.result c.from_residual-in_err-graph.ensures.1)))
 
 pub returns-in-Some : goal.returns-in-Some
@@ -74,7 +74,7 @@ returns-in-Some g c =
           let h = has-soup at t c.args.unit c.args.name.now c.in_ok-soup.soup c.in_ok-soup.ensures in
           let x : Entry = record { uid = c.in_ok-graph.field-0.uid; time = c.in_ok-graph.field-0.time; graph = c.in_ok-graph.field-0.graph } in
           let found : entry_of c.args.uid h.soup ≡ Some x = read-found c.in_ok-soup.soup c.args.uid h.store h.soup c.in_ok-graph.field-0 c.in_ok-graph.field-0.graph refl h.by_sig (c.in_ok-graph.ensures.read t h.blocks h.store h.on) in
-          let same = read.world t in
+          let same = read.looks.world t in
           vwrite-answers w _ c.args.unit h.blocks h.store h.on refl c.args.name.now h.soup h.named h.name_is c.args.uid x found c.args.path.now c.args.at c.args.bytes c.in-Some.node reach _
           (subst (λ (y : World). Does (patch_tests c.in-Some.node c.args.at (length c.args.bytes) x) (λ _. ⊤) y (change_store y c.args.unit (patched_within h.soup.name c.args.uid c.in-Some.node c.args.at c.args.bytes)) (world_of g.C.Card.reads c.change.new.self (o c.change.new.host)) c.done.result) same
           (said-done e t (subst (λ y. OnUnit y c.args.unit h.blocks h.store) (sym same) h.on) (patch-said h.blocks c.read_entry.new.self.minute c.in_ok-soup.soup h.store h.soup h.by_sig c.args.uid x found c.in-Some.node c.args.at c.args.bytes binary.0 binary.1 binary.2) _ is));
@@ -82,9 +82,9 @@ returns-in-Some g c =
           let h = has-soup at t c.args.unit c.args.name.now c.in_ok-soup.soup c.in_ok-soup.ensures in
           let x : Entry = record { uid = c.in_ok-graph.field-0.uid; time = c.in_ok-graph.field-0.time; graph = c.in_ok-graph.field-0.graph } in
           let found : entry_of c.args.uid h.soup ≡ Some x = read-found c.in_ok-soup.soup c.args.uid h.store h.soup c.in_ok-graph.field-0 c.in_ok-graph.field-0.graph refl h.by_sig (c.in_ok-graph.ensures.read t h.blocks h.store h.on) in
-          let same = read.world t in
-          let v = (answer_now w (command.Vwrite c.args.unit c.args.name.now c.args.uid c.args.path.now c.args.at c.args.bytes)).0 in
-          subst (λ (m : Moment). Always (Answering g.C.Card.reads w v m) m (o c.change.new.host).now) read.moment
+          let same = read.looks.world t in
+          let v = (answer w (command.Vwrite c.args.unit c.args.name.now c.args.uid c.args.path.now c.args.at c.args.bytes)).0 in
+          subst (λ (m : Moment). Always (Answering g.C.Card.reads w v m) m (o c.change.new.host).now) read.looks.moment
           (subst (λ (y : World). Always (Answering g.C.Card.reads y v (o c.read_entry.new.host).now) (o c.read_entry.new.host).now (o c.change.new.host).now) same
           (said-moments e t (subst (λ y. OnUnit y c.args.unit h.blocks h.store) (sym same) h.on) (patch-said h.blocks c.read_entry.new.self.minute c.in_ok-soup.soup h.store h.soup h.by_sig c.args.uid x found c.in-Some.node c.args.at c.args.bytes binary.0 binary.1 binary.2) v
           (vwrite-makes w w c.args.unit h.blocks h.store h.on refl c.args.name.now h.soup h.named h.name_is c.args.uid x found c.args.path.now c.args.at c.args.bytes c.in-Some.node reach)));
@@ -92,11 +92,12 @@ returns-in-Some g c =
           let h = has-soup at t c.args.unit c.args.name.now c.in_ok-soup.soup c.in_ok-soup.ensures in
           let x : Entry = record { uid = c.in_ok-graph.field-0.uid; time = c.in_ok-graph.field-0.time; graph = c.in_ok-graph.field-0.graph } in
           let found : entry_of c.args.uid h.soup ≡ Some x = read-found c.in_ok-soup.soup c.args.uid h.store h.soup c.in_ok-graph.field-0 c.in_ok-graph.field-0.graph refl h.by_sig (c.in_ok-graph.ensures.read t h.blocks h.store h.on) in
-          let same = read.world t in
-          vwrite-costs h c.args.uid x found _ same read.moment (read.programs_nothing t) c.args.path.now c.args.at c.in-Some.node reach c.args.bytes
+          let same = read.looks.world t in
+          vwrite-costs h c.args.uid x found _ same read.looks.untouched c.args.path.now c.args.at c.in-Some.node reach c.args.bytes
           (done-costs c.change.result is (said-costs e t (subst (λ y. OnUnit y c.args.unit h.blocks h.store) (sym same) h.on) (patch-said h.blocks c.read_entry.new.self.minute c.in_ok-soup.soup h.store h.soup h.by_sig c.args.uid x found c.in-Some.node c.args.at c.args.bytes binary.0 binary.1 binary.2)));
-      alone = OnDevices-append read.alone e.alone;
-      cause = cause-after _ _ read.alone (done-cause c.change.result is _ e.cause);
+      alone = OnDevices-append read.looks.alone e.alone;
+      cause = cause-after _ _ read.looks.alone (done-cause c.change.result is _ e.cause);
+      no_fault = λ goes. NoFault-append (read.ends.no_fault tt) (e.no_fault (done-goes c.change.result is goes));
     }
 
 pub returns-in-None : goal.returns-in-None
@@ -104,9 +105,9 @@ returns-in-None g c =
     let at = begins g c.requires in
     let w = world_of g.C.Card.reads c.args.units.now (g.H.Host.outside c.args.host.now) in
     let read = c.in_ok-graph.ensures in
-    read-obeys at (command.Vwrite c.args.unit c.args.name.now c.args.uid c.args.path.now c.args.at c.args.bytes) (λ _. Reply.done) read.stands read.moment read.programs_nothing read.alone _ tt (λ t.
+    read-obeys at (command.Vwrite c.args.unit c.args.name.now c.args.uid c.args.path.now c.args.at c.args.bytes) (λ _. Reply.done) read.looks _ (ends-after read.ends tt (none-ends {T = Unit {0}} _ tt)) (λ t.
     let h = has-soup at t c.args.unit c.args.name.now c.in_ok-soup.soup c.in_ok-soup.ensures in
     let x : Entry = record { uid = c.in_ok-graph.field-0.uid; time = c.in_ok-graph.field-0.time; graph = c.in_ok-graph.field-0.graph } in
     let found : entry_of c.args.uid h.soup ≡ Some x = read-found c.in_ok-soup.soup c.args.uid h.store h.soup c.in_ok-graph.field-0 c.in_ok-graph.field-0.graph refl h.by_sig (c.in_ok-graph.ensures.read t h.blocks h.store h.on) in
-    let same = read.world t in
+    let same = read.looks.world t in
     vwrite-nowhere w _ c.args.unit h.blocks h.store h.on refl c.args.name.now h.soup h.named h.name_is c.args.uid x found c.args.path.now c.args.at c.args.bytes same (sym c.in-None.ensures))

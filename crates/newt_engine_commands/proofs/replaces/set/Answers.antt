@@ -14,11 +14,11 @@ use Rattle.newt_base.specs.Refusals.{first_of}
 use Rattle.newt_graph.specs.Graph.{RawGraph}
 use Rattle.newt_path.specs.declared.fault.SetFault.{SetFault}
 use Rattle.newt_host.specs.Moments.{Moment, Always}
-use Rattle.newt_host.proofs.Outside.{OnDevices-append}
+use Rattle.newt_host.proofs.Outside.{NoFault-append, OnDevices-append}
 use Rattle.newt_spec_world.specs.World.{World, store_on_unit, change_store}
 use Rattle.newt_store_change.specs.Faults.{Does}
 use Rattle.newt_laws_answers.specs.Answering.{Answering}
-use Rattle.newt_laws_answers.specs.Spoken.{answer_now}
+use Rattle.newt_spec_world.specs.Answer.{answer}
 use Rattle.newt_laws_answers.specs.Tests.{replace_tests, replaced}
 use Rattle.newt_laws_answers.specs.There.{OnUnit}
 use Rattle.newt_laws_answers.proofs.Changes.{replace-said}
@@ -27,7 +27,7 @@ use Rattle.newt_laws_answers.proofs.Replaces.{set-not-found}
 use Rattle.newt_engine_commands.proofs.Replacing.{set-answers, set-makes, set-missing, set-fails}
 use Rattle.newt_engine_commands.proofs.Commands.{read-found, entry-fits}
 use Rattle.newt_engine_commands.proofs.Costing.{set-costs}
-use Rattle.newt_engine_commands.proofs.Obeying.{cause-after, handed, none-cause, none-put, none-refused, refused-obeys, read-obeys}
+use Rattle.newt_engine_units.proofs.Obeying.{cause-after, ends-after, handed-ends, none-ends, none-put, none-refused, read-obeys, refused-obeys}
 use Rattle.newt_engine_commands.proofs.Said.{said-done, said-moments, said-costs, done-goes, done-cause, done-costs}
 use Rattle.newt_engine_units.proofs.Settings.{Setting, is-err, soup-refused, has-soup}
 use Rattle.newt_engine_commands.proofs.replaces.set.Given.{Over}
@@ -54,10 +54,10 @@ returns-in_err-graph g c =
     let at = begins g c.requires in
     let w = world_of g.C.Card.reads c.args.units.now (g.H.Host.outside c.args.host.now) in
     let e = c.in_err-graph.ensures in
-    read-obeys at (command.Set c.args.unit c.args.name.now c.args.uid c.args.path.now c.args.value.now) (λ _. Reply.done) e.stands e.moment e.programs_nothing e.alone _ (handed _ _ _ (err_from_is_err_and c.from_residual-in_err-graph.result c.from_residual-in_err-graph.ensures.1) e.cause)
+    read-obeys at (command.Set c.args.unit c.args.name.now c.args.uid c.args.path.now c.args.value.now) (λ _. Reply.done) e.looks _ (handed-ends _ (err_from_is_err_and c.from_residual-in_err-graph.result c.from_residual-in_err-graph.ensures.1) e.ends)
     (λ t.
     let h = has-soup at t c.args.unit c.args.name.now c.in_ok-soup.soup c.in_ok-soup.ensures in
-    set-missing w _ c.args.unit h.blocks h.store c.args.name.now h.soup c.args.uid h.on h.named c.args.path.now c.args.value.now (e.world t) c.in_err-graph.field-0.0
+    set-missing w _ c.args.unit h.blocks h.store c.args.name.now h.soup c.args.uid h.on h.named c.args.path.now c.args.value.now (e.looks.world t) c.in_err-graph.field-0.0
     (subst (λ p. ReadsEntry (option_and_then (entry_of c.args.uid) p) (Err c.in_err-graph.field-0.0)) h.by_sig (e.read t h.blocks h.store h.on)) _ (is-err _ _ (err_from_is_err_and c.from_residual-in_err-graph.result c.from_residual-in_err-graph.ensures.1)))
 
 pub returns-in_err-made : goal.returns-in_err-made
@@ -65,12 +65,12 @@ returns-in_err-made g c =
     let at = begins g c.requires in
     let w = world_of g.C.Card.reads c.args.units.now (g.H.Host.outside c.args.host.now) in
     let read = c.in_ok-graph.ensures in
-    read-obeys at (command.Set c.args.unit c.args.name.now c.args.uid c.args.path.now c.args.value.now) (λ _. Reply.done) read.stands read.moment read.programs_nothing read.alone _
-    (none-cause _ _ _ (handed _ _ _ (err_from_is_err_and c.from_residual-in_err-made.result c.from_residual-in_err-made.ensures.1) (none-put c.in_err-made.field-0.0))) (λ t.
+    read-obeys at (command.Set c.args.unit c.args.name.now c.args.uid c.args.path.now c.args.value.now) (λ _. Reply.done) read.looks _
+    (ends-after read.ends tt (handed-ends _ (err_from_is_err_and c.from_residual-in_err-made.result c.from_residual-in_err-made.ensures.1) (none-ends {T = Unit {0}} _ (none-put c.in_err-made.field-0.0)))) (λ t.
     let h = has-soup at t c.args.unit c.args.name.now c.in_ok-soup.soup c.in_ok-soup.ensures in
     let x : Entry = record { uid = c.in_ok-graph.field-0.uid; time = c.in_ok-graph.field-0.time; graph = c.in_ok-graph.field-0.graph } in
     let found : entry_of c.args.uid h.soup ≡ Some x = read-found c.in_ok-soup.soup c.args.uid h.store h.soup c.in_ok-graph.field-0 c.in_ok-graph.field-0.graph refl h.by_sig (c.in_ok-graph.ensures.read t h.blocks h.store h.on) in
-    let same = read.world t in
+    let same = read.looks.world t in
     set-fails w _ c.args.unit h.blocks h.store h.on refl c.args.name.now h.soup h.named h.name_is c.args.uid x found c.args.path.now c.args.value.now same c.in_err-made.field-0.0
     (λ k. c.in_err-made.ensures.no_path.0 (ap {B = Result RawGraph SetFault} (λ x. Err x) k)) (λ k. c.in_err-made.ensures.limit (ap {B = Result RawGraph SetFault} (λ x. Err x) k)) _ (is-err _ _ (err_from_is_err_and c.from_residual-in_err-made.result c.from_residual-in_err-made.ensures.1)))
 
@@ -88,7 +88,7 @@ returns g c =
           let h = has-soup at t c.args.unit c.args.name.now c.in_ok-soup.soup c.in_ok-soup.ensures in
           let x : Entry = record { uid = c.in_ok-graph.field-0.uid; time = c.in_ok-graph.field-0.time; graph = c.in_ok-graph.field-0.graph } in
           let found : entry_of c.args.uid h.soup ≡ Some x = read-found c.in_ok-soup.soup c.args.uid h.store h.soup c.in_ok-graph.field-0 c.in_ok-graph.field-0.graph refl h.by_sig (c.in_ok-graph.ensures.read t h.blocks h.store h.on) in
-          let same = read.world t in
+          let same = read.looks.world t in
           let fits = entry-fits h.store c.args.name.now h.soup c.args.uid x h.formed h.named found in
           set-answers w _ c.args.unit h.blocks h.store h.on refl c.args.name.now h.soup h.named h.name_is c.args.uid x found c.args.path.now c.args.value.now c.in_ok-made.made c.in_ok-made.ensures.form fits _
           (subst (λ (y : World). Does (replace_tests h.blocks y.minute h.soup.name c.args.uid c.in_ok-made.made h.store) (λ _. ⊤) y (change_store y c.args.unit (replaced y.minute h.soup.name c.args.uid c.in_ok-made.made)) (world_of g.C.Card.reads c.change.new.self (o c.change.new.host)) c.done.result) same
@@ -97,10 +97,10 @@ returns g c =
           let h = has-soup at t c.args.unit c.args.name.now c.in_ok-soup.soup c.in_ok-soup.ensures in
           let x : Entry = record { uid = c.in_ok-graph.field-0.uid; time = c.in_ok-graph.field-0.time; graph = c.in_ok-graph.field-0.graph } in
           let found : entry_of c.args.uid h.soup ≡ Some x = read-found c.in_ok-soup.soup c.args.uid h.store h.soup c.in_ok-graph.field-0 c.in_ok-graph.field-0.graph refl h.by_sig (c.in_ok-graph.ensures.read t h.blocks h.store h.on) in
-          let same = read.world t in
+          let same = read.looks.world t in
           let fits = entry-fits h.store c.args.name.now h.soup c.args.uid x h.formed h.named found in
-          let v = (answer_now w (command.Set c.args.unit c.args.name.now c.args.uid c.args.path.now c.args.value.now)).0 in
-          subst (λ (m : Moment). Always (Answering g.C.Card.reads w v m) m (o c.change.new.host).now) read.moment
+          let v = (answer w (command.Set c.args.unit c.args.name.now c.args.uid c.args.path.now c.args.value.now)).0 in
+          subst (λ (m : Moment). Always (Answering g.C.Card.reads w v m) m (o c.change.new.host).now) read.looks.moment
           (subst (λ (y : World). Always (Answering g.C.Card.reads y v (o c.read_entry.new.host).now) (o c.read_entry.new.host).now (o c.change.new.host).now) same
           (said-moments e t (subst (λ y. OnUnit y c.args.unit h.blocks h.store) (sym same) h.on) (replace-said h.blocks c.read_entry.new.self.minute c.in_ok-soup.soup h.store h.soup h.by_sig c.args.uid x found c.in_ok-made.made) v
           (λ tests. subst (λ (y : World). store_on_unit v c.args.unit ≡ Some (replaced y.minute h.soup.name c.args.uid c.in_ok-made.made h.store)) (sym same)
@@ -110,9 +110,10 @@ returns g c =
           let h = has-soup at t c.args.unit c.args.name.now c.in_ok-soup.soup c.in_ok-soup.ensures in
           let x : Entry = record { uid = c.in_ok-graph.field-0.uid; time = c.in_ok-graph.field-0.time; graph = c.in_ok-graph.field-0.graph } in
           let found : entry_of c.args.uid h.soup ≡ Some x = read-found c.in_ok-soup.soup c.args.uid h.store h.soup c.in_ok-graph.field-0 c.in_ok-graph.field-0.graph refl h.by_sig (c.in_ok-graph.ensures.read t h.blocks h.store h.on) in
-          let same = read.world t in
-          set-costs h c.args.uid x found _ same read.moment (read.programs_nothing t) c.args.path.now c.args.value.now c.in_ok-made.made c.in_ok-made.ensures.form
+          let same = read.looks.world t in
+          set-costs h c.args.uid x found _ same read.looks.untouched c.args.path.now c.args.value.now c.in_ok-made.made c.in_ok-made.ensures.form
           (done-costs c.change.result is (said-costs e t (subst (λ y. OnUnit y c.args.unit h.blocks h.store) (sym same) h.on) (replace-said h.blocks c.read_entry.new.self.minute c.in_ok-soup.soup h.store h.soup h.by_sig c.args.uid x found c.in_ok-made.made)));
-      alone = OnDevices-append read.alone e.alone;
-      cause = cause-after _ _ read.alone (done-cause c.change.result is _ e.cause);
+      alone = OnDevices-append read.looks.alone e.alone;
+      cause = cause-after _ _ read.looks.alone (done-cause c.change.result is _ e.cause);
+      no_fault = λ goes. NoFault-append (read.ends.no_fault tt) (e.no_fault (done-goes c.change.result is goes));
     }

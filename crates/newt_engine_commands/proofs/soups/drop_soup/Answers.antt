@@ -9,7 +9,7 @@ use Rattle.newt_laws_answers.proofs.Changes.{drop-said}
 use Rattle.newt_laws_answers.proofs.Soups.{drop-not-found}
 use Rattle.newt_engine_commands.proofs.Commands.{drop-answers, drop-makes}
 use Rattle.newt_engine_commands.proofs.Costing.{drop-costs}
-use Rattle.newt_engine_commands.proofs.Obeying.{none-refused, refused-obeys}
+use Rattle.newt_engine_units.proofs.Obeying.{none-refused, refused-obeys}
 use Rattle.newt_engine_commands.proofs.Said.{said-done, said-moments, said-costs, done-goes, done-cause, done-costs}
 use Rattle.newt_engine_units.proofs.Settings.{Setting, soup-refused, has-soup}
 use Rattle.newt_engine_commands.proofs.soups.drop_soup.Given.{Over}
@@ -52,4 +52,5 @@ returns g c =
           drop-costs h (done-costs c.change.result is (said-costs e t h.on (drop-said h.blocks w.minute c.in_ok-soup.soup h.store h.soup h.by_sig)));
       alone = e.alone;
       cause = done-cause c.change.result is _ e.cause;
+      no_fault = λ goes. e.no_fault (done-goes c.change.result is goes);
     }

@@ -9,7 +9,7 @@ use Rattle.newt_laws_answers.proofs.Changes.{make-said}
 use Rattle.newt_laws_answers.proofs.Soups.{soup-not-mounted}
 use Rattle.newt_engine_commands.proofs.Commands.{soup-answers, soup-makes}
 use Rattle.newt_laws_answers.proofs.Most.{soup-most}
-use Rattle.newt_engine_commands.proofs.Obeying.{none-refused, refused-obeys}
+use Rattle.newt_engine_units.proofs.Obeying.{none-refused, refused-obeys}
 use Rattle.newt_engine_commands.proofs.Said.{said-made, said-moments, said-costs}
 use Rattle.newt_engine_units.proofs.Costs.{on-costs}
 use Rattle.newt_engine_units.proofs.Settings.{Setting, unit-refused, unit-there}
@@ -49,4 +49,5 @@ returns g c =
           on-costs (said-costs e t p.on (make-said _ w.minute c.args.name p.store)) (soup-most w c.args.unit _ p.store c.args.name p.on);
       alone = e.alone;
       cause = e.cause;
+      no_fault = e.no_fault;
     }

@@ -1,4 +1,4 @@
--- The words are tried, the soup is looked up, and its card gives it the declaration.
+-- The soup is looked up, and its card gives it the declaration.
 use Rattle.std.proofs.Common.{ap, false, length, nat_lt, refl, subst, sym, true, ◌<◌, ◌∙◌, ◌≡◌, ◌≤◌}
 use Rattle.newt_engine_units.specs.Looks.{known_checks}
 use Rattle.std.proofs.lemmas.Result.{err_from_is_err_and}
@@ -7,12 +7,11 @@ use Rattle.newt_spec_world.specs.Reply.{Reply}
 use Rattle.newt_spec_world.specs.declared.command.Command.TheVariants as command
 use Rattle.std.proofs.lemmas.Bool.{lt-ltb, le-ltb}
 use Rattle.newt_spec_store.specs.Store.{TagTable}
-use Rattle.newt_laws_world.specs.Worlds.{tags_fit}
 use Rattle.newt_laws_answers.proofs.Changes.{tags-said}
-use Rattle.newt_laws_answers.proofs.Declares.{set-tags-unbuilt, set-tags-not-found, set-tags-many}
+use Rattle.newt_laws_answers.proofs.Declares.{set-tags-not-found, set-tags-many}
 use Rattle.newt_engine_commands.proofs.Declaring.{tags-answers, tags-makes}
 use Rattle.newt_engine_commands.proofs.Costing.{tags-costs}
-use Rattle.newt_engine_commands.proofs.Obeying.{none-refused, refused-obeys, still-obeys}
+use Rattle.newt_engine_units.proofs.Obeying.{none-refused, refused-obeys, still-obeys}
 use Rattle.newt_engine_commands.proofs.Said.{said-done, said-moments, said-costs, done-goes, done-cause, done-costs}
 use Rattle.newt_pagebook.specs.declared.book.Stop.TheVariants.{Memory}
 use Rattle.newt_store_change.specs.declared.fault.StoreFault.TheVariants.{Stop}
@@ -29,56 +28,48 @@ begins g {units} {host} stand = record {
   stand = stand;
 }
 
-pub returns-then-not-are_tags : goal.returns-then-not-are_tags
-returns-then-not-are_tags g c =
-    let w = world_of g.C.Card.reads c.args.units.now (g.H.Host.outside c.args.host.now) in
-    still-obeys (begins g c.requires) (command.SetTags c.args.unit c.args.name.now c.args.path.now c.args.symbols.now) (λ _. Reply.done) _ tt
-    (λ t. set-tags-unbuilt w c.args.unit c.args.name.now c.args.path.now c.args.symbols.now (ap (tags_fit c.args.path.now) (sym c.list-names.ensures) ∙ sym c.are_tags.ensures ∙ c.if-not-are_tags.true))
-
 pub returns-in_err-soup : goal.returns-in_err-soup
 returns-in_err-soup g c =
-    let at = begins g c.requires in
+    let at = begins g c.requires.stands in
     let w = world_of g.C.Card.reads c.args.units.now (g.H.Host.outside c.args.host.now) in
-    let fit : tags_fit c.args.path.now c.args.symbols.now ≡ true = ap (tags_fit c.args.path.now) (sym c.list-names.ensures) ∙ sym c.are_tags.ensures ∙ c.if-not-are_tags.false in
     refused-obeys at (command.SetTags c.args.unit c.args.name.now c.args.path.now c.args.symbols.now) (λ _. Reply.done) _ (none-refused (known_checks g.C.Card.soups c.args.units.now.slots.items c.args.unit c.args.name.now) _ c.in_err-soup.ensures) _ (err_from_is_err_and c.from_residual.result c.from_residual.ensures.1)
-    (λ t. soup-refused at t c.args.unit c.args.name.now _ _ (set-tags-not-found w c.args.unit c.args.name.now c.args.path.now c.args.symbols.now fit) _ c.in_err-soup.ensures _ (err_from_is_err_and c.from_residual.result c.from_residual.ensures.1))
+    (λ t. soup-refused at t c.args.unit c.args.name.now _ _ (set-tags-not-found w c.args.unit c.args.name.now c.args.path.now c.args.symbols.now) _ c.in_err-soup.ensures _ (err_from_is_err_and c.from_residual.result c.from_residual.ensures.1))
 
 pub returns-then-names-gt-MOST_TAGS : goal.returns-then-names-gt-MOST_TAGS
 returns-then-names-gt-MOST_TAGS g c =
-    let at = begins g c.requires in
+    let at = begins g c.requires.stands in
     let w = world_of g.C.Card.reads c.args.units.now (g.H.Host.outside c.args.host.now) in
-    let fit : tags_fit c.args.path.now c.args.symbols.now ≡ true = ap (tags_fit c.args.path.now) (sym c.list-names.ensures) ∙ sym c.are_tags.ensures ∙ c.if-not-are_tags.false in
     still-obeys at (command.SetTags c.args.unit c.args.name.now c.args.path.now c.args.symbols.now) (λ _. Reply.done) _ tt (λ t.
     let h = has-soup at t c.args.unit c.args.name.now c.in_ok-soup.soup c.in_ok-soup.ensures in
-    set-tags-many w c.args.unit c.args.name.now c.args.path.now c.args.symbols.now fit h.blocks h.store h.soup h.on h.named
+    set-tags-many w c.args.unit c.args.name.now c.args.path.now c.args.symbols.now h.blocks h.store h.soup h.on h.named
     (lt-ltb 64 (length c.args.symbols.now) (subst (λ n. 64 < n) (ap (λ xs. length xs) c.list-names.ensures) c.if-names-gt-MOST_TAGS.true)))
 
 pub returns-in_err-table : goal.returns-in_err-table
 returns-in_err-table g c =
-    let at = begins g c.requires in
+    let at = begins g c.requires.stands in
     let p = err_from_is_err_and c.from_residual-in_err-table.result c.from_residual-in_err-table.ensures.1 in
     refused-obeys at (command.SetTags c.args.unit c.args.name.now c.args.path.now c.args.symbols.now) (λ _. Reply.done) (Stop Memory) tt _ p (λ t. ends _ _ (command.SetTags c.args.unit c.args.name.now c.args.path.now c.args.symbols.now) (λ _. Reply.done) (Stop Memory) tt _ p)
 
 pub returns : goal.returns
 returns g c =
-    let at = begins g c.requires in
+    let at = begins g c.requires.stands in
     let w = world_of g.C.Card.reads c.args.units.now (g.H.Host.outside c.args.host.now) in
     let e = c.change.ensures in
     let is = c.done.ensures in
-    let fit : tags_fit c.args.path.now c.args.symbols.now ≡ true = ap (tags_fit c.args.path.now) (sym c.list-names.ensures) ∙ sym c.are_tags.ensures ∙ c.if-not-are_tags.false in
     let few : nat_lt 64 (length c.args.symbols.now) ≡ false = le-ltb 64 (length c.args.symbols.now) (subst (λ n. n ≤ 64) (ap (λ xs. length xs) c.list-names.ensures) c.if-names-gt-MOST_TAGS.false) in
     let words : c.in_ok-table.table ≡ record { path = c.args.path.now; symbols = c.args.symbols.now } = c.in_ok-table.ensures ∙ ap {B = TagTable} (λ xs. record { path = c.args.path.now; symbols = xs }) c.list-names.ensures in
     record {
       stands = λ goes. e.stands (done-goes c.change.result is goes);
       answered = λ t.
           let h = has-soup at t c.args.unit c.args.name.now c.in_ok-soup.soup c.in_ok-soup.ensures in
-          tags-answers w _ c.args.unit h.blocks h.store h.on refl c.args.name.now h.soup h.named h.name_is c.args.path.now c.args.symbols.now fit few c.in_ok-table.table words _ (said-done e t h.on (tags-said h.blocks w.minute c.in_ok-soup.soup h.store h.soup h.by_sig c.in_ok-table.table) _ is);
+          tags-answers w _ c.args.unit h.blocks h.store h.on refl c.args.name.now h.soup h.named h.name_is c.args.path.now c.args.symbols.now few c.in_ok-table.table words _ (said-done e t h.on (tags-said h.blocks w.minute c.in_ok-soup.soup h.store h.soup h.by_sig c.in_ok-table.table) _ is);
       moments = λ t.
           let h = has-soup at t c.args.unit c.args.name.now c.in_ok-soup.soup c.in_ok-soup.ensures in
-          said-moments e t h.on (tags-said h.blocks w.minute c.in_ok-soup.soup h.store h.soup h.by_sig c.in_ok-table.table) _ (tags-makes w w c.args.unit h.blocks h.store h.on refl c.args.name.now h.soup h.named h.name_is c.args.path.now c.args.symbols.now fit few c.in_ok-table.table words);
+          said-moments e t h.on (tags-said h.blocks w.minute c.in_ok-soup.soup h.store h.soup h.by_sig c.in_ok-table.table) _ (tags-makes w w c.args.unit h.blocks h.store h.on refl c.args.name.now h.soup h.named h.name_is c.args.path.now c.args.symbols.now few c.in_ok-table.table words);
       costs = λ t.
           let h = has-soup at t c.args.unit c.args.name.now c.in_ok-soup.soup c.in_ok-soup.ensures in
-          tags-costs h c.args.path.now c.args.symbols.now fit few c.in_ok-table.table words (done-costs c.change.result is (said-costs e t h.on (tags-said h.blocks w.minute c.in_ok-soup.soup h.store h.soup h.by_sig c.in_ok-table.table)));
+          tags-costs h c.args.path.now c.args.symbols.now few c.in_ok-table.table words (done-costs c.change.result is (said-costs e t h.on (tags-said h.blocks w.minute c.in_ok-soup.soup h.store h.soup h.by_sig c.in_ok-table.table)));
       alone = e.alone;
       cause = done-cause c.change.result is _ e.cause;
+      no_fault = λ goes. e.no_fault (done-goes c.change.result is goes);
     }

@@ -5,7 +5,7 @@ use Rattle.newt_cursor.specs.Seen.{query_of}
 use Rattle.newt_spec_query.specs.Cursor.{Cursor}
 use Rattle.newt_laws_world.specs.Settled.{MountedApart}
 use Rattle.newt_spec_world.specs.World.{World, flat, settle}
-use Rattle.newt_laws_cursors.specs.Cursors.{with_cursors}
+use Rattle.newt_laws_world.specs.Cursors.{with_cursors}
 use Rattle.newt_spec_world.specs.Reply.{Reply}
 use Rattle.newt_engine_cursors.specs.World.{world_with}
 use Rattle.newt_engine_cursors.proofs.Answered.{open-alike, count-closed, count-open, count-said}

@@ -1,5 +1,6 @@
 -- One hit after another.
 use Rattle.std.proofs.Common.{arith, ◌≡◌, ◌∙◌, ap, sym, subst, Option, option_map, true, cond, length, IsTrue}
+use Rattle.newt_host.proofs.Outside.{NoFault-append, NoFault-refl}
 use Rattle.newt_cursor.specs.Seen.{query_of}
 use Rattle.newt_index.specs.declared.identity.Spot.{Spot}
 use Rattle.newt_spec_world.specs.World.{World, mounted_stores, hits_of}
@@ -20,6 +21,7 @@ use Rattle.newt_engine_cursors.proofs.counting.count_hits.Goals as goal
 pub hits-init : goal.hits-init
 hits-init g c = record {
   read = not-read c.requires;
+  no_fault = NoFault-refl _;
   key = c.in_ok-found.ensures.key;
   counted = λ t apart.
       let laws : Laws g.C.Card.reads g.C.Card.place g.C.Card.soups g.C.Card.stands = record { formed = g.met.C.Card.formed; plain = g.met.C.Card.plain; durable = g.met.C.Card.durable; banks = g.met.C.Card.banks; kept = g.met.C.Card.kept } in
@@ -45,6 +47,7 @@ hits-init g c = record {
 pub hits-preserved : goal.hits-preserved
 hits-preserved g c = record {
   read = read-then c.hits.invariant.read c.keeps.ensures.read;
+  no_fault = NoFault-append c.hits.invariant.no_fault c.in_ok-kept.ensures.no_fault;
   key = c.in_ok-found-2.ensures.key;
   counted = λ t apart.
       let laws : Laws g.C.Card.reads g.C.Card.place g.C.Card.soups g.C.Card.stands = record { formed = g.met.C.Card.formed; plain = g.met.C.Card.plain; durable = g.met.C.Card.durable; banks = g.met.C.Card.banks; kept = g.met.C.Card.kept } in

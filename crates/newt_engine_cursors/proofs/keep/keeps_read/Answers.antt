@@ -16,8 +16,8 @@ pub returns-in_ok-is_kept-in-Some-clause-kept : goal.returns-in_ok-is_kept-in-So
 returns-in_ok-is_kept-in-Some-clause-kept g c t blocks s on =
     let p = g.H.Host.outside c.entry_on.new.host in
     let eight2 : Eight (g.H.Host.outside c.entry_on.new.host) = record { eight = g.met.H.Host.eight c.entry_on.new.host; none = g.met.H.Host.none c.entry_on.new.host } in
-    let stand2 : Stands g.C.Card.place g.C.Card.stands true c.entry_on.new.self p = subst (λ b. Stands g.C.Card.place g.C.Card.stands b c.entry_on.new.self p) t c.in_ok-entry.ensures.stands in
-    let on2 = subst (λ (v : World). OnUnit v c.args.unit blocks s) (sym (c.in_ok-entry.ensures.world t)) on in
+    let stand2 : Stands g.C.Card.place g.C.Card.stands true c.entry_on.new.self p = subst (λ b. Stands g.C.Card.place g.C.Card.stands b c.entry_on.new.self p) t c.in_ok-entry.ensures.looks.stand in
+    let on2 = subst (λ (v : World). OnUnit v c.args.unit blocks s) (sym (c.in_ok-entry.ensures.looks.world t)) on in
     there-kept (query_of c.args.query.now) s (spot_hit c.args.spot.now) (plain_entry c.in-Some.entry) c.in_ok-is_kept-in-Some.field-0
     (sym (ap entry_said c.in-Some.is) ∙ c.in_ok-entry.ensures.read t blocks s on)
     (c.in_ok-is_kept-in-Some.ensures

@@ -1,6 +1,7 @@
 -- One step after another.
 use Rattle.std.proofs.Common.{arith, ◌≡◌, ◌∙◌, ap, sym, subst, suc, ◌+◌, ◌-◌}
 use Rattle.std.proofs.lemmas.Result.{err_from_is_err_and}
+use Rattle.newt_host.proofs.Outside.{NoFault-append, NoFault-refl}
 use Rattle.newt_cursor.specs.Seen.{query_of, place_of}
 use Rattle.newt_spec_query.specs.Cursor.{repeated}
 use Rattle.newt_spec_world.specs.World.{World, hits_of}
@@ -14,6 +15,7 @@ use Rattle.newt_engine_cursors.proofs.places.steps.Goals as goal
 pub steps-init : goal.steps-init
 steps-init g c = record {
   read = not-read c.requires.stands;
+  no_fault = NoFault-refl _;
   fits = c.requires.fits;
   left = λ t apart.
       let w = world_of g.C.Card.reads c.args.units.now (g.H.Host.outside c.args.host.now) in
@@ -24,6 +26,9 @@ steps-init g c = record {
 
 pub returns-then-is_at_edge-clause-read : goal.returns-then-is_at_edge-clause-read
 returns-then-is_at_edge-clause-read g c = c.steps.invariant.read
+
+pub returns-then-is_at_edge-clause-no_fault : goal.returns-then-is_at_edge-clause-no_fault
+returns-then-is_at_edge-clause-no_fault g c = c.steps.invariant.no_fault
 
 pub returns-then-is_at_edge-clause-place : goal.returns-then-is_at_edge-clause-place
 returns-then-is_at_edge-clause-place g c t apart =
@@ -49,6 +54,7 @@ returns-in_err-place-clause-cause g c =
 pub steps-preserved : goal.steps-preserved
 steps-preserved g c = record {
   read = read-then c.steps.invariant.read c.step.ensures.read;
+  no_fault = NoFault-append c.steps.invariant.no_fault c.in_ok-place.ensures.no_fault;
   fits = c.in_ok-place.ensures.fits;
   left = λ t apart.
       let w = world_of g.C.Card.reads c.args.units.now (g.H.Host.outside c.args.host.now) in
@@ -65,6 +71,9 @@ steps-preserved g c = record {
 
 pub returns-clause-read : goal.returns-clause-read
 returns-clause-read g c = c.steps.invariant.read
+
+pub returns-clause-no_fault : goal.returns-clause-no_fault
+returns-clause-no_fault g c = c.steps.invariant.no_fault
 
 pub returns-clause-fits : goal.returns-clause-fits
 returns-clause-fits g c = c.steps.invariant.fits

@@ -46,8 +46,8 @@ returns-in_ok-kept-in-Some-2-clause-found g c t apart =
     let k = shows-some laws c.args.units.now o eight stand c.args.store c.in-Some.unit (sym c.in-Some.ensures) in
     let p = g.H.Host.outside c.entry_on.new.host in
     let eight2 : Eight (g.H.Host.outside c.entry_on.new.host) = record { eight = g.met.H.Host.eight c.entry_on.new.host; none = g.met.H.Host.none c.entry_on.new.host } in
-    let stand2 : Stands g.C.Card.place g.C.Card.stands true c.entry_on.new.self p = subst (λ b. Stands g.C.Card.place g.C.Card.stands b c.entry_on.new.self p) t c.in_ok-entry.ensures.stands in
-    let on2 = subst (λ (v : World). OnUnit v c.in-Some.unit k.blocks k.store) (sym (c.in_ok-entry.ensures.world t)) k.on in
+    let stand2 : Stands g.C.Card.place g.C.Card.stands true c.entry_on.new.self p = subst (λ b. Stands g.C.Card.place g.C.Card.stands b c.entry_on.new.self p) t c.in_ok-entry.ensures.looks.stand in
+    let on2 = subst (λ (v : World). OnUnit v c.in-Some.unit k.blocks k.store) (sym (c.in_ok-entry.ensures.looks.world t)) k.on in
     c.in_ok-kept-in-Some-2.ensures.found p eight2 stand2 k.blocks k.store on2
     ∙ there-present w (query_of c.args.query.now) c.args.store c.args.soup c.args.uid apart (stores-formed laws c.args.units.now o eight stand) c.in-Some.unit k.store k.found k.found_with k.sig_is
     (λ p at. sym (c.if-not-takes_part.ensures o eight stand k.blocks k.store p k.on at)) (plain_entry c.in-Some-2.entry)

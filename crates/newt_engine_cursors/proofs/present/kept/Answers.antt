@@ -1,7 +1,7 @@
 -- The key is that with which the query keeps the entry.
 use Rattle.std.proofs.Common.{◌∙◌, ap, sym, Option, option_map}
 use Rattle.newt_spec_store.specs.Store.{TagTable}
-use Rattle.newt_query_filter.specs.Kept.{kept_key}
+use Rattle.newt_query.specs.Kept.{kept_key}
 use Rattle.newt_store_change.specs.Entries.{plain_entry}
 use Rattle.newt_engine_cursors.specs.Present.{Present}
 use Rattle.newt_engine_cursors.proofs.present.kept.Goals as goal

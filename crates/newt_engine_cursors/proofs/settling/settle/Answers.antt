@@ -1,10 +1,11 @@
 -- One place after another.
 use Rattle.std.proofs.Common.{arith, ◌∙◌, ap, sym, subst, List, Option, ◌≤◌, length}
 use Rattle.std.proofs.lemmas.Result.{err_from_is_err_and}
+use Rattle.newt_host.proofs.Outside.{NoFault-append, NoFault-refl}
 use Rattle.newt_spec_query.specs.Cursor.{Cursor}
 use Rattle.newt_spec_world.specs.World.{World, change_at, settle_cursor}
 use Rattle.newt_laws_world.specs.Settled.{MountedApart}
-use Rattle.newt_laws_cursors.specs.Cursors.{with_cursors}
+use Rattle.newt_laws_world.specs.Cursors.{with_cursors}
 use Rattle.newt_engine_units.specs.Stands.{world_of}
 use Rattle.newt_engine_cursors.proofs.Cursors.{below-none, below-more, below-all}
 use Rattle.newt_engine_cursors.proofs.Reading.{not-read, read-then, cause-since, handed}
@@ -13,6 +14,7 @@ use Rattle.newt_engine_cursors.proofs.settling.settle.Goals as goal
 pub loop-cursor-init : goal.loop-cursor-init
 loop-cursor-init g c = record {
   read = not-read c.requires.stands;
+  no_fault = NoFault-refl _;
   desk = c.requires.desk;
   settled = λ t apart. sym (below-none _ c.args.desk.now);
 }
@@ -33,6 +35,7 @@ returns-in_err-settle_one-clause-cause g c =
 pub loop-cursor-preserved : goal.loop-cursor-preserved
 loop-cursor-preserved g c = record {
   read = read-then c.loop-cursor.invariant.read c.settle_one.ensures.read;
+  no_fault = NoFault-append c.loop-cursor.invariant.no_fault c.in_ok-settle_one.ensures.no_fault;
   desk = c.settle_one.ensures.desk;
   settled = λ t apart.
       let w = world_of g.C.Card.reads c.args.units.now (g.H.Host.outside c.args.host.now) in
@@ -44,6 +47,9 @@ loop-cursor-preserved g c = record {
 
 pub returns-clause-read : goal.returns-clause-read
 returns-clause-read g c = c.loop-cursor.invariant.read
+
+pub returns-clause-no_fault : goal.returns-clause-no_fault
+returns-clause-no_fault g c = c.loop-cursor.invariant.no_fault
 
 pub returns-clause-desk : goal.returns-clause-desk
 returns-clause-desk g c = c.loop-cursor.invariant.desk

@@ -9,7 +9,7 @@ use Rattle.newt_spec_world.specs.Reply.{Reply}
 use Rattle.newt_spec_world.specs.World.{World, flat, set_place, settle}
 use Rattle.newt_laws_world.specs.Settled.{MountedApart}
 use Rattle.newt_laws_answers.specs.There.{OnUnit}
-use Rattle.newt_laws_cursors.specs.Cursors.{with_cursors}
+use Rattle.newt_laws_world.specs.Cursors.{with_cursors}
 use Rattle.newt_engine_units.specs.Looks.{known_unit}
 use Rattle.newt_engine_units.specs.Stands.{Stands, Eight}
 use Rattle.newt_engine_units.proofs.Known.{Laws, card-known, mounted-known, unit-checks-are}

@@ -2,6 +2,7 @@
 use Rattle.std.proofs.Common.{arith, ◌≡◌, ◌∙◌, refl, ap, sym, subst, Option, option_map, true}
 use Rattle.std.specs.Prelude.{IfSome}
 use Rattle.std.proofs.lemmas.Result.{err_from_is_err_and}
+use Rattle.newt_host.proofs.Outside.{NoFault-append, NoFault-refl}
 use Rattle.newt_cursor.specs.Seen.{query_of}
 use Rattle.newt_index.specs.declared.identity.Spot.{Spot}
 use Rattle.newt_keys.specs.KeyForm.{IsKeyOf}
@@ -21,6 +22,7 @@ use Rattle.newt_engine_cursors.proofs.walk.walk.Goals as goal
 pub steps-init : goal.steps-init
 steps-init g c = record {
   read = not-read c.requires.stands;
+  no_fault = NoFault-refl _;
   key = c.requires.key;
   walked = λ t apart. refl;
   ahead = λ t apart.
@@ -36,6 +38,9 @@ steps-init g c = record {
 
 pub returns-in_default-clause-read : goal.returns-in_default-clause-read
 returns-in_default-clause-read g c = c.steps.invariant.read
+
+pub returns-in_default-clause-no_fault : goal.returns-in_default-clause-no_fault
+returns-in_default-clause-no_fault g c = c.steps.invariant.no_fault
 
 pub returns-in_default-clause-walked : goal.returns-in_default-clause-walked
 returns-in_default-clause-walked g c t apart =
@@ -54,6 +59,9 @@ returns-in_err-keeps-clause-cause g c =
 
 pub returns-then-branch-clause-read : goal.returns-then-branch-clause-read
 returns-then-branch-clause-read g c = read-then c.steps.invariant.read c.keeps.ensures.read
+
+pub returns-then-branch-clause-no_fault : goal.returns-then-branch-clause-no_fault
+returns-then-branch-clause-no_fault g c = NoFault-append c.steps.invariant.no_fault c.in_ok-keeps.ensures.no_fault
 
 pub returns-then-branch-clause-fits : goal.returns-then-branch-clause-fits
 returns-then-branch-clause-fits g c = subst (λ (o : Option Spot). IfSome o (λ spot. IsKeyOf c.args.query.now.spec.index spot.key)) c.in-Some.is c.steps.invariant.key
@@ -79,6 +87,7 @@ returns-in_err-found-clause-read g c = read-then c.steps.invariant.read c.keeps.
 pub steps-preserved : goal.steps-preserved
 steps-preserved g c = record {
   read = read-then c.steps.invariant.read c.keeps.ensures.read;
+  no_fault = NoFault-append c.steps.invariant.no_fault c.in_ok-keeps.ensures.no_fault;
   key = c.in_ok-found.ensures.key;
   walked = λ t apart.
       let laws : Laws g.C.Card.reads g.C.Card.place g.C.Card.soups g.C.Card.stands = record { formed = g.met.C.Card.formed; plain = g.met.C.Card.plain; durable = g.met.C.Card.durable; banks = g.met.C.Card.banks; kept = g.met.C.Card.kept } in
@@ -119,6 +128,9 @@ steps-preserved g c = record {
 
 pub returns-clause-read : goal.returns-clause-read
 returns-clause-read g c = c.steps.invariant.read
+
+pub returns-clause-no_fault : goal.returns-clause-no_fault
+returns-clause-no_fault g c = c.steps.invariant.no_fault
 
 pub returns-clause-walked : goal.returns-clause-walked
 returns-clause-walked g c t apart =

@@ -24,10 +24,10 @@ loop-number-preserved g c =
     let few : length c.args.names.now ≤ 8 = c.requires.few in
     let within : c.loop-number.number < length c.loop-number.attached = omega (arith, c.loop-number.invariant.size) in
     record {
-      attaching = attaching_next _ _ _ _ _ _ c.as_str.result.now at c.loop-number.invariant.attaching c.attach.ensures.input c.attach.ensures.in_faults c.attach.ensures.out_faults c.attach.ensures.counts
+      attaching = attaching_next _ _ _ _ _ _ c.as_str.result.now at c.loop-number.invariant.attaching c.attach.ensures.call
           c.attach.result (λ told. g.met.H.Host.untouched c.loop-number.host c.loop-number.number told (c.loop-number.invariant.attaching.later c.loop-number.number (omega arith)))
           c.attach.ensures.known c.attach.ensures.attached c.attach.ensures.refused;
-      flags = flags_next _ _ _ _ _ _ c.as_str.result.now at c.loop-number.invariant.attaching c.attach.ensures.input c.attach.ensures.in_faults c.attach.ensures.out_faults c.attach.ensures.counts
+      flags = flags_next _ _ _ _ _ _ c.as_str.result.now at c.loop-number.invariant.attaching c.attach.ensures.call
           c.attach.result c.loop-number.attached c.attach.ensures.attached c.attach.ensures.refused within c.loop-number.invariant.flags;
       size = length-set c.loop-number.attached c.loop-number.number c.attach.result ∙ c.loop-number.invariant.size;
     }

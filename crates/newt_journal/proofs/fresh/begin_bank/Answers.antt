@@ -5,55 +5,60 @@ use Rattle.newt_journal.proofs.fresh.begin_bank.Goals as goal
 
 pub returns-in_err-erase_blocks-clause-writes : goal.returns-in_err-erase_blocks-clause-writes
 returns-in_err-erase_blocks-clause-writes g c = record {
-  any_moment = λ t. leaves_1 c.args.unit c.args.blocks c.args.len c.args.bank c.requires.enough c.requires.fits (g.H.Host.outside c.args.host.now).now (g.met.H.Host.sized c.args.host.now c.args.unit t ∙ ap (λ (n : ℕ). n * 4096) c.requires.has.count) _ _ _ c.start-start.ensures c.first_block.ensures c.size_in_blocks.ensures (c.erase_blocks.ensures.writes.any_moment t);
+  any_moment = λ t. leaves_1 c.args.unit c.args.blocks c.args.len c.args.bank c.requires.enough c.requires.fits (g.H.Host.outside c.args.host.now).now (g.met.H.Host.sized c.args.host.now c.args.unit t ∙ ap (λ (n : ℕ). n * 4096) c.requires.rest.has.count) _ _ _ c.start-start.ensures c.first_block.ensures c.size_in_blocks.ensures (c.erase_blocks.ensures.writes.any_moment t);
   alone = search rules;
   costs = search rules;
-  cause = search rules;
+  wears = search rules;
+  faults = search rules;
 }
 
 pub returns-in_err-sync-clause-writes : goal.returns-in_err-sync-clause-writes
 returns-in_err-sync-clause-writes g c = record {
-  any_moment = λ t. leaves_2 c.args.unit c.args.blocks c.args.len c.args.bank c.requires.enough c.requires.fits (g.H.Host.outside c.args.host.now).now (g.met.H.Host.sized c.args.host.now c.args.unit t ∙ ap (λ (n : ℕ). n * 4096) c.requires.has.count) _ _ _ c.start-start.ensures c.first_block.ensures c.size_in_blocks.ensures (c.erase_blocks.ensures.writes.any_moment t) (c.erase_blocks.ensures.kept t) (c.in_ok-erase_blocks.ensures.erased t) (c.sync.ensures.synced t);
+  any_moment = λ t. leaves_2 c.args.unit c.args.blocks c.args.len c.args.bank c.requires.enough c.requires.fits (g.H.Host.outside c.args.host.now).now (g.met.H.Host.sized c.args.host.now c.args.unit t ∙ ap (λ (n : ℕ). n * 4096) c.requires.rest.has.count) _ _ _ c.start-start.ensures c.first_block.ensures c.size_in_blocks.ensures (c.erase_blocks.ensures.writes.any_moment t) (c.erase_blocks.ensures.kept t) (c.in_ok-erase_blocks.ensures.erased t) (c.sync.ensures.synced t);
   alone = search rules;
   costs = search rules;
-  cause = search rules;
+  wears = search rules;
+  faults = search rules;
 }
 
 pub program_piece-requires-clause-blank : goal.program_piece-requires-clause-blank
 unfolding header
-program_piece-requires-clause-blank g c t = blank_2 c.args.unit c.args.blocks c.args.len c.args.bank c.requires.enough c.requires.fits (g.H.Host.outside c.args.host.now).now (g.met.H.Host.sized c.args.host.now c.args.unit t ∙ ap (λ (n : ℕ). n * 4096) c.requires.has.count) _ _ _ c.start-start.ensures c.first_block.ensures c.size_in_blocks.ensures (c.erase_blocks.ensures.writes.any_moment t) (c.erase_blocks.ensures.kept t) (c.in_ok-erase_blocks.ensures.erased t) (c.in_ok-sync.ensures.synced t) _ refl
+program_piece-requires-clause-blank g c t = blank_2 c.args.unit c.args.blocks c.args.len c.args.bank c.requires.enough c.requires.fits (g.H.Host.outside c.args.host.now).now (g.met.H.Host.sized c.args.host.now c.args.unit t ∙ ap (λ (n : ℕ). n * 4096) c.requires.rest.has.count) _ _ _ c.start-start.ensures c.first_block.ensures c.size_in_blocks.ensures (c.erase_blocks.ensures.writes.any_moment t) (c.erase_blocks.ensures.kept t) (c.in_ok-erase_blocks.ensures.erased t) (c.in_ok-sync.ensures.synced t) _ refl
 
 pub returns-in_err-program_piece-clause-writes : goal.returns-in_err-program_piece-clause-writes
 unfolding header
 returns-in_err-program_piece-clause-writes g c = record {
-  any_moment = λ t. leaves_3 c.args.unit c.args.blocks c.args.len c.args.bank c.requires.enough c.requires.fits (g.H.Host.outside c.args.host.now).now (g.met.H.Host.sized c.args.host.now c.args.unit t ∙ ap (λ (n : ℕ). n * 4096) c.requires.has.count) _ _ _ c.start-start.ensures c.first_block.ensures c.size_in_blocks.ensures (c.erase_blocks.ensures.writes.any_moment t) (c.erase_blocks.ensures.kept t) (c.in_ok-erase_blocks.ensures.erased t) (c.in_ok-sync.ensures.synced t) _ refl (c.program_piece.ensures.wrote t);
+  any_moment = λ t. leaves_3 c.args.unit c.args.blocks c.args.len c.args.bank c.requires.enough c.requires.fits (g.H.Host.outside c.args.host.now).now (g.met.H.Host.sized c.args.host.now c.args.unit t ∙ ap (λ (n : ℕ). n * 4096) c.requires.rest.has.count) _ _ _ c.start-start.ensures c.first_block.ensures c.size_in_blocks.ensures (c.erase_blocks.ensures.writes.any_moment t) (c.erase_blocks.ensures.kept t) (c.in_ok-erase_blocks.ensures.erased t) (c.in_ok-sync.ensures.synced t) _ refl (c.program_piece.ensures.wrote t);
   alone = search rules;
   costs = search rules;
-  cause = search rules;
+  wears = search rules;
+  faults = search rules;
 }
 
 pub program_piece-requires-2-clause-blank : goal.program_piece-requires-2-clause-blank
 unfolding header length_bytes
-program_piece-requires-2-clause-blank g c t = blank_3 c.args.unit c.args.blocks c.args.len c.args.bank c.requires.enough c.requires.fits (g.H.Host.outside c.args.host.now).now (g.met.H.Host.sized c.args.host.now c.args.unit t ∙ ap (λ (n : ℕ). n * 4096) c.requires.has.count) _ _ _ c.start-start.ensures c.first_block.ensures c.size_in_blocks.ensures (c.erase_blocks.ensures.writes.any_moment t) (c.erase_blocks.ensures.kept t) (c.in_ok-erase_blocks.ensures.erased t) (c.in_ok-sync.ensures.synced t) _ refl (c.in_ok-program_piece.ensures.wrote t) _ c.to_be_bytes.ensures
+program_piece-requires-2-clause-blank g c t = blank_3 c.args.unit c.args.blocks c.args.len c.args.bank c.requires.enough c.requires.fits (g.H.Host.outside c.args.host.now).now (g.met.H.Host.sized c.args.host.now c.args.unit t ∙ ap (λ (n : ℕ). n * 4096) c.requires.rest.has.count) _ _ _ c.start-start.ensures c.first_block.ensures c.size_in_blocks.ensures (c.erase_blocks.ensures.writes.any_moment t) (c.erase_blocks.ensures.kept t) (c.in_ok-erase_blocks.ensures.erased t) (c.in_ok-sync.ensures.synced t) _ refl (c.in_ok-program_piece.ensures.wrote t) _ c.to_be_bytes.ensures
 
 pub returns-in_err-program_piece-2-clause-writes : goal.returns-in_err-program_piece-2-clause-writes
 unfolding header length_bytes
 returns-in_err-program_piece-2-clause-writes g c = record {
-  any_moment = λ t. leaves_4 c.args.unit c.args.blocks c.args.len c.args.bank c.requires.enough c.requires.fits (g.H.Host.outside c.args.host.now).now (g.met.H.Host.sized c.args.host.now c.args.unit t ∙ ap (λ (n : ℕ). n * 4096) c.requires.has.count) _ _ _ c.start-start.ensures c.first_block.ensures c.size_in_blocks.ensures (c.erase_blocks.ensures.writes.any_moment t) (c.erase_blocks.ensures.kept t) (c.in_ok-erase_blocks.ensures.erased t) (c.in_ok-sync.ensures.synced t) _ refl (c.in_ok-program_piece.ensures.wrote t) _ c.to_be_bytes.ensures (c.program_piece-2.ensures.wrote t);
+  any_moment = λ t. leaves_4 c.args.unit c.args.blocks c.args.len c.args.bank c.requires.enough c.requires.fits (g.H.Host.outside c.args.host.now).now (g.met.H.Host.sized c.args.host.now c.args.unit t ∙ ap (λ (n : ℕ). n * 4096) c.requires.rest.has.count) _ _ _ c.start-start.ensures c.first_block.ensures c.size_in_blocks.ensures (c.erase_blocks.ensures.writes.any_moment t) (c.erase_blocks.ensures.kept t) (c.in_ok-erase_blocks.ensures.erased t) (c.in_ok-sync.ensures.synced t) _ refl (c.in_ok-program_piece.ensures.wrote t) _ c.to_be_bytes.ensures (c.program_piece-2.ensures.wrote t);
   alone = search rules;
   costs = search rules;
-  cause = search rules;
+  wears = search rules;
+  faults = search rules;
 }
 
 pub returns-clause-begun : goal.returns-clause-begun
 unfolding header length_bytes
-returns-clause-begun g c t = filled_4 c.args.unit c.args.blocks c.args.len c.args.bank c.requires.enough c.requires.fits (g.H.Host.outside c.args.host.now).now (g.met.H.Host.sized c.args.host.now c.args.unit t ∙ ap (λ (n : ℕ). n * 4096) c.requires.has.count) _ _ _ c.start-start.ensures c.first_block.ensures c.size_in_blocks.ensures (c.erase_blocks.ensures.writes.any_moment t) (c.erase_blocks.ensures.kept t) (c.in_ok-erase_blocks.ensures.erased t) (c.in_ok-sync.ensures.synced t) _ refl (c.in_ok-program_piece.ensures.wrote t) _ c.to_be_bytes.ensures (c.in_ok-program_piece-2.ensures.wrote t)
+returns-clause-begun g c t = filled_4 c.args.unit c.args.blocks c.args.len c.args.bank c.requires.enough c.requires.fits (g.H.Host.outside c.args.host.now).now (g.met.H.Host.sized c.args.host.now c.args.unit t ∙ ap (λ (n : ℕ). n * 4096) c.requires.rest.has.count) _ _ _ c.start-start.ensures c.first_block.ensures c.size_in_blocks.ensures (c.erase_blocks.ensures.writes.any_moment t) (c.erase_blocks.ensures.kept t) (c.in_ok-erase_blocks.ensures.erased t) (c.in_ok-sync.ensures.synced t) _ refl (c.in_ok-program_piece.ensures.wrote t) _ c.to_be_bytes.ensures (c.in_ok-program_piece-2.ensures.wrote t)
 
 pub returns-clause-writes : goal.returns-clause-writes
 unfolding header length_bytes
 returns-clause-writes g c = record {
-  any_moment = λ t. leaves_4 c.args.unit c.args.blocks c.args.len c.args.bank c.requires.enough c.requires.fits (g.H.Host.outside c.args.host.now).now (g.met.H.Host.sized c.args.host.now c.args.unit t ∙ ap (λ (n : ℕ). n * 4096) c.requires.has.count) _ _ _ c.start-start.ensures c.first_block.ensures c.size_in_blocks.ensures (c.erase_blocks.ensures.writes.any_moment t) (c.erase_blocks.ensures.kept t) (c.in_ok-erase_blocks.ensures.erased t) (c.in_ok-sync.ensures.synced t) _ refl (c.in_ok-program_piece.ensures.wrote t) _ c.to_be_bytes.ensures (c.program_piece-2.ensures.wrote t);
+  any_moment = λ t. leaves_4 c.args.unit c.args.blocks c.args.len c.args.bank c.requires.enough c.requires.fits (g.H.Host.outside c.args.host.now).now (g.met.H.Host.sized c.args.host.now c.args.unit t ∙ ap (λ (n : ℕ). n * 4096) c.requires.rest.has.count) _ _ _ c.start-start.ensures c.first_block.ensures c.size_in_blocks.ensures (c.erase_blocks.ensures.writes.any_moment t) (c.erase_blocks.ensures.kept t) (c.in_ok-erase_blocks.ensures.erased t) (c.in_ok-sync.ensures.synced t) _ refl (c.in_ok-program_piece.ensures.wrote t) _ c.to_be_bytes.ensures (c.program_piece-2.ensures.wrote t);
   alone = search rules;
   costs = search rules;
-  cause = search rules;
+  wears = search rules;
+  faults = search rules;
 }

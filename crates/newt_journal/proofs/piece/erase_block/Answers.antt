@@ -8,5 +8,6 @@ returns-clause-writes g c = record {
   any_moment = λ t. torn_in 4096 (length-blank 4096) (c.erase.ensures.wrote t);
   alone = search rules;
   costs = search rules;
-  cause = search rules;
+  wears = search rules;
+  faults = search rules;
 }

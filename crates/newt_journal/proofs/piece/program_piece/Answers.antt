@@ -7,5 +7,6 @@ returns-clause-writes g c = record {
   any_moment = λ t. torn_in _ refl (c.program.ensures.wrote t);
   alone = search rules;
   costs = search rules;
-  cause = search rules;
+  wears = search rules;
+  faults = search rules;
 }

@@ -1,20 +1,45 @@
+use Rattle.std.proofs.Common.{rules}
 use Rattle.newt_journal.specs.Bank.{bank_number}
 use Rattle.newt_journal.proofs.Voting.{block_in}
 use Rattle.newt_journal.proofs.Settle.{unchanged, rewritten, settled_now}
 use Rattle.newt_journal.proofs.repair.settle_vote.Goals as goal
 
-pub returns-in_err-vote-clause-any_moment : goal.returns-in_err-vote-clause-any_moment
-returns-in_err-vote-clause-any_moment g c t = unchanged c.args.unit c.args.block (bank_number c.args.bank) _ _ (c.requires.durable t) c.read_byte.ensures.reads.moment
+pub returns-in_err-vote-clause-writes : goal.returns-in_err-vote-clause-writes
+returns-in_err-vote-clause-writes g c = record {
+  any_moment = λ t. unchanged c.args.unit c.args.block (bank_number c.args.bank) _ _ (c.requires.rest.durable t) c.read_byte.ensures.reads.moment;
+  alone = search rules;
+  costs = search rules;
+  wears = search rules;
+  faults = search rules;
+}
 
-pub returns-then-vote-number-clause-any_moment : goal.returns-then-vote-number-clause-any_moment
-returns-then-vote-number-clause-any_moment g c t = unchanged c.args.unit c.args.block (bank_number c.args.bank) _ _ (c.requires.durable t) c.read_byte.ensures.reads.moment
+pub returns-then-vote-number-clause-writes : goal.returns-then-vote-number-clause-writes
+returns-then-vote-number-clause-writes g c = record {
+  any_moment = λ t. unchanged c.args.unit c.args.block (bank_number c.args.bank) _ _ (c.requires.rest.durable t) c.read_byte.ensures.reads.moment;
+  alone = search rules;
+  costs = search rules;
+  wears = search rules;
+  faults = search rules;
+}
 
-pub returns-in_err-rewrite_vote-clause-any_moment : goal.returns-in_err-rewrite_vote-clause-any_moment
-returns-in_err-rewrite_vote-clause-any_moment g c t = rewritten c.args.unit c.args.block (bank_number c.args.bank) (g.H.Host.outside c.args.host.now).now _ (c.requires.durable t) c.read_byte.ensures.reads.moment _ _ c.number.ensures (c.in_ok-vote.ensures.byte t) c.if-vote-number.false (c.rewrite_vote.ensures.writes.any_moment t)
+pub returns-in_err-rewrite_vote-clause-writes : goal.returns-in_err-rewrite_vote-clause-writes
+returns-in_err-rewrite_vote-clause-writes g c = record {
+  any_moment = λ t. rewritten c.args.unit c.args.block (bank_number c.args.bank) (g.H.Host.outside c.args.host.now).now _ (c.requires.rest.durable t) c.read_byte.ensures.reads.moment _ _ c.number.ensures (c.in_ok-vote.ensures.byte t) c.if-vote-number.false (c.rewrite_vote.ensures.writes.any_moment t);
+  alone = search rules;
+  costs = search rules;
+  wears = search rules;
+  faults = search rules;
+}
 
 pub returns-clause-kept : goal.returns-clause-kept
-returns-clause-kept g c t = settled_now c.args.unit c.args.block (bank_number c.args.bank) (g.H.Host.outside c.args.host.now).now _ (c.requires.durable t) c.read_byte.ensures.reads.moment _ _ c.number.ensures (c.in_ok-vote.ensures.byte t) c.if-vote-number.false _ (c.in_ok-rewrite_vote.ensures.voted t)
-    (block_in _ _ _ _ (g.met.H.Host.sized c.args.host.now c.args.unit t) c.requires.has.count c.requires.inside)
+returns-clause-kept g c t = settled_now c.args.unit c.args.block (bank_number c.args.bank) (g.H.Host.outside c.args.host.now).now _ (c.requires.rest.durable t) c.read_byte.ensures.reads.moment _ _ c.number.ensures (c.in_ok-vote.ensures.byte t) c.if-vote-number.false _ (c.in_ok-rewrite_vote.ensures.voted t)
+    (block_in _ _ _ _ (g.met.H.Host.sized c.args.host.now c.args.unit t) c.requires.rest.has.count c.requires.inside)
 
-pub returns-clause-any_moment : goal.returns-clause-any_moment
-returns-clause-any_moment g c t = rewritten c.args.unit c.args.block (bank_number c.args.bank) (g.H.Host.outside c.args.host.now).now _ (c.requires.durable t) c.read_byte.ensures.reads.moment _ _ c.number.ensures (c.in_ok-vote.ensures.byte t) c.if-vote-number.false (c.rewrite_vote.ensures.writes.any_moment t)
+pub returns-clause-writes : goal.returns-clause-writes
+returns-clause-writes g c = record {
+  any_moment = λ t. rewritten c.args.unit c.args.block (bank_number c.args.bank) (g.H.Host.outside c.args.host.now).now _ (c.requires.rest.durable t) c.read_byte.ensures.reads.moment _ _ c.number.ensures (c.in_ok-vote.ensures.byte t) c.if-vote-number.false (c.rewrite_vote.ensures.writes.any_moment t);
+  alone = search rules;
+  costs = search rules;
+  wears = search rules;
+  faults = search rules;
+}

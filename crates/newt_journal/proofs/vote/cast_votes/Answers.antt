@@ -12,12 +12,13 @@ returns-in_err-rewrite_vote-clause-writes g c = record {
       let u = c.args.unit in
       let old = (g.H.Host.outside c.args.host.now).now in
       let bank = bank_number c.args.bank in
-      let long : 12288 ≤ length (image u old) = omega (arith, g.met.H.Host.sized c.args.host.now u t, c.requires.has.count, c.requires.enough) in
+      let long : 12288 ≤ length (image u old) = omega (arith, g.met.H.Host.sized c.args.host.now u t, c.requires.rest.has.count, c.requires.enough) in
       let moment_1 = Leaves-weaken (cast_1 bank (image u old) long) (c.rewrite_vote.ensures.writes.any_moment t) in
       moment_1;
   alone = search rules;
   costs = search rules;
-  cause = search rules;
+  wears = search rules;
+  faults = search rules;
 }
 
 pub returns-in_err-rewrite_vote-clause-turning : goal.returns-in_err-rewrite_vote-clause-turning
@@ -25,7 +26,7 @@ returns-in_err-rewrite_vote-clause-turning g c t from small alike =
     let u = c.args.unit in
     let old = (g.H.Host.outside c.args.host.now).now in
     let bank = bank_number c.args.bank in
-    let long : 12288 ≤ length (image u old) = omega (arith, g.met.H.Host.sized c.args.host.now u t, c.requires.has.count, c.requires.enough) in
+    let long : 12288 ≤ length (image u old) = omega (arith, g.met.H.Host.sized c.args.host.now u t, c.requires.rest.has.count, c.requires.enough) in
     let moment_1 = Leaves-weaken (turn_1 from bank small (bank-small c.args.bank) (image u old) long alike) (c.rewrite_vote.ensures.writes.any_moment t) in
     moment_1
 
@@ -35,13 +36,14 @@ returns-in_err-rewrite_vote-2-clause-writes g c = record {
       let u = c.args.unit in
       let old = (g.H.Host.outside c.args.host.now).now in
       let bank = bank_number c.args.bank in
-      let long : 12288 ≤ length (image u old) = omega (arith, g.met.H.Host.sized c.args.host.now u t, c.requires.has.count, c.requires.enough) in
+      let long : 12288 ≤ length (image u old) = omega (arith, g.met.H.Host.sized c.args.host.now u t, c.requires.rest.has.count, c.requires.enough) in
       let moment_1 = Leaves-weaken (cast_1 bank (image u old) long) (c.rewrite_vote.ensures.writes.any_moment t) in
       let moment_2 = Leaves-append moment_1 (Leaves-weaken (cast_2 bank (image u old) long (image u (g.H.Host.outside c.rewrite_vote.new.host).now) (c.in_ok-rewrite_vote.ensures.voted t)) (c.rewrite_vote-2.ensures.writes.any_moment t)) in
       moment_2;
   alone = search rules;
   costs = search rules;
-  cause = search rules;
+  wears = search rules;
+  faults = search rules;
 }
 
 pub returns-in_err-rewrite_vote-2-clause-turning : goal.returns-in_err-rewrite_vote-2-clause-turning
@@ -49,7 +51,7 @@ returns-in_err-rewrite_vote-2-clause-turning g c t from small alike =
     let u = c.args.unit in
     let old = (g.H.Host.outside c.args.host.now).now in
     let bank = bank_number c.args.bank in
-    let long : 12288 ≤ length (image u old) = omega (arith, g.met.H.Host.sized c.args.host.now u t, c.requires.has.count, c.requires.enough) in
+    let long : 12288 ≤ length (image u old) = omega (arith, g.met.H.Host.sized c.args.host.now u t, c.requires.rest.has.count, c.requires.enough) in
     let moment_1 = Leaves-weaken (turn_1 from bank small (bank-small c.args.bank) (image u old) long alike) (c.rewrite_vote.ensures.writes.any_moment t) in
     let moment_2 = Leaves-append moment_1 (Leaves-weaken (turn_2 from bank small (bank-small c.args.bank) (image u old) long alike (image u (g.H.Host.outside c.rewrite_vote.new.host).now) (c.in_ok-rewrite_vote.ensures.voted t)) (c.rewrite_vote-2.ensures.writes.any_moment t)) in
     moment_2
@@ -60,14 +62,15 @@ returns-in_err-rewrite_vote-3-clause-writes g c = record {
       let u = c.args.unit in
       let old = (g.H.Host.outside c.args.host.now).now in
       let bank = bank_number c.args.bank in
-      let long : 12288 ≤ length (image u old) = omega (arith, g.met.H.Host.sized c.args.host.now u t, c.requires.has.count, c.requires.enough) in
+      let long : 12288 ≤ length (image u old) = omega (arith, g.met.H.Host.sized c.args.host.now u t, c.requires.rest.has.count, c.requires.enough) in
       let moment_1 = Leaves-weaken (cast_1 bank (image u old) long) (c.rewrite_vote.ensures.writes.any_moment t) in
       let moment_2 = Leaves-append moment_1 (Leaves-weaken (cast_2 bank (image u old) long (image u (g.H.Host.outside c.rewrite_vote.new.host).now) (c.in_ok-rewrite_vote.ensures.voted t)) (c.rewrite_vote-2.ensures.writes.any_moment t)) in
       let moment_3 = Leaves-append moment_2 (Leaves-weaken (cast_3 bank (image u old) long (image u (g.H.Host.outside c.rewrite_vote.new.host).now) (c.in_ok-rewrite_vote.ensures.voted t) (image u (g.H.Host.outside c.rewrite_vote-2.new.host).now) (c.in_ok-rewrite_vote-2.ensures.voted t)) (c.rewrite_vote-3.ensures.writes.any_moment t)) in
       moment_3;
   alone = search rules;
   costs = search rules;
-  cause = search rules;
+  wears = search rules;
+  faults = search rules;
 }
 
 pub returns-in_err-rewrite_vote-3-clause-turning : goal.returns-in_err-rewrite_vote-3-clause-turning
@@ -75,7 +78,7 @@ returns-in_err-rewrite_vote-3-clause-turning g c t from small alike =
     let u = c.args.unit in
     let old = (g.H.Host.outside c.args.host.now).now in
     let bank = bank_number c.args.bank in
-    let long : 12288 ≤ length (image u old) = omega (arith, g.met.H.Host.sized c.args.host.now u t, c.requires.has.count, c.requires.enough) in
+    let long : 12288 ≤ length (image u old) = omega (arith, g.met.H.Host.sized c.args.host.now u t, c.requires.rest.has.count, c.requires.enough) in
     let moment_1 = Leaves-weaken (turn_1 from bank small (bank-small c.args.bank) (image u old) long alike) (c.rewrite_vote.ensures.writes.any_moment t) in
     let moment_2 = Leaves-append moment_1 (Leaves-weaken (turn_2 from bank small (bank-small c.args.bank) (image u old) long alike (image u (g.H.Host.outside c.rewrite_vote.new.host).now) (c.in_ok-rewrite_vote.ensures.voted t)) (c.rewrite_vote-2.ensures.writes.any_moment t)) in
     let moment_3 = Leaves-append moment_2 (Leaves-weaken (turn_3 from bank small (bank-small c.args.bank) (image u old) long alike (image u (g.H.Host.outside c.rewrite_vote.new.host).now) (c.in_ok-rewrite_vote.ensures.voted t) (image u (g.H.Host.outside c.rewrite_vote-2.new.host).now) (c.in_ok-rewrite_vote-2.ensures.voted t)) (c.rewrite_vote-3.ensures.writes.any_moment t)) in
@@ -87,14 +90,15 @@ returns-clause-writes g c = record {
       let u = c.args.unit in
       let old = (g.H.Host.outside c.args.host.now).now in
       let bank = bank_number c.args.bank in
-      let long : 12288 ≤ length (image u old) = omega (arith, g.met.H.Host.sized c.args.host.now u t, c.requires.has.count, c.requires.enough) in
+      let long : 12288 ≤ length (image u old) = omega (arith, g.met.H.Host.sized c.args.host.now u t, c.requires.rest.has.count, c.requires.enough) in
       let moment_1 = Leaves-weaken (cast_1 bank (image u old) long) (c.rewrite_vote.ensures.writes.any_moment t) in
       let moment_2 = Leaves-append moment_1 (Leaves-weaken (cast_2 bank (image u old) long (image u (g.H.Host.outside c.rewrite_vote.new.host).now) (c.in_ok-rewrite_vote.ensures.voted t)) (c.rewrite_vote-2.ensures.writes.any_moment t)) in
       let moment_3 = Leaves-append moment_2 (Leaves-weaken (cast_3 bank (image u old) long (image u (g.H.Host.outside c.rewrite_vote.new.host).now) (c.in_ok-rewrite_vote.ensures.voted t) (image u (g.H.Host.outside c.rewrite_vote-2.new.host).now) (c.in_ok-rewrite_vote-2.ensures.voted t)) (c.rewrite_vote-3.ensures.writes.any_moment t)) in
       moment_3;
   alone = search rules;
   costs = search rules;
-  cause = search rules;
+  wears = search rules;
+  faults = search rules;
 }
 
 pub returns-clause-turning : goal.returns-clause-turning
@@ -102,7 +106,7 @@ returns-clause-turning g c t from small alike =
     let u = c.args.unit in
     let old = (g.H.Host.outside c.args.host.now).now in
     let bank = bank_number c.args.bank in
-    let long : 12288 ≤ length (image u old) = omega (arith, g.met.H.Host.sized c.args.host.now u t, c.requires.has.count, c.requires.enough) in
+    let long : 12288 ≤ length (image u old) = omega (arith, g.met.H.Host.sized c.args.host.now u t, c.requires.rest.has.count, c.requires.enough) in
     let moment_1 = Leaves-weaken (turn_1 from bank small (bank-small c.args.bank) (image u old) long alike) (c.rewrite_vote.ensures.writes.any_moment t) in
     let moment_2 = Leaves-append moment_1 (Leaves-weaken (turn_2 from bank small (bank-small c.args.bank) (image u old) long alike (image u (g.H.Host.outside c.rewrite_vote.new.host).now) (c.in_ok-rewrite_vote.ensures.voted t)) (c.rewrite_vote-2.ensures.writes.any_moment t)) in
     let moment_3 = Leaves-append moment_2 (Leaves-weaken (turn_3 from bank small (bank-small c.args.bank) (image u old) long alike (image u (g.H.Host.outside c.rewrite_vote.new.host).now) (c.in_ok-rewrite_vote.ensures.voted t) (image u (g.H.Host.outside c.rewrite_vote-2.new.host).now) (c.in_ok-rewrite_vote-2.ensures.voted t)) (c.rewrite_vote-3.ensures.writes.any_moment t)) in
@@ -113,7 +117,7 @@ returns-clause-alike g c t =
     let u = c.args.unit in
     let old = (g.H.Host.outside c.args.host.now).now in
     let bank = bank_number c.args.bank in
-    let long : 12288 ≤ length (image u old) = omega (arith, g.met.H.Host.sized c.args.host.now u t, c.requires.has.count, c.requires.enough) in
+    let long : 12288 ≤ length (image u old) = omega (arith, g.met.H.Host.sized c.args.host.now u t, c.requires.rest.has.count, c.requires.enough) in
     cast_alike bank (image u old) long (image u (g.H.Host.outside c.rewrite_vote.new.host).now) (c.in_ok-rewrite_vote.ensures.voted t) (image u (g.H.Host.outside c.rewrite_vote-2.new.host).now) (c.in_ok-rewrite_vote-2.ensures.voted t) (image u (g.H.Host.outside c.rewrite_vote-3.new.host).now) (c.in_ok-rewrite_vote-3.ensures.voted t)
 
 pub returns-clause-kept : goal.returns-clause-kept
@@ -121,5 +125,5 @@ returns-clause-kept g c t =
     let u = c.args.unit in
     let old = (g.H.Host.outside c.args.host.now).now in
     let bank = bank_number c.args.bank in
-    let long : 12288 ≤ length (image u old) = omega (arith, g.met.H.Host.sized c.args.host.now u t, c.requires.has.count, c.requires.enough) in
+    let long : 12288 ≤ length (image u old) = omega (arith, g.met.H.Host.sized c.args.host.now u t, c.requires.rest.has.count, c.requires.enough) in
     cast_kept bank (image u old) long (image u (g.H.Host.outside c.rewrite_vote.new.host).now) (c.in_ok-rewrite_vote.ensures.voted t) (image u (g.H.Host.outside c.rewrite_vote-2.new.host).now) (c.in_ok-rewrite_vote-2.ensures.voted t) (image u (g.H.Host.outside c.rewrite_vote-3.new.host).now) (c.in_ok-rewrite_vote-3.ensures.voted t)

@@ -11,7 +11,7 @@ pub plan_larges-requires-clause-no_plan : goal.plan_larges-requires-clause-no_pl
 plan_larges-requires-clause-no_plan c = λ id among.
     let e : NewEntry = c.in-Some.e in
     let has : Among (large_ids e) id = subst (λ (larges : List NewLarge). Among (ids_of larges) id) c.deref-2.ensures.value among in
-    c.in_ok-plan_object.ensures.others id (λ same. record-apart e (c.requires.ids e c.in-Some.is) (subst (λ (n : ℕ). Among (large_ids e) n) same has)) (c.requires.no_plans e id c.in-Some.is has)
+    c.in_ok-plan_object.ensures.others id (λ same. record-apart e (c.requires.free e c.in-Some.is).ids (subst (λ (n : ℕ). Among (large_ids e) n) same has)) ((c.requires.free e c.in-Some.is).no_plans id has)
 
 pub plan_larges-requires-clause-way : goal.plan_larges-requires-clause-way
 plan_larges-requires-clause-way c = let w = c.requires.way in let a = c.in_ok-plan_object.ensures.way w.0 w.1 w.2 in (w.0, a.0, a.1)
@@ -23,7 +23,7 @@ returns-clause-way c = λ live texts w.
     let has : HasPut e.id e.bytes.items texts put.0 = subst (λ (bytes : List ℕ). HasPut e.id bytes texts put.0) c.deref.ensures.value put.2 in
     let rest = c.in_ok-plan_larges.ensures.way live put.0 put.1 in
     let larges : HasLarges e.larges.items put.0 rest.0 = subst (λ (larges : List NewLarge). HasLarges larges put.0 rest.0) c.deref-2.ensures.value rest.2 in
-    (rest.0, rest.1, subst (λ (entry : Option NewEntry). HasEntry entry texts rest.0) (sym c.in-Some.is) (entry-put e texts put.0 rest.0 (c.requires.ids e c.in-Some.is) has larges))
+    (rest.0, rest.1, subst (λ (entry : Option NewEntry). HasEntry entry texts rest.0) (sym c.in-Some.is) (entry-put e texts put.0 rest.0 (c.requires.free e c.in-Some.is).ids has larges))
 
 pub returns-in_default-clause-way : goal.returns-in_default-clause-way
 returns-in_default-clause-way c = λ live texts w. (texts, w, subst (λ (entry : Option NewEntry). HasEntry entry texts texts) (sym c.in_default.is) (entry-none texts))

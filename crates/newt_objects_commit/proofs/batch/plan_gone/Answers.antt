@@ -43,14 +43,14 @@ loop-id-preserved c =
     record {
       way = λ live texts w.
           let mid = i.way live texts w in
-          (map.remove mid.0 id, e.under_way live mid.0 mid.1, subst (λ (ids : List ℕ). HasNone ids texts (map.remove mid.0 id)) (sym more) (none-more done id texts mid.0 mid.2));
+          (map.remove mid.0 id, e.plans.under_way live mid.0 mid.1, subst (λ (ids : List ℕ). HasNone ids texts (map.remove mid.0 id)) (sym more) (none-more done id texts mid.0 mid.2));
       held_same = λ other. e.kept other ∙ i.held_same other;
       unplanned = λ other none out.
           let apart : Among (done ++ id ∷ []) other → ⊥ = λ among. out (subst (λ (ids : List ℕ). Among ids other) (sym more) among) in
           let was : IsUnplanned c.loop-id.objects other = i.unplanned other none (λ among. apart (among-left done (id ∷ []) other among)) in
-          still_unplanned c.loop-id.objects c.plan_delete.new.self id other None e.plan free (λ same. apart (among-right done (id ∷ []) other (inl (sym same)))) was;
+          still_unplanned c.loop-id.objects c.plan_delete.new.self id other None e.plans.plan free (λ same. apart (among-right done (id ∷ []) other (inl (sym same)))) was;
       pages = subst (λ (ids : List ℕ). AddsPages 0 (all_pages_held c.args.objects.now ids) c.args.batch.now c.plan_delete.new.batch) (sym more)
-          (gone-pages c.args.objects.now c.loop-id.objects done id c.args.batch.now c.loop-id.batch c.plan_delete.new.batch (i.held_same id) i.pages e.puts e.deletes);
+          (gone-pages c.args.objects.now c.loop-id.objects done id c.args.batch.now c.loop-id.batch c.plan_delete.new.batch (i.held_same id) i.pages e.puts e.plans.deletes);
     }
 
 pub returns-clause-way : goal.returns-clause-way

@@ -13,28 +13,31 @@ above_zero : (n : ℕ) → 0 < n → n ≢ 0
 above_zero n above same = absurd (omega (arith, above, same))
 
 pub plan_object-requires-clause-no_plan : goal.plan_object-requires-clause-no_plan
-plan_object-requires-clause-no_plan c = start_unplanned c.args.objects.now 0 c.requires.none
+plan_object-requires-clause-no_plan c = start_unplanned c.args.objects.now 0 c.requires.can.none
 
-pub plan_entry-requires-clause-no_plan : goal.plan_entry-requires-clause-no_plan
-plan_entry-requires-clause-no_plan c = λ e is. c.in_ok-plan_object.ensures.others e.id (not_zero e.id (c.requires.ids e is).odd) (start_unplanned c.args.objects.now e.id c.requires.none)
-
-pub plan_entry-requires-clause-no_plans : goal.plan_entry-requires-clause-no_plans
-plan_entry-requires-clause-no_plans c = λ e id is among. c.in_ok-plan_object.ensures.others id (above_zero id ((c.requires.ids e is).even id among).1) (start_unplanned c.args.objects.now id c.requires.none)
+pub plan_entry-requires-clause-free : goal.plan_entry-requires-clause-free
+plan_entry-requires-clause-free c = λ e is.
+    let ids = c.requires.can.ids e is in
+    record {
+      ids = ids;
+      no_plan = c.in_ok-plan_object.ensures.others e.id (not_zero e.id ids.odd) (start_unplanned c.args.objects.now e.id c.requires.can.none);
+      no_plans = λ id among. c.in_ok-plan_object.ensures.others id (above_zero id (ids.even id among).1) (start_unplanned c.args.objects.now id c.requires.can.none);
+    }
 
 pub plan_entry-requires-clause-way : goal.plan_entry-requires-clause-way
 plan_entry-requires-clause-way c = let w = c.requires.way in let a = c.in_ok-plan_object.ensures.way w.0 w.1 w.2 in (w.0, a.0, a.1)
 
 pub plan_gone-requires-clause-there : goal.plan_gone-requires-clause-there
-plan_gone-requires-clause-there c = λ id among. subst (λ (o : Option Extent). IsSome o) (sym (c.plan_entry.ensures.held id ∙ c.plan_object.ensures.held id)) (c.requires.there id among)
+plan_gone-requires-clause-there c = λ id among. subst (λ (o : Option Extent). IsSome o) (sym (c.plan_entry.ensures.held id ∙ c.plan_object.ensures.held id)) (c.requires.can.there id among)
 
 pub plan_gone-requires-clause-no_plan : goal.plan_gone-requires-clause-no_plan
 plan_gone-requires-clause-no_plan c = λ id among.
     c.in_ok-plan_entry.ensures.others id
     (λ e is. (
-      λ same. c.requires.apart.record_apart e is (subst (λ (n : ℕ). Among c.args.gone.now n) same among),
-      λ large. c.requires.apart.larges_apart e id is large among,
+      λ same. c.requires.can.apart.record_apart e is (subst (λ (n : ℕ). Among c.args.gone.now n) same among),
+      λ large. c.requires.can.apart.larges_apart e id is large among,
     ))
-    (c.in_ok-plan_object.ensures.others id (above_zero id (c.requires.behind id among)) (start_unplanned c.args.objects.now id c.requires.none))
+    (c.in_ok-plan_object.ensures.others id (above_zero id (c.requires.can.behind id among)) (start_unplanned c.args.objects.now id c.requires.can.none))
 
 pub plan_gone-requires-clause-way : goal.plan_gone-requires-clause-way
 plan_gone-requires-clause-way c =
@@ -51,8 +54,8 @@ returns-clause-way c = λ live texts w.
       z.0,
       z.1,
       written c.args.directory.now c.args.entry.now c.args.gone.now texts x.0 y.0 z.0 x.2 y.2 z.2
-          (λ e is. not_zero e.id (c.requires.ids e is).odd) (λ e id is among. above_zero id ((c.requires.ids e is).even id among).1) (λ id among. above_zero id (c.requires.behind id among))
-          c.requires.apart,
+          (λ e is. not_zero e.id (c.requires.can.ids e is).odd) (λ e id is among. above_zero id ((c.requires.can.ids e is).even id among).1) (λ id among. above_zero id (c.requires.can.behind id among))
+          c.requires.can.apart,
     )
 
 pub returns-clause-pages : goal.returns-clause-pages

@@ -1,15 +1,32 @@
-use Rattle.std.proofs.Common.{◌≡◌, ℕ, ◌-◌, ◌<◌, List, length, replicate, Some, sym, ◌∙◌, ap, arith}
+use Rattle.std.proofs.Common.{◌≡◌, ℕ, ◌-◌, ◌<◌, List, length, replicate, Some, drop, refl, sym, ◌∙◌, ap, subst, arith, rules, ◌+◌}
 use Rattle.std.proofs.lemmas.List.{length-replicate}
-use Rattle.newt_host.proofs.Moments.{Leaves-start}
-use Rattle.newt_spec_image.specs.Records.{bank_size}
+use Rattle.newt_host.proofs.Moments.{Leaves-start, Leaves-weaken}
+use Rattle.newt_host.proofs.Outside.{Touches-no_fault, Touches-refl, Wears-refl, Wears-widen}
+use Rattle.newt_spec_image.specs.Records.{bank_blocks, bank_size, bank_start}
 use Rattle.newt_spec_image.specs.Pages.{change_in, written_change}
-use Rattle.newt_host.specs.Moments.{Anything}
+use Rattle.newt_host.specs.Moments.{Moment}
+use Rattle.newt_journal.specs.Pieces.{IsTornIn}
+use Rattle.newt_pagebook.specs.Book.{IsLeftFrom}
+use Rattle.newt_pagelog.proofs.Failing.{no-ok, not-err}
 use Rattle.newt_pagelog.proofs.Spelling.{written-says, written-length}
 use Rattle.newt_pagelog.proofs.Changing.{cap-few, cap-fits}
 use Rattle.newt_pagelog.proofs.make.format.Goals as goal
 
-pub returns-in_err-payload-clause-any_moment : goal.returns-in_err-payload-clause-any_moment
-returns-in_err-payload-clause-any_moment g c = λ tells. Leaves-start {P = Anything} (λ left may. tt)
+pub returns-in_err-payload : goal.returns-in_err-payload
+returns-in_err-payload g c =
+    let a = g.H.Host.outside c.args.host.now in
+    let u = c.args.unit in
+    let r = c.from_residual.result in
+    let failed = c.from_residual.ensures.0 in
+    record {
+      formatted = λ tells. no-ok r _ failed;
+      unchanged = λ bad. refl;
+      any_moment = λ tells. Leaves-start (λ left may. (left, may, refl));
+      wears = Wears-widen 0 0 (bank_blocks (a.blocks u) + 3) 9 (omega arith) (omega arith) (Wears-refl u a);
+      alone = Touches-refl u a;
+      cause = search rules;
+      no_fault = no-ok r _ failed;
+    }
 
 pub format-requires-clause-fits : goal.format-requires-clause-fits
 format-requires-clause-fits g c =
@@ -26,24 +43,52 @@ format-requires-clause-fits g c =
       cap-fits blocks (length batch.puts) c.requires.enough c.requires.few,
     )
 
-pub returns-in-Ok-clause-formatted : goal.returns-in-Ok-clause-formatted
-returns-in-Ok-clause-formatted g c =
+-- what stands behind the first bank is what a crash might have left
+behind : (u n : ℕ) (now : Moment) (left : List ℕ) → IsTornIn u 0 n now left → IsLeftFrom u n now left
+behind u n now left torn =
+    let none : 0 + n ≡ n = omega arith in
+    (torn.0, torn.1, subst (λ (k : ℕ). drop k left ≡ drop k torn.0) none torn.2.after)
+
+pub returns-in-Ok : goal.returns-in-Ok
+returns-in-Ok g c =
     let o = g.H.Host.outside in
     let batch = c.args.batch.now in
     let blocks = (o c.args.host.now).blocks c.args.unit in
     let few : length batch.puts < 65536 = cap-few blocks (length batch.puts) c.requires.not_too_many c.requires.few in
     let none : length batch.deletes ≡ 0 = ap (λ (l : List ℕ). length l) c.requires.no_deletes in
     let says : change_in (written_change batch) ≡ Some batch = written-says batch c.written.ensures.sound few (omega (arith, none)) in
-    λ tells.
-    let alike = c.in-Ok.ensures.alike tells in
-    let blank = c.in-Ok.ensures.blank tells in (
-      record {
-        votes = (alike.first, alike.second, alike.third);
-        one = (c.deref.result.now, c.in-Ok.ensures.one tells, ap change_in (c.deref.ensures.value ∙ c.in_ok-payload.ensures.says) ∙ says);
-        blank = record {
-          room = omega arith;
-          blank = blank ∙ ap (λ (k : ℕ). replicate k 255) (sym (ap (λ (l : List ℕ). length l) blank ∙ length-replicate (bank_size blocks - 21 - length c.deref.result.now) 255));
-        };
-      },
-      c.in-Ok.ensures.durable tells,
-    )
+    let writes = c.in-Ok.ensures.writes in
+    record {
+      formatted = λ tells.
+          let alike = (c.in-Ok.ensures.fresh tells).alike in
+          let blank = (c.in-Ok.ensures.fresh tells).blank in (
+            record {
+              votes = (alike.first, alike.second, alike.third);
+              one = (c.deref.result.now, (c.in-Ok.ensures.fresh tells).one, ap change_in (c.deref.ensures.value ∙ c.in_ok-payload.ensures.says) ∙ says);
+              blank = record {
+                room = omega arith;
+                blank = blank ∙ ap (λ (k : ℕ). replicate k 255) (sym (ap (λ (l : List ℕ). length l) blank ∙ length-replicate (bank_size blocks - 21 - length c.deref.result.now) 255));
+              };
+            },
+            (c.in-Ok.ensures.fresh tells).durable,
+          );
+      unchanged = λ bad. absurd (not-err bad);
+      any_moment = λ tells. Leaves-weaken (behind c.args.unit (bank_start ((g.H.Host.outside c.args.host.now).blocks c.args.unit) 1) (g.H.Host.outside c.args.host.now).now) (writes.any_moment tells);
+      wears = writes.wears;
+      alone = writes.alone;
+      cause = tt;
+      no_fault = Touches-no_fault writes.alone writes.faults.no_fault;
+    }
+
+pub returns : goal.returns
+returns g c =
+    let writes = c.in-Err.ensures.writes in
+    record {
+      formatted = λ tells. tt;
+      unchanged = λ bad. absurd (cc);
+      any_moment = λ tells. Leaves-weaken (behind c.args.unit (bank_start ((g.H.Host.outside c.args.host.now).blocks c.args.unit) 1) (g.H.Host.outside c.args.host.now).now) (writes.any_moment tells);
+      wears = writes.wears;
+      alone = writes.alone;
+      cause = (refl, writes.faults.cause);
+      no_fault = tt;
+    }

@@ -1,15 +1,16 @@
-use Rattle.std.proofs.Common.{◌≡◌, ℕ, nat_eq, List, [], take, drop, Option, Some, None, Err, refl, sym, ◌∙◌, ap, subst, arith}
+use Rattle.std.proofs.Common.{◌≡◌, ℕ, nat_eq, List, [], take, drop, Option, Some, None, Err, refl, sym, ◌∙◌, ap, subst, arith, rules}
 use Rattle.std.specs.FinMap as map
 use Rattle.std.specs.Map.{lookup}
 use Rattle.newt_host.specs.Moments.{Moment, image}
+use Rattle.newt_host.proofs.Outside.{OnlyReads-append, OnlyReads-refl}
 use Rattle.newt_spec_image.specs.Records.{and_then, with_first}
 use Rattle.newt_spec_image.specs.Pages.{Pages, pages, pages_after, change_in}
 use Rattle.newt_journal.specs.Places.{payloads_from, IsPlace}
-use Rattle.newt_pagebook.specs.declared.book.BookFault.TheVariants.{Device}
+use Rattle.newt_pagebook.specs.declared.book.BookFault.TheVariants.{Device, NotStore}
 use Rattle.newt_pagelog.specs.Kept.{map_of}
 use Rattle.newt_pagelog.specs.Placed.{ReplaysRecord, lifted, page_from}
-use Rattle.newt_pagelog.proofs.Failing.{rose-over, same-err}
-use Rattle.newt_pagelog.proofs.Placing.{looks-refl, looks-append, looks-stands, looks-image, looks-spent, holds-from, numbered-placed, replay-step, replay-bad}
+use Rattle.newt_pagelog.proofs.Failing.{no-opening, not-err, rose-over, same-err}
+use Rattle.newt_pagelog.proofs.Placing.{looks-stands, looks-image, looks-read, holds-from, numbered-placed, replay-step, replay-bad}
 use Rattle.newt_pagelog.proofs.Near.{end-near}
 use Rattle.newt_pagelog.proofs.Replaying.{at_some, at_none, if_some}
 use Rattle.newt_pagelog.proofs.places.replay.Goals as goal
@@ -23,7 +24,8 @@ loop-places-init g c =
     record {
       low = omega (arith, c.first-at.ensures.place);
       high = c.first-at.ensures.before_end;
-      looks = looks-refl u o;
+      looks = OnlyReads-refl u o;
+      no_fault = refl;
       place = λ tells. c.first-at.ensures.is_place g.H.Host.told o c.requires tells;
       unique = c.new-places.ensures.unique;
       placed = λ q at is. absurd (let none : Some at ≡ None = sym is ∙ ap (λ (es : List (ℕ × ℕ)). lookup (nat_eq q) es) nothing in cc);
@@ -46,46 +48,23 @@ walk-requires-clause-stands g c = let o = g.H.Host.outside in looks-stands g.H.H
 pub walk-requires-clause-place : goal.walk-requires-clause-place
 walk-requires-clause-place g c = λ tells. subst (λ (l : List ℕ). IsPlace c.args.journal.now c.loop-places.at l) (sym (looks-image c.args.journal.now.unit (g.H.Host.outside c.args.host.now) (g.H.Host.outside c.loop-places.host) c.loop-places.invariant.looks)) (c.loop-places.invariant.place tells)
 
-pub returns-in_err-found-clause-looks : goal.returns-in_err-found-clause-looks
-returns-in_err-found-clause-looks g c =
-    let o = g.H.Host.outside in
-    let u = c.args.journal.now.unit in
-    looks-append u (o c.args.host.now) (o c.loop-places.host) (o c.walk.new.host) c.loop-places.invariant.looks (looks-spent u 4 (o c.loop-places.host) (o c.walk.new.host) c.walk.ensures.reads.moment c.walk.ensures.reads.alone c.walk.ensures.reads.costs)
-
-pub returns-in_err-found-clause-cause : goal.returns-in_err-found-clause-cause
-returns-in_err-found-clause-cause g c = λ bad.
-    let o = g.H.Host.outside in
-    let u = c.args.journal.now.unit in
-    rose-over u u (o c.args.host.now) (o c.loop-places.host) (o c.walk.new.host) refl c.loop-places.invariant.looks.alone c.in_err-found.ensures.reads.cause
-
-pub replay_record-requires-clause-low : goal.replay_record-requires-clause-low
-replay_record-requires-clause-low g c = let inside = if_some _ c.in_ok-found.field-0 c.in-Some.found c.in-Some.is c.in_ok-found.ensures.inside in omega (arith, c.loop-places.invariant.low, inside.0)
+pub replay_record-requires-clause-within : goal.replay_record-requires-clause-within
+replay_record-requires-clause-within g c =
+    let inside = if_some _ c.in_ok-found.field-0 c.in-Some.found c.in-Some.is c.in_ok-found.ensures.finds.inside in
+    record {
+      low = omega (arith, c.loop-places.invariant.low, inside.0);
+      inside = omega arith;
+      high = omega (arith, inside.1, inside.2);
+    }
 
 pub replay_record-requires-clause-stands : goal.replay_record-requires-clause-stands
 replay_record-requires-clause-stands g c =
     let o = g.H.Host.outside in
     let u = c.args.journal.now.unit in
-    looks-stands g.H.Host.told c.args.journal.now (o c.args.host.now) (o c.walk.new.host) (looks-append u (o c.args.host.now) (o c.loop-places.host) (o c.walk.new.host) c.loop-places.invariant.looks (looks-spent u 4 (o c.loop-places.host) (o c.walk.new.host) c.walk.ensures.reads.moment c.walk.ensures.reads.alone c.walk.ensures.reads.costs)) c.requires
+    looks-stands g.H.Host.told c.args.journal.now (o c.args.host.now) (o c.walk.new.host) (OnlyReads-append c.loop-places.invariant.looks (looks-read c.walk.ensures.reads)) c.requires
 
-pub replay_record-requires-clause-unique : goal.replay_record-requires-clause-unique
-replay_record-requires-clause-unique g c = c.loop-places.invariant.unique
-
-pub replay_record-requires-clause-placed : goal.replay_record-requires-clause-placed
-replay_record-requires-clause-placed g c = c.loop-places.invariant.placed
-
-pub returns-in_err-replay_record-clause-looks : goal.returns-in_err-replay_record-clause-looks
-returns-in_err-replay_record-clause-looks g c =
-    let o = g.H.Host.outside in
-    let u = c.args.journal.now.unit in
-    looks-append u (o c.args.host.now) (o c.walk.new.host) (o c.replay_record.new.host) (looks-append u (o c.args.host.now) (o c.loop-places.host) (o c.walk.new.host) c.loop-places.invariant.looks (looks-spent u 4 (o c.loop-places.host) (o c.walk.new.host) c.walk.ensures.reads.moment c.walk.ensures.reads.alone c.walk.ensures.reads.costs)) c.replay_record.ensures.reads.looks
-
-pub returns-in_err-replay_record-clause-cause : goal.returns-in_err-replay_record-clause-cause
-returns-in_err-replay_record-clause-cause g c = λ bad.
-    let o = g.H.Host.outside in
-    let u = c.args.journal.now.unit in
-    let before = looks-append u (o c.args.host.now) (o c.loop-places.host) (o c.walk.new.host) c.loop-places.invariant.looks (looks-spent u 4 (o c.loop-places.host) (o c.walk.new.host) c.walk.ensures.reads.moment c.walk.ensures.reads.alone c.walk.ensures.reads.costs) in
-    rose-over u u (o c.args.host.now) (o c.walk.new.host) (o c.replay_record.new.host) refl before.alone
-    (c.in_err-replay_record.ensures.reads.cause (ap Err (same-err c.from_residual-in_err-replay_record.result c.in_err-replay_record.field-0.0 Device c.from_residual-in_err-replay_record.ensures.1 bad)))
+pub replay_record-requires-clause-table : goal.replay_record-requires-clause-table
+replay_record-requires-clause-table g c = record { unique = c.loop-places.invariant.unique; placed = c.loop-places.invariant.placed }
 
 pub returns-then-not-branch-clause-not_store : goal.returns-then-not-branch-clause-not_store
 returns-then-not-branch-clause-not_store g c = λ _ tells.
@@ -98,18 +77,12 @@ returns-then-not-branch-clause-not_store g c = λ _ tells.
     let low : image u (o c.loop-places.host).now ≡ img = looks-image u (o c.args.host.now) (o c.loop-places.host) inv.looks in
     let walked : image u (o c.walk.new.host).now ≡ img = ap (λ (m : Moment). image u m) c.walk.ensures.reads.moment ∙ low in
     let found : payloads_from j c.loop-places.at img ≡ with_first (take f.len (drop f.at img)) (payloads_from j f.next img) =
-    subst (λ (l : List ℕ). payloads_from j c.loop-places.at l ≡ with_first (take f.len (drop f.at l)) (payloads_from j f.next l)) low (at_some _ _ c.in_ok-found.field-0 f c.in-Some.is (c.in_ok-found.ensures.found tells)) in
-    let says : change_in (take f.len (drop f.at img)) ≡ None = subst (λ (l : List ℕ). change_in (take f.len (drop f.at l)) ≡ None) walked (c.in_ok-replay_record.ensures.bad tells c.if-not-branch.true) in
+    subst (λ (l : List ℕ). payloads_from j c.loop-places.at l ≡ with_first (take f.len (drop f.at l)) (payloads_from j f.next l)) low (at_some _ _ c.in_ok-found.field-0 f c.in-Some.is (c.in_ok-found.ensures.finds.told_of tells)) in
+    let says : change_in (take f.len (drop f.at img)) ≡ None = subst (λ (l : List ℕ). change_in (take f.len (drop f.at l)) ≡ None) walked ((c.in_ok-replay_record.ensures.replays tells).false_says c.if-not-branch.true) in
     replay-bad (payloads_from j f.next img) (payloads_from j c.loop-places.at img) (take f.len (drop f.at img)) (map_of (lifted (page_from img) c.loop-places.places.entries)) (pages img) (inv.read tells) found says
 
-pub returns-then-not-branch-clause-looks : goal.returns-then-not-branch-clause-looks
-returns-then-not-branch-clause-looks g c =
-    let o = g.H.Host.outside in
-    let u = c.args.journal.now.unit in
-    looks-append u (o c.args.host.now) (o c.walk.new.host) (o c.replay_record.new.host) (looks-append u (o c.args.host.now) (o c.loop-places.host) (o c.walk.new.host) c.loop-places.invariant.looks (looks-spent u 4 (o c.loop-places.host) (o c.walk.new.host) c.walk.ensures.reads.moment c.walk.ensures.reads.alone c.walk.ensures.reads.costs)) c.replay_record.ensures.reads.looks
-
 pub loop-places-smaller : goal.loop-places-smaller
-loop-places-smaller g c = let inside = if_some _ c.in_ok-found.field-0 c.in-Some.found c.in-Some.is c.in_ok-found.ensures.inside in omega (arith, inside.0, inside.1, inside.2)
+loop-places-smaller g c = let inside = if_some _ c.in_ok-found.field-0 c.in-Some.found c.in-Some.is c.in_ok-found.ensures.finds.inside in omega (arith, inside.0, inside.1, inside.2)
 
 pub loop-places-preserved : goal.loop-places-preserved
 loop-places-preserved g c =
@@ -118,7 +91,7 @@ loop-places-preserved g c =
     let u = j.unit in
     let inv = c.loop-places.invariant in
     let f = c.in-Some.found in
-    let inside = if_some _ c.in_ok-found.field-0 f c.in-Some.is c.in_ok-found.ensures.inside in
+    let inside = if_some _ c.in_ok-found.field-0 f c.in-Some.is c.in_ok-found.ensures.finds.inside in
     let e = c.in_ok-replay_record.ensures in
     let img : List ℕ = image u (o c.args.host.now).now in
     let low : image u (o c.loop-places.host).now ≡ img = looks-image u (o c.args.host.now) (o c.loop-places.host) inv.looks in
@@ -126,16 +99,17 @@ loop-places-preserved g c =
     record {
       low = omega (arith, inv.low, inside.0, inside.1);
       high = inside.2;
-      looks = looks-append u (o c.args.host.now) (o c.walk.new.host) (o c.replay_record.new.host) (looks-append u (o c.args.host.now) (o c.loop-places.host) (o c.walk.new.host) inv.looks (looks-spent u 4 (o c.loop-places.host) (o c.walk.new.host) c.walk.ensures.reads.moment c.walk.ensures.reads.alone c.walk.ensures.reads.costs)) c.replay_record.ensures.reads.looks;
-      place = λ tells. subst (λ (l : List ℕ). IsPlace j f.next l) low (if_some _ c.in_ok-found.field-0 f c.in-Some.is (c.in_ok-found.ensures.next tells));
-      unique = e.unique;
-      placed = e.placed;
+      looks = OnlyReads-append (OnlyReads-append inv.looks (looks-read c.walk.ensures.reads)) c.replay_record.ensures.reads.looks;
+      no_fault = e.reads.no_fault ∙ c.in_ok-found.ensures.reads.faults.no_fault ∙ inv.no_fault;
+      place = λ tells. subst (λ (l : List ℕ). IsPlace j f.next l) low (if_some _ c.in_ok-found.field-0 f c.in-Some.is (c.in_ok-found.ensures.finds.next tells));
+      unique = e.table.unique;
+      placed = e.table.placed;
       many = omega (arith, e.len, inside.0, inside.1, inv.many);
       read = λ tells.
           let found : payloads_from j c.loop-places.at img ≡ with_first (take f.len (drop f.at img)) (payloads_from j f.next img) =
-          subst (λ (l : List ℕ). payloads_from j c.loop-places.at l ≡ with_first (take f.len (drop f.at l)) (payloads_from j f.next l)) low (at_some _ _ c.in_ok-found.field-0 f c.in-Some.is (c.in_ok-found.ensures.found tells)) in
+          subst (λ (l : List ℕ). payloads_from j c.loop-places.at l ≡ with_first (take f.len (drop f.at l)) (payloads_from j f.next l)) low (at_some _ _ c.in_ok-found.field-0 f c.in-Some.is (c.in_ok-found.ensures.finds.told_of tells)) in
           let replays : ReplaysRecord img (take f.len (drop f.at img)) c.loop-places.places.entries c.replay_record.new.places.entries =
-          subst (λ (l : List ℕ). ReplaysRecord l (take f.len (drop f.at l)) c.loop-places.places.entries c.replay_record.new.places.entries) walked (e.read tells c.if-not-branch.false) in
+          subst (λ (l : List ℕ). ReplaysRecord l (take f.len (drop f.at l)) c.loop-places.places.entries c.replay_record.new.places.entries) walked ((e.replays tells).true_says c.if-not-branch.false) in
           replay-step (payloads_from j f.next img) (payloads_from j c.loop-places.at img) img (take f.len (drop f.at img)) c.loop-places.places.entries c.replay_record.new.places.entries (pages img) (inv.read tells) found replays;
     }
 
@@ -157,11 +131,52 @@ returns-clause-pages g c = λ tells.
     let img : List ℕ = image u (o c.args.host.now).now in
     let low : image u (o c.loop-places.host).now ≡ img = looks-image u (o c.args.host.now) (o c.loop-places.host) inv.looks in
     let m : Pages = map_of (lifted (page_from img) c.loop-places.places.entries) in
-    let end : payloads_from j c.loop-places.at img ≡ Some [] = subst (λ (l : List ℕ). payloads_from j c.loop-places.at l ≡ Some []) low (at_none _ _ c.in_ok-found.field-0 c.in_default.is (c.in_ok-found.ensures.found tells)) in
+    let end : payloads_from j c.loop-places.at img ≡ Some [] = subst (λ (l : List ℕ). payloads_from j c.loop-places.at l ≡ Some []) low (at_none _ _ c.in_ok-found.field-0 c.in_default.is (c.in_ok-found.ensures.finds.told_of tells)) in
     holds-from g.H.Host.told j (o c.args.host.now) c.loop-places.places.entries c.requires tells inv.placed (inv.read tells ∙ ap (λ (r : Option (List (List ℕ))). and_then r (λ ps. pages_after ps m)) end)
 
-pub returns-clause-looks : goal.returns-clause-looks
-returns-clause-looks g c =
+-- what was read until a record was found, and until it was replayed
+pub returns-in_err-found-clause-reads : goal.returns-in_err-found-clause-reads
+returns-in_err-found-clause-reads g c =
     let o = g.H.Host.outside in
     let u = c.args.journal.now.unit in
-    looks-append u (o c.args.host.now) (o c.loop-places.host) (o c.walk.new.host) c.loop-places.invariant.looks (looks-spent u 4 (o c.loop-places.host) (o c.walk.new.host) c.walk.ensures.reads.moment c.walk.ensures.reads.alone c.walk.ensures.reads.costs)
+    let inv = c.loop-places.invariant in
+    record {
+      looks = OnlyReads-append inv.looks (looks-read c.walk.ensures.reads);
+      cause = λ bad. rose-over u u (o c.args.host.now) (o c.loop-places.host) (o c.walk.new.host) refl
+          inv.looks.alone c.in_err-found.ensures.reads.faults.cause;
+      no_fault = search rules;
+    }
+
+pub returns-in_err-replay_record-clause-reads : goal.returns-in_err-replay_record-clause-reads
+returns-in_err-replay_record-clause-reads g c =
+    let o = g.H.Host.outside in
+    let u = c.args.journal.now.unit in
+    let before = OnlyReads-append c.loop-places.invariant.looks (looks-read c.walk.ensures.reads) in
+    let r = c.from_residual-in_err-replay_record.result in
+    let e = c.in_err-replay_record.field-0.0 in
+    let is = c.from_residual-in_err-replay_record.ensures in
+    let reads = c.in_err-replay_record.ensures.reads in
+    record {
+      looks = OnlyReads-append before c.replay_record.ensures.reads.looks;
+      cause = λ bad. rose-over u u (o c.args.host.now) (o c.walk.new.host) (o c.replay_record.new.host)
+          refl before.alone (reads.cause (ap Err (same-err r e Device is.1 bad)));
+      no_fault = no-opening r is.0 (λ bad. reads.no_other (ap Err (same-err r e NotStore is.1 bad)));
+    }
+
+pub returns-then-not-branch-clause-reads : goal.returns-then-not-branch-clause-reads
+returns-then-not-branch-clause-reads g c =
+    let inv = c.loop-places.invariant in
+    record {
+      looks = OnlyReads-append (OnlyReads-append inv.looks (looks-read c.walk.ensures.reads))
+          c.replay_record.ensures.reads.looks;
+      cause = λ bad. absurd (cc);
+      no_fault = λ opened. c.in_ok-replay_record.ensures.reads.no_fault
+          ∙ c.in_ok-found.ensures.reads.faults.no_fault ∙ inv.no_fault;
+    }
+
+pub returns-clause-reads : goal.returns-clause-reads
+returns-clause-reads g c = record {
+  looks = OnlyReads-append c.loop-places.invariant.looks (looks-read c.walk.ensures.reads);
+  cause = λ bad. absurd (not-err bad);
+  no_fault = λ opened. c.in_ok-found.ensures.reads.faults.no_fault ∙ c.loop-places.invariant.no_fault;
+}

@@ -2,11 +2,12 @@ use Rattle.std.proofs.Common.{IsTrue, ◌≡◌, ◌+◌, ◌-◌, ◌*◌, ◌�
 use Rattle.std.specs.FinMap as map
 use Rattle.std.specs.HashMap as hash
 use Rattle.newt_host.specs.Moments.{image}
+use Rattle.newt_host.specs.Outside.{OnlyReads}
 use Rattle.newt_spec_image.specs.Records.{and_then, records}
 use Rattle.newt_spec_image.specs.Pages.{pages_after}
 use Rattle.newt_journal.specs.Places.{first_place, payloads_from, IsPlace}
 use Rattle.newt_pagelog.specs.Kept.{map_of}
-use Rattle.newt_pagelog.specs.Placed.{ArePlaced, Looks, lifted, page_from}
+use Rattle.newt_pagelog.specs.Placed.{ArePlaced, lifted, page_from}
 use Rattle.newt_pagelog.proofs.places.replay.Given as goal
 
 abbrev pub invariant-loop-places : goal.invariant-loop-places
@@ -16,7 +17,8 @@ invariant-loop-places g l =
     record {
       low : first_place l.journal ≤ l.at;
       high : l.at ≤ l.journal.end;
-      looks : Looks l.journal.unit (outside l.fn.host) (outside l.host);
+      looks : OnlyReads l.journal.unit (outside l.fn.host) (outside l.host);
+      no_fault : (outside l.host).dev_faults l.journal.unit ≡ (outside l.fn.host).dev_faults l.journal.unit;
       place : IsTrue g.H.Host.told → IsPlace l.journal l.at img;
       unique : hash.IsUnique nat_eq l.places;
       placed : ArePlaced l.journal l.places.entries;

@@ -1,9 +1,10 @@
-use Rattle.std.proofs.Common.{IsTrue, ◌+◌, ◌*◌, ◌≤◌, nat_eq, [], length, take, drop}
+use Rattle.std.proofs.Common.{IsTrue, ◌≡◌, ◌+◌, ◌*◌, ◌≤◌, nat_eq, [], length, take, drop}
 use Rattle.std.specs.HashSet.{contains}
 use Rattle.std.specs.HashMap as hash
 use Rattle.newt_host.specs.Moments.{image}
+use Rattle.newt_host.specs.Outside.{OnlyReads}
 use Rattle.newt_spec_image.specs.Pages.{puts_from, deletes_from}
-use Rattle.newt_pagelog.specs.Placed.{Places, ArePlaced, Looks, Replayed}
+use Rattle.newt_pagelog.specs.Placed.{Places, ArePlaced, Replayed}
 use Rattle.newt_pagelog.proofs.places.replay_deletes.Given as goal
 
 abbrev pub invariant-loop-i : goal.invariant-loop-i
@@ -12,7 +13,8 @@ invariant-loop-i g l =
     let img = image l.journal.unit (outside l.fn.host).now in
     let payload = take l.found.len (drop l.found.at img) in
     record {
-      looks : Looks l.journal.unit (outside l.fn.host) (outside l.host);
+      looks : OnlyReads l.journal.unit (outside l.fn.host) (outside l.host);
+      no_fault : (outside l.host).dev_faults l.journal.unit ≡ (outside l.fn.host).dev_faults l.journal.unit;
       unique : hash.IsUnique nat_eq l.places;
       placed : ArePlaced l.journal l.places.entries;
       len : length l.places.entries ≤ length l.fn.places.entries;

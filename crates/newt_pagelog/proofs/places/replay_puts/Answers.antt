@@ -3,21 +3,23 @@ use Rattle.std.specs.HashSet.{contains}
 use Rattle.std.specs.Option.{is_some}
 use Rattle.newt_pagebook.specs.declared.book.BookFault.TheVariants.{Device}
 use Rattle.newt_host.specs.Moments.{image}
+use Rattle.newt_host.proofs.Outside.{OnlyReads-append, OnlyReads-refl}
 use Rattle.newt_spec_image.specs.Pages.{Change, word_at, puts_from}
 use Rattle.newt_pagebook.specs.Batch.{puts_one}
 use Rattle.newt_pagelog.specs.Placed.{Replayed, page_from}
 use Rattle.newt_pagelog.specs.Replay.{IsRefused}
 use Rattle.newt_pagelog.proofs.Failing.{rose-over, same-err}
 use Rattle.newt_pagelog.proofs.Payloads.{put_refused, put_at}
-use Rattle.newt_pagelog.proofs.Placing.{replayed-none, grown-one, looks-refl, looks-append, looks-stands, looks-image, held-inside, placed-put, replayed-put, put-there, word-piece}
+use Rattle.newt_pagelog.proofs.Placing.{replayed-none, grown-one, looks-stands, looks-image, held-inside, placed-put, replayed-put, put-there, word-piece}
 use Rattle.newt_pagelog.proofs.Replaying.{at_some, at_none, if_some}
 use Rattle.newt_pagelog.proofs.places.replay_puts.Goals as goal
 
 pub loop-i-init : goal.loop-i-init
 loop-i-init g c = record {
-  looks = looks-refl c.args.journal.now.unit (g.H.Host.outside c.args.host.now);
-  unique = c.requires.unique;
-  placed = c.requires.placed;
+  looks = OnlyReads-refl c.args.journal.now.unit (g.H.Host.outside c.args.host.now);
+  no_fault = refl;
+  unique = c.requires.table.unique;
+  placed = c.requires.table.placed;
   len = omega arith;
   read = λ tells. replayed-none (image c.args.journal.now.unit (g.H.Host.outside c.args.host.now).now) c.args.places.now.entries (contains nat_eq c.args.seen.now) c.requires.seen;
 }
@@ -27,53 +29,56 @@ next_number-requires-clause-stands g c = looks-stands g.H.Host.told c.args.journ
 
 pub returns-in_err-number-clause-reads : goal.returns-in_err-number-clause-reads
 returns-in_err-number-clause-reads g c = record {
-  looks = let o = g.H.Host.outside in looks-append c.args.journal.now.unit (o c.args.host.now) (o c.loop-i.host) (o c.next_number.new.host) c.loop-i.invariant.looks c.next_number.ensures.reads.looks;
+  looks = let o = g.H.Host.outside in OnlyReads-append c.loop-i.invariant.looks c.next_number.ensures.reads.looks;
   no_other = search rules;
   cause = λ bad.
       let o = g.H.Host.outside in
       let u = c.args.journal.now.unit in
       rose-over u u (o c.args.host.now) (o c.loop-i.host) (o c.next_number.new.host) refl c.loop-i.invariant.looks.alone
       (c.in_err-number.ensures.reads.cause (ap Err (same-err c.from_residual.result c.in_err-number.field-0.0 Device c.from_residual.ensures.1 bad)));
+  no_fault = search rules;
 }
 
 pub returns-in_err-insert-in-Some-clause-reads : goal.returns-in_err-insert-in-Some-clause-reads
 returns-in_err-insert-in-Some-clause-reads g c = record {
-  looks = let o = g.H.Host.outside in looks-append c.args.journal.now.unit (o c.args.host.now) (o c.loop-i.host) (o c.next_number.new.host) c.loop-i.invariant.looks c.next_number.ensures.reads.looks;
+  looks = let o = g.H.Host.outside in OnlyReads-append c.loop-i.invariant.looks c.next_number.ensures.reads.looks;
   no_other = search rules;
   cause = search rules;
+  no_fault = search rules;
 }
 
-pub returns-in-None-clause-bad : goal.returns-in-None-clause-bad
-returns-in-None-clause-bad g c = λ tells _.
-    let o = g.H.Host.outside in
-    let u = c.args.journal.now.unit in
-    let i = c.loop-i.i in
-    let inv = c.loop-i.invariant in
-    let img = image u (o c.args.host.now).now in
-    let len = c.args.found.len in
-    let payload = take len (drop c.args.found.at img) in
-    let now : image u (o c.loop-i.host).now ≡ img = looks-image u (o c.args.host.now) (o c.loop-i.host) inv.looks in
-    let at = c.args.found.at + 4 + 516 * i in
-    let refused : IsRefused (word_at at (image u (o c.loop-i.host).now)) (contains nat_eq c.loop-i.seen) = at_none _ _ c.in_ok-number.field-0 c.in-None.is (c.in_ok-number.ensures.number tells) in
-    let number : word_at at (image u (o c.loop-i.host).now) ≡ (put_at payload i).0 = ap (λ (l : List ℕ). word_at at l) now
-    ∙ sym (word-piece img c.args.found.at len (4 + 516 * i) (omega (arith, c.requires.inside, c.loop-i-test.true)) ∙ ap (λ (k : ℕ). word_at k img) (let e : c.args.found.at + (4 + 516 * i) ≡ at = omega arith in e)) in
-    put_refused payload (contains nat_eq c.loop-i.seen) (record { puts = puts_from i (drop 4 payload); deletes = [] }) i (omega (arith, c.requires.count tells, c.loop-i-test.true)) refl (inv.read tells).marks
-    (subst (λ (n : ℕ). IsRefused n (contains nat_eq c.loop-i.seen)) number refused)
+pub returns-in-None-clause-replays : goal.returns-in-None-clause-replays
+returns-in-None-clause-replays g c = λ tells. record {
+  true_says = λ bad. absurd (cc);
+  false_says = λ _.
+      let o = g.H.Host.outside in
+      let u = c.args.journal.now.unit in
+      let i = c.loop-i.i in
+      let inv = c.loop-i.invariant in
+      let img = image u (o c.args.host.now).now in
+      let len = c.args.found.len in
+      let payload = take len (drop c.args.found.at img) in
+      let now : image u (o c.loop-i.host).now ≡ img = looks-image u (o c.args.host.now) (o c.loop-i.host) inv.looks in
+      let at = c.args.found.at + 4 + 516 * i in
+      let refused : IsRefused (word_at at (image u (o c.loop-i.host).now)) (contains nat_eq c.loop-i.seen) = at_none _ _ c.in_ok-number.field-0 c.in-None.is (c.in_ok-number.ensures.number tells) in
+      let number : word_at at (image u (o c.loop-i.host).now) ≡ (put_at payload i).0 = ap (λ (l : List ℕ). word_at at l) now
+      ∙ sym (word-piece img c.args.found.at len (4 + 516 * i) (omega (arith, c.requires.within.inside, c.loop-i-test.true)) ∙ ap (λ (k : ℕ). word_at k img) (let e : c.args.found.at + (4 + 516 * i) ≡ at = omega arith in e)) in
+      put_refused payload (contains nat_eq c.loop-i.seen) (record { puts = puts_from i (drop 4 payload); deletes = [] }) i (omega (arith, c.requires.count tells, c.loop-i-test.true)) refl (inv.read tells).marks
+      (subst (λ (n : ℕ). IsRefused n (contains nat_eq c.loop-i.seen)) number refused);
+}
 
-pub returns-in-None-clause-unique : goal.returns-in-None-clause-unique
-returns-in-None-clause-unique g c = c.loop-i.invariant.unique
-
-pub returns-in-None-clause-placed : goal.returns-in-None-clause-placed
-returns-in-None-clause-placed g c = c.loop-i.invariant.placed
+pub returns-in-None-clause-table : goal.returns-in-None-clause-table
+returns-in-None-clause-table g c = record { unique = c.loop-i.invariant.unique; placed = c.loop-i.invariant.placed }
 
 pub returns-in-None-clause-len : goal.returns-in-None-clause-len
 returns-in-None-clause-len g c = omega (arith, c.loop-i.invariant.len, c.loop-i-test.true)
 
 pub returns-in-None-clause-reads : goal.returns-in-None-clause-reads
 returns-in-None-clause-reads g c = record {
-  looks = let o = g.H.Host.outside in looks-append c.args.journal.now.unit (o c.args.host.now) (o c.loop-i.host) (o c.next_number.new.host) c.loop-i.invariant.looks c.next_number.ensures.reads.looks;
+  looks = let o = g.H.Host.outside in OnlyReads-append c.loop-i.invariant.looks c.next_number.ensures.reads.looks;
   no_other = search rules;
   cause = search rules;
+  no_fault = c.in_ok-number.ensures.reads.no_fault ∙ c.loop-i.invariant.no_fault;
 }
 
 pub loop-i-preserved : goal.loop-i-preserved
@@ -88,35 +93,36 @@ loop-i-preserved g c =
     let updates = c.in_ok-insert-in-Some.ensures.updates.0 in
     let taken = if_some _ c.in_ok-number.field-0 n c.in-Some.is c.in_ok-number.ensures.taken in
     record {
-      looks = looks-append u (o c.args.host.now) (o c.loop-i.host) (o c.next_number.new.host) inv.looks c.next_number.ensures.reads.looks;
+      looks = OnlyReads-append inv.looks c.next_number.ensures.reads.looks;
+      no_fault = c.in_ok-number.ensures.reads.no_fault ∙ inv.no_fault;
       unique = c.insert.ensures.unique;
       placed = placed-put j c.loop-i.places.entries c.insert.new.self.entries n (at + 4) inv.placed
-          (record { small = taken.small; low = omega (arith, c.requires.low); high = omega (arith, c.requires.inside, c.requires.high, c.loop-i-test.true) }) updates;
+          (record { small = taken.small; low = omega (arith, c.requires.within.low); high = omega (arith, c.requires.within.inside, c.requires.within.high, c.loop-i-test.true) }) updates;
       len = omega (arith, inv.len, grown-one (is_some c.in_ok-insert-in-Some.field-0) (length c.insert.new.self.entries) (length c.loop-i.places.entries) c.in_ok-insert-in-Some.ensures.len);
       read = λ tells.
           let img = image u (o c.args.host.now).now in
           let len = c.args.found.len in
           let now : image u (o c.loop-i.host).now ≡ img = looks-image u (o c.args.host.now) (o c.loop-i.host) inv.looks in
           let number : n ≡ word_at at img = at_some _ _ c.in_ok-number.field-0 n c.in-Some.is (c.in_ok-number.ensures.number tells) ∙ ap (λ (l : List ℕ). word_at at l) now in
-          let low : at + 4 + 512 ≤ length img = omega (arith, c.requires.inside, c.requires.high, c.loop-i-test.true, held-inside g.H.Host.told j (o c.args.host.now) c.requires.stands tells) in
+          let low : at + 4 + 512 ≤ length img = omega (arith, c.requires.within.inside, c.requires.within.high, c.loop-i-test.true, held-inside g.H.Host.told j (o c.args.host.now) c.requires.stands tells) in
           let change : Change = record { puts = puts_from i (drop 4 (take len (drop c.args.found.at img))); deletes = [] } in
           subst (λ (ch : Change). Replayed img ch c.args.places.now.entries c.insert.new.self.entries (contains nat_eq c.next_number.new.seen))
-          (ap (λ (k : ℕ). puts_one change k (page_from img (at + 4))) number ∙ sym (put-there img c.args.found.at len i (omega (arith, c.requires.inside, c.loop-i-test.true))))
+          (ap (λ (k : ℕ). puts_one change k (page_from img (at + 4))) number ∙ sym (put-there img c.args.found.at len i (omega (arith, c.requires.within.inside, c.loop-i-test.true))))
           (replayed-put img change c.args.places.now.entries c.loop-i.places.entries c.insert.new.self.entries (contains nat_eq c.loop-i.seen) (contains nat_eq c.next_number.new.seen) n (at + 4) (inv.read tells) taken low updates);
     }
 
-pub returns-clause-read : goal.returns-clause-read
-returns-clause-read g c = λ tells _.
-    let img = image c.args.journal.now.unit (g.H.Host.outside c.args.host.now).now in
-    let end : c.loop-i.i ≡ c.args.puts = omega (arith, c.loop-i-test.false, c.loop-i.auto.i-end) in
-    subst (λ (n : ℕ). Replayed img (record { puts = puts_from n (drop 4 (take c.args.found.len (drop c.args.found.at img))); deletes = [] }) c.args.places.now.entries c.loop-i.places.entries (contains nat_eq c.loop-i.seen)) end
-    (c.loop-i.invariant.read tells)
+pub returns-clause-replays : goal.returns-clause-replays
+returns-clause-replays g c = λ tells. record {
+  true_says = λ _.
+      let img = image c.args.journal.now.unit (g.H.Host.outside c.args.host.now).now in
+      let end : c.loop-i.i ≡ c.args.puts = omega (arith, c.loop-i-test.false, c.loop-i.auto.i-end) in
+      subst (λ (n : ℕ). Replayed img (record { puts = puts_from n (drop 4 (take c.args.found.len (drop c.args.found.at img))); deletes = [] }) c.args.places.now.entries c.loop-i.places.entries (contains nat_eq c.loop-i.seen)) end
+      (c.loop-i.invariant.read tells);
+  false_says = λ bad. absurd (cc);
+}
 
-pub returns-clause-unique : goal.returns-clause-unique
-returns-clause-unique g c = c.loop-i.invariant.unique
-
-pub returns-clause-placed : goal.returns-clause-placed
-returns-clause-placed g c = c.loop-i.invariant.placed
+pub returns-clause-table : goal.returns-clause-table
+returns-clause-table g c = record { unique = c.loop-i.invariant.unique; placed = c.loop-i.invariant.placed }
 
 pub returns-clause-len : goal.returns-clause-len
 returns-clause-len g c = omega (arith, c.loop-i.invariant.len, c.loop-i-test.false, c.loop-i.auto.i-end)
@@ -126,4 +132,5 @@ returns-clause-reads g c = record {
   looks = c.loop-i.invariant.looks;
   no_other = search rules;
   cause = search rules;
+  no_fault = c.loop-i.invariant.no_fault;
 }

@@ -1,47 +1,59 @@
-use Rattle.std.proofs.Common.{◌≡◌, ℕ, sym, ◌∙◌, ap, subst}
+use Rattle.std.proofs.Common.{◌≡◌, ℕ, arith, List, sym, ◌∙◌, ap, subst}
 use Rattle.newt_host.specs.Moments.{image}
-use Rattle.newt_spec_image.specs.Records.{records}
+use Rattle.newt_spec_image.specs.Records.{bank_blocks, records}
+use Rattle.newt_journal.specs.Calls.{three_votes, writing}
 use Rattle.newt_journal.specs.Draft.{unit_of}
+use Rattle.newt_pagelog.specs.Steps.{begin_work}
 use Rattle.newt_journal.specs.declared.journal.Journal.{Journal}
-use Rattle.newt_pagelog.proofs.Stepping.{stays-two, stays-on, steady-after, steady-on}
+use Rattle.newt_pagelog.proofs.Stepping.{stays-two, stays-on, stays-with, steady-after, steady-on, writes-done, writes-failed, writes-weaken, writes-widen}
 use Rattle.newt_pagelog.proofs.write.begin_alone.Goals as goal
 
 -- the votes are mended, and then the record is begun
+pub returns-in_err-repair-clause-stays : goal.returns-in_err-repair-clause-stays
+returns-in_err-repair-clause-stays g c = writes-widen three_votes (begin_work c.args.journal.blocks)
+    (record { programs = omega arith; fetches = omega arith; erases = omega arith; syncs = omega arith })
+    (writes-weaken (λ tells left m. m.same_records)
+    (writes-failed c.from_residual.result c.from_residual.ensures.0 c.in_err-repair.ensures.writes))
+
 pub returns-in_err-draft-clause-stays : goal.returns-in_err-draft-clause-stays
 returns-in_err-draft-clause-stays g c =
     let o = g.H.Host.outside in
-    let told = g.H.Host.told in
     let u = c.args.journal.unit in
     let its : c.repair.new.self.unit ≡ u = ap (λ (j : Journal). j.unit) c.repair.ensures.same in
-    stays-two told u (o c.args.host.now) (o c.repair.new.host) (o c.switch.new.host) c.in_ok-repair.ensures.reads
-    (record { any_moment = c.repair.ensures.reads_at_any_moment; alone = c.repair.ensures.alone })
-    (stays-on told c.repair.new.self.unit u (o c.repair.new.host) (o c.switch.new.host) its (record { any_moment = c.switch.ensures.writes.any_moment; alone = c.switch.ensures.writes.alone }))
+    let blocks = ap (λ (j : Journal). begin_work j.blocks) c.repair.ensures.same in
+    stays-with _ _ blocks
+    (stays-two three_votes (writing 21 (bank_blocks c.repair.new.self.blocks) 1) c.in_ok-repair.ensures.reads
+    (writes-weaken (λ tells left m. m.same_records) (writes-done c.in_ok-repair.ensures.writes))
+    (stays-on c.repair.new.self.unit u its (writes-failed c.from_residual-in_err-draft.result c.from_residual-in_err-draft.ensures.0 c.in_err-draft.ensures.writes)))
 
 pub returns-clause-stays : goal.returns-clause-stays
 returns-clause-stays g c =
     let o = g.H.Host.outside in
-    let told = g.H.Host.told in
     let u = c.args.journal.unit in
     let its : c.repair.new.self.unit ≡ u = ap (λ (j : Journal). j.unit) c.repair.ensures.same in
-    stays-two told u (o c.args.host.now) (o c.repair.new.host) (o c.switch.new.host) c.in_ok-repair.ensures.reads
-    (record { any_moment = c.repair.ensures.reads_at_any_moment; alone = c.repair.ensures.alone })
-    (stays-on told c.repair.new.self.unit u (o c.repair.new.host) (o c.switch.new.host) its (record { any_moment = c.switch.ensures.writes.any_moment; alone = c.switch.ensures.writes.alone }))
+    let blocks = ap (λ (j : Journal). begin_work j.blocks) c.repair.ensures.same in
+    stays-with _ _ blocks
+    (stays-two three_votes (writing 21 (bank_blocks c.repair.new.self.blocks) 1) c.in_ok-repair.ensures.reads
+    (writes-weaken (λ tells left m. m.same_records) (writes-done c.in_ok-repair.ensures.writes))
+    (stays-on c.repair.new.self.unit u its c.in_ok-draft.ensures.writes))
 
 pub returns-clause-begins : goal.returns-clause-begins
 returns-clause-begins g c =
     let o = g.H.Host.outside in
     let j : Journal = c.repair.new.self in
     let its : j.unit ≡ c.args.journal.unit = ap (λ (j : Journal). j.unit) c.repair.ensures.same in
-    let e = c.in_ok-draft.ensures in
+    let e = c.in_ok-draft.ensures.begun in
     record {
-      draft_of = e.draft.0;
-      on = e.draft.1 ∙ its;
-      holds = e.holds ∙ c.repair.ensures.same;
-      len_is = e.draft.2;
-      put = e.draft.3;
-      kind = e.draft.4;
-      empty = e.empty;
-      same = λ tells. subst (λ (v : ℕ). records (image v (o c.switch.new.host).now) ≡ records (image v (o c.repair.new.host).now)) its (e.same tells) ∙ c.in_ok-repair.ensures.reads tells;
-      steady = λ tells. steady-on j.unit (unit_of c.in_ok-draft.draft) (o c.switch.new.host).now (sym e.draft.1)
+      begun = record {
+        draft_of = e.draft_of;
+        on = e.on ∙ its;
+        holds = e.holds ∙ c.repair.ensures.same;
+        len_is = e.len_is;
+        put = e.put;
+        kind = e.kind;
+        empty = e.empty;
+        same = λ tells. subst (λ (v : ℕ). records (image v (o c.switch.new.host).now) ≡ records (image v (o c.repair.new.host).now)) its (e.same tells) ∙ c.in_ok-repair.ensures.reads tells;
+      };
+      steady = λ tells. steady-on j.unit (unit_of c.in_ok-draft.draft) (o c.switch.new.host).now (sym e.on)
           (steady-after j.unit (o c.repair.new.host).now (o c.switch.new.host).now (c.switch.ensures.writes.any_moment tells) (e.same tells));
     }

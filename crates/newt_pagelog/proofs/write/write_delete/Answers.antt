@@ -3,7 +3,7 @@ use Rattle.std.specs.List.{flat_map, filter}
 use Rattle.newt_spec_image.specs.Pages.{written_delete}
 use Rattle.newt_journal.specs.Draft.{unit_of}
 use Rattle.newt_pagelog.specs.Kept.{is_kept}
-use Rattle.newt_pagelog.proofs.Stepping.{keeps-start, keeps-widen, put-writes, writes-same, one_deleted}
+use Rattle.newt_pagelog.proofs.Stepping.{keeps-start, keeps-widen, put-writes, writes-same, one_deleted, writes-ok}
 use Rattle.newt_pagelog.proofs.write.write_delete.Goals as goal
 
 pub returns-then-contains_key-clause-ok : goal.returns-then-contains_key-clause-ok
@@ -20,4 +20,5 @@ returns-then-contains_key-clause-ok g c =
 pub returns-clause-keeps : goal.returns-clause-keeps
 returns-clause-keeps g c =
     let o = g.H.Host.outside c.args.host.now in
-    keeps-widen g.H.Host.told (unit_of c.args.draft.now) 0 (4 * length (filter (is_kept c.args.pages.now.entries) (c.args.number ∷ []))) o o (omega arith) (keeps-start g.H.Host.told (unit_of c.args.draft.now) o c.requires.steady)
+    keeps-widen g.H.Host.told (unit_of c.args.draft.now) 0 (4 * length (filter (is_kept c.args.pages.now.entries) (c.args.number ∷ []))) o o (omega arith)
+    (writes-ok (keeps-start g.H.Host.told (unit_of c.args.draft.now) o c.requires.steady))

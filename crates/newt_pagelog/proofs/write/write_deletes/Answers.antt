@@ -4,7 +4,7 @@ use Rattle.std.proofs.lemmas.List.{take_more}
 use Rattle.newt_spec_image.specs.Pages.{written_delete}
 use Rattle.newt_journal.specs.Draft.{unit_of}
 use Rattle.newt_pagelog.specs.Kept.{is_kept}
-use Rattle.newt_pagelog.proofs.Stepping.{keeps-start, keeps-two, keeps-widen, keeps-on, writes-none, step, deletes-size, filter-take}
+use Rattle.newt_pagelog.proofs.Stepping.{keeps-start, keeps-two, keeps-widen, keeps-on, writes-none, step, deletes-size, filter-take, writes-done, writes-failed}
 use Rattle.std.proofs.lemmas.List.Elements.{filter-append}
 use Rattle.std.proofs.lemmas.Grind.{flat_map-append}
 use Rattle.newt_pagelog.proofs.write.write_deletes.Goals as goal
@@ -44,7 +44,7 @@ returns-in_err-write_delete-clause-keeps g c =
     let n = 4 * length (filter p (get_or ns i 0 ∷ [])) in
     keeps-widen told u (m + n) (4 * length (filter p ns)) (o c.args.host.now) (o c.write_delete.new.host) (omega (arith, few p ns i c.loop-number-test.true))
     (keeps-two told u m n (o c.args.host.now) (o c.loop-number.host) (o c.write_delete.new.host) inv.writes.same inv.keeps
-    (keeps-on told (unit_of c.loop-number.draft) u n (o c.loop-number.host) (o c.write_delete.new.host) inv.writes.on c.write_delete.ensures.keeps))
+    (keeps-on told (unit_of c.loop-number.draft) u n (o c.loop-number.host) (o c.write_delete.new.host) inv.writes.on (writes-failed c.from_residual.result c.from_residual.ensures.0 c.in_err-write_delete.ensures.keeps)))
 
 pub loop-number-preserved : goal.loop-number-preserved
 loop-number-preserved g c =
@@ -61,5 +61,5 @@ loop-number-preserved g c =
     let all : flat_map written_delete (filter p (take (i + 1) ns)) ≡ flat_map written_delete front ++ flat_map written_delete next = ap (flat_map written_delete) whole ∙ flat_map-append written_delete front next in
     let s = step told (unit_of d) (4 * length front) (4 * length next) (4 * length (filter p (take (i + 1) ns))) (flat_map written_delete front) (flat_map written_delete next) (flat_map written_delete (filter p (take (i + 1) ns)))
     d c.loop-number.draft c.write_delete.new.draft (o c.args.host.now) (o c.loop-number.host) (o c.write_delete.new.host) all
-    (omega (arith, ap (λ (l : List ℕ). length l) whole, length-append front next)) inv.keeps inv.writes c.write_delete.ensures.keeps c.in_ok-write_delete.ensures.ok in
+    (omega (arith, ap (λ (l : List ℕ). length l) whole, length-append front next)) inv.keeps inv.writes (writes-done c.in_ok-write_delete.ensures.keeps) c.in_ok-write_delete.ensures.ok in
     record { keeps = s.keeps; writes = s.writes }

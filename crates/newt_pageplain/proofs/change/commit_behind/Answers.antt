@@ -2,17 +2,18 @@ use Rattle.std.proofs.Common.{IsTrue, Bool, ◌≡◌, ℕ, ◌+◌, ◌*◌, �
 use Rattle.std.specs.List.{filter}
 use Rattle.newt_host.specs.Moments.{image}
 use Rattle.newt_host.specs.Outside.{Outside}
-use Rattle.newt_host.proofs.Outside.{Spends-widen}
 use Rattle.newt_spec_image.specs.Records.{records}
 use Rattle.newt_spec_image.specs.Pages.{Change, written_change}
 use Rattle.newt_journal.specs.Journal.{appended, room}
 use Rattle.newt_journal.specs.declared.journal.Journal.{Journal}
 use Rattle.newt_pagebook.specs.Batch.{IsBatch}
-use Rattle.newt_pagebook.specs.Book.{ReadsChanged, batch_bytes}
+use Rattle.newt_pagebook.specs.Book.{ReadsChanged}
+use Rattle.newt_pagelog.specs.Commits.{append_work}
 use Rattle.newt_pagelog.specs.Kept.{Entries, AreSound, is_kept, needed}
 use Rattle.newt_pagelog.proofs.Changing.{sound-after, live-after, few_kept, fewer, cap-few}
 use Rattle.newt_pagelog.proofs.Committed.{appended-reads}
-use Rattle.newt_pagelog.proofs.Committing.{commits, commits-failed}
+use Rattle.newt_pagelog.proofs.Committing.{commits, commits-failed, commits-widen}
+use Rattle.newt_pagelog.proofs.Stepping.{NoMore}
 use Rattle.newt_pagelog.proofs.Near.{room-few}
 use Rattle.newt_pageplain.specs.Plain.{IsHeldBy}
 use Rattle.newt_pageplain.proofs.change.commit_behind.Goals as goal
@@ -25,8 +26,17 @@ reads told j entries batch o book sound is fits tells left added =
     let low : length (filter (is_kept entries) batch.deletes) < 65536 = omega (arith, few_kept entries batch is, sound.few) in
     appended-reads entries batch (image j.unit o.now) left is few low (book.holds tells) added
 
+-- deletes of pages that are not there are not written
+no-more : (entries : Entries) (batch : Change) → NoMore (append_work (needed entries batch)) (append_work batch)
+no-more entries batch = record {
+  programs = omega (arith, fewer (is_kept entries) batch.deletes);
+  fetches = omega arith;
+  erases = omega arith;
+  syncs = omega arith;
+}
+
 pub append_batch-requires-clause-few_deletes : goal.append_batch-requires-clause-few_deletes
-append_batch-requires-clause-few_deletes g c = omega (arith, few_kept c.args.pages.now.entries c.args.batch.now c.requires.batch, c.requires.sound.few)
+append_batch-requires-clause-few_deletes g c = omega (arith, few_kept c.args.pages.now.entries c.args.batch.now c.requires.batch, c.requires.ready.sound.few)
 
 pub returns-in_err-journal-clause-commits : goal.returns-in_err-journal-clause-commits
 returns-in_err-journal-clause-commits g c =
@@ -36,8 +46,8 @@ returns-in_err-journal-clause-commits g c =
     let batch = c.args.batch.now in
     let a = o c.args.host.now in
     let b = o c.append_batch.new.host in
-    commits-failed told j batch _ c.from_residual.result a b c.from_residual.ensures.0
-    (commits told j batch _ _ a b (reads told j c.args.pages.now.entries batch a c.requires.book c.requires.sound c.requires.batch c.requires.fits) c.in_err-journal.ensures.rewrites)
+    commits-widen _ _ (no-more c.args.pages.now.entries batch) (commits-failed told j _ batch _ c.from_residual.result a b c.from_residual.ensures.0
+    (commits told j _ batch _ _ a b (reads told j c.args.pages.now.entries batch a c.requires.ready.book c.requires.ready.sound c.requires.batch c.requires.fits) c.in_err-journal.ensures.rewrites))
 
 pub returns-clause-commits : goal.returns-clause-commits
 returns-clause-commits g c =
@@ -46,22 +56,12 @@ returns-clause-commits g c =
     let j = c.args.journal in
     let batch = c.args.batch.now in
     let a = o c.args.host.now in
-    commits told j batch _ _ a (o c.append_batch.new.host) (reads told j c.args.pages.now.entries batch a c.requires.book c.requires.sound c.requires.batch c.requires.fits) c.in_ok-journal.ensures.rewrites
-
-pub returns-in_err-journal-clause-costs : goal.returns-in_err-journal-clause-costs
-returns-in_err-journal-clause-costs g c =
-    let less = fewer (is_kept c.args.pages.now.entries) c.args.batch.now.deletes in
-    Spends-widen (9 + 516 * length c.args.batch.now.puts + 4 * length (filter (is_kept c.args.pages.now.entries) c.args.batch.now.deletes)) 0 (batch_bytes c.args.batch.now) 0 (omega (arith, less)) (omega arith) c.append_batch.ensures.costs
-
-pub returns-clause-costs : goal.returns-clause-costs
-returns-clause-costs g c =
-    let less = fewer (is_kept c.args.pages.now.entries) c.args.batch.now.deletes in
-    Spends-widen (9 + 516 * length c.args.batch.now.puts + 4 * length (filter (is_kept c.args.pages.now.entries) c.args.batch.now.deletes)) 0 (batch_bytes c.args.batch.now) 0 (omega (arith, less)) (omega arith) c.append_batch.ensures.costs
+    commits-widen _ _ (no-more c.args.pages.now.entries batch) (commits told j _ batch _ _ a (o c.append_batch.new.host) (reads told j c.args.pages.now.entries batch a c.requires.ready.book c.requires.ready.sound c.requires.batch c.requires.fits) c.in_ok-journal.ensures.rewrites)
 
 pub returns-clause-sound : goal.returns-clause-sound
 returns-clause-sound g c =
     let old = c.args.pages.now.entries in
     let new = c.apply.new.pages.entries in
     let batch = c.args.batch.now in
-    let few : length new < 65536 = cap-few c.args.journal.blocks (length new) c.args.journal.not_too_many (omega (arith, live-after old new batch c.apply.ensures.pages c.apply.ensures.unique, c.requires.ready.live)) in
-    sound-after old new batch c.requires.sound c.requires.batch c.apply.ensures.pages c.apply.ensures.unique few
+    let few : length new < 65536 = cap-few c.args.journal.blocks (length new) c.args.journal.not_too_many (omega (arith, live-after old new batch c.apply.ensures.pages c.apply.ensures.unique, c.requires.ready.room.live)) in
+    sound-after old new batch c.requires.ready.sound c.requires.batch c.apply.ensures.pages c.apply.ensures.unique few

@@ -1,4 +1,4 @@
-use Rattle.std.proofs.Common.{◌≡◌, ℕ, ◌+◌, ◌<◌, ◌≤◌, true, false, nat_eq, List, Some, None, sym, ◌∙◌, ap, arith, ⊎_elim}
+use Rattle.std.proofs.Common.{◌≡◌, ℕ, ◌+◌, ◌<◌, ◌≤◌, true, false, nat_eq, List, Some, None, Err, refl, sym, ◌∙◌, ap, arith, ⊎_elim}
 use Rattle.std.specs.Map.{lookup}
 use Rattle.std.specs.Option.{is_some, option_map}
 use Rattle.std.specs.Cmp.{nat_cmp_total}
@@ -7,14 +7,17 @@ use Rattle.std.specs.FinSet as set
 use Rattle.std.proofs.lemmas.Bool.{cases_lt}
 use Rattle.std.proofs.lemmas.Bool.Decides.{nat_tests}
 use Rattle.newt_host.specs.Moments.{image}
+use Rattle.newt_host.proofs.Outside.{OnlyReads-append}
 use Rattle.newt_spec_image.specs.Pages.{Pages}
 use Rattle.newt_pagebook.specs.Book.{Numbers}
 use Rattle.newt_pagebook.proofs.Tests.{true_or_false, is_same, equal_false, none_is}
 use Rattle.newt_pagelog.specs.Kept.{Entries, page_in, numbers_in, is_kept, kept_number}
 use Rattle.newt_pagelog.specs.Placed.{Places, AreNumbered, lifted, page_from}
 use Rattle.newt_pagelog.proofs.Counts.{live-is}
+use Rattle.newt_pagebook.specs.declared.book.BookFault.TheVariants.{Device, NotStore}
+use Rattle.newt_pagelog.proofs.Failing.{no-opening, rose-over, same-err}
 use Rattle.newt_pagelog.proofs.Maps.{same_entries}
-use Rattle.newt_pagelog.proofs.Placing.{looks-append, looks-image, lookup-lifted, pages-from}
+use Rattle.newt_pagelog.proofs.Placing.{looks-image, lookup-lifted, pages-from}
 use Rattle.newt_pageplain.proofs.open.read_pages.Goals as goal
 
 -- a fact of one number more
@@ -36,16 +39,17 @@ loop-number-preserved g c =
     let inv = c.loop-number.invariant in
     let e = c.in_ok-read_number.ensures in
     record {
-      looks = looks-append u (o c.args.host.now) (o c.loop-number.host) (o c.read_number.new.host) inv.looks c.read_number.ensures.reads.looks;
-      unique = e.unique;
-      above = λ q low. e.others q (equal_false n q (λ is. omega (arith, is, low))) ∙ inv.above q (omega (arith, low));
+      looks = OnlyReads-append inv.looks c.read_number.ensures.reads.looks;
+      no_fault = e.reads.no_fault ∙ inv.no_fault;
+      unique = e.took.unique;
+      above = λ q low. e.took.others q (equal_false n q (λ is. omega (arith, is, low))) ∙ inv.above q (omega (arith, low));
       kept = λ q low. ⊎_elim
-          (λ (t : nat_eq n q ≡ true). ap (λ (k : ℕ). is_kept new k) (sym (is_same n q t)) ∙ e.here ∙ ap (λ (k : ℕ). is_kept places k) (is_same n q t))
-          (λ (f : nat_eq n q ≡ false). ap is_some (e.others q f) ∙ inv.kept q (less_of q n low f))
+          (λ (t : nat_eq n q ≡ true). ap (λ (k : ℕ). is_kept new k) (sym (is_same n q t)) ∙ e.took.here ∙ ap (λ (k : ℕ). is_kept places k) (is_same n q t))
+          (λ (f : nat_eq n q ≡ false). ap is_some (e.took.others q f) ∙ inv.kept q (less_of q n low f))
           (true_or_false (nat_eq n q));
       whole = λ q page is. ⊎_elim
-          (λ (t : nat_eq n q ≡ true). e.whole page (ap (λ (k : ℕ). page_in new k) (is_same n q t) ∙ is))
-          (λ (f : nat_eq n q ≡ false). inv.whole q page (sym (e.others q f) ∙ is))
+          (λ (t : nat_eq n q ≡ true). e.took.whole page (ap (λ (k : ℕ). page_in new k) (is_same n q t) ∙ is))
+          (λ (f : nat_eq n q ≡ false). inv.whole q page (sym (e.took.others q f) ∙ is))
           (true_or_false (nat_eq n q));
       same = λ tells q low.
           let img : List ℕ = image u (o c.args.host.now).now in
@@ -53,7 +57,7 @@ loop-number-preserved g c =
           ⊎_elim
           (λ (t : nat_eq n q ≡ true).
           ap (λ (k : ℕ). page_in new k) (sym (is_same n q t)) ∙ e.page tells ∙ ap (λ (l : List ℕ). page_in (lifted (page_from l) places) n) now ∙ ap (λ (k : ℕ). page_in (lifted (page_from img) places) k) (is_same n q t))
-          (λ (f : nat_eq n q ≡ false). e.others q f ∙ inv.same tells q (less_of q n low f))
+          (λ (f : nat_eq n q ≡ false). e.took.others q f ∙ inv.same tells q (less_of q n low f))
           (true_or_false (nat_eq n q));
     }
 
@@ -100,3 +104,20 @@ returns-clause-pages g c = λ tells.
     (λ (high : 65536 ≤ q). inv.above q (omega (arith, high, end)) ∙ sym (lookup-lifted f places q ∙ ap (option_map f) (none_is (lookup (nat_eq q) places) (sym (all q) ∙ ap is_some (inv.above q (omega (arith, high, end)))))))
     (cases_lt q 65536) in
     pages-from g.H.Host.told j (o c.args.host.now) places c.requires tells c.in_ok-places.ensures.placed (c.in_ok-places.ensures.pages tells) ∙ ap (λ (m : Pages). Some m) (sym (same_entries (lifted f places) pages same))
+
+-- what was read until the places were found, and until all pages were read
+pub returns-in_err-read_number-clause-reads : goal.returns-in_err-read_number-clause-reads
+returns-in_err-read_number-clause-reads g c =
+    let o = g.H.Host.outside in
+    let u = c.args.journal.now.unit in
+    let inv = c.loop-number.invariant in
+    let r = c.from_residual-in_err-read_number.result in
+    let e = c.in_err-read_number.field-0.0 in
+    let is = c.from_residual-in_err-read_number.ensures in
+    let reads = c.in_err-read_number.ensures.reads in
+    record {
+      looks = OnlyReads-append inv.looks c.read_number.ensures.reads.looks;
+      cause = λ bad. rose-over u u (o c.args.host.now) (o c.loop-number.host) (o c.read_number.new.host)
+          refl inv.looks.alone (reads.cause (ap Err (same-err r e Device is.1 bad)));
+      no_fault = no-opening r is.0 (λ bad. reads.no_other (ap Err (same-err r e NotStore is.1 bad)));
+    }

@@ -4,7 +4,7 @@ use Rattle.std.proofs.lemmas.List.{map-append}
 use Rattle.std.specs.Map.Iter.{deref_pair}
 use Rattle.newt_spec_image.specs.Pages.{written_put}
 use Rattle.newt_journal.specs.Draft.{unit_of}
-use Rattle.newt_pagelog.proofs.Stepping.{keeps-start, keeps-two, keeps-widen, keeps-on, writes-none, writes-same, flat-push, step, written-size}
+use Rattle.newt_pagelog.proofs.Stepping.{keeps-start, keeps-two, keeps-widen, keeps-on, writes-none, writes-same, flat-push, step, written-size, writes-done, writes-failed, writes-ok}
 use Rattle.std.proofs.lemmas.Map.Iter.{iter_turn, iter_end}
 use Rattle.newt_pagelog.specs.Kept.{Entries}
 use Rattle.newt_pageplain.proofs.write.write_pages.Goals as goal
@@ -35,7 +35,7 @@ returns-in_err-write_put-clause-keeps g c =
     let turn = iter_turn deref_pair c.args.pages.now.entries c.loop-number.yielded c.into_iter-number-iterator.result c.loop-number.number-iterator c.next.new.self c.next.result start c.loop-number.yielded_by (c.in-Some.number, c.in-Some.page) c.in-Some.is c.next.ensures.steps in
     let i = length c.loop-number.yielded in
     keeps-widen told u (516 * i + 516) (516 * length c.args.pages.now.entries) (o c.args.host.now) (o c.write_put.new.host) (omega (arith, turn.0))
-    (keeps-two told u (516 * i) 516 (o c.args.host.now) (o c.loop-number.host) (o c.write_put.new.host) inv.writes.same inv.keeps (keeps-on told (unit_of c.loop-number.draft) u 516 (o c.loop-number.host) (o c.write_put.new.host) inv.writes.on c.write_put.ensures.keeps))
+    (keeps-two told u (516 * i) 516 (o c.args.host.now) (o c.loop-number.host) (o c.write_put.new.host) inv.writes.same inv.keeps (keeps-on told (unit_of c.loop-number.draft) u 516 (o c.loop-number.host) (o c.write_put.new.host) inv.writes.on (writes-failed c.from_residual.result c.from_residual.ensures.0 c.in_err-write_put.ensures.keeps)))
 
 pub loop-number-preserved : goal.loop-number-preserved
 loop-number-preserved g c =
@@ -51,7 +51,7 @@ loop-number-preserved g c =
     let all : flat_map written_put (map deref_pair yielded') ≡ flat_map written_put done ++ written_put p = ap (flat_map written_put) more ∙ flat-push written_put done p in
     let long : length yielded' ≡ i + 1 = length-append c.loop-number.yielded ((c.in-Some.number, c.in-Some.page) ∷ []) in
     let s = step told (unit_of d) (516 * i) 516 (516 * length yielded') (flat_map written_put done) (written_put p) (flat_map written_put (map deref_pair yielded')) d c.loop-number.draft c.write_put.new.draft
-    (o c.args.host.now) (o c.loop-number.host) (o c.write_put.new.host) all (omega (arith, long)) inv.keeps inv.writes c.write_put.ensures.keeps c.in_ok-write_put.ensures.ok in
+    (o c.args.host.now) (o c.loop-number.host) (o c.write_put.new.host) all (omega (arith, long)) inv.keeps inv.writes (writes-done c.in_ok-write_put.ensures.keeps) c.in_ok-write_put.ensures.ok in
     record {
       keeps = s.keeps;
       writes = s.writes;
@@ -73,7 +73,7 @@ returns-clause-keeps g c =
     let inv = c.loop-number.invariant in
     let start : c.into_iter-number-iterator.result ≡ c.args.pages.now.entries = c.into_iter-number-iterator.ensures.into_iter_gives ∙ c.iter-number-items.ensures.rest in
     let end = iter_end deref_pair c.args.pages.now.entries c.loop-number.yielded c.into_iter-number-iterator.result c.loop-number.number-iterator c.next.new.self c.next.result start c.loop-number.yielded_by c.in-None.is c.next.ensures.steps in
-    keeps-widen g.H.Host.told (unit_of c.args.draft.now) (516 * length c.loop-number.yielded) (516 * length c.args.pages.now.entries) (o c.args.host.now) (o c.loop-number.host) (omega (arith, end.1)) inv.keeps
+    keeps-widen g.H.Host.told (unit_of c.args.draft.now) (516 * length c.loop-number.yielded) (516 * length c.args.pages.now.entries) (o c.args.host.now) (o c.loop-number.host) (omega (arith, end.1)) (writes-ok inv.keeps)
 
 pub returns-clause-put : goal.returns-clause-put
 returns-clause-put g c =

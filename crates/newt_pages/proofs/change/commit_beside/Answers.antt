@@ -11,7 +11,7 @@ use Rattle.newt_journal.specs.declared.journal.Journal.{Journal}
 use Rattle.newt_pagebook.specs.Batch.{IsBatch}
 use Rattle.newt_pagebook.specs.Book.{Numbers, ReadsChanged, changed_numbers}
 use Rattle.newt_pagebook.proofs.Tests.{some_inj}
-use Rattle.newt_pagelog.specs.Kept.{Entries, map_of, all_of}
+use Rattle.newt_pagelog.specs.Kept.{Entries, map_of, all_of, numbers_in}
 use Rattle.newt_pagelog.specs.Placed.{Places, lifted, page_of, AreNumbered, ArePlaced, HoldsAt}
 use Rattle.newt_pagelog.proofs.Counts.{live-is, numbers-after}
 use Rattle.newt_pagelog.proofs.Changing.{cap-few}
@@ -46,7 +46,7 @@ replace_all-requires-clause-count g c =
     let old = c.args.places.now.entries in
     let left = c.remove_numbers.new.places.entries in
     let is = c.requires.batch in
-    let numbered = c.requires.numbered in
+    let numbered = c.requires.ready.numbered in
     let are_left : AreLeft batch old left = left-of batch c.puts.result.now c.deletes.result.now old c.remove_puts.new.places.entries left c.puts.ensures.puts c.deletes.ensures.deletes c.remove_puts.ensures.updates c.remove_numbers.ensures.updates in
     let count = whole-count batch is old left numbered are_left in
     omega (arith, count, c.requires.live, ap (λ (l : List Put). length l) c.puts-2.ensures.puts)
@@ -57,17 +57,17 @@ returns-in_err-journal-clause-commits g c =
     let old = c.args.places.now.entries in
     let left = c.remove_numbers.new.places.entries in
     let is = c.requires.batch in
-    let numbered = c.requires.numbered in
+    let numbered = c.requires.ready.numbered in
     let are_left : AreLeft batch old left = left-of batch c.puts.result.now c.deletes.result.now old c.remove_puts.new.places.entries left c.puts.ensures.puts c.deletes.ensures.deletes c.remove_puts.ensures.updates c.remove_numbers.ensures.updates in
     let count = whole-count batch is old left numbered are_left in
     let o = g.H.Host.outside in
     let told = g.H.Host.told in
     let j = c.args.journal in
-    let few : length (below 65536 left) + length batch.puts < 65536 = cap-few j.blocks (length (below 65536 left) + length batch.puts) j.not_too_many (omega (arith, count, c.requires.ready.live)) in
+    let few : length (below 65536 left) + length batch.puts < 65536 = cap-few j.blocks (length (below 65536 left) + length batch.puts) j.not_too_many (omega (arith, count, c.requires.ready.room.live)) in
     let a = o c.args.host.now in
-    let known = payloads_of told j old a c.requires.book.holds in
+    let known = payloads_of told j old a c.requires.ready.book.holds in
     let b = o c.replace_all.new.host in
-    commits-failed told j batch _ c.from_residual.result a b c.from_residual.ensures.0 (commits told j batch _ _ a b (λ tells. reads told j a batch is old left numbered are_left c.requires.book tells few known.0 (known.1 tells) c.puts-2.result.now c.puts-2.ensures.puts) (c.in_err-journal.ensures.rewrites known.0 known.1))
+    commits-failed told j _ batch _ c.from_residual.result a b c.from_residual.ensures.0 (commits told j _ batch _ _ a b (λ tells. reads told j a batch is old left numbered are_left c.requires.ready.book tells few known.0 (known.1 tells) c.puts-2.result.now c.puts-2.ensures.puts) (c.in_err-journal.ensures.rewrites known.0 known.1))
 
 pub returns-clause-commits : goal.returns-clause-commits
 returns-clause-commits g c =
@@ -75,16 +75,16 @@ returns-clause-commits g c =
     let old = c.args.places.now.entries in
     let left = c.remove_numbers.new.places.entries in
     let is = c.requires.batch in
-    let numbered = c.requires.numbered in
+    let numbered = c.requires.ready.numbered in
     let are_left : AreLeft batch old left = left-of batch c.puts.result.now c.deletes.result.now old c.remove_puts.new.places.entries left c.puts.ensures.puts c.deletes.ensures.deletes c.remove_puts.ensures.updates c.remove_numbers.ensures.updates in
     let count = whole-count batch is old left numbered are_left in
     let o = g.H.Host.outside in
     let told = g.H.Host.told in
     let j = c.args.journal in
-    let few : length (below 65536 left) + length batch.puts < 65536 = cap-few j.blocks (length (below 65536 left) + length batch.puts) j.not_too_many (omega (arith, count, c.requires.ready.live)) in
+    let few : length (below 65536 left) + length batch.puts < 65536 = cap-few j.blocks (length (below 65536 left) + length batch.puts) j.not_too_many (omega (arith, count, c.requires.ready.room.live)) in
     let a = o c.args.host.now in
-    let known = payloads_of told j old a c.requires.book.holds in
-    commits told j batch _ _ a (o c.replace_all.new.host) (λ tells. reads told j a batch is old left numbered are_left c.requires.book tells few known.0 (known.1 tells) c.puts-2.result.now c.puts-2.ensures.puts) (c.in_ok-journal.ensures.rewrites known.0 known.1)
+    let known = payloads_of told j old a c.requires.ready.book.holds in
+    commits told j _ batch _ _ a (o c.replace_all.new.host) (λ tells. reads told j a batch is old left numbered are_left c.requires.ready.book tells few known.0 (known.1 tells) c.puts-2.result.now c.puts-2.ensures.puts) (c.in_ok-journal.ensures.rewrites known.0 known.1)
 
 pub move_pages-next-requires-clause-near : goal.move_pages-next-requires-clause-near
 move_pages-next-requires-clause-near g c =
@@ -92,13 +92,13 @@ move_pages-next-requires-clause-near g c =
     let old = c.args.places.now.entries in
     let left = c.remove_numbers.new.places.entries in
     let is = c.requires.batch in
-    let numbered = c.requires.numbered in
+    let numbered = c.requires.ready.numbered in
     let are_left : AreLeft batch old left = left-of batch c.puts.result.now c.deletes.result.now old c.remove_puts.new.places.entries left c.puts.ensures.puts c.deletes.ensures.deletes c.remove_puts.ensures.updates c.remove_numbers.ensures.updates in
     let count = whole-count batch is old left numbered are_left in
     let o = g.H.Host.outside in
     let told = g.H.Host.told in
     let j = c.args.journal in
-    let few : length (below 65536 left) + length batch.puts < 65536 = cap-few j.blocks (length (below 65536 left) + length batch.puts) j.not_too_many (omega (arith, count, c.requires.ready.live)) in
+    let few : length (below 65536 left) + length batch.puts < 65536 = cap-few j.blocks (length (below 65536 left) + length batch.puts) j.not_too_many (omega (arith, count, c.requires.ready.room.live)) in
     omega (arith, few, c.first.ensures.before_end, end-near c.in_ok-journal.journal)
 
 pub place_puts-requires-clause-near : goal.place_puts-requires-clause-near
@@ -107,57 +107,31 @@ place_puts-requires-clause-near g c =
     let old = c.args.places.now.entries in
     let left = c.remove_numbers.new.places.entries in
     let is = c.requires.batch in
-    let numbered = c.requires.numbered in
+    let numbered = c.requires.ready.numbered in
     let are_left : AreLeft batch old left = left-of batch c.puts.result.now c.deletes.result.now old c.remove_puts.new.places.entries left c.puts.ensures.puts c.deletes.ensures.deletes c.remove_puts.ensures.updates c.remove_numbers.ensures.updates in
     let count = whole-count batch is old left numbered are_left in
     let o = g.H.Host.outside in
     let told = g.H.Host.told in
     let j = c.args.journal in
-    let few : length (below 65536 left) + length batch.puts < 65536 = cap-few j.blocks (length (below 65536 left) + length batch.puts) j.not_too_many (omega (arith, count, c.requires.ready.live)) in
+    let few : length (below 65536 left) + length batch.puts < 65536 = cap-few j.blocks (length (below 65536 left) + length batch.puts) j.not_too_many (omega (arith, count, c.requires.ready.room.live)) in
     omega (arith, few, c.first.ensures.before_end, end-near c.in_ok-journal.journal, c.move_pages-next.ensures.next, ap (λ (l : List Put). length l) c.puts-3.ensures.puts)
 
-pub returns-clause-numbers : goal.returns-clause-numbers
-returns-clause-numbers g c =
+pub returns-clause-takes : goal.returns-clause-takes
+returns-clause-takes g c =
     let batch = c.args.batch.now in
     let old = c.args.places.now.entries in
     let left = c.remove_numbers.new.places.entries in
     let is = c.requires.batch in
-    let numbered = c.requires.numbered in
-    let are_left : AreLeft batch old left = left-of batch c.puts.result.now c.deletes.result.now old c.remove_puts.new.places.entries left c.puts.ensures.puts c.deletes.ensures.deletes c.remove_puts.ensures.updates c.remove_numbers.ensures.updates in
-    let count = whole-count batch is old left numbered are_left in
-    let k : Journal = c.in_ok-journal.journal in
-    let first = c.first.result + 13 in
-    let moved = c.move_pages-next.new.places.entries in
-    let new = c.place_puts.new.places.entries in
-    let puts3 : c.puts-3.result.now ≡ batch.puts = c.puts-3.ensures.puts in
-    let next : c.move_pages-next.result ≡ first + 516 * length (below 65536 left) = c.move_pages-next.ensures.next in
-    let moves : (f g : ℕ → List ℕ) → StandAt g first (lifted f (below 65536 left) ++ batch.puts) → map_of (lifted g new) ≡ after batch (map_of (lifted f old)) = λ f g stand.
-    let front : StandAt g first (lifted f (below 65536 left)) = stand-front g first (lifted f (below 65536 left)) batch.puts stand in
-    let back : StandAt g c.move_pages-next.result c.puts-3.result.now =
-    subst (λ (l : List Put). StandAt g c.move_pages-next.result l) (sym puts3)
-    (subst (λ (a : ℕ). StandAt g a batch.puts) (ap (λ (m : ℕ). first + 516 * m) (length-lifted f (below 65536 left)) ∙ sym next) (stand-behind g first (lifted f (below 65536 left)) batch.puts stand)) in
-    moved-after batch is old left numbered are_left f g moved new (all-moved f g left moved (c.move_pages-next.ensures.moved f g front) c.move_pages-next.ensures.kept (left-small batch is old left numbered are_left))
-    (λ q. c.place_puts.ensures.pages g back q ∙ ap (λ (l : List Put). map.get (with_puts l (map_of (lifted g moved))) q) puts3) in
-    let f : ℕ → List ℕ = λ _. [] in
-    let page = any_pages first (lifted f (below 65536 left) ++ batch.puts) in
-    sym (numbers-lifted page new) ∙ numbers-after (lifted f old) (lifted page new) batch (moves f page (any_stand first (lifted f (below 65536 left) ++ batch.puts))) ∙ ap (λ (s : Numbers). changed_numbers batch s) (numbers-lifted f old)
-
-pub returns-clause-book : goal.returns-clause-book
-returns-clause-book g c =
-    let batch = c.args.batch.now in
-    let old = c.args.places.now.entries in
-    let left = c.remove_numbers.new.places.entries in
-    let is = c.requires.batch in
-    let numbered = c.requires.numbered in
+    let numbered = c.requires.ready.numbered in
     let are_left : AreLeft batch old left = left-of batch c.puts.result.now c.deletes.result.now old c.remove_puts.new.places.entries left c.puts.ensures.puts c.deletes.ensures.deletes c.remove_puts.ensures.updates c.remove_numbers.ensures.updates in
     let count = whole-count batch is old left numbered are_left in
     let o = g.H.Host.outside in
     let told = g.H.Host.told in
     let j = c.args.journal in
-    let few : length (below 65536 left) + length batch.puts < 65536 = cap-few j.blocks (length (below 65536 left) + length batch.puts) j.not_too_many (omega (arith, count, c.requires.ready.live)) in
+    let few : length (below 65536 left) + length batch.puts < 65536 = cap-few j.blocks (length (below 65536 left) + length batch.puts) j.not_too_many (omega (arith, count, c.requires.ready.room.live)) in
     let a = o c.args.host.now in
     let k : Journal = c.in_ok-journal.journal in
-    let known = payloads_of told j old a c.requires.book.holds in
+    let known = payloads_of told j old a c.requires.ready.book.holds in
     let stands = (c.in_ok-journal.ensures.rewrites known.0 known.1).stands in
     let first = c.first.result + 13 in
     let moved = c.move_pages-next.new.places.entries in
@@ -176,29 +150,34 @@ returns-clause-book g c =
     (subst (λ (a : ℕ). StandAt g a batch.puts) (ap (λ (m : ℕ). first + 516 * m) (length-lifted f (below 65536 left)) ∙ sym next) (stand-behind g first (lifted f (below 65536 left)) batch.puts stand)) in
     moved-after batch is old left numbered are_left f g moved new (all-moved f g left moved (c.move_pages-next.ensures.moved f g front) c.move_pages-next.ensures.kept (left-small batch is old left numbered are_left))
     (λ q. c.place_puts.ensures.pages g back q ∙ ap (λ (l : List Put). map.get (with_puts l (map_of (lifted g moved))) q) puts3) in
-    record {
+    let book : IsPlacedBy told k new (o c.replace_all.new.host) = record {
       stands = stands.0;
       placed = c.place_puts.ensures.placed k moved_placed (subst (λ (l : List Put). All (λ put. put.0 < 65536) l) (sym puts3) (small-puts batch.puts batch.deletes is.small))
           (omega (arith, c.first.ensures.place, c.move_pages-next.ensures.next)) (omega (arith, c.first.ensures.place, c.move_pages-next.ensures.next, ends, count, c.requires.live, size));
       holds = λ tells.
-          let h = c.requires.book.holds tells in
+          let h = c.requires.ready.book.holds tells in
           let f = page_of j h.payloads in
           let entries : Entries = whole batch is old left numbered are_left f in
-          let sound = sound-whole told j a h.payloads batch is old left numbered are_left c.requires.book.stands tells h.read c.requires.book.placed few in
+          let sound = sound-whole told j a h.payloads batch is old left numbered are_left c.requires.ready.book.stands tells h.read c.requires.ready.book.placed few in
           let w = c.in_ok-journal.ensures.rewrites h.payloads (λ _. h.read) in
           let read = w.committed tells ∙ ap (λ (ps : List Put). Some (written_change (all_of (lifted f (below 65536 left) ++ ps)) ∷ [])) c.puts-2.ensures.puts in
-          let after_batch = reads told j a batch is old left numbered are_left c.requires.book tells few h.payloads h.read c.puts-2.result.now c.puts-2.ensures.puts (image j.unit (o c.replace_all.new.host).now) (w.committed tells) in
+          let after_batch = reads told j a batch is old left numbered are_left c.requires.ready.book tells few h.payloads h.read c.puts-2.result.now c.puts-2.ensures.puts (image j.unit (o c.replace_all.new.host).now) (w.committed tells) in
           let stand = stand-alone k entries first sound (ap (λ (n : ℕ). n + 13) c.first.ensures.place) in
           subst (λ (u : ℕ). HoldsAt k (image u (o c.replace_all.new.host).now) new) (sym stands.1) (record {
             payloads = written_change (all_of entries) ∷ [];
             read = read;
             holds = after_batch ∙ ap (option_map (after batch)) h.holds ∙ ap (λ (m : Pages). Some m) (sym (moves f (page_of k (written_change (all_of entries) ∷ [])) stand));
           });
+    } in
+    let numbers : numbers_in new ≡ changed_numbers batch (numbers_in old) =
+    let f : ℕ → List ℕ = λ _. [] in
+    let page = any_pages first (lifted f (below 65536 left) ++ batch.puts) in
+    sym (numbers-lifted page new) ∙ numbers-after (lifted f old) (lifted page new) batch (moves f page (any_stand first (lifted f (below 65536 left) ++ batch.puts))) ∙ ap (λ (s : Numbers). changed_numbers batch s) (numbers-lifted f old) in
+    record {
+      book = book;
+      numbered =
+          let size = live-is new c.place_puts.ensures.unique in
+          let few : length new < 65536 = cap-few c.args.journal.blocks (length new) c.args.journal.not_too_many (omega (arith, size, ap (λ (s : Numbers). set.len s) numbers, c.requires.ready.room.live)) in
+          numbered-placed c.in_ok-journal.journal new c.place_puts.ensures.unique few book.placed;
+      numbers = numbers;
     }
-
-pub returns-clause-numbered : goal.returns-clause-numbered
-returns-clause-numbered g c =
-    let new = c.place_puts.new.places.entries in
-    let size = live-is new c.place_puts.ensures.unique in
-    let few : length new < 65536 = cap-few c.args.journal.blocks (length new) c.args.journal.not_too_many (omega (arith, size, ap (λ (s : Numbers). set.len s) (returns-clause-numbers g c), c.requires.ready.live)) in
-    numbered-placed c.in_ok-journal.journal new c.place_puts.ensures.unique few (returns-clause-book g c).placed

@@ -39,7 +39,8 @@ returns-in_err-read_at-clause-reads g c = record {
   costs =
       let o = g.H.Host.outside in
       fetch-costs c.args.journal.now.unit _ c.args.at c.args.cache.now.entries (o c.args.host.now) (o c.read_at.new.host) (sym c.promote.ensures.value ∙ c.if-promote.false) c.told-spare c.read_at.ensures.reads.costs;
-  cause = search rules;
+  wears = search rules;
+  faults = search rules;
 }
 
 pub returns-in-Ok-clause-found : goal.returns-in-Ok-clause-found
@@ -70,7 +71,8 @@ returns-in-Ok-clause-reads g c = record {
   costs =
       let o = g.H.Host.outside in
       fetch-costs c.args.journal.now.unit _ c.args.at c.args.cache.now.entries (o c.args.host.now) (o c.read_at.new.host) (sym c.promote.ensures.value ∙ c.if-promote.false) c.told-spare c.read_at.ensures.reads.costs;
-  cause = search rules;
+  wears = search rules;
+  faults = search rules;
 }
 
 pub returns-in-Err-clause-caches : goal.returns-in-Err-clause-caches
@@ -85,5 +87,6 @@ returns-in-Err-clause-reads g c = record {
   costs =
       let o = g.H.Host.outside in
       fetch-costs c.args.journal.now.unit _ c.args.at c.args.cache.now.entries (o c.args.host.now) (o c.read_at.new.host) (sym c.promote.ensures.value ∙ c.if-promote.false) c.told-spare c.read_at.ensures.reads.costs;
-  cause = search rules;
+  wears = search rules;
+  faults = search rules;
 }

@@ -1,16 +1,21 @@
-use Rattle.std.proofs.Common.{ap}
+use Rattle.std.proofs.Common.{ap, arith}
 use Rattle.newt_host.specs.Moments.{Moment, image}
 use Rattle.newt_spec_image.specs.Pages.{written_put}
 use Rattle.newt_spec_image.specs.Records.{records}
+use Rattle.newt_host.specs.Outside.{fetching}
+use Rattle.newt_journal.specs.Calls.{writing}
 use Rattle.newt_journal.specs.Draft.{unit_of}
-use Rattle.newt_pagelog.proofs.Stepping.{stays-kept, stays-two}
+use Rattle.newt_pages.specs.Copies.{copying}
+use Rattle.newt_pagelog.proofs.Stepping.{stays-two, writes-done, writes-failed, writes-widen}
 use Rattle.newt_pages.proofs.Copying.{stays-looked, draft-looked, writes-looked}
 use Rattle.newt_pages.proofs.switch.copy_page.Goals as goal
 
 pub returns-in_err-read_at-clause-stays : goal.returns-in_err-read_at-clause-stays
 returns-in_err-read_at-clause-stays g c =
     let o = g.H.Host.outside in
-    stays-looked g.H.Host.told (unit_of c.args.draft.now) (o c.args.host.now) (o c.read_at.new.host) c.requires.steady c.read_at.ensures.reads.moment c.read_at.ensures.reads.alone
+    writes-widen (fetching 512) (copying 1) (record { programs = omega arith; fetches = omega arith; erases = omega arith; syncs = omega arith })
+    (writes-failed c.from_residual.result c.from_residual.ensures.0
+    (stays-looked g.H.Host.told (unit_of c.args.draft.now) 512 (o c.args.host.now) (o c.read_at.new.host) c.requires.steady c.in_err-read_at.ensures.reads))
 
 pub write_put-requires-clause-draft : goal.write_put-requires-clause-draft
 write_put-requires-clause-draft g c =
@@ -22,16 +27,16 @@ returns-in_err-write_put-clause-stays g c =
     let o = g.H.Host.outside in
     let told = g.H.Host.told in
     let u = unit_of c.args.draft.now in
-    stays-two told u (o c.args.host.now) (o c.read_at.new.host) (o c.write_put.new.host) (λ tells. ap (λ (m : Moment). records (image u m)) c.read_at.ensures.reads.moment)
-    (stays-looked told u (o c.args.host.now) (o c.read_at.new.host) c.requires.steady c.read_at.ensures.reads.moment c.read_at.ensures.reads.alone) (stays-kept told u 516 (o c.read_at.new.host) (o c.write_put.new.host) c.write_put.ensures.keeps)
+    stays-two (fetching 512) (writing 516 0 0) (λ tells. ap (λ (m : Moment). records (image u m)) c.read_at.ensures.reads.moment)
+    (writes-done (stays-looked told u 512 (o c.args.host.now) (o c.read_at.new.host) c.requires.steady c.in_ok-read_at.ensures.reads)) (writes-failed c.from_residual-in_err-write_put.result c.from_residual-in_err-write_put.ensures.0 c.in_err-write_put.ensures.keeps)
 
 pub returns-clause-stays : goal.returns-clause-stays
 returns-clause-stays g c =
     let o = g.H.Host.outside in
     let told = g.H.Host.told in
     let u = unit_of c.args.draft.now in
-    stays-two told u (o c.args.host.now) (o c.read_at.new.host) (o c.write_put.new.host) (λ tells. ap (λ (m : Moment). records (image u m)) c.read_at.ensures.reads.moment)
-    (stays-looked told u (o c.args.host.now) (o c.read_at.new.host) c.requires.steady c.read_at.ensures.reads.moment c.read_at.ensures.reads.alone) (stays-kept told u 516 (o c.read_at.new.host) (o c.write_put.new.host) c.write_put.ensures.keeps)
+    stays-two (fetching 512) (writing 516 0 0) (λ tells. ap (λ (m : Moment). records (image u m)) c.read_at.ensures.reads.moment)
+    (writes-done (stays-looked told u 512 (o c.args.host.now) (o c.read_at.new.host) c.requires.steady c.in_ok-read_at.ensures.reads)) c.in_ok-write_put.ensures.keeps
 
 pub returns-clause-ok : goal.returns-clause-ok
 returns-clause-ok g c =

@@ -1,11 +1,10 @@
-use Rattle.std.proofs.Common.{◌≡◌, ℕ, ◌+◌, nat_eq, sym, subst, arith}
+use Rattle.std.proofs.Common.{◌≡◌, ℕ, ◌+◌, ◌<◌, nat_eq, length, sym, ap, subst, arith, length-append}
 use Rattle.std.specs.Map.{lookup}
 use Rattle.newt_journal.specs.Draft.{unit_of}
 use Rattle.newt_journal.specs.declared.journal.Journal.{Journal}
-use Rattle.newt_pagelog.specs.Placed.{ArePlaced}
-use Rattle.newt_pagelog.proofs.Failing.{on-err, rose-over}
-use Rattle.newt_pagelog.proofs.Stepping.{stays-two, stays-on, steady-on}
-use Rattle.newt_pages.specs.Copies.{below, place_at, CopiesAll}
+use Rattle.newt_pagelog.specs.Placed.{ArePlaced, Places}
+use Rattle.newt_pagelog.proofs.Stepping.{NoMore, both, stays-two, stays-on, stays-with, steady-on, writes-done, writes-failed, writes-ok, writes-widen}
+use Rattle.newt_pages.specs.Copies.{below, copying, place_at, CopiesAll}
 use Rattle.newt_pages.proofs.Copying.{stays-start, copies-none, copies-two, copies-same, below-none, below-more, below-room}
 use Rattle.newt_pages.proofs.switch.copy_pages.Goals as goal
 
@@ -16,7 +15,7 @@ loop-number-init g c =
     let d = c.args.draft.now in
     record {
       copies = copies-same told (unit_of d) _ (below 0 c.args.places.now.entries) d d o o (sym (below-none c.args.places.now.entries)) (copies-none told d o c.requires.draft c.requires.steady);
-      stays = stays-start told (unit_of d) o c.requires.steady;
+      stays = stays-with _ _ (ap (λ (l : Places). copying (length l)) (sym (below-none c.args.places.now.entries))) (stays-start told (unit_of d) o c.requires.steady);
     }
 
 pub copy_number-requires-clause-room : goal.copy_number-requires-clause-room
@@ -33,20 +32,37 @@ copy_number-requires-clause-steady g c = λ tells. let w = c.loop-number.invaria
 pub copy_number-requires-clause-placed : goal.copy_number-requires-clause-placed
 copy_number-requires-clause-placed g c = subst (λ (j : Journal). ArePlaced j c.args.places.now.entries) (sym c.loop-number.invariant.copies.writes.holds) c.requires.placed
 
+-- so many pages more
+more_pages : (n : ℕ) (places : Places) → n < 65536
+    → NoMore (both (copying (length (below n places))) (copying (length (place_at n (lookup (nat_eq n) places))))) (copying (length (below 65536 places)))
+more_pages n places low = record {
+  programs = omega (arith, below-room n 65536 places low);
+  fetches = omega (arith, below-room n 65536 places low);
+  erases = omega arith;
+  syncs = omega arith;
+}
+
+next_page : (n : ℕ) (places : Places)
+    → NoMore (both (copying (length (below n places))) (copying (length (place_at n (lookup (nat_eq n) places))))) (copying (length (below (n + 1) places)))
+next_page n places =
+    let size = ap (λ (l : Places). length l) (below-more n places) in
+    let parts = length-append (below n places) (place_at n (lookup (nat_eq n) places)) in
+    record {
+      programs = omega (arith, size, parts);
+      fetches = omega (arith, size, parts);
+      erases = omega arith;
+      syncs = omega arith;
+    }
+
 pub returns-in_err-copy_number-clause-stays : goal.returns-in_err-copy_number-clause-stays
 returns-in_err-copy_number-clause-stays g c =
-    let o = g.H.Host.outside in
-    let told = g.H.Host.told in
-    let u = unit_of c.args.draft.now in
     let inv = c.loop-number.invariant in
-    stays-two told u (o c.args.host.now) (o c.loop-number.host) (o c.copy_number.new.host) inv.copies.writes.same inv.stays
-    (stays-on told (unit_of c.loop-number.draft) u (o c.loop-number.host) (o c.copy_number.new.host) inv.copies.writes.on c.copy_number.ensures.stays)
-
-pub returns-in_err-copy_number-clause-cause : goal.returns-in_err-copy_number-clause-cause
-returns-in_err-copy_number-clause-cause g c =
-    let o = g.H.Host.outside in
-    let inv = c.loop-number.invariant in
-    on-err c.from_residual.result (rose-over (unit_of c.loop-number.draft) (unit_of c.args.draft.now) (o c.args.host.now) (o c.loop-number.host) (o c.copy_number.new.host) inv.copies.writes.on inv.stays.alone c.in_err-copy_number.ensures.cause)
+    let n = c.loop-number.number in
+    let places = c.args.places.now.entries in
+    writes-widen _ _ (more_pages n places c.loop-number-test.true)
+    (stays-two (copying (length (below n places))) (copying (length (place_at n (lookup (nat_eq n) places)))) inv.copies.writes.same inv.stays
+    (stays-on (unit_of c.loop-number.draft) (unit_of c.args.draft.now) inv.copies.writes.on
+    (writes-failed c.from_residual.result c.from_residual.ensures.0 c.in_err-copy_number.ensures.stays)))
 
 pub loop-number-preserved : goal.loop-number-preserved
 loop-number-preserved g c =
@@ -60,8 +76,9 @@ loop-number-preserved g c =
     record {
       copies = copies-two told u (below n places) (place_at n (lookup (nat_eq n) places)) (below (n + 1) places) d c.loop-number.draft c.copy_number.new.draft (o c.args.host.now) (o c.loop-number.host) (o c.copy_number.new.host)
           (below-more n places) inv.copies c.in_ok-copy_number.ensures.ok;
-      stays = stays-two told u (o c.args.host.now) (o c.loop-number.host) (o c.copy_number.new.host) inv.copies.writes.same inv.stays
-          (stays-on told (unit_of c.loop-number.draft) u (o c.loop-number.host) (o c.copy_number.new.host) inv.copies.writes.on c.copy_number.ensures.stays);
+      stays = writes-widen _ _ (next_page n places)
+          (stays-two (copying (length (below n places))) (copying (length (place_at n (lookup (nat_eq n) places)))) inv.copies.writes.same inv.stays
+          (stays-on (unit_of c.loop-number.draft) u inv.copies.writes.on (writes-done c.in_ok-copy_number.ensures.stays)));
     }
 
 pub returns-clause-ok : goal.returns-clause-ok
@@ -72,4 +89,6 @@ returns-clause-ok g c =
     subst (λ (n : ℕ). CopiesAll g.H.Host.told (unit_of d) (below n c.args.places.now.entries) d c.loop-number.draft (o c.args.host.now) (o c.loop-number.host)) end c.loop-number.invariant.copies
 
 pub returns-clause-stays : goal.returns-clause-stays
-returns-clause-stays g c = c.loop-number.invariant.stays
+returns-clause-stays g c =
+    let end : c.loop-number.number ≡ 65536 = omega (arith, c.loop-number-test.false, c.loop-number.auto.number-end) in
+    stays-with _ _ (ap (λ (n : ℕ). copying (length (below n c.args.places.now.entries))) end) (writes-ok c.loop-number.invariant.stays)

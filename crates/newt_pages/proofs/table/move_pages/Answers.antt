@@ -57,9 +57,9 @@ loop-number-preserved c =
             placed = λ j low high q a less is. more-placed fn old new n c.loop-number.at p first there.1 e.updates j
                 (record { small = c.loop-number-test.true; low = omega (arith, inv.at, low); high = omega (arith, inv.at, high, room-one fn n 65536 p c.loop-number-test.true there.1) }) (inv.placed j low high) q a less
                 (sym (ap (λ (l : Places). lookup (nat_eq q) l) es) ∙ is);
-            spare = ap (λ (m : Map). hash.spare m) w.places-is ∙ e.spare ∙ inv.spare;
-            len = ap (λ (l : Places). length l) es ∙ e.len ∙ inv.len;
-            unique = subst (λ (m : Map). hash.IsUnique nat_eq m) (sym w.places-is) e.unique;
+            spare = ap (λ (m : Map). hash.spare m) w.places-is ∙ e.room.spare ∙ inv.spare;
+            len = ap (λ (l : Places). length l) es ∙ e.room.len ∙ inv.len;
+            unique = subst (λ (m : Map). hash.IsUnique nat_eq m) (sym w.places-is) e.room.unique;
           }
       | else-contains_key w ↦
           let es : c.if-contains_key.places.entries ≡ old = ap (λ (m : Map). m.entries) w.places-is in
@@ -75,3 +75,8 @@ loop-number-preserved c =
             unique = subst (λ (m : Map). hash.IsUnique nat_eq m) (sym w.places-is) inv.unique;
           }
     ]
+
+pub returns-clause-room : goal.returns-clause-room
+returns-clause-room c =
+    let inv = c.loop-number.invariant in
+    record { spare = inv.spare; len = inv.len; unique = inv.unique }

@@ -1,9 +1,8 @@
 use Rattle.std.proofs.Common.{Bool, Err, ◌∙◌, ap, subst, arith}
 use Rattle.std.proofs.lemmas.Result.{err_from_is_err_and}
 use Rattle.newt_script_session.specs.Counts.{Tallies}
-use Rattle.newt_script_session.proofs.Counting.{keeps-trans}
+use Rattle.newt_script_session.proofs.Counting.{answer_err, answer_write, quiet-refl, quiet_then}
 use Rattle.newt_script_session.proofs.Crashing.{at_rest}
-use Rattle.newt_script_session.proofs.Halting.{sink_causes}
 use Rattle.newt_script_session.proofs.Summing.{counted_halted, counted_put}
 use Rattle.newt_script_session.proofs.count.tally_script.Goals as goal
 
@@ -13,8 +12,8 @@ pub returns-in_err-answer_text-clause-counted : goal.returns-in_err-answer_text-
 returns-in_err-answer_text-clause-counted g c = λ told.
     let it = g.I.Interpreter in
     let p = err_from_is_err_and c.from_residual.result c.from_residual.ensures.1 in
-    counted_halted it.answer it.store_of_image c.args.script.now _ (g.H.Host.outside c.args.host.now) (g.H.Host.outside c.answer_text.new.host)
-    _ c.in_err-answer_text.field-0.0 _ _ _ (p.1 ∙ ap Err p.2) c.in_err-answer_text.ensures.cause (c.in_err-answer_text.ensures.ran told)
+    counted_halted it.store_of_image c.args.script.now _ (g.H.Host.outside c.args.host.now) (g.H.Host.outside c.answer_text.new.host)
+    _ c.in_err-answer_text.field-0.0 _ _ _ (p.1 ∙ ap Err p.2) c.in_err-answer_text.ensures.call.faults.cause (c.in_err-answer_text.ensures.ran told)
 
 -- ---- all were
 
@@ -28,11 +27,13 @@ returns-clause-counted g c = λ told.
     let last = it.world c.answer_text.new.interpreter mid in
     let stands = subst (λ (t : Bool). it.stands t c.answer_text.new.interpreter mid) told c.in_ok-answer_text.ensures.stands in
     let its = at_rest it.store_of_image last mid.now (λ unit store left e may. g.met.I.Interpreter.leaves c.answer_text.new.interpreter mid stands unit store left e may) in
-    counted_put it.answer it.store_of_image c.args.script.now w before mid _ last (Tallies c.answer_text.new.sink) c.new-tally.result c.answer_text.new.sink (c.in_ok-answer_text.ensures.ran told)
-    c.new-tally.ensures (λ texts h. h) (omega arith) c.put_tally.result new its c.put_tally.ensures.cause (c.put_tally.ensures.puts told)
+    counted_put it.store_of_image c.args.script.now w before mid _ last (Tallies c.answer_text.new.sink) c.new-tally.result c.answer_text.new.sink (c.in_ok-answer_text.ensures.ran told)
+    c.new-tally.ensures (λ texts h. h) (omega arith) c.put_tally.result new its c.put_tally.ensures.call.faults.cause (c.put_tally.ensures.puts told)
 
-pub returns-clause-cause : goal.returns-clause-cause
-returns-clause-cause g c = sink_causes c.put_tally.result _ _ _ c.put_tally.ensures.cause c.answer_text.ensures.keeps.stays
+pub returns-clause-call : goal.returns-clause-call
+returns-clause-call g c = answer_write _ (quiet_then (quiet-refl _) c.in_ok-answer_text.ensures.call) c.put_tally.ensures.call
 
-pub returns-clause-keeps : goal.returns-clause-keeps
-returns-clause-keeps g c = keeps-trans c.answer_text.ensures.keeps c.put_tally.ensures.keeps
+pub returns-in_err-answer_text-clause-call : goal.returns-in_err-answer_text-clause-call
+returns-in_err-answer_text-clause-call g c =
+    let p = err_from_is_err_and c.from_residual.result c.from_residual.ensures.1 in
+    answer_err _ c.in_err-answer_text.field-0.0 (p.1 ∙ ap Err p.2) (quiet-refl _) c.in_err-answer_text.ensures.call

@@ -4,11 +4,10 @@ use Rattle.std.proofs.lemmas.Result.{err_from_is_err_and}
 use Rattle.newt_script_session.specs.Causes.{flow_of}
 use Rattle.newt_script_session.specs.Lines.{ended_lines}
 use Rattle.newt_script_session.specs.Script.{commands_of, has_quit}
-use Rattle.newt_script_session.proofs.Counting.{keeps-refl, keeps-trans}
+use Rattle.newt_script_session.proofs.Counting.{answer_err, answer_memory, answer_ok, quiet-refl, quiet_then}
 use Rattle.newt_script_session.proofs.Crashing.{at_rest}
 use Rattle.newt_script_session.proofs.Cutting.{left_none}
 use Rattle.newt_script_session.proofs.Feeding.{go_is, quit_is, line_then_none, line_then_some, line_then_more, no_command, quit_line, left_line, has_last, quit_no_more}
-use Rattle.newt_script_session.proofs.Halting.{write_cause}
 use Rattle.newt_script_session.proofs.Progress.{progress_start, progress_more, ran_all, ran_memory, ran_part}
 use Rattle.newt_script_session.proofs.feed.feed.Goals as goal
 
@@ -18,29 +17,29 @@ loop-ended-init g c =
     let before = g.H.Host.outside c.args.host.now in
     let w = it.world c.args.interpreter.now before in
     record {
-      stands = c.requires;
+      stands = c.requires.stands;
       progress = λ told.
-          let stands = subst (λ (t : Bool). it.stands t c.args.interpreter.now before) told c.requires in
+          let stands = subst (λ (t : Bool). it.stands t c.args.interpreter.now before) told c.requires.stands in
           let its = at_rest it.store_of_image w before.now (λ unit store left e may. g.met.I.Interpreter.leaves c.args.interpreter.now before stands unit store left e may) in
-          progress_start g.S.Sink.shows it.answer it.store_of_image w (commands_of (ended_lines c.args.line.now.items c.args.piece.now)) _ before.now its;
+          progress_start g.S.Sink.shows it.store_of_image w (commands_of (ended_lines c.args.line.now.items c.args.piece.now)) _ before.now its;
       flow = refl;
       line = refl;
-      keeps = keeps-refl _;
+      quiet = quiet-refl _;
     }
 
 -- ---- memory was refused
 
 pub returns-then-is_err-clause-ran : goal.returns-then-is_err-clause-ran
-returns-then-is_err-clause-ran g c = λ told. ran_memory g.S.Sink.shows g.I.Interpreter.answer g.I.Interpreter.store_of_image _ _ _ _ _ _ _ _ (c.loop-ended.invariant.progress told) _ [] (sym (append-nil _)) _ _
+returns-then-is_err-clause-ran g c = λ told. ran_memory g.S.Sink.shows g.I.Interpreter.store_of_image _ _ _ _ _ _ _ _ (c.loop-ended.invariant.progress told) _ [] (sym (append-nil _)) _ _
 
-pub returns-then-is_err-clause-keeps : goal.returns-then-is_err-clause-keeps
-returns-then-is_err-clause-keeps g c = c.loop-ended.invariant.keeps
+pub returns-then-is_err-clause-call : goal.returns-then-is_err-clause-call
+returns-then-is_err-clause-call g c = answer_memory c.loop-ended.invariant.quiet
 
 pub returns-then-is_err-2-clause-ran : goal.returns-then-is_err-2-clause-ran
-returns-then-is_err-2-clause-ran g c = λ told. ran_memory g.S.Sink.shows g.I.Interpreter.answer g.I.Interpreter.store_of_image _ _ _ _ _ _ _ _ (c.loop-ended.invariant.progress told) _ [] (sym (append-nil _)) _ _
+returns-then-is_err-2-clause-ran g c = λ told. ran_memory g.S.Sink.shows g.I.Interpreter.store_of_image _ _ _ _ _ _ _ _ (c.loop-ended.invariant.progress told) _ [] (sym (append-nil _)) _ _
 
-pub returns-then-is_err-2-clause-keeps : goal.returns-then-is_err-2-clause-keeps
-returns-then-is_err-2-clause-keeps g c = c.loop-ended.invariant.keeps
+pub returns-then-is_err-2-clause-call : goal.returns-then-is_err-2-clause-call
+returns-then-is_err-2-clause-call g c = answer_memory c.loop-ended.invariant.quiet
 
 -- ---- a line was not answered
 
@@ -49,16 +48,13 @@ returns-in_err-turn-clause-ran g c = λ told.
     let p = err_from_is_err_and c.from_residual.result c.from_residual.ensures.1 in
     let grown : c.deref.result.now ≡ c.loop-ended.line.items ++ c.in-Some.ended.now = grind (arith, common_steps) in
     let some = line_then_some c.loop-ended.line.items c.loop-ended.rest.now c.in-Some.ended.now c.in-Some.more.now c.deref.result.now c.in-Some.ensures grown in
-    ran_part g.S.Sink.shows g.I.Interpreter.answer g.I.Interpreter.store_of_image _ _ _ _ _ _ _ _ (c.loop-ended.invariant.progress told) (commands_of (c.deref.result.now ∷ [])) some.0 some.1
+    ran_part g.S.Sink.shows g.I.Interpreter.store_of_image _ _ _ _ _ _ _ _ (c.loop-ended.invariant.progress told) (commands_of (c.deref.result.now ∷ [])) some.0 some.1
     _ c.in_err-turn.field-0.0 _ _ _ _ _ (p.1 ∙ ap Err p.2) (c.in_err-turn.ensures.ran told)
 
-pub returns-in_err-turn-clause-cause : goal.returns-in_err-turn-clause-cause
-returns-in_err-turn-clause-cause g c =
+pub returns-in_err-turn-clause-call : goal.returns-in_err-turn-clause-call
+returns-in_err-turn-clause-call g c =
     let p = err_from_is_err_and c.from_residual.result c.from_residual.ensures.1 in
-    rw (p.1, p.2) (write_cause c.in_err-turn.field-0.0 _ _ _ c.in_err-turn.ensures.cause c.loop-ended.invariant.keeps.stays)
-
-pub returns-in_err-turn-clause-keeps : goal.returns-in_err-turn-clause-keeps
-returns-in_err-turn-clause-keeps g c = keeps-trans c.loop-ended.invariant.keeps c.turn.ensures.keeps
+    answer_err _ c.in_err-turn.field-0.0 (p.1 ∙ ap Err p.2) c.loop-ended.invariant.quiet c.in_err-turn.ensures.call
 
 -- ---- a line quits
 
@@ -75,11 +71,11 @@ returns-in-Quit-clause-ran g c = λ told.
     let stop = quit_is (has_quit (c.deref.result.now ∷ [])) (sym c.in-Quit.is ∙ c.in_ok-turn.ensures.flow) in
     let last = line_then_none c.loop-ended.line.items c.loop-ended.rest.now c.in-Some.ended.now c.in-Some.more.now c.deref.result.now c.in-Some.ensures grown stop in
     let ran = c.in_ok-turn.ensures.ran told in
-    ran_all g.S.Sink.shows it.answer it.store_of_image _ _ _ _ [] _ _ _ _
-    (progress_more g.S.Sink.shows it.answer it.store_of_image _ _ _ _ _ _ _ _ (c.loop-ended.invariant.progress told) (commands_of (c.deref.result.now ∷ [])) [] last _ _ _ ran.done ran.moments) refl
+    ran_all g.S.Sink.shows it.store_of_image _ _ _ _ [] _ _ _ _
+    (progress_more g.S.Sink.shows it.store_of_image _ _ _ _ _ _ _ _ (c.loop-ended.invariant.progress told) (commands_of (c.deref.result.now ∷ [])) [] last _ _ _ ran.done ran.moments) refl
 
-pub returns-in-Quit-clause-keeps : goal.returns-in-Quit-clause-keeps
-returns-in-Quit-clause-keeps g c = keeps-trans c.loop-ended.invariant.keeps c.turn.ensures.keeps
+pub returns-in-Quit-clause-call : goal.returns-in-Quit-clause-call
+returns-in-Quit-clause-call g c = answer_ok (quiet_then c.loop-ended.invariant.quiet c.in_ok-turn.ensures.call)
 
 -- ---- it does not
 
@@ -92,13 +88,13 @@ loop-ended-preserved g c =
       stands = c.in_ok-turn.ensures.stands;
       progress = λ told.
           let ran = c.in_ok-turn.ensures.ran told in
-          progress_more g.S.Sink.shows it.answer it.store_of_image _ _ _ _ _ _ _ _ (c.loop-ended.invariant.progress told) (commands_of (c.deref.result.now ∷ [])) _
+          progress_more g.S.Sink.shows it.store_of_image _ _ _ _ _ _ _ _ (c.loop-ended.invariant.progress told) (commands_of (c.deref.result.now ∷ [])) _
           (line_then_more c.loop-ended.line.items c.loop-ended.rest.now c.in-Some.ended.now c.in-Some.more.now c.deref.result.now c.clear.new.self.items c.in-Some.ensures grown c.clear.ensures.items go)
           _ _ _ ran.done ran.moments;
       flow = quit_line c.loop-ended.line.items c.loop-ended.rest.now c.in-Some.ended.now c.in-Some.more.now c.deref.result.now c.clear.new.self.items c.in-Some.ensures grown c.clear.ensures.items go
           ∙ c.loop-ended.invariant.flow;
       line = left_line c.loop-ended.line.items c.loop-ended.rest.now c.in-Some.ended.now c.in-Some.more.now c.clear.new.self.items c.in-Some.ensures c.clear.ensures.items ∙ c.loop-ended.invariant.line;
-      keeps = keeps-trans c.loop-ended.invariant.keeps c.turn.ensures.keeps;
+      quiet = quiet_then c.loop-ended.invariant.quiet c.in_ok-turn.ensures.call;
     }
 
 -- ---- no line ends in what is left
@@ -113,8 +109,8 @@ returns-clause-line g c = λ go.
 
 pub returns-clause-ran : goal.returns-clause-ran
 returns-clause-ran g c = λ told.
-    ran_all g.S.Sink.shows g.I.Interpreter.answer g.I.Interpreter.store_of_image _ _ _ _ _ _ _ _ _ (c.loop-ended.invariant.progress told)
+    ran_all g.S.Sink.shows g.I.Interpreter.store_of_image _ _ _ _ _ _ _ _ _ (c.loop-ended.invariant.progress told)
     (no_command c.loop-ended.line.items c.loop-ended.rest.now c.in_default.ensures)
 
-pub returns-clause-keeps : goal.returns-clause-keeps
-returns-clause-keeps g c = c.loop-ended.invariant.keeps
+pub returns-clause-call : goal.returns-clause-call
+returns-clause-call g c = answer_ok c.loop-ended.invariant.quiet

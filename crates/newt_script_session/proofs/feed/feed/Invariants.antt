@@ -1,5 +1,5 @@
 use Rattle.std.proofs.Common.{IsTrue, ◌≡◌, length}
-use Rattle.newt_script_session.specs.Causes.{Keeps}
+use Rattle.newt_script_session.specs.Calls.{Quiet}
 use Rattle.newt_script_session.specs.Lines.{ended_lines, unended}
 use Rattle.newt_script_session.specs.Script.{commands_of, has_quit}
 use Rattle.newt_script_session.proofs.Progress.{Progress}
@@ -15,11 +15,11 @@ invariant-loop-ended g l =
     let all = ended_lines l.fn.line.items l.fn.piece in
     record {
       stands : it.stands g.H.Host.told l.interpreter now;
-      progress : IsTrue g.H.Host.told → Progress g.S.Sink.shows it.answer it.store_of_image (it.world l.fn.interpreter before) (commands_of all) (it.world l.interpreter now) (commands_of rest)
+      progress : IsTrue g.H.Host.told → Progress g.S.Sink.shows it.store_of_image (it.world l.fn.interpreter before) (commands_of all) (it.world l.interpreter now) (commands_of rest)
           (g.S.Sink.has l.fn.sink) (g.S.Sink.has l.sink) before.now now.now;
       flow : has_quit rest ≡ has_quit all;
       line : unended l.line.items l.rest ≡ unended l.fn.line.items l.fn.piece;
-      keeps : Keeps before now;
+      quiet : Quiet before now;
     }
 
 abbrev pub decreases-loop-ended : goal.decreases-loop-ended

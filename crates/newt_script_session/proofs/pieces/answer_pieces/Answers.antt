@@ -6,11 +6,11 @@ use Rattle.newt_script_session.specs.Lines.{ended_lines, last_line}
 use Rattle.newt_script_session.specs.Run.{IsReadThrough}
 use Rattle.newt_script_session.specs.Script.{commands_of, has_quit}
 use Rattle.newt_script_session.specs.declared.halt.Halt.TheVariants.{Source, TooLong}
-use Rattle.newt_script_session.proofs.Counting.{stays-refl, stays-trans}
+use Rattle.newt_script_session.proofs.Counting.{run_answer, run_long, run_ok, run_unanswered, run_unread, running-refl, running_answer, running_read}
 use Rattle.newt_script_session.proofs.Crashing.{at_rest}
 use Rattle.newt_script_session.proofs.Feeding.{go_is, quit_is}
-use Rattle.newt_script_session.proofs.Going.{Going, piece_then_some, piece_then_none, last_commands, going_start, going_moved, going_more, going_progress, going_too_long, session_halted, session_ran, through_end, through_quit, answered_taken}
-use Rattle.newt_script_session.proofs.Halting.{cause_of_write, cause_of_writes, none_left}
+use Rattle.newt_script_session.proofs.Going.{Going, piece_then_some, piece_then_none, last_commands, going_start, going_moved, going_took, going_more, going_progress, going_too_long, session_halted, session_ran, through_end, through_quit, answered_taken}
+use Rattle.newt_script_session.proofs.Halting.{none_left}
 use Rattle.newt_script_session.proofs.Progress.{progress_more, ran_all, ran_last, ran_part}
 use Rattle.newt_script_session.proofs.pieces.answer_pieces.Goals as goal
 
@@ -24,16 +24,16 @@ pieces-init g c =
       going = λ told.
           let stands = subst (λ (t : Bool). it.stands t c.args.interpreter.now before) told c.requires.stands in
           let its = at_rest it.store_of_image w before.now (λ unit store left e may. g.met.I.Interpreter.leaves c.args.interpreter.now before stands unit store left e may) in
-          ([], refl, going_start it.answer it.store_of_image w before.input c.args.line.now.items (λ texts. Unit {0}) before.now its c.requires.empty);
+          ([], refl, going_start it.store_of_image w before.input c.args.line.now.items (λ texts. Unit {0}) before.now its c.requires.empty);
       within = omega arith;
-      stays = stays-refl _;
+      running = running-refl _;
     }
 
-pub feed-requires : goal.feed-requires
-feed-requires g c = g.met.I.Interpreter.kept g.H.Host.told c.pieces.interpreter (g.H.Host.outside c.pieces.host) (g.H.Host.outside c.read_piece.new.host) c.read_piece.ensures.devices c.pieces.invariant.stands
+pub feed-requires-clause-stands : goal.feed-requires-clause-stands
+feed-requires-clause-stands g c = g.met.I.Interpreter.kept g.H.Host.told c.pieces.interpreter (g.H.Host.outside c.pieces.host) (g.H.Host.outside c.read_piece.new.host) c.read_piece.ensures.call.devices c.pieces.invariant.stands
 
-pub finish-requires : goal.finish-requires
-finish-requires g c = g.met.I.Interpreter.kept g.H.Host.told c.pieces.interpreter (g.H.Host.outside c.pieces.host) (g.H.Host.outside c.read_piece.new.host) c.read_piece.ensures.devices c.pieces.invariant.stands
+pub finish-requires-clause-stands : goal.finish-requires-clause-stands
+finish-requires-clause-stands g c = g.met.I.Interpreter.kept g.H.Host.told c.pieces.interpreter (g.H.Host.outside c.pieces.host) (g.H.Host.outside c.read_piece.new.host) c.read_piece.ensures.call.devices c.pieces.invariant.stands
 
 -- ---- a read failed
 
@@ -44,10 +44,15 @@ returns-in_err-moved-clause-session g c = λ told.
     let p = err_from_is_err_and c.from_residual.result c.from_residual.ensures.1 in
     let v = c.pieces.invariant.going told in
     let same = g.met.I.Interpreter.same_world c.pieces.interpreter (g.H.Host.outside c.pieces.host) mid
-    (subst (λ (t : Bool). SameDevices t (g.H.Host.outside c.pieces.host) mid) told c.read_piece.ensures.devices) in
-    let going = going_moved it.answer it.store_of_image _ _ v.0 _ _ _ _ _ _ _ _ mid.now c.read_piece.ensures.moment same v.2 in
-    session_halted it.answer it.store_of_image c.args.limit _ _ (g.H.Host.outside c.args.host.now) mid Source (p.1 ∙ ap Err (p.2 ∙ c.in_err-moved.ensures.source))
-    (answered_taken it.answer it.store_of_image _ _ v.0 _ _ _ _ _ _ mid.now going mid.input c.in_err-moved.ensures.failed) going.moments
+    (subst (λ (t : Bool). SameDevices t (g.H.Host.outside c.pieces.host) mid) told c.read_piece.ensures.call.devices) in
+    let going = going_moved it.store_of_image _ _ v.0 _ _ _ _ _ _ _ _ mid.now c.in_err-moved.ensures.failed.1 same v.2 in
+    session_halted it.store_of_image c.args.limit _ _ (g.H.Host.outside c.args.host.now) mid Source (p.1 ∙ ap Err (p.2 ∙ c.in_err-moved.ensures.call.faults.cause.0))
+    (answered_taken it.store_of_image _ _ v.0 _ _ _ _ _ _ mid.now going mid.input c.in_err-moved.ensures.failed.0) going.moments
+
+pub returns-in_err-moved-clause-call : goal.returns-in_err-moved-clause-call
+returns-in_err-moved-clause-call g c =
+    let p = err_from_is_err_and c.from_residual.result c.from_residual.ensures.1 in
+    run_unread _ c.in_err-moved.field-0.0 (p.1 ∙ ap Err p.2) c.pieces.invariant.running c.in_err-moved.ensures.call
 
 -- ---- more bytes come than are read
 
@@ -57,8 +62,8 @@ returns-then-taken-limit-clause-session g c = λ told.
     let mid = g.H.Host.outside c.read_piece.new.host in
     let v = c.pieces.invariant.going told in
     let same = g.met.I.Interpreter.same_world c.pieces.interpreter (g.H.Host.outside c.pieces.host) mid
-    (subst (λ (t : Bool). SameDevices t (g.H.Host.outside c.pieces.host) mid) told c.read_piece.ensures.devices) in
-    let going = going_moved it.answer it.store_of_image _ _ v.0 _ _ _ _ _ _ _ _ mid.now c.read_piece.ensures.moment same v.2 in
+    (subst (λ (t : Bool). SameDevices t (g.H.Host.outside c.pieces.host) mid) told c.read_piece.ensures.call.devices) in
+    let going = going_took it.store_of_image _ _ v.0 _ _ _ _ _ _ _ _ _ mid.now (c.in_ok-moved.ensures.took told).moment same v.2 in
     let buffer = c.read_piece.new.buffer in
     let within : c.in_ok-moved.moved ≤ c.min-most.result = c.in_ok-moved.ensures.within in
     let fits : c.in_ok-moved.moved ≤ length buffer = omega arith in
@@ -66,8 +71,11 @@ returns-then-taken-limit-clause-session g c = λ told.
     let some : 0 < length (take c.in_ok-moved.moved buffer) = omega arith in
     let taken = v.1 in
     let full : length v.0 ≡ c.args.limit = omega arith in
-    session_halted it.answer it.store_of_image c.args.limit _ _ (g.H.Host.outside c.args.host.now) mid TooLong refl
-    (going_too_long it.answer it.store_of_image _ _ v.0 _ _ _ _ _ _ mid.now going (take c.in_ok-moved.moved buffer) _ c.args.limit full (c.in_ok-moved.ensures.took told) some) going.moments
+    session_halted it.store_of_image c.args.limit _ _ (g.H.Host.outside c.args.host.now) mid TooLong refl
+    (going_too_long it.store_of_image _ _ v.0 _ _ _ _ _ _ mid.now going (take c.in_ok-moved.moved buffer) _ c.args.limit full ((c.in_ok-moved.ensures.took told).input) some) going.moments
+
+pub returns-then-taken-limit-clause-call : goal.returns-then-taken-limit-clause-call
+returns-then-taken-limit-clause-call g c = run_long (running_read c.pieces.invariant.running c.in_ok-moved.ensures.call)
 
 -- ---- a piece was not answered
 
@@ -79,23 +87,20 @@ returns-in_err-feed-clause-session g c = λ told.
     let p = err_from_is_err_and c.from_residual-in_err-feed.result c.from_residual-in_err-feed.ensures.1 in
     let v = c.pieces.invariant.going told in
     let same = g.met.I.Interpreter.same_world c.pieces.interpreter (g.H.Host.outside c.pieces.host) mid
-    (subst (λ (t : Bool). SameDevices t (g.H.Host.outside c.pieces.host) mid) told c.read_piece.ensures.devices) in
-    let going = going_moved it.answer it.store_of_image _ _ v.0 _ _ _ _ _ _ _ _ mid.now c.read_piece.ensures.moment same v.2 in
+    (subst (λ (t : Bool). SameDevices t (g.H.Host.outside c.pieces.host) mid) told c.read_piece.ensures.call.devices) in
+    let going = going_took it.store_of_image _ _ v.0 _ _ _ _ _ _ _ _ _ mid.now (c.in_ok-moved.ensures.took told).moment same v.2 in
     let piece = take c.in_ok-moved.moved c.read_piece.new.buffer in
-    let some = piece_then_some c.pieces.line.items (g.H.Host.outside c.pieces.host).input piece mid.input (c.in_ok-moved.ensures.took told) in
+    let some = piece_then_some c.pieces.line.items (g.H.Host.outside c.pieces.host).input piece mid.input ((c.in_ok-moved.ensures.took told).input) in
     let result_is = p.1 ∙ ap Err p.2 in
-    session_ran it.answer it.store_of_image c.args.limit _ _ (g.H.Host.outside c.args.host.now) new _ _ _
-    (ran_part true it.answer it.store_of_image _ _ _ _ _ _ _ _ (going_progress it.answer it.store_of_image _ _ v.0 _ _ _ _ _ _ mid.now going)
+    session_ran it.store_of_image c.args.limit _ _ (g.H.Host.outside c.args.host.now) new _ _ _
+    (ran_part true it.store_of_image _ _ _ _ _ _ _ _ (going_progress it.store_of_image _ _ v.0 _ _ _ _ _ _ mid.now going)
     (commands_of (ended_lines c.pieces.line.items piece)) some.0 some.1 _ c.in_err-feed.field-0.0 _ (it.world c.feed.new.interpreter new) _ (λ texts. Unit {0}) _ result_is (c.in_err-feed.ensures.ran told))
     (rw result_is tt)
 
-pub returns-in_err-feed-clause-cause : goal.returns-in_err-feed-clause-cause
-returns-in_err-feed-clause-cause g c =
+pub returns-in_err-feed-clause-call : goal.returns-in_err-feed-clause-call
+returns-in_err-feed-clause-call g c =
     let p = err_from_is_err_and c.from_residual-in_err-feed.result c.from_residual-in_err-feed.ensures.1 in
-    rw (p.1, p.2) (cause_of_write c.in_err-feed.field-0.0 _ _ _ c.in_err-feed.ensures.cause (stays-trans c.pieces.invariant.stays c.read_piece.ensures.stays))
-
-pub returns-in_err-feed-clause-stays : goal.returns-in_err-feed-clause-stays
-returns-in_err-feed-clause-stays g c = stays-trans (stays-trans c.pieces.invariant.stays c.read_piece.ensures.stays) c.feed.ensures.keeps.stays
+    run_unanswered _ c.in_err-feed.field-0.0 (p.1 ∙ ap Err p.2) (running_read c.pieces.invariant.running c.in_ok-moved.ensures.call) c.in_err-feed.ensures.call
 
 -- ---- a line quits
 
@@ -106,8 +111,8 @@ returns-in-Quit-clause-session g c = λ told.
     let new = g.H.Host.outside c.feed.new.host in
     let v = c.pieces.invariant.going told in
     let same = g.met.I.Interpreter.same_world c.pieces.interpreter (g.H.Host.outside c.pieces.host) mid
-    (subst (λ (t : Bool). SameDevices t (g.H.Host.outside c.pieces.host) mid) told c.read_piece.ensures.devices) in
-    let going = going_moved it.answer it.store_of_image _ _ v.0 _ _ _ _ _ _ _ _ mid.now c.read_piece.ensures.moment same v.2 in
+    (subst (λ (t : Bool). SameDevices t (g.H.Host.outside c.pieces.host) mid) told c.read_piece.ensures.call.devices) in
+    let going = going_took it.store_of_image _ _ v.0 _ _ _ _ _ _ _ _ _ mid.now (c.in_ok-moved.ensures.took told).moment same v.2 in
     let buffer = c.read_piece.new.buffer in
     let piece = take c.in_ok-moved.moved buffer in
     let stop = quit_is (has_quit (ended_lines c.pieces.line.items piece)) (sym c.in-Quit.is ∙ c.in_ok-feed.ensures.flow) in
@@ -117,16 +122,16 @@ returns-in-Quit-clause-session g c = λ told.
     let taken = v.1 in
     let P : List ℕ → Type 0 = λ left. IsReadThrough c.args.limit (g.H.Host.outside c.args.host.now).input left in
     let ran = c.in_ok-feed.ensures.ran told in
-    let last = piece_then_none c.pieces.line.items (g.H.Host.outside c.pieces.host).input piece mid.input (c.in_ok-moved.ensures.took told) stop in
-    session_ran it.answer it.store_of_image c.args.limit _ _ (g.H.Host.outside c.args.host.now) new _ _ _
-    (ran_all true it.answer it.store_of_image _ _ _ _ [] _ _ _ _
-    (progress_more true it.answer it.store_of_image _ _ _ _ _ _ _ _ (going_progress it.answer it.store_of_image _ _ v.0 _ _ _ _ _ _ mid.now going)
+    let last = piece_then_none c.pieces.line.items (g.H.Host.outside c.pieces.host).input piece mid.input ((c.in_ok-moved.ensures.took told).input) stop in
+    session_ran it.store_of_image c.args.limit _ _ (g.H.Host.outside c.args.host.now) new _ _ _
+    (ran_all true it.store_of_image _ _ _ _ [] _ _ _ _
+    (progress_more true it.store_of_image _ _ _ _ _ _ _ _ (going_progress it.store_of_image _ _ v.0 _ _ _ _ _ _ mid.now going)
     (commands_of (ended_lines c.pieces.line.items piece)) [] last _ _ _ ran.done ran.moments) refl)
-    (subst P (sym c.feed.ensures.keeps.input)
-    (through_quit it.answer it.store_of_image _ _ v.0 _ _ _ _ _ _ mid.now going piece mid.input c.args.limit (c.in_ok-moved.ensures.took told) stop (omega arith)))
+    (subst P (sym c.feed.ensures.call.input)
+    (through_quit it.store_of_image _ _ v.0 _ _ _ _ _ _ mid.now going piece mid.input c.args.limit ((c.in_ok-moved.ensures.took told).input) stop (omega arith)))
 
-pub returns-in-Quit-clause-stays : goal.returns-in-Quit-clause-stays
-returns-in-Quit-clause-stays g c = stays-trans (stays-trans c.pieces.invariant.stays c.read_piece.ensures.stays) c.feed.ensures.keeps.stays
+pub returns-in-Quit-clause-call : goal.returns-in-Quit-clause-call
+returns-in-Quit-clause-call g c = run_ok (running_answer (running_read c.pieces.invariant.running c.in_ok-moved.ensures.call) c.in_ok-feed.ensures.call)
 
 -- ---- it does not
 
@@ -147,18 +152,18 @@ pieces-preserved g c =
       going = λ told.
           let v = c.pieces.invariant.going told in
           let same = g.met.I.Interpreter.same_world c.pieces.interpreter (g.H.Host.outside c.pieces.host) mid
-          (subst (λ (t : Bool). SameDevices t (g.H.Host.outside c.pieces.host) mid) told c.read_piece.ensures.devices) in
-          let going = going_moved it.answer it.store_of_image _ _ v.0 _ _ _ _ _ _ _ _ mid.now c.read_piece.ensures.moment same v.2 in
+          (subst (λ (t : Bool). SameDevices t (g.H.Host.outside c.pieces.host) mid) told c.read_piece.ensures.call.devices) in
+          let going = going_took it.store_of_image _ _ v.0 _ _ _ _ _ _ _ _ _ mid.now (c.in_ok-moved.ensures.took told).moment same v.2 in
           let ran = c.in_ok-feed.ensures.ran told in
-          let P : List ℕ → Type 0 = λ left. Going it.answer it.store_of_image (it.world c.args.interpreter.now before) before.input (v.0 ++ piece) left (it.world c.feed.new.interpreter new) c.feed.new.line.items
+          let P : List ℕ → Type 0 = λ left. Going it.store_of_image (it.world c.args.interpreter.now before) before.input (v.0 ++ piece) left (it.world c.feed.new.interpreter new) c.feed.new.line.items
           (λ texts. Unit {0}) (λ texts. Unit {0}) before.now new.now in (
             v.0 ++ piece,
             (length-append v.0 piece ∙ (ap (λ n. n + length piece) v.1 ∙ ap (λ n. c.pieces.taken + n) size)),
-            subst P (sym c.feed.ensures.keeps.input)
-                (going_more it.answer it.store_of_image _ _ v.0 _ _ _ _ _ _ mid.now going piece mid.input _ _ _ _ (c.in_ok-moved.ensures.took told) go (c.in_ok-feed.ensures.line c.in-Go.is) ran.done ran.moments),
+            subst P (sym c.feed.ensures.call.input)
+                (going_more it.store_of_image _ _ v.0 _ _ _ _ _ _ mid.now going piece mid.input _ _ _ _ ((c.in_ok-moved.ensures.took told).input) go (c.in_ok-feed.ensures.line c.in-Go.is) ran.done ran.moments),
           );
       within = omega arith;
-      stays = stays-trans (stays-trans c.pieces.invariant.stays c.read_piece.ensures.stays) c.feed.ensures.keeps.stays;
+      running = running_answer (running_read c.pieces.invariant.running c.in_ok-moved.ensures.call) c.in_ok-feed.ensures.call;
     }
 
 -- ---- the end of the input
@@ -170,18 +175,15 @@ returns-clause-session g c = λ told.
     let new = g.H.Host.outside c.finish.new.host in
     let v = c.pieces.invariant.going told in
     let same = g.met.I.Interpreter.same_world c.pieces.interpreter (g.H.Host.outside c.pieces.host) mid
-    (subst (λ (t : Bool). SameDevices t (g.H.Host.outside c.pieces.host) mid) told c.read_piece.ensures.devices) in
-    let going = going_moved it.answer it.store_of_image _ _ v.0 _ _ _ _ _ _ _ _ mid.now c.read_piece.ensures.moment same v.2 in
+    (subst (λ (t : Bool). SameDevices t (g.H.Host.outside c.pieces.host) mid) told c.read_piece.ensures.call.devices) in
+    let going = going_took it.store_of_image _ _ v.0 _ _ _ _ _ _ _ _ _ mid.now (c.in_ok-moved.ensures.took told).moment same v.2 in
     let end : (g.H.Host.outside c.pieces.host).input ≡ [] = c.in_ok-moved.ensures.end told (omega arith) (omega arith) in
-    let none = none_left c.in_ok-moved.moved c.read_piece.new.buffer _ _ (omega arith) (c.in_ok-moved.ensures.took told) end in
+    let none = none_left c.in_ok-moved.moved c.read_piece.new.buffer _ _ (omega arith) ((c.in_ok-moved.ensures.took told).input) end in
     let ran = c.finish.ensures.ran told in
-    session_ran it.answer it.store_of_image c.args.limit _ _ (g.H.Host.outside c.args.host.now) new _ _ _
-    (ran_last true it.answer it.store_of_image c.finish.result _ _ _ _ _ _ _ _ (going_progress it.answer it.store_of_image _ _ v.0 _ _ _ _ _ _ mid.now going)
+    session_ran it.store_of_image c.args.limit _ _ (g.H.Host.outside c.args.host.now) new _ _ _
+    (ran_last true it.store_of_image c.finish.result _ _ _ _ _ _ _ _ (going_progress it.store_of_image _ _ v.0 _ _ _ _ _ _ mid.now going)
     (commands_of (last_line c.deref.result.now)) (last_commands c.pieces.line.items (g.H.Host.outside c.pieces.host).input c.deref.result.now end c.deref.ensures.value) _ _ _ ran)
-    (on_ok_weaker c.finish.result (λ a. through_end it.answer it.store_of_image _ _ v.0 _ _ _ _ _ _ mid.now going new.input c.args.limit (omega arith) end (c.finish.ensures.keeps.input ∙ none)) ran.done)
+    (on_ok_weaker c.finish.result (λ a. through_end it.store_of_image _ _ v.0 _ _ _ _ _ _ mid.now going new.input c.args.limit (omega arith) end (c.finish.ensures.call.input ∙ none)) ran.done)
 
-pub returns-clause-cause : goal.returns-clause-cause
-returns-clause-cause g c = cause_of_writes c.finish.result _ _ _ c.finish.ensures.cause (stays-trans c.pieces.invariant.stays c.read_piece.ensures.stays)
-
-pub returns-clause-stays : goal.returns-clause-stays
-returns-clause-stays g c = stays-trans (stays-trans c.pieces.invariant.stays c.read_piece.ensures.stays) c.finish.ensures.keeps.stays
+pub returns-clause-call : goal.returns-clause-call
+returns-clause-call g c = run_answer c.finish.result (running_read c.pieces.invariant.running c.in_ok-moved.ensures.call) c.finish.ensures.call

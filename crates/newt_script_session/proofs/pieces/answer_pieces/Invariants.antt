@@ -1,5 +1,5 @@
 use Rattle.std.proofs.Common.{IsTrue, ◌≡◌, ◌≤◌, ◌-◌, List, ℕ, length}
-use Rattle.newt_script_session.specs.Causes.{StaysAttached}
+use Rattle.newt_script_session.proofs.Counting.{Running}
 use Rattle.newt_script_session.proofs.Going.{Going}
 use Rattle.newt_script_session.proofs.pieces.answer_pieces.Given as goal
 
@@ -11,10 +11,10 @@ invariant-pieces g l =
     record {
       stands : it.stands g.H.Host.told l.interpreter now;
       going : IsTrue g.H.Host.told → (taken : List ℕ) × (length taken ≡ l.taken)
-          × Going it.answer it.store_of_image (it.world l.fn.interpreter before) before.input taken now.input (it.world l.interpreter now) l.line.items
+          × Going it.store_of_image (it.world l.fn.interpreter before) before.input taken now.input (it.world l.interpreter now) l.line.items
           (λ texts. Unit {0}) (λ texts. Unit {0}) before.now now.now;
       within : l.taken ≤ l.limit;
-      stays : StaysAttached before now;
+      running : Running before now;
     }
 
 abbrev pub decreases-pieces : goal.decreases-pieces

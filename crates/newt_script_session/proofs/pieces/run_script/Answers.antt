@@ -1,7 +1,7 @@
 use Rattle.std.proofs.Common.{true, Bool, subst}
 use Rattle.newt_script_session.specs.Lines.{lines_of}
 use Rattle.newt_script_session.specs.Script.{commands_of}
-use Rattle.newt_script_session.proofs.Counting.{stays-refl}
+use Rattle.newt_script_session.proofs.Counting.{run_memory, running-refl}
 use Rattle.newt_script_session.proofs.Crashing.{at_rest}
 use Rattle.newt_script_session.proofs.Going.{session_ran}
 use Rattle.newt_script_session.proofs.Progress.{ran_nothing}
@@ -12,9 +12,9 @@ returns-in_default-clause-session g c = λ told.
     let it = g.I.Interpreter in
     let before = g.H.Host.outside c.args.host.now in
     let w = it.world c.args.interpreter.now before in
-    let stands = subst (λ (t : Bool). it.stands t c.args.interpreter.now before) told c.requires in
+    let stands = subst (λ (t : Bool). it.stands t c.args.interpreter.now before) told c.requires.stands in
     let its = at_rest it.store_of_image w before.now (λ unit store left e may. g.met.I.Interpreter.leaves c.args.interpreter.now before stands unit store left e may) in
-    session_ran it.answer it.store_of_image c.args.limit _ w before before w (λ texts. Unit {0}) (λ texts. Unit {0}) (ran_nothing true it.answer it.store_of_image w (commands_of (lines_of before.input)) _ before.now its) tt
+    session_ran it.store_of_image c.args.limit _ w before before w (λ texts. Unit {0}) (λ texts. Unit {0}) (ran_nothing true it.store_of_image w (commands_of (lines_of before.input)) _ before.now its) tt
 
-pub returns-in_default-clause-stays : goal.returns-in_default-clause-stays
-returns-in_default-clause-stays g c = stays-refl _
+pub returns-in_default-clause-call : goal.returns-in_default-clause-call
+returns-in_default-clause-call g c = run_memory (running-refl _)

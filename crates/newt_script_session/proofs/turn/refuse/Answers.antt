@@ -4,9 +4,8 @@ use Rattle.newt_host.specs.Moments.{MayLeave}
 use Rattle.newt_spec_store.specs.Store.{Store}
 use Rattle.newt_spec_world.specs.World.{store_on_unit}
 use Rattle.newt_script_session.specs.Causes.{SameDevices}
-use Rattle.newt_script_session.proofs.Counting.{stays-refl}
+use Rattle.newt_script_session.proofs.Counting.{answer_put, answer_unput, quiet-refl}
 use Rattle.newt_script_session.proofs.Crashing.{answering_nothing, at_rest}
-use Rattle.newt_script_session.proofs.Halting.{sink_cause}
 use Rattle.newt_script_session.proofs.Obeying.{ran_item, ran_untaken}
 use Rattle.newt_script_session.proofs.turn.refuse.Goals as goal
 
@@ -17,16 +16,16 @@ returns-in_err-put_reply-clause-ran g c = λ told.
     let new = g.H.Host.outside c.put_reply.new.host in
     let w = it.world c.args.interpreter.now before in
     let p = err_from_is_err_and c.from_residual.result c.from_residual.ensures.1 in
-    let stands = subst (λ (t : Bool). it.stands t c.args.interpreter.now before) told c.requires in
+    let stands = subst (λ (t : Bool). it.stands t c.args.interpreter.now before) told c.requires.stands in
     let leaves : (unit : ℕ) (store : Store) (left : List ℕ) → store_on_unit w unit ≡ Some store → MayLeave unit before.now left → it.store_of_image left ≡ Some store =
     λ unit store left e may. g.met.I.Interpreter.leaves c.args.interpreter.now before stands unit store left e may in
-    ran_untaken g.S.Sink.shows it.answer it.store_of_image w (Err c.args.refusal) before.now before.now (answering_nothing it.store_of_image w before.now leaves) (λ unit none. none)
-    _ _ _ _ _ new.now before new (p.1 ∙ ap Err p.2) (at_rest it.store_of_image w before.now leaves) c.in_err-put_reply.ensures.cause (c.in_err-put_reply.ensures.puts told)
+    ran_untaken g.S.Sink.shows it.store_of_image w (Err c.args.refusal) before.now before.now (answering_nothing it.store_of_image w before.now leaves) (λ unit none. none)
+    _ _ _ _ _ new.now before new (p.1 ∙ ap Err p.2) (at_rest it.store_of_image w before.now leaves) c.in_err-put_reply.ensures.call.faults.cause (c.in_err-put_reply.ensures.puts told)
 
-pub returns-in_err-put_reply-clause-cause : goal.returns-in_err-put_reply-clause-cause
-returns-in_err-put_reply-clause-cause g c =
+pub returns-in_err-put_reply-clause-call : goal.returns-in_err-put_reply-clause-call
+returns-in_err-put_reply-clause-call g c =
     let p = err_from_is_err_and c.from_residual.result c.from_residual.ensures.1 in
-    rw (p.1, p.2) (sink_cause c.in_err-put_reply.field-0.0 _ _ _ c.in_err-put_reply.ensures.cause (stays-refl _))
+    answer_unput _ c.in_err-put_reply.field-0.0 (p.1 ∙ ap Err p.2) (quiet-refl _) c.in_err-put_reply.ensures.call
 
 pub returns-clause-ran : goal.returns-clause-ran
 returns-clause-ran g c = λ told.
@@ -34,12 +33,15 @@ returns-clause-ran g c = λ told.
     let before = g.H.Host.outside c.args.host.now in
     let new = g.H.Host.outside c.put_reply.new.host in
     let w = it.world c.args.interpreter.now before in
-    let stands = subst (λ (t : Bool). it.stands t c.args.interpreter.now before) told c.requires in
+    let stands = subst (λ (t : Bool). it.stands t c.args.interpreter.now before) told c.requires.stands in
     let leaves : (unit : ℕ) (store : Store) (left : List ℕ) → store_on_unit w unit ≡ Some store → MayLeave unit before.now left → it.store_of_image left ≡ Some store =
     λ unit store left e may. g.met.I.Interpreter.leaves c.args.interpreter.now before stands unit store left e may in
-    let same = g.met.I.Interpreter.same_world c.args.interpreter.now before new (subst (λ (t : Bool). SameDevices t before new) told c.put_reply.ensures.devices) in
-    ran_item g.S.Sink.shows it.answer it.store_of_image w (Err c.args.refusal) before.now before.now (answering_nothing it.store_of_image w before.now leaves) (λ unit none. none)
-    _ _ _ _ _ new.now (at_rest it.store_of_image w before.now leaves) (c.in_ok-put_reply.ensures.puts told) same (c.put_reply.ensures.devices.changes told) c.in_ok-put_reply.ensures.took
+    let same = g.met.I.Interpreter.same_world c.args.interpreter.now before new (subst (λ (t : Bool). SameDevices t before new) told c.put_reply.ensures.call.devices) in
+    ran_item g.S.Sink.shows it.store_of_image w (Err c.args.refusal) before.now before.now (answering_nothing it.store_of_image w before.now leaves) (λ unit none. none)
+    _ _ _ _ _ new.now (at_rest it.store_of_image w before.now leaves) (c.in_ok-put_reply.ensures.puts told) same (c.put_reply.ensures.call.devices.changes told) c.in_ok-put_reply.ensures.took
 
 pub returns-clause-stands : goal.returns-clause-stands
-returns-clause-stands g c = g.met.I.Interpreter.kept g.H.Host.told c.args.interpreter.now (g.H.Host.outside c.args.host.now) (g.H.Host.outside c.put_reply.new.host) c.put_reply.ensures.devices c.requires
+returns-clause-stands g c = g.met.I.Interpreter.kept g.H.Host.told c.args.interpreter.now (g.H.Host.outside c.args.host.now) (g.H.Host.outside c.put_reply.new.host) c.put_reply.ensures.call.devices c.requires.stands
+
+pub returns-clause-call : goal.returns-clause-call
+returns-clause-call g c = answer_put (quiet-refl _) c.in_ok-put_reply.ensures.call

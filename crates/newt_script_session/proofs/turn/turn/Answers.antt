@@ -1,9 +1,10 @@
 use Rattle.std.proofs.Common.{◌≡◌, [], ◌∷◌, List, Bool, IfOk, sym, ap, subst}
 use Rattle.newt_spec_script.specs.Script.{Item}
+use Rattle.newt_script.proofs.Forms.{has_its_form}
 use Rattle.newt_script_session.specs.Answered.{Ran}
 use Rattle.newt_script_session.specs.Causes.{flow_of}
 use Rattle.newt_script_session.specs.Script.{commands_of}
-use Rattle.newt_script_session.proofs.Counting.{keeps-refl}
+use Rattle.newt_script_session.proofs.Counting.{answer_memory, answer_ok, quiet-refl}
 use Rattle.newt_script_session.proofs.Crashing.{at_rest}
 use Rattle.newt_script_session.proofs.Progress.{ran_none, ran_nothing}
 use Rattle.newt_script_session.proofs.Turning.{said_nothing, said_command, said_refusal, commands_silent, commands_command, commands_refused, quit_silent, quit_command, quit_refused}
@@ -21,12 +22,12 @@ returns-in-Ok-None-clause-ran g c = λ told.
     let it = g.I.Interpreter in
     let before = g.H.Host.outside c.args.host.now in
     let w = it.world c.args.interpreter.now before in
-    let stands = subst (λ (t : Bool). it.stands t c.args.interpreter.now before) told c.requires in
+    let stands = subst (λ (t : Bool). it.stands t c.args.interpreter.now before) told c.requires.stands in
     let its = at_rest it.store_of_image w before.now (λ unit store left e may. g.met.I.Interpreter.leaves c.args.interpreter.now before stands unit store left e may) in
-    ran_none g.S.Sink.shows it.answer it.store_of_image _ w (commands_of (c.args.bytes.now ∷ [])) _ before.now its (commands_silent c.args.bytes.now said)
+    ran_none g.S.Sink.shows it.store_of_image _ w (commands_of (c.args.bytes.now ∷ [])) _ before.now its (commands_silent c.args.bytes.now said)
 
-pub returns-in-Ok-None-clause-keeps : goal.returns-in-Ok-None-clause-keeps
-returns-in-Ok-None-clause-keeps g c = keeps-refl _
+pub returns-in-Ok-None-clause-call : goal.returns-in-Ok-None-clause-call
+returns-in-Ok-None-clause-call g c = answer_ok (quiet-refl _)
 
 -- a command
 pub returns-in-Ok-Some-clause-flow : goal.returns-in-Ok-Some-clause-flow
@@ -41,7 +42,7 @@ returns-in-Ok-Some-clause-ran g c = λ told.
     let it = g.I.Interpreter in
     let before = g.H.Host.outside c.args.host.now in
     let new = g.H.Host.outside c.obey.new.host in
-    let P : List Item → Type 0 = λ items. Ran g.S.Sink.shows it.answer it.store_of_image c.obey.result (it.world c.args.interpreter.now before) (it.world c.obey.new.interpreter new) items
+    let P : List Item → Type 0 = λ items. Ran g.S.Sink.shows it.store_of_image c.obey.result (it.world c.args.interpreter.now before) (it.world c.obey.new.interpreter new) items
     (g.S.Sink.has c.args.sink.now) (g.S.Sink.has c.obey.new.sink) before.now new.now in
     subst P (sym (commands_command c.args.bytes.now c.in-Ok-Some.command said)) (c.obey.ensures.ran told)
 
@@ -58,19 +59,25 @@ returns-in-Err-Refused-clause-ran g c = λ told.
     let it = g.I.Interpreter in
     let before = g.H.Host.outside c.args.host.now in
     let new = g.H.Host.outside c.refuse.new.host in
-    let P : List Item → Type 0 = λ items. Ran g.S.Sink.shows it.answer it.store_of_image c.refuse.result (it.world c.args.interpreter.now before) (it.world c.args.interpreter.now new) items
+    let P : List Item → Type 0 = λ items. Ran g.S.Sink.shows it.store_of_image c.refuse.result (it.world c.args.interpreter.now before) (it.world c.args.interpreter.now new) items
     (g.S.Sink.has c.args.sink.now) (g.S.Sink.has c.refuse.new.sink) before.now new.now in
     subst P (sym (commands_refused c.args.bytes.now c.in-Err-Refused.refusal said)) (c.refuse.ensures.ran told)
 
--- want of memory
+-- out of memory
 pub returns-in-Err-Memory-clause-ran : goal.returns-in-Err-Memory-clause-ran
 returns-in-Err-Memory-clause-ran g c = λ told.
     let it = g.I.Interpreter in
     let before = g.H.Host.outside c.args.host.now in
     let w = it.world c.args.interpreter.now before in
-    let stands = subst (λ (t : Bool). it.stands t c.args.interpreter.now before) told c.requires in
+    let stands = subst (λ (t : Bool). it.stands t c.args.interpreter.now before) told c.requires.stands in
     let its = at_rest it.store_of_image w before.now (λ unit store left e may. g.met.I.Interpreter.leaves c.args.interpreter.now before stands unit store left e may) in
-    ran_nothing g.S.Sink.shows it.answer it.store_of_image w (commands_of (c.args.bytes.now ∷ [])) _ before.now its
+    ran_nothing g.S.Sink.shows it.store_of_image w (commands_of (c.args.bytes.now ∷ [])) _ before.now its
 
-pub returns-in-Err-Memory-clause-keeps : goal.returns-in-Err-Memory-clause-keeps
-returns-in-Err-Memory-clause-keeps g c = keeps-refl _
+pub returns-in-Err-Memory-clause-call : goal.returns-in-Err-Memory-clause-call
+returns-in-Err-Memory-clause-call g c = answer_memory (quiet-refl _)
+
+-- the command has its form
+pub obey-requires-clause-form : goal.obey-requires-clause-form
+obey-requires-clause-form g c =
+    has_its_form c.args.bytes.now c.in-Ok-Some.command
+    (sym (said_command c.line.result c.in-Ok-Some.field-0 c.in-Ok-Some.command c.args.bytes.now c.line.ensures.reading c.in-Ok-Some.is c.in-Ok-Some.field-0-is))

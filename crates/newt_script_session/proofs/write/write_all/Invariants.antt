@@ -1,5 +1,5 @@
 use Rattle.std.proofs.Common.{IsTrue, length}
-use Rattle.newt_script_session.specs.Causes.{Keeps, SameDevices}
+use Rattle.newt_script_session.proofs.Counting.{Still}
 use Rattle.newt_script_session.proofs.Writing.{Printing}
 use Rattle.newt_script_session.proofs.write.write_all.Given as goal
 
@@ -8,8 +8,7 @@ invariant-loop-rest g l =
     let host = g.H.Host in
     record {
       printing : IsTrue host.told → Printing l.bytes l.rest (host.outside l.fn.host).now (host.outside l.host).now;
-      devices : SameDevices host.told (host.outside l.fn.host) (host.outside l.host);
-      keeps : Keeps (host.outside l.fn.host) (host.outside l.host);
+      still : Still host.told (host.outside l.fn.host) (host.outside l.host);
     }
 
 abbrev pub decreases-loop-rest : goal.decreases-loop-rest

@@ -1,9 +1,5 @@
-use Rattle.std.proofs.Common.{◌≡◌, true, ◌*◌, ◌≤◌, ◌<◌, ℕ, List, length, IsSome, refl, sym, ◌∙◌, ap, subst, Option, Result}
-use Rattle.newt_host.specs.Moments.{image, Leaves}
-use Rattle.newt_host.specs.Outside.{Spends}
-use Rattle.newt_host.proofs.Outside.{Touches-refl}
-use Rattle.newt_base.specs.declared.Refusal.TheVariants.{Full}
-use Rattle.newt_pagebook.specs.Book.{IsOpenFor}
+use Rattle.std.proofs.Common.{◌≡◌, true, ◌*◌, ◌≤◌, ◌<◌, ℕ, List, length, IsSome, Result, Ok, Err, refl, sym, ◌∙◌, ap, subst, Option}
+use Rattle.newt_host.specs.Moments.{image}
 use Rattle.newt_spec_image.specs.Objects.{Extent}
 use Rattle.newt_spec_image.specs.Pages.{cap}
 use Rattle.newt_objects.specs.Held.{held}
@@ -15,132 +11,65 @@ use Rattle.newt_spec_store.specs.Valid.{well_formed}
 use Rattle.newt_soupdir.specs.Bare.{bare_store}
 use Rattle.newt_soupdir.specs.declared.rows.Directory.{Directory}
 use Rattle.newt_laws_changes.specs.Written.{Names}
-use Rattle.newt_objects_commit.specs.Batch.{AreOnce, IsApart}
-use Rattle.newt_store_change.specs.Faults.{FaultsAt}
-use Rattle.newt_objects_commit.specs.Faults.{RefusesOnly}
+use Rattle.newt_objects_commit.specs.Commit.{AreKept}
 use Rattle.newt_objects_commit.specs.Names.{names_of}
-use Rattle.newt_store_change.specs.declared.fault.StoreFault.{StoreFault}
 use Rattle.newt_objects_commit.specs.Places.{place_of}
 use Rattle.newt_store_catalog.specs.Stands.{Describes}
-use Rattle.newt_store.specs.Next.{HoldsEither, WritesNext, all_gone, next_bytes, turn_bytes}
-use Rattle.newt_store.proofs.Going.{bytes-turn}
-use Rattle.newt_store.proofs.Unanswered.{IsMemory, memory-on, memory-if, memory-err, memory-stops, memory-refuses}
-use Rattle.newt_store.proofs.Writing.{spends-nothing, full-refused, goes-refused, the-fault}
+use Rattle.newt_store_change.specs.declared.fault.StoreFault.{StoreFault}
+use Rattle.newt_store.specs.Next.{WritesNext, all_gone}
+use Rattle.newt_store.proofs.Unanswered.{IsMemory}
+use Rattle.newt_store.proofs.Writing.{full-refused, goes-refused, the-fault}
 use Rattle.newt_store.proofs.Reading.{same-cap}
-use Rattle.newt_store.proofs.Carrying.{AreGone, table-next, sound-next, sound-fewer, new-stays, gone-there, gone-above, gone-once, gone-apart, place-goes, names-next, names-sound-next, names-same, fewer-back, same-back, described-by, cost-after, leaves-store, leaves-same}
+use Rattle.newt_store.proofs.Carrying.{AreGone, table-next, sound-next, sound-fewer, new-stays, place-goes, names-next, names-sound-next, names-same, fewer-back, same-back, described-by, cost-after}
+use Rattle.newt_store.proofs.Leaving.{leaves-memory, makes-memory, unit-same, can-planned, unit-turns}
 use Rattle.newt_store.proofs.carry.carry_out.Goals as goal
 
 pub returns-in_err-gathered : goal.returns-in_err-gathered
 returns-in_err-gathered g c =
+    let p = g.P.PageBook in
     let o = g.H.Host.outside c.args.host.now in
-    let u : ℕ = g.P.PageBook.place c.args.book.now in
+    let book = c.args.book.now in
     let r : Result ℕ StoreFault = c.from_residual.result in
     let memory : IsMemory r = c.from_residual.ensures.1 in
     record {
-      stands = λ goes. c.requires.stands;
-      sound = λ goes. absurd (memory-stops r memory goes);
-      place = refl;
-      answer = memory-if r (λ n. n ≡ c.args.next.answer) memory;
-      changed = λ tells s t stands turns. memory-on r _ memory;
-      fits = λ tells s t stands turns. memory-on r _ memory;
-      full = λ is tells s t stands turns. absurd (memory-refuses r memory is);
-      only = memory-err r (RefusesOnly Full) memory tt;
-      still = λ is tells s t stands turns. absurd (memory-refuses r memory is);
-      nothing_done = λ is. refl;
-      any_moment = λ tells s t stands turns. leaves-same c.args.catalog.now s t u o.now stands (g.met.P.PageBook.tells g.H.Host.told c.args.book.now o c.requires.stands tells).1;
-      bound = λ tells s t stands turns room. spends-nothing u (turn_bytes c.args.next s t) 0 o;
-      too_many = λ tells s t stands turns more. spends-nothing u 0 0 o;
-      open_after = λ tells. memory-on r _ memory;
-      alone = Touches-refl u o;
-      cause = memory-err r (FaultsAt u o o) memory tt;
+      leaves = leaves-memory p.place p.numbers p.stands g.H.Host.told c.args.catalog.now book o r memory;
+      makes = makes-memory g.H.Host.told (p.place book) c.args.next c.args.catalog.now c.args.catalog.now o r memory;
+      unit = unit-same g.H.Host.told (p.place book) c.args.next c.args.catalog.now o (λ tells. (g.met.P.PageBook.tells g.H.Host.told book o c.requires.stands tells).1);
     }
 
 pub returns-in_err-prepare_names : goal.returns-in_err-prepare_names
 returns-in_err-prepare_names g c =
+    let p = g.P.PageBook in
     let o = g.H.Host.outside c.args.host.now in
-    let u : ℕ = g.P.PageBook.place c.args.book.now in
+    let book = c.args.book.now in
     let r : Result ℕ StoreFault = c.from_residual-in_err-prepare_names.result in
     let memory : IsMemory r = c.from_residual-in_err-prepare_names.ensures.1 in
     record {
-      stands = λ goes. c.requires.stands;
-      sound = λ goes. absurd (memory-stops r memory goes);
-      place = refl;
-      answer = memory-if r (λ n. n ≡ c.args.next.answer) memory;
-      changed = λ tells s t stands turns. memory-on r _ memory;
-      fits = λ tells s t stands turns. memory-on r _ memory;
-      full = λ is tells s t stands turns. absurd (memory-refuses r memory is);
-      only = memory-err r (RefusesOnly Full) memory tt;
-      still = λ is tells s t stands turns. absurd (memory-refuses r memory is);
-      nothing_done = λ is. refl;
-      any_moment = λ tells s t stands turns. leaves-same c.args.catalog.now s t u o.now stands (g.met.P.PageBook.tells g.H.Host.told c.args.book.now o c.requires.stands tells).1;
-      bound = λ tells s t stands turns room. spends-nothing u (turn_bytes c.args.next s t) 0 o;
-      too_many = λ tells s t stands turns more. spends-nothing u 0 0 o;
-      open_after = λ tells. memory-on r _ memory;
-      alone = Touches-refl u o;
-      cause = memory-err r (FaultsAt u o o) memory tt;
+      leaves = leaves-memory p.place p.numbers p.stands g.H.Host.told _ book o r memory;
+      makes = makes-memory g.H.Host.told (p.place book) c.args.next c.args.catalog.now _ o r memory;
+      unit = unit-same g.H.Host.told (p.place book) c.args.next c.args.catalog.now o (λ tells. (g.met.P.PageBook.tells g.H.Host.told book o c.requires.stands tells).1);
     }
 
 pub returns-in_err-keep_new : goal.returns-in_err-keep_new
 returns-in_err-keep_new g c =
+    let p = g.P.PageBook in
     let o = g.H.Host.outside c.args.host.now in
-    let u : ℕ = g.P.PageBook.place c.args.book.now in
+    let book = c.args.book.now in
     let r : Result ℕ StoreFault = c.from_residual-in_err-keep_new.result in
     let memory : IsMemory r = c.from_residual-in_err-keep_new.ensures.1 in
     record {
-      stands = λ goes. c.requires.stands;
-      sound = λ goes. absurd (memory-stops r memory goes);
-      place = refl;
-      answer = memory-if r (λ n. n ≡ c.args.next.answer) memory;
-      changed = λ tells s t stands turns. memory-on r _ memory;
-      fits = λ tells s t stands turns. memory-on r _ memory;
-      full = λ is tells s t stands turns. absurd (memory-refuses r memory is);
-      only = memory-err r (RefusesOnly Full) memory tt;
-      still = λ is tells s t stands turns. absurd (memory-refuses r memory is);
-      nothing_done = λ is. refl;
-      any_moment = λ tells s t stands turns. leaves-same c.args.catalog.now s t u o.now stands (g.met.P.PageBook.tells g.H.Host.told c.args.book.now o c.requires.stands tells).1;
-      bound = λ tells s t stands turns room. spends-nothing u (turn_bytes c.args.next s t) 0 o;
-      too_many = λ tells s t stands turns more. spends-nothing u 0 0 o;
-      open_after = λ tells. memory-on r _ memory;
-      alone = Touches-refl u o;
-      cause = memory-err r (FaultsAt u o o) memory tt;
+      leaves = leaves-memory p.place p.numbers p.stands g.H.Host.told _ book o r memory;
+      makes = makes-memory g.H.Host.told (p.place book) c.args.next c.args.catalog.now _ o r memory;
+      unit = unit-same g.H.Host.told (p.place book) c.args.next c.args.catalog.now o (λ tells. (g.met.P.PageBook.tells g.H.Host.told book o c.requires.stands tells).1);
     }
 
-pub write_next-requires-clause-there : goal.write_next-requires-clause-there
-write_next-requires-clause-there g c = λ id m.
-    let old : Places = place_of c.args.catalog.now.places in
+pub write_next-requires-clause-can : goal.write_next-requires-clause-can
+write_next-requires-clause-can g c =
+    let p = g.P.PageBook in
+    let e = c.in_ok-gathered.ensures in
     let records : List ℕ = c.in_ok-gathered.gathered.records.items in
-    let are : AreGone old c.args.next.gone records = record { real = c.in_ok-gathered.ensures.real; all = c.in_ok-gathered.ensures.all } in
-    let ids : List ℕ = all_gone (names_of c.args.catalog.now.names) records c.args.next.entry in
-    let ids-are : c.deref.result.now ≡ ids = c.deref.ensures.value ∙ c.in_ok-gathered.ensures.gone in
-    gone-there c.args.catalog.now c.args.next records c.requires.sound.places c.requires.sound.names c.requires.next are id (subst (λ (l : List ℕ). Among l id) ids-are m)
-
-pub write_next-requires-clause-behind : goal.write_next-requires-clause-behind
-write_next-requires-clause-behind g c = λ id m.
-    let old : Places = place_of c.args.catalog.now.places in
-    let records : List ℕ = c.in_ok-gathered.gathered.records.items in
-    let are : AreGone old c.args.next.gone records = record { real = c.in_ok-gathered.ensures.real; all = c.in_ok-gathered.ensures.all } in
-    let ids : List ℕ = all_gone (names_of c.args.catalog.now.names) records c.args.next.entry in
-    let ids-are : c.deref.result.now ≡ ids = c.deref.ensures.value ∙ c.in_ok-gathered.ensures.gone in
-    gone-above c.args.catalog.now c.args.next records c.requires.sound.places c.requires.sound.names c.requires.next are id (subst (λ (l : List ℕ). Among l id) ids-are m)
-
-pub write_next-requires-clause-once : goal.write_next-requires-clause-once
-write_next-requires-clause-once g c =
-    let old : Places = place_of c.args.catalog.now.places in
-    let records : List ℕ = c.in_ok-gathered.gathered.records.items in
-    let are : AreGone old c.args.next.gone records = record { real = c.in_ok-gathered.ensures.real; all = c.in_ok-gathered.ensures.all } in
-    let ids : List ℕ = all_gone (names_of c.args.catalog.now.names) records c.args.next.entry in
-    let ids-are : c.deref.result.now ≡ ids = c.deref.ensures.value ∙ c.in_ok-gathered.ensures.gone in
-    let once : AreOnce records = c.in_ok-gathered.ensures.once in
-    subst (λ (l : List ℕ). AreOnce l) (sym ids-are) (gone-once c.args.catalog.now c.args.next records c.requires.sound.places c.requires.sound.names c.requires.next are once)
-
-pub write_next-requires-clause-apart : goal.write_next-requires-clause-apart
-write_next-requires-clause-apart g c =
-    let old : Places = place_of c.args.catalog.now.places in
-    let records : List ℕ = c.in_ok-gathered.gathered.records.items in
-    let are : AreGone old c.args.next.gone records = record { real = c.in_ok-gathered.ensures.real; all = c.in_ok-gathered.ensures.all } in
-    let ids : List ℕ = all_gone (names_of c.args.catalog.now.names) records c.args.next.entry in
-    let ids-are : c.deref.result.now ≡ ids = c.deref.ensures.value ∙ c.in_ok-gathered.ensures.gone in
-    subst (λ (l : List ℕ). IsApart c.args.next.entry l) (sym ids-are) (gone-apart c.args.catalog.now c.args.next records c.requires.sound.places c.requires.sound.names c.requires.next are)
+    let are : AreGone (place_of c.args.catalog.now.places) c.args.next.gone records = record { real = e.real; all = e.all } in
+    can-planned g.H.Host.told c.args.catalog.now c.args.next records c.deref.result.now p.place p.numbers p.stands c.args.book.now (g.H.Host.outside c.args.host.now) c.requires.sound c.requires.next are e.once (c.deref.ensures.value ∙ e.gone)
 
 pub follow-answer-requires : goal.follow-answer-requires
 follow-answer-requires g c =
@@ -152,251 +81,133 @@ follow-answer-requires g c =
       stays = λ e is m. new-stays c.args.catalog.now c.args.next records c.requires.sound.places c.requires.sound.names c.requires.next are e is (are.real e.id m);
     }
 
-pub returns-in-Ok-clause-sound : goal.returns-in-Ok-clause-sound
-returns-in-Ok-clause-sound g c = λ goes.
-    let old : Places = place_of c.args.catalog.now.places in
-    let records : List ℕ = c.in_ok-gathered.gathered.records.items in
-    let are : AreGone old c.args.next.gone records = record { real = c.in_ok-gathered.ensures.real; all = c.in_ok-gathered.ensures.all } in
-    let ids : List ℕ = all_gone (names_of c.args.catalog.now.names) records c.args.next.entry in
-    let ids-are : c.deref.result.now ≡ ids = c.deref.ensures.value ∙ c.in_ok-gathered.ensures.gone in
+pub returns-in-Ok : goal.returns-in-Ok
+returns-in-Ok g c =
+    let p = g.P.PageBook in
+    let told = g.H.Host.told in
+    let o = g.H.Host.outside in
+    let cat = c.args.catalog.now in
+    let next = c.args.next in
+    let u : ℕ = p.place c.args.book.now in
+    let now : List ℕ = image u (o c.args.host.now).now in
+    let old : Places = place_of cat.places in
     let mid : Places = place_of c.keep_new.new.places in
     let new : Places = place_of c.follow-answer.new.places in
-    let next-names = names-next c.args.catalog.now c.args.next records c.requires.sound.places c.requires.sound.names c.requires.next are
-    (names_of c.prepare_names.new.names) c.follow-answer.ensures.between.0 (names_of c.follow-answer.new.names) c.prepare_names.ensures.same c.follow-answer.ensures.between.1 c.follow-answer.ensures.between.2
-    (λ e is. c.follow-answer.ensures.named e is ∙ c.in_ok-gathered.ensures.named e is) c.follow-answer.ensures.between.3 in
+    let records : List ℕ = c.in_ok-gathered.gathered.records.items in
+    let e = c.in_ok-gathered.ensures in
+    let are : AreGone old next.gone records = record { real = e.real; all = e.all } in
+    let ids : List ℕ = all_gone (names_of cat.names) records next.entry in
+    let ids-are : c.deref.result.now ≡ ids = c.deref.ensures.value ∙ e.gone in
+    let places = c.requires.sound.places in
+    let names = c.requires.sound.names in
+    let is = c.requires.next in
+    let w = c.in-Ok.ensures.writes in
+    let k = c.in-Ok.ensures.commits in
+    let f = c.follow-answer.ensures in
+    let next-names = names-next cat next records places names is are (names_of c.prepare_names.new.names) f.names.between (names_of c.follow-answer.new.names) c.prepare_names.ensures.same f.names.forgotten f.names.others (λ x new-is. f.names.names x new-is ∙ e.named x new-is) f.names.stay in
     record {
-      kept = c.in-Ok.ensures.kept tt;
-      places = sound-next c.args.next old mid new c.in_ok-keep_new.ensures.kept c.in_ok-keep_new.ensures.others c.follow-answer.ensures.gone c.follow-answer.ensures.others
-          c.deref.result.now (λ sig uid id at m. place-goes c.args.catalog.now c.args.next records c.requires.sound.places c.requires.sound.names c.requires.next are sig uid id at (subst (λ (l : List ℕ). Among l id) ids-are m))
-          (held c.args.catalog.now.objects) (held c.write_next.new.objects) c.requires.sound.places c.requires.next.free c.requires.next.ids c.in-Ok.ensures.new c.in-Ok.ensures.there;
-      names = names-sound-next c.args.catalog.now c.args.next records c.requires.sound.places c.requires.sound.names c.requires.next are (names_of c.follow-answer.new.names) next-names (held c.write_next.new.objects) c.in-Ok.ensures.new c.in-Ok.ensures.new_larges
-          (λ id some out. c.in-Ok.ensures.there id some (λ m. out (subst (λ (l : List ℕ). Among l id) ids-are m)));
-      formed = subst (λ (d : Directory). well_formed (bare_store d) ≡ true) (sym c.follow-answer.ensures.directory) c.requires.next.formed;
+      leaves = record {
+        book = k.stands;
+        sound = λ goes. record {
+          kept = subst (λ (v : ℕ). AreKept told c.write_next.new.objects (p.numbers c.write_next.new.book) v (o c.write_next.new.host)) (sym k.same_place) (k.kept tt);
+          places = sound-next next old mid new c.in_ok-keep_new.ensures.kept c.in_ok-keep_new.ensures.others f.places.gone f.places.others
+              c.deref.result.now (λ sig uid id at m. place-goes cat next records places names is are sig uid id at (subst (λ (l : List ℕ). Among l id) ids-are m))
+              (held cat.objects) (held c.write_next.new.objects) places is.free is.ids w.new w.there;
+          names = names-sound-next cat next records places names is are (names_of c.follow-answer.new.names) next-names (held c.write_next.new.objects) w.new w.new_larges
+              (λ id some out. w.there id some (λ m. out (subst (λ (l : List ℕ). Among l id) ids-are m)));
+          formed = subst (λ (d : Directory). well_formed (bare_store d) ≡ true) (sym f.directory) is.formed;
+        };
+        same_place = k.same_place;
+        nothing_done = λ refused. absurd refused;
+        open_after = k.open_after;
+        alone = k.alone;
+        ends = record { cause = tt; no_fault = λ goes. k.no_fault tt };
+      };
+      makes = record {
+        answer = f.answer;
+        changed = λ tells s t stands turns.
+            let later : List ℕ = image u (o c.write_next.new.host).now in
+            let h = w.holds tells stands.texts stands.holds in
+            let wrote : WritesNext next ids stands.texts h.0 = subst (λ (l : List ℕ). WritesNext next l stands.texts h.0) ids-are h.2 in
+            let low : cost t ≤ cap (blocks_of now) = subst (λ (n : ℕ). n ≤ cap (blocks_of now)) (cost-after cat next records places names is are s t now stands turns h.0 wrote) h.3 in
+            let size : length later ≡ length now = g.met.H.Host.sized c.write_next.new.host u tells ∙ ap (λ (b : ℕ). b * 4096) (k.alone.cards.blocks u) ∙ sym (g.met.H.Host.sized c.args.host.now u tells) in
+            record {
+              texts = h.0;
+              holds = h.1;
+              describes = subst (λ (d : Directory). Describes d new (names_of c.follow-answer.new.names) h.0 t) (sym f.directory) (described-by cat next records places names is are s t now stands turns new (names_of c.follow-answer.new.names) h.0
+                  (table-next next old mid new c.in_ok-keep_new.ensures.kept c.in_ok-keep_new.ensures.others f.places.gone f.places.others (turns.stays stands.texts stands.describes)) next-names wrote);
+              fits = same-cap now later (cost t) size low;
+            };
+        fits = λ tells s t stands turns.
+            let h = w.holds tells stands.texts stands.holds in
+            let wrote : WritesNext next ids stands.texts h.0 = subst (λ (l : List ℕ). WritesNext next l stands.texts h.0) ids-are h.2 in
+            subst (λ (n : ℕ). n ≤ cap (blocks_of now)) (cost-after cat next records places names is are s t now stands turns h.0 wrote) h.3;
+        full = λ refused. absurd refused;
+        only = tt;
+        still = λ refused. absurd refused;
+      };
+      unit = unit-turns told cat next records c.deref.result.now p.place p.numbers p.stands c.args.book.now (o c.args.host.now) c.requires.sound is are e.once ids-are c.write_next.new.book c.write_next.new.objects (o c.write_next.new.host) (Ok tt) k w;
     }
 
-pub returns-in-Ok-clause-changed : goal.returns-in-Ok-clause-changed
-returns-in-Ok-clause-changed g c = λ tells s t stands turns.
-    let old : Places = place_of c.args.catalog.now.places in
-    let records : List ℕ = c.in_ok-gathered.gathered.records.items in
-    let are : AreGone old c.args.next.gone records = record { real = c.in_ok-gathered.ensures.real; all = c.in_ok-gathered.ensures.all } in
-    let ids : List ℕ = all_gone (names_of c.args.catalog.now.names) records c.args.next.entry in
-    let ids-are : c.deref.result.now ≡ ids = c.deref.ensures.value ∙ c.in_ok-gathered.ensures.gone in
-    let mid : Places = place_of c.keep_new.new.places in
-    let new : Places = place_of c.follow-answer.new.places in
-    let next-names = names-next c.args.catalog.now c.args.next records c.requires.sound.places c.requires.sound.names c.requires.next are
-    (names_of c.prepare_names.new.names) c.follow-answer.ensures.between.0 (names_of c.follow-answer.new.names) c.prepare_names.ensures.same c.follow-answer.ensures.between.1 c.follow-answer.ensures.between.2
-    (λ e is. c.follow-answer.ensures.named e is ∙ c.in_ok-gathered.ensures.named e is) c.follow-answer.ensures.between.3 in
+pub returns-in-Err : goal.returns-in-Err
+returns-in-Err g c =
+    let p = g.P.PageBook in
+    let told = g.H.Host.told in
     let o = g.H.Host.outside in
-    let u : ℕ = g.P.PageBook.place c.args.book.now in
+    let cat = c.args.catalog.now in
+    let next = c.args.next in
+    let u : ℕ = p.place c.args.book.now in
     let now : List ℕ = image u (o c.args.host.now).now in
-    let later : List ℕ = image u (o c.write_next.new.host).now in
-    let h = c.in-Ok.ensures.holds tells stands.texts stands.holds in
-    let wrote : WritesNext c.args.next ids stands.texts h.0 = subst (λ (l : List ℕ). WritesNext c.args.next l stands.texts h.0) ids-are h.2 in
-    let low : cost t ≤ cap (blocks_of now) = subst (λ (n : ℕ). n ≤ cap (blocks_of now)) (cost-after c.args.catalog.now c.args.next records c.requires.sound.places c.requires.sound.names c.requires.next are s t now stands turns h.0 wrote) h.3 in
-    let size : length later ≡ length now = g.met.H.Host.sized c.write_next.new.host u tells ∙ ap (λ (b : ℕ). b * 4096) (c.write_next.ensures.alone.cards.blocks u) ∙ sym (g.met.H.Host.sized c.args.host.now u tells) in
-    record {
-      texts = h.0;
-      holds = h.1;
-      describes = subst (λ (d : Directory). Describes d new (names_of c.follow-answer.new.names) h.0 t) (sym c.follow-answer.ensures.directory) (described-by c.args.catalog.now c.args.next records c.requires.sound.places c.requires.sound.names c.requires.next are s t now stands turns new (names_of c.follow-answer.new.names) h.0
-          (table-next c.args.next old mid new c.in_ok-keep_new.ensures.kept c.in_ok-keep_new.ensures.others c.follow-answer.ensures.gone c.follow-answer.ensures.others (turns.stays stands.texts stands.describes)) next-names wrote);
-      fits = same-cap now later (cost t) size low;
-    }
-
-pub returns-in-Ok-clause-fits : goal.returns-in-Ok-clause-fits
-returns-in-Ok-clause-fits g c = λ tells s t stands turns.
-    let old : Places = place_of c.args.catalog.now.places in
-    let records : List ℕ = c.in_ok-gathered.gathered.records.items in
-    let are : AreGone old c.args.next.gone records = record { real = c.in_ok-gathered.ensures.real; all = c.in_ok-gathered.ensures.all } in
-    let ids : List ℕ = all_gone (names_of c.args.catalog.now.names) records c.args.next.entry in
-    let ids-are : c.deref.result.now ≡ ids = c.deref.ensures.value ∙ c.in_ok-gathered.ensures.gone in
-    let o = g.H.Host.outside in
-    let u : ℕ = g.P.PageBook.place c.args.book.now in
-    let now : List ℕ = image u (o c.args.host.now).now in
-    let h = c.in-Ok.ensures.holds tells stands.texts stands.holds in
-    let wrote : WritesNext c.args.next ids stands.texts h.0 = subst (λ (l : List ℕ). WritesNext c.args.next l stands.texts h.0) ids-are h.2 in
-    subst (λ (n : ℕ). n ≤ cap (blocks_of now)) (cost-after c.args.catalog.now c.args.next records c.requires.sound.places c.requires.sound.names c.requires.next are s t now stands turns h.0 wrote) h.3
-
-pub returns-in-Ok-clause-any_moment : goal.returns-in-Ok-clause-any_moment
-returns-in-Ok-clause-any_moment g c = λ tells s t stands turns.
-    let old : Places = place_of c.args.catalog.now.places in
-    let records : List ℕ = c.in_ok-gathered.gathered.records.items in
-    let are : AreGone old c.args.next.gone records = record { real = c.in_ok-gathered.ensures.real; all = c.in_ok-gathered.ensures.all } in
-    let ids : List ℕ = all_gone (names_of c.args.catalog.now.names) records c.args.next.entry in
-    let ids-are : c.deref.result.now ≡ ids = c.deref.ensures.value ∙ c.in_ok-gathered.ensures.gone in
-    let o = g.H.Host.outside in
-    let u : ℕ = g.P.PageBook.place c.args.book.now in
-    let now : List ℕ = image u (o c.args.host.now).now in
-    leaves-store c.args.catalog.now c.args.next records c.requires.sound.places c.requires.sound.names c.requires.next are s t now stands turns u (o c.args.host.now).now (o c.write_next.new.host).now
-    (subst (λ (l : List ℕ). Leaves u (HoldsEither now c.args.next l stands.texts) (o c.args.host.now).now (o c.write_next.new.host).now) ids-are (c.write_next.ensures.any_moment tells stands.texts stands.holds))
-
-pub returns-in-Ok-clause-bound : goal.returns-in-Ok-clause-bound
-returns-in-Ok-clause-bound g c = λ tells s t stands turns room.
-    let old : Places = place_of c.args.catalog.now.places in
-    let records : List ℕ = c.in_ok-gathered.gathered.records.items in
-    let are : AreGone old c.args.next.gone records = record { real = c.in_ok-gathered.ensures.real; all = c.in_ok-gathered.ensures.all } in
-    let ids : List ℕ = all_gone (names_of c.args.catalog.now.names) records c.args.next.entry in
-    let ids-are : c.deref.result.now ≡ ids = c.deref.ensures.value ∙ c.in_ok-gathered.ensures.gone in
-    let once : AreOnce records = c.in_ok-gathered.ensures.once in
-    let o = g.H.Host.outside in
-    let u : ℕ = g.P.PageBook.place c.args.book.now in
-    let size : next_bytes c.args.next c.args.catalog.now.objects c.deref.result.now ≡ turn_bytes c.args.next s t =
-    ap (λ (l : List ℕ). next_bytes c.args.next c.args.catalog.now.objects l) ids-are
-    ∙ bytes-turn g.H.Host.told c.args.catalog.now (g.P.PageBook.numbers c.args.book.now) u (o c.args.host.now) c.requires.sound.kept c.requires.sound.places c.requires.sound.names tells s stands c.args.next records t once are c.requires.next turns in
-    subst (λ (n : ℕ). Spends u n 0 (o c.args.host.now) (o c.write_next.new.host)) size (c.write_next.ensures.bound tells (subst (λ (n : ℕ). IsOpenFor n (image u (o c.args.host.now).now)) (sym size) room))
-
-pub returns-in-Ok-clause-too_many : goal.returns-in-Ok-clause-too_many
-returns-in-Ok-clause-too_many g c = λ tells s t stands turns more.
-    let old : Places = place_of c.args.catalog.now.places in
-    let records : List ℕ = c.in_ok-gathered.gathered.records.items in
-    let are : AreGone old c.args.next.gone records = record { real = c.in_ok-gathered.ensures.real; all = c.in_ok-gathered.ensures.all } in
-    let ids : List ℕ = all_gone (names_of c.args.catalog.now.names) records c.args.next.entry in
-    let ids-are : c.deref.result.now ≡ ids = c.deref.ensures.value ∙ c.in_ok-gathered.ensures.gone in
-    let o = g.H.Host.outside in
-    let u : ℕ = g.P.PageBook.place c.args.book.now in
-    let now : List ℕ = image u (o c.args.host.now).now in
-    c.write_next.ensures.too_many tells stands.texts stands.holds (λ after wrote.
-    subst (λ (n : ℕ). cap (blocks_of now) < n) (sym (cost-after c.args.catalog.now c.args.next records c.requires.sound.places c.requires.sound.names c.requires.next are s t now stands turns after (subst (λ (l : List ℕ). WritesNext c.args.next l stands.texts after) ids-are wrote))) more)
-
-pub returns-in-Err-clause-any_moment : goal.returns-in-Err-clause-any_moment
-returns-in-Err-clause-any_moment g c = λ tells s t stands turns.
-    let old : Places = place_of c.args.catalog.now.places in
-    let records : List ℕ = c.in_ok-gathered.gathered.records.items in
-    let are : AreGone old c.args.next.gone records = record { real = c.in_ok-gathered.ensures.real; all = c.in_ok-gathered.ensures.all } in
-    let ids : List ℕ = all_gone (names_of c.args.catalog.now.names) records c.args.next.entry in
-    let ids-are : c.deref.result.now ≡ ids = c.deref.ensures.value ∙ c.in_ok-gathered.ensures.gone in
-    let o = g.H.Host.outside in
-    let u : ℕ = g.P.PageBook.place c.args.book.now in
-    let now : List ℕ = image u (o c.args.host.now).now in
-    leaves-store c.args.catalog.now c.args.next records c.requires.sound.places c.requires.sound.names c.requires.next are s t now stands turns u (o c.args.host.now).now (o c.write_next.new.host).now
-    (subst (λ (l : List ℕ). Leaves u (HoldsEither now c.args.next l stands.texts) (o c.args.host.now).now (o c.write_next.new.host).now) ids-are (c.write_next.ensures.any_moment tells stands.texts stands.holds))
-
-pub returns-in-Err-clause-bound : goal.returns-in-Err-clause-bound
-returns-in-Err-clause-bound g c = λ tells s t stands turns room.
-    let old : Places = place_of c.args.catalog.now.places in
-    let records : List ℕ = c.in_ok-gathered.gathered.records.items in
-    let are : AreGone old c.args.next.gone records = record { real = c.in_ok-gathered.ensures.real; all = c.in_ok-gathered.ensures.all } in
-    let ids : List ℕ = all_gone (names_of c.args.catalog.now.names) records c.args.next.entry in
-    let ids-are : c.deref.result.now ≡ ids = c.deref.ensures.value ∙ c.in_ok-gathered.ensures.gone in
-    let once : AreOnce records = c.in_ok-gathered.ensures.once in
-    let o = g.H.Host.outside in
-    let u : ℕ = g.P.PageBook.place c.args.book.now in
-    let size : next_bytes c.args.next c.args.catalog.now.objects c.deref.result.now ≡ turn_bytes c.args.next s t =
-    ap (λ (l : List ℕ). next_bytes c.args.next c.args.catalog.now.objects l) ids-are
-    ∙ bytes-turn g.H.Host.told c.args.catalog.now (g.P.PageBook.numbers c.args.book.now) u (o c.args.host.now) c.requires.sound.kept c.requires.sound.places c.requires.sound.names tells s stands c.args.next records t once are c.requires.next turns in
-    subst (λ (n : ℕ). Spends u n 0 (o c.args.host.now) (o c.write_next.new.host)) size (c.write_next.ensures.bound tells (subst (λ (n : ℕ). IsOpenFor n (image u (o c.args.host.now).now)) (sym size) room))
-
-pub returns-in-Err-clause-too_many : goal.returns-in-Err-clause-too_many
-returns-in-Err-clause-too_many g c = λ tells s t stands turns more.
-    let old : Places = place_of c.args.catalog.now.places in
-    let records : List ℕ = c.in_ok-gathered.gathered.records.items in
-    let are : AreGone old c.args.next.gone records = record { real = c.in_ok-gathered.ensures.real; all = c.in_ok-gathered.ensures.all } in
-    let ids : List ℕ = all_gone (names_of c.args.catalog.now.names) records c.args.next.entry in
-    let ids-are : c.deref.result.now ≡ ids = c.deref.ensures.value ∙ c.in_ok-gathered.ensures.gone in
-    let o = g.H.Host.outside in
-    let u : ℕ = g.P.PageBook.place c.args.book.now in
-    let now : List ℕ = image u (o c.args.host.now).now in
-    c.write_next.ensures.too_many tells stands.texts stands.holds (λ after wrote.
-    subst (λ (n : ℕ). cap (blocks_of now) < n) (sym (cost-after c.args.catalog.now c.args.next records c.requires.sound.places c.requires.sound.names c.requires.next are s t now stands turns after (subst (λ (l : List ℕ). WritesNext c.args.next l stands.texts after) ids-are wrote))) more)
-
-pub returns-in-Err-clause-sound : goal.returns-in-Err-clause-sound
-returns-in-Err-clause-sound g c = λ goes.
-    let old : Places = place_of c.args.catalog.now.places in
+    let old : Places = place_of cat.places in
     let mid : Places = place_of c.keep_new.new.places in
     let new : Places = place_of c.forget_new.new.places in
-    let there : (id : ℕ) → IsSome (held c.args.catalog.now.objects id) → IsSome (held c.write_next.new.objects id) = λ id some. subst (λ (x : Option Extent). IsSome x) (sym (c.in-Err.ensures.still (goes-refused c.in-Err.fault goes) id)) some in
-    record {
-      kept = c.in-Err.ensures.kept goes;
-      places = sound-fewer (held c.args.catalog.now.objects) (held c.write_next.new.objects) old new there
-          (fewer-back c.args.next old mid new c.is_placed-was_placed.result c.in_ok-keep_new.ensures.kept c.in_ok-keep_new.ensures.others c.is_placed-was_placed.ensures.placed c.forget_new.ensures.gone c.forget_new.ensures.stays c.forget_new.ensures.others) c.requires.sound.places;
-      names = names-same (held c.args.catalog.now.objects) (held c.write_next.new.objects) (names_of c.args.catalog.now.names) (names_of c.prepare_names.new.names) there c.prepare_names.ensures.same c.requires.sound.names;
-      formed = c.requires.sound.formed;
-    }
-
-pub returns-in-Err-clause-full : goal.returns-in-Err-clause-full
-returns-in-Err-clause-full g c = λ is tells s t stands turns.
-    let old : Places = place_of c.args.catalog.now.places in
     let records : List ℕ = c.in_ok-gathered.gathered.records.items in
-    let are : AreGone old c.args.next.gone records = record { real = c.in_ok-gathered.ensures.real; all = c.in_ok-gathered.ensures.all } in
-    let ids : List ℕ = all_gone (names_of c.args.catalog.now.names) records c.args.next.entry in
-    let ids-are : c.deref.result.now ≡ ids = c.deref.ensures.value ∙ c.in_ok-gathered.ensures.gone in
-    let o = g.H.Host.outside in
-    let u : ℕ = g.P.PageBook.place c.args.book.now in
-    let now : List ℕ = image u (o c.args.host.now).now in
-    let h = c.in-Err.ensures.full (the-fault (full-refused c.in-Err.fault c.in-Err.ensures.only is)) tells stands.texts stands.holds in
-    subst (λ (n : ℕ). cap (blocks_of now) < n) (cost-after c.args.catalog.now c.args.next records c.requires.sound.places c.requires.sound.names c.requires.next are s t now stands turns h.0 (subst (λ (l : List ℕ). WritesNext c.args.next l stands.texts h.0) ids-are h.1)) h.2
-
-pub returns-in-Err-clause-still : goal.returns-in-Err-clause-still
-returns-in-Err-clause-still g c = λ is tells s t stands turns.
-    let old : Places = place_of c.args.catalog.now.places in
-    let mid : Places = place_of c.keep_new.new.places in
-    let new : Places = place_of c.forget_new.new.places in
-    let same : new ≡ old = same-back c.args.next old mid new c.is_placed-was_placed.result c.in_ok-keep_new.ensures.kept c.in_ok-keep_new.ensures.others c.is_placed-was_placed.ensures.placed c.forget_new.ensures.gone c.forget_new.ensures.stays c.forget_new.ensures.others
-    c.is_placed-was_placed.ensures.not_placed (turns.fresh stands.texts stands.describes) in
-    let same-names : names_of c.prepare_names.new.names ≡ names_of c.args.catalog.now.names = λ i r. c.prepare_names.ensures.same r i in
+    let e = c.in_ok-gathered.ensures in
+    let are : AreGone old next.gone records = record { real = e.real; all = e.all } in
+    let ids-are : c.deref.result.now ≡ all_gone (names_of cat.names) records next.entry = c.deref.ensures.value ∙ e.gone in
+    let places = c.requires.sound.places in
+    let names = c.requires.sound.names in
+    let is = c.requires.next in
+    let w = c.in-Err.ensures.writes in
+    let k = c.in-Err.ensures.commits in
+    let f = c.forget_new.ensures in
     record {
-      texts = stands.texts;
-      holds = stands.holds;
-      describes = subst (λ (names : Names). Describes c.args.catalog.now.directory new names stands.texts s) (sym same-names)
-          (subst (λ (pl : Places). Describes c.args.catalog.now.directory pl (names_of c.args.catalog.now.names) stands.texts s) (sym same) stands.describes);
-      fits = stands.fits;
+      leaves = record {
+        book = λ goes. k.stands goes;
+        sound = λ goes.
+            let there : (id : ℕ) → IsSome (held cat.objects id) → IsSome (held c.write_next.new.objects id) = λ id some. subst (λ (x : Option Extent). IsSome x) (sym (w.still (goes-refused c.in-Err.fault goes) id)) some in
+            record {
+              kept = subst (λ (v : ℕ). AreKept told c.write_next.new.objects (p.numbers c.write_next.new.book) v (o c.write_next.new.host)) (sym k.same_place) (k.kept goes);
+              places = sound-fewer (held cat.objects) (held c.write_next.new.objects) old new there
+                  (fewer-back next old mid new c.is_placed-was_placed.result c.in_ok-keep_new.ensures.kept c.in_ok-keep_new.ensures.others c.is_placed-was_placed.ensures.placed f.gone f.stays f.others) places;
+              names = names-same (held cat.objects) (held c.write_next.new.objects) (names_of cat.names) (names_of c.prepare_names.new.names) there c.prepare_names.ensures.same names;
+              formed = c.requires.sound.formed;
+            };
+        same_place = k.same_place;
+        nothing_done = λ refused. k.nothing_done refused;
+        open_after = λ tells. tt;
+        alone = k.alone;
+        ends = record { cause = k.cause; no_fault = λ goes. k.no_fault goes };
+      };
+      makes = record {
+        answer = tt;
+        changed = λ tells s t stands turns. tt;
+        fits = λ tells s t stands turns. tt;
+        full = λ refused tells s t stands turns.
+            let h = w.full (the-fault (full-refused c.in-Err.fault w.only refused)) tells stands.texts stands.holds in
+            subst (λ (n : ℕ). cap (blocks_of now) < n) (cost-after cat next records places names is are s t now stands turns h.0 (subst (λ (l : List ℕ). WritesNext next l stands.texts h.0) ids-are h.1)) h.2;
+        only = w.only;
+        still = λ refused tells s t stands turns.
+            let same : new ≡ old = same-back next old mid new c.is_placed-was_placed.result c.in_ok-keep_new.ensures.kept c.in_ok-keep_new.ensures.others c.is_placed-was_placed.ensures.placed f.gone f.stays f.others
+            c.is_placed-was_placed.ensures.not_placed (turns.fresh stands.texts stands.describes) in
+            let same-names : names_of c.prepare_names.new.names ≡ names_of cat.names = λ i r. c.prepare_names.ensures.same r i in
+            record {
+              texts = stands.texts;
+              holds = stands.holds;
+              describes = subst (λ (names : Names). Describes cat.directory new names stands.texts s) (sym same-names)
+                  (subst (λ (pl : Places). Describes cat.directory pl (names_of cat.names) stands.texts s) (sym same) stands.describes);
+              fits = stands.fits;
+            };
+      };
+      unit = unit-turns told cat next records c.deref.result.now p.place p.numbers p.stands c.args.book.now (o c.args.host.now) c.requires.sound is are e.once ids-are c.write_next.new.book c.write_next.new.objects (o c.write_next.new.host) (Err c.in-Err.fault) k w;
     }
-
-pub returns-in-Ok-clause-stands : goal.returns-in-Ok-clause-stands
-returns-in-Ok-clause-stands g c = λ goes. c.in-Ok.ensures.stands tt
-
-pub returns-in-Ok-clause-place : goal.returns-in-Ok-clause-place
-returns-in-Ok-clause-place g c = c.write_next.ensures.place
-
-pub returns-in-Ok-clause-answer : goal.returns-in-Ok-clause-answer
-returns-in-Ok-clause-answer g c = c.follow-answer.ensures.answer
-
-pub returns-in-Ok-clause-full : goal.returns-in-Ok-clause-full
-returns-in-Ok-clause-full g c = λ is. absurd is
-
-pub returns-in-Ok-clause-only : goal.returns-in-Ok-clause-only
-returns-in-Ok-clause-only g c = tt
-
-pub returns-in-Ok-clause-still : goal.returns-in-Ok-clause-still
-returns-in-Ok-clause-still g c = λ is. absurd is
-
-pub returns-in-Ok-clause-nothing_done : goal.returns-in-Ok-clause-nothing_done
-returns-in-Ok-clause-nothing_done g c = λ is. absurd is
-
-pub returns-in-Ok-clause-open_after : goal.returns-in-Ok-clause-open_after
-returns-in-Ok-clause-open_after g c = λ tells. c.in-Ok.ensures.open_after tells
-
-pub returns-in-Ok-clause-alone : goal.returns-in-Ok-clause-alone
-returns-in-Ok-clause-alone g c = c.write_next.ensures.alone
-
-pub returns-in-Ok-clause-cause : goal.returns-in-Ok-clause-cause
-returns-in-Ok-clause-cause g c = tt
-
-pub returns-in-Err-clause-stands : goal.returns-in-Err-clause-stands
-returns-in-Err-clause-stands g c = λ goes. c.in-Err.ensures.stands goes
-
-pub returns-in-Err-clause-place : goal.returns-in-Err-clause-place
-returns-in-Err-clause-place g c = c.write_next.ensures.place
-
-pub returns-in-Err-clause-answer : goal.returns-in-Err-clause-answer
-returns-in-Err-clause-answer g c = tt
-
-pub returns-in-Err-clause-changed : goal.returns-in-Err-clause-changed
-returns-in-Err-clause-changed g c = λ tells s t stands turns. tt
-
-pub returns-in-Err-clause-fits : goal.returns-in-Err-clause-fits
-returns-in-Err-clause-fits g c = λ tells s t stands turns. tt
-
-pub returns-in-Err-clause-only : goal.returns-in-Err-clause-only
-returns-in-Err-clause-only g c = c.in-Err.ensures.only
-
-pub returns-in-Err-clause-nothing_done : goal.returns-in-Err-clause-nothing_done
-returns-in-Err-clause-nothing_done g c = λ is. c.in-Err.ensures.nothing_done is
-
-pub returns-in-Err-clause-open_after : goal.returns-in-Err-clause-open_after
-returns-in-Err-clause-open_after g c = λ tells. tt
-
-pub returns-in-Err-clause-alone : goal.returns-in-Err-clause-alone
-returns-in-Err-clause-alone g c = c.write_next.ensures.alone
-
-pub returns-in-Err-clause-cause : goal.returns-in-Err-clause-cause
-returns-in-Err-clause-cause g c = c.in-Err.ensures.cause

@@ -2,17 +2,16 @@ use Rattle.std.proofs.Common.{◌≡◌, ◌≤◌, ℕ, List, refl, sym, ◌∙
 use Rattle.std.specs.FinMap as map
 use Rattle.newt_host.specs.Moments.{image, Anything}
 use Rattle.newt_spec_image.specs.Pages.{Change}
-use Rattle.newt_host.proofs.Moments.{Leaves-start}
+use Rattle.newt_host.proofs.Moments.{Leaves-start, Leaves-weaken}
 use Rattle.newt_host.proofs.Outside.{Touches-refl}
-use Rattle.newt_pagebook.specs.Stops.{StopsAt}
-use Rattle.newt_pagebook.specs.declared.book.Stop.TheVariants.{Memory}
 use Rattle.newt_objects.specs.Changing.{IsUnderWay, HoldsObjects}
 use Rattle.newt_spec_store.specs.Cost.{directory_bytes}
 use Rattle.newt_spec_store.specs.OfImage.{blocks_of}
 use Rattle.newt_spec_store.specs.Store.{new_store}
 use Rattle.newt_objects_commit.proofs.Committing.{blocks-are}
 use Rattle.newt_store.proofs.Fresh.{start-empty, formatted-holds, fresh-read, short-name}
-use Rattle.newt_store.proofs.Unanswered.{no-value, by-error}
+use Rattle.newt_store.proofs.Unanswered.{no-value}
+use Rattle.newt_store_catalog.proofs.Exits.{read-memory}
 use Rattle.newt_store.proofs.format.format_unit.Goals as goal
 
 pub returns-in_err-bytes : goal.returns-in_err-bytes
@@ -25,7 +24,7 @@ returns-in_err-bytes g c =
       unchanged = λ is. refl;
       any_moment = λ tells. Leaves-start {P = Anything} (λ left may. tt);
       alone = Touches-refl c.args.unit o;
-      cause = by-error c.from_residual.result (λ stop. stop ≡ Memory) (StopsAt c.args.unit o o) c.from_residual.ensures.1 (λ stop is. subst (StopsAt c.args.unit o o) (sym is) tt);
+      ends = read-memory c.from_residual.result c.from_residual.ensures.1;
     }
 
 pub returns-in_err-plan_put : goal.returns-in_err-plan_put
@@ -38,37 +37,27 @@ returns-in_err-plan_put g c =
       unchanged = λ is. refl;
       any_moment = λ tells. Leaves-start {P = Anything} (λ left may. tt);
       alone = Touches-refl c.args.unit o;
-      cause = by-error c.from_residual-in_err-plan_put.result (λ stop. stop ≡ Memory) (StopsAt c.args.unit o o) c.from_residual-in_err-plan_put.ensures.1 (λ stop is. subst (StopsAt c.args.unit o o) (sym is) tt);
+      ends = read-memory c.from_residual-in_err-plan_put.result c.from_residual-in_err-plan_put.ensures.1;
     }
 
-pub returns-in-Ok-clause-formatted : goal.returns-in-Ok-clause-formatted
-returns-in-Ok-clause-formatted g c = λ tells.
-    let img : List ℕ = image c.args.unit (g.H.Host.outside c.format.new.host).now in
-    let start : IsUnderWay c.empty-objects.result c.new-batch.result map.empty map.empty = subst (λ (b : Change). IsUnderWay c.empty-objects.result b map.empty map.empty) (sym c.new-batch.ensures) (start-empty c.empty-objects.result c.empty-objects.ensures.none c.empty-objects.ensures.no_plans) in
-    let way = c.in_ok-plan_put.ensures.under_way map.empty map.empty start in
-    let holds : HoldsObjects img (map.insert map.empty 0 c.deref.result.now) = formatted-holds c.plan_put.new.self c.plan_put.new.batch (map.insert map.empty 0 c.deref.result.now) img way (c.in-Ok.ensures.formatted tells).0 in
-    let bytes : c.deref.result.now ≡ directory_bytes (new_store c.args.name.now c.args.sig) = c.deref.ensures.value ∙ c.in_ok-bytes.ensures.made in
-    let blocks : blocks_of img ≡ (g.H.Host.outside c.args.host.now).blocks c.args.unit = blocks-are img ((g.H.Host.outside c.format.new.host).blocks c.args.unit) (g.met.H.Host.sized c.format.new.host c.args.unit tells) ∙ c.format.ensures.alone.cards.blocks c.args.unit in
-    let many : 13 ≤ blocks_of img = omega (arith, blocks, c.requires.enough) in
-    fresh-read c.args.name.now c.args.sig c.deref.result.now img c.new_bytes.ensures.named (short-name c.args.name.now c.new_bytes.ensures.named) c.requires.few many bytes holds
-
-pub returns-in-Ok-clause-open_after : goal.returns-in-Ok-clause-open_after
-returns-in-Ok-clause-open_after g c = λ tells. (c.in-Ok.ensures.formatted tells).0.blank
-
-pub returns-in-Ok-clause-durable : goal.returns-in-Ok-clause-durable
-returns-in-Ok-clause-durable g c = λ tells. (c.in-Ok.ensures.formatted tells).1
-
-pub returns-in-Ok-clause-unchanged : goal.returns-in-Ok-clause-unchanged
-returns-in-Ok-clause-unchanged g c = λ is. absurd (cc)
-
-pub returns-in-Ok-clause-any_moment : goal.returns-in-Ok-clause-any_moment
-returns-in-Ok-clause-any_moment g c = c.format.ensures.any_moment
-
-pub returns-in-Ok-clause-alone : goal.returns-in-Ok-clause-alone
-returns-in-Ok-clause-alone g c = c.format.ensures.alone
-
-pub returns-in-Ok-clause-cause : goal.returns-in-Ok-clause-cause
-returns-in-Ok-clause-cause g c = tt
+pub returns-in-Ok : goal.returns-in-Ok
+returns-in-Ok g c = record {
+  formatted = λ tells.
+      let img : List ℕ = image c.args.unit (g.H.Host.outside c.format.new.host).now in
+      let start : IsUnderWay c.empty-objects.result c.new-batch.result map.empty map.empty = subst (λ (b : Change). IsUnderWay c.empty-objects.result b map.empty map.empty) (sym c.new-batch.ensures) (start-empty c.empty-objects.result c.empty-objects.ensures.none c.empty-objects.ensures.no_plans) in
+      let way = c.in_ok-plan_put.ensures.plans.under_way map.empty map.empty start in
+      let holds : HoldsObjects img (map.insert map.empty 0 c.deref.result.now) = formatted-holds c.plan_put.new.self c.plan_put.new.batch (map.insert map.empty 0 c.deref.result.now) img way (c.in-Ok.ensures.formatted tells).0 in
+      let bytes : c.deref.result.now ≡ directory_bytes (new_store c.args.name.now c.args.sig) = c.deref.ensures.value ∙ c.in_ok-bytes.ensures.made in
+      let blocks : blocks_of img ≡ (g.H.Host.outside c.args.host.now).blocks c.args.unit = blocks-are img ((g.H.Host.outside c.format.new.host).blocks c.args.unit) (g.met.H.Host.sized c.format.new.host c.args.unit tells) ∙ c.format.ensures.alone.cards.blocks c.args.unit in
+      let many : 13 ≤ blocks_of img = omega (arith, blocks, c.requires.enough) in
+      fresh-read c.args.name.now c.args.sig c.deref.result.now img c.new_bytes.ensures.named (short-name c.args.name.now c.new_bytes.ensures.named) c.requires.few many bytes holds;
+  durable = λ tells. (c.in-Ok.ensures.formatted tells).1;
+  open_after = λ tells. (c.in-Ok.ensures.formatted tells).0.blank;
+  unchanged = λ is. absurd (cc);
+  any_moment = λ tells. Leaves-weaken (λ left is. tt) (c.format.ensures.any_moment tells);
+  alone = c.format.ensures.alone;
+  ends = record { cause = tt; no_fault = c.in-Ok.ensures.no_fault };
+}
 
 pub returns : goal.returns
 returns g c = record {
@@ -76,7 +65,7 @@ returns g c = record {
   durable = λ tells. tt;
   open_after = λ tells. tt;
   unchanged = c.in-Err.ensures.unchanged;
-  any_moment = c.format.ensures.any_moment;
+  any_moment = λ tells. Leaves-weaken (λ left is. tt) (c.format.ensures.any_moment tells);
   alone = c.format.ensures.alone;
-  cause = c.in-Err.ensures.cause;
+  ends = record { cause = c.in-Err.ensures.cause; no_fault = tt };
 }

@@ -1,13 +1,14 @@
-use Rattle.std.proofs.Common.{◌≡◌, ◌*◌, ◌==◌, Some, None, not, refl, sym, ◌∙◌, ap}
+use Rattle.std.proofs.Common.{◌≡◌, ◌*◌, ◌==◌, Some, None, not, sym, ◌∙◌, ap}
 use Rattle.std.specs.List.{find}
 use Rattle.std.specs.Option.{is_some, option_map}
 use Rattle.newt_base.specs.Refusals.{first_of}
-use Rattle.newt_host.proofs.Outside.{Touches-refl}
+use Rattle.newt_host.proofs.Outside.{NoFault-refl}
+use Rattle.newt_store_catalog.proofs.Exits.{reads-none}
+use Rattle.newt_store.proofs.Ends.{ends-refused, ends-stop}
 use Rattle.newt_objects.specs.Held.{held}
 use Rattle.newt_entries.specs.declared.row.LargeAt.{LargeAt}
 use Rattle.newt_soupdir.specs.Bare.{bare_store}
 use Rattle.newt_spec_store.specs.Store.{soup_of, entry_at}
-use Rattle.newt_store_change.specs.Faults.{FaultsAt}
 use Rattle.newt_store_change.specs.declared.fault.StoreFault.TheVariants.{Stop}
 use Rattle.newt_store_change.specs.Change.{first_checks}
 use Rattle.newt_store.specs.Patch.{record_pages}
@@ -79,21 +80,6 @@ returns-then-is_none-clause-found g c = λ tells s stands. tt
 pub returns-then-is_none-clause-costs : goal.returns-then-is_none-clause-costs
 returns-then-is_none-clause-costs g c = λ tells s stands. reads-nothing (g.P.PageBook.place c.args.book.now) (512 * record_pages (entry_at c.args.sig c.args.uid s)) (g.H.Host.outside c.args.host.now)
 
-pub returns-then-is_none-clause-stands : goal.returns-then-is_none-clause-stands
-returns-then-is_none-clause-stands g c = c.requires.stands
-
-pub returns-then-is_none-clause-same : goal.returns-then-is_none-clause-same
-returns-then-is_none-clause-same g c = (refl, refl)
-
-pub returns-then-is_none-clause-moment : goal.returns-then-is_none-clause-moment
-returns-then-is_none-clause-moment g c = refl
-
-pub returns-then-is_none-clause-alone : goal.returns-then-is_none-clause-alone
-returns-then-is_none-clause-alone g c = Touches-refl (g.P.PageBook.place c.args.book.now) (g.H.Host.outside c.args.host.now)
-
-pub returns-then-is_none-clause-cause : goal.returns-then-is_none-clause-cause
-returns-then-is_none-clause-cause g c = tt
-
 pub returns-in_default-clause-there : goal.returns-in_default-clause-there
 returns-in_default-clause-there g c = tt
 
@@ -102,33 +88,6 @@ returns-in_default-clause-found g c = λ tells s stands. tt
 
 pub returns-in_default-clause-costs : goal.returns-in_default-clause-costs
 returns-in_default-clause-costs g c = λ tells s stands. reads-nothing (g.P.PageBook.place c.args.book.now) (512 * record_pages (entry_at c.args.sig c.args.uid s)) (g.H.Host.outside c.args.host.now)
-
-pub returns-in_default-clause-stands : goal.returns-in_default-clause-stands
-returns-in_default-clause-stands g c = c.requires.stands
-
-pub returns-in_default-clause-same : goal.returns-in_default-clause-same
-returns-in_default-clause-same g c = (refl, refl)
-
-pub returns-in_default-clause-moment : goal.returns-in_default-clause-moment
-returns-in_default-clause-moment g c = refl
-
-pub returns-in_default-clause-alone : goal.returns-in_default-clause-alone
-returns-in_default-clause-alone g c = Touches-refl (g.P.PageBook.place c.args.book.now) (g.H.Host.outside c.args.host.now)
-
-pub returns-in_default-clause-cause : goal.returns-in_default-clause-cause
-returns-in_default-clause-cause g c = tt
-
-pub returns-in_err-row-clause-stands : goal.returns-in_err-row-clause-stands
-returns-in_err-row-clause-stands g c = c.read_row.ensures.stands
-
-pub returns-in_err-row-clause-same : goal.returns-in_err-row-clause-same
-returns-in_err-row-clause-same g c = c.read_row.ensures.same
-
-pub returns-in_err-row-clause-moment : goal.returns-in_err-row-clause-moment
-returns-in_err-row-clause-moment g c = c.read_row.ensures.moment
-
-pub returns-in_err-row-clause-alone : goal.returns-in_err-row-clause-alone
-returns-in_err-row-clause-alone g c = c.read_row.ensures.alone
 
 pub returns-in_err-row-clause-there : goal.returns-in_err-row-clause-there
 returns-in_err-row-clause-there g c = no-value c.from_residual.result _ c.from_residual.ensures.0
@@ -139,44 +98,11 @@ returns-in_err-row-clause-found g c = λ tells s stands. no-value c.from_residua
 pub returns-in_err-row-clause-refused : goal.returns-in_err-row-clause-refused
 returns-in_err-row-clause-refused g c = λ tells s stands at bytes. from-err (RefusesWith (first_of (first_checks (Patch c.args.sig c.args.uid c.args.node at bytes) s))) c.from_residual.result (Stop c.in_err-row.field-0.0) c.from_residual.ensures.1 tt
 
-pub returns-in_err-row-clause-cause : goal.returns-in_err-row-clause-cause
-returns-in_err-row-clause-cause g c = from-err (FaultsAt (g.P.PageBook.place c.args.book.now) (g.H.Host.outside c.args.host.now) (g.H.Host.outside c.read_row.new.host)) c.from_residual.result (Stop c.in_err-row.field-0.0) c.from_residual.ensures.1 c.in_err-row.ensures.cause
-
-pub returns-in_default-row_of_node-clause-stands : goal.returns-in_default-row_of_node-clause-stands
-returns-in_default-row_of_node-clause-stands g c = c.read_row.ensures.stands
-
-pub returns-in_default-row_of_node-clause-same : goal.returns-in_default-row_of_node-clause-same
-returns-in_default-row_of_node-clause-same g c = c.read_row.ensures.same
-
-pub returns-in_default-row_of_node-clause-moment : goal.returns-in_default-row_of_node-clause-moment
-returns-in_default-row_of_node-clause-moment g c = c.read_row.ensures.moment
-
-pub returns-in_default-row_of_node-clause-alone : goal.returns-in_default-row_of_node-clause-alone
-returns-in_default-row_of_node-clause-alone g c = c.read_row.ensures.alone
-
-pub returns-in_default-row_of_node-clause-cause : goal.returns-in_default-row_of_node-clause-cause
-returns-in_default-row_of_node-clause-cause g c = tt
-
 pub returns-in_default-row_of_node-clause-there : goal.returns-in_default-row_of_node-clause-there
 returns-in_default-row_of_node-clause-there g c = tt
 
 pub returns-in_default-row_of_node-clause-found : goal.returns-in_default-row_of_node-clause-found
 returns-in_default-row_of_node-clause-found g c = λ tells s stands. tt
-
-pub returns-then-is_none-2-clause-stands : goal.returns-then-is_none-2-clause-stands
-returns-then-is_none-2-clause-stands g c = c.read_row.ensures.stands
-
-pub returns-then-is_none-2-clause-same : goal.returns-then-is_none-2-clause-same
-returns-then-is_none-2-clause-same g c = c.read_row.ensures.same
-
-pub returns-then-is_none-2-clause-moment : goal.returns-then-is_none-2-clause-moment
-returns-then-is_none-2-clause-moment g c = c.read_row.ensures.moment
-
-pub returns-then-is_none-2-clause-alone : goal.returns-then-is_none-2-clause-alone
-returns-then-is_none-2-clause-alone g c = c.read_row.ensures.alone
-
-pub returns-then-is_none-2-clause-cause : goal.returns-then-is_none-2-clause-cause
-returns-then-is_none-2-clause-cause g c = tt
 
 pub returns-then-is_none-2-clause-there : goal.returns-then-is_none-2-clause-there
 returns-then-is_none-2-clause-there g c = tt
@@ -187,20 +113,41 @@ returns-then-is_none-2-clause-found g c = λ tells s stands. tt
 pub returns-then-is_none-2-clause-refused : goal.returns-then-is_none-2-clause-refused
 returns-then-is_none-2-clause-refused g c = λ tells s stands at bytes. tt
 
-pub returns-clause-stands : goal.returns-clause-stands
-returns-clause-stands g c = c.read_row.ensures.stands
-
-pub returns-clause-same : goal.returns-clause-same
-returns-clause-same g c = c.read_row.ensures.same
-
-pub returns-clause-moment : goal.returns-clause-moment
-returns-clause-moment g c = c.read_row.ensures.moment
-
-pub returns-clause-alone : goal.returns-clause-alone
-returns-clause-alone g c = c.read_row.ensures.alone
-
-pub returns-clause-cause : goal.returns-clause-cause
-returns-clause-cause g c = tt
-
 pub returns-clause-refused : goal.returns-clause-refused
 returns-clause-refused g c = λ tells s stands at bytes. tt
+
+pub returns-then-is_none-clause-reads : goal.returns-then-is_none-clause-reads
+returns-then-is_none-clause-reads g c = reads-none g.P.PageBook.place g.P.PageBook.numbers g.P.PageBook.stands g.H.Host.told c.args.catalog.now.objects c.args.book.now (g.H.Host.outside c.args.host.now) c.requires.stands c.requires.sound.kept
+
+pub returns-then-is_none-clause-ends : goal.returns-then-is_none-clause-ends
+returns-then-is_none-clause-ends g c = ends-refused tt (NoFault-refl (g.H.Host.outside c.args.host.now))
+
+pub returns-in_default-clause-reads : goal.returns-in_default-clause-reads
+returns-in_default-clause-reads g c = reads-none g.P.PageBook.place g.P.PageBook.numbers g.P.PageBook.stands g.H.Host.told c.args.catalog.now.objects c.args.book.now (g.H.Host.outside c.args.host.now) c.requires.stands c.requires.sound.kept
+
+pub returns-in_default-clause-ends : goal.returns-in_default-clause-ends
+returns-in_default-clause-ends g c = ends-refused tt (NoFault-refl (g.H.Host.outside c.args.host.now))
+
+pub returns-in_err-row-clause-reads : goal.returns-in_err-row-clause-reads
+returns-in_err-row-clause-reads g c = c.read_row.ensures.reads
+
+pub returns-in_default-row_of_node-clause-reads : goal.returns-in_default-row_of_node-clause-reads
+returns-in_default-row_of_node-clause-reads g c = c.read_row.ensures.reads
+
+pub returns-then-is_none-2-clause-reads : goal.returns-then-is_none-2-clause-reads
+returns-then-is_none-2-clause-reads g c = c.read_row.ensures.reads
+
+pub returns-clause-reads : goal.returns-clause-reads
+returns-clause-reads g c = c.read_row.ensures.reads
+
+pub returns-in_err-row-clause-ends : goal.returns-in_err-row-clause-ends
+returns-in_err-row-clause-ends g c = ends-stop c.from_residual.result c.in_err-row.field-0.0 c.from_residual.ensures.1 c.in_err-row.ensures.ends
+
+pub returns-in_default-row_of_node-clause-ends : goal.returns-in_default-row_of_node-clause-ends
+returns-in_default-row_of_node-clause-ends g c = ends-refused tt c.in_ok-row.ensures.ends.no_fault
+
+pub returns-then-is_none-2-clause-ends : goal.returns-then-is_none-2-clause-ends
+returns-then-is_none-2-clause-ends g c = record { cause = tt; no_fault = λ goes. absurd goes }
+
+pub returns-clause-ends : goal.returns-clause-ends
+returns-clause-ends g c = ends-refused tt c.in_ok-row.ensures.ends.no_fault

@@ -1,9 +1,8 @@
-use Rattle.std.proofs.Common.{ℕ, Result, Err, inl, inr, refl, ap, arith}
-use Rattle.newt_host.proofs.Outside.{Touches-refl}
+use Rattle.std.proofs.Common.{ℕ, Result, inl, inr, refl}
+use Rattle.newt_host.proofs.Outside.{NoFault-refl}
 use Rattle.newt_host.specs.Moments.{image}
 use Rattle.newt_objects.specs.Held.{held}
 use Rattle.newt_pagebook.specs.declared.book.BookFault.{BookFault}
-use Rattle.newt_pagebook.specs.declared.book.BookFault.TheVariants.{NotStore, Device}
 use Rattle.newt_entries.specs.declared.row.EntryRow.{EntryRow}
 use Rattle.newt_soupdir.specs.Bare.{bare_store}
 use Rattle.newt_spec_store.specs.Store.{Store}
@@ -12,7 +11,7 @@ use Rattle.newt_laws_changes.specs.Written.{Names}
 use Rattle.newt_objects_commit.specs.Names.{names_of}
 use Rattle.newt_objects_commit.specs.Places.{place_of}
 use Rattle.newt_store_catalog.specs.Opening.{OfObjects, IsRow, Owners, objects_named, owner_of, AreSoundTo, AreFoundTo, FindsRow}
-use Rattle.newt_store_catalog.proofs.Exits.{Fails, no-value, no-fault, fault-is, on-done}
+use Rattle.newt_store_catalog.proofs.Exits.{Fails, no-value, on-done, reads-none, search-value, search-fails}
 use Rattle.newt_store_catalog.proofs.Opening.{record-not-given, record-twice, record-missing, record-owned}
 use Rattle.newt_store_catalog.proofs.Owning.{all-there, not-there, named-there}
 use Rattle.newt_store_catalog.proofs.OpeningPlaces.{odd-is, sound-next, sound-even, row-next, even-next}
@@ -29,14 +28,8 @@ returns-then-id-eq0 g c =
       found = λ tells texts h.
           even-next g.H.Host.told c.args.objects.now (g.P.PageBook.numbers c.args.book.now) u o c.requires.kept tells texts h
           (bare_store c.args.directory.now) c.args.last c.args.id c.requires.next place names c.if-id-eq0.true (c.requires.found tells texts h);
-      not_store = λ is. absurd (no-fault is);
-      stands = c.requires.stands;
-      kept = c.requires.kept;
-      same = (refl, refl);
-      moment = refl;
-      programs_nothing = omega arith;
-      alone = Touches-refl u o;
-      cause = λ is. absurd (no-fault is);
+      reads = reads-none g.P.PageBook.place g.P.PageBook.numbers g.P.PageBook.stands g.H.Host.told c.args.objects.now c.args.book.now o c.requires.stands c.requires.kept;
+      ends = search-value (NoFault-refl o);
     }
 
 pub returns-in_err-row : goal.returns-in_err-row
@@ -48,14 +41,8 @@ returns-in_err-row g c =
     record {
       sound = no-value r fault _ fails;
       found = no-value r fault _ fails;
-      not_store = λ is. c.in_err-row.ensures.not_store (ap Err (fault-is r fault NotStore fails is));
-      stands = e.stands;
-      kept = e.kept;
-      same = e.same;
-      moment = e.moment;
-      programs_nothing = e.programs_nothing;
-      alone = e.alone;
-      cause = λ is. c.in_err-row.ensures.cause (ap Err (fault-is r fault Device fails is));
+      reads = e.reads;
+      ends = search-fails r fault fails c.in_err-row.ensures.ends;
     }
 
 pub returns : goal.returns
@@ -89,17 +76,15 @@ returns g c =
       found = on-done r Finds (OfObjects g.H.Host.told (image u o.now) (AreFoundTo id place' names' d)) c.find_row.ensures.found
           (λ f tells texts h. row-next g.H.Host.told objects numbers u o c.requires.kept tells texts h d last id c.requires.next place names row (is_row tells texts h) odd f.given even (all-there table row.larges f.there)
           place' names' f.free f.placed f.other_places f.named f.other_names (c.requires.found tells texts h));
-      not_store = λ is tells. elim (c.find_row.ensures.bad is) [
-        | inl none ↦ record-not-given g.H.Host.told objects numbers u o c.requires.kept tells c.args.directory.now c.requires.root id odd row is_row none
-        | inr (inl other) ↦ record-twice g.H.Host.told objects numbers u o c.requires.kept tells c.args.directory.now c.requires.root id odd row is_row last place names owner c.requires.sound c.requires.found there.1 other.0 other.1
-        | inr (inr (inl not)) ↦ (let l = not-there table row.larges not in record-missing g.H.Host.told objects numbers u o c.requires.kept tells c.args.directory.now c.requires.root id odd row is_row l.0 l.1 l.2)
-        | inr (inr (inr owned)) ↦ record-owned g.H.Host.told objects numbers u o c.requires.kept tells c.args.directory.now c.requires.root id odd row is_row last place names owner c.requires.sound c.requires.found there.1 owned
-      ];
-      stands = e.stands;
-      kept = e.kept;
-      same = e.same;
-      moment = e.moment;
-      programs_nothing = e.programs_nothing;
-      alone = e.alone;
-      cause = λ is. absurd (c.find_row.ensures.no_device is);
+      reads = e.reads;
+      ends = record {
+        not_store = λ is tells. elim (c.find_row.ensures.bad is) [
+          | inl none ↦ record-not-given g.H.Host.told objects numbers u o c.requires.kept tells c.args.directory.now c.requires.root id odd row is_row none
+          | inr (inl other) ↦ record-twice g.H.Host.told objects numbers u o c.requires.kept tells c.args.directory.now c.requires.root id odd row is_row last place names owner c.requires.sound c.requires.found there.1 other.0 other.1
+          | inr (inr (inl not)) ↦ (let l = not-there table row.larges not in record-missing g.H.Host.told objects numbers u o c.requires.kept tells c.args.directory.now c.requires.root id odd row is_row l.0 l.1 l.2)
+          | inr (inr (inr owned)) ↦ record-owned g.H.Host.told objects numbers u o c.requires.kept tells c.args.directory.now c.requires.root id odd row is_row last place names owner c.requires.sound c.requires.found there.1 owned
+        ];
+        cause = λ is. absurd (c.find_row.ensures.no_device is);
+        no_fault = λ opening. c.in_ok-row.ensures.ends.no_fault tt;
+      };
     }

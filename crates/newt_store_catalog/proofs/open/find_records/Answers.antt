@@ -1,34 +1,25 @@
-use Rattle.std.proofs.Common.{◌+◌, ◌≤◌, ℕ, List, Option, Result, Err, refl, sym, ◌∙◌, ap, subst, arith}
+use Rattle.std.proofs.Common.{◌+◌, ◌≤◌, ℕ, List, Option, Result, sym, subst, arith}
 use Rattle.newt_host.specs.Moments.{image}
-use Rattle.newt_host.specs.Outside.{Touches}
-use Rattle.newt_host.proofs.Outside.{Touches-refl, Touches-append}
+use Rattle.newt_host.proofs.Outside.{NoFault-refl, NoFault-append}
 use Rattle.newt_objects.specs.Extents.{IsNextIn}
 use Rattle.newt_objects.specs.Held.{held}
 use Rattle.newt_pagebook.specs.declared.book.BookFault.{BookFault}
-use Rattle.newt_pagebook.specs.declared.book.BookFault.TheVariants.{NotStore, Device}
 use Rattle.newt_laws_images.specs.Found.{IsFound}
 use Rattle.newt_soupdir.specs.Bare.{bare_store}
 use Rattle.newt_entries.specs.Entry.{stream_graph}
 use Rattle.newt_objects_commit.specs.Names.{AreSoundNames, names_of}
 use Rattle.newt_objects_commit.specs.Places.{AreSoundPlaces, place_of}
 use Rattle.newt_store_catalog.specs.declared.open.Finding.{Finding}
-use Rattle.newt_store_catalog.specs.Readable.{readable}
 use Rattle.newt_store_catalog.specs.Opening.{OfObjects, owner_of, IsRoot, AreFoundTo}
 use Rattle.newt_store_catalog.proofs.Opening.{kept-none, kept-there, large-not-named, same-image}
-use Rattle.newt_store_catalog.proofs.Exits.{Fails, no-value, no-fault, no-device, fault-is, OnlyReads, of-call, reads-on, rose-on}
-use Rattle.newt_store_catalog.proofs.ReadLarges.{programs-over}
+use Rattle.newt_store_catalog.proofs.Exits.{Fails, no-value, reads-none, reads-on, search-value, search-none, search-fails, search-after}
 use Rattle.newt_store_catalog.proofs.OpeningPlaces.{sound-none, found-none, found-all}
 use Rattle.newt_store_catalog.proofs.open.find_records.Goals as goal
 
 pub loop-id-init : goal.loop-id-init
 loop-id-init g c = record {
-  stands = c.requires.stands;
-  kept = c.requires.kept;
-  same_place = refl;
-  same_numbers = refl;
-  moment = refl;
-  programs_nothing = omega arith;
-  alone = Touches-refl (g.P.PageBook.place c.args.book.now) (g.H.Host.outside c.args.host.now);
+  reads = reads-none g.P.PageBook.place g.P.PageBook.numbers g.P.PageBook.stands g.H.Host.told c.args.objects.now c.args.book.now (g.H.Host.outside c.args.host.now) c.requires.stands c.requires.kept;
+  no_fault = NoFault-refl (g.H.Host.outside c.args.host.now);
   sound = sound-none (held c.args.objects.now) (place_of c.new-places.result) (names_of c.new-names.result) (owner_of c.no_owners-owners.result) c.new-places.ensures c.new-names.ensures c.no_owners-owners.ensures;
   found = λ tells texts h. found-none texts (bare_store c.args.directory.now) (place_of c.new-places.result) (names_of c.new-names.result) c.new-places.ensures;
 }
@@ -41,7 +32,7 @@ loop-id-smaller g c =
 pub find_object-requires-clause-root : goal.find_object-requires-clause-root
 find_object-requires-clause-root g c =
     let i = c.loop-id.invariant in
-    subst (λ (b : List ℕ). OfObjects g.H.Host.told b (IsRoot c.args.directory.now)) (sym (same-image _ _ _ _ i.same_place i.moment)) c.requires.root
+    subst (λ (b : List ℕ). OfObjects g.H.Host.told b (IsRoot c.args.directory.now)) (sym (same-image _ _ _ _ i.reads.same_place i.reads.looks.moment)) c.requires.root
 
 pub find_object-requires-clause-next : goal.find_object-requires-clause-next
 find_object-requires-clause-next g c = subst (λ (n : Option ℕ). IsNextIn (held c.args.objects.now) (c.loop-id.last + 1) n) c.in-Some.is c.next_after.ensures
@@ -49,23 +40,18 @@ find_object-requires-clause-next g c = subst (λ (n : Option ℕ). IsNextIn (hel
 pub find_object-requires-clause-found : goal.find_object-requires-clause-found
 find_object-requires-clause-found g c =
     let i = c.loop-id.invariant in
-    subst (λ (b : List ℕ). OfObjects g.H.Host.told b (AreFoundTo c.loop-id.last (place_of c.loop-id.finding.places) (names_of c.loop-id.finding.names) (bare_store c.args.directory.now))) (sym (same-image _ _ _ _ i.same_place i.moment)) i.found
+    subst (λ (b : List ℕ). OfObjects g.H.Host.told b (AreFoundTo c.loop-id.last (place_of c.loop-id.finding.places) (names_of c.loop-id.finding.names) (bare_store c.args.directory.now))) (sym (same-image _ _ _ _ i.reads.same_place i.reads.looks.moment)) i.found
 
 pub loop-id-preserved : goal.loop-id-preserved
 loop-id-preserved g c =
     let i = c.loop-id.invariant in
     let e = c.in_ok-find_object.ensures in
     record {
-      stands = e.stands;
-      kept = e.kept;
-      same_place = e.same.0 ∙ i.same_place;
-      same_numbers = e.same.1 ∙ i.same_numbers;
-      moment = e.moment ∙ i.moment;
-      programs_nothing = programs-over (g.P.PageBook.place c.args.book.now) (g.P.PageBook.place c.loop-id.book) (g.H.Host.outside c.args.host.now) (g.H.Host.outside c.loop-id.host) (g.H.Host.outside c.find_object.new.host) i.same_place i.programs_nothing e.programs_nothing;
-      alone = Touches-append i.alone (subst (λ (u : ℕ). Touches u (g.H.Host.outside c.loop-id.host) (g.H.Host.outside c.find_object.new.host)) i.same_place e.alone);
+      reads = reads-on i.reads e.reads;
+      no_fault = NoFault-append i.no_fault (e.ends.no_fault tt);
       sound = e.sound;
       found = subst (λ (b : List ℕ). OfObjects g.H.Host.told b (AreFoundTo c.in-Some.id (place_of c.find_object.new.finding.places) (names_of c.find_object.new.finding.names) (bare_store c.args.directory.now)))
-          (same-image _ _ _ _ i.same_place i.moment) e.found;
+          (same-image _ _ _ _ i.reads.same_place i.reads.looks.moment) e.found;
     }
 
 pub returns-then-not-are_owned : goal.returns-then-not-are_owned
@@ -75,18 +61,14 @@ returns-then-not-are_owned g c =
       places = tt;
       names = tt;
       found = tt;
-      not_store = λ is tells.
+      reads = i.reads;
+      ends = search-none
+          (λ tells.
           let o = c.are_owned.ensures.not_owned c.if-not-are_owned.true in
           large-not-named g.H.Host.told c.args.objects.now (g.P.PageBook.numbers c.args.book.now) (g.P.PageBook.place c.args.book.now) (g.H.Host.outside c.args.host.now) c.requires.kept tells
           c.loop-id.last (place_of c.loop-id.finding.places) (names_of c.loop-id.finding.names) (owner_of c.loop-id.finding.owners) (bare_store c.args.directory.now) i.sound i.found
-          (λ q from. c.next_after.ensures.none q c.in_default.is from) o.0 o.1 o.2 o.3 o.4;
-      stands = i.stands;
-      kept = i.kept;
-      same = (i.same_place, i.same_numbers);
-      moment = i.moment;
-      programs_nothing = i.programs_nothing;
-      alone = i.alone;
-      cause = λ is. absurd (no-device is);
+          (λ q from. c.next_after.ensures.none q c.in_default.is from) o.0 o.1 o.2 o.3 o.4)
+          i.no_fault;
     }
 
 pub returns : goal.returns
@@ -102,14 +84,8 @@ returns g c =
           (c.next_after.ensures.none q c.in_default.is from))
           (λ id bytes at n even. c.are_owned.ensures.owned c.if-not-are_owned.false id
           (kept-there g.H.Host.told c.args.objects.now (g.P.PageBook.numbers c.args.book.now) (g.P.PageBook.place c.args.book.now) (g.H.Host.outside c.args.host.now) c.requires.kept tells texts h id bytes at) n even);
-      not_store = λ is. absurd (no-fault is);
-      stands = i.stands;
-      kept = i.kept;
-      same = (i.same_place, i.same_numbers);
-      moment = i.moment;
-      programs_nothing = i.programs_nothing;
-      alone = i.alone;
-      cause = λ is. absurd (no-fault is);
+      reads = i.reads;
+      ends = search-value i.no_fault;
     }
 
 pub returns-in_err-find_object : goal.returns-in_err-find_object
@@ -118,12 +94,7 @@ returns-in_err-find_object g c =
     let e = c.find_object.ensures in
     let o = g.H.Host.outside in
     let u : ℕ = g.P.PageBook.place c.args.book.now in
-    let v : ℕ = g.P.PageBook.place c.loop-id.book in
     let first = o c.args.host.now in
-    let mid = o c.loop-id.host in
-    let last = o c.find_object.new.host in
-    let before : OnlyReads u v first mid = of-call i.same_place i.moment i.programs_nothing i.alone in
-    let all : OnlyReads u (g.P.PageBook.place c.find_object.new.book) first last = reads-on u v (g.P.PageBook.place c.find_object.new.book) first mid last before (of-call e.same.0 e.moment e.programs_nothing e.alone) in
     let fault : BookFault = c.in_err-find_object.field-0.0 in
     let r : Result Finding BookFault = c.from_residual.result in
     let fails : Fails r fault = c.from_residual.ensures.1 in
@@ -131,12 +102,6 @@ returns-in_err-find_object g c =
       places = no-value r fault (λ finding. AreSoundPlaces (held c.args.objects.now) (place_of finding.places)) fails;
       names = no-value r fault (λ finding. AreSoundNames (held c.args.objects.now) (names_of finding.names)) fails;
       found = no-value r fault (λ finding. OfObjects g.H.Host.told (image u first.now) (λ texts. IsFound stream_graph texts (place_of finding.places) (names_of finding.names) (bare_store c.args.directory.now))) fails;
-      not_store = λ is tells. ap readable (sym (same-image u v first.now mid.now i.same_place i.moment)) ∙ c.in_err-find_object.ensures.not_store (ap Err (fault-is r fault NotStore fails is)) tells;
-      stands = e.stands;
-      kept = e.kept;
-      same = (all.place, e.same.1 ∙ i.same_numbers);
-      moment = all.moment;
-      programs_nothing = all.programs_nothing;
-      alone = all.alone;
-      cause = λ is. rose-on u v first mid last before (c.in_err-find_object.ensures.cause (ap Err (fault-is r fault Device fails is)));
+      reads = reads-on i.reads e.reads;
+      ends = search-after i.reads.same_place i.reads.looks i.no_fault (search-fails r fault fails c.in_err-find_object.ensures.ends);
     }

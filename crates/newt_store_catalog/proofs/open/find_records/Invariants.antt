@@ -1,25 +1,20 @@
-use Rattle.std.proofs.Common.{◌≡◌, ◌-◌, ◌≤◌}
+use Rattle.std.proofs.Common.{◌-◌}
 use Rattle.newt_host.specs.Moments.{image}
-use Rattle.newt_host.specs.Outside.{Touches}
+use Rattle.newt_host.specs.Outside.{NoFault}
 use Rattle.newt_objects.specs.Held.{held}
 use Rattle.newt_soupdir.specs.Bare.{bare_store}
-use Rattle.newt_objects_commit.specs.Commit.{AreKept}
 use Rattle.newt_objects_commit.specs.Names.{names_of}
 use Rattle.newt_objects_commit.specs.Places.{place_of}
 use Rattle.newt_store_catalog.specs.Opening.{OfObjects, owner_of, AreSoundTo, AreFoundTo}
+use Rattle.newt_store_catalog.specs.Reading.{ReadsOf}
 use Rattle.newt_store_catalog.proofs.open.find_records.Given as goal
 
 abbrev pub invariant-loop-id : goal.invariant-loop-id
 invariant-loop-id g l =
     let outside = g.H.Host.outside in let place = g.P.PageBook.place in
     record {
-      stands : g.P.PageBook.stands g.H.Host.told l.book (outside l.host);
-      kept : AreKept g.H.Host.told l.objects (g.P.PageBook.numbers l.book) (place l.book) (outside l.host);
-      same_place : place l.book ≡ place l.fn.book;
-      same_numbers : g.P.PageBook.numbers l.book ≡ g.P.PageBook.numbers l.fn.book;
-      moment : (outside l.host).now ≡ (outside l.fn.host).now;
-      programs_nothing : (outside l.host).programmed (place l.fn.book) ≤ (outside l.fn.host).programmed (place l.fn.book);
-      alone : Touches (place l.fn.book) (outside l.fn.host) (outside l.host);
+      reads : ReadsOf place g.P.PageBook.numbers g.P.PageBook.stands g.H.Host.told l.objects l.fn.book l.book (outside l.fn.host) (outside l.host);
+      no_fault : NoFault (outside l.fn.host) (outside l.host);
       sound : AreSoundTo l.last (held l.objects) (place_of l.finding.places) (names_of l.finding.names) (owner_of l.finding.owners);
       found : OfObjects g.H.Host.told (image (place l.fn.book) (outside l.fn.host).now) (AreFoundTo l.last (place_of l.finding.places) (names_of l.finding.names) (bare_store l.directory));
     }

@@ -1,13 +1,12 @@
-use Rattle.std.proofs.Common.{◌≡◌, ◌%◌, ◌<◌, ℕ, List, Result, Err, sym, ◌∙◌, ap}
+use Rattle.std.proofs.Common.{◌≡◌, ◌%◌, ◌<◌, ℕ, List, Result, sym, ◌∙◌, ap}
 use Rattle.newt_host.specs.Moments.{image}
 use Rattle.newt_pagebook.specs.declared.book.BookFault.{BookFault}
-use Rattle.newt_pagebook.specs.declared.book.BookFault.TheVariants.{NotStore, Device}
 use Rattle.newt_spec_graph.specs.Lists.{Among}
 use Rattle.newt_spec_store.specs.Lies.{record_read}
 use Rattle.newt_entries.specs.Entry.{stream_graph}
 use Rattle.newt_entries.specs.declared.row.EntryRow.{EntryRow}
 use Rattle.newt_store_catalog.specs.Opening.{OfObjects, IsRow, objects_named}
-use Rattle.newt_store_catalog.proofs.Exits.{Fails, no-value, fault-is}
+use Rattle.newt_store_catalog.proofs.Exits.{Fails, no-value, search-fails}
 use Rattle.newt_store_catalog.proofs.Opening.{record-bad, row-by, even-by}
 use Rattle.newt_store_catalog.proofs.open.read_record.Goals as goal
 
@@ -21,14 +20,8 @@ returns-in_err-bytes g c =
     record {
       row = no-value r fault (λ row. OfObjects g.H.Host.told now (IsRow c.args.id row)) fails;
       even = no-value r fault (λ row. (o : ℕ) → Among (objects_named row.larges) o → (o % 2 ≡ 0) × (0 < o)) fails;
-      not_store = λ is. absurd (c.in_err-bytes.ensures.some (ap Err (fault-is r fault NotStore fails is)));
-      stands = e.stands;
-      kept = e.kept;
-      same = e.same;
-      moment = e.moment;
-      programs_nothing = e.programs_nothing;
-      alone = e.alone;
-      cause = λ is. c.in_err-bytes.ensures.cause (ap Err (fault-is r fault Device fails is));
+      reads = e.reads;
+      ends = search-fails r fault fails c.in_err-bytes.ensures.ends;
     }
 
 pub returns : goal.returns
@@ -43,14 +36,12 @@ returns g c =
     record {
       row = row-by g.H.Host.told (image u o.now) bytes text c.args.id r c.in_ok-bytes.ensures.bytes same c.record_of.ensures.read c.record_of.ensures.are_bytes;
       even = even-by text r c.record_of.ensures.read;
-      not_store = λ is tells.
-          record-bad g.H.Host.told c.args.objects.now (g.P.PageBook.numbers c.args.book.now) u o c.requires.kept tells c.args.id bytes c.in_ok-bytes.ensures.bytes c.requires.odd
-          (ap (record_read stream_graph) (sym same) ∙ c.record_of.ensures.bad is);
-      stands = e.stands;
-      kept = e.kept;
-      same = e.same;
-      moment = e.moment;
-      programs_nothing = e.programs_nothing;
-      alone = e.alone;
-      cause = λ is. absurd (c.record_of.ensures.no_device is);
+      reads = e.reads;
+      ends = record {
+        not_store = λ is tells.
+            record-bad g.H.Host.told c.args.objects.now (g.P.PageBook.numbers c.args.book.now) u o c.requires.kept tells c.args.id bytes c.in_ok-bytes.ensures.bytes c.requires.odd
+            (ap (record_read stream_graph) (sym same) ∙ c.record_of.ensures.bad is);
+        cause = λ is. absurd (c.record_of.ensures.no_device is);
+        no_fault = λ opening. c.in_ok-bytes.ensures.ends.no_fault tt;
+      };
     }

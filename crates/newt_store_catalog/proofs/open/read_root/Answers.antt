@@ -1,15 +1,14 @@
-use Rattle.std.proofs.Common.{◌≡◌, ℕ, List, IsTrue, Result, Err, refl, sym, ◌∙◌, ap, arith}
+use Rattle.std.proofs.Common.{◌≡◌, ℕ, List, IsTrue, Result, sym, ◌∙◌, ap}
 use Rattle.newt_host.specs.Moments.{image}
-use Rattle.newt_host.proofs.Outside.{Touches-refl}
+use Rattle.newt_host.proofs.Outside.{NoFault-refl}
 use Rattle.newt_objects.specs.Held.{held}
 use Rattle.newt_pagebook.specs.declared.book.BookFault.{BookFault}
-use Rattle.newt_pagebook.specs.declared.book.BookFault.TheVariants.{NotStore, Device}
 use Rattle.newt_spec_store.specs.Lies.{directory_read}
 use Rattle.newt_spec_store.specs.Valid.{well_formed}
 use Rattle.newt_soupdir.specs.Bare.{bare_store}
 use Rattle.newt_soupdir.specs.declared.rows.Directory.{Directory}
 use Rattle.newt_store_catalog.specs.Opening.{OfObjects, IsRoot}
-use Rattle.newt_store_catalog.proofs.Exits.{Fails, no-value, no-device, fault-is}
+use Rattle.newt_store_catalog.proofs.Exits.{Fails, no-value, reads-none, search-fails, search-none}
 use Rattle.newt_store_catalog.proofs.Opening.{root-missing, root-bad, root-by, mapped-none, is-none, formed-by}
 use Rattle.newt_store_catalog.proofs.open.read_root.Goals as goal
 
@@ -20,16 +19,11 @@ returns-then-is_none g c =
     record {
       root = tt;
       formed = tt;
-      not_store = λ is tells.
-          root-missing g.H.Host.told c.args.objects.now (g.P.PageBook.numbers c.args.book.now) u o c.requires.kept tells
-          (mapped-none (λ x. x.length) (held c.args.objects.now 0) (sym c.length.ensures ∙ is-none c.length.result c.if-is_none.ensures));
-      stands = c.requires.stands;
-      kept = c.requires.kept;
-      same = (refl, refl);
-      moment = refl;
-      programs_nothing = omega arith;
-      alone = Touches-refl u o;
-      cause = λ is. absurd (no-device is);
+      reads = reads-none g.P.PageBook.place g.P.PageBook.numbers g.P.PageBook.stands g.H.Host.told c.args.objects.now c.args.book.now o c.requires.stands c.requires.kept;
+      ends = search-none
+          (λ tells. root-missing g.H.Host.told c.args.objects.now (g.P.PageBook.numbers c.args.book.now) u o c.requires.kept tells
+          (mapped-none (λ x. x.length) (held c.args.objects.now 0) (sym c.length.ensures ∙ is-none c.length.result c.if-is_none.ensures)))
+          (NoFault-refl o);
     }
 
 pub returns-in_err-bytes : goal.returns-in_err-bytes
@@ -42,14 +36,8 @@ returns-in_err-bytes g c =
     record {
       root = no-value r fault (λ directory. OfObjects g.H.Host.told now (IsRoot directory)) fails;
       formed = no-value r fault (λ directory. IsTrue (well_formed (bare_store directory))) fails;
-      not_store = λ is. absurd (c.in_err-bytes.ensures.some (ap Err (fault-is r fault NotStore fails is)));
-      stands = e.stands;
-      kept = e.kept;
-      same = e.same;
-      moment = e.moment;
-      programs_nothing = e.programs_nothing;
-      alone = e.alone;
-      cause = λ is. c.in_err-bytes.ensures.cause (ap Err (fault-is r fault Device fails is));
+      reads = e.reads;
+      ends = search-fails r fault fails c.in_err-bytes.ensures.ends;
     }
 
 pub returns : goal.returns
@@ -64,13 +52,11 @@ returns g c =
     record {
       root = root-by g.H.Host.told (image u o.now) bytes text r c.in_ok-bytes.ensures.bytes same c.root_of.ensures.read c.root_of.ensures.are_bytes;
       formed = formed-by text r c.root_of.ensures.read;
-      not_store = λ is tells.
-          root-bad g.H.Host.told c.args.objects.now (g.P.PageBook.numbers c.args.book.now) u o c.requires.kept tells bytes c.in_ok-bytes.ensures.bytes (ap directory_read (sym same) ∙ c.root_of.ensures.bad is);
-      stands = e.stands;
-      kept = e.kept;
-      same = e.same;
-      moment = e.moment;
-      programs_nothing = e.programs_nothing;
-      alone = e.alone;
-      cause = λ is. absurd (c.root_of.ensures.no_device is);
+      reads = e.reads;
+      ends = record {
+        not_store = λ is tells.
+            root-bad g.H.Host.told c.args.objects.now (g.P.PageBook.numbers c.args.book.now) u o c.requires.kept tells bytes c.in_ok-bytes.ensures.bytes (ap directory_read (sym same) ∙ c.root_of.ensures.bad is);
+        cause = λ is. absurd (c.root_of.ensures.no_device is);
+        no_fault = λ opening. c.in_ok-bytes.ensures.ends.no_fault tt;
+      };
     }

@@ -1,22 +1,19 @@
-use Rattle.std.proofs.Common.{sym, ◌∙◌}
-use Rattle.newt_objects.specs.Held.{held}
-use Rattle.newt_store_catalog.proofs.Rows.{read-is, read-costs, long-there, only-fetched}
-use Rattle.newt_store_catalog.proofs.Kept.{kept-over}
+use Rattle.std.proofs.Common.{sym}
+use Rattle.newt_store_catalog.proofs.Rows.{read-is, read-costs}
+use Rattle.newt_store_catalog.proofs.Exits.{with-kept, reads-none, read-fails}
 use Rattle.newt_store_catalog.proofs.read.read_large.Goals as goal
 
+pub returns-in_default-clause-reads : goal.returns-in_default-clause-reads
+returns-in_default-clause-reads g c = reads-none g.P.PageBook.place g.P.PageBook.numbers g.P.PageBook.stands g.H.Host.told c.args.objects.now c.args.book.now (g.H.Host.outside c.args.host.now) c.requires.stands c.requires.kept
+
+pub returns-then-length-large-clause-reads : goal.returns-then-length-large-clause-reads
+returns-then-length-large-clause-reads g c = reads-none g.P.PageBook.place g.P.PageBook.numbers g.P.PageBook.stands g.H.Host.told c.args.objects.now c.args.book.now (g.H.Host.outside c.args.host.now) c.requires.stands c.requires.kept
+
 pub returns-in_err-bytes-clause-reads : goal.returns-in_err-bytes-clause-reads
-returns-in_err-bytes-clause-reads g c =
-    let o = g.H.Host.outside in
-    record {
-      stood = c.read.ensures.stands;
-      kept = kept-over g.H.Host.told c.args.objects.now (g.P.PageBook.numbers c.args.book.now) (g.P.PageBook.numbers c.read.new.book) (g.P.PageBook.place c.args.book.now) (g.P.PageBook.place c.read.new.book) (o c.args.host.now) (o c.read.new.host) c.read.ensures.same.0 c.read.ensures.same.1 c.read.ensures.moment c.requires.kept;
-      same_place = c.read.ensures.same.0;
-      same_numbers = c.read.ensures.same.1;
-      moment = c.read.ensures.moment;
-      programs_nothing = only-fetched (held c.args.objects.now c.args.large.now.object) (g.P.PageBook.place c.args.book.now) (o c.args.host.now) (o c.read.new.host)
-          (long-there (held c.args.objects.now c.args.large.now.object) c.in-Some.length (sym c.length.ensures ∙ c.in-Some.is)) c.read.ensures.costs;
-      alone = c.read.ensures.alone;
-    }
+returns-in_err-bytes-clause-reads g c = with-kept c.requires.kept c.read.ensures.reads.book
+
+pub returns-in_err-bytes-clause-ends : goal.returns-in_err-bytes-clause-ends
+returns-in_err-bytes-clause-ends g c = read-fails {T = Unit {0}} c.from_residual.result c.in_err-bytes.field-0.0 c.from_residual.ensures.1 (record { cause = c.in_err-bytes.ensures.reads.cause; no_fault = tt })
 
 pub returns-in_err-bytes-clause-costs : goal.returns-in_err-bytes-clause-costs
 returns-in_err-bytes-clause-costs g c = λ tells texts b holds at.
@@ -24,18 +21,10 @@ returns-in_err-bytes-clause-costs g c = λ tells texts b holds at.
     read-costs g.H.Host.told c.args.objects.now (g.P.PageBook.numbers c.args.book.now) (g.P.PageBook.place c.args.book.now) (o c.args.host.now) c.requires.kept tells texts holds c.args.large.now.object b at (o c.args.host.now) (o c.read.new.host) c.read.ensures.costs
 
 pub returns-clause-reads : goal.returns-clause-reads
-returns-clause-reads g c =
-    let o = g.H.Host.outside in
-    record {
-      stood = c.read.ensures.stands;
-      kept = kept-over g.H.Host.told c.args.objects.now (g.P.PageBook.numbers c.args.book.now) (g.P.PageBook.numbers c.read.new.book) (g.P.PageBook.place c.args.book.now) (g.P.PageBook.place c.read.new.book) (o c.args.host.now) (o c.read.new.host) c.read.ensures.same.0 c.read.ensures.same.1 c.read.ensures.moment c.requires.kept;
-      same_place = c.read.ensures.same.0;
-      same_numbers = c.read.ensures.same.1;
-      moment = c.read.ensures.moment;
-      programs_nothing = only-fetched (held c.args.objects.now c.args.large.now.object) (g.P.PageBook.place c.args.book.now) (o c.args.host.now) (o c.read.new.host)
-          (long-there (held c.args.objects.now c.args.large.now.object) c.in-Some.length (sym c.length.ensures ∙ c.in-Some.is)) c.read.ensures.costs;
-      alone = c.read.ensures.alone;
-    }
+returns-clause-reads g c = with-kept c.requires.kept c.read.ensures.reads.book
+
+pub returns-clause-ends : goal.returns-clause-ends
+returns-clause-ends g c = record { cause = tt; no_fault = c.in_ok-bytes.ensures.reads.no_fault }
 
 pub returns-clause-costs : goal.returns-clause-costs
 returns-clause-costs g c = λ tells texts b holds at.

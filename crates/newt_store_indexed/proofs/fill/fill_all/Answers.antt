@@ -1,5 +1,7 @@
 use Rattle.std.proofs.Common.{ℕ, ◌+◌, ◌*◌, List, sym, ◌∙◌, ap, subst}
 use Rattle.newt_host.specs.Outside.{Spends}
+use Rattle.newt_host.proofs.Outside.{NoFault-append}
+use Rattle.newt_store_catalog.proofs.Exits.{read-after, read-fails}
 use Rattle.newt_index.specs.Pairs.{Sorted}
 use Rattle.newt_spec_store.specs.Store.{entry_at}
 use Rattle.newt_store_change.specs.Change.{pages_of_entry}
@@ -42,6 +44,7 @@ loop-left-preserved g c =
     record {
       reads = reads-more place g.P.PageBook.numbers g.P.PageBook.stands g.H.Host.told c.args.store.now c.loop-left.store c.fill_entry.new.store (o c.args.host.now) (o c.loop-left.host) (o c.fill_entry.new.host)
           reads c.in_ok-fill_entry.ensures.reads;
+      no_fault = NoFault-append c.loop-left.invariant.no_fault c.in_ok-fill_entry.ensures.ends.no_fault;
       filled = λ tells s shows.
           ap (λ (v : Sorted). with_all c.args.soup s (behind left) v) (c.in_ok-fill_entry.ensures.filled tells s (on s reads shows))
           ∙ sym (with-first c.args.soup s left c.uid-item.result c.loop-left.range c.in-len1-up.len_at_least c.uid-item.is)
@@ -56,3 +59,11 @@ loop-left-preserved g c =
                 (c.in_ok-fill_entry.ensures.costs tells s (on s reads shows)),
           );
     }
+
+pub returns-in_err-fill_entry-clause-ends : goal.returns-in_err-fill_entry-clause-ends
+returns-in_err-fill_entry-clause-ends g c =
+    let i = c.loop-left.invariant in
+    read-after c.from_residual.result i.reads.same_place i.reads.looks i.no_fault (read-fails c.from_residual.result c.in_err-fill_entry.field-0.0 c.from_residual.ensures.1 c.in_err-fill_entry.ensures.ends)
+
+pub returns-clause-ends : goal.returns-clause-ends
+returns-clause-ends g c = record { cause = tt; no_fault = c.loop-left.invariant.no_fault }

@@ -18,27 +18,29 @@ returns-in-Ok-clause-changes g c =
     let img : List ℕ = image u (o c.args.host.now).now in
     let r = c.follow.result in
     let m = c.follow.ensures.memory in
-    let e = c.in-Ok.ensures in
+    let e = c.in-Ok.ensures.changes in
     record {
-      is_open = λ goes. record { book = e.stands tt; sound = e.sound tt };
-      same_place = c.apply.ensures.place;
+      is_open = λ goes. e.is_open tt;
+      same_place = e.same_place;
       accepted = λ tells s shows. ok-all r (e.accepted tells s shows);
       answer = λ tells s shows. same-answer r c.in-Ok.answer (answer_of c.args.change s) c.follow.ensures.answer (e.answer tells s shows);
       changed = λ tells s shows. ok-all r (e.changed tells s shows);
       refused = λ tells s shows. is-memory r (RefusesWith (refusal_of c.args.change (blocks_of img) c.args.now s)) m tt;
       still = λ tells s shows is. no-refusal r m is;
       nothing_done = λ is. no-refusal r m is;
-      any_moment = c.apply.ensures.any_moment;
+      any_moment = e.any_moment;
+      wears = e.wears;
       open_after = λ tells. ok-all r (e.open_after tells);
-      alone = c.apply.ensures.alone;
+      alone = e.alone;
       cause = is-memory r (FaultsAt u (o c.args.host.now) (o c.apply.new.host)) m tt;
+      no_fault = λ goes. e.no_fault tt;
     }
 
 pub returns-in-Ok-clause-ranges : goal.returns-in-Ok-clause-ranges
 returns-in-Ok-clause-ranges g c = λ tells s shows step are.
     let u : ℕ = g.P.PageBook.place c.args.store.now.book in
     let img : List ℕ = image u (g.H.Host.outside c.args.host.now).now in
-    let e = c.in-Ok.ensures in
+    let e = c.in-Ok.ensures.changes in
     ok-more c.follow.result (λ is. subst (λ (rows : List SoupRanges). AreRangesOf (changed_by c.args.change c.args.now s) rows) (sym is)
     (subst (λ (n : ℕ). AreRangesOf (changed_by c.args.change c.args.now s) (rows_after c.args.step n c.args.ranges.now)) (sym (e.answer tells s shows))
     (follows s c.args.ranges.now shows.describes.formed are c.args.change (blocks_of img) c.args.now c.args.step (e.accepted tells s shows) step)))

@@ -10,6 +10,6 @@ returns-clause-objects g c =
     record {
       table = carried_out c.args.objects.now c.adopt.new.self c.args.batch.now (numbers c.args.book.now) (numbers c.reserve.new.self) (numbers c.commit.new.self) (g.P.PageBook.place c.reserve.new.self)
           (outside_of c.args.host.now) (outside_of c.commit.new.host) (reserved.same.0 ∙ c.requires.book.1) reserved.same.1 c.requires.table c.requires.plan
-          c.in_ok-commit.ensures.numbers (c.in_ok-commit.ensures.committed refl) c.adopt.ensures.adopted;
+          c.in_ok-commit.ensures.numbers_are (c.in_ok-commit.ensures.committed refl) c.adopt.ensures.adopted;
       none = c.adopt.ensures.no_plans;
     }

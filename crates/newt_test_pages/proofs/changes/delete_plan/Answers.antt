@@ -5,4 +5,4 @@ use Rattle.newt_test_pages.proofs.changes.delete_plan.Goals as goal
 
 pub returns-clause-plan : goal.returns-clause-plan
 returns-clause-plan c = planned_alone c.args.objects.now c.plan_delete.new.self c.new-batch.result c.plan_delete.new.batch (λ (texts : Objects). map.remove texts c.args.id) c.new-batch.ensures c.requires.none
-    c.in_ok-plan_delete.ensures.kept c.in_ok-plan_delete.ensures.under_way
+    c.in_ok-plan_delete.ensures.kept c.in_ok-plan_delete.ensures.plans.under_way

@@ -1,7 +1,7 @@
 use Rattle.std.proofs.Common.{map, Global, string_bytes, arith}
 use Rattle.std.proofs.lemmas.List.{length-map}
 use Rattle.newt_top.proofs.Crashing.{is_left_counted}
-use Rattle.newt_top.proofs.Halting.{halted_counting, cause_counting}
+use Rattle.newt_top.proofs.Halting.{faults_counting, faults_ok, halted_counting}
 use Rattle.newt_top.proofs.Naming.{few_names, distinct_names}
 use Rattle.newt_top.proofs.top.run_counted.Goals as goal
 
@@ -26,5 +26,11 @@ pub returns-in-Err-clause-ran : goal.returns-in-Err-clause-ran
 returns-in-Err-clause-ran g c = λ told.
     rw c.halted.ensures (halted_counting c.in-Err.halt c.args.script.now (map (string_bytes {Z = Global}) c.args.names.now) _ _ (c.in-Err.ensures.counted told).halted)
 
-pub returns-in-Err-clause-cause : goal.returns-in-Err-clause-cause
-returns-in-Err-clause-cause g c = rw c.halted.ensures (cause_counting c.in-Err.halt _ _ c.in-Err.ensures.cause)
+pub tally_named-requires-clause-plain : goal.tally_named-requires-clause-plain
+tally_named-requires-clause-plain g c = λ world next command reply step. step
+
+pub returns-in-Ok-clause-faults : goal.returns-in-Ok-clause-faults
+returns-in-Ok-clause-faults g c = faults_ok _ _ c.in-Ok.ensures.faults
+
+pub returns-in-Err-clause-faults : goal.returns-in-Err-clause-faults
+returns-in-Err-clause-faults g c = rw c.halted.ensures (faults_counting _ _ c.in-Err.halt c.in-Err.ensures.faults)

@@ -2,26 +2,30 @@ use Rattle.std.proofs.Common.{◌≡◌, ℕ, List, map, Global, string_bytes, s
 use Rattle.std.proofs.lemmas.Grind.{common_steps}
 use Rattle.newt_host.proofs.Histories.{untouched-attached}
 use Rattle.newt_host.specs.Meanings.{out_of}
-use Rattle.newt_laws_answers.specs.Spoken.{answer_now}
 use Rattle.newt_script_session.proofs.Writing.{wrote_nothing}
 use Rattle.newt_spec_script.specs.Generator.{gen_script}
 use Rattle.newt_script_session.specs.Counts.{summary_of}
 use Rattle.newt_top.specs.Modes.{first, LeavesCounted, RanCounted}
-use Rattle.newt_top.proofs.Halting.{none_attached}
+use Rattle.newt_script_session.proofs.Counting.{never-refl}
+use Rattle.newt_top.proofs.Halting.{faults_quiet, none_attached}
+use Rattle.newt_top.specs.declared.status.Status.TheVariants.{Memory}
 use Rattle.newt_top.proofs.top.run_generated.Goals as goal
 
--- ---- want of memory for the script: nothing was attached
+-- ---- out of memory for the script: nothing was attached
 
 pub returns-in_default-clause-ran : goal.returns-in_default-clause-ran
 returns-in_default-clause-ran g c = λ told.
     let before = g.H.Host.outside c.args.host.now in
-    wrote_nothing (summary_of answer_now (first (map (string_bytes {Z = Global}) c.args.names.now) before) (gen_script c.args.seed c.args.count)) (out_of before)
+    wrote_nothing (summary_of (first (map (string_bytes {Z = Global}) c.args.names.now) before) (gen_script c.args.seed c.args.count)) (out_of before)
 
 pub returns-in_default-clause-leaves : goal.returns-in_default-clause-leaves
 returns-in_default-clause-leaves g c = λ told.
     let before = g.H.Host.outside c.args.host.now in
     none_attached (gen_script c.args.seed c.args.count) (map (string_bytes {Z = Global}) c.args.names.now) before
     (λ unit. untouched-attached unit before.now (g.met.H.Host.untouched c.args.host.now unit told (c.requires.free unit)))
+
+pub returns-in_default-clause-faults : goal.returns-in_default-clause-faults
+returns-in_default-clause-faults g c = faults_quiet _ _ Memory tt tt (never-refl _)
 
 -- ---- the script
 

@@ -1,7 +1,7 @@
 use Rattle.std.proofs.Common.{map, Global, string_bytes, arith}
 use Rattle.std.proofs.lemmas.List.{length-map}
 use Rattle.newt_top.proofs.Crashing.{is_left}
-use Rattle.newt_top.proofs.Halting.{halted_running}
+use Rattle.newt_top.proofs.Halting.{faults_halted, faults_ok, halted_running}
 use Rattle.newt_top.proofs.Naming.{few_names, distinct_names}
 use Rattle.newt_top.proofs.top.run_script.Goals as goal
 
@@ -27,3 +27,12 @@ returns-in-Ok-clause-ran g c = λ told.
 pub returns-in-Err-clause-ran : goal.returns-in-Err-clause-ran
 returns-in-Err-clause-ran g c = λ told.
     rw c.halted.ensures (halted_running c.in-Err.halt c.args.limit (map (string_bytes {Z = Global}) c.args.names.now) _ _ (c.in-Err.ensures.ran told).halted)
+
+pub run_named-requires-clause-plain : goal.run_named-requires-clause-plain
+run_named-requires-clause-plain g c = λ world next command reply step. step
+
+pub returns-in-Ok-clause-faults : goal.returns-in-Ok-clause-faults
+returns-in-Ok-clause-faults g c = faults_ok _ _ c.in-Ok.ensures.faults
+
+pub returns-in-Err-clause-faults : goal.returns-in-Err-clause-faults
+returns-in-Err-clause-faults g c = rw c.halted.ensures (faults_halted _ _ c.in-Err.halt c.in-Err.ensures.faults)

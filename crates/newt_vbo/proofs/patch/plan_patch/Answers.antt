@@ -1,10 +1,12 @@
-use Rattle.std.proofs.Common.{◌≡◌, ℕ, ◌+◌, ◌-◌, ◌*◌, ◌/◌, ◌<◌, ◌≤◌, true, List, ◌++◌, length, take, drop, slice_get, Option, Some, Ok, Err, IsSome, IfSome, IsErrOf, refl, sym, ◌∙◌, ap, subst, arith, length-take, Result}
+use Rattle.std.proofs.Common.{◌≡◌, ℕ, ◌+◌, ◌-◌, ◌*◌, ◌/◌, ◌<◌, ◌≤◌, true, List, ◌++◌, length, take, drop, slice_get, Option, Some, Err, IsSome, refl, sym, ◌∙◌, ap, subst, arith, length-take, Result}
 use Rattle.std.specs.Option.{option_and_then}
 use Rattle.std.specs.FinSet as set
 use Rattle.std.proofs.lemmas.List.{append-nil, length_push, take_all}
-use Rattle.newt_host.specs.Moments.{Moment, image, overwritten}
-use Rattle.newt_host.specs.Outside.{Rose, Touches, Spends}
-use Rattle.newt_host.proofs.Outside.{Touches-refl, Touches-append}
+use Rattle.newt_host.specs.Moments.{image, overwritten}
+use Rattle.newt_host.specs.Outside.{Spends}
+use Rattle.newt_host.proofs.Outside.{NoFault-append, NoFault-refl}
+use Rattle.newt_objects.proofs.Calls.{Looks-append, Looks-refl, image-looked}
+use Rattle.newt_vbo.proofs.Calls.{range_past, range_failed, range_done}
 use Rattle.newt_spec_image.specs.Pages.{Change, pages, after}
 use Rattle.newt_spec_image.specs.Objects.{Extent, IsTableOf}
 use Rattle.newt_pagebook.specs.Batch.{names, puts_one}
@@ -14,11 +16,11 @@ use Rattle.newt_objects.specs.Held.{held}
 use Rattle.newt_objects.proofs.Changing.{told_table}
 use Rattle.newt_objects.proofs.Whole.{image_whole}
 use Rattle.newt_vbo.specs.declared.fault.RangeFault.{RangeFault}
-use Rattle.newt_vbo.specs.declared.fault.RangeFault.TheVariants.{Range, Device}
+use Rattle.newt_vbo.specs.declared.fault.RangeFault.TheVariants.{Range}
 use Rattle.newt_vbo.specs.Ranges.{parts_met, before_part, numbers_met}
-use Rattle.newt_vbo.specs.Patches.{numbers_put, WouldPatch}
+use Rattle.newt_vbo.specs.Patches.{numbers_put, WouldPatch, PutsRange}
 use Rattle.newt_vbo.proofs.Counts.{met_begins, met_few, met_within, before_first, before_end}
-use Rattle.newt_vbo.proofs.Exits.{Fails, no_done, no_fault, the_fault, is_fault, range_device, rose_later, past_end, not_past, spends_none, spends_part, all_met, count_met}
+use Rattle.newt_vbo.proofs.Exits.{Fails, no_done, no_fault, the_fault, spends_none, spends_part, all_met, count_met}
 use Rattle.newt_vbo.proofs.Parts.{HasWhole, part_at, part_live, data_whole, unnamed_whole, spends_more, for_some, of_some}
 use Rattle.newt_vbo.proofs.Patching.{put_whole}
 use Rattle.newt_vbo.proofs.Putting.{patch_none, patch_more, numbers_kept, put_more, later_free}
@@ -33,12 +35,8 @@ loop-part-init g c =
     let old : Change = c.args.batch.now in
     let none : at / 500 - at / 500 ≡ 0 = omega arith in
     record {
-      stands = c.requires.stands;
-      same_place = refl;
-      same_numbers = refl;
-      same_spare = refl;
-      moment = refl;
-      alone = Touches-refl unit (outside c.args.host.now);
+      book = Looks-refl g.P.PageBook.place g.P.PageBook.numbers g.P.PageBook.spare g.P.PageBook.stands g.H.Host.told c.args.book.now (outside c.args.host.now) c.requires.stands;
+      no_fault = NoFault-refl (outside c.args.host.now);
       costs = spends_none unit (512 * (at / 500 - at / 500)) (outside c.args.host.now);
       deletes = refl;
       count = omega arith;
@@ -80,7 +78,7 @@ put_patched-requires-clause-live g c =
     let outside = g.H.Host.outside c.args.host.now in
     let w = the_some (held c.args.objects.now c.args.id) c.requires.there in
     let slot : slice_get w.0.numbers part ≡ Some number = ap (λ (o : Option Extent). option_and_then (λ (x : Extent). slice_get x.numbers part) o) (sym w.1) ∙ sym c.page_of-number.ensures in
-    ap (λ (s : Numbers). set.contains s number) c.loop-part.invariant.same_numbers
+    ap (λ (s : Numbers). set.contains s number) c.loop-part.invariant.book.same_numbers
     ∙ part_live g.H.Host.told c.args.objects.now (g.P.PageBook.numbers c.args.book.now) (g.P.PageBook.place c.args.book.now) outside c.args.id part number w.0 c.requires.objects w.1 slot
 
 pub put_patched-requires-clause-new : goal.put_patched-requires-clause-new
@@ -129,7 +127,7 @@ loop-part-preserved g c =
     let piece = c.piece_in-piece.ensures in
     let now : List ℕ = image unit (outside c.args.host.now).now in
     let same : image (place c.loop-part.book) (outside c.loop-part.host).now ≡ now =
-    ap (λ (u : ℕ). image u (outside c.loop-part.host).now) i.same_place ∙ ap (λ (m : Moment). image unit m) i.moment in
+    image-looked g.P.PageBook.place g.P.PageBook.numbers g.P.PageBook.spare g.P.PageBook.stands g.H.Host.told i.book in
     let page : List ℕ = overwritten p.page (12 + from) (take count (drop start bytes)) in
     let size : start + count - start ≡ count = omega arith in
     let is_put : c.put_patched.new.batch ≡ puts_one mid number page = p.put ∙ ap (λ (n : ℕ). puts_one mid number (overwritten p.page (12 + from) (take n (drop start bytes)))) size in
@@ -139,14 +137,10 @@ loop-part-preserved g c =
     let next : first + (part - first) ≡ part = omega (arith, low) in
     let more : part - first + 1 ≡ part + 1 - first = omega (arith, low) in
     record {
-      stands = e.stands;
-      same_place = e.same.0 ∙ i.same_place;
-      same_numbers = e.same.1 ∙ i.same_numbers;
-      same_spare = e.same.2 ∙ i.same_spare;
-      moment = e.moment ∙ i.moment;
-      alone = Touches-append i.alone (subst (λ (u : ℕ). Touches u (outside c.loop-part.host) (outside c.put_patched.new.host)) i.same_place e.alone);
+      book = Looks-append g.P.PageBook.place g.P.PageBook.numbers g.P.PageBook.spare g.P.PageBook.stands g.H.Host.told i.book e.reads.book;
+      no_fault = NoFault-append i.no_fault c.in_ok-put_patched.ensures.reads.no_fault;
       costs = spends_more unit first part (outside c.args.host.now) (outside c.loop-part.host) (outside c.put_patched.new.host) low i.costs
-          (subst (λ (u : ℕ). Spends u 0 512 (outside c.loop-part.host) (outside c.put_patched.new.host)) i.same_place e.costs);
+          (subst (λ (u : ℕ). Spends u 0 512 (outside c.loop-part.host) (outside c.put_patched.new.host)) i.book.same_place e.reads.costs);
       deletes = ap (λ (change : Change). change.deletes) is_put ∙ i.deletes;
       count = omega (arith, low, i.count, ap (λ (change : Change). length change.puts) is_put, length_push mid.puts (number, page));
       same_live = ap (λ (change : Change). changed_numbers change numbers) is_put ∙ numbers_kept mid number page numbers live_number ∙ i.same_live;
@@ -187,19 +181,9 @@ returns-in_err-check_range g c =
     let e = c.in_err-check_range.ensures in
     record {
       patched = λ told live is. no_done r fault (WouldPatch c.args.objects.now c.args.id at c.args.bytes.now c.args.batch.now c.args.batch.now live) fails;
-      puts = no_done r fault (IfSome (held c.args.objects.now c.args.id) (λ x. numbers_put c.args.batch.now ≡ numbers_put c.args.batch.now ++ numbers_met x at n)) fails;
-      few = no_done r fault (length c.args.batch.now.puts ≤ length c.args.batch.now.puts + ((n + 499) / 500 + 1)) fails;
-      deletes = no_done r fault (c.args.batch.now.deletes ≡ c.args.batch.now.deletes) fails;
-      numbers = no_done r fault (changed_numbers c.args.batch.now (g.P.PageBook.numbers c.args.book.now) ≡ changed_numbers c.args.batch.now (g.P.PageBook.numbers c.args.book.now)) fails;
-      range = λ same. e.past;
-      past = past_end (held c.args.objects.now c.args.id) (at + n) (IsErrOf r Range) (is_fault r fault Range fails e.only);
+      puts = no_done r fault (PutsRange (held c.args.objects.now c.args.id) at n (g.P.PageBook.numbers c.args.book.now) c.args.batch.now c.args.batch.now) fails;
       unchanged = λ same. (refl, refl, refl);
-      stands = c.requires.stands;
-      same = (refl, refl, refl);
-      moment = refl;
-      alone = Touches-refl unit o;
-      costs = spends_none unit (512 * parts_met at n) o;
-      cause = λ same. absurd (range_device (sym e.only ∙ the_fault r fault Device fails same));
+      reads = range_past g.P.PageBook.place g.P.PageBook.numbers g.P.PageBook.spare g.P.PageBook.stands g.H.Host.told (held c.args.objects.now c.args.id) at n r fault c.args.book.now o fails e.only e.past c.requires.stands;
     }
 
 pub returns-in_err-put_patched : goal.returns-in_err-put_patched
@@ -220,21 +204,11 @@ returns-in_err-put_patched g c =
     let new = outside c.put_patched.new.host in
     record {
       patched = λ told live is. no_done r fault (WouldPatch c.args.objects.now c.args.id at c.args.bytes.now c.args.batch.now c.put_patched.new.batch live) fails;
-      puts = no_done r fault (IfSome (held c.args.objects.now c.args.id) (λ x. numbers_put c.put_patched.new.batch ≡ numbers_put c.args.batch.now ++ numbers_met x at n)) fails;
-      few = no_done r fault (length c.put_patched.new.batch.puts ≤ length c.args.batch.now.puts + ((n + 499) / 500 + 1)) fails;
-      deletes = no_done r fault (c.put_patched.new.batch.deletes ≡ c.args.batch.now.deletes) fails;
-      numbers = no_done r fault (changed_numbers c.put_patched.new.batch (g.P.PageBook.numbers c.args.book.now) ≡ changed_numbers c.args.batch.now (g.P.PageBook.numbers c.args.book.now)) fails;
-      range = λ same. absurd (c.in_err-put_patched.ensures.no_other (ap Err (the_fault r fault Range fails same)));
-      past = not_past (held c.args.objects.now c.args.id) (at + n) (IsErrOf r Range) c.in_ok-check_range.ensures.within;
-      unchanged = λ same. absurd (c.in_err-put_patched.ensures.no_other (ap Err (the_fault r fault Range fails same)));
-      stands = e.stands;
-      same = (e.same.0 ∙ i.same_place, e.same.1 ∙ i.same_numbers, e.same.2 ∙ i.same_spare);
-      moment = e.moment ∙ i.moment;
-      alone = Touches-append i.alone (subst (λ (u : ℕ). Touches u mid new) i.same_place e.alone);
-      costs = spends_part unit at n part c.parts_met.result old mid new c.parts_met.ensures c.loop-part.auto.part c.loop-part-test.true i.costs
-          (subst (λ (u : ℕ). Spends u 0 512 mid new) i.same_place e.costs);
-      cause = λ same. rose_later (old.dev_faults unit) (mid.dev_faults unit) (new.dev_faults unit) i.alone.faults_later
-          (subst (λ (u : ℕ). Rose (mid.dev_faults u) (new.dev_faults u)) i.same_place (c.in_err-put_patched.ensures.cause (ap Err (the_fault r fault Device fails same))));
+      puts = no_done r fault (PutsRange (held c.args.objects.now c.args.id) at n (g.P.PageBook.numbers c.args.book.now) c.args.batch.now c.put_patched.new.batch) fails;
+      unchanged = λ same. absurd (c.in_err-put_patched.ensures.reads.no_range (ap Err (the_fault r fault Range fails same)));
+      reads = range_failed g.P.PageBook.place g.P.PageBook.numbers g.P.PageBook.spare g.P.PageBook.stands g.H.Host.told (held c.args.objects.now c.args.id) at n r fault fails refl c.in_ok-check_range.ensures.within i.book c.in_err-put_patched.ensures.reads
+          (spends_part unit at n part c.parts_met.result old mid new c.parts_met.ensures c.loop-part.auto.part c.loop-part-test.true i.costs
+          (subst (λ (u : ℕ). Spends u 0 512 mid new) i.book.same_place e.reads.costs));
     }
 
 pub returns : goal.returns
@@ -251,18 +225,14 @@ returns g c =
     let all : take (before_part part at (at + n)) bytes ≡ bytes = ap (λ (k : ℕ). take (before_part k at (at + n)) bytes) last ∙ ap (λ (k : ℕ). take k bytes) (before_end at n) ∙ take_all n bytes (omega arith) in
     record {
       patched = λ told live is. subst (λ (l : List ℕ). WouldPatch c.args.objects.now c.args.id at l c.args.batch.now c.loop-part.batch live) all (i.so_far told live is);
-      puts = for_some (held c.args.objects.now c.args.id) (λ x. numbers_put c.loop-part.batch ≡ numbers_put c.args.batch.now ++ numbers_met x at n)
-          (λ x there. i.put x there ∙ ap (λ (k : ℕ). numbers_put c.args.batch.now ++ take k (drop (at / 500) x.numbers)) count);
-      few = omega (arith, i.count, count, met_few at n);
-      deletes = i.deletes;
-      numbers = i.same_live;
-      range = λ same. absurd (no_fault same);
-      past = not_past (held c.args.objects.now c.args.id) (at + n) (IsErrOf (Ok tt) Range) c.in_ok-check_range.ensures.within;
+      puts = record {
+        puts = for_some (held c.args.objects.now c.args.id) (λ x. numbers_put c.loop-part.batch ≡ numbers_put c.args.batch.now ++ numbers_met x at n)
+            (λ x there. i.put x there ∙ ap (λ (k : ℕ). numbers_put c.args.batch.now ++ take k (drop (at / 500) x.numbers)) count);
+        few = omega (arith, i.count, count, met_few at n);
+        deletes = i.deletes;
+        same_numbers = i.same_live;
+      };
       unchanged = λ same. absurd (no_fault same);
-      stands = i.stands;
-      same = (i.same_place, i.same_numbers, i.same_spare);
-      moment = i.moment;
-      alone = i.alone;
-      costs = subst (λ (k : ℕ). Spends unit 0 (512 * k) o (g.H.Host.outside c.loop-part.host)) count i.costs;
-      cause = λ same. absurd (no_fault same);
+      reads = range_done g.P.PageBook.place g.P.PageBook.numbers g.P.PageBook.spare g.P.PageBook.stands g.H.Host.told (held c.args.objects.now c.args.id) at n c.in_ok-check_range.ensures.within i.book i.no_fault
+          (subst (λ (k : ℕ). Spends unit 0 (512 * k) o (g.H.Host.outside c.loop-part.host)) count i.costs);
     }

@@ -2,57 +2,40 @@ use Rattle.std.proofs.Common.{List, ℕ, sym, ◌∙◌, ap, Result}
 use Rattle.newt_host.specs.Moments.{image}
 use Rattle.newt_pagebook.specs.Batch.{puts_one}
 use Rattle.newt_vbo.specs.declared.fault.RangeFault.{RangeFault}
-use Rattle.newt_vbo.specs.declared.fault.RangeFault.TheVariants.{Range, Memory, Device}
+use Rattle.newt_vbo.specs.declared.fault.RangeFault.TheVariants.{Memory, Device}
 use Rattle.newt_vbo.specs.Patches.{PutsPatched}
-use Rattle.newt_vbo.proofs.Exits.{Fails, no_done, no_fault, the_fault, device_range, memory_range, memory_device}
+use Rattle.newt_vbo.proofs.Exits.{Fails, no_done}
+use Rattle.newt_vbo.proofs.Calls.{part_done, part_memory, part_device}
 use Rattle.newt_vbo.proofs.patch.put_patched.Goals as goal
 
 pub returns-in_err-load : goal.returns-in_err-load
 returns-in_err-load g c =
     let r : Result (Unit {0}) RangeFault = c.from_residual.result in
     let fails : Fails r Device = c.from_residual.ensures.1 in
-    let e = c.load.ensures in
+    let p = g.P.PageBook in
     record {
       put = no_done r Device (PutsPatched g.H.Host.told (image (g.P.PageBook.place c.args.book.now) (g.H.Host.outside c.args.host.now).now) c.args.number c.args.from c.args.bytes.now c.args.batch.now c.args.batch.now) fails;
-      stands = e.book;
-      same = e.same;
-      moment = e.moment;
-      alone = e.alone;
-      costs = e.costs;
-      no_other = λ same. device_range (the_fault r Device Range fails same);
-      cause = λ same. c.in_err-load.ensures.cause;
+      reads = part_device p.place p.numbers p.spare p.stands g.H.Host.told p.shown r fails c.in_err-load.ensures;
     }
 
 pub returns-in_err-put : goal.returns-in_err-put
 returns-in_err-put g c =
     let r : Result (Unit {0}) RangeFault = c.from_residual-in_err-put.result in
     let fails : Fails r Memory = c.from_residual-in_err-put.ensures.1 in
-    let e = c.load.ensures in
+    let p = g.P.PageBook in
     record {
       put = no_done r Memory (PutsPatched g.H.Host.told (image (g.P.PageBook.place c.args.book.now) (g.H.Host.outside c.args.host.now).now) c.args.number c.args.from c.args.bytes.now c.args.batch.now c.put.new.self) fails;
-      stands = e.book;
-      same = e.same;
-      moment = e.moment;
-      alone = e.alone;
-      costs = e.costs;
-      no_other = λ same. memory_range (the_fault r Memory Range fails same);
-      cause = λ same. absurd (memory_device (the_fault r Memory Device fails same));
+      reads = part_memory p.place p.numbers p.spare p.stands g.H.Host.told p.shown r fails c.load.ensures;
     }
 
 pub returns : goal.returns
 returns g c =
-    let e = c.load.ensures in
+    let p = g.P.PageBook in
     record {
       put = record {
         page = c.page.result.now;
-        was = λ told live is. c.in_ok-load.ensures.shown.is_page told live is ∙ sym c.page.ensures;
+        was = λ told live is. c.in_ok-load.ensures.page.is_page told live is ∙ sym c.page.ensures;
         put = c.in_ok-put.ensures.ok ∙ ap (λ (l : List ℕ). puts_one c.args.batch.now c.args.number l) c.patched.ensures;
       };
-      stands = e.book;
-      same = e.same;
-      moment = e.moment;
-      alone = e.alone;
-      costs = e.costs;
-      no_other = λ same. no_fault same;
-      cause = λ same. absurd (no_fault same);
+      reads = part_done p.place p.numbers p.spare p.stands g.H.Host.told p.shown c.in_ok-load.ensures;
     }

@@ -1,9 +1,11 @@
-use Rattle.std.proofs.Common.{IsTrue, ◌≡◌, ℕ, ◌+◌, ◌-◌, ◌*◌, ◌/◌, ◌<◌, ◌≤◌, List, length, slice_get, Option, Some, Ok, Err, IsSome, IfSome, IsErrOf, refl, sym, ◌∙◌, ap, subst, arith, Result, Vec, Global}
+use Rattle.std.proofs.Common.{IsTrue, ◌≡◌, ℕ, ◌+◌, ◌-◌, ◌*◌, ◌/◌, ◌<◌, ◌≤◌, List, length, slice_get, Option, Some, Err, IsSome, IfSome, refl, sym, ◌∙◌, ap, subst, arith, Result, Vec, Global}
 use Rattle.std.specs.FinSet as set
 use Rattle.std.specs.Option.{option_and_then}
-use Rattle.newt_host.specs.Moments.{Moment, image, bytes_from}
-use Rattle.newt_host.specs.Outside.{Rose, Touches, Spends}
-use Rattle.newt_host.proofs.Outside.{Touches-refl, Touches-append}
+use Rattle.newt_host.specs.Moments.{image, bytes_from}
+use Rattle.newt_host.specs.Outside.{Spends}
+use Rattle.newt_host.proofs.Outside.{NoFault-append, NoFault-refl}
+use Rattle.newt_objects.proofs.Calls.{Looks-append, Looks-refl, image-looked}
+use Rattle.newt_vbo.proofs.Calls.{range_past, range_failed, range_done}
 use Rattle.newt_spec_image.specs.Pages.{Pages, pages}
 use Rattle.newt_spec_image.specs.Objects.{Extent, IsTableOf, joined}
 use Rattle.newt_pagebook.specs.Book.{Numbers}
@@ -13,10 +15,10 @@ use Rattle.newt_objects.specs.Changing.{AreWhole}
 use Rattle.newt_objects.proofs.Changing.{told_table}
 use Rattle.newt_objects.proofs.Whole.{image_whole}
 use Rattle.newt_vbo.specs.declared.fault.RangeFault.{RangeFault}
-use Rattle.newt_vbo.specs.declared.fault.RangeFault.TheVariants.{Range, Device}
+use Rattle.newt_vbo.specs.declared.fault.RangeFault.TheVariants.{Range}
 use Rattle.newt_vbo.specs.Ranges.{parts_met, before_part}
 use Rattle.newt_vbo.proofs.Counts.{met_begins, met_small, met_within, before_first, before_end}
-use Rattle.newt_vbo.proofs.Exits.{Fails, no_value, no_fault, the_fault, is_fault, range_device, rose_later, past_end, not_past, spends_none, spends_part, all_met, count_met}
+use Rattle.newt_vbo.proofs.Exits.{Fails, no_value, no_fault, the_fault, spends_none, spends_part, all_met, count_met}
 use Rattle.newt_vbo.proofs.Parts.{data_whole, part_at, part_live, range_step, spends_more, for_some, of_some}
 use Rattle.newt_vbo.proofs.read.read_range.Goals as goal
 
@@ -29,12 +31,8 @@ loop-part-init g c =
     let bytes : List ℕ = c.new-bytes.result.items in
     let first : before_part (at / 500) at (at + len) ≡ 0 = before_first at len in
     record {
-      stands = c.requires.stands;
-      same_place = refl;
-      same_numbers = refl;
-      same_spare = refl;
-      moment = refl;
-      alone = Touches-refl unit o;
+      book = Looks-refl g.P.PageBook.place g.P.PageBook.numbers g.P.PageBook.spare g.P.PageBook.stands g.H.Host.told c.args.book.now o c.requires.stands;
+      no_fault = NoFault-refl o;
       size = ap (λ (l : List ℕ). length l) c.new-bytes.ensures.items ∙ sym first;
       costs = spends_none unit (512 * (at / 500 - at / 500)) o;
       so_far = λ told live is x there. c.new-bytes.ensures.items ∙ sym (ap (λ (n : ℕ). bytes_from at n (joined live x)) first);
@@ -76,8 +74,8 @@ append_piece-requires g c =
     let number : ℕ = c.page_of-number.result in
     let slot : slice_get w.0.numbers c.loop-part.part ≡ Some number = ap (λ (o : Option Extent). option_and_then (λ (x : Extent). slice_get x.numbers c.loop-part.part) o) (sym w.1) ∙ sym c.page_of-number.ensures in
     record {
-      live = ap (λ (s : Numbers). set.contains s number) i.same_numbers ∙ part_live g.H.Host.told c.args.objects.now (g.P.PageBook.numbers c.args.book.now) unit o c.args.id c.loop-part.part number w.0 c.requires.objects w.1 slot;
-      stands = i.stands;
+      live = ap (λ (s : Numbers). set.contains s number) i.book.same_numbers ∙ part_live g.H.Host.told c.args.objects.now (g.P.PageBook.numbers c.args.book.now) unit o c.args.id c.loop-part.part number w.0 c.requires.objects w.1 slot;
+      stands = i.book.stands;
       inside = c.piece_in.ensures.inside;
     }
 
@@ -98,17 +96,13 @@ loop-part-preserved g c =
     let piece = c.piece_in.ensures in
     let now : List ℕ = image unit (outside c.args.host.now).now in
     let same : image (place c.loop-part.book) (outside c.loop-part.host).now ≡ now =
-    ap (λ (u : ℕ). image u (outside c.loop-part.host).now) i.same_place ∙ ap (λ (m : Moment). image unit m) i.moment in
+    image-looked g.P.PageBook.place g.P.PageBook.numbers g.P.PageBook.spare g.P.PageBook.stands g.H.Host.told i.book in
     record {
-      stands = e.stands;
-      same_place = e.same.0 ∙ i.same_place;
-      same_numbers = e.same.1 ∙ i.same_numbers;
-      same_spare = e.same.2 ∙ i.same_spare;
-      moment = e.moment ∙ i.moment;
-      alone = Touches-append i.alone (subst (λ (u : ℕ). Touches u (outside c.loop-part.host) (outside c.append_piece.new.host)) i.same_place e.alone);
+      book = Looks-append g.P.PageBook.place g.P.PageBook.numbers g.P.PageBook.spare g.P.PageBook.stands g.H.Host.told i.book e.reads.book;
+      no_fault = NoFault-append i.no_fault c.in_ok-append_piece.ensures.reads.no_fault;
       size = c.in_ok-append_piece.ensures.size ∙ ap (λ (n : ℕ). n + c.piece_in.result.count) (i.size ∙ sym piece.first) ∙ piece.last;
       costs = spends_more unit first part (outside c.args.host.now) (outside c.loop-part.host) (outside c.append_piece.new.host) c.loop-part.auto.part i.costs
-          (subst (λ (u : ℕ). Spends u 0 512 (outside c.loop-part.host) (outside c.append_piece.new.host)) i.same_place e.costs);
+          (subst (λ (u : ℕ). Spends u 0 512 (outside c.loop-part.host) (outside c.append_piece.new.host)) i.book.same_place e.reads.costs);
       so_far = λ told live is x there.
           let table : IsTableOf live (held c.args.objects.now) = told_table g.H.Host.told (held c.args.objects.now) (g.P.PageBook.numbers c.args.book.now) unit (outside c.args.host.now) live c.requires.objects told is in
           let whole : AreWhole live = image_whole now live is in
@@ -131,15 +125,8 @@ returns-in_err-check_range g c =
     record {
       bytes = no_value r fault (λ bytes. IsTrue g.H.Host.told → (live : Pages) → pages (image unit o.now) ≡ Some live → IfSome (held c.args.objects.now c.args.id) (λ x. bytes.items ≡ bytes_from at len (joined live x))) fails;
       size = no_value r fault (λ bytes. length bytes.items ≡ len) fails;
-      range = λ same. e.past;
-      past = past_end (held c.args.objects.now c.args.id) (at + len) (IsErrOf r Range) (is_fault r fault Range fails e.only);
       unchanged = λ same. (refl, refl);
-      stands = c.requires.stands;
-      same = (refl, refl, refl);
-      moment = refl;
-      alone = Touches-refl unit o;
-      costs = spends_none unit (512 * parts_met at len) o;
-      cause = λ same. absurd (range_device (sym e.only ∙ the_fault r fault Device fails same));
+      reads = range_past g.P.PageBook.place g.P.PageBook.numbers g.P.PageBook.spare g.P.PageBook.stands g.H.Host.told (held c.args.objects.now c.args.id) at len r fault c.args.book.now o fails e.only e.past c.requires.stands;
     }
 
 pub returns-in_err-append_piece : goal.returns-in_err-append_piece
@@ -161,17 +148,10 @@ returns-in_err-append_piece g c =
     record {
       bytes = no_value r fault (λ bytes. IsTrue g.H.Host.told → (live : Pages) → pages (image unit old.now) ≡ Some live → IfSome (held c.args.objects.now c.args.id) (λ x. bytes.items ≡ bytes_from at len (joined live x))) fails;
       size = no_value r fault (λ bytes. length bytes.items ≡ len) fails;
-      range = λ same. absurd (c.in_err-append_piece.ensures.no_other (ap Err (the_fault r fault Range fails same)));
-      past = not_past (held c.args.objects.now c.args.id) (at + len) (IsErrOf r Range) c.in_ok-check_range.ensures.within;
-      unchanged = λ same. absurd (c.in_err-append_piece.ensures.no_other (ap Err (the_fault r fault Range fails same)));
-      stands = e.stands;
-      same = (e.same.0 ∙ i.same_place, e.same.1 ∙ i.same_numbers, e.same.2 ∙ i.same_spare);
-      moment = e.moment ∙ i.moment;
-      alone = Touches-append i.alone (subst (λ (u : ℕ). Touches u mid new) i.same_place e.alone);
-      costs = spends_part unit at len part c.parts_met.result old mid new c.parts_met.ensures c.loop-part.auto.part c.loop-part-test.true i.costs
-          (subst (λ (u : ℕ). Spends u 0 512 mid new) i.same_place e.costs);
-      cause = λ same. rose_later (old.dev_faults unit) (mid.dev_faults unit) (new.dev_faults unit) i.alone.faults_later
-          (subst (λ (u : ℕ). Rose (mid.dev_faults u) (new.dev_faults u)) i.same_place (c.in_err-append_piece.ensures.cause (ap Err (the_fault r fault Device fails same))));
+      unchanged = λ same. absurd (c.in_err-append_piece.ensures.reads.no_range (ap Err (the_fault r fault Range fails same)));
+      reads = range_failed g.P.PageBook.place g.P.PageBook.numbers g.P.PageBook.spare g.P.PageBook.stands g.H.Host.told (held c.args.objects.now c.args.id) at len r fault fails refl c.in_ok-check_range.ensures.within i.book c.in_err-append_piece.ensures.reads
+          (spends_part unit at len part c.parts_met.result old mid new c.parts_met.ensures c.loop-part.auto.part c.loop-part-test.true i.costs
+          (subst (λ (u : ℕ). Spends u 0 512 mid new) i.book.same_place e.reads.costs));
     }
 
 pub returns : goal.returns
@@ -189,13 +169,7 @@ returns g c =
       bytes = λ told live is. for_some (held c.args.objects.now c.args.id) (λ x. c.loop-part.bytes.items ≡ bytes_from at len (joined live x))
           (λ x there. i.so_far told live is x there ∙ ap (λ (n : ℕ). bytes_from at n (joined live x)) all);
       size = i.size ∙ all;
-      range = λ same. absurd (no_fault same);
-      past = not_past (held c.args.objects.now c.args.id) (at + len) (IsErrOf (Ok c.loop-part.bytes) Range) c.in_ok-check_range.ensures.within;
       unchanged = λ same. absurd (no_fault same);
-      stands = i.stands;
-      same = (i.same_place, i.same_numbers, i.same_spare);
-      moment = i.moment;
-      alone = i.alone;
-      costs = subst (λ (n : ℕ). Spends unit 0 (512 * n) o (g.H.Host.outside c.loop-part.host)) count i.costs;
-      cause = λ same. absurd (no_fault same);
+      reads = range_done g.P.PageBook.place g.P.PageBook.numbers g.P.PageBook.spare g.P.PageBook.stands g.H.Host.told (held c.args.objects.now c.args.id) at len c.in_ok-check_range.ensures.within i.book i.no_fault
+          (subst (λ (k : ℕ). Spends unit 0 (512 * k) o (g.H.Host.outside c.loop-part.host)) count i.costs);
     }

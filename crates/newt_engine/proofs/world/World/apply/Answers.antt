@@ -5,9 +5,10 @@ use Rattle.newt_reply.specs.Said.{said}
 use Rattle.newt_reply.specs.declared.reply.Reply.{Reply}
 use Rattle.newt_reply.specs.declared.reply.Reply.TheVariants as reply
 use Rattle.newt_store_change.specs.declared.fault.StoreFault.{StoreFault}
-use Rattle.newt_store_change.specs.Faults.{GoesOn}
+use Rattle.newt_store_change.specs.Faults.{GoesOn, HasFaultCause, IsRefusal, NoDevice}
 use Rattle.newt_engine_units.specs.Answers.{Answers}
 use Rattle.newt_engine_cursors.specs.World.{world_with}
+use Rattle.newt_engine.proofs.Handed.{only_memory}
 use Rattle.newt_engine.proofs.Refusing.{refusal_stays}
 use Rattle.newt_engine.proofs.world.World.apply.Goals as goal
 
@@ -27,17 +28,41 @@ returns-in-Err-Refused-clause-refused g c t r is =
     refusal_stays w v c.args.command c.in-Err-Refused.refusal (Ok (reply.Refused c.in-Err-Refused.refusal))
     (subst (λ (f : StoreFault). Answers w v c.args.command said (Err f)) c.in-Err-Refused.field-0-is (c.in-Err-Refused.ensures.answered t)) refl
 
-pub returns-in-Ok-clause-bound : goal.returns-in-Ok-clause-bound
-returns-in-Ok-clause-bound g c t other = (c.serve.ensures.costs t).bound other
+pub returns-in-Ok-clause-finished : goal.returns-in-Ok-clause-finished
+returns-in-Ok-clause-finished g c =
+    let e = c.in-Ok.ensures in record {
+      alone = e.alone;
+      bound = λ t other. (e.costs t).bound other;
+      open_after = λ t. (e.costs t).open_after tt;
+      cause = tt;
+      no_fault = e.no_fault tt;
+      never_memory = λ none. refl;
+      never_device = λ none. tt;
+    }
 
-pub returns-in-Ok-clause-open_after : goal.returns-in-Ok-clause-open_after
-returns-in-Ok-clause-open_after g c t = (c.in-Ok.ensures.costs t).open_after tt
+pub returns-in-Err-Refused-clause-finished : goal.returns-in-Err-Refused-clause-finished
+returns-in-Err-Refused-clause-finished g c =
+    let e = c.in-Err-Refused.ensures in
+    let goes = subst (λ (f : StoreFault). GoesOn {T = Reply} (Err f)) (sym c.in-Err-Refused.field-0-is) tt in record {
+      alone = e.alone;
+      bound = λ t other. (e.costs t).bound other;
+      open_after = λ t. (e.costs t).open_after goes;
+      cause = tt;
+      no_fault = e.no_fault goes;
+      never_memory = λ none. refl;
+      never_device = λ none. tt;
+    }
 
-pub returns-in-Err-Refused-clause-bound : goal.returns-in-Err-Refused-clause-bound
-returns-in-Err-Refused-clause-bound g c t other = (c.serve.ensures.costs t).bound other
-
-pub returns-in-Err-Refused-clause-open_after : goal.returns-in-Err-Refused-clause-open_after
-returns-in-Err-Refused-clause-open_after g c t = (c.in-Err-Refused.ensures.costs t).open_after (subst (λ (f : StoreFault). GoesOn {T = Reply} (Err f)) (sym c.in-Err-Refused.field-0-is) tt)
-
-pub returns-in-Err-Stop-clause-bound : goal.returns-in-Err-Stop-clause-bound
-returns-in-Err-Stop-clause-bound g c t other = (c.serve.ensures.costs t).bound other
+pub returns-in-Err-Stop-clause-finished : goal.returns-in-Err-Stop-clause-finished
+returns-in-Err-Stop-clause-finished g c =
+    let e = c.in-Err-Stop.ensures in
+    let o = g.H.Host.outside c.args.host.now in
+    let p = g.H.Host.outside c.serve.new.host in record {
+      alone = e.alone;
+      bound = λ t other. (e.costs t).bound other;
+      open_after = λ t. tt;
+      cause = subst (λ (f : StoreFault). HasFaultCause f o p) c.in-Err-Stop.field-0-is e.cause;
+      no_fault = tt;
+      never_memory = λ none. absurd (subst (λ (f : StoreFault). IsRefusal f) c.in-Err-Stop.field-0-is (e.ends none));
+      never_device = λ none. only_memory c.in-Err-Stop.stop (subst (λ (f : StoreFault). NoDevice f) c.in-Err-Stop.field-0-is (e.device none));
+    }

@@ -1,67 +1,45 @@
 -- A cursor is opened, counted, asked for its side, cloned or closed.
+use Rattle.std.proofs.Common.{refl, sym}
+use Rattle.newt_spec_graph.proofs.Lists.{both-ways}
+use Rattle.newt_engine_units.specs.Stands.{world_of}
+use Rattle.newt_engine_cursors.proofs.Reading.{not-read}
 use Rattle.newt_engine.proofs.Groups.{no_place}
-use Rattle.newt_engine.proofs.Handed.{err_on, walked_on}
+use Rattle.newt_engine.proofs.Handed.{blameless}
+use Rattle.newt_engine.proofs.Obeying.{handed_placed, handed_walked}
 use Rattle.newt_engine.proofs.world.World.change_places.Goals as goal
 
 pub returns-in-Query : goal.returns-in-Query
 returns-in-Query g c =
     let call = c.query.ensures in
-    let on = c.opened.ensures in record {
-      read = call.read;
-      desk = call.desk;
-      answered = λ t apart. walked_on on _ _ c.in-Query.is (call.answered t apart);
-      cause = err_on on _ call.cause;
-    }
+    handed_walked c.opened.ensures c.in-Query.is refl refl call.read call.desk call.answered call.cause call.no_fault
 
 pub returns-in-QueryAll : goal.returns-in-QueryAll
 returns-in-QueryAll g c =
     let call = c.query_all.ensures in
-    let on = c.opened-in-QueryAll.ensures in record {
-      read = call.read;
-      desk = call.desk;
-      answered = λ t apart. walked_on on _ _ c.in-QueryAll.is (call.answered t apart);
-      cause = err_on on _ call.cause;
-    }
+    handed_walked c.opened-in-QueryAll.ensures c.in-QueryAll.is refl refl call.read call.desk call.answered call.cause call.no_fault
 
 pub returns-in-Count : goal.returns-in-Count
 returns-in-Count g c =
     let call = c.count.ensures in
-    let on = c.numbered.ensures in record {
-      read = call.read;
-      desk = call.desk;
-      answered = λ t apart. walked_on on _ _ c.in-Count.is (call.answered t apart);
-      cause = err_on on _ call.cause;
-    }
+    handed_walked c.numbered.ensures c.in-Count.is refl refl call.read call.desk call.answered call.cause call.no_fault
 
 pub returns-in-Which : goal.returns-in-Which
 returns-in-Which g c =
+    let o = g.H.Host.outside c.args.host.now in
     let call = c.which.ensures in
-    let on = c.sided.ensures in record {
-      read = call.read;
-      desk = call.desk;
-      answered = λ t apart. walked_on on _ _ c.in-Which.is (call.answered t apart);
-      cause = err_on on _ call.cause;
-    }
+    handed_placed c.sided.ensures c.in-Which.is (not-read c.requires.stands) c.requires.desk (call.answered (world_of g.C.Card.reads c.args.self.now.units o)) (blameless _ call.only) (λ no. call.only)
 
 pub returns-in-Clone : goal.returns-in-Clone
 returns-in-Clone g c =
+    let o = g.H.Host.outside c.args.host.now in
     let call = c.clone_of.ensures in
-    let on = c.opened-in-Clone.ensures in record {
-      read = call.read;
-      desk = call.desk;
-      answered = λ t apart. walked_on on _ _ c.in-Clone.is (call.answered t apart);
-      cause = err_on on _ call.cause;
-    }
+    handed_placed c.opened-in-Clone.ensures c.in-Clone.is (not-read c.requires.stands) call.desk (call.answered (world_of g.C.Card.reads c.args.self.now.units o)) call.only (λ no. absurd (both-ways (sym no)))
 
 pub returns-in-Close : goal.returns-in-Close
 returns-in-Close g c =
+    let o = g.H.Host.outside c.args.host.now in
     let call = c.close.ensures in
-    let on = c.done.ensures in record {
-      read = call.read;
-      desk = call.desk;
-      answered = λ t apart. walked_on on _ _ c.in-Close.is (call.answered t apart);
-      cause = err_on on _ call.cause;
-    }
+    handed_placed c.done.ensures c.in-Close.is (not-read c.requires.stands) call.desk (call.answered (world_of g.C.Card.reads c.args.self.now.units o)) (blameless _ call.only) (λ no. call.only)
 
 pub returns-in_default : goal.returns-in_default
 returns-in_default g c =

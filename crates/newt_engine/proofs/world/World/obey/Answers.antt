@@ -1,16 +1,17 @@
 -- The units do it, or a graph is shown.
 use Rattle.std.proofs.Common.{arith, ◌≡◌, ap, refl, subst, sym, ◌∙◌}
-use Rattle.newt_host.proofs.Outside.{OnDevices-refl}
+use Rattle.newt_host.proofs.Outside.{NoFault-refl, OnDevices-refl}
+use Rattle.newt_engine_units.proofs.Costs.{alone-refl}
 use Rattle.newt_reply.specs.Said.{said}
 use Rattle.newt_reply.specs.declared.reply.Reply.TheVariants as reply
 use Rattle.newt_spec_graph.proofs.Lists.{both-ways}
-use Rattle.newt_laws_answers.specs.Spoken.{answer_now}
+use Rattle.newt_spec_world.specs.Answer.{answer}
 use Rattle.newt_laws_answers.proofs.Stores.{nsof-done, lit-done}
 use Rattle.newt_engine_units.specs.Stands.{Eight, world_of}
 use Rattle.newt_engine.specs.Ends.{takes_memory, uses_device}
 use Rattle.newt_engine.specs.Laws.{laws_of}
 use Rattle.newt_engine.proofs.Costing.{format_costs, still_costs}
-use Rattle.newt_engine.proofs.Groups.{in_memory}
+use Rattle.newt_engine.proofs.Groups.{format_form, in_memory, index_form, tags_form}
 use Rattle.newt_engine.proofs.Handed.{answered_on, err_on, goes_back, has_cause, moments_same, quiet, told_stands}
 use Rattle.newt_engine.proofs.Obeying.{handed_obeyed}
 use Rattle.newt_engine.proofs.world.World.obey.Goals as goal
@@ -20,12 +21,13 @@ returns-in-Nsof g c =
     let o = g.H.Host.outside c.args.host.now in
     let w = world_of g.C.Card.reads c.args.self.now.units o in record {
       stands = λ goes. c.requires.stands;
-      answered = λ t. subst (λ x. answer_now w x ≡ (w, said (reply.Nsof c.in-Nsof.graph))) (sym c.in-Nsof.is) (nsof-done w refl c.in-Nsof.graph);
+      answered = λ t. subst (λ x. answer w x ≡ (w, said (reply.Nsof c.in-Nsof.graph))) (sym c.in-Nsof.is) (nsof-done w refl c.in-Nsof.graph);
       moments = λ t. quiet (laws_of g.met.C.Card.formed g.met.C.Card.plain g.met.C.Card.durable g.met.C.Card.banks g.met.C.Card.kept) g.H.Host.told c.args.self.now.units o (record { eight = g.met.H.Host.eight c.args.host.now; none = g.met.H.Host.none c.args.host.now }) c.requires.stands t _;
       desk = refl;
-      costs = λ t. still_costs refl (λ u. omega arith);
+      costs = λ t. still_costs (λ u. alone-refl u _);
       alone = OnDevices-refl o;
       cause = tt;
+      no_fault = λ goes. NoFault-refl o;
       ends = λ none. tt;
       device = λ none. tt;
     }
@@ -35,15 +37,25 @@ returns-in-Lit g c =
     let o = g.H.Host.outside c.args.host.now in
     let w = world_of g.C.Card.reads c.args.self.now.units o in record {
       stands = λ goes. c.requires.stands;
-      answered = λ t. subst (λ x. answer_now w x ≡ (w, said (reply.Literal c.in-Lit.graph))) (sym c.in-Lit.is) (lit-done w refl c.in-Lit.graph);
+      answered = λ t. subst (λ x. answer w x ≡ (w, said (reply.Literal c.in-Lit.graph))) (sym c.in-Lit.is) (lit-done w refl c.in-Lit.graph);
       moments = λ t. quiet (laws_of g.met.C.Card.formed g.met.C.Card.plain g.met.C.Card.durable g.met.C.Card.banks g.met.C.Card.kept) g.H.Host.told c.args.self.now.units o (record { eight = g.met.H.Host.eight c.args.host.now; none = g.met.H.Host.none c.args.host.now }) c.requires.stands t _;
       desk = refl;
-      costs = λ t. still_costs refl (λ u. omega arith);
+      costs = λ t. still_costs (λ u. alone-refl u _);
       alone = OnDevices-refl o;
       cause = tt;
+      no_fault = λ goes. NoFault-refl o;
       ends = λ none. tt;
       device = λ none. tt;
     }
+
+pub format-requires-clause-sig : goal.format-requires-clause-sig
+format-requires-clause-sig g c = format_form c.args.command _ _ _ c.in-Format.is c.requires.form
+
+pub index-requires-clause-form : goal.index-requires-clause-form
+index-requires-clause-form g c = index_form c.args.command _ _ _ c.in-Index.is c.requires.form
+
+pub set_tags-requires-clause-form : goal.set_tags-requires-clause-form
+set_tags-requires-clause-form g c = tags_form c.args.command _ _ _ _ c.in-SetTags.is c.requires.form
 
 pub returns-in-Format : goal.returns-in-Format
 returns-in-Format g c =
@@ -54,16 +66,15 @@ returns-in-Format g c =
       moments = λ t. moments_same g.C.Card.reads _ _ _ c.args.command _ c.in-Format.is (call.moments t);
       desk = refl;
       costs = λ t. format_costs c.in-Format.is (λ goes. call.open_after t (goes_back on goes));
-      alone = call.alone;
-      cause = err_on on _ call.cause;
+      alone = call.ends.alone;
+      cause = err_on on _ call.ends.cause;
+      no_fault = λ goes. call.ends.no_fault (goes_back on goes);
       ends = λ none. absurd (both-ways (sym none ∙ ap takes_memory c.in-Format.is));
       device = λ none. absurd (both-ways (sym none ∙ ap uses_device c.in-Format.is));
     }
 
 pub returns-in-Mount : goal.returns-in-Mount
-returns-in-Mount g c =
-    let e = c.mount.ensures in
-    handed_obeyed c.mounted.ensures c.in-Mount.is refl refl (record { stands = e.stands; answered = e.answered; moments = e.moments; costs = e.costs; alone = e.alone; cause = e.cause }) refl
+returns-in-Mount g c = handed_obeyed c.mounted.ensures c.in-Mount.is refl refl c.mount.ensures refl
 
 pub returns-in-Soup : goal.returns-in-Soup
 returns-in-Soup g c = handed_obeyed c.numbered.ensures c.in-Soup.is refl refl c.soup.ensures refl
@@ -120,7 +131,7 @@ pub obey_in_memory-obeyed-requires : goal.obey_in_memory-obeyed-requires
 obey_in_memory-obeyed-requires g c =
     let d = c.in_default in
     let is = in_memory c.args.command c.requires.no_cursor d.not-Nsof d.not-Lit d.not-Format d.not-Mount d.not-Soup d.not-Drop d.not-Index d.not-Unindex d.not-SetTags d.not-Add d.not-Addx d.not-Addu d.not-Get d.not-Getx d.not-Set d.not-Change d.not-Remove d.not-Copy d.not-Move d.not-Vread d.not-Vwrite in
-    record { not_shown = is.0; no_device = is.1 }
+    record { not_shown = is.0; no_device = is.1; no_cursor = c.requires.no_cursor }
 
 pub returns-in_default : goal.returns-in_default
 returns-in_default g c =
@@ -131,9 +142,10 @@ returns-in_default g c =
       answered = λ t. call.answered o eight (told_stands g.H.Host.told c.args.self.now.units o c.requires.stands t);
       moments = λ t. quiet (laws_of g.met.C.Card.formed g.met.C.Card.plain g.met.C.Card.durable g.met.C.Card.banks g.met.C.Card.kept) g.H.Host.told c.args.self.now.units o eight c.requires.stands t _;
       desk = call.desk;
-      costs = λ t. still_costs refl (λ u. omega arith);
+      costs = λ t. still_costs (λ u. alone-refl u _);
       alone = OnDevices-refl o;
       cause = has_cause _ _ _ call.device;
+      no_fault = λ goes. NoFault-refl o;
       ends = call.ends;
       device = λ uses_none. call.device;
     }

@@ -2,14 +2,15 @@
 use Rattle.std.proofs.Common.{arith, ◌≡◌, refl, sym, ◌∙◌, subst, IsTrue, Ok, Err}
 use Rattle.newt_engine_units.specs.Answers.{Answers}
 use Rattle.newt_host.specs.Moments.{Moment, Always}
-use Rattle.newt_host.proofs.Outside.{OnDevices-append}
+use Rattle.newt_host.proofs.Outside.{NoFault-append, OnDevices-append}
 use Rattle.newt_reply.specs.Said.{said}
 use Rattle.newt_laws_answers.specs.Answering.{Answering}
-use Rattle.newt_laws_answers.specs.Spoken.{answer_now}
+use Rattle.newt_spec_world.specs.Answer.{answer}
 use Rattle.newt_engine_units.specs.Stands.{world_of}
 use Rattle.newt_engine_cursors.specs.Fits.{DeskFits}
 use Rattle.newt_engine_cursors.specs.World.{world_with}
-use Rattle.newt_engine_commands.proofs.Obeying.{cause-after}
+use Rattle.newt_engine_units.proofs.Costs.{alone-refl}
+use Rattle.newt_engine_units.proofs.Obeying.{cause-after}
 use Rattle.newt_engine.specs.Laws.{laws_of}
 use Rattle.newt_engine.proofs.Costing.{settled_costs}
 use Rattle.newt_engine.proofs.Settling.{apart_after, done_answers, fault_answers, moments_with, moves_in_memory, moves_on_devices, settled_answers, stands_after}
@@ -26,16 +27,17 @@ returns-then-settles g c =
     let w = world_with g.C.Card.reads a.units a.desk (o c.args.host.now) in
     let answers : IsTrue g.H.Host.told → Answers w (world_with g.C.Card.reads c.settled.new.self.units c.settled.new.self.desk (o c.settled.new.host)) c.args.command said c.settled.result = λ t.
     settled_answers laws g.H.Host.told a.units a.desk (o c.args.host.now) c.requires.stands t c.args.command c.requires.no_cursor v _ c.in-Ok.reply _ (c.in-Ok.ensures.answered t) c.obey.new.self.desk e.desk
-    (s.settled t (apart_after laws g.H.Host.told a.units a.desk (o c.args.host.now) c.requires.stands t c.args.command c.requires.no_cursor v (said c.in-Ok.reply) (c.in-Ok.ensures.answered t))) s.same s.ends in
+    (s.settled t (apart_after laws g.H.Host.told a.units a.desk (o c.args.host.now) c.requires.stands t c.args.command c.requires.no_cursor v (said c.in-Ok.reply) (c.in-Ok.ensures.answered t))) s.same s.only in
     record {
       stands = stands_after g.H.Host.told a.units c.settled.new.self.units a.desk c.settled.new.self.desk (o c.args.host.now) (o c.settled.new.host) c.requires.stands s.read.stand
           (record { eight = g.met.H.Host.eight c.settled.new.host; none = g.met.H.Host.none c.settled.new.host }) s.desk c.args.command said _ answers;
       answered = answers;
-      moments = λ t. subst (λ (m : Moment). Always (Answering g.C.Card.reads w (answer_now w c.args.command).0 (o c.args.host.now).now) (o c.args.host.now).now m) (sym s.read.moment)
+      moments = λ t. subst (λ (m : Moment). Always (Answering g.C.Card.reads w (answer w c.args.command).0 (o c.args.host.now).now) (o c.args.host.now).now m) (sym s.read.moment)
           (moments_with laws g.H.Host.told a.units a.desk (o c.args.host.now) c.requires.stands t c.args.command c.requires.no_cursor (o c.obey.new.host).now (e.moments t));
-      costs = λ t. settled_costs a.desk c.requires.no_cursor (c.in-Ok.ensures.costs t) (λ goes. tt) s.read.moment (s.read.programs t);
+      costs = λ t. settled_costs a.desk c.requires.no_cursor (c.in-Ok.ensures.costs t) (λ goes. tt) s.read.moment s.read.untouched;
       alone = OnDevices-append e.alone s.read.alone;
-      cause = cause-after _ _ e.alone s.cause;
+      cause = cause-after _ _ e.alone s.ends.cause;
+      no_fault = λ goes. NoFault-append (c.in-Ok.ensures.no_fault tt) (s.ends.no_fault goes);
       ends = λ none. absurd (moves_in_memory c.args.command (sym c.settles-settles.ensures ∙ c.if-settles.true) none);
       device = λ none. absurd (moves_on_devices c.args.command (sym c.settles-settles.ensures ∙ c.if-settles.true) none);
     }
@@ -55,9 +57,10 @@ returns-else-settles g c =
           (record { eight = g.met.H.Host.eight c.obey.new.host; none = g.met.H.Host.none c.obey.new.host }) (subst DeskFits (sym e.desk) c.requires.stands.desk) c.args.command said (Ok c.in-Ok.reply) answers goes;
       answered = answers;
       moments = λ t. moments_with laws g.H.Host.told a.units a.desk (o c.args.host.now) c.requires.stands t c.args.command c.requires.no_cursor (o c.obey.new.host).now (e.moments t);
-      costs = λ t. settled_costs a.desk c.requires.no_cursor (c.in-Ok.ensures.costs t) (λ goes. tt) refl (λ u. omega arith);
+      costs = λ t. settled_costs a.desk c.requires.no_cursor (c.in-Ok.ensures.costs t) (λ goes. tt) refl (λ u. alone-refl u _);
       alone = e.alone;
       cause = c.in-Ok.ensures.cause;
+      no_fault = c.in-Ok.ensures.no_fault;
       ends = c.in-Ok.ensures.ends;
       device = c.in-Ok.ensures.device;
     }
@@ -77,9 +80,10 @@ returns-in-Err g c =
           (record { eight = g.met.H.Host.eight c.obey.new.host; none = g.met.H.Host.none c.obey.new.host }) (subst DeskFits (sym e.desk) c.requires.stands.desk) c.args.command said (Err c.in-Err.fault) answers goes;
       answered = answers;
       moments = λ t. moments_with laws g.H.Host.told a.units a.desk (o c.args.host.now) c.requires.stands t c.args.command c.requires.no_cursor (o c.obey.new.host).now (e.moments t);
-      costs = λ t. settled_costs a.desk c.requires.no_cursor (c.in-Err.ensures.costs t) (λ goes. goes) refl (λ u. omega arith);
+      costs = λ t. settled_costs a.desk c.requires.no_cursor (c.in-Err.ensures.costs t) (λ goes. goes) refl (λ u. alone-refl u _);
       alone = e.alone;
       cause = c.in-Err.ensures.cause;
+      no_fault = c.in-Err.ensures.no_fault;
       ends = c.in-Err.ensures.ends;
       device = c.in-Err.ensures.device;
     }

@@ -5,7 +5,7 @@ use Rattle.std.specs.Prelude.{IfErr}
 use Rattle.newt_reply.specs.Said.{said, store_row}
 use Rattle.newt_spec_graph.proofs.Lists.{both-ways}
 use Rattle.newt_spec_world.specs.Reply.{Reply as plain}
-use Rattle.newt_laws_answers.specs.Spoken.{answer_now}
+use Rattle.newt_spec_world.specs.Answer.{answer}
 use Rattle.newt_laws_answers.proofs.Stores.{quit-done}
 use Rattle.newt_store_change.specs.Faults.{NoDevice}
 use Rattle.newt_engine_units.specs.Answers.{Answers}
@@ -19,7 +19,7 @@ pub returns-in-Time : goal.returns-in-Time
 returns-in-Time g c =
     let call = c.set_minute.ensures in record {
       stands = call.stands;
-      answered = λ outside eight stand. subst (λ x. answer_now (world_of g.C.Card.reads c.args.self.now.units outside) x ≡ (world_of g.C.Card.reads c.set_minute.new.self outside, plain.done)) (sym c.in-Time.is) (call.answered outside);
+      answered = λ outside eight stand. subst (λ x. answer (world_of g.C.Card.reads c.args.self.now.units outside) x ≡ (world_of g.C.Card.reads c.set_minute.new.self outside, plain.done)) (sym c.in-Time.is) (call.answered outside);
       desk = refl;
       device = tt;
       ends = λ none. tt;
@@ -28,7 +28,7 @@ returns-in-Time g c =
 pub returns-in-Quit : goal.returns-in-Quit
 returns-in-Quit g c = record {
   stands = λ told outside h. h;
-  answered = λ outside eight stand. let w = world_of g.C.Card.reads c.args.self.now.units outside in subst (λ x. answer_now w x ≡ (w, plain.done)) (sym c.in-Quit.is) (quit-done w refl);
+  answered = λ outside eight stand. let w = world_of g.C.Card.reads c.args.self.now.units outside in subst (λ x. answer w x ≡ (w, plain.done)) (sym c.in-Quit.is) (quit-done w refl);
   desk = refl;
   device = tt;
   ends = λ none. tt;
@@ -51,7 +51,7 @@ returns-in_ok-stores-in-Stores g c =
       stands = λ told outside h. h;
       answered = λ outside eight stand.
           let w = world_of g.C.Card.reads c.args.self.now.units outside in
-          subst (λ x. answer_now w x ≡ (w, plain.stores (map store_row rows))) (sym c.in-Stores.is) (c.in_ok-stores-in-Stores.ensures.answered outside eight stand);
+          subst (λ x. answer w x ≡ (w, plain.stores (map store_row rows))) (sym c.in-Stores.is) (c.in_ok-stores-in-Stores.ensures.answered outside eight stand);
       desk = refl;
       device = tt;
       ends = λ none. tt;
@@ -138,4 +138,4 @@ returns-in-Resolve g c =
 pub returns-in_default : goal.returns-in_default
 returns-in_default g c =
     let d = c.in_default in
-    absurd (no_other c.args.command.now c.requires.not_shown c.requires.no_device d.not-Time d.not-Quit d.not-Unmount d.not-Stores d.not-Default d.not-Soups d.not-Indexes d.not-Tags d.not-Alias d.not-Resolve)
+    absurd (no_other c.args.command.now c.requires.not_shown c.requires.no_device c.requires.no_cursor d.not-Time d.not-Quit d.not-Unmount d.not-Stores d.not-Default d.not-Soups d.not-Indexes d.not-Tags d.not-Alias d.not-Resolve)

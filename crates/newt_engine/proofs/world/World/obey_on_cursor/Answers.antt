@@ -1,12 +1,11 @@
--- Devices are read alone, and the world of all commands answers.
+-- Devices are read alone.
 use Rattle.std.proofs.Common.{◌≡◌, IsTrue}
 use Rattle.newt_reply.specs.Said.{said}
 use Rattle.newt_engine_units.specs.Answers.{Answers}
 use Rattle.newt_engine_cursors.specs.World.{world_with}
 use Rattle.newt_engine.specs.Laws.{laws_of}
 use Rattle.newt_engine.proofs.Costing.{still_costs}
-use Rattle.newt_engine.proofs.Groups.{cursors_use_all}
-use Rattle.newt_engine.proofs.Settling.{quiet_with, stands_after, walked_answers}
+use Rattle.newt_engine.proofs.Settling.{quiet_with, stands_after}
 use Rattle.newt_engine.proofs.world.World.obey_on_cursor.Goals as goal
 
 pub returns : goal.returns
@@ -16,16 +15,17 @@ returns g c =
     let e = c.walk.ensures in
     let w = world_with g.C.Card.reads a.units a.desk (o c.args.host.now) in
     let answers : IsTrue g.H.Host.told → Answers w (world_with g.C.Card.reads c.walk.new.self.units c.walk.new.self.desk (o c.walk.new.host)) c.args.command.now said c.walk.result = λ t.
-    walked_answers _ _ c.args.command.now said _ c.requires.on_cursor (e.answered t (c.requires.stands.apart t)) in
+    e.answered t (c.requires.stands.apart t) (c.requires.stands.settled t) in
     record {
       stands = stands_after g.H.Host.told a.units c.walk.new.self.units a.desk c.walk.new.self.desk (o c.args.host.now) (o c.walk.new.host) c.requires.stands e.read.stand
           (record { eight = g.met.H.Host.eight c.walk.new.host; none = g.met.H.Host.none c.walk.new.host }) e.desk c.args.command.now said _ answers;
       answered = answers;
       moments = λ t. quiet_with (laws_of g.met.C.Card.formed g.met.C.Card.plain g.met.C.Card.durable g.met.C.Card.banks g.met.C.Card.kept) g.H.Host.told a.units a.desk (o c.args.host.now) (o c.walk.new.host)
           c.requires.stands t e.read.moment _;
-      costs = λ t. still_costs e.read.moment (e.read.programs t);
+      costs = λ t. still_costs e.read.untouched;
       alone = e.read.alone;
       cause = e.cause;
-      ends = λ none. absurd ((cursors_use_all c.args.command.now c.requires.on_cursor).0 none);
-      device = λ none. absurd ((cursors_use_all c.args.command.now c.requires.on_cursor).1 none);
+      no_fault = e.no_fault;
+      ends = e.ends;
+      device = e.device;
     }

@@ -34,9 +34,10 @@ returns-in-Some g c =
       marks = λ j. marks c.args.self.now (later c.args.self.now c.unit.inside.0 c.index_mut.result.now c.apply.new.self) c.args.unit c.in-Some.card c.apply.new.self (replaced call) j;
       costs = λ t blocks s on. call-costs laws t eight call c.requires.stands (c.apply.ensures.others t) blocks s
           (λ blocks. most_bytes c.args.change blocks minute s) _
-          (λ reads room. (c.apply.ensures.costs t s reads room).programmed) (c.apply.ensures.open_after t) c.apply.ensures.nothing_done on;
+          (λ reads. record { programmed = λ room. (c.apply.ensures.costs t s reads room).programmed; wears = λ room. c.apply.ensures.wears t s reads room }) (c.apply.ensures.open_after t) c.apply.ensures.nothing_done on;
       alone = on-devices c.apply.ensures.alone;
       cause = cause-of _ _ _ _ c.apply.ensures.cause;
+      no_fault = c.apply.ensures.no_fault;
     }
 
 pub returns-in-None : goal.returns-in-None

@@ -1,10 +1,8 @@
 -- A call on the card of the unit after which nothing has happened.
-use Rattle.std.proofs.Common.{ap, sym}
-use Rattle.newt_host.specs.Moments.{changes}
+use Rattle.std.proofs.Common.{sym}
 use Rattle.newt_engine_units.specs.Stands.{Eight}
-use Rattle.newt_engine_units.proofs.Calls.{Called, mounted-bound, not-there, stop-cause, on-devices, programs-no-more, replaced, later, call-stands, call-still, call-reads}
+use Rattle.newt_engine_units.proofs.Calls.{Called, mounted-bound, not-there, stop-cause, call-looks, call-reads}
 use Rattle.newt_engine_units.proofs.Known.{Laws}
-use Rattle.newt_engine_units.proofs.Slots.{marks}
 use Rattle.newt_engine_units.proofs.units.Units.entry_on.Goals as goal
 
 pub returns-in-Some : goal.returns-in-Some
@@ -23,16 +21,12 @@ returns-in-Some g c =
       value = c.index_mut.ensures.value;
       was = c.in-Some.is;
       place_is = c.entry.ensures.same_place;
-      touches = c.entry.ensures.alone;
+      touches = c.entry.ensures.looks.alone;
     } in record {
-      stands = call-stands laws call c.requires.stands (λ t j h. ap (changes j) c.entry.ensures.moment) c.entry.ensures.stands;
+      looks = call-looks laws call c.requires.stands c.entry.ensures.stands c.entry.ensures.looks;
       read = λ t blocks s on. c.entry.ensures.found t s (call-reads laws t eight call c.requires.stands blocks s on);
-      world = λ t. call-still g.C.Card.reads call c.entry.ensures.moment;
-      marks = λ u. marks c.args.self.now (later c.args.self.now c.unit.inside.0 c.index_mut.result.now c.entry.new.self) c.args.unit c.in-Some.card c.entry.new.self (replaced call) u;
-      moment = c.entry.ensures.moment;
-      programs_nothing = λ t. programs-no-more c.entry.ensures.alone c.entry.ensures.programs_nothing;
-      alone = on-devices c.entry.ensures.alone;
       cause = stop-cause _ _ _ _ c.entry.ensures.cause;
+      no_fault = c.entry.ensures.no_fault;
     }
 
 pub returns-in-None : goal.returns-in-None

@@ -1,34 +1,28 @@
 -- Nothing has happened to any device.
-use Rattle.std.proofs.Common.{ap}
-use Rattle.newt_host.specs.Moments.{changes}
-use Rattle.newt_engine_units.proofs.Calls.{programs-no-more}
-use Rattle.newt_engine_units.proofs.Slots.{stands-still}
+use Rattle.std.proofs.Common.{ap, Err}
+use Rattle.newt_engine_units.proofs.Calls.{is-opening, on-devices, read-still}
 use Rattle.newt_engine_units.proofs.units.Units.open.Goals as goal
 
-pub returns-in-Ok-clause-stands : goal.returns-in-Ok-clause-stands
-returns-in-Ok-clause-stands g c = stands-still g.C.Card.place g.C.Card.stands g.met.C.Card.kept g.met.C.Card.durable g.H.Host.told c.args.self.now (g.H.Host.outside c.args.host.now) (g.H.Host.outside c.open.new.host)
-    c.open.ensures.alone.cards (λ t j. ap (changes j) c.open.ensures.moment) c.requires.stands
+pub returns-in-Ok-clause-looks : goal.returns-in-Ok-clause-looks
+returns-in-Ok-clause-looks g c = read-still g.C.Card.reads g.met.C.Card.kept g.met.C.Card.durable c.open.ensures.looks c.requires.stands
 
-pub returns-in-Err-NotStore-clause-stands : goal.returns-in-Err-NotStore-clause-stands
-returns-in-Err-NotStore-clause-stands g c = stands-still g.C.Card.place g.C.Card.stands g.met.C.Card.kept g.met.C.Card.durable g.H.Host.told c.args.self.now (g.H.Host.outside c.args.host.now) (g.H.Host.outside c.open.new.host)
-    c.open.ensures.alone.cards (λ t j. ap (changes j) c.open.ensures.moment) c.requires.stands
+pub returns-in-Err-NotStore-clause-looks : goal.returns-in-Err-NotStore-clause-looks
+returns-in-Err-NotStore-clause-looks g c = read-still g.C.Card.reads g.met.C.Card.kept g.met.C.Card.durable c.open.ensures.looks c.requires.stands
 
-pub returns-in-Err-Memory-clause-stands : goal.returns-in-Err-Memory-clause-stands
-returns-in-Err-Memory-clause-stands g c = stands-still g.C.Card.place g.C.Card.stands g.met.C.Card.kept g.met.C.Card.durable g.H.Host.told c.args.self.now (g.H.Host.outside c.args.host.now) (g.H.Host.outside c.open.new.host)
-    c.open.ensures.alone.cards (λ t j. ap (changes j) c.open.ensures.moment) c.requires.stands
+pub returns-in-Err-Memory-clause-looks : goal.returns-in-Err-Memory-clause-looks
+returns-in-Err-Memory-clause-looks g c = read-still g.C.Card.reads g.met.C.Card.kept g.met.C.Card.durable c.open.ensures.looks c.requires.stands
 
-pub returns-in-Err-Device-clause-stands : goal.returns-in-Err-Device-clause-stands
-returns-in-Err-Device-clause-stands g c = stands-still g.C.Card.place g.C.Card.stands g.met.C.Card.kept g.met.C.Card.durable g.H.Host.told c.args.self.now (g.H.Host.outside c.args.host.now) (g.H.Host.outside c.open.new.host)
-    c.open.ensures.alone.cards (λ t j. ap (changes j) c.open.ensures.moment) c.requires.stands
+pub returns-in-Err-Device-clause-looks : goal.returns-in-Err-Device-clause-looks
+returns-in-Err-Device-clause-looks g c = read-still g.C.Card.reads g.met.C.Card.kept g.met.C.Card.durable c.open.ensures.looks c.requires.stands
 
-pub returns-in-Ok-clause-programs_nothing : goal.returns-in-Ok-clause-programs_nothing
-returns-in-Ok-clause-programs_nothing g c t = programs-no-more c.open.ensures.alone c.open.ensures.programs_nothing
+pub returns-in-Ok-clause-ends : goal.returns-in-Ok-clause-ends
+returns-in-Ok-clause-ends g c = record { alone = on-devices c.open.ensures.looks.alone; cause = tt; no_fault = λ goes. c.in-Ok.ensures.no_fault tt }
 
-pub returns-in-Err-NotStore-clause-programs_nothing : goal.returns-in-Err-NotStore-clause-programs_nothing
-returns-in-Err-NotStore-clause-programs_nothing g c t = programs-no-more c.open.ensures.alone c.open.ensures.programs_nothing
+pub returns-in-Err-NotStore-clause-ends : goal.returns-in-Err-NotStore-clause-ends
+returns-in-Err-NotStore-clause-ends g c = record { alone = on-devices c.open.ensures.looks.alone; cause = tt; no_fault = λ goes. c.in-Err-NotStore.ensures.no_fault (is-opening g.row.C.Denot _ c.in-Err-NotStore.field-0-is) }
 
-pub returns-in-Err-Memory-clause-programs_nothing : goal.returns-in-Err-Memory-clause-programs_nothing
-returns-in-Err-Memory-clause-programs_nothing g c t = programs-no-more c.open.ensures.alone c.open.ensures.programs_nothing
+pub returns-in-Err-Memory-clause-ends : goal.returns-in-Err-Memory-clause-ends
+returns-in-Err-Memory-clause-ends g c = record { alone = on-devices c.open.ensures.looks.alone; cause = tt; no_fault = λ goes. absurd goes }
 
-pub returns-in-Err-Device-clause-programs_nothing : goal.returns-in-Err-Device-clause-programs_nothing
-returns-in-Err-Device-clause-programs_nothing g c t = programs-no-more c.open.ensures.alone c.open.ensures.programs_nothing
+pub returns-in-Err-Device-clause-ends : goal.returns-in-Err-Device-clause-ends
+returns-in-Err-Device-clause-ends g c = record { alone = on-devices c.open.ensures.looks.alone; cause = c.in-Err-Device.ensures.cause (ap Err c.in-Err-Device.field-0-is); no_fault = λ goes. absurd goes }

@@ -1,7 +1,7 @@
 use Rattle.std.proofs.Common.{◌≡◌, ℕ, ◌<◌, length, refl, sym, ◌∙◌, subst}
 use Rattle.std.proofs.lemmas.Option.{slice_get-get_or}
 use Rattle.newt_host_files.specs.Laws.{untold}
-use Rattle.newt_host_files.proofs.Units.{attaches, same_counts}
+use Rattle.newt_host_files.proofs.Units.{attaches, attach_call, same-cards, same-counts}
 use Rattle.newt_host_files.proofs.files.FileHostHost.attach.Goals as goal
 
 pub returns-in_default : goal.returns-in_default
@@ -9,11 +9,8 @@ returns-in_default g c =
     record {
       known = λ tells. untold tells;
       attached = λ so. untold so;
-      refused = λ no. (record { devices = λ name. refl; card = λ u. refl; blocks = λ u. refl }, λ tells. untold tells);
-      input = refl;
-      in_faults = refl;
-      out_faults = refl;
-      counts = record { dev_faults = λ u. refl; programmed = λ u. refl; fetched = λ u. refl };
+      refused = λ no. (same-cards c.args.self.now.cards, λ tells. untold tells);
+      call = record { input = refl; counts = same-counts c.args.self.now.cards; in_faults = refl; out_faults = refl };
     }
 
 pub returns-then-not-keep : goal.returns-then-not-keep
@@ -21,11 +18,8 @@ returns-then-not-keep g c =
     record {
       known = λ tells. untold tells;
       attached = λ so. untold so;
-      refused = λ no. (record { devices = λ name. refl; card = λ u. refl; blocks = λ u. refl }, λ tells. untold tells);
-      input = refl;
-      in_faults = refl;
-      out_faults = refl;
-      counts = record { dev_faults = λ u. refl; programmed = λ u. refl; fetched = λ u. refl };
+      refused = λ no. (same-cards c.args.self.now.cards, λ tells. untold tells);
+      call = record { input = refl; counts = same-counts c.args.self.now.cards; in_faults = refl; out_faults = refl };
     }
 
 pub listed : goal.listed
@@ -44,8 +38,5 @@ returns g c =
       known = λ tells. untold tells;
       attached = λ so. attaches cards _ c.args.unit _ _ c.unit.view_is there c.args.name.now c.attach.ensures.attached named _ _;
       refused = λ no. untold (sym no);
-      input = refl;
-      in_faults = refl;
-      out_faults = refl;
-      counts = same_counts cards _ c.args.unit _ _ c.unit.view_is there c.args.name.now c.attach.ensures.attached named _ _ c.attach.ensures.faults c.attach.ensures.programmed c.attach.ensures.fetched;
+      call = attach_call cards _ c.args.unit _ _ c.unit.view_is there c.args.name.now c.attach.ensures.attached named _ _ c.attach.ensures.counts;
     }

@@ -1,6 +1,6 @@
 use Rattle.std.proofs.Common.{ℕ, ◌<◌, subst}
 use Rattle.newt_host_files.specs.Laws.{untold}
-use Rattle.newt_host_files.proofs.Units.{card-inside, read-there, touches, spends, never_falls, cause-at}
+use Rattle.newt_host_files.proofs.Units.{card-inside, read-there, unit-call}
 use Rattle.newt_host_files.proofs.files.FileHostHost.erase.Goals as goal
 
 pub listed : goal.listed
@@ -15,8 +15,5 @@ returns g c =
     let there = read-there cards _ c.args.unit c.index-self-unit.result c.unit.view_is c.requires.attached in
     record {
       wrote = λ tells. untold tells;
-      alone = touches cards _ c.args.unit _ _ c.unit.view_is there.0 c.touched.ensures.card _ _;
-      costs = spends cards _ c.args.unit _ _ c.unit.view_is there.0 c.touched.ensures.card _ _;
-      later = never_falls cards _ c.args.unit _ _ c.unit.view_is there.0 c.touched.ensures.card _ _;
-      cause = cause-at cards _ c.args.unit _ _ c.unit.view_is there.0 c.touched.result c.touched.ensures.cause;
+      call = unit-call cards _ c.args.unit _ _ c.unit.view_is there.0 c.erased.ensures.card _ _ c.erased.result c.erased.ensures.faults;
     }

@@ -1,6 +1,6 @@
 use Rattle.std.proofs.Common.{ℕ, ◌<◌, refl, subst}
 use Rattle.newt_host_files.specs.Laws.{untold}
-use Rattle.newt_host_files.proofs.Units.{card-inside, read-there, touches, spends, never_falls, cause-at}
+use Rattle.newt_host_files.proofs.Units.{card-inside, read-there, unit-call}
 use Rattle.newt_host_files.proofs.files.FileHostHost.read.Goals as goal
 
 pub listed : goal.listed
@@ -16,8 +16,5 @@ returns g c =
     record {
       bytes = λ tells. untold tells;
       moment = refl;
-      alone = touches cards _ c.args.unit _ _ c.unit.view_is there.0 c.fetched.ensures.card _ _;
-      costs = spends cards _ c.args.unit _ _ c.unit.view_is there.0 c.fetched.ensures.card _ _;
-      later = never_falls cards _ c.args.unit _ _ c.unit.view_is there.0 c.fetched.ensures.card _ _;
-      cause = cause-at cards _ c.args.unit _ _ c.unit.view_is there.0 c.fetched.result c.fetched.ensures.cause;
+      call = unit-call cards _ c.args.unit _ _ c.unit.view_is there.0 c.fetched.ensures.card _ _ c.fetched.result c.fetched.ensures.faults;
     }

@@ -14,7 +14,8 @@ returns-in_err-program_piece-clause-writes g c = record {
   any_moment = λ t. any_moment c.args.journal c.args.len c.requires.some c.requires.fits _ (c.requires.stands.held t) _ c.to_be_bytes.ensures (c.program_piece.ensures.wrote t);
   alone = search rules;
   costs = search rules;
-  cause = search rules;
+  wears = search rules;
+  faults = search rules;
 }
 
 pub returns-clause-draft : goal.returns-clause-draft
@@ -39,7 +40,8 @@ returns-clause-writes g c = record {
   any_moment = λ t. any_moment c.args.journal c.args.len c.requires.some c.requires.fits _ (c.requires.stands.held t) _ c.to_be_bytes.ensures (c.program_piece.ensures.wrote t);
   alone = search rules;
   costs = search rules;
-  cause = search rules;
+  wears = search rules;
+  faults = search rules;
 }
 
 pub returns-clause-rest : goal.returns-clause-rest

@@ -1,26 +1,44 @@
 use Rattle.std.proofs.Common.{◌≤◌, ◌+◌, ◌-◌, ◌*◌, ℕ, length, replicate, refl, arith, sym, ◌∙◌, ap, subst, rules}
 use Rattle.newt_host.specs.Moments.{image}
-use Rattle.newt_host.proofs.Moments.{Leaves-append}
 use Rattle.newt_host.proofs.Outside.{same_cards}
-use Rattle.newt_spec_image.specs.Records.{bank_size}
+use Rattle.newt_spec_image.specs.Records.{bank_size, bank_start}
 use Rattle.newt_journal.proofs.Opened.{has_blocks}
-use Rattle.newt_journal.proofs.Formatting.{anything, no_call, a_sync, format_blank, format_any, format_one, format_tail, format_stands}
+use Rattle.newt_journal.proofs.Formatting.{after_sync, bank_begun, format_blank, format_one, format_tail, format_stands, front_is, front_sure, front_voted, front_written, may_leave, then_front}
 use Rattle.newt_journal.proofs.journal.Journal.format.Goals as goal
 
 pub returns-in_err-sync-clause-writes : goal.returns-in_err-sync-clause-writes
 returns-in_err-sync-clause-writes g c = record {
-  any_moment = λ t. a_sync (no_call c.args.unit (g.H.Host.outside c.args.host.now).now) (c.sync.ensures.synced t);
+  any_moment = λ t.
+      let u = c.args.unit in
+      let old = (g.H.Host.outside c.args.host.now).now in
+      let n = bank_start c.blocks-blocks.result 1 in
+      let may = may_leave u c.blocks-blocks.result (g.H.Host.outside c.args.host.now)
+      (g.met.H.Host.none c.args.host.now u) c.blocks-blocks.ensures
+      (omega (arith, c.blocks-blocks.ensures, c.requires.enough)) (g.met.H.Host.history c.args.host.now u t) in
+      front_is c.blocks-blocks.ensures (after_sync u n old may (c.sync.ensures.synced t));
   alone = search rules;
   costs = search rules;
-  cause = search rules;
+  wears = search rules;
+  faults = search rules;
 }
 
 pub returns-in_err-begin_bank-clause-writes : goal.returns-in_err-begin_bank-clause-writes
 returns-in_err-begin_bank-clause-writes g c = record {
-  any_moment = λ t. Leaves-append (a_sync (no_call c.args.unit (g.H.Host.outside c.args.host.now).now) (c.sync.ensures.synced t)) (anything (c.begin_bank.ensures.writes.any_moment t));
+  any_moment = λ t.
+      let u = c.args.unit in
+      let old = (g.H.Host.outside c.args.host.now).now in
+      let n = bank_start c.blocks-blocks.result 1 in
+      let may = may_leave u c.blocks-blocks.result (g.H.Host.outside c.args.host.now)
+      (g.met.H.Host.none c.args.host.now u) c.blocks-blocks.ensures
+      (omega (arith, c.blocks-blocks.ensures, c.requires.enough)) (g.met.H.Host.history c.args.host.now u t) in
+      let enough : 13 ≤ c.blocks-blocks.result = omega (arith, c.blocks-blocks.ensures, c.requires.enough) in
+      let few : c.blocks-blocks.result ≤ 4099 = omega (arith, c.blocks-blocks.ensures, c.requires.few) in
+      front_is c.blocks-blocks.ensures (then_front u n old may (c.sync.ensures.synced t)
+      (bank_begun u c.blocks-blocks.result (image u (g.H.Host.outside c.sync.new.self).now) (c.begin_bank.ensures.writes.any_moment t)));
   alone = search rules;
   costs = search rules;
-  cause = search rules;
+  wears = search rules;
+  faults = search rules;
 }
 
 pub program_piece-requires-clause-blank : goal.program_piece-requires-clause-blank
@@ -28,69 +46,91 @@ program_piece-requires-clause-blank g c t =
     let enough : 13 ≤ c.blocks-blocks.result = omega (arith, c.blocks-blocks.ensures, c.requires.enough) in
     let few : c.blocks-blocks.result ≤ 4099 = omega (arith, c.blocks-blocks.ensures, c.requires.few) in
     let fits : 21 + length c.args.first.now ≤ bank_size c.blocks-blocks.result = subst (λ (n : ℕ). 21 + length c.args.first.now ≤ bank_size n) (sym c.blocks-blocks.ensures) c.requires.fits in
-    format_blank c.args.unit c.blocks-blocks.result enough few (image c.args.unit (g.H.Host.outside c.sync.new.self).now) c.args.first.now (g.met.H.Host.sized c.sync.new.self c.args.unit t ∙ ap (λ (n : ℕ). n * 4096) (c.sync.ensures.alone.cards.blocks c.args.unit ∙ sym c.blocks-blocks.ensures)) fits _ c.start-start.ensures (g.H.Host.outside c.begin_bank.new.host).now (c.in_ok-begin_bank.ensures.begun t)
+    format_blank c.args.unit c.blocks-blocks.result enough few (image c.args.unit (g.H.Host.outside c.sync.new.self).now) c.args.first.now (g.met.H.Host.sized c.sync.new.self c.args.unit t ∙ ap (λ (n : ℕ). n * 4096) (c.sync.ensures.call.alone.cards.blocks c.args.unit ∙ sym c.blocks-blocks.ensures)) fits _ c.start-start.ensures (g.H.Host.outside c.begin_bank.new.host).now (c.in_ok-begin_bank.ensures.begun t)
 
 pub returns-in_err-program_piece-clause-writes : goal.returns-in_err-program_piece-clause-writes
 returns-in_err-program_piece-clause-writes g c = record {
   any_moment = λ t.
+      let u = c.args.unit in
+      let old = (g.H.Host.outside c.args.host.now).now in
+      let n = bank_start c.blocks-blocks.result 1 in
+      let may = may_leave u c.blocks-blocks.result (g.H.Host.outside c.args.host.now)
+      (g.met.H.Host.none c.args.host.now u) c.blocks-blocks.ensures
+      (omega (arith, c.blocks-blocks.ensures, c.requires.enough)) (g.met.H.Host.history c.args.host.now u t) in
       let enough : 13 ≤ c.blocks-blocks.result = omega (arith, c.blocks-blocks.ensures, c.requires.enough) in
       let few : c.blocks-blocks.result ≤ 4099 = omega (arith, c.blocks-blocks.ensures, c.requires.few) in
       let fits : 21 + length c.args.first.now ≤ bank_size c.blocks-blocks.result = subst (λ (n : ℕ). 21 + length c.args.first.now ≤ bank_size n) (sym c.blocks-blocks.ensures) c.requires.fits in
-      Leaves-append (Leaves-append (a_sync (no_call c.args.unit (g.H.Host.outside c.args.host.now).now) (c.sync.ensures.synced t)) (anything (c.begin_bank.ensures.writes.any_moment t))) (format_any c.args.unit c.blocks-blocks.result enough few (image c.args.unit (g.H.Host.outside c.sync.new.self).now) c.args.first.now (g.met.H.Host.sized c.sync.new.self c.args.unit t ∙ ap (λ (n : ℕ). n * 4096) (c.sync.ensures.alone.cards.blocks c.args.unit ∙ sym c.blocks-blocks.ensures)) fits _ c.start-start.ensures (g.H.Host.outside c.begin_bank.new.host).now (c.in_ok-begin_bank.ensures.begun t) (c.program_piece.ensures.wrote t));
+      let size = g.met.H.Host.sized c.sync.new.self c.args.unit t ∙ ap (λ (n : ℕ). n * 4096) (c.sync.ensures.call.alone.cards.blocks c.args.unit ∙ sym c.blocks-blocks.ensures) in
+      front_is c.blocks-blocks.ensures (then_front u n old may (c.sync.ensures.synced t)
+      (front_written u c.blocks-blocks.result enough few (image u (g.H.Host.outside c.sync.new.self).now) c.args.first.now size fits _ c.start-start.ensures (g.H.Host.outside c.begin_bank.new.host).now (c.in_ok-begin_bank.ensures.begun t) (c.begin_bank.ensures.writes.any_moment t) (c.program_piece.ensures.wrote t)));
   alone = search rules;
   costs = search rules;
-  cause = search rules;
+  wears = search rules;
+  faults = search rules;
 }
 
 pub returns-in_err-sync-2-clause-writes : goal.returns-in_err-sync-2-clause-writes
 returns-in_err-sync-2-clause-writes g c = record {
   any_moment = λ t.
+      let u = c.args.unit in
+      let old = (g.H.Host.outside c.args.host.now).now in
+      let n = bank_start c.blocks-blocks.result 1 in
+      let may = may_leave u c.blocks-blocks.result (g.H.Host.outside c.args.host.now)
+      (g.met.H.Host.none c.args.host.now u) c.blocks-blocks.ensures
+      (omega (arith, c.blocks-blocks.ensures, c.requires.enough)) (g.met.H.Host.history c.args.host.now u t) in
       let enough : 13 ≤ c.blocks-blocks.result = omega (arith, c.blocks-blocks.ensures, c.requires.enough) in
       let few : c.blocks-blocks.result ≤ 4099 = omega (arith, c.blocks-blocks.ensures, c.requires.few) in
       let fits : 21 + length c.args.first.now ≤ bank_size c.blocks-blocks.result = subst (λ (n : ℕ). 21 + length c.args.first.now ≤ bank_size n) (sym c.blocks-blocks.ensures) c.requires.fits in
-      a_sync (Leaves-append (Leaves-append (a_sync (no_call c.args.unit (g.H.Host.outside c.args.host.now).now) (c.sync.ensures.synced t)) (anything (c.begin_bank.ensures.writes.any_moment t))) (format_any c.args.unit c.blocks-blocks.result enough few (image c.args.unit (g.H.Host.outside c.sync.new.self).now) c.args.first.now (g.met.H.Host.sized c.sync.new.self c.args.unit t ∙ ap (λ (n : ℕ). n * 4096) (c.sync.ensures.alone.cards.blocks c.args.unit ∙ sym c.blocks-blocks.ensures)) fits _ c.start-start.ensures (g.H.Host.outside c.begin_bank.new.host).now (c.in_ok-begin_bank.ensures.begun t) (c.program_piece.ensures.wrote t))) (c.sync-2.ensures.synced t);
+      let size = g.met.H.Host.sized c.sync.new.self c.args.unit t ∙ ap (λ (n : ℕ). n * 4096) (c.sync.ensures.call.alone.cards.blocks c.args.unit ∙ sym c.blocks-blocks.ensures) in
+      front_is c.blocks-blocks.ensures (then_front u n old may (c.sync.ensures.synced t)
+      (front_sure u c.blocks-blocks.result enough few (image u (g.H.Host.outside c.sync.new.self).now) c.args.first.now size fits _ c.start-start.ensures (g.H.Host.outside c.begin_bank.new.host).now (c.in_ok-begin_bank.ensures.begun t) (c.in_ok-program_piece.ensures.wrote t) (c.begin_bank.ensures.writes.any_moment t) (c.sync-2.ensures.synced t)));
   alone = search rules;
   costs = search rules;
-  cause = search rules;
+  wears = search rules;
+  faults = search rules;
 }
 
 pub returns-in_err-cast_votes-clause-writes : goal.returns-in_err-cast_votes-clause-writes
 returns-in_err-cast_votes-clause-writes g c = record {
   any_moment = λ t.
+      let u = c.args.unit in
+      let old = (g.H.Host.outside c.args.host.now).now in
+      let n = bank_start c.blocks-blocks.result 1 in
+      let may = may_leave u c.blocks-blocks.result (g.H.Host.outside c.args.host.now)
+      (g.met.H.Host.none c.args.host.now u) c.blocks-blocks.ensures
+      (omega (arith, c.blocks-blocks.ensures, c.requires.enough)) (g.met.H.Host.history c.args.host.now u t) in
       let enough : 13 ≤ c.blocks-blocks.result = omega (arith, c.blocks-blocks.ensures, c.requires.enough) in
       let few : c.blocks-blocks.result ≤ 4099 = omega (arith, c.blocks-blocks.ensures, c.requires.few) in
       let fits : 21 + length c.args.first.now ≤ bank_size c.blocks-blocks.result = subst (λ (n : ℕ). 21 + length c.args.first.now ≤ bank_size n) (sym c.blocks-blocks.ensures) c.requires.fits in
-      Leaves-append (a_sync (Leaves-append (Leaves-append (a_sync (no_call c.args.unit (g.H.Host.outside c.args.host.now).now) (c.sync.ensures.synced t)) (anything (c.begin_bank.ensures.writes.any_moment t))) (format_any c.args.unit c.blocks-blocks.result enough few (image c.args.unit (g.H.Host.outside c.sync.new.self).now) c.args.first.now (g.met.H.Host.sized c.sync.new.self c.args.unit t ∙ ap (λ (n : ℕ). n * 4096) (c.sync.ensures.alone.cards.blocks c.args.unit ∙ sym c.blocks-blocks.ensures)) fits _ c.start-start.ensures (g.H.Host.outside c.begin_bank.new.host).now (c.in_ok-begin_bank.ensures.begun t) (c.program_piece.ensures.wrote t))) (c.sync-2.ensures.synced t)) (anything (c.cast_votes.ensures.writes.any_moment t));
+      let size = g.met.H.Host.sized c.sync.new.self c.args.unit t ∙ ap (λ (n : ℕ). n * 4096) (c.sync.ensures.call.alone.cards.blocks c.args.unit ∙ sym c.blocks-blocks.ensures) in
+      front_is c.blocks-blocks.ensures (then_front u n old may (c.sync.ensures.synced t)
+      (front_voted u c.blocks-blocks.result enough few (image u (g.H.Host.outside c.sync.new.self).now) c.args.first.now size fits _ c.start-start.ensures (g.H.Host.outside c.begin_bank.new.host).now (c.in_ok-begin_bank.ensures.begun t) (c.in_ok-program_piece.ensures.wrote t) (c.begin_bank.ensures.writes.any_moment t) (c.in_ok-sync-2.ensures.synced t) (c.cast_votes.ensures.writes.any_moment t)));
   alone = search rules;
   costs = search rules;
-  cause = search rules;
+  wears = search rules;
+  faults = search rules;
 }
 
 pub returns-clause-writes : goal.returns-clause-writes
 returns-clause-writes g c = record {
   any_moment = λ t.
+      let u = c.args.unit in
+      let old = (g.H.Host.outside c.args.host.now).now in
+      let n = bank_start c.blocks-blocks.result 1 in
+      let may = may_leave u c.blocks-blocks.result (g.H.Host.outside c.args.host.now)
+      (g.met.H.Host.none c.args.host.now u) c.blocks-blocks.ensures
+      (omega (arith, c.blocks-blocks.ensures, c.requires.enough)) (g.met.H.Host.history c.args.host.now u t) in
       let enough : 13 ≤ c.blocks-blocks.result = omega (arith, c.blocks-blocks.ensures, c.requires.enough) in
       let few : c.blocks-blocks.result ≤ 4099 = omega (arith, c.blocks-blocks.ensures, c.requires.few) in
       let fits : 21 + length c.args.first.now ≤ bank_size c.blocks-blocks.result = subst (λ (n : ℕ). 21 + length c.args.first.now ≤ bank_size n) (sym c.blocks-blocks.ensures) c.requires.fits in
-      Leaves-append (a_sync (Leaves-append (Leaves-append (a_sync (no_call c.args.unit (g.H.Host.outside c.args.host.now).now) (c.sync.ensures.synced t)) (anything (c.begin_bank.ensures.writes.any_moment t))) (format_any c.args.unit c.blocks-blocks.result enough few (image c.args.unit (g.H.Host.outside c.sync.new.self).now) c.args.first.now (g.met.H.Host.sized c.sync.new.self c.args.unit t ∙ ap (λ (n : ℕ). n * 4096) (c.sync.ensures.alone.cards.blocks c.args.unit ∙ sym c.blocks-blocks.ensures)) fits _ c.start-start.ensures (g.H.Host.outside c.begin_bank.new.host).now (c.in_ok-begin_bank.ensures.begun t) (c.program_piece.ensures.wrote t))) (c.sync-2.ensures.synced t)) (anything (c.cast_votes.ensures.writes.any_moment t));
+      let size = g.met.H.Host.sized c.sync.new.self c.args.unit t ∙ ap (λ (n : ℕ). n * 4096) (c.sync.ensures.call.alone.cards.blocks c.args.unit ∙ sym c.blocks-blocks.ensures) in
+      front_is c.blocks-blocks.ensures (then_front u n old may (c.sync.ensures.synced t)
+      (front_voted u c.blocks-blocks.result enough few (image u (g.H.Host.outside c.sync.new.self).now) c.args.first.now size fits _ c.start-start.ensures (g.H.Host.outside c.begin_bank.new.host).now (c.in_ok-begin_bank.ensures.begun t) (c.in_ok-program_piece.ensures.wrote t) (c.begin_bank.ensures.writes.any_moment t) (c.in_ok-sync-2.ensures.synced t) (c.cast_votes.ensures.writes.any_moment t)));
   alone = search rules;
   costs = search rules;
-  cause = search rules;
+  wears = search rules;
+  faults = search rules;
 }
-
-pub returns-clause-one : goal.returns-clause-one
-returns-clause-one g c t =
-    let enough : 13 ≤ c.blocks-blocks.result = omega (arith, c.blocks-blocks.ensures, c.requires.enough) in
-    let few : c.blocks-blocks.result ≤ 4099 = omega (arith, c.blocks-blocks.ensures, c.requires.few) in
-    let fits : 21 + length c.args.first.now ≤ bank_size c.blocks-blocks.result = subst (λ (n : ℕ). 21 + length c.args.first.now ≤ bank_size n) (sym c.blocks-blocks.ensures) c.requires.fits in
-    format_one c.args.unit c.blocks-blocks.result enough few (image c.args.unit (g.H.Host.outside c.sync.new.self).now) c.args.first.now (g.met.H.Host.sized c.sync.new.self c.args.unit t ∙ ap (λ (n : ℕ). n * 4096) (c.sync.ensures.alone.cards.blocks c.args.unit ∙ sym c.blocks-blocks.ensures)) fits _ c.start-start.ensures (g.H.Host.outside c.begin_bank.new.host).now (c.in_ok-begin_bank.ensures.begun t) (c.in_ok-program_piece.ensures.wrote t) (c.in_ok-sync-2.ensures.synced t) (g.H.Host.outside c.cast_votes.new.host).now (c.in_ok-cast_votes.ensures.alike t) (c.in_ok-cast_votes.ensures.kept t)
-
-pub returns-clause-blank : goal.returns-clause-blank
-returns-clause-blank g c t =
-    let enough : 13 ≤ c.blocks-blocks.result = omega (arith, c.blocks-blocks.ensures, c.requires.enough) in
-    let few : c.blocks-blocks.result ≤ 4099 = omega (arith, c.blocks-blocks.ensures, c.requires.few) in
-    let fits : 21 + length c.args.first.now ≤ bank_size c.blocks-blocks.result = subst (λ (n : ℕ). 21 + length c.args.first.now ≤ bank_size n) (sym c.blocks-blocks.ensures) c.requires.fits in
-    format_tail c.args.unit c.blocks-blocks.result enough few (image c.args.unit (g.H.Host.outside c.sync.new.self).now) c.args.first.now (g.met.H.Host.sized c.sync.new.self c.args.unit t ∙ ap (λ (n : ℕ). n * 4096) (c.sync.ensures.alone.cards.blocks c.args.unit ∙ sym c.blocks-blocks.ensures)) fits _ c.start-start.ensures (g.H.Host.outside c.begin_bank.new.host).now (c.in_ok-begin_bank.ensures.begun t) (c.in_ok-program_piece.ensures.wrote t) (c.in_ok-sync-2.ensures.synced t) (g.H.Host.outside c.cast_votes.new.host).now (c.in_ok-cast_votes.ensures.alike t) (c.in_ok-cast_votes.ensures.kept t) ∙ ap (λ (n : ℕ). replicate (bank_size n - 21 - length c.args.first.now) 255) c.blocks-blocks.ensures
 
 pub returns-clause-journal : goal.returns-clause-journal
 returns-clause-journal g c =
@@ -98,10 +138,26 @@ returns-clause-journal g c =
     let few : c.blocks-blocks.result ≤ 4099 = omega (arith, c.blocks-blocks.ensures, c.requires.few) in
     let fits : 21 + length c.args.first.now ≤ bank_size c.blocks-blocks.result = subst (λ (n : ℕ). 21 + length c.args.first.now ≤ bank_size n) (sym c.blocks-blocks.ensures) c.requires.fits in (
       record {
-        has = same_cards c.cast_votes.ensures.writes.alone.cards (same_cards c.sync-2.ensures.alone.cards (same_cards c.program_piece.ensures.writes.alone.cards (same_cards c.begin_bank.ensures.writes.alone.cards (same_cards c.sync.ensures.alone.cards (has_blocks c.args.unit c.blocks-blocks.result (g.H.Host.outside c.args.host.now) (g.met.H.Host.none c.args.host.now c.args.unit) c.blocks-blocks.ensures enough)))));
-        held = λ t. format_stands c.args.unit c.blocks-blocks.result enough few (image c.args.unit (g.H.Host.outside c.sync.new.self).now) c.args.first.now (g.met.H.Host.sized c.sync.new.self c.args.unit t ∙ ap (λ (n : ℕ). n * 4096) (c.sync.ensures.alone.cards.blocks c.args.unit ∙ sym c.blocks-blocks.ensures)) fits _ c.start-start.ensures (g.H.Host.outside c.begin_bank.new.host).now (c.in_ok-begin_bank.ensures.begun t) (c.in_ok-program_piece.ensures.wrote t) (c.in_ok-sync-2.ensures.synced t) (g.H.Host.outside c.cast_votes.new.host).now (c.in_ok-cast_votes.ensures.alike t) (c.in_ok-cast_votes.ensures.kept t) _ refl refl refl refl (c.in_ok-cast_votes.ensures.durable t);
+        has = same_cards c.cast_votes.ensures.writes.alone.cards (same_cards c.sync-2.ensures.call.alone.cards (same_cards c.program_piece.ensures.writes.alone.cards (same_cards c.begin_bank.ensures.writes.alone.cards (same_cards c.sync.ensures.call.alone.cards (has_blocks c.args.unit c.blocks-blocks.result (g.H.Host.outside c.args.host.now) (g.met.H.Host.none c.args.host.now c.args.unit) c.blocks-blocks.ensures enough)))));
+        held = λ t. format_stands c.args.unit c.blocks-blocks.result enough few (image c.args.unit (g.H.Host.outside c.sync.new.self).now) c.args.first.now (g.met.H.Host.sized c.sync.new.self c.args.unit t ∙ ap (λ (n : ℕ). n * 4096) (c.sync.ensures.call.alone.cards.blocks c.args.unit ∙ sym c.blocks-blocks.ensures)) fits _ c.start-start.ensures (g.H.Host.outside c.begin_bank.new.host).now (c.in_ok-begin_bank.ensures.begun t) (c.in_ok-program_piece.ensures.wrote t) (c.in_ok-sync-2.ensures.synced t) (g.H.Host.outside c.cast_votes.new.host).now (c.in_ok-cast_votes.ensures.alike t) (c.in_ok-cast_votes.ensures.kept t) _ refl refl refl refl (c.in_ok-cast_votes.ensures.durable t);
       },
       refl,
       refl,
       refl,
     )
+
+pub returns-clause-fresh : goal.returns-clause-fresh
+returns-clause-fresh g c t = record {
+  one =
+      let enough : 13 ≤ c.blocks-blocks.result = omega (arith, c.blocks-blocks.ensures, c.requires.enough) in
+      let few : c.blocks-blocks.result ≤ 4099 = omega (arith, c.blocks-blocks.ensures, c.requires.few) in
+      let fits : 21 + length c.args.first.now ≤ bank_size c.blocks-blocks.result = subst (λ (n : ℕ). 21 + length c.args.first.now ≤ bank_size n) (sym c.blocks-blocks.ensures) c.requires.fits in
+      format_one c.args.unit c.blocks-blocks.result enough few (image c.args.unit (g.H.Host.outside c.sync.new.self).now) c.args.first.now (g.met.H.Host.sized c.sync.new.self c.args.unit t ∙ ap (λ (n : ℕ). n * 4096) (c.sync.ensures.call.alone.cards.blocks c.args.unit ∙ sym c.blocks-blocks.ensures)) fits _ c.start-start.ensures (g.H.Host.outside c.begin_bank.new.host).now (c.in_ok-begin_bank.ensures.begun t) (c.in_ok-program_piece.ensures.wrote t) (c.in_ok-sync-2.ensures.synced t) (g.H.Host.outside c.cast_votes.new.host).now (c.in_ok-cast_votes.ensures.alike t) (c.in_ok-cast_votes.ensures.kept t);
+  alike = c.in_ok-cast_votes.ensures.alike t;
+  blank =
+      let enough : 13 ≤ c.blocks-blocks.result = omega (arith, c.blocks-blocks.ensures, c.requires.enough) in
+      let few : c.blocks-blocks.result ≤ 4099 = omega (arith, c.blocks-blocks.ensures, c.requires.few) in
+      let fits : 21 + length c.args.first.now ≤ bank_size c.blocks-blocks.result = subst (λ (n : ℕ). 21 + length c.args.first.now ≤ bank_size n) (sym c.blocks-blocks.ensures) c.requires.fits in
+      format_tail c.args.unit c.blocks-blocks.result enough few (image c.args.unit (g.H.Host.outside c.sync.new.self).now) c.args.first.now (g.met.H.Host.sized c.sync.new.self c.args.unit t ∙ ap (λ (n : ℕ). n * 4096) (c.sync.ensures.call.alone.cards.blocks c.args.unit ∙ sym c.blocks-blocks.ensures)) fits _ c.start-start.ensures (g.H.Host.outside c.begin_bank.new.host).now (c.in_ok-begin_bank.ensures.begun t) (c.in_ok-program_piece.ensures.wrote t) (c.in_ok-sync-2.ensures.synced t) (g.H.Host.outside c.cast_votes.new.host).now (c.in_ok-cast_votes.ensures.alike t) (c.in_ok-cast_votes.ensures.kept t) ∙ ap (λ (n : ℕ). replicate (bank_size n - 21 - length c.args.first.now) 255) c.blocks-blocks.ensures;
+  durable = c.in_ok-cast_votes.ensures.durable t;
+}

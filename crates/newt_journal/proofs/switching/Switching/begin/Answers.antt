@@ -11,7 +11,8 @@ returns-in_err-begin_bank-clause-writes g c = record {
       Leaves-weaken (begin_same c.args.journal c.args.len (g.H.Host.outside c.args.host.now).now (c.requires.stands.held t) c.other.result c.other.ensures) (c.begin_bank.ensures.writes.any_moment t);
   alone = search rules;
   costs = search rules;
-  cause = search rules;
+  wears = search rules;
+  faults = search rules;
 }
 
 pub returns-clause-draft : goal.returns-clause-draft
@@ -36,5 +37,6 @@ returns-clause-writes g c = record {
       Leaves-weaken (begin_same c.args.journal c.args.len (g.H.Host.outside c.args.host.now).now (c.requires.stands.held t) c.other.result c.other.ensures) (c.begin_bank.ensures.writes.any_moment t);
   alone = search rules;
   costs = search rules;
-  cause = search rules;
+  wears = search rules;
+  faults = search rules;
 }

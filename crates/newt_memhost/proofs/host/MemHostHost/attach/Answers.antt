@@ -8,7 +8,8 @@ use Rattle.newt_memhost.specs.Log.{now_of}
 use Rattle.newt_memhost.specs.Outside.{outside_of}
 use Rattle.newt_memhost.specs.declared.card.Device.{Device}
 use Rattle.newt_memhost.proofs.Cards.{eight-set, read-free, told-attach}
-use Rattle.newt_memhost.proofs.Devices.{unknown, found, attaches, same_counts}
+use Rattle.newt_memhost.proofs.Devices.{unknown, found, attaches, attach_call}
+use Rattle.newt_memhost.proofs.Quiet.{same-counts}
 use Rattle.newt_memhost.proofs.host.MemHostHost.attach.Goals as goal
 
 pub returns-in_default : goal.returns-in_default
@@ -17,13 +18,8 @@ returns-in_default c = record {
       (ap (λ (n : List ℕ). free_device n c.args.self.now.shelf.items) (sym c.as_bytes.ensures.value) ∙ ap (λ (s : List Device). free_device c.as_bytes.result.now s) (sym c.deref.ensures.value) ∙ c.in_default.ensures);
   attached = λ so. absurd (false≢true so);
   refused = λ no. (SameCards-refl (outside_of c.args.self.now), refl);
-  input = refl;
-  in_faults = refl;
-  out_faults = refl;
-  counts = record { dev_faults = λ u. refl; programmed = λ u. refl; fetched = λ u. refl };
-  room = λ calls more has. has;
-  numbers = refl;
-  plan = record { failing = refl; most = refl };
+  call = record { input = refl; counts = same-counts c.args.self.now.cards c.args.self.now.shelf.items c.args.self.now.shelf.items; in_faults = refl; out_faults = refl };
+  kept = record { room = λ calls more has. has; numbers = refl; plan = record { failing = refl; most = refl } };
 }
 
 pub remove-device-requires : goal.remove-device-requires
@@ -79,17 +75,16 @@ returns c =
       known = found c.args.name.now cards shelf _ c.unit.inside.0 c.args.unit c.in-Some.place _ _ d c.unit.view_is there.0 there.1 c.requires.once place moved c.remove-device.ensures.items (now_of c.args.self.now.log) (now_of c.give.new.log) event;
       attached = λ so. attaches c.args.name.now cards shelf _ c.unit.inside.0 c.args.unit c.in-Some.place _ _ d c.unit.view_is there.0 there.1 c.requires.once place moved c.remove-device.ensures.items (now_of c.args.self.now.log) (now_of c.give.new.log) event _ _ _;
       refused = λ no. absurd (false≢true (sym no));
-      input = refl;
-      in_faults = refl;
-      out_faults = refl;
-      counts = same_counts c.args.name.now cards shelf _ c.unit.inside.0 c.args.unit c.in-Some.place _ _ d c.unit.view_is there.0 there.1 c.requires.once place moved c.remove-device.ensures.items (now_of c.args.self.now.log) (now_of c.give.new.log) event _ _ _;
-      room = λ calls more has. record {
-        log_fits = record {
-          entries_fit = omega (arith, has.log_fits.entries_fit, c.remove-device.ensures.len, c.give.ensures.entries, c.give.ensures.more_entries);
-          bytes_fit = subst (λ (s : Vec ℕ Global). vec_len s + more ≤ vec_capacity s) (sym c.give.ensures.store) has.log_fits.bytes_fit;
+      call = attach_call c.args.name.now cards shelf _ c.unit.inside.0 c.args.unit c.in-Some.place _ _ d c.unit.view_is there.0 there.1 c.requires.once place moved c.remove-device.ensures.items (now_of c.args.self.now.log) (now_of c.give.new.log) event _ _ _;
+      kept = record {
+        room = λ calls more has. record {
+          log_fits = record {
+            entries_fit = omega (arith, has.log_fits.entries_fit, c.remove-device.ensures.len, c.give.ensures.entries, c.give.ensures.more_entries);
+            bytes_fit = subst (λ (s : Vec ℕ Global). vec_len s + more ≤ vec_capacity s) (sym c.give.ensures.store) has.log_fits.bytes_fit;
+          };
+          output_fits = has.output_fits;
         };
-        output_fits = has.output_fits;
+        numbers = c.give.ensures.calls;
+        plan = record { failing = refl; most = refl };
       };
-      numbers = c.give.ensures.calls;
-      plan = record { failing = refl; most = refl };
     }

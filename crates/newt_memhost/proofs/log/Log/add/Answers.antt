@@ -1,4 +1,4 @@
-use Rattle.std.proofs.Common.{◌≡◌, ℕ, ◌+◌, List, [], ◌∷◌, ◌++◌, length, ap, ◌∙◌, arith, length-append}
+use Rattle.std.proofs.Common.{◌≡◌, ℕ, ◌+◌, List, [], ◌∷◌, ◌++◌, length, refl, ap, ◌∙◌, arith, length-append}
 use Rattle.newt_memhost.proofs.Logs.{moment-push, total-push, calls-push, calls-le}
 use Rattle.newt_memhost.specs.Happened.{calls_in, total, counts, moment_of}
 use Rattle.newt_memhost.specs.declared.happened.Happened.{Happened}
@@ -19,8 +19,13 @@ invariant_of-self c = record {
       ∙ omega (arith, c.args.self.now.used, c.requires.its, ap length c.extend.ensures.items, length-append c.args.self.now.store.items c.args.bytes.now);
 }
 
-pub returns-clause-moment : goal.returns-clause-moment
-returns-clause-moment c =
-    ap (λ (l : List Happened). moment_of l c.extend.new.store.items) c.push.ensures.items
-    ∙ ap (λ (l : List ℕ). moment_of (c.args.self.now.entries.items ++ c.args.entry ∷ []) l) c.extend.ensures.items
-    ∙ moment-push [] c.args.self.now.entries.items c.args.self.now.store.items c.args.entry c.args.bytes.now c.args.self.now.used c.requires.its
+pub returns : goal.returns
+returns c = record {
+  entries = c.push.ensures.items;
+  store = c.extend.ensures.items;
+  calls = refl;
+  moment = ap (λ (l : List Happened). moment_of l c.extend.new.store.items) c.push.ensures.items
+      ∙ ap (λ (l : List ℕ). moment_of (c.args.self.now.entries.items ++ c.args.entry ∷ []) l) c.extend.ensures.items
+      ∙ moment-push [] c.args.self.now.entries.items c.args.self.now.store.items c.args.entry c.args.bytes.now c.args.self.now.used c.requires.its;
+  more = record { entries = c.push.ensures.more; store = c.extend.ensures.more };
+}

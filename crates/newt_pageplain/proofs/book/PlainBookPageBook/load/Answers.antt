@@ -1,15 +1,28 @@
-use Rattle.std.proofs.Common.{sym, ◌∙◌, ap}
+use Rattle.std.proofs.Common.{refl, sym, ◌∙◌, ap, rules}
 use Rattle.std.specs.FinMap as map
+use Rattle.newt_host.proofs.Outside.{OnlyReads-refl}
 use Rattle.newt_spec_image.specs.Pages.{Pages}
 use Rattle.newt_pagebook.proofs.Tests.{some_inj}
 use Rattle.newt_pagelog.specs.Kept.{map_of, get_map, kept_number}
+use Rattle.newt_pagelog.proofs.Ending.{counted-nothing, spent-nothing}
 use Rattle.newt_pageplain.proofs.book.PlainBookPageBook.load.Goals as goal
 
-pub returns-clause-shown : goal.returns-clause-shown
-returns-clause-shown g c =
+pub returns : goal.returns
+returns g c =
     let entries = c.args.self.now.pages.entries in
     let number = c.args.number in
+    let outside = g.H.Host.outside c.args._host.now in
+    let u = c.args.self.now.unit in
     record {
-      at_hand = sym (kept_number entries number) ∙ c.requires.live;
-      is_page = λ tells live is. ap (λ (m : Pages). map.get m number) (some_inj live (map_of entries) (sym is ∙ c.requires.book.holds tells)) ∙ get_map entries number;
+      page = record {
+        at_hand = sym (kept_number entries number) ∙ c.requires.live;
+        is_page = λ tells live is. ap (λ (m : Pages). map.get m number) (some_inj live (map_of entries) (sym is ∙ c.requires.book.holds tells)) ∙ get_map entries number;
+      };
+      stands = c.requires.book;
+      same_place = refl;
+      same_numbers = refl;
+      same_spare = refl;
+      reads = OnlyReads-refl u outside;
+      costs = spent-nothing u 0 512 outside;
+      faults = counted-nothing tt (outside.dev_faults u);
     }

@@ -1,37 +1,147 @@
-use Rattle.std.proofs.Common.{◌≡◌, inl, ℕ, List, refl, sym, ◌∙◌, ap, subst}
-use Rattle.newt_host.specs.Moments.{image}
+use Rattle.std.proofs.Common.{IsTrue, ◌≡◌, inl, ℕ, ◌+◌, ◌*◌, max, Bool, List, Some, Result, Err, refl, sym, ◌∙◌, ap, subst}
+use Rattle.std.specs.FinSet as set
+use Rattle.newt_host.specs.Moments.{Moment, image}
+use Rattle.newt_host.specs.Outside.{Outside}
+use Rattle.newt_host.proofs.Outside.{NoFault-refl, Spends-refl, Touches-no_fault, Touches-refl, Wears-refl}
 use Rattle.newt_host.proofs.Moments.{Leaves-start}
-use Rattle.newt_spec_image.specs.Pages.{pages}
-use Rattle.newt_pagebook.specs.Book.{IsBeforeOrAfter}
+use Rattle.newt_spec_image.specs.Records.{bank_blocks}
+use Rattle.newt_spec_image.specs.Pages.{Change, pages, cap}
+use Rattle.newt_journal.specs.declared.journal.Journal.{Journal}
+use Rattle.newt_pagebook.specs.Book.{IsBeforeOrAfter, IsOpenFor, ReadsChanged, batch_bytes, changed_numbers, switch_bytes}
+use Rattle.newt_pagebook.specs.declared.book.CommitFault.{CommitFault}
+use Rattle.newt_pagebook.specs.declared.book.CommitFault.TheVariants.{Full, Device}
+use Rattle.newt_pagebook.proofs.Tests.{some_inj}
+use Rattle.newt_pagelog.specs.Kept.{numbers_in}
 use Rattle.newt_pagelog.specs.Placed.{HoldsAt}
+use Rattle.newt_pagelog.proofs.Failing.{not-err, more-named, not-more}
+use Rattle.newt_pagelog.proofs.Ending.{done-at, spent-nothing, worn-nothing}
 use Rattle.newt_pages.specs.Disk.{EachIsPageAtPlace, tells_with}
-use Rattle.newt_pages.proofs.Caching.{its-on, its-caches-on}
+use Rattle.newt_pages.proofs.Caching.{its-caches-on}
 use Rattle.newt_pages.proofs.book.DiskBookPageBook.commit.Goals as goal
 
-pub returns-then-live-cap-clause-any_moment : goal.returns-then-live-cap-clause-any_moment
-returns-then-live-cap-clause-any_moment g c =
-    let o = g.H.Host.outside in
+full-not-device : {T : Type 0} (r : Result T CommitFault) → r ≡ Err Full → r ≡ Err Device → ⊥
+full-not-device r is so = (cc)
+
+pub returns-then-live-cap : goal.returns-then-live-cap
+returns-then-live-cap g c =
+    let o = g.H.Host.outside c.args.host.now in
     let b = c.args.self.now in
-    let img = image b.unit (o c.args.host.now).now in
-    λ tells. Leaves-start {P = IsBeforeOrAfter c.args.batch.now img} (λ left may. inl (ap (λ (l : List ℕ). pages l) ((tells_with g.H.Host.told b.unit b.journal b.places.entries b.cache.entries (o c.args.host.now) c.requires.book tells).1 left may)))
+    let u = b.unit in
+    let batch = c.args.batch.now in
+    let img = image u o.now in
+    let live = set.len (changed_numbers batch (numbers_in b.places.entries)) in
+    record {
+      stands = tt;
+      same_place = refl;
+      numbers_are = tt;
+      committed = λ tells. tt;
+      any_moment = λ tells. Leaves-start {P = IsBeforeOrAfter batch img} (λ left may. inl (ap (λ (l : List ℕ). pages l) ((tells_with g.H.Host.told u b.journal b.places.entries b.cache.entries o c.requires.book tells).1 left may)));
+      full = λ is. more-named c.live_after-live.result c.cap.result _ _ c.live_after-live.ensures (c.cap.ensures ∙ ap cap c.blocks-2.ensures) c.if-live-cap.true;
+      fits = λ more. refl;
+      unchanged = λ is. record {
+        stands = c.requires.book;
+        same_numbers = refl;
+        same_page = refl;
+        same_spare = refl;
+        moment = refl;
+        costs = Spends-refl u o;
+        wears = Wears-refl u o;
+        no_fault = NoFault-refl o;
+      };
+      bound = λ tells free. spent-nothing u (batch_bytes batch) 0 o;
+      wears = λ tells free. worn-nothing u 0 2 o;
+      most = spent-nothing u (max (batch_bytes batch) (switch_bytes live)) (4 + 512 * live) o;
+      wears_most = worn-nothing u (bank_blocks (o.blocks u) + 6) 14 o;
+      open_after = λ tells. tt;
+      alone = Touches-refl u o;
+      cause = λ bad. absurd (full-not-device _ refl bad);
+      no_fault = tt;
+    }
 
 pub commit_with-requires-clause-caches : goal.commit_with-requires-clause-caches
 commit_with-requires-clause-caches g c = λ tells.
     let b = c.args.self.now in
     its-caches-on g.H.Host.told b.unit b.journal b.places.entries b.cache.entries (g.H.Host.outside c.args.host.now) c.requires.book c.in-Some.journal (sym c.in-Some.ensures.value) tells
 
-pub returns-in-Ok-clause-book : goal.returns-in-Ok-clause-book
-returns-in-Ok-clause-book g c =
+pub returns-in-Ok : goal.returns-in-Ok
+returns-in-Ok g c =
     let o = g.H.Host.outside in
+    let told = g.H.Host.told in
     let b = c.args.self.now in
-    let on : c.in-Some.journal.unit ≡ b.unit = its-on g.H.Host.told b.unit b.journal b.places.entries b.cache.entries (o c.args.host.now) c.requires.book c.in-Some.journal (sym c.in-Some.ensures.value) in
+    let u = b.unit in
+    let s = c.requires.book in
+    let batch : Change = c.args.batch.now in
+    let same : c.in-Some.journal ≡ s.its = some_inj c.in-Some.journal s.its (c.in-Some.ensures.value ∙ s.is) in
+    let on : c.in-Some.journal.unit ≡ u = ap (λ (j : Journal). j.unit) same ∙ s.on in
+    let before : Outside = o c.args.host.now in
+    let old : Moment = before.now in
+    let new : Moment = (o c.commit_with.new.host).now in
+    let live = set.len (changed_numbers batch (numbers_in b.places.entries)) in
+    let count = ap before.blocks (ap (λ (j : Journal). j.unit) same) ∙ s.stands.has.count ∙ ap (λ (j : Journal). j.blocks) (sym same) in
+    let limit : c.cap.result ≡ cap (before.blocks u) = c.cap.ensures ∙ ap cap c.blocks-2.ensures in
+    let e = c.in-Ok.ensures in
     let k = c.in-Ok.journal in
+    let done = done-at c.in-Some.journal.unit u c.in-Some.journal.blocks live on count e.commits.writes e.appends in
     record {
-      its = k;
-      is = refl;
-      stands = c.in-Ok.ensures.book.stands;
-      on = c.in-Ok.ensures.commits.stands.1 ∙ on;
-      placed = c.in-Ok.ensures.book.placed;
-      holds = λ tells. subst (λ (u : ℕ). HoldsAt k (image u (o c.commit_with.new.host).now) c.commit_with.new.places.entries) (c.in-Ok.ensures.commits.stands.1 ∙ on) (c.in-Ok.ensures.book.holds tells);
-      caches = λ tells. subst (λ (u : ℕ). EachIsPageAtPlace k (image u (o c.commit_with.new.host).now) c.commit_with.new.cache.entries) on (c.in-Ok.ensures.caches tells);
+      stands = record {
+        its = k;
+        is = refl;
+        stands = e.takes.book.stands;
+        on = e.commits.stands.1 ∙ on;
+        placed = e.takes.book.placed;
+        holds = λ tells. subst (λ (v : ℕ). HoldsAt k (image v new) c.commit_with.new.places.entries) (e.commits.stands.1 ∙ on) (e.takes.book.holds tells);
+        caches = λ tells. subst (λ (v : ℕ). EachIsPageAtPlace k (image v new) c.commit_with.new.cache.entries) on (e.caches tells);
+      };
+      same_place = refl;
+      numbers_are = e.takes.numbers;
+      committed = λ tells. subst (λ (v : ℕ). ReadsChanged batch (image v old) (image v new)) on (e.commits.committed tells);
+      any_moment = done.any_moment;
+      full = λ bad. absurd (not-err bad);
+      fits = λ more. absurd (not-more c.live_after-live.result c.cap.result _ _ c.live_after-live.ensures limit c.if-live-cap.false more);
+      unchanged = λ bad. absurd (not-err bad);
+      bound = done.appends.costs;
+      wears = done.appends.wears;
+      most = done.most;
+      wears_most = done.wears_most;
+      open_after = λ tells. subst (λ (v : ℕ). IsOpenFor 0 (image v new)) on (e.commits.open_after tells);
+      alone = done.alone;
+      cause = λ bad. absurd (not-err bad);
+      no_fault = Touches-no_fault done.alone done.faults.no_fault;
+    }
+
+pub returns-in-Err : goal.returns-in-Err
+returns-in-Err g c =
+    let o = g.H.Host.outside in
+    let told = g.H.Host.told in
+    let b = c.args.self.now in
+    let u = b.unit in
+    let s = c.requires.book in
+    let batch : Change = c.args.batch.now in
+    let same : c.in-Some.journal ≡ s.its = some_inj c.in-Some.journal s.its (c.in-Some.ensures.value ∙ s.is) in
+    let on : c.in-Some.journal.unit ≡ u = ap (λ (j : Journal). j.unit) same ∙ s.on in
+    let before : Outside = o c.args.host.now in
+    let old : Moment = before.now in
+    let new : Moment = (o c.commit_with.new.host).now in
+    let live = set.len (changed_numbers batch (numbers_in b.places.entries)) in
+    let count = ap before.blocks (ap (λ (j : Journal). j.unit) same) ∙ s.stands.has.count ∙ ap (λ (j : Journal). j.blocks) (sym same) in
+    let limit : c.cap.result ≡ cap (before.blocks u) = c.cap.ensures ∙ ap cap c.blocks-2.ensures in
+    let e = c.in-Err.ensures in
+    let done = done-at c.in-Some.journal.unit u c.in-Some.journal.blocks live on count e.commits.writes e.appends in
+    record {
+      stands = tt;
+      same_place = refl;
+      numbers_are = tt;
+      committed = λ tells. tt;
+      any_moment = done.any_moment;
+      full = λ bad. absurd (full-not-device _ bad refl);
+      fits = λ more. absurd (not-more c.live_after-live.result c.cap.result _ _ c.live_after-live.ensures limit c.if-live-cap.false more);
+      unchanged = λ bad. absurd (full-not-device _ bad refl);
+      bound = done.appends.costs;
+      wears = done.appends.wears;
+      most = done.most;
+      wears_most = done.wears_most;
+      open_after = λ tells. tt;
+      alone = done.alone;
+      cause = λ bad. done.faults.cause;
+      no_fault = tt;
     }

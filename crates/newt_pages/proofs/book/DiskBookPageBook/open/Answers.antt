@@ -1,33 +1,94 @@
-use Rattle.std.proofs.Common.{ℕ, List, refl, sym, ◌∙◌, ap, subst}
+use Rattle.std.proofs.Common.{◌≡◌, ℕ, List, None, Err, refl, sym, ◌∙◌, ap, subst}
 use Rattle.newt_host.specs.Moments.{Moment, image}
-use Rattle.newt_host.proofs.Outside.{Touches-append}
+use Rattle.newt_host.proofs.Outside.{Touches-no_fault}
+use Rattle.newt_spec_image.specs.Pages.{pages}
+use Rattle.newt_journal.specs.declared.journal.Journal.{Journal}
+use Rattle.newt_pagebook.specs.declared.book.BookFault.TheVariants.{Device, Memory, NotStore}
 use Rattle.newt_pagelog.specs.Placed.{HoldsAt}
-use Rattle.newt_pagelog.proofs.Committing.{touches-on}
+use Rattle.newt_pagelog.proofs.Ending.{looks-two, opened-as, opened-same}
+use Rattle.newt_pagelog.proofs.Failing.{no-value, same-err, not-err, rose-over}
 use Rattle.newt_pagelog.proofs.Replaying.{stands-on}
 use Rattle.newt_pages.proofs.Caching.{cached-none}
 use Rattle.newt_pages.proofs.book.DiskBookPageBook.open.Goals as goal
 
-pub returns-clause-book : goal.returns-clause-book
-returns-clause-book g c =
+pub returns-in_err-journal : goal.returns-in_err-journal
+returns-in_err-journal g c =
+    let r = c.from_residual.result in
+    let was = c.from_residual.ensures in
+    let e = c.in_err-journal.field-0.0 in
+    let reads = c.in_err-journal.ensures.reads in
+    record {
+      stands = no-value r _ was.0;
+      place_is = no-value r _ was.0;
+      not_store = λ bad. c.in_err-journal.ensures.not_store (ap Err (same-err r e NotStore was.1 bad));
+      reads = reads.looks;
+      cause = λ bad. reads.cause (ap Err (same-err r e Device was.1 bad));
+      no_fault = λ opened. Touches-no_fault reads.looks.alone (reads.no_fault (opened-as Journal r e was.1 opened));
+    }
+
+pub returns-in_err-places : goal.returns-in_err-places
+returns-in_err-places g c =
     let o = g.H.Host.outside in
     let j = c.in_ok-journal.journal in
     let u = c.args.unit in
     let its = c.in_ok-journal.ensures.journal in
-    let looks = c.replay.ensures.looks in
-    let places = c.in_ok-places.places.entries in (
-      record {
+    let r = c.from_residual-in_err-places.result in
+    let was = c.from_residual-in_err-places.ensures in
+    let e = c.in_err-places.field-0.0 in
+    let opened = c.in_ok-journal.ensures.reads in
+    let reads = c.in_err-places.ensures.reads in
+    let looks = looks-two its.1 opened.looks reads.looks in
+    record {
+      stands = no-value r _ was.0;
+      place_is = no-value r _ was.0;
+      not_store = λ bad tells. subst (λ (m : Moment). pages (image u m) ≡ None) opened.looks.moment
+          (subst (λ (v : ℕ). pages (image v (o c.open_journal.new.host).now) ≡ None) its.1 (c.in_err-places.ensures.not_store (ap Err (same-err r e NotStore was.1 bad)) tells));
+      reads = looks;
+      cause = λ bad. rose-over j.unit u (o c.args.host.now) (o c.open_journal.new.host) (o c.replay.new.host) its.1 opened.looks.alone (reads.cause (ap Err (same-err r e Device was.1 bad)));
+      no_fault = λ so. Touches-no_fault looks.alone
+          (opened-same (o c.open_journal.new.host) (o c.replay.new.host) its.1 (reads.no_fault (opened-as Journal r e was.1 so)) ∙ opened.no_fault tt);
+    }
+
+pub returns-in_err-cache : goal.returns-in_err-cache
+returns-in_err-cache g c =
+    let its = c.in_ok-journal.ensures.journal in
+    let r = c.from_residual-in_err-cache.result in
+    let was = c.from_residual-in_err-cache.ensures in
+    let looks = looks-two its.1 c.in_ok-journal.ensures.reads.looks c.in_ok-places.ensures.reads.looks in
+    record {
+      stands = no-value r _ was.0;
+      place_is = no-value r _ was.0;
+      not_store = λ bad. absurd (let is = same-err r Memory NotStore was.1 bad in cc);
+      reads = looks;
+      cause = λ bad. absurd (let is = same-err r Memory Device was.1 bad in cc);
+      no_fault = λ so. absurd (opened-as Journal r Memory was.1 so);
+    }
+
+pub returns : goal.returns
+returns g c =
+    let o = g.H.Host.outside in
+    let j = c.in_ok-journal.journal in
+    let u = c.args.unit in
+    let its = c.in_ok-journal.ensures.journal in
+    let opened = c.in_ok-journal.ensures.reads in
+    let reads = c.in_ok-places.ensures.reads in
+    let read = reads.looks in
+    let looks = looks-two its.1 opened.looks read in
+    let places = c.in_ok-places.places.entries in
+    record {
+      stands = record {
         its = j;
         is = refl;
-        stands = stands-on g.H.Host.told j (o c.open_journal.new.host) (o c.replay.new.host) looks.alone looks.moment its.0;
+        stands = stands-on g.H.Host.told j (o c.open_journal.new.host) (o c.replay.new.host) read.alone read.moment its.0;
         on = its.1;
         placed = c.in_ok-places.ensures.placed;
-        holds = λ tells. subst (λ (l : List ℕ). HoldsAt j l places) (ap (λ (m : Moment). image j.unit m) (sym looks.moment) ∙ ap (λ (v : ℕ). image v (o c.replay.new.host).now) its.1) (c.in_ok-places.ensures.pages tells);
+        holds = λ tells. subst (λ (l : List ℕ). HoldsAt j l places) (ap (λ (m : Moment). image j.unit m) (sym read.moment) ∙ ap (λ (v : ℕ). image v (o c.replay.new.host).now) its.1) (c.in_ok-places.ensures.pages tells);
         caches = λ tells. cached-none j (image u (o c.replay.new.host).now) c.in_ok-cache.cache.entries c.in_ok-cache.ensures;
-      },
-      refl,
-    )
-
-pub returns-clause-alone : goal.returns-clause-alone
-returns-clause-alone g c =
-    let o = g.H.Host.outside in
-    Touches-append c.open_journal.ensures.looks.alone (touches-on c.in_ok-journal.journal.unit c.args.unit (o c.open_journal.new.host) (o c.replay.new.host) c.in_ok-journal.ensures.journal.1 c.replay.ensures.looks.alone)
+      };
+      place_is = refl;
+      not_store = λ bad tells. absurd (not-err bad);
+      reads = looks;
+      cause = λ bad. absurd (not-err bad);
+      no_fault = λ so. Touches-no_fault looks.alone
+          (opened-same (o c.open_journal.new.host) (o c.replay.new.host) its.1 (reads.no_fault tt) ∙ opened.no_fault tt);
+    }

@@ -1,5 +1,6 @@
-use Rattle.std.proofs.Common.{◌≡◌, ◌*◌, ℕ, Some, sym, ◌∙◌, ap, subst}
+use Rattle.std.proofs.Common.{◌≡◌, ◌*◌, ℕ, Some, refl, sym, ◌∙◌, ap, subst}
 use Rattle.newt_host.specs.Outside.{Spends}
+use Rattle.newt_host.proofs.Outside.{NoFault-refl, OnlyReads-refl}
 use Rattle.newt_objects_commit.specs.Names.{names_of}
 use Rattle.newt_objects_commit.specs.Places.{place_of}
 use Rattle.newt_store_change.specs.Change.{pages_of_entry}
@@ -35,3 +36,38 @@ pub returns-in-None-clause-entry : goal.returns-in-None-clause-entry
 returns-in-None-clause-entry g c = λ tells s stands.
     let cat = c.args.self.now.catalog in
     sym (no-entry-at cat.directory (place_of cat.places) (names_of cat.names) stands.texts s stands.describes c.args.soup c.args.uid (sym c.get.ensures ∙ c.in-None.is))
+
+pub returns-in-None-clause-reads : goal.returns-in-None-clause-reads
+returns-in-None-clause-reads g c = record {
+  is_open = c.requires;
+  same_place = refl;
+  same_numbers = refl;
+  catalog = refl;
+  looks = OnlyReads-refl (g.P.PageBook.place c.args.self.now.book) (g.H.Host.outside c.args.host.now);
+}
+
+pub returns-in-None-clause-ends : goal.returns-in-None-clause-ends
+returns-in-None-clause-ends g c = record { cause = tt; no_fault = NoFault-refl (g.H.Host.outside c.args.host.now) }
+
+pub returns-in_ok-entry-in-Some-clause-reads : goal.returns-in_ok-entry-in-Some-clause-reads
+returns-in_ok-entry-in-Some-clause-reads g c =
+    let r = c.read_whole.ensures.reads in record {
+      is_open = record { book = r.stood; sound = record { kept = r.kept; places = c.requires.sound.places; names = c.requires.sound.names; formed = c.requires.sound.formed } };
+      same_place = r.same_place;
+      same_numbers = r.same_numbers;
+      catalog = refl;
+      looks = r.looks;
+    }
+
+pub returns-in_ok-entry-in-Some-clause-ends : goal.returns-in_ok-entry-in-Some-clause-ends
+returns-in_ok-entry-in-Some-clause-ends g c = record { cause = tt; no_fault = c.in_ok-entry-in-Some.ensures.ends.no_fault }
+
+pub returns-in_err-entry-in-Some-clause-reads : goal.returns-in_err-entry-in-Some-clause-reads
+returns-in_err-entry-in-Some-clause-reads g c =
+    let r = c.read_whole.ensures.reads in record {
+      is_open = record { book = r.stood; sound = record { kept = r.kept; places = c.requires.sound.places; names = c.requires.sound.names; formed = c.requires.sound.formed } };
+      same_place = r.same_place;
+      same_numbers = r.same_numbers;
+      catalog = refl;
+      looks = r.looks;
+    }

@@ -16,15 +16,15 @@ returns g c =
     let img : List ℕ = image (place a.store.book) (o c.args.host.now).now in
     record {
       stands = record {
-        is_open = record { book = e.stands; sound = e.sound };
-        plain = λ tells. one-after place g.P.PageBook.numbers g.P.PageBook.stands g.H.Host.told a.store c.entry.new.self a.ranges (o c.args.host.now).now (o c.entry.new.host).now e.same.2 e.same.0 e.moment
+        is_open = e.reads.is_open;
+        plain = λ tells. one-after place g.P.PageBook.numbers g.P.PageBook.stands g.H.Host.told a.store c.entry.new.self a.ranges (o c.args.host.now).now (o c.entry.new.host).now e.reads.catalog e.reads.same_place e.reads.looks.moment
             (c.requires.plain tells);
       };
-      same_place = e.same.0;
-      same_soups = ap (λ (catalog : Catalog). bare_store catalog.directory) e.same.2;
+      same_place = e.reads.same_place;
+      same_soups = ap (λ (catalog : Catalog). bare_store catalog.directory) e.reads.catalog;
       found = λ tells s reads. e.entry tells s (stands-for a.store.catalog a.ranges s img (c.requires.plain tells) reads);
-      moment = e.moment;
-      programs_nothing = e.programs_nothing;
-      alone = e.alone;
-      cause = e.cause;
+      costs = λ tells s reads. e.costs tells s (stands-for a.store.catalog a.ranges s img (c.requires.plain tells) reads);
+      looks = e.reads.looks;
+      cause = e.ends.cause;
+      no_fault = e.ends.no_fault;
     }

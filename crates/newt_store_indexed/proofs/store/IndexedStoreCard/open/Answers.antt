@@ -1,24 +1,22 @@
 -- The store is opened, and its entries are read.
-use Rattle.std.proofs.Common.{◌≡◌, ℕ, List, IsTrue, Err, sym, ◌∙◌, subst}
+use Rattle.std.proofs.Common.{◌≡◌, ℕ, List, Err, sym, ◌∙◌, subst}
 use Rattle.std.proofs.lemmas.Result.{err_from_is_err_and}
 use Rattle.newt_host.specs.Moments.{image}
-use Rattle.newt_host.specs.Outside.{Outside, Touches}
-use Rattle.newt_host.proofs.Outside.{Touches-append}
-use Rattle.newt_pagebook.specs.declared.book.BookFault.TheVariants.{NotStore, Memory, Device}
-use Rattle.newt_spec_store.specs.Store.{Store as Plain}
+use Rattle.newt_host.proofs.Outside.{NoFault-append}
+use Rattle.newt_pagebook.specs.declared.book.BookFault.TheVariants.{NotStore, Device}
 use Rattle.newt_store_catalog.specs.Stands.{StandsFor}
 use Rattle.newt_store_catalog.proofs.Opening.{same-image}
-use Rattle.newt_store_catalog.proofs.ReadLarges.{programs-over}
+use Rattle.newt_store_catalog.proofs.Exits.{looks-on, opening-is, rose-on}
 use Rattle.std.proofs.Common.{ap}
 use Rattle.std.specs.Prelude.{Result}
 use Rattle.newt_engine_card.specs.Calls.{Opens}
 use Rattle.newt_pagebook.specs.declared.book.BookFault.{BookFault}
-use Rattle.newt_pagebook.specs.declared.book.Stop.TheVariants as stops
 use Rattle.newt_store_catalog.specs.Readable.{readable}
+use Rattle.newt_store.specs.declared.store.Store.{Store}
 use Rattle.newt_store_indexed.specs.Stands.{StandsOn}
 use Rattle.newt_store_indexed.specs.declared.store.IndexedStore.{IndexedStore}
 use Rattle.newt_store_indexed.proofs.Opened.{never-ok, never-err, memory-apart, device-apart, same-fault}
-use Rattle.newt_store_indexed.proofs.Reading.{shows-on, stops-over}
+use Rattle.newt_store_indexed.proofs.Reading.{shows-on}
 use Rattle.newt_store_indexed.proofs.store.IndexedStoreCard.open.Goals as goal
 
 pub returns-in_err-store : goal.returns-in_err-store
@@ -32,11 +30,10 @@ returns-in_err-store g c =
     g.H.Host.told c.args.unit (o c.args.host.now) (o c.open.new.host) x) (sym (p.1 ∙ ap {B = Result Card BookFault} (λ x. Err x) p.2)) (record {
       stands = tt;
       place_is = tt;
-      not_store = λ is tells. e.not_store (same-fault f NotStore is) tells;
-      moment = e.moment;
-      programs_nothing = e.programs_nothing;
-      alone = e.alone;
-      cause = λ is. e.cause (same-fault f Device is);
+      not_store = λ is tells. e.ends.not_store (same-fault f NotStore is) tells;
+      looks = e.looks;
+      cause = λ is. e.ends.cause (same-fault f Device is);
+      no_fault = λ opening. e.ends.no_fault (opening-is (Store g.row.P.Denot) Card f opening);
     })
 
 pub returns-in-Ok : goal.returns-in-Ok
@@ -46,7 +43,7 @@ returns-in-Ok g c =
     let e = c.in_ok-store.ensures in
     let r = c.in-Ok.ensures in
     let b = c.in_ok-store.store in
-    let there : image (place b.book) (o c.open.new.host).now ≡ image c.args.unit (o c.args.host.now).now = same-image c.args.unit (place b.book) (o c.args.host.now).now (o c.open.new.host).now e.place e.moment in
+    let there : image (place b.book) (o c.open.new.host).now ≡ image c.args.unit (o c.args.host.now).now = same-image c.args.unit (place b.book) (o c.args.host.now).now (o c.open.new.host).now e.place e.looks.moment in
     record {
       stands = record {
         is_open = r.reads.is_open;
@@ -61,10 +58,9 @@ returns-in-Ok g c =
       };
       place_is = r.reads.same_place ∙ e.place;
       not_store = λ is. never-ok _ _ is;
-      moment = r.reads.moment ∙ e.moment;
-      programs_nothing = programs-over c.args.unit (place b.book) (o c.args.host.now) (o c.open.new.host) (o c.ranges_of.new.host) e.place e.programs_nothing r.reads.programs_nothing;
-      alone = Touches-append e.alone (subst (λ (u : ℕ). Touches u (o c.open.new.host) (o c.ranges_of.new.host)) e.place r.reads.alone);
+      looks = looks-on e.place e.looks r.reads.looks;
       cause = λ is. never-ok _ _ is;
+      no_fault = λ opening. NoFault-append (e.ends.no_fault tt) r.ends.no_fault;
     }
 
 pub returns-in-Err-Memory : goal.returns-in-Err-Memory
@@ -78,10 +74,9 @@ returns-in-Err-Memory g c =
       stands = tt;
       place_is = tt;
       not_store = λ is. never-err _ _ memory-apart.0 is;
-      moment = r.moment ∙ e.moment;
-      programs_nothing = programs-over c.args.unit (place b.book) (o c.args.host.now) (o c.open.new.host) (o c.ranges_of.new.host) e.place e.programs_nothing r.programs_nothing;
-      alone = Touches-append e.alone (subst (λ (u : ℕ). Touches u (o c.open.new.host) (o c.ranges_of.new.host)) e.place r.alone);
+      looks = looks-on e.place e.looks r.looks;
       cause = λ is. never-err _ _ memory-apart.1 is;
+      no_fault = λ opening. absurd opening;
     }
 
 pub returns : goal.returns
@@ -95,8 +90,7 @@ returns g c =
       stands = tt;
       place_is = tt;
       not_store = λ is. never-err _ _ device-apart is;
-      moment = r.moment ∙ e.moment;
-      programs_nothing = programs-over c.args.unit (place b.book) (o c.args.host.now) (o c.open.new.host) (o c.ranges_of.new.host) e.place e.programs_nothing r.programs_nothing;
-      alone = Touches-append e.alone (subst (λ (u : ℕ). Touches u (o c.open.new.host) (o c.ranges_of.new.host)) e.place r.alone);
-      cause = λ is. (stops-over (stops.Device c.in-Err-Device.field-0-0) c.args.unit (place b.book) (o c.args.host.now) (o c.open.new.host) (o c.ranges_of.new.host) e.place e.alone (rw c.in-Err-Device.field-0-is at c.in-Err-Device.ensures.cause)).1;
+      looks = looks-on e.place e.looks r.looks;
+      cause = λ is. rose-on (o c.ranges_of.new.host) e.place e.looks (rw c.in-Err-Device.field-0-is at c.in-Err-Device.ensures.ends.cause).1;
+      no_fault = λ opening. absurd opening;
     }

@@ -1,0 +1,85 @@
+-- What calls on a book of pages promise. All of it is this project's own.
+use Rattle.std.specs.Prelude.{◌≡◌, ℕ, ◌+◌, ◌*◌, ◌<◌, max, Bool, IsTrue, List, None, Result, OnOk, IfOk, IfErr, IsErrOf}
+use Rattle.std.specs.FinSet as set
+use Rattle.newt_host.specs.Moments.{image, IsDurable, Leaves}
+use Rattle.newt_host.specs.Outside.{Outside, Counted, NoFault, OnlyReads, Rose, Spends, Touches, Wears}
+use Rattle.newt_spec_image.specs.Pages.{Change, cap as cap_of, pages}
+use Rattle.newt_spec_image.specs.Records.{bank_blocks, bank_start}
+use Rattle.newt_pagebook.specs.Book.{Numbers, Shown, HasPage, IsBeforeOrAfter, IsFormatted, IsLeftFrom, IsOpenFor, ReadsChanged, batch_bytes, changed_numbers, switch_bytes}
+use Rattle.newt_pagebook.specs.Stops.{IsOpening, StopsAt}
+use Rattle.newt_pagebook.specs.declared.book.BookFault.{BookFault}
+use Rattle.newt_pagebook.specs.declared.book.BookFault.TheVariants.{NotStore, Device as BookDevice}
+use Rattle.newt_pagebook.specs.declared.book.CommitFault.{CommitFault}
+use Rattle.newt_pagebook.specs.declared.book.CommitFault.TheVariants.{Full, Device as CommitDevice}
+use Rattle.newt_pagebook.specs.declared.book.Stop.{Stop}
+use Rattle.newt_pagebook.specs.declared.book.Stop.TheVariants.{Memory}
+
+-- A format: the unit's image gets the pages of the batch, in the first bank. After out of memory
+-- nothing has happened; whenever it is cut off, the other bank is as it was.
+pub record Formats (told : Bool) (unit : ℕ) (batch : Change) (before after : Outside) (result : Result (Unit {0}) Stop) : Type 0 where
+  pub formatted : IsTrue told → OnOk result (IsFormatted batch (image unit after.now) × IsDurable unit after.now)
+  pub unchanged : IsErrOf result Memory → after.now ≡ before.now
+  pub any_moment : IsTrue told → Leaves unit
+      (IsLeftFrom unit (bank_start (before.blocks unit) 1) before.now) before.now after.now
+  -- each block of that bank and each vote once
+  pub wears : Wears unit (bank_blocks (before.blocks unit) + 3) 9 before after
+  pub alone : Touches unit before after
+  pub cause : IfErr result (StopsAt unit before after)
+  pub no_fault : OnOk result (NoFault before after)
+
+module _ {B : Type 0} (place : B → ℕ) (standing : Bool → B → Outside → Type 0) where
+  -- An opening: the book stands for its unit, or the unit's image holds no pages.
+  pub record Opens (told : Bool) (unit : ℕ) (before after : Outside) (result : Result B BookFault) : Type 0 where
+    pub stands : IfOk result (λ book. standing told book after)
+    pub place_is : IfOk result (λ book. place book ≡ unit)
+    pub not_store : IsErrOf result NotStore → IsTrue told → pages (image unit before.now) ≡ None
+    pub reads : OnlyReads unit before after
+    pub cause : IsErrOf result BookDevice → Rose (before.dev_faults unit) (after.dev_faults unit)
+    pub no_fault : IsOpening result → NoFault before after
+
+module _ {B : Type 0} (place : B → ℕ) (numbers : B → Numbers) (shown : B → Shown) (spare : B → ℕ) (standing : Bool → B → Outside → Type 0) where
+  -- A page is brought to hand; of the book nothing else is other than it was.
+  pub record Loads {E : Type 0} (told : Bool) (number : ℕ) (old new : B) (before after : Outside) (result : Result (Unit {0}) E) : Type 0 where
+    pub page : OnOk result (HasPage told (image (place old) before.now) number (shown new))
+    pub stands : standing told new after
+    pub same_place : place new ≡ place old
+    pub same_numbers : numbers new ≡ numbers old
+    pub same_spare : spare new ≡ spare old
+    pub reads : OnlyReads (place old) before after
+    pub costs : Spends (place old) 0 512 before after
+    pub faults : Counted result (before.dev_faults (place old)) (after.dev_faults (place old))
+
+  -- Nothing is done, and the book is what it was.
+  pub record Keeps (told : Bool) (old new : B) (before after : Outside) : Type 0 where
+    pub stands : standing told new after
+    pub same_numbers : numbers new ≡ numbers old
+    pub same_page : shown new ≡ shown old
+    pub same_spare : spare new ≡ spare old
+    pub moment : after.now ≡ before.now
+    pub costs : Spends (place old) 0 0 before after
+    pub wears : Wears (place old) 0 0 before after
+    pub no_fault : NoFault before after
+
+  -- A commit: the pages are changed as the batch says, or, where more of them would be live than
+  -- the unit takes, nothing is. At each moment a crash leaves the pages before it or after it.
+  pub record Commits (told : Bool) (batch : Change) (old new : B) (before after : Outside) (result : Result (Unit {0}) CommitFault) : Type 0 where
+    pub stands : OnOk result (standing told new after)
+    pub same_place : place new ≡ place old
+    pub numbers_are : OnOk result (numbers new ≡ changed_numbers batch (numbers old))
+    pub committed : IsTrue told → OnOk result (ReadsChanged batch (image (place old) before.now) (image (place old) after.now))
+    pub any_moment : IsTrue told → Leaves (place old) (IsBeforeOrAfter batch (image (place old) before.now)) before.now after.now
+    pub full : IsErrOf result Full → cap_of (before.blocks (place old)) < set.len (changed_numbers batch (numbers old))
+    pub fits : cap_of (before.blocks (place old)) < set.len (changed_numbers batch (numbers old)) → IsErrOf result Full
+    pub unchanged : IsErrOf result Full → Keeps told old new before after
+    -- where the record has room behind the others, whatever the answer
+    pub bound : IsTrue told → IsOpenFor (batch_bytes batch) (image (place old) before.now) → Spends (place old) (batch_bytes batch) 0 before after
+    pub wears : IsTrue told → IsOpenFor (batch_bytes batch) (image (place old) before.now) → Wears (place old) 0 2 before after
+    -- where it has none, whatever the answer: the live pages once, each block of the other bank
+    -- and each vote once, and each vote that is repaired before
+    pub most : let live = set.len (changed_numbers batch (numbers old)) in
+        Spends (place old) (max (batch_bytes batch) (switch_bytes live)) (4 + 512 * live) before after
+    pub wears_most : Wears (place old) (bank_blocks (before.blocks (place old)) + 6) 14 before after
+    pub open_after : IsTrue told → OnOk result (IsOpenFor 0 (image (place old) after.now))
+    pub alone : Touches (place old) before after
+    pub cause : IsErrOf result CommitDevice → Rose (before.dev_faults (place old)) (after.dev_faults (place old))
+    pub no_fault : OnOk result (NoFault before after)

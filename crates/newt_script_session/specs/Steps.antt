@@ -1,0 +1,30 @@
+-- Steps: how a command turns one world into the next.
+use Rattle.std.specs.Prelude.{◌≡◌, ℕ, List, Option, Result, IfOk}
+use Rattle.newt_host.specs.Moments.{Moment, Always}
+use Rattle.newt_reply.specs.Said.{said}
+use Rattle.newt_reply.specs.declared.reply.Reply as given
+use Rattle.newt_spec_store.specs.Store.{Store}
+use Rattle.newt_spec_world.specs.Answer.{answer}
+use Rattle.newt_spec_world.specs.Reply.{Reply}
+use Rattle.newt_spec_world.specs.World.{World}
+use Rattle.newt_spec_world.specs.declared.command.Command.{Command}
+use Rattle.newt_script_session.specs.Moments.{Answering}
+
+-- how a command may turn one world into the next, and what is replied
+abbrev pub Stepping : Type 1
+Stepping = World → Command → World → Reply → Type 0
+
+-- the only step is the one that the plain world answers
+abbrev pub IsPlain : Stepping → Type 0
+IsPlain step = (world next : World) (command : Command) (reply : Reply) → step world command next reply → answer world command ≡ (next, reply)
+
+-- A command was given in a world: there is a step, whatever became of the call, and at each moment
+-- a crash leaves each unit as in the one world or in the other. Where it was answered, the reply is
+-- that of the step, and the world that is stood for then is the next one.
+pub record Stepped {E : Type 0} (step : Stepping) (store_of_image : List ℕ → Option Store)
+    (command : Command) (result : Result given.Reply E) (world after : World) (old now : Moment) : Type 0 where
+  pub next : World
+  pub reply : Reply
+  pub steps : step world command next reply
+  pub answered : IfOk result (λ it. (said it ≡ reply) × (after ≡ next))
+  pub moments : Always (Answering store_of_image world next old) old now

@@ -1,0 +1,70 @@
+-- An input that is read to its end, and then converted.
+use Rattle.std.proofs.Common.{◌≡◌, Bool, Result, Ok, Err, refl, sym, ◌∙◌, subst, arith}
+use Rattle.newt_host.specs.Outside.{Outside, NoFault}
+use Rattle.newt_host.proofs.Outside.{NoFault-append, NoFault-refl}
+use Rattle.newt_script_session.specs.Calls.{Faults, HasReadCause as ReadFailed, ReadCall, WriteCall}
+use Rattle.newt_script_session.specs.Causes.{HasCause, HasSinkCause, SameDevices}
+use Rattle.newt_script_session.specs.declared.halt.Halt.{Halt}
+use Rattle.newt_script_session.specs.declared.halt.Halt.TheVariants.{Memory, Device, Source, Sink, TooLong}
+use Rattle.newt_script_session.proofs.Counting.{faults_end, faults_err, faults_none, faults_same, same-refl, same-trans, sink_from}
+use Rattle.newt_top.specs.Whole.{HasReadCause, WholeCall}
+
+-- So far no device is other than it was, and no fault was counted.
+pub record Reading (told : Bool) (old now : Outside) : Type 0 where
+  pub devices : SameDevices told old now
+  pub no_fault : NoFault old now
+
+pub reading-refl : (told : Bool) (a : Outside) → Reading told a a
+reading-refl told a = record { devices = same-refl told a; no_fault = NoFault-refl a }
+
+pub reading_more : {told : Bool} {T : Type 0} {x : T} {a b c : Outside} → Reading told a b → ReadCall told (Ok x) b c → Reading told a c
+reading_more r w = record { devices = same-trans r.devices w.devices; no_fault = NoFault-append r.no_fault w.faults.no_fault }
+
+pub whole_ok : {told : Bool} {T : Type 0} {x : T} {Cause : Halt → (old new : Outside) → Type 0} {a b : Outside} → Reading told a b → WholeCall told Cause (Ok x) a b
+whole_ok {x = x} {Cause = Cause} {a = a} {b = b} r = record { devices = r.devices; faults = faults_none Cause x a b r.no_fault }
+
+-- it ended where no fault was counted
+pub whole_end : {told : Bool} {T : Type 0} (halt : Halt) {a b : Outside} → HasReadCause halt a b → Reading told a b → WholeCall {T = T} told HasReadCause (Err halt) a b
+whole_end halt {a} {b} cause r = record { devices = r.devices; faults = faults_end HasReadCause halt a b r.no_fault cause }
+
+pub whole_memory : {told : Bool} {T : Type 0} {a b : Outside} → Reading told a b → WholeCall {T = T} told HasCause (Err Memory) a b
+whole_memory {a = a} {b = b} r = record { devices = r.devices; faults = faults_end HasCause Memory a b r.no_fault tt }
+
+read_failed : (halt : Halt) (a b c : Outside) → NoFault a b → ReadFailed halt b c → HasReadCause halt a c
+read_failed halt a b c none cause = subst (λ (h : Halt). HasReadCause h a c) (sym cause.0) (omega (arith, cause.1, none.in_faults))
+
+pub whole_unread : {told : Bool} {T U : Type 0} (result : Result T Halt) (halt : Halt) {a b c : Outside} → result ≡ Err halt → Reading told a b
+    → ReadCall {T = U} told (Err halt) b c → WholeCall told HasReadCause result a c
+whole_unread {T = T} {U = U} result halt {a} {b} {c} is r w = record {
+  devices = same-trans r.devices w.devices;
+  faults = faults_err ReadFailed HasReadCause a b c r.no_fault {T = T} {U = U} result halt halt is (λ cause. read_failed halt a b c r.no_fault cause) w.faults;
+}
+
+read_cause : (halt : Halt) (a b : Outside) → HasReadCause halt a b → HasCause halt a b
+read_cause Memory a b cause = tt
+read_cause TooLong a b cause = tt
+read_cause Source a b cause = cause
+read_cause Sink a b cause = absurd cause
+read_cause (Device unit) a b cause = absurd cause
+
+-- the run ends with it
+pub whole_ends : {told : Bool} {T U : Type 0} (result : Result T Halt) (halt : Halt) {a b : Outside} → result ≡ Err halt
+    → WholeCall {T = U} told HasReadCause (Err halt) a b → WholeCall told HasCause result a b
+whole_ends {T = T} {U = U} result halt {a} {b} is w = record {
+  devices = w.devices;
+  faults = faults_err HasReadCause HasCause a a b (NoFault-refl a) {T = T} {U = U} result halt halt is (λ cause. read_cause halt a b cause) w.faults;
+}
+
+sink_cause : (halt : Halt) (a b : Outside) → HasSinkCause halt a b → HasCause halt a b
+sink_cause Memory a b cause = tt
+sink_cause (Device unit) a b cause = absurd cause
+sink_cause Sink a b cause = cause
+sink_cause Source a b cause = absurd cause
+sink_cause TooLong a b cause = tt
+
+-- and then the text was put out
+pub whole_put : {told : Bool} {T U : Type 0} {x : U} {result : Result T Halt} {a b c : Outside} → WholeCall told HasReadCause (Ok x) a b → WriteCall told HasSinkCause result b c → WholeCall told HasCause result a c
+whole_put {result = result} {a} {b} {c} r w = record {
+  devices = same-trans r.devices w.devices;
+  faults = faults_same HasSinkCause HasCause a b c result r.faults.no_fault (λ halt cause. sink_cause halt a c (sink_from halt a b c r.faults.no_fault cause)) w.faults;
+}
