@@ -19,7 +19,7 @@ use Rattle.newt_laws_world.specs.Settled.{IsSettled, MountedApart, moves_keys}
 use Rattle.newt_laws_world.specs.Worlds.{OnMedia}
 use Rattle.newt_laws_world.proofs.Kept.{Every, Wf}
 use Rattle.newt_laws_world.specs.Cursors.{with_cursors, uses_cursors}
-use Rattle.newt_laws_answers.specs.Answering.{Answering}
+use Rattle.newt_laws_world.specs.Answering.{Answering}
 use Rattle.newt_spec_world.specs.Answer.{answer}
 use Rattle.newt_laws_world.proofs.Mounted.{answer-apart}
 use Rattle.newt_laws_world.proofs.Settled.{answer-settled}

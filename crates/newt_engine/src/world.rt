@@ -6,7 +6,7 @@ ghost use Rattle.newt_host.specs.Meanings.{held};
 ghost use Rattle.newt_host.specs.Moments.{Always};
 ghost use Rattle.newt_host_attach.specs.Named.{AreAttached, AreDistinct};
 ghost use Rattle.newt_reply.specs.Said.{said};
-ghost use Rattle.newt_laws_answers.specs.Answering.{Answering};
+ghost use Rattle.newt_laws_world.specs.Answering.{Answering};
 ghost use Rattle.newt_laws_world.specs.Worlds.{has_form};
 ghost use Rattle.newt_spec_world.specs.Answer.{answer};
 ghost use Rattle.newt_spec_world.specs.First.{world_of};

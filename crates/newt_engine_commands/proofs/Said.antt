@@ -7,7 +7,7 @@ use Rattle.newt_host.specs.Moments.{Always}
 use Rattle.newt_host.specs.Outside.{Outside}
 use Rattle.newt_spec_store.specs.Store.{Store}
 use Rattle.newt_spec_world.specs.World.{World, store_on_unit, change_store}
-use Rattle.newt_laws_answers.specs.Answering.{Answering}
+use Rattle.newt_laws_world.specs.Answering.{Answering}
 use Rattle.newt_laws_answers.specs.There.{OnUnit}
 use Rattle.newt_laws_answers.proofs.Changes.{SaidAs}
 use Rattle.newt_laws_answers.proofs.Units.{store-alike}

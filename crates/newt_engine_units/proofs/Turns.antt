@@ -10,7 +10,7 @@ use Rattle.newt_laws_world.proofs.Units.{same-or-not}
 use Rattle.newt_spec_store.specs.Store.{Store, new_store}
 use Rattle.newt_spec_world.specs.First.{media_of}
 use Rattle.newt_spec_world.specs.World.{World, Device, one, store_of, store_on_unit, change_store, change_media}
-use Rattle.newt_laws_answers.specs.Answering.{Answering}
+use Rattle.newt_laws_world.specs.Answering.{Answering}
 use Rattle.newt_laws_answers.specs.Tests.{formatted}
 use Rattle.newt_laws_answers.specs.WorldAt.{device_at, world_at}
 use Rattle.newt_laws_answers.proofs.Worlds.{device-here, device-stays, world-changed, world-alike}

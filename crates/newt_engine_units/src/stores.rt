@@ -6,7 +6,7 @@ ghost use Rattle.newt_spec_store.specs.Store.{new_store};
 ghost use Rattle.newt_spec_world.specs.Reply.{Reply};
 ghost use Rattle.newt_spec_world.specs.World.{World, store_on_unit};
 ghost use Rattle.newt_spec_world.specs.declared.command.Command.{Command};
-ghost use Rattle.newt_laws_answers.specs.Answering.{Answering};
+ghost use Rattle.newt_laws_world.specs.Answering.{Answering};
 ghost use Rattle.newt_spec_world.specs.Answer.{answer};
 ghost use Rattle.newt_laws_answers.specs.Tests.{formatted};
 ghost use Rattle.newt_engine_card.specs.Bounds.{IsOpenOrSame};

@@ -1,5 +1,4 @@
 pub mod WorldAt
-pub mod Answering
 pub mod Faces
 pub mod Tests
 pub mod There

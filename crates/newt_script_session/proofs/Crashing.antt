@@ -9,7 +9,8 @@ use Rattle.newt_spec_script.specs.Script.{Item, step, world_after}
 use Rattle.newt_spec_store.specs.Store.{Store}
 use Rattle.newt_spec_world.specs.Reply.{Reply, reply_line, reply_text}
 use Rattle.newt_spec_world.specs.World.{World, store_on_unit}
-use Rattle.newt_script_session.specs.Moments.{Answering, begun, world_at, replies_begun, BeforeOrAfter, CrashAt, Leaves, SafeAt, Untouched}
+use Rattle.newt_laws_world.specs.Answering.{Answering}
+use Rattle.newt_script_session.specs.Moments.{begun, world_at, replies_begun, BeforeOrAfter, CrashAt, Leaves, SafeAt, Untouched}
 use Rattle.newt_script_session.specs.Counted.{CountedAt}
 use Rattle.newt_script_session.specs.Stream.{put_out}
 use Rattle.newt_spec_script.specs.Runs.{texts}

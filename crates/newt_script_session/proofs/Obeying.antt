@@ -11,7 +11,8 @@ use Rattle.newt_spec_world.specs.Reply.{reply_text}
 use Rattle.newt_spec_world.specs.World.{World, store_on_unit}
 use Rattle.newt_script_session.specs.Answered.{Ran}
 use Rattle.newt_script_session.specs.Causes.{HasSinkCause, halt_of}
-use Rattle.newt_script_session.specs.Moments.{Answering, SafeAt, Untouched}
+use Rattle.newt_laws_world.specs.Answering.{Answering}
+use Rattle.newt_script_session.specs.Moments.{SafeAt, Untouched}
 use Rattle.newt_script_session.specs.Run.{HaltedIn}
 use Rattle.newt_script_session.specs.Stream.{Puts, WroteSome, put_out}
 use Rattle.newt_script_session.specs.declared.halt.Halt.{Halt}

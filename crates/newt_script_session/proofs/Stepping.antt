@@ -8,7 +8,7 @@ use Rattle.newt_spec_world.specs.Answer.{answer}
 use Rattle.newt_spec_world.specs.Reply.{Reply}
 use Rattle.newt_spec_world.specs.World.{World, store_on_unit}
 use Rattle.newt_spec_world.specs.declared.command.Command.{Command}
-use Rattle.newt_script_session.specs.Moments.{Answering}
+use Rattle.newt_laws_world.specs.Answering.{Answering}
 use Rattle.newt_script_session.specs.Steps.{IsPlain, Stepped, Stepping}
 
 module _ {E : Type 0} (step : Stepping) (plain : IsPlain step) (reads : List ℕ → Option Store) (command : Command) (result : Result given.Reply E) (world after : World) (old now : Moment)

@@ -7,14 +7,6 @@ use Rattle.newt_spec_world.specs.Reply.{reply_text}
 use Rattle.newt_spec_world.specs.World.{World, store_on_unit}
 use Rattle.newt_script_session.specs.Stream.{put_out}
 
--- While a command turns one world into the next, from a moment on: nothing is put out; a unit with a store is left as that store or as its store in the next
--- world; a unit without a store in both is not touched.
-pub record Answering (store_of_image : List ℕ → Option Store) (world next : World) (start now : Moment) : Type 0 where
-  pub quiet : printed now ≡ printed start
-  pub stores : (unit : ℕ) (store : Store) (left : List ℕ) → store_on_unit world unit ≡ Some store → MayLeave unit now left
-      → (store_of_image left ≡ Some store) ⊎ (store_of_image left ≡ store_on_unit next unit)
-  pub others : (unit : ℕ) → store_on_unit world unit ≡ None → store_on_unit next unit ≡ None → changes unit now ≡ changes unit start
-
 -- how many of the texts have begun where so many bytes are out
 unfoldable pub begun : List (List ℕ) → ℕ → ℕ
 begun [] shown = 0

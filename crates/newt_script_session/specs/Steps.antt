@@ -8,7 +8,7 @@ use Rattle.newt_spec_world.specs.Answer.{answer}
 use Rattle.newt_spec_world.specs.Reply.{Reply}
 use Rattle.newt_spec_world.specs.World.{World}
 use Rattle.newt_spec_world.specs.declared.command.Command.{Command}
-use Rattle.newt_script_session.specs.Moments.{Answering}
+use Rattle.newt_laws_world.specs.Answering.{Answering}
 
 -- how a command may turn one world into the next, and what is replied
 abbrev pub Stepping : Type 1

@@ -14,7 +14,7 @@ use Rattle.newt_host.specs.Moments.{Moment, Always}
 use Rattle.newt_host.proofs.Outside.{NoFault-append, OnDevices-append}
 use Rattle.newt_spec_world.specs.World.{World, change_store}
 use Rattle.newt_store_change.specs.Faults.{Does}
-use Rattle.newt_laws_answers.specs.Answering.{Answering}
+use Rattle.newt_laws_world.specs.Answering.{Answering}
 use Rattle.newt_spec_world.specs.Answer.{answer}
 use Rattle.newt_laws_answers.specs.Tests.{patch_tests, patched_within}
 use Rattle.newt_laws_answers.specs.There.{OnUnit}

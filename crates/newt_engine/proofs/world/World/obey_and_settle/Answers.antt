@@ -4,7 +4,7 @@ use Rattle.newt_engine_units.specs.Answers.{Answers}
 use Rattle.newt_host.specs.Moments.{Moment, Always}
 use Rattle.newt_host.proofs.Outside.{NoFault-append, OnDevices-append}
 use Rattle.newt_reply.specs.Said.{said}
-use Rattle.newt_laws_answers.specs.Answering.{Answering}
+use Rattle.newt_laws_world.specs.Answering.{Answering}
 use Rattle.newt_spec_world.specs.Answer.{answer}
 use Rattle.newt_engine_units.specs.Stands.{world_of}
 use Rattle.newt_engine_cursors.specs.Fits.{DeskFits}

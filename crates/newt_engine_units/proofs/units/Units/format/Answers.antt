@@ -5,7 +5,7 @@ use Rattle.std.proofs.lemmas.Result.{err_from_is_err_and}
 use Rattle.newt_host.specs.Moments.{Moment, Always, changes, image}
 use Rattle.newt_spec_world.specs.World.{World, store_on_unit}
 use Rattle.newt_spec_world.specs.declared.command.Command.TheVariants as command
-use Rattle.newt_laws_answers.specs.Answering.{Answering}
+use Rattle.newt_laws_world.specs.Answering.{Answering}
 use Rattle.newt_spec_world.specs.Answer.{answer}
 use Rattle.newt_laws_answers.specs.Tests.{formatted}
 use Rattle.newt_laws_answers.proofs.Stores.{format-not-ready}

@@ -1,12 +1,14 @@
 -- What holds at each moment of a command. It is this project's own.
 use Rattle.std.specs.Prelude.{◌≡◌, ◌⊎◌, ℕ, List, Option, Some, None}
-use Rattle.newt_host.specs.Moments.{Moment, MayLeave, changes, output as output_of}
+use Rattle.newt_host.specs.Moments.{Moment, MayLeave, changes, taken, output as output_of}
 use Rattle.newt_spec_store.specs.Store.{Store}
 use Rattle.newt_spec_world.specs.World.{World, store_on_unit}
 
--- While a command turns the world w into v, from a moment on: nothing is put out; a unit with a store in w is left as that store or as its store in v; a unit
--- without a store in w and in v is not touched.
+-- While a command turns the world w into v, from a moment on: nothing is read and nothing is put
+-- out; a unit with a store in w is left as that store or as its store in v; a unit without a store
+-- in w and in v is not touched.
 pub record Answering (store_of_image : List ℕ → Option Store) (w v : World) (start now : Moment) : Type 0 where
+  pub unread : taken now ≡ taken start
   pub quiet : output_of now ≡ output_of start
   pub stores : (u : ℕ) (s : Store) (left : List ℕ) → store_on_unit w u ≡ Some s → MayLeave u now left
       → (store_of_image left ≡ Some s) ⊎ (store_of_image left ≡ store_on_unit v u)
