@@ -1,4 +1,5 @@
--- What a text writes down is a draft whose references lead to nodes, and whose classes and tags are symbols.
+-- What a text writes down is a draft whose references lead to nodes, and whose classes and tags are
+-- symbols.
 use Rattle.std.proofs.Common.{◌≡◌, ℕ, zero, suc, ◌+◌, ◌<◌, ◌≤◌, Bool, true, false, cond, ltb, leb, eqb, List, [], ◌∷◌, ◌++◌, length, set, All, Option, Some, None, refl, sym, ap, subst, ◌∙◌, append_assoc, arith}
 use Rattle.std.specs.Prelude.{slice_get, ◌&&◌}
 use Rattle.std.specs.List.{sum_by}

@@ -1,4 +1,5 @@
--- What is read takes its text from the front and adds its nodes: symbols, precedents, labels, and lists of them.
+-- What is read takes its text from the front and adds its nodes: symbols, precedents, labels, and
+-- lists of them.
 use Rattle.std.proofs.Common.{◌≡◌, ℕ, zero, suc, ◌≤◌, true, cond, ltb, eqb, List, [], ◌∷◌, ◌++◌, length, Option, Some, None, refl, sym, ap, subst, ◌∙◌, append_assoc, arith, inl, inr}
 use Rattle.std.specs.Prelude.{slice_get}
 use Rattle.std.proofs.lemmas.Bool.{ltb-true, eqb-true}
@@ -18,7 +19,8 @@ use Rattle.newt_nsof_read.specs.Reading.{Reader, count_at, name_at, push, add, k
 use Rattle.newt_nsof_read.proofs.Fields.{IsBytes, IsBytes-rest, Takes, Takes-then, Takes-after, count_takes, name_takes}
 use Rattle.newt_nsof_read.proofs.Names.{names, names-append, same_length, IsAlike-moved, IsSymbol-moved, is_symbol_tells}
 
--- how a text spells a value after some nodes and numbered objects: the nodes that it adds, and the numbered objects after it
+-- how a text spells a value after some nodes and numbered objects: the nodes that it adds, and the
+-- numbered objects after it
 abbrev pub Spelling : Type 0 → Type 1
 Spelling A = List Node → List ℕ → List ℕ → A → List Node → List ℕ → Type 0
 

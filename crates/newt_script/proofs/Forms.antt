@@ -9,7 +9,7 @@ use Rattle.hex.specs.Hex.{hex_digit_value}
 use Rattle.newt_base.specs.Text.{hex_byte, hex_bytes}
 use Rattle.newt_base.specs.declared.Refusal.{Refusal}
 use Rattle.newt_base.specs.declared.Refusal.TheVariants.{Malformed}
-use Rattle.newt_graph.specs.Graph.{RawGraph, IsGraph}
+use Rattle.newt_graph.specs.Graph.{RawGraph}
 use Rattle.newt_laws_images.proofs.Within.{graph-within}
 use Rattle.newt_laws_world.specs.Worlds.{has_form}
 use Rattle.newt_laws_world.proofs.Forms.{item-form, line-good}
@@ -25,11 +25,10 @@ use Rattle.newt_spec_graph.specs.Limits.{within_limits}
 use Rattle.newt_spec_nsof.specs.Text.{AreBytes}
 use Rattle.newt_spec_nsof.proofs.Normal.{spelled_is_graph}
 use Rattle.newt_spec_script.specs.Line.{Parsed, ready, literal, stream, bytes, parsed}
-use Rattle.newt_spec_script.specs.Script.{Item, Readers, bytes_item, hex_item, item_of, literal_item, stream_item, without_return}
+use Rattle.newt_spec_script.specs.Script.{Item, Readers, hex_item, item_of, stream_item, without_return}
 use Rattle.newt_spec_world.specs.declared.command.Command.{Command}
 use Rattle.newt_script.specs.Graphs.{if_read, literal_in, literal_of, or_refused, readers, stream_of}
 use Rattle.newt_script.specs.Lines.{line_answer, line_command}
-use Rattle.newt_script.specs.declared.fault.LineFault.{LineFault}
 
 -- ---- bytes
 
@@ -41,7 +40,7 @@ digit_small : (c v : ℕ) → hex_digit_value c ≡ Some v → v < 16
 digit_small c v h = grind (arith)
 
 -- the digits of a line write bytes
-hex_small : (digits bs : List ℕ) → hex_bytes digits ≡ Some bs → are_small bs ≡ true
+pub hex_small : (digits bs : List ℕ) → hex_bytes digits ≡ Some bs → are_small bs ≡ true
 hex_small [] bs e = let same : [] ≡ bs = cc in subst (λ (l : List ℕ). are_small l ≡ true) same refl
 hex_small (high ∷ []) bs e = absurd (cc)
 hex_small (high ∷ low ∷ rest) bs e = go (hex_digit_value high) (hex_digit_value low) (hex_bytes rest) refl refl refl e (λ more c. hex_small rest more c)
@@ -58,7 +57,7 @@ hex_small (high ∷ low ∷ rest) bs e = go (hex_digit_value high) (hex_digit_va
     go (Some h) None o a b c k later = absurd (cc)
     go (Some h) (Some l) None a b c k later = absurd (cc)
 
-each_small : (bs : List ℕ) → are_small bs ≡ true → AreBytes bs
+pub each_small : (bs : List ℕ) → are_small bs ≡ true → AreBytes bs
 each_small bs h = All-from_recursion (λ b. b < 256) bs (go bs h)
   where
     go : (s : List ℕ) → are_small s ≡ true → AllByRecursion (λ b. b < 256) s

@@ -6,3 +6,4 @@ pub mod ListedRows
 pub mod CursorRows
 pub mod LargeRows
 pub mod Forms
+pub mod Defined

@@ -37,3 +37,6 @@ uncut text some not = sym (last_of text some ∙ ap (λ b. cond b (take (length 
 pub empty : (text : List ℕ) → length text < 1 → text ≡ without_return text
 empty [] none = refl
 empty (c ∷ cs) none = absurd (omega arith)
+
+-- what a line without its return is proved by
+pub ruleset returns = (cut, uncut, empty)

@@ -158,3 +158,6 @@ says bytes line r cut is read =
     ∙ sym (ap (λ l. line_answer (option_map (item_of readers) (parsed l))) (sym cut)
     ∙ (ap (λ (b : Bool). line_answer (option_map (item_of readers) (if_said b line))) is
     ∙ answered (item_of readers (within_length (nat_lt 140_000 (length line)) line))))
+
+-- what the rows want of memory is proved by
+pub ruleset memory_of_rows = (never_memory, soup_takes, entry_takes, transfer_takes)

@@ -1,5 +1,7 @@
--- The graphs and bytes in a line, as the code reads them: HEX, an object stream or bytes in hexadecimal digits, and LIT, a literal.
-use Rattle.std.specs.Prelude.{ℕ, ◌==◌, List, length, Option, Some, None, Result, Ok, Err, if◌then◌else◌}
+-- The graphs and bytes in a line, as the code reads them: HEX, an object stream or bytes in
+-- hexadecimal digits, and LIT, a literal.
+use Rattle.std.specs.Prelude.{ℕ, ◌==◌, List, length, Option, Some, None, Result, Ok, Err}
+use Rattle.std.specs.Prelude.{if◌then◌else◌}
 use Rattle.std.specs.Str.{chars, is_utf8}
 use Rattle.newt_base.specs.Text.{hex_bytes}
 use Rattle.newt_base.specs.declared.Refusal.{Refusal}
@@ -71,4 +73,5 @@ literal_answer (Some graph) = Ok graph
 
 -- the graph of LIT; an empty one has not the form of a row
 unfoldable pub literal_word : List ℕ → Result RawGraph LineFault
-literal_word text = if length text == 0 then Err (Refused refusals.Line) else literal_answer (literal_in text)
+literal_word text =
+    if length text == 0 then Err (Refused refusals.Line) else literal_answer (literal_in text)

@@ -3,3 +3,4 @@ pub mod Graphs
 pub mod Verbs
 pub mod Rows
 pub mod Lines
+pub mod Defined

@@ -1,5 +1,6 @@
 -- What one line of a script says, as the code answers it.
-use Rattle.std.specs.Prelude.{ℕ, Bool, not, ◌&&◌, List, length, nat_lt, Option, Some, None, Result, Ok, Err, option_map}
+use Rattle.std.specs.Prelude.{ℕ, Bool, not, ◌&&◌, List, length, nat_lt, Option, Some, None, Result}
+use Rattle.std.specs.Prelude.{Ok, Err, option_map}
 use Rattle.newt_spec_world.specs.declared.command.Command.{Command}
 use Rattle.newt_spec_script.specs.Line.{parsed, within_length, first_word}
 use Rattle.newt_spec_script.specs.Script.{Item, item_of, without_return}
@@ -15,7 +16,8 @@ line_answer None = Ok None
 line_answer (Some (Ok command)) = Ok (Some command)
 line_answer (Some (Err refusal)) = Err (Refused refusal)
 
--- What a line says, of which the byte 10 at its end is left out: a command, or the refusal of its reading, or nothing. One byte 13 at its end is dropped.
+-- What a line says, of which the byte 10 at its end is left out: a command, or the refusal of its
+-- reading, or nothing. One byte 13 at its end is dropped.
 unfoldable pub line_command : List ℕ → Result (Option Command) LineFault
 line_command bytes = line_answer (option_map (item_of readers) (parsed (without_return bytes)))
 
@@ -23,6 +25,7 @@ line_command bytes = line_answer (option_map (item_of readers) (parsed (without_
 unfoldable pub spoken : List ℕ → Reading
 spoken line = reading (within_length (nat_lt 140_000 (length line)) line)
 
--- Whether a line may want memory: it is not too long, and its first word is that of a command which holds a name, a path, a list, a graph or bytes. A blank line and a `%` line have no such word.
+-- Whether a line may want memory: it is not too long, and its first word is that of a command which
+-- holds a name, a path, a list, a graph or bytes. A blank line and a `%` line have no such word.
 unfoldable pub takes_memory : List ℕ → Bool
 takes_memory line = not (nat_lt 140_000 (length line)) && is_memory_word (first_word line).0

@@ -118,11 +118,13 @@ word_of (verb.Entry v) = entry_word v
 word_of (verb.Transfer v) = transfer_word v
 word_of (verb.Cursor v) = cursor_word v
 
--- those of the commands that hold a name, a path, a list, a graph or bytes: the rows of all other words take no memory
+-- those of the commands that hold a name, a path, a list, a graph or bytes: the rows of all other
+-- words take no memory
 abbrev pub memory_words : List (List ℕ)
 memory_words =
-    codes "nsof" ∷ codes "lit" ∷ codes "format" ∷ codes "soup" ∷ codes "drop" ∷ codes "query" ∷ codes "gotokey"
-    ∷ codes "add" ∷ codes "addx" ∷ codes "addu" ∷ codes "get" ∷ codes "getx" ∷ codes "set" ∷ codes "change" ∷ codes "remove"
+    codes "nsof" ∷ codes "lit" ∷ codes "format" ∷ codes "soup" ∷ codes "drop" ∷ codes "query"
+    ∷ codes "gotokey" ∷ codes "add" ∷ codes "addx" ∷ codes "addu" ∷ codes "get" ∷ codes "getx"
+    ∷ codes "set" ∷ codes "change" ∷ codes "remove"
     ∷ codes "copy" ∷ codes "move" ∷ codes "alias" ∷ codes "resolve" ∷ codes "vread" ∷ codes "vwrite"
     ∷ codes "index" ∷ codes "unindex" ∷ codes "indexes" ∷ codes "tags" ∷ []
 

@@ -13,7 +13,7 @@ use newt_spec_world::Command;
 use std::alloc::Global;
 
 /// A line without the byte 13 at its end.
-#[tactic(auto, using(crate::proofs::Returns::cut, crate::proofs::Returns::uncut, crate::proofs::Returns::empty))]
+#[tactic(auto, using(crate::proofs::Returns::returns))]
 fn without_return(line: &[u8]) -> &[u8]
     ensures { result.now ≡ script.without_return line.now }
 {

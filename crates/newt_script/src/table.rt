@@ -11,7 +11,7 @@ use newt_spec_world::Command;
 use std::alloc::Global;
 
 /// The command of the words behind the first one.
-#[tactic(auto, using(crate::proofs::Spoken::never_memory, crate::proofs::Spoken::soup_takes, crate::proofs::Spoken::entry_takes, crate::proofs::Spoken::transfer_takes))]
+#[tactic(auto, using(crate::proofs::Spoken::memory_of_rows))]
 pub fn row(alloc: Global, verb: Verb, words: &mut Words) -> Result<Command, LineFault>
     ensures reading { result ≢ Err LineFault.Memory
         → result ≡ row_reading (word_of verb) words.old }

@@ -8,8 +8,8 @@ ghost use Rattle.newt_spec_script.specs.Generator.{add_line, drawn, gen_script, 
 use std::alloc::{AllocError, Global};
 
 /// The lines that make the store and its soup.
-const START: &[u8] =
-    b"format 0 Gen 1\nmount 0\nsoup 0 Names\nindex 0 Names name.last:string:ascend\ntags 0 Names labels business personal\n";
+const START: &[u8] = b"format 0 Gen 1\nmount 0\nsoup 0 Names\n\
+    index 0 Names name.last:string:ascend\ntags 0 Names labels business personal\n";
 
 /// The line that opens a cursor.
 const QUERY: &[u8] = b"query 0 Names {indexPath: [pathExpr: 'name, 'last]}\n";

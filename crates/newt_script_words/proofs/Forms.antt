@@ -82,3 +82,6 @@ unfolding star_of
 stays_at_no_star cs w word_ok is =
     word_is star cs refl
     ∙ (ap (λ v. or_not_the_form (star v) (first_word cs).1) (sym word_ok) ∙ ap (λ (b : Bool). or_not_the_form (if b then Some 0 else None) (first_word cs).1) is)
+
+-- what a word that may be a star is proved by
+pub ruleset stars = (passes_star, stays_at_no_star)

@@ -95,3 +95,8 @@ too_many text a rest b rest' c more is next last = ap part_of (is ∙ ap (λ ps.
 -- a part of three pieces
 pub part_is : (text a b c : List ℕ) → split_at 58 text ≡ a ∷ b ∷ c ∷ [] → part text ≡ part_of (a ∷ b ∷ c ∷ [])
 part_is text a b c is = ap part_of is
+
+-- what the pieces of a part are proved by
+pub ruleset pieces = (one_piece, two_pieces, three, too_many)
+
+pub ruleset cuts = (cut_at, within, no_cut)

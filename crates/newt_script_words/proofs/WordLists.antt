@@ -206,3 +206,8 @@ pub shorter : (w rest after : List ℕ) → 1 ≤ length w → w ≡ (first_word
 shorter w rest after some word_is after_is =
     let next = next_word rest (subst (λ (v : List ℕ). 1 ≤ length v) word_is some) in
     subst (λ (v : List ℕ). length v < length rest) (sym after_is) next.1
+
+-- what the loops over words are proved by
+pub ruleset words_read = (all_read, one_read, shorter)
+
+pub ruleset values_read = (one_more, whole, refused)

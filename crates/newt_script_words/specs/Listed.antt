@@ -1,5 +1,7 @@
--- The lists in a line, as the code reads them: PART.., PATH.. and SYM.., each to the end of the line.
-use Rattle.std.specs.Prelude.{ℕ, Bool, ◌&&◌, nat_le, List, length, Option, Some, None, Result, Ok, Err, if◌then◌else◌}
+-- The lists in a line, as the code reads them: PART.., PATH.. and SYM.., each to the end of the
+-- line.
+use Rattle.std.specs.Prelude.{ℕ, Bool, ◌&&◌, nat_le, List, length, Option, Some, None, Result, Ok}
+use Rattle.std.specs.Prelude.{Err, if◌then◌else◌}
 use Rattle.newt_base.specs.Names.{same_name}
 use Rattle.newt_path.specs.Names.{path_of}
 use Rattle.newt_spec_graph.specs.Lists.{all_apart}
@@ -18,7 +20,8 @@ abbrev pub in_number : ℕ → List (List ℕ) → Bool
 in_number most ws = nat_le 1 (length ws) && nat_le (length ws) most
 
 -- the values of words that are in number and have the form
-abbrev pub values : {A : Type 0} → ℕ → (List ℕ → Option A) → List (List ℕ) → Result (List A) WordFault
+abbrev pub values : {A : Type 0} → ℕ → (List ℕ → Option A) → List (List ℕ)
+    → Result (List A) WordFault
 values most form ws = of_form (if in_number most ws then all_words form ws else None)
 
 -- symbols of which no two are one

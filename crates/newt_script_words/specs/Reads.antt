@@ -5,13 +5,16 @@ use Rattle.newt_base.specs.declared.Refusal.TheVariants.{Line as NotTheForm}
 use Rattle.newt_script_words.specs.declared.fault.WordFault.{WordFault}
 use Rattle.newt_script_words.specs.declared.fault.WordFault.TheVariants.{Form, Memory}
 
--- The words are read as the definition reads them: what is found means the value that it gives, and `Form` is answered exactly where it gives none.
--- Where memory was wanting nothing is said.
-pub record Reads {A B : Type 0} (definition : Result A Refusal) (result : Result B WordFault) (meaning : B → A) : Type 0 where
+-- The words are read as the definition reads them: what is found means the value that it gives, and
+-- `Form` is answered exactly where it gives none. Where memory was wanting nothing is said.
+pub record Reads {A B : Type 0} (definition : Result A Refusal) (result : Result B WordFault)
+    (meaning : B → A) : Type 0 where
   pub read : IfOk result (λ found. definition ≡ Ok (meaning found))
-  pub refused : result ≢ Err Memory → IfErr result (λ fault. (fault ≡ Form) × (definition ≡ Err NotTheForm))
+  pub refused : result ≢ Err Memory
+      → IfErr result (λ fault. (fault ≡ Form) × (definition ≡ Err NotTheForm))
 
 -- The same of a word that the definition gives a value or none.
-pub record Spells {A B : Type 0} (definition : Option A) (result : Result B WordFault) (meaning : B → A) : Type 0 where
+pub record Spells {A B : Type 0} (definition : Option A) (result : Result B WordFault)
+    (meaning : B → A) : Type 0 where
   pub read : IfOk result (λ found. definition ≡ Some (meaning found))
   pub refused : result ≢ Err Memory → IfErr result (λ fault. (fault ≡ Form) × (definition ≡ None))

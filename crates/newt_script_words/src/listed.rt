@@ -17,7 +17,7 @@ use std::alloc::{AllocError, Global};
 const MOST_PARTS: usize = 4;
 
 /// The words of a text.
-#[tactic(auto, using(crate::proofs::WordLists::all_read, crate::proofs::WordLists::one_read, crate::proofs::WordLists::shorter))]
+#[tactic(auto, using(crate::proofs::WordLists::words_read))]
 fn words_of(alloc: Global, text: &[u8]) -> Result<Vec<&[u8]>, AllocError>
     ensures { IfOk result (λ words. map (λ word. word.now) words.items ≡ spec.words text.now) }
 {
@@ -58,7 +58,7 @@ fn is_in_number(number: usize, most: usize) -> bool
 }
 
 /// The parts that words are.
-#[tactic(auto, using(crate::proofs::WordLists::one_more, crate::proofs::WordLists::whole, crate::proofs::WordLists::refused))]
+#[tactic(auto, using(crate::proofs::WordLists::values_read))]
 fn all_parts(alloc: Global, words: &[&[u8]]) -> Result<Parts, WordFault>
     ensures { result ≢ Err WordFault.Memory
         → result ≡ of_form (spec.all_words spec.part (map (λ word. word.now) words.now)) }
@@ -71,7 +71,7 @@ fn all_parts(alloc: Global, words: &[&[u8]]) -> Result<Parts, WordFault>
 }
 
 /// The paths that words are.
-#[tactic(auto, using(crate::proofs::WordLists::one_more, crate::proofs::WordLists::whole, crate::proofs::WordLists::refused))]
+#[tactic(auto, using(crate::proofs::WordLists::values_read))]
 fn all_paths(alloc: Global, words: &[&[u8]]) -> Result<Paths, WordFault>
     ensures { result ≢ Err WordFault.Memory
         → result ≡ of_form (spec.all_words path_of (map (λ word. word.now) words.now)) }
@@ -84,7 +84,7 @@ fn all_paths(alloc: Global, words: &[&[u8]]) -> Result<Paths, WordFault>
 }
 
 /// The symbols that words are.
-#[tactic(auto, using(crate::proofs::WordLists::one_more, crate::proofs::WordLists::whole, crate::proofs::WordLists::refused))]
+#[tactic(auto, using(crate::proofs::WordLists::values_read))]
 fn all_symbols(alloc: Global, words: &[&[u8]]) -> Result<Syms, WordFault>
     ensures { result ≢ Err WordFault.Memory
         → result ≡ of_form (spec.all_words spec.symbol (map (λ word. word.now) words.now)) }

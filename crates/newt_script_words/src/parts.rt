@@ -72,7 +72,7 @@ fn order(word: &[u8]) -> Option<Order>
 }
 
 /// The pieces of a text with two colons.
-#[tactic(auto, using(crate::proofs::Pieces::one_piece, crate::proofs::Pieces::two_pieces, crate::proofs::Pieces::three, crate::proofs::Pieces::too_many))]
+#[tactic(auto, using(crate::proofs::Pieces::pieces))]
 fn three_pieces(text: &[u8]) -> Option<(&[u8], &[u8], &[u8])>
     ensures { MatchOption result (spec.part text.now ≡ None) (λ found.
         spec.split_at 58 text.now ≡ found.0.now ∷ found.1.now ∷ found.2.now ∷ []) }
@@ -86,7 +86,7 @@ fn three_pieces(text: &[u8]) -> Option<(&[u8], &[u8], &[u8])>
 }
 
 /// What stands before and behind the first colon.
-#[tactic(auto, using(crate::proofs::Pieces::cut_at, crate::proofs::Pieces::within, crate::proofs::Pieces::no_cut))]
+#[tactic(auto, using(crate::proofs::Pieces::cuts))]
 fn at_colon(text: &[u8]) -> Option<(&[u8], &[u8])>
     ensures { MatchOption result (spec.split_at 58 text.now ≡ text.now ∷ []) (λ found.
         spec.split_at 58 text.now ≡ found.0.now ∷ spec.split_at 58 found.1.now) }

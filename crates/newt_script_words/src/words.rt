@@ -130,7 +130,7 @@ impl<'a> Words<'a> {
     }
 
     /// Whether the next word is a star, which is passed.
-    #[tactic(auto, using(crate::proofs::Forms::passes_star, crate::proofs::Forms::stays_at_no_star))]
+    #[tactic(auto, using(crate::proofs::Forms::stars))]
     pub fn star(&mut self) -> bool
         ensures { MatchBool result (star_of self.old ≡ Ok (0, self.new))
             ((star_of self.old ≡ Err NotTheForm) × (self.new ≡ self.old)) }

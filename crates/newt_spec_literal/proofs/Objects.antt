@@ -1,4 +1,5 @@
--- What a text writes down of an object: strings and binaries, and what containers have around their values.
+-- What a text writes down of an object: strings and binaries, and what containers have around their
+-- values.
 use Rattle.std.proofs.Common.{◌≡◌, ℕ, zero, suc, ◌+◌, ◌*◌, ◌≤◌, true, false, List, [], ◌∷◌, ◌++◌, length, take, get_or, Option, Some, refl, sym, ap, ◌∙◌, subst, append_assoc, arith, add-one}
 use Rattle.std.specs.Prelude.{slice_get, codes}
 use Rattle.std.specs.List.{sum_by}

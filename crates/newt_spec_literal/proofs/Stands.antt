@@ -25,8 +25,8 @@ pub record Order (graph : List Node) (seen : List ℕ) (built : List Node) : Typ
   pub apart : (p q k : ℕ) → slice_get seen p ≡ Some k → slice_get seen q ≡ Some k → p ≡ q
   pub there : (p k : ℕ) → slice_get seen p ≡ Some k → k < length graph
 
--- Of those that are open it has only the place. The walk has met so many, of which the text may have met fewer symbols, or more. Labels
--- stand for the objects that have one.
+-- Of those that are open it has only the place. The walk has met so many, of which the text may
+-- have met fewer symbols, or more. Labels stand for the objects that have one.
 pub record Stands (graph : List Node) (labels : List (Option ℕ)) (met : ℕ) (seen open_nodes : List ℕ) (b : Built) : Type 0 where
   pub order : Order graph seen b.nodes
   pub each : (p k : ℕ) (node : Node) → slice_get seen p ≡ Some k → slice_get b.nodes p ≡ Some node → list_any (eqb k) open_nodes ≡ false → (x : Node) × (slice_get graph k ≡ Some x) × NodeStands seen node x

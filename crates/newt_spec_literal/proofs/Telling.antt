@@ -1,4 +1,5 @@
--- A graph in normal form is walked so: what stands at each place, and a label for each object that is met again.
+-- A graph in normal form is walked so: what stands at each place, and a label for each object that
+-- is met again.
 use Rattle.std.proofs.Common.{◌≡◌, ℕ, zero, suc, ◌+◌, ◌-◌, ◌<◌, ◌≤◌, Bool, true, false, cond, eqb, ltb, List, [], ◌∷◌, ◌++◌, length, map, Option, Some, None, refl, sym, ap, ◌∙◌, subst, arith, inl, inr, add-zero}
 use Rattle.std.specs.Prelude.{slice_get, flat_map}
 use Rattle.std.proofs.lemmas.Bool.{lt-ltb, ltb-true, ltb-false, eqb-true, eqb-false}
@@ -23,7 +24,8 @@ pub record AreLabelled (graph : List Node) (labels : List (Option ℕ)) (total :
 abbrev below : ℕ → ℕ → ℕ
 below k met = cond (ltb k met) 1 0
 
--- These nodes are what the walk meets anew from these references. An object that was met before is named more often than in them.
+-- These nodes are what the walk meets anew from these references. An object that was met before is
+-- named more often than in them.
 pub record Placed (graph : List Node) (total : ℕ → ℕ) (met : ℕ) (rs : List Ref) (new : List Node) : Type 0 where
   pub here : (i : ℕ) (node : Node) → slice_get new i ≡ Some node → slice_get graph (met + i) ≡ Some node
   pub whole : met + length new ≤ length graph

@@ -20,7 +20,8 @@ pub record Between (graph : List Node) (from to : ℕ) : Type 0 where
   pub le : from ≤ to
   pub symbols : (k : ℕ) → from ≤ k → k < to → IsSymbol graph k
 
--- A walk that has met so many nodes comes to a value; at its end it has met so many. An object that is met again has a label.
+-- A walk that has met so many nodes comes to a value; at its end it has met so many. An object that
+-- is met again has a label.
 mutual
   pub data Told (graph : List Node) (labels : List (Option ℕ)) : (room met : ℕ) → Ref → ℕ → Type 0 where
     word : {room met : ℕ} {w : ℤ} → IsWord w → Told graph labels room met (refs.Imm w) met

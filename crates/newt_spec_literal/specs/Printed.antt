@@ -1,12 +1,15 @@
 -- The printed text of a graph as a literal (this project's own).
-use Rattle.std.specs.Prelude.{ℕ, zero, suc, ◌+◌, ◌/◌, ◌%◌, ◌^◌, Bool, true, false, not, ◌&&◌, ◌==◌, nat_lt, List, [], ◌∷◌, ◌++◌, map, flat_map, count_by, zip, slice_get, get_or, Option, Some, None, if◌then◌else◌, codes, ℤ, pos, decimal}
+use Rattle.std.specs.Prelude.{ℕ, zero, suc, ◌+◌, ◌/◌, ◌%◌, ◌^◌, Bool, true, false, not, ◌&&◌, ◌==◌}
+use Rattle.std.specs.Prelude.{nat_lt, List, [], ◌∷◌, ◌++◌, map, flat_map, count_by, zip, slice_get}
+use Rattle.std.specs.Prelude.{get_or, Option, Some, None, if◌then◌else◌, codes, ℤ, pos, decimal}
 use Rattle.std.specs.Fmt.{signed_decimal}
 use Rattle.std.specs.Int.{cast_unsigned, int_div_euclid, w32}
 use Rattle.std.specs.List.{list_any}
 use Rattle.newt_base.specs.Names.{is_printable, is_identifier}
 use Rattle.newt_base.specs.Text.{hex_text, be16, be32}
 use Rattle.newt_graph.specs.declared.node.Node.{Node}
-use Rattle.newt_graph.specs.declared.node.Node.TheVariants.{Symbol, Str, Binary, Large, Array, Frame}
+use Rattle.newt_graph.specs.declared.node.Node.TheVariants.{Symbol, Str, Binary, Large, Array}
+use Rattle.newt_graph.specs.declared.node.Node.TheVariants.{Frame}
 use Rattle.newt_graph.specs.declared.node.Ref.{Ref}
 use Rattle.newt_graph.specs.declared.node.Ref.TheVariants as refs
 use Rattle.newt_graph.specs.Limits.{most_open}
@@ -23,7 +26,9 @@ escaped marks c = if list_any (λ mark. mark == c) marks then 92 ∷ c ∷ [] el
 
 -- a name as it stands where it is an identifier, else between bars
 abbrev pub name_text : List ℕ → List ℕ
-name_text name = if is_identifier name then name else codes "|" ++ (flat_map (escaped (codes "|\\")) name ++ codes "|")
+name_text name =
+    if is_identifier name then name
+    else codes "|" ++ (flat_map (escaped (codes "|\\")) name ++ codes "|")
 
 -- the name of a symbol
 abbrev pub symbol_text : Option Node → List ℕ
@@ -52,7 +57,8 @@ word_text word =
 
 -- ---- strings and binaries
 
--- a unit from 32 to 126 as itself, with a backslash before '"' and '\', any other as its four digits
+-- a unit from 32 to 126 as itself, with a backslash before '"' and '\', any other as its four
+-- digits
 abbrev pub unit_text : ℕ → List ℕ
 unit_text u = if is_printable u then escaped (codes "\"\\") u else codes "\\u" ++ hex16 u
 
@@ -61,11 +67,13 @@ string_text units = codes "\"" ++ (flat_map unit_text units ++ codes "\"")
 
 -- the class and the bytes between two brackets
 abbrev pub binary_text : List Node → (before after : List ℕ) → ℕ → List ℕ → List ℕ
-binary_text nodes before after class bytes = before ++ (symbol_text (slice_get nodes class) ++ (codes ":" ++ (hex_text bytes ++ after)))
+binary_text nodes before after class bytes =
+    before ++ (symbol_text (slice_get nodes class) ++ (codes ":" ++ (hex_text bytes ++ after)))
 
 -- ---- lists
 
--- what follows a thing in a list: the other things, each behind a comma and a space, and the closing mark
+-- what follows a thing in a list: the other things, each behind a comma and a space, and the
+-- closing mark
 abbrev pub more_text : ℕ → List Spelling → Spelling
 more_text close [] = plain (close ∷ [])
 more_text close (s ∷ ss) = plain (codes ", ") then s then more_text close ss
@@ -83,7 +91,8 @@ class_text nodes (Some class) (v ∷ vs) = symbol_text (slice_get nodes class) +
 
 -- a tag, its colon, a space and the value
 abbrev pub field_text : List Node → (Ref → Spelling) → ℕ × Ref → Spelling
-field_text nodes value field = plain (symbol_text (slice_get nodes field.0) ++ codes ": ") then value field.1
+field_text nodes value field =
+    plain (symbol_text (slice_get nodes field.0) ++ codes ": ") then value field.1
 
 -- ---- objects
 
@@ -91,10 +100,14 @@ field_text nodes value field = plain (symbol_text (slice_get nodes field.0) ++ c
 abbrev pub object_text : List Node → (Ref → Spelling) → Node → Spelling
 object_text nodes value (Symbol name) = plain (39 ∷ name_text name)
 object_text nodes value (Str units) = plain (string_text units)
-object_text nodes value (Binary class bytes) = plain (binary_text nodes (codes "<") (codes ">") class bytes)
-object_text nodes value (Large class bytes) = plain (binary_text nodes (codes "<<") (codes ">>") class bytes)
-object_text nodes value (Array class values) = plain (91 ∷ class_text nodes class values) then list_text 93 (map value values)
-object_text nodes value (Frame tags values) = plain (codes "{") then list_text 125 (map (field_text nodes value) (zip tags values))
+object_text nodes value (Binary class bytes) =
+    plain (binary_text nodes (codes "<") (codes ">") class bytes)
+object_text nodes value (Large class bytes) =
+    plain (binary_text nodes (codes "<<") (codes ">>") class bytes)
+object_text nodes value (Array class values) =
+    plain (91 ∷ class_text nodes class values) then list_text 93 (map value values)
+object_text nodes value (Frame tags values) =
+    plain (codes "{") then list_text 125 (map (field_text nodes value) (zip tags values))
 
 -- '#', the label and the mark behind it, where there is a label
 abbrev pub label_text : Option ℕ → ℕ → List ℕ
@@ -132,7 +145,8 @@ ref_text node (refs.Node n) = node n
 -- node n, with so many objects within one another at most
 abbrev pub node_at : List Node → List (Option ℕ) → ℕ → ℕ → Spelling
 node_at nodes labels zero n = plain []
-node_at nodes labels (suc levels) n = node_text nodes labels (ref_text (node_at nodes labels levels)) n (slice_get nodes n)
+node_at nodes labels (suc levels) n =
+    node_text nodes labels (ref_text (node_at nodes labels levels)) n (slice_get nodes n)
 
 -- a value, with so many objects within one another at most
 abbrev pub value_at : List Node → List (Option ℕ) → ℕ → Ref → Spelling
@@ -165,6 +179,7 @@ labels g = labels_from (references g) 0 0 g.nodes
 
 -- ---- the whole
 
--- The one printed text of a graph in normal form. Its containers are open within one another as far as the limit, and then comes an object without values.
+-- The one printed text of a graph in normal form. Its containers are open within one another as far
+-- as the limit, and then comes an object without values.
 abbrev pub literal : RawGraph → List ℕ
 literal g = (value_at g.nodes (labels g) (most_open + 1) g.root 0).0

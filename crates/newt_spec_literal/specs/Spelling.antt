@@ -1,8 +1,8 @@
 -- Texts of a graph that spell an object where they meet it first, and name it afterwards.
 use Rattle.std.specs.Prelude.{ℕ, List, ◌++◌}
 
--- A text that depends on which objects have been met before it, and tells which have been met at its end. In a graph in normal form the
--- objects that have been met are those below a number.
+-- A text that depends on which objects have been met before it, and tells which have been met at
+-- its end. In a graph in normal form the objects that have been met are those below a number.
 abbrev pub Spelling : Type 0
 Spelling = ℕ → List ℕ × ℕ
 

@@ -1,8 +1,11 @@
--- How long a written text is, from one pass over the nodes: in normal form each node is written in full once.
-use Rattle.std.specs.Prelude.{ℕ, zero, suc, ◌+◌, ◌*◌, [], length, map, Option, Some, None, nat_lt, if◌then◌else◌}
+-- How long a written text is, from one pass over the nodes: in normal form each node is written in
+-- full once.
+use Rattle.std.specs.Prelude.{ℕ, zero, suc, ◌+◌, ◌*◌, [], length, map, Option, Some, None, nat_lt}
+use Rattle.std.specs.Prelude.{if◌then◌else◌}
 use Rattle.std.specs.List.{sum_by}
 use Rattle.newt_graph.specs.declared.node.Node.{Node}
-use Rattle.newt_graph.specs.declared.node.Node.TheVariants.{Symbol, Str, Binary, Large, Array, Frame}
+use Rattle.newt_graph.specs.declared.node.Node.TheVariants.{Symbol, Str, Binary, Large, Array}
+use Rattle.newt_graph.specs.declared.node.Node.TheVariants.{Frame}
 use Rattle.newt_graph.specs.declared.node.Ref.{Ref}
 use Rattle.newt_graph.specs.declared.node.Ref.TheVariants as refs
 use Rattle.newt_graph.specs.Graph.{RawGraph}
@@ -54,8 +57,10 @@ node_len (Symbol name) = 1 + count_len (length name) + length name
 node_len (Str units) = 1 + count_len (2 * length units + 2) + (2 * length units + 2)
 node_len (Binary class bytes) = 1 + count_len (length bytes) + again_len class + length bytes
 node_len (Large class bytes) = 18 + again_len class + length bytes
-node_len (Array class values) = 1 + count_len (length values) + class_len class + sum_by ref_len values
-node_len (Frame tags values) = 1 + count_len (length tags) + sum_by again_len tags + sum_by ref_len values
+node_len (Array class values) =
+    1 + count_len (length values) + class_len class + sum_by ref_len values
+node_len (Frame tags values) =
+    1 + count_len (length tags) + sum_by again_len tags + sum_by ref_len values
 
 -- each of the first n nodes, once more
 unfoldable pub agains_len : ℕ → ℕ

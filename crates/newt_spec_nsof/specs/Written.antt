@@ -1,9 +1,13 @@
--- The one text that is written of a graph, in the rows of Newton Formats 1.1: every number in its shortest form, nil and characters by their
--- own tags, a node in full where the walk from the root meets it first and as a precedent afterwards. Tag 11 is not written.
-use Rattle.std.specs.Prelude.{ℕ, Bool, false, zero, suc, ◌+◌, ◌*◌, ◌/◌, ◌%◌, List, [], ◌∷◌, ◌++◌, length, Option, Some, None, ℤ, pos, negsuc, slice_get, nat_lt, ◌==◌, ◌&&◌, if◌then◌else◌}
+-- The one text that is written of a graph, in the rows of Newton Formats 1.1: every number in its
+-- shortest form, nil and characters by their own tags, a node in full where the walk from the root
+-- meets it first and as a precedent afterwards. Tag 11 is not written.
+use Rattle.std.specs.Prelude.{ℕ, Bool, false, zero, suc, ◌+◌, ◌*◌, ◌/◌, ◌%◌, List, [], ◌∷◌, ◌++◌}
+use Rattle.std.specs.Prelude.{length, Option, Some, None, ℤ, pos, negsuc, slice_get, nat_lt, ◌==◌}
+use Rattle.std.specs.Prelude.{◌&&◌, if◌then◌else◌}
 use Rattle.std.specs.Int.{w32, to_be_bytes, cast_unsigned}
 use Rattle.newt_graph.specs.declared.node.Node.{Node}
-use Rattle.newt_graph.specs.declared.node.Node.TheVariants.{Symbol, Str, Binary, Large, Array, Frame}
+use Rattle.newt_graph.specs.declared.node.Node.TheVariants.{Symbol, Str, Binary, Large, Array}
+use Rattle.newt_graph.specs.declared.node.Node.TheVariants.{Frame}
 use Rattle.newt_graph.specs.declared.node.Ref.{Ref}
 use Rattle.newt_graph.specs.declared.node.Ref.TheVariants as refs
 use Rattle.newt_graph.specs.Limits.{most_open}
@@ -34,7 +38,10 @@ character_text c = if nat_lt c 256 then 1 ∷ c ∷ [] else 2 ∷ c / 256 ∷ c 
 
 -- a word that stands for itself: nil, a character, or any other
 unfoldable pub word_text : ℤ → List ℕ
-word_text (pos n) = if n == 2 then 10 ∷ [] else if n % 16 == 6 && nat_lt (n / 16) 65536 then character_text (n / 16) else 0 ∷ xlong_text (pos n)
+word_text (pos n) =
+    if n == 2 then 10 ∷ []
+    else if n % 16 == 6 && nat_lt (n / 16) 65536 then character_text (n / 16)
+    else 0 ∷ xlong_text (pos n)
 word_text (negsuc n) = 0 ∷ xlong_text (negsuc n)
 
 -- a node that was met: as each object of a written text adds a node, its number is that of the node
@@ -64,7 +71,8 @@ new_label _ met = ([], met)
 
 -- a class or a tag: in full where it is met first, else by its number
 unfoldable pub label_text : List Node → ℕ → ℕ → Text
-label_text nodes k met = if nat_lt k met then (again_text k, met) else new_label (slice_get nodes k) met
+label_text nodes k met =
+    if nat_lt k met then (again_text k, met) else new_label (slice_get nodes k) met
 
 -- a frame in full, where its values are written so
 unfoldable pub frame_text : (Ref → ℕ → Text) → List Node → List ℕ → List Ref → ℕ → Text
@@ -119,12 +127,14 @@ new_node inner nodes None met = ([], met)
 -- a value, where values within it are written so
 abbrev pub text_at : (Ref → ℕ → Text) → List Node → Ref → ℕ → Text
 text_at inner nodes (refs.Imm w) met = (word_text w, met)
-text_at inner nodes (refs.Node k) met = if nat_lt k met then (again_text k, met) else new_node inner nodes (slice_get nodes k) met
+text_at inner nodes (refs.Node k) met =
+    if nat_lt k met then (again_text k, met) else new_node inner nodes (slice_get nodes k) met
 
 -- a value, with room for so many containers within one another
 unfoldable pub value_text : ℕ → List Node → Ref → ℕ → Text
 value_text zero nodes value met = text_at (λ value met. ([], met)) nodes value met
-value_text (suc room) nodes value met = text_at (λ value met. value_text room nodes value met) nodes value met
+value_text (suc room) nodes value met =
+    text_at (λ value met. value_text room nodes value met) nodes value met
 
 -- the written text of a graph: the version, and the root
 unfoldable pub nsof : RawGraph → List ℕ

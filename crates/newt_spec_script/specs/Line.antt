@@ -1,8 +1,12 @@
--- What a line says: a command, a command whose last part is still to be read, or a refusal. The commands are this project's own.
-use Rattle.std.specs.Prelude.{ℕ, Bool, true, false, not, ◌==◌, nat_lt, List, [], ◌∷◌, length, take, drop, find, Option, Some, None, Result, Ok, Err, codes, bytes_eq, if◌then◌else◌}
+-- What a line says: a command, a command whose last part is still to be read, or a refusal. The
+-- commands are this project's own.
+use Rattle.std.specs.Prelude.{ℕ, Bool, true, false, not, ◌==◌, nat_lt, List, [], ◌∷◌, length, take}
+use Rattle.std.specs.Prelude.{drop, find, Option, Some, None, Result, Ok, Err, codes, bytes_eq}
+use Rattle.std.specs.Prelude.{if◌then◌else◌}
 use Rattle.std.specs.List.{prefix_len}
 use Rattle.newt_base.specs.declared.Refusal.{Refusal}
-use Rattle.newt_base.specs.declared.Refusal.TheVariants.{Longline, Command as NoCommand, Line as NotTheForm}
+use Rattle.newt_base.specs.declared.Refusal.TheVariants.{Longline, Command as NoCommand}
+use Rattle.newt_base.specs.declared.Refusal.TheVariants.{Line as NotTheForm}
 use Rattle.newt_base.specs.Names.{same_name}
 use Rattle.newt_base.specs.Text.{decimal_value, signed_value}
 use Rattle.newt_graph.specs.Graph.{RawGraph}
@@ -10,7 +14,9 @@ use Rattle.newt_spec_graph.specs.Lists.{all_apart}
 use Rattle.newt_path.specs.Names.{path_of}
 use Rattle.newt_spec_world.specs.declared.command.Command.{Command}
 use Rattle.newt_spec_world.specs.declared.command.Command.TheVariants as command
-use Rattle.newt_spec_script.specs.Words.{Reader, is_blank, skip_blanks, trimmed, word, of1, of2, of3, of4, of5, of6, decimal_to, unit_digit, name, part, symbol, several}
+use Rattle.newt_spec_script.specs.Words.{Reader, is_blank, skip_blanks, trimmed, word, of1, of2}
+use Rattle.newt_spec_script.specs.Words.{of3, of4, of5, of6, decimal_to, unit_digit, name, part}
+use Rattle.newt_spec_script.specs.Words.{symbol, several}
 
 -- ---- the forms of single words
 
@@ -52,12 +58,15 @@ abbrev pub ended : Result (Command × List ℕ) Refusal → Parsed
 ended (Err r) = ready (Err r)
 ended (Ok (c, rest)) = if length (trimmed rest) == 0 then ready (Ok c) else ready (Err NotTheForm)
 
--- what the words give, with the rest of the line as a literal, which is not empty (this project's own)
+-- what the words give, with the rest of the line as a literal, which is not empty
+-- (this project's own)
 abbrev pub with_literal : Result ((RawGraph → Command) × List ℕ) Refusal → Parsed
 with_literal (Err r) = ready (Err r)
-with_literal (Ok (f, rest)) = if length (trimmed rest) == 0 then ready (Err NotTheForm) else literal (trimmed rest) f
+with_literal (Ok (f, rest)) =
+    if length (trimmed rest) == 0 then ready (Err NotTheForm) else literal (trimmed rest) f
 
--- what the words give, with the rest of the line as an object stream in hexadecimal (this project's own)
+-- what the words give, with the rest of the line as an object stream in hexadecimal
+-- (this project's own)
 abbrev pub with_stream : Result ((RawGraph → Command) × List ℕ) Refusal → Parsed
 with_stream (Err r) = ready (Err r)
 with_stream (Ok (f, rest)) = stream (trimmed rest) f
@@ -88,9 +97,11 @@ abbrev pub alone : {A : Type 0} → A → Reader A
 alone a cs = Ok (a, cs)
 
 -- symbols of which no two are one (this project's own)
-abbrev pub if_distinct : Result (List (List ℕ) × List ℕ) Refusal → Result (List (List ℕ) × List ℕ) Refusal
+abbrev pub if_distinct : Result (List (List ℕ) × List ℕ) Refusal
+    → Result (List (List ℕ) × List ℕ) Refusal
 if_distinct (Err r) = Err r
-if_distinct (Ok (names, rest)) = if all_apart same_name names then Ok (names, rest) else Err NotTheForm
+if_distinct (Ok (names, rest)) =
+    if all_apart same_name names then Ok (names, rest) else Err NotTheForm
 
 -- the symbols of a tags declaration (this project's own)
 abbrev pub distinct : Reader (List (List ℕ))
@@ -103,7 +114,10 @@ or_row _ other = other
 
 -- the two rows of `tags`: the first where nothing follows the soup's name (this project's own)
 abbrev pub tags_row : List ℕ → Parsed
-tags_row cs = or_row (whole (of2 unit name command.Tags) cs) (whole (of4 unit name (word path_of) distinct command.SetTags) cs)
+tags_row cs =
+    or_row
+    (whole (of2 unit name command.Tags) cs)
+    (whole (of4 unit name (word path_of) distinct command.SetTags) cs)
 
 -- the word that stands for all mounted stores (this project's own)
 abbrev pub star : List ℕ → Option ℕ

@@ -1,5 +1,6 @@
 -- A script: its lines, what they give, and the output. All of it is this project's own.
-use Rattle.std.specs.Prelude.{◌≡◌, ◌⊎◌, ℕ, Bool, true, false, ◌==◌, List, [], ◌∷◌, map, flat_map, filter_map, Option, Some, None, Result, Ok, Err, take}
+use Rattle.std.specs.Prelude.{◌≡◌, ◌⊎◌, ℕ, Bool, true, false, ◌==◌, List, [], ◌∷◌, map, flat_map}
+use Rattle.std.specs.Prelude.{filter_map, Option, Some, None, Result, Ok, Err}
 use Rattle.std.specs.List.{AllZip}
 use Rattle.newt_base.specs.Text.{hex_bytes}
 use Rattle.newt_base.specs.declared.Refusal.{Refusal}
@@ -14,7 +15,8 @@ use Rattle.newt_spec_script.specs.Line.{Parsed, ready, literal, stream, bytes, p
 
 -- ---- lines
 
--- the pieces that end at a byte 10, and what follows the last one where it is not empty (this project's own)
+-- the pieces that end at a byte 10, and what follows the last one where it is not empty
+-- (this project's own)
 abbrev pub lines : List ℕ → List (List ℕ)
 lines [] = []
 lines (c ∷ cs) = elim (c == 10) [ true ↦ [] ∷ lines cs | false ↦ onto c (lines cs) ]
@@ -49,7 +51,8 @@ module _ (Reads Spells SpellsWide : List ℕ → RawGraph → Type 0) where
   abbrev pub NoGraph : (RawGraph → Type 0) → Type 0
   NoGraph P = (g : RawGraph) → ¬ P g
 
-  -- a stream: the graph that is spelled, else that it is compressed or malformed (this project's own)
+  -- a stream: the graph that is spelled, else that it is compressed or malformed
+  -- (this project's own)
   abbrev pub ReadsStream : List ℕ → (RawGraph → Command) → Item → Type 0
   ReadsStream bs f item =
       ((g : RawGraph) × Spells bs g × (item ≡ Ok (f g)))
@@ -64,7 +67,9 @@ module _ (Reads Spells SpellsWide : List ℕ → RawGraph → Type 0) where
   -- what a line gives, as a relation (this project's own)
   abbrev pub ReadsParsed : Parsed → Item → Type 0
   ReadsParsed (ready r) item = item ≡ r
-  ReadsParsed (literal text f) item = ((g : RawGraph) × Reads text g × (item ≡ Ok (f g))) ⊎ (NoGraph (Reads text) × (item ≡ Err Literal))
+  ReadsParsed (literal text f) item =
+      ((g : RawGraph) × Reads text g × (item ≡ Ok (f g)))
+      ⊎ (NoGraph (Reads text) × (item ≡ Err Literal))
   ReadsParsed (stream digits f) item = ReadsHex (hex_bytes digits) f item
   ReadsParsed (bytes digits f) item = item ≡ bytes_item (hex_bytes digits) f
 
@@ -76,13 +81,10 @@ module _ (Reads Spells SpellsWide : List ℕ → RawGraph → Type 0) where
   abbrev pub IsScript : List ℕ → List Item → Type 0
   IsScript script items = ReadsLines (parsed_lines script) items
 
-  -- these are the items of the first lines of the script, up to some line (this project's own)
-  abbrev pub IsStart : List ℕ → List Item → Type 0
-  IsStart script items = (n : ℕ) × ReadsLines (take n (parsed_lines script)) items
-
 -- ---- the run of the items
 
--- the world after an item, and its reply; a line that is refused leaves the world (this project's own)
+-- the world after an item, and its reply; a line that is refused leaves the world
+-- (this project's own)
 abbrev pub step : World → Item → World × Reply
 step w (Err refusal) = (w, Reply.refused refusal)
 step w (Ok c) = answer w c
@@ -113,7 +115,8 @@ output w items = flat_map reply_text (replies_to w (up_to_quit items))
 
 -- ---- with readers that compute
 
--- readings of literals and of streams as functions; a stream is refused as malformed or as compressed (a word of these definitions)
+-- readings of literals and of streams as functions; a stream is refused as malformed or as
+-- compressed (a word of these definitions)
 pub record Readers : Type 0 where
   pub literal_of : List ℕ → Option RawGraph
   pub stream_of : List ℕ → Result RawGraph Refusal

@@ -1,5 +1,8 @@
 -- The words of a line, and the readers of them. The forms are this project's own.
-use Rattle.std.specs.Prelude.{ℕ, ◌+◌, ◌-◌, Bool, true, false, not, ◌&&◌, ◌||◌, ◌==◌, nat_le, List, [], ◌∷◌, length, reverse, take, filter, map, Option, Some, None, option_map, option_and_then, Result, Ok, Err, if◌then◌else◌, codes, bytes_eq, drop}
+use Rattle.std.specs.Prelude.{ℕ, ◌+◌, ◌-◌, Bool, true, false, not, ◌&&◌, ◌||◌, ◌==◌, nat_le, List}
+use Rattle.std.specs.Prelude.{[], ◌∷◌, length, reverse, take, filter, map, Option, Some, None}
+use Rattle.std.specs.Prelude.{option_map, option_and_then, Result, Ok, Err, if◌then◌else◌, codes}
+use Rattle.std.specs.Prelude.{bytes_eq, drop}
 use Rattle.std.specs.List.{list_all, prefix_len}
 use Rattle.newt_base.specs.declared.Refusal.{Refusal}
 use Rattle.newt_base.specs.declared.Refusal.TheVariants.{Line as NotTheForm}
@@ -26,16 +29,19 @@ trimmed cs = reverse (skip_blanks (reverse (skip_blanks cs)))
 
 -- ---- readers: a value from the front of a text, and the rest, or why not
 
--- reads a value from the front of a text: the value and the rest, or why not (a word of these definitions)
+-- reads a value from the front of a text: the value and the rest, or why not
+-- (a word of these definitions)
 abbrev pub Reader : Type 0 → Type 0
 Reader A = List ℕ → Result (A × List ℕ) Refusal
 
 -- goes on with the value and the rest (a word of these definitions)
-abbrev pub then_read : {A B : Type 0} → Result (A × List ℕ) Refusal → (A → List ℕ → Result (B × List ℕ) Refusal) → Result (B × List ℕ) Refusal
+abbrev pub then_read : {A B : Type 0} → Result (A × List ℕ) Refusal
+    → (A → List ℕ → Result (B × List ℕ) Refusal) → Result (B × List ℕ) Refusal
 then_read (Err r) f = Err r
 then_read (Ok x) f = f x.0 x.1
 
--- one reader, and what is made of its value; the words below it read more, one after another (a word of these definitions)
+-- one reader, and what is made of its value; the words below it read more, one after another
+-- (a word of these definitions)
 abbrev pub of1 : {A R : Type 0} → Reader A → (A → R) → Reader R
 of1 p f cs = then_read (p cs) (λ a rest. Ok (f a, rest))
 
@@ -48,15 +54,18 @@ abbrev pub of3 : {A B C R : Type 0} → Reader A → Reader B → Reader C → (
 of3 p q r f cs = then_read (p cs) (λ a. of2 q r (f a))
 
 -- four readers (a word of these definitions)
-abbrev pub of4 : {A B C D R : Type 0} → Reader A → Reader B → Reader C → Reader D → (A → B → C → D → R) → Reader R
+abbrev pub of4 : {A B C D R : Type 0} → Reader A → Reader B → Reader C → Reader D
+    → (A → B → C → D → R) → Reader R
 of4 p q r s f cs = then_read (p cs) (λ a. of3 q r s (f a))
 
 -- five readers (a word of these definitions)
-abbrev pub of5 : {A B C D E R : Type 0} → Reader A → Reader B → Reader C → Reader D → Reader E → (A → B → C → D → E → R) → Reader R
+abbrev pub of5 : {A B C D E R : Type 0} → Reader A → Reader B → Reader C → Reader D → Reader E
+    → (A → B → C → D → E → R) → Reader R
 of5 p q r s t f cs = then_read (p cs) (λ a. of4 q r s t (f a))
 
 -- six readers (a word of these definitions)
-abbrev pub of6 : {A B C D E F R : Type 0} → Reader A → Reader B → Reader C → Reader D → Reader E → Reader F → (A → B → C → D → E → F → R) → Reader R
+abbrev pub of6 : {A B C D E F R : Type 0} → Reader A → Reader B → Reader C → Reader D → Reader E
+    → Reader F → (A → B → C → D → E → F → R) → Reader R
 of6 p q r s t u f cs = then_read (p cs) (λ a. of5 q r s t u (f a))
 
 -- the value, or that the line has not the form (a word of these definitions)
@@ -92,7 +101,8 @@ only test a = if test a then Some a else None
 abbrev pub bare_name : List ℕ → Option (List ℕ)
 bare_name = only (λ cs. is_name cs && list_all (λ c. not (needs_quotes c)) cs)
 
--- The text up to the closing quote, and what follows it. A backslash stands only before a quote or a backslash, and is dropped. (this project's own)
+-- The text up to the closing quote, and what follows it. A backslash stands only before a quote or
+-- a backslash, and is dropped. (this project's own)
 abbrev pub quoted : List ℕ → Option (List ℕ × List ℕ)
 quoted [] = None
 quoted (c ∷ []) = if c == 34 then Some ([], []) else None
@@ -132,7 +142,8 @@ name cs = name_from (skip_blanks cs)
 -- the pieces between the marks (a word of these definitions)
 abbrev pub split_at : ℕ → List ℕ → List (List ℕ)
 split_at mark [] = [] ∷ []
-split_at mark (c ∷ cs) = elim (c == mark) [ true ↦ [] ∷ split_at mark cs | false ↦ onto c (split_at mark cs) ]
+split_at mark (c ∷ cs) =
+    elim (c == mark) [ true ↦ [] ∷ split_at mark cs | false ↦ onto c (split_at mark cs) ]
   where
     onto : ℕ → List (List ℕ) → List (List ℕ)
     onto x [] = (x ∷ []) ∷ []
@@ -141,17 +152,24 @@ split_at mark (c ∷ cs) = elim (c == mark) [ true ↦ [] ∷ split_at mark cs |
 -- a type; `real` gives none (this project's own)
 abbrev pub kind_word : List ℕ → Option (Option Kind)
 kind_word cs =
-    if bytes_eq cs (codes "string") then Some (Some kind.Text) else if bytes_eq cs (codes "int") then Some (Some kind.Int)
-    else if bytes_eq cs (codes "char") then Some (Some kind.Char) else if bytes_eq cs (codes "symbol") then Some (Some kind.Symbol)
+    if bytes_eq cs (codes "string") then Some (Some kind.Text)
+    else if bytes_eq cs (codes "int") then Some (Some kind.Int)
+    else if bytes_eq cs (codes "char") then Some (Some kind.Char)
+    else if bytes_eq cs (codes "symbol") then Some (Some kind.Symbol)
     else if bytes_eq cs (codes "real") then Some None else None
 
 -- a direction (this project's own)
 abbrev pub order_word : List ℕ → Option Order
-order_word cs = if bytes_eq cs (codes "ascend") then Some order.Ascend else if bytes_eq cs (codes "descend") then Some order.Descend else None
+order_word cs =
+    if bytes_eq cs (codes "ascend") then Some order.Ascend
+    else if bytes_eq cs (codes "descend") then Some order.Descend else None
 
 -- a part of an index of three pieces: path, type and direction (this project's own)
 abbrev pub part_of : List (List ℕ) → Option PartWord
-part_of (p ∷ k ∷ d ∷ []) = option_and_then (λ a. option_and_then (λ b. option_map (λ c. record { path = a; kind = b; order = c }) (order_word d)) (kind_word k)) (path_of p)
+part_of (p ∷ k ∷ d ∷ []) =
+    option_and_then (λ a. option_and_then (λ b.
+    option_map (λ c. record { path = a; kind = b; order = c }) (order_word d))
+    (kind_word k)) (path_of p)
 part_of _ = None
 
 -- a part of an index: its pieces have colons between them (this project's own)
@@ -165,13 +183,15 @@ words cs = filter (λ w. not (length w == 0)) (split_at 32 (map (λ c. if c == 9
 -- the values of words that all have the form (a word of these definitions)
 abbrev pub all_words : {A : Type 0} → (List ℕ → Option A) → List (List ℕ) → Option (List A)
 all_words form [] = Some []
-all_words form (w ∷ ws) = option_and_then (λ a. option_map (λ as'. a ∷ as') (all_words form ws)) (form w)
+all_words form (w ∷ ws) =
+    option_and_then (λ a. option_map (λ as'. a ∷ as') (all_words form ws)) (form w)
 
 -- one or more words to the end of the line, at most so many (this project's own)
 abbrev pub several : {A : Type 0} → ℕ → (List ℕ → Option A) → Reader (List A)
 several most form cs =
     let ws = words cs in
-    or_not_the_form (if nat_le 1 (length ws) && nat_le (length ws) most then all_words form ws else None) []
+    or_not_the_form
+    (if nat_le 1 (length ws) && nat_le (length ws) most then all_words form ws else None) []
 
 -- an identifier of at most 254 bytes (this project's own)
 abbrev pub symbol : List ℕ → Option (List ℕ)

@@ -77,7 +77,8 @@ at_keys = refl
 at_falling_keys : map (λ n. place_at_key (third ∷ second ∷ first ∷ []) (by_number order.Descend) (whole (pos n) ∷ [])) (31 ∷ 20 ∷ 19 ∷ 9 ∷ []) ≡ on third ∷ on second ∷ on first ∷ finish ∷ []
 at_falling_keys = refl
 
--- An entry is the same by its store, its soup and its id; its place takes its present key, and every other place stays.
+-- An entry is the same by its store, its soup and its id; its place takes its present key, and
+-- every other place stays.
 settling : map (settled three) (on (hit 99 7 0 2) ∷ on (hit 20 7 0 9) ∷ on (hit 20 7 1 2) ∷ on (hit 20 8 0 2) ∷ start ∷ finish ∷ [])
     ≡ on second ∷ on (hit 20 7 0 9) ∷ on (hit 20 7 1 2) ∷ on (hit 20 8 0 2) ∷ start ∷ finish ∷ []
 settling = refl

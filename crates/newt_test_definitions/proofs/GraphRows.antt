@@ -18,7 +18,8 @@ use Rattle.newt_test_definitions.proofs.Tables.{open_tables}
 
 -- ---- the normal form
 
--- The walk meets a container, its class, its tags and then its values, and goes into a value before it goes on to the next one. What it does not meet is gone.
+-- The walk meets a container, its class, its tags and then its values, and goes into a value before
+-- it goes on to the next one. What it does not meet is gone.
 mixed : normal_form (record {
   nodes = Str (120 ∷ []) ∷ Symbol (codes "b") ∷ Array (Some 3) (At 4 ∷ At 0 ∷ At 6 ∷ []) ∷ Symbol (codes "c") ∷ Frame (5 ∷ 1 ∷ []) (At 6 ∷ At 0 ∷ [])
       ∷ Symbol (codes "a") ∷ Binary 7 (1 ∷ []) ∷ Symbol (codes "d") ∷ Str [] ∷ [];
@@ -83,7 +84,8 @@ node_too_many h e = rw e refl
 byte_too_many : (h : RawGraph) → length h.nodes ≡ 65535 → sum_by payload h.nodes ≡ 16777217 → limited h ≡ None
 byte_too_many h e f = rw (e, f) refl
 
--- The bytes that count are those of binaries and large binaries, and two for each unit of a string and two more.
+-- The bytes that count are those of binaries and large binaries, and two for each unit of a string
+-- and two more.
 payloads : map payload (Symbol (codes "abc") ∷ Str [] ∷ Str (65 ∷ 66 ∷ []) ∷ Binary 0 (1 ∷ 2 ∷ 3 ∷ []) ∷ Large 0 (1 ∷ []) ∷ Array None (At 0 ∷ []) ∷ Frame (0 ∷ []) (At 0 ∷ []) ∷ []) ≡ 0 ∷ 2 ∷ 6 ∷ 3 ∷ 1 ∷ 0 ∷ 0 ∷ []
 payloads = refl
 
@@ -159,7 +161,8 @@ no_changes : map changed (
 unfolding open_tables
 no_changes = refl
 
--- Three parts in a row: the graph's nodes, the new symbol of the path, and the value's nodes without the symbol that is there. Nothing is dropped.
+-- Three parts in a row: the graph's nodes, the new symbol of the path, and the value's nodes
+-- without the symbol that is there. Nothing is dropped.
 parts_of_a_change : option_and_then (λ g. put g (codes "b" ∷ []) (record { nodes = Array None (At 1 ∷ At 2 ∷ []) ∷ Symbol (codes "A") ∷ Symbol (codes "c") ∷ []; root = At 0 })) (graph_of (codes "{a: \"x\"}"))
     ≡ Some (record { nodes = Frame (1 ∷ 3 ∷ []) (At 2 ∷ At 4 ∷ []) ∷ Symbol (codes "a") ∷ Str (codes "x") ∷ Symbol (codes "b") ∷ Array None (At 1 ∷ At 5 ∷ []) ∷ Symbol (codes "c") ∷ []; root = At 0 })
 unfolding open_tables

@@ -1,4 +1,5 @@
--- Images, worked by hand: the banks of a unit, votes, headers, records, pages and the parts of objects.
+-- Images, worked by hand: the banks of a unit, votes, headers, records, pages and the parts of
+-- objects.
 use Rattle.std.proofs.Common.{arith, ◌≡◌, refl, sym, ◌∙◌, ap, ℕ, true, false, List, [], ◌∷◌, ◌++◌, length, take, replicate, get_or, codes, Some, None}
 use Rattle.std.specs.FinMap as map
 use Rattle.newt_spec_image.specs.Records.{AllVoteFor, IsErased, bank_blocks, bank_size, bank_start, chosen, chosen_bank, has_banks, header, length_at, payloads_after, records, tail, vote_of, without}
@@ -7,7 +8,8 @@ use Rattle.newt_spec_image.specs.Objects.{IsPart, IsTableOf, Table, joined, page
 
 -- ---- the banks of a unit
 
--- Three of 14 blocks vote, and each bank has the half of the other 11, rounded down. So one block has no use, and with 15 it has.
+-- Three of 14 blocks vote, and each bank has the half of the other 11, rounded down. So one block
+-- has no use, and with 15 it has.
 even_unit : bank_blocks 14 ≡ 5
 even_unit = refl
 

@@ -1,4 +1,5 @@
--- What has just the size of a limit is accepted. (What passes one is refused among the rows of streams and of graphs.)
+-- What has just the size of a limit is accepted. (What passes one is refused among the rows of
+-- streams and of graphs.)
 use Rattle.std.proofs.Common.{arith, ◌≡◌, ◌≢◌, refl, ℕ, zero, suc, ◌+◌, ◌*◌, ◌<◌, ◌≤◌, List, [], ◌∷◌, length, replicate, codes, Some, None, pos}
 use Rattle.std.proofs.lemmas.List.{length-replicate}
 use Rattle.std.proofs.lemmas.List.Elements.{All-cons, All-nil, All-replicate}

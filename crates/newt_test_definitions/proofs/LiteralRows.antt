@@ -1,4 +1,5 @@
--- Literals, worked by hand: which texts are one, and of what. What is read is what the grammar has (newt_lit_read), so these are rows of it too.
+-- Literals, worked by hand: which texts are one, and of what. What is read is what the grammar has
+-- (newt_lit_read), so these are rows of it too.
 use Rattle.std.proofs.Common.{◌≡◌, refl, true, false, [], ◌∷◌, ◌++◌, map, replicate, codes, negsuc}
 use Rattle.std.specs.Prelude.{Ok}
 use Rattle.newt_graph.specs.declared.node.Node.TheVariants.{Str}
@@ -198,13 +199,15 @@ no_frames = refl
 
 -- ---- labels
 
--- a label of 1 to 5 digits before an object that is no symbol; it prints where the object is met more than once
+-- a label of 1 to 5 digits before an object that is no symbol; it prints where the object is met
+-- more than once
 labels : map printed (map codes ("#1=\"x\"" ∷ "#0=<b:>" ∷ "#99999=<<w:>>" ∷ "#1=[]" ∷ "#1={}" ∷ "#3={me: #3#}" ∷ "#00001=[#1#]" ∷ "[#1=\"x\", #1#]" ∷ "[\"x\",\"x\"]" ∷ "[#1=[#2=[]], #2#, #1#]" ∷ "[#2=[], #1=[], #1#, #2#, #1#]" ∷ "[#5=[], #6=[], #6#]" ∷ "{a: #1={x: 1}, b: #1#}" ∷ "[#1=<b:00>, #1#, #2=<<w:00>>, #2#]" ∷ []))
     ≡ map codes ("\"x\"" ∷ "<b:>" ∷ "<<w:>>" ∷ "[]" ∷ "{}" ∷ "#0={me: #0#}" ∷ "#0=[#0#]" ∷ "[#0=\"x\", #0#]" ∷ "[\"x\", \"x\"]" ∷ "[#0=[#1=[]], #1#, #0#]" ∷ "[#0=[], #1=[], #1#, #0#, #1#]" ∷ "[[], #0=[], #0#]" ∷ "{a: #0={x: 1}, b: #0#}" ∷ "[#0=<b:00>, #0#, #1=<<w:00>>, #1#]" ∷ [])
 unfolding open_tables
 labels = refl
 
--- labels before immediates, symbols and labels; a label that is given twice, not yet or never; six digits or none
+-- labels before immediates, symbols and labels; a label that is given twice, not yet or never; six
+-- digits or none
 no_labels : literals_among (map codes ("#1=5" ∷ "#1=nil" ∷ "#1=true" ∷ "#1=$A" ∷ "#1=&00000002" ∷ "#1='a" ∷ "#1=#2=[]" ∷ "#1=#1#" ∷ "[#1=[], #1=[]]" ∷ "[#1=[], #01=[]]" ∷ "#1=[#1=[]]" ∷ "[#1#, #1=[]]" ∷ "#1#" ∷ "[#1=[], #2#]" ∷ "#000001=[]" ∷ "#=[]" ∷ "#a=[]" ∷ "#-1=[]" ∷ "#1=" ∷ "#1" ∷ "#1[]" ∷ "#1==[]" ∷ "[#1=[], #1]" ∷ "{#1=a: 1}" ∷ "#1=,[]" ∷ [])) ≡ []
 unfolding open_tables
 no_labels = refl

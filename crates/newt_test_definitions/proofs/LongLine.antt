@@ -6,7 +6,8 @@ use Rattle.newt_base.specs.declared.Refusal.TheVariants.{Longline}
 use Rattle.newt_spec_script.specs.Line.{ready, within_length, parsed}
 use Rattle.newt_spec_script.specs.Script.{lines, without_return, parsed_lines, item_of, output}
 use Rattle.newt_test_definitions.specs.Worlds.{blank_units}
-use Rattle.newt_test_definitions.specs.Scripts.{answers, readers, line_of_x}
+use Rattle.newt_script.specs.Graphs.{readers}
+use Rattle.newt_test_definitions.specs.Scripts.{answers, line_of_x}
 use Rattle.newt_test_definitions.proofs.Tables.{open_tables}
 
 lines-long : (n : ℕ) (rest : List ℕ) → lines (line_of_x n ++ 10 ∷ rest) ≡ line_of_x n ∷ lines rest

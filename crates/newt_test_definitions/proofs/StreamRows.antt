@@ -1,5 +1,6 @@
--- Streams, worked by hand. `shown` reads the bytes that digits write and prints the graph; `streamed` reads a literal and gives the digits of its
--- stream. What is read is what is spelled (newt_nsof_read), so these are rows of the grammar too.
+-- Streams, worked by hand. `shown` reads the bytes that digits write and prints the graph;
+-- `streamed` reads a literal and gives the digits of its stream. What is read is what is spelled
+-- (newt_nsof_read), so these are rows of the grammar too.
 use Rattle.std.proofs.Common.{arith, ◌≡◌, refl, ℕ, suc, true, false, List, [], ◌∷◌, ◌++◌, map, replicate, codes, Some, None, nat_lt, pos, take}
 use Rattle.std.specs.Prelude.{Ok, Err}
 use Rattle.newt_graph.specs.declared.node.Node.TheVariants.{Symbol, Str, Binary, Large, Array, Frame}
@@ -35,7 +36,8 @@ words_cut : streams_among (map codes ("0200" ∷ "0200FF" ∷ "0200FF000000" ∷
 unfolding open_tables
 words_cut = refl
 
--- The low bits 01 are those of a pointer, and no word has them. Those of a magic pointer, 11, stand.
+-- The low bits 01 are those of a pointer, and no word has them. Those of a magic pointer, 11,
+-- stand.
 pointers : streams_among (map codes ("020001" ∷ "020005" ∷ "0200FD" ∷ "0200FF00000005" ∷ "0200FF7FFFFFFD" ∷ "0200FFFFFFFFFD" ∷ "0200FF80000001" ∷ [])) ≡ []
 unfolding open_tables
 pointers = refl
@@ -68,7 +70,8 @@ symbols : map shown (map codes ("02070161" ∷ "02070120" ∷ "0207017E" ∷ "02
 unfolding open_tables
 symbols = refl
 
--- no byte, a byte below 32 or above 126, a name that is cut off, a number of bytes below zero or with its bytes turned
+-- no byte, a byte below 32 or above 126, a name that is cut off, a number of bytes below zero or
+-- with its bytes turned
 no_symbols : streams_among (map codes ("020700" ∷ "02070100" ∷ "0207011F" ∷ "0207017F" ∷ "020701FF" ∷ "02070261" ∷ "0207FFFFFFFFFF61" ∷ "0207FF0100000061" ∷ "0207016161" ∷ [])) ≡ []
 unfolding open_tables
 no_symbols = refl
@@ -89,7 +92,8 @@ folded_symbol : map shown (map codes ("0205020703466F6F0703666F6F" ∷ "02050407
 unfolding open_tables
 folded_symbol = refl
 
--- A precedent may name what is still open, by its number in the order of the tags: a container stands before its class, its tags and its values.
+-- A precedent may name what is still open, by its number in the order of the tags: a container
+-- stands before its class, its tags and its values.
 open_objects : map shown (map codes ("0205010900" ∷ "02050109FF00000000" ∷ "0204010701630900" ∷ "0204010701630901" ∷ "0206010701610900" ∷ "0206010701610901" ∷ "02050205000901" ∷ "020502050109000901" ∷ []))
     ≡ map codes ("#0=[#0#]" ∷ "#0=[#0#]" ∷ "#0=[c: #0#]" ∷ "[c: 'c]" ∷ "#0={a: #0#}" ∷ "{a: 'a}" ∷ "[#0=[], #0#]" ∷ "#0=[#1=[#0#], #1#]" ∷ [])
 unfolding open_tables
@@ -100,13 +104,15 @@ no_precedents : streams_among (map codes ("020900" ∷ "020905" ∷ "0205010901"
 unfolding open_tables
 no_precedents = refl
 
--- All objects but immediates and precedents take a number: the second slot is the object of number 1.
+-- All objects but immediates and precedents take a number: the second slot is the object of number
+-- 1.
 numbered_objects : map shown (map codes ("02050203000701620901" ∷ "0205020C07017700000000000000000000000000000000000901" ∷ "0205020B010203040901" ∷ "02050206000901" ∷ "02050204000701630901" ∷ "02050205000901" ∷ "020502080200000901" ∷ "0205020701610901" ∷ []))
     ≡ map codes ("[#0=<b:>, #0#]" ∷ "[#0=<<w:>>, #0#]" ∷ "[#0={top: 1, left: 2, bottom: 3, right: 4}, #0#]" ∷ "[#0={}, #0#]" ∷ "[#0=[c:], #0#]" ∷ "[#0=[], #0#]" ∷ "[#0=\"\", #0#]" ∷ "['a, 'a]" ∷ [])
 unfolding open_tables
 numbered_objects = refl
 
--- A class takes the next number, the slot tags of a small rectangle, an immediate and a precedent take none.
+-- A class takes the next number, the slot tags of a small rectangle, an immediate and a precedent
+-- take none.
 numbers_within : map shown (map codes ("02050303000701620804007800000903" ∷ "0205030C07017700000000000000000000000000000000000804007800000903" ∷ "0205030B010203040804007800000902" ∷ "0205050A000401410804007800000901" ∷ "02050309000804007800000901" ∷ []))
     ≡ map codes ("[<b:>, #0=\"x\", #0#]" ∷ "[<<w:>>, #0=\"x\", #0#]" ∷ "[{top: 1, left: 2, bottom: 3, right: 4}, #0=\"x\", #0#]" ∷ "[nil, 1, $A, #0=\"x\", #0#]" ∷ "#0=[#0#, #1=\"x\", #1#]" ∷ [])
 unfolding open_tables
@@ -141,7 +147,8 @@ frames : map shown (map codes ("020600" ∷ "02060207016107016200040008" ∷ "02
 unfolding open_tables
 frames = refl
 
--- a frame whose tags or values are cut off, and numbers of slots below zero or with their bytes turned
+-- a frame whose tags or values are cut off, and numbers of slots below zero or with their bytes
+-- turned
 no_frames : streams_among (map codes ("0206" ∷ "020601" ∷ "020601070161" ∷ "0206020701610701620004" ∷ "0206FFFFFFFFFF" ∷ "0206FF010000000701610004" ∷ "02060000" ∷ [])) ≡ []
 unfolding open_tables
 no_frames = refl
@@ -185,7 +192,8 @@ strings : map shown (map codes ("0208020000" ∷ "02080400410000" ∷ "020804410
 unfolding open_tables
 strings = refl
 
--- no last unit, an odd number of bytes, a last unit that is not zero, units that are cut off or too many, a number below zero or turned
+-- no last unit, an odd number of bytes, a last unit that is not zero, units that are cut off or too
+-- many, a number below zero or turned
 no_strings : streams_among (map codes ("020800" ∷ "0208010000" ∷ "020803004100" ∷ "020803000000" ∷ "0208020041" ∷ "0208020100" ∷ "0208020001" ∷ "02080400410001" ∷ "0208040041" ∷ "020804004100" ∷ "020802000000" ∷ "0208FFFFFFFFFE0000" ∷ "0208FF0400000000410000" ∷ [])) ≡ []
 unfolding open_tables
 no_strings = refl
@@ -215,7 +223,8 @@ large_binaries : map shown (map codes ("020C070177000000000300000000000000000000
 unfolding open_tables
 large_binaries = refl
 
--- data, name or parameters that are cut off or too many, whatever the flag; lengths with their bytes turned or without a sign
+-- data, name or parameters that are cut off or too many, whatever the flag; lengths with their
+-- bytes turned or without a sign
 no_large_binaries : streams_among (map codes ("020C07017700000000030000000000000000000000004142" ∷ "020C07017700000000010000000000000000000000004142" ∷ "020C070177000000000100000001000000000000000041" ∷ "020C070177000000000100000000000000010000000041" ∷ "020C07017701000000030000000000000000000000004142" ∷ "020C07017701000000010000000000000000000000004142" ∷ "020C0701770000000001FFFFFFFF000000000000000041" ∷ "020C070177000100000000000000000000000000000041" ∷ "020C07017700FFFFFFFF00000000000000000000000041" ∷ "020C07017700000000000000000000000000000000" ∷ "020C070177" ∷ "020C07017701" ∷ [])) ≡ []
 unfolding open_tables
 no_large_binaries = refl
@@ -262,7 +271,8 @@ four_follow rest = grind arith
 name_follows : (rest : ℕ) → nat_lt (suc rest) 1 ≡ false
 name_follows rest = grind arith
 
--- 65,536 slots are refused whatever follows, and so are 1,000,002 bytes of a string and 1,000,001 of a binary or a large binary.
+-- 65,536 slots are refused whatever follows, and so are 1,000,002 bytes of a string and 1,000,001
+-- of a binary or a large binary.
 array_of_65536 : (rest : List ℕ) → graph_at true (2 ∷ 5 ∷ 255 ∷ 0 ∷ 1 ∷ 0 ∷ 0 ∷ rest) ≡ None
 unfolding open_tables
 array_of_65536 rest = rw (four_follow _) refl
@@ -295,7 +305,8 @@ written_words : map streamed (map codes ("63" ∷ "&000000FE" ∷ "&000000FF" �
 unfolding open_tables
 written_words = refl
 
--- a node in full where it is met first, and by the number of the node afterwards; no compander, and no small rectangle
+-- a node in full where it is met first, and by the number of the node afterwards; no compander, and
+-- no small rectangle
 written_objects : map streamed (map codes ("{a: 1}" ∷ "{a: 1, b: 2}" ∷ "[1, 2]" ∷ "[c: 1, nil]" ∷ "[]" ∷ "[c:]" ∷ "\"\"" ∷ "\"A\"" ∷ "\"\\u0102\\uD83D\"" ∷ "'abc" ∷ "<b:0A0B>" ∷ "<<w:414243>>" ∷ "{top: 1, left: 2, bottom: 3, right: 4}" ∷ "{self: 1}" ∷ "#0={self: #0#}" ∷ "[#1=\"A\", #1#]" ∷ "['Foo, 'foo]" ∷ "['a, 'A, #1=\"x\", #1#]" ∷ "[c: 'c, {c: 'c}]" ∷ "[#1=<b:>, 'b, #1#]" ∷ []))
     ≡ map codes ("0206010701610004" ∷ "02060207016107016200040008" ∷ "02050200040008" ∷ "02040207016300040A" ∷ "020500" ∷ "020400070163" ∷ "0208020000" ∷ "02080400410000" ∷ "0208060102D83D0000" ∷ "020703616263" ∷ "0203020701620A0B" ∷ "020C0701770000000003000000000000000000000000414243" ∷ "0206040703746F7007046C6566740706626F74746F6D0705726967687400040008000C0010" ∷ "020601070473656C660004" ∷ "020601070473656C660900" ∷ "0205020804004100000901" ∷ "0205020703466F6F0901" ∷ "02050407016109010804007800000902" ∷ "0204020701630901060109010901" ∷ "020503030007016209020901" ∷ [])
 unfolding open_tables

@@ -1,5 +1,6 @@
 -- Streams and literals, read and shown.
-use Rattle.std.specs.Prelude.{ℕ, Bool, true, false, not, List, filter, flat_map, replicate, codes, Some, None, Result, Ok, Err}
+use Rattle.std.specs.Prelude.{ℕ, Bool, true, false, not, List, filter, flat_map, replicate, codes}
+use Rattle.std.specs.Prelude.{Some, None, Result, Ok, Err}
 use Rattle.newt_base.specs.Text.{hex_text, hex_bytes}
 use Rattle.newt_graph.specs.Graph.{RawGraph}
 use Rattle.newt_spec_literal.specs.Printed.{literal}
@@ -26,11 +27,14 @@ is_malformed _ = false
 
 -- those of these digits that write a stream which is not malformed
 abbrev pub streams_among : List (List ℕ) → List (List ℕ)
-streams_among = filter (λ digits. elim (hex_bytes digits) [ Some bytes ↦ not (is_malformed (decoded bytes)) | None ↦ true ])
+streams_among =
+    filter (λ digits. elim (hex_bytes digits)
+    [ Some bytes ↦ not (is_malformed (decoded bytes)) | None ↦ true ])
 
 -- the digits of the stream of a literal
 abbrev pub streamed : List ℕ → List ℕ
-streamed text = elim (literal_read text) [ Ok g ↦ hex_text (nsof g) | Err fault ↦ codes "no literal" ]
+streamed text =
+    elim (literal_read text) [ Ok g ↦ hex_text (nsof g) | Err fault ↦ codes "no literal" ]
 
 -- a literal as it is printed
 abbrev pub printed : List ℕ → List ℕ

@@ -1,5 +1,6 @@
 -- Small graphs.
-use Rattle.std.specs.Prelude.{ℕ, ℤ, List, [], ◌∷◌, pos, codes, Option, None, option_map, option_and_then}
+use Rattle.std.specs.Prelude.{ℕ, ℤ, List, [], ◌∷◌, pos, codes, Option, None, option_map}
+use Rattle.std.specs.Prelude.{option_and_then}
 use Rattle.newt_graph.specs.Graph.{RawGraph}
 use Rattle.newt_graph.specs.Meeting.{normal_form}
 use Rattle.newt_spec_literal.specs.Printed.{literal}
@@ -9,7 +10,8 @@ use Rattle.newt_graph.specs.declared.node.Node.TheVariants.{Symbol, Str, Array, 
 
 -- {a: 1}
 abbrev pub one_slot : RawGraph
-one_slot = record { nodes = Frame (1 ∷ []) (Imm (pos 4) ∷ []) ∷ Symbol (codes "a") ∷ []; root = At 0 }
+one_slot =
+    record { nodes = Frame (1 ∷ []) (Imm (pos 4) ∷ []) ∷ Symbol (codes "a") ∷ []; root = At 0 }
 
 -- ["A", the same]
 abbrev pub shared_string : RawGraph
@@ -21,7 +23,8 @@ knot = record { nodes = Frame (1 ∷ []) (At 0 ∷ []) ∷ Symbol (codes "self")
 
 -- the same, with its objects in another order and one that nothing reaches
 abbrev pub tangled : RawGraph
-tangled = record { nodes = Symbol (codes "self") ∷ Str [] ∷ Frame (0 ∷ []) (At 2 ∷ []) ∷ []; root = At 2 }
+tangled =
+    record { nodes = Symbol (codes "self") ∷ Str [] ∷ Frame (0 ∷ []) (At 2 ∷ []) ∷ []; root = At 2 }
 
 -- [#1="x", #1#]
 abbrev pub text_twice : RawGraph
@@ -33,7 +36,12 @@ number w = record { nodes = []; root = Imm w }
 
 -- {a: #1={x: 1}, b: #1#}
 abbrev pub shared_frame : RawGraph
-shared_frame = record { nodes = Frame (1 ∷ 2 ∷ []) (At 3 ∷ At 3 ∷ []) ∷ Symbol (codes "a") ∷ Symbol (codes "b") ∷ Frame (4 ∷ []) (Imm (pos 4) ∷ []) ∷ Symbol (codes "x") ∷ []; root = At 0 }
+shared_frame =
+    record {
+      nodes = Frame (1 ∷ 2 ∷ []) (At 3 ∷ At 3 ∷ []) ∷ Symbol (codes "a") ∷ Symbol (codes "b")
+          ∷ Frame (4 ∷ []) (Imm (pos 4) ∷ []) ∷ Symbol (codes "x") ∷ [];
+      root = At 0;
+    }
 
 -- 'X
 abbrev pub symbol_x : RawGraph

@@ -1,5 +1,6 @@
 -- Objects of small images.
-use Rattle.std.specs.Prelude.{ℕ, List, [], ◌∷◌, codes, bytes_eq, Option, Some, None, if◌then◌else◌, replicate}
+use Rattle.std.specs.Prelude.{ℕ, List, [], ◌∷◌, codes, bytes_eq, Option, Some, None, if◌then◌else◌}
+use Rattle.std.specs.Prelude.{replicate}
 use Rattle.newt_graph.specs.Graph.{RawGraph}
 use Rattle.newt_spec_nsof.specs.Written.{nsof}
 use Rattle.newt_spec_nsof.specs.Lengths.{skeleton}
@@ -26,4 +27,6 @@ wave_entry = record { uid = 0; time = 5; graph = wave 3 }
 
 -- the objects that write the store down
 abbrev pub objects_with_wave : Objects
-objects_with_wave = (2, replicate 3 0) ∷ (0, directory_bytes with_wave) ∷ (1, entry_bytes 0 wave_entry (2 ∷ [])) ∷ []
+objects_with_wave =
+    (2, replicate 3 0) ∷ (0, directory_bytes with_wave) ∷ (1, entry_bytes 0 wave_entry (2 ∷ []))
+    ∷ []

@@ -1,5 +1,6 @@
 -- Values, changes and queries of graphs that literals write down.
-use Rattle.std.specs.Prelude.{ℕ, Bool, false, not, List, filter, codes, Option, Some, None, option_map, option_and_then}
+use Rattle.std.specs.Prelude.{ℕ, Bool, false, not, List, filter, codes, Option, Some, None}
+use Rattle.std.specs.Prelude.{option_map, option_and_then}
 use Rattle.newt_graph.specs.Graph.{RawGraph}
 use Rattle.newt_graph.specs.Meeting.{normal_form}
 use Rattle.newt_spec_literal.specs.Printed.{literal}
@@ -7,7 +8,7 @@ use Rattle.newt_lit_read.specs.Literal.{literal_read}
 use Rattle.newt_spec_graph.specs.Slots.{value_at, put}
 use Rattle.newt_spec_store.specs.Keys.{IndexSpec, Key, key}
 use Rattle.newt_spec_query.specs.Spec.{is_query, key_value}
-use Rattle.newt_test_definitions.specs.Scripts.{if_read}
+use Rattle.newt_script.specs.Graphs.{if_read}
 
 -- the graph of a literal
 abbrev pub graph_of : List ℕ → Option RawGraph
@@ -20,11 +21,15 @@ text_of (Some g) = elim (normal_form g) [ Some h ↦ literal h | None ↦ codes 
 
 -- the value that a path reaches
 abbrev pub reached : List ℕ × List (List ℕ) → List ℕ
-reached (text, path) = text_of (option_and_then (λ g. option_map (λ r. record { nodes = g.nodes; root = r }) (value_at g path)) (graph_of text))
+reached (text, path) =
+    text_of (option_and_then (λ g. option_map (λ r. record { nodes = g.nodes; root = r })
+    (value_at g path)) (graph_of text))
 
 -- what becomes of a graph when a value is put where a path leads
 abbrev pub changed : List ℕ × List (List ℕ) × List ℕ → List ℕ
-changed (text, path, value) = text_of (option_and_then (λ g. option_and_then (λ v. put g path v) (graph_of value)) (graph_of text))
+changed (text, path, value) =
+    text_of (option_and_then (λ g. option_and_then (λ v. put g path v) (graph_of value))
+    (graph_of text))
 
 abbrev pub has_query_form : List ℕ → Bool
 has_query_form text = elim (graph_of text) [ Some g ↦ is_query g | None ↦ false ]
