@@ -102,7 +102,7 @@ returns g c =
     record {
       rewrites = rewrites-widen (both before (commit_work false)) (append_work change)
           (record { programs = omega arith; fetches = omega arith; erases = omega arith; syncs = omega arith })
-          (finished told j before false payload y a m n w c.in_ok-journal.journal (f.journal.0, f.journal.1) f.committed _ f.rest f.writes);
+          (finished told j before false payload y a m n w c.in_ok-journal.journal f.finished f.writes);
       places =
           let y_places = append-place y w.kind_is in
           let its : journal_of y ≡ j = c.in_ok-write_batch.ensures.ok.holds ∙ e.begun.holds in
@@ -110,7 +110,7 @@ returns g c =
           let gone = length (filter (is_kept c.args.pages.now.entries) c.args.batch.now.deletes) in (
             (let is : c.in_ok-journal.journal.end ≡ j.end + (9 + 516 * length c.args.batch.now.puts + 4 * gone) = omega (
               arith,
-              f.places.0,
+              f.finished.end,
               from,
               c.in_ok-write_batch.ensures.ok.len,
               e.begun.len_is,
@@ -118,7 +118,7 @@ returns g c =
               c.kept_of-deletes.ensures,
               ap (λ (l : List ℕ). length (filter (is_kept c.args.pages.now.entries) l)) c.deletes.ensures.deletes,
             ) in is),
-            f.places.1 ∙ y_places.1 ∙ ap first_place its,
+            f.finished.first ∙ y_places.1 ∙ ap first_place its,
           );
     }
 

@@ -85,4 +85,4 @@ returns g c =
     let f = c.in_ok-journal.ensures in
     rewrites-widen (both before (commit_work true)) (switch_work j.blocks n)
     (record { programs = omega arith; fetches = omega arith; erases = omega arith; syncs = omega arith })
-    (finished told j before true payload y a m (o c.finish.new.host) w c.in_ok-journal.journal (f.journal.0, f.journal.1) f.committed _ f.rest f.writes)
+    (finished told j before true payload y a m (o c.finish.new.host) w c.in_ok-journal.journal f.finished f.writes)

@@ -104,4 +104,4 @@ returns-clause-rewrites g c = λ payloads read.
     rewrites-same told j _ (Some (payload ∷ [])) _ _ a n (payload_is told j _ _ c.args.puts.now payloads d y a b m begins whole read)
     (rewrites-widen (both before (commit_work true)) (switch_work j.blocks live)
     (record { programs = omega arith; fetches = omega arith; erases = omega arith; syncs = omega arith })
-    (finished told j before true payload y a m n w c.in_ok-journal.journal (f.journal.0, f.journal.1) f.committed _ f.rest f.writes))
+    (finished told j before true payload y a m n w c.in_ok-journal.journal f.finished f.writes))
