@@ -108,3 +108,12 @@ returns-clause-takes g c =
           numbered-placed c.in_ok-journal.journal new c.apply.ensures.unique few book.placed;
       numbers = c.apply.ensures.numbers;
     }
+
+pub apply-requires : goal.apply-requires
+apply-requires g c = record {
+  takes = record {
+    room = c.requires.ready.room.spare;
+    unique = search rules;
+    near = omega arith;
+  };
+}
