@@ -2,10 +2,13 @@
 use Rattle.std.proofs.Common.{IsTrue, ◌≡◌, ℕ, ◌+◌, ◌-◌, Bool, true, false, if◌then◌else◌, List, ◌++◌, length, replicate, refl, sym, ◌∙◌, ap, subst, arith, length-append}
 use Rattle.newt_host.specs.Moments.{Moment, image}
 use Rattle.newt_host.specs.Outside.{Outside}
-use Rattle.newt_spec_image.specs.Records.{tail, bank_size}
+use Rattle.newt_spec_image.specs.Records.{records, tail, bank_size}
 use Rattle.newt_journal.specs.Bank.{start_of, limit_of}
-use Rattle.newt_journal.specs.Journal.{room, written, IsHeld, Stands, IsRoom}
+use Rattle.newt_journal.specs.Journal.{room, written, IsHeld, Stands, VotesAgree, IsRoom}
+use Rattle.newt_journal.specs.Draft.{IsFinished, unit_of, len_of, place_of, front_of, is_switch, outcome_of, rest_of}
+use Rattle.newt_journal.specs.Places.{first_place}
 use Rattle.newt_journal.specs.declared.bank.Bank.{Bank}
+use Rattle.newt_journal.specs.declared.draft.Draft.{Draft}
 use Rattle.newt_journal.specs.declared.journal.Journal.{Journal}
 use Rattle.newt_journal.proofs.Steps.{length-bank}
 use Rattle.newt_journal.proofs.Tail.{holds-tail}
@@ -40,3 +43,18 @@ room_told j n is told outside stands t = subst (λ (k : ℕ). IsRoom k (tail (im
 -- what one record leaves of a bank
 pub same_rest : (blocks : ℕ) (bank : Bank) (end len : ℕ) {start : ℕ} → start ≡ start_of blocks bank → end ≡ start + 21 + len → bank_size blocks - (21 + len) ≡ limit_of blocks bank - end
 same_rest blocks bank end len start_is is = omega (arith, start_is, is)
+
+-- a record was committed, and what is left of its bank is blank
+pub finished : {told : Bool} {d : Draft} {j : Journal} {old new : Outside} → Stands told j new → j.unit ≡ unit_of d → j.closed ≡ false → j.end ≡ place_of d + len_of d → first_place j ≡ front_of d
+    → (IsTrue told → records (image (unit_of d) new.now) ≡ outcome_of d old) → rest_of d ≡ limit_of j.blocks j.bank - j.end
+    → (IsTrue told → is_switch d ≡ true → VotesAgree j (image (unit_of d) new.now)) → IsFinished told d j old new
+finished {d = d} {j = j} {new = new} stands on not_closed end first committed rest alike = record {
+  stands = stands;
+  on = on;
+  not_closed = not_closed;
+  end = end;
+  first = first;
+  committed = committed;
+  rest = λ t. subst (λ (u : ℕ). tail (image u new.now) ≡ replicate (rest_of d) 255) on (tail_blank j new.now (stands.held t) not_closed (rest_of d) rest);
+  alike = alike;
+}

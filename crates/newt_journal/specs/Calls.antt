@@ -12,6 +12,13 @@ pub record IsAtRest (told : Bool) (unit blocks : ℕ) (outside : Outside) : Type
   pub has : HasBlocks unit blocks outside
   pub durable : IsTrue told → IsDurable unit outside.now
 
+-- A unit that may hold a journal: it has the blocks of two banks and the votes, no more than a unit
+-- with banks has, and where bytes are told nothing is pending on it.
+pub record MayHold (told : Bool) (unit : ℕ) (outside : Outside) : Type 0 where
+  pub enough : 13 ≤ outside.blocks unit
+  pub few : outside.blocks unit ≤ 4099
+  pub durable : IsTrue told → IsDurable unit outside.now
+
 -- so many bytes are programmed, so many blocks erased, and so many syncs asked for; none is fetched
 abbrev pub writing : ℕ → ℕ → ℕ → Work
 writing programs erases syncs =

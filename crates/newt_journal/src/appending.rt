@@ -17,12 +17,14 @@ pub struct Appending {
 }
 
 impl Appending {
-    ghost use Rattle.std.specs.Prelude.{OnOk, IfOk, ◌-◌, ◌++◌, length, replicate, false};
+    ghost use Rattle.std.specs.Prelude.{OnOk, IfOk, length, false};
     ghost use Rattle.newt_host.specs.Moments.{image};
     ghost use Rattle.newt_spec_image.specs.Records.{records, tail};
-    ghost use Rattle.newt_journal.specs.Journal.{room, Stands, appended, ReadsAs, ReadsAsEither};
-    ghost use Rattle.newt_journal.specs.Appending.{IsAppendingOf, drafted};
-    ghost use Rattle.newt_journal.specs.Places.{first_place};
+    ghost use Rattle.newt_journal.specs.Journal.{room, Stands, ReadsAs, ReadsAsEither};
+    ghost use Rattle.newt_journal.specs.Appending.{IsAppendingOf};
+    ghost use Rattle.newt_journal.specs.Draft.{IsBegun, IsSameRecord, HasPut, IsFinished};
+    ghost use Rattle.newt_journal.specs.Draft.{outcome_of, rest_of};
+    ghost use Rattle.newt_journal.specs.declared.draft.Draft.TheVariants.{Append};
     ghost use Rattle.newt_journal.specs.Calls.{Programs, writing};
 
     /// Begins a record of so many bytes: its length is written behind a gate that stays FF.
@@ -34,15 +36,9 @@ impl Appending {
         requires some { 0 < len }
         requires fits { len ≤ room journal }
         requires stands { Stands H.told journal (H.outside host.old) }
-        ensures draft { IfOk result (λ draft. IsAppendingOf H.told draft (H.outside host.new)
-            × (draft.journal.unit ≡ journal.unit) × (draft.len ≡ len) × (draft.put ≡ 0)) }
-        ensures holds { IfOk result (λ draft. draft.journal ≡ journal) }
-        ensures same { IsTrue H.told → OnOk result
-            (records (image journal.unit (H.outside host.new).now)
-            ≡ records (image journal.unit (H.outside host.old).now)) }
-        ensures rest { IsTrue H.told → IfOk result
-            (λ draft. 5 + len + (limit_of draft.journal.blocks draft.journal.bank -
-            (draft.journal.end + 5 + draft.len))
+        ensures begun { IfOk result (λ draft. IsBegun H.told journal len false (Append draft)
+            (H.outside host.old) (H.outside host.new)) }
+        ensures rest { IsTrue H.told → IfOk result (λ draft. 5 + len + rest_of (Append draft)
             ≡ length (tail (image journal.unit (H.outside host.old).now))) }
         ensures writes { Programs H.told journal.unit (writing 4 0 0)
             (ReadsAs (records (image journal.unit (H.outside host.old).now))) result
@@ -60,16 +56,9 @@ impl Appending {
     pub(crate) fn put<H: Host>(&mut self, host: &mut H, bytes: &[u8]) -> Result<(), Failed>
         requires within { self.old.put + length bytes.now ≤ self.old.len }
         requires draft { IsAppendingOf H.told self.old (H.outside host.old) }
-        ensures draft { OnOk result (IsAppendingOf H.told self.new (H.outside host.new)
-            × (self.new.put ≡ self.old.put + length bytes.now)) }
-        ensures kept { (self.new.journal ≡ self.old.journal) × (self.new.len ≡ self.old.len) }
-        ensures more { IsTrue H.told → OnOk result
-            (drafted self.new (image self.old.journal.unit (H.outside host.new).now)
-            ≡ drafted self.old (image self.old.journal.unit (H.outside host.old).now)
-            ++ bytes.now) }
-        ensures same { IsTrue H.told → OnOk result
-            (records (image self.old.journal.unit (H.outside host.new).now)
-            ≡ records (image self.old.journal.unit (H.outside host.old).now)) }
+        ensures record_of { IsSameRecord (Append self.old) (Append self.new) }
+        ensures more { OnOk result (HasPut H.told bytes.now (Append self.old) (Append self.new)
+            (H.outside host.old) (H.outside host.new)) }
         ensures writes { Programs H.told self.old.journal.unit (writing (length bytes.now) 0 0)
             (ReadsAs (records (image self.old.journal.unit (H.outside host.old).now))) result
             (H.outside host.old) (H.outside host.new) }
@@ -88,23 +77,11 @@ impl Appending {
     pub(crate) fn finish<H: Host>(self, host: &mut H) -> Result<Journal, Failed>
         requires whole { self.put ≡ self.len }
         requires draft { IsAppendingOf H.told self (H.outside host.old) }
-        ensures journal { IfOk result (λ journal. Stands H.told journal (H.outside host.new)
-            × (journal.unit ≡ self.journal.unit)) }
-        ensures committed { IsTrue H.told → OnOk result
-            (records (image self.journal.unit (H.outside host.new).now)
-            ≡ appended (records (image self.journal.unit (H.outside host.old).now))
-            (drafted self (image self.journal.unit (H.outside host.old).now))) }
-        ensures open { IfOk result (λ journal. journal.closed ≡ false) }
-        ensures places { IfOk result (λ journal. (journal.end ≡ self.journal.end + 5 + self.len)
-            × (first_place journal ≡ first_place self.journal)) }
-        ensures rest { IsTrue H.told → OnOk result
-            (tail (image self.journal.unit (H.outside host.new).now)
-            ≡ replicate (limit_of self.journal.blocks self.journal.bank -
-            (self.journal.end + 5 + self.len)) 255) }
+        ensures finished { IfOk result (λ journal. IsFinished H.told (Append self) journal
+            (H.outside host.old) (H.outside host.new)) }
         ensures writes { Programs H.told self.journal.unit (writing 1 0 2)
             (ReadsAsEither (records (image self.journal.unit (H.outside host.old).now))
-            (appended (records (image self.journal.unit (H.outside host.old).now))
-            (drafted self (image self.journal.unit (H.outside host.old).now)))) result
+            (outcome_of (Append self) (H.outside host.old))) result
             (H.outside host.old) (H.outside host.new) }
     {
         let Appending { journal, len, .. } = self;

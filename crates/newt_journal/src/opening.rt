@@ -4,7 +4,7 @@ ghost use Rattle.newt_host.specs.Moments.{image};
 ghost use Rattle.newt_host.specs.Outside.{HasBlocks};
 ghost use Rattle.newt_spec_image.specs.Records.{chosen_bank};
 ghost use Rattle.newt_journal.specs.Bank.{bank_number};
-ghost use Rattle.newt_journal.specs.Calls.{Reads, OpensJournal};
+ghost use Rattle.newt_journal.specs.Calls.{MayHold, Reads, OpensJournal};
 
 use crate::choose::choose;
 use crate::scan::{find_end, has_header, is_blank, read_byte};
@@ -28,16 +28,13 @@ fn read_votes<H: Host>(host: &mut H, unit: Unit, blocks: u32) -> Result<Option<B
 
 impl Journal {
     ghost use Rattle.std.specs.Prelude.{◌+◌, IsSome, IsErrOf};
-    ghost use Rattle.newt_host.specs.Moments.{IsDurable};
     ghost use Rattle.newt_spec_image.specs.Records.{records, bank_size};
     ghost use Rattle.newt_journal.specs.Journal.{Stands};
 
     /// Reads the journal of a unit on which nothing is pending: its votes may differ, and a record
     /// may be torn.
     pub fn open<H: Host>(host: &mut H, unit: Unit) -> Result<Journal, JournalFault>
-        requires enough { 13 ≤ (H.outside host.old).blocks unit }
-        requires few { (H.outside host.old).blocks unit ≤ 4099 }
-        requires durable { IsTrue H.told → IsDurable unit (H.outside host.old).now }
+        requires may_hold { MayHold H.told unit (H.outside host.old) }
         ensures journal { IfOk result (λ journal. Stands H.told journal (H.outside host.new)
             × (journal.unit ≡ unit)) }
         ensures store { IsTrue H.told → IfOk result

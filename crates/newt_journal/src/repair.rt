@@ -3,8 +3,9 @@ ghost use Rattle.std.specs.Prelude.{IsTrue, ◌≡◌, ◌≤◌, ◌<◌, ◌*�
 ghost use Rattle.newt_host.specs.Moments.{image, IsDurable};
 ghost use Rattle.newt_journal.specs.Bank.{bank_number, other_bank};
 ghost use Rattle.newt_journal.specs.Calls.{IsAtRest, Programs, one_vote, three_votes};
+ghost use Rattle.newt_journal.specs.Turns.{IsVotedFor};
 ghost use Rattle.newt_journal.specs.Repairs.{Settling, Repairs, Mends};
-ghost use Rattle.newt_spec_image.specs.Records.{vote_of, chosen_bank, AllVoteFor};
+ghost use Rattle.newt_spec_image.specs.Records.{vote_of, chosen_bank};
 
 use crate::scan::read_byte;
 use crate::vote::rewrite_vote;
@@ -58,12 +59,9 @@ pub(crate) fn settle_votes<H: Host>(
     requires rest { IsAtRest H.told unit blocks (H.outside host.old) }
     requires voted { IsTrue H.told → chosen_bank (image unit (H.outside host.old).now)
         ≡ Some (bank_number bank) }
-    ensures alike { IsTrue H.told → OnOk result
-        (AllVoteFor (bank_number bank) (image unit (H.outside host.new).now)) }
-    ensures kept { IsTrue H.told → OnOk result
-        (Repairs (bank_number bank) (image unit (H.outside host.old).now)
-        (image unit (H.outside host.new).now)) }
-    ensures durable { IsTrue H.told → OnOk result (IsDurable unit (H.outside host.new).now) }
+    ensures settled { IsTrue H.told → OnOk result (IsVotedFor (bank_number bank)
+        (Repairs (bank_number bank) (image unit (H.outside host.old).now)) unit
+        (H.outside host.new).now) }
     // Whenever it is cut off, the same bank is chosen, and both are as they were.
     ensures writes { Programs H.told unit three_votes
         (Repairs (bank_number bank) (image unit (H.outside host.old).now)) result

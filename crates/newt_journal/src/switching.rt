@@ -20,13 +20,14 @@ pub struct Switching {
 }
 
 impl Switching {
-    ghost use Rattle.std.specs.Prelude.{OnOk, IfOk, ◌++◌, ◌-◌, ◌∷◌, [], length, replicate, Some};
-    ghost use Rattle.std.specs.Prelude.{false};
+    ghost use Rattle.std.specs.Prelude.{OnOk, IfOk, length, true};
     ghost use Rattle.newt_host.specs.Moments.{image};
-    ghost use Rattle.newt_spec_image.specs.Records.{records, tail, bank_blocks};
+    ghost use Rattle.newt_spec_image.specs.Records.{records, bank_blocks};
     ghost use Rattle.newt_journal.specs.Journal.{Stands, VotesAgree, ReadsAs, ReadsAsEither};
-    ghost use Rattle.newt_journal.specs.Switch.{IsSwitchOf, switched, switch_start};
-    ghost use Rattle.newt_journal.specs.Places.{first_place};
+    ghost use Rattle.newt_journal.specs.Switch.{IsSwitchOf};
+    ghost use Rattle.newt_journal.specs.Draft.{IsBegun, IsSameRecord, HasPut, IsFinished};
+    ghost use Rattle.newt_journal.specs.Draft.{outcome_of};
+    ghost use Rattle.newt_journal.specs.declared.draft.Draft.TheVariants.{Switch};
     ghost use Rattle.newt_journal.specs.Calls.{Programs, writing};
 
     /// Begins the record that alone will stand in the other bank.
@@ -39,12 +40,8 @@ impl Switching {
         requires stands { Stands H.told journal (H.outside host.old) }
         requires alike { IsTrue H.told → VotesAgree journal
             (image journal.unit (H.outside host.old).now) }
-        ensures draft { IfOk result (λ draft. IsSwitchOf H.told draft (H.outside host.new)
-            × (draft.journal.unit ≡ journal.unit) × (draft.len ≡ len) × (draft.put ≡ 0)) }
-        ensures holds { IfOk result (λ draft. draft.journal ≡ journal) }
-        ensures same { IsTrue H.told → OnOk result
-            (records (image journal.unit (H.outside host.new).now)
-            ≡ records (image journal.unit (H.outside host.old).now)) }
+        ensures begun { IfOk result (λ draft. IsBegun H.told journal len true (Switch draft)
+            (H.outside host.old) (H.outside host.new)) }
         ensures writes { Programs H.told journal.unit (writing 21 (bank_blocks journal.blocks) 1)
             (ReadsAs (records (image journal.unit (H.outside host.old).now))) result
             (H.outside host.old) (H.outside host.new) }
@@ -67,16 +64,9 @@ impl Switching {
     pub(crate) fn put<H: Host>(&mut self, host: &mut H, bytes: &[u8]) -> Result<(), Failed>
         requires within { self.old.put + length bytes.now ≤ self.old.len }
         requires draft { IsSwitchOf H.told self.old (H.outside host.old) }
-        ensures draft { OnOk result (IsSwitchOf H.told self.new (H.outside host.new)
-            × (self.new.put ≡ self.old.put + length bytes.now)) }
-        ensures kept { (self.new.journal ≡ self.old.journal) × (self.new.len ≡ self.old.len) }
-        ensures more { IsTrue H.told → OnOk result
-            (switched self.new (image self.old.journal.unit (H.outside host.new).now)
-            ≡ switched self.old (image self.old.journal.unit (H.outside host.old).now)
-            ++ bytes.now) }
-        ensures same { IsTrue H.told → OnOk result
-            (records (image self.old.journal.unit (H.outside host.new).now)
-            ≡ records (image self.old.journal.unit (H.outside host.old).now)) }
+        ensures record_of { IsSameRecord (Switch self.old) (Switch self.new) }
+        ensures more { OnOk result (HasPut H.told bytes.now (Switch self.old) (Switch self.new)
+            (H.outside host.old) (H.outside host.new)) }
         ensures writes { Programs H.told self.old.journal.unit (writing (length bytes.now) 0 0)
             (ReadsAs (records (image self.old.journal.unit (H.outside host.old).now))) result
             (H.outside host.old) (H.outside host.new) }
@@ -91,22 +81,11 @@ impl Switching {
     pub(crate) fn finish<H: Host>(self, host: &mut H) -> Result<Journal, Failed>
         requires whole { self.put ≡ self.len }
         requires draft { IsSwitchOf H.told self (H.outside host.old) }
-        ensures journal { IfOk result (λ journal. Stands H.told journal (H.outside host.new)
-            × (journal.unit ≡ self.journal.unit)) }
-        ensures committed { IsTrue H.told → OnOk result
-            (records (image self.journal.unit (H.outside host.new).now)
-            ≡ Some (switched self (image self.journal.unit (H.outside host.old).now) ∷ [])) }
-        ensures open { IfOk result (λ journal. journal.closed ≡ false) }
-        ensures places { IfOk result (λ journal. (journal.end ≡ switch_start self + 21 + self.len)
-            × (first_place journal ≡ switch_start self + 16)) }
-        ensures rest { IsTrue H.told → OnOk result
-            (tail (image self.journal.unit (H.outside host.new).now)
-            ≡ replicate (bank_size self.journal.blocks - (21 + self.len)) 255) }
-        ensures alike { IsTrue H.told → IfOk result
-            (λ journal. VotesAgree journal (image self.journal.unit (H.outside host.new).now)) }
+        ensures finished { IfOk result (λ journal. IsFinished H.told (Switch self) journal
+            (H.outside host.old) (H.outside host.new)) }
         ensures writes { Programs H.told self.journal.unit (writing 3 3 7)
             (ReadsAsEither (records (image self.journal.unit (H.outside host.old).now))
-            (Some (switched self (image self.journal.unit (H.outside host.old).now) ∷ []))) result
+            (outcome_of (Switch self) (H.outside host.old))) result
             (H.outside host.old) (H.outside host.new) }
     {
         let Switching { journal, len, .. } = self;

@@ -2,3 +2,4 @@
 -- with the part that has it), this project's own, or, for a mere word on lists, nodes or readers that states no rule, a word of these definitions.
 pub mod Later
 pub mod Written
+pub mod Laws

@@ -1,8 +1,8 @@
 -- What one call does to the log and to the card of its unit.
-use Rattle.std.specs.Prelude.{◌≡◌, ◌⊎◌, ℕ, ◌+◌, ◌-◌, ◌^◌, ◌≤◌, ◌<◌, zero, suc, min, Option, Some, slice_index_or, Bool, true, List, [], ◌∷◌, ◌++◌, length, take, drop, Result, Ok, Err, IsErr, is_err, OnErr, vec_len, vec_capacity}
+use Rattle.std.specs.Prelude.{◌≡◌, ◌⊎◌, ℕ, ◌+◌, ◌-◌, ◌^◌, ◌≤◌, ◌<◌, zero, suc, min, Option, Some, None, slice_index_or, Bool, true, List, [], ◌∷◌, ◌++◌, length, take, drop, Result, Ok, Err, IsErr, is_err, OnOk, OnErr, vec_len, vec_capacity}
 use Rattle.std.proofs.Common.{Vec, Global}
-use Rattle.newt_host.specs.Moments.{On, Wrote, changes}
-use Rattle.newt_host.specs.Outside.{Work, Writes}
+use Rattle.newt_host.specs.Moments.{Attached, On, Wrote, changes}
+use Rattle.newt_host.specs.Outside.{Work, Writes, printed as printed_after}
 use Rattle.newt_memhost.specs.Log.{HasRoom, now_of}
 use Rattle.newt_memhost.specs.Past.{unit_at}
 use Rattle.newt_memhost.specs.Cards.{StandsAs, free_device}
@@ -113,3 +113,24 @@ pub record Puts {T E : Type 0} (unit at n : ℕ) (bytes : List ℕ) (result : Re
       → StandsAs true new (changes unit (now_of now))
   pub pending : LeavesPending unit at n old.held.items result before now
   pub unchanged : OnErr result (new.held.items ≡ old.held.items)
+
+-- What a call does that is to print a piece: it is appended to the output, or the call failed and
+-- the output is as it was. It uses no more room than the piece has bytes, and gives none up.
+pub record Prints {T E : Type 0} (waiting : ℕ) (fails : Bool) (piece : List ℕ) (result : Result T E)
+    (shown now : Vec ℕ Global) (old new : Log) : Type 0 where
+  pub printed : OnOk result (now_of new ≡ printed_after piece (now_of old))
+  pub appended : OnOk result (now.items ≡ shown.items ++ piece)
+  pub same : OnErr result (now_of new ≡ now_of old)
+  pub unchanged : OnErr result (now.items ≡ shown.items)
+  pub kept : Keeps waiting (length piece) None fails
+      (HasRoomFor (waiting + 1) (length piece) shown old) result old new
+  pub used : vec_len now ≤ vec_len shown + length piece
+  pub more : vec_capacity shown ≤ vec_capacity now
+
+-- an attach stands at the end of the log, which has no less room for entries
+pub record LogsAttach (unit : ℕ) (first : List ℕ) (old new : Log) : Type 0 where
+  pub moment : now_of new ≡ On unit (Attached first) ∷ now_of old
+  pub calls : new.calls ≡ old.calls
+  pub entries : vec_len new.entries ≡ vec_len old.entries + 1
+  pub more_entries : vec_capacity old.entries ≤ vec_capacity new.entries
+  pub store : new.store ≡ old.store

@@ -62,3 +62,13 @@ Stands (Some c) done = StandsAs c.attached c done
 -- Each unit holds what has happened to it.
 pub record IsTold (cards : List Card) (now : Moment) : Type 0 where
   pub each : (u : ℕ) → Stands (slice_get cards u) (changes u now)
+
+-- no device is attached, and nothing was counted
+pub record IsEmpty (card : Card) : Type 0 where
+  pub attached : card.attached ≡ false
+  pub first : card.first.items ≡ []
+  pub faults : card.faults ≡ 0
+  pub programmed : card.programmed ≡ 0
+  pub fetched : card.fetched ≡ 0
+  pub erased : card.erased ≡ 0
+  pub synced : card.synced ≡ 0

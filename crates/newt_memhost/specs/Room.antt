@@ -1,11 +1,12 @@
 -- The room of the host, and what its calls do beside what a host promises.
-use Rattle.std.specs.Prelude.{◌≡◌, ◌≢◌, ℕ, ◌+◌, ◌==◌, min, Bool, List, length, Option, Some, None, Result, IfOk, OnOk, OnErr, vec_len}
+use Rattle.std.specs.Prelude.{◌≡◌, ◌≢◌, ℕ, ◌+◌, ◌-◌, ◌^◌, ◌==◌, min, Bool, List, [], length, Option, Some, None, Result, IfOk, OnOk, OnErr, vec_len}
 use Rattle.std.specs.List.{list_any}
 use Rattle.newt_host.specs.Meanings.{attached, held, left}
 use Rattle.newt_host.specs.Moments.{image}
 use Rattle.newt_host.specs.Outside.{Outside, SameCounts, Work}
 use Rattle.newt_memhost.specs.Calls.{Became, HasRoomFor, LeavesPending, faults_after, moved_after, worn}
 use Rattle.newt_memhost.specs.Outside.{outside_of}
+use Rattle.newt_memhost.specs.Words.{calls_of, failing_of, most_of}
 use Rattle.newt_memhost.specs.declared.host.MemHost.{MemHost}
 
 -- the host has room for so many calls and bytes more, beside an attach of each of its devices
@@ -109,3 +110,15 @@ pub record HasNoCounts (outside : Outside) : Type 0 where
   pub fetched : (unit : ℕ) → outside.fetched unit ≡ 0
   pub erased : (unit : ℕ) → outside.erased unit ≡ 0
   pub synced : (unit : ℕ) → outside.synced unit ≡ 0
+
+-- A host on which nothing has happened: no devices, no input, no calls that are to fail, and no
+-- limit on pieces.
+pub record IsNew (m : MemHost) : Type 0 where
+  pub moment : (outside_of m).now ≡ []
+  pub input : left (outside_of m) ≡ []
+  pub devices : (name : List ℕ) → held (outside_of m) name ≡ None
+  pub units : (unit : ℕ) → attached (outside_of m) unit ≡ None
+  pub list : failing_of m ≡ []
+  pub calls : calls_of m ≡ 0
+  pub counts : HasNoCounts (outside_of m)
+  pub most : most_of m ≡ 2 ^ 64 - 1

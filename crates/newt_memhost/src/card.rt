@@ -1,5 +1,5 @@
 //! Devices, and the units that have them.
-ghost use Rattle.std.specs.Prelude.{◌≡◌, ◌*◌, ◌/◌, ◌<◌, ◌^◌, [], false, IfOk, length};
+ghost use Rattle.std.specs.Prelude.{◌≡◌, ◌*◌, ◌/◌, ◌<◌, ◌^◌, IfOk, length};
 
 use std::alloc::{AllocError, Global};
 
@@ -53,15 +53,11 @@ pub struct Card {
 }
 
 impl Card {
+    ghost use Rattle.newt_memhost.specs.Cards.{IsEmpty};
+
     /// No device.
     pub fn new(alloc: Global) -> Self
-        ensures attached { result.attached ≡ false }
-        ensures first { result.first.items ≡ [] }
-        ensures faults { result.faults ≡ 0 }
-        ensures programmed { result.programmed ≡ 0 }
-        ensures fetched { result.fetched ≡ 0 }
-        ensures erased { result.erased ≡ 0 }
-        ensures synced { result.synced ≡ 0 }
+        ensures { IsEmpty result }
     {
         Card {
             attached: false,

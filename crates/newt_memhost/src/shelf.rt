@@ -1,10 +1,8 @@
 //! Devices that no unit has yet, and how a unit gets one.
-ghost use Rattle.std.specs.Prelude.{◌≡◌, ◌≤◌, ◌<◌, ◌+◌, ◌∷◌, None, MatchOption, vec_len};
+ghost use Rattle.std.specs.Prelude.{◌≡◌, ◌<◌, None, MatchOption, vec_len};
 ghost use Rattle.std.specs.Prelude.{vec_capacity};
-ghost use Rattle.newt_host.specs.Moments.{Attached, On};
 ghost use Rattle.newt_memhost.specs.Cards.{free_device};
-ghost use Rattle.newt_memhost.specs.Calls.{HasMoved, IsPlaceOf};
-ghost use Rattle.newt_memhost.specs.Log.{now_of};
+ghost use Rattle.newt_memhost.specs.Calls.{HasMoved, IsPlaceOf, LogsAttach};
 
 use crate::card::{Card, Device};
 use crate::log::Log;
@@ -27,11 +25,7 @@ pub fn find(shelf: &[Device], name: &[u8]) -> Option<usize>
 pub fn give(card: &mut Card, log: &mut Log, unit: Unit, device: Device)
     requires { vec_len log.old.entries < vec_capacity log.old.entries }
     ensures card { HasMoved device card.old card.new }
-    ensures moment { now_of log.new ≡ On unit (Attached device.first.items) ∷ now_of log.old }
-    ensures calls { log.new.calls ≡ log.old.calls }
-    ensures entries { vec_len log.new.entries ≡ vec_len log.old.entries + 1 }
-    ensures more_entries { vec_capacity log.old.entries ≤ vec_capacity log.new.entries }
-    ensures store { log.new.store ≡ log.old.store }
+    ensures logs { LogsAttach unit device.first.items log.old log.new }
 {
     let Device {
         name,

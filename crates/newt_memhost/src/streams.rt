@@ -1,9 +1,8 @@
 //! The input and the output.
-ghost use Rattle.std.specs.Prelude.{◌≡◌, ◌+◌, ◌≤◌, ◌++◌, ◌∷◌, None, length, IsTrue, OnOk, OnErr};
-ghost use Rattle.std.specs.Prelude.{vec_len, vec_capacity};
+ghost use Rattle.std.specs.Prelude.{◌≡◌, ◌+◌, ◌≤◌, ◌∷◌, None, length, IsTrue, OnOk, OnErr};
+ghost use Rattle.std.specs.Prelude.{vec_capacity};
 ghost use Rattle.newt_host.specs.Moments.{Took};
-ghost use Rattle.newt_host.specs.Outside.{printed};
-ghost use Rattle.newt_memhost.specs.Calls.{HasRoomFor, Keeps};
+ghost use Rattle.newt_memhost.specs.Calls.{HasRoomFor, Keeps, Prints};
 ghost use Rattle.newt_memhost.specs.Log.{HasRoom, NoSmaller, SamePast, now_of};
 
 use crate::happened::Happened;
@@ -51,14 +50,7 @@ pub fn print(
     piece: &[u8],
 ) -> Result<(), Failed>
     requires { HasRoom waiting 0 log.old }
-    ensures printed { OnOk result (now_of log.new ≡ printed piece.now (now_of log.old)) }
-    ensures appended { OnOk result (output.new.items ≡ output.old.items ++ piece.now) }
-    ensures same { OnErr result (now_of log.new ≡ now_of log.old) }
-    ensures unchanged { OnErr result (output.new.items ≡ output.old.items) }
-    ensures kept { Keeps waiting (length piece.now) None fails
-        (HasRoomFor (waiting + 1) (length piece.now) output.old log.old) result log.old log.new }
-    ensures used { vec_len output.new ≤ vec_len output.old + length piece.now }
-    ensures more { vec_capacity output.old ≤ vec_capacity output.new }
+    ensures { Prints waiting fails piece.now result output.old output.new log.old log.new }
 {
     if !reserve(output, log, waiting + 1, piece.len()) {
         return Err(Failed);

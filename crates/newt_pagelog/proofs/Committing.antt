@@ -8,7 +8,7 @@ use Rattle.newt_spec_image.specs.Records.{records, tail}
 use Rattle.newt_spec_image.specs.Pages.{Change}
 use Rattle.newt_journal.specs.Calls.{Programs}
 use Rattle.newt_journal.specs.Journal.{Stands, ReadsAs, ReadsAsEither}
-use Rattle.newt_journal.specs.Draft.{IsBegun, IsDraftOf, journal_of, len_of, put_of, place_of, front_of, unit_of, is_switch, payload_of, outcome, commit_work}
+use Rattle.newt_journal.specs.Draft.{IsBegun, IsFinished, journal_of, len_of, put_of, place_of, front_of, unit_of, is_switch, payload_of, rest_of, outcome, outcome_of, commit_work}
 use Rattle.newt_journal.specs.Places.{first_place}
 use Rattle.newt_journal.specs.declared.draft.Draft.TheVariants.{Append, Switch}
 use Rattle.newt_journal.specs.declared.draft.Draft.{Draft}
@@ -129,15 +129,13 @@ module _ {E : Type 0} (told : Bool) (j : Journal) (work : Work) (after : Option 
   stopped stays = stopped-late (first-either after stays)
 
 -- and one that finished it
-pub finished : {E : Type 0} (told : Bool) (j : Journal) (work : Work) (kind : Bool) (payload : List ℕ) (d : Draft) (a b c : Outside) → Written told j.unit work kind payload d a b → (next : Journal) → Stands told next c × (next.unit ≡ unit_of d)
-    → (IsTrue told → records (image (unit_of d) c.now) ≡ outcome (is_switch d) (records (image (unit_of d) b.now)) (payload_of d (image (unit_of d) b.now)))
-    → (n : ℕ) → (IsTrue told → tail (image (unit_of d) c.now) ≡ replicate n 255)
-    → Programs {E = E} told (unit_of d) (commit_work (is_switch d)) (ReadsAsEither (records (image (unit_of d) b.now)) (outcome (is_switch d) (records (image (unit_of d) b.now)) (payload_of d (image (unit_of d) b.now)))) (Ok next) b c
+pub finished : {E : Type 0} (told : Bool) (j : Journal) (work : Work) (kind : Bool) (payload : List ℕ) (d : Draft) (a b c : Outside) → Written told j.unit work kind payload d a b → (next : Journal) → IsFinished told d next b c
+    → Programs {E = E} told (unit_of d) (commit_work (is_switch d)) (ReadsAsEither (records (image (unit_of d) b.now)) (outcome_of d b)) (Ok next) b c
     → Rewrites {E = E} told j (both work (commit_work kind)) (outcome kind (records (image j.unit a.now)) payload) (Ok next) a c
-finished told j work kind payload d a b c w next stands read n rest writes = record {
-  stands = (stands.0, stands.1 ∙ w.on);
-  committed = λ tells. finish-records told j.unit work kind payload d a b c w tells (read tells);
-  open_after = λ tells. finish-open told j.unit work kind payload d a b c w n (rest tells);
+finished told j work kind payload d a b c w next is writes = record {
+  stands = (is.stands, is.on ∙ w.on);
+  committed = λ tells. finish-records told j.unit work kind payload d a b c w tells (is.committed tells);
+  open_after = λ tells. finish-open told j.unit work kind payload d a b c w (rest_of d) (is.rest tells);
   writes = finish-writes told j.unit work kind payload d a b c w writes;
 }
 

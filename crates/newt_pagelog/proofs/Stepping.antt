@@ -11,7 +11,7 @@ use Rattle.newt_spec_image.specs.Records.{records}
 use Rattle.newt_spec_image.specs.Pages.{Change, written_put, written_delete, written_change}
 use Rattle.newt_journal.specs.Calls.{Programs, writing}
 use Rattle.newt_journal.specs.Journal.{ReadsAs}
-use Rattle.newt_journal.specs.Draft.{IsDraftOf, journal_of, unit_of, len_of, put_of, is_switch, payload_of, rest_of}
+use Rattle.newt_journal.specs.Draft.{IsDraftOf, IsSameRecord, HasPut, journal_of, unit_of, len_of, put_of, is_switch, payload_of, rest_of}
 use Rattle.newt_journal.specs.declared.draft.Draft.{Draft}
 use Rattle.newt_pagelog.specs.Steps.{IsSteady, Stays, Keeps, WritesMore, done}
 use Rattle.newt_pagelog.proofs.Failing.{no-ok, on-err}
@@ -185,22 +185,19 @@ more-two told unit first second x y z a b c one other' =
 pub writes-same : (told : Bool) (unit : ℕ) (bytes other : List ℕ) (x y : Draft) (a b : Outside) → bytes ≡ other → WritesMore told unit bytes x y a b → WritesMore told unit other x y a b
 writes-same told unit bytes other x y a b is w = subst (λ (l : List ℕ). WritesMore told unit l x y a b) is w
 
-pub put-writes : (told : Bool) (bytes : List ℕ) (x y : Draft) (a b : Outside) → IsDraftOf told y b × (put_of y ≡ put_of x + length bytes)
-    → (unit_of y ≡ unit_of x) × (len_of y ≡ len_of x) × (is_switch y ≡ is_switch x) × (rest_of y ≡ rest_of x) → journal_of y ≡ journal_of x
-    → (IsTrue told → payload_of y (image (unit_of x) b.now) ≡ payload_of x (image (unit_of x) a.now) ++ bytes)
-    → (IsTrue told → records (image (unit_of x) b.now) ≡ records (image (unit_of x) a.now))
+pub put-writes : (told : Bool) (bytes : List ℕ) (x y : Draft) (a b : Outside) → IsSameRecord x y → HasPut told bytes x y a b
     → (IsTrue told → Leaves (unit_of x) (ReadsAs (records (image (unit_of x) a.now))) a.now b.now) → WritesMore told (unit_of x) bytes x y a b
-put-writes told bytes x y a b draft kept holds more same leaves = record {
-  draft = draft.0;
-  put = draft.1;
-  on = kept.0;
-  holds = holds;
-  len = kept.1;
-  kind = kept.2;
-  rest = kept.3;
-  more = more;
-  same = same;
-  steady = λ tells. steady-after (unit_of x) a.now b.now (leaves tells) (same tells);
+put-writes told bytes x y a b one more leaves = record {
+  draft = more.draft_of;
+  put = more.put;
+  on = one.on;
+  holds = one.holds;
+  len = one.len;
+  kind = one.kind;
+  rest = one.rest;
+  more = more.more;
+  same = more.same;
+  steady = λ tells. steady-after (unit_of x) a.now b.now (leaves tells) (more.same tells);
 }
 
 -- a keeps of the unit that another draft is on

@@ -1,5 +1,5 @@
 -- Where the pages of a book stand in its journal.
-use Rattle.std.specs.Prelude.{◌≡◌, ℕ, ◌+◌, ◌<◌, ◌≤◌, Bool, true, false, List, [], length, map as map_list, take, drop, nat_eq, Some, Result, OnOk, IsErrOf}
+use Rattle.std.specs.Prelude.{◌≡◌, ℕ, ◌+◌, ◌*◌, ◌<◌, ◌≤◌, Bool, true, false, List, [], length, map as map_list, take, drop, nat_eq, Some, Result, OnOk, IsErrOf}
 use Rattle.std.specs.Map.{lookup, keys_of}
 use Rattle.std.specs.List.{IsDistinct}
 use Rattle.std.specs.FinMap as map
@@ -11,6 +11,7 @@ use Rattle.newt_host.specs.Moments.{image}
 use Rattle.newt_host.specs.Outside.{Outside, OnlyReads, Rose}
 use Rattle.newt_spec_image.specs.Records.{records}
 use Rattle.newt_spec_image.specs.Pages.{Change, pages, puts_from, after, change_in}
+use Rattle.newt_journal.specs.Journal.{Stands}
 use Rattle.newt_journal.specs.Places.{first_place, recorded}
 use Rattle.newt_journal.specs.declared.journal.Journal.{Journal}
 use Rattle.newt_journal.specs.declared.reading.Found.{Found}
@@ -70,6 +71,20 @@ pub record LiesWithin (j : Journal) (found : Found) (size : ℕ) : Type 0 where
   pub low : first_place j ≤ found.at
   pub inside : size ≤ found.len
   pub high : found.at + found.len ≤ j.end
+
+-- A record that was found is taken over into a table: it lies within a journal that stands for its
+-- unit, has so many bytes at least, and the table is one that is filled.
+pub record IsReplaying (told : Bool) (j : Journal) (found : Found) (size : ℕ)
+    (places : HashMap ℕ ℕ (BuildHasherDefault FoldHasher)) (outside : Outside) : Type 0 where
+  pub within : LiesWithin j found size
+  pub stands : Stands told j outside
+  pub table : IsFilling j places
+
+-- The table is still one that is filled, and has no more places than so many bytes of puts add.
+pub record IsFilledBy (j : Journal) (bytes : ℕ)
+    (before after : HashMap ℕ ℕ (BuildHasherDefault FoldHasher)) : Type 0 where
+  pub table : IsFilling j after
+  pub len : 516 * length after.entries ≤ 516 * length before.entries + bytes
 
 -- an answer that says one thing where it is true, and another where it is false
 pub record Tells (good : Bool) (yes no : Type 0) : Type 0 where

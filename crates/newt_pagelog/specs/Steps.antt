@@ -52,3 +52,9 @@ pub record WritesMore (told : Bool) (unit : ℕ) (bytes : List ℕ) (before afte
   pub more : IsTrue told → payload_of after (image unit new.now) ≡ payload_of before (image unit old.now) ++ bytes
   pub same : IsTrue told → records (image unit new.now) ≡ records (image unit old.now)
   pub steady : IsTrue told → IsSteady unit new.now
+
+-- The same of so many bytes (this project's own).
+pub record WritesSized (told : Bool) (unit size : ℕ) (bytes : List ℕ) (before after : Draft)
+    (old new : Outside) : Type 0 where
+  pub writes : WritesMore told unit bytes before after old new
+  pub put : put_of after ≡ put_of before + size

@@ -1,7 +1,8 @@
 // The journal of a book is opened.
-ghost use Rattle.std.specs.Prelude.{IsTrue, ◌≡◌, ◌≤◌, None, IfOk, IsErrOf};
-ghost use Rattle.newt_host.specs.Moments.{image, IsDurable};
+ghost use Rattle.std.specs.Prelude.{IsTrue, ◌≡◌, None, IfOk, IsErrOf};
+ghost use Rattle.newt_host.specs.Moments.{image};
 ghost use Rattle.newt_spec_image.specs.Pages.{pages as pages_of};
+ghost use Rattle.newt_journal.specs.Calls.{MayHold};
 ghost use Rattle.newt_journal.specs.Journal.{Stands};
 ghost use Rattle.newt_pagelog.specs.Placed.{ReadsBook};
 
@@ -11,9 +12,7 @@ use newt_pagebook::BookFault;
 
 /// Opens the journal of a unit on which nothing is pending. It takes no memory.
 pub fn open_journal<H: Host>(host: &mut H, unit: Unit) -> Result<Journal, BookFault>
-    requires enough { 13 ≤ (H.outside host.old).blocks unit }
-    requires few { (H.outside host.old).blocks unit ≤ 4099 }
-    requires at_rest { IsTrue H.told → IsDurable unit (H.outside host.old).now }
+    requires may_hold { MayHold H.told unit (H.outside host.old) }
     ensures journal { IfOk result (λ journal. Stands H.told journal (H.outside host.new)
         × (journal.unit ≡ unit)) }
     ensures not_store { IsErrOf result BookFault.NotStore → IsTrue H.told

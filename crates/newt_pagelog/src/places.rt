@@ -9,8 +9,8 @@ ghost use Rattle.newt_spec_image.specs.Pages.{is_change, change_in};
 ghost use Rattle.newt_journal.specs.Calls.{Reads};
 ghost use Rattle.newt_journal.specs.Journal.{Stands};
 ghost use Rattle.newt_journal.specs.Places.{first_place};
-ghost use Rattle.newt_pagelog.specs.Placed.{AreNumbered, Places, ArePlaced, HoldsAt, IsFilling};
-ghost use Rattle.newt_pagelog.specs.Placed.{LiesWithin, Tells, puts_found, ReadsBook, ReadsUnit};
+ghost use Rattle.newt_pagelog.specs.Placed.{AreNumbered, Places, ArePlaced, HoldsAt, IsReplaying};
+ghost use Rattle.newt_pagelog.specs.Placed.{IsFilledBy, Tells, puts_found, ReadsBook, ReadsUnit};
 ghost use Rattle.newt_pagelog.specs.Placed.{Replayed, ReplaysRecord, payload_found};
 ghost use Rattle.newt_pagelog.specs.Replay.{IsSeen, IsTaken, IsRefused};
 
@@ -98,19 +98,17 @@ fn replay_puts<H: Host>(
     seen: &mut HashSet<u32>,
     places: &mut Table<u32>,
 ) -> Result<bool, BookFault>
-    requires within { LiesWithin journal.now found (4 + 516 * puts) }
-    requires stands { Stands H.told journal.now (H.outside host.old) }
+    requires replaying { IsReplaying H.told journal.now found (4 + 516 * puts) places.old
+        (H.outside host.old) }
     requires count { IsTrue H.told → puts ≡ short_at 0
         (payload_found found journal.now.unit (H.outside host.old)) }
-    requires table { IsFilling journal.now places.old }
     requires seen { IsSeen (contains nat_eq seen.old) (record { puts = []; deletes = [] }) }
     ensures replays { IsTrue H.told → IfOk result (λ good. Tells good
         (Replayed (image journal.now.unit (H.outside host.old).now)
         (puts_found puts (payload_found found journal.now.unit (H.outside host.old)))
         places.old.entries places.new.entries (contains nat_eq seen.new))
         (is_change (payload_found found journal.now.unit (H.outside host.old)) ≡ false)) }
-    ensures table { IfOk result (λ _. IsFilling journal.now places.new) }
-    ensures len { IfOk result (λ _. length places.new.entries ≤ length places.old.entries + puts) }
+    ensures fills { IfOk result (λ _. IsFilledBy journal.now (516 * puts) places.old places.new) }
     ensures reads { ReadsUnit journal.now.unit result (H.outside host.old) (H.outside host.new) }
 {
     for i in 0..puts {
@@ -135,12 +133,11 @@ fn replay_deletes<H: Host>(
     seen: &mut HashSet<u32>,
     places: &mut Table<u32>,
 ) -> Result<bool, BookFault>
-    requires within { LiesWithin journal.now found (4 + 516 * puts + 4 * deletes) }
-    requires stands { Stands H.told journal.now (H.outside host.old) }
+    requires replaying { IsReplaying H.told journal.now found (4 + 516 * puts + 4 * deletes) places.old
+        (H.outside host.old) }
     requires counts { IsTrue H.told → (puts ≡ short_at 0
         (payload_found found journal.now.unit (H.outside host.old)))
         × (deletes ≡ short_at 2 (payload_found found journal.now.unit (H.outside host.old))) }
-    requires table { IsFilling journal.now places.old }
     ensures replays { (before : Places) → IsTrue H.told
         → Replayed (image journal.now.unit (H.outside host.old).now)
         (puts_found puts (payload_found found journal.now.unit (H.outside host.old)))
@@ -150,8 +147,7 @@ fn replay_deletes<H: Host>(
         (said_by (payload_found found journal.now.unit (H.outside host.old))) before
         places.new.entries (contains nat_eq seen.new))
         (is_change (payload_found found journal.now.unit (H.outside host.old)) ≡ false)) }
-    ensures table { IfOk result (λ _. IsFilling journal.now places.new) }
-    ensures len { IfOk result (λ _. length places.new.entries ≤ length places.old.entries) }
+    ensures fills { IfOk result (λ _. IsFilledBy journal.now 0 places.old places.new) }
     ensures reads { ReadsUnit journal.now.unit result (H.outside host.old) (H.outside host.new) }
 {
     for i in 0..deletes {
@@ -173,17 +169,14 @@ fn replay_record<H: Host>(
     found: Found,
     places: &mut Table<u32>,
 ) -> Result<bool, BookFault>
-    requires within { LiesWithin journal.now found 0 }
-    requires stands { Stands H.told journal.now (H.outside host.old) }
-    requires table { IsFilling journal.now places.old }
+    requires replaying { IsReplaying H.told journal.now found 0 places.old
+        (H.outside host.old) }
     ensures replays { IsTrue H.told → IfOk result (λ good. Tells good
         (ReplaysRecord (image journal.now.unit (H.outside host.old).now)
         (payload_found found journal.now.unit (H.outside host.old)) places.old.entries
         places.new.entries)
         (change_in (payload_found found journal.now.unit (H.outside host.old)) ≡ None)) }
-    ensures table { IfOk result (λ _. IsFilling journal.now places.new) }
-    ensures len { IfOk result (λ _. 516 * length places.new.entries
-        ≤ 516 * length places.old.entries + found.len) }
+    ensures fills { IfOk result (λ _. IsFilledBy journal.now found.len places.old places.new) }
     ensures reads { ReadsUnit journal.now.unit result (H.outside host.old) (H.outside host.new) }
 {
     if found.len < 4 {

@@ -14,7 +14,8 @@ ghost use Rattle.newt_pagebook.specs.Batch.{IsBatch};
 ghost use Rattle.newt_pagebook.specs.Book.{IsOpenFor, batch_bytes};
 ghost use Rattle.newt_pagelog.specs.Kept.{is_kept, needed, payload_bytes};
 ghost use Rattle.newt_pagelog.specs.Commits.{Rewrites, append_work};
-ghost use Rattle.newt_pagelog.specs.Steps.{IsSteady, Stays, Keeps, Begins, WritesMore, begin_work};
+ghost use Rattle.newt_pagelog.specs.Steps.{IsSteady, Stays, Keeps, Begins, begin_work};
+ghost use Rattle.newt_pagelog.specs.Steps.{WritesMore, WritesSized};
 
 use crate::live::{Table, kept_of};
 use newt_host::{Failed, Host};
@@ -116,10 +117,9 @@ pub fn write_puts<H: Host>(
     requires room { put_of draft.old + 516 * length puts.now ≤ len_of draft.old }
     requires draft { IsDraftOf H.told draft.old (H.outside host.old) }
     requires steady { IsTrue H.told → IsSteady (unit_of draft.old) (H.outside host.old).now }
-    ensures ok { OnOk result (WritesMore H.told (unit_of draft.old)
+    ensures ok { OnOk result (WritesSized H.told (unit_of draft.old) (516 * length puts.now)
         (flat_map written_put puts.now) draft.old draft.new
         (H.outside host.old) (H.outside host.new)) }
-    ensures put { OnOk result (put_of draft.new ≡ put_of draft.old + 516 * length puts.now) }
     ensures keeps { Keeps H.told (unit_of draft.old) (516 * length puts.now) result
         (H.outside host.old) (H.outside host.new) }
 {
@@ -191,11 +191,10 @@ fn write_batch<V, H: Host>(
     requires room { put_of draft.old + payload_bytes (needed pages.now.entries batch.now)
         ≤ len_of draft.old }
     requires draft { IsDraftOf H.told draft.old (H.outside host.old) }
-    ensures ok { OnOk result (WritesMore H.told (unit_of draft.old)
+    ensures ok { OnOk result (WritesSized H.told (unit_of draft.old)
+        (payload_bytes (needed pages.now.entries batch.now))
         (written_change (needed pages.now.entries batch.now)) draft.old draft.new
         (H.outside host.old) (H.outside host.new)) }
-    ensures put { OnOk result (put_of draft.new
-        ≡ put_of draft.old + payload_bytes (needed pages.now.entries batch.now)) }
     ensures keeps { Keeps H.told (unit_of draft.old)
         (payload_bytes (needed pages.now.entries batch.now)) result
         (H.outside host.old) (H.outside host.new) }

@@ -1,5 +1,5 @@
 -- A book in memory stands for the pages that it keeps.
-use Rattle.std.specs.Prelude.{IsTrue, ◌≡◌, ℕ, ◌≤◌, Bool, false, List, length, nat_eq, Option, Some, IsSome}
+use Rattle.std.specs.Prelude.{IsTrue, ◌≡◌, ℕ, ◌≤◌, Bool, false, List, length, nat_eq, Option, Some, None, IsSome}
 use Rattle.std.specs.HashMap.{HashMap}
 use Rattle.std.specs.HashMap as hash
 use Rattle.std.specs.declared.hash.FoldHasher.{FoldHasher}
@@ -27,6 +27,12 @@ pub record IsReadyFor (told : Bool) (batch : Change) (journal : Journal)
   pub book : IsHeldBy told journal pages.entries outside
   pub sound : AreSound pages.entries
   pub room : HasRoomFor batch journal.blocks pages
+
+-- Each number stands once in a table, and this one does not (this project's own).
+pub record Lacks (number : ℕ) (pages : HashMap ℕ (List ℕ) (BuildHasherDefault FoldHasher))
+    : Type 0 where
+  pub unique : hash.IsUnique nat_eq pages
+  pub fresh : page_in pages.entries number ≡ None
 
 -- The page of a number was taken over from where it stands, and no other one (this project's own).
 pub record TakesNumber (number : ℕ) (places : Places)

@@ -1,6 +1,5 @@
 // All pages of a journal are read.
-ghost use Rattle.std.specs.Prelude.{IsTrue, ◌≡◌, ◌+◌, ◌≤◌, nat_eq, None, Some, IfOk, OnOk, IsErrOf};
-ghost use Rattle.std.specs.HashMap as hash;
+ghost use Rattle.std.specs.Prelude.{IsTrue, ◌≡◌, ◌+◌, ◌≤◌, None, Some, IfOk, OnOk, IsErrOf};
 ghost use Rattle.newt_host.specs.Moments.{image};
 ghost use Rattle.newt_spec_image.specs.Pages.{pages as pages_of};
 ghost use Rattle.newt_journal.specs.Calls.{Reads};
@@ -8,7 +7,7 @@ ghost use Rattle.newt_journal.specs.Journal.{Stands};
 ghost use Rattle.newt_journal.specs.Places.{first_place};
 ghost use Rattle.newt_pagelog.specs.Kept.{AreSound, map_of, page_in};
 ghost use Rattle.newt_pagelog.specs.Placed.{ArePlaced, ReadsBook, ReadsUnit, lifted, page_from};
-ghost use Rattle.newt_pageplain.specs.Plain.{TakesNumber};
+ghost use Rattle.newt_pageplain.specs.Plain.{Lacks, TakesNumber};
 
 use crate::apply::Kept;
 use newt_host::{Failed, Host};
@@ -42,8 +41,7 @@ fn read_number<H: Host>(
 ) -> Result<(), BookFault>
     requires placed { ArePlaced journal.now places.now.entries }
     requires stands { Stands H.told journal.now (H.outside host.old) }
-    requires unique { hash.IsUnique nat_eq pages.old }
-    requires fresh { page_in pages.old.entries number ≡ None }
+    requires lacks { Lacks number pages.old }
     ensures took { OnOk result (TakesNumber number places.now.entries pages.old pages.new) }
     ensures page { IsTrue H.told → OnOk result
         (page_in pages.new.entries number

@@ -7,7 +7,7 @@ ghost use Rattle.newt_journal.specs.Journal.{Stands};
 ghost use Rattle.newt_journal.specs.Draft.{IsDraftOf, unit_of, len_of, put_of};
 ghost use Rattle.newt_pagelog.specs.Kept.{all_of};
 ghost use Rattle.newt_pagelog.specs.Commits.{Rewrites, switch_work};
-ghost use Rattle.newt_pagelog.specs.Steps.{IsSteady, Keeps, WritesMore};
+ghost use Rattle.newt_pagelog.specs.Steps.{IsSteady, Keeps, WritesSized};
 
 use crate::apply::Kept;
 use newt_host::{Failed, Host};
@@ -19,11 +19,9 @@ fn write_pages<H: Host>(draft: &mut Draft, host: &mut H, pages: &Kept) -> Result
     requires room { put_of draft.old + 516 * length pages.now.entries ≤ len_of draft.old }
     requires draft { IsDraftOf H.told draft.old (H.outside host.old) }
     requires steady { IsTrue H.told → IsSteady (unit_of draft.old) (H.outside host.old).now }
-    ensures ok { OnOk result (WritesMore H.told (unit_of draft.old)
-        (flat_map written_put pages.now.entries) draft.old draft.new
-        (H.outside host.old) (H.outside host.new)) }
-    ensures put { OnOk result (put_of draft.new
-        ≡ put_of draft.old + 516 * length pages.now.entries) }
+    ensures ok { OnOk result (WritesSized H.told (unit_of draft.old)
+        (516 * length pages.now.entries) (flat_map written_put pages.now.entries)
+        draft.old draft.new (H.outside host.old) (H.outside host.new)) }
     ensures keeps { Keeps H.told (unit_of draft.old) (516 * length pages.now.entries) result
         (H.outside host.old) (H.outside host.new) }
 {
@@ -38,11 +36,9 @@ fn write_all<H: Host>(draft: &mut Draft, host: &mut H, pages: &Kept) -> Result<(
     requires few { length pages.now.entries < 65536 }
     requires room { put_of draft.old + (4 + 516 * length pages.now.entries) ≤ len_of draft.old }
     requires draft { IsDraftOf H.told draft.old (H.outside host.old) }
-    ensures ok { OnOk result (WritesMore H.told (unit_of draft.old)
-        (written_change (all_of pages.now.entries)) draft.old draft.new
-        (H.outside host.old) (H.outside host.new)) }
-    ensures put { OnOk result (put_of draft.new
-        ≡ put_of draft.old + (4 + 516 * length pages.now.entries)) }
+    ensures ok { OnOk result (WritesSized H.told (unit_of draft.old)
+        (4 + 516 * length pages.now.entries) (written_change (all_of pages.now.entries))
+        draft.old draft.new (H.outside host.old) (H.outside host.new)) }
     ensures keeps { Keeps H.told (unit_of draft.old) (4 + 516 * length pages.now.entries) result
         (H.outside host.old) (H.outside host.new) }
 {

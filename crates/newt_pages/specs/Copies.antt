@@ -7,11 +7,11 @@ use Rattle.newt_host.specs.Outside.{Outside, Work}
 use Rattle.newt_spec_image.specs.Records.{records}
 use Rattle.newt_spec_image.specs.Pages.{Put, written_put, written_change}
 use Rattle.newt_journal.specs.Places.{recorded}
-use Rattle.newt_journal.specs.Draft.{journal_of, put_of}
+use Rattle.newt_journal.specs.Draft.{IsDraftOf, journal_of, unit_of, put_of}
 use Rattle.newt_journal.specs.declared.draft.Draft.{Draft}
 use Rattle.newt_pagelog.specs.Kept.{Entries, all_of}
-use Rattle.newt_pagelog.specs.Placed.{Places, lifted, page_of}
-use Rattle.newt_pagelog.specs.Steps.{WritesMore}
+use Rattle.newt_pagelog.specs.Placed.{Places, ArePlaced, lifted, page_of}
+use Rattle.newt_pagelog.specs.Steps.{IsSteady, WritesMore}
 
 -- the place of one number, if it has one, and those of all numbers below another, in order
 abbrev pub place_at : ℕ → Option ℕ → Places
@@ -31,6 +31,17 @@ copying pages =
 abbrev pub writing_all : ℕ → Work
 writing_all pages =
     record { programs = 4 + 516 * pages; fetches = 512 * pages; erases = 0; syncs = 0 }
+
+-- A draft stands for its unit, and a crash now leaves the records as they read.
+pub record IsSteadyDraft (told : Bool) (draft : Draft) (outside : Outside) : Type 0 where
+  pub stands : IsDraftOf told draft outside
+  pub steady : IsTrue told → IsSteady (unit_of draft) outside.now
+
+-- Pages may be copied into it from these places, which lie within the records.
+pub record IsCopying (told : Bool) (draft : Draft) (places : Places) (outside : Outside)
+    : Type 0 where
+  pub draft_of : IsSteadyDraft told draft outside
+  pub placed : ArePlaced (journal_of draft) places
 
 -- A page was written behind what was written before: that at a place of the records.
 pub record CopiesPage (told : Bool) (unit number at : ℕ) (before after : Draft) (old new : Outside) : Type 0 where

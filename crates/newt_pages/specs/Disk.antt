@@ -1,5 +1,5 @@
 -- A book on the device stands for the pages at the places that it keeps.
-use Rattle.std.specs.Prelude.{IsTrue, ◌≡◌, ℕ, ◌+◌, ◌*◌, ◌<◌, ◌≤◌, Bool, if◌then◌else◌, List, [], ◌∷◌, length, get_or, nat_eq, Contains, Option, Some, None, IsSome, Result, IfOk, OnOk, refl}
+use Rattle.std.specs.Prelude.{IsTrue, ◌≡◌, ℕ, ◌+◌, ◌*◌, ◌^◌, ◌<◌, ◌≤◌, Bool, if◌then◌else◌, List, [], ◌∷◌, length, get_or, nat_eq, Contains, Option, Some, None, IsSome, Result, IfOk, OnOk, refl}
 use Rattle.std.proofs.Common.{sym, ◌∙◌, ap, subst}
 use Rattle.std.specs.Map.{lookup, keys_of}
 use Rattle.std.specs.Option.{is_some}
@@ -18,8 +18,9 @@ use Rattle.newt_journal.specs.Places.{first_place}
 use Rattle.newt_journal.specs.declared.journal.Journal.{Journal}
 use Rattle.newt_pagebook.specs.Book.{PagesAre, IsSameFor, changed_numbers}
 use Rattle.newt_pagelog.specs.Commits.{HasRoomFor}
-use Rattle.newt_pagelog.specs.Kept.{ArePageNumbers, map_of, numbers_in, named_in, kept_number}
-use Rattle.newt_pagelog.specs.Placed.{Places, lifted, page_of, AreNumbered, ArePlaced, HoldsAt}
+use Rattle.newt_pagelog.specs.Kept.{ArePageNumbers, map_of, page_in, is_kept, numbers_in, named_in, kept_number}
+use Rattle.newt_pagelog.specs.Placed.{Places, lifted, page_of, AreNumbered, IsPlaced, ArePlaced, HoldsAt}
+use Rattle.newt_pages.specs.Copies.{below}
 use Rattle.newt_pages.specs.declared.hand.AtHand.{AtHand}
 use Rattle.newt_pages.specs.declared.hand.AtHand.TheVariants.{Nothing, Cached, Spare}
 
@@ -31,6 +32,28 @@ keys-lifted page (e ∷ places) = ap (λ (l : List ℕ). e.0 ∷ l) (keys-lifted
 -- the pages of these puts stand one behind the other, each behind its number
 abbrev pub StandAt : (ℕ → List ℕ) → ℕ → List Put → Type 0
 StandAt page first puts = (i : ℕ) → i < length puts → page (first + 516 * i) ≡ (get_or puts i (0, [])).1
+
+-- A table has room for so many pages that stand one behind the other, the first at this place.
+pub record TakesPages (count first : ℕ) (places : HashMap ℕ ℕ (BuildHasherDefault FoldHasher))
+    : Type 0 where
+  pub room : count ≤ hash.spare places
+  pub unique : hash.IsUnique nat_eq places
+  pub near : first + 516 * count < 2 ^ 32
+
+-- The pages at the old places stand one behind the other, the first at this place: each number that
+-- has a page has the same one.
+pub record MovesPages (first : ℕ) (old new : Places) : Type 0 where
+  pub moved : (was is : ℕ → List ℕ) → StandAt is first (lifted was (below 65536 old)) → (q : ℕ)
+      → q < 65536 → page_in (lifted is new) q ≡ page_in (lifted was old) q
+  pub kept : (q : ℕ) → is_kept new q ≡ is_kept old q
+  pub placed : (j : Journal) → first_place j ≤ first
+      → first + 516 * length (below 65536 old) ≤ j.end + 4 → (q at : ℕ) → q < 65536
+      → lookup (nat_eq q) new ≡ Some at → IsPlaced j q at
+
+-- A page lies within the records of a journal at this place.
+pub record LiesAt (j : Journal) (at : ℕ) : Type 0 where
+  pub low : first_place j ≤ at
+  pub high : at + 512 ≤ j.end
 
 -- A table has as many numbers as before, each once, and as much room for others.
 pub record KeepsRoom (old new : HashMap ℕ ℕ (BuildHasherDefault FoldHasher)) : Type 0 where
@@ -60,6 +83,13 @@ abbrev pub shown_in : List (ℕ × List ℕ) → List ℕ → AtHand → Option 
 shown_in cached spare Nothing = None
 shown_in cached spare (Cached at) = lookup (nat_eq at) cached
 shown_in cached spare Spare = Some spare
+
+-- A page is at hand, and where bytes are told it is that at a place of the records.
+pub record Brings (told : Bool) (j : Journal) (at : ℕ) (outside : Outside)
+    (shown : Option (List ℕ)) : Type 0 where
+  pub found : IsSome shown
+  pub page : IsTrue told → (payloads : List (List ℕ))
+      → records (image j.unit outside.now) ≡ Some payloads → shown ≡ Some (page_of j payloads at)
 
 -- The journal stands for its unit, the places lie within its records, and where bytes are told the pages of the unit's image are those at the places (this
 -- project's own).

@@ -6,7 +6,7 @@ ghost use Rattle.newt_journal.specs.Calls.{Reads};
 ghost use Rattle.newt_journal.specs.Journal.{Stands};
 ghost use Rattle.newt_journal.specs.Places.{first_place};
 ghost use Rattle.newt_pagelog.specs.Placed.{page_of};
-ghost use Rattle.newt_pages.specs.Disk.{EachIsPageAtPlace, bytes_fetched, shown_in};
+ghost use Rattle.newt_pages.specs.Disk.{Brings, EachIsPageAtPlace, LiesAt, bytes_fetched, shown_in};
 
 use lru::LruCache;
 use newt_host::{Failed, Host};
@@ -35,15 +35,12 @@ pub(crate) fn bring<H: Host>(
     cache: &mut Cache,
     spare: &mut Page,
 ) -> Result<AtHand, Failed>
-    requires low { first_place journal.now ≤ at }
-    requires high { at + 512 ≤ journal.now.end }
+    requires lies { LiesAt journal.now at }
     requires stands { Stands H.told journal.now (H.outside host.old) }
     requires caches { IsTrue H.told → EachIsPageAtPlace journal.now
         (image journal.now.unit (H.outside host.old).now) cache.old.entries }
-    ensures found { IfOk result (λ hand. IsSome (shown_in cache.new.entries spare.new hand)) }
-    ensures page { IsTrue H.told → IfOk result (λ hand. (payloads : List (List ℕ))
-        → records (image journal.now.unit (H.outside host.old).now) ≡ Some payloads
-        → shown_in cache.new.entries spare.new hand ≡ Some (page_of journal.now payloads at)) }
+    ensures brings { IfOk result (λ hand. Brings H.told journal.now at (H.outside host.old)
+        (shown_in cache.new.entries spare.new hand)) }
     ensures caches { IsTrue H.told → EachIsPageAtPlace journal.now
         (image journal.now.unit (H.outside host.old).now) cache.new.entries }
     // for a page that is cached nothing is fetched

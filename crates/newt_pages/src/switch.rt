@@ -12,8 +12,9 @@ ghost use Rattle.newt_pagelog.specs.Commits.{Rewrites, switch_work};
 ghost use Rattle.newt_pagelog.specs.Kept.{all_of};
 ghost use Rattle.newt_pagelog.specs.Placed.{ArePlaced, lifted, page_of};
 ghost use Rattle.newt_pagelog.specs.Steps.{IsSteady, Stays};
+ghost use Rattle.newt_pages.specs.Disk.{LiesAt};
 ghost use Rattle.newt_pages.specs.Copies.{place_at, below, copying, writing_all, CopiesPage};
-ghost use Rattle.newt_pages.specs.Copies.{CopiesAll, CopiesWhole};
+ghost use Rattle.newt_pages.specs.Copies.{CopiesAll, CopiesWhole, IsCopying, IsSteadyDraft};
 
 use newt_host::{Failed, Host};
 use newt_journal::{Draft, Journal};
@@ -23,10 +24,8 @@ use newt_pagelog::{Table, begin_alone, write_counts, write_put, write_puts};
 // Copies the page at a place of the records into the record that is written.
 fn copy_page<H: Host>(draft: &mut Draft, host: &mut H, number: u32, at: u32) -> Result<(), Failed>
     requires room { put_of draft.old + 516 ≤ len_of draft.old }
-    requires draft { IsDraftOf H.told draft.old (H.outside host.old) }
-    requires steady { IsTrue H.told → IsSteady (unit_of draft.old) (H.outside host.old).now }
-    requires low { first_place (journal_of draft.old) ≤ at }
-    requires high { at + 512 ≤ (journal_of draft.old).end }
+    requires draft { IsSteadyDraft H.told draft.old (H.outside host.old) }
+    requires lies { LiesAt (journal_of draft.old) at }
     ensures ok { OnOk result (CopiesPage H.told (unit_of draft.old) number at draft.old draft.new
         (H.outside host.old) (H.outside host.new)) }
     ensures stays { Stays H.told (unit_of draft.old) (copying 1) result
@@ -47,9 +46,7 @@ fn copy_number<H: Host>(
 ) -> Result<(), Failed>
     requires room { put_of draft.old + 516 * length
         (place_at number (lookup (nat_eq number) places.now.entries)) ≤ len_of draft.old }
-    requires draft { IsDraftOf H.told draft.old (H.outside host.old) }
-    requires steady { IsTrue H.told → IsSteady (unit_of draft.old) (H.outside host.old).now }
-    requires placed { ArePlaced (journal_of draft.old) places.now.entries }
+    requires copying { IsCopying H.told draft.old places.now.entries (H.outside host.old) }
     ensures ok { OnOk result (CopiesAll H.told (unit_of draft.old)
         (place_at number (lookup (nat_eq number) places.now.entries)) draft.old draft.new
         (H.outside host.old) (H.outside host.new)) }
@@ -67,9 +64,7 @@ fn copy_number<H: Host>(
 fn copy_pages<H: Host>(draft: &mut Draft, host: &mut H, places: &Table<u32>) -> Result<(), Failed>
     requires room { put_of draft.old + 516 * length (below 65536 places.now.entries)
         ≤ len_of draft.old }
-    requires draft { IsDraftOf H.told draft.old (H.outside host.old) }
-    requires steady { IsTrue H.told → IsSteady (unit_of draft.old) (H.outside host.old).now }
-    requires placed { ArePlaced (journal_of draft.old) places.now.entries }
+    requires copying { IsCopying H.told draft.old places.now.entries (H.outside host.old) }
     ensures ok { OnOk result (CopiesAll H.told (unit_of draft.old)
         (below 65536 places.now.entries) draft.old draft.new
         (H.outside host.old) (H.outside host.new)) }
@@ -93,9 +88,7 @@ fn copy_whole<H: Host>(
 ) -> Result<(), Failed>
     requires count { live ≡ length (below 65536 places.now.entries) + length puts.now }
     requires room { put_of draft.old + (4 + 516 * live) ≤ len_of draft.old }
-    requires draft { IsDraftOf H.told draft.old (H.outside host.old) }
-    requires steady { IsTrue H.told → IsSteady (unit_of draft.old) (H.outside host.old).now }
-    requires placed { ArePlaced (journal_of draft.old) places.now.entries }
+    requires copying { IsCopying H.told draft.old places.now.entries (H.outside host.old) }
     ensures ok { OnOk result (CopiesWhole H.told (unit_of draft.old)
         (below 65536 places.now.entries) puts.now draft.old draft.new
         (H.outside host.old) (H.outside host.new)) }

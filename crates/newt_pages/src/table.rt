@@ -11,9 +11,9 @@ ghost use Rattle.newt_journal.specs.Places.{first_place};
 ghost use Rattle.newt_journal.specs.declared.journal.Journal.{Journal};
 ghost use Rattle.newt_pagelog.specs.Kept.{page_in, map_of, numbers_in, is_kept};
 ghost use Rattle.newt_pagebook.specs.Book.{changed_numbers};
-ghost use Rattle.newt_pagelog.specs.Placed.{lifted, IsPlaced, ArePlaced};
+ghost use Rattle.newt_pagelog.specs.Placed.{lifted, ArePlaced};
 ghost use Rattle.newt_pages.specs.Copies.{below};
-ghost use Rattle.newt_pages.specs.Disk.{StandAt, KeepsRoom};
+ghost use Rattle.newt_pages.specs.Disk.{StandAt, TakesPages, MovesPages, KeepsRoom};
 
 use newt_pagebook::{Batch, Page};
 use newt_pagelog::Table;
@@ -43,9 +43,7 @@ fn place_page(places: &mut Table<u32>, number: u32, at: u32)
 /// Notes where pages stand that were put one behind the other, the first at this place. There is
 /// room for them.
 pub(crate) fn place_puts(places: &mut Table<u32>, puts: &[(u32, Page)], first: u32)
-    requires room { length puts.now ≤ hash.spare places.old }
-    requires unique { hash.IsUnique nat_eq places.old }
-    requires near { first + 516 * length puts.now < 2 ^ 32 }
+    requires takes { TakesPages (length puts.now) first places.old }
     ensures pages { (page : ℕ → List ℕ) → StandAt page first puts.now → (q : ℕ)
         → page_in (lifted page places.new.entries) q
         ≡ map.get (with_puts puts.now (map_of (lifted page places.old.entries))) q }
@@ -93,9 +91,7 @@ pub(crate) fn remove_puts(places: &mut Table<u32>, puts: &[(u32, Page)])
 /// Takes over a batch whose pages were put one behind the other, the first at this place. There is
 /// room for them.
 pub(crate) fn apply(places: &mut Table<u32>, batch: &Batch, first: u32)
-    requires room { length batch.now.puts ≤ hash.spare places.old }
-    requires unique { hash.IsUnique nat_eq places.old }
-    requires near { first + 516 * length batch.now.puts < 2 ^ 32 }
+    requires takes { TakesPages (length batch.now.puts) first places.old }
     ensures pages { (page : ℕ → List ℕ) → StandAt page first batch.now.puts
         → map_of (lifted page places.new.entries)
         ≡ after batch.now (map_of (lifted page places.old.entries)) }
@@ -128,13 +124,7 @@ pub(crate) fn move_pages(places: &mut Table<u32>, first: u32) -> u32
     requires unique { hash.IsUnique nat_eq places.old }
     requires near { first + 516 * length (below 65536 places.old.entries) < 2 ^ 32 }
     ensures next { result ≡ first + 516 * length (below 65536 places.old.entries) }
-    ensures moved { (old new : ℕ → List ℕ) → StandAt new first
-        (lifted old (below 65536 places.old.entries)) → (q : ℕ) → q < 65536
-        → page_in (lifted new places.new.entries) q ≡ page_in (lifted old places.old.entries) q }
-    ensures kept { (q : ℕ) → is_kept places.new.entries q ≡ is_kept places.old.entries q }
-    ensures placed { (j : Journal) → first_place j ≤ first
-        → first + 516 * length (below 65536 places.old.entries) ≤ j.end + 4 → (q at : ℕ) → q < 65536
-        → lookup (nat_eq q) places.new.entries ≡ Some at → IsPlaced j q at }
+    ensures moves { MovesPages first places.old.entries places.new.entries }
     ensures room { KeepsRoom places.old places.new }
 {
     let mut at = first;

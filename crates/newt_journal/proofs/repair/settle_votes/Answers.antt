@@ -38,11 +38,12 @@ returns-in_err-settle_vote-3-clause-writes g c = record {
   faults = search rules;
 }
 
-pub returns-clause-alike : goal.returns-clause-alike
-returns-clause-alike g c t = alike_now c.args.unit c.args.bank (g.H.Host.outside c.args.host.now).now _ (c.requires.rest.durable t) c.read_byte.ensures.reads.moment (c.requires.voted t) _ _ (c.in_ok-third.ensures.byte t) c.first_to_settle-near.ensures (c.settle_vote.ensures.writes.any_moment t) (c.in_ok-settle_vote.ensures.kept t) (c.in_ok-settle_vote.ensures.settled t) (c.settle_vote-2.ensures.writes.any_moment t) (c.in_ok-settle_vote-2.ensures.kept t) (c.in_ok-settle_vote-2.ensures.settled t) (g.H.Host.outside c.settle_vote-3.new.host).now (c.in_ok-settle_vote-3.ensures.kept t) (c.in_ok-settle_vote-3.ensures.settled t)
-
-pub returns-clause-kept : goal.returns-clause-kept
-returns-clause-kept g c t = repaired c.args.unit c.args.bank (g.H.Host.outside c.args.host.now).now _ (c.requires.rest.durable t) c.read_byte.ensures.reads.moment (c.requires.voted t) _ _ (c.in_ok-third.ensures.byte t) c.first_to_settle-near.ensures (c.settle_vote.ensures.writes.any_moment t) (c.in_ok-settle_vote.ensures.kept t) (c.in_ok-settle_vote.ensures.settled t) (c.settle_vote-2.ensures.writes.any_moment t) (c.in_ok-settle_vote-2.ensures.kept t) (c.in_ok-settle_vote-2.ensures.settled t) (g.H.Host.outside c.settle_vote-3.new.host).now (c.in_ok-settle_vote-3.ensures.kept t)
+pub returns-clause-settled : goal.returns-clause-settled
+returns-clause-settled g c t = record {
+  alike = alike_now c.args.unit c.args.bank (g.H.Host.outside c.args.host.now).now _ (c.requires.rest.durable t) c.read_byte.ensures.reads.moment (c.requires.voted t) _ _ (c.in_ok-third.ensures.byte t) c.first_to_settle-near.ensures (c.settle_vote.ensures.writes.any_moment t) (c.in_ok-settle_vote.ensures.kept t) (c.in_ok-settle_vote.ensures.settled t) (c.settle_vote-2.ensures.writes.any_moment t) (c.in_ok-settle_vote-2.ensures.kept t) (c.in_ok-settle_vote-2.ensures.settled t) (g.H.Host.outside c.settle_vote-3.new.host).now (c.in_ok-settle_vote-3.ensures.kept t) (c.in_ok-settle_vote-3.ensures.settled t);
+  kept = repaired c.args.unit c.args.bank (g.H.Host.outside c.args.host.now).now _ (c.requires.rest.durable t) c.read_byte.ensures.reads.moment (c.requires.voted t) _ _ (c.in_ok-third.ensures.byte t) c.first_to_settle-near.ensures (c.settle_vote.ensures.writes.any_moment t) (c.in_ok-settle_vote.ensures.kept t) (c.in_ok-settle_vote.ensures.settled t) (c.settle_vote-2.ensures.writes.any_moment t) (c.in_ok-settle_vote-2.ensures.kept t) (c.in_ok-settle_vote-2.ensures.settled t) (g.H.Host.outside c.settle_vote-3.new.host).now (c.in_ok-settle_vote-3.ensures.kept t);
+  durable = c.in_ok-settle_vote-3.ensures.durable t;
+}
 
 pub returns-clause-writes : goal.returns-clause-writes
 returns-clause-writes g c = record {

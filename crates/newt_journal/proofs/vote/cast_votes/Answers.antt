@@ -112,18 +112,14 @@ returns-clause-turning g c t from small alike =
     let moment_3 = Leaves-append moment_2 (Leaves-weaken (turn_3 from bank small (bank-small c.args.bank) (image u old) long alike (image u (g.H.Host.outside c.rewrite_vote.new.host).now) (c.in_ok-rewrite_vote.ensures.voted t) (image u (g.H.Host.outside c.rewrite_vote-2.new.host).now) (c.in_ok-rewrite_vote-2.ensures.voted t)) (c.rewrite_vote-3.ensures.writes.any_moment t)) in
     moment_3
 
-pub returns-clause-alike : goal.returns-clause-alike
-returns-clause-alike g c t =
+pub returns-clause-cast : goal.returns-clause-cast
+returns-clause-cast g c t =
     let u = c.args.unit in
     let old = (g.H.Host.outside c.args.host.now).now in
     let bank = bank_number c.args.bank in
     let long : 12288 ≤ length (image u old) = omega (arith, g.met.H.Host.sized c.args.host.now u t, c.requires.rest.has.count, c.requires.enough) in
-    cast_alike bank (image u old) long (image u (g.H.Host.outside c.rewrite_vote.new.host).now) (c.in_ok-rewrite_vote.ensures.voted t) (image u (g.H.Host.outside c.rewrite_vote-2.new.host).now) (c.in_ok-rewrite_vote-2.ensures.voted t) (image u (g.H.Host.outside c.rewrite_vote-3.new.host).now) (c.in_ok-rewrite_vote-3.ensures.voted t)
-
-pub returns-clause-kept : goal.returns-clause-kept
-returns-clause-kept g c t =
-    let u = c.args.unit in
-    let old = (g.H.Host.outside c.args.host.now).now in
-    let bank = bank_number c.args.bank in
-    let long : 12288 ≤ length (image u old) = omega (arith, g.met.H.Host.sized c.args.host.now u t, c.requires.rest.has.count, c.requires.enough) in
-    cast_kept bank (image u old) long (image u (g.H.Host.outside c.rewrite_vote.new.host).now) (c.in_ok-rewrite_vote.ensures.voted t) (image u (g.H.Host.outside c.rewrite_vote-2.new.host).now) (c.in_ok-rewrite_vote-2.ensures.voted t) (image u (g.H.Host.outside c.rewrite_vote-3.new.host).now) (c.in_ok-rewrite_vote-3.ensures.voted t)
+    record {
+      alike = cast_alike bank (image u old) long (image u (g.H.Host.outside c.rewrite_vote.new.host).now) (c.in_ok-rewrite_vote.ensures.voted t) (image u (g.H.Host.outside c.rewrite_vote-2.new.host).now) (c.in_ok-rewrite_vote-2.ensures.voted t) (image u (g.H.Host.outside c.rewrite_vote-3.new.host).now) (c.in_ok-rewrite_vote-3.ensures.voted t);
+      kept = cast_kept bank (image u old) long (image u (g.H.Host.outside c.rewrite_vote.new.host).now) (c.in_ok-rewrite_vote.ensures.voted t) (image u (g.H.Host.outside c.rewrite_vote-2.new.host).now) (c.in_ok-rewrite_vote-2.ensures.voted t) (image u (g.H.Host.outside c.rewrite_vote-3.new.host).now) (c.in_ok-rewrite_vote-3.ensures.voted t);
+      durable = c.in_ok-rewrite_vote-3.ensures.durable t;
+    }

@@ -1,4 +1,4 @@
-use Rattle.std.proofs.Common.{None, length, refl, sym, ◌∙◌, ap, arith}
+use Rattle.std.proofs.Common.{None, length, refl, sym, ◌∙◌, ap, arith, rules}
 use Rattle.newt_host.specs.Moments.{Moment}
 use Rattle.newt_host.specs.Outside.{printed}
 use Rattle.newt_memhost.proofs.Keeping.{keeps-added, keeps-none, same-le, same-most}
@@ -31,11 +31,16 @@ returns-then-fails c =
       more = r.more;
     }
 
-pub returns-clause-printed : goal.returns-clause-printed
-returns-clause-printed c = c.add-2.ensures.moment ∙ ap (λ (m : Moment). printed c.args.piece.now m) c.reserve.ensures.past.moment
-
-pub returns-clause-kept : goal.returns-clause-kept
-returns-clause-kept c =
+pub returns : goal.returns
+returns c =
     let r = c.reserve.ensures in
-    keeps-added c.args.waiting (length c.args.piece.now) None c.args.fails _ c.args.log.now c.reserve.new.log c.add-2.new.self
-    r.past r.more_log (r.room c.if-not-reserve.false).log_fits c.add-2.ensures (same-le (length c.args.piece.now)) refl (sym c.if-fails.false)
+    record {
+      printed = c.add-2.ensures.moment ∙ ap (λ (m : Moment). printed c.args.piece.now m) r.past.moment;
+      appended = search rules;
+      same = tt;
+      unchanged = tt;
+      kept = keeps-added c.args.waiting (length c.args.piece.now) None c.args.fails _ c.args.log.now c.reserve.new.log c.add-2.new.self
+          r.past r.more_log (r.room c.if-not-reserve.false).log_fits c.add-2.ensures (same-le (length c.args.piece.now)) refl (sym c.if-fails.false);
+      used = search rules;
+      more = search rules;
+    }

@@ -48,23 +48,20 @@ walk-requires-clause-stands g c = let o = g.H.Host.outside in looks-stands g.H.H
 pub walk-requires-clause-place : goal.walk-requires-clause-place
 walk-requires-clause-place g c = λ tells. subst (λ (l : List ℕ). IsPlace c.args.journal.now c.loop-places.at l) (sym (looks-image c.args.journal.now.unit (g.H.Host.outside c.args.host.now) (g.H.Host.outside c.loop-places.host) c.loop-places.invariant.looks)) (c.loop-places.invariant.place tells)
 
-pub replay_record-requires-clause-within : goal.replay_record-requires-clause-within
-replay_record-requires-clause-within g c =
-    let inside = if_some _ c.in_ok-found.field-0 c.in-Some.found c.in-Some.is c.in_ok-found.ensures.finds.inside in
-    record {
-      low = omega (arith, c.loop-places.invariant.low, inside.0);
-      inside = omega arith;
-      high = omega (arith, inside.1, inside.2);
-    }
-
-pub replay_record-requires-clause-stands : goal.replay_record-requires-clause-stands
-replay_record-requires-clause-stands g c =
+pub replay_record-requires : goal.replay_record-requires
+replay_record-requires g c =
     let o = g.H.Host.outside in
-    let u = c.args.journal.now.unit in
-    looks-stands g.H.Host.told c.args.journal.now (o c.args.host.now) (o c.walk.new.host) (OnlyReads-append c.loop-places.invariant.looks (looks-read c.walk.ensures.reads)) c.requires
-
-pub replay_record-requires-clause-table : goal.replay_record-requires-clause-table
-replay_record-requires-clause-table g c = record { unique = c.loop-places.invariant.unique; placed = c.loop-places.invariant.placed }
+    let inv = c.loop-places.invariant in
+    let inside = if_some _ c.in_ok-found.field-0 c.in-Some.found c.in-Some.is c.in_ok-found.ensures.finds.inside in
+    record { replaying = record {
+      within = record {
+        low = omega (arith, inv.low, inside.0);
+        inside = omega arith;
+        high = omega (arith, inside.1, inside.2);
+      };
+      stands = looks-stands g.H.Host.told c.args.journal.now (o c.args.host.now) (o c.walk.new.host) (OnlyReads-append inv.looks (looks-read c.walk.ensures.reads)) c.requires;
+      table = record { unique = inv.unique; placed = inv.placed };
+    } }
 
 pub returns-then-not-branch-clause-not_store : goal.returns-then-not-branch-clause-not_store
 returns-then-not-branch-clause-not_store g c = λ _ tells.
@@ -102,9 +99,9 @@ loop-places-preserved g c =
       looks = OnlyReads-append (OnlyReads-append inv.looks (looks-read c.walk.ensures.reads)) c.replay_record.ensures.reads.looks;
       no_fault = e.reads.no_fault ∙ c.in_ok-found.ensures.reads.faults.no_fault ∙ inv.no_fault;
       place = λ tells. subst (λ (l : List ℕ). IsPlace j f.next l) low (if_some _ c.in_ok-found.field-0 f c.in-Some.is (c.in_ok-found.ensures.finds.next tells));
-      unique = e.table.unique;
-      placed = e.table.placed;
-      many = omega (arith, e.len, inside.0, inside.1, inv.many);
+      unique = e.fills.table.unique;
+      placed = e.fills.table.placed;
+      many = omega (arith, e.fills.len, inside.0, inside.1, inv.many);
       read = λ tells.
           let found : payloads_from j c.loop-places.at img ≡ with_first (take f.len (drop f.at img)) (payloads_from j f.next img) =
           subst (λ (l : List ℕ). payloads_from j c.loop-places.at l ≡ with_first (take f.len (drop f.at l)) (payloads_from j f.next l)) low (at_some _ _ c.in_ok-found.field-0 f c.in-Some.is (c.in_ok-found.ensures.finds.told_of tells)) in

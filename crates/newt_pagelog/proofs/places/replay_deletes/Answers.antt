@@ -18,14 +18,14 @@ pub loop-i-init : goal.loop-i-init
 loop-i-init g c = record {
   looks = OnlyReads-refl c.args.journal.now.unit (g.H.Host.outside c.args.host.now);
   no_fault = refl;
-  unique = c.requires.table.unique;
-  placed = c.requires.table.placed;
+  unique = c.requires.replaying.table.unique;
+  placed = c.requires.replaying.table.placed;
   len = omega arith;
   read = λ before tells r. r;
 }
 
 pub next_number-requires-clause-stands : goal.next_number-requires-clause-stands
-next_number-requires-clause-stands g c = looks-stands g.H.Host.told c.args.journal.now (g.H.Host.outside c.args.host.now) (g.H.Host.outside c.loop-i.host) c.loop-i.invariant.looks c.requires.stands
+next_number-requires-clause-stands g c = looks-stands g.H.Host.told c.args.journal.now (g.H.Host.outside c.args.host.now) (g.H.Host.outside c.loop-i.host) c.loop-i.invariant.looks c.requires.replaying.stands
 
 pub returns-in_err-number-clause-reads : goal.returns-in_err-number-clause-reads
 returns-in_err-number-clause-reads g c = record {
@@ -56,18 +56,12 @@ returns-in-None-clause-replays g c = λ before tells r. record {
       let at = c.args.found.at + 4 + 516 * puts + 4 * i in
       let refused : IsRefused (word_at at (image u (o c.loop-i.host).now)) (contains nat_eq c.loop-i.seen) = at_none _ _ c.in_ok-number.field-0 c.in-None.is (c.in_ok-number.ensures.number tells) in
       let number : word_at at (image u (o c.loop-i.host).now) ≡ delete_at payload (short_at 0 payload) i = ap (λ (l : List ℕ). word_at at l) now
-      ∙ sym (word-piece img c.args.found.at len (4 + 516 * puts + 4 * i) (omega (arith, c.requires.within.inside, c.loop-i-test.true)) ∙ ap (λ (k : ℕ). word_at k img) (let e : c.args.found.at + (4 + 516 * puts + 4 * i) ≡ at = omega arith in e))
+      ∙ sym (word-piece img c.args.found.at len (4 + 516 * puts + 4 * i) (omega (arith, c.requires.replaying.within.inside, c.loop-i-test.true)) ∙ ap (λ (k : ℕ). word_at k img) (let e : c.args.found.at + (4 + 516 * puts + 4 * i) ≡ at = omega arith in e))
       ∙ ap (λ (p : ℕ). delete_at payload p i) counts.0 in
       delete_refused payload (contains nat_eq c.loop-i.seen) (record { puts = puts_from puts (drop 4 payload); deletes = deletes_from i (drop (4 + 516 * puts) payload) }) i (omega (arith, counts.1, c.loop-i-test.true))
       (ap (λ (p : ℕ). record { puts = puts_from p (drop 4 payload); deletes = deletes_from i (drop (4 + 516 * p) payload) }) counts.0) (inv.read before tells r).marks
       (subst (λ (n : ℕ). IsRefused n (contains nat_eq c.loop-i.seen)) number refused);
 }
-
-pub returns-in-None-clause-table : goal.returns-in-None-clause-table
-returns-in-None-clause-table g c = record { unique = c.loop-i.invariant.unique; placed = c.loop-i.invariant.placed }
-
-pub returns-in-None-clause-len : goal.returns-in-None-clause-len
-returns-in-None-clause-len g c = c.loop-i.invariant.len
 
 pub returns-in-None-clause-reads : goal.returns-in-None-clause-reads
 returns-in-None-clause-reads g c = record {
@@ -103,7 +97,7 @@ loop-i-preserved g c =
           let number : n ≡ word_at at img = at_some _ _ c.in_ok-number.field-0 n c.in-Some.is (c.in_ok-number.ensures.number tells) ∙ ap (λ (l : List ℕ). word_at at l) now in
           let change : Change = record { puts = puts_from puts (drop 4 payload); deletes = deletes_from i (drop (4 + 516 * puts) payload) } in
           subst (λ (ch : Change). Replayed img ch before c.remove.new.self.entries (contains nat_eq c.next_number.new.seen))
-          (ap (λ (k : ℕ). deletes_one change k) number ∙ sym (delete-there img c.args.found.at len puts i (puts_from puts (drop 4 payload)) (omega (arith, c.requires.within.inside, c.loop-i-test.true))))
+          (ap (λ (k : ℕ). deletes_one change k) number ∙ sym (delete-there img c.args.found.at len puts i (puts_from puts (drop 4 payload)) (omega (arith, c.requires.replaying.within.inside, c.loop-i-test.true))))
           (replayed-delete img change before c.loop-i.places.entries c.remove.new.self.entries (contains nat_eq c.loop-i.seen) (contains nat_eq c.next_number.new.seen) n (inv.read before tells r) taken updates);
     }
 
@@ -121,16 +115,22 @@ returns-clause-replays g c = λ before tells r. record {
   false_says = λ bad. absurd (cc);
 }
 
-pub returns-clause-table : goal.returns-clause-table
-returns-clause-table g c = record { unique = c.loop-i.invariant.unique; placed = c.loop-i.invariant.placed }
-
-pub returns-clause-len : goal.returns-clause-len
-returns-clause-len g c = c.loop-i.invariant.len
-
 pub returns-clause-reads : goal.returns-clause-reads
 returns-clause-reads g c = record {
   looks = c.loop-i.invariant.looks;
   no_other = search rules;
   cause = search rules;
   no_fault = c.loop-i.invariant.no_fault;
+}
+
+pub returns-in-None-clause-fills : goal.returns-in-None-clause-fills
+returns-in-None-clause-fills g c = record {
+  table = record { unique = c.loop-i.invariant.unique; placed = c.loop-i.invariant.placed };
+  len = omega (arith, c.loop-i.invariant.len);
+}
+
+pub returns-clause-fills : goal.returns-clause-fills
+returns-clause-fills g c = record {
+  table = record { unique = c.loop-i.invariant.unique; placed = c.loop-i.invariant.placed };
+  len = omega (arith, c.loop-i.invariant.len);
 }

@@ -18,14 +18,14 @@ pub loop-i-init : goal.loop-i-init
 loop-i-init g c = record {
   looks = OnlyReads-refl c.args.journal.now.unit (g.H.Host.outside c.args.host.now);
   no_fault = refl;
-  unique = c.requires.table.unique;
-  placed = c.requires.table.placed;
+  unique = c.requires.replaying.table.unique;
+  placed = c.requires.replaying.table.placed;
   len = omega arith;
   read = λ tells. replayed-none (image c.args.journal.now.unit (g.H.Host.outside c.args.host.now).now) c.args.places.now.entries (contains nat_eq c.args.seen.now) c.requires.seen;
 }
 
 pub next_number-requires-clause-stands : goal.next_number-requires-clause-stands
-next_number-requires-clause-stands g c = looks-stands g.H.Host.told c.args.journal.now (g.H.Host.outside c.args.host.now) (g.H.Host.outside c.loop-i.host) c.loop-i.invariant.looks c.requires.stands
+next_number-requires-clause-stands g c = looks-stands g.H.Host.told c.args.journal.now (g.H.Host.outside c.args.host.now) (g.H.Host.outside c.loop-i.host) c.loop-i.invariant.looks c.requires.replaying.stands
 
 pub returns-in_err-number-clause-reads : goal.returns-in_err-number-clause-reads
 returns-in_err-number-clause-reads g c = record {
@@ -62,16 +62,10 @@ returns-in-None-clause-replays g c = λ tells. record {
       let at = c.args.found.at + 4 + 516 * i in
       let refused : IsRefused (word_at at (image u (o c.loop-i.host).now)) (contains nat_eq c.loop-i.seen) = at_none _ _ c.in_ok-number.field-0 c.in-None.is (c.in_ok-number.ensures.number tells) in
       let number : word_at at (image u (o c.loop-i.host).now) ≡ (put_at payload i).0 = ap (λ (l : List ℕ). word_at at l) now
-      ∙ sym (word-piece img c.args.found.at len (4 + 516 * i) (omega (arith, c.requires.within.inside, c.loop-i-test.true)) ∙ ap (λ (k : ℕ). word_at k img) (let e : c.args.found.at + (4 + 516 * i) ≡ at = omega arith in e)) in
+      ∙ sym (word-piece img c.args.found.at len (4 + 516 * i) (omega (arith, c.requires.replaying.within.inside, c.loop-i-test.true)) ∙ ap (λ (k : ℕ). word_at k img) (let e : c.args.found.at + (4 + 516 * i) ≡ at = omega arith in e)) in
       put_refused payload (contains nat_eq c.loop-i.seen) (record { puts = puts_from i (drop 4 payload); deletes = [] }) i (omega (arith, c.requires.count tells, c.loop-i-test.true)) refl (inv.read tells).marks
       (subst (λ (n : ℕ). IsRefused n (contains nat_eq c.loop-i.seen)) number refused);
 }
-
-pub returns-in-None-clause-table : goal.returns-in-None-clause-table
-returns-in-None-clause-table g c = record { unique = c.loop-i.invariant.unique; placed = c.loop-i.invariant.placed }
-
-pub returns-in-None-clause-len : goal.returns-in-None-clause-len
-returns-in-None-clause-len g c = omega (arith, c.loop-i.invariant.len, c.loop-i-test.true)
 
 pub returns-in-None-clause-reads : goal.returns-in-None-clause-reads
 returns-in-None-clause-reads g c = record {
@@ -97,17 +91,17 @@ loop-i-preserved g c =
       no_fault = c.in_ok-number.ensures.reads.no_fault ∙ inv.no_fault;
       unique = c.insert.ensures.unique;
       placed = placed-put j c.loop-i.places.entries c.insert.new.self.entries n (at + 4) inv.placed
-          (record { small = taken.small; low = omega (arith, c.requires.within.low); high = omega (arith, c.requires.within.inside, c.requires.within.high, c.loop-i-test.true) }) updates;
+          (record { small = taken.small; low = omega (arith, c.requires.replaying.within.low); high = omega (arith, c.requires.replaying.within.inside, c.requires.replaying.within.high, c.loop-i-test.true) }) updates;
       len = omega (arith, inv.len, grown-one (is_some c.in_ok-insert-in-Some.field-0) (length c.insert.new.self.entries) (length c.loop-i.places.entries) c.in_ok-insert-in-Some.ensures.len);
       read = λ tells.
           let img = image u (o c.args.host.now).now in
           let len = c.args.found.len in
           let now : image u (o c.loop-i.host).now ≡ img = looks-image u (o c.args.host.now) (o c.loop-i.host) inv.looks in
           let number : n ≡ word_at at img = at_some _ _ c.in_ok-number.field-0 n c.in-Some.is (c.in_ok-number.ensures.number tells) ∙ ap (λ (l : List ℕ). word_at at l) now in
-          let low : at + 4 + 512 ≤ length img = omega (arith, c.requires.within.inside, c.requires.within.high, c.loop-i-test.true, held-inside g.H.Host.told j (o c.args.host.now) c.requires.stands tells) in
+          let low : at + 4 + 512 ≤ length img = omega (arith, c.requires.replaying.within.inside, c.requires.replaying.within.high, c.loop-i-test.true, held-inside g.H.Host.told j (o c.args.host.now) c.requires.replaying.stands tells) in
           let change : Change = record { puts = puts_from i (drop 4 (take len (drop c.args.found.at img))); deletes = [] } in
           subst (λ (ch : Change). Replayed img ch c.args.places.now.entries c.insert.new.self.entries (contains nat_eq c.next_number.new.seen))
-          (ap (λ (k : ℕ). puts_one change k (page_from img (at + 4))) number ∙ sym (put-there img c.args.found.at len i (omega (arith, c.requires.within.inside, c.loop-i-test.true))))
+          (ap (λ (k : ℕ). puts_one change k (page_from img (at + 4))) number ∙ sym (put-there img c.args.found.at len i (omega (arith, c.requires.replaying.within.inside, c.loop-i-test.true))))
           (replayed-put img change c.args.places.now.entries c.loop-i.places.entries c.insert.new.self.entries (contains nat_eq c.loop-i.seen) (contains nat_eq c.next_number.new.seen) n (at + 4) (inv.read tells) taken low updates);
     }
 
@@ -121,16 +115,22 @@ returns-clause-replays g c = λ tells. record {
   false_says = λ bad. absurd (cc);
 }
 
-pub returns-clause-table : goal.returns-clause-table
-returns-clause-table g c = record { unique = c.loop-i.invariant.unique; placed = c.loop-i.invariant.placed }
-
-pub returns-clause-len : goal.returns-clause-len
-returns-clause-len g c = omega (arith, c.loop-i.invariant.len, c.loop-i-test.false, c.loop-i.auto.i-end)
-
 pub returns-clause-reads : goal.returns-clause-reads
 returns-clause-reads g c = record {
   looks = c.loop-i.invariant.looks;
   no_other = search rules;
   cause = search rules;
   no_fault = c.loop-i.invariant.no_fault;
+}
+
+pub returns-in-None-clause-fills : goal.returns-in-None-clause-fills
+returns-in-None-clause-fills g c = record {
+  table = record { unique = c.loop-i.invariant.unique; placed = c.loop-i.invariant.placed };
+  len = omega (arith, c.loop-i.invariant.len, c.loop-i-test.true);
+}
+
+pub returns-clause-fills : goal.returns-clause-fills
+returns-clause-fills g c = record {
+  table = record { unique = c.loop-i.invariant.unique; placed = c.loop-i.invariant.placed };
+  len = omega (arith, c.loop-i.invariant.len, c.loop-i-test.false, c.loop-i.auto.i-end);
 }

@@ -6,7 +6,7 @@ use Rattle.newt_host.proofs.Outside.{OnlyReads-append}
 use Rattle.newt_spec_image.specs.Pages.{Change, short_at, puts_from, said_by, is_change}
 use Rattle.newt_pagelog.specs.Placed.{Replayed}
 use Rattle.newt_pagelog.proofs.Failing.{ok-over, rose-over}
-use Rattle.newt_pagelog.proofs.Placing.{looks-image, held-inside, length-piece, length-short, counts-there, bad-length, no_change_in, replayed-says, looks-read}
+use Rattle.newt_pagelog.proofs.Placing.{looks-stands, looks-image, held-inside, length-piece, length-short, counts-there, bad-length, no_change_in, replayed-says, looks-read}
 use Rattle.newt_pagelog.proofs.places.replay_record.Goals as goal
 
 pub returns-then-found-lt4-clause-replays : goal.returns-then-found-lt4-clause-replays
@@ -30,7 +30,7 @@ returns-then-found-puts-clause-replays g c = λ tells. record {
       let payload = take len (drop at img) in
       let second = c.from-deletes.ensures ∙ c.in_ok-read_short-2.ensures.short tells ∙ ap (λ (l : List ℕ). short_at (at + 2) l) (looks-image u (o c.args.host.now) (o c.read_short.new.host) (looks-read c.read_short.ensures.reads)) in
       let counts = counts-there img at len c.from-puts.result c.from-deletes.result (omega (arith, c.if-found-lt4.false)) (c.from-puts.ensures ∙ c.in_ok-read_short.ensures.short tells) second in
-      let size = length-piece img at len (omega (arith, c.requires.within.high, held-inside g.H.Host.told c.args.journal.now (o c.args.host.now) c.requires.stands tells)) in
+      let size = length-piece img at len (omega (arith, c.requires.replaying.within.high, held-inside g.H.Host.told c.args.journal.now (o c.args.host.now) c.requires.replaying.stands tells)) in
       bad-length payload (λ is. c.if-found-puts.true (sym size ∙ is ∙ (λ i. 4 + 516 * (sym counts.0 i) + 4 * (sym counts.1 i))));
 }
 
@@ -77,7 +77,7 @@ returns-clause-replays g c = λ tells.
     let more : last ≡ mid = looks-image u (o c.read_short-2.new.host) (o c.replay_puts.new.host) c.replay_puts.ensures.reads.looks in
     let second = c.from-deletes.ensures ∙ c.in_ok-read_short-2.ensures.short tells ∙ ap (λ (l : List ℕ). short_at (at + 2) l) first in
     let counts = counts-there img at len c.from-puts.result c.from-deletes.result (omega (arith, c.if-found-lt4.false)) (c.from-puts.ensures ∙ c.in_ok-read_short.ensures.short tells) second in
-    let size = length-piece img at len (omega (arith, c.requires.within.high, held-inside told j (o c.args.host.now) c.requires.stands tells)) in
+    let size = length-piece img at len (omega (arith, c.requires.replaying.within.high, held-inside told j (o c.args.host.now) c.requires.replaying.stands tells)) in
     let whole : length (take len (drop at img)) ≡ 4 + 516 * short_at 0 (take len (drop at img)) + 4 * short_at 2 (take len (drop at img)) = size ∙ c.if-found-puts.false ∙ (λ i. 4 + 516 * (counts.0 i) + 4 * (counts.1 i)) in
     let puts : Change = record { puts = puts_from c.from-puts.result (drop 4 (take len (drop at mid))); deletes = [] } in
     let read : Replayed mid puts c.args.places.now.entries c.replay_puts.new.places.entries (contains nat_eq c.replay_puts.new.seen) = (c.in_ok-replay_puts.ensures.replays tells).true_says c.if-not-branch.false in
@@ -106,19 +106,40 @@ returns-then-not-branch-clause-replays g c = λ tells. record {
 }
 
 -- the puts and the deletes lie within the record
-pub replay_puts-requires-clause-within : goal.replay_puts-requires-clause-within
-replay_puts-requires-clause-within g c = record {
-  low = c.requires.within.low;
-  inside = omega (arith, c.if-found-puts.false);
-  high = c.requires.within.high;
+pub replay_puts-requires-clause-replaying : goal.replay_puts-requires-clause-replaying
+replay_puts-requires-clause-replaying g c =
+    let o = g.H.Host.outside in
+    let r = c.requires.replaying in
+    record {
+      within = record { low = r.within.low; inside = omega (arith, c.if-found-puts.false); high = r.within.high };
+      stands = looks-stands g.H.Host.told c.args.journal.now (o c.args.host.now) (o c.read_short-2.new.host)
+          (OnlyReads-append (looks-read c.read_short.ensures.reads) (looks-read c.read_short-2.ensures.reads)) r.stands;
+      table = r.table;
+    }
+
+pub replay_deletes-requires-clause-replaying : goal.replay_deletes-requires-clause-replaying
+replay_deletes-requires-clause-replaying g c =
+    let o = g.H.Host.outside in
+    let r = c.requires.replaying in
+    let counts = OnlyReads-append (looks-read c.read_short.ensures.reads) (looks-read c.read_short-2.ensures.reads) in
+    record {
+      within = record { low = r.within.low; inside = omega (arith, c.if-found-puts.false); high = r.within.high };
+      stands = looks-stands g.H.Host.told c.args.journal.now (o c.args.host.now) (o c.replay_puts.new.host)
+          (OnlyReads-append counts c.replay_puts.ensures.reads.looks) r.stands;
+      table = c.in_ok-replay_puts.ensures.fills.table;
+    }
+
+pub returns-then-not-branch-clause-fills : goal.returns-then-not-branch-clause-fills
+returns-then-not-branch-clause-fills g c = record {
+  table = c.in_ok-replay_puts.ensures.fills.table;
+  len = omega (arith, c.in_ok-replay_puts.ensures.fills.len, c.if-found-puts.false);
 }
 
-pub replay_deletes-requires-clause-within : goal.replay_deletes-requires-clause-within
-replay_deletes-requires-clause-within g c = record {
-  low = c.requires.within.low;
-  inside = omega (arith, c.if-found-puts.false);
-  high = c.requires.within.high;
-}
+pub returns-clause-fills : goal.returns-clause-fills
+returns-clause-fills g c = IfOk-weaker c.replay_deletes.result _ _ (λ _ f. record {
+  table = f.table;
+  len = omega (arith, f.len, c.in_ok-replay_puts.ensures.fills.len, c.if-found-puts.false);
+}) c.replay_deletes.ensures.fills
 
 pub returns-clause-reads : goal.returns-clause-reads
 returns-clause-reads g c =

@@ -69,7 +69,7 @@ returns-in_err-journal g c =
     let y = c.write_batch.new.draft in
     let n = o c.finish.new.host in
     let before = both (writing 4 0 0) (writing size 0 0) in
-    let w = written told j _ false payload d y a b m (writing 4 0 0) (writing size 0 0) begins appended (writes-done c.in_ok-write_batch.ensures.keeps) c.in_ok-write_batch.ensures.ok in
+    let w = written told j _ false payload d y a b m (writing 4 0 0) (writing size 0 0) begins appended (writes-done c.in_ok-write_batch.ensures.keeps) c.in_ok-write_batch.ensures.ok.writes in
     let r = c.from_residual-in_err-journal.result in
     let failed = c.from_residual-in_err-journal.ensures.0 in
     record {
@@ -97,28 +97,28 @@ returns g c =
     let y = c.write_batch.new.draft in
     let n = o c.finish.new.host in
     let before = both (writing 4 0 0) (writing size 0 0) in
-    let w = written told j _ false payload d y a b m (writing 4 0 0) (writing size 0 0) begins appended (writes-done c.in_ok-write_batch.ensures.keeps) c.in_ok-write_batch.ensures.ok in
+    let w = written told j _ false payload d y a b m (writing 4 0 0) (writing size 0 0) begins appended (writes-done c.in_ok-write_batch.ensures.keeps) c.in_ok-write_batch.ensures.ok.writes in
     let f = c.in_ok-journal.ensures in
     record {
       rewrites = rewrites-widen (both before (commit_work false)) (append_work change)
           (record { programs = omega arith; fetches = omega arith; erases = omega arith; syncs = omega arith })
-          (finished told j before false payload y a m n w c.in_ok-journal.journal (f.journal.0, f.journal.1) f.committed _ f.rest f.writes);
+          (finished told j before false payload y a m n w c.in_ok-journal.journal f.finished f.writes);
       places =
           let y_places = append-place y w.kind_is in
-          let its : journal_of y ≡ j = c.in_ok-write_batch.ensures.ok.holds ∙ e.begun.holds in
+          let its : journal_of y ≡ j = c.in_ok-write_batch.ensures.ok.writes.holds ∙ e.begun.holds in
           let from : place_of y ≡ j.end + 5 = y_places.0 ∙ ap (λ (j : Journal). j.end + 5) its in
           let gone = length (filter (is_kept c.args.pages.now.entries) c.args.batch.now.deletes) in (
             (let is : c.in_ok-journal.journal.end ≡ j.end + (9 + 516 * length c.args.batch.now.puts + 4 * gone) = omega (
               arith,
-              f.places.0,
+              f.finished.end,
               from,
-              c.in_ok-write_batch.ensures.ok.len,
+              c.in_ok-write_batch.ensures.ok.writes.len,
               e.begun.len_is,
               ap (λ (l : List (ℕ × List ℕ)). length l) c.puts.ensures.puts,
               c.kept_of-deletes.ensures,
               ap (λ (l : List ℕ). length (filter (is_kept c.args.pages.now.entries) l)) c.deletes.ensures.deletes,
             ) in is),
-            f.places.1 ∙ y_places.1 ∙ ap first_place its,
+            f.finished.first ∙ y_places.1 ∙ ap first_place its,
           );
     }
 
@@ -127,8 +127,8 @@ finish-requires-clause-whole g c =
     let dr = c.in_ok-draft.ensures.begun in
     omega (
       arith,
-      c.in_ok-write_batch.ensures.put,
-      c.in_ok-write_batch.ensures.ok.len,
+      c.in_ok-write_batch.ensures.ok.put,
+      c.in_ok-write_batch.ensures.ok.writes.len,
       dr.len_is,
       dr.put,
       ap (λ (l : List (ℕ × List ℕ)). length l) c.puts.ensures.puts,

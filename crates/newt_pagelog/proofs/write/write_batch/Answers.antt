@@ -39,7 +39,7 @@ returns-in_err-write_deletes-clause-keeps g c =
     let m = 4 * length (filter (is_kept c.args.pages.now.entries) c.deletes.result.now) in
     let total = 4 + 516 * length c.args.batch.now.puts + 4 * length (filter (is_kept c.args.pages.now.entries) c.args.batch.now.deletes) in
     let s = step told u 4 n (4 + n) counts (flat_map written_put puts) (counts ++ flat_map written_put puts) d c.write_counts.new.draft c.write_puts.new.draft (o c.args.host.now) (o c.write_counts.new.host) (o c.write_puts.new.host) refl (omega arith)
-    (writes-done c.in_ok-write_counts.ensures.keeps) c.in_ok-write_counts.ensures.ok (writes-done c.in_ok-write_puts.ensures.keeps) c.in_ok-write_puts.ensures.ok in
+    (writes-done c.in_ok-write_counts.ensures.keeps) c.in_ok-write_counts.ensures.ok (writes-done c.in_ok-write_puts.ensures.keeps) c.in_ok-write_puts.ensures.ok.writes in
     keeps-widen told u (4 + n + m) total (o c.args.host.now) (o c.write_deletes.new.host)
     (omega (arith, ap (λ (l : List (ℕ × List ℕ)). length l) c.puts-puts.ensures.puts, ap (λ (l : List ℕ). length (filter (is_kept c.args.pages.now.entries) l)) c.deletes.ensures.deletes))
     (keeps-two told u (4 + n) m (o c.args.host.now) (o c.write_puts.new.host) (o c.write_deletes.new.host) s.writes.same s.keeps
@@ -57,7 +57,7 @@ returns-clause-keeps g c =
     let m = 4 * length (filter (is_kept c.args.pages.now.entries) c.deletes.result.now) in
     let total = 4 + 516 * length c.args.batch.now.puts + 4 * length (filter (is_kept c.args.pages.now.entries) c.args.batch.now.deletes) in
     let s = step told u 4 n (4 + n) counts (flat_map written_put puts) (counts ++ flat_map written_put puts) d c.write_counts.new.draft c.write_puts.new.draft (o c.args.host.now) (o c.write_counts.new.host) (o c.write_puts.new.host) refl (omega arith)
-    (writes-done c.in_ok-write_counts.ensures.keeps) c.in_ok-write_counts.ensures.ok (writes-done c.in_ok-write_puts.ensures.keeps) c.in_ok-write_puts.ensures.ok in
+    (writes-done c.in_ok-write_counts.ensures.keeps) c.in_ok-write_counts.ensures.ok (writes-done c.in_ok-write_puts.ensures.keeps) c.in_ok-write_puts.ensures.ok.writes in
     keeps-widen told u (4 + n + m) total (o c.args.host.now) (o c.write_deletes.new.host)
     (omega (arith, ap (λ (l : List (ℕ × List ℕ)). length l) c.puts-puts.ensures.puts, ap (λ (l : List ℕ). length (filter (is_kept c.args.pages.now.entries) l)) c.deletes.ensures.deletes))
     (keeps-two told u (4 + n) m (o c.args.host.now) (o c.write_puts.new.host) (o c.write_deletes.new.host) s.writes.same s.keeps
@@ -76,32 +76,31 @@ returns-clause-ok g c =
     let gone : List ℕ = filter (is_kept pages) c.deletes.result.now in
     let m = 4 * length gone in
     let s = step told u 4 n (4 + n) counts (flat_map written_put puts) (counts ++ flat_map written_put puts) d c.write_counts.new.draft c.write_puts.new.draft (o c.args.host.now) (o c.write_counts.new.host) (o c.write_puts.new.host) refl (omega arith)
-    (writes-done c.in_ok-write_counts.ensures.keeps) c.in_ok-write_counts.ensures.ok (writes-done c.in_ok-write_puts.ensures.keeps) c.in_ok-write_puts.ensures.ok in
+    (writes-done c.in_ok-write_counts.ensures.keeps) c.in_ok-write_counts.ensures.ok (writes-done c.in_ok-write_puts.ensures.keeps) c.in_ok-write_puts.ensures.ok.writes in
     let deletes_is : gone ≡ filter (is_kept pages) c.args.batch.now.deletes = ap (filter (is_kept pages)) c.deletes.ensures.deletes in
     let all : written_change (needed pages c.args.batch.now) ≡ (counts ++ flat_map written_put puts) ++ flat_map written_delete gone =
     sym (ap (λ (l : List (ℕ × List ℕ)). (counts ++ flat_map written_put l) ++ flat_map written_delete gone) c.puts-puts.ensures.puts
     ∙ ap (λ (l : List ℕ). (counts ++ flat_map written_put c.args.batch.now.puts) ++ flat_map written_delete l) deletes_is
     ∙ written-batch (needed pages c.args.batch.now) (length puts) c.args.deletes (ap (λ (l : List (ℕ × List ℕ)). length l) c.puts-puts.ensures.puts) c.requires.count) in
-    (step told u (4 + n) m (4 + n + m) (counts ++ flat_map written_put puts) (flat_map written_delete gone) (written_change (needed pages c.args.batch.now)) d c.write_puts.new.draft c.write_deletes.new.draft
-    (o c.args.host.now) (o c.write_puts.new.host) (o c.write_deletes.new.host) all (omega arith) s.keeps s.writes (writes-done c.in_ok-write_deletes.ensures.keeps) c.in_ok-write_deletes.ensures.ok).writes
+    let x = c.in_ok-write_counts.ensures.ok in
+    let y = c.in_ok-write_puts.ensures in
+    let z = c.in_ok-write_deletes.ensures.ok in
+    record {
+      writes = (step told u (4 + n) m (4 + n + m) (counts ++ flat_map written_put puts) (flat_map written_delete gone) (written_change (needed pages c.args.batch.now)) d c.write_puts.new.draft c.write_deletes.new.draft
+    (o c.args.host.now) (o c.write_puts.new.host) (o c.write_deletes.new.host) all (omega arith) s.keeps s.writes (writes-done c.in_ok-write_deletes.ensures.keeps) c.in_ok-write_deletes.ensures.ok).writes;
+      put = omega (
+      arith,
+      x.put,
+      y.ok.put,
+      z.put,
+      deletes-size (filter (is_kept c.args.pages.now.entries) c.deletes.result.now),
+      ap (λ (l : List (ℕ × List ℕ)). length l) c.puts-puts.ensures.puts,
+      ap (λ (l : List ℕ). length (filter (is_kept c.args.pages.now.entries) l)) c.deletes.ensures.deletes,
+    );
+    }
 
 pub write_deletes-requires-clause-room : goal.write_deletes-requires-clause-room
 write_deletes-requires-clause-room g c =
     let x = c.in_ok-write_counts.ensures.ok in
     let y = c.in_ok-write_puts.ensures in
-    omega (arith, x.put, x.len, y.put, y.ok.len, c.requires.room, ap (λ (l : List (ℕ × List ℕ)). length l) c.puts-puts.ensures.puts, ap (λ (l : List ℕ). length (filter (is_kept c.args.pages.now.entries) l)) c.deletes.ensures.deletes)
-
-pub returns-clause-put : goal.returns-clause-put
-returns-clause-put g c =
-    let x = c.in_ok-write_counts.ensures.ok in
-    let y = c.in_ok-write_puts.ensures in
-    let z = c.in_ok-write_deletes.ensures.ok in
-    omega (
-      arith,
-      x.put,
-      y.put,
-      z.put,
-      deletes-size (filter (is_kept c.args.pages.now.entries) c.deletes.result.now),
-      ap (λ (l : List (ℕ × List ℕ)). length l) c.puts-puts.ensures.puts,
-      ap (λ (l : List ℕ). length (filter (is_kept c.args.pages.now.entries) l)) c.deletes.ensures.deletes,
-    )
+    omega (arith, x.put, x.len, y.ok.put, y.ok.writes.len, c.requires.room, ap (λ (l : List (ℕ × List ℕ)). length l) c.puts-puts.ensures.puts, ap (λ (l : List ℕ). length (filter (is_kept c.args.pages.now.entries) l)) c.deletes.ensures.deletes)

@@ -15,7 +15,7 @@ returns-then-contains_key-clause-ok g c =
     let kept : is_kept c.args.pages.now.entries c.args.number ≡ true = sym c.contains_key.ensures ∙ c.if-contains_key.true in
     writes-same told (unit_of d) c.to_be_bytes.result (flat_map written_delete (filter (is_kept c.args.pages.now.entries) (c.args.number ∷ []))) d c.put.new.self (o c.args.host.now) (o c.put.new.host)
     (c.to_be_bytes.ensures ∙ one_deleted (is_kept c.args.pages.now.entries c.args.number) c.args.number kept)
-    (put-writes told c.to_be_bytes.result d c.put.new.self (o c.args.host.now) (o c.put.new.host) x.draft c.put.ensures.kept c.put.ensures.holds x.more x.same c.put.ensures.writes.any_moment)
+    (put-writes told c.to_be_bytes.result d c.put.new.self (o c.args.host.now) (o c.put.new.host) c.put.ensures.record_of x.more c.put.ensures.writes.any_moment)
 
 pub returns-clause-keeps : goal.returns-clause-keeps
 returns-clause-keeps g c =

@@ -11,4 +11,4 @@ returns-clause-ok g c =
     let d = c.args.draft.now in
     let x = c.in_ok-put.ensures in
     writes-same told (unit_of d) c.put_piece.result (to_be_bytes w32 c.args.number ++ c.args.page.now) d c.put.new.self (o c.args.host.now) (o c.put.new.host) c.put_piece.ensures
-    (put-writes told c.put_piece.result d c.put.new.self (o c.args.host.now) (o c.put.new.host) x.draft c.put.ensures.kept c.put.ensures.holds x.more x.same c.put.ensures.writes.any_moment)
+    (put-writes told c.put_piece.result d c.put.new.self (o c.args.host.now) (o c.put.new.host) c.put.ensures.record_of x.more c.put.ensures.writes.any_moment)

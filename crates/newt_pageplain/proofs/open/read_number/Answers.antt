@@ -18,4 +18,4 @@ returns-in-None-clause-page g c = λ tells.
     let places = c.args.places.now.entries in
     let f = page_from (image c.args.journal.now.unit (g.H.Host.outside c.args.host.now).now) in
     let none : lookup (nat_eq c.args.number) places ≡ None = sym c.get.ensures.value ∙ ap option_copied c.in-None.is in
-    c.requires.fresh ∙ sym (lookup-lifted f places c.args.number ∙ ap (option_map f) none)
+    c.requires.lacks.fresh ∙ sym (lookup-lifted f places c.args.number ∙ ap (option_map f) none)

@@ -56,7 +56,7 @@ returns-in_err-journal g c =
     let y = c.write_all.new.draft in
     let payload : List ℕ = written_change (all_of c.args.pages.now.entries) in
     let before = both (begin_work j.blocks) (writing size 0 0) in
-    let w = written told j _ true payload d y a b m (begin_work j.blocks) (writing size 0 0) begins begun (writes-done c.in_ok-write_all.ensures.keeps) c.in_ok-write_all.ensures.ok in
+    let w = written told j _ true payload d y a b m (begin_work j.blocks) (writing size 0 0) begins begun (writes-done c.in_ok-write_all.ensures.keeps) c.in_ok-write_all.ensures.ok.writes in
     let r = c.from_residual-in_err-journal.result in
     let failed = c.from_residual-in_err-journal.ensures.0 in
     let n' = o c.finish.new.host in
@@ -81,8 +81,8 @@ returns g c =
     let y = c.write_all.new.draft in
     let payload : List ℕ = written_change (all_of c.args.pages.now.entries) in
     let before = both (begin_work j.blocks) (writing size 0 0) in
-    let w = written told j _ true payload d y a b m (begin_work j.blocks) (writing size 0 0) begins begun (writes-done c.in_ok-write_all.ensures.keeps) c.in_ok-write_all.ensures.ok in
+    let w = written told j _ true payload d y a b m (begin_work j.blocks) (writing size 0 0) begins begun (writes-done c.in_ok-write_all.ensures.keeps) c.in_ok-write_all.ensures.ok.writes in
     let f = c.in_ok-journal.ensures in
     rewrites-widen (both before (commit_work true)) (switch_work j.blocks n)
     (record { programs = omega arith; fetches = omega arith; erases = omega arith; syncs = omega arith })
-    (finished told j before true payload y a m (o c.finish.new.host) w c.in_ok-journal.journal (f.journal.0, f.journal.1) f.committed _ f.rest f.writes)
+    (finished told j before true payload y a m (o c.finish.new.host) w c.in_ok-journal.journal f.finished f.writes)

@@ -35,6 +35,9 @@ returns-clause-ok g c =
     let pages = c.args.pages.now.entries in
     let d = c.args.draft.now in
     let counts : List ℕ = to_be_bytes w16 c.len.result ++ to_be_bytes w16 0 in
-    (step g.H.Host.told (unit_of d) 4 (516 * length pages) (4 + 516 * length pages) counts (flat_map written_put pages) (written_change (all_of pages)) d c.write_counts.new.draft c.write_pages.new.draft
-    (o c.args.host.now) (o c.write_counts.new.host) (o c.write_pages.new.host) (sym (written-all pages c.len.result c.len.ensures.len)) (omega arith) (writes-done c.in_ok-write_counts.ensures.keeps) c.in_ok-write_counts.ensures.ok
-    (writes-done c.in_ok-write_pages.ensures.keeps) c.in_ok-write_pages.ensures.ok).writes
+    record {
+      writes = (step g.H.Host.told (unit_of d) 4 (516 * length pages) (4 + 516 * length pages) counts (flat_map written_put pages) (written_change (all_of pages)) d c.write_counts.new.draft c.write_pages.new.draft
+          (o c.args.host.now) (o c.write_counts.new.host) (o c.write_pages.new.host) (sym (written-all pages c.len.result c.len.ensures.len)) (omega arith) (writes-done c.in_ok-write_counts.ensures.keeps) c.in_ok-write_counts.ensures.ok
+          (writes-done c.in_ok-write_pages.ensures.keeps) c.in_ok-write_pages.ensures.ok.writes).writes;
+      put = omega (arith, c.in_ok-write_counts.ensures.ok.put, c.in_ok-write_pages.ensures.ok.put);
+    }

@@ -64,8 +64,11 @@ returns-clause-ok g c =
     let inv = c.loop-number.invariant in
     let start : c.into_iter-number-iterator.result ≡ c.args.pages.now.entries = c.into_iter-number-iterator.ensures.into_iter_gives ∙ c.iter-number-items.ensures.rest in
     let end = iter_end deref_pair c.args.pages.now.entries c.loop-number.yielded c.into_iter-number-iterator.result c.loop-number.number-iterator c.next.new.self c.next.result start c.loop-number.yielded_by c.in-None.is c.next.ensures.steps in
-    writes-same g.H.Host.told (unit_of c.args.draft.now) (flat_map written_put (map deref_pair c.loop-number.yielded)) (flat_map written_put c.args.pages.now.entries) c.args.draft.now c.loop-number.draft (o c.args.host.now) (o c.loop-number.host)
-    (ap (flat_map written_put) end.0) inv.writes
+    record {
+      writes = writes-same g.H.Host.told (unit_of c.args.draft.now) (flat_map written_put (map deref_pair c.loop-number.yielded)) (flat_map written_put c.args.pages.now.entries) c.args.draft.now c.loop-number.draft (o c.args.host.now) (o c.loop-number.host)
+          (ap (flat_map written_put) end.0) inv.writes;
+      put = omega (arith, inv.put, end.1);
+    }
 
 pub returns-clause-keeps : goal.returns-clause-keeps
 returns-clause-keeps g c =
@@ -74,9 +77,3 @@ returns-clause-keeps g c =
     let start : c.into_iter-number-iterator.result ≡ c.args.pages.now.entries = c.into_iter-number-iterator.ensures.into_iter_gives ∙ c.iter-number-items.ensures.rest in
     let end = iter_end deref_pair c.args.pages.now.entries c.loop-number.yielded c.into_iter-number-iterator.result c.loop-number.number-iterator c.next.new.self c.next.result start c.loop-number.yielded_by c.in-None.is c.next.ensures.steps in
     keeps-widen g.H.Host.told (unit_of c.args.draft.now) (516 * length c.loop-number.yielded) (516 * length c.args.pages.now.entries) (o c.args.host.now) (o c.loop-number.host) (omega (arith, end.1)) (writes-ok inv.keeps)
-
-pub returns-clause-put : goal.returns-clause-put
-returns-clause-put g c =
-    let start : c.into_iter-number-iterator.result ≡ c.args.pages.now.entries = c.into_iter-number-iterator.ensures.into_iter_gives ∙ c.iter-number-items.ensures.rest in
-    let end = iter_end deref_pair c.args.pages.now.entries c.loop-number.yielded c.into_iter-number-iterator.result c.loop-number.number-iterator c.next.new.self c.next.result start c.loop-number.yielded_by c.in-None.is c.next.ensures.steps in
-    omega (arith, c.loop-number.invariant.put, end.1)

@@ -1,4 +1,4 @@
-use Rattle.std.proofs.Common.{IsTrue, ◌≡◌, Bool, ℕ, ◌+◌, ◌*◌, ◌<◌, ◌≤◌, List, length, sym, ◌∙◌, ap, subst, arith}
+use Rattle.std.proofs.Common.{IsTrue, ◌≡◌, Bool, ℕ, ◌+◌, ◌*◌, ◌<◌, ◌≤◌, List, length, sym, ◌∙◌, ap, subst, arith, rules}
 use Rattle.std.specs.List.{filter}
 use Rattle.std.specs.FinSet as set
 use Rattle.newt_host.specs.Moments.{image}
@@ -12,6 +12,7 @@ use Rattle.newt_pagebook.specs.Book.{ReadsChanged}
 use Rattle.newt_pagelog.specs.Commits.{append_work}
 use Rattle.newt_pagelog.specs.Kept.{is_kept, needed}
 use Rattle.newt_pagelog.specs.Placed.{Places, AreNumbered, HoldsAt, lifted, page_of}
+use Rattle.newt_pagelog.proofs.Near.{end-near}
 use Rattle.newt_pagelog.proofs.Counts.{live-is}
 use Rattle.newt_pagelog.proofs.Changing.{few_kept, fewer, cap-few}
 use Rattle.newt_pagelog.proofs.Committed.{appended-reads}
@@ -108,3 +109,12 @@ returns-clause-takes g c =
           numbered-placed c.in_ok-journal.journal new c.apply.ensures.unique few book.placed;
       numbers = c.apply.ensures.numbers;
     }
+
+pub apply-requires : goal.apply-requires
+apply-requires g c = record {
+  takes = record {
+    room = c.requires.ready.room.spare;
+    unique = search rules;
+    near = omega (arith, room-few c.args.journal (length c.args.batch.now.puts) (omega (arith, c.requires.fits)), end-near c.args.journal, c.end-first.ensures.place);
+  };
+}

@@ -101,8 +101,8 @@ move_pages-next-requires-clause-near g c =
     let few : length (below 65536 left) + length batch.puts < 65536 = cap-few j.blocks (length (below 65536 left) + length batch.puts) j.not_too_many (omega (arith, count, c.requires.ready.room.live)) in
     omega (arith, few, c.first.ensures.before_end, end-near c.in_ok-journal.journal)
 
-pub place_puts-requires-clause-near : goal.place_puts-requires-clause-near
-place_puts-requires-clause-near g c =
+pub place_puts-requires : goal.place_puts-requires
+place_puts-requires g c =
     let batch = c.args.batch.now in
     let old = c.args.places.now.entries in
     let left = c.remove_numbers.new.places.entries in
@@ -114,7 +114,14 @@ place_puts-requires-clause-near g c =
     let told = g.H.Host.told in
     let j = c.args.journal in
     let few : length (below 65536 left) + length batch.puts < 65536 = cap-few j.blocks (length (below 65536 left) + length batch.puts) j.not_too_many (omega (arith, count, c.requires.ready.room.live)) in
-    omega (arith, few, c.first.ensures.before_end, end-near c.in_ok-journal.journal, c.move_pages-next.ensures.next, ap (λ (l : List Put). length l) c.puts-3.ensures.puts)
+    let size = ap (λ (l : List Put). length l) c.puts-3.ensures.puts in
+    record {
+      takes = record {
+        room = omega (arith, c.requires.ready.room.spare, c.remove_puts.ensures.spare, c.remove_numbers.ensures.spare, c.move_pages-next.ensures.room.spare, size);
+        unique = c.move_pages-next.ensures.room.unique;
+        near = omega (arith, few, c.first.ensures.before_end, end-near c.in_ok-journal.journal, c.move_pages-next.ensures.next, size);
+      };
+    }
 
 pub returns-clause-takes : goal.returns-clause-takes
 returns-clause-takes g c =
@@ -140,15 +147,15 @@ returns-clause-takes g c =
     let size : length c.puts-3.result.now ≡ length batch.puts = ap (λ (l : List Put). length l) puts3 in
     let ends = c.in_ok-journal.ensures.places in
     let moved_placed : ArePlaced k moved = λ q at there.
-    let less = left-small batch is old left numbered are_left q (sym (c.move_pages-next.ensures.kept q) ∙ ap is_some there) in
-    c.move_pages-next.ensures.placed k (omega (arith, c.first.ensures.place)) (omega (arith, c.first.ensures.place, ends, count, c.requires.live)) q at less there in
+    let less = left-small batch is old left numbered are_left q (sym (c.move_pages-next.ensures.moves.kept q) ∙ ap is_some there) in
+    c.move_pages-next.ensures.moves.placed k (omega (arith, c.first.ensures.place)) (omega (arith, c.first.ensures.place, ends, count, c.requires.live)) q at less there in
     let next : c.move_pages-next.result ≡ first + 516 * length (below 65536 left) = c.move_pages-next.ensures.next in
     let moves : (f g : ℕ → List ℕ) → StandAt g first (lifted f (below 65536 left) ++ batch.puts) → map_of (lifted g new) ≡ after batch (map_of (lifted f old)) = λ f g stand.
     let front : StandAt g first (lifted f (below 65536 left)) = stand-front g first (lifted f (below 65536 left)) batch.puts stand in
     let back : StandAt g c.move_pages-next.result c.puts-3.result.now =
     subst (λ (l : List Put). StandAt g c.move_pages-next.result l) (sym puts3)
     (subst (λ (a : ℕ). StandAt g a batch.puts) (ap (λ (m : ℕ). first + 516 * m) (length-lifted f (below 65536 left)) ∙ sym next) (stand-behind g first (lifted f (below 65536 left)) batch.puts stand)) in
-    moved-after batch is old left numbered are_left f g moved new (all-moved f g left moved (c.move_pages-next.ensures.moved f g front) c.move_pages-next.ensures.kept (left-small batch is old left numbered are_left))
+    moved-after batch is old left numbered are_left f g moved new (all-moved f g left moved (c.move_pages-next.ensures.moves.moved f g front) c.move_pages-next.ensures.moves.kept (left-small batch is old left numbered are_left))
     (λ q. c.place_puts.ensures.pages g back q ∙ ap (λ (l : List Put). map.get (with_puts l (map_of (lifted g moved))) q) puts3) in
     let book : IsPlacedBy told k new (o c.replace_all.new.host) = record {
       stands = stands.0;

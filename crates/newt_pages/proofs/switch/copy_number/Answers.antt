@@ -26,7 +26,7 @@ returns-in-None-clause-ok g c =
     let u = unit_of c.args.draft.now in
     let n = c.args.number in
     copies-same told u _ (place_at n (lookup (nat_eq n) c.args.places.now.entries)) c.args.draft.now c.args.draft.now (o c.args.host.now) (o c.args.host.now)
-    (at-none n (lookup (nat_eq n) c.args.places.now.entries) (sym c.get.ensures.value ∙ ap option_copied c.in-None.is)) (copies-none told c.args.draft.now (o c.args.host.now) c.requires.draft c.requires.steady)
+    (at-none n (lookup (nat_eq n) c.args.places.now.entries) (sym c.get.ensures.value ∙ ap option_copied c.in-None.is)) (copies-none told c.args.draft.now (o c.args.host.now) c.requires.copying.draft_of.stands c.requires.copying.draft_of.steady)
 
 pub returns-in-Some-clause-stays : goal.returns-in-Some-clause-stays
 returns-in-Some-clause-stays g c =
@@ -37,4 +37,9 @@ pub returns-in-None-clause-stays : goal.returns-in-None-clause-stays
 returns-in-None-clause-stays g c =
     let none = at-none c.args.number (lookup (nat_eq c.args.number) c.args.places.now.entries) (sym c.get.ensures.value ∙ ap option_copied c.in-None.is) in
     stays-with _ _ (ap (λ (l : Places). copying (length l)) none)
-    (writes-ok (stays-start g.H.Host.told (unit_of c.args.draft.now) (g.H.Host.outside c.args.host.now) c.requires.steady))
+    (writes-ok (stays-start g.H.Host.told (unit_of c.args.draft.now) (g.H.Host.outside c.args.host.now) c.requires.copying.draft_of.steady))
+
+pub copy_page-requires-clause-lies : goal.copy_page-requires-clause-lies
+copy_page-requires-clause-lies g c =
+    let is = c.requires.copying.placed c.args.number c.in-Some.place.now (sym c.get.ensures.value ∙ ap option_copied c.in-Some.is) in
+    record { low = is.low; high = is.high }

@@ -15,12 +15,12 @@ returns-in_err-read_at-clause-stays g c =
     let o = g.H.Host.outside in
     writes-widen (fetching 512) (copying 1) (record { programs = omega arith; fetches = omega arith; erases = omega arith; syncs = omega arith })
     (writes-failed c.from_residual.result c.from_residual.ensures.0
-    (stays-looked g.H.Host.told (unit_of c.args.draft.now) 512 (o c.args.host.now) (o c.read_at.new.host) c.requires.steady c.in_err-read_at.ensures.reads))
+    (stays-looked g.H.Host.told (unit_of c.args.draft.now) 512 (o c.args.host.now) (o c.read_at.new.host) c.requires.draft.steady c.in_err-read_at.ensures.reads))
 
 pub write_put-requires-clause-draft : goal.write_put-requires-clause-draft
 write_put-requires-clause-draft g c =
     let o = g.H.Host.outside in
-    draft-looked g.H.Host.told c.args.draft.now (o c.args.host.now) (o c.read_at.new.host) c.read_at.ensures.reads.alone c.read_at.ensures.reads.moment c.requires.draft
+    draft-looked g.H.Host.told c.args.draft.now (o c.args.host.now) (o c.read_at.new.host) c.read_at.ensures.reads.alone c.read_at.ensures.reads.moment c.requires.draft.stands
 
 pub returns-in_err-write_put-clause-stays : goal.returns-in_err-write_put-clause-stays
 returns-in_err-write_put-clause-stays g c =
@@ -28,7 +28,7 @@ returns-in_err-write_put-clause-stays g c =
     let told = g.H.Host.told in
     let u = unit_of c.args.draft.now in
     stays-two (fetching 512) (writing 516 0 0) (λ tells. ap (λ (m : Moment). records (image u m)) c.read_at.ensures.reads.moment)
-    (writes-done (stays-looked told u 512 (o c.args.host.now) (o c.read_at.new.host) c.requires.steady c.in_ok-read_at.ensures.reads)) (writes-failed c.from_residual-in_err-write_put.result c.from_residual-in_err-write_put.ensures.0 c.in_err-write_put.ensures.keeps)
+    (writes-done (stays-looked told u 512 (o c.args.host.now) (o c.read_at.new.host) c.requires.draft.steady c.in_ok-read_at.ensures.reads)) (writes-failed c.from_residual-in_err-write_put.result c.from_residual-in_err-write_put.ensures.0 c.in_err-write_put.ensures.keeps)
 
 pub returns-clause-stays : goal.returns-clause-stays
 returns-clause-stays g c =
@@ -36,7 +36,7 @@ returns-clause-stays g c =
     let told = g.H.Host.told in
     let u = unit_of c.args.draft.now in
     stays-two (fetching 512) (writing 516 0 0) (λ tells. ap (λ (m : Moment). records (image u m)) c.read_at.ensures.reads.moment)
-    (writes-done (stays-looked told u 512 (o c.args.host.now) (o c.read_at.new.host) c.requires.steady c.in_ok-read_at.ensures.reads)) c.in_ok-write_put.ensures.keeps
+    (writes-done (stays-looked told u 512 (o c.args.host.now) (o c.read_at.new.host) c.requires.draft.steady c.in_ok-read_at.ensures.reads)) c.in_ok-write_put.ensures.keeps
 
 pub returns-clause-ok : goal.returns-clause-ok
 returns-clause-ok g c =

@@ -14,8 +14,8 @@ loop-number-init g c =
     let told = g.H.Host.told in
     let d = c.args.draft.now in
     record {
-      copies = copies-same told (unit_of d) _ (below 0 c.args.places.now.entries) d d o o (sym (below-none c.args.places.now.entries)) (copies-none told d o c.requires.draft c.requires.steady);
-      stays = stays-with _ _ (ap (λ (l : Places). copying (length l)) (sym (below-none c.args.places.now.entries))) (stays-start told (unit_of d) o c.requires.steady);
+      copies = copies-same told (unit_of d) _ (below 0 c.args.places.now.entries) d d o o (sym (below-none c.args.places.now.entries)) (copies-none told d o c.requires.copying.draft_of.stands c.requires.copying.draft_of.steady);
+      stays = stays-with _ _ (ap (λ (l : Places). copying (length l)) (sym (below-none c.args.places.now.entries))) (stays-start told (unit_of d) o c.requires.copying.draft_of.steady);
     }
 
 pub copy_number-requires-clause-room : goal.copy_number-requires-clause-room
@@ -23,14 +23,16 @@ copy_number-requires-clause-room g c =
     let inv = c.loop-number.invariant in
     omega (arith, inv.copies.put, inv.copies.writes.len, c.requires.room, below-room c.loop-number.number 65536 c.args.places.now.entries c.loop-number-test.true)
 
-pub copy_number-requires-clause-draft : goal.copy_number-requires-clause-draft
-copy_number-requires-clause-draft g c = c.loop-number.invariant.copies.writes.draft
-
-pub copy_number-requires-clause-steady : goal.copy_number-requires-clause-steady
-copy_number-requires-clause-steady g c = λ tells. let w = c.loop-number.invariant.copies.writes in steady-on (unit_of c.args.draft.now) (unit_of c.loop-number.draft) (g.H.Host.outside c.loop-number.host).now (sym w.on) (w.steady tells)
-
-pub copy_number-requires-clause-placed : goal.copy_number-requires-clause-placed
-copy_number-requires-clause-placed g c = subst (λ (j : Journal). ArePlaced j c.args.places.now.entries) (sym c.loop-number.invariant.copies.writes.holds) c.requires.placed
+pub copy_number-requires-clause-copying : goal.copy_number-requires-clause-copying
+copy_number-requires-clause-copying g c =
+    let w = c.loop-number.invariant.copies.writes in
+    record {
+      draft_of = record {
+        stands = w.draft;
+        steady = λ tells. steady-on (unit_of c.args.draft.now) (unit_of c.loop-number.draft) (g.H.Host.outside c.loop-number.host).now (sym w.on) (w.steady tells);
+      };
+      placed = subst (λ (j : Journal). ArePlaced j c.args.places.now.entries) (sym w.holds) c.requires.copying.placed;
+    }
 
 -- so many pages more
 more_pages : (n : ℕ) (places : Places) → n < 65536

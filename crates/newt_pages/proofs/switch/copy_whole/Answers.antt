@@ -1,4 +1,4 @@
-use Rattle.std.proofs.Common.{◌≡◌, ℕ, ◌+◌, ◌*◌, List, ◌++◌, length, sym, ◌∙◌, ap, arith, append_assoc, length-append}
+use Rattle.std.proofs.Common.{◌≡◌, ℕ, ◌+◌, ◌*◌, List, ◌++◌, length, sym, ◌∙◌, ap, subst, arith, append_assoc, length-append}
 use Rattle.std.specs.Int.{to_be_bytes, w16}
 use Rattle.std.specs.List.{flat_map}
 use Rattle.std.proofs.lemmas.Grind.{flat_map-append}
@@ -9,8 +9,8 @@ use Rattle.newt_journal.specs.Calls.{writing}
 use Rattle.newt_journal.specs.Draft.{unit_of}
 use Rattle.newt_journal.specs.declared.journal.Journal.{Journal}
 use Rattle.newt_pagelog.specs.Kept.{all_of}
-use Rattle.newt_pagelog.specs.Placed.{lifted, page_of}
-use Rattle.newt_pagelog.proofs.Stepping.{both, more-two, writes-same, written-all, stays-two, stays-on, writes-done, writes-failed, writes-widen}
+use Rattle.newt_pagelog.specs.Placed.{ArePlaced, lifted, page_of}
+use Rattle.newt_pagelog.proofs.Stepping.{both, more-two, writes-same, written-all, stays-two, stays-on, steady-on, writes-done, writes-failed, writes-widen}
 use Rattle.newt_pages.specs.Copies.{below, copying, writing_all}
 use Rattle.newt_pages.proofs.switch.copy_whole.Goals as goal
 
@@ -81,7 +81,7 @@ returns-clause-ok g c =
     let copied = c.in_ok-copy_pages.ensures.ok in
     let flat : List ℕ = flat_map written_put copied.pages in
     let two = more-two told u counts flat d c.write_counts.new.draft c.copy_pages.new.draft (o c.args.host.now) (o c.write_counts.new.host) (o c.copy_pages.new.host) first copied.writes in
-    let three = more-two told u (counts ++ flat) (flat_map written_put puts) d c.copy_pages.new.draft c.write_puts.new.draft (o c.args.host.now) (o c.copy_pages.new.host) (o c.write_puts.new.host) two c.in_ok-write_puts.ensures.ok in
+    let three = more-two told u (counts ++ flat) (flat_map written_put puts) d c.copy_pages.new.draft c.write_puts.new.draft (o c.args.host.now) (o c.copy_pages.new.host) (o c.write_puts.new.host) two c.in_ok-write_puts.ensures.ok.writes in
     let count : c.args.live ≡ length (copied.pages ++ puts) = omega (arith, c.requires.count, copied.count, length-append copied.pages puts) in
     let whole : (counts ++ flat) ++ flat_map written_put puts ≡ written_change (all_of (copied.pages ++ puts)) =
     append_assoc counts flat (flat_map written_put puts) ∙ ap (λ (l : List ℕ). counts ++ l) (sym (flat_map-append written_put copied.pages puts)) ∙ written-all (copied.pages ++ puts) c.args.live count in
@@ -90,6 +90,17 @@ returns-clause-ok g c =
       shows = λ tells payloads is.
           copied.shows tells payloads (ap (λ (v : ℕ). records (image v (o c.write_counts.new.host).now)) first.on ∙ first.same tells ∙ is)
           ∙ ap (λ (j : Journal). lifted (page_of j payloads) (below 65536 c.args.places.now.entries)) first.holds;
-      put = omega (arith, first.put, copied.put, c.in_ok-write_puts.ensures.put);
+      put = omega (arith, first.put, copied.put, c.in_ok-write_puts.ensures.ok.put);
       writes = writes-same told u ((counts ++ flat) ++ flat_map written_put puts) (written_change (all_of (copied.pages ++ puts))) d c.write_puts.new.draft (o c.args.host.now) (o c.write_puts.new.host) whole three;
+    }
+
+pub copy_pages-requires-clause-copying : goal.copy_pages-requires-clause-copying
+copy_pages-requires-clause-copying g c =
+    let w = c.in_ok-write_counts.ensures.ok in
+    record {
+      draft_of = record {
+        stands = w.draft;
+        steady = λ tells. steady-on (unit_of c.args.draft.now) (unit_of c.write_counts.new.draft) (g.H.Host.outside c.write_counts.new.host).now (sym w.on) (w.steady tells);
+      };
+      placed = subst (λ (j : Journal). ArePlaced j c.args.places.now.entries) (sym w.holds) c.requires.copying.placed;
     }

@@ -23,8 +23,13 @@ payload_is told j len places puts payloads x y a b c begins whole read tells =
     let there : records (image (unit_of x) b.now) ≡ Some payloads = ap (λ (v : ℕ). records (image v b.now)) begins.begun.on ∙ begins.begun.same tells ∙ read tells in
     ap (λ (es : Entries). Some (written_change (all_of (es ++ puts)) ∷ [])) (whole.shows tells payloads there ∙ ap (λ (j : Journal). lifted (page_of j payloads) places) begins.begun.holds)
 
-pub copy_whole-requires-clause-placed : goal.copy_whole-requires-clause-placed
-copy_whole-requires-clause-placed g c = subst (λ (j : Journal). ArePlaced j c.args.places.now.entries) (sym c.in_ok-draft.ensures.begins.begun.holds) c.requires.placed
+pub copy_whole-requires-clause-copying : goal.copy_whole-requires-clause-copying
+copy_whole-requires-clause-copying g c =
+    let begins = c.in_ok-draft.ensures.begins in
+    record {
+      draft_of = record { stands = begins.begun.draft_of; steady = begins.steady };
+      placed = subst (λ (j : Journal). ArePlaced j c.args.places.now.entries) (sym begins.begun.holds) c.requires.placed;
+    }
 
 pub returns-in_err-draft-clause-rewrites : goal.returns-in_err-draft-clause-rewrites
 returns-in_err-draft-clause-rewrites g c = λ payloads read.
@@ -104,4 +109,4 @@ returns-clause-rewrites g c = λ payloads read.
     rewrites-same told j _ (Some (payload ∷ [])) _ _ a n (payload_is told j _ _ c.args.puts.now payloads d y a b m begins whole read)
     (rewrites-widen (both before (commit_work true)) (switch_work j.blocks live)
     (record { programs = omega arith; fetches = omega arith; erases = omega arith; syncs = omega arith })
-    (finished told j before true payload y a m n w c.in_ok-journal.journal (f.journal.0, f.journal.1) f.committed _ f.rest f.writes))
+    (finished told j before true payload y a m n w c.in_ok-journal.journal f.finished f.writes))

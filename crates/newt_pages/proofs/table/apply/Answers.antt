@@ -34,3 +34,14 @@ returns-clause-placed c = λ j placed low high.
     let puts = c.puts.ensures.puts in
     placed-gone j (λ q. list_any (λ n. q == n) c.deletes.result.now) c.place_puts.new.places.entries c.remove_numbers.new.places.entries c.remove_numbers.ensures.updates
     (c.place_puts.ensures.placed j placed (small-puts c.puts.result.now c.args.batch.now.deletes (subst (λ (l : List Put). All (λ n. n < 65536) (map_list (λ (put : Put). put.0) l ++ c.args.batch.now.deletes)) (sym puts) c.puts.ensures.sound.small)) low (omega (arith, high, ap (λ (l : List Put). length l) puts)))
+
+pub place_puts-requires : goal.place_puts-requires
+place_puts-requires c =
+    let size = ap (λ (l : List Put). length l) c.puts.ensures.puts in
+    record {
+      takes = record {
+        room = omega (arith, c.requires.takes.room, size);
+        unique = c.requires.takes.unique;
+        near = omega (arith, c.requires.takes.near, size);
+      };
+    }

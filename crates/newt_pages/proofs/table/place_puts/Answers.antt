@@ -9,9 +9,9 @@ use Rattle.newt_pages.proofs.table.place_puts.Goals as goal
 pub loop-put-init : goal.loop-put-init
 loop-put-init c = record {
   at = omega arith;
-  spare = omega (arith, c.requires.room);
+  spare = omega (arith, c.requires.takes.room);
   len = omega arith;
-  unique = c.requires.unique;
+  unique = c.requires.takes.unique;
   pages = λ page stand q. sym (get_map (lifted page c.args.places.now.entries) q);
   placed = λ j placed small low high. placed;
 }

@@ -18,21 +18,21 @@ returns-in_err-program_piece-clause-writes g c = record {
   faults = search rules;
 }
 
-pub returns-clause-draft : goal.returns-clause-draft
+pub returns-clause-begun : goal.returns-clause-begun
 unfolding length_bytes
-returns-clause-draft g c = (
-  record {
+returns-clause-begun g c = record {
+  draft_of = record {
     has = same_cards c.program_piece.ensures.writes.alone.cards c.requires.stands.has;
     held = λ t. drafted_now c.args.journal c.args.len c.requires.some c.requires.fits _ (c.requires.stands.held t) _ c.to_be_bytes.ensures (c.in_ok-program_piece.ensures.wrote t) _ _;
-  },
-  refl,
-  refl,
-  refl,
-)
-
-pub returns-clause-same : goal.returns-clause-same
-unfolding length_bytes
-returns-clause-same g c t = same_records c.args.journal c.args.len c.requires.some c.requires.fits _ (c.requires.stands.held t) _ c.to_be_bytes.ensures (c.in_ok-program_piece.ensures.wrote t)
+  };
+  on = refl;
+  holds = refl;
+  len_is = refl;
+  put = refl;
+  kind = refl;
+  empty = λ image. refl;
+  same = λ t. same_records c.args.journal c.args.len c.requires.some c.requires.fits _ (c.requires.stands.held t) _ c.to_be_bytes.ensures (c.in_ok-program_piece.ensures.wrote t);
+}
 
 pub returns-clause-writes : goal.returns-clause-writes
 unfolding length_bytes

@@ -139,7 +139,7 @@ returns-clause-journal g c =
     let fits : 21 + length c.args.first.now ≤ bank_size c.blocks-blocks.result = subst (λ (n : ℕ). 21 + length c.args.first.now ≤ bank_size n) (sym c.blocks-blocks.ensures) c.requires.fits in (
       record {
         has = same_cards c.cast_votes.ensures.writes.alone.cards (same_cards c.sync-2.ensures.call.alone.cards (same_cards c.program_piece.ensures.writes.alone.cards (same_cards c.begin_bank.ensures.writes.alone.cards (same_cards c.sync.ensures.call.alone.cards (has_blocks c.args.unit c.blocks-blocks.result (g.H.Host.outside c.args.host.now) (g.met.H.Host.none c.args.host.now c.args.unit) c.blocks-blocks.ensures enough)))));
-        held = λ t. format_stands c.args.unit c.blocks-blocks.result enough few (image c.args.unit (g.H.Host.outside c.sync.new.self).now) c.args.first.now (g.met.H.Host.sized c.sync.new.self c.args.unit t ∙ ap (λ (n : ℕ). n * 4096) (c.sync.ensures.call.alone.cards.blocks c.args.unit ∙ sym c.blocks-blocks.ensures)) fits _ c.start-start.ensures (g.H.Host.outside c.begin_bank.new.host).now (c.in_ok-begin_bank.ensures.begun t) (c.in_ok-program_piece.ensures.wrote t) (c.in_ok-sync-2.ensures.synced t) (g.H.Host.outside c.cast_votes.new.host).now (c.in_ok-cast_votes.ensures.alike t) (c.in_ok-cast_votes.ensures.kept t) _ refl refl refl refl (c.in_ok-cast_votes.ensures.durable t);
+        held = λ t. format_stands c.args.unit c.blocks-blocks.result enough few (image c.args.unit (g.H.Host.outside c.sync.new.self).now) c.args.first.now (g.met.H.Host.sized c.sync.new.self c.args.unit t ∙ ap (λ (n : ℕ). n * 4096) (c.sync.ensures.call.alone.cards.blocks c.args.unit ∙ sym c.blocks-blocks.ensures)) fits _ c.start-start.ensures (g.H.Host.outside c.begin_bank.new.host).now (c.in_ok-begin_bank.ensures.begun t) (c.in_ok-program_piece.ensures.wrote t) (c.in_ok-sync-2.ensures.synced t) (g.H.Host.outside c.cast_votes.new.host).now ((c.in_ok-cast_votes.ensures.cast t).alike) ((c.in_ok-cast_votes.ensures.cast t).kept) _ refl refl refl refl ((c.in_ok-cast_votes.ensures.cast t).durable);
       },
       refl,
       refl,
@@ -152,12 +152,12 @@ returns-clause-fresh g c t = record {
       let enough : 13 ≤ c.blocks-blocks.result = omega (arith, c.blocks-blocks.ensures, c.requires.enough) in
       let few : c.blocks-blocks.result ≤ 4099 = omega (arith, c.blocks-blocks.ensures, c.requires.few) in
       let fits : 21 + length c.args.first.now ≤ bank_size c.blocks-blocks.result = subst (λ (n : ℕ). 21 + length c.args.first.now ≤ bank_size n) (sym c.blocks-blocks.ensures) c.requires.fits in
-      format_one c.args.unit c.blocks-blocks.result enough few (image c.args.unit (g.H.Host.outside c.sync.new.self).now) c.args.first.now (g.met.H.Host.sized c.sync.new.self c.args.unit t ∙ ap (λ (n : ℕ). n * 4096) (c.sync.ensures.call.alone.cards.blocks c.args.unit ∙ sym c.blocks-blocks.ensures)) fits _ c.start-start.ensures (g.H.Host.outside c.begin_bank.new.host).now (c.in_ok-begin_bank.ensures.begun t) (c.in_ok-program_piece.ensures.wrote t) (c.in_ok-sync-2.ensures.synced t) (g.H.Host.outside c.cast_votes.new.host).now (c.in_ok-cast_votes.ensures.alike t) (c.in_ok-cast_votes.ensures.kept t);
-  alike = c.in_ok-cast_votes.ensures.alike t;
+      format_one c.args.unit c.blocks-blocks.result enough few (image c.args.unit (g.H.Host.outside c.sync.new.self).now) c.args.first.now (g.met.H.Host.sized c.sync.new.self c.args.unit t ∙ ap (λ (n : ℕ). n * 4096) (c.sync.ensures.call.alone.cards.blocks c.args.unit ∙ sym c.blocks-blocks.ensures)) fits _ c.start-start.ensures (g.H.Host.outside c.begin_bank.new.host).now (c.in_ok-begin_bank.ensures.begun t) (c.in_ok-program_piece.ensures.wrote t) (c.in_ok-sync-2.ensures.synced t) (g.H.Host.outside c.cast_votes.new.host).now ((c.in_ok-cast_votes.ensures.cast t).alike) ((c.in_ok-cast_votes.ensures.cast t).kept);
+  alike = (c.in_ok-cast_votes.ensures.cast t).alike;
   blank =
       let enough : 13 ≤ c.blocks-blocks.result = omega (arith, c.blocks-blocks.ensures, c.requires.enough) in
       let few : c.blocks-blocks.result ≤ 4099 = omega (arith, c.blocks-blocks.ensures, c.requires.few) in
       let fits : 21 + length c.args.first.now ≤ bank_size c.blocks-blocks.result = subst (λ (n : ℕ). 21 + length c.args.first.now ≤ bank_size n) (sym c.blocks-blocks.ensures) c.requires.fits in
-      format_tail c.args.unit c.blocks-blocks.result enough few (image c.args.unit (g.H.Host.outside c.sync.new.self).now) c.args.first.now (g.met.H.Host.sized c.sync.new.self c.args.unit t ∙ ap (λ (n : ℕ). n * 4096) (c.sync.ensures.call.alone.cards.blocks c.args.unit ∙ sym c.blocks-blocks.ensures)) fits _ c.start-start.ensures (g.H.Host.outside c.begin_bank.new.host).now (c.in_ok-begin_bank.ensures.begun t) (c.in_ok-program_piece.ensures.wrote t) (c.in_ok-sync-2.ensures.synced t) (g.H.Host.outside c.cast_votes.new.host).now (c.in_ok-cast_votes.ensures.alike t) (c.in_ok-cast_votes.ensures.kept t) ∙ ap (λ (n : ℕ). replicate (bank_size n - 21 - length c.args.first.now) 255) c.blocks-blocks.ensures;
-  durable = c.in_ok-cast_votes.ensures.durable t;
+      format_tail c.args.unit c.blocks-blocks.result enough few (image c.args.unit (g.H.Host.outside c.sync.new.self).now) c.args.first.now (g.met.H.Host.sized c.sync.new.self c.args.unit t ∙ ap (λ (n : ℕ). n * 4096) (c.sync.ensures.call.alone.cards.blocks c.args.unit ∙ sym c.blocks-blocks.ensures)) fits _ c.start-start.ensures (g.H.Host.outside c.begin_bank.new.host).now (c.in_ok-begin_bank.ensures.begun t) (c.in_ok-program_piece.ensures.wrote t) (c.in_ok-sync-2.ensures.synced t) (g.H.Host.outside c.cast_votes.new.host).now ((c.in_ok-cast_votes.ensures.cast t).alike) ((c.in_ok-cast_votes.ensures.cast t).kept) ∙ ap (λ (n : ℕ). replicate (bank_size n - 21 - length c.args.first.now) 255) c.blocks-blocks.ensures;
+  durable = (c.in_ok-cast_votes.ensures.cast t).durable;
 }

@@ -12,8 +12,8 @@ pub returns-then-not-branch-clause-not_store : goal.returns-then-not-branch-clau
 returns-then-not-branch-clause-not_store g c fault t =
     let u = c.args.unit in
     let old = (g.H.Host.outside c.args.host.now).now in
-    let enough : 13 ≤ c.blocks-blocks.result = omega (arith, c.blocks-blocks.ensures, c.requires.enough) in
-    let few : c.blocks-blocks.result ≤ 4099 = omega (arith, c.blocks-blocks.ensures, c.requires.few) in
+    let enough : 13 ≤ c.blocks-blocks.result = omega (arith, c.blocks-blocks.ensures, c.requires.may_hold.enough) in
+    let few : c.blocks-blocks.result ≤ 4099 = omega (arith, c.blocks-blocks.ensures, c.requires.may_hold.few) in
     let size : length (image u old) ≡ c.blocks-blocks.result * 4096 = g.met.H.Host.sized c.args.host.now u t ∙ ap (λ (n : ℕ). n * 4096) (sym c.blocks-blocks.ensures) in
     let voted : chosen_bank (image u old) ≡ Some (bank_number c.in-Some.bank) = subst (λ (o : Option Bank). MatchOption o (chosen_bank (image u old) ≡ None) (λ bank. chosen_bank (image u old) ≡ Some (bank_number bank))) c.in-Some.is (c.in_ok-bank.ensures.bank t) in
     let no = c.in_ok-has_header.ensures.no t c.if-not-branch.true in
@@ -24,8 +24,8 @@ pub returns-in_default-2-clause-not_store : goal.returns-in_default-2-clause-not
 returns-in_default-2-clause-not_store g c fault t =
     let u = c.args.unit in
     let old = (g.H.Host.outside c.args.host.now).now in
-    let enough : 13 ≤ c.blocks-blocks.result = omega (arith, c.blocks-blocks.ensures, c.requires.enough) in
-    let few : c.blocks-blocks.result ≤ 4099 = omega (arith, c.blocks-blocks.ensures, c.requires.few) in
+    let enough : 13 ≤ c.blocks-blocks.result = omega (arith, c.blocks-blocks.ensures, c.requires.may_hold.enough) in
+    let few : c.blocks-blocks.result ≤ 4099 = omega (arith, c.blocks-blocks.ensures, c.requires.may_hold.few) in
     let size : length (image u old) ≡ c.blocks-blocks.result * 4096 = g.met.H.Host.sized c.args.host.now u t ∙ ap (λ (n : ℕ). n * 4096) (sym c.blocks-blocks.ensures) in
     let voted : chosen_bank (image u old) ≡ Some (bank_number c.in-Some.bank) = subst (λ (o : Option Bank). MatchOption o (chosen_bank (image u old) ≡ None) (λ bank. chosen_bank (image u old) ≡ Some (bank_number bank))) c.in-Some.is (c.in_ok-bank.ensures.bank t) in
     let yes = c.in_ok-has_header.ensures.yes t c.if-not-branch.false in
@@ -38,8 +38,8 @@ pub returns-clause-journal : goal.returns-clause-journal
 returns-clause-journal g c =
     let u = c.args.unit in
     let old = (g.H.Host.outside c.args.host.now).now in
-    let enough : 13 ≤ c.blocks-blocks.result = omega (arith, c.blocks-blocks.ensures, c.requires.enough) in
-    let few : c.blocks-blocks.result ≤ 4099 = omega (arith, c.blocks-blocks.ensures, c.requires.few) in
+    let enough : 13 ≤ c.blocks-blocks.result = omega (arith, c.blocks-blocks.ensures, c.requires.may_hold.enough) in
+    let few : c.blocks-blocks.result ≤ 4099 = omega (arith, c.blocks-blocks.ensures, c.requires.may_hold.few) in
     let to_end = c.in_ok-has_header.ensures.reads.moment ∙ c.in_ok-bank.ensures.reads.moment in
     let to_blank = c.in_ok-end.ensures.reads.moment ∙ to_end in
     let to_last = c.in_ok-blank.ensures.reads.moment ∙ to_blank in (
@@ -60,7 +60,7 @@ returns-clause-journal g c =
             (false_from c.in_ok-blank.blank (λ is blank. c.in_ok-blank.ensures.not_blank t is
             (moved_back (λ (l : List ℕ). l ≡ replicate (c.limit-limit.result - c.in-Some-2.end) 255) u to_blank refl c.limit-limit.ensures
             (blank ∙ ap (λ (k : ℕ). replicate (k - c.in-Some-2.end) 255) (sym c.limit-limit.ensures)))))
-            (c.requires.durable t);
+            (c.requires.may_hold.durable t);
       },
       refl,
     )

@@ -20,14 +20,14 @@ returns-clause-stands g c = record {
   has = same_cards c.settle_votes.ensures.writes.alone.cards c.requires.stands.has;
   held = λ t. still_held c.args.self.now (g.H.Host.outside c.args.host.now).now
       (c.requires.stands.held t) (g.H.Host.outside c.settle_votes.new.host).now
-      (c.in_ok-settle_votes.ensures.kept t) (c.in_ok-settle_votes.ensures.durable t);
+      ((c.in_ok-settle_votes.ensures.settled t).kept) ((c.in_ok-settle_votes.ensures.settled t).durable);
 }
 
 pub returns-clause-reads : goal.returns-clause-reads
 returns-clause-reads g c t = same_reading c.args.self.now (g.H.Host.outside c.args.host.now).now
     (c.requires.stands.held t)
     (image c.args.self.now.unit (g.H.Host.outside c.settle_votes.new.host).now)
-    (c.in_ok-settle_votes.ensures.kept t)
+    ((c.in_ok-settle_votes.ensures.settled t).kept)
 
 pub returns-clause-writes : goal.returns-clause-writes
 returns-clause-writes g c = record {

@@ -15,21 +15,21 @@ returns-in_err-begin_bank-clause-writes g c = record {
   faults = search rules;
 }
 
-pub returns-clause-draft : goal.returns-clause-draft
-returns-clause-draft g c = (
-  record {
+pub returns-clause-begun : goal.returns-clause-begun
+returns-clause-begun g c = record {
+  draft_of = record {
     has = same_cards c.begin_bank.ensures.writes.alone.cards c.requires.stands.has;
     held = λ t. begun c.args.journal c.args.len (g.H.Host.outside c.args.host.now).now (c.requires.stands.held t) c.other.result c.other.ensures (g.H.Host.outside c.begin_bank.new.host).now
         (c.requires.alike t) (c.in_ok-begin_bank.ensures.begun t) _ _;
-  },
-  refl,
-  refl,
-  refl,
-)
-
-pub returns-clause-same : goal.returns-clause-same
-returns-clause-same g c t =
-    begin_same c.args.journal c.args.len (g.H.Host.outside c.args.host.now).now (c.requires.stands.held t) c.other.result c.other.ensures (image c.args.journal.unit (g.H.Host.outside c.begin_bank.new.host).now) (c.in_ok-begin_bank.ensures.begun t).kept
+  };
+  on = refl;
+  holds = refl;
+  len_is = refl;
+  put = refl;
+  kind = refl;
+  empty = λ image. refl;
+  same = λ t. begin_same c.args.journal c.args.len (g.H.Host.outside c.args.host.now).now (c.requires.stands.held t) c.other.result c.other.ensures (image c.args.journal.unit (g.H.Host.outside c.begin_bank.new.host).now) (c.in_ok-begin_bank.ensures.begun t).kept;
+}
 
 pub returns-clause-writes : goal.returns-clause-writes
 returns-clause-writes g c = record {

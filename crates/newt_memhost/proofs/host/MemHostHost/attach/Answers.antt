@@ -42,8 +42,8 @@ invariant_of-self-3-clause-some c = c.args.self.now.some
 
 pub invariant_of-self-3-clause-waits : goal.invariant_of-self-3-clause-waits
 invariant_of-self-3-clause-waits c = record {
-  entries_fit = omega (arith, c.args.self.now.waits.entries_fit, c.remove-device.ensures.len, c.give.ensures.entries, c.give.ensures.more_entries);
-  bytes_fit = subst (λ (s : Vec ℕ Global). vec_len s + 0 ≤ vec_capacity s) (sym c.give.ensures.store) c.args.self.now.waits.bytes_fit;
+  entries_fit = omega (arith, c.args.self.now.waits.entries_fit, c.remove-device.ensures.len, c.give.ensures.logs.entries, c.give.ensures.logs.more_entries);
+  bytes_fit = subst (λ (s : Vec ℕ Global). vec_len s + 0 ≤ vec_capacity s) (sym c.give.ensures.logs.store) c.args.self.now.waits.bytes_fit;
 }
 
 pub invariant_of-self-3-clause-told : goal.invariant_of-self-3-clause-told
@@ -54,13 +54,13 @@ invariant_of-self-3-clause-told c =
     let there = read-free cards c.unit.inside.0 c.args.unit c.index-self-unit.result c.unit.view_is c.requires.unit c.args.self.now.eight c.requires.free in
     let place : IsPlaceOf c.args.name.now shelf c.in-Some.place = subst (λ (n : List ℕ). IsPlaceOf n shelf c.in-Some.place) c.as_bytes.ensures.value (subst (λ (s : List Device). IsPlaceOf c.as_bytes.result.now s c.in-Some.place) c.deref.ensures.value c.in-Some.ensures) in
     let moved : HasMoved (get_or shelf c.in-Some.place d) (get_or cards c.unit.inside.0 c.index-self-unit.result) c.give.new.card = subst (λ (x : Device). HasMoved x (get_or cards c.unit.inside.0 c.index-self-unit.result) c.give.new.card) c.remove-device.ensures.value c.give.ensures.card in
-    told-attach cards _ c.args.unit _ c.give.new.card c.unit.view_is there.0 d.first.items (now_of c.args.self.now.log) (now_of c.give.new.log) c.args.self.now.told there.1 c.give.ensures.moment c.give.ensures.card.attached c.give.ensures.card.first c.give.ensures.card.held
+    told-attach cards _ c.args.unit _ c.give.new.card c.unit.view_is there.0 d.first.items (now_of c.args.self.now.log) (now_of c.give.new.log) c.args.self.now.told there.1 c.give.ensures.logs.moment c.give.ensures.card.attached c.give.ensures.card.first c.give.ensures.card.held
 
 pub invariant_of-self-3-clause-eight : goal.invariant_of-self-3-clause-eight
 invariant_of-self-3-clause-eight c = eight-set c.args.self.now.cards _ _ c.args.self.now.eight
 
 pub invariant_of-self-3-clause-out : goal.invariant_of-self-3-clause-out
-invariant_of-self-3-clause-out c = ap output c.give.ensures.moment ∙ c.args.self.now.out
+invariant_of-self-3-clause-out c = ap output c.give.ensures.logs.moment ∙ c.args.self.now.out
 
 pub returns : goal.returns
 returns c =
@@ -70,7 +70,7 @@ returns c =
     let there = read-free cards c.unit.inside.0 c.args.unit c.index-self-unit.result c.unit.view_is c.requires.unit c.args.self.now.eight c.requires.free in
     let place : IsPlaceOf c.args.name.now shelf c.in-Some.place = subst (λ (n : List ℕ). IsPlaceOf n shelf c.in-Some.place) c.as_bytes.ensures.value (subst (λ (s : List Device). IsPlaceOf c.as_bytes.result.now s c.in-Some.place) c.deref.ensures.value c.in-Some.ensures) in
     let moved : HasMoved (get_or shelf c.in-Some.place d) (get_or cards c.unit.inside.0 c.index-self-unit.result) c.give.new.card = subst (λ (x : Device). HasMoved x (get_or cards c.unit.inside.0 c.index-self-unit.result) c.give.new.card) c.remove-device.ensures.value c.give.ensures.card in
-    let event : now_of c.give.new.log ≡ On c.args.unit (Attached (get_or shelf c.in-Some.place d).first.items) ∷ now_of c.args.self.now.log = c.give.ensures.moment ∙ ap (λ (x : Device). On c.args.unit (Attached x.first.items) ∷ now_of c.args.self.now.log) c.remove-device.ensures.value in
+    let event : now_of c.give.new.log ≡ On c.args.unit (Attached (get_or shelf c.in-Some.place d).first.items) ∷ now_of c.args.self.now.log = c.give.ensures.logs.moment ∙ ap (λ (x : Device). On c.args.unit (Attached x.first.items) ∷ now_of c.args.self.now.log) c.remove-device.ensures.value in
     record {
       known = found c.args.name.now cards shelf _ c.unit.inside.0 c.args.unit c.in-Some.place _ _ d c.unit.view_is there.0 there.1 c.requires.once place moved c.remove-device.ensures.items (now_of c.args.self.now.log) (now_of c.give.new.log) event;
       attached = λ so. attaches c.args.name.now cards shelf _ c.unit.inside.0 c.args.unit c.in-Some.place _ _ d c.unit.view_is there.0 there.1 c.requires.once place moved c.remove-device.ensures.items (now_of c.args.self.now.log) (now_of c.give.new.log) event _ _ _;
@@ -79,12 +79,12 @@ returns c =
       kept = record {
         room = λ calls more has. record {
           log_fits = record {
-            entries_fit = omega (arith, has.log_fits.entries_fit, c.remove-device.ensures.len, c.give.ensures.entries, c.give.ensures.more_entries);
-            bytes_fit = subst (λ (s : Vec ℕ Global). vec_len s + more ≤ vec_capacity s) (sym c.give.ensures.store) has.log_fits.bytes_fit;
+            entries_fit = omega (arith, has.log_fits.entries_fit, c.remove-device.ensures.len, c.give.ensures.logs.entries, c.give.ensures.logs.more_entries);
+            bytes_fit = subst (λ (s : Vec ℕ Global). vec_len s + more ≤ vec_capacity s) (sym c.give.ensures.logs.store) has.log_fits.bytes_fit;
           };
           output_fits = has.output_fits;
         };
-        numbers = c.give.ensures.calls;
+        numbers = c.give.ensures.logs.calls;
         plan = record { failing = refl; most = refl };
       };
     }

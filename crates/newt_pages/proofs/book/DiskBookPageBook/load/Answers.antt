@@ -57,8 +57,8 @@ returns g c =
     let there : lookup (nat_eq c.args.number) b.places.entries ≡ Some at = sym c.get.ensures.value ∙ ap option_copied c.in-Some.is in
     let brought = brought-on j.unit b.unit _ on (few-fetched at b.cache.entries) (reads-well c.in_ok-self-in-Some-journal.ensures.reads) in
     record {
-      page = has-page told b.unit b.journal b.places.entries b.cache.entries (o c.args.host.now) s j c.in-Some-journal.is c.args.number at _ there c.in_ok-self-in-Some-journal.ensures.found (λ tells payloads is.
-          c.in_ok-self-in-Some-journal.ensures.page tells payloads (ap (λ (u : ℕ). records (image u (o c.args.host.now).now)) on ∙ is));
+      page = has-page told b.unit b.journal b.places.entries b.cache.entries (o c.args.host.now) s j c.in-Some-journal.is c.args.number at _ there c.in_ok-self-in-Some-journal.ensures.brings.found (λ tells payloads is.
+          c.in_ok-self-in-Some-journal.ensures.brings.page tells payloads (ap (λ (u : ℕ). records (image u (o c.args.host.now).now)) on ∙ is));
       stands = stands-brought told b.unit b.journal b.places.entries b.cache.entries (o c.args.host.now) s j c.in-Some-journal.is c.bring.new.cache.entries (o c.bring.new.host) e.reads.moment e.reads.alone e.caches;
       same_place = refl;
       same_numbers = refl;
