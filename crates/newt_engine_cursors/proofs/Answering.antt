@@ -22,7 +22,7 @@ use Rattle.newt_engine_units.specs.Answers.{Answers}
 use Rattle.newt_engine_cursors.specs.Replies.{shown_reply}
 use Rattle.newt_engine_cursors.specs.declared.show.Shown.{Shown}
 use Rattle.newt_engine_cursors.specs.declared.stepping.Motion.TheVariants as motion
-use Rattle.newt_engine_cursors.specs.declared.ways.Way.TheVariants.{On, Back}
+use Rattle.newt_engine_hits.specs.declared.ways.Way.TheVariants.{On, Back}
 use Rattle.newt_engine_cursors.proofs.Answered.{refused-answer, done-answer}
 
 -- a command that is done shows the cursor

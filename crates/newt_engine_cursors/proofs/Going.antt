@@ -31,13 +31,13 @@ use Rattle.newt_engine_units.specs.declared.units.Units.{Units}
 use Rattle.newt_store_change.specs.Faults.{RefusesBy}
 use Rattle.newt_engine_units.specs.Stands.{Stands, Eight, card_at, world_of}
 use Rattle.newt_engine_units.proofs.Known.{Laws, bare-sig, card-known, none-mounted}
-use Rattle.newt_engine_cursors.specs.Present.{Present, identity, present_in, with_entry}
+use Rattle.newt_engine_hits.specs.Present.{Present, identity, present_in, with_entry}
 use Rattle.newt_engine_units.specs.Answers.{Answers}
 use Rattle.newt_engine_cursors.specs.Replies.{shown_reply}
 use Rattle.newt_engine_cursors.specs.declared.show.Shown.{Shown}
 use Rattle.newt_engine_cursors.proofs.Answered.{refused-answer}
 use Rattle.newt_engine_cursors.proofs.Answering.{shown-answers, no-cursor, one-cursor}
-use Rattle.newt_engine_cursors.proofs.Stores.{find-store}
+use Rattle.newt_engine_hits.proofs.Stores.{find-store}
 
 -- ---- the command
 

@@ -13,7 +13,7 @@ use Rattle.newt_engine_cursors.specs.declared.show.Shown.{Shown}
 use Rattle.newt_engine_cursors.specs.declared.stepping.Motion.{Motion}
 use Rattle.newt_engine_cursors.specs.declared.stepping.Motion.TheVariants as motion
 use Rattle.newt_engine_cursors.specs.Replies.{shown_reply}
-use Rattle.newt_engine_cursors.specs.Ways.{outermost, stepping}
+use Rattle.newt_engine_hits.specs.Ways.{outermost, stepping}
 
 -- how a cursor steps that is moved so (a word of these definitions)
 abbrev pub step_of : Motion → Step

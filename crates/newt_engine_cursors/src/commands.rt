@@ -18,12 +18,12 @@ ghost use Rattle.newt_engine_cursors.specs.Replies.{shown_reply, side_at, side_r
 ghost use Rattle.newt_engine_units.specs.Calls.{AreRead};
 ghost use Rattle.newt_engine_cursors.specs.World.{world_with};
 
-use crate::counting::count_hits;
 use crate::settling::settle;
 use crate::show::{Shown, Side, show};
 use newt_base::Refusal;
 use newt_cursor::{Desk, DeskFault, Place};
 use newt_engine_card::Card;
+use newt_engine_hits::count_hits;
 use newt_engine_units::Units;
 use newt_host::Host;
 use newt_pagebook::Stop;

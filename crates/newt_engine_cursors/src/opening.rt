@@ -18,12 +18,11 @@ ghost use Rattle.newt_engine_units.specs.Calls.{AreRead};
 ghost use Rattle.newt_engine_cursors.specs.World.{world_with};
 
 use crate::asking::query_for;
-use crate::places::outermost;
 use crate::settling::settle;
-use crate::ways::Way;
 use newt_base::{Name, Refusal};
 use newt_cursor::{Desk, DeskFault, Query, Scope};
 use newt_engine_card::Card;
+use newt_engine_hits::{Way, outermost};
 use newt_engine_units::Units;
 use newt_graph::Graph;
 use newt_host::{Host, UNITS, Unit};

@@ -11,9 +11,9 @@ ghost use Rattle.newt_engine_units.specs.Calls.{AreRead};
 ghost use Rattle.newt_engine_cursors.specs.World.{world_with};
 
 use crate::desks::standing;
-use crate::present::find_hit;
 use newt_cursor::Desk;
 use newt_engine_card::Card;
+use newt_engine_hits::find_hit;
 use newt_engine_units::Units;
 use newt_host::{Host, Unit};
 use newt_pagebook::Stop;

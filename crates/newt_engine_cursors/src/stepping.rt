@@ -16,7 +16,8 @@ ghost use Rattle.newt_laws_world.specs.Settled.{MountedApart};
 ghost use Rattle.newt_store_change.specs.Faults.{GoesOn, HasFaultCause};
 ghost use Rattle.newt_engine_units.specs.Stands.{Eight, Stands, world_of};
 ghost use Rattle.newt_index.specs.Spots.{spot_hit};
-ghost use Rattle.newt_engine_cursors.specs.Fits.{DeskFits, PlaceFits};
+ghost use Rattle.newt_engine_cursors.specs.Fits.{DeskFits};
+ghost use Rattle.newt_engine_hits.specs.Fits.{PlaceFits};
 ghost use Rattle.newt_engine_cursors.specs.Motions.{MotionFits, Steers, step_of};
 ghost use Rattle.newt_engine_units.specs.Answers.{Answers};
 ghost use Rattle.newt_engine_cursors.specs.Replies.{shown_reply};
@@ -25,13 +26,11 @@ ghost use Rattle.newt_engine_cursors.specs.World.{world_with};
 
 use crate::commands::settle_and_show;
 use crate::desks::open_cursor;
-use crate::places;
-use crate::present::find_hit;
 use crate::show::Shown;
-use crate::ways::Way;
 use newt_base::{Name, Refusal, Sig, Uid};
 use newt_cursor::{Desk, Place, Query};
 use newt_engine_card::Card;
+use newt_engine_hits::{Way, at_key, find_hit, moved, outermost, step};
 use newt_engine_units::Units;
 use newt_graph::Graph;
 use newt_host::{Host, Unit};
@@ -285,13 +284,13 @@ fn target<C: Card, H: Host>(
     ensures no_fault { OnOk result (NoFault (H.outside host.old) (H.outside host.new)) }
 {
     match motion {
-        Motion::Step(way) => places::step(units, host, query, way, place),
-        Motion::Leap(way) => places::outermost(units, host, query, way),
+        Motion::Step(way) => step(units, host, query, way, place),
+        Motion::Leap(way) => outermost(units, host, query, way),
         Motion::By(by) => {
             let from = place.copy()?;
-            places::moved(units, host, query, by, from)
+            moved(units, host, query, by, from)
         }
-        Motion::Key(key) => places::at_key(units, host, query, &key),
+        Motion::Key(key) => at_key(units, host, query, &key),
     }
 }
 

@@ -8,7 +8,7 @@ use Rattle.newt_laws_world.specs.Settled.{MountedApart}
 use Rattle.newt_laws_world.specs.Cursors.{with_cursors}
 use Rattle.newt_engine_units.specs.Stands.{world_of}
 use Rattle.newt_engine_cursors.proofs.Cursors.{below-none, below-more, below-all}
-use Rattle.newt_engine_cursors.proofs.Reading.{not-read, read-then, cause-since, handed}
+use Rattle.newt_engine_hits.proofs.Reading.{not-read, read-then, cause-since, handed}
 use Rattle.newt_engine_cursors.proofs.settling.settle.Goals as goal
 
 pub loop-cursor-init : goal.loop-cursor-init

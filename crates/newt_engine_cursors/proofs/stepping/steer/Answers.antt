@@ -10,7 +10,7 @@ use Rattle.newt_engine_cursors.specs.Keyed.{seen_cursor}
 use Rattle.newt_engine_cursors.specs.Motions.{step_of}
 use Rattle.newt_engine_cursors.specs.World.{world_with}
 use Rattle.newt_engine_cursors.proofs.Answering.{steers-end, steers-there}
-use Rattle.newt_engine_cursors.proofs.Reading.{not-read, read-then, cause-since, ended, ended-cause, ended-stops}
+use Rattle.newt_engine_hits.proofs.Reading.{not-read, read-then, cause-since, ended, ended-cause, ended-stops}
 use Rattle.newt_engine_cursors.proofs.stepping.steer.Goals as goal
 
 pub returns-in_default : goal.returns-in_default
