@@ -10,7 +10,7 @@ use Rattle.std.specs.Bool.{one_answer}
 use Rattle.std.specs.List.{list_any, starts_with}
 use Rattle.std.specs.Str.Iter.{HasSubslice}
 use Rattle.std.proofs.lemmas.Slice.Eq.{starts_is}
-use Rattle.newt_spec_query.specs.Words.{has_text, places, is_word_char}
+use Rattle.newt_base.specs.Words.{has_text, places, is_word_char}
 
 or_cases : (a b : Bool) → (a || b) ≡ true → (a ≡ true) ⊎ (b ≡ true)
 or_cases true b h = inl refl

@@ -3,7 +3,7 @@ use Rattle.std.proofs.Common.{◌≡◌, ℕ, Bool, true, false, not, ◌&&◌, 
 use Rattle.std.specs.Prelude.{chars}
 use Rattle.std.specs.List.{starts_with}
 use Rattle.std.proofs.lemmas.Str.{chars-nil}
-use Rattle.newt_spec_query.specs.Words.{word_at, begins_with_word_char}
+use Rattle.newt_base.specs.Words.{word_at, begins_with_word_char}
 
 pub of_nothing : (bs : List ℕ) → length bs ≡ 0 → chars bs ≡ []
 of_nothing [] e = chars-nil

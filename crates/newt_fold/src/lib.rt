@@ -11,7 +11,7 @@ ghost use Rattle.std.specs.Prelude.{string_bytes, encode_utf8_all};
 ghost use Rattle.std.specs.Str.{IsUtf8};
 ghost use Rattle.std.specs.Char.Utf16.{utf16_lossy_chars};
 ghost use Rattle.caseless.specs.Caseless.{default_case_fold};
-ghost use Rattle.newt_spec_query.specs.Words as spec;
+ghost use Rattle.newt_base.specs.Words as spec;
 
 use caseless::default_case_fold_str;
 use memchr::memmem;

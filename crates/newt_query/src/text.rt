@@ -4,7 +4,7 @@ ghost use Rattle.std.specs.List.{list_all, list_any};
 ghost use Rattle.newt_spec_graph.specs.Graph.{every};
 ghost use Rattle.newt_spec_store.specs.Keys.{folded};
 ghost use Rattle.newt_spec_query.specs.Spec.{one_or_more, string_units};
-ghost use Rattle.newt_spec_query.specs.Words as spec;
+ghost use Rattle.newt_base.specs.Words as spec;
 ghost use Rattle.newt_query.specs.Filter.{strings_in};
 
 use newt_fold::{folded, has_text, has_word, units_to_text};

@@ -11,7 +11,7 @@ use Rattle.newt_graph.specs.Graph.{RawGraph}
 use Rattle.newt_spec_store.specs.Keys.{IndexSpec, Key, key, key_cmp, same_spec, folded}
 use Rattle.newt_spec_store.specs.Store.{Entry, Soup, Store, TagTable}
 use Rattle.newt_spec_store.specs.Sorted.{sorted_by}
-use Rattle.newt_spec_query.specs.Words.{has_text, has_word}
+use Rattle.newt_base.specs.Words.{has_text, has_word}
 use Rattle.newt_spec_query.specs.Tags.{tags_of, tags_pass}
 use Rattle.newt_spec_query.specs.Spec.{Spec, Bound, unbounded, including, excluding}
 

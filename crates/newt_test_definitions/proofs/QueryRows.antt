@@ -1,4 +1,5 @@
--- Queries, worked by hand: which frames have their form, the keys that values are, ranges, tags, words and texts.
+-- Queries, worked by hand: which frames have their form, the keys that values are, ranges, tags,
+-- words and texts.
 use Rattle.std.proofs.Common.{◌≡◌, refl, ℕ, List, [], ◌∷◌, true, false, map, replicate, codes, Option, Some, None, pos, negsuc}
 use Rattle.std.specs.Prelude.{Bool, option_map}
 use Rattle.std.specs.declared.cmp.Ordering.{Ordering}
@@ -13,7 +14,7 @@ use Rattle.newt_spec_store.specs.Store.{Soup, TagTable, new_store}
 use Rattle.newt_spec_query.specs.Hits.{above, below, carries, in_scope, text_passes}
 use Rattle.newt_spec_query.specs.Spec.{Bound, unbounded, including, excluding, spec_of}
 use Rattle.newt_spec_query.specs.Tags.{TagSpec, tags_of, tags_pass}
-use Rattle.newt_spec_query.specs.Words.{has_text, has_word}
+use Rattle.newt_base.specs.Words.{has_text, has_word}
 use Rattle.newt_test_definitions.specs.Texts.{graph_of, key_from, key_of, others_among, queries_among}
 use Rattle.newt_test_definitions.proofs.Tables.{open_tables}
 
@@ -29,7 +30,8 @@ no_frame : queries_among (map codes ("1" ∷ "nil" ∷ "'a" ∷ "\"x\"" ∷ "[]"
 unfolding open_tables
 no_frame = refl
 
--- a path is a symbol, or 1 to 8 symbols with the class pathExpr; an index path is one path, or 1 to 4 paths without a class
+-- a path is a symbol, or 1 to 8 symbols with the class pathExpr; an index path is one path, or 1 to
+-- 4 paths without a class
 paths : others_among (map codes ("{indexPath: 'k}" ∷ "{INDEXPATH: 'k}" ∷ "{indexPath: [pathExpr: 'k]}" ∷ "{indexPath: [PathExpr: 'name, 'last]}" ∷ "{indexPath: [pathExpr: 'a, 'b, 'c, 'd, 'e, 'f, 'g, 'h]}" ∷ "{indexPath: ['a]}" ∷ "{indexPath: ['a, 'b, 'c, 'd]}" ∷ "{indexPath: ['a, [pathExpr: 'b, 'c]]}" ∷ [])) ≡ []
 unfolding open_tables
 paths = refl
@@ -39,7 +41,8 @@ no_paths : queries_among (map codes ("{indexPath: 1}" ∷ "{indexPath: \"k\"}" �
 unfolding open_tables
 no_paths = refl
 
--- at most one lower and one upper end, beside an index path; their values are looked at with the index
+-- at most one lower and one upper end, beside an index path; their values are looked at with the
+-- index
 key_slots : others_among (map codes ("{indexPath: 'k, beginKey: 1}" ∷ "{indexPath: 'k, beginExclKey: []}" ∷ "{indexPath: 'k, endKey: {}}" ∷ "{indexPath: 'k, endExclKey: 'a}" ∷ "{indexPath: 'k, beginKey: 1, endKey: 2}" ∷ "{indexPath: 'k, beginExclKey: 1, endExclKey: 2}" ∷ "{indexPath: 'k, beginKey: 1, beginExclKey: nil}" ∷ [])) ≡ []
 unfolding open_tables
 key_slots = refl
@@ -195,7 +198,8 @@ no_ends_asked = refl
 abbrev soup_with : List IndexSpec → Soup
 soup_with specs = record { name = codes "S"; sig = 0; next_uid = 0; specs = specs; tags = None; entries = [] }
 
--- A soup takes part where one of its indexes agrees: the paths but for case, the types and the directions. Without an index each one does.
+-- A soup takes part where one of its indexes agrees: the paths but for case, the types and the
+-- directions. Without an index each one does.
 with_an_index : map (λ index. carries index (soup_with (two ∷ rising ∷ []))) ([] ∷ rising ∷ two ∷ (part (codes "K") kind.Int order.Ascend ∷ []) ∷ falling ∷ one kind.Text ∷ (part (codes "n") kind.Int order.Ascend ∷ []) ∷ [])
     ≡ true ∷ true ∷ true ∷ true ∷ false ∷ false ∷ false ∷ []
 with_an_index = refl
@@ -252,7 +256,8 @@ tags_together = refl
 
 -- ---- words and texts
 
--- A word begins at a word character that has none before it; as an entire word it has none behind it either.
+-- A word begins at a word character that has none before it; as an entire word it has none behind
+-- it either.
 beginnings : map (λ word. has_word (codes "ab cd-ef_gh 12x éz") (codes word) false) ("a" ∷ "ab" ∷ "ab c" ∷ "cd" ∷ "ef" ∷ "gh" ∷ "12" ∷ "é" ∷ "éz" ∷ [])
     ≡ replicate 9 true
 beginnings = refl
@@ -281,7 +286,8 @@ texts_anywhere = refl
 abbrev finds : List ℕ → List (List ℕ) → List (List ℕ) → Option Bool
 finds entry word_list text_list = option_map (text_passes (record { index = []; lower = unbounded; upper = unbounded; tags = record { equal = None; all = None; any = None; none_of = None }; words = word_list; texts = text_list; entire = false })) (graph_of entry)
 
--- Each stands in one string at least, of whatever depth; symbols are no strings, and no text goes over two strings.
+-- Each stands in one string at least, of whatever depth; symbols are no strings, and no text goes
+-- over two strings.
 in_strings : finds (codes "{a: \"Red wine\", b: ['c, {d: \"LAMP\"}]}") (codes "lamp" ∷ codes "wi" ∷ []) (codes "ed w" ∷ codes "amp" ∷ []) ≡ Some true
 unfolding open_tables
 in_strings = refl

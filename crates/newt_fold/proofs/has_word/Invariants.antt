@@ -2,7 +2,7 @@
 use Rattle.std.proofs.Common.{◌≡◌, length, chars}
 use Rattle.std.specs.List.{list_any}
 use Rattle.std.specs.Str.{IsUtf8}
-use Rattle.newt_spec_query.specs.Words.{has_word, word_at, places}
+use Rattle.newt_base.specs.Words.{has_word, word_at, places}
 use Rattle.newt_fold.proofs.has_word.Given as goal
 
 abbrev pub invariant-loop-first : goal.invariant-loop-first
