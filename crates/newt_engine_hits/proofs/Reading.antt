@@ -1,19 +1,17 @@
 -- Units and devices that are read alone, call after call.
 use Rattle.std.proofs.Common.{arith, ◌≡◌, refl, sym, ◌∙◌, ap, subst, ℕ, Bool, List, Option}
-use Rattle.std.specs.Prelude.{Result, Err, IfErr}
-use Rattle.newt_host.specs.Outside.{Outside, OnDevices}
-use Rattle.newt_host.proofs.Outside.{OnDevices-refl, OnDevices-append}
+use Rattle.std.specs.Prelude.{Result, Ok, Err, IfErr}
+use Rattle.newt_host.specs.Outside.{Outside, NoFault, OnDevices}
+use Rattle.newt_host.proofs.Outside.{NoFault-append, OnDevices-refl, OnDevices-append}
 use Rattle.newt_pagebook.specs.Stops.{HasStopCause}
 use Rattle.newt_pagebook.specs.declared.book.Stop.{Stop}
 use Rattle.newt_pagebook.specs.declared.book.Stop.TheVariants.{Memory, Device}
 use Rattle.newt_spec_store.specs.Store.{Store}
 use Rattle.newt_engine_units.specs.declared.units.Units.{Units}
-use Rattle.newt_store_change.specs.Faults.{GoesOn, HasFaultCause}
-use Rattle.newt_store_change.specs.declared.fault.StoreFault.{StoreFault}
-use Rattle.newt_store_change.specs.declared.fault.StoreFault.TheVariants.{Stop as Ends}
 use Rattle.newt_engine_units.specs.Stands.{Stands}
 use Rattle.newt_engine_units.proofs.Costs.{alone-append, alone-refl}
 use Rattle.newt_engine_units.specs.Calls.{AreRead}
+use Rattle.newt_engine_hits.specs.Calls.{IsReading}
 
 -- what has failed since has failed since an earlier moment
 pub cause-since : (o p q : Outside) (stop : Stop) → OnDevices o p → HasStopCause stop p q → HasStopCause stop o q
@@ -37,18 +35,21 @@ module _ {C : Type 0} {reads : List ℕ → Option Store} {place : C → ℕ} {s
     alone = OnDevices-append a.alone b.alone;
   }
 
--- an error that was handed on has its cause
-pub handed : {T : Type 0} (o q : Outside) (stop : Stop) → HasStopCause stop o q → (r : Result T Stop) → (e : Stop) × (r ≡ Err e) × (e ≡ stop) → IfErr r (λ stop. HasStopCause stop o q)
-handed {T} o q stop h r p = subst (λ (r : Result T Stop). IfErr r (λ stop. HasStopCause stop o q)) (sym (p.1 ∙ ap {B = Result T Stop} (λ e. Err e) p.2)) h
+  -- an answer
+  pub is-read : {T : Type 0} {x : T} {units later : Units C} {o q : Outside} → AreRead reads place stands told units later o q → NoFault o q
+      → IsReading reads place stands told units later o q (Ok x)
+  is-read a f = record { read = a; cause = tt; no_fault = f }
 
--- an end of the run that was handed on is the same end
-pub ended : {T : Type 0} (stop : Stop) (r : Result T StoreFault) → (e : StoreFault) × (r ≡ Err e) × (e ≡ Ends stop) → r ≡ Err (Ends stop)
-ended {T} stop r p = p.1 ∙ ap {B = Result T StoreFault} (λ e. Err e) p.2
+  -- a call behind one that has read
+  pub read-more : {T : Type 0} {units mid later : Units C} {o p q : Outside} {result : Result T Stop} → AreRead reads place stands told units mid o p → NoFault o p
+      → IsReading reads place stands told mid later p q result → IsReading reads place stands told units later o q result
+  read-more {result = Ok x} a f r = record { read = read-then a r.read; cause = tt; no_fault = NoFault-append f r.no_fault }
+  read-more {result = Err stop} a f r = record { read = read-then a r.read; cause = cause-since _ _ _ stop a.alone r.cause; no_fault = tt }
 
--- and has its cause
-pub ended-cause : {T : Type 0} (o q : Outside) (stop : Stop) → HasStopCause stop o q → (r : Result T StoreFault) → r ≡ Err (Ends stop) → IfErr r (λ fault. HasFaultCause fault o q)
-ended-cause {T} o q stop h r is = subst (λ (r : Result T StoreFault). IfErr r (λ fault. HasFaultCause fault o q)) (sym is) h
-
--- the run does not go on then
-pub ended-stops : {T : Type 0} (stop : Stop) (r : Result T StoreFault) → r ≡ Err (Ends stop) → GoesOn r → ⊥
-ended-stops {T} stop r is goes = subst (λ (r : Result T StoreFault). GoesOn r) is goes
+  -- an error that is handed on
+  pub end-read : {S T : Type 0} {stop : Stop} {units mid later : Units C} {o p q : Outside} → AreRead reads place stands told units mid o p
+      → IsReading {T = S} reads place stands told mid later p q (Err stop) → (r : Result T Stop) → (e : Stop) × (r ≡ Err e) × (e ≡ stop)
+      → IsReading reads place stands told units later o q r
+  end-read {T = T} {stop} {units} {later = later} {o} {q = q} a h r is =
+      subst (λ (r : Result T Stop). IsReading reads place stands told units later o q r) (sym (is.1 ∙ ap {B = Result T Stop} (λ e. Err e) is.2))
+      (record { read = read-then a h.read; cause = cause-since _ _ _ stop a.alone h.cause; no_fault = tt })

@@ -1,12 +1,10 @@
 //! The number of the hits of a query.
-ghost use Rattle.std.specs.Prelude.{◌≡◌, ◌+◌, ◌^◌, ◌<◌, IsTrue, IfOk, IfErr, cond, length, OnOk};
-ghost use Rattle.newt_host.specs.Outside.{NoFault};
-ghost use Rattle.newt_pagebook.specs.Stops.{HasStopCause};
+ghost use Rattle.std.specs.Prelude.{◌≡◌, ◌+◌, ◌^◌, ◌<◌, IsTrue, IfOk, cond, length};
 ghost use Rattle.newt_cursor.specs.Seen.{query_of};
 ghost use Rattle.newt_spec_world.specs.World.{hits_of};
 ghost use Rattle.newt_laws_world.specs.Settled.{MountedApart};
 ghost use Rattle.newt_engine_units.specs.Stands.{Stands, world_of};
-ghost use Rattle.newt_engine_units.specs.Calls.{AreRead};
+ghost use Rattle.newt_engine_hits.specs.Calls.{IsReading};
 
 use crate::keep::keeps;
 use crate::search::{beyond, outermost};
@@ -25,13 +23,11 @@ pub fn count_hits<C: Card, H: Host>(
     query: &Query,
 ) -> Result<u32, Stop>
     requires { Stands C.place C.stands H.told units.old (H.outside host.old) }
-    ensures read { AreRead C.reads C.place C.stands H.told units.old units.new
-        (H.outside host.old) (H.outside host.new) }
-    ensures count { IsTrue H.told → let w = world_of C.reads units.old (H.outside host.old) in let q = query_of query.now in MountedApart w →
-        IfOk result (λ count. count ≡ length (hits_of w q)) }
-    ensures cause { IfErr result
-        (λ stop. HasStopCause stop (H.outside host.old) (H.outside host.new)) }
-    ensures no_fault { OnOk result (NoFault (H.outside host.old) (H.outside host.new)) }
+    ensures reading { IsReading C.reads C.place C.stands H.told units.old units.new
+        (H.outside host.old) (H.outside host.new) result }
+    ensures count { IsTrue H.told → let w = world_of C.reads units.old (H.outside host.old) in
+        let q = query_of query.now in MountedApart w → IfOk result
+        (λ count. count ≡ length (hits_of w q)) }
 {
     let mut count = 0u32;
     let mut found = outermost(units, query, Way::On)?;

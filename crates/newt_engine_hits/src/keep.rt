@@ -1,8 +1,6 @@
 //! Whether a hit of an index alone is one of the query.
 ghost use Rattle.std.specs.Prelude.{◌≡◌, ℕ, true, false, IsTrue, None, option_and_then, IfOk};
-ghost use Rattle.std.specs.Prelude.{IfErr, OnOk};
-ghost use Rattle.newt_host.specs.Outside.{NoFault, Outside};
-ghost use Rattle.newt_pagebook.specs.Stops.{HasStopCause};
+ghost use Rattle.newt_host.specs.Outside.{Outside};
 ghost use Rattle.newt_cursor.specs.Seen.{query_of};
 ghost use Rattle.newt_query.specs.Filter.{asks_texts};
 ghost use Rattle.newt_spec_store.specs.Store.{Store, soup_of};
@@ -12,7 +10,7 @@ ghost use Rattle.newt_laws_hits.specs.Stripped.{passing};
 ghost use Rattle.newt_engine_units.specs.Stands.{Eight, Stands, mounted_in, world_of};
 ghost use Rattle.newt_index.specs.Spots.{spot_hit};
 ghost use Rattle.newt_engine_hits.specs.Searched.{keeps_in};
-ghost use Rattle.newt_engine_units.specs.Calls.{AreRead};
+ghost use Rattle.newt_engine_hits.specs.Calls.{IsReading};
 
 use crate::present::table_on;
 use newt_cursor::Query;
@@ -33,14 +31,11 @@ pub(crate) fn keeps<C: Card, H: Host>(
     spot: &Spot,
 ) -> Result<bool, Stop>
     requires { Stands C.place C.stands H.told units.old (H.outside host.old) }
-    ensures read { AreRead C.reads C.place C.stands H.told units.old units.new
-        (H.outside host.old) (H.outside host.new) }
+    ensures reading { IsReading C.reads C.place C.stands H.told units.old units.new
+        (H.outside host.old) (H.outside host.new) result }
     ensures kept { IsTrue H.told → IfOk result (λ kept. kept ≡ passing
         (mounted_stores (world_of C.reads units.old (H.outside host.old))) (query_of query.now)
         (spot_hit spot.now)) }
-    ensures cause { IfErr result
-        (λ stop. HasStopCause stop (H.outside host.old) (H.outside host.new)) }
-    ensures no_fault { OnOk result (NoFault (H.outside host.old) (H.outside host.new)) }
 {
     if !query.spec.in_range(&spot.key) {
         return Ok(false);
@@ -76,14 +71,11 @@ fn keeps_read<C: Card, H: Host>(
 ) -> Result<bool, Stop>
     requires stands { Stands C.place C.stands H.told units.old (H.outside host.old) }
     requires mounted { mounted_in units.old.slots.items unit ≡ true }
-    ensures read { AreRead C.reads C.place C.stands H.told units.old units.new
-        (H.outside host.old) (H.outside host.new) }
+    ensures reading { IsReading C.reads C.place C.stands H.told units.old units.new
+        (H.outside host.old) (H.outside host.new) result }
     ensures kept { IsTrue H.told → (blocks : ℕ) (s : Store)
         → OnUnit (world_of C.reads units.old (H.outside host.old)) unit blocks s →
         IfOk result (λ kept. kept ≡ keeps_in (query_of query.now) s (spot_hit spot.now)) }
-    ensures cause { IfErr result
-        (λ stop. HasStopCause stop (H.outside host.old) (H.outside host.new)) }
-    ensures no_fault { OnOk result (NoFault (H.outside host.old) (H.outside host.new)) }
 {
     match units.entry_on(host, unit, spot.soup, spot.uid)? {
         Some(entry) => {

@@ -1,7 +1,5 @@
 //! Where a cursor comes to.
-ghost use Rattle.std.specs.Prelude.{◌≡◌, IsTrue, IfOk, IfErr, OnOk};
-ghost use Rattle.newt_host.specs.Outside.{NoFault};
-ghost use Rattle.newt_pagebook.specs.Stops.{HasStopCause};
+ghost use Rattle.std.specs.Prelude.{◌≡◌, IsTrue, IfOk};
 ghost use Rattle.newt_keys.specs.KeyForm.{IsKeyOf};
 ghost use Rattle.newt_cursor.specs.Seen.{query_of, place_of};
 ghost use Rattle.newt_spec_query.specs.Cursor.{moved, place_at_key, repeated};
@@ -10,7 +8,7 @@ ghost use Rattle.newt_laws_world.specs.Settled.{MountedApart};
 ghost use Rattle.newt_engine_units.specs.Stands.{Stands, world_of};
 ghost use Rattle.newt_engine_hits.specs.Fits.{PlaceFits};
 ghost use Rattle.newt_engine_hits.specs.Ways.{is_at_edge, outermost, stepping};
-ghost use Rattle.newt_engine_units.specs.Calls.{AreRead};
+ghost use Rattle.newt_engine_hits.specs.Calls.{IsReading};
 
 use crate::search;
 use crate::walk::walk;
@@ -30,14 +28,12 @@ pub fn outermost<C: Card, H: Host>(
     way: Way,
 ) -> Result<Place, Stop>
     requires { Stands C.place C.stands H.told units.old (H.outside host.old) }
-    ensures read { AreRead C.reads C.place C.stands H.told units.old units.new
-        (H.outside host.old) (H.outside host.new) }
+    ensures reading { IsReading C.reads C.place C.stands H.told units.old units.new
+        (H.outside host.old) (H.outside host.new) result }
     ensures fits { IfOk result (λ place. PlaceFits query.now.spec.index (place_of place)) }
-    ensures place { IsTrue H.told → let w = world_of C.reads units.old (H.outside host.old) in let q = query_of query.now in MountedApart w →
-        IfOk result (λ place. place_of place ≡ outermost way (hits_of w q)) }
-    ensures cause { IfErr result
-        (λ stop. HasStopCause stop (H.outside host.old) (H.outside host.new)) }
-    ensures no_fault { OnOk result (NoFault (H.outside host.old) (H.outside host.new)) }
+    ensures place { IsTrue H.told → let w = world_of C.reads units.old (H.outside host.old) in
+        let q = query_of query.now in MountedApart w → IfOk result
+        (λ place. place_of place ≡ outermost way (hits_of w q)) }
 {
     let found = search::outermost(units, query, way)?;
     walk(units, host, query, way, found)
@@ -53,14 +49,12 @@ pub fn step<C: Card, H: Host>(
 ) -> Result<Place, Stop>
     requires stands { Stands C.place C.stands H.told units.old (H.outside host.old) }
     requires fits { PlaceFits query.now.spec.index (place_of place.now) }
-    ensures read { AreRead C.reads C.place C.stands H.told units.old units.new
-        (H.outside host.old) (H.outside host.new) }
+    ensures reading { IsReading C.reads C.place C.stands H.told units.old units.new
+        (H.outside host.old) (H.outside host.new) result }
     ensures fits { IfOk result (λ place. PlaceFits query.now.spec.index (place_of place)) }
-    ensures place { IsTrue H.told → let w = world_of C.reads units.old (H.outside host.old) in let q = query_of query.now in MountedApart w →
-        IfOk result (λ next. place_of next ≡ stepping way (hits_of w q) q.spec.index (place_of place.now)) }
-    ensures cause { IfErr result
-        (λ stop. HasStopCause stop (H.outside host.old) (H.outside host.new)) }
-    ensures no_fault { OnOk result (NoFault (H.outside host.old) (H.outside host.new)) }
+    ensures place { IsTrue H.told → let w = world_of C.reads units.old (H.outside host.old) in
+        let q = query_of query.now in MountedApart w → IfOk result
+        (λ next. place_of next ≡ stepping way (hits_of w q) q.spec.index (place_of place.now)) }
 {
     match place {
         Place::On(spot) => {
@@ -89,14 +83,13 @@ fn steps<C: Card, H: Host>(
 ) -> Result<Place, Stop>
     requires stands { Stands C.place C.stands H.told units.old (H.outside host.old) }
     requires fits { PlaceFits query.now.spec.index (place_of from) }
-    ensures read { AreRead C.reads C.place C.stands H.told units.old units.new
-        (H.outside host.old) (H.outside host.new) }
+    ensures reading { IsReading C.reads C.place C.stands H.told units.old units.new
+        (H.outside host.old) (H.outside host.new) result }
     ensures fits { IfOk result (λ place. PlaceFits query.now.spec.index (place_of place)) }
-    ensures place { IsTrue H.told → let w = world_of C.reads units.old (H.outside host.old) in let q = query_of query.now in MountedApart w →
-        IfOk result (λ next. place_of next ≡ repeated count (stepping way (hits_of w q) q.spec.index) (place_of from)) }
-    ensures cause { IfErr result
-        (λ stop. HasStopCause stop (H.outside host.old) (H.outside host.new)) }
-    ensures no_fault { OnOk result (NoFault (H.outside host.old) (H.outside host.new)) }
+    ensures place { IsTrue H.told → let w = world_of C.reads units.old (H.outside host.old) in
+        let q = query_of query.now in MountedApart w → IfOk result
+        (λ next. place_of next ≡ repeated count (stepping way (hits_of w q) q.spec.index)
+        (place_of from)) }
 {
     let mut place = from;
     'steps: for _step in 0..count {
@@ -128,14 +121,12 @@ pub fn moved<C: Card, H: Host>(
 ) -> Result<Place, Stop>
     requires stands { Stands C.place C.stands H.told units.old (H.outside host.old) }
     requires fits { PlaceFits query.now.spec.index (place_of from) }
-    ensures read { AreRead C.reads C.place C.stands H.told units.old units.new
-        (H.outside host.old) (H.outside host.new) }
+    ensures reading { IsReading C.reads C.place C.stands H.told units.old units.new
+        (H.outside host.old) (H.outside host.new) result }
     ensures fits { IfOk result (λ place. PlaceFits query.now.spec.index (place_of place)) }
-    ensures place { IsTrue H.told → let w = world_of C.reads units.old (H.outside host.old) in let q = query_of query.now in MountedApart w →
-        IfOk result (λ next. place_of next ≡ moved by (hits_of w q) q.spec.index (place_of from)) }
-    ensures cause { IfErr result
-        (λ stop. HasStopCause stop (H.outside host.old) (H.outside host.new)) }
-    ensures no_fault { OnOk result (NoFault (H.outside host.old) (H.outside host.new)) }
+    ensures place { IsTrue H.told → let w = world_of C.reads units.old (H.outside host.old) in
+        let q = query_of query.now in MountedApart w → IfOk result
+        (λ next. place_of next ≡ moved by (hits_of w q) q.spec.index (place_of from)) }
 {
     if by < 0 {
         steps(units, host, query, Way::Back, by.unsigned_abs(), from)
@@ -153,14 +144,12 @@ pub fn at_key<C: Card, H: Host>(
 ) -> Result<Place, Stop>
     requires stands { Stands C.place C.stands H.told units.old (H.outside host.old) }
     requires key { IsKeyOf query.now.spec.index key.now }
-    ensures read { AreRead C.reads C.place C.stands H.told units.old units.new
-        (H.outside host.old) (H.outside host.new) }
+    ensures reading { IsReading C.reads C.place C.stands H.told units.old units.new
+        (H.outside host.old) (H.outside host.new) result }
     ensures fits { IfOk result (λ place. PlaceFits query.now.spec.index (place_of place)) }
-    ensures place { IsTrue H.told → let w = world_of C.reads units.old (H.outside host.old) in let q = query_of query.now in MountedApart w →
-        IfOk result (λ place. place_of place ≡ place_at_key (hits_of w q) q.spec.index key.now) }
-    ensures cause { IfErr result
-        (λ stop. HasStopCause stop (H.outside host.old) (H.outside host.new)) }
-    ensures no_fault { OnOk result (NoFault (H.outside host.old) (H.outside host.new)) }
+    ensures place { IsTrue H.told → let w = world_of C.reads units.old (H.outside host.old) in
+        let q = query_of query.now in MountedApart w → IfOk result
+        (λ place. place_of place ≡ place_at_key (hits_of w q) q.spec.index key.now) }
 {
     let found = search::at_or_after(units, query, key)?;
     walk(units, host, query, Way::On, found)

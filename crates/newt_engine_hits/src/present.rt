@@ -1,10 +1,9 @@
 //! Entries that are hits of a query, by their identity.
 ghost use Rattle.std.specs.Prelude.{◌≡◌, ◌&&◌, ℕ, true, IsTrue, Some, option_map, option_and_then};
-ghost use Rattle.std.specs.Prelude.{IfOk, IfErr, IfSome, OnOk};
+ghost use Rattle.std.specs.Prelude.{IfOk, IfSome};
 ghost use Rattle.newt_base.specs.Names.{equal_text};
 ghost use Rattle.newt_host.specs.Moments.{image};
-ghost use Rattle.newt_host.specs.Outside.{NoFault, Outside};
-ghost use Rattle.newt_pagebook.specs.Stops.{HasStopCause};
+ghost use Rattle.newt_host.specs.Outside.{Outside};
 ghost use Rattle.newt_keys.specs.KeyForm.{IsKeyOf};
 ghost use Rattle.newt_cursor.specs.Seen.{query_of, scope_of};
 ghost use Rattle.newt_spec_store.specs.Store.{Store, Soup, soup_of};
@@ -17,7 +16,7 @@ ghost use Rattle.newt_engine_units.specs.Stands.{Eight, Stands, world_of};
 ghost use Rattle.newt_query.specs.Kept.{kept_key};
 ghost use Rattle.newt_store_change.specs.Entries.{plain_entry};
 ghost use Rattle.newt_engine_hits.specs.Present.{identity, present_in, present_of};
-ghost use Rattle.newt_engine_units.specs.Calls.{AreRead};
+ghost use Rattle.newt_engine_hits.specs.Calls.{IsReading};
 
 use newt_base::{Sig, Uid};
 use newt_cursor::{Query, Scope};
@@ -50,14 +49,12 @@ pub fn find_hit<C: Card, H: Host>(
     uid: Uid,
 ) -> Result<Option<Present>, Stop>
     requires { Stands C.place C.stands H.told units.old (H.outside host.old) }
-    ensures read { AreRead C.reads C.place C.stands H.told units.old units.new
-        (H.outside host.old) (H.outside host.new) }
-    ensures found { IsTrue H.told → let w = world_of C.reads units.old (H.outside host.old) in MountedApart w →
-        IfOk result (λ found. option_map present_of found ≡ present_in w (query_of query.now) (identity store soup uid)) }
+    ensures reading { IsReading C.reads C.place C.stands H.told units.old units.new
+        (H.outside host.old) (H.outside host.new) result }
+    ensures found { IsTrue H.told → let w = world_of C.reads units.old (H.outside host.old) in
+        MountedApart w → IfOk result (λ found. option_map present_of found
+        ≡ present_in w (query_of query.now) (identity store soup uid)) }
     ensures key { IfOk result (λ found. IfSome found (λ p. IsKeyOf query.now.spec.index p.key)) }
-    ensures cause { IfErr result
-        (λ stop. HasStopCause stop (H.outside host.old) (H.outside host.new)) }
-    ensures no_fault { OnOk result (NoFault (H.outside host.old) (H.outside host.new)) }
 {
     let Some(unit) = units.unit_of(store) else {
         return Ok(None);

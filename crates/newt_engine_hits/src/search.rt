@@ -35,8 +35,10 @@ pub(crate) fn outermost<C: Card>(
     requires { AreFew units.now }
     ensures key { IfOk result (λ found. IfSome found (λ spot. IsKeyOf query.now.spec.index
         spot.key)) }
-    ensures found { (outside : Outside) → Eight outside → Stands C.place C.stands true units.now outside → let q = query_of query.now in
-        IfOk result (λ found. option_map spot_hit found ≡ met way (merged q.spec.index (members_of (mounted_stores (world_of C.reads units.now outside)) q))) }
+    ensures found { (outside : Outside) → Eight outside
+        → Stands C.place C.stands true units.now outside → let q = query_of query.now in
+        IfOk result (λ found. option_map spot_hit found ≡ met way (merged q.spec.index
+        (members_of (mounted_stores (world_of C.reads units.now outside)) q))) }
 {
     let members = members(units, query);
     match way {
@@ -56,8 +58,10 @@ pub(crate) fn beyond<C: Card>(
     requires key { IsKeyOf query.now.spec.index spot.now.key }
     ensures key { IfOk result (λ found. IfSome found (λ spot. IsKeyOf query.now.spec.index
         spot.key)) }
-    ensures found { (outside : Outside) → Eight outside → Stands C.place C.stands true units.now outside → let q = query_of query.now in
-        IfOk result (λ found. option_map spot_hit found ≡ beyond way q.spec.index (members_of (mounted_stores (world_of C.reads units.now outside)) q) (spot_hit spot.now)) }
+    ensures found { (outside : Outside) → Eight outside
+        → Stands C.place C.stands true units.now outside → let q = query_of query.now in
+        IfOk result (λ found. option_map spot_hit found ≡ beyond way q.spec.index
+        (members_of (mounted_stores (world_of C.reads units.now outside)) q) (spot_hit spot.now)) }
 {
     let mut probe = probe_of(units.alloc(), query, &spot.key)?;
     let members = members(units, query);
@@ -77,8 +81,10 @@ pub(crate) fn at_or_after<C: Card>(
     requires key { IsKeyOf query.now.spec.index key.now }
     ensures key { IfOk result (λ found. IfSome found (λ spot. IsKeyOf query.now.spec.index
         spot.key)) }
-    ensures found { (outside : Outside) → Eight outside → Stands C.place C.stands true units.now outside → let q = query_of query.now in
-        IfOk result (λ found. option_map spot_hit found ≡ at_or_after q.spec.index (members_of (mounted_stores (world_of C.reads units.now outside)) q) key.now) }
+    ensures found { (outside : Outside) → Eight outside
+        → Stands C.place C.stands true units.now outside → let q = query_of query.now in
+        IfOk result (λ found. option_map spot_hit found ≡ at_or_after q.spec.index
+        (members_of (mounted_stores (world_of C.reads units.now outside)) q) key.now) }
 {
     let mut probe = probe_of(units.alloc(), query, key)?;
     let members = members(units, query);

@@ -1,7 +1,5 @@
 //! The walk from one hit to the next that a query keeps.
-ghost use Rattle.std.specs.Prelude.{◌≡◌, IsTrue, option_map, IfOk, IfErr, IfSome, OnOk};
-ghost use Rattle.newt_host.specs.Outside.{NoFault};
-ghost use Rattle.newt_pagebook.specs.Stops.{HasStopCause};
+ghost use Rattle.std.specs.Prelude.{◌≡◌, IsTrue, option_map, IfOk, IfSome};
 ghost use Rattle.newt_keys.specs.KeyForm.{IsKeyOf};
 ghost use Rattle.newt_cursor.specs.Seen.{query_of, place_of};
 ghost use Rattle.newt_spec_world.specs.World.{hits_of, mounted_stores};
@@ -12,7 +10,7 @@ ghost use Rattle.newt_engine_units.specs.Stands.{Stands, world_of};
 ghost use Rattle.newt_index.specs.Spots.{spot_hit};
 ghost use Rattle.newt_engine_hits.specs.Fits.{PlaceFits};
 ghost use Rattle.newt_engine_hits.specs.Ways.{edge, stepping};
-ghost use Rattle.newt_engine_units.specs.Calls.{AreRead};
+ghost use Rattle.newt_engine_hits.specs.Calls.{IsReading};
 
 use crate::keep::keeps;
 use crate::search::beyond;
@@ -35,14 +33,13 @@ pub(crate) fn walk<C: Card, H: Host>(
 ) -> Result<Place, Stop>
     requires stands { Stands C.place C.stands H.told units.old (H.outside host.old) }
     requires key { IfSome start (λ spot. IsKeyOf query.now.spec.index spot.key) }
-    ensures read { AreRead C.reads C.place C.stands H.told units.old units.new
-        (H.outside host.old) (H.outside host.new) }
+    ensures reading { IsReading C.reads C.place C.stands H.told units.old units.new
+        (H.outside host.old) (H.outside host.new) result }
     ensures fits { IfOk result (λ place. PlaceFits query.now.spec.index (place_of place)) }
-    ensures walked { IsTrue H.told → let w = world_of C.reads units.old (H.outside host.old) in let q = query_of query.now in MountedApart w →
-        IfOk result (λ place. place_of place ≡ walked (passing (mounted_stores w) q) (edge way) (stepping way (hits_of w q) q.spec.index) (option_map spot_hit start)) }
-    ensures cause { IfErr result
-        (λ stop. HasStopCause stop (H.outside host.old) (H.outside host.new)) }
-    ensures no_fault { OnOk result (NoFault (H.outside host.old) (H.outside host.new)) }
+    ensures walked { IsTrue H.told → let w = world_of C.reads units.old (H.outside host.old) in
+        let q = query_of query.now in MountedApart w → IfOk result
+        (λ place. place_of place ≡ walked (passing (mounted_stores w) q) (edge way)
+        (stepping way (hits_of w q) q.spec.index) (option_map spot_hit start)) }
 {
     let mut found = start;
     'steps: for _step in 0..u64::MAX {

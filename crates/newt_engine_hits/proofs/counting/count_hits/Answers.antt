@@ -46,8 +46,8 @@ hits-init g c = record {
 
 pub hits-preserved : goal.hits-preserved
 hits-preserved g c = record {
-  read = read-then c.hits.invariant.read c.keeps.ensures.read;
-  no_fault = NoFault-append c.hits.invariant.no_fault c.in_ok-kept.ensures.no_fault;
+  read = read-then c.hits.invariant.read c.keeps.ensures.reading.read;
+  no_fault = NoFault-append c.hits.invariant.no_fault c.in_ok-kept.ensures.reading.no_fault;
   key = c.in_ok-found-2.ensures.key;
   counted = λ t apart.
       let laws : Laws g.C.Card.reads g.C.Card.place g.C.Card.soups g.C.Card.stands = record { formed = g.met.C.Card.formed; plain = g.met.C.Card.plain; durable = g.met.C.Card.durable; banks = g.met.C.Card.banks; kept = g.met.C.Card.kept } in
@@ -86,7 +86,7 @@ hits-preserved g c = record {
     found t =
         let p = g.H.Host.outside c.keeps.new.host in
         let eight2 : Eight (g.H.Host.outside c.keeps.new.host) = record { eight = g.met.H.Host.eight c.keeps.new.host; none = g.met.H.Host.none c.keeps.new.host } in
-        let stand2 : Stands g.C.Card.place g.C.Card.stands true c.keeps.new.units p = subst (λ b. Stands g.C.Card.place g.C.Card.stands b c.keeps.new.units p) t c.keeps.ensures.read.stand in
+        let stand2 : Stands g.C.Card.place g.C.Card.stands true c.keeps.new.units p = subst (λ b. Stands g.C.Card.place g.C.Card.stands b c.keeps.new.units p) t c.keeps.ensures.reading.read.stand in
         c.in_ok-found-2.ensures.found p eight2 stand2
         ∙ ap (λ (v : World). beyond On c.args.query.now.spec.index (members_of (mounted_stores v) (query_of c.args.query.now)) (spot_hit c.in-Some.spot))
-        (c.keeps.ensures.read.world t ∙ c.hits.invariant.read.world t)
+        (c.keeps.ensures.reading.read.world t ∙ c.hits.invariant.read.world t)

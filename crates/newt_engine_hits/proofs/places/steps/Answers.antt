@@ -8,7 +8,7 @@ use Rattle.newt_spec_world.specs.World.{World, hits_of}
 use Rattle.newt_laws_world.specs.Settled.{MountedApart}
 use Rattle.newt_engine_units.specs.Stands.{world_of}
 use Rattle.newt_engine_hits.specs.Ways.{stepping}
-use Rattle.newt_engine_hits.proofs.Reading.{not-read, read-then, cause-since, handed}
+use Rattle.newt_engine_hits.proofs.Reading.{not-read, read-then, is-read, end-read}
 use Rattle.newt_engine_hits.proofs.Walking.{repeated-edge, at-edge}
 use Rattle.newt_engine_hits.proofs.places.steps.Goals as goal
 
@@ -24,11 +24,8 @@ steps-init g c = record {
       ap (λ n. repeated n (stepping c.args.way (hits_of w q) q.spec.index) (place_of c.args.from)) none;
 }
 
-pub returns-then-is_at_edge-clause-read : goal.returns-then-is_at_edge-clause-read
-returns-then-is_at_edge-clause-read g c = c.steps.invariant.read
-
-pub returns-then-is_at_edge-clause-no_fault : goal.returns-then-is_at_edge-clause-no_fault
-returns-then-is_at_edge-clause-no_fault g c = c.steps.invariant.no_fault
+pub returns-then-is_at_edge-clause-reading : goal.returns-then-is_at_edge-clause-reading
+returns-then-is_at_edge-clause-reading g c = is-read c.steps.invariant.read c.steps.invariant.no_fault
 
 pub returns-then-is_at_edge-clause-place : goal.returns-then-is_at_edge-clause-place
 returns-then-is_at_edge-clause-place g c t apart =
@@ -44,17 +41,13 @@ step-requires-clause-stands g c = c.steps.invariant.read.stand
 pub step-requires-clause-fits : goal.step-requires-clause-fits
 step-requires-clause-fits g c = c.steps.invariant.fits
 
-pub returns-in_err-place-clause-read : goal.returns-in_err-place-clause-read
-returns-in_err-place-clause-read g c = read-then c.steps.invariant.read c.step.ensures.read
-
-pub returns-in_err-place-clause-cause : goal.returns-in_err-place-clause-cause
-returns-in_err-place-clause-cause g c =
-    handed _ _ _ (cause-since _ _ _ _ c.steps.invariant.read.alone c.in_err-place.ensures.cause) c.from_residual.result (err_from_is_err_and c.from_residual.result c.from_residual.ensures.1)
+pub returns-in_err-place-clause-reading : goal.returns-in_err-place-clause-reading
+returns-in_err-place-clause-reading g c = end-read c.steps.invariant.read c.in_err-place.ensures.reading c.from_residual.result (err_from_is_err_and c.from_residual.result c.from_residual.ensures.1)
 
 pub steps-preserved : goal.steps-preserved
 steps-preserved g c = record {
-  read = read-then c.steps.invariant.read c.step.ensures.read;
-  no_fault = NoFault-append c.steps.invariant.no_fault c.in_ok-place.ensures.no_fault;
+  read = read-then c.steps.invariant.read c.step.ensures.reading.read;
+  no_fault = NoFault-append c.steps.invariant.no_fault c.in_ok-place.ensures.reading.no_fault;
   fits = c.in_ok-place.ensures.fits;
   left = λ t apart.
       let w = world_of g.C.Card.reads c.args.units.now (g.H.Host.outside c.args.host.now) in
@@ -69,11 +62,8 @@ steps-preserved g c = record {
       ∙ ap (repeated (c.args.count - (c.steps._step + 1)) (stepping c.args.way (hits_of w q) q.spec.index)) (sym step);
 }
 
-pub returns-clause-read : goal.returns-clause-read
-returns-clause-read g c = c.steps.invariant.read
-
-pub returns-clause-no_fault : goal.returns-clause-no_fault
-returns-clause-no_fault g c = c.steps.invariant.no_fault
+pub returns-clause-reading : goal.returns-clause-reading
+returns-clause-reading g c = is-read c.steps.invariant.read c.steps.invariant.no_fault
 
 pub returns-clause-fits : goal.returns-clause-fits
 returns-clause-fits g c = c.steps.invariant.fits

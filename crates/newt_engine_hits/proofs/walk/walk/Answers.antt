@@ -14,7 +14,7 @@ use Rattle.newt_engine_units.specs.Stands.{Stands, Eight, world_of}
 use Rattle.newt_engine_units.proofs.Known.{Laws}
 use Rattle.newt_index.specs.Spots.{spot_hit}
 use Rattle.newt_engine_hits.specs.Ways.{beyond}
-use Rattle.newt_engine_hits.proofs.Reading.{not-read, read-then, cause-since, handed}
+use Rattle.newt_engine_hits.proofs.Reading.{not-read, read-then, is-read, end-read}
 use Rattle.newt_engine_hits.proofs.Stores.{stores-formed, stores-few}
 use Rattle.newt_engine_hits.proofs.Walking.{ahead, comes_to, ahead-start, ahead-fewer, passed-goal, over-goal}
 use Rattle.newt_engine_hits.proofs.walk.walk.Goals as goal
@@ -36,11 +36,8 @@ steps-init g c = record {
       omega (arith, k);
 }
 
-pub returns-in_default-clause-read : goal.returns-in_default-clause-read
-returns-in_default-clause-read g c = c.steps.invariant.read
-
-pub returns-in_default-clause-no_fault : goal.returns-in_default-clause-no_fault
-returns-in_default-clause-no_fault g c = c.steps.invariant.no_fault
+pub returns-in_default-clause-reading : goal.returns-in_default-clause-reading
+returns-in_default-clause-reading g c = is-read c.steps.invariant.read c.steps.invariant.no_fault
 
 pub returns-in_default-clause-walked : goal.returns-in_default-clause-walked
 returns-in_default-clause-walked g c t apart =
@@ -50,18 +47,11 @@ returns-in_default-clause-walked g c t apart =
 pub keeps-requires : goal.keeps-requires
 keeps-requires g c = c.steps.invariant.read.stand
 
-pub returns-in_err-keeps-clause-read : goal.returns-in_err-keeps-clause-read
-returns-in_err-keeps-clause-read g c = read-then c.steps.invariant.read c.keeps.ensures.read
+pub returns-in_err-keeps-clause-reading : goal.returns-in_err-keeps-clause-reading
+returns-in_err-keeps-clause-reading g c = end-read c.steps.invariant.read c.in_err-keeps.ensures.reading c.from_residual.result (err_from_is_err_and c.from_residual.result c.from_residual.ensures.1)
 
-pub returns-in_err-keeps-clause-cause : goal.returns-in_err-keeps-clause-cause
-returns-in_err-keeps-clause-cause g c =
-    handed _ _ _ (cause-since _ _ _ _ c.steps.invariant.read.alone c.in_err-keeps.ensures.cause) c.from_residual.result (err_from_is_err_and c.from_residual.result c.from_residual.ensures.1)
-
-pub returns-then-branch-clause-read : goal.returns-then-branch-clause-read
-returns-then-branch-clause-read g c = read-then c.steps.invariant.read c.keeps.ensures.read
-
-pub returns-then-branch-clause-no_fault : goal.returns-then-branch-clause-no_fault
-returns-then-branch-clause-no_fault g c = NoFault-append c.steps.invariant.no_fault c.in_ok-keeps.ensures.no_fault
+pub returns-then-branch-clause-reading : goal.returns-then-branch-clause-reading
+returns-then-branch-clause-reading g c = is-read (read-then c.steps.invariant.read c.in_ok-keeps.ensures.reading.read) (NoFault-append c.steps.invariant.no_fault c.in_ok-keeps.ensures.reading.no_fault)
 
 pub returns-then-branch-clause-fits : goal.returns-then-branch-clause-fits
 returns-then-branch-clause-fits g c = subst (λ (o : Option Spot). IfSome o (λ spot. IsKeyOf c.args.query.now.spec.index spot.key)) c.in-Some.is c.steps.invariant.key
@@ -81,13 +71,13 @@ returns-then-branch-clause-walked g c t apart =
 pub beyond-requires-clause-key : goal.beyond-requires-clause-key
 beyond-requires-clause-key g c = subst (λ (o : Option Spot). IfSome o (λ spot. IsKeyOf c.args.query.now.spec.index spot.key)) c.in-Some.is c.steps.invariant.key
 
-pub returns-in_err-found-clause-read : goal.returns-in_err-found-clause-read
-returns-in_err-found-clause-read g c = read-then c.steps.invariant.read c.keeps.ensures.read
+pub returns-in_err-found-clause-reading : goal.returns-in_err-found-clause-reading
+returns-in_err-found-clause-reading g c = ?
 
 pub steps-preserved : goal.steps-preserved
 steps-preserved g c = record {
-  read = read-then c.steps.invariant.read c.keeps.ensures.read;
-  no_fault = NoFault-append c.steps.invariant.no_fault c.in_ok-keeps.ensures.no_fault;
+  read = read-then c.steps.invariant.read c.keeps.ensures.reading.read;
+  no_fault = NoFault-append c.steps.invariant.no_fault c.in_ok-keeps.ensures.reading.no_fault;
   key = c.in_ok-found.ensures.key;
   walked = λ t apart.
       let laws : Laws g.C.Card.reads g.C.Card.place g.C.Card.soups g.C.Card.stands = record { formed = g.met.C.Card.formed; plain = g.met.C.Card.plain; durable = g.met.C.Card.durable; banks = g.met.C.Card.banks; kept = g.met.C.Card.kept } in
@@ -121,16 +111,13 @@ steps-preserved g c = record {
     found t =
         let p = g.H.Host.outside c.keeps.new.host in
         let eight2 : Eight (g.H.Host.outside c.keeps.new.host) = record { eight = g.met.H.Host.eight c.keeps.new.host; none = g.met.H.Host.none c.keeps.new.host } in
-        let stand2 : Stands g.C.Card.place g.C.Card.stands true c.keeps.new.units p = subst (λ b. Stands g.C.Card.place g.C.Card.stands b c.keeps.new.units p) t c.keeps.ensures.read.stand in
+        let stand2 : Stands g.C.Card.place g.C.Card.stands true c.keeps.new.units p = subst (λ b. Stands g.C.Card.place g.C.Card.stands b c.keeps.new.units p) t c.keeps.ensures.reading.read.stand in
         c.in_ok-found.ensures.found p eight2 stand2
         ∙ ap (λ (v : World). beyond c.args.way c.args.query.now.spec.index (members_of (mounted_stores v) (query_of c.args.query.now)) (spot_hit c.in-Some.spot))
-        (c.keeps.ensures.read.world t ∙ c.steps.invariant.read.world t)
+        (c.keeps.ensures.reading.read.world t ∙ c.steps.invariant.read.world t)
 
-pub returns-clause-read : goal.returns-clause-read
-returns-clause-read g c = c.steps.invariant.read
-
-pub returns-clause-no_fault : goal.returns-clause-no_fault
-returns-clause-no_fault g c = c.steps.invariant.no_fault
+pub returns-clause-reading : goal.returns-clause-reading
+returns-clause-reading g c = is-read c.steps.invariant.read c.steps.invariant.no_fault
 
 pub returns-clause-walked : goal.returns-clause-walked
 returns-clause-walked g c t apart =
