@@ -59,7 +59,7 @@ module _ {C : Type 0} {reads : List ℕ → Option Store} {place : C → ℕ} {s
 
   -- that ends the run where it read
   pub walks-end : {S T : Type 0} (becomes : Result T StoreFault → World → World → Type 0) {stop : Stop} {later : Units C} {is : List (Option Cursor)} {q : Outside}
-      → IsReading {T = S} reads place stands told units later o q (Err stop) → DeskFits is → (r : Result T StoreFault) → (e : StoreFault) × (r ≡ Err e) × (e ≡ Ends stop)
+      → IsReading reads place stands {T = S} told units later o q (Err stop) → DeskFits is → (r : Result T StoreFault) → (e : StoreFault) × (r ≡ Err e) × (e ≡ Ends stop)
       → ((w v : World) → becomes (Err (Ends stop)) w v) → Walks reads place stands told (becomes r) units later was is o q r
   walks-end {T = T} becomes {stop} {later} {is} {q} a d r e ends =
       subst (λ (r : Result T StoreFault). Walks reads place stands told (becomes r) units later was is o q r) (sym (e.1 ∙ ap {B = Result T StoreFault} (λ e. Err e) e.2))
@@ -87,7 +87,7 @@ module _ {C : Type 0} {reads : List ℕ → Option Store} {place : C → ℕ} {s
 
   -- that ends the run where it read
   pub settles-end : {S T : Type 0} (becomes : Result T Stop → World → World → Type 0) {stop : Stop} {mid later : Units C} {is : List (Option Cursor)} {p q : Outside}
-      → AreRead reads place stands told units mid o p → IsReading {T = S} reads place stands told mid later p q (Err stop) → DeskFits is → (r : Result T Stop)
+      → AreRead reads place stands told units mid o p → IsReading reads place stands {T = S} told mid later p q (Err stop) → DeskFits is → (r : Result T Stop)
       → (e : Stop) × (r ≡ Err e) × (e ≡ stop) → ((w v : World) → becomes (Err stop) w v) → Settles reads place stands told (becomes r) units later was is o q r
   settles-end {T = T} becomes {stop} {later = later} {is} {q = q} a h d r e ends =
       subst (λ (r : Result T Stop). Settles reads place stands told (becomes r) units later was is o q r) (sym (e.1 ∙ ap {B = Result T Stop} (λ e. Err e) e.2))

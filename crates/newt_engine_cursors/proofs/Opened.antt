@@ -44,8 +44,8 @@ pub opens-there : (w v : World) (q : Query) (n : ℕ) (p : Place) (desk : List (
 opens-there w v q n p desk free at is after = (
   free,
   after ∙ ap (λ (ks : List (Option Cursor)). settle (with_cursors ks w)) is
-  ∙ ap (λ (p : Place). settle (with_cursors (slice_set w.cursors n (Some (record { query = q; place = p }))) w)) at
-  ∙ ap (λ (o : Option ℕ). settle (open_at w (record { query = q; place = first_place (hits_of w q) }) o)) (sym free),
+      ∙ ap (λ (p : Place). settle (with_cursors (slice_set w.cursors n (Some (record { query = q; place = p }))) w)) at
+      ∙ ap (λ (o : Option ℕ). settle (open_at w (record { query = q; place = first_place (hits_of w q) }) o)) (sym free),
 )
 
 -- ---- a cursor that is opened

@@ -46,9 +46,16 @@ module _ {C : Type 0} {reads : List ℕ → Option Store} {place : C → ℕ} {s
   read-more {result = Ok x} a f r = record { read = read-then a r.read; cause = tt; no_fault = NoFault-append f r.no_fault }
   read-more {result = Err stop} a f r = record { read = read-then a r.read; cause = cause-since _ _ _ stop a.alone r.cause; no_fault = tt }
 
+  -- want of memory
+  pub end-memory : {T : Type 0} {units later : Units C} {o q : Outside} → AreRead reads place stands told units later o q → (r : Result T Stop)
+      → (e : Stop) × (r ≡ Err e) × (e ≡ Memory) → IsReading reads place stands told units later o q r
+  end-memory {T = T} {units} {later} {o} {q} a r is =
+      subst (λ (r : Result T Stop). IsReading reads place stands told units later o q r) (sym (is.1 ∙ ap {B = Result T Stop} (λ e. Err e) is.2))
+      (record { read = a; cause = tt; no_fault = tt })
+
   -- an error that is handed on
   pub end-read : {S T : Type 0} {stop : Stop} {units mid later : Units C} {o p q : Outside} → AreRead reads place stands told units mid o p
-      → IsReading {T = S} reads place stands told mid later p q (Err stop) → (r : Result T Stop) → (e : Stop) × (r ≡ Err e) × (e ≡ stop)
+      → IsReading reads place stands {T = S} told mid later p q (Err stop) → (r : Result T Stop) → (e : Stop) × (r ≡ Err e) × (e ≡ stop)
       → IsReading reads place stands told units later o q r
   end-read {T = T} {stop} {units} {later = later} {o} {q = q} a h r is =
       subst (λ (r : Result T Stop). IsReading reads place stands told units later o q r) (sym (is.1 ∙ ap {B = Result T Stop} (λ e. Err e) is.2))

@@ -14,7 +14,7 @@ use Rattle.newt_engine_units.specs.Stands.{Stands, Eight, world_of}
 use Rattle.newt_engine_units.proofs.Known.{Laws}
 use Rattle.newt_index.specs.Spots.{spot_hit}
 use Rattle.newt_engine_hits.specs.Ways.{beyond}
-use Rattle.newt_engine_hits.proofs.Reading.{not-read, read-then, is-read, end-read}
+use Rattle.newt_engine_hits.proofs.Reading.{not-read, read-then, is-read, end-read, end-memory}
 use Rattle.newt_engine_hits.proofs.Stores.{stores-formed, stores-few}
 use Rattle.newt_engine_hits.proofs.Walking.{ahead, comes_to, ahead-start, ahead-fewer, passed-goal, over-goal}
 use Rattle.newt_engine_hits.proofs.walk.walk.Goals as goal
@@ -72,7 +72,9 @@ pub beyond-requires-clause-key : goal.beyond-requires-clause-key
 beyond-requires-clause-key g c = subst (λ (o : Option Spot). IfSome o (λ spot. IsKeyOf c.args.query.now.spec.index spot.key)) c.in-Some.is c.steps.invariant.key
 
 pub returns-in_err-found-clause-reading : goal.returns-in_err-found-clause-reading
-returns-in_err-found-clause-reading g c = ?
+returns-in_err-found-clause-reading g c =
+    let r = c.from_residual-in_err-found.result in
+    end-memory (read-then c.steps.invariant.read c.keeps.ensures.reading.read) r (err_from_is_err_and r c.from_residual-in_err-found.ensures.1)
 
 pub steps-preserved : goal.steps-preserved
 steps-preserved g c = record {
