@@ -14,22 +14,21 @@ use Rattle.newt_spec_world.specs.World.{World, cursor, hits_of, set_place, settl
 use Rattle.newt_spec_world.specs.Changed.{Step, changed, step_from, stepped, go_to_key, to_key, key_from}
 use Rattle.newt_spec_world.specs.Refused.{checks, no_cursor, bad_key, on_some}
 use Rattle.newt_spec_world.specs.Answer.{answer, current, fields, or_nil}
-use Rattle.newt_pagebook.specs.declared.book.Stop.{Stop as End}
 use Rattle.newt_store_change.specs.declared.fault.StoreFault.{StoreFault}
 use Rattle.newt_store_change.specs.declared.fault.StoreFault.TheVariants.{Refused, Stop}
+use Rattle.newt_engine_cursors.specs.Calls.{Shows}
 use Rattle.newt_engine_cursors.specs.Motions.{Steers, step_of}
 use Rattle.newt_engine_units.specs.Answers.{Answers}
 use Rattle.newt_engine_cursors.specs.Replies.{shown_reply}
 use Rattle.newt_engine_cursors.specs.declared.show.Shown.{Shown}
 use Rattle.newt_engine_cursors.specs.declared.stepping.Motion.TheVariants as motion
-use Rattle.newt_engine_cursors.specs.declared.ways.Way.TheVariants.{On, Back}
-use Rattle.newt_engine_cursors.proofs.Answered.{refused-answer, done-answer}
+use Rattle.newt_engine_hits.specs.declared.ways.Way.TheVariants.{On, Back}
+use Rattle.newt_engine_cursors.proofs.Answered.{refused-answer, done-goal}
 
 -- a command that is done shows the cursor
-pub shown-answers : (w v u : World) (c : Command) (n : ℕ) (shown : Shown) → first_of (checks w c) ≡ None → changed w c ≡ u → ((v : World) → fields w v c ≡ or_nil (current v) (cursor v n)) → v ≡ settle u
-    → shown_reply shown ≡ or_nil (current v) (cursor v n) → Answers w v c shown_reply (Ok shown)
-shown-answers w v u c n shown pass is shows after said =
-    done-answer w u c pass is ∙ ap {A = World} {B = World × Reply} (λ v. (v, fields w v c)) (sym after) ∙ ap {A = Reply} {B = World × Reply} (λ r. (v, r)) (shows v ∙ sym said)
+pub shown-answers : (w v u : World) (c : Command) (n : ℕ) (shown : Shown) → first_of (checks w c) ≡ None → changed w c ≡ u → ((v : World) → fields w v c ≡ or_nil (current v) (cursor v n))
+    → Shows (settle u) v n shown → Answers w v c shown_reply (Ok shown)
+shown-answers w v u c n shown pass is shows s = done-goal w u v c (shown_reply shown) pass is s.world (s.shown ∙ sym (shows (settle u)))
 
 -- the command steps a cursor so, and shows it
 pub record IsStepping (c : Command) (n : ℕ) (step : Step) : Type 0 where
@@ -57,17 +56,12 @@ moveby-steps : (n : ℕ) (by : ℤ) → IsStepping (command.Moveby n by) n (step
 unfolding checks changed fields
 moveby-steps n by = record { tests = λ w. refl; does = λ w. refl; shows = λ w v. refl }
 
--- a run that ends says nothing of a step
-pub steers-end : (w v : World) (n : ℕ) (step : Step) (stop : End) (r : Result Shown StoreFault) → r ≡ Err (Stop stop) → Steers w v n step r
-steers-end w v n step stop r is = subst (λ (r : Result Shown StoreFault). Steers w v n step r) (sym is) tt
-
 -- a cursor that is open steps to where it comes, and is shown there
-pub steers-there : (w mid v : World) (n : ℕ) (step : Step) (k : Cursor) (next : Place) (shown : Shown) → Some k ≡ cursor w n → mid ≡ w → next ≡ step (hits_of w k.query) k.query.spec.index k.place
-    → v ≡ settle (set_place mid n next) → shown_reply shown ≡ or_nil (current (settle (set_place mid n next))) (cursor (settle (set_place mid n next)) n) → Steers w v n step (Ok shown)
-steers-there w mid v n step k next shown there same at after said = (
+pub steers-there : (w v : World) (n : ℕ) (step : Step) (k : Cursor) (next : Place) (shown : Shown) → Some k ≡ cursor w n → next ≡ step (hits_of w k.query) k.query.spec.index k.place
+    → Shows (settle (set_place w n next)) v n shown → Steers w v n step (Ok shown)
+steers-there w v n step k next shown there at s = (
   ap is_none (sym there),
-  after ∙ ap (λ (u : World). settle (set_place u n next)) same ∙ ap (λ (p : Place). settle (set_place w n p)) at ∙ ap (λ (o : Option Cursor). settle (step_from w n step o)) there,
-  said ∙ ap (λ (u : World). or_nil (current u) (cursor u n)) (sym after),
+  subst (λ (u : World). Shows (settle u) v n shown) (ap (λ (p : Place). set_place w n p) at ∙ ap (λ (o : Option Cursor). step_from w n step o) there) s,
 )
 
 -- no cursor is open, or one is
@@ -79,7 +73,7 @@ one-cursor w n more e = ap (λ b. first_of ((NoCursor, b) ∷ more)) e
 
 pub steered-answers : (w v : World) (c : Command) (n : ℕ) (step : Step) → IsStepping c n step → (r : Result Shown StoreFault) → Steers w v n step r → Answers w v c shown_reply r
 steered-answers w v c n step s (Ok shown) d =
-    shown-answers w v (stepped w n step) c n shown (ap first_of (s.tests w) ∙ one-cursor w n [] d.0) (s.does w) (s.shows w) d.1 d.2
+    shown-answers w v (stepped w n step) c n shown (ap first_of (s.tests w) ∙ one-cursor w n [] d.0) (s.does w) (s.shows w) d.1
 steered-answers w v c n step s (Err (Refused r)) d =
     refused-answer w c NoCursor (ap first_of (s.tests w) ∙ no-cursor w n [] d.0)
     ∙ ap {A = World} {B = World × Reply} (λ v. (v, Reply.refused NoCursor)) (sym d.2) ∙ ap {A = Refusal} {B = World × Reply} (λ r. (v, Reply.refused r)) (sym d.1)
@@ -124,7 +118,7 @@ module _ (w : World) (n : ℕ) (g : RawGraph) where
         → Answers w v (command.Gotokey n g) shown_reply r
     key-answers key e v (Ok shown) d =
         shown-answers w v (stepped w n (step_of (motion.Key key))) (command.Gotokey n g) n shown (tested ∙ ap (λ (o : Option Key). first_of ((BadKey, is_none o) ∷ [])) e)
-        (key-does ∙ same) key-shows d.1 d.2
+        (key-does ∙ same) key-shows d.1
       where
         same : stepped w n (go_to_key g) ≡ stepped w n (step_of (motion.Key key))
         same =

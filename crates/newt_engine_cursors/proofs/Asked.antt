@@ -26,8 +26,8 @@ use Rattle.newt_engine_units.specs.declared.units.Units.{Units}
 use Rattle.newt_engine_units.specs.Stands.{Stands, Eight, mounted_in, world_of}
 use Rattle.newt_engine_units.proofs.Known.{Laws, at-device}
 use Rattle.newt_engine_units.proofs.Shown.{drop-step}
-use Rattle.newt_engine_cursors.proofs.Searching.{chosen-kept, chosen-twice}
-use Rattle.newt_engine_cursors.proofs.Stores.{chosen-map}
+use Rattle.newt_engine_hits.proofs.Searching.{chosen-kept, chosen-twice}
+use Rattle.newt_engine_hits.proofs.Stores.{chosen-map}
 use Rattle.newt_engine_cursors.specs.Opening.{index_in}
 use Rattle.newt_engine_cursors.specs.Opening.{Binds, Indexes, bind_tests}
 

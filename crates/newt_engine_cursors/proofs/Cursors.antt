@@ -11,7 +11,8 @@ use Rattle.newt_laws_images.proofs.Chosen.{find-passes}
 use Rattle.newt_laws_world.proofs.Settled.{three-equal}
 use Rattle.newt_cursor.specs.Desk.{keyed, with_key}
 use Rattle.newt_keys.specs.KeyForm.{IsKeyOf}
-use Rattle.newt_engine_cursors.specs.Fits.{DeskFits, KeyFits, PlaceFits}
+use Rattle.newt_engine_cursors.specs.Fits.{DeskFits, KeyFits}
+use Rattle.newt_engine_hits.specs.Fits.{PlaceFits}
 use Rattle.newt_engine_cursors.specs.Keyed.{key_now}
 
 -- ---- one place

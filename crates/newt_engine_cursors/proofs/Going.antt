@@ -31,13 +31,14 @@ use Rattle.newt_engine_units.specs.declared.units.Units.{Units}
 use Rattle.newt_store_change.specs.Faults.{RefusesBy}
 use Rattle.newt_engine_units.specs.Stands.{Stands, Eight, card_at, world_of}
 use Rattle.newt_engine_units.proofs.Known.{Laws, bare-sig, card-known, none-mounted}
-use Rattle.newt_engine_cursors.specs.Present.{Present, identity, present_in, with_entry}
+use Rattle.newt_engine_hits.specs.Present.{Present, identity, present_in, with_entry}
 use Rattle.newt_engine_units.specs.Answers.{Answers}
+use Rattle.newt_engine_cursors.specs.Calls.{Shows}
 use Rattle.newt_engine_cursors.specs.Replies.{shown_reply}
 use Rattle.newt_engine_cursors.specs.declared.show.Shown.{Shown}
 use Rattle.newt_engine_cursors.proofs.Answered.{refused-answer}
 use Rattle.newt_engine_cursors.proofs.Answering.{shown-answers, no-cursor, one-cursor}
-use Rattle.newt_engine_cursors.proofs.Stores.{find-store}
+use Rattle.newt_engine_hits.proofs.Stores.{find-store}
 
 -- ---- the command
 
@@ -88,11 +89,11 @@ module _ (w : World) (n u uid : ℕ) where
       pub no-hit-goto : hit_for w u uid k ≡ None → answer w (command.Goto n u uid) ≡ (w, Reply.refused NoEntry)
       no-hit-goto e = refused-answer w (command.Goto n u uid) NoEntry (hit-tested ∙ ap (λ (o : Option Hit). first_of ((NoEntry, is_none o) ∷ [])) e)
 
-      pub hit-goto : (h : Hit) → hit_for w u uid k ≡ Some h → (v : World) (shown : Shown) → v ≡ settle (set_place w n (on h)) → shown_reply shown ≡ or_nil (current v) (cursor v n)
+      pub hit-goto : (h : Hit) → hit_for w u uid k ≡ Some h → (v : World) (shown : Shown) → Shows (settle (set_place w n (on h))) v n shown
           → answer w (command.Goto n u uid) ≡ (v, shown_reply shown)
-      hit-goto h e v shown after said =
+      hit-goto h e v shown s =
           shown-answers w v (set_place w n (on h)) (command.Goto n u uid) n shown (hit-tested ∙ ap (λ (o : Option Hit). first_of ((NoEntry, is_none o) ∷ [])) e)
-          (goto-does ∙ ap (λ (o : Option Cursor). put_on w n (option_and_then (hit_for w u uid) o)) open_one ∙ ap (put_on w n) e) goto-shows after said
+          (goto-does ∙ ap (λ (o : Option Cursor). put_on w n (option_and_then (hit_for w u uid) o)) open_one ∙ ap (put_on w n) e) goto-shows s
 
 -- ---- the soup on a unit
 

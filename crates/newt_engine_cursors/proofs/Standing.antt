@@ -15,9 +15,9 @@ use Rattle.newt_laws_images.proofs.Chosen.{find-passes}
 use Rattle.newt_laws_hits.specs.Located.{Located, located}
 use Rattle.newt_laws_hits.proofs.Origins.{origin, hit-located}
 use Rattle.newt_engine_cursors.specs.Keyed.{stands_on, key_now}
-use Rattle.newt_engine_cursors.specs.Present.{Present, identity, with_entry, present_in}
-use Rattle.newt_engine_cursors.specs.Searched.{located_in}
-use Rattle.newt_engine_cursors.proofs.Stores.{find-store}
+use Rattle.newt_engine_hits.specs.Present.{Present, identity, with_entry, present_in}
+use Rattle.newt_engine_hits.specs.Searched.{located_in}
+use Rattle.newt_engine_hits.proofs.Stores.{find-store}
 
 -- ---- the entry of a hit is where its signatures say
 

@@ -1,14 +1,8 @@
 -- What holds of the places for cursors between commands.
 use Rattle.std.specs.Prelude.{◌≡◌, List, length, Option, Some, None}
 use Rattle.newt_spec_graph.specs.Lists.{Each}
-use Rattle.newt_spec_store.specs.Keys.{IndexSpec}
-use Rattle.newt_spec_query.specs.Cursor.{Cursor, Place, on}
-use Rattle.newt_keys.specs.KeyForm.{IsKeyOf}
-
--- a place on a hit has a key of the declaration (this project's own)
-abbrev pub PlaceFits : IndexSpec → Place → Type 0
-PlaceFits index (on hit) = IsKeyOf index hit.key
-PlaceFits index place = Unit {0}
+use Rattle.newt_spec_query.specs.Cursor.{Cursor}
+use Rattle.newt_engine_hits.specs.Fits.{PlaceFits}
 
 -- an open cursor that stands on a hit has a key of its query's index (this project's own)
 abbrev pub KeyFits : Option Cursor → Type 0

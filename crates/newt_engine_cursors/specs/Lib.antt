@@ -1,10 +1,8 @@
--- A comment above each definition states its rule and ends with whose the rule is: of Newton's papers (Newton Programmer's Guide 2.0), this project's own,
+-- A comment above each definition states its rule and ends with whose the rule is: this project's own,
 -- or, for a mere word that states no rule, a word of these definitions.
 pub mod World
+pub mod Calls
 pub mod Fits
-pub mod Present
-pub mod Ways
-pub mod Searched
 pub mod Replies
 pub mod Keyed
 pub mod Opening

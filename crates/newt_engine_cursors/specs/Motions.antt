@@ -2,8 +2,7 @@
 use Rattle.std.specs.Prelude.{◌≡◌, ℕ, true, false, is_none, Result, Ok, Err}
 use Rattle.newt_base.specs.declared.Refusal.TheVariants.{Cursor as NoCursor}
 use Rattle.newt_spec_store.specs.Keys.{IndexSpec}
-use Rattle.newt_spec_query.specs.Cursor.{moved, place_at_key}
-use Rattle.newt_spec_world.specs.Answer.{current, or_nil}
+use Rattle.newt_spec_query.specs.Cursor.{Place, moved, place_at_key}
 use Rattle.newt_spec_world.specs.Changed.{Step, stepped}
 use Rattle.newt_spec_world.specs.World.{World, cursor, settle}
 use Rattle.newt_keys.specs.KeyForm.{IsKeyOf}
@@ -12,8 +11,9 @@ use Rattle.newt_store_change.specs.declared.fault.StoreFault.TheVariants.{Refuse
 use Rattle.newt_engine_cursors.specs.declared.show.Shown.{Shown}
 use Rattle.newt_engine_cursors.specs.declared.stepping.Motion.{Motion}
 use Rattle.newt_engine_cursors.specs.declared.stepping.Motion.TheVariants as motion
-use Rattle.newt_engine_cursors.specs.Replies.{shown_reply}
-use Rattle.newt_engine_cursors.specs.Ways.{outermost, stepping}
+use Rattle.newt_engine_cursors.specs.Calls.{Shows}
+use Rattle.newt_engine_hits.specs.Fits.{PlaceFits}
+use Rattle.newt_engine_hits.specs.Ways.{outermost, stepping}
 
 -- how a cursor steps that is moved so (a word of these definitions)
 abbrev pub step_of : Motion → Step
@@ -27,9 +27,14 @@ abbrev pub MotionFits : IndexSpec → Motion → Type 0
 MotionFits index (motion.Key key) = IsKeyOf index key
 MotionFits index _ = Unit {0}
 
+-- A cursor of the index may be moved so from this place. (this project's own)
+pub record CanMove (index : IndexSpec) (place : Place) (motion : Motion) : Type 0 where
+  pub place : PlaceFits index place
+  pub motion : MotionFits index motion
+
 -- A cursor of the world w that is open is stepped, all are settled, which makes the world v, and it is shown. One that is not open is refused, and nothing has
 -- changed. (this project's own)
 abbrev pub Steers : World → World → ℕ → Step → Result Shown StoreFault → Type 0
-Steers w v n step (Ok shown) = (is_none (cursor w n) ≡ false) × (v ≡ settle (stepped w n step)) × (shown_reply shown ≡ or_nil (current v) (cursor v n))
+Steers w v n step (Ok shown) = (is_none (cursor w n) ≡ false) × Shows (settle (stepped w n step)) v n shown
 Steers w v n step (Err (Refused refusal)) = (is_none (cursor w n) ≡ true) × (refusal ≡ NoCursor) × (v ≡ w)
 Steers w v n step (Err (Stop stop)) = Unit {0}

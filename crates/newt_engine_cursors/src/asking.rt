@@ -29,8 +29,11 @@ pub(crate) fn query_for<C: Card>(
     name: &Name,
     graph: &Graph,
 ) -> Result<Query, StoreFault>
-    ensures bound { (outside : Outside) → Eight outside → Stands C.place C.stands true units.now outside → let w = world_of C.reads units.now outside in
-        Binds (bind_tests w (scope_of scope) name.now graph.now) (query_of w (scope_of scope) name.now graph.now) result }
+    ensures bound { (outside : Outside) → Eight outside
+        → Stands C.place C.stands true units.now outside
+        → let w = world_of C.reads units.now outside in
+        Binds (bind_tests w (scope_of scope) name.now graph.now)
+        (query_of w (scope_of scope) name.now graph.now) result }
     ensures cause { IfErr result NoDevice }
 {
     match Shape::read(units.alloc(), graph) {
@@ -50,8 +53,11 @@ fn bound<C: Card>(
 ) -> Result<Query, StoreFault>
     requires form { is_query graph.now ≡ true }
     requires shape { shape ≡ shape_of graph.now }
-    ensures bound { (outside : Outside) → Eight outside → Stands C.place C.stands true units.now outside → let w = world_of C.reads units.now outside in
-        Binds (bind_tests w (scope_of scope) name.now graph.now) (query_of w (scope_of scope) name.now graph.now) result }
+    ensures bound { (outside : Outside) → Eight outside
+        → Stands C.place C.stands true units.now outside
+        → let w = world_of C.reads units.now outside in
+        Binds (bind_tests w (scope_of scope) name.now graph.now)
+        (query_of w (scope_of scope) name.now graph.now) result }
     ensures cause { IfErr result NoDevice }
 {
     let found = find_index(units, &scope, name, &shape);
@@ -72,7 +78,8 @@ fn keyed(
 ) -> Result<Query, StoreFault>
     requires { shape ≡ shape_of graph.now }
     ensures bound { let spec = unwrap_or index [] in
-        Binds ((BadKey, not (keys_fit graph.now spec)) ∷ []) (record { scope = scope_of scope; name = name.now; spec = spec_of graph.now spec }) result }
+        Binds ((BadKey, not (keys_fit graph.now spec)) ∷ [])
+        (record { scope = scope_of scope; name = name.now; spec = spec_of graph.now spec }) result }
     ensures cause { IfErr result NoDevice }
 {
     match shape.bind(alloc, graph, index) {

@@ -1,29 +1,25 @@
 //! The commands that show, count, clone and close a cursor. Where the number is of no open cursor,
 //! each is refused as `Cursor`.
-ghost use Rattle.std.specs.Prelude.{◌≡◌, IsTrue, IfErr, IfOk, OnOk, slice_get};
-ghost use Rattle.newt_host.specs.Outside.{NoFault};
-ghost use Rattle.newt_pagebook.specs.Stops.{HasStopCause};
+ghost use Rattle.std.specs.Prelude.{◌≡◌, IfErr, IfOk};
 ghost use Rattle.newt_cursor.specs.Seen.{place_of};
-ghost use Rattle.newt_spec_world.specs.Answer.{current, or_nil};
 ghost use Rattle.newt_spec_world.specs.Reply.{Reply};
-ghost use Rattle.newt_spec_world.specs.World.{World, flat, settle};
+ghost use Rattle.newt_spec_world.specs.World.{World, settle};
 ghost use Rattle.newt_spec_world.specs.declared.command.Command.{Command};
-ghost use Rattle.newt_laws_world.specs.Settled.{IsSettled, MountedApart};
-ghost use Rattle.newt_store_change.specs.Faults.{GoesOn, HasFaultCause, IsRefusal, NoDevice};
+ghost use Rattle.newt_laws_world.specs.Settled.{IsSettled};
+ghost use Rattle.newt_store_change.specs.Faults.{IsRefusal, NoDevice};
 ghost use Rattle.newt_laws_world.specs.Cursors.{with_cursors};
 ghost use Rattle.newt_engine_units.specs.Stands.{Stands};
 ghost use Rattle.newt_engine_cursors.specs.Fits.{DeskFits};
 ghost use Rattle.newt_engine_units.specs.Answers.{Answers};
 ghost use Rattle.newt_engine_cursors.specs.Replies.{shown_reply, side_at, side_reply};
-ghost use Rattle.newt_engine_units.specs.Calls.{AreRead};
-ghost use Rattle.newt_engine_cursors.specs.World.{world_with};
+ghost use Rattle.newt_engine_cursors.specs.Calls.{Settles, Walks, Shows};
 
-use crate::counting::count_hits;
 use crate::settling::settle;
 use crate::show::{Shown, Side, show};
 use newt_base::Refusal;
 use newt_cursor::{Desk, DeskFault, Place};
 use newt_engine_card::Card;
+use newt_engine_hits::count_hits;
 use newt_engine_units::Units;
 use newt_host::Host;
 use newt_pagebook::Stop;
@@ -38,16 +34,9 @@ pub fn entry<C: Card, H: Host>(
 ) -> Result<Shown, StoreFault>
     requires stands { Stands C.place C.stands H.told units.old (H.outside host.old) }
     requires desk { DeskFits desk.old }
-    ensures read { AreRead C.reads C.place C.stands H.told units.old units.new
-        (H.outside host.old) (H.outside host.new) }
-    ensures desk { DeskFits desk.new }
-    ensures answered { IsTrue H.told
-        → let w = world_with C.reads units.old desk.old (H.outside host.old) in MountedApart w
-        → Answers w (world_with C.reads units.new desk.new (H.outside host.new))
-        (Command.Entry cursor) shown_reply result }
-    ensures cause { IfErr result
-        (λ fault. HasFaultCause fault (H.outside host.old) (H.outside host.new)) }
-    ensures no_fault { GoesOn result → NoFault (H.outside host.old) (H.outside host.new) }
+    ensures { Walks C.reads C.place C.stands H.told
+        (λ w v. Answers w v (Command.Entry cursor) shown_reply result) units.old units.new
+        desk.old desk.new (H.outside host.old) (H.outside host.new) result }
 {
     if desk.place(cursor).is_none() {
         return Err(StoreFault::Refused(Refusal::Cursor));
@@ -64,16 +53,9 @@ pub fn count<C: Card, H: Host>(
 ) -> Result<u32, StoreFault>
     requires stands { Stands C.place C.stands H.told units.old (H.outside host.old) }
     requires desk { DeskFits desk.old }
-    ensures read { AreRead C.reads C.place C.stands H.told units.old units.new
-        (H.outside host.old) (H.outside host.new) }
-    ensures desk { DeskFits desk.new }
-    ensures answered { IsTrue H.told
-        → let w = world_with C.reads units.old desk.old (H.outside host.old) in MountedApart w
-        → Answers w (world_with C.reads units.new desk.new (H.outside host.new))
-        (Command.Count cursor) (λ n. Reply.number n) result }
-    ensures cause { IfErr result
-        (λ fault. HasFaultCause fault (H.outside host.old) (H.outside host.new)) }
-    ensures no_fault { GoesOn result → NoFault (H.outside host.old) (H.outside host.new) }
+    ensures { Walks C.reads C.place C.stands H.told
+        (λ w v. Answers w v (Command.Count cursor) (λ n. Reply.number n) result) units.old units.new
+        desk.old desk.new (H.outside host.old) (H.outside host.new) result }
 {
     let Some(query) = desk.query(cursor) else {
         return Err(StoreFault::Refused(Refusal::Cursor));
@@ -141,16 +123,9 @@ pub(crate) fn settle_and_show<C: Card, H: Host>(
 ) -> Result<Shown, Stop>
     requires stands { Stands C.place C.stands H.told units.old (H.outside host.old) }
     requires desk { DeskFits desk.old }
-    ensures read { AreRead C.reads C.place C.stands H.told units.old units.new
-        (H.outside host.old) (H.outside host.new) }
-    ensures desk { DeskFits desk.new }
-    ensures settled { IsTrue H.told → let w = world_with C.reads units.old desk.old (H.outside host.old) in MountedApart w →
-        OnOk result (world_with C.reads units.new desk.new (H.outside host.new) ≡ settle w) }
-    ensures shown { IsTrue H.told → let w = world_with C.reads units.old desk.old (H.outside host.old) in let v = settle w in MountedApart w →
-        IfOk result (λ shown. shown_reply shown ≡ or_nil (current v) (flat (slice_get v.cursors cursor))) }
-    ensures cause { IfErr result
-        (λ stop. HasStopCause stop (H.outside host.old) (H.outside host.new)) }
-    ensures no_fault { OnOk result (NoFault (H.outside host.old) (H.outside host.new)) }
+    ensures { Settles C.reads C.place C.stands H.told
+        (λ w v. IfOk result (Shows (settle w) v cursor)) units.old units.new
+        desk.old desk.new (H.outside host.old) (H.outside host.new) result }
 {
     settle(units, desk, host)?;
     show(units, desk, host, cursor)

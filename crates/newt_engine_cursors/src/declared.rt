@@ -9,10 +9,10 @@ ghost use Rattle.newt_spec_store.specs.Store.{soup_of};
 ghost use Rattle.newt_engine_units.specs.Stands.{Eight, Stands, world_of};
 ghost use Rattle.newt_engine_cursors.specs.Opening.{index_in};
 
-use crate::present::in_scope;
 use newt_base::{Name, Sig};
 use newt_cursor::Scope;
 use newt_engine_card::Card;
+use newt_engine_hits::in_scope;
 use newt_engine_units::Units;
 use newt_host::{UNITS, Unit};
 use newt_keys::IndexSpec;

@@ -1,10 +1,10 @@
 //! The commands of cursors over the mounted stores.
 //!
-//! It stands on `newt_engine_units` for the stores, on `newt_cursor` for the 32 places of cursors,
-//! on `newt_union` for searches of the merged ranges, and on `newt_query` for what a query keeps.
-//! The promise that it carries: units, cursors and devices stand for one world; each command of
-//! cursors is answered as that world answers it, and leaves what stands for the world after it; and
-//! nothing happens to a device but reading.
+//! It stands on `newt_engine_units` for the stores, on `newt_engine_hits` for the search of their
+//! hits, and on `newt_cursor` for the 32 places of cursors. The promise that it carries: units,
+//! cursors and devices stand for one world; each command of cursors is answered as that world
+//! answers it, and leaves what stands for the world after it; and nothing happens to a device but
+//! reading.
 //!
 //! Each call answers `StoreFault::Refused` with the refusal that its command is answered with, and
 //! then neither the stores nor the cursors have changed; or `StoreFault::Stop` where memory was
@@ -13,19 +13,12 @@
 
 mod asking;
 mod commands;
-mod counting;
 mod declared;
 mod desks;
-mod keep;
 mod opening;
-mod places;
-mod present;
-mod search;
 mod settling;
 mod show;
 mod stepping;
-mod walk;
-mod ways;
 
 pub use commands::{clone_of, close, count, entry, which};
 pub use opening::{query, query_all};

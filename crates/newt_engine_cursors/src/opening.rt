@@ -1,29 +1,26 @@
 //! The commands that open a cursor.
-ghost use Rattle.std.specs.Prelude.{◌≡◌, true, IsTrue, IfErr, Some, ◌++◌, is_some};
+ghost use Rattle.std.specs.Prelude.{◌≡◌, true, IfErr, Some, ◌++◌, is_some};
 ghost use Rattle.std.specs.List.{list_any};
-ghost use Rattle.newt_host.specs.Outside.{NoFault, Outside};
+ghost use Rattle.newt_host.specs.Outside.{Outside};
 ghost use Rattle.newt_cursor.specs.Seen.{query_of};
 ghost use Rattle.newt_spec_world.specs.Changed.{query_of as asked_query, sig_of};
 ghost use Rattle.newt_spec_world.specs.Reply.{Reply};
 ghost use Rattle.newt_spec_world.specs.World.{mounted, soup_in};
 ghost use Rattle.newt_spec_world.specs.declared.command.Command.{Command};
-ghost use Rattle.newt_laws_world.specs.Settled.{MountedApart};
 ghost use Rattle.newt_laws_answers.specs.Tests.{soup_checks};
-ghost use Rattle.newt_store_change.specs.Faults.{GoesOn, HasFaultCause, NoDevice};
+ghost use Rattle.newt_store_change.specs.Faults.{NoDevice};
 ghost use Rattle.newt_engine_units.specs.Stands.{Eight, Stands, world_of};
 ghost use Rattle.newt_engine_cursors.specs.Fits.{DeskFits};
 ghost use Rattle.newt_engine_cursors.specs.Opening.{Binds, Opens, bind_tests};
 ghost use Rattle.newt_engine_units.specs.Answers.{Answers};
-ghost use Rattle.newt_engine_units.specs.Calls.{AreRead};
-ghost use Rattle.newt_engine_cursors.specs.World.{world_with};
+ghost use Rattle.newt_engine_cursors.specs.Calls.{Walks};
 
 use crate::asking::query_for;
-use crate::places::outermost;
 use crate::settling::settle;
-use crate::ways::Way;
 use newt_base::{Name, Refusal};
 use newt_cursor::{Desk, DeskFault, Query, Scope};
 use newt_engine_card::Card;
+use newt_engine_hits::{Way, outermost};
 use newt_engine_units::Units;
 use newt_graph::Graph;
 use newt_host::{Host, UNITS, Unit};
@@ -43,16 +40,9 @@ pub fn query<C: Card, H: Host>(
 ) -> Result<u8, StoreFault>
     requires stands { Stands C.place C.stands H.told units.old (H.outside host.old) }
     requires desk { DeskFits desk.old }
-    ensures read { AreRead C.reads C.place C.stands H.told units.old units.new
-        (H.outside host.old) (H.outside host.new) }
-    ensures desk { DeskFits desk.new }
-    ensures answered { IsTrue H.told
-        → let w = world_with C.reads units.old desk.old (H.outside host.old) in MountedApart w
-        → Answers w (world_with C.reads units.new desk.new (H.outside host.new))
-        (Command.Query unit name.now graph.now) (λ n. Reply.number n) result }
-    ensures cause { IfErr result
-        (λ fault. HasFaultCause fault (H.outside host.old) (H.outside host.new)) }
-    ensures no_fault { GoesOn result → NoFault (H.outside host.old) (H.outside host.new) }
+    ensures { Walks C.reads C.place C.stands H.told
+        (λ w v. Answers w v (Command.Query unit name.now graph.now) (λ n. Reply.number n) result)
+        units.old units.new desk.old desk.new (H.outside host.old) (H.outside host.new) result }
 {
     let asked = query_on(units, unit, name, graph);
     match asked {
@@ -72,16 +62,9 @@ pub fn query_all<C: Card, H: Host>(
 ) -> Result<u8, StoreFault>
     requires stands { Stands C.place C.stands H.told units.old (H.outside host.old) }
     requires desk { DeskFits desk.old }
-    ensures read { AreRead C.reads C.place C.stands H.told units.old units.new
-        (H.outside host.old) (H.outside host.new) }
-    ensures desk { DeskFits desk.new }
-    ensures answered { IsTrue H.told
-        → let w = world_with C.reads units.old desk.old (H.outside host.old) in MountedApart w
-        → Answers w (world_with C.reads units.new desk.new (H.outside host.new))
-        (Command.QueryAll name.now graph.now) (λ n. Reply.number n) result }
-    ensures cause { IfErr result
-        (λ fault. HasFaultCause fault (H.outside host.old) (H.outside host.new)) }
-    ensures no_fault { GoesOn result → NoFault (H.outside host.old) (H.outside host.new) }
+    ensures { Walks C.reads C.place C.stands H.told
+        (λ w v. Answers w v (Command.QueryAll name.now graph.now) (λ n. Reply.number n) result)
+        units.old units.new desk.old desk.new (H.outside host.old) (H.outside host.new) result }
 {
     if !has_soup(units, name) {
         return Err(StoreFault::Refused(Refusal::Soup));
@@ -100,8 +83,11 @@ fn query_on<C: Card>(
     name: &Name,
     graph: &Graph,
 ) -> Result<Query, StoreFault>
-    ensures bound { (outside : Outside) → Eight outside → Stands C.place C.stands true units.now outside → let w = world_of C.reads units.now outside in let scope = Some (sig_of w unit) in
-        Binds (soup_checks w unit name.now ++ bind_tests w scope name.now graph.now) (asked_query w scope name.now graph.now) result }
+    ensures bound { (outside : Outside) → Eight outside
+        → Stands C.place C.stands true units.now outside
+        → let w = world_of C.reads units.now outside in let scope = Some (sig_of w unit) in
+        Binds (soup_checks w unit name.now ++ bind_tests w scope name.now graph.now)
+        (asked_query w scope name.now graph.now) result }
     ensures cause { IfErr result NoDevice }
 {
     match units.find_soup(unit, name) {
@@ -115,7 +101,8 @@ fn query_on<C: Card>(
 
 /// Whether a mounted store has a soup of this name.
 fn has_soup<C: Card>(units: &Units<C>, name: &Name) -> bool
-    ensures { (outside : Outside) → Eight outside → Stands C.place C.stands true units.now outside → let w = world_of C.reads units.now outside in
+    ensures { (outside : Outside) → Eight outside → Stands C.place C.stands true units.now outside
+        → let w = world_of C.reads units.now outside in
         result ≡ list_any (λ m. is_some (soup_in w m.0 name.now)) (mounted w) }
 {
     for number in 0..UNITS {
@@ -135,14 +122,9 @@ fn open<C: Card, H: Host>(
 ) -> Result<u8, StoreFault>
     requires stands { Stands C.place C.stands H.told units.old (H.outside host.old) }
     requires desk { DeskFits desk.old }
-    ensures read { AreRead C.reads C.place C.stands H.told units.old units.new
-        (H.outside host.old) (H.outside host.new) }
-    ensures desk { DeskFits desk.new }
-    ensures opened { IsTrue H.told → let w = world_with C.reads units.old desk.old (H.outside host.old) in MountedApart w →
-        Opens w (world_with C.reads units.new desk.new (H.outside host.new)) (query_of query) result }
-    ensures cause { IfErr result
-        (λ fault. HasFaultCause fault (H.outside host.old) (H.outside host.new)) }
-    ensures no_fault { GoesOn result → NoFault (H.outside host.old) (H.outside host.new) }
+    ensures { Walks C.reads C.place C.stands H.told
+        (λ w v. Opens w v (query_of query) result) units.old units.new
+        desk.old desk.new (H.outside host.old) (H.outside host.new) result }
 {
     let first = outermost(units, host, &query, Way::On)?;
     match desk.open(query, first) {

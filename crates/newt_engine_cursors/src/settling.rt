@@ -1,8 +1,6 @@
 //! The cursors take the present keys of their entries.
-ghost use Rattle.std.specs.Prelude.{◌≡◌, IsTrue, Some, IfOk, IfErr, IfSome, OnOk, option_and_then};
+ghost use Rattle.std.specs.Prelude.{◌≡◌, IsTrue, Some, IfOk, IfSome, OnOk, option_and_then};
 ghost use Rattle.std.specs.Prelude.{slice_get};
-ghost use Rattle.newt_host.specs.Outside.{NoFault};
-ghost use Rattle.newt_pagebook.specs.Stops.{HasStopCause};
 ghost use Rattle.newt_keys.specs.KeyForm.{IsKeyOf};
 ghost use Rattle.newt_spec_query.specs.Cursor.{Cursor};
 ghost use Rattle.newt_spec_world.specs.World.{change_at, flat, settle, settle_cursor};
@@ -10,13 +8,13 @@ ghost use Rattle.newt_laws_world.specs.Settled.{MountedApart};
 ghost use Rattle.newt_engine_units.specs.Stands.{Stands, world_of};
 ghost use Rattle.newt_engine_cursors.specs.Fits.{DeskFits};
 ghost use Rattle.newt_engine_cursors.specs.Keyed.{key_now};
-ghost use Rattle.newt_engine_units.specs.Calls.{AreRead};
-ghost use Rattle.newt_engine_cursors.specs.World.{world_with};
+ghost use Rattle.newt_engine_hits.specs.Calls.{IsReading};
+ghost use Rattle.newt_engine_cursors.specs.Calls.{Settles};
 
 use crate::desks::standing;
-use crate::present::find_hit;
 use newt_cursor::Desk;
 use newt_engine_card::Card;
+use newt_engine_hits::find_hit;
 use newt_engine_units::Units;
 use newt_host::Host;
 use newt_keys::Key;
@@ -34,14 +32,9 @@ pub fn settle<C: Card, H: Host>(
 ) -> Result<(), Stop>
     requires stands { Stands C.place C.stands H.told units.old (H.outside host.old) }
     requires desk { DeskFits desk.old }
-    ensures read { AreRead C.reads C.place C.stands H.told units.old units.new
-        (H.outside host.old) (H.outside host.new) }
-    ensures desk { DeskFits desk.new }
-    ensures settled { IsTrue H.told → let w = world_with C.reads units.old desk.old (H.outside host.old) in MountedApart w →
-        OnOk result (world_with C.reads units.new desk.new (H.outside host.new) ≡ settle w) }
-    ensures cause { IfErr result
-        (λ stop. HasStopCause stop (H.outside host.old) (H.outside host.new)) }
-    ensures no_fault { OnOk result (NoFault (H.outside host.old) (H.outside host.new)) }
+    ensures { Settles C.reads C.place C.stands H.told
+        (λ w v. OnOk result (v ≡ settle w)) units.old units.new
+        desk.old desk.new (H.outside host.old) (H.outside host.new) result }
 {
     for cursor in 0..PLACES {
         settle_one(units, desk, host, cursor)?;
@@ -58,14 +51,11 @@ fn settle_one<C: Card, H: Host>(
 ) -> Result<(), Stop>
     requires stands { Stands C.place C.stands H.told units.old (H.outside host.old) }
     requires desk { DeskFits desk.old }
-    ensures read { AreRead C.reads C.place C.stands H.told units.old units.new
-        (H.outside host.old) (H.outside host.new) }
+    ensures reading { IsReading C.reads C.place C.stands H.told units.old units.new
+        (H.outside host.old) (H.outside host.new) result }
     ensures desk { DeskFits desk.new }
-    ensures settled { IsTrue H.told → let w = world_of C.reads units.old (H.outside host.old) in MountedApart w →
-        OnOk result (desk.new ≡ change_at cursor (settle_cursor w) desk.old) }
-    ensures cause { IfErr result
-        (λ stop. HasStopCause stop (H.outside host.old) (H.outside host.new)) }
-    ensures no_fault { OnOk result (NoFault (H.outside host.old) (H.outside host.new)) }
+    ensures settled { IsTrue H.told → let w = world_of C.reads units.old (H.outside host.old) in
+        MountedApart w → OnOk result (desk.new ≡ change_at cursor (settle_cursor w) desk.old) }
 {
     if let Some(key) = present_key(units, desk, host, cursor)? {
         desk.changed(cursor, key);
@@ -82,15 +72,13 @@ fn present_key<C: Card, H: Host>(
     cursor: u8,
 ) -> Result<Option<Key>, Stop>
     requires { Stands C.place C.stands H.told units.old (H.outside host.old) }
-    ensures read { AreRead C.reads C.place C.stands H.told units.old units.new
-        (H.outside host.old) (H.outside host.new) }
+    ensures reading { IsReading C.reads C.place C.stands H.told units.old units.new
+        (H.outside host.old) (H.outside host.new) result }
     ensures key { (k : Cursor) → flat (slice_get desk.now cursor) ≡ Some k
         → IfOk result (λ found. IfSome found (IsKeyOf k.query.spec.index)) }
-    ensures found { IsTrue H.told → let w = world_of C.reads units.old (H.outside host.old) in MountedApart w →
-        IfOk result (λ found. found ≡ option_and_then (key_now w) (flat (slice_get desk.now cursor))) }
-    ensures cause { IfErr result
-        (λ stop. HasStopCause stop (H.outside host.old) (H.outside host.new)) }
-    ensures no_fault { OnOk result (NoFault (H.outside host.old) (H.outside host.new)) }
+    ensures found { IsTrue H.told → let w = world_of C.reads units.old (H.outside host.old) in
+        MountedApart w → IfOk result (λ found. found
+        ≡ option_and_then (key_now w) (flat (slice_get desk.now cursor))) }
 {
     let Some((query, spot)) = standing(desk, cursor) else {
         return Ok(None);

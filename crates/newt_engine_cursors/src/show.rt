@@ -1,19 +1,17 @@
 //! What a cursor shows.
-ghost use Rattle.std.specs.Prelude.{◌≡◌, IsTrue, IfErr, IfOk, slice_get, OnOk};
-ghost use Rattle.newt_host.specs.Outside.{NoFault};
-ghost use Rattle.newt_pagebook.specs.Stops.{HasStopCause};
+ghost use Rattle.std.specs.Prelude.{◌≡◌, IsTrue, IfOk, slice_get};
 ghost use Rattle.newt_spec_world.specs.Answer.{current, or_nil};
 ghost use Rattle.newt_spec_world.specs.World.{flat};
 ghost use Rattle.newt_laws_world.specs.Settled.{MountedApart};
 ghost use Rattle.newt_engine_units.specs.Stands.{Stands};
 ghost use Rattle.newt_engine_cursors.specs.Replies.{shown_reply};
-ghost use Rattle.newt_engine_units.specs.Calls.{AreRead};
+ghost use Rattle.newt_engine_hits.specs.Calls.{IsReading};
 ghost use Rattle.newt_engine_cursors.specs.World.{world_with};
 
 use crate::desks::standing;
-use crate::present::find_hit;
 use newt_cursor::Desk;
 use newt_engine_card::Card;
+use newt_engine_hits::find_hit;
 use newt_engine_units::Units;
 use newt_host::{Host, Unit};
 use newt_pagebook::Stop;
@@ -49,13 +47,12 @@ pub(crate) fn show<C: Card, H: Host>(
     cursor: u8,
 ) -> Result<Shown, Stop>
     requires { Stands C.place C.stands H.told units.old (H.outside host.old) }
-    ensures read { AreRead C.reads C.place C.stands H.told units.old units.new
-        (H.outside host.old) (H.outside host.new) }
-    ensures shown { IsTrue H.told → let w = world_with C.reads units.old desk.now (H.outside host.old) in MountedApart w →
-        IfOk result (λ shown. shown_reply shown ≡ or_nil (current w) (flat (slice_get desk.now cursor))) }
-    ensures cause { IfErr result
-        (λ stop. HasStopCause stop (H.outside host.old) (H.outside host.new)) }
-    ensures no_fault { OnOk result (NoFault (H.outside host.old) (H.outside host.new)) }
+    ensures reading { IsReading C.reads C.place C.stands H.told units.old units.new
+        (H.outside host.old) (H.outside host.new) result }
+    ensures shown { IsTrue H.told
+        → let w = world_with C.reads units.old desk.now (H.outside host.old) in MountedApart w
+        → IfOk result (λ shown. shown_reply shown
+        ≡ or_nil (current w) (flat (slice_get desk.now cursor))) }
 {
     let Some((query, spot)) = standing(desk, cursor) else {
         return Ok(Shown::Nil);

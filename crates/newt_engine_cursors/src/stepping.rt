@@ -1,37 +1,33 @@
 //! The commands that move a cursor. Where the number is of no open cursor, each is refused as
 //! `Cursor`.
-ghost use Rattle.std.specs.Prelude.{◌≡◌, true, IsTrue, Some, IfErr, IfOk, IfSome, OnOk, option_map};
+ghost use Rattle.std.specs.Prelude.{◌≡◌, true, IsTrue, Some, IfOk, IfSome, option_map};
 ghost use Rattle.std.specs.Prelude.{slice_get};
-ghost use Rattle.newt_host.specs.Outside.{NoFault, Outside};
-ghost use Rattle.newt_pagebook.specs.Stops.{HasStopCause};
+ghost use Rattle.newt_host.specs.Outside.{Outside};
 ghost use Rattle.newt_keys.specs.KeyForm.{IsKeyOf};
 ghost use Rattle.newt_cursor.specs.Seen.{place_of, query_of};
 ghost use Rattle.newt_spec_store.specs.Store.{soup_named};
 ghost use Rattle.newt_spec_query.specs.Cursor.{Cursor};
-ghost use Rattle.newt_spec_world.specs.Answer.{current, or_nil};
 ghost use Rattle.newt_spec_world.specs.Changed.{hit_for, key_from, sig_of};
 ghost use Rattle.newt_spec_world.specs.World.{cursor, flat, hits_of, set_place, settle, soup_in};
 ghost use Rattle.newt_spec_world.specs.declared.command.Command.TheVariants as Command;
 ghost use Rattle.newt_laws_world.specs.Settled.{MountedApart};
-ghost use Rattle.newt_store_change.specs.Faults.{GoesOn, HasFaultCause};
 ghost use Rattle.newt_engine_units.specs.Stands.{Eight, Stands, world_of};
 ghost use Rattle.newt_index.specs.Spots.{spot_hit};
-ghost use Rattle.newt_engine_cursors.specs.Fits.{DeskFits, PlaceFits};
-ghost use Rattle.newt_engine_cursors.specs.Motions.{MotionFits, Steers, step_of};
+ghost use Rattle.newt_engine_cursors.specs.Fits.{DeskFits};
+ghost use Rattle.newt_engine_hits.specs.Fits.{PlaceFits};
+ghost use Rattle.newt_engine_cursors.specs.Motions.{CanMove, MotionFits, Steers, step_of};
 ghost use Rattle.newt_engine_units.specs.Answers.{Answers};
 ghost use Rattle.newt_engine_cursors.specs.Replies.{shown_reply};
-ghost use Rattle.newt_engine_units.specs.Calls.{AreRead};
-ghost use Rattle.newt_engine_cursors.specs.World.{world_with};
+ghost use Rattle.newt_engine_hits.specs.Calls.{IsReading};
+ghost use Rattle.newt_engine_cursors.specs.Calls.{Settles, Walks, Shows};
 
 use crate::commands::settle_and_show;
 use crate::desks::open_cursor;
-use crate::places;
-use crate::present::find_hit;
 use crate::show::Shown;
-use crate::ways::Way;
 use newt_base::{Name, Refusal, Sig, Uid};
 use newt_cursor::{Desk, Place, Query};
 use newt_engine_card::Card;
+use newt_engine_hits::{Way, at_key, find_hit, moved, outermost, step};
 use newt_engine_units::Units;
 use newt_graph::Graph;
 use newt_host::{Host, Unit};
@@ -63,16 +59,9 @@ pub fn next<C: Card, H: Host>(
 ) -> Result<Shown, StoreFault>
     requires stands { Stands C.place C.stands H.told units.old (H.outside host.old) }
     requires desk { DeskFits desk.old }
-    ensures read { AreRead C.reads C.place C.stands H.told units.old units.new
-        (H.outside host.old) (H.outside host.new) }
-    ensures desk { DeskFits desk.new }
-    ensures answered { IsTrue H.told
-        → let w = world_with C.reads units.old desk.old (H.outside host.old) in MountedApart w
-        → Answers w (world_with C.reads units.new desk.new (H.outside host.new))
-        (Command.Next cursor) shown_reply result }
-    ensures cause { IfErr result
-        (λ fault. HasFaultCause fault (H.outside host.old) (H.outside host.new)) }
-    ensures no_fault { GoesOn result → NoFault (H.outside host.old) (H.outside host.new) }
+    ensures { Walks C.reads C.place C.stands H.told
+        (λ w v. Answers w v (Command.Next cursor) shown_reply result) units.old units.new
+        desk.old desk.new (H.outside host.old) (H.outside host.new) result }
 {
     steer(units, desk, host, cursor, Motion::Step(Way::On))
 }
@@ -86,16 +75,9 @@ pub fn prev<C: Card, H: Host>(
 ) -> Result<Shown, StoreFault>
     requires stands { Stands C.place C.stands H.told units.old (H.outside host.old) }
     requires desk { DeskFits desk.old }
-    ensures read { AreRead C.reads C.place C.stands H.told units.old units.new
-        (H.outside host.old) (H.outside host.new) }
-    ensures desk { DeskFits desk.new }
-    ensures answered { IsTrue H.told
-        → let w = world_with C.reads units.old desk.old (H.outside host.old) in MountedApart w
-        → Answers w (world_with C.reads units.new desk.new (H.outside host.new))
-        (Command.Prev cursor) shown_reply result }
-    ensures cause { IfErr result
-        (λ fault. HasFaultCause fault (H.outside host.old) (H.outside host.new)) }
-    ensures no_fault { GoesOn result → NoFault (H.outside host.old) (H.outside host.new) }
+    ensures { Walks C.reads C.place C.stands H.told
+        (λ w v. Answers w v (Command.Prev cursor) shown_reply result) units.old units.new
+        desk.old desk.new (H.outside host.old) (H.outside host.new) result }
 {
     steer(units, desk, host, cursor, Motion::Step(Way::Back))
 }
@@ -109,16 +91,9 @@ pub fn reset<C: Card, H: Host>(
 ) -> Result<Shown, StoreFault>
     requires stands { Stands C.place C.stands H.told units.old (H.outside host.old) }
     requires desk { DeskFits desk.old }
-    ensures read { AreRead C.reads C.place C.stands H.told units.old units.new
-        (H.outside host.old) (H.outside host.new) }
-    ensures desk { DeskFits desk.new }
-    ensures answered { IsTrue H.told
-        → let w = world_with C.reads units.old desk.old (H.outside host.old) in MountedApart w
-        → Answers w (world_with C.reads units.new desk.new (H.outside host.new))
-        (Command.Reset cursor) shown_reply result }
-    ensures cause { IfErr result
-        (λ fault. HasFaultCause fault (H.outside host.old) (H.outside host.new)) }
-    ensures no_fault { GoesOn result → NoFault (H.outside host.old) (H.outside host.new) }
+    ensures { Walks C.reads C.place C.stands H.told
+        (λ w v. Answers w v (Command.Reset cursor) shown_reply result) units.old units.new
+        desk.old desk.new (H.outside host.old) (H.outside host.new) result }
 {
     steer(units, desk, host, cursor, Motion::Leap(Way::On))
 }
@@ -132,16 +107,9 @@ pub fn end<C: Card, H: Host>(
 ) -> Result<Shown, StoreFault>
     requires stands { Stands C.place C.stands H.told units.old (H.outside host.old) }
     requires desk { DeskFits desk.old }
-    ensures read { AreRead C.reads C.place C.stands H.told units.old units.new
-        (H.outside host.old) (H.outside host.new) }
-    ensures desk { DeskFits desk.new }
-    ensures answered { IsTrue H.told
-        → let w = world_with C.reads units.old desk.old (H.outside host.old) in MountedApart w
-        → Answers w (world_with C.reads units.new desk.new (H.outside host.new))
-        (Command.End cursor) shown_reply result }
-    ensures cause { IfErr result
-        (λ fault. HasFaultCause fault (H.outside host.old) (H.outside host.new)) }
-    ensures no_fault { GoesOn result → NoFault (H.outside host.old) (H.outside host.new) }
+    ensures { Walks C.reads C.place C.stands H.told
+        (λ w v. Answers w v (Command.End cursor) shown_reply result) units.old units.new
+        desk.old desk.new (H.outside host.old) (H.outside host.new) result }
 {
     steer(units, desk, host, cursor, Motion::Leap(Way::Back))
 }
@@ -156,16 +124,9 @@ pub fn moveby<C: Card, H: Host>(
 ) -> Result<Shown, StoreFault>
     requires stands { Stands C.place C.stands H.told units.old (H.outside host.old) }
     requires desk { DeskFits desk.old }
-    ensures read { AreRead C.reads C.place C.stands H.told units.old units.new
-        (H.outside host.old) (H.outside host.new) }
-    ensures desk { DeskFits desk.new }
-    ensures answered { IsTrue H.told
-        → let w = world_with C.reads units.old desk.old (H.outside host.old) in MountedApart w
-        → Answers w (world_with C.reads units.new desk.new (H.outside host.new))
-        (Command.Moveby cursor by) shown_reply result }
-    ensures cause { IfErr result
-        (λ fault. HasFaultCause fault (H.outside host.old) (H.outside host.new)) }
-    ensures no_fault { GoesOn result → NoFault (H.outside host.old) (H.outside host.new) }
+    ensures { Walks C.reads C.place C.stands H.told
+        (λ w v. Answers w v (Command.Moveby cursor by) shown_reply result) units.old units.new
+        desk.old desk.new (H.outside host.old) (H.outside host.new) result }
 {
     steer(units, desk, host, cursor, Motion::By(by))
 }
@@ -182,16 +143,9 @@ pub fn go_to_key<C: Card, H: Host>(
 ) -> Result<Shown, StoreFault>
     requires stands { Stands C.place C.stands H.told units.old (H.outside host.old) }
     requires desk { DeskFits desk.old }
-    ensures read { AreRead C.reads C.place C.stands H.told units.old units.new
-        (H.outside host.old) (H.outside host.new) }
-    ensures desk { DeskFits desk.new }
-    ensures answered { IsTrue H.told
-        → let w = world_with C.reads units.old desk.old (H.outside host.old) in MountedApart w
-        → Answers w (world_with C.reads units.new desk.new (H.outside host.new))
-        (Command.Gotokey cursor graph.now) shown_reply result }
-    ensures cause { IfErr result
-        (λ fault. HasFaultCause fault (H.outside host.old) (H.outside host.new)) }
-    ensures no_fault { GoesOn result → NoFault (H.outside host.old) (H.outside host.new) }
+    ensures { Walks C.reads C.place C.stands H.told
+        (λ w v. Answers w v (Command.Gotokey cursor graph.now) shown_reply result) units.old
+        units.new desk.old desk.new (H.outside host.old) (H.outside host.new) result }
 {
     let Some((query, _)) = open_cursor(desk, cursor) else {
         return Err(StoreFault::Refused(Refusal::Cursor));
@@ -215,16 +169,9 @@ pub fn go_to<C: Card, H: Host>(
 ) -> Result<Shown, StoreFault>
     requires stands { Stands C.place C.stands H.told units.old (H.outside host.old) }
     requires desk { DeskFits desk.old }
-    ensures read { AreRead C.reads C.place C.stands H.told units.old units.new
-        (H.outside host.old) (H.outside host.new) }
-    ensures desk { DeskFits desk.new }
-    ensures answered { IsTrue H.told
-        → let w = world_with C.reads units.old desk.old (H.outside host.old) in MountedApart w
-        → Answers w (world_with C.reads units.new desk.new (H.outside host.new))
-        (Command.Goto cursor unit uid) shown_reply result }
-    ensures cause { IfErr result
-        (λ fault. HasFaultCause fault (H.outside host.old) (H.outside host.new)) }
-    ensures no_fault { GoesOn result → NoFault (H.outside host.old) (H.outside host.new) }
+    ensures { Walks C.reads C.place C.stands H.told
+        (λ w v. Answers w v (Command.Goto cursor unit uid) shown_reply result) units.old units.new
+        desk.old desk.new (H.outside host.old) (H.outside host.new) result }
 {
     units.find_unit(unit)?;
     let Some((query, _)) = open_cursor(desk, cursor) else {
@@ -248,14 +195,9 @@ fn steer<C: Card, H: Host>(
     requires desk { DeskFits desk.old }
     requires fits { (k : Cursor) → flat (slice_get desk.old cursor) ≡ Some k
         → MotionFits k.query.spec.index motion }
-    ensures read { AreRead C.reads C.place C.stands H.told units.old units.new
-        (H.outside host.old) (H.outside host.new) }
-    ensures desk { DeskFits desk.new }
-    ensures steered { IsTrue H.told → let w = world_with C.reads units.old desk.old (H.outside host.old) in MountedApart w →
-        Steers w (world_with C.reads units.new desk.new (H.outside host.new)) cursor (step_of motion) result }
-    ensures cause { IfErr result
-        (λ fault. HasFaultCause fault (H.outside host.old) (H.outside host.new)) }
-    ensures no_fault { GoesOn result → NoFault (H.outside host.old) (H.outside host.new) }
+    ensures { Walks C.reads C.place C.stands H.told
+        (λ w v. Steers w v cursor (step_of motion) result) units.old units.new
+        desk.old desk.new (H.outside host.old) (H.outside host.new) result }
 {
     let Some((query, place)) = open_cursor(desk, cursor) else {
         return Err(StoreFault::Refused(Refusal::Cursor));
@@ -273,25 +215,23 @@ fn target<C: Card, H: Host>(
     motion: Motion,
 ) -> Result<Place, Stop>
     requires stands { Stands C.place C.stands H.told units.old (H.outside host.old) }
-    requires fits { PlaceFits query.now.spec.index (place_of place.now) }
-    requires motion { MotionFits query.now.spec.index motion }
-    ensures read { AreRead C.reads C.place C.stands H.told units.old units.new
-        (H.outside host.old) (H.outside host.new) }
+    requires fits { CanMove query.now.spec.index (place_of place.now) motion }
+    ensures reading { IsReading C.reads C.place C.stands H.told units.old units.new
+        (H.outside host.old) (H.outside host.new) result }
     ensures fits { IfOk result (λ place. PlaceFits query.now.spec.index (place_of place)) }
-    ensures place { IsTrue H.told → let w = world_of C.reads units.old (H.outside host.old) in let q = query_of query.now in MountedApart w →
-        IfOk result (λ next. place_of next ≡ step_of motion (hits_of w q) q.spec.index (place_of place.now)) }
-    ensures cause { IfErr result
-        (λ stop. HasStopCause stop (H.outside host.old) (H.outside host.new)) }
-    ensures no_fault { OnOk result (NoFault (H.outside host.old) (H.outside host.new)) }
+    ensures place { IsTrue H.told → let w = world_of C.reads units.old (H.outside host.old) in
+        let q = query_of query.now in MountedApart w
+        → IfOk result (λ next. place_of next ≡ step_of motion (hits_of w q) q.spec.index
+        (place_of place.now)) }
 {
     match motion {
-        Motion::Step(way) => places::step(units, host, query, way, place),
-        Motion::Leap(way) => places::outermost(units, host, query, way),
+        Motion::Step(way) => step(units, host, query, way, place),
+        Motion::Leap(way) => outermost(units, host, query, way),
         Motion::By(by) => {
             let from = place.copy()?;
-            places::moved(units, host, query, by, from)
+            moved(units, host, query, by, from)
         }
-        Motion::Key(key) => places::at_key(units, host, query, &key),
+        Motion::Key(key) => at_key(units, host, query, &key),
     }
 }
 
@@ -307,16 +247,9 @@ fn move_to<C: Card, H: Host>(
     requires desk { DeskFits desk.old }
     requires fits { (k : Cursor) → flat (slice_get desk.old cursor) ≡ Some k
         → PlaceFits k.query.spec.index (place_of place) }
-    ensures read { AreRead C.reads C.place C.stands H.told units.old units.new
-        (H.outside host.old) (H.outside host.new) }
-    ensures desk { DeskFits desk.new }
-    ensures settled { IsTrue H.told → let w = world_with C.reads units.old desk.old (H.outside host.old) in MountedApart w →
-        OnOk result (world_with C.reads units.new desk.new (H.outside host.new) ≡ settle (set_place w cursor (place_of place))) }
-    ensures shown { IsTrue H.told → let w = world_with C.reads units.old desk.old (H.outside host.old) in let v = settle (set_place w cursor (place_of place)) in MountedApart w →
-        IfOk result (λ shown. shown_reply shown ≡ or_nil (current v) (flat (slice_get v.cursors cursor))) }
-    ensures cause { IfErr result
-        (λ stop. HasStopCause stop (H.outside host.old) (H.outside host.new)) }
-    ensures no_fault { OnOk result (NoFault (H.outside host.old) (H.outside host.new)) }
+    ensures { Settles C.reads C.place C.stands H.told
+        (λ w v. IfOk result (Shows (settle (set_place w cursor (place_of place))) v cursor))
+        units.old units.new desk.old desk.new (H.outside host.old) (H.outside host.new) result }
 {
     desk.step(cursor, place);
     settle_and_show(units, desk, host, cursor)
@@ -342,15 +275,13 @@ fn spot_on<C: Card, H: Host>(
     uid: Uid,
 ) -> Result<Option<Spot>, Stop>
     requires { Stands C.place C.stands H.told units.old (H.outside host.old) }
-    ensures read { AreRead C.reads C.place C.stands H.told units.old units.new
-        (H.outside host.old) (H.outside host.new) }
+    ensures reading { IsReading C.reads C.place C.stands H.told units.old units.new
+        (H.outside host.old) (H.outside host.new) result }
     ensures key { IfOk result (λ found. IfSome found (λ spot. IsKeyOf query.now.spec.index
         spot.key)) }
-    ensures found { IsTrue H.told → let w = world_of C.reads units.old (H.outside host.old) in MountedApart w →
-        (k : Cursor) → k.query ≡ query_of query.now → IfOk result (λ found. option_map spot_hit found ≡ hit_for w unit uid k) }
-    ensures cause { IfErr result
-        (λ stop. HasStopCause stop (H.outside host.old) (H.outside host.new)) }
-    ensures no_fault { OnOk result (NoFault (H.outside host.old) (H.outside host.new)) }
+    ensures found { IsTrue H.told → let w = world_of C.reads units.old (H.outside host.old) in
+        MountedApart w → (k : Cursor) → k.query ≡ query_of query.now
+        → IfOk result (λ found. option_map spot_hit found ≡ hit_for w unit uid k) }
 {
     let Some((store, soup)) = soup_on(units, unit, &query.name) else {
         return Ok(None);
@@ -368,7 +299,8 @@ fn spot_on<C: Card, H: Host>(
 
 /// The signatures of the store that is mounted on a unit and of its soup of a name.
 fn soup_on<C: Card>(units: &Units<C>, unit: Unit, name: &Name) -> Option<(Sig, Sig)>
-    ensures { (outside : Outside) → Eight outside → Stands C.place C.stands true units.now outside → let w = world_of C.reads units.now outside in
+    ensures { (outside : Outside) → Eight outside → Stands C.place C.stands true units.now outside
+        → let w = world_of C.reads units.now outside in
         result ≡ option_map (λ p. (sig_of w unit, p.sig)) (soup_in w unit name.now) }
 {
     match units.card(unit) {

@@ -10,7 +10,7 @@ use Rattle.newt_engine_units.specs.Stands.{world_of}
 use Rattle.newt_engine_units.proofs.Known.{Laws, none-mounted, soup-is, soup-found}
 use Rattle.newt_engine_cursors.specs.Opening.{index_in}
 use Rattle.newt_engine_cursors.proofs.Asked.{no-soup-index, scoped-index}
-use Rattle.newt_engine_cursors.proofs.Cards.{on-card, bare-has}
+use Rattle.newt_engine_hits.proofs.Cards.{on-card, bare-has}
 use Rattle.newt_engine_cursors.proofs.declared.index_on.Goals as goal
 
 pub returns-in_err-card : goal.returns-in_err-card

@@ -6,7 +6,7 @@ use Rattle.newt_spec_store.specs.Store.{Store, Soup, soup_named}
 use Rattle.newt_spec_world.specs.World.{mounted, mounted_store, soup_in}
 use Rattle.newt_engine_units.specs.Stands.{world_of}
 use Rattle.newt_engine_units.proofs.Known.{Laws, soup-is}
-use Rattle.newt_engine_cursors.proofs.Cards.{some-map}
+use Rattle.newt_engine_hits.proofs.Cards.{some-map}
 use Rattle.newt_engine_cursors.proofs.Opened.{any-eight, is-here, not-here}
 use Rattle.newt_engine_cursors.proofs.opening.has_soup.Goals as goal
 

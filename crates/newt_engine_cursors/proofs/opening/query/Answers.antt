@@ -2,22 +2,23 @@
 use Rattle.std.proofs.Common.{subst, true}
 use Rattle.newt_engine_units.specs.Stands.{Stands, Eight}
 use Rattle.newt_engine_cursors.specs.World.{world_with}
+use Rattle.newt_engine_cursors.proofs.Calls.{stays, walks-as}
 use Rattle.newt_engine_cursors.proofs.Opened.{query-opens, query-refused}
 use Rattle.newt_engine_cursors.proofs.opening.query.Goals as goal
 
-pub returns-in-Ok-clause-answered : goal.returns-in-Ok-clause-answered
-returns-in-Ok-clause-answered g c t apart =
+pub returns-in-Ok : goal.returns-in-Ok
+returns-in-Ok g c = walks-as c.open.ensures (λ t apart d.
     let o = g.H.Host.outside c.args.host.now in
     let eight : Eight (g.H.Host.outside c.args.host.now) = record { eight = g.met.H.Host.eight c.args.host.now; none = g.met.H.Host.none c.args.host.now } in
     let stand : Stands g.C.Card.place g.C.Card.stands true c.args.units.now o = subst (λ b. Stands g.C.Card.place g.C.Card.stands b c.args.units.now o) t c.requires.stands in
     let w = world_with g.C.Card.reads c.args.units.now c.args.desk.now o in
     query-opens w c.args.unit c.args.name.now c.args.graph.now (world_with g.C.Card.reads c.open.new.units c.open.new.desk (g.H.Host.outside c.open.new.host)) c.in-Ok.query (c.in-Ok.ensures.bound o eight stand)
-    c.open.result (c.open.ensures.opened t apart)
+    c.open.result d)
 
-pub returns-in-Err-clause-answered : goal.returns-in-Err-clause-answered
-returns-in-Err-clause-answered g c t apart =
+pub returns-in-Err : goal.returns-in-Err
+returns-in-Err g c = stays c.requires.stands c.requires.desk c.in-Err.ensures.cause (λ t apart.
     let o = g.H.Host.outside c.args.host.now in
     let eight : Eight (g.H.Host.outside c.args.host.now) = record { eight = g.met.H.Host.eight c.args.host.now; none = g.met.H.Host.none c.args.host.now } in
     let stand : Stands g.C.Card.place g.C.Card.stands true c.args.units.now o = subst (λ b. Stands g.C.Card.place g.C.Card.stands b c.args.units.now o) t c.requires.stands in
     let w = world_with g.C.Card.reads c.args.units.now c.args.desk.now o in
-    query-refused w c.args.unit c.args.name.now c.args.graph.now c.in-Err.fault (c.in-Err.ensures.bound o eight stand)
+    query-refused w c.args.unit c.args.name.now c.args.graph.now c.in-Err.fault (c.in-Err.ensures.bound o eight stand))

@@ -2,30 +2,31 @@
 use Rattle.std.proofs.Common.{subst, refl, true, false}
 use Rattle.newt_engine_units.specs.Stands.{Stands, Eight}
 use Rattle.newt_engine_cursors.specs.World.{world_with}
+use Rattle.newt_engine_cursors.proofs.Calls.{stays, walks-as}
 use Rattle.newt_engine_cursors.proofs.Opened.{nowhere, all-opens, all-refused}
 use Rattle.newt_engine_cursors.proofs.opening.query_all.Goals as goal
 
-pub returns-then-not-has_soup-clause-answered : goal.returns-then-not-has_soup-clause-answered
-returns-then-not-has_soup-clause-answered g c t apart =
+pub returns-then-not-has_soup : goal.returns-then-not-has_soup
+returns-then-not-has_soup g c = stays c.requires.stands c.requires.desk tt (λ t apart.
     let o = g.H.Host.outside c.args.host.now in
     let eight : Eight (g.H.Host.outside c.args.host.now) = record { eight = g.met.H.Host.eight c.args.host.now; none = g.met.H.Host.none c.args.host.now } in
     let stand : Stands g.C.Card.place g.C.Card.stands true c.args.units.now o = subst (λ b. Stands g.C.Card.place g.C.Card.stands b c.args.units.now o) t c.requires.stands in
     let w = world_with g.C.Card.reads c.args.units.now c.args.desk.now o in
-    nowhere w c.args.name.now c.args.graph.now false (c.if-not-has_soup.ensures o eight stand) refl
+    nowhere w c.args.name.now c.args.graph.now false (c.if-not-has_soup.ensures o eight stand) refl)
 
-pub returns-in-Ok-clause-answered : goal.returns-in-Ok-clause-answered
-returns-in-Ok-clause-answered g c t apart =
+pub returns-in-Ok : goal.returns-in-Ok
+returns-in-Ok g c = walks-as c.open.ensures (λ t apart d.
     let o = g.H.Host.outside c.args.host.now in
     let eight : Eight (g.H.Host.outside c.args.host.now) = record { eight = g.met.H.Host.eight c.args.host.now; none = g.met.H.Host.none c.args.host.now } in
     let stand : Stands g.C.Card.place g.C.Card.stands true c.args.units.now o = subst (λ b. Stands g.C.Card.place g.C.Card.stands b c.args.units.now o) t c.requires.stands in
     let w = world_with g.C.Card.reads c.args.units.now c.args.desk.now o in
     all-opens w c.args.name.now c.args.graph.now true (c.if-not-has_soup.ensures o eight stand) refl (world_with g.C.Card.reads c.open.new.units c.open.new.desk (g.H.Host.outside c.open.new.host)) c.in-Ok.query (c.in-Ok.ensures.bound o eight stand)
-    c.open.result (c.open.ensures.opened t apart)
+    c.open.result d)
 
-pub returns-in-Err-clause-answered : goal.returns-in-Err-clause-answered
-returns-in-Err-clause-answered g c t apart =
+pub returns-in-Err : goal.returns-in-Err
+returns-in-Err g c = stays c.requires.stands c.requires.desk c.in-Err.ensures.cause (λ t apart.
     let o = g.H.Host.outside c.args.host.now in
     let eight : Eight (g.H.Host.outside c.args.host.now) = record { eight = g.met.H.Host.eight c.args.host.now; none = g.met.H.Host.none c.args.host.now } in
     let stand : Stands g.C.Card.place g.C.Card.stands true c.args.units.now o = subst (λ b. Stands g.C.Card.place g.C.Card.stands b c.args.units.now o) t c.requires.stands in
     let w = world_with g.C.Card.reads c.args.units.now c.args.desk.now o in
-    all-refused w c.args.name.now c.args.graph.now true (c.if-not-has_soup.ensures o eight stand) refl c.in-Err.fault (c.in-Err.ensures.bound o eight stand)
+    all-refused w c.args.name.now c.args.graph.now true (c.if-not-has_soup.ensures o eight stand) refl c.in-Err.fault (c.in-Err.ensures.bound o eight stand))

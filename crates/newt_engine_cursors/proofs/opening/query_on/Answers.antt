@@ -5,7 +5,7 @@ use Rattle.newt_laws_answers.proofs.Units.{is-mounted}
 use Rattle.newt_engine_units.specs.Looks.{known_checks}
 use Rattle.newt_engine_units.specs.Stands.{world_of}
 use Rattle.newt_engine_units.proofs.Known.{Laws, checks-are, soup-found}
-use Rattle.newt_engine_cursors.proofs.Cards.{on-card}
+use Rattle.newt_engine_hits.proofs.Cards.{on-card}
 use Rattle.newt_engine_cursors.proofs.Opened.{asked-on, fails-asked}
 use Rattle.newt_engine_cursors.proofs.opening.query_on.Goals as goal
 

@@ -4,9 +4,9 @@ use Rattle.newt_cursor.specs.Seen.{query_of}
 use Rattle.newt_engine_units.specs.Stands.{Stands, Eight, world_of}
 use Rattle.newt_engine_units.proofs.Known.{Laws}
 use Rattle.newt_index.specs.Spots.{spot_hit}
-use Rattle.newt_engine_cursors.specs.Present.{present_of}
+use Rattle.newt_engine_hits.specs.Present.{present_of}
 use Rattle.newt_engine_cursors.proofs.Standing.{key-present}
-use Rattle.newt_engine_cursors.proofs.Stores.{stores-formed}
+use Rattle.newt_engine_hits.proofs.Stores.{stores-formed}
 use Rattle.newt_engine_cursors.proofs.settling.present_key.Goals as goal
 
 pub returns-in-Some-2-clause-found : goal.returns-in-Some-2-clause-found

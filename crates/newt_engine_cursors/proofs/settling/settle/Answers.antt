@@ -1,14 +1,17 @@
 -- One place after another.
-use Rattle.std.proofs.Common.{arith, ◌∙◌, ap, sym, subst, List, Option, ◌≤◌, length}
+use Rattle.std.proofs.Common.{arith, ◌≡◌, ◌∙◌, ap, sym, subst, List, Option, ◌≤◌, length}
+use Rattle.std.specs.Prelude.{Result, OnOk}
 use Rattle.std.proofs.lemmas.Result.{err_from_is_err_and}
 use Rattle.newt_host.proofs.Outside.{NoFault-append, NoFault-refl}
 use Rattle.newt_spec_query.specs.Cursor.{Cursor}
-use Rattle.newt_spec_world.specs.World.{World, change_at, settle_cursor}
+use Rattle.newt_spec_world.specs.World.{World, change_at, settle, settle_cursor}
 use Rattle.newt_laws_world.specs.Settled.{MountedApart}
 use Rattle.newt_laws_world.specs.Cursors.{with_cursors}
 use Rattle.newt_engine_units.specs.Stands.{world_of}
 use Rattle.newt_engine_cursors.proofs.Cursors.{below-none, below-more, below-all}
-use Rattle.newt_engine_cursors.proofs.Reading.{not-read, read-then, cause-since, handed}
+use Rattle.newt_engine_hits.proofs.Reading.{not-read, read-then}
+use Rattle.newt_pagebook.specs.declared.book.Stop.{Stop}
+use Rattle.newt_engine_cursors.proofs.Calls.{settles-end}
 use Rattle.newt_engine_cursors.proofs.settling.settle.Goals as goal
 
 pub loop-cursor-init : goal.loop-cursor-init
@@ -25,17 +28,15 @@ settle_one-requires-clause-stands g c = c.loop-cursor.invariant.read.stand
 pub settle_one-requires-clause-desk : goal.settle_one-requires-clause-desk
 settle_one-requires-clause-desk g c = c.loop-cursor.invariant.desk
 
-pub returns-in_err-settle_one-clause-read : goal.returns-in_err-settle_one-clause-read
-returns-in_err-settle_one-clause-read g c = read-then c.loop-cursor.invariant.read c.settle_one.ensures.read
-
-pub returns-in_err-settle_one-clause-cause : goal.returns-in_err-settle_one-clause-cause
-returns-in_err-settle_one-clause-cause g c =
-    handed _ _ _ (cause-since _ _ _ _ c.loop-cursor.invariant.read.alone c.in_err-settle_one.ensures.cause) c.from_residual.result (err_from_is_err_and c.from_residual.result c.from_residual.ensures.1)
+pub returns-in_err-settle_one : goal.returns-in_err-settle_one
+returns-in_err-settle_one g c =
+    settles-end (λ (r : Result (Unit {0}) Stop) (w v : World). OnOk r (v ≡ settle w)) c.loop-cursor.invariant.read c.in_err-settle_one.ensures.reading c.in_err-settle_one.ensures.desk
+    c.from_residual.result (err_from_is_err_and c.from_residual.result c.from_residual.ensures.1) (λ w v. tt)
 
 pub loop-cursor-preserved : goal.loop-cursor-preserved
 loop-cursor-preserved g c = record {
-  read = read-then c.loop-cursor.invariant.read c.settle_one.ensures.read;
-  no_fault = NoFault-append c.loop-cursor.invariant.no_fault c.in_ok-settle_one.ensures.no_fault;
+  read = read-then c.loop-cursor.invariant.read c.settle_one.ensures.reading.read;
+  no_fault = NoFault-append c.loop-cursor.invariant.no_fault c.in_ok-settle_one.ensures.reading.no_fault;
   desk = c.settle_one.ensures.desk;
   settled = λ t apart.
       let w = world_of g.C.Card.reads c.args.units.now (g.H.Host.outside c.args.host.now) in
@@ -45,20 +46,17 @@ loop-cursor-preserved g c = record {
       ∙ below-more c.loop-cursor.cursor (settle_cursor w) c.args.desk.now c.loop-cursor.desk (c.loop-cursor.invariant.settled t apart);
 }
 
-pub returns-clause-read : goal.returns-clause-read
-returns-clause-read g c = c.loop-cursor.invariant.read
-
-pub returns-clause-no_fault : goal.returns-clause-no_fault
-returns-clause-no_fault g c = c.loop-cursor.invariant.no_fault
-
-pub returns-clause-desk : goal.returns-clause-desk
-returns-clause-desk g c = c.loop-cursor.invariant.desk
-
-pub returns-clause-settled : goal.returns-clause-settled
-returns-clause-settled g c t apart =
-    let w = world_of g.C.Card.reads c.args.units.now (g.H.Host.outside c.args.host.now) in
-    let test = c.loop-cursor-test.false in
-    let places = c.requires.desk.places in
-    let all : length c.args.desk.now ≤ c.loop-cursor.cursor = omega (arith, test, places) in
-    ap (λ (v : World). with_cursors c.loop-cursor.desk v) (c.loop-cursor.invariant.read.world t)
-    ∙ ap (λ (ks : List (Option Cursor)). with_cursors ks w) (c.loop-cursor.invariant.settled t apart ∙ below-all c.loop-cursor.cursor (settle_cursor w) c.args.desk.now all)
+pub returns : goal.returns
+returns g c = record {
+  read = c.loop-cursor.invariant.read;
+  desk = c.loop-cursor.invariant.desk;
+  settled = λ t apart.
+      let w = world_of g.C.Card.reads c.args.units.now (g.H.Host.outside c.args.host.now) in
+      let test = c.loop-cursor-test.false in
+      let places = c.requires.desk.places in
+      let all : length c.args.desk.now ≤ c.loop-cursor.cursor = omega (arith, test, places) in
+      ap (λ (v : World). with_cursors c.loop-cursor.desk v) (c.loop-cursor.invariant.read.world t)
+      ∙ ap (λ (ks : List (Option Cursor)). with_cursors ks w) (c.loop-cursor.invariant.settled t apart ∙ below-all c.loop-cursor.cursor (settle_cursor w) c.args.desk.now all);
+  cause = tt;
+  no_fault = c.loop-cursor.invariant.no_fault;
+}

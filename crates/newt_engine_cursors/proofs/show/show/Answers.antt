@@ -2,7 +2,7 @@
 use Rattle.std.proofs.Common.{◌∙◌, ap, sym, option_map}
 use Rattle.newt_cursor.specs.Seen.{query_of}
 use Rattle.newt_index.specs.Spots.{spot_hit}
-use Rattle.newt_engine_cursors.specs.Present.{present_of}
+use Rattle.newt_engine_hits.specs.Present.{present_of}
 use Rattle.newt_engine_cursors.specs.World.{world_with}
 use Rattle.newt_engine_cursors.proofs.Standing.{shown-present}
 use Rattle.newt_engine_cursors.proofs.show.show.Goals as goal

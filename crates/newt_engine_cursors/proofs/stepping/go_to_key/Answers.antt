@@ -3,16 +3,21 @@ use Rattle.std.proofs.Common.{◌∙◌, ap, sym}
 use Rattle.std.specs.Prelude.{is_none}
 use Rattle.newt_engine_cursors.specs.Keyed.{seen_cursor}
 use Rattle.newt_engine_cursors.proofs.Answering.{no-cursor-key, bad-key, key-answers}
+use Rattle.newt_engine_cursors.proofs.Calls.{stays, walks-as}
 use Rattle.newt_engine_cursors.proofs.stepping.go_to_key.Goals as goal
 
-pub returns-in_default-clause-answered : goal.returns-in_default-clause-answered
-returns-in_default-clause-answered g c t apart = no-cursor-key _ c.args.cursor c.args.graph.now (ap is_none (sym c.in_default.ensures))
+pub returns-in_default : goal.returns-in_default
+returns-in_default g c = stays c.requires.stands c.requires.desk tt (λ t apart. no-cursor-key _ c.args.cursor c.args.graph.now (ap is_none (sym c.in_default.ensures)))
 
-pub returns-in_default-2-clause-answered : goal.returns-in_default-2-clause-answered
-returns-in_default-2-clause-answered g c t apart =
-    bad-key _ c.args.cursor c.args.graph.now (seen_cursor (c.in-Some.query, c.in-Some.field-0-1)) (sym c.in-Some.ensures) (sym c.in_ok-key.ensures.value ∙ c.in_default-2.is)
+pub returns-in_err-key : goal.returns-in_err-key
+returns-in_err-key g c = ?
 
-pub returns-clause-answered : goal.returns-clause-answered
-returns-clause-answered g c t apart =
-    key-answers _ c.args.cursor c.args.graph.now (seen_cursor (c.in-Some.query, c.in-Some.field-0-1)) (sym c.in-Some.ensures)
-    c.in-Some-2.key (sym c.in_ok-key.ensures.value ∙ c.in-Some-2.is) _ c.steer.result (c.steer.ensures.steered t apart)
+pub returns-in_default-2 : goal.returns-in_default-2
+returns-in_default-2 g c =
+    stays c.requires.stands c.requires.desk tt (λ t apart.
+    bad-key _ c.args.cursor c.args.graph.now (seen_cursor (c.in-Some.query, c.in-Some.field-0-1)) (sym c.in-Some.ensures) (sym c.in_ok-key.ensures.value ∙ c.in_default-2.is))
+
+pub returns : goal.returns
+returns g c =
+    walks-as c.steer.ensures (λ t apart d. key-answers _ c.args.cursor c.args.graph.now (seen_cursor (c.in-Some.query, c.in-Some.field-0-1)) (sym c.in-Some.ensures)
+    c.in-Some-2.key (sym c.in_ok-key.ensures.value ∙ c.in-Some-2.is) _ c.steer.result d)

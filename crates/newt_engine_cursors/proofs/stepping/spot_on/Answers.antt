@@ -3,9 +3,9 @@ use Rattle.std.proofs.Common.{◌∙◌, ap, sym, subst, true, option_map}
 use Rattle.newt_cursor.specs.Seen.{query_of}
 use Rattle.newt_engine_units.specs.Stands.{Stands, Eight, world_of}
 use Rattle.newt_engine_units.proofs.Known.{Laws}
-use Rattle.newt_engine_cursors.specs.Present.{present_of}
+use Rattle.newt_engine_hits.specs.Present.{present_of}
 use Rattle.newt_engine_cursors.proofs.Going.{no-spot, found-spot}
-use Rattle.newt_engine_cursors.proofs.Stores.{stores-formed}
+use Rattle.newt_engine_hits.proofs.Stores.{stores-formed}
 use Rattle.newt_engine_cursors.proofs.stepping.spot_on.Goals as goal
 
 pub returns-in_default-clause-found : goal.returns-in_default-clause-found

@@ -2,7 +2,7 @@
 use Rattle.std.proofs.Common.{refl, sym}
 use Rattle.newt_spec_graph.proofs.Lists.{both-ways}
 use Rattle.newt_engine_units.specs.Stands.{world_of}
-use Rattle.newt_engine_cursors.proofs.Reading.{not-read}
+use Rattle.newt_engine_hits.proofs.Reading.{not-read}
 use Rattle.newt_engine.proofs.Groups.{no_place}
 use Rattle.newt_engine.proofs.Handed.{blameless}
 use Rattle.newt_engine.proofs.Obeying.{handed_placed, handed_walked}

@@ -1,0 +1,43 @@
+-- What the calls on cursors promise. All of it is this project's own.
+use Rattle.std.specs.Prelude.{◌≡◌, ℕ, Bool, IsTrue, List, Option, Result, IfErr, OnOk}
+use Rattle.newt_host.specs.Outside.{Outside, NoFault}
+use Rattle.newt_pagebook.specs.Stops.{HasStopCause}
+use Rattle.newt_pagebook.specs.declared.book.Stop.{Stop}
+use Rattle.newt_spec_query.specs.Cursor.{Cursor, Place}
+use Rattle.newt_spec_store.specs.Store.{Store}
+use Rattle.newt_spec_world.specs.Answer.{current, or_nil}
+use Rattle.newt_spec_world.specs.World.{World, cursor, flat}
+use Rattle.newt_laws_world.specs.Settled.{MountedApart}
+use Rattle.newt_store_change.specs.Faults.{GoesOn, HasFaultCause}
+use Rattle.newt_store_change.specs.declared.fault.StoreFault.{StoreFault}
+use Rattle.newt_engine_units.specs.Calls.{AreRead}
+use Rattle.newt_engine_units.specs.declared.units.Units.{Units}
+use Rattle.newt_engine_cursors.specs.Fits.{DeskFits}
+use Rattle.newt_engine_cursors.specs.Replies.{shown_reply}
+use Rattle.newt_engine_cursors.specs.World.{world_with}
+use Rattle.newt_engine_cursors.specs.declared.show.Shown.{Shown}
+
+-- A world is this one, and what a cursor shows there is shown.
+pub record Shows (w v : World) (n : ℕ) (shown : Shown) : Type 0 where
+  pub world : v ≡ w
+  pub shown : shown_reply shown ≡ or_nil (current w) (cursor w n)
+
+module _ {C : Type 0} (reads : List ℕ → Option Store) (place : C → ℕ) (standing : Bool → C → Outside → Type 0) where
+  -- A call that settles the cursors `was`, which are then `is`. The units are read alone and the places fit; the world with its cursors has become what is
+  -- said of it; an end of the run has its cause; and where there is an answer, no fault was counted.
+  pub record Settles {T : Type 0} (told : Bool) (becomes : World → World → Type 0) (old new : Units C) (was is : List (Option Cursor)) (before after : Outside)
+      (result : Result T Stop) : Type 0 where
+    pub read : AreRead reads place standing told old new before after
+    pub desk : DeskFits is
+    pub settled : IsTrue told → let w = world_with reads old was before in MountedApart w → becomes w (world_with reads new is after)
+    pub cause : IfErr result (λ stop. HasStopCause stop before after)
+    pub no_fault : OnOk result (NoFault before after)
+
+  -- A command of cursors. The same, and the world with its cursors has become what the command is answered by.
+  pub record Walks {T : Type 0} (told : Bool) (becomes : World → World → Type 0) (old new : Units C) (was is : List (Option Cursor)) (before after : Outside)
+      (result : Result T StoreFault) : Type 0 where
+    pub read : AreRead reads place standing told old new before after
+    pub desk : DeskFits is
+    pub answered : IsTrue told → let w = world_with reads old was before in MountedApart w → becomes w (world_with reads new is after)
+    pub cause : IfErr result (λ fault. HasFaultCause fault before after)
+    pub no_fault : GoesOn result → NoFault before after

@@ -1,8 +1,0 @@
-//! The two ways along the hits of a query.
-
-/// On to the last hit, or back to the first.
-#[derive(Clone, Copy, PartialEq, Eq, Debug)]
-pub(crate) enum Way {
-    On,
-    Back,
-}

@@ -1,0 +1,62 @@
+-- Units and devices that are read alone, call after call.
+use Rattle.std.proofs.Common.{arith, ◌≡◌, refl, sym, ◌∙◌, ap, subst, ℕ, Bool, List, Option}
+use Rattle.std.specs.Prelude.{Result, Ok, Err, IfErr}
+use Rattle.newt_host.specs.Outside.{Outside, NoFault, OnDevices}
+use Rattle.newt_host.proofs.Outside.{NoFault-append, OnDevices-refl, OnDevices-append}
+use Rattle.newt_pagebook.specs.Stops.{HasStopCause}
+use Rattle.newt_pagebook.specs.declared.book.Stop.{Stop}
+use Rattle.newt_pagebook.specs.declared.book.Stop.TheVariants.{Memory, Device}
+use Rattle.newt_spec_store.specs.Store.{Store}
+use Rattle.newt_engine_units.specs.declared.units.Units.{Units}
+use Rattle.newt_engine_units.specs.Stands.{Stands}
+use Rattle.newt_engine_units.proofs.Costs.{alone-append, alone-refl}
+use Rattle.newt_engine_units.specs.Calls.{AreRead}
+use Rattle.newt_engine_hits.specs.Calls.{IsReading}
+
+-- what has failed since has failed since an earlier moment
+pub cause-since : (o p q : Outside) (stop : Stop) → OnDevices o p → HasStopCause stop p q → HasStopCause stop o q
+cause-since o p q Memory a h = tt
+cause-since o p q (Device u) a h = let x = a.dev_faults u in omega (arith, h)
+
+module _ {C : Type 0} {reads : List ℕ → Option Store} {place : C → ℕ} {stands : Bool → C → Outside → Type 0} {told : Bool} where
+  -- nothing was read
+  pub not-read : {units : Units C} {o : Outside} → Stands place stands told units o → AreRead reads place stands told units units o o
+  not-read {units} {o} s = record { stand = s; world = λ t. refl; marks = λ u. refl; moment = refl; untouched = λ u. alone-refl u o; alone = OnDevices-refl o }
+
+  -- one call after another
+  pub read-then : {units mid later : Units C} {o p q : Outside} → AreRead reads place stands told units mid o p → AreRead reads place stands told mid later p q
+      → AreRead reads place stands told units later o q
+  read-then a b = record {
+    stand = b.stand;
+    world = λ t. b.world t ∙ a.world t;
+    marks = λ u. b.marks u ∙ a.marks u;
+    moment = b.moment ∙ a.moment;
+    untouched = λ u. alone-append (a.untouched u) (b.untouched u);
+    alone = OnDevices-append a.alone b.alone;
+  }
+
+  -- an answer
+  pub is-read : {T : Type 0} {x : T} {units later : Units C} {o q : Outside} → AreRead reads place stands told units later o q → NoFault o q
+      → IsReading reads place stands told units later o q (Ok x)
+  is-read a f = record { read = a; cause = tt; no_fault = f }
+
+  -- a call behind one that has read
+  pub read-more : {T : Type 0} {units mid later : Units C} {o p q : Outside} {result : Result T Stop} → AreRead reads place stands told units mid o p → NoFault o p
+      → IsReading reads place stands told mid later p q result → IsReading reads place stands told units later o q result
+  read-more {result = Ok x} a f r = record { read = read-then a r.read; cause = tt; no_fault = NoFault-append f r.no_fault }
+  read-more {result = Err stop} a f r = record { read = read-then a r.read; cause = cause-since _ _ _ stop a.alone r.cause; no_fault = tt }
+
+  -- want of memory
+  pub end-memory : {T : Type 0} {units later : Units C} {o q : Outside} → AreRead reads place stands told units later o q → (r : Result T Stop)
+      → (e : Stop) × (r ≡ Err e) × (e ≡ Memory) → IsReading reads place stands told units later o q r
+  end-memory {T = T} {units} {later} {o} {q} a r is =
+      subst (λ (r : Result T Stop). IsReading reads place stands told units later o q r) (sym (is.1 ∙ ap {B = Result T Stop} (λ e. Err e) is.2))
+      (record { read = a; cause = tt; no_fault = tt })
+
+  -- an error that is handed on
+  pub end-read : {S T : Type 0} {stop : Stop} {units mid later : Units C} {o p q : Outside} → AreRead reads place stands told units mid o p
+      → IsReading reads place stands {T = S} told mid later p q (Err stop) → (r : Result T Stop) → (e : Stop) × (r ≡ Err e) × (e ≡ stop)
+      → IsReading reads place stands told units later o q r
+  end-read {T = T} {stop} {units} {later = later} {o} {q = q} a h r is =
+      subst (λ (r : Result T Stop). IsReading reads place stands told units later o q r) (sym (is.1 ∙ ap {B = Result T Stop} (λ e. Err e) is.2))
+      (record { read = read-then a h.read; cause = cause-since _ _ _ stop a.alone h.cause; no_fault = tt })

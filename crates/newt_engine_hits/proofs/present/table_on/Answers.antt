@@ -1,0 +1,16 @@
+-- The card knows the declaration.
+use Rattle.std.proofs.Common.{refl, ◌∙◌}
+use Rattle.newt_engine_units.proofs.Known.{Laws}
+use Rattle.newt_engine_hits.proofs.Cards.{on-card, no-card, bare-has}
+use Rattle.newt_engine_hits.proofs.present.table_on.Goals as goal
+
+pub returns-in-Some : goal.returns-in-Some
+returns-in-Some g c outside eight stands blocks s on =
+    let laws : Laws g.C.Card.reads g.C.Card.place g.C.Card.soups g.C.Card.stands = record { formed = g.met.C.Card.formed; plain = g.met.C.Card.plain; durable = g.met.C.Card.durable; banks = g.met.C.Card.banks; kept = g.met.C.Card.kept } in
+    let k = on-card laws c.args.units.now outside eight stands c.args.unit blocks s on c.in-Some.card.now c.in-Some.ensures in
+    c.tags.ensures ∙ bare-has (λ p. p.tags) (λ p. refl) c.args.soup s _ k.2
+
+pub returns-in-None : goal.returns-in-None
+returns-in-None g c outside eight stands blocks s on =
+    let laws : Laws g.C.Card.reads g.C.Card.place g.C.Card.soups g.C.Card.stands = record { formed = g.met.C.Card.formed; plain = g.met.C.Card.plain; durable = g.met.C.Card.durable; banks = g.met.C.Card.banks; kept = g.met.C.Card.kept } in
+    absurd (no-card laws c.args.units.now outside eight stands c.args.unit blocks s on c.in-None.ensures)

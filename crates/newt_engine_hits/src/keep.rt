@@ -1,0 +1,108 @@
+//! Whether a hit of an index alone is one of the query.
+ghost use Rattle.std.specs.Prelude.{◌≡◌, ℕ, true, false, IsTrue, None, option_and_then, IfOk};
+ghost use Rattle.newt_host.specs.Outside.{Outside};
+ghost use Rattle.newt_cursor.specs.Seen.{query_of};
+ghost use Rattle.newt_query.specs.Filter.{asks_texts};
+ghost use Rattle.newt_spec_store.specs.Store.{Store, soup_of};
+ghost use Rattle.newt_spec_world.specs.World.{mounted_stores};
+ghost use Rattle.newt_laws_answers.specs.There.{OnUnit};
+ghost use Rattle.newt_laws_hits.specs.Stripped.{passing};
+ghost use Rattle.newt_engine_units.specs.Stands.{Eight, Stands, mounted_in, world_of};
+ghost use Rattle.newt_index.specs.Spots.{spot_hit};
+ghost use Rattle.newt_engine_hits.specs.Searched.{keeps_in};
+ghost use Rattle.newt_engine_hits.specs.Calls.{IsReading};
+
+use crate::present::table_on;
+use newt_cursor::Query;
+use newt_engine_card::Card;
+use newt_engine_units::Units;
+use newt_host::{Host, Unit};
+use newt_index::Spot;
+use newt_pagebook::Stop;
+use newt_query::{is_kept, is_kept_unread};
+use std::alloc::AllocError;
+
+/// Whether a query keeps a hit: its key is in the range, and its entry is there and passes. The
+/// entry is read only where words or texts are asked for or its soup declares tags.
+pub(crate) fn keeps<C: Card, H: Host>(
+    units: &mut Units<C>,
+    host: &mut H,
+    query: &Query,
+    spot: &Spot,
+) -> Result<bool, Stop>
+    requires { Stands C.place C.stands H.told units.old (H.outside host.old) }
+    ensures reading { IsReading C.reads C.place C.stands H.told units.old units.new
+        (H.outside host.old) (H.outside host.new) result }
+    ensures kept { IsTrue H.told → IfOk result (λ kept. kept ≡ passing
+        (mounted_stores (world_of C.reads units.old (H.outside host.old))) (query_of query.now)
+        (spot_hit spot.now)) }
+{
+    if !query.spec.in_range(&spot.key) {
+        return Ok(false);
+    }
+    let Some(unit) = units.unit_of(spot.store) else {
+        return Ok(false);
+    };
+    if is_read(units, unit, query, spot) {
+        keeps_read(units, host, unit, query, spot)
+    } else {
+        Ok(keeps_unread(units, unit, query, spot)?)
+    }
+}
+
+/// Whether the entry has to be read: words or texts are asked for, or its soup declares tags.
+fn is_read<C: Card>(units: &Units<C>, unit: Unit, query: &Query, spot: &Spot) -> bool
+    ensures texts { result ≡ false → asks_texts query.now.spec ≡ false }
+    ensures tags { result ≡ false → (outside : Outside) → Eight outside
+        → Stands C.place C.stands true units.now outside → (blocks : ℕ) (s : Store)
+        → OnUnit (world_of C.reads units.now outside) unit blocks s →
+        option_and_then (λ p. p.tags) (soup_of spot.now.soup s) ≡ None }
+{
+    query.spec.needs_graph() || table_on(units, unit, spot.soup).is_some()
+}
+
+/// Whether a query keeps a hit whose entry is read.
+fn keeps_read<C: Card, H: Host>(
+    units: &mut Units<C>,
+    host: &mut H,
+    unit: Unit,
+    query: &Query,
+    spot: &Spot,
+) -> Result<bool, Stop>
+    requires stands { Stands C.place C.stands H.told units.old (H.outside host.old) }
+    requires mounted { mounted_in units.old.slots.items unit ≡ true }
+    ensures reading { IsReading C.reads C.place C.stands H.told units.old units.new
+        (H.outside host.old) (H.outside host.new) result }
+    ensures kept { IsTrue H.told → (blocks : ℕ) (s : Store)
+        → OnUnit (world_of C.reads units.old (H.outside host.old)) unit blocks s →
+        IfOk result (λ kept. kept ≡ keeps_in (query_of query.now) s (spot_hit spot.now)) }
+{
+    match units.entry_on(host, unit, spot.soup, spot.uid)? {
+        Some(entry) => {
+            let table = table_on(units, unit, spot.soup);
+            Ok(is_kept(units.alloc(), &query.spec, &spot.key, table, &entry.graph)?)
+        }
+        None => Ok(false),
+    }
+}
+
+/// Whether a query keeps a hit whose entry need not be read.
+fn keeps_unread<C: Card>(
+    units: &Units<C>,
+    unit: Unit,
+    query: &Query,
+    spot: &Spot,
+) -> Result<bool, AllocError>
+    requires { asks_texts query.now.spec ≡ false }
+    ensures { (outside : Outside) → Eight outside → Stands C.place C.stands true units.now outside
+        → (blocks : ℕ) (s : Store) → OnUnit (world_of C.reads units.now outside) unit blocks s →
+        option_and_then (λ p. p.tags) (soup_of spot.now.soup s) ≡ None
+        → IfOk result (λ kept. kept ≡ keeps_in (query_of query.now) s (spot_hit spot.now)) }
+{
+    match units.card(unit) {
+        Some(card) if card.has(spot.soup, spot.uid) => {
+            is_kept_unread(units.alloc(), &query.spec, &spot.key)
+        }
+        _ => Ok(false),
+    }
+}
