@@ -215,7 +215,8 @@ no_binaries : streams_among (map codes ("0203020701620A" ∷ "0203010701620A0B" 
 unfolding open_tables
 no_binaries = refl
 
--- ---- large binaries: the class, the flag, the lengths of the data, of the compander's name and of its parameters, a number that is reserved
+-- ---- large binaries: the class, the flag, the lengths of the data, of the compander's name and
+-- of its parameters, a number that is reserved
 
 -- Name, parameters and the reserved number are dropped.
 large_binaries : map shown (map codes ("020C0701770000000003000000000000000000000000414243" ∷ "020C0701770000000000000000000000000000000000" ∷ "020C07017700000000030000000100000002010203046E7071414243" ∷ "020C07017700000000010000000200000000FFFFFFFF6E6E41" ∷ "020C0701770000000001000000000000000200000000707041" ∷ "020C07017701000000030000000100000002010203046E7071414243" ∷ "020C070177FF00000000000000000000000000000000" ∷ "0205020C07017700000000000000000000000000000000000C0701770100000000000000000000000000000000" ∷ []))
