@@ -133,8 +133,8 @@ fn replay_deletes<H: Host>(
     seen: &mut HashSet<u32>,
     places: &mut Table<u32>,
 ) -> Result<bool, BookFault>
-    requires replaying { IsReplaying H.told journal.now found (4 + 516 * puts + 4 * deletes) places.old
-        (H.outside host.old) }
+    requires replaying { IsReplaying H.told journal.now found (4 + 516 * puts + 4 * deletes)
+        places.old (H.outside host.old) }
     requires counts { IsTrue H.told → (puts ≡ short_at 0
         (payload_found found journal.now.unit (H.outside host.old)))
         × (deletes ≡ short_at 2 (payload_found found journal.now.unit (H.outside host.old))) }
